@@ -1,0 +1,35 @@
+-- The weight bound, under which every sum and fraction has room in 128 bits.
+use Rattle.std.specs.Prelude.{◌≡◌, ℕ, ◌<◌, ◌≤◌, ◌+◌, ◌*◌, ◌^◌, max, List, length, take}
+use Rattle.maid_model.specs.declared.diagrams.Kind.{Kind}
+use Rattle.maid_model.specs.declared.diagrams.Kind.TheVariants.{Chance, Decision, Utility}
+use Rattle.maid_model.specs.Views.{NodeView, DiagramView}
+use Rattle.maid_model.specs.Nodes.{node_at, states_of, numbers_of}
+use Rattle.maid_model.specs.Sums.{nat_product_over}
+use Rattle.maid_model.specs.Tables.{chance_total}
+use Rattle.maid_model.specs.Gains.{greatest_utility}
+use Rattle.maid_model.specs.Diagrams.{greatest_number}
+
+abbrev pub bound_by : Kind → ℕ → ℕ → ℕ
+bound_by Chance total states = total
+bound_by Decision total states = states
+bound_by Utility total states = 1
+
+-- a chance node counts with its total, a decision with the count of its states
+abbrev pub bound_factor : List NodeView → ℕ → ℕ
+bound_factor nodes v = bound_by (node_at nodes v).kind (chance_total nodes v) (states_of nodes v)
+
+-- the product over the first n nodes
+abbrev pub bound_up_to : List NodeView → ℕ → ℕ
+bound_up_to nodes n = nat_product_over (bound_factor nodes) (take n (numbers_of nodes))
+
+-- the product over all nodes
+abbrev pub bound_product : List NodeView → ℕ
+bound_product nodes = nat_product_over (bound_factor nodes) (numbers_of nodes)
+
+-- the product over all nodes, times the greatest of the utilities' scale and their summed greatest values
+abbrev pub KeepsBound : DiagramView → Type 0
+KeepsBound d = bound_product d.nodes * max (10 ^ d.decimals) (greatest_utility d.nodes) ≤ greatest_number
+
+-- the first node in text at which the product over the nodes up to it passes
+abbrev pub PassesAt : List NodeView → ℕ → Type 0
+PassesAt nodes v = (v < length nodes) × (greatest_number < bound_up_to nodes (v + 1)) × ((n : ℕ) → n ≤ v → bound_up_to nodes n ≤ greatest_number)

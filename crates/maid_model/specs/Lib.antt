@@ -1,0 +1,15 @@
+pub mod Views
+pub mod Nodes
+pub mod Graph
+pub mod Sums
+pub mod Worlds
+pub mod Tables
+pub mod Diagrams
+pub mod Profiles
+pub mod Gains
+pub mod Walks
+pub mod Relevance
+pub mod Placing
+pub mod Subgames
+pub mod Answers
+pub mod Bounds

@@ -1,0 +1,64 @@
+-- Looking up nodes. Each look-up has an answer for every number, so that no sum over nodes carries a premise.
+use Rattle.std.specs.Prelude.{◌≡◌, ℕ, ◌<◌, ◌*◌, Bool, true, false, ◌&&◌, ◌==◌, List, [], ◌∷◌, map, length, filter, slice_index_or}
+use Rattle.std.specs.List.{range_with_len}
+use Rattle.maid_model.specs.declared.diagrams.Kind.{Kind}
+use Rattle.maid_model.specs.declared.diagrams.Kind.TheVariants.{Chance, Decision, Utility}
+use Rattle.maid_model.specs.Views.{NodeView}
+
+-- what stands for a number that no node has
+abbrev pub no_node : NodeView
+no_node = record { kind = Utility; owner = 0; states = 1; parents = []; cells = [] }
+
+abbrev pub node_at : List NodeView → ℕ → NodeView
+node_at nodes v = slice_index_or nodes v no_node
+
+abbrev pub states_of : List NodeView → ℕ → ℕ
+states_of nodes v = (node_at nodes v).states
+
+abbrev pub parents_of : List NodeView → ℕ → List ℕ
+parents_of nodes v = (node_at nodes v).parents
+
+-- the counts of states of all nodes
+abbrev pub counts_of : List NodeView → List ℕ
+counts_of nodes = map (λ n. n.states) nodes
+
+-- the numbers of all nodes
+abbrev pub numbers_of : List NodeView → List ℕ
+numbers_of nodes = range_with_len 0 (length nodes)
+
+abbrev pub is_chance : Kind → Bool
+is_chance Chance = true
+is_chance Decision = false
+is_chance Utility = false
+
+abbrev pub is_decision : Kind → Bool
+is_decision Chance = false
+is_decision Decision = true
+is_decision Utility = false
+
+abbrev pub is_utility : Kind → Bool
+is_utility Chance = false
+is_utility Decision = false
+is_utility Utility = true
+
+-- the decisions, in text order
+abbrev pub decisions_of : List NodeView → List ℕ
+decisions_of nodes = filter (λ v. is_decision (node_at nodes v).kind) (numbers_of nodes)
+
+-- a decision of the diagram
+pub record IsDecision (nodes : List NodeView) (v : ℕ) : Type 0 where
+  pub within : v < length nodes
+  pub kind : (node_at nodes v).kind ≡ Decision
+
+-- a utility of the agent
+abbrev pub is_utility_of : List NodeView → ℕ → ℕ → Bool
+is_utility_of nodes agent v = is_utility (node_at nodes v).kind && ((node_at nodes v).owner == agent)
+
+-- how many choices the parents' states have: the product of their counts
+abbrev pub rows_under : (ℕ → ℕ) → List ℕ → ℕ
+rows_under count [] = 1
+rows_under count (u ∷ us) = count u * rows_under count us
+
+-- how many rows the table or the rule of v has
+abbrev pub rows_of : List NodeView → ℕ → ℕ
+rows_of nodes v = rows_under (states_of nodes) (parents_of nodes v)
