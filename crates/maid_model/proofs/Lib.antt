@@ -1,1 +1,9 @@
-
+pub mod Setting
+pub mod Ints
+pub mod Sums
+pub mod Totals
+pub mod Bridge
+pub mod Tables
+pub mod Lists
+pub mod Views
+pub mod Next
