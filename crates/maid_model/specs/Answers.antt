@@ -1,5 +1,6 @@
 -- The answer: the base of each decision, the best states against it, and what the plan is worth to each agent.
-use Rattle.std.specs.Prelude.{◌≡◌, ℕ, ◌<◌, ◌*◌, ◌^◌, Bool, List, [], ◌∷◌, map, length, All, Contains, slice_index_or, ℤ, pos, ◌*ℤ◌, ◌≤ℤ◌, ◌<ℤ◌, ◌==◌, if◌then◌else◌, nat_abs, Option, Some, None, IfSome}
+use Rattle.std.specs.Prelude.{◌≡◌, ℕ, ◌<◌, ◌*◌, ◌^◌, Bool, List, [], ◌∷◌, map, length, All, Contains, slice_index_or, ℤ, pos, ◌*ℤ◌, ◌≤ℤ◌, ◌<ℤ◌, ◌==◌, if◌then◌else◌, nat_abs, unsigned_abs, Option, Some, None, IfSome}
+use Rattle.std.specs.Int.{IsGcd}
 use Rattle.maid_model.specs.declared.answers.Ratio.{Ratio}
 use Rattle.maid_model.specs.declared.answers.Row.{Row}
 use Rattle.maid_model.specs.Views.{NodeView, DiagramView, RuleView, AnswerView, SolvedView}
@@ -10,14 +11,10 @@ use Rattle.maid_model.specs.Gains.{gain_at, mass_at, gain_of, mass}
 use Rattle.maid_model.specs.Relevance.{ReliesOn}
 use Rattle.maid_model.specs.Placing.{IsRelianceOrder}
 
--- n divides m
-abbrev pub Divides : ℕ → ℕ → Type 0
-Divides n m = (k : ℕ) × (m ≡ k * n)
-
--- a reduced fraction: a positive denominator, and no common divisor but 1
+-- a reduced fraction: a positive denominator that shares no divisor but 1 with the numerator
 pub record IsReduced (r : Ratio) : Type 0 where
   pub positive : 0 < r.den
-  pub coprime : (n : ℕ) → Divides n (nat_abs r.num) → Divides n r.den → n ≡ 1
+  pub coprime : IsGcd (unsigned_abs r.num) r.den 1
 
 -- the reduced fraction that num / den is
 pub record IsFraction (r : Ratio) (num : ℤ) (den : ℕ) : Type 0 where
