@@ -13,3 +13,4 @@ pub mod Placing
 pub mod Subgames
 pub mod Answers
 pub mod Bounds
+pub mod Laws

@@ -1,6 +1,7 @@
 ghost use Rattle.std.specs.Prelude.{◌≡◌, ◌<◌, ◌≤◌, ◌↔◌, length, IsTrue};
 ghost use Rattle.maid_model.specs.Diagrams.{IsDiagram};
-ghost use Rattle.maid_model.specs.Nodes.{node_at};
+ghost use Rattle.maid_model.specs.Nodes.{node_at, rows_of, IsOwnedBy};
+ghost use Rattle.maid_model.specs.Tables.{chance_total};
 
 use smallvec::SmallVec;
 use std::alloc::Global;
@@ -97,5 +98,42 @@ impl Diagram {
         ensures diagram { IsDiagram self.now }
     {
         self.decimals
+    }
+
+    /// Whether the node is a decision or a utility of the agent.
+    pub fn owns(&self, agent: usize, node: usize) -> bool
+        requires { node < length self.now.nodes }
+        ensures { IsTrue result ↔ IsOwnedBy self.now.nodes node agent }
+    {
+        let node = &self.nodes[node];
+        match node.kind {
+            Kind::Chance => false,
+            Kind::Decision | Kind::Utility => node.owner == agent,
+        }
+    }
+
+    /// How many rows the node's table or rule has: one for each choice of its parents' states.
+    pub fn rows(&self, v: usize) -> usize
+        requires { v < length self.now.nodes }
+        ensures { result ≡ rows_of self.now.nodes v }
+    {
+        let mut rows = 1;
+        for u in self.nodes[v].parents.as_slice() {
+            rows *= self.nodes[*u].states;
+        }
+        rows
+    }
+
+    /// What each row of the chance node's table adds up to.
+    pub fn weight_total(&self, v: usize) -> u128
+        requires { (node_at self.now.nodes v).kind ≡ Kind.Chance }
+        ensures { result ≡ chance_total self.now.nodes v }
+    {
+        let node = &self.nodes[v];
+        let mut total = 0;
+        for cell in &node.cells[..node.states] {
+            total += *cell as u128;
+        }
+        total
     }
 }
