@@ -1,5 +1,5 @@
-ghost use Rattle.std.specs.Prelude.{◌≡◌, ◌<◌, List, ℕ, IfOk, length, slice_index_or};
-ghost use Rattle.maid_model.specs.Views.{RuleView};
+ghost use Rattle.std.specs.Prelude.{◌≡◌, ◌≢◌, ◌<◌, List, ℕ, IfOk, length, slice_index_or};
+ghost use Rattle.maid_model.specs.Views.{NodeView, RuleView};
 ghost use Rattle.maid_model.specs.Profiles.{IsProfile, IsRule, HasRule, no_rule, Replaces, uniform_rule, uniform_profile};
 ghost use Rattle.maid_model.specs.Tables.{weights_of, rule_total};
 ghost use Rattle.maid_model.specs.Nodes.{IsDecision};
@@ -31,7 +31,7 @@ impl Rule {
         requires { IsDecision diagram.now.nodes decision }
         ensures { IfOk result (λ r. r ≡ uniform_rule diagram.now.nodes decision) }
     {
-        let states = diagram.node(decision).states;
+        let states = diagram.states(decision);
         let cells = diagram.rows(decision) * states;
         Ok(Rule {
             decision,
@@ -73,7 +73,7 @@ impl Profile {
     {
         let mut rules = Vec::new(alloc);
         for v in 0..diagram.count() {
-            if let Kind::Decision = diagram.node(v).kind {
+            if let Kind::Decision = diagram.kind(v) {
                 rules.push(Rule::uniform(alloc, diagram, v)?)?;
             }
         }
@@ -103,11 +103,12 @@ impl Profile {
     }
 }
 
-/// The place of the decision's rule.
+/// The first place at which a rule of the decision stands.
 fn place_of(rules: &[Rule], decision: usize) -> usize
     requires { HasRule rules.now decision }
     ensures within { result < length rules.now }
-    ensures weights { (slice_index_or rules.now result no_rule).weights ≡ weights_of rules.now decision }
+    ensures found { (slice_index_or rules.now result no_rule).decision ≡ decision }
+    ensures first { (k : ℕ) → k < result → (slice_index_or rules.now k no_rule).decision ≢ decision }
 {
     for (place, rule) in rules.iter().enumerate() {
         if rule.decision == decision {

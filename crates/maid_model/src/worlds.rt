@@ -44,8 +44,9 @@ impl World {
         let mut v = self.states.len();
         while v > 0 {
             v -= 1;
+            let last = diagram.states(v) - 1;
             let state = self.states[v];
-            if state + 1 < diagram.node(v).states {
+            if state < last {
                 self.states[v] = state + 1;
                 return true;
             }
