@@ -7,3 +7,7 @@ pub mod Tables
 pub mod Lists
 pub mod Views
 pub mod Next
+pub mod Cells
+pub mod Found
+pub mod Members
+pub mod Uniform

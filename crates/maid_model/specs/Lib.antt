@@ -15,3 +15,4 @@ pub mod Answers
 pub mod Bounds
 pub mod Names
 pub mod Reports
+pub mod Laws
