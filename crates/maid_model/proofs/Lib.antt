@@ -11,3 +11,5 @@ pub mod Cells
 pub mod Found
 pub mod Members
 pub mod Uniform
+pub mod Made
+pub mod Pure
