@@ -11,3 +11,6 @@ pub mod Cells
 pub mod Found
 pub mod Members
 pub mod Uniform
+pub mod Counts
+pub mod Descent
+pub mod Ordering
