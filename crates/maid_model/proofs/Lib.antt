@@ -14,3 +14,4 @@ pub mod Uniform
 pub mod Counts
 pub mod Descent
 pub mod Ordering
+pub mod Listing
