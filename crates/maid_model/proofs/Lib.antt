@@ -15,3 +15,4 @@ pub mod Counts
 pub mod Descent
 pub mod Ordering
 pub mod Listing
+pub mod Picked
