@@ -16,3 +16,4 @@ pub mod Descent
 pub mod Ordering
 pub mod Listing
 pub mod Picked
+pub mod Weighing

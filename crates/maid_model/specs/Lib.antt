@@ -14,3 +14,4 @@ pub mod Subgames
 pub mod Answers
 pub mod Bounds
 pub mod Laws
+pub mod Private

@@ -6,6 +6,7 @@ mod answers;
 mod diagrams;
 mod laws;
 mod profiles;
+mod weights;
 mod world_sums;
 mod worlds;
 
