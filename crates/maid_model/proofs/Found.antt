@@ -4,6 +4,7 @@ use Rattle.std.proofs.lemmas.Bool.Decides.{nat_tests}
 use Rattle.std.proofs.Math.Decide.{ℕ_discrete}
 use Rattle.std.proofs.lemmas.List.{length-map, get_or_default}
 use Rattle.maid_model.specs.Nodes.{IsDecision}
+use Rattle.maid_model.specs.Private.{IsFirstAt}
 use Rattle.maid_model.specs.Profiles.{IsProfile, IsRule, HasRule, Replaces, SameRule, no_rule}
 use Rattle.maid_model.specs.Tables.{weights_of, rule_total}
 use Rattle.maid_model.specs.Views.{NodeView, RuleView}
@@ -13,12 +14,6 @@ eqb_yes a b e = grind (arith, nat_tests)
 
 pub eqb_no : (a b : ℕ) → a ≢ b → eqb a b ≡ false
 eqb_no a b n = grind (arith, nat_tests)
-
--- place i is the first with a rule of the decision
-pub record IsFirstAt (p : List RuleView) (v i : ℕ) : Type 0 where
-  pub within : i < length p
-  pub found : (get_or p i no_rule).decision ≡ v
-  pub first : (k : ℕ) → k < i → (get_or p k no_rule).decision ≢ v
 
 tail_at : (r : RuleView) (p : List RuleView) (v i : ℕ) → IsFirstAt (r ∷ p) v (suc i) → IsFirstAt p v i
 tail_at r p v i h = record { within = (let l : suc i < length (r ∷ p) = h.within in omega arith); found = h.found; first = λ k l. h.first (suc k) (omega arith) }

@@ -13,3 +13,9 @@ pub mod Members
 pub mod Uniform
 pub mod Made
 pub mod Pure
+pub mod Counts
+pub mod Descent
+pub mod Ordering
+pub mod Listing
+pub mod Picked
+pub mod Weighing

@@ -16,3 +16,4 @@ pub mod Bounds
 pub mod Names
 pub mod Reports
 pub mod Laws
+pub mod Private

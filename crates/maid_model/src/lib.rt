@@ -6,6 +6,8 @@ mod answers;
 mod diagrams;
 mod laws;
 mod profiles;
+mod pure_rules;
+mod weights;
 mod world_sums;
 mod worlds;
 

@@ -1,8 +1,9 @@
-ghost use Rattle.std.specs.Prelude.{◌≡◌, ◌≢◌, ◌<◌, List, ℕ, IfOk, length, slice_index_or};
+ghost use Rattle.std.specs.Prelude.{◌≡◌, ◌<◌, List, ℕ, IfOk, length, slice_index, slice_index_or};
 ghost use Rattle.maid_model.specs.Views.{NodeView, RuleView};
 ghost use Rattle.maid_model.specs.Profiles.{IsProfile, IsRule, HasRule, no_rule, Replaces, uniform_rule, uniform_profile};
 ghost use Rattle.maid_model.specs.Tables.{weights_of, rule_total};
 ghost use Rattle.maid_model.specs.Nodes.{IsDecision};
+ghost use Rattle.maid_model.specs.Private.{IsFirstAt};
 
 use crate::diagrams::{Diagram, Kind};
 use std::alloc::{AllocError, Global};
@@ -92,6 +93,23 @@ impl Profile {
         &self.rules[place_of(&self.rules, decision)]
     }
 
+    /// The first place at which a rule of the decision stands.
+    pub(crate) fn place(&self, decision: usize) -> usize
+        requires { HasRule self.now decision }
+        ensures { IsFirstAt self.now decision result }
+    {
+        place_of(&self.rules, decision)
+    }
+
+    /// A weight of the rule at a place.
+    pub(crate) fn weight_at(&self, place: usize, cell: usize) -> u128
+        requires place { place < length self.now }
+        requires cell { cell < length (slice_index_or self.now place no_rule).weights }
+        ensures { result ≡ slice_index (slice_index_or self.now place no_rule).weights cell }
+    {
+        self.rules[place].weights[cell]
+    }
+
     /// Puts the rule in the place of the one for its decision. It takes no memory.
     pub fn put(&mut self, rule: Rule)
         requires { HasRule self.old rule.decision }
@@ -106,9 +124,7 @@ impl Profile {
 /// The first place at which a rule of the decision stands.
 fn place_of(rules: &[Rule], decision: usize) -> usize
     requires { HasRule rules.now decision }
-    ensures within { result < length rules.now }
-    ensures found { (slice_index_or rules.now result no_rule).decision ≡ decision }
-    ensures first { (k : ℕ) → k < result → (slice_index_or rules.now k no_rule).decision ≢ decision }
+    ensures { IsFirstAt rules.now decision result }
 {
     for (place, rule) in rules.iter().enumerate() {
         if rule.decision == decision {

@@ -1,6 +1,7 @@
-ghost use Rattle.std.specs.Prelude.{◌≡◌, IfOk, IsTrue, IsFalse, length, [], ◌∷◌};
-ghost use Rattle.maid_model.specs.Nodes.{counts_of};
-ghost use Rattle.maid_model.specs.Worlds.{IsWorld, first_world, worlds_from};
+ghost use Rattle.std.specs.Prelude.{◌≡◌, ◌<◌, ◌*◌, IfOk, IsTrue, IsFalse, length, [], ◌∷◌};
+ghost use Rattle.maid_model.specs.Nodes.{counts_of, states_of, rows_of};
+ghost use Rattle.maid_model.specs.Tables.{row_of, cell_of};
+ghost use Rattle.maid_model.specs.Worlds.{IsWorld, first_world, worlds_from, world_of};
 
 use crate::diagrams::Diagram;
 use std::alloc::{AllocError, Global};
@@ -30,6 +31,29 @@ impl World {
         Ok(World {
             states,
         })
+    }
+
+    /// The row of the node's table that this world picks.
+    pub fn row(&self, diagram: &Diagram, v: usize) -> usize
+        requires node { v < length diagram.now.nodes }
+        requires world { IsWorld (counts_of diagram.now.nodes) self.now }
+        ensures { result ≡ row_of diagram.now.nodes v (world_of self.now) }
+    {
+        let mut row = 0;
+        for u in diagram.parents(v) {
+            row = row * diagram.states(*u) + self.states[*u];
+        }
+        row
+    }
+
+    /// The place of the cell that this world picks in a table with a column for each of the node's states.
+    pub fn cell(&self, diagram: &Diagram, v: usize) -> usize
+        requires node { v < length diagram.now.nodes }
+        requires world { IsWorld (counts_of diagram.now.nodes) self.now }
+        ensures cell { result ≡ cell_of diagram.now.nodes v (world_of self.now) }
+        ensures within { result < rows_of diagram.now.nodes v * states_of diagram.now.nodes v }
+    {
+        self.row(diagram, v) * diagram.states(v) + self.states[v]
     }
 
     /// Goes on to the next world in list order, the last node fastest. `false` where this was the last one, and then

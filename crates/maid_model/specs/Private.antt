@@ -1,0 +1,22 @@
+-- Notions that only contracts of private functions cite.
+use Rattle.std.specs.Prelude.{◌≡◌, ◌≢◌, ℕ, ◌<◌, ◌≤◌, Bool, false, List, length, slice_index, slice_index_or, ℤ, pos, if◌then◌else◌}
+use Rattle.maid_model.specs.Views.{NodeView, RuleView}
+use Rattle.maid_model.specs.Nodes.{IsDecision, node_at}
+use Rattle.maid_model.specs.Profiles.{no_rule}
+use Rattle.maid_model.specs.Sums.{World}
+use Rattle.maid_model.specs.Tables.{row_of}
+
+-- place i is the first with a rule of the decision
+pub record IsFirstAt (p : List RuleView) (v i : ℕ) : Type 0 where
+  pub within : i < length p
+  pub found : (slice_index_or p i no_rule).decision ≡ v
+  pub first : (k : ℕ) → k < i → (slice_index_or p k no_rule).decision ≢ v
+
+-- for each decision the place of its rule
+pub record HasPlaces (nodes : List NodeView) (p : List RuleView) (places : List ℕ) : Type 0 where
+  pub len : length nodes ≤ length places
+  pub at : (v : ℕ) → IsDecision nodes v → IsFirstAt p v (slice_index places v)
+
+-- the cell that the world picks in v, if v is marked
+abbrev pub marked_value : List NodeView → List Bool → ℕ → World → ℤ
+marked_value nodes marks v w = if slice_index_or marks v false then slice_index_or (node_at nodes v).cells (row_of nodes v w) (pos 0) else pos 0
