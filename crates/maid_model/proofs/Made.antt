@@ -22,7 +22,7 @@ made_weights rule own (d ∷ ds) v h = go (ℕ_discrete (rule d).decision v) h (
     go (no n) (inl e) r = absurd (n (own d ∙ sym e))
     go (no n) (inr m) r = ap (λ b. cond b (rule d).weights (weights_of (map rule ds) v)) (eqb_no (rule d).decision v n) ∙ r m
 
-made_total : (rule : ℕ → RuleView) → ((v : ℕ) → (rule v).decision ≡ v) → (ds : List ℕ) (v : ℕ) → Among v ds → rule_total (map rule ds) v ≡ (rule v).total
+pub made_total : (rule : ℕ → RuleView) → ((v : ℕ) → (rule v).decision ≡ v) → (ds : List ℕ) (v : ℕ) → Among v ds → rule_total (map rule ds) v ≡ (rule v).total
 made_total rule own [] v h = absurd h
 made_total rule own (d ∷ ds) v h = go (ℕ_discrete (rule d).decision v) h (made_total rule own ds v)
   where

@@ -28,7 +28,7 @@ uniform_weights nodes (d ∷ ds) v h = go (ℕ_discrete d v) h (uniform_weights 
     go (no n) (inl e) r = absurd (n (sym e))
     go (no n) (inr m) r = ap (λ b. cond b (replicate (rows_of nodes d * states_of nodes d) 1) (weights_of (map (uniform_rule nodes) ds) v)) (eqb_no d v n) ∙ r m
 
-uniform_total : (nodes : List NodeView) (ds : List ℕ) (v : ℕ) → Among v ds → rule_total (map (uniform_rule nodes) ds) v ≡ states_of nodes v
+pub uniform_total : (nodes : List NodeView) (ds : List ℕ) (v : ℕ) → Among v ds → rule_total (map (uniform_rule nodes) ds) v ≡ states_of nodes v
 uniform_total nodes [] v h = absurd h
 uniform_total nodes (d ∷ ds) v h = go (ℕ_discrete d v) h (uniform_total nodes ds v)
   where

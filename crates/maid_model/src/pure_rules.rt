@@ -1,7 +1,8 @@
-ghost use Rattle.std.specs.Prelude.{◌≡◌, ◌<◌, ◌++◌, All, IfOk, OnOk, length, map};
+ghost use Rattle.std.specs.Prelude.{◌≡◌, ◌<◌, ◌++◌, ℕ, All, IfOk, OnOk, length, map};
 ghost use Rattle.maid_model.specs.Answers.{FitsAnswers, pure_profile, rows_at};
 ghost use Rattle.maid_model.specs.Nodes.{IsDecision, states_of};
 ghost use Rattle.maid_model.specs.Profiles.{IsProfile, pure_row, pure_rule};
+ghost use Rattle.maid_model.specs.Tables.{rule_total};
 
 use crate::answers::{Answer, Row};
 use crate::diagrams::{Diagram, Kind};
@@ -58,6 +59,7 @@ impl Profile {
     /// The profile of the answered choices: at each decision the rule of total 1 that takes them.
     pub fn pure(alloc: Global, diagram: &Diagram, answers: &[Answer]) -> Result<Profile, AllocError>
         ensures rules { IfOk result (λ p. p ≡ pure_profile diagram.now.nodes answers.now) }
+        ensures total { IfOk result (λ p. (v : ℕ) → IsDecision diagram.now.nodes v → rule_total p v ≡ 1) }
         ensures profile { FitsAnswers diagram.now.nodes answers.now → IfOk result (IsProfile diagram.now.nodes) }
     {
         let mut rules = Vec::new(alloc);

@@ -3,3 +3,7 @@
 #![tactic(auto)]
 
 mod rows;
+mod solving;
+mod stand_in;
+
+pub use solving::solve;

@@ -22,7 +22,7 @@ fn first_best(gains: &[i128]) -> usize
 }
 
 /// The fraction in lowest terms.
-fn fraction(num: i128, den: u128) -> Ratio
+pub(crate) fn fraction(num: i128, den: u128) -> Ratio
     requires den { 0 < den }
     requires num { nat_abs num ≤ greatest_number }
     ensures { IsFraction result num den }

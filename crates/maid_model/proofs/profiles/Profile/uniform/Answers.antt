@@ -1,6 +1,9 @@
 use Rattle.std.proofs.Common.{◌∙◌, ◌+◌, ◌++◌, ◌∷◌, [], sym, subst, ap, arith}
+use Rattle.maid_model.specs.Nodes.{decisions_of}
 use Rattle.maid_model.specs.Profiles.{IsProfile}
-use Rattle.maid_model.proofs.Uniform.{UniformSoFar, uniform_step, uniform_skip, uniform_end, uniform_is_profile}
+use Rattle.maid_model.specs.Tables.{rule_total}
+use Rattle.maid_model.proofs.Members.{decision_listed}
+use Rattle.maid_model.proofs.Uniform.{UniformSoFar, uniform_step, uniform_skip, uniform_end, uniform_is_profile, uniform_total}
 use Rattle.maid_model.proofs.profiles.Profile.uniform.Goals as goal
 use Rattle.maid_model.proofs.profiles.Profile.uniform.Goals.{in-Decision+in_ok-uniform+in_ok-push, in_default}
 
@@ -21,3 +24,8 @@ pub returns-clause-profile : goal.returns-clause-profile
 returns-clause-profile c =
     subst (IsProfile c.args.diagram.now.nodes) (sym (uniform_end c.args.diagram.now.nodes c.loop-v.rules.items c.loop-v.v c.loop-v.invariant (omega arith)))
     (uniform_is_profile c.args.diagram.now.nodes c.count-v-end.ensures.diagram.graph)
+
+pub returns-clause-total : goal.returns-clause-total
+returns-clause-total c v d =
+    ap (λ p. rule_total p v) (uniform_end c.args.diagram.now.nodes c.loop-v.rules.items c.loop-v.v c.loop-v.invariant (omega arith))
+    ∙ uniform_total c.args.diagram.now.nodes (decisions_of c.args.diagram.now.nodes) v (decision_listed c.args.diagram.now.nodes v d)
