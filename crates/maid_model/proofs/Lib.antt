@@ -17,3 +17,4 @@ pub mod Ordering
 pub mod Listing
 pub mod Picked
 pub mod Weighing
+pub mod Marking

@@ -5,6 +5,7 @@
 mod answers;
 mod diagrams;
 mod laws;
+mod marks;
 mod profiles;
 mod weights;
 mod world_sums;
