@@ -18,3 +18,4 @@ pub mod Listing
 pub mod Picked
 pub mod Weighing
 pub mod Marking
+pub mod Summing

@@ -2,7 +2,7 @@ ghost use Rattle.std.specs.Prelude.{◌≡◌, ℕ, ◌<◌, ◌≤◌, ◌&&◌
 ghost use Rattle.std.specs.List.{list_any};
 ghost use Rattle.maid_model.specs.Nodes.{node_at, is_utility_of};
 ghost use Rattle.maid_model.specs.Graph.{descends};
-ghost use Rattle.maid_model.specs.Private.{is_marked, is_near, marked_count, MarksDescendants, IsClosed};
+ghost use Rattle.maid_model.specs.Private.{is_marked, is_near, marked_count, MarksDescendants, IsClosed, MarksUtilities};
 
 use crate::diagrams::{Diagram, Kind, MOST_NODES};
 
@@ -22,7 +22,8 @@ fn is_utility_of(diagram: &Diagram, agent: usize, v: usize) -> bool
 
 /// The utilities of the agent.
 pub(crate) fn utilities_of(diagram: &Diagram, agent: usize) -> Marks
-    ensures { (v : ℕ) → v < length diagram.now.nodes → is_marked result v ≡ is_utility_of diagram.now.nodes agent v }
+    ensures utilities { MarksUtilities diagram.now.nodes result }
+    ensures marks { (v : ℕ) → v < length diagram.now.nodes → is_marked result v ≡ is_utility_of diagram.now.nodes agent v }
 {
     let mut marks = [false; MOST_NODES];
     for v in 0..diagram.count() {
@@ -34,7 +35,8 @@ pub(crate) fn utilities_of(diagram: &Diagram, agent: usize) -> Marks
 /// The utilities of the decision's agent that descend from the decision.
 pub(crate) fn utilities_below(diagram: &Diagram, decision: usize) -> Marks
     requires { decision < length diagram.now.nodes }
-    ensures { (v : ℕ) → v < length diagram.now.nodes → is_marked result v ≡ (descends diagram.now.nodes decision v && is_utility_of diagram.now.nodes (node_at diagram.now.nodes decision).owner v) }
+    ensures utilities { MarksUtilities diagram.now.nodes result }
+    ensures marks { (v : ℕ) → v < length diagram.now.nodes → is_marked result v ≡ (descends diagram.now.nodes decision v && is_utility_of diagram.now.nodes (node_at diagram.now.nodes decision).owner v) }
 {
     let agent = diagram.owner(decision);
     let below = descendants(diagram, decision);
