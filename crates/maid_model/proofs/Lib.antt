@@ -19,3 +19,5 @@ pub mod Picked
 pub mod Weighing
 pub mod Marking
 pub mod Summing
+pub mod Adding
+pub mod Leaves

@@ -24,9 +24,10 @@ pub fn leaf_sum(diagram: &Diagram, profile: &Profile, agent: usize, world: &mut 
 {
     let places = rule_places(diagram, profile);
     let marks = utilities_of(diagram, agent);
+    let nothing = diagram.count();
     let mut sum: i128 = 0;
     'worlds: loop {
-        let weight = world_weight(diagram, profile, &places, diagram.count(), world);
+        let weight = world_weight(diagram, profile, &places, nothing, world);
         sum += world_gain(diagram, &marks, weight, world);
         if !world.next(diagram) {
             return sum;
@@ -98,8 +99,7 @@ fn world_gain(diagram: &Diagram, marks: &[bool], weight: u128, world: &World) ->
     requires utility { greatest_utility diagram.now.nodes ≤ greatest_number }
     requires weight { weight ≤ greatest_number }
     requires fits { weight * greatest_utility diagram.now.nodes ≤ greatest_number }
-    ensures gain { result ≡ pos weight *ℤ marked_utility diagram.now.nodes marks.now (world_of world.now) }
-    ensures within { nat_abs result ≤ weight * greatest_utility diagram.now.nodes }
+    ensures { result ≡ pos weight *ℤ marked_utility diagram.now.nodes marks.now (world_of world.now) }
 {
     if weight == 0 {
         return 0;
