@@ -11,7 +11,7 @@ use Rattle.maid_model.proofs.Found.{eqb_yes}
 use Rattle.std.proofs.lemmas.Bool.Decides.{nat_tests}
 
 -- ---- tests of members
-any_has : (p : ℕ → Bool) (xs : List ℕ) → list_any p xs ≡ true → (x : ℕ) × Among x xs × (p x ≡ true)
+pub any_has : (p : ℕ → Bool) (xs : List ℕ) → list_any p xs ≡ true → (x : ℕ) × Among x xs × (p x ≡ true)
 any_has p [] h = absurd (cc)
 any_has p (x ∷ xs) h = go (true_or_false (p x)) (any_has p xs)
   where
@@ -19,7 +19,7 @@ any_has p (x ∷ xs) h = go (true_or_false (p x)) (any_has p xs)
     go (inl e) r = (x, inl refl, e)
     go (inr e) r = let a = r (ap (λ b. b || list_any p xs) (sym e) ∙ h) in (a.0, inr a.1, a.2)
 
-any_of : (p : ℕ → Bool) (xs : List ℕ) (x : ℕ) → Among x xs → p x ≡ true → list_any p xs ≡ true
+pub any_of : (p : ℕ → Bool) (xs : List ℕ) (x : ℕ) → Among x xs → p x ≡ true → list_any p xs ≡ true
 any_of p [] x h e = absurd h
 any_of p (y ∷ ys) x (inl f) e = ap (λ b. b || list_any p ys) (sym (ap p f) ∙ e)
 any_of p (y ∷ ys) x (inr m) e = go (p y) (any_of p ys x m e)
@@ -28,14 +28,14 @@ any_of p (y ∷ ys) x (inr m) e = go (p y) (any_of p ys x m e)
     go true h = refl
     go false h = h
 
-equal_from_test : (a b : ℕ) → eqb a b ≡ true → a ≡ b
+pub equal_from_test : (a b : ℕ) → eqb a b ≡ true → a ≡ b
 equal_from_test a b h = grind (arith, nat_tests)
 
-or_cases : (a b : Bool) → (a || b) ≡ true → (a ≡ true) ⊎ (b ≡ true)
+pub or_cases : (a b : Bool) → (a || b) ≡ true → (a ≡ true) ⊎ (b ≡ true)
 or_cases true b h = inl refl
 or_cases false b h = inr h
 
-or_right : (a b : Bool) → b ≡ true → (a || b) ≡ true
+pub or_right : (a b : Bool) → b ≡ true → (a || b) ≡ true
 or_right true b h = refl
 or_right false b h = h
 

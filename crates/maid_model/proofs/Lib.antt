@@ -19,3 +19,7 @@ pub mod Ordering
 pub mod Listing
 pub mod Picked
 pub mod Weighing
+pub mod Marking
+pub mod Summing
+pub mod Adding
+pub mod Leaves

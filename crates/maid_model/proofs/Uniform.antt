@@ -47,7 +47,7 @@ ones_not_negative zero i = omega (arith, ints)
 ones_not_negative (suc n) zero = omega (arith, ints)
 ones_not_negative (suc n) (suc i) = ones_not_negative n i
 
-sum_ones : (n : ℕ) (f : ℕ → ℤ) → ((i : ℕ) → i < n → f i ≡ pos 1) → sum_below n f ≡ pos n
+pub sum_ones : (n : ℕ) (f : ℕ → ℤ) → ((i : ℕ) → i < n → f i ≡ pos 1) → sum_below n f ≡ pos n
 sum_ones zero f h = refl
 sum_ones (suc n) f h = let a : sum_below n f ≡ pos n = sum_ones n f (λ i l. h i (omega arith)) in let b : f n ≡ pos 1 = h n (omega arith) in omega (arith, ints)
 

@@ -165,7 +165,7 @@ rest_none nodes i h = ap (range_with_len i) (none (length nodes) i h)
 abbrev pub factors : List NodeView → List RuleView → ℕ → World → ℕ → ℤ
 factors nodes p out w v = table_without nodes p out v w
 
-product_positive : (f : ℕ → ℕ) (vs : List ℕ) → ((v : ℕ) → 0 < f v) → 0 < nat_product_over f vs
+pub product_positive : (f : ℕ → ℕ) (vs : List ℕ) → ((v : ℕ) → 0 < f v) → 0 < nat_product_over f vs
 product_positive f [] h = omega arith
 product_positive f (v ∷ vs) h = let a : 0 < f v = h v in let b : 0 < nat_product_over f vs = product_positive f vs h in omega (arith, mul-le-mul_left (f v) b)
 

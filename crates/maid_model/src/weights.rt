@@ -46,7 +46,7 @@ fn factor(diagram: &Diagram, profile: &Profile, places: &[usize], left_out: usiz
 }
 
 /// The weight of the world under the profile, but for the rule of the decision that is left out.
-pub(crate) fn weight(diagram: &Diagram, profile: &Profile, places: &[usize], left_out: usize, world: &World) -> u128
+pub(crate) fn world_weight(diagram: &Diagram, profile: &Profile, places: &[usize], left_out: usize, world: &World) -> u128
     requires profile { IsProfile diagram.now.nodes profile.now }
     requires places { HasPlaces diagram.now.nodes profile.now places.now }
     requires world { IsWorld (counts_of diagram.now.nodes) world.now }

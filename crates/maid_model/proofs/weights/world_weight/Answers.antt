@@ -2,7 +2,7 @@ use Rattle.std.proofs.Common.{arith, rules, length, ◌≤◌}
 use Rattle.maid_model.specs.Gains.{base_total}
 use Rattle.maid_model.specs.Worlds.{world_of}
 use Rattle.maid_model.proofs.Weighing.{factors, base_positive, product_start, product_step, product_fits, product_zero, product_end}
-use Rattle.maid_model.proofs.weights.weight.Goals as goal
+use Rattle.maid_model.proofs.weights.world_weight.Goals as goal
 
 pub loop-v-init : goal.loop-v-init
 loop-v-init c = product_start c.args.diagram.now.nodes (factors c.args.diagram.now.nodes c.args.profile.now c.args.left_out (world_of c.args.world.now)) (base_total c.args.diagram.now.nodes c.args.profile.now c.args.left_out)
