@@ -1,15 +1,14 @@
 -- Every text has a token list or a fault.
-use Rattle.std.proofs.Common.{◌≡◌, ◌⊎◌, ◌+◌, ◌-◌, ◌<◌, ◌≤◌, ℕ, zero, suc, List, [], ◌∷◌, ◌++◌, length, take, drop, Bool, true, false, ◌||◌, Option, None, Some, ◌==◌, refl, sym, ap, ◌∙◌, inl, inr, ⊎_elim, arith, length-drop}
+use Rattle.std.proofs.Common.{◌≡◌, ◌⊎◌, ◌+◌, ◌-◌, ◌<◌, ◌≤◌, ℕ, zero, suc, List, [], ◌∷◌, ◌++◌, length, take, drop, true, false, Option, None, Some, ◌==◌, refl, inl, inr, ⊎_elim, arith, length-drop}
 use Rattle.std.specs.List.{filter_map, prefix_len}
 use Rattle.std.proofs.lemmas.Bool.{or_cases, cases_Bool, cases_lt, eqb-true}
-use Rattle.net_lexer.specs.Bytes.{is_white, is_line_byte, is_word_start, is_word_byte, is_run_start, is_run_byte, is_punctuation}
+use Rattle.net_lexer.specs.Bytes.{is_white, is_percent, is_quote, is_line_byte, is_word_start, is_word_byte, is_run_start, is_run_byte, is_punctuation}
 use Rattle.net_lexer.specs.Numerals.{is_numeral}
 use Rattle.net_lexer.specs.Strings.{behind_quote}
 use Rattle.net_lexer.specs.Token.{is_signed}
 use Rattle.net_lexer.specs.Pieces.{is_piece, goes_on_with, begins, IsPieceOf, Lead, token_of, IsTokens, IsFaultAt, IsFault}
 use Rattle.net_lexer.specs.Laws.{Covered}
 use Rattle.net_lexer.specs.declared.tokens.Token.{Token}
-use Rattle.net_lexer.specs.declared.tokens.TokenKind.{TokenKind}
 use Rattle.net_lexer.specs.declared.tokens.TokenKind.TheVariants as kinds
 use Rattle.net_lexer.specs.declared.tokens.LexFault.{LexFault}
 use Rattle.net_lexer.specs.declared.tokens.LexFault.TheVariants.{BadByte, OpenString, BadNumeral}
@@ -33,24 +32,24 @@ module _ (place b : ℕ) (bs : List ℕ) where
   only : (kind : PieceKind) → is_piece kind (b ∷ []) ≡ true → begins (goes_on_with kind (b ∷ [])) bs ≡ false → Begins place (b ∷ bs)
   only kind form whole = found kind 1 (front_piece (b ∷ bs) kind 1 (omega arith) (omega arith) form whole)
 
-  bad : is_white b ≡ false → (b == 37) ≡ false → (b == 34) ≡ false → is_word_start b ≡ false → is_run_start b ≡ false → is_punctuation b ≡ false → Begins place (b ∷ bs)
+  bad : is_white b ≡ false → is_percent b ≡ false → is_quote b ≡ false → is_word_start b ≡ false → is_run_start b ≡ false → is_punctuation b ≡ false → Begins place (b ∷ bs)
   bad white percent quote word digit other = inr (BadByte place, (refl, rw (white, percent, quote, word, digit, other) refl))
 
   mark : is_punctuation b ≡ true → Begins place (b ∷ bs)
   mark e = ⊎_elim
-      (λ f. only (pieces.Token kinds.BraceOpen) f (begins-never bs))
+      (λ f. only (pieces.Token kinds.BraceOpen) (rw f refl) (begins-never bs))
       (λ e. ⊎_elim
-      (λ f. only (pieces.Token kinds.BraceClose) f (begins-never bs))
+      (λ f. only (pieces.Token kinds.BraceClose) (rw f refl) (begins-never bs))
       (λ e. ⊎_elim
-      (λ f. only (pieces.Token kinds.ParenOpen) f (begins-never bs))
+      (λ f. only (pieces.Token kinds.ParenOpen) (rw f refl) (begins-never bs))
       (λ e. ⊎_elim
-      (λ f. only (pieces.Token kinds.ParenClose) f (begins-never bs))
+      (λ f. only (pieces.Token kinds.ParenClose) (rw f refl) (begins-never bs))
       (λ e. ⊎_elim
-      (λ f. only (pieces.Token kinds.Equals) f (begins-never bs))
+      (λ f. only (pieces.Token kinds.Equals) (rw f refl) (begins-never bs))
       (λ e. ⊎_elim
-      (λ f. only (pieces.Token kinds.Semicolon) f (begins-never bs))
+      (λ f. only (pieces.Token kinds.Semicolon) (rw f refl) (begins-never bs))
       (λ e. ⊎_elim
-      (λ f. only (pieces.Token kinds.Bar) f (begins-never bs))
+      (λ f. only (pieces.Token kinds.Bar) (rw f refl) (begins-never bs))
       (λ e. absurd (cc e))
       (or_cases (b == 124) _ e))
       (or_cases (b == 59) _ e))
@@ -60,11 +59,11 @@ module _ (place b : ℕ) (bs : List ℕ) where
       (or_cases (b == 125) _ e))
       (or_cases (b == 123) _ e)
 
-  string : (b == 34) ≡ true → Begins place (b ∷ bs)
+  string : is_quote b ≡ true → Begins place (b ∷ bs)
   string e = by_end (behind_quote bs) refl where
     by_end : (o : Option (List ℕ)) → behind_quote bs ≡ o → Begins place (b ∷ bs)
     by_end None is = inr (OpenString place, (refl, rw (e, is) refl))
-    by_end (Some rest) is = found (pieces.Token kinds.Text) (length (b ∷ bs) - length rest) (string_piece (b ∷ bs) rest (omega arith) (eqb-true b 34 e) is).1
+    by_end (Some rest) is = found (pieces.Token kinds.Text) (length (b ∷ bs) - length rest) (string_piece (b ∷ bs) rest (omega arith) e is).1
 
   run : is_run_start b ≡ true → Begins place (b ∷ bs)
   run e =
@@ -81,7 +80,7 @@ module _ (place b : ℕ) (bs : List ℕ) where
   begin = ⊎_elim
       (λ e. only Blank e (begins-never bs))
       (λ white. ⊎_elim
-      (λ e. found Comment (prefix_len is_line_byte (b ∷ bs)) (comment_piece (b ∷ bs) _ (omega arith) (eqb-true b 37 e) refl))
+      (λ e. found Comment (prefix_len is_line_byte (b ∷ bs)) (comment_piece (b ∷ bs) _ (omega arith) e refl))
       (λ percent. ⊎_elim
       string
       (λ quote. ⊎_elim
@@ -91,8 +90,8 @@ module _ (place b : ℕ) (bs : List ℕ) where
       (λ digit. ⊎_elim mark (λ other. bad white percent quote word digit other) (cases_Bool (is_punctuation b)))
       (cases_Bool (is_run_start b)))
       (cases_Bool (is_word_start b)))
-      (cases_Bool (b == 34)))
-      (cases_Bool (b == 37)))
+      (cases_Bool (is_quote b)))
+      (cases_Bool (is_percent b)))
       (cases_Bool (is_white b))
 
 begin_of : (place : ℕ) (bytes : List ℕ) → 0 < length bytes → Begins place bytes

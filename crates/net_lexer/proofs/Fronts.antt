@@ -1,11 +1,11 @@
 -- The piece at the front of some bytes.
-use Rattle.std.proofs.Common.{◌≡◌, ◌+◌, ◌-◌, ◌<◌, ◌≤◌, ℕ, suc, List, [], ◌∷◌, ◌++◌, length, take, drop, get_or, Bool, true, false, ◌&&◌, ◌||◌, Some, refl, sym, ap, ◌∙◌, arith, tests, length-append, length-drop, drop-drop, codes}
+use Rattle.std.proofs.Common.{◌≡◌, ◌+◌, ◌-◌, ◌<◌, ◌≤◌, ℕ, suc, List, [], ◌∷◌, ◌++◌, length, take, drop, get_or, true, false, Some, refl, ◌∙◌, arith, tests, length-append, length-drop, drop-drop}
 use Rattle.std.specs.List.{prefix_len}
 use Rattle.std.proofs.Math.Nat.{sub-zero}
-use Rattle.std.proofs.Math.Seq.{take-append_seam, drop-append_seam}
+use Rattle.std.proofs.Math.Seq.{take-append_seam}
 use Rattle.std.proofs.lemmas.Bool.{or_right}
 use Rattle.std.proofs.lemmas.List.Sums.{prefix_len-le-length}
-use Rattle.net_lexer.specs.Bytes.{is_one_of, is_digit, is_line_byte, is_word_start, is_word_byte, is_run_start, is_run_byte, is_sign}
+use Rattle.net_lexer.specs.Bytes.{is_percent, is_quote, is_line_byte, is_word_start, is_word_byte, is_run_start, is_run_byte}
 use Rattle.net_lexer.specs.Numerals.{is_numeral}
 use Rattle.net_lexer.specs.Strings.{behind_quote}
 use Rattle.net_lexer.specs.Token.{is_name, is_signed}
@@ -14,6 +14,7 @@ use Rattle.net_lexer.specs.declared.tokens.TokenKind.TheVariants as kinds
 use Rattle.net_lexer.specs.declared.pieces.PieceKind.{PieceKind}
 use Rattle.net_lexer.specs.declared.pieces.PieceKind.TheVariants.{Comment}
 use Rattle.net_lexer.specs.declared.pieces.PieceKind.TheVariants as pieces
+use Rattle.net_lexer.proofs.Firsts.{percent_is}
 use Rattle.net_lexer.proofs.Prefix.{list_all-prefix, begins-prefix, begins-never, prefix_len-yes}
 use Rattle.net_lexer.proofs.Quotes.{closes}
 use Rattle.net_lexer.proofs.Runs.{run_starts, signed_is_no_name}
@@ -31,10 +32,10 @@ piece_behind text place n kind le is =
     let whole = rw (sub-zero, drop-drop n place text) at is.whole in
     record { some = omega arith; within = omega arith; form = rw len form; whole = rw len whole }
 
-pub comment_piece : (bytes : List ℕ) (n : ℕ) → 0 < length bytes → get_or bytes 0 0 ≡ 37 → n ≡ prefix_len is_line_byte bytes → IsPieceOf bytes (record { kind = Comment; start = 0; end = n })
+pub comment_piece : (bytes : List ℕ) (n : ℕ) → 0 < length bytes → is_percent (get_or bytes 0 0) ≡ true → n ≡ prefix_len is_line_byte bytes → IsPieceOf bytes (record { kind = Comment; start = 0; end = n })
 comment_piece [] n h e is = absurd (omega arith)
 comment_piece (b ∷ bs) n h e is =
-    let len : n ≡ suc (prefix_len is_line_byte bs) = is ∙ prefix_len-yes is_line_byte b bs (rw e refl) in
+    let len : n ≡ suc (prefix_len is_line_byte bs) = is ∙ prefix_len-yes is_line_byte b bs (percent_is b e).1 in
     front_piece (b ∷ bs) Comment n (omega arith) (omega (arith, prefix_len-le-length is_line_byte bs)) (rw (len, e) (list_all-prefix is_line_byte bs)) (rw len (begins-prefix is_line_byte bs))
 
 pub name_piece : (bytes : List ℕ) (n : ℕ) → 0 < length bytes → is_word_start (get_or bytes 0 0) ≡ true → n ≡ prefix_len is_word_byte bytes → IsPieceOf bytes (record { kind = pieces.Token kinds.Word; start = 0; end = n })
@@ -45,7 +46,7 @@ name_piece (b ∷ bs) n h e is =
     front_piece (b ∷ bs) (pieces.Token kinds.Word) n (omega arith) (omega (arith, prefix_len-le-length is_word_byte bs)) (rw (len, name) refl) (rw (len, name) (begins-prefix is_word_byte bs))
 
 -- a string that ends where the rest begins
-string_before : (b : ℕ) (front rest : List ℕ) → b ≡ 34 → behind_quote front ≡ Some [] → (length rest ≤ length (b ∷ (front ++ rest))) × IsPieceOf (b ∷ (front ++ rest)) (record { kind = pieces.Token kinds.Text; start = 0; end = length (b ∷ (front ++ rest)) - length rest })
+string_before : (b : ℕ) (front rest : List ℕ) → is_quote b ≡ true → behind_quote front ≡ Some [] → (length rest ≤ length (b ∷ (front ++ rest))) × IsPieceOf (b ∷ (front ++ rest)) (record { kind = pieces.Token kinds.Text; start = 0; end = length (b ∷ (front ++ rest)) - length rest })
 string_before b front rest e ends =
     let size = length-append front rest in
     let len : length (b ∷ (front ++ rest)) - length rest ≡ suc (length front) = omega arith in
@@ -54,7 +55,7 @@ string_before b front rest e ends =
       rw len (front_piece (b ∷ (front ++ rest)) (pieces.Token kinds.Text) (suc (length front)) (omega arith) (omega arith) form (begins-never (drop (length front) (front ++ rest)))),
     )
 
-pub string_piece : (bytes rest : List ℕ) → 0 < length bytes → get_or bytes 0 0 ≡ 34 → behind_quote (drop 1 bytes) ≡ Some rest → (length rest ≤ length bytes) × IsPieceOf bytes (record { kind = pieces.Token kinds.Text; start = 0; end = length bytes - length rest })
+pub string_piece : (bytes rest : List ℕ) → 0 < length bytes → is_quote (get_or bytes 0 0) ≡ true → behind_quote (drop 1 bytes) ≡ Some rest → (length rest ≤ length bytes) × IsPieceOf bytes (record { kind = pieces.Token kinds.Text; start = 0; end = length bytes - length rest })
 string_piece [] rest h e is = absurd (omega arith)
 string_piece (b ∷ bs) rest h e is =
     let closed = closes bs rest is in

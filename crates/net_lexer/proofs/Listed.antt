@@ -1,10 +1,10 @@
 -- Where the tokens of a text stand.
-use Rattle.std.proofs.Common.{◌≡◌, ◌<◌, ◌≤◌, ℕ, List, [], ◌∷◌, length, refl, arith, All, AllPairs}
+use Rattle.std.proofs.Common.{◌≡◌, ◌≤◌, ℕ, List, [], ◌∷◌, length, refl, arith, All, AllPairs}
 use Rattle.std.specs.List.{filter_map}
 use Rattle.std.proofs.lemmas.List.Elements.{All-nil, All-cons}
 use Rattle.std.proofs.lemmas.List.Kept.{AllPairs-cons}
 use Rattle.net_lexer.specs.Token.{IsTokenOf}
-use Rattle.net_lexer.specs.Pieces.{IsPieceOf, Lead, token_of, IsTokens}
+use Rattle.net_lexer.specs.Pieces.{IsPieceOf, Lead, token_of}
 use Rattle.net_lexer.specs.Laws.{EachToken, InOrder}
 use Rattle.net_lexer.specs.declared.tokens.Token.{Token}
 use Rattle.net_lexer.specs.declared.tokens.TokenKind.{TokenKind}

@@ -1,14 +1,13 @@
 -- A text is cut into pieces in one way.
-use Rattle.std.proofs.Common.{◌≡◌, ◌+◌, ◌-◌, ◌<◌, ◌≤◌, ℕ, List, [], ◌∷◌, length, drop, refl, sym, ap, ◌∙◌, subst, arith}
+use Rattle.std.proofs.Common.{◌≡◌, ◌-◌, ℕ, List, [], ◌∷◌, length, drop, refl, sym, ap, ◌∙◌, subst, arith}
 use Rattle.std.specs.List.{filter_map}
 use Rattle.std.proofs.Math.Seq.{drop-length}
-use Rattle.net_lexer.specs.Pieces.{IsPieceOf, Lead, token_of, IsTokens, IsFaultAt, IsFault}
+use Rattle.net_lexer.specs.Pieces.{IsPieceOf, Lead, token_of, IsFaultAt}
 use Rattle.net_lexer.specs.Laws.{Exclusive, OneList, OneFault}
 use Rattle.net_lexer.specs.declared.tokens.LexFault.{LexFault}
-use Rattle.net_lexer.specs.declared.tokens.LexFault.TheVariants.{BadByte, OpenString, BadNumeral, NoMemory}
 use Rattle.net_lexer.specs.declared.pieces.Piece.{Piece}
 use Rattle.net_lexer.specs.declared.pieces.PieceKind.{PieceKind}
-use Rattle.net_lexer.proofs.Starts.{Start, piece, start_of, piece_start, fault_start, fault_of, IsStuck}
+use Rattle.net_lexer.proofs.Starts.{piece, start_of, piece_start, fault_start, fault_of, IsStuck}
 
 -- a place that no piece leads on from
 abbrev pub Stuck : List ℕ → ℕ → Type 0

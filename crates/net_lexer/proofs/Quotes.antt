@@ -1,6 +1,7 @@
 -- What stands behind a quote that isn't escaped.
-use Rattle.std.proofs.Common.{◌≡◌, ℕ, List, [], ◌∷◌, ◌++◌, Bool, true, false, Option, None, Some, cond, refl, ap}
-use Rattle.net_lexer.specs.Strings.{behind_quote, is_quote, is_escape}
+use Rattle.std.proofs.Common.{◌≡◌, ℕ, List, [], ◌∷◌, ◌++◌, Bool, true, false, None, Some, cond, refl, ap}
+use Rattle.net_lexer.specs.Bytes.{is_quote}
+use Rattle.net_lexer.specs.Strings.{behind_quote, is_escape}
 
 -- the bytes up to the quote, which stand there whatever is behind it
 pub record Closes (bytes rest : List ℕ) : Type 0 where

@@ -1,14 +1,16 @@
 -- Some bytes begin with at most one piece or fault.
-use Rattle.std.proofs.Common.{◌≡◌, ◌+◌, ◌-◌, ◌<◌, ◌≤◌, ℕ, suc, List, [], ◌∷◌, ◌++◌, length, take, drop, Bool, true, false, ◌&&◌, ◌||◌, not, Option, None, Some, if◌then◌else◌, ◌==◌, refl, sym, ap, ◌∙◌, ⊎_elim, arith, tests, length-append, length-drop, length-take-le, one-add, drop-drop}
+use Rattle.std.proofs.Common.{◌≡◌, ◌+◌, ◌-◌, ℕ, suc, List, [], ◌∷◌, ◌++◌, length, take, drop, Bool, true, false, Option, None, Some, if◌then◌else◌, ◌==◌, refl, ap, ◌∙◌, ⊎_elim, arith, tests, length-append, length-drop, length-take-le, one-add, drop-drop}
 use Rattle.std.specs.List.{list_all, prefix_len, slice_range}
-use Rattle.std.proofs.lemmas.Bool.{and_parts, or_cases, or_parts, eqb-true, not-true, cases_Bool, or_left}
+use Rattle.std.proofs.lemmas.Bool.{and_parts, or_cases, or_parts, not-true}
+use Rattle.std.specs.Str.{bytes_eq}
 use Rattle.std.proofs.lemmas.List.{take-append-drop}
+use Rattle.std.proofs.lemmas.Slice.Eq.{bytes_eq-Decides}
 use Rattle.std.proofs.Math.Seq.{take-append_seam}
-use Rattle.net_lexer.specs.Bytes.{is_white, is_line_byte, is_word_start, is_word_byte, is_run_start, is_run_byte, is_punctuation}
+use Rattle.net_lexer.specs.Bytes.{is_white, is_percent, is_quote, is_line_byte, is_word_start, is_word_byte, is_run_start, is_run_byte, is_punctuation}
 use Rattle.net_lexer.specs.Numerals.{is_numeral}
-use Rattle.net_lexer.specs.Strings.{is_quote, is_string, is_open_string, behind_quote}
-use Rattle.net_lexer.specs.Token.{is_name, is_signed, is_token, is_only}
-use Rattle.net_lexer.specs.Pieces.{is_piece, goes_on_with, begins, is_bad_byte, is_bad_numeral, IsPieceOf, IsFaultAt}
+use Rattle.net_lexer.specs.Strings.{is_string, behind_quote}
+use Rattle.net_lexer.specs.Token.{is_name, is_signed, is_token}
+use Rattle.net_lexer.specs.Pieces.{is_piece, goes_on_with, begins, is_bad_byte, IsPieceOf, IsFaultAt}
 use Rattle.net_lexer.specs.declared.tokens.TokenKind.TheVariants as kinds
 use Rattle.net_lexer.specs.declared.tokens.TokenKind.{TokenKind}
 use Rattle.net_lexer.specs.declared.tokens.LexFault.{LexFault}
@@ -17,7 +19,8 @@ use Rattle.net_lexer.specs.declared.pieces.Piece.{Piece}
 use Rattle.net_lexer.specs.declared.pieces.PieceKind.{PieceKind}
 use Rattle.net_lexer.specs.declared.pieces.PieceKind.TheVariants.{Blank, Comment}
 use Rattle.net_lexer.specs.declared.pieces.PieceKind.TheVariants as pieces
-use Rattle.net_lexer.proofs.Prefix.{prefix_len-whole, prefix_len-yes}
+use Rattle.net_lexer.proofs.Firsts.{percent_is, quote_is, letter_is, run_is, bad_is}
+use Rattle.net_lexer.proofs.Prefix.{prefix_len-whole}
 use Rattle.net_lexer.proofs.Quotes.{behind_quote-append}
 use Rattle.net_lexer.proofs.Runs.{numeral_bytes, signed_bytes, signed_is_no_name, signed_is_no_numeral}
 
@@ -62,26 +65,10 @@ run_of-bad bytes number signed = rw (number, signed) refl
 abbrev pub start_of : List ℕ → Start
 start_of [] = ended
 start_of (b ∷ bs) = if is_white b then piece Blank 1 else (
-    if b == 37 then piece Comment (prefix_len is_line_byte (b ∷ bs)) else (
-    if b == 34 then string_start (suc (length bs)) (behind_quote bs) else (
+    if is_percent b then piece Comment (prefix_len is_line_byte (b ∷ bs)) else (
+    if is_quote b then string_start (suc (length bs)) (behind_quote bs) else (
     if is_word_start b then piece (pieces.Token kinds.Word) (prefix_len is_word_byte (b ∷ bs)) else (
     if is_run_start b then run_of (b ∷ bs) else mark_start b))))
-
--- the first bytes of words and runs
-pub letter_is : (b : ℕ) → is_word_start b ≡ true → (is_white b ≡ false) × ((b == 37) ≡ false) × ((b == 34) ≡ false)
-letter_is b e = (grind (arith, tests), grind (arith, tests), grind (arith, tests))
-
-pub run_is : (b : ℕ) → is_run_start b ≡ true → (is_white b ≡ false) × ((b == 37) ≡ false) × ((b == 34) ≡ false) × (is_word_start b ≡ false)
-run_is b e = (grind (arith, tests), grind (arith, tests), grind (arith, tests), grind (arith, tests))
-
-bad_is : (b : ℕ) → is_bad_byte b ≡ true → (is_white b ≡ false) × ((b == 37) ≡ false) × ((b == 34) ≡ false) × (is_word_start b ≡ false) × (is_run_start b ≡ false) × (is_punctuation b ≡ false)
-bad_is b e =
-    let all = or_parts _ (is_punctuation b) (not-true _ e) in
-    let run = or_parts _ (is_run_start b) all.0 in
-    let word = or_parts _ (is_word_start b) run.0 in
-    let quote = or_parts _ (b == 34) word.0 in
-    let comment = or_parts (is_white b) (b == 37) quote.0 in
-    (comment.0, comment.1, quote.1, word.1, run.1, all.1)
 
 no_mark : (b : ℕ) → is_punctuation b ≡ false → mark_start b ≡ bad_byte
 no_mark b e = grind (arith, tests)
@@ -106,9 +93,10 @@ module _ (after : List ℕ) where
   comment : (bytes : List ℕ) → is_piece Comment bytes ≡ true → begins is_line_byte after ≡ false → Begun Comment bytes
   comment [] form stops = cc
   comment (b ∷ bs) form stops =
-      let parts = and_parts (b == 37) _ form in
+      let parts = and_parts (is_percent b) _ form in
+      let first = percent_is b parts.0 in
       let len : prefix_len is_line_byte (bs ++ after) ≡ length bs = prefix_len-whole is_line_byte bs after parts.1 stops in
-      rw (eqb-true b 37 parts.0, len, one-add) refl
+      rw (first.0, parts.0, first.1, len, one-add) refl
 
   name : (bytes : List ℕ) → is_name bytes ≡ true → begins is_word_byte after ≡ false → Begun (pieces.Token kinds.Word) bytes
   name [] form stops = cc
@@ -137,17 +125,16 @@ module _ (after : List ℕ) where
     closed quote ends =
         let whole : behind_quote (bs ++ after) ≡ Some after = behind_quote-append bs [] after ends in
         let len : suc (length (bs ++ after)) - length after ≡ suc (length bs) = omega (arith, length-append bs after) in
-        rw (eqb-true b 34 quote, whole, len) refl
+        let first = quote_is b quote in
+        rw (first.0, first.1, quote, whole, len) refl
 
     by_end : (o : Option (List ℕ)) → behind_quote bs ≡ o → is_string (b ∷ bs) ≡ true → start_of (b ∷ (bs ++ after)) ≡ piece (pieces.Token kinds.Text) (suc (length bs))
     by_end None is form = let none = and_parts (is_quote b) _ (rw is at form) in cc (none.1)
     by_end (Some []) is form = closed (and_parts (is_quote b) _ form).0 is
     by_end (Some (c ∷ rest)) is form = let none = and_parts (is_quote b) _ (rw is at form) in cc (none.1)
 
-  mark : (c : ℕ) (kind : TokenKind) → ((rest : List ℕ) → start_of (c ∷ rest) ≡ piece (pieces.Token kind) 1) → (bytes : List ℕ) → is_only c bytes ≡ true → Begun (pieces.Token kind) bytes
-  mark c kind starts [] form = cc
-  mark c kind starts (b ∷ []) form = rw (eqb-true b c form) (starts after)
-  mark c kind starts (b ∷ d ∷ bytes) form = cc
+  mark : (c : ℕ) (kind : TokenKind) → ((rest : List ℕ) → start_of (c ∷ rest) ≡ piece (pieces.Token kind) 1) → (bytes : List ℕ) → bytes_eq bytes (c ∷ []) ≡ true → Begun (pieces.Token kind) bytes
+  mark c kind starts bytes form = rw ((bytes_eq-Decides bytes (c ∷ [])).0 form) (starts after)
 
   word : (bytes : List ℕ) → is_token kinds.Word bytes ≡ true → begins (goes_on_with (pieces.Token kinds.Word) bytes) after ≡ false → Begun (pieces.Token kinds.Word) bytes
   word bytes form stops = ⊎_elim
@@ -206,7 +193,7 @@ fault_start place [] (OpenString at) is = absurd (cc (is.1))
 fault_start place (b ∷ bs) (OpenString at) is = by_end (behind_quote bs) refl is where
   by_end : (o : Option (List ℕ)) → behind_quote bs ≡ o → IsFaultAt place (b ∷ bs) (OpenString at) → (OpenString at ≡ fault_of place (start_of (b ∷ bs))) × IsStuck (start_of (b ∷ bs))
   by_end None o is =
-      let start : start_of (b ∷ bs) ≡ open_string = rw (eqb-true b 34 (and_parts (is_quote b) _ is.1).0, o) refl in
+      let start : start_of (b ∷ bs) ≡ open_string = let quote = (and_parts (is_quote b) _ is.1).0 in let first = quote_is b quote in rw (first.0, first.1, quote, o) refl in
       rw start (ap OpenString is.0, tt)
   by_end (Some rest) o is = let some = and_parts (is_quote b) _ (rw o at is.1) in cc (some.1)
 fault_start place [] (BadNumeral at) is = absurd (cc (is.1))

@@ -8,6 +8,7 @@ abbrev pub without_sign : List ℕ → List ℕ
 without_sign [] = []
 without_sign (b ∷ bytes) = if is_sign b then bytes else b ∷ bytes
 
+-- a decimal point
 abbrev pub is_point : ℕ → Bool
 is_point b = is_one_of (codes ".") b
 
@@ -19,6 +20,7 @@ is_decimal bytes = list_all (λ b. is_digit b || is_point b) bytes && list_any i
 abbrev pub are_digits : List ℕ → Bool
 are_digits bytes = list_all is_digit bytes && list_any is_digit bytes
 
+-- an exponent begins with an e or E
 abbrev pub is_exponent_mark : ℕ → Bool
 is_exponent_mark b = is_one_of (codes "eE") b
 

@@ -1,13 +1,10 @@
 -- Strings in quotes.
-use Rattle.std.specs.Prelude.{ℕ, Bool, true, false, ◌&&◌, ◌||◌, List, [], ◌∷◌, Option, None, Some, is_none, ◌==◌, if◌then◌else◌, codes}
-use Rattle.net_lexer.specs.Bytes.{is_one_of}
-
-abbrev pub is_quote : ℕ → Bool
-is_quote b = b == 34
+use Rattle.std.specs.Prelude.{ℕ, Bool, true, false, ◌&&◌, ◌||◌, List, [], ◌∷◌, Option, None, Some, is_none, if◌then◌else◌}
+use Rattle.net_lexer.specs.Bytes.{is_quote, is_backslash}
 
 -- a backslash, and behind it a quote or a backslash
 abbrev pub is_escape : ℕ → ℕ → Bool
-is_escape b c = (b == 92) && (is_quote c || (c == 92))
+is_escape b c = is_backslash b && (is_quote c || is_backslash c)
 
 -- what stands behind the first quote that isn't escaped, if there is one
 abbrev pub behind_quote : List ℕ → Option (List ℕ)

@@ -1,6 +1,7 @@
 -- The tokens' forms.
-use Rattle.std.specs.Prelude.{◌≡◌, ◌<◌, ◌≤◌, ℕ, ◌+◌, ◌-◌, Bool, false, ◌&&◌, ◌||◌, List, [], ◌∷◌, length, slice_range, IsTrue, ◌==◌}
+use Rattle.std.specs.Prelude.{◌<◌, ◌≤◌, ℕ, ◌+◌, ◌-◌, Bool, false, ◌&&◌, ◌||◌, List, [], ◌∷◌, length, slice_range, IsTrue, codes}
 use Rattle.std.specs.List.{list_all}
+use Rattle.std.specs.Str.{bytes_eq}
 use Rattle.net_lexer.specs.Bytes.{is_word_start, is_word_byte, is_sign}
 use Rattle.net_lexer.specs.Numerals.{is_numeral}
 use Rattle.net_lexer.specs.Strings.{is_string, unescaped}
@@ -18,24 +19,18 @@ abbrev pub is_signed : List ℕ → Bool
 is_signed [] = false
 is_signed (b ∷ bytes) = is_sign b && is_name bytes
 
--- the byte alone
-abbrev pub is_only : ℕ → List ℕ → Bool
-is_only c [] = false
-is_only c (b ∷ []) = b == c
-is_only c (b ∷ d ∷ bytes) = false
-
 -- the form of each kind of token
 abbrev pub is_token : TokenKind → List ℕ → Bool
 is_token Word bytes = is_name bytes || is_signed bytes
 is_token Text bytes = is_string bytes
 is_token Number bytes = is_numeral bytes
-is_token BraceOpen bytes = is_only 123 bytes
-is_token BraceClose bytes = is_only 125 bytes
-is_token ParenOpen bytes = is_only 40 bytes
-is_token ParenClose bytes = is_only 41 bytes
-is_token Equals bytes = is_only 61 bytes
-is_token Semicolon bytes = is_only 59 bytes
-is_token Bar bytes = is_only 124 bytes
+is_token BraceOpen bytes = bytes_eq bytes (codes "{")
+is_token BraceClose bytes = bytes_eq bytes (codes "}")
+is_token ParenOpen bytes = bytes_eq bytes (codes "(")
+is_token ParenClose bytes = bytes_eq bytes (codes ")")
+is_token Equals bytes = bytes_eq bytes (codes "=")
+is_token Semicolon bytes = bytes_eq bytes (codes ";")
+is_token Bar bytes = bytes_eq bytes (codes "|")
 
 -- the token's bytes in its text
 abbrev pub token_bytes : List ℕ → Token → List ℕ

@@ -2,7 +2,7 @@
 
 ghost use Rattle.std.specs.Prelude.{◌≡◌, ◌<◌, ◌≤◌, length, drop, slice_index, true, false, IsTrue, IfOk, IfErr, IfSome, IfNone};
 ghost use Rattle.std.specs.List.{list_all, prefix_len};
-ghost use Rattle.net_lexer.specs.Bytes.{is_word_start, is_run_start, is_punctuation, is_word_byte, is_run_byte, is_line_byte};
+ghost use Rattle.net_lexer.specs.Bytes.{is_percent, is_line_byte, is_quote, is_word_start, is_word_byte, is_run_start, is_run_byte, is_punctuation};
 ghost use Rattle.net_lexer.specs.Strings.{is_open_string};
 ghost use Rattle.net_lexer.specs.Token.{is_name, is_signed};
 ghost use Rattle.net_lexer.specs.Pieces.{IsPieceOf, IsFaultAt, is_bad_numeral, token_of};
@@ -83,7 +83,7 @@ fn is_signed(bytes: &[u8]) -> bool
 
 fn comment_len(bytes: &[u8]) -> usize
     requires some { 0 < length bytes.now }
-    requires begins { slice_index bytes.now 0 ≡ 37 }
+    requires begins { IsTrue (is_percent (slice_index bytes.now 0)) }
     ensures { IsPieceOf bytes.now (record { kind = PieceKind.Comment; start = 0; end = result }) }
 {
     line_len(bytes)
@@ -99,7 +99,7 @@ fn name_len(bytes: &[u8]) -> usize
 
 fn string_len(bytes: &[u8]) -> Option<usize>
     requires some { 0 < length bytes.now }
-    requires begins { slice_index bytes.now 0 ≡ 34 }
+    requires begins { IsTrue (is_quote (slice_index bytes.now 0)) }
     ensures some { IfSome result (λ len. IsPieceOf bytes.now (record { kind = PieceKind.Token TokenKind.Text; start = 0; end = len })) }
     ensures none { IfNone result (IsTrue (is_open_string bytes.now)) }
 {
@@ -184,6 +184,7 @@ impl Piece {
             end: start + len,
         })
     }
+
     /// The token that the piece is, if it is one.
     pub fn token(self) -> Option<Token>
         ensures { result ≡ token_of self }
