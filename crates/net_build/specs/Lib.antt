@@ -1,2 +1,5 @@
 pub mod Lists
 pub mod Places
+pub mod Lexed
+pub mod First
+pub mod Sayings
