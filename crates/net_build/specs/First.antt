@@ -11,7 +11,7 @@ use Rattle.net_lexer.specs.declared.tokens.Token.{Token}
 use Rattle.net_lexer.specs.declared.tokens.TokenKind.{TokenKind}
 use Rattle.net_lexer.specs.declared.tokens.TokenKind.TheVariants.{BraceOpen, BraceClose, ParenOpen, ParenClose, Equals, Semicolon, Bar}
 use Rattle.net_lexer.specs.declared.tokens.TokenKind.TheVariants as kinds
-use Rattle.net_build.specs.Lexed.{token_bytes}
+use Rattle.net_lexer.specs.Token.{token_bytes}
 
 -- the parts of such a text: the names of its nodes, the labels of their states, and the numbers of both tables, digit by digit
 pub record Parts : Type 0 where

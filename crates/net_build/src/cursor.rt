@@ -3,7 +3,7 @@ ghost use Rattle.net_lexer.specs.declared.tokens.Token.{Token};
 ghost use Rattle.net_lexer.specs.declared.tokens.TokenKind.TheVariants as kinds;
 ghost use Rattle.net_build.specs.First.{Said, said, spoken};
 ghost use Rattle.net_build.specs.First as first;
-ghost use Rattle.net_build.specs.Lexed.{IsTokenOf, token_bytes};
+ghost use Rattle.net_lexer.specs.Token.{IsTokenOf, token_bytes};
 ghost use Rattle.net_build.specs.Sayings.{piece_said};
 
 use crate::run::{Run, spoken};
@@ -25,7 +25,7 @@ pub struct Cursor<'a> {
 }
 
 impl<'a> Model for Cursor<'a> {
-    ghost use Rattle.net_build.specs.Lexed.{IsTokenOf};
+    ghost use Rattle.net_lexer.specs.Token.{IsTokenOf};
     ghost use Rattle.net_build.specs.First.{Said, said};
     ghost use Rattle.std.specs.Prelude.{List, map, All};
 

@@ -2,7 +2,7 @@ ghost use Rattle.std.specs.Prelude.{◌≡◌, ℕ, ◌+◌, ◌-◌, ◌*◌, �
 ghost use Rattle.std.specs.List.{list_all};
 ghost use Rattle.net_lexer.specs.Bytes.{is_letter, is_digit};
 ghost use Rattle.net_build.specs.First.{spoken, is_unsigned, IsName, IsLabel, AreLabels, IsNumber, AreNumbers, value_of, cells_of};
-ghost use Rattle.net_build.specs.Lexed.{IsTokenOf};
+ghost use Rattle.net_lexer.specs.Token.{IsTokenOf};
 ghost use Rattle.net_build.specs.Lists.{list_of};
 
 use net_lexer::{Token, TokenKind};
@@ -16,7 +16,7 @@ pub fn spoken<'a>(text: &'a [u8], token: &Token) -> &'a [u8]
 {
     match token.kind {
         TokenKind::Text => &text[token.start + 1..token.end - 1],
-        _ => &text[token.start..token.end],
+        _ => token.bytes(text),
     }
 }
 
@@ -81,7 +81,7 @@ pub struct Run<'a> {
 impl<'a> Model for Run<'a> {
     ghost use Rattle.std.specs.Prelude.{List, ℕ, map, All};
     ghost use Rattle.net_build.specs.First.{spoken};
-    ghost use Rattle.net_build.specs.Lexed.{IsTokenOf};
+    ghost use Rattle.net_lexer.specs.Token.{IsTokenOf};
 
     ghost Value = { List (List ℕ) };
 
