@@ -5,7 +5,8 @@ use Rattle.std.proofs.lemmas.Nat.{pow-add}
 use Rattle.std.proofs.lemmas.List.{length-append, length-replicate}
 use Rattle.std.proofs.lemmas.List.Folds.{list_all-append}
 use Rattle.net_lexer.specs.Bytes.{is_digit}
-use Rattle.weight_scale.specs.Numeral.{number_behind, number_of, IsSignificand}
+use Rattle.weight_scale.specs.Numeral.{number_behind, number_of}
+use Rattle.weight_scale.specs.Significant.{IsSignificand}
 use Rattle.weight_scale.proofs.Written.{number_behind-append, number_behind-noughts, last_digit}
 
 first_true : (a b : Bool) → (a && b) ≡ true → a ≡ true

@@ -3,7 +3,8 @@ use Rattle.std.proofs.Common.{◌≡◌, ◌≤◌, ◌<◌, ◌+◌, ◌-◌, �
 use Rattle.std.proofs.Math.Nat.{pow-le-pow_right, add-zero, zero-mul, eq_of_mul-eq-mul_right, mul-le-mul_left, mul-le-mul_right, mul-pos}
 use Rattle.std.proofs.lemmas.Nat.{pow-add}
 use Rattle.weight_scale.specs.declared.decimal.Decimal.{Decimal}
-use Rattle.weight_scale.specs.Numeral.{signed, IsDecimalOf, IsLeastDecimalOf, IsSignificand, IsTooLong}
+use Rattle.weight_scale.specs.Numeral.{signed, IsDecimalOf, IsLeastDecimalOf}
+use Rattle.weight_scale.specs.Significant.{IsSignificand, IsTooLong}
 use Rattle.weight_scale.proofs.Signs.{fraction_from_sizes, sizes_from_fraction, same_fraction}
 use Rattle.weight_scale.proofs.Tens.{tens_positive, by_tens, some_of_same, none_of_same}
 

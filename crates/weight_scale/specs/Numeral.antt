@@ -1,5 +1,5 @@
 -- The value of a numeral: a sign or none, digits with at most one point, and an exponent or none.
-use Rattle.std.specs.Prelude.{◌≡◌, ◌<◌, ◌≤◌, ℕ, ◌%◌, ◌+◌, ◌-◌, ◌*◌, ◌^◌, ℤ, pos, neg_ℤ, Bool, true, false, List, [], ◌∷◌, ◌++◌, length, take, drop, fold, ◌==◌, if◌then◌else◌}
+use Rattle.std.specs.Prelude.{◌≡◌, ◌≤◌, ℕ, ◌+◌, ◌-◌, ◌*◌, ◌^◌, ℤ, pos, neg_ℤ, Bool, true, false, List, [], ◌∷◌, ◌++◌, length, take, drop, fold, ◌==◌, if◌then◌else◌}
 use Rattle.std.specs.List.{prefix_len}
 use Rattle.net_lexer.specs.Bytes.{is_digit, begins, without_sign}
 use Rattle.whole_num.specs.Fractions.{IsSameFraction}
@@ -72,12 +72,3 @@ IsDecimalOf num den d = IsSameFraction d.m (10 ^ d.k) num den
 pub record IsLeastDecimalOf (num : ℤ) (den : ℕ) (d : Decimal) : Type 0 where
   pub value : IsDecimalOf num den d
   pub least : (other : Decimal) → IsDecimalOf num den other → d.k ≤ other.k
-
--- size * 10^above / 10^below is the number over 10^decimals, and the size doesn't end in nought but where it is nought
-pub record IsSignificand (number decimals size above below : ℕ) : Type 0 where
-  pub value : number * 10 ^ below ≡ size * 10 ^ (decimals + above)
-  pub last : 0 < size → 0 < size % 10
-
--- the number over 10^decimals has too many digits, not counting noughts at the end
-abbrev pub IsTooLong : ℕ → ℕ → Type 0
-IsTooLong number decimals = (size above below : ℕ) × IsSignificand number decimals size above below × (2 ^ 126 ≤ size)

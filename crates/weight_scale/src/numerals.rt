@@ -1,7 +1,8 @@
 ghost use Rattle.std.specs.Prelude.{◌≡◌, ◌<◌, ◌≤◌, ◌+◌, ◌*◌, ◌%◌, ◌^◌, ◌++◌, length, true, IfSome, IfNone, pos, if◌then◌else◌};
 ghost use Rattle.std.specs.List.{list_all};
 ghost use Rattle.net_lexer.specs.Bytes.{is_digit, is_numeral};
-ghost use Rattle.weight_scale.specs.Numeral.{number_of, signed, numerator, denominator, IsDecimalOf, IsLeastDecimalOf, IsSignificand, IsTooLong};
+ghost use Rattle.weight_scale.specs.Numeral.{number_of, signed, numerator, denominator, IsDecimalOf, IsLeastDecimalOf};
+ghost use Rattle.weight_scale.specs.Significant.{IsSignificand, IsTooLong};
 ghost use Rattle.weight_scale.specs.declared.decimal.Decimal.{Decimal};
 
 use crate::Decimal;
