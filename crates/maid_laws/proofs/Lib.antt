@@ -1,0 +1,16 @@
+pub mod Notions
+pub mod Leads
+pub mod Walks
+pub mod Collapse
+pub mod Grouped
+pub mod Basis
+pub mod Separation
+pub mod OneUtility
+pub mod Members
+pub mod Decided
+pub mod Ranks
+pub mod Rearranged
+pub mod Paths
+pub mod Relies
+pub mod Rows
+pub mod Irrelevance
