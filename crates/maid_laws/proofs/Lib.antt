@@ -14,3 +14,14 @@ pub mod Paths
 pub mod Relies
 pub mod Rows
 pub mod Irrelevance
+pub mod Signs
+pub mod Summed
+pub mod Step
+pub mod Best
+pub mod FromStart
+pub mod OneStep
+pub mod Profiles
+pub mod Starts
+pub mod Ordered
+pub mod Exchange
+pub mod FromStarts
