@@ -17,7 +17,7 @@ use Rattle.maid_model.proofs.Tables.{Avoids, row_from_other, table_ignores, tabl
 use Rattle.maid_model.proofs.Lists.{avoids, among_filter, sum_over-shuffled, product_over-shuffled}
 use Rattle.maid_laws.proofs.Basis.{Setup, Tells, Totals, eqb_yes, eqb_no, product_over-cong, LooksAtParents}
 use Rattle.maid_laws.proofs.Collapse.{one_if, one_if-cond, one_if-and, sum_below_at}
-use Rattle.maid_laws.proofs.Irrelevance.{sum_over_zero}
+use Rattle.maid_laws.proofs.Proportions.{sum_over_zero}
 use Rattle.maid_laws.proofs.Notions.{IsParent}
 use Rattle.maid_laws.proofs.Ranks.{none_given, past_end}
 use Rattle.maid_laws.proofs.Signs.{products_not_negative}

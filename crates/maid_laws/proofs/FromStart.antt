@@ -17,7 +17,7 @@ use Rattle.maid_laws.proofs.Basis.{Setup, eqb_yes, eqb_no}
 use Rattle.maid_laws.proofs.Best.{product_over-times, product_zero_at, products_positive, cancel_le}
 use Rattle.maid_laws.proofs.Collapse.{one_if, agree_rows, rows_agree}
 use Rattle.maid_laws.proofs.Decided.{not_not_dec, by_contradiction, le_stable}
-use Rattle.maid_laws.proofs.Irrelevance.{sum_over_zero}
+use Rattle.maid_laws.proofs.Proportions.{sum_over_zero}
 use Rattle.maid_laws.proofs.Notions.{IsParent}
 use Rattle.maid_laws.proofs.Rows.{world_at_row}
 use Rattle.maid_laws.proofs.Step.{table_from}

@@ -13,7 +13,7 @@ pub mod Rearranged
 pub mod Paths
 pub mod Relies
 pub mod Rows
-pub mod Irrelevance
+pub mod Proportions
 pub mod Signs
 pub mod Summed
 pub mod Step
@@ -25,3 +25,7 @@ pub mod Starts
 pub mod Ordered
 pub mod Exchange
 pub mod FromStarts
+pub mod Sorted
+pub mod Orders
+pub mod Tied
+pub mod RowLaws

@@ -11,7 +11,7 @@ use Rattle.maid_model.specs.Views.{NodeView, RuleView}
 use Rattle.maid_model.proofs.Setting.{HasTables}
 use Rattle.maid_laws.proofs.Notions.{OrderedGraph}
 use Rattle.maid_laws.proofs.Basis.{Setup, Totals}
-use Rattle.maid_laws.proofs.Irrelevance.{irrelevance, kind_of_utility}
+use Rattle.maid_laws.proofs.Proportions.{irrelevance, kind_of_utility}
 use Rattle.maid_laws.proofs.Members.{arc_of, apart_of}
 use Rattle.maid_laws.proofs.Rearranged.{among_shuffled, among_unshuffled, apart_shuffled, range_apart, in_range, among_range, length_shuffled, length_range}
 use Rattle.maid_laws.proofs.Signs.{table_sums}
