@@ -29,3 +29,4 @@ pub mod Sorted
 pub mod Orders
 pub mod Tied
 pub mod RowLaws
+pub mod Histories
