@@ -30,3 +30,4 @@ pub mod Orders
 pub mod Tied
 pub mod RowLaws
 pub mod Histories
+pub mod Listings

@@ -102,3 +102,57 @@ pub not_avoided : (u : ℕ) (xs : List ℕ) → Avoids u xs → Among u xs → �
 not_avoided u [] a m = m
 not_avoided u (x ∷ xs) a (inl e) = a.0 (sym e)
 not_avoided u (x ∷ xs) a (inr m) = not_avoided u xs a.1 m
+
+-- ---- lists put together
+pub among_left : (v : ℕ) (xs ys : List ℕ) → Among v xs → Among v (xs ++ ys)
+among_left v [] ys m = absurd m
+among_left v (x ∷ xs) ys (inl e) = inl e
+among_left v (x ∷ xs) ys (inr m) = inr (among_left v xs ys m)
+
+pub among_right : (v : ℕ) (xs ys : List ℕ) → Among v ys → Among v (xs ++ ys)
+among_right v [] ys m = m
+among_right v (x ∷ xs) ys m = inr (among_right v xs ys m)
+
+pub among_append : (v : ℕ) (xs ys : List ℕ) → Among v (xs ++ ys) → Among v xs ⊎ Among v ys
+among_append v [] ys m = inr m
+among_append v (x ∷ xs) ys (inl e) = inl (inl e)
+among_append v (x ∷ xs) ys (inr m) = elim (among_append v xs ys m) [ inl k ↦ inl (inr k) | inr k ↦ inr k ]
+
+pub apart_append : (xs ys : List ℕ) → Apart xs → Apart ys → ((v : ℕ) → Among v xs → ¬ (Among v ys)) → Apart (xs ++ ys)
+apart_append [] ys a b h = b
+apart_append (x ∷ xs) ys a b h = (
+  avoids x (xs ++ ys) (λ m. elim (among_append x xs ys m) [ inl k ↦ not_among x xs a.0 k | inr k ↦ h x (inl refl) k ]),
+  apart_append xs ys a.1 b (λ v m. h v (inr m)),
+)
+
+-- a list cut at one of its members
+cut : (x : ℕ) (ys : List ℕ) → Among x ys → (front : List ℕ) × (back : List ℕ) × (ys ≡ front ++ x ∷ back)
+cut x [] m = absurd m
+cut x (y ∷ ys) (inl e) = ([], ys, ap (λ z. z ∷ ys) (sym e))
+cut x (y ∷ ys) (inr m) = let r = cut x ys m in (y ∷ r.0, r.1, ap (λ l. y ∷ l) r.2)
+
+apart_drop : (x : ℕ) (front back : List ℕ) → Apart (front ++ x ∷ back) → Apart (front ++ back) × Avoids x (front ++ back)
+apart_drop x [] back a = (a.1, a.0)
+apart_drop x (y ∷ front) back a =
+    let r = apart_drop x front back a.1 in
+    let n : ¬ (Among y (front ++ x ∷ back)) = not_among y (front ++ x ∷ back) a.0 in
+    ((avoids y (front ++ back) (λ m. n (among_part y x front back m)), r.0), ((λ e. n (subst (λ z. Among z (front ++ x ∷ back)) (sym e) (among_mid x front back))), r.1))
+
+-- two lists without repetition and with the same members
+pub shuffled_of : (xs ys : List ℕ) → Apart xs → Apart ys → ((v : ℕ) → Among v xs → Among v ys) → ((v : ℕ) → Among v ys → Among v xs) → Shuffled xs ys
+shuffled_of [] [] a b f g = none
+shuffled_of [] (y ∷ ys) a b f g = absurd (g y (inl refl))
+shuffled_of (x ∷ xs) ys a b f g =
+    let c = cut x ys (f x (inl refl)) in
+    let d = apart_drop x c.0 c.1 (subst Apart c.2 b) in
+    subst (Shuffled (x ∷ xs)) (sym c.2) (put c.0 c.1 (shuffled_of xs (c.0 ++ c.1) a.1 d.0
+    (λ v m. rest v (λ e. not_among x xs a.0 (subst (λ z. Among z xs) e m)) (among_back v x c.0 c.1 (subst (λ l. Among v l) c.2 (f v (inr m)))))
+    (λ v m. tail v (λ e. not_among x (c.0 ++ c.1) d.1 (subst (λ z. Among z (c.0 ++ c.1)) e m)) (g v (subst (λ l. Among v l) (sym c.2) (among_part v x c.0 c.1 m))))))
+  where
+    rest : {A : Type 0} (v : ℕ) → (v ≡ x → ⊥) → (v ≡ x) ⊎ A → A
+    rest v n (inl e) = absurd (n e)
+    rest v n (inr m) = m
+
+    tail : (v : ℕ) → (v ≡ x → ⊥) → (v ≡ x) ⊎ Among v xs → Among v xs
+    tail v n (inl e) = absurd (n e)
+    tail v n (inr m) = m
