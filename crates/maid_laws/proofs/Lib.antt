@@ -31,3 +31,5 @@ pub mod Tied
 pub mod RowLaws
 pub mod Histories
 pub mod Listings
+pub mod Rules
+pub mod ExchangeLaws

@@ -47,12 +47,12 @@ pub pos_product : (f : ℕ → ℕ) (vs : List ℕ) → product_over (λ v. pos 
 pos_product f [] = refl
 pos_product f (v ∷ vs) = ap (λ x. pos (f v) *ℤ x) (pos_product f vs)
 
+pub at_pos : (ws : List ℕ) (i : ℕ) → slice_index_or (map pos ws) i (pos 0) ≡ pos (slice_index ws i)
+at_pos [] i = refl
+at_pos (x ∷ ws) zero = refl
+at_pos (x ∷ ws) (suc i) = at_pos ws i
+
 pub table_sums : (k : Kind) (cells : List ℤ) (weights : List ℕ) (rows states total : ℕ) → TableFits k cells weights rows states total → (k ≡ Utility → total ≡ 1) → TableSums k cells weights rows states (pos total)
 table_sums Chance cells weights rows states total t u = record { row = t.row }
 table_sums Decision cells weights rows states total t u = record { row = λ r l. sum_below_cong states (λ s. pos (slice_index weights (r * states + s))) (λ s. slice_index_or (map pos weights) (r * states + s) (pos 0)) (λ s k. sym (at_pos weights (r * states + s))) ∙ t.row r l }
-  where
-    at_pos : (ws : List ℕ) (i : ℕ) → slice_index_or (map pos ws) i (pos 0) ≡ pos (slice_index ws i)
-    at_pos [] i = refl
-    at_pos (x ∷ ws) zero = refl
-    at_pos (x ∷ ws) (suc i) = at_pos ws i
 table_sums Utility cells weights rows states total t u = (t, ap pos (u refl))

@@ -1,1 +1,2 @@
 pub mod Irrelevance
+pub mod Exchange
