@@ -13,7 +13,7 @@ use Rattle.maid_model.proofs.Ints.{mul_comm, mul_assoc, one_mul, mul_one}
 use Rattle.maid_model.proofs.Lists.{sum_over-shuffled, product_over-shuffled}
 use Rattle.maid_laws.proofs.Best.{product_over-times}
 use Rattle.maid_laws.proofs.Collapse.{one_if, one_if-and, one_if-cond}
-use Rattle.maid_laws.proofs.Exchange.{subgame_perfect}
+use Rattle.maid_laws.proofs.PutBack.{subgame_perfect}
 use Rattle.maid_laws.proofs.Notions.{OrderedGraph, extends, gain_from_start, mass_from_start, IsStart, IsBest, InOrder, SameForOthers}
 use Rattle.maid_laws.proofs.Signs.{pos_product}
 use Rattle.maid_laws.proofs.Step.{gain_from, table_from, total_from}

@@ -23,7 +23,7 @@ pub mod OneStep
 pub mod Profiles
 pub mod Starts
 pub mod Ordered
-pub mod Exchange
+pub mod PutBack
 pub mod FromStarts
 pub mod Sorted
 pub mod Orders
@@ -33,3 +33,5 @@ pub mod Histories
 pub mod Listings
 pub mod Rules
 pub mod ExchangeLaws
+pub mod OrderLaws
+pub mod OneAgent

@@ -1,2 +1,3 @@
 pub mod Irrelevance
 pub mod Exchange
+pub mod Orders

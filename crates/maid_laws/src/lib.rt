@@ -2,6 +2,10 @@
 //! empty body: whoever calls it may use its law.
 #![tactic(auto)]
 
+mod graphs;
 mod irrelevance;
+mod subgames;
 
+pub use graphs::{descent_tested, parents_first_lists};
 pub use irrelevance::{irrelevant_rules, mass_at_each_state};
+pub use subgames::{exchange, one_agent};
