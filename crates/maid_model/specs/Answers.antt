@@ -1,22 +1,20 @@
 -- The answer: the base of each decision, the best states against it, and what the plan is worth to each agent.
-use Rattle.std.specs.Prelude.{◌≡◌, ℕ, ◌<◌, ◌*◌, ◌^◌, Bool, List, [], ◌∷◌, map, length, All, slice_index_or, ℤ, pos, ◌*ℤ◌, ◌≤ℤ◌, ◌<ℤ◌, ◌==◌, if◌then◌else◌, nat_abs, Option, Some, None, IfSome}
+use Rattle.std.specs.Prelude.{◌≡◌, ℕ, ◌<◌, ◌*◌, ◌^◌, Bool, List, [], ◌∷◌, map, length, All, Contains, slice_index_or, ℤ, pos, ◌*ℤ◌, ◌≤ℤ◌, ◌<ℤ◌, ◌==◌, if◌then◌else◌, nat_abs, unsigned_abs, Option, Some, None, IfSome}
+use Rattle.std.specs.Int.{IsGcd}
 use Rattle.maid_model.specs.declared.answers.Ratio.{Ratio}
 use Rattle.maid_model.specs.declared.answers.Row.{Row}
 use Rattle.maid_model.specs.Views.{NodeView, DiagramView, RuleView, AnswerView, SolvedView}
 use Rattle.maid_model.specs.Nodes.{IsDecision, node_at, states_of, rows_of, decisions_of}
+use Rattle.maid_model.specs.Graph.{AllDifferent}
 use Rattle.maid_model.specs.Profiles.{IsProfile, SameRule, pure_rule, uniform_profile}
 use Rattle.maid_model.specs.Gains.{gain_at, mass_at, gain_of, mass}
 use Rattle.maid_model.specs.Relevance.{ReliesOn}
 use Rattle.maid_model.specs.Placing.{IsRelianceOrder}
 
--- n divides m
-abbrev pub Divides : ℕ → ℕ → Type 0
-Divides n m = (k : ℕ) × (m ≡ k * n)
-
--- a reduced fraction: a positive denominator, and no common divisor but 1
+-- a reduced fraction: a positive denominator that shares no divisor but 1 with the numerator
 pub record IsReduced (r : Ratio) : Type 0 where
   pub positive : 0 < r.den
-  pub coprime : (n : ℕ) → Divides n (nat_abs r.num) → Divides n r.den → n ≡ 1
+  pub coprime : IsGcd (unsigned_abs r.num) r.den 1
 
 -- the reduced fraction that num / den is
 pub record IsFraction (r : Ratio) (num : ℤ) (den : ℕ) : Type 0 where
@@ -58,28 +56,31 @@ pub record IsAnswerRow (nodes : List NodeView) (decimals : ℕ) (base : List Rul
 pub record IsAnswerAt (nodes : List NodeView) (decimals : ℕ) (s : List RuleView) (d : ℕ) (rows : List Row) : Type 0 where
   pub base : List RuleView
   pub is_base : IsBase nodes s d base
-  pub count : length rows ≡ rows_of nodes d
   pub each : (row : ℕ) → row < rows_of nodes d → IsAnswerRow nodes decimals base d row (slice_index_or rows row no_row)
 
 -- what the profile is worth to each agent
 pub record IsGains (d : DiagramView) (s : List RuleView) (gains : List Ratio) : Type 0 where
-  pub count : length gains ≡ d.agents
   pub each : (agent : ℕ) (r : Ratio) → agent < d.agents → IsFraction (slice_index_or gains agent r) (gain_of d.nodes s agent) (mass d.nodes s * 10 ^ d.decimals)
+
+-- an answer of a decision, with a row for each choice of its parents' states, choices in range and reduced fractions
+pub record FitsAnswer (nodes : List NodeView) (answer : AnswerView) : Type 0 where
+  pub decision : IsDecision nodes answer.decision
+  pub rows : length answer.rows ≡ rows_of nodes answer.decision
+  pub choices : All (λ r. r.choice < states_of nodes answer.decision) answer.rows
+  pub worths : All (λ r. IfSome r.worth IsReduced) answer.rows
+
+-- A value that a report can show: answers in the order given, each decision once, and a reduced fraction for each agent.
+pub record FitsDiagram (d : DiagramView) (solved : SolvedView) : Type 0 where
+  pub follow : map (λ a. a.decision) solved.answers ≡ solved.order
+  pub answers : All (FitsAnswer d.nodes) solved.answers
+  pub all : (v : ℕ) → IsDecision d.nodes v → Contains solved.order v
+  pub once : AllDifferent solved.order
+  pub gains : length solved.gains ≡ d.agents
+  pub reduced : All IsReduced solved.gains
 
 -- The answer of a diagram: decisions in the order of solving, each row best against the decision's base in the answered rules, and each agent's expected utility under them.
 pub record IsAnswer (d : DiagramView) (solved : SolvedView) : Type 0 where
+  pub fits : FitsDiagram d solved
   pub order : IsRelianceOrder d.nodes solved.order
-  pub follow : map (λ a. a.decision) solved.answers ≡ solved.order
   pub answers : (v : ℕ) → IsDecision d.nodes v → IsAnswerAt d.nodes d.decimals (pure_profile d.nodes solved.answers) v (rows_at solved.answers v)
   pub gains : IsGains d (pure_profile d.nodes solved.answers) solved.gains
-
--- A value that a report can show: each decision once, with a row for each choice of its parents' states and choices in range, a fraction for each agent, and all fractions reduced.
-pub record FitsDiagram (d : DiagramView) (solved : SolvedView) : Type 0 where
-  pub decisions : (v : ℕ) → IsDecision d.nodes v → length (rows_at solved.answers v) ≡ rows_of d.nodes v
-  pub follow : map (λ a. a.decision) solved.answers ≡ solved.order
-  pub order_decisions : All (IsDecision d.nodes) solved.order
-  pub order_length : length solved.order ≡ length (decisions_of d.nodes)
-  pub choices : (v : ℕ) → All (λ r. r.choice < states_of d.nodes v) (rows_at solved.answers v)
-  pub worths : (v : ℕ) → All (λ r. IfSome r.worth IsReduced) (rows_at solved.answers v)
-  pub gains : length solved.gains ≡ d.agents
-  pub gains_reduced : All IsReduced solved.gains

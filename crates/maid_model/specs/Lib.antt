@@ -13,3 +13,5 @@ pub mod Placing
 pub mod Subgames
 pub mod Answers
 pub mod Bounds
+pub mod Names
+pub mod Reports

@@ -1,0 +1,9 @@
+-- Lists of vectors as lists of lists.
+use Rattle.std.specs.Prelude.{ℕ, List, map}
+use Rattle.std.specs.Global.{Vec}
+
+abbrev pub list_of : List (Vec ℕ) → List (List ℕ)
+list_of names = map (λ v. v.items) names
+
+abbrev pub lists_of : List (Vec (Vec ℕ)) → List (List (List ℕ))
+lists_of labels = map (λ v. list_of v.items) labels

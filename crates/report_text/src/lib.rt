@@ -1,0 +1,8 @@
+//! The report of an answered diagram, printed.
+#![tactic(auto)]
+
+mod pieces;
+mod report;
+
+pub use pieces::print_ratio;
+pub use report::print_report;

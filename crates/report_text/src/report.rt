@@ -1,0 +1,272 @@
+ghost use Rattle.std.specs.Prelude.{◌≡◌, ◌≢◌, ◌<◌, ◌+◌, [], ◌∷◌, ◌++◌, All, IfOk, OnOk, codes, decimal, length, map};
+ghost use Rattle.std.specs.List.{flat_map};
+ghost use Rattle.maid_model.specs.Answers.{FitsAnswer, FitsDiagram};
+ghost use Rattle.maid_model.specs.Names.{NamesFit, name_of, label_of, agent_name};
+ghost use Rattle.maid_model.specs.Nodes.{IsDecision, node_at, parents_of, states_of, rows_under, rows_of};
+ghost use Rattle.maid_model.specs.Reports.{choice_text, decision_head, decision_lines, gain_line, gain_lines, names_line, parent_states, quoted, report, row_line, spaced, state_labels, worth_text};
+ghost use Rattle.maid_model.specs.declared.diagrams.Kind.TheVariants.{Utility};
+
+use crate::pieces::{push_number, push_quoted, push_ratio};
+use maid_model::{Answer, Diagram, Ratio, Row, Solved};
+use net_build::Names;
+use std::alloc::{AllocError, Global};
+
+// The parents of the node, none of which is a utility.
+fn parents_of(diagram: &Diagram, node: usize) -> &[usize]
+    requires { node < length diagram.now.nodes }
+    ensures parents { result.now ≡ parents_of diagram.now.nodes node }
+    ensures known { All (λ u. (u < length diagram.now.nodes) × ((node_at diagram.now.nodes u).kind ≢ Utility)) result.now }
+{
+    diagram.node(node).parents.as_slice()
+}
+
+// Appends each node's name after one space.
+fn push_names(out: &mut Vec<u8>, names: &Names, list: &[usize]) -> Result<(), AllocError>
+    requires { All (λ v. v < length names.now.nodes) list.now }
+    ensures { OnOk result (out.new.items ≡ out.old.items ++ spaced (map (name_of names.now) list.now)) }
+{
+    for node in list {
+        out.push(b' ')?;
+        out.extend_from_slice(names.name(*node))?;
+    }
+    Ok(())
+}
+
+// How many states the node has, at least one.
+fn states_of(diagram: &Diagram, node: usize) -> usize
+    requires { node < length diagram.now.nodes }
+    ensures states { result ≡ states_of diagram.now.nodes node }
+    ensures some { 0 < result }
+{
+    diagram.node(node).states
+}
+
+// Appends the quoted label of a node's state after one space.
+fn push_label(
+    out: &mut Vec<u8>,
+    diagram: &Diagram,
+    names: &Names,
+    node: usize,
+    state: usize,
+) -> Result<(), AllocError>
+    requires fit { NamesFit diagram.now names.now }
+    requires node { node < length diagram.now.nodes }
+    requires kind { (node_at diagram.now.nodes node).kind ≢ Utility }
+    requires state { state < states_of diagram.now.nodes node }
+    ensures { OnOk result (out.new.items ≡ out.old.items ++ 32 ∷ quoted (label_of names.now node state)) }
+{
+    out.push(b' ')?;
+    push_quoted(out, names.label(node, state))
+}
+
+// Appends the labels of the parents' states in the row, the first parent slowest. `rows` counts the rows.
+fn push_states(
+    out: &mut Vec<u8>,
+    diagram: &Diagram,
+    names: &Names,
+    parents: &[usize],
+    rows: usize,
+    row: usize,
+) -> Result<(), AllocError>
+    requires fit { NamesFit diagram.now names.now }
+    requires parents { All (λ u. (u < length diagram.now.nodes) × ((node_at diagram.now.nodes u).kind ≢ Utility)) parents.now }
+    requires rows { rows ≡ rows_under (states_of diagram.now.nodes) parents.now }
+    requires row { row < rows }
+    ensures { OnOk result (out.new.items ≡ out.old.items ++ state_labels names.now parents.now (parent_states (states_of diagram.now.nodes) parents.now row)) }
+{
+    let mut below = rows;
+    let mut rest = row;
+    for parent in parents {
+        below /= states_of(diagram, *parent);
+        push_label(out, diagram, names, *parent, rest / below)?;
+        rest %= below;
+    }
+    Ok(())
+}
+
+fn push_worth(out: &mut Vec<u8>, worth: &Option<Ratio>) -> Result<(), AllocError>
+    ensures { OnOk result (out.new.items ≡ out.old.items ++ worth_text worth.now) }
+{
+    match worth {
+        Some(worth) => {
+            out.extend_from_slice(b" = ")?;
+            push_ratio(out, worth)
+        }
+        None => out.extend_from_slice(b" never"),
+    }
+}
+
+// Appends the chosen state, by its number from 1 and its label, and what it is worth.
+#[tactic(auto, using(std::proofs::Common::append_assoc))]
+fn push_choice(
+    out: &mut Vec<u8>,
+    diagram: &Diagram,
+    names: &Names,
+    decision: usize,
+    row: &Row,
+) -> Result<(), AllocError>
+    requires fit { NamesFit diagram.now names.now }
+    requires decision { IsDecision diagram.now.nodes decision }
+    requires choice { row.now.choice < states_of diagram.now.nodes decision }
+    ensures { OnOk result (out.new.items ≡ out.old.items ++ choice_text names.now decision row.now) }
+{
+    out.extend_from_slice(b" -> ")?;
+    push_number(out, row.choice as u128 + 1)?;
+    push_label(out, diagram, names, decision, row.choice)?;
+    push_worth(out, &row.worth)
+}
+
+// Appends the line of one row. Rows are numbered from 0 here and from 1 in the text.
+#[tactic(auto, using(std::proofs::Common::append_assoc))]
+fn push_row(
+    out: &mut Vec<u8>,
+    diagram: &Diagram,
+    names: &Names,
+    decision: usize,
+    rows: usize,
+    number: usize,
+    row: &Row,
+) -> Result<(), AllocError>
+    requires fit { NamesFit diagram.now names.now }
+    requires decision { IsDecision diagram.now.nodes decision }
+    requires rows { rows ≡ rows_of diagram.now.nodes decision }
+    requires number { number < rows }
+    requires choice { row.now.choice < states_of diagram.now.nodes decision }
+    ensures { OnOk result (out.new.items ≡ out.old.items ++ row_line diagram.now.nodes names.now decision number row.now) }
+{
+    out.extend_from_slice(b"row ")?;
+    push_number(out, number as u128 + 1)?;
+    out.push(b':')?;
+    push_states(
+        out,
+        diagram,
+        names,
+        parents_of(diagram, decision),
+        rows,
+        number,
+    )?;
+    push_choice(out, diagram, names, decision, row)?;
+    out.push(b'\n')?;
+    Ok(())
+}
+
+// Appends the line of a decision, and a line for each row.
+fn push_decision(
+    out: &mut Vec<u8>,
+    diagram: &Diagram,
+    names: &Names,
+    answer: &Answer,
+) -> Result<(), AllocError>
+    requires fit { NamesFit diagram.now names.now }
+    requires answer { FitsAnswer diagram.now.nodes answer.now }
+    ensures { OnOk result (out.new.items ≡ out.old.items ++ decision_lines diagram.now.nodes names.now answer.now) }
+{
+    push_head(out, diagram, names, answer.decision)?;
+    for (number, row) in answer.rows.iter().enumerate() {
+        push_row(
+            out,
+            diagram,
+            names,
+            answer.decision,
+            answer.rows.len(),
+            number,
+            row,
+        )?;
+    }
+    Ok(())
+}
+
+// Appends the lines of each answered decision.
+fn push_decisions(
+    out: &mut Vec<u8>,
+    diagram: &Diagram,
+    names: &Names,
+    answers: &[Answer],
+) -> Result<(), AllocError>
+    requires fit { NamesFit diagram.now names.now }
+    requires answers { All (FitsAnswer diagram.now.nodes) answers.now }
+    ensures { OnOk result (out.new.items ≡ out.old.items ++ flat_map (decision_lines diagram.now.nodes names.now) answers.now) }
+{
+    for answer in answers {
+        push_decision(out, diagram, names, answer)?;
+    }
+    Ok(())
+}
+
+// Appends the line that names a decision, whose it is and what it sees.
+#[tactic(auto, using(std::proofs::Common::append_assoc))]
+fn push_head(
+    out: &mut Vec<u8>,
+    diagram: &Diagram,
+    names: &Names,
+    decision: usize,
+) -> Result<(), AllocError>
+    requires fit { NamesFit diagram.now names.now }
+    requires decision { IsDecision diagram.now.nodes decision }
+    ensures { OnOk result (out.new.items ≡ out.old.items ++ decision_head diagram.now.nodes names.now decision) }
+{
+    out.extend_from_slice(b"decision ")?;
+    out.extend_from_slice(names.name(decision))?;
+    out.extend_from_slice(b" by ")?;
+    push_quoted(out, names.agent(diagram.node(decision).owner))?;
+    out.extend_from_slice(b" sees")?;
+    push_names(out, names, parents_of(diagram, decision))?;
+    out.push(b'\n')?;
+    Ok(())
+}
+
+// Appends the line of what the plan is worth to an agent.
+fn push_gain(out: &mut Vec<u8>, names: &Names, agent: usize, gain: &Ratio) -> Result<(), AllocError>
+    requires { agent < length names.now.agents }
+    ensures { OnOk result (out.new.items ≡ out.old.items ++ gain_line names.now agent gain.now) }
+{
+    out.extend_from_slice(b"agent ")?;
+    push_quoted(out, names.agent(agent))?;
+    out.extend_from_slice(b" = ")?;
+    push_ratio(out, gain)?;
+    out.push(b'\n')?;
+    Ok(())
+}
+
+// Appends a line for each agent.
+fn push_gains(out: &mut Vec<u8>, names: &Names, gains: &[Ratio]) -> Result<(), AllocError>
+    requires { length gains.now ≡ length names.now.agents }
+    ensures { OnOk result (out.new.items ≡ out.old.items ++ gain_lines names.now 0 gains.now) }
+{
+    for (agent, gain) in gains.iter().enumerate() {
+        push_gain(out, names, agent, gain)?;
+    }
+    Ok(())
+}
+
+// Appends the line of the order of solving.
+#[tactic(auto, using(std::proofs::Common::append_assoc))]
+fn push_order(out: &mut Vec<u8>, names: &Names, order: &[usize]) -> Result<(), AllocError>
+    requires { All (λ v. v < length names.now.nodes) order.now }
+    ensures { OnOk result (out.new.items ≡ out.old.items ++ names_line (codes "order:") names.now order.now) }
+{
+    out.extend_from_slice(b"order:")?;
+    push_names(out, names, order)?;
+    out.push(b'\n')?;
+    Ok(())
+}
+
+/// The report of the answered diagram: the order of solving, for each decision in that order a line for each choice of
+/// its parents' states, and what the plan is worth to each agent. Its cost is that of the text it makes.
+#[tactic(auto, using(std::proofs::Common::append_assoc))]
+pub fn print_report(
+    alloc: Global,
+    diagram: &Diagram,
+    names: &Names,
+    solved: &Solved,
+) -> Result<Vec<u8>, AllocError>
+    requires names { NamesFit diagram.now names.now }
+    requires solved { FitsDiagram diagram.now solved.now }
+    ensures { IfOk result (λ text. text.items ≡ report diagram.now names.now solved.now) }
+{
+    let mut out = Vec::from_slice(alloc, b"maidsolve report 1\n")?;
+    push_order(&mut out, names, &solved.order)?;
+    push_decisions(&mut out, diagram, names, &solved.answers)?;
+    push_gains(&mut out, names, &solved.gains)?;
+    Ok(out)
+}

@@ -1,0 +1,11 @@
+-- Fractions of a whole number over a positive one.
+use Rattle.std.specs.Prelude.{◌≡◌, ◌<◌, ◌*ℤ◌, ℕ, ℤ, pos, unsigned_abs}
+use Rattle.whole_num.specs.Divisors.{IsGcd}
+
+-- two fractions have one value: the products across are equal
+abbrev pub IsSameFraction : ℤ → ℕ → ℤ → ℕ → Type 0
+IsSameFraction num den num' den' = num *ℤ pos den' ≡ num' *ℤ pos den
+
+-- the denominator is positive and shares no divisor but 1 with the numerator
+abbrev pub IsReduced : ℤ → ℕ → Type 0
+IsReduced num den = (0 < den) × IsGcd (unsigned_abs num) den 1
