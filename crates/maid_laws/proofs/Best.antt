@@ -229,32 +229,51 @@ module _ (nodes : List NodeView) (order : List ℕ) (setup : Setup nodes order) 
   cond_not_negative true z h = h
   cond_not_negative false z h = omega (arith, ints)
 
-  -- where the base has no mass, neither has the other profile
+  -- where the base has no mass in a row, no world of the row has weight in the other profile
+  weight_zero : (row s : ℕ) → s < states_of nodes d → mass_at nodes b d row ≡ pos 0 → (w : World) → InRange (states_of nodes) w → is_at nodes d s row w ≡ true → weight_without nodes r0 d w ≡ pos 0
+  weight_zero row s l e w i k =
+      products_zero (λ v. cond (eqb v d) (pos 1) (table nodes b v w)) (λ v. cond (eqb v d) (pos 1) (table nodes r0 v w)) (numbers_of nodes) (λ v. factor v (ℕ_discrete v d))
+      (sym (ap (λ c. cond c (weight_without nodes b d w) (pos 0)) k) ∙ each)
+    where
+      none : mass_state nodes order setup d d_in b s row ≡ pos 0
+      none = mass_state_same nodes order setup d d_in keep tells b total_b hb s 0 row l (setup.has_state d) ∙ e
+
+      each : cond (is_at nodes d s row w) (weight_without nodes b d w) (pos 0) ≡ pos 0
+      each =
+          (over_zero (states_of nodes) order (λ x. cond (is_at nodes d s row x) (weight_without nodes b d x) (pos 0)) (λ x j. cond_not_negative (is_at nodes d s row x) (weight_without nodes b d x) (without_not_negative b b_not_negative x)) (λ v. 0) (record { state = setup.has_state })).1
+          (sym (sum_over-shuffled (states_of nodes) (λ x. cond (is_at nodes d s row x) (weight_without nodes b d x) (pos 0)) setup.shuffled (λ v. 0)) ∙ none) w i (off_order w i)
+
+      factor : (v : ℕ) → Dec (v ≡ d) → cond (eqb v d) (pos 1) (table nodes b v w) ≡ pos 0 → cond (eqb v d) (pos 1) (table nodes r0 v w) ≡ pos 0
+      factor v (yes k) f = let o : pos 1 ≡ pos 0 = sym (ap (λ c. cond c (pos 1) (table nodes b v w)) (eqb_yes v d k)) ∙ f in absurd (omega (arith, ints))
+      factor v (no n) f = ap (λ c. cond c (pos 1) (table nodes r0 v w)) (eqb_no v d n) ∙ zero_b v n w i (sym (ap (λ c. cond c (pos 1) (table nodes b v w)) (eqb_no v d n)) ∙ f)
+
+  -- so the other profile gains nothing there
   pub zero_gain : (row s : ℕ) → s < states_of nodes d → mass_at nodes b d row ≡ pos 0 → gain_at nodes r0 d s row ≡ pos 0
   zero_gain row s l e =
       sum_over_cong (states_of nodes) (numbers_of nodes) (λ w. cond (is_at nodes d s row w) (weight_without nodes r0 d w *ℤ utility_below nodes d w) (pos 0)) (λ w. pos 0)
       (λ w i. go w i (is_at nodes d s row w) refl) (λ v. 0) (record { state = setup.has_state })
       ∙ sum_over_zero (states_of nodes) (numbers_of nodes) (λ v. 0)
     where
-      none : mass_state nodes order setup d d_in b s row ≡ pos 0
-      none = mass_state_same nodes order setup d d_in keep tells b total_b hb s 0 row l (setup.has_state d) ∙ e
-
-      each : (w : World) → InRange (states_of nodes) w → cond (is_at nodes d s row w) (weight_without nodes b d w) (pos 0) ≡ pos 0
-      each w i =
-          (over_zero (states_of nodes) order (λ x. cond (is_at nodes d s row x) (weight_without nodes b d x) (pos 0)) (λ x j. cond_not_negative (is_at nodes d s row x) (weight_without nodes b d x) (without_not_negative b b_not_negative x)) (λ v. 0) (record { state = setup.has_state })).1
-          (sym (sum_over-shuffled (states_of nodes) (λ x. cond (is_at nodes d s row x) (weight_without nodes b d x) (pos 0)) setup.shuffled (λ v. 0)) ∙ none) w i (off_order w i)
-
-      factor : (w : World) → InRange (states_of nodes) w → (v : ℕ) → Dec (v ≡ d) → cond (eqb v d) (pos 1) (table nodes b v w) ≡ pos 0 → cond (eqb v d) (pos 1) (table nodes r0 v w) ≡ pos 0
-      factor w i v (yes k) f = let o : pos 1 ≡ pos 0 = sym (ap (λ c. cond c (pos 1) (table nodes b v w)) (eqb_yes v d k)) ∙ f in absurd (omega (arith, ints))
-      factor w i v (no n) f = ap (λ c. cond c (pos 1) (table nodes r0 v w)) (eqb_no v d n) ∙ zero_b v n w i (sym (ap (λ c. cond c (pos 1) (table nodes b v w)) (eqb_no v d n)) ∙ f)
-
       go : (w : World) → InRange (states_of nodes) w → (c : Bool) → is_at nodes d s row w ≡ c → cond (is_at nodes d s row w) (weight_without nodes r0 d w *ℤ utility_below nodes d w) (pos 0) ≡ pos 0
       go w i true k =
           ap (λ c. cond c (weight_without nodes r0 d w *ℤ utility_below nodes d w) (pos 0)) k
-          ∙ ap (λ x. x *ℤ utility_below nodes d w) (products_zero (λ v. cond (eqb v d) (pos 1) (table nodes b v w)) (λ v. cond (eqb v d) (pos 1) (table nodes r0 v w)) (numbers_of nodes) (λ v. factor w i v (ℕ_discrete v d))
-          (sym (ap (λ c. cond c (weight_without nodes b d w) (pos 0)) k) ∙ each w i))
+          ∙ ap (λ x. x *ℤ utility_below nodes d w) (weight_zero row s l e w i k)
           ∙ zero_mul (utility_below nodes d w)
       go w i false k = ap (λ c. cond c (weight_without nodes r0 d w *ℤ utility_below nodes d w) (pos 0)) k
+
+  -- and has no mass there
+  pub zero_mass : (row : ℕ) → mass_at nodes b d row ≡ pos 0 → mass_at nodes r0 d row ≡ pos 0
+  zero_mass row e =
+      sum_over_cong (states_of nodes) (numbers_of nodes) (λ w. cond (is_at nodes d 0 row w) (weight_without nodes r0 d w) (pos 0)) (λ w. pos 0)
+      (λ w i. go w i (is_at nodes d 0 row w) refl) (λ v. 0) (record { state = setup.has_state })
+      ∙ sum_over_zero (states_of nodes) (numbers_of nodes) (λ v. 0)
+    where
+      go : (w : World) → InRange (states_of nodes) w → (c : Bool) → is_at nodes d 0 row w ≡ c → cond (is_at nodes d 0 row w) (weight_without nodes r0 d w) (pos 0) ≡ pos 0
+      go w i true k = ap (λ c. cond c (weight_without nodes r0 d w) (pos 0)) k ∙ weight_zero row 0 (setup.has_state d) e w i k
+      go w i false k = ap (λ c. cond c (weight_without nodes r0 d w) (pos 0)) k
+
+  pub mass_not_negative : (p : List RuleView) → ((v : ℕ) (w : World) → pos 0 ≤ℤ table nodes p v w) → (row : ℕ) → pos 0 ≤ℤ mass_at nodes p d row
+  mass_not_negative p h row = (over_zero (states_of nodes) (numbers_of nodes) (λ x. cond (is_at nodes d 0 row x) (weight_without nodes p d x) (pos 0)) (λ x j. cond_not_negative (is_at nodes d 0 row x) (weight_without nodes p d x) (without_not_negative p h x)) (λ v. 0) (record { state = setup.has_state })).0
 
   -- the base's best state is best for the other profile
   pub best_gain_at : (row s c : ℕ) → s < states_of nodes d → c < states_of nodes d
@@ -262,11 +281,8 @@ module _ (nodes : List NodeView) (order : List ℕ) (setup : Setup nodes order) 
       → gain_at nodes r0 d c row *ℤ mass_at nodes b d row ≡ gain_at nodes b d c row *ℤ mass_at nodes r0 d row
       → (pos 0 <ℤ mass_at nodes b d row → gain_at nodes b d s row ≤ℤ gain_at nodes b d c row)
       → gain_at nodes r0 d s row ≤ℤ gain_at nodes r0 d c row
-  best_gain_at row s c ls lc es ec best = go (sign (mass_at nodes b d row) (mass_not_negative b b_not_negative))
+  best_gain_at row s c ls lc es ec best = go (sign (mass_at nodes b d row) (mass_not_negative b b_not_negative row))
     where
-      mass_not_negative : (p : List RuleView) → ((v : ℕ) (w : World) → pos 0 ≤ℤ table nodes p v w) → pos 0 ≤ℤ mass_at nodes p d row
-      mass_not_negative p h = (over_zero (states_of nodes) (numbers_of nodes) (λ x. cond (is_at nodes d 0 row x) (weight_without nodes p d x) (pos 0)) (λ x j. cond_not_negative (is_at nodes d 0 row x) (weight_without nodes p d x) (without_not_negative p h x)) (λ v. 0) (record { state = setup.has_state })).0
-
       sign : (m : ℤ) → pos 0 ≤ℤ m → (m ≡ pos 0) ⊎ (pos 0 <ℤ m)
       sign (pos zero) h = inl refl
       sign (pos (suc n)) h = inr (omega (arith, ints))
@@ -274,4 +290,4 @@ module _ (nodes : List NodeView) (order : List ℕ) (setup : Setup nodes order) 
 
       go : (mass_at nodes b d row ≡ pos 0) ⊎ (pos 0 <ℤ mass_at nodes b d row) → gain_at nodes r0 d s row ≤ℤ gain_at nodes r0 d c row
       go (inl e) = let x : gain_at nodes r0 d s row ≡ pos 0 = zero_gain row s ls e in let y : gain_at nodes r0 d c row ≡ pos 0 = zero_gain row c lc e in omega (arith, ints)
-      go (inr l) = cross_le (gain_at nodes r0 d s row) (gain_at nodes r0 d c row) (gain_at nodes b d s row) (gain_at nodes b d c row) (mass_at nodes b d row) (mass_at nodes r0 d row) es ec (best l) (mass_not_negative r0 r0_not_negative) l
+      go (inr l) = cross_le (gain_at nodes r0 d s row) (gain_at nodes r0 d c row) (gain_at nodes b d s row) (gain_at nodes b d c row) (mass_at nodes b d row) (mass_at nodes r0 d row) es ec (best l) (mass_not_negative r0 r0_not_negative row) l

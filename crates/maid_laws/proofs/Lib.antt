@@ -35,3 +35,5 @@ pub mod Rules
 pub mod ExchangeLaws
 pub mod OrderLaws
 pub mod OneAgent
+pub mod PureRules
+pub mod AnswerLaws

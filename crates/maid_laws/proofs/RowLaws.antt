@@ -4,7 +4,7 @@ use Rattle.maid_model.specs.Gains.{gain_at, mass_at, is_at, weight_without, util
 use Rattle.maid_model.specs.Graph.{IsGraph}
 use Rattle.maid_model.specs.Nodes.{IsDecision, states_of, numbers_of}
 use Rattle.maid_model.specs.Profiles.{IsProfile}
-use Rattle.maid_model.specs.Sums.{World}
+use Rattle.maid_model.specs.Sums.{World, InRange}
 use Rattle.maid_model.specs.Tables.{HasChanceTables, weight_total, table, row_of}
 use Rattle.maid_model.specs.Views.{NodeView, RuleView}
 use Rattle.maid_model.proofs.Setting.{HasTables}
@@ -14,8 +14,8 @@ use Rattle.maid_model.proofs.Sums.{sum_over_cong}
 use Rattle.maid_laws.proofs.Basis.{eqb_no}
 use Rattle.maid_laws.proofs.Proportions.{sum_over_zero}
 use Rattle.maid_laws.specs.Irrelevance.{Irrelevance, MassAtEachState, NoGainWithoutMass, mass_at_state}
-use Rattle.maid_laws.proofs.Best.{mass_state_same, zero_gain}
-use Rattle.maid_laws.proofs.Decided.{tests, by_contradiction}
+use Rattle.maid_laws.proofs.Best.{mass_state_same, zero_gain, zero_mass, mass_not_negative}
+use Rattle.maid_laws.proofs.Decided.{tests, by_contradiction, le_stable}
 use Rattle.maid_laws.proofs.Notions.{OrderedGraph}
 use Rattle.maid_laws.proofs.Ordered.{setup_of, totals_of, irrelevance_at}
 use Rattle.maid_laws.proofs.Orders.{ordered}
@@ -50,7 +50,7 @@ mass_same_law nodes p d state row g c h k less =
 
 -- where the base has no mass in a row, a profile with the same zeros gains nothing there
 pub no_gain_like : (nodes : List NodeView) (b p : List RuleView) (d state row : ℕ) → IsGraph nodes → HasTables nodes b → HasTables nodes p → d < length nodes
-    → ((v : ℕ) → v ≢ d → (w : World) → table nodes b v w ≡ pos 0 → table nodes p v w ≡ pos 0)
+    → ((v : ℕ) → v ≢ d → (w : World) → InRange (states_of nodes) w → table nodes b v w ≡ pos 0 → table nodes p v w ≡ pos 0)
     → mass_at nodes b d row ≡ pos 0 → gain_at nodes p d state row ≡ pos 0
 no_gain_like nodes b p d state row g hb hp within zero none = go (dec_lt state (states_of nodes d))
   where
@@ -61,9 +61,29 @@ no_gain_like nodes b p d state row g hb hp within zero none = go (dec_lt state (
         by_contradiction (gain_at nodes p d state row) (pos 0) (λ n.
         tests (λ v. ¬ (FromD nodes d v)) o.order (λ keep. n
         (zero_gain nodes o.order (setup_of nodes o) d within keep.0 keep.1 b p (λ v. pos (weight_total nodes b v)) (totals_of nodes b hb)
-        (table_not_negative nodes b hb) (table_not_negative nodes p hp) (λ v m w i e. zero v m w e) row state less none)))
+        (table_not_negative nodes b hb) (table_not_negative nodes p hp) zero row state less none)))
+
+-- nor has it mass there
+pub no_mass_like : (nodes : List NodeView) (b p : List RuleView) (d row : ℕ) → IsGraph nodes → HasTables nodes b → HasTables nodes p → d < length nodes
+    → ((v : ℕ) → v ≢ d → (w : World) → InRange (states_of nodes) w → table nodes b v w ≡ pos 0 → table nodes p v w ≡ pos 0)
+    → mass_at nodes b d row ≡ pos 0 → mass_at nodes p d row ≡ pos 0
+no_mass_like nodes b p d row g hb hp within zero none =
+    let o = ordered nodes g in
+    by_contradiction (mass_at nodes p d row) (pos 0) (λ n.
+    tests (λ v. ¬ (FromD nodes d v)) o.order (λ keep. n
+    (zero_mass nodes o.order (setup_of nodes o) d within keep.0 keep.1 b p (λ v. pos (weight_total nodes b v)) (totals_of nodes b hb)
+    (table_not_negative nodes b hb) (table_not_negative nodes p hp) zero row none)))
+
+-- no mass is below nought
+pub mass_at_least : (nodes : List NodeView) (p : List RuleView) (d row : ℕ) → IsGraph nodes → HasTables nodes p → d < length nodes → pos 0 ≤ℤ mass_at nodes p d row
+mass_at_least nodes p d row g h within =
+    let o = ordered nodes g in
+    le_stable (pos 0) (mass_at nodes p d row) (λ n.
+    tests (λ v. ¬ (FromD nodes d v)) o.order (λ keep. n
+    (mass_not_negative nodes o.order (setup_of nodes o) d within keep.0 keep.1 p p (λ v. pos (weight_total nodes p v)) (totals_of nodes p h)
+    (table_not_negative nodes p h) (table_not_negative nodes p h) (λ v m w i e. e) p (table_not_negative nodes p h) row)))
 
 pub no_gain_law : NoGainWithoutMass
 no_gain_law nodes p d state row g c h k none =
     let t : HasTables nodes p = tables_of nodes p g c h in
-    no_gain_like nodes p p d state row g t t k.within (λ v n w e. e) none
+    no_gain_like nodes p p d state row g t t k.within (λ v n w i e. e) none

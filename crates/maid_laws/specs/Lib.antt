@@ -1,3 +1,4 @@
 pub mod Irrelevance
 pub mod Exchange
 pub mod Orders
+pub mod Answers
