@@ -114,7 +114,7 @@ extends_map w order (x ∷ history) zero l m h = absurd (omega arith)
 extends_map w [] (x ∷ history) (suc i) l m h = absurd (omega arith)
 extends_map w (u ∷ order) (x ∷ history) (suc i) l m h = λ k. h 0 (omega arith) k ∷ extends_map w order history i (omega arith) (omega arith) (λ j n. h (suc j) (omega arith)) k
 
-at_take : (xs : List ℕ) (k j : ℕ) → j < k → slice_index (take k xs) j ≡ slice_index xs j
+pub at_take : (xs : List ℕ) (k j : ℕ) → j < k → slice_index (take k xs) j ≡ slice_index xs j
 at_take [] zero j l = absurd (omega arith)
 at_take [] (suc k) j l = refl
 at_take (x ∷ xs) zero j l = absurd (omega arith)

@@ -37,3 +37,4 @@ pub mod OrderLaws
 pub mod OneAgent
 pub mod PureRules
 pub mod AnswerLaws
+pub mod StartLaws

@@ -151,7 +151,7 @@ module _ (nodes : List NodeView) (g : IsGraph nodes) (order start : List ℕ) (l
       ∙ pos_product (weight_total nodes p) (drop (length start) order)
 
   -- ---- the start as a set
-  range : InRange (states_of nodes) (world_of_history order start)
+  pub range : InRange (states_of nodes) (world_of_history order start)
   range = record { state = history_range (states_of nodes) g.has_state order start history.each }
 
   inside : (v : ℕ) → in_start order start v ≡ true → v < length nodes

@@ -41,7 +41,7 @@ parents_first_filter nodes p (v ∷ vs) h = go (p v) (parents_first_filter nodes
     go false r = r
 
 -- a member stands at one place
-one_place : (xs : List ℕ) → Apart xs → (i j : ℕ) → i < length xs → j < length xs → slice_index xs i ≡ slice_index xs j → i ≡ j
+pub one_place : (xs : List ℕ) → Apart xs → (i j : ℕ) → i < length xs → j < length xs → slice_index xs i ≡ slice_index xs j → i ≡ j
 one_place [] a i j l m e = absurd (omega arith)
 one_place (x ∷ xs) a zero zero l m e = refl
 one_place (x ∷ xs) a zero (suc j) l m e = absurd (not_among x xs a.0 (subst (λ z. Among z xs) (sym e) (among_index xs j (omega arith))))

@@ -2,3 +2,4 @@ pub mod Irrelevance
 pub mod Exchange
 pub mod Orders
 pub mod Answers
+pub mod Starts

@@ -2,10 +2,12 @@
 //! empty body: whoever calls it may use its law.
 #![tactic(auto)]
 
+mod answers;
 mod graphs;
 mod irrelevance;
 mod subgames;
 
+pub use answers::{answers_are_optimal, answers_are_subgame_perfect, worth_under_the_profile};
 pub use graphs::{descent_tested, parents_first_lists};
 pub use irrelevance::{irrelevant_rules, mass_at_each_state};
-pub use subgames::{exchange, one_agent};
+pub use subgames::{exchange, later_decisions, one_agent};
