@@ -38,3 +38,4 @@ pub mod OneAgent
 pub mod PureRules
 pub mod AnswerLaws
 pub mod StartLaws
+pub mod TotalLaws

@@ -3,3 +3,4 @@ pub mod Exchange
 pub mod Orders
 pub mod Answers
 pub mod Starts
+pub mod Sums
