@@ -39,3 +39,4 @@ pub mod PureRules
 pub mod AnswerLaws
 pub mod StartLaws
 pub mod TotalLaws
+pub mod SeparationLaws

@@ -27,7 +27,7 @@ use Rattle.maid_laws.proofs.Separation.{live_in_F as live_in_fixed, in_F as in_f
 abbrev pub table_but : List NodeView → ℕ → List RuleView → ℕ → World → ℤ
 table_but nodes d p v w = cond (eqb v d) (pos 1) (table nodes p v w)
 
-but_own : (nodes : List NodeView) (d : ℕ) (p : List RuleView) (v : ℕ) → v ≡ d → table_but nodes d p v ≡ (λ w. pos 1)
+pub but_own : (nodes : List NodeView) (d : ℕ) (p : List RuleView) (v : ℕ) → v ≡ d → table_but nodes d p v ≡ (λ w. pos 1)
 but_own nodes d p v e = ap (λ b. λ (w : World). cond b (pos 1) (table nodes p v w)) (eqb_yes v d e)
 
 but_other : (nodes : List NodeView) (d : ℕ) (p : List RuleView) (v : ℕ) → v ≢ d → table_but nodes d p v ≡ table nodes p v
@@ -40,13 +40,13 @@ but_ignores nodes d p v u h = go (ℕ_discrete v d)
     go (yes e) = subst (λ f. Ignores (states_of nodes) f u) (sym (but_own nodes d p v e)) (record { same = λ w i s l. refl })
     go (no n) = subst (λ f. Ignores (states_of nodes) f u) (sym (but_other nodes d p v n)) (h n)
 
-but_looks : (nodes : List NodeView) (d : ℕ) (p : List RuleView) → LooksAtParents nodes (table_but nodes d p)
+pub but_looks : (nodes : List NodeView) (d : ℕ) (p : List RuleView) → LooksAtParents nodes (table_but nodes d p)
 but_looks nodes d p = record { others = λ v u n a. but_ignores nodes d p v u (λ k. (table_looks nodes p).others v u n a) }
 
-but_total : (nodes : List NodeView) (d : ℕ) (p : List RuleView) (total : ℕ → ℤ) (v : ℕ) → v ≢ d → HasTotal (states_of nodes) (table nodes p) total v → HasTotal (states_of nodes) (table_but nodes d p) total v
+pub but_total : (nodes : List NodeView) (d : ℕ) (p : List RuleView) (total : ℕ → ℤ) (v : ℕ) → v ≢ d → HasTotal (states_of nodes) (table nodes p) total v → HasTotal (states_of nodes) (table_but nodes d p) total v
 but_total nodes d p total v n h = record { sums = λ w i. ap (λ (f : World → ℤ). sum_below (states_of nodes v) (λ s. f (with_state w v s))) (but_other nodes d p v n) ∙ h.sums w i }
 
-agree_cases : (os : List ℕ) (q w : World) → ((agree os q w ≡ pos 1) × ((o : ℕ) → Among o os → w o ≡ q o)) ⊎ ((agree os q w ≡ pos 0) × ¬ ((o : ℕ) → Among o os → w o ≡ q o))
+pub agree_cases : (os : List ℕ) (q w : World) → ((agree os q w ≡ pos 1) × ((o : ℕ) → Among o os → w o ≡ q o)) ⊎ ((agree os q w ≡ pos 0) × ¬ ((o : ℕ) → Among o os → w o ≡ q o))
 agree_cases [] q w = inl (refl, λ o m. absurd m)
 agree_cases (o ∷ os) q w = go (ℕ_discrete (w o) (q o)) (agree_cases os q w)
   where
@@ -72,7 +72,7 @@ module _ (nodes : List NodeView) (order : List ℕ) (setup : Setup nodes order) 
     (keep given first : ℕ → Bool)
     (tells_keep : Tells keep (λ v. IsLive nodes v × Reaches (IsParent nodes) (IsLive nodes) (IsFixed (IsParent nodes) d) goal v) order)
     (tells_given : Tells given (IsFixed (IsParent nodes) d) order)
-    (tells_first : Tells first (Leads (IsParent nodes) (IsLive nodes) (IsFixed (IsParent nodes) d) goal true) order) where
+    (tells_first : Tells first (Leads (IsParent nodes) (IsLive nodes) (IsFixed (IsParent nodes) d) goal true) (filter keep order)) where
   abbrev K : List ℕ
   K = filter keep order
 

@@ -41,7 +41,7 @@ module _ (nodes : List NodeView) (order : List ℕ) (setup : Setup nodes order) 
       by_contradiction (sum_for s f *ℤ mass_at nodes t d (row_of nodes d q)) (sum_for t f *ℤ mass_at nodes s d (row_of nodes d q)) (λ n.
       tests (λ v. IsLive nodes v × Reaches (IsParent nodes) (IsLive nodes) (IsFixed (IsParent nodes) d) goal v) order (λ keep.
       tests (IsFixed (IsParent nodes) d) order (λ given.
-      tests (Leads (IsParent nodes) (IsLive nodes) (IsFixed (IsParent nodes) d) goal true) order (λ first. n (with_tests keep.0 given.0 first.0 keep.1 given.1 first.1)))))
+      tests (Leads (IsParent nodes) (IsLive nodes) (IsFixed (IsParent nodes) d) goal true) (filter keep.0 order) (λ first. n (with_tests keep.0 given.0 first.0 keep.1 given.1 first.1)))))
     where
       goal_live : IsLive nodes goal
       goal_live = record { within = is_goal.within; states = inl is_goal.kind }
@@ -49,7 +49,7 @@ module _ (nodes : List NodeView) (order : List ℕ) (setup : Setup nodes order) 
       d_decision : IsDecision nodes d
       d_decision = record { within = d_live.within; kind = d_kind }
 
-      with_tests : (keep given first : ℕ → Bool) → Tells keep (λ v. IsLive nodes v × Reaches (IsParent nodes) (IsLive nodes) (IsFixed (IsParent nodes) d) goal v) order → Tells given (IsFixed (IsParent nodes) d) order → Tells first (Leads (IsParent nodes) (IsLive nodes) (IsFixed (IsParent nodes) d) goal true) order
+      with_tests : (keep given first : ℕ → Bool) → Tells keep (λ v. IsLive nodes v × Reaches (IsParent nodes) (IsLive nodes) (IsFixed (IsParent nodes) d) goal v) order → Tells given (IsFixed (IsParent nodes) d) order → Tells first (Leads (IsParent nodes) (IsLive nodes) (IsFixed (IsParent nodes) d) goal true) (filter keep order)
           → sum_for s f *ℤ mass_at nodes t d (row_of nodes d q) ≡ sum_for t f *ℤ mass_at nodes s d (row_of nodes d q)
       with_tests keep given first tells_keep tells_given tells_first =
           one_utility nodes order setup d goal d_live goal_live is_goal.kind (none_given nodes order setup d) keep given first tells_keep tells_given tells_first
@@ -61,7 +61,7 @@ module _ (nodes : List NodeView) (order : List ℕ) (setup : Setup nodes order) 
           relied v n k m =
               let a = among_filter keep v order m.0 in
               let l = (tells_keep.yes v a.0 a.1).0 in
-              relies_of nodes order setup d goal v d_decision d_live is_goal n (record { within = l.within; kind = k }) l (tells_first.yes v a.0 m.1)
+              relies_of nodes order setup d goal v d_decision d_live is_goal n (record { within = l.within; kind = k }) l (tells_first.yes v m.0 m.1)
 
           dead_zero : (v : ℕ) → ¬ (1 < states_of nodes v) → 0 ≡ q v
           dead_zero v n = let l : q v < states_of nodes v = iq.state v in omega arith

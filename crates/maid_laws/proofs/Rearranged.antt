@@ -3,7 +3,8 @@ use Rattle.std.proofs.Common.{◌≡◌, ◌≢◌, ◌⊎◌, ◌∙◌, ℕ, z
 use Rattle.std.specs.List.{range_with_len}
 use Rattle.maid_model.proofs.Setting.{Among, Shuffled, none, put}
 use Rattle.maid_model.proofs.Tables.{Avoids}
-use Rattle.maid_model.proofs.Lists.{avoids}
+use Rattle.maid_model.proofs.Lists.{avoids, among_filter}
+use Rattle.maid_laws.proofs.Basis.{among_filter_in}
 use Rattle.maid_laws.proofs.Collapse.{Apart}
 use Rattle.maid_laws.proofs.Members.{not_among}
 
@@ -156,3 +157,10 @@ shuffled_of (x ∷ xs) ys a b f g =
     tail : (v : ℕ) → (v ≡ x → ⊥) → (v ≡ x) ⊎ Among v xs → Among v xs
     tail v n (inl e) = absurd (n e)
     tail v n (inr m) = m
+
+-- what passes a test, of two rearranged lists
+pub shuffled_filter : (p : ℕ → Bool) (xs ys : List ℕ) → Apart xs → Shuffled xs ys → Shuffled (filter p xs) (filter p ys)
+shuffled_filter p xs ys a s =
+    shuffled_of (filter p xs) (filter p ys) (apart_filter p xs a) (apart_filter p ys (apart_shuffled s a))
+    (λ v m. let k = among_filter p v xs m in among_filter_in p v ys (among_shuffled v s k.0) k.1)
+    (λ v m. let k = among_filter p v ys m in among_filter_in p v xs (among_unshuffled v s k.0) k.1)

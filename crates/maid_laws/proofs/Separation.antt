@@ -19,7 +19,7 @@ module _ (nodes : List NodeView) (order : List ℕ) (setup : Setup nodes order) 
     (keep given first : ℕ → Bool)
     (tells_keep : Tells keep (λ v. IsLive nodes v × Reaches (IsParent nodes) (IsLive nodes) Fixed goal v) order)
     (tells_given : Tells given Fixed order)
-    (tells_first : Tells first (Leads (IsParent nodes) (IsLive nodes) Fixed goal true) order) where
+    (tells_first : Tells first (Leads (IsParent nodes) (IsLive nodes) Fixed goal true) (filter keep order)) where
   -- the live nodes from which a path leads to a fixed node or to the goal, and the others
   abbrev pub K : List ℕ
   K = filter keep order
@@ -64,16 +64,16 @@ module _ (nodes : List NodeView) (order : List ℕ) (setup : Setup nodes order) 
   in_V v m = let a = among_filter (λ u. not (given u)) v K m in (a.0, tells_given.no v (in_K v a.0).0 (passes_not given v a.1))
 
   pub in_T1 : (v : ℕ) → Among v T1 → Among v K × G v
-  in_T1 v m = let a = among_filter first v K m in (a.0, tells_first.yes v (in_K v a.0).0 a.1)
+  in_T1 v m = let a = among_filter first v K m in (a.0, tells_first.yes v a.0 a.1)
 
   pub in_T2 : (v : ℕ) → Among v T2 → Among v K × ¬ (G v)
-  in_T2 v m = let a = among_filter (λ u. not (first u)) v K m in (a.0, tells_first.no v (in_K v a.0).0 (passes_not first v a.1))
+  in_T2 v m = let a = among_filter (λ u. not (first u)) v K m in (a.0, tells_first.no v a.0 (passes_not first v a.1))
 
   in_V1 : (v : ℕ) → Among v V1 → Among v V × G v
-  in_V1 v m = let a = among_filter first v V m in (a.0, tells_first.yes v (in_K v (in_V v a.0).0).0 a.1)
+  in_V1 v m = let a = among_filter first v V m in (a.0, tells_first.yes v (in_V v a.0).0 a.1)
 
   in_V2 : (v : ℕ) → Among v V2 → Among v V × ¬ (G v)
-  in_V2 v m = let a = among_filter (λ u. not (first u)) v V m in (a.0, tells_first.no v (in_K v (in_V v a.0).0).0 (passes_not first v a.1))
+  in_V2 v m = let a = among_filter (λ u. not (first u)) v V m in (a.0, tells_first.no v (in_V v a.0).0 (passes_not first v a.1))
 
   pub in_F : (o : ℕ) → Among o F → Fixed o
   in_F o m = let a = among_filter given o K m in tells_given.yes o (in_K o a.0).0 a.1

@@ -4,3 +4,4 @@ pub mod Orders
 pub mod Answers
 pub mod Starts
 pub mod Sums
+pub mod Separation
