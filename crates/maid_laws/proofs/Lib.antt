@@ -4,7 +4,7 @@ pub mod Walks
 pub mod Collapse
 pub mod Grouped
 pub mod Basis
-pub mod Separation
+pub mod TwoSums
 pub mod OneUtility
 pub mod Members
 pub mod Decided
@@ -40,3 +40,4 @@ pub mod AnswerLaws
 pub mod StartLaws
 pub mod TotalLaws
 pub mod SeparationLaws
+pub mod WalkLaws

@@ -21,7 +21,7 @@ use Rattle.maid_laws.proofs.Basis.{Setup, Totals, Tells, LooksAtParents, table_l
 use Rattle.maid_laws.proofs.Collapse.{one_if, one_if-cond, agree, Apart, rows_agree, agree_rows}
 use Rattle.maid_laws.proofs.Leads.{Leads, Reaches, at_given, Below, child, below_leads}
 use Rattle.maid_laws.proofs.Grouped.{cross}
-use Rattle.maid_laws.proofs.Separation.{live_in_F as live_in_fixed, in_F as in_fixed, in_K as in_kept, in_O as in_out, in_T2 as in_second, sum_separated}
+use Rattle.maid_laws.proofs.TwoSums.{live_in_F as live_in_fixed, in_F as in_fixed, in_K as in_kept, in_O as in_out, in_T2 as in_second, sum_separated}
 
 -- the table of v, without d's own
 abbrev pub table_but : List NodeView → ℕ → List RuleView → ℕ → World → ℤ

@@ -31,7 +31,7 @@ use Rattle.maid_laws.proofs.Orders.{ordered}
 use Rattle.maid_laws.proofs.Ranks.{past_end}
 use Rattle.maid_laws.proofs.Rearranged.{apart_filter, range_apart, in_range, among_range, shuffled_filter}
 use Rattle.maid_laws.proofs.Relies.{no_utility_child, walk_of_steps, steps_of_walk}
-use Rattle.maid_laws.proofs.Separation.{live_in_F, in_F, in_O, sum_separated}
+use Rattle.maid_laws.proofs.TwoSums.{live_in_F, in_F, in_O, sum_separated}
 use Rattle.maid_laws.proofs.Signs.{pos_product}
 use Rattle.maid_laws.proofs.Tied.{tables_of}
 use Rattle.maid_laws.proofs.TotalLaws.{ignored, has_total}

@@ -5,3 +5,4 @@ pub mod Answers
 pub mod Starts
 pub mod Sums
 pub mod Separation
+pub mod Walks

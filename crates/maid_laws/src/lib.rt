@@ -5,9 +5,13 @@
 mod answers;
 mod graphs;
 mod irrelevance;
+mod separation;
 mod subgames;
+mod sums;
 
 pub use answers::{answers_are_optimal, answers_are_subgame_perfect, worth_under_the_profile};
 pub use graphs::{descent_tested, parents_first_lists};
 pub use irrelevance::{irrelevant_rules, mass_at_each_state};
+pub use separation::{separated_sums, separated_tables, walks_turn};
 pub use subgames::{exchange, later_decisions, one_agent};
+pub use sums::{law_of_products, law_of_totals};
