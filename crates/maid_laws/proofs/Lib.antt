@@ -41,3 +41,4 @@ pub mod StartLaws
 pub mod TotalLaws
 pub mod SeparationLaws
 pub mod WalkLaws
+pub mod Small

@@ -6,3 +6,4 @@ pub mod Starts
 pub mod Sums
 pub mod Separation
 pub mod Walks
+pub mod Examples

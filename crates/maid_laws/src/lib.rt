@@ -3,6 +3,7 @@
 #![tactic(auto)]
 
 mod answers;
+mod examples;
 mod graphs;
 mod irrelevance;
 mod separation;
@@ -10,6 +11,7 @@ mod subgames;
 mod sums;
 
 pub use answers::{answers_are_optimal, answers_are_subgame_perfect, worth_under_the_profile};
+pub use examples::{a_pair, a_trip};
 pub use graphs::{descent_tested, parents_first_lists};
 pub use irrelevance::{irrelevant_rules, mass_at_each_state};
 pub use separation::{separated_sums, separated_tables, walks_turn};

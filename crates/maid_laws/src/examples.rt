@@ -1,0 +1,14 @@
+ghost use Rattle.maid_laws.specs.Examples.{MeetsTheLaws, HasSums, RelyOnEachOther};
+
+/// A small diagram and a plan of it that meet what the laws ask, with the sums that they have by hand.
+pub fn a_trip()
+    ensures meets { MeetsTheLaws }
+    ensures sums { HasSums }
+{
+}
+
+/// Two decisions that share a utility and see nothing rely on each other.
+pub fn a_pair()
+    ensures rely { RelyOnEachOther }
+{
+}
