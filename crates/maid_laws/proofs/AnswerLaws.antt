@@ -5,7 +5,7 @@ use Rattle.std.specs.Prelude.{Contains}
 use Rattle.maid_model.specs.declared.answers.Ratio.{Ratio}
 use Rattle.maid_model.specs.declared.diagrams.Kind.{Kind}
 use Rattle.maid_model.specs.declared.diagrams.Kind.TheVariants.{Chance, Decision, Utility}
-use Rattle.maid_model.specs.Answers.{IsAnswer, IsAnswerRow, IsBase, IsFraction, pure_profile, rows_at, no_row}
+use Rattle.maid_model.specs.Answers.{IsAnswer, FitsDiagram, IsBase, IsFraction, pure_profile, rows_at, no_row}
 use Rattle.maid_model.specs.Gains.{gain_at, mass_at}
 use Rattle.maid_model.specs.Graph.{IsGraph}
 use Rattle.maid_model.specs.Nodes.{IsDecision, node_at, states_of, rows_of}
@@ -16,7 +16,7 @@ use Rattle.maid_model.specs.Tables.{HasChanceTables, table, table_by, weights_of
 use Rattle.maid_model.specs.Views.{NodeView, RuleView, DiagramView, SolvedView}
 use Rattle.maid_model.proofs.Setting.{Among, HasTables}
 use Rattle.maid_model.proofs.Ints.{products}
-use Rattle.maid_laws.specs.Answers.{answered, answer_at, AnswersAreBest, AnswersAreSubgamePerfect, AnswersAreOptimal, WorthUnderTheProfile}
+use Rattle.maid_laws.specs.Answers.{answered, answer_at, HasBestChoices, ChoicesAreBest, WorthInBase, AnswersAreBest, AnswersAreSubgamePerfect, AnswersAreOptimal, WorthUnderTheProfile}
 use Rattle.maid_laws.specs.Exchange.{IsBestInBase, IsBestInBases}
 use Rattle.maid_laws.proofs.Best.{cancel_le}
 use Rattle.maid_laws.proofs.Decided.{by_contradiction, not_not_dec}
@@ -28,34 +28,41 @@ use Rattle.maid_laws.proofs.RowLaws.{irrelevance_law, no_mass_like, mass_at_leas
 use Rattle.maid_laws.proofs.Rules.{uniform_like}
 use Rattle.maid_laws.proofs.Tied.{decision_of, tables_of}
 
-module _ (d : DiagramView) (solved : SolvedView) (g : IsGraph d.nodes) (c : HasChanceTables d.nodes) (a : IsAnswer d solved) where
+module _ (d : DiagramView) (solved : SolvedView) (g : IsGraph d.nodes) (c : HasChanceTables d.nodes) (f : FitsDiagram d solved) where
   fits : (v : ℕ) → IsDecision d.nodes v → FitsRows d.nodes v (rows_at solved.answers v)
-  fits v k = fits_rows d.nodes solved.answers v a.fits.answers (subst (λ l. Among v l) (sym a.fits.follow) (among_of v solved.order (a.fits.all v k)))
+  fits v k = fits_rows d.nodes solved.answers v f.answers (subst (λ l. Among v l) (sym f.follow) (among_of v solved.order (f.all v k)))
 
-  profile : IsProfile d.nodes (pure_profile d.nodes solved.answers)
+  pub profile : IsProfile d.nodes (pure_profile d.nodes solved.answers)
   profile = pure_is_profile d.nodes solved.answers fits
 
-  pub best_in_bases : IsBestInBases d.nodes (pure_profile d.nodes solved.answers)
-  best_in_bases = record {
+  -- the state of weight 1 is the answered choice
+  pub best_in_bases : ((i e : ℕ) → i < length solved.order → ReliesOn d.nodes (slice_index solved.order i) e → Contains (take i solved.order) e) → ((v : ℕ) → IsDecision d.nodes v → HasBestChoices d solved v) → IsBestInBases d.nodes (pure_profile d.nodes solved.answers)
+  best_in_bases relied best = record {
     profile = profile;
     pure = pure_total d.nodes solved.answers;
     best = λ v k. record {
-      base = (a.answers v k).base;
-      is_base = (a.answers v k).is_base;
+      base = (best v k).base;
+      is_base = (best v k).is_base;
       best = λ row choice state l m e p n.
-          subst (λ x. gain_at d.nodes (a.answers v k).base v state row ≤ℤ gain_at d.nodes (a.answers v k).base v x row) (sym (pure_choice d.nodes solved.answers fits v row choice k l m e))
-          ((((a.answers v k).each row l).best p).greatest state n);
+          subst (λ x. gain_at d.nodes (best v k).base v state row ≤ℤ gain_at d.nodes (best v k).base v x row) (sym (pure_choice d.nodes solved.answers fits v row choice k l m e))
+          ((best v k).best row state l n p);
     };
     order = solved.order;
-    all = a.fits.all;
-    relied_first = λ i e l r. (a.order.placing i l).0.1 e r;
+    all = f.all;
+    relied_first = relied;
   }
 
+pub choices_law : ChoicesAreBest
+choices_law d solved g c f relied best = best_in_bases d solved g c f relied best
+
+-- the answer's order places each decision after those that it relies on, and its choices are first best states
 pub best_law : AnswersAreBest
-best_law d solved g c a = best_in_bases d solved g c a
+best_law d solved g c a =
+    best_in_bases d solved g c a.fits (λ i e l r. (a.order.placing i l).0.1 e r)
+    (λ v k. record { base = (a.answers v k).base; is_base = (a.answers v k).is_base; best = λ row state l n p. ((((a.answers v k).each row l).best p).greatest state n) })
 
 pub perfect_law : AnswersAreSubgamePerfect
-perfect_law d solved g c a = exchange_law d.nodes (answered d solved) g c (best_in_bases d solved g c a)
+perfect_law d solved g c a = exchange_law d.nodes (answered d solved) g c (best_law d solved g c a)
 
 pub optimal_law : AnswersAreOptimal
 optimal_law d solved agent g c a owns = one_agent_law d.nodes (answered d solved) agent g (perfect_law d solved g c a) owns
@@ -108,41 +115,39 @@ positive_or_none (pos zero) h = inl refl
 positive_or_none (pos (suc n)) h = inr (omega (arith, ints))
 positive_or_none (negsuc n) h = absurd (omega (arith, ints))
 
-pub worth_law : WorthUnderTheProfile
-worth_law d solved v row g c a k live l reached = (w.0, w.1, record { reduced = w.2.reduced; same = same })
-  where
-    s : List RuleView
-    s = answered d solved
+module _ (nodes : List NodeView) (s base : List RuleView) (v : ℕ) (g : IsGraph nodes) (c : HasChanceTables nodes) (hs : IsProfile nodes s) (k : IsDecision nodes v) (b : IsBase nodes s v base) where
+  tables_s : HasTables nodes s
+  tables_s = tables_of nodes s g c hs
 
-    b : List RuleView
-    b = (a.answers v k).base
+  tables_b : HasTables nodes base
+  tables_b = tables_of nodes base g c b.profile
 
-    is_base : IsBase d.nodes (answered d solved) v (a.answers v k).base
-    is_base = (a.answers v k).is_base
+  -- where the profile has mass, so has the base
+  pub mass_in_base : (row : ℕ) → pos 0 <ℤ mass_at nodes s v row → pos 0 <ℤ mass_at nodes base v row
+  mass_in_base row reached = go (positive_or_none (mass_at nodes base v row) (mass_at_least nodes base v row g tables_b k.within))
+    where
+      go : (mass_at nodes base v row ≡ pos 0) ⊎ (pos 0 <ℤ mass_at nodes base v row) → pos 0 <ℤ mass_at nodes base v row
+      go (inr p) = p
+      go (inl e) = absurd (let z : mass_at nodes s v row ≡ pos 0 = no_mass_like nodes base s v row g tables_b tables_s k.within (base_zero nodes s base v b) e in omega (arith, ints))
 
-    hs : HasTables d.nodes (answered d solved)
-    hs = tables_of d.nodes (answered d solved) g c (profile d solved g c a)
-
-    hb : HasTables d.nodes (a.answers v k).base
-    hb = tables_of d.nodes (a.answers v k).base g c is_base.profile
-
-    choice : ℕ
-    choice = (answer_at solved v row).choice
-
-    with_mass : (mass_at d.nodes (a.answers v k).base v row ≡ pos 0) ⊎ (pos 0 <ℤ mass_at d.nodes (a.answers v k).base v row) → pos 0 <ℤ mass_at d.nodes (a.answers v k).base v row
-    with_mass (inr p) = p
-    with_mass (inl e) = absurd (let z : mass_at d.nodes (answered d solved) v row ≡ pos 0 = no_mass_like d.nodes (a.answers v k).base (answered d solved) v row g hb hs k.within (base_zero d.nodes (answered d solved) (a.answers v k).base v is_base) e in omega (arith, ints))
-
-    mb : pos 0 <ℤ mass_at d.nodes (a.answers v k).base v row
-    mb = with_mass (positive_or_none (mass_at d.nodes (a.answers v k).base v row) (mass_at_least d.nodes (a.answers v k).base v row g hb k.within))
-
-    w : (r : Ratio) × ((answer_at solved v row).worth ≡ Some r) × IsFraction r (gain_at d.nodes (a.answers v k).base v (answer_at solved v row).choice row) (nat_abs (mass_at d.nodes (a.answers v k).base v row) * 10 ^ d.decimals)
-    w = ((a.answers v k).each row l).worth mb
-
-    same : w.0.num *ℤ pos (nat_abs (mass_at d.nodes (answered d solved) v row) * 10 ^ d.decimals) ≡ gain_at d.nodes (answered d solved) v (answer_at solved v row).choice row *ℤ pos w.0.den
+  -- irrelevance makes the two fractions one
+  pub same_fraction : (state row scale : ℕ) (w : Ratio) → IsLive nodes v → pos 0 <ℤ mass_at nodes s v row
+      → IsFraction w (gain_at nodes base v state row) (nat_abs (mass_at nodes base v row) * scale) → IsFraction w (gain_at nodes s v state row) (nat_abs (mass_at nodes s v row) * scale)
+  same_fraction state row scale w live reached h = record {
+    reduced = h.reduced;
     same =
-        ap (λ x. w.0.num *ℤ x) (abs_times (mass_at d.nodes (answered d solved) v row) (10 ^ d.decimals) (mass_at_least d.nodes (answered d solved) v row g hs k.within))
-        ∙ proportion w.0.num (gain_at d.nodes (a.answers v k).base v (answer_at solved v row).choice row) (gain_at d.nodes (answered d solved) v (answer_at solved v row).choice row)
-        (mass_at d.nodes (a.answers v k).base v row) (mass_at d.nodes (answered d solved) v row) (pos w.0.den) (pos (10 ^ d.decimals)) mb
-        (irrelevance_law d.nodes (answered d solved) (a.answers v k).base v (answer_at solved v row).choice row g c (profile d solved g c a) is_base.profile k live (λ e r. sym (is_base.relied e r).weights))
-        (ap (λ x. w.0.num *ℤ x) (sym (abs_times (mass_at d.nodes (a.answers v k).base v row) (10 ^ d.decimals) (mass_at_least d.nodes (a.answers v k).base v row g hb k.within))) ∙ w.2.same)
+        ap (λ x. w.num *ℤ x) (abs_times (mass_at nodes s v row) scale (mass_at_least nodes s v row g tables_s k.within))
+        ∙ proportion w.num (gain_at nodes base v state row) (gain_at nodes s v state row) (mass_at nodes base v row) (mass_at nodes s v row) (pos w.den) (pos scale) (mass_in_base row reached)
+        (irrelevance_law nodes s base v state row g c hs b.profile k live (λ e r. sym (b.relied e r).weights))
+        (ap (λ x. w.num *ℤ x) (sym (abs_times (mass_at nodes base v row) scale (mass_at_least nodes base v row g tables_b k.within))) ∙ h.same);
+  }
+
+pub base_law : WorthInBase
+base_law nodes s base v state row scale w g c hs k live b reached = (mass_in_base nodes s base v g c hs k b row reached, same_fraction nodes s base v g c hs k b state row scale w live reached)
+
+pub worth_law : WorthUnderTheProfile
+worth_law d solved v row g c a k live l reached =
+    let hs : IsProfile d.nodes (answered d solved) = profile d solved g c a.fits in
+    let at = a.answers v k in
+    let w = (at.each row l).worth (mass_in_base d.nodes (answered d solved) at.base v g c hs k at.is_base row reached) in
+    (w.0, w.1, same_fraction d.nodes (answered d solved) at.base v g c hs k at.is_base (answer_at solved v row).choice row (10 ^ d.decimals) w.0 live reached w.2)

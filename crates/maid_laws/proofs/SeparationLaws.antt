@@ -17,10 +17,11 @@ use Rattle.maid_model.proofs.Setting.{Among, Shuffled, Ignores, HasTotal, HasTab
 use Rattle.maid_model.proofs.Lists.{among_filter, product_over-shuffled, sum_over-shuffled}
 use Rattle.maid_model.proofs.Sums.{sum_below_cong, sum_over_cong, with_same, with_other}
 use Rattle.maid_model.proofs.Tables.{Avoids}
-use Rattle.maid_laws.specs.Separation.{IsUtility, IsFixedBy, Matters, HasWalk, LooksAt, SharedNodeJoins, IsSplit, agrees_at_fixed, total_without, product_without, SumsSeparate}
+use Rattle.maid_laws.specs.Separation.{IsUtility, IsFixedBy, Matters, HasWalk, LooksAt, SharedNodeJoins, IsSplit, SplitExists, agrees_at_fixed, total_without, product_without, SumsSeparate}
 use Rattle.maid_laws.specs.Sums.{Overlooks}
-use Rattle.maid_laws.proofs.Basis.{Setup, Tells, eqb_yes, eqb_no}
+use Rattle.maid_laws.proofs.Basis.{Setup, Tells, tells_true, eqb_yes, eqb_no}
 use Rattle.maid_laws.proofs.Collapse.{one_if, one_if-cond, agree, Apart}
+use Rattle.maid_laws.proofs.Decided.{tests}
 use Rattle.maid_laws.proofs.Histories.{eqb_same}
 use Rattle.maid_laws.proofs.Leads.{Leads, Reaches, at_given, at_goal, onward, separated}
 use Rattle.maid_laws.proofs.Members.{arc_of, parent_of, not_among}
@@ -304,3 +305,15 @@ module _ (nodes : List NodeView) (p : List RuleView) (d : ℕ) (fixed : ℕ → 
 
 pub separate_law : SumsSeparate
 separate_law nodes p d fixed goal matters joined f q g c h u split looks iq = sums_separate nodes p d fixed goal matters joined f q g (tables_of nodes p g c h) u split looks iq
+
+pub split_law : SplitExists
+split_law nodes fixed goal none =
+    tests (Matters nodes fixed goal) (numbers_of nodes) (λ matters.
+    tests (HasWalk nodes fixed goal) (numbers_of nodes) (λ joined.
+    none matters.0 joined.0 (record {
+      matters_is = λ v l. told matters.0 (Matters nodes fixed goal) matters.1 v l;
+      joined_is = λ v m. told joined.0 (HasWalk nodes fixed goal) joined.1 v m.live.within;
+    })))
+  where
+    told : (r : ℕ → Bool) (P : ℕ → Type 0) → Tells r P (numbers_of nodes) → (v : ℕ) → v < length nodes → (r v ≡ true) ↔ P v
+    told r P t v l = let m = in_range 0 (length nodes) v (omega arith) (omega arith) in (t.yes v m, tells_true r P (numbers_of nodes) t v m)

@@ -49,6 +49,10 @@ pub record IsSplit (nodes : List NodeView) (fixed : ℕ → Bool) (goal : ℕ) (
   pub matters_is : (v : ℕ) → v < length nodes → (matters v ≡ true) ↔ Matters nodes fixed goal v
   pub joined_is : (v : ℕ) → Matters nodes fixed goal v → (joined v ≡ true) ↔ HasWalk nodes fixed goal v
 
+-- Such tests cannot be lacking: what follows from them and can be told by a test, as an equation of numbers can, holds.
+abbrev pub SplitExists : Type 0
+SplitExists = (nodes : List NodeView) (fixed : ℕ → Bool) (goal : ℕ) → ((matters joined : ℕ → Bool) → IsSplit nodes fixed goal matters joined → ⊥) → ⊥
+
 -- the world has q's states at the fixed nodes
 abbrev pub agrees_at_fixed : List NodeView → (ℕ → Bool) → World → World → Bool
 agrees_at_fixed nodes fixed q w = list_all (λ v. not (fixed v) || (w v == q v)) (numbers_of nodes)

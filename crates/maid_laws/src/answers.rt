@@ -1,9 +1,16 @@
-ghost use Rattle.maid_laws.specs.Answers.{AnswersAreBest, AnswersAreSubgamePerfect, AnswersAreOptimal, WorthUnderTheProfile};
+ghost use Rattle.maid_laws.specs.Answers.{ChoicesAreBest, AnswersAreBest, AnswersAreSubgamePerfect, AnswersAreOptimal, WorthInBase, WorthUnderTheProfile};
+
+/// Answered choices that are best against the bases make a profile that is best in its bases: so does an answer, an
+/// accepted report, and a report whose choices still hold at changed numbers.
+pub fn answers_are_best()
+    ensures choices { ChoicesAreBest }
+    ensures answers { AnswersAreBest }
+{
+}
 
 /// From no subgame start does an agent gain by other rules of its own than the answered ones.
 pub fn answers_are_subgame_perfect()
-    ensures best { AnswersAreBest }
-    ensures perfect { AnswersAreSubgamePerfect }
+    ensures law { AnswersAreSubgamePerfect }
 {
 }
 
@@ -13,8 +20,10 @@ pub fn answers_are_optimal()
 {
 }
 
-/// A row that the answered rules reach is worth what it says under those rules themselves.
+/// A row that a profile reaches is worth under the profile itself what it is worth against the base, and so is a row
+/// of an answer.
 pub fn worth_under_the_profile()
-    ensures law { WorthUnderTheProfile }
+    ensures base { WorthInBase }
+    ensures answer { WorthUnderTheProfile }
 {
 }

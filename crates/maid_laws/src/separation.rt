@@ -1,4 +1,4 @@
-ghost use Rattle.maid_laws.specs.Separation.{SharedNodeJoins, SumsSeparate};
+ghost use Rattle.maid_laws.specs.Separation.{SharedNodeJoins, SplitExists, SumsSeparate};
 ghost use Rattle.maid_laws.specs.Walks.{WalksTurn, ChildrenJoin};
 
 /// An active walk may be read from either end.
@@ -17,6 +17,7 @@ pub fn separated_tables()
 /// Given any fixed nodes, a sum over worlds is a product of a sum over the tables that hang together with a utility
 /// and of one over the others.
 pub fn separated_sums()
-    ensures law { SumsSeparate }
+    ensures tests { SplitExists }
+    ensures sums { SumsSeparate }
 {
 }
