@@ -12,6 +12,7 @@ use Rattle.maid_model.specs.Views.{NodeView, RuleView}
 use Rattle.maid_model.proofs.Setting.{Among, Shuffled, Ignores, IgnoresLater, HasTotal, HaveTotals, ParentsFirst}
 use Rattle.maid_model.proofs.Tables.{TableSums, table_ignores, one_state_ignored, table-total}
 use Rattle.maid_model.proofs.Lists.{avoids, among_filter, all_ignored}
+use Rattle.maid_laws.proofs.Booleans.{eqb_yes, eqb_no}
 use Rattle.maid_laws.proofs.Notions.{IsParent}
 use Rattle.maid_laws.proofs.Collapse.{Apart}
 
@@ -37,12 +38,6 @@ pub record Setup (nodes : List NodeView) (order : List ℕ) : Type 0 where
 -- the totals of a profile's tables
 pub record Totals (nodes : List NodeView) (p : List RuleView) (total : ℕ → ℤ) : Type 0 where
   pub at : (v : ℕ) → v < length nodes → TableSums (node_at nodes v).kind (node_at nodes v).cells (weights_of p v) (rows_under (states_of nodes) (node_at nodes v).parents) (states_of nodes v) (total v)
-
-pub eqb_yes : (a b : ℕ) → a ≡ b → eqb a b ≡ true
-eqb_yes a b e = grind (arith, nat_tests)
-
-pub eqb_no : (a b : ℕ) → a ≢ b → eqb a b ≡ false
-eqb_no a b n = grind (arith, nat_tests)
 
 -- each table looks at its own node and that node's parents alone
 pub record LooksAtParents (nodes : List NodeView) (table : ℕ → World → ℤ) : Type 0 where

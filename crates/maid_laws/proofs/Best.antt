@@ -15,7 +15,8 @@ use Rattle.maid_model.proofs.Ints.{mul_comm, zero_mul, mul_one, mul_zero, mul_ad
 use Rattle.maid_model.proofs.Sums.{sum_below_cong, sum_over_cong, with_same, with_other, with_in}
 use Rattle.maid_model.proofs.Tables.{Avoids, row_from_other, table_ignores, table-total}
 use Rattle.maid_model.proofs.Lists.{avoids, among_filter, sum_over-shuffled, product_over-shuffled}
-use Rattle.maid_laws.proofs.Basis.{Setup, Tells, Totals, eqb_yes, eqb_no, product_over-cong, LooksAtParents}
+use Rattle.maid_laws.proofs.Booleans.{eqb_yes, eqb_no}
+use Rattle.maid_laws.proofs.Basis.{Setup, Tells, Totals, product_over-cong, LooksAtParents}
 use Rattle.maid_laws.proofs.Collapse.{one_if, one_if-cond, one_if-and, sum_below_at}
 use Rattle.maid_laws.proofs.Proportions.{sum_over_zero}
 use Rattle.maid_laws.proofs.Notions.{IsParent}

@@ -5,6 +5,7 @@ use Rattle.std.proofs.lemmas.Int.{ints}
 use Rattle.std.proofs.Math.IntN.{ℤ_discrete}
 use Rattle.std.proofs.Math.Decide.{ℕ_discrete}
 use Rattle.maid_model.proofs.Setting.{Among}
+use Rattle.maid_laws.proofs.Booleans.{not_both}
 use Rattle.maid_laws.proofs.Basis.{Tells}
 
 -- tests of finitely many facts
@@ -20,9 +21,6 @@ tests P (x ∷ xs) k = tests P xs (λ r. not_not_dec (P x) (λ d. k (more r d)))
 
     off_x : (b : Bool) (p : ℕ → Bool) (v : ℕ) → v ≢ x → cond (eqb v x) b (p v) ≡ p v
     off_x b p v n = grind (arith, nat_tests)
-
-    not_both : (b : Bool) → b ≡ true → b ≡ false → ⊥
-    not_both b e f = let g : true ≡ false = sym e ∙ f in cc
 
     more : ((p : ℕ → Bool) × Tells p P xs) → Dec (P x) → (p : ℕ → Bool) × Tells p P (x ∷ xs)
     more (p, t) (yes y) = (

@@ -16,8 +16,9 @@ use Rattle.maid_model.specs.Views.{NodeView, RuleView}
 use Rattle.maid_model.proofs.Setting.{Among, HasTables}
 use Rattle.maid_model.proofs.Sums.{sum_below_cong}
 use Rattle.maid_laws.specs.Exchange.{weight_at, IsBestInBase, IsBestInBases, Exchange}
+use Rattle.maid_laws.proofs.Booleans.{eqb_yes}
 use Rattle.maid_laws.proofs.FromStarts.{exchange_at}
-use Rattle.maid_laws.proofs.Basis.{eqb_yes, among_filter_in}
+use Rattle.maid_laws.proofs.Basis.{among_filter_in}
 use Rattle.maid_laws.proofs.Histories.{in_start}
 use Rattle.maid_laws.proofs.Listings.{start_of, gain_same, mass_same}
 use Rattle.maid_laws.proofs.Members.{among_of, contains_of}

@@ -13,7 +13,8 @@ use Rattle.maid_model.specs.Views.{NodeView, RuleView}
 use Rattle.maid_model.proofs.Ints.{mul_comm, mul_assoc, zero_mul, one_mul, mul_one, mul_zero}
 use Rattle.maid_model.proofs.Sums.{sum_over_cong, sum_over_mul}
 use Rattle.maid_model.proofs.Lists.{sum_over-shuffled, product_over-shuffled}
-use Rattle.maid_laws.proofs.Basis.{Setup, eqb_yes, eqb_no}
+use Rattle.maid_laws.proofs.Booleans.{eqb_yes, eqb_no}
+use Rattle.maid_laws.proofs.Basis.{Setup}
 use Rattle.maid_laws.proofs.Best.{product_over-times, product_zero_at, products_positive, cancel_le}
 use Rattle.maid_laws.proofs.Collapse.{one_if, agree_rows, rows_agree}
 use Rattle.maid_laws.proofs.Decided.{not_not_dec, by_contradiction, le_stable}

@@ -7,7 +7,8 @@ use Rattle.maid_model.specs.Sums.{World, product_over}
 use Rattle.maid_model.proofs.Setting.{Among}
 use Rattle.maid_model.proofs.Tables.{Avoids}
 use Rattle.maid_model.proofs.Ints.{one_mul}
-use Rattle.maid_laws.proofs.Basis.{eqb_yes, eqb_no, product_over-cong}
+use Rattle.maid_laws.proofs.Booleans.{eqb_yes, eqb_no, eqb_same}
+use Rattle.maid_laws.proofs.Basis.{product_over-cong}
 use Rattle.maid_laws.proofs.Collapse.{Apart}
 use Rattle.maid_laws.proofs.Members.{among_index, not_among}
 
@@ -16,9 +17,6 @@ abbrev pub in_start : List ℕ → List ℕ → ℕ → Bool
 in_start order [] v = false
 in_start [] (x ∷ history) v = false
 in_start (u ∷ order) (x ∷ history) v = eqb u v || in_start order history v
-
-pub eqb_same : (a b : ℕ) → eqb a b ≡ true → a ≡ b
-eqb_same a b h = grind (arith, nat_tests)
 
 or_right : (a : Bool) {b : Bool} → b ≡ true → (a || b) ≡ true
 or_right true h = refl

@@ -42,3 +42,4 @@ pub mod TotalLaws
 pub mod SeparationLaws
 pub mod WalkLaws
 pub mod Small
+pub mod Booleans

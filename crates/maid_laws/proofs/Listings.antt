@@ -18,13 +18,14 @@ use Rattle.maid_model.proofs.Tables.{Avoids}
 use Rattle.maid_model.proofs.Lists.{among_filter, product_over-shuffled}
 use Rattle.maid_model.proofs.Totals.{product_over-append}
 use Rattle.maid_model.proofs.Ints.{mul_one}
-use Rattle.maid_laws.proofs.Basis.{eqb_yes, among_filter_in, product_over-cong}
+use Rattle.maid_laws.proofs.Booleans.{eqb_yes, eqb_same, bool_same, all_at, at_all}
+use Rattle.maid_laws.proofs.Basis.{among_filter_in, product_over-cong}
 use Rattle.maid_laws.proofs.Collapse.{Apart}
-use Rattle.maid_laws.proofs.Histories.{in_start, start_at, in_start_at, history_at, history_range, agrees_at, agrees_all, start_product, at_map, length_first, extends_map, map_extends, among_take, eqb_same}
+use Rattle.maid_laws.proofs.Histories.{in_start, start_at, in_start_at, history_at, history_range, agrees_at, agrees_all, start_product, at_map, length_first, extends_map, map_extends, among_take}
 use Rattle.maid_laws.proofs.Members.{contains_of, among_of, apart_of, among_index, index_of, arc_of, parent_of}
 use Rattle.maid_laws.proofs.Notions.{IsParent, IsStart, extends, gain_from_start, mass_from_start}
 use Rattle.maid_laws.proofs.Proportions.{kind_of_utility}
-use Rattle.maid_laws.proofs.Rearranged.{shuffled_of, apart_append, among_append, among_left, among_right, range_apart, apart_filter, in_range, among_range}
+use Rattle.maid_laws.proofs.Rearranged.{number, numbered, shuffled_of, apart_append, among_append, among_left, among_right, range_apart, apart_filter, in_range, among_range}
 use Rattle.maid_laws.proofs.Signs.{pos_product}
 use Rattle.maid_laws.proofs.Tied.{kind_within, decision_of}
 
@@ -39,12 +40,6 @@ utility_or_not : (k : Kind) → (k ≡ Utility) ⊎ (k ≢ Utility)
 utility_or_not Chance = inr (λ e. cc)
 utility_or_not Decision = inr (λ e. cc)
 utility_or_not Utility = inl refl
-
-number : (nodes : List NodeView) (v : ℕ) → v < length nodes → Among v (numbers_of nodes)
-number nodes v l = in_range 0 (length nodes) v (omega arith) (omega arith)
-
-numbered : (nodes : List NodeView) (v : ℕ) → Among v (numbers_of nodes) → v < length nodes
-numbered nodes v m = let l : v < 0 + length nodes = among_range 0 (length nodes) v m in omega arith
 
 -- the nodes in text order, rearranged: those of the list, and the utilities
 pub listed : (nodes : List NodeView) (order : List ℕ) → IsListing nodes order → Shuffled (numbers_of nodes) (order ++ utilities nodes)
@@ -94,24 +89,6 @@ module _ (nodes : List NodeView) (g : IsGraph nodes) (order start : List ℕ) (l
       one : (b : Bool) (v : ℕ) → (node_at nodes v).kind ≡ Utility → cond b (pos 1) (f v) ≡ pos 1
       one true v k = refl
       one false v k = h v k
-
-  bool_same : (a b : Bool) → (a ≡ true → b ≡ true) → (b ≡ true → a ≡ true) → a ≡ b
-  bool_same true b f h = sym (f refl)
-  bool_same false true f h = h refl
-  bool_same false false f h = refl
-
-  all_at : (p : ℕ → Bool) (vs : List ℕ) → list_all p vs ≡ true → (v : ℕ) → Among v vs → p v ≡ true
-  all_at p [] h v m = absurd m
-  all_at p (x ∷ xs) h v m = go (p x) refl h m (λ k n. all_at p xs k v n)
-    where
-      go : (b : Bool) → p x ≡ b → (b && list_all p xs) ≡ true → (v ≡ x) ⊎ Among v xs → (list_all p xs ≡ true → Among v xs → p v ≡ true) → p v ≡ true
-      go true e k (inl f) r = ap p f ∙ e
-      go true e k (inr n) r = r k n
-      go false e k n r = absurd (no_true k)
-
-  at_all : (p : ℕ → Bool) (vs : List ℕ) → ((v : ℕ) → Among v vs → p v ≡ true) → list_all p vs ≡ true
-  at_all p [] h = refl
-  at_all p (x ∷ xs) h = ap (λ b. b && list_all p xs) (h x (inl refl)) ∙ at_all p xs (λ v m. h v (inr m))
 
   -- worlds that extend the start agree with the history
   extends_same : (w : World) → extends nodes (in_start order start) (world_of_history order start) w ≡ agrees order start w

@@ -15,7 +15,8 @@ use Rattle.maid_model.proofs.Ints.{mul_comm, mul_one, add_mul, mul_add}
 use Rattle.maid_model.proofs.Sums.{sum_over_add, Ignores-add}
 use Rattle.maid_model.proofs.Tables.{row_from_other}
 use Rattle.maid_model.proofs.Lists.{avoids}
-use Rattle.maid_laws.proofs.Basis.{Setup, Totals, Tells, eqb_yes}
+use Rattle.maid_laws.proofs.Booleans.{eqb_yes, not_both}
+use Rattle.maid_laws.proofs.Basis.{Setup, Totals, Tells}
 use Rattle.maid_laws.proofs.Collapse.{one_if}
 use Rattle.maid_laws.proofs.Leads.{Below, child, further}
 use Rattle.maid_laws.proofs.Notions.{IsParent}
@@ -51,9 +52,6 @@ module _ (nodes : List NodeView) (order : List ℕ) (setup : Setup nodes order) 
     rest_ignores : (agent u : ℕ) → ¬ ¬ (FromD nodes d u) → Ignores (states_of nodes) (rest_utility agent) u
     rest_ignores agent u n = each (numbers_of nodes)
       where
-        not_both : (b : Bool) → b ≡ true → b ≡ false → ⊥
-        not_both b e f = let g : true ≡ false = sym e ∙ f in cc
-
         next : (v : ℕ) → FromD nodes d u → IsParent nodes u v → Below (IsParent nodes) d v
         next v (inl e) a = child (subst (λ z. IsParent nodes z v) e a)
         next v (inr b) a = further b a

@@ -16,8 +16,9 @@ use Rattle.maid_model.proofs.Sums.{sum_over_cong, sum_over_ignores, with_same, w
 use Rattle.maid_model.proofs.Tables.{Avoids, table-total}
 use Rattle.maid_model.proofs.Totals.{Ignores-product}
 use Rattle.maid_model.proofs.Lists.{avoids, decide_among, each_ignored, product_over-shuffled, sum_over-shuffled}
+use Rattle.maid_laws.proofs.Booleans.{eqb_yes, eqb_no}
 use Rattle.maid_laws.proofs.Notions.{IsParent}
-use Rattle.maid_laws.proofs.Basis.{Setup, Totals, Tells, LooksAtParents, table_looks, eqb_yes, eqb_no, table_same, product_over-cong}
+use Rattle.maid_laws.proofs.Basis.{Setup, Totals, Tells, LooksAtParents, table_looks, table_same, product_over-cong}
 use Rattle.maid_laws.proofs.Collapse.{one_if, one_if-cond, agree, Apart, rows_agree, agree_rows}
 use Rattle.maid_laws.proofs.Leads.{Leads, Reaches, at_given, Below, child, below_leads}
 use Rattle.maid_laws.proofs.Grouped.{cross}

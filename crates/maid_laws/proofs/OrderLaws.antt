@@ -20,7 +20,7 @@ use Rattle.maid_laws.proofs.Orders.{ordered, parent_dec, parents_path, parents_f
 use Rattle.maid_laws.proofs.Paths.{leads_path, path_below}
 use Rattle.maid_laws.proofs.Proportions.{kind_of_utility}
 use Rattle.maid_laws.proofs.Ranks.{arc_inside, below_descends}
-use Rattle.maid_laws.proofs.Rearranged.{apart_shuffled, range_apart, apart_filter, in_range, among_range, among_shuffled, among_unshuffled}
+use Rattle.maid_laws.proofs.Rearranged.{number, numbered, apart_shuffled, range_apart, apart_filter, in_range, among_range, among_shuffled, among_unshuffled}
 use Rattle.maid_laws.proofs.Sorted.{First, sorted}
 use Rattle.maid_laws.proofs.Grouped.{passes_not}
 
@@ -49,21 +49,15 @@ one_place (x ∷ xs) a (suc i) zero l m e = absurd (not_among x xs a.0 (subst (�
 one_place (x ∷ xs) a (suc i) (suc j) l m e = ap suc (one_place xs a.1 i j (omega arith) (omega arith) e)
 
 module _ (nodes : List NodeView) (known : (u v : ℕ) → Arc nodes u v → u < length nodes) where
-  number : (v : ℕ) → v < length nodes → Among v (numbers_of nodes)
-  number v l = in_range 0 (length nodes) v (omega arith) (omega arith)
-
-  numbered : (v : ℕ) → Among v (numbers_of nodes) → v < length nodes
-  numbered v m = let l : v < 0 + length nodes = among_range 0 (length nodes) v m in omega arith
-
   listed : IsAcyclic (Arc nodes) → (order : List ℕ) × IsParentsFirst nodes order
   listed acyclic =
       let r = sorted (IsParent nodes) (parent_dec nodes) (λ v h. acyclic v (h.0, arc_of nodes v h.0 h.1, parents_path nodes h.2)) (numbers_of nodes) in
       let apart : Apart r.0 = apart_shuffled r.1 (range_apart 0 (length nodes)) in
-      let all : (v : ℕ) → v < length nodes → Among v r.0 = (λ v l. among_shuffled v r.1 (number v l)) in (
+      let all : (v : ℕ) → v < length nodes → Among v r.0 = (λ v l. among_shuffled v r.1 (number nodes v l)) in (
         r.0,
         record {
           all = λ v l. contains_of v r.0 (all v l);
-          within = λ v c. numbered v (among_unshuffled v r.1 (among_of v r.0 c));
+          within = λ v c. numbered nodes v (among_unshuffled v r.1 (among_of v r.0 c));
           once = different_of r.0 apart;
           parents_first = λ i u l a. contains_of u (take i r.0)
               (parent_before nodes (λ v b. acyclic v (v, arc_of nodes v v b, Here)) r.0 (parents_first_of nodes r.0 apart r.2) i u l (parent_of nodes u (slice_index r.0 i) a) (all u (known u (slice_index r.0 i) a)));

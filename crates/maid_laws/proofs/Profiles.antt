@@ -15,7 +15,7 @@ use Rattle.maid_model.specs.Views.{NodeView, RuleView}
 use Rattle.maid_model.proofs.Sums.{sum_below_cong}
 use Rattle.maid_model.proofs.Tables.{row_of-below, step_below}
 use Rattle.maid_model.proofs.Lists.{decide_among}
-use Rattle.maid_laws.proofs.Basis.{eqb_yes, eqb_no}
+use Rattle.maid_laws.proofs.Booleans.{eqb_yes, eqb_no}
 
 -- p with the rule of s at d
 abbrev pub put_rule : ℕ → List RuleView → List RuleView → List RuleView
@@ -101,7 +101,7 @@ module _ (nodes : List NodeView) where
   ones_not_negative (suc n) zero = omega (arith, ints)
   ones_not_negative (suc n) (suc i) = ones_not_negative n i
 
-  sum_ones : (n : ℕ) → sum_below n (λ s. pos 1) ≡ pos n
+  pub sum_ones : (n : ℕ) → sum_below n (λ s. pos 1) ≡ pos n
   sum_ones zero = refl
   sum_ones (suc n) = omega (arith, ints, sum_ones n)
 

@@ -17,6 +17,7 @@ use Rattle.maid_model.proofs.Ints.{zero_mul, mul_zero, mul_add, add_mul}
 use Rattle.maid_model.proofs.Sums.{sum_over_cong, sum_over_add, sum_below_zero, sum_below_cong, with_same, with_other, with_in}
 use Rattle.maid_model.proofs.Tables.{Avoids, row_from_other, row_of-below}
 use Rattle.maid_model.proofs.Lists.{avoids, among_filter, decide_among}
+use Rattle.maid_laws.proofs.Booleans.{eqb_same}
 use Rattle.maid_laws.proofs.Notions.{IsParent}
 use Rattle.maid_laws.proofs.Basis.{Setup, Totals, Tells}
 use Rattle.maid_laws.proofs.Decided.{tests, by_contradiction}
@@ -112,9 +113,6 @@ and_right : (a b : Bool) → (a && b) ≡ true → b ≡ true
 and_right true b h = h
 and_right false b h = let e : true ≡ false = sym h in cc
 
-same_number : (x y : ℕ) → eqb x y ≡ true → x ≡ y
-same_number x y h = grind (arith, nat_tests)
-
 pub kind_of_utility : (k : Kind) → is_utility k ≡ true → k ≡ Utility
 kind_of_utility Chance h = cc
 kind_of_utility Decision h = cc
@@ -175,7 +173,7 @@ module _ (nodes : List NodeView) (order : List ℕ) (setup : Setup nodes order) 
           (record {
             within = subst (λ n. v < n) (zero_plus (length nodes)) l;
             kind = kind_of_utility (node_at nodes v).kind (and_left (is_utility (node_at nodes v).kind) (eqb (node_at nodes v).owner (node_at nodes d).owner) f);
-            owner = same_number (node_at nodes v).owner (node_at nodes d).owner (and_right (is_utility (node_at nodes v).kind) (eqb (node_at nodes v).owner (node_at nodes d).owner) f);
+            owner = eqb_same (node_at nodes v).owner (node_at nodes d).owner (and_right (is_utility (node_at nodes v).kind) (eqb (node_at nodes v).owner (node_at nodes d).owner) f);
             below = leads_path nodes (length nodes) d v e;
           })
           (λ w. slice_index_or (node_at nodes v).cells (row_of nodes v w) (pos 0)) (cell_ignores v))

@@ -16,9 +16,8 @@ use Rattle.maid_model.specs.Views.{NodeView, AnswerView, RuleView}
 use Rattle.maid_model.proofs.Setting.{Among}
 use Rattle.maid_model.proofs.Sums.{sum_below_cong}
 use Rattle.maid_model.proofs.Ints.{mul_one}
-use Rattle.maid_laws.proofs.Basis.{eqb_yes}
+use Rattle.maid_laws.proofs.Booleans.{eqb_yes, eqb_same}
 use Rattle.maid_laws.proofs.Collapse.{one_if, sum_below_at}
-use Rattle.maid_laws.proofs.Histories.{eqb_same}
 use Rattle.maid_laws.proofs.Rearranged.{length_range}
 use Rattle.maid_laws.proofs.Rules.{weights_map, total_map, decisions_map, among_decisions}
 use Rattle.maid_laws.proofs.Signs.{at_pos}

@@ -16,6 +16,7 @@ use Rattle.maid_model.specs.Views.{NodeView, RuleView}
 use Rattle.maid_model.proofs.Ints.{mul_comm, mul_one, products}
 use Rattle.maid_model.proofs.Tables.{TableSums}
 use Rattle.maid_model.proofs.Lists.{among_filter}
+use Rattle.maid_laws.proofs.Booleans.{not_both}
 use Rattle.maid_laws.proofs.Basis.{Setup, Tells, table_same, among_filter_in}
 use Rattle.maid_laws.proofs.Best.{best_gain_at, cancel_le, products_positive}
 use Rattle.maid_laws.proofs.Collapse.{one_if}
@@ -62,9 +63,6 @@ module _ (nodes : List NodeView) (g : OrderedGraph nodes) (s : List RuleView) (c
   -- the product of the totals of the nodes after the start
   abbrev mass_after : List RuleView → ℤ
   mass_after p = product_over (total_from started (λ v. pos (weight_total nodes p v))) g.order
-
-  not_both : (b : Bool) → b ≡ true → b ≡ false → ⊥
-  not_both b h k = let f : true ≡ false = sym h ∙ k in cc
 
   module _ (d : ℕ) (d_in : d < length nodes) (d_kind : (node_at nodes d).kind ≡ Decision) (d_later : started d ≡ false) (r : List RuleView) (hr : HasTables nodes r) (relied : (e : ℕ) → ReliesOn nodes d e → weights_of r e ≡ weights_of s e) where
     starters : List ℕ

@@ -8,8 +8,9 @@ use Rattle.maid_model.specs.Nodes.{node_at, no_node}
 use Rattle.maid_model.specs.Relevance.{IsFixed}
 use Rattle.maid_model.specs.Views.{NodeView}
 use Rattle.maid_model.proofs.Setting.{Among, ParentsFirst}
+use Rattle.maid_laws.proofs.Booleans.{eqb_yes}
 use Rattle.maid_laws.proofs.Notions.{IsParent}
-use Rattle.maid_laws.proofs.Basis.{Setup, eqb_yes}
+use Rattle.maid_laws.proofs.Basis.{Setup}
 use Rattle.maid_laws.proofs.Leads.{Below, child, further}
 
 abbrev pub place : ℕ → List ℕ → ℕ

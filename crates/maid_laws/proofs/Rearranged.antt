@@ -1,6 +1,8 @@
 -- Rearranged lists, lists of the first numbers, and filtered lists.
 use Rattle.std.proofs.Common.{◌≡◌, ◌≢◌, ◌⊎◌, ◌∙◌, ℕ, zero, suc, ◌+◌, ◌<◌, ◌≤◌, Bool, true, false, cond, filter, List, [], ◌∷◌, ◌++◌, length, refl, sym, ap, subst, inl, inr, arith}
 use Rattle.std.specs.List.{range_with_len}
+use Rattle.maid_model.specs.Nodes.{numbers_of}
+use Rattle.maid_model.specs.Views.{NodeView}
 use Rattle.maid_model.proofs.Setting.{Among, Shuffled, none, put}
 use Rattle.maid_model.proofs.Tables.{Avoids}
 use Rattle.maid_model.proofs.Lists.{avoids, among_filter}
@@ -103,6 +105,13 @@ pub not_avoided : (u : ℕ) (xs : List ℕ) → Avoids u xs → Among u xs → �
 not_avoided u [] a m = m
 not_avoided u (x ∷ xs) a (inl e) = a.0 (sym e)
 not_avoided u (x ∷ xs) a (inr m) = not_avoided u xs a.1 m
+
+-- the numbers of the nodes
+pub number : (nodes : List NodeView) (v : ℕ) → v < length nodes → Among v (numbers_of nodes)
+number nodes v l = in_range 0 (length nodes) v (omega arith) (omega arith)
+
+pub numbered : (nodes : List NodeView) (v : ℕ) → Among v (numbers_of nodes) → v < length nodes
+numbered nodes v m = let l : v < 0 + length nodes = among_range 0 (length nodes) v m in omega arith
 
 -- ---- lists put together
 pub among_left : (v : ℕ) (xs ys : List ℕ) → Among v xs → Among v (xs ++ ys)

@@ -6,6 +6,7 @@ use Rattle.maid_model.specs.Nodes.{IsDecision, node_at, is_utility}
 use Rattle.maid_model.specs.Relevance.{IsLive, IsFixed, IsGoal, ReliesOn}
 use Rattle.maid_model.specs.Views.{NodeView}
 use Rattle.maid_model.specs.Walks.{IsReachedFromParent}
+use Rattle.maid_laws.proofs.Booleans.{not_both}
 use Rattle.maid_laws.proofs.Notions.{IsParent}
 use Rattle.maid_laws.proofs.Basis.{Setup}
 use Rattle.maid_laws.proofs.Leads.{Leads, more_arcs}
@@ -35,9 +36,6 @@ module _ (nodes : List NodeView) (order : List ℕ) (setup : Setup nodes order) 
   -- a utility is no parent
   pub no_utility_child : (goal : ℕ) → (node_at nodes goal).kind ≡ Utility → (c : ℕ) → ¬ (IsParent nodes goal c)
   no_utility_child goal k c a = not_both (is_utility (node_at nodes goal).kind) (ap is_utility k) (setup.parent_kind goal c a)
-    where
-      not_both : (b : Bool) → b ≡ true → b ≡ false → ⊥
-      not_both b e f = let g : true ≡ false = sym e ∙ f in cc
 
   -- for any given nodes, steps from a node to a utility and active walks from its extra parent are one
   module _ (Given Fixed : ℕ → Type 0) (same : (x : ℕ) → Given x ↔ Fixed x) (goal v : ℕ) (goal_in : goal < length nodes) (goal_kind : (node_at nodes goal).kind ≡ Utility) (v_in : v < length nodes) where

@@ -11,7 +11,7 @@ use Rattle.maid_model.proofs.Setting.{HasTables}
 use Rattle.std.proofs.Math.Decide.{dec_lt}
 use Rattle.maid_model.proofs.Ints.{zero_mul}
 use Rattle.maid_model.proofs.Sums.{sum_over_cong}
-use Rattle.maid_laws.proofs.Basis.{eqb_no}
+use Rattle.maid_laws.proofs.Booleans.{eqb_no}
 use Rattle.maid_laws.proofs.Proportions.{sum_over_zero}
 use Rattle.maid_laws.specs.Irrelevance.{Irrelevance, MassAtEachState, NoGainWithoutMass, mass_at_state}
 use Rattle.maid_laws.proofs.Best.{mass_state_same, zero_gain, zero_mass, mass_not_negative}

@@ -13,9 +13,10 @@ use Rattle.maid_model.specs.Views.{NodeView, RuleView}
 use Rattle.maid_model.proofs.Setting.{Among}
 use Rattle.maid_model.proofs.Lists.{among_filter}
 use Rattle.maid_model.proofs.Tables.{row_of-below, step_below}
-use Rattle.maid_laws.proofs.Basis.{eqb_yes, eqb_no, among_filter_in}
+use Rattle.maid_laws.proofs.Booleans.{eqb_yes, eqb_no}
+use Rattle.maid_laws.proofs.Basis.{among_filter_in}
 use Rattle.maid_laws.proofs.Profiles.{uniform_table, ones_at}
-use Rattle.maid_laws.proofs.Rearranged.{in_range, among_range}
+use Rattle.maid_laws.proofs.Rearranged.{number}
 use Rattle.maid_laws.proofs.Tied.{decision_of}
 
 -- ---- rules looked up
@@ -44,7 +45,7 @@ module _ (f : ℕ → RuleView) (own : (v : ℕ) → (f v).decision ≡ v) where
 
 -- ---- the decisions
 pub among_decisions : (nodes : List NodeView) (v : ℕ) → IsDecision nodes v → Among v (decisions_of nodes)
-among_decisions nodes v d = among_filter_in (λ v. is_decision (node_at nodes v).kind) v (numbers_of nodes) (in_range 0 (length nodes) v (omega arith) (let l : v < length nodes = d.within in omega arith)) (ap is_decision d.kind)
+among_decisions nodes v d = among_filter_in (λ v. is_decision (node_at nodes v).kind) v (numbers_of nodes) (number nodes v d.within) (ap is_decision d.kind)
 
 pub decision_kind : (k : Kind) → is_decision k ≡ true → k ≡ Decision
 decision_kind Chance h = cc

@@ -19,18 +19,19 @@ use Rattle.maid_model.proofs.Sums.{sum_below_cong, sum_over_cong, with_same, wit
 use Rattle.maid_model.proofs.Tables.{Avoids}
 use Rattle.maid_laws.specs.Separation.{IsUtility, IsFixedBy, Matters, HasWalk, LooksAt, SharedNodeJoins, IsSplit, SplitExists, agrees_at_fixed, total_without, product_without, SumsSeparate}
 use Rattle.maid_laws.specs.Sums.{Overlooks}
-use Rattle.maid_laws.proofs.Basis.{Setup, Tells, tells_true, eqb_yes, eqb_no}
+use Rattle.maid_laws.proofs.Booleans.{eqb_yes, eqb_no, eqb_same, not_both, all_at, at_all}
+use Rattle.maid_laws.proofs.Basis.{Setup, Tells, tells_true}
 use Rattle.maid_laws.proofs.Collapse.{one_if, one_if-cond, agree, Apart}
 use Rattle.maid_laws.proofs.Decided.{tests}
-use Rattle.maid_laws.proofs.Histories.{eqb_same}
 use Rattle.maid_laws.proofs.Leads.{Leads, Reaches, at_given, at_goal, onward, separated}
 use Rattle.maid_laws.proofs.Members.{arc_of, parent_of, not_among}
 use Rattle.maid_laws.proofs.Notions.{IsParent, OrderedGraph}
 use Rattle.maid_laws.proofs.OneUtility.{table_but, but_own, but_looks, but_total, agree_cases}
 use Rattle.maid_laws.proofs.Ordered.{setup_of}
 use Rattle.maid_laws.proofs.Orders.{ordered}
+use Rattle.maid_laws.proofs.Profiles.{sum_ones}
 use Rattle.maid_laws.proofs.Ranks.{past_end}
-use Rattle.maid_laws.proofs.Rearranged.{apart_filter, range_apart, in_range, among_range, shuffled_filter}
+use Rattle.maid_laws.proofs.Rearranged.{number, numbered, apart_filter, range_apart, in_range, among_range, shuffled_filter}
 use Rattle.maid_laws.proofs.Relies.{no_utility_child, walk_of_steps, steps_of_walk}
 use Rattle.maid_laws.proofs.TwoSums.{live_in_F, in_F, in_O, sum_separated}
 use Rattle.maid_laws.proofs.Signs.{pos_product}
@@ -83,9 +84,6 @@ shared_law nodes fixed goal v y x g u lv my lx free sv sy h =
     setup : Setup nodes o.order
     setup = setup_of nodes o
 
-    not_both : (b : Bool) → b ≡ true → b ≡ false → ⊥
-    not_both b e f = let k : true ≡ false = sym e ∙ f in cc
-
     looks : {z : ℕ} → LooksAt nodes z x → (x ≡ z) ⊎ IsParent nodes x z
     looks (inl e) = inl e
     looks {z} (inr a) = inr (parent_of nodes x z a)
@@ -102,15 +100,6 @@ sum_from count (v ∷ vs) f w x h =
     at u s a (yes e) = ap (with_state w v s) e ∙ with_same w v s ∙ sym (ap (with_state x v s) e ∙ with_same x v s)
     at u s a (no n) = with_other w v s u n ∙ h u ((λ e. n (sym e)), a) ∙ sym (with_other x v s u n)
 
-sum_ones : (n : ℕ) → sum_below n (λ s. pos 1) ≡ pos n
-sum_ones zero = refl
-sum_ones (suc n) = omega (arith, ints, sum_ones n)
-
-bool_same : (a b : Bool) → (a ≡ true → b ≡ true) → (b ≡ true → a ≡ true) → a ≡ b
-bool_same true b f h = sym (f refl)
-bool_same false true f h = h refl
-bool_same false false f h = refl
-
 module _ (nodes : List NodeView) (p : List RuleView) (d : ℕ) (fixed : ℕ → Bool) (goal : ℕ) (matters joined : ℕ → Bool) (f : World → ℤ) (q : World)
     (g : IsGraph nodes) (t : HasTables nodes p) (u : IsUtility nodes goal) (split : IsSplit nodes fixed goal matters joined)
     (f_looks : (u : ℕ) → (Arc nodes u goal → ⊥) → Overlooks (states_of nodes) f u) (iq : InRange (states_of nodes) q) where
@@ -126,17 +115,14 @@ module _ (nodes : List NodeView) (p : List RuleView) (d : ℕ) (fixed : ℕ → 
   live_steps : (v : ℕ) → Matters nodes fixed goal v → IsLive nodes v × Reaches (IsParent nodes) (IsLive nodes) (IsFixedBy fixed) goal v
   live_steps v m = (m.live, matters_steps nodes fixed goal m)
 
-  no_true : (b : Bool) → b ≡ true → b ≡ false → ⊥
-  no_true b e k = let x : true ≡ false = sym e ∙ k in cc
-
   tells_keep : Tells matters (λ v. IsLive nodes v × Reaches (IsParent nodes) (IsLive nodes) (IsFixedBy fixed) goal v) (ordered nodes g).order
   tells_keep = record {
     yes = λ v m e. live_steps v ((split.matters_is v (setup.inside v m)).0 e);
-    no = λ v m e h. no_true (matters v) ((split.matters_is v (setup.inside v m)).1 (matters_of nodes fixed goal h.0 h.1)) e;
+    no = λ v m e h. not_both (matters v) ((split.matters_is v (setup.inside v m)).1 (matters_of nodes fixed goal h.0 h.1)) e;
   }
 
   tells_given : Tells fixed (IsFixedBy fixed) (ordered nodes g).order
-  tells_given = record { yes = λ v m e. e; no = λ v m e h. no_true (fixed v) h e }
+  tells_given = record { yes = λ v m e. e; no = λ v m e h. not_both (fixed v) h e }
 
   steps_of : (v : ℕ) → Matters nodes fixed goal v → HasWalk nodes fixed goal v → Leads (IsParent nodes) (IsLive nodes) (IsFixedBy fixed) goal true v
   steps_of v m h = steps_of_walk nodes (ordered nodes g).order setup (IsFixedBy fixed) (IsFixedBy fixed) (same_fixed fixed) goal v u.within u.kind m.live.within h
@@ -150,7 +136,7 @@ module _ (nodes : List NodeView) (p : List RuleView) (d : ℕ) (fixed : ℕ → 
   tells_first : Tells joined (Leads (IsParent nodes) (IsLive nodes) (IsFixedBy fixed) goal true) (filter matters (ordered nodes g).order)
   tells_first = record {
     yes = λ v m e. steps_of v (kept v m) ((split.joined_is v (kept v m)).0 e);
-    no = λ v m e h. no_true (joined v) ((split.joined_is v (kept v m)).1 (walk_of v (kept v m) h)) e;
+    no = λ v m e h. not_both (joined v) ((split.joined_is v (kept v m)).1 (walk_of v (kept v m) h)) e;
   }
 
   -- ---- the two sides
@@ -167,38 +153,19 @@ module _ (nodes : List NodeView) (p : List RuleView) (d : ℕ) (fixed : ℕ → 
       go (yes k) = h v (live_in_F nodes (ordered nodes g).order setup (IsFixedBy fixed) (fixed_dec fixed) goal goal_live u.kind matters fixed joined tells_keep tells_given tells_first v (record { within = l; states = inr k }) e)
       go (no n) = one_state (w v) (q v) (states_of nodes v) (iw.state v) (iq.state v) n
 
-  all_at : (r : ℕ → Bool) (vs : List ℕ) → list_all r vs ≡ true → (v : ℕ) → Among v vs → r v ≡ true
-  all_at r [] h v m = absurd m
-  all_at r (x ∷ xs) h v m = go (r x) refl h m (λ k n. all_at r xs k v n)
-    where
-      go : (b : Bool) → r x ≡ b → (b && list_all r xs) ≡ true → (v ≡ x) ⊎ Among v xs → (list_all r xs ≡ true → Among v xs → r v ≡ true) → r v ≡ true
-      go true e k (inl y) z = ap r y ∙ e
-      go true e k (inr n) z = z k n
-      go false e k n z = absurd (no_true false k refl)
-
-  at_all : (r : ℕ → Bool) (vs : List ℕ) → ((v : ℕ) → Among v vs → r v ≡ true) → list_all r vs ≡ true
-  at_all r [] h = refl
-  at_all r (x ∷ xs) h = ap (λ b. b && list_all r xs) (h x (inl refl)) ∙ at_all r xs (λ v m. h v (inr m))
-
-  number : (v : ℕ) → v < length nodes → Among v (numbers_of nodes)
-  number v l = in_range 0 (length nodes) v (omega arith) (omega arith)
-
-  numbered : (v : ℕ) → Among v (numbers_of nodes) → v < length nodes
-  numbered v m = let l : v < 0 + length nodes = among_range 0 (length nodes) v m in omega arith
-
   agrees_all : (w : World) → ((v : ℕ) → v < length nodes → fixed v ≡ true → w v ≡ q v) → agrees_at_fixed nodes fixed q w ≡ true
-  agrees_all w h = at_all (λ v. not (fixed v) || eqb (w v) (q v)) (numbers_of nodes) (λ v m. go v (numbered v m) (fixed v) refl)
+  agrees_all w h = at_all (λ v. not (fixed v) || eqb (w v) (q v)) (numbers_of nodes) (λ v m. go v (numbered nodes v m) (fixed v) refl)
     where
       go : (v : ℕ) → v < length nodes → (b : Bool) → fixed v ≡ b → (not b || eqb (w v) (q v)) ≡ true
       go v l true e = eqb_yes (w v) (q v) (h v l e)
       go v l false e = refl
 
   agrees_each : (w : World) → agrees_at_fixed nodes fixed q w ≡ true → (v : ℕ) → v < length nodes → fixed v ≡ true → w v ≡ q v
-  agrees_each w h v l e = eqb_same (w v) (q v) (part (fixed v) (eqb (w v) (q v)) e (all_at (λ v. not (fixed v) || eqb (w v) (q v)) (numbers_of nodes) h v (number v l)))
+  agrees_each w h v l e = eqb_same (w v) (q v) (part (fixed v) (eqb (w v) (q v)) e (all_at (λ v. not (fixed v) || eqb (w v) (q v)) (numbers_of nodes) h v (number nodes v l)))
     where
       part : (a b : Bool) → a ≡ true → (not a || b) ≡ true → b ≡ true
       part true b x y = y
-      part false b x y = absurd (no_true false x refl)
+      part false b x y = absurd (not_both false x refl)
 
   agree_same : (w : World) → InRange (states_of nodes) w → one_if (agrees_at_fixed nodes fixed q w) ≡ agree F q w
   agree_same w iw = go (agree_cases (filter fixed (filter matters (ordered nodes g).order)) q w) (agrees_at_fixed nodes fixed q w) refl
@@ -219,7 +186,7 @@ module _ (nodes : List NodeView) (p : List RuleView) (d : ℕ) (fixed : ℕ → 
       go (yes e) = record {
         sums = λ w i.
             (λ j. sum_below (states_of nodes v) (λ s. but_own nodes d p v e j (with_state w v s)))
-            ∙ sum_ones (states_of nodes v) ∙ ap pos (sym (ap (λ b. cond b (states_of nodes v) (weight_total nodes p v)) (eqb_yes v d e)));
+            ∙ sum_ones nodes (states_of nodes v) ∙ ap pos (sym (ap (λ b. cond b (states_of nodes v) (weight_total nodes p v)) (eqb_yes v d e)));
       }
       go (no n) = record {
         sums = λ w i.
@@ -263,7 +230,7 @@ module _ (nodes : List NodeView) (p : List RuleView) (d : ℕ) (fixed : ℕ → 
       less_one x c l e = omega arith
 
       go : Dec (v < length nodes) → 0 ≡ q v
-      go (yes l) = absurd (not_among v (numbers_of nodes) a (number v l))
+      go (yes l) = absurd (not_among v (numbers_of nodes) a (number nodes v l))
       go (no n) = less_one (q v) (states_of nodes v) (iq.state v) (ap (λ y. y.states) (past_end nodes v (past n)))
 
   -- one group's sum, with the nodes in text order
@@ -316,4 +283,4 @@ split_law nodes fixed goal none =
     })))
   where
     told : (r : ℕ → Bool) (P : ℕ → Type 0) → Tells r P (numbers_of nodes) → (v : ℕ) → v < length nodes → (r v ≡ true) ↔ P v
-    told r P t v l = let m = in_range 0 (length nodes) v (omega arith) (omega arith) in (t.yes v m, tells_true r P (numbers_of nodes) t v m)
+    told r P t v l = let m = number nodes v l in (t.yes v m, tells_true r P (numbers_of nodes) t v m)

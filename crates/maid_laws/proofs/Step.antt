@@ -14,7 +14,8 @@ use Rattle.maid_model.proofs.Ints.{mul_comm, mul_one, mul_add, add_mul, products
 use Rattle.maid_model.proofs.Sums.{sum_below_cong, sum_below_mul, sum_over_cong, sum_over_mul, with_same, with_other}
 use Rattle.maid_model.proofs.Tables.{row_of-below, table_ignores, table-total}
 use Rattle.maid_model.proofs.Lists.{avoids, among_filter}
-use Rattle.maid_laws.proofs.Basis.{Setup, Tells, Totals, among_filter_in, eqb_yes, eqb_no, product_over-cong, table_same, LooksAtParents}
+use Rattle.maid_laws.proofs.Booleans.{eqb_yes, eqb_no}
+use Rattle.maid_laws.proofs.Basis.{Setup, Tells, Totals, among_filter_in, product_over-cong, table_same, LooksAtParents}
 use Rattle.maid_laws.proofs.Collapse.{one_if, sum_below_at}
 use Rattle.maid_laws.proofs.Rearranged.{apart_filter}
 use Rattle.maid_laws.proofs.Signs.{product_not_negative}

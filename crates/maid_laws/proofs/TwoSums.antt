@@ -13,6 +13,7 @@ use Rattle.maid_laws.proofs.Basis.{Setup, Tells, LooksAtParents, later_general, 
 use Rattle.maid_laws.proofs.Collapse.{agree, Apart}
 use Rattle.maid_laws.proofs.Leads.{Leads, ends, Reaches, at_given, at_goal, onward, separated}
 use Rattle.maid_laws.proofs.Grouped.{grouped, passes_not}
+use Rattle.maid_laws.proofs.Relies.{no_utility_child}
 
 module _ (nodes : List NodeView) (order : List ℕ) (setup : Setup nodes order) (Fixed : ℕ → Type 0) (decide : (x : ℕ) → Dec (Fixed x))
     (goal : ℕ) (goal_live : IsLive nodes goal) (goal_kind : (node_at nodes goal).kind ≡ Utility)
@@ -86,10 +87,7 @@ module _ (nodes : List NodeView) (order : List ℕ) (setup : Setup nodes order) 
       (tells_true given Fixed order tells_given u m g)
 
   pub no_child : (c : ℕ) → ¬ (IsParent nodes goal c)
-  no_child c a = not_both (is_utility (node_at nodes goal).kind) (ap is_utility goal_kind) (setup.parent_kind goal c a)
-    where
-      not_both : (b : Bool) → b ≡ true → b ≡ false → ⊥
-      not_both b e f = let g : true ≡ false = sym e ∙ f in cc
+  no_child = no_utility_child nodes order setup goal goal_kind
 
   -- a free node that two kept tables look at puts both into one group
   apart : (x y z : ℕ) → G x → IsLive nodes x → Among z V → (z ≡ x) ⊎ IsParent nodes z x → (z ≡ y) ⊎ IsParent nodes z y → IsLive nodes y → R y → G y

@@ -5,6 +5,7 @@ use Rattle.maid_model.specs.Relevance.{IsLive}
 use Rattle.maid_model.specs.Walks.{IsJoined, MeetHeads, IsActive, last_of, IsReached}
 use Rattle.maid_laws.specs.Separation.{IsFixedBy}
 use Rattle.maid_laws.specs.Walks.{WalksTurn, ChildrenJoin}
+use Rattle.maid_laws.proofs.Booleans.{not_both}
 use Rattle.maid_laws.proofs.Leads.{child, below_leads}
 use Rattle.maid_laws.proofs.Members.{parent_of}
 use Rattle.maid_laws.proofs.Notions.{IsParent, OrderedGraph}
@@ -61,6 +62,3 @@ children_law nodes fixed goal d v g u free a m =
     let o : OrderedGraph nodes = ordered nodes g in
     walk_of_steps nodes o.order (setup_of nodes o) (IsFixedBy fixed) (IsFixedBy fixed) (λ x. ((λ k. k), (λ k. k))) goal v u.within u.kind m.live.within m.live
     (below_leads (IsParent nodes) (IsLive nodes) (IsFixedBy fixed) goal d (λ x b e. not_both (fixed x) e (free x (below_path nodes b))) (matters_steps nodes fixed goal m) (child (parent_of nodes d v a)))
-  where
-    not_both : (b : Bool) → b ≡ true → b ≡ false → ⊥
-    not_both b e f = let k : true ≡ false = sym e ∙ f in cc
