@@ -29,9 +29,11 @@ use Rattle.maid_laws.proofs.Rules.{uniform_like}
 use Rattle.maid_laws.proofs.Tied.{decision_of, tables_of}
 
 module _ (d : DiagramView) (solved : SolvedView) (g : IsGraph d.nodes) (c : HasChanceTables d.nodes) (f : FitsDiagram d solved) where
+  -- each decision has its answered rows
   fits : (v : ℕ) → IsDecision d.nodes v → FitsRows d.nodes v (rows_at solved.answers v)
   fits v k = fits_rows d.nodes solved.answers v f.answers (subst (λ l. Among v l) (sym f.follow) (among_of v solved.order (f.all v k)))
 
+  -- the answered rules are a profile
   pub profile : IsProfile d.nodes (pure_profile d.nodes solved.answers)
   profile = pure_is_profile d.nodes solved.answers fits
 
@@ -52,6 +54,7 @@ module _ (d : DiagramView) (solved : SolvedView) (g : IsGraph d.nodes) (c : HasC
     relied_first = relied;
   }
 
+-- the record of best choices gives the one of best weights
 pub choices_law : ChoicesAreBest
 choices_law d solved g c f relied best = best_in_bases d solved g c f relied best
 
@@ -61,9 +64,11 @@ best_law d solved g c a =
     best_in_bases d solved g c a.fits (λ i e l r. (a.order.placing i l).0.1 e r)
     (λ v k. record { base = (a.answers v k).base; is_base = (a.answers v k).is_base; best = λ row state l n p. ((((a.answers v k).each row l).best p).greatest state n) })
 
+-- the exchange, at the answer
 pub perfect_law : AnswersAreSubgamePerfect
 perfect_law d solved g c a = exchange_law d.nodes (answered d solved) g c (best_law d solved g c a)
 
+-- one agent, at the answer
 pub optimal_law : AnswersAreOptimal
 optimal_law d solved agent g c a owns = one_agent_law d.nodes (answered d solved) agent g (perfect_law d solved g c a) owns
 
@@ -85,12 +90,14 @@ base_zero nodes s base v b u n w i e = by_contradiction (table nodes s u w) (pos
     go (no m) = same_if (node_at nodes u).kind (node_at nodes u).cells (weights_of base u) (weights_of s u) (cell_of nodes u w)
         (λ k z. absurd (one_not_zero (sym (uniform_like nodes base u (decision_of nodes u k) ((b.others u (decision_of nodes u k) m).weights) w i) ∙ z))) e
 
+-- a positive factor on both sides cancels
 cancel_eq : (a c m : ℤ) → pos 0 <ℤ m → a *ℤ m ≡ c *ℤ m → a ≡ c
 cancel_eq a c m h e =
     let x : a ≤ℤ c = cancel_le a c m h (omega (arith, ints)) in
     let y : c ≤ℤ a = cancel_le c a m h (omega (arith, ints)) in
     omega (arith, ints)
 
+-- the size of a number not below nought is the number
 abs_times : (m : ℤ) (k : ℕ) → pos 0 ≤ℤ m → pos (nat_abs m * k) ≡ m *ℤ pos k
 abs_times (pos n) k h = omega (arith, ints)
 abs_times (negsuc n) k h = absurd (omega (arith, ints))
@@ -110,12 +117,14 @@ proportion num gb gs mb ms den k h e f =
     third : (gs mb den : ℤ) → (gs *ℤ mb) *ℤ den ≡ (gs *ℤ den) *ℤ mb
     third gs mb den = simp products
 
+-- what is not below nought is nought or positive
 positive_or_none : (m : ℤ) → pos 0 ≤ℤ m → (m ≡ pos 0) ⊎ (pos 0 <ℤ m)
 positive_or_none (pos zero) h = inl refl
 positive_or_none (pos (suc n)) h = inr (omega (arith, ints))
 positive_or_none (negsuc n) h = absurd (omega (arith, ints))
 
 module _ (nodes : List NodeView) (s base : List RuleView) (v : ℕ) (g : IsGraph nodes) (c : HasChanceTables nodes) (hs : IsProfile nodes s) (k : IsDecision nodes v) (b : IsBase nodes s v base) where
+  -- the tables of the profile and of its base
   tables_s : HasTables nodes s
   tables_s = tables_of nodes s g c hs
 
@@ -142,9 +151,11 @@ module _ (nodes : List NodeView) (s base : List RuleView) (v : ℕ) (g : IsGraph
         (ap (λ x. w.num *ℤ x) (sym (abs_times (mass_at nodes base v row) scale (mass_at_least nodes base v row g tables_b k.within))) ∙ h.same);
   }
 
+-- both parts, for any base
 pub base_law : WorthInBase
 base_law nodes s base v state row scale w g c hs k live b reached = (mass_in_base nodes s base v g c hs k b row reached, same_fraction nodes s base v g c hs k b state row scale w live reached)
 
+-- the base of an answer, and the worth that the answer states
 pub worth_law : WorthUnderTheProfile
 worth_law d solved v row g c a k live l reached =
     let hs : IsProfile d.nodes (answered d solved) = profile d solved g c a.fits in

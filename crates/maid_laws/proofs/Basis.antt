@@ -49,10 +49,12 @@ table_same Chance cells a b c h = refl
 table_same Decision cells a b c h = ap (λ ws. table_by Decision cells ws c) (h refl)
 table_same Utility cells a b c h = refl
 
+-- products of equal factors
 pub product_over-cong : (f g : ℕ → ℤ) (vs : List ℕ) → ((v : ℕ) → Among v vs → f v ≡ g v) → product_over f vs ≡ product_over g vs
 product_over-cong f g [] h = refl
 product_over-cong f g (v ∷ vs) h = (λ i. h v (inl refl) i *ℤ product_over-cong f g vs (λ u m. h u (inr m)) i)
 
+-- in a part of a list with parents first no table looks at a later node
 pub later_general : (nodes : List NodeView) (table : ℕ → World → ℤ) → LooksAtParents nodes table → (keep : ℕ → Bool) (vs : List ℕ) → ParentsFirst nodes vs → IgnoresLater (states_of nodes) table (filter keep vs)
 later_general nodes table h keep [] p = tt
 later_general nodes table h keep (v ∷ vs) p = go (keep v) (later_general nodes table h keep vs p.1)
@@ -61,10 +63,12 @@ later_general nodes table h keep (v ∷ vs) p = go (keep v) (later_general nodes
     go true r = (all_ignored (states_of nodes) (table v) (filter keep vs) (λ u m. let k = p.0 u (among_filter keep u vs m).0 in h.others v u k.0 k.1), r)
     go false r = r
 
+-- totals at each member are totals of the list
 pub have_totals : (count : ℕ → ℕ) (table : ℕ → World → ℤ) (total : ℕ → ℤ) (vs : List ℕ) → ((v : ℕ) → Among v vs → HasTotal count table total v) → HaveTotals count table total vs
 have_totals count table total [] h = tt
 have_totals count table total (v ∷ vs) h = (h v (inl refl), have_totals count table total vs (λ u m. h u (inr m)))
 
+-- a member that passes is kept
 pub among_filter_in : (p : ℕ → Bool) (x : ℕ) (xs : List ℕ) → Among x xs → p x ≡ true → Among x (filter p xs)
 among_filter_in p x [] m e = absurd m
 among_filter_in p x (y ∷ ys) (inl f) e = subst (λ b. Among x (cond b (y ∷ filter p ys) (filter p ys))) (sym (sym (ap p f) ∙ e)) (inl f)
@@ -74,6 +78,7 @@ among_filter_in p x (y ∷ ys) (inr m) e = go (p y) (among_filter_in p x ys m e)
     go true r = inr r
     go false r = r
 
+-- where P holds the test passes
 pub tells_true : (p : ℕ → Bool) (P : ℕ → Type 0) (xs : List ℕ) → Tells p P xs → (v : ℕ) → Among v xs → P v → p v ≡ true
 tells_true p P xs t v m h = go (p v) refl
   where

@@ -49,11 +49,13 @@ cross_le a c x y m n e f l hn hm =
     let h : n *ℤ y ≡ y *ℤ n = mul_comm n y in
     cancel_le a c m hm (omega (arith, ints))
 
+-- a number other than nought has a size
 abs_pos : (a : ℤ) → a ≢ pos 0 → 0 < nat_abs a
 abs_pos (pos zero) h = absurd (h refl)
 abs_pos (pos (suc n)) h = omega arith
 abs_pos (negsuc n) h = omega arith
 
+-- a product is nought only where a factor is
 product_zero : (a b : ℤ) → a *ℤ b ≡ pos 0 → (a ≡ pos 0) ⊎ (b ≡ pos 0)
 product_zero a b e = go (ℤ_discrete a (pos 0)) (ℤ_discrete b (pos 0))
   where
@@ -90,6 +92,7 @@ below_zero (suc n) f h =
     go a b e r i l (yes k) = ap f k ∙ omega (arith, ints)
     go a b e r i l (no k) = r (omega (arith, ints)) i (smaller i n l k)
 
+-- the same for a sum over worlds
 over_zero : (count : ℕ → ℕ) (vs : List ℕ) (f : World → ℤ) → ((x : World) → InRange count x → pos 0 ≤ℤ f x) → (w : World) → InRange count w
     → (pos 0 ≤ℤ sum_over count vs f w) × (sum_over count vs f w ≡ pos 0 → (x : World) → InRange count x → ((v : ℕ) → Avoids v vs → w v ≡ x v) → f x ≡ pos 0)
 over_zero count [] f h w i = (h w i, λ e x j a. subst (λ y. f y ≡ pos 0) (fun_ext (λ v. a v tt)) e)
@@ -102,6 +105,7 @@ over_zero count (v ∷ vs) f h w i =
     go x a u b (no n) = with_other w v (x v) u n ∙ a u ((λ e. n (sym e)), b)
 
 module _ (nodes : List NodeView) (order : List ℕ) (setup : Setup nodes order) (d : ℕ) (d_in : d < length nodes) where
+  -- the world of first states
   zero_range : InRange (states_of nodes) (λ v. 0)
   zero_range = record { state = setup.has_state }
 
@@ -113,12 +117,15 @@ module _ (nodes : List NodeView) (order : List ℕ) (setup : Setup nodes order) 
   abbrev pub state_table : List RuleView → ℕ → ℕ → World → ℤ
   state_table p s v w = cond (eqb v d) (one_if (eqb (w v) s)) (table nodes p v w)
 
+  -- such tables look at their parents alone
   pub state_looks : (p : List RuleView) (s : ℕ) → LooksAtParents nodes (state_table p s)
   state_looks p s = record { others = λ v u n a. record { same = λ w i x l. (λ z. cond (eqb v d) (one_if (eqb (with_other w u x v n z) s)) ((table_ignores nodes p v u n (avoids u (node_at nodes v).parents a)).same w i x l z)) } }
 
+  -- they add up to 1 at d
   abbrev pub state_total : (ℕ → ℤ) → ℕ → ℤ
   state_total total v = cond (eqb v d) (pos 1) (total v)
 
+  -- at d one state passes the test
   pub state_has_total : (p : List RuleView) (total : ℕ → ℤ) → Totals nodes p total → (s : ℕ) → s < states_of nodes d → (v : ℕ) → Among v order → HasTotal (states_of nodes) (state_table p s) (state_total total) v
   state_has_total p total t s l v m = record { sums = λ w i. go (ℕ_discrete v d) w i }
     where
@@ -133,6 +140,7 @@ module _ (nodes : List NodeView) (order : List ℕ) (setup : Setup nodes order) 
           ∙ (table-total nodes p total v (avoids v (node_at nodes v).parents (setup.not_own_parent v)) (t.at v (setup.inside v m))).sums w i
           ∙ sym (ap (λ b. cond b (pos 1) (total v)) (eqb_no v d n))
 
+  -- the test for the state is d's factor, and the one for the row is left
   pub split_at : (p : List RuleView) (s row : ℕ) (w : World) → cond (is_at nodes d s row w) (weight_without nodes p d w) (pos 0) ≡ one_if (eqb (row_of nodes d w) row) *ℤ product_over (λ v. state_table p s v w) order
   split_at p s row w =
       one_if-cond (is_at nodes d s row w) (weight_without nodes p d w)
@@ -178,11 +186,13 @@ pub product_over-times : (f g : ℕ → ℤ) (vs : List ℕ) → product_over (�
 product_over-times f g [] = refl
 product_over-times f g (v ∷ vs) = ap (λ x. (f v *ℤ g v) *ℤ x) (product_over-times f g vs) ∙ mul_swap (f v) (g v) (product_over f vs) (product_over g vs)
 
+-- one factor nought makes the product nought
 pub product_zero_at : (f : ℕ → ℤ) (v : ℕ) (vs : List ℕ) → Among v vs → f v ≡ pos 0 → product_over f vs ≡ pos 0
 product_zero_at f v [] m e = absurd m
 product_zero_at f v (x ∷ xs) (inl k) e = ap (λ y. y *ℤ product_over f xs) (ap f (sym k) ∙ e) ∙ zero_mul (product_over f xs)
 product_zero_at f v (x ∷ xs) (inr m) e = ap (λ y. f x *ℤ y) (product_zero_at f v xs m e) ∙ mul_zero (f x)
 
+-- positive factors make a positive product
 pub products_positive : (f : ℕ → ℤ) (vs : List ℕ) → ((v : ℕ) → pos 0 <ℤ f v) → pos 0 <ℤ product_over f vs
 products_positive f [] h = omega (arith, ints)
 products_positive f (v ∷ vs) h = times (f v) (product_over f vs) (h v) (products_positive f vs h)
@@ -201,6 +211,7 @@ module _ (nodes : List NodeView) (order : List ℕ) (setup : Setup nodes order) 
     (b_not_negative : (v : ℕ) (w : World) → pos 0 ≤ℤ table nodes b v w)
     (r0_not_negative : (v : ℕ) (w : World) → pos 0 ≤ℤ table nodes r0 v w)
     (zero_b : (v : ℕ) → v ≢ d → (w : World) → InRange (states_of nodes) w → table nodes b v w ≡ pos 0 → table nodes r0 v w ≡ pos 0) where
+  -- no weight without d's rule is below nought
   without_not_negative : (p : List RuleView) → ((v : ℕ) (w : World) → pos 0 ≤ℤ table nodes p v w) → (w : World) → pos 0 ≤ℤ weight_without nodes p d w
   without_not_negative p h w = products_not_negative (λ v. cond (eqb v d) (pos 1) (table nodes p v w)) (numbers_of nodes) (λ v m. go (eqb v d) (table nodes p v w) (h v w))
     where
@@ -208,6 +219,7 @@ module _ (nodes : List NodeView) (order : List ℕ) (setup : Setup nodes order) 
       go true z k = omega (arith, ints)
       go false z k = k
 
+  -- past the last node every world has state 0
   off_order : (x : World) → InRange (states_of nodes) x → (v : ℕ) → Avoids v order → 0 ≡ x v
   off_order x i v a = go (dec_lt v (length nodes))
     where
@@ -226,6 +238,7 @@ module _ (nodes : List NodeView) (order : List ℕ) (setup : Setup nodes order) 
       go (yes l) = absurd (not_in v order a (setup.all v l))
       go (no n) = less_one (x v) (states_of nodes v) (i.state v) (ap (λ y. y.states) (past_end nodes v (past n)))
 
+  -- nor is one that counts only in some worlds
   cond_not_negative : (c : Bool) (z : ℤ) → pos 0 ≤ℤ z → pos 0 ≤ℤ cond c z (pos 0)
   cond_not_negative true z h = h
   cond_not_negative false z h = omega (arith, ints)
@@ -273,6 +286,7 @@ module _ (nodes : List NodeView) (order : List ℕ) (setup : Setup nodes order) 
       go w i true k = ap (λ c. cond c (weight_without nodes r0 d w) (pos 0)) k ∙ weight_zero row 0 (setup.has_state d) e w i k
       go w i false k = ap (λ c. cond c (weight_without nodes r0 d w) (pos 0)) k
 
+  -- no mass of a row is below nought
   pub mass_not_negative : (p : List RuleView) → ((v : ℕ) (w : World) → pos 0 ≤ℤ table nodes p v w) → (row : ℕ) → pos 0 ≤ℤ mass_at nodes p d row
   mass_not_negative p h row = (over_zero (states_of nodes) (numbers_of nodes) (λ x. cond (is_at nodes d 0 row x) (weight_without nodes p d x) (pos 0)) (λ x j. cond_not_negative (is_at nodes d 0 row x) (weight_without nodes p d x) (without_not_negative p h x)) (λ v. 0) (record { state = setup.has_state })).0
 

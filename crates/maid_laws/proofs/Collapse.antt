@@ -16,12 +16,14 @@ use Rattle.maid_model.proofs.Tables.{Avoids}
 abbrev pub one_if : Bool → ℤ
 one_if b = cond b (pos 1) (pos 0)
 
+-- both tests hold where the product is 1
 pub one_if-and : (a b : Bool) → one_if (a && b) ≡ one_if a *ℤ one_if b
 one_if-and true true = refl
 one_if-and true false = refl
 one_if-and false true = refl
 one_if-and false false = refl
 
+-- a term that counts only where the test holds
 pub one_if-cond : (b : Bool) (x : ℤ) → cond b x (pos 0) ≡ one_if b *ℤ x
 one_if-cond true x = sym (one_mul x)
 one_if-cond false x = sym (zero_mul x)
@@ -67,10 +69,12 @@ abbrev pub Apart : List ℕ → Type 0
 Apart [] = Unit {0}
 Apart (o ∷ os) = Avoids o os × Apart os
 
+-- the test at o does not look at other nodes
 state_ignored : (count : ℕ → ℕ) (q : World) (o : ℕ) (us : List ℕ) → Avoids o us → IgnoresAll count (λ w. one_if (eqb (w o) (q o))) us
 state_ignored count q o [] h = tt
 state_ignored count q o (u ∷ us) h = (record { same = λ w i s l. ap (λ x. one_if (eqb x (q o))) (with_other w u s o (λ e. h.0 (sym e))) }, state_ignored count q o us h.1)
 
+-- the sum over the worlds that agree with q is the value at q
 pub collapse : (count : ℕ → ℕ) (os : List ℕ) (q : World) (h : World → ℤ) → InRange count q → Apart os → (w : World) → InRange count w → sum_over count os (λ x. agree os q x *ℤ h x) w ≡ h (fix os q w)
 collapse count [] q h iq a w i = one_mul (h w)
 collapse count (o ∷ os) q h iq a w i =
@@ -81,6 +85,7 @@ collapse count (o ∷ os) q h iq a w i =
     ∙ ap (λ t. one_if (eqb s (q o)) *ℤ t) (collapse count os q h iq a.1 (with_state w o s) (with_in count w o s i l)))
     ∙ sum_below_at (count o) (q o) (λ s. h (fix os q (with_state w o s))) (iq.state o)
 
+-- the fixed world is q at every node
 fix_at : (os : List ℕ) (q w : World) → ((v : ℕ) → Avoids v os → w v ≡ q v) → (v : ℕ) → fix os q w v ≡ q v
 fix_at [] q w h v = h v tt
 fix_at (o ∷ os) q w h v = fix_at os q (with_state w o (q o)) (λ u a. go u a (ℕ_discrete u o)) v
@@ -97,6 +102,7 @@ fix_is os q w h = fun_ext (fix_at os q w h)
 digits : (r s x y c : ℕ) → x < c → y < c → r * c + x ≡ s * c + y → (r ≡ s) × (x ≡ y)
 digits r s x y c h k e = (sym (div-mul-add r c x h) ∙ ap (λ n. n / c) e ∙ div-mul-add s c y k, sym (mod-mul-add r c x h) ∙ ap (λ n. n % c) e ∙ mod-mul-add s c y k)
 
+-- equal rows mean equal states of the parents
 pub rows_agree : (count : ℕ → ℕ) (w q : World) → InRange count w → InRange count q → (us : List ℕ) (r s : ℕ) → row_from count w r us ≡ row_from count q s us → (r ≡ s) × ((u : ℕ) → Among u us → w u ≡ q u)
 rows_agree count w q i j [] r s e = (e, λ u h. absurd h)
 rows_agree count w q i j (u ∷ us) r s e =
@@ -104,6 +110,7 @@ rows_agree count w q i j (u ∷ us) r s e =
     let d = digits r s (w u) (q u) (count u) (i.state u) (j.state u) h.0 in
     (d.0, λ x m. elim m [ inl f ↦ ap w f ∙ d.1 ∙ ap q (sym f) | inr k ↦ h.1 x k ])
 
+-- and equal states mean equal rows
 pub agree_rows : (count : ℕ → ℕ) (w q : World) (us : List ℕ) (r : ℕ) → ((u : ℕ) → Among u us → w u ≡ q u) → row_from count w r us ≡ row_from count q r us
 agree_rows count w q [] r h = refl
 agree_rows count w q (u ∷ us) r h = ap (λ x. row_from count w (r * count u + x) us) (h u (inl refl)) ∙ agree_rows count w q us (r * count u + q u) (λ x m. h x (inr m))

@@ -12,6 +12,7 @@ use Rattle.maid_laws.proofs.Basis.{Tells}
 pub not_not_dec : (P : Type 0) → ¬ ¬ (Dec P)
 not_not_dec P k = k (no (λ p. k (yes p)))
 
+-- by induction over the list: as long as the goal is false each member may be decided
 pub tests : (P : ℕ → Type 0) (xs : List ℕ) → ¬ ¬ ((p : ℕ → Bool) × Tells p P xs)
 tests P [] k = k ((λ v. true), record { yes = λ v m e. absurd m; no = λ v m e. absurd m })
 tests P (x ∷ xs) k = tests P xs (λ r. not_not_dec (P x) (λ d. k (more r d)))
@@ -70,6 +71,7 @@ by_contradiction a b h = go (ℤ_discrete a b)
     go (yes e) = e
     go (no n) = absurd (h n)
 
+-- so may an order
 pub le_stable : (a b : ℤ) → ¬ ¬ (a ≤ℤ b) → a ≤ℤ b
 le_stable a b h = go (cases a b)
   where

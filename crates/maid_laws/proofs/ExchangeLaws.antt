@@ -37,14 +37,17 @@ module _ (nodes : List NodeView) (g : IsGraph nodes) (c : HasChanceTables nodes)
       (sum_below_cong (states_of nodes d) (λ i. pos (weight_at nodes s d row i)) (λ i. slice_index_or (map pos (weights_of s d)) (row * states_of nodes d + i) (pos 0)) (λ i m. sym (at_pos (weights_of s d) (row * states_of nodes d + i)))
       ∙ (b.profile.rule d k).table.row row l ∙ ap pos (b.pure d k))
 
+  -- that state, where the decision has the row
   choice_by : (d row : ℕ) → Dec (IsDecision nodes d) → Dec (row < rows_of nodes d) → ℕ
   choice_by d row (yes k) (yes l) = (chosen d row k l).0
   choice_by d row (yes k) (no n) = 0
   choice_by d row (no n) e = 0
 
+  -- the chosen state of each row
   choice : ℕ → ℕ → ℕ
   choice d row = choice_by d row (dec_decision nodes d) (dec_lt row (rows_of nodes d))
 
+  -- it is a state, and the only one with weight
   choice_is : (d row : ℕ) → IsDecision nodes d → row < rows_of nodes d → (choice d row < states_of nodes d) × ((i : ℕ) → i < states_of nodes d → pos (weight_at nodes s d row i) ≡ cond (eqb i (choice d row)) (pos 1) (pos 0))
   unfolding choice choice_by
   choice_is d row k l = go (dec_decision nodes d) (dec_lt row (rows_of nodes d))
@@ -54,13 +57,16 @@ module _ (nodes : List NodeView) (g : IsGraph nodes) (c : HasChanceTables nodes)
       go (yes x) (no n) = absurd (n l)
       go (no n) f = absurd (n k)
 
+  -- the base of a decision
   base_by : (d : ℕ) → Dec (IsDecision nodes d) → List RuleView
   base_by d (yes k) = (b.best d k).base
   base_by d (no n) = uniform_profile nodes
 
+  -- a base for each number
   base : ℕ → List RuleView
   base d = base_by d (dec_decision nodes d)
 
+  -- each base has its tables
   base_tables : (d : ℕ) → HasTables nodes (base d)
   unfolding base base_by
   base_tables d = go (dec_decision nodes d)
@@ -69,6 +75,7 @@ module _ (nodes : List NodeView) (g : IsGraph nodes) (c : HasChanceTables nodes)
       go (yes k) = tables_of nodes (b.best d k).base g c (b.best d k).is_base.profile
       go (no n) = tables_of nodes (uniform_profile nodes) g c (uniform_is_profile nodes g)
 
+  -- and s's weights where the decision relies
   base_relied : (d e : ℕ) → ReliesOn nodes d e → weights_of (base d) e ≡ weights_of s e
   unfolding base base_by
   base_relied d e r = go (dec_decision nodes d)
@@ -77,6 +84,7 @@ module _ (nodes : List NodeView) (g : IsGraph nodes) (c : HasChanceTables nodes)
       go (yes k) = ((b.best d k).is_base.relied e r).weights
       go (no n) = absurd (n r.from_decision)
 
+  -- and factors of 1 elsewhere
   base_else : (d e : ℕ) → (ReliesOn nodes d e → ⊥) → e ≢ d → (node_at nodes e).kind ≡ Decision → (w : World) → InRange (states_of nodes) w → table nodes (base d) e w ≡ pos 1
   unfolding base base_by
   base_else d e n m k w i = uniform_like nodes (base d) e (decision_of nodes e k) (go (dec_decision nodes d)) w i
@@ -85,6 +93,7 @@ module _ (nodes : List NodeView) (g : IsGraph nodes) (c : HasChanceTables nodes)
       go (yes j) = ((b.best d j).is_base.others e (decision_of nodes e k) n).weights
       go (no j) = refl
 
+  -- no state has a greater gain against the base than the chosen one
   best : (d row x : ℕ) → IsLive nodes d → (node_at nodes d).kind ≡ Decision → row < rows_of nodes d → x < states_of nodes d → pos 0 <ℤ mass_at nodes (base d) d row → gain_at nodes (base d) d x row ≤ℤ gain_at nodes (base d) d (choice d row) row
   unfolding base base_by
   best d row x live kind l lx = go (dec_decision nodes d)
@@ -102,6 +111,7 @@ module _ (nodes : List NodeView) (g : IsGraph nodes) (c : HasChanceTables nodes)
       go (yes j) m = (b.best d j).best row (choice d row) x l ch.0 one m lx
       go (no n) m = absurd (n (decision_of nodes d kind))
 
+  -- so s is best, in the words of the proofs
   is_best : IsBest nodes s choice base
   is_best = record {
     tables = tables_of nodes s g c b.profile;
@@ -141,15 +151,19 @@ module _ (nodes : List NodeView) (g : IsGraph nodes) (c : HasChanceTables nodes)
           (k.within, k.kind, (λ x r. none (h 0 x (omega arith) r)), f (d ∷ done) (λ i x l r. past_d i x l (h (suc i) x (omega arith) r)))
       go false e f = f done (λ i x l r. not_d i x e r (h (suc i) x (omega arith) r))
 
+  -- the decisions of the record's list
   solved_order : InOrder nodes [] (filter (λ v. is_decision (node_at nodes v).kind) b.order)
   solved_order = in_order [] b.order (λ i e l r. inr (among_of e (take i b.order) (b.relied_first i e l r)))
 
+  -- all of them
   solved_all : (v : ℕ) → v < length nodes → (node_at nodes v).kind ≡ Decision → Among v (filter (λ v. is_decision (node_at nodes v).kind) b.order)
   solved_all v l k = among_filter_in (λ v. is_decision (node_at nodes v).kind) v b.order (among_of v b.order (b.all v (decision_of nodes v k))) (ap is_decision k)
 
+  -- a deviation changes no other agent's rules
   same_for_others : (agent : ℕ) (t : List RuleView) → DiffersOnlyFor nodes agent s t → SameForOthers nodes agent s t
   same_for_others agent t h v k n = let r = h v (decision_of nodes v k) n in (r.weights, r.total)
 
+  -- each start is a set of nodes with a world
   pub subgame_perfect : IsSubgamePerfect nodes s
   subgame_perfect order start listing is_start agent t ht other =
       let h = exchange_at nodes s choice base (filter (λ v. is_decision (node_at nodes v).kind) b.order) (ordered nodes g) is_best solved_order solved_all
@@ -157,5 +171,6 @@ module _ (nodes : List NodeView) (g : IsGraph nodes) (c : HasChanceTables nodes)
       subst (λ x. x ≤ℤ (gain_from nodes order start s agent *ℤ pos (mass_from nodes order start t))) (λ i. gain_same nodes g order start listing is_start.history t agent i *ℤ mass_same nodes g order start listing is_start.history s i)
       (subst (λ x. (gain_from_start nodes (in_start order start) (world_of_history order start) t agent *ℤ mass_from_start nodes (in_start order start) s) ≤ℤ x) (λ i. gain_same nodes g order start listing is_start.history s agent i *ℤ mass_same nodes g order start listing is_start.history t i) h)
 
+-- for every diagram
 pub exchange_law : Exchange
 exchange_law nodes s g c b = subgame_perfect nodes g c s b

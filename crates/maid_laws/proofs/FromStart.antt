@@ -36,9 +36,11 @@ module _ (nodes : List NodeView) (order : List ℕ) (setup : Setup nodes order) 
   abbrev start_table : ℕ → ℤ
   start_table v = cond (started v) (table nodes r0 v q) (pos 1)
 
+  -- the factors from the start without d's
   abbrev but_from : ℕ → World → ℤ
   but_from v w = cond (eqb v d) (pos 1) (table_from nodes started q r v w)
 
+  -- chance can reach the start
   start_positive : pos 0 <ℤ product_over start_table order
   start_positive = products_positive start_table order (λ v. go v (started v) refl)
     where
@@ -46,10 +48,12 @@ module _ (nodes : List NodeView) (order : List ℕ) (setup : Setup nodes order) 
       go v true e = positive v e
       go v false e = omega (arith, ints)
 
+  -- in a world that extends the start its nodes have its factors
   table_at_start : (w : World) → Extends w → (v : ℕ) → started v ≡ true → table nodes r0 v w ≡ table nodes r0 v q
   table_at_start w h v e = ap (table_by (node_at nodes v).kind (node_at nodes v).cells (weights_of r0 v))
       (λ i. agree_rows (states_of nodes) w q (node_at nodes v).parents 0 (λ u m. h u (closed_up u v m e)) i * states_of nodes v + h v e i)
 
+  -- each factor is one of the start times one after it
   factor : (w : World) → Extends w → (v : ℕ) → cond (eqb v d) (pos 1) (table nodes r0 v w) ≡ start_table v *ℤ but_from v w
   factor w h v = go (ℕ_discrete v d) (started v) refl
     where
@@ -68,6 +72,7 @@ module _ (nodes : List NodeView) (order : List ℕ) (setup : Setup nodes order) 
           ∙ sym (one_mul (table nodes r v w))
           ∙ sym (λ i. cond (e i) (table nodes r0 v q) (pos 1) *ℤ cond (eqb_no v d n i) (pos 1) (cond (e i) (one_if (eqb (w v) (q v))) (table nodes r v w)))
 
+  -- so the weight is that of the start times what follows
   without_is : (w : World) → Extends w → weight_without nodes r0 d w ≡ product_over start_table order *ℤ product_over (λ v. but_from v w) order
   without_is w h =
       product_over-shuffled (λ v. cond (eqb v d) (pos 1) (table nodes r0 v w)) setup.shuffled
@@ -78,9 +83,11 @@ module _ (nodes : List NodeView) (order : List ℕ) (setup : Setup nodes order) 
   abbrev worth : (World → ℤ) → ℕ → ℕ → ℤ
   worth f row s = sum_over (states_of nodes) order (λ x. one_if (is_at nodes d s row x) *ℤ (f x *ℤ product_over (λ v. but_from v x) order)) (λ v. 0)
 
+  -- the world of first states
   zero_in : InRange (states_of nodes) (λ v. 0)
   zero_in = record { state = setup.has_state }
 
+  -- the row of a test that holds
   true_parts : (a b c e : ℕ) → (eqb a b && eqb c e) ≡ true → c ≡ e
   true_parts a b c e h = grind (arith, nat_tests)
 

@@ -18,15 +18,18 @@ use Rattle.maid_laws.proofs.Notions.{OrderedGraph, extends, gain_from_start, mas
 use Rattle.maid_laws.proofs.Signs.{pos_product}
 use Rattle.maid_laws.proofs.Step.{gain_from, table_from, total_from}
 
+-- a test of all nodes is a product of tests
 all_ones : (f : ℕ → Bool) (vs : List ℕ) → product_over (λ v. one_if (f v)) vs ≡ one_if (list_all f vs)
 all_ones f [] = refl
 all_ones f (v ∷ vs) = ap (λ x. one_if (f v) *ℤ x) (all_ones f vs) ∙ sym (one_if-and (f v) (list_all f vs))
 
 module _ (nodes : List NodeView) (g : OrderedGraph nodes) (started : ℕ → Bool) (q : World) where
+  -- a factor from a start, in two parts
   parts : (b : Bool) (e : Bool) (x : ℤ) → cond b (one_if e) x ≡ one_if (not b || e) *ℤ cond b (pos 1) x
   parts true e x = sym (mul_one (one_if e))
   parts false e x = sym (one_mul x)
 
+  -- the sum in text order is that in the list's order
   pub gain_is : (p : List RuleView) (a : ℕ) → gain_from_start nodes started q p a ≡ gain_from nodes g.order started q p (utility nodes a)
   gain_is p a =
       ap (sum_worlds nodes) (fun_ext (λ w.
@@ -40,6 +43,7 @@ module _ (nodes : List NodeView) (g : OrderedGraph nodes) (started : ℕ → Boo
       ∙ product_over-shuffled (λ v. table_from nodes started q p v w) g.shuffled)))
       ∙ sum_over-shuffled (states_of nodes) (λ x. utility nodes a x *ℤ product_over (λ v. table_from nodes started q p v x) g.order) g.shuffled (λ v. 0)
 
+  -- and so is the product of totals
   pub mass_is : (p : List RuleView) → mass_from_start nodes started p ≡ product_over (total_from started (λ v. pos (weight_total nodes p v))) g.order
   mass_is p = product_over-shuffled (total_from started (λ v. pos (weight_total nodes p v))) g.shuffled
 

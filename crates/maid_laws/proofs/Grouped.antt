@@ -10,10 +10,12 @@ use Rattle.maid_model.proofs.Tables.{Avoids}
 use Rattle.maid_model.proofs.Lists.{among_filter, each_ignored}
 use Rattle.maid_laws.proofs.Collapse.{one_if, agree, fix_is, collapse, Apart}
 
+-- a product looks at no node that neither factor looks at
 pub both_ignored : (count : ℕ → ℕ) (f g : World → ℤ) (us : List ℕ) → IgnoresAll count f us → IgnoresAll count g us → IgnoresAll count (λ w. f w *ℤ g w) us
 both_ignored count f g [] a b = tt
 both_ignored count f g (u ∷ us) a b = (Ignores-mul count f g u a.0 b.0, both_ignored count f g us a.1 b.1)
 
+-- the tests at fixed nodes look at no other
 pub agree_ignored : (count : ℕ → ℕ) (os : List ℕ) (q : World) (us : List ℕ) → ((o : ℕ) → Among o os → (u : ℕ) → Among u us → o ≢ u) → IgnoresAll count (agree os q) us
 agree_ignored count os q us apart =
     IgnoresAll-product count (λ o w. one_if (eqb (w o) (q o))) os us
@@ -23,6 +25,7 @@ agree_ignored count os q us apart =
 pub apart_by : (p : ℕ → Bool) (x y : ℕ) → p x ≡ true → p y ≡ false → x ≢ y
 apart_by p x y a b e = let f : p x ≡ p y = ap p e in cc
 
+-- what passes the negated test fails the test
 pub passes_not : (p : ℕ → Bool) (x : ℕ) → not (p x) ≡ true → p x ≡ false
 passes_not p x h = go (p x) h
   where
@@ -31,39 +34,47 @@ passes_not p x h = go (p x) h
     go false h = refl
 
 module _ (count : ℕ → ℕ) (table : ℕ → World → ℤ) (total : ℕ → ℤ) (keep given first : ℕ → Bool) (nodes : List ℕ) where
+  -- the nodes that the test keeps, and the others
   abbrev pub kept : List ℕ
   kept = filter keep nodes
 
   abbrev pub outs : List ℕ
   outs = filter (λ v. not (keep v)) nodes
 
+  -- the kept nodes that are fixed, and the free ones
   abbrev pub fixed : List ℕ
   fixed = filter given kept
 
   abbrev pub free : List ℕ
   free = filter (λ v. not (given v)) kept
 
+  -- the free nodes of the first group and of the second
   abbrev pub free_first : List ℕ
   free_first = filter first free
 
   abbrev pub free_second : List ℕ
   free_second = filter (λ v. not (first v)) free
 
+  -- the tables of both groups
   abbrev pub tables_first : List ℕ
   tables_first = filter first kept
 
   abbrev pub tables_second : List ℕ
   tables_second = filter (λ v. not (first v)) kept
 
+  -- the product of the tables of some nodes
   abbrev pub product_of : List ℕ → World → ℤ
   product_of vs w = product_over (λ v. table v w) vs
 
+  -- a fixed node is not summed out
   fixed_out : (o : ℕ) → Among o fixed → (u : ℕ) → Among u outs → o ≢ u
   fixed_out o m u k = apart_by keep o u (among_filter keep o nodes (among_filter given o kept m).0).1 (passes_not keep u (among_filter (λ v. not (keep v)) u nodes k).1)
 
+  -- nor is it free
   fixed_free : (o : ℕ) → Among o fixed → (u : ℕ) → Among u free → o ≢ u
   fixed_free o m u k = apart_by given o u (among_filter given o kept m).1 (passes_not given u (among_filter (λ v. not (given v)) u kept k).1)
 
+  -- the others are summed to their totals, the fixed nodes have q's states, and the rest falls into two sums
   pub grouped : (f : World → ℤ) (q w : World)
       → EachIgnoresAll count table kept outs → IgnoresAll count f outs → IgnoresLater count table outs → HaveTotals count table total outs
       → EachIgnoresAll count table tables_first free_second → IgnoresAll count f free_second → EachIgnoresAll count table tables_second free_first

@@ -18,10 +18,12 @@ in_start order [] v = false
 in_start [] (x ∷ history) v = false
 in_start (u ∷ order) (x ∷ history) v = eqb u v || in_start order history v
 
+-- the second of two tests
 or_right : (a : Bool) {b : Bool} → b ≡ true → (a || b) ≡ true
 or_right true h = refl
 or_right false h = h
 
+-- a test that fails does not hold
 no_true : false ≡ true → ⊥
 no_true e = cc
 
@@ -36,6 +38,7 @@ start_at (u ∷ order) (x ∷ history) v h = go (eqb u v) refl h (λ k. start_at
     go true e h r = (0, omega arith, omega arith, eqb_same u v e)
     go false e h r = let k = r h in let a : k.0 < length history = k.1 in let b : k.0 < length order = k.2 in (suc k.0, omega arith, omega arith, k.3)
 
+-- the first nodes are in the start
 pub in_start_at : (order history : List ℕ) (i : ℕ) → i < length history → i < length order → in_start order history (slice_index order i) ≡ true
 in_start_at order [] i l m = absurd (omega arith)
 in_start_at [] (x ∷ history) i l m = absurd (omega arith)
@@ -51,6 +54,7 @@ history_at (u ∷ order) (x ∷ history) a (suc i) l m =
     ap (λ b. cond b x (world_of_history order history (slice_index order i))) (eqb_no u (slice_index order i) (λ e. not_among u order a.0 (subst (λ z. Among z order) (sym e) (among_index order i (omega arith)))))
     ∙ history_at order history a.1 i (omega arith) (omega arith)
 
+-- the history's world has states that there are
 pub history_range : (count : ℕ → ℕ) → ((v : ℕ) → 0 < count v) → (order history : List ℕ) → ((i : ℕ) → i < length history → slice_index history i < count (slice_index order i)) → (v : ℕ) → world_of_history order history v < count v
 history_range count has order [] each v = has v
 history_range count has [] (x ∷ history) each v = has v
@@ -75,6 +79,7 @@ agrees_at (u ∷ order) (x ∷ history) w h (suc i) l m = agrees_at order histor
     go true k = k
     go false k = absurd (no_true k)
 
+-- and a world with its states agrees
 pub agrees_all : (order history : List ℕ) (w : World) → ((i : ℕ) → i < length history → i < length order → w (slice_index order i) ≡ slice_index history i) → agrees order history w ≡ true
 agrees_all order [] w h = refl
 agrees_all [] (x ∷ history) w h = refl
@@ -100,18 +105,21 @@ at_map w (u ∷ order) zero j l m = absurd (omega arith)
 at_map w (u ∷ order) (suc i) zero l m = refl
 at_map w (u ∷ order) (suc i) (suc j) l m = at_map w order i j (omega arith) (omega arith)
 
+-- there are as many
 pub length_first : (w : World) (order : List ℕ) (i : ℕ) → i ≤ length order → length (map w (take i order)) ≡ i
 length_first w [] zero l = refl
 length_first w [] (suc i) l = absurd (omega arith)
 length_first w (u ∷ order) zero l = refl
 length_first w (u ∷ order) (suc i) l = ap suc (length_first w order i (omega arith))
 
+-- they extend a history with whose states the world agrees
 pub extends_map : (w : World) (order history : List ℕ) (i : ℕ) → length history ≤ i → i ≤ length order → ((j : ℕ) → j < length history → w (slice_index order j) ≡ slice_index history j) → take (length history) (map w (take i order)) ≡ history
 extends_map w order [] i l m h = refl
 extends_map w order (x ∷ history) zero l m h = absurd (omega arith)
 extends_map w [] (x ∷ history) (suc i) l m h = absurd (omega arith)
 extends_map w (u ∷ order) (x ∷ history) (suc i) l m h = λ k. h 0 (omega arith) k ∷ extends_map w order history i (omega arith) (omega arith) (λ j n. h (suc j) (omega arith)) k
 
+-- a place among the first
 pub at_take : (xs : List ℕ) (k j : ℕ) → j < k → slice_index (take k xs) j ≡ slice_index xs j
 at_take [] zero j l = absurd (omega arith)
 at_take [] (suc k) j l = refl
@@ -119,6 +127,7 @@ at_take (x ∷ xs) zero j l = absurd (omega arith)
 at_take (x ∷ xs) (suc k) zero l = refl
 at_take (x ∷ xs) (suc k) (suc j) l = at_take xs k j (omega arith)
 
+-- and only then
 pub map_extends : (w : World) (order history : List ℕ) (i : ℕ) → length history ≤ i → i ≤ length order → take (length history) (map w (take i order)) ≡ history → (j : ℕ) → j < length history → w (slice_index order j) ≡ slice_index history j
 map_extends w order history i l m e j n =
     sym (at_map w order i j (omega arith) (omega arith)) ∙ sym (at_take (map w (take i order)) (length history) j n) ∙ ap (λ l. slice_index l j) e

@@ -50,6 +50,7 @@ pub data Below (Arc : ℕ → ℕ → Type 0) (d : ℕ) : ℕ → Type 0 where
 
 -- where no node below d is given, a walk leads on from each node below d from which a path reaches
 module _ (Arc : ℕ → ℕ → Type 0) (Live Given : ℕ → Type 0) (goal d : ℕ) (none_given : (x : ℕ) → Below Arc d x → ¬ (Given x)) where
+  -- by induction over the path: downwards past nodes that are not given
   pub below_leads : {y : ℕ} → Reaches Arc Live Given goal y → Below Arc d y → Leads Arc Live Given goal true y
   below_leads {y} (at_given g) b = absurd (none_given y b g)
   below_leads at_goal b = ends

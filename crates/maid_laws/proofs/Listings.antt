@@ -29,6 +29,7 @@ use Rattle.maid_laws.proofs.Rearranged.{number, numbered, shuffled_of, apart_app
 use Rattle.maid_laws.proofs.Signs.{pos_product}
 use Rattle.maid_laws.proofs.Tied.{kind_within, decision_of}
 
+-- a test that fails does not hold
 no_true : false ≡ true → ⊥
 no_true e = cc
 
@@ -36,6 +37,7 @@ no_true e = cc
 abbrev pub utilities : List NodeView → List ℕ
 utilities nodes = filter (λ v. is_utility (node_at nodes v).kind) (numbers_of nodes)
 
+-- kinds can be told
 utility_or_not : (k : Kind) → (k ≡ Utility) ⊎ (k ≢ Utility)
 utility_or_not Chance = inr (λ e. cc)
 utility_or_not Decision = inr (λ e. cc)
@@ -61,20 +63,25 @@ listed nodes order l =
     back v (inl m) = number nodes v (l.within v (contained v m)).0
     back v (inr m) = (among_filter (λ v. is_utility (node_at nodes v).kind) v (numbers_of nodes) m).0
 
+-- a product of ones
 ones : (f : ℕ → ℤ) (vs : List ℕ) → ((v : ℕ) → Among v vs → f v ≡ pos 1) → product_over f vs ≡ pos 1
 ones f [] h = refl
 ones f (v ∷ vs) h = λ i. h v (inl refl) i *ℤ ones f vs (λ u m. h u (inr m)) i
 
 module _ (nodes : List NodeView) (g : IsGraph nodes) (order start : List ℕ) (listing : IsListing nodes order) (history : IsHistory nodes order start) where
+  -- no node stands twice
   apart : Apart order
   apart = apart_of order listing.once
 
+  -- the nodes of the start
   abbrev started : ℕ → Bool
   started = in_start order start
 
+  -- and its world
   abbrev q : World
   q = world_of_history order start
 
+  -- places of the history are places of the list
   longer : (i : ℕ) → i < length start → i < length order
   longer i l = let k : length start ≤ length order = history.within in omega arith
 
@@ -116,12 +123,15 @@ module _ (nodes : List NodeView) (g : IsGraph nodes) (order start : List ℕ) (l
               eqb_yes (w v) (world_of_history order start v)
               (subst (λ z. w z ≡ world_of_history order start z) k.3 (agrees_at order start w h k.0 k.1 k.2 ∙ sym (history_at order start apart k.0 k.1 k.2)))
 
+  -- a utility has the factor 1
   table_utility : (p : List RuleView) (w : World) (v : ℕ) → (node_at nodes v).kind ≡ Utility → table nodes p v w ≡ pos 1
   table_utility p w v k = ap (λ x. table_by x (node_at nodes v).cells (weights_of p v) (cell_of nodes v w)) k
 
+  -- gains from a start as a set and as a history
   pub gain_same : (p : List RuleView) (agent : ℕ) → gain_from_start nodes (in_start order start) (world_of_history order start) p agent ≡ gain_from nodes order start p agent
   gain_same p agent = ap (sum_worlds nodes) (fun_ext (λ w. λ i. cond (extends_same w i) (product_later (λ v. table nodes p v w) (table_utility p w) i *ℤ utility nodes agent w) (pos 0)))
 
+  -- and masses
   pub mass_same : (p : List RuleView) → mass_from_start nodes (in_start order start) p ≡ pos (mass_from nodes order start p)
   mass_same p =
       product_later (λ v. pos (weight_total nodes p v)) (λ v k. ap (λ x. pos (total_by x (chance_total nodes v) (rule_total p v))) k)
@@ -131,9 +141,11 @@ module _ (nodes : List NodeView) (g : IsGraph nodes) (order start : List ℕ) (l
   pub range : InRange (states_of nodes) (world_of_history order start)
   range = record { state = history_range (states_of nodes) g.has_state order start history.each }
 
+  -- the start's nodes are nodes
   inside : (v : ℕ) → in_start order start v ≡ true → v < length nodes
   inside v e = let k = start_at order start v e in subst (λ z. z < length nodes) k.3 (listing.within (slice_index order k.0) (contains_of (slice_index order k.0) order (among_index order k.0 k.2))).0
 
+  -- parents stand before
   pub closed_up : (u v : ℕ) → IsParent nodes u v → in_start order start v ≡ true → in_start order start u ≡ true
   closed_up u v a e =
       let k = start_at order start v e in
@@ -144,6 +156,7 @@ module _ (nodes : List NodeView) (g : IsGraph nodes) (order start : List ℕ) (l
       let j : c.0 < i = c.1 in
       subst (λ z. in_start order start z ≡ true) c.3 (in_start_at order start c.0 (omega arith) c.2)
 
+  -- chance cells of the start
   pub reached : IsReachable nodes order start → (v : ℕ) → in_start order start v ≡ true → (node_at nodes v).kind ≡ Chance → pos 0 <ℤ table nodes [] v (world_of_history order start)
   reached r v e k =
       let s = start_at order start v e in
@@ -171,6 +184,7 @@ module _ (nodes : List NodeView) (g : IsGraph nodes) (order start : List ℕ) (l
     each = λ j l. subst (λ z. z < states_of nodes (slice_index order j)) (sym (at_map y order i j (omega arith) (omega arith))) (iy.state (slice_index order j));
   }
 
+  -- worlds that agree on d's parents have histories that agree on them
   first_agree : (d : ℕ) (w x : World) (i : ℕ) → i ≤ length order → slice_index order i ≡ d → ((u : ℕ) → IsParent nodes u d → w u ≡ x u)
       → AgreeOnParents nodes order (slice_index order i) (map w (take i order)) (map x (take i order))
   first_agree d w x i within e parents j l a =
@@ -179,6 +193,7 @@ module _ (nodes : List NodeView) (g : IsGraph nodes) (order start : List ℕ) (l
       ∙ parents (slice_index order j) (parent_of nodes (slice_index order j) d (subst (λ z. Arc nodes (slice_index order j) z) e a))
       ∙ sym (at_map x order i j (omega arith) (omega arith))
 
+  -- for two worlds, the histories of the nodes before d
   pub closed : KeepsInformation nodes order start → (d : ℕ) → in_start order start d ≡ false → (node_at nodes d).kind ≡ Decision → (w x : World) → InRange (states_of nodes) w → InRange (states_of nodes) x
       → ((u : ℕ) → IsParent nodes u d → w u ≡ x u) → ((v : ℕ) → in_start order start v ≡ true → w v ≡ world_of_history order start v) → (v : ℕ) → in_start order start v ≡ true → x v ≡ world_of_history order start v
   closed keeps d e k w x iw ix parents ext v f =

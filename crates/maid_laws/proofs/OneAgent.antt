@@ -24,26 +24,32 @@ empty_start nodes order = record {
   keeps = λ i g h l m k gh hh lg lh a e. refl;
 }
 
+-- every world extends the empty start
 all_true : (vs : List ℕ) → list_all (λ v. true) vs ≡ true
 all_true [] = refl
 all_true (v ∷ vs) = all_true vs
 
+-- its gain is that of the whole
 gain_empty : (nodes : List NodeView) (p : List RuleView) (a : ℕ) → gain_from_start nodes (λ v. false) (λ v. 0) p a ≡ gain_of nodes p a
 gain_empty nodes p a = ap (sum_worlds nodes) (fun_ext (λ w. ap (λ b. cond b (product_over (λ v. table nodes p v w) (numbers_of nodes) *ℤ utility nodes a w) (pos 0)) (all_true (numbers_of nodes))))
 
+-- and its mass
 mass_empty : (nodes : List NodeView) (p : List RuleView) → mass_from_start nodes (λ v. false) p ≡ pos (mass nodes p)
 mass_empty nodes p = pos_product (weight_total nodes p) (numbers_of nodes)
 
 module _ (nodes : List NodeView) (g : IsGraph nodes) (order : List ℕ) (l : IsListing nodes order) where
+  -- the empty history
   none : IsHistory nodes order []
   none = (empty_start nodes order).history
 
+  -- the same for the empty history
   pub gain_whole : (p : List RuleView) (agent : ℕ) → gain_from nodes order [] p agent ≡ gain_of nodes p agent
   gain_whole p agent = sym (gain_same nodes g order [] l none p agent) ∙ gain_empty nodes p agent
 
   pub mass_whole : (p : List RuleView) → ◌≡◌ {A = ℤ} (pos (mass_from nodes order [] p)) (pos (mass nodes p))
   mass_whole p = sym (mass_same nodes g order [] l none p) ∙ mass_empty nodes p
 
+-- an agent that owns all may deviate to any profile at the empty start
 pub one_agent_law : OneAgent
 one_agent_law nodes s agent g perfect owns t ht =
     let l = listing_law nodes g in

@@ -28,12 +28,15 @@ use Rattle.maid_laws.proofs.TwoSums.{live_in_F as live_in_fixed, in_F as in_fixe
 abbrev pub table_but : List NodeView → ℕ → List RuleView → ℕ → World → ℤ
 table_but nodes d p v w = cond (eqb v d) (pos 1) (table nodes p v w)
 
+-- d's own factor is 1
 pub but_own : (nodes : List NodeView) (d : ℕ) (p : List RuleView) (v : ℕ) → v ≡ d → table_but nodes d p v ≡ (λ w. pos 1)
 but_own nodes d p v e = ap (λ b. λ (w : World). cond b (pos 1) (table nodes p v w)) (eqb_yes v d e)
 
+-- other factors stay
 but_other : (nodes : List NodeView) (d : ℕ) (p : List RuleView) (v : ℕ) → v ≢ d → table_but nodes d p v ≡ table nodes p v
 but_other nodes d p v n = ap (λ b. λ (w : World). cond b (pos 1) (table nodes p v w)) (eqb_no v d n)
 
+-- so they look where the tables do
 but_ignores : (nodes : List NodeView) (d : ℕ) (p : List RuleView) (v u : ℕ) → (v ≢ d → Ignores (states_of nodes) (table nodes p v) u) → Ignores (states_of nodes) (table_but nodes d p v) u
 but_ignores nodes d p v u h = go (ℕ_discrete v d)
   where
@@ -41,12 +44,15 @@ but_ignores nodes d p v u h = go (ℕ_discrete v d)
     go (yes e) = subst (λ f. Ignores (states_of nodes) f u) (sym (but_own nodes d p v e)) (record { same = λ w i s l. refl })
     go (no n) = subst (λ f. Ignores (states_of nodes) f u) (sym (but_other nodes d p v n)) (h n)
 
+-- at their own node and its parents
 pub but_looks : (nodes : List NodeView) (d : ℕ) (p : List RuleView) → LooksAtParents nodes (table_but nodes d p)
 but_looks nodes d p = record { others = λ v u n a. but_ignores nodes d p v u (λ k. (table_looks nodes p).others v u n a) }
 
+-- and add up to the same
 pub but_total : (nodes : List NodeView) (d : ℕ) (p : List RuleView) (total : ℕ → ℤ) (v : ℕ) → v ≢ d → HasTotal (states_of nodes) (table nodes p) total v → HasTotal (states_of nodes) (table_but nodes d p) total v
 but_total nodes d p total v n h = record { sums = λ w i. ap (λ (f : World → ℤ). sum_below (states_of nodes v) (λ s. f (with_state w v s))) (but_other nodes d p v n) ∙ h.sums w i }
 
+-- either a world agrees at all of them, or the product is nought
 pub agree_cases : (os : List ℕ) (q w : World) → ((agree os q w ≡ pos 1) × ((o : ℕ) → Among o os → w o ≡ q o)) ⊎ ((agree os q w ≡ pos 0) × ¬ ((o : ℕ) → Among o os → w o ≡ q o))
 agree_cases [] q w = inl (refl, λ o m. absurd m)
 agree_cases (o ∷ os) q w = go (ℕ_discrete (w o) (q o)) (agree_cases os q w)
@@ -57,9 +63,11 @@ agree_cases (o ∷ os) q w = go (ℕ_discrete (w o) (q o)) (agree_cases os q w)
     go (yes e) (inr r) = inr (ap (λ x. one_if (eqb (w o) (q o)) *ℤ x) r.0 ∙ mul_zero (one_if (eqb (w o) (q o))), λ h. r.1 (λ u m. h u (inr m)))
     go (no n) r = inr (ap (λ b. one_if b *ℤ agree os q w) (eqb_no (w o) (q o) n) ∙ zero_mul (agree os q w), λ h. n (h o (inl refl)))
 
+-- two equations as one test
 both_true : (a b c e : ℕ) → a ≡ b → c ≡ e → (eqb a b && eqb c e) ≡ true
 both_true a b c e h k = ap (λ x. x && eqb c e) (eqb_yes a b h) ∙ eqb_yes c e k
 
+-- and their failure
 both_false : (a b c e : ℕ) → (a ≡ b → c ≡ e → ⊥) → (eqb a b && eqb c e) ≡ false
 both_false a b c e h = go (ℕ_discrete a b)
   where
@@ -74,36 +82,43 @@ module _ (nodes : List NodeView) (order : List ℕ) (setup : Setup nodes order) 
     (tells_keep : Tells keep (λ v. IsLive nodes v × Reaches (IsParent nodes) (IsLive nodes) (IsFixed (IsParent nodes) d) goal v) order)
     (tells_given : Tells given (IsFixed (IsParent nodes) d) order)
     (tells_first : Tells first (Leads (IsParent nodes) (IsLive nodes) (IsFixed (IsParent nodes) d) goal true) (filter keep order)) where
+  -- the nodes that reach, and the others
   abbrev K : List ℕ
   K = filter keep order
 
   abbrev O : List ℕ
   O = filter (λ v. not (keep v)) order
 
+  -- the fixed ones
   abbrev F : List ℕ
   F = filter given K
 
+  -- the free ones with a walk, and without
   abbrev V1 : List ℕ
   V1 = filter first (filter (λ v. not (given v)) K)
 
   abbrev V2 : List ℕ
   V2 = filter (λ v. not (first v)) (filter (λ v. not (given v)) K)
 
+  -- the tables with a walk, and without
   abbrev T1 : List ℕ
   T1 = filter first K
 
   abbrev T2 : List ℕ
   T2 = filter (λ v. not (first v)) K
 
+  -- the fixed nodes can be told
   decide : (x : ℕ) → Dec (IsFixed (IsParent nodes) d x)
   decide x = decide_among x (d ∷ (node_at nodes d).parents)
 
+  -- each live fixed node is among them
   pub live_in_F : (u : ℕ) → IsLive nodes u → IsFixed (IsParent nodes) d u → Among u F
   live_in_F = live_in_fixed nodes order setup (IsFixed (IsParent nodes) d) decide goal goal_live goal_kind keep given first tells_keep tells_given tells_first
 
   in_F : (o : ℕ) → Among o F → IsFixed (IsParent nodes) d o
   in_F = in_fixed nodes order setup (IsFixed (IsParent nodes) d) decide goal goal_live goal_kind keep given first tells_keep tells_given tells_first
 
+  -- d is one of them
   d_in_F : Among d F
   d_in_F = live_in_F d d_live (inl refl)
 
@@ -130,6 +145,7 @@ module _ (nodes : List NodeView) (order : List ℕ) (setup : Setup nodes order) 
       go (yes k) = h u (live_in_F u (record { within = setup.parent_inside u d m; states = inr k }) (inr m))
       go (no n) = both_zero (w u) (q u) (states_of nodes u) (iw.state u) (iq.state u) n
 
+  -- the test for d's state and row is the test at the fixed nodes
   at_agree : (q w : World) → InRange (states_of nodes) q → InRange (states_of nodes) w → one_if (is_at nodes d (q d) (row_of nodes d q) w) ≡ agree F q w
   at_agree q w iq iw = go (agree_cases F q w)
     where

@@ -32,6 +32,7 @@ parent_before nodes own (v ∷ vs) h zero u l a (inr m) = absurd ((h.0 u m).1 a)
 parent_before nodes own (v ∷ vs) h (suc i) u l a (inl e) = inl e
 parent_before nodes own (v ∷ vs) h (suc i) u l a (inr m) = inr (parent_before nodes own vs h.1 i u (omega arith) a m)
 
+-- a part of a list with parents first has them first
 parents_first_filter : (nodes : List NodeView) (p : ℕ → Bool) (vs : List ℕ) → ParentsFirst nodes vs → ParentsFirst nodes (filter p vs)
 parents_first_filter nodes p [] h = tt
 parents_first_filter nodes p (v ∷ vs) h = go (p v) (parents_first_filter nodes p vs h.1)
@@ -49,6 +50,7 @@ one_place (x ∷ xs) a (suc i) zero l m e = absurd (not_among x xs a.0 (subst (�
 one_place (x ∷ xs) a (suc i) (suc j) l m e = ap suc (one_place xs a.1 i j (omega arith) (omega arith) e)
 
 module _ (nodes : List NodeView) (known : (u v : ℕ) → Arc nodes u v → u < length nodes) where
+  -- the nodes, sorted
   listed : IsAcyclic (Arc nodes) → (order : List ℕ) × IsParentsFirst nodes order
   listed acyclic =
       let r = sorted (IsParent nodes) (parent_dec nodes) (λ v h. acyclic v (h.0, arc_of nodes v h.0 h.1, parents_path nodes h.2)) (numbers_of nodes) in
@@ -95,9 +97,11 @@ module _ (nodes : List NodeView) (known : (u v : ℕ) → Arc nodes u v → u < 
         let y : k.0 ≤ i.0 = path_rises p k.0 i.0 k.1 k.2 i.1 i.2 in
         omega arith
 
+-- both ways
 pub acyclic_law : AcyclicIffListed
 acyclic_law nodes known = (listed nodes known, λ r. acyclic_of nodes known r.0 r.1)
 
+-- by paths, and by places
 pub descent_law : DescentTested
 descent_law nodes u v g = (leads_path nodes (length nodes) u v, there)
   where
@@ -110,11 +114,13 @@ descent_law nodes u v g = (leads_path nodes (length nodes) u v, there)
         let o : OrderedGraph nodes = ordered nodes g in
         below_descends nodes o.order (setup_of nodes o) u (same_length nodes o) (path_below nodes h) (end_inside h.2 (arc_inside nodes u h.0 (parent_of nodes u h.0 h.1)))
 
+-- what is no utility is kept
 no_utility : (k : Kind) → k ≢ Utility → not (is_utility k) ≡ true
 no_utility Chance n = refl
 no_utility Decision n = refl
 no_utility Utility n = absurd (n refl)
 
+-- the nodes, sorted, without the utilities
 pub listing_law : ListingExists
 listing_law nodes g = (order, record {
   all = λ v l n. contains_of v order (in_order v l n);

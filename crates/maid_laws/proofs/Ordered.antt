@@ -16,11 +16,13 @@ use Rattle.maid_laws.proofs.Members.{arc_of, apart_of}
 use Rattle.maid_laws.proofs.Rearranged.{among_shuffled, among_unshuffled, apart_shuffled, range_apart, in_range, among_range, length_shuffled, length_range}
 use Rattle.maid_laws.proofs.Signs.{table_sums}
 
+-- a kind other than utility fails the test
 no_utility : (k : Kind) → k ≢ Utility → is_utility k ≡ false
 no_utility Chance n = refl
 no_utility Decision n = refl
 no_utility Utility n = absurd (n refl)
 
+-- each field from the graph's, by members of lists
 pub setup_of : (nodes : List NodeView) (g : OrderedGraph nodes) → Setup nodes g.order
 setup_of nodes g = record {
   shuffled = g.shuffled;
@@ -40,12 +42,14 @@ setup_of nodes g = record {
 pub same_length : (nodes : List NodeView) (g : OrderedGraph nodes) → length g.order ≡ length nodes
 same_length nodes g = sym (length_shuffled g.shuffled) ∙ length_range 0 (length nodes)
 
+-- each table adds up in each row
 pub totals_of : (nodes : List NodeView) (p : List RuleView) → HasTables nodes p → Totals nodes p (λ v. pos (weight_total nodes p v))
 totals_of nodes p t = record {
   at = λ v l. table_sums (node_at nodes v).kind (node_at nodes v).cells (weights_of p v) (rows_under (states_of nodes) (node_at nodes v).parents) (states_of nodes v) (weight_total nodes p v) (t.at v l)
       (λ e. ap (λ k. total_by k (chance_total nodes v) (rule_total p v)) e);
 }
 
+-- irrelevance over the list of an ordered graph
 pub irrelevance_at : (nodes : List NodeView) (s t : List RuleView) (d state row : ℕ) → OrderedGraph nodes → HasTables nodes s → HasTables nodes t
     → IsLive nodes d → (node_at nodes d).kind ≡ Decision → state < states_of nodes d
     → ((e : ℕ) → ReliesOn nodes d e → weights_of s e ≡ weights_of t e)

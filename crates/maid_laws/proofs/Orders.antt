@@ -12,13 +12,16 @@ use Rattle.maid_laws.proofs.Members.{arc_of, not_among}
 use Rattle.maid_laws.proofs.Rearranged.{apart_shuffled, range_apart}
 use Rattle.maid_laws.proofs.Sorted.{First, sorted}
 
+-- no node stands twice, so none is its own parent
 pub parents_first_of : (nodes : List NodeView) (vs : List ℕ) → Apart vs → First (IsParent nodes) vs → ParentsFirst nodes vs
 parents_first_of nodes [] a h = tt
 parents_first_of nodes (v ∷ vs) a h = ((λ u m. ((λ e. not_among v vs a.0 (subst (λ z. Among z vs) (sym e) m)), h.0 u m)), parents_first_of nodes vs a.1 h.1)
 
+-- arcs can be told
 pub parent_dec : (nodes : List NodeView) (u v : ℕ) → Dec (IsParent nodes u v)
 parent_dec nodes u v = decide_among u (parents_of nodes v)
 
+-- paths are the same by members and by places
 pub parents_path : (nodes : List NodeView) {to v : ℕ} → IsPath (IsParent nodes) to v → IsPath (Arc nodes) to v
 parents_path nodes Here = Here
 parents_path nodes (Along {u = u} {v = v} a p) = Along (arc_of nodes u v a) (parents_path nodes p)

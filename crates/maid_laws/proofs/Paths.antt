@@ -21,6 +21,7 @@ module _ (Arc : ℕ → ℕ → Type 0) where
   path_then Here q = q
   path_then (Along b p) q = Along b (path_then p q)
 
+  -- a descendant's child descends
   pub descends_further : {d x y : ℕ} → Descends Arc d x → Arc x y → Descends Arc d y
   descends_further h a = (h.0, h.1, path_further h.2 a)
 
@@ -29,6 +30,7 @@ pub below_path : (nodes : List NodeView) {d x : ℕ} → Below (IsParent nodes) 
 below_path nodes {d} (child {y = y} a) = (y, arc_of nodes d y a, Here)
 below_path nodes (further {y = y} {c = c} b a) = descends_further (Arc nodes) (below_path nodes b) (arc_of nodes y c a)
 
+-- by induction over the path
 pub path_below : (nodes : List NodeView) {d x : ℕ} → Descends (Arc nodes) d x → Below (IsParent nodes) d x
 path_below nodes {d} {x} (next, a, p) = go (child (parent_of nodes d next a)) p
   where
@@ -36,6 +38,7 @@ path_below nodes {d} {x} (next, a, p) = go (child (parent_of nodes d next a)) p
     go b Here = b
     go b (Along {u = u} {v = v} a p) = go (further b (parent_of nodes u v a)) p
 
+-- a test that passes for some member has one
 any_one : (p : ℕ → Bool) (xs : List ℕ) → list_any p xs ≡ true → (x : ℕ) × Among x xs × (p x ≡ true)
 any_one p [] h = let e : true ≡ false = sym h in cc
 any_one p (y ∷ ys) h = go (p y) refl h (λ k. any_one p ys k)

@@ -21,12 +21,14 @@ use Rattle.maid_laws.proofs.Booleans.{eqb_yes, eqb_no}
 abbrev pub put_rule : ℕ → List RuleView → List RuleView → List RuleView
 put_rule d s p = record { decision = d; total = rule_total s d; weights = weights_of s d } ∷ p
 
+-- d has the rule of s
 pub put_weights : (d : ℕ) (s p : List RuleView) (v : ℕ) → v ≡ d → weights_of (put_rule d s p) v ≡ weights_of s v
 put_weights d s p v e = ap (λ b. cond b (weights_of s d) (weights_of p v)) (eqb_yes d v (sym e)) ∙ ap (weights_of s) (sym e)
 
 pub put_total : (d : ℕ) (s p : List RuleView) (v : ℕ) → v ≡ d → rule_total (put_rule d s p) v ≡ rule_total s v
 put_total d s p v e = ap (λ b. cond b (rule_total s d) (rule_total p v)) (eqb_yes d v (sym e)) ∙ ap (rule_total s) (sym e)
 
+-- other decisions keep theirs
 pub other_weights : (d : ℕ) (s p : List RuleView) (v : ℕ) → v ≢ d → weights_of (put_rule d s p) v ≡ weights_of p v
 other_weights d s p v n = ap (λ b. cond b (weights_of s d) (weights_of p v)) (eqb_no d v (λ e. n (sym e)))
 
@@ -34,17 +36,21 @@ pub other_total : (d : ℕ) (s p : List RuleView) (v : ℕ) → v ≢ d → rule
 other_total d s p v n = ap (λ b. cond b (rule_total s d) (rule_total p v)) (eqb_no d v (λ e. n (sym e)))
 
 module _ (nodes : List NodeView) where
+  -- v's table fits
   abbrev Fits : List RuleView → ℕ → Type 0
   Fits p v = TableFits (node_at nodes v).kind (node_at nodes v).cells (weights_of p v) (rows_under (states_of nodes) (node_at nodes v).parents) (states_of nodes v) (weight_total nodes p v)
 
+  -- that depends on v's rule alone
   fits_like : (p r : List RuleView) (v : ℕ) → weights_of p v ≡ weights_of r v → rule_total p v ≡ rule_total r v → Fits p v → Fits r v
   fits_like p r v e f h =
       subst (λ n. TableFits (node_at nodes v).kind (node_at nodes v).cells (weights_of r v) (rows_under (states_of nodes) (node_at nodes v).parents) (states_of nodes v) (total_by (node_at nodes v).kind (chance_total nodes v) n)) f
       (subst (λ ws. TableFits (node_at nodes v).kind (node_at nodes v).cells ws (rows_under (states_of nodes) (node_at nodes v).parents) (states_of nodes v) (weight_total nodes p v)) e h)
 
+  -- and so does its total
   pub total_like : (p r : List RuleView) (v : ℕ) → rule_total p v ≡ rule_total r v → weight_total nodes p v ≡ weight_total nodes r v
   total_like p r v f = ap (total_by (node_at nodes v).kind (chance_total nodes v)) f
 
+  -- each table is one of s or of p
   pub put_tables : (d : ℕ) (s p : List RuleView) → HasTables nodes s → HasTables nodes p → HasTables nodes (put_rule d s p)
   put_tables d s p hs hp = record { positive = λ v. positive v (ℕ_discrete v d); at = λ v l. at v l (ℕ_discrete v d) }
     where
@@ -61,6 +67,7 @@ module _ (nodes : List NodeView) where
   with_uniform [] p = p
   with_uniform (v ∷ vs) p = uniform_rule nodes v ∷ with_uniform vs p
 
+  -- other decisions keep their rules
   pub uniform_off : (vs : List ℕ) (p : List RuleView) (v : ℕ) → ¬ (Among v vs) → (weights_of (with_uniform vs p) v ≡ weights_of p v) × (rule_total (with_uniform vs p) v ≡ rule_total p v)
   uniform_off [] p v n = (refl, refl)
   uniform_off (x ∷ xs) p v n =
@@ -69,6 +76,7 @@ module _ (nodes : List NodeView) where
         ap (λ b. cond b (states_of nodes x) (rule_total (with_uniform xs p) v)) (eqb_no x v (λ e. n (inl (sym e)))) ∙ r.1,
       )
 
+  -- the listed ones have uniform rules
   pub uniform_on : (vs : List ℕ) (p : List RuleView) (v : ℕ) → Among v vs
       → (weights_of (with_uniform vs p) v ≡ replicate (rows_under (states_of nodes) (node_at nodes v).parents * states_of nodes v) 1) × (rule_total (with_uniform vs p) v ≡ states_of nodes v)
   uniform_on [] p v m = absurd m
@@ -86,25 +94,30 @@ module _ (nodes : List NodeView) where
         ap (λ b. cond b (states_of nodes x) (rule_total (with_uniform xs p) v)) (eqb_no x v n) ∙ (r k).1,
       )
 
+  -- each weight is 1
   pub ones_at : (n i : ℕ) → i < n → slice_index (replicate n 1) i ≡ 1
   ones_at zero i h = absurd (omega arith)
   ones_at (suc n) zero h = refl
   ones_at (suc n) (suc i) h = ones_at n i (omega arith)
 
+  -- as whole numbers
   ones_in : (n i : ℕ) → i < n → slice_index_or (map pos (replicate n 1)) i (pos 0) ≡ pos 1
   ones_in zero i h = absurd (omega arith)
   ones_in (suc n) zero h = refl
   ones_in (suc n) (suc i) h = ones_in n i (omega arith)
 
+  -- none is below nought
   ones_not_negative : (n i : ℕ) → pos 0 ≤ℤ slice_index_or (map pos (replicate n 1)) i (pos 0)
   ones_not_negative zero i = omega (arith, ints)
   ones_not_negative (suc n) zero = omega (arith, ints)
   ones_not_negative (suc n) (suc i) = ones_not_negative n i
 
+  -- n of them add up to n
   pub sum_ones : (n : ℕ) → sum_below n (λ s. pos 1) ≡ pos n
   sum_ones zero = refl
   sum_ones (suc n) = omega (arith, ints, sum_ones n)
 
+  -- so each row adds up to the count of states
   pub uniform_table : (rows states : ℕ) → IsTable (map pos (replicate (rows * states) 1)) rows states states
   uniform_table rows states = record {
     len = length-map (replicate (rows * states) 1) pos ∙ length-replicate (rows * states) 1;
@@ -112,6 +125,7 @@ module _ (nodes : List NodeView) where
     row = λ r l. sum_below_cong states (λ s. slice_index_or (map pos (replicate (rows * states) 1)) (r * states + s) (pos 0)) (λ s. pos 1) (λ s k. ones_in (rows * states) (r * states + s) (step_below r rows states s l k)) ∙ sum_ones states;
   }
 
+  -- the listed tables fit, and the others do as before
   pub uniform_tables : (has : (v : ℕ) → 0 < states_of nodes v) (vs : List ℕ) (p : List RuleView) → HasTables nodes p → HasTables nodes (with_uniform vs p)
   uniform_tables has vs p h = record { positive = λ v. positive v (decide_among v vs); at = λ v l. at v l (decide_among v vs) }
     where

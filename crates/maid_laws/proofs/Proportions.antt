@@ -25,7 +25,8 @@ use Rattle.maid_laws.proofs.Leads.{Leads, Reaches}
 use Rattle.maid_laws.proofs.OneUtility.{one_utility, live_in_F}
 use Rattle.maid_laws.proofs.Paths.{leads_path}
 use Rattle.maid_laws.proofs.Ranks.{none_given}
-use Rattle.maid_laws.proofs.Rearranged.{among_range, apart_filter, not_avoided}
+use Rattle.maid_laws.proofs.Rearranged.{among_range, apart_filter}
+use Rattle.maid_laws.proofs.Members.{not_among}
 use Rattle.maid_laws.proofs.Relies.{relies_of}
 use Rattle.maid_laws.proofs.Rows.{world_at_row}
 
@@ -33,9 +34,11 @@ use Rattle.maid_laws.proofs.Rows.{world_at_row}
 module _ (nodes : List NodeView) (order : List ℕ) (setup : Setup nodes order) (s t : List RuleView) (total_s total_t : ℕ → ℤ) (hs : Totals nodes s total_s) (ht : Totals nodes t total_t)
     (d : ℕ) (d_live : IsLive nodes d) (d_kind : (node_at nodes d).kind ≡ Decision) (same : (e : ℕ) → ReliesOn nodes d e → weights_of s e ≡ weights_of t e)
     (q : World) (iq : InRange (states_of nodes) q) (zero_else : (v : ℕ) → ¬ (IsFixed (IsParent nodes) d v) → 0 ≡ q v) where
+  -- the sum at q's state and row of d
   abbrev sum_for : List RuleView → (World → ℤ) → ℤ
   sum_for p f = sum_worlds nodes (λ w. cond (is_at nodes d (q d) (row_of nodes d q) w) (weight_without nodes p d w *ℤ f w) (pos 0))
 
+  -- as long as the equation is false, the facts of reach and walks may be decided
   pub for_utility : (goal : ℕ) → IsGoal nodes d goal → (f : World → ℤ) → ((u : ℕ) → ¬ (IsParent nodes u goal) → Ignores (states_of nodes) f u)
       → sum_for s f *ℤ mass_at nodes t d (row_of nodes d q) ≡ sum_for t f *ℤ mass_at nodes s d (row_of nodes d q)
   for_utility goal is_goal f f_ignores =
@@ -80,39 +83,46 @@ module _ (nodes : List NodeView) (order : List ℕ) (setup : Setup nodes order) 
               go : Dec (IsFixed (IsParent nodes) d v) → Dec (1 < states_of nodes v) → 0 ≡ q v
               go (no n) l = zero_else v n
               go (yes g) (no n) = dead_zero v n
-              go (yes g) (yes l) = absurd (not_avoided v (filter given (filter keep order)) a (in_F v (record { within = given_inside v g; states = inr l }) g))
+              go (yes g) (yes l) = absurd (not_among v (filter given (filter keep order)) a (in_F v (record { within = given_inside v g; states = inr l }) g))
 
 -- ---- sums of sums
 pub sum_over_zero : (count : ℕ → ℕ) (vs : List ℕ) (w : World) → sum_over count vs (λ x. pos 0) w ≡ pos 0
 sum_over_zero count [] w = refl
 sum_over_zero count (v ∷ vs) w = sum_below_cong (count v) (λ s. sum_over count vs (λ x. pos 0) (with_state w v s)) (λ s. pos 0) (λ s l. sum_over_zero count vs (with_state w v s)) ∙ sum_below_zero (count v)
 
+-- a sum of sums, the other way round
 sum_over_each : (count : ℕ → ℕ) (vs : List ℕ) (h : ℕ → World → ℤ) (us : List ℕ) (w : World) → sum_over count vs (λ x. sum_each (λ u. h u x) us) w ≡ sum_each (λ u. sum_over count vs (h u) w) us
 sum_over_each count vs h [] w = sum_over_zero count vs w
 sum_over_each count vs h (u ∷ us) w = sum_over_add count vs (h u) (λ x. sum_each (λ u. h u x) us) w ∙ ap (λ y. sum_over count vs (h u) w +ℤ y) (sum_over_each count vs h us w)
 
+-- a sum that counts in some worlds
 sum_each_cond : (b : Bool) (a : ℤ) (g : ℕ → ℤ) (us : List ℕ) → cond b (a *ℤ sum_each g us) (pos 0) ≡ sum_each (λ u. cond b (a *ℤ g u) (pos 0)) us
 sum_each_cond true a g [] = mul_zero a
 sum_each_cond true a g (u ∷ us) = mul_add a (g u) (sum_each g us) ∙ ap (λ y. a *ℤ g u +ℤ y) (sum_each_cond true a g us)
 sum_each_cond false a g [] = refl
 sum_each_cond false a g (u ∷ us) = ap (λ y. pos 0 +ℤ y) (sum_each_cond false a g us)
 
+-- a factor of all terms
 sum_each_mul : (f : ℕ → ℤ) (k : ℤ) (us : List ℕ) → sum_each f us *ℤ k ≡ sum_each (λ u. f u *ℤ k) us
 sum_each_mul f k [] = zero_mul k
 sum_each_mul f k (u ∷ us) = add_mul k (f u) (sum_each f us) ∙ ap (λ y. f u *ℤ k +ℤ y) (sum_each_mul f k us)
 
+-- sums of equal terms
 sum_each_cong : (f g : ℕ → ℤ) (us : List ℕ) → ((u : ℕ) → Among u us → f u ≡ g u) → sum_each f us ≡ sum_each g us
 sum_each_cong f g [] h = refl
 sum_each_cong f g (u ∷ us) h = λ i. h u (inl refl) i +ℤ sum_each_cong f g us (λ v m. h v (inr m)) i
 
+-- the first of two tests
 and_left : (a b : Bool) → (a && b) ≡ true → a ≡ true
 and_left true b h = refl
 and_left false b h = h
 
+-- the second of two tests
 and_right : (a b : Bool) → (a && b) ≡ true → b ≡ true
 and_right true b h = h
 and_right false b h = let e : true ≡ false = sym h in cc
 
+-- a kind that passes the test
 pub kind_of_utility : (k : Kind) → is_utility k ≡ true → k ≡ Utility
 kind_of_utility Chance h = cc
 kind_of_utility Decision h = cc
@@ -120,23 +130,28 @@ kind_of_utility Utility h = refl
 -- ---- all utilities
 module _ (nodes : List NodeView) (order : List ℕ) (setup : Setup nodes order) (s t : List RuleView) (total_s total_t : ℕ → ℤ) (hs : Totals nodes s total_s) (ht : Totals nodes t total_t)
     (d : ℕ) (d_live : IsLive nodes d) (d_kind : (node_at nodes d).kind ≡ Decision) (same : (e : ℕ) → ReliesOn nodes d e → weights_of s e ≡ weights_of t e) where
+  -- the sum at a state and row of d
   abbrev sum_at : List RuleView → ℕ → ℕ → (World → ℤ) → ℤ
   sum_at p state row f = sum_worlds nodes (λ w. cond (is_at nodes d state row w) (weight_without nodes p d w *ℤ f w) (pos 0))
 
+  -- a gain is a sum over the utilities below
   gain_split : (p : List RuleView) (state row : ℕ) → gain_at nodes p d state row ≡ sum_each (λ v. sum_at p state row (value_below nodes d v)) (numbers_of nodes)
   gain_split p state row =
       ap (sum_worlds nodes) (fun_ext (λ w. sum_each_cond (is_at nodes d state row w) (weight_without nodes p d w) (λ v. value_below nodes d v w) (numbers_of nodes)))
       ∙ sum_over_each (states_of nodes) (numbers_of nodes) (λ v w. cond (is_at nodes d state row w) (weight_without nodes p d w *ℤ value_below nodes d v w) (pos 0)) (numbers_of nodes) (λ v. 0)
 
+  -- a term times nought
   cond_zero : (b : Bool) (a : ℤ) → cond b (a *ℤ pos 0) (pos 0) ≡ pos 0
   cond_zero true a = mul_zero a
   cond_zero false a = refl
 
+  -- a factor of nought
   sum_at_zero : (p : List RuleView) (state row : ℕ) (f : World → ℤ) → ((w : World) → f w ≡ pos 0) → sum_at p state row f ≡ pos 0
   sum_at_zero p state row f h =
       ap (sum_worlds nodes) (fun_ext (λ w. ap (λ x. cond (is_at nodes d state row w) (weight_without nodes p d w *ℤ x) (pos 0)) (h w) ∙ cond_zero (is_at nodes d state row w) (weight_without nodes p d w)))
       ∙ sum_over_zero (states_of nodes) (numbers_of nodes) (λ v. 0)
 
+  -- at a world with d's state and row: each utility below d gives one equation
   at_world : (q : World) → InRange (states_of nodes) q → ((v : ℕ) → ¬ (IsFixed (IsParent nodes) d v) → 0 ≡ q v)
       → gain_at nodes s d (q d) (row_of nodes d q) *ℤ mass_at nodes t d (row_of nodes d q) ≡ gain_at nodes t d (q d) (row_of nodes d q) *ℤ mass_at nodes s d (row_of nodes d q)
   at_world q iq zero_else =

@@ -26,13 +26,16 @@ use Rattle.maid_laws.proofs.Signs.{at_pos}
 length_row : (n c : ℕ) → length (pure_row n c) ≡ n
 length_row n c = length-map (range_with_len 0 n) (λ s. cond (eqb s c) 1 0) ∙ length_range 0 n
 
+-- it is 1 at the choice
 at_row : (n c s : ℕ) → s < n → slice_index (pure_row n c) s ≡ cond (eqb s c) 1 0
 at_row n c s l = get_or-map-range_with_len (λ s. cond (eqb s c) 1 0) 0 n s s 0 l (omega arith)
 
+-- all rows together
 pub length_rows : (n : ℕ) (cs : List ℕ) → length (flat_map (pure_row n) cs) ≡ length cs * n
 length_rows n [] = omega arith
 length_rows n (c ∷ cs) = length-append (pure_row n c) (flat_map (pure_row n) cs) ∙ (λ i. length_row n c i + length_rows n cs i) ∙ omega arith
 
+-- by induction over the rows
 pub at_rows : (n : ℕ) (cs : List ℕ) (r s : ℕ) → r < length cs → s < n → slice_index (flat_map (pure_row n) cs) (r * n + s) ≡ cond (eqb s (slice_index cs r)) 1 0
 at_rows n [] r s l m = absurd (omega arith)
 at_rows n (c ∷ cs) zero s l m =
@@ -51,9 +54,11 @@ at_rows n (c ∷ cs) (suc r) s l m =
     rest : (r n s : ℕ) → suc r * n + s - n ≡ r * n + s
     rest r n s = omega arith
 
+-- no weight is below nought
 not_negative : (ws : List ℕ) (i : ℕ) → pos 0 ≤ℤ slice_index_or (map pos ws) i (pos 0)
 not_negative ws i = subst (λ x. pos 0 ≤ℤ x) (sym (at_pos ws i)) (omega (arith, ints))
 
+-- each row adds up to 1
 pub pure_table : (n : ℕ) (cs : List ℕ) → ((r : ℕ) → r < length cs → slice_index cs r < n) → IsTable (map pos (flat_map (pure_row n) cs)) (length cs) n 1
 pure_table n cs within = record {
   len = length-map (flat_map (pure_row n) cs) pos ∙ length_rows n cs;
@@ -79,6 +84,7 @@ pub record FitsRows (nodes : List NodeView) (v : ℕ) (rows : List Row) : Type 0
   pub count : length rows ≡ rows_of nodes v
   pub choices : All (λ r. r.choice < states_of nodes v) rows
 
+-- the first answer of the decision is found, and fits
 pub fits_rows : (nodes : List NodeView) (answers : List AnswerView) (v : ℕ) → All (FitsAnswer nodes) answers → Among v (map (λ a. a.decision) answers) → FitsRows nodes v (rows_at answers v)
 fits_rows nodes [] v h m = absurd m
 fits_rows nodes (a ∷ answers) v h m = go (eqb a.decision v) refl m (λ k. fits_rows nodes answers v (All-tail (FitsAnswer nodes) a answers h) k)
@@ -99,19 +105,24 @@ fits_rows nodes (a ∷ answers) v h m = go (eqb a.decision v) refl m (λ k. fits
 
 -- ---- the pure profile
 module _ (nodes : List NodeView) (answers : List AnswerView) where
+  -- the choices answered at v
   abbrev choices_at : ℕ → List ℕ
   choices_at v = map (λ r. r.choice) (rows_at answers v)
 
+  -- its weights
   pub pure_weights : (v : ℕ) → IsDecision nodes v → weights_of (pure_profile nodes answers) v ≡ flat_map (pure_row (states_of nodes v)) (map (λ r. r.choice) (rows_at answers v))
   pure_weights v d = weights_map (λ v. pure_rule nodes v (map (λ r. r.choice) (rows_at answers v))) (λ v. refl) (decisions_of nodes) v (among_decisions nodes v d)
 
+  -- its total
   pub pure_total : (v : ℕ) → IsDecision nodes v → rule_total (pure_profile nodes answers) v ≡ 1
   pure_total v d = total_map (λ v. pure_rule nodes v (map (λ r. r.choice) (rows_at answers v))) (λ v. refl) (decisions_of nodes) v (among_decisions nodes v d)
 
   module _ (fits : (v : ℕ) → IsDecision nodes v → FitsRows nodes v (rows_at answers v)) where
+    -- a choice for each row
     count_choices : (v : ℕ) → IsDecision nodes v → length (map (λ r. r.choice) (rows_at answers v)) ≡ rows_of nodes v
     count_choices v d = length-map (rows_at answers v) (λ r. r.choice) ∙ (fits v d).count
 
+    -- it is a rule
     pure_rule_at : (v : ℕ) → IsDecision nodes v → IsRule nodes (record { decision = v; total = 1; weights = flat_map (pure_row (states_of nodes v)) (map (λ r. r.choice) (rows_at answers v)) })
     pure_rule_at v d = record {
       positive = omega arith;
@@ -119,6 +130,7 @@ module _ (nodes : List NodeView) (answers : List AnswerView) where
           (pure_table (states_of nodes v) (map (λ r. r.choice) (rows_at answers v)) (λ r l. (All-map (λ c. c < states_of nodes v) (λ r. r.choice) (rows_at answers v) (fits v d).choices) r 0 l));
     }
 
+    -- so there is one for each decision
     pub pure_is_profile : IsProfile nodes (pure_profile nodes answers)
     pure_is_profile = record {
       decisions = decisions_map (λ v. pure_rule nodes v (map (λ r. r.choice) (rows_at answers v))) (λ v. refl) (decisions_of nodes);

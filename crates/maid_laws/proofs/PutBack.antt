@@ -32,6 +32,7 @@ use Rattle.maid_laws.proofs.Starts.{no_reliance}
 use Rattle.maid_laws.proofs.Step.{gain_from, table_from, total_from, times_le}
 use Rattle.maid_laws.proofs.Summed.{FromD, product_changed}
 
+-- a rule adds up in each row
 sums_of : (k : Kind) (cells : List ℤ) (ws : List ℕ) (rows states : ℕ) (total : ℤ) → k ≡ Decision → TableSums k cells ws rows states total → (row : ℕ) → row < rows → sum_below states (λ s. pos (slice_index ws (row * states + s))) ≡ total
 sums_of Chance cells ws rows states total e h = cc
 sums_of Decision cells ws rows states total e h = h.row
@@ -54,9 +55,11 @@ trans_fraction a b c m n k hn hm hk h j =
     e2 k b m = simp products
 
 module _ (nodes : List NodeView) (g : OrderedGraph nodes) (s : List RuleView) (choice : ℕ → ℕ → ℕ) (base : ℕ → List RuleView) (is_best : IsBest nodes s choice base) (started : ℕ → Bool) (q : World) (start : IsStart nodes started q) where
+  -- what the sums use
   setup : Setup nodes g.order
   setup = setup_of nodes g
 
+  -- the gain of an agent from the start
   abbrev gain : List RuleView → ℕ → ℤ
   gain p a = gain_from nodes g.order started q p (utility nodes a)
 
@@ -161,9 +164,6 @@ module _ (nodes : List NodeView) (g : OrderedGraph nodes) (s : List RuleView) (c
                 refl_le z = omega (arith, ints)
 
   -- ---- all rules, one by one
-  SameAt : List RuleView → List RuleView → ℕ → Type 0
-  SameAt p r v = (weights_of p v ≡ weights_of r v) × (rule_total p v ≡ rule_total r v)
-
   -- profiles with the same rules after the start
   same_after : (a : ℕ) (p r : List RuleView) → ((v : ℕ) → started v ≡ false → (node_at nodes v).kind ≡ Decision → (weights_of p v ≡ weights_of r v) × (rule_total p v ≡ rule_total r v)) → (gain p a ≡ gain r a) × (mass_after p ≡ mass_after r)
   same_after a p r h = (
@@ -184,6 +184,7 @@ module _ (nodes : List NodeView) (g : OrderedGraph nodes) (s : List RuleView) (c
       total_eq v true e = (λ i. cond (e i) (pos 1) (pos (weight_total nodes p v))) ∙ sym (λ i. cond (e i) (pos 1) (pos (weight_total nodes r v)))
       total_eq v false e = ap (λ n. cond (started v) (pos 1) (pos n)) (by_kind (node_at nodes v).kind (chance_total nodes v) (rule_total p v) (rule_total r v) (λ k. (h v e k).1))
 
+  -- totals are positive
   mass_positive : (p : List RuleView) → HasTables nodes p → pos 0 <ℤ mass_after p
   mass_positive p h = products_positive (total_from started (λ v. pos (weight_total nodes p v))) g.order (λ v. go v (started v))
     where
@@ -191,12 +192,14 @@ module _ (nodes : List NodeView) (g : OrderedGraph nodes) (s : List RuleView) (c
       go v true = omega (arith, ints)
       go v false = let k : 0 < weight_total nodes p v = h.positive v in omega (arith, ints)
 
+  -- equal gains and masses
   equal_fraction : (a b m n : ℤ) → a ≡ b → m ≡ n → (a *ℤ n) ≤ℤ (b *ℤ m)
   equal_fraction a b m n e f = subst (λ x. (a *ℤ n) ≤ℤ x) (λ i. e i *ℤ sym f i) (refl_le (a *ℤ n))
     where
       refl_le : (z : ℤ) → z ≤ℤ z
       refl_le z = omega (arith, ints)
 
+  -- one rule put back: nothing changes, or d's agent gains
   step_fraction : (a d : ℕ) → d < length nodes → (node_at nodes d).kind ≡ Decision → (r : List RuleView) → HasTables nodes r → ((e : ℕ) → ReliesOn nodes d e → weights_of r e ≡ weights_of s e)
       → ((node_at nodes d).owner ≢ a → (weights_of r d ≡ weights_of s d) × (rule_total r d ≡ rule_total s d))
       → (gain r a *ℤ mass_after (put_rule d s r)) ≤ℤ (gain (put_rule d s r) a *ℤ mass_after r)
@@ -247,10 +250,12 @@ module _ (nodes : List NodeView) (g : OrderedGraph nodes) (s : List RuleView) (c
           scaled (gain r a) (gain (put_rule d s r) a) (mass_after r) (mass_after (put_rule d s r)) (pos (weight_total nodes r d)) (omega (arith, ints))
           (subst (λ b. gain r b ≤ℤ (pos (weight_total nodes r d) *ℤ gain (put_rule d s r) b)) o (one_step d d_in d_kind e r hr relied)) (mass_is e)
 
+  -- the rules of s put in along a list
   abbrev put_all : List ℕ → List RuleView → List RuleView
   put_all [] r = r
   put_all (d ∷ ds) r = put_all ds (put_rule d s r)
 
+  -- what is like s stays so
   put_keeps : (d v : ℕ) (r : List RuleView) → (weights_of r v ≡ weights_of s v) × (rule_total r v ≡ rule_total s v) → (weights_of (put_rule d s r) v ≡ weights_of s v) × (rule_total (put_rule d s r) v ≡ rule_total s v)
   put_keeps d v r h = go (ℕ_discrete v d)
     where
@@ -258,19 +263,23 @@ module _ (nodes : List NodeView) (g : OrderedGraph nodes) (s : List RuleView) (c
       go (yes e) = (put_weights d s r v e, put_total d s r v e)
       go (no n) = (other_weights d s r v n ∙ h.0, other_total d s r v n ∙ h.1)
 
+  -- along the list too
   put_all_keeps : (ds : List ℕ) (v : ℕ) (r : List RuleView) → (weights_of r v ≡ weights_of s v) × (rule_total r v ≡ rule_total s v) → (weights_of (put_all ds r) v ≡ weights_of s v) × (rule_total (put_all ds r) v ≡ rule_total s v)
   put_all_keeps [] v r h = h
   put_all_keeps (d ∷ ds) v r h = put_all_keeps ds v (put_rule d s r) (put_keeps d v r h)
 
+  -- each decision of the list is like s in the end
   put_all_at : (ds : List ℕ) (v : ℕ) (r : List RuleView) → Among v ds → (weights_of (put_all ds r) v ≡ weights_of s v) × (rule_total (put_all ds r) v ≡ rule_total s v)
   put_all_at [] v r m = absurd m
   put_all_at (d ∷ ds) v r (inl e) = put_all_keeps ds v (put_rule d s r) (put_weights d s r v e, put_total d s r v e)
   put_all_at (d ∷ ds) v r (inr m) = put_all_at ds v (put_rule d s r) m
 
+  -- the tables fit all along
   put_all_tables : (ds : List ℕ) (r : List RuleView) → HasTables nodes r → HasTables nodes (put_all ds r)
   put_all_tables [] r h = h
   put_all_tables (d ∷ ds) r h = put_all_tables ds (put_rule d s r) (put_tables nodes d s r is_best.tables h)
 
+  -- by induction over the list, which places each decision after those that it relies on
   exchange : (a : ℕ) (done ds : List ℕ) (r : List RuleView) → HasTables nodes r → InOrder nodes done ds → ((e : ℕ) → Among e done → weights_of r e ≡ weights_of s e)
       → ((v : ℕ) → (node_at nodes v).kind ≡ Decision → (node_at nodes v).owner ≢ a → (weights_of r v ≡ weights_of s v) × (rule_total r v ≡ rule_total s v))
       → (gain r a *ℤ mass_after (put_all ds r)) ≤ℤ (gain (put_all ds r) a *ℤ mass_after r)

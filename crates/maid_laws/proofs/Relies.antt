@@ -15,18 +15,22 @@ use Rattle.maid_laws.proofs.Ranks.{one_way, no_parent_past}
 use Rattle.maid_laws.proofs.Walks.{leads_walk, walk_leads}
 
 module _ (nodes : List NodeView) (order : List ℕ) (setup : Setup nodes order) where
+  -- arcs go one way
   arc_one_way : (x y : ℕ) → Arc nodes x y → ¬ (Arc nodes y x)
   arc_one_way x y a b = one_way nodes order setup x y (parent_of nodes x y a) (parent_of nodes y x b)
 
+  -- the number after the last node has no children
   no_child_new : (y : ℕ) → Arc nodes (length nodes) y → ⊥
   no_child_new y a = let l : length nodes < length nodes = setup.parent_inside (length nodes) y (parent_of nodes (length nodes) y a) in omega arith
 
+  -- nor parents
   no_parent_new : (x : ℕ) → Arc nodes x (length nodes) → ⊥
   no_parent_new x a = no_parent_past nodes x (length nodes) at_most (parent_of nodes x (length nodes) a)
     where
       at_most : length nodes ≤ length nodes
       at_most = omega arith
 
+  -- and is no node
   fresh : (v : ℕ) → v < length nodes → length nodes ≢ v
   fresh v l = omega arith
 
@@ -50,6 +54,7 @@ module _ (nodes : List NodeView) (order : List ℕ) (setup : Setup nodes order) 
         (walk_leads (Arc nodes) (IsLive nodes) Fixed (length nodes) v goal arc_one_way no_child_new no_parent_new (fresh v v_in)
         (old goal goal_in) (λ c a. no_utility_child goal goal_kind c (parent_of nodes goal c a)) r)
 
+  -- from steps to reliance
   pub relies_of : (d goal v : ℕ) → IsDecision nodes d → IsLive nodes d → IsGoal nodes d goal → v ≢ d → IsDecision nodes v → IsLive nodes v
       → Leads (IsParent nodes) (IsLive nodes) (IsFixed (IsParent nodes) d) goal true v → ReliesOn nodes d v
   relies_of d goal v kd ld g n kv lv h = record {
@@ -63,5 +68,6 @@ module _ (nodes : List NodeView) (order : List ℕ) (setup : Setup nodes order) 
     walk = walk_of_steps (IsFixed (IsParent nodes) d) (IsFixed (Arc nodes) d) (fixed_same nodes d) goal v g.within g.kind lv.within lv h;
   }
 
+  -- and back
   pub steps_of_relies : (d e : ℕ) → (r : ReliesOn nodes d e) → Leads (IsParent nodes) (IsLive nodes) (IsFixed (IsParent nodes) d) r.goal true e
   steps_of_relies d e r = steps_of_walk (IsFixed (IsParent nodes) d) (IsFixed (Arc nodes) d) (fixed_same nodes d) r.goal e r.is_goal.within r.is_goal.kind r.on_live.within r.walk

@@ -31,6 +31,7 @@ gain_past nodes g p d state row n =
     (λ v. 0) (record { state = g.has_state })
     ∙ sum_over_zero (states_of nodes) (numbers_of nodes) (λ v. 0)
 
+-- past the last state both sides are nought
 pub irrelevance_law : Irrelevance
 irrelevance_law nodes s t d state row g c hs ht k l same = go (dec_lt state (states_of nodes d))
   where
@@ -40,6 +41,7 @@ irrelevance_law nodes s t d state row g c hs ht k l same = go (dec_lt state (sta
         ap (λ x. x *ℤ mass_at nodes t d row) (gain_past nodes g s d state row n) ∙ zero_mul (mass_at nodes t d row)
         ∙ sym (ap (λ x. x *ℤ mass_at nodes s d row) (gain_past nodes g t d state row n) ∙ zero_mul (mass_at nodes s d row))
 
+-- as long as the equation is false, what lies below d may be decided
 pub mass_same_law : MassAtEachState
 mass_same_law nodes p d state row g c h k less =
     let o = ordered nodes g in
@@ -83,6 +85,7 @@ mass_at_least nodes p d row g h within =
     (mass_not_negative nodes o.order (setup_of nodes o) d within keep.0 keep.1 p p (λ v. pos (weight_total nodes p v)) (totals_of nodes p h)
     (table_not_negative nodes p h) (table_not_negative nodes p h) (λ v m w i e. e) p (table_not_negative nodes p h) row)))
 
+-- the profile is its own base
 pub no_gain_law : NoGainWithoutMass
 no_gain_law nodes p d state row g c h k none =
     let t : HasTables nodes p = tables_of nodes p g c h in

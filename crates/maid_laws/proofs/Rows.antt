@@ -10,16 +10,20 @@ use Rattle.maid_model.proofs.Sums.{with_same, with_other, with_in}
 use Rattle.maid_model.proofs.Tables.{row_from_other}
 use Rattle.maid_laws.proofs.Collapse.{Apart}
 
+-- each table has a row
 pub rows_positive : (count : ℕ → ℕ) → ((v : ℕ) → 0 < count v) → (us : List ℕ) → 0 < rows_under count us
 rows_positive count has [] = omega arith
 rows_positive count has (u ∷ us) = mul-pos (has u) (rows_positive count has us)
 
+-- a number by its quotient and rest
 row_parts : (k c r x : ℕ) → (k * c + x / r) * r + x % r ≡ k * (c * r) + x
 row_parts k c r x = let e : x / r * r + x % r ≡ x = div-add-mod' x r in omega (arith, e)
 
+-- the quotient is a state
 quotient_below : (x c r : ℕ) → 0 < r → x < c * r → x / r < c
 quotient_below x c r h l = (div-lt_iff_lt-mul h).1 l
 
+-- by induction over the parents: the quotient is the first one's state
 pub world_at_row : (count : ℕ → ℕ) → ((v : ℕ) → 0 < count v) → (us : List ℕ) → Apart us → (x : ℕ) → x < rows_under count us
     → (q : World) × InRange count q × ((v : ℕ) → ¬ (Among v us) → 0 ≡ q v) × ((r : ℕ) → row_from count q r us ≡ r * rows_under count us + x)
 world_at_row count has [] a x l = ((λ v. 0), record { state = has }, (λ v n. refl), (λ r. omega arith))

@@ -21,6 +21,7 @@ use Rattle.maid_laws.proofs.Tied.{decision_of}
 
 -- ---- rules looked up
 module _ (f : ℕ → RuleView) (own : (v : ℕ) → (f v).decision ≡ v) where
+  -- the weights of a decision of the list
   pub weights_map : (ds : List ℕ) (v : ℕ) → Among v ds → weights_of (map f ds) v ≡ (f v).weights
   weights_map [] v m = absurd m
   weights_map (d ∷ ds) v m = go (ℕ_discrete d v) m (λ k. weights_map ds v k)
@@ -30,6 +31,7 @@ module _ (f : ℕ → RuleView) (own : (v : ℕ) → (f v).decision ≡ v) where
       go (no n) (inl e) r = absurd (n (sym e))
       go (no n) (inr k) r = ap (λ b. cond b (f d).weights (weights_of (map f ds) v)) (eqb_no (f d).decision v (λ e. n (sym (own d) ∙ e))) ∙ r k
 
+  -- and the total
   pub total_map : (ds : List ℕ) (v : ℕ) → Among v ds → rule_total (map f ds) v ≡ (f v).total
   total_map [] v m = absurd m
   total_map (d ∷ ds) v m = go (ℕ_discrete d v) m (λ k. total_map ds v k)
@@ -39,6 +41,7 @@ module _ (f : ℕ → RuleView) (own : (v : ℕ) → (f v).decision ≡ v) where
       go (no n) (inl e) r = absurd (n (sym e))
       go (no n) (inr k) r = ap (λ b. cond b (f d).total (rule_total (map f ds) v)) (eqb_no (f d).decision v (λ e. n (sym (own d) ∙ e))) ∙ r k
 
+  -- one rule for each
   pub decisions_map : (ds : List ℕ) → map (λ r. r.decision) (map f ds) ≡ ds
   decisions_map [] = refl
   decisions_map (d ∷ ds) = λ i. own d i ∷ decisions_map ds i
@@ -47,11 +50,13 @@ module _ (f : ℕ → RuleView) (own : (v : ℕ) → (f v).decision ≡ v) where
 pub among_decisions : (nodes : List NodeView) (v : ℕ) → IsDecision nodes v → Among v (decisions_of nodes)
 among_decisions nodes v d = among_filter_in (λ v. is_decision (node_at nodes v).kind) v (numbers_of nodes) (number nodes v d.within) (ap is_decision d.kind)
 
+-- the kind that passes
 pub decision_kind : (k : Kind) → is_decision k ≡ true → k ≡ Decision
 decision_kind Chance h = cc
 decision_kind Decision h = refl
 decision_kind Utility h = cc
 
+-- and what is among them is one
 pub decision_among : (nodes : List NodeView) (v : ℕ) → Among v (decisions_of nodes) → IsDecision nodes v
 decision_among nodes v m = decision_of nodes v (decision_kind (node_at nodes v).kind (among_filter (λ v. is_decision (node_at nodes v).kind) v (numbers_of nodes) m).1)
 
@@ -59,9 +64,11 @@ decision_among nodes v m = decision_of nodes v (decision_kind (node_at nodes v).
 pub uniform_weights : (nodes : List NodeView) (v : ℕ) → IsDecision nodes v → weights_of (uniform_profile nodes) v ≡ replicate (rows_of nodes v * states_of nodes v) 1
 uniform_weights nodes v d = weights_map (uniform_rule nodes) (λ v. refl) (decisions_of nodes) v (among_decisions nodes v d)
 
+-- as many as there are states
 pub uniform_total : (nodes : List NodeView) (v : ℕ) → IsDecision nodes v → rule_total (uniform_profile nodes) v ≡ states_of nodes v
 uniform_total nodes v d = total_map (uniform_rule nodes) (λ v. refl) (decisions_of nodes) v (among_decisions nodes v d)
 
+-- so it is a profile
 pub uniform_is_profile : (nodes : List NodeView) → IsGraph nodes → IsProfile nodes (uniform_profile nodes)
 uniform_is_profile nodes g = record {
   decisions = decisions_map (uniform_rule nodes) (λ v. refl) (decisions_of nodes);
@@ -82,6 +89,7 @@ sum_natural : (n : ℕ) (f : ℕ → ℕ) → (s : ℕ) × (sum_below n (λ i. p
 sum_natural zero f = (0, refl)
 sum_natural (suc n) f = let r = sum_natural n f in (r.0 + f n, let e : sum_below n (λ i. pos (f i)) ≡ pos r.0 = r.1 in omega (arith, ints))
 
+-- none of those that add up to nought is positive
 sum_zero : (n : ℕ) (f : ℕ → ℕ) → sum_below n (λ i. pos (f i)) ≡ pos 0 → (i : ℕ) → i < n → f i ≡ 0
 sum_zero zero f h i l = absurd (omega arith)
 sum_zero (suc n) f h i l =
@@ -96,6 +104,7 @@ sum_zero (suc n) f h i l =
     go (yes e) z r = ap f e ∙ z
     go (no m) z r = r (less i n l m)
 
+-- by induction: the last is 1 and the others are 0, or it is 0
 pub one_of : (n : ℕ) (f : ℕ → ℕ) → sum_below n (λ i. pos (f i)) ≡ pos 1 → (c : ℕ) × (c < n) × ((i : ℕ) → i < n → pos (f i) ≡ cond (eqb i c) (pos 1) (pos 0))
 one_of zero f h = absurd (let e : pos 0 ≡ pos 1 = h in omega (arith, ints))
 one_of (suc n) f h = go (f n) refl (sum_natural n f).0 (sum_natural n f).1 (λ e. one_of n f e)

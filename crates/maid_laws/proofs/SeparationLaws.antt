@@ -38,6 +38,7 @@ use Rattle.maid_laws.proofs.Signs.{pos_product}
 use Rattle.maid_laws.proofs.Tied.{tables_of}
 use Rattle.maid_laws.proofs.TotalLaws.{ignored, has_total}
 
+-- fixed nodes can be told
 fixed_dec : (fixed : ℕ → Bool) (x : ℕ) → Dec (fixed x ≡ true)
 fixed_dec fixed x = go (fixed x)
   where
@@ -53,11 +54,13 @@ module _ (nodes : List NodeView) (fixed : ℕ → Bool) (goal : ℕ) where
   abbrev Steps : ℕ → Type 0
   Steps v = Reaches (IsParent nodes) (IsLive nodes) (IsFixedBy fixed) goal v
 
+  -- along the path
   pub reaches_of : (target : ℕ) {v : ℕ} → IsPath (λ x y. Arc nodes x y × IsLive nodes y) target v → IsFixedBy fixed target ⊎ (target ≡ goal) → Reaches (IsParent nodes) (IsLive nodes) (IsFixedBy fixed) goal v
   reaches_of target Here (inl g) = at_given g
   reaches_of target Here (inr e) = subst (λ z. Reaches (IsParent nodes) (IsLive nodes) (IsFixedBy fixed) goal z) (sym e) at_goal
   reaches_of target (Along {u = u} {v = v} a p) h = onward (parent_of nodes u v a.0) a.1 (reaches_of target p h)
 
+  -- and back
   pub matters_of : {v : ℕ} → IsLive nodes v → Reaches (IsParent nodes) (IsLive nodes) (IsFixedBy fixed) goal v → Matters nodes fixed goal v
   matters_of {v} l (at_given g) = record { live = l; target = v; path = Here; reached = inl g }
   matters_of {v} l at_goal = record { live = l; target = v; path = Here; reached = inr refl }
@@ -65,12 +68,15 @@ module _ (nodes : List NodeView) (fixed : ℕ → Bool) (goal : ℕ) where
       let m = matters_of lc r in
       record { live = l; target = m.target; path = Along (arc_of nodes v c a, lc) m.path; reached = m.reached }
 
+  -- what matters reaches
   pub matters_steps : {v : ℕ} → Matters nodes fixed goal v → Reaches (IsParent nodes) (IsLive nodes) (IsFixedBy fixed) goal v
   matters_steps m = reaches_of m.target m.path m.reached
 
+-- the same nodes are fixed
 same_fixed : (fixed : ℕ → Bool) (x : ℕ) → (fixed x ≡ true) ↔ (fixed x ≡ true)
 same_fixed fixed x = ((λ k. k), (λ k. k))
 
+-- by steps
 pub shared_law : SharedNodeJoins
 shared_law nodes fixed goal v y x g u lv my lx free sv sy h =
     walk_of_steps nodes o.order setup (IsFixedBy fixed) (IsFixedBy fixed) (same_fixed fixed) goal y u.within u.kind my.live.within my.live
@@ -81,6 +87,7 @@ shared_law nodes fixed goal v y x g u lv my lx free sv sy h =
     o : OrderedGraph nodes
     o = ordered nodes g
 
+    -- what the sums use
     setup : Setup nodes o.order
     setup = setup_of nodes o
 
@@ -103,36 +110,45 @@ sum_from count (v ∷ vs) f w x h =
 module _ (nodes : List NodeView) (p : List RuleView) (d : ℕ) (fixed : ℕ → Bool) (goal : ℕ) (matters joined : ℕ → Bool) (f : World → ℤ) (q : World)
     (g : IsGraph nodes) (t : HasTables nodes p) (u : IsUtility nodes goal) (split : IsSplit nodes fixed goal matters joined)
     (f_looks : (u : ℕ) → (Arc nodes u goal → ⊥) → Overlooks (states_of nodes) f u) (iq : InRange (states_of nodes) q) where
+  -- a list with parents first
   abbrev order : List ℕ
   order = (ordered nodes g).order
 
   setup : Setup nodes (ordered nodes g).order
   setup = setup_of nodes (ordered nodes g)
 
+  -- a utility is live
   goal_live : IsLive nodes goal
   goal_live = record { within = u.within; states = inl u.kind }
 
+  -- what matters, by steps
   live_steps : (v : ℕ) → Matters nodes fixed goal v → IsLive nodes v × Reaches (IsParent nodes) (IsLive nodes) (IsFixedBy fixed) goal v
   live_steps v m = (m.live, matters_steps nodes fixed goal m)
 
+  -- the tests tell what the sums ask: what matters
   tells_keep : Tells matters (λ v. IsLive nodes v × Reaches (IsParent nodes) (IsLive nodes) (IsFixedBy fixed) goal v) (ordered nodes g).order
   tells_keep = record {
     yes = λ v m e. live_steps v ((split.matters_is v (setup.inside v m)).0 e);
     no = λ v m e h. not_both (matters v) ((split.matters_is v (setup.inside v m)).1 (matters_of nodes fixed goal h.0 h.1)) e;
   }
 
+  -- what is fixed
   tells_given : Tells fixed (IsFixedBy fixed) (ordered nodes g).order
   tells_given = record { yes = λ v m e. e; no = λ v m e h. not_both (fixed v) h e }
 
+  -- walks as steps
   steps_of : (v : ℕ) → Matters nodes fixed goal v → HasWalk nodes fixed goal v → Leads (IsParent nodes) (IsLive nodes) (IsFixedBy fixed) goal true v
   steps_of v m h = steps_of_walk nodes (ordered nodes g).order setup (IsFixedBy fixed) (IsFixedBy fixed) (same_fixed fixed) goal v u.within u.kind m.live.within h
 
+  -- steps as walks
   walk_of : (v : ℕ) → Matters nodes fixed goal v → Leads (IsParent nodes) (IsLive nodes) (IsFixedBy fixed) goal true v → HasWalk nodes fixed goal v
   walk_of v m h = walk_of_steps nodes (ordered nodes g).order setup (IsFixedBy fixed) (IsFixedBy fixed) (same_fixed fixed) goal v u.within u.kind m.live.within m.live h
 
+  -- what is kept matters
   kept : (v : ℕ) → Among v (filter matters (ordered nodes g).order) → Matters nodes fixed goal v
   kept v m = let k = among_filter matters v (ordered nodes g).order m in (split.matters_is v (setup.inside v k.0)).0 k.1
 
+  -- what has a walk
   tells_first : Tells joined (Leads (IsParent nodes) (IsLive nodes) (IsFixedBy fixed) goal true) (filter matters (ordered nodes g).order)
   tells_first = record {
     yes = λ v m e. steps_of v (kept v m) ((split.joined_is v (kept v m)).0 e);
@@ -143,6 +159,7 @@ module _ (nodes : List NodeView) (p : List RuleView) (d : ℕ) (fixed : ℕ → 
   abbrev F : List ℕ
   F = filter fixed (filter matters (ordered nodes g).order)
 
+  -- a fixed node that is not live has one state
   fixed_agree : (w : World) → InRange (states_of nodes) w → ((o : ℕ) → Among o (filter fixed (filter matters (ordered nodes g).order)) → w o ≡ q o) → (v : ℕ) → v < length nodes → fixed v ≡ true → w v ≡ q v
   fixed_agree w iw h v l e = go (dec_lt 1 (states_of nodes v))
     where
@@ -153,6 +170,7 @@ module _ (nodes : List NodeView) (p : List RuleView) (d : ℕ) (fixed : ℕ → 
       go (yes k) = h v (live_in_F nodes (ordered nodes g).order setup (IsFixedBy fixed) (fixed_dec fixed) goal goal_live u.kind matters fixed joined tells_keep tells_given tells_first v (record { within = l; states = inr k }) e)
       go (no n) = one_state (w v) (q v) (states_of nodes v) (iw.state v) (iq.state v) n
 
+  -- a world with q's states at fixed nodes passes
   agrees_all : (w : World) → ((v : ℕ) → v < length nodes → fixed v ≡ true → w v ≡ q v) → agrees_at_fixed nodes fixed q w ≡ true
   agrees_all w h = at_all (λ v. not (fixed v) || eqb (w v) (q v)) (numbers_of nodes) (λ v m. go v (numbered nodes v m) (fixed v) refl)
     where
@@ -160,6 +178,7 @@ module _ (nodes : List NodeView) (p : List RuleView) (d : ℕ) (fixed : ℕ → 
       go v l true e = eqb_yes (w v) (q v) (h v l e)
       go v l false e = refl
 
+  -- and only such a world
   agrees_each : (w : World) → agrees_at_fixed nodes fixed q w ≡ true → (v : ℕ) → v < length nodes → fixed v ≡ true → w v ≡ q v
   agrees_each w h v l e = eqb_same (w v) (q v) (part (fixed v) (eqb (w v) (q v)) e (all_at (λ v. not (fixed v) || eqb (w v) (q v)) (numbers_of nodes) h v (number nodes v l)))
     where
@@ -167,6 +186,7 @@ module _ (nodes : List NodeView) (p : List RuleView) (d : ℕ) (fixed : ℕ → 
       part true b x y = y
       part false b x y = absurd (not_both false x refl)
 
+  -- the two tests are one
   agree_same : (w : World) → InRange (states_of nodes) w → one_if (agrees_at_fixed nodes fixed q w) ≡ agree F q w
   agree_same w iw = go (agree_cases (filter fixed (filter matters (ordered nodes g).order)) q w) (agrees_at_fixed nodes fixed q w) refl
     where
@@ -194,32 +214,40 @@ module _ (nodes : List NodeView) (p : List RuleView) (d : ℕ) (fixed : ℕ → 
             ∙ ap pos (sym (ap (λ b. cond b (states_of nodes v) (weight_total nodes p v)) (eqb_no v d n)));
       }
 
+  -- f looks at the goal's parents alone
   goal_looks : (u : ℕ) → ¬ (IsParent nodes u goal) → Ignores (states_of nodes) f u
   goal_looks x n = ignored (states_of nodes) f x (f_looks x (λ a. n (parent_of nodes x goal a)))
 
+  -- no number stands twice
   apart : Apart (numbers_of nodes)
   apart = range_apart 0 (length nodes)
 
+  -- what matters, and what of it is free
   abbrev K : List ℕ
   K = filter matters (numbers_of nodes)
 
   abbrev V : List ℕ
   V = filter (λ v. not (fixed v)) (filter matters (numbers_of nodes))
 
+  -- no number stands twice there
   apart_K : Apart (filter matters (numbers_of nodes))
   apart_K = apart_filter matters (numbers_of nodes) apart
 
+  -- the same nodes in the list's order
   moved_K : Shuffled (filter matters (numbers_of nodes)) (filter matters (ordered nodes g).order)
   moved_K = shuffled_filter matters (numbers_of nodes) (ordered nodes g).order apart (ordered nodes g).shuffled
 
+  -- the same of those that pass a test
   moved_T : (r : ℕ → Bool) → Shuffled (filter r (filter matters (numbers_of nodes))) (filter r (filter matters (ordered nodes g).order))
   moved_T r = shuffled_filter r (filter matters (numbers_of nodes)) (filter matters (ordered nodes g).order) apart_K moved_K
 
+  -- and of the free ones
   moved_V : (r : ℕ → Bool) → Shuffled (filter r (filter (λ v. not (fixed v)) (filter matters (numbers_of nodes)))) (filter r (filter (λ v. not (fixed v)) (filter matters (ordered nodes g).order)))
   moved_V r =
       shuffled_filter r (filter (λ v. not (fixed v)) (filter matters (numbers_of nodes))) (filter (λ v. not (fixed v)) (filter matters (ordered nodes g).order))
       (apart_filter (λ v. not (fixed v)) (filter matters (numbers_of nodes)) apart_K) (moved_T (λ v. not (fixed v)))
 
+  -- past the last node q has state 0
   off_nodes : (v : ℕ) → Avoids v (numbers_of nodes) → 0 ≡ q v
   off_nodes v a = go (dec_lt v (length nodes))
     where
@@ -241,6 +269,7 @@ module _ (nodes : List NodeView) (p : List RuleView) (d : ℕ) (fixed : ℕ → 
       ap (λ k. sum_over (states_of nodes) (filter r (filter (λ v. not (fixed v)) (filter matters (ordered nodes g).order))) k q) (fun_ext (λ x. ap (λ y. h x *ℤ y) (sym (product_over-shuffled (λ v. table_but nodes d p v x) (moved_T r)))))
       ∙ sym (sum_over-shuffled (states_of nodes) (λ x. h x *ℤ product_without nodes p d (filter r (filter matters (numbers_of nodes))) x) (moved_V r) q)
 
+  -- and the other group's
   other_sum : (r : ℕ → Bool)
       → sum_over (states_of nodes) (filter r (filter (λ v. not (fixed v)) (filter matters (ordered nodes g).order))) (λ x. product_over (λ v. table_but nodes d p v x) (filter r (filter matters (ordered nodes g).order))) q
       ≡ sum_over (states_of nodes) (filter r (filter (λ v. not (fixed v)) (filter matters (numbers_of nodes)))) (product_without nodes p d (filter r (filter matters (numbers_of nodes)))) q
@@ -248,11 +277,13 @@ module _ (nodes : List NodeView) (p : List RuleView) (d : ℕ) (fixed : ℕ → 
       ap (λ k. sum_over (states_of nodes) (filter r (filter (λ v. not (fixed v)) (filter matters (ordered nodes g).order))) k q) (fun_ext (λ x. sym (product_over-shuffled (λ v. table_but nodes d p v x) (moved_T r))))
       ∙ sym (sum_over-shuffled (states_of nodes) (product_without nodes p d (filter r (filter matters (numbers_of nodes)))) (moved_V r) q)
 
+  -- the totals in text order
   out_totals : product_over (λ v. pos (total_without nodes p d v)) (filter (λ v. not (matters v)) (ordered nodes g).order) ≡ pos (nat_product_over (total_without nodes p d) (filter (λ v. not (matters v)) (numbers_of nodes)))
   out_totals =
       sym (product_over-shuffled (λ v. pos (total_without nodes p d v)) (shuffled_filter (λ v. not (matters v)) (numbers_of nodes) (ordered nodes g).order apart (ordered nodes g).shuffled))
       ∙ pos_product (total_without nodes p d) (filter (λ v. not (matters v)) (numbers_of nodes))
 
+  -- from text order to the list, apart, and back
   pub sums_separate : sum_worlds nodes (λ w. cond (agrees_at_fixed nodes fixed q w) (weight_without nodes p d w *ℤ f w) (pos 0))
       ≡ pos (nat_product_over (total_without nodes p d) (filter (λ v. not (matters v)) (numbers_of nodes)))
       *ℤ (sum_over (states_of nodes) (filter joined (filter (λ v. not (fixed v)) (filter matters (numbers_of nodes)))) (λ w. f w *ℤ product_without nodes p d (filter joined (filter matters (numbers_of nodes))) w) q
@@ -270,9 +301,11 @@ module _ (nodes : List NodeView) (p : List RuleView) (d : ℕ) (fixed : ℕ → 
       (apart_filter fixed (filter matters (ordered nodes g).order) (apart_filter matters (ordered nodes g).order setup.apart)) q iq q iq (λ v a. refl)
       ∙ (λ i. out_totals i *ℤ (group_sum f joined i *ℤ other_sum (λ v. not (joined v)) i))
 
+-- for every diagram
 pub separate_law : SumsSeparate
 separate_law nodes p d fixed goal matters joined f q g c h u split looks iq = sums_separate nodes p d fixed goal matters joined f q g (tables_of nodes p g c h) u split looks iq
 
+-- the facts may be decided for finitely many nodes
 pub split_law : SplitExists
 split_law nodes fixed goal none =
     tests (Matters nodes fixed goal) (numbers_of nodes) (λ matters.

@@ -21,6 +21,7 @@ use Rattle.maid_laws.proofs.Rules.{uniform_is_profile}
 
 -- where arcs lead to greater numbers there is no cycle
 module _ (R : ℕ → ℕ → Type 0) (up : (u v : ℕ) → R u v → u < v) where
+  -- by induction over the path
   path_up : {to v : ℕ} → IsPath R to v → v ≤ to
   path_up Here = omega arith
   path_up (Along {u = u} {v = v} a p) = let x : u < v = up u v a in let y = path_up p in omega arith
@@ -38,11 +39,13 @@ parent_up u (suc (suc zero)) (inr (inl e)) = (omega arith, omega arith)
 parent_up u (suc (suc zero)) (inr (inr m)) = absurd m
 parent_up u (suc (suc (suc v))) m = absurd m
 
+-- no parent is a utility
 no_utility : (u : ℕ) → u < 2 → (node_at trip u).kind ≢ Utility
 no_utility zero l e = cc
 no_utility (suc zero) l e = cc
 no_utility (suc (suc u)) l e = absurd (omega arith)
 
+-- the three nodes are a graph
 trip_graph : IsGraph trip
 trip_graph = record {
   parents_known = λ u v a. let l : u < 2 = (parent_up u v (parent_of trip u v a)).1 in omega arith;
@@ -103,15 +106,18 @@ trip_tables = record { positive = positive; table = table }
     table (suc (suc zero)) e = cc
     table (suc (suc (suc v))) e = cc
 
+-- there is one decision
 only_outing : (v : ℕ) → IsDecision trip v → v ≡ 1
 only_outing zero d = let e : Chance ≡ Decision = d.kind in cc
 only_outing (suc zero) d = refl
 only_outing (suc (suc zero)) d = let e : Utility ≡ Decision = d.kind in cc
 only_outing (suc (suc (suc v))) d = let e : Utility ≡ Decision = d.kind in cc
 
+-- which is one
 is_outing : IsDecision trip 1
 is_outing = record { within = omega arith; kind = refl }
 
+-- its rule
 plan_table : IsTable (map pos (1 ∷ 0 ∷ 0 ∷ 1 ∷ [])) 2 2 1
 plan_table = record { len = refl; not_negative = not_negative; row = row }
   where
@@ -127,6 +133,7 @@ plan_table = record { len = refl; not_negative = not_negative; row = row }
     row (suc zero) l = refl
     row (suc (suc r)) l = absurd (omega arith)
 
+-- the plan is a profile
 plan_profile : IsProfile trip plan
 plan_profile = record {
   decisions = refl;
@@ -137,6 +144,7 @@ plan_profile = record {
 none_relied : (d e : ℕ) → ReliesOn trip d e → ⊥
 none_relied d e r = r.apart (only_outing d r.from_decision ∙ sym (only_outing e r.on_decision))
 
+-- no state gains more than the plan's
 plan_best : IsBestInBases trip plan
 plan_best = record {
   profile = plan_profile;
@@ -181,6 +189,7 @@ plan_best = record {
       best = λ row choice state l m w p n. row_best row choice state (two row l) (two choice m) (two state n) w;
     }
 
+-- all of it
 pub meets : MeetsTheLaws
 meets = record {
   graph = trip_graph;
@@ -193,6 +202,7 @@ meets = record {
   best = plan_best;
 }
 
+-- by computation
 pub sums : HasSums
 sums = record {
   plan_gain = refl;
@@ -216,11 +226,13 @@ pair_up u (suc (suc zero)) (inr (inl e)) = (omega arith, omega arith)
 pair_up u (suc (suc zero)) (inr (inr m)) = absurd m
 pair_up u (suc (suc (suc v))) m = absurd m
 
+-- no parent is a utility
 no_utility_of_pair : (u : ℕ) → u < 2 → (node_at pair u).kind ≢ Utility
 no_utility_of_pair zero l e = cc
 no_utility_of_pair (suc zero) l e = cc
 no_utility_of_pair (suc (suc u)) l e = absurd (omega arith)
 
+-- the three nodes are a graph
 pair_graph : IsGraph pair
 pair_graph = record {
   parents_known = λ u v a. let l : u < 2 = (pair_up u v (parent_of pair u v a)).1 in omega arith;
@@ -280,6 +292,7 @@ relies d e n kd ke ld le owner ad ae none = record {
     given (inl f) = n (sym f)
     given (inr a) = none e a
 
+-- by the walk through the other decision
 pub rely : RelyOnEachOther
 rely = record {
   graph = pair_graph;

@@ -24,9 +24,11 @@ same_front [] (x ∷ short) l h = absurd (omega arith)
 same_front (y ∷ long) (x ∷ short) l h = λ k. h 0 (omega arith) k ∷ same_front long short (omega arith) (λ j m. h (suc j) (omega arith)) k
 
 module _ (nodes : List NodeView) (g : IsGraph nodes) (order start : List ℕ) (listing : IsListing nodes order) (history : IsHistory nodes order start) where
+  -- members of the list are nodes
   inside : (j : ℕ) → j < length order → (slice_index order j < length nodes) × ((node_at nodes (slice_index order j)).kind ≢ Utility)
   inside j l = listing.within (slice_index order j) (contains_of (slice_index order j) order (among_index order j l))
 
+  -- places of the history are places of the list
   longer : (j : ℕ) → j < length start → j < length order
   longer j l = let k : length start ≤ length order = history.within in omega arith
 
@@ -45,14 +47,17 @@ module _ (nodes : List NodeView) (g : IsGraph nodes) (order start : List ℕ) (l
       go true e = absurd (clash e)
       go false e = e
 
+  -- a list of all nodes with parents first
   setup_order : OrderedGraph nodes
   setup_order = ordered nodes g
 
+  -- what is live and no utility has two states
   more_states : (v : ℕ) → (node_at nodes v).kind ≢ Utility → ((node_at nodes v).kind ≡ Utility) ⊎ (1 < states_of nodes v) → 1 < states_of nodes v
   more_states v n (inl e) = absurd (n e)
   more_states v n (inr l) = l
 
   module _ (keeps : KeepsInformation nodes order start) where
+    -- changing one state of a node that d does not see would leave the start
     pub sees_all : LaterSeeAll nodes order start
     sees_all i j lj li m k live =
         arc_of nodes (slice_index order j) (slice_index order i)
@@ -60,6 +65,7 @@ module _ (nodes : List NodeView) (g : IsGraph nodes) (order start : List ℕ) (l
         (closed_up nodes g order start listing history) (slice_index order i) (closed nodes g order start listing history keeps (slice_index order i) (later i li m) k.kind)
         (slice_index order j) (in_start_at order start j lj (longer j lj)) (more_states (slice_index order j) (inside j (longer j lj)).1 live.states))
 
+    -- what d sees is given
     pub no_reliance_back : (i j : ℕ) → j < length start → length start ≤ i → i < length order → ReliesOn nodes (slice_index order i) (slice_index order j) → ⊥
     no_reliance_back i j lj li m r =
         no_reliance nodes setup_order.order (setup_of nodes setup_order) (in_start order start) (world_of_history order start) (range nodes g order start listing history)
@@ -82,8 +88,10 @@ module _ (nodes : List NodeView) (g : IsGraph nodes) (order start : List ℕ) (l
           sym (agree j (omega arith) (sees i j l li m k (record { within = (inside j (longer j l)).0; states = inr more }))) ∙ start_state j l
       at j l (no n) = one_state (slice_index b j) (slice_index start j) (states_of nodes (slice_index order j)) (hb.each j (omega arith)) (history.each j l) n
 
+-- both ways
 pub kept_law : InformationKept
 kept_law nodes order start g l h = (sees_all nodes g order start l h, keeps_if nodes g order start l h)
 
+-- for every diagram
 pub no_reliance_law : NoRelianceBack
 no_reliance_law nodes order start g l h keeps = no_reliance_back nodes g order start l h keeps

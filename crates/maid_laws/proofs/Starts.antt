@@ -15,15 +15,18 @@ use Rattle.maid_laws.proofs.Relies.{steps_of_relies, no_utility_child}
 
 -- where e and all its live parents are given, no walk leads on from e by an arrow's head
 module _ (Arc : ℕ → ℕ → Type 0) (Live Given : ℕ → Type 0) (goal e : ℕ) (apart : e ≢ goal) (given : Given e) (parents : (z : ℕ) → Arc z e → Live z → Given z) where
+  -- nothing goes on from the tail at a given node
   no_tail : {z : ℕ} → Given z → Leads Arc Live Given goal false z → ⊥
   no_tail g (tail_down n a l h) = n g
   no_tail g (tail_up n a l h) = n g
 
+  -- a given node is left by a parent alone
   no_head : {x : ℕ} → x ≡ e → Leads Arc Live Given goal true x → ⊥
   no_head k ends = apart (sym k)
   no_head k (head_down n a l h) = n (subst Given (sym k) given)
   no_head k (head_up {z = z} g a l h) = no_tail (parents z (subst (λ y. Arc z y) k a) l) h
 
+  -- and its live parents are given
   pub closed_in : Leads Arc Live Given goal true e → ⊥
   closed_in h = no_head refl h
 

@@ -25,6 +25,7 @@ use Rattle.maid_laws.proofs.Summed.{FromD, summed_out, product_changed, sum_over
 abbrev pub table_from : List NodeView → (ℕ → Bool) → World → List RuleView → ℕ → World → ℤ
 table_from nodes started q p v w = cond (started v) (one_if (eqb (w v) (q v))) (table nodes p v w)
 
+-- their totals: 1 in the start
 abbrev pub total_from : (ℕ → Bool) → (ℕ → ℤ) → ℕ → ℤ
 total_from started total v = cond (started v) (pos 1) (total v)
 
@@ -43,6 +44,7 @@ times_le a x y h k =
     parts : (x y : ℤ) → y ≡ x +ℤ (y -ℤ x)
     parts x y = omega (arith, ints)
 
+-- a factor of all terms
 spread : (n : ℕ) (a b : ℕ → ℤ) (f m : ℤ) → f *ℤ (sum_below n (λ s. a s *ℤ b s) *ℤ m) ≡ sum_below n (λ s. b s *ℤ (a s *ℤ (f *ℤ m)))
 spread n a b f m =
     regroup f (sum_below n (λ s. a s *ℤ b s)) m ∙ sym (sum_below_mul n (f *ℤ m) (λ s. a s *ℤ b s))
@@ -54,6 +56,7 @@ spread n a b f m =
     move : (k a b : ℤ) → k *ℤ (a *ℤ b) ≡ b *ℤ (a *ℤ k)
     move k a b = simp products
 
+-- the same by rows
 spread_rows : (rows : ℕ) (g : ℕ → ℤ) (f m : ℤ) → f *ℤ (sum_below rows g *ℤ m) ≡ sum_below rows (λ r. f *ℤ (g r *ℤ m))
 spread_rows rows g f m =
     regroup f (sum_below rows g) m ∙ sym (sum_below_mul rows (f *ℤ m) g) ∙ sum_below_cong rows (λ r. (f *ℤ m) *ℤ g r) (λ r. f *ℤ (g r *ℤ m)) (λ r l. sym (regroup f (g r) m))
@@ -61,6 +64,7 @@ spread_rows rows g f m =
     regroup : (f x m : ℤ) → f *ℤ (x *ℤ m) ≡ (f *ℤ m) *ℤ x
     regroup f x m = simp products
 
+-- a weighed sum is at most the total weight times the best
 weighed_le : (n : ℕ) (a h : ℕ → ℤ) (m : ℤ) → ((i : ℕ) → i < n → pos 0 ≤ℤ a i) → ((i : ℕ) → i < n → h i ≤ℤ m) → sum_below n (λ i. a i *ℤ h i) ≤ℤ (sum_below n a *ℤ m)
 weighed_le zero a h m ha hh = omega (arith, ints)
 weighed_le (suc n) a h m ha hh =
@@ -69,14 +73,17 @@ weighed_le (suc n) a h m ha hh =
     let e : (sum_below n a +ℤ a n) *ℤ m ≡ (sum_below n a *ℤ m) +ℤ (a n *ℤ m) = add_mul m (sum_below n a) (a n) in
     omega (arith, ints)
 
+-- term by term
 pub sum_le : (n : ℕ) (f g : ℕ → ℤ) → ((i : ℕ) → i < n → f i ≤ℤ g i) → sum_below n f ≤ℤ sum_below n g
 sum_le zero f g h = omega (arith, ints)
 sum_le (suc n) f g h = let r : sum_below n f ≤ℤ sum_below n g = sum_le n f g (λ i l. h i (omega arith)) in let s : f n ≤ℤ g n = h n (omega arith) in omega (arith, ints)
 
 module _ (nodes : List NodeView) (order : List ℕ) (setup : Setup nodes order) (started : ℕ → Bool) (q : World) (iq : InRange (states_of nodes) q) where
+  -- the world of first states
   zero_in : InRange (states_of nodes) (λ v. 0)
   zero_in = record { state = setup.has_state }
 
+  -- such factors look at their parents alone
   pub from_looks : (p : List RuleView) → LooksAtParents nodes (table_from nodes started q p)
   from_looks p = record {
     others = λ v u n a. record {
@@ -85,6 +92,7 @@ module _ (nodes : List NodeView) (order : List ℕ) (setup : Setup nodes order) 
     };
   }
 
+  -- and have totals
   pub from_total : (p : List RuleView) (total : ℕ → ℤ) → Totals nodes p total → (v : ℕ) → Among v order → HasTotal (states_of nodes) (table_from nodes started q p) (total_from started total) v
   from_total p total t v m = record { sums = λ w i. go (started v) w i }
     where
@@ -185,6 +193,7 @@ module _ (nodes : List NodeView) (order : List ℕ) (setup : Setup nodes order) 
             (λ row. sum_below (states_of nodes d) (λ s. pos (slice_index (weights_of p d) (row * states_of nodes d + s)) *ℤ (one_if (is_at nodes d s row x) *ℤ (f x *ℤ product_over (λ v. but_from p v x) order))))
             (λ row l. spread (states_of nodes d) (λ s. one_if (is_at nodes d s row x)) (λ s. pos (slice_index (weights_of p d) (row * states_of nodes d + s))) (f x) (product_over (λ v. but_from p v x) order))
 
+    -- d's rule does not matter to what its states are worth
     worth_same : (f : World → ℤ) (row s : ℕ) → worth r f row s ≡ worth t f row s
     worth_same f row s = ap (λ g. sum_over (states_of nodes) order g (λ v. 0)) (fun_ext (λ x. ap (λ y. one_if (is_at nodes d s row x) *ℤ (f x *ℤ y))
         (product_over-cong (λ v. but_from r v x) (λ v. but_from t v x) order (λ v m. go x v (ℕ_discrete v d)))))

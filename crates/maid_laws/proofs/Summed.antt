@@ -53,6 +53,7 @@ product_same : (f g : ℕ → ℤ) (d : ℕ) (vs : List ℕ) → ((v : ℕ) → 
 product_same f g d [] h a = refl
 product_same f g d (v ∷ vs) h a = λ i. h v a.0 i *ℤ product_same f g d vs h a.1 i
 
+-- by induction over the list
 pub product_changed : (f g : ℕ → ℤ) (d : ℕ) (vs : List ℕ) → ((v : ℕ) → v ≢ d → f v ≡ g v) → Apart vs → Among d vs → product_over f vs *ℤ g d ≡ product_over g vs *ℤ f d
 product_changed f g d [] h a m = absurd m
 product_changed f g d (v ∷ vs) h a m = go (ℕ_discrete v d) m (λ k. product_changed f g d vs h a.1 k)
@@ -93,6 +94,7 @@ picked nodes d rule w i rows l =
     eqb_sym : (a b : ℕ) → eqb a b ≡ eqb b a
     eqb_sym a b = grind (arith, nat_tests)
 
+-- in a list with parents first no table looks at a later node
 pub later_all : (nodes : List NodeView) (table : ℕ → World → ℤ) → LooksAtParents nodes table → (vs : List ℕ) → ParentsFirst nodes vs → IgnoresLater (states_of nodes) table vs
 later_all nodes table h [] p = tt
 later_all nodes table h (v ∷ vs) p = (all_ignored (states_of nodes) (table v) vs (λ u m. let k = p.0 u m in h.others v u k.0 k.1), later_all nodes table h vs p.1)

@@ -22,12 +22,14 @@ kind_within nodes v n = go (dec_lt v (length nodes))
     go (yes l) = l
     go (no m) = absurd (n (ap (λ x. x.kind) (past_end nodes v (past m))))
 
+-- a decision by its kind
 pub decision_of : (nodes : List NodeView) (v : ℕ) → (node_at nodes v).kind ≡ Decision → IsDecision nodes v
 decision_of nodes v k = record { within = kind_within nodes v (λ e. not_both (sym k ∙ e)); kind = k }
   where
     not_both : Decision ≡ Utility → ⊥
     not_both e = cc
 
+-- decisions can be told
 pub dec_decision : (nodes : List NodeView) (v : ℕ) → Dec (IsDecision nodes v)
 dec_decision nodes v = go (node_at nodes v).kind refl
   where

@@ -30,9 +30,11 @@ use Rattle.maid_laws.proofs.Sorted.{sorted}
 use Rattle.maid_laws.proofs.Summed.{later_all}
 use Rattle.maid_laws.proofs.Tied.{tables_of}
 
+-- the two ways to say it
 pub ignored : (count : ℕ → ℕ) (f : World → ℤ) (v : ℕ) → Overlooks count f v → Ignores count f v
 ignored count f v h = record { same = λ w i s l. h.same w s i l }
 
+-- for a list
 pub ignored_all : (count : ℕ → ℕ) (f : World → ℤ) (vs : List ℕ) → OverlooksAll count f vs → IgnoresAll count f vs
 ignored_all count f vs h = all_ignored count f vs (λ u m. ignored count f u (h u (contains_of u vs m)))
 
@@ -78,9 +80,11 @@ module _ (nodes : List NodeView) (p : List RuleView) (g : IsGraph nodes) (t : Ha
       moved : {ys : List ℕ} → Shuffled vs ys → IgnoresAll (states_of nodes) f vs → IgnoresAll (states_of nodes) f ys
       moved {ys} s h = all_ignored (states_of nodes) f ys (λ u m. at_member vs h u (among_unshuffled u s m))
 
+-- for every diagram
 pub totals_law : LawOfTotals
 totals_law nodes p vs f w g c h apart blind i = totals_at nodes p g (tables_of nodes p g c h) vs f w (apart_of vs apart) (ignored_all (states_of nodes) f vs blind) i
 
+-- all nodes, and the factor 1
 pub weights_law : WeightsAddUp
 weights_law nodes p g c h =
     ap (sum_worlds nodes) (fun_ext (λ x. sym (one_mul (weight nodes p x))))
@@ -88,9 +92,11 @@ weights_law nodes p g c h =
     (all_ignored (states_of nodes) (λ x. pos 1) (numbers_of nodes) (λ u m. record { same = λ w i s l. refl })) (record { state = g.has_state })
     ∙ one_mul (pos (mass nodes p))
 
+-- for any counts
 pub products_law : LawOfProducts
 products_law count us vs f g w hf hg i = sum_over_product count us vs f g (ignored_all count f vs hf) (ignored_all count g us hg) w i
 
+-- the lists are rearrangements of each other
 pub any_order_law : SumsInAnyOrder
 any_order_law count xs ys f w ax ay same =
     sum_over-shuffled count f

@@ -49,12 +49,14 @@ module _ (nodes : List NodeView) (order : List ℕ) (setup : Setup nodes order) 
   abbrev pub T2 : List ℕ
   T2 = filter (λ v. not (first v)) K
 
+  -- a path reaches, and a walk leads
   abbrev R : ℕ → Type 0
   R v = Reaches (IsParent nodes) (IsLive nodes) Fixed goal v
 
   abbrev G : ℕ → Type 0
   G v = Leads (IsParent nodes) (IsLive nodes) Fixed goal true v
 
+  -- what the lists have
   pub in_K : (v : ℕ) → Among v K → Among v order × (IsLive nodes v) × (R v)
   in_K v m = let a = among_filter keep v order m in let b = tells_keep.yes v a.0 a.1 in (a.0, b.0, b.1)
 
@@ -86,6 +88,7 @@ module _ (nodes : List NodeView) (order : List ℕ) (setup : Setup nodes order) 
       among_filter_in given u K (among_filter_in keep u order m (tells_true keep (λ v. IsLive nodes v × R v) order tells_keep u m (lu, at_given g)))
       (tells_true given Fixed order tells_given u m g)
 
+  -- a utility has no children
   pub no_child : (c : ℕ) → ¬ (IsParent nodes goal c)
   no_child = no_utility_child nodes order setup goal goal_kind
 

@@ -16,13 +16,16 @@ use Rattle.maid_laws.proofs.Relies.{walk_of_steps}
 use Rattle.maid_laws.proofs.SeparationLaws.{matters_steps}
 
 module _ (Arc : ℕ → ℕ → Type 0) (Live Given : ℕ → Type 0) where
+  -- arcs in either direction
   joined_turn : (x y : ℕ) → IsJoined Arc x y → IsJoined Arc y x
   joined_turn x y (inl h) = inr h
   joined_turn x y (inr h) = inl h
 
+  -- heads that meet
   heads_turn : (x y z : ℕ) → (MeetHeads Arc x y z ↔ Given y) → (MeetHeads Arc z y x ↔ Given y)
   heads_turn x y z h = ((λ m. h.0 (m.1, m.0)), (λ g. let m = h.1 g in (m.1, m.0)))
 
+  -- a walk begins with a live node
   first_live : (x : ℕ) (rest : List ℕ) → IsActive Arc Live Given (x ∷ rest) → Live x
   first_live x [] h = h
   first_live x (y ∷ []) h = h.0
@@ -45,6 +48,7 @@ module _ (Arc : ℕ → ℕ → Type 0) (Live Given : ℕ → Type 0) where
   turn x (y ∷ (w ∷ todo)) (z ∷ done) h k meet =
       turn y (w ∷ todo) (x ∷ (z ∷ done)) h.3 (first_live y (w ∷ todo) h.3, joined_turn x y h.1, meet, k) (heads_turn x y w h.2)
 
+  -- all of the walk is turned
   pub reached_turn : (x y : ℕ) → IsReached Arc Live Given x y → IsReached Arc Live Given y x
   reached_turn x y r =
       let t = turn x r.rest [] r.active (first_live x r.rest r.active) (no_meet x r.rest) in
@@ -54,9 +58,11 @@ module _ (Arc : ℕ → ℕ → Type 0) (Live Given : ℕ → Type 0) where
       no_meet x [] = tt
       no_meet x (y ∷ rest) = tt
 
+-- at a diagram
 pub turn_law : WalksTurn
 turn_law nodes fixed = reached_turn (Arc nodes) (IsLive nodes) (IsFixedBy fixed)
 
+-- a path below d is a walk, as none of its nodes is fixed
 pub children_law : ChildrenJoin
 children_law nodes fixed goal d v g u free a m =
     let o : OrderedGraph nodes = ordered nodes g in

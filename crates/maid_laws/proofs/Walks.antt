@@ -17,6 +17,7 @@ pub record GoesOn (Arc : ℕ → ℕ → Type 0) (Live Given : ℕ → Type 0) (
   pub ends : last_of x rest ≡ goal
 
 module _ (Arc : ℕ → ℕ → Type 0) (Live Given : ℕ → Type 0) (goal : ℕ) (one_way : (x y : ℕ) → Arc x y → ¬ (Arc y x)) where
+  -- by induction over the steps: at each node the arrows meet where it is given
   pub goes_on : {head : Bool} {x : ℕ} → Leads Arc Live Given goal head x → Live x → GoesOn Arc Live Given goal head x
   goes_on ends lx = record { rest = []; active = lx; entered = λ p lp j a. (lp, j, lx); ends = refl }
   goes_on {x = x} (head_down {c = c} n a lc h) lx =
@@ -59,12 +60,15 @@ module _ (Arc : ℕ → ℕ → Type 0) (Live Given : ℕ → Type 0) (goal : �
 -- an extra parent of v, under a number that no node has
 module _ (Arc : ℕ → ℕ → Type 0) (Live Given : ℕ → Type 0) (new v goal : ℕ) (one_way : (x y : ℕ) → Arc x y → ¬ (Arc y x))
     (no_child_new : (y : ℕ) → Arc new y → ⊥) (no_parent_new : (x : ℕ) → Arc x new → ⊥) (fresh : new ≢ v) where
+  -- with the extra parent
   abbrev More : ℕ → ℕ → Type 0
   More = WithArc Arc new v
 
+  -- and it is live
   abbrev Lives : ℕ → Type 0
   Lives = WithNode Live new
 
+  -- arcs still go one way
   more_one_way : (x y : ℕ) → WithArc Arc new v x y → ¬ (WithArc Arc new v y x)
   more_one_way x y (inl a) (inl b) = one_way x y a b
   more_one_way x y (inl a) (inr b) = no_parent_new x (subst (λ z. Arc x z) b.0 a)
@@ -82,10 +86,12 @@ module _ (Arc : ℕ → ℕ → Type 0) (Live Given : ℕ → Type 0) (new v goa
   abbrev Rest : ℕ → ℕ → Type 0
   Rest p x = Leads Arc Live Given goal true v ⊎ ((x ≢ new) × (Live x) × (More p x → Leads Arc Live Given goal true x) × (More x p → Leads Arc Live Given goal false x))
 
+  -- any other live node was live
   old : (x : ℕ) → x ≢ new → Lives x → Live x
   old x n (inl l) = l
   old x n (inr e) = absurd (n e)
 
+  -- and any other arc was one
   old_arc : (x y : ℕ) → x ≢ new → More x y → Arc x y
   old_arc x y n (inl a) = a
   old_arc x y n (inr e) = absurd (n e.0)
@@ -97,18 +103,21 @@ module _ (Arc : ℕ → ℕ → Type 0) (Live Given : ℕ → Type 0) (new v goa
   after_new z (inr (inl a)) = absurd (no_parent_new z a)
   after_new z (inr (inr e)) = absurd (fresh e.1)
 
+  -- a walk begins with a live node
   first_live : (x : ℕ) (rest : List ℕ) → IsActive More Lives Given (x ∷ rest) → Lives x
   first_live x [] h = h
   first_live x (y ∷ []) h = h.0
   first_live x (y ∷ (z ∷ rest)) h = h.0
 
   module _ (goal_old : goal ≢ new) (no_child : (c : ℕ) → ¬ (Arc goal c)) where
+    -- at the end of the walk
     last_step : (p x : ℕ) → Lives x → x ≡ goal → Rest p x
     last_step p x l e = inr (n, old x n l, (λ a. subst (Leads Arc Live Given goal true) (sym e) ends), λ a. absurd (no_child p (subst (λ z. Arc z p) e (old_arc x p n a))))
       where
         n : x ≢ new
         n f = goal_old (sym e ∙ f)
 
+    -- one node more, in front
     step : (p x z : ℕ) → Lives x → IsJoined More x z → (MeetHeads More p x z ↔ Given x) → Rest x z → Dec (x ≡ new) → Rest p x
     step p x z lx j m (inl h) dec = inl h
     step p x z lx j m (inr h) (yes e) =
