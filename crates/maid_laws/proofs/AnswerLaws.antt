@@ -1,14 +1,14 @@
 -- The laws of an answer: best in its bases, and worth what it says under its own profile.
-use Rattle.std.proofs.Common.{◌≡◌, ◌≢◌, ◌⊎◌, ◌∙◌, ℕ, zero, suc, ◌+◌, ◌*◌, ◌^◌, ◌<◌, ◌≤◌, Bool, true, false, List, map, take, length, slice_index, slice_index_or, refl, sym, ap, subst, inl, inr, arith, ℤ, pos, negsuc, ◌*ℤ◌, ◌≤ℤ◌, ◌<ℤ◌, nat_abs, Some}
+use Rattle.std.proofs.Common.{◌≡◌, ◌≢◌, ◌⊎◌, ◌∙◌, ℕ, zero, suc, ◌*◌, ◌^◌, ◌<◌, List, take, length, slice_index, refl, sym, ap, subst, inl, inr, arith, ℤ, pos, negsuc, ◌*ℤ◌, ◌≤ℤ◌, ◌<ℤ◌, nat_abs}
 use Rattle.std.proofs.lemmas.Int.{ints}
 use Rattle.std.specs.Prelude.{Contains}
 use Rattle.maid_model.specs.declared.answers.Ratio.{Ratio}
 use Rattle.maid_model.specs.declared.diagrams.Kind.{Kind}
 use Rattle.maid_model.specs.declared.diagrams.Kind.TheVariants.{Chance, Decision, Utility}
-use Rattle.maid_model.specs.Answers.{IsAnswer, FitsDiagram, IsBase, IsFraction, pure_profile, rows_at, no_row}
+use Rattle.maid_model.specs.Answers.{FitsDiagram, IsBase, IsFraction, pure_profile, rows_at}
 use Rattle.maid_model.specs.Gains.{gain_at, mass_at}
 use Rattle.maid_model.specs.Graph.{IsGraph}
-use Rattle.maid_model.specs.Nodes.{IsDecision, node_at, states_of, rows_of}
+use Rattle.maid_model.specs.Nodes.{IsDecision, node_at, states_of}
 use Rattle.maid_model.specs.Profiles.{IsProfile}
 use Rattle.maid_model.specs.Relevance.{IsLive, ReliesOn}
 use Rattle.maid_model.specs.Sums.{World, InRange}
@@ -17,7 +17,7 @@ use Rattle.maid_model.specs.Views.{NodeView, RuleView, DiagramView, SolvedView}
 use Rattle.maid_model.proofs.Setting.{Among, HasTables}
 use Rattle.maid_model.proofs.Ints.{products}
 use Rattle.maid_laws.specs.Answers.{answered, answer_at, HasBestChoices, ChoicesAreBest, WorthInBase, AnswersAreBest, AnswersAreSubgamePerfect, AnswersAreOptimal, WorthUnderTheProfile}
-use Rattle.maid_laws.specs.Exchange.{IsBestInBase, IsBestInBases}
+use Rattle.maid_laws.specs.Exchange.{IsBestInBases}
 use Rattle.maid_laws.proofs.Best.{cancel_le}
 use Rattle.maid_laws.proofs.Decided.{by_contradiction, not_not_dec}
 use Rattle.maid_laws.proofs.ExchangeLaws.{exchange_law}

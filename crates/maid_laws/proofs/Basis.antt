@@ -1,18 +1,16 @@
 -- What the sums over worlds use of a diagram, its tables and its profiles.
-use Rattle.std.proofs.Common.{◌≡◌, ◌≢◌, ◌⊎◌, ◌∙◌, ℕ, ◌<◌, ◌≤◌, Bool, true, false, cond, not, ◌&&◌, eqb, filter, List, [], ◌∷◌, length, refl, sym, ap, subst, inl, inr, ℤ, pos, ◌*ℤ◌, arith}
-use Rattle.std.proofs.lemmas.Bool.Decides.{nat_tests}
-use Rattle.std.proofs.Math.Decide.{ℕ_discrete, dec_lt}
+use Rattle.std.proofs.Common.{◌≡◌, ◌≢◌, ◌∙◌, ℕ, ◌<◌, ◌≤◌, Bool, true, false, cond, filter, List, [], ◌∷◌, length, refl, sym, ap, subst, inl, inr, ℤ, ◌*ℤ◌, arith}
+use Rattle.std.proofs.Math.Decide.{dec_lt}
 use Rattle.maid_model.specs.declared.diagrams.Kind.{Kind}
 use Rattle.maid_model.specs.declared.diagrams.Kind.TheVariants.{Chance, Decision, Utility}
 use Rattle.maid_model.specs.Relevance.{IsLive}
 use Rattle.maid_model.specs.Nodes.{rows_under, node_at, states_of, numbers_of, is_utility}
-use Rattle.maid_model.specs.Sums.{World, with_state, sum_below, product_over, InRange}
+use Rattle.maid_model.specs.Sums.{World, product_over}
 use Rattle.maid_model.specs.Tables.{table, table_by, weights_of}
 use Rattle.maid_model.specs.Views.{NodeView, RuleView}
 use Rattle.maid_model.proofs.Setting.{Among, Shuffled, Ignores, IgnoresLater, HasTotal, HaveTotals, ParentsFirst}
-use Rattle.maid_model.proofs.Tables.{TableSums, table_ignores, one_state_ignored, table-total}
+use Rattle.maid_model.proofs.Tables.{TableSums, table_ignores, one_state_ignored}
 use Rattle.maid_model.proofs.Lists.{avoids, among_filter, all_ignored}
-use Rattle.maid_laws.proofs.Booleans.{eqb_yes, eqb_no}
 use Rattle.maid_laws.proofs.Notions.{IsParent}
 use Rattle.maid_laws.proofs.Collapse.{Apart}
 

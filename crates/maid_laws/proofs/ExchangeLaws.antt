@@ -1,27 +1,25 @@
 -- The law of the exchange, for every diagram.
-use Rattle.std.proofs.Common.{◌≡◌, ◌≢◌, ◌⊎◌, ◌∙◌, ℕ, zero, suc, ◌+◌, ◌*◌, ◌<◌, ◌≤◌, Bool, true, false, cond, eqb, filter, List, [], ◌∷◌, take, map, length, slice_index, slice_index_or, refl, sym, ap, subst, inl, inr, arith, ℤ, pos, ◌*ℤ◌, ◌≤ℤ◌, ◌<ℤ◌}
-use Rattle.std.proofs.Math.Decide.{ℕ_discrete, dec_lt}
-use Rattle.std.specs.Prelude.{Contains}
+use Rattle.std.proofs.Common.{◌≡◌, ◌≢◌, ◌⊎◌, ◌∙◌, ℕ, suc, ◌+◌, ◌*◌, ◌<◌, Bool, true, false, cond, eqb, filter, List, [], ◌∷◌, take, map, length, slice_index, slice_index_or, refl, sym, ap, subst, inl, inr, arith, ℤ, pos, ◌*ℤ◌, ◌≤ℤ◌, ◌<ℤ◌}
+use Rattle.std.proofs.Math.Decide.{dec_lt}
 use Rattle.maid_model.specs.declared.diagrams.Kind.TheVariants.{Decision}
-use Rattle.maid_model.specs.Answers.{IsBase}
-use Rattle.maid_model.specs.Gains.{gain_at, mass_at, gain_of, mass}
+use Rattle.maid_model.specs.Gains.{gain_at, mass_at}
 use Rattle.maid_model.specs.Graph.{IsGraph}
 use Rattle.maid_model.specs.Nodes.{IsDecision, node_at, states_of, rows_of, is_decision}
-use Rattle.maid_model.specs.Profiles.{IsProfile, SameRule, uniform_profile}
+use Rattle.maid_model.specs.Profiles.{uniform_profile}
 use Rattle.maid_model.specs.Relevance.{IsLive, ReliesOn}
-use Rattle.maid_model.specs.Subgames.{IsSubgamePerfect, IsListing, IsSubgameStart, DiffersOnlyFor, gain_from, mass_from, world_of_history}
-use Rattle.maid_model.specs.Sums.{World, InRange, sum_below}
-use Rattle.maid_model.specs.Tables.{HasChanceTables, IsTable, weights_of, rule_total, table}
+use Rattle.maid_model.specs.Subgames.{IsSubgamePerfect, DiffersOnlyFor, gain_from, mass_from, world_of_history}
+use Rattle.maid_model.specs.Sums.{World, InRange}
+use Rattle.maid_model.specs.Tables.{HasChanceTables, weights_of, table}
 use Rattle.maid_model.specs.Views.{NodeView, RuleView}
 use Rattle.maid_model.proofs.Setting.{Among, HasTables}
 use Rattle.maid_model.proofs.Sums.{sum_below_cong}
-use Rattle.maid_laws.specs.Exchange.{weight_at, IsBestInBase, IsBestInBases, Exchange}
+use Rattle.maid_laws.specs.Exchange.{weight_at, IsBestInBases, Exchange}
 use Rattle.maid_laws.proofs.Booleans.{eqb_yes}
 use Rattle.maid_laws.proofs.FromStarts.{exchange_at}
 use Rattle.maid_laws.proofs.Basis.{among_filter_in}
 use Rattle.maid_laws.proofs.Histories.{in_start}
 use Rattle.maid_laws.proofs.Listings.{start_of, gain_same, mass_same}
-use Rattle.maid_laws.proofs.Members.{among_of, contains_of}
+use Rattle.maid_laws.proofs.Members.{among_of}
 use Rattle.maid_laws.proofs.Notions.{IsBest, InOrder, SameForOthers, gain_from_start, mass_from_start}
 use Rattle.maid_laws.proofs.Orders.{ordered}
 use Rattle.maid_laws.proofs.Rules.{one_of, decision_kind, uniform_is_profile, uniform_like}

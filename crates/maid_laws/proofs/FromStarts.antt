@@ -3,7 +3,7 @@ use Rattle.std.proofs.Common.{◌≡◌, ◌∙◌, ℕ, Bool, true, false, cond
 use Rattle.std.proofs.Math.Path.{fun_ext}
 use Rattle.std.specs.List.{list_all}
 use Rattle.maid_model.specs.declared.diagrams.Kind.TheVariants.{Decision}
-use Rattle.maid_model.specs.Gains.{utility, sum_worlds, gain_of, mass}
+use Rattle.maid_model.specs.Gains.{utility, sum_worlds}
 use Rattle.maid_model.specs.Nodes.{states_of, numbers_of, node_at}
 use Rattle.maid_model.specs.Sums.{World, product_over}
 use Rattle.maid_model.specs.Tables.{table, weight_total}
@@ -15,7 +15,6 @@ use Rattle.maid_laws.proofs.Best.{product_over-times}
 use Rattle.maid_laws.proofs.Collapse.{one_if, one_if-and, one_if-cond}
 use Rattle.maid_laws.proofs.PutBack.{subgame_perfect}
 use Rattle.maid_laws.proofs.Notions.{OrderedGraph, extends, gain_from_start, mass_from_start, IsStart, IsBest, InOrder, SameForOthers}
-use Rattle.maid_laws.proofs.Signs.{pos_product}
 use Rattle.maid_laws.proofs.Step.{gain_from, table_from, total_from}
 
 -- a test of all nodes is a product of tests

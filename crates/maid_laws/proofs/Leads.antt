@@ -1,5 +1,5 @@
 -- Active walks as steps, over any arcs, and the lemma that separates tables by them.
-use Rattle.std.proofs.Common.{◌≡◌, ◌≢◌, ◌⊎◌, ◌↔◌, ◌∙◌, ℕ, Bool, true, false, refl, sym, subst, inl, inr}
+use Rattle.std.proofs.Common.{◌≡◌, ◌⊎◌, ◌↔◌, ◌∙◌, ℕ, Bool, true, false, sym, subst, inl, inr}
 
 -- A walk to the goal that goes on actively from a node, entered by an arrow's head (true) or by its tail (false).
 pub data Leads (Arc : ℕ → ℕ → Type 0) (Live Given : ℕ → Type 0) (goal : ℕ) : Bool → ℕ → Type 0 where

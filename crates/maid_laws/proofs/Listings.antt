@@ -1,33 +1,30 @@
 -- A list of all chance nodes and decisions, and a subgame start along it.
-use Rattle.std.proofs.Common.{◌≡◌, ◌≢◌, ◌⊎◌, ◌∙◌, ℕ, zero, suc, ◌+◌, ◌<◌, ◌≤◌, Bool, true, false, cond, not, ◌||◌, eqb, filter, List, [], ◌∷◌, ◌++◌, map, take, drop, length, slice_index, refl, sym, ap, subst, inl, inr, arith, ℤ, pos, ◌*ℤ◌, ◌<ℤ◌}
-use Rattle.std.proofs.Math.Decide.{dec_lt}
+use Rattle.std.proofs.Common.{◌≡◌, ◌≢◌, ◌⊎◌, ◌∙◌, ℕ, ◌<◌, ◌≤◌, Bool, true, false, cond, not, ◌||◌, eqb, filter, List, [], ◌∷◌, ◌++◌, map, take, drop, length, slice_index, refl, sym, ap, subst, inl, inr, arith, ℤ, pos, ◌*ℤ◌, ◌<ℤ◌}
 use Rattle.std.proofs.Math.Path.{fun_ext}
-use Rattle.std.specs.List.{list_all}
-use Rattle.std.specs.Prelude.{Contains, ◌&&◌}
+use Rattle.std.specs.Prelude.{Contains}
 use Rattle.maid_model.specs.declared.diagrams.Kind.{Kind}
 use Rattle.maid_model.specs.declared.diagrams.Kind.TheVariants.{Chance, Decision, Utility}
 use Rattle.maid_model.specs.Gains.{sum_worlds, utility}
 use Rattle.maid_model.specs.Graph.{Arc, IsGraph}
 use Rattle.maid_model.specs.Nodes.{IsDecision, node_at, states_of, numbers_of, is_utility}
 use Rattle.maid_model.specs.Subgames.{IsListing, IsHistory, IsSubgameStart, IsReachable, KeepsInformation, AgreeOnParents, agrees, world_of_history, gain_from, mass_from}
-use Rattle.maid_model.specs.Sums.{World, InRange, product_over, nat_product_over}
+use Rattle.maid_model.specs.Sums.{World, InRange, product_over}
 use Rattle.maid_model.specs.Tables.{table, table_by, weights_of, cell_of, weight_total, total_by, chance_total, rule_total}
 use Rattle.maid_model.specs.Views.{NodeView, RuleView}
-use Rattle.maid_model.proofs.Setting.{Among, Shuffled, none, put}
-use Rattle.maid_model.proofs.Tables.{Avoids}
+use Rattle.maid_model.proofs.Setting.{Among, Shuffled}
 use Rattle.maid_model.proofs.Lists.{among_filter, product_over-shuffled}
 use Rattle.maid_model.proofs.Totals.{product_over-append}
 use Rattle.maid_model.proofs.Ints.{mul_one}
 use Rattle.maid_laws.proofs.Booleans.{eqb_yes, eqb_same, bool_same, all_at, at_all}
-use Rattle.maid_laws.proofs.Basis.{among_filter_in, product_over-cong}
+use Rattle.maid_laws.proofs.Basis.{among_filter_in}
 use Rattle.maid_laws.proofs.Collapse.{Apart}
 use Rattle.maid_laws.proofs.Histories.{in_start, start_at, in_start_at, history_at, history_range, agrees_at, agrees_all, start_product, at_map, length_first, extends_map, map_extends, among_take}
 use Rattle.maid_laws.proofs.Members.{contains_of, among_of, apart_of, among_index, index_of, arc_of, parent_of}
 use Rattle.maid_laws.proofs.Notions.{IsParent, IsStart, extends, gain_from_start, mass_from_start}
 use Rattle.maid_laws.proofs.Proportions.{kind_of_utility}
-use Rattle.maid_laws.proofs.Rearranged.{number, numbered, shuffled_of, apart_append, among_append, among_left, among_right, range_apart, apart_filter, in_range, among_range}
+use Rattle.maid_laws.proofs.Rearranged.{number, numbered, shuffled_of, apart_append, among_append, among_left, among_right, range_apart, apart_filter}
 use Rattle.maid_laws.proofs.Signs.{pos_product}
-use Rattle.maid_laws.proofs.Tied.{kind_within, decision_of}
+use Rattle.maid_laws.proofs.Tied.{decision_of}
 
 -- a test that fails does not hold
 no_true : false ≡ true → ⊥

@@ -1,13 +1,12 @@
 -- The start without a node: one agent's optimum.
-use Rattle.std.proofs.Common.{◌≡◌, ◌≢◌, ◌∙◌, ℕ, zero, suc, ◌<◌, ◌≤◌, Bool, true, false, cond, List, [], ◌∷◌, length, refl, sym, ap, subst, arith, ℤ, pos, ◌*ℤ◌, ◌≤ℤ◌}
+use Rattle.std.proofs.Common.{◌≡◌, ◌∙◌, ℕ, true, false, cond, List, [], ◌∷◌, refl, sym, ap, subst, arith, ℤ, pos, ◌*ℤ◌, ◌≤ℤ◌}
 use Rattle.std.proofs.Math.Path.{fun_ext}
 use Rattle.std.specs.List.{list_all}
 use Rattle.maid_model.specs.Gains.{gain_of, mass, sum_worlds, utility}
 use Rattle.maid_model.specs.Graph.{IsGraph}
-use Rattle.maid_model.specs.Nodes.{numbers_of, node_at}
-use Rattle.maid_model.specs.Profiles.{IsProfile}
-use Rattle.maid_model.specs.Subgames.{IsListing, IsHistory, IsSubgameStart, IsSubgamePerfect, IsOptimal, OwnsAll, gain_from, mass_from}
-use Rattle.maid_model.specs.Sums.{World, product_over}
+use Rattle.maid_model.specs.Nodes.{numbers_of}
+use Rattle.maid_model.specs.Subgames.{IsListing, IsHistory, IsSubgameStart, gain_from, mass_from}
+use Rattle.maid_model.specs.Sums.{product_over}
 use Rattle.maid_model.specs.Tables.{table, weight_total}
 use Rattle.maid_model.specs.Views.{NodeView, RuleView}
 use Rattle.maid_laws.specs.Exchange.{OneAgent}

@@ -1,12 +1,11 @@
 -- One rule is put back: no gain from a start falls.
-use Rattle.std.proofs.Common.{◌≡◌, ◌≢◌, ◌⊎◌, ◌∙◌, ℕ, zero, suc, ◌+◌, ◌*◌, ◌<◌, ◌≤◌, Bool, true, false, cond, ◌&&◌, ◌||◌, eqb, List, [], ◌∷◌, length, slice_index, slice_index_or, refl, sym, ap, subst, inl, inr, ℤ, pos, ◌+ℤ◌, ◌*ℤ◌, ◌≤ℤ◌, arith}
+use Rattle.std.proofs.Common.{◌≡◌, ◌≢◌, ◌∙◌, ℕ, ◌+◌, ◌*◌, ◌<◌, Bool, true, false, cond, ◌&&◌, eqb, List, [], ◌∷◌, length, slice_index, slice_index_or, refl, sym, ap, subst, inl, inr, ℤ, pos, ◌+ℤ◌, ◌*ℤ◌, ◌≤ℤ◌, arith}
 use Rattle.std.proofs.lemmas.Int.{ints}
 use Rattle.std.proofs.Math.Path.{fun_ext}
-use Rattle.std.specs.List.{list_any}
 use Rattle.maid_model.specs.declared.diagrams.Kind.TheVariants.{Decision}
 use Rattle.maid_model.proofs.Setting.{Among, Ignores}
 use Rattle.maid_model.specs.Gains.{utility, utility_below, value_for}
-use Rattle.maid_model.specs.Graph.{descends, leads_within}
+use Rattle.maid_model.specs.Graph.{descends}
 use Rattle.maid_model.specs.Nodes.{node_at, states_of, numbers_of, rows_under, is_utility}
 use Rattle.maid_model.specs.Sums.{World, with_state, sum_over, sum_below, product_over, InRange, sum_each}
 use Rattle.maid_model.specs.Tables.{weights_of}
@@ -15,12 +14,12 @@ use Rattle.maid_model.proofs.Ints.{mul_comm, mul_one, add_mul, mul_add}
 use Rattle.maid_model.proofs.Sums.{sum_over_add, Ignores-add}
 use Rattle.maid_model.proofs.Tables.{row_from_other}
 use Rattle.maid_model.proofs.Lists.{avoids}
-use Rattle.maid_laws.proofs.Booleans.{eqb_yes, not_both}
+use Rattle.maid_laws.proofs.Booleans.{not_both}
 use Rattle.maid_laws.proofs.Basis.{Setup, Totals, Tells}
 use Rattle.maid_laws.proofs.Collapse.{one_if}
 use Rattle.maid_laws.proofs.Leads.{Below, child, further}
 use Rattle.maid_laws.proofs.Notions.{IsParent}
-use Rattle.maid_laws.proofs.Ranks.{below_descends, place, rank_less, below_less, arc_inside}
+use Rattle.maid_laws.proofs.Ranks.{below_descends, arc_inside}
 use Rattle.maid_laws.proofs.Step.{gain_from, table_from, rest_same, best_gain, worth}
 use Rattle.maid_laws.proofs.Summed.{FromD}
 

@@ -1,12 +1,11 @@
 -- The equation of irrelevance for one utility.
-use Rattle.std.proofs.Common.{◌≡◌, ◌≢◌, ◌⊎◌, ◌∙◌, ℕ, ◌<◌, ◌≤◌, Bool, true, false, cond, not, ◌&&◌, eqb, filter, List, [], ◌∷◌, length, refl, sym, ap, subst, inl, inr, ℤ, pos, ◌*ℤ◌, arith}
-use Rattle.std.proofs.lemmas.Bool.Decides.{nat_tests}
+use Rattle.std.proofs.Common.{◌≡◌, ◌≢◌, ◌⊎◌, ◌∙◌, ℕ, ◌<◌, Bool, true, false, cond, not, ◌&&◌, eqb, filter, List, [], ◌∷◌, refl, sym, ap, subst, inl, inr, ℤ, pos, ◌*ℤ◌, arith}
 use Rattle.std.proofs.Math.Path.{fun_ext}
 use Rattle.std.proofs.Math.Decide.{ℕ_discrete, dec_lt}
 use Rattle.maid_model.specs.declared.diagrams.Kind.TheVariants.{Decision, Utility}
 use Rattle.maid_model.specs.Relevance.{IsLive, IsFixed}
 use Rattle.maid_model.specs.Gains.{weight_without, sum_worlds, is_at, mass_at}
-use Rattle.maid_model.specs.Nodes.{node_at, states_of, numbers_of}
+use Rattle.maid_model.specs.Nodes.{node_at, states_of}
 use Rattle.maid_model.specs.Sums.{World, with_state, sum_below, sum_over, product_over, InRange}
 use Rattle.maid_model.specs.Tables.{row_of, table, weights_of, cell_of}
 use Rattle.maid_model.specs.Views.{NodeView, RuleView}
@@ -132,7 +131,6 @@ module _ (nodes : List NodeView) (order : List ℕ) (setup : Setup nodes order) 
         (λ c. a.1 (below_leads (IsParent nodes) (IsLive nodes) (IsFixed (IsParent nodes) d) goal d none_given ak.2 (child c)))))
     | inr z ↦ absurd z
   ])
-
 
   -- what a world picked by q at d and its parents
   parents_agree : (w q : World) → InRange (states_of nodes) w → InRange (states_of nodes) q → ((o : ℕ) → Among o F → w o ≡ q o) → (u : ℕ) → Among u (node_at nodes d).parents → w u ≡ q u

@@ -1,11 +1,9 @@
 -- The laws of lists with parents first, and of the test for descent.
-use Rattle.std.proofs.Common.{◌≡◌, ◌≢◌, ◌⊎◌, ◌↔◌, ◌∙◌, ℕ, zero, suc, ◌+◌, ◌<◌, ◌≤◌, Bool, true, false, cond, not, filter, List, [], ◌∷◌, take, length, slice_index, refl, sym, ap, subst, inl, inr, arith}
-use Rattle.std.specs.Prelude.{Contains}
+use Rattle.std.proofs.Common.{◌≡◌, ◌≢◌, ◌∙◌, ℕ, zero, suc, ◌<◌, ◌≤◌, Bool, true, false, cond, not, filter, List, [], ◌∷◌, take, length, slice_index, refl, sym, ap, subst, inl, inr, arith}
 use Rattle.maid_model.specs.declared.diagrams.Kind.{Kind}
 use Rattle.maid_model.specs.declared.diagrams.Kind.TheVariants.{Chance, Decision, Utility}
-use Rattle.maid_model.specs.Graph.{Arc, IsGraph, IsPath, Here, Along, Descends, IsAcyclic, descends}
-use Rattle.maid_model.specs.Nodes.{node_at, numbers_of, parents_of, is_utility}
-use Rattle.maid_model.specs.Subgames.{IsListing}
+use Rattle.maid_model.specs.Graph.{Arc, IsPath, Here, Along, Descends, IsAcyclic, descends}
+use Rattle.maid_model.specs.Nodes.{node_at, numbers_of, is_utility}
 use Rattle.maid_model.specs.Views.{NodeView}
 use Rattle.maid_model.proofs.Setting.{Among, ParentsFirst}
 use Rattle.maid_model.proofs.Lists.{among_filter}
@@ -18,11 +16,9 @@ use Rattle.maid_laws.proofs.Notions.{IsParent, OrderedGraph}
 use Rattle.maid_laws.proofs.Ordered.{setup_of, same_length}
 use Rattle.maid_laws.proofs.Orders.{ordered, parent_dec, parents_path, parents_first_of}
 use Rattle.maid_laws.proofs.Paths.{leads_path, path_below}
-use Rattle.maid_laws.proofs.Proportions.{kind_of_utility}
 use Rattle.maid_laws.proofs.Ranks.{arc_inside, below_descends}
-use Rattle.maid_laws.proofs.Rearranged.{number, numbered, apart_shuffled, range_apart, apart_filter, in_range, among_range, among_shuffled, among_unshuffled}
-use Rattle.maid_laws.proofs.Sorted.{First, sorted}
-use Rattle.maid_laws.proofs.Grouped.{passes_not}
+use Rattle.maid_laws.proofs.Rearranged.{number, numbered, apart_shuffled, range_apart, apart_filter, among_shuffled, among_unshuffled}
+use Rattle.maid_laws.proofs.Sorted.{sorted}
 
 -- a parent of a member stands before it
 parent_before : (nodes : List NodeView) → ((v : ℕ) → ¬ (IsParent nodes v v)) → (vs : List ℕ) → ParentsFirst nodes vs → (i u : ℕ) → i < length vs → IsParent nodes u (slice_index vs i) → Among u vs → Among u (take i vs)
@@ -122,14 +118,17 @@ no_utility Utility n = absurd (n refl)
 
 -- the nodes, sorted, without the utilities
 pub listing_law : ListingExists
-listing_law nodes g = (order, record {
-  all = λ v l n. contains_of v order (in_order v l n);
-  within = λ v c. kept v (among_filter keep v o.order (among_of v order c));
-  once = different_of order (apart_filter keep o.order setup.apart);
-  parents_first = λ i u l a. contains_of u (take i order)
-      (parent_before nodes setup.not_own_parent order (parents_first_filter nodes keep o.order o.parents_first) i u l (parent_of nodes u (slice_index order i) a)
-      (in_order u (g.parents_known u (slice_index order i) a) (g.no_utility_parent u (slice_index order i) a)));
-})
+listing_law nodes g = (
+  order,
+  record {
+    all = λ v l n. contains_of v order (in_order v l n);
+    within = λ v c. kept v (among_filter keep v o.order (among_of v order c));
+    once = different_of order (apart_filter keep o.order setup.apart);
+    parents_first = λ i u l a. contains_of u (take i order)
+        (parent_before nodes setup.not_own_parent order (parents_first_filter nodes keep o.order o.parents_first) i u l (parent_of nodes u (slice_index order i) a)
+        (in_order u (g.parents_known u (slice_index order i) a) (g.no_utility_parent u (slice_index order i) a)));
+  },
+)
   where
     o : OrderedGraph nodes
     o = ordered nodes g

@@ -1,10 +1,9 @@
 -- Lists of all nodes, and of all chance nodes and decisions, with parents first.
-use Rattle.std.proofs.Common.{◌≡◌, ◌≢◌, ◌⊎◌, ◌∙◌, ℕ, ◌<◌, List, [], ◌∷◌, length, refl, sym, ap, subst, inl, inr}
-use Rattle.std.specs.List.{range_with_len}
-use Rattle.maid_model.specs.Graph.{Arc, IsGraph, IsPath, Here, Along, Descends, IsAcyclic}
+use Rattle.std.proofs.Common.{ℕ, List, [], ◌∷◌, length, sym, subst}
+use Rattle.maid_model.specs.Graph.{Arc, IsGraph, IsPath, Here, Along}
 use Rattle.maid_model.specs.Nodes.{numbers_of, parents_of}
 use Rattle.maid_model.specs.Views.{NodeView}
-use Rattle.maid_model.proofs.Setting.{Among, Shuffled, ParentsFirst}
+use Rattle.maid_model.proofs.Setting.{Among, ParentsFirst}
 use Rattle.maid_model.proofs.Lists.{decide_among}
 use Rattle.maid_laws.proofs.Notions.{IsParent, OrderedGraph}
 use Rattle.maid_laws.proofs.Collapse.{Apart}

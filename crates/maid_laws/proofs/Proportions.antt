@@ -1,8 +1,8 @@
 -- The law of irrelevance, where the nodes have a list with parents first.
-use Rattle.std.proofs.Common.{◌≡◌, ◌≢◌, ◌∙◌, ℕ, zero, suc, ◌<◌, ◌≤◌, ◌+◌, ◌*◌, Bool, true, false, cond, ◌&&◌, eqb, filter, List, [], ◌∷◌, length, slice_index_or, refl, sym, ap, subst, inl, inr, ℤ, pos, ◌+ℤ◌, ◌*ℤ◌, arith}
+use Rattle.std.proofs.Common.{◌≡◌, ◌≢◌, ◌∙◌, ℕ, ◌<◌, ◌≤◌, ◌+◌, Bool, true, false, cond, ◌&&◌, eqb, filter, List, [], ◌∷◌, length, slice_index_or, refl, sym, ap, subst, inl, inr, ℤ, pos, ◌+ℤ◌, ◌*ℤ◌, arith}
 use Rattle.std.proofs.lemmas.Bool.Decides.{nat_tests}
 use Rattle.std.proofs.Math.Path.{fun_ext}
-use Rattle.std.proofs.Math.Decide.{ℕ_discrete, dec_lt}
+use Rattle.std.proofs.Math.Decide.{dec_lt}
 use Rattle.maid_model.specs.declared.diagrams.Kind.{Kind}
 use Rattle.maid_model.specs.declared.diagrams.Kind.TheVariants.{Chance, Decision, Utility}
 use Rattle.maid_model.specs.Relevance.{IsLive, IsFixed, IsGoal, ReliesOn}
@@ -127,6 +127,7 @@ pub kind_of_utility : (k : Kind) → is_utility k ≡ true → k ≡ Utility
 kind_of_utility Chance h = cc
 kind_of_utility Decision h = cc
 kind_of_utility Utility h = refl
+
 -- ---- all utilities
 module _ (nodes : List NodeView) (order : List ℕ) (setup : Setup nodes order) (s t : List RuleView) (total_s total_t : ℕ → ℤ) (hs : Totals nodes s total_s) (ht : Totals nodes t total_t)
     (d : ℕ) (d_live : IsLive nodes d) (d_kind : (node_at nodes d).kind ≡ Decision) (same : (e : ℕ) → ReliesOn nodes d e → weights_of s e ≡ weights_of t e) where

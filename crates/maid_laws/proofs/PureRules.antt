@@ -1,18 +1,17 @@
 -- The pure profile of answered choices: a rule of total 1 at each decision, with the weight 1 at the choice of each row.
-use Rattle.std.proofs.Common.{◌≡◌, ◌≢◌, ◌⊎◌, ◌∙◌, ℕ, zero, suc, ◌+◌, ◌-◌, ◌*◌, ◌<◌, ◌≤◌, Bool, true, false, cond, eqb, flat_map, List, [], ◌∷◌, ◌++◌, map, length, slice_index, slice_index_or, refl, sym, ap, subst, inl, inr, arith, ℤ, pos, ◌*ℤ◌, ◌≤ℤ◌}
+use Rattle.std.proofs.Common.{◌≡◌, ◌⊎◌, ◌∙◌, ℕ, zero, suc, ◌+◌, ◌-◌, ◌*◌, ◌<◌, Bool, true, false, cond, eqb, flat_map, List, [], ◌∷◌, ◌++◌, map, length, slice_index, slice_index_or, refl, sym, ap, subst, inl, inr, arith, ℤ, pos, ◌*ℤ◌, ◌≤ℤ◌}
 use Rattle.std.proofs.lemmas.Int.{ints}
 use Rattle.std.proofs.lemmas.List.{length-map, length-append, get_or_append_left, get_or-append_right}
 use Rattle.std.proofs.lemmas.List.FromFn.{get_or-map-range_with_len}
 use Rattle.std.proofs.lemmas.List.Elements.{All-head, All-tail, All-map}
 use Rattle.std.specs.List.{range_with_len}
-use Rattle.std.specs.Prelude.{All, Contains}
+use Rattle.std.specs.Prelude.{All}
 use Rattle.maid_model.specs.declared.answers.Row.{Row}
 use Rattle.maid_model.specs.Answers.{FitsAnswer, pure_profile, rows_at, no_row}
 use Rattle.maid_model.specs.Nodes.{IsDecision, states_of, rows_of, decisions_of}
 use Rattle.maid_model.specs.Profiles.{IsProfile, IsRule, pure_row, pure_rule}
-use Rattle.maid_model.specs.Sums.{sum_below}
 use Rattle.maid_model.specs.Tables.{IsTable, weights_of, rule_total}
-use Rattle.maid_model.specs.Views.{NodeView, AnswerView, RuleView}
+use Rattle.maid_model.specs.Views.{NodeView, AnswerView}
 use Rattle.maid_model.proofs.Setting.{Among}
 use Rattle.maid_model.proofs.Sums.{sum_below_cong}
 use Rattle.maid_model.proofs.Ints.{mul_one}

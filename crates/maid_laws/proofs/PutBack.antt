@@ -1,13 +1,12 @@
 -- The exchange: from any deviation the rules of a profile that is best against its bases are put back one by one, and no gain from a start falls.
-use Rattle.std.proofs.Common.{◌≡◌, ◌≢◌, ◌∙◌, ℕ, zero, suc, ◌+◌, ◌*◌, ◌<◌, ◌≤◌, Bool, true, false, cond, eqb, filter, List, [], ◌∷◌, ◌++◌, length, slice_index, refl, sym, ap, subst, inl, inr, ℤ, pos, ◌*ℤ◌, ◌≤ℤ◌, ◌<ℤ◌, arith}
+use Rattle.std.proofs.Common.{◌≡◌, ◌≢◌, ◌∙◌, ℕ, ◌+◌, ◌*◌, ◌<◌, ◌≤◌, Bool, true, false, cond, eqb, filter, List, [], ◌∷◌, length, slice_index, refl, sym, ap, subst, inl, inr, ℤ, pos, ◌*ℤ◌, ◌≤ℤ◌, ◌<ℤ◌, arith}
 use Rattle.std.proofs.lemmas.Int.{ints}
 use Rattle.std.proofs.Math.Path.{fun_ext}
 use Rattle.std.proofs.Math.Decide.{ℕ_discrete, dec_lt}
-use Rattle.std.specs.List.{range_with_len}
 use Rattle.maid_model.specs.declared.diagrams.Kind.{Kind}
 use Rattle.maid_model.specs.declared.diagrams.Kind.TheVariants.{Chance, Decision, Utility}
 use Rattle.maid_model.specs.Relevance.{ReliesOn}
-use Rattle.maid_model.proofs.Setting.{Among, Shuffled, none, put, HasTables}
+use Rattle.maid_model.proofs.Setting.{Among, HasTables}
 use Rattle.maid_model.specs.Gains.{utility, utility_below, is_at}
 use Rattle.maid_model.specs.Nodes.{node_at, states_of, rows_under}
 use Rattle.maid_model.specs.Sums.{World, sum_below, sum_over, product_over, InRange}
@@ -27,7 +26,7 @@ use Rattle.maid_laws.proofs.OneStep.{put_back}
 use Rattle.maid_laws.proofs.Ordered.{same_length, setup_of, totals_of, irrelevance_at}
 use Rattle.maid_laws.proofs.Profiles.{put_rule, put_weights, put_total, other_weights, other_total, total_like, put_tables, with_uniform, uniform_off, uniform_tables, uniform_one}
 use Rattle.maid_laws.proofs.Ranks.{past_end}
-use Rattle.maid_laws.proofs.Signs.{table_not_negative, cell_not_negative}
+use Rattle.maid_laws.proofs.Signs.{table_not_negative}
 use Rattle.maid_laws.proofs.Starts.{no_reliance}
 use Rattle.maid_laws.proofs.Step.{gain_from, table_from, total_from, times_le}
 use Rattle.maid_laws.proofs.Summed.{FromD, product_changed}

@@ -50,6 +50,7 @@ avoids_insert u x (y ∷ front) back a n = (a.0, avoids_insert u x front back a.
 apart_insert : (x : ℕ) (front back : List ℕ) → Apart (front ++ back) → Avoids x (front ++ back) → Apart (front ++ x ∷ back)
 apart_insert x [] back a v = (v, a)
 apart_insert x (y ∷ front) back a v = (avoids_insert y x front back a.0 (λ e. v.0 (sym e)), apart_insert x front back a.1 v.1)
+
 -- no repetition, rearranged
 pub apart_shuffled : {xs ys : List ℕ} → Shuffled xs ys → Apart xs → Apart ys
 apart_shuffled none a = a

@@ -1,6 +1,6 @@
 -- Between reliance and walks as steps.
-use Rattle.std.proofs.Common.{◌≡◌, ◌≢◌, ◌⊎◌, ◌↔◌, ◌∙◌, ℕ, ◌<◌, ◌≤◌, Bool, true, false, List, length, refl, sym, ap, subst, inl, inr, arith}
-use Rattle.maid_model.specs.declared.diagrams.Kind.TheVariants.{Decision, Utility}
+use Rattle.std.proofs.Common.{◌≡◌, ◌≢◌, ◌↔◌, ℕ, ◌<◌, ◌≤◌, true, List, length, sym, ap, arith}
+use Rattle.maid_model.specs.declared.diagrams.Kind.TheVariants.{Utility}
 use Rattle.maid_model.specs.Graph.{Arc}
 use Rattle.maid_model.specs.Nodes.{IsDecision, node_at, is_utility}
 use Rattle.maid_model.specs.Relevance.{IsLive, IsFixed, IsGoal, ReliesOn}

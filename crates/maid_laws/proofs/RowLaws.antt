@@ -1,11 +1,10 @@
 -- The laws of one decision's rows, for every diagram.
-use Rattle.std.proofs.Common.{◌≡◌, ◌≢◌, ◌∙◌, ℕ, ◌<◌, Bool, cond, ◌&&◌, eqb, List, length, refl, sym, ap, subst, pos, ℤ, ◌*ℤ◌, ◌≤ℤ◌}
+use Rattle.std.proofs.Common.{◌≡◌, ◌≢◌, ◌∙◌, ℕ, ◌<◌, cond, ◌&&◌, eqb, List, length, sym, ap, subst, pos, ◌*ℤ◌, ◌≤ℤ◌}
 use Rattle.maid_model.specs.Gains.{gain_at, mass_at, is_at, weight_without, utility_below}
 use Rattle.maid_model.specs.Graph.{IsGraph}
-use Rattle.maid_model.specs.Nodes.{IsDecision, states_of, numbers_of}
-use Rattle.maid_model.specs.Profiles.{IsProfile}
+use Rattle.maid_model.specs.Nodes.{states_of, numbers_of}
 use Rattle.maid_model.specs.Sums.{World, InRange}
-use Rattle.maid_model.specs.Tables.{HasChanceTables, weight_total, table, row_of}
+use Rattle.maid_model.specs.Tables.{weight_total, table, row_of}
 use Rattle.maid_model.specs.Views.{NodeView, RuleView}
 use Rattle.maid_model.proofs.Setting.{HasTables}
 use Rattle.std.proofs.Math.Decide.{dec_lt}
@@ -16,7 +15,6 @@ use Rattle.maid_laws.proofs.Proportions.{sum_over_zero}
 use Rattle.maid_laws.specs.Irrelevance.{Irrelevance, MassAtEachState, NoGainWithoutMass, mass_at_state}
 use Rattle.maid_laws.proofs.Best.{mass_state_same, zero_gain, zero_mass, mass_not_negative}
 use Rattle.maid_laws.proofs.Decided.{tests, by_contradiction, le_stable}
-use Rattle.maid_laws.proofs.Notions.{OrderedGraph}
 use Rattle.maid_laws.proofs.Ordered.{setup_of, totals_of, irrelevance_at}
 use Rattle.maid_laws.proofs.Orders.{ordered}
 use Rattle.maid_laws.proofs.Signs.{table_not_negative}

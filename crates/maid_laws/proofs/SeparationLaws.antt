@@ -1,17 +1,13 @@
 -- The law of separation, for every diagram.
-use Rattle.std.proofs.Common.{◌≡◌, ◌≢◌, ◌⊎◌, ◌↔◌, ◌∙◌, ℕ, zero, suc, ◌+◌, ◌<◌, ◌≤◌, Bool, true, false, cond, not, ◌||◌, ◌&&◌, eqb, filter, List, [], ◌∷◌, length, refl, sym, ap, subst, inl, inr, arith, ℤ, pos, ◌*ℤ◌}
-use Rattle.std.proofs.lemmas.Int.{ints}
+use Rattle.std.proofs.Common.{◌≡◌, ◌⊎◌, ◌↔◌, ◌∙◌, ℕ, ◌<◌, ◌≤◌, Bool, true, false, cond, not, ◌||◌, eqb, filter, List, [], ◌∷◌, length, refl, sym, ap, subst, inl, inr, arith, ℤ, pos, ◌*ℤ◌}
 use Rattle.std.proofs.Math.Decide.{ℕ_discrete, dec_lt}
 use Rattle.std.proofs.Math.Path.{fun_ext}
-use Rattle.std.specs.List.{list_all}
-use Rattle.maid_model.specs.declared.diagrams.Kind.TheVariants.{Utility}
-use Rattle.maid_model.specs.Gains.{sum_worlds, table_without, weight_without}
+use Rattle.maid_model.specs.Gains.{sum_worlds, weight_without}
 use Rattle.maid_model.specs.Graph.{Arc, IsPath, Here, Along, IsGraph}
-use Rattle.maid_model.specs.Nodes.{node_at, states_of, numbers_of}
-use Rattle.maid_model.specs.Profiles.{IsProfile}
+use Rattle.maid_model.specs.Nodes.{states_of, numbers_of}
 use Rattle.maid_model.specs.Relevance.{IsLive}
 use Rattle.maid_model.specs.Sums.{World, InRange, with_state, sum_below, sum_over, product_over, nat_product_over}
-use Rattle.maid_model.specs.Tables.{HasChanceTables, table, weight_total}
+use Rattle.maid_model.specs.Tables.{weight_total}
 use Rattle.maid_model.specs.Views.{NodeView, RuleView}
 use Rattle.maid_model.proofs.Setting.{Among, Shuffled, Ignores, HasTotal, HasTables}
 use Rattle.maid_model.proofs.Lists.{among_filter, product_over-shuffled, sum_over-shuffled}
@@ -31,9 +27,9 @@ use Rattle.maid_laws.proofs.Ordered.{setup_of}
 use Rattle.maid_laws.proofs.Orders.{ordered}
 use Rattle.maid_laws.proofs.Profiles.{sum_ones}
 use Rattle.maid_laws.proofs.Ranks.{past_end}
-use Rattle.maid_laws.proofs.Rearranged.{number, numbered, apart_filter, range_apart, in_range, among_range, shuffled_filter}
+use Rattle.maid_laws.proofs.Rearranged.{number, numbered, apart_filter, range_apart, shuffled_filter}
 use Rattle.maid_laws.proofs.Relies.{no_utility_child, walk_of_steps, steps_of_walk}
-use Rattle.maid_laws.proofs.TwoSums.{live_in_F, in_F, in_O, sum_separated}
+use Rattle.maid_laws.proofs.TwoSums.{live_in_F, sum_separated}
 use Rattle.maid_laws.proofs.Signs.{pos_product}
 use Rattle.maid_laws.proofs.Tied.{tables_of}
 use Rattle.maid_laws.proofs.TotalLaws.{ignored, has_total}

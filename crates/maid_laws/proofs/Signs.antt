@@ -1,11 +1,11 @@
 -- No weight is below nought, and what each table adds up to.
-use Rattle.std.proofs.Common.{◌≡◌, ◌≢◌, ◌∙◌, ℕ, zero, suc, ◌+◌, ◌*◌, ◌<◌, ◌≤◌, List, [], ◌∷◌, map, length, slice_index, slice_index_or, refl, sym, ap, subst, inl, inr, arith, ℤ, pos, negsuc, ◌*ℤ◌, ◌≤ℤ◌}
+use Rattle.std.proofs.Common.{◌≡◌, ◌∙◌, ℕ, zero, suc, ◌+◌, ◌*◌, ◌<◌, ◌≤◌, List, [], ◌∷◌, map, length, slice_index, slice_index_or, refl, sym, ap, inl, inr, arith, ℤ, pos, negsuc, ◌*ℤ◌, ◌≤ℤ◌}
 use Rattle.std.proofs.lemmas.Int.{ints}
 use Rattle.std.proofs.Math.Decide.{dec_lt}
 use Rattle.maid_model.specs.declared.diagrams.Kind.{Kind}
 use Rattle.maid_model.specs.declared.diagrams.Kind.TheVariants.{Chance, Decision, Utility}
 use Rattle.maid_model.specs.Nodes.{node_at, states_of, rows_under}
-use Rattle.maid_model.specs.Sums.{World, product_over, nat_product_over, sum_below}
+use Rattle.maid_model.specs.Sums.{World, product_over, nat_product_over}
 use Rattle.maid_model.specs.Tables.{cell_of, table, table_by, weights_of, weight_total}
 use Rattle.maid_model.specs.Views.{NodeView, RuleView}
 use Rattle.maid_model.proofs.Setting.{Among, TableFits, HasTables}

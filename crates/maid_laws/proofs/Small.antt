@@ -1,21 +1,20 @@
 -- A small diagram that meets what the laws ask.
-use Rattle.std.proofs.Common.{◌≡◌, ◌≢◌, ◌⊎◌, ◌∙◌, ℕ, zero, suc, ◌+◌, ◌*◌, ◌<◌, ◌≤◌, List, [], ◌∷◌, map, length, slice_index, slice_index_or, refl, sym, ap, subst, inl, inr, arith, ℤ, pos, negsuc, ◌≤ℤ◌, ◌<ℤ◌}
+use Rattle.std.proofs.Common.{◌≡◌, ◌≢◌, ◌⊎◌, ◌∙◌, ℕ, zero, suc, ◌+◌, ◌*◌, ◌<◌, ◌≤◌, [], ◌∷◌, map, slice_index, slice_index_or, refl, sym, ap, subst, inl, inr, arith, ℤ, pos, negsuc, ◌≤ℤ◌}
 use Rattle.std.proofs.lemmas.Int.{ints}
 use Rattle.std.specs.Prelude.{Contains}
 use Rattle.maid_model.specs.declared.diagrams.Kind.TheVariants.{Chance, Decision, Utility}
-use Rattle.maid_model.specs.Views.{NodeView, RuleView}
 use Rattle.maid_model.specs.Nodes.{IsDecision, node_at, states_of, parents_of, rows_of}
-use Rattle.maid_model.specs.Graph.{Arc, IsPath, Here, Along, IsAcyclic, AllDifferent, IsGraph}
+use Rattle.maid_model.specs.Graph.{Arc, IsPath, Here, Along, IsAcyclic, IsGraph}
 use Rattle.maid_model.specs.Tables.{HasChanceTables, IsTable, weights_of, rule_total, chance_total}
 use Rattle.maid_model.specs.Sums.{sum_below}
 use Rattle.maid_model.specs.Profiles.{IsProfile, IsRule, uniform_profile}
-use Rattle.maid_model.specs.Gains.{gain_at, mass_at}
-use Rattle.maid_model.specs.Relevance.{IsLive, IsFixed, IsGoal, ReliesOn}
+use Rattle.maid_model.specs.Gains.{gain_at}
+use Rattle.maid_model.specs.Relevance.{IsLive, IsFixed, ReliesOn}
 use Rattle.maid_model.specs.Walks.{WithArc}
 use Rattle.maid_laws.specs.Exchange.{IsBestInBase, IsBestInBases, weight_at}
-use Rattle.maid_laws.specs.Examples.{weather, outing, joy, trip, plan, unseen, pair, MeetsTheLaws, HasSums, RelyOnEachOther}
+use Rattle.maid_laws.specs.Examples.{trip, plan, pair, MeetsTheLaws, HasSums, RelyOnEachOther}
 use Rattle.maid_laws.proofs.Collapse.{Apart}
-use Rattle.maid_laws.proofs.Members.{parent_of, arc_of, different_of}
+use Rattle.maid_laws.proofs.Members.{parent_of, different_of}
 use Rattle.maid_laws.proofs.Notions.{IsParent}
 use Rattle.maid_laws.proofs.Rules.{uniform_is_profile}
 

@@ -1,10 +1,10 @@
 -- What holds at a subgame start, along a list.
-use Rattle.std.proofs.Common.{◌≡◌, ◌≢◌, ◌⊎◌, ◌↔◌, ◌∙◌, ℕ, zero, suc, ◌+◌, ◌<◌, ◌≤◌, Bool, true, false, List, [], ◌∷◌, take, length, slice_index, refl, sym, ap, subst, inl, inr, arith}
+use Rattle.std.proofs.Common.{◌≡◌, ◌≢◌, ◌⊎◌, ◌∙◌, ℕ, suc, ◌<◌, ◌≤◌, Bool, true, false, List, [], ◌∷◌, take, length, slice_index, refl, sym, ap, inl, inr, arith}
 use Rattle.std.proofs.Math.Decide.{dec_lt}
 use Rattle.maid_model.specs.declared.diagrams.Kind.TheVariants.{Utility}
-use Rattle.maid_model.specs.Graph.{Arc, IsGraph}
-use Rattle.maid_model.specs.Nodes.{IsDecision, node_at, states_of}
-use Rattle.maid_model.specs.Relevance.{IsLive, ReliesOn}
+use Rattle.maid_model.specs.Graph.{IsGraph}
+use Rattle.maid_model.specs.Nodes.{node_at, states_of}
+use Rattle.maid_model.specs.Relevance.{ReliesOn}
 use Rattle.maid_model.specs.Subgames.{IsListing, IsHistory, KeepsInformation, world_of_history}
 use Rattle.maid_model.specs.Views.{NodeView}
 use Rattle.maid_laws.specs.Starts.{LaterSeeAll, InformationKept, NoRelianceBack}

@@ -1,8 +1,7 @@
 -- What holds at a subgame start, as a set of nodes and a world.
-use Rattle.std.proofs.Common.{◌≡◌, ◌≢◌, ◌⊎◌, ◌∙◌, ℕ, zero, suc, ◌<◌, Bool, true, false, List, ◌∷◌, length, refl, sym, ap, subst, inl, inr, arith}
-use Rattle.maid_model.specs.declared.diagrams.Kind.{Kind}
+use Rattle.std.proofs.Common.{◌≡◌, ◌≢◌, ◌⊎◌, ◌∙◌, ℕ, zero, suc, ◌<◌, Bool, true, false, List, refl, sym, ap, subst, inl, inr, arith}
 use Rattle.maid_model.specs.declared.diagrams.Kind.TheVariants.{Decision, Utility}
-use Rattle.maid_model.specs.Nodes.{node_at, states_of, is_utility}
+use Rattle.maid_model.specs.Nodes.{node_at, states_of}
 use Rattle.maid_model.specs.Relevance.{IsLive, IsFixed, ReliesOn}
 use Rattle.maid_model.specs.Sums.{World, with_state, InRange}
 use Rattle.maid_model.specs.Views.{NodeView}

@@ -1,8 +1,8 @@
 -- Sums in which a decision and all that lies below it are summed out.
-use Rattle.std.proofs.Common.{◌≡◌, ◌≢◌, ◌⊎◌, ◌∙◌, ℕ, ◌+◌, ◌*◌, ◌<◌, Bool, true, false, cond, not, eqb, filter, List, [], ◌∷◌, refl, sym, ap, subst, inl, inr, ℤ, ◌*ℤ◌, arith}
+use Rattle.std.proofs.Common.{◌≡◌, ◌≢◌, ◌⊎◌, ◌∙◌, ℕ, ◌+◌, ◌*◌, ◌<◌, Bool, not, eqb, filter, List, [], ◌∷◌, refl, sym, ap, subst, inl, inr, ℤ, ◌*ℤ◌, arith}
 use Rattle.std.proofs.lemmas.Bool.Decides.{nat_tests}
 use Rattle.std.proofs.Math.Decide.{ℕ_discrete}
-use Rattle.maid_model.proofs.Setting.{Among, Ignores, IgnoresLater, HasTotal, HaveTotals, ParentsFirst}
+use Rattle.maid_model.proofs.Setting.{Among, Ignores, IgnoresLater, HasTotal, ParentsFirst}
 use Rattle.maid_model.specs.Gains.{is_at}
 use Rattle.maid_model.specs.Nodes.{states_of}
 use Rattle.maid_model.specs.Sums.{World, with_state, sum_below, sum_over, product_over, InRange}

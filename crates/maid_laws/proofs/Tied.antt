@@ -1,12 +1,12 @@
 -- From the facts that a diagram and its profiles meet to what the sums use of them.
-use Rattle.std.proofs.Common.{◌≡◌, ◌≢◌, ◌⊎◌, ◌∙◌, ℕ, ◌<◌, ◌≤◌, Bool, true, false, List, length, refl, sym, ap, subst, inl, inr, arith, ℤ, pos, map}
+use Rattle.std.proofs.Common.{◌≡◌, ◌≢◌, ◌∙◌, ℕ, ◌<◌, ◌≤◌, List, length, refl, sym, ap, subst, arith}
 use Rattle.std.proofs.Math.Decide.{dec_lt}
 use Rattle.maid_model.specs.declared.diagrams.Kind.{Kind}
 use Rattle.maid_model.specs.declared.diagrams.Kind.TheVariants.{Chance, Decision, Utility}
 use Rattle.maid_model.specs.Graph.{IsGraph}
 use Rattle.maid_model.specs.Nodes.{IsDecision, node_at, states_of, rows_of}
 use Rattle.maid_model.specs.Profiles.{IsProfile, IsRule}
-use Rattle.maid_model.specs.Tables.{HasChanceTables, IsTable, weights_of, rule_total, weight_total, total_by, chance_total}
+use Rattle.maid_model.specs.Tables.{HasChanceTables, weights_of, rule_total, weight_total, total_by, chance_total}
 use Rattle.maid_model.specs.Views.{NodeView, RuleView}
 use Rattle.maid_model.proofs.Setting.{HasTables, TableFits}
 use Rattle.maid_laws.proofs.Ranks.{past_end}

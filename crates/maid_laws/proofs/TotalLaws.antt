@@ -1,12 +1,10 @@
 -- The laws of totals and of products, for every diagram.
-use Rattle.std.proofs.Common.{◌≡◌, ◌≢◌, ◌⊎◌, ◌∙◌, ℕ, ◌+◌, ◌<◌, ◌≤◌, Bool, true, false, List, [], ◌∷◌, ◌++◌, length, refl, sym, ap, subst, inl, inr, arith, ℤ, pos, ◌*ℤ◌}
+use Rattle.std.proofs.Common.{◌≡◌, ◌∙◌, ℕ, ◌<◌, ◌≤◌, List, [], ◌∷◌, length, refl, sym, ap, subst, inl, inr, arith, ℤ, pos, ◌*ℤ◌}
 use Rattle.std.proofs.Math.Decide.{dec_lt}
 use Rattle.std.proofs.Math.Path.{fun_ext}
-use Rattle.std.specs.Prelude.{Contains}
-use Rattle.maid_model.specs.declared.diagrams.Kind.TheVariants.{Utility}
 use Rattle.maid_model.specs.Gains.{sum_worlds, weight, mass}
 use Rattle.maid_model.specs.Graph.{IsGraph, Here}
-use Rattle.maid_model.specs.Nodes.{node_at, no_node, states_of, numbers_of, rows_of}
+use Rattle.maid_model.specs.Nodes.{node_at, no_node, states_of, numbers_of}
 use Rattle.maid_model.specs.Sums.{World, InRange, with_state, sum_below, sum_over, product_over, nat_product_over}
 use Rattle.maid_model.specs.Tables.{table, table_by, weights_of, cell_of, weight_total, total_by, chance_total, rule_total}
 use Rattle.maid_model.specs.Views.{NodeView, RuleView}
@@ -19,7 +17,7 @@ use Rattle.maid_model.proofs.Totals.{totals_out}
 use Rattle.maid_laws.specs.Sums.{Overlooks, OverlooksAll, LawOfTotals, WeightsAddUp, LawOfProducts, SumsInAnyOrder}
 use Rattle.maid_laws.proofs.Basis.{table_looks, have_totals}
 use Rattle.maid_laws.proofs.Collapse.{Apart}
-use Rattle.maid_laws.proofs.Members.{among_of, contains_of, apart_of, arc_of, different_of}
+use Rattle.maid_laws.proofs.Members.{among_of, contains_of, apart_of, arc_of}
 use Rattle.maid_laws.proofs.Notions.{IsParent}
 use Rattle.maid_laws.proofs.Ordered.{totals_of}
 use Rattle.maid_laws.proofs.Orders.{parent_dec, parents_path, parents_first_of}

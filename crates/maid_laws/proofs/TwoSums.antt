@@ -1,8 +1,8 @@
 -- The law of separation: given any fixed nodes, the tables from which an active walk leads to a utility and the others share no free node, so a sum over worlds is a product of two sums.
-use Rattle.std.proofs.Common.{◌≡◌, ◌≢◌, ◌⊎◌, ◌∙◌, ℕ, ◌<◌, Bool, true, false, not, filter, List, [], ◌∷◌, length, refl, sym, ap, subst, inl, inr, ℤ, ◌*ℤ◌}
+use Rattle.std.proofs.Common.{◌≡◌, ◌⊎◌, ℕ, Bool, true, not, filter, List, refl, sym, subst, inl, inr, ℤ, ◌*ℤ◌}
 use Rattle.maid_model.specs.declared.diagrams.Kind.TheVariants.{Utility}
 use Rattle.maid_model.specs.Relevance.{IsLive}
-use Rattle.maid_model.specs.Nodes.{node_at, states_of, is_utility}
+use Rattle.maid_model.specs.Nodes.{node_at, states_of}
 use Rattle.maid_model.specs.Sums.{World, sum_over, product_over, InRange}
 use Rattle.maid_model.specs.Views.{NodeView}
 use Rattle.maid_model.proofs.Setting.{Among, Ignores, IgnoresAll, EachIgnoresAll, HasTotal}

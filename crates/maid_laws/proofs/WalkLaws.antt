@@ -1,6 +1,6 @@
 -- An active walk read from its other end, and the walks of a node's children.
-use Rattle.std.proofs.Common.{◌≡◌, ◌⊎◌, ◌↔◌, ◌∙◌, ℕ, Bool, true, false, List, [], ◌∷◌, length, refl, sym, subst, inl, inr}
-use Rattle.maid_model.specs.Graph.{Arc, Descends}
+use Rattle.std.proofs.Common.{◌≡◌, ◌↔◌, ℕ, List, [], ◌∷◌, refl, subst, inl, inr}
+use Rattle.maid_model.specs.Graph.{Arc}
 use Rattle.maid_model.specs.Relevance.{IsLive}
 use Rattle.maid_model.specs.Walks.{IsJoined, MeetHeads, IsActive, last_of, IsReached}
 use Rattle.maid_laws.specs.Separation.{IsFixedBy}

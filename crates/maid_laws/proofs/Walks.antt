@@ -1,7 +1,7 @@
 -- Between walks as steps and walks written out as lists.
 use Rattle.std.proofs.Common.{◌≡◌, ◌≢◌, ◌⊎◌, ◌↔◌, ◌∙◌, ℕ, Bool, true, false, List, [], ◌∷◌, refl, sym, subst, inl, inr}
 use Rattle.std.proofs.Math.Decide.{ℕ_discrete}
-use Rattle.maid_model.specs.Walks.{IsJoined, MeetHeads, IsActive, last_of, IsReached, WithArc, WithNode, IsReachedFromParent}
+use Rattle.maid_model.specs.Walks.{IsJoined, MeetHeads, IsActive, last_of, WithArc, WithNode, IsReachedFromParent}
 use Rattle.maid_laws.proofs.Leads.{Leads, ends, head_down, head_up, tail_down, tail_up, more_arcs}
 
 -- an arrow between p and x, with its head at x, or its tail

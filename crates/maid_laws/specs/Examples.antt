@@ -1,5 +1,5 @@
 -- A small diagram that meets what the laws ask: weather, a decision that sees it, and a utility of both.
-use Rattle.std.specs.Prelude.{◌≡◌, ℕ, List, [], ◌∷◌, ℤ, pos, negsuc}
+use Rattle.std.specs.Prelude.{◌≡◌, List, [], ◌∷◌, pos, negsuc}
 use Rattle.maid_model.specs.declared.diagrams.Kind.TheVariants.{Chance, Decision, Utility}
 use Rattle.maid_model.specs.Views.{NodeView, RuleView}
 use Rattle.maid_model.specs.Nodes.{IsDecision}
@@ -8,7 +8,6 @@ use Rattle.maid_model.specs.Tables.{HasChanceTables}
 use Rattle.maid_model.specs.Profiles.{IsProfile, uniform_profile}
 use Rattle.maid_model.specs.Gains.{gain_of, mass, gain_at, mass_at}
 use Rattle.maid_model.specs.Relevance.{IsLive, ReliesOn}
-use Rattle.maid_model.specs.Subgames.{IsSubgamePerfect, IsOptimal}
 use Rattle.maid_laws.specs.Irrelevance.{AgreeWhereRelied}
 use Rattle.maid_laws.specs.Exchange.{IsBestInBases}
 

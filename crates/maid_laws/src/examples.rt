@@ -4,11 +4,9 @@ ghost use Rattle.maid_laws.specs.Examples.{MeetsTheLaws, HasSums, RelyOnEachOthe
 pub fn a_trip()
     ensures meets { MeetsTheLaws }
     ensures sums { HasSums }
-{
-}
+{}
 
 /// Two decisions that share a utility and see nothing rely on each other.
 pub fn a_pair()
     ensures rely { RelyOnEachOther }
-{
-}
+{}

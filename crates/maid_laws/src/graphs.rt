@@ -5,11 +5,9 @@ ghost use Rattle.maid_laws.specs.Orders.{AcyclicIffListed, ListingExists, Descen
 pub fn parents_first_lists()
     ensures acyclic { AcyclicIffListed }
     ensures listing { ListingExists }
-{
-}
+{}
 
 /// The test for descent tells paths.
 pub fn descent_tested()
     ensures law { DescentTested }
-{
-}
+{}

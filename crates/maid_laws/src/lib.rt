@@ -10,7 +10,9 @@ mod separation;
 mod subgames;
 mod sums;
 
-pub use answers::{answers_are_best, answers_are_optimal, answers_are_subgame_perfect, worth_under_the_profile};
+pub use answers::{
+    answers_are_best, answers_are_optimal, answers_are_subgame_perfect, worth_under_the_profile,
+};
 pub use examples::{a_pair, a_trip};
 pub use graphs::{descent_tested, parents_first_lists};
 pub use irrelevance::{irrelevant_rules, mass_at_each_state};
