@@ -1,20 +1,23 @@
 -- A small diagram that meets what the laws ask.
-use Rattle.std.proofs.Common.{◌≡◌, ◌≢◌, ◌⊎◌, ◌∙◌, ℕ, zero, suc, ◌+◌, ◌*◌, ◌<◌, ◌≤◌, [], ◌∷◌, map, slice_index, slice_index_or, refl, sym, ap, subst, inl, inr, arith, ℤ, pos, negsuc, ◌≤ℤ◌}
+use Rattle.std.proofs.Common.{◌≡◌, ◌≢◌, ◌⊎◌, ◌∙◌, ℕ, zero, suc, ◌+◌, ◌*◌, ◌<◌, ◌≤◌, [], ◌∷◌, map, take, slice_index, slice_index_or, refl, sym, ap, subst, inl, inr, arith, ℤ, pos, negsuc, ◌≤ℤ◌, ◌<ℤ◌}
 use Rattle.std.proofs.lemmas.Int.{ints}
 use Rattle.std.specs.Prelude.{Contains}
 use Rattle.maid_model.specs.declared.diagrams.Kind.TheVariants.{Chance, Decision, Utility}
 use Rattle.maid_model.specs.Nodes.{IsDecision, node_at, states_of, parents_of, rows_of}
 use Rattle.maid_model.specs.Graph.{Arc, IsPath, Here, Along, IsAcyclic, IsGraph}
-use Rattle.maid_model.specs.Tables.{HasChanceTables, IsTable, weights_of, rule_total, chance_total}
+use Rattle.maid_model.specs.Tables.{HasChanceTables, table, IsTable, weights_of, rule_total, chance_total}
 use Rattle.maid_model.specs.Sums.{sum_below}
 use Rattle.maid_model.specs.Profiles.{IsProfile, IsRule, uniform_profile}
 use Rattle.maid_model.specs.Gains.{gain_at}
 use Rattle.maid_model.specs.Relevance.{IsLive, IsFixed, ReliesOn}
 use Rattle.maid_model.specs.Walks.{WithArc}
+use Rattle.maid_model.specs.Subgames.{IsListing, IsHistory, IsSubgameStart, world_of_history}
+use Rattle.maid_model.proofs.Setting.{Among}
+use Rattle.maid_laws.proofs.StartLaws.{keeps_if}
 use Rattle.maid_laws.specs.Exchange.{IsBestInBase, IsBestInBases, weight_at}
-use Rattle.maid_laws.specs.Examples.{trip, plan, pair, MeetsTheLaws, HasSums, RelyOnEachOther}
+use Rattle.maid_laws.specs.Examples.{trip, plan, pair, MeetsTheLaws, HasSums, HasASubgame, RelyOnEachOther}
 use Rattle.maid_laws.proofs.Collapse.{Apart}
-use Rattle.maid_laws.proofs.Members.{parent_of, different_of}
+use Rattle.maid_laws.proofs.Members.{among_of, parent_of, different_of}
 use Rattle.maid_laws.proofs.Notions.{IsParent}
 use Rattle.maid_laws.proofs.Rules.{uniform_is_profile}
 
@@ -215,6 +218,50 @@ sums = record {
   rain = refl;
   sun = refl;
 }
+
+-- ---- a subgame
+trip_listing : IsListing trip (0 ∷ 1 ∷ [])
+trip_listing = record { all = all; within = λ v c. within v (among_of v (0 ∷ 1 ∷ []) c); once = different_of (0 ∷ 1 ∷ []) (((λ e. omega arith), tt), (tt, tt)); parents_first = first }
+  where
+    all : (v : ℕ) → v < 3 → (node_at trip v).kind ≢ Utility → Contains (0 ∷ 1 ∷ []) v
+    all zero l n = (0, omega arith, refl)
+    all (suc zero) l n = (1, omega arith, refl)
+    all (suc (suc zero)) l n = absurd (n refl)
+    all (suc (suc (suc v))) l n = absurd (omega arith)
+
+    within : (v : ℕ) → Among v (0 ∷ 1 ∷ []) → (v < 3) × ((node_at trip v).kind ≢ Utility)
+    within v (inl e) = subst (λ x. (x < 3) × ((node_at trip x).kind ≢ Utility)) (sym e) (omega arith, no_utility 0 (omega arith))
+    within v (inr (inl e)) = subst (λ x. (x < 3) × ((node_at trip x).kind ≢ Utility)) (sym e) (omega arith, no_utility 1 (omega arith))
+    within v (inr (inr m)) = absurd m
+
+    first : (i u : ℕ) → i < 2 → Arc trip u (slice_index (0 ∷ 1 ∷ []) i) → Contains (take i (0 ∷ 1 ∷ [])) u
+    first zero u l a = absurd (parent_of trip u 0 a)
+    first (suc zero) u l a = elim (parent_of trip u 1 a) [ inl e ↦ (0, omega arith, sym e) | inr m ↦ absurd m ]
+    first (suc (suc i)) u l a = absurd (omega arith)
+
+sunny : IsHistory trip (0 ∷ 1 ∷ []) (1 ∷ [])
+sunny = record { within = omega arith; each = each }
+  where
+    each : (i : ℕ) → i < 1 → slice_index (1 ∷ []) i < states_of trip (slice_index (0 ∷ 1 ∷ []) i)
+    each zero l = omega arith
+    each (suc i) l = absurd (omega arith)
+
+-- the outing sees the weather, so no later information set straddles the start
+sunny_start : IsSubgameStart trip (0 ∷ 1 ∷ []) (1 ∷ [])
+sunny_start = record { history = sunny; reachable = reachable; keeps = keeps_if trip trip_graph (0 ∷ 1 ∷ []) (1 ∷ []) trip_listing sunny sees }
+  where
+    reachable : (i : ℕ) → i < 1 → (node_at trip (slice_index (0 ∷ 1 ∷ []) i)).kind ≡ Chance → pos 0 <ℤ table trip [] (slice_index (0 ∷ 1 ∷ []) i) (world_of_history (0 ∷ 1 ∷ []) (1 ∷ []))
+    reachable zero l k = omega (arith, ints)
+    reachable (suc i) l k = absurd (omega arith)
+
+    sees : (i j : ℕ) → j < 1 → 1 ≤ i → i < 2 → IsDecision trip (slice_index (0 ∷ 1 ∷ []) i) → IsLive trip (slice_index (0 ∷ 1 ∷ []) j) → Arc trip (slice_index (0 ∷ 1 ∷ []) j) (slice_index (0 ∷ 1 ∷ []) i)
+    sees zero j lj l m k v = absurd (omega arith)
+    sees (suc zero) zero lj l m k v = (0, omega arith, refl)
+    sees (suc zero) (suc j) lj l m k v = absurd (omega arith)
+    sees (suc (suc i)) j lj l m k v = absurd (omega arith)
+
+pub subgame : HasASubgame
+subgame = record { listing = trip_listing; start = sunny_start; worth = refl; mass_there = refl }
 
 -- ---- two decisions that see nothing
 pair_up : (u v : ℕ) → IsParent pair u v → (u < v) × (u < 2)

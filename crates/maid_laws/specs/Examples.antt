@@ -8,6 +8,7 @@ use Rattle.maid_model.specs.Tables.{HasChanceTables}
 use Rattle.maid_model.specs.Profiles.{IsProfile, uniform_profile}
 use Rattle.maid_model.specs.Gains.{gain_of, mass, gain_at, mass_at}
 use Rattle.maid_model.specs.Relevance.{IsLive, ReliesOn}
+use Rattle.maid_model.specs.Subgames.{IsListing, IsSubgameStart, gain_from, mass_from}
 use Rattle.maid_laws.specs.Irrelevance.{AgreeWhereRelied}
 use Rattle.maid_laws.specs.Exchange.{IsBestInBases}
 
@@ -53,6 +54,13 @@ pub record HasSums : Type 0 where
   pub go_in_sun : gain_at trip plan 1 1 1 ≡ pos 21
   pub rain : mass_at trip plan 1 0 ≡ pos 1
   pub sun : mass_at trip plan 1 1 ≡ pos 3
+
+-- a subgame starts once the sun is seen to shine, and the plan is worth 7 from there, of mass 1
+pub record HasASubgame : Type 0 where
+  pub listing : IsListing trip (0 ∷ 1 ∷ [])
+  pub start : IsSubgameStart trip (0 ∷ 1 ∷ []) (1 ∷ [])
+  pub worth : gain_from trip (0 ∷ 1 ∷ []) (1 ∷ []) plan 0 ≡ pos 7
+  pub mass_there : mass_from trip (0 ∷ 1 ∷ []) (1 ∷ []) plan ≡ 1
 
 -- two decisions that see nothing, and a utility that both share
 abbrev pub unseen : NodeView
