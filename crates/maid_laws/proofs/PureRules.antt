@@ -1,0 +1,150 @@
+-- The pure profile of answered choices: a rule of total 1 at each decision, with the weight 1 at the choice of each row.
+use Rattle.std.proofs.Common.{◌≡◌, ◌⊎◌, ◌∙◌, ℕ, zero, suc, ◌+◌, ◌-◌, ◌*◌, ◌<◌, Bool, true, false, cond, eqb, flat_map, List, [], ◌∷◌, ◌++◌, map, length, slice_index, slice_index_or, refl, sym, ap, subst, inl, inr, arith, ℤ, pos, ◌*ℤ◌, ◌≤ℤ◌}
+use Rattle.std.proofs.lemmas.Int.{ints}
+use Rattle.std.proofs.lemmas.List.{length-map, length-append, get_or_append_left, get_or-append_right}
+use Rattle.std.proofs.lemmas.List.FromFn.{get_or-map-range_with_len}
+use Rattle.std.proofs.lemmas.List.Elements.{All-head, All-tail, All-map}
+use Rattle.std.specs.List.{range_with_len}
+use Rattle.std.specs.Prelude.{All}
+use Rattle.maid_model.specs.declared.answers.Row.{Row}
+use Rattle.maid_model.specs.Answers.{FitsAnswer, pure_profile, rows_at, no_row}
+use Rattle.maid_model.specs.Nodes.{IsDecision, states_of, rows_of, decisions_of}
+use Rattle.maid_model.specs.Profiles.{IsProfile, IsRule, pure_row, pure_rule}
+use Rattle.maid_model.specs.Tables.{IsTable, weights_of, rule_total}
+use Rattle.maid_model.specs.Views.{NodeView, AnswerView}
+use Rattle.maid_model.proofs.Setting.{Among}
+use Rattle.maid_model.proofs.Sums.{sum_below_cong}
+use Rattle.maid_model.proofs.Ints.{mul_one}
+use Rattle.maid_laws.proofs.Booleans.{eqb_yes, eqb_same}
+use Rattle.maid_laws.proofs.Collapse.{one_if, sum_below_at}
+use Rattle.maid_laws.proofs.Rearranged.{length_range}
+use Rattle.maid_laws.proofs.Rules.{weights_map, total_map, decisions_map, among_decisions}
+use Rattle.maid_laws.proofs.Signs.{at_pos}
+
+-- ---- the weights of pure rows
+length_row : (n c : ℕ) → length (pure_row n c) ≡ n
+length_row n c = length-map (range_with_len 0 n) (λ s. cond (eqb s c) 1 0) ∙ length_range 0 n
+
+-- it is 1 at the choice
+at_row : (n c s : ℕ) → s < n → slice_index (pure_row n c) s ≡ cond (eqb s c) 1 0
+at_row n c s l = get_or-map-range_with_len (λ s. cond (eqb s c) 1 0) 0 n s s 0 l (omega arith)
+
+-- all rows together
+pub length_rows : (n : ℕ) (cs : List ℕ) → length (flat_map (pure_row n) cs) ≡ length cs * n
+length_rows n [] = omega arith
+length_rows n (c ∷ cs) = length-append (pure_row n c) (flat_map (pure_row n) cs) ∙ (λ i. length_row n c i + length_rows n cs i) ∙ omega arith
+
+-- by induction over the rows
+pub at_rows : (n : ℕ) (cs : List ℕ) (r s : ℕ) → r < length cs → s < n → slice_index (flat_map (pure_row n) cs) (r * n + s) ≡ cond (eqb s (slice_index cs r)) 1 0
+at_rows n [] r s l m = absurd (omega arith)
+at_rows n (c ∷ cs) zero s l m =
+    let len : length (pure_row n c) ≡ n = length_row n c in
+    ap (slice_index (pure_row n c ++ flat_map (pure_row n) cs)) (first n s)
+    ∙ get_or_append_left (pure_row n c) (flat_map (pure_row n) cs) 0 s (omega arith)
+    ∙ at_row n c s m
+  where
+    first : (n s : ℕ) → 0 * n + s ≡ s
+    first n s = omega arith
+at_rows n (c ∷ cs) (suc r) s l m =
+    get_or-append_right (pure_row n c) (flat_map (pure_row n) cs) n (suc r * n + s) 0 (length_row n c) (omega arith)
+    ∙ ap (slice_index (flat_map (pure_row n) cs)) (rest r n s)
+    ∙ at_rows n cs r s (omega arith) m
+  where
+    rest : (r n s : ℕ) → suc r * n + s - n ≡ r * n + s
+    rest r n s = omega arith
+
+-- no weight is below nought
+not_negative : (ws : List ℕ) (i : ℕ) → pos 0 ≤ℤ slice_index_or (map pos ws) i (pos 0)
+not_negative ws i = subst (λ x. pos 0 ≤ℤ x) (sym (at_pos ws i)) (omega (arith, ints))
+
+-- each row adds up to 1
+pub pure_table : (n : ℕ) (cs : List ℕ) → ((r : ℕ) → r < length cs → slice_index cs r < n) → IsTable (map pos (flat_map (pure_row n) cs)) (length cs) n 1
+pure_table n cs within = record {
+  len = length-map (flat_map (pure_row n) cs) pos ∙ length_rows n cs;
+  not_negative = not_negative (flat_map (pure_row n) cs);
+  row = λ r l.
+      sum_below_cong n (λ s. slice_index_or (map pos (flat_map (pure_row n) cs)) (r * n + s) (pos 0)) (λ s. one_if (eqb s (slice_index cs r)) *ℤ pos 1)
+      (λ s m. at_pos (flat_map (pure_row n) cs) (r * n + s) ∙ ap pos (at_rows n cs r s l m) ∙ as_one (eqb s (slice_index cs r)) ∙ sym (mul_one (one_if (eqb s (slice_index cs r)))))
+      ∙ sum_below_at n (slice_index cs r) (λ s. pos 1) (within r l);
+}
+  where
+    as_one : (b : Bool) → ◌≡◌ {A = ℤ} (pos (cond b 1 0)) (one_if b)
+    as_one true = refl
+    as_one false = refl
+
+-- ---- the rows answered at a decision
+at_choice : (rows : List Row) (row : ℕ) → slice_index (map (λ r. r.choice) rows) row ≡ (slice_index_or rows row no_row).choice
+at_choice [] row = refl
+at_choice (r ∷ rows) zero = refl
+at_choice (r ∷ rows) (suc row) = at_choice rows row
+
+-- the rows of the decision fit
+pub record FitsRows (nodes : List NodeView) (v : ℕ) (rows : List Row) : Type 0 where
+  pub count : length rows ≡ rows_of nodes v
+  pub choices : All (λ r. r.choice < states_of nodes v) rows
+
+-- the first answer of the decision is found, and fits
+pub fits_rows : (nodes : List NodeView) (answers : List AnswerView) (v : ℕ) → All (FitsAnswer nodes) answers → Among v (map (λ a. a.decision) answers) → FitsRows nodes v (rows_at answers v)
+fits_rows nodes [] v h m = absurd m
+fits_rows nodes (a ∷ answers) v h m = go (eqb a.decision v) refl m (λ k. fits_rows nodes answers v (All-tail (FitsAnswer nodes) a answers h) k)
+  where
+    fits : FitsAnswer nodes a
+    fits = All-head (FitsAnswer nodes) a answers h
+
+    here : a.decision ≡ v → FitsRows nodes v a.rows
+    here e = subst (λ x. FitsRows nodes x a.rows) e (record { count = fits.rows; choices = fits.choices })
+
+    other : eqb a.decision v ≡ false → v ≡ a.decision → ⊥
+    other f e = let t : eqb a.decision v ≡ true = eqb_yes a.decision v (sym e) in let u : true ≡ false = sym t ∙ f in cc
+
+    go : (b : Bool) → eqb a.decision v ≡ b → (v ≡ a.decision) ⊎ Among v (map (λ a. a.decision) answers) → (Among v (map (λ a. a.decision) answers) → FitsRows nodes v (rows_at answers v)) → FitsRows nodes v (cond b a.rows (rows_at answers v))
+    go true e k r = here (eqb_same a.decision v e)
+    go false e (inl f) r = absurd (other e f)
+    go false e (inr k) r = r k
+
+-- ---- the pure profile
+module _ (nodes : List NodeView) (answers : List AnswerView) where
+  -- the choices answered at v
+  abbrev choices_at : ℕ → List ℕ
+  choices_at v = map (λ r. r.choice) (rows_at answers v)
+
+  -- its weights
+  pub pure_weights : (v : ℕ) → IsDecision nodes v → weights_of (pure_profile nodes answers) v ≡ flat_map (pure_row (states_of nodes v)) (map (λ r. r.choice) (rows_at answers v))
+  pure_weights v d = weights_map (λ v. pure_rule nodes v (map (λ r. r.choice) (rows_at answers v))) (λ v. refl) (decisions_of nodes) v (among_decisions nodes v d)
+
+  -- its total
+  pub pure_total : (v : ℕ) → IsDecision nodes v → rule_total (pure_profile nodes answers) v ≡ 1
+  pure_total v d = total_map (λ v. pure_rule nodes v (map (λ r. r.choice) (rows_at answers v))) (λ v. refl) (decisions_of nodes) v (among_decisions nodes v d)
+
+  module _ (fits : (v : ℕ) → IsDecision nodes v → FitsRows nodes v (rows_at answers v)) where
+    -- a choice for each row
+    count_choices : (v : ℕ) → IsDecision nodes v → length (map (λ r. r.choice) (rows_at answers v)) ≡ rows_of nodes v
+    count_choices v d = length-map (rows_at answers v) (λ r. r.choice) ∙ (fits v d).count
+
+    -- it is a rule
+    pure_rule_at : (v : ℕ) → IsDecision nodes v → IsRule nodes (record { decision = v; total = 1; weights = flat_map (pure_row (states_of nodes v)) (map (λ r. r.choice) (rows_at answers v)) })
+    pure_rule_at v d = record {
+      positive = omega arith;
+      table = subst (λ n. IsTable (map pos (flat_map (pure_row (states_of nodes v)) (map (λ r. r.choice) (rows_at answers v)))) n (states_of nodes v) 1) (count_choices v d)
+          (pure_table (states_of nodes v) (map (λ r. r.choice) (rows_at answers v)) (λ r l. (All-map (λ c. c < states_of nodes v) (λ r. r.choice) (rows_at answers v) (fits v d).choices) r 0 l));
+    }
+
+    -- so there is one for each decision
+    pub pure_is_profile : IsProfile nodes (pure_profile nodes answers)
+    pure_is_profile = record {
+      decisions = decisions_map (λ v. pure_rule nodes v (map (λ r. r.choice) (rows_at answers v))) (λ v. refl) (decisions_of nodes);
+      rule = λ v d. subst (λ ws. IsRule nodes (record { decision = v; total = rule_total (pure_profile nodes answers) v; weights = ws })) (sym (pure_weights v d))
+          (subst (λ n. IsRule nodes (record { decision = v; total = n; weights = flat_map (pure_row (states_of nodes v)) (map (λ r. r.choice) (rows_at answers v)) })) (sym (pure_total v d)) (pure_rule_at v d));
+    }
+
+    -- the state of weight 1 is the answered choice
+    pub pure_choice : (v row choice : ℕ) → IsDecision nodes v → row < rows_of nodes v → choice < states_of nodes v
+        → slice_index (weights_of (pure_profile nodes answers) v) (row * states_of nodes v + choice) ≡ 1 → choice ≡ (slice_index_or (rows_at answers v) row no_row).choice
+    pure_choice v row choice d l m e =
+        is_one (eqb choice (slice_index (map (λ r. r.choice) (rows_at answers v)) row)) refl
+        (sym (at_rows (states_of nodes v) (map (λ r. r.choice) (rows_at answers v)) row choice (subst (λ n. row < n) (sym (count_choices v d)) l) m) ∙ ap (λ ws. slice_index ws (row * states_of nodes v + choice)) (sym (pure_weights v d)) ∙ e)
+        ∙ at_choice (rows_at answers v) row
+      where
+        is_one : (b : Bool) → eqb choice (slice_index (map (λ r. r.choice) (rows_at answers v)) row) ≡ b → ◌≡◌ {A = ℕ} (cond b 1 0) 1 → choice ≡ slice_index (map (λ r. r.choice) (rows_at answers v)) row
+        is_one true f h = eqb_same choice (slice_index (map (λ r. r.choice) (rows_at answers v)) row) f
+        is_one false f h = absurd (let z : ◌≡◌ {A = ℕ} 0 1 = h in omega arith)

@@ -1,0 +1,5 @@
+use Rattle.maid_laws.proofs.Small.{meets, sums, subgame}
+use Rattle.maid_laws.proofs.examples.a_trip.Goals as goal
+
+pub returns : goal.returns
+returns c = record { meets = meets; sums = sums; subgame = subgame }
