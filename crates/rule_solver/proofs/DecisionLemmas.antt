@@ -32,10 +32,10 @@ pub answered_by : (nodes : List NodeView) (decimals : ℕ) (base : List RuleView
 answered_by nodes decimals base d gains masses rows len gain mass a = record {
   count = a.count ∙ len;
   each = λ row h.
-    let here : row < length masses = subst (λ n. row < n) (sym len) h in
-    let inside : row < length rows = subst (λ n. row < n) (sym a.count) here in
-    answer_row_is nodes decimals base d row (slice_index masses row) (get_or rows row no_row) (mass row h)
-    (answers-same (gain_in gains (states_of nodes d) row) (λ s. gain_at nodes base d s row) (states_of nodes d) (slice_index masses row) (10 ^ decimals) (get_or rows row no_row) (λ s k. gain row s h k) (a.choices row no_row inside) (a.each row here));
+      let here : row < length masses = subst (λ n. row < n) (sym len) h in
+      let inside : row < length rows = subst (λ n. row < n) (sym a.count) here in
+      answer_row_is nodes decimals base d row (slice_index masses row) (get_or rows row no_row) (mass row h)
+      (answers-same (gain_in gains (states_of nodes d) row) (λ s. gain_at nodes base d s row) (states_of nodes d) (slice_index masses row) (10 ^ decimals) (get_or rows row no_row) (λ s k. gain row s h k) (a.choices row no_row inside) (a.each row here));
   choices = a.choices;
   worths = a.worths;
 }

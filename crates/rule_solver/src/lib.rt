@@ -4,6 +4,5 @@
 
 mod rows;
 mod solving;
-mod stand_in;
 
 pub use solving::solve;

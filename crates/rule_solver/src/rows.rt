@@ -28,10 +28,7 @@ pub(crate) fn fraction(num: i128, den: u128) -> Ratio
     ensures { IsFraction result num den }
 {
     let (num, den) = reduce(num, den);
-    Ratio {
-        num,
-        den,
-    }
+    Ratio { num, den }
 }
 
 /// What is answered in a row, whose states have these gains, against its mass.
@@ -71,13 +68,7 @@ fn row_gains(gains: &[i128], rows: usize, states: usize, row: usize) -> &[i128]
 }
 
 /// What is answered in one row, where `gains` has a number for each row and state, the state fastest.
-fn answer_at(
-    gains: &[i128],
-    masses: &[u128],
-    states: usize,
-    scale: u128,
-    row: usize,
-) -> Row
+fn answer_at(gains: &[i128], masses: &[u128], states: usize, scale: u128, row: usize) -> Row
     requires all { length gains.now ≡ length masses.now * states }
     requires some { 0 < states }
     requires scale { 0 < scale }
@@ -88,7 +79,11 @@ fn answer_at(
     ensures choice { result.choice < states }
     ensures reduced { IfSome result.worth IsReduced }
 {
-    answer_row(row_gains(gains, masses.len(), states, row), masses[row], scale)
+    answer_row(
+        row_gains(gains, masses.len(), states, row),
+        masses[row],
+        scale,
+    )
 }
 
 /// What is answered in each row of a decision: `gains` has a number for each row and state, the state fastest, and

@@ -12,8 +12,7 @@ ghost use Rattle.rule_solver.specs.Decisions.{ListsDecisions};
 ghost use Rattle.rule_solver.specs.Masses.{HasGains, KeepsStates, TakesOneState, chance_factor};
 
 use crate::rows::{answer_rows, fraction};
-use crate::stand_in::{base_sums, leaf_sum};
-use maid_model::{Answer, Diagram, Kind, Profile, Ratio, Row, Solved, World};
+use maid_model::{Answer, Diagram, Kind, Profile, Ratio, Row, Solved, World, base_sums, leaf_sum};
 use std::alloc::{AllocError, Global};
 
 /// By what the utilities are scaled: ten to the power of the diagram's decimals.
@@ -66,7 +65,15 @@ fn answer_decision(
     let rows = diagram.rows(decision);
     let mut gains = vec![in alloc; 0; rows * diagram.states(decision)]?;
     let mut masses = vec![in alloc; 0; rows]?;
-    answer_in(alloc, diagram, base, decision, world, &mut gains, &mut masses)
+    answer_in(
+        alloc,
+        diagram,
+        base,
+        decision,
+        world,
+        &mut gains,
+        &mut masses,
+    )
 }
 
 /// The total of a chance node, and 1 at another node.

@@ -8,14 +8,14 @@ use Rattle.rule_solver.proofs.solving.chance_mass.Goals as goal
 pub overflow_mul-mass : goal.overflow_mul-mass
 overflow_mul-mass c =
     let next = subst (λ f. IsMassStep c.args.diagram.now c.count-v-end.ensures.diagram c.loop-v.v (c.loop-v.mass * f)) (sym c.chance_total-mass.ensures)
-        (mass_step c.args.diagram.now c.count-v-end.ensures.diagram c.requires c.loop-v.v c.loop-v.mass (omega arith) c.loop-v.invariant.0 c.loop-v.invariant.1) in
+    (mass_step c.args.diagram.now c.count-v-end.ensures.diagram c.requires c.loop-v.v c.loop-v.mass (omega arith) c.loop-v.invariant.0 c.loop-v.invariant.1) in
     let small : c.loop-v.mass * c.chance_total-mass.result ≤ greatest_number = next.small in
     omega arith
 
 pub loop-v-preserved : goal.loop-v-preserved
 loop-v-preserved c =
     let next = subst (λ f. IsMassStep c.args.diagram.now c.count-v-end.ensures.diagram c.loop-v.v (c.loop-v.mass * f)) (sym c.chance_total-mass.ensures)
-        (mass_step c.args.diagram.now c.count-v-end.ensures.diagram c.requires c.loop-v.v c.loop-v.mass (omega arith) c.loop-v.invariant.0 c.loop-v.invariant.1) in
+    (mass_step c.args.diagram.now c.count-v-end.ensures.diagram c.requires c.loop-v.v c.loop-v.mass (omega arith) c.loop-v.invariant.0 c.loop-v.invariant.1) in
     (next.whole, next.some)
 
 pub returns-clause-mass : goal.returns-clause-mass

@@ -17,11 +17,11 @@ leaf_sum-gain-requires-clause-fits c =
 pub loop-agent-preserved : goal.loop-agent-preserved
 loop-agent-preserved c =
     let fits : FitsSigned w128 c.leaf_sum-gain.result = search rules in
-    let is = simp to_z-of_z at c.fraction.ensures in
-    ( subst (λ l. HasGains c.args.diagram.now c.args.profile.now (c.loop-agent.agent + 1) l) (sym c.in_ok-push.ensures.items)
-      (gains-push c.args.diagram.now c.args.profile.now c.loop-agent.agent c.loop-agent.gains.items c.fraction.result c.loop-agent.invariant.0
-      (subst (λ m. IsFraction c.fraction.result (gain_of c.args.diagram.now.nodes c.args.profile.now c.loop-agent.agent) m)
-      (λ i. c.chance_mass.ensures.mass c.args.profile.now c.requires.pure i * c.scale.ensures.scale i)
-      (subst (λ g. IsFraction c.fraction.result g (c.chance_mass.result * c.scale.result)) c.leaf_sum-gain.ensures.sum is)))
-    , c.leaf_sum-gain.ensures.again ∙ c.loop-agent.invariant.1
+    let is = simp to_z-of_z at c.fraction.ensures in (
+      subst (λ l. HasGains c.args.diagram.now c.args.profile.now (c.loop-agent.agent + 1) l) (sym c.in_ok-push.ensures.items)
+          (gains-push c.args.diagram.now c.args.profile.now c.loop-agent.agent c.loop-agent.gains.items c.fraction.result c.loop-agent.invariant.0
+          (subst (λ m. IsFraction c.fraction.result (gain_of c.args.diagram.now.nodes c.args.profile.now c.loop-agent.agent) m)
+          (λ i. c.chance_mass.ensures.mass c.args.profile.now c.requires.pure i * c.scale.ensures.scale i)
+          (subst (λ g. IsFraction c.fraction.result g (c.chance_mass.result * c.scale.result)) c.leaf_sum-gain.ensures.sum is))),
+      c.leaf_sum-gain.ensures.again ∙ c.loop-agent.invariant.1,
     )
