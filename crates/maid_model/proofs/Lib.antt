@@ -21,3 +21,4 @@ pub mod Marking
 pub mod Summing
 pub mod Adding
 pub mod Leaves
+pub mod Bases
