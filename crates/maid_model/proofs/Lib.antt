@@ -23,3 +23,4 @@ pub mod Marking
 pub mod Summing
 pub mod Adding
 pub mod Leaves
+pub mod Bases

@@ -1,4 +1,4 @@
-ghost use Rattle.std.specs.Prelude.{◌≡◌, ℕ, ◌+◌, ◌*◌, ◌^◌, ◌<◌, ◌≤◌, max, length, pos, ◌*ℤ◌, nat_abs, slice_index, slice_index_or, slice_set, ◌==◌, if◌then◌else◌};
+ghost use Rattle.std.specs.Prelude.{◌≡◌, ℕ, ◌+◌, ◌*◌, ◌^◌, ◌<◌, ◌≤◌, max, length, pos, ◌+ℤ◌, ◌*ℤ◌, nat_abs, slice_index, slice_index_or, slice_set, ◌==◌, if◌then◌else◌};
 ghost use Rattle.maid_model.specs.Nodes.{IsDecision, states_of, rows_of, counts_of};
 ghost use Rattle.maid_model.specs.Private.{MarksUtilities, marked_utility};
 ghost use Rattle.maid_model.specs.Diagrams.{greatest_number};
@@ -58,15 +58,15 @@ pub fn base_sums(
 {
     let places = rule_places(diagram, profile);
     let marks = utilities_below(diagram, decision);
+    let states = diagram.states(decision);
     gains.fill(0);
     masses.fill(0);
     'worlds: loop {
         let weight = world_weight(diagram, profile, &places, decision, world);
         let gain = world_gain(diagram, &marks, weight, world);
-        let cell = world.cell(diagram, decision);
         let row = world.row(diagram, decision);
         let state = world.states[decision];
-        gains[cell] += gain;
+        add_gain(gains, row * states + state, gain);
         add_mass(masses, row, state, weight);
         if !world.next(diagram) {
             return;
@@ -107,10 +107,19 @@ fn world_gain(diagram: &Diagram, marks: &[bool], weight: u128, world: &World) ->
     weight as i128 * marked_utility(diagram, marks, world)
 }
 
+/// Adds the gain to its cell.
+fn add_gain(gains: &mut [i128], cell: usize, gain: i128)
+    requires cell { cell < length gains.old }
+    requires fits { nat_abs (slice_index_or gains.old cell (pos 0) +ℤ gain) ≤ greatest_number }
+    ensures { gains.new ≡ slice_set gains.old cell (slice_index_or gains.old cell (pos 0) +ℤ gain) }
+{
+    gains[cell] += gain;
+}
+
 /// Adds the weight to the row's mass, at the first state alone.
 fn add_mass(masses: &mut [u128], row: usize, state: usize, weight: u128)
     requires row { row < length masses.old }
-    requires fits { slice_index masses.old row + weight < 2 ^ 128 }
+    requires fits { slice_index masses.old row + weight ≤ greatest_number }
     ensures { masses.new ≡ slice_set masses.old row (if state == 0 then slice_index masses.old row + weight else slice_index masses.old row) }
 {
     if state == 0 {
