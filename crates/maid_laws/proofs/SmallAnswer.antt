@@ -9,7 +9,10 @@ use Rattle.maid_model.specs.declared.answers.Ratio.{Ratio}
 use Rattle.maid_model.specs.declared.answers.Row.{Row}
 use Rattle.maid_model.specs.Answers.{IsAnswer, IsAnswerAt, IsAnswerRow, IsBase, IsFirstBest, IsFraction, IsReduced, IsGains, FitsAnswer, FitsDiagram, no_row, rows_at, pure_profile}
 use Rattle.maid_model.specs.Gains.{gain_at, mass_at, gain_of, mass}
-use Rattle.maid_model.specs.Nodes.{IsDecision, node_at}
+use Rattle.maid_model.specs.Nodes.{IsDecision, node_at, states_of, parents_of, rows_of}
+use Rattle.maid_model.specs.declared.diagrams.Kind.TheVariants.{Chance, Decision, Utility}
+use Rattle.maid_model.specs.Diagrams.{IsDiagram, HasOwners, HasValues, KeepsLimits, greatest_number}
+use Rattle.maid_model.specs.Tables.{chance_total}
 use Rattle.maid_model.specs.Placing.{IsRelianceOrder, CanPlace}
 use Rattle.maid_model.specs.Profiles.{uniform_profile}
 use Rattle.maid_model.specs.Relevance.{ReliesOn}
@@ -17,6 +20,7 @@ use Rattle.maid_model.specs.Subgames.{IsOptimal}
 use Rattle.maid_laws.specs.Examples.{trip, plan, trip_diagram, trip_answer}
 use Rattle.maid_laws.proofs.AnswerLaws.{optimal_law}
 use Rattle.maid_laws.proofs.Rules.{uniform_is_profile}
+use Rattle.maid_laws.proofs.Tied.{decision_of}
 use Rattle.maid_laws.proofs.Small.{trip_graph, trip_tables, only_outing, is_outing, none_relied}
 
 -- ---- fractions
@@ -150,3 +154,80 @@ answer = record {
 -- so no profile is worth more than 13/2
 pub answer_optimal : IsOptimal trip plan 0
 answer_optimal = optimal_law trip_diagram trip_answer 0 trip_graph trip_tables answer (λ v k. ap (λ v. (node_at trip v).owner) (only_outing v k))
+
+-- ---- owners, values and limits
+owners : HasOwners trip 1
+owners = record { agent = agent; chance = chance }
+  where
+    agent : (v : ℕ) → v < 3 → (node_at trip v).kind ≢ Chance → (node_at trip v).owner < 1
+    agent zero l n = omega arith
+    agent (suc zero) l n = omega arith
+    agent (suc (suc zero)) l n = omega arith
+    agent (suc (suc (suc v))) l n = absurd (omega arith)
+
+    chance : (v : ℕ) → (node_at trip v).kind ≡ Chance → (node_at trip v).owner ≡ 0
+    chance zero k = refl
+    chance (suc zero) k = refl
+    chance (suc (suc zero)) k = refl
+    chance (suc (suc (suc v))) k = refl
+
+values : HasValues trip
+values = record { utility = utility; decision = decision }
+  where
+    utility : (v : ℕ) → v < 3 → (node_at trip v).kind ≡ Utility → length (node_at trip v).cells ≡ rows_of trip v
+    utility zero l k = cc
+    utility (suc zero) l k = cc
+    utility (suc (suc zero)) l k = refl
+    utility (suc (suc (suc v))) l k = absurd (omega arith)
+
+    decision : (v : ℕ) → (node_at trip v).kind ≡ Decision → (node_at trip v).cells ≡ []
+    decision v k = ap (λ v. (node_at trip v).cells) (only_outing v (decision_of trip v k))
+
+limits : KeepsLimits trip_diagram
+limits = record {
+  nodes = omega arith;
+  states = states;
+  parents = parents;
+  cells = cells;
+  rules = omega arith;
+  totals = totals;
+  values = values;
+  agents = omega arith;
+  decimals = omega arith;
+}
+  where
+    states : (v : ℕ) → states_of trip v ≤ 256
+    states zero = omega arith
+    states (suc zero) = omega arith
+    states (suc (suc zero)) = omega arith
+    states (suc (suc (suc v))) = omega arith
+
+    parents : (v : ℕ) → length (parents_of trip v) ≤ 16
+    parents zero = omega arith
+    parents (suc zero) = omega arith
+    parents (suc (suc zero)) = omega arith
+    parents (suc (suc (suc v))) = omega arith
+
+    cells : (v : ℕ) → v < 3 → rows_of trip v * states_of trip v ≤ 65536
+    cells zero l = omega arith
+    cells (suc zero) l = omega arith
+    cells (suc (suc zero)) l = omega arith
+    cells (suc (suc (suc v))) l = absurd (omega arith)
+
+    totals : (v : ℕ) → (node_at trip v).kind ≡ Chance → chance_total trip v ≤ greatest_number
+    totals zero k = omega arith
+    totals (suc zero) k = cc
+    totals (suc (suc zero)) k = cc
+    totals (suc (suc (suc v))) k = cc
+
+    values : (v : ℕ) → (node_at trip v).kind ≡ Utility → All (λ x. nat_abs x ≤ greatest_number) (node_at trip v).cells
+    values zero k = cc
+    values (suc zero) k = cc
+    values (suc (suc zero)) k = more (pos 5) (pos 0 ∷ negsuc 0 ∷ pos 7 ∷ []) (omega arith) (more (pos 0) (negsuc 0 ∷ pos 7 ∷ []) (omega arith) (more (negsuc 0) (pos 7 ∷ []) (omega arith) (more (pos 7) [] (omega arith) (none (λ x. nat_abs x ≤ greatest_number)))))
+      where
+        more : (x : ℤ) (xs : List ℤ) → nat_abs x ≤ greatest_number → All (λ x. nat_abs x ≤ greatest_number) xs → All (λ x. nat_abs x ≤ greatest_number) (x ∷ xs)
+        more x xs = All-cons (λ x. nat_abs x ≤ greatest_number) x xs
+    values (suc (suc (suc v))) k = none (λ x. nat_abs x ≤ greatest_number)
+
+pub diagram : IsDiagram trip_diagram
+diagram = record { graph = trip_graph; owners = owners; tables = trip_tables; values = values; limits = limits }

@@ -10,6 +10,7 @@ use Rattle.maid_model.specs.Gains.{gain_of, mass, gain_at, mass_at}
 use Rattle.maid_model.specs.Relevance.{IsLive, ReliesOn}
 use Rattle.maid_model.specs.Subgames.{IsListing, IsSubgameStart, IsOptimal, gain_from, mass_from}
 use Rattle.maid_model.specs.Answers.{IsAnswer}
+use Rattle.maid_model.specs.Diagrams.{IsDiagram}
 use Rattle.maid_laws.specs.Irrelevance.{AgreeWhereRelied}
 use Rattle.maid_laws.specs.Exchange.{IsBestInBases}
 
@@ -80,6 +81,7 @@ trip_answer = record {
 
 -- it is the answer, and no profile is worth more
 pub record IsSolved : Type 0 where
+  pub diagram : IsDiagram trip_diagram
   pub answer : IsAnswer trip_diagram trip_answer
   pub optimal : IsOptimal trip plan 0
 
