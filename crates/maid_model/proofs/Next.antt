@@ -4,7 +4,7 @@ use Rattle.std.specs.List.{range_with_len}
 use Rattle.std.proofs.Math.ListN.{length-append, length-take, length-replicate, length-map}
 use Rattle.maid_model.specs.Nodes.{states_of, counts_of}
 use Rattle.maid_model.specs.Views.{NodeView}
-use Rattle.maid_model.specs.Worlds.{worlds, worlds_from, IsWorld}
+use Rattle.maid_model.specs.Worlds.{worlds, worlds_from, IsWorld, first_world}
 use Rattle.maid_model.proofs.Views.{counts_at}
 
 -- every node has a state
@@ -120,6 +120,65 @@ get_or_any (x ∷ xs) (suc i) d e h = get_or_any xs i d e (omega arith)
 length-so_far : (cs old xs : List ℕ) (v : ℕ) → NextSoFar cs old xs v → length xs ≡ length old
 length-so_far cs old xs v s = ap length s.now ∙ simp (length-append, length-take, length-replicate) (let h : v ≤ length old = s.within in omega arith)
 
+first_is : (cs : List ℕ) → AllPositive cs → (n : ℕ) → n ≡ length cs → IsWorld cs (replicate n 0)
+first_is [] h n e = subst (λ k. IsWorld [] (replicate k 0)) (sym e) (record { len = refl; each = λ v l. absurd (omega arith) })
+first_is (c ∷ cs) h n e = subst (λ k. IsWorld (c ∷ cs) (replicate k 0)) (sym e) (go (first_is cs h.1 (length cs) refl))
+  where
+    go : IsWorld cs (replicate (length cs) 0) → IsWorld (c ∷ cs) (0 ∷ replicate (length cs) 0)
+    go t = record { len = omega (arith, t.len); each = each }
+      where
+        each : (v : ℕ) → v < suc (length {A = ℕ} (replicate (length cs) 0)) → get_or (0 ∷ replicate (length cs) 0) v 0 < get_or (c ∷ cs) v 0
+        each zero l = h.0
+        each (suc v) l = t.each v (omega arith)
+
+pub states_positive : (nodes : List NodeView) → ((v : ℕ) → 0 < states_of nodes v) → AllPositive (counts_of nodes)
+states_positive [] h = tt
+states_positive (n ∷ ns) h = (h 0, states_positive ns (λ v. h (suc v)))
+
+pub first_is_world : (nodes : List NodeView) → ((v : ℕ) → 0 < states_of nodes v) → IsWorld (counts_of nodes) (first_world (length nodes))
+first_is_world nodes h = first_is (counts_of nodes) (states_positive nodes h) (length nodes) (sym (length-map nodes (λ n. n.states)))
+
+mixed : (cs old : List ℕ) (v : ℕ) → IsWorld cs old → AllPositive cs → IsWorld cs (take v old ++ replicate (length old - v) 0)
+mixed cs old zero w h = first_is cs h (length old - 0) (omega (arith, w.len))
+mixed [] [] (suc v) w h = subst (λ n. IsWorld [] (replicate n 0)) (none v) w
+  where
+    none : (v : ℕ) → 0 ≡ 0 - suc v
+    none v = omega arith
+mixed [] (x ∷ old) (suc v) w h = absurd (omega (arith, w.len))
+mixed (c ∷ cs) [] (suc v) w h = absurd (omega (arith, w.len))
+mixed (c ∷ cs) (x ∷ old) (suc v) w h = subst (λ n. IsWorld (c ∷ cs) (x ∷ (take v old ++ replicate n 0))) (less (length old) v) (more (mixed cs old v (IsWorld-tail c x cs old w) h.1) (w.each 0 (omega arith)))
+  where
+    less : (n v : ℕ) → n - v ≡ suc n - suc v
+    less n v = omega arith
+
+    more : {xs : List ℕ} → IsWorld cs xs → x < c → IsWorld (c ∷ cs) (x ∷ xs)
+    more {xs} t l = record { len = omega (arith, t.len); each = each }
+      where
+        each : (u : ℕ) → u < suc (length xs) → get_or (x ∷ xs) u 0 < get_or (c ∷ cs) u 0
+        each zero k = l
+        each (suc u) k = t.each u (omega arith)
+
+-- the world so far is a world
+world_so_far : (cs old xs : List ℕ) (v : ℕ) → IsWorld cs old → NextSoFar cs old xs v → IsWorld cs xs
+world_so_far cs old xs v w s = subst (IsWorld cs) (sym s.now) (mixed cs old v w (counts_positive cs old w))
+
+world_set : (cs xs : List ℕ) (u y : ℕ) → IsWorld cs xs → y < get_or cs u 0 → IsWorld cs (set xs u y)
+world_set cs [] u y w l = w
+world_set [] (x ∷ xs) u y w l = absurd (omega (arith, w.len))
+world_set (c ∷ cs) (x ∷ xs) zero y w l = record { len = w.len; each = each }
+  where
+    each : (v : ℕ) → v < suc (length xs) → get_or (y ∷ xs) v 0 < get_or (c ∷ cs) v 0
+    each zero k = l
+    each (suc v) k = w.each (suc v) k
+world_set (c ∷ cs) (x ∷ xs) (suc u) y w l = more (world_set cs xs u y (IsWorld-tail c x cs xs w) l)
+  where
+    more : IsWorld cs (set xs u y) → IsWorld (c ∷ cs) (x ∷ set xs u y)
+    more t = record { len = omega (arith, t.len); each = each }
+      where
+        each : (v : ℕ) → v < suc (length (set xs u y)) → get_or (x ∷ set xs u y) v 0 < get_or (c ∷ cs) v 0
+        each zero k = w.each 0 (omega arith)
+        each (suc v) k = t.each v (omega arith)
+
 module _ (nodes : List NodeView) (old xs : List ℕ) (v state c : ℕ) (w : IsWorld (counts_of nodes) old) (s : NextSoFar (counts_of nodes) old xs v) (h : 0 < v)
     (is : state ≡ get_or xs (v - 1) state) (e : c ≡ states_of nodes (v - 1)) where
   in_world : v - 1 < length xs
@@ -136,3 +195,6 @@ module _ (nodes : List NodeView) (old xs : List ℕ) (v state c : ℕ) (w : IsWo
 
   pub code_back : c - 1 ≤ state → NextSoFar (counts_of nodes) old (set xs (v - 1) 0) (v - 1)
   code_back le = step_back (counts_of nodes) old xs v state c w s h state_is count_is le
+
+  pub code_world : state < c - 1 → IsWorld (counts_of nodes) (set xs (v - 1) (state + 1))
+  code_world lt = world_set (counts_of nodes) xs (v - 1) (state + 1) (world_so_far (counts_of nodes) old xs v w s) (subst (λ n. state + 1 < n) count_is (omega arith))

@@ -69,6 +69,10 @@ pub record FitsAnswer (nodes : List NodeView) (answer : AnswerView) : Type 0 whe
   pub choices : All (λ r. r.choice < states_of nodes answer.decision) answer.rows
   pub worths : All (λ r. IfSome r.worth IsReduced) answer.rows
 
+-- each decision has an answered row for each choice of its parents' states, with choices in range
+abbrev pub FitsAnswers : List NodeView → List AnswerView → Type 0
+FitsAnswers nodes answers = (v : ℕ) → IsDecision nodes v → (length (rows_at answers v) ≡ rows_of nodes v) × All (λ r. r.choice < states_of nodes v) (rows_at answers v)
+
 -- A value that a report can show: answers in the order given, each decision once, and a reduced fraction for each agent.
 pub record FitsDiagram (d : DiagramView) (solved : SolvedView) : Type 0 where
   pub follow : map (λ a. a.decision) solved.answers ≡ solved.order

@@ -66,3 +66,11 @@ greatest_abs (x ∷ xs) = max (nat_abs x) (greatest_abs xs)
 -- S: the greatest absolute value of each utility, added up
 abbrev pub greatest_utility : List NodeView → ℕ
 greatest_utility nodes = nat_sum_over (λ v. if is_utility (node_at nodes v).kind then greatest_abs (node_at nodes v).cells else 0) (numbers_of nodes)
+
+-- v's total, but at the decision d the count of its states
+abbrev pub base_total : List NodeView → List RuleView → ℕ → ℕ → ℕ
+base_total nodes p d v = if v == d then states_of nodes d else weight_total nodes p v
+
+-- the product of all tables' and rules' totals, with the count of d's states in the place of its rule's total
+abbrev pub base_mass : List NodeView → List RuleView → ℕ → ℕ
+base_mass nodes p d = nat_product_over (base_total nodes p d) (numbers_of nodes)

@@ -15,3 +15,5 @@ pub mod Answers
 pub mod Bounds
 pub mod Names
 pub mod Reports
+pub mod Laws
+pub mod Private

@@ -1,5 +1,5 @@
 -- Looking up nodes. Each look-up has an answer for every number, so that no sum over nodes carries a premise.
-use Rattle.std.specs.Prelude.{◌≡◌, ℕ, ◌<◌, ◌*◌, Bool, true, false, ◌&&◌, ◌==◌, List, [], ◌∷◌, map, length, filter, slice_index_or}
+use Rattle.std.specs.Prelude.{◌≡◌, ◌⊎◌, ℕ, ◌<◌, ◌*◌, Bool, true, false, ◌&&◌, ◌==◌, List, [], ◌∷◌, map, length, filter, slice_index_or}
 use Rattle.std.specs.List.{range_with_len}
 use Rattle.maid_model.specs.declared.diagrams.Kind.{Kind}
 use Rattle.maid_model.specs.declared.diagrams.Kind.TheVariants.{Chance, Decision, Utility}
@@ -49,6 +49,11 @@ decisions_of nodes = filter (λ v. is_decision (node_at nodes v).kind) (numbers_
 pub record IsDecision (nodes : List NodeView) (v : ℕ) : Type 0 where
   pub within : v < length nodes
   pub kind : (node_at nodes v).kind ≡ Decision
+
+-- a decision or a utility of the agent
+pub record IsOwnedBy (nodes : List NodeView) (v agent : ℕ) : Type 0 where
+  pub kind : ((node_at nodes v).kind ≡ Decision) ⊎ ((node_at nodes v).kind ≡ Utility)
+  pub owner : (node_at nodes v).owner ≡ agent
 
 -- a utility of the agent
 abbrev pub is_utility_of : List NodeView → ℕ → ℕ → Bool

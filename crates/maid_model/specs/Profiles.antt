@@ -1,5 +1,5 @@
 -- Rules and profiles.
-use Rattle.std.specs.Prelude.{◌≡◌, ℕ, ◌<◌, ◌*◌, ◌+◌, List, [], map, ◌==◌, if◌then◌else◌, pos, replicate}
+use Rattle.std.specs.Prelude.{◌≡◌, ◌≢◌, ℕ, ◌<◌, ◌*◌, ◌+◌, List, [], map, ◌==◌, if◌then◌else◌, pos, replicate, Contains}
 use Rattle.std.specs.List.{range_with_len, flat_map}
 use Rattle.maid_model.specs.Views.{NodeView, RuleView}
 use Rattle.maid_model.specs.Nodes.{IsDecision, states_of, rows_of, decisions_of}
@@ -35,3 +35,18 @@ pure_rule nodes v choices = record { decision = v; total = 1; weights = flat_map
 pub record SameRule (p q : List RuleView) (v : ℕ) : Type 0 where
   pub weights : weights_of p v ≡ weights_of q v
   pub total : rule_total p v ≡ rule_total q v
+
+-- what stands for a rule that there is not
+abbrev pub no_rule : RuleView
+no_rule = record { decision = 0; total = 0; weights = [] }
+
+-- the profile has a rule for the decision
+abbrev pub HasRule : List RuleView → ℕ → Type 0
+HasRule p v = Contains (map (λ r. r.decision) p) v
+
+-- q has the rule in the place of p's rule for that decision, and p's rules in all other places
+pub record Replaces (p q : List RuleView) (rule : RuleView) : Type 0 where
+  pub decisions : map (λ r. r.decision) q ≡ map (λ r. r.decision) p
+  pub weights : weights_of q rule.decision ≡ rule.weights
+  pub total : rule_total q rule.decision ≡ rule.total
+  pub others : (v : ℕ) → v ≢ rule.decision → SameRule q p v

@@ -1,10 +1,15 @@
-ghost use Rattle.std.specs.Prelude.{◌≡◌, ◌<◌, ◌≤◌, ◌↔◌, length, IsTrue};
+ghost use Rattle.std.specs.Prelude.{◌≡◌, ℕ, ◌<◌, ◌≤◌, ◌↔◌, ◌^◌, length, IsTrue, pos, ◌≤ℤ◌, nat_abs, slice_index_or};
 ghost use Rattle.maid_model.specs.Diagrams.{IsDiagram};
-ghost use Rattle.maid_model.specs.Nodes.{node_at};
+ghost use Rattle.maid_model.specs.Nodes.{node_at, states_of, parents_of, rows_of, IsOwnedBy};
+ghost use Rattle.maid_model.specs.Sums.{sum_below};
+ghost use Rattle.maid_model.specs.Tables.{chance_total};
 
 use smallvec::SmallVec;
 use std::alloc::Global;
 use std::marker::Model;
+
+/// The greatest number of nodes.
+pub(crate) const MOST_NODES: usize = 256;
 
 /// What a node is.
 #[derive(Clone, Copy, Debug, PartialEq, Eq)]
@@ -83,6 +88,51 @@ impl Diagram {
         &self.nodes[v]
     }
 
+    /// What the node is.
+    pub fn kind(&self, v: usize) -> Kind
+        requires { v < length self.now.nodes }
+        ensures kind { result ≡ (node_at self.now.nodes v).kind }
+        ensures diagram { IsDiagram self.now }
+    {
+        self.nodes[v].kind
+    }
+
+    /// The number of the node's agent, or 0 at a chance node.
+    pub fn owner(&self, v: usize) -> usize
+        requires { v < length self.now.nodes }
+        ensures owner { result ≡ (node_at self.now.nodes v).owner }
+        ensures diagram { IsDiagram self.now }
+    {
+        self.nodes[v].owner
+    }
+
+    /// How many states the node has.
+    pub fn states(&self, v: usize) -> usize
+        requires { v < length self.now.nodes }
+        ensures states { result ≡ states_of self.now.nodes v }
+        ensures diagram { IsDiagram self.now }
+    {
+        self.nodes[v].states
+    }
+
+    /// The node's parents, in the order of its table.
+    pub fn parents(&self, v: usize) -> &[usize]
+        requires { v < length self.now.nodes }
+        ensures parents { result.now ≡ parents_of self.now.nodes v }
+        ensures diagram { IsDiagram self.now }
+    {
+        self.nodes[v].parents.as_slice()
+    }
+
+    /// The node's cells.
+    pub fn cells(&self, v: usize) -> &[i128]
+        requires { v < length self.now.nodes }
+        ensures cells { result.now ≡ (node_at self.now.nodes v).cells }
+        ensures diagram { IsDiagram self.now }
+    {
+        self.nodes[v].cells.as_slice()
+    }
+
     /// How many agents there are.
     pub fn agents(&self) -> usize
         ensures agents { result ≡ self.now.agents }
@@ -98,4 +148,50 @@ impl Diagram {
     {
         self.decimals
     }
+
+    /// Whether the node is a decision or a utility of the agent.
+    pub fn owns(&self, agent: usize, node: usize) -> bool
+        requires { node < length self.now.nodes }
+        ensures { IsTrue result ↔ IsOwnedBy self.now.nodes node agent }
+    {
+        let node = &self.nodes[node];
+        match node.kind {
+            Kind::Chance => false,
+            Kind::Decision | Kind::Utility => node.owner == agent,
+        }
+    }
+
+    /// How many rows the node's table or rule has: one for each choice of its parents' states.
+    pub fn rows(&self, v: usize) -> usize
+        requires { v < length self.now.nodes }
+        ensures { result ≡ rows_of self.now.nodes v }
+    {
+        let mut rows = 1;
+        for u in self.parents(v) {
+            rows *= self.states(*u);
+        }
+        rows
+    }
+
+    /// What each row of the chance node's table adds up to.
+    pub fn weight_total(&self, v: usize) -> u128
+        requires { (node_at self.now.nodes v).kind ≡ Kind.Chance }
+        ensures { result ≡ chance_total self.now.nodes v }
+    {
+        first_row_total(self.cells(v), self.states(v))
+    }
+}
+
+/// The sum of the first cells, one for each state.
+fn first_row_total(cells: &[i128], states: usize) -> u128
+    requires within { states ≤ length cells.now }
+    requires not_negative { (i : ℕ) → pos 0 ≤ℤ slice_index_or cells.now i (pos 0) }
+    requires fits { nat_abs (sum_below states (λ s. slice_index_or cells.now s (pos 0))) < 2 ^ 127 }
+    ensures { result ≡ nat_abs (sum_below states (λ s. slice_index_or cells.now s (pos 0))) }
+{
+    let mut total: u128 = 0;
+    for s in 0..states {
+        total += cells[s] as u128;
+    }
+    total
 }

@@ -4,8 +4,17 @@
 
 mod answers;
 mod diagrams;
+mod laws;
+mod marks;
 mod profiles;
+mod pure_rules;
+mod weights;
+mod world_sums;
+mod worlds;
 
 pub use answers::{Answer, Ratio, Row, Solved};
 pub use diagrams::{Diagram, Kind, Node};
+pub use laws::{descent_is_tested, graph_has_order, profile_has_rules, worlds_are_listed};
 pub use profiles::{Profile, Rule};
+pub use world_sums::{base_sums, leaf_sum};
+pub use worlds::World;

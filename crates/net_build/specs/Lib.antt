@@ -1,2 +1,4 @@
 pub mod Lists
 pub mod Places
+pub mod First
+pub mod Sayings

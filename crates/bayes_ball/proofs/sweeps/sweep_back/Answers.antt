@@ -1,0 +1,15 @@
+use Rattle.std.proofs.Common.{◌<◌, ◌≤◌, ◌-◌, length, arith}
+use Rattle.bayes_ball.proofs.Spreading.{spread_none, spread_weaker, spread_then, closed_more}
+use Rattle.bayes_ball.proofs.sweeps.sweep_back.Goals as goal
+
+pub loop-v-init : goal.loop-v-init
+loop-v-init c = spread_none _ _ _ _ _ (λ v l. let a = l.0 in let b = l.1 in let e = c.count-v.ensures.count in absurd (omega arith))
+
+pub loop-v-preserved : goal.loop-v-preserved
+loop-v-preserved c =
+    spread_weaker _ _ _ _ _ _ _ _ _
+    (λ h. closed_more _ _ _ _ (λ x. (c.loop-v.v ≤ x) × (x < length c.args.diagram.now.nodes)) (c.loop-v.v - 1) _ (λ x l n. let a = l.0 in (omega arith, l.1)) h.0 h.1)
+    (spread_then _ _ _ _ _ _ _ _ _ _ _ _ c.loop-v.invariant c.visit-changed.ensures)
+
+pub returns : goal.returns
+returns c = spread_weaker _ _ _ _ _ _ _ _ _ (λ h v l. h v (omega arith, l)) c.loop-v.invariant

@@ -1,0 +1,15 @@
+use Rattle.std.proofs.Common.{◌<◌, arith}
+use Rattle.bayes_ball.proofs.Spreading.{spread_none, spread_weaker, spread_then, closed_more}
+use Rattle.bayes_ball.proofs.sweeps.sweep_on.Goals as goal
+
+pub loop-v-init : goal.loop-v-init
+loop-v-init c = spread_none _ _ _ _ _ (λ v l. absurd (omega arith))
+
+pub loop-v-preserved : goal.loop-v-preserved
+loop-v-preserved c =
+    spread_weaker _ _ _ _ _ _ _ _ _
+    (λ h. closed_more _ _ _ _ (λ x. x < c.loop-v.v) c.loop-v.v _ (λ x l n. omega arith) h.0 h.1)
+    (spread_then _ _ _ _ _ _ _ _ _ _ _ _ c.loop-v.invariant c.visit-changed.ensures)
+
+pub returns : goal.returns
+returns c = spread_weaker _ _ _ _ _ _ _ _ _ (λ h v l. h v (omega arith)) c.loop-v.invariant

@@ -1,0 +1,9 @@
+use Rattle.std.proofs.Common.{◌<◌}
+use Rattle.bayes_ball.specs.Search.{IsIn}
+use Rattle.bayes_ball.specs.Spread.{LiveArc, IsSpread, ClosedInto}
+use Rattle.bayes_ball.proofs.sweeps.sweep_on.Given as goal
+
+abbrev pub invariant-loop-v : goal.invariant-loop-v
+invariant-loop-v l =
+    IsSpread (LiveArc l.diagram.nodes) (IsIn l.given) (ClosedInto l.diagram.nodes l.given (λ x. x < l.v))
+    l.initial.down l.initial.up l.down l.up l.changed

@@ -1,0 +1,157 @@
+ghost use Rattle.std.specs.Prelude.{◌≡◌, ℕ, ◌+◌, ◌<◌, ◌⊎◌, ◌↔◌, length, Contains, IsTrue, IsFalse};
+ghost use Rattle.maid_model.specs.Graph.{Arc};
+ghost use Rattle.maid_model.specs.Relevance.{IsLive};
+ghost use Rattle.bayes_ball.specs.Search.{IsIn};
+ghost use Rattle.bayes_ball.specs.Flow.{Way, Flows, IsClosed};
+ghost use Rattle.bayes_ball.specs.Spread.{Adds, LiveArc, Fits, IsMarked, unmarked, LeadsDown, LeadsUp, IsSpread, HearsAll, TellsAll, ClosedInto};
+
+use crate::graph::{is_live, parents};
+use maid_model::Diagram;
+
+/// Whether walks that arrived at the node go on down its arcs.
+fn leads_down(v: usize, given: &[bool], down: &[bool], up: &[bool]) -> bool
+    requires given { v < length given.now }
+    requires down { v < length down.now }
+    requires up { v < length up.now }
+    ensures { IsTrue result ↔ LeadsDown given.now down.now up.now v }
+{
+    (down[v] || up[v]) && !given[v]
+}
+
+/// Whether walks that arrived at the node go on up the arcs into it.
+fn leads_up(v: usize, given: &[bool], down: &[bool], up: &[bool]) -> bool
+    requires given { v < length given.now }
+    requires down { v < length down.now }
+    requires up { v < length up.now }
+    ensures { IsTrue result ↔ LeadsUp given.now down.now up.now v }
+{
+    if given[v] { down[v] } else { up[v] }
+}
+
+/// Marks the node, and says whether that is new.
+fn mark(marks: &mut [bool], v: usize) -> bool
+    requires { v < length marks.old }
+    ensures { Adds (λ x. x ≡ v) marks.old marks.new result }
+{
+    if marks[v] {
+        return false;
+    }
+    marks[v] = true;
+    true
+}
+
+/// Marks the node if it is live, and says whether that is new.
+fn mark_live(diagram: &Diagram, v: usize, marks: &mut [bool]) -> bool
+    requires within { v < length diagram.now.nodes }
+    requires marks { length marks.old ≡ length diagram.now.nodes }
+    ensures { Adds (λ x. (x ≡ v) × IsLive diagram.now.nodes x) marks.old marks.new result }
+{
+    is_live(diagram, v) && mark(marks, v)
+}
+
+/// Whether walks arrive at the live node from a parent.
+fn hears_parent(diagram: &Diagram, v: usize, given: &[bool], down: &[bool], up: &[bool]) -> bool
+    requires fits { Fits diagram.now.nodes given.now down.now up.now }
+    requires live { IsLive diagram.now.nodes v }
+    ensures { IsTrue result ↔ ((p : ℕ) × LiveArc diagram.now.nodes p v × LeadsDown given.now down.now up.now p) }
+{
+    for p in parents(diagram, v) {
+        if leads_down(*p, given, down, up) && is_live(diagram, *p) {
+            return true;
+        }
+    }
+    false
+}
+
+/// Marks the live node where walks arrive at it from a parent.
+fn hear(diagram: &Diagram, v: usize, given: &[bool], down: &mut [bool], up: &[bool]) -> bool
+    requires fits { Fits diagram.now.nodes given.now down.old up.now }
+    requires live { IsLive diagram.now.nodes v }
+    ensures { IsSpread (LiveArc diagram.now.nodes) (IsIn given.now) (HearsAll diagram.now.nodes given.now v) down.old up.now down.new up.now result }
+{
+    if down[v] {
+        return false;
+    }
+    hears_parent(diagram, v, given, down, up) && mark(down, v)
+}
+
+/// Marks the live parents of a live node, and says whether that is new.
+fn mark_parents(diagram: &Diagram, v: usize, up: &mut [bool]) -> bool
+    requires up { length up.old ≡ length diagram.now.nodes }
+    requires live { IsLive diagram.now.nodes v }
+    ensures { Adds (λ x. LiveArc diagram.now.nodes x v) up.old up.new result }
+{
+    let mut changed = false;
+    for p in parents(diagram, v) {
+        changed |= mark_live(diagram, *p, up);
+    }
+    changed
+}
+
+/// Marks the live parents of a live node where walks go on up from it.
+fn tell(diagram: &Diagram, v: usize, given: &[bool], down: &[bool], up: &mut [bool]) -> bool
+    requires fits { Fits diagram.now.nodes given.now down.now up.old }
+    requires live { IsLive diagram.now.nodes v }
+    ensures { IsSpread (LiveArc diagram.now.nodes) (IsIn given.now) (TellsAll diagram.now.nodes given.now v) down.now up.old down.now up.new result }
+{
+    leads_up(v, given, down, up) && mark_parents(diagram, v, up)
+}
+
+/// Follows each arc into the node in both directions.
+fn visit(diagram: &Diagram, v: usize, given: &[bool], down: &mut [bool], up: &mut [bool]) -> bool
+    requires fits { Fits diagram.now.nodes given.now down.old up.old }
+    requires within { v < length diagram.now.nodes }
+    ensures { IsSpread (LiveArc diagram.now.nodes) (IsIn given.now) (ClosedInto diagram.now.nodes given.now (λ x. x ≡ v)) down.old up.old down.new up.new result }
+{
+    if !is_live(diagram, v) {
+        return false;
+    }
+    let heard = hear(diagram, v, given, down, up);
+    let told = tell(diagram, v, given, down, up);
+    heard | told
+}
+
+/// Follows every arc once, nodes from first to last.
+fn sweep_on(diagram: &Diagram, given: &[bool], down: &mut [bool], up: &mut [bool]) -> bool
+    requires fits { Fits diagram.now.nodes given.now down.old up.old }
+    ensures { IsSpread (LiveArc diagram.now.nodes) (IsIn given.now) (ClosedInto diagram.now.nodes given.now (λ x. x < length diagram.now.nodes)) down.old up.old down.new up.new result }
+{
+    let mut changed = false;
+    for v in 0..diagram.count() {
+        changed |= visit(diagram, v, given, down, up);
+    }
+    changed
+}
+
+/// Follows every arc once, nodes from last to first.
+fn sweep_back(diagram: &Diagram, given: &[bool], down: &mut [bool], up: &mut [bool]) -> bool
+    requires fits { Fits diagram.now.nodes given.now down.old up.old }
+    ensures { IsSpread (LiveArc diagram.now.nodes) (IsIn given.now) (ClosedInto diagram.now.nodes given.now (λ x. x < length diagram.now.nodes)) down.old up.old down.new up.new result }
+{
+    let mut changed = false;
+    for v in (0..diagram.count()).rev() {
+        changed |= visit(diagram, v, given, down, up);
+    }
+    changed
+}
+
+/// Sweeps back and on. It says whether there can be more to follow.
+fn sweep_twice(diagram: &Diagram, given: &[bool], down: &mut [bool], up: &mut [bool]) -> bool
+    requires fits { Fits diagram.now.nodes given.now down.old up.old }
+    ensures kept { (w : Way) (v : ℕ) → IsMarked down.old up.old w v → IsMarked down.new up.new w v }
+    ensures sound { (w : Way) (v : ℕ) → IsMarked down.new up.new w v → Flows (LiveArc diagram.now.nodes) (IsIn given.now) (IsMarked down.old up.old) w v }
+    ensures fewer { IsTrue result → unmarked down.new + unmarked up.new < unmarked down.old + unmarked up.old }
+    ensures closed { IsFalse result → IsClosed (LiveArc diagram.now.nodes) (IsIn given.now) (IsMarked down.new up.new) }
+{
+    sweep_back(diagram, given, down, up) && sweep_on(diagram, given, down, up)
+}
+
+/// Adds the marks to which walks go on from those that are there.
+pub fn close(diagram: &Diagram, given: &[bool], down: &mut [bool], up: &mut [bool])
+    requires fits { Fits diagram.now.nodes given.now down.old up.old }
+    ensures kept { (w : Way) (v : ℕ) → IsMarked down.old up.old w v → IsMarked down.new up.new w v }
+    ensures sound { (w : Way) (v : ℕ) → IsMarked down.new up.new w v → Flows (LiveArc diagram.now.nodes) (IsIn given.now) (IsMarked down.old up.old) w v }
+    ensures closed { IsClosed (LiveArc diagram.now.nodes) (IsIn given.now) (IsMarked down.new up.new) }
+{
+    'sweeps: while sweep_twice(diagram, given, down, up) {}
+}

@@ -1,0 +1,31 @@
+use Rattle.std.proofs.Common.{◌∙◌, ◌+◌, ◌++◌, ◌∷◌, [], sym, subst, ap, arith}
+use Rattle.maid_model.specs.Nodes.{decisions_of}
+use Rattle.maid_model.specs.Profiles.{IsProfile}
+use Rattle.maid_model.specs.Tables.{rule_total}
+use Rattle.maid_model.proofs.Members.{decision_listed}
+use Rattle.maid_model.proofs.Uniform.{UniformSoFar, uniform_step, uniform_skip, uniform_end, uniform_is_profile, uniform_total}
+use Rattle.maid_model.proofs.profiles.Profile.uniform.Goals as goal
+use Rattle.maid_model.proofs.profiles.Profile.uniform.Goals.{in-Decision+in_ok-uniform+in_ok-push, in_default}
+
+-- at a decision its uniform rule is added, and nothing at another node
+pub loop-v-preserved : goal.loop-v-preserved
+loop-v-preserved c =
+    elim c.match-kind.branch [
+      in-Decision+in_ok-uniform+in_ok-push w ↦
+        subst (λ l. UniformSoFar c.args.diagram.now.nodes l (c.loop-v.v + 1))
+        (sym (ap (λ v. v.items) w.rules-is ∙ w.in_ok-push.ensures.items ∙ ap (λ r. c.loop-v.rules.items ++ r ∷ []) w.in_ok-uniform.ensures))
+        (uniform_step c.args.diagram.now.nodes c.loop-v.rules.items c.loop-v.v c.loop-v.invariant (omega arith) (sym w.in-Decision.ensures.kind))
+    | in_default w ↦
+        subst (λ l. UniformSoFar c.args.diagram.now.nodes l (c.loop-v.v + 1)) (sym (ap (λ v. v.items) w.rules-is))
+        (uniform_skip c.args.diagram.now.nodes c.loop-v.rules.items c.loop-v.v c.loop-v.invariant (omega arith) (λ e. w.in_default.not-Decision (c.kind.ensures.kind ∙ e)))
+    ]
+
+pub returns-clause-profile : goal.returns-clause-profile
+returns-clause-profile c =
+    subst (IsProfile c.args.diagram.now.nodes) (sym (uniform_end c.args.diagram.now.nodes c.loop-v.rules.items c.loop-v.v c.loop-v.invariant (omega arith)))
+    (uniform_is_profile c.args.diagram.now.nodes c.count-v-end.ensures.diagram.graph)
+
+pub returns-clause-total : goal.returns-clause-total
+returns-clause-total c v d =
+    ap (λ p. rule_total p v) (uniform_end c.args.diagram.now.nodes c.loop-v.rules.items c.loop-v.v c.loop-v.invariant (omega arith))
+    ∙ uniform_total c.args.diagram.now.nodes (decisions_of c.args.diagram.now.nodes) v (decision_listed c.args.diagram.now.nodes v d)

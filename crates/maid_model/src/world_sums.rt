@@ -1,0 +1,119 @@
+ghost use Rattle.std.specs.Prelude.{◌≡◌, ℕ, ◌+◌, ◌*◌, ◌^◌, ◌<◌, ◌≤◌, max, length, pos, ◌*ℤ◌, nat_abs, slice_index, slice_index_or, slice_set, ◌==◌, if◌then◌else◌};
+ghost use Rattle.maid_model.specs.Nodes.{IsDecision, states_of, rows_of, counts_of};
+ghost use Rattle.maid_model.specs.Private.{MarksUtilities, marked_utility};
+ghost use Rattle.maid_model.specs.Diagrams.{greatest_number};
+ghost use Rattle.maid_model.specs.Profiles.{IsProfile};
+ghost use Rattle.maid_model.specs.Gains.{gain_of, gain_at, mass_at, mass, base_mass, greatest_utility};
+ghost use Rattle.maid_model.specs.Worlds.{IsWorld, first_world, world_of};
+
+use crate::diagrams::Diagram;
+use crate::marks::{utilities_below, utilities_of};
+use crate::profiles::Profile;
+use crate::weights::{rule_places, world_weight};
+use crate::worlds::World;
+
+/// The sum, over all worlds, of the world's weight under the profile times the agent's utilities. It goes through all
+/// worlds, and in each through all arcs. The world comes as the first and is the first again in the end. It takes no
+/// memory.
+pub fn leaf_sum(diagram: &Diagram, profile: &Profile, agent: usize, world: &mut World) -> i128
+    requires profile { IsProfile diagram.now.nodes profile.now }
+    requires first { world.old ≡ first_world (length diagram.now.nodes) }
+    requires fits { mass diagram.now.nodes profile.now * max (10 ^ diagram.now.decimals) (greatest_utility diagram.now.nodes) ≤ greatest_number }
+    ensures sum { result ≡ gain_of diagram.now.nodes profile.now agent }
+    ensures again { world.new ≡ world.old }
+{
+    let places = rule_places(diagram, profile);
+    let marks = utilities_of(diagram, agent);
+    let nothing = diagram.count();
+    let mut sum: i128 = 0;
+    'worlds: loop {
+        let weight = world_weight(diagram, profile, &places, nothing, world);
+        sum += world_gain(diagram, &marks, weight, world);
+        if !world.next(diagram) {
+            return sum;
+        }
+    }
+}
+
+/// The two sums of the decision against the profile as its base: in `gains` the gain of each state in each row, row by
+/// row and the state fastest, and in `masses` the mass of each row at the first state. It goes through all worlds, and
+/// in each through all arcs. The world comes as the first and is the first again in the end. It takes no memory.
+pub fn base_sums(
+    diagram: &Diagram,
+    profile: &Profile,
+    decision: usize,
+    world: &mut World,
+    gains: &mut [i128],
+    masses: &mut [u128],
+)
+    requires decision { IsDecision diagram.now.nodes decision }
+    requires profile { IsProfile diagram.now.nodes profile.now }
+    requires first { world.old ≡ first_world (length diagram.now.nodes) }
+    requires gains { length gains.old ≡ rows_of diagram.now.nodes decision * states_of diagram.now.nodes decision }
+    requires masses { length masses.old ≡ rows_of diagram.now.nodes decision }
+    requires fits { base_mass diagram.now.nodes profile.now decision * max (10 ^ diagram.now.decimals) (greatest_utility diagram.now.nodes) ≤ greatest_number }
+    ensures gains { (row s : ℕ) → row < rows_of diagram.now.nodes decision → s < states_of diagram.now.nodes decision → slice_index_or gains.new (row * states_of diagram.now.nodes decision + s) (pos 0) ≡ gain_at diagram.now.nodes profile.now decision s row }
+    ensures masses { (row : ℕ) → row < rows_of diagram.now.nodes decision → pos (slice_index masses.new row) ≡ mass_at diagram.now.nodes profile.now decision row }
+    ensures again { world.new ≡ world.old }
+{
+    let places = rule_places(diagram, profile);
+    let marks = utilities_below(diagram, decision);
+    gains.fill(0);
+    masses.fill(0);
+    'worlds: loop {
+        let weight = world_weight(diagram, profile, &places, decision, world);
+        let gain = world_gain(diagram, &marks, weight, world);
+        let cell = world.cell(diagram, decision);
+        let row = world.row(diagram, decision);
+        let state = world.states[decision];
+        gains[cell] += gain;
+        add_mass(masses, row, state, weight);
+        if !world.next(diagram) {
+            return;
+        }
+    }
+}
+
+/// The sum of the marked utilities in the world.
+fn marked_utility(diagram: &Diagram, marks: &[bool], world: &World) -> i128
+    requires marks { MarksUtilities diagram.now.nodes marks.now }
+    requires world { IsWorld (counts_of diagram.now.nodes) world.now }
+    requires fits { greatest_utility diagram.now.nodes ≤ greatest_number }
+    ensures sum { result ≡ marked_utility diagram.now.nodes marks.now (world_of world.now) }
+    ensures within { nat_abs result ≤ greatest_utility diagram.now.nodes }
+{
+    let mut sum: i128 = 0;
+    for v in 0..diagram.count() {
+        if !marks[v] {
+            continue;
+        }
+        sum += diagram.cells(v)[world.row(diagram, v)];
+    }
+    sum
+}
+
+/// What a world of that weight adds to a sum of gains: its weight times its marked utilities.
+fn world_gain(diagram: &Diagram, marks: &[bool], weight: u128, world: &World) -> i128
+    requires marks { MarksUtilities diagram.now.nodes marks.now }
+    requires world { IsWorld (counts_of diagram.now.nodes) world.now }
+    requires utility { greatest_utility diagram.now.nodes ≤ greatest_number }
+    requires weight { weight ≤ greatest_number }
+    requires fits { weight * greatest_utility diagram.now.nodes ≤ greatest_number }
+    ensures { result ≡ pos weight *ℤ marked_utility diagram.now.nodes marks.now (world_of world.now) }
+{
+    if weight == 0 {
+        return 0;
+    }
+    weight as i128 * marked_utility(diagram, marks, world)
+}
+
+/// Adds the weight to the row's mass, at the first state alone.
+fn add_mass(masses: &mut [u128], row: usize, state: usize, weight: u128)
+    requires row { row < length masses.old }
+    requires fits { slice_index masses.old row + weight < 2 ^ 128 }
+    ensures { masses.new ≡ slice_set masses.old row (if state == 0 then slice_index masses.old row + weight else slice_index masses.old row) }
+{
+    if state == 0 {
+        masses[row] += weight;
+    }
+}

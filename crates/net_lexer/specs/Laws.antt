@@ -1,0 +1,30 @@
+-- Laws of token lists and faults.
+use Rattle.std.specs.Prelude.{◌≡◌, ◌⊎◌, ℕ, ◌≤◌, List, All, AllPairs}
+use Rattle.net_lexer.specs.Pieces.{IsTokens, IsFault}
+use Rattle.net_lexer.specs.Token.{IsTokenOf}
+use Rattle.net_lexer.specs.declared.tokens.Token.{Token}
+use Rattle.net_lexer.specs.declared.tokens.LexFault.{LexFault}
+
+-- every text has a token list or a fault
+abbrev pub Covered : Type 0
+Covered = (text : List ℕ) → ((tokens : List Token) × IsTokens text tokens) ⊎ ((fault : LexFault) × IsFault text fault)
+
+-- and never both
+abbrev pub Exclusive : Type 0
+Exclusive = (text : List ℕ) (tokens : List Token) (fault : LexFault) → IsTokens text tokens → IsFault text fault → ⊥
+
+-- a text's token list is the only one
+abbrev pub OneList : Type 0
+OneList = (text : List ℕ) (tokens others : List Token) → IsTokens text tokens → IsTokens text others → tokens ≡ others
+
+-- a text's fault is the only one
+abbrev pub OneFault : Type 0
+OneFault = (text : List ℕ) (fault other : LexFault) → IsFault text fault → IsFault text other → fault ≡ other
+
+-- each token of a text's list is a token of the text
+abbrev pub EachToken : Type 0
+EachToken = (text : List ℕ) (tokens : List Token) → IsTokens text tokens → All (IsTokenOf text) tokens
+
+-- each token of a text's list ends before every later one begins
+abbrev pub InOrder : Type 0
+InOrder = (text : List ℕ) (tokens : List Token) → IsTokens text tokens → AllPairs (λ token later. token.end ≤ later.start) tokens

@@ -1,0 +1,201 @@
+//! The pieces of a text: white space, comments and tokens.
+
+ghost use Rattle.std.specs.Prelude.{◌≡◌, ◌<◌, ◌≤◌, length, drop, slice_index, true, false, IsTrue, IfOk, IfErr, IfSome, IfNone};
+ghost use Rattle.std.specs.List.{list_all, prefix_len};
+ghost use Rattle.net_lexer.specs.Bytes.{is_percent, is_line_byte, is_quote, is_word_start, is_word_byte, is_run_start, is_run_byte, is_punctuation};
+ghost use Rattle.net_lexer.specs.Strings.{is_open_string};
+ghost use Rattle.net_lexer.specs.Token.{is_name, is_signed};
+ghost use Rattle.net_lexer.specs.Pieces.{IsPieceOf, IsFaultAt, is_bad_numeral, token_of};
+
+use crate::bytes::{is_run_byte, is_run_start, is_sign, is_white, is_word_byte, is_word_start};
+use crate::numerals::is_numeral;
+use crate::strings::behind_quote;
+use crate::{LexFault, Token, TokenKind};
+
+/// What a piece is.
+#[derive(Clone, Copy)]
+pub enum PieceKind {
+    Blank,
+    Comment,
+    Token(TokenKind),
+}
+
+/// A piece, and where its bytes stand.
+#[derive(Clone, Copy)]
+pub struct Piece {
+    pub kind: PieceKind,
+    pub start: usize,
+    pub end: usize,
+}
+
+// What stands behind the first bytes.
+fn behind(bytes: &[u8], count: usize) -> &[u8]
+    requires { count ≤ length bytes.now }
+    ensures { result.now ≡ drop count bytes.now }
+{
+    &bytes[count..]
+}
+
+// The longest front of bytes that go on with a comment.
+fn line_len(bytes: &[u8]) -> usize
+    ensures { result ≡ prefix_len is_line_byte bytes.now }
+{
+    bytes.iter().take_while(|b| **b != b'\n').count()
+}
+
+// The longest front of bytes that go on with a word.
+fn word_len(bytes: &[u8]) -> usize
+    ensures { result ≡ prefix_len is_word_byte bytes.now }
+{
+    bytes.iter().take_while(|b| is_word_byte(**b)).count()
+}
+
+// The longest front of bytes that go on with a run.
+fn run_len(bytes: &[u8]) -> usize
+    ensures { result ≡ prefix_len is_run_byte bytes.now }
+{
+    bytes.iter().take_while(|b| is_run_byte(**b)).count()
+}
+
+fn is_all_word_bytes(bytes: &[u8]) -> bool
+    ensures { result ≡ list_all is_word_byte bytes.now }
+{
+    bytes.iter().all(|b| is_word_byte(*b))
+}
+
+fn is_name(bytes: &[u8]) -> bool
+    ensures { result ≡ is_name bytes.now }
+{
+    match bytes {
+        [first, rest @ ..] => is_word_start(*first) && is_all_word_bytes(rest),
+        [] => false,
+    }
+}
+
+fn is_signed(bytes: &[u8]) -> bool
+    ensures { result ≡ is_signed bytes.now }
+{
+    match bytes {
+        [first, rest @ ..] => is_sign(*first) && is_name(rest),
+        [] => false,
+    }
+}
+
+fn comment_len(bytes: &[u8]) -> usize
+    requires some { 0 < length bytes.now }
+    requires begins { IsTrue (is_percent (slice_index bytes.now 0)) }
+    ensures { IsPieceOf bytes.now (record { kind = PieceKind.Comment; start = 0; end = result }) }
+{
+    line_len(bytes)
+}
+
+fn name_len(bytes: &[u8]) -> usize
+    requires some { 0 < length bytes.now }
+    requires begins { IsTrue (is_word_start (slice_index bytes.now 0)) }
+    ensures { IsPieceOf bytes.now (record { kind = PieceKind.Token TokenKind.Word; start = 0; end = result }) }
+{
+    word_len(bytes)
+}
+
+fn string_len(bytes: &[u8]) -> Option<usize>
+    requires some { 0 < length bytes.now }
+    requires begins { IsTrue (is_quote (slice_index bytes.now 0)) }
+    ensures some { IfSome result (λ len. IsPieceOf bytes.now (record { kind = PieceKind.Token TokenKind.Text; start = 0; end = len })) }
+    ensures none { IfNone result (IsTrue (is_open_string bytes.now)) }
+{
+    match behind_quote(behind(bytes, 1)) {
+        Some(rest) => Some(bytes.len() - rest.len()),
+        None => None,
+    }
+}
+
+// The run at the front: a number or a signed word.
+fn run(bytes: &[u8]) -> Option<(TokenKind, usize)>
+    requires some { 0 < length bytes.now }
+    requires begins { IsTrue (is_run_start (slice_index bytes.now 0)) }
+    ensures some { IfSome result (λ p. IsPieceOf bytes.now (record { kind = PieceKind.Token p.0; start = 0; end = p.1 })) }
+    ensures none { IfNone result (IsTrue (is_bad_numeral bytes.now)) }
+{
+    let len = run_len(bytes);
+    let run = &bytes[..len];
+    if is_numeral(run) {
+        Some((TokenKind::Number, len))
+    } else if is_signed(run) {
+        Some((TokenKind::Word, len))
+    } else {
+        None
+    }
+}
+
+fn punctuation(bytes: &[u8]) -> Option<TokenKind>
+    requires { 0 < length bytes.now }
+    ensures some { IfSome result (λ kind. IsPieceOf bytes.now (record { kind = PieceKind.Token kind; start = 0; end = 1 })) }
+    ensures none { IfNone result (is_punctuation (slice_index bytes.now 0) ≡ false) }
+{
+    match bytes[0] {
+        b'{' => Some(TokenKind::BraceOpen),
+        b'}' => Some(TokenKind::BraceClose),
+        b'(' => Some(TokenKind::ParenOpen),
+        b')' => Some(TokenKind::ParenClose),
+        b'=' => Some(TokenKind::Equals),
+        b';' => Some(TokenKind::Semicolon),
+        b'|' => Some(TokenKind::Bar),
+        _ => None,
+    }
+}
+
+// The kind and length of the piece at the front of the bytes, which stand at that place.
+fn front(bytes: &[u8], at: usize) -> Result<(PieceKind, usize), LexFault>
+    requires { 0 < length bytes.now }
+    ensures ok { IfOk result (λ p. IsPieceOf bytes.now (record { kind = p.0; start = 0; end = p.1 })) }
+    ensures err { IfErr result (λ fault. IsFaultAt at bytes.now fault) }
+{
+    match bytes[0] {
+        first if is_white(first) => Ok((PieceKind::Blank, 1)),
+        b'%' => Ok((PieceKind::Comment, comment_len(bytes))),
+        b'"' => match string_len(bytes) {
+            Some(len) => Ok((PieceKind::Token(TokenKind::Text), len)),
+            None => Err(LexFault::OpenString { at }),
+        },
+        first if is_word_start(first) => Ok((PieceKind::Token(TokenKind::Word), name_len(bytes))),
+        first if is_run_start(first) => match run(bytes) {
+            Some((kind, len)) => Ok((PieceKind::Token(kind), len)),
+            None => Err(LexFault::BadNumeral { at }),
+        },
+        _ => match punctuation(bytes) {
+            Some(kind) => Ok((PieceKind::Token(kind), 1)),
+            None => Err(LexFault::BadByte { at }),
+        },
+    }
+}
+
+impl Piece {
+    /// The piece that begins at the place, or the fault there.
+    pub fn at(text: &[u8], start: usize) -> Result<Piece, LexFault>
+        requires { start < length text.now }
+        ensures piece { IfOk result (λ piece. IsPieceOf text.now piece) }
+        ensures start { IfOk result (λ piece. piece.start ≡ start) }
+        ensures err { IfErr result (λ fault. IsFaultAt start (drop start text.now) fault) }
+    {
+        let (kind, len) = front(behind(text, start), start)?;
+        Ok(Piece {
+            kind,
+            start,
+            end: start + len,
+        })
+    }
+
+    /// The token that the piece is, if it is one.
+    pub fn token(self) -> Option<Token>
+        ensures { result ≡ token_of self }
+    {
+        match self.kind {
+            PieceKind::Token(kind) => Some(Token {
+                kind,
+                start: self.start,
+                end: self.end,
+            }),
+            PieceKind::Blank | PieceKind::Comment => None,
+        }
+    }
+}

@@ -1,0 +1,5 @@
+pub mod RowLemmas
+pub mod DecisionLemmas
+pub mod DecisionLists
+pub mod MassLemmas
+pub mod AnswerLemmas

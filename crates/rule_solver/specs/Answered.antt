@@ -1,0 +1,23 @@
+-- What is answered at a decision against a base, and diagrams in which no decision relies on another.
+use Rattle.std.specs.Prelude.{◌≡◌, ◌<◌, ℕ, List, All, map, length, slice_index_or, IfSome}
+use Rattle.maid_model.specs.declared.answers.Row.{Row}
+use Rattle.maid_model.specs.Views.{NodeView, RuleView, AnswerView}
+use Rattle.maid_model.specs.Nodes.{states_of, rows_of}
+use Rattle.maid_model.specs.Relevance.{ReliesOn}
+use Rattle.maid_model.specs.Answers.{IsAnswerRow, IsReduced, no_row}
+
+-- a row for each choice of the parents' states, each answered against the base, with choices in range and worths in lowest terms
+pub record IsAnsweredBy (nodes : List NodeView) (decimals : ℕ) (base : List RuleView) (d : ℕ) (rows : List Row) : Type 0 where
+  pub count : length rows ≡ rows_of nodes d
+  pub each : (row : ℕ) → row < rows_of nodes d → IsAnswerRow nodes decimals base d row (slice_index_or rows row no_row)
+  pub choices : All (λ r. r.choice < states_of nodes d) rows
+  pub worths : All (λ r. IfSome r.worth IsReduced) rows
+
+-- each decision of the list is answered against the base, in the list's order
+pub record AnswersAll (nodes : List NodeView) (decimals : ℕ) (base : List RuleView) (order : List ℕ) (answers : List AnswerView) : Type 0 where
+  pub follow : map (λ a. a.decision) answers ≡ order
+  pub each : All (λ a. IsAnsweredBy nodes decimals base a.decision a.rows) answers
+
+-- no decision relies on another
+abbrev pub NoneRelies : List NodeView → Type 0
+NoneRelies nodes = (d e : ℕ) → ReliesOn nodes d e → ⊥

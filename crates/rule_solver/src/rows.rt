@@ -1,0 +1,115 @@
+ghost use Rattle.std.specs.Prelude.{◌≡◌, ◌<◌, ◌≤◌, ◌+◌, ◌*◌, ◌^◌, ℕ, All, IfOk, IfSome, length, pos, nat_abs, slice_index, slice_index_or};
+ghost use Rattle.maid_model.specs.Answers.{IsFirstBest, IsFraction, IsReduced, no_row};
+ghost use Rattle.maid_model.specs.Diagrams.{greatest_number};
+ghost use Rattle.rule_solver.specs.Rows.{AnswersRow, AnswersRows, gain_in};
+
+use maid_model::{Ratio, Row};
+use std::alloc::{AllocError, Global};
+use whole_num::reduce;
+
+/// The first place of the greatest number.
+fn first_best(gains: &[i128]) -> usize
+    requires { 0 < length gains.now }
+    ensures { IsFirstBest (λ s. slice_index_or gains.now s (pos 0)) (length gains.now) result }
+{
+    let mut best = 0;
+    for (state, gain) in gains.iter().enumerate() {
+        if *gain > gains[best] {
+            best = state;
+        }
+    }
+    best
+}
+
+/// The fraction in lowest terms.
+pub(crate) fn fraction(num: i128, den: u128) -> Ratio
+    requires den { 0 < den }
+    requires num { nat_abs num ≤ greatest_number }
+    ensures { IsFraction result num den }
+{
+    let (num, den) = reduce(num, den);
+    Ratio {
+        num,
+        den,
+    }
+}
+
+/// What is answered in a row, whose states have these gains, against its mass.
+fn answer_row(gains: &[i128], mass: u128, scale: u128) -> Row
+    requires some { 0 < length gains.now }
+    requires scale { 0 < scale }
+    requires room { mass * scale ≤ greatest_number }
+    requires small { All (λ gain. nat_abs gain ≤ greatest_number) gains.now }
+    ensures row { AnswersRow (λ s. slice_index_or gains.now s (pos 0)) (length gains.now) mass scale result }
+    ensures choice { result.choice < length gains.now }
+    ensures reduced { IfSome result.worth IsReduced }
+{
+    if mass == 0 {
+        return Row {
+            choice: 0,
+            worth: None,
+        };
+    }
+    let choice = first_best(gains);
+    Row {
+        choice,
+        worth: Some(fraction(gains[choice], mass * scale)),
+    }
+}
+
+/// The gains of the states in one row.
+fn row_gains(gains: &[i128], rows: usize, states: usize, row: usize) -> &[i128]
+    requires all { length gains.now ≡ rows * states }
+    requires row { row < rows }
+    requires small { (i : ℕ) → i < length gains.now → nat_abs (slice_index_or gains.now i (pos 0)) ≤ greatest_number }
+    ensures count { length result.now ≡ states }
+    ensures gains { (s : ℕ) → s < states → slice_index_or result.now s (pos 0) ≡ gain_in gains.now states row s }
+    ensures small { All (λ gain. nat_abs gain ≤ greatest_number) result.now }
+{
+    let start = row * states;
+    &gains[start..start + states]
+}
+
+/// What is answered in one row, where `gains` has a number for each row and state, the state fastest.
+fn answer_at(
+    gains: &[i128],
+    masses: &[u128],
+    states: usize,
+    scale: u128,
+    row: usize,
+) -> Row
+    requires all { length gains.now ≡ length masses.now * states }
+    requires some { 0 < states }
+    requires scale { 0 < scale }
+    requires row { row < length masses.now }
+    requires room { slice_index masses.now row * scale ≤ greatest_number }
+    requires small { (i : ℕ) → i < length gains.now → nat_abs (slice_index_or gains.now i (pos 0)) ≤ greatest_number }
+    ensures row { AnswersRow (gain_in gains.now states row) states (slice_index masses.now row) scale result }
+    ensures choice { result.choice < states }
+    ensures reduced { IfSome result.worth IsReduced }
+{
+    answer_row(row_gains(gains, masses.len(), states, row), masses[row], scale)
+}
+
+/// What is answered in each row of a decision: `gains` has a number for each row and state, the state fastest, and
+/// `masses` one for each row.
+pub(crate) fn answer_rows(
+    alloc: Global,
+    gains: &[i128],
+    masses: &[u128],
+    states: usize,
+    scale: u128,
+) -> Result<Vec<Row>, AllocError>
+    requires all { length gains.now ≡ length masses.now * states }
+    requires some { 0 < states }
+    requires scale { 0 < scale }
+    requires room { (row : ℕ) → row < length masses.now → slice_index masses.now row * scale ≤ greatest_number }
+    requires small { (i : ℕ) → i < length gains.now → nat_abs (slice_index_or gains.now i (pos 0)) ≤ greatest_number }
+    ensures rows { IfOk result (λ v. AnswersRows (gain_in gains.now states) (slice_index masses.now) states scale (length masses.now) v.items) }
+{
+    let mut rows = Vec::with_capacity(alloc, masses.len())?;
+    for row in 0..masses.len() {
+        rows.push(answer_at(gains, masses, states, scale, row))?;
+    }
+    Ok(rows)
+}

@@ -1,0 +1,5 @@
+pub mod Signs
+pub mod Stripped
+pub mod Tens
+pub mod Value
+pub mod Written

@@ -1,0 +1,146 @@
+ghost use Rattle.std.specs.Prelude.{◌≡◌, ◌<◌, ◌≤◌, ◌+◌, ◌*◌, ◌%◌, ◌^◌, ◌++◌, length, true, IfSome, IfNone, pos, if◌then◌else◌};
+ghost use Rattle.std.specs.List.{list_all};
+ghost use Rattle.net_lexer.specs.Bytes.{is_digit, is_numeral};
+ghost use Rattle.weight_scale.specs.Numeral.{number_of, signed, numerator, denominator, IsDecimalOf, IsLeastDecimalOf};
+ghost use Rattle.weight_scale.specs.Significant.{IsSignificand, IsTooLong};
+ghost use Rattle.weight_scale.specs.declared.decimal.Decimal.{Decimal};
+
+use crate::Decimal;
+use crate::decimal::{GREATEST, MOST_DECIMALS};
+use crate::digits::{
+    append_digits, exponent_size, is_minus, split_numeral, without_trailing_noughts,
+};
+use whole_num::mul_within;
+
+// With more tens than these a number exceeds the greatest size.
+const MOST_TENS: u128 = 38;
+
+// The number size * 10^above / 10^below.
+#[derive(Clone, Copy)]
+struct Scientific {
+    size: u128,
+    above: u128,
+    below: u128,
+}
+
+// The digits before and behind the point, without the noughts at their end, if they aren't too many.
+fn significand(whole: &[u8], decimals: &[u8]) -> Option<Scientific>
+    requires whole_digits { list_all is_digit whole.now ≡ true }
+    requires decimal_digits { list_all is_digit decimals.now ≡ true }
+    ensures some { IfSome result (λ s. IsSignificand (number_of (whole.now ++ decimals.now)) (length decimals.now) s.size s.above s.below) }
+    ensures small { IfSome result (λ s. (s.size < 2 ^ 126) × (s.above < 2 ^ 64) × (s.below < 2 ^ 64)) }
+    ensures none { IfNone result (IsTooLong (number_of (whole.now ++ decimals.now)) (length decimals.now)) }
+{
+    let kept = without_trailing_noughts(decimals);
+    if kept.is_empty() {
+        let kept = without_trailing_noughts(whole);
+        let size = append_digits(0, kept)?;
+        Some(Scientific {
+            size,
+            above: (whole.len() - kept.len()) as u128,
+            below: 0,
+        })
+    } else {
+        let size = append_digits(append_digits(0, whole)?, kept)?;
+        Some(Scientific {
+            size,
+            above: 0,
+            below: kept.len() as u128,
+        })
+    }
+}
+
+fn signed(minus: bool, size: u128) -> i128
+    requires { size < 2 ^ 126 }
+    ensures { result ≡ signed minus size }
+{
+    if minus { -(size as i128) } else { size as i128 }
+}
+
+// The whole number size * 10^tens, if it isn't too great.
+fn with_tens(minus: bool, size: u128, tens: u128) -> Option<Decimal>
+    requires { 0 < size }
+    ensures some { IfSome result (λ d. IsLeastDecimalOf (signed minus (size * 10 ^ tens)) 1 d) }
+    ensures none { IfNone result ((d : Decimal) → IsDecimalOf (signed minus (size * 10 ^ tens)) 1 d → ⊥) }
+{
+    if tens > MOST_TENS {
+        return None;
+    }
+    let size = mul_within(size, 10u128.pow(tens as u32), GREATEST)?;
+    Some(Decimal {
+        m: signed(minus, size),
+        k: 0,
+    })
+}
+
+// The number size / 10^decimals, if there aren't too many.
+fn with_decimals(minus: bool, size: u128, decimals: u128) -> Option<Decimal>
+    requires last { 0 < size % 10 }
+    requires small { size < 2 ^ 126 }
+    ensures some { IfSome result (λ d. IsLeastDecimalOf (signed minus size) (10 ^ decimals) d) }
+    ensures none { IfNone result ((d : Decimal) → IsDecimalOf (signed minus size) (10 ^ decimals) d → ⊥) }
+{
+    if decimals > MOST_DECIMALS {
+        return None;
+    }
+    Some(Decimal {
+        m: signed(minus, size),
+        k: decimals as u32,
+    })
+}
+
+impl Scientific {
+    // The number times 10^tens, or over it.
+    fn shifted(self, down: bool, tens: u128) -> Scientific
+        requires above { self.above + tens < 2 ^ 128 }
+        requires below { self.below + tens < 2 ^ 128 }
+        ensures size { result.size ≡ self.size }
+        ensures above { result.above ≡ self.above + (if down then 0 else tens) }
+        ensures below { result.below ≡ self.below + (if down then tens else 0) }
+    {
+        if down {
+            Scientific {
+                below: self.below + tens,
+                ..self
+            }
+        } else {
+            Scientific {
+                above: self.above + tens,
+                ..self
+            }
+        }
+    }
+
+    // The decimal that the number is, below nought or above it.
+    fn decimal(self, minus: bool) -> Option<Decimal>
+        requires last { 0 < self.size % 10 }
+        requires small { self.size < 2 ^ 126 }
+        ensures some { IfSome result (λ d. IsLeastDecimalOf (signed minus (self.size * 10 ^ self.above)) (10 ^ self.below) d) }
+        ensures none { IfNone result ((d : Decimal) → IsDecimalOf (signed minus (self.size * 10 ^ self.above)) (10 ^ self.below) d → ⊥) }
+    {
+        if self.above >= self.below {
+            with_tens(minus, self.size, self.above - self.below)
+        } else {
+            with_decimals(minus, self.size, self.below - self.above)
+        }
+    }
+}
+
+/// The exact value of a numeral: the whole number and its decimals, of which there are as few as
+/// can be. `None` exactly where the value is no such number within the limits of `Decimal`.
+/// One pass over the text; noughts at either end and the length of the exponent don't matter.
+pub fn numeral(text: &[u8]) -> Option<Decimal>
+    requires { is_numeral text.now ≡ true }
+    ensures some { IfSome result (λ d. IsLeastDecimalOf (numerator text.now) (denominator text.now) d) }
+    ensures none { IfNone result ((d : Decimal) → IsDecimalOf (numerator text.now) (denominator text.now) d → ⊥) }
+{
+    let parts = split_numeral(text);
+    let significand = significand(parts.whole, parts.decimals)?;
+    if significand.size == 0 {
+        return Some(Decimal { m: 0, k: 0 });
+    }
+    let tens = exponent_size(parts.exponent)?;
+    significand
+        .shifted(is_minus(parts.exponent), tens)
+        .decimal(is_minus(text))
+}
