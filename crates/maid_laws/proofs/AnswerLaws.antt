@@ -153,7 +153,7 @@ module _ (nodes : List NodeView) (s base : List RuleView) (v : ℕ) (g : IsGraph
 
 -- both parts, for any base
 pub base_law : WorthInBase
-base_law nodes s base v state row scale w g c hs k live b reached = (mass_in_base nodes s base v g c hs k b row reached, same_fraction nodes s base v g c hs k b state row scale w live reached)
+base_law nodes s base v state row scale w g c hs k b reached = (mass_in_base nodes s base v g c hs k b row reached, λ live. same_fraction nodes s base v g c hs k b state row scale w live reached)
 
 -- the base of an answer, and the worth that the answer states
 pub worth_law : WorthUnderTheProfile

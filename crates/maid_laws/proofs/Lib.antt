@@ -43,3 +43,4 @@ pub mod ExchangeLaws
 pub mod OneAgent
 pub mod AnswerLaws
 pub mod Small
+pub mod SmallAnswer

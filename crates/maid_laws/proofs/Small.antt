@@ -48,7 +48,7 @@ no_utility (suc zero) l e = cc
 no_utility (suc (suc u)) l e = absurd (omega arith)
 
 -- the three nodes are a graph
-trip_graph : IsGraph trip
+pub trip_graph : IsGraph trip
 trip_graph = record {
   parents_known = λ u v a. let l : u < 2 = (parent_up u v (parent_of trip u v a)).1 in omega arith;
   parents_differ = λ v. different_of (parents_of trip v) (apart v);
@@ -77,7 +77,7 @@ trip_graph = record {
     one (suc (suc (suc v))) e = refl
 
 -- ---- tables and rules
-trip_tables : HasChanceTables trip
+pub trip_tables : HasChanceTables trip
 trip_tables = record { positive = positive; table = table }
   where
     positive : (v : ℕ) → (node_at trip v).kind ≡ Chance → 0 < chance_total trip v
@@ -109,14 +109,14 @@ trip_tables = record { positive = positive; table = table }
     table (suc (suc (suc v))) e = cc
 
 -- there is one decision
-only_outing : (v : ℕ) → IsDecision trip v → v ≡ 1
+pub only_outing : (v : ℕ) → IsDecision trip v → v ≡ 1
 only_outing zero d = let e : Chance ≡ Decision = d.kind in cc
 only_outing (suc zero) d = refl
 only_outing (suc (suc zero)) d = let e : Utility ≡ Decision = d.kind in cc
 only_outing (suc (suc (suc v))) d = let e : Utility ≡ Decision = d.kind in cc
 
 -- which is one
-is_outing : IsDecision trip 1
+pub is_outing : IsDecision trip 1
 is_outing = record { within = omega arith; kind = refl }
 
 -- its rule
@@ -143,7 +143,7 @@ plan_profile = record {
 }
 
 -- the only decision relies on none
-none_relied : (d e : ℕ) → ReliesOn trip d e → ⊥
+pub none_relied : (d e : ℕ) → ReliesOn trip d e → ⊥
 none_relied d e r = r.apart (only_outing d r.from_decision ∙ sym (only_outing e r.on_decision))
 
 -- no state gains more than the plan's

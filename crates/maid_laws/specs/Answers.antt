@@ -49,13 +49,13 @@ AnswersAreOptimal =
     (d : DiagramView) (solved : SolvedView) (agent : ℕ) → IsGraph d.nodes → HasChanceTables d.nodes → IsAnswer d solved → OwnsAll d.nodes agent
     → IsOptimal d.nodes (answered d solved) agent
 
--- Where a profile has mass in a row, so has the base of the decision in it, and what a state is worth against the base it is worth under the profile itself.
+-- Where a profile has mass in a row, so has the base of the decision in it, and what a state of a live decision is worth against the base it is worth under the profile itself.
 abbrev pub WorthInBase : Type 0
 WorthInBase =
     (nodes : List NodeView) (s base : List RuleView) (v state row scale : ℕ) (w : Ratio) → IsGraph nodes → HasChanceTables nodes → IsProfile nodes s
-    → IsDecision nodes v → IsLive nodes v → IsBase nodes s v base → pos 0 <ℤ mass_at nodes s v row
+    → IsDecision nodes v → IsBase nodes s v base → pos 0 <ℤ mass_at nodes s v row
     → (pos 0 <ℤ mass_at nodes base v row)
-    × (IsFraction w (gain_at nodes base v state row) (nat_abs (mass_at nodes base v row) * scale) → IsFraction w (gain_at nodes s v state row) (nat_abs (mass_at nodes s v row) * scale))
+    × (IsLive nodes v → IsFraction w (gain_at nodes base v state row) (nat_abs (mass_at nodes base v row) * scale) → IsFraction w (gain_at nodes s v state row) (nat_abs (mass_at nodes s v row) * scale))
 
 -- In a row that the answered profile reaches, the row's worth is the expected utility below the decision under that profile itself.
 abbrev pub WorthUnderTheProfile : Type 0

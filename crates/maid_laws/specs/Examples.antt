@@ -1,14 +1,16 @@
 -- A small diagram that meets what the laws ask: weather, a decision that sees it, and a utility of both.
-use Rattle.std.specs.Prelude.{◌≡◌, List, [], ◌∷◌, pos, negsuc}
+use Rattle.std.specs.Prelude.{◌≡◌, List, [], ◌∷◌, pos, negsuc, Some}
 use Rattle.maid_model.specs.declared.diagrams.Kind.TheVariants.{Chance, Decision, Utility}
-use Rattle.maid_model.specs.Views.{NodeView, RuleView}
+use Rattle.maid_model.specs.Views.{NodeView, RuleView, DiagramView, SolvedView}
 use Rattle.maid_model.specs.Nodes.{IsDecision}
 use Rattle.maid_model.specs.Graph.{IsGraph}
 use Rattle.maid_model.specs.Tables.{HasChanceTables}
 use Rattle.maid_model.specs.Profiles.{IsProfile, uniform_profile}
 use Rattle.maid_model.specs.Gains.{gain_of, mass, gain_at, mass_at}
 use Rattle.maid_model.specs.Relevance.{IsLive, ReliesOn}
-use Rattle.maid_model.specs.Subgames.{IsListing, IsSubgameStart, gain_from, mass_from}
+use Rattle.maid_model.specs.Subgames.{IsListing, IsSubgameStart, IsOptimal, gain_from, mass_from}
+use Rattle.maid_model.specs.Answers.{IsAnswer}
+use Rattle.maid_model.specs.Diagrams.{IsDiagram}
 use Rattle.maid_laws.specs.Irrelevance.{AgreeWhereRelied}
 use Rattle.maid_laws.specs.Exchange.{IsBestInBases}
 
@@ -61,6 +63,27 @@ pub record HasASubgame : Type 0 where
   pub start : IsSubgameStart trip (0 ∷ 1 ∷ []) (1 ∷ [])
   pub worth : gain_from trip (0 ∷ 1 ∷ []) (1 ∷ []) plan 0 ≡ pos 7
   pub mass_there : mass_from trip (0 ∷ 1 ∷ []) (1 ∷ []) plan ≡ 1
+
+-- the diagram, of one agent
+abbrev pub trip_diagram : DiagramView
+trip_diagram = record { nodes = trip; agents = 1; decimals = 0 }
+
+-- its answer: to stay in the rain is worth 5, to go in the sun 7, and the plan 13/2
+abbrev pub trip_answer : SolvedView
+trip_answer = record {
+  order = 1 ∷ [];
+  answers = record {
+    decision = 1;
+    rows = record { choice = 0; worth = Some (record { num = pos 5; den = 1 }) } ∷ record { choice = 1; worth = Some (record { num = pos 7; den = 1 }) } ∷ [];
+  } ∷ [];
+  gains = record { num = pos 13; den = 2 } ∷ [];
+}
+
+-- it is the answer, and no profile is worth more
+pub record IsSolved : Type 0 where
+  pub diagram : IsDiagram trip_diagram
+  pub answer : IsAnswer trip_diagram trip_answer
+  pub optimal : IsOptimal trip plan 0
 
 -- two decisions that see nothing, and a utility that both share
 abbrev pub unseen : NodeView
