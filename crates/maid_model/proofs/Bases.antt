@@ -309,3 +309,21 @@ module _ (d : DiagramView) (is : IsDiagram d) (p : List RuleView) (prof : IsProf
 
           pub base_masses : worlds_from (counts_of d.nodes) xs ≡ xs ∷ [] → (r : ℕ) → r < rows_of d.nodes v → pos (slice_index masses' r) ≡ mass_at d.nodes p v r
           base_masses split r lr = ap (λ l. pos (slice_index l r)) masses_are ∙ sym (+ℤ_idr (pos (slice_index masses_next r))) ∙ mass_cell [] split r lr
+
+          -- the sums keep the room that their bounds leave
+          pub base_gains_small : (i : ℕ) → nat_abs (slice_index_or gains' i (pos 0)) ≤ greatest_number
+          base_gains_small i = subst (λ l. nat_abs (slice_index_or l i (pos 0)) ≤ greatest_number) (sym gains_are) (trans (nat_abs (slice_index_or gains_next i (pos 0))) ((s.m + k) * greatest_utility d.nodes) (bound_next i) (base_room.product (s.m + k) within))
+            where
+              trans : (a b : ℕ) → a ≤ b → b ≤ greatest_number → a ≤ greatest_number
+              trans a b h j = omega arith
+
+          pub base_masses_small : (r : ℕ) → slice_index masses' r * max (10 ^ d.decimals) (greatest_utility d.nodes) ≤ greatest_number
+          base_masses_small r = subst (λ l. slice_index l r * max (10 ^ d.decimals) (greatest_utility d.nodes) ≤ greatest_number) (sym masses_are)
+              (trans (slice_index masses_next r * max (10 ^ d.decimals) (greatest_utility d.nodes)) (base_mass d.nodes p v * max (10 ^ d.decimals) (greatest_utility d.nodes))
+              (mul-le-mul_right (max (10 ^ d.decimals) (greatest_utility d.nodes)) (both (slice_index masses_next r) (s.m + k) (base_mass d.nodes p v) (mass_bound_next r) within)) fits)
+            where
+              both : (a b n : ℕ) → a ≤ b → b ≤ n → a ≤ n
+              both a b n h j = omega arith
+
+              trans : (a b : ℕ) → a ≤ b → b ≤ greatest_number → a ≤ greatest_number
+              trans a b h j = omega arith

@@ -143,3 +143,7 @@ module _ (d : DiagramView) (is : IsDiagram d) (p : List RuleView) (prof : IsProf
 
         pub leaves_end : worlds_from (counts_of d.nodes) xs ≡ xs ∷ [] → to_z w128 (of_z w128 (sum +ℤ to_z w128 (of_z w128 x))) ≡ gain_of d.nodes p agent
         leaves_end split = bits_are ∙ sym (+ℤ_idr (sum +ℤ x)) ∙ after [] split
+
+        -- the sum keeps the room that the bound leaves
+        pub leaves_small : nat_abs (to_z w128 (of_z w128 (sum +ℤ to_z w128 (of_z w128 x)))) ≤ greatest_number
+        leaves_small = subst (λ z. nat_abs z ≤ greatest_number) (sym bits_are) next_fits

@@ -20,6 +20,7 @@ pub fn leaf_sum(diagram: &Diagram, profile: &Profile, agent: usize, world: &mut 
     requires first { world.old ≡ first_world (length diagram.now.nodes) }
     requires fits { mass diagram.now.nodes profile.now * max (10 ^ diagram.now.decimals) (greatest_utility diagram.now.nodes) ≤ greatest_number }
     ensures sum { result ≡ gain_of diagram.now.nodes profile.now agent }
+    ensures small { nat_abs result ≤ greatest_number }
     ensures again { world.new ≡ world.old }
 {
     let places = rule_places(diagram, profile);
@@ -54,6 +55,10 @@ pub fn base_sums(
     requires fits { base_mass diagram.now.nodes profile.now decision * max (10 ^ diagram.now.decimals) (greatest_utility diagram.now.nodes) ≤ greatest_number }
     ensures gains { (row s : ℕ) → row < rows_of diagram.now.nodes decision → s < states_of diagram.now.nodes decision → slice_index_or gains.new (row * states_of diagram.now.nodes decision + s) (pos 0) ≡ gain_at diagram.now.nodes profile.now decision s row }
     ensures masses { (row : ℕ) → row < rows_of diagram.now.nodes decision → pos (slice_index masses.new row) ≡ mass_at diagram.now.nodes profile.now decision row }
+
+    // The room that the bound leaves in them.
+    ensures gains_small { (i : ℕ) → nat_abs (slice_index_or gains.new i (pos 0)) ≤ greatest_number }
+    ensures masses_small { (row : ℕ) → slice_index masses.new row * max (10 ^ diagram.now.decimals) (greatest_utility diagram.now.nodes) ≤ greatest_number }
     ensures again { world.new ≡ world.old }
 {
     let places = rule_places(diagram, profile);

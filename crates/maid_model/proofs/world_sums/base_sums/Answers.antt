@@ -5,7 +5,7 @@ use mir.Val.{to_z, of_z}
 use Rattle.maid_model.specs.Gains.{base_mass}
 use Rattle.maid_model.specs.Nodes.{rows_of, states_of}
 use Rattle.maid_model.proofs.Adding.{HasRoom}
-use Rattle.maid_model.proofs.Bases.{BaseSoFar, state_read, base_start, base_room, code_place, code_row, code_gain, code_mass, base_step, base_gains, base_masses}
+use Rattle.maid_model.proofs.Bases.{BaseSoFar, state_read, base_start, base_room, code_place, code_row, code_gain, code_mass, base_step, base_gains, base_masses, base_gains_small, base_masses_small}
 use Rattle.maid_model.proofs.Picked.{cell_times_fits, cell_fits}
 use Rattle.maid_model.proofs.world_sums.base_sums.Goals as goal
 
@@ -68,6 +68,18 @@ returns-then-not-next-clause-masses c =
     base_masses c.args.diagram.now c.states-states.ensures.diagram c.args.profile.now c.requires.profile c.args.decision c.utilities_below-marks.result c.utilities_below-marks.ensures.utilities c.utilities_below-marks.ensures.marks c.requires.fits c.worlds.gains c.worlds.masses c.worlds.world c.worlds.invariant c.world_weight-weight.result c.world_weight-weight.ensures.weight (to_z w128 (of_z w128 c.world_gain-gain.result)) (to_z-of_z w128 c.world_gain-gain.result (search rules) ∙ c.world_gain-gain.ensures) c.row-row.result c.index-state.result.now (c.row-row.result * c.states-states.result + c.index-state.result.now) c.row-row.ensures (state_read c.args.diagram.now.nodes c.world.inside.states.items c.worlds.world c.args.decision c.index-state.result.now c.worlds.invariant.world c.requires.decision.within c.world.view_is c.index-state.ensures)
     (λ i. c.row-row.ensures i * c.states-states.ensures.states i + (state_read c.args.diagram.now.nodes c.world.inside.states.items c.worlds.world c.args.decision c.index-state.result.now c.worlds.invariant.world c.requires.decision.within c.world.view_is c.index-state.ensures) i)
     c.add_gain.new.gains c.add_mass.new.masses c.add_gain.ensures c.add_mass.ensures (c.if-not-next.ensures.last (search rules))
+
+pub returns-then-not-next-clause-gains_small : goal.returns-then-not-next-clause-gains_small
+returns-then-not-next-clause-gains_small c =
+    base_gains_small c.args.diagram.now c.states-states.ensures.diagram c.args.profile.now c.requires.profile c.args.decision c.utilities_below-marks.result c.utilities_below-marks.ensures.utilities c.utilities_below-marks.ensures.marks c.requires.fits c.worlds.gains c.worlds.masses c.worlds.world c.worlds.invariant c.world_weight-weight.result c.world_weight-weight.ensures.weight (to_z w128 (of_z w128 c.world_gain-gain.result)) (to_z-of_z w128 c.world_gain-gain.result (search rules) ∙ c.world_gain-gain.ensures) c.row-row.result c.index-state.result.now (c.row-row.result * c.states-states.result + c.index-state.result.now) c.row-row.ensures (state_read c.args.diagram.now.nodes c.world.inside.states.items c.worlds.world c.args.decision c.index-state.result.now c.worlds.invariant.world c.requires.decision.within c.world.view_is c.index-state.ensures)
+    (λ i. c.row-row.ensures i * c.states-states.ensures.states i + (state_read c.args.diagram.now.nodes c.world.inside.states.items c.worlds.world c.args.decision c.index-state.result.now c.worlds.invariant.world c.requires.decision.within c.world.view_is c.index-state.ensures) i)
+    c.add_gain.new.gains c.add_mass.new.masses c.add_gain.ensures c.add_mass.ensures
+
+pub returns-then-not-next-clause-masses_small : goal.returns-then-not-next-clause-masses_small
+returns-then-not-next-clause-masses_small c =
+    base_masses_small c.args.diagram.now c.states-states.ensures.diagram c.args.profile.now c.requires.profile c.args.decision c.utilities_below-marks.result c.utilities_below-marks.ensures.utilities c.utilities_below-marks.ensures.marks c.requires.fits c.worlds.gains c.worlds.masses c.worlds.world c.worlds.invariant c.world_weight-weight.result c.world_weight-weight.ensures.weight (to_z w128 (of_z w128 c.world_gain-gain.result)) (to_z-of_z w128 c.world_gain-gain.result (search rules) ∙ c.world_gain-gain.ensures) c.row-row.result c.index-state.result.now (c.row-row.result * c.states-states.result + c.index-state.result.now) c.row-row.ensures (state_read c.args.diagram.now.nodes c.world.inside.states.items c.worlds.world c.args.decision c.index-state.result.now c.worlds.invariant.world c.requires.decision.within c.world.view_is c.index-state.ensures)
+    (λ i. c.row-row.ensures i * c.states-states.ensures.states i + (state_read c.args.diagram.now.nodes c.world.inside.states.items c.worlds.world c.args.decision c.index-state.result.now c.worlds.invariant.world c.requires.decision.within c.world.view_is c.index-state.ensures) i)
+    c.add_gain.new.gains c.add_mass.new.masses c.add_gain.ensures c.add_mass.ensures
 
 pub worlds-preserved : goal.worlds-preserved
 worlds-preserved c =

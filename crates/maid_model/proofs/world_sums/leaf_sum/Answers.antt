@@ -5,7 +5,7 @@ use mir.Val.{to_z}
 use Rattle.maid_model.specs.Diagrams.{greatest_number}
 use Rattle.maid_model.specs.Gains.{base_mass}
 use Rattle.maid_model.proofs.Adding.{HasRoom, weight_in}
-use Rattle.maid_model.proofs.Leaves.{leaves_start, leaves_room, leaves_step, leaves_end, bits_fit}
+use Rattle.maid_model.proofs.Leaves.{leaves_start, leaves_room, leaves_step, leaves_end, leaves_small, bits_fit}
 use Rattle.maid_model.proofs.world_sums.leaf_sum.Goals as goal
 
 pub worlds-init : goal.worlds-init
@@ -37,6 +37,11 @@ pub returns-then-not-next-clause-sum : goal.returns-then-not-next-clause-sum
 returns-then-not-next-clause-sum c =
     let f : FitsSigned w128 c.world_gain-sum.result = search rules in
     leaves_end c.args.diagram.now c.count-nothing.ensures.diagram c.args.profile.now c.requires.profile c.args.agent c.utilities_of-marks.result c.utilities_of-marks.ensures.utilities c.utilities_of-marks.ensures.marks c.requires.fits (to_z w128 c.worlds.sum-bits) c.worlds.world c.worlds.invariant c.world_weight-weight.result (subst (λ n. pos c.world_weight-weight.result ≡ weight_in c.args.diagram.now.nodes c.args.profile.now n c.worlds.world) c.count-nothing.ensures.count c.world_weight-weight.ensures.weight) c.world_gain-sum.result c.world_gain-sum.ensures f (c.if-not-next.ensures.last (search rules))
+
+pub returns-then-not-next-clause-small : goal.returns-then-not-next-clause-small
+returns-then-not-next-clause-small c =
+    let f : FitsSigned w128 c.world_gain-sum.result = search rules in
+    leaves_small c.args.diagram.now c.count-nothing.ensures.diagram c.args.profile.now c.requires.profile c.args.agent c.utilities_of-marks.result c.utilities_of-marks.ensures.utilities c.utilities_of-marks.ensures.marks c.requires.fits (to_z w128 c.worlds.sum-bits) c.worlds.world c.worlds.invariant c.world_weight-weight.result (subst (λ n. pos c.world_weight-weight.result ≡ weight_in c.args.diagram.now.nodes c.args.profile.now n c.worlds.world) c.count-nothing.ensures.count c.world_weight-weight.ensures.weight) c.world_gain-sum.result c.world_gain-sum.ensures f
 
 pub worlds-preserved : goal.worlds-preserved
 worlds-preserved c =
