@@ -1,0 +1,8 @@
+-- The forms of the code.
+use Rattle.maid_app.specs.Request.{Request, solve}
+use Rattle.maid_app.specs.declared.forms.Form.{Form}
+use Rattle.maid_app.specs.declared.forms.Form.TheVariants.{Solve}
+
+-- the request that a form stands for
+abbrev pub request_by : Form → Request
+request_by (Solve file) = solve file.now

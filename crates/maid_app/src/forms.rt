@@ -1,0 +1,28 @@
+ghost use Rattle.std.specs.Prelude.{◌≡◌};
+ghost use Rattle.std.specs.Option.{option_map};
+ghost use Rattle.maid_app.specs.Request.{requested};
+ghost use Rattle.maid_app.specs.Form.{request_by};
+
+pub mod solve;
+
+/// What the words ask for.
+#[derive(Clone, Copy)]
+pub enum Form<'a> {
+    /// `solve F`: the report of the diagram in the file F.
+    Solve {
+        /// The file's name.
+        file: &'a str,
+    },
+}
+
+/// The form that the words are of.
+pub fn form_of(words: &[String]) -> Option<Form<'_>>
+    ensures { option_map request_by result ≡ requested words.now }
+{
+    match words {
+        [word, file] if word.as_str() == "solve" => Some(Form::Solve {
+            file: file.as_str(),
+        }),
+        _ => None,
+    }
+}

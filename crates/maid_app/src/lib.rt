@@ -1,0 +1,20 @@
+//! The program as one call, over any shelf and any sinks.
+//!
+//! [`run`] takes the words of a command line, reads the files that they name, and writes one text.
+//! Its contract is the program's: which status it ends with and when, and what `out` and `err`
+//! took. The way is the same for each form of words: the words are of a [`forms::Form`], a pure
+//! function makes the form's text from the file's bytes or refuses, and only then `out` is
+//! written.
+#![tactic(auto)]
+
+mod forms;
+pub mod lines;
+mod refusal;
+mod running;
+mod status;
+
+pub use running::run;
+pub use status::Status;
+
+#[cfg(test)]
+mod tests;

@@ -1,0 +1,44 @@
+ghost use Rattle.std.specs.Prelude.{◌≡◌};
+ghost use Rattle.maid_app.specs.Status.{code_of};
+
+/// How a run ended.
+#[derive(Clone, Copy, Debug, PartialEq, Eq)]
+pub enum Status {
+    /// `out` took the whole text.
+    Done,
+    /// The words are of no form.
+    Usage,
+    /// A file isn't there.
+    Absent,
+    /// A file couldn't be read.
+    ReadFault,
+    /// A file is longer than its limit.
+    TextTooLong,
+    /// A file's text isn't a diagram, or not a report.
+    TextFault,
+    /// The decisions rely on each other in a cycle.
+    Cycle,
+    /// The diagram's weights may be too great for exact numbers.
+    WeightBound,
+    /// The diagram takes too many steps or too much memory.
+    TooLarge,
+    /// `out` couldn't be written.
+    WriteFault,
+    /// Memory ran out.
+    NoMemory,
+    /// The report isn't the diagram's answer.
+    Rejected,
+    /// No node has that agent.
+    UnknownAgent,
+    /// The program doesn't solve such a file yet.
+    NotBuilt,
+}
+
+impl Status {
+    /// The code that the program ends with: 0 to 13 in the order of the variants.
+    pub fn code(self) -> u8
+        ensures { result ≡ code_of self }
+    {
+        self as u8
+    }
+}
