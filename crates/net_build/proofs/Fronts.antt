@@ -1,5 +1,5 @@
 -- Lists that begin with the same front.
-use Rattle.std.proofs.Common.{◌≡◌, ℕ, zero, suc, ◌<◌, ◌≤◌, List, [], ◌∷◌, ◌++◌, map, length, take, drop, All, ◌≢◌, slice_index_or, arith, sym, refl, ap, ◌∙◌, None, Some}
+use Rattle.std.proofs.Common.{◌≡◌, ℕ, zero, suc, ◌<◌, ◌≤◌, List, [], ◌∷◌, ◌++◌, map, length, take, drop, ◌≢◌, slice_index_or, arith, sym, refl, ap, ◌∙◌, None, Some}
 use Rattle.std.proofs.lemmas.List.{append_cancel_left, take_all}
 use Rattle.net_build.specs.First.{Said, Word, Text, Number, Mark, said, said_by, spoken}
 use Rattle.net_lexer.specs.declared.tokens.Token.{Token}

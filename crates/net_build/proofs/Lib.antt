@@ -1,3 +1,4 @@
 pub mod Fronts
 pub mod Spelled
 pub mod Numerals
+pub mod FirstDiagram

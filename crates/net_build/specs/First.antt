@@ -1,10 +1,10 @@
 -- The one shape of text that is solved at first: a chance node, a decision that sees it, and a utility over both.
-use Rattle.std.specs.Prelude.{◌≡◌, ◌≢◌, ◌<◌, ◌≤◌, ℕ, ◌+◌, ◌-◌, ◌*◌, Bool, true, false, not, ◌||◌, ◌==◌, List, [], ◌∷◌, ◌++◌, map, length, slice_range, All, Any, IsTrue, ℤ, pos, codes}
+use Rattle.std.specs.Prelude.{◌≡◌, ◌≢◌, ◌<◌, ◌≤◌, ℕ, ◌+◌, ◌-◌, ◌*◌, Bool, true, not, ◌||◌, ◌==◌, List, [], ◌∷◌, ◌++◌, map, length, slice_range, All, Any, IsTrue, ℤ, pos, codes}
 use Rattle.std.specs.List.{list_all}
 use Rattle.std.specs.Str.Parse.{digits_value}
 use Rattle.maid_model.specs.declared.diagrams.Kind.TheVariants.{Chance, Decision, Utility}
 use Rattle.maid_model.specs.Names.{NamesView}
-use Rattle.maid_model.specs.Views.{NodeView, DiagramView}
+use Rattle.maid_model.specs.Views.{DiagramView}
 use Rattle.net_lexer.specs.Bytes.{is_letter, is_digit}
 use Rattle.net_lexer.specs.Pieces.{IsTokens}
 use Rattle.net_lexer.specs.declared.tokens.Token.{Token}
@@ -139,7 +139,7 @@ diagram_of p = record {
       ∷ record { kind = Decision; owner = 0; states = length p.decision_labels; parents = 0 ∷ []; cells = [] }
       ∷ record { kind = Utility; owner = 0; states = 1; parents = 0 ∷ 1 ∷ []; cells = cells_of p.values } ∷ [];
   agents = 1;
-  decimals = 0
+  decimals = 0;
 }
 
 -- the names in the parts, and the one agent's
@@ -147,5 +147,5 @@ abbrev pub names_of : Parts → NamesView
 names_of p = record {
   nodes = p.chance ∷ p.decision ∷ p.utility ∷ [];
   labels = p.chance_labels ∷ p.decision_labels ∷ [] ∷ [];
-  agents = codes "agent" ∷ []
+  agents = codes "agent" ∷ [];
 }

@@ -1,8 +1,7 @@
 -- What the pieces of the shape say.
-use Rattle.std.specs.Prelude.{List, [], ◌∷◌, map}
 use Rattle.net_build.specs.declared.cursor.Piece.{Piece}
 use Rattle.net_build.specs.declared.cursor.Piece.TheVariants as pieces
-use Rattle.net_build.specs.First.{Said, Word, Text, Number, Mark}
+use Rattle.net_build.specs.First.{Said, Word, Mark}
 
 abbrev pub piece_said : Piece → Said
 piece_said (pieces.Word bytes) = Word bytes.now

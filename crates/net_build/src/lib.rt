@@ -1,4 +1,7 @@
 //! The diagram that a text spells, and the names in it.
+//!
+//! [`first_shape`] recognises the one shape of text that is solved at first, a chance node, a decision that sees it and
+//! a utility over both. It answers the diagram and the names exactly for the texts of that shape.
 #![tactic(auto)]
 
 mod cursor;
@@ -6,4 +9,8 @@ mod first;
 mod names;
 mod run;
 
+pub use first::first_shape;
 pub use names::Names;
+
+#[cfg(test)]
+mod tests;

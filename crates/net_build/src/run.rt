@@ -20,7 +20,6 @@ pub fn spoken<'a>(text: &'a [u8], token: &Token) -> &'a [u8]
     }
 }
 
-
 fn is_unsigned(word: &[u8]) -> bool
     ensures { result ≡ is_unsigned word.now }
 {

@@ -1,4 +1,3 @@
-use Rattle.std.proofs.Common.{◌≡◌, ℕ, ◌<◌, List, Some, None}
 use Rattle.net_build.specs.Sayings.{piece_said}
 use Rattle.net_build.proofs.Fronts.{next_of_front, rest_of_front, none_is_some}
 use Rattle.net_build.proofs.cursor.Cursor.behind_all.Goals as goal

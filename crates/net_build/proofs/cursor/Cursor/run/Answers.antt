@@ -1,5 +1,4 @@
-use Rattle.std.proofs.Common.{◌≡◌, sym, ◌∙◌, ap, map, ◌++◌, length, take, drop}
-use Rattle.net_build.specs.First.{said, said_by, spoken}
+use Rattle.std.proofs.Common.{sym, ◌∙◌}
 use Rattle.net_build.proofs.Fronts.{said_split, said_stops}
 use Rattle.net_build.proofs.cursor.Cursor.run.Goals as goal
 

@@ -1,6 +1,5 @@
 -- Each block in turn is the one that the parts spell, since it can be read in one way alone.
-use Rattle.std.proofs.Common.{◌≡◌, List, [], Bool, false, IsTrue, sym, ◌∙◌}
-use Rattle.net_build.specs.First.{Parts}
+use Rattle.std.proofs.Common.{◌≡◌, [], Bool, false, IsTrue, ◌∙◌}
 use Rattle.net_build.proofs.Spelled.{after_chance, after_decision, after_utility, after_weights, spelling_is, weights_next, values_next, spelled, same_parts}
 use Rattle.net_build.proofs.first.Shape.read.Goals as goal
 
