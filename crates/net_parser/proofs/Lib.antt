@@ -1,0 +1,7 @@
+pub mod Tests
+pub mod Moves
+pub mod Places
+pub mod Refusals
+pub mod Stopping
+pub mod Once
+pub mod Turns

@@ -1,0 +1,237 @@
+-- Why a token may not stand in a place, told by what may stand there.
+use Rattle.std.proofs.Common.{◌≡◌, ℕ, Bool, true, false, ◌||◌, List, [], ◌∷◌, ◌++◌, ◌⊎◌, inl, inr, refl, ap, bytes_eq}
+use Rattle.std.specs.Prelude.{codes, Some, None, if◌then◌else◌}
+use Rattle.std.specs.Option.{option_map}
+use Rattle.std.proofs.lemmas.Bool.{false_from_ne_true}
+use Rattle.net_lexer.specs.Token.{is_name}
+use Rattle.net_lexer.specs.declared.tokens.TokenKind.{TokenKind}
+use Rattle.net_lexer.specs.declared.tokens.TokenKind.TheVariants as kinds
+use Rattle.net_parser.specs.declared.reader.Stop.TheVariants.{Unexpected, Unsupported, TooDeep, NoMemory}
+use Rattle.net_parser.specs.Lexemes.{Lexeme, IsMark, IsWord, IsName, is_leaf}
+use Rattle.net_parser.specs.Grammar.{IsModelName}
+use Rattle.net_parser.specs.Faults.{IsForeignWord}
+use Rattle.net_parser.specs.Reading.{Symbol, mark, name, node_word, attribute_name, attributes, value, values, given, names, next, is_foreign, is_model_name, may_name, Place, start, within, step, refusal, refusal_at, block_refusal}
+use Rattle.net_parser.proofs.Tests.{word_is, either, is_model_name-true, is_model_name-is, may_name-other}
+use Rattle.net_parser.proofs.Places.{Rest, symbol_some, lexeme}
+
+-- something may come behind the token there
+abbrev pub Stands : Place → Lexeme → Type 0
+Stands place l = (symbols : List Symbol) × (step place l ≡ Some symbols)
+
+pub record Foreign (place : Place) (l : Lexeme) : Type 0 where
+  pub whole : Rest place []
+  pub word : IsForeignWord l
+
+pub record Function (place : Place) (l : Lexeme) : Type 0 where
+  pub node : Lexeme
+  pub is : IsWord (codes "node") node
+  pub stands : Stands place node
+  pub word : IsWord (codes "function") l
+
+pub record Model (place : Place) (l : Lexeme) : Type 0 where
+  pub others : (other : Lexeme) → IsName other → (IsModelName other → ⊥) → Stands place other
+  pub word : IsModelName l
+
+pub record Deep (place : Place) (l : Lexeme) : Type 0 where
+  pub leaves : (leaf : Lexeme) → is_leaf leaf.token.kind ≡ true → Stands place leaf
+  pub mark : IsMark kinds.ParenOpen l
+
+when_true : (test : Bool) → (if test then Unsupported else Unexpected) ≡ Unsupported → test ≡ true
+when_true true e = refl
+when_true false e = cc
+
+foreign_word : (l : Lexeme) → l.token.kind ≡ kinds.Word → is_foreign l.bytes ≡ true → IsForeignWord l
+foreign_word l kind e = elim (either (bytes_eq l.bytes (codes "continuous") || bytes_eq l.bytes (codes "function") || bytes_eq l.bytes (codes "class")) (bytes_eq l.bytes (codes "instance")) e) [
+  | inl t ↦ elim (either (bytes_eq l.bytes (codes "continuous") || bytes_eq l.bytes (codes "function")) (bytes_eq l.bytes (codes "class")) t) [
+    | inl t ↦ elim (either (bytes_eq l.bytes (codes "continuous")) (bytes_eq l.bytes (codes "function")) t) [
+      | inl t ↦ record { is = inl (record { kind = kind; bytes = word_is _ _ t }) }
+      | inr t ↦ record { is = inr (inl (record { kind = kind; bytes = word_is _ _ t })) }
+    ]
+    | inr t ↦ record { is = inr (inr (inl (record { kind = kind; bytes = word_is _ _ t }))) }
+  ]
+  | inr t ↦ record { is = inr (inr (inr (record { kind = kind; bytes = word_is _ _ t }))) }
+]
+
+block_unsupported : (kind : TokenKind) (bytes : List ℕ) → block_refusal kind bytes ≡ Unsupported → (kind ≡ kinds.Word) × (is_foreign bytes ≡ true)
+block_unsupported kinds.Word bytes e = (refl, when_true (is_foreign bytes) e)
+block_unsupported kind bytes e = cc
+
+others_stand : (potential : Bool) (l : Lexeme) → IsName l → (IsModelName l → ⊥) → may_name true l.bytes ≡ true
+others_stand potential l is other = may_name-other l.bytes is.unsigned (false_from_ne_true _ (λ yes. other (is_model_name-true l is.kind yes)))
+
+-- an unsupported token
+symbol_unsupported : (symbol : Symbol) (kind : TokenKind) (after : List Symbol) (l : Lexeme) → l.token.kind ≡ kind → refusal_at symbol kind l.bytes ≡ Unsupported → Function (within (symbol ∷ after)) l ⊎ Model (within (symbol ∷ after)) l
+symbol_unsupported node_word kinds.Word after l is e = inl (record {
+  node = lexeme kinds.Word (codes "node");
+  is = record { kind = refl; bytes = refl };
+  stands = (after, refl);
+  word = record { kind = is; bytes = word_is _ _ (when_true _ e) };
+})
+symbol_unsupported (attribute_name true) kinds.Word after l is e = inr (record {
+  others = λ other name free. (after, rw (name.kind, others_stand true other name free) refl);
+  word = is_model_name-true l is (when_true _ e);
+})
+symbol_unsupported (attributes true) kinds.Word after l is e = inr (record {
+  others = λ other name free. (mark kinds.Equals ∷ value 32 ∷ mark kinds.Semicolon ∷ attributes true ∷ after, rw (name.kind, others_stand true other name free) refl);
+  word = is_model_name-true l is (when_true _ e);
+})
+symbol_unsupported (value depth) kinds.ParenOpen after l is e = cc
+symbol_unsupported (values depth) kinds.ParenOpen after l is e = cc
+symbol_unsupported symbol kind after l is e = cc
+
+pub unsupported : (place : Place) (l : Lexeme) → refusal place l ≡ Unsupported → Foreign place l ⊎ Function place l ⊎ Model place l
+unsupported start l e = let t = block_unsupported l.token.kind l.bytes e in inl (record { whole = ([], refl); word = foreign_word l t.0 t.1 })
+unsupported (within []) l e = let t = block_unsupported l.token.kind l.bytes e in inl (record { whole = ([], refl); word = foreign_word l t.0 t.1 })
+unsupported (within (symbol ∷ after)) l e = inr (symbol_unsupported symbol l.token.kind after l refl e)
+
+leaf_next : (depth : ℕ) (kind : TokenKind) (bytes : List ℕ) → is_leaf kind ≡ true → (next (value depth) kind bytes ≡ Some []) × (next (values depth) kind bytes ≡ Some (values depth ∷ []))
+leaf_next depth kinds.Word bytes e = (refl, refl)
+leaf_next depth kinds.Text bytes e = (refl, refl)
+leaf_next depth kinds.Number bytes e = (refl, refl)
+leaf_next depth kind bytes e = cc
+
+shallow : (test : Bool) → (if test then Unsupported else Unexpected) ≡ TooDeep → ⊥
+shallow true e = cc
+shallow false e = cc
+
+block_shallow : (kind : TokenKind) (bytes : List ℕ) → block_refusal kind bytes ≡ TooDeep → ⊥
+block_shallow kinds.Word bytes e = shallow (is_foreign bytes) e
+block_shallow kind bytes e = cc
+
+symbol_deep : (symbol : Symbol) (kind : TokenKind) (after : List Symbol) (l : Lexeme) → l.token.kind ≡ kind → refusal_at symbol kind l.bytes ≡ TooDeep → Deep (within (symbol ∷ after)) l
+symbol_deep (value depth) kinds.ParenOpen after l is e = record {
+  leaves = λ leaf kind. (after, ap (option_map (λ symbols. symbols ++ after)) (leaf_next depth leaf.token.kind leaf.bytes kind).0);
+  mark = is;
+}
+symbol_deep (values depth) kinds.ParenOpen after l is e = record {
+  leaves = λ leaf kind. (values depth ∷ after, ap (option_map (λ symbols. symbols ++ after)) (leaf_next depth leaf.token.kind leaf.bytes kind).1);
+  mark = is;
+}
+symbol_deep node_word kinds.Word after l is e = absurd (shallow _ e)
+symbol_deep (attribute_name true) kinds.Word after l is e = absurd (shallow _ e)
+symbol_deep (attributes true) kinds.Word after l is e = absurd (shallow _ e)
+symbol_deep symbol kind after l is e = cc
+
+-- a list too deep
+pub deep : (place : Place) (l : Lexeme) → refusal place l ≡ TooDeep → Deep place l
+deep start l e = absurd (block_shallow l.token.kind l.bytes e)
+deep (within []) l e = absurd (block_shallow l.token.kind l.bytes e)
+deep (within (symbol ∷ after)) l e = symbol_deep symbol l.token.kind after l refl e
+
+known : (test : Bool) → (if test then Unsupported else Unexpected) ≡ NoMemory → ⊥
+known true e = cc
+known false e = cc
+
+block_known : (kind : TokenKind) (bytes : List ℕ) → block_refusal kind bytes ≡ NoMemory → ⊥
+block_known kinds.Word bytes e = known (is_foreign bytes) e
+block_known kind bytes e = cc
+
+symbol_known : (symbol : Symbol) (kind : TokenKind) (bytes : List ℕ) → refusal_at symbol kind bytes ≡ NoMemory → ⊥
+symbol_known node_word kinds.Word bytes e = known _ e
+symbol_known (attribute_name true) kinds.Word bytes e = known _ e
+symbol_known (attributes true) kinds.Word bytes e = known _ e
+symbol_known (value depth) kinds.ParenOpen bytes e = cc
+symbol_known (values depth) kinds.ParenOpen bytes e = cc
+symbol_known symbol kind bytes e = cc
+
+-- memory has no part in it
+pub known_refusal : (place : Place) (l : Lexeme) → refusal place l ≡ NoMemory → ⊥
+known_refusal start l e = block_known l.token.kind l.bytes e
+known_refusal (within []) l e = block_known l.token.kind l.bytes e
+known_refusal (within (symbol ∷ after)) l e = symbol_known symbol l.token.kind l.bytes e
+
+-- an unexpected token is none of these
+foreign_block : (first : Bool) (l : Lexeme) → IsForeignWord l → block_refusal l.token.kind l.bytes ≡ Unexpected → ⊥
+foreign_block first l h e = elim h.is [
+  | inl w ↦ (let f = rw (w.kind, w.bytes) at e in cc)
+  | inr (inl w) ↦ (let f = rw (w.kind, w.bytes) at e in cc)
+  | inr (inr (inl w)) ↦ (let f = rw (w.kind, w.bytes) at e in cc)
+  | inr (inr (inr w)) ↦ (let f = rw (w.kind, w.bytes) at e in cc)
+]
+
+pub not_foreign : (place : Place) (l : Lexeme) → refusal place l ≡ Unexpected → Foreign place l → ⊥
+not_foreign start l e h = foreign_block true l h.word e
+not_foreign (within []) l e h = foreign_block false l h.word e
+not_foreign (within (symbol ∷ after)) l e h = symbol_some symbol h.whole.0 h.whole.1
+
+-- a place that a name may take is none of a keyword alone
+function_symbol : (symbol : Symbol) (after : List Symbol) (l node : Lexeme) → IsWord (codes "function") l → IsWord (codes "node") node → Stands (within (symbol ∷ after)) node → step (within (symbol ∷ after)) l ≡ None → refusal_at symbol l.token.kind l.bytes ≡ Unexpected → ⊥
+function_symbol (mark kind) after l node word is stands e u =
+    let f = rw is.kind at stands.1 in
+    let g = rw word.kind at e in
+    cc
+function_symbol name after l node word is stands e u = let g = rw (word.kind, word.bytes) at e in cc
+function_symbol node_word after l node word is stands e u = let g = rw (word.kind, word.bytes) at u in cc
+function_symbol (attribute_name false) after l node word is stands e u = let g = rw (word.kind, word.bytes) at e in cc
+function_symbol (attribute_name true) after l node word is stands e u = let g = rw (word.kind, word.bytes) at e in cc
+function_symbol (attributes false) after l node word is stands e u = let g = rw (word.kind, word.bytes) at e in cc
+function_symbol (attributes true) after l node word is stands e u = let g = rw (word.kind, word.bytes) at e in cc
+function_symbol (value depth) after l node word is stands e u = let g = rw word.kind at e in cc
+function_symbol (values depth) after l node word is stands e u = let g = rw word.kind at e in cc
+function_symbol given after l node word is stands e u = let g = rw is.kind at stands.1 in cc
+function_symbol names after l node word is stands e u = let g = rw (word.kind, word.bytes) at e in cc
+
+pub not_function : (place : Place) (l : Lexeme) → step place l ≡ None → refusal place l ≡ Unexpected → Function place l → ⊥
+not_function start l e u h = let g = rw (h.word.kind, h.word.bytes) at u in cc
+not_function (within []) l e u h = let g = rw (h.word.kind, h.word.bytes) at u in cc
+not_function (within (symbol ∷ after)) l e u h = function_symbol symbol after l h.node h.word h.is h.stands e u
+
+-- a name that no keyword is
+plain : Lexeme
+plain = lexeme kinds.Word (codes "a")
+
+plain_name : IsName plain
+unfolding plain
+plain_name = record { kind = refl; unsigned = refl }
+
+plain_free : IsModelName plain → ⊥
+unfolding plain
+plain_free h = let e = is_model_name-is plain h in cc
+
+pub record Named (l : Lexeme) : Type 0 where
+  pub kind : l.token.kind ≡ kinds.Word
+  pub name : is_name l.bytes ≡ true
+  pub model : is_model_name l.bytes ≡ true
+
+model_named : (l : Lexeme) → IsModelName l → Named l
+model_named l h = elim h.is [
+  | inl w ↦ record { kind = w.kind; name = rw w.bytes refl; model = rw w.bytes refl }
+  | inr w ↦ record { kind = w.kind; name = rw w.bytes refl; model = rw w.bytes refl }
+]
+
+model_symbol : (symbol : Symbol) (after : List Symbol) (l : Lexeme) → Named l → Stands (within (symbol ∷ after)) plain → step (within (symbol ∷ after)) l ≡ None → refusal_at symbol l.token.kind l.bytes ≡ Unexpected → ⊥
+unfolding plain
+model_symbol (mark kind) after l is stands e u = let f = stands.1 in let g = rw is.kind at e in cc
+model_symbol name after l is stands e u = let g = rw (is.kind, is.name) at e in cc
+model_symbol node_word after l is stands e u = let f = stands.1 in cc
+model_symbol (attribute_name false) after l is stands e u = let g = rw (is.kind, is.name) at e in cc
+model_symbol (attribute_name true) after l is stands e u = let g = rw (is.kind, is.model) at u in cc
+model_symbol (attributes false) after l is stands e u = let g = rw (is.kind, is.name) at e in cc
+model_symbol (attributes true) after l is stands e u = let g = rw (is.kind, is.model) at u in cc
+model_symbol (value depth) after l is stands e u = let g = rw is.kind at e in cc
+model_symbol (values depth) after l is stands e u = let g = rw is.kind at e in cc
+model_symbol given after l is stands e u = let f = stands.1 in cc
+model_symbol names after l is stands e u = let g = rw (is.kind, is.name) at e in cc
+
+pub not_model : (place : Place) (l : Lexeme) → step place l ≡ None → refusal place l ≡ Unexpected → Model place l → ⊥
+unfolding plain
+not_model start l e u h = let f = (h.others plain plain_name plain_free).1 in cc
+not_model (within []) l e u h = let f = (h.others plain plain_name plain_free).1 in cc
+not_model (within (symbol ∷ after)) l e u h = model_symbol symbol after l (model_named l h.word) (h.others plain plain_name plain_free) e u
+
+deep_symbol : (symbol : Symbol) (after : List Symbol) (l : Lexeme) → IsMark kinds.ParenOpen l → Stands (within (symbol ∷ after)) (lexeme kinds.Text []) → Stands (within (symbol ∷ after)) (lexeme kinds.Number []) → refusal_at symbol l.token.kind l.bytes ≡ Unexpected → ⊥
+deep_symbol (mark kinds.Text) after l is text number u = let f = number.1 in cc
+deep_symbol (mark kind) after l is text number u = let f = text.1 in cc
+deep_symbol name after l is text number u = let f = text.1 in cc
+deep_symbol node_word after l is text number u = let f = text.1 in cc
+deep_symbol (attribute_name potential) after l is text number u = let f = text.1 in cc
+deep_symbol (attributes potential) after l is text number u = let f = text.1 in cc
+deep_symbol (value depth) after l is text number u = let g = rw is at u in cc
+deep_symbol (values depth) after l is text number u = let g = rw is at u in cc
+deep_symbol given after l is text number u = let f = text.1 in cc
+deep_symbol names after l is text number u = let f = text.1 in cc
+
+pub not_deep : (place : Place) (l : Lexeme) → refusal place l ≡ Unexpected → Deep place l → ⊥
+not_deep start l u h = let f = (h.leaves (lexeme kinds.Text []) refl).1 in cc
+not_deep (within []) l u h = let f = (h.leaves (lexeme kinds.Text []) refl).1 in cc
+not_deep (within (symbol ∷ after)) l u h = deep_symbol symbol after l h.mark (h.leaves (lexeme kinds.Text []) refl) (h.leaves (lexeme kinds.Number []) refl) u

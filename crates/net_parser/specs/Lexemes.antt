@@ -1,0 +1,35 @@
+-- Tokens as the grammar sees them.
+use Rattle.std.specs.Prelude.{◌≡◌, ℕ, Bool, true, false, List, map}
+use Rattle.net_lexer.specs.Token.{is_name, token_bytes}
+use Rattle.net_lexer.specs.declared.tokens.Token.{Token}
+use Rattle.net_lexer.specs.declared.tokens.TokenKind.{TokenKind}
+use Rattle.net_lexer.specs.declared.tokens.TokenKind.TheVariants as kinds
+
+-- a token and its bytes
+pub record Lexeme : Type 0 where
+  pub token : Token
+  pub bytes : List ℕ
+
+-- the tokens of a text, each with its bytes
+abbrev pub lexemes : List ℕ → List Token → List Lexeme
+lexemes text tokens = map (λ t. record { token = t; bytes = token_bytes text t }) tokens
+
+abbrev pub IsMark : TokenKind → Lexeme → Type 0
+IsMark kind l = l.token.kind ≡ kind
+
+-- that very word, byte for byte
+pub record IsWord (word : List ℕ) (l : Lexeme) : Type 0 where
+  pub kind : l.token.kind ≡ kinds.Word
+  pub bytes : l.bytes ≡ word
+
+-- a name: a word without a sign, also one like node
+pub record IsName (l : Lexeme) : Type 0 where
+  pub kind : l.token.kind ≡ kinds.Word
+  pub unsigned : is_name l.bytes ≡ true
+
+-- a string, a numeral or a word, also a signed one
+abbrev pub is_leaf : TokenKind → Bool
+is_leaf kinds.Text = true
+is_leaf kinds.Number = true
+is_leaf kinds.Word = true
+is_leaf kind = false

@@ -1,0 +1,70 @@
+-- A value's tree as a list: its leaves, and where each list opens and closes.
+use Rattle.std.proofs.Common.{◌≡◌, List, [], ◌∷◌, Bool, true, false, ◌⊎◌, inl, inr, refl, ap}
+use Rattle.std.specs.Coded.{Coded, code_by, coded_list, coded⊎, coded×, coded_bool}
+use Rattle.net_lexer.specs.declared.tokens.Token.{Token}
+use Rattle.net_lexer.specs.contracts.tokens.Token as token
+use Rattle.net_parser.specs.declared.trees.BlockKind.{BlockKind}
+use Rattle.net_parser.specs.contracts.trees.BlockKind as kind
+use Rattle.net_parser.specs.Trees.{BlockTree, AttributeTree, ValueTree, ValueTrees, leaf, list, none, more}
+
+abbrev Mark : Type 0
+Mark = Bool ⊎ Token
+
+abbrev mutual
+  marks : ValueTree → List Mark → List Mark
+  marks (leaf t) after = inr t ∷ after
+  marks (list values) after = inl true ∷ all_marks values (inl false ∷ after)
+
+  all_marks : ValueTrees → List Mark → List Mark
+  all_marks none after = after
+  all_marks (more value values) after = marks value (all_marks values after)
+
+-- the values in front, and those behind each list that closes later
+abbrev Waiting : Type 0
+Waiting = ValueTrees × List ValueTrees
+
+abbrev push : ValueTree → Waiting → Waiting
+push value w = (more value w.0, w.1)
+
+abbrev wrapped : ValueTrees → List ValueTrees → Waiting
+wrapped now [] = (now, [])
+wrapped now (next ∷ rest) = (more (list now) next, rest)
+
+abbrev read : List Mark → Waiting
+read [] = (none, [])
+read (inr t ∷ after) = push (leaf t) (read after)
+read (inl false ∷ after) = (none, (read after).0 ∷ (read after).1)
+read (inl true ∷ after) = wrapped (read after).0 (read after).1
+
+abbrev append : ValueTrees → ValueTrees → ValueTrees
+append none others = others
+append (more value values) others = more value (append values others)
+
+append_none : (values : ValueTrees) → append values none ≡ values
+append_none none = refl
+append_none (more value values) = ap (more value) (append_none values)
+
+mutual
+  read-marks : (value : ValueTree) (after : List Mark) → read (marks value after) ≡ push value (read after)
+  read-marks (leaf t) after = refl
+  read-marks (list values) after = rw (read-all_marks values (inl false ∷ after), append_none values) refl
+
+  read-all_marks : (values : ValueTrees) (after : List Mark) → read (all_marks values after) ≡ (append values (read after).0, (read after).1)
+  read-all_marks none after = refl
+  read-all_marks (more value values) after = rw (read-marks value (all_marks values after), read-all_marks values after) refl
+
+abbrev first : ValueTrees → ValueTree
+first none = list none
+first (more value values) = value
+
+pub back : (value : ValueTree) → first (read (marks value [])).0 ≡ value
+back value = rw (read-marks value []) refl
+
+abbrev pub value_code : Coded ValueTree
+value_code = code_by (List Mark) (coded_list (coded⊎ coded_bool token.the_row.coded)) (λ v. marks v []) (λ ms. first (read ms).0) back
+
+abbrev pub attribute_code : Coded AttributeTree
+attribute_code = code_by (Token × ValueTree) (coded× token.the_row.coded value_code) (λ a. (a.name, a.value)) (λ p. record { name = p.0; value = p.1 }) (λ _. refl)
+
+abbrev pub block_code : Coded BlockTree
+block_code = code_by (BlockKind × (List Token × List AttributeTree)) (coded× kind.the_row.coded (coded× (coded_list token.the_row.coded) (coded_list attribute_code))) (λ b. (b.kind, (b.names, b.attributes))) (λ p. record { kind = p.0; names = p.1.0; attributes = p.1.1 }) (λ _. refl)

@@ -1,0 +1,137 @@
+//! Blocks of a text.
+
+ghost use Rattle.std.specs.Prelude.{◌≡◌, ◌<◌, ◌+◌, [], ◌∷◌, ◌++◌, List, length, IfOk, OnOk};
+ghost use Rattle.net_lexer.specs.declared.tokens.Token.{Token};
+ghost use Rattle.net_lexer.specs.declared.tokens.TokenKind.TheVariants.{BraceOpen, ParenOpen, ParenClose, Equals, Semicolon};
+ghost use Rattle.net_parser.specs.Grammar as grammar;
+ghost use Rattle.net_parser.specs.Grammar.{◌▹◌, Mark, Name, Each, Given, Head, is_potential, Spells};
+ghost use Rattle.net_parser.specs.Reading.{mark, name, attribute_name, attributes, value, given, names, start, within, stop, block_place, Reads, Follows, NodeNames, PotentialNames};
+
+use crate::reader::{Reader, Stop};
+use crate::words::BlockWord;
+use crate::{Attribute, Block, BlockKind};
+use net_lexer::{Token, TokenKind};
+use std::alloc::Global;
+
+/// How many lists of a value may stand in one another.
+const NESTING: u8 = 32;
+
+impl<'a> Reader<'a> {
+    fn attribute(&mut self, alloc: Global, potential: bool) -> Result<Attribute, Stop>
+        ensures rule { IfOk result (λ attribute. grammar.Attribute potential attribute self.old self.new) }
+        ensures follows { Follows (attribute_name potential ∷ mark Equals ∷ value 32 ∷ mark Semicolon ∷ [])
+            result self.old self.new }
+        ensures shorter { OnOk result (length self.new < length self.old) }
+    {
+        let name = self.attribute_name(potential)?;
+        self.expect(TokenKind::Equals)?;
+        let value = self.value(alloc, NESTING)?;
+        self.expect(TokenKind::Semicolon)?;
+        Ok(Attribute { name, value })
+    }
+
+    fn body(&mut self, alloc: Global, potential: bool) -> Result<Vec<Attribute>, Stop>
+        ensures rule { IfOk result (λ all. grammar.Body potential all.items self.old self.new) }
+        ensures follows { Follows (mark BraceOpen ∷ attributes potential ∷ []) result self.old self.new }
+        ensures shorter { OnOk result (length self.new < length self.old) }
+    {
+        self.expect(TokenKind::BraceOpen)?;
+        let mut attributes = Vec::new(alloc);
+        while !self.accept(TokenKind::BraceClose) {
+            let attribute = self.attribute(alloc, potential)?;
+            attributes.push(attribute)?;
+        }
+        Ok(attributes)
+    }
+
+    fn given_names(&mut self, mut names: Vec<Token>) -> Result<Vec<Token>, Stop>
+        ensures rule { IfOk result (λ all. (given : List Token)
+            × (all.items ≡ names.items ++ given) × (Given given ▹ Mark ParenClose) self.old self.new) }
+        ensures follows { Follows (given ∷ []) result self.old self.new }
+        ensures shorter { OnOk result (length self.new < length self.old) }
+    {
+        if !self.accept(TokenKind::Bar) {
+            self.expect(TokenKind::ParenClose)?;
+            return Ok(names);
+        }
+        while !self.accept(TokenKind::ParenClose) {
+            let name = self.name()?;
+            names.push(name)?;
+        }
+        Ok(names)
+    }
+
+    fn potential_names(&mut self, alloc: Global) -> Result<Vec<Token>, Stop>
+        ensures rule { IfOk result (λ all. PotentialNames all.items self.old self.new) }
+        ensures follows { Follows (mark ParenOpen ∷ name ∷ given ∷ []) result self.old self.new }
+        ensures shorter { OnOk result (length self.new < length self.old) }
+    {
+        self.expect(TokenKind::ParenOpen)?;
+        let title = self.name()?;
+        let names = vec![in alloc; title]?;
+        self.given_names(names)
+    }
+
+    fn node_names(&mut self, alloc: Global) -> Result<Vec<Token>, Stop>
+        ensures rule { IfOk result (λ all. NodeNames all.items self.old self.new) }
+        ensures follows { Follows (name ∷ []) result self.old self.new }
+        ensures shorter { OnOk result (length self.new < length self.old) }
+    {
+        let title = self.name()?;
+        Ok(vec![in alloc; title]?)
+    }
+
+    fn head(&mut self, alloc: Global, first: bool) -> Result<(BlockKind, Vec<Token>), Stop>
+        requires { 0 < length self.old }
+        ensures rule { IfOk result (λ head. Head first head.0 head.1.items self.old self.new) }
+        ensures follows { Reads result (stop (block_place first) self.old)
+            (λ head. stop (within (mark BraceOpen ∷ attributes (is_potential head.0) ∷ [])) self.new) self.new }
+        ensures shorter { OnOk result (length self.new < length self.old) }
+    {
+        match self.first_word(first)? {
+            BlockWord::Net => Ok((BlockKind::Net, Vec::new(alloc))),
+            BlockWord::Discrete => {
+                let kind = self.node_word()?;
+                let names = self.node_names(alloc)?;
+                Ok((kind, names))
+            }
+            BlockWord::Node(kind) => {
+                let names = self.node_names(alloc)?;
+                Ok((kind, names))
+            }
+            BlockWord::Potential => {
+                let names = self.potential_names(alloc)?;
+                Ok((BlockKind::Potential, names))
+            }
+        }
+    }
+
+    fn block(&mut self, alloc: Global, first: bool) -> Result<Block, Stop>
+        requires { 0 < length self.old }
+        ensures rule { IfOk result (λ block. grammar.Block first block self.old self.new) }
+        ensures follows { Reads result (stop (block_place first) self.old)
+            (λ block. stop (within []) self.new) self.new }
+        ensures shorter { OnOk result (length self.new < length self.old) }
+    {
+        let (kind, names) = self.head(alloc, first)?;
+        let attributes = self.body(alloc, kind.is_potential())?;
+        Ok(Block {
+            kind,
+            names,
+            attributes,
+        })
+    }
+
+    /// Reads all blocks up to the last token.
+    pub fn text(&mut self, alloc: Global) -> Result<Vec<Block>, Stop>
+        ensures rule { IfOk result (λ blocks. Spells blocks.items self.old) }
+        ensures follows { Reads result (stop start self.old) (λ blocks. None) self.new }
+    {
+        let mut blocks = Vec::new(alloc);
+        while self.peek().is_some() {
+            let block = self.block(alloc, blocks.is_empty())?;
+            blocks.push(block)?;
+        }
+        Ok(blocks)
+    }
+}

@@ -1,0 +1,90 @@
+//! The tree of a text.
+
+use net_lexer::Token;
+use std::marker::Model;
+
+/// What a block's first words say.
+#[derive(Clone, Copy, Debug, PartialEq, Eq)]
+pub enum BlockKind {
+    Net,
+    Node,
+    Decision,
+    Utility,
+    Potential,
+}
+
+impl BlockKind {
+    ghost use Rattle.std.specs.Prelude.{◌≡◌};
+    ghost use Rattle.net_parser.specs.Grammar.{is_potential};
+
+    pub(crate) fn is_potential(self) -> bool
+        ensures { result ≡ is_potential self }
+    {
+        matches!(self, BlockKind::Potential)
+    }
+}
+
+/// An attribute's value.
+#[derive(Debug, Drop)]
+pub enum Value {
+    Leaf(Token),
+    List(Vec<Value>),
+}
+
+/// A name and its value.
+#[derive(Debug, Drop)]
+pub struct Attribute {
+    pub name: Token,
+    pub value: Value,
+}
+
+impl Model for Attribute {
+    ghost use Rattle.net_parser.specs.Trees.{AttributeTree};
+    ghost use Rattle.net_parser.specs.TreeCode.{attribute_code};
+
+    ghost Value = { AttributeTree };
+
+    ghost coded = { attribute_code };
+
+    ghost use Rattle.net_parser.specs.Views.{value_tree};
+
+    ghost view = { λ a. record { name = a.name; value = value_tree a.value } };
+}
+
+/// A block with the tokens of its names. A potential's first name is its head.
+#[derive(Debug, Drop)]
+pub struct Block {
+    pub kind: BlockKind,
+    pub names: Vec<Token>,
+    pub attributes: Vec<Attribute>,
+}
+
+impl Model for Block {
+    ghost use Rattle.net_parser.specs.Trees.{BlockTree};
+    ghost use Rattle.net_parser.specs.TreeCode.{block_code};
+
+    ghost Value = { BlockTree };
+
+    ghost coded = { block_code };
+
+    ghost view = { λ b. record { kind = b.kind; names = b.names.items; attributes = b.attributes.items } };
+}
+
+/// The blocks of a text in order.
+#[derive(Debug, Drop)]
+pub struct Syntax {
+    pub blocks: Vec<Block>,
+}
+
+impl Model for Syntax {
+    ghost use Rattle.std.specs.Prelude.{List};
+    ghost use Rattle.std.specs.Coded.{coded_list};
+    ghost use Rattle.net_parser.specs.Trees.{BlockTree};
+    ghost use Rattle.net_parser.specs.TreeCode.{block_code};
+
+    ghost Value = { List BlockTree };
+
+    ghost coded = { coded_list block_code };
+
+    ghost view = { λ s. s.blocks.items };
+}

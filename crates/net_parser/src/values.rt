@@ -1,0 +1,56 @@
+//! Values of attributes.
+
+ghost use Rattle.std.specs.Prelude.{◌≡◌, ◌<◌, ◌+◌, [], ◌∷◌, map, length, IfOk, OnOk};
+ghost use Rattle.net_lexer.specs.declared.tokens.TokenKind.TheVariants.{ParenClose};
+ghost use Rattle.net_parser.specs.Grammar as grammar;
+ghost use Rattle.net_parser.specs.Grammar.{◌▹◌, Mark};
+ghost use Rattle.net_parser.specs.Views.{value_tree, trees_of};
+ghost use Rattle.net_parser.specs.Reading.{value, values, Follows};
+
+use crate::Value;
+use crate::reader::{Reader, Stop};
+use net_lexer::TokenKind;
+use std::alloc::Global;
+
+impl<'a> Reader<'a> {
+    /// Reads a value in which so many lists may stand in one another.
+    #[cycle(value)]
+    pub fn value(&mut self, alloc: Global, depth: u8) -> Result<Value, Stop>
+        ensures rule { IfOk result (λ value. grammar.Value depth (value_tree value) self.old self.new) }
+        ensures follows { Follows (value depth ∷ []) result self.old self.new }
+        ensures shorter { OnOk result (length self.new < length self.old) }
+    {
+        let Some((token, _)) = self.peek() else {
+            return Err(Stop::Unexpected);
+        };
+        match token.kind {
+            TokenKind::Text | TokenKind::Number | TokenKind::Word => {
+                self.advance();
+                Ok(Value::Leaf(token))
+            }
+            TokenKind::ParenOpen if depth == 0 => Err(Stop::TooDeep),
+            TokenKind::ParenOpen => {
+                self.advance();
+                let values = self.values(alloc, depth - 1)?;
+                Ok(Value::List(values))
+            }
+            _ => Err(Stop::Unexpected),
+        }
+    }
+
+    /// Reads the values of a list, and the parenthesis that closes it.
+    #[cycle(value)]
+    fn values(&mut self, alloc: Global, depth: u8) -> Result<Vec<Value>, Stop>
+        ensures rule { IfOk result (λ all.
+            (grammar.Values depth (trees_of (map value_tree all.items)) ▹ Mark ParenClose) self.old self.new) }
+        ensures follows { Follows (values depth ∷ []) result self.old self.new }
+        ensures shorter { OnOk result (length self.new < length self.old) }
+    {
+        let mut values = Vec::new(alloc);
+        while !self.accept(TokenKind::ParenClose) {
+            let value = self.value(alloc, depth)?;
+            values.push(value)?;
+        }
+        Ok(values)
+    }
+}
