@@ -1,0 +1,6 @@
+pub mod Placings
+pub mod Trails
+pub mod Rings
+pub mod Growing
+pub mod Following
+pub mod Orders

@@ -1,0 +1,10 @@
+use Rattle.std.proofs.Common.{◌∙◌}
+use Rattle.std.proofs.lemmas.List.{with_items_is}
+use Rattle.diagram_graph.proofs.Growing.{none_marked}
+use Rattle.diagram_graph.proofs.paths.descendants.Goals as goal
+
+pub mark_below-requires-clause-none : goal.mark_below-requires-clause-none
+mark_below-requires-clause-none c = none_marked _ _ (c.deref_mut.ensures.value ∙ c.in_ok-marks.ensures.items_if_clones_equal (λ y e. e))
+
+pub returns-clause-below : goal.returns-clause-below
+returns-clause-below c = rw (with_items_is c.in_ok-marks.marks c.mark_below.new.marks (c.mark_below.auto.marks ∙ c.deref_mut.ensures.len)) c.mark_below.ensures

@@ -1,0 +1,17 @@
+-- The first cycle of lists of parents.
+use Rattle.std.specs.Prelude.{ℕ, ◌<◌, List, map, Vec, length}
+use Rattle.std.specs.declared.alloc.Global.{Global}
+use Rattle.diagram_graph.specs.Needs.{NeedsItem}
+use Rattle.diagram_graph.specs.Rounds.{IsFirstCycle}
+
+-- the lists as plain lists
+abbrev pub rows_of : List (Vec ℕ Global) → List (List ℕ)
+rows_of rows = map (λ row. row.items) rows
+
+-- an arc leads from u to v: u stands in v's list
+abbrev pub ListedArc : List (List ℕ) → ℕ → ℕ → Type 0
+ListedArc lists u v = NeedsItem lists v u
+
+-- Nodes without remaining parents are taken away until none is left to take; the cycle starts at the first remaining node, goes each time to its first remaining parent, and is the list from the first visit of the node that comes twice.
+abbrev pub IsParentCycle : List (List ℕ) → List ℕ → Type 0
+IsParentCycle lists cycle = IsFirstCycle (λ v. v < length lists) lists cycle

@@ -1,0 +1,19 @@
+-- Items that are not placed, by marks. What the steps of placing promise one another.
+use Rattle.std.specs.Prelude.{ℕ, ◌<◌, Bool, List, length}
+use Rattle.diagram_graph.specs.Needs.{IsIn, NeedsItem}
+
+-- only numbers of the list are needed
+abbrev pub NeedsWithin : List (List ℕ) → Type 0
+NeedsWithin lists = (v e : ℕ) → NeedsItem lists v e → e < length lists
+
+-- only items are needed
+abbrev pub NeedsItems : List (List ℕ) → List Bool → Type 0
+NeedsItems lists items = (v e : ℕ) → NeedsItem lists v e → IsIn items e
+
+-- an item that is not placed
+abbrev pub IsFree : List Bool → List Bool → ℕ → Type 0
+IsFree items placed v = IsIn items v × (IsIn placed v → ⊥)
+
+-- an item that is not placed, and all that it needs is
+abbrev pub IsReady : List (List ℕ) → List Bool → List Bool → ℕ → Type 0
+IsReady lists items placed v = IsFree items placed v × ((e : ℕ) → NeedsItem lists v e → IsIn placed e)

@@ -1,0 +1,6 @@
+pub mod Needs
+pub mod Free
+pub mod Rounds
+pub mod Placed
+pub mod Cycles
+pub mod Paths

@@ -1,0 +1,14 @@
+-- Items that need one another, as one list for each item.
+use Rattle.std.specs.Prelude.{◌≡◌, ℕ, Bool, true, false, List, [], Contains, slice_index_or}
+
+-- what an item needs; nothing where there is no such item
+abbrev pub needs_of : List (List ℕ) → ℕ → List ℕ
+needs_of lists v = slice_index_or lists v []
+
+-- v needs e
+abbrev pub NeedsItem : List (List ℕ) → ℕ → ℕ → Type 0
+NeedsItem lists v e = Contains (needs_of lists v) e
+
+-- the item is in the set that the list stands for
+abbrev pub IsIn : List Bool → ℕ → Type 0
+IsIn set v = slice_index_or set v false ≡ true

@@ -1,0 +1,38 @@
+ghost use Rattle.std.specs.Prelude.{◌≡◌, ℕ, ◌<◌, length, IfOk, IfSome, MatchOption};
+ghost use Rattle.maid_model.specs.Graph.{Arc, IsAcyclic};
+ghost use Rattle.maid_model.specs.Placing.{IsOrder};
+ghost use Rattle.diagram_graph.specs.Needs.{NeedsItem};
+ghost use Rattle.diagram_graph.specs.Rounds.{IsRing};
+ghost use Rattle.diagram_graph.specs.Cycles.{rows_of, ListedArc, IsParentCycle};
+
+use crate::placing::{Placing, place_all};
+use maid_model::Diagram;
+use std::alloc::{AllocError, Global};
+
+/// All nodes in an order with parents first: each time the first node in text whose parents all stand before it. It
+/// goes over all nodes once for each node, which is a few tens of thousands of looks for the greatest diagram.
+pub fn topological(alloc: Global, diagram: &Diagram) -> Result<Vec<usize>, AllocError>
+    ensures { IfOk result (λ order. IsOrder (λ v. v < length diagram.now.nodes) (λ v p. Arc diagram.now.nodes p v) order.items) }
+{
+    let nodes = vec![in alloc; true; diagram.count()]?;
+    match place_all(alloc, diagram, &nodes)? {
+        Placing::Order(order) => Ok(order),
+        Placing::Cycle(_) => unreachable!(),
+    }
+}
+
+/// A directed cycle of the graph in which each node has the parents of its list, if there is one. Nodes without
+/// remaining parents are taken away until none is left to take. From the first remaining node it goes each time to the
+/// first remaining parent in the node's own list; the cycle is the list from the first visit of the node that comes
+/// twice. It goes over all nodes once for each node.
+pub fn first_cycle(alloc: Global, parents: &[Vec<usize>]) -> Result<Option<Vec<usize>>, AllocError>
+    requires { (u v : ℕ) → ListedArc (rows_of parents.now) u v → u < length parents.now }
+    ensures cycle { IfOk result (λ found. MatchOption found (IsAcyclic (ListedArc (rows_of parents.now))) (λ cycle. IsParentCycle (rows_of parents.now) cycle.items)) }
+    ensures ring { IfOk result (λ found. IfSome found (λ cycle. IsRing (NeedsItem (rows_of parents.now)) cycle.items)) }
+{
+    let nodes = vec![in alloc; true; parents.len()]?;
+    match place_all(alloc, &parents, &nodes)? {
+        Placing::Order(_) => Ok(None),
+        Placing::Cycle(cycle) => Ok(Some(cycle)),
+    }
+}

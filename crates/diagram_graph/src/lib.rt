@@ -1,0 +1,16 @@
+//! The graph of an influence diagram: what descends from a node, what a node descends from, an order with parents
+//! first, and the first directed cycle of a list of parents. Items of any kind that need one another are placed in
+//! order by `place_all`.
+#![tactic(auto)]
+
+mod cycles;
+mod graph;
+mod needs;
+mod paths;
+mod placing;
+mod rounds;
+
+pub use cycles::{first_cycle, topological};
+pub use needs::Needs;
+pub use paths::{ancestors, descendants};
+pub use placing::{Placing, place_all};
