@@ -2,7 +2,7 @@
 use Rattle.std.proofs.Common.{◌≡◌, ◌≢◌, ◌∙◌, ℕ, zero, suc, ◌<◌, ◌≤◌, Bool, true, false, cond, not, filter, List, [], ◌∷◌, take, length, slice_index, refl, sym, ap, subst, inl, inr, arith}
 use Rattle.maid_model.specs.declared.diagrams.Kind.{Kind}
 use Rattle.maid_model.specs.declared.diagrams.Kind.TheVariants.{Chance, Decision, Utility}
-use Rattle.maid_model.specs.Graph.{Arc, IsPath, Here, Along, Descends, IsAcyclic, descends}
+use Rattle.maid_model.specs.Graph.{Arc, IsPath, Here, Along, IsAcyclic}
 use Rattle.maid_model.specs.Nodes.{node_at, numbers_of, is_utility}
 use Rattle.maid_model.specs.Views.{NodeView}
 use Rattle.maid_model.proofs.Setting.{Among, ParentsFirst}
@@ -14,10 +14,9 @@ use Rattle.maid_laws.proofs.Collapse.{Apart}
 use Rattle.maid_laws.proofs.Histories.{among_take}
 use Rattle.maid_laws.proofs.Members.{among_of, contains_of, among_index, index_of, apart_of, different_of, not_among, arc_of, parent_of}
 use Rattle.maid_laws.proofs.Notions.{IsParent, OrderedGraph}
-use Rattle.maid_laws.proofs.Ordered.{setup_of, same_length}
+use Rattle.maid_laws.proofs.Ordered.{setup_of}
 use Rattle.maid_laws.proofs.Orders.{ordered, parent_dec, parents_path, parents_first_of}
-use Rattle.maid_laws.proofs.Paths.{leads_path, path_below}
-use Rattle.maid_laws.proofs.Ranks.{arc_inside, below_descends}
+use Rattle.maid_laws.proofs.Ranks.{arc_inside}
 use Rattle.maid_laws.proofs.Rearranged.{number, numbered, apart_shuffled, range_apart, apart_filter, among_shuffled, among_unshuffled}
 use Rattle.maid_laws.proofs.Sorted.{sorted}
 
