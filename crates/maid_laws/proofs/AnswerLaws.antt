@@ -14,6 +14,7 @@ use Rattle.maid_model.specs.Relevance.{IsLive, ReliesOn}
 use Rattle.maid_model.specs.Sums.{World, InRange}
 use Rattle.maid_model.specs.Tables.{HasChanceTables, table, table_by, weights_of, cell_of}
 use Rattle.maid_model.specs.Views.{NodeView, RuleView, DiagramView, SolvedView}
+use Rattle.maid_model.proofs.Pure.{pure_is_profile}
 use Rattle.maid_model.proofs.Setting.{Among, HasTables}
 use Rattle.maid_model.proofs.Ints.{products}
 use Rattle.maid_laws.specs.Answers.{answered, answer_at, HasBestChoices, ChoicesAreBest, WorthInBase, AnswersAreBest, AnswersAreSubgamePerfect, AnswersAreOptimal, WorthUnderTheProfile}
@@ -23,7 +24,7 @@ use Rattle.maid_laws.proofs.Decided.{by_contradiction, not_not_dec}
 use Rattle.maid_laws.proofs.ExchangeLaws.{exchange_law}
 use Rattle.maid_laws.proofs.Members.{among_of}
 use Rattle.maid_laws.proofs.OneAgent.{one_agent_law}
-use Rattle.maid_laws.proofs.PureRules.{FitsRows, fits_rows, pure_total, pure_is_profile, pure_choice}
+use Rattle.maid_laws.proofs.PureRules.{FitsRows, fits_rows, pure_total, pure_choice}
 use Rattle.maid_laws.proofs.RowLaws.{irrelevance_law, no_mass_like, mass_at_least}
 use Rattle.maid_laws.proofs.Rules.{uniform_like}
 use Rattle.maid_laws.proofs.Tied.{decision_of, tables_of}

@@ -22,7 +22,8 @@ use Rattle.maid_laws.proofs.Listings.{start_of, gain_same, mass_same}
 use Rattle.maid_laws.proofs.Members.{among_of}
 use Rattle.maid_laws.proofs.Notions.{IsBest, InOrder, SameForOthers, gain_from_start, mass_from_start}
 use Rattle.maid_laws.proofs.Orders.{ordered}
-use Rattle.maid_laws.proofs.Rules.{one_of, decision_kind, uniform_is_profile, uniform_like}
+use Rattle.maid_model.proofs.Uniform.{uniform_is_profile}
+use Rattle.maid_laws.proofs.Rules.{one_of, decision_kind, uniform_like}
 use Rattle.maid_laws.proofs.Signs.{at_pos}
 use Rattle.maid_laws.proofs.Tied.{decision_of, dec_decision, tables_of}
 

@@ -1,22 +1,22 @@
--- The laws of lists with parents first, and of the test for descent.
+-- The laws of lists with parents first.
 use Rattle.std.proofs.Common.{◌≡◌, ◌≢◌, ◌∙◌, ℕ, zero, suc, ◌<◌, ◌≤◌, Bool, true, false, cond, not, filter, List, [], ◌∷◌, take, length, slice_index, refl, sym, ap, subst, inl, inr, arith}
 use Rattle.maid_model.specs.declared.diagrams.Kind.{Kind}
 use Rattle.maid_model.specs.declared.diagrams.Kind.TheVariants.{Chance, Decision, Utility}
-use Rattle.maid_model.specs.Graph.{Arc, IsPath, Here, Along, Descends, IsAcyclic, descends}
+use Rattle.maid_model.specs.Graph.{Arc, IsPath, Here, Along, IsAcyclic}
 use Rattle.maid_model.specs.Nodes.{node_at, numbers_of, is_utility}
 use Rattle.maid_model.specs.Views.{NodeView}
 use Rattle.maid_model.proofs.Setting.{Among, ParentsFirst}
 use Rattle.maid_model.proofs.Lists.{among_filter}
-use Rattle.maid_laws.specs.Orders.{IsParentsFirst, AcyclicIffListed, ListingExists, DescentTested}
+use Rattle.maid_model.specs.Laws.{IsParentsFirst}
+use Rattle.maid_laws.specs.Orders.{AcyclicIffListed, ListingExists}
 use Rattle.maid_laws.proofs.Basis.{Setup, among_filter_in}
 use Rattle.maid_laws.proofs.Collapse.{Apart}
 use Rattle.maid_laws.proofs.Histories.{among_take}
 use Rattle.maid_laws.proofs.Members.{among_of, contains_of, among_index, index_of, apart_of, different_of, not_among, arc_of, parent_of}
 use Rattle.maid_laws.proofs.Notions.{IsParent, OrderedGraph}
-use Rattle.maid_laws.proofs.Ordered.{setup_of, same_length}
+use Rattle.maid_laws.proofs.Ordered.{setup_of}
 use Rattle.maid_laws.proofs.Orders.{ordered, parent_dec, parents_path, parents_first_of}
-use Rattle.maid_laws.proofs.Paths.{leads_path, path_below}
-use Rattle.maid_laws.proofs.Ranks.{arc_inside, below_descends}
+use Rattle.maid_laws.proofs.Ranks.{arc_inside}
 use Rattle.maid_laws.proofs.Rearranged.{number, numbered, apart_shuffled, range_apart, apart_filter, among_shuffled, among_unshuffled}
 use Rattle.maid_laws.proofs.Sorted.{sorted}
 
@@ -96,19 +96,6 @@ module _ (nodes : List NodeView) (known : (u v : ℕ) → Arc nodes u v → u < 
 -- both ways
 pub acyclic_law : AcyclicIffListed
 acyclic_law nodes known = (listed nodes known, λ r. acyclic_of nodes known r.0 r.1)
-
--- by paths, and by places
-pub descent_law : DescentTested
-descent_law nodes u v g = (leads_path nodes (length nodes) u v, there)
-  where
-    end_inside : {to from : ℕ} → IsPath (Arc nodes) to from → from < length nodes → to < length nodes
-    end_inside Here l = l
-    end_inside (Along {u = x} {v = y} a p) l = end_inside p (arc_inside nodes x y (parent_of nodes x y a))
-
-    there : Descends (Arc nodes) u v → descends nodes u v ≡ true
-    there h =
-        let o : OrderedGraph nodes = ordered nodes g in
-        below_descends nodes o.order (setup_of nodes o) u (same_length nodes o) (path_below nodes h) (end_inside h.2 (arc_inside nodes u h.0 (parent_of nodes u h.0 h.1)))
 
 -- what is no utility is kept
 no_utility : (k : Kind) → k ≢ Utility → not (is_utility k) ≡ true

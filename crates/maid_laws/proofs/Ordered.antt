@@ -1,5 +1,5 @@
 -- From a graph with a list of its nodes, and a profile's rules, to what the sums use of them.
-use Rattle.std.proofs.Common.{◌≡◌, ◌≢◌, ◌∙◌, ℕ, ◌+◌, ◌<◌, false, List, length, refl, sym, ap, arith, pos, ◌*ℤ◌}
+use Rattle.std.proofs.Common.{◌≡◌, ◌≢◌, ℕ, ◌+◌, ◌<◌, false, List, length, refl, ap, arith, pos, ◌*ℤ◌}
 use Rattle.maid_model.specs.declared.diagrams.Kind.{Kind}
 use Rattle.maid_model.specs.declared.diagrams.Kind.TheVariants.{Chance, Decision, Utility}
 use Rattle.maid_model.specs.Gains.{gain_at, mass_at}
@@ -13,7 +13,7 @@ use Rattle.maid_laws.proofs.Notions.{OrderedGraph}
 use Rattle.maid_laws.proofs.Basis.{Setup, Totals}
 use Rattle.maid_laws.proofs.Proportions.{irrelevance, kind_of_utility}
 use Rattle.maid_laws.proofs.Members.{arc_of, apart_of}
-use Rattle.maid_laws.proofs.Rearranged.{among_shuffled, among_unshuffled, apart_shuffled, range_apart, in_range, among_range, length_shuffled, length_range}
+use Rattle.maid_laws.proofs.Rearranged.{among_shuffled, among_unshuffled, apart_shuffled, range_apart, in_range, among_range}
 use Rattle.maid_laws.proofs.Signs.{table_sums}
 
 -- a kind other than utility fails the test
@@ -37,10 +37,6 @@ setup_of nodes g = record {
   not_own_parent = λ v a. g.graph.acyclic v (v, arc_of nodes v v a, Here);
   parents_apart = λ v. apart_of (node_at nodes v).parents (g.graph.parents_differ v);
 }
-
--- the list has as many nodes as there are
-pub same_length : (nodes : List NodeView) (g : OrderedGraph nodes) → length g.order ≡ length nodes
-same_length nodes g = sym (length_shuffled g.shuffled) ∙ length_range 0 (length nodes)
 
 -- each table adds up in each row
 pub totals_of : (nodes : List NodeView) (p : List RuleView) → HasTables nodes p → Totals nodes p (λ v. pos (weight_total nodes p v))

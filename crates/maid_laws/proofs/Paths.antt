@@ -1,11 +1,7 @@
--- Paths, nodes below a node, and the test for descent.
-use Rattle.std.proofs.Common.{◌≡◌, ℕ, zero, suc, Bool, true, false, ◌||◌, eqb, List, [], ◌∷◌, refl, sym, subst, inl, inr, arith}
-use Rattle.std.proofs.lemmas.Bool.Decides.{nat_tests}
-use Rattle.std.specs.List.{list_any}
-use Rattle.maid_model.specs.Graph.{Arc, IsPath, Here, Along, Descends, leads_within}
-use Rattle.maid_model.specs.Nodes.{parents_of}
+-- Paths, and nodes below a node.
+use Rattle.std.proofs.Common.{ℕ, List}
+use Rattle.maid_model.specs.Graph.{Arc, IsPath, Here, Along, Descends}
 use Rattle.maid_model.specs.Views.{NodeView}
-use Rattle.maid_model.proofs.Setting.{Among}
 use Rattle.maid_laws.proofs.Notions.{IsParent}
 use Rattle.maid_laws.proofs.Members.{arc_of, parent_of}
 use Rattle.maid_laws.proofs.Leads.{Below, child, further}
@@ -37,26 +33,3 @@ path_below nodes {d} {x} (next, a, p) = go (child (parent_of nodes d next a)) p
     go : {y : ℕ} → Below (IsParent nodes) d y → IsPath (Arc nodes) x y → Below (IsParent nodes) d x
     go b Here = b
     go b (Along {u = u} {v = v} a p) = go (further b (parent_of nodes u v a)) p
-
--- a test that passes for some member has one
-any_one : (p : ℕ → Bool) (xs : List ℕ) → list_any p xs ≡ true → (x : ℕ) × Among x xs × (p x ≡ true)
-any_one p [] h = let e : true ≡ false = sym h in cc
-any_one p (y ∷ ys) h = go (p y) refl h (λ k. any_one p ys k)
-  where
-    go : (b : Bool) → p y ≡ b → (b || list_any p ys) ≡ true → (list_any p ys ≡ true → (x : ℕ) × Among x ys × (p x ≡ true)) → (x : ℕ) × Among x (y ∷ ys) × (p x ≡ true)
-    go true e h r = (y, inl refl, e)
-    go false e h r = let k = r h in (k.0, inr k.1, k.2)
-
--- where the test says so, a path leads there
-pub leads_path : (nodes : List NodeView) (n u v : ℕ) → leads_within nodes n u v ≡ true → Descends (Arc nodes) u v
-leads_path nodes zero u v h = let e : true ≡ false = sym h in cc
-leads_path nodes (suc n) u v h =
-    let k = any_one (λ x. eqb x u || leads_within nodes n u x) (parents_of nodes v) h in
-    go k.0 (arc_of nodes k.0 v k.1) (eqb k.0 u) refl k.2 (λ e. leads_path nodes n u k.0 e)
-  where
-    same : (x y : ℕ) → eqb x y ≡ true → x ≡ y
-    same x y h = grind (arith, nat_tests)
-
-    go : (x : ℕ) → Arc nodes x v → (b : Bool) → eqb x u ≡ b → (b || leads_within nodes n u x) ≡ true → (leads_within nodes n u x ≡ true → Descends (Arc nodes) u x) → Descends (Arc nodes) u v
-    go x a true e h r = (v, subst (λ z. Arc nodes z v) (same x u e) a, Here)
-    go x a false e h r = descends_further (Arc nodes) (r h) a

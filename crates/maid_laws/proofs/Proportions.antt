@@ -16,6 +16,7 @@ use Rattle.maid_model.proofs.Setting.{Among, Ignores}
 use Rattle.maid_model.proofs.Ints.{zero_mul, mul_zero, mul_add, add_mul}
 use Rattle.maid_model.proofs.Sums.{sum_over_cong, sum_over_add, sum_below_zero, sum_below_cong, with_same, with_other, with_in}
 use Rattle.maid_model.proofs.Tables.{Avoids, row_from_other, row_of-below}
+use Rattle.maid_model.proofs.Descent.{path_from_test}
 use Rattle.maid_model.proofs.Lists.{avoids, among_filter, decide_among}
 use Rattle.maid_laws.proofs.Booleans.{eqb_same}
 use Rattle.maid_laws.proofs.Notions.{IsParent}
@@ -23,7 +24,6 @@ use Rattle.maid_laws.proofs.Basis.{Setup, Totals, Tells}
 use Rattle.maid_laws.proofs.Decided.{tests, by_contradiction}
 use Rattle.maid_laws.proofs.Leads.{Leads, Reaches}
 use Rattle.maid_laws.proofs.OneUtility.{one_utility, live_in_F}
-use Rattle.maid_laws.proofs.Paths.{leads_path}
 use Rattle.maid_laws.proofs.Ranks.{none_given}
 use Rattle.maid_laws.proofs.Rearranged.{among_range, apart_filter}
 use Rattle.maid_laws.proofs.Members.{not_among}
@@ -190,7 +190,7 @@ module _ (nodes : List NodeView) (order : List ℕ) (setup : Setup nodes order) 
             within = subst (λ n. v < n) (zero_plus (length nodes)) l;
             kind = kind_of_utility (node_at nodes v).kind (and_left (is_utility (node_at nodes v).kind) (eqb (node_at nodes v).owner (node_at nodes d).owner) f);
             owner = eqb_same (node_at nodes v).owner (node_at nodes d).owner (and_right (is_utility (node_at nodes v).kind) (eqb (node_at nodes v).owner (node_at nodes d).owner) f);
-            below = leads_path nodes (length nodes) d v e;
+            below = path_from_test nodes d v e;
           })
           (λ w. slice_index_or (node_at nodes v).cells (row_of nodes v w) (pos 0)) (cell_ignores v))
         where

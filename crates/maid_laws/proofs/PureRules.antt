@@ -1,25 +1,21 @@
 -- The pure profile of answered choices: a rule of total 1 at each decision, with the weight 1 at the choice of each row.
-use Rattle.std.proofs.Common.{◌≡◌, ◌⊎◌, ◌∙◌, ℕ, zero, suc, ◌+◌, ◌-◌, ◌*◌, ◌<◌, Bool, true, false, cond, eqb, flat_map, List, [], ◌∷◌, ◌++◌, map, length, slice_index, slice_index_or, refl, sym, ap, subst, inl, inr, arith, ℤ, pos, ◌*ℤ◌, ◌≤ℤ◌}
-use Rattle.std.proofs.lemmas.Int.{ints}
+use Rattle.std.proofs.Common.{◌≡◌, ◌⊎◌, ◌∙◌, ℕ, zero, suc, ◌+◌, ◌-◌, ◌*◌, ◌<◌, Bool, true, false, cond, eqb, flat_map, List, [], ◌∷◌, ◌++◌, map, length, slice_index, slice_index_or, refl, sym, ap, subst, inl, inr, arith}
 use Rattle.std.proofs.lemmas.List.{length-map, length-append, get_or_append_left, get_or-append_right}
 use Rattle.std.proofs.lemmas.List.FromFn.{get_or-map-range_with_len}
-use Rattle.std.proofs.lemmas.List.Elements.{All-head, All-tail, All-map}
+use Rattle.std.proofs.lemmas.List.Elements.{All-head, All-tail}
 use Rattle.std.specs.List.{range_with_len}
 use Rattle.std.specs.Prelude.{All}
 use Rattle.maid_model.specs.declared.answers.Row.{Row}
 use Rattle.maid_model.specs.Answers.{FitsAnswer, pure_profile, rows_at, no_row}
 use Rattle.maid_model.specs.Nodes.{IsDecision, states_of, rows_of, decisions_of}
-use Rattle.maid_model.specs.Profiles.{IsProfile, IsRule, pure_row, pure_rule}
-use Rattle.maid_model.specs.Tables.{IsTable, weights_of, rule_total}
+use Rattle.maid_model.specs.Profiles.{pure_row, pure_rule}
+use Rattle.maid_model.specs.Tables.{weights_of, rule_total}
 use Rattle.maid_model.specs.Views.{NodeView, AnswerView}
+use Rattle.maid_model.proofs.Made.{made_total}
 use Rattle.maid_model.proofs.Setting.{Among}
-use Rattle.maid_model.proofs.Sums.{sum_below_cong}
-use Rattle.maid_model.proofs.Ints.{mul_one}
 use Rattle.maid_laws.proofs.Booleans.{eqb_yes, eqb_same}
-use Rattle.maid_laws.proofs.Collapse.{one_if, sum_below_at}
 use Rattle.maid_laws.proofs.Rearranged.{length_range}
-use Rattle.maid_laws.proofs.Rules.{weights_map, total_map, decisions_map, among_decisions}
-use Rattle.maid_laws.proofs.Signs.{at_pos}
+use Rattle.maid_laws.proofs.Rules.{weights_map, among_decisions}
 
 -- ---- the weights of pure rows
 length_row : (n c : ℕ) → length (pure_row n c) ≡ n
@@ -53,25 +49,6 @@ at_rows n (c ∷ cs) (suc r) s l m =
     rest : (r n s : ℕ) → suc r * n + s - n ≡ r * n + s
     rest r n s = omega arith
 
--- no weight is below nought
-not_negative : (ws : List ℕ) (i : ℕ) → pos 0 ≤ℤ slice_index_or (map pos ws) i (pos 0)
-not_negative ws i = subst (λ x. pos 0 ≤ℤ x) (sym (at_pos ws i)) (omega (arith, ints))
-
--- each row adds up to 1
-pub pure_table : (n : ℕ) (cs : List ℕ) → ((r : ℕ) → r < length cs → slice_index cs r < n) → IsTable (map pos (flat_map (pure_row n) cs)) (length cs) n 1
-pure_table n cs within = record {
-  len = length-map (flat_map (pure_row n) cs) pos ∙ length_rows n cs;
-  not_negative = not_negative (flat_map (pure_row n) cs);
-  row = λ r l.
-      sum_below_cong n (λ s. slice_index_or (map pos (flat_map (pure_row n) cs)) (r * n + s) (pos 0)) (λ s. one_if (eqb s (slice_index cs r)) *ℤ pos 1)
-      (λ s m. at_pos (flat_map (pure_row n) cs) (r * n + s) ∙ ap pos (at_rows n cs r s l m) ∙ as_one (eqb s (slice_index cs r)) ∙ sym (mul_one (one_if (eqb s (slice_index cs r)))))
-      ∙ sum_below_at n (slice_index cs r) (λ s. pos 1) (within r l);
-}
-  where
-    as_one : (b : Bool) → ◌≡◌ {A = ℤ} (pos (cond b 1 0)) (one_if b)
-    as_one true = refl
-    as_one false = refl
-
 -- ---- the rows answered at a decision
 at_choice : (rows : List Row) (row : ℕ) → slice_index (map (λ r. r.choice) rows) row ≡ (slice_index_or rows row no_row).choice
 at_choice [] row = refl
@@ -79,9 +56,8 @@ at_choice (r ∷ rows) zero = refl
 at_choice (r ∷ rows) (suc row) = at_choice rows row
 
 -- the rows of the decision fit
-pub record FitsRows (nodes : List NodeView) (v : ℕ) (rows : List Row) : Type 0 where
-  pub count : length rows ≡ rows_of nodes v
-  pub choices : All (λ r. r.choice < states_of nodes v) rows
+abbrev pub FitsRows : List NodeView → ℕ → List Row → Type 0
+FitsRows nodes v rows = (length rows ≡ rows_of nodes v) × All (λ r. r.choice < states_of nodes v) rows
 
 -- the first answer of the decision is found, and fits
 pub fits_rows : (nodes : List NodeView) (answers : List AnswerView) (v : ℕ) → All (FitsAnswer nodes) answers → Among v (map (λ a. a.decision) answers) → FitsRows nodes v (rows_at answers v)
@@ -92,7 +68,7 @@ fits_rows nodes (a ∷ answers) v h m = go (eqb a.decision v) refl m (λ k. fits
     fits = All-head (FitsAnswer nodes) a answers h
 
     here : a.decision ≡ v → FitsRows nodes v a.rows
-    here e = subst (λ x. FitsRows nodes x a.rows) e (record { count = fits.rows; choices = fits.choices })
+    here e = subst (λ x. FitsRows nodes x a.rows) e (fits.rows, fits.choices)
 
     other : eqb a.decision v ≡ false → v ≡ a.decision → ⊥
     other f e = let t : eqb a.decision v ≡ true = eqb_yes a.decision v (sym e) in let u : true ≡ false = sym t ∙ f in cc
@@ -114,28 +90,12 @@ module _ (nodes : List NodeView) (answers : List AnswerView) where
 
   -- its total
   pub pure_total : (v : ℕ) → IsDecision nodes v → rule_total (pure_profile nodes answers) v ≡ 1
-  pure_total v d = total_map (λ v. pure_rule nodes v (map (λ r. r.choice) (rows_at answers v))) (λ v. refl) (decisions_of nodes) v (among_decisions nodes v d)
+  pure_total v d = made_total (λ v. pure_rule nodes v (map (λ r. r.choice) (rows_at answers v))) (λ v. refl) (decisions_of nodes) v (among_decisions nodes v d)
 
   module _ (fits : (v : ℕ) → IsDecision nodes v → FitsRows nodes v (rows_at answers v)) where
     -- a choice for each row
     count_choices : (v : ℕ) → IsDecision nodes v → length (map (λ r. r.choice) (rows_at answers v)) ≡ rows_of nodes v
-    count_choices v d = length-map (rows_at answers v) (λ r. r.choice) ∙ (fits v d).count
-
-    -- it is a rule
-    pure_rule_at : (v : ℕ) → IsDecision nodes v → IsRule nodes (record { decision = v; total = 1; weights = flat_map (pure_row (states_of nodes v)) (map (λ r. r.choice) (rows_at answers v)) })
-    pure_rule_at v d = record {
-      positive = omega arith;
-      table = subst (λ n. IsTable (map pos (flat_map (pure_row (states_of nodes v)) (map (λ r. r.choice) (rows_at answers v)))) n (states_of nodes v) 1) (count_choices v d)
-          (pure_table (states_of nodes v) (map (λ r. r.choice) (rows_at answers v)) (λ r l. (All-map (λ c. c < states_of nodes v) (λ r. r.choice) (rows_at answers v) (fits v d).choices) r 0 l));
-    }
-
-    -- so there is one for each decision
-    pub pure_is_profile : IsProfile nodes (pure_profile nodes answers)
-    pure_is_profile = record {
-      decisions = decisions_map (λ v. pure_rule nodes v (map (λ r. r.choice) (rows_at answers v))) (λ v. refl) (decisions_of nodes);
-      rule = λ v d. subst (λ ws. IsRule nodes (record { decision = v; total = rule_total (pure_profile nodes answers) v; weights = ws })) (sym (pure_weights v d))
-          (subst (λ n. IsRule nodes (record { decision = v; total = n; weights = flat_map (pure_row (states_of nodes v)) (map (λ r. r.choice) (rows_at answers v)) })) (sym (pure_total v d)) (pure_rule_at v d));
-    }
+    count_choices v d = length-map (rows_at answers v) (λ r. r.choice) ∙ (fits v d).0
 
     -- the state of weight 1 is the answered choice
     pub pure_choice : (v row choice : ℕ) → IsDecision nodes v → row < rows_of nodes v → choice < states_of nodes v

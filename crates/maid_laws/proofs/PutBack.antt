@@ -23,7 +23,7 @@ use Rattle.maid_laws.proofs.Decided.{by_contradiction, not_not_dec, tests, le_st
 use Rattle.maid_laws.proofs.FromStart.{worth_best}
 use Rattle.maid_laws.proofs.Notions.{OrderedGraph, IsStart, IsBest, InOrder}
 use Rattle.maid_laws.proofs.OneStep.{put_back}
-use Rattle.maid_laws.proofs.Ordered.{same_length, setup_of, totals_of, irrelevance_at}
+use Rattle.maid_laws.proofs.Ordered.{setup_of, totals_of, irrelevance_at}
 use Rattle.maid_laws.proofs.Profiles.{put_rule, put_weights, put_total, other_weights, other_total, total_like, put_tables, with_uniform, uniform_off, uniform_tables, uniform_one}
 use Rattle.maid_laws.proofs.Ranks.{past_end}
 use Rattle.maid_laws.proofs.Signs.{table_not_negative}
@@ -138,7 +138,7 @@ module _ (nodes : List NodeView) (g : OrderedGraph nodes) (s : List RuleView) (c
 
         with_test : (keep : ℕ → Bool) → Tells keep (λ v. ¬ (FromD nodes d v)) g.order → gain r (node_at nodes d).owner ≤ℤ (pos (weight_total nodes r d) *ℤ gain (put_rule d s r) (node_at nodes d).owner)
         with_test keep tells =
-            put_back nodes g.order setup d (same_length nodes g) started q start.range (setup.all d d_in) d_kind d_later r (put_rule d s r) (λ v. pos (weight_total nodes r v)) (λ v. pos (weight_total nodes (put_rule d s r) v))
+            put_back nodes g.order setup d started q start.range (setup.all d d_in) d_kind d_later r (put_rule d s r) (λ v. pos (weight_total nodes r v)) (λ v. pos (weight_total nodes (put_rule d s r) v))
             (totals_of nodes r hr) (totals_of nodes (put_rule d s r) (put_tables nodes d s r is_best.tables hr))
             (λ v n. sym (other_weights d s r v n)) (λ v n. ap pos (sym (total_like nodes (put_rule d s r) r v (other_total d s r v n)))) keep tells (choice d) (ap pos total_is)
             (sums_of (node_at nodes d).kind (node_at nodes d).cells (weights_of r d) (rows_under (states_of nodes) (node_at nodes d).parents) (states_of nodes d) (pos (weight_total nodes r d)) d_kind ((totals_of nodes r hr).at d d_in))

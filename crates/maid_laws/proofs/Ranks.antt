@@ -1,14 +1,11 @@
 -- The places of nodes in a list with parents first: arcs go from lower places to higher ones.
-use Rattle.std.proofs.Common.{◌≡◌, ◌≢◌, ◌⊎◌, ◌∙◌, ℕ, zero, suc, ◌+◌, ◌<◌, ◌≤◌, Bool, true, false, cond, ◌||◌, eqb, List, [], ◌∷◌, length, refl, sym, ap, subst, inl, inr, arith}
+use Rattle.std.proofs.Common.{◌≡◌, ◌≢◌, ◌∙◌, ℕ, zero, suc, ◌<◌, ◌≤◌, cond, eqb, List, [], ◌∷◌, length, refl, sym, ap, subst, inl, inr, arith}
 use Rattle.std.proofs.lemmas.Bool.Decides.{nat_tests}
 use Rattle.std.proofs.Math.Decide.{ℕ_discrete, dec_lt}
-use Rattle.std.specs.List.{list_any}
-use Rattle.maid_model.specs.Graph.{descends, leads_within}
 use Rattle.maid_model.specs.Nodes.{node_at, no_node}
 use Rattle.maid_model.specs.Relevance.{IsFixed}
 use Rattle.maid_model.specs.Views.{NodeView}
 use Rattle.maid_model.proofs.Setting.{Among, ParentsFirst}
-use Rattle.maid_laws.proofs.Booleans.{eqb_yes}
 use Rattle.maid_laws.proofs.Notions.{IsParent}
 use Rattle.maid_laws.proofs.Basis.{Setup}
 use Rattle.maid_laws.proofs.Leads.{Below, child, further}
@@ -83,44 +80,3 @@ module _ (nodes : List NodeView) (order : List ℕ) (setup : Setup nodes order) 
   pub none_given : (d x : ℕ) → Below (IsParent nodes) d x → ¬ (IsFixed (IsParent nodes) d x)
   none_given d x b (inl e) = let k : place d order < place x order = below_less d b in let f : place x order ≡ place d order = ap (λ z. place z order) e in omega arith
   none_given d x b (inr m) = let k : place d order < place x order = below_less d b in let l : place x order < place d order = rank_less x d m in omega arith
-
--- ---- what lies below is found by a path of at most as many arcs as there are nodes
-any_at : (p : ℕ → Bool) (x : ℕ) (xs : List ℕ) → Among x xs → p x ≡ true → list_any p xs ≡ true
-any_at p x [] m e = absurd m
-any_at p x (y ∷ ys) (inl f) e = let g : p y ≡ true = ap p (sym f) ∙ e in ap (λ b. b || list_any p ys) g
-any_at p x (y ∷ ys) (inr m) e = go (p y) (any_at p x ys m e)
-  where
-    go : (b : Bool) → list_any p ys ≡ true → (b || list_any p ys) ≡ true
-    go true h = refl
-    go false h = h
-
--- places are below the length
-place_below : (u : ℕ) (xs : List ℕ) → Among u xs → place u xs < length xs
-place_below u [] m = absurd m
-place_below u (x ∷ xs) m = go (eqb x u) refl (λ k. place_below u xs k)
-  where
-    in_rest : eqb x u ≡ false → (u ≡ x) ⊎ Among u xs → Among u xs
-    in_rest e (inl f) = let g : eqb x u ≡ true = eqb_yes x u (sym f) in let h : true ≡ false = sym g ∙ e in cc
-    in_rest e (inr k) = k
-
-    go : (b : Bool) → eqb x u ≡ b → (Among u xs → place u xs < length xs) → cond (eqb x u) 0 (suc (place u xs)) < suc (length xs)
-    go true e r = subst (λ c. cond c 0 (suc (place u xs)) < suc (length xs)) (sym e) (omega arith)
-    go false e r = subst (λ c. cond c 0 (suc (place u xs)) < suc (length xs)) (sym e) (let k : place u xs < length xs = r (in_rest e m) in omega arith)
-
-module _ (nodes : List NodeView) (order : List ℕ) (setup : Setup nodes order) (d : ℕ) where
-  -- by induction over the path: places rise with each arc
-  leads_at : {v : ℕ} → Below (IsParent nodes) d v → (m : ℕ) → place v order ≤ m + place d order → leads_within nodes m d v ≡ true
-  leads_at {v} (child a) zero l = let k : place d order < place v order = rank_less nodes order setup d v a in absurd (omega arith)
-  leads_at {v} (child a) (suc m) l = any_at (λ x. eqb x d || leads_within nodes m d x) d (node_at nodes v).parents a (ap (λ b. b || leads_within nodes m d d) (eqb_yes d d refl))
-  leads_at {v} (further {y = y} b a) zero l = let k : place y order < place v order = rank_less nodes order setup y v a in let j : place d order < place y order = below_less nodes order setup d b in absurd (omega arith)
-  leads_at {v} (further {y = y} b a) (suc m) l =
-      let k : place y order < place v order = rank_less nodes order setup y v a in
-      any_at (λ x. eqb x d || leads_within nodes m d x) y (node_at nodes v).parents a (either (eqb y d) (leads_at b m (omega arith)))
-    where
-      either : (c : Bool) → leads_within nodes m d y ≡ true → (c || leads_within nodes m d y) ≡ true
-      either true h = refl
-      either false h = h
-
-  -- no path has more arcs than there are places
-  pub below_descends : length order ≡ length nodes → {v : ℕ} → Below (IsParent nodes) d v → v < length nodes → descends nodes d v ≡ true
-  below_descends same {v} b l = leads_at b (length nodes) (let k : place v order < length order = place_below v order (setup.all v l) in omega arith)

@@ -1,21 +1,20 @@
 -- Profiles as one rule for each decision: looked up, uniform, and pure.
-use Rattle.std.proofs.Common.{◌≡◌, ◌≢◌, ◌⊎◌, ◌∙◌, ℕ, zero, suc, ◌+◌, ◌*◌, ◌<◌, true, cond, eqb, List, [], ◌∷◌, map, replicate, slice_index, refl, sym, ap, subst, inl, inr, arith, pos}
+use Rattle.std.proofs.Common.{◌≡◌, ◌≢◌, ◌⊎◌, ◌∙◌, ℕ, zero, suc, ◌+◌, ◌*◌, ◌<◌, true, cond, eqb, List, [], ◌∷◌, map, replicate, slice_index, refl, sym, ap, inl, inr, arith, pos}
 use Rattle.std.proofs.lemmas.Int.{ints}
 use Rattle.std.proofs.Math.Decide.{ℕ_discrete}
 use Rattle.maid_model.specs.declared.diagrams.Kind.{Kind}
 use Rattle.maid_model.specs.declared.diagrams.Kind.TheVariants.{Chance, Decision, Utility}
-use Rattle.maid_model.specs.Graph.{IsGraph}
 use Rattle.maid_model.specs.Nodes.{IsDecision, node_at, states_of, rows_of, numbers_of, decisions_of, is_decision}
-use Rattle.maid_model.specs.Profiles.{IsProfile, IsRule, uniform_rule, uniform_profile}
+use Rattle.maid_model.specs.Profiles.{uniform_rule, uniform_profile}
 use Rattle.maid_model.specs.Sums.{World, InRange, sum_below}
-use Rattle.maid_model.specs.Tables.{weights_of, rule_total, table, table_by, cell_of, row_of}
+use Rattle.maid_model.specs.Tables.{weights_of, table, table_by, cell_of, row_of}
 use Rattle.maid_model.specs.Views.{NodeView, RuleView}
 use Rattle.maid_model.proofs.Setting.{Among}
 use Rattle.maid_model.proofs.Lists.{among_filter}
 use Rattle.maid_model.proofs.Tables.{row_of-below, step_below}
 use Rattle.maid_laws.proofs.Booleans.{eqb_yes, eqb_no}
 use Rattle.maid_laws.proofs.Basis.{among_filter_in}
-use Rattle.maid_laws.proofs.Profiles.{uniform_table, ones_at}
+use Rattle.maid_laws.proofs.Profiles.{ones_at}
 use Rattle.maid_laws.proofs.Rearranged.{number}
 use Rattle.maid_laws.proofs.Tied.{decision_of}
 
@@ -30,21 +29,6 @@ module _ (f : ℕ → RuleView) (own : (v : ℕ) → (f v).decision ≡ v) where
       go (yes e) n r = ap (λ b. cond b (f d).weights (weights_of (map f ds) v)) (eqb_yes (f d).decision v (own d ∙ e)) ∙ ap (λ x. (f x).weights) e
       go (no n) (inl e) r = absurd (n (sym e))
       go (no n) (inr k) r = ap (λ b. cond b (f d).weights (weights_of (map f ds) v)) (eqb_no (f d).decision v (λ e. n (sym (own d) ∙ e))) ∙ r k
-
-  -- and the total
-  pub total_map : (ds : List ℕ) (v : ℕ) → Among v ds → rule_total (map f ds) v ≡ (f v).total
-  total_map [] v m = absurd m
-  total_map (d ∷ ds) v m = go (ℕ_discrete d v) m (λ k. total_map ds v k)
-    where
-      go : Dec (d ≡ v) → (v ≡ d) ⊎ Among v ds → (Among v ds → rule_total (map f ds) v ≡ (f v).total) → cond (eqb (f d).decision v) (f d).total (rule_total (map f ds) v) ≡ (f v).total
-      go (yes e) n r = ap (λ b. cond b (f d).total (rule_total (map f ds) v)) (eqb_yes (f d).decision v (own d ∙ e)) ∙ ap (λ x. (f x).total) e
-      go (no n) (inl e) r = absurd (n (sym e))
-      go (no n) (inr k) r = ap (λ b. cond b (f d).total (rule_total (map f ds) v)) (eqb_no (f d).decision v (λ e. n (sym (own d) ∙ e))) ∙ r k
-
-  -- one rule for each
-  pub decisions_map : (ds : List ℕ) → map (λ r. r.decision) (map f ds) ≡ ds
-  decisions_map [] = refl
-  decisions_map (d ∷ ds) = λ i. own d i ∷ decisions_map ds i
 
 -- ---- the decisions
 pub among_decisions : (nodes : List NodeView) (v : ℕ) → IsDecision nodes v → Among v (decisions_of nodes)
@@ -63,19 +47,6 @@ decision_among nodes v m = decision_of nodes v (decision_kind (node_at nodes v).
 -- ---- the uniform profile
 pub uniform_weights : (nodes : List NodeView) (v : ℕ) → IsDecision nodes v → weights_of (uniform_profile nodes) v ≡ replicate (rows_of nodes v * states_of nodes v) 1
 uniform_weights nodes v d = weights_map (uniform_rule nodes) (λ v. refl) (decisions_of nodes) v (among_decisions nodes v d)
-
--- as many as there are states
-pub uniform_total : (nodes : List NodeView) (v : ℕ) → IsDecision nodes v → rule_total (uniform_profile nodes) v ≡ states_of nodes v
-uniform_total nodes v d = total_map (uniform_rule nodes) (λ v. refl) (decisions_of nodes) v (among_decisions nodes v d)
-
--- so it is a profile
-pub uniform_is_profile : (nodes : List NodeView) → IsGraph nodes → IsProfile nodes (uniform_profile nodes)
-uniform_is_profile nodes g = record {
-  decisions = decisions_map (uniform_rule nodes) (λ v. refl) (decisions_of nodes);
-  rule = λ v d. subst (λ ws. IsRule nodes (record { decision = v; total = rule_total (uniform_profile nodes) v; weights = ws })) (sym (uniform_weights nodes v d))
-      (subst (λ n. IsRule nodes (record { decision = v; total = n; weights = replicate (rows_of nodes v * states_of nodes v) 1 })) (sym (uniform_total nodes v d))
-      (record { positive = g.has_state v; table = uniform_table nodes (rows_of nodes v) (states_of nodes v) }));
-}
 
 -- a rule of uniform weights is 1 in every world
 pub uniform_like : (nodes : List NodeView) (p : List RuleView) (v : ℕ) → IsDecision nodes v → weights_of p v ≡ weights_of (uniform_profile nodes) v → (w : World) → InRange (states_of nodes) w → table nodes p v w ≡ pos 1

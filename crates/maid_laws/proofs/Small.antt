@@ -19,7 +19,7 @@ use Rattle.maid_laws.specs.Examples.{trip, plan, pair, MeetsTheLaws, HasSums, Ha
 use Rattle.maid_laws.proofs.Collapse.{Apart}
 use Rattle.maid_laws.proofs.Members.{among_of, parent_of, different_of}
 use Rattle.maid_laws.proofs.Notions.{IsParent}
-use Rattle.maid_laws.proofs.Rules.{uniform_is_profile}
+use Rattle.maid_model.proofs.Uniform.{uniform_is_profile}
 
 -- where arcs lead to greater numbers there is no cycle
 module _ (R : ℕ → ℕ → Type 0) (up : (u v : ℕ) → R u v → u < v) where

@@ -1,13 +1,12 @@
 -- The answer of the small diagram is one.
-use Rattle.std.proofs.Common.{◌≡◌, ◌≢◌, ◌⊎◌, ◌∙◌, ℕ, zero, suc, ◌+◌, ◌*◌, ◌^◌, ◌<◌, ◌≤◌, List, [], ◌∷◌, map, take, length, slice_index, slice_index_or, refl, sym, ap, subst, inl, inr, arith, ℤ, pos, negsuc, ◌≤ℤ◌, ◌<ℤ◌, nat_abs, Some}
+use Rattle.std.proofs.Common.{◌≡◌, ◌≢◌, ◌⊎◌, ℕ, zero, suc, ◌*◌, ◌^◌, ◌<◌, ◌≤◌, List, [], ◌∷◌, take, length, slice_index, slice_index_or, refl, sym, ap, subst, inl, inr, arith, ℤ, pos, negsuc, ◌≤ℤ◌, ◌<ℤ◌, nat_abs, Some}
 use Rattle.std.proofs.lemmas.Int.{ints}
 use Rattle.std.proofs.lemmas.List.Elements.{All-cons}
 use Rattle.std.proofs.lemmas.Nat.Gcd.{IsGcd-from_zero, IsGcd-from_mod}
 use Rattle.std.specs.Prelude.{All, Contains, IfSome}
 use Rattle.std.specs.Int.{IsGcd}
 use Rattle.maid_model.specs.declared.answers.Ratio.{Ratio}
-use Rattle.maid_model.specs.declared.answers.Row.{Row}
-use Rattle.maid_model.specs.Answers.{IsAnswer, IsAnswerAt, IsAnswerRow, IsBase, IsFirstBest, IsFraction, IsReduced, IsGains, FitsAnswer, FitsDiagram, no_row, rows_at, pure_profile}
+use Rattle.maid_model.specs.Answers.{IsAnswer, IsAnswerAt, IsAnswerRow, IsFraction, IsReduced, IsGains, FitsAnswer, FitsDiagram, no_row, rows_at, pure_profile}
 use Rattle.maid_model.specs.Gains.{gain_at, mass_at, gain_of, mass}
 use Rattle.maid_model.specs.Nodes.{IsDecision, node_at, states_of, parents_of, rows_of}
 use Rattle.maid_model.specs.declared.diagrams.Kind.TheVariants.{Chance, Decision, Utility}
@@ -19,7 +18,7 @@ use Rattle.maid_model.specs.Relevance.{ReliesOn}
 use Rattle.maid_model.specs.Subgames.{IsOptimal}
 use Rattle.maid_laws.specs.Examples.{trip, plan, trip_diagram, trip_answer}
 use Rattle.maid_laws.proofs.AnswerLaws.{optimal_law}
-use Rattle.maid_laws.proofs.Rules.{uniform_is_profile}
+use Rattle.maid_model.proofs.Uniform.{uniform_is_profile}
 use Rattle.maid_laws.proofs.Tied.{decision_of}
 use Rattle.maid_laws.proofs.Small.{trip_graph, trip_tables, only_outing, is_outing, none_relied}
 

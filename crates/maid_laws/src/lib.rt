@@ -14,7 +14,7 @@ pub use answers::{
     answers_are_best, answers_are_optimal, answers_are_subgame_perfect, worth_under_the_profile,
 };
 pub use examples::{a_pair, a_trip};
-pub use graphs::{descent_tested, parents_first_lists};
+pub use graphs::parents_first_lists;
 pub use irrelevance::{irrelevant_rules, mass_at_each_state};
 pub use separation::{separated_sums, separated_tables, walks_turn};
 pub use subgames::{exchange, later_decisions, one_agent};
