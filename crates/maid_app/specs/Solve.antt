@@ -1,11 +1,18 @@
 -- What `solve` writes for a file's bytes.
-use Rattle.std.specs.Prelude.{◌≡◌, ◌≢◌, ◌%◌, ℕ, List, length}
+use Rattle.std.specs.Prelude.{◌≡◌, ℕ, List}
+use Rattle.maid_model.specs.Answers.{IsAnswer}
+use Rattle.maid_model.specs.Reports.{report}
+use Rattle.maid_model.specs.Views.{SolvedView}
+use Rattle.net_build.specs.First.{Parts, IsFirst, diagram_of, names_of}
 
--- the bytes have that report
--- (A stand-in until diagrams are read: bytes of an even number are their own report.)
-abbrev pub Reports : List ℕ → List ℕ → Type 0
-Reports bytes report = (length bytes % 2 ≡ 0) × (report ≡ bytes)
+-- The bytes have that report: they are a text of the first shape, and the report is that of an answer of their diagram.
+pub record Reports (bytes printed : List ℕ) : Type 0 where
+  pub parts : Parts
+  pub is_first : IsFirst bytes parts
+  pub solved : SolvedView
+  pub is_answer : IsAnswer (diagram_of parts) solved
+  pub is_report : printed ≡ report (diagram_of parts) (names_of parts) solved
 
--- the program has no report of the bytes yet
+-- the program has no report of the bytes yet: they are no text of the first shape
 abbrev pub LacksReport : List ℕ → Type 0
-LacksReport bytes = length bytes % 2 ≢ 0
+LacksReport bytes = (parts : Parts) → IsFirst bytes parts → ⊥
