@@ -1,5 +1,5 @@
 -- The piece at the front of some bytes.
-use Rattle.std.proofs.Common.{◌≡◌, ◌+◌, ◌-◌, ◌<◌, ◌≤◌, ℕ, suc, List, [], ◌∷◌, ◌++◌, length, take, drop, get_or, true, false, Some, refl, ◌∙◌, arith, tests, length-append, length-drop, drop-drop}
+use Rattle.std.proofs.Common.{◌≡◌, ◌+◌, ◌-◌, ◌<◌, ◌≤◌, ℕ, suc, List, [], ◌∷◌, ◌++◌, length, take, drop, get_or, true, false, Some, refl, ◌∙◌, arith, length-append, length-drop, drop-drop}
 use Rattle.std.specs.List.{prefix_len}
 use Rattle.std.proofs.Math.Nat.{sub-zero}
 use Rattle.std.proofs.Math.Seq.{take-append_seam}
@@ -19,6 +19,7 @@ use Rattle.net_lexer.proofs.Prefix.{list_all-prefix, begins-prefix, begins-never
 use Rattle.net_lexer.proofs.Quotes.{closes}
 use Rattle.net_lexer.proofs.Runs.{run_starts, signed_is_no_name}
 
+-- the first n bytes, where they have a form and can't go on
 pub front_piece : (bytes : List ℕ) (kind : PieceKind) (n : ℕ) → 0 < n → n ≤ length bytes → is_piece kind (take n bytes) ≡ true → begins (goes_on_with kind (take n bytes)) (drop n bytes) ≡ false → IsPieceOf bytes (record { kind = kind; start = 0; end = n })
 front_piece bytes kind n some within form whole = record { some = some; within = within; form = rw sub-zero form; whole = rw sub-zero whole }
 
@@ -32,12 +33,14 @@ piece_behind text place n kind le is =
     let whole = rw (sub-zero, drop-drop n place text) at is.whole in
     record { some = omega arith; within = omega arith; form = rw len form; whole = rw len whole }
 
+-- from a percent sign to the end of the line
 pub comment_piece : (bytes : List ℕ) (n : ℕ) → 0 < length bytes → is_percent (get_or bytes 0 0) ≡ true → n ≡ prefix_len is_line_byte bytes → IsPieceOf bytes (record { kind = Comment; start = 0; end = n })
 comment_piece [] n h e is = absurd (omega arith)
 comment_piece (b ∷ bs) n h e is =
     let len : n ≡ suc (prefix_len is_line_byte bs) = is ∙ prefix_len-yes is_line_byte b bs (percent_is b e).1 in
     front_piece (b ∷ bs) Comment n (omega arith) (omega (arith, prefix_len-le-length is_line_byte bs)) (rw (len, e) (list_all-prefix is_line_byte bs)) (rw len (begins-prefix is_line_byte bs))
 
+-- a name, as long as it can be
 pub name_piece : (bytes : List ℕ) (n : ℕ) → 0 < length bytes → is_word_start (get_or bytes 0 0) ≡ true → n ≡ prefix_len is_word_byte bytes → IsPieceOf bytes (record { kind = pieces.Token kinds.Word; start = 0; end = n })
 name_piece [] n h e is = absurd (omega arith)
 name_piece (b ∷ bs) n h e is =
@@ -55,12 +58,14 @@ string_before b front rest e ends =
       rw len (front_piece (b ∷ (front ++ rest)) (pieces.Token kinds.Text) (suc (length front)) (omega arith) (omega arith) form (begins-never (drop (length front) (front ++ rest)))),
     )
 
+-- a string whose end is found
 pub string_piece : (bytes rest : List ℕ) → 0 < length bytes → is_quote (get_or bytes 0 0) ≡ true → behind_quote (drop 1 bytes) ≡ Some rest → (length rest ≤ length bytes) × IsPieceOf bytes (record { kind = pieces.Token kinds.Text; start = 0; end = length bytes - length rest })
 string_piece [] rest h e is = absurd (omega arith)
 string_piece (b ∷ bs) rest h e is =
     let closed = closes bs rest is in
     rw closed.parts (string_before b closed.front rest e closed.ends)
 
+-- a run has a byte or more
 run_some : (bytes : List ℕ) → 0 < length bytes → is_run_start (get_or bytes 0 0) ≡ true → 0 < prefix_len is_run_byte bytes
 run_some [] h e = h
 run_some (b ∷ bs) h e = omega (arith, prefix_len-yes is_run_byte b bs (run_starts b e))

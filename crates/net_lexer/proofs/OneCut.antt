@@ -17,12 +17,15 @@ Stuck text place = IsStuck (start_of (drop place text))
 no_piece : (text : List ℕ) (p : Piece) (place : ℕ) → IsPieceOf text p → p.start ≡ place → Stuck text place → ⊥
 no_piece text p place is at stuck = rw (← at, piece_start text p is) at stuck
 
+-- a piece by its parts
 abbrev piece_of : PieceKind → ℕ → ℕ → Piece
 piece_of kind start end = record { kind = kind; start = start; end = end }
 
+-- pieces with the same parts are one
 same_fields : (kind other : PieceKind) (start start' end end' : ℕ) → kind ≡ other → start ≡ start' → end ≡ end' → piece_of kind start end ≡ piece_of other start' end'
 same_fields kind other start start' end end' e f g = cc
 
+-- what some bytes begin with is one piece
 same_start : (k l : PieceKind) (m n : ℕ) → piece k m ≡ piece l n → (k ≡ l) × (m ≡ n)
 same_start k l m n e = (cc, cc)
 
@@ -46,17 +49,21 @@ same_way text from (p ∷ ps) (q ∷ qs) to other lead lead' stuck stuck' =
     let more = same_way text p.end ps qs to other lead.2 rest stuck stuck' in
     (cc (same, more.0), more.1)
 
+-- no piece begins at the end
 at_end : (text : List ℕ) → Stuck text (length text)
 at_end text = rw drop-length tt
 
+-- no piece begins at a fault
 at_fault : (text : List ℕ) (place : ℕ) (fault : LexFault) → IsFaultAt place (drop place text) fault → Stuck text place
 at_fault text place fault is = (fault_start place (drop place text) fault is).1
 
+-- both lists are read off the same pieces
 pub one_list : OneList
 one_list text tokens others is is' =
     let same = same_way text 0 is.pieces is'.pieces (length text) (length text) is.lead is'.lead (at_end text) (at_end text) in
     is.among ∙ ap (filter_map token_of) same.0 ∙ sym is'.among
 
+-- both faults are what stands behind the same pieces
 pub one_fault : OneFault
 one_fault text fault other is is' =
     let same = same_way text 0 is.pieces is'.pieces is.place is'.place is.lead is'.lead (at_fault text is.place fault is.found) (at_fault text is'.place other is'.found) in
@@ -64,6 +71,7 @@ one_fault text fault other is is' =
     let second = (fault_start is'.place (drop is'.place text) other is'.found).0 in
     first ∙ ap (λ place. fault_of place (start_of (drop place text))) same.1 ∙ sym second
 
+-- the same pieces can't lead to the end and to a place before it
 pub exclusive : Exclusive
 exclusive text tokens fault is is' =
     let same = same_way text 0 is.pieces is'.pieces (length text) is'.place is.lead is'.lead (at_end text) (at_fault text is'.place fault is'.found) in

@@ -10,6 +10,7 @@ pub record Closes (bytes rest : List ℕ) : Type 0 where
   pub ends : behind_quote front ≡ Some []
 
 module _ (b c : ℕ) (bytes rest : List ℕ) where
+  -- an escape before the quote
   behind_escape : is_quote b ≡ false → is_escape b c ≡ true → Closes bytes rest → Closes (b ∷ c ∷ bytes) rest
   behind_escape q e closes = record {
     front = b ∷ c ∷ closes.front;
@@ -17,6 +18,7 @@ module _ (b c : ℕ) (bytes rest : List ℕ) where
     ends = rw (q, e) closes.ends;
   }
 
+  -- a byte before the quote
   behind_byte : is_quote b ≡ false → is_escape b c ≡ false → (front : List ℕ) → c ∷ bytes ≡ front ++ rest → behind_quote front ≡ Some [] → Closes (b ∷ c ∷ bytes) rest
   behind_byte q e [] parts ends = cc
   behind_byte q e (d ∷ front) parts ends = let same : c ≡ d = cc in record {
@@ -25,6 +27,7 @@ module _ (b c : ℕ) (bytes rest : List ℕ) where
     ends = rw (q, rw same at e) ends;
   }
 
+  -- two bytes or more, by the first two
   two : (q e : Bool) → is_quote b ≡ q → is_escape b c ≡ e → (behind_quote bytes ≡ Some rest → Closes bytes rest) → (behind_quote (c ∷ bytes) ≡ Some rest → Closes (c ∷ bytes) rest) → behind_quote (b ∷ c ∷ bytes) ≡ Some rest → Closes (b ∷ c ∷ bytes) rest
   two true e q_is e_is short long h =
       let one : Some (c ∷ bytes) ≡ Some rest = rw q_is at h in
@@ -34,6 +37,7 @@ module _ (b c : ℕ) (bytes rest : List ℕ) where
       let closes = long (rw (q_is, e_is) at h) in
       behind_byte q_is e_is closes.front closes.parts closes.ends
 
+-- where the quote is found, the bytes up to it end with it
 pub closes : (bytes rest : List ℕ) → behind_quote bytes ≡ Some rest → Closes bytes rest
 closes [] rest h = cc
 closes (b ∷ []) rest h = one (is_quote b) refl h where

@@ -18,6 +18,7 @@ run_starts b e = run_byte (is_word_start b) (is_digit b) (is_one_of (codes "+-."
   run_byte true digit sign e = refl
   run_byte false digit sign e = e
 
+-- a run may go on with the bytes of a word
 pub word_runs : (b : ℕ) → is_word_byte b ≡ true → is_run_byte b ≡ true
 word_runs b e = or_left (is_word_byte b) _ e
 
@@ -25,24 +26,31 @@ word_runs b e = or_left (is_word_byte b) _ e
 abbrev is_decimal_byte : ℕ → Bool
 is_decimal_byte b = is_digit b || is_point b
 
+-- a digit or a point begins a run
 decimal_starts : (b : ℕ) → is_decimal_byte b ≡ true → is_run_start b ≡ true
 decimal_starts b e = grind (arith, tests)
 
+-- and a run may go on with it
 decimal_runs : (b : ℕ) → is_decimal_byte b ≡ true → is_run_byte b ≡ true
 decimal_runs b e = run_starts b (decimal_starts b e)
 
+-- a run may go on with a digit
 digit_runs : (b : ℕ) → is_digit b ≡ true → is_run_byte b ≡ true
 digit_runs b e = run_starts b (or_left (is_digit b) _ e)
 
+-- and with an e or E
 mark_runs : (b : ℕ) → is_exponent_mark b ≡ true → is_run_byte b ≡ true
 mark_runs b e = grind (arith, tests)
 
+-- a sign begins a run
 pub sign_starts : (b : ℕ) → is_sign b ≡ true → is_run_start b ≡ true
 sign_starts b e = grind (arith, tests)
 
+-- a sign begins no name
 pub sign_is_no_word : (b : ℕ) → is_sign b ≡ true → is_word_start b ≡ false
 sign_is_no_word b e = grind (arith, tests)
 
+-- the start of a name is no byte of a decimal
 decimal_is_no_word : (b : ℕ) → is_word_start b ≡ true → is_decimal_byte b ≡ false
 decimal_is_no_word b e = grind (arith, tests)
 
@@ -57,6 +65,7 @@ decimal_bytes bytes e =
     first [] all some = cc
     first (b ∷ bs) all some = (and_parts (is_decimal_byte b) _ all).0
 
+-- the first byte of a front is the first byte
 begins-take : (p : ℕ → Bool) (m : ℕ) (bytes : List ℕ) → begins p (take m bytes) ≡ true → begins p bytes ≡ true
 begins-take p zero bytes e = cc
 begins-take p (suc m) [] e = e
@@ -70,6 +79,7 @@ unsigned_bytes (b ∷ bs) e = by_sign (is_sign b) refl e where
   by_sign true is e = rw (run_starts b (sign_starts b is)) (list_all-weaker is_digit is_run_byte digit_runs bs (and_parts _ _ e).0)
   by_sign false is e = list_all-weaker is_digit is_run_byte digit_runs (b ∷ bs) (and_parts _ _ e).0
 
+-- a numeral without its sign is of the bytes of a run, and begins with a byte of a decimal
 scaled_bytes : (bytes : List ℕ) → is_scaled bytes ≡ true → (list_all is_run_byte bytes ≡ true) × (begins is_decimal_byte bytes ≡ true)
 scaled_bytes bytes e = by_mark (position is_exponent_mark bytes) refl e where
   by_mark : (o : Option ℕ) → position is_exponent_mark bytes ≡ o → is_scaled bytes ≡ true → (list_all is_run_byte bytes ≡ true) × (begins is_decimal_byte bytes ≡ true)
@@ -92,6 +102,7 @@ numeral_bytes (b ∷ bs) e = by_sign (is_sign b) refl e where
   by_sign true is e = (sign_starts b is, rw (run_starts b (sign_starts b is)) (scaled_bytes bs e).0)
   by_sign false is e = (decimal_starts b (scaled_bytes (b ∷ bs) e).1, (scaled_bytes (b ∷ bs) e).0)
 
+-- no bytes are a name
 unsigned : is_name [] ≡ true → ⊥
 unsigned e = cc
 
@@ -105,10 +116,12 @@ signed_bytes (b ∷ c ∷ bs) e =
     let starts = sign_starts b parts.0 in
     (starts, rw (run_starts b starts, word_runs c (or_left (is_word_start c) _ word.0)) (list_all-weaker is_word_byte is_run_byte word_runs bs word.1))
 
+-- a signed word begins with a sign, and so is no name
 pub signed_is_no_name : (bytes : List ℕ) → is_signed bytes ≡ true → is_name bytes ≡ false
 signed_is_no_name [] e = refl
 signed_is_no_name (b ∷ bytes) e = rw (sign_is_no_word b (and_parts (is_sign b) (is_name bytes) e).0) refl
 
+-- nor a numeral, since the start of a name stands behind its sign
 pub signed_is_no_numeral : (bytes : List ℕ) → is_signed bytes ≡ true → is_numeral bytes ≡ false
 signed_is_no_numeral [] e = cc
 signed_is_no_numeral (b ∷ []) e = absurd (unsigned (and_parts (is_sign b) _ e).1)

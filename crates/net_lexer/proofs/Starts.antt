@@ -10,7 +10,7 @@ use Rattle.net_lexer.specs.Bytes.{is_white, is_percent, is_quote, is_line_byte, 
 use Rattle.net_lexer.specs.Numerals.{is_numeral}
 use Rattle.net_lexer.specs.Strings.{is_string, behind_quote}
 use Rattle.net_lexer.specs.Token.{is_name, is_signed, is_token}
-use Rattle.net_lexer.specs.Pieces.{is_piece, goes_on_with, begins, is_bad_byte, IsPieceOf, IsFaultAt}
+use Rattle.net_lexer.specs.Pieces.{is_piece, goes_on_with, begins, IsPieceOf, IsFaultAt}
 use Rattle.net_lexer.specs.declared.tokens.TokenKind.TheVariants as kinds
 use Rattle.net_lexer.specs.declared.tokens.TokenKind.{TokenKind}
 use Rattle.net_lexer.specs.declared.tokens.LexFault.{LexFault}
@@ -32,15 +32,18 @@ pub data Start : Type 0 where
   bad_numeral : Start
   ended : Start
 
+-- a string, by what stands behind its end
 abbrev pub string_start : ℕ → Option (List ℕ) → Start
 string_start total None = open_string
 string_start total (Some rest) = piece (pieces.Token kinds.Text) (total - length rest)
 
+-- a run, by whether it is a numeral and whether it is a signed word
 abbrev pub run_start : ℕ → Bool → Bool → Start
 run_start n true signed = piece (pieces.Token kinds.Number) n
 run_start n false true = piece (pieces.Token kinds.Word) n
 run_start n false false = bad_numeral
 
+-- a punctuation, or a bad byte
 abbrev pub mark_start : ℕ → Start
 mark_start b = if b == 123 then piece (pieces.Token kinds.BraceOpen) 1 else (
     if b == 125 then piece (pieces.Token kinds.BraceClose) 1 else (
@@ -54,14 +57,17 @@ mark_start b = if b == 123 then piece (pieces.Token kinds.BraceOpen) 1 else (
 pub run_of : List ℕ → Start
 run_of bytes = let n = prefix_len is_run_byte bytes in run_start n (is_numeral (take n bytes)) (is_signed (take n bytes))
 
+-- a run with what stands behind it
 run_of-append : (run after : List ℕ) → list_all is_run_byte run ≡ true → begins is_run_byte after ≡ false → run_of (run ++ after) ≡ run_start (length run) (is_numeral run) (is_signed run)
 unfolding run_of
 run_of-append run after all stops = rw (prefix_len-whole is_run_byte run after all stops, take-append_seam) refl
 
+-- a run that is neither
 run_of-bad : (bytes : List ℕ) → is_numeral (take (prefix_len is_run_byte bytes) bytes) ≡ false → is_signed (take (prefix_len is_run_byte bytes) bytes) ≡ false → run_of bytes ≡ bad_numeral
 unfolding run_of
 run_of-bad bytes number signed = rw (number, signed) refl
 
+-- by the first byte
 abbrev pub start_of : List ℕ → Start
 start_of [] = ended
 start_of (b ∷ bs) = if is_white b then piece Blank 1 else (
@@ -70,10 +76,11 @@ start_of (b ∷ bs) = if is_white b then piece Blank 1 else (
     if is_word_start b then piece (pieces.Token kinds.Word) (prefix_len is_word_byte (b ∷ bs)) else (
     if is_run_start b then run_of (b ∷ bs) else mark_start b))))
 
+-- a byte that is no punctuation
 no_mark : (b : ℕ) → is_punctuation b ≡ false → mark_start b ≡ bad_byte
 no_mark b e = grind (arith, tests)
 
--- a run with what stands behind it
+-- the same, by the run's first byte
 run_front : (b : ℕ) (bs after : List ℕ) → is_run_start b ≡ true → list_all is_run_byte (b ∷ bs) ≡ true → begins is_run_byte after ≡ false → start_of (b ∷ (bs ++ after)) ≡ run_start (suc (length bs)) (is_numeral (b ∷ bs)) (is_signed (b ∷ bs))
 run_front b bs after starts all stops =
     let first = run_is b starts in
@@ -82,6 +89,7 @@ run_front b bs after starts all stops =
 
 -- each piece is what its bytes begin with, whatever stands behind it
 module _ (after : List ℕ) where
+  -- the bytes begin with all of these
   abbrev Begun : PieceKind → List ℕ → Type 0
   Begun kind bytes = start_of (bytes ++ after) ≡ piece kind (length bytes)
 
@@ -179,10 +187,12 @@ fault_of place bad_numeral = BadNumeral place
 fault_of place ended = NoMemory
 fault_of place (piece kind n) = NoMemory
 
+-- it is no piece
 abbrev pub IsStuck : Start → Type 0
 IsStuck (piece kind n) = ⊥
 IsStuck start = Unit {0}
 
+-- each fault is what its bytes begin with
 pub fault_start : (place : ℕ) (bytes : List ℕ) (fault : LexFault) → IsFaultAt place bytes fault → (fault ≡ fault_of place (start_of bytes)) × IsStuck (start_of bytes)
 fault_start place [] (BadByte at) is = absurd (cc (is.1))
 fault_start place (b ∷ bs) (BadByte at) is =

@@ -9,7 +9,7 @@ use Rattle.net_lexer.specs.declared.tokens.LexFault.{LexFault}
 abbrev pub Covered : Type 0
 Covered = (text : List ℕ) → ((tokens : List Token) × IsTokens text tokens) ⊎ ((fault : LexFault) × IsFault text fault)
 
--- and never both
+-- no text has both a token list and a fault
 abbrev pub Exclusive : Type 0
 Exclusive = (text : List ℕ) (tokens : List Token) (fault : LexFault) → IsTokens text tokens → IsFault text fault → ⊥
 

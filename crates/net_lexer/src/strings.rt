@@ -24,7 +24,7 @@ pub fn behind_quote(bytes: &[u8]) -> Option<&[u8]>
     }
 }
 
-// The first byte that is meant, and what stands behind its escape or itself.
+// The first byte that the bytes mean, and what stands behind it or its escape.
 fn first_meant(bytes: &[u8]) -> Option<(u8, &[u8])>
     ensures meant { MatchOption result (bytes.now ≡ []) (λ p. unescaped bytes.now ≡ p.0 ∷ unescaped p.1.now) }
     ensures shorter { MatchOption result (bytes.now ≡ []) (λ p. length p.1.now < length bytes.now) }
@@ -48,10 +48,9 @@ fn unescaped(alloc: Global, bytes: &[u8]) -> Result<Vec<u8>, AllocError>
     Ok(value)
 }
 
-/// What a string means: the bytes between its quotes, with each escaped quote and backslash
-/// without its backslash.
+/// What a string means: the bytes between its quotes with escapes undone.
 ///
-/// Its cost is linear in the token's length.
+/// The token is a `Text` token of the text. The cost is linear in the token's length.
 pub fn text_value(alloc: Global, text: &[u8], token: &Token) -> Result<Vec<u8>, AllocError>
     requires token { IsTokenOf text.now token.now }
     requires string { token.now.kind ≡ Text }
