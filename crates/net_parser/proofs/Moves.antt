@@ -10,7 +10,7 @@ use Rattle.net_parser.specs.Trees.{ValueTree, ValueTrees, leaf, list, none, more
 use Rattle.net_parser.specs.Lexemes.{Lexeme, is_leaf}
 use Rattle.net_parser.specs.Grammar.{Rule, Empty, ◌▹◌, Each, Mark, Word, Name, Value, Values, AttributeName, Attribute, Given, IsModelName}
 use Rattle.net_parser.specs.Reading.{Symbol, mark, name, node_word, attribute_name, attributes, value, values, given, names, next, node_kind, may_name, is_model_name, same_kind}
-use Rattle.net_parser.proofs.Tests.{same_kind-refl, same_kind-true, is_model_name-true, is_model_name-is, may_name-true, may_name-free, may_name-other}
+use Rattle.net_parser.proofs.Telling.{same_kind-refl, same_kind-true, is_model_name-true, is_model_name-is, may_name-true, may_name-free, may_name-other}
 
 -- what may stand in the place of a symbol
 abbrev pub Lang : Symbol → Rule

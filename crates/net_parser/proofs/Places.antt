@@ -16,7 +16,7 @@ use Rattle.net_parser.specs.Lexemes.{Lexeme, IsWord}
 use Rattle.net_parser.specs.Grammar.{Empty, ◌▹◌, Either, Each, Mark, Word, Name, Value, Values, Attribute, NodeHead, Head, Block, Text, Given, is_potential}
 use Rattle.net_parser.specs.Faults.{IsText}
 use Rattle.net_parser.specs.Reading.{Symbol, mark, name, node_word, attribute_name, attributes, value, values, given, names, next, node_kind, net_rest, node_rest, potential_rest, block_word, block_token, Place, start, within, step, stop, stop_at_end, refusal}
-use Rattle.net_parser.proofs.Tests.{word_is}
+use Rattle.net_parser.proofs.Telling.{word_is}
 use Rattle.net_parser.proofs.Moves.{Lang, Langs, Onward, forth, back, begun}
 
 -- what may stand where these are still to come, and then blocks

@@ -11,7 +11,7 @@ use Rattle.net_parser.specs.Lexemes.{Lexeme, IsMark, IsWord, IsName, is_leaf}
 use Rattle.net_parser.specs.Grammar.{IsModelName}
 use Rattle.net_parser.specs.Faults.{IsForeignWord}
 use Rattle.net_parser.specs.Reading.{Symbol, mark, name, node_word, attribute_name, attributes, value, values, given, names, next, is_foreign, is_model_name, may_name, Place, start, within, step, refusal, refusal_at, block_refusal}
-use Rattle.net_parser.proofs.Tests.{word_is, either, is_model_name-true, is_model_name-is, may_name-other}
+use Rattle.net_parser.proofs.Telling.{word_is, either, is_model_name-true, is_model_name-is, may_name-other}
 use Rattle.net_parser.proofs.Places.{Rest, symbol_some, lexeme}
 
 -- something may come behind the token there

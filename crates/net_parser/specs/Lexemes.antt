@@ -11,8 +11,11 @@ pub record Lexeme : Type 0 where
   pub bytes : List ℕ
 
 -- the tokens of a text, each with its bytes
+abbrev pub lexeme_of : List ℕ → Token → Lexeme
+lexeme_of text token = record { token = token; bytes = token_bytes text token }
+
 abbrev pub lexemes : List ℕ → List Token → List Lexeme
-lexemes text tokens = map (λ t. record { token = t; bytes = token_bytes text t }) tokens
+lexemes text tokens = map (lexeme_of text) tokens
 
 abbrev pub IsMark : TokenKind → Lexeme → Type 0
 IsMark kind l = l.token.kind ≡ kind

@@ -3,6 +3,7 @@ pub mod Lexemes
 pub mod Grammar
 pub mod Faults
 pub mod Laws
+pub mod Owned
 pub mod Views
 pub mod TreeCode
 pub mod Reading

@@ -1,4 +1,4 @@
-//! Blocks of a text.
+//! The rules of blocks.
 
 ghost use Rattle.std.specs.Prelude.{◌≡◌, ◌<◌, ◌+◌, [], ◌∷◌, ◌++◌, List, length, IfOk, OnOk};
 ghost use Rattle.net_lexer.specs.declared.tokens.Token.{Token};
@@ -16,7 +16,8 @@ use std::alloc::Global;
 /// How many lists of a value may stand in one another.
 const NESTING: u8 = 32;
 
-impl<'a> Reader<'a> {
+impl Reader<'_> {
+    /// Reads `NAME = VALUE ;`.
     fn attribute(&mut self, alloc: Global, potential: bool) -> Result<Attribute, Stop>
         ensures rule { IfOk result (λ attribute. grammar.Attribute potential attribute self.old self.new) }
         ensures follows { Follows (attribute_name potential ∷ mark Equals ∷ value 32 ∷ mark Semicolon ∷ [])
@@ -30,6 +31,7 @@ impl<'a> Reader<'a> {
         Ok(Attribute { name, value })
     }
 
+    /// Reads `{`, attributes and `}`.
     fn body(&mut self, alloc: Global, potential: bool) -> Result<Vec<Attribute>, Stop>
         ensures rule { IfOk result (λ all. grammar.Body potential all.items self.old self.new) }
         ensures follows { Follows (mark BraceOpen ∷ attributes potential ∷ []) result self.old self.new }
@@ -44,6 +46,8 @@ impl<'a> Reader<'a> {
         Ok(attributes)
     }
 
+    /// Reads what stands behind a potential's first name, up to `)`: nothing, or a bar and names.
+    /// They are added to the names.
     fn given_names(&mut self, mut names: Vec<Token>) -> Result<Vec<Token>, Stop>
         ensures rule { IfOk result (λ all. (given : List Token)
             × (all.items ≡ names.items ++ given) × (Given given ▹ Mark ParenClose) self.old self.new) }
@@ -61,6 +65,7 @@ impl<'a> Reader<'a> {
         Ok(names)
     }
 
+    /// Reads the names of a potential in their parentheses.
     fn potential_names(&mut self, alloc: Global) -> Result<Vec<Token>, Stop>
         ensures rule { IfOk result (λ all. PotentialNames all.items self.old self.new) }
         ensures follows { Follows (mark ParenOpen ∷ name ∷ given ∷ []) result self.old self.new }
@@ -72,6 +77,7 @@ impl<'a> Reader<'a> {
         self.given_names(names)
     }
 
+    /// Reads the name of a node block.
     fn node_names(&mut self, alloc: Global) -> Result<Vec<Token>, Stop>
         ensures rule { IfOk result (λ all. NodeNames all.items self.old self.new) }
         ensures follows { Follows (name ∷ []) result self.old self.new }
@@ -81,6 +87,7 @@ impl<'a> Reader<'a> {
         Ok(vec![in alloc; title]?)
     }
 
+    /// Reads what stands before a block's body. `net` may only begin the first block.
     fn head(&mut self, alloc: Global, first: bool) -> Result<(BlockKind, Vec<Token>), Stop>
         requires { 0 < length self.old }
         ensures rule { IfOk result (λ head. Head first head.0 head.1.items self.old self.new) }
@@ -106,6 +113,7 @@ impl<'a> Reader<'a> {
         }
     }
 
+    /// Reads a block, which may be the text's first.
     fn block(&mut self, alloc: Global, first: bool) -> Result<Block, Stop>
         requires { 0 < length self.old }
         ensures rule { IfOk result (λ block. grammar.Block first block self.old self.new) }

@@ -1,9 +1,10 @@
 //! From tokens to the tree, or to the first impossible token.
 
-ghost use Rattle.std.specs.Prelude.{IfOk, IfErr};
+ghost use Rattle.std.specs.Prelude.{All, IfOk, IfErr};
 ghost use Rattle.net_lexer.specs.Pieces.{IsTokens};
 ghost use Rattle.net_parser.specs.Lexemes.{lexemes};
 ghost use Rattle.net_parser.specs.Grammar.{Spells};
+ghost use Rattle.net_parser.specs.Owned.{IsBlockOf};
 ghost use Rattle.net_parser.specs.Faults.{Refuses};
 
 use crate::Syntax;
@@ -12,17 +13,18 @@ use net_lexer::{Tokens, tokens_stand_in_their_text};
 use std::alloc::Global;
 use thiserror::Error;
 
-/// Why tokens spell no tree, and the place of the first token that shows it; or the text's length,
-/// where the text ends too early.
+/// Why tokens spell no tree, and where the first impossible one begins. Where the text ends too
+/// early the place is its length.
 #[derive(Clone, Copy, Debug, PartialEq, Eq, Error)]
 pub enum ParseFault {
-    /// No text of the grammar has this token here.
+    /// No text of the grammar has the token there, or ends there.
     #[error("unexpected at {at}")]
     Unexpected { at: usize },
-    /// The token begins what other tools read here and this one doesn't.
+    /// The word begins a kind of block, or names an attribute of a potential, that other tools
+    /// read and this one doesn't.
     #[error("unsupported at {at}")]
     Unsupported { at: usize },
-    /// The parenthesis would open a 33rd list inside lists of one value.
+    /// The parenthesis would open the 33rd list inside lists of one value.
     #[error("too deep at {at}")]
     TooDeep { at: usize },
     /// Memory ran out, which says nothing of the text.
@@ -30,12 +32,18 @@ pub enum ParseFault {
     NoMemory,
 }
 
-/// The tree that the tokens of the text spell, or their first impossible token.
+/// The tree that the tokens of the text spell, or their first impossible token. Reading is linear
+/// in the tokens, and takes memory for the tree alone.
 pub fn parse(alloc: Global, text: &[u8], tokens: &Tokens) -> Result<Syntax, ParseFault>
     requires { IsTokens text.now tokens.now }
+    // The tree is spelled by the tokens, each of them.
     ensures tree { IfOk result (λ syntax. Spells syntax (lexemes text.now tokens.now)) }
+    // Its tokens are those of the text, with as many names as the kind of block asks for.
+    ensures blocks { IfOk result (λ syntax. All (IsBlockOf text.now) syntax) }
+    // The first impossible token, or the text's end. Want of memory says nothing of the text.
     ensures fault { IfErr result (Refuses text.now tokens.now) }
 {
+    // Each token has its bytes in the text.
     tokens_stand_in_their_text();
     let mut reader = Reader::new(text, tokens.list());
     match reader.text(alloc) {

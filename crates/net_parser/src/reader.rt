@@ -1,4 +1,8 @@
 //! A reader over the tokens of a text.
+//!
+//! Each rule of the grammar is read by a method: on `Ok` it has gone past the tokens that spell what
+//! it answers, and on `Err` it stands before the first impossible token. `terminals` has the rules
+//! of one token, `values` and `blocks` those made of others.
 
 ghost use Rattle.std.specs.Prelude.{◌≡◌, ◌<◌, [], ◌∷◌, length, drop, All, IfSome, IfNone, IsTrue};
 ghost use Rattle.net_lexer.specs.Token.{IsTokenOf, is_token};
@@ -12,7 +16,7 @@ use std::alloc::{AllocError, AllocFailed};
 use std::marker::Model;
 
 /// Why a rule can't be read on from the next token.
-#[derive(Clone, Copy, Debug, PartialEq, Eq)]
+#[derive(Clone, Copy)]
 pub enum Stop {
     Unexpected,
     Unsupported,

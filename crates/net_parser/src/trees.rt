@@ -1,15 +1,21 @@
-//! The tree of a text.
+//! The tree of a text. Contracts see it as the records of plain lists of `specs/Trees.antt`.
 
 use net_lexer::Token;
 use std::marker::Model;
 
-/// What a block's first words say.
+/// What a block is.
 #[derive(Clone, Copy, Debug, PartialEq, Eq)]
 pub enum BlockKind {
+    /// What is said of the whole diagram. It has no names, and only the first block may be it.
     Net,
+    /// A chance node, named by the one name.
     Node,
+    /// A decision, named by the one name.
     Decision,
+    /// A utility, named by the one name.
     Utility,
+    /// A table or the parents of a node: the first name is that node's, and the others are the
+    /// nodes behind the bar.
     Potential,
 }
 
@@ -24,14 +30,14 @@ impl BlockKind {
     }
 }
 
-/// An attribute's value.
+/// An attribute's value: a string, a numeral or a word, or a list of values in parentheses.
 #[derive(Debug, Drop)]
 pub enum Value {
     Leaf(Token),
     List(Vec<Value>),
 }
 
-/// A name and its value.
+/// An attribute of a block, with the token of its name.
 #[derive(Debug, Drop)]
 pub struct Attribute {
     pub name: Token,
@@ -51,7 +57,7 @@ impl Model for Attribute {
     ghost view = { λ a. record { name = a.name; value = value_tree a.value } };
 }
 
-/// A block with the tokens of its names. A potential's first name is its head.
+/// A block, with the tokens of its names.
 #[derive(Debug, Drop)]
 pub struct Block {
     pub kind: BlockKind,
@@ -70,7 +76,7 @@ impl Model for Block {
     ghost view = { λ b. record { kind = b.kind; names = b.names.items; attributes = b.attributes.items } };
 }
 
-/// The blocks of a text in order.
+/// The tree of a text: its blocks in order.
 #[derive(Debug, Drop)]
 pub struct Syntax {
     pub blocks: Vec<Block>,

@@ -1,4 +1,4 @@
-//! Values of attributes.
+//! The rules of an attribute's value.
 
 ghost use Rattle.std.specs.Prelude.{◌≡◌, ◌<◌, ◌+◌, [], ◌∷◌, map, length, IfOk, OnOk};
 ghost use Rattle.net_lexer.specs.declared.tokens.TokenKind.TheVariants.{ParenClose};
@@ -12,7 +12,7 @@ use crate::reader::{Reader, Stop};
 use net_lexer::TokenKind;
 use std::alloc::Global;
 
-impl<'a> Reader<'a> {
+impl Reader<'_> {
     /// Reads a value in which so many lists may stand in one another.
     #[cycle(value)]
     pub fn value(&mut self, alloc: Global, depth: u8) -> Result<Value, Stop>

@@ -1,4 +1,4 @@
-//! Rules of one token.
+//! The rules of one token.
 
 ghost use Rattle.std.specs.Prelude.{◌≡◌, ◌<◌, [], ◌∷◌, length, IfOk, OnOk};
 ghost use Rattle.std.specs.Bool.{OnTrue, OnFalse};
@@ -10,7 +10,7 @@ use crate::reader::{Reader, Stop};
 use crate::words::{BlockWord, block_word, is_foreign, is_model_name, is_name, node_kind};
 use net_lexer::{Token, TokenKind};
 
-impl<'a> Reader<'a> {
+impl Reader<'_> {
     /// Goes past the next token if it is of that kind.
     pub fn accept(&mut self, kind: TokenKind) -> bool
         ensures test { result ≡ is_next kind self.old }

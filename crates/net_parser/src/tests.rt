@@ -1,0 +1,91 @@
+use super::*;
+use net_lexer::lex;
+use std::alloc::Global;
+use std::test::Fail;
+
+// The blocks of a text, each by its kind and how many names and attributes it has; or its fault.
+fn outline(alloc: Global, text: &str) -> Result<String, Fail> {
+    let tokens = lex(alloc, text.as_bytes())?;
+    let syntax = match parse(alloc, text.as_bytes(), &tokens) {
+        Ok(syntax) => syntax,
+        Err(fault) => return Ok(format!(in alloc; "{fault}")?),
+    };
+    let mut outline = String::new(alloc);
+    for block in &syntax.blocks {
+        let kind = block.kind;
+        let names = block.names.len();
+        let attributes = block.attributes.len();
+        let part = format!(in alloc; "{kind:?} {names} {attributes};")?;
+        outline.push_str(part.as_str())?;
+    }
+    Ok(outline)
+}
+
+// A block with so many lists in one another.
+fn nested(alloc: Global, depth: usize) -> Result<String, Fail> {
+    let mut text = String::from_str(alloc, "node A{a=")?;
+    for _ in 0..depth {
+        text.push_str("(")?;
+    }
+    for _ in 0..depth {
+        text.push_str(")")?;
+    }
+    text.push_str(";}")?;
+    Ok(text)
+}
+
+#[test]
+fn texts_have_their_blocks(rt: HostRuntime) -> Result<(), Fail> {
+    let alloc = rt.alloc();
+    for (text, blocks) in [
+        ("", ""),
+        ("net{a=1;}", "Net 0 1;"),
+        (
+            "net{} discrete node A{states=(\"x\"\"y\");} decision D{} utility U{a=b;c=-d;}",
+            "Net 0 0;Node 1 1;Decision 1 0;Utility 1 2;",
+        ),
+        (
+            "potential(U|A D){data=((1 2)(3));}potential(A){}",
+            "Potential 3 1;Potential 1 0;",
+        ),
+        ("potential(A |){}", "Potential 1 0;"),
+        ("node A{states=();}", "Node 1 1;"),
+        ("node net{node=node;}", "Node 1 1;"),
+        (
+            "node A{model_data=1;}potential(model_data){a=model_data;}",
+            "Node 1 1;Potential 1 1;",
+        ),
+        ("net", "unexpected at 3"),
+        ("node A{} net{}", "unexpected at 9"),
+        ("net{a=1}", "unexpected at 7"),
+        ("net{} net{}", "unexpected at 6"),
+        ("net{}x", "unexpected at 5"),
+        ("node A{data=;}", "unexpected at 12"),
+        ("node A{a=1 2;}", "unexpected at 11"),
+        ("node A{a=(;)}", "unexpected at 10"),
+        ("node A{a=1;", "unexpected at 11"),
+        ("node -A{}", "unexpected at 5"),
+        ("potential(A|B|C){}", "unexpected at 13"),
+        ("potential(){}", "unexpected at 10"),
+        ("potential(A B){}", "unexpected at 12"),
+        ("discrete potential(A){}", "unexpected at 9"),
+        ("discrete class C{}", "unexpected at 9"),
+        ("discrete function F{}", "unsupported at 9"),
+        ("function F{}", "unsupported at 0"),
+        ("continuous node A{}", "unsupported at 0"),
+        ("node A{} class C{}", "unsupported at 9"),
+        ("net{} instance I{}", "unsupported at 6"),
+        ("potential(A){model_data=1;}", "unsupported at 13"),
+        ("potential(A){a=1;model_nodes=1;}", "unsupported at 17"),
+    ] {
+        let found = outline(alloc, text)?;
+        assert_eq!(rt; found.as_str(), blocks, "{text}");
+    }
+    let deepest = nested(alloc, 32)?;
+    let found = outline(alloc, deepest.as_str())?;
+    assert_eq!(rt; found.as_str(), "Node 1 1;");
+    let too_deep = nested(alloc, 33)?;
+    let found = outline(alloc, too_deep.as_str())?;
+    assert_eq!(rt; found.as_str(), "too deep at 41");
+    Ok(())
+}
