@@ -15,3 +15,4 @@ pub mod Answers
 pub mod Bounds
 pub mod Laws
 pub mod Private
+pub mod Example

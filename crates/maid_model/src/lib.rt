@@ -7,6 +7,8 @@ mod diagrams;
 mod laws;
 mod marks;
 mod profiles;
+#[cfg(test)]
+mod tests;
 mod weights;
 mod world_sums;
 mod worlds;
