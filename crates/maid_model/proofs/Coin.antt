@@ -1,15 +1,15 @@
 -- The diagram of the test is a diagram, and its rule a rule.
-use Rattle.std.proofs.Common.{◌≡◌, ◌≢◌, ◌∙◌, ◌⊎◌, ℕ, zero, suc, ◌+◌, ◌*◌, ◌^◌, ◌<◌, ◌≤◌, List, [], ◌∷◌, map, length, refl, sym, ap, subst, inl, inr, arith, Contains, All, ℤ, pos, negsuc, ◌≤ℤ◌, nat_abs, slice_index_or}
+use Rattle.std.proofs.Common.{◌≡◌, ◌≢◌, ℕ, zero, suc, ◌+◌, ◌*◌, ◌<◌, ◌≤◌, List, [], ◌∷◌, length, refl, inl, inr, arith, All, ℤ, pos, ◌≤ℤ◌, nat_abs, slice_index_or}
 use Rattle.std.proofs.lemmas.Int.{ints}
 use Rattle.maid_model.specs.declared.diagrams.Kind.TheVariants.{Chance, Decision, Utility}
 use Rattle.maid_model.specs.Diagrams.{IsDiagram, HasOwners, HasValues, KeepsLimits, greatest_number}
 use Rattle.maid_model.specs.Example.{coin, guess, pay, coin_diagram, copy_rule}
-use Rattle.maid_model.specs.Graph.{Arc, IsPath, Here, Along, Descends, IsAcyclic, IsGraph, AllDifferent}
+use Rattle.maid_model.specs.Graph.{Arc, IsPath, Here, Along, IsAcyclic, IsGraph, AllDifferent}
 use Rattle.maid_model.specs.Nodes.{node_at, states_of, parents_of, rows_of}
 use Rattle.maid_model.specs.Profiles.{IsRule}
 use Rattle.maid_model.specs.Sums.{sum_below}
 use Rattle.maid_model.specs.Tables.{IsTable, HasChanceTables, chance_total}
-use Rattle.maid_model.specs.Views.{NodeView, RuleView}
+use Rattle.maid_model.specs.Views.{NodeView}
 use Rattle.maid_model.proofs.Setting.{Among}
 use Rattle.maid_model.proofs.Members.{among_from_contains}
 

@@ -1,5 +1,5 @@
 -- The small diagram that the test runs: a coin that shows its second side three times in four, a guess made in sight of it, and what each pair pays.
-use Rattle.std.specs.Prelude.{List, [], ◌∷◌, ℤ, pos, negsuc}
+use Rattle.std.specs.Prelude.{[], ◌∷◌, pos, negsuc}
 use Rattle.maid_model.specs.declared.diagrams.Kind.TheVariants.{Chance, Decision, Utility}
 use Rattle.maid_model.specs.Views.{NodeView, DiagramView, RuleView}
 

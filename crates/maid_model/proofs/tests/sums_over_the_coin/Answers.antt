@@ -1,4 +1,4 @@
-use Rattle.std.proofs.Common.{sym, subst, ap}
+use Rattle.std.proofs.Common.{sym, subst}
 use Rattle.maid_model.specs.Example.{copy_rule}
 use Rattle.maid_model.specs.Profiles.{IsRule}
 use Rattle.maid_model.proofs.Coin.{copy_is_rule}
