@@ -1,8 +1,8 @@
 -- A sum over all worlds, world by world, and why it stays within its bound.
-use Rattle.std.proofs.Common.{◌≡◌, ◌≢◌, ◌∙◌, ℕ, zero, suc, ◌+◌, ◌-◌, ◌*◌, ◌^◌, ◌<◌, ◌≤◌, Bool, true, false, cond, ◌&&◌, eqb, List, [], ◌∷◌, ◌++◌, flat_map, map, max, length, slice_index, slice_index_or, refl, sym, ap, subst, inl, inr, arith, ℤ, pos, negsuc, ◌+ℤ◌, ◌*ℤ◌, ◌≤ℤ◌, nat_abs}
-use Rattle.std.proofs.lemmas.Int.{ints, unsigned_abs-mul}
+use Rattle.std.proofs.Common.{◌≡◌, ◌≢◌, ◌∙◌, ℕ, zero, suc, ◌+◌, ◌-◌, ◌*◌, ◌^◌, ◌<◌, ◌≤◌, Bool, true, false, cond, eqb, List, [], ◌∷◌, ◌++◌, flat_map, map, max, length, slice_index, slice_index_or, refl, sym, ap, inl, inr, arith, ℤ, pos, negsuc, ◌+ℤ◌, ◌*ℤ◌, ◌≤ℤ◌, nat_abs}
+use Rattle.std.proofs.lemmas.Int.{ints}
 use Rattle.std.proofs.lemmas.List.{length-map}
-use Rattle.std.proofs.Math.IntN.{+ℤ_assoc, +ℤ_idr, +ℤ_idl}
+use Rattle.std.proofs.Math.IntN.{+ℤ_idl}
 use Rattle.std.proofs.Math.Nat.{mul-le-mul_left, mul-le-mul_right, one-le-pow}
 use Rattle.std.proofs.Math.Numerals.{add-one}
 use Rattle.std.proofs.Math.Path.{fun_ext}
@@ -11,20 +11,20 @@ use Rattle.std.specs.List.{range_with_len}
 use Rattle.maid_model.specs.declared.diagrams.Kind.{Kind}
 use Rattle.maid_model.specs.declared.diagrams.Kind.TheVariants.{Chance, Decision, Utility}
 use Rattle.maid_model.specs.Diagrams.{IsDiagram, greatest_number}
-use Rattle.maid_model.specs.Gains.{weight, weight_without, table_without, base_total, base_mass, sum_worlds, greatest_utility}
-use Rattle.maid_model.specs.Nodes.{node_at, states_of, parents_of, rows_of, rows_under, numbers_of, counts_of}
+use Rattle.maid_model.specs.Gains.{weight_without, table_without, base_total, base_mass, sum_worlds, greatest_utility}
+use Rattle.maid_model.specs.Nodes.{node_at, states_of, parents_of, rows_of, numbers_of, counts_of}
 use Rattle.maid_model.specs.Profiles.{IsProfile}
 use Rattle.maid_model.specs.Sums.{World, with_state, sum_below, sum_over, InRange, product_over, nat_product_over}
 use Rattle.maid_model.specs.Tables.{cell_of, table, table_by, weights_of, weight_total, total_by, chance_total, rule_total}
 use Rattle.maid_model.specs.Views.{NodeView, RuleView, DiagramView}
 use Rattle.maid_model.specs.Worlds.{IsWorld, world_of, worlds, worlds_from, first_world, sum_list}
-use Rattle.maid_model.proofs.Setting.{Among, Ignores, IgnoresAll, IgnoresLater, HasTotal, HaveTotals, TableFits, HasTables, ParentsFirst}
+use Rattle.maid_model.proofs.Setting.{Among, Ignores, IgnoresLater, HasTotal, HaveTotals, TableFits, ParentsFirst}
 use Rattle.maid_model.proofs.Sums.{sum_below_cong}
 use Rattle.maid_model.proofs.Totals.{sum_over_totals}
 use Rattle.maid_model.proofs.Tables.{TableSums, table-total, table_ignores}
 use Rattle.maid_model.proofs.Lists.{avoids, all_ignored, sum_over-shuffled, product_over-shuffled}
 use Rattle.maid_model.proofs.Bridge.{sum_over_worlds}
-use Rattle.maid_model.proofs.Next.{AllPositive, worlds_from-first, IsWorld-tail, states_positive}
+use Rattle.maid_model.proofs.Next.{worlds_from-first, IsWorld-tail, states_positive}
 use Rattle.maid_model.proofs.Members.{range_within}
 use Rattle.maid_model.proofs.Found.{eqb_yes, eqb_no}
 use Rattle.maid_model.proofs.Ordering.{order, order_shuffled, order_within, order_parents_first, not_own_parent}

@@ -1,5 +1,5 @@
 -- G and R of a decision, world by world.
-use Rattle.std.proofs.Common.{◌≡◌, ◌≢◌, ◌∙◌, ◌⊎◌, ℕ, zero, suc, ◌+◌, ◌*◌, ◌^◌, ◌<◌, ◌≤◌, Bool, true, false, cond, ◌&&◌, eqb, List, [], ◌∷◌, max, length, set, replicate, slice_index, slice_index_or, refl, sym, ap, subst, arith, ℤ, pos, ◌+ℤ◌, ◌*ℤ◌, ◌≤ℤ◌, nat_abs, ◌/◌, ◌%◌, get_or-set_same, get_or-set_other}
+use Rattle.std.proofs.Common.{◌≡◌, ◌∙◌, ℕ, zero, suc, ◌+◌, ◌*◌, ◌^◌, ◌<◌, ◌≤◌, Bool, true, false, cond, ◌&&◌, eqb, List, [], ◌∷◌, max, length, set, replicate, slice_index, slice_index_or, refl, sym, ap, subst, arith, ℤ, pos, ◌+ℤ◌, ◌*ℤ◌, nat_abs, ◌/◌, ◌%◌, get_or-set_same, get_or-set_other}
 use Rattle.std.proofs.lemmas.Int.{ints, unsigned_abs-mul}
 use Rattle.std.proofs.lemmas.List.{get_or_default}
 use Rattle.std.proofs.lemmas.Nat.{div-mul-add, mod-mul-add}
@@ -9,13 +9,13 @@ use Rattle.std.proofs.Math.Nat.{mul-le-mul_left, mul-le-mul_right}
 use Rattle.std.proofs.Math.Path.{fun_ext}
 use Rattle.std.proofs.Math.Decide.{ℕ_discrete}
 use Rattle.maid_model.specs.Diagrams.{IsDiagram, greatest_number}
-use Rattle.maid_model.specs.Gains.{weight_without, utility_below, value_below, value_for, is_at, gain_at, mass_at, base_mass, greatest_utility, sum_worlds}
+use Rattle.maid_model.specs.Gains.{weight_without, utility_below, value_below, is_at, gain_at, mass_at, base_mass, greatest_utility, sum_worlds}
 use Rattle.maid_model.specs.Graph.{descends}
-use Rattle.maid_model.specs.Nodes.{IsDecision, node_at, states_of, rows_of, counts_of, numbers_of, is_utility_of}
+use Rattle.maid_model.specs.Nodes.{node_at, states_of, rows_of, counts_of, numbers_of, is_utility_of}
 use Rattle.maid_model.specs.Private.{is_marked, marked_value, marked_utility, MarksUtilities}
 use Rattle.maid_model.specs.Profiles.{IsProfile}
-use Rattle.maid_model.specs.Sums.{World, InRange, sum_each}
-use Rattle.maid_model.specs.Tables.{row_of, cell_of}
+use Rattle.maid_model.specs.Sums.{World, InRange}
+use Rattle.maid_model.specs.Tables.{row_of}
 use Rattle.maid_model.specs.Views.{NodeView, RuleView, DiagramView}
 use Rattle.maid_model.specs.Worlds.{IsWorld, world_of, worlds_from, first_world, sum_list}
 use Rattle.maid_model.proofs.Adding.{HasRoom, room_of, base_some, all_worlds, some_rest, weight_in, MassSoFar, mass_start, mass_within, mass_step, added_bound}

@@ -1,5 +1,5 @@
 -- Rows and columns of tables, parent by parent and state by state.
-use Rattle.std.proofs.Common.{◌≡◌, ◌∙◌, ℕ, zero, suc, ◌+◌, ◌-◌, ◌*◌, ◌^◌, ◌<◌, ◌≤◌, List, [], ◌∷◌, length, get_or, drop, refl, sym, ap, subst, arith, Contains, ℤ, pos, negsuc, ◌+ℤ◌, ◌≤ℤ◌, nat_abs, slice_index_or, Fits}
+use Rattle.std.proofs.Common.{◌≡◌, ◌∙◌, ℕ, zero, suc, ◌+◌, ◌-◌, ◌*◌, ◌^◌, ◌<◌, ◌≤◌, List, [], ◌∷◌, length, get_or, drop, sym, ap, subst, arith, Contains, ℤ, pos, ◌+ℤ◌, ◌≤ℤ◌, nat_abs, slice_index_or}
 use Rattle.std.proofs.lemmas.Int.{ints, fits_signed_from_abs, to_z-of_z}
 use Rattle.std.proofs.lemmas.List.Elements.{Contains-get_or}
 use Rattle.std.proofs.Math.Seq.{drop-cons}
@@ -11,9 +11,8 @@ use Rattle.maid_model.specs.declared.diagrams.Kind.TheVariants.{Chance}
 use Rattle.maid_model.specs.Nodes.{node_at, states_of, parents_of, rows_of, rows_under}
 use Rattle.maid_model.specs.Views.{NodeView, DiagramView}
 use Rattle.maid_model.specs.Graph.{IsGraph}
-use Rattle.maid_model.specs.Diagrams.{IsDiagram, greatest_number}
+use Rattle.maid_model.specs.Diagrams.{IsDiagram}
 use Rattle.maid_model.specs.Sums.{sum_below}
-use Rattle.maid_model.specs.Tables.{chance_total}
 
 pub drop_at : (us : List ℕ) (i : ℕ) → i < length us → drop i us ≡ get_or us i 0 ∷ drop (i + 1) us
 drop_at us i h = drop-cons us i 0 h ∙ ap (λ n. get_or us i 0 ∷ drop n us) (sym (add-one i))
@@ -32,12 +31,6 @@ pub record RowsSoFar (nodes : List NodeView) (v rows : ℕ) (us : List ℕ) (i :
   pub parents : us ≡ parents_of nodes v
   pub rest : rows * rows_under (states_of nodes) (drop i us) ≡ rows_of nodes v
 
-pub rows_start : (nodes : List NodeView) (v : ℕ) (us : List ℕ) → us ≡ parents_of nodes v → RowsSoFar nodes v 1 us 0
-rows_start nodes v us e = record { parents = e; rest = go (rows_under (states_of nodes) us) ∙ ap (rows_under (states_of nodes)) e }
-  where
-    go : (n : ℕ) → 1 * n ≡ n
-    go n = omega arith
-
 module _ (d : DiagramView) (is : IsDiagram d) (v rows i u c : ℕ) (us : List ℕ) (v_in : v < length d.nodes) (s : RowsSoFar d.nodes v rows us i) (i_in : i < length us) (u_is : u ≡ get_or us i 0) (c_is : c ≡ states_of d.nodes u) where
   rows_next : rows * c * rows_under (states_of d.nodes) (drop (i + 1) us) ≡ rows_of d.nodes v
   rows_next =
@@ -45,26 +38,11 @@ module _ (d : DiagramView) (is : IsDiagram d) (v rows i u c : ℕ) (us : List �
       ∙ mul_assoc rows (states_of d.nodes (get_or us i 0)) (rows_under (states_of d.nodes) (drop (i + 1) us))
       ∙ ap (λ l. rows * rows_under (states_of d.nodes) l) (sym (drop_at us i i_in)) ∙ s.rest
 
-  pub rows_step : RowsSoFar d.nodes v (rows * c) us (i + 1)
-  rows_step = record { parents = s.parents; rest = rows_next }
-
   pub rows_fit : rows * c ≤ 65536
   rows_fit = go (rows * c) (rows_under (states_of d.nodes) (drop (i + 1) us)) (rows_of d.nodes v) (states_of d.nodes v) rows_next (rows_positive (states_of d.nodes) (drop (i + 1) us) is.graph.has_state) (is.graph.has_state v) (is.limits.cells v v_in)
     where
       go : (a r n k : ℕ) → a * r ≡ n → 0 < r → 0 < k → n * k ≤ 65536 → a ≤ 65536
       go a r n k e h j l = omega (arith, mul-le-mul_left a h, mul-le-mul_left n j)
-
-pub rows_end : (nodes : List NodeView) (v rows i : ℕ) (us : List ℕ) → RowsSoFar nodes v rows us i → length us ≤ i → rows ≡ rows_of nodes v
-rows_end nodes v rows i us s h = sym (one rows) ∙ sym (ap (λ l. rows * rows_under (states_of nodes) l) (none us i h)) ∙ s.rest
-  where
-    one : (n : ℕ) → n * 1 ≡ n
-    one n = omega arith
-
-    none : (us : List ℕ) (i : ℕ) → length us ≤ i → drop i us ≡ []
-    none [] zero h = refl
-    none [] (suc i) h = refl
-    none (u ∷ us) zero h = absurd (omega arith)
-    none (u ∷ us) (suc i) h = none us i (omega arith)
 
 -- ---- the total of the first row
 sum_grows : (f : ℕ → ℤ) → ((i : ℕ) → pos 0 ≤ℤ f i) → (i n : ℕ) → sum_below i f ≤ℤ sum_below (i + n) f

@@ -1,12 +1,12 @@
 -- The test of descent, and what it says of paths.
-use Rattle.std.proofs.Common.{◌≡◌, ◌≢◌, ◌∙◌, ◌⊎◌, ℕ, zero, suc, ◌+◌, ◌<◌, ◌≤◌, Bool, true, false, cond, ◌||◌, eqb, List, [], ◌∷◌, length, get_or, refl, sym, ap, subst, inl, inr, arith, Contains}
+use Rattle.std.proofs.Common.{◌≡◌, ◌∙◌, ◌⊎◌, ℕ, zero, suc, ◌<◌, ◌≤◌, Bool, true, false, ◌||◌, eqb, List, [], ◌∷◌, length, refl, sym, ap, subst, inl, inr, arith}
 use Rattle.std.specs.List.{list_any}
-use Rattle.maid_model.specs.Graph.{Arc, IsPath, Here, Along, Descends, IsAcyclic, leads_within, descends}
-use Rattle.maid_model.specs.Nodes.{node_at, parents_of}
+use Rattle.maid_model.specs.Graph.{Arc, IsPath, Here, Along, Descends, leads_within, descends}
+use Rattle.maid_model.specs.Nodes.{parents_of}
 use Rattle.maid_model.specs.Views.{NodeView}
 use Rattle.maid_model.proofs.Setting.{Among}
 use Rattle.maid_model.proofs.Members.{among_from_contains, contains_from_among}
-use Rattle.maid_model.proofs.Counts.{true_or_false, not_both, count_below, count_le, Within, more_or_same, all_pass}
+use Rattle.maid_model.proofs.Counts.{true_or_false, count_below, Within, more_or_same, all_pass}
 use Rattle.maid_model.proofs.Found.{eqb_yes}
 use Rattle.std.proofs.lemmas.Bool.Decides.{nat_tests}
 

@@ -1,8 +1,8 @@
 -- The sum over all worlds of the weight times an agent's utilities.
-use Rattle.std.proofs.Common.{◌≡◌, ◌∙◌, ◌⊎◌, ℕ, zero, suc, ◌+◌, ◌*◌, ◌^◌, ◌<◌, ◌≤◌, Bool, true, false, cond, ◌&&◌, eqb, List, [], ◌∷◌, max, length, refl, sym, ap, subst, inl, inr, arith, ℤ, pos, ◌+ℤ◌, ◌*ℤ◌, nat_abs, slice_index_or}
-use Rattle.std.proofs.lemmas.Int.{ints, unsigned_abs-mul, to_z-of_z, fits_signed_from_abs}
+use Rattle.std.proofs.Common.{◌≡◌, ◌∙◌, ◌⊎◌, ℕ, ◌+◌, ◌*◌, ◌^◌, ◌<◌, ◌≤◌, Bool, true, false, cond, eqb, List, [], ◌∷◌, max, length, refl, sym, ap, subst, inl, inr, arith, ℤ, pos, ◌+ℤ◌, ◌*ℤ◌, nat_abs, slice_index_or}
+use Rattle.std.proofs.lemmas.Int.{unsigned_abs-mul, to_z-of_z, fits_signed_from_abs}
 use Rattle.std.proofs.Math.IntN.{+ℤ_assoc, +ℤ_idr, +ℤ_idl}
-use Rattle.std.proofs.Math.Nat.{mul-le-mul_left, mul-le-mul_right}
+use Rattle.std.proofs.Math.Nat.{mul-le-mul_left}
 use Rattle.std.proofs.Math.Path.{fun_ext}
 use Rattle.std.specs.Int.{w128}
 use Rattle.std.specs.Int.RustNames.{FitsSigned}
@@ -23,7 +23,7 @@ use Rattle.maid_model.proofs.Counts.{true_or_false}
 use Rattle.maid_model.proofs.Found.{eqb_no}
 use Rattle.maid_model.proofs.Members.{range_within}
 use Rattle.maid_model.proofs.Next.{first_is_world}
-use Rattle.maid_model.proofs.Summing.{abs_add, values, value_le, unmarked, greatest_at}
+use Rattle.maid_model.proofs.Summing.{abs_add, values, value_le, greatest_at}
 
 -- ---- no marked sum exceeds the greatest
 pub sum_each_cong : (f g : ℕ → ℤ) (vs : List ℕ) → ((v : ℕ) → Among v vs → f v ≡ g v) → sum_each f vs ≡ sum_each g vs

@@ -24,3 +24,4 @@ pub mod Summing
 pub mod Adding
 pub mod Leaves
 pub mod Bases
+pub mod Coin

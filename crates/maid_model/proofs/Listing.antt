@@ -1,7 +1,6 @@
 -- The list of all worlds has each world once, in order.
 use Rattle.std.proofs.Common.{◌≡◌, ◌≢◌, ◌∙◌, ◌⊎◌, ℕ, zero, suc, ◌+◌, ◌-◌, ◌<◌, ◌≤◌, List, [], ◌∷◌, ◌++◌, map, flat_map, length, get_or, slice_index_or, refl, sym, ap, subst, inl, inr, arith, Contains, append_assoc}
-use Rattle.std.proofs.lemmas.List.{get_or_default}
-use Rattle.std.specs.List.{range_with_len, AllPairs}
+use Rattle.std.specs.List.{range_with_len}
 use Rattle.maid_model.specs.Laws.{ListsWorlds}
 use Rattle.maid_model.specs.Worlds.{worlds, worlds_from, IsWorld}
 use Rattle.maid_model.proofs.Setting.{Among}
@@ -188,12 +187,12 @@ ends_with (c ∷ cs) (x ∷ xs) w = go (ends_with cs xs (IsWorld-tail c x cs xs 
     go (front, e) l = (
       flat_map (block cs) (range_with_len 0 x) ++ map (λ ys. x ∷ ys) front,
       ap (λ n. flat_map (block cs) (range_with_len 0 n)) (three c x l)
-      ∙ ap (flat_map (block cs)) (range_split 0 x (suc (c - (x + 1))))
-      ∙ blocks_append (block cs) (range_with_len 0 x) (range_with_len (0 + x) (suc (c - (x + 1))))
-      ∙ ap (λ n. flat_map (block cs) (range_with_len 0 x) ++ flat_map (block cs) (range_with_len n (suc (c - (x + 1))))) (z x)
-      ∙ ap (λ m. flat_map (block cs) (range_with_len 0 x) ++ (m ++ flat_map (block cs) (range_with_len (x + 1) (c - (x + 1))))) (ap (map (λ ys. x ∷ ys)) e ∙ map_append x front (worlds_from cs xs))
-      ∙ ap (λ m. flat_map (block cs) (range_with_len 0 x) ++ m) (append_assoc (map (λ ys. x ∷ ys) front) (map (λ ys. x ∷ ys) (worlds_from cs xs)) (flat_map (block cs) (range_with_len (x + 1) (c - (x + 1)))))
-      ∙ sym (append_assoc (flat_map (block cs) (range_with_len 0 x)) (map (λ ys. x ∷ ys) front) (map (λ ys. x ∷ ys) (worlds_from cs xs) ++ flat_map (block cs) (range_with_len (x + 1) (c - (x + 1))))),
+          ∙ ap (flat_map (block cs)) (range_split 0 x (suc (c - (x + 1))))
+          ∙ blocks_append (block cs) (range_with_len 0 x) (range_with_len (0 + x) (suc (c - (x + 1))))
+          ∙ ap (λ n. flat_map (block cs) (range_with_len 0 x) ++ flat_map (block cs) (range_with_len n (suc (c - (x + 1))))) (z x)
+          ∙ ap (λ m. flat_map (block cs) (range_with_len 0 x) ++ (m ++ flat_map (block cs) (range_with_len (x + 1) (c - (x + 1))))) (ap (map (λ ys. x ∷ ys)) e ∙ map_append x front (worlds_from cs xs))
+          ∙ ap (λ m. flat_map (block cs) (range_with_len 0 x) ++ m) (append_assoc (map (λ ys. x ∷ ys) front) (map (λ ys. x ∷ ys) (worlds_from cs xs)) (flat_map (block cs) (range_with_len (x + 1) (c - (x + 1)))))
+          ∙ sym (append_assoc (flat_map (block cs) (range_with_len 0 x)) (map (λ ys. x ∷ ys) front) (map (λ ys. x ∷ ys) (worlds_from cs xs) ++ flat_map (block cs) (range_with_len (x + 1) (c - (x + 1))))),
     )
       where
         z : (x : ℕ) → 0 + x ≡ x

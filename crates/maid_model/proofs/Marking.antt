@@ -1,18 +1,14 @@
 -- The marks of the nodes that descend from one, sweep by sweep.
-use Rattle.std.proofs.Common.{◌≡◌, ◌≢◌, ◌∙◌, ◌⊎◌, ℕ, zero, suc, ◌+◌, ◌-◌, ◌<◌, ◌≤◌, Bool, true, false, cond, ◌||◌, eqb, List, [], ◌∷◌, length, get_or, set, drop, replicate, refl, sym, ap, subst, inl, inr, arith, Contains, get_or-set_same, get_or-set_other}
-use Rattle.std.proofs.lemmas.Bool.Decides.{nat_tests}
-use Rattle.std.proofs.lemmas.List.{get_or_past}
+use Rattle.std.proofs.Common.{◌≡◌, ◌∙◌, ◌⊎◌, ℕ, zero, suc, ◌+◌, ◌<◌, ◌≤◌, Bool, true, false, cond, ◌||◌, eqb, List, [], ◌∷◌, length, set, replicate, refl, sym, ap, subst, inl, inr, arith, get_or-set_other}
 use Rattle.std.proofs.Math.ListN.{length-set}
 use Rattle.std.proofs.Math.Decide.{ℕ_discrete}
 use Rattle.std.specs.List.{list_any}
-use Rattle.maid_model.specs.Graph.{Arc, IsPath, Here, Along, Descends, IsGraph, descends}
-use Rattle.maid_model.specs.Nodes.{node_at, parents_of}
+use Rattle.maid_model.specs.Graph.{Arc, IsPath, Here, Along, Descends, descends}
+use Rattle.maid_model.specs.Nodes.{parents_of}
 use Rattle.maid_model.specs.Private.{is_marked, is_near, marked_count, MarksDescendants, IsClosed}
 use Rattle.maid_model.specs.Views.{NodeView}
-use Rattle.maid_model.proofs.Setting.{Among}
 use Rattle.maid_model.proofs.Members.{among_from_contains, contains_from_among}
 use Rattle.maid_model.proofs.Counts.{true_or_false, not_both}
-use Rattle.maid_model.proofs.Cells.{drop_at}
 use Rattle.maid_model.proofs.Descent.{any_has, any_of, or_cases, or_right, equal_from_test, descends_more, path_from_test, test_from_path}
 use Rattle.maid_model.proofs.Found.{eqb_yes}
 
@@ -86,30 +82,7 @@ pub record SweepSoFar (nodes : List NodeView) (start : ℕ) (old marks : List Bo
   pub same : changed ≡ false → marks ≡ old
   pub passed : changed ≡ false → (u : ℕ) → u < v → list_any (is_near start marks) (parents_of nodes u) ≡ true → is_marked marks u ≡ true
 
-pub sweep_start : (nodes : List NodeView) (start : ℕ) (old : List Bool) → MarksDescendants nodes start old → SweepSoFar nodes start old old false 0
-sweep_start nodes start old s = record { len = refl; sound = s; grown = λ e. absurd (cc); same = λ e. refl; passed = λ e u l. absurd (omega arith) }
-
-below_next : (P : ℕ → Type 0) (v : ℕ) → ((u : ℕ) → u < v → P u) → P v → (u : ℕ) → u < v + 1 → P u
-below_next P v h k u l = go (ℕ_discrete u v)
-  where
-    less : (u v : ℕ) → u < v + 1 → u ≢ v → u < v
-    less u v l n = omega arith
-
-    go : Dec (u ≡ v) → P u
-    go (yes e) = subst P (sym e) k
-    go (no n) = h u (less u v l n)
-
 module _ (nodes : List NodeView) (start : ℕ) (old marks : List Bool) (changed : Bool) (v : ℕ) (s : SweepSoFar nodes start old marks changed v) where
-  -- a node that is marked, or that nothing marks, is passed over
-  pub sweep_over : (list_any (is_near start marks) (parents_of nodes v) ≡ true → is_marked marks v ≡ true) → SweepSoFar nodes start old marks changed (v + 1)
-  sweep_over h = record {
-    len = s.len;
-    sound = s.sound;
-    grown = s.grown;
-    same = s.same;
-    passed = λ e. below_next (λ u. list_any (is_near start marks) (parents_of nodes u) ≡ true → is_marked marks u ≡ true) v (s.passed e) h;
-  }
-
   pub sweep_mark : v < length marks → is_marked marks v ≡ false → list_any (is_near start marks) (parents_of nodes v) ≡ true → SweepSoFar nodes start old (set marks v true) true (v + 1)
   sweep_mark l m h = record {
     len = length-set marks v true ∙ s.len;
@@ -131,35 +104,6 @@ module _ (nodes : List NodeView) (start : ℕ) (old marks : List Bool) (changed 
         where
           less : (a b c : ℕ) → b ≡ a → c ≡ suc b → a < c
           less a b c f e = omega arith
-
--- a sweep that changed nothing found the marks closed
-pub sweep_closed : (nodes : List NodeView) (start : ℕ) (old marks : List Bool) (changed : Bool) (v : ℕ) → SweepSoFar nodes start old marks changed v → changed ≡ false → length nodes ≤ v → IsClosed nodes start marks
-sweep_closed nodes start old marks changed v s e h = record { closed = λ u t. s.passed e u (inside u t) t }
-  where
-    none : (ns : List NodeView) (u : ℕ) → length ns ≤ u → parents_of ns u ≡ []
-    none [] u l = refl
-    none (n ∷ ns) zero l = absurd (omega arith)
-    none (n ∷ ns) (suc u) l = none ns u (omega arith)
-
-    split : (a b : ℕ) → (a < b) ⊎ (b ≤ a)
-    split a b = grind arith
-
-    inside : (u : ℕ) → list_any (is_near start marks) (parents_of nodes u) ≡ true → u < v
-    inside u t = go (split u (length nodes))
-      where
-        less : u < length nodes → u < v
-        less l = omega arith
-
-        go : (u < length nodes) ⊎ (length nodes ≤ u) → u < v
-        go (inl l) = less l
-        go (inr l) = absurd (let f : false ≡ true = sym (ap (list_any (is_near start marks)) (none nodes u l)) ∙ t in cc)
-
--- ---- a search among parents
-pub any_yes : (p : ℕ → Bool) (us : List ℕ) (i : ℕ) → i < length us → p (get_or us i 0) ≡ true → list_any p (drop i us) ≡ true
-any_yes p us i l e = ap (list_any p) (drop_at us i l) ∙ ap (λ b. b || list_any p (drop (i + 1) us)) e
-
-pub any_no : (p : ℕ → Bool) (us : List ℕ) (i : ℕ) → i < length us → p (get_or us i 0) ≡ false → list_any p (drop i us) ≡ list_any p (drop (i + 1) us)
-any_no p us i l e = ap (list_any p) (drop_at us i l) ∙ ap (λ b. b || list_any p (drop (i + 1) us)) e
 
 -- marks of nothing
 pub none_marked : (nodes : List NodeView) (start n : ℕ) → MarksDescendants nodes start (replicate n false)

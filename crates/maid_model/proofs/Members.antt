@@ -1,7 +1,6 @@
 -- Members of lists, by place and by cases.
-use Rattle.std.proofs.Common.{◌≡◌, ◌∙◌, ◌⊎◌, ℕ, zero, suc, ◌+◌, ◌<◌, ◌≤◌, Bool, true, false, cond, filter, List, [], ◌∷◌, map, length, get_or, refl, sym, ap, subst, inl, inr, arith, Contains}
+use Rattle.std.proofs.Common.{◌≡◌, ◌∙◌, ◌⊎◌, ℕ, zero, suc, ◌+◌, ◌<◌, ◌≤◌, Bool, true, false, cond, filter, List, [], ◌∷◌, length, sym, ap, subst, inl, inr, arith, Contains}
 use Rattle.std.specs.List.{range_with_len}
-use Rattle.maid_model.specs.declared.diagrams.Kind.TheVariants.{Decision}
 use Rattle.maid_model.specs.Nodes.{IsDecision, decisions_of, numbers_of, node_at, is_decision}
 use Rattle.maid_model.specs.Profiles.{IsProfile, HasRule}
 use Rattle.maid_model.specs.Views.{NodeView, RuleView}

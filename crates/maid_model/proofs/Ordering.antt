@@ -1,14 +1,14 @@
 -- A graph has a list of its nodes with parents first: the nodes by how many others they descend from.
-use Rattle.std.proofs.Common.{◌≡◌, ◌≢◌, ◌∙◌, ◌⊎◌, ℕ, zero, suc, ◌+◌, ◌-◌, ◌<◌, ◌≤◌, Bool, true, false, List, [], ◌∷◌, ◌++◌, length, get_or, take, refl, sym, ap, subst, inl, inr, arith, Contains}
+use Rattle.std.proofs.Common.{◌≡◌, ◌≢◌, ◌∙◌, ◌⊎◌, ℕ, zero, suc, ◌+◌, ◌<◌, ◌≤◌, true, false, List, [], ◌∷◌, ◌++◌, length, get_or, take, refl, sym, ap, subst, inl, inr, arith, Contains}
 use Rattle.std.proofs.Math.Decide.{dec_lt}
 use Rattle.std.specs.List.{range_with_len}
-use Rattle.maid_model.specs.Graph.{Arc, Here, Descends, IsAcyclic, IsGraph, AllDifferent, descends}
+use Rattle.maid_model.specs.Graph.{Arc, Here, IsGraph, AllDifferent, descends}
 use Rattle.maid_model.specs.Laws.{IsParentsFirst}
-use Rattle.maid_model.specs.Nodes.{node_at, parents_of, numbers_of}
+use Rattle.maid_model.specs.Nodes.{parents_of, numbers_of}
 use Rattle.maid_model.specs.Views.{NodeView}
 use Rattle.maid_model.proofs.Setting.{Among, Shuffled, none, put, ParentsFirst}
 use Rattle.maid_model.proofs.Members.{among_from_contains, contains_from_among, range_within, range_has}
-use Rattle.maid_model.proofs.Counts.{true_or_false, not_both, count_below, count_strict}
+use Rattle.maid_model.proofs.Counts.{true_or_false, count_below, count_strict}
 use Rattle.maid_model.proofs.Descent.{path_from_test, test_from_path, descends_more}
 
 -- ---- sorting by a key
@@ -82,12 +82,15 @@ module _ (key : ℕ → ℕ) where
   in_order (x ∷ xs) d = go (in_order xs d.1)
     where
       go : (ys : List ℕ) × InOrder xs ys → (ys : List ℕ) × InOrder (x ∷ xs) ys
-      go (ys, o) = (r.0, record {
+      go (ys, o) = (
+        r.0,
+        record {
           shuffled = subst (Shuffled (x ∷ xs)) (sym r.1.is) (put r.1.front r.1.back (subst (Shuffled xs) r.1.was o.shuffled));
           sorted = r.2;
           back = λ u m. from u (among_split u x r.1.front r.1.back (subst (Among u) r.1.is m));
           forth = λ u m. subst (Among u) (sym r.1.is) (among_join u x r.1.front r.1.back (to u m));
-        })
+        },
+      )
         where
           r : (zs : List ℕ) × Put x ys zs × Sorted zs
           r = put_in x ys o.sorted (λ u m. d.0 u (o.back u m))
@@ -176,9 +179,12 @@ module _ (nodes : List NodeView) (g : IsGraph nodes) where
   before (v ∷ vs) h (suc i) u l a (inr m) = contains_more v (take i vs) u (before vs h.1 i u (omega arith) a m)
 
   pub has_parents_first : (ys : List ℕ) × IsParentsFirst nodes ys
-  has_parents_first = (order, record {
-    all = λ v l. contains_from_among order v (order_has v l);
-    within = λ v c. order_within v (among_from_contains order v c);
-    once = all_different order order_parents_first;
-    parents_first = λ i u l a. before order order_parents_first i u l a (order_has u (g.parents_known u (get_or order i 0) a));
-  })
+  has_parents_first = (
+    order,
+    record {
+      all = λ v l. contains_from_among order v (order_has v l);
+      within = λ v c. order_within v (among_from_contains order v c);
+      once = all_different order order_parents_first;
+      parents_first = λ i u l a. before order order_parents_first i u l a (order_has u (g.parents_known u (get_or order i 0) a));
+    },
+  )

@@ -1,15 +1,15 @@
 -- The rows and cells that a world picks.
-use Rattle.std.proofs.Common.{◌≡◌, ◌≢◌, ◌∙◌, ℕ, zero, suc, ◌+◌, ◌*◌, ◌<◌, ◌≤◌, List, [], ◌∷◌, map, length, get_or, drop, refl, sym, ap, subst, arith, slice_index}
+use Rattle.std.proofs.Common.{◌≡◌, ◌∙◌, ℕ, ◌+◌, ◌*◌, ◌<◌, ◌≤◌, List, [], ◌∷◌, length, get_or, drop, sym, ap, subst, arith, slice_index}
 use Rattle.std.proofs.Math.Nat.{mul-le-mul_left, mul-le-mul_right}
 use Rattle.std.proofs.Math.Decide.{dec_lt}
 use Rattle.std.proofs.lemmas.List.{length-map, get_or_past, get_or_default}
 use Rattle.maid_model.specs.Diagrams.{IsDiagram}
-use Rattle.maid_model.specs.Nodes.{node_at, states_of, parents_of, counts_of, rows_of, rows_under}
+use Rattle.maid_model.specs.Nodes.{states_of, parents_of, counts_of, rows_of}
 use Rattle.maid_model.specs.Sums.{World, InRange}
 use Rattle.maid_model.specs.Tables.{row_from, row_of, cell_of}
 use Rattle.maid_model.specs.Views.{NodeView, DiagramView}
 use Rattle.maid_model.specs.Worlds.{IsWorld, world_of}
-use Rattle.maid_model.proofs.Cells.{drop_at, rows_positive}
+use Rattle.maid_model.proofs.Cells.{drop_at}
 use Rattle.maid_model.proofs.Tables.{row_of-below, step_below}
 use Rattle.maid_model.proofs.Views.{counts_at}
 

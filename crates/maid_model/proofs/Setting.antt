@@ -1,10 +1,10 @@
 -- What the laws of sums speak of: which states a table looks at, totals, members and rearrangements of lists.
-use Rattle.std.specs.Prelude.{◌≡◌, ◌≢◌, ◌⊎◌, ℕ, ◌<◌, ◌*◌, true, List, [], ◌∷◌, ◌++◌, length, map, ℤ, pos, ◌==◌, if◌then◌else◌}
+use Rattle.std.specs.Prelude.{◌≡◌, ◌≢◌, ◌⊎◌, ℕ, ◌<◌, List, [], ◌∷◌, ◌++◌, length, map, ℤ, pos}
 use Rattle.maid_model.specs.declared.diagrams.Kind.{Kind}
 use Rattle.maid_model.specs.declared.diagrams.Kind.TheVariants.{Chance, Decision, Utility}
 use Rattle.maid_model.specs.Views.{NodeView, RuleView}
-use Rattle.maid_model.specs.Nodes.{node_at, states_of, rows_under, numbers_of, is_utility}
-use Rattle.maid_model.specs.Sums.{World, InRange, with_state, sum_below, nat_product_over}
+use Rattle.maid_model.specs.Nodes.{node_at, states_of, rows_under}
+use Rattle.maid_model.specs.Sums.{World, InRange, with_state, sum_below}
 use Rattle.maid_model.specs.Tables.{IsTable, weights_of, weight_total}
 
 -- f does not look at the state of v

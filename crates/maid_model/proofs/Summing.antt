@@ -1,16 +1,15 @@
 -- The utilities of a world, node by node.
-use Rattle.std.proofs.Common.{◌≡◌, ◌≢◌, ◌∙◌, ℕ, zero, suc, ◌+◌, ◌-◌, ◌*◌, ◌^◌, ◌<◌, ◌≤◌, Bool, true, false, cond, List, [], ◌∷◌, length, refl, sym, ap, subst, arith, ℤ, pos, negsuc, ◌+ℤ◌, ◌*ℤ◌, nat_abs, slice_index_or}
+use Rattle.std.proofs.Common.{◌≡◌, ◌∙◌, ℕ, zero, suc, ◌+◌, ◌*◌, ◌^◌, ◌<◌, ◌≤◌, Bool, true, false, cond, List, [], ◌∷◌, length, sym, ap, subst, arith, ℤ, pos, negsuc, ◌+ℤ◌, nat_abs, slice_index_or}
 use Rattle.std.proofs.lemmas.Int.{ints, to_z-of_z, fits_signed_from_abs}
 use Rattle.std.proofs.Math.IntN.{+ℤ_assoc, +ℤ_idl, +ℤ_idr}
 use Rattle.std.proofs.Math.Nat.{mul-le-mul_left}
 use Rattle.std.specs.Int.{w128}
 use Rattle.std.specs.Int.RustNames.{FitsSigned}
 use mir.Val.{to_z, of_z}
-use Rattle.maid_model.specs.declared.diagrams.Kind.TheVariants.{Utility}
 use Rattle.maid_model.specs.Diagrams.{IsDiagram, greatest_number}
 use Rattle.maid_model.specs.Gains.{greatest_abs, greatest_utility}
-use Rattle.maid_model.specs.Nodes.{node_at, states_of, parents_of, rows_of, rows_under, numbers_of, counts_of, is_utility}
-use Rattle.maid_model.specs.Private.{is_marked, marked_value, marked_utility, MarksUtilities}
+use Rattle.maid_model.specs.Nodes.{node_at, states_of, rows_of, numbers_of, counts_of, is_utility}
+use Rattle.maid_model.specs.Private.{is_marked, marked_value, MarksUtilities}
 use Rattle.maid_model.specs.Sums.{World, sum_each, nat_sum_over}
 use Rattle.maid_model.specs.Tables.{row_of}
 use Rattle.maid_model.specs.Views.{NodeView, DiagramView}

@@ -1,5 +1,5 @@
 -- The uniform profile.
-use Rattle.std.proofs.Common.{◌≡◌, ◌≢◌, ◌∙◌, ◌⊎◌, ℕ, zero, suc, ◌+◌, ◌-◌, ◌*◌, ◌<◌, ◌≤◌, Bool, true, false, cond, eqb, filter, List, [], ◌∷◌, ◌++◌, map, length, replicate, get_or, refl, sym, ap, subst, inl, inr, arith, append_assoc, ℤ, pos, ◌+ℤ◌, ◌≤ℤ◌, slice_index_or}
+use Rattle.std.proofs.Common.{◌≡◌, ◌≢◌, ◌∙◌, ◌⊎◌, ℕ, zero, suc, ◌+◌, ◌-◌, ◌*◌, ◌<◌, ◌≤◌, Bool, false, cond, eqb, filter, List, [], ◌∷◌, ◌++◌, map, length, replicate, refl, sym, ap, subst, inl, inr, arith, append_assoc, ℤ, pos, ◌≤ℤ◌, slice_index_or}
 use Rattle.std.proofs.lemmas.Int.{ints}
 use Rattle.std.proofs.Math.Decide.{ℕ_discrete}
 use Rattle.std.proofs.Math.ListN.{length-replicate}
@@ -9,7 +9,7 @@ use Rattle.std.specs.List.{range_with_len}
 use Rattle.maid_model.specs.declared.diagrams.Kind.{Kind}
 use Rattle.maid_model.specs.declared.diagrams.Kind.TheVariants.{Chance, Decision, Utility}
 use Rattle.maid_model.specs.Graph.{IsGraph}
-use Rattle.maid_model.specs.Nodes.{IsDecision, node_at, states_of, rows_of, is_decision, decisions_of, numbers_of}
+use Rattle.maid_model.specs.Nodes.{node_at, states_of, rows_of, is_decision, decisions_of}
 use Rattle.maid_model.specs.Profiles.{IsProfile, IsRule, uniform_rule, uniform_profile}
 use Rattle.maid_model.specs.Sums.{sum_below}
 use Rattle.maid_model.specs.Tables.{IsTable, weights_of, rule_total}

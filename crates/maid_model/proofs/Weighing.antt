@@ -2,7 +2,6 @@
 use Rattle.std.proofs.Common.{◌≡◌, ◌≢◌, ◌∙◌, ℕ, zero, suc, ◌+◌, ◌-◌, ◌*◌, ◌^◌, ◌<◌, ◌≤◌, Bool, true, false, cond, eqb, List, [], ◌∷◌, map, length, get_or, slice_index, slice_index_or, refl, sym, ap, subst, arith, ℤ, pos, negsuc, ◌+ℤ◌, ◌*ℤ◌, ◌≤ℤ◌, nat_abs}
 use Rattle.std.proofs.lemmas.Int.{ints, to_z-of_z, fits_signed_from_abs}
 use Rattle.std.proofs.lemmas.List.{length-map}
-use Rattle.std.proofs.Math.Decide.{ℕ_discrete}
 use Rattle.std.proofs.Math.Nat.{mul-le-mul_left, mul-le-mul_right}
 use Rattle.std.specs.Int.{w128}
 use Rattle.std.specs.List.{range_with_len}
@@ -10,9 +9,9 @@ use mir.Val.{to_z, of_z}
 use Rattle.maid_model.specs.declared.diagrams.Kind.{Kind}
 use Rattle.maid_model.specs.declared.diagrams.Kind.TheVariants.{Chance, Decision, Utility}
 use Rattle.maid_model.specs.Diagrams.{IsDiagram, greatest_number}
-use Rattle.maid_model.specs.Gains.{table_without, weight_without, base_total, base_mass}
-use Rattle.maid_model.specs.Nodes.{IsDecision, node_at, states_of, parents_of, counts_of, rows_of, rows_under, numbers_of}
-use Rattle.maid_model.specs.Private.{IsFirstAt, HasPlaces}
+use Rattle.maid_model.specs.Gains.{table_without, base_total}
+use Rattle.maid_model.specs.Nodes.{node_at, states_of, counts_of, rows_of, numbers_of}
+use Rattle.maid_model.specs.Private.{HasPlaces}
 use Rattle.maid_model.specs.Profiles.{IsProfile, IsRule, no_rule}
 use Rattle.maid_model.specs.Sums.{World, InRange, sum_below, product_over, nat_product_over}
 use Rattle.maid_model.specs.Tables.{IsTable, row_of, cell_of, table, table_by, weights_of, rule_total, weight_total, total_by, chance_total}

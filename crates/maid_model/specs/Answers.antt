@@ -1,10 +1,10 @@
 -- The answer: the base of each decision, the best states against it, and what the plan is worth to each agent.
-use Rattle.std.specs.Prelude.{◌≡◌, ℕ, ◌<◌, ◌*◌, ◌^◌, Bool, List, [], ◌∷◌, map, length, All, Contains, slice_index_or, ℤ, pos, ◌*ℤ◌, ◌≤ℤ◌, ◌<ℤ◌, ◌==◌, if◌then◌else◌, nat_abs, unsigned_abs, Option, Some, None, IfSome}
+use Rattle.std.specs.Prelude.{◌≡◌, ℕ, ◌<◌, ◌*◌, ◌^◌, List, [], ◌∷◌, map, length, All, Contains, slice_index_or, ℤ, pos, ◌*ℤ◌, ◌≤ℤ◌, ◌<ℤ◌, ◌==◌, if◌then◌else◌, nat_abs, unsigned_abs, Some, None, IfSome}
 use Rattle.std.specs.Int.{IsGcd}
 use Rattle.maid_model.specs.declared.answers.Ratio.{Ratio}
 use Rattle.maid_model.specs.declared.answers.Row.{Row}
 use Rattle.maid_model.specs.Views.{NodeView, DiagramView, RuleView, AnswerView, SolvedView}
-use Rattle.maid_model.specs.Nodes.{IsDecision, node_at, states_of, rows_of, decisions_of}
+use Rattle.maid_model.specs.Nodes.{IsDecision, states_of, rows_of, decisions_of}
 use Rattle.maid_model.specs.Graph.{AllDifferent}
 use Rattle.maid_model.specs.Profiles.{IsProfile, SameRule, pure_rule, uniform_profile}
 use Rattle.maid_model.specs.Gains.{gain_at, mass_at, gain_of, mass}

@@ -1,5 +1,5 @@
 -- The weight of a world, and the sums over worlds: expected utilities, and what a decision's states are worth in a row.
-use Rattle.std.specs.Prelude.{◌≡◌, ℕ, ◌<◌, ◌≤◌, ◌*◌, ◌+◌, Bool, ◌&&◌, List, [], ◌∷◌, length, slice_index_or, ℤ, pos, ◌*ℤ◌, ◌==◌, if◌then◌else◌, nat_abs, max}
+use Rattle.std.specs.Prelude.{ℕ, Bool, ◌&&◌, List, [], ◌∷◌, slice_index_or, ℤ, pos, ◌*ℤ◌, ◌==◌, if◌then◌else◌, nat_abs, max}
 use Rattle.maid_model.specs.Views.{NodeView, RuleView}
 use Rattle.maid_model.specs.Nodes.{node_at, states_of, numbers_of, is_utility, is_utility_of}
 use Rattle.maid_model.specs.Graph.{descends}

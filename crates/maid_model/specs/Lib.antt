@@ -17,3 +17,4 @@ pub mod Names
 pub mod Reports
 pub mod Laws
 pub mod Private
+pub mod Example

@@ -1,5 +1,5 @@
 -- Rules and profiles.
-use Rattle.std.specs.Prelude.{◌≡◌, ◌≢◌, ℕ, ◌<◌, ◌*◌, ◌+◌, List, [], map, ◌==◌, if◌then◌else◌, pos, replicate, Contains}
+use Rattle.std.specs.Prelude.{◌≡◌, ◌≢◌, ℕ, ◌<◌, ◌*◌, List, [], map, ◌==◌, if◌then◌else◌, pos, replicate, Contains}
 use Rattle.std.specs.List.{range_with_len, flat_map}
 use Rattle.maid_model.specs.Views.{NodeView, RuleView}
 use Rattle.maid_model.specs.Nodes.{IsDecision, states_of, rows_of, decisions_of}

@@ -1,5 +1,5 @@
 -- Which decisions a decision relies on (Koller and Milch 2003, s-reachability), and which of its parents it needs (Lauritzen and Nilsson 2001).
-use Rattle.std.specs.Prelude.{◌≡◌, ◌≢◌, ◌⊎◌, ℕ, ◌<◌, true, List, length}
+use Rattle.std.specs.Prelude.{◌≡◌, ◌≢◌, ◌⊎◌, ℕ, ◌<◌, List, length}
 use Rattle.maid_model.specs.declared.diagrams.Kind.TheVariants.{Utility}
 use Rattle.maid_model.specs.Views.{NodeView}
 use Rattle.maid_model.specs.Nodes.{IsDecision, node_at, states_of}

@@ -1,10 +1,10 @@
 -- The tables of nodes and the rules of decisions: which cell a world picks, and what a row adds up to.
-use Rattle.std.specs.Prelude.{◌≡◌, ℕ, ◌+◌, ◌*◌, ◌<◌, ◌≤ℤ◌, List, [], ◌∷◌, length, map, slice_index, slice_index_or, ℤ, pos, nat_abs, ◌==◌, if◌then◌else◌}
+use Rattle.std.specs.Prelude.{◌≡◌, ℕ, ◌+◌, ◌*◌, ◌<◌, ◌≤ℤ◌, List, [], ◌∷◌, length, slice_index, slice_index_or, ℤ, pos, nat_abs, ◌==◌, if◌then◌else◌}
 use Rattle.maid_model.specs.declared.diagrams.Kind.{Kind}
 use Rattle.maid_model.specs.declared.diagrams.Kind.TheVariants.{Chance, Decision, Utility}
 use Rattle.maid_model.specs.Views.{NodeView, RuleView}
-use Rattle.maid_model.specs.Nodes.{node_at, states_of, parents_of, rows_of, numbers_of}
-use Rattle.maid_model.specs.Sums.{World, sum_below, product_over, nat_product_over}
+use Rattle.maid_model.specs.Nodes.{node_at, states_of, parents_of, rows_of}
+use Rattle.maid_model.specs.Sums.{World, sum_below}
 
 -- the row that the world gives to these parents, the first parent slowest; `row` stands for those before them
 abbrev pub row_from : (ℕ → ℕ) → World → ℕ → List ℕ → ℕ

@@ -8,6 +8,8 @@ mod laws;
 mod marks;
 mod profiles;
 mod pure_rules;
+#[cfg(test)]
+mod tests;
 mod weights;
 mod world_sums;
 mod worlds;

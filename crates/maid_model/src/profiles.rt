@@ -62,9 +62,7 @@ impl Profile {
     pub fn from_rules(rules: Vec<Rule>) -> Profile
         ensures { result ≡ rules.items }
     {
-        Profile {
-            rules,
-        }
+        Profile { rules }
     }
 
     /// The profile that gives every state of every decision the weight 1.
@@ -79,9 +77,7 @@ impl Profile {
                 rules.push(Rule::uniform(alloc, diagram, v)?)?;
             }
         }
-        Ok(Profile {
-            rules,
-        })
+        Ok(Profile { rules })
     }
 
     /// The rule of the decision.

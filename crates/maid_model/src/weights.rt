@@ -26,7 +26,14 @@ pub(crate) fn rule_places(diagram: &Diagram, profile: &Profile) -> [usize; MOST_
 
 /// The node's factor in the weight of a world: the chance cell or rule weight that the world picks, and 1 at a utility
 /// and at the decision that is left out.
-fn factor(diagram: &Diagram, profile: &Profile, places: &[usize], left_out: usize, v: usize, world: &World) -> u128
+fn factor(
+    diagram: &Diagram,
+    profile: &Profile,
+    places: &[usize],
+    left_out: usize,
+    v: usize,
+    world: &World,
+) -> u128
     requires node { v < length diagram.now.nodes }
     requires profile { IsProfile diagram.now.nodes profile.now }
     requires places { HasPlaces diagram.now.nodes profile.now places.now }
@@ -46,7 +53,13 @@ fn factor(diagram: &Diagram, profile: &Profile, places: &[usize], left_out: usiz
 }
 
 /// The weight of the world under the profile, but for the rule of the decision that is left out.
-pub(crate) fn world_weight(diagram: &Diagram, profile: &Profile, places: &[usize], left_out: usize, world: &World) -> u128
+pub(crate) fn world_weight(
+    diagram: &Diagram,
+    profile: &Profile,
+    places: &[usize],
+    left_out: usize,
+    world: &World,
+) -> u128
     requires profile { IsProfile diagram.now.nodes profile.now }
     requires places { HasPlaces diagram.now.nodes profile.now places.now }
     requires world { IsWorld (counts_of diagram.now.nodes) world.now }

@@ -28,9 +28,7 @@ impl World {
         ensures world { IfOk result (IsWorld (counts_of diagram.now.nodes)) }
     {
         let states = vec![in alloc; 0; diagram.count()]?;
-        Ok(World {
-            states,
-        })
+        Ok(World { states })
     }
 
     /// The row of the node's table that this world picks.

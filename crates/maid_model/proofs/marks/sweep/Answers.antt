@@ -1,4 +1,4 @@
-use Rattle.std.proofs.Common.{◌∙◌, ◌≡◌, ◌<◌, ◌≤◌, length, get_or, arith, sym, subst, ap}
+use Rattle.std.proofs.Common.{◌∙◌, ◌<◌, length, get_or, arith, sym, ap}
 use Rattle.std.specs.List.{list_any}
 use Rattle.maid_model.specs.Private.{is_near}
 use Rattle.maid_model.proofs.Cells.{parent_known}

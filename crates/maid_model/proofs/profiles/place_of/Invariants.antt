@@ -1,4 +1,4 @@
-use Rattle.std.proofs.Common.{◌≡◌, ◌≢◌, ℕ, ◌<◌, get_or}
+use Rattle.std.proofs.Common.{◌≢◌, ℕ, ◌<◌, get_or}
 use Rattle.maid_model.specs.Profiles.{no_rule}
 use Rattle.maid_model.proofs.profiles.place_of.Given as goal
 

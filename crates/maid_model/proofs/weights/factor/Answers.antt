@@ -1,4 +1,3 @@
-use Rattle.std.proofs.Common.{sym}
 use Rattle.maid_model.proofs.Weighing.{chance_within, decision_is, decision_le, cell_inside, left_out_within}
 use Rattle.maid_model.proofs.weights.factor.Goals as goal
 

@@ -1,4 +1,4 @@
-use Rattle.std.proofs.Common.{arith, rules, length, ◌≤◌}
+use Rattle.std.proofs.Common.{arith}
 use Rattle.maid_model.specs.Gains.{base_total}
 use Rattle.maid_model.specs.Worlds.{world_of}
 use Rattle.maid_model.proofs.Weighing.{factors, base_positive, product_start, product_step, product_fits, product_zero, product_end}
@@ -9,8 +9,12 @@ loop-v-init c = product_start c.args.diagram.now.nodes (factors c.args.diagram.n
 
 pub overflow_mul-weight : goal.overflow_mul-weight
 overflow_mul-weight c =
-    omega (arith, product_fits c.args.diagram.now.nodes (factors c.args.diagram.now.nodes c.args.profile.now c.args.left_out (world_of c.args.world.now)) (base_total c.args.diagram.now.nodes c.args.profile.now c.args.left_out)
-    (base_positive c.args.diagram.now c.count-v-end.ensures.diagram c.args.profile.now c.requires.profile c.args.left_out) c.loop-v.weight c.loop-v.v c.factor-weight.result c.loop-v.invariant (omega arith) c.factor-weight.ensures.factor c.factor-weight.ensures.within, c.requires.fits)
+    omega (
+      arith,
+      product_fits c.args.diagram.now.nodes (factors c.args.diagram.now.nodes c.args.profile.now c.args.left_out (world_of c.args.world.now)) (base_total c.args.diagram.now.nodes c.args.profile.now c.args.left_out)
+          (base_positive c.args.diagram.now c.count-v-end.ensures.diagram c.args.profile.now c.requires.profile c.args.left_out) c.loop-v.weight c.loop-v.v c.factor-weight.result c.loop-v.invariant (omega arith) c.factor-weight.ensures.factor c.factor-weight.ensures.within,
+      c.requires.fits,
+    )
 
 pub loop-v-preserved : goal.loop-v-preserved
 loop-v-preserved c =

@@ -1,4 +1,4 @@
-use Rattle.std.proofs.Common.{◌≡◌, ◌∙◌, ◌+◌, ◌*◌, ◌≤◌, arith, rules, pos, subst, sym, ap, length, get_or, replicate}
+use Rattle.std.proofs.Common.{◌∙◌, ◌+◌, ◌*◌, arith, rules, pos, subst, sym, ap, get_or, replicate}
 use Rattle.std.proofs.lemmas.Int.{to_z-of_z}
 use Rattle.std.specs.Int.{w128}
 use mir.Val.{to_z, of_z}
@@ -34,8 +34,11 @@ overflow_mul-row c = omega (arith, cell_times_fits c.args.diagram.now c.states-s
 
 pub overflow_add-row : goal.overflow_add-row
 overflow_add-row c =
-    omega (arith, cell_fits c.args.diagram.now c.states-states.ensures.diagram c.worlds.world c.worlds.invariant.world c.args.decision c.requires.decision.within c.row-row.result c.states-states.result c.row-row.ensures c.states-states.ensures.states c.index-state.result.now
-    (c.index-state.ensures ∙ ap (λ l. get_or l c.args.decision c.index-state.result.now) c.world.view_is))
+    omega (
+      arith,
+      cell_fits c.args.diagram.now c.states-states.ensures.diagram c.worlds.world c.worlds.invariant.world c.args.decision c.requires.decision.within c.row-row.result c.states-states.result c.row-row.ensures c.states-states.ensures.states c.index-state.result.now
+          (c.index-state.ensures ∙ ap (λ l. get_or l c.args.decision c.index-state.result.now) c.world.view_is),
+    )
 
 pub add_gain-requires-clause-cell : goal.add_gain-requires-clause-cell
 add_gain-requires-clause-cell c =

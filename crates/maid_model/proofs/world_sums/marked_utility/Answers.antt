@@ -2,7 +2,7 @@ use Rattle.std.proofs.Common.{arith}
 use Rattle.std.specs.Int.{w128}
 use mir.Val.{to_z}
 use Rattle.maid_model.specs.Worlds.{world_of}
-use Rattle.maid_model.proofs.Summing.{values, greatest_at, sum_start, sum_skip, sum_end, unmarked, row_small, row_inside, code_fits, code_step}
+use Rattle.maid_model.proofs.Summing.{values, greatest_at, sum_start, sum_skip, sum_end, unmarked, row_small, row_inside, code_step}
 use Rattle.maid_model.proofs.world_sums.marked_utility.Goals as goal
 
 pub loop-v-init : goal.loop-v-init

@@ -1,4 +1,4 @@
-use Rattle.std.proofs.Common.{◌∙◌, sym, ap, subst, set}
+use Rattle.std.proofs.Common.{ap, subst, set}
 use Rattle.maid_model.specs.Private.{IsFirstAt}
 use Rattle.maid_model.specs.Profiles.{Replaces}
 use Rattle.maid_model.specs.Views.{RuleView}

@@ -11,13 +11,13 @@ use Rattle.maid_model.proofs.profiles.Profile.uniform.Goals.{in-Decision+in_ok-u
 pub loop-v-preserved : goal.loop-v-preserved
 loop-v-preserved c =
     elim c.match-kind.branch [
-      in-Decision+in_ok-uniform+in_ok-push w ↦
-        subst (λ l. UniformSoFar c.args.diagram.now.nodes l (c.loop-v.v + 1))
-        (sym (ap (λ v. v.items) w.rules-is ∙ w.in_ok-push.ensures.items ∙ ap (λ r. c.loop-v.rules.items ++ r ∷ []) w.in_ok-uniform.ensures))
-        (uniform_step c.args.diagram.now.nodes c.loop-v.rules.items c.loop-v.v c.loop-v.invariant (omega arith) (sym w.in-Decision.ensures.kind))
-    | in_default w ↦
-        subst (λ l. UniformSoFar c.args.diagram.now.nodes l (c.loop-v.v + 1)) (sym (ap (λ v. v.items) w.rules-is))
-        (uniform_skip c.args.diagram.now.nodes c.loop-v.rules.items c.loop-v.v c.loop-v.invariant (omega arith) (λ e. w.in_default.not-Decision (c.kind.ensures.kind ∙ e)))
+      | in-Decision+in_ok-uniform+in_ok-push w ↦
+          subst (λ l. UniformSoFar c.args.diagram.now.nodes l (c.loop-v.v + 1))
+          (sym (ap (λ v. v.items) w.rules-is ∙ w.in_ok-push.ensures.items ∙ ap (λ r. c.loop-v.rules.items ++ r ∷ []) w.in_ok-uniform.ensures))
+          (uniform_step c.args.diagram.now.nodes c.loop-v.rules.items c.loop-v.v c.loop-v.invariant (omega arith) (sym w.in-Decision.ensures.kind))
+      | in_default w ↦
+          subst (λ l. UniformSoFar c.args.diagram.now.nodes l (c.loop-v.v + 1)) (sym (ap (λ v. v.items) w.rules-is))
+          (uniform_skip c.args.diagram.now.nodes c.loop-v.rules.items c.loop-v.v c.loop-v.invariant (omega arith) (λ e. w.in_default.not-Decision (c.kind.ensures.kind ∙ e)))
     ]
 
 pub returns-clause-profile : goal.returns-clause-profile

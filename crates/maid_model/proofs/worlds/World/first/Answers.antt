@@ -1,4 +1,4 @@
-use Rattle.std.proofs.Common.{◌∙◌, sym, subst, ap, replicate}
+use Rattle.std.proofs.Common.{◌∙◌, sym, subst, ap}
 use Rattle.maid_model.specs.Nodes.{counts_of}
 use Rattle.maid_model.specs.Worlds.{IsWorld, first_world}
 use Rattle.maid_model.proofs.Next.{first_is_world}

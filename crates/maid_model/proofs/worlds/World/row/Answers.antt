@@ -9,8 +9,11 @@ states-requires c = parent_known c.args.diagram.now.nodes c.args.v c.loop-u.u-in
 pub overflow_mul-row : goal.overflow_mul-row
 overflow_mul-row c =
     let known = parent_known c.args.diagram.now.nodes c.args.v c.loop-u.u-index c.parents-u-items.result.now c.parents-u-items.ensures.diagram.graph c.parents-u-items.ensures.parents c.loop-u-test.true in
-    omega (arith, row_times_fits c.args.diagram.now c.parents-u-items.ensures.diagram c.args.self.now c.requires.world c.args.v c.requires.node c.loop-u.row c.loop-u.u-index c.states.result c.parents-u-items.result.now c.loop-u.invariant c.loop-u-test.true c.states.ensures.states
-    (subst (λ n. get_or c.parents-u-items.result.now c.loop-u.u-index 0 < n) (sym (world_length c.args.diagram.now.nodes c.args.self.now c.requires.world)) known))
+    omega (
+      arith,
+      row_times_fits c.args.diagram.now c.parents-u-items.ensures.diagram c.args.self.now c.requires.world c.args.v c.requires.node c.loop-u.row c.loop-u.u-index c.states.result c.parents-u-items.result.now c.loop-u.invariant c.loop-u-test.true c.states.ensures.states
+          (subst (λ n. get_or c.parents-u-items.result.now c.loop-u.u-index 0 < n) (sym (world_length c.args.diagram.now.nodes c.args.self.now c.requires.world)) known),
+    )
 
 pub index-requires : goal.index-requires
 index-requires c =
@@ -21,9 +24,12 @@ index-requires c =
 pub overflow_add-row : goal.overflow_add-row
 overflow_add-row c =
     let known = parent_known c.args.diagram.now.nodes c.args.v c.loop-u.u-index c.parents-u-items.result.now c.parents-u-items.ensures.diagram.graph c.parents-u-items.ensures.parents c.loop-u-test.true in
-    omega (arith, row_fits c.args.diagram.now c.parents-u-items.ensures.diagram c.args.self.now c.requires.world c.args.v c.requires.node c.loop-u.row c.loop-u.u-index c.states.result c.index.result.now c.parents-u-items.result.now c.loop-u.invariant c.loop-u-test.true c.states.ensures.states
-    (c.index.ensures ∙ ap (λ l. get_or l (get_or c.parents-u-items.result.now c.loop-u.u-index 0) c.index.result.now) c.self.view_is)
-    (subst (λ n. get_or c.parents-u-items.result.now c.loop-u.u-index 0 < n) (sym (world_length c.args.diagram.now.nodes c.args.self.now c.requires.world)) known))
+    omega (
+      arith,
+      row_fits c.args.diagram.now c.parents-u-items.ensures.diagram c.args.self.now c.requires.world c.args.v c.requires.node c.loop-u.row c.loop-u.u-index c.states.result c.index.result.now c.parents-u-items.result.now c.loop-u.invariant c.loop-u-test.true c.states.ensures.states
+          (c.index.ensures ∙ ap (λ l. get_or l (get_or c.parents-u-items.result.now c.loop-u.u-index 0) c.index.result.now) c.self.view_is)
+          (subst (λ n. get_or c.parents-u-items.result.now c.loop-u.u-index 0 < n) (sym (world_length c.args.diagram.now.nodes c.args.self.now c.requires.world)) known),
+    )
 
 pub loop-u-preserved : goal.loop-u-preserved
 loop-u-preserved c =
