@@ -3,7 +3,7 @@ use Rattle.std.proofs.Common.{ℕ, List}
 use Rattle.maid_model.specs.Graph.{Arc, IsPath, Here, Along, Descends}
 use Rattle.maid_model.specs.Views.{NodeView}
 use Rattle.maid_laws.proofs.Notions.{IsParent}
-use Rattle.maid_laws.proofs.Members.{arc_of, parent_of}
+use Rattle.maid_laws.proofs.Members.{arc_of}
 use Rattle.maid_laws.proofs.Leads.{Below, child, further}
 
 module _ (Arc : ℕ → ℕ → Type 0) where
@@ -11,11 +11,6 @@ module _ (Arc : ℕ → ℕ → Type 0) where
   pub path_further : {x y v : ℕ} → IsPath Arc x v → Arc x y → IsPath Arc y v
   path_further Here a = Along a Here
   path_further (Along b p) a = Along b (path_further p a)
-
-  -- two paths in a row
-  pub path_then : {x y v : ℕ} → IsPath Arc x v → IsPath Arc y x → IsPath Arc y v
-  path_then Here q = q
-  path_then (Along b p) q = Along b (path_then p q)
 
   -- a descendant's child descends
   pub descends_further : {d x y : ℕ} → Descends Arc d x → Arc x y → Descends Arc d y
@@ -25,11 +20,3 @@ module _ (Arc : ℕ → ℕ → Type 0) where
 pub below_path : (nodes : List NodeView) {d x : ℕ} → Below (IsParent nodes) d x → Descends (Arc nodes) d x
 below_path nodes {d} (child {y = y} a) = (y, arc_of nodes d y a, Here)
 below_path nodes (further {y = y} {c = c} b a) = descends_further (Arc nodes) (below_path nodes b) (arc_of nodes y c a)
-
--- by induction over the path
-pub path_below : (nodes : List NodeView) {d x : ℕ} → Descends (Arc nodes) d x → Below (IsParent nodes) d x
-path_below nodes {d} {x} (next, a, p) = go (child (parent_of nodes d next a)) p
-  where
-    go : {y : ℕ} → Below (IsParent nodes) d y → IsPath (Arc nodes) x y → Below (IsParent nodes) d x
-    go b Here = b
-    go b (Along {u = u} {v = v} a p) = go (further b (parent_of nodes u v a)) p

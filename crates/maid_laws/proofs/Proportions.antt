@@ -163,16 +163,10 @@ module _ (nodes : List NodeView) (order : List ℕ) (setup : Setup nodes order) 
       ∙ sym (sum_each_mul (λ v. sum_at t (q d) (row_of nodes d q) (value_below nodes d v)) (mass_at nodes s d (row_of nodes d q)) (numbers_of nodes))
       ∙ ap (λ x. x *ℤ mass_at nodes s d (row_of nodes d q)) (sym (gain_split t (q d) (row_of nodes d q)))
     where
-      Equal : (World → ℤ) → Type 0
-      Equal f = sum_at s (q d) (row_of nodes d q) f *ℤ mass_at nodes t d (row_of nodes d q) ≡ sum_at t (q d) (row_of nodes d q) f *ℤ mass_at nodes s d (row_of nodes d q)
-
       if_zero : (f : World → ℤ) → ((w : World) → f w ≡ pos 0) → sum_at s (q d) (row_of nodes d q) f *ℤ mass_at nodes t d (row_of nodes d q) ≡ sum_at t (q d) (row_of nodes d q) f *ℤ mass_at nodes s d (row_of nodes d q)
       if_zero f h =
           ap (λ x. x *ℤ mass_at nodes t d (row_of nodes d q)) (sum_at_zero s (q d) (row_of nodes d q) f h) ∙ zero_mul (mass_at nodes t d (row_of nodes d q))
           ∙ sym (ap (λ x. x *ℤ mass_at nodes s d (row_of nodes d q)) (sum_at_zero t (q d) (row_of nodes d q) f h) ∙ zero_mul (mass_at nodes s d (row_of nodes d q)))
-
-      cell : ℕ → World → ℤ
-      cell v w = slice_index_or (node_at nodes v).cells (row_of nodes v w) (pos 0)
 
       cell_ignores : (v u : ℕ) → ¬ (IsParent nodes u v) → Ignores (states_of nodes) (λ w. slice_index_or (node_at nodes v).cells (row_of nodes v w) (pos 0)) u
       cell_ignores v u n = record { same = λ w i x l. ap (λ r. slice_index_or (node_at nodes v).cells r (pos 0)) (row_from_other (states_of nodes) w u x (node_at nodes v).parents (avoids u (node_at nodes v).parents n) 0) }

@@ -1,6 +1,6 @@
 -- The pure profile of answered choices: a rule of total 1 at each decision, with the weight 1 at the choice of each row.
 use Rattle.std.proofs.Common.{◌≡◌, ◌⊎◌, ◌∙◌, ℕ, zero, suc, ◌+◌, ◌-◌, ◌*◌, ◌<◌, Bool, true, false, cond, eqb, flat_map, List, [], ◌∷◌, ◌++◌, map, length, slice_index, slice_index_or, refl, sym, ap, subst, inl, inr, arith}
-use Rattle.std.proofs.lemmas.List.{length-map, length-append, get_or_append_left, get_or-append_right}
+use Rattle.std.proofs.lemmas.List.{length-map, get_or_append_left, get_or-append_right}
 use Rattle.std.proofs.lemmas.List.FromFn.{get_or-map-range_with_len}
 use Rattle.std.proofs.lemmas.List.Elements.{All-head, All-tail}
 use Rattle.std.specs.List.{range_with_len}
@@ -24,11 +24,6 @@ length_row n c = length-map (range_with_len 0 n) (λ s. cond (eqb s c) 1 0) ∙ 
 -- it is 1 at the choice
 at_row : (n c s : ℕ) → s < n → slice_index (pure_row n c) s ≡ cond (eqb s c) 1 0
 at_row n c s l = get_or-map-range_with_len (λ s. cond (eqb s c) 1 0) 0 n s s 0 l (omega arith)
-
--- all rows together
-pub length_rows : (n : ℕ) (cs : List ℕ) → length (flat_map (pure_row n) cs) ≡ length cs * n
-length_rows n [] = omega arith
-length_rows n (c ∷ cs) = length-append (pure_row n c) (flat_map (pure_row n) cs) ∙ (λ i. length_row n c i + length_rows n cs i) ∙ omega arith
 
 -- by induction over the rows
 pub at_rows : (n : ℕ) (cs : List ℕ) (r s : ℕ) → r < length cs → s < n → slice_index (flat_map (pure_row n) cs) (r * n + s) ≡ cond (eqb s (slice_index cs r)) 1 0
@@ -80,10 +75,6 @@ fits_rows nodes (a ∷ answers) v h m = go (eqb a.decision v) refl m (λ k. fits
 
 -- ---- the pure profile
 module _ (nodes : List NodeView) (answers : List AnswerView) where
-  -- the choices answered at v
-  abbrev choices_at : ℕ → List ℕ
-  choices_at v = map (λ r. r.choice) (rows_at answers v)
-
   -- its weights
   pub pure_weights : (v : ℕ) → IsDecision nodes v → weights_of (pure_profile nodes answers) v ≡ flat_map (pure_row (states_of nodes v)) (map (λ r. r.choice) (rows_at answers v))
   pure_weights v d = weights_map (λ v. pure_rule nodes v (map (λ r. r.choice) (rows_at answers v))) (λ v. refl) (decisions_of nodes) v (among_decisions nodes v d)

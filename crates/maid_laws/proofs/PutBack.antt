@@ -67,9 +67,6 @@ module _ (nodes : List NodeView) (g : OrderedGraph nodes) (s : List RuleView) (c
   mass_after p = product_over (total_from started (λ v. pos (weight_total nodes p v))) g.order
 
   module _ (d : ℕ) (d_in : d < length nodes) (d_kind : (node_at nodes d).kind ≡ Decision) (d_later : started d ≡ false) (r : List RuleView) (hr : HasTables nodes r) (relied : (e : ℕ) → ReliesOn nodes d e → weights_of r e ≡ weights_of s e) where
-    starters : List ℕ
-    starters = filter started g.order
-
     abbrev r0 : List RuleView
     r0 = with_uniform nodes (filter started g.order) r
 

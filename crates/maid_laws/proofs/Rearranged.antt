@@ -1,5 +1,5 @@
 -- Rearranged lists, lists of the first numbers, and filtered lists.
-use Rattle.std.proofs.Common.{◌≡◌, ◌≢◌, ◌⊎◌, ◌∙◌, ℕ, zero, suc, ◌+◌, ◌<◌, ◌≤◌, Bool, true, false, cond, filter, List, [], ◌∷◌, ◌++◌, length, refl, sym, ap, subst, inl, inr, arith}
+use Rattle.std.proofs.Common.{◌≡◌, ◌≢◌, ◌⊎◌, ℕ, zero, suc, ◌+◌, ◌<◌, ◌≤◌, Bool, true, false, cond, filter, List, [], ◌∷◌, ◌++◌, length, refl, sym, ap, subst, inl, inr, arith}
 use Rattle.std.specs.List.{range_with_len}
 use Rattle.maid_model.specs.Nodes.{numbers_of}
 use Rattle.maid_model.specs.Views.{NodeView}
@@ -84,15 +84,6 @@ pub among_range : (k n v : ℕ) → Among v (range_with_len k n) → v < k + n
 among_range k zero v m = absurd m
 among_range k (suc n) v (inl e) = omega arith
 among_range k (suc n) v (inr m) = let h : v < k + 1 + n = among_range (k + 1) n v m in omega arith
-
--- the same length
-pub length_shuffled : {xs ys : List ℕ} → Shuffled xs ys → length xs ≡ length ys
-length_shuffled none = refl
-length_shuffled (put {x} {xs} front back s) = ap suc (length_shuffled s) ∙ mid front back
-  where
-    mid : (front back : List ℕ) → suc (length (front ++ back)) ≡ length (front ++ x ∷ back)
-    mid [] back = refl
-    mid (y ∷ front) back = ap suc (mid front back)
 
 -- n of them
 pub length_range : (k n : ℕ) → length (range_with_len k n) ≡ n

@@ -10,13 +10,11 @@ use Rattle.maid_model.specs.Sums.{World, InRange, sum_below}
 use Rattle.maid_model.specs.Tables.{weights_of, table, table_by, cell_of, row_of}
 use Rattle.maid_model.specs.Views.{NodeView, RuleView}
 use Rattle.maid_model.proofs.Setting.{Among}
-use Rattle.maid_model.proofs.Lists.{among_filter}
 use Rattle.maid_model.proofs.Tables.{row_of-below, step_below}
 use Rattle.maid_laws.proofs.Booleans.{eqb_yes, eqb_no}
 use Rattle.maid_laws.proofs.Basis.{among_filter_in}
 use Rattle.maid_laws.proofs.Profiles.{ones_at}
 use Rattle.maid_laws.proofs.Rearranged.{number}
-use Rattle.maid_laws.proofs.Tied.{decision_of}
 
 -- ---- rules looked up
 module _ (f : ℕ → RuleView) (own : (v : ℕ) → (f v).decision ≡ v) where
@@ -39,10 +37,6 @@ pub decision_kind : (k : Kind) → is_decision k ≡ true → k ≡ Decision
 decision_kind Chance h = cc
 decision_kind Decision h = refl
 decision_kind Utility h = cc
-
--- and what is among them is one
-pub decision_among : (nodes : List NodeView) (v : ℕ) → Among v (decisions_of nodes) → IsDecision nodes v
-decision_among nodes v m = decision_of nodes v (decision_kind (node_at nodes v).kind (among_filter (λ v. is_decision (node_at nodes v).kind) v (numbers_of nodes) m).1)
 
 -- ---- the uniform profile
 pub uniform_weights : (nodes : List NodeView) (v : ℕ) → IsDecision nodes v → weights_of (uniform_profile nodes) v ≡ replicate (rows_of nodes v * states_of nodes v) 1

@@ -47,9 +47,6 @@ fixed_dec fixed x = go (fixed x)
 
 -- ---- what matters, by paths and by steps
 module _ (nodes : List NodeView) (fixed : ℕ → Bool) (goal : ℕ) where
-  abbrev Steps : ℕ → Type 0
-  Steps v = Reaches (IsParent nodes) (IsLive nodes) (IsFixedBy fixed) goal v
-
   -- along the path
   pub reaches_of : (target : ℕ) {v : ℕ} → IsPath (λ x y. Arc nodes x y × IsLive nodes y) target v → IsFixedBy fixed target ⊎ (target ≡ goal) → Reaches (IsParent nodes) (IsLive nodes) (IsFixedBy fixed) goal v
   reaches_of target Here (inl g) = at_given g
