@@ -54,8 +54,14 @@ fn ended(alloc: Global, words: &str, call: u64, room: usize) -> Result<(Status, 
     for word in words.split_whitespace() {
         list.push(word.to_string(alloc)?)?;
     }
-    let steer = ("steer.net".to_string(alloc)?, STEER.as_bytes().to_vec(alloc)?);
-    let never = ("never.net".to_string(alloc)?, NEVER.as_bytes().to_vec(alloc)?);
+    let steer = (
+        "steer.net".to_string(alloc)?,
+        STEER.as_bytes().to_vec(alloc)?,
+    );
+    let never = (
+        "never.net".to_string(alloc)?,
+        NEVER.as_bytes().to_vec(alloc)?,
+    );
     let lead = ("lead.net".to_string(alloc)?, LEAD.as_bytes().to_vec(alloc)?);
     let files = vec![in alloc; steer, never, lead]?;
     let mut shelf = MemShelf::new(files, vec![in alloc; call]?, 50);
@@ -78,7 +84,14 @@ fn runs_end_as_they_must(rt: HostRuntime) -> Result<(), Fail> {
         ("solve steer.net", 1, 200, Status::ReadFault, 3, ""),
         ("solve steer.net", 2, 200, Status::ReadFault, 3, ""),
         ("solve steer.net", 3, 200, Status::ReadFault, 3, ""),
-        ("solve steer.net", 0, 10, Status::WriteFault, 9, "maidsolve "),
+        (
+            "solve steer.net",
+            0,
+            10,
+            Status::WriteFault,
+            9,
+            "maidsolve ",
+        ),
     ] {
         let (ended, bytes) = ended(rt.alloc(), words, call, room)?;
         assert_eq!(rt; ended, status, "{words} {call} {room}");

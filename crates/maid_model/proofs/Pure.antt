@@ -95,9 +95,9 @@ pure_table states choices inside = record {
   len = length-map (flat_map (pure_row states) choices) pos ∙ rows_length states choices;
   not_negative = λ i. subst (λ x. pos 0 ≤ℤ x) (sym (pos_at (flat_map (pure_row states) choices) i)) (not_below (get_or (flat_map (pure_row states) choices) i 0));
   row = λ r h.
-    sum_below_cong states (λ s. get_or (map pos (flat_map (pure_row states) choices)) (r * states + s) (pos 0)) (λ s. pos (chosen (get_or choices r 0) s))
-    (λ s k. pos_at (flat_map (pure_row states) choices) (r * states + s) ∙ ap pos (weight_at states choices r s h k))
-    ∙ sum_one states (get_or choices r 0) (inside r 0 h);
+      sum_below_cong states (λ s. get_or (map pos (flat_map (pure_row states) choices)) (r * states + s) (pos 0)) (λ s. pos (chosen (get_or choices r 0) s))
+      (λ s k. pos_at (flat_map (pure_row states) choices) (r * states + s) ∙ ap pos (weight_at states choices r s h k))
+      ∙ sum_one states (get_or choices r 0) (inside r 0 h);
 }
 
 pub pure_is_profile : (nodes : List NodeView) (answers : List AnswerView) → FitsAnswers nodes answers → IsProfile nodes (pure_profile nodes answers)

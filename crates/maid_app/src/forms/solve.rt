@@ -1,22 +1,15 @@
-ghost use Rattle.std.specs.Prelude.{◌≡◌, IfOk, IfErr, IsErrOf, IsOk};
+ghost use Rattle.std.specs.Prelude.{List, IfOk, IfErr, IsErrOf};
 ghost use Rattle.maid_app.specs.Refusal.{IsOfBytes};
 ghost use Rattle.maid_app.specs.Solve.{Reports, LacksReport};
 ghost use Rattle.net_lexer.specs.Pieces.{IsTokens};
 ghost use Rattle.net_lexer.specs.declared.tokens.Token.{Token};
-ghost use Rattle.std.specs.Prelude.{List};
 
 use crate::refusal::Refusal;
 use net_build::first_shape;
 use net_lexer::{LexFault, Tokens, every_text_reads_one_way, lex};
 use report_text::print_report;
 use rule_solver::solve;
-use std::alloc::{AllocError, Global};
-
-impl From<AllocError> for Refusal {
-    fn from(_: AllocError) -> Refusal {
-        Refusal::NoMemory
-    }
-}
+use std::alloc::Global;
 
 // The tokens of the text. A text without tokens has no report.
 fn tokens_of(alloc: Global, text: &[u8]) -> Result<Tokens, Refusal>
@@ -44,7 +37,8 @@ pub fn answer(alloc: Global, text: &[u8]) -> Result<Vec<u8>, Refusal>
     ensures refusals { IfErr result IsOfBytes }
 {
     let tokens = tokens_of(alloc, text)?;
-    let Some((diagram, names)) = first_shape(alloc, text, &tokens).map_err(|_| Refusal::NoMemory)? else {
+    let Some((diagram, names)) = first_shape(alloc, text, &tokens).map_err(|_| Refusal::NoMemory)?
+    else {
         return Err(Refusal::NotBuilt);
     };
     let solved = solve(alloc, &diagram).map_err(|_| Refusal::NoMemory)?;

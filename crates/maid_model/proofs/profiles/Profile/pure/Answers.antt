@@ -12,14 +12,14 @@ use Rattle.maid_model.proofs.profiles.Profile.pure.Goals.{in-Decision+in_ok-pure
 pub loop-v-preserved : goal.loop-v-preserved
 loop-v-preserved c =
     elim c.match-kind.branch [
-      in-Decision+in_ok-pure+in_ok-push w ↦
-        subst (λ l. MadeSoFar c.args.diagram.now.nodes (pure_at c.args.diagram.now.nodes c.args.answers.now) l (c.loop-v.v + 1))
-        (sym (ap (λ v. v.items) w.rules-is ∙ w.in_ok-push.ensures.items ∙ ap (λ r. c.loop-v.rules.items ++ r ∷ [])
-        (w.in_ok-pure.ensures ∙ ap (λ rows. pure_rule c.args.diagram.now.nodes c.loop-v.v (map (λ row. row.choice) rows)) w.rows_at.ensures)))
-        (made_step c.args.diagram.now.nodes (pure_at c.args.diagram.now.nodes c.args.answers.now) c.loop-v.rules.items c.loop-v.v c.loop-v.invariant (omega arith) (sym w.in-Decision.ensures.kind))
-    | in_default w ↦
-        subst (λ l. MadeSoFar c.args.diagram.now.nodes (pure_at c.args.diagram.now.nodes c.args.answers.now) l (c.loop-v.v + 1)) (sym (ap (λ v. v.items) w.rules-is))
-        (made_skip c.args.diagram.now.nodes (pure_at c.args.diagram.now.nodes c.args.answers.now) c.loop-v.rules.items c.loop-v.v c.loop-v.invariant (omega arith) (λ e. w.in_default.not-Decision (c.kind.ensures.kind ∙ e)))
+      | in-Decision+in_ok-pure+in_ok-push w ↦
+          subst (λ l. MadeSoFar c.args.diagram.now.nodes (pure_at c.args.diagram.now.nodes c.args.answers.now) l (c.loop-v.v + 1))
+          (sym (ap (λ v. v.items) w.rules-is ∙ w.in_ok-push.ensures.items ∙ ap (λ r. c.loop-v.rules.items ++ r ∷ [])
+          (w.in_ok-pure.ensures ∙ ap (λ rows. pure_rule c.args.diagram.now.nodes c.loop-v.v (map (λ row. row.choice) rows)) w.rows_at.ensures)))
+          (made_step c.args.diagram.now.nodes (pure_at c.args.diagram.now.nodes c.args.answers.now) c.loop-v.rules.items c.loop-v.v c.loop-v.invariant (omega arith) (sym w.in-Decision.ensures.kind))
+      | in_default w ↦
+          subst (λ l. MadeSoFar c.args.diagram.now.nodes (pure_at c.args.diagram.now.nodes c.args.answers.now) l (c.loop-v.v + 1)) (sym (ap (λ v. v.items) w.rules-is))
+          (made_skip c.args.diagram.now.nodes (pure_at c.args.diagram.now.nodes c.args.answers.now) c.loop-v.rules.items c.loop-v.v c.loop-v.invariant (omega arith) (λ e. w.in_default.not-Decision (c.kind.ensures.kind ∙ e)))
     ]
 
 pub returns-clause-profile : goal.returns-clause-profile
