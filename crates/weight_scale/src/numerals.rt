@@ -1,6 +1,7 @@
 ghost use Rattle.std.specs.Prelude.{◌≡◌, ◌<◌, ◌≤◌, ◌+◌, ◌*◌, ◌%◌, ◌^◌, ◌++◌, length, true, IfSome, IfNone, pos, if◌then◌else◌};
 ghost use Rattle.std.specs.List.{list_all};
-ghost use Rattle.net_lexer.specs.Bytes.{is_digit, is_numeral};
+ghost use Rattle.net_lexer.specs.Bytes.{is_digit};
+ghost use Rattle.net_lexer.specs.Numerals.{is_numeral};
 ghost use Rattle.weight_scale.specs.Numeral.{number_of, signed, numerator, denominator, IsDecimalOf, IsLeastDecimalOf};
 ghost use Rattle.weight_scale.specs.Significant.{IsSignificand, IsTooLong};
 ghost use Rattle.weight_scale.specs.declared.decimal.Decimal.{Decimal};

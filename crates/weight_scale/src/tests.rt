@@ -1,5 +1,5 @@
 ghost use Rattle.std.specs.Prelude.{◌≡◌, true};
-ghost use Rattle.net_lexer.specs.Bytes.{is_numeral};
+ghost use Rattle.net_lexer.specs.Numerals.{is_numeral};
 
 use super::*;
 
