@@ -1,7 +1,8 @@
 ghost use Rattle.std.specs.Prelude.{◌≡◌, ◌<◌, ◌≤◌, ◌+◌, ◌-◌, ◌*◌, ◌^◌, ◌++◌, ◌≢◌, drop, length, replicate, slice_index, true};
 ghost use Rattle.std.specs.Option.{SomeIff};
 ghost use Rattle.std.specs.List.{prefix_len, list_all};
-ghost use Rattle.net_lexer.specs.Bytes.{is_digit, without_sign};
+ghost use Rattle.net_lexer.specs.Bytes.{is_digit};
+ghost use Rattle.net_lexer.specs.Numerals.{without_sign};
 ghost use Rattle.weight_scale.specs.Numeral.{front_digits, behind_digits, point_digits, behind_point, is_minus, number_behind, whole_digits, decimal_digits, exponent_of, exponent_size};
 
 use crate::decimal::GREATEST;
