@@ -1,15 +1,14 @@
 -- The profile of answered choices.
-use Rattle.std.proofs.Common.{◌≡◌, ◌≢◌, ◌∙◌, ℕ, zero, suc, ◌+◌, ◌*◌, ◌<◌, ◌≤◌, cond, eqb, List, [], ◌∷◌, ◌++◌, map, flat_map, length, All, get_or, refl, sym, ap, subst, arith, ℤ, pos, ◌+ℤ◌, ◌≤ℤ◌, length-append}
+use Rattle.std.proofs.Common.{◌≡◌, ◌∙◌, ℕ, zero, suc, ◌+◌, ◌*◌, ◌<◌, ◌≤◌, cond, eqb, List, [], ◌∷◌, ◌++◌, map, flat_map, length, All, get_or, refl, sym, ap, subst, arith, pos, ◌+ℤ◌, ◌≤ℤ◌, length-append}
 use Rattle.std.proofs.lemmas.Int.{ints}
 use Rattle.std.proofs.Math.Decide.{ℕ_discrete}
 use Rattle.std.proofs.lemmas.List.{length-map, get_or_append_left, get_or-append-add}
 use Rattle.std.proofs.lemmas.List.Elements.{All-map}
 use Rattle.std.proofs.lemmas.List.FromFn.{length-map-range_with_len, get_or-map-range_with_len}
-use Rattle.std.specs.List.{range_with_len}
 use Rattle.maid_model.specs.declared.answers.Row.{Row}
 use Rattle.maid_model.specs.Answers.{FitsAnswers, pure_profile, rows_at}
-use Rattle.maid_model.specs.Nodes.{IsDecision, states_of, rows_of}
-use Rattle.maid_model.specs.Profiles.{IsProfile, IsRule, pure_row, pure_rule}
+use Rattle.maid_model.specs.Nodes.{states_of}
+use Rattle.maid_model.specs.Profiles.{IsProfile, pure_row, pure_rule}
 use Rattle.maid_model.specs.Sums.{sum_below}
 use Rattle.maid_model.specs.Tables.{IsTable}
 use Rattle.maid_model.specs.Views.{NodeView, RuleView, AnswerView}

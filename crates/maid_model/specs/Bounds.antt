@@ -1,5 +1,5 @@
 -- The weight bound, under which every sum and fraction has room in 128 bits.
-use Rattle.std.specs.Prelude.{ℕ, ◌<◌, ◌≤◌, ◌+◌, ◌*◌, ◌^◌, max, List, length, take}
+use Rattle.std.specs.Prelude.{ℕ, ◌<◌, ◌≤◌, ◌+◌, ◌*◌, ◌^◌, min, max, List, length, take}
 use Rattle.maid_model.specs.declared.diagrams.Kind.{Kind}
 use Rattle.maid_model.specs.declared.diagrams.Kind.TheVariants.{Chance, Decision, Utility}
 use Rattle.maid_model.specs.Views.{NodeView, DiagramView}
@@ -33,3 +33,15 @@ KeepsBound d = bound_product d.nodes * max (10 ^ d.decimals) (greatest_utility d
 -- the first node in text at which the product over the nodes up to it passes
 abbrev pub PassesAt : List NodeView → ℕ → Type 0
 PassesAt nodes v = (v < length nodes) × (greatest_number < bound_up_to nodes (v + 1)) × ((n : ℕ) → n ≤ v → bound_up_to nodes n ≤ greatest_number)
+
+-- how many worlds there are: the product of the state counts of all chance nodes and decisions, since a utility has one state
+abbrev pub leaves : List NodeView → ℕ
+leaves nodes = nat_product_over (states_of nodes) (numbers_of nodes)
+
+-- the greatest count of worlds that is listed
+abbrev pub most_leaves : ℕ
+most_leaves = 65536
+
+-- a count, which stops at 10^18
+abbrev pub stopped : ℕ → ℕ
+stopped count = min count (10 ^ 18)

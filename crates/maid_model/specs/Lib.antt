@@ -12,6 +12,10 @@ pub mod Relevance
 pub mod Placing
 pub mod Subgames
 pub mod Answers
+pub mod Accepted
+pub mod Edits
+pub mod Trimming
+pub mod Values
 pub mod Bounds
 pub mod Names
 pub mod Reports

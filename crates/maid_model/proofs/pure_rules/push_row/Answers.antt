@@ -1,6 +1,5 @@
 use Rattle.std.proofs.Common.{◌≡◌, ◌∙◌, ◌++◌, ◌∷◌, [], ap, sym, cond, eqb, append_assoc, rules, arith, ℕ, ◌+◌}
 use Rattle.std.proofs.lemmas.List.FromFn.{map-range_with_len_more}
-use Rattle.maid_model.specs.Profiles.{pure_row}
 use Rattle.maid_model.proofs.pure_rules.push_row.Goals as goal
 
 from_nought : (s : ℕ) → 0 + s ≡ s
