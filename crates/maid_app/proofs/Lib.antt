@@ -1,2 +1,4 @@
+pub mod Bytes
 pub mod Outcomes
+pub mod Places
 pub mod Solved

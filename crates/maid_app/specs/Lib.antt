@@ -1,5 +1,10 @@
 pub mod Answers
+pub mod Faults
 pub mod Form
+pub mod Laws
+pub mod Lines
+pub mod Outcome
+pub mod Reading
 pub mod Refusal
 pub mod Request
 pub mod Solve

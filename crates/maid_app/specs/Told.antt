@@ -1,10 +1,15 @@
--- What a run read and wrote.
+-- What a run read, wrote and told.
 use Rattle.std.specs.Prelude.{◌≡◌, ◌<◌, ◌≤◌, ◌+◌, ◌⊎◌, ℕ, List, length, Option, None, Some, IfSome, IsSomeAnd}
+use Rattle.std.specs.Io.KnownBytes.{Appends}
+use Rattle.maid_io.specs.Count.{Rose}
 use Rattle.maid_io.specs.Device.{File, file_of}
+use Rattle.maid_io.specs.Whole.{AppendsPart}
+use Rattle.maid_app.specs.Answers.{Answers}
+use Rattle.maid_app.specs.Lines.{usage_line, absent_line, read_fault_line, too_long_line, write_fault_line, no_memory_line}
+use Rattle.maid_app.specs.Outcome.{text, refused}
 use Rattle.maid_app.specs.Request.{Request, file_name}
-use Rattle.maid_app.specs.Answers.{Answers, text, not_built}
 use Rattle.maid_app.specs.declared.status.Status.{Status}
-use Rattle.maid_app.specs.declared.status.Status.TheVariants.{Done, Usage, Absent, ReadFault, WriteFault, NoMemory, NotBuilt}
+use Rattle.maid_app.specs.declared.status.Status.TheVariants.{Done, Usage, Absent, ReadFault, TextTooLong, WriteFault, NoMemory}
 
 -- the most bytes of a diagram's text
 abbrev pub limit : ℕ
@@ -25,13 +30,47 @@ pub record IsTooLong (list : Option (List File)) (name : List ℕ) (given : ℕ)
 abbrev pub IsAbsent : Option (List File) → List ℕ → Type 0
 IsAbsent list name = IfSome list (λ files. file_of files name ≡ None)
 
--- the request's answer on the file is that text
-abbrev pub HasText : Option (List File) → Request → ℕ → List ℕ → Type 0
-HasText list request given report = (bytes : List ℕ) × IsText list (file_name request) given bytes × Answers request bytes (text report)
+-- the text is what comes of the request on its file
+pub record HasText (list : Option (List File)) (request : Request) (given : ℕ) (printed : List ℕ) : Type 0 where
+  pub bytes : List ℕ
+  pub is_text : IsText list (file_name request) given bytes
+  pub answers : Answers request bytes (text printed)
 
--- the request has no answer on the file that is built yet
-abbrev pub LacksText : Option (List File) → Request → ℕ → Type 0
-LacksText list request given = IsTooLong list (file_name request) given ⊎ ((bytes : List ℕ) × IsText list (file_name request) given bytes × Answers request bytes not_built)
+-- the request comes to nothing on its file's bytes, with that status and that line
+pub record Refuses (list : Option (List File)) (request : Request) (given : ℕ) (status : Status) (told : List ℕ) : Type 0 where
+  pub bytes : List ℕ
+  pub is_text : IsText list (file_name request) given bytes
+  pub answers : Answers request bytes (refused status told)
+
+-- why a file's bytes were not had, and the line that says so
+abbrev pub IsUnread : Option (List File) → List ℕ → ℕ → Status → List ℕ → Type 0
+IsUnread list name given Absent told = IsAbsent list name × (told ≡ absent_line name)
+IsUnread list name given ReadFault told = told ≡ read_fault_line name
+IsUnread list name given TextTooLong told = IsTooLong list name given × (told ≡ too_long_line name)
+IsUnread list name given NoMemory told = told ≡ no_memory_line
+IsUnread list name given status told = ⊥
+
+-- what is wrong with the request's file or with what it holds
+abbrev pub RefusesFile : Option (List File) → Request → ℕ → Status → List ℕ → Type 0
+RefusesFile list request given Done told = ⊥
+RefusesFile list request given Usage told = ⊥
+RefusesFile list request given WriteFault told = ⊥
+RefusesFile list request given Absent told = IsUnread list (file_name request) given Absent told
+RefusesFile list request given ReadFault told = IsUnread list (file_name request) given ReadFault told
+RefusesFile list request given TextTooLong told = IsUnread list (file_name request) given TextTooLong told
+RefusesFile list request given NoMemory told = told ≡ no_memory_line
+RefusesFile list request given status told = Refuses list request given status told
+
+-- What a status other than Done says, and the line that is told with it.
+abbrev pub Says : Option (List File) → Option Request → ℕ → Status → List ℕ → Type 0
+Says list requested given Usage told = (requested ≡ None) × (told ≡ usage_line)
+Says list requested given WriteFault told = told ≡ write_fault_line
+Says list requested given NoMemory told = told ≡ no_memory_line
+Says list requested given status told = IsSomeAnd requested (λ request. RefusesFile list request given status told)
+
+-- the whole line was taken, or where a write failed a proper front of it
+abbrev pub TakesLine : Option (List ℕ) → Option (List ℕ) → ℕ → ℕ → List ℕ → Type 0
+TakesLine old new before now told = Appends old new told ⊎ (Rose before now × AppendsPart old new told)
 
 -- that status, or want of memory
 abbrev pub IsOneOf : Status → Status → Type 0
@@ -42,14 +81,3 @@ abbrev pub IsBeforeWriting : Status → Type 0
 IsBeforeWriting Done = ⊥
 IsBeforeWriting WriteFault = ⊥
 IsBeforeWriting status = Unit {0}
-
--- a status that a request can end with
-abbrev pub IsPossible : Status → Type 0
-IsPossible Done = Unit {0}
-IsPossible Usage = Unit {0}
-IsPossible Absent = Unit {0}
-IsPossible ReadFault = Unit {0}
-IsPossible NotBuilt = Unit {0}
-IsPossible WriteFault = Unit {0}
-IsPossible NoMemory = Unit {0}
-IsPossible status = ⊥

@@ -1,6 +1,6 @@
 ghost use Rattle.std.specs.Prelude.{◌≡◌};
 ghost use Rattle.std.specs.Option.{option_map};
-ghost use Rattle.maid_app.specs.Request.{requested};
+ghost use Rattle.maid_app.specs.Request.{requested, file_name};
 ghost use Rattle.maid_app.specs.Form.{request_by};
 
 pub mod solve;
@@ -13,6 +13,17 @@ pub enum Form<'a> {
         /// The file's name.
         file: &'a str,
     },
+}
+
+impl<'a> Form<'a> {
+    /// The name of the form's file.
+    pub fn file(self) -> &'a str
+        ensures { result.now ≡ file_name (request_by self.entry) }
+    {
+        match self {
+            Form::Solve { file } => file,
+        }
+    }
 }
 
 /// The form that the words are of.

@@ -4,11 +4,13 @@
 //! Its contract is the program's: which status it ends with and when, and what `out` and `err`
 //! took. The way is the same for each form of words: the words are of a [`forms::Form`], a pure
 //! function makes the form's text from the file's bytes or refuses, and only then `out` is
-//! written.
+//! written. A refusal knows its status and its line for `err`.
 #![tactic(auto)]
 
 mod forms;
+mod laws;
 pub mod lines;
+mod reading;
 mod refusal;
 mod running;
 mod status;

@@ -1,8 +1,60 @@
-//! The lines that go to `err` and are the same in every run.
+//! The lines that go to `err`.
+
+ghost use Rattle.std.specs.Prelude.{◌≡◌, ◌≤◌, ◌++◌, IfOk, OnOk, length, decimal};
+ghost use Rattle.maid_model.specs.Reports.{line};
+ghost use Rattle.maid_app.specs.Lines.{fault_line};
+
+use app_lines::place;
+use itoa::Buffer;
+use std::alloc::{AllocError, Global};
 
 /// The line for words that are of no form.
 pub const USAGE: &str =
     "usage: maidsolve solve F | check F R | graph F | print F | trim F | info F A | control F A | demo K\n";
 
+/// The line where `out` couldn't be written.
+pub const WRITE_FAULT: &str = "write fault\n";
+
 /// The line where memory ran out.
 pub const NO_MEMORY: &str = "no memory\n";
+
+/// The line of these two pieces.
+pub fn told(alloc: Global, head: &[u8], name: &[u8]) -> Result<Vec<u8>, AllocError>
+    ensures { IfOk result (λ text. text.items ≡ line (head.now ++ name.now)) }
+{
+    let mut text = Vec::from_slice(alloc, head)?;
+    text.extend_from_slice(name)?;
+    text.push(b'\n')?;
+    Ok(text)
+}
+
+// Appends a whole number.
+fn push_number(text: &mut Vec<u8>, number: usize) -> Result<(), AllocError>
+    ensures { OnOk result (text.new.items ≡ text.old.items ++ decimal number) }
+{
+    let mut buffer = Buffer::new();
+    text.extend_from_slice(buffer.format(number).as_bytes())
+}
+
+/// The line of a fault of the file's bytes: the file, the line and the column of the place, and what is wrong there.
+pub fn fault(
+    alloc: Global,
+    name: &[u8],
+    bytes: &[u8],
+    at: usize,
+    words: &[u8],
+) -> Result<Vec<u8>, AllocError>
+    requires { at ≤ length bytes.now }
+    ensures { IfOk result (λ text. text.items ≡ fault_line name.now bytes.now at words.now) }
+{
+    let (line, column) = place(bytes, at);
+    let mut text = Vec::from_slice(alloc, name)?;
+    text.push(b':')?;
+    push_number(&mut text, line)?;
+    text.push(b':')?;
+    push_number(&mut text, column)?;
+    text.extend_from_slice(b": ")?;
+    text.extend_from_slice(words)?;
+    text.push(b'\n')?;
+    Ok(text)
+}

@@ -1,21 +1,21 @@
 ghost use Rattle.std.specs.Prelude.{◌≡◌};
-ghost use Rattle.maid_app.specs.Refusal.{status_of};
+ghost use Rattle.maid_app.specs.Refusal.{status_of, line_of};
 
-use crate::Status;
-use maid_io::{ReadAllFault, WriteFault};
-use std::alloc::AllocError;
+use crate::{Status, lines};
+use std::alloc::{AllocError, AllocFailed};
 
 /// Why a run doesn't write the whole text of its form.
-#[derive(Clone, Copy, Debug, PartialEq, Eq)]
+#[derive(Debug, Drop)]
 pub enum Refusal {
     /// The words are of no form.
     Usage,
-    /// The file isn't there.
-    Absent,
-    /// The file couldn't be read.
-    ReadFault,
-    /// The file is too long, or the form makes no text of it yet.
-    NotBuilt,
+    /// Something is wrong with a file or with what it holds, as the line says.
+    Told {
+        /// The status that the run ends with.
+        status: Status,
+        /// The line for `err`.
+        line: Vec<u8>,
+    },
     /// `out` couldn't be written.
     WriteFault,
     /// Memory ran out.
@@ -24,16 +24,48 @@ pub enum Refusal {
 
 impl Refusal {
     /// The status that a run ends with.
-    pub fn status(self) -> Status
-        ensures { result ≡ status_of self }
+    pub fn status(&self) -> Status
+        ensures { result ≡ status_of self.now }
     {
         match self {
             Refusal::Usage => Status::Usage,
-            Refusal::Absent => Status::Absent,
-            Refusal::ReadFault => Status::ReadFault,
-            Refusal::NotBuilt => Status::NotBuilt,
+            Refusal::Told { status, .. } => *status,
             Refusal::WriteFault => Status::WriteFault,
             Refusal::NoMemory => Status::NoMemory,
         }
+    }
+
+    /// The line for `err`.
+    pub fn line(&self) -> &[u8]
+        ensures { result.now ≡ line_of self.now }
+    {
+        match self {
+            Refusal::Usage => lines::USAGE.as_bytes(),
+            Refusal::Told { line, .. } => line.as_slice(),
+            Refusal::WriteFault => lines::WRITE_FAULT.as_bytes(),
+            Refusal::NoMemory => lines::NO_MEMORY.as_bytes(),
+        }
+    }
+}
+
+impl From<AllocError> for Refusal {
+    ghost use Rattle.std.specs.Prelude.{◌≡◌};
+    ghost use Rattle.maid_app.specs.declared.refusal.Refusal.TheVariants.{NoMemory};
+
+    ghost from_gives = { λ _ refusal. refusal ≡ NoMemory };
+
+    fn from(_error: AllocError) -> Refusal {
+        Refusal::NoMemory
+    }
+}
+
+impl<T: Drop> From<AllocFailed<T>> for Refusal {
+    ghost use Rattle.std.specs.Prelude.{◌≡◌};
+    ghost use Rattle.maid_app.specs.declared.refusal.Refusal.TheVariants.{NoMemory};
+
+    ghost from_gives = { λ _ refusal. refusal ≡ NoMemory };
+
+    fn from(_failed: AllocFailed<T>) -> Refusal {
+        Refusal::NoMemory
     }
 }

@@ -1,62 +1,76 @@
-ghost use Rattle.std.specs.Prelude.{◌≡◌, ◌≢◌, ◌⊎◌, ◌<◌, ◌≤◌, ◌↔◌, List, ℕ, length, None, Some, IfSome, IfOk, IfErr, OnOk, IsErrOf};
+ghost use Rattle.std.specs.Prelude.{◌≡◌, ◌≢◌, ◌++◌, ◌<◌, ◌≤◌, ◌↔◌, List, ℕ, length, None, Some, IfSome, IfOk, IfErr, OnOk};
 ghost use Rattle.std.specs.Io.KnownBytes.{Appends};
 ghost use Rattle.maid_io.specs.Count.{Rose};
 ghost use Rattle.maid_io.specs.Device.{file_of};
 ghost use Rattle.maid_io.specs.Whole.{AppendsPart};
 ghost use Rattle.maid_app.specs.Request.{requested, file_name};
 ghost use Rattle.maid_app.specs.Form.{request_by};
-ghost use Rattle.maid_app.specs.Answers.{Answers, text, not_built};
-ghost use Rattle.maid_app.specs.Refusal.{IsOfText};
-ghost use Rattle.maid_app.specs.Told.{limit, IsText, IsTooLong, IsAbsent, HasText, LacksText, IsPossible, IsBeforeWriting, IsOneOf};
+ghost use Rattle.maid_app.specs.Answers.{Answers};
+ghost use Rattle.maid_app.specs.Outcome.{text, refused};
+ghost use Rattle.maid_app.specs.Laws.{OneStatus};
+ghost use Rattle.maid_app.specs.Lines.{absent_line};
+ghost use Rattle.maid_app.specs.Reading.{Tells, RefusesAs};
+ghost use Rattle.maid_app.specs.Refusal.{status_of, line_of};
+ghost use Rattle.maid_model.specs.Reports.{line};
+ghost use Rattle.maid_app.specs.Told.{limit, IsText, IsUnread, RefusesFile, Says, HasText, TakesLine, IsBeforeWriting, IsOneOf};
 
-use crate::Status;
 use crate::forms::{Form, form_of, solve};
+use crate::laws::one_status;
+use crate::reading::Source;
 use crate::refusal::Refusal;
+use crate::{Status, lines};
 use maid_io::{Opened, ReadAllFault, Shelf, Sink, read_all, write_all};
 use std::alloc::Global;
 
 // The most bytes of a diagram's text.
 const LIMIT: usize = 4_194_304;
 
+// The refusal that tells the line of these two pieces. The line takes memory, which may run out.
+fn told(alloc: Global, status: Status, head: &[u8], name: &str) -> Refusal
+    ensures { Tells status (line (head.now ++ name.now)) (status_of result) (line_of result) }
+{
+    match lines::told(alloc, head, name.as_bytes()) {
+        Ok(line) => Refusal::Told { status, line },
+        Err(_) => Refusal::NoMemory,
+    }
+}
+
 // The bytes of the file of that name.
 fn read_file<H: Shelf>(alloc: Global, shelf: &mut H, name: &str) -> Result<Vec<u8>, Refusal>
     ensures ok { IfOk result (λ bytes. IsText (H.list shelf.old) name.now (H.given shelf.new) bytes.items) }
-    ensures not_built { IsErrOf result Refusal.NotBuilt → IsTooLong (H.list shelf.old) name.now (H.given shelf.new) }
-    ensures absent { IsErrOf result Refusal.Absent → IsAbsent (H.list shelf.old) name.now × Rose (H.absences shelf.old) (H.absences shelf.new) }
-    ensures read_fault { IsErrOf result Refusal.ReadFault → Rose (H.faults shelf.old) (H.faults shelf.new) }
-    ensures refusals { IfErr result IsOfText }
+    ensures err { IfErr result (λ refusal. IsUnread (H.list shelf.old) name.now (H.given shelf.new) (status_of refusal) (line_of refusal)) }
+    ensures absent_cause { IfErr result (λ refusal. status_of refusal ≡ Status.Absent → Rose (H.absences shelf.old) (H.absences shelf.new)) }
+    ensures read_cause { IfErr result (λ refusal. status_of refusal ≡ Status.ReadFault → Rose (H.faults shelf.old) (H.faults shelf.new)) }
     ensures faults { H.faults shelf.old ≤ H.faults shelf.new }
     ensures absences { H.absences shelf.old ≤ H.absences shelf.new }
     ensures list { H.list shelf.new ≡ H.list shelf.old }
 {
     match shelf.start(name) {
         Opened::Found => {}
-        Opened::Absent => return Err(Refusal::Absent),
-        Opened::Failed => return Err(Refusal::ReadFault),
+        Opened::Absent => return Err(told(alloc, Status::Absent, b"absent: ", name)),
+        Opened::Failed => return Err(told(alloc, Status::ReadFault, b"read fault: ", name)),
         Opened::NoMemory => return Err(Refusal::NoMemory),
     }
     match read_all(alloc, shelf, LIMIT) {
         Ok(bytes) => Ok(bytes),
-        Err(ReadAllFault::ReadFault) => Err(Refusal::ReadFault),
-        Err(ReadAllFault::TooLong) => Err(Refusal::NotBuilt),
+        Err(ReadAllFault::ReadFault) => {
+            Err(told(alloc, Status::ReadFault, b"read fault: ", name))
+        }
+        Err(ReadAllFault::TooLong) => {
+            Err(told(alloc, Status::TextTooLong, b"text too long: ", name))
+        }
         Err(ReadAllFault::NoMemory) => Err(Refusal::NoMemory),
     }
 }
 
-// The whole text of the form, before any byte of it is written.
+// What the form makes of its file's bytes, before any byte of it is written.
 #[tactic(auto, unfolding(crate::specs::Answers::Answers))]
-fn text_of<H: Shelf>(alloc: Global, shelf: &mut H, form: Form<'_>) -> Result<Vec<u8>, Refusal>
-    ensures ok { IfOk result (λ report. HasText (H.list shelf.old) (request_by form.entry) (H.given shelf.new) report.items) }
-    ensures not_built { IsErrOf result Refusal.NotBuilt → LacksText (H.list shelf.old) (request_by form.entry) (H.given shelf.new) }
-    ensures absent { IsErrOf result Refusal.Absent → IsAbsent (H.list shelf.old) (file_name (request_by form.entry)) × Rose (H.absences shelf.old) (H.absences shelf.new) }
-    ensures read_fault { IsErrOf result Refusal.ReadFault → Rose (H.faults shelf.old) (H.faults shelf.new) }
-    ensures refusals { IfErr result IsOfText }
-    ensures faults { H.faults shelf.old ≤ H.faults shelf.new }
-    ensures absences { H.absences shelf.old ≤ H.absences shelf.new }
-    ensures list { H.list shelf.new ≡ H.list shelf.old }
+fn text_of(alloc: Global, form: Form<'_>, bytes: &[u8]) -> Result<Vec<u8>, Refusal>
+    ensures ok { IfOk result (λ printed. Answers (request_by form.entry) bytes.now (text printed.items)) }
+    ensures err { IfErr result (λ refusal. RefusesAs (Answers (request_by form.entry) bytes.now) (status_of refusal) (line_of refusal)) }
 {
     match form {
-        Form::Solve { file } => solve::answer(alloc, &read_file(alloc, shelf, file)?),
+        Form::Solve { file } => solve::answer(alloc, Source { name: file, bytes }),
     }
 }
 
@@ -67,17 +81,19 @@ fn serve<H: Shelf, O: Sink>(
     shelf: &mut H,
     out: &mut O,
 ) -> Result<(), Refusal>
-    ensures usage { IsErrOf result Refusal.Usage ↔ (requested words.now ≡ None) }
-    ensures untouched_shelf { IsErrOf result Refusal.Usage → shelf.new ≡ shelf.old }
     ensures ok { OnOk result (IfSome (requested words.now) (λ request.
-        (report : List ℕ) × HasText (H.list shelf.old) request (H.given shelf.new) report × Appends (O.taken out.old) (O.taken out.new) report)) }
-    ensures write_fault { IsErrOf result Refusal.WriteFault → IfSome (requested words.now) (λ request.
-        (report : List ℕ) × HasText (H.list shelf.old) request (H.given shelf.new) report × AppendsPart (O.taken out.old) (O.taken out.new) report) }
-    ensures write_cause { IsErrOf result Refusal.WriteFault → Rose (O.faults out.old) (O.faults out.new) }
-    ensures not_built { IsErrOf result Refusal.NotBuilt → IfSome (requested words.now) (λ request. LacksText (H.list shelf.old) request (H.given shelf.new)) }
-    ensures absent { IsErrOf result Refusal.Absent → IfSome (requested words.now) (λ request. IsAbsent (H.list shelf.old) (file_name request)) × Rose (H.absences shelf.old) (H.absences shelf.new) }
-    ensures read_fault { IsErrOf result Refusal.ReadFault → Rose (H.faults shelf.old) (H.faults shelf.new) }
-    ensures untouched { IfErr result (λ refusal. refusal ≢ Refusal.WriteFault → out.new ≡ out.old) }
+        (printed : List ℕ) × HasText (H.list shelf.old) request (H.given shelf.new) printed × Appends (O.taken out.old) (O.taken out.new) printed)) }
+    ensures ok_words { OnOk result (requested words.now ≢ None) }
+    ensures err { IfErr result (λ refusal. Says (H.list shelf.old) (requested words.now) (H.given shelf.new) (status_of refusal) (line_of refusal)) }
+    ensures usage { IfErr result (λ refusal. (status_of refusal ≡ Status.Usage) ↔ (requested words.now ≡ None)) }
+    ensures untouched_shelf { IfErr result (λ refusal. status_of refusal ≡ Status.Usage → shelf.new ≡ shelf.old) }
+    ensures part { IfErr result (λ refusal. status_of refusal ≡ Status.WriteFault → IfSome (requested words.now) (λ request.
+        (printed : List ℕ) × HasText (H.list shelf.old) request (H.given shelf.new) printed × AppendsPart (O.taken out.old) (O.taken out.new) printed)) }
+    ensures absent_cause { IfErr result (λ refusal. status_of refusal ≡ Status.Absent → Rose (H.absences shelf.old) (H.absences shelf.new)) }
+    ensures read_cause { IfErr result (λ refusal. status_of refusal ≡ Status.ReadFault → Rose (H.faults shelf.old) (H.faults shelf.new)) }
+    ensures write_cause { IfErr result (λ refusal. status_of refusal ≡ Status.WriteFault → Rose (O.faults out.old) (O.faults out.new)) }
+    ensures untouched { IfErr result (λ refusal. status_of refusal ≢ Status.WriteFault → out.new ≡ out.old) }
+    ensures not_done { IfErr result (λ refusal. status_of refusal ≢ Status.Done) }
     ensures out_faults { O.faults out.old ≤ O.faults out.new }
     ensures faults { H.faults shelf.old ≤ H.faults shelf.new }
     ensures absences { H.absences shelf.old ≤ H.absences shelf.new }
@@ -86,7 +102,8 @@ fn serve<H: Shelf, O: Sink>(
     let Some(form) = form_of(words) else {
         return Err(Refusal::Usage);
     };
-    let text = text_of(alloc, shelf, form)?;
+    let bytes = read_file(alloc, shelf, form.file())?;
+    let text = text_of(alloc, form, &bytes)?;
     write_all(out, &text).map_err(|_| Refusal::WriteFault)
 }
 
@@ -94,13 +111,12 @@ fn serve<H: Shelf, O: Sink>(
 ///
 /// The words are those of one form: `solve F` writes the report of the diagram in the file F of
 /// the shelf to `out`. The whole text is made before its first byte is written, and writing takes
-/// no memory.
+/// no memory. After a status other than [`Status::Done`] `err` takes one line that says why.
 ///
-/// The order of refusals is [`Status::Usage`] where the words are of no form, [`Status::Absent`]
-/// and [`Status::ReadFault`] for the file, [`Status::NotBuilt`] for its bytes, and
-/// [`Status::WriteFault`]. [`Status::NoMemory`] may come at any point after the words and before
-/// the first write. `err` takes nothing yet.
-#[tactic(auto, using(crate::proofs::Outcomes::one_outcome))]
+/// The order of refusals is [`Status::Usage`] where the words are of no form, [`Status::Absent`],
+/// [`Status::ReadFault`] and [`Status::TextTooLong`] for the file, [`Status::TextFault`] and
+/// [`Status::NotBuilt`] for its bytes, and [`Status::WriteFault`]. [`Status::NoMemory`] may come at
+/// any point after the words and before the first write. A fault of `err` changes nothing else.
 pub fn run<H: Shelf, O: Sink, E: Sink>(
     alloc: Global,
     words: &[String],
@@ -108,45 +124,54 @@ pub fn run<H: Shelf, O: Sink, E: Sink>(
     out: &mut O,
     err: &mut E,
 ) -> Status
-    ensures status { IsPossible result }
-
     // The words.
     ensures usage { (result ≡ Status.Usage) ↔ (requested words.now ≡ None) }
     ensures usage_reads_nothing { result ≡ Status.Usage → shelf.new ≡ shelf.old }
 
-    // What went before each other answer. Where the shelf tells no list, it was a cause that it counts.
-    ensures absent { result ≡ Status.Absent → IfSome (requested words.now) (λ request. IsAbsent (H.list shelf.old) (file_name request)) }
-    ensures absent_cause { result ≡ Status.Absent → Rose (H.absences shelf.old) (H.absences shelf.new) }
-    ensures read_fault { result ≡ Status.ReadFault → Rose (H.faults shelf.old) (H.faults shelf.new) }
-    ensures not_built { result ≡ Status.NotBuilt → IfSome (requested words.now) (λ request. LacksText (H.list shelf.old) request (H.given shelf.new)) }
-    ensures write_fault { result ≡ Status.WriteFault → Rose (O.faults out.old) (O.faults out.new) }
-
     // What `out` took: the whole text, a proper front of it, or nothing.
     ensures done { result ≡ Status.Done → IfSome (requested words.now) (λ request.
-        (report : List ℕ) × HasText (H.list shelf.old) request (H.given shelf.new) report × Appends (O.taken out.old) (O.taken out.new) report) }
+        (printed : List ℕ) × HasText (H.list shelf.old) request (H.given shelf.new) printed × Appends (O.taken out.old) (O.taken out.new) printed) }
     ensures part { result ≡ Status.WriteFault → IfSome (requested words.now) (λ request.
-        (report : List ℕ) × HasText (H.list shelf.old) request (H.given shelf.new) report × AppendsPart (O.taken out.old) (O.taken out.new) report) }
+        (printed : List ℕ) × HasText (H.list shelf.old) request (H.given shelf.new) printed × AppendsPart (O.taken out.old) (O.taken out.new) printed) }
     ensures untouched { IsBeforeWriting result → out.new ≡ out.old }
+
+    // What `err` took: nothing, or the line that says why.
+    ensures silent { result ≡ Status.Done → err.new ≡ err.old }
+    ensures told { result ≢ Status.Done → (line : List ℕ) × Says (H.list shelf.old) (requested words.now) (H.given shelf.new) result line
+        × TakesLine (E.taken err.old) (E.taken err.new) (E.faults err.old) (E.faults err.new) line }
+
+    // Where the devices tell nothing, they counted a cause.
+    ensures absent_cause { result ≡ Status.Absent → Rose (H.absences shelf.old) (H.absences shelf.new) }
+    ensures read_cause { result ≡ Status.ReadFault → Rose (H.faults shelf.old) (H.faults shelf.new) }
+    ensures write_cause { result ≡ Status.WriteFault → Rose (O.faults out.old) (O.faults out.new) }
 
     // Nothing else keeps it from an answer.
     ensures always_absent { IfSome (requested words.now) (λ request. IfSome (H.list shelf.old) (λ files.
         file_of files (file_name request) ≡ None → ¬ Rose (H.faults shelf.old) (H.faults shelf.new) → IsOneOf result Status.Absent)) }
-    ensures always_not_built { IfSome (requested words.now) (λ request. IfSome (H.list shelf.old) (λ files. (bytes : List ℕ) →
-        file_of files (file_name request) ≡ Some bytes → (limit < length bytes) ⊎ Answers request bytes not_built
-        → ¬ Rose (H.faults shelf.old) (H.faults shelf.new) → IsOneOf result Status.NotBuilt)) }
-    ensures always_done { IfSome (requested words.now) (λ request. IfSome (H.list shelf.old) (λ files. (bytes report : List ℕ) →
-        file_of files (file_name request) ≡ Some bytes → length bytes ≤ limit → Answers request bytes (text report)
+    ensures always_too_long { IfSome (requested words.now) (λ request. IfSome (H.list shelf.old) (λ files. (bytes : List ℕ) →
+        file_of files (file_name request) ≡ Some bytes → limit < length bytes
+        → ¬ Rose (H.faults shelf.old) (H.faults shelf.new) → IsOneOf result Status.TextTooLong)) }
+    ensures always_refused { IfSome (requested words.now) (λ request. IfSome (H.list shelf.old) (λ files. (bytes told : List ℕ) (status : Status) →
+        file_of files (file_name request) ≡ Some bytes → length bytes ≤ limit → Answers request bytes (refused status told)
+        → ¬ Rose (H.faults shelf.old) (H.faults shelf.new) → IsOneOf result status)) }
+    ensures always_done { IfSome (requested words.now) (λ request. IfSome (H.list shelf.old) (λ files. (bytes printed : List ℕ) →
+        file_of files (file_name request) ≡ Some bytes → length bytes ≤ limit → Answers request bytes (text printed)
         → ¬ Rose (H.faults shelf.old) (H.faults shelf.new) → ¬ Rose (O.faults out.old) (O.faults out.new) → IsOneOf result Status.Done)) }
 
     // What any answer leaves.
-    ensures err { err.new ≡ err.old }
     ensures list { H.list shelf.new ≡ H.list shelf.old }
     ensures faults { H.faults shelf.old ≤ H.faults shelf.new }
     ensures absences { H.absences shelf.old ≤ H.absences shelf.new }
     ensures out_faults { O.faults out.old ≤ O.faults out.new }
+    ensures err_faults { E.faults err.old ≤ E.faults err.new }
 {
+    // Bytes come to one status.
+    one_status();
     match serve(alloc, words, shelf, out) {
         Ok(()) => Status::Done,
-        Err(refusal) => refusal.status(),
+        Err(refusal) => {
+            let _ = write_all(err, refusal.line());
+            refusal.status()
+        }
     }
 }

@@ -48,8 +48,13 @@ potential (UB | Leader Follower) { data = (1 0 0 1); }
 ";
 
 // Runs the words over a shelf of these files whose call of that number fails, and over an `out` with so
-// much room whose writes take ten bytes at most. It gives the status and what `out` took.
-fn ended(alloc: Global, words: &str, call: u64, room: usize) -> Result<(Status, Vec<u8>), Fail> {
+// much room whose writes take ten bytes at most. It gives the status and what `out` and `err` took.
+fn ended(
+    alloc: Global,
+    words: &str,
+    call: u64,
+    room: usize,
+) -> Result<(Status, Vec<u8>, Vec<u8>), Fail> {
     let mut list = Vec::new(alloc);
     for word in words.split_whitespace() {
         list.push(word.to_string(alloc)?)?;
@@ -63,27 +68,74 @@ fn ended(alloc: Global, words: &str, call: u64, room: usize) -> Result<(Status, 
         NEVER.as_bytes().to_vec(alloc)?,
     );
     let lead = ("lead.net".to_string(alloc)?, LEAD.as_bytes().to_vec(alloc)?);
-    let files = vec![in alloc; steer, never, lead]?;
+    let open = (
+        "open.net".to_string(alloc)?,
+        b"net {\n a = \"b".to_vec(alloc)?,
+    );
+    let files = vec![in alloc; steer, never, lead, open]?;
     let mut shelf = MemShelf::new(files, vec![in alloc; call]?, 50);
     let mut out = MemSink::new(alloc, room, Vec::new(alloc), 10)?;
-    let mut err = MemSink::new(alloc, 0, Vec::new(alloc), 1)?;
+    let mut err = MemSink::new(alloc, 200, Vec::new(alloc), 7)?;
     let status = run(alloc, &list, &mut shelf, &mut out, &mut err);
-    Ok((status, out.bytes().to_vec(alloc)?))
+    Ok((
+        status,
+        out.bytes().to_vec(alloc)?,
+        err.bytes().to_vec(alloc)?,
+    ))
 }
 
 #[test]
 fn runs_end_as_they_must(rt: HostRuntime) -> Result<(), Fail> {
-    for (words, call, room, status, code, took) in [
-        ("solve steer.net", 0, 200, Status::Done, 0, REPORT),
-        ("solve never.net", 0, 200, Status::Done, 0, NEVER_REPORT),
-        ("solve lead.net", 0, 200, Status::NotBuilt, 13, ""),
-        ("", 0, 200, Status::Usage, 1, ""),
-        ("--help", 0, 200, Status::Usage, 1, ""),
-        ("solve steer.net lead.net", 0, 200, Status::Usage, 1, ""),
-        ("solve gone.net", 0, 200, Status::Absent, 2, ""),
-        ("solve steer.net", 1, 200, Status::ReadFault, 3, ""),
-        ("solve steer.net", 2, 200, Status::ReadFault, 3, ""),
-        ("solve steer.net", 3, 200, Status::ReadFault, 3, ""),
+    for (words, call, room, status, code, took, told) in [
+        ("solve steer.net", 0, 200, Status::Done, 0, REPORT, ""),
+        ("solve never.net", 0, 200, Status::Done, 0, NEVER_REPORT, ""),
+        (
+            "solve lead.net",
+            0,
+            200,
+            Status::NotBuilt,
+            13,
+            "",
+            "not built\n",
+        ),
+        ("", 0, 200, Status::Usage, 1, "", lines::USAGE),
+        ("--help", 0, 200, Status::Usage, 1, "", lines::USAGE),
+        (
+            "solve gone.net",
+            0,
+            200,
+            Status::Absent,
+            2,
+            "",
+            "absent: gone.net\n",
+        ),
+        (
+            "solve steer.net",
+            1,
+            200,
+            Status::ReadFault,
+            3,
+            "",
+            "read fault: steer.net\n",
+        ),
+        (
+            "solve steer.net",
+            2,
+            200,
+            Status::ReadFault,
+            3,
+            "",
+            "read fault: steer.net\n",
+        ),
+        (
+            "solve open.net",
+            0,
+            200,
+            Status::TextFault,
+            5,
+            "",
+            "open.net:2:6: open string\n",
+        ),
         (
             "solve steer.net",
             0,
@@ -91,12 +143,14 @@ fn runs_end_as_they_must(rt: HostRuntime) -> Result<(), Fail> {
             Status::WriteFault,
             9,
             "maidsolve ",
+            "write fault\n",
         ),
     ] {
-        let (ended, bytes) = ended(rt.alloc(), words, call, room)?;
+        let (ended, bytes, line) = ended(rt.alloc(), words, call, room)?;
         assert_eq!(rt; ended, status, "{words} {call} {room}");
         assert_eq!(rt; ended.code(), code, "{words} {call} {room}");
         assert_eq!(rt; bytes.as_slice(), took.as_bytes(), "{words} {call} {room}");
+        assert_eq!(rt; line.as_slice(), told.as_bytes(), "{words} {call} {room}");
     }
     Ok(())
 }

@@ -1,34 +1,20 @@
-ghost use Rattle.std.specs.Prelude.{IfOk, IfErr, IsErrOf};
+ghost use Rattle.std.specs.Prelude.{IfOk, IfErr};
 ghost use Rattle.maid_model.specs.Bounds.{KeepsBound};
 ghost use Rattle.maid_model.specs.Names.{NamesFit};
 ghost use Rattle.rule_solver.specs.Answered.{NoneRelies};
-ghost use Rattle.maid_app.specs.Refusal.{IsOfBytes};
-ghost use Rattle.maid_app.specs.Solve.{HasReport, Reports, LacksReport};
-ghost use Rattle.net_lexer.specs.Pieces.{IsTokens};
+ghost use Rattle.maid_app.specs.Outcome.{text};
+ghost use Rattle.maid_app.specs.Reading.{RefusesAs};
+ghost use Rattle.maid_app.specs.Refusal.{status_of, line_of};
+ghost use Rattle.maid_app.specs.Solve.{HasReport, Solves};
 
+use crate::reading::Source;
 use crate::refusal::Refusal;
+use crate::{Status, lines};
 use maid_model::Diagram;
 use net_build::{Names, first_shape};
-use net_lexer::{LexFault, Tokens, every_text_reads_one_way, lex};
 use report_text::print_report;
 use rule_solver::solve;
 use std::alloc::{AllocError, Global};
-
-// The tokens of the text. A text without tokens has no report.
-fn tokens_of(alloc: Global, text: &[u8]) -> Result<Tokens, Refusal>
-    ensures ok { IfOk result (λ tokens. IsTokens text.now tokens) }
-    ensures not_built { IsErrOf result Refusal.NotBuilt → LacksReport text.now }
-    ensures refusals { IfErr result IsOfBytes }
-{
-    every_text_reads_one_way();
-    match lex(alloc, text) {
-        Ok(tokens) => Ok(tokens),
-        Err(LexFault::NoMemory) => Err(Refusal::NoMemory),
-        Err(LexFault::BadByte { .. }) => Err(Refusal::NotBuilt),
-        Err(LexFault::OpenString { .. }) => Err(Refusal::NotBuilt),
-        Err(LexFault::BadNumeral { .. }) => Err(Refusal::NotBuilt),
-    }
-}
 
 // The report of the diagram's answer.
 fn report_of(alloc: Global, diagram: &Diagram, names: &Names) -> Result<Vec<u8>, AllocError>
@@ -45,21 +31,19 @@ fn report_of(alloc: Global, diagram: &Diagram, names: &Names) -> Result<Vec<u8>,
 ///
 /// # Errors
 ///
-/// [`Refusal::NotBuilt`] exactly where the bytes are no text of the one shape that is solved yet, and
-/// [`Refusal::NoMemory`].
+/// The fault of the bytes, that they are no text of the one shape that is solved yet, or want of memory.
 #[tactic(auto, using(crate::proofs::Solved::lone_relies_on_none, crate::proofs::Solved::reports_of))]
-pub fn answer(alloc: Global, text: &[u8]) -> Result<Vec<u8>, Refusal>
-    ensures ok { IfOk result (λ report. Reports text.now report.items) }
-    ensures not_built { IsErrOf result Refusal.NotBuilt → LacksReport text.now }
-    ensures refusals { IfErr result IsOfBytes }
+pub fn answer(alloc: Global, source: Source<'_>) -> Result<Vec<u8>, Refusal>
+    ensures ok { IfOk result (λ report. Solves source.entry.name.now source.entry.bytes.now (text report.items)) }
+    ensures err { IfErr result (λ refusal. RefusesAs (Solves source.entry.name.now source.entry.bytes.now) (status_of refusal) (line_of refusal)) }
 {
-    let tokens = tokens_of(alloc, text)?;
-    match first_shape(alloc, text, &tokens) {
-        Ok(Some((diagram, names))) => match report_of(alloc, &diagram, &names) {
-            Ok(report) => Ok(report),
-            Err(AllocError) => Err(Refusal::NoMemory),
-        },
-        Ok(None) => Err(Refusal::NotBuilt),
-        Err(AllocError) => Err(Refusal::NoMemory),
+    let tokens = source.tokens(alloc)?;
+    let _tree = source.tree(alloc, &tokens)?;
+    match first_shape(alloc, source.bytes, &tokens)? {
+        Some((diagram, names)) => Ok(report_of(alloc, &diagram, &names)?),
+        None => Err(Refusal::Told {
+            status: Status::NotBuilt,
+            line: lines::told(alloc, b"not built", b"")?,
+        }),
     }
 }

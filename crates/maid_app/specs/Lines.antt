@@ -1,0 +1,29 @@
+-- The lines of `err`.
+use Rattle.std.specs.Prelude.{ℕ, List, [], ◌∷◌, ◌++◌, codes, decimal}
+use Rattle.maid_model.specs.Reports.{line}
+use Rattle.app_lines.specs.Places.{line_at, column_at}
+
+abbrev pub usage_line : List ℕ
+usage_line = line (codes "usage: maidsolve solve F | check F R | graph F | print F | trim F | info F A | control F A | demo K")
+
+abbrev pub absent_line : List ℕ → List ℕ
+absent_line name = line (codes "absent: " ++ name)
+
+abbrev pub read_fault_line : List ℕ → List ℕ
+read_fault_line name = line (codes "read fault: " ++ name)
+
+abbrev pub too_long_line : List ℕ → List ℕ
+too_long_line name = line (codes "text too long: " ++ name)
+
+-- the file, the line and the column of the place, and what is wrong there
+abbrev pub fault_line : List ℕ → List ℕ → ℕ → List ℕ → List ℕ
+fault_line name text at words = line (name ++ 58 ∷ decimal (line_at text at) ++ 58 ∷ decimal (column_at text at) ++ 58 ∷ 32 ∷ words)
+
+abbrev pub write_fault_line : List ℕ
+write_fault_line = line (codes "write fault")
+
+abbrev pub no_memory_line : List ℕ
+no_memory_line = line (codes "no memory")
+
+abbrev pub not_built_line : List ℕ
+not_built_line = line (codes "not built")

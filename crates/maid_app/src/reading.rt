@@ -1,0 +1,93 @@
+//! From a file's bytes to the tree that they stand for, or to the line of their fault.
+
+ghost use Rattle.std.specs.Prelude.{◌≡◌, ◌≤◌, All, IfOk, IfErr, length};
+ghost use Rattle.net_lexer.specs.Pieces.{IsTokens, IsRefusal};
+ghost use Rattle.net_parser.specs.Faults.{Refuses};
+ghost use Rattle.net_parser.specs.Grammar.{Spells};
+ghost use Rattle.net_parser.specs.Lexemes.{lexemes};
+ghost use Rattle.net_parser.specs.Owned.{IsBlockOf};
+ghost use Rattle.maid_app.specs.Lines.{fault_line};
+ghost use Rattle.maid_app.specs.Reading.{Tells, RefusesBytes};
+ghost use Rattle.maid_app.specs.Refusal.{status_of, line_of};
+
+use crate::refusal::Refusal;
+use crate::{Status, lines};
+use net_lexer::{LexFault, Tokens, lex, tokens_stand_in_their_text};
+use net_parser::{ParseFault, Syntax, parse};
+use std::alloc::Global;
+
+/// A file's name and its bytes.
+#[derive(Clone, Copy)]
+pub struct Source<'a> {
+    pub name: &'a str,
+    pub bytes: &'a [u8],
+}
+
+impl Source<'_> {
+    // The refusal that tells the fault at that place. Its line takes memory, which may run out.
+    fn fault(self, alloc: Global, at: usize, words: &[u8]) -> Refusal
+        requires { at ≤ length self.bytes.now }
+        ensures { Tells Status.TextFault (fault_line self.entry.name.now self.entry.bytes.now at words.now) (status_of result) (line_of result) }
+    {
+        match lines::fault(alloc, self.name.as_bytes(), self.bytes, at, words) {
+            Ok(line) => Refusal::Told {
+                status: Status::TextFault,
+                line,
+            },
+            Err(_) => Refusal::NoMemory,
+        }
+    }
+
+    // The refusal of bytes that have no tokens.
+    fn token_refusal(self, alloc: Global, fault: LexFault) -> Refusal
+        requires { IsRefusal self.bytes.now fault }
+        ensures { RefusesBytes self.entry.name.now self.entry.bytes.now (status_of result) (line_of result) }
+    {
+        match fault {
+            LexFault::BadByte { at } => self.fault(alloc, at, b"bad byte"),
+            LexFault::OpenString { at } => self.fault(alloc, at, b"open string"),
+            LexFault::BadNumeral { at } => self.fault(alloc, at, b"bad numeral"),
+            LexFault::NoMemory => Refusal::NoMemory,
+        }
+    }
+
+    // The refusal of tokens that spell no tree.
+    fn grammar_refusal(self, alloc: Global, tokens: &Tokens, fault: ParseFault) -> Refusal
+        requires tokens { IsTokens self.bytes.now tokens.now }
+        requires refuses { Refuses self.bytes.now tokens.now fault }
+        ensures { RefusesBytes self.entry.name.now self.entry.bytes.now (status_of result) (line_of result) }
+    {
+        // The place of the fault is in the text.
+        tokens_stand_in_their_text();
+        match fault {
+            ParseFault::Unexpected { at } => self.fault(alloc, at, b"unexpected"),
+            ParseFault::Unsupported { at } => self.fault(alloc, at, b"unsupported"),
+            ParseFault::TooDeep { at } => self.fault(alloc, at, b"too deep"),
+            ParseFault::NoMemory => Refusal::NoMemory,
+        }
+    }
+
+    /// The tokens of the bytes.
+    pub fn tokens(self, alloc: Global) -> Result<Tokens, Refusal>
+        ensures ok { IfOk result (λ tokens. IsTokens self.entry.bytes.now tokens) }
+        ensures err { IfErr result (λ refusal. RefusesBytes self.entry.name.now self.entry.bytes.now (status_of refusal) (line_of refusal)) }
+    {
+        match lex(alloc, self.bytes) {
+            Ok(tokens) => Ok(tokens),
+            Err(fault) => Err(self.token_refusal(alloc, fault)),
+        }
+    }
+
+    /// The tree that the tokens of the bytes spell.
+    pub fn tree(self, alloc: Global, tokens: &Tokens) -> Result<Syntax, Refusal>
+        requires { IsTokens self.bytes.now tokens.now }
+        ensures spells { IfOk result (λ tree. Spells tree (lexemes self.entry.bytes.now tokens.now)) }
+        ensures blocks { IfOk result (λ tree. All (IsBlockOf self.entry.bytes.now) tree) }
+        ensures err { IfErr result (λ refusal. RefusesBytes self.entry.name.now self.entry.bytes.now (status_of refusal) (line_of refusal)) }
+    {
+        match parse(alloc, self.bytes, tokens) {
+            Ok(tree) => Ok(tree),
+            Err(fault) => Err(self.grammar_refusal(alloc, tokens, fault)),
+        }
+    }
+}
