@@ -2,6 +2,9 @@
 //! solving that comes of it, or the cycle where there is none.
 #![tactic(auto)]
 
+mod placed;
 mod relevance;
+mod reliance;
+mod walks;
 
-pub use relevance::Relevance;
+pub use relevance::{Relevance, find_relevance};

@@ -1,7 +1,12 @@
-ghost use Rattle.std.specs.Prelude.{◌≡◌, ◌<◌, ◌↔◌, length, IsTrue, MatchResult};
+ghost use Rattle.std.specs.Prelude.{◌≡◌, ◌<◌, ◌↔◌, length, IsTrue, IfOk, MatchResult};
+ghost use Rattle.relevance_graph.specs.Relevant.{IsRelevance};
 ghost use Rattle.relevance_graph.specs.Views.{ReliesTo};
 
+use crate::placed::place_decisions;
+use crate::reliance::list_reliance;
 use diagram_graph::Placing;
+use maid_model::Diagram;
+use std::alloc::{AllocError, Global};
 use std::marker::Model;
 
 /// Which decisions rely on which, and the order of solving or the relevance cycle.
@@ -43,4 +48,15 @@ impl Relevance {
             Placing::Cycle(cycle) => Err(cycle),
         }
     }
+}
+
+/// The relevance graph of the diagram. It searches once for each decision of two states or more, from all utilities of
+/// its agent that descend from it, which goes over all arcs a few times: decisions times arcs in all, and for the order
+/// or the cycle at most as many looks as there are nodes times pairs of which one relies on the other.
+pub fn find_relevance(alloc: Global, diagram: &Diagram) -> Result<Relevance, AllocError>
+    ensures { IfOk result (IsRelevance diagram.now.nodes) }
+{
+    let relied_on = list_reliance(alloc, diagram)?;
+    let placing = place_decisions(alloc, diagram, &relied_on)?;
+    Ok(Relevance { relied_on, placing })
 }
