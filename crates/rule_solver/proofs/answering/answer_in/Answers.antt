@@ -1,10 +1,10 @@
-use Rattle.std.proofs.Common.{◌≡◌, ◌^◌, ℕ, length, subst, sym, slice_index, IfOk, rules}
+use Rattle.std.proofs.Common.{◌≡◌, ◌^◌, length, subst, slice_index, IfOk, rules}
 use Rattle.std.proofs.lemmas.Result.{IfOk-weaker}
 use Rattle.maid_model.specs.Nodes.{rows_of, states_of}
 use Rattle.rule_solver.specs.Answered.{IsAnsweredBy}
 use Rattle.rule_solver.specs.Rows.{AnswersRows, gain_in}
 use Rattle.rule_solver.proofs.DecisionLemmas.{answered_by}
-use Rattle.rule_solver.proofs.solving.answer_in.Goals as goal
+use Rattle.rule_solver.proofs.answering.answer_in.Goals as goal
 
 pub returns-clause-rows : goal.returns-clause-rows
 returns-clause-rows c =

@@ -3,7 +3,7 @@ use Rattle.std.specs.List.{range_with_len}
 use Rattle.maid_model.specs.Nodes.{numbers_of}
 use Rattle.maid_model.specs.Sums.{nat_product_over}
 use Rattle.rule_solver.specs.Masses.{chance_factor}
-use Rattle.rule_solver.proofs.solving.chance_mass.Given as goal
+use Rattle.rule_solver.proofs.worths.chance_mass.Given as goal
 
 -- the product so far and that of the nodes still to come are the whole
 abbrev pub invariant-loop-v : goal.invariant-loop-v

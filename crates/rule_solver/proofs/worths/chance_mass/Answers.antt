@@ -1,9 +1,8 @@
-use Rattle.std.proofs.Common.{◌≡◌, ◌∙◌, ◌*◌, ◌^◌, ◌≤◌, ◌<◌, sym, subst, arith, length}
+use Rattle.std.proofs.Common.{◌∙◌, ◌*◌, ◌≤◌, sym, subst, arith}
 use Rattle.maid_model.specs.Bounds.{bound_product}
 use Rattle.maid_model.specs.Diagrams.{greatest_number}
-use Rattle.rule_solver.specs.Masses.{chance_factor}
 use Rattle.rule_solver.proofs.MassLemmas.{IsMassStep, mass_step, mass_end, room_scale, chance_product_le, chance_is_mass}
-use Rattle.rule_solver.proofs.solving.chance_mass.Goals as goal
+use Rattle.rule_solver.proofs.worths.chance_mass.Goals as goal
 
 pub overflow_mul-mass : goal.overflow_mul-mass
 overflow_mul-mass c =

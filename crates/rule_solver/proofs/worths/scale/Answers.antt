@@ -1,6 +1,6 @@
-use Rattle.std.proofs.Common.{ℕ, ◌^◌, ◌<◌, ◌≤◌, subst, sym, arith}
+use Rattle.std.proofs.Common.{◌^◌, ◌<◌, ◌≤◌, subst, sym, arith}
 use Rattle.std.proofs.Math.Nat.{pow-le-pow_right, one-le-pow}
-use Rattle.rule_solver.proofs.solving.scale.Goals as goal
+use Rattle.rule_solver.proofs.worths.scale.Goals as goal
 
 -- a diagram has at most 30 decimals
 pub pow-requires : goal.pow-requires

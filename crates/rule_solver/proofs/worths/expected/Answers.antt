@@ -1,4 +1,4 @@
-use Rattle.std.proofs.Common.{◌∙◌, ◌+◌, ◌*◌, ◌^◌, ◌≤◌, FitsSigned, rules, sym, subst}
+use Rattle.std.proofs.Common.{◌∙◌, ◌+◌, ◌*◌, ◌≤◌, FitsSigned, rules, sym, subst}
 use Rattle.std.proofs.lemmas.Int.{to_z-of_z}
 use Rattle.std.specs.Int.{w128}
 use Rattle.maid_model.specs.Answers.{IsFraction}
@@ -6,7 +6,7 @@ use Rattle.maid_model.specs.Gains.{gain_of, mass}
 use Rattle.maid_model.specs.Nodes.{states_of}
 use Rattle.rule_solver.specs.Masses.{HasGains}
 use Rattle.rule_solver.proofs.MassLemmas.{mass_le, room_under, gains-push}
-use Rattle.rule_solver.proofs.solving.expected.Goals as goal
+use Rattle.rule_solver.proofs.worths.expected.Goals as goal
 
 -- a total of 1 is at most the count of states
 pub leaf_sum-gain-requires-clause-fits : goal.leaf_sum-gain-requires-clause-fits

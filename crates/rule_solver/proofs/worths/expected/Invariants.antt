@@ -1,6 +1,6 @@
 use Rattle.std.proofs.Common.{◌≡◌}
 use Rattle.rule_solver.specs.Masses.{HasGains}
-use Rattle.rule_solver.proofs.solving.expected.Given as goal
+use Rattle.rule_solver.proofs.worths.expected.Given as goal
 
 -- the gains so far; the world is the first again
 abbrev pub invariant-loop-agent : goal.invariant-loop-agent
