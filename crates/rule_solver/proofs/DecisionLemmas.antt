@@ -1,5 +1,5 @@
 -- What the two sums of a decision make of its answered rows.
-use Rattle.std.proofs.Common.{◌≡◌, ◌∙◌, ℕ, ◌*◌, ◌^◌, ◌<◌, List, length, All, slice_index, slice_index_or, get_or, sym, ap, subst, ℤ, pos, ◌<ℤ◌, nat_abs, arith}
+use Rattle.std.proofs.Common.{◌≡◌, ◌∙◌, ℕ, ◌*◌, ◌^◌, ◌<◌, List, length, slice_index, get_or, sym, subst, ℤ, pos, ◌<ℤ◌, nat_abs, arith}
 use Rattle.std.proofs.lemmas.Int.{ints}
 use Rattle.maid_model.specs.declared.answers.Row.{Row}
 use Rattle.maid_model.specs.Answers.{IsAnswerRow, IsFraction, no_row}

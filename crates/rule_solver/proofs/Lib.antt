@@ -1,5 +1,12 @@
-pub mod RowLemmas
-pub mod DecisionLemmas
-pub mod DecisionLists
-pub mod MassLemmas
-pub mod AnswerLemmas
+mod Tests
+mod Members
+mod Orders
+mod LeafLemmas
+mod MassLemmas
+mod RowLemmas
+mod DecisionLemmas
+mod PureRules
+mod AnsweredRules
+mod BaseLemmas
+mod AnswerLemmas
+mod Promises

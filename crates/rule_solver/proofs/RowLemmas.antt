@@ -1,11 +1,11 @@
 -- Rows of a table of gains, and answered rows.
-use Rattle.std.proofs.Common.{◌≡◌, ◌∙◌, ◌⊎◌, ℕ, ◌+◌, ◌*◌, ◌<◌, ◌≤◌, List, [], ◌∷◌, ◌++◌, length, All, IfSome, slice_index_or, get_or, refl, sym, ap, subst, inl, inr, ℤ, pos, ◌≤ℤ◌, ◌<ℤ◌, nat_abs, arith, length-append}
-use Rattle.std.proofs.lemmas.List.{get_or_default, get_or_append_left}
+use Rattle.std.proofs.Common.{◌≡◌, ◌∙◌, ℕ, ◌+◌, ◌*◌, ◌<◌, List, [], ◌∷◌, ◌++◌, length, IfSome, get_or, sym, ap, subst, ℤ, ◌≤ℤ◌, ◌<ℤ◌, arith, length-append}
+use Rattle.std.proofs.lemmas.List.{get_or_append_left}
 use Rattle.std.proofs.Math.Seq.{get_or-append_seam}
 use Rattle.std.proofs.lemmas.List.Elements.{All-push}
-use Rattle.std.proofs.Math.Decide.{ℕ_discrete, dec_lt}
+use Rattle.std.proofs.Math.Decide.{ℕ_discrete}
 use Rattle.maid_model.specs.declared.answers.Row.{Row}
-use Rattle.maid_model.specs.Answers.{IsFirstBest, IsFraction, IsReduced, no_row}
+use Rattle.maid_model.specs.Answers.{IsFraction, IsReduced, no_row}
 use Rattle.rule_solver.specs.Rows.{AnswersRow, AnswersRows}
 
 -- what is answered looks at the gains of the row's states alone

@@ -1,10 +1,10 @@
--- What is answered at a decision against a base, and diagrams in which no decision relies on another.
-use Rattle.std.specs.Prelude.{◌≡◌, ◌<◌, ℕ, List, All, map, length, slice_index_or, IfSome}
+-- What is answered at a decision against a base, and at the first decisions of an order.
+use Rattle.std.specs.Prelude.{◌≡◌, ◌<◌, ℕ, List, All, Contains, map, length, slice_index_or, IfSome}
 use Rattle.maid_model.specs.declared.answers.Row.{Row}
 use Rattle.maid_model.specs.Views.{NodeView, RuleView, AnswerView}
 use Rattle.maid_model.specs.Nodes.{states_of, rows_of}
 use Rattle.maid_model.specs.Relevance.{ReliesOn}
-use Rattle.maid_model.specs.Answers.{IsAnswerRow, IsReduced, no_row}
+use Rattle.maid_model.specs.Answers.{FitsAnswer, IsAnswerAt, IsAnswerRow, IsReduced, no_row, pure_profile}
 
 -- a row for each choice of the parents' states, each answered against the base, with choices in range and worths in lowest terms
 pub record IsAnsweredBy (nodes : List NodeView) (decimals : ℕ) (base : List RuleView) (d : ℕ) (rows : List Row) : Type 0 where
@@ -13,11 +13,12 @@ pub record IsAnsweredBy (nodes : List NodeView) (decimals : ℕ) (base : List Ru
   pub choices : All (λ r. r.choice < states_of nodes d) rows
   pub worths : All (λ r. IfSome r.worth IsReduced) rows
 
--- each decision of the list is answered against the base, in the list's order
-pub record AnswersAll (nodes : List NodeView) (decimals : ℕ) (base : List RuleView) (order : List ℕ) (answers : List AnswerView) : Type 0 where
-  pub follow : map (λ a. a.decision) answers ≡ order
-  pub each : All (λ a. IsAnsweredBy nodes decimals base a.decision a.rows) answers
+-- the list has each decision that one of its members relies on
+abbrev pub IsClosed : List NodeView → List ℕ → Type 0
+IsClosed nodes placed = (v e : ℕ) → Contains placed v → ReliesOn nodes v e → Contains placed e
 
--- no decision relies on another
-abbrev pub NoneRelies : List NodeView → Type 0
-NoneRelies nodes = (d e : ℕ) → ReliesOn nodes d e → ⊥
+-- the decisions of the list are answered in its order, each against its base in the answered rules
+pub record AnswersAll (nodes : List NodeView) (decimals : ℕ) (placed : List ℕ) (answers : List AnswerView) : Type 0 where
+  pub follow : map (λ a. a.decision) answers ≡ placed
+  pub fits : All (FitsAnswer nodes) answers
+  pub each : All (λ a. IsAnswerAt nodes decimals (pure_profile nodes answers) a.decision a.rows) answers

@@ -1,3 +1,5 @@
+pub mod Greatest
+pub mod Products
 pub mod Signs
 pub mod Stripped
 pub mod Tens

@@ -1,19 +1,31 @@
-use Rattle.std.proofs.Common.{◌∙◌, sym, subst, ap}
-use Rattle.maid_model.specs.Answers.{FitsAnswers, pure_profile}
-use Rattle.rule_solver.specs.Answered.{AnswersAll}
-use Rattle.rule_solver.proofs.AnswerLemmas.{answers_fit, is_answer}
+use Rattle.std.proofs.Common.{ℕ, sym, subst}
+use Rattle.maid_model.specs.Answers.{pure_profile}
+use Rattle.maid_model.specs.Placing.{IsRelianceCycle}
+use Rattle.maid_model.specs.Subgames.{IsOptimal, IsSubgamePerfect, OwnsAll}
+use Rattle.relevance_graph.specs.Relevant.{IsBlockedBy, IsOutcome}
+use Rattle.rule_solver.specs.Promised.{KeepsWorth}
+use Rattle.rule_solver.proofs.Promises.{both}
 use Rattle.rule_solver.proofs.solving.solve.Goals as goal
 
-pub expected-requires-clause-profile : goal.expected-requires-clause-profile
-expected-requires-clause-profile c =
-    let d = c.args.diagram.now in
-    c.in_ok-profile.ensures.profile (subst (FitsAnswers d.nodes) (sym c.deref-2.ensures.value)
-    (answers_fit d.nodes d.decimals c.in_ok-base.base c.in_ok-order.order.items c.in_ok-answers.answers.items c.in_ok-order.ensures
-    (subst (λ l. AnswersAll d.nodes d.decimals c.in_ok-base.base l c.in_ok-answers.answers.items) c.deref.ensures.value c.in_ok-answers.ensures.answers)))
+-- each law holds of an answer of a diagram
+pub returns-in-Ok-clause-subgame_perfect : goal.returns-in-Ok-clause-subgame_perfect
+returns-in-Ok-clause-subgame_perfect c =
+    both c.args.diagram.now c.solve_ordered.result (λ solved. IsSubgamePerfect c.args.diagram.now.nodes (pure_profile c.args.diagram.now.nodes solved.answers))
+    (λ solved d h. c.answers_are_subgame_perfect.ensures.law c.args.diagram.now solved d.graph d.tables h) c.solve_ordered.ensures.diagram c.solve_ordered.ensures.ok
 
-pub returns : goal.returns
-returns c =
-    let d = c.args.diagram.now in
-    is_answer d c.in_ok-base.base c.in_ok-profile.profile c.in_ok-order.order.items c.in_ok-answers.answers.items c.in_ok-gains.gains.items
-    c.in_ok-base.ensures.rules c.in_ok-base.ensures.profile (c.in_ok-profile.ensures.rules ∙ ap (pure_profile d.nodes) c.deref-2.ensures.value) c.requires.none_relies
-    c.in_ok-order.ensures (subst (λ l. AnswersAll d.nodes d.decimals c.in_ok-base.base l c.in_ok-answers.answers.items) c.deref.ensures.value c.in_ok-answers.ensures.answers) c.in_ok-gains.ensures.gains
+pub returns-in-Ok-clause-optimal : goal.returns-in-Ok-clause-optimal
+returns-in-Ok-clause-optimal c =
+    both c.args.diagram.now c.solve_ordered.result (λ solved. (agent : ℕ) → OwnsAll c.args.diagram.now.nodes agent → IsOptimal c.args.diagram.now.nodes (pure_profile c.args.diagram.now.nodes solved.answers) agent)
+    (λ solved d h agent owns. c.answers_are_optimal.ensures.law c.args.diagram.now solved agent d.graph d.tables h owns) c.solve_ordered.ensures.diagram c.solve_ordered.ensures.ok
+
+pub returns-in-Ok-clause-worth : goal.returns-in-Ok-clause-worth
+returns-in-Ok-clause-worth c =
+    both c.args.diagram.now c.solve_ordered.result (KeepsWorth c.args.diagram.now)
+    (λ solved d h v row is live inside mass. c.worth_under_the_profile.ensures.answer c.args.diagram.now solved v row d.graph d.tables h is live inside mass) c.solve_ordered.ensures.diagram c.solve_ordered.ensures.ok
+
+-- the relevance graph tells the cycle, and that there is no order
+pub returns-clause-fault : goal.returns-clause-fault
+returns-clause-fault c =
+    let nodes = c.args.diagram.now.nodes in
+    let blocked : IsBlockedBy nodes c.in-Err.cycle.now = subst (IsOutcome nodes) c.in-Err.ensures c.in_ok-relevance.ensures.outcome in
+    (subst (IsRelianceCycle nodes) (sym c.in_ok-from_slice-in-Err.ensures.items) blocked.is_cycle, λ o. blocked.no_order o.0 o.1)

@@ -1,0 +1,4 @@
+pub mod Marking
+pub mod Listing
+pub mod Walking
+pub mod Outcomes

@@ -1,0 +1,10 @@
+use Rattle.diagram_graph.specs.Cycles.{rows_of}
+use Rattle.relevance_graph.proofs.Outcomes.{needs_relies}
+use Rattle.relevance_graph.proofs.relevance.find_relevance.Goals as goal
+
+pub returns : goal.returns
+returns c = record {
+  count = c.in_ok-relied_on.ensures.count;
+  pairs = needs_relies c.args.diagram.now.nodes (rows_of c.in_ok-relied_on.relied_on.items) c.in_ok-relied_on.ensures;
+  outcome = c.in_ok-placing.ensures;
+}

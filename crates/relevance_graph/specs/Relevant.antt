@@ -1,0 +1,24 @@
+-- What a relevance graph tells of a diagram.
+use Rattle.std.specs.Prelude.{◌≡◌, ◌↔◌, ℕ, List, length, Result, Ok, Err}
+use Rattle.maid_model.specs.Views.{NodeView}
+use Rattle.maid_model.specs.Placing.{IsRelianceOrder, IsRelianceCycle}
+use Rattle.maid_model.specs.Relevance.{ReliesOn}
+use Rattle.diagram_graph.specs.Rounds.{IsRing}
+use Rattle.relevance_graph.specs.Views.{RelevanceView, ReliesTo}
+
+-- the relevance cycle: a ring of decisions each of which relies on the next, so that no order of solving has them all
+pub record IsBlockedBy (nodes : List NodeView) (cycle : List ℕ) : Type 0 where
+  pub is_cycle : IsRelianceCycle nodes cycle
+  pub ring : IsRing (ReliesOn nodes) cycle
+  pub no_order : (order : List ℕ) → IsRelianceOrder nodes order → ⊥
+
+-- the order of solving, or the relevance cycle
+abbrev pub IsOutcome : List NodeView → Result (List ℕ) (List ℕ) → Type 0
+IsOutcome nodes (Ok order) = IsRelianceOrder nodes order
+IsOutcome nodes (Err cycle) = IsBlockedBy nodes cycle
+
+-- the relevance graph of a diagram: it tells of each pair of numbers whether the one relies on the other
+pub record IsRelevance (nodes : List NodeView) (view : RelevanceView) : Type 0 where
+  pub count : length view.relied_on ≡ length nodes
+  pub pairs : (d e : ℕ) → ReliesTo view d e ↔ ReliesOn nodes d e
+  pub outcome : IsOutcome nodes view.outcome

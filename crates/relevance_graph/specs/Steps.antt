@@ -1,0 +1,38 @@
+-- What the steps of finding a relevance graph promise one another. Only private functions cite this file.
+use Rattle.std.specs.Prelude.{◌≡◌, ◌↔◌, ◌<◌, ℕ, List, length, Contains, slice_index}
+use Rattle.maid_model.specs.declared.diagrams.Kind.TheVariants.{Utility}
+use Rattle.maid_model.specs.Views.{NodeView}
+use Rattle.maid_model.specs.Nodes.{IsDecision, node_at}
+use Rattle.maid_model.specs.Graph.{Arc}
+use Rattle.maid_model.specs.Relevance.{IsLive, IsFixed, IsGoal, ReliesOn}
+use Rattle.maid_model.specs.Walks.{IsReachedFromParent}
+use Rattle.bayes_ball.specs.Search.{MarksView, IsIn}
+use Rattle.diagram_graph.specs.Needs.{needs_of}
+
+-- a decision of two states or more
+abbrev pub IsLiveDecision : List NodeView → ℕ → Type 0
+IsLiveDecision nodes v = IsDecision nodes v × IsLive nodes v
+
+-- a utility of the agent
+abbrev pub IsUtilityOf : List NodeView → ℕ → ℕ → Type 0
+IsUtilityOf nodes agent v = ((node_at nodes v).kind ≡ Utility) × ((node_at nodes v).owner ≡ agent)
+
+-- given d and its parents an active walk leads from an extra parent of e to a goal of d
+abbrev pub LeadsToGoal : List NodeView → ℕ → ℕ → Type 0
+LeadsToGoal nodes d e =
+    (goal : ℕ) × IsGoal nodes d goal × IsReachedFromParent (Arc nodes) (IsLive nodes) (IsFixed (Arc nodes) d) (length nodes) e goal
+
+-- the marks tell from which nodes' extra parents an active walk leads to a goal of d
+pub record IsSearchedFor (nodes : List NodeView) (d : ℕ) (marks : MarksView) : Type 0 where
+  pub count : length marks.reached ≡ length nodes
+  pub parents : (e : ℕ) → e < length nodes → IsIn marks.parents_reached e ↔ LeadsToGoal nodes d e
+
+-- the numbers below n with the property P, each once, in rising order
+pub record ListsBelow (P : ℕ → Type 0) (n : ℕ) (list : List ℕ) : Type 0 where
+  pub members : (v : ℕ) → Contains list v ↔ (P v × (v < n))
+  pub rising : (i j : ℕ) → i < j → j < length list → slice_index list i < slice_index list j
+
+-- for each of the first n nodes those that it relies on, in text order
+pub record TellsReliance (nodes : List NodeView) (n : ℕ) (lists : List (List ℕ)) : Type 0 where
+  pub count : length lists ≡ n
+  pub each : (d : ℕ) → d < n → ListsBelow (ReliesOn nodes d) (length nodes) (needs_of lists d)

@@ -1,0 +1,62 @@
+ghost use Rattle.std.specs.Prelude.{◌≡◌, ◌<◌, ◌↔◌, length, IsTrue, IfOk, MatchResult};
+ghost use Rattle.relevance_graph.specs.Relevant.{IsRelevance};
+ghost use Rattle.relevance_graph.specs.Views.{ReliesTo};
+
+use crate::placed::place_decisions;
+use crate::reliance::list_reliance;
+use diagram_graph::Placing;
+use maid_model::Diagram;
+use std::alloc::{AllocError, Global};
+use std::marker::Model;
+
+/// Which decisions rely on which, and the order of solving or the relevance cycle.
+#[derive(Debug, Drop)]
+pub struct Relevance {
+    /// For each node the decisions that it relies on, in text order.
+    relied_on: Vec<Vec<usize>>,
+    placing: Placing,
+}
+
+impl Model for Relevance {
+    ghost use Rattle.diagram_graph.specs.Cycles.{rows_of};
+    ghost use Rattle.relevance_graph.specs.Views.{RelevanceView, outcome_of};
+
+    ghost Value = { RelevanceView };
+
+    ghost view = { λ r. record { relied_on = rows_of r.relied_on.items; outcome = outcome_of r.placing } };
+}
+
+impl Relevance {
+    /// Whether the one node relies on the other: it doesn't where either is no decision of two states or more. It takes
+    /// no memory, and goes through what the decision relies on.
+    pub fn relies(&self, decision: usize, on: usize) -> bool
+        requires { decision < length self.now.relied_on }
+        ensures { IsTrue result ↔ ReliesTo self.now decision on }
+    {
+        self.relied_on[decision].contains(&on)
+    }
+
+    /// The order of solving: each time the first decision in text, all of whose relied-on decisions stand before it. An
+    /// `Err` has the relevance cycle where there is no such order of all decisions: from the first decision that can't
+    /// be placed it goes each time to the first such decision on which the last one relies, until one comes twice, and
+    /// it is the list from the first visit of that one. It takes no memory.
+    pub fn order(&self) -> Result<&[usize], &[usize]>
+        ensures { MatchResult result (λ order. self.now.outcome ≡ Ok order.now) (λ cycle. self.now.outcome ≡ Err cycle.now) }
+    {
+        match &self.placing {
+            Placing::Order(order) => Ok(order),
+            Placing::Cycle(cycle) => Err(cycle),
+        }
+    }
+}
+
+/// The relevance graph of the diagram. It searches once for each decision of two states or more, from all utilities of
+/// its agent that descend from it, which goes over all arcs a few times: decisions times arcs in all, and for the order
+/// or the cycle at most as many looks as there are nodes times pairs of which one relies on the other.
+pub fn find_relevance(alloc: Global, diagram: &Diagram) -> Result<Relevance, AllocError>
+    ensures { IfOk result (IsRelevance diagram.now.nodes) }
+{
+    let relied_on = list_reliance(alloc, diagram)?;
+    let placing = place_decisions(alloc, diagram, &relied_on)?;
+    Ok(Relevance { relied_on, placing })
+}

@@ -1,0 +1,86 @@
+ghost use Rattle.std.specs.Prelude.{◌≡◌, ◌<◌, ◌↔◌, length, IsTrue, IfOk, OnOk};
+ghost use Rattle.maid_model.specs.Nodes.{IsDecision};
+ghost use Rattle.maid_model.specs.Relevance.{IsLive, ReliesOn};
+ghost use Rattle.diagram_graph.specs.Cycles.{rows_of};
+ghost use Rattle.relevance_graph.specs.Steps.{IsLiveDecision, IsSearchedFor, ListsBelow, TellsReliance};
+
+use crate::walks::search_from_goals;
+use bayes_ball::Marks;
+use maid_model::{Diagram, Kind};
+use std::alloc::{AllocError, Global};
+
+/// Whether it is a decision of two states or more.
+fn is_live_decision(diagram: &Diagram, v: usize) -> bool
+    requires { v < length diagram.now.nodes }
+    ensures { IsTrue result ↔ IsLiveDecision diagram.now.nodes v }
+{
+    let node = diagram.node(v);
+    match node.kind {
+        Kind::Decision => node.states > 1,
+        Kind::Chance | Kind::Utility => false,
+    }
+}
+
+/// Whether the decision relies on the node, by the marks of its search.
+fn relies_on(diagram: &Diagram, decision: usize, on: usize, marks: &Marks) -> bool
+    requires decision { IsLiveDecision diagram.now.nodes decision }
+    requires on { on < length diagram.now.nodes }
+    requires marks { IsSearchedFor diagram.now.nodes decision marks.now }
+    ensures { IsTrue result ↔ ReliesOn diagram.now.nodes decision on }
+{
+    on != decision && is_live_decision(diagram, on) && marks.reached_parent_of(on)
+}
+
+/// What the decision relies on, by the marks of its search.
+fn list_relied_on(
+    alloc: Global,
+    diagram: &Diagram,
+    decision: usize,
+    marks: &Marks,
+) -> Result<Vec<usize>, AllocError>
+    requires decision { IsLiveDecision diagram.now.nodes decision }
+    requires marks { IsSearchedFor diagram.now.nodes decision marks.now }
+    ensures { IfOk result (λ list. ListsBelow (ReliesOn diagram.now.nodes decision) (length diagram.now.nodes) list.items) }
+{
+    let mut list = Vec::new(alloc);
+    for on in 0..diagram.count() {
+        if relies_on(diagram, decision, on, marks) {
+            list.push(on)?;
+        }
+    }
+    Ok(list)
+}
+
+/// What the node relies on, by one search where it is a decision of two states or more.
+fn relied_on_by(
+    alloc: Global,
+    diagram: &Diagram,
+    v: usize,
+    fixed: &mut [bool],
+    marks: &mut Marks,
+) -> Result<Vec<usize>, AllocError>
+    requires within { v < length diagram.now.nodes }
+    requires fixed { length fixed.old ≡ length diagram.now.nodes }
+    requires marks { length marks.old.reached ≡ length diagram.now.nodes }
+    ensures list { IfOk result (λ list. ListsBelow (ReliesOn diagram.now.nodes v) (length diagram.now.nodes) list.items) }
+    ensures marks { OnOk result (length marks.new.reached ≡ length diagram.now.nodes) }
+{
+    if !is_live_decision(diagram, v) {
+        return Ok(Vec::new(alloc));
+    }
+    search_from_goals(alloc, diagram, v, fixed, marks)?;
+    list_relied_on(alloc, diagram, v, marks)
+}
+
+/// What each node relies on, in text order.
+pub(crate) fn list_reliance(alloc: Global, diagram: &Diagram) -> Result<Vec<Vec<usize>>, AllocError>
+    ensures { IfOk result (λ lists. TellsReliance diagram.now.nodes (length diagram.now.nodes) (rows_of lists.items)) }
+{
+    let mut marks = Marks::new(alloc, diagram)?;
+    let mut fixed = vec![in alloc; false; diagram.count()]?;
+    let mut lists = Vec::with_capacity(alloc, diagram.count())?;
+    for v in 0..diagram.count() {
+        lists.push(relied_on_by(alloc, diagram, v, &mut fixed, &mut marks)?)?;
+    }
+    Ok(lists)
+}

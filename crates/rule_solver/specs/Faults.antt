@@ -1,0 +1,20 @@
+-- What a refusal tells of the diagram.
+use Rattle.std.specs.Prelude.{◌≡◌, ℕ, ◌<◌, ◌^◌, min, List, Some, None}
+use Rattle.maid_model.specs.Bounds.{KeepsBound, PassesAt}
+use Rattle.maid_model.specs.Placing.{IsRelianceOrder, IsRelianceCycle}
+use Rattle.maid_model.specs.Views.{NodeView, DiagramView}
+use Rattle.rule_solver.specs.declared.faults.SolveFault.{SolveFault}
+use Rattle.rule_solver.specs.declared.faults.SolveFault.TheVariants.{Cycle, WeightBound, NotBuilt, NoMemory}
+use Rattle.rule_solver.specs.Leaves.{leaves, most_leaves}
+
+-- all decisions can be placed in an order of solving
+abbrev pub HasSolvingOrder : List NodeView → Type 0
+HasSolvingOrder nodes = (order : List ℕ) × IsRelianceOrder nodes order
+
+-- Each refusal where those before it don't apply: the relevance cycle; the first node at which the weight bound is passed, or else the utilities; and too many worlds, counted up to ten to the power of 18. Want of memory tells nothing.
+abbrev pub Tells : DiagramView → SolveFault → Type 0
+Tells d (Cycle list) = IsRelianceCycle d.nodes list.items × (HasSolvingOrder d.nodes → ⊥)
+Tells d (WeightBound (Some v)) = HasSolvingOrder d.nodes × (KeepsBound d → ⊥) × PassesAt d.nodes v
+Tells d (WeightBound None) = HasSolvingOrder d.nodes × (KeepsBound d → ⊥) × ((v : ℕ) → PassesAt d.nodes v → ⊥)
+Tells d (NotBuilt count) = HasSolvingOrder d.nodes × KeepsBound d × (most_leaves < leaves d.nodes) × (count ≡ min (leaves d.nodes) (10 ^ 18))
+Tells d NoMemory = Unit {0}

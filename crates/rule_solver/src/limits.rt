@@ -1,0 +1,67 @@
+ghost use Rattle.std.specs.Prelude.{◌≡◌, ◌≤◌, ◌^◌, min, IsOk, IfErr, OnOk};
+ghost use Rattle.maid_model.specs.Bounds.{KeepsBound};
+ghost use Rattle.maid_model.specs.Diagrams.{IsDiagram};
+ghost use Rattle.rule_solver.specs.Faults.{HasSolvingOrder, Tells};
+ghost use Rattle.rule_solver.specs.Leaves.{leaves, most_leaves};
+
+use crate::SolveFault;
+use maid_model::Diagram;
+use weight_scale::{BoundPlace, bound};
+
+/// The greatest number of worlds that are gone through.
+const MOST_LEAVES: u128 = 65_536;
+
+/// At which number the worlds are counted no further.
+const COUNT_END: u128 = 1_000_000_000_000_000_000;
+
+/// How many worlds the diagram has, or 10 to the power of 18 where that is less.
+fn count_leaves(diagram: &Diagram) -> u128
+    ensures leaves { result ≡ min (leaves diagram.now.nodes) (10 ^ 18) }
+    ensures diagram { IsDiagram diagram.now }
+{
+    let mut leaves: u128 = 1;
+    for v in 0..diagram.count() {
+        leaves = COUNT_END.min(leaves * diagram.states(v) as u128);
+    }
+    leaves
+}
+
+/// Refuses a diagram that doesn't keep the weight bound.
+fn keep_bound(diagram: &Diagram) -> Result<(), SolveFault>
+    requires { HasSolvingOrder diagram.now.nodes }
+    ensures kept { OnOk result (KeepsBound diagram.now) }
+    ensures fault { IfErr result (Tells diagram.now) }
+{
+    match bound(diagram) {
+        BoundPlace::Within => Ok(()),
+        BoundPlace::Node(v) => Err(SolveFault::WeightBound { node: Some(v) }),
+        BoundPlace::Utilities => Err(SolveFault::WeightBound { node: None }),
+    }
+}
+
+/// Refuses a diagram with too many worlds.
+fn keep_leaves(diagram: &Diagram) -> Result<(), SolveFault>
+    requires order { HasSolvingOrder diagram.now.nodes }
+    requires bound { KeepsBound diagram.now }
+    ensures kept { OnOk result (leaves diagram.now.nodes ≤ most_leaves) }
+    ensures diagram { IsDiagram diagram.now }
+    ensures fault { IfErr result (Tells diagram.now) }
+{
+    let leaves = count_leaves(diagram);
+    if leaves > MOST_LEAVES {
+        return Err(SolveFault::NotBuilt { leaves });
+    }
+    Ok(())
+}
+
+/// Refuses a diagram that doesn't keep the weight bound, or else one with too many worlds.
+pub(crate) fn keep_limits(diagram: &Diagram) -> Result<(), SolveFault>
+    requires { HasSolvingOrder diagram.now.nodes }
+    ensures bound { OnOk result (KeepsBound diagram.now) }
+    ensures leaves { OnOk result (leaves diagram.now.nodes ≤ most_leaves) }
+    ensures diagram { OnOk result (IsDiagram diagram.now) }
+    ensures fault { IfErr result (Tells diagram.now) }
+{
+    keep_bound(diagram)?;
+    keep_leaves(diagram)
+}
