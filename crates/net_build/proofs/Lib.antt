@@ -2,3 +2,4 @@ pub mod Fronts
 pub mod Spelled
 pub mod Numerals
 pub mod FirstDiagram
+pub mod Passing

@@ -5,10 +5,15 @@
 #![tactic(auto)]
 
 mod cursor;
+mod faults;
 mod first;
+mod links;
 mod names;
+mod nodes;
 mod run;
+mod tables;
 
+pub use faults::{BuildFault, BuildKind, Limit};
 pub use first::first_shape;
 pub use names::Names;
 
