@@ -3,3 +3,4 @@ pub mod Spelled
 pub mod Numerals
 pub mod FirstDiagram
 pub mod Passing
+pub mod PlaceLemmas

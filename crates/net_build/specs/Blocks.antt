@@ -1,6 +1,6 @@
 -- Looking up what the blocks of a text say. Each look-up has an answer for every tree; it is the one that is meant where the passes before it find nothing.
 use Rattle.std.specs.Prelude.{◌≡◌, ◌*◌, ℕ, Bool, true, false, not, ◌&&◌, ◌||◌, List, [], ◌∷◌, Option, None, Some, map, filter, find, length, drop, nat_le, bytes_eq, codes, slice_index_or, if◌then◌else◌}
-use Rattle.std.specs.List.{list_all, prefix_len}
+use Rattle.std.specs.List.{list_all, position_or_len}
 use Rattle.std.specs.Option.{option_map_or}
 use Rattle.maid_model.specs.declared.diagrams.Kind.{Kind}
 use Rattle.maid_model.specs.declared.diagrams.Kind.TheVariants as model
@@ -86,11 +86,11 @@ has_table Node = true
 has_table Utility = true
 has_table kind = false
 
--- the name of an attribute that counts in a node block
+-- the name of an attribute that counts in a block: `states`, `agent` or `data`
 abbrev pub is_counted : BlockKind → List ℕ → Bool
-is_counted kind word = (has_states kind && bytes_eq word (codes "states")) || (has_agent kind && bytes_eq word (codes "agent"))
+is_counted kind word = (has_states kind && bytes_eq word (codes "states")) || (has_agent kind && bytes_eq word (codes "agent")) || (is_potential kind && bytes_eq word (codes "data"))
 
--- the attributes that count in a node block
+-- the attributes that count in a block
 abbrev pub counted : List ℕ → BlockTree → List AttributeTree
 counted text block = filter (λ a. is_counted block.kind (word_of text a)) block.attributes
 
@@ -164,7 +164,7 @@ agents_of text nodes = first_sights (map (agent_of text) (filter (λ b. has_agen
 
 -- how many names stand before the first that is this one
 abbrev pub place_of : List (List ℕ) → List ℕ → ℕ
-place_of names name = prefix_len (λ other. not (bytes_eq other name)) names
+place_of names name = position_or_len (λ other. bytes_eq other name) names
 
 -- the number of a node's agent; a chance node has 0
 abbrev pub owner_of : List ℕ → List BlockTree → BlockTree → ℕ
@@ -197,7 +197,7 @@ row_count text blocks block = rows_under (λ v. slice_index_or (state_counts tex
 abbrev pub cell_count : List ℕ → List BlockTree → BlockTree → ℕ
 cell_count text blocks block = row_count text blocks block * states_of text block
 
--- a potential's attributes that count where its head has a table
+-- a potential's attributes `data`
 abbrev pub data_of : List ℕ → BlockTree → List AttributeTree
 data_of text potential = named text (codes "data") potential.attributes
 

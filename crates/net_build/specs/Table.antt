@@ -24,8 +24,9 @@ use Rattle.net_build.specs.Scaling.{AreDecimals, IsCommonTotal, IsWholeBy, row_a
 abbrev pub repeated_row : List ℕ → List AttributeTree → AttributeTree → Pass
 repeated_row text earlier a = rule (Contains (map (word_of text) earlier) (word_of text a)) (found a.name.start DoubleAttribute)
 
-unfoldable pub repeats : List ℕ → List AttributeTree → Pass
-repeats text attributes = each_after (repeated_row text) [] attributes
+-- the attributes that count in a block
+unfoldable pub repeats : List ℕ → BlockTree → Pass
+repeats text block = each_after (repeated_row text) [] (counted text block)
 
 abbrev pub label_row : List ℕ → Token → Pass
 label_row text label = rule (is_plain (text_value text label) ≡ false) (found label.start BadLabel)
@@ -43,24 +44,24 @@ unfoldable pub agent_rows : List ℕ → List AttributeTree → Pass
 agent_rows text [] = clear
 agent_rows text (agent ∷ more) = rule (is_agent text agent.value ≡ false) (found agent.name.start BadAgent)
 
--- the block's agent is none of those before it, of which there are 16
-abbrev pub IsAgentTooMany : List ℕ → List BlockTree → BlockTree → Type 0
-IsAgentTooMany text earlier block = (16 ≤ length (agents_of text earlier)) × (Contains (agents_of text earlier) (agent_of text block) → ⊥)
+-- the agent is none of these, of which there are 16
+abbrev pub IsAgentTooMany : List (List ℕ) → List ℕ → Type 0
+IsAgentTooMany agents agent = (16 ≤ length agents) × (Contains agents agent → ⊥)
 
--- a node block behind those earlier
-unfoldable pub node_rows : List ℕ → List BlockTree → BlockTree → Pass
-node_rows text earlier block =
-    rule (256 ≤ length earlier) (found (title_at block) (LimitPassed Nodes 257))
+-- a node block behind those with these names and agents
+unfoldable pub node_rows : List ℕ → List (List ℕ) → List (List ℕ) → BlockTree → Pass
+node_rows text names agents block =
+    rule (256 ≤ length names) (found (title_at block) (LimitPassed Nodes 257))
     ▸ rule (255 < length (name_of text block)) (found (title_at block) (LimitPassed NameBytes (length (name_of text block))))
-    ▸ rule (Contains (names_of text earlier) (name_of text block)) (found (title_at block) DoubleName)
-    ▸ repeats text (counted text block)
+    ▸ rule (Contains names (name_of text block)) (found (title_at block) DoubleName)
+    ▸ repeats text block
     ▸ only (has_states block.kind) (states_rows text block (named text (codes "states") block.attributes))
     ▸ only (has_agent block.kind) (agent_rows text (named text (codes "agent") block.attributes))
-    ▸ only (has_agent block.kind) (rule (IsAgentTooMany text earlier block) (found (title_at block) (LimitPassed Agents 17)))
+    ▸ only (has_agent block.kind) (rule (IsAgentTooMany agents (agent_of text block)) (found (title_at block) (LimitPassed Agents 17)))
 
 -- node blocks in text order
 unfoldable pub node_pass : List ℕ → List BlockTree → Pass
-node_pass text blocks = each_after (node_rows text) [] (node_blocks blocks)
+node_pass text blocks = each_after (λ earlier b. node_rows text (names_of text earlier) (agents_of text earlier) b) [] (node_blocks blocks)
 
 -- the kind of the node of that name
 abbrev pub kind_named : List ℕ → List BlockTree → List ℕ → Kind
@@ -164,7 +165,7 @@ data_rows text blocks block potential (table ∷ more) =
 -- the table of a node, given its potential
 unfoldable pub table_rows : List ℕ → List BlockTree → BlockTree → Option BlockTree → Pass
 table_rows text blocks block None = clear
-table_rows text blocks block (Some potential) = repeats text (data_of text potential) ▸ data_rows text blocks block potential (data_of text potential)
+table_rows text blocks block (Some potential) = repeats text potential ▸ data_rows text blocks block potential (data_of text potential)
 
 -- chance and utility nodes in text order
 unfoldable pub table_pass : List ℕ → List BlockTree → Pass

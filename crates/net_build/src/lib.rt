@@ -10,6 +10,7 @@ mod first;
 mod links;
 mod names;
 mod nodes;
+mod places;
 mod run;
 mod tables;
 
