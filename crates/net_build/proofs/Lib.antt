@@ -4,3 +4,4 @@ pub mod Numerals
 pub mod FirstDiagram
 pub mod Passing
 pub mod PlaceLemmas
+pub mod AttributeLemmas

@@ -89,6 +89,20 @@ pub enum BuildKind {
     LimitPassed { which: Limit, got: u128 },
 }
 
+impl BuildKind {
+    ghost use Rattle.std.specs.Prelude.{◌≡◌};
+
+    /// The fault of this kind at the place.
+    pub(crate) fn at(self, place: usize) -> BuildFault
+        ensures { result ≡ BuildFault.Fault place self }
+    {
+        BuildFault::Fault {
+            at: place,
+            kind: self,
+        }
+    }
+}
+
 /// Why a tree stands for no diagram: its first fault and the place of that in the text, or that
 /// memory ran out, which says nothing of the text.
 #[derive(Debug, Drop, Error)]

@@ -4,6 +4,7 @@
 //! a utility over both. It answers the diagram and the names exactly for the texts of that shape.
 #![tactic(auto)]
 
+mod attributes;
 mod cursor;
 mod faults;
 mod first;
