@@ -31,13 +31,17 @@ repeats text block = each_after (repeated_row text) [] (counted text block)
 abbrev pub label_row : List ℕ → Token → Pass
 label_row text label = rule (is_plain (text_value text label) ≡ false) (found label.start BadLabel)
 
--- the states of a chance node or a decision, given its attributes of that name
-unfoldable pub states_rows : List ℕ → BlockTree → List AttributeTree → Pass
-states_rows text block [] = always (found (title_at block) MissingStates)
-states_rows text block (states ∷ more) =
+-- the value of `states`
+unfoldable pub label_rows : List ℕ → AttributeTree → Pass
+label_rows text states =
     rule (is_string_list states.value ≡ false) (found states.name.start BadStates)
     ▸ rule (256 < length (leaves states.value)) (found states.name.start (LimitPassed States (length (leaves states.value))))
     ▸ each (label_row text) (leaves states.value)
+
+-- the states of a chance node or a decision, given its attributes of that name
+unfoldable pub states_rows : List ℕ → BlockTree → List AttributeTree → Pass
+states_rows text block [] = always (found (title_at block) MissingStates)
+states_rows text block (states ∷ more) = label_rows text states
 
 -- the agent of a decision or a utility, given its attributes of that name
 unfoldable pub agent_rows : List ℕ → List AttributeTree → Pass

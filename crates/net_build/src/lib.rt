@@ -8,6 +8,7 @@ mod attributes;
 mod cursor;
 mod faults;
 mod first;
+mod labels;
 mod links;
 mod names;
 mod nodes;
