@@ -2,3 +2,12 @@ pub mod Lists
 pub mod Places
 pub mod First
 pub mod Sayings
+pub mod Passes
+pub mod Blocks
+pub mod Zero
+pub mod Scaling
+pub mod Table
+pub mod Building
+pub mod Form
+pub mod Stages
+pub mod LinkCode

@@ -7,3 +7,6 @@ list_of names = map (λ v. v.items) names
 
 abbrev pub lists_of : List (Vec (Vec ℕ)) → List (List (List ℕ))
 lists_of labels = map (λ v. list_of v.items) labels
+
+abbrev pub numbers_of_lists : List (Vec ℕ) → List (List ℕ)
+numbers_of_lists lists = map (λ v. v.items) lists

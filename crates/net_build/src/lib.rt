@@ -4,11 +4,19 @@
 //! a utility over both. It answers the diagram and the names exactly for the texts of that shape.
 #![tactic(auto)]
 
+mod attributes;
 mod cursor;
+mod faults;
 mod first;
+mod labels;
+mod links;
 mod names;
+mod nodes;
+mod places;
 mod run;
+mod tables;
 
+pub use faults::{BuildFault, BuildKind, Limit};
 pub use first::first_shape;
 pub use names::Names;
 

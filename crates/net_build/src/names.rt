@@ -23,7 +23,7 @@ impl Model for Names {
 }
 
 // The first place of the name in the list.
-fn first_place(names: &[Vec<u8>], name: &[u8]) -> Option<usize>
+pub(crate) fn first_place(names: &[Vec<u8>], name: &[u8]) -> Option<usize>
     ensures some { IfSome result (IsFirstPlace (list_of names.now) name.now) }
     ensures none { IfNone result (¬ Contains (list_of names.now) name.now) }
 {

@@ -1,0 +1,206 @@
+-- Looking up what the blocks of a text say. Each look-up has an answer for every tree; it is the one that is meant where the passes before it find nothing.
+use Rattle.std.specs.Prelude.{◌≡◌, ◌*◌, ℕ, Bool, true, false, not, ◌&&◌, ◌||◌, List, [], ◌∷◌, Option, None, Some, map, filter, find, length, drop, nat_le, bytes_eq, codes, slice_index_or, if◌then◌else◌}
+use Rattle.std.specs.List.{list_all, position_or_len}
+use Rattle.std.specs.Option.{option_map_or}
+use Rattle.maid_model.specs.declared.diagrams.Kind.{Kind}
+use Rattle.maid_model.specs.declared.diagrams.Kind.TheVariants as model
+use Rattle.maid_model.specs.Nodes.{rows_under}
+use Rattle.net_lexer.specs.Token.{token_bytes, text_value}
+use Rattle.net_lexer.specs.declared.tokens.Token.{Token}
+use Rattle.net_lexer.specs.declared.tokens.TokenKind.{TokenKind}
+use Rattle.net_lexer.specs.declared.tokens.TokenKind.TheVariants as tokens
+use Rattle.net_parser.specs.declared.trees.BlockKind.{BlockKind}
+use Rattle.net_parser.specs.declared.trees.BlockKind.TheVariants.{Net, Node, Decision, Utility, Potential}
+use Rattle.net_parser.specs.Trees.{ValueTree, ValueTrees, leaf, list, none, more, AttributeTree, BlockTree}
+use Rattle.net_parser.specs.Owned.{leaves}
+
+-- a block of a chance node, a decision or a utility
+abbrev pub is_node : BlockKind → Bool
+is_node Node = true
+is_node Decision = true
+is_node Utility = true
+is_node kind = false
+
+abbrev pub is_potential : BlockKind → Bool
+is_potential Potential = true
+is_potential kind = false
+
+-- the node blocks, in text order
+abbrev pub node_blocks : List BlockTree → List BlockTree
+node_blocks blocks = filter (λ b. is_node b.kind) blocks
+
+-- the potentials, in text order
+abbrev pub potentials : List BlockTree → List BlockTree
+potentials blocks = filter (λ b. is_potential b.kind) blocks
+
+abbrev pub kind_of : BlockKind → Kind
+kind_of Node = model.Chance
+kind_of Decision = model.Decision
+kind_of kind = model.Utility
+
+-- what stands for a token that isn't there
+abbrev pub no_token : Token
+no_token = record { kind = tokens.Word; start = 0; end = 0 }
+
+-- a node block's name, and a potential's head
+abbrev pub title : BlockTree → Token
+title block = slice_index_or block.names 0 no_token
+
+-- where it stands
+abbrev pub title_at : BlockTree → ℕ
+title_at block = (title block).start
+
+abbrev pub name_of : List ℕ → BlockTree → List ℕ
+name_of text block = token_bytes text (title block)
+
+abbrev pub names_of : List ℕ → List BlockTree → List (List ℕ)
+names_of text blocks = map (name_of text) blocks
+
+-- the names behind a potential's bar
+abbrev pub conditions : BlockTree → List Token
+conditions potential = drop 1 potential.names
+
+-- an attribute's name
+abbrev pub word_of : List ℕ → AttributeTree → List ℕ
+word_of text attribute = token_bytes text attribute.name
+
+-- the attributes with that name
+abbrev pub named : List ℕ → List ℕ → List AttributeTree → List AttributeTree
+named text word attributes = filter (λ a. bytes_eq (word_of text a) word) attributes
+
+-- a chance node and a decision have states
+abbrev pub has_states : BlockKind → Bool
+has_states Node = true
+has_states Decision = true
+has_states kind = false
+
+-- a decision and a utility have an agent
+abbrev pub has_agent : BlockKind → Bool
+has_agent Decision = true
+has_agent Utility = true
+has_agent kind = false
+
+-- a chance node and a utility have a table
+abbrev pub has_table : BlockKind → Bool
+has_table Node = true
+has_table Utility = true
+has_table kind = false
+
+-- the name of an attribute that counts in a block: `states`, `agent` or `data`
+abbrev pub is_counted : BlockKind → List ℕ → Bool
+is_counted kind word = (has_states kind && bytes_eq word (codes "states")) || (has_agent kind && bytes_eq word (codes "agent")) || (is_potential kind && bytes_eq word (codes "data"))
+
+-- the attributes that count in a block
+abbrev pub counted : List ℕ → BlockTree → List AttributeTree
+counted text block = filter (λ a. is_counted block.kind (word_of text a)) block.attributes
+
+abbrev pub is_text : TokenKind → Bool
+is_text tokens.Text = true
+is_text kind = false
+
+abbrev pub is_number : TokenKind → Bool
+is_number tokens.Number = true
+is_number kind = false
+
+abbrev mutual
+  -- a string
+  pub is_string : ValueTree → Bool
+  is_string (leaf token) = is_text token.kind
+  is_string (list values) = false
+
+  -- strings
+  pub are_strings : ValueTrees → Bool
+  are_strings none = true
+  are_strings (more value values) = is_string value && are_strings values
+
+-- a list of one or more strings
+abbrev pub is_string_list : ValueTree → Bool
+is_string_list (leaf token) = false
+is_string_list (list none) = false
+is_string_list (list (more value values)) = is_string value && are_strings values
+
+-- a label or an agent: at most 255 bytes, none below 32
+abbrev pub is_plain : List ℕ → Bool
+is_plain bytes = nat_le (length bytes) 255 && list_all (λ b. nat_le 32 b) bytes
+
+-- a string that is an agent
+abbrev pub is_agent : List ℕ → ValueTree → Bool
+is_agent text (leaf token) = is_text token.kind && is_plain (text_value text token)
+is_agent text (list values) = false
+
+-- the leaves of the first of these attributes, from left to right
+abbrev pub leaves_of : List AttributeTree → List Token
+leaves_of [] = []
+leaves_of (a ∷ attributes) = leaves a.value
+
+-- a node's labels as they stand in its block
+abbrev pub label_tokens : List ℕ → BlockTree → List Token
+label_tokens text block = if has_states block.kind then leaves_of (named text (codes "states") block.attributes) else []
+
+-- a node's labels, with escapes undone; a utility has none
+abbrev pub labels_of : List ℕ → BlockTree → List (List ℕ)
+labels_of text block = map (text_value text) (label_tokens text block)
+
+-- how many states a node has: one a label, and a utility one
+abbrev pub states_of : List ℕ → BlockTree → ℕ
+states_of text block = if has_states block.kind then length (label_tokens text block) else 1
+
+abbrev pub first_text : List ℕ → List Token → List ℕ
+first_text text [] = codes "agent"
+first_text text (token ∷ tokens) = text_value text token
+
+-- the agent of a decision or a utility: the value of `agent`, and "agent" where there is none
+abbrev pub agent_of : List ℕ → BlockTree → List ℕ
+agent_of text block = first_text text (leaves_of (named text (codes "agent") block.attributes))
+
+-- each value where it stands first
+abbrev pub first_sights : List (List ℕ) → List (List ℕ)
+first_sights [] = []
+first_sights (x ∷ xs) = x ∷ filter (λ y. not (bytes_eq x y)) (first_sights xs)
+
+-- the agents in order of first sight
+abbrev pub agents_of : List ℕ → List BlockTree → List (List ℕ)
+agents_of text nodes = first_sights (map (agent_of text) (filter (λ b. has_agent b.kind) nodes))
+
+-- how many names stand before the first that is this one
+abbrev pub place_of : List (List ℕ) → List ℕ → ℕ
+place_of names name = position_or_len (λ other. bytes_eq other name) names
+
+-- the number of a node's agent; a chance node has 0
+abbrev pub owner_of : List ℕ → List BlockTree → BlockTree → ℕ
+owner_of text nodes block = if has_agent block.kind then place_of (agents_of text nodes) (agent_of text block) else 0
+
+-- the potential with that head
+abbrev pub potential_of : List ℕ → List BlockTree → List ℕ → Option BlockTree
+potential_of text blocks name = find (λ p. bytes_eq (name_of text p) name) (potentials blocks)
+
+-- the numbers of the nodes behind its bar
+abbrev pub condition_places : List ℕ → List BlockTree → BlockTree → List ℕ
+condition_places text nodes potential = map (λ t. place_of (names_of text nodes) (token_bytes text t)) (conditions potential)
+
+-- the parents of the node of that name; none where it has no potential
+abbrev pub parents_of : List ℕ → List BlockTree → List ℕ → List ℕ
+parents_of text blocks name = option_map_or (condition_places text (node_blocks blocks)) (potential_of text blocks name) []
+
+abbrev pub parent_lists : List ℕ → List BlockTree → List (List ℕ)
+parent_lists text blocks = map (λ b. parents_of text blocks (name_of text b)) (node_blocks blocks)
+
+-- the count of states of each node
+abbrev pub state_counts : List ℕ → List BlockTree → List ℕ
+state_counts text nodes = map (states_of text) nodes
+
+-- how many rows a table or a rule has: the product of the parents' counts of states
+abbrev pub row_count : List ℕ → List BlockTree → BlockTree → ℕ
+row_count text blocks block = rows_under (λ v. slice_index_or (state_counts text (node_blocks blocks)) v 1) (parents_of text blocks (name_of text block))
+
+-- how many cells: one for each row and state
+abbrev pub cell_count : List ℕ → List BlockTree → BlockTree → ℕ
+cell_count text blocks block = row_count text blocks block * states_of text block
+
+-- a potential's attributes `data`
+abbrev pub data_of : List ℕ → BlockTree → List AttributeTree
+data_of text potential = named text (codes "data") potential.attributes
+
+-- the numbers of a node's table as they stand in the text
+abbrev pub numbers_of : List ℕ → List BlockTree → BlockTree → List Token
+numbers_of text blocks block = option_map_or (λ p. leaves_of (data_of text p)) (potential_of text blocks (name_of text block)) []

@@ -1,0 +1,53 @@
+-- What a text's tree stands for, where no pass finds a fault.
+use Rattle.std.specs.Prelude.{◌≡◌, ◌<◌, ℕ, ℤ, pos, List, [], map, length, slice_index, slice_index_or}
+use Rattle.maid_model.specs.declared.diagrams.Kind.{Kind}
+use Rattle.maid_model.specs.declared.diagrams.Kind.TheVariants.{Chance, Decision, Utility}
+use Rattle.maid_model.specs.Names.{NamesView}
+use Rattle.maid_model.specs.Nodes.{node_at}
+use Rattle.maid_model.specs.Views.{DiagramView}
+use Rattle.net_lexer.specs.Token.{token_bytes}
+use Rattle.net_lexer.specs.declared.tokens.Token.{Token}
+use Rattle.net_parser.specs.Trees.{BlockTree}
+use Rattle.weight_scale.specs.declared.decimal.Decimal.{Decimal}
+use Rattle.net_build.specs.Blocks.{node_blocks, kind_of, names_of, labels_of, states_of, state_counts, agents_of, owner_of, parent_lists, numbers_of}
+use Rattle.net_build.specs.Scaling.{AreDecimals, AreWeights, IsScaledBy}
+use Rattle.net_build.specs.Table.{IsUtilityScale, no_block}
+
+-- the names, labels and agents in the blocks
+abbrev pub names_view : List ℕ → List BlockTree → NamesView
+names_view text blocks = record {
+  nodes = names_of text (node_blocks blocks);
+  labels = map (labels_of text) (node_blocks blocks);
+  agents = agents_of text (node_blocks blocks);
+}
+
+-- chance cells: the weights of the numerals' rows
+abbrev pub AreChanceCells : ℕ → List (List ℕ) → List ℤ → Type 0
+AreChanceCells states numerals cells = (decimals : List Decimal) × (weights : List ℕ) × AreDecimals numerals decimals × AreWeights states decimals weights × (cells ≡ map pos weights)
+
+-- utility cells: each value times 10^scale
+pub record AreUtilityCells (scale : ℕ) (numerals : List (List ℕ)) (cells : List ℤ) : Type 0 where
+  pub len : length cells ≡ length numerals
+  pub each : (i : ℕ) → i < length cells → IsScaledBy scale (slice_index_or numerals i []) (slice_index_or cells i (pos 0))
+
+-- the table of a node of that kind and with so many states, from its numerals; a decision has none
+abbrev pub IsTableOf : Kind → ℕ → ℕ → List (List ℕ) → List ℤ → Type 0
+IsTableOf Chance scale states numerals cells = AreChanceCells states numerals cells
+IsTableOf Decision scale states numerals cells = cells ≡ []
+IsTableOf Utility scale states numerals cells = AreUtilityCells scale numerals cells
+
+-- the tables of all nodes, in order
+pub record AreTables (text : List ℕ) (blocks : List BlockTree) (scale : ℕ) (tables : List (List ℤ)) : Type 0 where
+  pub len : length tables ≡ length (node_blocks blocks)
+  pub each : (v : ℕ) → v < length tables → let block = slice_index_or (node_blocks blocks) v no_block in IsTableOf (kind_of block.kind) scale (states_of text block) (map (token_bytes text) (numbers_of text blocks block)) (slice_index_or tables v [])
+
+-- The diagram and the names that a tree stands for: one node for each node block in text order.
+pub record StandsFor (text : List ℕ) (blocks : List BlockTree) (d : DiagramView) (names : NamesView) : Type 0 where
+  pub names_are : names ≡ names_view text blocks
+  pub agents : d.agents ≡ length (agents_of text (node_blocks blocks))
+  pub kinds : map (λ n. n.kind) d.nodes ≡ map (λ b. kind_of b.kind) (node_blocks blocks)
+  pub owners : map (λ n. n.owner) d.nodes ≡ map (owner_of text (node_blocks blocks)) (node_blocks blocks)
+  pub states : map (λ n. n.states) d.nodes ≡ state_counts text (node_blocks blocks)
+  pub parents : map (λ n. n.parents) d.nodes ≡ parent_lists text blocks
+  pub scale : IsUtilityScale text blocks d.decimals
+  pub tables : AreTables text blocks d.decimals (map (λ n. n.cells) d.nodes)

@@ -1,0 +1,20 @@
+-- The form that names have in a text.
+use Rattle.std.specs.Prelude.{◌≡◌, ◌≢◌, ◌≤◌, ℕ, Bool, true, not, List, map, filter, length, All, AllPairs}
+use Rattle.maid_model.specs.Names.{NamesView, agent_name}
+use Rattle.maid_model.specs.Nodes.{is_chance}
+use Rattle.maid_model.specs.Views.{DiagramView}
+use Rattle.net_lexer.specs.Token.{is_name}
+use Rattle.net_build.specs.Blocks.{is_plain, first_sights}
+
+-- a node's name: a word without a sign, of at most 255 bytes
+pub record IsNodeName (name : List ℕ) : Type 0 where
+  pub unsigned : is_name name ≡ true
+  pub size : length name ≤ 255
+
+-- The node names differ and are such words, labels and agents are plain, and the agents are those of the decisions and utilities in order of first sight.
+pub record HasTextForm (d : DiagramView) (names : NamesView) : Type 0 where
+  pub distinct : AllPairs (λ name later. name ≢ later) names.nodes
+  pub words : All IsNodeName names.nodes
+  pub labels : All (All (λ label. is_plain label ≡ true)) names.labels
+  pub agents : All (λ agent. is_plain agent ≡ true) names.agents
+  pub numbered : names.agents ≡ first_sights (map (λ n. agent_name names n.owner) (filter (λ n. not (is_chance n.kind)) d.nodes))

@@ -1,0 +1,94 @@
+-- What the steps of building hand to one another, as plain lists. No public contract needs it.
+use Rattle.std.specs.Prelude.{◌≡◌, ◌≢◌, ◌<◌, ◌≤◌, ◌*◌, ℕ, ℤ, Bool, false, List, [], ◌∷◌, map, length, filter, flat_map, sum, All, Contains, Option, nat_abs, slice_index_or}
+use Rattle.std.specs.List.{range_with_len, list_all}
+use Rattle.diagram_graph.specs.Cycles.{ListedArc}
+use Rattle.maid_model.specs.declared.diagrams.Kind.{Kind}
+use Rattle.maid_model.specs.declared.diagrams.Kind.TheVariants.{Chance, Decision, Utility}
+use Rattle.maid_model.specs.Diagrams.{greatest_number}
+use Rattle.maid_model.specs.Graph.{IsAcyclic, AllDifferent}
+use Rattle.maid_model.specs.Nodes.{is_decision, rows_under}
+use Rattle.maid_model.specs.Tables.{IsTable}
+use Rattle.net_lexer.specs.declared.tokens.Token.{Token}
+use Rattle.net_parser.specs.Owned.{leaves}
+use Rattle.net_parser.specs.Trees.{BlockTree}
+use Rattle.net_parser.specs.Views.{value_tree}
+use Rattle.net_parser.specs.declared.trees.Value.{Value}
+use Rattle.net_build.specs.declared.nodes.Head.{Head}
+use Rattle.net_build.specs.Blocks.{is_string, node_blocks, kind_of, title_at, name_of, names_of, labels_of, states_of, agents_of, owner_of, potential_of, parent_lists}
+
+-- the leaves of these values, from left to right
+abbrev pub leaves_in : List Value → List Token
+leaves_in values = flat_map (λ v. leaves (value_tree v)) values
+
+-- one or more strings
+abbrev pub are_string_values : List Value → Bool
+are_string_values [] = false
+are_string_values (v ∷ vs) = list_all (λ w. is_string (value_tree w)) (v ∷ vs)
+
+-- what the node blocks say: names, labels and agents, and for each node where its name stands, its kind, the number of its agent and the count of its states
+pub record NodeLists : Type 0 where
+  pub names : List (List ℕ)
+  pub labels : List (List (List ℕ))
+  pub agents : List (List ℕ)
+  pub heads : List Head
+
+abbrev pub head_of : List ℕ → List BlockTree → BlockTree → Head
+head_of text nodes block = record { at = title_at block; kind = kind_of block.kind; owner = owner_of text nodes block; states = states_of text block }
+
+abbrev pub node_lists : List ℕ → List BlockTree → NodeLists
+node_lists text nodes = record {
+  names = names_of text nodes;
+  labels = map (labels_of text) nodes;
+  agents = agents_of text nodes;
+  heads = map (head_of text nodes) nodes;
+}
+
+-- what the potentials say: for each node its parents and its potential
+pub record LinkLists : Type 0 where
+  pub parents : List (List ℕ)
+  pub potentials : List (Option BlockTree)
+
+abbrev pub link_lists : List ℕ → List BlockTree → LinkLists
+link_lists text blocks = record {
+  parents = parent_lists text blocks;
+  potentials = map (λ b. potential_of text blocks (name_of text b)) (node_blocks blocks);
+}
+
+abbrev pub no_head : Head
+no_head = record { at = 0; kind = Utility; owner = 0; states = 1 }
+
+abbrev pub head_at : List Head → ℕ → Head
+head_at heads v = slice_index_or heads v no_head
+
+-- how many rows node v has
+abbrev pub rows_at : List Head → List (List ℕ) → ℕ → ℕ
+rows_at heads parents v = rows_under (λ u. (head_at heads u).states) (slice_index_or parents v [])
+
+-- how many cells node v has
+abbrev pub cells_at : List Head → List (List ℕ) → ℕ → ℕ
+cells_at heads parents v = rows_at heads parents v * (head_at heads v).states
+
+-- the parents make a graph within the limits
+pub record AreLinks (heads : List Head) (parents : List (List ℕ)) : Type 0 where
+  pub known : (u v : ℕ) → ListedArc parents u v → u < length heads
+  pub differ : (v : ℕ) → AllDifferent (slice_index_or parents v [])
+  pub no_utility : (u v : ℕ) → ListedArc parents u v → (head_at heads u).kind ≢ Utility
+  pub acyclic : IsAcyclic (ListedArc parents)
+  pub few : (v : ℕ) → length (slice_index_or parents v []) ≤ 16
+  pub cells : (v : ℕ) → v < length heads → cells_at heads parents v ≤ 65536
+  pub rules : sum (map (cells_at heads parents) (filter (λ v. is_decision (head_at heads v).kind) (range_with_len 0 (length heads)))) ≤ 262144
+
+-- what the tables hold: the cells of each node, and by how many decimals utilities are scaled
+pub record TableLists : Type 0 where
+  pub cells : List (List ℤ)
+  pub decimals : ℕ
+
+-- the cells make a table within the limits
+abbrev pub FitsTable : Kind → ℕ → ℕ → List ℤ → Type 0
+FitsTable Chance rows states cells = (total : ℕ) × (0 < total) × (total ≤ greatest_number) × IsTable cells rows states total
+FitsTable Decision rows states cells = cells ≡ []
+FitsTable Utility rows states cells = (length cells ≡ rows) × All (λ x. nat_abs x ≤ greatest_number) cells
+
+-- each node's cells do
+abbrev pub TablesFit : List Head → List (List ℕ) → List (List ℤ) → Type 0
+TablesFit heads parents cells = (v : ℕ) → v < length heads → FitsTable (head_at heads v).kind (rows_at heads parents v) (head_at heads v).states (slice_index_or cells v [])

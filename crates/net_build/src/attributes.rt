@@ -1,0 +1,103 @@
+//! The attributes of a block: those that count, and the first of a name.
+
+ghost use Rattle.std.specs.Prelude.{◌≡◌, ◌&&◌, ◌∷◌, [], List, All, filter, MatchOption, bytes_eq};
+ghost use Rattle.std.specs.List.{list_any};
+ghost use Rattle.net_build.specs.Blocks.{is_counted, named, word_of};
+ghost use Rattle.net_build.specs.Passes.{Passes, each_after};
+ghost use Rattle.net_build.specs.Table.{repeated_row, repeats};
+ghost use Rattle.net_parser.specs.Owned.{IsAttributeOf, IsBlockOf};
+ghost use Rattle.net_parser.specs.Trees.{AttributeTree};
+
+use crate::faults::{BuildFault, BuildKind};
+use net_parser::{Attribute, Block, BlockKind};
+
+/// The attribute's bytes of its name.
+pub fn word_of<'a>(text: &'a [u8], attribute: &Attribute) -> &'a [u8]
+    requires { IsAttributeOf text.now attribute.now }
+    ensures { result.now ≡ word_of text.now attribute.now }
+{
+    attribute.name.bytes(text)
+}
+
+/// The attribute has that name.
+pub fn is_named(text: &[u8], attribute: &Attribute, word: &[u8]) -> bool
+    requires { IsAttributeOf text.now attribute.now }
+    ensures { result ≡ bytes_eq (word_of text.now attribute.now) word.now }
+{
+    word_of(text, attribute) == word
+}
+
+/// The first attribute of that name.
+pub fn first_named<'a>(
+    text: &[u8],
+    attributes: &'a [Attribute],
+    word: &[u8],
+) -> Option<&'a Attribute>
+    requires { All (IsAttributeOf text.now) attributes.now }
+    ensures { MatchOption result (named text.now word.now attributes.now ≡ []) (λ a. (rest : List AttributeTree) × (named text.now word.now attributes.now ≡ a.now ∷ rest)) }
+{
+    for attribute in attributes {
+        if is_named(text, attribute, word) {
+            return Some(attribute);
+        }
+    }
+    None
+}
+
+// An attribute of that name counts in a block of the kind.
+fn counts(kind: BlockKind, word: &[u8]) -> bool
+    ensures { result ≡ is_counted kind word.now }
+{
+    match kind {
+        BlockKind::Net => false,
+        BlockKind::Node => word == b"states".as_slice(),
+        BlockKind::Decision => word == b"states".as_slice() || word == b"agent".as_slice(),
+        BlockKind::Utility => word == b"agent".as_slice(),
+        BlockKind::Potential => word == b"data".as_slice(),
+    }
+}
+
+// One of the attributes has that name.
+fn has_named(text: &[u8], attributes: &[Attribute], word: &[u8]) -> bool
+    requires { All (IsAttributeOf text.now) attributes.now }
+    ensures { result ≡ list_any (λ a. bytes_eq (word_of text.now a) word.now) attributes.now }
+{
+    attributes
+        .iter()
+        .any(|attribute| is_named(text, attribute, word))
+}
+
+// The word is the name of an attribute that counts and stands before.
+fn is_repeated(text: &[u8], kind: BlockKind, before: &[Attribute], word: &[u8]) -> bool
+    requires { All (IsAttributeOf text.now) before.now }
+    ensures { result ≡ (is_counted kind word.now && list_any (λ a. bytes_eq (word_of text.now a) word.now) before.now) }
+{
+    // Two names count at most, so that few attributes are compared with those before them.
+    counts(kind, word) && has_named(text, before, word)
+}
+
+// No attribute that counts stands a second time.
+fn check_counted(
+    text: &[u8],
+    kind: BlockKind,
+    attributes: &[Attribute],
+) -> Result<(), BuildFault>
+    requires { All (IsAttributeOf text.now) attributes.now }
+    ensures { Passes (each_after (repeated_row text.now) [] (filter (λ a. is_counted kind (word_of text.now a)) attributes.now)) result }
+{
+    for (place, attribute) in attributes.iter().enumerate() {
+        let word = word_of(text, attribute);
+        if is_repeated(text, kind, &attributes[..place], word) {
+            return Err(BuildKind::DoubleAttribute.at(attribute.name.start));
+        }
+    }
+    Ok(())
+}
+
+/// No attribute that counts in the block stands a second time.
+pub fn check_repeats(text: &[u8], block: &Block) -> Result<(), BuildFault>
+    requires { IsBlockOf text.now block.now }
+    ensures { Passes (repeats text.now block.now) result }
+{
+    check_counted(text, block.kind, &block.attributes)
+}
