@@ -1,13 +1,16 @@
 -- Lists of numbers in rising order, one number more at a time.
-use Rattle.std.proofs.Common.{◌≡◌, ℕ, ◌+◌, ◌<◌, ◌≤◌, List, [], ◌∷◌, ◌++◌, length, get_or, ◌⊎◌, inl, inr, subst, sym, arith}
-use Rattle.std.specs.Prelude.{Contains}
-use Rattle.std.proofs.lemmas.Bool.{cases_eq, cases_lt}
-use Rattle.std.proofs.lemmas.List.{get_or_append_left, get_or_at, length_push}
+use Rattle.std.proofs.Common.{◌≡◌, ℕ, ◌+◌, ◌<◌, ◌≤◌, List, [], ◌∷◌, ◌++◌, length, get_or, ◌⊎◌, inl, inr, subst, sym, arith, ◌↔◌, ◌∙◌, refl}
+use Rattle.std.specs.Prelude.{Contains, Result, Ok, Err, IsTrue, is_ok}
+use Rattle.std.specs.Ordering.{nat_cmp}
+use Rattle.std.specs.List.Sorted.{IsBinarySearchResult}
+use Rattle.std.proofs.lemmas.List.Sorted.{searched}
+use Rattle.std.proofs.lemmas.Bool.{cases_eq, cases_lt, false≢true}
+use Rattle.std.proofs.lemmas.List.{get_or_append_left, get_or_at, length_push, get_or_past, get_or_default}
 use Rattle.std.proofs.lemmas.List.Elements.{Contains-push, Contains-push_cases, Contains-append_left, Contains-get_or}
 use Rattle.maid_model.specs.Views.{NodeView}
 use Rattle.maid_model.specs.Relevance.{ReliesOn}
 use Rattle.diagram_graph.specs.Needs.{needs_of}
-use Rattle.relevance_graph.specs.Steps.{ListsBelow, TellsReliance}
+use Rattle.relevance_graph.specs.Steps.{IsRising, ListsBelow, TellsReliance}
 
 none_in : (v : ℕ) → Contains [] v → ⊥
 none_in v c = let l = c.1 in absurd (omega arith)
@@ -85,3 +88,28 @@ tells_push nodes n lists list h more = record {
         rw (get_or_at lists list [] [] d e) (subst (λ x. ListsBelow (ReliesOn nodes x) (length nodes) list) same more)
   ];
 }
+
+-- what lists of reliance have rises
+pub tells_rising : (nodes : List NodeView) (lists : List (List ℕ)) → TellsReliance nodes (length nodes) lists → (d : ℕ) → IsRising (needs_of lists d)
+tells_rising nodes lists h d = elim (cases_lt d (length nodes)) as (λ _. IsRising (needs_of lists d)) [
+  | inl l ↦ (h.each d l).rising
+  | inr g ↦ rw (get_or_past lists d [] (let m = h.count in omega arith)) (λ i j l m. absurd (omega arith))
+]
+
+rising_le : (list : List ℕ) → IsRising list → (i j : ℕ) → i ≤ j → j < length list → get_or list i 0 ≤ get_or list j 0
+rising_le list h i j l m = elim (cases_eq i j) as (λ _. get_or list i 0 ≤ get_or list j 0) [
+  | inl e ↦ subst (λ k. get_or list i 0 ≤ get_or list k 0) e (omega arith)
+  | inr ne ↦ let r = h i j (omega arith) m in omega arith
+]
+
+-- a search by halves finds what a rising list has
+pub search_finds : (list : List ℕ) (x : ℕ) (r : Result ℕ ℕ) → IsRising list → IsBinarySearchResult (λ y. nat_cmp y x) list r → IsTrue (is_ok r) ↔ Contains list x
+search_finds list x (Ok i) h s =
+    let f = searched list x (Ok i) s (rising_le list h) in ((λ _. (i, f.0, get_or_default list i x 0 f.0 ∙ f.1)), (λ _. refl))
+search_finds list x (Err i) h s =
+    let f = searched list x (Err i) s (rising_le list h) in (
+      (λ t. absurd (false≢true t)),
+      (λ c.
+          let at : get_or list c.0 0 ≡ x = get_or_default list c.0 0 x c.1 ∙ c.2 in
+          absurd (elim (cases_lt c.0 i) as (λ _. ⊥) [ inl l ↦ let k = f.1 c.0 l in absurd (omega arith) | inr g ↦ let k = f.2 c.0 g c.1 in absurd (omega arith) ])),
+    )

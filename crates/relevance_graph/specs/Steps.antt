@@ -1,4 +1,4 @@
--- What the steps of finding a relevance graph promise one another. Only private functions cite this file.
+-- What the steps of finding a relevance graph promise one another. Only private functions and the invariant of private fields cite this file.
 use Rattle.std.specs.Prelude.{◌≡◌, ◌↔◌, ◌<◌, ℕ, List, length, Contains, slice_index}
 use Rattle.maid_model.specs.declared.diagrams.Kind.TheVariants.{Utility}
 use Rattle.maid_model.specs.Views.{NodeView}
@@ -27,10 +27,14 @@ pub record IsSearchedFor (nodes : List NodeView) (d : ℕ) (marks : MarksView) :
   pub count : length marks.reached ≡ length nodes
   pub parents : (e : ℕ) → e < length nodes → IsIn marks.parents_reached e ↔ LeadsToGoal nodes d e
 
--- the numbers below n with the property P, each once, in rising order
+-- each number is greater than those before it
+abbrev pub IsRising : List ℕ → Type 0
+IsRising list = (i j : ℕ) → i < j → j < length list → slice_index list i < slice_index list j
+
+-- the numbers below n with the property P, in rising order
 pub record ListsBelow (P : ℕ → Type 0) (n : ℕ) (list : List ℕ) : Type 0 where
   pub members : (v : ℕ) → Contains list v ↔ (P v × (v < n))
-  pub rising : (i j : ℕ) → i < j → j < length list → slice_index list i < slice_index list j
+  pub rising : IsRising list
 
 -- for each of the first n nodes those that it relies on, in text order
 pub record TellsReliance (nodes : List NodeView) (n : ℕ) (lists : List (List ℕ)) : Type 0 where

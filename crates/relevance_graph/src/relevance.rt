@@ -18,22 +18,27 @@ pub struct Relevance {
 }
 
 impl Model for Relevance {
+    ghost use Rattle.std.specs.Prelude.{ℕ};
     ghost use Rattle.diagram_graph.specs.Cycles.{rows_of};
+    ghost use Rattle.diagram_graph.specs.Needs.{needs_of};
+    ghost use Rattle.relevance_graph.specs.Steps.{IsRising};
     ghost use Rattle.relevance_graph.specs.Views.{RelevanceView, outcome_of};
 
     ghost Value = { RelevanceView };
 
     ghost view = { λ r. record { relied_on = rows_of r.relied_on.items; outcome = outcome_of r.placing } };
+
+    ghost invariant = { λ r. (d : ℕ) → IsRising (needs_of (rows_of r.relied_on.items) d) };
 }
 
 impl Relevance {
     /// Whether the one node relies on the other: it doesn't where either is no decision of two states or more. It takes
-    /// no memory, and goes through what the decision relies on.
+    /// no memory, and looks at a few of those that the decision relies on.
     pub fn relies(&self, decision: usize, on: usize) -> bool
         requires { decision < length self.now.relied_on }
         ensures { IsTrue result ↔ ReliesTo self.now decision on }
     {
-        self.relied_on[decision].contains(&on)
+        self.relied_on[decision].binary_search(&on).is_ok()
     }
 
     /// The order of solving: each time the first decision in text, all of whose relied-on decisions stand before it. An

@@ -28,7 +28,7 @@ fn relies_on(diagram: &Diagram, decision: usize, on: usize, marks: &Marks) -> bo
     requires marks { IsSearchedFor diagram.now.nodes decision marks.now }
     ensures { IsTrue result ↔ ReliesOn diagram.now.nodes decision on }
 {
-    on != decision && is_live_decision(diagram, on) && marks.reached_parent_of(on)
+    on != decision && marks.reached_parent_of(on) && is_live_decision(diagram, on)
 }
 
 /// What the decision relies on, by the marks of its search.
