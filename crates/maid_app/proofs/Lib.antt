@@ -1,4 +1,6 @@
 pub mod Bytes
+pub mod Nodes
 pub mod Outcomes
-pub mod Places
-pub mod Solved
+pub mod Refusals
+pub mod Tells
+pub mod Titles

@@ -1,8 +1,10 @@
 -- What comes of each request on its file's bytes: the one definition of what the program answers.
 use Rattle.std.specs.Prelude.{ℕ, List}
+use Rattle.maid_app.specs.Graph.{Graphs}
 use Rattle.maid_app.specs.Outcome.{Outcome}
-use Rattle.maid_app.specs.Request.{Request, solve}
+use Rattle.maid_app.specs.Request.{Request, solve, graph}
 use Rattle.maid_app.specs.Solve.{Solves}
 
 unfoldable pub Answers : Request → List ℕ → Outcome → Type 0
 Answers (solve name) bytes outcome = Solves name bytes outcome
+Answers (graph name) bytes outcome = Graphs name bytes outcome

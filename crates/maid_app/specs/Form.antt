@@ -1,8 +1,9 @@
 -- The forms of the code.
-use Rattle.maid_app.specs.Request.{Request, solve}
+use Rattle.maid_app.specs.Request.{Request, solve, graph}
 use Rattle.maid_app.specs.declared.forms.Form.{Form}
-use Rattle.maid_app.specs.declared.forms.Form.TheVariants.{Solve}
+use Rattle.maid_app.specs.declared.forms.Form.TheVariants.{Solve, Graph}
 
 -- the request that a form stands for
 abbrev pub request_by : Form → Request
 request_by (Solve file) = solve file.now
+request_by (Graph file) = graph file.now

@@ -1,6 +1,9 @@
 pub mod Answers
+pub mod Diagrams
 pub mod Faults
 pub mod Form
+pub mod Graph
+pub mod GraphLines
 pub mod Laws
 pub mod Lines
 pub mod Outcome
@@ -10,3 +13,4 @@ pub mod Request
 pub mod Solve
 pub mod Status
 pub mod Told
+pub mod Words

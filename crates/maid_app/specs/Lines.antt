@@ -1,6 +1,7 @@
 -- The lines of `err`.
 use Rattle.std.specs.Prelude.{ℕ, List, [], ◌∷◌, ◌++◌, codes, decimal}
-use Rattle.maid_model.specs.Reports.{line}
+use Rattle.maid_model.specs.Names.{NamesView, name_of}
+use Rattle.maid_model.specs.Reports.{line, names_line}
 use Rattle.app_lines.specs.Places.{line_at, column_at}
 
 abbrev pub usage_line : List ℕ
@@ -27,3 +28,15 @@ no_memory_line = line (codes "no memory")
 
 abbrev pub not_built_line : List ℕ
 not_built_line = line (codes "not built")
+
+-- the relevance cycle, each decision relying on the next
+abbrev pub cycle_line : NamesView → List ℕ → List ℕ
+cycle_line names cycle = names_line (codes "relevance cycle:") names cycle
+
+-- the node at which the weight bound is passed
+abbrev pub bound_node_line : NamesView → ℕ → List ℕ
+bound_node_line names v = line (codes "weight bound: node " ++ name_of names v)
+
+-- the utilities pass it
+abbrev pub bound_utilities_line : List ℕ
+bound_utilities_line = line (codes "weight bound: utilities")

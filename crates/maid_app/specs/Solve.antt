@@ -1,50 +1,82 @@
--- What `solve` makes of a file's bytes.
-use Rattle.std.specs.Prelude.{◌≡◌, ℕ, List}
-use Rattle.maid_model.specs.Answers.{IsAnswer}
+-- What `solve` makes of a file's bytes: the report of the diagram's answer, or the first that applies of the text's fault, the relevance cycle, the weight bound and too many worlds.
+use Rattle.std.specs.Prelude.{◌≡◌, ◌<◌, ◌≤◌, ℕ, List}
+use Rattle.maid_model.specs.Answers.{IsAnswer, pure_profile}
+use Rattle.maid_model.specs.Bounds.{KeepsBound, PassesAt}
 use Rattle.maid_model.specs.Names.{NamesView}
+use Rattle.maid_model.specs.Placing.{IsRelianceOrder, IsRelianceCycle}
 use Rattle.maid_model.specs.Reports.{report}
+use Rattle.maid_model.specs.Subgames.{IsSubgamePerfect, IsOptimal, OwnsAll}
 use Rattle.maid_model.specs.Views.{DiagramView, SolvedView}
-use Rattle.net_build.specs.First.{Parts, IsFirst, diagram_of, names_of}
-use Rattle.net_lexer.specs.Pieces.{IsTokens}
-use Rattle.net_lexer.specs.declared.tokens.Token.{Token}
-use Rattle.net_parser.specs.Grammar.{Spells}
-use Rattle.net_parser.specs.Lexemes.{lexemes}
-use Rattle.net_parser.specs.Trees.{BlockTree}
+use Rattle.rule_solver.specs.Leaves.{leaves, most_leaves}
+use Rattle.rule_solver.specs.Promised.{KeepsWorth}
+use Rattle.maid_app.specs.Diagrams.{IsDiagramOf}
 use Rattle.maid_app.specs.Faults.{TellsFault}
-use Rattle.maid_app.specs.Lines.{not_built_line}
+use Rattle.maid_app.specs.Lines.{cycle_line, bound_node_line, bound_utilities_line, not_built_line}
 use Rattle.maid_app.specs.Outcome.{Outcome, text, refused}
 use Rattle.maid_app.specs.declared.status.Status.{Status}
-use Rattle.maid_app.specs.declared.status.Status.TheVariants.{TextFault, NotBuilt}
+use Rattle.maid_app.specs.declared.status.Status.TheVariants.{TextFault, Cycle, WeightBound, NotBuilt}
 
--- The text is the report of an answer of the diagram, with these names.
-pub record HasReport (diagram : DiagramView) (names : NamesView) (printed : List ℕ) : Type 0 where
+-- The report of the answer, by definition and by what holds of it: its profile is subgame-perfect, with one agent no profile is worth more, and in a row that the plan reaches the printed worth is that under the plan.
+pub record HasReport (d : DiagramView) (names : NamesView) (printed : List ℕ) : Type 0 where
   pub solved : SolvedView
-  pub is_answer : IsAnswer diagram solved
-  pub is_report : printed ≡ report diagram names solved
+  pub is_answer : IsAnswer d solved
+  pub is_report : printed ≡ report d names solved
+  pub subgame_perfect : IsSubgamePerfect d.nodes (pure_profile d.nodes solved.answers)
+  pub optimal : (agent : ℕ) → OwnsAll d.nodes agent → IsOptimal d.nodes (pure_profile d.nodes solved.answers) agent
+  pub worth : KeepsWorth d solved
 
--- the bytes stand for a tree of the grammar
-pub record HasTree (bytes : List ℕ) : Type 0 where
-  pub tokens : List Token
-  pub is_tokens : IsTokens bytes tokens
-  pub tree : List BlockTree
-  pub spells : Spells tree (lexemes bytes tokens)
+-- all decisions can be placed in an order of solving
+abbrev pub HasOrder : DiagramView → Type 0
+HasOrder d = (order : List ℕ) × IsRelianceOrder d.nodes order
 
--- The bytes have that report: they are a text of the first shape, and it is a report of their diagram.
+-- the diagram of the bytes keeps the limits, and this is the report of its answer
 pub record Reports (bytes printed : List ℕ) : Type 0 where
-  pub has_tree : HasTree bytes
-  pub parts : Parts
-  pub is_first : IsFirst bytes parts
-  pub has_report : HasReport (diagram_of parts) (names_of parts) printed
+  pub d : DiagramView
+  pub names : NamesView
+  pub is_diagram : IsDiagramOf bytes d names
+  pub bound : KeepsBound d
+  pub few : leaves d.nodes ≤ most_leaves
+  pub has_report : HasReport d names printed
 
--- The program has no report of the bytes yet: they stand for a tree, and are no text of the first shape.
-pub record LacksReport (bytes told : List ℕ) : Type 0 where
-  pub has_tree : HasTree bytes
-  pub unlike : (parts : Parts) → IsFirst bytes parts → ⊥
+-- the relevance graph of the diagram has a cycle
+pub record TellsCycle (bytes told : List ℕ) : Type 0 where
+  pub d : DiagramView
+  pub names : NamesView
+  pub is_diagram : IsDiagramOf bytes d names
+  pub no_order : HasOrder d → ⊥
+  pub cycle : List ℕ
+  pub is_cycle : IsRelianceCycle d.nodes cycle
+  pub says : told ≡ cycle_line names cycle
+
+-- the first node in text at which the weight bound is passed, or else the utilities
+pub data IsBoundLine (d : DiagramView) (names : NamesView) (told : List ℕ) : Type 0 where
+  AtNode : (v : ℕ) → PassesAt d.nodes v → told ≡ bound_node_line names v → IsBoundLine d names told
+  AtUtilities : ((v : ℕ) → PassesAt d.nodes v → ⊥) → told ≡ bound_utilities_line → IsBoundLine d names told
+
+-- the diagram has an order of solving and passes the weight bound
+pub record TellsBound (bytes told : List ℕ) : Type 0 where
+  pub d : DiagramView
+  pub names : NamesView
+  pub is_diagram : IsDiagramOf bytes d names
+  pub order : HasOrder d
+  pub passed : KeepsBound d → ⊥
+  pub says : IsBoundLine d names told
+
+-- the diagram has an order of solving, keeps the weight bound, and has more worlds than are listed
+pub record TellsNotBuilt (bytes told : List ℕ) : Type 0 where
+  pub d : DiagramView
+  pub names : NamesView
+  pub is_diagram : IsDiagramOf bytes d names
+  pub order : HasOrder d
+  pub bound : KeepsBound d
+  pub many : most_leaves < leaves d.nodes
   pub says : told ≡ not_built_line
 
 -- what `solve` makes of the bytes of the file of that name
 abbrev pub Solves : List ℕ → List ℕ → Outcome → Type 0
 Solves name bytes (text printed) = Reports bytes printed
 Solves name bytes (refused TextFault told) = TellsFault name bytes told
-Solves name bytes (refused NotBuilt told) = LacksReport bytes told
+Solves name bytes (refused Cycle told) = TellsCycle bytes told
+Solves name bytes (refused WeightBound told) = TellsBound bytes told
+Solves name bytes (refused NotBuilt told) = TellsNotBuilt bytes told
 Solves name bytes (refused status told) = ⊥

@@ -1,8 +1,11 @@
+//! The forms of words, each with a module that makes its text.
+
 ghost use Rattle.std.specs.Prelude.{◌≡◌};
 ghost use Rattle.std.specs.Option.{option_map};
 ghost use Rattle.maid_app.specs.Request.{requested, file_name};
 ghost use Rattle.maid_app.specs.Form.{request_by};
 
+pub mod graph;
 pub mod solve;
 
 /// What the words ask for.
@@ -10,6 +13,11 @@ pub mod solve;
 pub enum Form<'a> {
     /// `solve F`: the report of the diagram in the file F.
     Solve {
+        /// The file's name.
+        file: &'a str,
+    },
+    /// `graph F`: which decisions rely on which, and the order of solving or the relevance cycle.
+    Graph {
         /// The file's name.
         file: &'a str,
     },
@@ -22,6 +30,7 @@ impl<'a> Form<'a> {
     {
         match self {
             Form::Solve { file } => file,
+            Form::Graph { file } => file,
         }
     }
 }
@@ -32,6 +41,9 @@ pub fn form_of(words: &[String]) -> Option<Form<'_>>
 {
     match words {
         [word, file] if word.as_str() == "solve" => Some(Form::Solve {
+            file: file.as_str(),
+        }),
+        [word, file] if word.as_str() == "graph" => Some(Form::Graph {
             file: file.as_str(),
         }),
         _ => None,

@@ -2,6 +2,7 @@
 
 ghost use Rattle.maid_app.specs.Laws.{OneStatus, RefusedForBytes};
 
+use net_build::{a_tree_has_a_fault_or_none, a_tree_stands_for_one_diagram};
 use net_lexer::every_text_reads_one_way;
 use net_parser::tokens_read_one_way;
 
@@ -12,4 +13,6 @@ pub fn one_status()
 {
     every_text_reads_one_way();
     tokens_read_one_way();
+    a_tree_has_a_fault_or_none();
+    a_tree_stands_for_one_diagram();
 }

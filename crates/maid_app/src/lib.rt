@@ -7,6 +7,7 @@
 //! written. A refusal knows its status and its line for `err`.
 #![tactic(auto)]
 
+mod fault_words;
 mod forms;
 mod laws;
 pub mod lines;

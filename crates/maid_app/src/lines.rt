@@ -1,6 +1,6 @@
 //! The lines that go to `err`.
 
-ghost use Rattle.std.specs.Prelude.{◌≡◌, ◌≤◌, ◌++◌, IfOk, OnOk, length, decimal};
+ghost use Rattle.std.specs.Prelude.{◌≡◌, ◌++◌, IfOk, OnOk, decimal};
 ghost use Rattle.maid_model.specs.Reports.{line};
 ghost use Rattle.maid_app.specs.Lines.{fault_line};
 
@@ -28,15 +28,16 @@ pub fn told(alloc: Global, head: &[u8], name: &[u8]) -> Result<Vec<u8>, AllocErr
     Ok(text)
 }
 
-// Appends a whole number.
-fn push_number(text: &mut Vec<u8>, number: usize) -> Result<(), AllocError>
+/// Appends a whole number.
+pub fn push_number(text: &mut Vec<u8>, number: u128) -> Result<(), AllocError>
     ensures { OnOk result (text.new.items ≡ text.old.items ++ decimal number) }
 {
     let mut buffer = Buffer::new();
     text.extend_from_slice(buffer.format(number).as_bytes())
 }
 
-/// The line of a fault of the file's bytes: the file, the line and the column of the place, and what is wrong there.
+/// The line of a fault of the file's bytes: the file, the line and the column of the place, and what is wrong there. A
+/// place behind the bytes is their end.
 pub fn fault(
     alloc: Global,
     name: &[u8],
@@ -44,15 +45,14 @@ pub fn fault(
     at: usize,
     words: &[u8],
 ) -> Result<Vec<u8>, AllocError>
-    requires { at ≤ length bytes.now }
     ensures { IfOk result (λ text. text.items ≡ fault_line name.now bytes.now at words.now) }
 {
-    let (line, column) = place(bytes, at);
+    let (line, column) = place(bytes, at.min(bytes.len()));
     let mut text = Vec::from_slice(alloc, name)?;
     text.push(b':')?;
-    push_number(&mut text, line)?;
+    push_number(&mut text, line as u128)?;
     text.push(b':')?;
-    push_number(&mut text, column)?;
+    push_number(&mut text, column as u128)?;
     text.extend_from_slice(b": ")?;
     text.extend_from_slice(words)?;
     text.push(b'\n')?;

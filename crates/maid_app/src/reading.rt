@@ -1,20 +1,27 @@
-//! From a file's bytes to the tree that they stand for, or to the line of their fault.
+//! From a file's bytes to the diagram that they stand for, or to the line of their fault.
 
-ghost use Rattle.std.specs.Prelude.{◌≡◌, ◌≤◌, All, IfOk, IfErr, length};
+ghost use Rattle.std.specs.Prelude.{◌≡◌, All, IfOk, IfErr, Some};
+ghost use Rattle.maid_model.specs.Names.{NamesFit};
+ghost use Rattle.net_build.specs.Passes.{Refuses as RefusesPass, kind_view, found};
+ghost use Rattle.net_build.specs.Table.{all_passes};
 ghost use Rattle.net_lexer.specs.Pieces.{IsTokens, IsRefusal};
 ghost use Rattle.net_parser.specs.Faults.{Refuses};
 ghost use Rattle.net_parser.specs.Grammar.{Spells};
 ghost use Rattle.net_parser.specs.Lexemes.{lexemes};
 ghost use Rattle.net_parser.specs.Owned.{IsBlockOf};
+ghost use Rattle.maid_app.specs.Diagrams.{IsDiagramOf};
 ghost use Rattle.maid_app.specs.Lines.{fault_line};
 ghost use Rattle.maid_app.specs.Reading.{Tells, RefusesBytes};
 ghost use Rattle.maid_app.specs.Refusal.{status_of, line_of};
 
+use crate::fault_words::kind_words;
 use crate::refusal::Refusal;
 use crate::{Status, lines};
-use net_lexer::{LexFault, Tokens, lex, tokens_stand_in_their_text};
+use net_build::{BuildFault, BuildKind, Names, build};
+use net_lexer::{LexFault, Tokens, lex};
 use net_parser::{ParseFault, Syntax, parse};
-use std::alloc::Global;
+use maid_model::Diagram;
+use std::alloc::{AllocError, Global};
 
 /// A file's name and its bytes.
 #[derive(Clone, Copy)]
@@ -26,7 +33,6 @@ pub struct Source<'a> {
 impl Source<'_> {
     // The refusal that tells the fault at that place. Its line takes memory, which may run out.
     fn fault(self, alloc: Global, at: usize, words: &[u8]) -> Refusal
-        requires { at ≤ length self.bytes.now }
         ensures { Tells Status.TextFault (fault_line self.entry.name.now self.entry.bytes.now at words.now) (status_of result) (line_of result) }
     {
         match lines::fault(alloc, self.name.as_bytes(), self.bytes, at, words) {
@@ -57,8 +63,6 @@ impl Source<'_> {
         requires refuses { Refuses self.bytes.now tokens.now fault }
         ensures { RefusesBytes self.entry.name.now self.entry.bytes.now (status_of result) (line_of result) }
     {
-        // The place of the fault is in the text.
-        tokens_stand_in_their_text();
         match fault {
             ParseFault::Unexpected { at } => self.fault(alloc, at, b"unexpected"),
             ParseFault::Unsupported { at } => self.fault(alloc, at, b"unsupported"),
@@ -67,8 +71,8 @@ impl Source<'_> {
         }
     }
 
-    /// The tokens of the bytes.
-    pub fn tokens(self, alloc: Global) -> Result<Tokens, Refusal>
+    // The tokens of the bytes.
+    fn tokens(self, alloc: Global) -> Result<Tokens, Refusal>
         ensures ok { IfOk result (λ tokens. IsTokens self.entry.bytes.now tokens) }
         ensures err { IfErr result (λ refusal. RefusesBytes self.entry.name.now self.entry.bytes.now (status_of refusal) (line_of refusal)) }
     {
@@ -78,8 +82,8 @@ impl Source<'_> {
         }
     }
 
-    /// The tree that the tokens of the bytes spell.
-    pub fn tree(self, alloc: Global, tokens: &Tokens) -> Result<Syntax, Refusal>
+    // The tree that the tokens of the bytes spell.
+    fn tree(self, alloc: Global, tokens: &Tokens) -> Result<Syntax, Refusal>
         requires { IsTokens self.bytes.now tokens.now }
         ensures spells { IfOk result (λ tree. Spells tree (lexemes self.entry.bytes.now tokens.now)) }
         ensures blocks { IfOk result (λ tree. All (IsBlockOf self.entry.bytes.now) tree) }
@@ -88,6 +92,48 @@ impl Source<'_> {
         match parse(alloc, self.bytes, tokens) {
             Ok(tree) => Ok(tree),
             Err(fault) => Err(self.grammar_refusal(alloc, tokens, fault)),
+        }
+    }
+
+    // The refusal of a tree with that fault.
+    fn kind_refusal(self, alloc: Global, tokens: &Tokens, tree: &Syntax, at: usize, kind: &BuildKind) -> Refusal
+        requires tokens { IsTokens self.bytes.now tokens.now }
+        requires spells { Spells tree.now (lexemes self.bytes.now tokens.now) }
+        requires blocks { All (IsBlockOf self.bytes.now) tree.now }
+        requires fault { all_passes self.bytes.now tree.now (Some (found at (kind_view kind.now))) }
+        ensures { RefusesBytes self.entry.name.now self.entry.bytes.now (status_of result) (line_of result) }
+    {
+        match kind_words(alloc, self.bytes, tree, kind) {
+            Ok(words) => self.fault(alloc, at, &words),
+            Err(AllocError) => Refusal::NoMemory,
+        }
+    }
+
+    // The refusal of a tree that stands for no diagram.
+    fn build_refusal(self, alloc: Global, tokens: &Tokens, tree: &Syntax, fault: &BuildFault) -> Refusal
+        requires tokens { IsTokens self.bytes.now tokens.now }
+        requires spells { Spells tree.now (lexemes self.bytes.now tokens.now) }
+        requires blocks { All (IsBlockOf self.bytes.now) tree.now }
+        requires refuses { RefusesPass (all_passes self.bytes.now tree.now) fault.now }
+        ensures { RefusesBytes self.entry.name.now self.entry.bytes.now (status_of result) (line_of result) }
+    {
+        match fault {
+            BuildFault::Fault { at, kind } => self.kind_refusal(alloc, tokens, tree, *at, kind),
+            BuildFault::NoMemory => Refusal::NoMemory,
+        }
+    }
+
+    /// The diagram that the bytes stand for, and the names in them.
+    pub fn diagram(self, alloc: Global) -> Result<(Diagram, Names), Refusal>
+        ensures ok { IfOk result (λ built. IsDiagramOf self.entry.bytes.now built.0 built.1) }
+        ensures fit { IfOk result (λ built. NamesFit built.0 built.1) }
+        ensures err { IfErr result (λ refusal. RefusesBytes self.entry.name.now self.entry.bytes.now (status_of refusal) (line_of refusal)) }
+    {
+        let tokens = self.tokens(alloc)?;
+        let tree = self.tree(alloc, &tokens)?;
+        match build(alloc, self.bytes, &tokens, &tree) {
+            Ok(built) => Ok(built),
+            Err(fault) => Err(self.build_refusal(alloc, &tokens, &tree, &fault)),
         }
     }
 }

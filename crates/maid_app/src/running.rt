@@ -14,7 +14,7 @@ ghost use Rattle.maid_app.specs.Refusal.{status_of, line_of};
 ghost use Rattle.maid_model.specs.Reports.{line};
 ghost use Rattle.maid_app.specs.Told.{limit, IsText, IsUnread, RefusesFile, Says, HasText, TakesLine, IsBeforeWriting, IsOneOf};
 
-use crate::forms::{Form, form_of, solve};
+use crate::forms::{Form, form_of, graph, solve};
 use crate::laws::one_status;
 use crate::reading::Source;
 use crate::refusal::Refusal;
@@ -71,6 +71,7 @@ fn text_of(alloc: Global, form: Form<'_>, bytes: &[u8]) -> Result<Vec<u8>, Refus
 {
     match form {
         Form::Solve { file } => solve::answer(alloc, Source { name: file, bytes }),
+        Form::Graph { file } => graph::answer(alloc, Source { name: file, bytes }),
     }
 }
 

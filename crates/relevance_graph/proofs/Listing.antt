@@ -10,7 +10,8 @@ use Rattle.std.proofs.lemmas.List.Elements.{Contains-push, Contains-push_cases, 
 use Rattle.maid_model.specs.Views.{NodeView}
 use Rattle.maid_model.specs.Relevance.{ReliesOn}
 use Rattle.diagram_graph.specs.Needs.{needs_of}
-use Rattle.relevance_graph.specs.Steps.{IsRising, ListsBelow, TellsReliance}
+use Rattle.relevance_graph.specs.Steps.{ListsBelow, TellsReliance}
+use Rattle.relevance_graph.specs.Views.{IsRising}
 
 none_in : (v : ℕ) → Contains [] v → ⊥
 none_in v c = let l = c.1 in absurd (omega arith)

@@ -4,7 +4,7 @@ use Rattle.maid_model.specs.Views.{NodeView}
 use Rattle.maid_model.specs.Placing.{IsRelianceOrder, IsRelianceCycle}
 use Rattle.maid_model.specs.Relevance.{ReliesOn}
 use Rattle.diagram_graph.specs.Rounds.{IsRing}
-use Rattle.relevance_graph.specs.Views.{RelevanceView, ReliesTo}
+use Rattle.relevance_graph.specs.Views.{RelevanceView, ReliesTo, IsRising, relied_on_by}
 
 -- the relevance cycle: a ring of decisions each of which relies on the next, so that no order of solving has them all
 pub record IsBlockedBy (nodes : List NodeView) (cycle : List ℕ) : Type 0 where
@@ -17,8 +17,9 @@ abbrev pub IsOutcome : List NodeView → Result (List ℕ) (List ℕ) → Type 0
 IsOutcome nodes (Ok order) = IsRelianceOrder nodes order
 IsOutcome nodes (Err cycle) = IsBlockedBy nodes cycle
 
--- the relevance graph of a diagram: it tells of each pair of numbers whether the one relies on the other
+-- the relevance graph of a diagram: it tells of each pair of numbers whether the one relies on the other, and lists those on which a decision relies in text order
 pub record IsRelevance (nodes : List NodeView) (view : RelevanceView) : Type 0 where
   pub count : length view.relied_on ≡ length nodes
   pub pairs : (d e : ℕ) → ReliesTo view d e ↔ ReliesOn nodes d e
+  pub rising : (d : ℕ) → IsRising (relied_on_by view d)
   pub outcome : IsOutcome nodes view.outcome

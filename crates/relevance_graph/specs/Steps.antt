@@ -8,6 +8,7 @@ use Rattle.maid_model.specs.Relevance.{IsLive, IsFixed, IsGoal, ReliesOn}
 use Rattle.maid_model.specs.Walks.{IsReachedFromParent}
 use Rattle.bayes_ball.specs.Search.{MarksView, IsIn}
 use Rattle.diagram_graph.specs.Needs.{needs_of}
+use Rattle.relevance_graph.specs.Views.{IsRising}
 
 -- a decision of two states or more
 abbrev pub IsLiveDecision : List NodeView → ℕ → Type 0
@@ -26,10 +27,6 @@ LeadsToGoal nodes d e =
 pub record IsSearchedFor (nodes : List NodeView) (d : ℕ) (marks : MarksView) : Type 0 where
   pub count : length marks.reached ≡ length nodes
   pub parents : (e : ℕ) → e < length nodes → IsIn marks.parents_reached e ↔ LeadsToGoal nodes d e
-
--- each number is greater than those before it
-abbrev pub IsRising : List ℕ → Type 0
-IsRising list = (i j : ℕ) → i < j → j < length list → slice_index list i < slice_index list j
 
 -- the numbers below n with the property P, in rising order
 pub record ListsBelow (P : ℕ → Type 0) (n : ℕ) (list : List ℕ) : Type 0 where

@@ -1,6 +1,6 @@
 ghost use Rattle.std.specs.Prelude.{◌≡◌, ◌<◌, ◌↔◌, length, IsTrue, IfOk, MatchResult};
 ghost use Rattle.relevance_graph.specs.Relevant.{IsRelevance};
-ghost use Rattle.relevance_graph.specs.Views.{ReliesTo};
+ghost use Rattle.relevance_graph.specs.Views.{ReliesTo, relied_on_by};
 
 use crate::placed::place_decisions;
 use crate::reliance::list_reliance;
@@ -21,7 +21,7 @@ impl Model for Relevance {
     ghost use Rattle.std.specs.Prelude.{ℕ};
     ghost use Rattle.diagram_graph.specs.Cycles.{rows_of};
     ghost use Rattle.diagram_graph.specs.Needs.{needs_of};
-    ghost use Rattle.relevance_graph.specs.Steps.{IsRising};
+    ghost use Rattle.relevance_graph.specs.Views.{IsRising};
     ghost use Rattle.relevance_graph.specs.Views.{RelevanceView, outcome_of};
 
     ghost Value = { RelevanceView };
@@ -39,6 +39,14 @@ impl Relevance {
         ensures { IsTrue result ↔ ReliesTo self.now decision on }
     {
         self.relied_on[decision].binary_search(&on).is_ok()
+    }
+
+    /// The decisions on which the node relies, in text order. It takes no memory.
+    pub fn relied_on(&self, decision: usize) -> &[usize]
+        requires { decision < length self.now.relied_on }
+        ensures { result.now ≡ relied_on_by self.now decision }
+    {
+        &self.relied_on[decision]
     }
 
     /// The order of solving: each time the first decision in text, all of whose relied-on decisions stand before it. An

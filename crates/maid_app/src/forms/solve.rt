@@ -1,49 +1,72 @@
-ghost use Rattle.std.specs.Prelude.{IfOk, IfErr};
-ghost use Rattle.maid_model.specs.Bounds.{KeepsBound};
+//! `solve F`: the report.
+
+ghost use Rattle.std.specs.Prelude.{◌≡◌, ℕ, List, IfOk, IfErr, MatchResult};
 ghost use Rattle.maid_model.specs.Names.{NamesFit};
-ghost use Rattle.rule_solver.specs.Answered.{NoneRelies};
+ghost use Rattle.maid_app.specs.Diagrams.{IsDiagramOf};
 ghost use Rattle.maid_app.specs.Outcome.{text};
 ghost use Rattle.maid_app.specs.Reading.{RefusesAs};
 ghost use Rattle.maid_app.specs.Refusal.{status_of, line_of};
-ghost use Rattle.maid_app.specs.Solve.{HasReport, Solves};
+ghost use Rattle.maid_app.specs.Solve.{Solves};
+ghost use Rattle.rule_solver.specs.Faults.{Tells};
 
+use crate::lines;
 use crate::reading::Source;
 use crate::refusal::Refusal;
-use crate::{Status, lines};
+use crate::Status;
+use app_lines::list_line;
 use maid_model::Diagram;
-use net_build::{Names, first_shape};
+use net_build::Names;
 use report_text::print_report;
-use rule_solver::solve;
+use rule_solver::{SolveFault, solve};
 use std::alloc::{AllocError, Global};
 
-// The report of the diagram's answer.
-fn report_of(alloc: Global, diagram: &Diagram, names: &Names) -> Result<Vec<u8>, AllocError>
-    requires names { NamesFit diagram.now names.now }
-    requires bound { KeepsBound diagram.now }
-    requires none_relies { NoneRelies diagram.now.nodes }
-    ensures { IfOk result (λ report. HasReport diagram.now names.now report.items) }
+// The refusal of that status, if memory suffices for its line.
+fn told(status: Status, line: Result<Vec<u8>, AllocError>) -> Refusal
+    ensures { MatchResult line (λ made. (status_of result ≡ status) × (line_of result ≡ made.items)) (λ _. result ≡ Refusal.NoMemory) }
 {
-    let solved = solve(alloc, diagram)?;
-    print_report(alloc, diagram, names, &solved)
+    match line {
+        Ok(line) => Refusal::Told { status, line },
+        Err(AllocError) => Refusal::NoMemory,
+    }
 }
 
-/// The report of the diagram that a file's bytes stand for.
+// The refusal of a diagram that isn't solved.
+fn refusal(alloc: Global, diagram: &Diagram, names: &Names, fault: &SolveFault) -> Refusal
+    requires fit { NamesFit diagram.now names.now }
+    requires tells { Tells diagram.now fault.now }
+    ensures { (name bytes : List ℕ) → IsDiagramOf bytes diagram.now names.now → RefusesAs (Solves name bytes) (status_of result) (line_of result) }
+{
+    match fault {
+        SolveFault::Cycle { list } => told(
+            Status::Cycle,
+            list_line(alloc, names, b"relevance cycle:", list),
+        ),
+        SolveFault::WeightBound { node: Some(v) } => told(
+            Status::WeightBound,
+            lines::told(alloc, b"weight bound: node ", names.name(*v)),
+        ),
+        SolveFault::WeightBound { node: None } => told(
+            Status::WeightBound,
+            lines::told(alloc, b"weight bound: utilities", b""),
+        ),
+        SolveFault::NotBuilt { .. } => told(Status::NotBuilt, lines::told(alloc, b"not built", b"")),
+        SolveFault::NoMemory => Refusal::NoMemory,
+    }
+}
+
+/// The report of the answer of the diagram that a file's bytes stand for.
 ///
 /// # Errors
 ///
-/// The fault of the bytes, that they are no text of the one shape that is solved yet, or want of memory.
-#[tactic(auto, using(crate::proofs::Solved::lone_relies_on_none, crate::proofs::Solved::reports_of))]
+/// The fault of the bytes, the relevance cycle, the place at which the weight bound is passed, that there are more than
+/// 65,536 worlds, or want of memory.
 pub fn answer(alloc: Global, source: Source<'_>) -> Result<Vec<u8>, Refusal>
-    ensures ok { IfOk result (λ report. Solves source.entry.name.now source.entry.bytes.now (text report.items)) }
+    ensures ok { IfOk result (λ printed. Solves source.entry.name.now source.entry.bytes.now (text printed.items)) }
     ensures err { IfErr result (λ refusal. RefusesAs (Solves source.entry.name.now source.entry.bytes.now) (status_of refusal) (line_of refusal)) }
 {
-    let tokens = source.tokens(alloc)?;
-    let _tree = source.tree(alloc, &tokens)?;
-    match first_shape(alloc, source.bytes, &tokens)? {
-        Some((diagram, names)) => Ok(report_of(alloc, &diagram, &names)?),
-        None => Err(Refusal::Told {
-            status: Status::NotBuilt,
-            line: lines::told(alloc, b"not built", b"")?,
-        }),
+    let (diagram, names) = source.diagram(alloc)?;
+    match solve(alloc, &diagram) {
+        Ok(solved) => Ok(print_report(alloc, &diagram, &names, &solved)?),
+        Err(fault) => Err(refusal(alloc, &diagram, &names, &fault)),
     }
 }

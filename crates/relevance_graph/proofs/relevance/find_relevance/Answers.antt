@@ -10,5 +10,6 @@ pub returns : goal.returns
 returns c = record {
   count = c.in_ok-relied_on.ensures.count;
   pairs = needs_relies c.args.diagram.now.nodes (rows_of c.in_ok-relied_on.relied_on.items) c.in_ok-relied_on.ensures;
+  rising = tells_rising c.args.diagram.now.nodes (rows_of c.in_ok-relied_on.relied_on.items) c.in_ok-relied_on.ensures;
   outcome = c.in_ok-placing.ensures;
 }

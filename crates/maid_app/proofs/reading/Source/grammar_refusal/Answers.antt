@@ -2,23 +2,10 @@ use Rattle.std.proofs.Common.{subst}
 use Rattle.net_parser.specs.Faults.{Refuses}
 use Rattle.net_parser.specs.declared.parsing.ParseFault.TheVariants.{Unexpected, Unsupported, TooDeep}
 use Rattle.maid_app.specs.Refusal.{status_of, line_of}
-use Rattle.maid_app.proofs.Places.{fault_within, tells_grammar}
+use Rattle.maid_app.proofs.Tells.{tells_grammar}
 use Rattle.maid_app.proofs.reading.Source.grammar_refusal.Goals as goal
 
--- the place of the first impossible token is in the text
-pub fault-requires : goal.fault-requires
-fault-requires c = fault_within c.tokens_stand_in_their_text.ensures.tokens c.args.self.bytes.now c.args.tokens.now (Unexpected c.in-Unexpected.at) c.requires.tokens
-    (subst (λ f. Refuses c.args.self.bytes.now c.args.tokens.now f) c.in-Unexpected.is c.requires.refuses)
-
-pub fault-requires-in-Unsupported : goal.fault-requires-in-Unsupported
-fault-requires-in-Unsupported c = fault_within c.tokens_stand_in_their_text.ensures.tokens c.args.self.bytes.now c.args.tokens.now (Unsupported c.in-Unsupported.at) c.requires.tokens
-    (subst (λ f. Refuses c.args.self.bytes.now c.args.tokens.now f) c.in-Unsupported.is c.requires.refuses)
-
-pub fault-requires-in-TooDeep : goal.fault-requires-in-TooDeep
-fault-requires-in-TooDeep c = fault_within c.tokens_stand_in_their_text.ensures.tokens c.args.self.bytes.now c.args.tokens.now (TooDeep c.in-TooDeep.at) c.requires.tokens
-    (subst (λ f. Refuses c.args.self.bytes.now c.args.tokens.now f) c.in-TooDeep.is c.requires.refuses)
-
--- and the line tells it
+-- the line tells the first impossible token
 pub returns-in-Unexpected : goal.returns-in-Unexpected
 returns-in-Unexpected c = tells_grammar c.args.self.name.now c.args.self.bytes.now c.args.tokens.now (Unexpected c.in-Unexpected.at) (status_of c.fault.result) (line_of c.fault.result) c.requires.tokens
     (subst (λ f. Refuses c.args.self.bytes.now c.args.tokens.now f) c.in-Unexpected.is c.requires.refuses) c.fault.ensures

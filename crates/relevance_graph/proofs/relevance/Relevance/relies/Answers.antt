@@ -4,7 +4,7 @@ use Rattle.std.proofs.lemmas.List.{get_or-map, length-map}
 use Rattle.diagram_graph.specs.Cycles.{rows_of}
 use Rattle.diagram_graph.specs.Needs.{needs_of}
 use Rattle.relevance_graph.specs.Views.{RelevanceView}
-use Rattle.relevance_graph.specs.Steps.{IsRising}
+use Rattle.relevance_graph.specs.Views.{IsRising}
 use Rattle.relevance_graph.proofs.Listing.{search_finds}
 use Rattle.relevance_graph.proofs.relevance.Relevance.relies.Goals as goal
 

@@ -1,0 +1,80 @@
+-- Lists of decisions name nodes, and lines of decisions are those of all nodes.
+use Rattle.std.proofs.Common.{◌≡◌, ◌∙◌, ℕ, zero, suc, ◌+◌, ◌-◌, ◌<◌, List, [], ◌∷◌, ◌++◌, Bool, true, false, All, IfOk, Vec, Global, length, get_or, drop, refl, sym, ap, subst, arith, append_assoc, add-one, codes}
+use Rattle.std.proofs.lemmas.List.{get_or-drop, get_or_default, length-drop}
+use Rattle.std.proofs.lemmas.List.Elements.{Contains-get_or}
+use Rattle.std.proofs.lemmas.Grind.{flat_map-append}
+use Rattle.std.specs.Prelude.{Contains, slice_index, filter, Ok, Err, Result}
+use Rattle.std.specs.List.{flat_map, range_with_len}
+use Rattle.maid_model.specs.Names.{NamesView}
+use Rattle.maid_model.specs.Nodes.{IsDecision, node_at, is_decision, decisions_of, numbers_of}
+use Rattle.maid_model.specs.Placing.{IsRelianceOrder, IsRelianceCycle, IsTrail, Remains}
+use Rattle.maid_model.specs.Relevance.{ReliesOn}
+use Rattle.maid_model.specs.Reports.{names_line}
+use Rattle.maid_model.specs.Views.{NodeView}
+use Rattle.relevance_graph.specs.Relevant.{IsRelevance, IsOutcome}
+use Rattle.relevance_graph.specs.Views.{RelevanceView, relied_on_by}
+use Rattle.maid_app.specs.Graph.{relies_line, IsLastLine, OfOrder, OfCycle}
+use Rattle.maid_app.specs.GraphLines.{node_line}
+
+-- an order of solving has decisions alone
+pub order_within : (nodes : List NodeView) (order : List ℕ) → IsRelianceOrder nodes order → All (λ v. v < length nodes) order
+order_within nodes order is k d h = subst (λ v. v < length nodes) (get_or_default order k 0 d h) ((is.placing k h).0.0.0.within)
+
+trail_within : (nodes : List NodeView) (placed trail : List ℕ) → IsTrail (Remains (IsDecision nodes) placed) (ReliesOn nodes) trail → (k : ℕ) → k < length trail → get_or trail k 0 < length nodes
+trail_within nodes placed trail is zero h = (is.first h).0.0.within
+trail_within nodes placed trail is (suc k) h = subst (λ n. get_or trail n 0 < length nodes) (add-one k) ((is.next k (omega (arith, h))).0.1.0.within)
+
+-- and so has a relevance cycle
+pub cycle_within : (nodes : List NodeView) (cycle : List ℕ) → IsRelianceCycle nodes cycle → All (λ v. v < length nodes) cycle
+cycle_within nodes cycle is k d h =
+    let trail = is.round.trail in
+    let back = is.round.back in
+    let e : cycle ≡ drop back trail = is.round.is in
+    let left : k < length trail - back = subst (λ n. k < n) (ap length e ∙ length-drop back trail) h in
+    let within : back + k < length trail = omega (arith, left) in
+    subst (λ v. v < length nodes) (sym (ap (λ xs. get_or xs k d) e ∙ get_or-drop back trail k d ∙ get_or_default trail (back + k) d 0 within))
+    (trail_within nodes is.placed trail is.round.is_trail (back + k) within)
+
+-- those on which a node relies
+pub relied_within : (nodes : List NodeView) (view : RelevanceView) (v : ℕ) → IsRelevance nodes view → All (λ e. e < length nodes) (relied_on_by view v)
+relied_within nodes view v is k d h = ((is.pairs v (get_or (relied_on_by view v) k d)).0 (Contains-get_or (relied_on_by view v) k d h)).on_decision.within
+
+lines_step : (nodes : List NodeView) (names : NamesView) (view : RelevanceView) (v : ℕ) (numbers : List ℕ) (is : Bool) → is_decision (node_at nodes v).kind ≡ is
+    → flat_map (node_line nodes names view) numbers ≡ flat_map (λ u. relies_line names u (relied_on_by view u)) (filter (λ u. is_decision (node_at nodes u).kind) numbers)
+    → flat_map (node_line nodes names view) (v ∷ numbers) ≡ flat_map (λ u. relies_line names u (relied_on_by view u)) (filter (λ u. is_decision (node_at nodes u).kind) (v ∷ numbers))
+lines_step nodes names view v numbers true e rest = rw e (ap (λ bytes. relies_line names v (relied_on_by view v) ++ bytes) rest)
+lines_step nodes names view v numbers false e rest = rw e rest
+
+-- the lines of the decisions, node by node
+pub lines_are : (nodes : List NodeView) (names : NamesView) (view : RelevanceView) (numbers : List ℕ)
+    → flat_map (node_line nodes names view) numbers ≡ flat_map (λ u. relies_line names u (relied_on_by view u)) (filter (λ u. is_decision (node_at nodes u).kind) numbers)
+lines_are nodes names view [] = refl
+lines_are nodes names view (v ∷ numbers) = lines_step nodes names view v numbers (is_decision (node_at nodes v).kind) refl (lines_are nodes names view numbers)
+
+range_push : (k n : ℕ) → range_with_len k (suc n) ≡ range_with_len k n ++ (k + n) ∷ []
+range_push k zero = ap (λ x. x ∷ []) (omega arith)
+range_push k (suc n) = ap (λ x. k ∷ x) (range_push (k + 1) n ∙ ap (λ x. range_with_len (k + 1) n ++ x ∷ []) (omega arith))
+
+append_nil : {A : Type 0} (xs : List A) → xs ++ [] ≡ xs
+append_nil [] = refl
+append_nil (x ∷ xs) = ap (λ ys. x ∷ ys) (append_nil xs)
+
+-- one more number behind a range
+pub one_more : {A : Type 0} (f : ℕ → List A) (n : ℕ) → flat_map f (range_with_len 0 (n + 1)) ≡ flat_map f (range_with_len 0 n) ++ f n
+one_more f n =
+    ap (λ k. flat_map f (range_with_len 0 k)) (add-one n) ∙ ap (flat_map f) (range_push 0 n) ∙ flat_map-append f (range_with_len 0 n) ((0 + n) ∷ [])
+    ∙ ap (λ xs. flat_map f (range_with_len 0 n) ++ xs) (append_nil (f (0 + n)) ∙ ap f (omega arith))
+
+-- the last line is that of the outcome
+pub last_of_order : {E : Type 0} (nodes : List NodeView) (names : NamesView) (view : RelevanceView) (order : List ℕ) (r : Result (Vec ℕ Global) E) → IsRelevance nodes view → view.outcome ≡ Ok order
+    → IfOk r (λ t. t.items ≡ names_line (codes "order:") names order) → IfOk r (λ t. IsLastLine nodes names t.items)
+last_of_order nodes names view order (Ok t) is e h = OfOrder order (subst (IsOutcome nodes) e is.outcome) h
+last_of_order nodes names view order (Err x) is e h = tt
+
+pub last_of_cycle : {E : Type 0} (nodes : List NodeView) (names : NamesView) (view : RelevanceView) (cycle : List ℕ) (r : Result (Vec ℕ Global) E) → IsRelevance nodes view → view.outcome ≡ Err cycle
+    → IfOk r (λ t. t.items ≡ names_line (codes "cycle:") names cycle) → IfOk r (λ t. IsLastLine nodes names t.items)
+last_of_cycle nodes names view cycle (Ok t) is e h = let blocked = subst (IsOutcome nodes) e is.outcome in OfCycle cycle blocked.is_cycle blocked.no_order h
+last_of_cycle nodes names view cycle (Err x) is e h = tt
+
+pub cycle_members : (nodes : List NodeView) (view : RelevanceView) (cycle : List ℕ) → IsRelevance nodes view → view.outcome ≡ Err cycle → All (λ v. v < length nodes) cycle
+cycle_members nodes view cycle is e = let blocked = subst (IsOutcome nodes) e is.outcome in cycle_within nodes cycle blocked.is_cycle

@@ -1,0 +1,125 @@
+//! `graph F`: who relies on whom.
+
+ghost use Rattle.std.specs.Prelude.{◌≡◌, ◌<◌, ◌++◌, All, IfOk, IfErr, OnOk, length};
+ghost use Rattle.std.specs.List.{flat_map};
+ghost use Rattle.maid_model.specs.Names.{NamesFit};
+ghost use Rattle.maid_model.specs.Nodes.{decisions_of};
+ghost use Rattle.relevance_graph.specs.Relevant.{IsRelevance};
+ghost use Rattle.relevance_graph.specs.Views.{relied_on_by};
+ghost use Rattle.maid_app.specs.Graph.{Graphs, IsGraphText, IsLastLine, relies_line};
+ghost use Rattle.maid_app.specs.GraphLines.{node_line};
+ghost use Rattle.maid_app.specs.Outcome.{text};
+ghost use Rattle.maid_app.specs.Reading.{RefusesAs};
+ghost use Rattle.maid_app.specs.Refusal.{status_of, line_of};
+
+use crate::reading::Source;
+use crate::refusal::Refusal;
+use app_lines::list_line;
+use maid_model::{Diagram, Kind};
+use net_build::Names;
+use relevance_graph::{Relevance, find_relevance};
+use std::alloc::{AllocError, Global};
+
+// Appends a decision's line.
+fn push_decision(
+    alloc: Global,
+    out: &mut Vec<u8>,
+    names: &Names,
+    decision: usize,
+    relied_on: &[usize],
+) -> Result<(), AllocError>
+    requires decision { decision < length names.now.nodes }
+    requires relied_on { All (λ v. v < length names.now.nodes) relied_on.now }
+    ensures { OnOk result (out.new.items ≡ out.old.items ++ relies_line names.now decision relied_on.now) }
+{
+    let mut head = Vec::from_slice(alloc, b"relies ")?;
+    head.extend_from_slice(names.name(decision))?;
+    head.push(b':')?;
+    out.extend_from_slice(&list_line(alloc, names, &head, relied_on)?)
+}
+
+// Appends the node's line where it is a decision.
+fn push_node(
+    alloc: Global,
+    out: &mut Vec<u8>,
+    diagram: &Diagram,
+    names: &Names,
+    relevance: &Relevance,
+    v: usize,
+) -> Result<(), AllocError>
+    requires within { v < length diagram.now.nodes }
+    requires names { NamesFit diagram.now names.now }
+    requires relevance { IsRelevance diagram.now.nodes relevance.now }
+    ensures { OnOk result (out.new.items ≡ out.old.items ++ node_line diagram.now.nodes names.now relevance.now v) }
+{
+    match diagram.kind(v) {
+        Kind::Decision => push_decision(alloc, out, names, v, relevance.relied_on(v)),
+        _ => Ok(()),
+    }
+}
+
+// Appends a line for each decision, in text order.
+fn push_decisions(
+    alloc: Global,
+    out: &mut Vec<u8>,
+    diagram: &Diagram,
+    names: &Names,
+    relevance: &Relevance,
+) -> Result<(), AllocError>
+    requires names { NamesFit diagram.now names.now }
+    requires relevance { IsRelevance diagram.now.nodes relevance.now }
+    ensures { OnOk result (out.new.items ≡ out.old.items ++ flat_map (λ v. relies_line names.now v (relied_on_by relevance.now v)) (decisions_of diagram.now.nodes)) }
+{
+    for v in 0..diagram.count() {
+        push_node(alloc, out, diagram, names, relevance, v)?;
+    }
+    Ok(())
+}
+
+// The line of the order of solving, or of the relevance cycle.
+fn last_line(
+    alloc: Global,
+    diagram: &Diagram,
+    names: &Names,
+    relevance: &Relevance,
+) -> Result<Vec<u8>, AllocError>
+    requires names { NamesFit diagram.now names.now }
+    requires relevance { IsRelevance diagram.now.nodes relevance.now }
+    ensures { IfOk result (λ line. IsLastLine diagram.now.nodes names.now line.items) }
+{
+    match relevance.order() {
+        Ok(order) => list_line(alloc, names, b"order:", order),
+        Err(cycle) => list_line(alloc, names, b"cycle:", cycle),
+    }
+}
+
+// The text of the diagram's relevance graph.
+fn graph_text(
+    alloc: Global,
+    diagram: &Diagram,
+    names: &Names,
+    relevance: &Relevance,
+) -> Result<Vec<u8>, AllocError>
+    requires names { NamesFit diagram.now names.now }
+    requires relevance { IsRelevance diagram.now.nodes relevance.now }
+    ensures { IfOk result (λ printed. IsGraphText diagram.now names.now printed.items) }
+{
+    let mut out = Vec::new(alloc);
+    push_decisions(alloc, &mut out, diagram, names, relevance)?;
+    out.extend_from_slice(&last_line(alloc, diagram, names, relevance)?)?;
+    Ok(out)
+}
+
+/// Who relies on whom in the diagram that a file's bytes stand for, and the order of solving or the relevance cycle.
+///
+/// # Errors
+///
+/// The fault of the bytes, or want of memory.
+pub fn answer(alloc: Global, source: Source<'_>) -> Result<Vec<u8>, Refusal>
+    ensures ok { IfOk result (λ printed. Graphs source.entry.name.now source.entry.bytes.now (text printed.items)) }
+    ensures err { IfErr result (λ refusal. RefusesAs (Graphs source.entry.name.now source.entry.bytes.now) (status_of refusal) (line_of refusal)) }
+{
+    let (diagram, names) = source.diagram(alloc)?;
+    let relevance = find_relevance(alloc, &diagram)?;
+    Ok(graph_text(alloc, &diagram, &names, &relevance)?)
+}
