@@ -33,7 +33,7 @@ impl Model for Relevance {
 
 impl Relevance {
     /// Whether the one node relies on the other: it doesn't where either is no decision of two states or more. It takes
-    /// no memory, and looks at a few of those that the decision relies on.
+    /// no memory, and searches what the decision relies on by halves.
     pub fn relies(&self, decision: usize, on: usize) -> bool
         requires { decision < length self.now.relied_on }
         ensures { IsTrue result ↔ ReliesTo self.now decision on }
