@@ -12,6 +12,7 @@ mod labels;
 mod links;
 mod names;
 mod nodes;
+mod owners;
 mod places;
 mod run;
 mod tables;
