@@ -173,17 +173,17 @@ fn read_entry(
     })
 }
 
-/// What the node blocks of a text say, or the first fault among them. It goes over the blocks once.
-pub fn read_nodes(alloc: Global, text: &[u8], syntax: &Syntax) -> Result<Nodes, BuildFault>
-    requires { All (IsBlockOf text.now) syntax.now }
-    ensures rows { Passes (node_pass text.now syntax.now) result }
-    ensures nodes { IfOk result (λ nodes. nodes ≡ node_lists text.now (node_blocks syntax.now)) }
+// What the node blocks among these say.
+fn read_blocks(alloc: Global, text: &[u8], blocks: &[Block]) -> Result<Nodes, BuildFault>
+    requires { All (IsBlockOf text.now) blocks.now }
+    ensures rows { Passes (node_pass text.now blocks.now) result }
+    ensures nodes { IfOk result (λ nodes. nodes ≡ node_lists text.now (node_blocks blocks.now)) }
 {
     let mut names = Vec::new(alloc);
     let mut labels = Vec::new(alloc);
     let mut agents = Vec::new(alloc);
     let mut heads = Vec::new(alloc);
-    for block in &syntax.blocks {
+    for block in blocks {
         if is_node(block.kind) {
             let entry = read_entry(alloc, text, block, &names, &mut agents)?;
             names.push(entry.name)?;
@@ -197,4 +197,13 @@ pub fn read_nodes(alloc: Global, text: &[u8], syntax: &Syntax) -> Result<Nodes, 
         agents,
         heads,
     })
+}
+
+/// What the node blocks of a text say, or the first fault among them. It goes over the blocks once.
+pub fn read_nodes(alloc: Global, text: &[u8], syntax: &Syntax) -> Result<Nodes, BuildFault>
+    requires { All (IsBlockOf text.now) syntax.now }
+    ensures rows { Passes (node_pass text.now syntax.now) result }
+    ensures nodes { IfOk result (λ nodes. nodes ≡ node_lists text.now (node_blocks syntax.now)) }
+{
+    read_blocks(alloc, text, &syntax.blocks)
 }
