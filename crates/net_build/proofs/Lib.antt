@@ -9,3 +9,9 @@ pub mod LabelLemmas
 pub mod OwnerLemmas
 pub mod NodeLemmas
 pub mod SightLemmas
+pub mod MadeLemmas
+pub mod NodeFacts
+pub mod MadeDiagram
+pub mod AgentFacts
+pub mod Assembly
+pub mod AllPasses

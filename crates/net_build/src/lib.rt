@@ -5,6 +5,7 @@
 #![tactic(auto)]
 
 mod attributes;
+mod building;
 mod cursor;
 mod faults;
 mod first;
@@ -13,10 +14,12 @@ mod links;
 mod names;
 mod nodes;
 mod owners;
+mod pending;
 mod places;
 mod run;
 mod tables;
 
+pub use building::build;
 pub use faults::{BuildFault, BuildKind, Limit};
 pub use first::first_shape;
 pub use names::Names;
