@@ -46,9 +46,9 @@ agents_have text [] = All-nil (λ b. has_agent b.kind ≡ true → has (agents_a
 agents_have text (y ∷ ys) = All-cons (λ b. has_agent b.kind ≡ true → has (agents_among text (y ∷ ys)) (agent_of text b) ≡ true) y ys
     (λ e. ap (λ b. has (map (agent_of text) (cond b (y ∷ filter (λ c. has_agent c.kind) ys) (filter (λ c. has_agent c.kind) ys))) (agent_of text y)) e ∙ ap (λ b. b || has (agents_among text ys) (agent_of text y)) (bytes_same (agent_of text y) (agent_of text y) refl))
     (All-weaker (λ b. has_agent b.kind ≡ true → has (agents_among text ys) (agent_of text b) ≡ true) (λ b. has_agent b.kind ≡ true → has (agents_among text (y ∷ ys)) (agent_of text b) ≡ true) (λ b k e. later b (has_agent y.kind) refl (k e)) ys (agents_have text ys)) where
-  later : (b : BlockTree) (t : Bool) → has_agent y.kind ≡ t → has (agents_among text ys) (agent_of text b) ≡ true → has (agents_among text (y ∷ ys)) (agent_of text b) ≡ true
-  later b true t k = ap (λ c. has (map (agent_of text) (cond c (y ∷ filter (λ d. has_agent d.kind) ys) (filter (λ d. has_agent d.kind) ys))) (agent_of text b)) t ∙ ap (λ c. bytes_eq (agent_of text y) (agent_of text b) || c) k ∙ or_true (bytes_eq (agent_of text y) (agent_of text b))
-  later b false t k = ap (λ c. has (map (agent_of text) (cond c (y ∷ filter (λ d. has_agent d.kind) ys) (filter (λ d. has_agent d.kind) ys))) (agent_of text b)) t ∙ k
+      later : (b : BlockTree) (t : Bool) → has_agent y.kind ≡ t → has (agents_among text ys) (agent_of text b) ≡ true → has (agents_among text (y ∷ ys)) (agent_of text b) ≡ true
+      later b true t k = ap (λ c. has (map (agent_of text) (cond c (y ∷ filter (λ d. has_agent d.kind) ys) (filter (λ d. has_agent d.kind) ys))) (agent_of text b)) t ∙ ap (λ c. bytes_eq (agent_of text y) (agent_of text b) || c) k ∙ or_true (bytes_eq (agent_of text y) (agent_of text b))
+      later b false t k = ap (λ c. has (map (agent_of text) (cond c (y ∷ filter (λ d. has_agent d.kind) ys) (filter (λ d. has_agent d.kind) ys))) (agent_of text b)) t ∙ k
 
 -- and so among the agents
 pub agents_known : (text : List ℕ) (nodes : List BlockTree) → All (λ b. has_agent b.kind ≡ true → has (agents_of text nodes) (agent_of text b) ≡ true) nodes

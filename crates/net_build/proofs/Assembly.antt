@@ -61,8 +61,10 @@ block_fits text nodes b good node = by_kind b.kind refl node where
   with_labels k e s =
       let states : has_states b.kind ≡ true = ap has_states e ∙ s in
       ap (λ t. if t then length (label_tokens text b) else 1) states ∙ ap (λ t. length (if t then leaves_of (named text (codes "states") b.attributes) else [])) states
+
   without : (k : BlockKind) → b.kind ≡ k → has_states k ≡ false → states_of text b ≡ 1
   without k e s = ap (λ t. if t then length (label_tokens text b) else 1) (ap has_states e ∙ s)
+
   by_kind : (k : BlockKind) → b.kind ≡ k → is_node b.kind ≡ true → HeadFits (head_of text nodes b)
   by_kind blocks.Net e n = absurd (false≢true (sym (ap is_node e) ∙ n))
   by_kind blocks.Potential e n = absurd (false≢true (sym (ap is_node e) ∙ n))
@@ -113,7 +115,7 @@ has_labels blocks.Utility n c = absurd (c refl)
 has_labels blocks.Potential n c = absurd (false≢true n)
 
 module _ (text : List ℕ) (tree : List BlockTree) (tables : TableLists) (own : All (IsBlockOf text) tree) (rows : node_pass text tree None) (links : AreLinks (node_lists text (node_blocks tree)).heads (parent_lists text tree))
-  (are : AreTables text tree tables.decimals tables.cells) (fit : TablesFit (node_lists text (node_blocks tree)).heads (parent_lists text tree) tables.cells) (few : tables.decimals ≤ 30) (scale : IsUtilityScale text tree tables.decimals) where
+    (are : AreTables text tree tables.decimals tables.cells) (fit : TablesFit (node_lists text (node_blocks tree)).heads (parent_lists text tree) tables.cells) (few : tables.decimals ≤ 30) (scale : IsUtilityScale text tree tables.decimals) where
   abbrev nodes : List BlockTree
   nodes = node_blocks tree
 
@@ -139,8 +141,8 @@ module _ (text : List ℕ) (tree : List BlockTree) (tables : TableLists) (own : 
   owners_are : (v : ℕ) → v < length heads → (head_at heads v).kind ≢ Chance → (head_at heads v).owner < length (agents_of text nodes)
   owners_are v h = (All-map (λ (x : Head). x.kind ≢ Chance → x.owner < length (agents_of text nodes)) (head_of text nodes) nodes
       (λ k d l c. let agent = has_owner (get_or nodes k d).kind (kinds k d l) c in
-        let place : owner_of text nodes (get_or nodes k d) ≡ place_of (agents_of text nodes) (agent_of text (get_or nodes k d)) = ap (λ t. if t then place_of (agents_of text nodes) (agent_of text (get_or nodes k d)) else 0) agent in
-        subst (λ (n : ℕ). n < length (agents_of text nodes)) (sym place) (place_within (agents_of text nodes) (agent_of text (get_or nodes k d)) (agents_known text nodes k d l agent)))) v no_head h
+      let place : owner_of text nodes (get_or nodes k d) ≡ place_of (agents_of text nodes) (agent_of text (get_or nodes k d)) = ap (λ t. if t then place_of (agents_of text nodes) (agent_of text (get_or nodes k d)) else 0) agent in
+      subst (λ (n : ℕ). n < length (agents_of text nodes)) (sym place) (place_within (agents_of text nodes) (agent_of text (get_or nodes k d)) (agents_known text nodes k d l agent)))) v no_head h
 
   parents_len : length (parent_lists text tree) ≡ length heads
   parents_len = let n = heads_len in let m = length-map nodes (λ b. parents_of text tree (name_of text b)) in omega arith

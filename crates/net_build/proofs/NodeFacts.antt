@@ -113,6 +113,7 @@ few_agents text agents block few room = by_test (has_agent block.kind) refl wher
       let lacks : Contains agents (agent_of text block) → ⊥ = λ has. false≢true (sym e ∙ contains_any agents (agent_of text block) has) in
       let small : 16 ≤ length agents → ⊥ = λ many. ok (many, lacks) in
       rw (ap (λ b. if b then agents else agents ++ agent_of text block ∷ []) e) (let l = length_push agents (agent_of text block) in under (length agents) _ small l)
+
   by_test : (b : Bool) → has_agent block.kind ≡ b → length (with_agent text agents block) ≤ 16
   by_test true e = rw (ap (λ b. if b then with_sight agents (agent_of text block) else agents) e) (by_sight _ refl (room e))
   by_test false e = rw (ap (λ b. if b then with_sight agents (agent_of text block) else agents) e) few

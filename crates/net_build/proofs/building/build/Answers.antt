@@ -31,10 +31,10 @@ pub assemble-requires-clause-diagram : goal.assemble-requires-clause-diagram
 assemble-requires-clause-diagram c =
     rw (c.in_ok-nodes.ensures.nodes, c.in_ok-links.ensures.links)
     (made_is c.args.text.now c.args.syntax.now c.in_ok-tables.tables c.requires.blocks c.in_ok-nodes.ensures.rows
-      (rw (c.in_ok-nodes.ensures.nodes, c.in_ok-links.ensures.links) at c.in_ok-links.ensures.fit)
-      c.in_ok-tables.ensures.cells
-      (rw (c.in_ok-nodes.ensures.nodes, c.in_ok-links.ensures.links) at c.in_ok-tables.ensures.fit)
-      c.in_ok-tables.ensures.few c.in_ok-tables.ensures.scale)
+    (rw (c.in_ok-nodes.ensures.nodes, c.in_ok-links.ensures.links) at c.in_ok-links.ensures.fit)
+    c.in_ok-tables.ensures.cells
+    (rw (c.in_ok-nodes.ensures.nodes, c.in_ok-links.ensures.links) at c.in_ok-tables.ensures.fit)
+    c.in_ok-tables.ensures.few c.in_ok-tables.ensures.scale)
 
 pub returns-clause-rows : goal.returns-clause-rows
 returns-clause-rows c = all_clear c.args.text.now c.args.syntax.now c.in_ok-nodes.ensures.rows c.in_ok-links.ensures.rows c.in_ok-tables.ensures.rows
@@ -46,10 +46,10 @@ returns-clause-stands c =
     subst (λ (n : NamesView). StandsFor c.args.text.now c.args.syntax.now c.in_ok-assemble.field-0.0 n) (sym names)
     (subst (λ (d : DiagramView). StandsFor c.args.text.now c.args.syntax.now d (names_view c.args.text.now c.args.syntax.now)) (sym diagram)
     (made_stands c.args.text.now c.args.syntax.now c.in_ok-tables.tables c.requires.blocks c.in_ok-nodes.ensures.rows
-      (rw (c.in_ok-nodes.ensures.nodes, c.in_ok-links.ensures.links) at c.in_ok-links.ensures.fit)
-      c.in_ok-tables.ensures.cells
-      (rw (c.in_ok-nodes.ensures.nodes, c.in_ok-links.ensures.links) at c.in_ok-tables.ensures.fit)
-      c.in_ok-tables.ensures.few c.in_ok-tables.ensures.scale))
+    (rw (c.in_ok-nodes.ensures.nodes, c.in_ok-links.ensures.links) at c.in_ok-links.ensures.fit)
+    c.in_ok-tables.ensures.cells
+    (rw (c.in_ok-nodes.ensures.nodes, c.in_ok-links.ensures.links) at c.in_ok-tables.ensures.fit)
+    c.in_ok-tables.ensures.few c.in_ok-tables.ensures.scale))
 
 pub returns-clause-fit : goal.returns-clause-fit
 returns-clause-fit c =
@@ -58,10 +58,10 @@ returns-clause-fit c =
     subst (λ (n : NamesView). NamesFit c.in_ok-assemble.field-0.0 n) (sym names)
     (subst (λ (d : DiagramView). NamesFit d (names_view c.args.text.now c.args.syntax.now)) (sym diagram)
     (made_fit c.args.text.now c.args.syntax.now c.in_ok-tables.tables c.requires.blocks c.in_ok-nodes.ensures.rows
-      (rw (c.in_ok-nodes.ensures.nodes, c.in_ok-links.ensures.links) at c.in_ok-links.ensures.fit)
-      c.in_ok-tables.ensures.cells
-      (rw (c.in_ok-nodes.ensures.nodes, c.in_ok-links.ensures.links) at c.in_ok-tables.ensures.fit)
-      c.in_ok-tables.ensures.few c.in_ok-tables.ensures.scale))
+    (rw (c.in_ok-nodes.ensures.nodes, c.in_ok-links.ensures.links) at c.in_ok-links.ensures.fit)
+    c.in_ok-tables.ensures.cells
+    (rw (c.in_ok-nodes.ensures.nodes, c.in_ok-links.ensures.links) at c.in_ok-tables.ensures.fit)
+    c.in_ok-tables.ensures.few c.in_ok-tables.ensures.scale))
 
 pub returns-clause-form : goal.returns-clause-form
 returns-clause-form c =
@@ -70,7 +70,7 @@ returns-clause-form c =
     subst (λ (n : NamesView). HasTextForm c.in_ok-assemble.field-0.0 n) (sym names)
     (subst (λ (d : DiagramView). HasTextForm d (names_view c.args.text.now c.args.syntax.now)) (sym diagram)
     (made_form c.args.text.now c.args.syntax.now c.in_ok-tables.tables c.requires.blocks c.in_ok-nodes.ensures.rows
-      (rw (c.in_ok-nodes.ensures.nodes, c.in_ok-links.ensures.links) at c.in_ok-links.ensures.fit)
-      c.in_ok-tables.ensures.cells
-      (rw (c.in_ok-nodes.ensures.nodes, c.in_ok-links.ensures.links) at c.in_ok-tables.ensures.fit)
-      c.in_ok-tables.ensures.few c.in_ok-tables.ensures.scale))
+    (rw (c.in_ok-nodes.ensures.nodes, c.in_ok-links.ensures.links) at c.in_ok-links.ensures.fit)
+    c.in_ok-tables.ensures.cells
+    (rw (c.in_ok-nodes.ensures.nodes, c.in_ok-links.ensures.links) at c.in_ok-tables.ensures.fit)
+    c.in_ok-tables.ensures.few c.in_ok-tables.ensures.scale))
