@@ -9,6 +9,7 @@ mod cursor;
 mod faults;
 mod first;
 mod labels;
+mod laws;
 mod links;
 mod names;
 mod nodes;
@@ -18,6 +19,7 @@ mod tables;
 
 pub use faults::{BuildFault, BuildKind, Limit};
 pub use first::first_shape;
+pub use laws::a_tree_has_a_fault_or_none;
 pub use names::Names;
 
 #[cfg(test)]

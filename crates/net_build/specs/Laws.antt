@@ -1,0 +1,9 @@
+-- Laws of the passes and of what a tree stands for.
+use Rattle.std.specs.Prelude.{◌≡◌, ℕ, List, None, Some}
+use Rattle.net_parser.specs.Trees.{BlockTree}
+use Rattle.net_build.specs.Passes.{Found}
+use Rattle.net_build.specs.Table.{all_passes}
+
+-- no tree has a fault where the passes find nothing
+abbrev pub Exclusive : Type 0
+Exclusive = (text : List ℕ) (blocks : List BlockTree) (fault : Found) → all_passes text blocks None → all_passes text blocks (Some fault) → ⊥

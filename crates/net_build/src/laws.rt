@@ -1,0 +1,12 @@
+//! Laws of trees, faults and diagrams, over the definitions alone.
+
+ghost use Rattle.net_build.specs.Laws.{Exclusive};
+
+use diagram_graph::parents_have_one_cycle_at_most;
+
+/// The passes over a tree find nothing or a fault, never both.
+pub fn a_tree_has_a_fault_or_none()
+    ensures exclusive { Exclusive }
+{
+    parents_have_one_cycle_at_most();
+}
