@@ -5,7 +5,7 @@ use Rattle.std.proofs.lemmas.List.{take_all, take_more_same}
 use Rattle.std.proofs.lemmas.Grind.{same_number_lists}
 use Rattle.maid_model.specs.Placing.{IsLeast, Remains, CanPlace, IsPlacing}
 use Rattle.diagram_graph.specs.Needs.{needs_of, NeedsItem}
-use Rattle.diagram_graph.specs.Rounds.{IsFirstLeft, IsTrail, IsRound, IsFirstCycle}
+use Rattle.diagram_graph.specs.Rounds.{IsFirstLeft, IsTrail, IsRound}
 use Rattle.diagram_graph.specs.Cycles.{ListedArc}
 use Rattle.diagram_graph.specs.Laws.{CycleLeadsBack, OneCycle}
 use Rattle.diagram_graph.proofs.Rings.{round_ring}

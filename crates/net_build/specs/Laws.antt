@@ -1,5 +1,5 @@
 -- Laws of the passes and of what a tree stands for.
-use Rattle.std.specs.Prelude.{◌≡◌, ℕ, List, None, Some}
+use Rattle.std.specs.Prelude.{ℕ, List, None, Some}
 use Rattle.net_parser.specs.Trees.{BlockTree}
 use Rattle.net_build.specs.Passes.{Found}
 use Rattle.net_build.specs.Table.{all_passes}
