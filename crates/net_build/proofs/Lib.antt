@@ -7,3 +7,5 @@ pub mod PlaceLemmas
 pub mod AttributeLemmas
 pub mod LabelLemmas
 pub mod OneOutcome
+pub mod OneDecimal
+pub mod OneDiagram
