@@ -9,3 +9,6 @@ pub mod LabelLemmas
 pub mod OneOutcome
 pub mod OneDecimal
 pub mod OneDiagram
+pub mod OneRow
+pub mod OneWeights
+pub mod NoughtRows

@@ -1,6 +1,6 @@
 //! Laws of trees, faults and diagrams, over the definitions alone.
 
-ghost use Rattle.net_build.specs.Laws.{Exclusive, OneFault};
+ghost use Rattle.net_build.specs.Laws.{Exclusive, OneDiagram, OneFault};
 
 use diagram_graph::parents_have_one_cycle_at_most;
 
@@ -17,3 +17,8 @@ pub fn a_tree_has_one_fault()
 {
     parents_have_one_cycle_at_most();
 }
+
+/// A tree in which the passes find nothing stands for one diagram at most, and the names in it.
+pub fn a_tree_stands_for_one_diagram()
+    ensures one_diagram { OneDiagram }
+{}

@@ -19,7 +19,7 @@ mod tables;
 
 pub use faults::{BuildFault, BuildKind, Limit};
 pub use first::first_shape;
-pub use laws::{a_tree_has_a_fault_or_none, a_tree_has_one_fault};
+pub use laws::{a_tree_has_a_fault_or_none, a_tree_has_one_fault, a_tree_stands_for_one_diagram};
 pub use names::Names;
 
 #[cfg(test)]
