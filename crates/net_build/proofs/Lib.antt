@@ -12,3 +12,4 @@ pub mod OneDiagram
 pub mod OneRow
 pub mod OneWeights
 pub mod NoughtRows
+pub mod OwnerLemmas

@@ -109,10 +109,10 @@ no_nought_row text states numbers h r some fit all =
     h r some within
     (All-from_get_or (λ t. numerator (token_bytes text t) ≡ pos 0) (row_at states numbers r) no_token
     (λ i l.
-        let near : i < states = omega (arith, wide) in
-        ap (λ (t : Token). numerator (token_bytes text t)) (get_or-between numbers (r * states) (r * states + states) i no_token (omega arith))
-        ∙ ap numerator (sym (get_or-map (token_bytes text) numbers (r * states + i) no_token [] (omega arith)))
-        ∙ all i near))
+    let near : i < states = omega (arith, wide) in
+    ap (λ (t : Token). numerator (token_bytes text t)) (get_or-between numbers (r * states) (r * states + states) i no_token (omega arith))
+    ∙ ap numerator (sym (get_or-map (token_bytes text) numbers (r * states + i) no_token [] (omega arith)))
+    ∙ all i near))
 
 pub nodes_no_nought_row : (text : List ℕ) (blocks : List BlockTree) → all_passes text blocks None → (v : ℕ) → v < length (node_blocks blocks) → kind_of (get_or (node_blocks blocks) v no_block).kind ≡ Chance
     → NoNoughtRow (states_of text (get_or (node_blocks blocks) v no_block)) (map (token_bytes text) (numbers_of text blocks (get_or (node_blocks blocks) v no_block)))

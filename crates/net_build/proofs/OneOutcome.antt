@@ -10,7 +10,7 @@ use Rattle.net_parser.specs.Trees.{AttributeTree, BlockTree}
 use Rattle.net_build.specs.Passes.{Pass, Found, found, GraphCycle, clear, rule, only, ◌▸◌, each, each_after}
 use Rattle.net_build.specs.Blocks.{node_blocks, title_at, parent_lists}
 use Rattle.net_build.specs.Scaling.{IsWholeBy}
-use Rattle.net_build.specs.Table.{repeated_row, repeats, label_row, label_rows, states_rows, agent_rows, node_rows, node_pass, condition_rows, potential_rows, potential_pass, missing_row, missing_pass, no_block, graph_pass, size_rows, size_pass, number_row, length_row, sign_row, total_row, weight_rows, data_rows, table_rows, table_pass, utility_numbers, IsUtilityScale, wide_row, wide_pass, all_passes}
+use Rattle.net_build.specs.Table.{repeated_row, repeats, label_row, label_rows, states_rows, agent_rows, name_rows, owner_rows, node_rows, node_pass, condition_rows, potential_rows, potential_pass, missing_row, missing_pass, no_block, graph_pass, size_rows, size_pass, number_row, length_row, sign_row, total_row, weight_rows, data_rows, table_rows, table_pass, utility_numbers, IsUtilityScale, wide_row, wide_pass, all_passes}
 
 pub record IsOne (P : Pass) : Type 0 where
   pub apart : (f : Found) → P None → P (Some f) → ⊥
@@ -75,11 +75,18 @@ unfolding agent_rows
 agent_rows_one text [] = clear_one
 agent_rows_one text (agent ∷ more) = rule_one _ _
 
+name_rows_one : (text : List ℕ) (names : List (List ℕ)) (block : BlockTree) → IsOne (name_rows text names block)
+unfolding name_rows
+name_rows_one text names block = then_one (rule_one _ _) (then_one (rule_one _ _) (rule_one _ _))
+
+owner_rows_one : (text : List ℕ) (agents : List (List ℕ)) (block : BlockTree) → IsOne (owner_rows text agents block)
+unfolding owner_rows
+owner_rows_one text agents block = then_one (agent_rows_one text _) (rule_one _ _)
+
 node_rows_one : (text : List ℕ) (names agents : List (List ℕ)) (block : BlockTree) → IsOne (node_rows text names agents block)
 unfolding node_rows
 node_rows_one text names agents block =
-    then_one (rule_one _ _) (then_one (rule_one _ _) (then_one (rule_one _ _) (then_one (repeats_one text block)
-    (then_one (only_one _ (states_rows_one text block _)) (then_one (only_one _ (agent_rows_one text _)) (only_one _ (rule_one _ _)))))))
+    then_one (name_rows_one text names block) (then_one (repeats_one text block) (then_one (only_one _ (states_rows_one text block _)) (only_one _ (owner_rows_one text agents block))))
 
 node_pass_one : (text : List ℕ) (blocks : List BlockTree) → IsOne (node_pass text blocks)
 unfolding node_pass

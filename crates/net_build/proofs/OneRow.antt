@@ -52,7 +52,7 @@ row_divides row a b some coprime all = by_gcd (some_gcd b a b (omega arith)) whe
       let more : 0 < g = pos_of_dvd_of_pos is.0 some in
       let split : a / g * g ≡ a = div-mul_cancel g is.0 in
       let each : (i : ℕ) → i < length row → a / g ∣ get_or row i 0 = λ i l.
-          dvd_of_mul-dvd-mul_right {k = g} (a / g) more (subst (λ z. z ∣ get_or row i 0 * g) (sym split) (divides_scaled b a b g (get_or row i 0) a (omega arith) is (dvd-mul_left a (get_or row i 0)) (all i l))) in
+      dvd_of_mul-dvd-mul_right {k = g} (a / g) more (subst (λ z. z ∣ get_or row i 0 * g) (sym split) (divides_scaled b a b g (get_or row i 0) a (omega arith) is (dvd-mul_left a (get_or row i 0)) (all i l))) in
       let one : a / g ≡ 1 = coprime (a / g) (All-from_get_or (λ x. a / g ∣ x) row 0 each) in
       let same : g ≡ a = omega (arith, ap (λ z. z * g) one, split) in
       subst (λ z. z ∣ b) same is.1
@@ -96,7 +96,7 @@ module _ (ds : List Decimal) where
     | inl some ↦ some
     | inr none ↦
         let each : (i : ℕ) → i < length row → 2 ∣ get_or row i 0 = λ i li.
-            subst (λ z. 2 ∣ z) (sym (nought_by (get_or row i 0) (tens i) (size p) (get_or row p 0) (tens p) (size i) (tens_positive (decimal_at ds i).k) more none (sizes row h.proportional i p li l))) (dvd-zero 2) in
+        subst (λ z. 2 ∣ z) (sym (nought_by (get_or row i 0) (tens i) (size p) (get_or row p 0) (tens p) (size i) (tens_positive (decimal_at ds i).k) more none (sizes row h.proportional i p li l))) (dvd-zero 2) in
         absurd (not_one 2 (omega arith) (h.coprime 2 (All-from_get_or (λ x. 2 ∣ x) row 0 each)))
   ]
 

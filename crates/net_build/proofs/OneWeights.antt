@@ -39,9 +39,9 @@ no_zero_row states numerals ds are none r some fit all =
     let within : r * states + states ≤ length numerals = subst (λ n. r * states + states ≤ n) are.len fit in
     none r some within
     (λ p l.
-        let decimal = decimal_at ds (r * states + p) in
-        let numeral = get_or numerals (r * states + p) [] in
-        nought_numerator decimal.m (numerator numeral) (10 ^ decimal.k) (denominator numeral) (tens_positive decimal.k) (are.each (r * states + p) (omega arith)).value (all p l))
+    let decimal = decimal_at ds (r * states + p) in
+    let numeral = get_or numerals (r * states + p) [] in
+    nought_numerator decimal.m (numerator numeral) (10 ^ decimal.k) (denominator numeral) (tens_positive decimal.k) (are.each (r * states + p) (omega arith)).value (all p l))
 
 -- without states there is no row
 no_rows : (ds : List Decimal) (rows : List (List ℕ)) → AreReducedRows 0 ds rows → rows ≡ []
@@ -61,13 +61,13 @@ rows_once (suc s) ds none rows others h k =
     let len : length rows ≡ length others = eq_of_mul-eq-mul_right states some (length rows) (length others) (h.len ∙ sym k.len) in
     ext_get_or [] rows others len
     (λ r l.
-        let fit = row_fits r (length rows) states (length ds) l h.len in
-        let wide = length-between ds (r * states) (r * states + states) fit in
-        reduced_once (row_at states ds r) (get_or rows r []) (get_or others r []) (h.each r l) (k.each r (subst (λ n. r < n) len l))
-        (λ all. none r some fit
-        (λ p lp.
-            let at : decimal_at (row_at states ds r) p ≡ decimal_at ds (r * states + p) = get_or-between ds (r * states) (r * states + states) p nought (omega arith) in
-            subst (λ (d : Decimal). unsigned_abs d.m ≡ 0) at (all p (omega (arith, wide))))))
+    let fit = row_fits r (length rows) states (length ds) l h.len in
+    let wide = length-between ds (r * states) (r * states + states) fit in
+    reduced_once (row_at states ds r) (get_or rows r []) (get_or others r []) (h.each r l) (k.each r (subst (λ n. r < n) len l))
+    (λ all. none r some fit
+    (λ p lp.
+    let at : decimal_at (row_at states ds r) p ≡ decimal_at ds (r * states + p) = get_or-between ds (r * states) (r * states + states) p nought (omega arith) in
+    subst (λ (d : Decimal). unsigned_abs d.m ≡ 0) at (all p (omega (arith, wide))))))
 
 total_once : (numbers : List ℕ) (l m : ℕ) → IsLeastCommonMultiple numbers l → IsLeastCommonMultiple numbers m → l ≡ m
 total_once numbers l m h k = dvd_antisymm (h.least m k.multiple) (k.least l h.multiple)

@@ -13,6 +13,7 @@ mod laws;
 mod links;
 mod names;
 mod nodes;
+mod owners;
 mod places;
 mod run;
 mod tables;
