@@ -5,3 +5,8 @@ pub mod FirstDiagram
 pub mod Passing
 pub mod PlaceLemmas
 pub mod AttributeLemmas
+pub mod LeafLemmas
+pub mod EachPassing
+pub mod DecimalLemmas
+pub mod NumberLemmas
+pub mod ScaleLemmas

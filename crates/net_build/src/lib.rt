@@ -8,11 +8,14 @@ mod attributes;
 mod cursor;
 mod faults;
 mod first;
+mod leaves;
 mod links;
 mod names;
 mod nodes;
+mod numbers;
 mod places;
 mod run;
+mod scales;
 mod tables;
 
 pub use faults::{BuildFault, BuildKind, Limit};
