@@ -1,3 +1,6 @@
 pub mod Bound
 pub mod Numeral
+pub mod Rows
+pub mod Scaling
 pub mod Significant
+pub mod Views
