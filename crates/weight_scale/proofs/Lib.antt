@@ -10,6 +10,7 @@ pub mod Signs
 pub mod Stripped
 pub mod Tens
 pub mod Totals
+pub mod Unique
 pub mod Value
 pub mod Weighing
 pub mod Written

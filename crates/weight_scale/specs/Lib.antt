@@ -1,4 +1,5 @@
 pub mod Bound
+pub mod Laws
 pub mod Numeral
 pub mod Rows
 pub mod Scaling

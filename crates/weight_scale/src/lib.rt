@@ -5,6 +5,7 @@
 
 mod decimal;
 mod digits;
+mod laws;
 mod numerals;
 mod products;
 mod rows;
@@ -12,6 +13,7 @@ mod scaling;
 mod weight_bound;
 
 pub use decimal::Decimal;
+pub use laws::rows_scale_in_one_way;
 pub use numerals::numeral;
 pub use scaling::{ScaleFault, Scaled, scale_rows};
 pub use weight_bound::{BoundPlace, bound};
