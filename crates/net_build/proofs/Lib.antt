@@ -10,3 +10,4 @@ pub mod EachPassing
 pub mod DecimalLemmas
 pub mod NumberLemmas
 pub mod ScaleLemmas
+pub mod LabelLemmas

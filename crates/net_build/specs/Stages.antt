@@ -1,6 +1,6 @@
 -- What the steps of building hand to one another, as plain lists. No public contract needs it.
-use Rattle.std.specs.Prelude.{◌≡◌, ◌≢◌, ◌<◌, ◌≤◌, ◌*◌, ℕ, ℤ, List, [], map, length, filter, sum, All, Contains, Option, nat_abs, slice_index_or}
-use Rattle.std.specs.List.{range_with_len}
+use Rattle.std.specs.Prelude.{◌≡◌, ◌≢◌, ◌<◌, ◌≤◌, ◌*◌, ℕ, ℤ, Bool, false, List, [], ◌∷◌, map, length, filter, flat_map, sum, All, Contains, Option, nat_abs, slice_index_or}
+use Rattle.std.specs.List.{range_with_len, list_all}
 use Rattle.diagram_graph.specs.Cycles.{ListedArc}
 use Rattle.maid_model.specs.declared.diagrams.Kind.{Kind}
 use Rattle.maid_model.specs.declared.diagrams.Kind.TheVariants.{Chance, Decision, Utility}
@@ -8,9 +8,22 @@ use Rattle.maid_model.specs.Diagrams.{greatest_number}
 use Rattle.maid_model.specs.Graph.{IsAcyclic, AllDifferent}
 use Rattle.maid_model.specs.Nodes.{is_decision, rows_under}
 use Rattle.maid_model.specs.Tables.{IsTable}
+use Rattle.net_lexer.specs.declared.tokens.Token.{Token}
+use Rattle.net_parser.specs.Owned.{leaves}
 use Rattle.net_parser.specs.Trees.{BlockTree}
+use Rattle.net_parser.specs.Views.{value_tree}
+use Rattle.net_parser.specs.declared.trees.Value.{Value}
 use Rattle.net_build.specs.declared.nodes.Head.{Head}
-use Rattle.net_build.specs.Blocks.{node_blocks, kind_of, title_at, name_of, names_of, labels_of, states_of, agents_of, owner_of, potential_of, parent_lists}
+use Rattle.net_build.specs.Blocks.{is_string, node_blocks, kind_of, title_at, name_of, names_of, labels_of, states_of, agents_of, owner_of, potential_of, parent_lists}
+
+-- the leaves of these values, from left to right
+abbrev pub leaves_in : List Value → List Token
+leaves_in values = flat_map (λ v. leaves (value_tree v)) values
+
+-- one or more strings
+abbrev pub are_string_values : List Value → Bool
+are_string_values [] = false
+are_string_values (v ∷ vs) = list_all (λ w. is_string (value_tree w)) (v ∷ vs)
 
 -- what the node blocks say: names, labels and agents, and for each node where its name stands, its kind, the number of its agent and the count of its states
 pub record NodeLists : Type 0 where

@@ -1,6 +1,6 @@
 //! The attributes of a block: those that count, and the first of a name.
 
-ghost use Rattle.std.specs.Prelude.{◌≡◌, ◌&&◌, ◌∷◌, [], List, All, filter, MatchOption, bytes_eq};
+ghost use Rattle.std.specs.Prelude.{◌≡◌, ◌&&◌, ◌∷◌, [], List, All, filter, IfSome, MatchOption, bytes_eq};
 ghost use Rattle.std.specs.List.{list_any};
 ghost use Rattle.net_build.specs.Blocks.{is_counted, named, word_of};
 ghost use Rattle.net_build.specs.Passes.{Passes, each_after};
@@ -34,7 +34,8 @@ pub fn first_named<'a>(
     word: &[u8],
 ) -> Option<&'a Attribute>
     requires { All (IsAttributeOf text.now) attributes.now }
-    ensures { MatchOption result (named text.now word.now attributes.now ≡ []) (λ a. (rest : List AttributeTree) × (named text.now word.now attributes.now ≡ a.now ∷ rest)) }
+    ensures first { MatchOption result (named text.now word.now attributes.now ≡ []) (λ a. (rest : List AttributeTree) × (named text.now word.now attributes.now ≡ a.now ∷ rest)) }
+    ensures own { IfSome result (λ a. IsAttributeOf text.now a.now) }
 {
     for attribute in attributes {
         if is_named(text, attribute, word) {

@@ -8,6 +8,7 @@ mod attributes;
 mod cursor;
 mod faults;
 mod first;
+mod labels;
 mod leaves;
 mod links;
 mod names;
@@ -17,6 +18,7 @@ mod places;
 mod run;
 mod scales;
 mod tables;
+mod weights;
 
 pub use faults::{BuildFault, BuildKind, Limit};
 pub use first::first_shape;

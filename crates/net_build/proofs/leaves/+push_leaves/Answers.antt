@@ -2,7 +2,8 @@ use Rattle.std.proofs.Common.{◌≡◌, ◌++◌, length, ap, sym, ◌∙◌, a
 use Rattle.std.proofs.lemmas.List.{take_all}
 use Rattle.net_parser.specs.Owned.{leaves}
 use Rattle.net_parser.specs.Views.{value_tree}
-use Rattle.net_build.proofs.LeafLemmas.{leaves_in, leaves_of_values}
+use Rattle.net_build.proofs.LeafLemmas.{leaves_of_values}
+use Rattle.net_build.specs.Stages.{leaves_in}
 use Rattle.net_build.proofs.leaves.+push_leaves.Goals as goal
 
 pub returns-after-loop-inner : goal.returns-after-loop-inner

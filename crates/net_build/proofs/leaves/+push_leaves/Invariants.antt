@@ -1,5 +1,5 @@
 use Rattle.std.proofs.Common.{◌≡◌, ◌++◌, take}
-use Rattle.net_build.proofs.LeafLemmas.{leaves_in}
+use Rattle.net_build.specs.Stages.{leaves_in}
 use Rattle.net_build.proofs.leaves.+push_leaves.Given as goal
 
 -- the leaves of the values so far stand behind those that were there
