@@ -5,11 +5,15 @@ pub mod FirstDiagram
 pub mod Passing
 pub mod PlaceLemmas
 pub mod AttributeLemmas
+pub mod LeafLemmas
+pub mod EachPassing
+pub mod DecimalLemmas
+pub mod NumberLemmas
+pub mod ScaleLemmas
 pub mod LabelLemmas
 pub mod OneOutcome
 pub mod OneDecimal
 pub mod OneDiagram
-pub mod OneRow
 pub mod OneWeights
-pub mod NoughtRows
+pub mod WholeRows
 pub mod OwnerLemmas

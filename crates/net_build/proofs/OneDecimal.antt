@@ -10,7 +10,7 @@ use Rattle.net_build.specs.Building.{AreUtilityCells}
 use Rattle.net_build.specs.Scaling.{AreDecimals, decimal_at, IsScaledBy}
 use Rattle.net_build.specs.Zero.{nought}
 
-pub tens_positive : (k : ℕ) → 0 < 10 ^ k
+tens_positive : (k : ℕ) → 0 < 10 ^ k
 tens_positive k = omega (arith, pow-le-pow_right {n = 10} (omega arith) {i = 0} {j = k} (omega arith))
 
 positive_by : (down : Bool) (x e : ℕ) → 0 < 10 ^ x * cond down (10 ^ e) 1
@@ -20,7 +20,7 @@ positive_by false x e = omega (arith, tens_positive x)
 denominator_positive : (numeral : List ℕ) → 0 < denominator numeral
 denominator_positive numeral = positive_by (is_minus (exponent_of numeral)) (length (decimal_digits numeral)) (exponent_size (exponent_of numeral))
 
-pub cancel : (x y : ℤ) (d : ℕ) → 0 < d → x *ℤ pos d ≡ y *ℤ pos d → x ≡ y
+cancel : (x y : ℤ) (d : ℕ) → 0 < d → x *ℤ pos d ≡ y *ℤ pos d → x ≡ y
 cancel (pos a) (pos b) d h e = ap pos (eq_of_mul-eq-mul_right d h a b (omega (arith, ints, e)))
 cancel (pos a) (negsuc b) d h e = absurd (omega (arith, ints, e, mul-pos {m = suc b} {n = d} (omega arith) h))
 cancel (negsuc a) (pos b) d h e = absurd (omega (arith, ints, e, mul-pos {m = suc a} {n = d} (omega arith) h))

@@ -12,3 +12,4 @@ pub mod Form
 pub mod Stages
 pub mod LinkCode
 pub mod Laws
+pub mod TableParts

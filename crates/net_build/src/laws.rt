@@ -3,6 +3,7 @@
 ghost use Rattle.net_build.specs.Laws.{Exclusive, OneDiagram, OneFault};
 
 use diagram_graph::parents_have_one_cycle_at_most;
+use weight_scale::rows_scale_in_one_way;
 
 /// The passes over a tree find nothing or a fault, never both.
 pub fn a_tree_has_a_fault_or_none()
@@ -21,4 +22,6 @@ pub fn a_tree_has_one_fault()
 /// A tree in which the passes find nothing stands for one diagram at most, and the names in it.
 pub fn a_tree_stands_for_one_diagram()
     ensures one_diagram { OneDiagram }
-{}
+{
+    rows_scale_in_one_way();
+}
