@@ -5,7 +5,17 @@ pub mod FirstDiagram
 pub mod Passing
 pub mod PlaceLemmas
 pub mod AttributeLemmas
+pub mod LeafLemmas
+pub mod EachPassing
+pub mod DecimalLemmas
+pub mod NumberLemmas
+pub mod ScaleLemmas
 pub mod LabelLemmas
+pub mod OneOutcome
+pub mod OneDecimal
+pub mod OneDiagram
+pub mod OneWeights
+pub mod WholeRows
 pub mod OwnerLemmas
 pub mod NodeLemmas
 pub mod SightLemmas

@@ -18,7 +18,8 @@ use Rattle.weight_scale.specs.declared.decimal.Decimal.{Decimal}
 use Rattle.net_build.specs.declared.faults.Limit.TheVariants.{Nodes, NameBytes, States, Agents, Parents, Cells, Rules}
 use Rattle.net_build.specs.Passes.{Pass, Found, found, clear, rule, always, only, ◌▸◌, each, each_after, DoubleName, DoubleAttribute, MissingStates, BadStates, BadLabel, BadAgent, UnknownName, DoublePotential, RepeatedParent, UtilityParent, MissingTable, GraphCycle, NotANumber, WrongCount, NumberTooLong, Negative, ZeroRow, WideWeight, WideValue, LimitPassed}
 use Rattle.net_build.specs.Blocks.{node_blocks, potentials, kind_of, title, title_at, name_of, names_of, conditions, word_of, named, has_states, has_agent, has_table, counted, is_number, is_string_list, is_plain, is_agent, states_of, agent_of, agents_of, place_of, potential_of, parent_lists, row_count, cell_count, data_of, leaves_of}
-use Rattle.net_build.specs.Scaling.{AreDecimals, IsCommonTotal, IsWholeBy, row_at}
+use Rattle.net_build.specs.Scaling.{AreDecimals, IsWholeBy}
+use Rattle.weight_scale.specs.Scaling.{row_at, IsTooWide}
 
 -- an attribute whose name stands among those before it
 abbrev pub repeated_row : List ℕ → List AttributeTree → AttributeTree → Pass
@@ -158,7 +159,7 @@ rows_by states numbers rows = map (λ r. row_at states numbers r) (range_with_le
 
 -- the common total of the rows is too great
 abbrev pub IsWideTotal : List ℕ → ℕ → List Token → Type 0
-IsWideTotal text states numbers = (decimals : List Decimal) × (total : ℕ) × AreDecimals (map (token_bytes text) numbers) decimals × IsCommonTotal states decimals total × (greatest_number < total)
+IsWideTotal text states numbers = (decimals : List Decimal) × AreDecimals (map (token_bytes text) numbers) decimals × IsTooWide decimals states
 
 -- the numbers of a chance table of so many rows
 unfoldable pub weight_rows : List ℕ → ℕ → ℕ → AttributeTree → Pass
