@@ -1,24 +1,27 @@
 -- Strings among values, and their leaves.
-use Rattle.std.proofs.Common.{rules, ◌≡◌, ◌⊎◌, ℕ, zero, suc, ◌+◌, ◌<◌, ◌≤◌, Bool, true, false, ◌&&◌, List, [], ◌∷◌, ◌++◌, length, get_or, take, drop, map, All, None, nat_lt, nat_le, refl, ap, sym, ◌∙◌, arith}
+use Rattle.std.proofs.Common.{rules, ◌≡◌, ℕ, zero, suc, ◌+◌, ◌<◌, ◌≤◌, Bool, true, false, ◌&&◌, List, [], ◌∷◌, ◌++◌, length, get_or, take, drop, map, All, Result, Ok, Err, None, inl, inr, nat_lt, nat_le, refl, ap, sym, ◌∙◌, arith}
 use Rattle.std.specs.Prelude.{◌==◌}
 use Rattle.std.specs.List.{list_all, flat_map}
 use Rattle.std.proofs.lemmas.Bool.{false≢true}
 use Rattle.std.proofs.lemmas.Bool.Decides.{nat_tests}
 use Rattle.std.specs.Global.{Vec}
-use Rattle.net_build.specs.Blocks.{is_string, are_strings, is_string_list}
+use Rattle.net_build.specs.Blocks.{is_string, are_strings, is_string_list, title_at}
 use Rattle.std.proofs.lemmas.List.{map-append, append_assoc, get_or_append_left, get_or-append-add, length-append}
 use Rattle.std.proofs.lemmas.List.Elements.{All-head}
 use Rattle.net_build.specs.declared.faults.BuildFault.{BuildFault}
+use Rattle.net_build.specs.declared.faults.BuildFault.TheVariants.{Fault, NoMemory}
+use Rattle.net_build.specs.declared.faults.BuildKind.TheVariants as kinds
+use Rattle.net_build.specs.declared.faults.Limit.TheVariants as limits
 use Rattle.net_build.specs.Lists.{list_of}
-use Rattle.net_build.specs.Passes.{Pass, Refuses, each}
+use Rattle.net_build.specs.Passes.{Pass, Refuses, Passes, each}
 use Rattle.net_build.specs.Stages.{leaves_in, are_string_values}
-use Rattle.net_build.specs.Table.{label_row}
+use Rattle.net_build.specs.Table.{label_row, label_rows, states_rows}
 use Rattle.net_build.proofs.AttributeLemmas.{and_left, and_right}
 use Rattle.net_build.proofs.Passing.{Leads, drop_item, each_on, each_refused, leads_refused}
 use Rattle.net_lexer.specs.Token.{text_value}
 use Rattle.net_lexer.specs.declared.tokens.Token.{Token}
 use Rattle.net_parser.specs.Owned.{leaves, all_leaves, IsLeafOf}
-use Rattle.net_parser.specs.Trees.{ValueTree, ValueTrees, leaf, list, none, more}
+use Rattle.net_parser.specs.Trees.{ValueTree, leaf, list, AttributeTree, BlockTree}
 use Rattle.net_parser.specs.Views.{value_tree, trees_of}
 use Rattle.net_parser.specs.declared.trees.Value.{Value}
 use Rattle.net_parser.specs.declared.trees.Value.TheVariants as values
@@ -116,3 +119,43 @@ labels_more text vs i v labels longer label all h is this is_more so_far =
     ∙ ap (λ ls. list_of labels ++ ls) (sym (map-append (text_value text) (leaves (value_tree v)) (leaves_in (drop (i + 1) vs))))
     ∙ ap (λ ts. list_of labels ++ map (text_value text) ts) (sym (leaves_from vs i v h is))
     ∙ so_far
+
+-- a string has one leaf
+pub one_leaf : (tree : ValueTree) → is_string tree ≡ true → length (leaves tree) ≡ 1
+one_leaf (leaf t) e = refl
+one_leaf (list vs) e = absurd (false≢true e)
+
+-- strings have as many leaves as there are
+pub count_leaves : (vs : List Value) → list_all (λ w. is_string (value_tree w)) vs ≡ true → length (leaves_in vs) ≡ length vs
+count_leaves [] e = refl
+count_leaves (v ∷ vs) e =
+    let here = one_leaf (value_tree v) (and_left (is_string (value_tree v)) (list_all (λ w. is_string (value_tree w)) vs) e) in
+    let behind = count_leaves vs (and_right (is_string (value_tree v)) (list_all (λ w. is_string (value_tree w)) vs) e) in
+    length-append (leaves (value_tree v)) (leaves_in vs) ∙ (let sum : length (leaves (value_tree v)) + length (leaves_in vs) ≡ suc (length vs) = omega arith in sum)
+
+-- the value of `states` is no list of strings
+pub bad_states : (text : List ℕ) (states : AttributeTree) (fault : BuildFault) → is_string_list states.value ≡ false → fault ≡ Fault states.name.start kinds.BadStates → Refuses (label_rows text states) fault
+unfolding label_rows
+bad_states text states fault bad what = rw what (inl (bad, refl))
+
+-- or one of too many
+pub many_states : (text : List ℕ) (states : AttributeTree) (fault : BuildFault) (count : ℕ) → is_string_list states.value ≡ true → count ≡ length (leaves states.value) → 256 < count → fault ≡ Fault states.name.start (kinds.LimitPassed limits.States count) → Refuses (label_rows text states) fault
+unfolding label_rows
+many_states text states fault count good counted many what = rw (what, counted) (inr (λ bad. false≢true (sym bad ∙ good), inl (rw counted at many, refl)))
+
+-- or of few, so that its labels decide
+pub few_states : {A : Type 0} (text : List ℕ) (states : AttributeTree) (result : Result A BuildFault) → is_string_list states.value ≡ true → length (leaves states.value) ≤ 256 → Passes (each (label_row text) (leaves states.value)) result → Passes (label_rows text states) result
+unfolding label_rows
+few_states text states (Ok x) good few rows = (λ bad. false≢true (sym bad ∙ good), (λ many. omega arith, rows))
+few_states text states (Err NoMemory) good few rows = tt
+few_states text states (Err (Fault at kind)) good few rows = inr (λ bad. false≢true (sym bad ∙ good), inr (λ many. omega arith, rows))
+
+-- a block without `states`
+pub no_states : (text : List ℕ) (block : BlockTree) (states : List AttributeTree) (fault : BuildFault) → states ≡ [] → fault ≡ Fault (title_at block) kinds.MissingStates → Refuses (states_rows text block states) fault
+unfolding states_rows
+no_states text block states fault none what = rw (what, none) (tt, refl)
+
+-- a block with `states`
+pub some_states : {A : Type 0} (text : List ℕ) (block : BlockTree) (states : List AttributeTree) (first : AttributeTree) (rest : List AttributeTree) (result : Result A BuildFault) → states ≡ first ∷ rest → Passes (label_rows text first) result → Passes (states_rows text block states) result
+unfolding states_rows
+some_states text block states first rest result some rows = rw some rows

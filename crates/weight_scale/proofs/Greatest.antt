@@ -1,7 +1,7 @@
 -- The greatest absolute values of the utilities, added up node by node.
 use Rattle.std.proofs.Common.{◌≡◌, ◌<◌, ◌+◌, ◌-◌, ◌∙◌, ℕ, List, length, sym, ap, add_assoc, if◌then◌else◌}
 use Rattle.std.specs.List.{range_with_len}
-use Rattle.weight_scale.proofs.Products.{rest_next}
+use Rattle.weight_scale.proofs.Bounding.{rest_next}
 use Rattle.maid_model.specs.Views.{NodeView}
 use Rattle.maid_model.specs.Nodes.{node_at, is_utility}
 use Rattle.maid_model.specs.Sums.{nat_sum_over}

@@ -1,7 +1,7 @@
 use Rattle.std.proofs.Common.{arith, length, refl, false, true, ◌≡◌, ◌<◌, ◌≤◌, ◌*◌}
 use Rattle.maid_model.specs.Bounds.{bound_factor, KeepsBound}
 use Rattle.maid_model.specs.Diagrams.{greatest_number}
-use Rattle.weight_scale.proofs.Products.{product_step, passes_here, product_end}
+use Rattle.weight_scale.proofs.Bounding.{product_step, passes_here, product_end}
 use Rattle.weight_scale.proofs.weight_bound.bound.Goals as goal
 
 pub loop-v-preserved : goal.loop-v-preserved

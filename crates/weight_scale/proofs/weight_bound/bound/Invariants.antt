@@ -1,4 +1,4 @@
-use Rattle.weight_scale.proofs.Products.{ProductSoFar}
+use Rattle.weight_scale.proofs.Bounding.{ProductSoFar}
 use Rattle.weight_scale.proofs.weight_bound.bound.Given as goal
 
 abbrev pub invariant-loop-v : goal.invariant-loop-v
