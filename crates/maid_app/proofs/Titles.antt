@@ -1,5 +1,6 @@
 -- The names of node blocks, block by block.
 use Rattle.std.proofs.Common.{◌≡◌, ◌∙◌, ℕ, List, [], ◌∷◌, ◌++◌, Bool, true, false, All, map, take, refl, sym, ap, subst, ◌<◌, zero, suc, ◌≤◌, length, get_or, arith}
+use Rattle.std.proofs.Math.Seq.{take-le}
 use Rattle.std.proofs.lemmas.List.Elements.{All-append}
 use Rattle.std.specs.List.{flat_map}
 use Rattle.net_build.specs.Blocks.{node_blocks, names_of, name_of, title, is_node, no_token}
@@ -46,7 +47,4 @@ titles_own text (block ∷ blocks) all =
 
 -- the titles of all blocks
 pub all_titles : (blocks : List BlockTree) (titles : List Token) (i : ℕ) → length blocks ≤ i → titles ≡ flat_map node_titles (take i blocks) → titles ≡ flat_map node_titles blocks
-all_titles blocks titles i h e = e ∙ ap (flat_map node_titles) (take_all blocks i h)
-  where
-    take_all : (blocks : List BlockTree) (i : ℕ) → length blocks ≤ i → take i blocks ≡ blocks
-    take_all blocks i h = grind (arith, h)
+all_titles blocks titles i h e = e ∙ ap (flat_map node_titles) (take-le i blocks h)

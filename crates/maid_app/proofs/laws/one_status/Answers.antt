@@ -8,8 +8,8 @@ returns-clause-one c = one_status (record {
   one_list = c.every_text_reads_one_way.ensures.one_list;
   tree_or_fault = c.tokens_read_one_way.ensures.exclusive;
   one_tree = c.tokens_read_one_way.ensures.one_tree;
-  diagram_or_fault = c.a_tree_has_a_fault_or_none.ensures;
-  one_diagram = c.a_tree_stands_for_one_diagram.ensures;
+  diagram_or_fault = c.a_tree_has_a_fault_or_none.ensures.exclusive;
+  one_diagram = c.a_tree_stands_for_one_diagram.ensures.one_diagram;
 })
 
 pub returns-clause-of_bytes : goal.returns-clause-of_bytes
