@@ -1,10 +1,9 @@
 -- Facts of each element of a list, and sums of mapped lists.
-use Rattle.std.proofs.Common.{◌≡◌, ◌<◌, ◌≤◌, ◌+◌, ◌-◌, ◌*◌, ◌/◌, ℕ, zero, suc, refl, sym, ap, ◌∙◌, arith, subst, List, [], ◌∷◌, ◌++◌, All, map, length, get_or, take, drop, sum, sum_by}
-use Rattle.std.proofs.Math.Seq.{take-append_seam, drop-append_seam, drop-cons}
-use Rattle.std.proofs.Math.Nat.{pos_of_ne-zero}
-use Rattle.std.proofs.lemmas.List.{get_or-map, length-map, take-map}
+use Rattle.std.proofs.Common.{◌≡◌, ◌<◌, ◌≤◌, ◌+◌, ℕ, refl, sym, ap, ◌∙◌, arith, subst, List, [], ◌∷◌, ◌++◌, All, map, length, get_or, take, drop, sum, sum_by}
+use Rattle.std.proofs.Math.Seq.{take-append_seam, drop-append_seam}
+use Rattle.std.proofs.lemmas.List.{get_or-map, length-map}
 use Rattle.std.proofs.lemmas.List.Elements.{All-nil, All-cons, All-head, All-tail, All-take, All-drop, All-same}
-use Rattle.std.proofs.lemmas.List.Sums.{sum_by-cons, sum_by-append, sum-map, sum_by_more, sum_by_more_le}
+use Rattle.std.proofs.lemmas.List.Sums.{sum_by-cons, sum-map, sum_by_more, sum_by_more_le}
 
 module _ {X : Type 0} where
   pub all_front : (P : X → Type 0) (xs ys : List X) → All P (xs ++ ys) → All P xs

@@ -1,5 +1,5 @@
 -- What holds of an answer holds of what follows from it.
-use Rattle.std.proofs.Common.{ℕ, Result, Ok, Err, IfOk, IfErr}
+use Rattle.std.proofs.Common.{Result, Ok, Err, IfOk, IfErr}
 use Rattle.weight_scale.specs.declared.scaling.ScaleFault.{ScaleFault}
 use Rattle.weight_scale.specs.declared.scaling.ScaleFault.TheVariants.{Negative, ZeroRow, WideWeight, NoMemory}
 use Rattle.weight_scale.specs.Rows.{OnWide}

@@ -1,5 +1,5 @@
 -- The rows of a table that stands row by row.
-use Rattle.std.proofs.Common.{◌≡◌, ◌<◌, ◌≤◌, ◌+◌, ◌-◌, ◌*◌, ◌/◌, ◌%◌, min, ℕ, zero, suc, refl, sym, ap, ◌∙◌, arith, subst, List, [], ◌∷◌, ◌++◌, length, get_or, take, drop}
+use Rattle.std.proofs.Common.{◌≡◌, ◌<◌, ◌≤◌, ◌+◌, ◌-◌, ◌*◌, ◌/◌, min, ℕ, sym, ap, ◌∙◌, arith, List, ◌++◌, length, get_or, take, drop}
 use Rattle.std.specs.Int.{◌∣◌}
 use Rattle.std.proofs.Math.Nat.{mul-le-mul_right, div-mul-le_self, div-mul_cancel, mul-div_cancel}
 use Rattle.std.proofs.Math.Seq.{drop-append_seam}

@@ -1,10 +1,8 @@
 -- A row's numbers over their divisor: they are the reduced row, and a row has one.
-use Rattle.std.proofs.Common.{◌≡◌, ◌<◌, ◌≤◌, ◌+◌, ◌-◌, ◌*◌, ◌/◌, ◌^◌, ◌⊎◌, ⊎_elim, ℕ, refl, sym, ap, ◌∙◌, arith, subst, List, [], ◌∷◌, ◌++◌, All, map, length, get_or, take, sum, unsigned_abs, mul-pos, append_assoc}
-use Rattle.std.proofs.Math.Nat.{mul-div-mul_right, pos_of_ne-zero, zero-mul}
+use Rattle.std.proofs.Common.{◌≡◌, ◌<◌, ◌≤◌, ◌+◌, ◌-◌, ◌*◌, ◌/◌, ◌^◌, ◌⊎◌, ⊎_elim, ℕ, sym, ap, ◌∙◌, arith, subst, List, [], ◌∷◌, ◌++◌, map, length, get_or, take, sum, unsigned_abs, append_assoc}
+use Rattle.std.proofs.Math.Nat.{mul-div-mul_right}
 use Rattle.std.proofs.lemmas.Nat.{pow-add}
 use Rattle.std.proofs.lemmas.List.{map_more}
-use Rattle.std.proofs.lemmas.List.Elements.{All-weaker}
-use Rattle.maid_model.specs.Diagrams.{greatest_number}
 use Rattle.weight_scale.specs.declared.decimal.Decimal.{Decimal}
 use Rattle.weight_scale.specs.Scaling.{raised, IsGreatestDivisor, IsReducedRow}
 use Rattle.weight_scale.specs.Rows.{IsFinest, shares, AppendsShares}

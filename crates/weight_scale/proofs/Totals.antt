@@ -1,5 +1,5 @@
 -- Rows reduced one by one, and the least common multiple of their totals.
-use Rattle.std.proofs.Common.{◌≡◌, ◌<◌, ◌≤◌, ◌+◌, ◌-◌, ◌*◌, ◌/◌, ℕ, zero, suc, refl, sym, ap, ◌∙◌, arith, subst, below_more, List, [], ◌∷◌, ◌++◌, All, map, length, get_or, sum}
+use Rattle.std.proofs.Common.{◌≡◌, ◌<◌, ◌≤◌, ◌+◌, ◌*◌, ◌/◌, ℕ, zero, suc, refl, sym, ap, ◌∙◌, arith, subst, below_more, List, [], ◌∷◌, ◌++◌, map, length, get_or, sum}
 use Rattle.std.specs.Int.{◌∣◌}
 use Rattle.std.proofs.Math.Numerals.{add-one}
 use Rattle.std.proofs.Math.Nat.{one-dvd, pos_of_ne-zero, div-mul_cancel, zero-mul}
@@ -8,9 +8,9 @@ use Rattle.std.proofs.lemmas.List.{length-map, length-append}
 use Rattle.whole_num.specs.Divisors.{IsLcm}
 use Rattle.maid_model.specs.Diagrams.{greatest_number}
 use Rattle.weight_scale.specs.declared.decimal.Decimal.{Decimal}
-use Rattle.weight_scale.specs.Scaling.{row_at, raised, raised_row, IsGreatestDivisor, IsReducedRow, IsReduced, IsCommonTotal, NoZeroRow, IsTooWide}
-use Rattle.weight_scale.specs.Rows.{AppendsShares, AppendsReduced, ReducesRows, IsWideRow}
-use Rattle.weight_scale.proofs.Lists.{all_unmapped, sum_nought, nought_sum, map_same, map_twice}
+use Rattle.weight_scale.specs.Scaling.{row_at, raised, raised_row, IsReducedRow, IsReduced, NoZeroRow, IsTooWide}
+use Rattle.weight_scale.specs.Rows.{AppendsReduced, ReducesRows, IsWideRow}
+use Rattle.weight_scale.proofs.Lists.{sum_nought, nought_sum}
 use Rattle.weight_scale.proofs.Divisors.{greatest_exists, lcm_exists}
 use Rattle.weight_scale.proofs.RowParts.{row_within, rows_whole, row_length, row_kept, row_added}
 use Rattle.weight_scale.proofs.Shares.{reduced_same}

@@ -1,5 +1,5 @@
 -- The rows of a table have one scaling: each row has one reduced row, so the totals and their least common multiple are the same, and so is each row of weights.
-use Rattle.std.proofs.Common.{◌≡◌, ◌<◌, ◌≤◌, ◌+◌, ◌*◌, ◌/◌, ℕ, zero, suc, refl, sym, ap, ◌∙◌, arith, subst, List, ◌++◌, length, take, drop, sum}
+use Rattle.std.proofs.Common.{◌≡◌, ◌<◌, ◌+◌, ◌*◌, ◌/◌, ℕ, zero, suc, sym, ap, ◌∙◌, arith, subst, List, ◌++◌, length, take, sum}
 use Rattle.std.specs.Int.{◌∣◌}
 use Rattle.std.proofs.Math.Nat.{zero-mul}
 use Rattle.std.proofs.Math.Seq.{take-add}
@@ -7,7 +7,7 @@ use Rattle.std.proofs.lemmas.Nat.Gcd.{dvd_antisymm}
 use Rattle.std.proofs.lemmas.List.{take_all}
 use Rattle.weight_scale.specs.declared.decimal.Decimal.{Decimal}
 use Rattle.weight_scale.specs.Views.{ScaledView}
-use Rattle.weight_scale.specs.Scaling.{row_at, raised_row, weights_of, IsScaled, IsCommonTotal}
+use Rattle.weight_scale.specs.Scaling.{row_at, raised_row, weights_of, IsScaled}
 use Rattle.weight_scale.proofs.RowParts.{rows_whole}
 use Rattle.weight_scale.proofs.Shares.{reduced_same}
 

@@ -1,21 +1,21 @@
 -- Reduced rows multiplied to the common total, and the table that they make.
-use Rattle.std.proofs.Common.{◌≡◌, ◌<◌, ◌≤◌, ◌+◌, ◌-◌, ◌*◌, ◌/◌, ◌%◌, ◌^◌, ℕ, ℤ, zero, suc, pos, ◌+ℤ◌, ◌≤ℤ◌, refl, sym, ap, ◌∙◌, arith, subst, below_more, ⊎_elim, ◌⊎◌, inl, inr, List, [], ◌∷◌, ◌++◌, map, length, get_or, sum}
+use Rattle.std.proofs.Common.{◌≡◌, ◌<◌, ◌≤◌, ◌+◌, ◌*◌, ◌/◌, ◌%◌, ◌^◌, ℕ, ℤ, zero, suc, pos, ◌+ℤ◌, ◌≤ℤ◌, refl, sym, ap, ◌∙◌, arith, subst, below_more, ⊎_elim, ◌⊎◌, inl, inr, List, [], ◌∷◌, ◌++◌, map, length, get_or, sum}
 use Rattle.std.specs.Int.{◌∣◌}
-use Rattle.std.proofs.Math.Nat.{mul-le-mul_right, mul-div-le, mul-div_cancel', zero-mul, div-mul_cancel, pos_of_ne-zero}
+use Rattle.std.proofs.Math.Nat.{mul-le-mul_right, mul-div-le, mul-div_cancel', zero-mul}
 use Rattle.std.proofs.lemmas.Nat.Gcd.{le_of_dvd}
 use Rattle.std.proofs.lemmas.Int.{ints}
 use Rattle.std.proofs.lemmas.Bool.{cases_lt}
 use Rattle.std.proofs.Math.ListN.{get_or-eq_default}
-use Rattle.std.proofs.lemmas.List.{length-map, length-append, get_or-map}
+use Rattle.std.proofs.lemmas.List.{length-map, length-append}
 use Rattle.std.proofs.lemmas.List.Sums.{sum_by-cons}
 use Rattle.maid_model.specs.Sums.{sum_below}
 use Rattle.maid_model.specs.Tables.{IsTable}
 use Rattle.maid_model.specs.Diagrams.{greatest_number}
 use Rattle.weight_scale.specs.declared.decimal.Decimal.{Decimal}
 use Rattle.weight_scale.specs.Views.{ScaledView}
-use Rattle.weight_scale.specs.Scaling.{row_at, raised_row, weights_of, IsReduced, IsCommonTotal, IsScaled, NoZeroRow}
+use Rattle.weight_scale.specs.Scaling.{row_at, raised_row, weights_of, IsScaled, NoZeroRow}
 use Rattle.weight_scale.specs.Rows.{WeighsRows, ReducesRows}
-use Rattle.weight_scale.proofs.RowParts.{row_within, row_before, rows_whole, count_of_rows, row_length, row_kept, row_added, row_cell}
+use Rattle.weight_scale.proofs.RowParts.{row_within, rows_whole, count_of_rows, row_length, row_kept, row_added, row_cell}
 use Rattle.weight_scale.proofs.Totals.{reduced_positive}
 
 -- ---- row by row

@@ -1,5 +1,5 @@
 -- How a row is reduced. The parts of `scale_rows` speak of it; what it promises doesn't.
-use Rattle.std.specs.Prelude.{◌≡◌, ◌<◌, ◌≤◌, ◌+◌, ◌*◌, ◌/◌, ℕ, ℤ, pos, unsigned_abs, List, ◌++◌, map, length, sum, All, ◌⊎◌}
+use Rattle.std.specs.Prelude.{◌≡◌, ◌<◌, ◌≤◌, ◌*◌, ◌/◌, ℕ, ℤ, unsigned_abs, List, ◌++◌, map, length, sum, All, ◌⊎◌}
 use Rattle.std.specs.Int.{◌∣◌}
 use Rattle.maid_model.specs.Diagrams.{greatest_number}
 use Rattle.weight_scale.specs.Scaling.{raised, raised_row, row_at, IsReducedRow, IsCommonTotal, weights_of}

@@ -1,4 +1,4 @@
-use Rattle.std.proofs.Common.{arith, mul-pos, Fits}
+use Rattle.std.proofs.Common.{arith, mul-pos}
 use Rattle.weight_scale.proofs.Divisors.{gcd_of_product, product_within}
 use Rattle.weight_scale.proofs.products.gcd_with_product.Goals as goal
 

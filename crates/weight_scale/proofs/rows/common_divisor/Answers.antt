@@ -1,5 +1,5 @@
-use Rattle.std.proofs.Common.{rules, arith, sym, ap, subst, ◌≡◌, ◌*◌, ◌^◌, ◌-◌, List, [], ◌∷◌, map, ℕ, unsigned_abs, FitsSigned}
-use Rattle.std.specs.Int.{w128, IsGcd}
+use Rattle.std.proofs.Common.{rules, sym, ap, subst, List, ◌∷◌, map, ℕ, FitsSigned}
+use Rattle.std.specs.Int.{w128}
 use Rattle.std.proofs.lemmas.Int.{to_z-of_z}
 use Rattle.std.proofs.lemmas.List.{drop_all}
 use Rattle.weight_scale.specs.Scaling.{raised, IsGreatestDivisor}

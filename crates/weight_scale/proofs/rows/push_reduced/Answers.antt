@@ -1,4 +1,4 @@
-use Rattle.std.proofs.Common.{ap, subst, map, sum, ◌<◌}
+use Rattle.std.proofs.Common.{subst, map, sum, ◌<◌}
 use Rattle.std.specs.Int.{◌∣◌}
 use Rattle.maid_model.specs.Diagrams.{greatest_number}
 use Rattle.weight_scale.specs.Scaling.{raised}

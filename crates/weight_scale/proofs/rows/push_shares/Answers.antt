@@ -1,4 +1,4 @@
-use Rattle.std.proofs.Common.{rules, arith, sym, subst, ◌≡◌, ◌<◌, ◌≤◌, ◌+◌, ◌/◌, FitsSigned, unsigned_abs}
+use Rattle.std.proofs.Common.{rules, arith, sym, subst, ◌/◌, FitsSigned}
 use Rattle.std.specs.Int.{w128, ◌∣◌}
 use Rattle.std.proofs.lemmas.Int.{to_z-of_z}
 use Rattle.weight_scale.specs.Scaling.{raised}

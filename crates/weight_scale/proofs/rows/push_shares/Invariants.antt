@@ -1,4 +1,4 @@
-use Rattle.std.proofs.Common.{◌≡◌, take}
+use Rattle.std.proofs.Common.{take}
 use Rattle.weight_scale.specs.Rows.{shares, AppendsShares}
 use Rattle.weight_scale.proofs.rows.push_shares.Given as goal
 

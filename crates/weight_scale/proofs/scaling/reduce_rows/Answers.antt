@@ -1,7 +1,7 @@
-use Rattle.std.proofs.Common.{arith, subst, sym, refl, List, ℕ, map, ◌≤◌}
+use Rattle.std.proofs.Common.{arith, subst, sym}
 use Rattle.std.proofs.lemmas.Result.{err_from_is_err_and}
-use Rattle.weight_scale.specs.Scaling.{raised, raised_row, row_at, IsTooWide}
-use Rattle.weight_scale.specs.Rows.{ReducesRows, AppendsReduced, IsWideRow}
+use Rattle.weight_scale.specs.Scaling.{raised_row, IsTooWide}
+use Rattle.weight_scale.specs.Rows.{ReducesRows, IsWideRow}
 use Rattle.weight_scale.proofs.Totals.{reduces_start, reduces_step, added_positive, wide_by_row, wide_by_totals}
 use Rattle.weight_scale.proofs.Results.{on_wide_more}
 use Rattle.weight_scale.proofs.scaling.reduce_rows.Goals as goal
