@@ -1,10 +1,9 @@
 -- The diagram of the test is a diagram.
-use Rattle.std.proofs.Common.{◌≡◌, ◌≢◌, ◌⊎◌, ℕ, zero, suc, ◌+◌, ◌*◌, ◌<◌, ◌≤◌, List, [], ◌∷◌, Contains, length, refl, inl, inr, arith, All, ℤ, pos, nat_abs, slice_index_or}
+use Rattle.std.proofs.Common.{◌≡◌, ◌≢◌, ◌⊎◌, ℕ, zero, suc, ◌*◌, ◌<◌, ◌≤◌, List, [], ◌∷◌, Contains, length, refl, inl, inr, arith, All, ℤ, pos, nat_abs, slice_index_or}
 use Rattle.maid_model.specs.declared.diagrams.Kind.TheVariants.{Chance, Decision, Utility}
 use Rattle.maid_model.specs.Diagrams.{IsDiagram, HasOwners, HasValues, KeepsLimits, greatest_number}
 use Rattle.maid_model.specs.Graph.{Arc, IsPath, Here, Along, IsAcyclic, IsGraph, AllDifferent}
 use Rattle.maid_model.specs.Nodes.{node_at, states_of, parents_of, rows_of}
-use Rattle.maid_model.specs.Tables.{IsTable, HasChanceTables, chance_total}
 use Rattle.maid_model.specs.Views.{NodeView, DiagramView}
 use Rattle.rule_solver.proofs.Members.{head_or_rest}
 
