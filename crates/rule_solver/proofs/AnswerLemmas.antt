@@ -11,13 +11,13 @@ use Rattle.maid_model.specs.Nodes.{rows_of, states_of}
 use Rattle.maid_model.specs.Placing.{IsRelianceOrder}
 use Rattle.maid_model.specs.Relevance.{ReliesOn}
 use Rattle.maid_model.specs.Views.{NodeView, DiagramView, RuleView, AnswerView}
-use Rattle.rule_solver.specs.Answered.{AnswersAll, IsAnsweredBy, IsClosed}
+use Rattle.rule_solver.specs.Answered.{AnswersAll, IsAnsweredBy}
 use Rattle.rule_solver.specs.Masses.{HasGains}
 use Rattle.rule_solver.proofs.AnsweredRules.{rule_stays}
 use Rattle.rule_solver.proofs.BaseLemmas.{decided, same_then}
 use Rattle.rule_solver.proofs.Members.{head_or_rest, taken_whole}
-use Rattle.rule_solver.proofs.Orders.{first_closed, relied_before, order_differs, placed_decision}
-use Rattle.rule_solver.proofs.Tests.{yes_at, no_at}
+use Rattle.rule_solver.proofs.Orders.{IsClosed, first_closed, relied_before, order_differs, placed_decision}
+use Rattle.rule_solver.proofs.Equals.{yes_at, no_at}
 
 -- what holds of each answer holds of the rows found at a decision
 rows_found : (P : ℕ → List Row → Type 0) (answers : List AnswerView) → All (λ a. P a.decision a.rows) answers → (v : ℕ) → Contains (map (λ a. a.decision) answers) v → P v (rows_at answers v)

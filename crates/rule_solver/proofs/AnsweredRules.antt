@@ -8,7 +8,7 @@ use Rattle.maid_model.specs.Profiles.{SameRule, pure_rule}
 use Rattle.maid_model.specs.Tables.{weights_of, rule_total}
 use Rattle.maid_model.specs.Views.{NodeView, RuleView, AnswerView}
 use Rattle.rule_solver.proofs.Members.{after, head_or_rest, decision_listed}
-use Rattle.rule_solver.proofs.Tests.{yes_at, no_at}
+use Rattle.rule_solver.proofs.Equals.{yes_at, no_at}
 
 -- ---- the rule of a profile that is made for each decision of a list
 module _ (f : ℕ → RuleView) (own : (v : ℕ) → (f v).decision ≡ v) where

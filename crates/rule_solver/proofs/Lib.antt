@@ -1,4 +1,4 @@
-mod Tests
+mod Equals
 mod Members
 mod Orders
 mod LeafLemmas
@@ -10,3 +10,4 @@ mod AnsweredRules
 mod BaseLemmas
 mod AnswerLemmas
 mod Promises
+mod Reply

@@ -6,8 +6,11 @@ use Rattle.maid_model.specs.Nodes.{IsDecision}
 use Rattle.maid_model.specs.Placing.{IsRelianceOrder}
 use Rattle.maid_model.specs.Relevance.{ReliesOn}
 use Rattle.maid_model.specs.Views.{NodeView}
-use Rattle.rule_solver.specs.Answered.{IsClosed}
 use Rattle.rule_solver.proofs.Members.{after, taken_more, taken_place}
+
+-- the list has each decision that one of its members relies on
+abbrev pub IsClosed : List NodeView → List ℕ → Type 0
+IsClosed nodes placed = (v e : ℕ) → Contains placed v → ReliesOn nodes v e → Contains placed e
 
 -- where no member stands among those before it, all differ
 all_differ : (xs : List ℕ) → ((k : ℕ) → k < length xs → Contains (take k xs) (slice_index xs k) → ⊥) → AllDifferent xs

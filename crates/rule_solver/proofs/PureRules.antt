@@ -12,7 +12,7 @@ use Rattle.maid_model.specs.Profiles.{IsRule, pure_row, pure_rule}
 use Rattle.maid_model.specs.Sums.{sum_below}
 use Rattle.maid_model.specs.Tables.{IsTable}
 use Rattle.maid_model.specs.Views.{NodeView, AnswerView}
-use Rattle.rule_solver.proofs.Tests.{yes_at, no_at}
+use Rattle.rule_solver.proofs.Equals.{yes_at, no_at}
 
 sum_below_cong : (n : ℕ) (f g : ℕ → ℤ) → ((i : ℕ) → i < n → f i ≡ g i) → sum_below n f ≡ sum_below n g
 sum_below_cong zero f g h = refl

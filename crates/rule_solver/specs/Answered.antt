@@ -1,9 +1,8 @@
--- What is answered at a decision against a base, and at the first decisions of an order.
-use Rattle.std.specs.Prelude.{◌≡◌, ◌<◌, ℕ, List, All, Contains, map, length, slice_index_or, IfSome}
+-- What is answered at a decision against a base, and at the decisions of a list. Only private functions cite it.
+use Rattle.std.specs.Prelude.{◌≡◌, ◌<◌, ℕ, List, All, map, length, slice_index_or, IfSome}
 use Rattle.maid_model.specs.declared.answers.Row.{Row}
 use Rattle.maid_model.specs.Views.{NodeView, RuleView, AnswerView}
 use Rattle.maid_model.specs.Nodes.{states_of, rows_of}
-use Rattle.maid_model.specs.Relevance.{ReliesOn}
 use Rattle.maid_model.specs.Answers.{FitsAnswer, IsAnswerAt, IsAnswerRow, IsReduced, no_row, pure_profile}
 
 -- a row for each choice of the parents' states, each answered against the base, with choices in range and worths in lowest terms
@@ -12,10 +11,6 @@ pub record IsAnsweredBy (nodes : List NodeView) (decimals : ℕ) (base : List Ru
   pub each : (row : ℕ) → row < rows_of nodes d → IsAnswerRow nodes decimals base d row (slice_index_or rows row no_row)
   pub choices : All (λ r. r.choice < states_of nodes d) rows
   pub worths : All (λ r. IfSome r.worth IsReduced) rows
-
--- the list has each decision that one of its members relies on
-abbrev pub IsClosed : List NodeView → List ℕ → Type 0
-IsClosed nodes placed = (v e : ℕ) → Contains placed v → ReliesOn nodes v e → Contains placed e
 
 -- the decisions of the list are answered in its order, each against its base in the answered rules
 pub record AnswersAll (nodes : List NodeView) (decimals : ℕ) (placed : List ℕ) (answers : List AnswerView) : Type 0 where

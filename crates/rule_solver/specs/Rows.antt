@@ -1,4 +1,4 @@
--- What is answered in a row, whose states have these gains, against its mass.
+-- What is answered in a row, whose states have these gains, against its mass. Only private functions cite it.
 use Rattle.std.specs.Prelude.{◌≡◌, ◌<◌, ◌+◌, ◌*◌, ℕ, ℤ, pos, List, All, length, slice_index_or, Some, None, IfSome}
 use Rattle.maid_model.specs.declared.answers.Ratio.{Ratio}
 use Rattle.maid_model.specs.declared.answers.Row.{Row}

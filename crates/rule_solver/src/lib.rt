@@ -8,6 +8,8 @@ mod faults;
 mod limits;
 mod rows;
 mod solving;
+#[cfg(test)]
+mod tests;
 mod worths;
 
 pub use faults::SolveFault;

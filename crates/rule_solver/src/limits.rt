@@ -1,7 +1,7 @@
 ghost use Rattle.std.specs.Prelude.{◌≡◌, ◌≤◌, ◌^◌, min, IsOk, IfErr, OnOk};
 ghost use Rattle.maid_model.specs.Bounds.{KeepsBound};
 ghost use Rattle.maid_model.specs.Diagrams.{IsDiagram};
-ghost use Rattle.rule_solver.specs.Faults.{HasSolvingOrder, Tells};
+ghost use Rattle.rule_solver.specs.Faults.{HasSolvingOrder, IsRefusal};
 ghost use Rattle.rule_solver.specs.Leaves.{leaves, most_leaves};
 
 use crate::SolveFault;
@@ -30,7 +30,7 @@ fn count_leaves(diagram: &Diagram) -> u128
 fn keep_bound(diagram: &Diagram) -> Result<(), SolveFault>
     requires { HasSolvingOrder diagram.now.nodes }
     ensures kept { OnOk result (KeepsBound diagram.now) }
-    ensures fault { IfErr result (Tells diagram.now) }
+    ensures fault { IfErr result (IsRefusal diagram.now) }
 {
     match bound(diagram) {
         BoundPlace::Within => Ok(()),
@@ -45,7 +45,7 @@ fn keep_leaves(diagram: &Diagram) -> Result<(), SolveFault>
     requires bound { KeepsBound diagram.now }
     ensures kept { OnOk result (leaves diagram.now.nodes ≤ most_leaves) }
     ensures diagram { IsDiagram diagram.now }
-    ensures fault { IfErr result (Tells diagram.now) }
+    ensures fault { IfErr result (IsRefusal diagram.now) }
 {
     let leaves = count_leaves(diagram);
     if leaves > MOST_LEAVES {
@@ -60,7 +60,7 @@ pub(crate) fn keep_limits(diagram: &Diagram) -> Result<(), SolveFault>
     ensures bound { OnOk result (KeepsBound diagram.now) }
     ensures leaves { OnOk result (leaves diagram.now.nodes ≤ most_leaves) }
     ensures diagram { OnOk result (IsDiagram diagram.now) }
-    ensures fault { IfErr result (Tells diagram.now) }
+    ensures fault { IfErr result (IsRefusal diagram.now) }
 {
     keep_bound(diagram)?;
     keep_leaves(diagram)

@@ -1,0 +1,62 @@
+ghost use Rattle.std.specs.Prelude.{◌≡◌, IfOk};
+
+use crate::solve;
+use maid_model::{Diagram, Kind, Node, Ratio, Row};
+use smallvec::SmallVec;
+use std::alloc::{AllocError, Global};
+use std::test::Fail;
+
+fn node(
+    alloc: Global,
+    kind: Kind,
+    states: usize,
+    parents: &[usize],
+    cells: &[i128],
+) -> Result<Node, AllocError>
+    ensures { IfOk result (λ n. n ≡ record { kind = kind; owner = 0; states = states; parents = parents.now; cells = cells.now }) }
+{
+    Ok(Node {
+        kind,
+        owner: 0,
+        states,
+        parents: SmallVec::from_slice(alloc, parents)?,
+        cells: Vec::from_slice(alloc, cells)?,
+    })
+}
+
+/// A plan, a reply that sees it, and what the pairs pay: 1, 4, 3 and 2.
+fn reply_diagram(alloc: Global) -> Result<Diagram, AllocError> {
+    let mut nodes = Vec::new(alloc);
+    nodes.push(node(alloc, Kind::Decision, 2, &[], &[])?)?;
+    nodes.push(node(alloc, Kind::Decision, 2, &[0], &[])?)?;
+    nodes.push(node(alloc, Kind::Utility, 1, &[0, 1], &[1, 4, 3, 2])?)?;
+    Ok(Diagram::from_nodes(nodes, 1, 0))
+}
+
+/// A row that is worth a whole number.
+fn row(choice: usize, worth: i128) -> Row {
+    Row {
+        choice,
+        worth: Some(Ratio { num: worth, den: 1 }),
+    }
+}
+
+// The reply is best for each plan, and the plan against these replies: 4 for the first and 3 for the second.
+#[test]
+fn a_plan_relies_on_the_reply(rt: HostRuntime) -> Result<(), Fail> {
+    let alloc = rt.alloc();
+    let diagram = reply_diagram(alloc)?;
+    let solved = solve(alloc, &diagram)?;
+    assert_eq!(rt; solved.order.as_slice(), [1, 0].as_slice());
+    assert_eq!(rt; solved.answers.len(), 2);
+    assert_eq!(rt;
+        solved.answers[0].rows.as_slice(),
+        [row(1, 4), row(0, 3)].as_slice()
+    );
+    assert_eq!(rt; solved.answers[1].rows.as_slice(), [row(0, 4)].as_slice());
+    assert_eq!(rt;
+        solved.gains.as_slice(),
+        [Ratio { num: 4, den: 1 }].as_slice()
+    );
+    Ok(())
+}
