@@ -11,3 +11,10 @@ pub mod DecimalLemmas
 pub mod NumberLemmas
 pub mod ScaleLemmas
 pub mod LabelLemmas
+pub mod WeightLemmas
+pub mod WeightPasses
+pub mod BlockLemmas
+pub mod TablePasses
+pub mod TableFacts
+pub mod DraftLemmas
+pub mod RowLemmas

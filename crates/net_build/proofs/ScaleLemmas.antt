@@ -31,17 +31,17 @@ tens_positive k = omega (arith, pow-le-pow_right {n = 10} (omega arith) {i = 0} 
 pub tens_fit : (k : ℕ) → k ≤ 30 → 10 ^ k < 2 ^ 128
 tens_fit k h = omega (arith, pow-le-pow_right {n = 10} (omega arith) {i = k} {j = 30} h)
 
-tens_split : (k s : ℕ) → k ≤ s → 10 ^ s ≡ 10 ^ k * 10 ^ (s - k)
+pub tens_split : (k s : ℕ) → k ≤ s → 10 ^ s ≡ 10 ^ k * 10 ^ (s - k)
 tens_split k s h = let e : s ≡ k + (s - k) = omega arith in ap (λ x. 10 ^ x) e ∙ pow-add 10 k (s - k)
 
 positive_by : (down : Bool) (x e : ℕ) → 0 < 10 ^ x * cond down (10 ^ e) 1
 positive_by true x e = mul-pos (tens_positive x) (tens_positive e)
 positive_by false x e = omega (arith, tens_positive x)
 
-den_positive : (numeral : List ℕ) → 0 < denominator numeral
+pub den_positive : (numeral : List ℕ) → 0 < denominator numeral
 den_positive numeral = positive_by (is_minus (exponent_of numeral)) (length (decimal_digits numeral)) (exponent_size (exponent_of numeral))
 
-sizes : (m num : ℤ) (p den : ℕ) → m *ℤ pos den ≡ num *ℤ pos p → unsigned_abs m * den ≡ unsigned_abs num * p
+pub sizes : (m num : ℤ) (p den : ℕ) → m *ℤ pos den ≡ num *ℤ pos p → unsigned_abs m * den ≡ unsigned_abs num * p
 sizes m num p den e = sym (unsigned_abs-mul m (pos den)) ∙ ap unsigned_abs e ∙ unsigned_abs-mul num (pos p)
 
 narrow_by : (g m t den num p q : ℕ) → m * den ≡ num * p → q ≡ p * t → m * t ≤ g → g * den < num * q → ⊥

@@ -6,6 +6,7 @@
 
 mod attributes;
 mod cursor;
+mod drafts;
 mod faults;
 mod first;
 mod labels;
@@ -18,6 +19,7 @@ mod places;
 mod run;
 mod scales;
 mod tables;
+mod utilities;
 mod weights;
 
 pub use faults::{BuildFault, BuildKind, Limit};

@@ -1,5 +1,24 @@
 //! The tables of a text: the cells of each node, and the scale of the utilities.
 
+ghost use Rattle.std.specs.Prelude.{◌≡◌, ◌<◌, ◌≤◌, List, All, map, length, None, IfOk};
+ghost use Rattle.maid_model.specs.Nodes.{rows_under};
+ghost use Rattle.net_build.specs.Blocks.{node_blocks};
+ghost use Rattle.net_build.specs.Building.{AreTables};
+ghost use Rattle.net_build.specs.Lists.{numbers_of_lists};
+ghost use Rattle.net_build.specs.Passes.{Passes, ◌▸◌};
+ghost use Rattle.net_build.specs.Stages.{AreLinks, TablesFit, head_at, link_lists, node_lists};
+ghost use Rattle.net_build.specs.Table.{IsUtilityScale, missing_pass, node_pass, potential_pass, table_pass, wide_pass};
+ghost use Rattle.net_build.specs.TableParts.{AreDrafts, CanRead, FitsDraft, drafts_pass, finished, cells_of_all};
+ghost use Rattle.net_parser.specs.Owned.{IsBlockOf};
+
+use crate::drafts::{Draft, finish_draft, read_draft};
+use crate::faults::BuildFault;
+use crate::links::Links;
+use crate::nodes::{Head, Nodes};
+use crate::scales::scale_of;
+use crate::utilities::utility_numbers;
+use net_parser::Syntax;
+use std::alloc::{AllocError, Global};
 use std::marker::Model;
 
 /// The cells of each node (none at a decision), and by how many decimals the utilities are scaled.
@@ -16,4 +35,85 @@ impl Model for Tables {
     ghost Value = { TableLists };
 
     ghost view = { λ t. record { cells = map (λ row. row.items) t.cells.items; decimals = t.decimals } };
+}
+
+// How many rows a table over these parents has.
+fn row_count(heads: &[Head], parents: &[usize]) -> usize
+    requires known { All (λ u. u < length heads.now) parents.now }
+    requires states { All (λ h. 0 < h.states) heads.now }
+    requires small { rows_under (λ u. (head_at heads.now u).states) parents.now ≤ 65536 }
+    ensures { result ≡ rows_under (λ u. (head_at heads.now u).states) parents.now }
+{
+    let mut rows = 1;
+    for parent in parents {
+        rows *= heads[*parent].states;
+    }
+    rows
+}
+
+// The tables of all nodes, before the scale of utilities is known.
+fn read_drafts(
+    alloc: Global,
+    text: &[u8],
+    nodes: &Nodes,
+    links: &Links<'_>,
+) -> Result<Vec<Draft>, BuildFault>
+    requires { CanRead text.now nodes.now.heads links.now }
+    ensures rows { Passes (drafts_pass text.now nodes.now.heads links.now) result }
+    ensures drafts { IfOk result (λ drafts. AreDrafts text.now nodes.now.heads links.now drafts.items) }
+{
+    let mut drafts = Vec::with_capacity(alloc, nodes.heads.len())?;
+    for (node, head) in nodes.heads.iter().enumerate() {
+        let rows = row_count(&nodes.heads, &links.parents[node]);
+        let draft = read_draft(alloc, text, head, rows, links.potentials[node])?;
+        drafts.push(draft)?;
+    }
+    Ok(drafts)
+}
+
+// The cells of all nodes, the utilities' to that scale.
+fn finish(
+    alloc: Global,
+    drafts: Vec<Draft>,
+    scale: u32,
+) -> Result<Vec<Vec<i128>>, AllocError>
+    requires few { scale ≤ 30 }
+    requires fits { All (FitsDraft scale) drafts.items }
+    ensures { IfOk result (λ cells. cells_of_all cells.items ≡ map (finished scale) drafts.items) }
+{
+    let mut cells = Vec::with_capacity(alloc, drafts.len())?;
+    for draft in drafts {
+        cells.push(finish_draft(alloc, draft, scale)?)?;
+    }
+    Ok(cells)
+}
+
+/// The tables of chance nodes and utilities, in text order, and then the utilities' values to one scale. A chance table
+/// is scaled row by row, and a utility value is a whole number of the least power of ten that makes all of them whole.
+/// The cost is linear in the text, but for looking up the utilities' potentials among the nodes.
+pub fn read_tables(
+    alloc: Global,
+    text: &[u8],
+    syntax: &Syntax,
+    nodes: &Nodes,
+    links: &Links<'_>,
+) -> Result<Tables, BuildFault>
+    requires blocks { All (IsBlockOf text.now) syntax.now }
+    requires nodes { nodes.now ≡ node_lists text.now (node_blocks syntax.now) }
+    requires links { links.now ≡ link_lists text.now syntax.now }
+    requires fit { AreLinks nodes.now.heads links.now.parents }
+    requires node_rows { node_pass text.now syntax.now None }
+    requires potential_rows { potential_pass text.now syntax.now None }
+    requires missing_rows { missing_pass text.now syntax.now None }
+    ensures rows { Passes (table_pass text.now syntax.now ▸ wide_pass text.now syntax.now) result }
+    ensures scale { IfOk result (λ tables. IsUtilityScale text.now syntax.now tables.decimals) }
+    ensures cells { IfOk result (λ tables. AreTables text.now syntax.now tables.decimals tables.cells) }
+    ensures few { IfOk result (λ tables. tables.decimals ≤ 30) }
+    ensures fit { IfOk result (λ tables. TablesFit nodes.now.heads links.now.parents tables.cells) }
+{
+    let drafts = read_drafts(alloc, text, nodes, links)?;
+    let numbers = utility_numbers(alloc, text, syntax, nodes)?;
+    let decimals = scale_of(alloc, text, &numbers)?;
+    let cells = finish(alloc, drafts, decimals)?;
+    Ok(Tables { cells, decimals })
 }
