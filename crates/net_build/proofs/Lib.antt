@@ -18,3 +18,4 @@ pub mod TablePasses
 pub mod TableFacts
 pub mod DraftLemmas
 pub mod RowLemmas
+pub mod TableEnd
