@@ -5,7 +5,7 @@ use Rattle.std.specs.Option.{is_some, option_map_or, IsSome}
 use Rattle.std.specs.Str.{bytes_eq}
 use Rattle.std.proofs.lemmas.Bool.{false≢true}
 use Rattle.std.proofs.lemmas.List.{get_or-map, get_or_default, append-nil, length-map}
-use Rattle.std.proofs.lemmas.List.Elements.{All-cons}
+use Rattle.std.proofs.lemmas.List.Elements.{All-cons, All-append}
 use Rattle.std.proofs.lemmas.List.Sums.{prefix_len_stops}
 use Rattle.std.proofs.lemmas.Slice.Eq.{bytes_eq-Decides}
 use Rattle.maid_model.specs.declared.diagrams.Kind.{Kind}
@@ -55,9 +55,9 @@ filter_filter p q (x ∷ xs) = by_test (p x) refl (q x) refl where
 
 pub all_flat : {X Y : Type 0} (P : Y → Type 0) (f : X → List Y) (xs : List X) → All (λ x. All P (f x)) xs → All P (flat_map f xs)
 all_flat P f [] all = λ k d within. absurd (omega arith)
-all_flat P f (x ∷ xs) all = all_append (f x) (flat_map f xs) (all 0 x (omega arith)) (all_flat P f xs (λ k d within. all (suc k) d (omega arith))) where
-  all_append : {Y : Type 0} {P : Y → Type 0} (as bs : List Y) → All P as → All P bs → All P (as ++ bs)
-  all_append as bs l r = search rules
+all_flat P f (x ∷ xs) all = all_append P (f x) (flat_map f xs) (all 0 x (omega arith)) (all_flat P f xs (λ k d within. all (suc k) d (omega arith))) where
+  all_append : {Y : Type 0} (Q : Y → Type 0) (ls rs : List Y) → All Q ls → All Q rs → All Q (ls ++ rs)
+  all_append Q ls rs l r = All-append Q ls rs l r
 
 -- a block that a filter finds, and what a search finds
 pub found_in : {X : Type 0} (q : X → Bool) (P : X → Type 0) (xs : List X) (x : X) → find q xs ≡ Some x → All P xs → P x × (q x ≡ true)

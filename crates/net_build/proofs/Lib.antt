@@ -19,3 +19,5 @@ pub mod TableFacts
 pub mod DraftLemmas
 pub mod RowLemmas
 pub mod TableEnd
+pub mod KindLemmas
+pub mod NodeSteps

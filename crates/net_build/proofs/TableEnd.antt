@@ -1,7 +1,7 @@
 -- The utilities' numbers to their scale, and what the finished tables are.
 use Rattle.std.proofs.Common.{◌≡◌, ◌≢◌, ◌⊎◌, inl, inr, ◌<◌, ◌≤◌, ◌+◌, ◌-◌, ◌*◌, ◌/◌, ◌^◌, ℕ, zero, suc, ℤ, pos, ◌*ℤ◌, unsigned_abs, Bool, true, false, List, [], ◌∷◌, All, length, get_or, map, filter, Option, None, Some, IfSome, refl, sym, ap, subst, ◌∙◌, arith}
 use Rattle.std.specs.List.{range_with_len}
-use Rattle.std.specs.Option.{IsSome}
+use Rattle.std.specs.Option.{IsSome, option_map_or}
 use Rattle.std.proofs.lemmas.Bool.{false≢true}
 use Rattle.std.proofs.lemmas.Int.{ints, unsigned_abs-mul}
 use Rattle.std.proofs.lemmas.List.{get_or-map, get_or_default, length-map}
@@ -19,20 +19,29 @@ use Rattle.weight_scale.specs.Numeral.{numerator, denominator, IsLeastDecimalOf}
 use Rattle.net_build.specs.declared.nodes.Head.{Head}
 use Rattle.net_build.specs.declared.drafts.Draft.{Draft}
 use Rattle.net_build.specs.declared.drafts.Draft.TheVariants.{Cells, Values}
-use Rattle.net_build.specs.Blocks.{no_token, is_number, node_blocks, kind_of, states_of, row_count, name_of, potential_of, parent_lists, data_of, leaves_of, numbers_of, word_of}
+use Rattle.net_build.specs.Blocks.{no_token, is_node, is_potential, potentials, is_number, node_blocks, kind_of, states_of, row_count, name_of, potential_of, parent_lists, data_of, leaves_of, numbers_of, word_of}
 use Rattle.net_build.specs.Building.{AreTables, IsTableOf, AreChanceCells, AreUtilityCells}
 use Rattle.net_build.specs.Passes.{Pass, each}
 use Rattle.net_build.specs.Scaling.{AreDecimals, decimal_at, IsWholeBy}
 use Rattle.net_build.specs.Stages.{AreLinks, NodeLists, LinkLists, TablesFit, FitsTable, head_of, head_at, node_lists, link_lists, no_head, rows_at}
-use Rattle.net_build.specs.Table.{number_row, length_row, wide_row, IsWideValue, node_pass, potential_pass, no_block}
-use Rattle.net_build.specs.TableParts.{AreDrafts, CanRead, FitsDraft, Fits, IsDraftOf, IsScaleOf, IsWeighed, data_parts, drafts_pass, finished, node_part, node_rows_at, number_rows, numerals_in, potential_at, raised, table_part, values_in}
+use Rattle.net_build.specs.Table.{number_row, length_row, wide_row, IsWideValue, node_pass, potential_pass, missing_pass, no_block}
+use Rattle.net_build.specs.TableParts.{AreDrafts, CanRead, FitsDraft, Fits, IsDraftOf, IsDraftAt, IsScaleOf, IsWeighed, data_parts, drafts_pass, finished, node_part, node_rows_at, number_rows, numerals_in, potential_at, raised, table_part, values_in}
 use Rattle.net_build.specs.Zero.{nought}
-use Rattle.net_build.proofs.BlockLemmas.{all_filter}
+use Rattle.net_build.proofs.BlockLemmas.{all_filter, found_in}
+use Rattle.net_build.proofs.WeightPasses.{rows_are}
+use Rattle.std.specs.Str.{bytes_eq, codes}
+use Rattle.net_parser.specs.declared.trees.BlockKind.{BlockKind}
+use Rattle.net_parser.specs.declared.trees.BlockKind.TheVariants.{Net, Node, Decision, Utility, Potential}
 use Rattle.net_build.proofs.EachPassing.{each_none}
 use Rattle.net_build.proofs.NumberLemmas.{all_numbers}
 use Rattle.net_build.proofs.ScaleLemmas.{decimal_of, cells_found, not_whole, unfit_wide}
-use Rattle.net_build.proofs.TableFacts.{value_of_node, values_of_nodes}
-use Rattle.net_build.proofs.TablePasses.{head_here, potential_here, rows_here, part_here}
+use Rattle.net_build.proofs.TableFacts.{value_of_node, values_of_nodes, can_read}
+use Rattle.net_build.proofs.TablePasses.{head_here, potential_here, rows_here, part_here, nodes_are}
+
+-- some item of a list with a place
+item_of : {X : Type 0} (xs : List X) (v : ℕ) → v < length xs → X
+item_of [] v h = absurd (omega arith)
+item_of (x ∷ xs) v h = x
 
 -- an item of those that find nothing
 each_at : {X : Type 0} (P : X → Pass) (xs : List X) (k : ℕ) (d : X) → each P xs None → k < length xs → P (get_or xs k d) None
@@ -103,3 +112,119 @@ draft_table scale rows states model.Utility numerals (Values ds) is fits = cells
 draft_table scale rows states model.Chance numerals (Values ds) is fits = absurd is
 draft_table scale rows states model.Decision numerals (Values ds) is fits = absurd is
 draft_table scale rows states model.Utility numerals (Cells cells) is fits = absurd is
+
+raised_small : (d : Decimal) (scale : ℕ) → Fits scale d → unsigned_abs (raised scale d) ≤ greatest_number
+raised_small d scale fits = subst (λ n. n ≤ greatest_number) (sym (unsigned_abs-mul d.m (pos (10 ^ (scale - d.k))))) fits
+
+all_small : (ds : List Decimal) (scale : ℕ) → All (Fits scale) ds → All (λ x. unsigned_abs x ≤ greatest_number) (map (raised scale) ds)
+all_small ds scale all k d within =
+    let near : k < length ds = omega (arith, within, length-map ds (raised scale)) in
+    subst (λ x. unsigned_abs x ≤ greatest_number) (sym (get_or-map (raised scale) ds k nought d near)) (raised_small (decimal_at ds k) scale (all k nought near))
+
+whole_rows : (rows states n : ℕ) → 0 < states → n ≡ rows * states → n / states ≡ rows
+whole_rows rows states n some e = sym (rows_are rows states (rows * states) n some refl e)
+
+draft_limits : (scale rows states : ℕ) (kind : Kind) (numerals : List (List ℕ)) (draft : Draft) → 0 < states → (kind ≡ model.Utility → states ≡ 1) → IsDraftOf kind rows states numerals draft → FitsDraft scale draft → FitsTable kind rows states (finished scale draft)
+draft_limits scale rows states model.Chance numerals (Cells cells) some one is fits = (is.2.scaled.total, (is.2.is.common.positive, (is.2.is.small, subst (λ n. IsTable cells.items n states is.2.scaled.total) (whole_rows rows states (length is.0) some is.3) is.2.table)))
+draft_limits scale rows states model.Decision numerals (Cells cells) some one is fits = is
+draft_limits scale rows states model.Utility numerals (Values ds) some one is fits = (length-map ds.items (raised scale) ∙ is.1 ∙ ap (λ n. rows * n) (one refl) ∙ times_one rows, all_small ds.items scale fits.1) where
+  times_one : (n : ℕ) → n * 1 ≡ n
+  times_one n = omega arith
+draft_limits scale rows states model.Chance numerals (Values ds) some one is fits = absurd is
+draft_limits scale rows states model.Decision numerals (Values ds) some one is fits = absurd is
+draft_limits scale rows states model.Utility numerals (Cells cells) some one is fits = absurd is
+
+one_state : (text : List ℕ) (b : BlockTree) → is_node b.kind ≡ true → kind_of b.kind ≡ model.Utility → states_of text b ≡ 1
+one_state text b kept kind = by_kind b.kind refl where
+  not_utility : (k : Kind) → (k ≡ model.Utility → ⊥) → kind_of b.kind ≡ k → ⊥
+  not_utility k n e = n (sym e ∙ kind)
+  by_kind : (k : BlockKind) → b.kind ≡ k → states_of text b ≡ 1
+  by_kind Utility e = rw e refl
+  by_kind Node e = absurd (not_utility model.Chance (λ h. cc) (ap kind_of e))
+  by_kind Decision e = absurd (not_utility model.Decision (λ h. cc) (ap kind_of e))
+  by_kind Net e = rw e refl
+  by_kind Potential e = rw e refl
+
+-- everything together
+module _ (text : List ℕ) (blocks : List BlockTree) (own : All (IsBlockOf text) blocks) (node_rows_none : node_pass text blocks None) (potential_rows_none : potential_pass text blocks None) where
+  abbrev nodes : List BlockTree
+  nodes = node_blocks blocks
+
+  abbrev heads : List Head
+  heads = map (head_of text nodes) nodes
+
+  abbrev links : LinkLists
+  links = link_lists text blocks
+
+  abbrev block_at : ℕ → BlockTree
+  block_at v = get_or nodes v no_block
+
+  abbrev numbers : List Token
+  numbers = values_in text (node_lists text nodes) blocks
+
+  heads_len : length heads ≡ length nodes
+  heads_len = length-map nodes (head_of text nodes)
+
+  part_none : (v : ℕ) → drafts_pass text heads links None → v < length nodes → node_part text (kind_of (block_at v).kind) (row_count text blocks (block_at v)) (states_of text (block_at v)) (potential_of text blocks (name_of text (block_at v))) None
+  part_none v h near = subst (λ (P : Pass). P None) (part_here text blocks v near)
+      (subst (λ n. node_rows_at text heads links n None) (get_or-range_with_len 0 (length heads) v 0 (omega (arith, near, heads_len)) ∙ plain v)
+          (each_at (node_rows_at text heads links) (range_with_len 0 (length heads)) v 0 h (omega (arith, near, heads_len, length-range_with_len 0 (length heads)))))
+    where
+      plain : (n : ℕ) → 0 + n ≡ n
+      plain n = omega arith
+
+  -- each of the utilities' numbers is read
+  pub values_read : drafts_pass text heads links None → All (IsRead text) numbers
+  values_read h = values_of_nodes text blocks own node_rows_none potential_rows_none (IsRead text) (λ v p near kind is.
+      let found = found_in (λ b. bytes_eq (name_of text b) (name_of text (block_at v))) (IsBlockOf text) (potentials blocks) p is (λ k d w. (all_filter (IsBlockOf text) (λ b. is_potential b.kind) blocks own k d w).0) in
+      let part : node_part text model.Utility (row_count text blocks (block_at v)) (states_of text (block_at v)) (Some p) None = subst (λ o. node_part text model.Utility (row_count text blocks (block_at v)) (states_of text (block_at v)) o None) is (subst (λ (k : Kind). node_part text k (row_count text blocks (block_at v)) (states_of text (block_at v)) (potential_of text blocks (name_of text (block_at v))) None) kind (part_none v h near)) in
+      read_numbers_of text model.Utility (row_count text blocks (block_at v)) (states_of text (block_at v)) p (data_of text p)
+          (own_values text (data_of text p) (λ k d w. (all_filter (IsAttributeOf text) (λ a. bytes_eq (word_of text a) (codes "data")) p.attributes found.0.attributes k d w).0)) part.1)
+
+  -- a draft by its block
+  draft_here : (v : ℕ) (draft : Draft) → v < length nodes → IsDraftAt text heads links v draft → IsDraftOf (kind_of (block_at v).kind) (row_count text blocks (block_at v)) (states_of text (block_at v)) (map (token_bytes text) (numbers_of text blocks (block_at v))) draft
+  draft_here v draft near is = subst (λ (T : Type 0). T) (λ i. IsDraftOf (head_here text blocks v near i).kind (rows_here text blocks v near i) (head_here text blocks v near i).states (numerals_in text (potential_here text blocks v near i)) draft) is
+
+  values_at : (Q : Token → Type 0) (v : ℕ) → All Q numbers → v < length nodes → kind_of (block_at v).kind ≡ model.Utility → All Q (numbers_of text blocks (block_at v))
+  values_at Q v all near kind = by_option (potential_of text blocks (name_of text (block_at v))) refl where
+    by_option : (o : Option BlockTree) → potential_of text blocks (name_of text (block_at v)) ≡ o → All Q (option_map_or (λ p. leaves_of (data_of text p)) o [])
+    by_option None e = λ k d h. absurd (omega arith)
+    by_option (Some p) e = value_of_node text blocks own node_rows_none potential_rows_none Q v p all near kind e
+
+  module _ (scale : ℕ) (is : IsScaleOf text numbers scale) (narrow : each (wide_row text scale) numbers None) (drafts : List Draft) (are : AreDrafts text heads links drafts) where
+    scaled_all : All (λ t. IsWholeBy scale (token_bytes text t) × (IsWideValue scale (token_bytes text t) → ⊥)) numbers
+    scaled_all k d h = (is.0 k d h, each_at (wide_row text scale) numbers k d narrow h)
+
+    near_of : (v : ℕ) → v < length drafts → v < length nodes
+    near_of v h = omega (arith, h, are.len, heads_len)
+
+    -- the utilities' drafts fit the scale
+    pub all_fit : All (FitsDraft scale) drafts
+    all_fit v d h = draft_fits text scale (row_count text blocks (block_at v)) (states_of text (block_at v)) (kind_of (block_at v).kind) (numbers_of text blocks (block_at v)) (get_or drafts v d) (draft_here v (get_or drafts v d) (near_of v h) (are.each v d h)) (λ kind. values_at _ v scaled_all (near_of v h) kind)
+
+    finished_at : (v : ℕ) (d : Draft) → v < length drafts → get_or (map (finished scale) drafts) v [] ≡ finished scale (get_or drafts v d)
+    finished_at v d h = get_or-map (finished scale) drafts v d [] h
+
+    -- and finished they are the tables
+    pub tables_are : AreTables text blocks scale (map (finished scale) drafts)
+    tables_are = record {
+      len = length-map drafts (finished scale) ∙ are.len ∙ heads_len;
+      each = λ v h. let near : v < length drafts = omega (arith, h, length-map drafts (finished scale)) in
+          subst (IsTableOf (kind_of (block_at v).kind) scale (states_of text (block_at v)) (map (token_bytes text) (numbers_of text blocks (block_at v)))) (sym (finished_at v (item_of drafts v near) near))
+              (draft_table scale (row_count text blocks (block_at v)) (states_of text (block_at v)) (kind_of (block_at v).kind) (map (token_bytes text) (numbers_of text blocks (block_at v))) (get_or drafts v (item_of drafts v near)) (draft_here v (get_or drafts v (item_of drafts v near)) (near_of v near) (are.each v (item_of drafts v near) near)) (all_fit v (item_of drafts v near) near));
+    }
+
+    pub tables_fit : CanRead text heads links → TablesFit heads (parent_lists text blocks) (map (finished scale) drafts)
+    tables_fit read v h =
+        let near : v < length drafts = omega (arith, h, are.len) in
+        let its : v < length nodes = omega (arith, h, heads_len) in
+        subst (FitsTable (head_at heads v).kind (rows_at heads (parent_lists text blocks) v) (head_at heads v).states) (sym (finished_at v (item_of drafts v near) near))
+            (draft_limits scale (rows_at heads (parent_lists text blocks) v) (head_at heads v).states (head_at heads v).kind (numerals_in text (potential_at links v)) (get_or drafts v (item_of drafts v near)) (read.states v no_head h)
+                (λ kind. ap (λ (g : Head). g.states) (head_here text blocks v its) ∙ one_state text (block_at v) (nodes_are text blocks v its) (sym (ap (λ (g : Head). g.kind) (head_here text blocks v its)) ∙ kind))
+                (are.each v (item_of drafts v near) near) (all_fit v (item_of drafts v near) near))
+
+-- the same, of the nodes and links as the callers have them
+module _ (text : List ℕ) (blocks : List BlockTree) (own : All (IsBlockOf text) blocks) (node_rows_none : node_pass text blocks None) (potential_rows_none : potential_pass text blocks None) (missing_none : missing_pass text blocks None) where
+  pub can_read_them : (nodes : NodeLists) (links : LinkLists) → nodes ≡ node_lists text (node_blocks blocks) → links ≡ link_lists text blocks → AreLinks nodes.heads links.parents → CanRead text nodes.heads links
+  can_read_them nodes links n l fit = subst (λ (m : NodeLists). CanRead text m.heads links) (sym n) (subst (CanRead text (node_lists text (node_blocks blocks)).heads) (sym l)
+      (can_read text blocks own node_rows_none potential_rows_none missing_none (subst (λ (m : LinkLists). AreLinks (node_lists text (node_blocks blocks)).heads m.parents) l (subst (λ (m : NodeLists). AreLinks m.heads links.parents) n fit))))

@@ -6,7 +6,7 @@ use Rattle.std.specs.Str.{bytes_eq}
 use Rattle.std.proofs.lemmas.Bool.{false≢true}
 use Rattle.std.proofs.lemmas.List.{get_or-map, get_or_default, length-map, get_or_append_left, get_or-append-add}
 use Rattle.std.proofs.Math.ListN.{get_or-eq_default}
-use Rattle.std.proofs.lemmas.List.Elements.{All-cons}
+use Rattle.std.proofs.lemmas.List.Elements.{All-cons, All-append}
 use Rattle.std.proofs.lemmas.List.FromFn.{length-range_with_len, get_or-range_with_len}
 use Rattle.std.proofs.lemmas.Simd.{map-map}
 use Rattle.std.proofs.lemmas.Slice.Eq.{bytes_eq-Decides}
@@ -39,13 +39,13 @@ is_some_by (Some x) f = refl
 flat_all : {X Y : Type 0} (P : Y → Type 0) (f : X → List Y) (q : X → Bool) (xs : List X) → All P (flat_map f (filter q xs)) → All (λ x. q x ≡ true → All P (f x)) xs
 flat_all P f q [] all = λ k d within. absurd (omega arith)
 flat_all P f q (x ∷ xs) all = by_test (q x) refl where
-  left : {Y : Type 0} {P : Y → Type 0} (as bs : List Y) → All P (as ++ bs) → All P as
-  left {P = P} as bs all k d h = subst P (get_or_append_left as bs d k h) (all k d (omega (arith, h, length-append as bs)))
-  right : {Y : Type 0} {P : Y → Type 0} (as bs : List Y) → All P (as ++ bs) → All P bs
-  right {P = P} as bs all k d h = subst P (get_or-append-add as bs k d) (all (length as + k) d (omega (arith, h, length-append as bs)))
+  left : {Y : Type 0} (Q : Y → Type 0) (ls rs : List Y) → All Q (ls ++ rs) → All Q ls
+  left Q ls rs all k d h = subst Q (get_or_append_left ls rs d k h) (all k d (omega (arith, h, length-append ls rs)))
+  right : {Y : Type 0} (Q : Y → Type 0) (ls rs : List Y) → All Q (ls ++ rs) → All Q rs
+  right Q ls rs all k d h = subst Q (get_or-append-add ls rs k d) (all (length ls + k) d (omega (arith, h, length-append ls rs)))
   by_test : (b : Bool) → q x ≡ b → All (λ y. q y ≡ true → All P (f y)) (x ∷ xs)
   by_test true e = let here : All P (f x ++ flat_map f (filter q xs)) = subst (λ b. All P (flat_map f (cond b (x ∷ filter q xs) (filter q xs)))) e all in
-      All-cons (λ y. q y ≡ true → All P (f y)) x xs (λ t. left (f x) (flat_map f (filter q xs)) here) (flat_all P f q xs (right (f x) (flat_map f (filter q xs)) here))
+      All-cons (λ y. q y ≡ true → All P (f y)) x xs (λ t. left P (f x) (flat_map f (filter q xs)) here) (flat_all P f q xs (right P (f x) (flat_map f (filter q xs)) here))
   by_test false e = All-cons (λ y. q y ≡ true → All P (f y)) x xs (λ t. absurd (false≢true (sym e ∙ t))) (flat_all P f q xs (subst (λ b. All P (flat_map f (cond b (x ∷ filter q xs) (filter q xs)))) e all))
 
 is_utility_true : (k : Kind) → is_utility k ≡ true → k ≡ model.Utility

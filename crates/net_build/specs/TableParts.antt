@@ -144,10 +144,14 @@ pub record CanRead (text : List ℕ) (heads : List Head) (links : LinkLists) : T
   pub own : (v : ℕ) → v < length heads → IfSome (potential_at links v) (λ p. IsBlockOf text p × (is_potential p.kind ≡ true))
   pub there : (v : ℕ) → v < length heads → (head_at heads v).kind ≢ Decision → IsSome (potential_at links v)
 
+-- the draft of node v
+abbrev pub IsDraftAt : List ℕ → List Head → LinkLists → ℕ → Draft → Type 0
+IsDraftAt text heads links v draft = IsDraftOf (head_at heads v).kind (rows_at heads links.parents v) (head_at heads v).states (numerals_in text (potential_at links v)) draft
+
 -- the draft of each node
 pub record AreDrafts (text : List ℕ) (heads : List Head) (links : LinkLists) (drafts : List Draft) : Type 0 where
   pub len : length drafts ≡ length heads
-  pub each : (v : ℕ) (d : Draft) → v < length drafts → IsDraftOf (head_at heads v).kind (rows_at heads links.parents v) (head_at heads v).states (numerals_in text (potential_at links v)) (slice_index_or drafts v d)
+  pub each : (v : ℕ) (d : Draft) → v < length drafts → IsDraftAt text heads links v (slice_index_or drafts v d)
 
 abbrev pub cells_of_all : List (Vec ℤ) → List (List ℤ)
 cells_of_all tables = map (λ row. row.items) tables

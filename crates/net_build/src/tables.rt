@@ -8,7 +8,7 @@ ghost use Rattle.net_build.specs.Lists.{numbers_of_lists};
 ghost use Rattle.net_build.specs.Passes.{Passes, ◌▸◌};
 ghost use Rattle.net_build.specs.Stages.{AreLinks, TablesFit, head_at, link_lists, node_lists};
 ghost use Rattle.net_build.specs.Table.{IsUtilityScale, missing_pass, node_pass, potential_pass, table_pass, wide_pass};
-ghost use Rattle.net_build.specs.TableParts.{AreDrafts, CanRead, FitsDraft, drafts_pass, finished, cells_of_all};
+ghost use Rattle.net_build.specs.TableParts.{AreDrafts, CanRead, FitsDraft, IsDraftAt, drafts_pass, finished, cells_of_all, node_rows_at};
 ghost use Rattle.net_parser.specs.Owned.{IsBlockOf};
 
 use crate::drafts::{Draft, finish_draft, read_draft};
@@ -51,6 +51,23 @@ fn row_count(heads: &[Head], parents: &[usize]) -> usize
     rows
 }
 
+// A node's table, before the scale of utilities is known.
+fn read_node(
+    alloc: Global,
+    text: &[u8],
+    nodes: &Nodes,
+    links: &Links<'_>,
+    node: usize,
+) -> Result<Draft, BuildFault>
+    requires read { CanRead text.now nodes.now.heads links.now }
+    requires within { node < length nodes.now.heads }
+    ensures rows { Passes (node_rows_at text.now nodes.now.heads links.now node) result }
+    ensures draft { IfOk result (IsDraftAt text.now nodes.now.heads links.now node) }
+{
+    let rows = row_count(&nodes.heads, &links.parents[node]);
+    read_draft(alloc, text, &nodes.heads[node], rows, links.potentials[node])
+}
+
 // The tables of all nodes, before the scale of utilities is known.
 fn read_drafts(
     alloc: Global,
@@ -63,10 +80,8 @@ fn read_drafts(
     ensures drafts { IfOk result (λ drafts. AreDrafts text.now nodes.now.heads links.now drafts.items) }
 {
     let mut drafts = Vec::with_capacity(alloc, nodes.heads.len())?;
-    for (node, head) in nodes.heads.iter().enumerate() {
-        let rows = row_count(&nodes.heads, &links.parents[node]);
-        let draft = read_draft(alloc, text, head, rows, links.potentials[node])?;
-        drafts.push(draft)?;
+    for node in 0..nodes.heads.len() {
+        drafts.push(read_node(alloc, text, nodes, links, node)?)?;
     }
     Ok(drafts)
 }

@@ -1,8 +1,7 @@
 use Rattle.std.proofs.Common.{◌≡◌, ◌<◌, ℕ, length, get_or}
 use Rattle.std.specs.List.{range_with_len}
 use Rattle.net_build.specs.declared.drafts.Draft.{Draft}
-use Rattle.net_build.specs.Stages.{head_at, rows_at}
-use Rattle.net_build.specs.TableParts.{IsDraftOf, drafts_pass, node_rows_at, numerals_in, potential_at}
+use Rattle.net_build.specs.TableParts.{IsDraftAt, drafts_pass, node_rows_at}
 use Rattle.net_build.proofs.Passing.{Leads}
 use Rattle.net_build.proofs.EachPassing.{EachFrom}
 use Rattle.net_build.proofs.tables.read_drafts.Given as goal
@@ -12,5 +11,5 @@ abbrev pub invariant-loop-node : goal.invariant-loop-node
 invariant-loop-node l = record {
   lead : Leads (EachFrom (node_rows_at l.text l.nodes.heads l.links) (range_with_len 0 (length l.nodes.heads)) l.node) (drafts_pass l.text l.nodes.heads l.links);
   len : length l.drafts.items ≡ l.node;
-  are : (v : ℕ) (d : Draft) → v < l.node → IsDraftOf (head_at l.nodes.heads v).kind (rows_at l.nodes.heads l.links.parents v) (head_at l.nodes.heads v).states (numerals_in l.text (potential_at l.links v)) (get_or l.drafts.items v d);
+  are : (v : ℕ) (d : Draft) → v < l.node → IsDraftAt l.text l.nodes.heads l.links v (get_or l.drafts.items v d);
 }
