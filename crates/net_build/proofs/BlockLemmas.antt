@@ -1,8 +1,9 @@
 -- What the passes over blocks say of nodes and potentials, where they find nothing.
 use Rattle.std.proofs.Common.{◌≡◌, ◌≢◌, ◌⊎◌, inl, inr, ◌<◌, ◌≤◌, ◌+◌, ◌*◌, ℕ, zero, suc, Bool, true, false, not, ◌&&◌, cond, List, [], ◌∷◌, ◌++◌, All, Contains, length, get_or, map, filter, take, Option, None, Some, IfSome, refl, sym, ap, subst, ◌∙◌, arith, append_assoc}
-use Rattle.std.specs.List.{flat_map, find, position_or_len, codes}
+use Rattle.std.specs.List.{flat_map, find, position_or_len}
 use Rattle.std.specs.Option.{is_some, option_map_or, IsSome}
 use Rattle.std.specs.Str.{bytes_eq}
+use Rattle.std.specs.Prelude.{codes}
 use Rattle.std.proofs.lemmas.Bool.{false≢true}
 use Rattle.std.proofs.lemmas.List.{get_or-map, get_or_default, append-nil, length-map}
 use Rattle.std.proofs.lemmas.List.Elements.{All-cons, All-append}

@@ -21,3 +21,4 @@ pub mod RowLemmas
 pub mod TableEnd
 pub mod KindLemmas
 pub mod NodeSteps
+pub mod TableLast

@@ -1,13 +1,16 @@
 -- Counting the rows under parents, one parent after another.
-use Rattle.std.proofs.Common.{◌≡◌, ◌<◌, ◌≤◌, ◌+◌, ◌*◌, ℕ, zero, suc, List, [], ◌∷◌, All, Contains, length, get_or, drop, Fits, w64, refl, sym, ap, subst, ◌∙◌, arith, rules}
+use Rattle.std.proofs.Common.{◌≡◌, ◌≢◌, ◌<◌, ◌≤◌, ◌+◌, ◌*◌, ℕ, zero, suc, List, [], ◌∷◌, All, Contains, length, get_or, drop, Fits, w64, Option, Result, refl, sym, ap, subst, ◌∙◌, arith, rules}
 use Rattle.std.proofs.Math.Nat.{mul-pos, mul-le-mul_left}
 use Rattle.std.proofs.lemmas.List.{drop_more, get_or_default}
 use Rattle.maid_model.specs.declared.diagrams.Kind.{Kind}
-use Rattle.maid_model.specs.declared.diagrams.Kind.TheVariants.{Chance}
+use Rattle.maid_model.specs.declared.diagrams.Kind.TheVariants.{Chance, Decision}
 use Rattle.maid_model.specs.Nodes.{rows_under}
 use Rattle.net_build.specs.declared.nodes.Head.{Head}
 use Rattle.net_build.specs.Stages.{LinkLists, head_at, no_head, rows_at}
-use Rattle.net_build.specs.TableParts.{CanRead}
+use Rattle.net_build.specs.TableParts.{CanRead, IsDraftOf, IsDraftAt, numerals_in, potential_at}
+use Rattle.net_build.specs.declared.drafts.Draft.{Draft}
+use Rattle.net_parser.specs.Trees.{BlockTree}
+use Rattle.std.specs.Result.{IfOk}
 
 abbrev pub states_in : List Head → ℕ → ℕ
 states_in heads u = (head_at heads u).states
@@ -57,3 +60,12 @@ module _ (text : List ℕ) (heads : List Head) (links : LinkLists) (read : CanRe
 
   pub head_is : (h : Head) → h ≡ get_or heads v h → head_at heads v ≡ h
   head_is h is = get_or_default heads v no_head h within ∙ sym is
+
+  pub cells_small : (rows : ℕ) (parents : List ℕ) (h : Head) → rows ≡ rows_under (states_in heads) parents → parents ≡ get_or links.parents v [] → h ≡ get_or heads v h → rows * h.states ≤ 65536
+  cells_small rows parents h counted is here = subst (λ (n : ℕ). n ≤ 65536) (λ i. sym (counted ∙ ap (rows_under (states_in heads)) is) i * (head_is h here i).states) (read.fit.cells v within)
+
+  pub draft_at : {E : Type 0} (r : Result Draft E) (rows : ℕ) (parents : List ℕ) (h : Head) (o : Option BlockTree) → rows ≡ rows_under (states_in heads) parents → parents ≡ get_or links.parents v [] → h ≡ get_or heads v h → o ≡ potential_at links v → IfOk r (IsDraftOf h.kind rows h.states (numerals_in text o)) → IfOk r (IsDraftAt text heads links v)
+  draft_at r rows parents h o counted is here found draft = subst (λ (F : Draft → Type 0). IfOk r F) (λ i. IsDraftOf (sym (head_is h here) i).kind ((counted ∙ ap (rows_under (states_in heads)) is) i) (sym (head_is h here) i).states (numerals_in text (found i))) draft
+
+  pub not_decision : (h : Head) → h ≡ get_or heads v h → h.kind ≢ Decision → (head_at heads v).kind ≢ Decision
+  not_decision h here other = subst (λ (g : Head). g.kind ≢ Decision) (sym (head_is h here)) other

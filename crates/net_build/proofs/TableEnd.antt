@@ -29,7 +29,8 @@ use Rattle.net_build.specs.TableParts.{AreDrafts, CanRead, FitsDraft, Fits, IsDr
 use Rattle.net_build.specs.Zero.{nought}
 use Rattle.net_build.proofs.BlockLemmas.{all_filter, found_in}
 use Rattle.net_build.proofs.WeightPasses.{rows_are}
-use Rattle.std.specs.Str.{bytes_eq, codes}
+use Rattle.std.specs.Str.{bytes_eq}
+use Rattle.std.specs.Prelude.{codes}
 use Rattle.net_parser.specs.declared.trees.BlockKind.{BlockKind}
 use Rattle.net_parser.specs.declared.trees.BlockKind.TheVariants.{Net, Node, Decision, Utility, Potential}
 use Rattle.net_build.proofs.EachPassing.{each_none}

@@ -158,6 +158,10 @@ module _ (text : List ℕ) (blocks : List BlockTree) (own : All (IsBlockOf text)
   pub values_are_numbers : values_in text listed blocks ≡ utility_numbers text blocks
   values_are_numbers = values_are ∙ ap (λ kinds. flat_map (λ p. leaves_of (data_of text p)) (filter (λ p. is_utility (get_or kinds (place_of (names_of text nodes) (name_of text p)) model.Chance)) its)) (map-map (λ (g : Head). g.kind) (head_of text nodes) nodes)
 
+  row_at : (v : ℕ) → missing_pass text blocks None → v < length nodes → has_table (block_at v).kind ≡ true → missing_row text blocks (block_at v) None
+  unfolding missing_pass
+  row_at v missing h kept = each_filter_at (missing_row text blocks) (λ b. has_table b.kind) nodes no_block v missing h kept
+
   -- what reading the tables needs
   pub can_read : missing_pass text blocks None → AreLinks (map (head_of text nodes) nodes) (parent_lists text blocks) → CanRead text (map (head_of text nodes) nodes) (link_lists text blocks)
   can_read missing fit = record {
@@ -170,10 +174,7 @@ module _ (text : List ℕ) (blocks : List BlockTree) (own : All (IsBlockOf text)
     there = λ v h kind. let near : v < length nodes = omega (arith, h, length-map nodes (head_of text nodes)) in subst IsSome (sym (potential_here text blocks v near)) (there v near (subst (λ (g : Head). g.kind ≢ model.Decision) (head_here text blocks v near) kind));
   }
     where
-      row_at : (v : ℕ) → v < length nodes → has_table (block_at v).kind ≡ true → missing_row text blocks (block_at v) None
-      unfolding missing_pass
-      row_at v h kept = each_filter_at (missing_row text blocks) (λ b. has_table b.kind) nodes no_block v missing h kept
       there : (v : ℕ) → v < length nodes → kind_of (block_at v).kind ≢ model.Decision → IsSome (potential_of text blocks (name_of text (block_at v)))
-      there v h kind = is_some_by (potential_of text blocks (name_of text (block_at v))) (λ e. row_at v h (table_kind (block_at v).kind (nodes_are text blocks v h) kind) (λ (k, within, here).
+      there v h kind = is_some_by (potential_of text blocks (name_of text (block_at v))) (λ e. row_at v missing h (table_kind (block_at v).kind (nodes_are text blocks v h) kind) (λ (k, within, here).
           let near : k < length its = omega (arith, within, length-map its (name_of text)) in
           false≢true (sym (not_found (λ b. bytes_eq (name_of text b) (name_of text (block_at v))) its e k no_block near) ∙ (bytes_eq-Decides _ _).1 (sym (get_or-map (name_of text) its k no_block (name_of text (block_at v)) near) ∙ here))))
