@@ -44,7 +44,7 @@ words_kept f q x xs e = ap (λ b. map f (cond b (x ∷ filter (λ y. q (f y)) xs
 words_left : {X : Type 0} (f : X → List ℕ) (q : List ℕ → Bool) (x : X) (xs : List X) → q (f x) ≡ false → map f (filter (λ y. q (f y)) (x ∷ xs)) ≡ map f (filter (λ y. q (f y)) xs)
 words_left f q x xs e = ap (λ b. map f (cond b (x ∷ filter (λ y. q (f y)) xs) (filter (λ y. q (f y)) xs))) e
 
-or_true : (b : Bool) → (b || true) ≡ true
+pub or_true : (b : Bool) → (b || true) ≡ true
 or_true true = refl
 or_true false = refl
 

@@ -22,3 +22,6 @@ pub mod TableEnd
 pub mod KindLemmas
 pub mod NodeSteps
 pub mod TableLast
+pub mod OwnerLemmas
+pub mod NodeLemmas
+pub mod SightLemmas

@@ -1,6 +1,6 @@
 -- What the steps of building hand to one another, as plain lists. No public contract needs it.
-use Rattle.std.specs.Prelude.{◌≡◌, ◌≢◌, ◌<◌, ◌≤◌, ◌*◌, ℕ, ℤ, Bool, false, List, [], ◌∷◌, map, length, filter, flat_map, sum, All, Contains, Option, nat_abs, slice_index_or}
-use Rattle.std.specs.List.{range_with_len, list_all}
+use Rattle.std.specs.Prelude.{◌≡◌, ◌≢◌, ◌<◌, ◌≤◌, ◌*◌, ℕ, ℤ, Bool, false, List, [], ◌∷◌, ◌++◌, bytes_eq, if◌then◌else◌, map, length, filter, flat_map, sum, All, Contains, Option, nat_abs, slice_index_or}
+use Rattle.std.specs.List.{range_with_len, list_all, list_any}
 use Rattle.diagram_graph.specs.Cycles.{ListedArc}
 use Rattle.maid_model.specs.declared.diagrams.Kind.{Kind}
 use Rattle.maid_model.specs.declared.diagrams.Kind.TheVariants.{Chance, Decision, Utility}
@@ -14,7 +14,7 @@ use Rattle.net_parser.specs.Trees.{BlockTree}
 use Rattle.net_parser.specs.Views.{value_tree}
 use Rattle.net_parser.specs.declared.trees.Value.{Value}
 use Rattle.net_build.specs.declared.nodes.Head.{Head}
-use Rattle.net_build.specs.Blocks.{is_string, node_blocks, kind_of, title_at, name_of, names_of, labels_of, states_of, agents_of, owner_of, potential_of, parent_lists}
+use Rattle.net_build.specs.Blocks.{is_string, node_blocks, kind_of, title_at, name_of, names_of, labels_of, has_agent, states_of, agent_of, agents_of, owner_of, potential_of, parent_lists}
 
 -- the leaves of these values, from left to right
 abbrev pub leaves_in : List Value → List Token
@@ -42,6 +42,14 @@ node_lists text nodes = record {
   agents = agents_of text nodes;
   heads = map (head_of text nodes) nodes;
 }
+
+-- the agents and one more, where it is new
+abbrev pub with_sight : List (List ℕ) → List ℕ → List (List ℕ)
+with_sight agents agent = if list_any (λ a. bytes_eq a agent) agents then agents else agents ++ agent ∷ []
+
+-- the agents and the block's, where it has one
+abbrev pub with_agent : List ℕ → List (List ℕ) → BlockTree → List (List ℕ)
+with_agent text agents block = if has_agent block.kind then with_sight agents (agent_of text block) else agents
 
 -- what the potentials say: for each node its parents and its potential
 pub record LinkLists : Type 0 where

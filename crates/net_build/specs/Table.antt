@@ -53,16 +53,26 @@ agent_rows text (agent ∷ more) = rule (is_agent text agent.value ≡ false) (f
 abbrev pub IsAgentTooMany : List (List ℕ) → List ℕ → Type 0
 IsAgentTooMany agents agent = (16 ≤ length agents) × (Contains agents agent → ⊥)
 
--- a node block behind those with these names and agents
-unfoldable pub node_rows : List ℕ → List (List ℕ) → List (List ℕ) → BlockTree → Pass
-node_rows text names agents block =
+-- the name of a node block behind those with these names
+unfoldable pub name_rows : List ℕ → List (List ℕ) → BlockTree → Pass
+name_rows text names block =
     rule (256 ≤ length names) (found (title_at block) (LimitPassed Nodes 257))
     ▸ rule (255 < length (name_of text block)) (found (title_at block) (LimitPassed NameBytes (length (name_of text block))))
     ▸ rule (Contains names (name_of text block)) (found (title_at block) DoubleName)
+
+-- the agent of a decision or a utility behind those of these agents
+unfoldable pub owner_rows : List ℕ → List (List ℕ) → BlockTree → Pass
+owner_rows text agents block =
+    agent_rows text (named text (codes "agent") block.attributes)
+    ▸ rule (IsAgentTooMany agents (agent_of text block)) (found (title_at block) (LimitPassed Agents 17))
+
+-- a node block behind those with these names and agents
+unfoldable pub node_rows : List ℕ → List (List ℕ) → List (List ℕ) → BlockTree → Pass
+node_rows text names agents block =
+    name_rows text names block
     ▸ repeats text block
     ▸ only (has_states block.kind) (states_rows text block (named text (codes "states") block.attributes))
-    ▸ only (has_agent block.kind) (agent_rows text (named text (codes "agent") block.attributes))
-    ▸ only (has_agent block.kind) (rule (IsAgentTooMany agents (agent_of text block)) (found (title_at block) (LimitPassed Agents 17)))
+    ▸ only (has_agent block.kind) (owner_rows text agents block)
 
 -- node blocks in text order
 unfoldable pub node_pass : List ℕ → List BlockTree → Pass

@@ -15,6 +15,7 @@ mod links;
 mod names;
 mod nodes;
 mod numbers;
+mod owners;
 mod places;
 mod run;
 mod scales;
