@@ -3,7 +3,7 @@ use Rattle.std.proofs.Common.{◌≡◌, ◌≢◌, ◌⊎◌, inl, inr, ◌<◌
 use Rattle.std.specs.List.{flat_map, find, position_or_len}
 use Rattle.std.specs.Option.{is_some, option_map_or, IsSome}
 use Rattle.std.specs.Str.{bytes_eq}
-use Rattle.std.specs.Prelude.{codes}
+use Rattle.std.specs.Prelude.{codes, if◌then◌else◌}
 use Rattle.std.proofs.lemmas.Bool.{false≢true}
 use Rattle.std.proofs.lemmas.List.{get_or-map, get_or_default, append-nil, length-map}
 use Rattle.std.proofs.lemmas.List.Elements.{All-cons, All-append}
@@ -17,8 +17,8 @@ use Rattle.net_parser.specs.declared.trees.BlockKind.{BlockKind}
 use Rattle.net_parser.specs.declared.trees.BlockKind.TheVariants.{Net, Node, Decision, Utility, Potential}
 use Rattle.net_parser.specs.Trees.{ValueTree, ValueTrees, leaf, list, none, more, AttributeTree, BlockTree}
 use Rattle.net_parser.specs.Owned.{leaves, IsBlockOf}
-use Rattle.net_build.specs.Blocks.{is_node, is_potential, node_blocks, potentials, kind_of, has_states, has_table, is_string_list, named, states_of, name_of, names_of, place_of, potential_of}
-use Rattle.net_build.specs.Passes.{Pass, Found, each, each_after}
+use Rattle.net_build.specs.Blocks.{is_node, leaves_of, is_potential, node_blocks, potentials, kind_of, has_states, has_table, is_string_list, named, states_of, name_of, names_of, place_of, potential_of}
+use Rattle.net_build.specs.Passes.{Pass, Found, each, each_after, only}
 use Rattle.net_build.specs.Places.{IsFirstPlace}
 use Rattle.net_build.specs.Table.{node_rows, node_pass, potential_rows, potential_pass, missing_row, missing_pass, states_rows, label_rows, table_nodes, no_block}
 use Rattle.net_build.proofs.PlaceLemmas.{first_place_is, bytes_same, bytes_differ}
@@ -32,27 +32,25 @@ each_after_at P earlier (x ∷ xs) d (suc v) h within = rw (append_assoc earlier
 pub each_filter_at : {X : Type 0} (P : X → Pass) (q : X → Bool) (xs : List X) (d : X) (v : ℕ) → each P (filter q xs) None → v < length xs → q (get_or xs v d) ≡ true → P (get_or xs v d) None
 each_filter_at P q [] d v h within kept = absurd (omega arith)
 each_filter_at P q (x ∷ xs) d zero h within kept = (subst (λ b. each P (cond b (x ∷ filter q xs) (filter q xs)) None) kept h).0
-each_filter_at P q (x ∷ xs) d (suc v) h within kept = by_test (q x) refl where
-  by_test : (b : Bool) → q x ≡ b → P (get_or xs v d) None
-  by_test true e = each_filter_at P q xs d v (subst (λ b. each P (cond b (x ∷ filter q xs) (filter q xs)) None) e h).1 (omega arith) kept
-  by_test false e = each_filter_at P q xs d v (subst (λ b. each P (cond b (x ∷ filter q xs) (filter q xs)) None) e h) (omega arith) kept
+each_filter_at P q (x ∷ xs) d (suc v) h within kept = by_test (q x) refl (λ g. each_filter_at P q xs d v g (omega arith) kept) where
+  by_test : (b : Bool) → q x ≡ b → (each P (filter q xs) None → P (get_or xs v d) None) → P (get_or xs v d) None
+  by_test true e rec = rec (subst (λ b. each P (cond b (x ∷ filter q xs) (filter q xs)) None) e h).1
+  by_test false e rec = rec (subst (λ b. each P (cond b (x ∷ filter q xs) (filter q xs)) None) e h)
 
 pub all_filter : {X : Type 0} (P : X → Type 0) (q : X → Bool) (xs : List X) → All P xs → All (λ x. P x × (q x ≡ true)) (filter q xs)
 all_filter P q [] all = λ k d within. absurd (omega arith)
-all_filter P q (x ∷ xs) all = by_test (q x) refl where
-  rest : All (λ y. P y × (q y ≡ true)) (filter q xs)
-  rest = all_filter P q xs (λ k d within. all (suc k) d (omega arith))
-  by_test : (b : Bool) → q x ≡ b → All (λ y. P y × (q y ≡ true)) (filter q (x ∷ xs))
-  by_test true e = subst (λ b. All (λ y. P y × (q y ≡ true)) (cond b (x ∷ filter q xs) (filter q xs))) (sym e) (All-cons (λ y. P y × (q y ≡ true)) x (filter q xs) (all 0 x (omega arith), e) rest)
-  by_test false e = subst (λ b. All (λ y. P y × (q y ≡ true)) (cond b (x ∷ filter q xs) (filter q xs))) (sym e) rest
+all_filter P q (x ∷ xs) all = by_test (q x) refl (all_filter P q xs (λ k d within. all (suc k) d (omega arith))) where
+  by_test : (b : Bool) → q x ≡ b → All (λ y. P y × (q y ≡ true)) (filter q xs) → All (λ y. P y × (q y ≡ true)) (filter q (x ∷ xs))
+  by_test true e rest = subst (λ b. All (λ y. P y × (q y ≡ true)) (cond b (x ∷ filter q xs) (filter q xs))) (sym e) (All-cons (λ y. P y × (q y ≡ true)) x (filter q xs) (all 0 x (omega arith), e) rest)
+  by_test false e rest = subst (λ b. All (λ y. P y × (q y ≡ true)) (cond b (x ∷ filter q xs) (filter q xs))) (sym e) rest
 
 pub filter_filter : {X : Type 0} (p q : X → Bool) (xs : List X) → filter q (filter p xs) ≡ filter (λ x. p x && q x) xs
 filter_filter p q [] = refl
-filter_filter p q (x ∷ xs) = by_test (p x) refl (q x) refl where
-  by_test : (a : Bool) → p x ≡ a → (b : Bool) → q x ≡ b → filter q (filter p (x ∷ xs)) ≡ filter (λ y. p y && q y) (x ∷ xs)
-  by_test true e true f = rw (e, f) (ap (λ ys. x ∷ ys) (filter_filter p q xs))
-  by_test true e false f = rw (e, f) (filter_filter p q xs)
-  by_test false e b f = rw e (filter_filter p q xs)
+filter_filter p q (x ∷ xs) = by_test (p x) (q x) refl refl (filter_filter p q xs) where
+  by_test : (a b : Bool) → p x ≡ a → q x ≡ b → filter q (filter p xs) ≡ filter (λ y. p y && q y) xs → filter q (filter p (x ∷ xs)) ≡ filter (λ y. p y && q y) (x ∷ xs)
+  by_test true true e f rest = ap (λ a. filter q (cond a (x ∷ filter p xs) (filter p xs))) e ∙ ap (λ b. cond b (x ∷ filter q (filter p xs)) (filter q (filter p xs))) f ∙ ap (λ ys. x ∷ ys) rest ∙ (λ i. cond (sym e i && sym f i) (x ∷ filter (λ y. p y && q y) xs) (filter (λ y. p y && q y) xs))
+  by_test true false e f rest = ap (λ a. filter q (cond a (x ∷ filter p xs) (filter p xs))) e ∙ ap (λ b. cond b (x ∷ filter q (filter p xs)) (filter q (filter p xs))) f ∙ rest ∙ (λ i. cond (sym e i && sym f i) (x ∷ filter (λ y. p y && q y) xs) (filter (λ y. p y && q y) xs))
+  by_test false b e f rest = ap (λ a. filter q (cond a (x ∷ filter p xs) (filter p xs))) e ∙ rest ∙ (λ i. cond (sym e i && q x) (x ∷ filter (λ y. p y && q y) xs) (filter (λ y. p y && q y) xs))
 
 pub all_flat : {X Y : Type 0} (P : Y → Type 0) (f : X → List Y) (xs : List X) → All (λ x. All P (f x)) xs → All P (flat_map f xs)
 all_flat P f [] all = λ k d within. absurd (omega arith)
@@ -63,17 +61,17 @@ all_flat P f (x ∷ xs) all = all_append P (f x) (flat_map f xs) (all 0 x (omega
 -- a block that a filter finds, and what a search finds
 pub found_in : {X : Type 0} (q : X → Bool) (P : X → Type 0) (xs : List X) (x : X) → find q xs ≡ Some x → All P xs → P x × (q x ≡ true)
 found_in q P [] x e all = absurd (cc)
-found_in q P (y ∷ ys) x e all = by_test (q y) refl where
-  by_test : (b : Bool) → q y ≡ b → P x × (q x ≡ true)
-  by_test true t = let s : y ≡ x = (let h : Some y ≡ Some x = subst (λ b. cond b (Some y) (find q ys) ≡ Some x) t e in cc) in subst (λ z. P z × (q z ≡ true)) s (all 0 y (omega arith), t)
-  by_test false t = found_in q P ys x (subst (λ b. cond b (Some y) (find q ys) ≡ Some x) t e) (λ k d within. all (suc k) d (omega arith))
+found_in q P (y ∷ ys) x e all = by_test (q y) refl (λ g. found_in q P ys x g (λ k d within. all (suc k) d (omega arith))) where
+  by_test : (b : Bool) → q y ≡ b → (find q ys ≡ Some x → P x × (q x ≡ true)) → P x × (q x ≡ true)
+  by_test true t rec = let s : y ≡ x = (let h : Some y ≡ Some x = subst (λ b. cond b (Some y) (find q ys) ≡ Some x) t e in cc) in subst (λ z. P z × (q z ≡ true)) s (all 0 y (omega arith), t)
+  by_test false t rec = rec (subst (λ b. cond b (Some y) (find q ys) ≡ Some x) t e)
 
 pub not_found : {X : Type 0} (q : X → Bool) (xs : List X) → find q xs ≡ None → All (λ x. q x ≡ false) xs
 not_found q [] e = λ k d within. absurd (omega arith)
-not_found q (y ∷ ys) e = by_test (q y) refl where
-  by_test : (b : Bool) → q y ≡ b → All (λ x. q x ≡ false) (y ∷ ys)
-  by_test true t = let h : Some y ≡ None = subst (λ b. cond b (Some y) (find q ys) ≡ None) t e in absurd (cc)
-  by_test false t = All-cons (λ x. q x ≡ false) y ys t (not_found q ys (subst (λ b. cond b (Some y) (find q ys) ≡ None) t e))
+not_found q (y ∷ ys) e = by_test (q y) refl (not_found q ys) where
+  by_test : (b : Bool) → q y ≡ b → (find q ys ≡ None → All (λ x. q x ≡ false) ys) → All (λ x. q x ≡ false) (y ∷ ys)
+  by_test true t rec = let h : Some y ≡ None = subst (λ b. cond b (Some y) (find q ys) ≡ None) t e in absurd (cc)
+  by_test false t rec = All-cons (λ x. q x ≡ false) y ys t (rec (subst (λ b. cond b (Some y) (find q ys) ≡ None) t e))
 
 pub finds : {X : Type 0} (q : X → Bool) (xs : List X) (d : X) (j : ℕ) → j < length xs → ((k : ℕ) → k < j → q (get_or xs k d) ≡ false) → q (get_or xs j d) ≡ true → find q xs ≡ Some (get_or xs j d)
 finds q [] d j within before here = absurd (omega arith)
@@ -109,16 +107,17 @@ strings_some (list none) h = absurd (h refl)
 strings_some (list (more (leaf token) values)) h = omega arith
 strings_some (list (more (list vs) values)) h = absurd (h refl)
 
+by_flag : (b : Bool) (ts : List Token) → (b ≡ true → 0 < length ts) → 0 < (if b then length (if b then ts else []) else 1)
+by_flag true ts h = h refl
+by_flag false ts h = omega arith
+
 module _ (text : List ℕ) where
-  labels_some : (block : BlockTree) (attributes : List AttributeTree) → states_rows text block attributes None → 0 < length (Rattle.net_build.specs.Blocks.leaves_of attributes)
+  labels_some : (block : BlockTree) (attributes : List AttributeTree) → states_rows text block attributes None → 0 < length (leaves_of attributes)
   unfolding states_rows label_rows
   labels_some block [] h = absurd (h tt)
-  labels_some block (a ∷ more) h = strings_some a.value h.0
+  labels_some block (a ∷ later) h = strings_some a.value h.0
 
   -- a node has states
   pub states_some : (names agents : List (List ℕ)) (block : BlockTree) → node_rows text names agents block None → 0 < states_of text block
   unfolding node_rows
-  states_some names agents block h = by_test (has_states block.kind) refl where
-    by_test : (b : Bool) → has_states block.kind ≡ b → 0 < states_of text block
-    by_test true e = rw e (rw e (labels_some block (named text (codes "states") block.attributes) (rw e at h.1.1.1.1.0)))
-    by_test false e = rw e (omega arith)
+  states_some names agents block h = by_flag (has_states block.kind) (leaves_of (named text (codes "states") block.attributes)) (λ e. labels_some block (named text (codes "states") block.attributes) (subst (λ b. only b (states_rows text block (named text (codes "states") block.attributes)) None) e h.1.1.0))

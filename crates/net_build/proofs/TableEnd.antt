@@ -107,7 +107,7 @@ draft_fits text scale rows states model.Chance tokens (Values ds) is all = absur
 draft_fits text scale rows states model.Decision tokens (Values ds) is all = absurd is
 
 draft_table : (scale rows states : ℕ) (kind : Kind) (numerals : List (List ℕ)) (draft : Draft) → IsDraftOf kind rows states numerals draft → FitsDraft scale draft → IsTableOf kind scale states numerals (finished scale draft)
-draft_table scale rows states model.Chance numerals (Cells cells) is fits = (is.0, (is.2.scaled, (is.1, (is.2.is, is.2.cells_are))))
+draft_table scale rows states model.Chance numerals (Cells cells) is fits = (is.0, is.2.scaled, is.1, is.2.is, is.2.cells_are)
 draft_table scale rows states model.Decision numerals (Cells cells) is fits = is
 draft_table scale rows states model.Utility numerals (Values ds) is fits = cells_found numerals ds.items scale is.0 fits.0
 draft_table scale rows states model.Chance numerals (Values ds) is fits = absurd is
@@ -123,10 +123,10 @@ all_small ds scale all k d within =
     subst (λ x. unsigned_abs x ≤ greatest_number) (sym (get_or-map (raised scale) ds k nought d near)) (raised_small (decimal_at ds k) scale (all k nought near))
 
 whole_rows : (rows states n : ℕ) → 0 < states → n ≡ rows * states → n / states ≡ rows
-whole_rows rows states n some e = sym (rows_are rows states (rows * states) n some refl e)
+whole_rows rows states n some e = sym (rows_are rows states n n some e refl)
 
 draft_limits : (scale rows states : ℕ) (kind : Kind) (numerals : List (List ℕ)) (draft : Draft) → 0 < states → (kind ≡ model.Utility → states ≡ 1) → IsDraftOf kind rows states numerals draft → FitsDraft scale draft → FitsTable kind rows states (finished scale draft)
-draft_limits scale rows states model.Chance numerals (Cells cells) some one is fits = (is.2.scaled.total, (is.2.is.common.positive, (is.2.is.small, subst (λ n. IsTable cells.items n states is.2.scaled.total) (whole_rows rows states (length is.0) some is.3) is.2.table)))
+draft_limits scale rows states model.Chance numerals (Cells cells) some one is fits = (is.2.scaled.total, is.2.is.common.positive, is.2.is.small, subst (λ n. IsTable cells.items n states is.2.scaled.total) (whole_rows rows states (length is.0) some is.3) is.2.table)
 draft_limits scale rows states model.Decision numerals (Cells cells) some one is fits = is
 draft_limits scale rows states model.Utility numerals (Values ds) some one is fits = (length-map ds.items (raised scale) ∙ is.1 ∙ ap (λ n. rows * n) (one refl) ∙ times_one rows, all_small ds.items scale fits.1) where
   times_one : (n : ℕ) → n * 1 ≡ n
@@ -201,7 +201,7 @@ module _ (text : List ℕ) (blocks : List BlockTree) (own : All (IsBlockOf text)
 
     -- the utilities' drafts fit the scale
     pub all_fit : All (FitsDraft scale) drafts
-    all_fit v d h = draft_fits text scale (row_count text blocks (block_at v)) (states_of text (block_at v)) (kind_of (block_at v).kind) (numbers_of text blocks (block_at v)) (get_or drafts v d) (draft_here v (get_or drafts v d) (near_of v h) (are.each v d h)) (λ kind. values_at _ v scaled_all (near_of v h) kind)
+    all_fit v d h = draft_fits text scale (row_count text blocks (block_at v)) (states_of text (block_at v)) (kind_of (block_at v).kind) (numbers_of text blocks (block_at v)) (get_or drafts v d) (draft_here v (get_or drafts v d) (near_of v h) (are.each v d h)) (λ kind. values_at (λ t. IsWholeBy scale (token_bytes text t) × (IsWideValue scale (token_bytes text t) → ⊥)) v scaled_all (near_of v h) kind)
 
     finished_at : (v : ℕ) (d : Draft) → v < length drafts → get_or (map (finished scale) drafts) v [] ≡ finished scale (get_or drafts v d)
     finished_at v d h = get_or-map (finished scale) drafts v d [] h

@@ -23,9 +23,10 @@ use Rattle.net_build.specs.declared.nodes.Head.{Head}
 use Rattle.net_build.specs.Blocks.{is_node, is_potential, is_number, node_blocks, potentials, kind_of, has_table, states_of, name_of, names_of, place_of, potential_of, parent_lists, data_of, leaves_of, word_of, named}
 use Rattle.net_build.specs.Passes.{Pass, each}
 use Rattle.net_build.specs.Stages.{AreLinks, NodeLists, head_of, head_at, node_lists, link_lists, no_head}
-use Rattle.net_build.specs.Table.{node_rows, node_pass, potential_rows, potential_pass, missing_row, missing_pass, length_row, no_block, utility_numbers, kind_named}
+use Rattle.net_build.specs.Table.{name_rows, node_rows, node_pass, potential_rows, potential_pass, missing_row, missing_pass, length_row, no_block, utility_numbers, kind_named}
 use Rattle.net_build.specs.TableParts.{CanRead, kind_in, has_values, values_in, potential_at}
 use Rattle.net_build.proofs.BlockLemmas.{each_after_at, each_filter_at, all_filter, filter_filter, all_flat, found_in, not_found, finds, take_at, contains_map, place_at, place_here, states_some}
+use Rattle.net_build.proofs.PlaceLemmas.{bytes_same}
 use Rattle.net_build.proofs.TablePasses.{head_here, potential_here, nodes_are}
 
 if_some_by : {X : Type 0} (Q : X → Type 0) (o : Option X) → ((x : X) → o ≡ Some x → Q x) → IfSome o Q
@@ -38,15 +39,15 @@ is_some_by (Some x) f = refl
 
 flat_all : {X Y : Type 0} (P : Y → Type 0) (f : X → List Y) (q : X → Bool) (xs : List X) → All P (flat_map f (filter q xs)) → All (λ x. q x ≡ true → All P (f x)) xs
 flat_all P f q [] all = λ k d within. absurd (omega arith)
-flat_all P f q (x ∷ xs) all = by_test (q x) refl where
+flat_all P f q (x ∷ xs) all = by_test (q x) refl (flat_all P f q xs) where
   left : {Y : Type 0} (Q : Y → Type 0) (ls rs : List Y) → All Q (ls ++ rs) → All Q ls
   left Q ls rs all k d h = subst Q (get_or_append_left ls rs d k h) (all k d (omega (arith, h, length-append ls rs)))
   right : {Y : Type 0} (Q : Y → Type 0) (ls rs : List Y) → All Q (ls ++ rs) → All Q rs
   right Q ls rs all k d h = subst Q (get_or-append-add ls rs k d) (all (length ls + k) d (omega (arith, h, length-append ls rs)))
-  by_test : (b : Bool) → q x ≡ b → All (λ y. q y ≡ true → All P (f y)) (x ∷ xs)
-  by_test true e = let here : All P (f x ++ flat_map f (filter q xs)) = subst (λ b. All P (flat_map f (cond b (x ∷ filter q xs) (filter q xs)))) e all in
-      All-cons (λ y. q y ≡ true → All P (f y)) x xs (λ t. left P (f x) (flat_map f (filter q xs)) here) (flat_all P f q xs (right P (f x) (flat_map f (filter q xs)) here))
-  by_test false e = All-cons (λ y. q y ≡ true → All P (f y)) x xs (λ t. absurd (false≢true (sym e ∙ t))) (flat_all P f q xs (subst (λ b. All P (flat_map f (cond b (x ∷ filter q xs) (filter q xs)))) e all))
+  by_test : (b : Bool) → q x ≡ b → (All P (flat_map f (filter q xs)) → All (λ y. q y ≡ true → All P (f y)) xs) → All (λ y. q y ≡ true → All P (f y)) (x ∷ xs)
+  by_test true e rec = let here : All P (f x ++ flat_map f (filter q xs)) = subst (λ b. All P (flat_map f (cond b (x ∷ filter q xs) (filter q xs)))) e all in
+      All-cons (λ y. q y ≡ true → All P (f y)) x xs (λ t. left P (f x) (flat_map f (filter q xs)) here) (rec (right P (f x) (flat_map f (filter q xs)) here))
+  by_test false e rec = All-cons (λ y. q y ≡ true → All P (f y)) x xs (λ t. absurd (false≢true (sym e ∙ t))) (rec (subst (λ b. All P (flat_map f (cond b (x ∷ filter q xs) (filter q xs)))) e all))
 
 is_utility_true : (k : Kind) → is_utility k ≡ true → k ≡ model.Utility
 is_utility_true model.Chance e = absurd (false≢true e)
@@ -86,8 +87,8 @@ module _ (text : List ℕ) (blocks : List BlockTree) (own : All (IsBlockOf text)
   name_here v h = get_or-map (name_of text) nodes v no_block [] h
 
   names_differ : (k v : ℕ) → k < v → v < length nodes → name_of text (block_at k) ≡ name_of text (block_at v) → ⊥
-  unfolding node_rows
-  names_differ k v l h same = (node_at v h).1.1.0 (subst (Contains (names_of text (take v nodes))) same (contains_map (name_of text) (take v nodes) (block_at k) (take_at nodes no_block k v l h)))
+  unfolding node_rows name_rows
+  names_differ k v l h same = (node_at v h).0.1.1 (subst (Contains (names_of text (take v nodes))) same (contains_map (name_of text) (take v nodes) (block_at k) (take_at nodes no_block k v l h)))
 
   -- a node's name stands at its place
   node_place : (v : ℕ) → v < length nodes → place_of (names_of text nodes) (name_of text (block_at v)) ≡ v
@@ -110,7 +111,7 @@ module _ (text : List ℕ) (blocks : List BlockTree) (own : All (IsBlockOf text)
   -- each potential is that of its head
   potential_found : (j : ℕ) → j < length its → potential_of text blocks (name_of text (its_at j)) ≡ Some (its_at j)
   potential_found j h = finds (λ p. bytes_eq (name_of text p) (name_of text (its_at j))) its no_block j h
-      (λ k l. differ_test _ _ (potential_names_differ k j l h)) ((bytes_eq-Decides _ _).1 refl)
+      (λ k l. differ_test (name_of text (its_at k)) (name_of text (its_at j)) (potential_names_differ k j l h)) (bytes_same (name_of text (its_at j)) (name_of text (its_at j)) refl)
 
   kind_here : (v : ℕ) → v < length nodes → get_or (map (λ (h : Head). h.kind) (map (head_of text nodes) nodes)) v model.Chance ≡ kind_of (block_at v).kind
   kind_here v h = get_or-map (λ (g : Head). g.kind) (map (head_of text nodes) nodes) v no_head model.Chance (omega (arith, h, length-map nodes (head_of text nodes))) ∙ ap (λ (g : Head). g.kind) (head_here text blocks v h)

@@ -13,11 +13,11 @@ use Rattle.net_parser.specs.Owned.{leaves}
 use Rattle.net_build.specs.declared.nodes.Head.{Head}
 use Rattle.std.proofs.lemmas.Bool.{false≢true}
 use Rattle.net_build.proofs.BlockLemmas.{all_filter}
-use Rattle.net_build.specs.Blocks.{is_node, node_blocks, kind_of, has_table, states_of, state_counts, row_count, name_of, potential_of, parents_of, parent_lists, data_of}
-use Rattle.net_build.specs.Passes.{Pass, Found, found, clear, rule, always, only, ◌▸◌, each}
+use Rattle.net_build.specs.Blocks.{is_node, node_blocks, kind_of, has_table, states_of, state_counts, row_count, cell_count, title_at, name_of, potential_of, parents_of, parent_lists, data_of}
+use Rattle.net_build.specs.Passes.{Pass, Found, found, clear, rule, always, only, ◌▸◌, each, MissingTable}
 use Rattle.net_build.specs.Stages.{head_of, head_at, node_lists, link_lists, rows_at, no_head}
-use Rattle.net_build.specs.Table.{data_rows, weight_rows, table_rows, table_pass, table_nodes, no_block}
-use Rattle.net_build.specs.TableParts.{number_rows, weight_part, data_part, data_parts, table_part, draft_part, node_part, node_rows_at, drafts_pass, potential_at}
+use Rattle.net_build.specs.Table.{number_row, length_row, repeats, data_rows, weight_rows, table_rows, table_pass, table_nodes, no_block}
+use Rattle.net_build.specs.TableParts.{count_row, number_rows, weight_part, data_part, data_parts, table_part, draft_part, node_part, node_rows_at, drafts_pass, potential_at}
 use Rattle.net_build.proofs.Passing.{Leads, leads_all}
 
 leads_both : (P P' Q Q' : Pass) → Leads P P' → Leads Q Q' → Leads (P ▸ Q) (P' ▸ Q')
@@ -35,14 +35,14 @@ regrouped A B C D (Some f) (inr ((a, (b, c)), d)) = inr (a, inr (b, inr (c, d)))
 -- an item is tried where it counts
 each_only : {X : Type 0} (P : X → Pass) (q : X → Bool) (xs : List X) → Leads (each (λ x. only (q x) (P x)) xs) (each P (filter q xs))
 each_only P q [] = leads_all clear
-each_only P q (x ∷ xs) = by_test (q x) refl where
+each_only P q (x ∷ xs) = by_test (q x) refl (each_only P q xs) where
   skip : (Q : Pass) → Leads (clear ▸ Q) Q
   skip Q None h = h.1
   skip Q (Some f) (inl h) = absurd h
   skip Q (Some f) (inr h) = h.1
-  by_test : (b : Bool) → q x ≡ b → Leads (only (q x) (P x) ▸ each (λ y. only (q y) (P y)) xs) (each P (cond (q x) (x ∷ filter q xs) (filter q xs)))
-  by_test true e = rw e (leads_both (P x) (P x) (each (λ y. only (q y) (P y)) xs) (each P (filter q xs)) (leads_all (P x)) (each_only P q xs))
-  by_test false e = rw e (λ outcome h. each_only P q xs outcome (skip (each (λ y. only (q y) (P y)) xs) outcome h))
+  by_test : (b : Bool) → q x ≡ b → Leads (each (λ y. only (q y) (P y)) xs) (each P (filter q xs)) → Leads (only (q x) (P x) ▸ each (λ y. only (q y) (P y)) xs) (each P (cond (q x) (x ∷ filter q xs) (filter q xs)))
+  by_test true e rest = subst (λ b. Leads (only b (P x) ▸ each (λ y. only (q y) (P y)) xs) (each P (cond b (x ∷ filter q xs) (filter q xs)))) (sym e) (leads_both (P x) (P x) (each (λ y. only (q y) (P y)) xs) (each P (filter q xs)) (leads_all (P x)) rest)
+  by_test false e rest = subst (λ b. Leads (only b (P x) ▸ each (λ y. only (q y) (P y)) xs) (each P (cond b (x ∷ filter q xs) (filter q xs)))) (sym e) (λ outcome h. rest outcome (skip (each (λ y. only (q y) (P y)) xs) outcome h))
 
 -- items by their numbers
 by_number : {X : Type 0} (R : ℕ → Pass) (P : X → Pass) (xs : List X) (d : X) (a : ℕ) → ((v : ℕ) → v < length xs → Leads (R (a + v)) (P (get_or xs v d))) → Leads (each R (range_with_len a (length xs))) (each P xs)
@@ -96,12 +96,12 @@ module _ (text : List ℕ) (blocks : List BlockTree) where
 
   data_leads : (b potential : BlockTree) (attributes : List AttributeTree) → Leads (data_parts text (kind_of b.kind) (row_count text blocks b) (states_of text b) potential attributes) (data_rows text blocks b potential attributes)
   unfolding data_rows weight_rows
-  data_leads b potential [] = leads_all _
-  data_leads b potential (table ∷ more) = regrouped _ _ _ _
+  data_leads b potential [] = leads_all (always (found (title_at potential) MissingTable))
+  data_leads b potential (table ∷ more) = regrouped (each number_row (leaves table.value)) (count_row table.name.start (cell_count text blocks b) (length (leaves table.value))) (each (length_row text) (leaves table.value)) (only (is_chance (kind_of b.kind)) (weight_part text (states_of text b) (row_count text blocks b) table.name.start (leaves table.value)))
 
   table_leads : (b potential : BlockTree) → Leads (table_part text (kind_of b.kind) (row_count text blocks b) (states_of text b) potential) (table_rows text blocks b (Some potential))
   unfolding table_rows
-  table_leads b potential = leads_both _ _ _ _ (leads_all _) (data_leads b potential (data_of text potential))
+  table_leads b potential = leads_both (repeats text potential) (repeats text potential) (data_parts text (kind_of b.kind) (row_count text blocks b) (states_of text b) potential (data_of text potential)) (data_rows text blocks b potential (data_of text potential)) (leads_all (repeats text potential)) (data_leads b potential (data_of text potential))
 
   draft_leads : (b : BlockTree) (potential : Option BlockTree) → Leads (draft_part text (kind_of b.kind) (row_count text blocks b) (states_of text b) potential) (table_rows text blocks b potential)
   unfolding table_rows
