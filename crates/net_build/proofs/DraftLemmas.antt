@@ -22,6 +22,7 @@ pub same_count : (a b : ℕ) → (a ≢ b → ⊥) → a ≡ b
 same_count a b h = by_order (order a b) where
   order : (x y : ℕ) → (x ≡ y) ⊎ (x ≢ y)
   order x y = grind arith
+
   by_order : (a ≡ b) ⊎ (a ≢ b) → a ≡ b
   by_order (inl e) = e
   by_order (inr n) = absurd (h n)
@@ -33,11 +34,14 @@ module _ (text : List ℕ) (kind : Kind) (rows states at : ℕ) (table : Attribu
   pub chance_refused : (tokens : List Token) (fault : BuildFault) → tokens ≡ leaves table.value → Refuses (weight_part text states rows at tokens) fault → Refuses (data_part text kind rows states table) fault
   chance_refused tokens fault same h = refused_later (number_rows text (rows * states) table) (only (is_chance kind) (weight_part text states rows table.name.start (leaves table.value))) fault numbers
       (subst (λ (k : Kind). Refuses (only (is_chance k) (weight_part text states rows table.name.start (leaves table.value))) fault) (sym is)
-          (subst (λ n. Refuses (weight_part text states rows n (leaves table.value)) fault) place (subst (λ ts. Refuses (weight_part text states rows at ts) fault) same h)))
+      (subst (λ n. Refuses (weight_part text states rows n (leaves table.value)) fault) place (subst (λ ts. Refuses (weight_part text states rows at ts) fault) same h)))
 
   pub chance_clear : (tokens : List Token) → tokens ≡ leaves table.value → weight_part text states rows at tokens None → data_part text kind rows states table None
-  chance_clear tokens same h = (numbers, subst (λ (k : Kind). only (is_chance k) (weight_part text states rows table.name.start (leaves table.value)) None) (sym is)
-      (subst (λ n. weight_part text states rows n (leaves table.value) None) place (subst (λ ts. weight_part text states rows at ts None) same h)))
+  chance_clear tokens same h = (
+    numbers,
+    subst (λ (k : Kind). only (is_chance k) (weight_part text states rows table.name.start (leaves table.value)) None) (sym is)
+        (subst (λ n. weight_part text states rows n (leaves table.value) None) place (subst (λ ts. weight_part text states rows at ts None) same h)),
+  )
 
 -- what stands at a place of lists and of potentials as contracts see them
 pub list_at : (xs : List (Vec ℕ)) (ys : List (List ℕ)) (i : ℕ) (x : Vec ℕ) (items : List ℕ) → map (λ (v : Vec ℕ). v.items) xs ≡ ys → i < length ys → x ≡ get_or xs i x → items ≡ x.items → items ≡ get_or ys i []

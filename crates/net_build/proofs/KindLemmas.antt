@@ -32,6 +32,7 @@ place_within : (names : List (List ℕ)) (name : List ℕ) → Contains names na
 place_within names name (k, within, here) = by_order (order (place_of names name) (length names)) where
   found : bytes_eq (get_or names k []) name ≡ true
   found = bytes_same (get_or names k []) name (get_or_default names k [] name within ∙ here)
+
   by_order : (place_of names name < length names) ⊎ (length names ≤ place_of names name) → place_of names name < length names
   by_order (inl h) = h
   by_order (inr h) = absurd (false≢true (sym (ap not found) ∙ prefix_len_passes (λ other. not (bytes_eq other name)) names k [] (omega (arith, within, h))))

@@ -32,6 +32,7 @@ pub items_more : {X : Type 0} (P : ℕ → X → Type 0) (xs new : List X) (x : 
 items_more P xs new x n len all this is v d h = rw is (by_place (split v n h)) where
   split : (a b : ℕ) → a < b + 1 → (a < b) ⊎ (a ≡ b)
   split a b l = grind arith
+
   by_place : (v < n) ⊎ (v ≡ n) → P v (get_or (xs ++ x ∷ []) v d)
   by_place (inl l) = rw (get_or-append xs (x ∷ []) d v (omega (arith, len, l))) (all v d l)
   by_place (inr e) = rw (e, ← len, get_or-append_seam xs x [] d) (rw len this)

@@ -38,6 +38,7 @@ rows_fit heads parents rows i known states small within invariant = fits_by _ (b
   where
     default : get_or heads (get_or parents i 0) no_head ≡ get_or heads (get_or parents i 0) zero_head
     default = get_or_default heads (get_or parents i 0) no_head zero_head (known i 0 within)
+
     parts : rows * ((get_or heads (get_or parents i 0) zero_head).states * rows_under (states_in heads) (drop (i + 1) parents)) ≡ rows_under (states_in heads) parents
     parts = ap (λ (h : Head). rows * (h.states * rows_under (states_in heads) (drop (i + 1) parents))) (sym default) ∙ ap (λ us. rows * rows_under (states_in heads) us) (sym (drop_more parents i 0 within)) ∙ invariant
 

@@ -78,6 +78,7 @@ smaller_by : (x m den num p r : ℕ) → 0 < den → 0 < r → x * den ≡ num *
 smaller_by x m den num p r some more e f = by_order (order x m) where
   order : (a b : ℕ) → (a ≤ b) ⊎ (b < a)
   order a b = grind arith
+
   by_order : (x ≤ m) ⊎ (m < x) → x ≤ m
   by_order (inl h) = h
   by_order (inr h) = absurd (omega (arith, mul-le-mul_right {m = suc m} {n = x} den h, mul-le-mul_left {m = 1} {n = r} (x * den) more, ap (λ y. y * r) e, f))
@@ -109,10 +110,13 @@ pub scale_found : (text : List ℕ) (tokens : List Token) (ds : List Decimal) (s
 scale_found text tokens ds scale are most reached = (whole, least) where
   len : length ds ≡ length tokens
   len = are.len ∙ length-map tokens (token_bytes text)
+
   whole : All (λ t. IsWholeBy scale (token_bytes text t)) tokens
   whole i t h = (raised scale (decimal_at ds i), raised_is (token_bytes text (get_or tokens i t)) (decimal_at ds i) scale (decimal_of text tokens ds i t are h) (most i nought (omega (arith, len))))
+
   at : (k : ℕ) → k < scale → (i : ℕ) × (i < length ds) × ((decimal_at ds i).k ≡ scale) → All (λ t. IsWholeBy k (token_bytes text t)) tokens → ⊥
   at k h (i, within, is) all = not_whole (token_bytes text (get_or tokens i no_token)) (decimal_at ds i) k (decimal_of text tokens ds i no_token are (omega (arith, len))) (omega (arith, is)) (all i no_token (omega (arith, len)))
+
   least : (k : ℕ) → k < scale → All (λ t. IsWholeBy k (token_bytes text t)) tokens → ⊥
   least k h = at k h (reached (omega arith))
 

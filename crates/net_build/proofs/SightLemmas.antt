@@ -42,6 +42,7 @@ first_sights_more [] x = refl
 first_sights_more (y ∷ xs) x = ap (λ s. y ∷ others y s) (first_sights_more xs x) ∙ by_tests (bytes_eq y x) refl (has (first_sights xs) x) refl where
   seen : List (List ℕ)
   seen = first_sights xs
+
   by_tests : (b : Bool) → bytes_eq y x ≡ b → (t : Bool) → has (first_sights xs) x ≡ t → (y ∷ others y (with_sight (first_sights xs) x)) ≡ with_sight (y ∷ others y (first_sights xs)) x
   by_tests true e true s =
       ap (λ t. y ∷ others y (if t then first_sights xs else first_sights xs ++ x ∷ [])) s
@@ -53,12 +54,12 @@ first_sights_more (y ∷ xs) x = ap (λ s. y ∷ others y s) (first_sights_more 
   by_tests false e true s =
       ap (λ t. y ∷ others y (if t then first_sights xs else first_sights xs ++ x ∷ [])) s
       ∙ sym (ap (λ b. if b || has (others y (first_sights xs)) x then y ∷ others y (first_sights xs) else (y ∷ others y (first_sights xs)) ++ x ∷ []) e
-        ∙ ap (λ b. if b then y ∷ others y (first_sights xs) else (y ∷ others y (first_sights xs)) ++ x ∷ []) (has_others y x (first_sights xs) e ∙ s))
+      ∙ ap (λ b. if b then y ∷ others y (first_sights xs) else (y ∷ others y (first_sights xs)) ++ x ∷ []) (has_others y x (first_sights xs) e ∙ s))
   by_tests false e false s =
       ap (λ t. y ∷ others y (if t then first_sights xs else first_sights xs ++ x ∷ [])) s
       ∙ ap (λ zs. y ∷ zs) (others_more y x (first_sights xs) false e)
       ∙ sym (ap (λ b. if b || has (others y (first_sights xs)) x then y ∷ others y (first_sights xs) else (y ∷ others y (first_sights xs)) ++ x ∷ []) e
-        ∙ ap (λ b. if b then y ∷ others y (first_sights xs) else (y ∷ others y (first_sights xs)) ++ x ∷ []) (has_others y x (first_sights xs) e ∙ s))
+      ∙ ap (λ b. if b then y ∷ others y (first_sights xs) else (y ∷ others y (first_sights xs)) ++ x ∷ []) (has_others y x (first_sights xs) e ∙ s))
 
 -- the agents of the decisions and utilities among nodes
 abbrev agents_among : List ℕ → List BlockTree → List (List ℕ)

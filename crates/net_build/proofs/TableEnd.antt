@@ -73,6 +73,7 @@ few_by : (text : List ℕ) (numeral : List ℕ) (d : Decimal) (scale : ℕ) → 
 few_by text numeral d scale is whole = by_order (order d.k scale) where
   order : (a b : ℕ) → (a ≤ b) ⊎ (b < a)
   order a b = grind arith
+
   by_order : (d.k ≤ scale) ⊎ (scale < d.k) → d.k ≤ scale
   by_order (inl h) = h
   by_order (inr h) = absurd (not_whole numeral d scale is h whole)
@@ -81,6 +82,7 @@ fits_by : (numeral : List ℕ) (d : Decimal) (scale : ℕ) → IsLeastDecimalOf 
 fits_by numeral d scale is few narrow = by_order (order (unsigned_abs d.m * 10 ^ (scale - d.k)) greatest_number) where
   order : (a b : ℕ) → (a ≤ b) ⊎ (b < a)
   order a b = grind arith
+
   by_order : (unsigned_abs d.m * 10 ^ (scale - d.k) ≤ greatest_number) ⊎ (greatest_number < unsigned_abs d.m * 10 ^ (scale - d.k)) → Fits scale d
   by_order (inl h) = h
   by_order (inr h) = absurd (narrow (unfit_wide numeral d scale is few (λ f. no_both _ _ f h))) where
@@ -92,10 +94,13 @@ values_fit text tokens ds scale are all = (λ k d h. subst (λ (e : Decimal). e.
   where
     near : (k : ℕ) → k < length ds → k < length tokens
     near k h = omega (arith, h, are.len, length-map tokens (token_bytes text))
+
     same : (k : ℕ) (d : Decimal) → k < length ds → decimal_at ds k ≡ get_or ds k d
     same k d h = get_or_default ds k nought d h
+
     its : (k : ℕ) → k < length tokens → IsLeastDecimalOf (numerator (token_bytes text (get_or tokens k no_token))) (denominator (token_bytes text (get_or tokens k no_token))) (decimal_at ds k)
     its k h = decimal_of text tokens ds k no_token are h
+
     few : (k : ℕ) → k < length tokens → (decimal_at ds k).k ≤ scale
     few k h = few_by text (token_bytes text (get_or tokens k no_token)) (decimal_at ds k) scale (its k h) (all k no_token h).0
 
@@ -139,6 +144,7 @@ one_state : (text : List ℕ) (b : BlockTree) → is_node b.kind ≡ true → ki
 one_state text b kept kind = by_kind b.kind refl where
   not_utility : (k : Kind) → (k ≡ model.Utility → ⊥) → kind_of b.kind ≡ k → ⊥
   not_utility k n e = n (sym e ∙ kind)
+
   by_kind : (k : BlockKind) → b.kind ≡ k → states_of text b ≡ 1
   by_kind Utility e = rw e refl
   by_kind Node e = absurd (not_utility model.Chance (λ h. cc) (ap kind_of e))
@@ -169,7 +175,7 @@ module _ (text : List ℕ) (blocks : List BlockTree) (own : All (IsBlockOf text)
   part_none : (v : ℕ) → drafts_pass text heads links None → v < length nodes → node_part text (kind_of (block_at v).kind) (row_count text blocks (block_at v)) (states_of text (block_at v)) (potential_of text blocks (name_of text (block_at v))) None
   part_none v h near = subst (λ (P : Pass). P None) (part_here text blocks v near)
       (subst (λ n. node_rows_at text heads links n None) (get_or-range_with_len 0 (length heads) v 0 (omega (arith, near, heads_len)) ∙ plain v)
-          (each_at (node_rows_at text heads links) (range_with_len 0 (length heads)) v 0 h (omega (arith, near, heads_len, length-range_with_len 0 (length heads)))))
+      (each_at (node_rows_at text heads links) (range_with_len 0 (length heads)) v 0 h (omega (arith, near, heads_len, length-range_with_len 0 (length heads)))))
     where
       plain : (n : ℕ) → 0 + n ≡ n
       plain n = omega arith
@@ -180,7 +186,7 @@ module _ (text : List ℕ) (blocks : List BlockTree) (own : All (IsBlockOf text)
       let found = found_in (λ b. bytes_eq (name_of text b) (name_of text (block_at v))) (IsBlockOf text) (potentials blocks) p is (λ k d w. (all_filter (IsBlockOf text) (λ b. is_potential b.kind) blocks own k d w).0) in
       let part : node_part text model.Utility (row_count text blocks (block_at v)) (states_of text (block_at v)) (Some p) None = subst (λ o. node_part text model.Utility (row_count text blocks (block_at v)) (states_of text (block_at v)) o None) is (subst (λ (k : Kind). node_part text k (row_count text blocks (block_at v)) (states_of text (block_at v)) (potential_of text blocks (name_of text (block_at v))) None) kind (part_none v h near)) in
       read_numbers_of text model.Utility (row_count text blocks (block_at v)) (states_of text (block_at v)) p (data_of text p)
-          (own_values text (data_of text p) (λ k d w. (all_filter (IsAttributeOf text) (λ a. bytes_eq (word_of text a) (codes "data")) p.attributes found.0.attributes k d w).0)) part.1)
+      (own_values text (data_of text p) (λ k d w. (all_filter (IsAttributeOf text) (λ a. bytes_eq (word_of text a) (codes "data")) p.attributes found.0.attributes k d w).0)) part.1)
 
   -- a draft by its block
   draft_here : (v : ℕ) (draft : Draft) → v < length nodes → IsDraftAt text heads links v draft → IsDraftOf (kind_of (block_at v).kind) (row_count text blocks (block_at v)) (states_of text (block_at v)) (map (token_bytes text) (numbers_of text blocks (block_at v))) draft
@@ -212,7 +218,7 @@ module _ (text : List ℕ) (blocks : List BlockTree) (own : All (IsBlockOf text)
       len = length-map drafts (finished scale) ∙ are.len ∙ heads_len;
       each = λ v h. let near : v < length drafts = omega (arith, h, length-map drafts (finished scale)) in
           subst (IsTableOf (kind_of (block_at v).kind) scale (states_of text (block_at v)) (map (token_bytes text) (numbers_of text blocks (block_at v)))) (sym (finished_at v (item_of drafts v near) near))
-              (draft_table scale (row_count text blocks (block_at v)) (states_of text (block_at v)) (kind_of (block_at v).kind) (map (token_bytes text) (numbers_of text blocks (block_at v))) (get_or drafts v (item_of drafts v near)) (draft_here v (get_or drafts v (item_of drafts v near)) (near_of v near) (are.each v (item_of drafts v near) near)) (all_fit v (item_of drafts v near) near));
+          (draft_table scale (row_count text blocks (block_at v)) (states_of text (block_at v)) (kind_of (block_at v).kind) (map (token_bytes text) (numbers_of text blocks (block_at v))) (get_or drafts v (item_of drafts v near)) (draft_here v (get_or drafts v (item_of drafts v near)) (near_of v near) (are.each v (item_of drafts v near) near)) (all_fit v (item_of drafts v near) near));
     }
 
     pub tables_fit : CanRead text heads links → TablesFit heads (parent_lists text blocks) (map (finished scale) drafts)
@@ -220,9 +226,9 @@ module _ (text : List ℕ) (blocks : List BlockTree) (own : All (IsBlockOf text)
         let near : v < length drafts = omega (arith, h, are.len) in
         let its : v < length nodes = omega (arith, h, heads_len) in
         subst (FitsTable (head_at heads v).kind (rows_at heads (parent_lists text blocks) v) (head_at heads v).states) (sym (finished_at v (item_of drafts v near) near))
-            (draft_limits scale (rows_at heads (parent_lists text blocks) v) (head_at heads v).states (head_at heads v).kind (numerals_in text (potential_at links v)) (get_or drafts v (item_of drafts v near)) (read.states v no_head h)
-                (λ kind. ap (λ (g : Head). g.states) (head_here text blocks v its) ∙ one_state text (block_at v) (nodes_are text blocks v its) (sym (ap (λ (g : Head). g.kind) (head_here text blocks v its)) ∙ kind))
-                (are.each v (item_of drafts v near) near) (all_fit v (item_of drafts v near) near))
+        (draft_limits scale (rows_at heads (parent_lists text blocks) v) (head_at heads v).states (head_at heads v).kind (numerals_in text (potential_at links v)) (get_or drafts v (item_of drafts v near)) (read.states v no_head h)
+        (λ kind. ap (λ (g : Head). g.states) (head_here text blocks v its) ∙ one_state text (block_at v) (nodes_are text blocks v its) (sym (ap (λ (g : Head). g.kind) (head_here text blocks v its)) ∙ kind))
+        (are.each v (item_of drafts v near) near) (all_fit v (item_of drafts v near) near))
 
 -- the same, of the nodes and links as the callers have them
 module _ (text : List ℕ) (blocks : List BlockTree) (own : All (IsBlockOf text) blocks) (node_rows_none : node_pass text blocks None) (potential_rows_none : potential_pass text blocks None) (missing_none : missing_pass text blocks None) where

@@ -42,8 +42,10 @@ flat_all P f q [] all = λ k d within. absurd (omega arith)
 flat_all P f q (x ∷ xs) all = by_test (q x) refl (flat_all P f q xs) where
   left : {Y : Type 0} (Q : Y → Type 0) (ls rs : List Y) → All Q (ls ++ rs) → All Q ls
   left Q ls rs all k d h = subst Q (get_or_append_left ls rs d k h) (all k d (omega (arith, h, length-append ls rs)))
+
   right : {Y : Type 0} (Q : Y → Type 0) (ls rs : List Y) → All Q (ls ++ rs) → All Q rs
   right Q ls rs all k d h = subst Q (get_or-append-add ls rs k d) (all (length ls + k) d (omega (arith, h, length-append ls rs)))
+
   by_test : (b : Bool) → q x ≡ b → (All P (flat_map f (filter q xs)) → All (λ y. q y ≡ true → All P (f y)) xs) → All (λ y. q y ≡ true → All P (f y)) (x ∷ xs)
   by_test true e rec = let here : All P (f x ++ flat_map f (filter q xs)) = subst (λ b. All P (flat_map f (cond b (x ∷ filter q xs) (filter q xs)))) e all in
       All-cons (λ y. q y ≡ true → All P (f y)) x xs (λ t. left P (f x) (flat_map f (filter q xs)) here) (rec (right P (f x) (flat_map f (filter q xs)) here))
@@ -125,13 +127,14 @@ module _ (text : List ℕ) (blocks : List BlockTree) (own : All (IsBlockOf text)
   value_of_node P v p all h kind is =
       let f : BlockTree → List Token = λ b. leaves_of (data_of text b) in
       let found = found_in (λ b. bytes_eq (name_of text b) (name_of text (block_at v))) (λ b. (has_values text listed b ≡ true → All P (leaves_of (data_of text b))) × (is_potential b.kind ≡ true)) its p is
-          (all_filter (λ b. has_values text listed b ≡ true → All P (leaves_of (data_of text b))) (λ b. is_potential b.kind) blocks (flat_all P (λ b. leaves_of (data_of text b)) (has_values text listed) blocks all)) in
+      (all_filter (λ b. has_values text listed b ≡ true → All P (leaves_of (data_of text b))) (λ b. is_potential b.kind) blocks (flat_all P (λ b. leaves_of (data_of text b)) (has_values text listed) blocks all)) in
       found.0.0 (value_potential v p h kind found.0.1 ((bytes_eq-Decides _ _).0 found.1))
 
   within_kinds : (v : ℕ) → is_utility (get_or (map (λ (g : Head). g.kind) (map (head_of text nodes) nodes)) v model.Chance) ≡ true → v < length nodes
   within_kinds v e = by_order (order v (length nodes)) where
     order : (a b : ℕ) → (a < b) ⊎ (b ≤ a)
     order a b = grind arith
+
     by_order : (v < length nodes) ⊎ (length nodes ≤ v) → v < length nodes
     by_order (inl h) = h
     by_order (inr h) = absurd (false≢true (sym (ap is_utility (get_or-eq_default (map (λ (g : Head). g.kind) (map (head_of text nodes) nodes)) model.Chance {n = v} (omega (arith, h, length-map nodes (head_of text nodes), length-map (map (head_of text nodes) nodes) (λ (g : Head). g.kind))))) ∙ e))
@@ -145,6 +148,7 @@ module _ (text : List ℕ) (blocks : List BlockTree) (own : All (IsBlockOf text)
     where
       utility : BlockTree → Bool
       utility p = is_utility (kind_in listed (name_of text p))
+
       by_place : All (λ p. utility p ≡ true → All P (leaves_of (data_of text p))) its
       by_place j d h = subst (λ p. utility p ≡ true → All P (leaves_of (data_of text p))) (get_or_default its j no_block d h) (at (place_of (names_of text nodes) (name_of text (its_at j))) refl)
         where

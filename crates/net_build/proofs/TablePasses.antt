@@ -40,6 +40,7 @@ each_only P q (x ∷ xs) = by_test (q x) refl (each_only P q xs) where
   skip Q None h = h.1
   skip Q (Some f) (inl h) = absurd h
   skip Q (Some f) (inr h) = h.1
+
   by_test : (b : Bool) → q x ≡ b → Leads (each (λ y. only (q y) (P y)) xs) (each P (filter q xs)) → Leads (only (q x) (P x) ▸ each (λ y. only (q y) (P y)) xs) (each P (cond (q x) (x ∷ filter q xs) (filter q xs)))
   by_test true e rest = subst (λ b. Leads (only b (P x) ▸ each (λ y. only (q y) (P y)) xs) (each P (cond b (x ∷ filter q xs) (filter q xs)))) (sym e) (leads_both (P x) (P x) (each (λ y. only (q y) (P y)) xs) (each P (filter q xs)) (leads_all (P x)) rest)
   by_test false e rest = subst (λ b. Leads (only b (P x) ▸ each (λ y. only (q y) (P y)) xs) (each P (cond b (x ∷ filter q xs) (filter q xs)))) (sym e) (λ outcome h. rest outcome (skip (each (λ y. only (q y) (P y)) xs) outcome h))
@@ -53,6 +54,7 @@ by_number R P (x ∷ xs) d a h = leads_both (R a) (P x) (each R (range_with_len 
   where
     plain : (n : ℕ) → n + 0 ≡ n
     plain n = omega arith
+
     next : (n v : ℕ) → n + suc v ≡ (n + 1) + v
     next n v = omega arith
 
@@ -65,6 +67,14 @@ states_at : (text : List ℕ) (all nodes : List BlockTree) (u : ℕ) → (head_a
 states_at text all [] u = refl
 states_at text all (b ∷ bs) zero = refl
 states_at text all (b ∷ bs) (suc u) = states_at text all bs u
+
+-- a decision has no rows
+kind_leads : (text : List ℕ) (k : BlockKind) (rows states : ℕ) (potential : Option BlockTree) (R : Pass) → is_node k ≡ true → Leads (draft_part text (kind_of k) rows states potential) R → Leads (node_part text (kind_of k) rows states potential) (only (has_table k) R)
+kind_leads text Node rows states potential R kept lead = lead
+kind_leads text Utility rows states potential R kept lead = lead
+kind_leads text Decision rows states potential R kept lead = leads_all clear
+kind_leads text Net rows states potential R kept lead = absurd (false≢true kept)
+kind_leads text Potential rows states potential R kept lead = absurd (false≢true kept)
 
 module _ (text : List ℕ) (blocks : List BlockTree) where
   abbrev nodes : List BlockTree
@@ -112,13 +122,7 @@ module _ (text : List ℕ) (blocks : List BlockTree) where
   its_rows b = table_rows text blocks b (potential_of text blocks (name_of text b))
 
   own_leads : (b : BlockTree) → is_node b.kind ≡ true → Leads (own_part b) (only (has_table b.kind) (its_rows b))
-  own_leads b kept = by_kind b.kind refl where
-    by_kind : (k : BlockKind) → b.kind ≡ k → Leads (own_part b) (only (has_table b.kind) (its_rows b))
-    by_kind Node e = λ outcome h. rw e (draft_leads b (potential_of text blocks (name_of text b)) outcome (rw e (rw e at h)))
-    by_kind Utility e = λ outcome h. rw e (draft_leads b (potential_of text blocks (name_of text b)) outcome (rw e (rw e at h)))
-    by_kind Decision e = λ outcome h. rw e (rw e at h)
-    by_kind Net e = absurd (false≢true (sym (ap is_node e) ∙ kept))
-    by_kind Potential e = absurd (false≢true (sym (ap is_node e) ∙ kept))
+  own_leads b kept = kind_leads text b.kind (row_count text blocks b) (states_of text b) (potential_of text blocks (name_of text b)) (its_rows b) kept (draft_leads b (potential_of text blocks (name_of text b)))
 
   -- each is a node block
   pub nodes_are : (v : ℕ) → v < length nodes → is_node (block_at v).kind ≡ true
@@ -129,8 +133,8 @@ module _ (text : List ℕ) (blocks : List BlockTree) where
   unfolding table_pass
   drafts_lead outcome h = each_only its_rows (λ b. has_table b.kind) nodes outcome
       (by_number (node_rows_at text heads (link_lists text blocks)) (λ b. only (has_table b.kind) (its_rows b)) nodes no_block 0
-          (λ v within outcome here. own_leads (block_at v) (nodes_are v within) outcome (subst (λ (P : Pass). P outcome) (part_here v within) (subst (λ n. node_rows_at text heads (link_lists text blocks) n outcome) (plain v) here)))
-          outcome (subst (λ n. each (node_rows_at text heads (link_lists text blocks)) (range_with_len 0 n) outcome) (length-map nodes (head_of text nodes)) h))
+      (λ v within outcome here. own_leads (block_at v) (nodes_are v within) outcome (subst (λ (P : Pass). P outcome) (part_here v within) (subst (λ n. node_rows_at text heads (link_lists text blocks) n outcome) (plain v) here)))
+      outcome (subst (λ n. each (node_rows_at text heads (link_lists text blocks)) (range_with_len 0 n) outcome) (length-map nodes (head_of text nodes)) h))
     where
       plain : (n : ℕ) → 0 + n ≡ n
       plain n = omega arith

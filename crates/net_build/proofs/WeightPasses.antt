@@ -55,8 +55,8 @@ module _ (text : List ℕ) (states rows at : ℕ) (ts : List Token) (ds : List D
   signs_found place h =
       let within : place < length ts = omega (arith, same_len, h.within) in
       each_first (sign_row text) ts no_token place _ within
-          (λ k l below. not_below (decimal_at ds k).m (subst (λ x. pos 0 ≤ℤ x) (sign_at k (omega arith)) (h.first k l)) (negative_decimal (token_bytes text (get_or ts k no_token)) (decimal_at ds k) (decimal_of text ts ds k no_token are (omega arith)) below))
-          (negative_number (token_bytes text (get_or ts place no_token)) (decimal_at ds place) (decimal_of text ts ds place no_token are within) (subst (λ x. x <ℤ pos 0) (sign_at place within) h.negative), refl)
+      (λ k l below. not_below (decimal_at ds k).m (subst (λ x. pos 0 ≤ℤ x) (sign_at k (omega arith)) (h.first k l)) (negative_decimal (token_bytes text (get_or ts k no_token)) (decimal_at ds k) (decimal_of text ts ds k no_token are (omega arith)) below))
+      (negative_number (token_bytes text (get_or ts place no_token)) (decimal_at ds place) (decimal_of text ts ds place no_token are within) (subst (λ x. x <ℤ pos 0) (sign_at place within) h.negative), refl)
 
   row_here : (r : ℕ) → r < rows → get_or (rows_by states ts rows) r [] ≡ row_at states ts r
   row_here r h = get_or-map (λ n. row_at states ts n) (range_with_len 0 rows) r 0 [] (omega (arith, length-range_with_len 0 rows)) ∙ ap (λ n. row_at states ts n) (get_or-range_with_len 0 rows r 0 h ∙ plain r)
@@ -89,9 +89,9 @@ module _ (text : List ℕ) (states rows at : ℕ) (ts : List Token) (ds : List D
   totals_found row h =
       let within : row < rows = omega (arith, count, h.within) in
       each_first (total_row text) (rows_by states ts rows) [] row _ (omega (arith, rows_len))
-          (λ r l. total_none r (omega arith) (h.first r l))
-          (rw (row_here row within) (total_found text (row_at states ts row) (get_or ts (row * states) no_token) (row_some row within) (row_head row within)
-              (row_of_noughts text (row_at states ts row) (row_at states ds row) (written_row text states row ts ds (written text ts ds are)) h.zero_row)))
+      (λ r l. total_none r (omega arith) (h.first r l))
+      (rw (row_here row within) (total_found text (row_at states ts row) (get_or ts (row * states) no_token) (row_some row within) (row_head row within)
+      (row_of_noughts text (row_at states ts row) (row_at states ds row) (written_row text states row ts ds (written text ts ds are)) h.zero_row)))
 
   -- the scaling's faults are those of the rows
   pub weight_negative : (place : ℕ) (t : Token) (fault : BuildFault) → IsFirstNegative ds place → t ≡ get_or ts place t → fault ≡ Fault t.start kinds.Negative → Refuses (weight_part text states rows at ts) fault

@@ -15,7 +15,6 @@ impl<'a> Model for Links<'a> {
     ghost use Rattle.std.specs.Option.{option_map};
     ghost use Rattle.net_build.specs.Lists.{numbers_of_lists};
     ghost use Rattle.net_build.specs.Stages.{LinkLists};
-
     ghost use Rattle.net_build.specs.LinkCode.{link_code};
 
     ghost Value = { LinkLists };

@@ -80,11 +80,7 @@ fn kind_of(kind: BlockKind) -> Kind
 }
 
 // The name of a node behind those of these names.
-fn read_name<'a>(
-    text: &'a [u8],
-    block: &Block,
-    names: &[Vec<u8>],
-) -> Result<&'a [u8], BuildFault>
+fn read_name<'a>(text: &'a [u8], block: &Block, names: &[Vec<u8>]) -> Result<&'a [u8], BuildFault>
     requires own { IsBlockOf text.now block.now }
     requires named { 0 < length block.now.names }
     ensures rows { Passes (name_rows text.now (list_of names.now) block.now) result }

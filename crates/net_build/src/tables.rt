@@ -65,7 +65,13 @@ fn read_node(
     ensures draft { IfOk result (IsDraftAt text.now nodes.now.heads links.now node) }
 {
     let rows = row_count(&nodes.heads, &links.parents[node]);
-    read_draft(alloc, text, &nodes.heads[node], rows, links.potentials[node])
+    read_draft(
+        alloc,
+        text,
+        &nodes.heads[node],
+        rows,
+        links.potentials[node],
+    )
 }
 
 // The tables of all nodes, before the scale of utilities is known.

@@ -57,7 +57,7 @@ returns-clause-nodes c =
 
 pub loop-block-preserved : goal.loop-block-preserved
 loop-block-preserved c = elim c.if-is_node.branch [
-    then-is_node+in_ok-entry+in_ok-push+in_ok-push-2+in_ok-push-3 w ↦
+  | then-is_node+in_ok-entry+in_ok-push+in_ok-push-2+in_ok-push-3 w ↦
       let text = c.args.text.now in
       let blocks = c.args.blocks.now in
       let b = c.block-item.result in
@@ -71,8 +71,8 @@ loop-block-preserved c = elim c.if-is_node.branch [
         agents = rw w.agents-is (agents_up_to text blocks i b _ _ c.loop-block-test.true c.block-item.is kept c.loop-block.invariant.agents w.in_ok-entry.ensures.agents);
         heads = rw w.heads-is (front_more (head_of text (node_blocks blocks)) is_node_block blocks i b c.loop-block.heads.items _ w.in_ok-entry.entry.head c.loop-block-test.true c.block-item.is kept c.loop-block.invariant.heads w.in_ok-push-3.ensures.items
             (head_is w.in_ok-entry.entry.head (title_at b) (owner_of text (node_blocks blocks) b) (states_of text b) b w.in_ok-entry.ensures.at w.in_ok-entry.ensures.kind
-              (w.in_ok-entry.ensures.owner ∙ owner_up_to text blocks i b _ _ c.loop-block-test.true c.block-item.is kept c.loop-block.invariant.agents w.in_ok-entry.ensures.agents)
-              w.in_ok-entry.ensures.states));
+            (w.in_ok-entry.ensures.owner ∙ owner_up_to text blocks i b _ _ c.loop-block-test.true c.block-item.is kept c.loop-block.invariant.agents w.in_ok-entry.ensures.agents)
+            w.in_ok-entry.ensures.states));
       }
   | else-is_node w ↦
       let text = c.args.text.now in
@@ -86,4 +86,5 @@ loop-block-preserved c = elim c.if-is_node.branch [
         labels = rw w.labels-is (c.loop-block.invariant.labels ∙ ap (map (labels_of text)) front);
         agents = rw w.agents-is (c.loop-block.invariant.agents ∙ ap (agents_of text) front);
         heads = rw w.heads-is (c.loop-block.invariant.heads ∙ ap (map (head_of text (node_blocks blocks))) front);
-      } ]
+      }
+]

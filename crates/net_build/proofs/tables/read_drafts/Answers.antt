@@ -11,7 +11,7 @@ pub returns-in_err-read_node-clause-rows : goal.returns-in_err-read_node-clause-
 returns-in_err-read_node-clause-rows c =
     let near : c.loop-node.node < length c.args.nodes.now.heads = rw (← ap (λ (n : NodeLists). length n.heads) c.nodes.view_is) (omega (arith, c.loop-node-test.true, c.len-node-end.ensures)) in
     let h : Refuses (drafts_pass c.args.text.now c.args.nodes.now.heads c.args.links.now) c.in_err-read_node.field-0.0 =
-        number_refused (node_rows_at c.args.text.now c.args.nodes.now.heads c.args.links.now) (length c.args.nodes.now.heads) _ c.loop-node.node c.loop-node.invariant.lead c.in_err-read_node.field-0.0 near c.in_err-read_node.ensures.rows in
+    number_refused (node_rows_at c.args.text.now c.args.nodes.now.heads c.args.links.now) (length c.args.nodes.now.heads) _ c.loop-node.node c.loop-node.invariant.lead c.in_err-read_node.field-0.0 near c.in_err-read_node.ensures.rows in
     search rules
 
 pub loop-node-preserved : goal.loop-node-preserved

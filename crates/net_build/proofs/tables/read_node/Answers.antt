@@ -27,12 +27,12 @@ row_count-rows-requires-clause-small c =
 pub read_draft-requires-clause-own : goal.read_draft-requires-clause-own
 read_draft-requires-clause-own c = seen_some (λ p. p.now) (λ p. IsBlockOf c.args.text.now p × (is_potential p.kind ≡ true)) c.index-3.result.now
     (subst (λ (o : Option BlockTree). IfSome o (λ p. IsBlockOf c.args.text.now p × (is_potential p.kind ≡ true))) (sym (option_at (λ p. p.now) c.links.inside.potentials.items c.args.links.now.potentials c.args.node c.index-3.result.now (ap (λ (l : LinkLists). l.potentials) c.links.view_is) (omega (arith, c.requires.within, c.requires.read.potentials_len)) c.index-3.ensures))
-        (c.requires.read.own c.args.node c.requires.within))
+    (c.requires.read.own c.args.node c.requires.within))
 
 pub read_draft-requires-clause-there : goal.read_draft-requires-clause-there
 read_draft-requires-clause-there c = λ other. seen_is_some (λ p. p.now) c.index-3.result.now
     (subst IsSome (sym (option_at (λ p. p.now) c.links.inside.potentials.items c.args.links.now.potentials c.args.node c.index-3.result.now (ap (λ (l : LinkLists). l.potentials) c.links.view_is) (omega (arith, c.requires.within, c.requires.read.potentials_len)) c.index-3.ensures))
-        (c.requires.read.there c.args.node c.requires.within (not_decision c.args.text.now c.args.nodes.now.heads c.args.links.now c.requires.read c.args.node c.requires.within c.index-2.result.now (c.index-2.ensures ∙ ap (λ (n : NodeLists). get_or n.heads c.args.node c.index-2.result.now) c.nodes.view_is) other)))
+    (c.requires.read.there c.args.node c.requires.within (not_decision c.args.text.now c.args.nodes.now.heads c.args.links.now c.requires.read c.args.node c.requires.within c.index-2.result.now (c.index-2.ensures ∙ ap (λ (n : NodeLists). get_or n.heads c.args.node c.index-2.result.now) c.nodes.view_is) other)))
 
 pub read_draft-requires-clause-small : goal.read_draft-requires-clause-small
 read_draft-requires-clause-small c =
@@ -45,5 +45,5 @@ returns-clause-draft c =
     let heads : c.deref.result.now ≡ c.args.nodes.now.heads = c.deref.ensures.value ∙ ap (λ (n : NodeLists). n.heads) c.nodes.view_is in
     let parents : c.deref-2.result.now ≡ get_or c.args.links.now.parents c.args.node [] = list_at c.links.inside.parents.items c.args.links.now.parents c.args.node c.index.result.now c.deref-2.result.now (ap (λ (l : LinkLists). l.parents) c.links.view_is) (omega (arith, c.requires.within, c.requires.read.parents_len)) c.index.ensures c.deref-2.ensures.value in
     draft_at c.args.text.now c.args.nodes.now.heads c.args.links.now c.requires.read c.args.node c.requires.within c.read_draft.result c.row_count-rows.result c.deref-2.result.now c.index-2.result.now (option_map (λ p. p.now) c.index-3.result.now) (c.row_count-rows.ensures ∙ ap (λ (hs : List Head). rows_under (λ u. (head_at hs u).states) c.deref-2.result.now) heads) parents (c.index-2.ensures ∙ ap (λ (n : NodeLists). get_or n.heads c.args.node c.index-2.result.now) c.nodes.view_is)
-        (option_at (λ p. p.now) c.links.inside.potentials.items c.args.links.now.potentials c.args.node c.index-3.result.now (ap (λ (l : LinkLists). l.potentials) c.links.view_is) (omega (arith, c.requires.within, c.requires.read.potentials_len)) c.index-3.ensures)
-        c.read_draft.ensures.draft
+    (option_at (λ p. p.now) c.links.inside.potentials.items c.args.links.now.potentials c.args.node c.index-3.result.now (ap (λ (l : LinkLists). l.potentials) c.links.view_is) (omega (arith, c.requires.within, c.requires.read.potentials_len)) c.index-3.ensures)
+    c.read_draft.ensures.draft
