@@ -1,27 +1,20 @@
 -- What the passes over blocks say of nodes and potentials, where they find nothing.
-use Rattle.std.proofs.Common.{◌≡◌, ◌≢◌, ◌⊎◌, inl, inr, ◌<◌, ◌≤◌, ◌+◌, ◌*◌, ℕ, zero, suc, Bool, true, false, not, ◌&&◌, cond, List, [], ◌∷◌, ◌++◌, All, Contains, length, get_or, map, filter, take, Option, None, Some, IfSome, refl, sym, ap, subst, ◌∙◌, arith, append_assoc}
-use Rattle.std.specs.List.{flat_map, find, position_or_len}
-use Rattle.std.specs.Option.{is_some, option_map_or, IsSome}
+use Rattle.std.proofs.Common.{◌≡◌, ◌≢◌, ◌<◌, ℕ, zero, suc, Bool, true, false, not, ◌&&◌, cond, List, [], ◌∷◌, ◌++◌, All, Contains, length, get_or, map, filter, take, None, Some, refl, sym, ap, subst, ◌∙◌, arith, append_assoc}
+use Rattle.std.specs.List.{flat_map, find}
 use Rattle.std.specs.Str.{bytes_eq}
 use Rattle.std.specs.Prelude.{codes, if◌then◌else◌}
 use Rattle.std.proofs.lemmas.Bool.{false≢true}
-use Rattle.std.proofs.lemmas.List.{get_or-map, get_or_default, append-nil, length-map}
+use Rattle.std.proofs.lemmas.List.{get_or-map, append-nil, length-map}
 use Rattle.std.proofs.lemmas.List.Elements.{All-cons, All-append}
 use Rattle.std.proofs.lemmas.List.Sums.{prefix_len_stops}
 use Rattle.std.proofs.lemmas.Slice.Eq.{bytes_eq-Decides}
-use Rattle.maid_model.specs.declared.diagrams.Kind.{Kind}
-use Rattle.maid_model.specs.declared.diagrams.Kind.TheVariants as model
-use Rattle.maid_model.specs.Nodes.{is_utility, rows_under}
 use Rattle.net_lexer.specs.declared.tokens.Token.{Token}
-use Rattle.net_parser.specs.declared.trees.BlockKind.{BlockKind}
-use Rattle.net_parser.specs.declared.trees.BlockKind.TheVariants.{Net, Node, Decision, Utility, Potential}
-use Rattle.net_parser.specs.Trees.{ValueTree, ValueTrees, leaf, list, none, more, AttributeTree, BlockTree}
-use Rattle.net_parser.specs.Owned.{leaves, IsBlockOf}
-use Rattle.net_build.specs.Blocks.{is_node, leaves_of, is_potential, node_blocks, potentials, kind_of, has_states, has_table, is_string_list, named, states_of, name_of, names_of, place_of, potential_of}
-use Rattle.net_build.specs.Passes.{Pass, Found, each, each_after, only}
-use Rattle.net_build.specs.Places.{IsFirstPlace}
-use Rattle.net_build.specs.Table.{node_rows, node_pass, potential_rows, potential_pass, missing_row, missing_pass, states_rows, label_rows, table_nodes, no_block}
-use Rattle.net_build.proofs.PlaceLemmas.{first_place_is, bytes_same, bytes_differ}
+use Rattle.net_parser.specs.Trees.{ValueTree, leaf, list, none, more, AttributeTree, BlockTree}
+use Rattle.net_parser.specs.Owned.{leaves}
+use Rattle.net_build.specs.Blocks.{leaves_of, has_states, is_string_list, named, states_of, place_of}
+use Rattle.net_build.specs.Passes.{Pass, each, each_after, only}
+use Rattle.net_build.specs.Table.{node_rows, states_rows, label_rows}
+use Rattle.net_build.proofs.PlaceLemmas.{first_place_is}
 
 -- in lists
 pub each_after_at : {X : Type 0} (P : List X → X → Pass) (earlier xs : List X) (d : X) (v : ℕ) → each_after P earlier xs None → v < length xs → P (earlier ++ take v xs) (get_or xs v d) None

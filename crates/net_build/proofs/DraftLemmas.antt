@@ -1,5 +1,5 @@
 -- A table's rows from those of its parts.
-use Rattle.std.proofs.Common.{◌≡◌, ◌≢◌, ◌⊎◌, inl, inr, ◌<◌, ◌≤◌, ◌*◌, ℕ, Bool, true, false, List, [], ◌∷◌, All, length, get_or, map, filter, IfSome, Option, None, Some, Result, Ok, Err, refl, sym, ap, subst, ◌∙◌, arith}
+use Rattle.std.proofs.Common.{◌≡◌, ◌≢◌, ◌⊎◌, inl, inr, ◌<◌, ◌*◌, ℕ, List, [], length, get_or, map, IfSome, Option, None, Some, refl, sym, ap, subst, ◌∙◌, arith}
 use Rattle.std.proofs.Math.Nat.{dvd-mul_left}
 use Rattle.std.specs.Int.{◌∣◌}
 use Rattle.std.specs.Global.{Vec}
@@ -9,12 +9,11 @@ use Rattle.maid_model.specs.declared.diagrams.Kind.{Kind}
 use Rattle.maid_model.specs.declared.diagrams.Kind.TheVariants as model
 use Rattle.maid_model.specs.Nodes.{is_chance}
 use Rattle.net_lexer.specs.declared.tokens.Token.{Token}
-use Rattle.net_parser.specs.Trees.{AttributeTree, BlockTree}
+use Rattle.net_parser.specs.Trees.{AttributeTree}
 use Rattle.net_parser.specs.Owned.{leaves}
 use Rattle.net_build.specs.declared.faults.BuildFault.{BuildFault}
-use Rattle.net_build.specs.Passes.{Pass, Found, only, ◌▸◌, Refuses, Passes}
-use Rattle.net_build.specs.Blocks.{named, data_of}
-use Rattle.net_build.specs.TableParts.{number_rows, weight_part, data_part, data_parts}
+use Rattle.net_build.specs.Passes.{only, Refuses}
+use Rattle.net_build.specs.TableParts.{number_rows, weight_part, data_part}
 use Rattle.net_build.proofs.Passing.{refused_later}
 
 -- numbers that do not differ are the same

@@ -1,10 +1,10 @@
 -- How a loop tries each item in turn: what the items still to come find, the whole pass finds.
-use Rattle.std.proofs.Common.{◌≡◌, ℕ, zero, suc, ◌+◌, ◌<◌, ◌≤◌, Bool, true, false, inl, inr, List, [], ◌∷◌, length, get_or, drop, All, Option, None, Some, Result, Ok, Err, refl, sym, ◌∙◌, ap, arith}
+use Rattle.std.proofs.Common.{◌≡◌, ℕ, zero, suc, ◌+◌, ◌<◌, ◌≤◌, inl, inr, List, [], ◌∷◌, length, get_or, drop, All, None, Some, arith}
 use Rattle.std.proofs.lemmas.List.{drop_all, get_or_default}
 use Rattle.std.proofs.lemmas.List.Elements.{All-cons}
 use Rattle.net_build.specs.declared.faults.BuildFault.{BuildFault}
 use Rattle.net_build.specs.declared.faults.BuildFault.TheVariants.{Fault, NoMemory}
-use Rattle.net_build.specs.Passes.{Pass, Found, found, clear, ◌▸◌, each, Refuses, Passes}
+use Rattle.net_build.specs.Passes.{Pass, Found, ◌▸◌, each, Refuses}
 use Rattle.net_build.proofs.Passing.{Leads, leads_on, leads_end, leads_refused, refused_first, drop_item}
 
 -- what the items from place i on find

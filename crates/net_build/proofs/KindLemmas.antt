@@ -1,5 +1,5 @@
 -- The kind of the node of a name.
-use Rattle.std.proofs.Common.{◌≡◌, ◌⊎◌, inl, inr, ◌<◌, ◌≤◌, ℕ, Bool, true, false, not, List, [], Contains, length, get_or, map, refl, sym, ap, subst, ◌∙◌, arith}
+use Rattle.std.proofs.Common.{◌≡◌, ◌⊎◌, inl, inr, ◌<◌, ◌≤◌, ℕ, true, false, not, List, [], Contains, length, get_or, map, refl, sym, ap, subst, ◌∙◌, arith}
 use Rattle.std.specs.Global.{Vec}
 use Rattle.std.proofs.lemmas.List.{get_or-map, get_or_default, length-map}
 use Rattle.std.proofs.Math.ListN.{get_or-eq_default}
@@ -15,7 +15,7 @@ use denote.Enum.Bare.{sameb}
 use Rattle.net_build.specs.declared.nodes.Head.{Head}
 use Rattle.net_build.specs.Blocks.{place_of}
 use Rattle.net_build.specs.Lists.{list_of}
-use Rattle.net_build.specs.Stages.{NodeLists, no_head}
+use Rattle.net_build.specs.Stages.{NodeLists}
 use Rattle.net_build.specs.TableParts.{kind_in}
 use Rattle.net_build.proofs.BlockLemmas.{place_here}
 

@@ -1,11 +1,11 @@
 -- Nodes tried by their numbers, and their drafts.
-use Rattle.std.proofs.Common.{◌≡◌, ◌⊎◌, inl, inr, ℕ, ◌+◌, ◌<◌, ◌≤◌, List, [], ◌∷◌, ◌++◌, length, get_or, Option, None, Some, sym, ◌∙◌, ap, subst, arith, length-append}
+use Rattle.std.proofs.Common.{◌≡◌, ◌⊎◌, inl, inr, ℕ, ◌+◌, ◌<◌, ◌≤◌, List, [], ◌∷◌, ◌++◌, length, get_or, None, sym, ◌∙◌, subst, arith}
 use Rattle.std.specs.List.{range_with_len}
 use Rattle.std.proofs.Math.ListN.{get_or-append}
 use Rattle.std.proofs.Math.Seq.{get_or-append_seam}
 use Rattle.std.proofs.lemmas.List.FromFn.{length-range_with_len, get_or-range_with_len}
 use Rattle.net_build.specs.declared.faults.BuildFault.{BuildFault}
-use Rattle.net_build.specs.Passes.{Pass, each, Refuses}
+use Rattle.net_build.specs.Passes.{Pass, Refuses}
 use Rattle.net_build.proofs.Passing.{Leads}
 use Rattle.net_build.proofs.EachPassing.{EachFrom, each_step_at, each_refused_at, each_end}
 

@@ -1,8 +1,7 @@
 -- Counting the rows under parents, one parent after another.
-use Rattle.std.proofs.Common.{◌≡◌, ◌≢◌, ◌<◌, ◌≤◌, ◌+◌, ◌*◌, ℕ, zero, suc, List, [], ◌∷◌, All, Contains, length, get_or, drop, Fits, w64, Option, Result, refl, sym, ap, subst, ◌∙◌, arith, rules}
+use Rattle.std.proofs.Common.{◌≡◌, ◌≢◌, ◌<◌, ◌≤◌, ◌+◌, ◌*◌, ℕ, zero, suc, List, [], ◌∷◌, All, Contains, length, get_or, drop, Fits, w64, Option, Result, sym, ap, subst, ◌∙◌, arith, rules}
 use Rattle.std.proofs.Math.Nat.{mul-pos, mul-le-mul_left}
 use Rattle.std.proofs.lemmas.List.{drop_more, get_or_default}
-use Rattle.maid_model.specs.declared.diagrams.Kind.{Kind}
 use Rattle.maid_model.specs.declared.diagrams.Kind.TheVariants.{Chance, Decision}
 use Rattle.maid_model.specs.Nodes.{rows_under}
 use Rattle.net_build.specs.declared.nodes.Head.{Head}

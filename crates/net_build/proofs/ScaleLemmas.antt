@@ -1,5 +1,5 @@
 -- A numeral's value times a power of ten, by its decimal: when it is whole, and when it is too great.
-use Rattle.std.proofs.Common.{◌≡◌, ◌≢◌, ◌⊎◌, inl, inr, ◌<◌, ◌≤◌, ◌+◌, ◌-◌, ◌*◌, ◌^◌, ℕ, zero, suc, ℤ, pos, ◌*ℤ◌, unsigned_abs, Bool, true, false, cond, List, [], ◌∷◌, All, length, get_or, map, refl, sym, ap, subst, ◌∙◌, arith, Option, None, Some, Result, Ok, Err}
+use Rattle.std.proofs.Common.{◌≡◌, ◌⊎◌, inl, inr, ◌<◌, ◌≤◌, ◌+◌, ◌-◌, ◌*◌, ◌^◌, ℕ, zero, suc, ℤ, pos, ◌*ℤ◌, unsigned_abs, Bool, true, false, cond, List, [], All, length, get_or, map, refl, sym, ap, subst, ◌∙◌, arith, Option, None, Some}
 use Rattle.std.proofs.Math.Nat.{pow-le-pow_right, mul-pos, mul-le-mul_left, mul-le-mul_right}
 use Rattle.std.proofs.lemmas.Int.{ints, unsigned_abs-mul}
 use borrow.Author.Differences.{up, down, product_is}
@@ -9,12 +9,12 @@ use Rattle.maid_model.specs.Diagrams.{greatest_number}
 use Rattle.net_lexer.specs.Token.{token_bytes}
 use Rattle.net_lexer.specs.declared.tokens.Token.{Token}
 use Rattle.weight_scale.specs.declared.decimal.Decimal.{Decimal}
-use Rattle.weight_scale.specs.Numeral.{numerator, denominator, is_minus, exponent_of, exponent_size, decimal_digits, IsDecimalOf, IsLeastDecimalOf}
+use Rattle.weight_scale.specs.Numeral.{numerator, denominator, is_minus, exponent_of, exponent_size, decimal_digits, IsLeastDecimalOf}
 use Rattle.net_build.specs.Building.{AreUtilityCells}
 use Rattle.net_build.specs.Scaling.{AreDecimals, decimal_at, IsWholeBy, IsScaledBy}
 use Rattle.net_build.specs.Blocks.{no_token}
 use Rattle.net_build.specs.Table.{IsWideValue, wide_row, length_row}
-use Rattle.net_build.specs.Passes.{Pass, Found, each, Refuses, Passes}
+use Rattle.net_build.specs.Passes.{Pass, Found, each, Refuses}
 use Rattle.net_build.specs.declared.faults.BuildFault.{BuildFault}
 use Rattle.net_build.specs.declared.faults.BuildFault.TheVariants.{Fault, NoMemory}
 use Rattle.net_build.specs.declared.faults.BuildKind.TheVariants as kinds

@@ -1,9 +1,8 @@
 -- The utilities' numbers to their scale, and what the finished tables are.
-use Rattle.std.proofs.Common.{◌≡◌, ◌≢◌, ◌⊎◌, inl, inr, ◌<◌, ◌≤◌, ◌+◌, ◌-◌, ◌*◌, ◌/◌, ◌^◌, ℕ, zero, suc, ℤ, pos, ◌*ℤ◌, unsigned_abs, Bool, true, false, List, [], ◌∷◌, All, length, get_or, map, filter, Option, None, Some, IfSome, refl, sym, ap, subst, ◌∙◌, arith}
+use Rattle.std.proofs.Common.{◌≡◌, ◌⊎◌, inl, inr, ◌<◌, ◌≤◌, ◌+◌, ◌-◌, ◌*◌, ◌/◌, ◌^◌, ℕ, zero, suc, pos, unsigned_abs, true, List, [], ◌∷◌, All, length, get_or, map, Option, None, Some, refl, sym, ap, subst, ◌∙◌, arith}
 use Rattle.std.specs.List.{range_with_len}
-use Rattle.std.specs.Option.{IsSome, option_map_or}
-use Rattle.std.proofs.lemmas.Bool.{false≢true}
-use Rattle.std.proofs.lemmas.Int.{ints, unsigned_abs-mul}
+use Rattle.std.specs.Option.{option_map_or}
+use Rattle.std.proofs.lemmas.Int.{unsigned_abs-mul}
 use Rattle.std.proofs.lemmas.List.{get_or-map, get_or_default, length-map}
 use Rattle.std.proofs.lemmas.List.FromFn.{length-range_with_len, get_or-range_with_len}
 use Rattle.maid_model.specs.declared.diagrams.Kind.{Kind}
@@ -13,19 +12,19 @@ use Rattle.maid_model.specs.Tables.{IsTable}
 use Rattle.net_lexer.specs.Token.{IsTokenOf, token_bytes}
 use Rattle.net_lexer.specs.declared.tokens.Token.{Token}
 use Rattle.net_parser.specs.Trees.{AttributeTree, BlockTree}
-use Rattle.net_parser.specs.Owned.{leaves, IsBlockOf, IsAttributeOf, IsLeafOf}
+use Rattle.net_parser.specs.Owned.{leaves, IsBlockOf, IsAttributeOf}
 use Rattle.weight_scale.specs.declared.decimal.Decimal.{Decimal}
 use Rattle.weight_scale.specs.Numeral.{numerator, denominator, IsLeastDecimalOf}
 use Rattle.net_build.specs.declared.nodes.Head.{Head}
 use Rattle.net_build.specs.declared.drafts.Draft.{Draft}
 use Rattle.net_build.specs.declared.drafts.Draft.TheVariants.{Cells, Values}
 use Rattle.net_build.specs.Blocks.{no_token, is_node, is_potential, potentials, is_number, node_blocks, kind_of, states_of, row_count, name_of, potential_of, parent_lists, data_of, leaves_of, numbers_of, word_of}
-use Rattle.net_build.specs.Building.{AreTables, IsTableOf, AreChanceCells, AreUtilityCells}
+use Rattle.net_build.specs.Building.{AreTables, IsTableOf}
 use Rattle.net_build.specs.Passes.{Pass, each}
 use Rattle.net_build.specs.Scaling.{AreDecimals, decimal_at, IsWholeBy}
 use Rattle.net_build.specs.Stages.{AreLinks, NodeLists, LinkLists, TablesFit, FitsTable, head_of, head_at, node_lists, link_lists, no_head, rows_at}
-use Rattle.net_build.specs.Table.{number_row, length_row, wide_row, IsWideValue, node_pass, potential_pass, missing_pass, no_block}
-use Rattle.net_build.specs.TableParts.{AreDrafts, CanRead, FitsDraft, Fits, IsDraftOf, IsDraftAt, IsScaleOf, IsWeighed, data_parts, drafts_pass, finished, node_part, node_rows_at, number_rows, numerals_in, potential_at, raised, table_part, values_in}
+use Rattle.net_build.specs.Table.{length_row, wide_row, IsWideValue, node_pass, potential_pass, missing_pass, no_block}
+use Rattle.net_build.specs.TableParts.{AreDrafts, CanRead, FitsDraft, Fits, IsDraftOf, IsDraftAt, IsScaleOf, data_parts, drafts_pass, finished, node_part, node_rows_at, numerals_in, potential_at, raised, values_in}
 use Rattle.net_build.specs.Zero.{nought}
 use Rattle.net_build.proofs.BlockLemmas.{all_filter, found_in}
 use Rattle.net_build.proofs.WeightPasses.{rows_are}
@@ -33,7 +32,6 @@ use Rattle.std.specs.Str.{bytes_eq}
 use Rattle.std.specs.Prelude.{codes}
 use Rattle.net_parser.specs.declared.trees.BlockKind.{BlockKind}
 use Rattle.net_parser.specs.declared.trees.BlockKind.TheVariants.{Net, Node, Decision, Utility, Potential}
-use Rattle.net_build.proofs.EachPassing.{each_none}
 use Rattle.net_build.proofs.NumberLemmas.{all_numbers}
 use Rattle.net_build.proofs.ScaleLemmas.{decimal_of, cells_found, not_whole, unfit_wide}
 use Rattle.net_build.proofs.TableFacts.{value_of_node, values_of_nodes, can_read}

@@ -1,30 +1,27 @@
 -- Nodes and their potentials where the passes before the tables find nothing: what reading the tables needs, and which numbers are the utilities'.
-use Rattle.std.proofs.Common.{◌≡◌, ◌≢◌, ◌⊎◌, inl, inr, ◌<◌, ◌≤◌, ◌+◌, ◌*◌, ℕ, zero, suc, Bool, true, false, not, ◌&&◌, cond, List, [], ◌∷◌, ◌++◌, All, Contains, length, get_or, map, filter, take, Option, None, Some, IfSome, refl, sym, ap, subst, ◌∙◌, arith, length-append}
-use Rattle.std.specs.List.{flat_map, find, range_with_len}
+use Rattle.std.proofs.Common.{◌≡◌, ◌≢◌, ◌⊎◌, inl, inr, ◌<◌, ◌≤◌, ◌+◌, ℕ, Bool, true, false, ◌&&◌, cond, List, [], ◌∷◌, ◌++◌, All, Contains, length, get_or, map, filter, take, Option, None, Some, IfSome, refl, sym, ap, subst, ◌∙◌, arith, length-append}
+use Rattle.std.specs.List.{flat_map}
 use Rattle.std.specs.Option.{IsSome}
 use Rattle.std.specs.Str.{bytes_eq}
 use Rattle.std.proofs.lemmas.Bool.{false≢true}
 use Rattle.std.proofs.lemmas.List.{get_or-map, get_or_default, length-map, get_or_append_left, get_or-append-add}
 use Rattle.std.proofs.Math.ListN.{get_or-eq_default}
-use Rattle.std.proofs.lemmas.List.Elements.{All-cons, All-append}
-use Rattle.std.proofs.lemmas.List.FromFn.{length-range_with_len, get_or-range_with_len}
+use Rattle.std.proofs.lemmas.List.Elements.{All-cons}
 use Rattle.std.proofs.lemmas.Simd.{map-map}
 use Rattle.std.proofs.lemmas.Slice.Eq.{bytes_eq-Decides}
 use Rattle.maid_model.specs.declared.diagrams.Kind.{Kind}
 use Rattle.maid_model.specs.declared.diagrams.Kind.TheVariants as model
 use Rattle.maid_model.specs.Nodes.{is_utility}
-use Rattle.net_lexer.specs.Token.{IsTokenOf}
 use Rattle.net_lexer.specs.declared.tokens.Token.{Token}
 use Rattle.net_parser.specs.declared.trees.BlockKind.{BlockKind}
 use Rattle.net_parser.specs.declared.trees.BlockKind.TheVariants.{Net, Node, Decision, Utility, Potential}
-use Rattle.net_parser.specs.Trees.{AttributeTree, BlockTree}
-use Rattle.net_parser.specs.Owned.{leaves, IsBlockOf, IsAttributeOf}
+use Rattle.net_parser.specs.Trees.{BlockTree}
+use Rattle.net_parser.specs.Owned.{IsBlockOf}
 use Rattle.net_build.specs.declared.nodes.Head.{Head}
 use Rattle.net_build.specs.Blocks.{is_node, is_potential, is_number, node_blocks, potentials, kind_of, has_table, states_of, name_of, names_of, place_of, potential_of, parent_lists, data_of, leaves_of, word_of, named}
-use Rattle.net_build.specs.Passes.{Pass, each}
-use Rattle.net_build.specs.Stages.{AreLinks, NodeLists, head_of, head_at, node_lists, link_lists, no_head}
-use Rattle.net_build.specs.Table.{name_rows, node_rows, node_pass, potential_rows, potential_pass, missing_row, missing_pass, length_row, no_block, utility_numbers, kind_named}
-use Rattle.net_build.specs.TableParts.{CanRead, kind_in, has_values, values_in, potential_at}
+use Rattle.net_build.specs.Stages.{AreLinks, NodeLists, head_of, node_lists, link_lists, no_head}
+use Rattle.net_build.specs.Table.{name_rows, node_rows, node_pass, potential_rows, potential_pass, missing_row, missing_pass, no_block, utility_numbers}
+use Rattle.net_build.specs.TableParts.{CanRead, kind_in, has_values, values_in}
 use Rattle.net_build.proofs.BlockLemmas.{each_after_at, each_filter_at, all_filter, filter_filter, all_flat, found_in, not_found, finds, take_at, contains_map, place_at, place_here, states_some}
 use Rattle.net_build.proofs.PlaceLemmas.{bytes_same}
 use Rattle.net_build.proofs.TablePasses.{head_here, potential_here, nodes_are}

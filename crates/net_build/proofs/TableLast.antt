@@ -1,6 +1,6 @@
 -- The steps of reading the tables, of the nodes and links as the callers have them.
-use Rattle.std.proofs.Common.{◌≡◌, ◌≢◌, ◌<◌, ◌≤◌, ℕ, ℤ, List, All, length, map, true, Option, None, Some, inl, inr, refl, sym, ap, subst, ◌∙◌, arith}
-use Rattle.net_lexer.specs.Token.{IsTokenOf, token_bytes}
+use Rattle.std.proofs.Common.{◌≡◌, ℕ, ℤ, List, All, map, true, Option, None, Some, sym, ap, subst, ◌∙◌}
+use Rattle.net_lexer.specs.Token.{IsTokenOf}
 use Rattle.net_lexer.specs.declared.tokens.Token.{Token}
 use Rattle.net_parser.specs.Trees.{BlockTree}
 use Rattle.net_parser.specs.Owned.{IsBlockOf}
@@ -10,14 +10,14 @@ use Rattle.net_build.specs.declared.faults.BuildFault.TheVariants.{Fault, NoMemo
 use Rattle.net_build.specs.Blocks.{is_number, node_blocks}
 use Rattle.net_build.specs.Building.{AreTables}
 use Rattle.net_build.specs.Passes.{Pass, ◌▸◌, each, Refuses}
-use Rattle.net_build.specs.Stages.{AreLinks, NodeLists, LinkLists, TablesFit, node_lists, link_lists}
-use Rattle.net_build.specs.Table.{IsUtilityScale, length_row, wide_row, node_pass, potential_pass, missing_pass, table_pass, wide_pass, utility_numbers}
+use Rattle.net_build.specs.Stages.{NodeLists, LinkLists, TablesFit, node_lists, link_lists}
+use Rattle.net_build.specs.Table.{IsUtilityScale, length_row, wide_row, node_pass, potential_pass, table_pass, wide_pass, utility_numbers}
 use Rattle.net_build.specs.TableParts.{AreDrafts, CanRead, FitsDraft, IsScaleOf, scaled_pass, drafts_pass, finished, values_in}
 use Rattle.net_build.proofs.Passing.{leads_refused, refused_first, refused_later}
 use Rattle.net_build.proofs.EachPassing.{each_all}
 use Rattle.net_build.proofs.TablePasses.{drafts_lead}
 use Rattle.net_build.proofs.TableFacts.{values_are_numbers}
-use Rattle.net_build.proofs.TableEnd.{IsRead, values_read, all_fit, tables_are, tables_fit, can_read_them}
+use Rattle.net_build.proofs.TableEnd.{IsRead, values_read, all_fit, tables_are, tables_fit}
 
 pub all_own : (text : List ℕ) (tokens : List Token) → All (IsRead text) tokens → All (IsTokenOf text) tokens
 all_own text tokens all k d h = (all k d h).own

@@ -1,11 +1,8 @@
 -- The rows of the nodes, tried by their numbers, are those of the table of passes.
-use Rattle.std.proofs.Common.{◌≡◌, ◌≢◌, ◌⊎◌, inl, inr, ◌<◌, ◌≤◌, ◌+◌, ◌*◌, ℕ, zero, suc, Bool, true, false, cond, List, [], ◌∷◌, All, length, get_or, map, filter, Option, None, Some, refl, sym, ap, subst, ◌∙◌, arith}
+use Rattle.std.proofs.Common.{◌≡◌, inl, inr, ◌<◌, ◌+◌, ◌*◌, ℕ, zero, suc, Bool, true, false, cond, List, [], ◌∷◌, length, get_or, map, filter, Option, None, Some, refl, sym, ap, subst, ◌∙◌, arith}
 use Rattle.std.specs.List.{range_with_len}
 use Rattle.std.proofs.lemmas.List.{get_or-map, length-map}
-use Rattle.maid_model.specs.declared.diagrams.Kind.{Kind}
-use Rattle.maid_model.specs.declared.diagrams.Kind.TheVariants as model
 use Rattle.maid_model.specs.Nodes.{is_chance, rows_under}
-use Rattle.net_lexer.specs.declared.tokens.Token.{Token}
 use Rattle.net_parser.specs.declared.trees.BlockKind.{BlockKind}
 use Rattle.net_parser.specs.declared.trees.BlockKind.TheVariants.{Net, Node, Decision, Utility, Potential}
 use Rattle.net_parser.specs.Trees.{AttributeTree, BlockTree}
@@ -14,10 +11,10 @@ use Rattle.net_build.specs.declared.nodes.Head.{Head}
 use Rattle.std.proofs.lemmas.Bool.{false≢true}
 use Rattle.net_build.proofs.BlockLemmas.{all_filter}
 use Rattle.net_build.specs.Blocks.{is_node, node_blocks, kind_of, has_table, states_of, state_counts, row_count, cell_count, title_at, name_of, potential_of, parents_of, parent_lists, data_of}
-use Rattle.net_build.specs.Passes.{Pass, Found, found, clear, rule, always, only, ◌▸◌, each, MissingTable}
-use Rattle.net_build.specs.Stages.{head_of, head_at, node_lists, link_lists, rows_at, no_head}
-use Rattle.net_build.specs.Table.{number_row, length_row, repeats, data_rows, weight_rows, table_rows, table_pass, table_nodes, no_block}
-use Rattle.net_build.specs.TableParts.{count_row, number_rows, weight_part, data_part, data_parts, table_part, draft_part, node_part, node_rows_at, drafts_pass, potential_at}
+use Rattle.net_build.specs.Passes.{Pass, found, clear, always, only, ◌▸◌, each, MissingTable}
+use Rattle.net_build.specs.Stages.{head_of, head_at, link_lists, rows_at, no_head}
+use Rattle.net_build.specs.Table.{number_row, length_row, repeats, data_rows, weight_rows, table_rows, table_pass, no_block}
+use Rattle.net_build.specs.TableParts.{count_row, weight_part, data_parts, table_part, draft_part, node_part, node_rows_at, drafts_pass, potential_at}
 use Rattle.net_build.proofs.Passing.{Leads, leads_all}
 
 leads_both : (P P' Q Q' : Pass) → Leads P P' → Leads Q Q' → Leads (P ▸ Q) (P' ▸ Q')

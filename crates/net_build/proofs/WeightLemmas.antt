@@ -1,16 +1,13 @@
 -- What the rows of a chance table find, by its decimals.
-use Rattle.std.proofs.Common.{◌≡◌, ◌≢◌, ◌<◌, ◌≤◌, ◌+◌, ◌-◌, ◌*◌, ◌/◌, ◌^◌, ℕ, zero, suc, ℤ, pos, negsuc, ◌*ℤ◌, ◌<ℤ◌, ◌≤ℤ◌, unsigned_abs, List, [], ◌∷◌, All, length, get_or, map, take, drop, sum, Option, None, Some, refl, sym, ap, subst, ◌∙◌, arith}
+use Rattle.std.proofs.Common.{◌≡◌, ◌<◌, ◌+◌, ◌-◌, ◌*◌, ◌/◌, ◌^◌, ℕ, zero, suc, ℤ, pos, negsuc, ◌*ℤ◌, ◌<ℤ◌, ◌≤ℤ◌, unsigned_abs, List, [], ◌∷◌, All, length, map, take, drop, sum, refl, sym, ap, subst, ◌∙◌, arith}
 use Rattle.std.specs.Int.{◌∣◌}
-use Rattle.std.specs.List.{range_with_len}
 use Rattle.std.proofs.Math.Nat.{mul-pos, eq_of_mul-eq-mul_right, zero-mul}
-use Rattle.std.proofs.lemmas.Int.{ints, unsigned_abs-mul}
+use Rattle.std.proofs.lemmas.Int.{ints}
 use Rattle.std.proofs.lemmas.List.Sums.{sum_by-cons}
-use Rattle.std.proofs.lemmas.List.{get_or-map, get_or_default, get_or-take, get_or-drop, length-map, length-take-le, take-map}
+use Rattle.std.proofs.lemmas.List.{length-map, take-map}
 use Rattle.std.proofs.lemmas.List.Elements.{All-cons}
-use Rattle.std.proofs.lemmas.Nat.{pow-add}
 use Rattle.std.proofs.lemmas.Nat.Gcd.{dvd_antisymm}
 use Rattle.std.specs.List.{drop-map}
-use Rattle.maid_model.specs.Diagrams.{greatest_number}
 use Rattle.net_lexer.specs.Token.{token_bytes}
 use Rattle.net_lexer.specs.declared.tokens.Token.{Token}
 use Rattle.weight_scale.specs.declared.decimal.Decimal.{Decimal}
@@ -18,11 +15,7 @@ use Rattle.weight_scale.specs.Numeral.{numerator, denominator, IsLeastDecimalOf}
 use Rattle.weight_scale.specs.Scaling as scaling
 use Rattle.weight_scale.specs.Scaling.{row_at, raised_row, IsReducedRow, IsScaled, IsTooWide, IsCommonTotal}
 use Rattle.weight_scale.specs.Views.{ScaledView}
-use Rattle.net_build.specs.Blocks.{no_token}
-use Rattle.net_build.specs.Passes.{Pass, Found, found, each, rule}
-use Rattle.net_build.specs.Scaling.{AreDecimals, decimal_at}
-use Rattle.net_build.specs.Table.{sign_row, total_row, rows_by, IsWideTotal}
-use Rattle.net_build.specs.Zero.{nought}
+use Rattle.net_build.specs.Scaling.{AreDecimals}
 use Rattle.net_build.proofs.ScaleLemmas.{tens_positive, tens_split, den_positive, sizes}
 
 -- the decimals of these tokens, one after another

@@ -1,5 +1,5 @@
 -- The rows of a chance table find what its scaling says.
-use Rattle.std.proofs.Common.{◌≡◌, ◌≢◌, ◌<◌, ◌≤◌, ◌+◌, ◌-◌, ◌*◌, ◌/◌, ℕ, zero, suc, ℤ, pos, ◌<ℤ◌, ◌≤ℤ◌, List, [], ◌∷◌, inl, inr, All, length, get_or, map, take, drop, sum, min, Option, None, Some, refl, sym, ap, subst, ◌∙◌, arith, length-drop}
+use Rattle.std.proofs.Common.{◌≡◌, ◌<◌, ◌≤◌, ◌+◌, ◌*◌, ◌/◌, ℕ, suc, pos, ◌<ℤ◌, ◌≤ℤ◌, List, [], ◌∷◌, inl, inr, All, length, get_or, map, drop, sum, None, Some, refl, sym, ap, subst, ◌∙◌, arith, length-drop}
 use Rattle.std.specs.List.{range_with_len}
 use Rattle.std.proofs.Math.Nat.{mul-le-mul_right, mul-div_cancel}
 use Rattle.std.proofs.lemmas.List.{get_or-map, get_or-take, get_or-drop, length-map, length-take-le, get_or_default}
@@ -7,16 +7,16 @@ use Rattle.std.proofs.lemmas.List.FromFn.{get_or-range_with_len, length-range_wi
 use Rattle.net_lexer.specs.Token.{token_bytes}
 use Rattle.net_lexer.specs.declared.tokens.Token.{Token}
 use Rattle.weight_scale.specs.declared.decimal.Decimal.{Decimal}
-use Rattle.weight_scale.specs.Numeral.{numerator, denominator, IsLeastDecimalOf}
+use Rattle.weight_scale.specs.Numeral.{numerator}
 use Rattle.weight_scale.specs.Scaling.{row_at, raised_row, number_at, NoneNegative, NoZeroRow, IsFirstNegative, IsFirstZeroRow, IsScaled, IsTooWide}
 use Rattle.weight_scale.specs.Views.{ScaledView}
 use Rattle.net_build.specs.declared.faults.BuildFault.{BuildFault}
 use Rattle.net_build.specs.declared.faults.BuildFault.TheVariants.{Fault}
 use Rattle.net_build.specs.declared.faults.BuildKind.TheVariants as kinds
 use Rattle.net_build.specs.Blocks.{no_token}
-use Rattle.net_build.specs.Passes.{Pass, Found, found, each, rule, Refuses, Negative, ZeroRow, WideWeight}
+use Rattle.net_build.specs.Passes.{found, each, Refuses, Negative, ZeroRow}
 use Rattle.net_build.specs.Scaling.{AreDecimals, decimal_at}
-use Rattle.net_build.specs.Table.{sign_row, total_row, rows_by, IsWideTotal}
+use Rattle.net_build.specs.Table.{sign_row, total_row, rows_by}
 use Rattle.net_build.specs.TableParts.{weight_part}
 use Rattle.net_build.specs.Zero.{nought}
 use Rattle.net_build.proofs.EachPassing.{each_all, each_first}

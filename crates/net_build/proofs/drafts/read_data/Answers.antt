@@ -1,5 +1,5 @@
 -- A chance table's weights are its numbers'.
-use Rattle.std.proofs.Common.{◌≡◌, ◌*◌, length, None, ap, sym, subst, ◌∙◌, rules, map}
+use Rattle.std.proofs.Common.{◌≡◌, ◌*◌, length, ap, ◌∙◌, rules, map}
 use Rattle.net_build.specs.Passes.{Refuses}
 use Rattle.net_build.specs.Scaling.{AreDecimals}
 use Rattle.net_build.specs.TableParts.{data_part}

@@ -1,5 +1,5 @@
 -- One node after another.
-use Rattle.std.proofs.Common.{◌≡◌, ◌<◌, ◌+◌, ℕ, length, sym, ◌∙◌, ap, rules, arith}
+use Rattle.std.proofs.Common.{◌<◌, ◌+◌, ℕ, length, ◌∙◌, ap, rules, arith}
 use Rattle.std.proofs.lemmas.List.{length_push}
 use Rattle.net_build.specs.Passes.{Refuses}
 use Rattle.net_build.specs.Stages.{NodeLists}

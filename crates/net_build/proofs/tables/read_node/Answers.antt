@@ -1,5 +1,5 @@
 -- The node's own head, parents and potential.
-use Rattle.std.proofs.Common.{◌≡◌, ◌≢◌, ◌<◌, ◌≤◌, ℕ, List, [], Option, None, true, IfSome, length, get_or, ap, sym, ◌∙◌, subst, arith}
+use Rattle.std.proofs.Common.{◌≡◌, ◌<◌, ◌≤◌, ℕ, List, [], Option, true, IfSome, length, get_or, ap, sym, ◌∙◌, subst, arith}
 use Rattle.std.specs.Option.{IsSome, option_map}
 use Rattle.maid_model.specs.Nodes.{rows_under}
 use Rattle.net_parser.specs.Owned.{IsBlockOf}
@@ -7,7 +7,6 @@ use Rattle.net_parser.specs.Trees.{BlockTree}
 use Rattle.net_build.specs.Blocks.{is_potential}
 use Rattle.net_build.specs.declared.nodes.Head.{Head}
 use Rattle.net_build.specs.Stages.{NodeLists, LinkLists, head_at}
-use Rattle.net_build.specs.TableParts.{potential_at}
 use Rattle.net_build.proofs.DraftLemmas.{list_at, option_at, seen_some, seen_is_some}
 use Rattle.net_build.proofs.RowLemmas.{parents_known, rows_small, cells_small, draft_at, not_decision}
 use Rattle.net_build.proofs.tables.read_node.Goals as goal

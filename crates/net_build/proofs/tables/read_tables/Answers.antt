@@ -1,5 +1,5 @@
 -- The drafts, the scale of the utilities' numbers, and the finished cells.
-use Rattle.std.proofs.Common.{◌≡◌, List, All, map, ap, sym, ◌∙◌, subst, rules}
+use Rattle.std.proofs.Common.{List, All, map, ap, sym, ◌∙◌, subst, rules}
 use Rattle.net_build.specs.declared.drafts.Draft.{Draft}
 use Rattle.net_build.specs.Passes.{Refuses, ◌▸◌}
 use Rattle.net_build.specs.Table.{table_pass, wide_pass}

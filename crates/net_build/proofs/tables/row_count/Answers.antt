@@ -1,5 +1,4 @@
 -- The rows so far are no more than all of them, since each parent to come has a state.
-use Rattle.std.proofs.Common.{◌≡◌}
 use Rattle.net_build.proofs.RowLemmas.{rows_fit}
 use Rattle.net_build.proofs.tables.row_count.Goals as goal
 

@@ -1,5 +1,5 @@
 -- The kind at the name's place, as contracts see the nodes.
-use Rattle.std.proofs.Common.{◌≡◌, ap, sym, ◌∙◌, arith}
+use Rattle.std.proofs.Common.{ap, ◌∙◌, arith}
 use Rattle.net_build.specs.Stages.{NodeLists}
 use Rattle.net_build.proofs.KindLemmas.{found_within, kind_found, kind_missing, same_utility}
 use Rattle.net_build.proofs.utilities.is_utility_named.Goals as goal

@@ -1,5 +1,5 @@
 -- The attributes are the potential's own.
-use Rattle.std.proofs.Common.{◌≡◌, ap}
+use Rattle.std.proofs.Common.{ap}
 use Rattle.net_parser.specs.Trees.{BlockTree}
 use Rattle.net_build.proofs.utilities.push_data.Goals as goal
 

@@ -1,5 +1,5 @@
 -- The scaling's answer and its faults are those of the rows.
-use Rattle.std.proofs.Common.{◌≡◌, subst}
+use Rattle.std.proofs.Common.{subst}
 use Rattle.weight_scale.specs.Scaling.{IsScaleFault}
 use Rattle.net_build.proofs.WeightPasses.{weight_clear, weight_negative, weight_zero, weight_wide, rows_are}
 use Rattle.net_build.proofs.weights.weights.Goals as goal
