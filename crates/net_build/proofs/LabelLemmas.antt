@@ -121,7 +121,7 @@ labels_more text vs i v labels longer label all h is this is_more so_far =
     ∙ so_far
 
 -- a string has one leaf
-one_leaf : (tree : ValueTree) → is_string tree ≡ true → length (leaves tree) ≡ 1
+pub one_leaf : (tree : ValueTree) → is_string tree ≡ true → length (leaves tree) ≡ 1
 one_leaf (leaf t) e = refl
 one_leaf (list vs) e = absurd (false≢true e)
 

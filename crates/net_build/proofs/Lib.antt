@@ -22,6 +22,17 @@ pub mod TableEnd
 pub mod KindLemmas
 pub mod NodeSteps
 pub mod TableLast
+pub mod OneOutcome
+pub mod OneDecimal
+pub mod OneDiagram
+pub mod OneWeights
+pub mod WholeRows
 pub mod OwnerLemmas
 pub mod NodeLemmas
 pub mod SightLemmas
+pub mod MadeLemmas
+pub mod NodeFacts
+pub mod MadeDiagram
+pub mod AgentFacts
+pub mod Assembly
+pub mod AllPasses

@@ -14,15 +14,15 @@ use Rattle.net_build.proofs.AttributeLemmas.{or_true}
 use Rattle.net_build.proofs.PlaceLemmas.{bytes_same, bytes_differ}
 
 -- some name of the list is this one
-abbrev has : List (List ℕ) → List ℕ → Bool
+abbrev pub has : List (List ℕ) → List ℕ → Bool
 has names x = list_any (λ y. bytes_eq y x) names
 
 -- the names that differ from the first
-abbrev others : List ℕ → List (List ℕ) → List (List ℕ)
+abbrev pub others : List ℕ → List (List ℕ) → List (List ℕ)
 others y names = filter (λ z. not (bytes_eq y z)) names
 
 -- a name that differs from the first is among the others where it is among all
-has_others : (y x : List ℕ) (names : List (List ℕ)) → bytes_eq y x ≡ false → has (others y names) x ≡ has names x
+pub has_others : (y x : List ℕ) (names : List (List ℕ)) → bytes_eq y x ≡ false → has (others y names) x ≡ has names x
 has_others y x [] apart = refl
 has_others y x (z ∷ names) apart = by_test (bytes_eq y z) refl (has_others y x names apart) where
   by_test : (b : Bool) → bytes_eq y z ≡ b → has (others y names) x ≡ has names x → has (others y (z ∷ names)) x ≡ has (z ∷ names) x
@@ -62,7 +62,7 @@ first_sights_more (y ∷ xs) x = ap (λ s. y ∷ others y s) (first_sights_more 
       ∙ ap (λ b. if b then y ∷ others y (first_sights xs) else (y ∷ others y (first_sights xs)) ++ x ∷ []) (has_others y x (first_sights xs) e ∙ s))
 
 -- the agents of the decisions and utilities among nodes
-abbrev agents_among : List ℕ → List BlockTree → List (List ℕ)
+abbrev pub agents_among : List ℕ → List BlockTree → List (List ℕ)
 agents_among text nodes = map (agent_of text) (filter (λ b. has_agent b.kind) nodes)
 
 agents_among-append : (text : List ℕ) (nodes others : List BlockTree) → agents_among text (nodes ++ others) ≡ agents_among text nodes ++ agents_among text others

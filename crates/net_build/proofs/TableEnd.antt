@@ -230,6 +230,6 @@ module _ (text : List ℕ) (blocks : List BlockTree) (own : All (IsBlockOf text)
 
 -- the same, of the nodes and links as the callers have them
 module _ (text : List ℕ) (blocks : List BlockTree) (own : All (IsBlockOf text) blocks) (node_rows_none : node_pass text blocks None) (potential_rows_none : potential_pass text blocks None) (missing_none : missing_pass text blocks None) where
-  pub can_read_them : (nodes : NodeLists) (links : LinkLists) → nodes ≡ node_lists text (node_blocks blocks) → links ≡ link_lists text blocks → AreLinks nodes.heads links.parents → CanRead text nodes.heads links
-  can_read_them nodes links n l fit = subst (λ (m : NodeLists). CanRead text m.heads links) (sym n) (subst (CanRead text (node_lists text (node_blocks blocks)).heads) (sym l)
-      (can_read text blocks own node_rows_none potential_rows_none missing_none (subst (λ (m : LinkLists). AreLinks (node_lists text (node_blocks blocks)).heads m.parents) l (subst (λ (m : NodeLists). AreLinks m.heads links.parents) n fit))))
+  pub can_read_them : (listed : NodeLists) (linked : LinkLists) → listed ≡ node_lists text (node_blocks blocks) → linked ≡ link_lists text blocks → AreLinks listed.heads linked.parents → CanRead text listed.heads linked
+  can_read_them listed linked n l fit = subst (λ (m : NodeLists). CanRead text m.heads linked) (sym n) (subst (CanRead text (node_lists text (node_blocks blocks)).heads) (sym l)
+      (can_read text blocks own node_rows_none potential_rows_none missing_none (subst (λ (m : LinkLists). AreLinks (node_lists text (node_blocks blocks)).heads m.parents) l (subst (λ (m : NodeLists). AreLinks m.heads linked.parents) n fit))))

@@ -11,4 +11,5 @@ pub mod Building
 pub mod Form
 pub mod Stages
 pub mod LinkCode
+pub mod Laws
 pub mod TableParts

@@ -9,6 +9,7 @@ use Rattle.maid_model.specs.Graph.{IsAcyclic, AllDifferent}
 use Rattle.maid_model.specs.Nodes.{is_decision, rows_under}
 use Rattle.maid_model.specs.Tables.{IsTable}
 use Rattle.net_lexer.specs.declared.tokens.Token.{Token}
+use Rattle.maid_model.specs.Views.{NodeView, DiagramView}
 use Rattle.net_parser.specs.Owned.{leaves}
 use Rattle.net_parser.specs.Trees.{BlockTree}
 use Rattle.net_parser.specs.Views.{value_tree}
@@ -100,3 +101,18 @@ FitsTable Utility rows states cells = (length cells ≡ rows) × All (λ x. nat_
 -- each node's cells do
 abbrev pub TablesFit : List Head → List (List ℕ) → List (List ℤ) → Type 0
 TablesFit heads parents cells = (v : ℕ) → v < length heads → FitsTable (head_at heads v).kind (rows_at heads parents v) (head_at heads v).states (slice_index_or cells v [])
+
+-- a node from what its block, its potential and its table say
+abbrev pub made_node : Head → List ℕ → List ℤ → NodeView
+made_node head parents cells = record { kind = head.kind; owner = head.owner; states = head.states; parents = parents; cells = cells }
+
+-- node number v of these lists
+abbrev pub made_at : List Head → List (List ℕ) → List (List ℤ) → ℕ → NodeView
+made_at heads parents cells v = made_node (head_at heads v) (slice_index_or parents v []) (slice_index_or cells v [])
+
+abbrev pub made_nodes : List Head → List (List ℕ) → List (List ℤ) → List NodeView
+made_nodes heads parents cells = map (made_at heads parents cells) (range_with_len 0 (length heads))
+
+-- the diagram of these lists
+abbrev pub made_diagram : NodeLists → LinkLists → TableLists → DiagramView
+made_diagram nodes links tables = record { nodes = made_nodes nodes.heads links.parents tables.cells; agents = length nodes.agents; decimals = tables.decimals }

@@ -1,6 +1,5 @@
 -- Parts of the rows of a table. The functions that read tables speak of them; what building promises doesn't.
 use Rattle.std.specs.Prelude.{◌≡◌, ◌≢◌, ◌<◌, ◌≤◌, ◌-◌, ◌*◌, ◌/◌, ◌*ℤ◌, ◌^◌, ℕ, ℤ, pos, nat_abs, Bool, ◌&&◌, List, [], ◌∷◌, All, length, map, filter, flat_map, Option, None, Some, IfSome, IsSome, true, slice_index_or}
-use Rattle.std.specs.Global.{Vec}
 use Rattle.std.specs.List.{range_with_len}
 use Rattle.std.specs.Option.{option_map_or}
 use Rattle.maid_model.specs.declared.diagrams.Kind.{Kind}
@@ -152,6 +151,3 @@ IsDraftAt text heads links v draft = IsDraftOf (head_at heads v).kind (rows_at h
 pub record AreDrafts (text : List ℕ) (heads : List Head) (links : LinkLists) (drafts : List Draft) : Type 0 where
   pub len : length drafts ≡ length heads
   pub each : (v : ℕ) (d : Draft) → v < length drafts → IsDraftAt text heads links v (slice_index_or drafts v d)
-
-abbrev pub cells_of_all : List (Vec ℤ) → List (List ℤ)
-cells_of_all tables = map (λ row. row.items) tables

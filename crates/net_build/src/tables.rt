@@ -1,14 +1,14 @@
 //! The tables of a text: the cells of each node, and the scale of the utilities.
 
-ghost use Rattle.std.specs.Prelude.{◌≡◌, ◌<◌, ◌≤◌, List, All, map, length, None, IfOk};
+ghost use Rattle.std.specs.Prelude.{◌≡◌, ◌<◌, ◌≤◌, All, map, length, None, IfOk};
 ghost use Rattle.maid_model.specs.Nodes.{rows_under};
 ghost use Rattle.net_build.specs.Blocks.{node_blocks};
 ghost use Rattle.net_build.specs.Building.{AreTables};
-ghost use Rattle.net_build.specs.Lists.{numbers_of_lists};
+ghost use Rattle.net_build.specs.Lists.{cells_of_lists};
 ghost use Rattle.net_build.specs.Passes.{Passes, ◌▸◌};
 ghost use Rattle.net_build.specs.Stages.{AreLinks, TablesFit, head_at, link_lists, node_lists};
 ghost use Rattle.net_build.specs.Table.{IsUtilityScale, missing_pass, node_pass, potential_pass, table_pass, wide_pass};
-ghost use Rattle.net_build.specs.TableParts.{AreDrafts, CanRead, FitsDraft, IsDraftAt, drafts_pass, finished, cells_of_all, node_rows_at};
+ghost use Rattle.net_build.specs.TableParts.{AreDrafts, CanRead, FitsDraft, IsDraftAt, drafts_pass, finished, node_rows_at};
 ghost use Rattle.net_parser.specs.Owned.{IsBlockOf};
 
 use crate::drafts::{Draft, finish_draft, read_draft};
@@ -96,7 +96,7 @@ fn read_drafts(
 fn finish(alloc: Global, drafts: &[Draft], scale: u32) -> Result<Vec<Vec<i128>>, AllocError>
     requires few { scale ≤ 30 }
     requires fits { All (FitsDraft scale) drafts.now }
-    ensures { IfOk result (λ cells. cells_of_all cells.items ≡ map (finished scale) drafts.now) }
+    ensures { IfOk result (λ cells. cells_of_lists cells.items ≡ map (finished scale) drafts.now) }
 {
     let mut cells = Vec::with_capacity(alloc, drafts.len())?;
     for draft in drafts {
