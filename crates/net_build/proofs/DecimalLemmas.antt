@@ -1,5 +1,5 @@
 -- The decimals of numerals, one after another.
-use Rattle.std.proofs.Common.{◌≡◌, ◌⊎◌, inl, inr, ℕ, ◌+◌, ◌<◌, ◌≤◌, List, [], ◌∷◌, ◌++◌, length, get_or, map, take, refl, ap, sym, ◌∙◌, subst, arith, length-append}
+use Rattle.std.proofs.Common.{◌≡◌, ◌⊎◌, inl, inr, ℕ, ◌+◌, ◌<◌, List, [], ◌∷◌, ◌++◌, length, get_or, map, take, refl, ap, sym, ◌∙◌, arith, length-append}
 use Rattle.std.proofs.lemmas.List.{take_more, map-append, get_or_default}
 use Rattle.net_lexer.specs.Token.{token_bytes}
 use Rattle.net_lexer.specs.declared.tokens.Token.{Token}
@@ -24,6 +24,7 @@ are_more numerals decimals numeral d are this = record {
 } where
   by_place : (i : ℕ) → i < length (numerals ++ numeral ∷ []) → (i < length numerals) ⊎ (i ≡ length numerals)
   by_place i h = split i (length numerals) (let l = length-append numerals (numeral ∷ []) in omega arith)
+
   at : (i : ℕ) → (i < length numerals) ⊎ (i ≡ length numerals) → IsLeastDecimalOf (numerator (get_or (numerals ++ numeral ∷ []) i [])) (denominator (get_or (numerals ++ numeral ∷ []) i [])) (decimal_at (decimals ++ d ∷ []) i)
   at i (inl h) = rw (get_or-append numerals (numeral ∷ []) [] i h, get_or-append decimals (d ∷ []) nought i (omega (arith, are.len))) (are.each i h)
   at i (inr e) = rw (e, get_or-append_seam numerals numeral [] [], ← are.len, get_or-append_seam decimals d [] nought) this

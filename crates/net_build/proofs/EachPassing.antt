@@ -1,10 +1,10 @@
 -- How a loop tries each item in turn: what the items still to come find, the whole pass finds.
-use Rattle.std.proofs.Common.{◌≡◌, ℕ, ◌+◌, ◌<◌, ◌≤◌, Bool, true, false, inl, inr, List, [], ◌∷◌, length, get_or, drop, All, Option, None, Some, Result, Ok, Err, refl, sym, ◌∙◌, ap, arith}
+use Rattle.std.proofs.Common.{◌≡◌, ℕ, zero, suc, ◌+◌, ◌<◌, ◌≤◌, inl, inr, List, [], ◌∷◌, length, get_or, drop, All, None, Some, arith}
 use Rattle.std.proofs.lemmas.List.{drop_all, get_or_default}
 use Rattle.std.proofs.lemmas.List.Elements.{All-cons}
 use Rattle.net_build.specs.declared.faults.BuildFault.{BuildFault}
 use Rattle.net_build.specs.declared.faults.BuildFault.TheVariants.{Fault, NoMemory}
-use Rattle.net_build.specs.Passes.{Pass, Found, found, clear, ◌▸◌, each, Refuses, Passes}
+use Rattle.net_build.specs.Passes.{Pass, Found, ◌▸◌, each, Refuses}
 use Rattle.net_build.proofs.Passing.{Leads, leads_on, leads_end, leads_refused, refused_first, drop_item}
 
 -- what the items from place i on find
@@ -45,3 +45,14 @@ each_step_at P xs W i x h lead nothing = each_step P xs W i (get_or xs i x) h (g
 
 pub each_refused_at : {X : Type 0} (P : X → Pass) (xs : List X) (W : Pass) (i : ℕ) (x : X) (fault : BuildFault) → i < length xs → Leads (EachFrom P xs i) W → Refuses (P (get_or xs i x)) fault → Refuses W fault
 each_refused_at P xs W i x fault h lead here = each_refused P xs W i (get_or xs i x) fault h (get_or_default xs i x (get_or xs i x) h) lead here
+
+-- no item finds anything
+pub each_all : {X : Type 0} (P : X → Pass) (xs : List X) (d : X) → ((k : ℕ) → k < length xs → P (get_or xs k d) None) → each P xs None
+each_all P [] d h = tt
+each_all P (x ∷ xs) d h = (h 0 (omega arith), each_all P xs d (λ k within. h (suc k) (omega arith)))
+
+-- the item at a place is the first that finds something
+pub each_first : {X : Type 0} (P : X → Pass) (xs : List X) (d : X) (i : ℕ) (f : Found) → i < length xs → ((k : ℕ) → k < i → P (get_or xs k d) None) → P (get_or xs i d) (Some f) → each P xs (Some f)
+each_first P [] d i f within before here = absurd (omega arith)
+each_first P (x ∷ xs) d zero f within before here = inl here
+each_first P (x ∷ xs) d (suc i) f within before here = inr (before 0 (omega arith), each_first P xs d i f (omega arith) (λ k h. before (suc k) (omega arith)) here)

@@ -11,6 +11,17 @@ pub mod DecimalLemmas
 pub mod NumberLemmas
 pub mod ScaleLemmas
 pub mod LabelLemmas
+pub mod WeightLemmas
+pub mod WeightPasses
+pub mod BlockLemmas
+pub mod TablePasses
+pub mod TableFacts
+pub mod DraftLemmas
+pub mod RowLemmas
+pub mod TableEnd
+pub mod KindLemmas
+pub mod NodeSteps
+pub mod TableLast
 pub mod OneOutcome
 pub mod OneDecimal
 pub mod OneDiagram

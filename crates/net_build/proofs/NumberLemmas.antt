@@ -1,8 +1,8 @@
 -- Leaves that are numbers, and what their rows find.
-use Rattle.std.proofs.Common.{◌≡◌, ◌<◌, ℕ, Bool, true, false, inl, inr, List, [], ◌∷◌, All, length, get_or, Option, None, Some, sym, ◌∙◌, subst, ap, refl}
+use Rattle.std.proofs.Common.{◌≡◌, ℕ, Bool, true, false, List, All, None, sym, subst, refl}
 use Rattle.net_build.specs.Blocks.{is_number}
-use Rattle.net_build.specs.Passes.{Pass, Found, each}
-use Rattle.net_build.specs.Table.{number_row, length_row}
+use Rattle.net_build.specs.Passes.{each}
+use Rattle.net_build.specs.Table.{number_row}
 use Rattle.net_lexer.specs.Token.{IsTokenOf}
 use Rattle.net_lexer.specs.declared.tokens.Token.{Token}
 use Rattle.net_parser.specs.Owned.{IsLeafOf}

@@ -1,5 +1,5 @@
 -- A numeral's value times a power of ten, by its decimal: when it is whole, and when it is too great.
-use Rattle.std.proofs.Common.{◌≡◌, ◌≢◌, ◌⊎◌, inl, inr, ◌<◌, ◌≤◌, ◌+◌, ◌-◌, ◌*◌, ◌^◌, ℕ, zero, suc, ℤ, pos, ◌*ℤ◌, unsigned_abs, Bool, true, false, cond, List, [], ◌∷◌, All, length, get_or, map, refl, sym, ap, subst, ◌∙◌, arith, Option, None, Some, Result, Ok, Err}
+use Rattle.std.proofs.Common.{◌≡◌, ◌⊎◌, inl, inr, ◌<◌, ◌≤◌, ◌+◌, ◌-◌, ◌*◌, ◌^◌, ℕ, zero, suc, ℤ, pos, ◌*ℤ◌, unsigned_abs, Bool, true, false, cond, List, [], All, length, get_or, map, refl, sym, ap, subst, ◌∙◌, arith, Option, None, Some}
 use Rattle.std.proofs.Math.Nat.{pow-le-pow_right, mul-pos, mul-le-mul_left, mul-le-mul_right}
 use Rattle.std.proofs.lemmas.Int.{ints, unsigned_abs-mul}
 use borrow.Author.Differences.{up, down, product_is}
@@ -9,12 +9,12 @@ use Rattle.maid_model.specs.Diagrams.{greatest_number}
 use Rattle.net_lexer.specs.Token.{token_bytes}
 use Rattle.net_lexer.specs.declared.tokens.Token.{Token}
 use Rattle.weight_scale.specs.declared.decimal.Decimal.{Decimal}
-use Rattle.weight_scale.specs.Numeral.{numerator, denominator, is_minus, exponent_of, exponent_size, decimal_digits, IsDecimalOf, IsLeastDecimalOf}
+use Rattle.weight_scale.specs.Numeral.{numerator, denominator, is_minus, exponent_of, exponent_size, decimal_digits, IsLeastDecimalOf}
 use Rattle.net_build.specs.Building.{AreUtilityCells}
 use Rattle.net_build.specs.Scaling.{AreDecimals, decimal_at, IsWholeBy, IsScaledBy}
 use Rattle.net_build.specs.Blocks.{no_token}
 use Rattle.net_build.specs.Table.{IsWideValue, wide_row, length_row}
-use Rattle.net_build.specs.Passes.{Pass, Found, each, Refuses, Passes}
+use Rattle.net_build.specs.Passes.{Pass, Found, each, Refuses}
 use Rattle.net_build.specs.declared.faults.BuildFault.{BuildFault}
 use Rattle.net_build.specs.declared.faults.BuildFault.TheVariants.{Fault, NoMemory}
 use Rattle.net_build.specs.declared.faults.BuildKind.TheVariants as kinds
@@ -31,17 +31,17 @@ tens_positive k = omega (arith, pow-le-pow_right {n = 10} (omega arith) {i = 0} 
 pub tens_fit : (k : ℕ) → k ≤ 30 → 10 ^ k < 2 ^ 128
 tens_fit k h = omega (arith, pow-le-pow_right {n = 10} (omega arith) {i = k} {j = 30} h)
 
-tens_split : (k s : ℕ) → k ≤ s → 10 ^ s ≡ 10 ^ k * 10 ^ (s - k)
+pub tens_split : (k s : ℕ) → k ≤ s → 10 ^ s ≡ 10 ^ k * 10 ^ (s - k)
 tens_split k s h = let e : s ≡ k + (s - k) = omega arith in ap (λ x. 10 ^ x) e ∙ pow-add 10 k (s - k)
 
 positive_by : (down : Bool) (x e : ℕ) → 0 < 10 ^ x * cond down (10 ^ e) 1
 positive_by true x e = mul-pos (tens_positive x) (tens_positive e)
 positive_by false x e = omega (arith, tens_positive x)
 
-den_positive : (numeral : List ℕ) → 0 < denominator numeral
+pub den_positive : (numeral : List ℕ) → 0 < denominator numeral
 den_positive numeral = positive_by (is_minus (exponent_of numeral)) (length (decimal_digits numeral)) (exponent_size (exponent_of numeral))
 
-sizes : (m num : ℤ) (p den : ℕ) → m *ℤ pos den ≡ num *ℤ pos p → unsigned_abs m * den ≡ unsigned_abs num * p
+pub sizes : (m num : ℤ) (p den : ℕ) → m *ℤ pos den ≡ num *ℤ pos p → unsigned_abs m * den ≡ unsigned_abs num * p
 sizes m num p den e = sym (unsigned_abs-mul m (pos den)) ∙ ap unsigned_abs e ∙ unsigned_abs-mul num (pos p)
 
 narrow_by : (g m t den num p q : ℕ) → m * den ≡ num * p → q ≡ p * t → m * t ≤ g → g * den < num * q → ⊥
@@ -78,6 +78,7 @@ smaller_by : (x m den num p r : ℕ) → 0 < den → 0 < r → x * den ≡ num *
 smaller_by x m den num p r some more e f = by_order (order x m) where
   order : (a b : ℕ) → (a ≤ b) ⊎ (b < a)
   order a b = grind arith
+
   by_order : (x ≤ m) ⊎ (m < x) → x ≤ m
   by_order (inl h) = h
   by_order (inr h) = absurd (omega (arith, mul-le-mul_right {m = suc m} {n = x} den h, mul-le-mul_left {m = 1} {n = r} (x * den) more, ap (λ y. y * r) e, f))
@@ -109,10 +110,13 @@ pub scale_found : (text : List ℕ) (tokens : List Token) (ds : List Decimal) (s
 scale_found text tokens ds scale are most reached = (whole, least) where
   len : length ds ≡ length tokens
   len = are.len ∙ length-map tokens (token_bytes text)
+
   whole : All (λ t. IsWholeBy scale (token_bytes text t)) tokens
   whole i t h = (raised scale (decimal_at ds i), raised_is (token_bytes text (get_or tokens i t)) (decimal_at ds i) scale (decimal_of text tokens ds i t are h) (most i nought (omega (arith, len))))
+
   at : (k : ℕ) → k < scale → (i : ℕ) × (i < length ds) × ((decimal_at ds i).k ≡ scale) → All (λ t. IsWholeBy k (token_bytes text t)) tokens → ⊥
   at k h (i, within, is) all = not_whole (token_bytes text (get_or tokens i no_token)) (decimal_at ds i) k (decimal_of text tokens ds i no_token are (omega (arith, len))) (omega (arith, is)) (all i no_token (omega (arith, len)))
+
   least : (k : ℕ) → k < scale → All (λ t. IsWholeBy k (token_bytes text t)) tokens → ⊥
   least k h = at k h (reached (omega arith))
 

@@ -1,12 +1,10 @@
 -- What a text's tree stands for, where no pass finds a fault.
-use Rattle.std.specs.Prelude.{◌≡◌, ◌<◌, ℕ, ℤ, pos, List, [], map, length, slice_index, slice_index_or}
+use Rattle.std.specs.Prelude.{◌≡◌, ◌<◌, ℕ, ℤ, pos, List, [], map, length, slice_index_or}
 use Rattle.maid_model.specs.declared.diagrams.Kind.{Kind}
 use Rattle.maid_model.specs.declared.diagrams.Kind.TheVariants.{Chance, Decision, Utility}
 use Rattle.maid_model.specs.Names.{NamesView}
-use Rattle.maid_model.specs.Nodes.{node_at}
 use Rattle.maid_model.specs.Views.{DiagramView}
 use Rattle.net_lexer.specs.Token.{token_bytes}
-use Rattle.net_lexer.specs.declared.tokens.Token.{Token}
 use Rattle.net_parser.specs.Trees.{BlockTree}
 use Rattle.weight_scale.specs.declared.decimal.Decimal.{Decimal}
 use Rattle.net_build.specs.Blocks.{node_blocks, kind_of, names_of, labels_of, states_of, state_counts, agents_of, owner_of, parent_lists, numbers_of}

@@ -8,8 +8,8 @@ use net_lexer::Token;
 use net_parser::Value;
 use std::alloc::{AllocError, Global};
 
-// The leaves of the value, behind those that are there.
-fn push_leaves(tokens: &mut Vec<Token>, value: &Value) -> Result<(), AllocError>
+/// The leaves of the value, behind those that are there.
+pub fn push_leaves(tokens: &mut Vec<Token>, value: &Value) -> Result<(), AllocError>
     ensures { OnOk result (tokens.new.items ≡ tokens.old.items ++ leaves (value_tree value.now)) }
 {
     match value {

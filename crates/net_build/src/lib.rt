@@ -11,6 +11,7 @@
 mod attributes;
 mod building;
 mod cursor;
+mod drafts;
 mod faults;
 mod first;
 mod labels;
@@ -26,6 +27,7 @@ mod places;
 mod run;
 mod scales;
 mod tables;
+mod utilities;
 mod weights;
 
 pub use building::build;

@@ -61,11 +61,7 @@ fn decimal(text: &[u8], token: &Token) -> Result<Decimal, BuildFault>
 }
 
 /// The numbers as decimals.
-pub fn decimals(
-    alloc: Global,
-    text: &[u8],
-    tokens: &[Token],
-) -> Result<Vec<Decimal>, BuildFault>
+pub fn decimals(alloc: Global, text: &[u8], tokens: &[Token]) -> Result<Vec<Decimal>, BuildFault>
     requires own { All (IsTokenOf text.now) tokens.now }
     requires numbers { All (λ t. is_number t.kind ≡ true) tokens.now }
     ensures rows { Passes (each (length_row text.now) tokens.now) result }

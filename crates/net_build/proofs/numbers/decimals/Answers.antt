@@ -1,5 +1,4 @@
 -- One more number has its decimal.
-use Rattle.std.proofs.Common.{◌≡◌}
 use Rattle.net_build.specs.Blocks.{no_token}
 use Rattle.net_build.specs.Table.{length_row}
 use Rattle.net_build.proofs.EachPassing.{each_step_at}

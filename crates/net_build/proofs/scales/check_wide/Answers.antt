@@ -1,5 +1,5 @@
 -- The number at the place is wide where it does not fit, and only there.
-use Rattle.std.proofs.Common.{◌≡◌, not, ap, sym, ◌∙◌}
+use Rattle.std.proofs.Common.{not, ap, ◌∙◌}
 use Rattle.net_build.proofs.ScaleLemmas.{wide_refused, wide_on}
 use Rattle.net_build.proofs.scales.check_wide.Goals as goal
 

@@ -1,4 +1,4 @@
-use Rattle.std.proofs.Common.{◌≡◌, ◌<◌, ◌≤◌, ℕ, All, take, length}
+use Rattle.std.proofs.Common.{◌≡◌, ◌<◌, ◌≤◌, ℕ, length}
 use Rattle.net_build.specs.Scaling.{decimal_at}
 use Rattle.net_build.proofs.scales.most_decimals.Given as goal
 

@@ -1,8 +1,6 @@
 -- The most decimals are the scale, and to it the values are tried.
-use Rattle.std.proofs.Common.{◌≡◌, ◌<◌, ◌≤◌, ℕ, List, All, None, map, length, rules, arith, subst}
-use Rattle.std.proofs.lemmas.Grind.{common_steps}
-use Rattle.net_build.specs.Passes.{each, Refuses}
-use Rattle.net_build.specs.Table.{wide_row}
+use Rattle.std.proofs.Common.{rules}
+use Rattle.net_build.specs.Passes.{Refuses}
 use Rattle.net_build.specs.TableParts.{IsScaleOf, scaled_pass}
 use Rattle.net_build.proofs.ScaleLemmas.{scale_found, short_refuses, scaled_refuses, scaled_passes}
 use Rattle.net_build.proofs.scales.scale_of.Goals as goal
