@@ -5,3 +5,4 @@ pub mod FirstDiagram
 pub mod Passing
 pub mod PlaceLemmas
 pub mod AttributeLemmas
+pub mod LinkLemmas

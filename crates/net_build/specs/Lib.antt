@@ -11,3 +11,4 @@ pub mod Building
 pub mod Form
 pub mod Stages
 pub mod LinkCode
+pub mod Linking
