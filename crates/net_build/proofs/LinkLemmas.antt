@@ -81,14 +81,14 @@ pub condition_repeat : {A : Type 0} (text : List ℕ) (names : List (List ℕ)) 
 condition_repeat text names heads earlier name r fault e known h =
     hands_on (condition_steps text names heads earlier name) r fault e
     (second_refuses (unknown_row text names name) (repeat_row text earlier name ▸ utility_row (kind_at heads (node_named text names name)) name) fault known
-        (refused_first (repeat_row text earlier name) (utility_row (kind_at heads (node_named text names name)) name) fault h))
+    (refused_first (repeat_row text earlier name) (utility_row (kind_at heads (node_named text names name)) name) fault h))
 
 pub condition_utility : {A : Type 0} (text : List ℕ) (names : List (List ℕ)) (heads : List Head) (earlier : List Token) (name : Token) (v : ℕ) (r : Result A BuildFault) (fault : BuildFault) → IsErr r × IsErrAnd r (λ y. y ≡ fault) → unknown_row text names name None → repeat_row text earlier name None → v ≡ node_named text names name → Refuses (utility_row (kind_at heads v) name) fault → Passes (condition_steps text names heads earlier name) r
 condition_utility text names heads earlier name v r fault e known new is h =
     hands_on (condition_steps text names heads earlier name) r fault e
     (second_refuses (unknown_row text names name) (repeat_row text earlier name ▸ utility_row (kind_at heads (node_named text names name)) name) fault known
-        (second_refuses (repeat_row text earlier name) (utility_row (kind_at heads (node_named text names name)) name) fault new
-            (subst (λ (w : ℕ). Refuses (utility_row (kind_at heads w) name) fault) is h)))
+    (second_refuses (repeat_row text earlier name) (utility_row (kind_at heads (node_named text names name)) name) fault new
+    (subst (λ (w : ℕ). Refuses (utility_row (kind_at heads w) name) fault) is h)))
 
 -- what is made of the items so far, one item on
 pub map_more : {X Y : Type 0} (f : X → Y) (xs : List X) (ys new : List Y) (i : ℕ) (x : X) (y : Y) → i < length xs → x ≡ get_or xs i x → y ≡ f x → ys ≡ map f (take i xs) → new ≡ ys ++ y ∷ [] → new ≡ map f (take (i + 1) xs)

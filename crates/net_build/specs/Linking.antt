@@ -1,19 +1,20 @@
 -- The passes over potentials, the graph and the sizes, told of plain lists of nodes and links as the steps have them. No public contract needs it.
-use Rattle.std.specs.Prelude.{◌≡◌, ◌≢◌, ◌<◌, ◌≤◌, ◌+◌, ◌^◌, min, ℕ, Bool, true, false, List, [], ◌∷◌, ◌++◌, Option, None, Some, map, filter, find, length, sum, All, Contains, slice_index, slice_index_or, bytes_eq}
+use Rattle.std.specs.Prelude.{◌≡◌, ◌≢◌, ◌<◌, ◌≤◌, ◌+◌, ◌*◌, ◌^◌, min, not, ℕ, List, [], ◌∷◌, ◌++◌, Option, None, Some, map, filter, find, length, sum, All, Contains, slice_index, slice_index_or, bytes_eq}
 use Rattle.std.specs.List.{range_with_len}
-use Rattle.std.specs.Option.{option_map_or}
+use Rattle.std.specs.Borrow.{Bor}
+use Rattle.std.specs.Option.{IsSome, option_map, option_map_or}
 use Rattle.diagram_graph.specs.Cycles.{ListedArc, IsParentCycle}
 use Rattle.maid_model.specs.declared.diagrams.Kind.{Kind}
-use Rattle.maid_model.specs.declared.diagrams.Kind.TheVariants.{Chance, Decision, Utility}
+use Rattle.maid_model.specs.declared.diagrams.Kind.TheVariants.{Chance, Utility}
 use Rattle.maid_model.specs.Graph.{IsAcyclic, AllDifferent}
-use Rattle.maid_model.specs.Nodes.{is_decision}
+use Rattle.maid_model.specs.Nodes.{is_decision, rows_under}
 use Rattle.net_lexer.specs.Token.{token_bytes}
 use Rattle.net_lexer.specs.declared.tokens.Token.{Token}
 use Rattle.net_parser.specs.Trees.{BlockTree}
 use Rattle.net_build.specs.declared.faults.Limit.TheVariants.{Parents, Cells, Rules}
 use Rattle.net_build.specs.declared.nodes.Head.{Head}
-use Rattle.net_build.specs.Passes.{Pass, Found, found, clear, rule, only, ◌▸◌, each, each_after, UnknownName, DoublePotential, RepeatedParent, UtilityParent, MissingTable, GraphCycle, LimitPassed}
-use Rattle.net_build.specs.Blocks.{title, title_at, name_of, names_of, conditions, place_of}
+use Rattle.net_build.specs.Passes.{Pass, found, rule, only, ◌▸◌, each, each_after, UnknownName, DoublePotential, RepeatedParent, UtilityParent, MissingTable, GraphCycle, LimitPassed}
+use Rattle.net_build.specs.Blocks.{name_of, conditions, place_of}
 use Rattle.net_build.specs.Stages.{head_at, cells_at}
 
 -- the number of the node of that name
@@ -44,21 +45,33 @@ condition_steps text names heads earlier name = unknown_row text names name ▸ 
 abbrev pub conditions_steps : List ℕ → List (List ℕ) → List Head → List Token → Pass
 conditions_steps text names heads conditions = each_after (condition_steps text names heads) [] conditions
 
--- a potential before it has the head
-abbrev pub double_row : List ℕ → List BlockTree → BlockTree → Pass
-double_row text earlier potential = rule (Contains (names_of text earlier) (name_of text potential)) (found (title_at potential) DoublePotential)
+-- borrowed potentials as trees
+abbrev pub trees_of : List (Option (Bor BlockTree)) → List (Option BlockTree)
+trees_of potentials = map (option_map (λ p. p.now)) potentials
+
+-- the node has a potential already
+abbrev pub taken_row : List (Option BlockTree) → ℕ → Token → Pass
+taken_row potentials v head = rule (IsSome (slice_index_or potentials v None)) (found head.start DoublePotential)
 
 -- there are too many names behind the bar
-abbrev pub many_row : BlockTree → Pass
-many_row potential = rule (16 < length (conditions potential)) (found (title_at potential) (LimitPassed Parents (length (conditions potential))))
+abbrev pub many_row : Token → List Token → Pass
+many_row head conditions = rule (16 < length conditions) (found head.start (LimitPassed Parents (length conditions)))
 
--- a potential behind those earlier
-abbrev pub potential_steps : List ℕ → List (List ℕ) → List Head → List BlockTree → BlockTree → Pass
-potential_steps text names heads earlier potential =
-    unknown_row text names (title potential)
-    ▸ double_row text earlier potential
-    ▸ conditions_steps text names heads (conditions potential)
-    ▸ many_row potential
+-- a potential's head and the names behind its bar, where those nodes have potentials
+abbrev pub potential_steps : List ℕ → List (List ℕ) → List Head → List (Option BlockTree) → Token → List Token → Pass
+potential_steps text names heads potentials head conditions =
+    unknown_row text names head
+    ▸ taken_row potentials (node_named text names head) head
+    ▸ conditions_steps text names heads conditions
+    ▸ many_row head conditions
+
+-- the potential of each node among these blocks
+abbrev pub potentials_among : List ℕ → List (List ℕ) → List BlockTree → List (Option BlockTree)
+potentials_among text names blocks = map (λ name. find (λ p. bytes_eq (name_of text p) name) blocks) names
+
+-- the parents in them
+abbrev pub parents_in : List ℕ → List (List ℕ) → List (Option BlockTree) → List (List ℕ)
+parents_in text names potentials = map (λ o. option_map_or (λ p. map (node_named text names) (conditions p)) o []) potentials
 
 -- parents that a node may have
 pub record AreParents (heads : List Head) (parents : List ℕ) : Type 0 where
@@ -66,3 +79,47 @@ pub record AreParents (heads : List Head) (parents : List ℕ) : Type 0 where
   pub differ : AllDifferent parents
   pub no_utility : All (λ u. (head_at heads u).kind ≢ Utility) parents
   pub few : length parents ≤ 16
+
+-- a chance or utility node without a potential
+abbrev pub missing_at : List Head → List (Option BlockTree) → ℕ → Pass
+missing_at heads potentials v = only (not (is_decision (head_at heads v).kind)) (rule (slice_index_or potentials v None ≡ None) (found (head_at heads v).at MissingTable))
+
+-- the nodes in order
+abbrev pub missing_steps : List Head → List (Option BlockTree) → Pass
+missing_steps heads potentials = each (missing_at heads potentials) (range_with_len 0 (length heads))
+
+-- no cycle, or the first one
+abbrev pub graph_steps : List Head → List (List ℕ) → Pass
+graph_steps heads parents None = IsAcyclic (ListedArc parents)
+graph_steps heads parents (Some f) = (cycle : List ℕ) × IsParentCycle parents cycle × (f ≡ found (head_at heads (slice_index cycle 0)).at (GraphCycle cycle))
+
+-- the rows of node v over these parents
+abbrev pub rows_over : List Head → List ℕ → ℕ
+rows_over heads parents = rows_under (λ u. (head_at heads u).states) parents
+
+-- its cells
+abbrev pub cells_over : List Head → List ℕ → ℕ → ℕ
+cells_over heads parents v = rows_over heads parents * (head_at heads v).states
+
+-- they are too many; the count is named up to 10^18
+abbrev pub cells_row : List Head → List ℕ → ℕ → Pass
+cells_row heads parents v = rule (65536 < cells_over heads parents v) (found (head_at heads v).at (LimitPassed Cells (min (cells_over heads parents v) (10 ^ 18))))
+
+-- the rules' cells up to a node are too many
+abbrev pub rules_row : Head → ℕ → Pass
+rules_row head rules = rule (262144 < rules) (found head.at (LimitPassed Rules rules))
+
+-- a node over these parents, behind rules of so many cells
+abbrev pub size_rows_over : List Head → List ℕ → ℕ → ℕ → Pass
+size_rows_over heads parents v rules = cells_row heads parents v ▸ only (is_decision (head_at heads v).kind) (rules_row (head_at heads v) (rules + cells_over heads parents v))
+
+-- the cells of the rules of the first n nodes
+abbrev pub rules_before : List Head → List (List ℕ) → ℕ → ℕ
+rules_before heads parents n = sum (map (cells_at heads parents) (filter (λ v. is_decision (head_at heads v).kind) (range_with_len 0 n)))
+
+abbrev pub size_steps_at : List Head → List (List ℕ) → ℕ → Pass
+size_steps_at heads parents v = size_rows_over heads (slice_index_or parents v []) v (rules_before heads parents v)
+
+-- the nodes in order
+abbrev pub size_steps : List Head → List (List ℕ) → Pass
+size_steps heads parents = each (size_steps_at heads parents) (range_with_len 0 (length heads))

@@ -77,11 +77,7 @@ fn is_repeated(text: &[u8], kind: BlockKind, before: &[Attribute], word: &[u8]) 
 }
 
 // No attribute that counts stands a second time.
-fn check_counted(
-    text: &[u8],
-    kind: BlockKind,
-    attributes: &[Attribute],
-) -> Result<(), BuildFault>
+fn check_counted(text: &[u8], kind: BlockKind, attributes: &[Attribute]) -> Result<(), BuildFault>
     requires { All (IsAttributeOf text.now) attributes.now }
     ensures { Passes (each_after (repeated_row text.now) [] (filter (λ a. is_counted kind (word_of text.now a)) attributes.now)) result }
 {

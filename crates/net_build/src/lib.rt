@@ -5,6 +5,7 @@
 #![tactic(auto)]
 
 mod attributes;
+mod conditions;
 mod cursor;
 mod faults;
 mod first;
@@ -12,7 +13,9 @@ mod links;
 mod names;
 mod nodes;
 mod places;
+mod potentials;
 mod run;
+mod sizes;
 mod tables;
 
 pub use faults::{BuildFault, BuildKind, Limit};

@@ -3,7 +3,7 @@ use Rattle.std.proofs.Common.{◌≡◌, ℕ, List, map, Contains, ◌∙◌, sy
 use Rattle.std.proofs.lemmas.Bool.{false≢true}
 use Rattle.net_lexer.specs.Token.{token_bytes}
 use Rattle.net_build.proofs.LinkLemmas.{any_is_there, there_is_any}
-use Rattle.net_build.proofs.links.check_repeat.Goals as goal
+use Rattle.net_build.proofs.conditions.check_repeat.Goals as goal
 
 pub returns-then-stands_in : goal.returns-then-stands_in
 returns-then-stands_in c =

@@ -2,7 +2,7 @@
 use Rattle.net_build.specs.Linking.{kind_at, node_named, unknown_row, repeat_row, utility_row, condition_steps}
 use Rattle.net_build.specs.Lists.{list_of}
 use Rattle.net_build.proofs.LinkLemmas.{condition_unknown, condition_repeat, condition_utility}
-use Rattle.net_build.proofs.links.read_condition.Goals as goal
+use Rattle.net_build.proofs.conditions.read_condition.Goals as goal
 
 pub returns-in_err-node-clause-rows : goal.returns-in_err-node-clause-rows
 returns-in_err-node-clause-rows c =

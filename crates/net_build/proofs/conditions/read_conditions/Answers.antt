@@ -5,7 +5,7 @@ use Rattle.net_build.specs.Blocks.{no_token}
 use Rattle.net_build.specs.Linking.{node_named, condition_steps, conditions_steps}
 use Rattle.net_build.specs.Lists.{list_of}
 use Rattle.net_build.proofs.LinkLemmas.{hands_on, behind_on, behind_refused, map_more}
-use Rattle.net_build.proofs.links.read_conditions.Goals as goal
+use Rattle.net_build.proofs.conditions.read_conditions.Goals as goal
 
 pub returns-in_err-read_condition-clause-rows : goal.returns-in_err-read_condition-clause-rows
 returns-in_err-read_condition-clause-rows c =

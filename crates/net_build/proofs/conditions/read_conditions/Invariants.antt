@@ -3,7 +3,7 @@ use Rattle.net_build.specs.Linking.{node_named, condition_steps, conditions_step
 use Rattle.net_build.specs.Lists.{list_of}
 use Rattle.net_build.proofs.LinkLemmas.{Behind}
 use Rattle.net_build.proofs.Passing.{Leads}
-use Rattle.net_build.proofs.links.read_conditions.Given as goal
+use Rattle.net_build.proofs.conditions.read_conditions.Given as goal
 
 -- the nodes of the names so far, and what the names still to come find, the whole pass finds
 abbrev pub invariant-loop-place : goal.invariant-loop-place
