@@ -6,3 +6,4 @@ pub mod Passing
 pub mod PlaceLemmas
 pub mod AttributeLemmas
 pub mod LinkLemmas
+pub mod SizeLemmas

@@ -1,10 +1,10 @@
 -- Steps of linking: the exits of a `?`, lists of rows one by one, and names among those before.
-use Rattle.std.proofs.Common.{◌≡◌, ◌⊎◌, inl, inr, ℕ, zero, suc, ◌+◌, ◌<◌, ◌≤◌, Bool, true, false, not, cond, ◌||◌, List, [], ◌∷◌, ◌++◌, length, get_or, map, take, drop, Contains, Option, None, Some, Result, Ok, Err, refl, ap, sym, subst, ◌∙◌, arith}
+use Rattle.std.proofs.Common.{◌≡◌, ◌⊎◌, inl, inr, ℕ, zero, suc, ◌+◌, ◌-◌, ◌<◌, ◌≤◌, Bool, true, false, not, cond, ◌||◌, List, [], ◌∷◌, ◌++◌, length, get_or, map, take, drop, Contains, Option, None, Some, Result, Ok, Err, refl, ap, sym, subst, ◌∙◌, arith}
 use Rattle.std.proofs.lemmas.Bool.{false≢true}
 use Rattle.std.proofs.lemmas.List.{drop_all, map-append}
 use Rattle.std.proofs.lemmas.Result.{err_from_is_err_and}
 use Rattle.std.proofs.lemmas.Slice.Eq.{bytes_eq-Decides}
-use Rattle.std.specs.List.{list_any}
+use Rattle.std.specs.List.{list_any, range_with_len}
 use Rattle.std.specs.Result.{IsErr, IsErrAnd}
 use Rattle.std.specs.Str.{bytes_eq}
 use Rattle.net_build.specs.declared.faults.BuildFault.{BuildFault}
@@ -13,7 +13,7 @@ use Rattle.net_build.specs.Blocks.{place_of}
 use Rattle.net_build.specs.declared.nodes.Head.{Head}
 use Rattle.net_build.specs.Linking.{kind_at, node_named, unknown_row, repeat_row, utility_row, condition_steps}
 use Rattle.net_lexer.specs.declared.tokens.Token.{Token}
-use Rattle.net_build.specs.Passes.{Pass, Found, found, clear, rule, ◌▸◌, each_after, Refuses, Passes}
+use Rattle.net_build.specs.Passes.{Pass, Found, found, clear, rule, ◌▸◌, each, each_after, Refuses, Passes}
 use Rattle.net_build.proofs.AttributeLemmas.{contains_first, contains_later, contains_cases, contains_none}
 use Rattle.net_build.proofs.Passing.{Leads, leads_all, leads_on, leads_end, leads_refused, refused_first, drop_item, take_item}
 use Rattle.net_build.proofs.PlaceLemmas.{bytes_same}
@@ -93,3 +93,25 @@ condition_utility text names heads earlier name v r fault e known new is h =
 -- what is made of the items so far, one item on
 pub map_more : {X Y : Type 0} (f : X → Y) (xs : List X) (ys new : List Y) (i : ℕ) (x : X) (y : Y) → i < length xs → x ≡ get_or xs i x → y ≡ f x → ys ≡ map f (take i xs) → new ≡ ys ++ y ∷ [] → new ≡ map f (take (i + 1) xs)
 map_more f xs ys new i x y h is of so made = made ∙ ap (λ zs. zs ++ y ∷ []) so ∙ ap (λ z. map f (take i xs) ++ z ∷ []) of ∙ sym (map-append f (take i xs) (x ∷ [])) ∙ ap (map f) (sym (take_item xs i x h is))
+
+-- the numbers from i on below n, where i is one of them, and where none is
+range_next : (i n : ℕ) → i < n → range_with_len i (n - i) ≡ i ∷ range_with_len (i + 1) (n - (i + 1))
+range_next i n h = let e : n - i ≡ suc (n - (i + 1)) = omega arith in ap (range_with_len i) e
+
+range_done : (i n : ℕ) → n ≤ i → range_with_len i (n - i) ≡ []
+range_done i n h = let e : n - i ≡ 0 = omega arith in ap (range_with_len i) e
+
+-- the numbers below n + 1 are those below n, and n
+pub range_more : (a n j : ℕ) → a + n ≡ j → range_with_len a (n + 1) ≡ range_with_len a n ++ j ∷ []
+range_more a zero j e = ap (λ x. x ∷ []) (let k : a ≡ j = omega (arith, e) in k)
+range_more a (suc n) j e = let s : suc n + 1 ≡ suc (n + 1) = omega arith in ap (range_with_len a) s ∙ ap (λ xs. a ∷ xs) (range_more (a + 1) n j (omega (arith, e)))
+
+-- numbered rows that find nothing, that find a fault, and the end of them
+pub range_on : (P : ℕ → Pass) (W : Pass) (i n : ℕ) → i < n → Leads (each P (range_with_len i (n - i))) W → P i None → Leads (each P (range_with_len (i + 1) (n - (i + 1)))) W
+range_on P W i n h lead nothing = leads_on (P i) (each P (range_with_len (i + 1) (n - (i + 1)))) W (rw (range_next i n h) at lead) nothing
+
+pub range_refused : (P : ℕ → Pass) (W : Pass) (i n : ℕ) (fault : BuildFault) → i < n → Leads (each P (range_with_len i (n - i))) W → Refuses (P i) fault → Refuses W fault
+range_refused P W i n fault h lead here = leads_refused (P i ▸ each P (range_with_len (i + 1) (n - (i + 1)))) W fault (rw (range_next i n h) at lead) (refused_first (P i) (each P (range_with_len (i + 1) (n - (i + 1)))) fault here)
+
+pub range_end : (P : ℕ → Pass) (W : Pass) (i n : ℕ) → n ≤ i → Leads (each P (range_with_len i (n - i))) W → W None
+range_end P W i n h lead = leads_end W (λ outcome nothing. lead outcome (rw (range_done i n h) nothing))

@@ -14,7 +14,7 @@ use Rattle.net_parser.specs.Trees.{BlockTree}
 use Rattle.net_build.specs.declared.faults.Limit.TheVariants.{Parents, Cells, Rules}
 use Rattle.net_build.specs.declared.nodes.Head.{Head}
 use Rattle.net_build.specs.Passes.{Pass, found, rule, only, ◌▸◌, each, each_after, UnknownName, DoublePotential, RepeatedParent, UtilityParent, MissingTable, GraphCycle, LimitPassed}
-use Rattle.net_build.specs.Blocks.{name_of, conditions, place_of}
+use Rattle.net_build.specs.Blocks.{title, name_of, potentials, conditions, place_of}
 use Rattle.net_build.specs.Stages.{head_at, cells_at}
 
 -- the number of the node of that name
@@ -72,6 +72,14 @@ potentials_among text names blocks = map (λ name. find (λ p. bytes_eq (name_of
 -- the parents in them
 abbrev pub parents_in : List ℕ → List (List ℕ) → List (Option BlockTree) → List (List ℕ)
 parents_in text names potentials = map (λ o. option_map_or (λ p. map (node_named text names) (conditions p)) o []) potentials
+
+-- a potential behind those earlier
+abbrev pub behind_rows : List ℕ → List (List ℕ) → List Head → List BlockTree → BlockTree → Pass
+behind_rows text names heads earlier p = potential_steps text names heads (potentials_among text names earlier) (title p) (conditions p)
+
+-- the potentials in text order
+abbrev pub potentials_steps : List ℕ → List (List ℕ) → List Head → List BlockTree → Pass
+potentials_steps text names heads blocks = each_after (behind_rows text names heads) [] (potentials blocks)
 
 -- parents that a node may have
 pub record AreParents (heads : List Head) (parents : List ℕ) : Type 0 where

@@ -7,6 +7,7 @@
 mod attributes;
 mod conditions;
 mod cursor;
+mod cycles;
 mod faults;
 mod first;
 mod links;

@@ -1,17 +1,21 @@
 //! The potentials of a text, node by node.
 
-ghost use Rattle.std.specs.Prelude.{◌≡◌, ◌<◌, ◌≤◌, length, map, All, IfOk};
+ghost use Rattle.std.specs.Prelude.{◌≡◌, ◌≢◌, ◌<◌, ◌≤◌, true, [], length, map, drop, replicate, All, AllPairs, IfOk};
 ghost use Rattle.net_lexer.specs.Token.{IsTokenOf};
-ghost use Rattle.net_build.specs.Linking.{node_named, trees_of, taken_row, many_row, potential_steps, AreParents};
-ghost use Rattle.net_build.specs.Lists.{list_of};
+ghost use Rattle.net_parser.specs.Owned.{IsBlockOf};
+ghost use Rattle.net_build.specs.Blocks.{is_potential, title, conditions, potentials};
+ghost use Rattle.net_build.specs.Linking.{node_named, trees_of, taken_row, many_row, potential_steps, potentials_steps, potentials_among, parents_in, missing_at, missing_steps, AreParents};
+ghost use Rattle.net_build.specs.Lists.{list_of, numbers_of_lists};
 ghost use Rattle.net_build.specs.Passes.{Passes};
 
 use crate::conditions::{read_conditions, read_name};
 use crate::faults::{BuildFault, BuildKind, Limit};
+use crate::links::Links;
 use crate::nodes::Head;
+use maid_model::Kind;
 use net_lexer::Token;
-use net_parser::Block;
-use std::alloc::Global;
+use net_parser::{Block, BlockKind, Syntax};
+use std::alloc::{AllocError, Global};
 
 // The node has no potential yet.
 fn check_single(potentials: &[Option<&Block>], node: usize, head: &Token) -> Result<(), BuildFault>
@@ -63,4 +67,106 @@ fn read_potential(
     let parents = read_conditions(alloc, text, names, heads, conditions)?;
     check_count(head, conditions)?;
     Ok((node, parents))
+}
+
+fn is_potential(block: &Block) -> bool
+    ensures { result ≡ is_potential block.now.kind }
+{
+    matches!(block.kind, BlockKind::Potential)
+}
+
+// All but the first.
+fn behind_first(tokens: &[Token]) -> &[Token]
+    requires { 0 < length tokens.now }
+    ensures { result.now ≡ drop 1 tokens.now }
+{
+    &tokens[1..]
+}
+
+// The node at the head of a potential, and its parents.
+fn read_block(
+    alloc: Global,
+    text: &[u8],
+    names: &[Vec<u8>],
+    heads: &[Head],
+    potentials: &[Option<&Block>],
+    block: &Block,
+) -> Result<(usize, Vec<usize>), BuildFault>
+    requires block { IsBlockOf text.now block.now }
+    requires potential { is_potential block.now.kind ≡ true }
+    requires heads { length heads.now ≡ length names.now }
+    requires potentials { length potentials.now ≡ length names.now }
+    ensures rows { Passes (potential_steps text.now (list_of names.now) heads.now (trees_of potentials.now) (title block.now) (conditions block.now)) result }
+    ensures node { IfOk result (λ read. read.0 ≡ node_named text.now (list_of names.now) (title block.now)) }
+    ensures within { IfOk result (λ read. read.0 < length names.now) }
+    ensures parents { IfOk result (λ read. read.1.items ≡ map (node_named text.now (list_of names.now)) (conditions block.now)) }
+{
+    let tokens = block.names.as_slice();
+    let head = &tokens[0];
+    let conditions = behind_first(tokens);
+    read_potential(alloc, text, names, heads, potentials, head, conditions)
+}
+
+// No parents for each of so many nodes.
+fn no_parents(alloc: Global, count: usize) -> Result<Vec<Vec<usize>>, AllocError>
+    ensures { IfOk result (λ lists. numbers_of_lists lists.items ≡ replicate count []) }
+{
+    let mut lists = Vec::with_capacity(alloc, count)?;
+    for _node in 0..count {
+        lists.push(Vec::new(alloc))?;
+    }
+    Ok(lists)
+}
+
+/// The parents and the potential of each node.
+pub fn read_potentials<'a>(
+    alloc: Global,
+    text: &[u8],
+    syntax: &'a Syntax,
+    names: &[Vec<u8>],
+    heads: &[Head],
+) -> Result<Links<'a>, BuildFault>
+    requires blocks { All (IsBlockOf text.now) syntax.now }
+    requires heads { length heads.now ≡ length names.now }
+    requires names { AllPairs (λ name later. name ≢ later) (list_of names.now) }
+    ensures rows { Passes (potentials_steps text.now (list_of names.now) heads.now syntax.now) result }
+    ensures potentials { IfOk result (λ links. links.potentials ≡ potentials_among text.now (list_of names.now) (potentials syntax.now)) }
+    ensures parents { IfOk result (λ links. links.parents ≡ parents_in text.now (list_of names.now) links.potentials) }
+{
+    let mut parents = no_parents(alloc, names.len())?;
+    let mut potentials = vec![in alloc; None; names.len()]?;
+    for block in &syntax.blocks {
+        if is_potential(block) {
+            let (node, list) = read_block(alloc, text, names, heads, &potentials, block)?;
+            parents[node] = list;
+            potentials[node] = Some(block);
+        }
+    }
+    Ok(Links {
+        parents,
+        potentials,
+    })
+}
+
+// The node has a potential if it is no decision.
+fn check_table(heads: &[Head], potentials: &[Option<&Block>], node: usize) -> Result<(), BuildFault>
+    requires within { node < length heads.now }
+    requires len { length potentials.now ≡ length heads.now }
+    ensures { Passes (missing_at heads.now (trees_of potentials.now) node) result }
+{
+    match (heads[node].kind, potentials[node]) {
+        (Kind::Chance | Kind::Utility, None) => Err(BuildKind::MissingTable.at(heads[node].at)),
+        _ => Ok(()),
+    }
+}
+
+/// Each chance and utility node has a potential.
+pub fn check_tables(heads: &[Head], potentials: &[Option<&Block>]) -> Result<(), BuildFault>
+    requires { length potentials.now ≡ length heads.now }
+    ensures { Passes (missing_steps heads.now (trees_of potentials.now)) result }
+{
+    for node in 0..heads.len() {
+        check_table(heads, potentials, node)?;
+    }
+    Ok(())
 }
