@@ -7,3 +7,4 @@ pub mod PlaceLemmas
 pub mod AttributeLemmas
 pub mod LinkLemmas
 pub mod SizeLemmas
+pub mod PotentialLemmas

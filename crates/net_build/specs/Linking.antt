@@ -88,9 +88,13 @@ pub record AreParents (heads : List Head) (parents : List ℕ) : Type 0 where
   pub no_utility : All (λ u. (head_at heads u).kind ≢ Utility) parents
   pub few : length parents ≤ 16
 
--- a chance or utility node without a potential
+-- the node has no potential
+abbrev pub absent_row : Head → List (Option BlockTree) → ℕ → Pass
+absent_row head potentials v = rule (slice_index_or potentials v None ≡ None) (found head.at MissingTable)
+
+-- a chance or utility node
 abbrev pub missing_at : List Head → List (Option BlockTree) → ℕ → Pass
-missing_at heads potentials v = only (not (is_decision (head_at heads v).kind)) (rule (slice_index_or potentials v None ≡ None) (found (head_at heads v).at MissingTable))
+missing_at heads potentials v = only (not (is_decision (head_at heads v).kind)) (absent_row (head_at heads v) potentials v)
 
 -- the nodes in order
 abbrev pub missing_steps : List Head → List (Option BlockTree) → Pass

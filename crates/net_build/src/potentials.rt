@@ -1,12 +1,13 @@
 //! The potentials of a text, node by node.
 
-ghost use Rattle.std.specs.Prelude.{◌≡◌, ◌≢◌, ◌<◌, ◌≤◌, true, [], length, map, drop, replicate, All, AllPairs, IfOk};
+ghost use Rattle.std.specs.Prelude.{◌≡◌, ◌≢◌, ◌<◌, ◌≤◌, true, [], length, map, drop, replicate, slice_set, None, Some, All, AllPairs, IfOk};
 ghost use Rattle.net_lexer.specs.Token.{IsTokenOf};
 ghost use Rattle.net_parser.specs.Owned.{IsBlockOf};
 ghost use Rattle.net_build.specs.Blocks.{is_potential, title, conditions, potentials};
-ghost use Rattle.net_build.specs.Linking.{node_named, trees_of, taken_row, many_row, potential_steps, potentials_steps, potentials_among, parents_in, missing_at, missing_steps, AreParents};
+ghost use Rattle.net_build.specs.Linking.{node_named, trees_of, taken_row, many_row, potential_steps, potentials_steps, potentials_among, parents_in, absent_row, missing_at, missing_steps, AreParents};
 ghost use Rattle.net_build.specs.Lists.{list_of, numbers_of_lists};
 ghost use Rattle.net_build.specs.Passes.{Passes};
+ghost use Rattle.net_build.specs.Stages.{head_at};
 
 use crate::conditions::{read_conditions, read_name};
 use crate::faults::{BuildFault, BuildKind, Limit};
@@ -118,6 +119,34 @@ fn no_parents(alloc: Global, count: usize) -> Result<Vec<Vec<usize>>, AllocError
     Ok(lists)
 }
 
+// No potential for each of so many nodes.
+fn no_potentials<'a>(alloc: Global, count: usize) -> Result<Vec<Option<&'a Block>>, AllocError>
+    ensures { IfOk result (λ found. trees_of found.items ≡ replicate count None) }
+{
+    let mut found = Vec::with_capacity(alloc, count)?;
+    for _node in 0..count {
+        found.push(None)?;
+    }
+    Ok(found)
+}
+
+// The node has these parents, and this potential.
+fn enter<'a>(
+    parents: &mut Vec<Vec<usize>>,
+    potentials: &mut Vec<Option<&'a Block>>,
+    node: usize,
+    list: Vec<usize>,
+    block: &'a Block,
+)
+    requires parents { node < length parents.old.items }
+    requires potentials { node < length potentials.old.items }
+    ensures parents { numbers_of_lists parents.new.items ≡ slice_set (numbers_of_lists parents.old.items) node list.items }
+    ensures potentials { trees_of potentials.new.items ≡ slice_set (trees_of potentials.old.items) node (Some block.now) }
+{
+    parents[node] = list;
+    potentials[node] = Some(block);
+}
+
 /// The parents and the potential of each node.
 pub fn read_potentials<'a>(
     alloc: Global,
@@ -134,12 +163,11 @@ pub fn read_potentials<'a>(
     ensures parents { IfOk result (λ links. links.parents ≡ parents_in text.now (list_of names.now) links.potentials) }
 {
     let mut parents = no_parents(alloc, names.len())?;
-    let mut potentials = vec![in alloc; None; names.len()]?;
+    let mut potentials = no_potentials(alloc, names.len())?;
     for block in &syntax.blocks {
         if is_potential(block) {
             let (node, list) = read_block(alloc, text, names, heads, &potentials, block)?;
-            parents[node] = list;
-            potentials[node] = Some(block);
+            enter(&mut parents, &mut potentials, node, list, block);
         }
     }
     Ok(Links {
@@ -148,15 +176,35 @@ pub fn read_potentials<'a>(
     })
 }
 
+// The node has a potential.
+fn check_present(
+    heads: &[Head],
+    potentials: &[Option<&Block>],
+    node: usize,
+) -> Result<(), BuildFault>
+    requires within { node < length heads.now }
+    requires len { length potentials.now ≡ length heads.now }
+    ensures { Passes (absent_row (head_at heads.now node) (trees_of potentials.now) node) result }
+{
+    match potentials[node] {
+        Some(_) => Ok(()),
+        None => Err(BuildKind::MissingTable.at(heads[node].at)),
+    }
+}
+
 // The node has a potential if it is no decision.
-fn check_table(heads: &[Head], potentials: &[Option<&Block>], node: usize) -> Result<(), BuildFault>
+fn check_table(
+    heads: &[Head],
+    potentials: &[Option<&Block>],
+    node: usize,
+) -> Result<(), BuildFault>
     requires within { node < length heads.now }
     requires len { length potentials.now ≡ length heads.now }
     ensures { Passes (missing_at heads.now (trees_of potentials.now) node) result }
 {
-    match (heads[node].kind, potentials[node]) {
-        (Kind::Chance | Kind::Utility, None) => Err(BuildKind::MissingTable.at(heads[node].at)),
-        _ => Ok(()),
+    match heads[node].kind {
+        Kind::Chance | Kind::Utility => check_present(heads, potentials, node),
+        Kind::Decision => Ok(()),
     }
 }
 
