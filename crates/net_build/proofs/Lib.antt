@@ -8,3 +8,4 @@ pub mod AttributeLemmas
 pub mod LinkLemmas
 pub mod SizeLemmas
 pub mod PotentialLemmas
+pub mod LinkPasses

@@ -27,7 +27,7 @@ capped limit a (suc r) = by_order (cases_lt limit a) where
 pub counted_on : (limit rows states rest whole new : ℕ) → new ≡ min (rows * states) limit → min (rows * (states * rest)) limit ≡ whole → min (new * rest) limit ≡ whole
 counted_on limit rows states rest whole new is so = ap (λ n. min (n * rest) limit) is ∙ capped limit (rows * states) rest ∙ ap (λ n. min n limit) (let e : rows * states * rest ≡ rows * (states * rest) = omega arith in e) ∙ so
 
-sum_append : (xs ys : List ℕ) → sum (xs ++ ys) ≡ sum xs + sum ys
+pub sum_append : (xs ys : List ℕ) → sum (xs ++ ys) ≡ sum xs + sum ys
 sum_append xs ys = sum_by-append (λ x. x) xs ys
 
 -- a decision whose rules are too many, and one whose rules are not

@@ -193,11 +193,7 @@ fn check_present(
 }
 
 // The node has a potential if it is no decision.
-fn check_table(
-    heads: &[Head],
-    potentials: &[Option<&Block>],
-    node: usize,
-) -> Result<(), BuildFault>
+fn check_table(heads: &[Head], potentials: &[Option<&Block>], node: usize) -> Result<(), BuildFault>
     requires within { node < length heads.now }
     requires len { length potentials.now ≡ length heads.now }
     ensures { Passes (missing_at heads.now (trees_of potentials.now) node) result }
