@@ -8,4 +8,5 @@ pub mod AttributeLemmas
 pub mod LinkLemmas
 pub mod SizeLemmas
 pub mod PotentialLemmas
+pub mod FitLemmas
 pub mod LinkPasses

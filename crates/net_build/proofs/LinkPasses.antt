@@ -31,7 +31,7 @@ use Rattle.net_build.proofs.SizeLemmas.{rules_more, sum_append}
 
 -- rows that apply alike
 pub rule_leads : (A B : Type 0) (f : Found) → (A → B) → (B → A) → Leads (rule A f) (rule B f)
-rule_leads A B f to from None no = λ b. no (from b)
+rule_leads A B f to from None nothing = λ b. nothing (from b)
 rule_leads A B f to from (Some g) h = (to h.0, h.1)
 
 -- one after the other, the later where the earlier finds nothing

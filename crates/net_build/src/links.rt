@@ -1,15 +1,17 @@
 //! What the potentials of a text say: each node's parents, and the potential of its table.
 
-ghost use Rattle.std.specs.Prelude.{◌≡◌, None, All, IfOk};
+ghost use Rattle.std.specs.Prelude.{◌≡◌, None, length, All, IfOk, OnOk};
 ghost use Rattle.net_parser.specs.Owned.{IsBlockOf};
 ghost use Rattle.net_build.specs.Blocks.{node_blocks};
+ghost use Rattle.net_build.specs.Linking.{trees_of, missing_steps, graph_steps, size_steps, AreParents};
+ghost use Rattle.net_build.specs.Lists.{numbers_of_lists};
 ghost use Rattle.net_build.specs.Passes.{Passes, ◌▸◌};
 ghost use Rattle.net_build.specs.Stages.{node_lists, link_lists, AreLinks};
 ghost use Rattle.net_build.specs.Table.{node_pass, potential_pass, missing_pass, graph_pass, size_pass};
 
 use crate::cycles::check_graph;
 use crate::faults::BuildFault;
-use crate::nodes::Nodes;
+use crate::nodes::{Head, Nodes};
 use crate::potentials::{check_tables, read_potentials};
 use crate::sizes::check_sizes;
 use net_parser::{Block, Syntax};
@@ -37,6 +39,26 @@ impl<'a> Model for Links<'a> {
     ghost view = { λ l. record { parents = numbers_of_lists l.parents.items; potentials = map (option_map (λ p. p.now)) l.potentials.items } };
 }
 
+// The nodes of these heads with these parents and potentials: no table is missing, there is no cycle, and tables and
+// rules keep their limits.
+fn check_links(
+    alloc: Global,
+    heads: &[Head],
+    parents: &[Vec<usize>],
+    potentials: &[Option<&Block>],
+) -> Result<(), BuildFault>
+    requires parents { length parents.now ≡ length heads.now }
+    requires potentials { length potentials.now ≡ length heads.now }
+    requires fit { All (AreParents heads.now) (numbers_of_lists parents.now) }
+    ensures rows { Passes (missing_steps heads.now (trees_of potentials.now) ▸ graph_steps heads.now (numbers_of_lists parents.now) ▸ size_steps heads.now (numbers_of_lists parents.now)) result }
+    ensures fit { OnOk result (AreLinks heads.now (numbers_of_lists parents.now)) }
+{
+    check_tables(heads, potentials)?;
+    check_graph(alloc, heads, parents)?;
+    check_sizes(heads, parents)?;
+    Ok(())
+}
+
 /// What the potentials say. The passes are tried one after the other: the potentials, a potential for each chance and
 /// utility node, no cycle, and the sizes of tables and rules. It goes over the text once, and compares each name in a
 /// potential with the names of the nodes.
@@ -56,8 +78,6 @@ pub fn read_links<'a>(
     let names = nodes.names.as_slice();
     let heads = nodes.heads.as_slice();
     let links = read_potentials(alloc, text, syntax, names, heads)?;
-    check_tables(heads, &links.potentials)?;
-    check_graph(alloc, heads, &links.parents)?;
-    check_sizes(heads, &links.parents)?;
+    check_links(alloc, heads, &links.parents, &links.potentials)?;
     Ok(links)
 }

@@ -62,6 +62,7 @@ fn read_potential(
     ensures node { IfOk result (λ read. read.0 ≡ node_named text.now (list_of names.now) head.now) }
     ensures within { IfOk result (λ read. read.0 < length names.now) }
     ensures parents { IfOk result (λ read. read.1.items ≡ map (node_named text.now (list_of names.now)) conditions.now) }
+    ensures fit { IfOk result (λ read. AreParents heads.now read.1.items) }
 {
     let node = read_name(text, names, head)?;
     check_single(potentials, node, head)?;
@@ -101,6 +102,7 @@ fn read_block(
     ensures node { IfOk result (λ read. read.0 ≡ node_named text.now (list_of names.now) (title block.now)) }
     ensures within { IfOk result (λ read. read.0 < length names.now) }
     ensures parents { IfOk result (λ read. read.1.items ≡ map (node_named text.now (list_of names.now)) (conditions block.now)) }
+    ensures fit { IfOk result (λ read. AreParents heads.now read.1.items) }
 {
     let tokens = block.names.as_slice();
     let head = &tokens[0];
@@ -161,6 +163,7 @@ pub fn read_potentials<'a>(
     ensures rows { Passes (potentials_steps text.now (list_of names.now) heads.now syntax.now) result }
     ensures potentials { IfOk result (λ links. links.potentials ≡ potentials_among text.now (list_of names.now) (potentials syntax.now)) }
     ensures parents { IfOk result (λ links. links.parents ≡ parents_in text.now (list_of names.now) links.potentials) }
+    ensures fit { IfOk result (λ links. All (AreParents heads.now) links.parents) }
 {
     let mut parents = no_parents(alloc, names.len())?;
     let mut potentials = no_potentials(alloc, names.len())?;

@@ -1,10 +1,12 @@
 -- A potential's rows are the first of those still to come, and it is entered where its head's name stands.
-use Rattle.std.proofs.Common.{◌≡◌, ℕ, ◌+◌, ◌<◌, ◌≤◌, true, false, List, [], length, get_or, Option, None, Some, map, take, drop, filter, refl, sym, ap, subst, ◌∙◌, arith}
+use Rattle.std.proofs.Common.{◌≡◌, ℕ, ◌+◌, ◌<◌, ◌≤◌, true, false, List, [], length, get_or, All, Option, None, Some, map, take, drop, filter, refl, sym, ap, subst, ◌∙◌, arith}
 use Rattle.std.proofs.lemmas.List.{length-map, take_all}
+use Rattle.std.proofs.lemmas.List.Elements.{All-set}
 use Rattle.std.specs.Global.{Vec}
+use Rattle.net_build.proofs.FitLemmas.{none_fit_all}
 use Rattle.net_parser.specs.Trees.{BlockTree}
 use Rattle.net_build.specs.Blocks.{is_potential, title, conditions}
-use Rattle.net_build.specs.Linking.{trees_of, behind_rows, potential_steps, potentials_steps, potentials_among, parents_in}
+use Rattle.net_build.specs.Linking.{trees_of, behind_rows, potential_steps, potentials_steps, potentials_among, parents_in, AreParents}
 use Rattle.net_build.specs.Lists.{list_of, numbers_of_lists}
 use Rattle.net_build.specs.Passes.{Refuses}
 use Rattle.net_build.proofs.LinkLemmas.{hands_on}
@@ -19,6 +21,7 @@ loop-block-init c =
     record {
       potentials = c.in_ok-potentials.ensures ∙ rw (← n) (none_among c.args.text.now (list_of c.args.names.now));
       parents = c.in_ok-parents.ensures ∙ none_in c.args.text.now (list_of c.args.names.now) (length c.args.names.now) ∙ ap (parents_in c.args.text.now (list_of c.args.names.now)) (sym c.in_ok-potentials.ensures);
+      fit = subst (All (AreParents c.args.heads.now)) (sym c.in_ok-parents.ensures) (none_fit_all c.args.heads.now (length c.args.names.now));
       lead = leads_all _;
     }
 
@@ -49,6 +52,7 @@ loop-block-preserved c =
           record {
             potentials = entered_from c.args.text.now (list_of c.args.names.now) c.args.syntax.now c.loop-block.block-index c.block-item.result w.in_ok-node.node _ _ within is kept c.requires.names (rw n w.in_ok-node.ensures.within) w.in_ok-node.ensures.node rows.1.0 c.loop-block.invariant.potentials (now ∙ w.enter.ensures.potentials);
             parents = parents_from c.args.text.now (list_of c.args.names.now) w.in_ok-node.node c.block-item.result _ _ _ _ _ w.in_ok-node.ensures.parents c.loop-block.invariant.parents (now ∙ w.enter.ensures.potentials) (new ∙ w.enter.ensures.parents);
+            fit = subst (All (AreParents c.args.heads.now)) (sym (new ∙ w.enter.ensures.parents)) (All-set (AreParents c.args.heads.now) _ w.in_ok-node.node _ w.in_ok-node.ensures.fit c.loop-block.invariant.fit);
             lead = after_step (behind_rows c.args.text.now (list_of c.args.names.now) c.args.heads.now) (λ b. is_potential b.kind) c.args.syntax.now _ c.loop-block.block-index c.block-item.result within is kept c.loop-block.invariant.lead rows;
           }
       | else-is_potential w ↦
@@ -58,6 +62,7 @@ loop-block-preserved c =
           record {
             potentials = now ∙ c.loop-block.invariant.potentials ∙ ap (potentials_among c.args.text.now (list_of c.args.names.now)) (sym (filter_front_no (λ b. is_potential b.kind) c.args.syntax.now c.loop-block.block-index c.block-item.result within is left));
             parents = new ∙ c.loop-block.invariant.parents ∙ ap (parents_in c.args.text.now (list_of c.args.names.now)) (sym now);
+            fit = subst (All (AreParents c.args.heads.now)) (sym new) c.loop-block.invariant.fit;
             lead = after_skip (behind_rows c.args.text.now (list_of c.args.names.now) c.args.heads.now) (λ b. is_potential b.kind) c.args.syntax.now _ c.loop-block.block-index c.block-item.result within is left c.loop-block.invariant.lead;
           }
     ]
