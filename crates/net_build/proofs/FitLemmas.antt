@@ -1,5 +1,5 @@
 -- Names behind a bar whose rows find nothing are parents that a node may have.
-use Rattle.std.proofs.Common.{◌≡◌, ◌≢◌, ◌⊎◌, inl, inr, ℕ, zero, suc, ◌+◌, ◌<◌, ◌≤◌, List, [], ◌∷◌, ◌++◌, length, get_or, map, take, replicate, All, Contains, Option, None, Some, refl, ap, sym, subst, ◌∙◌, arith, append_assoc}
+use Rattle.std.proofs.Common.{◌≡◌, ◌≢◌, ◌⊎◌, inl, inr, ℕ, zero, suc, ◌<◌, ◌≤◌, List, [], ◌∷◌, ◌++◌, length, get_or, map, take, replicate, All, Contains, None, ap, sym, subst, ◌∙◌, arith, append_assoc}
 use Rattle.std.proofs.lemmas.Bool.{cases_lt}
 use Rattle.std.proofs.lemmas.List.{append-nil, get_or-map, get_or-replicate, length-map, length-replicate, map-append}
 use Rattle.std.proofs.lemmas.List.Elements.{Contains-append_left, Contains-append_right}
@@ -10,8 +10,8 @@ use Rattle.maid_model.specs.Graph.{IsAcyclic, AllDifferent}
 use Rattle.net_lexer.specs.Token.{token_bytes}
 use Rattle.net_lexer.specs.declared.tokens.Token.{Token}
 use Rattle.net_build.specs.declared.nodes.Head.{Head}
-use Rattle.net_build.specs.Blocks.{no_token, place_of}
-use Rattle.net_build.specs.Linking.{node_named, kind_at, unknown_row, repeat_row, condition_steps, AreParents, rules_before}
+use Rattle.net_build.specs.Blocks.{no_token}
+use Rattle.net_build.specs.Linking.{node_named, kind_at, unknown_row, condition_steps, AreParents, rules_before}
 use Rattle.net_build.specs.Passes.{each_after}
 use Rattle.net_build.specs.Stages.{head_at, no_head, cells_at, AreLinks}
 use Rattle.net_build.proofs.AttributeLemmas.{contains_first, contains_cases, contains_none}
@@ -32,7 +32,7 @@ not_above n limit h = by_order (cases_lt limit n) where
   by_order (inr le) = le
 
 -- a name that is not unknown stands within
-within_names : (text : List ℕ) (names : List (List ℕ)) (name : Token) → unknown_row text names name None → node_named text names name < length names
+pub within_names : (text : List ℕ) (names : List (List ℕ)) (name : Token) → unknown_row text names name None → node_named text names name < length names
 within_names text names name known = below_from (node_named text names name) (length names) (λ out. known (λ there. out (place_within names (token_bytes text name) there)))
 
 -- the rows of an item, where all find nothing

@@ -1,5 +1,5 @@
 -- Steps of linking: the exits of a `?`, lists of rows one by one, and names among those before.
-use Rattle.std.proofs.Common.{◌≡◌, ◌⊎◌, inl, inr, ℕ, zero, suc, ◌+◌, ◌-◌, ◌<◌, ◌≤◌, Bool, true, false, not, cond, ◌||◌, List, [], ◌∷◌, ◌++◌, length, get_or, map, take, drop, Contains, Option, None, Some, Result, Ok, Err, refl, ap, sym, subst, ◌∙◌, arith}
+use Rattle.std.proofs.Common.{◌≡◌, ◌⊎◌, inl, inr, ℕ, zero, suc, ◌+◌, ◌-◌, ◌<◌, ◌≤◌, Bool, true, false, not, cond, ◌||◌, List, [], ◌∷◌, ◌++◌, length, get_or, map, take, drop, Contains, None, Result, refl, ap, sym, subst, ◌∙◌, arith}
 use Rattle.std.proofs.lemmas.Bool.{false≢true}
 use Rattle.std.proofs.lemmas.List.{drop_all, map-append}
 use Rattle.std.proofs.lemmas.Result.{err_from_is_err_and}
@@ -13,9 +13,9 @@ use Rattle.net_build.specs.Blocks.{place_of}
 use Rattle.net_build.specs.declared.nodes.Head.{Head}
 use Rattle.net_build.specs.Linking.{kind_at, node_named, unknown_row, repeat_row, utility_row, condition_steps}
 use Rattle.net_lexer.specs.declared.tokens.Token.{Token}
-use Rattle.net_build.specs.Passes.{Pass, Found, found, clear, rule, ◌▸◌, each, each_after, Refuses, Passes}
-use Rattle.net_build.proofs.AttributeLemmas.{contains_first, contains_later, contains_cases, contains_none}
-use Rattle.net_build.proofs.Passing.{Leads, leads_all, leads_on, leads_end, leads_refused, refused_first, drop_item, take_item}
+use Rattle.net_build.specs.Passes.{Pass, ◌▸◌, each, each_after, Refuses, Passes}
+use Rattle.net_build.proofs.AttributeLemmas.{contains_later, contains_cases, contains_none}
+use Rattle.net_build.proofs.Passing.{Leads, leads_on, leads_end, leads_refused, refused_first, drop_item, take_item}
 use Rattle.net_build.proofs.PlaceLemmas.{bytes_same}
 
 -- what a `?` hands on is refused as it was

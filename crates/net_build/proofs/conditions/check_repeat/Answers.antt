@@ -1,5 +1,5 @@
 -- A name stands earlier just where the test finds it.
-use Rattle.std.proofs.Common.{◌≡◌, ℕ, List, map, Contains, ◌∙◌, sym, refl, subst}
+use Rattle.std.proofs.Common.{ℕ, List, map, Contains, ◌∙◌, sym, refl, subst}
 use Rattle.std.proofs.lemmas.Bool.{false≢true}
 use Rattle.net_lexer.specs.Token.{token_bytes}
 use Rattle.net_build.proofs.LinkLemmas.{any_is_there, there_is_any}

@@ -1,5 +1,4 @@
 -- Each row hands its fault on, those before having found nothing.
-use Rattle.net_build.specs.Linking.{kind_at, node_named, unknown_row, repeat_row, utility_row, condition_steps}
 use Rattle.net_build.specs.Lists.{list_of}
 use Rattle.net_build.proofs.LinkLemmas.{condition_unknown, condition_repeat, condition_utility}
 use Rattle.net_build.proofs.conditions.read_condition.Goals as goal

@@ -1,5 +1,5 @@
 -- A name's rows are the first of those still to come.
-use Rattle.std.proofs.Common.{◌≡◌, get_or, refl}
+use Rattle.std.proofs.Common.{get_or}
 use Rattle.std.proofs.lemmas.List.{get_or_default}
 use Rattle.net_build.specs.Blocks.{no_token}
 use Rattle.net_build.specs.Linking.{node_named, condition_steps, conditions_steps}

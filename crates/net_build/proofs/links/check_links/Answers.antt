@@ -1,2 +1,0 @@
-use Rattle.net_build.proofs.FitLemmas.{links_fit, known_arcs}
-use Rattle.net_build.proofs.links.check_links.Goals as goal

@@ -1,5 +1,5 @@
 -- What the rows of the names behind the bar leave.
-use Rattle.std.proofs.Common.{length, sym, ◌∙◌}
+use Rattle.std.proofs.Common.{sym, ◌∙◌}
 use Rattle.std.proofs.lemmas.List.{length-map}
 use Rattle.net_build.specs.Lists.{list_of}
 use Rattle.net_build.proofs.FitLemmas.{conditions_fit}

@@ -1,16 +1,15 @@
 -- A potential's rows are the first of those still to come, and it is entered where its head's name stands.
-use Rattle.std.proofs.Common.{◌≡◌, ℕ, ◌+◌, ◌<◌, ◌≤◌, true, false, List, [], length, get_or, All, Option, None, Some, map, take, drop, filter, refl, sym, ap, subst, ◌∙◌, arith}
+use Rattle.std.proofs.Common.{◌≡◌, ℕ, ◌<◌, ◌≤◌, true, false, List, length, get_or, All, Option, None, take, filter, sym, ap, subst, ◌∙◌}
 use Rattle.std.proofs.lemmas.List.{length-map, take_all}
 use Rattle.std.proofs.lemmas.List.Elements.{All-set}
 use Rattle.std.specs.Global.{Vec}
 use Rattle.net_build.proofs.FitLemmas.{none_fit_all}
 use Rattle.net_parser.specs.Trees.{BlockTree}
-use Rattle.net_build.specs.Blocks.{is_potential, title, conditions}
-use Rattle.net_build.specs.Linking.{trees_of, behind_rows, potential_steps, potentials_steps, potentials_among, parents_in, AreParents}
+use Rattle.net_build.specs.Blocks.{is_potential}
+use Rattle.net_build.specs.Linking.{trees_of, behind_rows, potentials_steps, potentials_among, parents_in, AreParents}
 use Rattle.net_build.specs.Lists.{list_of, numbers_of_lists}
-use Rattle.net_build.specs.Passes.{Refuses}
 use Rattle.net_build.proofs.LinkLemmas.{hands_on}
-use Rattle.net_build.proofs.Passing.{Leads, AfterPass, after_refused, after_skip, after_step, leads_all, filter_front_no}
+use Rattle.net_build.proofs.Passing.{after_refused, after_skip, after_step, leads_all, filter_front_no}
 use Rattle.net_build.proofs.PotentialLemmas.{none_among, none_in, entered_from, parents_from}
 use Rattle.net_build.proofs.potentials.read_potentials.Goals as goal
 use Rattle.net_build.proofs.potentials.read_potentials.Goals.{then-is_potential+in_ok-node, else-is_potential}

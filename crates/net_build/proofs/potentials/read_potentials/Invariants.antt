@@ -1,4 +1,4 @@
-use Rattle.std.proofs.Common.{◌≡◌, All, take, filter, length}
+use Rattle.std.proofs.Common.{◌≡◌, All, take, filter}
 use Rattle.net_build.specs.Blocks.{is_potential}
 use Rattle.net_build.specs.Linking.{trees_of, behind_rows, potentials_steps, potentials_among, parents_in, AreParents}
 use Rattle.net_build.specs.Lists.{list_of, numbers_of_lists}

@@ -1,5 +1,4 @@
 -- The cells of a decision count with the rules before it.
-use Rattle.std.proofs.Common.{◌≡◌, get_or}
 use Rattle.std.proofs.lemmas.List.{get_or_default}
 use Rattle.net_build.specs.Linking.{size_rows_over}
 use Rattle.net_build.specs.Stages.{no_head}

@@ -3,9 +3,8 @@ use Rattle.std.proofs.Common.{◌≡◌, ℕ, ◌+◌, ◌<◌, ◌≤◌, List,
 use Rattle.std.proofs.lemmas.List.{get_or-map, length-map}
 use Rattle.std.specs.Global.{Vec}
 use Rattle.maid_model.specs.Nodes.{is_decision}
-use Rattle.net_build.specs.Linking.{cells_over, size_rows_over, size_steps_at, size_steps, rules_before}
+use Rattle.net_build.specs.Linking.{cells_over, size_steps_at, size_steps}
 use Rattle.net_build.specs.Lists.{numbers_of_lists}
-use Rattle.net_build.specs.Passes.{Refuses}
 use Rattle.net_build.specs.Stages.{head_at, cells_at}
 use Rattle.net_build.proofs.LinkLemmas.{hands_on, range_on, range_refused}
 use Rattle.net_build.proofs.SizeLemmas.{rules_more}

@@ -1,7 +1,6 @@
 -- A parent's count of states is the first factor of those still to come.
-use Rattle.std.proofs.Common.{◌≡◌, ℕ, ◌+◌, ◌*◌, ◌^◌, min, List, drop, get_or, sym, ap, ◌∙◌, arith}
+use Rattle.std.proofs.Common.{ℕ, ◌+◌, ◌*◌, ◌^◌, min, List, drop, get_or, sym, ap, ◌∙◌, arith}
 use Rattle.std.proofs.lemmas.List.{get_or_default}
-use Rattle.maid_model.specs.declared.diagrams.Kind.TheVariants.{Chance}
 use Rattle.net_build.specs.declared.nodes.Head.{Head}
 use Rattle.net_build.specs.Linking.{rows_over}
 use Rattle.net_build.specs.Stages.{head_at, no_head}
