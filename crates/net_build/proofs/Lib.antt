@@ -1,7 +1,3 @@
-pub mod Fronts
-pub mod Spelled
-pub mod Numerals
-pub mod FirstDiagram
 pub mod Passing
 pub mod PlaceLemmas
 pub mod AttributeLemmas
@@ -36,3 +32,8 @@ pub mod MadeDiagram
 pub mod AgentFacts
 pub mod Assembly
 pub mod AllPasses
+pub mod LinkLemmas
+pub mod SizeLemmas
+pub mod PotentialLemmas
+pub mod FitLemmas
+pub mod LinkPasses

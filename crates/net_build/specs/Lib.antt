@@ -1,7 +1,5 @@
 pub mod Lists
 pub mod Places
-pub mod First
-pub mod Sayings
 pub mod Passes
 pub mod Blocks
 pub mod Zero
@@ -13,3 +11,4 @@ pub mod Stages
 pub mod LinkCode
 pub mod Laws
 pub mod TableParts
+pub mod Linking
