@@ -22,13 +22,14 @@ use Rattle.net_build.specs.Linking.{node_named, unknown_row, repeat_row, utility
 use Rattle.net_build.specs.declared.faults.Limit.TheVariants.{Cells, Rules}
 use Rattle.net_build.specs.Passes.{Pass, Found, found, clear, rule, only, ◌▸◌, each, each_after, DoublePotential, MissingTable, GraphCycle, LimitPassed}
 use Rattle.net_build.specs.Stages.{head_of, head_at, cells_at, LinkLists, link_lists}
-use Rattle.net_build.specs.Table.{node_rows, node_pass, condition_rows, potential_rows, potential_pass, missing_row, missing_pass, no_block, graph_pass, rule_cells, size_rows, size_pass}
+use Rattle.net_build.specs.Table.{node_pass, condition_rows, potential_rows, potential_pass, missing_row, missing_pass, no_block, graph_pass, rule_cells, size_rows, size_pass}
 use Rattle.net_build.proofs.Passing.{Leads, leads_all}
 use Rattle.net_build.proofs.AttributeLemmas.{contains_first, contains_cases, contains_none}
 use Rattle.net_build.proofs.FitLemmas.{within_names}
 use Rattle.net_build.proofs.LinkLemmas.{any_is_there, there_is_any}
 use Rattle.net_build.proofs.PotentialLemmas.{place_holds, among_at, none_from_not_some}
 use Rattle.net_build.proofs.SizeLemmas.{rules_more, sum_append}
+use Rattle.net_build.proofs.NodeFacts.{nodes_are_good}
 
 -- rows that apply alike
 pub rule_leads : (A B : Type 0) (f : Found) → (A → B) → (B → A) → Leads (rule A f) (rule B f)
@@ -255,24 +256,8 @@ pub parents_are : (text : List ℕ) (bs : List BlockTree) → parents_in text (n
 parents_are text bs = ap (parents_in text (names_of text (node_blocks bs))) (potentials_are text bs) ∙ map_map (λ o. option_map_or (λ p. map (node_named text (names_of text (node_blocks bs))) (conditions p)) o []) (λ b. potential_of text bs (name_of text b)) (node_blocks bs)
 
 -- names of nodes whose rows find nothing differ
-names_apart : (text : List ℕ) (earlier bs : List BlockTree) (w : List ℕ) → Contains (names_of text earlier) w → each_after (λ before b. node_rows text (names_of text before) (agents_of text before) b) earlier bs None → Contains (names_of text bs) w → ⊥
-unfolding node_rows
-names_apart text earlier [] w before rows there = contains_none w there
-names_apart text earlier (b ∷ bs) w before rows there = by_place (contains_cases (name_of text b) w (names_of text bs) there)
-    (names_apart text (earlier ++ b ∷ []) bs w (rw map-append (Contains-append_left (names_of text earlier) (names_of text (b ∷ [])) w before)) rows.1) where
-      by_place : (name_of text b ≡ w) ⊎ Contains (names_of text bs) w → (Contains (names_of text bs) w → ⊥) → ⊥
-      by_place (inl e) rec = rows.0.1.1.0 (subst (λ (x : List ℕ). Contains (names_of text earlier) x) (sym e) before)
-      by_place (inr k) rec = rec k
-
-names_differ_from : (text : List ℕ) (earlier bs : List BlockTree) → each_after (λ before b. node_rows text (names_of text before) (agents_of text before) b) earlier bs None → AllPairs (λ x y. x ≢ y) (names_of text bs)
-names_differ_from text earlier [] rows = λ i j d below h. absurd (omega arith)
-names_differ_from text earlier (b ∷ bs) rows = AllPairs-cons (λ x y. x ≢ y) (name_of text b) (names_of text bs)
-    (λ k d h e. names_apart text (earlier ++ b ∷ []) bs (name_of text b) (rw map-append (Contains-append_right (names_of text earlier) (names_of text (b ∷ [])) (name_of text b) (contains_first (name_of text b) []))) rows.1 (k, h, get_or_default (names_of text bs) k (name_of text b) d h ∙ sym e))
-    (names_differ_from text (earlier ++ b ∷ []) bs rows.1)
-
 pub names_differ : (text : List ℕ) (bs : List BlockTree) → node_pass text bs None → AllPairs (λ x y. x ≢ y) (names_of text (node_blocks bs))
-unfolding node_pass
-names_differ text bs rows = names_differ_from text [] (node_blocks bs) rows
+names_differ text bs rows = (nodes_are_good text bs rows).distinct
 
 -- the passes over the lists that the steps have
 pub potentials_into : (text : List ℕ) (bs : List BlockTree) (names : List (List ℕ)) (heads : List Head) → names ≡ names_of text (node_blocks bs) → heads ≡ map (head_of text (node_blocks bs)) (node_blocks bs) → Leads (potentials_steps text names heads bs) (potential_pass text bs)
