@@ -1,6 +1,6 @@
 -- The names of node blocks, block by block.
-use Rattle.std.proofs.Common.{◌≡◌, ◌∙◌, ℕ, List, [], ◌∷◌, ◌++◌, Bool, true, false, All, map, take, refl, sym, ap, subst, ◌<◌, zero, suc, ◌≤◌, length, get_or, arith}
-use Rattle.std.proofs.Math.Seq.{take-le}
+use Rattle.std.proofs.Common.{◌≡◌, ◌∙◌, ℕ, List, [], ◌∷◌, ◌++◌, Bool, true, false, All, map, take, refl, sym, ap, subst, ◌<◌, zero, suc, length, get_or, arith}
+use Rattle.std.proofs.Math.Seq.{take-length}
 use Rattle.std.proofs.lemmas.List.Elements.{All-append}
 use Rattle.std.specs.List.{flat_map}
 use Rattle.net_build.specs.Blocks.{node_blocks, names_of, name_of, title, is_node, no_token}
@@ -46,5 +46,5 @@ titles_own text (block ∷ blocks) all =
     (titles_own text blocks (λ k d h. all (suc k) d (omega (arith, h))))
 
 -- the titles of all blocks
-pub all_titles : (blocks : List BlockTree) (titles : List Token) (i : ℕ) → length blocks ≤ i → titles ≡ flat_map node_titles (take i blocks) → titles ≡ flat_map node_titles blocks
-all_titles blocks titles i h e = e ∙ ap (flat_map node_titles) (take-le i blocks h)
+pub all_titles : (blocks : List BlockTree) (titles : List Token) (i : ℕ) → i ≡ length blocks → titles ≡ flat_map node_titles (take i blocks) → titles ≡ flat_map node_titles blocks
+all_titles blocks titles i h e = e ∙ ap (λ n. flat_map node_titles (take n blocks)) h ∙ ap (flat_map node_titles) (take-length blocks)

@@ -1,7 +1,3 @@
-pub mod Fronts
-pub mod Spelled
-pub mod Numerals
-pub mod FirstDiagram
 pub mod Passing
 pub mod PlaceLemmas
 pub mod AttributeLemmas

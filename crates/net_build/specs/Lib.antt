@@ -1,7 +1,5 @@
 pub mod Lists
 pub mod Places
-pub mod First
-pub mod Sayings
 pub mod Passes
 pub mod Blocks
 pub mod Zero

@@ -30,6 +30,29 @@ fn told(status: Status, line: Result<Vec<u8>, AllocError>) -> Refusal
     }
 }
 
+// The refusal of a diagram that passes the weight bound at that node, or by its utilities.
+fn bound_refusal(
+    alloc: Global,
+    diagram: &Diagram,
+    names: &Names,
+    node: Option<usize>,
+) -> Refusal
+    requires fit { NamesFit diagram.now names.now }
+    requires tells { Tells diagram.now (SolveFault.WeightBound node) }
+    ensures { (name bytes : List ℕ) → IsDiagramOf bytes diagram.now names.now → RefusesAs (Solves name bytes) (status_of result) (line_of result) }
+{
+    match node {
+        Some(v) => told(
+            Status::WeightBound,
+            lines::told(alloc, b"weight bound: node ", names.name(v)),
+        ),
+        None => told(
+            Status::WeightBound,
+            lines::told(alloc, b"weight bound: utilities", b""),
+        ),
+    }
+}
+
 // The refusal of a diagram that isn't solved.
 fn refusal(alloc: Global, diagram: &Diagram, names: &Names, fault: &SolveFault) -> Refusal
     requires fit { NamesFit diagram.now names.now }
@@ -41,14 +64,7 @@ fn refusal(alloc: Global, diagram: &Diagram, names: &Names, fault: &SolveFault) 
             Status::Cycle,
             list_line(alloc, names, b"relevance cycle:", list),
         ),
-        SolveFault::WeightBound { node: Some(v) } => told(
-            Status::WeightBound,
-            lines::told(alloc, b"weight bound: node ", names.name(*v)),
-        ),
-        SolveFault::WeightBound { node: None } => told(
-            Status::WeightBound,
-            lines::told(alloc, b"weight bound: utilities", b""),
-        ),
+        SolveFault::WeightBound { node } => bound_refusal(alloc, diagram, names, *node),
         SolveFault::NotBuilt { .. } => told(Status::NotBuilt, lines::told(alloc, b"not built", b"")),
         SolveFault::NoMemory => Refusal::NoMemory,
     }
