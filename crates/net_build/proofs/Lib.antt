@@ -36,3 +36,8 @@ pub mod MadeDiagram
 pub mod AgentFacts
 pub mod Assembly
 pub mod AllPasses
+pub mod LinkLemmas
+pub mod SizeLemmas
+pub mod PotentialLemmas
+pub mod FitLemmas
+pub mod LinkPasses

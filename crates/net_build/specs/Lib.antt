@@ -13,3 +13,4 @@ pub mod Stages
 pub mod LinkCode
 pub mod Laws
 pub mod TableParts
+pub mod Linking

@@ -15,10 +15,9 @@ ghost use Rattle.net_parser.specs.Lexemes.{lexemes};
 ghost use Rattle.net_parser.specs.Owned.{IsBlockOf};
 
 use crate::faults::BuildFault;
-use crate::links::Links;
+use crate::links::{Links, read_links};
 use crate::names::Names;
 use crate::nodes::{Head, Nodes, read_nodes};
-use crate::pending::read_links;
 use crate::tables::{Tables, read_tables};
 use maid_model::{Diagram, Node};
 use net_lexer::Tokens;
