@@ -99,13 +99,13 @@ pub fn read_draft(
 }
 
 /// The table's cells, a utility's to that scale.
-pub fn finish_draft(alloc: Global, draft: &Draft, scale: u32) -> Result<Vec<i128>, AllocError>
+pub fn finish_draft(alloc: Global, draft: Draft, scale: u32) -> Result<Vec<i128>, AllocError>
     requires few { scale ≤ 30 }
-    requires fits { FitsDraft scale draft.now }
-    ensures { IfOk result (λ cells. cells.items ≡ finished scale draft.now) }
+    requires fits { FitsDraft scale draft }
+    ensures { IfOk result (λ cells. cells.items ≡ finished scale draft) }
 {
     match draft {
-        Draft::Cells(cells) => Vec::from_slice(alloc, cells),
-        Draft::Values(decimals) => scaled_cells(alloc, decimals, scale),
+        Draft::Cells(cells) => Ok(cells),
+        Draft::Values(decimals) => scaled_cells(alloc, &decimals, scale),
     }
 }

@@ -9,6 +9,7 @@
 mod attributes;
 mod building;
 mod conditions;
+mod cursor;
 mod cycles;
 mod drafts;
 mod faults;

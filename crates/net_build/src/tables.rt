@@ -93,10 +93,10 @@ fn read_drafts(
 }
 
 // The cells of all nodes, the utilities' to that scale.
-fn finish(alloc: Global, drafts: &[Draft], scale: u32) -> Result<Vec<Vec<i128>>, AllocError>
+fn finish(alloc: Global, drafts: Vec<Draft>, scale: u32) -> Result<Vec<Vec<i128>>, AllocError>
     requires few { scale ≤ 30 }
-    requires fits { All (FitsDraft scale) drafts.now }
-    ensures { IfOk result (λ cells. cells_of_lists cells.items ≡ map (finished scale) drafts.now) }
+    requires fits { All (FitsDraft scale) drafts.items }
+    ensures { IfOk result (λ cells. cells_of_lists cells.items ≡ map (finished scale) drafts.items) }
 {
     let mut cells = Vec::with_capacity(alloc, drafts.len())?;
     for draft in drafts {
@@ -131,6 +131,6 @@ pub fn read_tables(
     let drafts = read_drafts(alloc, text, nodes, links)?;
     let numbers = utility_numbers(alloc, text, syntax, nodes)?;
     let decimals = scale_of(alloc, text, &numbers)?;
-    let cells = finish(alloc, &drafts, decimals)?;
+    let cells = finish(alloc, drafts, decimals)?;
     Ok(Tables { cells, decimals })
 }
