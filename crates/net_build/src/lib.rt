@@ -10,10 +10,10 @@
 
 mod attributes;
 mod building;
-mod cursor;
-mod drafts;
 mod conditions;
+mod cursor;
 mod cycles;
+mod drafts;
 mod faults;
 mod first;
 mod labels;
