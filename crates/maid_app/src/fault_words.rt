@@ -68,7 +68,12 @@ fn name_at<'a>(text: &'a [u8], names: &[Token], v: usize) -> &'a [u8]
 
 // Appends the name of each node of the cycle after one space.
 #[tactic(auto, unfolding(crate::specs::Faults::cycle_names))]
-fn push_cycle(out: &mut Vec<u8>, text: &[u8], names: &[Token], cycle: &[usize]) -> Result<(), AllocError>
+fn push_cycle(
+    out: &mut Vec<u8>,
+    text: &[u8],
+    names: &[Token],
+    cycle: &[usize],
+) -> Result<(), AllocError>
     requires { All (IsTokenOf text.now) names.now }
     ensures { OnOk result (out.new.items ≡ out.old.items ++ cycle_names (map (token_bytes text.now) names.now) cycle.now) }
 {

@@ -17,10 +17,10 @@ ghost use Rattle.maid_app.specs.Refusal.{status_of, line_of};
 use crate::fault_words::kind_words;
 use crate::refusal::Refusal;
 use crate::{Status, lines};
+use maid_model::Diagram;
 use net_build::{BuildFault, BuildKind, Names, build};
 use net_lexer::{LexFault, Tokens, lex};
 use net_parser::{ParseFault, Syntax, parse};
-use maid_model::Diagram;
 use std::alloc::{AllocError, Global};
 
 /// A file's name and its bytes.
@@ -96,7 +96,14 @@ impl Source<'_> {
     }
 
     // The refusal of a tree with that fault.
-    fn kind_refusal(self, alloc: Global, tokens: &Tokens, tree: &Syntax, at: usize, kind: &BuildKind) -> Refusal
+    fn kind_refusal(
+        self,
+        alloc: Global,
+        tokens: &Tokens,
+        tree: &Syntax,
+        at: usize,
+        kind: &BuildKind,
+    ) -> Refusal
         requires tokens { IsTokens self.bytes.now tokens.now }
         requires spells { Spells tree.now (lexemes self.bytes.now tokens.now) }
         requires blocks { All (IsBlockOf self.bytes.now) tree.now }
@@ -110,7 +117,13 @@ impl Source<'_> {
     }
 
     // The refusal of a tree that stands for no diagram.
-    fn build_refusal(self, alloc: Global, tokens: &Tokens, tree: &Syntax, fault: &BuildFault) -> Refusal
+    fn build_refusal(
+        self,
+        alloc: Global,
+        tokens: &Tokens,
+        tree: &Syntax,
+        fault: &BuildFault,
+    ) -> Refusal
         requires tokens { IsTokens self.bytes.now tokens.now }
         requires spells { Spells tree.now (lexemes self.bytes.now tokens.now) }
         requires blocks { All (IsBlockOf self.bytes.now) tree.now }

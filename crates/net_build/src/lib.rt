@@ -9,7 +9,6 @@
 mod attributes;
 mod building;
 mod conditions;
-mod cursor;
 mod cycles;
 mod drafts;
 mod faults;

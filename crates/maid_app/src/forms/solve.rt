@@ -9,10 +9,9 @@ ghost use Rattle.maid_app.specs.Refusal.{status_of, line_of};
 ghost use Rattle.maid_app.specs.Solve.{Solves};
 ghost use Rattle.rule_solver.specs.Faults.{Tells};
 
-use crate::lines;
 use crate::reading::Source;
 use crate::refusal::Refusal;
-use crate::Status;
+use crate::{Status, lines};
 use app_lines::list_line;
 use maid_model::Diagram;
 use net_build::Names;
@@ -31,12 +30,7 @@ fn told(status: Status, line: Result<Vec<u8>, AllocError>) -> Refusal
 }
 
 // The refusal of a diagram that passes the weight bound at that node, or by its utilities.
-fn bound_refusal(
-    alloc: Global,
-    diagram: &Diagram,
-    names: &Names,
-    node: Option<usize>,
-) -> Refusal
+fn bound_refusal(alloc: Global, diagram: &Diagram, names: &Names, node: Option<usize>) -> Refusal
     requires fit { NamesFit diagram.now names.now }
     requires tells { Tells diagram.now (SolveFault.WeightBound node) }
     ensures { (name bytes : List ℕ) → IsDiagramOf bytes diagram.now names.now → RefusesAs (Solves name bytes) (status_of result) (line_of result) }
@@ -65,7 +59,10 @@ fn refusal(alloc: Global, diagram: &Diagram, names: &Names, fault: &SolveFault) 
             list_line(alloc, names, b"relevance cycle:", list),
         ),
         SolveFault::WeightBound { node } => bound_refusal(alloc, diagram, names, *node),
-        SolveFault::NotBuilt { .. } => told(Status::NotBuilt, lines::told(alloc, b"not built", b"")),
+        SolveFault::NotBuilt { .. } => told(
+            Status::NotBuilt,
+            lines::told(alloc, b"not built", b""),
+        ),
         SolveFault::NoMemory => Refusal::NoMemory,
     }
 }

@@ -16,6 +16,6 @@ returns-in-Some c name bytes is =
     let tells = subst (λ node. Tells d (faults.WeightBound node)) c.in-Some.is c.requires.tells in
     told_gives (RefusesAs (Solves name bytes)) WeightBound c.told.result c.told-in-Some.result refl
     (if_ok_then c.told.result (λ t. t.items ≡ line (codes "weight bound: node " ++ c.name.result.now)) (λ t. RefusesAs (Solves name bytes) WeightBound t.items)
-      (λ t e. (tt, record { d = d; names = names; is_diagram = is; order = tells.0; passed = tells.1; says = AtNode c.in-Some.v tells.2 (e ∙ ap (λ xs. line (codes "weight bound: node " ++ xs)) c.name.ensures) }))
-      c.told.ensures)
+    (λ t e. (tt, record { d = d; names = names; is_diagram = is; order = tells.0; passed = tells.1; says = AtNode c.in-Some.v tells.2 (e ∙ ap (λ xs. line (codes "weight bound: node " ++ xs)) c.name.ensures) }))
+    c.told.ensures)
     c.told-in-Some.ensures

@@ -15,6 +15,6 @@ returns-in-Cycle c name bytes is =
     let tells = subst (Tells d) c.in-Cycle.is c.requires.tells in
     told_gives (RefusesAs (Solves name bytes)) Cycle c.list_line.result c.told.result refl
     (if_ok_then c.list_line.result (λ t. t.items ≡ cycle_line names c.deref.result.now) (λ t. RefusesAs (Solves name bytes) Cycle t.items)
-      (λ t e. (tt, record { d = d; names = names; is_diagram = is; no_order = tells.1; cycle = c.in-Cycle.list.items; is_cycle = tells.0; says = e ∙ ap (cycle_line names) c.deref.ensures.value }))
-      c.list_line.ensures)
+    (λ t e. (tt, record { d = d; names = names; is_diagram = is; no_order = tells.1; cycle = c.in-Cycle.list.items; is_cycle = tells.0; says = e ∙ ap (cycle_line names) c.deref.ensures.value }))
+    c.list_line.ensures)
     c.told.ensures
