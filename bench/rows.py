@@ -1,0 +1,114 @@
+#!/usr/bin/env python3
+"""Writes crates/worked_rows/stdin and stdout from worked rows given as data.
+
+    bench/rows.py ROWS.json STAGE
+
+What must come is taken from the data alone and never from the program. STAGE is the number of
+changes made so far: a row holds from one such number to another. To take up a new form of words,
+add it to FORMS and run this again. Of a row that tells only that a line is among those of `out`,
+no more than the status and `err` are compared.
+
+No row is left out for its time: each ends within a second.
+"""
+
+import json
+import os
+import sys
+
+# The first words of the forms that `maid_app::run` has.
+FORMS = ["solve", "graph"]
+
+# The first words of all forms, those to come too. A row of other words must end with the usage line.
+ALL_FORMS = [
+    "solve", "graph", "print", "check", "trim", "info", "control", "demo", "pure", "update", "given",
+    "threshold",
+]
+
+CRATE = os.path.join(os.path.dirname(os.path.abspath(__file__)), "..", "crates", "worked_rows")
+
+
+def escaped(text):
+    """The text as the program reads and prints it: `%HH` for a byte that is not plain."""
+    return "".join(
+        c if " " <= c <= "~" and c not in "%\\" else "%%%02X" % ord(c) for c in text
+    )
+
+
+def lines(text):
+    """The lines of a text; one with no end is marked by a `\\`."""
+    parts = text.split("\n")
+    return [escaped(part) for part in parts[:-1]] + ([escaped(parts[-1]) + "\\"] if parts[-1] else [])
+
+
+def device_lines(row):
+    for device in ("shelf", "out", "err"):
+        for number in row.get(device, {}).get("fails", []):
+            yield f"{device} fails {number}"
+        if "piece" in row.get(device, {}):
+            yield f"{device} piece {row[device]['piece']}"
+
+
+def given_lines(row):
+    """The lines that say what the row runs on."""
+    if row["words"]:
+        yield "words " + " ".join(row["words"])
+    for name, content in row["files"]:
+        yield "file " + name
+        for text, times in content:
+            if times == 1:
+                yield from ("text " + line for line in lines(text))
+            else:
+                yield f"times {times} {escaped(text)}\\"
+    yield from device_lines(row)
+
+
+def told(row):
+    """The parts that the row tells, each with its lines."""
+    parts = {}
+    if "out_is" in row:
+        parts["out"] = lines(row["out_is"])
+    else:
+        if "out_first" in row:
+            parts["first"] = [escaped(row["out_first"])]
+        if "out_last" in row:
+            parts["last"] = [escaped(row["out_last"])]
+    if "err_is" in row:
+        parts["err"] = lines(row["err_is"])
+    return parts
+
+
+def is_taken(row, stage):
+    first = row["words"][0] if row["words"] else ""
+    holds = row["from"] <= stage and (row["to"] is None or stage <= row["to"])
+    return holds and (first in FORMS or first not in ALL_FORMS)
+
+
+def main():
+    with open(sys.argv[1], encoding="utf-8") as file:
+        rows = json.load(file)["rows"]
+    stage = int(sys.argv[2])
+    # Of rows that run on the same, the one that tells most counts.
+    runs = {}
+    for row in rows:
+        if is_taken(row, stage):
+            given, parts = tuple(given_lines(row)), told(row)
+            if given not in runs or len(parts) > len(runs[given][2]):
+                runs[given] = (row["words"], row["status"], parts)
+    stdin = ["# Written by bench/rows.py; src/main.rt says how to read it.", ""]
+    stdout = []
+    seen = {}
+    for given, (words, status, parts) in runs.items():
+        name = " ".join(words) or "no words"
+        seen[name] = seen.get(name, 0) + 1
+        if seen[name] > 1:
+            name += f", {seen[name]}"
+        stdin += ["row " + name, *given, " ".join(["show", *parts]), ""]
+        stdout += ["row " + name, f"status {status}"]
+        stdout += [f"{part} {line}" for part, its in parts.items() for line in its]
+    for file_name, text in (("stdin", stdin), ("stdout", stdout)):
+        with open(os.path.join(CRATE, file_name), "w", encoding="ascii") as file:
+            file.write("\n".join(text).rstrip("\n") + "\n")
+    print(f"{len(runs)} rows")
+
+
+main()
