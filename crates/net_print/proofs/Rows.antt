@@ -53,17 +53,21 @@ sum_cells cells start (suc n) l signs =
 pub rows_within : (d : DiagramView) → IsDiagram d → (v r : ℕ) → (node_at d.nodes v).kind ≡ Chance → r < rows_of d.nodes v → r * states_of d.nodes v + states_of d.nodes v ≤ length (node_at d.nodes v).cells
 rows_within d is v r kind l = subst (λ n. r * states_of d.nodes v + states_of d.nodes v ≤ n) (sym (is.tables.table v kind).len) (row_within r (rows_of d.nodes v) (states_of d.nodes v) l)
 
--- each row of a chance node has a divisor above nought
-pub row_positive : (d : DiagramView) → IsDiagram d → (v r : ℕ) → (node_at d.nodes v).kind ≡ Chance → r < rows_of d.nodes v → 0 < sum (map unsigned_abs (row_at (states_of d.nodes v) (node_at d.nodes v).cells r))
-row_positive d is v r kind l =
+-- the weights of each row of a chance node add up to its total
+pub row_total : (d : DiagramView) → IsDiagram d → (v r : ℕ) → (node_at d.nodes v).kind ≡ Chance → r < rows_of d.nodes v → sum (map unsigned_abs (row_at (states_of d.nodes v) (node_at d.nodes v).cells r)) ≡ chance_total d.nodes v
+row_total d is v r kind l =
     let table = is.tables.table v kind in
     let states = states_of d.nodes v in
     let cells = (node_at d.nodes v).cells in
     let total : pos (sum (map unsigned_abs (take states (drop (r * states) cells)))) ≡ pos (chance_total d.nodes v) = sum_cells cells (r * states) states (rows_within d is v r kind l) table.not_negative ∙ table.row r l in
-    rw (row_is states cells r) (above _ _ total (is.tables.positive v kind))
+    rw (row_is states cells r) (same _ _ total)
   where
-    above : (a b : ℕ) → pos a ≡ pos b → 0 < b → 0 < a
-    above a b e h = omega (arith, ints)
+    same : (a b : ℕ) → pos a ≡ pos b → a ≡ b
+    same a b e = omega (arith, ints)
+
+-- and so to more than nought
+pub row_positive : (d : DiagramView) → IsDiagram d → (v r : ℕ) → (node_at d.nodes v).kind ≡ Chance → r < rows_of d.nodes v → 0 < sum (map unsigned_abs (row_at (states_of d.nodes v) (node_at d.nodes v).cells r))
+row_positive d is v r kind l = subst (λ n. 0 < n) (sym (row_total d is v r kind l)) (is.tables.positive v kind)
 
 -- so many numbers stand in the rows
 pub length-rows : (states : ℕ) (cells : List ℤ) (rows : ℕ) → rows * states ≤ length cells → length (reduced_rows states rows cells) ≡ rows * states

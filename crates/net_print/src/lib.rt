@@ -2,9 +2,11 @@
 #![tactic(auto)]
 
 mod blocks;
+mod laws;
 mod numbers;
 mod pieces;
 mod potentials;
 mod printing;
 
+pub use laws::printed_texts_have_tokens;
 pub use printing::print;

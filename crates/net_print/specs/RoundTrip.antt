@@ -1,0 +1,54 @@
+-- The round trip: the printed text of a diagram stands for that diagram and its names.
+use Rattle.std.specs.Prelude.{◌≡◌, ℕ, ◌*◌, ◌^◌, nat_abs, unsigned_abs, List, [], map, sum, All, None}
+use Rattle.std.specs.Int.{◌∣◌}
+use Rattle.std.specs.List.{range_with_len}
+use Rattle.maid_model.specs.declared.diagrams.Kind.TheVariants.{Chance, Utility}
+use Rattle.maid_model.specs.Diagrams.{IsDiagram}
+use Rattle.maid_model.specs.Names.{NamesView, NamesFit, labels_of}
+use Rattle.maid_model.specs.Nodes.{node_at, states_of, rows_of}
+use Rattle.maid_model.specs.Placing.{IsLeast}
+use Rattle.maid_model.specs.Tables.{chance_total}
+use Rattle.maid_model.specs.Views.{DiagramView}
+use Rattle.net_lexer.specs.Pieces.{IsTokens}
+use Rattle.net_lexer.specs.declared.tokens.Token.{Token}
+use Rattle.net_parser.specs.Grammar.{Spells}
+use Rattle.net_parser.specs.Lexemes.{lexemes}
+use Rattle.net_parser.specs.Trees.{BlockTree}
+use Rattle.net_build.specs.Building.{StandsFor}
+use Rattle.net_build.specs.Form.{HasTextForm}
+use Rattle.net_build.specs.Scaling.{IsLeastCommonMultiple, row_at}
+use Rattle.net_build.specs.Table.{all_passes}
+use Rattle.net_print.specs.Printed.{printed, reduced_row}
+
+-- what the reduced rows of a chance node add up to
+abbrev pub reduced_totals : DiagramView → ℕ → List ℕ
+reduced_totals d v = map (λ r. sum (reduced_row (map unsigned_abs (row_at (states_of d.nodes v) (node_at d.nodes v).cells r)))) (range_with_len 0 (rows_of d.nodes v))
+
+-- so many decimals are enough for all values of utilities: cell / 10^decimals * 10^k is whole
+abbrev pub AreEnough : DiagramView → ℕ → Type 0
+AreEnough d k = (v : ℕ) → (node_at d.nodes v).kind ≡ Utility → All (λ x. (10 ^ d.decimals) ∣ nat_abs x * 10 ^ k) (node_at d.nodes v).cells
+
+-- W(v) is the least common multiple of the reduced rows' totals, and the decimals are the least that all values of utilities need
+pub record IsPlain (d : DiagramView) : Type 0 where
+  pub weights : (v : ℕ) → (node_at d.nodes v).kind ≡ Chance → IsLeastCommonMultiple (reduced_totals d v) (chance_total d.nodes v)
+  pub decimals : IsLeast (AreEnough d) d.decimals
+
+-- a diagram and names that a text can stand for; a utility has no label
+pub record IsPrintable (d : DiagramView) (names : NamesView) : Type 0 where
+  pub diagram : IsDiagram d
+  pub plain : IsPlain d
+  pub fit : NamesFit d names
+  pub form : HasTextForm d names
+  pub utility_labels : (v : ℕ) → (node_at d.nodes v).kind ≡ Utility → labels_of names v ≡ []
+
+-- the text has tokens, they spell a tree, and without a fault it stands for the diagram and the names
+abbrev pub ReadsBack : DiagramView → NamesView → Type 0
+ReadsBack d names = (tokens : List Token) × (tree : List BlockTree) × IsTokens (printed d names) tokens × Spells tree (lexemes (printed d names) tokens) × all_passes (printed d names) tree None × StandsFor (printed d names) tree d names
+
+-- The round trip.
+abbrev pub RoundTrip : Type 0
+RoundTrip = (d : DiagramView) (names : NamesView) → IsPrintable d names → ReadsBack d names
+
+-- The first step of it: the printed text has a list of tokens.
+abbrev pub PrintsTokens : Type 0
+PrintsTokens = (d : DiagramView) (names : NamesView) → IsPrintable d names → (tokens : List Token) × IsTokens (printed d names) tokens
