@@ -5,3 +5,5 @@ pub mod Written
 pub mod Forms
 pub mod Words
 pub mod Texts
+pub mod Spelling
+pub mod Tree

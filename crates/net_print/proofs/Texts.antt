@@ -13,14 +13,13 @@ use Rattle.maid_model.specs.Tables.{chance_total}
 use Rattle.maid_model.specs.Views.{DiagramView}
 use Rattle.net_build.specs.Scaling.{row_at}
 use Rattle.net_lexer.specs.Numerals.{is_numeral}
-use Rattle.net_lexer.specs.Pieces.{IsTokens}
 use Rattle.net_lexer.specs.Token.{is_name}
 use Rattle.net_print.specs.Printed.{printed, node_line, potential_line, reduced_row, reduced_rows, row_divisor}
-use Rattle.net_print.specs.RoundTrip.{IsPrintable, PrintsTokens}
+use Rattle.net_print.specs.RoundTrip.{IsPrintable}
 use Rattle.net_print.proofs.Forms.{decimal_numeral, value_numeral}
 use Rattle.net_print.proofs.Rows.{row_total}
 use Rattle.net_print.proofs.Words.{Writes, writes-append, writes-all, node_words, node_writes, potential_words, potential_writes, HasNumerals}
-use Rattle.net_print.proofs.Written.{Written, text_onto, tokens_at, written_tokens}
+use Rattle.net_print.proofs.Written.{Written, text_onto}
 
 -- what holds in each list holds in all of them
 all_flat : {A : Type 0} (P : ℕ → Type 0) (f : A → List ℕ) (xs : List A) → All (λ x. All P (f x)) xs → All P (flat_map f xs)
@@ -36,7 +35,7 @@ module _ (d : DiagramView) (names : NamesView) (is : IsPrintable d names) where
   pub named : (v : ℕ) → v < length d.nodes → is_name (name_of names v) ≡ true
   named v h = (is.form.words v [] (subst (λ n. v < n) (sym is.fit.nodes) h)).unsigned
 
-  parents_named : (v : ℕ) → All (λ u. is_name (name_of names u) ≡ true) (node_at d.nodes v).parents
+  pub parents_named : (v : ℕ) → All (λ u. is_name (name_of names u) ≡ true) (node_at d.nodes v).parents
   parents_named v k e h = named (get_or (node_at d.nodes v).parents k e) (is.diagram.graph.parents_known (get_or (node_at d.nodes v).parents k e) v (All-contains_itself (node_at d.nodes v).parents k e h))
 
   -- a weight is no greater than its row's total
@@ -76,6 +75,3 @@ module _ (d : DiagramView) (names : NamesView) (is : IsPrintable d names) where
 
   pub text_is : text_onto words [] ≡ printed d names
   text_is = text_writes.onto [] ∙ append-nil (printed d names)
-
-pub prints_tokens : PrintsTokens
-prints_tokens d names is = (tokens_at 0 (words d names is), subst (λ text. IsTokens text (tokens_at 0 (words d names is))) (text_is d names is) (written_tokens (words d names is) ((text_writes d names is).stands [])))

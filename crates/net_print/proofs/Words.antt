@@ -113,26 +113,26 @@ label_item label = record { form = quoted_string label; some = omega arith; stop
 pub item_fits : (kind : TokenKind) (bytes : List ℕ) (b : ℕ) (rest : List ℕ) → IsItem kind bytes → is_run_byte b ≡ false → list_all is_white (b ∷ []) ≡ true → Fits (written [] kind bytes (b ∷ [])) rest
 item_fits kind bytes b rest is stops white = record { form = is.form; some = is.some; before = refl; after = white; stops = is.stops (b ∷ rest) stops }
 
-abbrev equals : Written
+abbrev pub equals : Written
 equals = written [] Equals (codes "=") space
 
-abbrev paren_open : Written
+abbrev pub paren_open : Written
 paren_open = written [] ParenOpen (codes "(") []
 
-abbrev paren_close : List ℕ → Written
+abbrev pub paren_close : List ℕ → Written
 paren_close after = written [] ParenClose (codes ")") after
 
-abbrev semicolon : Written
+abbrev pub semicolon : Written
 semicolon = written [] Semicolon (codes ";") space
 
-abbrev brace_open : Written
+abbrev pub brace_open : Written
 brace_open = written [] BraceOpen (codes "{") space
 
 -- the end of a line
-abbrev brace_close : Written
+abbrev pub brace_close : Written
 brace_close = written [] BraceClose (codes "}") (10 ∷ [])
 
-abbrev bar : Written
+abbrev pub bar : Written
 bar = written [] Bar (codes "|") space
 
 equals_fits : (rest : List ℕ) → Fits equals rest
@@ -220,7 +220,7 @@ open_writes word name is_word is = record {
 close_writes : Writes (brace_close ∷ []) (codes "}" ++ 10 ∷ [])
 close_writes = record { onto = λ rest. refl; stands = λ rest. (brace_close_fits rest, tt) }
 
-kind_named : (kind : Kind) → is_name (kind_word kind) ≡ true
+pub kind_named : (kind : Kind) → is_name (kind_word kind) ≡ true
 kind_named Chance = refl
 kind_named Decision = refl
 kind_named Utility = refl

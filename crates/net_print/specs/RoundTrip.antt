@@ -49,6 +49,6 @@ ReadsBack d names = (tokens : List Token) × (tree : List BlockTree) × IsTokens
 abbrev pub RoundTrip : Type 0
 RoundTrip = (d : DiagramView) (names : NamesView) → IsPrintable d names → ReadsBack d names
 
--- The first step of it: the printed text has a list of tokens.
-abbrev pub PrintsTokens : Type 0
-PrintsTokens = (d : DiagramView) (names : NamesView) → IsPrintable d names → (tokens : List Token) × IsTokens (printed d names) tokens
+-- The first two steps of it: the printed text has a list of tokens, and they spell a tree.
+abbrev pub PrintsTree : Type 0
+PrintsTree = (d : DiagramView) (names : NamesView) → IsPrintable d names → (tokens : List Token) × (tree : List BlockTree) × IsTokens (printed d names) tokens × Spells tree (lexemes (printed d names) tokens)

@@ -8,5 +8,5 @@ mod pieces;
 mod potentials;
 mod printing;
 
-pub use laws::printed_texts_have_tokens;
+pub use laws::printed_texts_spell_trees;
 pub use printing::print;
