@@ -7,3 +7,6 @@ pub mod Words
 pub mod Texts
 pub mod Spelling
 pub mod Tree
+pub mod Told
+pub mod Look
+pub mod Agents
