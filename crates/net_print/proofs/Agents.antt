@@ -1,6 +1,6 @@
 -- The agents, owners and states that the tree of a printed text tells.
-use Rattle.std.proofs.Common.{◌≡◌, ◌∙◌, ◌≢◌, ℕ, suc, ◌+◌, ◌<◌, ◌≤◌, Bool, true, false, not, cond, List, [], ◌∷◌, ◌++◌, length, map, filter, get_or, All, AllPairs, refl, sym, ap, subst, arith}
-use Rattle.std.specs.List.{flat_map, position_or_len}
+use Rattle.std.proofs.Common.{◌≡◌, ◌∙◌, ◌≢◌, ℕ, ◌<◌, Bool, true, false, not, cond, List, [], ◌∷◌, ◌++◌, length, map, filter, get_or, AllPairs, refl, sym, ap, subst, arith}
+use Rattle.std.specs.List.{flat_map}
 use Rattle.std.specs.Str.{bytes_eq}
 use Rattle.std.proofs.lemmas.Bool.{not-true, both_ways, false_from_ne_true}
 use Rattle.std.proofs.lemmas.List.{length-map}
@@ -10,8 +10,8 @@ use Rattle.std.proofs.lemmas.List.Sums.{position_or_len_is}
 use Rattle.std.proofs.lemmas.Slice.Eq.{bytes_eq-Decides}
 use Rattle.maid_model.specs.declared.diagrams.Kind.{Kind}
 use Rattle.maid_model.specs.declared.diagrams.Kind.TheVariants.{Chance, Decision, Utility}
-use Rattle.maid_model.specs.Names.{NamesView, labels_of, agent_name}
-use Rattle.maid_model.specs.Nodes.{node_at, states_of, numbers_of, is_chance}
+use Rattle.maid_model.specs.Names.{NamesView, agent_name}
+use Rattle.maid_model.specs.Nodes.{node_at, is_chance}
 use Rattle.maid_model.specs.Views.{NodeView, DiagramView}
 use Rattle.net_build.specs.Blocks as look
 use Rattle.net_parser.specs.Trees.{BlockTree}
@@ -76,12 +76,12 @@ module _ (d : DiagramView) (names : NamesView) (is : IsPrintable d names) where
   agents_told =
       let piece = λ (n : NodeView). cond (not (is_chance n.kind)) (agent_name names n.owner ∷ []) [] in
       ap look.first_sights (
-        filter_flat (look.agent_of (printed d names)) (λ b. look.has_agent b.kind) Blocks
-        ∙ ap (flat_map (λ ys. ys)) (
-          tell d names is (λ b. cond (look.has_agent b.kind) (look.agent_of (printed d names) b ∷ []) []) (λ v. piece (node_at d.nodes v))
-          (λ v p more l at. owner_piece (node_at d.nodes v).kind (look.agent_of (printed d names) (node_tree d.nodes names p v)) (agent_name names (node_at d.nodes v).owner) (node_agent_told (printed d names) d.nodes names v p more at))
-          ∙ each_node piece d.nodes)
-        ∙ sym (filter_flat (λ (n : NodeView). agent_name names n.owner) (λ n. not (is_chance n.kind)) d.nodes))
+      filter_flat (look.agent_of (printed d names)) (λ b. look.has_agent b.kind) Blocks
+      ∙ ap (flat_map (λ ys. ys)) (
+      tell d names is (λ b. cond (look.has_agent b.kind) (look.agent_of (printed d names) b ∷ []) []) (λ v. piece (node_at d.nodes v))
+      (λ v p more l at. owner_piece (node_at d.nodes v).kind (look.agent_of (printed d names) (node_tree d.nodes names p v)) (agent_name names (node_at d.nodes v).owner) (node_agent_told (printed d names) d.nodes names v p more at))
+      ∙ each_node piece d.nodes)
+      ∙ sym (filter_flat (λ (n : NodeView). agent_name names n.owner) (λ n. not (is_chance n.kind)) d.nodes))
       ∙ sym is.form.numbered
 
   agents_differ : AllPairs (λ x y. x ≢ y) names.agents
@@ -94,9 +94,9 @@ module _ (d : DiagramView) (names : NamesView) (is : IsPrintable d names) where
         let owner = (node_at d.nodes v).owner in
         owner_case (node_at d.nodes v).kind (look.place_of (look.agents_of (printed d names) Blocks) (look.agent_of (printed d names) (node_tree d.nodes names p v))) owner
         (λ owned.
-          ap (λ agents. look.place_of agents (look.agent_of (printed d names) (node_tree d.nodes names p v))) agents_told
-          ∙ ap (look.place_of names.agents) (node_agent_told (printed d names) d.nodes names v p more at owned)
-          ∙ place_here names.agents agents_differ owner (subst (λ n. owner < n) (sym is.fit.agents) (is.diagram.owners.agent v l owned)))
+        ap (λ agents. look.place_of agents (look.agent_of (printed d names) (node_tree d.nodes names p v))) agents_told
+        ∙ ap (look.place_of names.agents) (node_agent_told (printed d names) d.nodes names v p more at owned)
+        ∙ place_here names.agents agents_differ owner (subst (λ n. owner < n) (sym is.fit.agents) (is.diagram.owners.agent v l owned)))
         (is.diagram.owners.chance v)
 
   pub states_told : map (λ n. n.states) d.nodes ≡ look.state_counts (printed d names) Blocks
@@ -106,7 +106,7 @@ module _ (d : DiagramView) (names : NamesView) (is : IsPrintable d names) where
         let tree = node_tree d.nodes names p v in
         state_case (node_at d.nodes v).kind (length (look.label_tokens (printed d names) tree)) (node_at d.nodes v).states
         (λ some.
-          sym (length-map (look.label_tokens (printed d names) tree) (text_value (printed d names)))
-          ∙ ap length (node_labels_told (printed d names) d.nodes names v p more at (is.utility_labels v))
-          ∙ is.fit.states v l some)
+        sym (length-map (look.label_tokens (printed d names) tree) (text_value (printed d names)))
+        ∙ ap length (node_labels_told (printed d names) d.nodes names v p more at (is.utility_labels v))
+        ∙ is.fit.states v l some)
         (is.diagram.graph.utility_states v)

@@ -10,3 +10,5 @@ pub mod Tree
 pub mod Told
 pub mod Look
 pub mod Agents
+pub mod Given
+pub mod ReadBack

@@ -1,5 +1,5 @@
 -- What the look-ups find in the tree of a printed text: names, kinds, states, labels and agents.
-use Rattle.std.proofs.Common.{◌≡◌, ◌∙◌, ◌⊎◌, ◌≢◌, ℕ, suc, ◌+◌, ◌<◌, ◌≤◌, Bool, true, false, not, cond, List, [], ◌∷◌, ◌++◌, length, map, filter, get_or, All, AllPairs, codes, decimal, refl, sym, ap, subst, inl, inr, arith, append_assoc, append-nil}
+use Rattle.std.proofs.Common.{◌≡◌, ◌∙◌, ◌≢◌, ℕ, ◌<◌, true, false, cond, List, [], ◌∷◌, ◌++◌, length, map, filter, get_or, codes, refl, sym, ap, subst, arith, append-nil}
 use Rattle.std.specs.List.{flat_map, range_with_len}
 use Rattle.std.specs.Str.{bytes_eq}
 use Rattle.std.proofs.lemmas.List.{length-map, get_or-map}
@@ -8,22 +8,22 @@ use Rattle.std.proofs.lemmas.List.Elements.{filter-append}
 use Rattle.maid_model.specs.declared.diagrams.Kind.{Kind}
 use Rattle.maid_model.specs.declared.diagrams.Kind.TheVariants.{Chance, Decision, Utility}
 use Rattle.maid_model.specs.Names.{NamesView, name_of, labels_of, agent_name}
-use Rattle.maid_model.specs.Nodes.{node_at, states_of, numbers_of, no_node, is_chance}
+use Rattle.maid_model.specs.Nodes.{node_at, numbers_of, no_node}
 use Rattle.maid_model.specs.Reports.{quoted}
 use Rattle.maid_model.specs.Views.{NodeView, DiagramView}
 use Rattle.net_build.specs.Blocks as look
-use Rattle.net_lexer.specs.Token.{token_bytes, text_value}
+use Rattle.net_lexer.specs.Token.{text_value}
 use Rattle.net_lexer.specs.declared.tokens.TokenKind.TheVariants.{Word, Text}
 use Rattle.net_parser.specs.Owned.{leaves}
 use Rattle.net_parser.specs.Trees.{AttributeTree, BlockTree}
 use Rattle.net_print.specs.Printed.{printed, kind_word}
 use Rattle.net_print.specs.RoundTrip.{IsPrintable}
-use Rattle.net_print.proofs.Spelling.{trees_at, end_at-append}
+use Rattle.net_print.proofs.Spelling.{trees_at}
 use Rattle.net_print.proofs.Texts.{text_is, numbers_below}
 use Rattle.net_print.proofs.Told.{says, text_says, texts_say, trees_tell, leaves_are}
 use Rattle.net_print.proofs.Tree.{block_kind, node_tree, potential_tree, tree_of, list_tree, agent_tree, attribute_trees}
 use Rattle.net_print.proofs.Words.{written, space, items, equals, paren_open, paren_close, semicolon, brace_open, brace_close, list_words, agent_words, attribute_words, open_words, node_words, potential_words}
-use Rattle.net_print.proofs.Written.{Written, At, at_rest, at_end, behind, end_at, text_onto, text_onto-append, token_at, tokens_at}
+use Rattle.net_print.proofs.Written.{Written, At, at_rest, at_end, behind, end_at, text_onto, text_onto-append, tokens_at}
 
 is_node_kind : (kind : Kind) → look.is_node (block_kind kind) ≡ true
 is_node_kind Chance = refl
@@ -71,7 +71,7 @@ module _ (text : List ℕ) where
       let at_equals = at_rest text from name (text_onto (equals ∷ paren_open ∷ inner) rest) at in
       let at_open = at_rest text (behind from name) equals (text_onto (paren_open ∷ inner) rest) at_equals in
       let at_items : At text (behind (behind (behind from name) equals) paren_open) (text_onto (items Text quoted labels) (text_onto closing rest)) =
-          subst (At text (behind (behind (behind from name) equals) paren_open)) (text_onto-append (items Text quoted labels) closing rest) (at_rest text (behind (behind from name) equals) paren_open (text_onto inner rest) at_open) in
+      subst (At text (behind (behind (behind from name) equals) paren_open)) (text_onto-append (items Text quoted labels) closing rest) (at_rest text (behind (behind from name) equals) paren_open (text_onto inner rest) at_open) in
       let word : look.word_of text attribute ≡ codes "states" = says text from name (text_onto (equals ∷ paren_open ∷ inner) rest) at in
       ap (map (text_value text)) (first_leaves text (codes "states") attribute others word refl ∙ leaves_are (tokens_at (behind (behind (behind from name) equals) paren_open) (items Text quoted labels)))
       ∙ texts_say text (behind (behind (behind from name) equals) paren_open) labels (text_onto closing rest) at_items

@@ -1,5 +1,5 @@
 -- What the tokens of a written text say.
-use Rattle.std.proofs.Common.{◌≡◌, ◌∙◌, ◌⊎◌, ℕ, suc, ◌+◌, ◌-◌, ◌<◌, ◌≤◌, Bool, true, false, List, [], ◌∷◌, ◌++◌, length, map, All, Contains, refl, sym, ap, subst, inl, inr, ⊎_elim, arith, append_assoc}
+use Rattle.std.proofs.Common.{◌≡◌, ◌∙◌, ◌⊎◌, ℕ, suc, ◌+◌, ◌-◌, false, List, [], ◌∷◌, ◌++◌, length, map, All, refl, sym, ap, subst, inl, inr, arith, append_assoc}
 use Rattle.std.specs.List.{flat_map, slice_range}
 use Rattle.std.proofs.lemmas.Bool.{cases_eq, ne_eqb}
 use Rattle.std.proofs.lemmas.List.{length-append}
@@ -8,14 +8,13 @@ use Rattle.maid_model.specs.Reports.{escaped, quoted}
 use Rattle.net_lexer.specs.Bytes.{is_backslash}
 use Rattle.net_lexer.specs.Strings.{unescaped}
 use Rattle.net_lexer.specs.Token.{token_bytes, text_value}
-use Rattle.net_lexer.specs.declared.tokens.TokenKind.{TokenKind}
-use Rattle.net_lexer.specs.declared.tokens.TokenKind.TheVariants.{Word, Text, Number}
-use Rattle.net_parser.specs.Owned.{leaves, all_leaves}
+use Rattle.net_lexer.specs.declared.tokens.TokenKind.TheVariants.{Text}
+use Rattle.net_parser.specs.Owned.{all_leaves}
 use Rattle.net_lexer.specs.declared.tokens.Token.{Token}
 use Rattle.net_parser.specs.Trees.{BlockTree}
 use Rattle.net_print.proofs.Spelling.{leaf_trees, trees_at}
 use Rattle.net_print.proofs.Words.{written, space, items}
-use Rattle.net_print.proofs.Written.{Written, At, at_next, at_slice, at_bytes, at_rest, at_end, behind, end_at, start_of, end_of, text_onto, text_onto-append, token_at, tokens_at}
+use Rattle.net_print.proofs.Written.{Written, At, at_next, at_slice, at_bytes, at_rest, at_end, behind, end_at, start_of, text_onto, text_onto-append, token_at, tokens_at}
 
 -- a byte that is no backslash means itself
 means_itself : (b : ℕ) (bs : List ℕ) → is_backslash b ≡ false → unescaped (b ∷ bs) ≡ b ∷ unescaped bs

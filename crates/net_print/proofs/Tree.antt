@@ -20,7 +20,7 @@ use Rattle.net_parser.specs.Grammar.{Rule, Spells, IsModelName, ◌▹◌}
 use Rattle.net_parser.specs.Lexemes.{Lexeme, lexemes, is_leaf, IsWord}
 use Rattle.net_parser.specs.Trees.{leaf, list, AttributeTree, BlockTree}
 use Rattle.net_print.specs.Printed.{printed, kind_word, reduced_rows, value_text}
-use Rattle.net_print.specs.RoundTrip.{IsPrintable, PrintsTree}
+use Rattle.net_print.specs.RoundTrip.{IsPrintable}
 use Rattle.net_print.proofs.Spelling.{lexemes_onto, lexemes_onto-append, lexemes_onto_none, Spelled, spelled-append, spelled-cons, mark_spelled, word_spelled, name_spelled, AreNames, names_spelled, leaf_trees, AreLeaves, leaf_spelled, list_spelled, trees_at}
 use Rattle.net_print.proofs.Texts.{named, numbers_below, parents_named, text_is, text_writes}
 use Rattle.net_print.proofs.Texts as texts
@@ -288,6 +288,3 @@ module _ (d : DiagramView) (names : NamesView) (is : IsPrintable d names) where
 
   pub tokens_are : IsTokens (printed d names) (tokens_at 0 (texts.words d names is))
   tokens_are = subst (λ text. IsTokens text (tokens_at 0 (texts.words d names is))) (text_is d names is) (written_tokens (texts.words d names is) ((text_writes d names is).stands []))
-
-pub prints_tree : PrintsTree
-prints_tree d names is = (tokens_at 0 (texts.words d names is), tree_of d names is, tokens_are d names is, spells d names is)
