@@ -4,3 +4,4 @@ pub mod Rings
 pub mod Growing
 pub mod Following
 pub mod Orders
+pub mod OneCycle

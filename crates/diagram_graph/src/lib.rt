@@ -5,12 +5,14 @@
 
 mod cycles;
 mod graph;
+mod laws;
 mod needs;
 mod paths;
 mod placing;
 mod rounds;
 
 pub use cycles::{first_cycle, topological};
+pub use laws::parents_have_one_cycle_at_most;
 pub use needs::Needs;
 pub use paths::{ancestors, descendants};
 pub use placing::{Placing, place_all};

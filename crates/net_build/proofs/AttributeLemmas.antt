@@ -44,7 +44,7 @@ words_kept f q x xs e = ap (λ b. map f (cond b (x ∷ filter (λ y. q (f y)) xs
 words_left : {X : Type 0} (f : X → List ℕ) (q : List ℕ → Bool) (x : X) (xs : List X) → q (f x) ≡ false → map f (filter (λ y. q (f y)) (x ∷ xs)) ≡ map f (filter (λ y. q (f y)) xs)
 words_left f q x xs e = ap (λ b. map f (cond b (x ∷ filter (λ y. q (f y)) xs) (filter (λ y. q (f y)) xs))) e
 
-or_true : (b : Bool) → (b || true) ≡ true
+pub or_true : (b : Bool) → (b || true) ≡ true
 or_true true = refl
 or_true false = refl
 
@@ -64,6 +64,7 @@ contained_is_any f q w (x ∷ xs) h = by_test (q (f x)) refl (λ k. ap (λ b. by
   here : (f x ≡ w) ⊎ Contains (map f (filter (λ y. q (f y)) xs)) w → (Contains (map f (filter (λ y. q (f y)) xs)) w → (bytes_eq (f x) w || list_any (λ y. bytes_eq (f y) w) xs) ≡ true) → (bytes_eq (f x) w || list_any (λ y. bytes_eq (f y) w) xs) ≡ true
   here (inl e) later = ap (λ b. b || list_any (λ y. bytes_eq (f y) w) xs) (bytes_same (f x) w e)
   here (inr k) later = later k
+
   by_test : (t : Bool) → q (f x) ≡ t → (Contains (map f (filter (λ y. q (f y)) xs)) w → (bytes_eq (f x) w || list_any (λ y. bytes_eq (f y) w) xs) ≡ true) → (bytes_eq (f x) w || list_any (λ y. bytes_eq (f y) w) xs) ≡ true
   by_test true k later = here (contains_cases (f x) w _ (rw (words_kept f q x xs k) at h)) later
   by_test false k later = later (rw (words_left f q x xs k) at h)
@@ -80,7 +81,7 @@ stands_before text kind attributes i word = is_counted kind word && list_any (λ
 pub repeated_refused : (text : List ℕ) (kind : BlockKind) (attributes : List AttributeTree) (W : Pass) (i : ℕ) (x : AttributeTree) (fault : BuildFault) → i < length attributes → x ≡ get_or attributes i x → stands_before text kind attributes i (word_of text x) ≡ true → fault ≡ Fault x.name.start kinds.DoubleAttribute → Leads (CountedFrom text kind attributes i) W → Refuses W fault
 repeated_refused text kind attributes W i x fault h is before what lead =
     rw what (after_refused (repeated_row text) (λ a. is_counted kind (word_of text a)) attributes W i x (Fault x.name.start kinds.DoubleAttribute) h is (and_left _ _ before) lead
-        (any_is_contained (word_of text) (is_counted kind) (word_of text x) (take i attributes) (and_left _ _ before) (and_right _ _ before), refl))
+    (any_is_contained (word_of text) (is_counted kind) (word_of text x) (take i attributes) (and_left _ _ before) (and_right _ _ before), refl))
 
 -- where it doesn't, the attributes behind it lead on
 pub repeated_on : (text : List ℕ) (kind : BlockKind) (attributes : List AttributeTree) (W : Pass) (i : ℕ) (x : AttributeTree) → i < length attributes → x ≡ get_or attributes i x → stands_before text kind attributes i (word_of text x) ≡ false → Leads (CountedFrom text kind attributes i) W → Leads (CountedFrom text kind attributes (i + 1)) W

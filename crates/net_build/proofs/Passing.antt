@@ -88,3 +88,18 @@ after_refused P p xs W i x fault h is kept lead here = leads_refused (P (filter 
 -- no item is left
 pub after_end : {X : Type 0} (P : List X → X → Pass) (p : X → Bool) (xs : List X) (W : Pass) (i : ℕ) → length xs ≤ i → Leads (AfterPass P p xs i) W → W None
 after_end P p xs W i h lead = leads_end W (λ outcome nothing. lead outcome (rw (drop_all i xs h) nothing))
+
+-- the items of a first list find nothing, and those of a second lead on
+pub each_on : {X : Type 0} (P : X → Pass) (xs ys : List X) (W : Pass) → Leads (each P (xs ++ ys)) W → each P xs None → Leads (each P ys) W
+each_on P [] ys W lead nothing = lead
+each_on P (x ∷ xs) ys W lead nothing = each_on P xs ys W (leads_on (P x) (each P (xs ++ ys)) W lead nothing.0) nothing.1
+
+-- what the items of a first list find, both lists find
+each_found : {X : Type 0} (P : X → Pass) (xs ys : List X) (f : Found) → each P xs (Some f) → each P (xs ++ ys) (Some f)
+each_found P [] ys f h = absurd h
+each_found P (x ∷ xs) ys f (inl h) = inl h
+each_found P (x ∷ xs) ys f (inr h) = inr (h.0, each_found P xs ys f h.1)
+
+pub each_refused : {X : Type 0} (P : X → Pass) (xs ys : List X) (fault : BuildFault) → Refuses (each P xs) fault → Refuses (each P (xs ++ ys)) fault
+each_refused P xs ys NoMemory h = tt
+each_refused P xs ys (Fault at kind) h = each_found P xs ys _ h

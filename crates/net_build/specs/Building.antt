@@ -1,16 +1,16 @@
 -- What a text's tree stands for, where no pass finds a fault.
-use Rattle.std.specs.Prelude.{◌≡◌, ◌<◌, ℕ, ℤ, pos, List, [], map, length, slice_index, slice_index_or}
+use Rattle.std.specs.Prelude.{◌≡◌, ◌<◌, ℕ, ℤ, pos, List, [], map, length, slice_index_or}
 use Rattle.maid_model.specs.declared.diagrams.Kind.{Kind}
 use Rattle.maid_model.specs.declared.diagrams.Kind.TheVariants.{Chance, Decision, Utility}
 use Rattle.maid_model.specs.Names.{NamesView}
-use Rattle.maid_model.specs.Nodes.{node_at}
 use Rattle.maid_model.specs.Views.{DiagramView}
 use Rattle.net_lexer.specs.Token.{token_bytes}
-use Rattle.net_lexer.specs.declared.tokens.Token.{Token}
 use Rattle.net_parser.specs.Trees.{BlockTree}
 use Rattle.weight_scale.specs.declared.decimal.Decimal.{Decimal}
 use Rattle.net_build.specs.Blocks.{node_blocks, kind_of, names_of, labels_of, states_of, state_counts, agents_of, owner_of, parent_lists, numbers_of}
-use Rattle.net_build.specs.Scaling.{AreDecimals, AreWeights, IsScaledBy}
+use Rattle.weight_scale.specs.Scaling.{IsScaled}
+use Rattle.weight_scale.specs.Views.{ScaledView}
+use Rattle.net_build.specs.Scaling.{AreDecimals, IsScaledBy}
 use Rattle.net_build.specs.Table.{IsUtilityScale, no_block}
 
 -- the names, labels and agents in the blocks
@@ -21,9 +21,9 @@ names_view text blocks = record {
   agents = agents_of text (node_blocks blocks);
 }
 
--- chance cells: the weights of the numerals' rows
+-- chance cells: the numerals' rows taken in proportion
 abbrev pub AreChanceCells : ℕ → List (List ℕ) → List ℤ → Type 0
-AreChanceCells states numerals cells = (decimals : List Decimal) × (weights : List ℕ) × AreDecimals numerals decimals × AreWeights states decimals weights × (cells ≡ map pos weights)
+AreChanceCells states numerals cells = (decimals : List Decimal) × (scaled : ScaledView) × AreDecimals numerals decimals × IsScaled decimals states scaled × (cells ≡ scaled.weights)
 
 -- utility cells: each value times 10^scale
 pub record AreUtilityCells (scale : ℕ) (numerals : List (List ℕ)) (cells : List ℤ) : Type 0 where

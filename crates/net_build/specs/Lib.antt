@@ -11,3 +11,6 @@ pub mod Building
 pub mod Form
 pub mod Stages
 pub mod LinkCode
+pub mod Laws
+pub mod TableParts
+pub mod Linking

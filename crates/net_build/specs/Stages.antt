@@ -1,6 +1,6 @@
 -- What the steps of building hand to one another, as plain lists. No public contract needs it.
-use Rattle.std.specs.Prelude.{◌≡◌, ◌≢◌, ◌<◌, ◌≤◌, ◌*◌, ℕ, ℤ, List, [], map, length, filter, sum, All, Contains, Option, nat_abs, slice_index_or}
-use Rattle.std.specs.List.{range_with_len}
+use Rattle.std.specs.Prelude.{◌≡◌, ◌≢◌, ◌<◌, ◌≤◌, ◌*◌, ℕ, ℤ, Bool, false, List, [], ◌∷◌, ◌++◌, bytes_eq, if◌then◌else◌, map, length, filter, flat_map, sum, All, Contains, Option, nat_abs, slice_index_or}
+use Rattle.std.specs.List.{range_with_len, list_all, list_any}
 use Rattle.diagram_graph.specs.Cycles.{ListedArc}
 use Rattle.maid_model.specs.declared.diagrams.Kind.{Kind}
 use Rattle.maid_model.specs.declared.diagrams.Kind.TheVariants.{Chance, Decision, Utility}
@@ -8,9 +8,23 @@ use Rattle.maid_model.specs.Diagrams.{greatest_number}
 use Rattle.maid_model.specs.Graph.{IsAcyclic, AllDifferent}
 use Rattle.maid_model.specs.Nodes.{is_decision, rows_under}
 use Rattle.maid_model.specs.Tables.{IsTable}
+use Rattle.net_lexer.specs.declared.tokens.Token.{Token}
+use Rattle.maid_model.specs.Views.{NodeView, DiagramView}
+use Rattle.net_parser.specs.Owned.{leaves}
 use Rattle.net_parser.specs.Trees.{BlockTree}
+use Rattle.net_parser.specs.Views.{value_tree}
+use Rattle.net_parser.specs.declared.trees.Value.{Value}
 use Rattle.net_build.specs.declared.nodes.Head.{Head}
-use Rattle.net_build.specs.Blocks.{node_blocks, kind_of, title_at, name_of, names_of, labels_of, states_of, agents_of, owner_of, potential_of, parent_lists}
+use Rattle.net_build.specs.Blocks.{is_string, node_blocks, kind_of, title_at, name_of, names_of, labels_of, has_agent, states_of, agent_of, agents_of, owner_of, potential_of, parent_lists}
+
+-- the leaves of these values, from left to right
+abbrev pub leaves_in : List Value → List Token
+leaves_in values = flat_map (λ v. leaves (value_tree v)) values
+
+-- one or more strings
+abbrev pub are_string_values : List Value → Bool
+are_string_values [] = false
+are_string_values (v ∷ vs) = list_all (λ w. is_string (value_tree w)) (v ∷ vs)
 
 -- what the node blocks say: names, labels and agents, and for each node where its name stands, its kind, the number of its agent and the count of its states
 pub record NodeLists : Type 0 where
@@ -29,6 +43,14 @@ node_lists text nodes = record {
   agents = agents_of text nodes;
   heads = map (head_of text nodes) nodes;
 }
+
+-- the agents and one more, where it is new
+abbrev pub with_sight : List (List ℕ) → List ℕ → List (List ℕ)
+with_sight agents agent = if list_any (λ a. bytes_eq a agent) agents then agents else agents ++ agent ∷ []
+
+-- the agents and the block's, where it has one
+abbrev pub with_agent : List ℕ → List (List ℕ) → BlockTree → List (List ℕ)
+with_agent text agents block = if has_agent block.kind then with_sight agents (agent_of text block) else agents
 
 -- what the potentials say: for each node its parents and its potential
 pub record LinkLists : Type 0 where
@@ -79,3 +101,18 @@ FitsTable Utility rows states cells = (length cells ≡ rows) × All (λ x. nat_
 -- each node's cells do
 abbrev pub TablesFit : List Head → List (List ℕ) → List (List ℤ) → Type 0
 TablesFit heads parents cells = (v : ℕ) → v < length heads → FitsTable (head_at heads v).kind (rows_at heads parents v) (head_at heads v).states (slice_index_or cells v [])
+
+-- a node from what its block, its potential and its table say
+abbrev pub made_node : Head → List ℕ → List ℤ → NodeView
+made_node head parents cells = record { kind = head.kind; owner = head.owner; states = head.states; parents = parents; cells = cells }
+
+-- node number v of these lists
+abbrev pub made_at : List Head → List (List ℕ) → List (List ℤ) → ℕ → NodeView
+made_at heads parents cells v = made_node (head_at heads v) (slice_index_or parents v []) (slice_index_or cells v [])
+
+abbrev pub made_nodes : List Head → List (List ℕ) → List (List ℤ) → List NodeView
+made_nodes heads parents cells = map (made_at heads parents cells) (range_with_len 0 (length heads))
+
+-- the diagram of these lists
+abbrev pub made_diagram : NodeLists → LinkLists → TableLists → DiagramView
+made_diagram nodes links tables = record { nodes = made_nodes nodes.heads links.parents tables.cells; agents = length nodes.agents; decimals = tables.decimals }

@@ -18,7 +18,8 @@ use Rattle.weight_scale.specs.declared.decimal.Decimal.{Decimal}
 use Rattle.net_build.specs.declared.faults.Limit.TheVariants.{Nodes, NameBytes, States, Agents, Parents, Cells, Rules}
 use Rattle.net_build.specs.Passes.{Pass, Found, found, clear, rule, always, only, ◌▸◌, each, each_after, DoubleName, DoubleAttribute, MissingStates, BadStates, BadLabel, BadAgent, UnknownName, DoublePotential, RepeatedParent, UtilityParent, MissingTable, GraphCycle, NotANumber, WrongCount, NumberTooLong, Negative, ZeroRow, WideWeight, WideValue, LimitPassed}
 use Rattle.net_build.specs.Blocks.{node_blocks, potentials, kind_of, title, title_at, name_of, names_of, conditions, word_of, named, has_states, has_agent, has_table, counted, is_number, is_string_list, is_plain, is_agent, states_of, agent_of, agents_of, place_of, potential_of, parent_lists, row_count, cell_count, data_of, leaves_of}
-use Rattle.net_build.specs.Scaling.{AreDecimals, IsCommonTotal, IsWholeBy, row_at}
+use Rattle.net_build.specs.Scaling.{AreDecimals, IsWholeBy}
+use Rattle.weight_scale.specs.Scaling.{row_at, IsTooWide}
 
 -- an attribute whose name stands among those before it
 abbrev pub repeated_row : List ℕ → List AttributeTree → AttributeTree → Pass
@@ -31,13 +32,17 @@ repeats text block = each_after (repeated_row text) [] (counted text block)
 abbrev pub label_row : List ℕ → Token → Pass
 label_row text label = rule (is_plain (text_value text label) ≡ false) (found label.start BadLabel)
 
--- the states of a chance node or a decision, given its attributes of that name
-unfoldable pub states_rows : List ℕ → BlockTree → List AttributeTree → Pass
-states_rows text block [] = always (found (title_at block) MissingStates)
-states_rows text block (states ∷ more) =
+-- the value of `states`
+unfoldable pub label_rows : List ℕ → AttributeTree → Pass
+label_rows text states =
     rule (is_string_list states.value ≡ false) (found states.name.start BadStates)
     ▸ rule (256 < length (leaves states.value)) (found states.name.start (LimitPassed States (length (leaves states.value))))
     ▸ each (label_row text) (leaves states.value)
+
+-- the states of a chance node or a decision, given its attributes of that name
+unfoldable pub states_rows : List ℕ → BlockTree → List AttributeTree → Pass
+states_rows text block [] = always (found (title_at block) MissingStates)
+states_rows text block (states ∷ more) = label_rows text states
 
 -- the agent of a decision or a utility, given its attributes of that name
 unfoldable pub agent_rows : List ℕ → List AttributeTree → Pass
@@ -48,16 +53,26 @@ agent_rows text (agent ∷ more) = rule (is_agent text agent.value ≡ false) (f
 abbrev pub IsAgentTooMany : List (List ℕ) → List ℕ → Type 0
 IsAgentTooMany agents agent = (16 ≤ length agents) × (Contains agents agent → ⊥)
 
--- a node block behind those with these names and agents
-unfoldable pub node_rows : List ℕ → List (List ℕ) → List (List ℕ) → BlockTree → Pass
-node_rows text names agents block =
+-- the name of a node block behind those with these names
+unfoldable pub name_rows : List ℕ → List (List ℕ) → BlockTree → Pass
+name_rows text names block =
     rule (256 ≤ length names) (found (title_at block) (LimitPassed Nodes 257))
     ▸ rule (255 < length (name_of text block)) (found (title_at block) (LimitPassed NameBytes (length (name_of text block))))
     ▸ rule (Contains names (name_of text block)) (found (title_at block) DoubleName)
+
+-- the agent of a decision or a utility behind those of these agents
+unfoldable pub owner_rows : List ℕ → List (List ℕ) → BlockTree → Pass
+owner_rows text agents block =
+    agent_rows text (named text (codes "agent") block.attributes)
+    ▸ rule (IsAgentTooMany agents (agent_of text block)) (found (title_at block) (LimitPassed Agents 17))
+
+-- a node block behind those with these names and agents
+unfoldable pub node_rows : List ℕ → List (List ℕ) → List (List ℕ) → BlockTree → Pass
+node_rows text names agents block =
+    name_rows text names block
     ▸ repeats text block
     ▸ only (has_states block.kind) (states_rows text block (named text (codes "states") block.attributes))
-    ▸ only (has_agent block.kind) (agent_rows text (named text (codes "agent") block.attributes))
-    ▸ only (has_agent block.kind) (rule (IsAgentTooMany agents (agent_of text block)) (found (title_at block) (LimitPassed Agents 17)))
+    ▸ only (has_agent block.kind) (owner_rows text agents block)
 
 -- node blocks in text order
 unfoldable pub node_pass : List ℕ → List BlockTree → Pass
@@ -144,7 +159,7 @@ rows_by states numbers rows = map (λ r. row_at states numbers r) (range_with_le
 
 -- the common total of the rows is too great
 abbrev pub IsWideTotal : List ℕ → ℕ → List Token → Type 0
-IsWideTotal text states numbers = (decimals : List Decimal) × (total : ℕ) × AreDecimals (map (token_bytes text) numbers) decimals × IsCommonTotal states decimals total × (greatest_number < total)
+IsWideTotal text states numbers = (decimals : List Decimal) × AreDecimals (map (token_bytes text) numbers) decimals × IsTooWide decimals states
 
 -- the numbers of a chance table of so many rows
 unfoldable pub weight_rows : List ℕ → ℕ → ℕ → AttributeTree → Pass

@@ -1,6 +1,6 @@
 //! The attributes of a block: those that count, and the first of a name.
 
-ghost use Rattle.std.specs.Prelude.{◌≡◌, ◌&&◌, ◌∷◌, [], List, All, filter, MatchOption, bytes_eq};
+ghost use Rattle.std.specs.Prelude.{◌≡◌, ◌&&◌, ◌∷◌, [], List, All, filter, IfSome, MatchOption, bytes_eq};
 ghost use Rattle.std.specs.List.{list_any};
 ghost use Rattle.net_build.specs.Blocks.{is_counted, named, word_of};
 ghost use Rattle.net_build.specs.Passes.{Passes, each_after};
@@ -34,7 +34,8 @@ pub fn first_named<'a>(
     word: &[u8],
 ) -> Option<&'a Attribute>
     requires { All (IsAttributeOf text.now) attributes.now }
-    ensures { MatchOption result (named text.now word.now attributes.now ≡ []) (λ a. (rest : List AttributeTree) × (named text.now word.now attributes.now ≡ a.now ∷ rest)) }
+    ensures first { MatchOption result (named text.now word.now attributes.now ≡ []) (λ a. (rest : List AttributeTree) × (named text.now word.now attributes.now ≡ a.now ∷ rest)) }
+    ensures own { IfSome result (λ a. IsAttributeOf text.now a.now) }
 {
     for attribute in attributes {
         if is_named(text, attribute, word) {
@@ -77,11 +78,7 @@ fn is_repeated(text: &[u8], kind: BlockKind, before: &[Attribute], word: &[u8]) 
 }
 
 // No attribute that counts stands a second time.
-fn check_counted(
-    text: &[u8],
-    kind: BlockKind,
-    attributes: &[Attribute],
-) -> Result<(), BuildFault>
+fn check_counted(text: &[u8], kind: BlockKind, attributes: &[Attribute]) -> Result<(), BuildFault>
     requires { All (IsAttributeOf text.now) attributes.now }
     ensures { Passes (each_after (repeated_row text.now) [] (filter (λ a. is_counted kind (word_of text.now a)) attributes.now)) result }
 {

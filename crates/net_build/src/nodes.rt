@@ -1,6 +1,21 @@
 //! The node blocks of a text: names, labels, agents, kinds and counts of states.
 
+ghost use Rattle.std.specs.Prelude.{◌≡◌, ◌<◌, All, length, IfOk, OnOk, codes, if◌then◌else◌};
+ghost use Rattle.net_build.specs.Blocks.{is_node, kind_of, title_at, name_of, node_blocks, has_states, has_agent, named, labels_of, states_of, agent_of, place_of};
+ghost use Rattle.net_build.specs.Lists.{list_of};
+ghost use Rattle.net_build.specs.Passes.{Passes, only};
+ghost use Rattle.net_build.specs.Stages.{with_agent, node_lists};
+ghost use Rattle.net_build.specs.Table.{name_rows, states_rows, node_rows, node_pass};
+ghost use Rattle.net_parser.specs.Owned.{IsBlockOf};
+
+use crate::attributes::check_repeats;
+use crate::faults::{BuildFault, BuildKind, Limit};
+use crate::labels::{read_labels, title};
+use crate::owners::read_owner;
+use crate::places::place_of;
 use maid_model::Kind;
+use net_parser::{Block, BlockKind, Syntax};
+use std::alloc::Global;
 use std::marker::Model;
 
 /// What a node block says in numbers: where its name stands, and the node's kind, the number of its agent (0 at a
@@ -29,4 +44,162 @@ impl Model for Nodes {
     ghost Value = { NodeLists };
 
     ghost view = { λ n. record { names = list_of n.names.items; labels = lists_of n.labels.items; agents = list_of n.agents.items; heads = n.heads.items } };
+}
+
+// What one node block says.
+#[derive(Drop)]
+struct Entry {
+    name: Vec<u8>,
+    labels: Vec<Vec<u8>>,
+    head: Head,
+}
+
+fn is_node(kind: BlockKind) -> bool
+    ensures { result ≡ is_node kind }
+{
+    matches!(
+        kind,
+        BlockKind::Node | BlockKind::Decision | BlockKind::Utility
+    )
+}
+
+fn has_states(kind: BlockKind) -> bool
+    ensures { result ≡ has_states kind }
+{
+    matches!(kind, BlockKind::Node | BlockKind::Decision)
+}
+
+fn kind_of(kind: BlockKind) -> Kind
+    ensures { result ≡ kind_of kind }
+{
+    match kind {
+        BlockKind::Node => Kind::Chance,
+        BlockKind::Decision => Kind::Decision,
+        _ => Kind::Utility,
+    }
+}
+
+// The name of a node behind those of these names.
+fn read_name<'a>(text: &'a [u8], block: &Block, names: &[Vec<u8>]) -> Result<&'a [u8], BuildFault>
+    requires own { IsBlockOf text.now block.now }
+    requires named { 0 < length block.now.names }
+    ensures rows { Passes (name_rows text.now (list_of names.now) block.now) result }
+    ensures name { IfOk result (λ name. name.now ≡ name_of text.now block.now) }
+{
+    let title = title(block);
+    if names.len() >= 256 {
+        let passed = BuildKind::LimitPassed {
+            which: Limit::Nodes,
+            got: 257,
+        };
+        return Err(passed.at(title.start));
+    }
+    let name = title.bytes(text);
+    if name.len() > 255 {
+        let passed = BuildKind::LimitPassed {
+            which: Limit::NameBytes,
+            got: name.len() as u128,
+        };
+        return Err(passed.at(title.start));
+    }
+    if place_of(names, name).is_some() {
+        return Err(BuildKind::DoubleName.at(title.start));
+    }
+    Ok(name)
+}
+
+// The labels of a node; a utility has none.
+fn node_labels(alloc: Global, text: &[u8], block: &Block) -> Result<Vec<Vec<u8>>, BuildFault>
+    requires { IsBlockOf text.now block.now }
+    ensures rows { Passes (only (has_states block.now.kind) (states_rows text.now block.now (named text.now (codes "states") block.now.attributes))) result }
+    ensures labels { IfOk result (λ labels. list_of labels.items ≡ labels_of text.now block.now) }
+{
+    if has_states(block.kind) {
+        read_labels(alloc, text, block)
+    } else {
+        Ok(Vec::new(alloc))
+    }
+}
+
+// How many states a node with these labels has.
+fn state_count(text: &[u8], block: &Block, labels: &[Vec<u8>]) -> usize
+    requires { list_of labels.now ≡ labels_of text.now block.now }
+    ensures { result ≡ states_of text.now block.now }
+{
+    if has_states(block.kind) {
+        labels.len()
+    } else {
+        1
+    }
+}
+
+// What a node block says behind those of these names and agents. Its agent is added where it is new.
+fn read_entry(
+    alloc: Global,
+    text: &[u8],
+    block: &Block,
+    names: &[Vec<u8>],
+    agents: &mut Vec<Vec<u8>>,
+) -> Result<Entry, BuildFault>
+    requires own { IsBlockOf text.now block.now }
+    requires named { 0 < length block.now.names }
+    ensures rows { Passes (node_rows text.now (list_of names.now) (list_of agents.old.items) block.now) result }
+    ensures agents { OnOk result (list_of agents.new.items ≡ with_agent text.now (list_of agents.old.items) block.now) }
+    ensures name { IfOk result (λ entry. entry.name.items ≡ name_of text.now block.now) }
+    ensures labels { IfOk result (λ entry. list_of entry.labels.items ≡ labels_of text.now block.now) }
+    ensures at { IfOk result (λ entry. entry.head.at ≡ title_at block.now) }
+    ensures kind { IfOk result (λ entry. entry.head.kind ≡ kind_of block.now.kind) }
+    ensures states { IfOk result (λ entry. entry.head.states ≡ states_of text.now block.now) }
+    ensures owner { IfOk result (λ entry. entry.head.owner ≡ (if has_agent block.now.kind then place_of (list_of agents.new.items) (agent_of text.now block.now) else 0)) }
+{
+    let name = read_name(text, block, names)?;
+    check_repeats(text, block)?;
+    let labels = node_labels(alloc, text, block)?;
+    let owner = read_owner(alloc, text, block, agents)?;
+    let head = Head {
+        at: title(block).start,
+        kind: kind_of(block.kind),
+        owner,
+        states: state_count(text, block, &labels),
+    };
+    Ok(Entry {
+        name: Vec::from_slice(alloc, name)?,
+        labels,
+        head,
+    })
+}
+
+// What the node blocks among these say.
+fn read_blocks(alloc: Global, text: &[u8], blocks: &[Block]) -> Result<Nodes, BuildFault>
+    requires { All (IsBlockOf text.now) blocks.now }
+    ensures rows { Passes (node_pass text.now blocks.now) result }
+    ensures nodes { IfOk result (λ nodes. nodes ≡ node_lists text.now (node_blocks blocks.now)) }
+{
+    let mut names = Vec::new(alloc);
+    let mut labels = Vec::new(alloc);
+    let mut agents = Vec::new(alloc);
+    let mut heads = Vec::new(alloc);
+    for block in blocks {
+        if is_node(block.kind) {
+            let entry = read_entry(alloc, text, block, &names, &mut agents)?;
+            names.push(entry.name)?;
+            labels.push(entry.labels)?;
+            heads.push(entry.head)?;
+        }
+    }
+    Ok(Nodes {
+        names,
+        labels,
+        agents,
+        heads,
+    })
+}
+
+/// What the node blocks of a text say, or the first fault among them. It goes over the blocks once.
+pub fn read_nodes(alloc: Global, text: &[u8], syntax: &Syntax) -> Result<Nodes, BuildFault>
+    requires { All (IsBlockOf text.now) syntax.now }
+    ensures rows { Passes (node_pass text.now syntax.now) result }
+    ensures nodes { IfOk result (λ nodes. nodes ≡ node_lists text.now (node_blocks syntax.now)) }
+{
+    read_blocks(alloc, text, &syntax.blocks)
 }

@@ -1,5 +1,24 @@
 //! The tables of a text: the cells of each node, and the scale of the utilities.
 
+ghost use Rattle.std.specs.Prelude.{◌≡◌, ◌<◌, ◌≤◌, All, map, length, None, IfOk};
+ghost use Rattle.maid_model.specs.Nodes.{rows_under};
+ghost use Rattle.net_build.specs.Blocks.{node_blocks};
+ghost use Rattle.net_build.specs.Building.{AreTables};
+ghost use Rattle.net_build.specs.Lists.{cells_of_lists};
+ghost use Rattle.net_build.specs.Passes.{Passes, ◌▸◌};
+ghost use Rattle.net_build.specs.Stages.{AreLinks, TablesFit, head_at, link_lists, node_lists};
+ghost use Rattle.net_build.specs.Table.{IsUtilityScale, missing_pass, node_pass, potential_pass, table_pass, wide_pass};
+ghost use Rattle.net_build.specs.TableParts.{AreDrafts, CanRead, FitsDraft, IsDraftAt, drafts_pass, finished, node_rows_at};
+ghost use Rattle.net_parser.specs.Owned.{IsBlockOf};
+
+use crate::drafts::{Draft, finish_draft, read_draft};
+use crate::faults::BuildFault;
+use crate::links::Links;
+use crate::nodes::{Head, Nodes};
+use crate::scales::scale_of;
+use crate::utilities::utility_numbers;
+use net_parser::Syntax;
+use std::alloc::{AllocError, Global};
 use std::marker::Model;
 
 /// The cells of each node (none at a decision), and by how many decimals the utilities are scaled.
@@ -16,4 +35,102 @@ impl Model for Tables {
     ghost Value = { TableLists };
 
     ghost view = { λ t. record { cells = map (λ row. row.items) t.cells.items; decimals = t.decimals } };
+}
+
+// How many rows a table over these parents has.
+fn row_count(heads: &[Head], parents: &[usize]) -> usize
+    requires known { All (λ u. u < length heads.now) parents.now }
+    requires states { All (λ h. 0 < h.states) heads.now }
+    requires small { rows_under (λ u. (head_at heads.now u).states) parents.now ≤ 65536 }
+    ensures { result ≡ rows_under (λ u. (head_at heads.now u).states) parents.now }
+{
+    let mut rows = 1;
+    for parent in parents {
+        rows *= heads[*parent].states;
+    }
+    rows
+}
+
+// A node's table, before the scale of utilities is known.
+fn read_node(
+    alloc: Global,
+    text: &[u8],
+    nodes: &Nodes,
+    links: &Links<'_>,
+    node: usize,
+) -> Result<Draft, BuildFault>
+    requires read { CanRead text.now nodes.now.heads links.now }
+    requires within { node < length nodes.now.heads }
+    ensures rows { Passes (node_rows_at text.now nodes.now.heads links.now node) result }
+    ensures draft { IfOk result (IsDraftAt text.now nodes.now.heads links.now node) }
+{
+    let rows = row_count(&nodes.heads, &links.parents[node]);
+    read_draft(
+        alloc,
+        text,
+        &nodes.heads[node],
+        rows,
+        links.potentials[node],
+    )
+}
+
+// The tables of all nodes, before the scale of utilities is known.
+fn read_drafts(
+    alloc: Global,
+    text: &[u8],
+    nodes: &Nodes,
+    links: &Links<'_>,
+) -> Result<Vec<Draft>, BuildFault>
+    requires { CanRead text.now nodes.now.heads links.now }
+    ensures rows { Passes (drafts_pass text.now nodes.now.heads links.now) result }
+    ensures drafts { IfOk result (λ drafts. AreDrafts text.now nodes.now.heads links.now drafts.items) }
+{
+    let mut drafts = Vec::with_capacity(alloc, nodes.heads.len())?;
+    for node in 0..nodes.heads.len() {
+        drafts.push(read_node(alloc, text, nodes, links, node)?)?;
+    }
+    Ok(drafts)
+}
+
+// The cells of all nodes, the utilities' to that scale.
+fn finish(alloc: Global, drafts: &[Draft], scale: u32) -> Result<Vec<Vec<i128>>, AllocError>
+    requires few { scale ≤ 30 }
+    requires fits { All (FitsDraft scale) drafts.now }
+    ensures { IfOk result (λ cells. cells_of_lists cells.items ≡ map (finished scale) drafts.now) }
+{
+    let mut cells = Vec::with_capacity(alloc, drafts.len())?;
+    for draft in drafts {
+        cells.push(finish_draft(alloc, draft, scale)?)?;
+    }
+    Ok(cells)
+}
+
+/// The tables of chance nodes and utilities, in text order, and then the utilities' values to one scale. A chance table
+/// is scaled row by row, and a utility value is a whole number of the least power of ten that makes all of them whole.
+/// The cost is linear in the text, but for looking up the utilities' potentials among the nodes.
+pub fn read_tables(
+    alloc: Global,
+    text: &[u8],
+    syntax: &Syntax,
+    nodes: &Nodes,
+    links: &Links<'_>,
+) -> Result<Tables, BuildFault>
+    requires blocks { All (IsBlockOf text.now) syntax.now }
+    requires nodes { nodes.now ≡ node_lists text.now (node_blocks syntax.now) }
+    requires links { links.now ≡ link_lists text.now syntax.now }
+    requires fit { AreLinks nodes.now.heads links.now.parents }
+    requires node_rows { node_pass text.now syntax.now None }
+    requires potential_rows { potential_pass text.now syntax.now None }
+    requires missing_rows { missing_pass text.now syntax.now None }
+    ensures rows { Passes (table_pass text.now syntax.now ▸ wide_pass text.now syntax.now) result }
+    ensures scale { IfOk result (λ tables. IsUtilityScale text.now syntax.now tables.decimals) }
+    ensures cells { IfOk result (λ tables. AreTables text.now syntax.now tables.decimals tables.cells) }
+    ensures few { IfOk result (λ tables. tables.decimals ≤ 30) }
+    ensures fit { IfOk result (λ tables. TablesFit nodes.now.heads links.now.parents tables.cells) }
+{
+    let drafts = read_drafts(alloc, text, nodes, links)?;
+    let numbers = utility_numbers(alloc, text, syntax, nodes)?;
+    let decimals = scale_of(alloc, text, &numbers)?;
+    let cells = finish(alloc, &drafts, decimals)?;
+    Ok(Tables { cells, decimals })
 }

@@ -1,23 +1,96 @@
-use crate::first_shape;
-use maid_model::Kind;
+ghost use Rattle.std.specs.Prelude.{IfOk};
+ghost use Rattle.maid_model.specs.Names.{NamesFit};
+
+use crate::{BuildFault, BuildKind, Names, build};
+use maid_model::{Diagram, Kind};
 use net_lexer::lex;
+use net_parser::parse;
+use std::alloc::Global;
 use std::test::Fail;
 
 const STEER: &str =
     "node X { states = (\"p\" \"q\"); } decision D { states = (\"l\" \"r\"); } utility U { } potential (X) { data = (1 1); } potential (D | X) { } potential (U | X D) { data = (3 0 0 1); }";
 
-#[test]
-fn steer_has_the_first_shape(rt: HostRuntime) -> Result<(), Fail> {
-    let alloc = rt.alloc();
-    let text = STEER.as_bytes();
+const COIN: &str =
+    "node C { states = (\"a\" \"b\"); state_values = (-infinity 0 infinity); } utility U { agent = \"A\"; } potential (C) { data = (1 1); } potential (U | C) { data = (0.5 -1.25); }";
+
+const THIRDS: &str =
+    "potential (B | A) { data = ((0.3 0.7) (0.333333 0.666667) (1 0)); } node A { states = (\"x\" \"y\" \"z\"); } node B { states = (\"u\" \"v\"); } potential (A) { data = (0.333333 0.333333 0.333333); }";
+
+fn built(alloc: Global, text: &str) -> Result<(Diagram, Names), Fail>
+    ensures { IfOk result (λ built. NamesFit built.0 built.1) }
+{
+    let text = text.as_bytes();
     let tokens = lex(alloc, text)?;
-    let (diagram, names) = first_shape(alloc, text, &tokens)?.ok_or("not of the shape")?;
-    assert_eq!(rt; diagram.count(), 3);
-    assert_eq!(rt; diagram.node(1).kind, Kind::Decision);
-    assert_eq!(rt; diagram.node(2).parents.as_slice(), [0, 1].as_slice());
-    assert_eq!(rt; diagram.node(2).cells.as_slice(), [3, 0, 0, 1].as_slice());
+    let syntax = parse(alloc, text, &tokens)?;
+    Ok(build(alloc, text, &tokens, &syntax)?)
+}
+
+// The text's fault.
+fn refused(alloc: Global, text: &str) -> Result<(usize, BuildKind), Fail> {
+    let text = text.as_bytes();
+    let tokens = lex(alloc, text)?;
+    let syntax = parse(alloc, text, &tokens)?;
+    match build(alloc, text, &tokens, &syntax) {
+        Ok(_) => Err("it has a diagram".into()),
+        Err(BuildFault::NoMemory) => Err("no memory".into()),
+        Err(BuildFault::Fault { at, kind }) => Ok((at, kind)),
+    }
+}
+
+#[test]
+fn texts_have_their_diagram(rt: HostRuntime) -> Result<(), Fail> {
+    let (steer, names) = built(rt.alloc(), STEER)?;
+    assert_eq!(rt; steer.count(), 3);
+    assert_eq!(rt; steer.node(1).kind, Kind::Decision);
+    assert_eq!(rt; steer.node(2).parents.as_slice(), [0, 1].as_slice());
+    assert_eq!(rt; steer.node(2).cells.as_slice(), [3, 0, 0, 1].as_slice());
     assert_eq!(rt; names.name(0), b"X".as_slice());
     assert_eq!(rt; names.find_agent(b"agent"), Some(0));
-    assert_eq!(rt; names.find_agent(b"X"), None);
+    let (coin, names) = built(rt.alloc(), COIN)?;
+    assert_eq!(rt; coin.count(), 2);
+    assert_eq!(rt; coin.decimals(), 2);
+    assert_eq!(rt; coin.node(1).cells.as_slice(), [50, -125].as_slice());
+    assert_eq!(rt; names.find_agent(b"A"), Some(0));
+    let (thirds, _) = built(rt.alloc(), THIRDS)?;
+    assert_eq!(rt; thirds.count(), 2);
+    assert_eq!(rt; thirds.node(0).cells.as_slice(), [1, 1, 1].as_slice());
+    assert_eq!(rt;
+        thirds.node(1).cells.as_slice(),
+        [300_000, 700_000, 333_333, 666_667, 1_000_000, 0].as_slice()
+    );
+    Ok(())
+}
+
+#[test]
+fn texts_have_their_fault(rt: HostRuntime) -> Result<(), Fail> {
+    let zero = "node A { states = (\"x\" \"y\"); } potential (A) { data = (0 0); }";
+    assert!(rt; matches!(refused(rt.alloc(), zero)?, (55, BuildKind::ZeroRow)));
+    let count = "node A { states = (\"x\" \"y\"); } potential (A) { data = (1 1 1); }";
+    assert!(rt;
+        matches!(
+            refused(rt.alloc(), count)?,
+            (47, BuildKind::WrongCount { want: 2, got: 3 })
+        )
+    );
+    let long = "utility U { } potential (U) { data = (1e38); }";
+    assert!(rt; matches!(refused(rt.alloc(), long)?, (38, BuildKind::NumberTooLong)));
+    let ring =
+        "node A { states = (\"x\"); } node B { states = (\"x\"); } potential (A | B) { data = (1); } potential (B | A) { data = (1); }";
+    assert!(rt;
+        matches!(
+            refused(rt.alloc(), ring)?,
+            (5, BuildKind::GraphCycle { list: _ })
+        )
+    );
+    let twice = "node A { states = (\"a\"); } node A { states = (\"a\"); }";
+    assert!(rt; matches!(refused(rt.alloc(), twice)?, (32, BuildKind::DoubleName)));
+    let again = "decision D { states = (\"a\"); states = 5; }";
+    assert!(rt;
+        matches!(
+            refused(rt.alloc(), again)?,
+            (29, BuildKind::DoubleAttribute)
+        )
+    );
     Ok(())
 }

@@ -1,5 +1,16 @@
+pub mod Bounding
+pub mod Divisors
+pub mod Greatest
+pub mod Lists
+pub mod Pivots
+pub mod Results
+pub mod RowParts
+pub mod Shares
 pub mod Signs
 pub mod Stripped
 pub mod Tens
+pub mod Totals
+pub mod Unique
 pub mod Value
+pub mod Weighing
 pub mod Written

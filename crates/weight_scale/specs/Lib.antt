@@ -1,2 +1,7 @@
+pub mod Bound
+pub mod Laws
 pub mod Numeral
+pub mod Rows
+pub mod Scaling
 pub mod Significant
+pub mod Views

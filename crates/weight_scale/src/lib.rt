@@ -1,13 +1,22 @@
 //! The numbers of a text made exact: `numeral` gives a numeral's value as a whole number and its
-//! decimals.
+//! decimals, `scale_rows` takes the rows of a chance table in proportion, and `bound` says whether
+//! the sums over a diagram's worlds have room.
 #![tactic(auto)]
 
 mod decimal;
 mod digits;
+mod laws;
 mod numerals;
+mod products;
+mod rows;
+mod scaling;
+mod weight_bound;
 
 pub use decimal::Decimal;
+pub use laws::rows_scale_in_one_way;
 pub use numerals::numeral;
+pub use scaling::{ScaleFault, Scaled, scale_rows};
+pub use weight_bound::{BoundPlace, bound};
 
 #[cfg(test)]
 mod tests;

@@ -1,7 +1,11 @@
-ghost use Rattle.std.specs.Prelude.{◌≡◌, true};
+ghost use Rattle.std.specs.Prelude.{◌≡◌, ◌<◌, ◌%◌, ◌^◌, [], IfOk, length, true, unsigned_abs};
 ghost use Rattle.net_lexer.specs.Numerals.{is_numeral};
 
 use super::*;
+use maid_model::{Diagram, Kind, Node};
+use smallvec::SmallVec;
+use std::alloc::{AllocError, Global};
+use std::test::Fail;
 
 fn value(text: &[u8]) -> Option<(i128, u32)>
     requires { is_numeral text.now ≡ true }
@@ -70,4 +74,109 @@ fn exponents_have_any_length(rt: HostRuntime) {
         value(b"7e-000000000000000000000000000000000000000000000000002"),
         Some((7, 2))
     );
+}
+
+// 2^126 - 1
+const GREATEST: i128 = 85_070_591_730_234_615_865_843_651_857_942_052_863;
+
+fn decimal(m: i128, k: u32) -> Decimal
+    requires small { unsigned_abs m < 2 ^ 126 }
+    requires few { k < 31 }
+    ensures m { result.m ≡ m }
+{
+    Decimal { m, k }
+}
+
+// Whether the rows have these weights and this total, or why they have none.
+fn have(
+    alloc: Global,
+    rows: &[Decimal],
+    states: usize,
+    weights: &[i128],
+    total: u128,
+) -> Result<bool, ScaleFault>
+    requires states { 0 < states }
+    requires whole { length rows.now % states ≡ 0 }
+{
+    let scaled = scale_rows(alloc, rows, states)?;
+    Ok(scaled.weights.as_slice() == weights && scaled.total == total)
+}
+
+#[test]
+fn rows_have_their_weights(rt: HostRuntime) {
+    let alloc = rt.alloc();
+    let third = decimal(333_333, 6);
+    assert_eq!(rt;
+        have(alloc, &[third, third, third], 3, &[1, 1, 1], 3),
+        Ok(true)
+    );
+    let rows = [
+        decimal(3, 1),
+        decimal(7, 1),
+        third,
+        decimal(666_667, 6),
+        decimal(1, 0),
+        decimal(0, 0),
+    ];
+    let weights = [300_000, 700_000, 333_333, 666_667, 1_000_000, 0];
+    assert_eq!(rt; have(alloc, &rows, 2, &weights, 1_000_000), Ok(true));
+    // raised to whole numbers the first would be about 8 * 10^58
+    let rows = [
+        decimal(79_228_162_514_264_337_593_543_950_335, 0),
+        decimal(931_322_574_615_478_515_625, 30),
+    ];
+    let first = 85_070_591_730_234_615_865_843_651_856_868_311_040;
+    assert_eq!(rt;
+        have(alloc, &rows, 2, &[first, 1], first as u128 + 1),
+        Ok(true)
+    );
+    // a nought may have more decimals than the others
+    let rows = [decimal(0, 30), decimal(6, 1), decimal(4, 1)];
+    assert_eq!(rt; have(alloc, &rows, 3, &[0, 3, 2], 5), Ok(true));
+    let wide = [decimal(GREATEST, 0), decimal(1, 0)];
+    assert_eq!(rt; have(alloc, &wide, 2, &[], 0), Err(ScaleFault::WideWeight));
+    let fits = [decimal(GREATEST - 1, 0), decimal(1, 0)];
+    assert_eq!(rt;
+        have(alloc, &fits, 2, &[GREATEST - 1, 1], GREATEST as u128),
+        Ok(true)
+    );
+    let rows = [decimal(0, 0), decimal(0, 0), decimal(1, 0), decimal(-1, 0)];
+    assert_eq!(rt;
+        have(alloc, &rows, 2, &[], 0),
+        Err(ScaleFault::Negative { place: 3 })
+    );
+    let rows = [wide[0], wide[1], decimal(0, 0), decimal(0, 9)];
+    assert_eq!(rt;
+        have(alloc, &rows, 2, &[], 0),
+        Err(ScaleFault::ZeroRow { row: 1 })
+    );
+}
+
+// A node without parents.
+fn node(alloc: Global, kind: Kind, states: usize, cells: &[i128]) -> Result<Node, AllocError>
+    ensures { IfOk result (λ n. n ≡ record { kind = kind; owner = 0; states = states; parents = []; cells = cells.now }) }
+{
+    Ok(Node {
+        kind,
+        owner: 0,
+        states,
+        parents: SmallVec::new(alloc),
+        cells: Vec::from_slice(alloc, cells)?,
+    })
+}
+
+#[test]
+fn bound_has_its_place(rt: HostRuntime) -> Result<(), Fail> {
+    let alloc = rt.alloc();
+    let empty = Diagram::from_nodes(Vec::new(alloc), 1, 0);
+    assert_eq!(rt; bound(&empty), BoundPlace::Within);
+    let mut nodes = Vec::new(alloc);
+    nodes.push(node(alloc, Kind::Utility, 1, &[-GREATEST])?)?;
+    let one = Diagram::from_nodes(nodes, 1, 30);
+    assert_eq!(rt; bound(&one), BoundPlace::Within);
+    let mut nodes = Vec::new(alloc);
+    nodes.push(node(alloc, Kind::Chance, 1, &[GREATEST])?)?;
+    let certain = Diagram::from_nodes(nodes, 1, 1);
+    assert_eq!(rt; bound(&certain), BoundPlace::Utilities);
+    Ok(())
 }

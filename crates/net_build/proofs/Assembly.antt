@@ -1,0 +1,252 @@
+-- What a tree stands for is made of what its steps say.
+use Rattle.std.proofs.Common.{◌≡◌, ◌≢◌, ◌⊎◌, inl, inr, ℕ, zero, suc, ◌+◌, ◌<◌, ◌≤◌, ℤ, Bool, true, false, not, cond, List, [], ◌∷◌, length, get_or, map, filter, All, AllPairs, None, refl, ap, sym, ◌∙◌, subst, arith}
+use Rattle.std.proofs.lemmas.Bool.{false≢true, cases_lt}
+use Rattle.std.proofs.lemmas.List.{get_or-map, get_or_past, length-map, map-id}
+use Rattle.std.proofs.lemmas.List.Elements.{All-map, All-weaker, All-filter, filter_passes, All-get_or}
+use Rattle.std.proofs.lemmas.List.FromFn.{fill_by_all, length-map-range_with_len}
+use Rattle.std.specs.List.{range_with_len}
+use Rattle.std.specs.Prelude.{if◌then◌else◌, codes}
+use Rattle.maid_model.specs.declared.diagrams.Kind.{Kind}
+use Rattle.maid_model.specs.declared.diagrams.Kind.TheVariants.{Chance, Decision, Utility}
+use Rattle.maid_model.specs.Diagrams.{IsDiagram}
+use Rattle.maid_model.specs.Names.{NamesView, NamesFit, agent_name}
+use Rattle.maid_model.specs.Nodes.{node_at, is_chance}
+use Rattle.maid_model.specs.Views.{NodeView, DiagramView}
+use Rattle.net_lexer.specs.Token.{text_value, is_name}
+use Rattle.net_build.specs.declared.nodes.Head.{Head}
+use Rattle.net_build.specs.Blocks.{is_node, kind_of, node_blocks, name_of, names_of, has_states, has_agent, named, leaves_of, label_tokens, labels_of, states_of, agent_of, agents_of, place_of, owner_of, parents_of, parent_lists, is_plain, first_sights, no_token}
+use Rattle.net_build.specs.Building.{StandsFor, AreTables, names_view}
+use Rattle.net_build.specs.Form.{IsNodeName, HasTextForm}
+use Rattle.net_build.specs.Passes.{Pass, ◌▸◌}
+use Rattle.net_build.specs.Stages.{TableLists, AreLinks, TablesFit, head_of, node_lists, link_lists, head_at, no_head, made_at, made_nodes, made_diagram}
+use Rattle.net_build.specs.Table.{IsUtilityScale, node_pass, no_block}
+use Rattle.net_lexer.specs.declared.tokens.Token.{Token}
+use Rattle.net_parser.specs.Lexemes.{IsName}
+use Rattle.net_parser.specs.Owned.{IsBlockOf, IsNameOf, HasNames}
+use Rattle.net_parser.specs.Trees.{BlockTree}
+use Rattle.net_parser.specs.declared.trees.BlockKind.{BlockKind}
+use Rattle.net_parser.specs.declared.trees.BlockKind.TheVariants as blocks
+use Rattle.net_build.proofs.AgentFacts.{place_within, agents_known, owners_name}
+use Rattle.net_build.proofs.MadeDiagram.{HeadFits, Fits, made_node_at, made_is_diagram}
+use Rattle.net_build.proofs.NodeFacts.{HasLabels, IsGood, AreGood, nodes_are_good, sights_all}
+use Rattle.net_build.proofs.NodeLemmas.{node_is_named}
+use Rattle.net_build.proofs.SightLemmas.{has, agents_among}
+
+-- a function of the elements by their places
+map_map : {X Y Z : Type 0} (g : Y → Z) (f : X → Y) (xs : List X) → map g (map f xs) ≡ map (λ x. g (f x)) xs
+map_map g f [] = refl
+map_map g f (x ∷ xs) = ap (λ l. g (f x) ∷ l) (map_map g f xs)
+
+filter_map_swap : {X Y : Type 0} (p : Y → Bool) (f : X → Y) (xs : List X) → filter p (map f xs) ≡ map f (filter (λ x. p (f x)) xs)
+filter_map_swap p f [] = refl
+filter_map_swap p f (x ∷ xs) = by_test (p (f x)) refl (filter_map_swap p f xs) where
+  by_test : (b : Bool) → p (f x) ≡ b → filter p (map f xs) ≡ map f (filter (λ x. p (f x)) xs) → filter p (f x ∷ map f xs) ≡ map f (filter (λ x. p (f x)) (x ∷ xs))
+  by_test true e rec = ap (λ b. cond b (f x ∷ filter p (map f xs)) (filter p (map f xs))) e ∙ ap (λ l. f x ∷ l) rec ∙ sym (ap (λ b. map f (cond b (x ∷ filter (λ x. p (f x)) xs) (filter (λ x. p (f x)) xs))) e)
+  by_test false e rec = ap (λ b. cond b (f x ∷ filter p (map f xs)) (filter p (map f xs))) e ∙ rec ∙ sym (ap (λ b. map f (cond b (x ∷ filter (λ x. p (f x)) xs) (filter (λ x. p (f x)) xs))) e)
+
+by_places : {X Y : Type 0} (h : X → Y) (xs : List X) (d : X) → map (λ v. h (get_or xs v d)) (range_with_len 0 (length xs)) ≡ map h xs
+by_places h xs d = sym (fill_by_all (λ v. h (get_or xs v d)) (map h xs) (length xs) (h d) (length-map xs h) (λ k l. get_or-map h xs k d (h d) l))
+
+-- what holds of all heads, and of what stands for one that isn't there, holds at each number
+at_all : (P : Head → Type 0) (heads : List Head) → All P heads → P no_head → (v : ℕ) → P (head_at heads v)
+at_all P heads all past v = by_place (cases_lt v (length heads)) where
+  by_place : (v < length heads) ⊎ (length heads ≤ v) → P (head_at heads v)
+  by_place (inl h) = all v no_head h
+  by_place (inr h) = subst P (sym (get_or_past heads v no_head h)) past
+
+-- the head of a good block fits
+block_fits : (text : List ℕ) (nodes : List BlockTree) (b : BlockTree) → IsGood text b → is_node b.kind ≡ true → HeadFits (head_of text nodes b)
+block_fits text nodes b good node = by_kind b.kind refl node where
+  with_labels : (k : BlockKind) → b.kind ≡ k → has_states k ≡ true → states_of text b ≡ length (leaves_of (named text (codes "states") b.attributes))
+  with_labels k e s =
+      let states : has_states b.kind ≡ true = ap has_states e ∙ s in
+      ap (λ t. if t then length (label_tokens text b) else 1) states ∙ ap (λ t. length (if t then leaves_of (named text (codes "states") b.attributes) else [])) states
+
+  without : (k : BlockKind) → b.kind ≡ k → has_states k ≡ false → states_of text b ≡ 1
+  without k e s = ap (λ t. if t then length (label_tokens text b) else 1) (ap has_states e ∙ s)
+
+  by_kind : (k : BlockKind) → b.kind ≡ k → is_node b.kind ≡ true → HeadFits (head_of text nodes b)
+  by_kind blocks.Net e n = absurd (false≢true (sym (ap is_node e) ∙ n))
+  by_kind blocks.Potential e n = absurd (false≢true (sym (ap is_node e) ∙ n))
+  by_kind blocks.Node e n =
+      let count = with_labels blocks.Node e refl in
+      let labels = good.labels (ap has_states e) in
+      let some = labels.some in
+      let few = labels.few in
+      record {
+        some = omega (arith, count, some);
+        many = omega (arith, count, few);
+        utility = λ u. let clash : Chance ≡ Utility = sym (ap kind_of e) ∙ u in cc;
+        chance = λ c. ap (λ k. if has_agent k then place_of (agents_of text nodes) (agent_of text b) else 0) e;
+      }
+  by_kind blocks.Decision e n =
+      let count = with_labels blocks.Decision e refl in
+      let labels = good.labels (ap has_states e) in
+      let some = labels.some in
+      let few = labels.few in
+      record {
+        some = omega (arith, count, some);
+        many = omega (arith, count, few);
+        utility = λ u. let clash : Decision ≡ Utility = sym (ap kind_of e) ∙ u in cc;
+        chance = λ c. let clash : Decision ≡ Chance = sym (ap kind_of e) ∙ c in cc;
+      }
+  by_kind blocks.Utility e n =
+      let count = without blocks.Utility e refl in
+      record {
+        some = omega (arith, count);
+        many = omega (arith, count);
+        utility = λ u. count;
+        chance = λ c. let clash : Utility ≡ Chance = sym (ap kind_of e) ∙ c in cc;
+      }
+
+-- a node that is no chance node has an agent, and one that is no utility has states
+has_owner : (k : BlockKind) → is_node k ≡ true → kind_of k ≢ Chance → has_agent k ≡ true
+has_owner blocks.Net n c = absurd (false≢true n)
+has_owner blocks.Node n c = absurd (c refl)
+has_owner blocks.Decision n c = refl
+has_owner blocks.Utility n c = refl
+has_owner blocks.Potential n c = absurd (false≢true n)
+
+has_labels : (k : BlockKind) → is_node k ≡ true → kind_of k ≢ Utility → has_states k ≡ true
+has_labels blocks.Net n c = absurd (false≢true n)
+has_labels blocks.Node n c = refl
+has_labels blocks.Decision n c = refl
+has_labels blocks.Utility n c = absurd (c refl)
+has_labels blocks.Potential n c = absurd (false≢true n)
+
+module _ (text : List ℕ) (tree : List BlockTree) (tables : TableLists) (own : All (IsBlockOf text) tree) (rows : node_pass text tree None) (links : AreLinks (node_lists text (node_blocks tree)).heads (parent_lists text tree))
+    (are : AreTables text tree tables.decimals tables.cells) (fit : TablesFit (node_lists text (node_blocks tree)).heads (parent_lists text tree) tables.cells) (few : tables.decimals ≤ 30) (scale : IsUtilityScale text tree tables.decimals) where
+  abbrev nodes : List BlockTree
+  nodes = node_blocks tree
+
+  abbrev heads : List Head
+  heads = map (head_of text (node_blocks tree)) (node_blocks tree)
+
+  good : AreGood text nodes
+  good = nodes_are_good text tree rows
+
+  kinds : All (λ b. is_node b.kind ≡ true) nodes
+  kinds = filter_passes (λ b. is_node b.kind) tree
+
+  owned_blocks : All (IsBlockOf text) nodes
+  owned_blocks = All-filter (λ b. is_node b.kind) (IsBlockOf text) tree own
+
+  heads_len : length heads ≡ length nodes
+  heads_len = length-map nodes (head_of text nodes)
+
+  heads_are : (v : ℕ) → HeadFits (head_at heads v)
+  heads_are = at_all HeadFits heads (All-map HeadFits (head_of text nodes) nodes (λ k d h. block_fits text nodes (get_or nodes k d) (good.each k d h) (kinds k d h)))
+      (record { some = omega arith; many = omega arith; utility = λ u. refl; chance = λ c. refl })
+
+  owners_are : (v : ℕ) → v < length heads → (head_at heads v).kind ≢ Chance → (head_at heads v).owner < length (agents_of text nodes)
+  owners_are v h = (All-map (λ (x : Head). x.kind ≢ Chance → x.owner < length (agents_of text nodes)) (head_of text nodes) nodes
+      (λ k d l c. let agent = has_owner (get_or nodes k d).kind (kinds k d l) c in
+      let place : owner_of text nodes (get_or nodes k d) ≡ place_of (agents_of text nodes) (agent_of text (get_or nodes k d)) = ap (λ t. if t then place_of (agents_of text nodes) (agent_of text (get_or nodes k d)) else 0) agent in
+      subst (λ (n : ℕ). n < length (agents_of text nodes)) (sym place) (place_within (agents_of text nodes) (agent_of text (get_or nodes k d)) (agents_known text nodes k d l agent)))) v no_head h
+
+  parents_len : length (parent_lists text tree) ≡ length heads
+  parents_len = let n = heads_len in let m = length-map nodes (λ b. parents_of text tree (name_of text b)) in omega arith
+
+  cells_len : length tables.cells ≡ length heads
+  cells_len = are.len ∙ sym heads_len
+
+  fits : Fits heads (parent_lists text tree) tables.cells (length (agents_of text nodes)) tables.decimals
+  fits = record {
+    parents_len = parents_len;
+    cells_len = cells_len;
+    heads_fit = heads_are;
+    owners = owners_are;
+    count = let n = heads_len in let m = good.few in omega arith;
+    few_agents = good.agents;
+    links = links;
+    tables = fit;
+    few = few;
+  }
+
+  pub made_is : IsDiagram (made_diagram (node_lists text (node_blocks tree)) (link_lists text tree) tables)
+  made_is = made_is_diagram heads (parent_lists text tree) tables.cells (length (agents_of text nodes)) tables.decimals fits
+
+  -- a part of each head, as a part of each node
+  parts : {Y : Type 0} (h : Head → Y) (g : NodeView → Y) → ((v : ℕ) → g (made_at heads (parent_lists text tree) tables.cells v) ≡ h (head_at heads v)) → map g (made_nodes heads (parent_lists text tree) tables.cells) ≡ map (λ b. h (head_of text nodes b)) nodes
+  parts h g same =
+      map_map g (made_at heads (parent_lists text tree) tables.cells) (range_with_len 0 (length heads))
+      ∙ ap (λ f. map f (range_with_len 0 (length heads))) (λ j v. same v j)
+      ∙ by_places h heads no_head
+      ∙ map_map h (head_of text nodes) nodes
+
+  -- a list with an element for each node
+  columns : {X : Type 0} (xs : List X) (d : X) (g : NodeView → X) → length xs ≡ length heads → ((v : ℕ) → g (made_at heads (parent_lists text tree) tables.cells v) ≡ get_or xs v d) → map g (made_nodes heads (parent_lists text tree) tables.cells) ≡ xs
+  columns xs d g len same =
+      map_map g (made_at heads (parent_lists text tree) tables.cells) (range_with_len 0 (length heads))
+      ∙ (λ j. map (λ v. same v j) (range_with_len 0 (sym len j)))
+      ∙ by_places (λ x. x) xs d
+      ∙ map-id xs
+
+  pub made_stands : StandsFor text tree (made_diagram (node_lists text (node_blocks tree)) (link_lists text tree) tables) (names_view text tree)
+  made_stands = record {
+    names_are = refl;
+    agents = refl;
+    kinds = parts (λ h. h.kind) (λ n. n.kind) (λ v. refl);
+    owners = parts (λ h. h.owner) (λ n. n.owner) (λ v. refl);
+    states = parts (λ h. h.states) (λ n. n.states) (λ v. refl);
+    parents = columns (parent_lists text tree) [] (λ n. n.parents) parents_len (λ v. refl);
+    scale = scale;
+    tables = subst (AreTables text tree tables.decimals) (sym (columns tables.cells [] (λ n. n.cells) cells_len (λ v. refl))) are;
+  }
+
+  made_len : length (made_nodes heads (parent_lists text tree) tables.cells) ≡ length heads
+  made_len = length-map-range_with_len (made_at heads (parent_lists text tree) tables.cells) 0 (length heads)
+
+  label_counts : (v : ℕ) → v < length heads → (head_at heads v).kind ≢ Utility → length (get_or (map (labels_of text) nodes) v []) ≡ (head_at heads v).states
+  label_counts v h other =
+      let within : v < length nodes = subst (λ (n : ℕ). v < n) heads_len h in
+      let b : BlockTree = get_or nodes v no_block in
+      let head : head_at heads v ≡ head_of text nodes b = get_or-map (head_of text nodes) nodes v no_block no_head within in
+      let states = has_labels b.kind (kinds v no_block within) (subst (λ (x : Head). x.kind ≢ Utility) head other) in
+      ap length (get_or-map (labels_of text) nodes v no_block [] within) ∙ length-map (label_tokens text b) (text_value text)
+      ∙ sym (ap (λ t. if t then length (label_tokens text b) else 1) states) ∙ sym (ap (λ (x : Head). x.states) head)
+
+  pub made_fit : NamesFit (made_diagram (node_lists text (node_blocks tree)) (link_lists text tree) tables) (names_view text tree)
+  made_fit = record {
+    nodes = length-map nodes (name_of text) ∙ sym (made_len ∙ heads_len);
+    labels = length-map nodes (labels_of text) ∙ sym (made_len ∙ heads_len);
+    states = λ v h.
+        let at = made_node_at heads (parent_lists text tree) tables.cells parents_len cells_len v in
+        let within : v < length heads = subst (λ (n : ℕ). v < n) made_len h in
+        subst (λ (n : NodeView). n.kind ≢ Utility → length (get_or (map (labels_of text) nodes) v []) ≡ n.states) (sym at) (label_counts v within);
+    agents = refl;
+  }
+
+  node_name : (b : BlockTree) → IsBlockOf text b → is_node b.kind ≡ true → length (name_of text b) ≤ 255 → IsNodeName (name_of text b)
+  node_name b block node short = record { unsigned = (block.names 0 no_token (node_is_named b.kind (length b.names) node block.count)).name.unsigned; size = short }
+
+  labels_plain : (b : BlockTree) → IsGood text b → All (λ l. is_plain l ≡ true) (labels_of text b)
+  labels_plain b this = by_test (has_states b.kind) refl where
+    by_test : (t : Bool) → has_states b.kind ≡ t → All (λ l. is_plain l ≡ true) (labels_of text b)
+    by_test true e = All-map (λ l. is_plain l ≡ true) (text_value text) (label_tokens text b) (subst (All (λ t. is_plain (text_value text t) ≡ true)) (sym (ap (λ t. if t then leaves_of (named text (codes "states") b.attributes) else []) e)) (this.labels e).plain)
+    by_test false e = subst (λ (ts : List Token). All (λ l. is_plain l ≡ true) (map (text_value text) ts)) (sym (ap (λ t. if t then leaves_of (named text (codes "states") b.attributes) else []) e)) (λ k d h. absurd (omega arith))
+
+  agents_plain : All (λ a. is_plain a ≡ true) (agents_of text nodes)
+  agents_plain = sights_all (λ a. is_plain a ≡ true) (agents_among text nodes) (All-map (λ a. is_plain a ≡ true) (agent_of text) (filter (λ b. has_agent b.kind) nodes)
+      (λ k d h. (All-filter (λ b. has_agent b.kind) (IsGood text) nodes good.each k d h).agent (filter_passes (λ b. has_agent b.kind) nodes k d h)))
+
+  -- the agents by the nodes' owners
+  numbered : agents_of text nodes ≡ first_sights (map (λ n. agent_name (names_view text tree) n.owner) (filter (λ n. not (is_chance n.kind)) (made_nodes heads (parent_lists text tree) tables.cells)))
+  numbered = sym (ap first_sights
+      (ap (map (λ n. get_or (agents_of text nodes) n.owner [])) (filter_map_swap (λ n. not (is_chance n.kind)) (made_at heads (parent_lists text tree) tables.cells) (range_with_len 0 (length heads)))
+      ∙ map_map (λ n. get_or (agents_of text nodes) n.owner []) (made_at heads (parent_lists text tree) tables.cells) (filter (λ v. not (is_chance (head_at heads v).kind)) (range_with_len 0 (length heads)))
+      ∙ sym (map_map (λ h. get_or (agents_of text nodes) h.owner []) (head_at heads) (filter (λ v. not (is_chance (head_at heads v).kind)) (range_with_len 0 (length heads))))
+      ∙ ap (map (λ h. get_or (agents_of text nodes) h.owner [])) (sym (filter_map_swap (λ h. not (is_chance h.kind)) (head_at heads) (range_with_len 0 (length heads))))
+      ∙ ap (λ hs. map (λ h. get_or (agents_of text nodes) h.owner []) (filter (λ h. not (is_chance h.kind)) hs)) (by_places (λ h. h) heads no_head ∙ map-id heads)
+      ∙ ap (map (λ h. get_or (agents_of text nodes) h.owner [])) (filter_map_swap (λ h. not (is_chance h.kind)) (head_of text nodes) nodes)
+      ∙ map_map (λ h. get_or (agents_of text nodes) h.owner []) (head_of text nodes) (filter (λ b. not (is_chance (kind_of b.kind))) nodes)
+      ∙ owners_name text nodes nodes kinds (agents_known text nodes)))
+
+  pub made_form : HasTextForm (made_diagram (node_lists text (node_blocks tree)) (link_lists text tree) tables) (names_view text tree)
+  made_form = record {
+    distinct = good.distinct;
+    words = All-map IsNodeName (name_of text) nodes (λ k d h. node_name (get_or nodes k d) (owned_blocks k d h) (kinds k d h) (good.each k d h).short);
+    labels = All-map (All (λ l. is_plain l ≡ true)) (labels_of text) nodes (λ k d h. labels_plain (get_or nodes k d) (good.each k d h));
+    agents = agents_plain;
+    numbered = numbered;
+  }

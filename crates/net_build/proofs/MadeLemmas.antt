@@ -1,0 +1,31 @@
+-- The nodes that are made of heads, parents and tables.
+use Rattle.std.proofs.Common.{◌≡◌, ℕ, ◌+◌, ◌<◌, ◌≤◌, ℤ, List, [], ◌∷◌, ◌++◌, length, get_or, drop, set, map, refl, ap, sym, ◌∙◌, arith}
+use Rattle.std.proofs.lemmas.List.{get_or-drop, get_or-map, get_or_read, length-map, drop-set-lt, drop-drop}
+use Rattle.std.proofs.lemmas.List.FromFn.{map-range_with_len_more}
+use Rattle.std.specs.Global.{Vec}
+use Rattle.std.specs.List.{range_with_len}
+use Rattle.maid_model.specs.Views.{NodeView}
+use Rattle.net_build.specs.declared.nodes.Head.{Head}
+use Rattle.net_build.specs.Lists.{numbers_of_lists, cells_of_lists}
+use Rattle.net_build.specs.Stages.{no_head, made_node, made_at, made_nodes}
+
+-- the table that is still there is the one that was
+table_left : (tables first : List (Vec ℤ)) (v : ℕ) (d : Vec ℤ) → drop v tables ≡ drop v first → get_or tables v d ≡ get_or first v d
+table_left tables first v d left =
+    let at : v ≡ v + 0 = omega arith in
+    ap (λ n. get_or tables n d) at ∙ sym (get_or-drop v tables 0 d) ∙ ap (λ l. get_or l 0 d) left ∙ get_or-drop v first 0 d ∙ ap (λ n. get_or first n d) (sym at)
+
+-- one more node
+pub made_more : (heads : List Head) (parents : List (Vec ℕ)) (tables first : List (Vec ℤ)) (v : ℕ) (nodes longer : List NodeView) (head : Head) (p : Vec ℕ) (t : Vec ℤ) (node : NodeView) → v < length parents → v < length first → head ≡ get_or heads v no_head → p ≡ get_or parents v p → t ≡ get_or tables v t → drop v tables ≡ drop v first → node ≡ made_node head p.items t.items
+    → nodes ≡ map (made_at heads (numbers_of_lists parents) (cells_of_lists first)) (range_with_len 0 v) → longer ≡ nodes ++ node ∷ [] → longer ≡ map (made_at heads (numbers_of_lists parents) (cells_of_lists first)) (range_with_len 0 (v + 1))
+made_more heads parents tables first v nodes longer head p t node in_parents in_tables is_head is_p is_t left made so_far is_longer =
+    let these : p.items ≡ get_or (numbers_of_lists parents) v [] = ap (λ (w : Vec ℕ). w.items) is_p ∙ sym (get_or-map (λ (w : Vec ℕ). w.items) parents v p [] in_parents) in
+    let cells : t.items ≡ get_or (cells_of_lists first) v [] = ap (λ (w : Vec ℤ). w.items) (is_t ∙ table_left tables first v t left) ∙ sym (get_or-map (λ (w : Vec ℤ). w.items) first v t [] in_tables) in
+    let here : node ≡ made_at heads (numbers_of_lists parents) (cells_of_lists first) v = made ∙ (λ j. made_node (is_head j) (these j) (cells j)) in
+    is_longer ∙ ap (λ l. l ++ node ∷ []) so_far ∙ ap (λ n. map (made_at heads (numbers_of_lists parents) (cells_of_lists first)) (range_with_len 0 v) ++ n ∷ []) here
+    ∙ sym (map-range_with_len_more (made_at heads (numbers_of_lists parents) (cells_of_lists first)) 0 v v (omega arith))
+
+-- the tables behind one that is taken
+pub tables_behind : (tables first : List (Vec ℤ)) (v : ℕ) (t : Vec ℤ) → drop v tables ≡ drop v first → drop (v + 1) (set tables v t) ≡ drop (v + 1) first
+tables_behind tables first v t left =
+    drop-set-lt (v + 1) tables v t (omega arith) ∙ sym (drop-drop 1 v tables) ∙ ap (drop 1) left ∙ drop-drop 1 v first

@@ -1,0 +1,166 @@
+-- A pass finds nothing or a fault, never both, and one fault at most: each row does, and so do rows in turn.
+use Rattle.std.proofs.Common.{◌≡◌, ◌+◌, ℕ, Bool, true, false, inl, inr, List, [], ◌∷◌, ◌++◌, Option, None, Some, sym, ◌∙◌, ap, subst, arith}
+use Rattle.std.specs.Prelude.{slice_index, slice_index_or, All}
+use Rattle.std.proofs.lemmas.Bool.{cases_lt}
+use Rattle.diagram_graph.specs.Laws.{CycleLeadsBack, OneCycle}
+use Rattle.maid_model.specs.Placing.{IsLeast}
+use Rattle.net_lexer.specs.Token.{token_bytes}
+use Rattle.net_lexer.specs.declared.tokens.Token.{Token}
+use Rattle.net_parser.specs.Trees.{AttributeTree, BlockTree}
+use Rattle.net_build.specs.Passes.{Pass, Found, found, GraphCycle, clear, rule, only, ◌▸◌, each, each_after}
+use Rattle.net_build.specs.Blocks.{node_blocks, title_at, parent_lists}
+use Rattle.net_build.specs.Scaling.{IsWholeBy}
+use Rattle.net_build.specs.Table.{repeated_row, repeats, label_row, label_rows, states_rows, agent_rows, name_rows, owner_rows, node_rows, node_pass, condition_rows, potential_rows, potential_pass, missing_row, missing_pass, no_block, graph_pass, size_rows, size_pass, number_row, length_row, sign_row, total_row, weight_rows, data_rows, table_rows, table_pass, utility_numbers, IsUtilityScale, wide_row, wide_pass, all_passes}
+
+pub record IsOne (P : Pass) : Type 0 where
+  pub apart : (f : Found) → P None → P (Some f) → ⊥
+  pub once : (f g : Found) → P (Some f) → P (Some g) → f ≡ g
+
+rule_one : (Applies : Type 0) (fault : Found) → IsOne (rule Applies fault)
+rule_one Applies fault = record { apart = λ f none some. none some.0; once = λ f g h k. h.1 ∙ sym k.1 }
+
+clear_one : IsOne clear
+clear_one = record { apart = λ f none some. some; once = λ f g h k. absurd h }
+
+then_apart : (P Q : Pass) → IsOne P → IsOne Q → (f : Found) → (P ▸ Q) None → (P ▸ Q) (Some f) → ⊥
+then_apart P Q p q f none (inl some) = p.apart f none.0 some
+then_apart P Q p q f none (inr some) = q.apart f none.1 some.1
+
+then_once : (P Q : Pass) → IsOne P → IsOne Q → (f g : Found) → (P ▸ Q) (Some f) → (P ▸ Q) (Some g) → f ≡ g
+then_once P Q p q f g (inl h) (inl k) = p.once f g h k
+then_once P Q p q f g (inl h) (inr k) = absurd (p.apart f k.0 h)
+then_once P Q p q f g (inr h) (inl k) = absurd (p.apart g h.0 k)
+then_once P Q p q f g (inr h) (inr k) = q.once f g h.1 k.1
+
+then_one : {P Q : Pass} → IsOne P → IsOne Q → IsOne (P ▸ Q)
+then_one {P = P} {Q = Q} p q = record { apart = then_apart P Q p q; once = then_once P Q p q }
+
+only_one : (b : Bool) {P : Pass} → IsOne P → IsOne (only b P)
+only_one true p = p
+only_one false p = clear_one
+
+each_one : {A : Type 0} {P : A → Pass} → ((x : A) → IsOne (P x)) → (xs : List A) → IsOne (each P xs)
+each_one p [] = clear_one
+each_one p (x ∷ xs) = then_one (p x) (each_one p xs)
+
+each_after_one : {A : Type 0} {P : List A → A → Pass} → ((earlier : List A) (x : A) → IsOne (P earlier x)) → (earlier xs : List A) → IsOne (each_after P earlier xs)
+each_after_one p earlier [] = clear_one
+each_after_one p earlier (x ∷ xs) = then_one (p earlier x) (each_after_one p (earlier ++ x ∷ []) xs)
+
+pub least_once : (P : ℕ → Type 0) (v w : ℕ) → IsLeast P v → IsLeast P w → v ≡ w
+least_once P v w h k = elim (cases_lt v w) as (λ _. v ≡ w) [
+  | inl l ↦ absurd (k.1 v l h.0)
+  | inr g ↦ elim (cases_lt w v) as (λ _. v ≡ w) [ inl l ↦ absurd (h.1 w l k.0) | inr m ↦ omega arith ]
+]
+
+pub scale_once : (text : List ℕ) (blocks : List BlockTree) (k l : ℕ) → IsUtilityScale text blocks k → IsUtilityScale text blocks l → k ≡ l
+scale_once text blocks k l = least_once (λ k. All (λ t. IsWholeBy k (token_bytes text t)) (utility_numbers text blocks)) k l
+
+-- The rows of the table, in its order.
+repeats_one : (text : List ℕ) (block : BlockTree) → IsOne (repeats text block)
+unfolding repeats
+repeats_one text block = each_after_one {P = repeated_row text} (λ earlier a. rule_one _ _) [] _
+
+label_rows_one : (text : List ℕ) (states : AttributeTree) → IsOne (label_rows text states)
+unfolding label_rows
+label_rows_one text states = then_one (rule_one _ _) (then_one (rule_one _ _) (each_one {P = label_row text} (λ label. rule_one _ _) _))
+
+states_rows_one : (text : List ℕ) (block : BlockTree) (attributes : List AttributeTree) → IsOne (states_rows text block attributes)
+unfolding states_rows
+states_rows_one text block [] = rule_one _ _
+states_rows_one text block (states ∷ more) = label_rows_one text states
+
+agent_rows_one : (text : List ℕ) (attributes : List AttributeTree) → IsOne (agent_rows text attributes)
+unfolding agent_rows
+agent_rows_one text [] = clear_one
+agent_rows_one text (agent ∷ more) = rule_one _ _
+
+name_rows_one : (text : List ℕ) (names : List (List ℕ)) (block : BlockTree) → IsOne (name_rows text names block)
+unfolding name_rows
+name_rows_one text names block = then_one (rule_one _ _) (then_one (rule_one _ _) (rule_one _ _))
+
+owner_rows_one : (text : List ℕ) (agents : List (List ℕ)) (block : BlockTree) → IsOne (owner_rows text agents block)
+unfolding owner_rows
+owner_rows_one text agents block = then_one (agent_rows_one text _) (rule_one _ _)
+
+node_rows_one : (text : List ℕ) (names agents : List (List ℕ)) (block : BlockTree) → IsOne (node_rows text names agents block)
+unfolding node_rows
+node_rows_one text names agents block =
+    then_one (name_rows_one text names block) (then_one (repeats_one text block) (then_one (only_one _ (states_rows_one text block _)) (only_one _ (owner_rows_one text agents block))))
+
+node_pass_one : (text : List ℕ) (blocks : List BlockTree) → IsOne (node_pass text blocks)
+unfolding node_pass
+node_pass_one text blocks = each_after_one (λ earlier b. node_rows_one text _ _ b) [] (node_blocks blocks)
+
+condition_rows_one : (text : List ℕ) (nodes : List BlockTree) (earlier : List Token) (name : Token) → IsOne (condition_rows text nodes earlier name)
+unfolding condition_rows
+condition_rows_one text nodes earlier name = then_one (rule_one _ _) (then_one (rule_one _ _) (rule_one _ _))
+
+potential_rows_one : (text : List ℕ) (nodes earlier : List BlockTree) (potential : BlockTree) → IsOne (potential_rows text nodes earlier potential)
+unfolding potential_rows
+potential_rows_one text nodes earlier potential =
+    then_one (rule_one _ _) (then_one (rule_one _ _) (then_one (each_after_one (condition_rows_one text nodes) [] _) (rule_one _ _)))
+
+potential_pass_one : (text : List ℕ) (blocks : List BlockTree) → IsOne (potential_pass text blocks)
+unfolding potential_pass
+potential_pass_one text blocks = each_after_one (potential_rows_one text (node_blocks blocks)) [] _
+
+missing_pass_one : (text : List ℕ) (blocks : List BlockTree) → IsOne (missing_pass text blocks)
+unfolding missing_pass
+missing_pass_one text blocks = each_one {P = missing_row text blocks} (λ block. rule_one _ _) _
+
+graph_pass_one : CycleLeadsBack → OneCycle → (text : List ℕ) (blocks : List BlockTree) → IsOne (graph_pass text blocks)
+unfolding graph_pass
+graph_pass_one leads_back one_cycle text blocks = record {
+  apart = λ f none some. leads_back (parent_lists text blocks) some.0 some.1 none;
+  once = λ f g h k. h.2 ∙ ap (λ (cycle : List ℕ). found (title_at (slice_index_or (node_blocks blocks) (slice_index cycle 0) no_block)) (GraphCycle cycle)) (one_cycle (parent_lists text blocks) h.0 k.0 h.1 k.1) ∙ sym k.2;
+}
+
+size_rows_one : (text : List ℕ) (blocks earlier : List BlockTree) (block : BlockTree) → IsOne (size_rows text blocks earlier block)
+unfolding size_rows
+size_rows_one text blocks earlier block = then_one (rule_one _ _) (only_one _ (rule_one _ _))
+
+size_pass_one : (text : List ℕ) (blocks : List BlockTree) → IsOne (size_pass text blocks)
+unfolding size_pass
+size_pass_one text blocks = each_after_one (size_rows_one text blocks) [] _
+
+total_row_one : (text : List ℕ) (numbers : List Token) → IsOne (total_row text numbers)
+total_row_one text [] = clear_one
+total_row_one text (number ∷ numbers) = rule_one _ _
+
+weight_rows_one : (text : List ℕ) (states rows : ℕ) (table : AttributeTree) → IsOne (weight_rows text states rows table)
+unfolding weight_rows
+weight_rows_one text states rows table =
+    then_one (each_one {P = sign_row text} (λ number. rule_one _ _) _) (then_one (each_one (total_row_one text) _) (rule_one _ _))
+
+data_rows_one : (text : List ℕ) (blocks : List BlockTree) (block potential : BlockTree) (tables : List AttributeTree) → IsOne (data_rows text blocks block potential tables)
+unfolding data_rows
+data_rows_one text blocks block potential [] = rule_one _ _
+data_rows_one text blocks block potential (table ∷ more) =
+    then_one (each_one {P = number_row} (λ leaf. rule_one _ _) _) (then_one (rule_one _ _)
+    (then_one (each_one {P = length_row text} (λ number. rule_one _ _) _) (only_one _ (weight_rows_one text _ _ table))))
+
+table_rows_one : (text : List ℕ) (blocks : List BlockTree) (block : BlockTree) (potential : Option BlockTree) → IsOne (table_rows text blocks block potential)
+unfolding table_rows
+table_rows_one text blocks block None = clear_one
+table_rows_one text blocks block (Some potential) = then_one (repeats_one text potential) (data_rows_one text blocks block potential _)
+
+table_pass_one : (text : List ℕ) (blocks : List BlockTree) → IsOne (table_pass text blocks)
+unfolding table_pass
+table_pass_one text blocks = each_one (λ b. table_rows_one text blocks b _) _
+
+wide_pass_one : (text : List ℕ) (blocks : List BlockTree) → IsOne (wide_pass text blocks)
+unfolding wide_pass
+wide_pass_one text blocks =
+    let Rows : ℕ → Pass = λ k. each (wide_row text k) (utility_numbers text blocks) in
+    let rows : (k : ℕ) → IsOne (Rows k) = λ k. each_one {P = wide_row text k} (λ number. rule_one _ _) (utility_numbers text blocks) in
+    record {
+      apart = λ f none some. (rows none.0).apart f none.2 (subst (λ k. Rows k (Some f)) (scale_once text blocks some.0 none.0 some.1 none.1) some.2);
+      once = λ f g h k. (rows h.0).once f g h.2 (subst (λ l. Rows l (Some g)) (scale_once text blocks k.0 h.0 k.1 h.1) k.2);
+    }
+
+pub all_one : CycleLeadsBack → OneCycle → (text : List ℕ) (blocks : List BlockTree) → IsOne (all_passes text blocks)
+unfolding all_passes
+all_one leads_back one_cycle text blocks =
+    then_one (node_pass_one text blocks) (then_one (potential_pass_one text blocks) (then_one (missing_pass_one text blocks) (then_one (graph_pass_one leads_back one_cycle text blocks)
+    (then_one (size_pass_one text blocks) (then_one (table_pass_one text blocks) (wide_pass_one text blocks))))))

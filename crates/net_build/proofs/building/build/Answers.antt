@@ -1,0 +1,76 @@
+-- The steps one after the other: each finds nothing, and what they say makes the diagram.
+use Rattle.std.proofs.Common.{◌≡◌, ap, sym, ◌∙◌, subst}
+use Rattle.std.proofs.lemmas.Result.{err_from_is_err_and}
+use Rattle.maid_model.specs.Diagrams.{IsDiagram}
+use Rattle.maid_model.specs.Names.{NamesView, NamesFit}
+use Rattle.maid_model.specs.Views.{DiagramView}
+use Rattle.net_build.specs.Blocks.{node_blocks}
+use Rattle.net_build.specs.Building.{StandsFor, names_view}
+use Rattle.net_build.specs.Form.{HasTextForm}
+use Rattle.net_build.specs.Stages.{NodeLists, node_lists, link_lists, made_diagram}
+use Rattle.net_build.proofs.AllPasses.{nodes_refused, links_refused, values_refused, all_clear}
+use Rattle.net_build.proofs.Assembly.{made_is, made_stands, made_fit, made_form}
+use Rattle.net_build.proofs.building.build.Goals as goal
+
+pub returns-in_err-nodes-clause-rows : goal.returns-in_err-nodes-clause-rows
+returns-in_err-nodes-clause-rows c =
+    let p = err_from_is_err_and c.from_residual.result c.from_residual.ensures.1 in
+    rw (p.1, p.2) (nodes_refused c.args.text.now c.args.syntax.now _ c.in_err-nodes.ensures.rows)
+
+pub returns-in_err-links-clause-rows : goal.returns-in_err-links-clause-rows
+returns-in_err-links-clause-rows c =
+    let p = err_from_is_err_and c.from_residual-in_err-links.result c.from_residual-in_err-links.ensures.1 in
+    rw (p.1, p.2) (links_refused c.args.text.now c.args.syntax.now _ c.in_ok-nodes.ensures.rows c.in_err-links.ensures.rows)
+
+pub returns-in_err-tables-clause-rows : goal.returns-in_err-tables-clause-rows
+returns-in_err-tables-clause-rows c =
+    let p = err_from_is_err_and c.from_residual-in_err-tables.result c.from_residual-in_err-tables.ensures.1 in
+    rw (p.1, p.2) (values_refused c.args.text.now c.args.syntax.now _ c.in_ok-nodes.ensures.rows c.in_ok-links.ensures.rows c.in_err-tables.ensures.rows)
+
+pub assemble-requires-clause-diagram : goal.assemble-requires-clause-diagram
+assemble-requires-clause-diagram c =
+    rw (c.in_ok-nodes.ensures.nodes, c.in_ok-links.ensures.links)
+    (made_is c.args.text.now c.args.syntax.now c.in_ok-tables.tables c.requires.blocks c.in_ok-nodes.ensures.rows
+    (rw (c.in_ok-nodes.ensures.nodes, c.in_ok-links.ensures.links) at c.in_ok-links.ensures.fit)
+    c.in_ok-tables.ensures.cells
+    (rw (c.in_ok-nodes.ensures.nodes, c.in_ok-links.ensures.links) at c.in_ok-tables.ensures.fit)
+    c.in_ok-tables.ensures.few c.in_ok-tables.ensures.scale)
+
+pub returns-clause-rows : goal.returns-clause-rows
+returns-clause-rows c = all_clear c.args.text.now c.args.syntax.now c.in_ok-nodes.ensures.rows c.in_ok-links.ensures.rows c.in_ok-tables.ensures.rows
+
+pub returns-clause-stands : goal.returns-clause-stands
+returns-clause-stands c =
+    let diagram = c.in_ok-assemble.ensures.diagram ∙ (λ j. made_diagram (c.in_ok-nodes.ensures.nodes j) (c.in_ok-links.ensures.links j) c.in_ok-tables.tables) in
+    let names = c.in_ok-assemble.ensures.names ∙ ap (λ (n : NodeLists). record { nodes = n.names; labels = n.labels; agents = n.agents }) c.in_ok-nodes.ensures.nodes in
+    subst (λ (n : NamesView). StandsFor c.args.text.now c.args.syntax.now c.in_ok-assemble.field-0.0 n) (sym names)
+    (subst (λ (d : DiagramView). StandsFor c.args.text.now c.args.syntax.now d (names_view c.args.text.now c.args.syntax.now)) (sym diagram)
+    (made_stands c.args.text.now c.args.syntax.now c.in_ok-tables.tables c.requires.blocks c.in_ok-nodes.ensures.rows
+    (rw (c.in_ok-nodes.ensures.nodes, c.in_ok-links.ensures.links) at c.in_ok-links.ensures.fit)
+    c.in_ok-tables.ensures.cells
+    (rw (c.in_ok-nodes.ensures.nodes, c.in_ok-links.ensures.links) at c.in_ok-tables.ensures.fit)
+    c.in_ok-tables.ensures.few c.in_ok-tables.ensures.scale))
+
+pub returns-clause-fit : goal.returns-clause-fit
+returns-clause-fit c =
+    let diagram = c.in_ok-assemble.ensures.diagram ∙ (λ j. made_diagram (c.in_ok-nodes.ensures.nodes j) (c.in_ok-links.ensures.links j) c.in_ok-tables.tables) in
+    let names = c.in_ok-assemble.ensures.names ∙ ap (λ (n : NodeLists). record { nodes = n.names; labels = n.labels; agents = n.agents }) c.in_ok-nodes.ensures.nodes in
+    subst (λ (n : NamesView). NamesFit c.in_ok-assemble.field-0.0 n) (sym names)
+    (subst (λ (d : DiagramView). NamesFit d (names_view c.args.text.now c.args.syntax.now)) (sym diagram)
+    (made_fit c.args.text.now c.args.syntax.now c.in_ok-tables.tables c.requires.blocks c.in_ok-nodes.ensures.rows
+    (rw (c.in_ok-nodes.ensures.nodes, c.in_ok-links.ensures.links) at c.in_ok-links.ensures.fit)
+    c.in_ok-tables.ensures.cells
+    (rw (c.in_ok-nodes.ensures.nodes, c.in_ok-links.ensures.links) at c.in_ok-tables.ensures.fit)
+    c.in_ok-tables.ensures.few c.in_ok-tables.ensures.scale))
+
+pub returns-clause-form : goal.returns-clause-form
+returns-clause-form c =
+    let diagram = c.in_ok-assemble.ensures.diagram ∙ (λ j. made_diagram (c.in_ok-nodes.ensures.nodes j) (c.in_ok-links.ensures.links j) c.in_ok-tables.tables) in
+    let names = c.in_ok-assemble.ensures.names ∙ ap (λ (n : NodeLists). record { nodes = n.names; labels = n.labels; agents = n.agents }) c.in_ok-nodes.ensures.nodes in
+    subst (λ (n : NamesView). HasTextForm c.in_ok-assemble.field-0.0 n) (sym names)
+    (subst (λ (d : DiagramView). HasTextForm d (names_view c.args.text.now c.args.syntax.now)) (sym diagram)
+    (made_form c.args.text.now c.args.syntax.now c.in_ok-tables.tables c.requires.blocks c.in_ok-nodes.ensures.rows
+    (rw (c.in_ok-nodes.ensures.nodes, c.in_ok-links.ensures.links) at c.in_ok-links.ensures.fit)
+    c.in_ok-tables.ensures.cells
+    (rw (c.in_ok-nodes.ensures.nodes, c.in_ok-links.ensures.links) at c.in_ok-tables.ensures.fit)
+    c.in_ok-tables.ensures.few c.in_ok-tables.ensures.scale))

@@ -1,0 +1,137 @@
+-- The passes over potentials, the graph and the sizes, told of plain lists of nodes and links as the steps have them. No public contract needs it.
+use Rattle.std.specs.Prelude.{◌≡◌, ◌≢◌, ◌<◌, ◌≤◌, ◌+◌, ◌*◌, ◌^◌, min, not, ℕ, List, [], Option, None, Some, map, filter, find, length, sum, All, Contains, slice_index, slice_index_or, bytes_eq}
+use Rattle.std.specs.List.{range_with_len}
+use Rattle.std.specs.Borrow.{Bor}
+use Rattle.std.specs.Option.{IsSome, option_map, option_map_or}
+use Rattle.diagram_graph.specs.Cycles.{ListedArc, IsParentCycle}
+use Rattle.maid_model.specs.declared.diagrams.Kind.{Kind}
+use Rattle.maid_model.specs.declared.diagrams.Kind.TheVariants.{Chance, Utility}
+use Rattle.maid_model.specs.Graph.{IsAcyclic, AllDifferent}
+use Rattle.maid_model.specs.Nodes.{is_decision, rows_under}
+use Rattle.net_lexer.specs.Token.{token_bytes}
+use Rattle.net_lexer.specs.declared.tokens.Token.{Token}
+use Rattle.net_parser.specs.Trees.{BlockTree}
+use Rattle.net_build.specs.declared.faults.Limit.TheVariants.{Parents, Cells, Rules}
+use Rattle.net_build.specs.declared.nodes.Head.{Head}
+use Rattle.net_build.specs.Passes.{Pass, found, rule, only, ◌▸◌, each, each_after, UnknownName, DoublePotential, RepeatedParent, UtilityParent, MissingTable, GraphCycle, LimitPassed}
+use Rattle.net_build.specs.Blocks.{title, name_of, potentials, conditions, place_of}
+use Rattle.net_build.specs.Stages.{head_at, cells_at}
+
+-- the number of the node of that name
+abbrev pub node_named : List ℕ → List (List ℕ) → Token → ℕ
+node_named text names name = place_of names (token_bytes text name)
+
+-- the kind of a node
+abbrev pub kind_at : List Head → ℕ → Kind
+kind_at heads v = slice_index_or (map (λ h. h.kind) heads) v Chance
+
+-- no node has the name
+abbrev pub unknown_row : List ℕ → List (List ℕ) → Token → Pass
+unknown_row text names name = rule (Contains names (token_bytes text name) → ⊥) (found name.start UnknownName)
+
+-- it stands among those earlier
+abbrev pub repeat_row : List ℕ → List Token → Token → Pass
+repeat_row text earlier name = rule (Contains (map (token_bytes text) earlier) (token_bytes text name)) (found name.start RepeatedParent)
+
+-- it is a utility's
+abbrev pub utility_row : Kind → Token → Pass
+utility_row kind name = rule (kind ≡ Utility) (found name.start UtilityParent)
+
+-- a name behind the bar, and behind those earlier
+abbrev pub condition_steps : List ℕ → List (List ℕ) → List Head → List Token → Token → Pass
+condition_steps text names heads earlier name = unknown_row text names name ▸ repeat_row text earlier name ▸ utility_row (kind_at heads (node_named text names name)) name
+
+-- the names behind a potential's bar, from the left
+abbrev pub conditions_steps : List ℕ → List (List ℕ) → List Head → List Token → Pass
+conditions_steps text names heads conditions = each_after (condition_steps text names heads) [] conditions
+
+-- borrowed potentials as trees
+abbrev pub trees_of : List (Option (Bor BlockTree)) → List (Option BlockTree)
+trees_of potentials = map (option_map (λ p. p.now)) potentials
+
+-- the node has a potential already
+abbrev pub taken_row : List (Option BlockTree) → ℕ → Token → Pass
+taken_row potentials v head = rule (IsSome (slice_index_or potentials v None)) (found head.start DoublePotential)
+
+-- there are too many names behind the bar
+abbrev pub many_row : Token → List Token → Pass
+many_row head conditions = rule (16 < length conditions) (found head.start (LimitPassed Parents (length conditions)))
+
+-- a potential's head and the names behind its bar, where those nodes have potentials
+abbrev pub potential_steps : List ℕ → List (List ℕ) → List Head → List (Option BlockTree) → Token → List Token → Pass
+potential_steps text names heads potentials head conditions =
+    unknown_row text names head
+    ▸ taken_row potentials (node_named text names head) head
+    ▸ conditions_steps text names heads conditions
+    ▸ many_row head conditions
+
+-- the potential of each node among these blocks
+abbrev pub potentials_among : List ℕ → List (List ℕ) → List BlockTree → List (Option BlockTree)
+potentials_among text names blocks = map (λ name. find (λ p. bytes_eq (name_of text p) name) blocks) names
+
+-- the parents in them
+abbrev pub parents_in : List ℕ → List (List ℕ) → List (Option BlockTree) → List (List ℕ)
+parents_in text names potentials = map (λ o. option_map_or (λ p. map (node_named text names) (conditions p)) o []) potentials
+
+-- a potential behind those earlier
+abbrev pub behind_rows : List ℕ → List (List ℕ) → List Head → List BlockTree → BlockTree → Pass
+behind_rows text names heads earlier p = potential_steps text names heads (potentials_among text names earlier) (title p) (conditions p)
+
+-- the potentials in text order
+abbrev pub potentials_steps : List ℕ → List (List ℕ) → List Head → List BlockTree → Pass
+potentials_steps text names heads blocks = each_after (behind_rows text names heads) [] (potentials blocks)
+
+-- parents that a node may have
+pub record AreParents (heads : List Head) (parents : List ℕ) : Type 0 where
+  pub known : All (λ u. u < length heads) parents
+  pub differ : AllDifferent parents
+  pub no_utility : All (λ u. (head_at heads u).kind ≢ Utility) parents
+  pub few : length parents ≤ 16
+
+-- the node has no potential
+abbrev pub absent_row : Head → List (Option BlockTree) → ℕ → Pass
+absent_row head potentials v = rule (slice_index_or potentials v None ≡ None) (found head.at MissingTable)
+
+-- a chance or utility node
+abbrev pub missing_at : List Head → List (Option BlockTree) → ℕ → Pass
+missing_at heads potentials v = only (not (is_decision (head_at heads v).kind)) (absent_row (head_at heads v) potentials v)
+
+-- the nodes in order
+abbrev pub missing_steps : List Head → List (Option BlockTree) → Pass
+missing_steps heads potentials = each (missing_at heads potentials) (range_with_len 0 (length heads))
+
+-- no cycle, or the first one
+abbrev pub graph_steps : List Head → List (List ℕ) → Pass
+graph_steps heads parents None = IsAcyclic (ListedArc parents)
+graph_steps heads parents (Some f) = (cycle : List ℕ) × IsParentCycle parents cycle × (f ≡ found (head_at heads (slice_index cycle 0)).at (GraphCycle cycle))
+
+-- the rows of node v over these parents
+abbrev pub rows_over : List Head → List ℕ → ℕ
+rows_over heads parents = rows_under (λ u. (head_at heads u).states) parents
+
+-- its cells
+abbrev pub cells_over : List Head → List ℕ → ℕ → ℕ
+cells_over heads parents v = rows_over heads parents * (head_at heads v).states
+
+-- they are too many; the count is named up to 10^18
+abbrev pub cells_row : List Head → List ℕ → ℕ → Pass
+cells_row heads parents v = rule (65536 < cells_over heads parents v) (found (head_at heads v).at (LimitPassed Cells (min (cells_over heads parents v) (10 ^ 18))))
+
+-- the rules' cells up to a node are too many
+abbrev pub rules_row : Head → ℕ → Pass
+rules_row head rules = rule (262144 < rules) (found head.at (LimitPassed Rules rules))
+
+-- a node over these parents, behind rules of so many cells
+abbrev pub size_rows_over : List Head → List ℕ → ℕ → ℕ → Pass
+size_rows_over heads parents v rules = cells_row heads parents v ▸ only (is_decision (head_at heads v).kind) (rules_row (head_at heads v) (rules + cells_over heads parents v))
+
+-- the cells of the rules of the first n nodes
+abbrev pub rules_before : List Head → List (List ℕ) → ℕ → ℕ
+rules_before heads parents n = sum (map (cells_at heads parents) (filter (λ v. is_decision (head_at heads v).kind) (range_with_len 0 n)))
+
+abbrev pub size_steps_at : List Head → List (List ℕ) → ℕ → Pass
+size_steps_at heads parents v = size_rows_over heads (slice_index_or parents v []) v (rules_before heads parents v)
+
+-- the nodes in order
+abbrev pub size_steps : List Head → List (List ℕ) → Pass
+size_steps heads parents = each (size_steps_at heads parents) (range_with_len 0 (length heads))

@@ -1,0 +1,109 @@
+//! From a text's tree to its diagram and its names, or to its first fault.
+
+ghost use Rattle.std.specs.Prelude.{◌≡◌, All, length, IfOk};
+ghost use Rattle.maid_model.specs.Diagrams.{IsDiagram};
+ghost use Rattle.maid_model.specs.Names.{NamesFit};
+ghost use Rattle.net_build.specs.Building.{StandsFor};
+ghost use Rattle.net_build.specs.Form.{HasTextForm};
+ghost use Rattle.net_build.specs.Lists.{numbers_of_lists, cells_of_lists};
+ghost use Rattle.net_build.specs.Passes.{Passes};
+ghost use Rattle.net_build.specs.Stages.{made_node, made_nodes, made_diagram};
+ghost use Rattle.net_build.specs.Table.{all_passes};
+ghost use Rattle.net_lexer.specs.Pieces.{IsTokens};
+ghost use Rattle.net_parser.specs.Grammar.{Spells};
+ghost use Rattle.net_parser.specs.Lexemes.{lexemes};
+ghost use Rattle.net_parser.specs.Owned.{IsBlockOf};
+
+use crate::faults::BuildFault;
+use crate::links::{Links, read_links};
+use crate::names::Names;
+use crate::nodes::{Head, Nodes, read_nodes};
+use crate::tables::{Tables, read_tables};
+use maid_model::{Diagram, Node};
+use net_lexer::Tokens;
+use net_parser::Syntax;
+use smallvec::SmallVec;
+use std::alloc::{AllocError, Global};
+use std::mem;
+
+// A node of these parts.
+fn make_node(
+    alloc: Global,
+    head: Head,
+    parents: &[usize],
+    cells: Vec<i128>,
+) -> Result<Node, AllocError>
+    ensures { IfOk result (λ node. node ≡ made_node head parents.now cells.items) }
+{
+    Ok(Node {
+        kind: head.kind,
+        owner: head.owner,
+        states: head.states,
+        parents: SmallVec::from_slice(alloc, parents)?,
+        cells,
+    })
+}
+
+// The nodes of these parts. The tables are moved into them.
+fn make_nodes(
+    alloc: Global,
+    heads: &[Head],
+    parents: &[Vec<usize>],
+    tables: &mut [Vec<i128>],
+) -> Result<Vec<Node>, AllocError>
+    requires parents { length parents.now ≡ length heads.now }
+    requires tables { length tables.old ≡ length heads.now }
+    ensures { IfOk result (λ nodes. nodes.items ≡ made_nodes heads.now (numbers_of_lists parents.now) (cells_of_lists tables.old)) }
+{
+    let mut nodes = Vec::with_capacity(alloc, heads.len())?;
+    for (v, head) in heads.iter().enumerate() {
+        let cells = mem::replace(&mut tables[v], Vec::new(alloc));
+        nodes.push(make_node(alloc, *head, &parents[v], cells)?)?;
+    }
+    Ok(nodes)
+}
+
+// The diagram and the names of these parts.
+fn assemble(
+    alloc: Global,
+    nodes: Nodes,
+    links: &Links<'_>,
+    tables: Tables,
+) -> Result<(Diagram, Names), AllocError>
+    requires parents { length links.now.parents ≡ length nodes.heads }
+    requires tables { length tables.cells ≡ length nodes.heads }
+    requires diagram { IsDiagram (made_diagram nodes links.now tables) }
+    ensures diagram { IfOk result (λ built. built.0 ≡ made_diagram nodes links.now tables) }
+    ensures names { IfOk result (λ built. built.1 ≡ record { nodes = nodes.names; labels = nodes.labels; agents = nodes.agents }) }
+{
+    let mut cells = tables.cells;
+    let list = make_nodes(alloc, &nodes.heads, &links.parents, &mut cells)?;
+    let diagram = Diagram::from_nodes(list, nodes.agents.len(), tables.decimals);
+    let names = Names::from_lists(nodes.names, nodes.labels, nodes.agents);
+    Ok((diagram, names))
+}
+
+/// The diagram and the names that the tree of a text stands for, or the first fault of the table of passes. It goes over
+/// the tree a few times.
+pub fn build(
+    alloc: Global,
+    text: &[u8],
+    tokens: &Tokens,
+    syntax: &Syntax,
+) -> Result<(Diagram, Names), BuildFault>
+    requires tokens { IsTokens text.now tokens.now }
+    requires tree { Spells syntax.now (lexemes text.now tokens.now) }
+    requires blocks { All (IsBlockOf text.now) syntax.now }
+    ensures rows { Passes (all_passes text.now syntax.now) result }
+    ensures stands { IfOk result (λ built. StandsFor text.now syntax.now built.0 built.1) }
+    ensures diagram { IfOk result (λ built. IsDiagram built.0) }
+    ensures fit { IfOk result (λ built. NamesFit built.0 built.1) }
+    ensures form { IfOk result (λ built. HasTextForm built.0 built.1) }
+{
+    // The blocks have all of the tokens that are needed.
+    let _ = tokens;
+    let nodes = read_nodes(alloc, text, syntax)?;
+    let links = read_links(alloc, text, syntax, &nodes)?;
+    let tables = read_tables(alloc, text, syntax, &nodes, &links)?;
+    Ok(assemble(alloc, nodes, &links, tables)?)
+}

@@ -1,0 +1,111 @@
+//! The tables of nodes, one by one, before the scale of utilities is known.
+
+ghost use Rattle.std.specs.Prelude.{◌≡◌, ◌≢◌, ◌<◌, ◌≤◌, ◌*◌, map, true, IfOk, IfSome, IsSome};
+ghost use Rattle.std.specs.Option.{option_map};
+ghost use Rattle.maid_model.specs.declared.diagrams.Kind.TheVariants.{Decision};
+ghost use Rattle.net_build.specs.Blocks.{is_potential, data_of, leaves_of};
+ghost use Rattle.net_build.specs.Passes.{Passes};
+ghost use Rattle.net_build.specs.TableParts.{data_part, table_part, node_part, numerals_in, IsDraftOf, FitsDraft, finished};
+ghost use Rattle.net_lexer.specs.Token.{token_bytes};
+ghost use Rattle.net_parser.specs.Owned.{IsAttributeOf, IsBlockOf, leaves};
+
+use crate::attributes::{check_repeats, first_named};
+use crate::faults::{BuildFault, BuildKind};
+use crate::labels::title;
+use crate::nodes::Head;
+use crate::numbers::read_numbers;
+use crate::scales::scaled_cells;
+use crate::weights::weights;
+use maid_model::Kind;
+use net_parser::{Attribute, Block};
+use std::alloc::{AllocError, Global};
+use weight_scale::Decimal;
+
+/// A node's table: its cells (none at a decision), or a utility's values, which are still to be scaled.
+#[derive(Debug, Drop)]
+pub enum Draft {
+    Cells(Vec<i128>),
+    Values(Vec<Decimal>),
+}
+
+// The table in the value of `data`.
+fn read_data(
+    alloc: Global,
+    text: &[u8],
+    head: &Head,
+    rows: usize,
+    table: &Attribute,
+) -> Result<Draft, BuildFault>
+    requires own { IsAttributeOf text.now table.now }
+    requires kind { head.now.kind ≢ Decision }
+    requires states { 0 < head.now.states }
+    requires small { rows * head.now.states ≤ 65536 }
+    ensures rows { Passes (data_part text.now head.now.kind rows head.now.states table.now) result }
+    ensures draft { IfOk result (IsDraftOf head.now.kind rows head.now.states (map (token_bytes text.now) (leaves table.now.value))) }
+{
+    let numbers = read_numbers(alloc, text, table, rows * head.states)?;
+    match head.kind {
+        Kind::Chance => {
+            let cells = weights(alloc, table.name.start, &numbers, head.states)?;
+            Ok(Draft::Cells(cells))
+        }
+        _ => Ok(Draft::Values(numbers.decimals)),
+    }
+}
+
+// The table in the potential.
+fn read_table(
+    alloc: Global,
+    text: &[u8],
+    head: &Head,
+    rows: usize,
+    potential: &Block,
+) -> Result<Draft, BuildFault>
+    requires own { IsBlockOf text.now potential.now }
+    requires potential { is_potential potential.now.kind ≡ true }
+    requires kind { head.now.kind ≢ Decision }
+    requires states { 0 < head.now.states }
+    requires small { rows * head.now.states ≤ 65536 }
+    ensures rows { Passes (table_part text.now head.now.kind rows head.now.states potential.now) result }
+    ensures draft { IfOk result (IsDraftOf head.now.kind rows head.now.states (map (token_bytes text.now) (leaves_of (data_of text.now potential.now)))) }
+{
+    check_repeats(text, potential)?;
+    match first_named(text, &potential.attributes, b"data") {
+        Some(table) => read_data(alloc, text, head, rows, table),
+        None => Err(BuildKind::MissingTable.at(title(potential).start)),
+    }
+}
+
+/// A node's table, with so many rows. A decision has none, whatever its potential holds.
+pub fn read_draft(
+    alloc: Global,
+    text: &[u8],
+    head: &Head,
+    rows: usize,
+    potential: Option<&Block>,
+) -> Result<Draft, BuildFault>
+    requires own { IfSome potential (λ p. IsBlockOf text.now p.now × (is_potential p.now.kind ≡ true)) }
+    requires there { head.now.kind ≢ Decision → IsSome potential }
+    requires states { 0 < head.now.states }
+    requires small { rows * head.now.states ≤ 65536 }
+    ensures rows { Passes (node_part text.now head.now.kind rows head.now.states (option_map (λ p. p.now) potential.entry)) result }
+    ensures draft { IfOk result (IsDraftOf head.now.kind rows head.now.states (numerals_in text.now (option_map (λ p. p.now) potential.entry))) }
+{
+    match (head.kind, potential) {
+        (Kind::Decision, _) => Ok(Draft::Cells(Vec::new(alloc))),
+        (_, Some(potential)) => read_table(alloc, text, head, rows, potential),
+        (_, None) => unreachable!(),
+    }
+}
+
+/// The table's cells, a utility's to that scale.
+pub fn finish_draft(alloc: Global, draft: &Draft, scale: u32) -> Result<Vec<i128>, AllocError>
+    requires few { scale ≤ 30 }
+    requires fits { FitsDraft scale draft.now }
+    ensures { IfOk result (λ cells. cells.items ≡ finished scale draft.now) }
+{
+    match draft {
+        Draft::Cells(cells) => Vec::from_slice(alloc, cells),
+        Draft::Values(decimals) => scaled_cells(alloc, decimals, scale),
+    }
+}

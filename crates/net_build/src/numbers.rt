@@ -1,0 +1,94 @@
+//! The numbers of a table.
+
+ghost use Rattle.std.specs.Prelude.{◌≡◌, ◌≢◌, All, map, length, true, false, IfOk};
+ghost use Rattle.net_build.specs.Blocks.{is_number};
+ghost use Rattle.net_build.specs.Passes.{Passes, each, rule, found, WrongCount};
+ghost use Rattle.net_build.specs.Scaling.{AreDecimals};
+ghost use Rattle.net_build.specs.Table.{number_row, length_row};
+ghost use Rattle.net_build.specs.TableParts.{count_row, number_rows};
+ghost use Rattle.net_lexer.specs.Token.{IsTokenOf, token_bytes};
+ghost use Rattle.net_parser.specs.Owned.{IsAttributeOf, leaves};
+ghost use Rattle.weight_scale.specs.Numeral.{numerator, denominator, IsLeastDecimalOf};
+
+use crate::faults::{BuildFault, BuildKind};
+use crate::leaves::leaves;
+use net_lexer::{Token, TokenKind};
+use net_parser::Attribute;
+use std::alloc::Global;
+use weight_scale::{Decimal, numeral};
+
+/// The numbers of a table: where they stand in the text, and what they are.
+#[derive(Debug, Drop)]
+pub struct Numbers {
+    pub tokens: Vec<Token>,
+    pub decimals: Vec<Decimal>,
+}
+
+// Each leaf is a number.
+fn check_numbers(tokens: &[Token]) -> Result<(), BuildFault>
+    ensures { Passes (each number_row tokens.now) result }
+{
+    for token in tokens {
+        if token.kind != TokenKind::Number {
+            return Err(BuildKind::NotANumber.at(token.start));
+        }
+    }
+    Ok(())
+}
+
+// There are as many numbers as the table has cells.
+fn check_count(at: usize, want: usize, got: usize) -> Result<(), BuildFault>
+    ensures { Passes (count_row at want got) result }
+{
+    if got == want {
+        Ok(())
+    } else {
+        Err(BuildKind::WrongCount { want, got }.at(at))
+    }
+}
+
+// The number as a decimal.
+fn decimal(text: &[u8], token: &Token) -> Result<Decimal, BuildFault>
+    requires own { IsTokenOf text.now token.now }
+    requires number { is_number token.now.kind ≡ true }
+    ensures row { Passes (length_row text.now token.now) result }
+    ensures decimal { IfOk result (λ d. IsLeastDecimalOf (numerator (token_bytes text.now token.now)) (denominator (token_bytes text.now token.now)) d) }
+{
+    match numeral(token.bytes(text)) {
+        Some(decimal) => Ok(decimal),
+        None => Err(BuildKind::NumberTooLong.at(token.start)),
+    }
+}
+
+/// The numbers as decimals.
+pub fn decimals(alloc: Global, text: &[u8], tokens: &[Token]) -> Result<Vec<Decimal>, BuildFault>
+    requires own { All (IsTokenOf text.now) tokens.now }
+    requires numbers { All (λ t. is_number t.kind ≡ true) tokens.now }
+    ensures rows { Passes (each (length_row text.now) tokens.now) result }
+    ensures decimals { IfOk result (λ ds. AreDecimals (map (token_bytes text.now) tokens.now) ds.items) }
+{
+    let mut decimals = Vec::with_capacity(alloc, tokens.len())?;
+    for token in tokens {
+        decimals.push(decimal(text, token)?)?;
+    }
+    Ok(decimals)
+}
+
+/// The numbers of the value of `data`, as many as the table has cells.
+pub fn read_numbers(
+    alloc: Global,
+    text: &[u8],
+    table: &Attribute,
+    want: usize,
+) -> Result<Numbers, BuildFault>
+    requires { IsAttributeOf text.now table.now }
+    ensures rows { Passes (number_rows text.now want table.now) result }
+    ensures tokens { IfOk result (λ n. n.tokens.items ≡ leaves table.now.value) }
+    ensures decimals { IfOk result (λ n. AreDecimals (map (token_bytes text.now) (leaves table.now.value)) n.decimals.items) }
+{
+    let tokens = leaves(alloc, &table.value)?;
+    check_numbers(&tokens)?;
+    check_count(table.name.start, want, tokens.len())?;
+    let decimals = decimals(alloc, text, &tokens)?;
+    Ok(Numbers { tokens, decimals })
+}

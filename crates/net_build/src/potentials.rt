@@ -1,0 +1,219 @@
+//! The potentials of a text, node by node.
+
+ghost use Rattle.std.specs.Prelude.{◌≡◌, ◌≢◌, ◌<◌, ◌≤◌, true, [], length, map, drop, replicate, slice_set, None, Some, All, AllPairs, IfOk};
+ghost use Rattle.net_lexer.specs.Token.{IsTokenOf};
+ghost use Rattle.net_parser.specs.Owned.{IsBlockOf};
+ghost use Rattle.net_build.specs.Blocks.{is_potential, title, conditions, potentials};
+ghost use Rattle.net_build.specs.Linking.{node_named, trees_of, taken_row, many_row, potential_steps, potentials_steps, potentials_among, parents_in, absent_row, missing_at, missing_steps, AreParents};
+ghost use Rattle.net_build.specs.Lists.{list_of, numbers_of_lists};
+ghost use Rattle.net_build.specs.Passes.{Passes};
+ghost use Rattle.net_build.specs.Stages.{head_at};
+
+use crate::conditions::{read_conditions, read_name};
+use crate::faults::{BuildFault, BuildKind, Limit};
+use crate::links::Links;
+use crate::nodes::Head;
+use maid_model::Kind;
+use net_lexer::Token;
+use net_parser::{Block, BlockKind, Syntax};
+use std::alloc::{AllocError, Global};
+
+// The node has no potential yet.
+fn check_single(potentials: &[Option<&Block>], node: usize, head: &Token) -> Result<(), BuildFault>
+    requires { node < length potentials.now }
+    ensures { Passes (taken_row (trees_of potentials.now) node head.now) result }
+{
+    match potentials[node] {
+        Some(_) => Err(BuildKind::DoublePotential.at(head.start)),
+        None => Ok(()),
+    }
+}
+
+// There are no more names behind the bar than a node may have parents.
+fn check_count(head: &Token, conditions: &[Token]) -> Result<(), BuildFault>
+    ensures row { Passes (many_row head.now conditions.now) result }
+{
+    let count = conditions.len();
+    if count > 16 {
+        return Err(BuildKind::LimitPassed {
+            which: Limit::Parents,
+            got: count as u128,
+        }
+        .at(head.start));
+    }
+    Ok(())
+}
+
+// The node at a potential's head and those behind its bar.
+fn read_potential(
+    alloc: Global,
+    text: &[u8],
+    names: &[Vec<u8>],
+    heads: &[Head],
+    potentials: &[Option<&Block>],
+    head: &Token,
+    conditions: &[Token],
+) -> Result<(usize, Vec<usize>), BuildFault>
+    requires head { IsTokenOf text.now head.now }
+    requires conditions { All (IsTokenOf text.now) conditions.now }
+    requires heads { length heads.now ≡ length names.now }
+    requires potentials { length potentials.now ≡ length names.now }
+    ensures rows { Passes (potential_steps text.now (list_of names.now) heads.now (trees_of potentials.now) head.now conditions.now) result }
+    ensures node { IfOk result (λ read. read.0 ≡ node_named text.now (list_of names.now) head.now) }
+    ensures within { IfOk result (λ read. read.0 < length names.now) }
+    ensures parents { IfOk result (λ read. read.1.items ≡ map (node_named text.now (list_of names.now)) conditions.now) }
+    ensures fit { IfOk result (λ read. AreParents heads.now read.1.items) }
+{
+    let node = read_name(text, names, head)?;
+    check_single(potentials, node, head)?;
+    let parents = read_conditions(alloc, text, names, heads, conditions)?;
+    check_count(head, conditions)?;
+    Ok((node, parents))
+}
+
+fn is_potential(block: &Block) -> bool
+    ensures { result ≡ is_potential block.now.kind }
+{
+    matches!(block.kind, BlockKind::Potential)
+}
+
+// All but the first.
+fn behind_first(tokens: &[Token]) -> &[Token]
+    requires { 0 < length tokens.now }
+    ensures { result.now ≡ drop 1 tokens.now }
+{
+    &tokens[1..]
+}
+
+// The node at the head of a potential, and its parents.
+fn read_block(
+    alloc: Global,
+    text: &[u8],
+    names: &[Vec<u8>],
+    heads: &[Head],
+    potentials: &[Option<&Block>],
+    block: &Block,
+) -> Result<(usize, Vec<usize>), BuildFault>
+    requires block { IsBlockOf text.now block.now }
+    requires potential { is_potential block.now.kind ≡ true }
+    requires heads { length heads.now ≡ length names.now }
+    requires potentials { length potentials.now ≡ length names.now }
+    ensures rows { Passes (potential_steps text.now (list_of names.now) heads.now (trees_of potentials.now) (title block.now) (conditions block.now)) result }
+    ensures node { IfOk result (λ read. read.0 ≡ node_named text.now (list_of names.now) (title block.now)) }
+    ensures within { IfOk result (λ read. read.0 < length names.now) }
+    ensures parents { IfOk result (λ read. read.1.items ≡ map (node_named text.now (list_of names.now)) (conditions block.now)) }
+    ensures fit { IfOk result (λ read. AreParents heads.now read.1.items) }
+{
+    let tokens = block.names.as_slice();
+    let head = &tokens[0];
+    let conditions = behind_first(tokens);
+    read_potential(alloc, text, names, heads, potentials, head, conditions)
+}
+
+// No parents for each of so many nodes.
+fn no_parents(alloc: Global, count: usize) -> Result<Vec<Vec<usize>>, AllocError>
+    ensures { IfOk result (λ lists. numbers_of_lists lists.items ≡ replicate count []) }
+{
+    let mut lists = Vec::with_capacity(alloc, count)?;
+    for _node in 0..count {
+        lists.push(Vec::new(alloc))?;
+    }
+    Ok(lists)
+}
+
+// No potential for each of so many nodes.
+fn no_potentials<'a>(alloc: Global, count: usize) -> Result<Vec<Option<&'a Block>>, AllocError>
+    ensures { IfOk result (λ found. trees_of found.items ≡ replicate count None) }
+{
+    let mut found = Vec::with_capacity(alloc, count)?;
+    for _node in 0..count {
+        found.push(None)?;
+    }
+    Ok(found)
+}
+
+// The node has these parents, and this potential.
+fn enter<'a>(
+    parents: &mut Vec<Vec<usize>>,
+    potentials: &mut Vec<Option<&'a Block>>,
+    node: usize,
+    list: Vec<usize>,
+    block: &'a Block,
+)
+    requires parents { node < length parents.old.items }
+    requires potentials { node < length potentials.old.items }
+    ensures parents { numbers_of_lists parents.new.items ≡ slice_set (numbers_of_lists parents.old.items) node list.items }
+    ensures potentials { trees_of potentials.new.items ≡ slice_set (trees_of potentials.old.items) node (Some block.now) }
+{
+    parents[node] = list;
+    potentials[node] = Some(block);
+}
+
+/// The parents and the potential of each node.
+pub fn read_potentials<'a>(
+    alloc: Global,
+    text: &[u8],
+    syntax: &'a Syntax,
+    names: &[Vec<u8>],
+    heads: &[Head],
+) -> Result<Links<'a>, BuildFault>
+    requires blocks { All (IsBlockOf text.now) syntax.now }
+    requires heads { length heads.now ≡ length names.now }
+    requires names { AllPairs (λ name later. name ≢ later) (list_of names.now) }
+    ensures rows { Passes (potentials_steps text.now (list_of names.now) heads.now syntax.now) result }
+    ensures potentials { IfOk result (λ links. links.potentials ≡ potentials_among text.now (list_of names.now) (potentials syntax.now)) }
+    ensures parents { IfOk result (λ links. links.parents ≡ parents_in text.now (list_of names.now) links.potentials) }
+    ensures fit { IfOk result (λ links. All (AreParents heads.now) links.parents) }
+{
+    let mut parents = no_parents(alloc, names.len())?;
+    let mut potentials = no_potentials(alloc, names.len())?;
+    for block in &syntax.blocks {
+        if is_potential(block) {
+            let (node, list) = read_block(alloc, text, names, heads, &potentials, block)?;
+            enter(&mut parents, &mut potentials, node, list, block);
+        }
+    }
+    Ok(Links {
+        parents,
+        potentials,
+    })
+}
+
+// The node has a potential.
+fn check_present(
+    heads: &[Head],
+    potentials: &[Option<&Block>],
+    node: usize,
+) -> Result<(), BuildFault>
+    requires within { node < length heads.now }
+    requires len { length potentials.now ≡ length heads.now }
+    ensures { Passes (absent_row (head_at heads.now node) (trees_of potentials.now) node) result }
+{
+    match potentials[node] {
+        Some(_) => Ok(()),
+        None => Err(BuildKind::MissingTable.at(heads[node].at)),
+    }
+}
+
+// The node has a potential if it is no decision.
+fn check_table(heads: &[Head], potentials: &[Option<&Block>], node: usize) -> Result<(), BuildFault>
+    requires within { node < length heads.now }
+    requires len { length potentials.now ≡ length heads.now }
+    ensures { Passes (missing_at heads.now (trees_of potentials.now) node) result }
+{
+    match heads[node].kind {
+        Kind::Chance | Kind::Utility => check_present(heads, potentials, node),
+        Kind::Decision => Ok(()),
+    }
+}
+
+/// Each chance and utility node has a potential.
+pub fn check_tables(heads: &[Head], potentials: &[Option<&Block>]) -> Result<(), BuildFault>
+    requires { length potentials.now ≡ length heads.now }
+    ensures { Passes (missing_steps heads.now (trees_of potentials.now)) result }
+{
+    for node in 0..heads.len() {
+        check_table(heads, potentials, node)?;
+    }
+    Ok(())
+}

@@ -1,0 +1,108 @@
+//! Utility values as whole numbers, all to one scale.
+
+ghost use Rattle.std.specs.Prelude.{◌≡◌, ℕ, ◌<◌, ◌≤◌, ◌-◌, ◌*◌, ◌*ℤ◌, ◌^◌, List, All, map, length, pos, true, None, IfOk};
+ghost use Rattle.std.specs.Option.{SomeIff};
+ghost use Rattle.maid_model.specs.Diagrams.{greatest_number};
+ghost use Rattle.net_build.specs.Blocks.{is_number};
+ghost use Rattle.net_build.specs.Passes.{Passes, each};
+ghost use Rattle.net_build.specs.Scaling.{AreDecimals, decimal_at};
+ghost use Rattle.net_build.specs.Table.{length_row, wide_row};
+ghost use Rattle.net_build.specs.TableParts.{IsScaleOf, scaled_pass, raised, Fits};
+ghost use Rattle.net_lexer.specs.Token.{IsTokenOf, token_bytes};
+ghost use Rattle.weight_scale.specs.Numeral.{signed};
+
+use crate::faults::{BuildFault, BuildKind};
+use crate::numbers::decimals;
+use net_lexer::Token;
+use std::alloc::{AllocError, Global};
+use weight_scale::Decimal;
+use whole_num::mul_within;
+
+// The greatest size of a utility value to scale.
+const GREATEST: u128 = (1 << 126) - 1;
+
+// The most decimals that one of the numbers has.
+fn most_decimals(decimals: &[Decimal]) -> u32
+    ensures most { All (λ d. d.k ≤ result) decimals.now }
+    ensures reached { 0 < result → (i : ℕ) × (i < length decimals.now) × ((decimal_at decimals.now i).k ≡ result) }
+    ensures few { result ≤ 30 }
+{
+    let mut most = 0;
+    for decimal in decimals {
+        if decimal.k > most {
+            most = decimal.k;
+        }
+    }
+    most
+}
+
+fn signed(minus: bool, size: u128) -> i128
+    requires { size ≤ greatest_number }
+    ensures { result ≡ signed minus size }
+{
+    if minus { -(size as i128) } else { size as i128 }
+}
+
+// The number times 10^scale, where that lies within the limits.
+fn scaled(number: Decimal, scale: u32) -> Option<i128>
+    requires enough { number.k ≤ scale }
+    requires few { scale ≤ 30 }
+    ensures { SomeIff result (Fits scale number) (raised scale number) }
+{
+    let tens = 10u128.pow(scale - number.k);
+    let size = mul_within(number.m.unsigned_abs(), tens, GREATEST)?;
+    Some(signed(number.m < 0, size))
+}
+
+// Each number, to scale, lies within the limits.
+fn check_wide(tokens: &[Token], decimals: &[Decimal], scale: u32) -> Result<(), BuildFault>
+    requires len { length decimals.now ≡ length tokens.now }
+    requires enough { All (λ d. d.k ≤ scale) decimals.now }
+    requires few { scale ≤ 30 }
+    ensures { (text : List ℕ) → AreDecimals (map (token_bytes text) tokens.now) decimals.now → Passes (each (wide_row text scale) tokens.now) result }
+{
+    for (place, token) in tokens.iter().enumerate() {
+        if scaled(decimals[place], scale).is_none() {
+            return Err(BuildKind::WideValue.at(token.start));
+        }
+    }
+    Ok(())
+}
+
+/// By how many decimals these numbers are scaled: the least number that makes each of them whole. Refused is the first
+/// that is too great or too little to that scale.
+pub fn scale_of(alloc: Global, text: &[u8], tokens: &[Token]) -> Result<u32, BuildFault>
+    requires own { All (IsTokenOf text.now) tokens.now }
+    requires numbers { All (λ t. is_number t.kind ≡ true) tokens.now }
+    requires short { each (length_row text.now) tokens.now None }
+    ensures rows { Passes (scaled_pass text.now tokens.now) result }
+    ensures scale { IfOk result (λ scale. IsScaleOf text.now tokens.now scale) }
+    ensures narrow { IfOk result (λ scale. each (wide_row text.now scale) tokens.now None) }
+    ensures few { IfOk result (λ scale. scale ≤ 30) }
+{
+    let decimals = decimals(alloc, text, tokens)?;
+    let scale = most_decimals(&decimals);
+    check_wide(tokens, &decimals, scale)?;
+    Ok(scale)
+}
+
+/// The numbers times 10^scale.
+pub fn scaled_cells(
+    alloc: Global,
+    decimals: &[Decimal],
+    scale: u32,
+) -> Result<Vec<i128>, AllocError>
+    requires enough { All (λ d. d.k ≤ scale) decimals.now }
+    requires few { scale ≤ 30 }
+    requires narrow { All (Fits scale) decimals.now }
+    ensures { IfOk result (λ cells. cells.items ≡ map (raised scale) decimals.now) }
+{
+    let mut cells = Vec::with_capacity(alloc, decimals.len())?;
+    for decimal in decimals {
+        let Some(cell) = scaled(*decimal, scale) else {
+            unreachable!()
+        };
+        cells.push(cell)?;
+    }
+    Ok(cells)
+}

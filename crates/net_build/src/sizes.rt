@@ -1,0 +1,108 @@
+//! How many cells tables and rules have.
+
+ghost use Rattle.std.specs.Prelude.{◌≡◌, ◌<◌, ◌≤◌, ◌+◌, ◌*◌, ◌^◌, min, ℕ, length, map, cond, All, IfOk, OnOk};
+ghost use Rattle.maid_model.specs.Nodes.{is_decision};
+ghost use Rattle.net_build.specs.Linking.{rows_over, cells_over, cells_row, rules_row, size_rows_over, size_steps, rules_before};
+ghost use Rattle.net_build.specs.Lists.{numbers_of_lists};
+ghost use Rattle.net_build.specs.Passes.{Passes};
+ghost use Rattle.net_build.specs.Stages.{head_at, cells_at};
+
+use crate::faults::{BuildFault, BuildKind, Limit};
+use crate::nodes::Head;
+use maid_model::Kind;
+
+/// Cells are counted up to here.
+const MOST_COUNTED: u128 = 1_000_000_000_000_000_000;
+
+// So many times as many, counted up to 10^18.
+fn times(count: u128, states: usize) -> u128
+    requires { count ≤ 10 ^ 18 }
+    ensures { result ≡ min (count * states) (10 ^ 18) }
+{
+    (count * states as u128).min(MOST_COUNTED)
+}
+
+// How many rows a table over these parents has, counted up to 10^18.
+fn count_rows(heads: &[Head], parents: &[usize]) -> u128
+    requires { All (λ u. u < length heads.now) parents.now }
+    ensures { result ≡ min (rows_over heads.now parents.now) (10 ^ 18) }
+{
+    let mut rows = 1;
+    for parent in parents {
+        rows = times(rows, heads[*parent].states);
+    }
+    rows
+}
+
+// The node over these parents has no more cells than a table or a rule may have.
+fn check_cells(heads: &[Head], parents: &[usize], node: usize) -> Result<u128, BuildFault>
+    requires within { node < length heads.now }
+    requires parents { All (λ u. u < length heads.now) parents.now }
+    ensures row { Passes (cells_row heads.now parents.now node) result }
+    ensures cells { IfOk result (λ cells. cells ≡ cells_over heads.now parents.now node) }
+    ensures few { IfOk result (λ cells. cells ≤ 65536) }
+{
+    let cells = times(count_rows(heads, parents), heads[node].states);
+    if cells > 65_536 {
+        return Err(BuildKind::LimitPassed {
+            which: Limit::Cells,
+            got: cells,
+        }
+        .at(heads[node].at));
+    }
+    Ok(cells)
+}
+
+// The rules up to the node of this head have no more cells than all rules may have.
+fn check_rules(head: &Head, rules: u128) -> Result<(), BuildFault>
+    ensures { Passes (rules_row head.now rules) result }
+{
+    if rules > 262_144 {
+        return Err(BuildKind::LimitPassed {
+            which: Limit::Rules,
+            got: rules,
+        }
+        .at(head.at));
+    }
+    Ok(())
+}
+
+// The node over these parents keeps the limits behind rules of so many cells; it gives how many there are with its own.
+fn check_size(
+    heads: &[Head],
+    parents: &[usize],
+    node: usize,
+    rules: u128,
+) -> Result<u128, BuildFault>
+    requires within { node < length heads.now }
+    requires parents { All (λ u. u < length heads.now) parents.now }
+    requires rules { rules ≤ 262144 }
+    ensures rows { Passes (size_rows_over heads.now parents.now node rules) result }
+    ensures sum { IfOk result (λ sum. sum ≡ rules + cond (is_decision (head_at heads.now node).kind) (cells_over heads.now parents.now node) 0) }
+    ensures few { IfOk result (λ sum. sum ≤ 262144) }
+    ensures cells { OnOk result (cells_over heads.now parents.now node ≤ 65536) }
+{
+    let cells = check_cells(heads, parents, node)?;
+    match heads[node].kind {
+        Kind::Decision => {
+            check_rules(&heads[node], rules + cells)?;
+            Ok(rules + cells)
+        }
+        Kind::Chance | Kind::Utility => Ok(rules),
+    }
+}
+
+/// Each node keeps the limits of cells, and the rules together do.
+pub fn check_sizes(heads: &[Head], parents: &[Vec<usize>]) -> Result<(), BuildFault>
+    requires len { length parents.now ≡ length heads.now }
+    requires parents { All (All (λ u. u < length heads.now)) (numbers_of_lists parents.now) }
+    ensures rows { Passes (size_steps heads.now (numbers_of_lists parents.now)) result }
+    ensures cells { OnOk result ((v : ℕ) → v < length heads.now → cells_at heads.now (numbers_of_lists parents.now) v ≤ 65536) }
+    ensures rules { OnOk result (rules_before heads.now (numbers_of_lists parents.now) (length heads.now) ≤ 262144) }
+{
+    let mut rules = 0;
+    for node in 0..heads.len() {
+        rules = check_size(heads, &parents[node], node, rules)?;
+    }
+    Ok(())
+}

@@ -1,0 +1,45 @@
+-- The rows of a table have one scaling: each row has one reduced row, so the totals and their least common multiple are the same, and so is each row of weights.
+use Rattle.std.proofs.Common.{◌≡◌, ◌<◌, ◌≤◌, ◌+◌, ◌*◌, ◌/◌, ℕ, zero, suc, refl, sym, ap, ◌∙◌, arith, subst, List, ◌++◌, length, take, drop, sum}
+use Rattle.std.specs.Int.{◌∣◌}
+use Rattle.std.proofs.Math.Nat.{zero-mul}
+use Rattle.std.proofs.Math.Seq.{take-add}
+use Rattle.std.proofs.lemmas.Nat.Gcd.{dvd_antisymm}
+use Rattle.std.proofs.lemmas.List.{take_all}
+use Rattle.weight_scale.specs.declared.decimal.Decimal.{Decimal}
+use Rattle.weight_scale.specs.Views.{ScaledView}
+use Rattle.weight_scale.specs.Scaling.{row_at, raised_row, weights_of, IsScaled, IsCommonTotal}
+use Rattle.weight_scale.proofs.RowParts.{rows_whole}
+use Rattle.weight_scale.proofs.Shares.{reduced_same}
+
+-- tables with the same rows
+module _ {A : Type 0} where
+  fronts_same : (states : ℕ) (xs ys : List A) (n : ℕ) → ((r : ℕ) → r < n → row_at states xs r ≡ row_at states ys r) → take (n * states) xs ≡ take (n * states) ys
+  fronts_same states xs ys zero same = ap (λ k. take k xs) (zero-mul states) ∙ sym (ap (λ k. take k ys) (zero-mul states))
+  fronts_same states xs ys (suc n) same =
+      ap (λ k. take k xs) (more n states) ∙ take-add (n * states) states xs
+      ∙ (λ i. fronts_same states xs ys n (λ r l. same r (omega (arith, l))) i ++ same n (omega arith) i)
+      ∙ sym (take-add (n * states) states ys) ∙ sym (ap (λ k. take k ys) (more n states))
+    where
+      more : (n states : ℕ) → suc n * states ≡ n * states + states
+      more n states = omega arith
+
+  rows_same : (states n : ℕ) (xs ys : List A) → length xs ≡ n * states → length ys ≡ n * states → ((r : ℕ) → r < n → row_at states xs r ≡ row_at states ys r) → xs ≡ ys
+  rows_same states n xs ys a b same = sym (take_all (n * states) xs (omega (arith, a))) ∙ fronts_same states xs ys n same ∙ take_all (n * states) ys (omega (arith, b))
+
+pub scaled_once : (rows : List Decimal) (states : ℕ) (a b : ScaledView) → 0 < states → states ∣ length rows → IsScaled rows states a → IsScaled rows states b → a ≡ b
+scaled_once rows states a b positive whole p q = λ i. record { weights = weights i; total = total i }
+  where
+    reduced : (r : ℕ) → r < length rows / states → row_at states p.reduced r ≡ row_at states q.reduced r
+    reduced r l = reduced_same (raised_row states rows r) (row_at states p.reduced r) (row_at states q.reduced r) (p.rows_reduced.row r l) (q.rows_reduced.row r l)
+
+    total : a.total ≡ b.total
+    total = dvd_antisymm
+        (p.common.least b.total (λ r l. subst (λ xs. sum xs ∣ b.total) (sym (reduced r l)) (q.common.multiple r l)))
+        (q.common.least a.total (λ r l. subst (λ xs. sum xs ∣ a.total) (reduced r l) (p.common.multiple r l)))
+
+    len : (n : ℕ) → n ≡ length rows → n ≡ length rows / states * states
+    len n e = e ∙ sym (rows_whole (length rows) states whole)
+
+    weights : a.weights ≡ b.weights
+    weights = rows_same states (length rows / states) a.weights b.weights (len (length a.weights) p.len) (len (length b.weights) q.len)
+        (λ r l. p.row r l ∙ (λ i. weights_of (total i) (reduced r l i)) ∙ sym (q.row r l))

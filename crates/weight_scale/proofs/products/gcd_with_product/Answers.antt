@@ -1,0 +1,12 @@
+use Rattle.std.proofs.Common.{arith, mul-pos, Fits}
+use Rattle.weight_scale.proofs.Divisors.{gcd_of_product, product_within}
+use Rattle.weight_scale.proofs.products.gcd_with_product.Goals as goal
+
+pub overflow_mul-result : goal.overflow_mul-result
+overflow_mul-result c = omega (arith, (product_within _ _ _ _ _ c.requires c.gcd-common.ensures.greatest c.gcd.ensures.greatest).0, c.ranges.a.fits)
+
+pub returns-clause-greatest : goal.returns-clause-greatest
+returns-clause-greatest c = gcd_of_product _ _ _ _ _ c.requires c.gcd-common.ensures.greatest c.gcd.ensures.greatest
+
+pub returns-clause-positive : goal.returns-clause-positive
+returns-clause-positive c = let within = product_within _ _ _ _ _ c.requires c.gcd-common.ensures.greatest c.gcd.ensures.greatest in mul-pos within.1 within.2

@@ -1,0 +1,11 @@
+use Rattle.std.proofs.Common.{arith, length, ◌<◌}
+use Rattle.weight_scale.proofs.Greatest.{greatest_step}
+use Rattle.weight_scale.proofs.weight_bound.greatest_utility.Goals as goal
+
+pub loop-v-preserved : goal.loop-v-preserved
+loop-v-preserved c =
+    let inside : c.loop-v.v < length c.args.diagram.now.nodes = omega (arith, c.loop-v-test.true, c.count-v-end.ensures.count) in
+    record {
+      small = omega (arith, c.in_ok-sum.ensures);
+      whole = rw (c.in_ok-sum.ensures.1, c.greatest_at.ensures) (greatest_step c.args.diagram.now.nodes c.loop-v.v c.loop-v.sum _ inside c.loop-v.invariant.whole);
+    }

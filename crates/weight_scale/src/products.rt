@@ -1,0 +1,31 @@
+//! A greatest common divisor and a quotient of products that may pass 128 bits: common factors go
+//! before anything is multiplied.
+
+ghost use Rattle.std.specs.Prelude.{◌<◌, ◌≤◌, ◌*◌, ◌/◌};
+ghost use Rattle.std.specs.Int.{◌∣◌};
+ghost use Rattle.std.specs.Option.{SomeIff};
+ghost use Rattle.whole_num.specs.Divisors.{IsGcd};
+ghost use Rattle.maid_model.specs.Diagrams.{greatest_number};
+
+use crate::decimal::GREATEST;
+use whole_num::{gcd, mul_within};
+
+// The greatest common divisor of a and size * tens.
+pub(crate) fn gcd_with_product(a: u128, size: u128, tens: u128) -> u128
+    requires { 0 < a }
+    ensures greatest { IsGcd a (size * tens) result }
+    ensures positive { 0 < result }
+{
+    let common = gcd(a, size);
+    common * gcd(a / common, tens)
+}
+
+// size * tens / divisor, if it isn't too great.
+pub(crate) fn divided_product(size: u128, tens: u128, divisor: u128) -> Option<u128>
+    requires positive { 0 < divisor }
+    requires divides { divisor ∣ size * tens }
+    ensures { SomeIff result (size * tens / divisor ≤ greatest_number) (size * tens / divisor) }
+{
+    let common = gcd(size, divisor);
+    mul_within(size / common, tens / (divisor / common), GREATEST)
+}

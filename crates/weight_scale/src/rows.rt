@@ -1,0 +1,135 @@
+//! One row of a chance table: its common divisor and its reduced numbers.
+
+ghost use Rattle.std.specs.Prelude.{◌≡◌, ◌<◌, ◌≤◌, ◌+◌, ◌*◌, ◌/◌, ◌^◌, ◌++◌, All, IfOk, IfErr, OnOk, length, map, pos, sum, unsigned_abs};
+ghost use Rattle.std.specs.Int.{◌∣◌};
+ghost use Rattle.std.specs.Option.{SomeIff};
+ghost use Rattle.maid_model.specs.Diagrams.{greatest_number};
+ghost use Rattle.weight_scale.specs.Scaling.{raised, row_at, IsGreatestDivisor};
+ghost use Rattle.weight_scale.specs.Rows.{IsFinest, IsFiner, shares, AppendsShares, AppendsReduced, OnWide, IsWideRow};
+
+use crate::decimal::{Decimal, GREATEST};
+use crate::products::{divided_product, gcd_with_product};
+use crate::scaling::ScaleFault;
+use std::alloc::AllocError;
+use whole_num::add_within;
+
+// Row r of a table that stands row by row.
+pub(crate) fn row_at<T>(cells: &[T], states: usize, r: usize) -> &[T]
+    requires positive { 0 < states }
+    requires within { r < length cells.now / states }
+    ensures row { result.now ≡ row_at states cells.now r }
+    ensures len { length result.now ≡ states }
+{
+    &cells[r * states..(r + 1) * states]
+}
+
+// The number by whose decimals a row is raised.
+#[derive(Clone, Copy)]
+pub(crate) struct Pivot {
+    pub(crate) size: u128,
+    pub(crate) decimals: u32,
+}
+
+// Of the numbers that aren't nought, the first with the most decimals; nought where there is none.
+pub(crate) fn finest(row: &[Decimal]) -> Pivot
+    ensures { IsFinest row.now result.size result.decimals }
+{
+    let mut finest = Pivot {
+        size: 0,
+        decimals: 0,
+    };
+    for number in row {
+        finest = finer(finest, *number);
+    }
+    finest
+}
+
+fn finer(finest: Pivot, number: Decimal) -> Pivot
+    ensures { IsFiner finest.size finest.decimals number result.size result.decimals }
+{
+    let size = number.m.unsigned_abs();
+    if size == 0 || (finest.size != 0 && number.k <= finest.decimals) {
+        return finest;
+    }
+    Pivot {
+        size,
+        decimals: number.k,
+    }
+}
+
+// The greatest common divisor of the row's numbers, raised by the decimals of the finest one. That
+// one has no tens to take, so the divisor starts small and stays so.
+fn common_divisor(row: &[Decimal], finest: Pivot) -> u128
+    requires finest { IsFinest row.now finest.size finest.decimals }
+    requires positive { 0 < finest.size }
+    ensures greatest { IsGreatestDivisor (map (raised finest.decimals) row.now) result }
+    ensures positive { 0 < result }
+{
+    let mut divisor = finest.size;
+    for number in row {
+        let tens = number.tens(finest.decimals);
+        divisor = gcd_with_product(divisor, number.m.unsigned_abs(), tens);
+    }
+    divisor
+}
+
+// Appends the row's numbers, raised and divided, and gives their total.
+fn push_shares(
+    reduced: &mut Vec<u128>,
+    row: &[Decimal],
+    decimals: u32,
+    divisor: u128,
+) -> Result<u128, ScaleFault>
+    requires decimals { decimals ≤ 30 }
+    requires positive { 0 < divisor }
+    requires divides { All (λ d. divisor ∣ raised decimals d) row.now }
+    ensures ok { IfOk result (AppendsShares reduced.old.items reduced.new.items (shares decimals divisor row.now)) }
+    ensures err { IfErr result (λ fault. OnWide fault (greatest_number < sum (shares decimals divisor row.now))) }
+{
+    let mut total = 0;
+    for number in row {
+        let tens = number.tens(decimals);
+        let Some(share) = divided_product(number.m.unsigned_abs(), tens, divisor) else {
+            return Err(ScaleFault::WideWeight);
+        };
+        let Some(longer) = add_within(total, share, GREATEST) else {
+            return Err(ScaleFault::WideWeight);
+        };
+        total = longer;
+        reduced.push(share)?;
+    }
+    Ok(total)
+}
+
+// Appends the reduced row, and gives its total.
+pub(crate) fn push_reduced(reduced: &mut Vec<u128>, row: &[Decimal]) -> Result<u128, ScaleFault>
+    requires { 0 < sum (map (raised 30) row.now) }
+    ensures ok { IfOk result (AppendsReduced (map (raised 30) row.now) reduced.old.items reduced.new.items) }
+    ensures err { IfErr result (λ fault. OnWide fault (IsWideRow (map (raised 30) row.now))) }
+{
+    let finest = finest(row);
+    let divisor = common_divisor(row, finest);
+    push_shares(reduced, row, finest.decimals, divisor)
+}
+
+pub(crate) fn row_total(row: &[u128]) -> u128
+    requires { sum row.now < 2 ^ 128 }
+    ensures { result ≡ sum row.now }
+{
+    row.iter().sum()
+}
+
+// Appends the reduced row's numbers, multiplied.
+pub(crate) fn push_weights(
+    weights: &mut Vec<i128>,
+    row: &[u128],
+    factor: u128,
+) -> Result<(), AllocError>
+    requires { sum row.now * factor ≤ greatest_number }
+    ensures { OnOk result (weights.new.items ≡ weights.old.items ++ map (λ x. pos (x * factor)) row.now) }
+{
+    for number in row {
+        weights.push((*number * factor) as i128)?;
+    }
+    Ok(())
+}
