@@ -1,5 +1,5 @@
 -- The rows of a chance table.
-use Rattle.std.proofs.Common.{◌≡◌, ◌∙◌, ℕ, zero, suc, ◌+◌, ◌-◌, ◌*◌, ◌<◌, ◌≤◌, ℤ, pos, negsuc, ◌+ℤ◌, ◌≤ℤ◌, unsigned_abs, List, ◌++◌, length, map, sum, take, drop, get_or, slice_index_or, decimal, arith, sym, ap, subst, refl, append_assoc, add-one}
+use Rattle.std.proofs.Common.{◌≡◌, ◌∙◌, ℕ, zero, suc, ◌+◌, ◌-◌, ◌*◌, ◌<◌, ◌≤◌, ℤ, pos, negsuc, ◌+ℤ◌, ◌≤ℤ◌, unsigned_abs, List, ◌++◌, length, map, sum, take, drop, get_or, slice_index_or, slice_range, decimal, arith, sym, ap, subst, refl, append_assoc, add-one}
 use Rattle.std.proofs.Math.Nat.{mul-le-mul_right}
 use Rattle.std.proofs.lemmas.Int.{ints}
 use Rattle.std.proofs.lemmas.List.{length-take-le, length-drop, length-map, length-append, map_more, get_or-drop}
@@ -10,14 +10,14 @@ use Rattle.maid_model.specs.Nodes.{node_at, states_of, rows_of}
 use Rattle.maid_model.specs.Sums.{sum_below}
 use Rattle.maid_model.specs.Tables.{chance_total}
 use Rattle.maid_model.specs.Views.{DiagramView}
-use Rattle.net_build.specs.Scaling.{row_at}
+use Rattle.weight_scale.specs.Scaling.{row_at}
 use Rattle.net_print.specs.Printed.{reduced_row, reduced_rows}
 use Rattle.net_print.specs.Parts.{parted_behind}
 use Rattle.net_print.proofs.Steps.{lines_more, parted-append}
 
--- a row is so many cells from its start
-pub row_is : {A : Type 0} (states : ℕ) (cells : List A) (r : ℕ) → row_at states cells r ≡ take states (drop (r * states) cells)
-row_is states cells r = ap (λ n. take n (drop (r * states) cells)) (width (r * states) states) where
+-- a row as a part of a slice
+pub slice_is_row : {A : Type 0} (states : ℕ) (cells : List A) (r : ℕ) → slice_range cells (r * states) (r * states + states) ≡ row_at states cells r
+slice_is_row states cells r = ap (λ n. take n (drop (r * states) cells)) (width (r * states) states) where
   width : (a n : ℕ) → a + n - a ≡ n
   width a n = omega arith
 
@@ -25,7 +25,7 @@ pub row_within : (r rows states : ℕ) → r < rows → r * states + states ≤ 
 row_within r rows states l = let more : suc r ≤ rows = omega arith in omega (arith, mul-le-mul_right {m = suc r} {n = rows} states more)
 
 pub length-row : {A : Type 0} (states : ℕ) (cells : List A) (r : ℕ) → r * states + states ≤ length cells → length (row_at states cells r) ≡ states
-length-row states cells r l = rw (row_is states cells r) (length-take-le states (drop (r * states) cells) (rw (length-drop (r * states) cells) (omega arith)))
+length-row states cells r l = length-take-le states (drop (r * states) cells) (rw (length-drop (r * states) cells) (omega arith))
 
 size_of : (z : ℤ) → pos 0 ≤ℤ z → pos (unsigned_abs z) ≡ z
 size_of (pos n) h = refl
@@ -60,7 +60,7 @@ row_total d is v r kind l =
     let states = states_of d.nodes v in
     let cells = (node_at d.nodes v).cells in
     let total : pos (sum (map unsigned_abs (take states (drop (r * states) cells)))) ≡ pos (chance_total d.nodes v) = sum_cells cells (r * states) states (rows_within d is v r kind l) table.not_negative ∙ table.row r l in
-    rw (row_is states cells r) (same _ _ total)
+    same _ _ total
   where
     same : (a b : ℕ) → pos a ≡ pos b → a ≡ b
     same a b e = omega (arith, ints)

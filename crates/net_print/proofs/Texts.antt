@@ -11,7 +11,7 @@ use Rattle.maid_model.specs.Names.{NamesView, name_of}
 use Rattle.maid_model.specs.Nodes.{node_at, states_of, rows_of, numbers_of}
 use Rattle.maid_model.specs.Tables.{chance_total}
 use Rattle.maid_model.specs.Views.{DiagramView}
-use Rattle.net_build.specs.Scaling.{row_at}
+use Rattle.weight_scale.specs.Scaling.{row_at}
 use Rattle.net_lexer.specs.Numerals.{is_numeral}
 use Rattle.net_lexer.specs.Token.{is_name}
 use Rattle.net_print.specs.Printed.{printed, node_line, potential_line, reduced_row, reduced_rows, row_divisor}

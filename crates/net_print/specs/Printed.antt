@@ -7,7 +7,7 @@ use Rattle.maid_model.specs.Names.{NamesView, name_of, labels_of, agent_name}
 use Rattle.maid_model.specs.Nodes.{node_at, rows_of, numbers_of}
 use Rattle.maid_model.specs.Reports.{line, quoted}
 use Rattle.maid_model.specs.Views.{NodeView, DiagramView}
-use Rattle.net_build.specs.Scaling.{row_at}
+use Rattle.weight_scale.specs.Scaling.{row_at}
 
 -- the text of each, parted by one space
 abbrev pub parted : {A : Type 0} → (A → List ℕ) → List A → List ℕ

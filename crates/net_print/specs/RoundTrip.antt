@@ -1,7 +1,6 @@
 -- The round trip: the printed text of a diagram stands for that diagram and its names.
-use Rattle.std.specs.Prelude.{◌≡◌, ℕ, ◌*◌, ◌^◌, nat_abs, unsigned_abs, List, [], length, map, sum, All, None}
+use Rattle.std.specs.Prelude.{◌≡◌, ℕ, ◌*◌, ◌^◌, nat_abs, List, [], length, map, All, None}
 use Rattle.std.specs.Int.{◌∣◌}
-use Rattle.std.specs.List.{range_with_len}
 use Rattle.maid_model.specs.declared.diagrams.Kind.TheVariants.{Chance, Utility}
 use Rattle.maid_model.specs.Diagrams.{IsDiagram}
 use Rattle.maid_model.specs.Names.{NamesView, NamesFit, labels_of}
@@ -17,13 +16,9 @@ use Rattle.net_parser.specs.Trees.{BlockTree}
 use Rattle.net_build.specs.Blocks.{node_blocks, kind_of, state_counts, agents_of, owner_of, parent_lists}
 use Rattle.net_build.specs.Building.{StandsFor, names_view}
 use Rattle.net_build.specs.Form.{HasTextForm}
-use Rattle.net_build.specs.Scaling.{IsLeastCommonMultiple, row_at}
+use Rattle.weight_scale.specs.Scaling.{IsCommonTotal}
 use Rattle.net_build.specs.Table.{all_passes}
-use Rattle.net_print.specs.Printed.{printed, reduced_row}
-
--- what the reduced rows of a chance node add up to
-abbrev pub reduced_totals : DiagramView → ℕ → List ℕ
-reduced_totals d v = map (λ r. sum (reduced_row (map unsigned_abs (row_at (states_of d.nodes v) (node_at d.nodes v).cells r)))) (range_with_len 0 (rows_of d.nodes v))
+use Rattle.net_print.specs.Printed.{printed, reduced_rows}
 
 -- so many decimals are enough for all values of utilities: cell / 10^decimals * 10^k is whole
 abbrev pub AreEnough : DiagramView → ℕ → Type 0
@@ -31,7 +26,7 @@ AreEnough d k = (v : ℕ) → (node_at d.nodes v).kind ≡ Utility → All (λ x
 
 -- W(v) is the least common multiple of the reduced rows' totals, and the decimals are the least that all values of utilities need
 pub record IsPlain (d : DiagramView) : Type 0 where
-  pub weights : (v : ℕ) → (node_at d.nodes v).kind ≡ Chance → IsLeastCommonMultiple (reduced_totals d v) (chance_total d.nodes v)
+  pub weights : (v : ℕ) → (node_at d.nodes v).kind ≡ Chance → IsCommonTotal (reduced_rows (states_of d.nodes v) (rows_of d.nodes v) (node_at d.nodes v).cells) (states_of d.nodes v) (rows_of d.nodes v) (chance_total d.nodes v)
   pub decimals : IsLeast (AreEnough d) d.decimals
 
 -- a diagram and names that a text can stand for; a utility has no label

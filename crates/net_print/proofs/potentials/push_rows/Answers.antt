@@ -1,10 +1,10 @@
-use Rattle.std.proofs.Common.{◌≡◌, ◌∙◌, ◌<◌, ◌≤◌, ◌+◌, ◌*◌, ◌++◌, length, map, decimal, unsigned_abs, rules, arith, subst, sym, ap}
+use Rattle.std.proofs.Common.{◌≡◌, ◌∙◌, ◌<◌, ◌≤◌, ◌+◌, ◌*◌, ◌++◌, length, map, decimal, unsigned_abs, slice_range, rules, arith, subst, sym, ap}
 use Rattle.maid_model.specs.Nodes.{node_at, states_of, rows_of}
-use Rattle.net_build.specs.Scaling.{row_at}
+use Rattle.weight_scale.specs.Scaling.{row_at}
 use Rattle.net_print.specs.Printed.{reduced_row, reduced_rows, row_divisor, parted}
 use Rattle.net_print.specs.Parts.{parted_behind}
 use Rattle.net_print.proofs.Divisors.{divisor_positive}
-use Rattle.net_print.proofs.Rows.{row_positive, rows_within, rows_more}
+use Rattle.net_print.proofs.Rows.{row_positive, rows_within, rows_more, slice_is_row}
 use Rattle.net_print.proofs.Steps.{parted_first}
 use Rattle.net_print.proofs.potentials.push_rows.Goals as goal
 
@@ -14,8 +14,9 @@ push_reduced_row-requires-clause-some c =
     let r = c.loop-row.row in
     let below : r < rows_of nodes c.args.node = subst (λ n. r < n) c.rows-row-end.ensures c.loop-row-test.true in
     let some : 0 < row_divisor (map unsigned_abs (row_at (states_of nodes c.args.node) (node_at nodes c.args.node).cells r)) = divisor_positive (map unsigned_abs (row_at (states_of nodes c.args.node) (node_at nodes c.args.node).cells r)) (row_positive c.args.diagram.now c.cells-cells.ensures.diagram c.args.node r c.requires.kind below) in
-    subst (λ states. 0 < row_divisor (map unsigned_abs (row_at states c.cells-cells.result.now r))) (sym c.states-states.ensures.states)
-    (subst (λ cells. 0 < row_divisor (map unsigned_abs (row_at (states_of nodes c.args.node) cells r))) (sym c.cells-cells.ensures.cells) some)
+    subst (λ row. 0 < row_divisor (map unsigned_abs row)) (sym (slice_is_row c.states-states.result c.cells-cells.result.now r))
+    (subst (λ states. 0 < row_divisor (map unsigned_abs (row_at states c.cells-cells.result.now r))) (sym c.states-states.ensures.states)
+    (subst (λ cells. 0 < row_divisor (map unsigned_abs (row_at (states_of nodes c.args.node) cells r))) (sym c.cells-cells.ensures.cells) some))
 
 pub loop-row-preserved : goal.loop-row-preserved
 loop-row-preserved c =
@@ -27,8 +28,8 @@ loop-row-preserved c =
     let within : r * states + states ≤ length cells =
     subst (λ n. r * n + n ≤ length cells) (sym c.states-states.ensures.states)
     (subst (λ cs. r * states_of nodes c.args.node + states_of nodes c.args.node ≤ length cs) (sym c.cells-cells.ensures.cells) (rows_within c.args.diagram.now c.cells-cells.ensures.diagram c.args.node r c.requires.kind below)) in
-    let step : c.push_reduced_row.new.out.items ≡ c.loop-row.out.items ++ parted_behind decimal (r * states) (reduced_row (map unsigned_abs (row_at states cells r))) = search rules in
-    rows_more states cells r (omega arith) c.loop-row.out.items c.push_reduced_row.new.out.items c.args.out.now.items step c.loop-row.invariant
+    let step : c.push_reduced_row.new.out.items ≡ c.loop-row.out.items ++ parted_behind decimal (r * states) (reduced_row (map unsigned_abs (slice_range cells (r * states) (r * states + states)))) = search rules in
+    rows_more states cells r (omega arith) c.loop-row.out.items c.push_reduced_row.new.out.items c.args.out.now.items (step ∙ ap (λ row. c.loop-row.out.items ++ parted_behind decimal (r * states) (reduced_row (map unsigned_abs row))) (slice_is_row states cells r)) c.loop-row.invariant
 
 pub returns : goal.returns
 returns c =
