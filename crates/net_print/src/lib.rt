@@ -10,3 +10,6 @@ mod printing;
 
 pub use laws::printed_texts_spell_trees;
 pub use printing::print;
+
+#[cfg(test)]
+mod tests;
