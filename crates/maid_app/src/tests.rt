@@ -71,6 +71,19 @@ potential (UB | P Q) { data = (-1 1 1 -1); }
 
 const PENNIES_GRAPH: &str = "relies P: Q\nrelies Q: P\ncycle: P Q\n";
 
+// Rows in proportion.
+const THIRDS: &str = "node A { states = (\"x\" \"y\" \"z\"); }
+node B { states = (\"u\" \"v\"); }
+potential (A) { data = (0.333333 0.333333 0.333333); }
+potential (B | A) { data = ((0.3 0.7) (0.333333 0.666667) (1 0)); }
+";
+
+const THIRDS_PRINT: &str = "node A { states = (\"x\" \"y\" \"z\"); }
+node B { states = (\"u\" \"v\"); }
+potential (A) { data = (1 1 1); }
+potential (B | A) { data = (3 7 333333 666667 1 0); }
+";
+
 const ZERO: &str = "node A { states = (\"x\" \"y\"); } potential (A) { data = (0 0); }";
 
 const RING: &str =
@@ -84,6 +97,7 @@ fn files(alloc: Global) -> Result<Vec<(String, Vec<u8>)>, Fail> {
         ("never.net", NEVER),
         ("lead.net", LEAD),
         ("pennies.net", PENNIES),
+        ("thirds.net", THIRDS),
         ("zero.net", ZERO),
         ("ring.net", RING),
         ("open.net", "net {\n a = \"b"),
@@ -130,6 +144,15 @@ fn runs_end_as_they_must(rt: HostRuntime) -> Result<(), Fail> {
             Status::Done,
             0,
             PENNIES_GRAPH,
+            "",
+        ),
+        (
+            "print thirds.net",
+            0,
+            400,
+            Status::Done,
+            0,
+            THIRDS_PRINT,
             "",
         ),
         (
