@@ -1,7 +1,7 @@
 -- Bytes come to one status.
 use Rattle.std.proofs.Common.{◌≡◌, ◌⊎◌, ◌<◌, ◌≤◌, inl, inr, ℕ, List, None, refl, sym, subst, arith}
 use Rattle.maid_model.specs.Answers.{IsAnswer}
-use Rattle.maid_model.specs.Bounds.{KeepsBound}
+use Rattle.maid_model.specs.Bounds.{KeepsBound, leaves, most_leaves}
 use Rattle.maid_model.specs.Names.{NamesView}
 use Rattle.maid_model.specs.Views.{DiagramView}
 use Rattle.net_build.specs.Building.{StandsFor}
@@ -13,7 +13,6 @@ use Rattle.net_parser.specs.Grammar.{Spells}
 use Rattle.net_parser.specs.Laws as parser
 use Rattle.net_parser.specs.Lexemes.{lexemes}
 use Rattle.net_parser.specs.Trees.{BlockTree}
-use Rattle.rule_solver.specs.Leaves.{leaves, most_leaves}
 use Rattle.maid_app.specs.Answers.{Answers}
 use Rattle.maid_app.specs.Diagrams.{IsTreeOf, IsDiagramOf}
 use Rattle.maid_app.specs.Faults.{TellsFault, IsTextFault}
