@@ -83,6 +83,14 @@ module _ (d : DiagramView) (names : NamesView) (is : IsPrintable d names) where
       let body = brace_open ∷ (table_words node.kind d.decimals node.states (rows_of d.nodes v) node.cells ++ brace_close ∷ []) in
       head_told (printed d names) names p v node.parents (text_onto body more) (subst (At (printed d names) p) (text_onto-append head body more) at)
 
+  -- a potential's head is the name of its node
+  pub potential_title : (v p : ℕ) (more : List ℕ) → At (printed d names) p (text_onto (potential_words d names v) more) → look.name_of (printed d names) (potential_tree d names p v) ≡ name_of names v
+  potential_title v p more at = (potential_told v p more at).title
+
+  -- and the names behind its bar are those of the parents
+  pub potential_given : (v p : ℕ) (more : List ℕ) → At (printed d names) p (text_onto (potential_words d names v) more) → map (token_bytes (printed d names)) (look.conditions (potential_tree d names p v)) ≡ map (name_of names) (node_at d.nodes v).parents
+  potential_given v p more at = (potential_told v p more at).given
+
   -- a name stands at its node's place
   pub place_told : (v : ℕ) → v < length d.nodes → look.place_of names.nodes (name_of names v) ≡ v
   place_told v l = place_here names.nodes is.form.distinct v (subst (λ n. v < n) (sym is.fit.nodes) l)

@@ -11,4 +11,6 @@ pub mod Told
 pub mod Look
 pub mod Agents
 pub mod Given
+pub mod Faultless
+pub mod PotentialPass
 pub mod ReadBack

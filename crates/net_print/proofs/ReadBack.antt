@@ -6,7 +6,9 @@ use Rattle.net_build.specs.Blocks.{node_blocks, names_of, agents_of}
 use Rattle.net_print.specs.Printed.{printed}
 use Rattle.net_print.specs.RoundTrip.{IsPrintable, TellsNodes, PrintsTree}
 use Rattle.net_print.proofs.Agents.{agents_told, owners_told, states_told}
+use Rattle.net_print.proofs.Faultless.{graph_clear, missing_clear}
 use Rattle.net_print.proofs.Given.{parents_told}
+use Rattle.net_print.proofs.PotentialPass.{potentials_clear}
 use Rattle.net_print.proofs.Look.{names_told, labels_are_told, kinds_told}
 use Rattle.net_print.proofs.Texts as texts
 use Rattle.net_print.proofs.Tree.{tree_of, tokens_are, spells}
@@ -29,4 +31,4 @@ tells_nodes d names is = record {
 }
 
 pub prints_tree : PrintsTree
-prints_tree d names is = (tokens_at 0 (texts.words d names is), tree_of d names is, tokens_are d names is, spells d names is, tells_nodes d names is)
+prints_tree d names is = (tokens_at 0 (texts.words d names is), tree_of d names is, tokens_are d names is, spells d names is, tells_nodes d names is, potentials_clear d names is, missing_clear d names is, graph_clear d names is)

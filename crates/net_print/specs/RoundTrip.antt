@@ -17,7 +17,7 @@ use Rattle.net_build.specs.Blocks.{node_blocks, kind_of, state_counts, agents_of
 use Rattle.net_build.specs.Building.{StandsFor, names_view}
 use Rattle.net_build.specs.Form.{HasTextForm}
 use Rattle.weight_scale.specs.Scaling.{IsCommonTotal}
-use Rattle.net_build.specs.Table.{all_passes}
+use Rattle.net_build.specs.Table.{all_passes, potential_pass, graph_pass, missing_pass}
 use Rattle.net_print.specs.Printed.{printed, reduced_rows}
 
 -- so many decimals are enough for all values of utilities: cell / 10^decimals * 10^k is whole
@@ -54,6 +54,6 @@ pub record TellsNodes (text : List ℕ) (blocks : List BlockTree) (d : DiagramVi
   pub states : map (λ n. n.states) d.nodes ≡ state_counts text (node_blocks blocks)
   pub parents : map (λ n. n.parents) d.nodes ≡ parent_lists text blocks
 
--- The part of it that is proved: the printed text has a list of tokens, they spell a tree, and the tree tells all of the diagram and the names but for the numbers.
+-- The part of it that is proved: the printed text has a list of tokens, they spell a tree, the tree tells all of the diagram and the names but for the numbers, its potentials have no fault, no table is missing and the graph has no cycle.
 abbrev pub PrintsTree : Type 0
-PrintsTree = (d : DiagramView) (names : NamesView) → IsPrintable d names → (tokens : List Token) × (tree : List BlockTree) × IsTokens (printed d names) tokens × Spells tree (lexemes (printed d names) tokens) × TellsNodes (printed d names) tree d names
+PrintsTree = (d : DiagramView) (names : NamesView) → IsPrintable d names → (tokens : List Token) × (tree : List BlockTree) × IsTokens (printed d names) tokens × Spells tree (lexemes (printed d names) tokens) × TellsNodes (printed d names) tree d names × potential_pass (printed d names) tree None × missing_pass (printed d names) tree None × graph_pass (printed d names) tree None
