@@ -1,7 +1,7 @@
 -- Bytes come to one status.
 use Rattle.std.proofs.Common.{◌≡◌, ◌⊎◌, ◌<◌, ◌≤◌, inl, inr, ℕ, List, None, refl, sym, subst, arith}
 use Rattle.maid_model.specs.Answers.{IsAnswer}
-use Rattle.maid_model.specs.Bounds.{KeepsBound}
+use Rattle.maid_model.specs.Bounds.{KeepsBound, leaves, most_leaves}
 use Rattle.maid_model.specs.Names.{NamesView}
 use Rattle.maid_model.specs.Views.{DiagramView}
 use Rattle.net_build.specs.Building.{StandsFor}
@@ -13,14 +13,14 @@ use Rattle.net_parser.specs.Grammar.{Spells}
 use Rattle.net_parser.specs.Laws as parser
 use Rattle.net_parser.specs.Lexemes.{lexemes}
 use Rattle.net_parser.specs.Trees.{BlockTree}
-use Rattle.rule_solver.specs.Leaves.{leaves, most_leaves}
 use Rattle.maid_app.specs.Answers.{Answers}
 use Rattle.maid_app.specs.Diagrams.{IsTreeOf, IsDiagramOf}
 use Rattle.maid_app.specs.Faults.{TellsFault, IsTextFault}
 use Rattle.maid_app.specs.Graph.{Graphs, HasGraphText}
 use Rattle.maid_app.specs.Laws.{OneStatus, RefusedForBytes}
 use Rattle.maid_app.specs.Outcome.{Outcome, text, refused, status_with}
-use Rattle.maid_app.specs.Request.{solve, graph}
+use Rattle.maid_app.specs.Print.{Prints, HasPrint}
+use Rattle.maid_app.specs.Request.{solve, graph, print}
 use Rattle.maid_app.specs.Solve.{Solves, Reports, TellsCycle, TellsBound, TellsNotBuilt, HasOrder}
 use Rattle.maid_app.specs.declared.status.Status.{Status}
 use Rattle.maid_app.specs.declared.status.Status.TheVariants.{Done, Usage, Absent, ReadFault, TextTooLong, TextFault, Cycle, WeightBound, TooLarge, WriteFault, NoMemory, Rejected, UnknownAgent, NotBuilt}
@@ -162,38 +162,81 @@ one_graph_kind laws bytes _ _ (told x) (faulty y) = absurd (no_fault laws bytes 
 one_graph_kind laws bytes _ _ (faulty x) (told y) = absurd (no_fault laws bytes y.d y.names x.at x.words y.is_diagram x.is_fault)
 one_graph_kind laws bytes _ _ (faulty x) (faulty y) = refl
 
+-- what an outcome of `print` is
+data PrintKind (bytes : List ℕ) : Status → Type 0 where
+  shown : {printed : List ℕ} → HasPrint bytes printed → PrintKind bytes Done
+  wrong : {name line : List ℕ} → TellsFault name bytes line → PrintKind bytes TextFault
+
+print_kind_of : (name bytes : List ℕ) (outcome : Outcome) → Prints name bytes outcome → PrintKind bytes (status_with outcome)
+print_kind_of name bytes (text printed) is = shown is
+print_kind_of name bytes (refused TextFault line) is = wrong {name = name} is
+print_kind_of name bytes (refused Cycle line) is = absurd is
+print_kind_of name bytes (refused WeightBound line) is = absurd is
+print_kind_of name bytes (refused NotBuilt line) is = absurd is
+print_kind_of name bytes (refused Done line) is = absurd is
+print_kind_of name bytes (refused Usage line) is = absurd is
+print_kind_of name bytes (refused Absent line) is = absurd is
+print_kind_of name bytes (refused ReadFault line) is = absurd is
+print_kind_of name bytes (refused TextTooLong line) is = absurd is
+print_kind_of name bytes (refused TooLarge line) is = absurd is
+print_kind_of name bytes (refused WriteFault line) is = absurd is
+print_kind_of name bytes (refused NoMemory line) is = absurd is
+print_kind_of name bytes (refused Rejected line) is = absurd is
+print_kind_of name bytes (refused UnknownAgent line) is = absurd is
+
+one_print_kind : Laws → (bytes : List ℕ) (s t : Status) → PrintKind bytes s → PrintKind bytes t → s ≡ t
+one_print_kind laws bytes _ _ (shown x) (shown y) = refl
+one_print_kind laws bytes _ _ (shown x) (wrong y) = absurd (no_fault laws bytes x.d x.names y.at y.words x.is_diagram y.is_fault)
+one_print_kind laws bytes _ _ (wrong x) (shown y) = absurd (no_fault laws bytes y.d y.names x.at x.words y.is_diagram x.is_fault)
+one_print_kind laws bytes _ _ (wrong x) (wrong y) = refl
+
 pub one_status : Laws → OneStatus
 unfolding Answers
 one_status laws (solve name) bytes one other is is' = one_kind laws bytes (status_with one) (status_with other) (kind_of name bytes one is) (kind_of name bytes other is')
 one_status laws (graph name) bytes one other is is' = one_graph_kind laws bytes (status_with one) (status_with other) (graph_kind_of name bytes one is) (graph_kind_of name bytes other is')
+one_status laws (print name) bytes one other is is' = one_print_kind laws bytes (status_with one) (status_with other) (print_kind_of name bytes one is) (print_kind_of name bytes other is')
 
 pub refused_for_bytes : RefusedForBytes
 unfolding Answers
 refused_for_bytes (solve name) bytes line TextFault is = tt
 refused_for_bytes (graph name) bytes line TextFault is = tt
+refused_for_bytes (print name) bytes line TextFault is = tt
 refused_for_bytes (solve name) bytes line NotBuilt is = tt
 refused_for_bytes (graph name) bytes line NotBuilt is = tt
+refused_for_bytes (print name) bytes line NotBuilt is = tt
 refused_for_bytes (solve name) bytes line Cycle is = tt
 refused_for_bytes (graph name) bytes line Cycle is = tt
+refused_for_bytes (print name) bytes line Cycle is = tt
 refused_for_bytes (solve name) bytes line WeightBound is = tt
 refused_for_bytes (graph name) bytes line WeightBound is = tt
+refused_for_bytes (print name) bytes line WeightBound is = tt
 refused_for_bytes (solve name) bytes line TooLarge is = tt
 refused_for_bytes (graph name) bytes line TooLarge is = tt
+refused_for_bytes (print name) bytes line TooLarge is = tt
 refused_for_bytes (solve name) bytes line Rejected is = tt
 refused_for_bytes (graph name) bytes line Rejected is = tt
+refused_for_bytes (print name) bytes line Rejected is = tt
 refused_for_bytes (solve name) bytes line UnknownAgent is = tt
 refused_for_bytes (graph name) bytes line UnknownAgent is = tt
+refused_for_bytes (print name) bytes line UnknownAgent is = tt
 refused_for_bytes (solve name) bytes line Done is = absurd is
 refused_for_bytes (graph name) bytes line Done is = absurd is
+refused_for_bytes (print name) bytes line Done is = absurd is
 refused_for_bytes (solve name) bytes line Usage is = absurd is
 refused_for_bytes (graph name) bytes line Usage is = absurd is
+refused_for_bytes (print name) bytes line Usage is = absurd is
 refused_for_bytes (solve name) bytes line Absent is = absurd is
 refused_for_bytes (graph name) bytes line Absent is = absurd is
+refused_for_bytes (print name) bytes line Absent is = absurd is
 refused_for_bytes (solve name) bytes line ReadFault is = absurd is
 refused_for_bytes (graph name) bytes line ReadFault is = absurd is
+refused_for_bytes (print name) bytes line ReadFault is = absurd is
 refused_for_bytes (solve name) bytes line TextTooLong is = absurd is
 refused_for_bytes (graph name) bytes line TextTooLong is = absurd is
+refused_for_bytes (print name) bytes line TextTooLong is = absurd is
 refused_for_bytes (solve name) bytes line WriteFault is = absurd is
 refused_for_bytes (graph name) bytes line WriteFault is = absurd is
+refused_for_bytes (print name) bytes line WriteFault is = absurd is
 refused_for_bytes (solve name) bytes line NoMemory is = absurd is
 refused_for_bytes (graph name) bytes line NoMemory is = absurd is
+refused_for_bytes (print name) bytes line NoMemory is = absurd is

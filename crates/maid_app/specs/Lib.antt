@@ -7,6 +7,7 @@ pub mod GraphLines
 pub mod Laws
 pub mod Lines
 pub mod Outcome
+pub mod Print
 pub mod Reading
 pub mod Refusal
 pub mod Request

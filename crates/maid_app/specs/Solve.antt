@@ -1,13 +1,12 @@
 -- What `solve` makes of a file's bytes: the report of the diagram's answer, or the first that applies of the text's fault, the relevance cycle, the weight bound and too many worlds.
 use Rattle.std.specs.Prelude.{◌≡◌, ◌<◌, ◌≤◌, ℕ, List}
 use Rattle.maid_model.specs.Answers.{IsAnswer, pure_profile}
-use Rattle.maid_model.specs.Bounds.{KeepsBound, PassesAt}
+use Rattle.maid_model.specs.Bounds.{KeepsBound, PassesAt, leaves, most_leaves}
 use Rattle.maid_model.specs.Names.{NamesView}
 use Rattle.maid_model.specs.Placing.{IsRelianceOrder, IsRelianceCycle}
 use Rattle.maid_model.specs.Reports.{report}
 use Rattle.maid_model.specs.Subgames.{IsSubgamePerfect, IsOptimal, OwnsAll}
 use Rattle.maid_model.specs.Views.{DiagramView, SolvedView}
-use Rattle.rule_solver.specs.Leaves.{leaves, most_leaves}
 use Rattle.rule_solver.specs.Promised.{KeepsWorth}
 use Rattle.maid_app.specs.Diagrams.{IsDiagramOf}
 use Rattle.maid_app.specs.Faults.{TellsFault}

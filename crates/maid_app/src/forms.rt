@@ -6,6 +6,7 @@ ghost use Rattle.maid_app.specs.Request.{requested, file_name};
 ghost use Rattle.maid_app.specs.Form.{request_by};
 
 pub mod graph;
+pub mod print;
 pub mod solve;
 
 /// What the words ask for.
@@ -21,6 +22,11 @@ pub enum Form<'a> {
         /// The file's name.
         file: &'a str,
     },
+    /// `print F`: the text of the diagram in the file F.
+    Print {
+        /// The file's name.
+        file: &'a str,
+    },
 }
 
 impl<'a> Form<'a> {
@@ -31,6 +37,7 @@ impl<'a> Form<'a> {
         match self {
             Form::Solve { file } => file,
             Form::Graph { file } => file,
+            Form::Print { file } => file,
         }
     }
 }
@@ -44,6 +51,9 @@ pub fn form_of(words: &[String]) -> Option<Form<'_>>
             file: file.as_str(),
         }),
         [word, file] if word.as_str() == "graph" => Some(Form::Graph {
+            file: file.as_str(),
+        }),
+        [word, file] if word.as_str() == "print" => Some(Form::Print {
             file: file.as_str(),
         }),
         _ => None,

@@ -14,7 +14,7 @@ ghost use Rattle.maid_app.specs.Refusal.{status_of, line_of};
 ghost use Rattle.maid_model.specs.Reports.{line};
 ghost use Rattle.maid_app.specs.Told.{limit, IsText, IsUnread, RefusesFile, Says, HasText, TakesLine, IsBeforeWriting, IsOneOf};
 
-use crate::forms::{Form, form_of, graph, solve};
+use crate::forms::{Form, form_of, graph, print, solve};
 use crate::laws::one_status;
 use crate::reading::Source;
 use crate::refusal::Refusal;
@@ -72,6 +72,7 @@ fn text_of(alloc: Global, form: Form<'_>, bytes: &[u8]) -> Result<Vec<u8>, Refus
     match form {
         Form::Solve { file } => solve::answer(alloc, Source { name: file, bytes }),
         Form::Graph { file } => graph::answer(alloc, Source { name: file, bytes }),
+        Form::Print { file } => print::answer(alloc, Source { name: file, bytes }),
     }
 }
 
@@ -110,13 +111,14 @@ fn serve<H: Shelf, O: Sink>(
 
 /// Runs the program on the words after its name, and answers how it ended.
 ///
-/// The words are those of one form: `solve F` writes the report of the diagram in the file F of
-/// the shelf to `out`. The whole text is made before its first byte is written, and writing takes
+/// The words are those of one form, which names a file F of the shelf: `solve F` writes the report
+/// of its diagram to `out`, `graph F` who relies on whom, and `print F` the diagram. The whole text is made before its first byte is written, and writing takes
 /// no memory. After a status other than [`Status::Done`] `err` takes one line that says why.
 ///
 /// The order of refusals is [`Status::Usage`] where the words are of no form, [`Status::Absent`],
-/// [`Status::ReadFault`] and [`Status::TextTooLong`] for the file, [`Status::TextFault`] and
-/// [`Status::NotBuilt`] for its bytes, and [`Status::WriteFault`]. [`Status::NoMemory`] may come at
+/// [`Status::ReadFault`] and [`Status::TextTooLong`] for the file, [`Status::TextFault`] for its
+/// bytes, for `solve` then [`Status::Cycle`], [`Status::WeightBound`] and [`Status::NotBuilt`] for
+/// its diagram, and last [`Status::WriteFault`]. [`Status::NoMemory`] may come at
 /// any point after the words and before the first write. A fault of `err` changes nothing else.
 pub fn run<H: Shelf, O: Sink, E: Sink>(
     alloc: Global,

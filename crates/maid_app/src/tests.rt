@@ -37,7 +37,7 @@ row 2: \"q\" -> 2 \"r\" = 1
 agent \"agent\" = 1
 ";
 
-// A leader and a follower: not of the one shape.
+// A leader and a follower.
 const LEAD: &str = "decision Leader { states = (\"a\" \"b\"); agent = \"A\"; }
 decision Follower { states = (\"x\" \"y\"); agent = \"B\"; }
 utility UA { agent = \"A\"; }
@@ -46,6 +46,66 @@ potential (Follower | Leader) { }
 potential (UA | Leader Follower) { data = (2 0 3 1); }
 potential (UB | Leader Follower) { data = (1 0 0 1); }
 ";
+
+const LEAD_REPORT: &str = "maidsolve report 1
+order: Follower Leader
+decision Follower by \"B\" sees Leader
+row 1: \"a\" -> 1 \"x\" = 1
+row 2: \"b\" -> 2 \"y\" = 1
+decision Leader by \"A\" sees
+row 1: -> 1 \"a\" = 2
+agent \"A\" = 2
+agent \"B\" = 1
+";
+
+const LEAD_GRAPH: &str = "relies Leader: Follower\nrelies Follower:\norder: Follower Leader\n";
+
+// Two agents who choose at the same time.
+const PENNIES: &str = "decision P { states = (\"h\" \"t\"); agent = \"A\"; }
+decision Q { states = (\"h\" \"t\"); agent = \"B\"; }
+utility UA { agent = \"A\"; }
+utility UB { agent = \"B\"; }
+potential (UA | P Q) { data = (1 -1 -1 1); }
+potential (UB | P Q) { data = (-1 1 1 -1); }
+";
+
+const PENNIES_GRAPH: &str = "relies P: Q\nrelies Q: P\ncycle: P Q\n";
+
+// Rows in proportion.
+const THIRDS: &str = "node A { states = (\"x\" \"y\" \"z\"); }
+node B { states = (\"u\" \"v\"); }
+potential (A) { data = (0.333333 0.333333 0.333333); }
+potential (B | A) { data = ((0.3 0.7) (0.333333 0.666667) (1 0)); }
+";
+
+const THIRDS_PRINT: &str = "node A { states = (\"x\" \"y\" \"z\"); }
+node B { states = (\"u\" \"v\"); }
+potential (A) { data = (1 1 1); }
+potential (B | A) { data = (3 7 333333 666667 1 0); }
+";
+
+const ZERO: &str = "node A { states = (\"x\" \"y\"); } potential (A) { data = (0 0); }";
+
+const RING: &str =
+    "node A { states = (\"x\"); } node B { states = (\"x\"); } potential (A | B) { data = (1); } potential (B | A) { data = (1); }";
+
+// The files of the shelf.
+fn files(alloc: Global) -> Result<Vec<(String, Vec<u8>)>, Fail> {
+    let mut files = Vec::new(alloc);
+    for (name, text) in [
+        ("steer.net", STEER),
+        ("never.net", NEVER),
+        ("lead.net", LEAD),
+        ("pennies.net", PENNIES),
+        ("thirds.net", THIRDS),
+        ("zero.net", ZERO),
+        ("ring.net", RING),
+        ("open.net", "net {\n a = \"b"),
+    ] {
+        files.push((name.to_string(alloc)?, text.as_bytes().to_vec(alloc)?))?;
+    }
+    Ok(files)
+}
 
 // Runs the words over a shelf of these files whose call of that number fails, and over an `out` with so
 // much room whose writes take ten bytes at most. It gives the status and what `out` and `err` took.
@@ -59,21 +119,7 @@ fn ended(
     for word in words.split_whitespace() {
         list.push(word.to_string(alloc)?)?;
     }
-    let steer = (
-        "steer.net".to_string(alloc)?,
-        STEER.as_bytes().to_vec(alloc)?,
-    );
-    let never = (
-        "never.net".to_string(alloc)?,
-        NEVER.as_bytes().to_vec(alloc)?,
-    );
-    let lead = ("lead.net".to_string(alloc)?, LEAD.as_bytes().to_vec(alloc)?);
-    let open = (
-        "open.net".to_string(alloc)?,
-        b"net {\n a = \"b".to_vec(alloc)?,
-    );
-    let files = vec![in alloc; steer, never, lead, open]?;
-    let mut shelf = MemShelf::new(files, vec![in alloc; call]?, 50);
+    let mut shelf = MemShelf::new(files(alloc)?, vec![in alloc; call]?, 50);
     let mut out = MemSink::new(alloc, room, Vec::new(alloc), 10)?;
     let mut err = MemSink::new(alloc, 200, Vec::new(alloc), 7)?;
     let status = run(alloc, &list, &mut shelf, &mut out, &mut err);
@@ -87,23 +133,43 @@ fn ended(
 #[test]
 fn runs_end_as_they_must(rt: HostRuntime) -> Result<(), Fail> {
     for (words, call, room, status, code, took, told) in [
-        ("solve steer.net", 0, 200, Status::Done, 0, REPORT, ""),
-        ("solve never.net", 0, 200, Status::Done, 0, NEVER_REPORT, ""),
+        ("solve steer.net", 0, 400, Status::Done, 0, REPORT, ""),
+        ("solve never.net", 0, 400, Status::Done, 0, NEVER_REPORT, ""),
+        ("solve lead.net", 0, 400, Status::Done, 0, LEAD_REPORT, ""),
+        ("graph lead.net", 0, 400, Status::Done, 0, LEAD_GRAPH, ""),
         (
-            "solve lead.net",
+            "graph pennies.net",
             0,
-            200,
-            Status::NotBuilt,
-            13,
+            400,
+            Status::Done,
+            0,
+            PENNIES_GRAPH,
             "",
-            "not built\n",
         ),
-        ("", 0, 200, Status::Usage, 1, "", lines::USAGE),
-        ("--help", 0, 200, Status::Usage, 1, "", lines::USAGE),
+        (
+            "print thirds.net",
+            0,
+            400,
+            Status::Done,
+            0,
+            THIRDS_PRINT,
+            "",
+        ),
+        (
+            "solve pennies.net",
+            0,
+            400,
+            Status::Cycle,
+            6,
+            "",
+            "relevance cycle: P Q\n",
+        ),
+        ("", 0, 400, Status::Usage, 1, "", lines::USAGE),
+        ("--help", 0, 400, Status::Usage, 1, "", lines::USAGE),
         (
             "solve gone.net",
             0,
-            200,
+            400,
             Status::Absent,
             2,
             "",
@@ -112,7 +178,7 @@ fn runs_end_as_they_must(rt: HostRuntime) -> Result<(), Fail> {
         (
             "solve steer.net",
             1,
-            200,
+            400,
             Status::ReadFault,
             3,
             "",
@@ -121,7 +187,7 @@ fn runs_end_as_they_must(rt: HostRuntime) -> Result<(), Fail> {
         (
             "solve steer.net",
             2,
-            200,
+            400,
             Status::ReadFault,
             3,
             "",
@@ -130,11 +196,29 @@ fn runs_end_as_they_must(rt: HostRuntime) -> Result<(), Fail> {
         (
             "solve open.net",
             0,
-            200,
+            400,
             Status::TextFault,
             5,
             "",
             "open.net:2:6: open string\n",
+        ),
+        (
+            "graph zero.net",
+            0,
+            400,
+            Status::TextFault,
+            5,
+            "",
+            "zero.net:1:56: zero row\n",
+        ),
+        (
+            "solve ring.net",
+            0,
+            400,
+            Status::TextFault,
+            5,
+            "",
+            "ring.net:1:6: graph cycle: A B\n",
         ),
         (
             "solve steer.net",

@@ -1,11 +1,10 @@
 -- What a refusal tells of the diagram.
 use Rattle.std.specs.Prelude.{◌≡◌, ℕ, ◌<◌, ◌^◌, min, List, Some, None}
-use Rattle.maid_model.specs.Bounds.{KeepsBound, PassesAt}
+use Rattle.maid_model.specs.Bounds.{KeepsBound, PassesAt, leaves, most_leaves}
 use Rattle.maid_model.specs.Placing.{IsRelianceOrder, IsRelianceCycle}
 use Rattle.maid_model.specs.Views.{NodeView, DiagramView}
 use Rattle.rule_solver.specs.declared.faults.SolveFault.{SolveFault}
 use Rattle.rule_solver.specs.declared.faults.SolveFault.TheVariants.{Cycle, WeightBound, NotBuilt, NoMemory}
-use Rattle.rule_solver.specs.Leaves.{leaves, most_leaves}
 
 -- all decisions can be placed in an order of solving
 abbrev pub HasSolvingOrder : List NodeView → Type 0

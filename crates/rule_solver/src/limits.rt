@@ -1,8 +1,7 @@
 ghost use Rattle.std.specs.Prelude.{◌≡◌, ◌≤◌, ◌^◌, min, IsOk, IfErr, OnOk};
-ghost use Rattle.maid_model.specs.Bounds.{KeepsBound};
+ghost use Rattle.maid_model.specs.Bounds.{KeepsBound, leaves, most_leaves};
 ghost use Rattle.maid_model.specs.Diagrams.{IsDiagram};
 ghost use Rattle.rule_solver.specs.Faults.{HasSolvingOrder, IsRefusal};
-ghost use Rattle.rule_solver.specs.Leaves.{leaves, most_leaves};
 
 use crate::SolveFault;
 use maid_model::Diagram;

@@ -1,12 +1,11 @@
 ghost use Rattle.std.specs.Prelude.{◌≤◌, ℕ, IfOk, IfErr};
 ghost use Rattle.maid_model.specs.Answers.{IsAnswer, pure_profile};
-ghost use Rattle.maid_model.specs.Bounds.{KeepsBound};
+ghost use Rattle.maid_model.specs.Bounds.{KeepsBound, leaves, most_leaves};
 ghost use Rattle.maid_model.specs.Diagrams.{IsDiagram};
 ghost use Rattle.maid_model.specs.Placing.{IsRelianceOrder};
 ghost use Rattle.maid_model.specs.Subgames.{IsOptimal, IsSubgamePerfect, OwnsAll};
 ghost use Rattle.relevance_graph.specs.Relevant.{IsRelevance};
 ghost use Rattle.rule_solver.specs.Faults.{Tells};
-ghost use Rattle.rule_solver.specs.Leaves.{leaves, most_leaves};
 ghost use Rattle.rule_solver.specs.Promised.{KeepsWorth};
 
 use crate::SolveFault;

@@ -1,0 +1,25 @@
+//! `print F`: the text of a diagram.
+
+ghost use Rattle.std.specs.Prelude.{IfOk, IfErr};
+ghost use Rattle.maid_app.specs.Outcome.{text};
+ghost use Rattle.maid_app.specs.Print.{Prints};
+ghost use Rattle.maid_app.specs.Reading.{RefusesAs};
+ghost use Rattle.maid_app.specs.Refusal.{status_of, line_of};
+
+use crate::reading::Source;
+use crate::refusal::Refusal;
+use net_print::print;
+use std::alloc::Global;
+
+/// The text of the diagram that a file's bytes stand for.
+///
+/// # Errors
+///
+/// The fault of the bytes, or want of memory.
+pub fn answer(alloc: Global, source: Source<'_>) -> Result<Vec<u8>, Refusal>
+    ensures ok { IfOk result (λ told. Prints source.entry.name.now source.entry.bytes.now (text told.items)) }
+    ensures err { IfErr result (λ refusal. RefusesAs (Prints source.entry.name.now source.entry.bytes.now) (status_of refusal) (line_of refusal)) }
+{
+    let (diagram, names) = source.diagram(alloc)?;
+    Ok(print(alloc, &diagram, &names)?)
+}

@@ -1,0 +1,112 @@
+-- The agents, owners and states that the tree of a printed text tells.
+use Rattle.std.proofs.Common.{◌≡◌, ◌∙◌, ◌≢◌, ℕ, ◌<◌, Bool, true, false, not, cond, List, [], ◌∷◌, ◌++◌, length, map, filter, get_or, AllPairs, refl, sym, ap, subst, arith}
+use Rattle.std.specs.List.{flat_map}
+use Rattle.std.specs.Str.{bytes_eq}
+use Rattle.std.proofs.lemmas.Bool.{not-true, both_ways, false_from_ne_true}
+use Rattle.std.proofs.lemmas.List.{length-map}
+use Rattle.std.proofs.lemmas.List.Elements.{filter_passes}
+use Rattle.std.proofs.lemmas.List.Kept.{AllPairs-cons, AllPairs-filter}
+use Rattle.std.proofs.lemmas.List.Sums.{position_or_len_is}
+use Rattle.std.proofs.lemmas.Slice.Eq.{bytes_eq-Decides}
+use Rattle.maid_model.specs.declared.diagrams.Kind.{Kind}
+use Rattle.maid_model.specs.declared.diagrams.Kind.TheVariants.{Chance, Decision, Utility}
+use Rattle.maid_model.specs.Names.{NamesView, agent_name}
+use Rattle.maid_model.specs.Nodes.{node_at, is_chance}
+use Rattle.maid_model.specs.Views.{NodeView, DiagramView}
+use Rattle.net_build.specs.Blocks as look
+use Rattle.net_parser.specs.Trees.{BlockTree}
+use Rattle.net_print.specs.Printed.{printed}
+use Rattle.net_print.specs.RoundTrip.{IsPrintable}
+use Rattle.net_print.proofs.Look.{tell, each_node, node_agent_told, node_labels_told}
+use Rattle.net_lexer.specs.Token.{text_value}
+use Rattle.net_print.proofs.Tree.{block_kind, node_tree, tree_of}
+use Rattle.net_print.proofs.Words.{node_words}
+use Rattle.net_print.proofs.Written.{At, text_onto}
+
+pub bytes_differ : (xs ys : List ℕ) → xs ≢ ys → bytes_eq xs ys ≡ false
+bytes_differ xs ys h = false_from_ne_true (bytes_eq xs ys) (λ e. h ((bytes_eq-Decides xs ys).0 e))
+
+pub bytes_same : (xs ys : List ℕ) → xs ≡ ys → bytes_eq xs ys ≡ true
+bytes_same xs ys e = (bytes_eq-Decides xs ys).1 e
+
+-- where names differ, each stands at its own place
+pub place_here : (names : List (List ℕ)) → AllPairs (λ name later. name ≢ later) names → (i : ℕ) → i < length names → look.place_of names (get_or names i []) ≡ i
+place_here names differ i l =
+    position_or_len_is (λ other. bytes_eq other (get_or names i [])) names i [] (omega arith)
+    (λ k h. bytes_differ (get_or names k []) (get_or names i []) (differ k i [] h l))
+    (λ h. bytes_same (get_or names i []) (get_or names i []) refl)
+
+-- no value is first seen twice
+pub sights_differ : (xs : List (List ℕ)) → AllPairs (λ x y. x ≢ y) (look.first_sights xs)
+sights_differ [] = λ i j e h l. absurd (omega arith)
+sights_differ (x ∷ xs) =
+    let others = look.first_sights xs in
+    AllPairs-cons (λ y z. y ≢ z) x (filter (λ y. not (bytes_eq x y)) others)
+    (λ k e h same. both_ways (bytes_eq x (get_or (filter (λ y. not (bytes_eq x y)) others) k e)) (not-true (bytes_eq x (get_or (filter (λ y. not (bytes_eq x y)) others) k e)) (filter_passes (λ y. not (bytes_eq x y)) others k e h)) (bytes_same x (get_or (filter (λ y. not (bytes_eq x y)) others) k e) same))
+    (AllPairs-filter (λ y z. y ≢ z) (λ y. not (bytes_eq x y)) others (sights_differ xs))
+
+-- what is kept of each, one after the other
+filter_flat : {A B : Type 0} (f : A → B) (p : A → Bool) (xs : List A) → map f (filter p xs) ≡ flat_map (λ ys. ys) (map (λ x. cond (p x) (f x ∷ []) []) xs)
+filter_flat f p [] = refl
+filter_flat f p (x ∷ xs) = by_test (p x) (filter_flat f p xs) where
+  by_test : (b : Bool) → map f (filter p xs) ≡ flat_map (λ ys. ys) (map (λ y. cond (p y) (f y ∷ []) []) xs) → map f (cond b (x ∷ filter p xs) (filter p xs)) ≡ cond b (f x ∷ []) [] ++ flat_map (λ ys. ys) (map (λ y. cond (p y) (f y ∷ []) []) xs)
+  by_test true e = ap (λ ys. f x ∷ ys) e
+  by_test false e = e
+
+owner_piece : (kind : Kind) (x y : List ℕ) → (kind ≢ Chance → x ≡ y) → cond (look.has_agent (block_kind kind)) (x ∷ []) [] ≡ cond (not (is_chance kind)) (y ∷ []) []
+owner_piece Chance x y h = refl
+owner_piece Decision x y h = ap (λ z. z ∷ []) (h (λ e. cc))
+owner_piece Utility x y h = ap (λ z. z ∷ []) (h (λ e. cc))
+
+owner_case : (kind : Kind) (x y : ℕ) → (kind ≢ Chance → x ≡ y) → (kind ≡ Chance → y ≡ 0) → cond (look.has_agent (block_kind kind)) x 0 ≡ y
+owner_case Chance x y h none = sym (none refl)
+owner_case Decision x y h none = h (λ e. cc)
+owner_case Utility x y h none = h (λ e. cc)
+
+state_case : (kind : Kind) (x y : ℕ) → (kind ≢ Utility → x ≡ y) → (kind ≡ Utility → y ≡ 1) → cond (look.has_states (block_kind kind)) x 1 ≡ y
+state_case Chance x y h one = h (λ e. cc)
+state_case Decision x y h one = h (λ e. cc)
+state_case Utility x y h one = sym (one refl)
+
+module _ (d : DiagramView) (names : NamesView) (is : IsPrintable d names) where
+  abbrev Blocks : List BlockTree
+  Blocks = look.node_blocks (tree_of d names is)
+
+  pub agents_told : look.agents_of (printed d names) Blocks ≡ names.agents
+  agents_told =
+      let piece = λ (n : NodeView). cond (not (is_chance n.kind)) (agent_name names n.owner ∷ []) [] in
+      ap look.first_sights (
+      filter_flat (look.agent_of (printed d names)) (λ b. look.has_agent b.kind) Blocks
+      ∙ ap (flat_map (λ ys. ys)) (
+      tell d names is (λ b. cond (look.has_agent b.kind) (look.agent_of (printed d names) b ∷ []) []) (λ v. piece (node_at d.nodes v))
+      (λ v p more l at. owner_piece (node_at d.nodes v).kind (look.agent_of (printed d names) (node_tree d.nodes names p v)) (agent_name names (node_at d.nodes v).owner) (node_agent_told (printed d names) d.nodes names v p more at))
+      ∙ each_node piece d.nodes)
+      ∙ sym (filter_flat (λ (n : NodeView). agent_name names n.owner) (λ n. not (is_chance n.kind)) d.nodes))
+      ∙ sym is.form.numbered
+
+  agents_differ : AllPairs (λ x y. x ≢ y) names.agents
+  agents_differ = subst (λ agents. AllPairs (λ x y. x ≢ y) agents) (sym is.form.numbered) (sights_differ (map (λ n. agent_name names n.owner) (filter (λ n. not (is_chance n.kind)) d.nodes)))
+
+  pub owners_told : map (λ n. n.owner) d.nodes ≡ map (look.owner_of (printed d names) Blocks) Blocks
+  owners_told = sym (tell d names is (look.owner_of (printed d names) Blocks) (λ v. (node_at d.nodes v).owner) one ∙ each_node (λ n. n.owner) d.nodes) where
+    one : (v p : ℕ) (more : List ℕ) → v < length d.nodes → At (printed d names) p (text_onto (node_words d.nodes names v) more) → look.owner_of (printed d names) Blocks (node_tree d.nodes names p v) ≡ (node_at d.nodes v).owner
+    one v p more l at =
+        let owner = (node_at d.nodes v).owner in
+        owner_case (node_at d.nodes v).kind (look.place_of (look.agents_of (printed d names) Blocks) (look.agent_of (printed d names) (node_tree d.nodes names p v))) owner
+        (λ owned.
+        ap (λ agents. look.place_of agents (look.agent_of (printed d names) (node_tree d.nodes names p v))) agents_told
+        ∙ ap (look.place_of names.agents) (node_agent_told (printed d names) d.nodes names v p more at owned)
+        ∙ place_here names.agents agents_differ owner (subst (λ n. owner < n) (sym is.fit.agents) (is.diagram.owners.agent v l owned)))
+        (is.diagram.owners.chance v)
+
+  pub states_told : map (λ n. n.states) d.nodes ≡ look.state_counts (printed d names) Blocks
+  states_told = sym (tell d names is (look.states_of (printed d names)) (λ v. (node_at d.nodes v).states) one ∙ each_node (λ n. n.states) d.nodes) where
+    one : (v p : ℕ) (more : List ℕ) → v < length d.nodes → At (printed d names) p (text_onto (node_words d.nodes names v) more) → look.states_of (printed d names) (node_tree d.nodes names p v) ≡ (node_at d.nodes v).states
+    one v p more l at =
+        let tree = node_tree d.nodes names p v in
+        state_case (node_at d.nodes v).kind (length (look.label_tokens (printed d names) tree)) (node_at d.nodes v).states
+        (λ some.
+        sym (length-map (look.label_tokens (printed d names) tree) (text_value (printed d names)))
+        ∙ ap length (node_labels_told (printed d names) d.nodes names v p more at (is.utility_labels v))
+        ∙ is.fit.states v l some)
+        (is.diagram.graph.utility_states v)

@@ -1,0 +1,74 @@
+-- Passes that find nothing in the tree of a printed text.
+use Rattle.std.proofs.Common.{◌≡◌, ◌∙◌, ℕ, zero, suc, ◌<◌, List, [], ◌∷◌, length, map, get_or, All, Contains, None, refl, sym, ap, subst}
+use Rattle.std.specs.List.{flat_map}
+use Rattle.std.proofs.lemmas.List.Elements.{All-head, All-tail, All-nil, All-cons, All-filter, Contains-get_or}
+use Rattle.diagram_graph.specs.Cycles.{ListedArc}
+use Rattle.maid_model.specs.Graph.{Arc, IsAcyclic}
+use Rattle.maid_model.specs.Names.{NamesView, name_of}
+use Rattle.maid_model.specs.Nodes.{node_at, numbers_of}
+use Rattle.maid_model.specs.Views.{NodeView, DiagramView}
+use Rattle.net_build.specs.Blocks as look
+use Rattle.net_build.specs.Passes.{Pass, each}
+use Rattle.net_build.specs.Table.{graph_pass, missing_pass, missing_row, table_nodes}
+use Rattle.net_parser.specs.Trees.{BlockTree}
+use Rattle.net_print.specs.Printed.{printed}
+use Rattle.net_print.specs.RoundTrip.{IsPrintable}
+use Rattle.net_print.proofs.Given.{parents_told, potential_title}
+use Rattle.net_print.proofs.Look.{node_blocks_are, potentials_are, at_nodes, at_potentials, node_lines, potential_lines, node_name_told, each_place}
+use Rattle.net_print.proofs.Spelling.{trees_at}
+use Rattle.net_print.proofs.Texts.{numbers_below}
+use Rattle.net_print.proofs.Told.{trees_tell}
+use Rattle.net_print.proofs.Tree.{node_tree, potential_tree, tree_of}
+use Rattle.net_print.proofs.Words.{node_words, potential_words}
+use Rattle.net_print.proofs.Written.{Written, At, at_end, end_at, text_onto, text_onto-append}
+
+-- where nothing is found at each, nothing is found
+each_clear : {A : Type 0} (P : A → Pass) (xs : List A) → All (λ x. P x None) xs → each P xs None
+each_clear P [] all = tt
+each_clear P (x ∷ xs) all = (All-head (λ y. P y None) x xs all, each_clear P xs (All-tail (λ y. P y None) x xs all))
+
+-- what holds of each block of some lines
+trees_hold : (text : List ℕ) (Q : BlockTree → Type 0) (tree : ℕ → ℕ → BlockTree) (lines : ℕ → List Written) (from : ℕ) (vs : List ℕ) (rest : List ℕ) → At text from (text_onto (flat_map lines vs) rest) → All (λ v. (p : ℕ) (more : List ℕ) → At text p (text_onto (lines v) more) → Q (tree p v)) vs → All Q (trees_at tree lines from vs)
+trees_hold text Q tree lines from [] rest at all = All-nil Q
+trees_hold text Q tree lines from (v ∷ vs) rest at all =
+    let more = text_onto (flat_map lines vs) rest in
+    let here : At text from (text_onto (lines v) more) = subst (At text from) (text_onto-append (lines v) (flat_map lines vs) rest) at in
+    All-cons Q (tree from v) (trees_at tree lines (end_at from (lines v)) vs)
+    (All-head (λ u. (p : ℕ) (more : List ℕ) → At text p (text_onto (lines u) more) → Q (tree p u)) v vs all from more here)
+    (trees_hold text Q tree lines (end_at from (lines v)) vs rest (at_end text from (lines v) more here) (All-tail (λ u. (p : ℕ) (more : List ℕ) → At text p (text_onto (lines u) more) → Q (tree p u)) v vs all))
+
+-- the parents of a node as a list's place
+parents_at : (nodes : List NodeView) (v : ℕ) → get_or (map (λ n. n.parents) nodes) v [] ≡ (node_at nodes v).parents
+parents_at [] v = refl
+parents_at (n ∷ nodes) zero = refl
+parents_at (n ∷ nodes) (suc v) = parents_at nodes v
+
+module _ (d : DiagramView) (names : NamesView) (is : IsPrintable d names) where
+  abbrev Text : List ℕ
+  Text = printed d names
+
+  abbrev Blocks : List BlockTree
+  Blocks = tree_of d names is
+
+  pub graph_clear : graph_pass Text Blocks None
+  unfolding graph_pass
+  graph_clear =
+      let arcs : Arc d.nodes ≡ ListedArc (map (λ n. n.parents) d.nodes) = λ j u v. Contains (sym (parents_at d.nodes v) j) u in
+      subst (λ lists. IsAcyclic (ListedArc lists)) (parents_told d names is) (subst IsAcyclic arcs is.diagram.graph.acyclic)
+
+  -- the heads of the potentials are all names
+  pub heads_told : look.names_of Text (look.potentials Blocks) ≡ names.nodes
+  heads_told =
+      ap (map (look.name_of Text)) (potentials_are d names is)
+      ∙ trees_tell Text (look.name_of Text) (name_of names) (potential_tree d names) (potential_words d names) (end_at 0 (node_lines d names is)) (numbers_of d.nodes) [] (at_potentials d names is) (λ k e h p more at. potential_title d names is (get_or (numbers_of d.nodes) k e) p more at)
+      ∙ each_place names.nodes (length d.nodes) [] is.fit.nodes
+
+  -- what holds of each node's block
+  nodes_hold : (Q : BlockTree → Type 0) → ((v p : ℕ) (more : List ℕ) → v < length d.nodes → At Text p (text_onto (node_words d.nodes names v) more) → Q (node_tree d.nodes names p v)) → All Q (look.node_blocks Blocks)
+  nodes_hold Q one = subst (All Q) (sym (node_blocks_are d names is)) (trees_hold Text Q (node_tree d.nodes names) (node_words d.nodes names) 0 (numbers_of d.nodes) (text_onto (potential_lines d names is) []) (at_nodes d names is) (λ k e h p more at. one (get_or (numbers_of d.nodes) k e) p more (numbers_below (length d.nodes) k e h) at))
+
+  pub missing_clear : missing_pass Text Blocks None
+  unfolding missing_pass
+  missing_clear = each_clear (missing_row Text Blocks) (table_nodes Blocks) (All-filter (λ b. look.has_table b.kind) (λ b. missing_row Text Blocks b None) (look.node_blocks Blocks) (nodes_hold (λ b. missing_row Text Blocks b None) one)) where
+    one : (v p : ℕ) (more : List ℕ) → v < length d.nodes → At Text p (text_onto (node_words d.nodes names v) more) → missing_row Text Blocks (node_tree d.nodes names p v) None
+    one v p more l at none = none (subst (λ list. Contains list (look.name_of Text (node_tree d.nodes names p v))) (sym heads_told) (subst (Contains names.nodes) (sym (node_name_told Text d.nodes names v p more at)) (Contains-get_or names.nodes v [] (subst (λ n. v < n) (sym is.fit.nodes) l))))

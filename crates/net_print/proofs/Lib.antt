@@ -1,0 +1,16 @@
+pub mod Divisors
+pub mod Rows
+pub mod Steps
+pub mod Written
+pub mod Forms
+pub mod Words
+pub mod Texts
+pub mod Spelling
+pub mod Tree
+pub mod Told
+pub mod Look
+pub mod Agents
+pub mod Given
+pub mod Faultless
+pub mod PotentialPass
+pub mod ReadBack

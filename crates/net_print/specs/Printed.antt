@@ -1,0 +1,105 @@
+-- The text of a diagram: a line for each node block, and then a line for each potential, both in the order of the nodes.
+use Rattle.std.specs.Prelude.{ℕ, zero, suc, ◌-◌, ◌/◌, ◌%◌, ◌^◌, ◌==◌, ℤ, pos, negsuc, unsigned_abs, List, [], ◌∷◌, ◌++◌, length, map, sum, replicate, codes, decimal, if◌then◌else◌}
+use Rattle.std.specs.List.{flat_map, list_all, range_with_len}
+use Rattle.maid_model.specs.declared.diagrams.Kind.{Kind}
+use Rattle.maid_model.specs.declared.diagrams.Kind.TheVariants.{Chance, Decision, Utility}
+use Rattle.maid_model.specs.Names.{NamesView, name_of, labels_of, agent_name}
+use Rattle.maid_model.specs.Nodes.{node_at, rows_of, numbers_of}
+use Rattle.maid_model.specs.Reports.{line, quoted}
+use Rattle.maid_model.specs.Views.{NodeView, DiagramView}
+use Rattle.weight_scale.specs.Scaling.{row_at}
+
+-- the text of each, parted by one space
+abbrev pub parted : {A : Type 0} → (A → List ℕ) → List A → List ℕ
+parted text [] = []
+parted text (x ∷ xs) = text x ++ flat_map (λ y. 32 ∷ text y) xs
+
+-- the word that begins a node's block
+abbrev pub kind_word : Kind → List ℕ
+kind_word Chance = codes "node"
+kind_word Decision = codes "decision"
+kind_word Utility = codes "utility"
+
+abbrev pub states_text : List (List ℕ) → List ℕ
+states_text labels = codes "states = (" ++ parted quoted labels ++ codes "); "
+
+abbrev pub agent_text : List ℕ → List ℕ
+agent_text agent = codes "agent = " ++ quoted agent ++ codes "; "
+
+-- a chance node and a decision have states, and a decision and a utility have an agent
+abbrev pub attributes_text : Kind → List (List ℕ) → List ℕ → List ℕ
+attributes_text Chance labels agent = states_text labels
+attributes_text Decision labels agent = states_text labels ++ agent_text agent
+attributes_text Utility labels agent = agent_text agent
+
+-- what stands behind a head: attributes in braces
+abbrev pub body_text : List ℕ → List ℕ
+body_text attributes = codes " { " ++ attributes ++ codes "}"
+
+-- a node's block
+abbrev pub node_line : List NodeView → NamesView → ℕ → List ℕ
+node_line nodes names v = let node = node_at nodes v in line (kind_word node.kind ++ 32 ∷ name_of names v ++ body_text (attributes_text node.kind (labels_of names v) (agent_name names node.owner)))
+
+-- the names of the parents behind a bar; without parents there is no bar
+abbrev pub given_text : NamesView → List ℕ → List ℕ
+given_text names [] = []
+given_text names (u ∷ us) = codes " | " ++ parted (name_of names) (u ∷ us)
+
+-- the greatest number up to n that divides each
+unfoldable pub greatest_divisor : ℕ → List ℕ → ℕ
+greatest_divisor zero row = 0
+greatest_divisor (suc n) row = if list_all (λ x. x % suc n == 0) row then suc n else greatest_divisor n row
+
+-- the greatest common divisor of a row's weights, which isn't greater than their sum
+abbrev pub row_divisor : List ℕ → ℕ
+row_divisor row = greatest_divisor (sum row) row
+
+-- the row over its greatest common divisor
+abbrev pub reduced_row : List ℕ → List ℕ
+reduced_row row = map (λ x. x / row_divisor row) row
+
+-- the reduced rows of a table of so many rows, one after the other
+abbrev pub reduced_rows : ℕ → ℕ → List ℤ → List ℕ
+reduced_rows states rows cells = flat_map (λ r. reduced_row (map unsigned_abs (row_at states cells r))) (range_with_len 0 rows)
+
+-- the digits of a number with noughts before them, so many in all
+abbrev pub padded : ℕ → ℕ → List ℕ
+padded width number = replicate (width - length (decimal number)) 48 ++ decimal number
+
+-- size / 10^k with the least number of decimals: while there are decimals, a nought at the end is dropped
+abbrev pub size_text : ℕ → ℕ → List ℕ
+size_text zero size = decimal size
+size_text (suc k) size = if size % 10 == 0 then size_text k (size / 10) else decimal (size / 10 ^ suc k) ++ 46 ∷ padded (suc k) (size % 10 ^ suc k)
+
+-- a minus where the number is below nought
+abbrev pub sign_text : ℤ → List ℕ
+sign_text (pos n) = []
+sign_text (negsuc n) = 45 ∷ []
+
+-- the decimal cell / 10^k
+abbrev pub value_text : ℕ → ℤ → List ℕ
+value_text k cell = sign_text cell ++ size_text k (unsigned_abs cell)
+
+-- a chance node's reduced rows, and a utility's values
+abbrev pub numbers_text : Kind → ℕ → ℕ → ℕ → List ℤ → List ℕ
+numbers_text Chance decimals states rows cells = parted decimal (reduced_rows states rows cells)
+numbers_text Decision decimals states rows cells = []
+numbers_text Utility decimals states rows cells = parted (value_text decimals) cells
+
+-- the numbers of a chance node or a utility; a decision has no table
+abbrev pub table_text : Kind → ℕ → ℕ → ℕ → List ℤ → List ℕ
+table_text Chance decimals states rows cells = codes "data = (" ++ numbers_text Chance decimals states rows cells ++ codes "); "
+table_text Decision decimals states rows cells = []
+table_text Utility decimals states rows cells = codes "data = (" ++ numbers_text Utility decimals states rows cells ++ codes "); "
+
+-- a potential's head
+abbrev pub head_text : NamesView → ℕ → List ℕ → List ℕ
+head_text names v parents = codes "potential (" ++ name_of names v ++ given_text names parents ++ codes ")"
+
+-- a node's potential
+abbrev pub potential_line : DiagramView → NamesView → ℕ → List ℕ
+potential_line d names v = let node = node_at d.nodes v in line (head_text names v node.parents ++ body_text (table_text node.kind d.decimals node.states (rows_of d.nodes v) node.cells))
+
+-- the text of a diagram
+unfoldable pub printed : DiagramView → NamesView → List ℕ
+printed d names = flat_map (node_line d.nodes names) (numbers_of d.nodes) ++ flat_map (potential_line d names) (numbers_of d.nodes)

@@ -1,0 +1,133 @@
+//! The lines of node blocks.
+
+ghost use Rattle.std.specs.Prelude.{◌≡◌, ◌≢◌, ◌<◌, [], ◌∷◌, ◌++◌, OnOk, length, codes};
+ghost use Rattle.std.specs.List.{flat_map};
+ghost use Rattle.maid_model.specs.declared.diagrams.Kind.TheVariants.{Chance, Utility};
+ghost use Rattle.maid_model.specs.Names.{NamesFit, labels_of, agent_name};
+ghost use Rattle.maid_model.specs.Nodes.{node_at, numbers_of};
+ghost use Rattle.maid_model.specs.Reports.{quoted};
+ghost use Rattle.net_print.specs.Printed.{agent_text, attributes_text, kind_word, node_line, parted, states_text};
+
+use crate::pieces::{push_gap, push_quoted};
+use maid_model::{Diagram, Kind};
+use net_build::Names;
+use std::alloc::AllocError;
+
+// The word that begins a node's block.
+fn kind_word(kind: Kind) -> &'static [u8]
+    ensures { result.now ≡ kind_word kind }
+{
+    match kind {
+        Kind::Chance => b"node",
+        Kind::Decision => b"decision",
+        Kind::Utility => b"utility",
+    }
+}
+
+// Appends the labels of a chance node or a decision, parted by one space.
+fn push_labels(
+    out: &mut Vec<u8>,
+    diagram: &Diagram,
+    names: &Names,
+    node: usize,
+) -> Result<(), AllocError>
+    requires fit { NamesFit diagram.now names.now }
+    requires node { node < length diagram.now.nodes }
+    requires kind { (node_at diagram.now.nodes node).kind ≢ Utility }
+    ensures { OnOk result (out.new.items ≡ out.old.items ++ parted quoted (labels_of names.now node)) }
+{
+    for state in 0..diagram.states(node) {
+        push_gap(out, state)?;
+        push_quoted(out, names.label(node, state))?;
+    }
+    Ok(())
+}
+
+// Appends the states of a chance node or a decision.
+#[tactic(auto, using(std::proofs::Common::append_assoc))]
+fn push_states(
+    out: &mut Vec<u8>,
+    diagram: &Diagram,
+    names: &Names,
+    node: usize,
+) -> Result<(), AllocError>
+    requires fit { NamesFit diagram.now names.now }
+    requires node { node < length diagram.now.nodes }
+    requires kind { (node_at diagram.now.nodes node).kind ≢ Utility }
+    ensures { OnOk result (out.new.items ≡ out.old.items ++ states_text (labels_of names.now node)) }
+{
+    out.extend_from_slice(b"states = (")?;
+    push_labels(out, diagram, names, node)?;
+    out.extend_from_slice(b"); ")
+}
+
+// Appends the agent of a decision or a utility.
+#[tactic(auto, using(std::proofs::Common::append_assoc))]
+fn push_agent(
+    out: &mut Vec<u8>,
+    diagram: &Diagram,
+    names: &Names,
+    node: usize,
+) -> Result<(), AllocError>
+    requires fit { NamesFit diagram.now names.now }
+    requires node { node < length diagram.now.nodes }
+    requires kind { (node_at diagram.now.nodes node).kind ≢ Chance }
+    ensures { OnOk result (out.new.items ≡ out.old.items ++ agent_text (agent_name names.now (node_at diagram.now.nodes node).owner)) }
+{
+    out.extend_from_slice(b"agent = ")?;
+    push_quoted(out, names.agent(diagram.owner(node)))?;
+    out.extend_from_slice(b"; ")
+}
+
+// Appends the attributes of a node's block.
+#[tactic(auto, using(std::proofs::Common::append_assoc))]
+fn push_attributes(
+    out: &mut Vec<u8>,
+    diagram: &Diagram,
+    names: &Names,
+    node: usize,
+) -> Result<(), AllocError>
+    requires fit { NamesFit diagram.now names.now }
+    requires node { node < length diagram.now.nodes }
+    ensures { OnOk result (out.new.items ≡ out.old.items ++ attributes_text (node_at diagram.now.nodes node).kind (labels_of names.now node) (agent_name names.now (node_at diagram.now.nodes node).owner)) }
+{
+    match diagram.kind(node) {
+        Kind::Chance => push_states(out, diagram, names, node),
+        Kind::Decision => {
+            push_states(out, diagram, names, node)?;
+            push_agent(out, diagram, names, node)
+        }
+        Kind::Utility => push_agent(out, diagram, names, node),
+    }
+}
+
+// Appends the line of a node's block.
+#[tactic(auto, using(std::proofs::Common::append_assoc))]
+fn push_block(
+    out: &mut Vec<u8>,
+    diagram: &Diagram,
+    names: &Names,
+    node: usize,
+) -> Result<(), AllocError>
+    requires fit { NamesFit diagram.now names.now }
+    requires node { node < length diagram.now.nodes }
+    ensures { OnOk result (out.new.items ≡ out.old.items ++ node_line diagram.now.nodes names.now node) }
+{
+    out.extend_from_slice(kind_word(diagram.kind(node)))?;
+    out.push(b' ')?;
+    out.extend_from_slice(names.name(node))?;
+    out.extend_from_slice(b" { ")?;
+    push_attributes(out, diagram, names, node)?;
+    out.extend_from_slice(b"}\n")
+}
+
+/// Appends a line for each node's block.
+pub fn push_blocks(out: &mut Vec<u8>, diagram: &Diagram, names: &Names) -> Result<(), AllocError>
+    requires { NamesFit diagram.now names.now }
+    ensures { OnOk result (out.new.items ≡ out.old.items ++ flat_map (node_line diagram.now.nodes names.now) (numbers_of diagram.now.nodes)) }
+{
+    for node in 0..diagram.count() {
+        push_block(out, diagram, names, node)?;
+    }
+    Ok(())
+}

@@ -1,0 +1,15 @@
+//! A diagram and its names, printed as a text that reads back as the same diagram and names.
+#![tactic(auto)]
+
+mod blocks;
+mod laws;
+mod numbers;
+mod pieces;
+mod potentials;
+mod printing;
+
+pub use laws::printed_texts_spell_trees;
+pub use printing::print;
+
+#[cfg(test)]
+mod tests;

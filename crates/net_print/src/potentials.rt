@@ -1,0 +1,151 @@
+//! The lines of potentials.
+
+ghost use Rattle.std.specs.Prelude.{◌≡◌, ◌≢◌, ◌<◌, ◌≤◌, [], ◌∷◌, ◌++◌, All, OnOk, length, decimal};
+ghost use Rattle.std.specs.List.{flat_map};
+ghost use Rattle.maid_model.specs.declared.diagrams.Kind.TheVariants.{Chance};
+ghost use Rattle.maid_model.specs.Names.{NamesFit, name_of};
+ghost use Rattle.maid_model.specs.Nodes.{node_at, numbers_of, parents_of, rows_of, states_of};
+ghost use Rattle.net_print.specs.Printed.{given_text, head_text, numbers_text, parted, potential_line, reduced_rows, table_text, value_text};
+
+use crate::numbers::{push_reduced_row, push_value};
+use crate::pieces::push_gap;
+use maid_model::{Diagram, Kind};
+use net_build::Names;
+use std::alloc::AllocError;
+
+// Appends the names of these nodes, parted by one space.
+fn push_names(out: &mut Vec<u8>, names: &Names, list: &[usize]) -> Result<(), AllocError>
+    requires { All (λ v. v < length names.now.nodes) list.now }
+    ensures { OnOk result (out.new.items ≡ out.old.items ++ parted (name_of names.now) list.now) }
+{
+    for (place, node) in list.iter().enumerate() {
+        push_gap(out, place)?;
+        out.extend_from_slice(names.name(*node))?;
+    }
+    Ok(())
+}
+
+// Appends a bar and the names of the parents, if there are any.
+#[tactic(auto, using(std::proofs::Common::append_assoc))]
+fn push_given(
+    out: &mut Vec<u8>,
+    diagram: &Diagram,
+    names: &Names,
+    node: usize,
+) -> Result<(), AllocError>
+    requires fit { NamesFit diagram.now names.now }
+    requires node { node < length diagram.now.nodes }
+    ensures { OnOk result (out.new.items ≡ out.old.items ++ given_text names.now (parents_of diagram.now.nodes node)) }
+{
+    let parents = diagram.parents(node);
+    if parents.is_empty() {
+        return Ok(());
+    }
+    out.extend_from_slice(b" | ")?;
+    push_names(out, names, parents)
+}
+
+// Appends the reduced rows of a chance node.
+fn push_rows(out: &mut Vec<u8>, diagram: &Diagram, node: usize) -> Result<(), AllocError>
+    requires node { node < length diagram.now.nodes }
+    requires kind { (node_at diagram.now.nodes node).kind ≡ Chance }
+    ensures { OnOk result (out.new.items ≡ out.old.items ++ parted decimal (reduced_rows (states_of diagram.now.nodes node) (rows_of diagram.now.nodes node) (node_at diagram.now.nodes node).cells)) }
+{
+    let cells = diagram.cells(node);
+    let states = diagram.states(node);
+    for row in 0..diagram.rows(node) {
+        let start = row * states;
+        push_reduced_row(out, &cells[start..start + states], start)?;
+    }
+    Ok(())
+}
+
+// Appends the values of a utility.
+fn push_values(out: &mut Vec<u8>, cells: &[i128], decimals: u32) -> Result<(), AllocError>
+    requires { decimals ≤ 30 }
+    ensures { OnOk result (out.new.items ≡ out.old.items ++ parted (value_text decimals) cells.now) }
+{
+    for (place, cell) in cells.iter().enumerate() {
+        push_gap(out, place)?;
+        push_value(out, *cell, decimals)?;
+    }
+    Ok(())
+}
+
+// Appends the numbers of a chance node or a utility.
+fn push_numbers(out: &mut Vec<u8>, diagram: &Diagram, node: usize) -> Result<(), AllocError>
+    requires node { node < length diagram.now.nodes }
+    ensures { OnOk result (out.new.items ≡ out.old.items ++ numbers_text (node_at diagram.now.nodes node).kind diagram.now.decimals (states_of diagram.now.nodes node) (rows_of diagram.now.nodes node) (node_at diagram.now.nodes node).cells) }
+{
+    match diagram.kind(node) {
+        Kind::Chance => push_rows(out, diagram, node),
+        Kind::Decision => Ok(()),
+        Kind::Utility => push_values(out, diagram.cells(node), diagram.decimals()),
+    }
+}
+
+// Appends the table of a node; a decision has none.
+#[tactic(auto, using(std::proofs::Common::append_assoc))]
+fn push_table(out: &mut Vec<u8>, diagram: &Diagram, node: usize) -> Result<(), AllocError>
+    requires { node < length diagram.now.nodes }
+    ensures { OnOk result (out.new.items ≡ out.old.items ++ table_text (node_at diagram.now.nodes node).kind diagram.now.decimals (states_of diagram.now.nodes node) (rows_of diagram.now.nodes node) (node_at diagram.now.nodes node).cells) }
+{
+    if diagram.kind(node) == Kind::Decision {
+        return Ok(());
+    }
+    out.extend_from_slice(b"data = (")?;
+    push_numbers(out, diagram, node)?;
+    out.extend_from_slice(b"); ")
+}
+
+// Appends the head of a node's potential.
+#[tactic(auto, using(std::proofs::Common::append_assoc))]
+fn push_head(
+    out: &mut Vec<u8>,
+    diagram: &Diagram,
+    names: &Names,
+    node: usize,
+) -> Result<(), AllocError>
+    requires fit { NamesFit diagram.now names.now }
+    requires node { node < length diagram.now.nodes }
+    ensures { OnOk result (out.new.items ≡ out.old.items ++ head_text names.now node (parents_of diagram.now.nodes node)) }
+{
+    out.extend_from_slice(b"potential (")?;
+    out.extend_from_slice(names.name(node))?;
+    push_given(out, diagram, names, node)?;
+    out.push(b')')?;
+    Ok(())
+}
+
+// Appends the line of a node's potential.
+#[tactic(auto, using(std::proofs::Common::append_assoc))]
+fn push_potential(
+    out: &mut Vec<u8>,
+    diagram: &Diagram,
+    names: &Names,
+    node: usize,
+) -> Result<(), AllocError>
+    requires fit { NamesFit diagram.now names.now }
+    requires node { node < length diagram.now.nodes }
+    ensures { OnOk result (out.new.items ≡ out.old.items ++ potential_line diagram.now names.now node) }
+{
+    push_head(out, diagram, names, node)?;
+    out.extend_from_slice(b" { ")?;
+    push_table(out, diagram, node)?;
+    out.extend_from_slice(b"}\n")
+}
+
+/// Appends a line for each node's potential.
+pub fn push_potentials(
+    out: &mut Vec<u8>,
+    diagram: &Diagram,
+    names: &Names,
+) -> Result<(), AllocError>
+    requires { NamesFit diagram.now names.now }
+    ensures { OnOk result (out.new.items ≡ out.old.items ++ flat_map (potential_line diagram.now names.now) (numbers_of diagram.now.nodes)) }
+{
+    for node in 0..diagram.count() {
+        push_potential(out, diagram, names, node)?;
+    }
+    Ok(())
+}
