@@ -1,9 +1,10 @@
 #!/usr/bin/env python3
 """Writes crates/worked_rows/stdin and stdout from worked rows given as data.
 
-    bench/rows.py ROWS.json STAGE
+    bench/rows.py STAGE ROWS.json..
 
-What must come is taken from the data alone and never from the program. STAGE is the number of
+The rows of our own are bench/more_rows.json, each with why it is there. What must come is taken from
+the data alone and never from the program. STAGE is the number of
 changes made so far: a row holds from one such number to another. To take up a new form of words,
 add it to FORMS and run this again. Of a row that tells only that a line is among those of `out`,
 no more than the status and `err` are compared.
@@ -79,14 +80,16 @@ def told(row):
 
 def is_taken(row, stage):
     first = row["words"][0] if row["words"] else ""
-    holds = row["from"] <= stage and (row["to"] is None or stage <= row["to"])
+    holds = row.get("from", 0) <= stage and (row.get("to") is None or stage <= row["to"])
     return holds and (first in FORMS or first not in ALL_FORMS)
 
 
 def main():
-    with open(sys.argv[1], encoding="utf-8") as file:
-        rows = json.load(file)["rows"]
-    stage = int(sys.argv[2])
+    stage = int(sys.argv[1])
+    rows = []
+    for name in sys.argv[2:]:
+        with open(name, encoding="utf-8") as file:
+            rows += json.load(file)["rows"]
     # Of rows that run on the same, the one that tells most counts.
     runs = {}
     for row in rows:
