@@ -8,7 +8,7 @@ ghost use Rattle.net_parser.specs.Owned.{IsBlockOf};
 ghost use Rattle.maid_app.specs.Faults.{cycle_names, kind_words, limit_words};
 ghost use Rattle.maid_app.specs.Words.{node_titles};
 
-use crate::lines::push_number;
+use line_pieces::push_number;
 use net_build::{BuildKind, Limit};
 use net_lexer::Token;
 use net_parser::{Block, BlockKind, Syntax};

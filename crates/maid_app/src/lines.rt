@@ -1,11 +1,11 @@
 //! The lines that go to `err`.
 
-ghost use Rattle.std.specs.Prelude.{◌≡◌, ◌++◌, IfOk, OnOk, decimal};
+ghost use Rattle.std.specs.Prelude.{◌≡◌, ◌++◌, IfOk};
 ghost use Rattle.maid_model.specs.Reports.{line};
 ghost use Rattle.maid_app.specs.Lines.{fault_line};
 
 use app_lines::place;
-use itoa::Buffer;
+use line_pieces::push_number;
 use std::alloc::{AllocError, Global};
 
 /// The line for words that are of no form.
@@ -26,14 +26,6 @@ pub fn told(alloc: Global, head: &[u8], name: &[u8]) -> Result<Vec<u8>, AllocErr
     text.extend_from_slice(name)?;
     text.push(b'\n')?;
     Ok(text)
-}
-
-/// Appends a whole number.
-pub fn push_number(text: &mut Vec<u8>, number: u128) -> Result<(), AllocError>
-    ensures { OnOk result (text.new.items ≡ text.old.items ++ decimal number) }
-{
-    let mut buffer = Buffer::new();
-    text.extend_from_slice(buffer.format(number).as_bytes())
 }
 
 /// The line of a fault of the file's bytes: the file, the line and the column of the place, and what is wrong there. A

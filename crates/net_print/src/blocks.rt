@@ -8,7 +8,8 @@ ghost use Rattle.maid_model.specs.Nodes.{node_at, numbers_of};
 ghost use Rattle.maid_model.specs.Reports.{quoted};
 ghost use Rattle.net_print.specs.Printed.{agent_text, attributes_text, kind_word, node_line, parted, states_text};
 
-use crate::pieces::{push_gap, push_quoted};
+use crate::pieces::push_gap;
+use line_pieces::push_quoted;
 use maid_model::{Diagram, Kind};
 use net_build::Names;
 use std::alloc::AllocError;

@@ -6,16 +6,9 @@ ghost use Rattle.net_print.specs.Parts.{parted_behind};
 
 use crate::pieces::push_gap;
 use itoa::Buffer;
+use line_pieces::push_number;
 use std::alloc::AllocError;
 use whole_num::gcd;
-
-/// Appends a whole number from nought.
-pub fn push_number(out: &mut Vec<u8>, number: u128) -> Result<(), AllocError>
-    ensures { OnOk result (out.new.items ≡ out.old.items ++ decimal number) }
-{
-    let mut buffer = Buffer::new();
-    out.extend_from_slice(buffer.format(number).as_bytes())
-}
 
 fn push_noughts(out: &mut Vec<u8>, count: usize) -> Result<(), AllocError>
     ensures { OnOk result (out.new.items ≡ out.old.items ++ replicate count 48) }

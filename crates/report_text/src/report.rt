@@ -6,7 +6,8 @@ ghost use Rattle.maid_model.specs.Nodes.{IsDecision, node_at, parents_of, states
 ghost use Rattle.maid_model.specs.Reports.{choice_text, decision_head, decision_lines, gain_line, gain_lines, names_line, parent_states, quoted, report, row_line, spaced, state_labels, worth_text};
 ghost use Rattle.maid_model.specs.declared.diagrams.Kind.TheVariants.{Utility};
 
-use crate::pieces::{push_number, push_quoted, push_ratio};
+use crate::pieces::push_ratio;
+use line_pieces::{push_names, push_number, push_quoted};
 use maid_model::{Answer, Diagram, Ratio, Row, Solved};
 use net_build::Names;
 use std::alloc::{AllocError, Global};
@@ -18,18 +19,6 @@ fn parents_of(diagram: &Diagram, node: usize) -> &[usize]
     ensures known { All (λ u. (u < length diagram.now.nodes) × ((node_at diagram.now.nodes u).kind ≢ Utility)) result.now }
 {
     diagram.node(node).parents.as_slice()
-}
-
-// Appends each node's name after one space.
-fn push_names(out: &mut Vec<u8>, names: &Names, list: &[usize]) -> Result<(), AllocError>
-    requires { All (λ v. v < length names.now.nodes) list.now }
-    ensures { OnOk result (out.new.items ≡ out.old.items ++ spaced (map (name_of names.now) list.now)) }
-{
-    for node in list {
-        out.push(b' ')?;
-        out.extend_from_slice(names.name(*node))?;
-    }
-    Ok(())
 }
 
 // How many states the node has, at least one.

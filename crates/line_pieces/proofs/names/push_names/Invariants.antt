@@ -1,7 +1,7 @@
 use Rattle.std.proofs.Common.{◌≡◌, ◌++◌, map, take}
 use Rattle.maid_model.specs.Names.{name_of}
 use Rattle.maid_model.specs.Reports.{spaced}
-use Rattle.app_lines.proofs.names.push_names.Given as goal
+use Rattle.line_pieces.proofs.names.push_names.Given as goal
 
 -- the names so far
 abbrev pub invariant-loop-node : goal.invariant-loop-node

@@ -1,6 +1,6 @@
-use Rattle.std.proofs.Common.{◌≡◌, ◌∷◌, ◌++◌, take, flat_map}
+use Rattle.std.proofs.Common.{◌≡◌, ◌∷◌, [], ◌++◌, take, flat_map}
 use Rattle.maid_model.specs.Reports.{escaped}
-use Rattle.net_print.proofs.pieces.push_quoted.Given as goal
+use Rattle.line_pieces.proofs.strings.push_quoted.Given as goal
 
 -- the opening quote and the bytes so far
 abbrev pub invariant-loop-byte : goal.invariant-loop-byte
