@@ -1,9 +1,9 @@
 -- What a diagram keeps of a node's parents.
-use Rattle.std.proofs.Common.{◌≡◌, ◌≢◌, ℕ, ◌<◌, List, length, map, All, get_or, subst, sym}
+use Rattle.std.proofs.Common.{◌≢◌, ℕ, ◌<◌, length, All, get_or, subst, sym}
 use Rattle.std.proofs.lemmas.List.Elements.{All-contains_itself, All-map}
 use Rattle.maid_model.specs.declared.diagrams.Kind.TheVariants.{Utility}
 use Rattle.maid_model.specs.Views.{DiagramView, AnswerView, SolvedView}
-use Rattle.maid_model.specs.Answers.{FitsAnswer, FitsDiagram}
+use Rattle.maid_model.specs.Answers.{FitsDiagram}
 use Rattle.maid_model.specs.Names.{NamesView, NamesFit}
 use Rattle.maid_model.specs.Diagrams.{IsDiagram}
 use Rattle.maid_model.specs.Nodes.{node_at, parents_of}

@@ -1,4 +1,4 @@
-use Rattle.std.proofs.Common.{◌≡◌, ◌∷◌, [], ◌++◌, take, flat_map}
+use Rattle.std.proofs.Common.{◌≡◌, ◌∷◌, ◌++◌, take, flat_map}
 use Rattle.maid_model.specs.Reports.{escaped}
 use Rattle.line_pieces.proofs.strings.push_quoted.Given as goal
 

@@ -1,4 +1,4 @@
-use Rattle.std.proofs.Common.{◌≡◌, ◌≢◌, ℕ, ◌<◌, length, All, subst, sym, rules}
+use Rattle.std.proofs.Common.{◌≡◌, ◌≢◌, ◌<◌, length, All, subst, sym, rules}
 use Rattle.maid_model.specs.declared.diagrams.Kind.TheVariants.{Utility}
 use Rattle.maid_model.specs.Nodes.{node_at, parents_of}
 use Rattle.report_text.proofs.Parents.{parents_known}
