@@ -63,7 +63,7 @@ owner_case Chance x y h none = sym (none refl)
 owner_case Decision x y h none = h (λ e. cc)
 owner_case Utility x y h none = h (λ e. cc)
 
-state_case : (kind : Kind) (x y : ℕ) → (kind ≢ Utility → x ≡ y) → (kind ≡ Utility → y ≡ 1) → cond (look.has_states (block_kind kind)) x 1 ≡ y
+pub state_case : (kind : Kind) (x y : ℕ) → (kind ≢ Utility → x ≡ y) → (kind ≡ Utility → y ≡ 1) → cond (look.has_states (block_kind kind)) x 1 ≡ y
 state_case Chance x y h one = h (λ e. cc)
 state_case Decision x y h one = h (λ e. cc)
 state_case Utility x y h one = sym (one refl)

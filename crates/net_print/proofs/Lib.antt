@@ -14,3 +14,6 @@ pub mod Given
 pub mod Faultless
 pub mod PotentialPass
 pub mod ReadBack
+pub mod TablesTold
+pub mod UtilityCells
+pub mod WidePass

@@ -51,7 +51,7 @@ module _ (d : DiagramView) (names : NamesView) (is : IsPrintable d names) where
       let same : name_of names (get_or us k v) ≡ name_of names v = sym (get_or-map (name_of names) us k v (name_of names v) within) ∙ e in
       (k, within, one_node (get_or us k v) v (all k v within) l same)
 
-  kind_told : (u : ℕ) → u < length d.nodes → kind_named Text Nodes (name_of names u) ≡ (node_at d.nodes u).kind
+  pub kind_told : (u : ℕ) → u < length d.nodes → kind_named Text Nodes (name_of names u) ≡ (node_at d.nodes u).kind
   kind_told u l =
       let place : look.place_of (look.names_of Text Nodes) (name_of names u) ≡ u = ap (λ list. look.place_of list (name_of names u)) (names_told d names is) ∙ place_told d names is u l in
       ap (λ kinds. get_or kinds (look.place_of (look.names_of Text Nodes) (name_of names u)) Chance) (sym (kinds_told d names is))
