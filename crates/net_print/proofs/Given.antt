@@ -140,7 +140,7 @@ module _ (d : DiagramView) (names : NamesView) (is : IsPrintable d names) where
   abbrev Blocks : List BlockTree
   Blocks = tree_of d names is
 
-  conditions_told : (v p : ℕ) (more : List ℕ) → At (printed d names) p (text_onto (potential_words d names v) more) → look.condition_places (printed d names) (look.node_blocks Blocks) (potential_tree d names p v) ≡ (node_at d.nodes v).parents
+  pub conditions_told : (v p : ℕ) (more : List ℕ) → At (printed d names) p (text_onto (potential_words d names v) more) → look.condition_places (printed d names) (look.node_blocks Blocks) (potential_tree d names p v) ≡ (node_at d.nodes v).parents
   conditions_told v p more at =
       let parents = (node_at d.nodes v).parents in
       let tokens = drop 1 (head_tokens p names v parents) in

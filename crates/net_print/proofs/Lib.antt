@@ -14,3 +14,6 @@ pub mod Given
 pub mod Faultless
 pub mod PotentialPass
 pub mod ReadBack
+pub mod CountsTold
+pub mod ClearPasses
+pub mod NodeRows
