@@ -17,3 +17,6 @@ pub mod ReadBack
 pub mod TablesTold
 pub mod UtilityCells
 pub mod WidePass
+pub mod CountsTold
+pub mod ClearPasses
+pub mod NodeRows
