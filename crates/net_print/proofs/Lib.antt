@@ -20,3 +20,4 @@ pub mod WidePass
 pub mod CountsTold
 pub mod ClearPasses
 pub mod NodeRows
+pub mod TablePass
