@@ -14,3 +14,4 @@ pub mod Given
 pub mod Faultless
 pub mod PotentialPass
 pub mod ReadBack
+pub mod DigitValues
