@@ -117,8 +117,7 @@ decimal_read n h =
     let are = forms.decimal_digits n h in
     let plain = plain_unsigned (decimal n) (Whole are) in
     let spelt = whole_spelt (decimal n) are.all in
-    let sign : is_minus (decimal n) ≡ false = ap is_minus (sym (append-nil (decimal n))) ∙ digits_no_minus (decimal n) [] are in
-    (
+    let sign : is_minus (decimal n) ≡ false = ap is_minus (sym (append-nil (decimal n))) ∙ digits_no_minus (decimal n) [] are in (
       numerator_is (decimal n) (decimal n) (decimal n) [] false sign plain spelt ∙ ap pos (ap number_of (append-nil (decimal n)) ∙ number_of-decimal n h),
-      denominator_is (decimal n) (decimal n) (decimal n) [] plain spelt ∙ pow-zero 10
+      denominator_is (decimal n) (decimal n) (decimal n) [] plain spelt ∙ pow-zero 10,
     )

@@ -15,3 +15,4 @@ pub mod Faultless
 pub mod PotentialPass
 pub mod ReadBack
 pub mod DigitValues
+pub mod ValueTexts
