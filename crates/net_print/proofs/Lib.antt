@@ -16,3 +16,5 @@ pub mod PotentialPass
 pub mod ReadBack
 pub mod DigitValues
 pub mod ValueTexts
+pub mod ValueScale
+pub mod ValueLimits

@@ -122,11 +122,16 @@ pub signed_mul : (minus : Bool) (q d : ℕ) → signed minus q *ℤ pos d ≡ si
 signed_mul true q d = neg_mul q d
 signed_mul false q d = refl
 
+-- so such a size over a power of ten is the numeral's fraction
+pub signed_across : (k : ℕ) (cell : ℤ) (text : List ℕ) (is : IsValue k cell text) (size tens : ℕ) → is.number * tens ≡ size * 10 ^ is.decimals → signed is.minus size *ℤ pos (denominator text) ≡ numerator text *ℤ pos tens
+signed_across k cell text is size tens e =
+    let left : signed is.minus size *ℤ pos (denominator text) ≡ signed is.minus (size * 10 ^ is.decimals) = signed_mul is.minus size (denominator text) ∙ ap (λ d. signed is.minus (size * d)) is.below in
+    let right : numerator text *ℤ pos tens ≡ signed is.minus (is.number * tens) = ap (λ x. x *ℤ pos tens) is.above ∙ signed_mul is.minus is.number tens in
+    left ∙ ap (signed is.minus) (sym e) ∙ sym right
+
+fraction_of : (k : ℕ) (cell : ℤ) (text : List ℕ) → IsValue k cell text → IsSameFraction cell (10 ^ k) (numerator text) (denominator text)
+fraction_of k cell text is = ap (λ x. x *ℤ pos (denominator text)) is.cell_is ∙ signed_across k cell text is (unsigned_abs cell) (10 ^ k) is.value
+
 -- the value of a printed number
 pub value_read : (k : ℕ) (cell : ℤ) → nat_abs cell < 10 ^ 64 → IsSameFraction cell (10 ^ k) (numerator (value_text k cell)) (denominator (value_text k cell))
-value_read k cell h = of_parts (value_text k cell) (value_parts k cell h) where
-  of_parts : (text : List ℕ) → IsValue k cell text → IsSameFraction cell (10 ^ k) (numerator text) (denominator text)
-  of_parts text is =
-      let left : cell *ℤ pos (denominator text) ≡ signed is.minus (unsigned_abs cell * 10 ^ is.decimals) = ap (λ x. x *ℤ pos (denominator text)) is.cell_is ∙ signed_mul is.minus (unsigned_abs cell) (denominator text) ∙ ap (λ d. signed is.minus (unsigned_abs cell * d)) is.below in
-      let right : numerator text *ℤ pos (10 ^ k) ≡ signed is.minus (is.number * 10 ^ k) = ap (λ x. x *ℤ pos (10 ^ k)) is.above ∙ signed_mul is.minus is.number (10 ^ k) in
-      left ∙ ap (signed is.minus) (sym is.value) ∙ sym right
+value_read k cell h = fraction_of k cell (value_text k cell) (value_parts k cell h)
