@@ -21,3 +21,7 @@ pub mod CountsTold
 pub mod ClearPasses
 pub mod NodeRows
 pub mod TablePass
+pub mod DigitValues
+pub mod ValueTexts
+pub mod ValueScale
+pub mod ValueLimits
