@@ -8,7 +8,6 @@ use Rattle.std.proofs.lemmas.List.Elements.{All-nil, All-cons, All-append, All-h
 use Rattle.std.proofs.lemmas.List.FromFn.{length-range_with_len, get_or-range_with_len}
 use Rattle.maid_model.specs.declared.diagrams.Kind.{Kind}
 use Rattle.maid_model.specs.declared.diagrams.Kind.TheVariants.{Chance, Decision, Utility}
-use Rattle.maid_model.specs.Diagrams.{greatest_number}
 use Rattle.maid_model.specs.Nodes.{node_at, no_node, numbers_of, is_utility}
 use Rattle.maid_model.specs.Placing.{IsLeast}
 use Rattle.maid_model.specs.Views.{NodeView, DiagramView}
@@ -58,10 +57,6 @@ to_each nodes P all v kind = ⊎_elim within (λ (h : length nodes ≤ v). subst
     where
       start : (n : ℕ) → 0 + n ≡ n
       start n = omega arith
-
--- the values of all utilities are within the limit
-pub cells_small : (d : DiagramView) → ((v : ℕ) → (node_at d.nodes v).kind ≡ Utility → All (λ x. nat_abs x ≤ greatest_number) (node_at d.nodes v).cells) → All (λ x. nat_abs x ≤ greatest_number) (utility_cells d.nodes)
-cells_small d small = from_each d.nodes (λ x. nat_abs x ≤ greatest_number) small
 
 -- The decimals are the least that the cells of all utilities need.
 pub cells_need : (d : DiagramView) → IsLeast (AreEnough d) d.decimals → IsLeast (λ k. All (λ x. (10 ^ d.decimals) ∣ nat_abs x * 10 ^ k) (utility_cells d.nodes)) d.decimals
