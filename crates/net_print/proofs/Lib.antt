@@ -17,3 +17,6 @@ pub mod ReadBack
 pub mod CountsTold
 pub mod ClearPasses
 pub mod NodeRows
+pub mod SizePass
+pub mod AgentCount
+pub mod NodePass
