@@ -25,3 +25,6 @@ pub mod DigitValues
 pub mod ValueTexts
 pub mod ValueScale
 pub mod ValueLimits
+pub mod SizePass
+pub mod AgentCount
+pub mod NodePass
