@@ -23,7 +23,7 @@ use Rattle.net_print.proofs.Words.{node_words, potential_words}
 use Rattle.net_print.proofs.Written.{Written, At, at_end, end_at, text_onto, text_onto-append}
 
 -- where nothing is found at each, nothing is found
-each_clear : {A : Type 0} (P : A → Pass) (xs : List A) → All (λ x. P x None) xs → each P xs None
+pub each_clear : {A : Type 0} (P : A → Pass) (xs : List A) → All (λ x. P x None) xs → each P xs None
 each_clear P [] all = tt
 each_clear P (x ∷ xs) all = (All-head (λ y. P y None) x xs all, each_clear P xs (All-tail (λ y. P y None) x xs all))
 
