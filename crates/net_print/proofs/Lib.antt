@@ -1,8 +1,13 @@
 pub mod Divisors
 pub mod Rows
+pub mod RowDivisors
 pub mod Steps
+pub mod ReducedRows
 pub mod Written
 pub mod Forms
+pub mod DigitValues
+pub mod WeightTexts
+pub mod WeightScale
 pub mod Words
 pub mod Texts
 pub mod Spelling
@@ -12,6 +17,7 @@ pub mod Look
 pub mod Agents
 pub mod Given
 pub mod Faultless
+pub mod WeightPass
 pub mod PotentialPass
 pub mod ReadBack
 pub mod TablesTold
