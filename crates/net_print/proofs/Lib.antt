@@ -19,7 +19,6 @@ pub mod Given
 pub mod Faultless
 pub mod WeightPass
 pub mod PotentialPass
-pub mod ReadBack
 pub mod TablesTold
 pub mod UtilityCells
 pub mod WidePass
@@ -27,10 +26,10 @@ pub mod CountsTold
 pub mod ClearPasses
 pub mod NodeRows
 pub mod TablePass
-pub mod DigitValues
 pub mod ValueTexts
 pub mod ValueScale
 pub mod ValueLimits
 pub mod SizePass
 pub mod AgentCount
 pub mod NodePass
+pub mod RoundTrips

@@ -1,5 +1,5 @@
 -- The pass over tables finds nothing in the tree of a printed text, and the tables that it tells are the nodes' cells.
-use Rattle.std.proofs.Common.{◌≡◌, ◌∙◌, ◌≢◌, ℕ, ◌*◌, ◌<◌, ◌≤◌, ℤ, true, List, [], length, map, get_or, decimal, codes, None, refl, sym, ap, subst, arith}
+use Rattle.std.proofs.Common.{◌≡◌, ◌∙◌, ◌≢◌, ℕ, ◌*◌, ◌<◌, ◌≤◌, ℤ, nat_abs, true, List, [], length, map, get_or, decimal, codes, None, refl, sym, ap, subst, arith}
 use Rattle.std.proofs.lemmas.Bool.{false≢true}
 use Rattle.std.proofs.lemmas.List.{get_or-map, length-map}
 use Rattle.std.proofs.lemmas.List.Elements.{All-filter, filter_passes}
@@ -7,9 +7,10 @@ use Rattle.maid_model.specs.declared.diagrams.Kind.{Kind}
 use Rattle.maid_model.specs.declared.diagrams.Kind.TheVariants.{Chance, Decision, Utility}
 use Rattle.maid_model.specs.Names.{NamesView}
 use Rattle.maid_model.specs.Nodes.{node_at, no_node, states_of, rows_of, is_chance}
+use Rattle.maid_model.specs.Tables.{chance_total}
 use Rattle.maid_model.specs.Views.{NodeView, DiagramView}
 use Rattle.net_build.specs.Blocks as look
-use Rattle.net_build.specs.Building.{AreTables, AreChanceCells, AreUtilityCells, IsTableOf}
+use Rattle.net_build.specs.Building.{AreTables, IsTableOf}
 use Rattle.net_build.specs.Passes.{each, only}
 use Rattle.net_build.specs.Table.{table_pass, table_rows, data_rows, weight_rows, length_row, table_nodes}
 use Rattle.net_lexer.specs.Token.{token_bytes}
@@ -26,6 +27,10 @@ use Rattle.net_print.proofs.Look.{kind_is, node_name_told}
 use Rattle.net_print.proofs.Rows.{length-rows}
 use Rattle.net_print.proofs.TablesTold.{number_texts, table_numbers, potential_data, potential_numbers, potential_repeats, texts_of, blocks_count, block_at, block_kind, block_states, block_numbers}
 use Rattle.net_print.proofs.Tree.{block_kind as tree_kind, list_tree, table_trees, node_tree, potential_tree, tree_of}
+use Rattle.net_print.proofs.ValueLimits.{small_enough, lengths_clear}
+use Rattle.net_print.proofs.ValueScale.{values_scaled}
+use Rattle.net_print.proofs.WeightPass.{chance_lengths_clear, weights_clear}
+use Rattle.net_print.proofs.WeightScale.{chance_cells}
 use Rattle.net_print.proofs.Words.{brace_open, head_words, node_words}
 use Rattle.net_print.proofs.Written.{At, behind, end_at, text_onto}
 
@@ -55,14 +60,7 @@ data_clear text blocks block potential from Utility decimals states rows cells i
       ),
     )
 
--- what is known of the numbers that are printed for the nodes' tables
-pub record NumbersFit (d : DiagramView) (text : List ℕ) : Type 0 where
-  pub short : (v : ℕ) → v < length d.nodes → (tokens : List Token) → map (token_bytes text) tokens ≡ texts_of d v → each (length_row text) tokens None
-  pub fair : (v : ℕ) → v < length d.nodes → (node_at d.nodes v).kind ≡ Chance → (table : AttributeTree) → map (token_bytes text) (leaves table.value) ≡ map decimal (reduced_rows (states_of d.nodes v) (rows_of d.nodes v) (node_at d.nodes v).cells) → weight_rows text (states_of d.nodes v) (rows_of d.nodes v) table None
-  pub chance : (v : ℕ) → v < length d.nodes → (node_at d.nodes v).kind ≡ Chance → AreChanceCells (states_of d.nodes v) (map decimal (reduced_rows (states_of d.nodes v) (rows_of d.nodes v) (node_at d.nodes v).cells)) (node_at d.nodes v).cells
-  pub utility : (v : ℕ) → v < length d.nodes → (node_at d.nodes v).kind ≡ Utility → AreUtilityCells d.decimals (map (value_text d.decimals) (node_at d.nodes v).cells) (node_at d.nodes v).cells
-
-module _ (d : DiagramView) (names : NamesView) (is : IsPrintable d names) (fits : NumbersFit d (printed d names)) where
+module _ (d : DiagramView) (names : NamesView) (is : IsPrintable d names) where
   abbrev Text : List ℕ
   Text = printed d names
 
@@ -81,6 +79,16 @@ module _ (d : DiagramView) (names : NamesView) (is : IsPrintable d names) (fits 
       once : (rows states : ℕ) → states ≡ 1 → rows ≡ rows * states
       once rows states e = rw e (omega arith)
 
+  -- no number is too long
+  texts_short : (v : ℕ) → v < length d.nodes → (kind : Kind) → (node_at d.nodes v).kind ≡ kind → kind ≢ Decision → (tokens : List Token) → map (token_bytes Text) tokens ≡ number_texts kind d.decimals (states_of d.nodes v) (rows_of d.nodes v) (node_at d.nodes v).cells → each (length_row Text) tokens None
+  texts_short v l Chance kind some tokens told = chance_lengths_clear (node_at d.nodes v).cells (rows_of d.nodes v) (states_of d.nodes v) (chance_total d.nodes v) (is.diagram.tables.table v kind) (is.diagram.tables.positive v kind) (is.diagram.limits.totals v kind) (is.diagram.graph.has_state v) Text tokens told
+  texts_short v l Decision kind some tokens told = absurd (some refl)
+  texts_short v l Utility kind some tokens told = lengths_clear Text tokens d.decimals (node_at d.nodes v).cells is.diagram.limits.decimals told (is.diagram.limits.values v kind)
+
+  -- the weights have no fault
+  weights_fair : (v : ℕ) → (node_at d.nodes v).kind ≡ Chance → (table : AttributeTree) → map (token_bytes Text) (leaves table.value) ≡ map decimal (reduced_rows (states_of d.nodes v) (rows_of d.nodes v) (node_at d.nodes v).cells) → weight_rows Text (states_of d.nodes v) (rows_of d.nodes v) table None
+  weights_fair v kind table told = weights_clear (node_at d.nodes v).cells (rows_of d.nodes v) (states_of d.nodes v) (chance_total d.nodes v) (is.diagram.tables.table v kind) (is.diagram.tables.positive v kind) (is.diagram.limits.totals v kind) (is.diagram.graph.has_state v) Text (leaves table.value) told table refl
+
   table_clear : (v p : ℕ) (more : List ℕ) → v < length d.nodes → At Text p (text_onto (node_words d.nodes names v) more) → look.has_table (node_tree d.nodes names p v).kind ≡ true → table_rows Text Blocks (node_tree d.nodes names p v) (look.potential_of Text Blocks (look.name_of Text (node_tree d.nodes names p v))) None
   unfolding table_rows
   table_clear v p more l at has =
@@ -94,7 +102,7 @@ module _ (d : DiagramView) (names : NamesView) (is : IsPrintable d names) (fits 
       let clear = data_clear Text Blocks block potential from node.kind d.decimals node.states (rows_of d.nodes v) node.cells (kind_is node.kind) some
       (block_states_told d names is v p more l at) (row_count_told d names is v p more l at)
       (texts_count v l node.kind refl some ∙ sym (cell_count_told d names is v p more l at))
-      told (fits.short v l (look.leaves_of potential.attributes) told) (fits.fair v l) in
+      told (texts_short v l node.kind refl some (look.leaves_of potential.attributes) told) (weights_fair v) in
       subst (λ o. table_rows Text Blocks block o None) (sym (ap (look.potential_of Text Blocks) (node_name_told Text d.nodes names v p more at) ∙ found.3)) (
         potential_repeats d names is v found.0,
         subst (λ attributes. data_rows Text Blocks block potential attributes None) (sym (potential_data d names is v found.0 found.1 found.2)) clear,
@@ -110,9 +118,9 @@ module _ (d : DiagramView) (names : NamesView) (is : IsPrintable d names) (fits 
       each_clear row (table_nodes Blocks) (λ k e h. All-filter has (λ b. has b ≡ true → row b None) nodes (nodes_hold d names is (λ b. has b ≡ true → row b None) table_clear) k e h (filter_passes has nodes k e h))
 
   table_is : (v : ℕ) → v < length d.nodes → (kind : Kind) → (node_at d.nodes v).kind ≡ kind → IsTableOf kind d.decimals (states_of d.nodes v) (number_texts kind d.decimals (states_of d.nodes v) (rows_of d.nodes v) (node_at d.nodes v).cells) (node_at d.nodes v).cells
-  table_is v l Chance kind = fits.chance v l kind
+  table_is v l Chance kind = chance_cells (node_at d.nodes v).cells (rows_of d.nodes v) (states_of d.nodes v) (chance_total d.nodes v) (is.diagram.tables.table v kind) (is.diagram.tables.positive v kind) (is.diagram.limits.totals v kind) (is.diagram.graph.has_state v) (is.plain.weights v kind)
   table_is v l Decision kind = is.diagram.values.decision v kind
-  table_is v l Utility kind = fits.utility v l kind
+  table_is v l Utility kind = values_scaled d.decimals (node_at d.nodes v).cells (λ k e h. small_enough (nat_abs (get_or (node_at d.nodes v).cells k e)) (is.diagram.limits.values v kind k e h))
 
   told_table : (v : ℕ) → v < length d.nodes → IsTableOf (look.kind_of (block_at d names is v).kind) d.decimals (look.states_of Text (block_at d names is v)) (map (token_bytes Text) (look.numbers_of Text Blocks (block_at d names is v))) (get_or (map (λ n. n.cells) d.nodes) v [])
   told_table v l =
