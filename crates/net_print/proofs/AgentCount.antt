@@ -5,14 +5,14 @@ use Rattle.std.proofs.lemmas.List.{length-append}
 use Rattle.std.proofs.lemmas.List.Elements.{filter-append}
 use Rattle.net_build.specs.Blocks as look
 use Rattle.net_print.proofs.Agents.{bytes_differ}
-use Rattle.net_print.proofs.NodeRows.{nothing_in}
+use Rattle.net_print.proofs.Given.{nothing}
 
 in_rest : {A : Type 0} (x : A) (xs : List A) (y : A) → Contains xs y → Contains (x ∷ xs) y
 in_rest x xs y (k, h, e) = (suc k, omega arith, e)
 
 -- what passes the test is kept
 in_kept : {A : Type 0} (test : A → Bool) (xs : List A) (y : A) → Contains xs y → test y ≡ true → Contains (filter test xs) y
-in_kept test [] y has is = absurd (nothing_in has)
+in_kept test [] y has is = absurd (nothing has)
 in_kept test (x ∷ xs) y (zero, h, e) is = subst (λ b. Contains (cond b (x ∷ filter test xs) (filter test xs)) y) (sym (ap test e ∙ is)) (0, omega arith, e)
 in_kept test (x ∷ xs) y (suc k, h, e) is = by_test (test x) (in_kept test xs y (k, omega arith, e) is) where
   by_test : (b : Bool) → Contains (filter test xs) y → Contains (cond b (x ∷ filter test xs) (filter test xs)) y

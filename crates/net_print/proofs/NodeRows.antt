@@ -16,6 +16,7 @@ use Rattle.net_lexer.specs.declared.tokens.TokenKind.TheVariants.{Text}
 use Rattle.net_parser.specs.declared.trees.BlockKind.{BlockKind}
 use Rattle.net_parser.specs.Owned.{leaves}
 use Rattle.net_parser.specs.Trees.{list, AttributeTree, BlockTree}
+use Rattle.net_print.proofs.Given.{nothing}
 use Rattle.net_print.proofs.Look.{first_leaves, states_leaves, states_word, agent_word, agent_value}
 use Rattle.net_print.proofs.Spelling.{leaf_trees}
 use Rattle.net_print.proofs.Tree.{block_kind, list_tree, agent_tree, attribute_trees}
@@ -27,11 +28,6 @@ pub record AreLabels (labels : List (List ℕ)) : Type 0 where
   pub some : 0 < length labels
   pub few : length labels ≤ 256
   pub plain : All (λ label. look.is_plain label ≡ true) labels
-
-pub nothing_in : {A : Type 0} {x : A} → Contains [] x → ⊥
-nothing_in has = none has.0 has.1 where
-  none : (k : ℕ) → k < 0 → ⊥
-  none k h = omega arith
 
 in_one : {A : Type 0} (x y : A) → Contains (x ∷ []) y → x ≡ y
 in_one x y (zero, h, e) = e
@@ -59,19 +55,19 @@ named_later text word other a others e differ =
     ap (λ y. cond (bytes_eq y word) (a ∷ rest) rest) e ∙ ap (λ b. cond b (a ∷ rest) rest) differ
 
 -- among one attribute none stands twice
-one_once : (text : List ℕ) (test : AttributeTree → Bool) (a : AttributeTree) → each_after (repeated_row text) [] (filter test (a ∷ [])) None
+pub one_once : (text : List ℕ) (test : AttributeTree → Bool) (a : AttributeTree) → each_after (repeated_row text) [] (filter test (a ∷ [])) None
 one_once text test a = by_test (test a) where
   by_test : (s : Bool) → each_after (repeated_row text) [] (cond s (a ∷ []) []) None
-  by_test true = (λ has. nothing_in has, tt)
+  by_test true = (λ has. nothing has, tt)
   by_test false = tt
 
 -- nor among two of different names
 two_once : (text : List ℕ) (test : AttributeTree → Bool) (a b : AttributeTree) → look.word_of text a ≢ look.word_of text b → each_after (repeated_row text) [] (filter test (a ∷ b ∷ [])) None
 two_once text test a b differ = by_test (test a) (test b) where
   by_test : (s t : Bool) → each_after (repeated_row text) [] (cond s (a ∷ cond t (b ∷ []) []) (cond t (b ∷ []) [])) None
-  by_test true true = (λ has. nothing_in has, (λ has. differ (in_one (look.word_of text a) (look.word_of text b) has), tt))
-  by_test true false = (λ has. nothing_in has, tt)
-  by_test false true = (λ has. nothing_in has, tt)
+  by_test true true = (λ has. nothing has, (λ has. differ (in_one (look.word_of text a) (look.word_of text b) has), tt))
+  by_test true false = (λ has. nothing has, tt)
+  by_test false true = (λ has. nothing has, tt)
   by_test false false = tt
 
 later_strings : (from : ℕ) (labels : List (List ℕ)) → look.are_strings (leaf_trees (tokens_at from (map (λ y. written space Text (quoted y) []) labels))) ≡ true

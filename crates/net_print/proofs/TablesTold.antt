@@ -11,20 +11,21 @@ use Rattle.maid_model.specs.Names.{NamesView, name_of}
 use Rattle.maid_model.specs.Nodes.{node_at, no_node, rows_of, numbers_of, is_utility}
 use Rattle.maid_model.specs.Views.{NodeView, DiagramView}
 use Rattle.net_build.specs.Blocks as look
-use Rattle.net_build.specs.Passes.{each, each_after}
-use Rattle.net_build.specs.Table.{repeats, repeated_row, number_row, kind_named, utility_numbers, no_block}
+use Rattle.net_build.specs.Passes.{each}
+use Rattle.net_build.specs.Table.{repeats, number_row, kind_named, utility_numbers, no_block}
 use Rattle.net_lexer.specs.Token.{token_bytes}
 use Rattle.net_lexer.specs.declared.tokens.Token.{Token}
 use Rattle.net_lexer.specs.declared.tokens.TokenKind.{TokenKind}
 use Rattle.net_lexer.specs.declared.tokens.TokenKind.TheVariants.{Word, Number}
 use Rattle.net_parser.specs.declared.trees.BlockKind.{BlockKind}
 use Rattle.net_parser.specs.Owned.{leaves}
-use Rattle.net_parser.specs.Trees.{AttributeTree, BlockTree}
+use Rattle.net_parser.specs.Trees.{BlockTree}
 use Rattle.net_print.specs.Printed.{printed, reduced_rows, value_text}
 use Rattle.net_print.specs.RoundTrip.{IsPrintable}
 use Rattle.net_print.proofs.Agents.{states_told}
-use Rattle.net_print.proofs.Given.{item_bytes, nothing, potential_found, potential_title}
+use Rattle.net_print.proofs.Given.{item_bytes, potential_found, potential_title}
 use Rattle.net_print.proofs.Look.{names_told, kinds_told, potentials_are, at_potentials, node_lines}
+use Rattle.net_print.proofs.NodeRows.{one_once}
 use Rattle.net_print.proofs.PotentialPass.{kind_told}
 use Rattle.net_print.proofs.Texts.{numbers_below}
 use Rattle.net_print.proofs.Told.{says, all_say, leaves_are, trees_tell}
@@ -62,19 +63,15 @@ table_numbers from Decision decimals states rows cells = tt
 table_numbers from Utility decimals states rows cells = list_numbers from (codes "data") (value_text decimals) cells
 
 -- one attribute repeats none
-one_at_most : (text : List ℕ) (b : Bool) (a : AttributeTree) → each_after (repeated_row text) [] (cond b (a ∷ []) []) None
-one_at_most text true a = (λ has. nothing has, tt)
-one_at_most text false a = tt
-
 table_repeats : (text : List ℕ) (block : BlockKind) (names : List Token) (from : ℕ) (kind : Kind) (decimals states rows : ℕ) (cells : List ℤ) → repeats text (record { kind = block; names = names; attributes = table_trees from kind decimals states rows cells }) None
 unfolding repeats
 table_repeats text block names from Chance decimals states rows cells =
     let a = list_tree from (codes "data") Number decimal (reduced_rows states rows cells) in
-    one_at_most text (look.is_counted block (look.word_of text a)) a
+    one_once text (λ b. look.is_counted block (look.word_of text b)) a
 table_repeats text block names from Decision decimals states rows cells = tt
 table_repeats text block names from Utility decimals states rows cells =
     let a = list_tree from (codes "data") Number (value_text decimals) cells in
-    one_at_most text (look.is_counted block (look.word_of text a)) a
+    one_once text (λ b. look.is_counted block (look.word_of text b)) a
 
 -- what is made of those that are kept
 kept_flat : {A B C : Type 0} (g : B → C) (f : A → List B) (p : A → Bool) (xs : List A) → map g (flat_map f (filter p xs)) ≡ flat_map (λ ys. ys) (map (λ x. cond (p x) (map g (f x)) []) xs)

@@ -27,7 +27,8 @@ use Rattle.net_print.proofs.ReducedRows.{row_map, row_sum_divides, row_sum_posit
 use Rattle.net_print.proofs.RowDivisors.{reduced_same}
 use Rattle.net_print.proofs.Texts.{numbers_below}
 use Rattle.net_print.proofs.WeightScale.{numbers_small, row_reduced, rows_counted}
-use Rattle.net_print.proofs.WeightTexts.{AreSmall, decimal_of, least_of_text, printable}
+use Rattle.net_print.proofs.ValueLimits.{small_enough}
+use Rattle.net_print.proofs.WeightTexts.{AreSmall, decimal_of, least_of_text}
 
 -- a sum of noughts
 sum_nought : (ns : List ℕ) → All (λ n. n ≡ 0) ns → sum ns ≡ 0
@@ -46,7 +47,7 @@ module _ (text : List ℕ) (tokens : List Token) (ns : List ℕ) (same : map (to
   small_at k l = small k 0 (subst (λ n. k < n) count l)
 
   numerator_at : (k : ℕ) (d : Token) → k < length tokens → numerator (token_bytes text (get_or tokens k d)) ≡ pos (get_or ns k 0)
-  numerator_at k d l = ap numerator (bytes_at k d l) ∙ (decimal_read (get_or ns k 0) (printable (get_or ns k 0) (small_at k l))).0
+  numerator_at k d l = ap numerator (bytes_at k d l) ∙ (decimal_read (get_or ns k 0) (small_enough (get_or ns k 0) (small_at k l))).0
 
   -- none is too long
   pub lengths_clear : each (length_row text) tokens None

@@ -1,6 +1,6 @@
 -- The printed weights of a chance table are its reduced rows, and scale to its cells.
 use Rattle.std.proofs.Common.{◌≡◌, ◌∙◌, ℕ, ◌*◌, ◌/◌, ◌^◌, ◌<◌, ◌≤◌, ℤ, List, length, map, decimal, sym, ap, subst, arith, refl}
-use Rattle.std.proofs.Math.Nat.{mul-div_cancel, pow-le-pow_right}
+use Rattle.std.proofs.Math.Nat.{mul-div_cancel}
 use Rattle.std.proofs.lemmas.List.{length-map}
 use Rattle.maid_model.specs.Diagrams.{greatest_number}
 use Rattle.maid_model.specs.Tables.{IsTable}
@@ -11,10 +11,8 @@ use Rattle.net_build.specs.Scaling.{AreDecimals}
 use Rattle.net_print.specs.Printed.{reduced_rows}
 use Rattle.net_print.proofs.ReducedRows.{row_map, row_shares_none, row_weights, all_small, reduced_len}
 use Rattle.net_print.proofs.RowDivisors.{raised_reduced}
+use Rattle.net_print.proofs.ValueTexts.{tens_positive}
 use Rattle.net_print.proofs.WeightTexts.{decimals_of, AreSmall, are_decimals, raised_are}
-
-tens_positive : (k : ℕ) → 0 < 10 ^ k
-tens_positive k = omega (arith, pow-le-pow_right {n = 10} (omega arith) {i = 0} {j = k} (omega arith))
 
 module _ (cells : List ℤ) (rows states total : ℕ) (table : IsTable cells rows states total) (positive : 0 < total) (small : total ≤ greatest_number) (some : 0 < states) where
   abbrev Reduced : List ℕ

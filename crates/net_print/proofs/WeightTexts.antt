@@ -9,6 +9,7 @@ use Rattle.weight_scale.specs.declared.decimal.Decimal.{Decimal}
 use Rattle.net_build.specs.Scaling.{AreDecimals, decimal_at}
 use Rattle.net_build.specs.Zero.{nought}
 use Rattle.net_print.proofs.DigitValues.{decimal_read}
+use Rattle.net_print.proofs.ValueLimits.{small_enough}
 
 -- a number as a decimal, the greatest one in place of a greater
 abbrev pub decimal_of : ℕ → Decimal
@@ -24,17 +25,13 @@ AreSmall ns = All (λ n. n ≤ greatest_number) ns
 its_number : (n : ℕ) → n ≤ greatest_number → min n greatest_number ≡ n
 its_number n small = omega arith
 
--- it has few digits
-pub printable : (n : ℕ) → n ≤ greatest_number → n < 10 ^ 64
-printable n small = omega arith
-
 least_of : (n : ℕ) → n ≤ greatest_number → IsLeastDecimalOf (pos n) 1 (decimal_of n)
 least_of n small = record { value = ap (λ k. pos k *ℤ pos 1) (its_number n small); least = λ other _. omega arith }
 
 -- the least decimal of a printed number is that number
 pub least_of_text : (text : List ℕ) (n : ℕ) (d : Decimal) → n ≤ greatest_number → text ≡ decimal n → d ≡ decimal_of n → IsLeastDecimalOf (numerator text) (denominator text) d
 least_of_text text n d small e is =
-    let read = decimal_read n (printable n small) in
+    let read = decimal_read n (small_enough n small) in
     subst (IsLeastDecimalOf (numerator text) (denominator text)) (sym is)
     (subst (λ bytes. IsLeastDecimalOf (numerator bytes) (denominator bytes) (decimal_of n)) (sym e)
     (subst (λ z. IsLeastDecimalOf z (denominator (decimal n)) (decimal_of n)) (sym read.0)
@@ -63,7 +60,7 @@ raised_is n d small is =
 
 raised_text : (text : List ℕ) (n : ℕ) (d : Decimal) → n ≤ greatest_number → text ≡ decimal n → IsLeastDecimalOf (numerator text) (denominator text) d → raised 30 d ≡ n * 10 ^ 30
 raised_text text n d small e is =
-    let read = decimal_read n (printable n small) in
+    let read = decimal_read n (small_enough n small) in
     raised_is n d small
     (subst (λ k. IsLeastDecimalOf (pos n) k d) read.1
     (subst (λ z. IsLeastDecimalOf z (denominator (decimal n)) d) read.0
