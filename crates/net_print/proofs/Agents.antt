@@ -46,7 +46,7 @@ sights_differ (x ∷ xs) =
     (AllPairs-filter (λ y z. y ≢ z) (λ y. not (bytes_eq x y)) others (sights_differ xs))
 
 -- what is kept of each, one after the other
-filter_flat : {A B : Type 0} (f : A → B) (p : A → Bool) (xs : List A) → map f (filter p xs) ≡ flat_map (λ ys. ys) (map (λ x. cond (p x) (f x ∷ []) []) xs)
+pub filter_flat : {A B : Type 0} (f : A → B) (p : A → Bool) (xs : List A) → map f (filter p xs) ≡ flat_map (λ ys. ys) (map (λ x. cond (p x) (f x ∷ []) []) xs)
 filter_flat f p [] = refl
 filter_flat f p (x ∷ xs) = by_test (p x) (filter_flat f p xs) where
   by_test : (b : Bool) → map f (filter p xs) ≡ flat_map (λ ys. ys) (map (λ y. cond (p y) (f y ∷ []) []) xs) → map f (cond b (x ∷ filter p xs) (filter p xs)) ≡ cond b (f x ∷ []) [] ++ flat_map (λ ys. ys) (map (λ y. cond (p y) (f y ∷ []) []) xs)
@@ -63,7 +63,7 @@ owner_case Chance x y h none = sym (none refl)
 owner_case Decision x y h none = h (λ e. cc)
 owner_case Utility x y h none = h (λ e. cc)
 
-state_case : (kind : Kind) (x y : ℕ) → (kind ≢ Utility → x ≡ y) → (kind ≡ Utility → y ≡ 1) → cond (look.has_states (block_kind kind)) x 1 ≡ y
+pub state_case : (kind : Kind) (x y : ℕ) → (kind ≢ Utility → x ≡ y) → (kind ≡ Utility → y ≡ 1) → cond (look.has_states (block_kind kind)) x 1 ≡ y
 state_case Chance x y h one = h (λ e. cc)
 state_case Decision x y h one = h (λ e. cc)
 state_case Utility x y h one = sym (one refl)

@@ -23,7 +23,7 @@ use Rattle.net_print.proofs.Words.{node_words, potential_words}
 use Rattle.net_print.proofs.Written.{Written, At, at_end, end_at, text_onto, text_onto-append}
 
 -- where nothing is found at each, nothing is found
-each_clear : {A : Type 0} (P : A → Pass) (xs : List A) → All (λ x. P x None) xs → each P xs None
+pub each_clear : {A : Type 0} (P : A → Pass) (xs : List A) → All (λ x. P x None) xs → each P xs None
 each_clear P [] all = tt
 each_clear P (x ∷ xs) all = (All-head (λ y. P y None) x xs all, each_clear P xs (All-tail (λ y. P y None) x xs all))
 
@@ -64,7 +64,7 @@ module _ (d : DiagramView) (names : NamesView) (is : IsPrintable d names) where
       ∙ each_place names.nodes (length d.nodes) [] is.fit.nodes
 
   -- what holds of each node's block
-  nodes_hold : (Q : BlockTree → Type 0) → ((v p : ℕ) (more : List ℕ) → v < length d.nodes → At Text p (text_onto (node_words d.nodes names v) more) → Q (node_tree d.nodes names p v)) → All Q (look.node_blocks Blocks)
+  pub nodes_hold : (Q : BlockTree → Type 0) → ((v p : ℕ) (more : List ℕ) → v < length d.nodes → At Text p (text_onto (node_words d.nodes names v) more) → Q (node_tree d.nodes names p v)) → All Q (look.node_blocks Blocks)
   nodes_hold Q one = subst (All Q) (sym (node_blocks_are d names is)) (trees_hold Text Q (node_tree d.nodes names) (node_words d.nodes names) 0 (numbers_of d.nodes) (text_onto (potential_lines d names is) []) (at_nodes d names is) (λ k e h p more at. one (get_or (numbers_of d.nodes) k e) p more (numbers_below (length d.nodes) k e h) at))
 
   pub missing_clear : missing_pass Text Blocks None

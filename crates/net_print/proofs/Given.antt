@@ -29,7 +29,7 @@ later_bytes : {A : Type 0} (kind : TokenKind) (text : A → List ℕ) (xs : List
 later_bytes kind text [] = refl
 later_bytes kind text (x ∷ xs) = ap (λ bs. text x ∷ bs) (later_bytes kind text xs)
 
-item_bytes : {A : Type 0} (kind : TokenKind) (text : A → List ℕ) (xs : List A) → map (λ (w : Written). w.bytes) (items kind text xs) ≡ map text xs
+pub item_bytes : {A : Type 0} (kind : TokenKind) (text : A → List ℕ) (xs : List A) → map (λ (w : Written). w.bytes) (items kind text xs) ≡ map text xs
 item_bytes kind text [] = refl
 item_bytes kind text (x ∷ xs) = ap (λ bs. text x ∷ bs) (later_bytes kind text xs)
 
@@ -70,7 +70,7 @@ contains_tail : (u : ℕ) (us : List ℕ) (v : ℕ) → Contains (u ∷ us) v �
 contains_tail u us v (zero, l, e) other = absurd (other e)
 contains_tail u us v (suc k, l, e) other = (k, omega arith, e)
 
-nothing : {v : ℕ} → Contains [] v → ⊥
+pub nothing : {A : Type 0} {x : A} → Contains [] x → ⊥
 nothing has = none has.0 has.1 where
   none : (k : ℕ) → k < 0 → ⊥
   none k h = omega arith
@@ -140,7 +140,7 @@ module _ (d : DiagramView) (names : NamesView) (is : IsPrintable d names) where
   abbrev Blocks : List BlockTree
   Blocks = tree_of d names is
 
-  conditions_told : (v p : ℕ) (more : List ℕ) → At (printed d names) p (text_onto (potential_words d names v) more) → look.condition_places (printed d names) (look.node_blocks Blocks) (potential_tree d names p v) ≡ (node_at d.nodes v).parents
+  pub conditions_told : (v p : ℕ) (more : List ℕ) → At (printed d names) p (text_onto (potential_words d names v) more) → look.condition_places (printed d names) (look.node_blocks Blocks) (potential_tree d names p v) ≡ (node_at d.nodes v).parents
   conditions_told v p more at =
       let parents = (node_at d.nodes v).parents in
       let tokens = drop 1 (head_tokens p names v parents) in

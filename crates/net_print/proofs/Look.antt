@@ -49,7 +49,7 @@ pub each_place : {B : Type 0} (xs : List B) (n : ℕ) (d : B) → length xs ≡ 
 each_place xs n d e = sym (fill_by_all (λ v. get_or xs v d) xs n d e (λ k h. refl))
 
 -- the first of two attributes, by its name
-first_leaves : (text word : List ℕ) (a : AttributeTree) (others : List AttributeTree) → look.word_of text a ≡ word → bytes_eq word word ≡ true → look.leaves_of (look.named text word (a ∷ others)) ≡ leaves a.value
+pub first_leaves : (text word : List ℕ) (a : AttributeTree) (others : List AttributeTree) → look.word_of text a ≡ word → bytes_eq word word ≡ true → look.leaves_of (look.named text word (a ∷ others)) ≡ leaves a.value
 first_leaves text word a others e same =
     let rest = look.named text word others in
     ap (λ y. look.leaves_of (cond (bytes_eq y word) (a ∷ rest) rest)) e ∙ ap (λ b. look.leaves_of (cond b (a ∷ rest) rest)) same
@@ -62,7 +62,7 @@ second_leaves text word other a b e f differ same =
 
 module _ (text : List ℕ) where
   -- the leaves of a list attribute are its items
-  states_leaves : (from : ℕ) (labels : List (List ℕ)) (rest : List ℕ) → At text from (text_onto (list_words (codes "states") Text quoted labels) rest) → (others : List AttributeTree) → map (text_value text) (look.leaves_of (look.named text (codes "states") (list_tree from (codes "states") Text quoted labels ∷ others))) ≡ labels
+  pub states_leaves : (from : ℕ) (labels : List (List ℕ)) (rest : List ℕ) → At text from (text_onto (list_words (codes "states") Text quoted labels) rest) → (others : List AttributeTree) → map (text_value text) (look.leaves_of (look.named text (codes "states") (list_tree from (codes "states") Text quoted labels ∷ others))) ≡ labels
   states_leaves from labels rest at others =
       let name = written [] Word (codes "states") space in
       let closing = paren_close [] ∷ semicolon ∷ [] in
@@ -76,13 +76,13 @@ module _ (text : List ℕ) where
       ap (map (text_value text)) (first_leaves text (codes "states") attribute others word refl ∙ leaves_are (tokens_at (behind (behind (behind from name) equals) paren_open) (items Text quoted labels)))
       ∙ texts_say text (behind (behind (behind from name) equals) paren_open) labels (text_onto closing rest) at_items
 
-  states_word : (from : ℕ) (labels : List (List ℕ)) (rest : List ℕ) → At text from (text_onto (list_words (codes "states") Text quoted labels) rest) → look.word_of text (list_tree from (codes "states") Text quoted labels) ≡ codes "states"
+  pub states_word : (from : ℕ) (labels : List (List ℕ)) (rest : List ℕ) → At text from (text_onto (list_words (codes "states") Text quoted labels) rest) → look.word_of text (list_tree from (codes "states") Text quoted labels) ≡ codes "states"
   states_word from labels rest at = says text from (written [] Word (codes "states") space) (text_onto (equals ∷ paren_open ∷ (items Text quoted labels ++ (paren_close [] ∷ semicolon ∷ []))) rest) at
 
-  agent_word : (from : ℕ) (agent rest : List ℕ) → At text from (text_onto (agent_words agent) rest) → look.word_of text (agent_tree from agent) ≡ codes "agent"
+  pub agent_word : (from : ℕ) (agent rest : List ℕ) → At text from (text_onto (agent_words agent) rest) → look.word_of text (agent_tree from agent) ≡ codes "agent"
   agent_word from agent rest at = says text from (written [] Word (codes "agent") space) (text_onto (equals ∷ written [] Text (quoted agent) [] ∷ semicolon ∷ []) rest) at
 
-  agent_value : (from : ℕ) (agent rest : List ℕ) → At text from (text_onto (agent_words agent) rest) → look.first_text text (leaves (agent_tree from agent).value) ≡ agent
+  pub agent_value : (from : ℕ) (agent rest : List ℕ) → At text from (text_onto (agent_words agent) rest) → look.first_text text (leaves (agent_tree from agent).value) ≡ agent
   agent_value from agent rest at =
       let name = written [] Word (codes "agent") space in
       let value = written [] Text (quoted agent) [] in
@@ -116,7 +116,7 @@ module _ (text : List ℕ) where
       ∙ agent_value from agent rest at
 
   -- where the attributes of a node's block stand
-  at_attributes : (nodes : List NodeView) (names : NamesView) (v from : ℕ) (rest : List ℕ) → At text from (text_onto (node_words nodes names v) rest) → At text (end_at from (open_words (kind_word (node_at nodes v).kind) (name_of names v))) (text_onto (attribute_words (node_at nodes v).kind (labels_of names v) (agent_name names (node_at nodes v).owner)) (text_onto (brace_close ∷ []) rest))
+  pub at_attributes : (nodes : List NodeView) (names : NamesView) (v from : ℕ) (rest : List ℕ) → At text from (text_onto (node_words nodes names v) rest) → At text (end_at from (open_words (kind_word (node_at nodes v).kind) (name_of names v))) (text_onto (attribute_words (node_at nodes v).kind (labels_of names v) (agent_name names (node_at nodes v).owner)) (text_onto (brace_close ∷ []) rest))
   at_attributes nodes names v from rest at =
       let kind = (node_at nodes v).kind in
       let opening = open_words (kind_word kind) (name_of names v) in

@@ -17,7 +17,7 @@ use Rattle.net_lexer.specs.declared.tokens.Token.{Token}
 use Rattle.net_parser.specs.Trees.{BlockTree}
 use Rattle.net_print.specs.Printed.{printed}
 use Rattle.net_print.specs.RoundTrip.{IsPrintable}
-use Rattle.net_print.proofs.Given.{potential_title, potential_given, place_told}
+use Rattle.net_print.proofs.Given.{nothing, potential_title, potential_given, place_told}
 use Rattle.net_print.proofs.Look.{names_told, kinds_told, potentials_are, at_potentials, node_lines}
 use Rattle.net_print.proofs.Spelling.{trees_at}
 use Rattle.net_print.proofs.Tree.{potential_tree, tree_of}
@@ -51,7 +51,7 @@ module _ (d : DiagramView) (names : NamesView) (is : IsPrintable d names) where
       let same : name_of names (get_or us k v) ≡ name_of names v = sym (get_or-map (name_of names) us k v (name_of names v) within) ∙ e in
       (k, within, one_node (get_or us k v) v (all k v within) l same)
 
-  kind_told : (u : ℕ) → u < length d.nodes → kind_named Text Nodes (name_of names u) ≡ (node_at d.nodes u).kind
+  pub kind_told : (u : ℕ) → u < length d.nodes → kind_named Text Nodes (name_of names u) ≡ (node_at d.nodes u).kind
   kind_told u l =
       let place : look.place_of (look.names_of Text Nodes) (name_of names u) ≡ u = ap (λ list. look.place_of list (name_of names u)) (names_told d names is) ∙ place_told d names is u l in
       ap (λ kinds. get_or kinds (look.place_of (look.names_of Text Nodes) (name_of names u)) Chance) (sym (kinds_told d names is))
@@ -87,11 +87,6 @@ module _ (d : DiagramView) (names : NamesView) (is : IsPrintable d names) where
             (λ w has later. ⊎_elim (λ (old : Contains before w). new w old (behind_first u us w later)) (λ (e : u ≡ w). differ.0 (subst (Contains us) (sym e) later)) (Contains-push_cases before u w has)),
       )
 
-  nothing_before : (w : ℕ) → Contains [] w → ⊥
-  nothing_before w has = none has.0 has.1 where
-    none : (k : ℕ) → k < 0 → ⊥
-    none k h = omega arith
-
   few : (n m : ℕ) → n ≡ m → m ≤ 16 → 16 < n → ⊥
   few n m e h k = omega arith
 
@@ -116,7 +111,7 @@ module _ (d : DiagramView) (names : NamesView) (is : IsPrintable d names) where
           (
             conditions_clear [] (look.conditions (potential_tree d names p v)) [] parents refl given (All-nil (λ w. w < length d.nodes))
                 (λ k e h. let among = All-contains_itself parents k e h in (is.diagram.graph.parents_known (get_or parents k e) v among, is.diagram.graph.no_utility_parent (get_or parents k e) v among))
-                (is.diagram.graph.parents_differ v) (λ w has later. nothing_before w has),
+                (is.diagram.graph.parents_differ v) (λ w has later. nothing has),
             λ many. few (length (look.conditions (potential_tree d names p v))) (length parents) (sym (length-map (look.conditions (potential_tree d names p v)) (token_bytes Text)) ∙ ap length given ∙ length-map parents (name_of names)) (is.diagram.limits.parents v) many,
           ),
         ),

@@ -27,12 +27,12 @@ row_within r rows states l = let more : suc r ≤ rows = omega arith in omega (a
 pub length-row : {A : Type 0} (states : ℕ) (cells : List A) (r : ℕ) → r * states + states ≤ length cells → length (row_at states cells r) ≡ states
 length-row states cells r l = length-take-le states (drop (r * states) cells) (rw (length-drop (r * states) cells) (omega arith))
 
-size_of : (z : ℤ) → pos 0 ≤ℤ z → pos (unsigned_abs z) ≡ z
+pub size_of : (z : ℤ) → pos 0 ≤ℤ z → pos (unsigned_abs z) ≡ z
 size_of (pos n) h = refl
 size_of (negsuc n) h = absurd (omega (arith, ints))
 
 -- what the cells from a start add up to
-sum_cells : (cells : List ℤ) (start n : ℕ) → start + n ≤ length cells → ((i : ℕ) → pos 0 ≤ℤ slice_index_or cells i (pos 0)) → pos (sum (map unsigned_abs (take n (drop start cells)))) ≡ sum_below n (λ s. slice_index_or cells (start + s) (pos 0))
+pub sum_cells : (cells : List ℤ) (start n : ℕ) → start + n ≤ length cells → ((i : ℕ) → pos 0 ≤ℤ slice_index_or cells i (pos 0)) → pos (sum (map unsigned_abs (take n (drop start cells)))) ≡ sum_below n (λ s. slice_index_or cells (start + s) (pos 0))
 sum_cells cells start zero l signs = refl
 sum_cells cells start (suc n) l signs =
     ap pos (rw (← add-one n, map_more unsigned_abs (drop start cells) n (pos 0) within) (sum_by_push (λ x. x) front (unsigned_abs (get_or (drop start cells) n (pos 0)))))

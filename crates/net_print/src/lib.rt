@@ -8,7 +8,7 @@ mod pieces;
 mod potentials;
 mod printing;
 
-pub use laws::printed_texts_spell_trees;
+pub use laws::printed_texts_read_back;
 pub use printing::print;
 
 #[cfg(test)]

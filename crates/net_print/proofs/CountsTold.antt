@@ -1,0 +1,61 @@
+-- The counts of rows, states and cells that the tree of a printed text tells.
+use Rattle.std.proofs.Common.{◌≡◌, ◌∙◌, ℕ, zero, suc, ◌<◌, ◌*◌, List, [], ◌∷◌, length, map, get_or, refl, sym, ap}
+use Rattle.std.specs.Option.{option_map_or}
+use Rattle.std.proofs.Math.Path.{fun_ext}
+use Rattle.std.proofs.lemmas.List.{length-map}
+use Rattle.maid_model.specs.Names.{NamesView}
+use Rattle.maid_model.specs.Nodes.{node_at, states_of, rows_of, rows_under}
+use Rattle.maid_model.specs.Views.{NodeView, DiagramView}
+use Rattle.net_build.specs.Blocks as look
+use Rattle.net_lexer.specs.Token.{text_value}
+use Rattle.net_parser.specs.Trees.{BlockTree}
+use Rattle.net_print.specs.Printed.{printed}
+use Rattle.net_print.specs.RoundTrip.{IsPrintable}
+use Rattle.net_print.proofs.Agents.{state_case, states_told}
+use Rattle.net_print.proofs.Given.{potential_found, conditions_told}
+use Rattle.net_print.proofs.Look.{node_name_told, node_labels_told}
+use Rattle.net_print.proofs.Tree.{node_tree, tree_of}
+use Rattle.net_print.proofs.Words.{node_words}
+use Rattle.net_print.proofs.Written.{At, text_onto}
+
+-- the count of states of a node as a list's place
+counts_at : (nodes : List NodeView) (v : ℕ) → get_or (map (λ n. n.states) nodes) v 1 ≡ states_of nodes v
+counts_at [] v = refl
+counts_at (n ∷ nodes) zero = refl
+counts_at (n ∷ nodes) (suc v) = counts_at nodes v
+
+module _ (d : DiagramView) (names : NamesView) (is : IsPrintable d names) where
+  abbrev Text : List ℕ
+  Text = printed d names
+
+  abbrev Blocks : List BlockTree
+  Blocks = tree_of d names is
+
+  -- a block has the states of its node
+  pub block_states_told : (v p : ℕ) (more : List ℕ) → v < length d.nodes → At Text p (text_onto (node_words d.nodes names v) more) → look.states_of Text (node_tree d.nodes names p v) ≡ states_of d.nodes v
+  block_states_told v p more l at =
+      let tree = node_tree d.nodes names p v in
+      state_case (node_at d.nodes v).kind (length (look.label_tokens Text tree)) (node_at d.nodes v).states
+      (λ some. sym (length-map (look.label_tokens Text tree) (text_value Text)) ∙ ap length (node_labels_told Text d.nodes names v p more at (is.utility_labels v)) ∙ is.fit.states v l some)
+      (is.diagram.graph.utility_states v)
+
+  -- and the parents
+  pub block_parents_told : (v p : ℕ) (more : List ℕ) → v < length d.nodes → At Text p (text_onto (node_words d.nodes names v) more) → look.parents_of Text Blocks (look.name_of Text (node_tree d.nodes names p v)) ≡ (node_at d.nodes v).parents
+  block_parents_told v p more l at =
+      let found = potential_found d names is v l in
+      ap (look.parents_of Text Blocks) (node_name_told Text d.nodes names v p more at)
+      ∙ ap (λ o. option_map_or (look.condition_places Text (look.node_blocks Blocks)) o []) found.3
+      ∙ conditions_told d names is v found.0 found.1 found.2
+
+  counts_told : (λ v. get_or (look.state_counts Text (look.node_blocks Blocks)) v 1) ≡ states_of d.nodes
+  counts_told = ap (λ counts. λ (v : ℕ). get_or counts v 1) (sym (states_told d names is)) ∙ fun_ext (counts_at d.nodes)
+
+  -- the table or rule of a block has the rows of its node's
+  pub row_count_told : (v p : ℕ) (more : List ℕ) → v < length d.nodes → At Text p (text_onto (node_words d.nodes names v) more) → look.row_count Text Blocks (node_tree d.nodes names p v) ≡ rows_of d.nodes v
+  row_count_told v p more l at = ap (rows_under (λ v. get_or (look.state_counts Text (look.node_blocks Blocks)) v 1)) (block_parents_told v p more l at) ∙ ap (λ counts. rows_under counts (node_at d.nodes v).parents) counts_told
+
+  -- and the cells
+  pub cell_count_told : (v p : ℕ) (more : List ℕ) → v < length d.nodes → At Text p (text_onto (node_words d.nodes names v) more) → look.cell_count Text Blocks (node_tree d.nodes names p v) ≡ rows_of d.nodes v * states_of d.nodes v
+  cell_count_told v p more l at =
+      ap (λ rows. rows * look.states_of Text (node_tree d.nodes names p v)) (row_count_told v p more l at)
+      ∙ ap (λ states. rows_of d.nodes v * states) (block_states_told v p more l at)

@@ -1,0 +1,142 @@
+-- The pass over tables finds nothing in the tree of a printed text, and the tables that it tells are the nodes' cells.
+use Rattle.std.proofs.Common.{◌≡◌, ◌∙◌, ◌≢◌, ℕ, ◌*◌, ◌<◌, ◌≤◌, ℤ, nat_abs, true, List, [], length, map, get_or, decimal, codes, None, refl, sym, ap, subst, arith}
+use Rattle.std.proofs.lemmas.Bool.{false≢true}
+use Rattle.std.proofs.lemmas.List.{get_or-map, length-map}
+use Rattle.std.proofs.lemmas.List.Elements.{All-filter, filter_passes}
+use Rattle.maid_model.specs.declared.diagrams.Kind.{Kind}
+use Rattle.maid_model.specs.declared.diagrams.Kind.TheVariants.{Chance, Decision, Utility}
+use Rattle.maid_model.specs.Names.{NamesView}
+use Rattle.maid_model.specs.Nodes.{node_at, no_node, states_of, rows_of, is_chance}
+use Rattle.maid_model.specs.Tables.{chance_total}
+use Rattle.maid_model.specs.Views.{NodeView, DiagramView}
+use Rattle.net_build.specs.Blocks as look
+use Rattle.net_build.specs.Building.{AreTables, IsTableOf}
+use Rattle.net_build.specs.Passes.{each, only}
+use Rattle.net_build.specs.Table.{table_pass, table_rows, data_rows, weight_rows, length_row, table_nodes}
+use Rattle.net_lexer.specs.Token.{token_bytes}
+use Rattle.net_lexer.specs.declared.tokens.Token.{Token}
+use Rattle.net_lexer.specs.declared.tokens.TokenKind.TheVariants.{Number}
+use Rattle.net_parser.specs.Owned.{leaves}
+use Rattle.net_parser.specs.Trees.{AttributeTree, BlockTree}
+use Rattle.net_print.specs.Printed.{printed, reduced_rows, value_text}
+use Rattle.net_print.specs.RoundTrip.{IsPrintable}
+use Rattle.net_print.proofs.CountsTold.{block_states_told, row_count_told, cell_count_told}
+use Rattle.net_print.proofs.Faultless.{each_clear, nodes_hold}
+use Rattle.net_print.proofs.Given.{potential_found}
+use Rattle.net_print.proofs.Look.{kind_is, node_name_told}
+use Rattle.net_print.proofs.Rows.{length-rows}
+use Rattle.net_print.proofs.TablesTold.{number_texts, table_numbers, potential_data, potential_numbers, potential_repeats, texts_of, blocks_count, block_at, block_kind, block_states, block_numbers}
+use Rattle.net_print.proofs.Tree.{block_kind as tree_kind, list_tree, table_trees, node_tree, potential_tree, tree_of}
+use Rattle.net_print.proofs.ValueLimits.{small_enough, lengths_clear}
+use Rattle.net_print.proofs.ValueScale.{values_scaled}
+use Rattle.net_print.proofs.WeightPass.{chance_lengths_clear, weights_clear}
+use Rattle.net_print.proofs.WeightScale.{chance_cells}
+use Rattle.net_print.proofs.Words.{brace_open, head_words, node_words}
+use Rattle.net_print.proofs.Written.{At, behind, end_at, text_onto}
+
+-- a node with a table is no decision
+no_decision : (kind : Kind) → look.has_table (tree_kind kind) ≡ true → kind ≢ Decision
+no_decision kind has e = false≢true (sym (ap (λ k. look.has_table (tree_kind k)) e) ∙ has)
+
+-- A table of printed numbers has no fault, by its kind.
+data_clear : (text : List ℕ) (blocks : List BlockTree) (block potential : BlockTree) (from : ℕ) (kind : Kind) (decimals states rows : ℕ) (cells : List ℤ) → look.kind_of block.kind ≡ kind → kind ≢ Decision → look.states_of text block ≡ states → look.row_count text blocks block ≡ rows → length (number_texts kind decimals states rows cells) ≡ look.cell_count text blocks block → map (token_bytes text) (look.leaves_of (table_trees from kind decimals states rows cells)) ≡ number_texts kind decimals states rows cells → each (length_row text) (look.leaves_of (table_trees from kind decimals states rows cells)) None → (kind ≡ Chance → (table : AttributeTree) → map (token_bytes text) (leaves table.value) ≡ map decimal (reduced_rows states rows cells) → weight_rows text states rows table None) → data_rows text blocks block potential (table_trees from kind decimals states rows cells) None
+unfolding data_rows
+data_clear text blocks block potential from Chance decimals states rows cells is some has_states has_rows count told short fair =
+    let table = list_tree from (codes "data") Number decimal (reduced_rows states rows cells) in
+    let weights = subst (λ r. weight_rows text (look.states_of text block) r table None) (sym has_rows) (subst (λ n. weight_rows text n rows table None) (sym has_states) (fair refl table told)) in (
+      table_numbers from Chance decimals states rows cells,
+      (
+        λ other. other (sym (length-map (leaves table.value) (token_bytes text)) ∙ ap length told ∙ count),
+        (short, subst (λ k. only (is_chance k) (weight_rows text (look.states_of text block) (look.row_count text blocks block) table) None) (sym is) weights),
+      ),
+    )
+data_clear text blocks block potential from Decision decimals states rows cells is some has_states has_rows count told short fair = absurd (some refl)
+data_clear text blocks block potential from Utility decimals states rows cells is some has_states has_rows count told short fair =
+    let table = list_tree from (codes "data") Number (value_text decimals) cells in (
+      table_numbers from Utility decimals states rows cells,
+      (
+        λ other. other (sym (length-map (leaves table.value) (token_bytes text)) ∙ ap length told ∙ count),
+        (short, subst (λ k. only (is_chance k) (weight_rows text (look.states_of text block) (look.row_count text blocks block) table) None) (sym is) tt),
+      ),
+    )
+
+module _ (d : DiagramView) (names : NamesView) (is : IsPrintable d names) where
+  abbrev Text : List ℕ
+  Text = printed d names
+
+  abbrev Blocks : List BlockTree
+  Blocks = tree_of d names is
+
+  -- as many numbers are printed as the table has cells
+  texts_count : (v : ℕ) → v < length d.nodes → (kind : Kind) → (node_at d.nodes v).kind ≡ kind → kind ≢ Decision → length (number_texts kind d.decimals (states_of d.nodes v) (rows_of d.nodes v) (node_at d.nodes v).cells) ≡ rows_of d.nodes v * states_of d.nodes v
+  texts_count v l Chance kind some =
+      let cells = (node_at d.nodes v).cells in
+      length-map (reduced_rows (states_of d.nodes v) (rows_of d.nodes v) cells) decimal ∙ length-rows (states_of d.nodes v) cells (rows_of d.nodes v) (subst (λ n. rows_of d.nodes v * states_of d.nodes v ≤ n) (sym (is.diagram.tables.table v kind).len) (omega arith))
+  texts_count v l Decision kind some = absurd (some refl)
+  texts_count v l Utility kind some =
+      length-map (node_at d.nodes v).cells (value_text d.decimals) ∙ is.diagram.values.utility v l kind ∙ once (rows_of d.nodes v) (states_of d.nodes v) (is.diagram.graph.utility_states v kind)
+    where
+      once : (rows states : ℕ) → states ≡ 1 → rows ≡ rows * states
+      once rows states e = rw e (omega arith)
+
+  -- no number is too long
+  texts_short : (v : ℕ) → v < length d.nodes → (kind : Kind) → (node_at d.nodes v).kind ≡ kind → kind ≢ Decision → (tokens : List Token) → map (token_bytes Text) tokens ≡ number_texts kind d.decimals (states_of d.nodes v) (rows_of d.nodes v) (node_at d.nodes v).cells → each (length_row Text) tokens None
+  texts_short v l Chance kind some tokens told = chance_lengths_clear (node_at d.nodes v).cells (rows_of d.nodes v) (states_of d.nodes v) (chance_total d.nodes v) (is.diagram.tables.table v kind) (is.diagram.tables.positive v kind) (is.diagram.limits.totals v kind) (is.diagram.graph.has_state v) Text tokens told
+  texts_short v l Decision kind some tokens told = absurd (some refl)
+  texts_short v l Utility kind some tokens told = lengths_clear Text tokens d.decimals (node_at d.nodes v).cells is.diagram.limits.decimals told (is.diagram.limits.values v kind)
+
+  -- the weights have no fault
+  weights_fair : (v : ℕ) → (node_at d.nodes v).kind ≡ Chance → (table : AttributeTree) → map (token_bytes Text) (leaves table.value) ≡ map decimal (reduced_rows (states_of d.nodes v) (rows_of d.nodes v) (node_at d.nodes v).cells) → weight_rows Text (states_of d.nodes v) (rows_of d.nodes v) table None
+  weights_fair v kind table told = weights_clear (node_at d.nodes v).cells (rows_of d.nodes v) (states_of d.nodes v) (chance_total d.nodes v) (is.diagram.tables.table v kind) (is.diagram.tables.positive v kind) (is.diagram.limits.totals v kind) (is.diagram.graph.has_state v) Text (leaves table.value) told table refl
+
+  table_clear : (v p : ℕ) (more : List ℕ) → v < length d.nodes → At Text p (text_onto (node_words d.nodes names v) more) → look.has_table (node_tree d.nodes names p v).kind ≡ true → table_rows Text Blocks (node_tree d.nodes names p v) (look.potential_of Text Blocks (look.name_of Text (node_tree d.nodes names p v))) None
+  unfolding table_rows
+  table_clear v p more l at has =
+      let node = node_at d.nodes v in
+      let block = node_tree d.nodes names p v in
+      let found = potential_found d names is v l in
+      let potential = potential_tree d names found.0 v in
+      let some = no_decision node.kind has in
+      let told = potential_numbers d names is v found.0 found.1 found.2 in
+      let from = behind (end_at found.0 (head_words names v node.parents)) brace_open in
+      let clear = data_clear Text Blocks block potential from node.kind d.decimals node.states (rows_of d.nodes v) node.cells (kind_is node.kind) some
+      (block_states_told d names is v p more l at) (row_count_told d names is v p more l at)
+      (texts_count v l node.kind refl some ∙ sym (cell_count_told d names is v p more l at))
+      told (texts_short v l node.kind refl some (look.leaves_of potential.attributes) told) (weights_fair v) in
+      subst (λ o. table_rows Text Blocks block o None) (sym (ap (look.potential_of Text Blocks) (node_name_told Text d.nodes names v p more at) ∙ found.3)) (
+        potential_repeats d names is v found.0,
+        subst (λ attributes. data_rows Text Blocks block potential attributes None) (sym (potential_data d names is v found.0 found.1 found.2)) clear,
+      )
+
+  -- No table has a fault.
+  pub tables_clear : table_pass Text Blocks None
+  unfolding table_pass
+  tables_clear =
+      let has = λ (b : BlockTree). look.has_table b.kind in
+      let row = λ (b : BlockTree). table_rows Text Blocks b (look.potential_of Text Blocks (look.name_of Text b)) in
+      let nodes = look.node_blocks Blocks in
+      each_clear row (table_nodes Blocks) (λ k e h. All-filter has (λ b. has b ≡ true → row b None) nodes (nodes_hold d names is (λ b. has b ≡ true → row b None) table_clear) k e h (filter_passes has nodes k e h))
+
+  table_is : (v : ℕ) → v < length d.nodes → (kind : Kind) → (node_at d.nodes v).kind ≡ kind → IsTableOf kind d.decimals (states_of d.nodes v) (number_texts kind d.decimals (states_of d.nodes v) (rows_of d.nodes v) (node_at d.nodes v).cells) (node_at d.nodes v).cells
+  table_is v l Chance kind = chance_cells (node_at d.nodes v).cells (rows_of d.nodes v) (states_of d.nodes v) (chance_total d.nodes v) (is.diagram.tables.table v kind) (is.diagram.tables.positive v kind) (is.diagram.limits.totals v kind) (is.diagram.graph.has_state v) (is.plain.weights v kind)
+  table_is v l Decision kind = is.diagram.values.decision v kind
+  table_is v l Utility kind = values_scaled d.decimals (node_at d.nodes v).cells (λ k e h. small_enough (nat_abs (get_or (node_at d.nodes v).cells k e)) (is.diagram.limits.values v kind k e h))
+
+  told_table : (v : ℕ) → v < length d.nodes → IsTableOf (look.kind_of (block_at d names is v).kind) d.decimals (look.states_of Text (block_at d names is v)) (map (token_bytes Text) (look.numbers_of Text Blocks (block_at d names is v))) (get_or (map (λ n. n.cells) d.nodes) v [])
+  told_table v l =
+      let node = node_at d.nodes v in
+      let block = block_at d names is v in
+      let numbers = map (token_bytes Text) (look.numbers_of Text Blocks block) in
+      let cells = get_or (map (λ (n : NodeView). n.cells) d.nodes) v [] in
+      subst (λ kind. IsTableOf kind d.decimals (look.states_of Text block) numbers cells) (sym (block_kind d names is v l))
+      (subst (λ states. IsTableOf node.kind d.decimals states numbers cells) (sym (block_states d names is v l))
+      (subst (λ numerals. IsTableOf node.kind d.decimals node.states numerals cells) (sym (block_numbers d names is v l))
+      (subst (λ list. IsTableOf node.kind d.decimals node.states (texts_of d v) list) (sym (get_or-map (λ (n : NodeView). n.cells) d.nodes v no_node [] l))
+      (table_is v l node.kind refl))))
+
+  -- The tables that are told are the nodes' cells.
+  pub tables_told : AreTables Text Blocks d.decimals (map (λ n. n.cells) d.nodes)
+  tables_told = record {
+    len = length-map d.nodes (λ (n : NodeView). n.cells) ∙ sym (blocks_count d names is);
+    each = λ v l. told_table v (subst (λ n. v < n) (length-map d.nodes (λ (n : NodeView). n.cells)) l);
+  }
