@@ -1,9 +1,9 @@
 -- The round trip: the printed text of a diagram stands for that diagram and its names.
-use Rattle.std.specs.Prelude.{◌≡◌, ℕ, ◌*◌, ◌^◌, nat_abs, List, [], length, map, All, None}
+use Rattle.std.specs.Prelude.{◌≡◌, ℕ, ◌*◌, ◌^◌, nat_abs, List, length, map, All, None}
 use Rattle.std.specs.Int.{◌∣◌}
 use Rattle.maid_model.specs.declared.diagrams.Kind.TheVariants.{Chance, Utility}
 use Rattle.maid_model.specs.Diagrams.{IsDiagram}
-use Rattle.maid_model.specs.Names.{NamesView, NamesFit, labels_of}
+use Rattle.maid_model.specs.Names.{NamesView, NamesFit}
 use Rattle.maid_model.specs.Nodes.{node_at, states_of, rows_of}
 use Rattle.maid_model.specs.Placing.{IsLeast}
 use Rattle.maid_model.specs.Tables.{chance_total}
@@ -29,13 +29,12 @@ pub record IsPlain (d : DiagramView) : Type 0 where
   pub weights : (v : ℕ) → (node_at d.nodes v).kind ≡ Chance → IsCommonTotal (reduced_rows (states_of d.nodes v) (rows_of d.nodes v) (node_at d.nodes v).cells) (states_of d.nodes v) (rows_of d.nodes v) (chance_total d.nodes v)
   pub decimals : IsLeast (AreEnough d) d.decimals
 
--- a diagram and names that a text can stand for; a utility has no label
+-- a diagram and names that a text can stand for
 pub record IsPrintable (d : DiagramView) (names : NamesView) : Type 0 where
   pub diagram : IsDiagram d
   pub plain : IsPlain d
   pub fit : NamesFit d names
   pub form : HasTextForm d names
-  pub utility_labels : (v : ℕ) → (node_at d.nodes v).kind ≡ Utility → labels_of names v ≡ []
 
 -- the text has tokens, they spell a tree, and without a fault it stands for the diagram and the names
 abbrev pub ReadsBack : DiagramView → NamesView → Type 0
