@@ -1,12 +1,7 @@
 -- The round trip: the printed text of a diagram stands for that diagram and its names.
-use Rattle.std.specs.Prelude.{◌≡◌, ℕ, ◌*◌, ◌^◌, nat_abs, List, length, map, All, None}
-use Rattle.std.specs.Int.{◌∣◌}
-use Rattle.maid_model.specs.declared.diagrams.Kind.TheVariants.{Chance, Utility}
+use Rattle.std.specs.Prelude.{◌≡◌, ℕ, List, length, map, None}
 use Rattle.maid_model.specs.Diagrams.{IsDiagram}
 use Rattle.maid_model.specs.Names.{NamesView, NamesFit}
-use Rattle.maid_model.specs.Nodes.{node_at, states_of, rows_of}
-use Rattle.maid_model.specs.Placing.{IsLeast}
-use Rattle.maid_model.specs.Tables.{chance_total}
 use Rattle.maid_model.specs.Views.{DiagramView}
 use Rattle.net_lexer.specs.Pieces.{IsTokens}
 use Rattle.net_lexer.specs.declared.tokens.Token.{Token}
@@ -16,18 +11,9 @@ use Rattle.net_parser.specs.Trees.{BlockTree}
 use Rattle.net_build.specs.Blocks.{node_blocks, kind_of, state_counts, agents_of, owner_of, parent_lists}
 use Rattle.net_build.specs.Building.{StandsFor, names_view}
 use Rattle.net_build.specs.Form.{HasTextForm}
-use Rattle.weight_scale.specs.Scaling.{IsCommonTotal}
+use Rattle.net_build.specs.Plain.{IsPlain}
 use Rattle.net_build.specs.Table.{all_passes, potential_pass, graph_pass, missing_pass}
-use Rattle.net_print.specs.Printed.{printed, reduced_rows}
-
--- so many decimals are enough for all values of utilities: cell / 10^decimals * 10^k is whole
-abbrev pub AreEnough : DiagramView → ℕ → Type 0
-AreEnough d k = (v : ℕ) → (node_at d.nodes v).kind ≡ Utility → All (λ x. (10 ^ d.decimals) ∣ nat_abs x * 10 ^ k) (node_at d.nodes v).cells
-
--- W(v) is the least common multiple of the reduced rows' totals, and the decimals are the least that all values of utilities need
-pub record IsPlain (d : DiagramView) : Type 0 where
-  pub weights : (v : ℕ) → (node_at d.nodes v).kind ≡ Chance → IsCommonTotal (reduced_rows (states_of d.nodes v) (rows_of d.nodes v) (node_at d.nodes v).cells) (states_of d.nodes v) (rows_of d.nodes v) (chance_total d.nodes v)
-  pub decimals : IsLeast (AreEnough d) d.decimals
+use Rattle.net_print.specs.Printed.{printed}
 
 -- a diagram and names that a text can stand for
 pub record IsPrintable (d : DiagramView) (names : NamesView) : Type 0 where
