@@ -114,6 +114,14 @@ has_labels blocks.Decision n c = refl
 has_labels blocks.Utility n c = absurd (c refl)
 has_labels blocks.Potential n c = absurd (false≢true n)
 
+-- a utility's block has no labels
+no_labels : (k : BlockKind) → kind_of k ≡ Utility → has_states k ≡ false
+no_labels blocks.Net u = refl
+no_labels blocks.Node u = let clash : Chance ≡ Utility = u in cc
+no_labels blocks.Decision u = let clash : Decision ≡ Utility = u in cc
+no_labels blocks.Utility u = refl
+no_labels blocks.Potential u = refl
+
 module _ (text : List ℕ) (tree : List BlockTree) (tables : TableLists) (own : All (IsBlockOf text) tree) (rows : node_pass text tree None) (links : AreLinks (node_lists text (node_blocks tree)).heads (parent_lists text tree))
     (are : AreTables text tree tables.decimals tables.cells) (fit : TablesFit (node_lists text (node_blocks tree)).heads (parent_lists text tree) tables.cells) (few : tables.decimals ≤ 30) (scale : IsUtilityScale text tree tables.decimals) where
   abbrev nodes : List BlockTree
@@ -217,6 +225,17 @@ module _ (text : List ℕ) (tree : List BlockTree) (tables : TableLists) (own : 
     agents = refl;
   }
 
+  labels_absent : (v : ℕ) → (head_at heads v).kind ≡ Utility → get_or (map (labels_of text) nodes) v [] ≡ []
+  labels_absent v u = by_place (cases_lt v (length nodes)) where
+    by_place : (v < length nodes) ⊎ (length nodes ≤ v) → get_or (map (labels_of text) nodes) v [] ≡ []
+    by_place (inl h) =
+        let b : BlockTree = get_or nodes v no_block in
+        let head : head_at heads v ≡ head_of text nodes b = get_or-map (head_of text nodes) nodes v no_block no_head h in
+        let states = no_labels b.kind (sym (ap (λ (x : Head). x.kind) head) ∙ u) in
+        get_or-map (labels_of text) nodes v no_block [] h
+        ∙ ap (λ t. map (text_value text) (if t then leaves_of (named text (codes "states") b.attributes) else [])) states
+    by_place (inr h) = let len = length-map nodes (labels_of text) in get_or_past (map (labels_of text) nodes) v [] (omega (arith, len))
+
   node_name : (b : BlockTree) → IsBlockOf text b → is_node b.kind ≡ true → length (name_of text b) ≤ 255 → IsNodeName (name_of text b)
   node_name b block node short = record { unsigned = (block.names 0 no_token (node_is_named b.kind (length b.names) node block.count)).name.unsigned; size = short }
 
@@ -247,6 +266,9 @@ module _ (text : List ℕ) (tree : List BlockTree) (tables : TableLists) (own : 
     distinct = good.distinct;
     words = All-map IsNodeName (name_of text) nodes (λ k d h. node_name (get_or nodes k d) (owned_blocks k d h) (kinds k d h) (good.each k d h).short);
     labels = All-map (All (λ l. is_plain l ≡ true)) (labels_of text) nodes (λ k d h. labels_plain (get_or nodes k d) (good.each k d h));
+    utility_labels = λ v u.
+        let at = made_node_at heads (parent_lists text tree) tables.cells parents_len cells_len v in
+        labels_absent v (sym (ap (λ (n : NodeView). n.kind) at) ∙ u);
     agents = agents_plain;
     numbered = numbered;
   }

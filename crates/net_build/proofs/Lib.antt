@@ -37,3 +37,5 @@ pub mod SizeLemmas
 pub mod PotentialLemmas
 pub mod FitLemmas
 pub mod LinkPasses
+pub mod RowDivisors
+pub mod PlainTables

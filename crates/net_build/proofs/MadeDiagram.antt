@@ -47,7 +47,7 @@ sum_over_is : (f : ℕ → ℕ) (xs : List ℕ) → nat_sum_over f xs ≡ sum (m
 sum_over_is f [] = refl
 sum_over_is f (x ∷ xs) = let rest = sum_over_is f xs in let first = fold_plus (0 + f x) (map f xs) in omega arith
 
-rows_positive : (count : ℕ → ℕ) → ((u : ℕ) → 0 < count u) → (us : List ℕ) → 0 < rows_under count us
+pub rows_positive : (count : ℕ → ℕ) → ((u : ℕ) → 0 < count u) → (us : List ℕ) → 0 < rows_under count us
 rows_positive count some [] = omega arith
 rows_positive count some (u ∷ us) = let product = mul-lt 0 0 (count u) (rows_under count us) (some u) (rows_positive count some us) in product
 

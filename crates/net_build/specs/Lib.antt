@@ -7,6 +7,7 @@ pub mod Scaling
 pub mod Table
 pub mod Building
 pub mod Form
+pub mod Plain
 pub mod Stages
 pub mod LinkCode
 pub mod Laws

@@ -7,6 +7,7 @@ ghost use Rattle.net_build.specs.Building.{StandsFor};
 ghost use Rattle.net_build.specs.Form.{HasTextForm};
 ghost use Rattle.net_build.specs.Lists.{numbers_of_lists, cells_of_lists};
 ghost use Rattle.net_build.specs.Passes.{Passes};
+ghost use Rattle.net_build.specs.Plain.{IsPlain};
 ghost use Rattle.net_build.specs.Stages.{made_node, made_nodes, made_diagram};
 ghost use Rattle.net_build.specs.Table.{all_passes};
 ghost use Rattle.net_lexer.specs.Pieces.{IsTokens};
@@ -99,6 +100,7 @@ pub fn build(
     ensures diagram { IfOk result (λ built. IsDiagram built.0) }
     ensures fit { IfOk result (λ built. NamesFit built.0 built.1) }
     ensures form { IfOk result (λ built. HasTextForm built.0 built.1) }
+    ensures plain { IfOk result (λ built. IsPlain built.0) }
 {
     // The blocks have all of the tokens that are needed.
     let _ = tokens;

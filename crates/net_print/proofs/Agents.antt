@@ -107,6 +107,6 @@ module _ (d : DiagramView) (names : NamesView) (is : IsPrintable d names) where
         state_case (node_at d.nodes v).kind (length (look.label_tokens (printed d names) tree)) (node_at d.nodes v).states
         (λ some.
         sym (length-map (look.label_tokens (printed d names) tree) (text_value (printed d names)))
-        ∙ ap length (node_labels_told (printed d names) d.nodes names v p more at (is.utility_labels v))
+        ∙ ap length (node_labels_told (printed d names) d.nodes names v p more at (is.form.utility_labels v))
         ∙ is.fit.states v l some)
         (is.diagram.graph.utility_states v)

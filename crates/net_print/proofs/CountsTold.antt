@@ -36,7 +36,7 @@ module _ (d : DiagramView) (names : NamesView) (is : IsPrintable d names) where
   block_states_told v p more l at =
       let tree = node_tree d.nodes names p v in
       state_case (node_at d.nodes v).kind (length (look.label_tokens Text tree)) (node_at d.nodes v).states
-      (λ some. sym (length-map (look.label_tokens Text tree) (text_value Text)) ∙ ap length (node_labels_told Text d.nodes names v p more at (is.utility_labels v)) ∙ is.fit.states v l some)
+      (λ some. sym (length-map (look.label_tokens Text tree) (text_value Text)) ∙ ap length (node_labels_told Text d.nodes names v p more at (is.form.utility_labels v)) ∙ is.fit.states v l some)
       (is.diagram.graph.utility_states v)
 
   -- and the parents

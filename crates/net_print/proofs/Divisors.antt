@@ -7,7 +7,7 @@ use Rattle.std.proofs.lemmas.List.Elements.{All-nil, All-cons, All-head, All-tai
 use Rattle.std.proofs.lemmas.List.Sums.{sum_by-cons, get_or-le-sum_by, AllPass-from_list_all, list_all-from_AllPass}
 use Rattle.std.proofs.lemmas.Nat.Gcd.{dvd-zero, dvd_trans, le_of_dvd, dvd_of_mod-eq-zero, mod-eq-zero_of_dvd}
 use Rattle.std.proofs.Math.Nat.{dvd-add, one-dvd, pos_of_dvd_of_pos}
-use Rattle.net_print.specs.Printed.{greatest_divisor, row_divisor}
+use Rattle.net_build.specs.Plain.{greatest_divisor, row_divisor}
 
 -- it divides each, and whatever divides each divides it
 pub record IsGreatestDivisor (row : List ℕ) (g : ℕ) : Type 0 where

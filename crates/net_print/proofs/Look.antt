@@ -204,7 +204,7 @@ module _ (d : DiagramView) (names : NamesView) (is : IsPrintable d names) where
   names_told = tell (look.name_of (printed d names)) (name_of names) (λ v p more l at. node_name_told (printed d names) d.nodes names v p more at) ∙ each_place names.nodes (length d.nodes) [] is.fit.nodes
 
   pub labels_are_told : map (look.labels_of (printed d names)) (look.node_blocks (tree_of d names is)) ≡ names.labels
-  labels_are_told = tell (look.labels_of (printed d names)) (labels_of names) (λ v p more l at. node_labels_told (printed d names) d.nodes names v p more at (is.utility_labels v)) ∙ each_place names.labels (length d.nodes) [] is.fit.labels
+  labels_are_told = tell (look.labels_of (printed d names)) (labels_of names) (λ v p more l at. node_labels_told (printed d names) d.nodes names v p more at (is.form.utility_labels v)) ∙ each_place names.labels (length d.nodes) [] is.fit.labels
 
   pub kinds_told : map (λ n. n.kind) d.nodes ≡ map (λ b. look.kind_of b.kind) (look.node_blocks (tree_of d names is))
   kinds_told = sym (tell (λ b. look.kind_of b.kind) (λ v. (node_at d.nodes v).kind) (λ v p more l at. kind_is (node_at d.nodes v).kind) ∙ each_node (λ n. n.kind) d.nodes)

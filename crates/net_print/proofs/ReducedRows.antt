@@ -10,7 +10,7 @@ use Rattle.std.proofs.lemmas.List.Sums.{get_or-le-sum_by}
 use Rattle.std.proofs.lemmas.Nat.Gcd.{le_of_dvd}
 use Rattle.maid_model.specs.Tables.{IsTable}
 use Rattle.weight_scale.specs.Scaling.{row_at, weights_of}
-use Rattle.net_print.specs.Printed.{reduced_row, reduced_rows}
+use Rattle.net_build.specs.Plain.{reduced_row, reduced_rows}
 use Rattle.net_print.proofs.Steps.{lines_more}
 use Rattle.net_print.proofs.Rows.{row_within, length-row, length-rows, size_of, sum_cells}
 use Rattle.net_print.proofs.RowDivisors.{SharesNone, reduced_shares_none, reduced_sum_divides, reduced_positive, weights_back}

@@ -8,7 +8,7 @@ use Rattle.std.proofs.lemmas.List.Elements.{All-cons, All-head, All-tail, All-we
 use Rattle.std.proofs.lemmas.List.Sums.{sum_by-cons}
 use Rattle.weight_scale.specs.Scaling as scaling
 use Rattle.weight_scale.specs.Scaling.{IsReducedRow, weights_of}
-use Rattle.net_print.specs.Printed.{row_divisor, reduced_row}
+use Rattle.net_build.specs.Plain.{row_divisor, reduced_row}
 use Rattle.net_print.proofs.Divisors.{IsGreatestDivisor, divisor_none, divisor_is, divisor_positive}
 
 -- ---- maps

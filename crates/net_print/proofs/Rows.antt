@@ -11,7 +11,7 @@ use Rattle.maid_model.specs.Sums.{sum_below}
 use Rattle.maid_model.specs.Tables.{chance_total}
 use Rattle.maid_model.specs.Views.{DiagramView}
 use Rattle.weight_scale.specs.Scaling.{row_at}
-use Rattle.net_print.specs.Printed.{reduced_row, reduced_rows}
+use Rattle.net_build.specs.Plain.{reduced_row, reduced_rows}
 use Rattle.net_print.specs.Parts.{parted_behind}
 use Rattle.net_print.proofs.Steps.{lines_more, parted-append}
 

@@ -18,7 +18,8 @@ use Rattle.net_lexer.specs.declared.tokens.Token.{Token}
 use Rattle.net_lexer.specs.declared.tokens.TokenKind.TheVariants.{Number}
 use Rattle.net_parser.specs.Owned.{leaves}
 use Rattle.net_parser.specs.Trees.{AttributeTree, BlockTree}
-use Rattle.net_print.specs.Printed.{printed, reduced_rows, value_text}
+use Rattle.net_build.specs.Plain.{reduced_rows}
+use Rattle.net_print.specs.Printed.{printed, value_text}
 use Rattle.net_print.specs.RoundTrip.{IsPrintable}
 use Rattle.net_print.proofs.CountsTold.{block_states_told, row_count_told, cell_count_told}
 use Rattle.net_print.proofs.Faultless.{each_clear, nodes_hold}

@@ -20,7 +20,8 @@ use Rattle.net_lexer.specs.declared.tokens.TokenKind.TheVariants.{Word, Number}
 use Rattle.net_parser.specs.declared.trees.BlockKind.{BlockKind}
 use Rattle.net_parser.specs.Owned.{leaves}
 use Rattle.net_parser.specs.Trees.{BlockTree}
-use Rattle.net_print.specs.Printed.{printed, reduced_rows, value_text}
+use Rattle.net_build.specs.Plain.{reduced_rows}
+use Rattle.net_print.specs.Printed.{printed, value_text}
 use Rattle.net_print.specs.RoundTrip.{IsPrintable}
 use Rattle.net_print.proofs.Agents.{states_told}
 use Rattle.net_print.proofs.Given.{item_bytes, potential_found, potential_title}

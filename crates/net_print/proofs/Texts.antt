@@ -14,7 +14,8 @@ use Rattle.maid_model.specs.Views.{DiagramView}
 use Rattle.weight_scale.specs.Scaling.{row_at}
 use Rattle.net_lexer.specs.Numerals.{is_numeral}
 use Rattle.net_lexer.specs.Token.{is_name}
-use Rattle.net_print.specs.Printed.{printed, node_line, potential_line, reduced_row, reduced_rows, row_divisor}
+use Rattle.net_build.specs.Plain.{reduced_row, reduced_rows, row_divisor}
+use Rattle.net_print.specs.Printed.{printed, node_line, potential_line}
 use Rattle.net_print.specs.RoundTrip.{IsPrintable}
 use Rattle.net_print.proofs.Forms.{decimal_numeral, value_numeral}
 use Rattle.net_print.proofs.Rows.{row_total}

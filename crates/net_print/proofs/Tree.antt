@@ -19,7 +19,8 @@ use Rattle.net_parser.specs.Grammar as grammar
 use Rattle.net_parser.specs.Grammar.{Rule, Spells, IsModelName, ◌▹◌}
 use Rattle.net_parser.specs.Lexemes.{Lexeme, lexemes, is_leaf, IsWord}
 use Rattle.net_parser.specs.Trees.{leaf, list, AttributeTree, BlockTree}
-use Rattle.net_print.specs.Printed.{printed, kind_word, reduced_rows, value_text}
+use Rattle.net_build.specs.Plain.{reduced_rows}
+use Rattle.net_print.specs.Printed.{printed, kind_word, value_text}
 use Rattle.net_print.specs.RoundTrip.{IsPrintable}
 use Rattle.net_print.proofs.Spelling.{lexemes_onto, lexemes_onto-append, lexemes_onto_none, Spelled, spelled-append, spelled-cons, mark_spelled, word_spelled, name_spelled, AreNames, names_spelled, leaf_trees, AreLeaves, leaf_spelled, list_spelled, trees_at}
 use Rattle.net_print.proofs.Texts.{named, numbers_below, parents_named, text_is, text_writes}

@@ -11,7 +11,7 @@ use Rattle.maid_model.specs.declared.diagrams.Kind.TheVariants.{Chance, Decision
 use Rattle.maid_model.specs.Nodes.{node_at, no_node, numbers_of, is_utility}
 use Rattle.maid_model.specs.Placing.{IsLeast}
 use Rattle.maid_model.specs.Views.{NodeView, DiagramView}
-use Rattle.net_print.specs.RoundTrip.{AreEnough}
+use Rattle.net_build.specs.Plain.{AreEnough}
 use Rattle.net_print.proofs.TablesTold.{utility_cells}
 use Rattle.net_print.proofs.Texts.{all_flat}
 

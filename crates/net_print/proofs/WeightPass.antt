@@ -20,7 +20,7 @@ use Rattle.net_build.specs.Blocks.{no_token}
 use Rattle.net_build.specs.Passes.{each}
 use Rattle.net_build.specs.Scaling.{AreDecimals}
 use Rattle.net_build.specs.Table.{length_row, sign_row, total_row, rows_by, IsNumberTooLong, IsWideTotal, weight_rows}
-use Rattle.net_print.specs.Printed.{reduced_rows}
+use Rattle.net_build.specs.Plain.{reduced_rows}
 use Rattle.net_print.proofs.DigitValues.{decimal_read}
 use Rattle.net_print.proofs.Faultless.{each_clear}
 use Rattle.net_print.proofs.ReducedRows.{row_map, row_sum_divides, row_sum_positive}

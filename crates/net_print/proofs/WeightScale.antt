@@ -8,7 +8,7 @@ use Rattle.weight_scale.specs.Scaling.{row_at, raised, raised_row, IsReducedRow,
 use Rattle.weight_scale.specs.declared.decimal.Decimal.{Decimal}
 use Rattle.net_build.specs.Building.{AreChanceCells}
 use Rattle.net_build.specs.Scaling.{AreDecimals}
-use Rattle.net_print.specs.Printed.{reduced_rows}
+use Rattle.net_build.specs.Plain.{reduced_rows}
 use Rattle.net_print.proofs.ReducedRows.{row_map, row_shares_none, row_weights, all_small, reduced_len}
 use Rattle.net_print.proofs.RowDivisors.{raised_reduced}
 use Rattle.net_print.proofs.ValueTexts.{tens_positive}

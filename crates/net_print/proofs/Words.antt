@@ -16,7 +16,8 @@ use Rattle.net_lexer.specs.Token.{is_token, is_name, is_signed}
 use Rattle.net_lexer.specs.declared.pieces.PieceKind.TheVariants as pieces
 use Rattle.net_lexer.specs.declared.tokens.TokenKind.{TokenKind}
 use Rattle.net_lexer.specs.declared.tokens.TokenKind.TheVariants.{Word, Text, Number, BraceOpen, BraceClose, ParenOpen, ParenClose, Equals, Semicolon, Bar}
-use Rattle.net_print.specs.Printed.{parted, kind_word, states_text, agent_text, attributes_text, node_line, head_text, table_text, potential_line, reduced_rows, value_text}
+use Rattle.net_build.specs.Plain.{reduced_rows}
+use Rattle.net_print.specs.Printed.{parted, kind_word, states_text, agent_text, attributes_text, node_line, head_text, table_text, potential_line, value_text}
 use Rattle.net_print.proofs.Forms.{quoted_string}
 use Rattle.net_print.proofs.Written.{Written, text_onto, Fits, Stands, text_onto-append, stands-append}
 

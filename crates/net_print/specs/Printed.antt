@@ -1,13 +1,13 @@
 -- The text of a diagram: a line for each node block, and then a line for each potential, both in the order of the nodes.
-use Rattle.std.specs.Prelude.{ℕ, zero, suc, ◌-◌, ◌/◌, ◌%◌, ◌^◌, ◌==◌, ℤ, pos, negsuc, unsigned_abs, List, [], ◌∷◌, ◌++◌, length, map, sum, replicate, codes, decimal, if◌then◌else◌}
-use Rattle.std.specs.List.{flat_map, list_all, range_with_len}
+use Rattle.std.specs.Prelude.{ℕ, zero, suc, ◌-◌, ◌/◌, ◌%◌, ◌^◌, ◌==◌, ℤ, pos, negsuc, unsigned_abs, List, [], ◌∷◌, ◌++◌, length, replicate, codes, decimal, if◌then◌else◌}
+use Rattle.std.specs.List.{flat_map}
 use Rattle.maid_model.specs.declared.diagrams.Kind.{Kind}
 use Rattle.maid_model.specs.declared.diagrams.Kind.TheVariants.{Chance, Decision, Utility}
 use Rattle.maid_model.specs.Names.{NamesView, name_of, labels_of, agent_name}
 use Rattle.maid_model.specs.Nodes.{node_at, rows_of, numbers_of}
 use Rattle.maid_model.specs.Reports.{line, quoted}
 use Rattle.maid_model.specs.Views.{NodeView, DiagramView}
-use Rattle.weight_scale.specs.Scaling.{row_at}
+use Rattle.net_build.specs.Plain.{reduced_rows}
 
 -- the text of each, parted by one space
 abbrev pub parted : {A : Type 0} → (A → List ℕ) → List A → List ℕ
@@ -44,23 +44,6 @@ node_line nodes names v = let node = node_at nodes v in line (kind_word node.kin
 abbrev pub given_text : NamesView → List ℕ → List ℕ
 given_text names [] = []
 given_text names (u ∷ us) = codes " | " ++ parted (name_of names) (u ∷ us)
-
--- the greatest number up to n that divides each
-unfoldable pub greatest_divisor : ℕ → List ℕ → ℕ
-greatest_divisor zero row = 0
-greatest_divisor (suc n) row = if list_all (λ x. x % suc n == 0) row then suc n else greatest_divisor n row
-
--- the greatest common divisor of a row's weights, which isn't greater than their sum
-abbrev pub row_divisor : List ℕ → ℕ
-row_divisor row = greatest_divisor (sum row) row
-
--- the row over its greatest common divisor
-abbrev pub reduced_row : List ℕ → List ℕ
-reduced_row row = map (λ x. x / row_divisor row) row
-
--- the reduced rows of a table of so many rows, one after the other
-abbrev pub reduced_rows : ℕ → ℕ → List ℤ → List ℕ
-reduced_rows states rows cells = flat_map (λ r. reduced_row (map unsigned_abs (row_at states cells r))) (range_with_len 0 rows)
 
 -- the digits of a number with noughts before them, so many in all
 abbrev pub padded : ℕ → ℕ → List ℕ

@@ -1,12 +1,7 @@
 -- The round trip: the printed text of a diagram stands for that diagram and its names.
-use Rattle.std.specs.Prelude.{◌≡◌, ℕ, ◌*◌, ◌^◌, nat_abs, List, [], All, None}
-use Rattle.std.specs.Int.{◌∣◌}
-use Rattle.maid_model.specs.declared.diagrams.Kind.TheVariants.{Chance, Utility}
+use Rattle.std.specs.Prelude.{List, None}
 use Rattle.maid_model.specs.Diagrams.{IsDiagram}
-use Rattle.maid_model.specs.Names.{NamesView, NamesFit, labels_of}
-use Rattle.maid_model.specs.Nodes.{node_at, states_of, rows_of}
-use Rattle.maid_model.specs.Placing.{IsLeast}
-use Rattle.maid_model.specs.Tables.{chance_total}
+use Rattle.maid_model.specs.Names.{NamesView, NamesFit}
 use Rattle.maid_model.specs.Views.{DiagramView}
 use Rattle.net_lexer.specs.Pieces.{IsTokens}
 use Rattle.net_lexer.specs.declared.tokens.Token.{Token}
@@ -15,26 +10,16 @@ use Rattle.net_parser.specs.Lexemes.{lexemes}
 use Rattle.net_parser.specs.Trees.{BlockTree}
 use Rattle.net_build.specs.Building.{StandsFor}
 use Rattle.net_build.specs.Form.{HasTextForm}
-use Rattle.weight_scale.specs.Scaling.{IsCommonTotal}
+use Rattle.net_build.specs.Plain.{IsPlain}
 use Rattle.net_build.specs.Table.{all_passes}
-use Rattle.net_print.specs.Printed.{printed, reduced_rows}
+use Rattle.net_print.specs.Printed.{printed}
 
--- so many decimals are enough for all values of utilities: cell / 10^decimals * 10^k is whole
-abbrev pub AreEnough : DiagramView → ℕ → Type 0
-AreEnough d k = (v : ℕ) → (node_at d.nodes v).kind ≡ Utility → All (λ x. (10 ^ d.decimals) ∣ nat_abs x * 10 ^ k) (node_at d.nodes v).cells
-
--- W(v) is the least common multiple of the reduced rows' totals, and the decimals are the least that all values of utilities need
-pub record IsPlain (d : DiagramView) : Type 0 where
-  pub weights : (v : ℕ) → (node_at d.nodes v).kind ≡ Chance → IsCommonTotal (reduced_rows (states_of d.nodes v) (rows_of d.nodes v) (node_at d.nodes v).cells) (states_of d.nodes v) (rows_of d.nodes v) (chance_total d.nodes v)
-  pub decimals : IsLeast (AreEnough d) d.decimals
-
--- a diagram and names that a text can stand for; a utility has no label
+-- a diagram and names that a text can stand for
 pub record IsPrintable (d : DiagramView) (names : NamesView) : Type 0 where
   pub diagram : IsDiagram d
   pub plain : IsPlain d
   pub fit : NamesFit d names
   pub form : HasTextForm d names
-  pub utility_labels : (v : ℕ) → (node_at d.nodes v).kind ≡ Utility → labels_of names v ≡ []
 
 -- the text has tokens, they spell a tree, and without a fault it stands for the diagram and the names
 abbrev pub ReadsBack : DiagramView → NamesView → Type 0

@@ -5,7 +5,8 @@ ghost use Rattle.std.specs.List.{flat_map};
 ghost use Rattle.maid_model.specs.declared.diagrams.Kind.TheVariants.{Chance};
 ghost use Rattle.maid_model.specs.Names.{NamesFit, name_of};
 ghost use Rattle.maid_model.specs.Nodes.{node_at, numbers_of, parents_of, rows_of, states_of};
-ghost use Rattle.net_print.specs.Printed.{given_text, head_text, numbers_text, parted, potential_line, reduced_rows, table_text, value_text};
+ghost use Rattle.net_build.specs.Plain.{reduced_rows};
+ghost use Rattle.net_print.specs.Printed.{given_text, head_text, numbers_text, parted, potential_line, table_text, value_text};
 
 use crate::numbers::{push_reduced_row, push_value};
 use crate::pieces::push_gap;

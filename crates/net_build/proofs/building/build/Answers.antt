@@ -7,9 +7,11 @@ use Rattle.maid_model.specs.Views.{DiagramView}
 use Rattle.net_build.specs.Blocks.{node_blocks}
 use Rattle.net_build.specs.Building.{StandsFor, names_view}
 use Rattle.net_build.specs.Form.{HasTextForm}
+use Rattle.net_build.specs.Plain.{IsPlain}
 use Rattle.net_build.specs.Stages.{NodeLists, node_lists, link_lists, made_diagram}
 use Rattle.net_build.proofs.AllPasses.{nodes_refused, links_refused, values_refused, all_clear}
 use Rattle.net_build.proofs.Assembly.{made_is, made_stands, made_fit, made_form}
+use Rattle.net_build.proofs.PlainTables.{stands_plain}
 use Rattle.net_build.proofs.building.build.Goals as goal
 
 pub returns-in_err-nodes-clause-rows : goal.returns-in_err-nodes-clause-rows
@@ -70,6 +72,22 @@ returns-clause-form c =
     subst (λ (n : NamesView). HasTextForm c.in_ok-assemble.field-0.0 n) (sym names)
     (subst (λ (d : DiagramView). HasTextForm d (names_view c.args.text.now c.args.syntax.now)) (sym diagram)
     (made_form c.args.text.now c.args.syntax.now c.in_ok-tables.tables c.requires.blocks c.in_ok-nodes.ensures.rows
+    (rw (c.in_ok-nodes.ensures.nodes, c.in_ok-links.ensures.links) at c.in_ok-links.ensures.fit)
+    c.in_ok-tables.ensures.cells
+    (rw (c.in_ok-nodes.ensures.nodes, c.in_ok-links.ensures.links) at c.in_ok-tables.ensures.fit)
+    c.in_ok-tables.ensures.few c.in_ok-tables.ensures.scale))
+
+pub returns-clause-plain : goal.returns-clause-plain
+returns-clause-plain c =
+    let diagram = c.in_ok-assemble.ensures.diagram ∙ (λ j. made_diagram (c.in_ok-nodes.ensures.nodes j) (c.in_ok-links.ensures.links j) c.in_ok-tables.tables) in
+    subst IsPlain (sym diagram)
+    (stands_plain c.args.text.now c.args.syntax.now c.requires.blocks c.in_ok-nodes.ensures.rows c.in_ok-links.ensures.rows.0 (made_diagram (node_lists c.args.text.now (node_blocks c.args.syntax.now)) (link_lists c.args.text.now c.args.syntax.now) c.in_ok-tables.tables) (names_view c.args.text.now c.args.syntax.now)
+    (made_stands c.args.text.now c.args.syntax.now c.in_ok-tables.tables c.requires.blocks c.in_ok-nodes.ensures.rows
+    (rw (c.in_ok-nodes.ensures.nodes, c.in_ok-links.ensures.links) at c.in_ok-links.ensures.fit)
+    c.in_ok-tables.ensures.cells
+    (rw (c.in_ok-nodes.ensures.nodes, c.in_ok-links.ensures.links) at c.in_ok-tables.ensures.fit)
+    c.in_ok-tables.ensures.few c.in_ok-tables.ensures.scale)
+    (made_is c.args.text.now c.args.syntax.now c.in_ok-tables.tables c.requires.blocks c.in_ok-nodes.ensures.rows
     (rw (c.in_ok-nodes.ensures.nodes, c.in_ok-links.ensures.links) at c.in_ok-links.ensures.fit)
     c.in_ok-tables.ensures.cells
     (rw (c.in_ok-nodes.ensures.nodes, c.in_ok-links.ensures.links) at c.in_ok-tables.ensures.fit)

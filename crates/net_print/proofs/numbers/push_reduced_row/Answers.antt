@@ -1,6 +1,6 @@
 use Rattle.std.proofs.Common.{◌≡◌, ◌∙◌, ◌+◌, ◌/◌, ◌<◌, pos, ◌++◌, length, map, drop, get_or, unsigned_abs, decimal, rules, arith, subst, sym, ap}
 use Rattle.std.proofs.lemmas.List.{get_or-map, length-map}
-use Rattle.net_print.specs.Printed.{reduced_row, row_divisor}
+use Rattle.net_build.specs.Plain.{reduced_row, row_divisor}
 use Rattle.net_print.specs.Parts.{gap, parted_behind}
 use Rattle.net_print.proofs.Steps.{parted_more}
 use Rattle.net_print.proofs.numbers.push_reduced_row.Goals as goal

@@ -1,5 +1,5 @@
 use Rattle.std.proofs.Common.{◌≡◌, ◌+◌, ◌++◌, drop, map, unsigned_abs, decimal}
-use Rattle.net_print.specs.Printed.{reduced_row}
+use Rattle.net_build.specs.Plain.{reduced_row}
 use Rattle.net_print.specs.Parts.{parted_behind}
 use Rattle.net_print.proofs.numbers.push_reduced_row.Given as goal
 

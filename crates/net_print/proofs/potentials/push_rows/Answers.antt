@@ -1,7 +1,8 @@
 use Rattle.std.proofs.Common.{◌≡◌, ◌∙◌, ◌<◌, ◌≤◌, ◌+◌, ◌*◌, ◌++◌, length, map, decimal, unsigned_abs, slice_range, rules, arith, subst, sym, ap}
 use Rattle.maid_model.specs.Nodes.{node_at, states_of, rows_of}
 use Rattle.weight_scale.specs.Scaling.{row_at}
-use Rattle.net_print.specs.Printed.{reduced_row, reduced_rows, row_divisor, parted}
+use Rattle.net_build.specs.Plain.{reduced_row, reduced_rows, row_divisor}
+use Rattle.net_print.specs.Printed.{parted}
 use Rattle.net_print.specs.Parts.{parted_behind}
 use Rattle.net_print.proofs.Divisors.{divisor_positive}
 use Rattle.net_print.proofs.Rows.{row_positive, rows_within, rows_more, slice_is_row}

@@ -1,5 +1,5 @@
 use Rattle.std.proofs.Common.{◌≡◌, ◌++◌, decimal}
-use Rattle.net_print.specs.Printed.{reduced_rows}
+use Rattle.net_build.specs.Plain.{reduced_rows}
 use Rattle.net_print.specs.Parts.{parted_behind}
 use Rattle.net_print.proofs.potentials.push_rows.Given as goal
 
