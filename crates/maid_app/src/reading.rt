@@ -9,6 +9,7 @@ ghost use Rattle.net_parser.specs.Faults.{Refuses};
 ghost use Rattle.net_parser.specs.Grammar.{Spells};
 ghost use Rattle.net_parser.specs.Lexemes.{lexemes};
 ghost use Rattle.net_parser.specs.Owned.{IsBlockOf};
+ghost use Rattle.net_print.specs.RoundTrip.{IsPrintable};
 ghost use Rattle.maid_app.specs.Diagrams.{IsDiagramOf};
 ghost use Rattle.maid_app.specs.Lines.{fault_line};
 ghost use Rattle.maid_app.specs.Reading.{Tells, RefusesBytes};
@@ -140,6 +141,7 @@ impl Source<'_> {
     pub fn diagram(self, alloc: Global) -> Result<(Diagram, Names), Refusal>
         ensures ok { IfOk result (λ built. IsDiagramOf self.entry.bytes.now built.0 built.1) }
         ensures fit { IfOk result (λ built. NamesFit built.0 built.1) }
+        ensures printable { IfOk result (λ built. IsPrintable built.0 built.1) }
         ensures err { IfErr result (λ refusal. RefusesBytes self.entry.name.now self.entry.bytes.now (status_of refusal) (line_of refusal)) }
     {
         let tokens = self.tokens(alloc)?;

@@ -8,10 +8,10 @@ ghost use Rattle.maid_app.specs.Refusal.{status_of, line_of};
 
 use crate::reading::Source;
 use crate::refusal::Refusal;
-use net_print::print;
+use net_print::{print, printed_texts_read_back};
 use std::alloc::Global;
 
-/// The text of the diagram that a file's bytes stand for.
+/// The text of the diagram that a file's bytes stand for. It stands for the same diagram and names.
 ///
 /// # Errors
 ///
@@ -21,5 +21,6 @@ pub fn answer(alloc: Global, source: Source<'_>) -> Result<Vec<u8>, Refusal>
     ensures err { IfErr result (λ refusal. RefusesAs (Prints source.entry.name.now source.entry.bytes.now) (status_of refusal) (line_of refusal)) }
 {
     let (diagram, names) = source.diagram(alloc)?;
+    printed_texts_read_back();
     Ok(print(alloc, &diagram, &names)?)
 }
