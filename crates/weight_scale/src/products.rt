@@ -16,6 +16,10 @@ pub(crate) fn gcd_with_product(a: u128, size: u128, tens: u128) -> u128
     ensures greatest { IsGcd a (size * tens) result }
     ensures positive { 0 < result }
 {
+    // A divisor of 1 stays 1, as in most rows: no division is needed.
+    if a == 1 {
+        return 1;
+    }
     let common = gcd(a, size);
     common * gcd(a / common, tens)
 }
@@ -26,6 +30,9 @@ pub(crate) fn divided_product(size: u128, tens: u128, divisor: u128) -> Option<u
     requires divides { divisor ∣ size * tens }
     ensures { SomeIff result (size * tens / divisor ≤ greatest_number) (size * tens / divisor) }
 {
+    if divisor == 1 {
+        return mul_within(size, tens, GREATEST);
+    }
     let common = gcd(size, divisor);
     mul_within(size / common, tens / (divisor / common), GREATEST)
 }

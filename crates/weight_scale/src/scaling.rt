@@ -105,7 +105,7 @@ fn reduce_rows(alloc: Global, rows: &[Decimal], states: usize) -> Result<Reduced
     ensures small { IfOk result (λ reduced. reduced.total ≤ greatest_number) }
     ensures err { IfErr result (λ fault. OnWide fault (IsTooWide rows.now states)) }
 {
-    let mut numbers = Vec::new(alloc);
+    let mut numbers = Vec::with_capacity(alloc, rows.len())?;
     let mut total = 1;
     for r in 0..rows.len() / states {
         let added = push_reduced(&mut numbers, row_at(rows, states, r))?;
@@ -131,7 +131,7 @@ fn weigh_rows(
     requires multiple { (r : ℕ) → r < length reduced.now / states → sum (row_at states reduced.now r) ∣ total }
     ensures { IfOk result (λ weights. WeighsRows reduced.now states total (length reduced.now / states) weights.items) }
 {
-    let mut weights = Vec::new(alloc);
+    let mut weights = Vec::with_capacity(alloc, reduced.len())?;
     for r in 0..reduced.len() / states {
         let row = row_at(reduced, states, r);
         push_weights(&mut weights, row, total / row_total(row))?;

@@ -5,4 +5,4 @@ pub nonzero_div-tens : goal.nonzero_div-tens
 nonzero_div-tens c = (quotient_of_product _ _ _ _ c.requires.positive c.requires.divides c.gcd-common.ensures.greatest).1
 
 pub returns : goal.returns
-returns c = rw (← (quotient_of_product _ _ _ _ c.requires.positive c.requires.divides c.gcd-common.ensures.greatest).2) c.mul_within.ensures
+returns c = rw (← (quotient_of_product _ _ _ _ c.requires.positive c.requires.divides c.gcd-common.ensures.greatest).2) c.mul_within-2.ensures

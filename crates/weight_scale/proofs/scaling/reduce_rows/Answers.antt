@@ -1,4 +1,4 @@
-use Rattle.std.proofs.Common.{arith, subst, sym}
+use Rattle.std.proofs.Common.{◌≡◌, ◌/◌, arith, length, subst, sym}
 use Rattle.std.proofs.lemmas.Result.{err_from_is_err_and}
 use Rattle.weight_scale.specs.Scaling.{raised_row, IsTooWide}
 use Rattle.weight_scale.specs.Rows.{ReducesRows, IsWideRow}
@@ -8,14 +8,14 @@ use Rattle.weight_scale.proofs.scaling.reduce_rows.Goals as goal
 
 pub loop-r-init : goal.loop-r-init
 loop-r-init c = record {
-  reduces = subst (λ xs. ReducesRows c.args.rows.now c.args.states 0 xs 1) (sym c.new-numbers.ensures.items) (reduces_start c.args.rows.now c.args.states c.requires.states);
+  reduces = subst (λ xs. ReducesRows c.args.rows.now c.args.states 0 xs 1) (sym c.in_ok-numbers.ensures.items) (reduces_start c.args.rows.now c.args.states c.requires.states);
   small = omega arith;
 }
 
 pub returns-in_err-added-clause-err : goal.returns-in_err-added-clause-err
 returns-in_err-added-clause-err c =
     let wide = rw c.row_at.ensures.row at c.in_err-added.ensures.err in
-    let answer = err_from_is_err_and c.from_residual.result c.from_residual.ensures.1 in
+    let answer = err_from_is_err_and c.from_residual-in_err-added.result c.from_residual-in_err-added.ensures.1 in
     rw (answer.1, answer.2) (on_wide_more (IsWideRow (raised_row c.args.states c.args.rows.now c.loop-r.r)) (IsTooWide c.args.rows.now c.args.states) (wide_by_row c.args.rows.now c.args.states c.requires.states c.requires.positive c.requires.whole c.loop-r.r c.loop-r-test.true) _ wide)
 
 pub lcm_within-requires-clause-b_positive : goal.lcm_within-requires-clause-b_positive
@@ -37,3 +37,9 @@ loop-r-preserved c =
       reduces = reduces_step c.args.rows.now c.args.states c.requires.states c.loop-r.r c.loop-r.numbers.items c.push_reduced.new.reduced.items c.loop-r.total c.in_ok-added.added c.in-Some.common c.loop-r-test.true c.loop-r.invariant.reduces appends common.0 common.1;
       small = common.2;
     }
+
+-- behind the loop all rows are done
+pub returns-clause-ok : goal.returns-clause-ok
+returns-clause-ok c =
+    let all : c.loop-r.r ≡ length c.args.rows.now / c.args.states = omega (arith, c.loop-r-test.false, c.loop-r.auto.r-end) in
+    subst (λ n. ReducesRows c.args.rows.now c.args.states n c.loop-r.numbers.items c.loop-r.total) all c.loop-r.invariant.reduces
