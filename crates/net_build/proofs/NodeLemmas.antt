@@ -1,5 +1,5 @@
 -- The rows of one node block, and the lists of all.
-use Rattle.std.proofs.Common.{◌≡◌, ℕ, ◌+◌, ◌<◌, ◌≤◌, Bool, true, false, cond, List, [], ◌∷◌, ◌++◌, length, get_or, take, drop, map, filter, All, Contains, Option, None, Some, is_some, Result, Ok, Err, inl, inr, refl, ap, sym, ◌∙◌, arith}
+use Rattle.std.proofs.Common.{◌≡◌, ℕ, ◌+◌, ◌<◌, ◌≤◌, Bool, true, false, List, [], ◌∷◌, ◌++◌, length, get_or, take, drop, map, filter, Contains, Option, None, Some, is_some, inl, inr, refl, ap, sym, ◌∙◌, arith}
 use Rattle.std.proofs.lemmas.Bool.{false≢true}
 use Rattle.std.proofs.lemmas.List.{map-append, length-map, take-append-drop, take_all}
 use Rattle.std.proofs.lemmas.List.Elements.{filter-append}
@@ -16,7 +16,7 @@ use Rattle.net_build.specs.declared.faults.Limit.TheVariants as limits
 use Rattle.net_build.specs.declared.nodes.Head.{Head}
 use Rattle.net_build.specs.Blocks.{is_node, kind_of, title_at, name_of, names_of, named, has_states, has_agent, agent_of, agents_of, owner_of, place_of, node_blocks}
 use Rattle.net_build.specs.Lists.{list_of}
-use Rattle.net_build.specs.Passes.{Pass, Refuses, Passes, only}
+use Rattle.net_build.specs.Passes.{Pass, Refuses, only}
 use Rattle.net_build.specs.Table.{name_rows, states_rows, owner_rows, repeats, node_rows}
 use Rattle.net_parser.specs.Owned.{HasNames}
 use Rattle.net_parser.specs.Trees.{BlockTree}

@@ -1,5 +1,5 @@
 -- A node block's rows find nothing, and its parts are added at the ends of the lists.
-use Rattle.std.proofs.Common.{◌≡◌, ℕ, ◌<◌, List, All, map, take, length, get_or, ap, sym, ◌∙◌, arith}
+use Rattle.std.proofs.Common.{◌≡◌, ℕ, ◌<◌, List, All, map, length, get_or, ap, sym, ◌∙◌}
 use Rattle.std.proofs.lemmas.Result.{err_from_is_err_and}
 use Rattle.std.specs.Global.{Vec}
 use Rattle.net_build.specs.Blocks.{is_node, node_blocks, title_at, name_of, names_of, labels_of, states_of, agents_of, owner_of}

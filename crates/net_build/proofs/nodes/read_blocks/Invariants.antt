@@ -1,9 +1,8 @@
-use Rattle.std.proofs.Common.{◌≡◌, List, map, take}
+use Rattle.std.proofs.Common.{◌≡◌, map, take}
 use Rattle.net_build.specs.Blocks.{is_node, node_blocks, names_of, labels_of, agents_of}
 use Rattle.net_build.specs.Lists.{list_of, lists_of}
 use Rattle.net_build.specs.Stages.{head_of}
 use Rattle.net_build.specs.Table.{node_rows, node_pass}
-use Rattle.net_parser.specs.Trees.{BlockTree}
 use Rattle.net_build.proofs.Passing.{Leads, AfterPass}
 use Rattle.net_build.proofs.nodes.read_blocks.Given as goal
 

@@ -1,5 +1,5 @@
 -- The count of nodes, the size of the name, and the names before it.
-use Rattle.std.proofs.Common.{◌≡◌, length, ap, sym, ◌∙◌, arith}
+use Rattle.std.proofs.Common.{length, ap, sym, ◌∙◌}
 use Rattle.net_build.specs.declared.faults.BuildFault.TheVariants.{Fault}
 use Rattle.net_build.specs.declared.faults.BuildKind.TheVariants as kinds
 use Rattle.net_build.specs.declared.faults.Limit.TheVariants as limits
