@@ -10,7 +10,7 @@ use Rattle.net_build.proofs.nodes.read_blocks.Given as goal
 abbrev pub invariant-loop-block : goal.invariant-loop-block
 invariant-loop-block l = record {
   lead : Leads (AfterPass (λ earlier b. node_rows l.text (names_of l.text earlier) (agents_of l.text earlier) b) (λ b. is_node b.kind) l.blocks l.block-index) (node_pass l.text l.blocks);
-  names : list_of l.names.items ≡ names_of l.text (node_blocks (take l.block-index l.blocks));
+  names : l.names ≡ names_of l.text (node_blocks (take l.block-index l.blocks));
   labels : lists_of l.labels.items ≡ map (labels_of l.text) (node_blocks (take l.block-index l.blocks));
   agents : list_of l.agents.items ≡ agents_of l.text (node_blocks (take l.block-index l.blocks));
   heads : l.heads.items ≡ map (head_of l.text (node_blocks l.blocks)) (node_blocks (take l.block-index l.blocks));
