@@ -1,36 +1,33 @@
 -- What a tree stands for is made of what its steps say.
-use Rattle.std.proofs.Common.{◌≡◌, ◌≢◌, ◌⊎◌, inl, inr, ℕ, zero, suc, ◌+◌, ◌<◌, ◌≤◌, ℤ, Bool, true, false, not, cond, List, [], ◌∷◌, length, get_or, map, filter, All, AllPairs, None, refl, ap, sym, ◌∙◌, subst, arith}
+use Rattle.std.proofs.Common.{◌≡◌, ◌≢◌, ◌⊎◌, inl, inr, ℕ, ◌<◌, ◌≤◌, Bool, true, false, not, cond, List, [], ◌∷◌, length, get_or, map, filter, All, None, refl, ap, sym, ◌∙◌, subst, arith}
 use Rattle.std.proofs.lemmas.Bool.{false≢true, cases_lt}
 use Rattle.std.proofs.lemmas.List.{get_or-map, get_or_past, length-map, map-id}
-use Rattle.std.proofs.lemmas.List.Elements.{All-map, All-weaker, All-filter, filter_passes, All-get_or}
+use Rattle.std.proofs.lemmas.List.Elements.{All-map, All-filter, filter_passes}
 use Rattle.std.proofs.lemmas.List.FromFn.{fill_by_all, length-map-range_with_len}
 use Rattle.std.specs.List.{range_with_len}
 use Rattle.std.specs.Prelude.{if◌then◌else◌, codes}
-use Rattle.maid_model.specs.declared.diagrams.Kind.{Kind}
 use Rattle.maid_model.specs.declared.diagrams.Kind.TheVariants.{Chance, Decision, Utility}
 use Rattle.maid_model.specs.Diagrams.{IsDiagram}
-use Rattle.maid_model.specs.Names.{NamesView, NamesFit, agent_name}
-use Rattle.maid_model.specs.Nodes.{node_at, is_chance}
-use Rattle.maid_model.specs.Views.{NodeView, DiagramView}
-use Rattle.net_lexer.specs.Token.{text_value, is_name}
+use Rattle.maid_model.specs.Names.{NamesFit, agent_name}
+use Rattle.maid_model.specs.Nodes.{is_chance}
+use Rattle.maid_model.specs.Views.{NodeView}
+use Rattle.net_lexer.specs.Token.{text_value}
 use Rattle.net_build.specs.declared.nodes.Head.{Head}
-use Rattle.net_build.specs.Blocks.{is_node, kind_of, node_blocks, name_of, names_of, has_states, has_agent, named, leaves_of, label_tokens, labels_of, states_of, agent_of, agents_of, place_of, owner_of, parents_of, parent_lists, is_plain, first_sights, no_token}
+use Rattle.net_build.specs.Blocks.{is_node, kind_of, node_blocks, name_of, has_states, has_agent, named, leaves_of, label_tokens, labels_of, states_of, agent_of, agents_of, place_of, owner_of, parents_of, parent_lists, is_plain, first_sights, no_token}
 use Rattle.net_build.specs.Building.{StandsFor, AreTables, names_view}
 use Rattle.net_build.specs.Form.{IsNodeName, HasTextForm}
-use Rattle.net_build.specs.Passes.{Pass, ◌▸◌}
 use Rattle.net_build.specs.Stages.{TableLists, AreLinks, TablesFit, head_of, node_lists, link_lists, head_at, no_head, made_at, made_nodes, made_diagram}
 use Rattle.net_build.specs.Table.{IsUtilityScale, node_pass, no_block}
 use Rattle.net_lexer.specs.declared.tokens.Token.{Token}
-use Rattle.net_parser.specs.Lexemes.{IsName}
-use Rattle.net_parser.specs.Owned.{IsBlockOf, IsNameOf, HasNames}
+use Rattle.net_parser.specs.Owned.{IsBlockOf}
 use Rattle.net_parser.specs.Trees.{BlockTree}
 use Rattle.net_parser.specs.declared.trees.BlockKind.{BlockKind}
 use Rattle.net_parser.specs.declared.trees.BlockKind.TheVariants as blocks
 use Rattle.net_build.proofs.AgentFacts.{place_within, agents_known, owners_name}
 use Rattle.net_build.proofs.MadeDiagram.{HeadFits, Fits, made_node_at, made_is_diagram}
-use Rattle.net_build.proofs.NodeFacts.{HasLabels, IsGood, AreGood, nodes_are_good, sights_all}
+use Rattle.net_build.proofs.NodeFacts.{IsGood, AreGood, nodes_are_good, sights_all}
 use Rattle.net_build.proofs.NodeLemmas.{node_is_named}
-use Rattle.net_build.proofs.SightLemmas.{has, agents_among}
+use Rattle.net_build.proofs.SightLemmas.{agents_among}
 
 -- a function of the elements by their places
 map_map : {X Y Z : Type 0} (g : Y → Z) (f : X → Y) (xs : List X) → map g (map f xs) ≡ map (λ x. g (f x)) xs

@@ -1,6 +1,5 @@
 -- The kind of the node of a name.
 use Rattle.std.proofs.Common.{◌≡◌, ◌⊎◌, inl, inr, ◌<◌, ◌≤◌, ℕ, true, false, not, List, [], Contains, length, get_or, map, refl, sym, ap, subst, ◌∙◌, arith}
-use Rattle.std.specs.Global.{Vec}
 use Rattle.std.proofs.lemmas.List.{get_or-map, get_or_default, length-map}
 use Rattle.std.proofs.Math.ListN.{get_or-eq_default}
 use Rattle.std.proofs.lemmas.Bool.{false≢true}
@@ -14,7 +13,6 @@ use Rattle.maid_model.specs.Nodes.{is_utility}
 use denote.Enum.Bare.{sameb}
 use Rattle.net_build.specs.declared.nodes.Head.{Head}
 use Rattle.net_build.specs.Blocks.{place_of}
-use Rattle.net_build.specs.Lists.{list_of}
 use Rattle.net_build.specs.Stages.{NodeLists}
 use Rattle.net_build.specs.TableParts.{kind_in}
 use Rattle.net_build.proofs.BlockLemmas.{place_here}
@@ -37,10 +35,10 @@ place_within names name (k, within, here) = by_order (order (place_of names name
   by_order (inl h) = h
   by_order (inr h) = absurd (false≢true (sym (ap not found) ∙ prefix_len_passes (λ other. not (bytes_eq other name)) names k [] (omega (arith, within, h))))
 
-pub found_within : (nodes : NodeLists) (names : List (Vec ℕ)) (heads : List Head) (name : List ℕ) (v : ℕ) → list_of names ≡ nodes.names → heads ≡ nodes.heads → length nodes.names ≡ length nodes.heads → Contains (list_of names) name × (v ≡ place_of (list_of names) name) → v < length heads
-found_within nodes names heads name v n h len found = let l : place_of (list_of names) name < length (list_of names) = place_within (list_of names) name found.0 in omega (arith, l, found.1, len, ap length n, ap length h)
+pub found_within : (nodes : NodeLists) (names : List (List ℕ)) (heads : List Head) (name : List ℕ) (v : ℕ) → names ≡ nodes.names → heads ≡ nodes.heads → length nodes.names ≡ length nodes.heads → Contains names name × (v ≡ place_of names name) → v < length heads
+found_within nodes names heads name v n h len found = let l : place_of names name < length names = place_within names name found.0 in omega (arith, l, found.1, len, ap length n, ap length h)
 
-pub kind_found : (nodes : NodeLists) (names : List (Vec ℕ)) (heads : List Head) (name : List ℕ) (v : ℕ) (head : Head) → list_of names ≡ nodes.names → heads ≡ nodes.heads → length nodes.names ≡ length nodes.heads → Contains (list_of names) name × (v ≡ place_of (list_of names) name) → head ≡ get_or heads v head → is_utility head.kind ≡ is_utility (kind_in nodes name)
+pub kind_found : (nodes : NodeLists) (names : List (List ℕ)) (heads : List Head) (name : List ℕ) (v : ℕ) (head : Head) → names ≡ nodes.names → heads ≡ nodes.heads → length nodes.names ≡ length nodes.heads → Contains names name × (v ≡ place_of names name) → head ≡ get_or heads v head → is_utility head.kind ≡ is_utility (kind_in nodes name)
 kind_found nodes names heads name v head n h len found is =
     let near : v < length heads = found_within nodes names heads name v n h len found in
     ap is_utility (ap (λ (g : Head). g.kind) is ∙ sym (get_or-map (λ (g : Head). g.kind) heads v head model.Chance near) ∙ (λ i. get_or (map (λ (g : Head). g.kind) (h i)) (place i) model.Chance))
@@ -48,7 +46,7 @@ kind_found nodes names heads name v head n h len found is =
     place : v ≡ place_of nodes.names name
     place = found.1 ∙ ap (λ ns. place_of ns name) n
 
-pub kind_missing : (nodes : NodeLists) (names : List (Vec ℕ)) (name : List ℕ) → list_of names ≡ nodes.names → length nodes.names ≡ length nodes.heads → (Contains (list_of names) name → ⊥) → false ≡ is_utility (kind_in nodes name)
+pub kind_missing : (nodes : NodeLists) (names : List (List ℕ)) (name : List ℕ) → names ≡ nodes.names → length nodes.names ≡ length nodes.heads → (Contains names name → ⊥) → false ≡ is_utility (kind_in nodes name)
 kind_missing nodes names name n len none = by_order (order (place_of nodes.names name) (length nodes.names)) where
   by_order : (place_of nodes.names name < length nodes.names) ⊎ (length nodes.names ≤ place_of nodes.names name) → false ≡ is_utility (kind_in nodes name)
   by_order (inl h) = absurd (none (subst (λ ns. Contains ns name) (sym n) (place_of nodes.names name, h, get_or_default nodes.names (place_of nodes.names name) name [] h ∙ place_here nodes.names name h)))

@@ -1,9 +1,8 @@
 -- The passes over plain lists find what the passes over blocks find.
 use Rattle.std.proofs.Common.{◌≡◌, ◌≢◌, ◌⊎◌, inl, inr, ℕ, zero, suc, ◌+◌, ◌*◌, ◌<◌, ◌≤◌, ◌^◌, min, Bool, true, false, not, ◌||◌, cond, List, [], ◌∷◌, ◌++◌, length, get_or, map, take, filter, find, slice_index, Contains, Option, None, Some, refl, ap, sym, subst, ◌∙◌, arith, append_assoc}
 use Rattle.std.proofs.lemmas.Bool.{false≢true, cases_lt}
-use Rattle.std.proofs.lemmas.List.{append-nil, get_or_default, length-map, map-append, take_more}
-use Rattle.std.proofs.lemmas.List.Elements.{filter-append, Contains-append_left, Contains-append_right}
-use Rattle.std.proofs.lemmas.List.Kept.{AllPairs-cons}
+use Rattle.std.proofs.lemmas.List.{append-nil, length-map, map-append, take_more}
+use Rattle.std.proofs.lemmas.List.Elements.{filter-append}
 use Rattle.std.proofs.Math.ListN.{get_or-map, get_or-eq_default}
 use Rattle.std.proofs.lemmas.List.{get_or-map as get_or_map_within}
 use Rattle.std.specs.List.{AllPairs, list_any, range_with_len, sum}
@@ -17,14 +16,13 @@ use Rattle.net_parser.specs.declared.trees.BlockKind.{BlockKind}
 use Rattle.net_parser.specs.declared.trees.BlockKind.TheVariants as blocks
 use Rattle.net_parser.specs.Trees.{BlockTree}
 use Rattle.net_build.specs.declared.nodes.Head.{Head}
-use Rattle.net_build.specs.Blocks.{is_node, agents_of, node_blocks, potentials, kind_of, title, title_at, name_of, names_of, conditions, has_table, states_of, potential_of, parents_of, parent_lists, state_counts, row_count, cell_count}
+use Rattle.net_build.specs.Blocks.{is_node, node_blocks, potentials, kind_of, title, title_at, name_of, names_of, conditions, has_table, states_of, potential_of, parents_of, parent_lists, state_counts, row_count, cell_count}
 use Rattle.net_build.specs.Linking.{node_named, unknown_row, repeat_row, utility_row, condition_steps, conditions_steps, taken_row, many_row, potentials_among, parents_in, behind_rows, potentials_steps, absent_row, missing_at, missing_steps, graph_steps, rows_over, rules_before, size_steps_at, size_steps}
 use Rattle.net_build.specs.declared.faults.Limit.TheVariants.{Cells, Rules}
 use Rattle.net_build.specs.Passes.{Pass, Found, found, clear, rule, only, ◌▸◌, each, each_after, DoublePotential, MissingTable, GraphCycle, LimitPassed}
 use Rattle.net_build.specs.Stages.{head_of, head_at, cells_at, LinkLists, link_lists}
 use Rattle.net_build.specs.Table.{node_pass, condition_rows, potential_rows, potential_pass, missing_row, missing_pass, no_block, graph_pass, rule_cells, size_rows, size_pass}
 use Rattle.net_build.proofs.Passing.{Leads, leads_all}
-use Rattle.net_build.proofs.AttributeLemmas.{contains_first, contains_cases, contains_none}
 use Rattle.net_build.proofs.FitLemmas.{within_names}
 use Rattle.net_build.proofs.LinkLemmas.{any_is_there, there_is_any}
 use Rattle.net_build.proofs.PotentialLemmas.{place_holds, among_at, none_from_not_some}

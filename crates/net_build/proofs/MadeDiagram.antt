@@ -1,5 +1,5 @@
 -- The nodes that are made of fitting heads, parents and tables are a diagram.
-use Rattle.std.proofs.Common.{◌≡◌, ◌≢◌, ◌⊎◌, inl, inr, ℕ, zero, suc, ◌+◌, ◌*◌, ◌<◌, ◌≤◌, ℤ, pos, nat_abs, List, [], ◌∷◌, length, get_or, map, filter, fold, sum, All, Contains, refl, ap, sym, ◌∙◌, subst, arith}
+use Rattle.std.proofs.Common.{◌≡◌, ◌≢◌, ◌⊎◌, inl, inr, ℕ, ◌+◌, ◌*◌, ◌<◌, ◌≤◌, ℤ, pos, nat_abs, List, [], ◌∷◌, length, get_or, map, filter, fold, sum, All, Contains, refl, ap, sym, ◌∙◌, subst, arith}
 use Rattle.std.proofs.lemmas.Bool.{cases_lt}
 use Rattle.std.proofs.lemmas.List.{get_or_past}
 use Rattle.std.proofs.lemmas.List.Elements.{All-nil}
@@ -11,10 +11,10 @@ use Rattle.maid_model.specs.declared.diagrams.Kind.{Kind}
 use Rattle.maid_model.specs.declared.diagrams.Kind.TheVariants.{Chance, Decision, Utility}
 use Rattle.maid_model.specs.Diagrams.{IsDiagram, HasOwners, HasValues, KeepsLimits, greatest_number}
 use Rattle.maid_model.specs.Graph.{Arc, IsAcyclic, AllDifferent, IsGraph}
-use Rattle.maid_model.specs.Nodes.{node_at, no_node, states_of, parents_of, rows_of, rows_under, decisions_of, is_decision}
+use Rattle.maid_model.specs.Nodes.{node_at, no_node, states_of, rows_of, rows_under, decisions_of, is_decision}
 use Rattle.maid_model.specs.Sums.{sum_below, nat_sum_over}
 use Rattle.maid_model.specs.Tables.{chance_total, IsTable, HasChanceTables}
-use Rattle.maid_model.specs.Views.{NodeView, DiagramView}
+use Rattle.maid_model.specs.Views.{NodeView}
 use Rattle.net_build.specs.declared.nodes.Head.{Head}
 use Rattle.net_build.specs.Stages.{AreLinks, FitsTable, TablesFit, head_at, no_head, rows_at, cells_at, made_at, made_nodes}
 

@@ -1,13 +1,13 @@
 -- The nodes that are made of heads, parents and tables.
-use Rattle.std.proofs.Common.{◌≡◌, ℕ, ◌+◌, ◌<◌, ◌≤◌, ℤ, List, [], ◌∷◌, ◌++◌, length, get_or, drop, set, map, refl, ap, sym, ◌∙◌, arith}
-use Rattle.std.proofs.lemmas.List.{get_or-drop, get_or-map, get_or_read, length-map, drop-set-lt, drop-drop}
+use Rattle.std.proofs.Common.{◌≡◌, ℕ, ◌+◌, ◌<◌, ℤ, List, [], ◌∷◌, ◌++◌, length, get_or, drop, set, map, ap, sym, ◌∙◌, arith}
+use Rattle.std.proofs.lemmas.List.{get_or-drop, get_or-map, drop-set-lt, drop-drop}
 use Rattle.std.proofs.lemmas.List.FromFn.{map-range_with_len_more}
 use Rattle.std.specs.Global.{Vec}
 use Rattle.std.specs.List.{range_with_len}
 use Rattle.maid_model.specs.Views.{NodeView}
 use Rattle.net_build.specs.declared.nodes.Head.{Head}
 use Rattle.net_build.specs.Lists.{numbers_of_lists, cells_of_lists}
-use Rattle.net_build.specs.Stages.{no_head, made_node, made_at, made_nodes}
+use Rattle.net_build.specs.Stages.{no_head, made_node, made_at}
 
 -- the table that is still there is the one that was
 table_left : (tables first : List (Vec ℤ)) (v : ℕ) (d : Vec ℤ) → drop v tables ≡ drop v first → get_or tables v d ≡ get_or first v d

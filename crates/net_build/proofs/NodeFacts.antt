@@ -1,20 +1,20 @@
 -- What holds of the node blocks where their rows find nothing.
-use Rattle.std.proofs.Common.{◌≡◌, ◌≢◌, ◌⊎◌, inl, inr, ℕ, zero, suc, ◌+◌, ◌<◌, ◌≤◌, Bool, true, false, not, ◌&&◌, List, [], ◌∷◌, ◌++◌, length, get_or, map, filter, All, AllPairs, Contains, None, refl, ap, sym, ◌∙◌, subst, arith}
+use Rattle.std.proofs.Common.{◌≡◌, ◌≢◌, ℕ, suc, ◌+◌, ◌<◌, ◌≤◌, Bool, true, false, not, List, [], ◌∷◌, ◌++◌, length, All, AllPairs, Contains, None, refl, ap, sym, ◌∙◌, subst, arith}
 use Rattle.std.proofs.lemmas.Bool.{false≢true}
 use Rattle.std.proofs.lemmas.List.{map-append, append-nil, append_assoc, length-append, length-map, length_push, get_or_default}
-use Rattle.std.proofs.lemmas.List.Elements.{All-nil, All-cons, All-push, All-map, All-weaker, All-filter}
+use Rattle.std.proofs.lemmas.List.Elements.{All-nil, All-cons, All-push, All-weaker, All-filter}
 use Rattle.std.proofs.lemmas.List.Quantifiers.{all_pairs_push}
 use Rattle.std.specs.List.{list_any}
 use Rattle.std.specs.Prelude.{if◌then◌else◌, codes}
 use Rattle.std.specs.Str.{bytes_eq}
-use Rattle.net_build.specs.Blocks.{is_node, node_blocks, name_of, names_of, has_states, has_agent, named, is_string, are_strings, is_string_list, is_plain, is_agent, is_text, leaves_of, label_tokens, labels_of, agent_of, first_text, agents_of, first_sights}
+use Rattle.net_build.specs.Blocks.{node_blocks, name_of, names_of, has_states, has_agent, named, is_string, are_strings, is_string_list, is_plain, is_agent, is_text, leaves_of, agent_of, first_text, agents_of, first_sights}
 use Rattle.net_build.specs.Passes.{Pass, only, each, each_after}
 use Rattle.net_build.specs.Stages.{with_sight, with_agent}
-use Rattle.net_build.specs.Table.{IsAgentTooMany, label_row, label_rows, states_rows, agent_rows, owner_rows, name_rows, repeats, node_rows, node_pass}
+use Rattle.net_build.specs.Table.{IsAgentTooMany, label_row, label_rows, states_rows, agent_rows, owner_rows, name_rows, node_rows, node_pass}
 use Rattle.net_lexer.specs.Token.{text_value}
 use Rattle.net_lexer.specs.declared.tokens.Token.{Token}
 use Rattle.net_parser.specs.Owned.{leaves, all_leaves}
-use Rattle.net_parser.specs.Trees.{ValueTree, ValueTrees, leaf, list, none, more, AttributeTree, BlockTree}
+use Rattle.net_parser.specs.Trees.{ValueTree, leaf, list, none, more, AttributeTree, BlockTree}
 use Rattle.net_build.proofs.AttributeLemmas.{and_left, and_right}
 use Rattle.net_build.proofs.LabelLemmas.{one_leaf}
 use Rattle.net_build.proofs.OwnerLemmas.{contains_any}

@@ -1,12 +1,11 @@
 -- The rows of one node block, and the lists of all.
-use Rattle.std.proofs.Common.{◌≡◌, ℕ, ◌+◌, ◌<◌, ◌≤◌, Bool, true, false, cond, List, [], ◌∷◌, ◌++◌, length, get_or, take, drop, map, filter, All, Contains, Option, None, Some, is_some, Result, Ok, Err, inl, inr, refl, ap, sym, ◌∙◌, arith}
+use Rattle.std.proofs.Common.{◌≡◌, ℕ, ◌+◌, ◌<◌, ◌≤◌, Bool, true, false, List, [], ◌∷◌, ◌++◌, length, get_or, take, drop, map, filter, Contains, Option, None, Some, is_some, inl, inr, refl, ap, sym, ◌∙◌, arith}
 use Rattle.std.proofs.lemmas.Bool.{false≢true}
-use Rattle.std.proofs.lemmas.List.{map-append, length-map, take-append-drop, take_all}
+use Rattle.std.proofs.lemmas.List.{map-append, take-append-drop, take_all}
 use Rattle.std.proofs.lemmas.List.Elements.{filter-append}
 use Rattle.std.specs.Prelude.{if◌then◌else◌}
 use Rattle.net_build.specs.Stages.{with_agent}
 use Rattle.net_build.proofs.SightLemmas.{agents_more, owner_here}
-use Rattle.std.specs.Global.{Vec}
 use Rattle.std.specs.Option.{SomeIff}
 use Rattle.std.specs.Prelude.{codes}
 use Rattle.net_build.specs.declared.faults.BuildFault.{BuildFault}
@@ -15,8 +14,7 @@ use Rattle.net_build.specs.declared.faults.BuildKind.TheVariants as kinds
 use Rattle.net_build.specs.declared.faults.Limit.TheVariants as limits
 use Rattle.net_build.specs.declared.nodes.Head.{Head}
 use Rattle.net_build.specs.Blocks.{is_node, kind_of, title_at, name_of, names_of, named, has_states, has_agent, agent_of, agents_of, owner_of, place_of, node_blocks}
-use Rattle.net_build.specs.Lists.{list_of}
-use Rattle.net_build.specs.Passes.{Pass, Refuses, Passes, only}
+use Rattle.net_build.specs.Passes.{Pass, Refuses, only}
 use Rattle.net_build.specs.Table.{name_rows, states_rows, owner_rows, repeats, node_rows}
 use Rattle.net_parser.specs.Owned.{HasNames}
 use Rattle.net_parser.specs.Trees.{BlockTree}
@@ -25,24 +23,24 @@ use Rattle.net_parser.specs.declared.trees.BlockKind.TheVariants.{Net, Node, Dec
 use Rattle.net_build.proofs.Passing.{filter_front_yes}
 
 -- the 257th node
-pub many_nodes : (text : List ℕ) (names : List (Vec ℕ)) (block : BlockTree) (fault : BuildFault) → 256 ≤ length names → fault ≡ Fault (title_at block) (kinds.LimitPassed limits.Nodes 257) → Refuses (name_rows text (list_of names) block) fault
+pub many_nodes : (text : List ℕ) (names : List (List ℕ)) (block : BlockTree) (fault : BuildFault) → 256 ≤ length names → fault ≡ Fault (title_at block) (kinds.LimitPassed limits.Nodes 257) → Refuses (name_rows text names block) fault
 unfolding name_rows
-many_nodes text names block fault many what = rw what (inl (let l = length-map names (λ (v : Vec ℕ). v.items) in omega arith, refl))
+many_nodes text names block fault many what = rw what (inl (omega arith, refl))
 
 -- a name of too many bytes
-pub long_name : (text : List ℕ) (names : List (Vec ℕ)) (block : BlockTree) (fault : BuildFault) (count : ℕ) → length names < 256 → count ≡ length (name_of text block) → 255 < count → fault ≡ Fault (title_at block) (kinds.LimitPassed limits.NameBytes count) → Refuses (name_rows text (list_of names) block) fault
+pub long_name : (text : List ℕ) (names : List (List ℕ)) (block : BlockTree) (fault : BuildFault) (count : ℕ) → length names < 256 → count ≡ length (name_of text block) → 255 < count → fault ≡ Fault (title_at block) (kinds.LimitPassed limits.NameBytes count) → Refuses (name_rows text names block) fault
 unfolding name_rows
-long_name text names block fault count few counted long what = rw (what, counted) (inr ((λ many. let l = length-map names (λ (v : Vec ℕ). v.items) in omega arith), inl (rw counted at long, refl)))
+long_name text names block fault count few counted long what = rw (what, counted) (inr ((λ many. omega arith), inl (rw counted at long, refl)))
 
 -- a name that another block has
-pub double_name : (text : List ℕ) (names : List (Vec ℕ)) (block : BlockTree) (fault : BuildFault) → length names < 256 → length (name_of text block) ≤ 255 → Contains (list_of names) (name_of text block) → fault ≡ Fault (title_at block) kinds.DoubleName → Refuses (name_rows text (list_of names) block) fault
+pub double_name : (text : List ℕ) (names : List (List ℕ)) (block : BlockTree) (fault : BuildFault) → length names < 256 → length (name_of text block) ≤ 255 → Contains names (name_of text block) → fault ≡ Fault (title_at block) kinds.DoubleName → Refuses (name_rows text names block) fault
 unfolding name_rows
-double_name text names block fault few short has what = rw what (inr ((λ many. let l = length-map names (λ (v : Vec ℕ). v.items) in omega arith), inr ((λ long. omega arith), (has, refl))))
+double_name text names block fault few short has what = rw what (inr ((λ many. omega arith), inr ((λ long. omega arith), (has, refl))))
 
 -- any other
-pub good_name : (text : List ℕ) (names : List (Vec ℕ)) (block : BlockTree) → length names < 256 → length (name_of text block) ≤ 255 → (Contains (list_of names) (name_of text block) → ⊥) → name_rows text (list_of names) block None
+pub good_name : (text : List ℕ) (names : List (List ℕ)) (block : BlockTree) → length names < 256 → length (name_of text block) ≤ 255 → (Contains names (name_of text block) → ⊥) → name_rows text names block None
 unfolding name_rows
-good_name text names block few short lacks = ((λ many. let l = length-map names (λ (v : Vec ℕ). v.items) in omega arith), ((λ long. omega arith), lacks))
+good_name text names block few short lacks = ((λ many. omega arith), ((λ long. omega arith), lacks))
 
 -- what a search answers, as a test
 pub some_has : {P : Type 0} (v : ℕ) (r : Option ℕ) → SomeIff r P v → is_some r ≡ true → P
@@ -52,6 +50,11 @@ some_has v (Some x) h e = h.0
 pub none_lacks : {P : Type 0} (v : ℕ) (r : Option ℕ) → SomeIff r P v → is_some r ≡ false → P → ⊥
 none_lacks v None h e = h
 none_lacks v (Some x) h e = λ p. false≢true (sym e)
+
+-- a block's name is new where its rows find nothing
+pub entry_new : (text : List ℕ) (names agents : List (List ℕ)) (block : BlockTree) → node_rows text names agents block None → Contains names (name_of text block) → ⊥
+unfolding node_rows name_rows
+entry_new text names agents block h has = h.0.1.1 has
 
 -- the rows of a block in their order
 pub entry_name : (text : List ℕ) (names agents : List (List ℕ)) (block : BlockTree) (fault : BuildFault) → Refuses (name_rows text names block) fault → Refuses (node_rows text names agents block) fault

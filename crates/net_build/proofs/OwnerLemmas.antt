@@ -1,8 +1,7 @@
 -- Agents in order of first sight.
-use Rattle.std.proofs.Common.{◌≡◌, ◌⊎◌, inl, inr, ℕ, ◌+◌, ◌<◌, ◌≤◌, Bool, true, false, ◌||◌, List, [], ◌∷◌, ◌++◌, length, get_or, map, All, Contains, Result, Ok, Err, None, refl, ap, sym, ◌∙◌, arith}
+use Rattle.std.proofs.Common.{◌≡◌, ◌⊎◌, inl, inr, ℕ, ◌≤◌, Bool, true, false, ◌||◌, List, [], ◌∷◌, ◌++◌, length, Contains, Result, Ok, Err, None, refl, ap, sym, ◌∙◌, arith}
 use Rattle.std.proofs.lemmas.Bool.{false≢true}
 use Rattle.std.proofs.lemmas.List.{map-append, length-map, length_push, get_or_push, get_or_append_left, get_or_default}
-use Rattle.std.proofs.lemmas.List.Elements.{All-head}
 use Rattle.std.proofs.lemmas.Slice.Eq.{bytes_eq-Decides}
 use Rattle.std.specs.Global.{Vec}
 use Rattle.std.specs.List.{list_any}
@@ -14,13 +13,12 @@ use Rattle.net_build.specs.declared.faults.BuildKind.TheVariants as kinds
 use Rattle.net_build.specs.declared.faults.Limit.TheVariants as limits
 use Rattle.net_build.specs.Blocks.{is_agent, place_of, named, agent_of, title_at}
 use Rattle.net_build.specs.Lists.{list_of}
-use Rattle.net_build.specs.Passes.{Pass, Refuses, Passes, rule, found, BadAgent, LimitPassed}
-use Rattle.net_build.specs.Places.{IsFirstPlace}
+use Rattle.net_build.specs.Passes.{Refuses, Passes, rule, found, BadAgent, LimitPassed}
 use Rattle.net_build.specs.Stages.{with_sight}
 use Rattle.net_build.specs.Table.{IsAgentTooMany, agent_rows, owner_rows}
 use Rattle.net_lexer.specs.declared.tokens.Token.{Token}
 use Rattle.net_parser.specs.Trees.{AttributeTree, BlockTree}
-use Rattle.net_build.proofs.AttributeLemmas.{contains_none, contains_cases, contains_first, contains_later, or_true}
+use Rattle.net_build.proofs.AttributeLemmas.{contains_none, contains_cases, contains_later, or_true}
 use Rattle.net_build.proofs.Passing.{refused_first}
 use Rattle.net_build.proofs.PlaceLemmas.{bytes_same, first_place_is}
 use Rattle.std.specs.Prelude.{codes}

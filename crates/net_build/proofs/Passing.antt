@@ -1,10 +1,10 @@
 -- How the parts of a pass make the whole of it. In a loop the rows that are still to come lead to the whole pass: whatever they find, it finds.
-use Rattle.std.proofs.Common.{◌≡◌, ℕ, ◌+◌, ◌<◌, ◌≤◌, Bool, true, false, cond, inl, inr, List, [], ◌∷◌, ◌++◌, length, get_or, take, drop, filter, Option, None, Some, Result, Ok, Err, refl, sym, ◌∙◌, ap, subst, arith}
-use Rattle.std.proofs.lemmas.List.{drop_more, take_more, get_or_read, append-nil, drop_all, take_all}
+use Rattle.std.proofs.Common.{◌≡◌, ℕ, ◌+◌, ◌<◌, ◌≤◌, Bool, true, false, cond, inl, inr, List, [], ◌∷◌, ◌++◌, length, get_or, take, drop, filter, Option, None, Some, Result, Ok, Err, sym, ◌∙◌, ap}
+use Rattle.std.proofs.lemmas.List.{drop_more, take_more, append-nil, drop_all}
 use Rattle.std.proofs.lemmas.List.Elements.{filter-append}
 use Rattle.net_build.specs.declared.faults.BuildFault.{BuildFault}
 use Rattle.net_build.specs.declared.faults.BuildFault.TheVariants.{Fault, NoMemory}
-use Rattle.net_build.specs.Passes.{Pass, Found, found, clear, ◌▸◌, each, each_after, Refuses, Passes}
+use Rattle.net_build.specs.Passes.{Pass, Found, clear, ◌▸◌, each, each_after, Refuses, Passes}
 
 -- what the rest finds, the whole pass finds
 abbrev pub Leads : Pass → Pass → Type 0

@@ -7,7 +7,7 @@ use Rattle.std.proofs.Math.Nat.{div-mul_cancel, mul-div_cancel, mul-div_cancel',
 use Rattle.std.proofs.Math.Seq.{take-add}
 use Rattle.std.proofs.lemmas.Bool.{cases_lt}
 use Rattle.std.proofs.lemmas.Int.{ints}
-use borrow.Author.Differences.{up, down, product_is}
+use borrow.Author.Differences.{up, down}
 use Rattle.std.proofs.lemmas.List.{get_or-map, get_or_past, length-map, length-take-le, take_all, drop-drop, get_or-take}
 use Rattle.std.proofs.lemmas.List.Sums.{sum_by-cons}
 use Rattle.maid_model.specs.declared.diagrams.Kind.{Kind}
@@ -16,7 +16,6 @@ use Rattle.maid_model.specs.Diagrams.{IsDiagram}
 use Rattle.maid_model.specs.Names.{NamesView}
 use Rattle.maid_model.specs.Nodes.{no_node, node_at, states_of, rows_of}
 use Rattle.maid_model.specs.Sums.{sum_below}
-use Rattle.maid_model.specs.Tables.{chance_total}
 use Rattle.maid_model.specs.Views.{NodeView, DiagramView}
 use Rattle.net_lexer.specs.Token.{token_bytes}
 use Rattle.net_lexer.specs.declared.tokens.Token.{Token}
@@ -27,8 +26,8 @@ use Rattle.weight_scale.specs.Scaling as scaling
 use Rattle.weight_scale.specs.Scaling.{row_at, raised_row, IsScaled, IsCommonTotal}
 use Rattle.weight_scale.specs.Views.{ScaledView}
 use Rattle.weight_scale.specs.declared.decimal.Decimal.{Decimal}
-use Rattle.net_build.specs.Blocks.{node_blocks, kind_of, name_of, states_of as block_states, potential_of, data_of, leaves_of, numbers_of}
-use Rattle.net_build.specs.Building.{StandsFor, AreChanceCells, AreUtilityCells, IsTableOf}
+use Rattle.net_build.specs.Blocks.{node_blocks, kind_of, states_of as block_states, data_of, leaves_of, numbers_of}
+use Rattle.net_build.specs.Building.{StandsFor, AreUtilityCells, IsTableOf}
 use Rattle.net_build.specs.Plain.{reduced_row, reduced_rows, AreEnough, IsPlain}
 use Rattle.net_build.specs.Scaling.{IsScaledBy, IsWholeBy}
 use Rattle.net_build.specs.Table.{node_pass, potential_pass, utility_numbers, no_block}

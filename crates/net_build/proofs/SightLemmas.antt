@@ -1,13 +1,13 @@
 -- Agents in order of first sight, one more agent on.
-use Rattle.std.proofs.Common.{◌≡◌, ℕ, zero, suc, ◌+◌, ◌<◌, ◌≤◌, Bool, true, false, not, ◌||◌, cond, List, [], ◌∷◌, ◌++◌, length, take, drop, map, filter, Contains, refl, ap, sym, ◌∙◌, arith}
+use Rattle.std.proofs.Common.{◌≡◌, ℕ, ◌+◌, Bool, true, false, not, ◌||◌, cond, List, [], ◌∷◌, ◌++◌, map, filter, refl, ap, sym, ◌∙◌}
 use Rattle.std.proofs.lemmas.Bool.{false≢true}
-use Rattle.std.proofs.lemmas.List.{map-append, append-nil, append_assoc, take-append-drop}
+use Rattle.std.proofs.lemmas.List.{map-append, append-nil, append_assoc}
 use Rattle.std.proofs.lemmas.List.Elements.{filter-append}
 use Rattle.std.proofs.lemmas.Slice.Eq.{bytes_eq-Decides}
 use Rattle.std.specs.List.{list_any}
 use Rattle.std.specs.Prelude.{if◌then◌else◌}
 use Rattle.std.specs.Str.{bytes_eq}
-use Rattle.net_build.specs.Blocks.{first_sights, place_of, has_agent, agent_of, agents_of, owner_of, is_node, node_blocks}
+use Rattle.net_build.specs.Blocks.{first_sights, place_of, has_agent, agent_of, agents_of, owner_of}
 use Rattle.net_build.specs.Stages.{with_sight, with_agent}
 use Rattle.net_parser.specs.Trees.{BlockTree}
 use Rattle.net_build.proofs.AttributeLemmas.{or_true}

@@ -1,5 +1,5 @@
 -- Looking up what the blocks of a text say. Each look-up has an answer for every tree; it is the one that is meant where the passes before it find nothing.
-use Rattle.std.specs.Prelude.{◌≡◌, ◌*◌, ℕ, Bool, true, false, not, ◌&&◌, ◌||◌, List, [], ◌∷◌, Option, None, Some, map, filter, find, length, drop, nat_le, bytes_eq, codes, slice_index_or, if◌then◌else◌}
+use Rattle.std.specs.Prelude.{◌*◌, ℕ, Bool, true, false, not, ◌&&◌, ◌||◌, List, [], ◌∷◌, Option, map, filter, find, length, drop, nat_le, bytes_eq, codes, slice_index_or, if◌then◌else◌}
 use Rattle.std.specs.List.{list_all, position_or_len}
 use Rattle.std.specs.Option.{option_map_or}
 use Rattle.maid_model.specs.declared.diagrams.Kind.{Kind}
@@ -10,7 +10,7 @@ use Rattle.net_lexer.specs.declared.tokens.Token.{Token}
 use Rattle.net_lexer.specs.declared.tokens.TokenKind.{TokenKind}
 use Rattle.net_lexer.specs.declared.tokens.TokenKind.TheVariants as tokens
 use Rattle.net_parser.specs.declared.trees.BlockKind.{BlockKind}
-use Rattle.net_parser.specs.declared.trees.BlockKind.TheVariants.{Net, Node, Decision, Utility, Potential}
+use Rattle.net_parser.specs.declared.trees.BlockKind.TheVariants.{Node, Decision, Utility, Potential}
 use Rattle.net_parser.specs.Trees.{ValueTree, ValueTrees, leaf, list, none, more, AttributeTree, BlockTree}
 use Rattle.net_parser.specs.Owned.{leaves}
 

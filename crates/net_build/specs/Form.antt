@@ -1,5 +1,5 @@
 -- The form that names have in a text.
-use Rattle.std.specs.Prelude.{◌≡◌, ◌≢◌, ◌≤◌, ℕ, Bool, true, not, List, [], map, filter, length, All, AllPairs}
+use Rattle.std.specs.Prelude.{◌≡◌, ◌≢◌, ◌≤◌, ℕ, true, not, List, [], map, filter, length, All, AllPairs}
 use Rattle.maid_model.specs.declared.diagrams.Kind.TheVariants.{Utility}
 use Rattle.maid_model.specs.Names.{NamesView, labels_of, agent_name}
 use Rattle.maid_model.specs.Nodes.{node_at, is_chance}

@@ -1,5 +1,5 @@
 -- What the steps of building hand to one another, as plain lists. No public contract needs it.
-use Rattle.std.specs.Prelude.{◌≡◌, ◌≢◌, ◌<◌, ◌≤◌, ◌*◌, ℕ, ℤ, Bool, false, List, [], ◌∷◌, ◌++◌, bytes_eq, if◌then◌else◌, map, length, filter, flat_map, sum, All, Contains, Option, nat_abs, slice_index_or}
+use Rattle.std.specs.Prelude.{◌≡◌, ◌≢◌, ◌<◌, ◌≤◌, ◌*◌, ℕ, ℤ, Bool, false, List, [], ◌∷◌, ◌++◌, bytes_eq, if◌then◌else◌, map, length, filter, flat_map, sum, All, Option, nat_abs, slice_index_or}
 use Rattle.std.specs.List.{range_with_len, list_all, list_any}
 use Rattle.diagram_graph.specs.Cycles.{ListedArc}
 use Rattle.maid_model.specs.declared.diagrams.Kind.{Kind}

@@ -1,5 +1,5 @@
 -- The table of passes, row by row. A text's first fault is the first that applies, by pass, then by item, then by row.
-use Rattle.std.specs.Prelude.{◌≡◌, ◌≢◌, ◌<◌, ◌≤◌, ◌+◌, ◌*◌, ◌^◌, min, ℕ, pos, ◌<ℤ◌, nat_abs, Bool, true, false, List, [], ◌∷◌, ◌++◌, Option, None, Some, map, filter, length, sum, flat_map, All, Contains, slice_index, slice_index_or, codes}
+use Rattle.std.specs.Prelude.{◌≡◌, ◌≢◌, ◌<◌, ◌≤◌, ◌*◌, ◌^◌, min, ℕ, pos, ◌<ℤ◌, nat_abs, false, List, [], ◌∷◌, ◌++◌, Option, None, Some, map, filter, length, sum, flat_map, All, Contains, slice_index, slice_index_or, codes}
 use Rattle.std.specs.List.{range_with_len}
 use Rattle.diagram_graph.specs.Cycles.{ListedArc, IsParentCycle}
 use Rattle.maid_model.specs.declared.diagrams.Kind.{Kind}
@@ -16,8 +16,8 @@ use Rattle.net_parser.specs.Owned.{leaves}
 use Rattle.weight_scale.specs.Numeral.{numerator, denominator, IsDecimalOf}
 use Rattle.weight_scale.specs.declared.decimal.Decimal.{Decimal}
 use Rattle.net_build.specs.declared.faults.Limit.TheVariants.{Nodes, NameBytes, States, Agents, Parents, Cells, Rules}
-use Rattle.net_build.specs.Passes.{Pass, Found, found, clear, rule, always, only, ◌▸◌, each, each_after, DoubleName, DoubleAttribute, MissingStates, BadStates, BadLabel, BadAgent, UnknownName, DoublePotential, RepeatedParent, UtilityParent, MissingTable, GraphCycle, NotANumber, WrongCount, NumberTooLong, Negative, ZeroRow, WideWeight, WideValue, LimitPassed}
-use Rattle.net_build.specs.Blocks.{node_blocks, potentials, kind_of, title, title_at, name_of, names_of, conditions, word_of, named, has_states, has_agent, has_table, counted, is_number, is_string_list, is_plain, is_agent, states_of, agent_of, agents_of, place_of, potential_of, parent_lists, row_count, cell_count, data_of, leaves_of}
+use Rattle.net_build.specs.Passes.{Pass, found, clear, rule, always, only, ◌▸◌, each, each_after, DoubleName, DoubleAttribute, MissingStates, BadStates, BadLabel, BadAgent, UnknownName, DoublePotential, RepeatedParent, UtilityParent, MissingTable, GraphCycle, NotANumber, WrongCount, NumberTooLong, Negative, ZeroRow, WideWeight, WideValue, LimitPassed}
+use Rattle.net_build.specs.Blocks.{node_blocks, potentials, kind_of, title_at, name_of, names_of, conditions, word_of, named, has_states, has_agent, has_table, counted, is_number, is_string_list, is_plain, is_agent, states_of, agent_of, agents_of, place_of, potential_of, parent_lists, row_count, cell_count, data_of, leaves_of}
 use Rattle.net_build.specs.Scaling.{AreDecimals, IsWholeBy}
 use Rattle.weight_scale.specs.Scaling.{row_at, IsTooWide}
 

@@ -80,7 +80,8 @@ fn assemble(
     let mut cells = tables.cells;
     let list = make_nodes(alloc, &nodes.heads, &links.parents, &mut cells)?;
     let diagram = Diagram::from_nodes(list, nodes.agents.len(), tables.decimals);
-    let names = Names::from_lists(nodes.names, nodes.labels, nodes.agents);
+    let node_names = nodes.names.into_list(alloc)?;
+    let names = Names::from_lists(node_names, nodes.labels, nodes.agents);
     Ok((diagram, names))
 }
 

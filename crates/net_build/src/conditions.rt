@@ -5,12 +5,11 @@ ghost use Rattle.std.specs.List.{list_any};
 ghost use Rattle.std.specs.Str.{bytes_eq};
 ghost use Rattle.net_lexer.specs.Token.{IsTokenOf, token_bytes};
 ghost use Rattle.net_build.specs.Linking.{node_named, kind_at, unknown_row, repeat_row, utility_row, condition_steps, conditions_steps, AreParents};
-ghost use Rattle.net_build.specs.Lists.{list_of};
 ghost use Rattle.net_build.specs.Passes.{Passes};
 
 use crate::faults::{BuildFault, BuildKind};
+use crate::node_names::NodeNames;
 use crate::nodes::Head;
-use crate::places::place_of;
 use maid_model::Kind;
 use net_lexer::Token;
 use std::alloc::Global;
@@ -24,13 +23,13 @@ fn stands_in(text: &[u8], tokens: &[Token], bytes: &[u8]) -> bool
 }
 
 /// The node of that name.
-pub fn read_name(text: &[u8], names: &[Vec<u8>], name: &Token) -> Result<usize, BuildFault>
+pub fn read_name(text: &[u8], names: &NodeNames, name: &Token) -> Result<usize, BuildFault>
     requires { IsTokenOf text.now name.now }
-    ensures row { Passes (unknown_row text.now (list_of names.now) name.now) result }
-    ensures node { IfOk result (λ node. node ≡ node_named text.now (list_of names.now) name.now) }
+    ensures row { Passes (unknown_row text.now names.now name.now) result }
+    ensures node { IfOk result (λ node. node ≡ node_named text.now names.now name.now) }
     ensures within { IfOk result (λ node. node < length names.now) }
 {
-    match place_of(names, name.bytes(text)) {
+    match names.place(name.bytes(text)) {
         Some(node) => Ok(node),
         None => Err(BuildKind::UnknownName.at(name.start)),
     }
@@ -62,7 +61,7 @@ fn check_kind(heads: &[Head], node: usize, name: &Token) -> Result<(), BuildFaul
 // The node of the name behind a potential's bar, and behind those earlier.
 fn read_condition(
     text: &[u8],
-    names: &[Vec<u8>],
+    names: &NodeNames,
     heads: &[Head],
     earlier: &[Token],
     name: &Token,
@@ -70,8 +69,8 @@ fn read_condition(
     requires earlier { All (IsTokenOf text.now) earlier.now }
     requires name { IsTokenOf text.now name.now }
     requires heads { length heads.now ≡ length names.now }
-    ensures rows { Passes (condition_steps text.now (list_of names.now) heads.now earlier.now name.now) result }
-    ensures node { IfOk result (λ node. node ≡ node_named text.now (list_of names.now) name.now) }
+    ensures rows { Passes (condition_steps text.now names.now heads.now earlier.now name.now) result }
+    ensures node { IfOk result (λ node. node ≡ node_named text.now names.now name.now) }
 {
     let node = read_name(text, names, name)?;
     check_repeat(text, earlier, name)?;
@@ -83,14 +82,14 @@ fn read_condition(
 pub fn read_conditions(
     alloc: Global,
     text: &[u8],
-    names: &[Vec<u8>],
+    names: &NodeNames,
     heads: &[Head],
     conditions: &[Token],
 ) -> Result<Vec<usize>, BuildFault>
     requires conditions { All (IsTokenOf text.now) conditions.now }
     requires heads { length heads.now ≡ length names.now }
-    ensures rows { Passes (conditions_steps text.now (list_of names.now) heads.now conditions.now) result }
-    ensures nodes { IfOk result (λ list. list.items ≡ map (node_named text.now (list_of names.now)) conditions.now) }
+    ensures rows { Passes (conditions_steps text.now names.now heads.now conditions.now) result }
+    ensures nodes { IfOk result (λ list. list.items ≡ map (node_named text.now names.now) conditions.now) }
 {
     // A name that stands twice is refused there, so that each is compared with no more than there are nodes.
     let mut list = Vec::new(alloc);

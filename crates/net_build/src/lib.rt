@@ -17,6 +17,7 @@ mod laws;
 mod leaves;
 mod links;
 mod names;
+mod node_names;
 mod nodes;
 mod numbers;
 mod owners;

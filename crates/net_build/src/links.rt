@@ -60,8 +60,8 @@ fn check_links(
 }
 
 /// What the potentials say. The passes are tried one after the other: the potentials, a potential for each chance and
-/// utility node, no cycle, and the sizes of tables and rules. It goes over the text once, and compares each name in a
-/// potential with the names of the nodes.
+/// utility node, no cycle, and the sizes of tables and rules. It goes over the text once, and looks up each name in a
+/// potential among the names of the nodes.
 pub fn read_links<'a>(
     alloc: Global,
     text: &[u8],
@@ -75,7 +75,7 @@ pub fn read_links<'a>(
     ensures links { IfOk result (λ links. links ≡ link_lists text.now syntax.now) }
     ensures fit { IfOk result (λ links. AreLinks nodes.now.heads links.parents) }
 {
-    let names = nodes.names.as_slice();
+    let names = &nodes.names;
     let heads = nodes.heads.as_slice();
     let links = read_potentials(alloc, text, syntax, names, heads)?;
     check_links(alloc, heads, &links.parents, &links.potentials)?;

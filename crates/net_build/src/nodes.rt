@@ -11,8 +11,8 @@ ghost use Rattle.net_parser.specs.Owned.{IsBlockOf};
 use crate::attributes::check_repeats;
 use crate::faults::{BuildFault, BuildKind, Limit};
 use crate::labels::{read_labels, title};
+use crate::node_names::NodeNames;
 use crate::owners::read_owner;
-use crate::places::place_of;
 use maid_model::Kind;
 use net_parser::{Block, BlockKind, Syntax};
 use std::alloc::Global;
@@ -29,9 +29,9 @@ pub struct Head {
 }
 
 /// What the node blocks say, node by node, and the agents in order of first sight.
-#[derive(Debug, Drop)]
+#[derive(Drop)]
 pub struct Nodes {
-    pub names: Vec<Vec<u8>>,
+    pub names: NodeNames,
     pub labels: Vec<Vec<Vec<u8>>>,
     pub agents: Vec<Vec<u8>>,
     pub heads: Vec<Head>,
@@ -43,7 +43,7 @@ impl Model for Nodes {
 
     ghost Value = { NodeLists };
 
-    ghost view = { λ n. record { names = list_of n.names.items; labels = lists_of n.labels.items; agents = list_of n.agents.items; heads = n.heads.items } };
+    ghost view = { λ n. record { names = n.names; labels = lists_of n.labels.items; agents = list_of n.agents.items; heads = n.heads.items } };
 }
 
 // What one node block says.
@@ -80,10 +80,10 @@ fn kind_of(kind: BlockKind) -> Kind
 }
 
 // The name of a node behind those of these names.
-fn read_name<'a>(text: &'a [u8], block: &Block, names: &[Vec<u8>]) -> Result<&'a [u8], BuildFault>
+fn read_name<'a>(text: &'a [u8], block: &Block, names: &NodeNames) -> Result<&'a [u8], BuildFault>
     requires own { IsBlockOf text.now block.now }
     requires named { 0 < length block.now.names }
-    ensures rows { Passes (name_rows text.now (list_of names.now) block.now) result }
+    ensures rows { Passes (name_rows text.now names.now block.now) result }
     ensures name { IfOk result (λ name. name.now ≡ name_of text.now block.now) }
 {
     let title = title(block);
@@ -102,7 +102,7 @@ fn read_name<'a>(text: &'a [u8], block: &Block, names: &[Vec<u8>]) -> Result<&'a
         };
         return Err(passed.at(title.start));
     }
-    if place_of(names, name).is_some() {
+    if names.place(name).is_some() {
         return Err(BuildKind::DoubleName.at(title.start));
     }
     Ok(name)
@@ -138,12 +138,12 @@ fn read_entry(
     alloc: Global,
     text: &[u8],
     block: &Block,
-    names: &[Vec<u8>],
+    names: &NodeNames,
     agents: &mut Vec<Vec<u8>>,
 ) -> Result<Entry, BuildFault>
     requires own { IsBlockOf text.now block.now }
     requires named { 0 < length block.now.names }
-    ensures rows { Passes (node_rows text.now (list_of names.now) (list_of agents.old.items) block.now) result }
+    ensures rows { Passes (node_rows text.now names.now (list_of agents.old.items) block.now) result }
     ensures agents { OnOk result (list_of agents.new.items ≡ with_agent text.now (list_of agents.old.items) block.now) }
     ensures name { IfOk result (λ entry. entry.name.items ≡ name_of text.now block.now) }
     ensures labels { IfOk result (λ entry. list_of entry.labels.items ≡ labels_of text.now block.now) }
@@ -175,14 +175,14 @@ fn read_blocks(alloc: Global, text: &[u8], blocks: &[Block]) -> Result<Nodes, Bu
     ensures rows { Passes (node_pass text.now blocks.now) result }
     ensures nodes { IfOk result (λ nodes. nodes ≡ node_lists text.now (node_blocks blocks.now)) }
 {
-    let mut names = Vec::new(alloc);
+    let mut names = NodeNames::new(alloc);
     let mut labels = Vec::new(alloc);
     let mut agents = Vec::new(alloc);
     let mut heads = Vec::new(alloc);
     for block in blocks {
         if is_node(block.kind) {
             let entry = read_entry(alloc, text, block, &names, &mut agents)?;
-            names.push(entry.name)?;
+            names.add(entry.name)?;
             labels.push(entry.labels)?;
             heads.push(entry.head)?;
         }

@@ -5,13 +5,14 @@ ghost use Rattle.net_lexer.specs.Token.{IsTokenOf};
 ghost use Rattle.net_parser.specs.Owned.{IsBlockOf};
 ghost use Rattle.net_build.specs.Blocks.{is_potential, title, conditions, potentials};
 ghost use Rattle.net_build.specs.Linking.{node_named, trees_of, taken_row, many_row, potential_steps, potentials_steps, potentials_among, parents_in, absent_row, missing_at, missing_steps, AreParents};
-ghost use Rattle.net_build.specs.Lists.{list_of, numbers_of_lists};
+ghost use Rattle.net_build.specs.Lists.{numbers_of_lists};
 ghost use Rattle.net_build.specs.Passes.{Passes};
 ghost use Rattle.net_build.specs.Stages.{head_at};
 
 use crate::conditions::{read_conditions, read_name};
 use crate::faults::{BuildFault, BuildKind, Limit};
 use crate::links::Links;
+use crate::node_names::NodeNames;
 use crate::nodes::Head;
 use maid_model::Kind;
 use net_lexer::Token;
@@ -48,7 +49,7 @@ fn check_count(head: &Token, conditions: &[Token]) -> Result<(), BuildFault>
 fn read_potential(
     alloc: Global,
     text: &[u8],
-    names: &[Vec<u8>],
+    names: &NodeNames,
     heads: &[Head],
     potentials: &[Option<&Block>],
     head: &Token,
@@ -58,10 +59,10 @@ fn read_potential(
     requires conditions { All (IsTokenOf text.now) conditions.now }
     requires heads { length heads.now ≡ length names.now }
     requires potentials { length potentials.now ≡ length names.now }
-    ensures rows { Passes (potential_steps text.now (list_of names.now) heads.now (trees_of potentials.now) head.now conditions.now) result }
-    ensures node { IfOk result (λ read. read.0 ≡ node_named text.now (list_of names.now) head.now) }
+    ensures rows { Passes (potential_steps text.now names.now heads.now (trees_of potentials.now) head.now conditions.now) result }
+    ensures node { IfOk result (λ read. read.0 ≡ node_named text.now names.now head.now) }
     ensures within { IfOk result (λ read. read.0 < length names.now) }
-    ensures parents { IfOk result (λ read. read.1.items ≡ map (node_named text.now (list_of names.now)) conditions.now) }
+    ensures parents { IfOk result (λ read. read.1.items ≡ map (node_named text.now names.now) conditions.now) }
     ensures fit { IfOk result (λ read. AreParents heads.now read.1.items) }
 {
     let node = read_name(text, names, head)?;
@@ -89,7 +90,7 @@ fn behind_first(tokens: &[Token]) -> &[Token]
 fn read_block(
     alloc: Global,
     text: &[u8],
-    names: &[Vec<u8>],
+    names: &NodeNames,
     heads: &[Head],
     potentials: &[Option<&Block>],
     block: &Block,
@@ -98,10 +99,10 @@ fn read_block(
     requires potential { is_potential block.now.kind ≡ true }
     requires heads { length heads.now ≡ length names.now }
     requires potentials { length potentials.now ≡ length names.now }
-    ensures rows { Passes (potential_steps text.now (list_of names.now) heads.now (trees_of potentials.now) (title block.now) (conditions block.now)) result }
-    ensures node { IfOk result (λ read. read.0 ≡ node_named text.now (list_of names.now) (title block.now)) }
+    ensures rows { Passes (potential_steps text.now names.now heads.now (trees_of potentials.now) (title block.now) (conditions block.now)) result }
+    ensures node { IfOk result (λ read. read.0 ≡ node_named text.now names.now (title block.now)) }
     ensures within { IfOk result (λ read. read.0 < length names.now) }
-    ensures parents { IfOk result (λ read. read.1.items ≡ map (node_named text.now (list_of names.now)) (conditions block.now)) }
+    ensures parents { IfOk result (λ read. read.1.items ≡ map (node_named text.now names.now) (conditions block.now)) }
     ensures fit { IfOk result (λ read. AreParents heads.now read.1.items) }
 {
     let tokens = block.names.as_slice();
@@ -154,15 +155,15 @@ pub fn read_potentials<'a>(
     alloc: Global,
     text: &[u8],
     syntax: &'a Syntax,
-    names: &[Vec<u8>],
+    names: &NodeNames,
     heads: &[Head],
 ) -> Result<Links<'a>, BuildFault>
     requires blocks { All (IsBlockOf text.now) syntax.now }
     requires heads { length heads.now ≡ length names.now }
-    requires names { AllPairs (λ name later. name ≢ later) (list_of names.now) }
-    ensures rows { Passes (potentials_steps text.now (list_of names.now) heads.now syntax.now) result }
-    ensures potentials { IfOk result (λ links. links.potentials ≡ potentials_among text.now (list_of names.now) (potentials syntax.now)) }
-    ensures parents { IfOk result (λ links. links.parents ≡ parents_in text.now (list_of names.now) links.potentials) }
+    requires names { AllPairs (λ name later. name ≢ later) names.now }
+    ensures rows { Passes (potentials_steps text.now names.now heads.now syntax.now) result }
+    ensures potentials { IfOk result (λ links. links.potentials ≡ potentials_among text.now names.now (potentials syntax.now)) }
+    ensures parents { IfOk result (λ links. links.parents ≡ parents_in text.now names.now links.potentials) }
     ensures fit { IfOk result (λ links. All (AreParents heads.now) links.parents) }
 {
     let mut parents = no_parents(alloc, names.len())?;

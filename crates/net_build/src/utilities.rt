@@ -10,7 +10,6 @@ use crate::attributes::first_named;
 use crate::labels::title;
 use crate::leaves::push_leaves;
 use crate::nodes::Nodes;
-use crate::places::place_of;
 use maid_model::Kind;
 use net_lexer::Token;
 use net_parser::{Block, BlockKind, Syntax};
@@ -21,7 +20,7 @@ fn is_utility_named(nodes: &Nodes, name: &[u8]) -> bool
     requires { length nodes.now.names ≡ length nodes.now.heads }
     ensures { result ≡ is_utility (kind_in nodes.now name.now) }
 {
-    match place_of(&nodes.names, name) {
+    match nodes.names.place(name) {
         Some(node) => nodes.heads[node].kind == Kind::Utility,
         None => false,
     }

@@ -1,5 +1,5 @@
 -- An attribute that counts is tried against those that count before it.
-use Rattle.std.proofs.Common.{◌≡◌, ap, sym, ◌∙◌}
+use Rattle.std.proofs.Common.{ap, sym, ◌∙◌}
 use Rattle.net_build.specs.declared.faults.BuildFault.TheVariants.{Fault}
 use Rattle.net_build.specs.declared.faults.BuildKind.TheVariants.{DoubleAttribute}
 use Rattle.net_parser.specs.Trees.{AttributeTree}

@@ -1,5 +1,5 @@
 -- The block's own kind and attributes.
-use Rattle.std.proofs.Common.{◌≡◌, ap, ◌∙◌}
+use Rattle.std.proofs.Common.{ap}
 use Rattle.net_build.specs.Table.{repeats}
 use Rattle.net_parser.specs.Trees.{BlockTree}
 use Rattle.net_build.proofs.attributes.check_repeats.Goals as goal

@@ -1,7 +1,6 @@
 -- The steps one after the other: each finds nothing, and what they say makes the diagram.
-use Rattle.std.proofs.Common.{◌≡◌, ap, sym, ◌∙◌, subst}
+use Rattle.std.proofs.Common.{ap, sym, ◌∙◌, subst}
 use Rattle.std.proofs.lemmas.Result.{err_from_is_err_and}
-use Rattle.maid_model.specs.Diagrams.{IsDiagram}
 use Rattle.maid_model.specs.Names.{NamesView, NamesFit}
 use Rattle.maid_model.specs.Views.{DiagramView}
 use Rattle.net_build.specs.Blocks.{node_blocks}

@@ -1,5 +1,5 @@
 -- Values of which there are some.
-use Rattle.std.proofs.Common.{◌≡◌, sym, ◌∙◌}
+use Rattle.std.proofs.Common.{sym, ◌∙◌}
 use Rattle.net_build.proofs.LabelLemmas.{some_strings}
 use Rattle.net_build.proofs.labels.are_strings.Goals as goal
 

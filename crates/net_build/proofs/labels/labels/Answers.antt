@@ -1,8 +1,7 @@
 -- Each value is one string: its label's row finds nothing, and its label is added.
-use Rattle.std.proofs.Common.{◌≡◌}
 use Rattle.net_build.specs.Table.{label_row}
 use Rattle.net_parser.specs.Owned.{IsLeafOf}
-use Rattle.net_build.proofs.LabelLemmas.{string_here, strings_behind, all_here, all_behind, labels_on, labels_refused, labels_more}
+use Rattle.net_build.proofs.LabelLemmas.{strings_behind, all_here, all_behind, labels_on, labels_more}
 use Rattle.net_build.proofs.labels.labels.Goals as goal
 
 pub label-requires-clause-own : goal.label-requires-clause-own

@@ -1,7 +1,7 @@
 -- A list of values is seen as a list of their trees.
-use Rattle.std.proofs.Common.{◌≡◌, ap, sym, ◌∙◌}
+use Rattle.std.proofs.Common.{ap, sym, ◌∙◌}
 use Rattle.net_build.specs.Stages.{are_string_values, leaves_in}
-use Rattle.net_build.proofs.LabelLemmas.{string_list_tree, string_list_leaves, string_values_all}
+use Rattle.net_build.proofs.LabelLemmas.{string_list_tree, string_list_leaves}
 use Rattle.net_build.proofs.labels.strings.Goals as goal
 
 pub returns-then-are_strings-clause-list : goal.returns-then-are_strings-clause-list

@@ -4,7 +4,7 @@ use Rattle.std.proofs.lemmas.List.{length-map}
 use Rattle.std.specs.Option.{option_map}
 use Rattle.net_build.specs.Blocks.{node_blocks, names_of, potentials}
 use Rattle.net_build.specs.Linking.{trees_of, parents_in, potentials_steps, missing_steps, graph_steps, size_steps}
-use Rattle.net_build.specs.Lists.{list_of, numbers_of_lists}
+use Rattle.net_build.specs.Lists.{numbers_of_lists}
 use Rattle.net_build.specs.Passes.{◌▸◌}
 use Rattle.net_build.specs.Stages.{NodeLists, LinkLists, head_of}
 use Rattle.net_build.specs.Table.{potential_pass, missing_pass, graph_pass, size_pass}
@@ -15,53 +15,53 @@ use Rattle.net_build.proofs.links.read_links.Goals as goal
 
 pub read_potentials-requires-clause-names : goal.read_potentials-requires-clause-names
 read_potentials-requires-clause-names c =
-    let names : list_of c.as_slice-names.result.now ≡ names_of c.args.text.now (node_blocks c.args.syntax.now) = ap list_of c.as_slice-names.ensures.value ∙ ap (λ (n : NodeLists). n.names) c.nodes.view_is ∙ ap (λ (n : NodeLists). n.names) c.requires.nodes in
+    let names : c.nodes.inside.names ≡ names_of c.args.text.now (node_blocks c.args.syntax.now) = ap (λ (n : NodeLists). n.names) c.nodes.view_is ∙ ap (λ (n : NodeLists). n.names) c.requires.nodes in
     subst (AllPairs (λ x y. x ≢ y)) (sym names) (names_differ c.args.text.now c.args.syntax.now c.requires.rows)
 
 pub returns-in_err-links-clause-rows : goal.returns-in_err-links-clause-rows
 returns-in_err-links-clause-rows c =
-    let names : list_of c.as_slice-names.result.now ≡ names_of c.args.text.now (node_blocks c.args.syntax.now) = ap list_of c.as_slice-names.ensures.value ∙ ap (λ (n : NodeLists). n.names) c.nodes.view_is ∙ ap (λ (n : NodeLists). n.names) c.requires.nodes in
+    let names : c.nodes.inside.names ≡ names_of c.args.text.now (node_blocks c.args.syntax.now) = ap (λ (n : NodeLists). n.names) c.nodes.view_is ∙ ap (λ (n : NodeLists). n.names) c.requires.nodes in
     let heads : c.as_slice-heads.result.now ≡ map (head_of c.args.text.now (node_blocks c.args.syntax.now)) (node_blocks c.args.syntax.now) = c.as_slice-heads.ensures.value ∙ ap (λ (n : NodeLists). n.heads) c.nodes.view_is ∙ ap (λ (n : NodeLists). n.heads) c.requires.nodes in
     hands_on (potential_pass c.args.text.now c.args.syntax.now ▸ missing_pass c.args.text.now c.args.syntax.now ▸ graph_pass c.args.text.now c.args.syntax.now ▸ size_pass c.args.text.now c.args.syntax.now) _ _ c.from_residual.ensures
-    (refused_first (potential_pass c.args.text.now c.args.syntax.now) (missing_pass c.args.text.now c.args.syntax.now ▸ graph_pass c.args.text.now c.args.syntax.now ▸ size_pass c.args.text.now c.args.syntax.now) _ (leads_refused (potentials_steps c.args.text.now (list_of c.as_slice-names.result.now) c.as_slice-heads.result.now c.args.syntax.now) (potential_pass c.args.text.now c.args.syntax.now) _ (potentials_into c.args.text.now c.args.syntax.now (list_of c.as_slice-names.result.now) c.as_slice-heads.result.now names heads) c.in_err-links.ensures.rows))
+    (refused_first (potential_pass c.args.text.now c.args.syntax.now) (missing_pass c.args.text.now c.args.syntax.now ▸ graph_pass c.args.text.now c.args.syntax.now ▸ size_pass c.args.text.now c.args.syntax.now) _ (leads_refused (potentials_steps c.args.text.now c.nodes.inside.names c.as_slice-heads.result.now c.args.syntax.now) (potential_pass c.args.text.now c.args.syntax.now) _ (potentials_into c.args.text.now c.args.syntax.now c.nodes.inside.names c.as_slice-heads.result.now names heads) c.in_err-links.ensures.rows))
 
 pub check_links-requires-clause-parents : goal.check_links-requires-clause-parents
 check_links-requires-clause-parents c =
-    let names : list_of c.as_slice-names.result.now ≡ names_of c.args.text.now (node_blocks c.args.syntax.now) = ap list_of c.as_slice-names.ensures.value ∙ ap (λ (n : NodeLists). n.names) c.nodes.view_is ∙ ap (λ (n : NodeLists). n.names) c.requires.nodes in
+    let names : c.nodes.inside.names ≡ names_of c.args.text.now (node_blocks c.args.syntax.now) = ap (λ (n : NodeLists). n.names) c.nodes.view_is ∙ ap (λ (n : NodeLists). n.names) c.requires.nodes in
     let heads : c.as_slice-heads.result.now ≡ map (head_of c.args.text.now (node_blocks c.args.syntax.now)) (node_blocks c.args.syntax.now) = c.as_slice-heads.ensures.value ∙ ap (λ (n : NodeLists). n.heads) c.nodes.view_is ∙ ap (λ (n : NodeLists). n.heads) c.requires.nodes in
     let rows : numbers_of_lists c.deref.result.now ≡ c.in_ok-links.links.parents = ap numbers_of_lists c.deref.ensures.value ∙ ap (λ (l : LinkLists). l.parents) c.links.view_is in
     sym (length-map c.deref.result.now (λ v. v.items)) ∙ ap length rows
-    ∙ length_in c.args.text.now (list_of c.as_slice-names.result.now) c.in_ok-links.links.potentials c.in_ok-links.links.parents c.in_ok-links.ensures.parents
-    ∙ length_among c.args.text.now (list_of c.as_slice-names.result.now) (potentials c.args.syntax.now) c.in_ok-links.links.potentials c.in_ok-links.ensures.potentials
-    ∙ length_heads c.args.text.now c.args.syntax.now (list_of c.as_slice-names.result.now) c.as_slice-heads.result.now names heads
+    ∙ length_in c.args.text.now c.nodes.inside.names c.in_ok-links.links.potentials c.in_ok-links.links.parents c.in_ok-links.ensures.parents
+    ∙ length_among c.args.text.now c.nodes.inside.names (potentials c.args.syntax.now) c.in_ok-links.links.potentials c.in_ok-links.ensures.potentials
+    ∙ length_heads c.args.text.now c.args.syntax.now c.nodes.inside.names c.as_slice-heads.result.now names heads
 
 pub check_links-requires-clause-potentials : goal.check_links-requires-clause-potentials
 check_links-requires-clause-potentials c =
-    let names : list_of c.as_slice-names.result.now ≡ names_of c.args.text.now (node_blocks c.args.syntax.now) = ap list_of c.as_slice-names.ensures.value ∙ ap (λ (n : NodeLists). n.names) c.nodes.view_is ∙ ap (λ (n : NodeLists). n.names) c.requires.nodes in
+    let names : c.nodes.inside.names ≡ names_of c.args.text.now (node_blocks c.args.syntax.now) = ap (λ (n : NodeLists). n.names) c.nodes.view_is ∙ ap (λ (n : NodeLists). n.names) c.requires.nodes in
     let heads : c.as_slice-heads.result.now ≡ map (head_of c.args.text.now (node_blocks c.args.syntax.now)) (node_blocks c.args.syntax.now) = c.as_slice-heads.ensures.value ∙ ap (λ (n : NodeLists). n.heads) c.nodes.view_is ∙ ap (λ (n : NodeLists). n.heads) c.requires.nodes in
     let found : trees_of c.deref-2.result.now ≡ c.in_ok-links.links.potentials = ap trees_of c.deref-2.ensures.value ∙ ap (λ (l : LinkLists). l.potentials) c.links.view_is in
     sym (length-map c.deref-2.result.now (option_map (λ p. p.now))) ∙ ap length found
-    ∙ length_among c.args.text.now (list_of c.as_slice-names.result.now) (potentials c.args.syntax.now) c.in_ok-links.links.potentials c.in_ok-links.ensures.potentials
-    ∙ length_heads c.args.text.now c.args.syntax.now (list_of c.as_slice-names.result.now) c.as_slice-heads.result.now names heads
+    ∙ length_among c.args.text.now c.nodes.inside.names (potentials c.args.syntax.now) c.in_ok-links.links.potentials c.in_ok-links.ensures.potentials
+    ∙ length_heads c.args.text.now c.args.syntax.now c.nodes.inside.names c.as_slice-heads.result.now names heads
 
 pub returns-in_err-check_links-clause-rows : goal.returns-in_err-check_links-clause-rows
 returns-in_err-check_links-clause-rows c =
-    let names : list_of c.as_slice-names.result.now ≡ names_of c.args.text.now (node_blocks c.args.syntax.now) = ap list_of c.as_slice-names.ensures.value ∙ ap (λ (n : NodeLists). n.names) c.nodes.view_is ∙ ap (λ (n : NodeLists). n.names) c.requires.nodes in
+    let names : c.nodes.inside.names ≡ names_of c.args.text.now (node_blocks c.args.syntax.now) = ap (λ (n : NodeLists). n.names) c.nodes.view_is ∙ ap (λ (n : NodeLists). n.names) c.requires.nodes in
     let heads : c.as_slice-heads.result.now ≡ map (head_of c.args.text.now (node_blocks c.args.syntax.now)) (node_blocks c.args.syntax.now) = c.as_slice-heads.ensures.value ∙ ap (λ (n : NodeLists). n.heads) c.nodes.view_is ∙ ap (λ (n : NodeLists). n.heads) c.requires.nodes in
     let found : trees_of c.deref-2.result.now ≡ c.in_ok-links.links.potentials = ap trees_of c.deref-2.ensures.value ∙ ap (λ (l : LinkLists). l.potentials) c.links.view_is in
     let rows : numbers_of_lists c.deref.result.now ≡ c.in_ok-links.links.parents = ap numbers_of_lists c.deref.ensures.value ∙ ap (λ (l : LinkLists). l.parents) c.links.view_is in
     hands_on (potential_pass c.args.text.now c.args.syntax.now ▸ missing_pass c.args.text.now c.args.syntax.now ▸ graph_pass c.args.text.now c.args.syntax.now ▸ size_pass c.args.text.now c.args.syntax.now) _ _ c.from_residual-in_err-check_links.ensures
-    (second_refuses (potential_pass c.args.text.now c.args.syntax.now) (missing_pass c.args.text.now c.args.syntax.now ▸ graph_pass c.args.text.now c.args.syntax.now ▸ size_pass c.args.text.now c.args.syntax.now) _ (potentials_into c.args.text.now c.args.syntax.now (list_of c.as_slice-names.result.now) c.as_slice-heads.result.now names heads None c.in_ok-links.ensures.rows) (leads_refused (missing_steps c.as_slice-heads.result.now (trees_of c.deref-2.result.now) ▸ graph_steps c.as_slice-heads.result.now (numbers_of_lists c.deref.result.now) ▸ size_steps c.as_slice-heads.result.now (numbers_of_lists c.deref.result.now)) (missing_pass c.args.text.now c.args.syntax.now ▸ graph_pass c.args.text.now c.args.syntax.now ▸ size_pass c.args.text.now c.args.syntax.now) _ (rest_into c.args.text.now c.args.syntax.now (list_of c.as_slice-names.result.now) c.as_slice-heads.result.now (trees_of c.deref-2.result.now) (numbers_of_lists c.deref.result.now) names heads (found ∙ c.in_ok-links.ensures.potentials) (rows ∙ c.in_ok-links.ensures.parents ∙ ap (parents_in c.args.text.now (list_of c.as_slice-names.result.now)) (sym found))) c.in_err-check_links.ensures.rows))
+    (second_refuses (potential_pass c.args.text.now c.args.syntax.now) (missing_pass c.args.text.now c.args.syntax.now ▸ graph_pass c.args.text.now c.args.syntax.now ▸ size_pass c.args.text.now c.args.syntax.now) _ (potentials_into c.args.text.now c.args.syntax.now c.nodes.inside.names c.as_slice-heads.result.now names heads None c.in_ok-links.ensures.rows) (leads_refused (missing_steps c.as_slice-heads.result.now (trees_of c.deref-2.result.now) ▸ graph_steps c.as_slice-heads.result.now (numbers_of_lists c.deref.result.now) ▸ size_steps c.as_slice-heads.result.now (numbers_of_lists c.deref.result.now)) (missing_pass c.args.text.now c.args.syntax.now ▸ graph_pass c.args.text.now c.args.syntax.now ▸ size_pass c.args.text.now c.args.syntax.now) _ (rest_into c.args.text.now c.args.syntax.now c.nodes.inside.names c.as_slice-heads.result.now (trees_of c.deref-2.result.now) (numbers_of_lists c.deref.result.now) names heads (found ∙ c.in_ok-links.ensures.potentials) (rows ∙ c.in_ok-links.ensures.parents ∙ ap (parents_in c.args.text.now c.nodes.inside.names) (sym found))) c.in_err-check_links.ensures.rows))
 
 pub returns-clause-rows : goal.returns-clause-rows
 returns-clause-rows c =
-    let names : list_of c.as_slice-names.result.now ≡ names_of c.args.text.now (node_blocks c.args.syntax.now) = ap list_of c.as_slice-names.ensures.value ∙ ap (λ (n : NodeLists). n.names) c.nodes.view_is ∙ ap (λ (n : NodeLists). n.names) c.requires.nodes in
+    let names : c.nodes.inside.names ≡ names_of c.args.text.now (node_blocks c.args.syntax.now) = ap (λ (n : NodeLists). n.names) c.nodes.view_is ∙ ap (λ (n : NodeLists). n.names) c.requires.nodes in
     let heads : c.as_slice-heads.result.now ≡ map (head_of c.args.text.now (node_blocks c.args.syntax.now)) (node_blocks c.args.syntax.now) = c.as_slice-heads.ensures.value ∙ ap (λ (n : NodeLists). n.heads) c.nodes.view_is ∙ ap (λ (n : NodeLists). n.heads) c.requires.nodes in
     let found : trees_of c.deref-2.result.now ≡ c.in_ok-links.links.potentials = ap trees_of c.deref-2.ensures.value ∙ ap (λ (l : LinkLists). l.potentials) c.links.view_is in
     let rows : numbers_of_lists c.deref.result.now ≡ c.in_ok-links.links.parents = ap numbers_of_lists c.deref.ensures.value ∙ ap (λ (l : LinkLists). l.parents) c.links.view_is in
-    (potentials_into c.args.text.now c.args.syntax.now (list_of c.as_slice-names.result.now) c.as_slice-heads.result.now names heads None c.in_ok-links.ensures.rows, rest_into c.args.text.now c.args.syntax.now (list_of c.as_slice-names.result.now) c.as_slice-heads.result.now (trees_of c.deref-2.result.now) (numbers_of_lists c.deref.result.now) names heads (found ∙ c.in_ok-links.ensures.potentials) (rows ∙ c.in_ok-links.ensures.parents ∙ ap (parents_in c.args.text.now (list_of c.as_slice-names.result.now)) (sym found)) None c.in_ok-check_links.ensures.rows)
+    (potentials_into c.args.text.now c.args.syntax.now c.nodes.inside.names c.as_slice-heads.result.now names heads None c.in_ok-links.ensures.rows, rest_into c.args.text.now c.args.syntax.now c.nodes.inside.names c.as_slice-heads.result.now (trees_of c.deref-2.result.now) (numbers_of_lists c.deref.result.now) names heads (found ∙ c.in_ok-links.ensures.potentials) (rows ∙ c.in_ok-links.ensures.parents ∙ ap (parents_in c.args.text.now c.nodes.inside.names) (sym found)) None c.in_ok-check_links.ensures.rows)
 
 pub returns-clause-links : goal.returns-clause-links
 returns-clause-links c =
-    let names : list_of c.as_slice-names.result.now ≡ names_of c.args.text.now (node_blocks c.args.syntax.now) = ap list_of c.as_slice-names.ensures.value ∙ ap (λ (n : NodeLists). n.names) c.nodes.view_is ∙ ap (λ (n : NodeLists). n.names) c.requires.nodes in
-    links_are c.args.text.now c.args.syntax.now (list_of c.as_slice-names.result.now) c.in_ok-links.links names c.in_ok-links.ensures.potentials c.in_ok-links.ensures.parents
+    let names : c.nodes.inside.names ≡ names_of c.args.text.now (node_blocks c.args.syntax.now) = ap (λ (n : NodeLists). n.names) c.nodes.view_is ∙ ap (λ (n : NodeLists). n.names) c.requires.nodes in
+    links_are c.args.text.now c.args.syntax.now c.nodes.inside.names c.in_ok-links.links names c.in_ok-links.ensures.potentials c.in_ok-links.ensures.parents

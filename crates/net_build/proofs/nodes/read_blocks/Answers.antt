@@ -1,5 +1,5 @@
 -- A node block's rows find nothing, and its parts are added at the ends of the lists.
-use Rattle.std.proofs.Common.{◌≡◌, ℕ, ◌<◌, List, All, map, take, length, get_or, ap, sym, ◌∙◌, arith}
+use Rattle.std.proofs.Common.{◌≡◌, ℕ, ◌<◌, List, All, map, length, get_or, ap, sym, ◌∙◌}
 use Rattle.std.proofs.lemmas.Result.{err_from_is_err_and}
 use Rattle.std.specs.Global.{Vec}
 use Rattle.net_build.specs.Blocks.{is_node, node_blocks, title_at, name_of, names_of, labels_of, states_of, agents_of, owner_of}
@@ -8,10 +8,10 @@ use Rattle.net_build.specs.Stages.{head_of}
 use Rattle.net_build.specs.Table.{node_pass}
 use Rattle.net_parser.specs.Owned.{IsBlockOf}
 use Rattle.net_parser.specs.Trees.{BlockTree}
-use Rattle.net_build.proofs.NodeLemmas.{rows_behind, is_node_block, front_more, front_pushed, head_is, agents_up_to, owner_up_to, nodes_done, node_is_named}
+use Rattle.net_build.proofs.NodeLemmas.{rows_behind, is_node_block, front_more, front_pushed, entry_new, head_is, agents_up_to, owner_up_to, nodes_done, node_is_named}
 use Rattle.net_build.proofs.Passing.{after_skip, after_step, after_refused, after_end, filter_front_no}
 use Rattle.net_build.proofs.nodes.read_blocks.Goals as goal
-use Rattle.net_build.proofs.nodes.read_blocks.Goals.{then-is_node+in_ok-entry+in_ok-push+in_ok-push-2+in_ok-push-3, else-is_node}
+use Rattle.net_build.proofs.nodes.read_blocks.Goals.{then-is_node+in_ok-entry+in_ok-add+in_ok-push+in_ok-push-2, else-is_node}
 
 -- the block at the place is one of the text
 own : (text : List ℕ) (blocks : List BlockTree) (i : ℕ) (b : BlockTree) → All (IsBlockOf text) blocks → i < length blocks → b ≡ get_or blocks i b → IsBlockOf text b
@@ -21,7 +21,7 @@ pub loop-block-init : goal.loop-block-init
 unfolding node_pass
 loop-block-init c = record {
   lead = λ outcome h. h;
-  names = ap list_of c.new-names.ensures.items;
+  names = c.new-names.ensures;
   labels = ap lists_of c.new-labels.ensures.items;
   agents = ap list_of c.new-agents.ensures.items;
   heads = c.new-heads.ensures.items;
@@ -41,7 +41,10 @@ returns-in_err-entry-clause-rows c =
     rw (p.1, p.2) (after_refused (rows_behind c.args.text.now) is_node_block c.args.blocks.now (node_pass c.args.text.now c.args.blocks.now) c.loop-block.block-index c.block-item.result _ c.loop-block-test.true c.block-item.is
     (ap (λ (b : BlockTree). is_node b.kind) (sym c.block.view_is) ∙ sym c.is_node.ensures ∙ c.if-is_node.true)
     c.loop-block.invariant.lead
-    (rw (ap list_of c.deref.ensures.value ∙ c.loop-block.invariant.names, c.loop-block.invariant.agents) at c.in_err-entry.ensures.rows))
+    (rw (c.loop-block.invariant.names, c.loop-block.invariant.agents) at c.in_err-entry.ensures.rows))
+
+pub add-requires : goal.add-requires
+add-requires c has = entry_new c.args.text.now _ _ c.block-item.result c.in_ok-entry.ensures.rows (rw c.in_ok-entry.ensures.name at has)
 
 pub returns-clause-rows : goal.returns-clause-rows
 returns-clause-rows c = after_end (rows_behind c.args.text.now) is_node_block c.args.blocks.now (node_pass c.args.text.now c.args.blocks.now) c.loop-block.block-index c.loop-block-test.false c.loop-block.invariant.lead
@@ -57,7 +60,7 @@ returns-clause-nodes c =
 
 pub loop-block-preserved : goal.loop-block-preserved
 loop-block-preserved c = elim c.if-is_node.branch [
-  | then-is_node+in_ok-entry+in_ok-push+in_ok-push-2+in_ok-push-3 w ↦
+  | then-is_node+in_ok-entry+in_ok-add+in_ok-push+in_ok-push-2 w ↦
       let text = c.args.text.now in
       let blocks = c.args.blocks.now in
       let b = c.block-item.result in
@@ -65,11 +68,11 @@ loop-block-preserved c = elim c.if-is_node.branch [
       let kept = ap (λ (b : BlockTree). is_node b.kind) (sym c.block.view_is) ∙ sym c.is_node.ensures ∙ w.if-is_node.true in
       record {
         lead = after_step (rows_behind text) is_node_block blocks (node_pass text blocks) i b c.loop-block-test.true c.block-item.is kept c.loop-block.invariant.lead
-            (rw (ap list_of w.deref.ensures.value ∙ c.loop-block.invariant.names, c.loop-block.invariant.agents) at w.in_ok-entry.ensures.rows);
-        names = rw w.names-is (front_pushed (λ (v : Vec ℕ). v.items) (name_of text) is_node_block blocks i b c.loop-block.names.items _ w.in_ok-entry.entry.name c.loop-block-test.true c.block-item.is kept c.loop-block.invariant.names w.in_ok-push.ensures.items w.in_ok-entry.ensures.name);
-        labels = rw w.labels-is (front_pushed (λ (v : Vec (Vec ℕ)). list_of v.items) (labels_of text) is_node_block blocks i b c.loop-block.labels.items _ w.in_ok-entry.entry.labels c.loop-block-test.true c.block-item.is kept c.loop-block.invariant.labels w.in_ok-push-2.ensures.items w.in_ok-entry.ensures.labels);
+            (rw (c.loop-block.invariant.names, c.loop-block.invariant.agents) at w.in_ok-entry.ensures.rows);
+        names = rw w.names-is (front_more (name_of text) is_node_block blocks i b c.loop-block.names _ w.in_ok-entry.entry.name.items c.loop-block-test.true c.block-item.is kept c.loop-block.invariant.names w.in_ok-add.ensures w.in_ok-entry.ensures.name);
+        labels = rw w.labels-is (front_pushed (λ (v : Vec (Vec ℕ)). list_of v.items) (labels_of text) is_node_block blocks i b c.loop-block.labels.items _ w.in_ok-entry.entry.labels c.loop-block-test.true c.block-item.is kept c.loop-block.invariant.labels w.in_ok-push.ensures.items w.in_ok-entry.ensures.labels);
         agents = rw w.agents-is (agents_up_to text blocks i b _ _ c.loop-block-test.true c.block-item.is kept c.loop-block.invariant.agents w.in_ok-entry.ensures.agents);
-        heads = rw w.heads-is (front_more (head_of text (node_blocks blocks)) is_node_block blocks i b c.loop-block.heads.items _ w.in_ok-entry.entry.head c.loop-block-test.true c.block-item.is kept c.loop-block.invariant.heads w.in_ok-push-3.ensures.items
+        heads = rw w.heads-is (front_more (head_of text (node_blocks blocks)) is_node_block blocks i b c.loop-block.heads.items _ w.in_ok-entry.entry.head c.loop-block-test.true c.block-item.is kept c.loop-block.invariant.heads w.in_ok-push-2.ensures.items
             (head_is w.in_ok-entry.entry.head (title_at b) (owner_of text (node_blocks blocks) b) (states_of text b) b w.in_ok-entry.ensures.at w.in_ok-entry.ensures.kind
             (w.in_ok-entry.ensures.owner ∙ owner_up_to text blocks i b _ _ c.loop-block-test.true c.block-item.is kept c.loop-block.invariant.agents w.in_ok-entry.ensures.agents)
             w.in_ok-entry.ensures.states));

@@ -1,13 +1,13 @@
 -- A potential's rows are the first of those still to come, and it is entered where its head's name stands.
-use Rattle.std.proofs.Common.{◌≡◌, ℕ, ◌<◌, ◌≤◌, true, false, List, length, get_or, All, Option, None, take, filter, sym, ap, subst, ◌∙◌}
-use Rattle.std.proofs.lemmas.List.{length-map, take_all}
+use Rattle.std.proofs.Common.{◌≡◌, ℕ, ◌<◌, ◌≤◌, true, false, List, [], length, get_or, All, Option, None, replicate, take, filter, sym, ap, subst, ◌∙◌}
+use Rattle.std.proofs.lemmas.List.{take_all}
 use Rattle.std.proofs.lemmas.List.Elements.{All-set}
 use Rattle.std.specs.Global.{Vec}
 use Rattle.net_build.proofs.FitLemmas.{none_fit_all}
 use Rattle.net_parser.specs.Trees.{BlockTree}
 use Rattle.net_build.specs.Blocks.{is_potential}
 use Rattle.net_build.specs.Linking.{trees_of, behind_rows, potentials_steps, potentials_among, parents_in, AreParents}
-use Rattle.net_build.specs.Lists.{list_of, numbers_of_lists}
+use Rattle.net_build.specs.Lists.{numbers_of_lists}
 use Rattle.net_build.proofs.LinkLemmas.{hands_on}
 use Rattle.net_build.proofs.Passing.{after_refused, after_skip, after_step, leads_all, filter_front_no}
 use Rattle.net_build.proofs.PotentialLemmas.{none_among, none_in, entered_from, parents_from}
@@ -16,11 +16,10 @@ use Rattle.net_build.proofs.potentials.read_potentials.Goals.{then-is_potential+
 
 pub loop-block-init : goal.loop-block-init
 loop-block-init c =
-    let n : length (list_of c.args.names.now) ≡ length c.args.names.now = length-map c.args.names.now (λ v. v.items) in
     record {
-      potentials = c.in_ok-potentials.ensures ∙ rw (← n) (none_among c.args.text.now (list_of c.args.names.now));
-      parents = c.in_ok-parents.ensures ∙ none_in c.args.text.now (list_of c.args.names.now) (length c.args.names.now) ∙ ap (parents_in c.args.text.now (list_of c.args.names.now)) (sym c.in_ok-potentials.ensures);
-      fit = subst (All (AreParents c.args.heads.now)) (sym c.in_ok-parents.ensures) (none_fit_all c.args.heads.now (length c.args.names.now));
+      potentials = c.in_ok-potentials.ensures ∙ ap (λ n. replicate n None) c.len-2.ensures ∙ none_among c.args.text.now c.args.names.now;
+      parents = c.in_ok-parents.ensures ∙ ap (λ n. replicate n []) c.len.ensures ∙ none_in c.args.text.now c.args.names.now (length c.args.names.now) ∙ ap (λ n. parents_in c.args.text.now c.args.names.now (replicate n None)) (sym c.len-2.ensures) ∙ ap (parents_in c.args.text.now c.args.names.now) (sym c.in_ok-potentials.ensures);
+      fit = subst (All (AreParents c.args.heads.now)) (sym c.in_ok-parents.ensures) (none_fit_all c.args.heads.now c.len.result);
       lead = leads_all _;
     }
 
@@ -30,9 +29,9 @@ returns-in_err-node-clause-rows c =
     let within : c.loop-block.block-index < length c.args.syntax.now = subst (λ (bs : List BlockTree). c.loop-block.block-index < length bs) blocks c.loop-block-test.true in
     let is : c.block-item.result ≡ get_or c.args.syntax.now c.loop-block.block-index c.block-item.result = c.block-item.is ∙ ap (λ bs. get_or bs c.loop-block.block-index c.block-item.result) blocks in
     let kept : is_potential c.block-item.result.kind ≡ true = sym c.is_potential.ensures ∙ c.if-is_potential.true in
-    let trees : trees_of c.deref.result.now ≡ potentials_among c.args.text.now (list_of c.args.names.now) (filter (λ b. is_potential b.kind) (take c.loop-block.block-index c.args.syntax.now)) = ap trees_of c.deref.ensures.value ∙ c.loop-block.invariant.potentials in
-    hands_on (potentials_steps c.args.text.now (list_of c.args.names.now) c.args.heads.now c.args.syntax.now) _ _ c.from_residual-in_err-node.ensures
-    (after_refused (behind_rows c.args.text.now (list_of c.args.names.now) c.args.heads.now) (λ b. is_potential b.kind) c.args.syntax.now _ c.loop-block.block-index c.block-item.result _ within is kept c.loop-block.invariant.lead
+    let trees : trees_of c.deref.result.now ≡ potentials_among c.args.text.now c.args.names.now (filter (λ b. is_potential b.kind) (take c.loop-block.block-index c.args.syntax.now)) = ap trees_of c.deref.ensures.value ∙ c.loop-block.invariant.potentials in
+    hands_on (potentials_steps c.args.text.now c.args.names.now c.args.heads.now c.args.syntax.now) _ _ c.from_residual-in_err-node.ensures
+    (after_refused (behind_rows c.args.text.now c.args.names.now c.args.heads.now) (λ b. is_potential b.kind) c.args.syntax.now _ c.loop-block.block-index c.block-item.result _ within is kept c.loop-block.invariant.lead
     (rw (← trees) c.in_err-node.ensures.rows))
 
 pub loop-block-preserved : goal.loop-block-preserved
@@ -40,29 +39,28 @@ loop-block-preserved c =
     let blocks : c.deref-block-items.result.now ≡ c.args.syntax.now = c.deref-block-items.ensures.value ∙ c.syntax.view_is in
     let within : c.loop-block.block-index < length c.args.syntax.now = subst (λ (bs : List BlockTree). c.loop-block.block-index < length bs) blocks c.loop-block-test.true in
     let is : c.block-item.result ≡ get_or c.args.syntax.now c.loop-block.block-index c.block-item.result = c.block-item.is ∙ ap (λ bs. get_or bs c.loop-block.block-index c.block-item.result) blocks in
-    let n : length (list_of c.args.names.now) ≡ length c.args.names.now = length-map c.args.names.now (λ v. v.items) in
     elim c.if-is_potential.branch [
       | then-is_potential+in_ok-node w ↦
           let kept : is_potential c.block-item.result.kind ≡ true = sym c.is_potential.ensures ∙ w.if-is_potential.true in
-          let trees : trees_of w.deref.result.now ≡ potentials_among c.args.text.now (list_of c.args.names.now) (filter (λ b. is_potential b.kind) (take c.loop-block.block-index c.args.syntax.now)) = ap trees_of w.deref.ensures.value ∙ c.loop-block.invariant.potentials in
-          let rows : behind_rows c.args.text.now (list_of c.args.names.now) c.args.heads.now (filter (λ b. is_potential b.kind) (take c.loop-block.block-index c.args.syntax.now)) c.block-item.result None = rw (← trees) w.in_ok-node.ensures.rows in
+          let trees : trees_of w.deref.result.now ≡ potentials_among c.args.text.now c.args.names.now (filter (λ b. is_potential b.kind) (take c.loop-block.block-index c.args.syntax.now)) = ap trees_of w.deref.ensures.value ∙ c.loop-block.invariant.potentials in
+          let rows : behind_rows c.args.text.now c.args.names.now c.args.heads.now (filter (λ b. is_potential b.kind) (take c.loop-block.block-index c.args.syntax.now)) c.block-item.result None = rw (← trees) w.in_ok-node.ensures.rows in
           let now : trees_of c.if-is_potential.potentials.items ≡ trees_of w.enter.new.potentials.items = ap (λ (v : Vec (Option _)). trees_of v.items) w.potentials-is in
           let new : numbers_of_lists c.if-is_potential.parents.items ≡ numbers_of_lists w.enter.new.parents.items = ap (λ (v : Vec (Vec ℕ)). numbers_of_lists v.items) w.parents-is in
           record {
-            potentials = entered_from c.args.text.now (list_of c.args.names.now) c.args.syntax.now c.loop-block.block-index c.block-item.result w.in_ok-node.node _ _ within is kept c.requires.names (rw n w.in_ok-node.ensures.within) w.in_ok-node.ensures.node rows.1.0 c.loop-block.invariant.potentials (now ∙ w.enter.ensures.potentials);
-            parents = parents_from c.args.text.now (list_of c.args.names.now) w.in_ok-node.node c.block-item.result _ _ _ _ _ w.in_ok-node.ensures.parents c.loop-block.invariant.parents (now ∙ w.enter.ensures.potentials) (new ∙ w.enter.ensures.parents);
+            potentials = entered_from c.args.text.now c.args.names.now c.args.syntax.now c.loop-block.block-index c.block-item.result w.in_ok-node.node _ _ within is kept c.requires.names w.in_ok-node.ensures.within w.in_ok-node.ensures.node rows.1.0 c.loop-block.invariant.potentials (now ∙ w.enter.ensures.potentials);
+            parents = parents_from c.args.text.now c.args.names.now w.in_ok-node.node c.block-item.result _ _ _ _ _ w.in_ok-node.ensures.parents c.loop-block.invariant.parents (now ∙ w.enter.ensures.potentials) (new ∙ w.enter.ensures.parents);
             fit = subst (All (AreParents c.args.heads.now)) (sym (new ∙ w.enter.ensures.parents)) (All-set (AreParents c.args.heads.now) _ w.in_ok-node.node _ w.in_ok-node.ensures.fit c.loop-block.invariant.fit);
-            lead = after_step (behind_rows c.args.text.now (list_of c.args.names.now) c.args.heads.now) (λ b. is_potential b.kind) c.args.syntax.now _ c.loop-block.block-index c.block-item.result within is kept c.loop-block.invariant.lead rows;
+            lead = after_step (behind_rows c.args.text.now c.args.names.now c.args.heads.now) (λ b. is_potential b.kind) c.args.syntax.now _ c.loop-block.block-index c.block-item.result within is kept c.loop-block.invariant.lead rows;
           }
       | else-is_potential w ↦
           let left : is_potential c.block-item.result.kind ≡ false = sym c.is_potential.ensures ∙ w.if-is_potential.false in
           let now : trees_of c.if-is_potential.potentials.items ≡ trees_of c.loop-block.potentials.items = ap (λ (v : Vec (Option _)). trees_of v.items) w.potentials-is in
           let new : numbers_of_lists c.if-is_potential.parents.items ≡ numbers_of_lists c.loop-block.parents.items = ap (λ (v : Vec (Vec ℕ)). numbers_of_lists v.items) w.parents-is in
           record {
-            potentials = now ∙ c.loop-block.invariant.potentials ∙ ap (potentials_among c.args.text.now (list_of c.args.names.now)) (sym (filter_front_no (λ b. is_potential b.kind) c.args.syntax.now c.loop-block.block-index c.block-item.result within is left));
-            parents = new ∙ c.loop-block.invariant.parents ∙ ap (parents_in c.args.text.now (list_of c.args.names.now)) (sym now);
+            potentials = now ∙ c.loop-block.invariant.potentials ∙ ap (potentials_among c.args.text.now c.args.names.now) (sym (filter_front_no (λ b. is_potential b.kind) c.args.syntax.now c.loop-block.block-index c.block-item.result within is left));
+            parents = new ∙ c.loop-block.invariant.parents ∙ ap (parents_in c.args.text.now c.args.names.now) (sym now);
             fit = subst (All (AreParents c.args.heads.now)) (sym new) c.loop-block.invariant.fit;
-            lead = after_skip (behind_rows c.args.text.now (list_of c.args.names.now) c.args.heads.now) (λ b. is_potential b.kind) c.args.syntax.now _ c.loop-block.block-index c.block-item.result within is left c.loop-block.invariant.lead;
+            lead = after_skip (behind_rows c.args.text.now c.args.names.now c.args.heads.now) (λ b. is_potential b.kind) c.args.syntax.now _ c.loop-block.block-index c.block-item.result within is left c.loop-block.invariant.lead;
           }
     ]
 
@@ -70,7 +68,7 @@ pub returns-clause-potentials : goal.returns-clause-potentials
 returns-clause-potentials c =
     let blocks : c.deref-block-items.result.now ≡ c.args.syntax.now = c.deref-block-items.ensures.value ∙ c.syntax.view_is in
     let end : length c.args.syntax.now ≤ c.loop-block.block-index = subst (λ (bs : List BlockTree). length bs ≤ c.loop-block.block-index) blocks c.loop-block-test.false in
-    c.loop-block.invariant.potentials ∙ ap (λ bs. potentials_among c.args.text.now (list_of c.args.names.now) (filter (λ b. is_potential b.kind) bs)) (take_all c.loop-block.block-index c.args.syntax.now end)
+    c.loop-block.invariant.potentials ∙ ap (λ bs. potentials_among c.args.text.now c.args.names.now (filter (λ b. is_potential b.kind) bs)) (take_all c.loop-block.block-index c.args.syntax.now end)
 
 pub returns-clause-parents : goal.returns-clause-parents
 returns-clause-parents c = c.loop-block.invariant.parents

@@ -1,0 +1,10 @@
+-- A key that isn't there goes last.
+use Rattle.std.proofs.Common.{ℕ, List, [], ◌∷◌, ◌++◌, Contains, ap, sym, subst, ◌∙◌}
+use Rattle.net_build.specs.Lists.{list_of}
+use Rattle.net_build.proofs.NameLemmas.{one_more}
+use Rattle.net_build.proofs.node_names.NodeNames.add.Goals as goal
+
+pub returns : goal.returns
+returns c = ap list_of c.in_ok-insert.ensures.keys
+    ∙ one_more c.self.inside.names.keys c.args.name (subst (λ (names : List (List ℕ)). Contains names c.args.name.items → ⊥) (sym c.self.view_is) c.requires)
+    ∙ ap (λ (names : List (List ℕ)). names ++ c.args.name.items ∷ []) c.self.view_is

@@ -1,0 +1,68 @@
+//! The names of a text's nodes, found by their hashes.
+
+ghost use Rattle.std.specs.Prelude.{◌≡◌, ◌++◌, [], ◌∷◌, length, Contains, IfOk, OnOk};
+ghost use Rattle.std.specs.Option.{SomeIff};
+ghost use Rattle.net_build.specs.Blocks.{place_of};
+ghost use Rattle.net_build.specs.Lists.{list_of};
+
+use indexmap::IndexSet;
+use std::alloc::{AllocError, AllocFailed, Global};
+use std::marker::Model;
+
+/// Names that differ, in the order in which they were added. The hashes have no secret: names that are made to have one
+/// hash are compared in order.
+#[derive(Drop)]
+pub struct NodeNames {
+    names: IndexSet<Vec<u8>>,
+}
+
+impl Model for NodeNames {
+    ghost use Rattle.std.specs.Prelude.{ℕ, List};
+    ghost use Rattle.net_build.specs.Lists.{list_of};
+
+    ghost Value = { List (List ℕ) };
+
+    ghost view = { λ n. list_of n.names.keys };
+}
+
+impl NodeNames {
+    /// No names.
+    pub fn new(alloc: Global) -> NodeNames
+        ensures { result ≡ [] }
+    {
+        NodeNames {
+            names: IndexSet::new(alloc),
+        }
+    }
+
+    /// How many names there are.
+    pub fn len(&self) -> usize
+        ensures { result ≡ length self.now }
+    {
+        self.names.len()
+    }
+
+    /// The place of the name, if it is there.
+    pub fn place(&self, name: &[u8]) -> Option<usize>
+        ensures { SomeIff result (Contains self.now name.now) (place_of self.now name.now) }
+    {
+        self.names.get_index_of(name)
+    }
+
+    /// Adds a name that isn't there.
+    pub fn add(&mut self, name: Vec<u8>) -> Result<(), AllocFailed<Vec<u8>>>
+        requires { ¬ Contains self.old name.items }
+        ensures { OnOk result (self.new ≡ self.old ++ name.items ∷ []) }
+    {
+        self.names.insert(name)?;
+        Ok(())
+    }
+
+    /// The names as a list.
+    pub fn into_list(self, alloc: Global) -> Result<Vec<Vec<u8>>, AllocError>
+        ensures { IfOk result (λ list. list_of list.items ≡ self) }
+    {
+        let list = Vec::from_iter(alloc, self.names)?;
+        Ok(list)
+    }
+}
