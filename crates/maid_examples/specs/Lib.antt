@@ -1,0 +1,3 @@
+pub mod FollowerLeader
+pub mod CopySeen
+pub mod NodeBetween
