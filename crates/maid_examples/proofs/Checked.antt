@@ -1,15 +1,16 @@
 -- Tests that a list of nodes passes, by which each small diagram is seen to be a diagram.
-use Rattle.std.proofs.Common.{◌≡◌, ◌≢◌, ◌⊎◌, ℕ, zero, suc, ◌+◌, ◌*◌, ◌<◌, ◌≤◌, Bool, true, false, ◌&&◌, ◌||◌, not, eqb, ltb, leb, List, [], ◌∷◌, length, slice_index_or, refl, sym, ap, subst, inl, inr, arith, Contains, All, nat_abs, ltb-true, leb-true, eqb-true, eq-eqb}
-use Rattle.std.specs.List.{list_all, list_any, range_with_len}
+use Rattle.std.proofs.Common.{◌≡◌, ◌≢◌, ◌⊎◌, ℕ, zero, suc, ◌*◌, ◌<◌, ◌≤◌, Bool, true, false, ◌&&◌, ◌||◌, not, eqb, ltb, leb, List, [], ◌∷◌, length, slice_index_or, refl, sym, ap, ◌∙◌, map, subst, inl, inr, arith, Contains, All, nat_abs, ltb-true, leb-true, eqb-true, eq-eqb}
+use Rattle.std.specs.List.{list_all}
 use Rattle.maid_model.specs.declared.diagrams.Kind.{Kind}
 use Rattle.maid_model.specs.declared.diagrams.Kind.TheVariants.{Chance, Decision, Utility}
-use Rattle.maid_model.specs.Views.{NodeView, DiagramView}
-use Rattle.maid_model.specs.Nodes.{no_node, node_at, states_of, parents_of, numbers_of, rows_of, decisions_of, is_chance, is_decision, is_utility}
+use Rattle.maid_model.specs.Views.{NodeView, RuleView, DiagramView}
+use Rattle.maid_model.specs.Nodes.{IsDecision, no_node, node_at, states_of, parents_of, numbers_of, rows_of, decisions_of, is_chance, is_decision, is_utility}
 use Rattle.maid_model.specs.Graph.{Arc, IsPath, Here, Along, IsAcyclic, AllDifferent, IsGraph}
 use Rattle.maid_model.specs.Sums.{nat_sum_over}
-use Rattle.maid_model.specs.Tables.{IsTable, HasChanceTables, chance_total}
+use Rattle.maid_model.specs.Tables.{IsTable, HasChanceTables, chance_total, weights_of, rule_total}
+use Rattle.maid_model.specs.Profiles.{IsRule, IsProfile}
 use Rattle.maid_model.specs.Diagrams.{IsDiagram, HasOwners, HasValues, KeepsLimits, greatest_number}
-use Rattle.maid_examples.proofs.Members.{Among, among_of, left_of, right_of, follows, at_member, at_place, at_number}
+use Rattle.maid_examples.proofs.Members.{among_of, left_of, right_of, follows, at_member, at_place, at_number}
 
 -- no number stands twice
 abbrev differ : List ℕ → Bool
@@ -17,11 +18,15 @@ differ [] = true
 differ (x ∷ xs) = list_all (λ y. not (eqb x y)) xs && differ xs
 
 -- a test of all nodes by number
-abbrev of_all : List NodeView → (ℕ → Bool) → Bool
+abbrev pub of_all : List NodeView → (ℕ → Bool) → Bool
 of_all nodes test = list_all test (numbers_of nodes)
 
-abbrev kind_of : List NodeView → ℕ → Kind
+abbrev pub kind_of : List NodeView → ℕ → Kind
 kind_of nodes v = (node_at nodes v).kind
+
+-- the rule that the profile has at a decision
+abbrev pub rule_at : List RuleView → ℕ → RuleView
+rule_at p v = record { decision = v; total = rule_total p v; weights = weights_of p v }
 
 -- what a diagram has to pass, where each node stands after its parents; its chance tables aside
 pub record Passes (d : DiagramView) : Type 0 where
@@ -186,3 +191,15 @@ one_table nodes only e positive table = record {
   where
     same : (v : ℕ) → kind_of nodes v ≡ Chance → v ≡ only
     same v k = eqb-true v only (follows (is_chance (kind_of nodes v)) (eqb v only) (at_node nodes (λ x. not (is_chance (kind_of nodes x)) || eqb x only) e v (kind_within nodes Chance (λ f. cc) v k)) (ap is_chance k))
+
+-- what holds of a and b holds of each decision, where they are all that there are
+pub at_two : (nodes : List NodeView) (a b : ℕ) → of_all nodes (λ v. not (is_decision (kind_of nodes v)) || (eqb v a || eqb v b)) ≡ true → (P : ℕ → Type 0) → P a → P b → (v : ℕ) → IsDecision nodes v → P v
+at_two nodes a b e P first second v d = of v (eqb v a) refl (follows (is_decision (kind_of nodes v)) (eqb v a || eqb v b) (at_node nodes (λ x. not (is_decision (kind_of nodes x)) || (eqb x a || eqb x b)) e v d.within) (ap is_decision d.kind))
+  where
+    of : (v : ℕ) (t : Bool) → eqb v a ≡ t → (eqb v a || eqb v b) ≡ true → P v
+    of v true f e = subst P (sym (eqb-true v a f)) first
+    of v false f e = subst P (sym (eqb-true v b (sym (ap (λ t. t || eqb v b) f) ∙ e))) second
+
+-- a rule for each of two decisions
+pub two_rules : (nodes : List NodeView) (p : List RuleView) (a b : ℕ) → of_all nodes (λ v. not (is_decision (kind_of nodes v)) || (eqb v a || eqb v b)) ≡ true → map (λ r. r.decision) p ≡ decisions_of nodes → IsRule nodes (rule_at p a) → IsRule nodes (rule_at p b) → IsProfile nodes p
+two_rules nodes p a b e decisions first second = record { decisions = decisions; rule = at_two nodes a b e (λ v. IsRule nodes (rule_at p v)) first second }

@@ -4,3 +4,4 @@ pub mod Sound
 pub mod Turning
 pub mod Reliance
 pub mod Starting
+pub mod Rooms

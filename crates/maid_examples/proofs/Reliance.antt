@@ -1,11 +1,11 @@
 -- Who relies on whom in the small diagrams: a walk, or a closed set of steps without a goal.
-use Rattle.std.proofs.Common.{◌≡◌, ◌≢◌, ◌⊎◌, ◌↔◌, ℕ, zero, suc, ◌+◌, ◌<◌, ◌≤◌, List, [], ◌∷◌, length, refl, sym, subst, inl, inr, arith}
+use Rattle.std.proofs.Common.{◌≡◌, ◌≢◌, ◌⊎◌, ◌↔◌, ℕ, zero, suc, ◌<◌, List, [], ◌∷◌, length, refl, sym, subst, inl, inr, arith}
 use Rattle.maid_model.specs.declared.diagrams.Kind.TheVariants.{Chance, Decision, Utility}
 use Rattle.maid_model.specs.Views.{NodeView}
-use Rattle.maid_model.specs.Nodes.{IsDecision, node_at, states_of, parents_of}
-use Rattle.maid_model.specs.Graph.{Arc, Here, Along, IsGraph}
+use Rattle.maid_model.specs.Nodes.{IsDecision, node_at, states_of}
+use Rattle.maid_model.specs.Graph.{Arc, Here, IsGraph}
 use Rattle.maid_model.specs.Relevance.{IsLive, IsFixed, IsGoal, ReliesOn}
-use Rattle.maid_model.specs.Walks.{WithArc, WithNode, IsJoined, MeetHeads, IsReachedFromParent}
+use Rattle.maid_model.specs.Walks.{WithArc, WithNode, IsJoined, MeetHeads}
 use Rattle.maid_examples.specs.FollowerLeader as seen
 use Rattle.maid_examples.specs.CopySeen as copy
 use Rattle.maid_examples.specs.NodeBetween as between
@@ -85,7 +85,7 @@ seen_no_goal goal u Back g = let l : 4 < 4 = g.within in omega arith
 
 seen_not_on_leader : ReliesOn seen.sight 1 0 → ⊥
 seen_not_on_leader r = elim (end_of_walk SeenArc (WithNode (IsLive seen.sight) 4) (IsFixed (Arc seen.sight) 1) Turn seen_closed 4 r.goal (λ y j l. seen_from_new y j) r.walk) [
-  inl e ↦ (let l : r.goal < 4 = r.is_goal.within in omega arith)
+  | inl e ↦ (let l : r.goal < 4 = r.is_goal.within in omega arith)
   | inr t ↦ seen_no_goal r.goal t.0 t.1 r.is_goal
 ]
 
@@ -117,14 +117,14 @@ copied_reliance = record { on_follower = copied_on_follower; on_leader = copied_
 -- ---- a node between
 joined_on_follower : ReliesOn between.joined 0 2
 joined_on_follower =
-    relies between.joined 0 2 3 between_sound.joined.graph (λ e. omega arith) (decision between.joined 0 (omega arith) refl) (decision between.joined 2 (omega arith) refl)
+    relies between.joined 0 2 3 between_sound.two_states.graph (λ e. omega arith) (decision between.joined 0 (omega arith) refl) (decision between.joined 2 (omega arith) refl)
     (live between.joined 0 (omega arith) (omega arith)) (live between.joined 2 (omega arith) (omega arith))
     (record { within = omega arith; kind = refl; owner = refl; below = (3, (0, omega arith, refl), Here) })
     (1, omega arith, refl) (λ a. among_of [] 2 a)
 
 parted_on_follower : ReliesOn between.parted 0 2
 parted_on_follower =
-    relies between.parted 0 2 3 between_sound.parted.graph (λ e. omega arith) (decision between.parted 0 (omega arith) refl) (decision between.parted 2 (omega arith) refl)
+    relies between.parted 0 2 3 between_sound.one_state.graph (λ e. omega arith) (decision between.parted 0 (omega arith) refl) (decision between.parted 2 (omega arith) refl)
     (live between.parted 0 (omega arith) (omega arith)) (live between.parted 2 (omega arith) (omega arith))
     (record { within = omega arith; kind = refl; owner = refl; below = (3, (0, omega arith, refl), Here) })
     (1, omega arith, refl) (λ a. among_of [] 2 a)
@@ -145,7 +145,7 @@ joined_on_leader = record {
       inr refl,
       inl (inr (refl, refl)),
       ((λ m. absurd (at_leader m.1)), (λ f. absurd (leader_given f))),
-      (inl (live between.joined 0 (omega arith) (omega arith)), inl (inl (0, omega arith, refl)), ((λ m. absurd (at_between m.1)), (λ f. absurd (between_given f))), (inl (live between.joined 1 (omega arith) (omega arith)), inl (inl (0, omega arith, refl)), inl (record { within = omega arith; states = inl refl })))
+      (inl (live between.joined 0 (omega arith) (omega arith)), inl (inl (0, omega arith, refl)), ((λ m. absurd (at_between m.1)), (λ f. absurd (between_given f))), (inl (live between.joined 1 (omega arith) (omega arith)), inl (inl (0, omega arith, refl)), inl (record { within = omega arith; states = inl refl }))),
     );
     ends = refl;
   };
@@ -160,7 +160,7 @@ joined_on_leader = record {
     leader_given (inr a) = among_of [] 0 a
 
     at_between : WithArc (Arc between.joined) 5 0 4 1 → ⊥
-    at_between (inl a) = between_sound.joined.graph.no_utility_parent 4 1 a refl
+    at_between (inl a) = between_sound.two_states.graph.no_utility_parent 4 1 a refl
     at_between (inr h) = let e : ◌≡◌ {A = ℕ} 4 5 = h.0 in omega arith
 
     between_given : IsFixed (Arc between.joined) 2 1 → ⊥
@@ -188,7 +188,7 @@ parted_from_new : (z : ℕ) → IsJoined PartedArc 5 z → Part 5 z
 parted_from_new z j = subst (λ x. Part 5 x) (sym (leader z j)) PartThere
   where
     leader : (z : ℕ) → IsJoined PartedArc 5 z → z ≡ 0
-    leader z (inl (inl a)) = let l : 5 < 5 = between_sound.parted.graph.parents_known 5 z a in absurd (omega arith)
+    leader z (inl (inl a)) = let l : 5 < 5 = between_sound.one_state.graph.parents_known 5 z a in absurd (omega arith)
     leader z (inl (inr h)) = h.1
     leader z (inr (inl a)) = absurd (among_of [] z a)
     leader z (inr (inr h)) = let e : ◌≡◌ {A = ℕ} 5 0 = h.1 in absurd (omega arith)
@@ -225,7 +225,7 @@ parted_closed x y z PartAside j l m = absurd (stops z j m.0)
 
     -- a utility has no arc onwards, and isn't given
     stops : (z : ℕ) → IsJoined PartedArc 3 z → (MeetHeads PartedArc 0 3 z → IsFixed (Arc between.parted) 2 3) → ⊥
-    stops z (inl (inl a)) f = between_sound.parted.graph.no_utility_parent 3 z a refl
+    stops z (inl (inl a)) f = between_sound.one_state.graph.no_utility_parent 3 z a refl
     stops z (inl (inr h)) f = let e : ◌≡◌ {A = ℕ} 3 5 = h.0 in omega arith
     stops z (inr a) f = given (f (inl (0, omega arith, refl), a))
 
@@ -236,7 +236,7 @@ parted_no_goal goal u PartAside g = let o : ◌≡◌ {A = ℕ} 0 1 = g.owner in
 
 parted_not_on_leader : ReliesOn between.parted 2 0 → ⊥
 parted_not_on_leader r = elim (end_of_walk PartedArc (WithNode (IsLive between.parted) 5) (IsFixed (Arc between.parted) 2) Part parted_closed 5 r.goal (λ y j l. parted_from_new y j) r.walk) [
-  inl e ↦ (let l : r.goal < 5 = r.is_goal.within in omega arith)
+  | inl e ↦ (let l : r.goal < 5 = r.is_goal.within in omega arith)
   | inr t ↦ parted_no_goal r.goal t.0 t.1 r.is_goal
 ]
 

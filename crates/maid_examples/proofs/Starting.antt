@@ -1,8 +1,6 @@
 -- Where subgames start in the diagram with a copy.
-use Rattle.std.proofs.Common.{◌≡◌, ◌≢◌, ◌⊎◌, ℕ, zero, suc, ◌+◌, ◌<◌, ◌≤◌, List, [], ◌∷◌, length, take, slice_index, refl, sym, ap, subst, inl, inr, arith, rules, Contains}
-use Rattle.maid_model.specs.declared.diagrams.Kind.TheVariants.{Chance, Decision, Utility}
-use Rattle.maid_model.specs.Nodes.{IsDecision, node_at, states_of, parents_of}
-use Rattle.maid_model.specs.Graph.{Arc}
+use Rattle.std.proofs.Common.{◌≡◌, ℕ, zero, suc, ◌<◌, ◌≤◌, List, [], ◌∷◌, length, slice_index, refl, ap, inl, inr, arith, rules}
+use Rattle.maid_model.specs.Nodes.{states_of}
 use Rattle.maid_model.specs.Subgames.{IsListing, IsHistory, Extends, AgreeOnParents, KeepsInformation, IsSubgameStart}
 use Rattle.maid_examples.specs.CopySeen.{copied, HasStarts}
 use Rattle.maid_examples.proofs.Members.{Among, among_of}

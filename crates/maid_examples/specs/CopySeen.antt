@@ -77,7 +77,8 @@ pub record HasStarts : Type 0 where
   pub not_after_leader : (state : ℕ) → state < 2 → IsSubgameStart copied (0 ∷ 1 ∷ 2 ∷ []) (state ∷ []) → ⊥
   pub not_after_copy : (state : ℕ) → state < 2 → IsSubgameStart copied (0 ∷ 1 ∷ 2 ∷ []) (state ∷ state ∷ []) → ⊥
 
--- it is a diagram, and the plan a profile of it
+-- it is a diagram, and the rules are profiles of it
 pub record IsSound : Type 0 where
   pub diagram : IsDiagram copied_diagram
-  pub profile : IsProfile copied plan
+  pub of_uniform : IsProfile copied (uniform_profile copied)
+  pub of_plan : IsProfile copied plan

@@ -95,7 +95,9 @@ pub record HasStarts : Type 0 where
   pub follower_from_little : gain_from sight (0 ∷ 1 ∷ []) (1 ∷ []) plan 1 ≡ pos 5
   pub mass_from_little : mass_from sight (0 ∷ 1 ∷ []) (1 ∷ []) plan ≡ 1
 
--- it is a diagram, and the plan a profile of it
+-- it is a diagram, and the rules are profiles of it
 pub record IsSound : Type 0 where
   pub diagram : IsDiagram sight_diagram
-  pub profile : IsProfile sight plan
+  pub of_uniform : IsProfile sight (uniform_profile sight)
+  pub of_plan : IsProfile sight plan
+  pub of_mixed : (much little : ℕ) → 0 < much + little → IsProfile sight (mixed much little)

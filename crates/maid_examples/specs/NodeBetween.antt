@@ -1,9 +1,9 @@
 -- A node between the leader's choice and what the follower gets, with two states and with one.
-use Rattle.std.specs.Prelude.{◌≡◌, ℕ, List, [], ◌∷◌, pos, negsuc}
+use Rattle.std.specs.Prelude.{◌≡◌, List, [], ◌∷◌, pos, negsuc}
 use Rattle.maid_model.specs.declared.diagrams.Kind.TheVariants.{Chance, Decision, Utility}
 use Rattle.maid_model.specs.Views.{NodeView, RuleView, DiagramView}
 use Rattle.maid_model.specs.Diagrams.{IsDiagram}
-use Rattle.maid_model.specs.Profiles.{uniform_profile}
+use Rattle.maid_model.specs.Profiles.{IsProfile, uniform_profile}
 use Rattle.maid_model.specs.Gains.{gain_of, mass, gain_at, mass_at}
 use Rattle.maid_model.specs.Relevance.{IsLive, ReliesOn}
 
@@ -101,7 +101,13 @@ pub record HasReliance : Type 0 where
   pub still_on_follower : ReliesOn parted 0 2
   pub not_on_leader : ReliesOn parted 2 0 → ⊥
 
--- both are diagrams
+-- both are diagrams, and the rules are profiles of both
 pub record AreSound : Type 0 where
-  pub joined : IsDiagram joined_diagram
-  pub parted : IsDiagram parted_diagram
+  pub two_states : IsDiagram joined_diagram
+  pub one_state : IsDiagram parted_diagram
+  pub uniform_joined : IsProfile joined (uniform_profile joined)
+  pub much_joined : IsProfile joined asks_much
+  pub little_joined : IsProfile joined asks_little
+  pub uniform_parted : IsProfile parted (uniform_profile parted)
+  pub much_parted : IsProfile parted asks_much
+  pub little_parted : IsProfile parted asks_little

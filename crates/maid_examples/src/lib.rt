@@ -5,6 +5,8 @@
 mod copy_seen;
 mod follower_leader;
 mod node_between;
+#[cfg(test)]
+mod tests;
 
 pub use copy_seen::copy_in_place;
 pub use follower_leader::follower_and_leader;
