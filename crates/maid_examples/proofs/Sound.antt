@@ -41,8 +41,8 @@ seen_passes = record { before = refl; no_utility = refl; differ = refl; has_stat
 seen_uniform : IsProfile seen.sight (uniform_profile seen.sight)
 seen_uniform = two_rules seen.sight (uniform_profile seen.sight) 0 1 refl refl (record { positive = omega arith; table = one_row (1 ∷ 1 ∷ []) 2 2 refl refl }) (record { positive = omega arith; table = two_rows (1 ∷ 1 ∷ 1 ∷ 1 ∷ []) 2 2 refl refl refl })
 
-seen_plan : IsProfile seen.sight (seen.plan)
-seen_plan = two_rules seen.sight (seen.plan) 0 1 refl refl (record { positive = omega arith; table = one_row (0 ∷ 1 ∷ []) 2 1 refl refl }) (record { positive = omega arith; table = two_rows (0 ∷ 1 ∷ 1 ∷ 0 ∷ []) 2 1 refl refl refl })
+seen_plan : IsProfile seen.sight seen.plan
+seen_plan = two_rules seen.sight seen.plan 0 1 refl refl (record { positive = omega arith; table = one_row (0 ∷ 1 ∷ []) 2 1 refl refl }) (record { positive = omega arith; table = two_rows (0 ∷ 1 ∷ 1 ∷ 0 ∷ []) 2 1 refl refl refl })
 
 seen_mixed : (much little : ℕ) → 0 < much + little → IsProfile seen.sight (seen.mixed much little)
 seen_mixed much little positive = two_rules seen.sight (seen.mixed much little) 0 1 refl refl (record { positive = positive; table = one_row (much ∷ little ∷ []) 2 (much + little) refl (omega (arith, ints)) }) (record { positive = omega arith; table = two_rows (1 ∷ 1 ∷ 1 ∷ 1 ∷ []) 2 2 refl refl refl })
@@ -60,8 +60,8 @@ copied_passes = record { before = refl; no_utility = refl; differ = refl; has_st
 copied_uniform : IsProfile copy.copied (uniform_profile copy.copied)
 copied_uniform = two_rules copy.copied (uniform_profile copy.copied) 0 2 refl refl (record { positive = omega arith; table = one_row (1 ∷ 1 ∷ []) 2 2 refl refl }) (record { positive = omega arith; table = two_rows (1 ∷ 1 ∷ 1 ∷ 1 ∷ []) 2 2 refl refl refl })
 
-copied_plan : IsProfile copy.copied (copy.plan)
-copied_plan = two_rules copy.copied (copy.plan) 0 2 refl refl (record { positive = omega arith; table = one_row (0 ∷ 1 ∷ []) 2 1 refl refl }) (record { positive = omega arith; table = two_rows (0 ∷ 1 ∷ 1 ∷ 0 ∷ []) 2 1 refl refl refl })
+copied_plan : IsProfile copy.copied copy.plan
+copied_plan = two_rules copy.copied copy.plan 0 2 refl refl (record { positive = omega arith; table = one_row (0 ∷ 1 ∷ []) 2 1 refl refl }) (record { positive = omega arith; table = two_rows (0 ∷ 1 ∷ 1 ∷ 0 ∷ []) 2 1 refl refl refl })
 
 pub copied_sound : copy.IsSound
 copied_sound = record { diagram = is_diagram copy.copied_diagram copied_tables copied_passes; of_uniform = copied_uniform; of_plan = copied_plan }
@@ -82,20 +82,20 @@ parted_passes = record { before = refl; no_utility = refl; differ = refl; has_st
 joined_uniform : IsProfile between.joined (uniform_profile between.joined)
 joined_uniform = two_rules between.joined (uniform_profile between.joined) 0 2 refl refl (record { positive = omega arith; table = one_row (1 ∷ 1 ∷ []) 2 2 refl refl }) (record { positive = omega arith; table = one_row (1 ∷ 1 ∷ []) 2 2 refl refl })
 
-joined_much : IsProfile between.joined (between.asks_much)
-joined_much = two_rules between.joined (between.asks_much) 0 2 refl refl (record { positive = omega arith; table = one_row (1 ∷ 0 ∷ []) 2 1 refl refl }) (record { positive = omega arith; table = one_row (1 ∷ 1 ∷ []) 2 2 refl refl })
+joined_much : IsProfile between.joined between.asks_much
+joined_much = two_rules between.joined between.asks_much 0 2 refl refl (record { positive = omega arith; table = one_row (1 ∷ 0 ∷ []) 2 1 refl refl }) (record { positive = omega arith; table = one_row (1 ∷ 1 ∷ []) 2 2 refl refl })
 
-joined_little : IsProfile between.joined (between.asks_little)
-joined_little = two_rules between.joined (between.asks_little) 0 2 refl refl (record { positive = omega arith; table = one_row (0 ∷ 1 ∷ []) 2 1 refl refl }) (record { positive = omega arith; table = one_row (1 ∷ 1 ∷ []) 2 2 refl refl })
+joined_little : IsProfile between.joined between.asks_little
+joined_little = two_rules between.joined between.asks_little 0 2 refl refl (record { positive = omega arith; table = one_row (0 ∷ 1 ∷ []) 2 1 refl refl }) (record { positive = omega arith; table = one_row (1 ∷ 1 ∷ []) 2 2 refl refl })
 
 parted_uniform : IsProfile between.parted (uniform_profile between.parted)
 parted_uniform = two_rules between.parted (uniform_profile between.parted) 0 2 refl refl (record { positive = omega arith; table = one_row (1 ∷ 1 ∷ []) 2 2 refl refl }) (record { positive = omega arith; table = one_row (1 ∷ 1 ∷ []) 2 2 refl refl })
 
-parted_much : IsProfile between.parted (between.asks_much)
-parted_much = two_rules between.parted (between.asks_much) 0 2 refl refl (record { positive = omega arith; table = one_row (1 ∷ 0 ∷ []) 2 1 refl refl }) (record { positive = omega arith; table = one_row (1 ∷ 1 ∷ []) 2 2 refl refl })
+parted_much : IsProfile between.parted between.asks_much
+parted_much = two_rules between.parted between.asks_much 0 2 refl refl (record { positive = omega arith; table = one_row (1 ∷ 0 ∷ []) 2 1 refl refl }) (record { positive = omega arith; table = one_row (1 ∷ 1 ∷ []) 2 2 refl refl })
 
-parted_little : IsProfile between.parted (between.asks_little)
-parted_little = two_rules between.parted (between.asks_little) 0 2 refl refl (record { positive = omega arith; table = one_row (0 ∷ 1 ∷ []) 2 1 refl refl }) (record { positive = omega arith; table = one_row (1 ∷ 1 ∷ []) 2 2 refl refl })
+parted_little : IsProfile between.parted between.asks_little
+parted_little = two_rules between.parted between.asks_little 0 2 refl refl (record { positive = omega arith; table = one_row (0 ∷ 1 ∷ []) 2 1 refl refl }) (record { positive = omega arith; table = one_row (1 ∷ 1 ∷ []) 2 2 refl refl })
 
 pub between_sound : between.AreSound
 between_sound = record {
