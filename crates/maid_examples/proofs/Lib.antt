@@ -1,0 +1,7 @@
+pub mod Members
+pub mod Checked
+pub mod Sound
+pub mod Turning
+pub mod Reliance
+pub mod Starting
+pub mod Rooms

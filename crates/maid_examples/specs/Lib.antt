@@ -1,0 +1,4 @@
+pub mod FollowerLeader
+pub mod CopySeen
+pub mod NodeBetween
+pub mod Trial

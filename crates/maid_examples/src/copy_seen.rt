@@ -1,0 +1,10 @@
+ghost use Rattle.maid_examples.specs.CopySeen.{IsSound, HasSums, HasReliance, HasStarts};
+
+/// A follower who sees a copy of the leader's choice in its place: the sums stay, but each relies on the other, and no
+/// subgame starts after the leader's choice.
+pub fn copy_in_place()
+    ensures sound { IsSound }
+    ensures sums { HasSums }
+    ensures reliance { HasReliance }
+    ensures starts { HasStarts }
+{}

@@ -1,0 +1,13 @@
+//! Small diagrams on which the definitions are worked out by hand: each public function has as its contract that they
+//! come to the same.
+#![tactic(auto)]
+
+mod copy_seen;
+mod follower_leader;
+mod node_between;
+#[cfg(test)]
+mod tests;
+
+pub use copy_seen::copy_in_place;
+pub use follower_leader::follower_and_leader;
+pub use node_between::one_state_between;
