@@ -1,6 +1,5 @@
 -- Bytes come to one status.
-use Rattle.std.proofs.Common.{◌≡◌, ◌⊎◌, ◌<◌, ◌≤◌, inl, inr, ℕ, List, None, refl, sym, subst, arith}
-use Rattle.maid_model.specs.Answers.{IsAnswer}
+use Rattle.std.proofs.Common.{◌≡◌, ◌≤◌, inl, inr, ℕ, List, None, refl, subst, arith}
 use Rattle.maid_model.specs.Bounds.{KeepsBound, leaves, most_leaves}
 use Rattle.maid_model.specs.Names.{NamesView}
 use Rattle.maid_model.specs.Views.{DiagramView}

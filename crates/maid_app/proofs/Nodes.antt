@@ -1,12 +1,12 @@
 -- Lists of decisions name nodes, and lines of decisions are those of all nodes.
-use Rattle.std.proofs.Common.{◌≡◌, ◌∙◌, ℕ, zero, suc, ◌+◌, ◌-◌, ◌<◌, List, [], ◌∷◌, ◌++◌, Bool, true, false, All, IfOk, Vec, Global, length, get_or, drop, refl, sym, ap, subst, arith, append_assoc, add-one, codes}
+use Rattle.std.proofs.Common.{◌≡◌, ◌∙◌, ℕ, zero, suc, ◌+◌, ◌-◌, ◌<◌, List, [], ◌∷◌, ◌++◌, Bool, true, false, All, IfOk, Vec, Global, length, get_or, drop, refl, sym, ap, subst, arith, add-one, codes}
 use Rattle.std.proofs.lemmas.List.{get_or-drop, get_or_default, length-drop}
 use Rattle.std.proofs.lemmas.List.Elements.{Contains-get_or}
 use Rattle.std.proofs.lemmas.Grind.{flat_map-append}
-use Rattle.std.specs.Prelude.{Contains, slice_index, filter, Ok, Err, Result}
+use Rattle.std.specs.Prelude.{filter, Ok, Err, Result}
 use Rattle.std.specs.List.{flat_map, range_with_len}
 use Rattle.maid_model.specs.Names.{NamesView}
-use Rattle.maid_model.specs.Nodes.{IsDecision, node_at, is_decision, decisions_of, numbers_of}
+use Rattle.maid_model.specs.Nodes.{IsDecision, node_at, is_decision}
 use Rattle.maid_model.specs.Placing.{IsRelianceOrder, IsRelianceCycle, IsTrail, Remains}
 use Rattle.maid_model.specs.Relevance.{ReliesOn}
 use Rattle.maid_model.specs.Reports.{names_line}

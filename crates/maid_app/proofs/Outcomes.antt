@@ -3,9 +3,8 @@ use Rattle.std.proofs.Common.{◌≡◌, ◌⊎◌, ◌<◌, ◌≤◌, inl, inr
 use Rattle.maid_io.specs.Device.{File, file_of}
 use Rattle.maid_app.specs.Answers.{Answers}
 use Rattle.maid_app.specs.Laws.{OneStatus, RefusedForBytes}
-use Rattle.maid_app.specs.Lines.{no_memory_line}
 use Rattle.maid_app.specs.Outcome.{Outcome, text, refused, status_with}
-use Rattle.maid_app.specs.Reading.{Tells, RefusesAs, IsOfBytes}
+use Rattle.maid_app.specs.Reading.{RefusesAs, IsOfBytes}
 use Rattle.maid_app.specs.Request.{Request, file_name}
 use Rattle.maid_app.specs.Told.{limit, IsText, IsUnread, HasText, Refuses, Says, IsOneOf}
 use Rattle.maid_app.specs.declared.status.Status.{Status}

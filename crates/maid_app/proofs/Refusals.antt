@@ -1,5 +1,5 @@
 -- A refusal tells what was wanted, or that memory ran out.
-use Rattle.std.proofs.Common.{◌≡◌, ℕ, List, IfOk, Vec, Global, Result, Ok, Err, MatchResult, refl, sym, subst}
+use Rattle.std.proofs.Common.{◌≡◌, ℕ, List, IfOk, Vec, Global, Result, Ok, Err, MatchResult, sym, subst}
 use Rattle.maid_app.specs.Lines.{no_memory_line}
 use Rattle.maid_app.specs.Refusal.{status_of, line_of}
 use Rattle.maid_app.specs.declared.refusal.Refusal.{Refusal}

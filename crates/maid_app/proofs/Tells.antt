@@ -1,5 +1,5 @@
 -- What is told is as it was wanted, or memory ran out.
-use Rattle.std.proofs.Common.{◌≡◌, ◌⊎◌, inl, inr, ℕ, List, Some, refl, sym, subst}
+use Rattle.std.proofs.Common.{◌≡◌, inl, inr, ℕ, List, Some, refl, sym, subst}
 use Rattle.net_lexer.specs.Pieces.{IsTokens}
 use Rattle.net_lexer.specs.declared.tokens.Token.{Token}
 use Rattle.net_build.specs.Blocks.{node_blocks, names_of}
@@ -9,7 +9,7 @@ use Rattle.net_parser.specs.Faults as grammar
 use Rattle.net_parser.specs.Trees.{BlockTree}
 use Rattle.net_parser.specs.declared.parsing.ParseFault.{ParseFault}
 use Rattle.maid_app.specs.Diagrams.{IsTreeOf}
-use Rattle.maid_app.specs.Faults.{TellsFault, grammar_place, grammar_words, kind_words}
+use Rattle.maid_app.specs.Faults.{grammar_place, grammar_words, kind_words}
 use Rattle.maid_app.specs.Lines.{fault_line, no_memory_line}
 use Rattle.maid_app.specs.Reading.{Tells, RefusesBytes}
 use Rattle.maid_app.specs.declared.status.Status.{Status}

@@ -1,5 +1,5 @@
 -- The diagram and the names that a file's bytes stand for.
-use Rattle.std.specs.Prelude.{ℕ, List, None, All}
+use Rattle.std.specs.Prelude.{ℕ, List, None}
 use Rattle.maid_model.specs.Names.{NamesView}
 use Rattle.maid_model.specs.Views.{DiagramView}
 use Rattle.net_build.specs.Building.{StandsFor}

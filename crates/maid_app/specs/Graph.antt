@@ -10,7 +10,6 @@ use Rattle.maid_model.specs.Views.{NodeView, DiagramView}
 use Rattle.maid_app.specs.Diagrams.{IsDiagramOf}
 use Rattle.maid_app.specs.Faults.{TellsFault}
 use Rattle.maid_app.specs.Outcome.{Outcome, text, refused}
-use Rattle.maid_app.specs.declared.status.Status.{Status}
 use Rattle.maid_app.specs.declared.status.Status.TheVariants.{TextFault}
 
 -- the decisions on which d relies, in text order

@@ -1,5 +1,5 @@
 -- The lines of `err`.
-use Rattle.std.specs.Prelude.{ℕ, List, [], ◌∷◌, ◌++◌, codes, decimal}
+use Rattle.std.specs.Prelude.{ℕ, List, ◌∷◌, ◌++◌, codes, decimal}
 use Rattle.maid_model.specs.Names.{NamesView, name_of}
 use Rattle.maid_model.specs.Reports.{line, names_line}
 use Rattle.app_lines.specs.Places.{line_at, column_at}

@@ -6,7 +6,6 @@ use Rattle.net_print.specs.Printed.{printed}
 use Rattle.maid_app.specs.Diagrams.{IsDiagramOf}
 use Rattle.maid_app.specs.Faults.{TellsFault}
 use Rattle.maid_app.specs.Outcome.{Outcome, text, refused}
-use Rattle.maid_app.specs.declared.status.Status.{Status}
 use Rattle.maid_app.specs.declared.status.Status.TheVariants.{TextFault}
 
 -- the text is that of the diagram of the bytes, and stands for the very same diagram and names

@@ -12,7 +12,6 @@ use Rattle.maid_app.specs.Diagrams.{IsDiagramOf}
 use Rattle.maid_app.specs.Faults.{TellsFault}
 use Rattle.maid_app.specs.Lines.{cycle_line, bound_node_line, bound_utilities_line, not_built_line}
 use Rattle.maid_app.specs.Outcome.{Outcome, text, refused}
-use Rattle.maid_app.specs.declared.status.Status.{Status}
 use Rattle.maid_app.specs.declared.status.Status.TheVariants.{TextFault, Cycle, WeightBound, NotBuilt}
 
 -- The report of the answer, by definition and by what holds of it: its profile is subgame-perfect, with one agent no profile is worth more, and in a row that the plan reaches the printed worth is that under the plan.

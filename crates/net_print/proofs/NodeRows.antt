@@ -18,6 +18,7 @@ use Rattle.net_parser.specs.Owned.{leaves}
 use Rattle.net_parser.specs.Trees.{list, AttributeTree, BlockTree}
 use Rattle.net_print.proofs.Given.{nothing}
 use Rattle.net_print.proofs.Look.{first_leaves, states_leaves, states_word, agent_word, agent_value}
+use Rattle.net_print.proofs.PotentialPass.{first_same, rest_same}
 use Rattle.net_print.proofs.Spelling.{leaf_trees}
 use Rattle.net_print.proofs.Tree.{block_kind, list_tree, agent_tree, attribute_trees}
 use Rattle.net_print.proofs.Words.{written, space, items, list_words, agent_words, attribute_words}
@@ -32,12 +33,6 @@ pub record AreLabels (labels : List (List ℕ)) : Type 0 where
 in_one : {A : Type 0} (x y : A) → Contains (x ∷ []) y → x ≡ y
 in_one x y (zero, h, e) = e
 in_one x y (suc k, h, e) = absurd (omega arith)
-
-first_of : {A : Type 0} {x y : A} {xs ys : List A} → x ∷ xs ≡ y ∷ ys → x ≡ y
-first_of e = cc
-
-rest_of : {A : Type 0} {x y : A} {xs ys : List A} → x ∷ xs ≡ y ∷ ys → xs ≡ ys
-rest_of e = cc
 
 other_word : codes "states" ≡ codes "agent" → ⊥
 other_word e = omega (arith, ap length e)
@@ -87,8 +82,8 @@ module _ (text : List ℕ) where
   labels_plain [] labels told plain = tt
   labels_plain (t ∷ tokens) [] told plain = cc
   labels_plain (t ∷ tokens) (label ∷ labels) told plain = (
-    λ bad. both_ways (look.is_plain (text_value text t)) bad (ap look.is_plain (first_of told) ∙ All-head (λ l. look.is_plain l ≡ true) label labels plain),
-    labels_plain tokens labels (rest_of told) (All-tail (λ l. look.is_plain l ≡ true) label labels plain),
+    λ bad. both_ways (look.is_plain (text_value text t)) bad (ap look.is_plain (first_same told) ∙ All-head (λ l. look.is_plain l ≡ true) label labels plain),
+    labels_plain tokens labels (rest_same told) (All-tail (λ l. look.is_plain l ≡ true) label labels plain),
   )
 
   labels_clear : (a : AttributeTree) (labels : List (List ℕ)) → look.is_string_list a.value ≡ true → map (text_value text) (leaves a.value) ≡ labels → AreLabels labels → label_rows text a None

@@ -24,10 +24,10 @@ use Rattle.net_print.proofs.Tree.{potential_tree, tree_of}
 use Rattle.net_print.proofs.Words.{potential_words}
 use Rattle.net_print.proofs.Written.{At, at_end, end_at, text_onto, text_onto-append}
 
-first_same : {A : Type 0} {x y : A} {xs ys : List A} → x ∷ xs ≡ y ∷ ys → x ≡ y
+pub first_same : {A : Type 0} {x y : A} {xs ys : List A} → x ∷ xs ≡ y ∷ ys → x ≡ y
 first_same e = cc
 
-rest_same : {A : Type 0} {x y : A} {xs ys : List A} → x ∷ xs ≡ y ∷ ys → xs ≡ ys
+pub rest_same : {A : Type 0} {x y : A} {xs ys : List A} → x ∷ xs ≡ y ∷ ys → xs ≡ ys
 rest_same e = cc
 
 module _ (d : DiagramView) (names : NamesView) (is : IsPrintable d names) where

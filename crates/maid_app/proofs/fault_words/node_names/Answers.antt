@@ -1,8 +1,5 @@
-use Rattle.std.proofs.Common.{◌≡◌, ◌∙◌, List, All, ap, subst, sym, map, take, arith}
-use Rattle.std.specs.List.{flat_map}
+use Rattle.std.proofs.Common.{◌∙◌, All, ap, subst, sym, map, arith}
 use Rattle.net_lexer.specs.Token.{IsTokenOf, token_bytes}
-use Rattle.net_lexer.specs.declared.tokens.Token.{Token}
-use Rattle.maid_app.specs.Words.{node_titles}
 use Rattle.maid_app.proofs.Titles.{all_titles, names_are, titles_own}
 use Rattle.maid_app.proofs.fault_words.node_names.Goals as goal
 

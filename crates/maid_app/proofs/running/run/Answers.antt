@@ -1,4 +1,3 @@
-use Rattle.std.proofs.Common.{List, ℕ, subst, sym}
 use Rattle.maid_app.specs.Refusal.{status_of, line_of}
 use Rattle.maid_app.proofs.Outcomes.{refused_not_done, only_refused, only_done}
 use Rattle.maid_app.proofs.running.run.Goals as goal

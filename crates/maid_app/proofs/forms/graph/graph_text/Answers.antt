@@ -1,4 +1,4 @@
-use Rattle.std.proofs.Common.{◌≡◌, ◌∙◌, ◌++◌, ap, flat_map}
+use Rattle.std.proofs.Common.{◌∙◌, ◌++◌, ap, flat_map}
 use Rattle.maid_model.specs.Nodes.{decisions_of}
 use Rattle.relevance_graph.specs.Views.{relied_on_by}
 use Rattle.maid_app.specs.Graph.{relies_line}
