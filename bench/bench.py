@@ -3,7 +3,7 @@
 
 Usage: python3 bench/bench.py [--limit SECONDS] [--keep FOLDER] [SHAPE ..]
 
-Writes texts of up to 4,194,304 bytes and 256 nodes, the limits of a diagram's text, runs `solve` and `graph` on each,
+Writes texts of up to 4,194,304 bytes and 256 nodes, the limits of a diagram's text, runs `solve`, `graph` and `print` on each,
 one after the other, and prints a row a run: bytes, status, seconds on the clock, seconds of computing, greatest memory.
 Every text is in the grammar and within the limits. What it solves is beside the point: a text that `solve` refuses by
 its weight bound (7) or its number of worlds (13) has still been read and built. A text fault (5) or a crash is an error
@@ -244,7 +244,7 @@ def main():
             assert len(text) <= MOST_BYTES, f"{name} has {len(text)} bytes"
             path = folder / f"{name}.net"
             path.write_text(text, encoding="ascii")
-            for form in ("solve", "graph"):
+            for form in ("solve", "graph", "print"):
                 status, clock, computing, memory = run([form, str(path)], asked.limit, notes)
                 failed = failed or status not in READ_STATUSES
                 shown = "cut off" if status == CUT_OFF else status
