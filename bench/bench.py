@@ -3,8 +3,9 @@
 
 Usage: python3 bench/bench.py [--limit SECONDS] [--keep FOLDER] [SHAPE ..]
 
-Writes texts of up to 4,194,304 bytes and 256 nodes, the limits of a diagram's text, runs `solve`, `graph` and `print` on each,
-one after the other, and prints a row a run: bytes, status, seconds on the clock, seconds of computing, greatest memory.
+Writes texts of up to 4,194,304 bytes and 256 nodes, the limits of a diagram's text, runs `solve`, `graph` and `print`
+on each, one after the other, and prints a row a run: bytes, status, seconds on the clock, seconds of computing, greatest
+memory.
 Every text is in the grammar and within the limits. What it solves is beside the point: a text that `solve` refuses by
 its weight bound (7) or its number of worlds (13) has still been read and built. A text fault (5) or a crash is an error
 of the run, and so is a run that was cut off. Texts stand in a temporary folder, or in FOLDER where they are to be kept.
