@@ -9,6 +9,9 @@ changes made so far: a row holds from one such number to another. To take up a n
 add it to FORMS and run this again. Of a row that tells only that a line is among those of `out`,
 no more than the status and `err` are compared.
 
+A file is given as pieces, each a text and how often it stands there, one behind the other; `out_is` and
+`err_is` may be one text or such pieces. A character of a text is the byte of its number, from 0 to 255.
+
 No row is left out for its time: each ends within a second.
 """
 
@@ -30,9 +33,15 @@ CRATE = os.path.join(os.path.dirname(os.path.abspath(__file__)), "..", "crates",
 
 def escaped(text):
     """The text as the program reads and prints it: `%HH` for a byte that is not plain."""
+    assert all(ord(c) < 256 for c in text), "a character that is no byte"
     return "".join(
         c if " " <= c <= "~" and c not in "%\\" else "%%%02X" % ord(c) for c in text
     )
+
+
+def whole(content):
+    """The text, or what its pieces come to."""
+    return content if isinstance(content, str) else "".join(text * times for text, times in content)
 
 
 def lines(text):
@@ -67,14 +76,14 @@ def told(row):
     """The parts that the row tells, each with its lines."""
     parts = {}
     if "out_is" in row:
-        parts["out"] = lines(row["out_is"])
+        parts["out"] = lines(whole(row["out_is"]))
     else:
         if "out_first" in row:
             parts["first"] = [escaped(row["out_first"])]
         if "out_last" in row:
             parts["last"] = [escaped(row["out_last"])]
     if "err_is" in row:
-        parts["err"] = lines(row["err_is"])
+        parts["err"] = lines(whole(row["err_is"]))
     return parts
 
 
