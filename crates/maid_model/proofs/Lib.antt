@@ -10,8 +10,8 @@ pub mod Next
 pub mod Cells
 pub mod Found
 pub mod Members
-pub mod Uniform
 pub mod Made
+pub mod Uniform
 pub mod Pure
 pub mod Counts
 pub mod Descent

@@ -1,4 +1,4 @@
--- The profile of answered choices.
+-- The rule and the profile of answered choices.
 use Rattle.std.proofs.Common.{◌≡◌, ◌∙◌, ℕ, zero, suc, ◌+◌, ◌*◌, ◌<◌, ◌≤◌, cond, eqb, List, [], ◌∷◌, ◌++◌, map, flat_map, length, All, get_or, refl, sym, ap, subst, arith, pos, ◌+ℤ◌, ◌≤ℤ◌, length-append}
 use Rattle.std.proofs.lemmas.Int.{ints}
 use Rattle.std.proofs.Math.Decide.{ℕ_discrete}
@@ -7,8 +7,8 @@ use Rattle.std.proofs.lemmas.List.Elements.{All-map}
 use Rattle.std.proofs.lemmas.List.FromFn.{length-map-range_with_len, get_or-map-range_with_len}
 use Rattle.maid_model.specs.declared.answers.Row.{Row}
 use Rattle.maid_model.specs.Answers.{FitsAnswers, pure_profile, rows_at}
-use Rattle.maid_model.specs.Nodes.{states_of}
-use Rattle.maid_model.specs.Profiles.{IsProfile, pure_row, pure_rule}
+use Rattle.maid_model.specs.Nodes.{states_of, rows_of}
+use Rattle.maid_model.specs.Profiles.{IsProfile, IsRule, pure_row, pure_rule}
 use Rattle.maid_model.specs.Sums.{sum_below}
 use Rattle.maid_model.specs.Tables.{IsTable}
 use Rattle.maid_model.specs.Views.{NodeView, RuleView, AnswerView}
@@ -89,7 +89,7 @@ weight_at states (c ∷ choices) (suc r) s h k =
     next : (states r s : ℕ) → suc r * states + s ≡ states + (r * states + s)
     next states r s = omega arith
 
-pub pure_table : (states : ℕ) (choices : List ℕ) → All (λ c. c < states) choices → IsTable (map pos (flat_map (pure_row states) choices)) (length choices) states 1
+pure_table : (states : ℕ) (choices : List ℕ) → All (λ c. c < states) choices → IsTable (map pos (flat_map (pure_row states) choices)) (length choices) states 1
 pure_table states choices inside = record {
   len = length-map (flat_map (pure_row states) choices) pos ∙ rows_length states choices;
   not_negative = λ i. subst (λ x. pos 0 ≤ℤ x) (sym (pos_at (flat_map (pure_row states) choices) i)) (not_below (get_or (flat_map (pure_row states) choices) i 0));
@@ -99,9 +99,13 @@ pure_table states choices inside = record {
       ∙ sum_one states (get_or choices r 0) (inside r 0 h);
 }
 
-pub pure_is_profile : (nodes : List NodeView) (answers : List AnswerView) → FitsAnswers nodes answers → IsProfile nodes (pure_profile nodes answers)
-pure_is_profile nodes answers fits = made_is_profile nodes (pure_at nodes answers) (λ v. refl) (λ v d. record {
+-- the rule of choices in range, one for each row, is a rule of the decision
+pub pure_is_rule : (nodes : List NodeView) (v : ℕ) (rows : List Row) → length rows ≡ rows_of nodes v → All (λ r. r.choice < states_of nodes v) rows → IsRule nodes (pure_rule nodes v (map (λ r. r.choice) rows))
+pure_is_rule nodes v rows each inside = record {
   positive = omega arith;
-  table = subst (λ n. IsTable (map pos (pure_at nodes answers v).weights) n (states_of nodes v) 1) (length-map (rows_at answers v) (λ (r : Row). r.choice) ∙ (fits v d).0)
-      (pure_table (states_of nodes v) (map (λ r. r.choice) (rows_at answers v)) (All-map (λ c. c < states_of nodes v) (λ (r : Row). r.choice) (rows_at answers v) (fits v d).1));
-})
+  table = subst (λ n. IsTable (map pos (flat_map (pure_row (states_of nodes v)) (map (λ r. r.choice) rows))) n (states_of nodes v) 1) (length-map rows (λ (r : Row). r.choice) ∙ each)
+      (pure_table (states_of nodes v) (map (λ r. r.choice) rows) (All-map (λ c. c < states_of nodes v) (λ (r : Row). r.choice) rows inside));
+}
+
+pub pure_is_profile : (nodes : List NodeView) (answers : List AnswerView) → FitsAnswers nodes answers → IsProfile nodes (pure_profile nodes answers)
+pure_is_profile nodes answers fits = made_is_profile nodes (pure_at nodes answers) (λ v. refl) (λ v d. pure_is_rule nodes v (rows_at answers v) (fits v d).0 (fits v d).1)

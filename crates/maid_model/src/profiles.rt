@@ -28,7 +28,7 @@ impl Model for Rule {
 
 impl Rule {
     /// The rule that gives every state the weight 1.
-    pub fn uniform(alloc: Global, diagram: &Diagram, decision: usize) -> Result<Rule, AllocError>
+    fn uniform(alloc: Global, diagram: &Diagram, decision: usize) -> Result<Rule, AllocError>
         requires { IsDecision diagram.now.nodes decision }
         ensures { IfOk result (λ r. r ≡ uniform_rule diagram.now.nodes decision) }
     {

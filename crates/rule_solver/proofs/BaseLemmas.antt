@@ -6,14 +6,13 @@ use Rattle.std.proofs.lemmas.List.Elements.{Contains-append_left, Contains-push,
 use Rattle.maid_model.specs.Answers.{FitsAnswer, IsBase, pure_profile}
 use Rattle.maid_model.specs.Graph.{AllDifferent}
 use Rattle.maid_model.specs.Nodes.{IsDecision, states_of}
-use Rattle.maid_model.specs.Profiles.{IsProfile, IsRule, SameRule, Replaces, pure_rule, uniform_profile}
+use Rattle.maid_model.specs.Profiles.{IsProfile, SameRule, Replaces, pure_rule, uniform_profile}
 use Rattle.maid_model.specs.Relevance.{ReliesOn}
 use Rattle.maid_model.specs.Tables.{weights_of, rule_total}
 use Rattle.maid_model.specs.Views.{NodeView, RuleView, AnswerView}
 use Rattle.rule_solver.specs.Masses.{KeepsStates}
 use Rattle.rule_solver.proofs.AnsweredRules.{answered_weights, answered_total, own_rows}
 use Rattle.rule_solver.proofs.Members.{taken_whole}
-use Rattle.rule_solver.proofs.PureRules.{pure_is_rule}
 
 abbrev pub decided : List AnswerView → List ℕ
 decided answers = map (λ a. a.decision) answers
@@ -87,10 +86,9 @@ module _ (nodes : List NodeView) (answers : List AnswerView) (d : ℕ) where
 
     -- an answer on which d relies: its rule is put in
     pub base_put : (base' : List RuleView) → Replaces base base' (rule_of nodes a) → FitsAnswer nodes a → AllDifferent (decided answers) → ReliesOn nodes d a.decision
-        → ((ns : List NodeView) → IsProfile ns base → IsRule ns (rule_of nodes a) → IsProfile ns base')
-        → BaseSoFar nodes answers d (n + 1) base'
-    base_put base' put fits different relies keeps = record {
-      profile = keeps nodes so.profile (pure_is_rule nodes a fits);
+        → IsProfile nodes base' → BaseSoFar nodes answers d (n + 1) base'
+    base_put base' put fits different relies profile = record {
+      profile = profile;
       room = λ v is. room v is (ℕ_discrete v a.decision);
       relied = λ e c r. relied e r (cases e c) (ℕ_discrete e a.decision);
       others = λ e is out. same_then base' base (uniform_profile nodes) e (put.others e (apart e out)) (so.others e is (λ c. out (earlier e c)));

@@ -5,7 +5,6 @@ mod LeafLemmas
 mod MassLemmas
 mod RowLemmas
 mod DecisionLemmas
-mod PureRules
 mod AnsweredRules
 mod BaseLemmas
 mod AnswerLemmas

@@ -15,7 +15,7 @@ loop-v-preserved c =
       | in-Decision+in_ok-pure+in_ok-push w ↦
           subst (λ l. MadeSoFar c.args.diagram.now.nodes (pure_at c.args.diagram.now.nodes c.args.answers.now) l (c.loop-v.v + 1))
           (sym (ap (λ v. v.items) w.rules-is ∙ w.in_ok-push.ensures.items ∙ ap (λ r. c.loop-v.rules.items ++ r ∷ [])
-          (w.in_ok-pure.ensures ∙ ap (λ rows. pure_rule c.args.diagram.now.nodes c.loop-v.v (map (λ row. row.choice) rows)) w.rows_at.ensures)))
+          (w.in_ok-pure.ensures.choices ∙ ap (λ rows. pure_rule c.args.diagram.now.nodes c.loop-v.v (map (λ row. row.choice) rows)) w.rows_at.ensures)))
           (made_step c.args.diagram.now.nodes (pure_at c.args.diagram.now.nodes c.args.answers.now) c.loop-v.rules.items c.loop-v.v c.loop-v.invariant (omega arith) (sym w.in-Decision.ensures.kind))
       | in_default w ↦
           subst (λ l. MadeSoFar c.args.diagram.now.nodes (pure_at c.args.diagram.now.nodes c.args.answers.now) l (c.loop-v.v + 1)) (sym (ap (λ v. v.items) w.rules-is))
