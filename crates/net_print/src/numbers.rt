@@ -1,6 +1,7 @@
 //! Whole numbers, decimals and reduced rows.
 
-ghost use Rattle.std.specs.Prelude.{◌≡◌, ◌≢◌, ◌<◌, ◌≤◌, ◌+◌, ◌%◌, ◌^◌, [], ◌∷◌, ◌++◌, OnOk, decimal, length, map, replicate, unsigned_abs};
+ghost use Rattle.std.specs.Prelude.{◌≡◌, ◌≢◌, ◌<◌, ◌≤◌, ◌+◌, ◌/◌, ◌%◌, ◌^◌, [], ◌∷◌, ◌++◌, OnOk, decimal, length, map, replicate, unsigned_abs};
+ghost use Rattle.std.specs.Int.{IsGcd};
 ghost use Rattle.net_build.specs.Plain.{reduced_row, row_divisor};
 ghost use Rattle.net_print.specs.Printed.{padded, sign_text, size_text, value_text};
 ghost use Rattle.net_print.specs.Parts.{parted_behind};
@@ -80,13 +81,28 @@ pub fn push_value(out: &mut Vec<u8>, cell: i128, decimals: u32) -> Result<(), Al
     push_decimal(out, size, decimals)
 }
 
+// The greatest common divisor of both. A divisor of 1 stays 1, as in most rows: no division is needed.
+fn joint_divisor(divisor: u128, size: u128) -> u128
+    ensures { IsGcd divisor size result }
+{
+    if divisor == 1 { 1 } else { gcd(divisor, size) }
+}
+
+// The size over the divisor, without a division where that is 1.
+fn share(size: u128, divisor: u128) -> u128
+    requires { 0 < divisor }
+    ensures { result ≡ size / divisor }
+{
+    if divisor == 1 { size } else { size / divisor }
+}
+
 // The greatest common divisor of a row's weights.
 fn row_divisor(row: &[i128]) -> u128
     ensures { result ≡ row_divisor (map unsigned_abs row.now) }
 {
     let mut divisor = 0;
     for weight in row {
-        divisor = gcd(divisor, weight.unsigned_abs());
+        divisor = joint_divisor(divisor, weight.unsigned_abs());
     }
     divisor
 }
@@ -100,7 +116,7 @@ pub fn push_reduced_row(out: &mut Vec<u8>, row: &[i128], before: usize) -> Resul
     let divisor = row_divisor(row);
     for (place, weight) in row.iter().enumerate() {
         push_gap(out, before + place)?;
-        push_number(out, weight.unsigned_abs() / divisor)?;
+        push_number(out, share(weight.unsigned_abs(), divisor))?;
     }
     Ok(())
 }

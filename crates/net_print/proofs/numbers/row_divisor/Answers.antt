@@ -9,9 +9,9 @@ loop-weight-preserved c =
     let row = c.args.row.now in
     let i = c.loop-weight.weight-index in
     let e : c.unsigned_abs.result ≡ unsigned_abs (get_or row i (pos 0)) = search rules in
-    let gcd : IsGcd c.loop-weight.divisor (unsigned_abs (get_or row i (pos 0))) c.gcd-divisor.result = subst (λ x. IsGcd c.loop-weight.divisor x c.gcd-divisor.result) e c.gcd-divisor.ensures.greatest in
-    subst (λ xs. IsGreatestDivisor xs c.gcd-divisor.result) (sym (map_more unsigned_abs row i (pos 0) c.loop-weight-test.true))
-    (divisor_push (map unsigned_abs (take i row)) (unsigned_abs (get_or row i (pos 0))) c.loop-weight.divisor c.gcd-divisor.result c.loop-weight.invariant gcd)
+    let gcd : IsGcd c.loop-weight.divisor (unsigned_abs (get_or row i (pos 0))) c.joint_divisor-divisor.result = subst (λ x. IsGcd c.loop-weight.divisor x c.joint_divisor-divisor.result) e c.joint_divisor-divisor.ensures in
+    subst (λ xs. IsGreatestDivisor xs c.joint_divisor-divisor.result) (sym (map_more unsigned_abs row i (pos 0) c.loop-weight-test.true))
+    (divisor_push (map unsigned_abs (take i row)) (unsigned_abs (get_or row i (pos 0))) c.loop-weight.divisor c.joint_divisor-divisor.result c.loop-weight.invariant gcd)
 
 pub returns : goal.returns
 returns c =
