@@ -10,4 +10,3 @@ mod AnsweredRules
 mod BaseLemmas
 mod AnswerLemmas
 mod Promises
-mod Reply
