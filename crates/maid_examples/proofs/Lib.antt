@@ -1,5 +1,4 @@
 pub mod Members
-pub mod Checked
 pub mod Sound
 pub mod Turning
 pub mod Reliance

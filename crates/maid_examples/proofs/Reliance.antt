@@ -10,7 +10,6 @@ use Rattle.maid_examples.specs.FollowerLeader as seen
 use Rattle.maid_examples.specs.CopySeen as copy
 use Rattle.maid_examples.specs.NodeBetween as between
 use Rattle.maid_examples.proofs.Members.{Among, among_of}
-use Rattle.maid_examples.proofs.Sound.{seen_sound, copied_sound, between_sound}
 use Rattle.maid_examples.proofs.Turning.{end_of_walk}
 
 decision : (nodes : List NodeView) (v : ℕ) → v < length nodes → (node_at nodes v).kind ≡ Decision → IsDecision nodes v
@@ -45,9 +44,9 @@ relies nodes d e goal g n kd ke ld le is arc unseen = record {
     given (inr a) = unseen a
 
 -- ---- a follower who sees the leader
-seen_on_follower : ReliesOn seen.sight 0 1
-seen_on_follower =
-    relies seen.sight 0 1 2 seen_sound.diagram.graph (λ e. omega arith) (decision seen.sight 0 (omega arith) refl) (decision seen.sight 1 (omega arith) refl)
+seen_on_follower : IsGraph seen.sight → ReliesOn seen.sight 0 1
+seen_on_follower graph =
+    relies seen.sight 0 1 2 graph (λ e. omega arith) (decision seen.sight 0 (omega arith) refl) (decision seen.sight 1 (omega arith) refl)
     (live seen.sight 0 (omega arith) (omega arith)) (live seen.sight 1 (omega arith) (omega arith))
     (record { within = omega arith; kind = refl; owner = refl; below = (2, (0, omega arith, refl), Here) })
     (1, omega arith, refl) (λ a. among_of [] 1 a)
@@ -61,48 +60,48 @@ abbrev SeenArc : ℕ → ℕ → Type 0
 SeenArc = WithArc (Arc seen.sight) 4 0
 
 -- the new parent has an arc to the leader alone
-seen_from_new : (z : ℕ) → IsJoined SeenArc 4 z → Turn 4 z
-seen_from_new z j = subst (λ x. Turn 4 x) (sym (leader z j)) There
+seen_from_new : IsGraph seen.sight → (z : ℕ) → IsJoined SeenArc 4 z → Turn 4 z
+seen_from_new graph z j = subst (λ x. Turn 4 x) (sym (leader z j)) There
   where
     leader : (z : ℕ) → IsJoined SeenArc 4 z → z ≡ 0
-    leader z (inl (inl a)) = let l : 4 < 4 = seen_sound.diagram.graph.parents_known 4 z a in absurd (omega arith)
+    leader z (inl (inl a)) = let l : 4 < 4 = graph.parents_known 4 z a in absurd (omega arith)
     leader z (inl (inr h)) = h.1
     leader z (inr (inl a)) = absurd (among_of [] z a)
     leader z (inr (inr h)) = let e : ◌≡◌ {A = ℕ} 4 0 = h.1 in absurd (omega arith)
 
 -- the leader is given, so the walk goes on to one of its parents
-seen_closed : (x y z : ℕ) → Turn x y → IsJoined SeenArc y z → WithNode (IsLive seen.sight) 4 z → MeetHeads SeenArc x y z ↔ IsFixed (Arc seen.sight) 1 y → Turn y z
-seen_closed x y z There j l m = parent z (m.1 (inr (0, omega arith, refl))).1
+seen_closed : IsGraph seen.sight → (x y z : ℕ) → Turn x y → IsJoined SeenArc y z → WithNode (IsLive seen.sight) 4 z → MeetHeads SeenArc x y z ↔ IsFixed (Arc seen.sight) 1 y → Turn y z
+seen_closed graph x y z There j l m = parent z (m.1 (inr (0, omega arith, refl))).1
   where
     parent : (z : ℕ) → SeenArc z 0 → Turn 0 z
     parent z (inl a) = absurd (among_of [] z a)
     parent z (inr h) = subst (λ x. Turn 0 x) (sym h.0) Back
-seen_closed x y z Back j l m = seen_from_new z j
+seen_closed graph x y z Back j l m = seen_from_new graph z j
 
 seen_no_goal : (goal u : ℕ) → Turn u goal → IsGoal seen.sight 1 goal → ⊥
 seen_no_goal goal u There g = let k : Decision ≡ Utility = g.kind in cc
 seen_no_goal goal u Back g = let l : 4 < 4 = g.within in omega arith
 
-seen_not_on_leader : ReliesOn seen.sight 1 0 → ⊥
-seen_not_on_leader r = elim (end_of_walk SeenArc (WithNode (IsLive seen.sight) 4) (IsFixed (Arc seen.sight) 1) Turn seen_closed 4 r.goal (λ y j l. seen_from_new y j) r.walk) [
+seen_not_on_leader : IsGraph seen.sight → ReliesOn seen.sight 1 0 → ⊥
+seen_not_on_leader graph r = elim (end_of_walk SeenArc (WithNode (IsLive seen.sight) 4) (IsFixed (Arc seen.sight) 1) Turn (seen_closed graph) 4 r.goal (λ y j l. seen_from_new graph y j) r.walk) [
   | inl e ↦ (let l : r.goal < 4 = r.is_goal.within in omega arith)
   | inr t ↦ seen_no_goal r.goal t.0 t.1 r.is_goal
 ]
 
-pub seen_reliance : seen.HasReliance
-seen_reliance = record { on_follower = seen_on_follower; not_on_leader = seen_not_on_leader }
+pub seen_reliance : IsGraph seen.sight → seen.HasReliance
+seen_reliance graph = record { on_follower = seen_on_follower graph; not_on_leader = seen_not_on_leader graph }
 
 -- ---- one who sees a copy
-copied_on_follower : ReliesOn copy.copied 0 2
-copied_on_follower =
-    relies copy.copied 0 2 3 copied_sound.diagram.graph (λ e. omega arith) (decision copy.copied 0 (omega arith) refl) (decision copy.copied 2 (omega arith) refl)
+copied_on_follower : IsGraph copy.copied → ReliesOn copy.copied 0 2
+copied_on_follower graph =
+    relies copy.copied 0 2 3 graph (λ e. omega arith) (decision copy.copied 0 (omega arith) refl) (decision copy.copied 2 (omega arith) refl)
     (live copy.copied 0 (omega arith) (omega arith)) (live copy.copied 2 (omega arith) (omega arith))
     (record { within = omega arith; kind = refl; owner = refl; below = (3, (0, omega arith, refl), Here) })
     (1, omega arith, refl) (λ a. among_of [] 2 a)
 
-copied_on_leader : ReliesOn copy.copied 2 0
-copied_on_leader =
-    relies copy.copied 2 0 4 copied_sound.diagram.graph (λ e. omega arith) (decision copy.copied 2 (omega arith) refl) (decision copy.copied 0 (omega arith) refl)
+copied_on_leader : IsGraph copy.copied → ReliesOn copy.copied 2 0
+copied_on_leader graph =
+    relies copy.copied 2 0 4 graph (λ e. omega arith) (decision copy.copied 2 (omega arith) refl) (decision copy.copied 0 (omega arith) refl)
     (live copy.copied 2 (omega arith) (omega arith)) (live copy.copied 0 (omega arith) (omega arith))
     (record { within = omega arith; kind = refl; owner = refl; below = (4, (1, omega arith, refl), Here) })
     (0, omega arith, refl) (λ a. unseen (among_of (1 ∷ []) 0 a))
@@ -111,27 +110,27 @@ copied_on_leader =
     unseen (inl e) = omega arith
     unseen (inr m) = m
 
-pub copied_reliance : copy.HasReliance
-copied_reliance = record { on_follower = copied_on_follower; on_leader = copied_on_leader }
+pub copied_reliance : IsGraph copy.copied → copy.HasReliance
+copied_reliance graph = record { on_follower = copied_on_follower graph; on_leader = copied_on_leader graph }
 
 -- ---- a node between
-joined_on_follower : ReliesOn between.joined 0 2
-joined_on_follower =
-    relies between.joined 0 2 3 between_sound.two_states.graph (λ e. omega arith) (decision between.joined 0 (omega arith) refl) (decision between.joined 2 (omega arith) refl)
+joined_on_follower : IsGraph between.joined → ReliesOn between.joined 0 2
+joined_on_follower graph =
+    relies between.joined 0 2 3 graph (λ e. omega arith) (decision between.joined 0 (omega arith) refl) (decision between.joined 2 (omega arith) refl)
     (live between.joined 0 (omega arith) (omega arith)) (live between.joined 2 (omega arith) (omega arith))
     (record { within = omega arith; kind = refl; owner = refl; below = (3, (0, omega arith, refl), Here) })
     (1, omega arith, refl) (λ a. among_of [] 2 a)
 
-parted_on_follower : ReliesOn between.parted 0 2
-parted_on_follower =
-    relies between.parted 0 2 3 between_sound.one_state.graph (λ e. omega arith) (decision between.parted 0 (omega arith) refl) (decision between.parted 2 (omega arith) refl)
+parted_on_follower : IsGraph between.parted → ReliesOn between.parted 0 2
+parted_on_follower graph =
+    relies between.parted 0 2 3 graph (λ e. omega arith) (decision between.parted 0 (omega arith) refl) (decision between.parted 2 (omega arith) refl)
     (live between.parted 0 (omega arith) (omega arith)) (live between.parted 2 (omega arith) (omega arith))
     (record { within = omega arith; kind = refl; owner = refl; below = (3, (0, omega arith, refl), Here) })
     (1, omega arith, refl) (λ a. among_of [] 2 a)
 
 -- through the leader and the node between, neither of which is given
-joined_on_leader : ReliesOn between.joined 2 0
-joined_on_leader = record {
+joined_on_leader : IsGraph between.joined → ReliesOn between.joined 2 0
+joined_on_leader graph = record {
   apart = λ e. omega arith;
   from_decision = decision between.joined 2 (omega arith) refl;
   on_decision = decision between.joined 0 (omega arith) refl;
@@ -160,7 +159,7 @@ joined_on_leader = record {
     leader_given (inr a) = among_of [] 0 a
 
     at_between : WithArc (Arc between.joined) 5 0 4 1 → ⊥
-    at_between (inl a) = between_sound.two_states.graph.no_utility_parent 4 1 a refl
+    at_between (inl a) = graph.no_utility_parent 4 1 a refl
     at_between (inr h) = let e : ◌≡◌ {A = ℕ} 4 5 = h.0 in omega arith
 
     between_given : IsFixed (Arc between.joined) 2 1 → ⊥
@@ -184,11 +183,11 @@ abbrev PartedArc : ℕ → ℕ → Type 0
 PartedArc = WithArc (Arc between.parted) 5 0
 
 -- the new parent has an arc to the leader alone
-parted_from_new : (z : ℕ) → IsJoined PartedArc 5 z → Part 5 z
-parted_from_new z j = subst (λ x. Part 5 x) (sym (leader z j)) PartThere
+parted_from_new : IsGraph between.parted → (z : ℕ) → IsJoined PartedArc 5 z → Part 5 z
+parted_from_new graph z j = subst (λ x. Part 5 x) (sym (leader z j)) PartThere
   where
     leader : (z : ℕ) → IsJoined PartedArc 5 z → z ≡ 0
-    leader z (inl (inl a)) = let l : 5 < 5 = between_sound.one_state.graph.parents_known 5 z a in absurd (omega arith)
+    leader z (inl (inl a)) = let l : 5 < 5 = graph.parents_known 5 z a in absurd (omega arith)
     leader z (inl (inr h)) = h.1
     leader z (inr (inl a)) = absurd (among_of [] z a)
     leader z (inr (inr h)) = let e : ◌≡◌ {A = ℕ} 5 0 = h.1 in absurd (omega arith)
@@ -208,16 +207,16 @@ below_leader (suc (suc (suc (suc zero)))) a l = absurd (other (among_of (1 ∷ 2
     other (inr (inr m)) = m
 below_leader (suc (suc (suc (suc (suc v))))) a l = absurd (among_of [] 0 a)
 
-parted_closed : (x y z : ℕ) → Part x y → IsJoined PartedArc y z → WithNode (IsLive between.parted) 5 z → MeetHeads PartedArc x y z ↔ IsFixed (Arc between.parted) 2 y → Part y z
-parted_closed x y z PartThere j l m = from_leader z j l
+parted_closed : IsGraph between.parted → (x y z : ℕ) → Part x y → IsJoined PartedArc y z → WithNode (IsLive between.parted) 5 z → MeetHeads PartedArc x y z ↔ IsFixed (Arc between.parted) 2 y → Part y z
+parted_closed graph x y z PartThere j l m = from_leader z j l
   where
     from_leader : (z : ℕ) → IsJoined PartedArc 0 z → WithNode (IsLive between.parted) 5 z → Part 0 z
     from_leader z (inl (inl a)) l = below_leader z a l
     from_leader z (inl (inr h)) l = let e : ◌≡◌ {A = ℕ} 0 5 = h.0 in absurd (omega arith)
     from_leader z (inr (inl a)) l = absurd (among_of [] z a)
     from_leader z (inr (inr h)) l = subst (λ x. Part 0 x) (sym h.0) PartBack
-parted_closed x y z PartBack j l m = parted_from_new z j
-parted_closed x y z PartAside j l m = absurd (stops z j m.0)
+parted_closed graph x y z PartBack j l m = parted_from_new graph z j
+parted_closed graph x y z PartAside j l m = absurd (stops z j m.0)
   where
     given : IsFixed (Arc between.parted) 2 3 → ⊥
     given (inl e) = omega arith
@@ -225,7 +224,7 @@ parted_closed x y z PartAside j l m = absurd (stops z j m.0)
 
     -- a utility has no arc onwards, and isn't given
     stops : (z : ℕ) → IsJoined PartedArc 3 z → (MeetHeads PartedArc 0 3 z → IsFixed (Arc between.parted) 2 3) → ⊥
-    stops z (inl (inl a)) f = between_sound.one_state.graph.no_utility_parent 3 z a refl
+    stops z (inl (inl a)) f = graph.no_utility_parent 3 z a refl
     stops z (inl (inr h)) f = let e : ◌≡◌ {A = ℕ} 3 5 = h.0 in omega arith
     stops z (inr a) f = given (f (inl (0, omega arith, refl), a))
 
@@ -234,18 +233,18 @@ parted_no_goal goal u PartThere g = let k : Decision ≡ Utility = g.kind in cc
 parted_no_goal goal u PartBack g = let l : 5 < 5 = g.within in omega arith
 parted_no_goal goal u PartAside g = let o : ◌≡◌ {A = ℕ} 0 1 = g.owner in omega arith
 
-parted_not_on_leader : ReliesOn between.parted 2 0 → ⊥
-parted_not_on_leader r = elim (end_of_walk PartedArc (WithNode (IsLive between.parted) 5) (IsFixed (Arc between.parted) 2) Part parted_closed 5 r.goal (λ y j l. parted_from_new y j) r.walk) [
+parted_not_on_leader : IsGraph between.parted → ReliesOn between.parted 2 0 → ⊥
+parted_not_on_leader graph r = elim (end_of_walk PartedArc (WithNode (IsLive between.parted) 5) (IsFixed (Arc between.parted) 2) Part (parted_closed graph) 5 r.goal (λ y j l. parted_from_new graph y j) r.walk) [
   | inl e ↦ (let l : r.goal < 5 = r.is_goal.within in omega arith)
   | inr t ↦ parted_no_goal r.goal t.0 t.1 r.is_goal
 ]
 
-pub between_reliance : between.HasReliance
-between_reliance = record {
+pub between_reliance : IsGraph between.joined → IsGraph between.parted → between.HasReliance
+between_reliance joined parted = record {
   live = live between.joined 1 (omega arith) (omega arith);
-  on_follower = joined_on_follower;
-  on_leader = joined_on_leader;
+  on_follower = joined_on_follower joined;
+  on_leader = joined_on_leader joined;
   not_live = not_live;
-  still_on_follower = parted_on_follower;
-  not_on_leader = parted_not_on_leader;
+  still_on_follower = parted_on_follower parted;
+  not_on_leader = parted_not_on_leader parted;
 }

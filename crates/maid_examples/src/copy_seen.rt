@@ -1,5 +1,7 @@
 ghost use Rattle.maid_examples.specs.CopySeen.{IsSound, HasSums, HasReliance, HasStarts};
 
+use maid_model::literals_are_tested;
+
 /// A follower who sees a copy of the leader's choice in its place: the sums stay, but each relies on the other, and no
 /// subgame starts after the leader's choice.
 pub fn copy_in_place()
@@ -7,4 +9,6 @@ pub fn copy_in_place()
     ensures sums { HasSums }
     ensures reliance { HasReliance }
     ensures starts { HasStarts }
-{}
+{
+    literals_are_tested();
+}

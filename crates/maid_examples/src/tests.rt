@@ -4,6 +4,7 @@ ghost use Rattle.maid_examples.specs.CopySeen.{copied_diagram, plan as plan_by_c
 ghost use Rattle.maid_examples.specs.Trial.{HasRoom};
 ghost use Rattle.maid_examples.specs.NodeBetween.{joined_diagram, parted_diagram, asks_much, asks_little};
 
+use crate::{copy_in_place, follower_and_leader, one_state_between};
 use maid_model::{Diagram, Kind, Node, Profile, Rule, World, base_sums, leaf_sum};
 use relevance_graph::find_relevance;
 use smallvec::SmallVec;
@@ -57,6 +58,7 @@ fn utility(
 fn sight(alloc: Global) -> Result<Diagram, AllocError>
     ensures { IfOk result (λ d. d ≡ sight_diagram) }
 {
+    follower_and_leader();
     let mut nodes = Vec::new(alloc);
     nodes.push(decision(alloc, 0, &[])?)?;
     nodes.push(decision(alloc, 1, &[0])?)?;
@@ -68,6 +70,7 @@ fn sight(alloc: Global) -> Result<Diagram, AllocError>
 fn copied(alloc: Global) -> Result<Diagram, AllocError>
     ensures { IfOk result (λ d. d ≡ copied_diagram) }
 {
+    copy_in_place();
     let mut nodes = Vec::new(alloc);
     nodes.push(decision(alloc, 0, &[])?)?;
     nodes.push(chance(alloc, 2, &[1, 0, 0, 1])?)?;
@@ -80,6 +83,7 @@ fn copied(alloc: Global) -> Result<Diagram, AllocError>
 fn joined(alloc: Global) -> Result<Diagram, AllocError>
     ensures { IfOk result (λ d. d ≡ joined_diagram) }
 {
+    one_state_between();
     let mut nodes = Vec::new(alloc);
     nodes.push(decision(alloc, 0, &[])?)?;
     nodes.push(chance(alloc, 2, &[1, 0, 0, 1])?)?;
@@ -92,6 +96,7 @@ fn joined(alloc: Global) -> Result<Diagram, AllocError>
 fn parted(alloc: Global) -> Result<Diagram, AllocError>
     ensures { IfOk result (λ d. d ≡ parted_diagram) }
 {
+    one_state_between();
     let mut nodes = Vec::new(alloc);
     nodes.push(decision(alloc, 0, &[])?)?;
     nodes.push(chance(alloc, 1, &[1, 1])?)?;
@@ -218,60 +223,70 @@ impl Trial {
 }
 
 fn sight_uniform(alloc: Global) -> Result<Trial, AllocError> {
+    follower_and_leader();
     let diagram = sight(alloc)?;
     let profile = Profile::uniform(alloc, &diagram)?;
     Ok(Trial::new(diagram, profile))
 }
 
 fn sight_plan(alloc: Global) -> Result<Trial, AllocError> {
+    follower_and_leader();
     let diagram = sight(alloc)?;
     let profile = plan_in_sight(alloc)?;
     Ok(Trial::new(diagram, profile))
 }
 
 fn copied_uniform(alloc: Global) -> Result<Trial, AllocError> {
+    copy_in_place();
     let diagram = copied(alloc)?;
     let profile = Profile::uniform(alloc, &diagram)?;
     Ok(Trial::new(diagram, profile))
 }
 
 fn copied_plan(alloc: Global) -> Result<Trial, AllocError> {
+    copy_in_place();
     let diagram = copied(alloc)?;
     let profile = plan_by_copy(alloc)?;
     Ok(Trial::new(diagram, profile))
 }
 
 fn joined_uniform(alloc: Global) -> Result<Trial, AllocError> {
+    one_state_between();
     let diagram = joined(alloc)?;
     let profile = Profile::uniform(alloc, &diagram)?;
     Ok(Trial::new(diagram, profile))
 }
 
 fn joined_much(alloc: Global) -> Result<Trial, AllocError> {
+    one_state_between();
     let diagram = joined(alloc)?;
     let profile = asks_much(alloc)?;
     Ok(Trial::new(diagram, profile))
 }
 
 fn joined_little(alloc: Global) -> Result<Trial, AllocError> {
+    one_state_between();
     let diagram = joined(alloc)?;
     let profile = asks_little(alloc)?;
     Ok(Trial::new(diagram, profile))
 }
 
 fn parted_uniform(alloc: Global) -> Result<Trial, AllocError> {
+    one_state_between();
     let diagram = parted(alloc)?;
     let profile = Profile::uniform(alloc, &diagram)?;
     Ok(Trial::new(diagram, profile))
 }
 
 fn parted_much(alloc: Global) -> Result<Trial, AllocError> {
+    one_state_between();
     let diagram = parted(alloc)?;
     let profile = asks_much(alloc)?;
     Ok(Trial::new(diagram, profile))
 }
 
 fn parted_little(alloc: Global) -> Result<Trial, AllocError> {
+    one_state_between();
     let diagram = parted(alloc)?;
     let profile = asks_little(alloc)?;
     Ok(Trial::new(diagram, profile))

@@ -24,4 +24,5 @@ pub mod Summing
 pub mod Adding
 pub mod Leaves
 pub mod Bases
+pub mod Tested
 pub mod Coin

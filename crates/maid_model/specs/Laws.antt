@@ -1,9 +1,12 @@
 -- Laws over the definitions alone. Each is the contract of a public function without parameters.
-use Rattle.std.specs.Prelude.{◌≡◌, ◌≢◌, ◌↔◌, ℕ, ◌<◌, true, List, ◌++◌, length, take, slice_index, Contains, AllPairs}
-use Rattle.maid_model.specs.Views.{NodeView, RuleView}
-use Rattle.maid_model.specs.Nodes.{IsDecision}
+use Rattle.std.specs.Prelude.{◌≡◌, ◌≢◌, ◌↔◌, ℕ, ◌<◌, true, List, ◌++◌, map, length, take, slice_index, Contains, AllPairs}
+use Rattle.std.specs.List.{list_all}
+use Rattle.maid_model.specs.Views.{NodeView, RuleView, DiagramView}
+use Rattle.maid_model.specs.Nodes.{IsDecision, decisions_of}
 use Rattle.maid_model.specs.Graph.{Arc, Descends, IsGraph, AllDifferent, descends}
-use Rattle.maid_model.specs.Profiles.{IsProfile, HasRule}
+use Rattle.maid_model.specs.Profiles.{IsRule, IsProfile, HasRule}
+use Rattle.maid_model.specs.Diagrams.{IsDiagram}
+use Rattle.maid_model.specs.Tested.{all_true, diagram_tests, rule_tests, rule_at}
 use Rattle.maid_model.specs.Worlds.{IsWorld, worlds, worlds_from}
 
 -- the test of descent says where a path leads
@@ -33,3 +36,15 @@ EndsWithWorldsFrom = (counts xs : List ℕ) → IsWorld counts xs → (front : L
 -- a profile has a rule for each decision
 abbrev pub HasRules : Type 0
 HasRules = (nodes : List NodeView) (p : List RuleView) (v : ℕ) → IsProfile nodes p → IsDecision nodes v → HasRule p v
+
+-- what passes the tests of a diagram is one
+abbrev pub TestsDiagrams : Type 0
+TestsDiagrams = (d : DiagramView) → all_true (diagram_tests d) ≡ true → IsDiagram d
+
+-- what passes the tests of a rule is one
+abbrev pub TestsRules : Type 0
+TestsRules = (nodes : List NodeView) (r : RuleView) → all_true (rule_tests nodes r) ≡ true → IsRule nodes r
+
+-- rules of all decisions in text order, which pass, are a profile
+abbrev pub TestsProfiles : Type 0
+TestsProfiles = (nodes : List NodeView) (p : List RuleView) → map (λ r. r.decision) p ≡ decisions_of nodes → list_all (λ v. all_true (rule_tests nodes (rule_at p v))) (decisions_of nodes) ≡ true → IsProfile nodes p

@@ -5,6 +5,7 @@ pub mod Sums
 pub mod Worlds
 pub mod Tables
 pub mod Diagrams
+pub mod Tested
 pub mod Profiles
 pub mod Gains
 pub mod Walks

@@ -1,4 +1,4 @@
-ghost use Rattle.maid_model.specs.Laws.{TestsDescent, HasOrder, ListsWorlds, EndsWithWorldsFrom, HasRules};
+ghost use Rattle.maid_model.specs.Laws.{TestsDescent, HasOrder, ListsWorlds, EndsWithWorldsFrom, HasRules, TestsDiagrams, TestsRules, TestsProfiles};
 
 /// The test of descent inside the sums says where a path of arcs leads.
 pub fn descent_is_tested()
@@ -19,4 +19,11 @@ pub fn worlds_are_listed()
 /// A profile has a rule for each decision.
 pub fn profile_has_rules()
     ensures { HasRules }
+{}
+
+/// What passes the tests of a diagram, of a rule or of a profile is one.
+pub fn literals_are_tested()
+    ensures diagram { TestsDiagrams }
+    ensures rule { TestsRules }
+    ensures profile { TestsProfiles }
 {}

@@ -16,7 +16,9 @@ mod worlds;
 
 pub use answers::{Answer, Ratio, Row, Solved};
 pub use diagrams::{Diagram, Kind, Node};
-pub use laws::{descent_is_tested, graph_has_order, profile_has_rules, worlds_are_listed};
+pub use laws::{
+    descent_is_tested, graph_has_order, literals_are_tested, profile_has_rules, worlds_are_listed,
+};
 pub use profiles::{Profile, Rule};
 pub use world_sums::{base_sums, leaf_sum};
 pub use worlds::World;

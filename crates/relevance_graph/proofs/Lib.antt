@@ -2,4 +2,3 @@ pub mod Marking
 pub mod Listing
 pub mod Walking
 pub mod Outcomes
-pub mod Pair

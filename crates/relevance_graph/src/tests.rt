@@ -2,7 +2,7 @@ ghost use Rattle.std.specs.Prelude.{◌≡◌, IfOk};
 ghost use Rattle.relevance_graph.specs.Example.{pair_diagram, seen_if as seen_in};
 
 use crate::find_relevance;
-use maid_model::{Diagram, Kind, Node};
+use maid_model::{Diagram, Kind, Node, literals_are_tested};
 use smallvec::SmallVec;
 use std::alloc::{AllocError, Global};
 use std::test::Fail;
@@ -35,6 +35,7 @@ fn seen_if(sees: bool) -> &'static [usize]
 fn pair(alloc: Global, sees: bool) -> Result<Diagram, AllocError>
     ensures { IfOk result (λ d. d ≡ pair_diagram sees) }
 {
+    literals_are_tested();
     let mut nodes = Vec::new(alloc);
     nodes.push(node(alloc, Kind::Decision, 2, &[], &[])?)?;
     nodes.push(node(alloc, Kind::Decision, 2, seen_if(sees), &[])?)?;

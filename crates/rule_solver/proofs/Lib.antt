@@ -9,4 +9,3 @@ mod AnsweredRules
 mod BaseLemmas
 mod AnswerLemmas
 mod Promises
-mod Reply

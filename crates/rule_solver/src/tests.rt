@@ -1,7 +1,7 @@
 ghost use Rattle.std.specs.Prelude.{◌≡◌, IfOk};
 
 use crate::solve;
-use maid_model::{Diagram, Kind, Node, Ratio, Row};
+use maid_model::{Diagram, Kind, Node, Ratio, Row, literals_are_tested};
 use smallvec::SmallVec;
 use std::alloc::{AllocError, Global};
 use std::test::Fail;
@@ -26,6 +26,7 @@ fn node(
 
 /// A plan, a reply that sees it, and what the pairs pay: 1, 4, 3 and 2.
 fn reply_diagram(alloc: Global) -> Result<Diagram, AllocError> {
+    literals_are_tested();
     let mut nodes = Vec::new(alloc);
     nodes.push(node(alloc, Kind::Decision, 2, &[], &[])?)?;
     nodes.push(node(alloc, Kind::Decision, 2, &[0], &[])?)?;

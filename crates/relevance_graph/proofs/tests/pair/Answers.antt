@@ -1,8 +1,12 @@
-use Rattle.std.proofs.Common.{◌≡◌, ◌∙◌, ◌++◌, ◌∷◌, [], sym, ap, subst}
+use Rattle.std.proofs.Common.{◌≡◌, ◌∙◌, ◌++◌, Bool, true, false, ◌∷◌, [], refl, sym, ap, subst}
 use Rattle.maid_model.specs.Diagrams.{IsDiagram}
-use Rattle.relevance_graph.specs.Example.{choice, seen_if, pay}
-use Rattle.relevance_graph.proofs.Pair.{pair_is_diagram}
+use Rattle.maid_model.specs.Laws.{TestsDiagrams}
+use Rattle.relevance_graph.specs.Example.{choice, seen_if, pay, pair_diagram}
 use Rattle.relevance_graph.proofs.tests.pair.Goals as goal
+
+pair_is_diagram : TestsDiagrams → (sees : Bool) → IsDiagram (pair_diagram sees)
+pair_is_diagram law true = law (pair_diagram true) refl
+pair_is_diagram law false = law (pair_diagram false) refl
 
 pub from_nodes-requires : goal.from_nodes-requires
 from_nodes-requires c =
@@ -10,4 +14,4 @@ from_nodes-requires c =
     c.in_ok-push-3.ensures.items ∙ (λ i. c.in_ok-push-2.ensures.items i ++ c.in_ok-node-3.ensures i ∷ [])
     ∙ (λ i. (c.in_ok-push.ensures.items i ++ (c.in_ok-node-2.ensures ∙ ap choice c.seen_if.ensures) i ∷ []) ++ pay ∷ [])
     ∙ (λ i. ((c.new-nodes.ensures.items i ++ c.in_ok-node.ensures i ∷ []) ++ choice (seen_if c.args.sees) ∷ []) ++ pay ∷ []) in
-    subst (λ l. IsDiagram (record { nodes = l; agents = 1; decimals = 0 })) (sym items) (pair_is_diagram c.args.sees)
+    subst (λ l. IsDiagram (record { nodes = l; agents = 1; decimals = 0 })) (sym items) (pair_is_diagram c.literals_are_tested.ensures.diagram c.args.sees)
