@@ -1,7 +1,7 @@
 #!/usr/bin/env python3
 """Times the built program on large texts and prints a table.
 
-Usage: python3 bench/bench.py [--limit SECONDS] [--keep FOLDER] [SHAPE ..]
+Usage: python3 bench/bench.py [--limit SECONDS] [--keep FOLDER] [--plain PROGRAM] [SHAPE ..]
 
 Writes texts of up to 4,194,304 bytes and 256 nodes, the limits of a diagram's text, runs `solve`, `graph` and `print`
 on each, one after the other, and prints a row a run: bytes, status, seconds on the clock, seconds of computing, greatest
@@ -9,6 +9,7 @@ memory.
 Every text is in the grammar and within the limits. What it solves is beside the point: a text that `solve` refuses by
 its weight bound (7) or its number of worlds (13) has still been read and built. A text fault (5) or a crash is an error
 of the run, and so is a run that was cut off. Texts stand in a temporary folder, or in FOLDER where they are to be kept.
+PROGRAM is bench/plain.rs, built: it prints each text, too, for comparison.
 """
 import argparse
 import os
@@ -208,11 +209,11 @@ SHAPES = {
 
 
 def run(words, limit, notes):
-    """Runs the program once: its status, both times in seconds and its greatest memory in bytes.
+    """Runs these words once: its status, both times in seconds and its greatest memory in bytes.
 
     The memory is taken by GNU time, since a child of this script would begin with the script's own as its greatest.
     """
-    timed = [TIME, "-q", "-o", str(notes), "-f", "%U %S %M", "timeout", str(limit), str(PROGRAM)]
+    timed = [TIME, "-q", "-o", str(notes), "-f", "%U %S %M", "timeout", str(limit)]
     started = time.perf_counter()
     ended = subprocess.run(timed + words, stdout=subprocess.DEVNULL, stderr=subprocess.DEVNULL)
     clock = time.perf_counter() - started
@@ -224,6 +225,7 @@ def main():
     parser = argparse.ArgumentParser(description=__doc__.splitlines()[0])
     parser.add_argument("--limit", type=float, default=120, help="seconds after which a run is cut off")
     parser.add_argument("--keep", help="a folder for the texts, which then stay there")
+    parser.add_argument("--plain", help="bench/plain.rs, built, to compare with")
     parser.add_argument("shapes", nargs="*", metavar="SHAPE", help="one of: " + ", ".join(SHAPES))
     asked = parser.parse_args()
     unknown = [name for name in asked.shapes if name not in SHAPES]
@@ -233,6 +235,9 @@ def main():
         sys.exit(f"{PROGRAM} isn't there: run ./maidsolve once, which proves and builds it")
     if not os.access(TIME, os.X_OK):
         sys.exit(f"{TIME} isn't there: it is the package time of GNU")
+    forms = {form: [str(PROGRAM), form] for form in ("solve", "graph", "print")}
+    if asked.plain:
+        forms["plain"] = [asked.plain]
     failed = False
     with tempfile.TemporaryDirectory() as scratch:
         folder = pathlib.Path(asked.keep or scratch)
@@ -245,8 +250,8 @@ def main():
             assert len(text) <= MOST_BYTES, f"{name} has {len(text)} bytes"
             path = folder / f"{name}.net"
             path.write_text(text, encoding="ascii")
-            for form in ("solve", "graph", "print"):
-                status, clock, computing, memory = run([form, str(path)], asked.limit, notes)
+            for form, words in forms.items():
+                status, clock, computing, memory = run([*words, str(path)], asked.limit, notes)
                 failed = failed or status not in READ_STATUSES
                 shown = "cut off" if status == CUT_OFF else status
                 print(
