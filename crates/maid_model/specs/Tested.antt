@@ -9,6 +9,7 @@ use Rattle.maid_model.specs.Sums.{sum_below, nat_sum_over}
 use Rattle.maid_model.specs.Tables.{chance_total, weights_of, rule_total}
 use Rattle.maid_model.specs.Diagrams.{greatest_number}
 
+-- each of the tests is passed
 abbrev pub all_true : List Bool → Bool
 all_true tests = list_all (λ test. test) tests
 
@@ -17,10 +18,12 @@ abbrev pub differ : List ℕ → Bool
 differ [] = true
 differ (x ∷ xs) = list_all (λ y. not (eqb x y)) xs && differ xs
 
+-- the number is not below nought
 abbrev pub from_nought : ℤ → Bool
 from_nought (pos n) = true
 from_nought (negsuc n) = false
 
+-- the number is that total
 abbrev pub comes_to : ℤ → ℕ → Bool
 comes_to (pos n) total = eqb n total
 comes_to (negsuc n) total = false
