@@ -1,5 +1,5 @@
 -- The scale of the utilities' numbers, found in the drafts: they are the numbers that the drafts hold.
-use Rattle.std.proofs.Common.{◌≡◌, ◌⊎◌, inl, inr, ◌<◌, ◌≤◌, ◌+◌, ℕ, List, [], All, Contains, length, get_or, map, None, refl, sym, ap, subst, ◌∙◌, arith}
+use Rattle.std.proofs.Common.{◌≡◌, ◌⊎◌, inl, inr, ◌<◌, ◌≤◌, ◌+◌, ℕ, List, [], All, Contains, length, get_or, map, None, refl, sym, subst, ◌∙◌, arith}
 use Rattle.std.specs.Option.{option_map_or}
 use Rattle.std.proofs.lemmas.List.{get_or_default, length-map}
 use Rattle.maid_model.specs.declared.diagrams.Kind.{Kind}
@@ -32,10 +32,9 @@ IsGood text scale t = IsWholeBy scale (token_bytes text t) × (IsWideValue scale
 values_good : (text : List ℕ) (scale : ℕ) (tokens : List Token) (ds : List Decimal) → AreDecimals (map (token_bytes text) tokens) ds → All (λ d. d.k ≤ scale) ds → All (Fits scale) ds → All (IsGood text scale) tokens
 values_good text scale tokens ds are few fits i t h =
     let within : i < length ds = omega (arith, h, are.len, length-map tokens (token_bytes text)) in
-    let its = decimal_of text tokens ds i t are h in
-    (
-        (raised scale (decimal_at ds i), raised_is (token_bytes text (get_or tokens i t)) (decimal_at ds i) scale its (few i nought within)),
-        fits_narrow (token_bytes text (get_or tokens i t)) (decimal_at ds i) scale its (few i nought within) (fits i nought within),
+    let its = decimal_of text tokens ds i t are h in (
+      (raised scale (decimal_at ds i), raised_is (token_bytes text (get_or tokens i t)) (decimal_at ds i) scale its (few i nought within)),
+      fits_narrow (token_bytes text (get_or tokens i t)) (decimal_at ds i) scale its (few i nought within) (fits i nought within),
     )
 
 -- a utility's draft that fits
