@@ -13,6 +13,7 @@ pub mod BlockLemmas
 pub mod TablePasses
 pub mod TableFacts
 pub mod DraftLemmas
+pub mod DraftScales
 pub mod RowLemmas
 pub mod TableEnd
 pub mod KindLemmas

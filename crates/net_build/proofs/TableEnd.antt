@@ -38,7 +38,7 @@ use Rattle.net_build.proofs.TableFacts.{value_of_node, values_of_nodes, can_read
 use Rattle.net_build.proofs.TablePasses.{head_here, potential_here, rows_here, part_here, nodes_are}
 
 -- some item of a list with a place
-item_of : {X : Type 0} (xs : List X) (v : ℕ) → v < length xs → X
+pub item_of : {X : Type 0} (xs : List X) (v : ℕ) → v < length xs → X
 item_of [] v h = absurd (omega arith)
 item_of (x ∷ xs) v h = x
 
@@ -187,10 +187,10 @@ module _ (text : List ℕ) (blocks : List BlockTree) (own : All (IsBlockOf text)
       (own_values text (data_of text p) (λ k d w. (all_filter (IsAttributeOf text) (λ a. bytes_eq (word_of text a) (codes "data")) p.attributes found.0.attributes k d w).0)) part.1)
 
   -- a draft by its block
-  draft_here : (v : ℕ) (draft : Draft) → v < length nodes → IsDraftAt text heads links v draft → IsDraftOf (kind_of (block_at v).kind) (row_count text blocks (block_at v)) (states_of text (block_at v)) (map (token_bytes text) (numbers_of text blocks (block_at v))) draft
+  pub draft_here : (v : ℕ) (draft : Draft) → v < length nodes → IsDraftAt text heads links v draft → IsDraftOf (kind_of (block_at v).kind) (row_count text blocks (block_at v)) (states_of text (block_at v)) (map (token_bytes text) (numbers_of text blocks (block_at v))) draft
   draft_here v draft near is = subst (λ (T : Type 0). T) (λ i. IsDraftOf (head_here text blocks v near i).kind (rows_here text blocks v near i) (head_here text blocks v near i).states (numerals_in text (potential_here text blocks v near i)) draft) is
 
-  values_at : (Q : Token → Type 0) (v : ℕ) → All Q numbers → v < length nodes → kind_of (block_at v).kind ≡ model.Utility → All Q (numbers_of text blocks (block_at v))
+  pub values_at : (Q : Token → Type 0) (v : ℕ) → All Q numbers → v < length nodes → kind_of (block_at v).kind ≡ model.Utility → All Q (numbers_of text blocks (block_at v))
   values_at Q v all near kind = by_option (potential_of text blocks (name_of text (block_at v))) refl where
     by_option : (o : Option BlockTree) → potential_of text blocks (name_of text (block_at v)) ≡ o → All Q (option_map_or (λ p. leaves_of (data_of text p)) o [])
     by_option None e = λ k d h. absurd (omega arith)

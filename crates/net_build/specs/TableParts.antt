@@ -19,7 +19,7 @@ use Rattle.net_build.specs.declared.drafts.Draft.{Draft}
 use Rattle.net_build.specs.declared.drafts.Draft.TheVariants.{Cells, Values}
 use Rattle.net_build.specs.Passes.{Pass, found, rule, clear, always, only, ◌▸◌, each, WrongCount, WideWeight, MissingTable}
 use Rattle.net_build.specs.Blocks.{title_at, name_of, data_of, leaves_of, place_of, is_potential}
-use Rattle.net_build.specs.Scaling.{AreDecimals, IsWholeBy}
+use Rattle.net_build.specs.Scaling.{AreDecimals, IsWholeBy, decimal_at}
 use Rattle.net_build.specs.Stages.{NodeLists, LinkLists, head_at, rows_at, AreLinks}
 use Rattle.net_build.specs.declared.nodes.Head.{Head}
 use Rattle.net_build.specs.Table.{number_row, length_row, wide_row, sign_row, total_row, rows_by, IsWideTotal, repeats}
@@ -100,6 +100,19 @@ IsDraftOf Chance rows states numerals (Cells cells) = (decimals : List Decimal) 
 IsDraftOf Decision rows states numerals (Cells cells) = cells.items ≡ []
 IsDraftOf Utility rows states numerals (Values decimals) = AreDecimals numerals decimals.items × (length decimals.items ≡ rows * states)
 IsDraftOf kind rows states numerals draft = ⊥
+
+-- the values that are still to be scaled
+abbrev pub values_of : Draft → List Decimal
+values_of (Cells cells) = []
+values_of (Values decimals) = decimals.items
+
+-- none of them has more decimals
+abbrev pub HasAtMost : ℕ → Draft → Type 0
+HasAtMost most draft = All (λ d. d.k ≤ most) (values_of draft)
+
+-- one of them has so many
+abbrev pub Reaches : ℕ → Draft → Type 0
+Reaches most draft = (i : ℕ) × (i < length (values_of draft)) × ((decimal_at (values_of draft) i).k ≡ most)
 
 -- a utility's values are whole to that scale, and within the limits
 abbrev pub FitsDraft : ℕ → Draft → Type 0

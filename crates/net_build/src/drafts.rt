@@ -5,7 +5,7 @@ ghost use Rattle.std.specs.Option.{option_map};
 ghost use Rattle.maid_model.specs.declared.diagrams.Kind.TheVariants.{Decision};
 ghost use Rattle.net_build.specs.Blocks.{is_potential, data_of, leaves_of};
 ghost use Rattle.net_build.specs.Passes.{Passes};
-ghost use Rattle.net_build.specs.TableParts.{data_part, table_part, node_part, numerals_in, IsDraftOf, FitsDraft, finished};
+ghost use Rattle.net_build.specs.TableParts.{data_part, table_part, node_part, numerals_in, IsDraftOf, FitsDraft, finished, values_of};
 ghost use Rattle.net_lexer.specs.Token.{token_bytes};
 ghost use Rattle.net_parser.specs.Owned.{IsAttributeOf, IsBlockOf, leaves};
 
@@ -95,6 +95,16 @@ pub fn read_draft(
         (Kind::Decision, _) => Ok(Draft::Cells(Vec::new(alloc))),
         (_, Some(potential)) => read_table(alloc, text, head, rows, potential),
         (_, None) => unreachable!(),
+    }
+}
+
+/// The values that are still to be scaled: a utility's.
+pub fn values(draft: &Draft) -> &[Decimal]
+    ensures { result.now ≡ values_of draft.now }
+{
+    match draft {
+        Draft::Cells(_) => &[],
+        Draft::Values(decimals) => decimals,
     }
 }
 

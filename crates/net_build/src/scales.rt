@@ -21,8 +21,8 @@ use whole_num::mul_within;
 // The greatest size of a utility value to scale.
 const GREATEST: u128 = (1 << 126) - 1;
 
-// The most decimals that one of the numbers has.
-fn most_decimals(decimals: &[Decimal]) -> u32
+/// The most decimals that one of the numbers has.
+pub fn most_decimals(decimals: &[Decimal]) -> u32
     ensures most { All (λ d. d.k ≤ result) decimals.now }
     ensures reached { 0 < result → (i : ℕ) × (i < length decimals.now) × ((decimal_at decimals.now i).k ≡ result) }
     ensures few { result ≤ 30 }
@@ -52,6 +52,20 @@ fn scaled(number: Decimal, scale: u32) -> Option<i128>
     let tens = 10u128.pow(scale - number.k);
     let size = mul_within(number.m.unsigned_abs(), tens, GREATEST)?;
     Some(signed(number.m < 0, size))
+}
+
+/// Each number, to scale, lies within the limits.
+pub fn all_fit(decimals: &[Decimal], scale: u32) -> bool
+    requires enough { All (λ d. d.k ≤ scale) decimals.now }
+    requires few { scale ≤ 30 }
+    ensures { result ≡ true → All (Fits scale) decimals.now }
+{
+    for decimal in decimals {
+        if scaled(*decimal, scale).is_none() {
+            return false;
+        }
+    }
+    true
 }
 
 // Each number, to scale, lies within the limits.

@@ -1,21 +1,21 @@
 //! The tables of a text: the cells of each node, and the scale of the utilities.
 
-ghost use Rattle.std.specs.Prelude.{◌≡◌, ◌<◌, ◌≤◌, All, map, length, None, IfOk};
+ghost use Rattle.std.specs.Prelude.{◌≡◌, ◌<◌, ◌≤◌, All, Contains, map, length, true, None, IfOk};
 ghost use Rattle.maid_model.specs.Nodes.{rows_under};
 ghost use Rattle.net_build.specs.Blocks.{node_blocks};
 ghost use Rattle.net_build.specs.Building.{AreTables};
 ghost use Rattle.net_build.specs.Lists.{cells_of_lists};
-ghost use Rattle.net_build.specs.Passes.{Passes, ◌▸◌};
+ghost use Rattle.net_build.specs.Passes.{Passes, each, ◌▸◌};
 ghost use Rattle.net_build.specs.Stages.{AreLinks, TablesFit, head_at, link_lists, node_lists};
-ghost use Rattle.net_build.specs.Table.{IsUtilityScale, missing_pass, node_pass, potential_pass, table_pass, wide_pass};
-ghost use Rattle.net_build.specs.TableParts.{AreDrafts, CanRead, FitsDraft, IsDraftAt, drafts_pass, finished, node_rows_at};
+ghost use Rattle.net_build.specs.Table.{IsUtilityScale, missing_pass, node_pass, potential_pass, table_pass, wide_pass, wide_row};
+ghost use Rattle.net_build.specs.TableParts.{AreDrafts, CanRead, FitsDraft, HasAtMost, IsDraftAt, IsScaleOf, Reaches, drafts_pass, finished, node_rows_at, scaled_pass, values_in};
 ghost use Rattle.net_parser.specs.Owned.{IsBlockOf};
 
-use crate::drafts::{Draft, finish_draft, read_draft};
+use crate::drafts::{Draft, finish_draft, read_draft, values};
 use crate::faults::BuildFault;
 use crate::links::Links;
 use crate::nodes::{Head, Nodes};
-use crate::scales::scale_of;
+use crate::scales::{all_fit, most_decimals, scale_of};
 use crate::utilities::utility_numbers;
 use net_parser::Syntax;
 use std::alloc::{AllocError, Global};
@@ -92,6 +92,64 @@ fn read_drafts(
     Ok(drafts)
 }
 
+// The most decimals that one of the values has.
+fn most_of(drafts: &[Draft]) -> u32
+    ensures most { All (HasAtMost result) drafts.now }
+    ensures reached { 0 < result → (draft : Draft) × Contains drafts.now draft × Reaches result draft }
+    ensures few { result ≤ 30 }
+{
+    let mut most = 0;
+    for draft in drafts {
+        let here = most_decimals(values(draft));
+        if here > most {
+            most = here;
+        }
+    }
+    most
+}
+
+// Each value, to scale, lies within the limits.
+fn drafts_fit(drafts: &[Draft], scale: u32) -> bool
+    requires enough { All (HasAtMost scale) drafts.now }
+    requires few { scale ≤ 30 }
+    ensures { result ≡ true → All (FitsDraft scale) drafts.now }
+{
+    for draft in drafts {
+        if !all_fit(values(draft), scale) {
+            return false;
+        }
+    }
+    true
+}
+
+// By how many decimals the utilities' values are scaled. Only where one of them doesn't fit are they read again, in text
+// order, to find the first.
+fn utility_scale(
+    alloc: Global,
+    text: &[u8],
+    syntax: &Syntax,
+    nodes: &Nodes,
+    drafts: &[Draft],
+) -> Result<u32, BuildFault>
+    requires blocks { All (IsBlockOf text.now) syntax.now }
+    requires nodes { nodes.now ≡ node_lists text.now (node_blocks syntax.now) }
+    requires node_rows { node_pass text.now syntax.now None }
+    requires potential_rows { potential_pass text.now syntax.now None }
+    requires table_rows { drafts_pass text.now nodes.now.heads (link_lists text.now syntax.now) None }
+    requires drafts { AreDrafts text.now nodes.now.heads (link_lists text.now syntax.now) drafts.now }
+    ensures rows { Passes (scaled_pass text.now (values_in text.now nodes.now syntax.now)) result }
+    ensures scale { IfOk result (λ scale. IsScaleOf text.now (values_in text.now nodes.now syntax.now) scale) }
+    ensures narrow { IfOk result (λ scale. each (wide_row text.now scale) (values_in text.now nodes.now syntax.now) None) }
+    ensures few { IfOk result (λ scale. scale ≤ 30) }
+{
+    let most = most_of(drafts);
+    if drafts_fit(drafts, most) {
+        return Ok(most);
+    }
+    let numbers = utility_numbers(alloc, text, syntax, nodes)?;
+    scale_of(alloc, text, &numbers)
+}
+
 // The cells of all nodes, the utilities' to that scale.
 fn finish(alloc: Global, drafts: Vec<Draft>, scale: u32) -> Result<Vec<Vec<i128>>, AllocError>
     requires few { scale ≤ 30 }
@@ -107,7 +165,8 @@ fn finish(alloc: Global, drafts: Vec<Draft>, scale: u32) -> Result<Vec<Vec<i128>
 
 /// The tables of chance nodes and utilities, in text order, and then the utilities' values to one scale. A chance table
 /// is scaled row by row, and a utility value is a whole number of the least power of ten that makes all of them whole.
-/// The cost is linear in the text, with one look-up among the nodes for each potential.
+/// The cost is linear in the text. Where a value doesn't fit, the head of each potential is looked up among the nodes
+/// besides.
 pub fn read_tables(
     alloc: Global,
     text: &[u8],
@@ -129,8 +188,7 @@ pub fn read_tables(
     ensures fit { IfOk result (λ tables. TablesFit nodes.now.heads links.now.parents tables.cells) }
 {
     let drafts = read_drafts(alloc, text, nodes, links)?;
-    let numbers = utility_numbers(alloc, text, syntax, nodes)?;
-    let decimals = scale_of(alloc, text, &numbers)?;
+    let decimals = utility_scale(alloc, text, syntax, nodes, &drafts)?;
     let cells = finish(alloc, drafts, decimals)?;
     Ok(Tables { cells, decimals })
 }

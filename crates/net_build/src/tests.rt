@@ -75,6 +75,9 @@ fn texts_have_their_fault(rt: HostRuntime) -> Result<(), Fail> {
     );
     let long = "utility U { } potential (U) { data = (1e38); }";
     assert!(rt; matches!(refused(rt.alloc(), long)?, (38, BuildKind::NumberTooLong)));
+    let wide =
+        "utility U { } utility V { } utility W { } potential (V) { data = (8e37); } potential (U) { data = (7e37); } potential (W) { data = (0.5); }";
+    assert!(rt; matches!(refused(rt.alloc(), wide)?, (66, BuildKind::WideValue)));
     let ring =
         "node A { states = (\"x\"); } node B { states = (\"x\"); } potential (A | B) { data = (1); } potential (B | A) { data = (1); }";
     assert!(rt;

@@ -1,10 +1,12 @@
 -- The drafts, the scale of the utilities' numbers, and the finished cells.
-use Rattle.std.proofs.Common.{◌∙◌, rules}
+use Rattle.std.proofs.Common.{None, refl, subst, rules}
 use Rattle.net_build.specs.Passes.{Refuses, ◌▸◌}
 use Rattle.net_build.specs.Table.{table_pass, wide_pass}
 use Rattle.net_build.specs.Lists.{cells_of_lists}
+use Rattle.net_build.specs.TableParts.{AreDrafts, drafts_pass, values_in}
+use Rattle.net_build.specs.Stages.{LinkLists}
 use Rattle.net_build.proofs.TableEnd.{can_read_them}
-use Rattle.net_build.proofs.TableLast.{all_own, all_number, all_short, table_refused, tokens_read, wide_refused, both_clear, scale_is, drafts_fit, cells_are, cells_fit}
+use Rattle.net_build.proofs.TableLast.{table_refused, wide_refused, both_clear, scale_is, drafts_fit, cells_are, cells_fit}
 use Rattle.net_build.proofs.tables.read_tables.Goals as goal
 
 pub read_drafts-requires : goal.read_drafts-requires
@@ -15,31 +17,28 @@ returns-in_err-drafts-clause-rows c =
     let h : Refuses (table_pass c.args.text.now c.args.syntax.now ▸ wide_pass c.args.text.now c.args.syntax.now) c.in_err-drafts.field-0.0 = table_refused c.args.text.now c.args.syntax.now c.requires.blocks c.requires.node_rows c.requires.potential_rows c.args.nodes.now c.args.links.now c.requires.nodes c.requires.links c.in_err-drafts.field-0.0 c.in_err-drafts.ensures.rows in
     search rules
 
-pub scale_of-requires-clause-own : goal.scale_of-requires-clause-own
-scale_of-requires-clause-own c = all_own c.args.text.now c.deref.result.now (tokens_read c.args.text.now c.args.syntax.now c.requires.blocks c.requires.node_rows c.requires.potential_rows c.args.nodes.now c.args.links.now c.requires.nodes c.requires.links c.deref.result.now (c.deref.ensures.value ∙ c.in_ok-numbers.ensures) c.in_ok-drafts.ensures.rows)
-
-pub scale_of-requires-clause-numbers : goal.scale_of-requires-clause-numbers
-scale_of-requires-clause-numbers c = all_number c.args.text.now c.deref.result.now (tokens_read c.args.text.now c.args.syntax.now c.requires.blocks c.requires.node_rows c.requires.potential_rows c.args.nodes.now c.args.links.now c.requires.nodes c.requires.links c.deref.result.now (c.deref.ensures.value ∙ c.in_ok-numbers.ensures) c.in_ok-drafts.ensures.rows)
-
-pub scale_of-requires-clause-short : goal.scale_of-requires-clause-short
-scale_of-requires-clause-short c = all_short c.args.text.now c.deref.result.now (tokens_read c.args.text.now c.args.syntax.now c.requires.blocks c.requires.node_rows c.requires.potential_rows c.args.nodes.now c.args.links.now c.requires.nodes c.requires.links c.deref.result.now (c.deref.ensures.value ∙ c.in_ok-numbers.ensures) c.in_ok-drafts.ensures.rows)
-
 pub returns-in_err-decimals-clause-rows : goal.returns-in_err-decimals-clause-rows
 returns-in_err-decimals-clause-rows c =
-    let h : Refuses (table_pass c.args.text.now c.args.syntax.now ▸ wide_pass c.args.text.now c.args.syntax.now) c.in_err-decimals.field-0.0 = wide_refused c.args.text.now c.args.syntax.now c.requires.blocks c.requires.node_rows c.requires.potential_rows c.args.nodes.now c.args.links.now c.requires.nodes c.requires.links c.deref.result.now (c.deref.ensures.value ∙ c.in_ok-numbers.ensures) c.in_ok-drafts.ensures.rows c.in_err-decimals.field-0.0 c.in_err-decimals.ensures.rows in
+    let h : Refuses (table_pass c.args.text.now c.args.syntax.now ▸ wide_pass c.args.text.now c.args.syntax.now) c.in_err-decimals.field-0.0 = wide_refused c.args.text.now c.args.syntax.now c.requires.blocks c.requires.node_rows c.requires.potential_rows c.args.nodes.now c.args.links.now c.requires.nodes c.requires.links (values_in c.args.text.now c.args.nodes.now c.args.syntax.now) refl c.in_ok-drafts.ensures.rows c.in_err-decimals.field-0.0 c.in_err-decimals.ensures.rows in
     search rules
 
+pub utility_scale-requires-clause-table_rows : goal.utility_scale-requires-clause-table_rows
+utility_scale-requires-clause-table_rows c = subst (λ (l : LinkLists). drafts_pass c.args.text.now c.args.nodes.now.heads l None) c.requires.links c.in_ok-drafts.ensures.rows
+
+pub utility_scale-requires-clause-drafts : goal.utility_scale-requires-clause-drafts
+utility_scale-requires-clause-drafts c = rw c.deref.ensures.value (subst (λ (l : LinkLists). AreDrafts c.args.text.now c.args.nodes.now.heads l c.in_ok-drafts.drafts.items) c.requires.links c.in_ok-drafts.ensures.drafts)
+
 pub finish-requires-clause-fits : goal.finish-requires-clause-fits
-finish-requires-clause-fits c = drafts_fit c.args.text.now c.args.syntax.now c.requires.blocks c.requires.node_rows c.requires.potential_rows c.args.nodes.now c.args.links.now c.requires.nodes c.requires.links c.deref.result.now (c.deref.ensures.value ∙ c.in_ok-numbers.ensures) c.in_ok-drafts.ensures.rows c.in_ok-decimals.decimals c.in_ok-decimals.ensures.scale c.in_ok-decimals.ensures.narrow c.in_ok-drafts.drafts.items c.in_ok-drafts.ensures.drafts
+finish-requires-clause-fits c = drafts_fit c.args.text.now c.args.syntax.now c.requires.blocks c.requires.node_rows c.requires.potential_rows c.args.nodes.now c.args.links.now c.requires.nodes c.requires.links (values_in c.args.text.now c.args.nodes.now c.args.syntax.now) refl c.in_ok-drafts.ensures.rows c.in_ok-decimals.decimals c.in_ok-decimals.ensures.scale c.in_ok-decimals.ensures.narrow c.in_ok-drafts.drafts.items c.in_ok-drafts.ensures.drafts
 
 pub returns-clause-rows : goal.returns-clause-rows
-returns-clause-rows c = both_clear c.args.text.now c.args.syntax.now c.requires.blocks c.requires.node_rows c.requires.potential_rows c.args.nodes.now c.args.links.now c.requires.nodes c.requires.links c.deref.result.now (c.deref.ensures.value ∙ c.in_ok-numbers.ensures) c.in_ok-drafts.ensures.rows c.in_ok-decimals.ensures.rows
+returns-clause-rows c = both_clear c.args.text.now c.args.syntax.now c.requires.blocks c.requires.node_rows c.requires.potential_rows c.args.nodes.now c.args.links.now c.requires.nodes c.requires.links (values_in c.args.text.now c.args.nodes.now c.args.syntax.now) refl c.in_ok-drafts.ensures.rows c.in_ok-decimals.ensures.rows
 
 pub returns-clause-scale : goal.returns-clause-scale
-returns-clause-scale c = scale_is c.args.text.now c.args.syntax.now c.requires.blocks c.requires.node_rows c.requires.potential_rows c.args.nodes.now c.args.links.now c.requires.nodes c.requires.links c.deref.result.now (c.deref.ensures.value ∙ c.in_ok-numbers.ensures) c.in_ok-drafts.ensures.rows c.in_ok-decimals.decimals c.in_ok-decimals.ensures.scale
+returns-clause-scale c = scale_is c.args.text.now c.args.syntax.now c.requires.blocks c.requires.node_rows c.requires.potential_rows c.args.nodes.now c.args.links.now c.requires.nodes c.requires.links (values_in c.args.text.now c.args.nodes.now c.args.syntax.now) refl c.in_ok-drafts.ensures.rows c.in_ok-decimals.decimals c.in_ok-decimals.ensures.scale
 
 pub returns-clause-cells : goal.returns-clause-cells
-returns-clause-cells c = cells_are c.args.text.now c.args.syntax.now c.requires.blocks c.requires.node_rows c.requires.potential_rows c.args.nodes.now c.args.links.now c.requires.nodes c.requires.links c.deref.result.now (c.deref.ensures.value ∙ c.in_ok-numbers.ensures) c.in_ok-drafts.ensures.rows c.in_ok-decimals.decimals c.in_ok-decimals.ensures.scale c.in_ok-decimals.ensures.narrow c.in_ok-drafts.drafts.items c.in_ok-drafts.ensures.drafts (cells_of_lists c.in_ok-cells.cells.items) c.in_ok-cells.ensures
+returns-clause-cells c = cells_are c.args.text.now c.args.syntax.now c.requires.blocks c.requires.node_rows c.requires.potential_rows c.args.nodes.now c.args.links.now c.requires.nodes c.requires.links (values_in c.args.text.now c.args.nodes.now c.args.syntax.now) refl c.in_ok-drafts.ensures.rows c.in_ok-decimals.decimals c.in_ok-decimals.ensures.scale c.in_ok-decimals.ensures.narrow c.in_ok-drafts.drafts.items c.in_ok-drafts.ensures.drafts (cells_of_lists c.in_ok-cells.cells.items) c.in_ok-cells.ensures
 
 pub returns-clause-fit : goal.returns-clause-fit
-returns-clause-fit c = cells_fit c.args.text.now c.args.syntax.now c.requires.blocks c.requires.node_rows c.requires.potential_rows c.args.nodes.now c.args.links.now c.requires.nodes c.requires.links c.deref.result.now (c.deref.ensures.value ∙ c.in_ok-numbers.ensures) c.in_ok-drafts.ensures.rows c.in_ok-decimals.decimals c.in_ok-decimals.ensures.scale c.in_ok-decimals.ensures.narrow c.in_ok-drafts.drafts.items c.in_ok-drafts.ensures.drafts (cells_of_lists c.in_ok-cells.cells.items) c.in_ok-cells.ensures (can_read_them c.args.text.now c.args.syntax.now c.requires.blocks c.requires.node_rows c.requires.potential_rows c.requires.missing_rows c.args.nodes.now c.args.links.now c.requires.nodes c.requires.links c.requires.fit)
+returns-clause-fit c = cells_fit c.args.text.now c.args.syntax.now c.requires.blocks c.requires.node_rows c.requires.potential_rows c.args.nodes.now c.args.links.now c.requires.nodes c.requires.links (values_in c.args.text.now c.args.nodes.now c.args.syntax.now) refl c.in_ok-drafts.ensures.rows c.in_ok-decimals.decimals c.in_ok-decimals.ensures.scale c.in_ok-decimals.ensures.narrow c.in_ok-drafts.drafts.items c.in_ok-drafts.ensures.drafts (cells_of_lists c.in_ok-cells.cells.items) c.in_ok-cells.ensures (can_read_them c.args.text.now c.args.syntax.now c.requires.blocks c.requires.node_rows c.requires.potential_rows c.requires.missing_rows c.args.nodes.now c.args.links.now c.requires.nodes c.requires.links c.requires.fit)
