@@ -1,0 +1,4 @@
+pub mod Bits
+pub mod Growing
+pub mod Words
+pub mod Following
