@@ -1,7 +1,7 @@
+//! Names of nodes, states and agents.
+
 ghost use Rattle.std.specs.Prelude.{◌≡◌, ◌<◌, length, Contains, IfSome, IfNone};
-ghost use Rattle.maid_model.specs.Names.{name_of, labels_of, label_of, agent_name};
-ghost use Rattle.net_build.specs.Lists.{list_of};
-ghost use Rattle.net_build.specs.Places.{IsFirstPlace};
+ghost use Rattle.maid_model.specs.Names.{name_of, labels_of, label_of, agent_name, list_of, IsFirstPlace};
 
 use std::marker::Model;
 
@@ -14,16 +14,15 @@ pub struct Names {
 }
 
 impl Model for Names {
-    ghost use Rattle.maid_model.specs.Names.{NamesView};
-    ghost use Rattle.net_build.specs.Lists.{list_of, lists_of};
+    ghost use Rattle.maid_model.specs.Names.{NamesView, list_of, lists_of};
 
     ghost Value = { NamesView };
 
     ghost view = { λ n. record { nodes = list_of n.nodes.items; labels = lists_of n.labels.items; agents = list_of n.agents.items } };
 }
 
-// The first place of the name in the list.
-pub(crate) fn first_place(names: &[Vec<u8>], name: &[u8]) -> Option<usize>
+/// The first place of the name in the list. It compares the name with each before it.
+pub fn first_place(names: &[Vec<u8>], name: &[u8]) -> Option<usize>
     ensures some { IfSome result (IsFirstPlace (list_of names.now) name.now) }
     ensures none { IfNone result (¬ Contains (list_of names.now) name.now) }
 {
@@ -36,7 +35,7 @@ pub(crate) fn first_place(names: &[Vec<u8>], name: &[u8]) -> Option<usize>
 }
 
 impl Names {
-    ghost use Rattle.net_build.specs.Lists.{list_of, lists_of};
+    ghost use Rattle.maid_model.specs.Names.{list_of, lists_of};
 
     /// These names. It takes no memory.
     pub fn from_lists(nodes: Vec<Vec<u8>>, labels: Vec<Vec<Vec<u8>>>, agents: Vec<Vec<u8>>) -> Names

@@ -4,8 +4,8 @@ use Rattle.std.proofs.lemmas.Bool.{false≢true}
 use Rattle.std.proofs.lemmas.List.{get_or-map, get_or_default, length-map}
 use Rattle.std.proofs.lemmas.Slice.Eq.{bytes_eq-Decides}
 use Rattle.std.specs.Global.{Vec}
-use Rattle.net_build.specs.Lists.{list_of}
-use Rattle.net_build.proofs.names.first_place.Goals as goal
+use Rattle.maid_model.specs.Names.{list_of}
+use Rattle.maid_model.proofs.names.first_place.Goals as goal
 
 -- what stands at the place, as bytes
 at_place : (names : List (Vec ℕ)) (k : ℕ) (x : Vec ℕ) (bytes : List ℕ) → k < length names → x ≡ slice_index_or names k x → bytes ≡ x.items → slice_index_or (list_of names) k [] ≡ bytes

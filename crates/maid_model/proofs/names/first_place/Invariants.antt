@@ -1,6 +1,6 @@
 use Rattle.std.proofs.Common.{◌≡◌, ℕ, ◌<◌, [], slice_index_or}
-use Rattle.net_build.specs.Lists.{list_of}
-use Rattle.net_build.proofs.names.first_place.Given as goal
+use Rattle.maid_model.specs.Names.{list_of}
+use Rattle.maid_model.proofs.names.first_place.Given as goal
 
 -- none of the names before has it
 abbrev pub invariant-loop-place : goal.invariant-loop-place
