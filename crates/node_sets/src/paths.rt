@@ -124,7 +124,7 @@ pub fn descendants<G: Graph>(graph: &G, of: NodeSet) -> NodeSet
 /// These nodes, and all from which a path of arcs leads to one of them. It goes over all arcs a few times; where parents
 /// stand before their children, twice.
 pub fn ancestors<G: Graph>(graph: &G, of: NodeSet) -> NodeSet
-    ensures { (v : ℕ) → IsIn result v ↔ ((to : ℕ) × IsIn of to × IsPath (ParentArc (G.parents_of graph.now)) to v) }
+    ensures { (v : ℕ) → IsIn result v ↔ ((to : ℕ) × IsIn of to × IsPath (ParentArc (G.parents_of graph.now)) v to) }
 {
     let mut set = of;
     follow(graph, Way::Up, &mut set);
