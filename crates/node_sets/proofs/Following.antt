@@ -6,12 +6,9 @@ use Rattle.node_sets.specs.declared.paths.Way.{Way}
 use Rattle.node_sets.specs.declared.paths.Way.TheVariants.{Down, Up}
 use Rattle.node_sets.specs.declared.sets.NodeSet.{NodeSet}
 use Rattle.node_sets.specs.Sets.{IsIn, room, Adds}
-use Rattle.node_sets.specs.Paths.{IsPathTo, IsPath, Here, Along, LeadsFrom, ParentArc}
+use Rattle.node_sets.specs.Paths.{IsPath, Here, Along, LeadsFrom, ParentArc}
 use Rattle.node_sets.specs.Sweeps.{Step, ClosedAt, ClosedInto, IsFollowed}
-
-path_then : {Arc : ℕ → ℕ → Type 0} (z m : ℕ) → IsPath Arc m z → (a : ℕ) → IsPath Arc a m → IsPath Arc a z
-path_then z m q a Here = q
-path_then z m q a (Along {v = b} h p) = Along h (path_then z m q b p)
+use Rattle.node_sets.proofs.Turning.{path_then}
 
 -- a set that is closed holds all that paths lead to from it
 pub path_marked : {Arc : ℕ → ℕ → Type 0} {Set : ℕ → Type 0} → ((a b : ℕ) → Arc a b → Set a → Set b) → (v from : ℕ) → IsPath Arc from v → Set from → Set v
@@ -20,12 +17,6 @@ path_marked c v from (Along {v = b} h p) s = path_marked c v b p (c from b h s)
 
 pub leads_again : (Arc : ℕ → ℕ → Type 0) (Start Next : ℕ → Type 0) → ((v : ℕ) → Next v → LeadsFrom Arc Start v) → (v : ℕ) → LeadsFrom Arc Next v → LeadsFrom Arc Start v
 leads_again Arc Start Next f v (m, s, p) = let h = f m s in (h.0, h.1, path_then v m p h.0 h.2)
-
--- a path read from its other end
-pub path_turn : (R : ℕ → ℕ → Type 0) (to from : ℕ) → IsPath R from to → IsPath (λ a b. R b a) to from
-path_turn R to from Here = Here
-path_turn R to from (Along {v = b} h p) =
-    let step : IsPath (λ a b. R b a) b from = Along h Here in path_then from b step to (path_turn R to b p)
 
 module _ (Step : ℕ → ℕ → Type 0) where
   pub followed_none : (P : NodeSet → Type 0) (xs : NodeSet) → P xs → IsFollowed Step P xs xs false

@@ -1,5 +1,5 @@
 use Rattle.node_sets.specs.Paths.{ParentArc}
-use Rattle.node_sets.proofs.Following.{path_turn}
+use Rattle.node_sets.proofs.Turning.{path_turn}
 use Rattle.node_sets.proofs.paths.ancestors.Goals as goal
 
 pub returns : goal.returns
