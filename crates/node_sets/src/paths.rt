@@ -1,6 +1,6 @@
 ghost use Rattle.std.specs.Prelude.{◌≡◌, ℕ, ◌<◌, ◌↔◌, IsTrue, IsFalse};
 ghost use Rattle.node_sets.specs.declared.sets.TheConstants.{MOST_NODES};
-ghost use Rattle.node_sets.specs.Sets.{IsIn, Adds, room};
+ghost use Rattle.node_sets.specs.Sets.{IsIn, room};
 ghost use Rattle.node_sets.specs.Paths.{ParentArc, IsPath, LeadsFrom};
 ghost use Rattle.node_sets.specs.Sweeps.{Step, ClosedAt, ClosedInto, IsFollowed};
 
@@ -26,17 +26,6 @@ fn has_parent_in<G: Graph>(graph: &G, v: usize, set: &NodeSet) -> bool
     false
 }
 
-fn insert_parents<G: Graph>(graph: &G, v: usize, set: &mut NodeSet) -> bool
-    requires { v < G.size_of graph.now }
-    ensures { Adds (λ x. ParentArc (G.parents_of graph.now) x v) set.old set.new result }
-{
-    let mut changed = false;
-    for p in graph.parents(v) {
-        changed |= set.insert(*p);
-    }
-    changed
-}
-
 /// Adds the node if a parent is in the set.
 fn follow_down<G: Graph>(graph: &G, v: usize, set: &mut NodeSet) -> bool
     requires within { v < G.size_of graph.now }
@@ -55,7 +44,7 @@ fn follow_up<G: Graph>(graph: &G, v: usize, set: &mut NodeSet) -> bool
     requires small { v < MOST_NODES }
     ensures { IsFollowed (Step (G.parents_of graph.now) Way.Up) (ClosedAt (G.parents_of graph.now) Way.Up v) set.old set.new result }
 {
-    set.holds(v) && insert_parents(graph, v, set)
+    set.holds(v) && set.insert_all(graph.parents(v))
 }
 
 fn visit<G: Graph>(graph: &G, way: Way, v: usize, set: &mut NodeSet) -> bool

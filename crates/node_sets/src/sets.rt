@@ -1,4 +1,4 @@
-ghost use Rattle.std.specs.Prelude.{◌≡◌, ℕ, ◌<◌, ◌⊎◌, ◌↔◌};
+ghost use Rattle.std.specs.Prelude.{◌≡◌, ℕ, ◌<◌, ◌⊎◌, ◌↔◌, Contains};
 ghost use Rattle.node_sets.specs.declared.sets.TheConstants.{MOST_NODES};
 
 /// How many nodes a diagram may have.
@@ -49,6 +49,18 @@ impl NodeSet {
         }
         self.words[v / 64] |= 1u64 << (v % 64);
         true
+    }
+
+    /// Adds the nodes of the list, and says whether one of them is new.
+    pub fn insert_all(&mut self, list: &[usize]) -> bool
+        requires { (v : ℕ) → Contains list.now v → v < MOST_NODES }
+        ensures { Adds (Contains list.now) self.old self.new result }
+    {
+        let mut changed = false;
+        for v in list {
+            changed |= self.insert(*v);
+        }
+        changed
     }
 
     /// Takes the node out.

@@ -32,6 +32,10 @@ fn holds_what_was_added(rt: HostRuntime) {
     }
     let is_new = set.insert(63);
     assert!(rt; !is_new);
+    let is_new = set.insert_all(&[63, 100]);
+    assert!(rt; is_new && set.holds(100));
+    let is_new = set.insert_all(&[0, 100]);
+    assert!(rt; !is_new);
     set.remove(64);
     set.remove(65);
     assert!(rt; set.holds(0) && set.holds(63) && set.holds(255));
