@@ -15,10 +15,6 @@ use Rattle.relevance_graph.specs.Views.{IsRising}
 abbrev pub IsLiveDecision : List NodeView → ℕ → Type 0
 IsLiveDecision nodes v = IsDecision nodes v × IsLive nodes v
 
--- a utility of the agent
-abbrev pub IsUtilityOf : List NodeView → ℕ → ℕ → Type 0
-IsUtilityOf nodes agent v = ((node_at nodes v).kind ≡ Utility) × ((node_at nodes v).owner ≡ agent)
-
 -- given d and its parents an active walk leads from an extra parent of e to a goal of d
 abbrev pub LeadsToGoal : List NodeView → ℕ → ℕ → Type 0
 LeadsToGoal nodes d e =

@@ -1,7 +1,7 @@
-ghost use Rattle.std.specs.Prelude.{◌≡◌, ℕ, ◌<◌, ◌&&◌, length};
-ghost use Rattle.node_sets.specs.Sets.{holds};
-ghost use Rattle.maid_model.specs.Nodes.{node_at, is_utility_of};
-ghost use Rattle.maid_model.specs.Graph.{descends};
+ghost use Rattle.std.specs.Prelude.{◌≡◌, ℕ, ◌<◌, ◌↔◌, length};
+ghost use Rattle.node_sets.specs.Sets.{holds, IsIn};
+ghost use Rattle.maid_model.specs.Nodes.{is_utility_of};
+ghost use Rattle.maid_model.specs.Relevance.{IsGoal};
 ghost use Rattle.maid_model.specs.Private.{MarksUtilities};
 
 use crate::diagrams::{Diagram, Kind};
@@ -21,6 +21,7 @@ fn is_utility_of(diagram: &Diagram, agent: usize, v: usize) -> bool
 /// The utilities of the agent.
 pub(crate) fn utilities_of(diagram: &Diagram, agent: usize) -> NodeSet
     ensures utilities { MarksUtilities diagram.now.nodes result }
+    ensures known { (v : ℕ) → IsIn result v → v < length diagram.now.nodes }
     ensures marks { (v : ℕ) → v < length diagram.now.nodes → holds result v ≡ is_utility_of diagram.now.nodes agent v }
 {
     let mut utilities = NodeSet::empty();
@@ -32,11 +33,10 @@ pub(crate) fn utilities_of(diagram: &Diagram, agent: usize) -> NodeSet
     utilities
 }
 
-/// The utilities of the decision's agent that descend from the decision.
-pub(crate) fn utilities_below(diagram: &Diagram, decision: usize) -> NodeSet
+/// The goals of the decision: the utilities of its agent that descend from it.
+pub fn goals_of(diagram: &Diagram, decision: usize) -> NodeSet
     requires { decision < length diagram.now.nodes }
-    ensures utilities { MarksUtilities diagram.now.nodes result }
-    ensures marks { (v : ℕ) → v < length diagram.now.nodes → holds result v ≡ (descends diagram.now.nodes decision v && is_utility_of diagram.now.nodes (node_at diagram.now.nodes decision).owner v) }
+    ensures { (v : ℕ) → IsIn result v ↔ IsGoal diagram.now.nodes decision v }
 {
     let agent = diagram.owner(decision);
     let mut below = descendants(diagram, NodeSet::of(decision));
