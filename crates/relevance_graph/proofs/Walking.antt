@@ -1,9 +1,9 @@
 -- What a search from the goals of a decision finds.
-use Rattle.std.proofs.Common.{◌≡◌, ℕ, ◌<◌, List, [], ◌∷◌, length, ◌↔◌, inl, inr, refl, subst}
+use Rattle.std.proofs.Common.{◌≡◌, ℕ, ◌<◌, List, [], ◌∷◌, length, ◌↔◌, inl, inr, subst}
 use Rattle.maid_model.specs.declared.diagrams.Kind.TheVariants.{Utility}
 use Rattle.maid_model.specs.Views.{NodeView}
 use Rattle.maid_model.specs.Nodes.{IsDecision, node_at}
-use Rattle.maid_model.specs.Graph.{Arc, IsGraph, IsPath, Here, Along, Descends}
+use Rattle.maid_model.specs.Graph.{Arc, IsGraph}
 use Rattle.maid_model.specs.Relevance.{IsLive, IsInFamily, IsGoal}
 use Rattle.maid_model.specs.Walks.{IsActive, IsReached, IsReachedFromParent, WithArc, WithNode}
 use Rattle.node_sets.specs.declared.sets.NodeSet.{NodeSet}
