@@ -1,8 +1,7 @@
 -- What the steps of finding a relevance graph promise one another. Only private functions and the invariant of private fields cite this file.
 use Rattle.std.specs.Prelude.{◌≡◌, ◌↔◌, ◌<◌, ℕ, List, length, Contains}
-use Rattle.maid_model.specs.declared.diagrams.Kind.TheVariants.{Utility}
 use Rattle.maid_model.specs.Views.{NodeView}
-use Rattle.maid_model.specs.Nodes.{IsDecision, node_at}
+use Rattle.maid_model.specs.Nodes.{IsDecision}
 use Rattle.maid_model.specs.Graph.{Arc}
 use Rattle.maid_model.specs.Relevance.{IsLive, IsInFamily, IsGoal, ReliesOn}
 use Rattle.maid_model.specs.Walks.{IsReachedFromParent}
