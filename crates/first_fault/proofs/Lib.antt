@@ -1,0 +1,4 @@
+pub mod Kept
+pub mod Ends
+pub mod Leading
+pub mod Items

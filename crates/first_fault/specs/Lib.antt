@@ -1,0 +1,4 @@
+pub mod Passes
+pub mod Outcomes
+pub mod Answers
+pub mod Properties
