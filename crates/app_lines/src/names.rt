@@ -4,7 +4,7 @@ ghost use Rattle.std.specs.Prelude.{◌≡◌, ◌<◌, All, IfOk, length};
 ghost use Rattle.maid_model.specs.Reports.{names_line};
 
 use line_pieces::push_names;
-use net_build::Names;
+use maid_model::Names;
 use std::alloc::{AllocError, Global};
 
 /// The head, then each node's name after one space, and the line's end.

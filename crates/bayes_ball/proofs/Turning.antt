@@ -1,13 +1,13 @@
 -- A walk read from its other end.
 use Rattle.std.proofs.Common.{◌≡◌, ℕ, List, [], ◌∷◌, ◌↔◌, inl, inr, refl, subst}
-use Rattle.maid_model.specs.Walks.{IsJoined, MeetHeads, IsActive, last_of, IsReached}
+use Rattle.maid_model.specs.Walks.{IsJoined, IsCollider, IsActive, last_of, IsReached}
 
 module _ (Arc : ℕ → ℕ → Type 0) (Live Given : ℕ → Type 0) where
   joined_turn : (x y : ℕ) → IsJoined Arc x y → IsJoined Arc y x
   joined_turn x y (inl h) = inr h
   joined_turn x y (inr h) = inl h
 
-  heads_turn : (x y z : ℕ) → (MeetHeads Arc x y z ↔ Given y) → (MeetHeads Arc z y x ↔ Given y)
+  heads_turn : (x y z : ℕ) → (IsCollider Arc x y z ↔ Given y) → (IsCollider Arc z y x ↔ Given y)
   heads_turn x y z h = ((λ m. h.0 (m.1, m.0)), (λ g. let m = h.1 g in (m.1, m.0)))
 
   pub first_live : (x : ℕ) (rest : List ℕ) → IsActive Arc Live Given (x ∷ rest) → Live x
@@ -18,7 +18,7 @@ module _ (Arc : ℕ → ℕ → Type 0) (Live Given : ℕ → Type 0) where
   abbrev Meets : ℕ → List ℕ → List ℕ → Type 0
   Meets x [] done = Unit {0}
   Meets x (y ∷ r) [] = Unit {0}
-  Meets x (y ∷ r) (z ∷ q) = MeetHeads Arc y x z ↔ Given x
+  Meets x (y ∷ r) (z ∷ q) = IsCollider Arc y x z ↔ Given x
 
   -- x heads what is left to turn, and what was turned
   turn : (x : ℕ) (todo done : List ℕ) → IsActive Arc Live Given (x ∷ todo) → IsActive Arc Live Given (x ∷ done) → Meets x todo done →

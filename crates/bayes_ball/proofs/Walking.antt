@@ -1,6 +1,6 @@
 -- The marks of the three rules are the active walks. Walks are listed here from the node where they arrive.
 use Rattle.std.proofs.Common.{◌≡◌, ℕ, List, [], ◌∷◌, ◌⊎◌, ◌↔◌, inl, inr, refl, subst, sym, ◌∙◌}
-use Rattle.maid_model.specs.Walks.{IsJoined, MeetHeads, IsActive, last_of, IsReached, WithArc, WithNode, IsReachedFromParent}
+use Rattle.maid_model.specs.Walks.{IsJoined, IsCollider, IsActive, last_of, IsReached, WithArc, WithNode, IsReachedFromParent}
 use Rattle.bayes_ball.specs.Flow.{Way, Up, Down, Flows, Begin, Forward, Back, Bounce, IsClosed, IsLiveArc}
 use Rattle.bayes_ball.proofs.Turning.{first_live, reached_turn}
 
@@ -55,7 +55,7 @@ module _ (Arc : ℕ → ℕ → Type 0) (Live Given : ℕ → Type 0) (one_way :
 
   -- the step to b from y, where the walk came to y from z
   walk_step : (Mark : Way → ℕ → Type 0) → IsClosed (IsLiveArc Arc Live) Given Mark → (b y z : ℕ) → Live b → Live y →
-      IsJoined Arc b y → (MeetHeads Arc b y z ↔ Given y) → (Arc y z × Mark Up y) ⊎ (Arc z y × Mark Down y) →
+      IsJoined Arc b y → (IsCollider Arc b y z ↔ Given y) → (Arc y z × Mark Up y) ⊎ (Arc z y × Mark Down y) →
       (Arc b y × Mark Up b) ⊎ (Arc y b × Mark Down b)
   walk_step Mark c b y z lb ly (inl up) m (inl h) = inl (up, c.back b y (up, lb, ly) (λ g. one_way y z h.0 (m.1 g).1) h.1)
   walk_step Mark c b y z lb ly (inl up) m (inr h) = inl (up, c.bounce b y (up, lb, ly) (m.0 (up, h.0)) h.1)

@@ -11,12 +11,12 @@ use Rattle.diagram_graph.specs.declared.paths.Way.{Way}
 use Rattle.diagram_graph.specs.declared.paths.Way.TheVariants.{Down, Up}
 use Rattle.diagram_graph.specs.Paths.{unmarked, Step, LeadsFrom, Adds, ClosedAt, ClosedInto, IsFollowed}
 
-pub path_then : {Arc : ℕ → ℕ → Type 0} (z m : ℕ) → IsPath Arc z m → (a : ℕ) → IsPath Arc m a → IsPath Arc z a
+pub path_then : {Arc : ℕ → ℕ → Type 0} (z m : ℕ) → IsPath Arc m z → (a : ℕ) → IsPath Arc a m → IsPath Arc a z
 path_then z m q a Here = q
 path_then z m q a (Along {v = b} h p) = Along h (path_then z m q b p)
 
 -- a set that is closed holds all that paths lead to from it
-pub path_marked : {Arc : ℕ → ℕ → Type 0} {Set : ℕ → Type 0} → ((a b : ℕ) → Arc a b → Set a → Set b) → (v from : ℕ) → IsPath Arc v from → Set from → Set v
+pub path_marked : {Arc : ℕ → ℕ → Type 0} {Set : ℕ → Type 0} → ((a b : ℕ) → Arc a b → Set a → Set b) → (v from : ℕ) → IsPath Arc from v → Set from → Set v
 path_marked c v from Here s = s
 path_marked c v from (Along {v = b} h p) s = path_marked c v b p (c from b h s)
 
@@ -86,7 +86,7 @@ closed_steps nodes Down marks h a b s = h b (head_within nodes a b s) a s
 closed_steps nodes Up marks h a b s = h a (head_within nodes b a s) b s
 
 -- a path read from its other end
-pub path_turn : (R : ℕ → ℕ → Type 0) (to from : ℕ) → IsPath R to from → IsPath (λ a b. R b a) from to
+pub path_turn : (R : ℕ → ℕ → Type 0) (to from : ℕ) → IsPath R from to → IsPath (λ a b. R b a) to from
 path_turn R to from Here = Here
 path_turn R to from (Along {v = b} h p) =
-    let step : IsPath (λ a b. R b a) from b = Along h Here in path_then from b step to (path_turn R to b p)
+    let step : IsPath (λ a b. R b a) b from = Along h Here in path_then from b step to (path_turn R to b p)

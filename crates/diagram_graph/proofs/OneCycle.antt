@@ -5,7 +5,7 @@ use Rattle.std.proofs.lemmas.List.{take_all, take_more_same}
 use Rattle.std.proofs.lemmas.Grind.{same_number_lists}
 use Rattle.maid_model.specs.Placing.{IsLeast, Remains, CanPlace, IsPlacing}
 use Rattle.diagram_graph.specs.Needs.{needs_of, NeedsItem}
-use Rattle.diagram_graph.specs.Rounds.{IsFirstLeft, IsTrail, IsRound}
+use Rattle.diagram_graph.specs.Rounds.{IsFirstLeft, IsListedTrail, IsListedRound}
 use Rattle.diagram_graph.specs.Cycles.{ListedArc}
 use Rattle.diagram_graph.specs.Laws.{CycleLeadsBack, OneCycle}
 use Rattle.diagram_graph.proofs.Rings.{round_ring}
@@ -59,7 +59,7 @@ module _ (Item : ℕ → Type 0) (Needs : ℕ → ℕ → Type 0) where
 
 module _ (Left : ℕ → Type 0) (lists : List (List ℕ)) where
   -- two trails go the same way as far as both go
-  trails_agree : (t u : List ℕ) → IsTrail Left lists t → IsTrail Left lists u → (k : ℕ) → k < length t → k < length u → get_or t k 0 ≡ get_or u k 0
+  trails_agree : (t u : List ℕ) → IsListedTrail Left lists t → IsListedTrail Left lists u → (k : ℕ) → k < length t → k < length u → get_or t k 0 ≡ get_or u k 0
   trails_agree t u ht hu zero l m = least_once Left (get_or t 0 0) (get_or u 0 0) (ht.first l) (hu.first m)
   trails_agree t u ht hu (suc k) l m =
       let lt : k + 1 < length t = omega arith in
@@ -71,7 +71,7 @@ module _ (Left : ℕ → Type 0) (lists : List (List ℕ)) where
       (subst (λ v. IsFirstLeft Left (needs_of lists v) (get_or t (k + 1) 0)) same (ht.next k lt)) (hu.next k lu))
 
   -- a trail that has come back doesn't go on to another item
-  trail_longer : (c d : List ℕ) (h : IsRound Left lists c) (k : IsRound Left lists d) → length h.trail < length k.trail → ⊥
+  trail_longer : (c d : List ℕ) (h : IsListedRound Left lists c) (k : IsListedRound Left lists d) → length h.trail < length k.trail → ⊥
   trail_longer c d h k l =
       let within = h.within in
       let last = length h.trail - 1 in
@@ -81,7 +81,7 @@ module _ (Left : ℕ → Type 0) (lists : List (List ℕ)) where
       (subst (λ v. IsFirstLeft Left (needs_of lists v) (get_or h.trail h.back 0)) same h.closes) (k.is_trail.next last behind) in
       k.is_trail.distinct h.back (last + 1) (omega arith) behind (sym (trails_agree h.trail k.trail h.is_trail k.is_trail h.back within (omega arith)) ∙ goes)
 
-  trail_once : (c d : List ℕ) (h : IsRound Left lists c) (k : IsRound Left lists d) → h.trail ≡ k.trail
+  trail_once : (c d : List ℕ) (h : IsListedRound Left lists c) (k : IsListedRound Left lists d) → h.trail ≡ k.trail
   trail_once c d h k = elim (cases_lt (length h.trail) (length k.trail)) as (λ _. h.trail ≡ k.trail) [
     | inl l ↦ absurd (trail_longer c d h k l)
     | inr g ↦ elim (cases_lt (length k.trail) (length h.trail)) as (λ _. h.trail ≡ k.trail) [
@@ -91,17 +91,17 @@ module _ (Left : ℕ → Type 0) (lists : List (List ℕ)) where
   ]
 
   -- different items of a trail stand at different places
-  back_once : (t : List ℕ) → IsTrail Left lists t → (a b : ℕ) → a < length t → b < length t → get_or t a 0 ≡ get_or t b 0 → a ≡ b
+  back_once : (t : List ℕ) → IsListedTrail Left lists t → (a b : ℕ) → a < length t → b < length t → get_or t a 0 ≡ get_or t b 0 → a ≡ b
   back_once t h a b la lb e = elim (cases_lt a b) as (λ _. a ≡ b) [
     | inl l ↦ absurd (h.distinct a b l lb e)
     | inr g ↦ elim (cases_lt b a) as (λ _. a ≡ b) [ inl l ↦ absurd (h.distinct b a l la (sym e)) | inr m ↦ omega arith ]
   ]
 
-  same_trail_once : (t : List ℕ) → IsTrail Left lists t → (a b : ℕ) → a < length t → b < length t →
+  same_trail_once : (t : List ℕ) → IsListedTrail Left lists t → (a b : ℕ) → a < length t → b < length t →
       IsFirstLeft Left (needs_of lists (get_or t (length t - 1) 0)) (get_or t a 0) → IsFirstLeft Left (needs_of lists (get_or t (length t - 1) 0)) (get_or t b 0) → a ≡ b
   same_trail_once t h a b la lb ha hb = back_once t h a b la lb (first_left_once Left (needs_of lists (get_or t (length t - 1) 0)) (get_or t a 0) (get_or t b 0) ha hb)
 
-  round_once : (c d : List ℕ) → IsRound Left lists c → IsRound Left lists d → c ≡ d
+  round_once : (c d : List ℕ) → IsListedRound Left lists c → IsListedRound Left lists d → c ≡ d
   round_once c d h k =
       let trails = trail_once c d h k in
       let backs = same_trail_once h.trail h.is_trail h.back k.back h.within
@@ -113,4 +113,4 @@ pub one_cycle : OneCycle
 one_cycle lists cycle other h k =
     let Item : ℕ → Type 0 = λ v. v < length lists in
     let same = placing_once Item (NeedsItem lists) h.placed k.placed h.placing k.placing h.stuck k.stuck in
-    round_once (Remains Item k.placed) lists cycle other (subst (λ (p : List ℕ). IsRound (Remains Item p) lists cycle) same h.round) k.round
+    round_once (Remains Item k.placed) lists cycle other (subst (λ (p : List ℕ). IsListedRound (Remains Item p) lists cycle) same h.round) k.round

@@ -9,7 +9,7 @@ use Rattle.maid_model.specs.Nodes.{no_node}
 use Rattle.maid_model.specs.Graph.{Arc, IsPath, Here, Along, IsAcyclic}
 use Rattle.maid_model.specs.Placing.{Remains, CanPlace, IsPlacing, IsOrder}
 use Rattle.diagram_graph.specs.Needs.{IsIn, needs_of, NeedsItem}
-use Rattle.diagram_graph.specs.Rounds.{IsFirstCycle, IsRing}
+use Rattle.diagram_graph.specs.Rounds.{IsFirstCycle, IsRingOfNeeds}
 use Rattle.diagram_graph.proofs.Placings.{least_same}
 use Rattle.diagram_graph.proofs.Trails.{round_same}
 use Rattle.diagram_graph.proofs.Rings.{order_acyclic, ring_descends}
@@ -59,12 +59,12 @@ pub order_no_cycle : (lists : List (List ℕ)) (order : List ℕ) → IsOrder (�
 order_no_cycle lists order h v (next, arc, path) =
     order_acyclic (λ v. v < length lists) (NeedsItem lists) order h.placing next (h.complete next (needs_within lists next v arc)) (v, arc, path_turn (λ u v. NeedsItem lists v u) v next path)
 
-path_map : (R S : ℕ → ℕ → Type 0) → ((a b : ℕ) → R a b → S a b) → (to from : ℕ) → IsPath R to from → IsPath S to from
+path_map : (R S : ℕ → ℕ → Type 0) → ((a b : ℕ) → R a b → S a b) → (to from : ℕ) → IsPath R from to → IsPath S from to
 path_map R S f to from Here = Here
 path_map R S f to from (Along {v = b} h p) = Along (f from b h) (path_map R S f to b p)
 
 -- a ring of needs leads back along arcs
-pub ring_leads_back : (Arc Needs : ℕ → ℕ → Type 0) → ((v e : ℕ) → Needs v e → Arc e v) → (ring : List ℕ) → IsRing Needs ring → IsAcyclic Arc → ⊥
+pub ring_leads_back : (Arc Needs : ℕ → ℕ → Type 0) → ((v e : ℕ) → Needs v e → Arc e v) → (ring : List ℕ) → IsRingOfNeeds Needs ring → IsAcyclic Arc → ⊥
 ring_leads_back Arc Needs f ring h acyclic =
     let d = ring_descends Needs ring h in
     let first = get_or ring 0 0 in

@@ -9,7 +9,7 @@ use Rattle.std.specs.Prelude.{Bool}
 use Rattle.diagram_graph.specs.Needs.{IsIn, NeedsItem}
 use Rattle.diagram_graph.specs.Free.{NeedsItems}
 use Rattle.diagram_graph.specs.Placed.{IsCycleOf}
-use Rattle.diagram_graph.specs.Rounds.{IsFirstLeft, IsRound, IsFirstCycle, IsRing}
+use Rattle.diagram_graph.specs.Rounds.{IsFirstLeft, IsListedRound, IsFirstCycle, IsRingOfNeeds}
 
 module _ (Item : ℕ → Type 0) (Needs : ℕ → ℕ → Type 0) (order : List ℕ) (placing : IsPlacing Item Needs order) where
   -- what an item in the order needs stands before it
@@ -19,7 +19,7 @@ module _ (Item : ℕ → Type 0) (Needs : ℕ → ℕ → Type 0) (order : List 
       let lj : j < k = omega arith in
       (j, lj, sym (get_or-take k order j 0 lj) ∙ (get_or_default (take k order) j 0 e lt ∙ q))
 
-  path_before : (t a : ℕ) → IsPath Needs t a → (k : ℕ) → k < length order → get_or order k 0 ≡ a → (j : ℕ) × (j ≤ k) × (get_or order j 0 ≡ t)
+  path_before : (t a : ℕ) → IsPath Needs a t → (k : ℕ) → k < length order → get_or order k 0 ≡ a → (j : ℕ) × (j ≤ k) × (get_or order j 0 ≡ t)
   path_before t a Here k l e = (k, omega arith, e)
   path_before t a (Along {v = b} n p) k l e =
       let h = before k l b ((placing k l).0.1 b (subst (λ x. Needs x b) (sym e) n)) in
@@ -44,8 +44,8 @@ module _ (Item : ℕ → Type 0) (Needs : ℕ → ℕ → Type 0) (order : List 
 pub first_needed : (Left : ℕ → Type 0) (list : List ℕ) (e : ℕ) → IsFirstLeft Left list e → Contains list e
 first_needed Left list e h = (h.0, h.1, sym (get_or_default list h.0 0 e h.1) ∙ h.2)
 
-pub round_ring : (Left : ℕ → Type 0) (lists : List (List ℕ)) (cycle : List ℕ) → IsRound Left lists cycle → IsRing (NeedsItem lists) cycle
-round_ring Left lists cycle h = subst (λ (xs : List ℕ). IsRing (NeedsItem lists) xs) (sym h.is) (record {
+pub round_ring : (Left : ℕ → Type 0) (lists : List (List ℕ)) (cycle : List ℕ) → IsListedRound Left lists cycle → IsRingOfNeeds (NeedsItem lists) cycle
+round_ring Left lists cycle h = subst (λ (xs : List ℕ). IsRingOfNeeds (NeedsItem lists) xs) (sym h.is) (record {
   some = let l = h.within in let n = length-drop h.back h.trail in omega arith;
   next = λ k l. let n = length-drop h.back h.trail in
       rw (get_or-drop h.back h.trail k 0, get_or-drop h.back h.trail (k + 1) 0)
@@ -63,18 +63,18 @@ round_ring Left lists cycle h = subst (λ (xs : List ℕ). IsRing (NeedsItem lis
     next_place b k = omega arith
 
 -- each item of a ring descends to its first
-ring_back : (Needs : ℕ → ℕ → Type 0) (ring : List ℕ) → IsRing Needs ring → (n k : ℕ) → (k + n) + 1 ≡ length ring → Descends Needs (get_or ring k 0) (get_or ring 0 0)
+ring_back : (Needs : ℕ → ℕ → Type 0) (ring : List ℕ) → IsRingOfNeeds Needs ring → (n k : ℕ) → (k + n) + 1 ≡ length ring → Descends Needs (get_or ring k 0) (get_or ring 0 0)
 ring_back Needs ring h zero k e =
     let last : length ring - 1 ≡ k = omega arith in
     (get_or ring 0 0, subst (λ i. Needs (get_or ring i 0) (get_or ring 0 0)) last h.closes, Here)
 ring_back Needs ring h (suc n) k e =
     let r = ring_back Needs ring h n (k + 1) (omega arith) in (get_or ring (k + 1) 0, h.next k (omega arith), Along r.1 r.2)
 
-pub ring_descends : (Needs : ℕ → ℕ → Type 0) (ring : List ℕ) → IsRing Needs ring → Descends Needs (get_or ring 0 0) (get_or ring 0 0)
+pub ring_descends : (Needs : ℕ → ℕ → Type 0) (ring : List ℕ) → IsRingOfNeeds Needs ring → Descends Needs (get_or ring 0 0) (get_or ring 0 0)
 ring_descends Needs ring h = let l = h.some in ring_back Needs ring h (length ring - 1) 0 (omega arith)
 
 -- each item of a ring is needed
-ring_needed : (Needs : ℕ → ℕ → Type 0) (ring : List ℕ) → IsRing Needs ring → (k : ℕ) → k < length ring → (v : ℕ) × Needs v (get_or ring k 0)
+ring_needed : (Needs : ℕ → ℕ → Type 0) (ring : List ℕ) → IsRingOfNeeds Needs ring → (k : ℕ) → k < length ring → (v : ℕ) × Needs v (get_or ring k 0)
 ring_needed Needs ring h zero l = (get_or ring (length ring - 1) 0, h.closes)
 ring_needed Needs ring h (suc k) l = (get_or ring k 0, subst (λ i. Needs (get_or ring k 0) (get_or ring i 0)) (omega arith) (h.next k (omega arith)))
 

@@ -6,12 +6,12 @@ use Rattle.std.proofs.lemmas.List.{get_or_append_left, get_or_at, length_push}
 use Rattle.std.proofs.lemmas.List.Elements.{Contains-get_or}
 use Rattle.maid_model.specs.Placing.{IsLeast}
 use Rattle.diagram_graph.specs.Needs.{needs_of}
-use Rattle.diagram_graph.specs.Rounds.{IsFirstLeft, IsTrail, IsRound}
+use Rattle.diagram_graph.specs.Rounds.{IsFirstLeft, IsListedTrail, IsListedRound}
 use Rattle.diagram_graph.proofs.Placings.{least_same}
 
 -- a trail, and the node to which it leads next
 pub record IsWalking (Left : ℕ → Type 0) (lists : List (List ℕ)) (trail : List ℕ) (at : ℕ) : Type 0 where
-  pub trail_ok : IsTrail Left lists trail
+  pub trail_ok : IsListedTrail Left lists trail
   pub left : Left at
   pub begins : length trail ≡ 0 → IsLeast Left at
   pub goes_on : 0 < length trail → IsFirstLeft Left (needs_of lists (get_or trail (length trail - 1) 0)) at
@@ -40,7 +40,7 @@ module _ (Left : ℕ → Type 0) (lists : List (List ℕ)) where
   push_first trail at h (inr b) =
       let e : length trail ≡ 0 = omega arith in rw (get_or_at trail at [] 0 0 e) (h.begins e)
 
-  push_distinct : (trail : List ℕ) (at : ℕ) → IsTrail Left lists trail → (Contains trail at → ⊥) → (i j : ℕ) → i < j → j < length (trail ++ at ∷ []) → (j < length trail) ⊎ (length trail ≤ j) →
+  push_distinct : (trail : List ℕ) (at : ℕ) → IsListedTrail Left lists trail → (Contains trail at → ⊥) → (i j : ℕ) → i < j → j < length (trail ++ at ∷ []) → (j < length trail) ⊎ (length trail ≤ j) →
       get_or (trail ++ at ∷ []) i 0 ≡ get_or (trail ++ at ∷ []) j 0 → ⊥
   push_distinct trail at h new i j l m (inl a) e =
       h.distinct i j l a (sym (get_or_append_left trail (at ∷ []) 0 i (omega arith)) ∙ (e ∙ get_or_append_left trail (at ∷ []) 0 j a))
@@ -64,7 +64,7 @@ module _ (Left : ℕ → Type 0) (lists : List (List ℕ)) where
         rw (get_or_at trail at [] 0 (length (trail ++ at ∷ []) - 1) last) least;
   }
 
-  pub round_from : (trail : List ℕ) (at back : ℕ) → IsWalking Left lists trail at → back < length trail → get_or trail back 0 ≡ at → IsRound Left lists (drop back trail)
+  pub round_from : (trail : List ℕ) (at back : ℕ) → IsWalking Left lists trail at → back < length trail → get_or trail back 0 ≡ at → IsListedRound Left lists (drop back trail)
   round_from trail at back h l e = record {
     trail = trail;
     back = back;
@@ -75,7 +75,7 @@ module _ (Left : ℕ → Type 0) (lists : List (List ℕ)) where
   }
 
 -- a round depends only on which items are left
-pub round_same : (P Q : ℕ → Type 0) (lists : List (List ℕ)) → ((x : ℕ) → P x ↔ Q x) → (cycle : List ℕ) → IsRound P lists cycle → IsRound Q lists cycle
+pub round_same : (P Q : ℕ → Type 0) (lists : List (List ℕ)) → ((x : ℕ) → P x ↔ Q x) → (cycle : List ℕ) → IsListedRound P lists cycle → IsListedRound Q lists cycle
 round_same P Q lists f cycle h = record {
   trail = h.trail;
   back = h.back;

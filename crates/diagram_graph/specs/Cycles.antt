@@ -5,8 +5,8 @@ use Rattle.diagram_graph.specs.Needs.{NeedsItem}
 use Rattle.diagram_graph.specs.Rounds.{IsFirstCycle}
 
 -- the lists as plain lists
-abbrev pub rows_of : List (Vec ℕ Global) → List (List ℕ)
-rows_of rows = map (λ row. row.items) rows
+abbrev pub lists_in : List (Vec ℕ Global) → List (List ℕ)
+lists_in rows = map (λ row. row.items) rows
 
 -- an arc leads from u to v: u stands in v's list
 abbrev pub ListedArc : List (List ℕ) → ℕ → ℕ → Type 0

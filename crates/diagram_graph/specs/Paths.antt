@@ -16,7 +16,7 @@ Step nodes Up a b = Arc nodes b a
 
 -- steps lead to v from a node of the set
 abbrev pub LeadsFrom : (ℕ → ℕ → Type 0) → (ℕ → Type 0) → ℕ → Type 0
-LeadsFrom Step Set v = (from : ℕ) × Set from × IsPath Step v from
+LeadsFrom Step Set v = (from : ℕ) × Set from × IsPath Step from v
 
 -- the set gains exactly the nodes with the property Add; `changed` tells whether that is any
 pub record Adds (Add : ℕ → Type 0) (old new : List Bool) (changed : Bool) : Type 0 where

@@ -2,7 +2,7 @@
 use Rattle.std.specs.Prelude.{ℕ, Bool, List, Contains}
 use Rattle.maid_model.specs.Placing.{IsOrder}
 use Rattle.diagram_graph.specs.Needs.{IsIn, NeedsItem}
-use Rattle.diagram_graph.specs.Rounds.{IsFirstCycle, IsRing}
+use Rattle.diagram_graph.specs.Rounds.{IsFirstCycle, IsRingOfNeeds}
 use Rattle.diagram_graph.specs.declared.placing.Placing.{Placing}
 use Rattle.diagram_graph.specs.declared.placing.Placing.TheVariants.{Order, Cycle}
 
@@ -13,7 +13,7 @@ IsOrderOf lists items order = IsOrder (IsIn items) (NeedsItem lists) order
 -- a first cycle, which is a ring of items that need one another, so that no order has them all
 pub record IsCycleOf (lists : List (List ℕ)) (items : List Bool) (cycle : List ℕ) : Type 0 where
   pub first : IsFirstCycle (IsIn items) lists cycle
-  pub ring : IsRing (NeedsItem lists) cycle
+  pub ring : IsRingOfNeeds (NeedsItem lists) cycle
   pub all_items : (v : ℕ) → Contains cycle v → IsIn items v
   pub no_order : (order : List ℕ) → IsOrderOf lists items order → ⊥
 

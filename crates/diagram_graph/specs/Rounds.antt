@@ -9,16 +9,16 @@ IsFirstLeft Left list e =
     (place : ℕ) × (place < length list) × (slice_index list place ≡ e) × Left e × ((k : ℕ) → k < place → Left (slice_index list k) → ⊥)
 
 -- from the first item that is left, each time to the first of the last one's needs that is left
-pub record IsTrail (Left : ℕ → Type 0) (lists : List (List ℕ)) (trail : List ℕ) : Type 0 where
+pub record IsListedTrail (Left : ℕ → Type 0) (lists : List (List ℕ)) (trail : List ℕ) : Type 0 where
   pub first : 0 < length trail → IsLeast Left (slice_index trail 0)
   pub next : (k : ℕ) → k + 1 < length trail → IsFirstLeft Left (needs_of lists (slice_index trail k)) (slice_index trail (k + 1))
   pub distinct : (i j : ℕ) → i < j → j < length trail → slice_index trail i ≡ slice_index trail j → ⊥
 
 -- the trail comes back to its place `back`, and the cycle is its rest from there
-pub record IsRound (Left : ℕ → Type 0) (lists : List (List ℕ)) (cycle : List ℕ) : Type 0 where
+pub record IsListedRound (Left : ℕ → Type 0) (lists : List (List ℕ)) (cycle : List ℕ) : Type 0 where
   pub trail : List ℕ
   pub back : ℕ
-  pub is_trail : IsTrail Left lists trail
+  pub is_trail : IsListedTrail Left lists trail
   pub within : back < length trail
   pub closes : IsFirstLeft Left (needs_of lists (slice_index trail (length trail - 1))) (slice_index trail back)
   pub is : cycle ≡ drop back trail
@@ -28,10 +28,10 @@ pub record IsFirstCycle (Item : ℕ → Type 0) (lists : List (List ℕ)) (cycle
   pub placed : List ℕ
   pub placing : IsPlacing Item (NeedsItem lists) placed
   pub stuck : (v : ℕ) → CanPlace Item (NeedsItem lists) placed v → ⊥
-  pub round : IsRound (Remains Item placed) lists cycle
+  pub round : IsListedRound (Remains Item placed) lists cycle
 
 -- different items, each of which needs the next, and the last the first
-pub record IsRing (Needs : ℕ → ℕ → Type 0) (ring : List ℕ) : Type 0 where
+pub record IsRingOfNeeds (Needs : ℕ → ℕ → Type 0) (ring : List ℕ) : Type 0 where
   pub some : 0 < length ring
   pub next : (k : ℕ) → k + 1 < length ring → Needs (slice_index ring k) (slice_index ring (k + 1))
   pub closes : Needs (slice_index ring (length ring - 1)) (slice_index ring 0)

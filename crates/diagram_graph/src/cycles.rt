@@ -2,8 +2,8 @@ ghost use Rattle.std.specs.Prelude.{◌≡◌, ℕ, ◌<◌, length, IfOk, IfSom
 ghost use Rattle.maid_model.specs.Graph.{Arc, IsAcyclic};
 ghost use Rattle.maid_model.specs.Placing.{IsOrder};
 ghost use Rattle.diagram_graph.specs.Needs.{NeedsItem};
-ghost use Rattle.diagram_graph.specs.Rounds.{IsRing};
-ghost use Rattle.diagram_graph.specs.Cycles.{rows_of, ListedArc, IsParentCycle};
+ghost use Rattle.diagram_graph.specs.Rounds.{IsRingOfNeeds};
+ghost use Rattle.diagram_graph.specs.Cycles.{lists_in, ListedArc, IsParentCycle};
 
 use crate::placing::{Placing, place_all};
 use maid_model::Diagram;
@@ -26,9 +26,9 @@ pub fn topological(alloc: Global, diagram: &Diagram) -> Result<Vec<usize>, Alloc
 /// first remaining parent in the node's own list; the cycle is the list from the first visit of the node that comes
 /// twice. It goes over all nodes once for each node.
 pub fn first_cycle(alloc: Global, parents: &[Vec<usize>]) -> Result<Option<Vec<usize>>, AllocError>
-    requires { (u v : ℕ) → ListedArc (rows_of parents.now) u v → u < length parents.now }
-    ensures cycle { IfOk result (λ found. MatchOption found (IsAcyclic (ListedArc (rows_of parents.now))) (λ cycle. IsParentCycle (rows_of parents.now) cycle.items)) }
-    ensures ring { IfOk result (λ found. IfSome found (λ cycle. IsRing (NeedsItem (rows_of parents.now)) cycle.items)) }
+    requires { (u v : ℕ) → ListedArc (lists_in parents.now) u v → u < length parents.now }
+    ensures cycle { IfOk result (λ found. MatchOption found (IsAcyclic (ListedArc (lists_in parents.now))) (λ cycle. IsParentCycle (lists_in parents.now) cycle.items)) }
+    ensures ring { IfOk result (λ found. IfSome found (λ cycle. IsRingOfNeeds (NeedsItem (lists_in parents.now)) cycle.items)) }
 {
     let nodes = vec![in alloc; true; parents.len()]?;
     match place_all(alloc, &parents, &nodes)? {

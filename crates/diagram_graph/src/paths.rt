@@ -145,7 +145,7 @@ fn mark_below(diagram: &Diagram, of: usize, marks: &mut [bool])
     requires of { of < length diagram.now.nodes }
     requires len { length marks.old ≡ length diagram.now.nodes }
     requires none { (v : ℕ) → IsIn marks.old v → ⊥ }
-    ensures { (v : ℕ) → IsIn marks.new v ↔ IsPath (Arc diagram.now.nodes) v of }
+    ensures { (v : ℕ) → IsIn marks.new v ↔ IsPath (Arc diagram.now.nodes) of v }
 {
     marks[of] = true;
     follow(diagram, Way::Down, marks);
@@ -156,7 +156,7 @@ fn mark_above(diagram: &Diagram, of: &[usize], marks: &mut [bool])
     requires of { (v : ℕ) → Contains of.now v → v < length diagram.now.nodes }
     requires len { length marks.old ≡ length diagram.now.nodes }
     requires none { (v : ℕ) → IsIn marks.old v → ⊥ }
-    ensures { (v : ℕ) → IsIn marks.new v ↔ ((to : ℕ) × Contains of.now to × IsPath (Arc diagram.now.nodes) to v) }
+    ensures { (v : ℕ) → IsIn marks.new v ↔ ((to : ℕ) × Contains of.now to × IsPath (Arc diagram.now.nodes) v to) }
 {
     mark_all(of, marks);
     follow(diagram, Way::Up, marks);
@@ -167,7 +167,7 @@ fn mark_above(diagram: &Diagram, of: &[usize], marks: &mut [bool])
 pub fn descendants(alloc: Global, diagram: &Diagram, of: usize) -> Result<Vec<bool>, AllocError>
     requires { of < length diagram.now.nodes }
     ensures count { IfOk result (λ marks. length marks.items ≡ length diagram.now.nodes) }
-    ensures below { IfOk result (λ marks. (v : ℕ) → IsIn marks.items v ↔ IsPath (Arc diagram.now.nodes) v of) }
+    ensures below { IfOk result (λ marks. (v : ℕ) → IsIn marks.items v ↔ IsPath (Arc diagram.now.nodes) of v) }
 {
     let mut marks = vec![in alloc; false; diagram.count()]?;
     mark_below(diagram, of, &mut marks);
@@ -179,7 +179,7 @@ pub fn descendants(alloc: Global, diagram: &Diagram, of: usize) -> Result<Vec<bo
 pub fn ancestors(alloc: Global, diagram: &Diagram, of: &[usize]) -> Result<Vec<bool>, AllocError>
     requires { (v : ℕ) → Contains of.now v → v < length diagram.now.nodes }
     ensures count { IfOk result (λ marks. length marks.items ≡ length diagram.now.nodes) }
-    ensures above { IfOk result (λ marks. (v : ℕ) → IsIn marks.items v ↔ ((to : ℕ) × Contains of.now to × IsPath (Arc diagram.now.nodes) to v)) }
+    ensures above { IfOk result (λ marks. (v : ℕ) → IsIn marks.items v ↔ ((to : ℕ) × Contains of.now to × IsPath (Arc diagram.now.nodes) v to)) }
 {
     let mut marks = vec![in alloc; false; diagram.count()]?;
     mark_above(diagram, of, &mut marks);

@@ -4,7 +4,7 @@ ghost use Rattle.std.specs.Prelude.{◌≡◌, ◌<◌, ◌++◌, All, OnOk, len
 ghost use Rattle.maid_model.specs.Names.{name_of};
 ghost use Rattle.maid_model.specs.Reports.{spaced};
 
-use net_build::Names;
+use maid_model::Names;
 use std::alloc::AllocError;
 
 /// Appends each node's name after one space.

@@ -1,7 +1,8 @@
 -- Bytes come to one status.
 use Rattle.std.proofs.Common.{◌≡◌, ◌≤◌, inl, inr, ℕ, List, None, refl, subst, arith}
-use Rattle.maid_model.specs.Bounds.{KeepsBound, leaves, most_leaves}
+use Rattle.maid_model.specs.Bounds.{KeepsBound, world_count, most_worlds}
 use Rattle.maid_model.specs.Names.{NamesView}
+use Rattle.maid_model.specs.Placing.{HasRelianceOrder}
 use Rattle.maid_model.specs.Views.{DiagramView}
 use Rattle.net_build.specs.Building.{StandsFor}
 use Rattle.net_build.specs.Laws as building
@@ -20,7 +21,7 @@ use Rattle.maid_app.specs.Laws.{OneStatus, RefusedForBytes}
 use Rattle.maid_app.specs.Outcome.{Outcome, text, refused, status_with}
 use Rattle.maid_app.specs.Print.{Prints, HasPrint}
 use Rattle.maid_app.specs.Request.{solve, graph, print}
-use Rattle.maid_app.specs.Solve.{Solves, Reports, TellsCycle, TellsBound, TellsNotBuilt, HasOrder}
+use Rattle.maid_app.specs.Solve.{Solves, Reports, TellsCycle, TellsBound, TellsNotBuilt}
 use Rattle.maid_app.specs.declared.status.Status.{Status}
 use Rattle.maid_app.specs.declared.status.Status.TheVariants.{Done, Usage, Absent, ReadFault, TextTooLong, TextFault, Cycle, WeightBound, TooLarge, WriteFault, NoMemory, Rejected, UnknownAgent, NotBuilt}
 
@@ -83,25 +84,25 @@ kind_of name bytes (refused UnknownAgent told) is = absurd is
 along : Laws → (bytes : List ℕ) (d other : DiagramView) (names others : NamesView) (P : DiagramView → Type 0) → IsDiagramOf bytes d names → IsDiagramOf bytes other others → P d → P other
 along laws bytes d other names others P has has' h = subst P (same_diagram laws bytes d other names others has has') h
 
-ordered : (bytes printed : List ℕ) (r : Reports bytes printed) → HasOrder r.d
+ordered : (bytes printed : List ℕ) (r : Reports bytes printed) → HasRelianceOrder r.d.nodes
 ordered bytes printed r = (r.has_report.solved.order, r.has_report.is_answer.order)
 
 no_both : Laws → (bytes a b : List ℕ) → Reports bytes a → TellsCycle bytes b → ⊥
-no_both laws bytes a b x y = y.no_order (along laws bytes x.d y.d x.names y.names HasOrder x.is_diagram y.is_diagram (ordered bytes a x))
+no_both laws bytes a b x y = y.no_order (along laws bytes x.d y.d x.names y.names (λ d. HasRelianceOrder d.nodes) x.is_diagram y.is_diagram (ordered bytes a x))
 
 no_report_bound : Laws → (bytes a b : List ℕ) → Reports bytes a → TellsBound bytes b → ⊥
 no_report_bound laws bytes a b x y = y.passed (along laws bytes x.d y.d x.names y.names KeepsBound x.is_diagram y.is_diagram x.bound)
 
 no_report_many : Laws → (bytes a b : List ℕ) → Reports bytes a → TellsNotBuilt bytes b → ⊥
 no_report_many laws bytes a b x y =
-    let few : leaves y.d.nodes ≤ most_leaves = along laws bytes x.d y.d x.names y.names (λ d. leaves d.nodes ≤ most_leaves) x.is_diagram y.is_diagram x.few in
+    let few : world_count y.d.nodes ≤ most_worlds = along laws bytes x.d y.d x.names y.names (λ d. world_count d.nodes ≤ most_worlds) x.is_diagram y.is_diagram x.few in
     let many = y.many in omega (arith, few, many)
 
 no_cycle_bound : Laws → (bytes a b : List ℕ) → TellsCycle bytes a → TellsBound bytes b → ⊥
-no_cycle_bound laws bytes a b x y = x.no_order (along laws bytes y.d x.d y.names x.names HasOrder y.is_diagram x.is_diagram y.order)
+no_cycle_bound laws bytes a b x y = x.no_order (along laws bytes y.d x.d y.names x.names (λ d. HasRelianceOrder d.nodes) y.is_diagram x.is_diagram y.order)
 
 no_cycle_many : Laws → (bytes a b : List ℕ) → TellsCycle bytes a → TellsNotBuilt bytes b → ⊥
-no_cycle_many laws bytes a b x y = x.no_order (along laws bytes y.d x.d y.names x.names HasOrder y.is_diagram x.is_diagram y.order)
+no_cycle_many laws bytes a b x y = x.no_order (along laws bytes y.d x.d y.names x.names (λ d. HasRelianceOrder d.nodes) y.is_diagram x.is_diagram y.order)
 
 no_bound_many : Laws → (bytes a b : List ℕ) → TellsBound bytes a → TellsNotBuilt bytes b → ⊥
 no_bound_many laws bytes a b x y = x.passed (along laws bytes y.d x.d y.names x.names KeepsBound y.is_diagram x.is_diagram y.bound)

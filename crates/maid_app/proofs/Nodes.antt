@@ -14,7 +14,7 @@ use Rattle.maid_model.specs.Views.{NodeView}
 use Rattle.relevance_graph.specs.Relevant.{IsRelevance, IsOutcome}
 use Rattle.relevance_graph.specs.Views.{RelevanceView, relied_on_by}
 use Rattle.maid_app.specs.Graph.{relies_line, IsLastLine, OfOrder, OfCycle}
-use Rattle.maid_app.specs.GraphLines.{node_line}
+use Rattle.maid_app.specs.GraphLines.{relies_line_of}
 
 -- an order of solving has decisions alone
 pub order_within : (nodes : List NodeView) (order : List ℕ) → IsRelianceOrder nodes order → All (λ v. v < length nodes) order
@@ -40,14 +40,14 @@ pub relied_within : (nodes : List NodeView) (view : RelevanceView) (v : ℕ) →
 relied_within nodes view v is k d h = ((is.pairs v (get_or (relied_on_by view v) k d)).0 (Contains-get_or (relied_on_by view v) k d h)).on_decision.within
 
 lines_step : (nodes : List NodeView) (names : NamesView) (view : RelevanceView) (v : ℕ) (numbers : List ℕ) (is : Bool) → is_decision (node_at nodes v).kind ≡ is
-    → flat_map (node_line nodes names view) numbers ≡ flat_map (λ u. relies_line names u (relied_on_by view u)) (filter (λ u. is_decision (node_at nodes u).kind) numbers)
-    → flat_map (node_line nodes names view) (v ∷ numbers) ≡ flat_map (λ u. relies_line names u (relied_on_by view u)) (filter (λ u. is_decision (node_at nodes u).kind) (v ∷ numbers))
+    → flat_map (relies_line_of nodes names view) numbers ≡ flat_map (λ u. relies_line names u (relied_on_by view u)) (filter (λ u. is_decision (node_at nodes u).kind) numbers)
+    → flat_map (relies_line_of nodes names view) (v ∷ numbers) ≡ flat_map (λ u. relies_line names u (relied_on_by view u)) (filter (λ u. is_decision (node_at nodes u).kind) (v ∷ numbers))
 lines_step nodes names view v numbers true e rest = rw e (ap (λ bytes. relies_line names v (relied_on_by view v) ++ bytes) rest)
 lines_step nodes names view v numbers false e rest = rw e rest
 
 -- the lines of the decisions, node by node
 pub lines_are : (nodes : List NodeView) (names : NamesView) (view : RelevanceView) (numbers : List ℕ)
-    → flat_map (node_line nodes names view) numbers ≡ flat_map (λ u. relies_line names u (relied_on_by view u)) (filter (λ u. is_decision (node_at nodes u).kind) numbers)
+    → flat_map (relies_line_of nodes names view) numbers ≡ flat_map (λ u. relies_line names u (relied_on_by view u)) (filter (λ u. is_decision (node_at nodes u).kind) numbers)
 lines_are nodes names view [] = refl
 lines_are nodes names view (v ∷ numbers) = lines_step nodes names view v numbers (is_decision (node_at nodes v).kind) refl (lines_are nodes names view numbers)
 

@@ -6,13 +6,13 @@ use Rattle.maid_app.specs.Laws.{OneStatus, RefusedForBytes}
 use Rattle.maid_app.specs.Outcome.{Outcome, text, refused, status_with}
 use Rattle.maid_app.specs.Reading.{RefusesAs, IsOfBytes}
 use Rattle.maid_app.specs.Request.{Request, file_name}
-use Rattle.maid_app.specs.Told.{limit, IsText, IsUnread, HasText, Refuses, Says, IsOneOf}
+use Rattle.maid_app.specs.Told.{limit, IsFileText, IsUnread, HasText, Refuses, Says, IsOneOf}
 use Rattle.maid_app.specs.declared.status.Status.{Status}
 use Rattle.maid_app.specs.declared.status.Status.TheVariants.{Done, Usage, Absent, ReadFault, TextTooLong, TextFault, Cycle, WeightBound, TooLarge, WriteFault, NoMemory, Rejected, UnknownAgent, NotBuilt}
 
 -- what the bytes come to, the run says
 pub says_of_bytes : (list : Option (List File)) (request : Request) (given : ℕ) (bytes : List ℕ) (s : Status) (t : List ℕ)
-    → IsText list (file_name request) given bytes → RefusesAs (Answers request bytes) s t → Says list (Some request) given s t
+    → IsFileText list (file_name request) given bytes → RefusesAs (Answers request bytes) s t → Says list (Some request) given s t
 says_of_bytes list request given bytes Done t is h = absurd h.0
 says_of_bytes list request given bytes Usage t is h = absurd h.0
 says_of_bytes list request given bytes Absent t is h = absurd h.0
@@ -63,7 +63,7 @@ not_of_bytes Comes NotBuilt told h = inl h.0
 not_of_bytes Comes NoMemory told h = inr refl
 
 -- the bytes read are the file's
-same_bytes : (files : List File) (request : Request) (given : ℕ) (bytes read : List ℕ) (o : Outcome) → file_of files (file_name request) ≡ Some bytes → IsText (Some files) (file_name request) given read
+same_bytes : (files : List File) (request : Request) (given : ℕ) (bytes read : List ℕ) (o : Outcome) → file_of files (file_name request) ≡ Some bytes → IsFileText (Some files) (file_name request) given read
     → Answers request read o → Answers request bytes o
 same_bytes files request given bytes read o there is h =
     let P : Option (List ℕ) → Type 0 = λ found. IfSome found (λ b. Answers request b o) in subst P (sym is.told ∙ there) h

@@ -3,7 +3,7 @@ use Rattle.std.proofs.Common.{◌≡◌, ◌∙◌, ℕ, List, [], ◌∷◌, Bo
 use Rattle.std.proofs.Math.Seq.{take-length}
 use Rattle.std.proofs.lemmas.List.Elements.{All-append}
 use Rattle.std.specs.List.{flat_map}
-use Rattle.net_build.specs.Blocks.{node_blocks, names_of, name_of, title, is_node, no_token}
+use Rattle.net_build.specs.Blocks.{node_blocks, names_of, block_name, title, is_node, no_token}
 use Rattle.net_lexer.specs.Token.{IsTokenOf, token_bytes}
 use Rattle.net_lexer.specs.declared.tokens.Token.{Token}
 use Rattle.net_parser.specs.Owned.{IsBlockOf, HasNames}
@@ -14,7 +14,7 @@ use Rattle.maid_app.specs.Words.{node_titles}
 
 names_step : (text : List ℕ) (block : BlockTree) (blocks : List BlockTree) (is : Bool) → is_node block.kind ≡ is → map (token_bytes text) (flat_map node_titles blocks) ≡ names_of text (node_blocks blocks)
     → map (token_bytes text) (flat_map node_titles (block ∷ blocks)) ≡ names_of text (node_blocks (block ∷ blocks))
-names_step text block blocks true e rest = rw e (ap (λ names. name_of text block ∷ names) rest)
+names_step text block blocks true e rest = rw e (ap (λ names. block_name text block ∷ names) rest)
 names_step text block blocks false e rest = rw e rest
 
 -- what the titles say are the names of the node blocks

@@ -1,9 +1,9 @@
 -- What `solve` makes of a file's bytes: the report of the diagram's answer, or the first that applies of the text's fault, the relevance cycle, the weight bound and too many worlds.
 use Rattle.std.specs.Prelude.{◌≡◌, ◌<◌, ◌≤◌, ℕ, List}
 use Rattle.maid_model.specs.Answers.{IsAnswer, pure_profile}
-use Rattle.maid_model.specs.Bounds.{KeepsBound, PassesAt, leaves, most_leaves}
+use Rattle.maid_model.specs.Bounds.{KeepsBound, PassesAt, world_count, most_worlds}
 use Rattle.maid_model.specs.Names.{NamesView}
-use Rattle.maid_model.specs.Placing.{IsRelianceOrder, IsRelianceCycle}
+use Rattle.maid_model.specs.Placing.{HasRelianceOrder, IsRelianceCycle}
 use Rattle.maid_model.specs.Reports.{report}
 use Rattle.maid_model.specs.Subgames.{IsSubgamePerfect, IsOptimal, OwnsAll}
 use Rattle.maid_model.specs.Views.{DiagramView, SolvedView}
@@ -23,17 +23,13 @@ pub record HasReport (d : DiagramView) (names : NamesView) (printed : List ℕ) 
   pub optimal : (agent : ℕ) → OwnsAll d.nodes agent → IsOptimal d.nodes (pure_profile d.nodes solved.answers) agent
   pub worth : KeepsWorth d solved
 
--- all decisions can be placed in an order of solving
-abbrev pub HasOrder : DiagramView → Type 0
-HasOrder d = (order : List ℕ) × IsRelianceOrder d.nodes order
-
 -- the diagram of the bytes keeps the limits, and this is the report of its answer
 pub record Reports (bytes printed : List ℕ) : Type 0 where
   pub d : DiagramView
   pub names : NamesView
   pub is_diagram : IsDiagramOf bytes d names
   pub bound : KeepsBound d
-  pub few : leaves d.nodes ≤ most_leaves
+  pub few : world_count d.nodes ≤ most_worlds
   pub has_report : HasReport d names printed
 
 -- the relevance graph of the diagram has a cycle
@@ -41,7 +37,7 @@ pub record TellsCycle (bytes told : List ℕ) : Type 0 where
   pub d : DiagramView
   pub names : NamesView
   pub is_diagram : IsDiagramOf bytes d names
-  pub no_order : HasOrder d → ⊥
+  pub no_order : HasRelianceOrder d.nodes → ⊥
   pub cycle : List ℕ
   pub is_cycle : IsRelianceCycle d.nodes cycle
   pub says : told ≡ cycle_line names cycle
@@ -56,7 +52,7 @@ pub record TellsBound (bytes told : List ℕ) : Type 0 where
   pub d : DiagramView
   pub names : NamesView
   pub is_diagram : IsDiagramOf bytes d names
-  pub order : HasOrder d
+  pub order : HasRelianceOrder d.nodes
   pub passed : KeepsBound d → ⊥
   pub says : IsBoundLine d names told
 
@@ -65,9 +61,9 @@ pub record TellsNotBuilt (bytes told : List ℕ) : Type 0 where
   pub d : DiagramView
   pub names : NamesView
   pub is_diagram : IsDiagramOf bytes d names
-  pub order : HasOrder d
+  pub order : HasRelianceOrder d.nodes
   pub bound : KeepsBound d
-  pub many : most_leaves < leaves d.nodes
+  pub many : most_worlds < world_count d.nodes
   pub says : told ≡ not_built_line
 
 -- what `solve` makes of the bytes of the file of that name

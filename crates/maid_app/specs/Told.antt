@@ -16,7 +16,7 @@ abbrev pub limit : ℕ
 limit = 4194304
 
 -- These bytes were read of the file and keep the limit. The shelf counted them, and where its list is told they are the file's.
-pub record IsText (list : Option (List File)) (name : List ℕ) (given : ℕ) (bytes : List ℕ) : Type 0 where
+pub record IsFileText (list : Option (List File)) (name : List ℕ) (given : ℕ) (bytes : List ℕ) : Type 0 where
   pub told : IfSome list (λ files. file_of files name ≡ Some bytes)
   pub counted : given ≡ length bytes
   pub fits : length bytes ≤ limit
@@ -33,13 +33,13 @@ IsAbsent list name = IfSome list (λ files. file_of files name ≡ None)
 -- the text is what comes of the request on its file
 pub record HasText (list : Option (List File)) (request : Request) (given : ℕ) (printed : List ℕ) : Type 0 where
   pub bytes : List ℕ
-  pub is_text : IsText list (file_name request) given bytes
+  pub is_text : IsFileText list (file_name request) given bytes
   pub answers : Answers request bytes (text printed)
 
 -- the request comes to nothing on its file's bytes, with that status and that line
 pub record Refuses (list : Option (List File)) (request : Request) (given : ℕ) (status : Status) (told : List ℕ) : Type 0 where
   pub bytes : List ℕ
-  pub is_text : IsText list (file_name request) given bytes
+  pub is_text : IsFileText list (file_name request) given bytes
   pub answers : Answers request bytes (refused status told)
 
 -- why a file's bytes were not had, and the line that says so

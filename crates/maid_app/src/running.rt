@@ -12,7 +12,7 @@ ghost use Rattle.maid_app.specs.Lines.{absent_line};
 ghost use Rattle.maid_app.specs.Reading.{Tells, RefusesAs};
 ghost use Rattle.maid_app.specs.Refusal.{status_of, line_of};
 ghost use Rattle.maid_model.specs.Reports.{line};
-ghost use Rattle.maid_app.specs.Told.{limit, IsText, IsUnread, RefusesFile, Says, HasText, TakesLine, IsBeforeWriting, IsOneOf};
+ghost use Rattle.maid_app.specs.Told.{limit, IsFileText, IsUnread, RefusesFile, Says, HasText, TakesLine, IsBeforeWriting, IsOneOf};
 
 use crate::forms::{Form, form_of, graph, print, solve};
 use crate::laws::one_status;
@@ -37,7 +37,7 @@ fn told(alloc: Global, status: Status, head: &[u8], name: &str) -> Refusal
 
 // The bytes of the file of that name.
 fn read_file<H: Shelf>(alloc: Global, shelf: &mut H, name: &str) -> Result<Vec<u8>, Refusal>
-    ensures ok { IfOk result (λ bytes. IsText (H.list shelf.old) name.now (H.given shelf.new) bytes.items) }
+    ensures ok { IfOk result (λ bytes. IsFileText (H.list shelf.old) name.now (H.given shelf.new) bytes.items) }
     ensures err { IfErr result (λ refusal. IsUnread (H.list shelf.old) name.now (H.given shelf.new) (status_of refusal) (line_of refusal)) }
     ensures absent_cause { IfErr result (λ refusal. status_of refusal ≡ Status.Absent → Rose (H.absences shelf.old) (H.absences shelf.new)) }
     ensures read_cause { IfErr result (λ refusal. status_of refusal ≡ Status.ReadFault → Rose (H.faults shelf.old) (H.faults shelf.new)) }

@@ -4,8 +4,8 @@ use Rattle.maid_model.specs.declared.diagrams.Kind.TheVariants.{Chance, Decision
 use Rattle.maid_model.specs.Views.{NodeView}
 use Rattle.maid_model.specs.Nodes.{IsDecision, node_at, states_of}
 use Rattle.maid_model.specs.Graph.{Arc, Here, IsGraph}
-use Rattle.maid_model.specs.Relevance.{IsLive, IsFixed, IsGoal, ReliesOn}
-use Rattle.maid_model.specs.Walks.{WithArc, WithNode, IsJoined, MeetHeads}
+use Rattle.maid_model.specs.Relevance.{IsLive, IsInFamily, IsGoal, ReliesOn}
+use Rattle.maid_model.specs.Walks.{WithArc, WithNode, IsJoined, IsCollider}
 use Rattle.maid_examples.specs.FollowerLeader as seen
 use Rattle.maid_examples.specs.CopySeen as copy
 use Rattle.maid_examples.specs.NodeBetween as between
@@ -39,7 +39,7 @@ relies nodes d e goal g n kd ke ld le is arc unseen = record {
     heads (inl a) = g.no_utility_parent goal e a is.kind
     heads (inr h) = let l : goal < length nodes = is.within in let s : goal ≡ length nodes = h.0 in omega arith
 
-    given : IsFixed (Arc nodes) d e → ⊥
+    given : IsInFamily (Arc nodes) d e → ⊥
     given (inl f) = n (sym f)
     given (inr a) = unseen a
 
@@ -70,7 +70,7 @@ seen_from_new graph z j = subst (λ x. Turn 4 x) (sym (leader z j)) There
     leader z (inr (inr h)) = let e : ◌≡◌ {A = ℕ} 4 0 = h.1 in absurd (omega arith)
 
 -- the leader is given, so the walk goes on to one of its parents
-seen_closed : IsGraph seen.sight → (x y z : ℕ) → Turn x y → IsJoined SeenArc y z → WithNode (IsLive seen.sight) 4 z → MeetHeads SeenArc x y z ↔ IsFixed (Arc seen.sight) 1 y → Turn y z
+seen_closed : IsGraph seen.sight → (x y z : ℕ) → Turn x y → IsJoined SeenArc y z → WithNode (IsLive seen.sight) 4 z → IsCollider SeenArc x y z ↔ IsInFamily (Arc seen.sight) 1 y → Turn y z
 seen_closed graph x y z There j l m = parent z (m.1 (inr (0, omega arith, refl))).1
   where
     parent : (z : ℕ) → SeenArc z 0 → Turn 0 z
@@ -83,7 +83,7 @@ seen_no_goal goal u There g = let k : Decision ≡ Utility = g.kind in cc
 seen_no_goal goal u Back g = let l : 4 < 4 = g.within in omega arith
 
 seen_not_on_leader : IsGraph seen.sight → ReliesOn seen.sight 1 0 → ⊥
-seen_not_on_leader graph r = elim (end_of_walk SeenArc (WithNode (IsLive seen.sight) 4) (IsFixed (Arc seen.sight) 1) Turn (seen_closed graph) 4 r.goal (λ y j l. seen_from_new graph y j) r.walk) [
+seen_not_on_leader graph r = elim (end_of_walk SeenArc (WithNode (IsLive seen.sight) 4) (IsInFamily (Arc seen.sight) 1) Turn (seen_closed graph) 4 r.goal (λ y j l. seen_from_new graph y j) r.walk) [
   | inl e ↦ (let l : r.goal < 4 = r.is_goal.within in omega arith)
   | inr t ↦ seen_no_goal r.goal t.0 t.1 r.is_goal
 ]
@@ -154,7 +154,7 @@ joined_on_leader graph = record {
     at_leader (inl a) = among_of [] 1 a
     at_leader (inr h) = let e : ◌≡◌ {A = ℕ} 1 5 = h.0 in omega arith
 
-    leader_given : IsFixed (Arc between.joined) 2 0 → ⊥
+    leader_given : IsInFamily (Arc between.joined) 2 0 → ⊥
     leader_given (inl e) = omega arith
     leader_given (inr a) = among_of [] 0 a
 
@@ -162,7 +162,7 @@ joined_on_leader graph = record {
     at_between (inl a) = graph.no_utility_parent 4 1 a refl
     at_between (inr h) = let e : ◌≡◌ {A = ℕ} 4 5 = h.0 in omega arith
 
-    between_given : IsFixed (Arc between.joined) 2 1 → ⊥
+    between_given : IsInFamily (Arc between.joined) 2 1 → ⊥
     between_given (inl e) = omega arith
     between_given (inr a) = among_of [] 1 a
 
@@ -207,7 +207,7 @@ below_leader (suc (suc (suc (suc zero)))) a l = absurd (other (among_of (1 ∷ 2
     other (inr (inr m)) = m
 below_leader (suc (suc (suc (suc (suc v))))) a l = absurd (among_of [] 0 a)
 
-parted_closed : IsGraph between.parted → (x y z : ℕ) → Part x y → IsJoined PartedArc y z → WithNode (IsLive between.parted) 5 z → MeetHeads PartedArc x y z ↔ IsFixed (Arc between.parted) 2 y → Part y z
+parted_closed : IsGraph between.parted → (x y z : ℕ) → Part x y → IsJoined PartedArc y z → WithNode (IsLive between.parted) 5 z → IsCollider PartedArc x y z ↔ IsInFamily (Arc between.parted) 2 y → Part y z
 parted_closed graph x y z PartThere j l m = from_leader z j l
   where
     from_leader : (z : ℕ) → IsJoined PartedArc 0 z → WithNode (IsLive between.parted) 5 z → Part 0 z
@@ -218,12 +218,12 @@ parted_closed graph x y z PartThere j l m = from_leader z j l
 parted_closed graph x y z PartBack j l m = parted_from_new graph z j
 parted_closed graph x y z PartAside j l m = absurd (stops z j m.0)
   where
-    given : IsFixed (Arc between.parted) 2 3 → ⊥
+    given : IsInFamily (Arc between.parted) 2 3 → ⊥
     given (inl e) = omega arith
     given (inr a) = among_of [] 3 a
 
     -- a utility has no arc onwards, and isn't given
-    stops : (z : ℕ) → IsJoined PartedArc 3 z → (MeetHeads PartedArc 0 3 z → IsFixed (Arc between.parted) 2 3) → ⊥
+    stops : (z : ℕ) → IsJoined PartedArc 3 z → (IsCollider PartedArc 0 3 z → IsInFamily (Arc between.parted) 2 3) → ⊥
     stops z (inl (inl a)) f = graph.no_utility_parent 3 z a refl
     stops z (inl (inr h)) f = let e : ◌≡◌ {A = ℕ} 3 5 = h.0 in omega arith
     stops z (inr a) f = given (f (inl (0, omega arith, refl), a))
@@ -234,7 +234,7 @@ parted_no_goal goal u PartBack g = let l : 5 < 5 = g.within in omega arith
 parted_no_goal goal u PartAside g = let o : ◌≡◌ {A = ℕ} 0 1 = g.owner in omega arith
 
 parted_not_on_leader : IsGraph between.parted → ReliesOn between.parted 2 0 → ⊥
-parted_not_on_leader graph r = elim (end_of_walk PartedArc (WithNode (IsLive between.parted) 5) (IsFixed (Arc between.parted) 2) Part (parted_closed graph) 5 r.goal (λ y j l. parted_from_new graph y j) r.walk) [
+parted_not_on_leader graph r = elim (end_of_walk PartedArc (WithNode (IsLive between.parted) 5) (IsInFamily (Arc between.parted) 2) Part (parted_closed graph) 5 r.goal (λ y j l. parted_from_new graph y j) r.walk) [
   | inl e ↦ (let l : r.goal < 5 = r.is_goal.within in omega arith)
   | inr t ↦ parted_no_goal r.goal t.0 t.1 r.is_goal
 ]

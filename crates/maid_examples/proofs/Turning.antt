@@ -1,6 +1,6 @@
 -- No active walk leaves a set of steps that is closed: it holds the first step of each walk, and with each step those that may follow.
 use Rattle.std.proofs.Common.{◌≡◌, ◌⊎◌, ◌↔◌, ℕ, List, [], ◌∷◌, sym, subst, inl, inr}
-use Rattle.maid_model.specs.Walks.{IsJoined, MeetHeads, IsActive, last_of, IsReached}
+use Rattle.maid_model.specs.Walks.{IsJoined, IsCollider, IsActive, last_of, IsReached}
 
 module _ (Arc : ℕ → ℕ → Type 0) (Live Given : ℕ → Type 0) where
   first_live : (x : ℕ) (rest : List ℕ) → IsActive Arc Live Given (x ∷ rest) → Live x
@@ -16,7 +16,7 @@ module _ (Arc : ℕ → ℕ → Type 0) (Live Given : ℕ → Type 0) where
   second_live x y [] a = a.2
   second_live x y (z ∷ rest) a = first_live y (z ∷ rest) a.3
 
-  module _ (Step : ℕ → ℕ → Type 0) (closed : (x y z : ℕ) → Step x y → IsJoined Arc y z → Live z → MeetHeads Arc x y z ↔ Given y → Step y z) where
+  module _ (Step : ℕ → ℕ → Type 0) (closed : (x y z : ℕ) → Step x y → IsJoined Arc y z → Live z → IsCollider Arc x y z ↔ Given y → Step y z) where
     -- by induction over the walk
     ends : (x y : ℕ) (rest : List ℕ) → Step x y → IsActive Arc Live Given (x ∷ (y ∷ rest)) → (u : ℕ) × Step u (last_of y rest)
     ends x y [] s a = (x, s)

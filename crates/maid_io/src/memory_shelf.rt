@@ -2,7 +2,7 @@ ghost use Rattle.std.specs.Prelude.{◌≡◌, ◌≢◌, ◌≤◌, ◌+◌, �
 ghost use Rattle.std.specs.Io.{ReadsAtMost};
 ghost use Rattle.std.specs.Io.KnownBytes.{ReadConsumes};
 ghost use Rattle.std.specs.Option.{option_map};
-ghost use Rattle.maid_io.specs.Count.{raised, counts_after_start, counts_after_read};
+ghost use Rattle.maid_io.specs.Count.{saturating_sum, counts_after_start, counts_after_read};
 ghost use Rattle.maid_io.specs.Device.{File, file_of, Opens, HasCause, StartHasCause, CountsGiven};
 ghost use Rattle.maid_io.specs.Memory.{ShelfState, CallFails, file, bytes_at, left_bytes, IsStarted};
 
@@ -118,7 +118,7 @@ impl Shelf for MemShelf {
         // Exactly when it fails.
         ensures fails { (result ≡ Opened.Failed) ↔ CallFails self.old }
         ensures memory { result ≢ Opened.NoMemory }
-        ensures rest { self.new ≡ record self.old { left = self.new.left; calls = raised self.old.calls 1; counts = counts_after_start result self.old.counts } }
+        ensures rest { self.new ≡ record self.old { left = self.new.left; calls = saturating_sum self.old.calls 1; counts = counts_after_start result self.old.counts } }
     {
         self.calls = self.calls.saturating_add(1);
         self.started = None;
@@ -146,7 +146,7 @@ impl Shelf for MemShelf {
         // Exactly when it fails, and how many bytes it gives otherwise.
         ensures fails { IsErr result ↔ CallFails self.old }
         ensures count { IfOk result (λ n. n ≡ min (length self.old.left) (min (length buf.old) self.old.piece)) }
-        ensures rest { self.new ≡ record self.old { left = self.new.left; calls = raised self.old.calls 1; counts = counts_after_read result self.old.counts } }
+        ensures rest { self.new ≡ record self.old { left = self.new.left; calls = saturating_sum self.old.calls 1; counts = counts_after_read result self.old.counts } }
     {
         self.calls = self.calls.saturating_add(1);
         if self.fails.contains(&self.calls) {

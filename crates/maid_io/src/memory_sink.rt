@@ -1,7 +1,7 @@
 ghost use Rattle.std.specs.Prelude.{◌≡◌, ◌≤◌, ◌+◌, ◌↔◌, min, [], Some, length, IfOk, MatchResult, IsErr};
 ghost use Rattle.std.specs.Io.{ReadsAtMost, WritesAtMost};
 ghost use Rattle.std.specs.Io.KnownBytes.{WriteAppends};
-ghost use Rattle.maid_io.specs.Count.{raised, faults_after_write};
+ghost use Rattle.maid_io.specs.Count.{saturating_sum, faults_after_write};
 ghost use Rattle.maid_io.specs.Device.{HasCause, TakesSome};
 ghost use Rattle.maid_io.specs.Memory.{SinkState, WriteFails};
 
@@ -78,7 +78,7 @@ impl Sink for MemSink {
         ensures fails { IsErr result ↔ WriteFails self.old piece.now }
         ensures count { IfOk result (λ n. n ≡ min (length piece.now) (min self.old.piece self.old.room)) }
         ensures room { MatchResult result (λ n. self.new.room + n ≡ self.old.room) (λ _. self.new.room ≡ self.old.room) }
-        ensures rest { self.new ≡ record self.old { taken = self.new.taken; room = self.new.room; calls = raised self.old.calls 1; faults = faults_after_write result self.old.faults } }
+        ensures rest { self.new ≡ record self.old { taken = self.new.taken; room = self.new.room; calls = saturating_sum self.old.calls 1; faults = faults_after_write result self.old.faults } }
     {
         self.calls = self.calls.saturating_add(1);
         let full = !piece.is_empty() && self.room == 0;

@@ -4,7 +4,7 @@ use Rattle.std.specs.Prelude.{Contains}
 use Rattle.maid_model.specs.Views.{NodeView}
 use Rattle.maid_model.specs.Nodes.{parents_of}
 use Rattle.maid_model.specs.Graph.{Arc, AllDifferent}
-use Rattle.maid_model.specs.Relevance.{IsFixed}
+use Rattle.maid_model.specs.Relevance.{IsInFamily}
 use Rattle.maid_model.proofs.Setting.{Among}
 use Rattle.maid_model.proofs.Tables.{Avoids}
 use Rattle.maid_model.proofs.Lists.{avoids}
@@ -62,13 +62,13 @@ pub parent_of : (nodes : List NodeView) (u v : ℕ) → Arc nodes u v → IsPare
 parent_of nodes u v a = among_of u (parents_of nodes v) a
 
 -- d and its parents, either way
-pub fixed_same : (nodes : List NodeView) (d x : ℕ) → IsFixed (IsParent nodes) d x ↔ IsFixed (Arc nodes) d x
+pub fixed_same : (nodes : List NodeView) (d x : ℕ) → IsInFamily (IsParent nodes) d x ↔ IsInFamily (Arc nodes) d x
 fixed_same nodes d x = (there, back)
   where
-    there : IsFixed (IsParent nodes) d x → IsFixed (Arc nodes) d x
+    there : IsInFamily (IsParent nodes) d x → IsInFamily (Arc nodes) d x
     there (inl e) = inl e
     there (inr a) = inr (arc_of nodes x d a)
 
-    back : IsFixed (Arc nodes) d x → IsFixed (IsParent nodes) d x
+    back : IsInFamily (Arc nodes) d x → IsInFamily (IsParent nodes) d x
     back (inl e) = inl e
     back (inr a) = inr (parent_of nodes x d a)

@@ -77,7 +77,7 @@ module _ (nodes : List NodeView) (known : (u v : ℕ) → Arc nodes u v → u < 
     inside : (u v : ℕ) → Arc nodes u v → v < length nodes
     inside u v a = arc_inside nodes u v (parent_of nodes u v a)
 
-    path_rises : {to v : ℕ} → IsPath (Arc nodes) to v → (i j : ℕ) → i < length order → slice_index order i ≡ v → j < length order → slice_index order j ≡ to → i ≤ j
+    path_rises : {to v : ℕ} → IsPath (Arc nodes) v to → (i j : ℕ) → i < length order → slice_index order i ≡ v → j < length order → slice_index order j ≡ to → i ≤ j
     path_rises Here i j li ei lj ej = let e : i ≡ j = one_place order (apart_of order l.once) i j li lj (ei ∙ sym ej) in omega arith
     path_rises (Along {u = u} {v = v} a p) i j li ei lj ej =
         let k = place v (inside u v a) in

@@ -21,7 +21,7 @@ pub parent_dec : (nodes : List NodeView) (u v : ℕ) → Dec (IsParent nodes u v
 parent_dec nodes u v = decide_among u (parents_of nodes v)
 
 -- paths are the same by members and by places
-pub parents_path : (nodes : List NodeView) {to v : ℕ} → IsPath (IsParent nodes) to v → IsPath (Arc nodes) to v
+pub parents_path : (nodes : List NodeView) {to v : ℕ} → IsPath (IsParent nodes) v to → IsPath (Arc nodes) v to
 parents_path nodes Here = Here
 parents_path nodes (Along {u = u} {v = v} a p) = Along (arc_of nodes u v a) (parents_path nodes p)
 

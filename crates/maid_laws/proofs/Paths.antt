@@ -8,7 +8,7 @@ use Rattle.maid_laws.proofs.Leads.{Below, child, further}
 
 module _ (Arc : ℕ → ℕ → Type 0) where
   -- one arc more at the end of a path
-  pub path_further : {x y v : ℕ} → IsPath Arc x v → Arc x y → IsPath Arc y v
+  pub path_further : {x y v : ℕ} → IsPath Arc v x → Arc x y → IsPath Arc v y
   path_further Here a = Along a Here
   path_further (Along b p) a = Along b (path_further p a)
 

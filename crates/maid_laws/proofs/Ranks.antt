@@ -3,7 +3,7 @@ use Rattle.std.proofs.Common.{◌≡◌, ◌≢◌, ◌∙◌, ℕ, zero, suc, �
 use Rattle.std.proofs.lemmas.Bool.Decides.{nat_tests}
 use Rattle.std.proofs.Math.Decide.{ℕ_discrete, dec_lt}
 use Rattle.maid_model.specs.Nodes.{node_at, no_node}
-use Rattle.maid_model.specs.Relevance.{IsFixed}
+use Rattle.maid_model.specs.Relevance.{IsInFamily}
 use Rattle.maid_model.specs.Views.{NodeView}
 use Rattle.maid_model.proofs.Setting.{Among, ParentsFirst}
 use Rattle.maid_laws.proofs.Notions.{IsParent}
@@ -77,6 +77,6 @@ module _ (nodes : List NodeView) (order : List ℕ) (setup : Setup nodes order) 
   below_less d {x} (further {y = y} b a) = let k : place d order < place y order = below_less d b in let l : place y order < place x order = rank_less y x a in omega arith
 
   -- so neither d nor its parents lie below d
-  pub none_given : (d x : ℕ) → Below (IsParent nodes) d x → ¬ (IsFixed (IsParent nodes) d x)
+  pub none_given : (d x : ℕ) → Below (IsParent nodes) d x → ¬ (IsInFamily (IsParent nodes) d x)
   none_given d x b (inl e) = let k : place d order < place x order = below_less d b in let f : place x order ≡ place d order = ap (λ z. place z order) e in omega arith
   none_given d x b (inr m) = let k : place d order < place x order = below_less d b in let l : place x order < place d order = rank_less x d m in omega arith

@@ -3,7 +3,7 @@ use Rattle.std.proofs.Common.{◌≡◌, ◌≢◌, ◌↔◌, ℕ, ◌<◌, ◌
 use Rattle.maid_model.specs.declared.diagrams.Kind.TheVariants.{Utility}
 use Rattle.maid_model.specs.Graph.{Arc}
 use Rattle.maid_model.specs.Nodes.{IsDecision, node_at, is_utility}
-use Rattle.maid_model.specs.Relevance.{IsLive, IsFixed, IsGoal, ReliesOn}
+use Rattle.maid_model.specs.Relevance.{IsLive, IsInFamily, IsGoal, ReliesOn}
 use Rattle.maid_model.specs.Views.{NodeView}
 use Rattle.maid_model.specs.Walks.{IsReachedFromParent}
 use Rattle.maid_laws.proofs.Booleans.{not_both}
@@ -56,7 +56,7 @@ module _ (nodes : List NodeView) (order : List ℕ) (setup : Setup nodes order) 
 
   -- from steps to reliance
   pub relies_of : (d goal v : ℕ) → IsDecision nodes d → IsLive nodes d → IsGoal nodes d goal → v ≢ d → IsDecision nodes v → IsLive nodes v
-      → Leads (IsParent nodes) (IsLive nodes) (IsFixed (IsParent nodes) d) goal true v → ReliesOn nodes d v
+      → Leads (IsParent nodes) (IsLive nodes) (IsInFamily (IsParent nodes) d) goal true v → ReliesOn nodes d v
   relies_of d goal v kd ld g n kv lv h = record {
     apart = λ e. n (sym e);
     from_decision = kd;
@@ -65,9 +65,9 @@ module _ (nodes : List NodeView) (order : List ℕ) (setup : Setup nodes order) 
     on_live = lv;
     goal = goal;
     is_goal = g;
-    walk = walk_of_steps (IsFixed (IsParent nodes) d) (IsFixed (Arc nodes) d) (fixed_same nodes d) goal v g.within g.kind lv.within lv h;
+    walk = walk_of_steps (IsInFamily (IsParent nodes) d) (IsInFamily (Arc nodes) d) (fixed_same nodes d) goal v g.within g.kind lv.within lv h;
   }
 
   -- and back
-  pub steps_of_relies : (d e : ℕ) → (r : ReliesOn nodes d e) → Leads (IsParent nodes) (IsLive nodes) (IsFixed (IsParent nodes) d) r.goal true e
-  steps_of_relies d e r = steps_of_walk (IsFixed (IsParent nodes) d) (IsFixed (Arc nodes) d) (fixed_same nodes d) r.goal e r.is_goal.within r.is_goal.kind r.on_live.within r.walk
+  pub steps_of_relies : (d e : ℕ) → (r : ReliesOn nodes d e) → Leads (IsParent nodes) (IsLive nodes) (IsInFamily (IsParent nodes) d) r.goal true e
+  steps_of_relies d e r = steps_of_walk (IsInFamily (IsParent nodes) d) (IsInFamily (Arc nodes) d) (fixed_same nodes d) r.goal e r.is_goal.within r.is_goal.kind r.on_live.within r.walk

@@ -48,7 +48,7 @@ fixed_dec fixed x = go (fixed x)
 -- ---- what matters, by paths and by steps
 module _ (nodes : List NodeView) (fixed : ℕ → Bool) (goal : ℕ) where
   -- along the path
-  pub reaches_of : (target : ℕ) {v : ℕ} → IsPath (λ x y. Arc nodes x y × IsLive nodes y) target v → IsFixedBy fixed target ⊎ (target ≡ goal) → Reaches (IsParent nodes) (IsLive nodes) (IsFixedBy fixed) goal v
+  pub reaches_of : (target : ℕ) {v : ℕ} → IsPath (λ x y. Arc nodes x y × IsLive nodes y) v target → IsFixedBy fixed target ⊎ (target ≡ goal) → Reaches (IsParent nodes) (IsLive nodes) (IsFixedBy fixed) goal v
   reaches_of target Here (inl g) = at_given g
   reaches_of target Here (inr e) = subst (λ z. Reaches (IsParent nodes) (IsLive nodes) (IsFixedBy fixed) goal z) (sym e) at_goal
   reaches_of target (Along {u = u} {v = v} a p) h = onward (parent_of nodes u v a.0) a.1 (reaches_of target p h)

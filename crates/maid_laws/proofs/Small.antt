@@ -9,7 +9,7 @@ use Rattle.maid_model.specs.Tables.{HasChanceTables, table, IsTable, weights_of,
 use Rattle.maid_model.specs.Sums.{sum_below}
 use Rattle.maid_model.specs.Profiles.{IsProfile, IsRule, uniform_profile}
 use Rattle.maid_model.specs.Gains.{gain_at}
-use Rattle.maid_model.specs.Relevance.{IsLive, IsFixed, ReliesOn}
+use Rattle.maid_model.specs.Relevance.{IsLive, IsInFamily, ReliesOn}
 use Rattle.maid_model.specs.Walks.{WithArc}
 use Rattle.maid_model.specs.Subgames.{IsListing, IsHistory, IsSubgameStart, world_of_history}
 use Rattle.maid_model.proofs.Setting.{Among}
@@ -24,7 +24,7 @@ use Rattle.maid_model.proofs.Uniform.{uniform_is_profile}
 -- where arcs lead to greater numbers there is no cycle
 module _ (R : ℕ → ℕ → Type 0) (up : (u v : ℕ) → R u v → u < v) where
   -- by induction over the path
-  path_up : {to v : ℕ} → IsPath R to v → v ≤ to
+  path_up : {to v : ℕ} → IsPath R v to → v ≤ to
   path_up Here = omega arith
   path_up (Along {u = u} {v = v} a p) = let x : u < v = up u v a in let y = path_up p in omega arith
 
@@ -334,7 +334,7 @@ relies d e n kd ke ld le owner ad ae none = record {
     heads (inl a) = less (pair_up 2 e (parent_of pair 2 e a)).1
     heads (inr h) = other h.0
 
-    given : IsFixed (Arc pair) d e → ⊥
+    given : IsInFamily (Arc pair) d e → ⊥
     given (inl f) = n (sym f)
     given (inr a) = none e a
 

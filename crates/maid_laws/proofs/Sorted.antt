@@ -23,7 +23,7 @@ through_dec R dec x u v = go (dec u v) (dec u x) (dec x v)
     go (no a) (yes b) (no c) = no (λ h. elim h [ inl k ↦ a k | inr k ↦ c k.1 ])
 
 -- a path by them is a path
-through_path : (R : ℕ → ℕ → Type 0) (x : ℕ) {to v : ℕ} → IsPath (Through R x) to v → IsPath R to v
+through_path : (R : ℕ → ℕ → Type 0) (x : ℕ) {to v : ℕ} → IsPath (Through R x) v to → IsPath R v to
 through_path R x Here = Here
 through_path R x (Along (inl a) p) = Along a (through_path R x p)
 through_path R x (Along (inr a) p) = Along a.0 (Along a.1 (through_path R x p))

@@ -2,7 +2,7 @@
 use Rattle.std.proofs.Common.{◌≡◌, ◌≢◌, ◌⊎◌, ◌∙◌, ℕ, zero, suc, ◌<◌, Bool, true, false, List, refl, sym, ap, subst, inl, inr, arith}
 use Rattle.maid_model.specs.declared.diagrams.Kind.TheVariants.{Decision, Utility}
 use Rattle.maid_model.specs.Nodes.{node_at, states_of}
-use Rattle.maid_model.specs.Relevance.{IsLive, IsFixed, ReliesOn}
+use Rattle.maid_model.specs.Relevance.{IsLive, IsInFamily, ReliesOn}
 use Rattle.maid_model.specs.Sums.{World, with_state, InRange}
 use Rattle.maid_model.specs.Views.{NodeView}
 use Rattle.maid_model.proofs.Sums.{with_same, with_other, with_in}
@@ -51,7 +51,7 @@ module _ (nodes : List NodeView) (order : List ℕ) (setup : Setup nodes order) 
   -- no later decision relies on an earlier one: the earlier one and its live parents are given
   pub no_reliance : (e : ℕ) → started e ≡ true → ¬ (ReliesOn nodes d e)
   no_reliance e h r =
-      closed_in (IsParent nodes) (IsLive nodes) (IsFixed (IsParent nodes) d) r.goal e (not_goal r.is_goal.kind r.on_decision.kind)
+      closed_in (IsParent nodes) (IsLive nodes) (IsInFamily (IsParent nodes) d) r.goal e (not_goal r.is_goal.kind r.on_decision.kind)
       (inr (parent_of_later e h (more e r.on_live.states (λ k. decision_or_utility (sym r.on_decision.kind ∙ k)))))
       (λ z a l. inr (parent_of_later z (closed_up z e a h) (more z l.states (λ k. no_utility_child nodes order setup z k e a))))
       (steps_of_relies nodes order setup d e r)

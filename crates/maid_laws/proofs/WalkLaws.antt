@@ -2,7 +2,7 @@
 use Rattle.std.proofs.Common.{◌≡◌, ◌↔◌, ℕ, List, [], ◌∷◌, refl, subst, inl, inr}
 use Rattle.maid_model.specs.Graph.{Arc}
 use Rattle.maid_model.specs.Relevance.{IsLive}
-use Rattle.maid_model.specs.Walks.{IsJoined, MeetHeads, IsActive, last_of, IsReached}
+use Rattle.maid_model.specs.Walks.{IsJoined, IsCollider, IsActive, last_of, IsReached}
 use Rattle.maid_laws.specs.Separation.{IsFixedBy}
 use Rattle.maid_laws.specs.Walks.{WalksTurn, ChildrenJoin}
 use Rattle.maid_laws.proofs.Booleans.{not_both}
@@ -22,7 +22,7 @@ module _ (Arc : ℕ → ℕ → Type 0) (Live Given : ℕ → Type 0) where
   joined_turn x y (inr h) = inl h
 
   -- heads that meet
-  heads_turn : (x y z : ℕ) → (MeetHeads Arc x y z ↔ Given y) → (MeetHeads Arc z y x ↔ Given y)
+  heads_turn : (x y z : ℕ) → (IsCollider Arc x y z ↔ Given y) → (IsCollider Arc z y x ↔ Given y)
   heads_turn x y z h = ((λ m. h.0 (m.1, m.0)), (λ g. let m = h.1 g in (m.1, m.0)))
 
   -- a walk begins with a live node
@@ -35,7 +35,7 @@ module _ (Arc : ℕ → ℕ → Type 0) (Live Given : ℕ → Type 0) where
   abbrev Meets : ℕ → List ℕ → List ℕ → Type 0
   Meets x [] done = Unit {0}
   Meets x (y ∷ todo) [] = Unit {0}
-  Meets x (y ∷ todo) (z ∷ done) = MeetHeads Arc y x z ↔ Given x
+  Meets x (y ∷ todo) (z ∷ done) = IsCollider Arc y x z ↔ Given x
 
   -- x heads what is left to turn, and what was turned
   turn : (x : ℕ) (todo done : List ℕ) → IsActive Arc Live Given (x ∷ todo) → IsActive Arc Live Given (x ∷ done) → Meets x todo done

@@ -1,7 +1,7 @@
 -- Between walks as steps and walks written out as lists.
 use Rattle.std.proofs.Common.{◌≡◌, ◌≢◌, ◌⊎◌, ◌↔◌, ◌∙◌, ℕ, Bool, true, false, List, [], ◌∷◌, refl, sym, subst, inl, inr}
 use Rattle.std.proofs.Math.Decide.{ℕ_discrete}
-use Rattle.maid_model.specs.Walks.{IsJoined, MeetHeads, IsActive, last_of, WithArc, WithNode, IsReachedFromParent}
+use Rattle.maid_model.specs.Walks.{IsJoined, IsCollider, IsActive, last_of, WithArc, WithNode, IsReachedFromParent}
 use Rattle.maid_laws.proofs.Leads.{Leads, ends, head_down, head_up, tail_down, tail_up, more_arcs}
 
 -- an arrow between p and x, with its head at x, or its tail
@@ -118,7 +118,7 @@ module _ (Arc : ℕ → ℕ → Type 0) (Live Given : ℕ → Type 0) (new v goa
         n f = goal_old (sym e ∙ f)
 
     -- one node more, in front
-    step : (p x z : ℕ) → Lives x → IsJoined More x z → (MeetHeads More p x z ↔ Given x) → Rest x z → Dec (x ≡ new) → Rest p x
+    step : (p x z : ℕ) → Lives x → IsJoined More x z → (IsCollider More p x z ↔ Given x) → Rest x z → Dec (x ≡ new) → Rest p x
     step p x z lx j m (inl h) dec = inl h
     step p x z lx j m (inr h) (yes e) =
         let k = after_new z (subst (λ y. IsJoined More y z) e j) in

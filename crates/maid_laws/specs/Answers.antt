@@ -10,7 +10,7 @@ use Rattle.maid_model.specs.Profiles.{IsProfile}
 use Rattle.maid_model.specs.Gains.{gain_at, mass_at}
 use Rattle.maid_model.specs.Relevance.{IsLive, ReliesOn}
 use Rattle.maid_model.specs.Subgames.{IsSubgamePerfect, IsOptimal, OwnsAll}
-use Rattle.maid_model.specs.Answers.{IsAnswer, IsBase, FitsDiagram, IsFraction, pure_profile, rows_at, no_row}
+use Rattle.maid_model.specs.Answers.{IsAnswer, IsBase, FitsDiagram, IsFraction, HasWorth, pure_profile, rows_at, no_row}
 use Rattle.maid_laws.specs.Exchange.{IsBestInBases}
 
 -- The pure profile of the answered choices.
@@ -62,5 +62,4 @@ abbrev pub WorthUnderTheProfile : Type 0
 WorthUnderTheProfile =
     (d : DiagramView) (solved : SolvedView) (v row : ℕ) → IsGraph d.nodes → HasChanceTables d.nodes → IsAnswer d solved
     → IsDecision d.nodes v → IsLive d.nodes v → row < rows_of d.nodes v → pos 0 <ℤ mass_at d.nodes (answered d solved) v row
-    → (w : Ratio) × ((answer_at solved v row).worth ≡ Some w)
-    × IsFraction w (gain_at d.nodes (answered d solved) v (answer_at solved v row).choice row) (nat_abs (mass_at d.nodes (answered d solved) v row) * 10 ^ d.decimals)
+    → HasWorth d.nodes d.decimals (answered d solved) v row (answer_at solved v row)

@@ -26,7 +26,7 @@ IsFixedBy fixed v = fixed v ≡ true
 pub record Matters (nodes : List NodeView) (fixed : ℕ → Bool) (goal v : ℕ) : Type 0 where
   pub live : IsLive nodes v
   pub target : ℕ
-  pub path : IsPath (λ x y. Arc nodes x y × IsLive nodes y) target v
+  pub path : IsPath (λ x y. Arc nodes x y × IsLive nodes y) v target
   pub reached : IsFixedBy fixed target ⊎ (target ≡ goal)
 
 -- given the fixed nodes, an active walk leads from an extra parent of v to the goal

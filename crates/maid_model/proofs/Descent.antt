@@ -40,11 +40,11 @@ or_right true b h = refl
 or_right false b h = h
 
 -- ---- paths
-pub path_more : (A : ℕ → ℕ → Type 0) {to from : ℕ} → IsPath A to from → (next : ℕ) → A to next → IsPath A next from
+pub path_more : (A : ℕ → ℕ → Type 0) {to from : ℕ} → IsPath A from to → (next : ℕ) → A to next → IsPath A from next
 path_more A Here next a = Along a Here
 path_more A (Along b p) next a = Along b (path_more A p next a)
 
-pub path_join : (A : ℕ → ℕ → Type 0) {mid from : ℕ} → IsPath A mid from → (to : ℕ) → IsPath A to mid → IsPath A to from
+pub path_join : (A : ℕ → ℕ → Type 0) {mid from : ℕ} → IsPath A from mid → (to : ℕ) → IsPath A mid to → IsPath A from to
 path_join A Here to q = q
 path_join A (Along b p) to q = Along b (path_join A p to q)
 
@@ -82,7 +82,7 @@ module _ (nodes : List NodeView) (u : ℕ) where
       go x a (inr k) r = descends_more (Arc nodes) u x v (r k) a
 
   -- some number of steps finds a path
-  along : (v x n : ℕ) → IsPath (Arc nodes) v x → leads_within nodes n u x ≡ true → (m : ℕ) × (leads_within nodes m u v ≡ true)
+  along : (v x n : ℕ) → IsPath (Arc nodes) x v → leads_within nodes n u x ≡ true → (m : ℕ) × (leads_within nodes m u v ≡ true)
   along v x n Here h = (n, h)
   along v x n (Along {v = y} a p) h = along v y (suc n) p (step_to n x y a (inr h))
 

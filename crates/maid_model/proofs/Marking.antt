@@ -24,7 +24,7 @@ module _ (nodes : List NodeView) (start : ℕ) (marks : List Bool) (c : IsClosed
   arc_marked : (u v : ℕ) → Arc nodes u v → (u ≡ start) ⊎ (is_marked marks u ≡ true) → is_marked marks v ≡ true
   arc_marked u v a h = c.closed v (any_of (is_near start marks) (parents_of nodes v) u (among_from_contains (parents_of nodes v) u a) (near_has start marks u h))
 
-  path_marked : (v u : ℕ) → IsPath (Arc nodes) v u → is_marked marks u ≡ true → is_marked marks v ≡ true
+  path_marked : (v u : ℕ) → IsPath (Arc nodes) u v → is_marked marks u ≡ true → is_marked marks v ≡ true
   path_marked v u Here m = m
   path_marked v u (Along {v = w} a p) m = path_marked v w p (arc_marked u w a (inr m))
 

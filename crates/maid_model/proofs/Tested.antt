@@ -79,7 +79,7 @@ tests_profiles nodes p decisions e = record {
 -- ---- where arcs lead to greater numbers there is no cycle
 module _ (R : ℕ → ℕ → Type 0) (up : (u v : ℕ) → R u v → u < v) where
   -- by induction over the path
-  path_up : {to v : ℕ} → IsPath R to v → v ≤ to
+  path_up : {to v : ℕ} → IsPath R v to → v ≤ to
   path_up Here = omega arith
   path_up (Along {u = u} {v = v} a p) = let x : u < v = up u v a in let y = path_up p in omega arith
 

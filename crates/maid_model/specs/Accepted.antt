@@ -6,7 +6,7 @@ use Rattle.maid_model.specs.Views.{NodeView, DiagramView, RuleView, SolvedView}
 use Rattle.maid_model.specs.Nodes.{IsDecision, states_of, rows_of}
 use Rattle.maid_model.specs.Gains.{gain_at, mass_at}
 use Rattle.maid_model.specs.Relevance.{ReliesOn}
-use Rattle.maid_model.specs.Answers.{IsBase, IsFraction, IsGains, FitsDiagram, pure_profile, rows_at, no_row}
+use Rattle.maid_model.specs.Answers.{IsBase, HasWorth, IsGains, FitsDiagram, pure_profile, rows_at, no_row}
 
 -- each decision of the order stands after those that it relies on
 abbrev pub IsReliedFirst : List NodeView → List ℕ → Type 0
@@ -15,7 +15,7 @@ IsReliedFirst nodes order = (i e : ℕ) → i < length order → ReliesOn nodes 
 -- A row with mass against the base isn't marked as never reached, no state has a greater gain than its choice, and it is worth its gain over the mass. A row without mass is marked.
 pub record IsAcceptedRow (nodes : List NodeView) (decimals : ℕ) (base : List RuleView) (d row : ℕ) (r : Row) : Type 0 where
   pub best : pos 0 <ℤ mass_at nodes base d row → (s : ℕ) → s < states_of nodes d → gain_at nodes base d s row ≤ℤ gain_at nodes base d r.choice row
-  pub worth : pos 0 <ℤ mass_at nodes base d row → (w : Ratio) × (r.worth ≡ Some w) × IsFraction w (gain_at nodes base d r.choice row) (nat_abs (mass_at nodes base d row) * 10 ^ decimals)
+  pub worth : pos 0 <ℤ mass_at nodes base d row → HasWorth nodes decimals base d row r
   pub never : mass_at nodes base d row ≡ pos 0 → r.worth ≡ None
 
 -- the rows of d, against the base of d in the report's own rules s

@@ -21,6 +21,12 @@ pub record IsFraction (r : Ratio) (num : ℤ) (den : ℕ) : Type 0 where
   pub reduced : IsReduced r
   pub same : r.num *ℤ pos den ≡ num *ℤ pos r.den
 
+-- what a row of d says that its choice is worth against the profile: the choice's gain over the row's mass
+abbrev pub HasWorth : List NodeView → ℕ → List RuleView → ℕ → ℕ → Row → Type 0
+HasWorth nodes decimals p d row r =
+    (w : Ratio) × (r.worth ≡ Some w)
+    × IsFraction w (gain_at nodes p d r.choice row) (nat_abs (mass_at nodes p d row) * 10 ^ decimals)
+
 -- what stands for a row that there is not
 abbrev pub no_row : Row
 no_row = record { choice = 0; worth = None }
@@ -49,7 +55,7 @@ pub record IsFirstBest (gain : ℕ → ℤ) (states choice : ℕ) : Type 0 where
 -- A row with mass takes the first best state against the base and is worth its gain over the mass. A row without mass takes the first state and is marked as never reached, which is None.
 pub record IsAnswerRow (nodes : List NodeView) (decimals : ℕ) (base : List RuleView) (d row : ℕ) (r : Row) : Type 0 where
   pub best : pos 0 <ℤ mass_at nodes base d row → IsFirstBest (λ s. gain_at nodes base d s row) (states_of nodes d) r.choice
-  pub worth : pos 0 <ℤ mass_at nodes base d row → (w : Ratio) × (r.worth ≡ Some w) × IsFraction w (gain_at nodes base d r.choice row) (nat_abs (mass_at nodes base d row) * 10 ^ decimals)
+  pub worth : pos 0 <ℤ mass_at nodes base d row → HasWorth nodes decimals base d row r
   pub never : mass_at nodes base d row ≡ pos 0 → (r.choice ≡ 0) × (r.worth ≡ None)
 
 -- the rows answered at d, with the base of d in s

@@ -1,5 +1,6 @@
 -- The weight bound, under which every sum and fraction has room in 128 bits.
 use Rattle.std.specs.Prelude.{ℕ, ◌<◌, ◌≤◌, ◌+◌, ◌*◌, ◌^◌, min, max, List, length, take}
+use Rattle.maid_model.specs.declared.limits.TheConstants.{COUNT_END}
 use Rattle.maid_model.specs.declared.diagrams.Kind.{Kind}
 use Rattle.maid_model.specs.declared.diagrams.Kind.TheVariants.{Chance, Decision, Utility}
 use Rattle.maid_model.specs.Views.{NodeView, DiagramView}
@@ -35,13 +36,9 @@ abbrev pub PassesAt : List NodeView → ℕ → Type 0
 PassesAt nodes v = (v < length nodes) × (greatest_number < bound_up_to nodes (v + 1)) × ((n : ℕ) → n ≤ v → bound_up_to nodes n ≤ greatest_number)
 
 -- how many worlds there are: the product of the state counts of all chance nodes and decisions, since a utility has one state
-abbrev pub leaves : List NodeView → ℕ
-leaves nodes = nat_product_over (states_of nodes) (numbers_of nodes)
+abbrev pub world_count : List NodeView → ℕ
+world_count nodes = nat_product_over (states_of nodes) (numbers_of nodes)
 
--- the greatest count of worlds that is listed
-abbrev pub most_leaves : ℕ
-most_leaves = 65536
-
--- a count, which stops at 10^18
+-- a count, which stops at its end
 abbrev pub stopped : ℕ → ℕ
-stopped count = min count (10 ^ 18)
+stopped count = min count COUNT_END

@@ -1,5 +1,6 @@
 -- What makes a list of nodes an influence diagram of several agents, within the limits of the program.
 use Rattle.std.specs.Prelude.{◌≡◌, ◌≢◌, ◌<◌, ◌≤◌, ◌*◌, ◌-◌, ◌^◌, ℕ, List, [], length, All, nat_abs}
+use Rattle.maid_model.specs.declared.limits.TheConstants.{MOST_NODES, MOST_STATES, MOST_PARENTS, MOST_CELLS, MOST_RULE_CELLS, MOST_AGENTS, MOST_DECIMALS, GREATEST_NUMBER}
 use Rattle.maid_model.specs.declared.diagrams.Kind.TheVariants.{Chance, Decision, Utility}
 use Rattle.maid_model.specs.Views.{NodeView, DiagramView}
 use Rattle.maid_model.specs.Nodes.{node_at, states_of, parents_of, rows_of, decisions_of}
@@ -9,7 +10,7 @@ use Rattle.maid_model.specs.Tables.{HasChanceTables, chance_total}
 
 -- the greatest absolute value of a weight total, of a utility and of the weight bound
 abbrev pub greatest_number : ℕ
-greatest_number = 2 ^ 126 - 1
+greatest_number = GREATEST_NUMBER
 
 -- whose node it is: a decision or a utility has one of the agents, a chance node none, which is written 0
 pub record HasOwners (nodes : List NodeView) (agents : ℕ) : Type 0 where
@@ -23,15 +24,15 @@ pub record HasValues (nodes : List NodeView) : Type 0 where
 
 -- the limits on nodes, states, parents, cells of one table or rule, cells of all rules, totals, values, agents and decimals
 pub record KeepsLimits (d : DiagramView) : Type 0 where
-  pub nodes : length d.nodes ≤ 256
-  pub states : (v : ℕ) → states_of d.nodes v ≤ 256
-  pub parents : (v : ℕ) → length (parents_of d.nodes v) ≤ 16
-  pub cells : (v : ℕ) → v < length d.nodes → rows_of d.nodes v * states_of d.nodes v ≤ 65536
-  pub rules : nat_sum_over (λ v. rows_of d.nodes v * states_of d.nodes v) (decisions_of d.nodes) ≤ 262144
+  pub nodes : length d.nodes ≤ MOST_NODES
+  pub states : (v : ℕ) → states_of d.nodes v ≤ MOST_STATES
+  pub parents : (v : ℕ) → length (parents_of d.nodes v) ≤ MOST_PARENTS
+  pub cells : (v : ℕ) → v < length d.nodes → rows_of d.nodes v * states_of d.nodes v ≤ MOST_CELLS
+  pub rules : nat_sum_over (λ v. rows_of d.nodes v * states_of d.nodes v) (decisions_of d.nodes) ≤ MOST_RULE_CELLS
   pub totals : (v : ℕ) → (node_at d.nodes v).kind ≡ Chance → chance_total d.nodes v ≤ greatest_number
   pub values : (v : ℕ) → (node_at d.nodes v).kind ≡ Utility → All (λ x. nat_abs x ≤ greatest_number) (node_at d.nodes v).cells
-  pub agents : d.agents ≤ 16
-  pub decimals : d.decimals ≤ 30
+  pub agents : d.agents ≤ MOST_AGENTS
+  pub decimals : d.decimals ≤ MOST_DECIMALS
 
 -- an influence diagram
 pub record IsDiagram (d : DiagramView) : Type 0 where

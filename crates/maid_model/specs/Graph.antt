@@ -9,14 +9,18 @@ use Rattle.maid_model.specs.Nodes.{node_at, states_of, parents_of}
 abbrev pub Arc : List NodeView → ℕ → ℕ → Type 0
 Arc nodes u v = Contains (parents_of nodes v) u
 
--- a path of nought or more arcs to a node, from the node after the colon
-pub data IsPath (Arc : ℕ → ℕ → Type 0) (to : ℕ) : ℕ → Type 0 where
-  Here : IsPath Arc to to
-  Along : {u v : ℕ} → Arc u v → IsPath Arc to v → IsPath Arc to u
+-- from which nodes a path of nought or more arcs leads to a node: from itself, and along an arc
+pub data IsPathTo (Arc : ℕ → ℕ → Type 0) (to : ℕ) : ℕ → Type 0 where
+  Here : IsPathTo Arc to to
+  Along : {u v : ℕ} → Arc u v → IsPathTo Arc to v → IsPathTo Arc to u
+
+-- a path of nought or more arcs leads from the one node to the other
+abbrev pub IsPath : (ℕ → ℕ → Type 0) → ℕ → ℕ → Type 0
+IsPath Arc from to = IsPathTo Arc to from
 
 -- `to` descends from `from`: a path of one or more arcs leads there
 abbrev pub Descends : (ℕ → ℕ → Type 0) → ℕ → ℕ → Type 0
-Descends Arc from to = (next : ℕ) × Arc from next × IsPath Arc to next
+Descends Arc from to = (next : ℕ) × Arc from next × IsPath Arc next to
 
 -- no node descends from itself
 abbrev pub IsAcyclic : (ℕ → ℕ → Type 0) → Type 0

@@ -21,8 +21,8 @@ pub record IsParentsFirst (nodes : List NodeView) (order : List ℕ) : Type 0 wh
   pub parents_first : (i u : ℕ) → i < length order → Arc nodes u (slice_index order i) → Contains (take i order) u
 
 -- every graph has such a list
-abbrev pub HasOrder : Type 0
-HasOrder = (nodes : List NodeView) → IsGraph nodes → (order : List ℕ) × IsParentsFirst nodes order
+abbrev pub GraphsHaveOrders : Type 0
+GraphsHaveOrders = (nodes : List NodeView) → IsGraph nodes → (order : List ℕ) × IsParentsFirst nodes order
 
 -- the list of all worlds has each world once
 pub record ListsWorlds : Type 0 where

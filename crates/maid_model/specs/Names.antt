@@ -1,5 +1,6 @@
 -- The names of a diagram's nodes, states and agents, as lists of bytes.
-use Rattle.std.specs.Prelude.{◌≡◌, ◌≢◌, ℕ, ◌<◌, List, [], length, slice_index_or}
+use Rattle.std.specs.Prelude.{◌≡◌, ◌≢◌, ℕ, ◌<◌, List, [], map, length, slice_index_or}
+use Rattle.std.specs.Global.{Vec}
 use Rattle.maid_model.specs.declared.diagrams.Kind.TheVariants.{Utility}
 use Rattle.maid_model.specs.Views.{DiagramView}
 use Rattle.maid_model.specs.Nodes.{node_at, states_of}
@@ -28,3 +29,17 @@ pub record NamesFit (d : DiagramView) (names : NamesView) : Type 0 where
   pub labels : length names.labels ≡ length d.nodes
   pub states : (v : ℕ) → v < length d.nodes → (node_at d.nodes v).kind ≢ Utility → length (labels_of names v) ≡ states_of d.nodes v
   pub agents : length names.agents ≡ d.agents
+
+-- the first place at which the list of names has the name
+pub record IsFirstPlace (names : List (List ℕ)) (name : List ℕ) (place : ℕ) : Type 0 where
+  pub within : place < length names
+  pub here : slice_index_or names place [] ≡ name
+  pub first : (k : ℕ) → k < place → slice_index_or names k [] ≢ name
+
+-- the bytes of each name
+abbrev pub list_of : List (Vec ℕ) → List (List ℕ)
+list_of names = map (λ name. name.items) names
+
+-- the bytes of each label, node by node
+abbrev pub lists_of : List (Vec (Vec ℕ)) → List (List (List ℕ))
+lists_of labels = map (λ list. list_of list.items) labels

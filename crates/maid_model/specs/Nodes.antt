@@ -50,8 +50,9 @@ pub record IsDecision (nodes : List NodeView) (v : ℕ) : Type 0 where
   pub within : v < length nodes
   pub kind : (node_at nodes v).kind ≡ Decision
 
--- a decision or a utility of the agent
+-- v is a node, and a decision or a utility of the agent
 pub record IsOwnedBy (nodes : List NodeView) (v agent : ℕ) : Type 0 where
+  pub within : v < length nodes
   pub kind : ((node_at nodes v).kind ≡ Decision) ⊎ ((node_at nodes v).kind ≡ Utility)
   pub owner : (node_at nodes v).owner ≡ agent
 

@@ -51,6 +51,10 @@ pub record IsCycle (Item : ℕ → Type 0) (Needs : ℕ → ℕ → Type 0) (cyc
 abbrev pub IsRelianceOrder : List NodeView → List ℕ → Type 0
 IsRelianceOrder nodes order = IsOrder (IsDecision nodes) (ReliesOn nodes) order
 
+-- All decisions can be placed in an order of solving.
+abbrev pub HasRelianceOrder : List NodeView → Type 0
+HasRelianceOrder nodes = (order : List ℕ) × IsRelianceOrder nodes order
+
 -- The relevance cycle that is named where some decisions can't be placed.
 abbrev pub IsRelianceCycle : List NodeView → List ℕ → Type 0
 IsRelianceCycle nodes cycle = IsCycle (IsDecision nodes) (ReliesOn nodes) cycle

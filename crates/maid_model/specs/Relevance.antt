@@ -12,8 +12,8 @@ pub record IsLive (nodes : List NodeView) (v : ℕ) : Type 0 where
   pub states : ((node_at nodes v).kind ≡ Utility) ⊎ (1 < states_of nodes v)
 
 -- d and its parents
-abbrev pub IsFixed : (ℕ → ℕ → Type 0) → ℕ → ℕ → Type 0
-IsFixed Arc d x = (x ≡ d) ⊎ Arc x d
+abbrev pub IsInFamily : (ℕ → ℕ → Type 0) → ℕ → ℕ → Type 0
+IsInFamily Arc d x = (x ≡ d) ⊎ Arc x d
 
 -- a utility of d's agent that descends from d
 pub record IsGoal (nodes : List NodeView) (d u : ℕ) : Type 0 where
@@ -31,15 +31,15 @@ pub record ReliesOn (nodes : List NodeView) (d e : ℕ) : Type 0 where
   pub on_live : IsLive nodes e
   pub goal : ℕ
   pub is_goal : IsGoal nodes d goal
-  pub walk : IsReachedFromParent (Arc nodes) (IsLive nodes) (IsFixed (Arc nodes) d) (length nodes) e goal
+  pub walk : IsReachedFromParent (Arc nodes) (IsLive nodes) (IsInFamily (Arc nodes) d) (length nodes) e goal
 
 -- d and its parents other than x
-abbrev pub IsOtherFixed : (ℕ → ℕ → Type 0) → ℕ → ℕ → ℕ → Type 0
-IsOtherFixed Arc d x y = (y ≡ d) ⊎ (Arc y d × (y ≢ x))
+abbrev pub IsInFamilyBut : (ℕ → ℕ → Type 0) → ℕ → ℕ → ℕ → Type 0
+IsInFamilyBut Arc d x y = (y ≡ d) ⊎ (Arc y d × (y ≢ x))
 
 -- the parent x of d is requisite: it is live, and given d and its other parents an active walk leads from x to a goal of d
 pub record IsRequisite (nodes : List NodeView) (d x : ℕ) : Type 0 where
   pub live : IsLive nodes x
   pub goal : ℕ
   pub is_goal : IsGoal nodes d goal
-  pub walk : IsReached (Arc nodes) (IsLive nodes) (IsOtherFixed (Arc nodes) d x) x goal
+  pub walk : IsReached (Arc nodes) (IsLive nodes) (IsInFamilyBut (Arc nodes) d x) x goal

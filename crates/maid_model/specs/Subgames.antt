@@ -70,17 +70,27 @@ pub record IsSubgameStart (nodes : List NodeView) (order start : List ℕ) : Typ
 abbrev pub DiffersOnlyFor : List NodeView → ℕ → List RuleView → List RuleView → Type 0
 DiffersOnlyFor nodes agent s t = (v : ℕ) → IsDecision nodes v → (node_at nodes v).owner ≢ agent → SameRule t s v
 
--- For every list with parents first, every subgame start, every agent and every profile that differs in that agent's rules alone, the agent's expected utility from the start is not greater. Fractions are compared by cross products.
-abbrev pub IsSubgamePerfect : List NodeView → List RuleView → Type 0
-IsSubgamePerfect nodes s =
-    (order start : List ℕ) → IsListing nodes order → IsSubgameStart nodes order start
-    → (agent : ℕ) (t : List RuleView) → IsProfile nodes t → DiffersOnlyFor nodes agent s t
-    → (gain_from nodes order start t agent *ℤ pos (mass_from nodes order start s)) ≤ℤ (gain_from nodes order start s agent *ℤ pos (mass_from nodes order start t))
+-- from the start the profile t is worth no more to the agent than s: fractions are compared by cross products
+abbrev pub IsNoBetterFrom : List NodeView → List ℕ → List ℕ → ℕ → List RuleView → List RuleView → Type 0
+IsNoBetterFrom nodes order start agent s t =
+    (gain_from nodes order start t agent *ℤ pos (mass_from nodes order start s)) ≤ℤ (gain_from nodes order start s agent *ℤ pos (mass_from nodes order start t))
+
+-- A profile such that for every list with parents first, every subgame start, every agent and every profile that differs in that agent's rules alone, the other profile is worth no more to the agent from the start.
+pub record IsSubgamePerfect (nodes : List NodeView) (s : List RuleView) : Type 0 where
+  pub profile : IsProfile nodes s
+  pub from_each_start : (order start : List ℕ) → IsListing nodes order → IsSubgameStart nodes order start
+      → (agent : ℕ) (t : List RuleView) → IsProfile nodes t → DiffersOnlyFor nodes agent s t
+      → IsNoBetterFrom nodes order start agent s t
 
 -- one agent owns all decisions
 abbrev pub OwnsAll : List NodeView → ℕ → Type 0
 OwnsAll nodes agent = (v : ℕ) → IsDecision nodes v → (node_at nodes v).owner ≡ agent
 
--- no profile gives the agent a greater expected utility
-abbrev pub IsOptimal : List NodeView → List RuleView → ℕ → Type 0
-IsOptimal nodes s agent = (t : List RuleView) → IsProfile nodes t → (gain_of nodes t agent *ℤ pos (mass nodes s)) ≤ℤ (gain_of nodes s agent *ℤ pos (mass nodes t))
+-- t gives the agent no greater expected utility than s: fractions are compared by cross products
+abbrev pub IsNoBetter : List NodeView → ℕ → List RuleView → List RuleView → Type 0
+IsNoBetter nodes agent s t = (gain_of nodes t agent *ℤ pos (mass nodes s)) ≤ℤ (gain_of nodes s agent *ℤ pos (mass nodes t))
+
+-- a profile such that no profile gives the agent a greater expected utility
+pub record IsOptimal (nodes : List NodeView) (s : List RuleView) (agent : ℕ) : Type 0 where
+  pub profile : IsProfile nodes s
+  pub greatest : (t : List RuleView) → IsProfile nodes t → IsNoBetter nodes agent s t

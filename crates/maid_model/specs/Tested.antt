@@ -1,6 +1,7 @@
 -- Tests for a small diagram, written as a literal, and for its rules. That what passes is a diagram, a rule or a profile is a law (`Laws`).
 use Rattle.std.specs.Prelude.{ℕ, ◌+◌, ◌*◌, Bool, true, false, ◌&&◌, not, eqb, ltb, leb, List, [], ◌∷◌, map, length, slice_index_or, ℤ, pos, negsuc, nat_abs}
 use Rattle.std.specs.List.{list_all, range_with_len}
+use Rattle.maid_model.specs.declared.limits.TheConstants.{MOST_NODES, MOST_STATES, MOST_PARENTS, MOST_CELLS, MOST_RULE_CELLS, MOST_AGENTS, MOST_DECIMALS}
 use Rattle.maid_model.specs.declared.diagrams.Kind.{Kind}
 use Rattle.maid_model.specs.declared.diagrams.Kind.TheVariants.{Chance, Decision, Utility}
 use Rattle.maid_model.specs.Views.{NodeView, DiagramView, RuleView}
@@ -64,9 +65,9 @@ node_tests d v =
     ∷ list_all (λ u. not (is_utility (node_at d.nodes u).kind)) (parents_of d.nodes v)
     ∷ differ (parents_of d.nodes v)
     ∷ ltb 0 (states_of d.nodes v)
-    ∷ leb (states_of d.nodes v) 256
-    ∷ leb (length (parents_of d.nodes v)) 16
-    ∷ leb (rows_of d.nodes v * states_of d.nodes v) 65536
+    ∷ leb (states_of d.nodes v) MOST_STATES
+    ∷ leb (length (parents_of d.nodes v)) MOST_PARENTS
+    ∷ leb (rows_of d.nodes v * states_of d.nodes v) MOST_CELLS
     ∷ all_true (kind_tests (node_at d.nodes v).kind d v)
     ∷ []
 
@@ -74,10 +75,10 @@ node_tests d v =
 abbrev pub diagram_tests : DiagramView → List Bool
 diagram_tests d =
     list_all (λ v. all_true (node_tests d v)) (numbers_of d.nodes)
-    ∷ leb (length d.nodes) 256
-    ∷ leb (nat_sum_over (λ v. rows_of d.nodes v * states_of d.nodes v) (decisions_of d.nodes)) 262144
-    ∷ leb d.agents 16
-    ∷ leb d.decimals 30
+    ∷ leb (length d.nodes) MOST_NODES
+    ∷ leb (nat_sum_over (λ v. rows_of d.nodes v * states_of d.nodes v) (decisions_of d.nodes)) MOST_RULE_CELLS
+    ∷ leb d.agents MOST_AGENTS
+    ∷ leb d.decimals MOST_DECIMALS
     ∷ []
 
 -- the total is positive, and the weights are a table

@@ -6,8 +6,8 @@ abbrev pub IsJoined : (ℕ → ℕ → Type 0) → ℕ → ℕ → Type 0
 IsJoined Arc x y = Arc x y ⊎ Arc y x
 
 -- both arrows meet head to head at y
-abbrev pub MeetHeads : (ℕ → ℕ → Type 0) → ℕ → ℕ → ℕ → Type 0
-MeetHeads Arc x y z = Arc x y × Arc z y
+abbrev pub IsCollider : (ℕ → ℕ → Type 0) → ℕ → ℕ → ℕ → Type 0
+IsCollider Arc x y z = Arc x y × Arc z y
 
 -- a list of one or more live nodes, each joined to the next; an inner node is given exactly where both arrows meet head to head at it
 abbrev pub IsActive : (ℕ → ℕ → Type 0) → (ℕ → Type 0) → (ℕ → Type 0) → List ℕ → Type 0
@@ -15,7 +15,7 @@ IsActive Arc Live Given [] = ⊥
 IsActive Arc Live Given (x ∷ []) = Live x
 IsActive Arc Live Given (x ∷ (y ∷ [])) = Live x × IsJoined Arc x y × Live y
 IsActive Arc Live Given (x ∷ (y ∷ (z ∷ rest))) =
-    Live x × IsJoined Arc x y × (MeetHeads Arc x y z ↔ Given y) × IsActive Arc Live Given (y ∷ (z ∷ rest))
+    Live x × IsJoined Arc x y × (IsCollider Arc x y z ↔ Given y) × IsActive Arc Live Given (y ∷ (z ∷ rest))
 
 -- the last node of a walk that starts at x
 abbrev pub last_of : ℕ → List ℕ → ℕ

@@ -8,9 +8,6 @@ use smallvec::SmallVec;
 use std::alloc::Global;
 use std::marker::Model;
 
-/// The greatest number of nodes.
-pub(crate) const MOST_NODES: usize = 256;
-
 /// What a node is.
 #[derive(Clone, Copy, Debug, PartialEq, Eq)]
 pub enum Kind {

@@ -1,4 +1,4 @@
-ghost use Rattle.maid_model.specs.Laws.{TestsDescent, HasOrder, ListsWorlds, EndsWithWorldsFrom, HasRules, TestsDiagrams, TestsRules, TestsProfiles};
+ghost use Rattle.maid_model.specs.Laws.{TestsDescent, GraphsHaveOrders, ListsWorlds, EndsWithWorldsFrom, HasRules, TestsDiagrams, TestsRules, TestsProfiles};
 
 /// The test of descent inside the sums says where a path of arcs leads.
 pub fn descent_is_tested()
@@ -7,7 +7,7 @@ pub fn descent_is_tested()
 
 /// Every graph has a list of all nodes in which each stands after its parents.
 pub fn graph_has_order()
-    ensures { HasOrder }
+    ensures { GraphsHaveOrders }
 {}
 
 /// The list of all worlds has each world once, and the worlds from one on are its end.

@@ -1,10 +1,12 @@
+ghost use Rattle.maid_model.specs.declared.limits.TheConstants.{MOST_NODES};
 ghost use Rattle.std.specs.Prelude.{◌≡◌, ℕ, ◌<◌, ◌≤◌, ◌&&◌, IsTrue, IsFalse, length, slice_index};
 ghost use Rattle.std.specs.List.{list_any};
 ghost use Rattle.maid_model.specs.Nodes.{node_at, is_utility_of};
 ghost use Rattle.maid_model.specs.Graph.{descends};
 ghost use Rattle.maid_model.specs.Private.{is_marked, is_near, marked_count, MarksDescendants, IsClosed, MarksUtilities};
 
-use crate::diagrams::{Diagram, Kind, MOST_NODES};
+use crate::diagrams::{Diagram, Kind};
+use crate::limits::MOST_NODES;
 
 /// One truth value for each node.
 pub(crate) type Marks = [bool; MOST_NODES];
@@ -50,7 +52,7 @@ pub(crate) fn utilities_below(diagram: &Diagram, decision: usize) -> Marks
 /// The nodes that descend from the start. It sweeps over all arcs until nothing changes: twice where parents stand
 /// before their children.
 fn descendants(diagram: &Diagram, start: usize) -> Marks
-    requires { length diagram.now.nodes ≤ 256 }
+    requires { length diagram.now.nodes ≤ MOST_NODES }
     ensures { (v : ℕ) → is_marked result v ≡ descends diagram.now.nodes start v }
 {
     let mut marks = [false; MOST_NODES];

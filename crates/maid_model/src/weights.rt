@@ -6,7 +6,8 @@ ghost use Rattle.maid_model.specs.Private.{HasPlaces};
 ghost use Rattle.maid_model.specs.Gains.{table_without, weight_without, base_total, base_mass};
 ghost use Rattle.maid_model.specs.Worlds.{IsWorld, world_of};
 
-use crate::diagrams::{Diagram, Kind, MOST_NODES};
+use crate::diagrams::{Diagram, Kind};
+use crate::limits::MOST_NODES;
 use crate::profiles::Profile;
 use crate::worlds::World;
 

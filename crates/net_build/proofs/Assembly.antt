@@ -13,7 +13,7 @@ use Rattle.maid_model.specs.Nodes.{is_chance}
 use Rattle.maid_model.specs.Views.{NodeView}
 use Rattle.net_lexer.specs.Token.{text_value}
 use Rattle.net_build.specs.declared.nodes.Head.{Head}
-use Rattle.net_build.specs.Blocks.{is_node, kind_of, node_blocks, name_of, has_states, has_agent, named, leaves_of, label_tokens, labels_of, states_of, agent_of, agents_of, place_of, owner_of, parents_of, parent_lists, is_plain, first_sights, no_token}
+use Rattle.net_build.specs.Blocks.{is_node, kind_of, node_blocks, block_name, has_states, has_agent, named, leaves_of, label_tokens, block_labels, block_states, agent_of, agents_of, place_among, owner_of, block_parents, parent_lists, is_plain, first_sights, no_token}
 use Rattle.net_build.specs.Building.{StandsFor, AreTables, names_view}
 use Rattle.net_build.specs.Form.{IsNodeName, HasTextForm}
 use Rattle.net_build.specs.Stages.{TableLists, AreLinks, TablesFit, head_of, node_lists, link_lists, head_at, no_head, made_at, made_nodes, made_diagram}
@@ -54,12 +54,12 @@ at_all P heads all past v = by_place (cases_lt v (length heads)) where
 -- the head of a good block fits
 block_fits : (text : List ℕ) (nodes : List BlockTree) (b : BlockTree) → IsGood text b → is_node b.kind ≡ true → HeadFits (head_of text nodes b)
 block_fits text nodes b good node = by_kind b.kind refl node where
-  with_labels : (k : BlockKind) → b.kind ≡ k → has_states k ≡ true → states_of text b ≡ length (leaves_of (named text (codes "states") b.attributes))
+  with_labels : (k : BlockKind) → b.kind ≡ k → has_states k ≡ true → block_states text b ≡ length (leaves_of (named text (codes "states") b.attributes))
   with_labels k e s =
       let states : has_states b.kind ≡ true = ap has_states e ∙ s in
       ap (λ t. if t then length (label_tokens text b) else 1) states ∙ ap (λ t. length (if t then leaves_of (named text (codes "states") b.attributes) else [])) states
 
-  without : (k : BlockKind) → b.kind ≡ k → has_states k ≡ false → states_of text b ≡ 1
+  without : (k : BlockKind) → b.kind ≡ k → has_states k ≡ false → block_states text b ≡ 1
   without k e s = ap (λ t. if t then length (label_tokens text b) else 1) (ap has_states e ∙ s)
 
   by_kind : (k : BlockKind) → b.kind ≡ k → is_node b.kind ≡ true → HeadFits (head_of text nodes b)
@@ -74,7 +74,7 @@ block_fits text nodes b good node = by_kind b.kind refl node where
         some = omega (arith, count, some);
         many = omega (arith, count, few);
         utility = λ u. let clash : Chance ≡ Utility = sym (ap kind_of e) ∙ u in cc;
-        chance = λ c. ap (λ k. if has_agent k then place_of (agents_of text nodes) (agent_of text b) else 0) e;
+        chance = λ c. ap (λ k. if has_agent k then place_among (agents_of text nodes) (agent_of text b) else 0) e;
       }
   by_kind blocks.Decision e n =
       let count = with_labels blocks.Decision e refl in
@@ -146,11 +146,11 @@ module _ (text : List ℕ) (tree : List BlockTree) (tables : TableLists) (own : 
   owners_are : (v : ℕ) → v < length heads → (head_at heads v).kind ≢ Chance → (head_at heads v).owner < length (agents_of text nodes)
   owners_are v h = (All-map (λ (x : Head). x.kind ≢ Chance → x.owner < length (agents_of text nodes)) (head_of text nodes) nodes
       (λ k d l c. let agent = has_owner (get_or nodes k d).kind (kinds k d l) c in
-      let place : owner_of text nodes (get_or nodes k d) ≡ place_of (agents_of text nodes) (agent_of text (get_or nodes k d)) = ap (λ t. if t then place_of (agents_of text nodes) (agent_of text (get_or nodes k d)) else 0) agent in
+      let place : owner_of text nodes (get_or nodes k d) ≡ place_among (agents_of text nodes) (agent_of text (get_or nodes k d)) = ap (λ t. if t then place_among (agents_of text nodes) (agent_of text (get_or nodes k d)) else 0) agent in
       subst (λ (n : ℕ). n < length (agents_of text nodes)) (sym place) (place_within (agents_of text nodes) (agent_of text (get_or nodes k d)) (agents_known text nodes k d l agent)))) v no_head h
 
   parents_len : length (parent_lists text tree) ≡ length heads
-  parents_len = let n = heads_len in let m = length-map nodes (λ b. parents_of text tree (name_of text b)) in omega arith
+  parents_len = let n = heads_len in let m = length-map nodes (λ b. block_parents text tree (block_name text b)) in omega arith
 
   cells_len : length tables.cells ≡ length heads
   cells_len = are.len ∙ sym heads_len
@@ -202,43 +202,43 @@ module _ (text : List ℕ) (tree : List BlockTree) (tables : TableLists) (own : 
   made_len : length (made_nodes heads (parent_lists text tree) tables.cells) ≡ length heads
   made_len = length-map-range_with_len (made_at heads (parent_lists text tree) tables.cells) 0 (length heads)
 
-  label_counts : (v : ℕ) → v < length heads → (head_at heads v).kind ≢ Utility → length (get_or (map (labels_of text) nodes) v []) ≡ (head_at heads v).states
+  label_counts : (v : ℕ) → v < length heads → (head_at heads v).kind ≢ Utility → length (get_or (map (block_labels text) nodes) v []) ≡ (head_at heads v).states
   label_counts v h other =
       let within : v < length nodes = subst (λ (n : ℕ). v < n) heads_len h in
       let b : BlockTree = get_or nodes v no_block in
       let head : head_at heads v ≡ head_of text nodes b = get_or-map (head_of text nodes) nodes v no_block no_head within in
       let states = has_labels b.kind (kinds v no_block within) (subst (λ (x : Head). x.kind ≢ Utility) head other) in
-      ap length (get_or-map (labels_of text) nodes v no_block [] within) ∙ length-map (label_tokens text b) (text_value text)
+      ap length (get_or-map (block_labels text) nodes v no_block [] within) ∙ length-map (label_tokens text b) (text_value text)
       ∙ sym (ap (λ t. if t then length (label_tokens text b) else 1) states) ∙ sym (ap (λ (x : Head). x.states) head)
 
   pub made_fit : NamesFit (made_diagram (node_lists text (node_blocks tree)) (link_lists text tree) tables) (names_view text tree)
   made_fit = record {
-    nodes = length-map nodes (name_of text) ∙ sym (made_len ∙ heads_len);
-    labels = length-map nodes (labels_of text) ∙ sym (made_len ∙ heads_len);
+    nodes = length-map nodes (block_name text) ∙ sym (made_len ∙ heads_len);
+    labels = length-map nodes (block_labels text) ∙ sym (made_len ∙ heads_len);
     states = λ v h.
         let at = made_node_at heads (parent_lists text tree) tables.cells parents_len cells_len v in
         let within : v < length heads = subst (λ (n : ℕ). v < n) made_len h in
-        subst (λ (n : NodeView). n.kind ≢ Utility → length (get_or (map (labels_of text) nodes) v []) ≡ n.states) (sym at) (label_counts v within);
+        subst (λ (n : NodeView). n.kind ≢ Utility → length (get_or (map (block_labels text) nodes) v []) ≡ n.states) (sym at) (label_counts v within);
     agents = refl;
   }
 
-  labels_absent : (v : ℕ) → (head_at heads v).kind ≡ Utility → get_or (map (labels_of text) nodes) v [] ≡ []
+  labels_absent : (v : ℕ) → (head_at heads v).kind ≡ Utility → get_or (map (block_labels text) nodes) v [] ≡ []
   labels_absent v u = by_place (cases_lt v (length nodes)) where
-    by_place : (v < length nodes) ⊎ (length nodes ≤ v) → get_or (map (labels_of text) nodes) v [] ≡ []
+    by_place : (v < length nodes) ⊎ (length nodes ≤ v) → get_or (map (block_labels text) nodes) v [] ≡ []
     by_place (inl h) =
         let b : BlockTree = get_or nodes v no_block in
         let head : head_at heads v ≡ head_of text nodes b = get_or-map (head_of text nodes) nodes v no_block no_head h in
         let states = no_labels b.kind (sym (ap (λ (x : Head). x.kind) head) ∙ u) in
-        get_or-map (labels_of text) nodes v no_block [] h
+        get_or-map (block_labels text) nodes v no_block [] h
         ∙ ap (λ t. map (text_value text) (if t then leaves_of (named text (codes "states") b.attributes) else [])) states
-    by_place (inr h) = let len = length-map nodes (labels_of text) in get_or_past (map (labels_of text) nodes) v [] (omega (arith, len))
+    by_place (inr h) = let len = length-map nodes (block_labels text) in get_or_past (map (block_labels text) nodes) v [] (omega (arith, len))
 
-  node_name : (b : BlockTree) → IsBlockOf text b → is_node b.kind ≡ true → length (name_of text b) ≤ 255 → IsNodeName (name_of text b)
+  node_name : (b : BlockTree) → IsBlockOf text b → is_node b.kind ≡ true → length (block_name text b) ≤ 255 → IsNodeName (block_name text b)
   node_name b block node short = record { unsigned = (block.names 0 no_token (node_is_named b.kind (length b.names) node block.count)).name.unsigned; size = short }
 
-  labels_plain : (b : BlockTree) → IsGood text b → All (λ l. is_plain l ≡ true) (labels_of text b)
+  labels_plain : (b : BlockTree) → IsGood text b → All (λ l. is_plain l ≡ true) (block_labels text b)
   labels_plain b this = by_test (has_states b.kind) refl where
-    by_test : (t : Bool) → has_states b.kind ≡ t → All (λ l. is_plain l ≡ true) (labels_of text b)
+    by_test : (t : Bool) → has_states b.kind ≡ t → All (λ l. is_plain l ≡ true) (block_labels text b)
     by_test true e = All-map (λ l. is_plain l ≡ true) (text_value text) (label_tokens text b) (subst (All (λ t. is_plain (text_value text t) ≡ true)) (sym (ap (λ t. if t then leaves_of (named text (codes "states") b.attributes) else []) e)) (this.labels e).plain)
     by_test false e = subst (λ (ts : List Token). All (λ l. is_plain l ≡ true) (map (text_value text) ts)) (sym (ap (λ t. if t then leaves_of (named text (codes "states") b.attributes) else []) e)) (λ k d h. absurd (omega arith))
 
@@ -261,8 +261,8 @@ module _ (text : List ℕ) (tree : List BlockTree) (tables : TableLists) (own : 
   pub made_form : HasTextForm (made_diagram (node_lists text (node_blocks tree)) (link_lists text tree) tables) (names_view text tree)
   made_form = record {
     distinct = good.distinct;
-    words = All-map IsNodeName (name_of text) nodes (λ k d h. node_name (get_or nodes k d) (owned_blocks k d h) (kinds k d h) (good.each k d h).short);
-    labels = All-map (All (λ l. is_plain l ≡ true)) (labels_of text) nodes (λ k d h. labels_plain (get_or nodes k d) (good.each k d h));
+    words = All-map IsNodeName (block_name text) nodes (λ k d h. node_name (get_or nodes k d) (owned_blocks k d h) (kinds k d h) (good.each k d h).short);
+    labels = All-map (All (λ l. is_plain l ≡ true)) (block_labels text) nodes (λ k d h. labels_plain (get_or nodes k d) (good.each k d h));
     utility_labels = λ v u.
         let at = made_node_at heads (parent_lists text tree) tables.cells parents_len cells_len v in
         labels_absent v (sym (ap (λ (n : NodeView). n.kind) at) ∙ u);

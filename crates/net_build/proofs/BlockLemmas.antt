@@ -11,7 +11,7 @@ use Rattle.std.proofs.lemmas.Slice.Eq.{bytes_eq-Decides}
 use Rattle.net_lexer.specs.declared.tokens.Token.{Token}
 use Rattle.net_parser.specs.Trees.{ValueTree, leaf, list, none, more, AttributeTree, BlockTree}
 use Rattle.net_parser.specs.Owned.{leaves}
-use Rattle.net_build.specs.Blocks.{leaves_of, has_states, is_string_list, named, states_of, place_of}
+use Rattle.net_build.specs.Blocks.{leaves_of, has_states, is_string_list, named, block_states, place_among}
 use Rattle.net_build.specs.Passes.{Pass, each, each_after, only}
 use Rattle.net_build.specs.Table.{node_rows, states_rows, label_rows}
 use Rattle.net_build.proofs.PlaceLemmas.{first_place_is}
@@ -83,15 +83,15 @@ pub contains_map : {X Y : Type 0} (f : X → Y) (xs : List X) (x : X) → Contai
 contains_map f xs x (k, within, here) = (k, omega (arith, length-map xs f, within), get_or-map f xs k x (f x) within ∙ ap f here)
 
 -- a name that differs from those before stands at its place
-pub place_at : (names : List (List ℕ)) (v : ℕ) → v < length names → ((k : ℕ) → k < v → get_or names k [] ≢ get_or names v []) → place_of names (get_or names v []) ≡ v
+pub place_at : (names : List (List ℕ)) (v : ℕ) → v < length names → ((k : ℕ) → k < v → get_or names k [] ≢ get_or names v []) → place_among names (get_or names v []) ≡ v
 place_at names v within differ = first_place_is names (get_or names v []) v (record { within = within; here = refl; first = differ })
 
 not_false : (b : Bool) → not b ≡ false → b ≡ true
 not_false true e = refl
 not_false false e = absurd (false≢true (sym e))
 
-pub place_here : (names : List (List ℕ)) (name : List ℕ) → place_of names name < length names → get_or names (place_of names name) [] ≡ name
-place_here names name h = (bytes_eq-Decides _ _).0 (not_false (bytes_eq (get_or names (place_of names name) []) name) (prefix_len_stops (λ other. not (bytes_eq other name)) names [] h))
+pub place_here : (names : List (List ℕ)) (name : List ℕ) → place_among names name < length names → get_or names (place_among names name) [] ≡ name
+place_here names name h = (bytes_eq-Decides _ _).0 (not_false (bytes_eq (get_or names (place_among names name) []) name) (prefix_len_stops (λ other. not (bytes_eq other name)) names [] h))
 
 -- a list of strings has a leaf
 strings_some : (value : ValueTree) → (is_string_list value ≡ false → ⊥) → 0 < length (leaves value)
@@ -111,6 +111,6 @@ module _ (text : List ℕ) where
   labels_some block (a ∷ later) h = strings_some a.value h.0
 
   -- a node has states
-  pub states_some : (names agents : List (List ℕ)) (block : BlockTree) → node_rows text names agents block None → 0 < states_of text block
+  pub states_some : (names agents : List (List ℕ)) (block : BlockTree) → node_rows text names agents block None → 0 < block_states text block
   unfolding node_rows
   states_some names agents block h = by_flag (has_states block.kind) (leaves_of (named text (codes "states") block.attributes)) (λ e. labels_some block (named text (codes "states") block.attributes) (subst (λ b. only b (states_rows text block (named text (codes "states") block.attributes)) None) e h.1.1.0))

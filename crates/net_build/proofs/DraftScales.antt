@@ -12,12 +12,12 @@ use Rattle.weight_scale.specs.declared.decimal.Decimal.{Decimal}
 use Rattle.net_build.specs.declared.nodes.Head.{Head}
 use Rattle.net_build.specs.declared.drafts.Draft.{Draft}
 use Rattle.net_build.specs.declared.drafts.Draft.TheVariants.{Cells, Values}
-use Rattle.net_build.specs.Blocks.{no_token, node_blocks, kind_of, states_of, row_count, data_of, leaves_of, numbers_of}
+use Rattle.net_build.specs.Blocks.{no_token, node_blocks, kind_of, block_states, row_count, data_of, leaves_of, block_numbers}
 use Rattle.net_build.specs.Passes.{each}
 use Rattle.net_build.specs.Scaling.{AreDecimals, decimal_at, IsWholeBy}
 use Rattle.net_build.specs.Stages.{NodeLists, head_of, node_lists, link_lists}
 use Rattle.net_build.specs.Table.{IsWideValue, wide_row, node_pass, potential_pass, no_block}
-use Rattle.net_build.specs.TableParts.{AreDrafts, FitsDraft, Fits, HasAtMost, Reaches, IsDraftOf, IsDraftAt, IsScaleOf, raised, values_in, values_of}
+use Rattle.net_build.specs.TableParts.{AreDrafts, FitsDraft, Fits, HasAtMost, Reaches, IsDraftOf, IsDraftAt, IsScaleOf, value_at_scale, values_in, values_of}
 use Rattle.net_build.specs.Zero.{nought}
 use Rattle.net_build.proofs.EachPassing.{each_all}
 use Rattle.net_build.proofs.ScaleLemmas.{decimal_of, raised_is, fits_narrow, not_whole}
@@ -33,7 +33,7 @@ values_good : (text : List ℕ) (scale : ℕ) (tokens : List Token) (ds : List D
 values_good text scale tokens ds are few fits i t h =
     let within : i < length ds = omega (arith, h, are.len, length-map tokens (token_bytes text)) in
     let its = decimal_of text tokens ds i t are h in (
-      (raised scale (decimal_at ds i), raised_is (token_bytes text (get_or tokens i t)) (decimal_at ds i) scale its (few i nought within)),
+      (value_at_scale scale (decimal_at ds i), raised_is (token_bytes text (get_or tokens i t)) (decimal_at ds i) scale its (few i nought within)),
       fits_narrow (token_bytes text (get_or tokens i t)) (decimal_at ds i) scale its (few i nought within) (fits i nought within),
     )
 
@@ -99,14 +99,14 @@ module _ (text : List ℕ) (blocks : List BlockTree) (own : All (IsBlockOf text)
         let within : v < length drafts = omega (arith, h, count_is) in
         let draft : Draft = get_or drafts v (item_of drafts v within) in
         subst (λ o. All (IsGood text scale) (option_map_or (λ q. leaves_of (data_of text q)) o [])) found
-        (draft_good text scale (row_count text blocks (block_at v)) (states_of text (block_at v)) (kind_of (block_at v).kind) (numbers_of text blocks (block_at v)) draft kind
+        (draft_good text scale (row_count text blocks (block_at v)) (block_states text (block_at v)) (kind_of (block_at v).kind) (block_numbers text blocks (block_at v)) draft kind
         (draft_here text blocks own node_none potential_none v draft h (are.each v (item_of drafts v within) within)) (fits v (item_of drafts v within) within)))
 
     -- the draft with most decimals has a number of these
     pub none_fewer : (draft : Draft) → Contains drafts draft → Reaches scale draft → (k : ℕ) → k < scale → All (λ t. IsWholeBy k (token_bytes text t)) numbers → ⊥
     none_fewer draft (v, within, here) reached k fewer all =
         let h : v < length nodes = omega (arith, within, count_is) in
-        draft_least text scale k (row_count text blocks (block_at v)) (states_of text (block_at v)) (kind_of (block_at v).kind) (numbers_of text blocks (block_at v)) draft reached
+        draft_least text scale k (row_count text blocks (block_at v)) (block_states text (block_at v)) (kind_of (block_at v).kind) (block_numbers text blocks (block_at v)) draft reached
         (draft_here text blocks own node_none potential_none v draft h (subst (IsDraftAt text heads (link_lists text blocks) v) here (are.each v draft within))) fewer
         (λ kind. values_at text blocks own node_none potential_none (λ t. IsWholeBy k (token_bytes text t)) v all h kind)
 

@@ -12,7 +12,7 @@ use Rattle.net_build.specs.declared.faults.BuildFault.{BuildFault}
 use Rattle.net_build.specs.declared.faults.BuildFault.TheVariants.{Fault, NoMemory}
 use Rattle.net_build.specs.declared.faults.BuildKind.TheVariants as kinds
 use Rattle.net_build.specs.declared.faults.Limit.TheVariants as limits
-use Rattle.net_build.specs.Lists.{list_of}
+use Rattle.maid_model.specs.Names.{list_of}
 use Rattle.net_build.specs.Passes.{Pass, Refuses, Passes, each}
 use Rattle.net_build.specs.Stages.{leaves_in, are_string_values}
 use Rattle.net_build.specs.Table.{label_row, label_rows, states_rows}

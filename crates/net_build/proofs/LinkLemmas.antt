@@ -9,7 +9,7 @@ use Rattle.std.specs.Result.{IsErr, IsErrAnd}
 use Rattle.std.specs.Str.{bytes_eq}
 use Rattle.net_build.specs.declared.faults.BuildFault.{BuildFault}
 use Rattle.net_build.specs.declared.faults.BuildFault.TheVariants.{Fault, NoMemory}
-use Rattle.net_build.specs.Blocks.{place_of}
+use Rattle.net_build.specs.Blocks.{place_among}
 use Rattle.net_build.specs.declared.nodes.Head.{Head}
 use Rattle.net_build.specs.Linking.{kind_at, node_named, unknown_row, repeat_row, utility_row, condition_steps}
 use Rattle.net_lexer.specs.declared.tokens.Token.{Token}
@@ -63,13 +63,13 @@ there_is_any f w (x ∷ xs) h = by_place (contains_cases (f x) w (map f xs) h) (
   by_place (inr k) rec = ap (λ b. bytes_eq (f x) w || b) (rec k) ∙ or_true (bytes_eq (f x) w)
 
 -- a name of the list stands at a place within it
-pub place_within : (names : List (List ℕ)) (name : List ℕ) → Contains names name → place_of names name < length names
+pub place_within : (names : List (List ℕ)) (name : List ℕ) → Contains names name → place_among names name < length names
 place_within [] name h = absurd (contains_none name h)
 place_within (x ∷ names) name h = by_test (bytes_eq x name) refl (contains_cases x name names h) (λ k. place_within names name k) where
-  by_test : (b : Bool) → bytes_eq x name ≡ b → (x ≡ name) ⊎ Contains names name → (Contains names name → place_of names name < length names) → place_of (x ∷ names) name < length (x ∷ names)
-  by_test true e k rec = let s : place_of (x ∷ names) name ≡ 0 = ap (λ b. cond (not b) (1 + place_of names name) 0) e in omega (arith, s)
+  by_test : (b : Bool) → bytes_eq x name ≡ b → (x ≡ name) ⊎ Contains names name → (Contains names name → place_among names name < length names) → place_among (x ∷ names) name < length (x ∷ names)
+  by_test true e k rec = let s : place_among (x ∷ names) name ≡ 0 = ap (λ b. cond (not b) (1 + place_among names name) 0) e in omega (arith, s)
   by_test false e (inl is) rec = absurd (false≢true (sym e ∙ bytes_same x name is))
-  by_test false e (inr k) rec = let s : place_of (x ∷ names) name ≡ 1 + place_of names name = ap (λ b. cond (not b) (1 + place_of names name) 0) e in omega (arith, s, rec k)
+  by_test false e (inr k) rec = let s : place_among (x ∷ names) name ≡ 1 + place_among names name = ap (λ b. cond (not b) (1 + place_among names name) 0) e in omega (arith, s, rec k)
 
 -- the rows of a name behind the bar, where the first, the second or the third finds a fault
 pub condition_unknown : {A : Type 0} (text : List ℕ) (names : List (List ℕ)) (heads : List Head) (earlier : List Token) (name : Token) (r : Result A BuildFault) (fault : BuildFault) → IsErr r × IsErrAnd r (λ y. y ≡ fault) → Refuses (unknown_row text names name) fault → Passes (condition_steps text names heads earlier name) r

@@ -16,7 +16,7 @@ use Rattle.net_parser.specs.declared.trees.BlockKind.{BlockKind}
 use Rattle.net_parser.specs.declared.trees.BlockKind.TheVariants as blocks
 use Rattle.net_parser.specs.Trees.{BlockTree}
 use Rattle.net_build.specs.declared.nodes.Head.{Head}
-use Rattle.net_build.specs.Blocks.{is_node, node_blocks, potentials, kind_of, title, title_at, name_of, names_of, conditions, has_table, states_of, potential_of, parents_of, parent_lists, state_counts, row_count, cell_count}
+use Rattle.net_build.specs.Blocks.{is_node, node_blocks, potentials, kind_of, title, title_at, block_name, names_of, conditions, has_table, block_states, potential_of, block_parents, parent_lists, state_counts, row_count, cell_count}
 use Rattle.net_build.specs.Linking.{node_named, unknown_row, repeat_row, utility_row, condition_steps, conditions_steps, taken_row, many_row, potentials_among, parents_in, behind_rows, potentials_steps, absent_row, missing_at, missing_steps, graph_steps, rows_over, rules_before, size_steps_at, size_steps}
 use Rattle.net_build.specs.declared.faults.Limit.TheVariants.{Cells, Rules}
 use Rattle.net_build.specs.Passes.{Pass, Found, found, clear, rule, only, ◌▸◌, each, each_after, DoublePotential, MissingTable, GraphCycle, LimitPassed}
@@ -103,26 +103,26 @@ unfolding condition_rows
 condition_leads text ns earlier name = subst (λ (kinds : List Kind). Leads (condition_steps text (names_of text ns) (map (head_of text ns) ns) earlier name) (unknown_row text (names_of text ns) name ▸ repeat_row text earlier name ▸ utility_row (get_or kinds (node_named text (names_of text ns) name) Chance) name)) (map_map (λ h. h.kind) (head_of text ns) ns) (leads_all _)
 
 -- a potential before it
-taken_to : (text : List ℕ) (names : List (List ℕ)) (earlier : List BlockTree) (p : BlockTree) → IsSome (get_or (potentials_among text names earlier) (node_named text names (title p)) None) → Contains (names_of text earlier) (name_of text p)
+taken_to : (text : List ℕ) (names : List (List ℕ)) (earlier : List BlockTree) (p : BlockTree) → IsSome (get_or (potentials_among text names earlier) (node_named text names (title p)) None) → Contains (names_of text earlier) (block_name text p)
 taken_to text names earlier p some = by_order (cases_lt (node_named text names (title p)) (length names)) where
-  by_order : (node_named text names (title p) < length names) ⊎ (length names ≤ node_named text names (title p)) → Contains (names_of text earlier) (name_of text p)
-  by_order (inl h) = found_is_there (name_of text) (name_of text p) earlier
-      (subst (λ (w : List ℕ). IsSome (find (λ q. bytes_eq (name_of text q) w) earlier)) (place_holds names (name_of text p) h)
+  by_order : (node_named text names (title p) < length names) ⊎ (length names ≤ node_named text names (title p)) → Contains (names_of text earlier) (block_name text p)
+  by_order (inl h) = found_is_there (block_name text) (block_name text p) earlier
+      (subst (λ (w : List ℕ). IsSome (find (λ q. bytes_eq (block_name text q) w) earlier)) (place_holds names (block_name text p) h)
       (subst IsSome (among_at text names earlier (node_named text names (title p)) None h) some))
-  by_order (inr h) = absurd (false≢true (subst (λ (o : Option BlockTree). IsSome o) (get_or-eq_default (potentials_among text names earlier) None (let l : length (potentials_among text names earlier) ≡ length names = length-map names (λ name. find (λ q. bytes_eq (name_of text q) name) earlier) in omega arith)) some))
+  by_order (inr h) = absurd (false≢true (subst (λ (o : Option BlockTree). IsSome o) (get_or-eq_default (potentials_among text names earlier) None (let l : length (potentials_among text names earlier) ≡ length names = length-map names (λ name. find (λ q. bytes_eq (block_name text q) name) earlier) in omega arith)) some))
 
-taken_from : (text : List ℕ) (names : List (List ℕ)) (earlier : List BlockTree) (p : BlockTree) → unknown_row text names (title p) None → Contains (names_of text earlier) (name_of text p) → IsSome (get_or (potentials_among text names earlier) (node_named text names (title p)) None)
+taken_from : (text : List ℕ) (names : List (List ℕ)) (earlier : List BlockTree) (p : BlockTree) → unknown_row text names (title p) None → Contains (names_of text earlier) (block_name text p) → IsSome (get_or (potentials_among text names earlier) (node_named text names (title p)) None)
 taken_from text names earlier p known there =
     let h : node_named text names (title p) < length names = within_names text names (title p) known in
     subst IsSome (sym (among_at text names earlier (node_named text names (title p)) None h))
-    (subst (λ (w : List ℕ). IsSome (find (λ q. bytes_eq (name_of text q) w) earlier)) (sym (place_holds names (name_of text p) h)) (there_is_found (name_of text) (name_of text p) earlier there))
+    (subst (λ (w : List ℕ). IsSome (find (λ q. bytes_eq (block_name text q) w) earlier)) (sym (place_holds names (block_name text p) h)) (there_is_found (block_name text) (block_name text p) earlier there))
 
 -- the rows of a potential
 behind_leads : (text : List ℕ) (ns : List BlockTree) (earlier : List BlockTree) (p : BlockTree) → Leads (behind_rows text (names_of text ns) (map (head_of text ns) ns) earlier p) (potential_rows text ns earlier p)
 unfolding potential_rows
 behind_leads text ns earlier p =
     then_leads (unknown_row text (names_of text ns) (title p)) (unknown_row text (names_of text ns) (title p)) _ _ (leads_all (unknown_row text (names_of text ns) (title p)))
-    (λ known. then_leads (taken_row (potentials_among text (names_of text ns) earlier) (node_named text (names_of text ns) (title p)) (title p)) (rule (Contains (names_of text earlier) (name_of text p)) (found (title_at p) DoublePotential)) _ _
+    (λ known. then_leads (taken_row (potentials_among text (names_of text ns) earlier) (node_named text (names_of text ns) (title p)) (title p)) (rule (Contains (names_of text earlier) (block_name text p)) (found (title_at p) DoublePotential)) _ _
     (rule_leads _ _ (found (title_at p) DoublePotential) (taken_to text (names_of text ns) earlier p) (taken_from text (names_of text ns) earlier p known))
     (λ _. then_leads (conditions_steps text (names_of text ns) (map (head_of text ns) ns) (conditions p)) (each_after (condition_rows text ns) [] (conditions p)) (many_row (title p) (conditions p)) (many_row (title p) (conditions p))
     (after_leads (condition_steps text (names_of text ns) (map (head_of text ns) ns)) (condition_rows text ns) (condition_leads text ns) [] (conditions p))
@@ -136,8 +136,8 @@ potentials_lead text bs = after_leads (behind_rows text (names_of text (node_blo
 head_is : (text : List ℕ) (ns : List BlockTree) (v : ℕ) → head_at (map (head_of text ns) ns) v ≡ head_of text ns (get_or ns v no_block)
 head_is text ns v = get_or-map (head_of text ns) ns v no_block
 
-name_is : (text : List ℕ) (ns : List BlockTree) (v : ℕ) → v < length ns → get_or (names_of text ns) v [] ≡ name_of text (get_or ns v no_block)
-name_is text ns v h = get_or_map_within (name_of text) ns v no_block [] h
+name_is : (text : List ℕ) (ns : List BlockTree) (v : ℕ) → v < length ns → get_or (names_of text ns) v [] ≡ block_name text (get_or ns v no_block)
+name_is text ns v h = get_or_map_within (block_name text) ns v no_block [] h
 
 -- a chance node and a utility are the nodes with a table
 table_kind : (k : BlockKind) → is_node k ≡ true → not (is_decision (kind_of k)) ≡ has_table k
@@ -155,15 +155,15 @@ only_leads false P Q lead = leads_all clear
 absent_leads : (text : List ℕ) (bs : List BlockTree) (v : ℕ) → v < length (node_blocks bs) → Leads (absent_row (head_of text (node_blocks bs) (get_or (node_blocks bs) v no_block)) (potentials_among text (names_of text (node_blocks bs)) (potentials bs)) v) (missing_row text bs (get_or (node_blocks bs) v no_block))
 absent_leads text bs v h = rule_leads _ _ (found (title_at (get_or (node_blocks bs) v no_block)) MissingTable)
     (λ none there. false≢true (ap is_some (sym none) ∙ some there))
-    (λ lacks. none_from_not_some _ (λ is. lacks (found_is_there (name_of text) (name_of text (get_or (node_blocks bs) v no_block)) (potentials bs) (subst IsSome entry is)))) where
+    (λ lacks. none_from_not_some _ (λ is. lacks (found_is_there (block_name text) (block_name text (get_or (node_blocks bs) v no_block)) (potentials bs) (subst IsSome entry is)))) where
       within : v < length (names_of text (node_blocks bs))
-      within = let l : length (names_of text (node_blocks bs)) ≡ length (node_blocks bs) = length-map (node_blocks bs) (name_of text) in omega arith
+      within = let l : length (names_of text (node_blocks bs)) ≡ length (node_blocks bs) = length-map (node_blocks bs) (block_name text) in omega arith
 
-      entry : get_or (potentials_among text (names_of text (node_blocks bs)) (potentials bs)) v None ≡ find (λ p. bytes_eq (name_of text p) (name_of text (get_or (node_blocks bs) v no_block))) (potentials bs)
-      entry = among_at text (names_of text (node_blocks bs)) (potentials bs) v None within ∙ ap (λ w. find (λ p. bytes_eq (name_of text p) w) (potentials bs)) (name_is text (node_blocks bs) v h)
+      entry : get_or (potentials_among text (names_of text (node_blocks bs)) (potentials bs)) v None ≡ find (λ p. bytes_eq (block_name text p) (block_name text (get_or (node_blocks bs) v no_block))) (potentials bs)
+      entry = among_at text (names_of text (node_blocks bs)) (potentials bs) v None within ∙ ap (λ w. find (λ p. bytes_eq (block_name text p) w) (potentials bs)) (name_is text (node_blocks bs) v h)
 
-      some : Contains (names_of text (potentials bs)) (name_of text (get_or (node_blocks bs) v no_block)) → IsSome (get_or (potentials_among text (names_of text (node_blocks bs)) (potentials bs)) v None)
-      some there = subst IsSome (sym entry) (there_is_found (name_of text) (name_of text (get_or (node_blocks bs) v no_block)) (potentials bs) there)
+      some : Contains (names_of text (potentials bs)) (block_name text (get_or (node_blocks bs) v no_block)) → IsSome (get_or (potentials_among text (names_of text (node_blocks bs)) (potentials bs)) v None)
+      some there = subst IsSome (sym entry) (there_is_found (block_name text) (block_name text (get_or (node_blocks bs) v no_block)) (potentials bs) there)
 
 missing_leads : (text : List ℕ) (bs : List BlockTree) (v : ℕ) → v < length (node_blocks bs) → Leads (missing_at (map (head_of text (node_blocks bs)) (node_blocks bs)) (potentials_among text (names_of text (node_blocks bs)) (potentials bs)) v) (only (has_table (get_or (node_blocks bs) v no_block).kind) (missing_row text bs (get_or (node_blocks bs) v no_block)))
 missing_leads text bs v h =
@@ -190,12 +190,12 @@ counts_same heads counts same [] = refl
 counts_same heads counts same (u ∷ us) = ap (λ n. n * rows_over heads us) (same u) ∙ ap (λ n. get_or counts u 1 * n) (counts_same heads counts same us)
 
 states_same : (text : List ℕ) (ns : List BlockTree) (u : ℕ) → (head_at (map (head_of text ns) ns) u).states ≡ get_or (state_counts text ns) u 1
-states_same text ns u = ap (λ (x : Head). x.states) (head_is text ns u) ∙ sym (get_or-map (states_of text) ns u no_block)
+states_same text ns u = ap (λ (x : Head). x.states) (head_is text ns u) ∙ sym (get_or-map (block_states text) ns u no_block)
 
 cells_same : (text : List ℕ) (bs : List BlockTree) (v : ℕ) → v < length (node_blocks bs) → cells_at (map (head_of text (node_blocks bs)) (node_blocks bs)) (parent_lists text bs) v ≡ cell_count text bs (get_or (node_blocks bs) v no_block)
 cells_same text bs v h =
-    ap (λ us. rows_over (map (head_of text (node_blocks bs)) (node_blocks bs)) us * (head_at (map (head_of text (node_blocks bs)) (node_blocks bs)) v).states) (get_or_map_within (λ b. parents_of text bs (name_of text b)) (node_blocks bs) v no_block [] h)
-    ∙ ap (λ n. n * (head_at (map (head_of text (node_blocks bs)) (node_blocks bs)) v).states) (counts_same (map (head_of text (node_blocks bs)) (node_blocks bs)) (state_counts text (node_blocks bs)) (states_same text (node_blocks bs)) (parents_of text bs (name_of text (get_or (node_blocks bs) v no_block))))
+    ap (λ us. rows_over (map (head_of text (node_blocks bs)) (node_blocks bs)) us * (head_at (map (head_of text (node_blocks bs)) (node_blocks bs)) v).states) (get_or_map_within (λ b. block_parents text bs (block_name text b)) (node_blocks bs) v no_block [] h)
+    ∙ ap (λ n. n * (head_at (map (head_of text (node_blocks bs)) (node_blocks bs)) v).states) (counts_same (map (head_of text (node_blocks bs)) (node_blocks bs)) (state_counts text (node_blocks bs)) (states_same text (node_blocks bs)) (block_parents text bs (block_name text (get_or (node_blocks bs) v no_block))))
     ∙ ap (λ (x : Head). row_count text bs (get_or (node_blocks bs) v no_block) * x.states) (head_is text (node_blocks bs) v)
 
 -- the cells of the rules, one node on
@@ -247,11 +247,11 @@ size_lead text bs = rw (length-map (node_blocks bs) (head_of text (node_blocks b
     (λ k h. rw (let e : 0 + k ≡ k = omega arith in e) (size_leads text bs k h)))
 
 -- the potentials and the parents of the nodes
-pub potentials_are : (text : List ℕ) (bs : List BlockTree) → potentials_among text (names_of text (node_blocks bs)) (potentials bs) ≡ map (λ b. potential_of text bs (name_of text b)) (node_blocks bs)
-potentials_are text bs = map_map (λ name. find (λ p. bytes_eq (name_of text p) name) (potentials bs)) (name_of text) (node_blocks bs)
+pub potentials_are : (text : List ℕ) (bs : List BlockTree) → potentials_among text (names_of text (node_blocks bs)) (potentials bs) ≡ map (λ b. potential_of text bs (block_name text b)) (node_blocks bs)
+potentials_are text bs = map_map (λ name. find (λ p. bytes_eq (block_name text p) name) (potentials bs)) (block_name text) (node_blocks bs)
 
 pub parents_are : (text : List ℕ) (bs : List BlockTree) → parents_in text (names_of text (node_blocks bs)) (potentials_among text (names_of text (node_blocks bs)) (potentials bs)) ≡ parent_lists text bs
-parents_are text bs = ap (parents_in text (names_of text (node_blocks bs))) (potentials_are text bs) ∙ map_map (λ o. option_map_or (λ p. map (node_named text (names_of text (node_blocks bs))) (conditions p)) o []) (λ b. potential_of text bs (name_of text b)) (node_blocks bs)
+parents_are text bs = ap (parents_in text (names_of text (node_blocks bs))) (potentials_are text bs) ∙ map_map (λ o. option_map_or (λ p. map (node_named text (names_of text (node_blocks bs))) (conditions p)) o []) (λ b. potential_of text bs (block_name text b)) (node_blocks bs)
 
 -- names of nodes whose rows find nothing differ
 pub names_differ : (text : List ℕ) (bs : List BlockTree) → node_pass text bs None → AllPairs (λ x y. x ≢ y) (names_of text (node_blocks bs))
@@ -287,10 +287,10 @@ links_are text bs names l names_eq found_eq rows_eq =
 
 -- one entry for each node
 pub length_among : (text : List ℕ) (names : List (List ℕ)) (blocks : List BlockTree) (found : List (Option BlockTree)) → found ≡ potentials_among text names blocks → length found ≡ length names
-length_among text names blocks found e = ap length e ∙ length-map names (λ name. find (λ p. bytes_eq (name_of text p) name) blocks)
+length_among text names blocks found e = ap length e ∙ length-map names (λ name. find (λ p. bytes_eq (block_name text p) name) blocks)
 
 pub length_in : (text : List ℕ) (names : List (List ℕ)) (found : List (Option BlockTree)) (rows : List (List ℕ)) → rows ≡ parents_in text names found → length rows ≡ length found
 length_in text names found rows e = ap length e ∙ length-map found (λ o. option_map_or (λ p. map (node_named text names) (conditions p)) o [])
 
 pub length_heads : (text : List ℕ) (bs : List BlockTree) (names : List (List ℕ)) (heads : List Head) → names ≡ names_of text (node_blocks bs) → heads ≡ map (head_of text (node_blocks bs)) (node_blocks bs) → length names ≡ length heads
-length_heads text bs names heads names_eq heads_eq = ap length names_eq ∙ length-map (node_blocks bs) (name_of text) ∙ sym (length-map (node_blocks bs) (head_of text (node_blocks bs))) ∙ sym (ap length heads_eq)
+length_heads text bs names heads names_eq heads_eq = ap length names_eq ∙ length-map (node_blocks bs) (block_name text) ∙ sym (length-map (node_blocks bs) (head_of text (node_blocks bs))) ∙ sym (ap length heads_eq)

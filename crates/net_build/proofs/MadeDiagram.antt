@@ -16,7 +16,7 @@ use Rattle.maid_model.specs.Sums.{sum_below, nat_sum_over}
 use Rattle.maid_model.specs.Tables.{chance_total, IsTable, HasChanceTables}
 use Rattle.maid_model.specs.Views.{NodeView}
 use Rattle.net_build.specs.declared.nodes.Head.{Head}
-use Rattle.net_build.specs.Stages.{AreLinks, FitsTable, TablesFit, head_at, no_head, rows_at, cells_at, made_at, made_nodes}
+use Rattle.net_build.specs.Stages.{AreLinks, FitsTable, TablesFit, head_at, no_head, head_rows, cells_at, made_at, made_nodes}
 
 -- a head within the limits
 pub record HeadFits (h : Head) : Type 0 where
@@ -96,7 +96,7 @@ module _ (heads : List Head) (parents : List (List ℕ)) (cells : List (List ℤ
     chance = λ v. subst (λ (n : NodeView). n.kind ≡ Chance → n.owner ≡ 0) (sym (at v)) (f.heads_fit v).chance;
   }
 
-  rows_is : (v : ℕ) → rows_of N v ≡ rows_at heads parents v
+  rows_is : (v : ℕ) → rows_of N v ≡ head_rows heads parents v
   rows_is v = λ j. rows_under (λ u. (at u j).states) ((at v j).parents)
 
   size_is : (v : ℕ) → rows_of N v * states_of N v ≡ cells_at heads parents v
@@ -112,15 +112,15 @@ module _ (heads : List Head) (parents : List (List ℕ)) (cells : List (List ℤ
     by_place (inl h) = h
     by_place (inr h) = absurd (other (ap (λ (x : Head). x.kind) (get_or_past heads v no_head h)))
 
-  chance_fits : (v : ℕ) → (head_at heads v).kind ≡ Chance → FitsTable Chance (rows_at heads parents v) (head_at heads v).states (get_or cells v [])
+  chance_fits : (v : ℕ) → (head_at heads v).kind ≡ Chance → FitsTable Chance (head_rows heads parents v) (head_at heads v).states (get_or cells v [])
   chance_fits v e =
       let other : (head_at heads v).kind ≡ Utility → ⊥ = λ u. let clash : Chance ≡ Utility = sym e ∙ u in cc in
-      subst (λ (k : Kind). FitsTable k (rows_at heads parents v) (head_at heads v).states (get_or cells v [])) e (f.tables v (within v other))
+      subst (λ (k : Kind). FitsTable k (head_rows heads parents v) (head_at heads v).states (get_or cells v [])) e (f.tables v (within v other))
 
   total_is : (v : ℕ) (e : (head_at heads v).kind ≡ Chance) → chance_total N v ≡ (chance_fits v e).0
   total_is v e =
       let fit = chance_fits v e in
-      let some : 0 < rows_at heads parents v = rows_positive (λ u. (head_at heads u).states) (λ u. (f.heads_fit u).some) (get_or parents v []) in
+      let some : 0 < head_rows heads parents v = rows_positive (λ u. (head_at heads u).states) (λ u. (f.heads_fit u).some) (get_or parents v []) in
       let start : (s : ℕ) → s ≡ 0 * (head_at heads v).states + s = λ s. omega arith in
       (λ j. nat_abs (sum_below (at v j).states (λ s. get_or (at v j).cells s (pos 0))))
       ∙ (λ j. nat_abs (sum_below (head_at heads v).states (λ s. get_or (get_or cells v []) (start s j) (pos 0))))
@@ -132,25 +132,25 @@ module _ (heads : List Head) (parents : List (List ℕ)) (cells : List (List ℤ
     table = λ v k. let e = kind_is v Chance k in
         subst (λ (n : NodeView). IsTable n.cells (rows_of N v) n.states (chance_total N v)) (sym (at v))
         (subst (λ (r : ℕ). IsTable (get_or cells v []) r (head_at heads v).states (chance_total N v)) (sym (rows_is v))
-        (subst (λ (t : ℕ). IsTable (get_or cells v []) (rows_at heads parents v) (head_at heads v).states t) (sym (total_is v e)) (chance_fits v e).3));
+        (subst (λ (t : ℕ). IsTable (get_or cells v []) (head_rows heads parents v) (head_at heads v).states t) (sym (total_is v e)) (chance_fits v e).3));
   }
 
   values_are : HasValues N
   values_are = record {
     utility = λ v h k.
-        let fit = subst (λ (x : Kind). FitsTable x (rows_at heads parents v) (head_at heads v).states (get_or cells v [])) (kind_is v Utility k) (f.tables v (subst (λ (n : ℕ). v < n) count_is h)) in
+        let fit = subst (λ (x : Kind). FitsTable x (head_rows heads parents v) (head_at heads v).states (get_or cells v [])) (kind_is v Utility k) (f.tables v (subst (λ (n : ℕ). v < n) count_is h)) in
         ap (λ (n : NodeView). length n.cells) (at v) ∙ fit.0 ∙ sym (rows_is v);
     decision = λ v k.
         let e = kind_is v Decision k in
         let other : (head_at heads v).kind ≡ Utility → ⊥ = λ u. let clash : Decision ≡ Utility = sym e ∙ u in cc in
-        let fit = subst (λ (x : Kind). FitsTable x (rows_at heads parents v) (head_at heads v).states (get_or cells v [])) e (f.tables v (within v other)) in
+        let fit = subst (λ (x : Kind). FitsTable x (head_rows heads parents v) (head_at heads v).states (get_or cells v [])) e (f.tables v (within v other)) in
         ap (λ (n : NodeView). n.cells) (at v) ∙ fit;
   }
 
   utility_values : (v : ℕ) → (head_at heads v).kind ≡ Utility → All (λ x. nat_abs x ≤ greatest_number) (get_or cells v [])
   utility_values v e = by_place (cases_lt v (length heads)) where
     by_place : (v < length heads) ⊎ (length heads ≤ v) → All (λ x. nat_abs x ≤ greatest_number) (get_or cells v [])
-    by_place (inl h) = (subst (λ (x : Kind). FitsTable x (rows_at heads parents v) (head_at heads v).states (get_or cells v [])) e (f.tables v h)).1
+    by_place (inl h) = (subst (λ (x : Kind). FitsTable x (head_rows heads parents v) (head_at heads v).states (get_or cells v [])) e (f.tables v h)).1
     by_place (inr h) = let past = f.cells_len in subst (All (λ x. nat_abs x ≤ greatest_number)) (sym (get_or_past cells v [] (omega arith))) (All-nil (λ x. nat_abs x ≤ greatest_number))
 
   rules_are : nat_sum_over (λ v. rows_of N v * states_of N v) (decisions_of N) ≡ sum (map (cells_at heads parents) (filter (λ v. is_decision (head_at heads v).kind) (range_with_len 0 (length heads))))

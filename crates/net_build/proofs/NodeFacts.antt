@@ -7,7 +7,7 @@ use Rattle.std.proofs.lemmas.List.Quantifiers.{all_pairs_push}
 use Rattle.std.specs.List.{list_any}
 use Rattle.std.specs.Prelude.{if◌then◌else◌, codes}
 use Rattle.std.specs.Str.{bytes_eq}
-use Rattle.net_build.specs.Blocks.{node_blocks, name_of, names_of, has_states, has_agent, named, is_string, are_strings, is_string_list, is_plain, is_agent, is_text, leaves_of, agent_of, first_text, agents_of, first_sights}
+use Rattle.net_build.specs.Blocks.{node_blocks, block_name, names_of, has_states, has_agent, named, is_string, are_strings, is_string_list, is_plain, is_agent, is_text, leaves_of, agent_of, first_text, agents_of, first_sights}
 use Rattle.net_build.specs.Passes.{Pass, only, each, each_after}
 use Rattle.net_build.specs.Stages.{with_sight, with_agent}
 use Rattle.net_build.specs.Table.{IsAgentTooMany, label_row, label_rows, states_rows, agent_rows, owner_rows, name_rows, node_rows, node_pass}
@@ -76,7 +76,7 @@ agents_plain text (a ∷ rest) h = agent_tree text a.value (not_false (is_agent 
 
 -- what holds of one block behind others
 pub record IsGood (text : List ℕ) (block : BlockTree) : Type 0 where
-  pub short : length (name_of text block) ≤ 255
+  pub short : length (block_name text block) ≤ 255
   pub labels : has_states block.kind ≡ true → HasLabels text (leaves_of (named text (codes "states") block.attributes))
   pub agent : has_agent block.kind ≡ true → is_plain (agent_of text block) ≡ true
 
@@ -90,7 +90,7 @@ pub record AreGood (text : List ℕ) (nodes : List BlockTree) : Type 0 where
 good_block : (text : List ℕ) (names agents : List (List ℕ)) (block : BlockTree) → node_rows text names agents block None → IsGood text block
 unfolding node_rows name_rows owner_rows
 good_block text names agents block h = record {
-  short = short (length (name_of text block)) h.0.1.0;
+  short = short (length (block_name text block)) h.0.1.0;
   labels = λ e. states_labels text block _ (only_on (has_states block.kind) _ e h.1.1.0);
   agent = λ e. agents_plain text _ (only_on (has_agent block.kind) (owner_rows text agents block) e h.1.1.1).0;
 } where
@@ -121,8 +121,8 @@ few_agents text agents block few room = by_test (has_agent block.kind) refl wher
 good_more : (text : List ℕ) (earlier : List BlockTree) (block : BlockTree) → AreGood text earlier → rows_behind text earlier block None → AreGood text (earlier ++ block ∷ [])
 unfolding node_rows name_rows owner_rows
 good_more text earlier block good h = record {
-  few = let l = length_push earlier block in let n = length-map earlier (name_of text) in under256 (length earlier) _ (λ many. h.0.0 (rw n many)) l;
-  distinct = rw (map-append (name_of text) earlier (block ∷ [])) (all_pairs_push (λ name later. name ≢ later) (names_of text earlier) (name_of text block) good.distinct (λ k d within same. h.0.1.1 (k, within, get_or_default (names_of text earlier) k (name_of text block) d within ∙ same)));
+  few = let l = length_push earlier block in let n = length-map earlier (block_name text) in under256 (length earlier) _ (λ many. h.0.0 (rw n many)) l;
+  distinct = rw (map-append (block_name text) earlier (block ∷ [])) (all_pairs_push (λ name later. name ≢ later) (names_of text earlier) (block_name text block) good.distinct (λ k d within same. h.0.1.1 (k, within, get_or_default (names_of text earlier) k (block_name text block) d within ∙ same)));
   agents = rw (agents_more text earlier block) (few_agents text (agents_of text earlier) block good.agents (λ e. (only_on (has_agent block.kind) (owner_rows text (agents_of text earlier) block) e h.1.1.1).1));
   each = All-push (IsGood text) earlier block good.each (good_block text (names_of text earlier) (agents_of text earlier) block h);
 }

@@ -13,7 +13,7 @@ use Rattle.net_build.specs.declared.faults.BuildFault.TheVariants.{Fault, NoMemo
 use Rattle.net_build.specs.declared.faults.BuildKind.TheVariants as kinds
 use Rattle.net_build.specs.declared.faults.Limit.TheVariants as limits
 use Rattle.net_build.specs.declared.nodes.Head.{Head}
-use Rattle.net_build.specs.Blocks.{is_node, kind_of, title_at, name_of, names_of, named, has_states, has_agent, agent_of, agents_of, owner_of, place_of, node_blocks}
+use Rattle.net_build.specs.Blocks.{is_node, kind_of, title_at, block_name, names_of, named, has_states, has_agent, agent_of, agents_of, owner_of, place_among, node_blocks}
 use Rattle.net_build.specs.Passes.{Pass, Refuses, only}
 use Rattle.net_build.specs.Table.{name_rows, states_rows, owner_rows, repeats, node_rows}
 use Rattle.net_parser.specs.Owned.{HasNames}
@@ -28,17 +28,17 @@ unfolding name_rows
 many_nodes text names block fault many what = rw what (inl (omega arith, refl))
 
 -- a name of too many bytes
-pub long_name : (text : List ℕ) (names : List (List ℕ)) (block : BlockTree) (fault : BuildFault) (count : ℕ) → length names < 256 → count ≡ length (name_of text block) → 255 < count → fault ≡ Fault (title_at block) (kinds.LimitPassed limits.NameBytes count) → Refuses (name_rows text names block) fault
+pub long_name : (text : List ℕ) (names : List (List ℕ)) (block : BlockTree) (fault : BuildFault) (count : ℕ) → length names < 256 → count ≡ length (block_name text block) → 255 < count → fault ≡ Fault (title_at block) (kinds.LimitPassed limits.NameBytes count) → Refuses (name_rows text names block) fault
 unfolding name_rows
 long_name text names block fault count few counted long what = rw (what, counted) (inr ((λ many. omega arith), inl (rw counted at long, refl)))
 
 -- a name that another block has
-pub double_name : (text : List ℕ) (names : List (List ℕ)) (block : BlockTree) (fault : BuildFault) → length names < 256 → length (name_of text block) ≤ 255 → Contains names (name_of text block) → fault ≡ Fault (title_at block) kinds.DoubleName → Refuses (name_rows text names block) fault
+pub double_name : (text : List ℕ) (names : List (List ℕ)) (block : BlockTree) (fault : BuildFault) → length names < 256 → length (block_name text block) ≤ 255 → Contains names (block_name text block) → fault ≡ Fault (title_at block) kinds.DoubleName → Refuses (name_rows text names block) fault
 unfolding name_rows
 double_name text names block fault few short has what = rw what (inr ((λ many. omega arith), inr ((λ long. omega arith), (has, refl))))
 
 -- any other
-pub good_name : (text : List ℕ) (names : List (List ℕ)) (block : BlockTree) → length names < 256 → length (name_of text block) ≤ 255 → (Contains names (name_of text block) → ⊥) → name_rows text names block None
+pub good_name : (text : List ℕ) (names : List (List ℕ)) (block : BlockTree) → length names < 256 → length (block_name text block) ≤ 255 → (Contains names (block_name text block) → ⊥) → name_rows text names block None
 unfolding name_rows
 good_name text names block few short lacks = ((λ many. omega arith), ((λ long. omega arith), lacks))
 
@@ -52,7 +52,7 @@ none_lacks v None h e = h
 none_lacks v (Some x) h e = λ p. false≢true (sym e)
 
 -- a block's name is new where its rows find nothing
-pub entry_new : (text : List ℕ) (names agents : List (List ℕ)) (block : BlockTree) → node_rows text names agents block None → Contains names (name_of text block) → ⊥
+pub entry_new : (text : List ℕ) (names agents : List (List ℕ)) (block : BlockTree) → node_rows text names agents block None → Contains names (block_name text block) → ⊥
 unfolding node_rows name_rows
 entry_new text names agents block h has = h.0.1.1 has
 
@@ -123,7 +123,7 @@ agents_up_to text blocks i b before agents h is kept so_far are =
     are ∙ ap (λ s. with_agent text s b) so_far ∙ sym (agents_more text (node_blocks (take i blocks)) b) ∙ ap (agents_of text) (sym (filter_front_yes is_node_block blocks i b h is kept))
 
 -- the owner of a block's node
-pub owner_up_to : (text : List ℕ) (blocks : List BlockTree) (i : ℕ) (b : BlockTree) (before agents : List (List ℕ)) → i < length blocks → b ≡ get_or blocks i b → is_node b.kind ≡ true → before ≡ agents_of text (node_blocks (take i blocks)) → agents ≡ with_agent text before b → (if has_agent b.kind then place_of agents (agent_of text b) else 0) ≡ owner_of text (node_blocks blocks) b
+pub owner_up_to : (text : List ℕ) (blocks : List BlockTree) (i : ℕ) (b : BlockTree) (before agents : List (List ℕ)) → i < length blocks → b ≡ get_or blocks i b → is_node b.kind ≡ true → before ≡ agents_of text (node_blocks (take i blocks)) → agents ≡ with_agent text before b → (if has_agent b.kind then place_among agents (agent_of text b) else 0) ≡ owner_of text (node_blocks blocks) b
 owner_up_to text blocks i b before agents h is kept so_far are =
     owner_here text (node_blocks blocks) (node_blocks (take i blocks)) (node_blocks (drop (i + 1) blocks)) b agents (nodes_split blocks i b h is kept) (are ∙ ap (λ s. with_agent text s b) so_far)
 

@@ -7,8 +7,8 @@ use Rattle.maid_model.specs.Names.{NamesView}
 use Rattle.maid_model.specs.Views.{NodeView, DiagramView}
 use Rattle.net_lexer.specs.Token.{token_bytes}
 use Rattle.net_parser.specs.Trees.{BlockTree}
-use Rattle.net_build.specs.Blocks.{node_blocks, kind_of, states_of, numbers_of}
-use Rattle.net_build.specs.Building.{AreChanceCells, IsTableOf, AreTables, StandsFor}
+use Rattle.net_build.specs.Blocks.{node_blocks, kind_of, block_states, block_numbers}
+use Rattle.net_build.specs.Building.{AreChanceCells, IsTableFrom, AreTables, StandsFor}
 use Rattle.net_build.specs.Table.{no_block}
 use Rattle.net_build.proofs.OneDecimal.{utility_cells_once}
 use Rattle.net_build.proofs.OneOutcome.{scale_once}
@@ -17,7 +17,7 @@ use Rattle.net_build.proofs.OneOutcome.{scale_once}
 abbrev pub OneChance : ℕ → List (List ℕ) → Type 0
 OneChance states numerals = (cells others : List ℤ) → AreChanceCells states numerals cells → AreChanceCells states numerals others → cells ≡ others
 
-table_once : (kind : Kind) (scale states : ℕ) (numerals : List (List ℕ)) → (kind ≡ Chance → OneChance states numerals) → (cells others : List ℤ) → IsTableOf kind scale states numerals cells → IsTableOf kind scale states numerals others → cells ≡ others
+table_once : (kind : Kind) (scale states : ℕ) (numerals : List (List ℕ)) → (kind ≡ Chance → OneChance states numerals) → (cells others : List ℤ) → IsTableFrom kind scale states numerals cells → IsTableFrom kind scale states numerals others → cells ≡ others
 table_once Chance scale states numerals chance cells others h k = chance refl cells others h k
 table_once Decision scale states numerals chance cells others h k = h ∙ sym k
 table_once Utility scale states numerals chance cells others h k = utility_cells_once scale numerals cells others h k
@@ -59,17 +59,17 @@ module _ (text : List ℕ) (blocks : List BlockTree) where
   block_at v = get_or (node_blocks blocks) v no_block
 
   abbrev pub numerals_at : ℕ → List (List ℕ)
-  numerals_at v = map (token_bytes text) (numbers_of text blocks (block_at v))
+  numerals_at v = map (token_bytes text) (block_numbers text blocks (block_at v))
 
   -- the cells of each chance node are the only ones
   abbrev pub OneChanceEach : Type 0
-  OneChanceEach = (v : ℕ) → v < length (node_blocks blocks) → kind_of (block_at v).kind ≡ Chance → OneChance (states_of text (block_at v)) (numerals_at v)
+  OneChanceEach = (v : ℕ) → v < length (node_blocks blocks) → kind_of (block_at v).kind ≡ Chance → OneChance (block_states text (block_at v)) (numerals_at v)
 
   tables_once : OneChanceEach → (scale : ℕ) (tables others : List (List ℤ)) → AreTables text blocks scale tables → AreTables text blocks scale others → tables ≡ others
   tables_once chance scale tables others h k =
       let len = h.len ∙ sym k.len in
       ext_get_or [] tables others len
-      (λ v l. table_once (kind_of (block_at v).kind) scale (states_of text (block_at v)) (numerals_at v) (chance v (subst (λ n. v < n) h.len l)) (get_or tables v []) (get_or others v []) (h.each v l) (k.each v (subst (λ n. v < n) len l)))
+      (λ v l. table_once (kind_of (block_at v).kind) scale (block_states text (block_at v)) (numerals_at v) (chance v (subst (λ n. v < n) h.len l)) (get_or tables v []) (get_or others v []) (h.each v l) (k.each v (subst (λ n. v < n) len l)))
 
   pub diagram_once : OneChanceEach → (d e : DiagramView) (names others : NamesView) → StandsFor text blocks d names → StandsFor text blocks e others → (d ≡ e) × (names ≡ others)
   diagram_once chance d e names others h k =

@@ -11,8 +11,8 @@ use Rattle.net_build.specs.declared.faults.BuildFault.{BuildFault}
 use Rattle.net_build.specs.declared.faults.BuildFault.TheVariants.{Fault, NoMemory}
 use Rattle.net_build.specs.declared.faults.BuildKind.TheVariants as kinds
 use Rattle.net_build.specs.declared.faults.Limit.TheVariants as limits
-use Rattle.net_build.specs.Blocks.{is_agent, place_of, named, agent_of, title_at}
-use Rattle.net_build.specs.Lists.{list_of}
+use Rattle.net_build.specs.Blocks.{is_agent, place_among, named, agent_of, title_at}
+use Rattle.maid_model.specs.Names.{list_of}
 use Rattle.net_build.specs.Passes.{Refuses, Passes, rule, found, BadAgent, LimitPassed}
 use Rattle.net_build.specs.Stages.{with_sight}
 use Rattle.net_build.specs.Table.{IsAgentTooMany, agent_rows, owner_rows}
@@ -57,16 +57,16 @@ pub sight_pushed : (agents more : List (Vec ℕ)) (agent : Vec ℕ) → (Contain
 sight_pushed agents more agent lacks is = ap list_of is ∙ map-append (λ (v : Vec ℕ). v.items) agents (agent ∷ []) ∙ sight_new (list_of agents) agent.items lacks
 
 -- a new name at the end has the last place
-pub place_last : (names : List (List ℕ)) (name : List ℕ) → (Contains names name → ⊥) → place_of (names ++ name ∷ []) name ≡ length names
+pub place_last : (names : List (List ℕ)) (name : List ℕ) → (Contains names name → ⊥) → place_among (names ++ name ∷ []) name ≡ length names
 place_last names name lacks = first_place_is (names ++ name ∷ []) name (length names) (record {
   within = let l = length_push names name in omega arith;
   here = get_or_push names name [] (length names) refl;
   first = λ k h e. lacks (k, h, get_or_default names k name [] h ∙ sym (get_or_append_left names (name ∷ []) [] k h) ∙ e);
 })
 
-pub place_pushed : (names more : List (Vec ℕ)) (name : Vec ℕ) → (Contains (list_of names) name.items → ⊥) → more ≡ names ++ name ∷ [] → length names ≡ place_of (list_of more) name.items
+pub place_pushed : (names more : List (Vec ℕ)) (name : Vec ℕ) → (Contains (list_of names) name.items → ⊥) → more ≡ names ++ name ∷ [] → length names ≡ place_among (list_of more) name.items
 place_pushed names more name lacks is =
-    sym (ap (λ ns. place_of (list_of ns) name.items) is ∙ ap (λ ns. place_of ns name.items) (map-append (λ (v : Vec ℕ). v.items) names (name ∷ [])) ∙ place_last (list_of names) name.items lacks ∙ length-map names (λ (v : Vec ℕ). v.items))
+    sym (ap (λ ns. place_among (list_of ns) name.items) is ∙ ap (λ ns. place_among ns name.items) (map-append (λ (v : Vec ℕ). v.items) names (name ∷ [])) ∙ place_last (list_of names) name.items lacks ∙ length-map names (λ (v : Vec ℕ). v.items))
 
 -- the seventeenth agent
 pub too_many : (agents : List (Vec ℕ)) (agent : List ℕ) (at : ℕ) (fault : BuildFault) → 16 ≤ length agents → (Contains (list_of agents) agent → ⊥) → fault ≡ Fault at (kinds.LimitPassed limits.Agents 17) → Refuses (rule (IsAgentTooMany (list_of agents) agent) (found at (LimitPassed limits.Agents 17))) fault

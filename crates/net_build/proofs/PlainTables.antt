@@ -26,8 +26,8 @@ use Rattle.weight_scale.specs.Scaling as scaling
 use Rattle.weight_scale.specs.Scaling.{row_at, raised_row, IsScaled, IsCommonTotal}
 use Rattle.weight_scale.specs.Views.{ScaledView}
 use Rattle.weight_scale.specs.declared.decimal.Decimal.{Decimal}
-use Rattle.net_build.specs.Blocks.{node_blocks, kind_of, states_of as block_states, data_of, leaves_of, numbers_of}
-use Rattle.net_build.specs.Building.{StandsFor, AreUtilityCells, IsTableOf}
+use Rattle.net_build.specs.Blocks.{node_blocks, kind_of, block_states as block_states, data_of, leaves_of, block_numbers}
+use Rattle.net_build.specs.Building.{StandsFor, AreUtilityCells, IsTableFrom}
 use Rattle.net_build.specs.Plain.{reduced_row, reduced_rows, AreEnough, IsPlain}
 use Rattle.net_build.specs.Scaling.{IsScaledBy, IsWholeBy}
 use Rattle.net_build.specs.Table.{node_pass, potential_pass, utility_numbers, no_block}
@@ -105,14 +105,14 @@ module _ (ds : List Decimal) (states rows : ℕ) (scaled : ScaledView) (is : IsS
 
   total_is : 0 < rows → nat_abs (sum_below states (λ s. get_or scaled.weights s (pos 0))) ≡ scaled.total
   total_is more = ap nat_abs
-      (sum_below_same states (λ s. get_or scaled.weights s (pos 0)) (λ s. get_or (scaling.weights_of scaled.total (row 0)) s (pos 0)) (λ s l. first s l)
-      ∙ ap (λ n. sum_below n (λ s. get_or (scaling.weights_of scaled.total (row 0)) s (pos 0))) (sym row_states)
+      (sum_below_same states (λ s. get_or scaled.weights s (pos 0)) (λ s. get_or (scaling.multiplied_row scaled.total (row 0)) s (pos 0)) (λ s l. first s l)
+      ∙ ap (λ n. sum_below n (λ s. get_or (scaling.multiplied_row scaled.total (row 0)) s (pos 0))) (sym row_states)
       ∙ sum_of_row (factor 0) (row 0) ∙ ap pos (mul-div_cancel' (sum (row 0)) (is.common.multiple 0 (near 0 more))))
     where
       start : 0 * states ≡ 0
       start = zero-mul states
 
-      first : (s : ℕ) → s < states → get_or scaled.weights s (pos 0) ≡ get_or (scaling.weights_of scaled.total (row 0)) s (pos 0)
+      first : (s : ℕ) → s < states → get_or scaled.weights s (pos 0) ≡ get_or (scaling.multiplied_row scaled.total (row 0)) s (pos 0)
       first s l = sym (get_or-take states scaled.weights s (pos 0) l) ∙ ap (λ k. get_or (take states (drop k scaled.weights)) s (pos 0)) (sym start) ∙ ap (λ (ws : List ℤ). get_or ws s (pos 0)) (is.row 0 (near 0 more))
 
       row_states : length (row 0) ≡ states
@@ -156,7 +156,7 @@ module _ (text : List ℕ) (blocks : List BlockTree) (own : All (IsBlockOf text)
   block_at v = get_or nodes v no_block
 
   abbrev numerals_at : ℕ → List (List ℕ)
-  numerals_at v = map (token_bytes text) (numbers_of text blocks (block_at v))
+  numerals_at v = map (token_bytes text) (block_numbers text blocks (block_at v))
 
   count_is : length d.nodes ≡ length nodes
   count_is = sym (length-map d.nodes (λ n. n.kind)) ∙ ap length stands.kinds ∙ length-map nodes (λ b. kind_of b.kind)
@@ -167,10 +167,10 @@ module _ (text : List ℕ) (blocks : List BlockTree) (own : All (IsBlockOf text)
   states_here : (v : ℕ) → v < length nodes → states_of d.nodes v ≡ block_states text (block_at v)
   states_here v h = sym (get_or-map (λ n. n.states) d.nodes v no_node 1 (omega (arith, h, count_is))) ∙ ap (λ ns. get_or ns v 1) stands.states ∙ get_or-map (block_states text) nodes v no_block 1 h
 
-  table_here : (v : ℕ) → v < length nodes → IsTableOf (node_at d.nodes v).kind d.decimals (states_of d.nodes v) (numerals_at v) (node_at d.nodes v).cells
+  table_here : (v : ℕ) → v < length nodes → IsTableFrom (node_at d.nodes v).kind d.decimals (states_of d.nodes v) (numerals_at v) (node_at d.nodes v).cells
   table_here v h =
       let within : v < length d.nodes = omega (arith, h, count_is) in
-      subst (λ (T : Type 0). T) (λ j. IsTableOf (sym (kind_here v h) j) d.decimals (sym (states_here v h) j) (numerals_at v) (get_or-map (λ n. n.cells) d.nodes v no_node [] within j))
+      subst (λ (T : Type 0). T) (λ j. IsTableFrom (sym (kind_here v h) j) d.decimals (sym (states_here v h) j) (numerals_at v) (get_or-map (λ n. n.cells) d.nodes v no_node [] within j))
       (stands.tables.each v (subst (λ n. v < n) (sym (length-map d.nodes (λ n. n.cells))) within))
 
   within_nodes : (v : ℕ) → (node_at d.nodes v).kind ≡ model.Chance → v < length nodes
@@ -191,7 +191,7 @@ module _ (text : List ℕ) (blocks : List BlockTree) (own : All (IsBlockOf text)
   all_whole w enough = subst (All (λ t. IsWholeBy w (token_bytes text t))) (values_are_numbers text blocks own node_none potential_none)
       (values_of_nodes text blocks own node_none potential_none (λ t. IsWholeBy w (token_bytes text t)) (λ v p h kind found.
       let its = kind_here v h ∙ kind in
-      let table = subst (λ (k : Kind). IsTableOf k d.decimals (states_of d.nodes v) (numerals_at v) (node_at d.nodes v).cells) its (table_here v h) in
+      let table = subst (λ (k : Kind). IsTableFrom k d.decimals (states_of d.nodes v) (numerals_at v) (node_at d.nodes v).cells) its (table_here v h) in
       let here = subst (λ o. AreUtilityCells d.decimals (map (token_bytes text) (option_map_or (λ q. leaves_of (data_of text q)) o [])) (node_at d.nodes v).cells) found table in
       cells_whole w (leaves_of (data_of text p)) (node_at d.nodes v).cells here (enough v its)))
 
@@ -200,7 +200,7 @@ module _ (text : List ℕ) (blocks : List BlockTree) (own : All (IsBlockOf text)
   stands_plain diagram = record {
     weights = λ v kind.
         let h = within_nodes v kind in
-        let chance = subst (λ (k : Kind). IsTableOf k d.decimals (states_of d.nodes v) (numerals_at v) (node_at d.nodes v).cells) kind (table_here v h) in
+        let chance = subst (λ (k : Kind). IsTableFrom k d.decimals (states_of d.nodes v) (numerals_at v) (node_at d.nodes v).cells) kind (table_here v h) in
         let some : 0 < rows_of d.nodes v = rows_positive (states_of d.nodes) diagram.graph.has_state (node_at d.nodes v).parents in
         let count = sym chance.3.len ∙ sym (ap length chance.4) ∙ (diagram.tables.table v kind).len in
         subst (λ (cells : List ℤ). IsCommonTotal (reduced_rows (states_of d.nodes v) (rows_of d.nodes v) cells) (states_of d.nodes v) (rows_of d.nodes v) (nat_abs (sum_below (states_of d.nodes v) (λ s. get_or cells s (pos 0))))) (sym chance.4)

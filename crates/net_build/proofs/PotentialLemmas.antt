@@ -15,7 +15,7 @@ use Rattle.maid_model.specs.declared.diagrams.Kind.TheVariants.{Chance, Utility}
 use Rattle.maid_model.specs.Nodes.{is_decision}
 use Rattle.net_build.specs.declared.faults.BuildFault.{BuildFault}
 use Rattle.net_build.specs.declared.nodes.Head.{Head}
-use Rattle.net_build.specs.Blocks.{is_potential, title, name_of, conditions, place_of}
+use Rattle.net_build.specs.Blocks.{is_potential, title, block_name, conditions, place_among}
 use Rattle.net_build.specs.Linking.{node_named, potentials_among, parents_in, taken_row, absent_row, missing_at}
 use Rattle.net_build.specs.Passes.{only, Passes}
 use Rattle.net_build.specs.Stages.{head_at, no_head}
@@ -23,30 +23,30 @@ use Rattle.net_build.proofs.Passing.{filter_front_yes}
 use Rattle.net_build.proofs.PlaceLemmas.{bytes_same, bytes_differ}
 
 -- a place within the list holds the name that was sought
-pub place_holds : (names : List (List ℕ)) (name : List ℕ) → place_of names name < length names → get_or names (place_of names name) [] ≡ name
-place_holds names name h = (bytes_eq-Decides _ _).0 (by_not (bytes_eq (get_or names (place_of names name) []) name) (prefix_len_stops (λ other. not (bytes_eq other name)) names [] h)) where
+pub place_holds : (names : List (List ℕ)) (name : List ℕ) → place_among names name < length names → get_or names (place_among names name) [] ≡ name
+place_holds names name h = (bytes_eq-Decides _ _).0 (by_not (bytes_eq (get_or names (place_among names name) []) name) (prefix_len_stops (λ other. not (bytes_eq other name)) names [] h)) where
   by_not : (b : Bool) → not b ≡ false → b ≡ true
   by_not true e = refl
   by_not false e = absurd (false≢true (sym e))
 
 -- a node's own entry
-pub among_at : (text : List ℕ) (names : List (List ℕ)) (blocks : List BlockTree) (v : ℕ) (d : Option BlockTree) → v < length names → get_or (potentials_among text names blocks) v d ≡ find (λ p. bytes_eq (name_of text p) (get_or names v [])) blocks
-among_at text names blocks v d h = get_or-map (λ name. find (λ p. bytes_eq (name_of text p) name) blocks) names v [] d h
+pub among_at : (text : List ℕ) (names : List (List ℕ)) (blocks : List BlockTree) (v : ℕ) (d : Option BlockTree) → v < length names → get_or (potentials_among text names blocks) v d ≡ find (λ p. bytes_eq (block_name text p) (get_or names v [])) blocks
+among_at text names blocks v d h = get_or-map (λ name. find (λ p. bytes_eq (block_name text p) name) blocks) names v [] d h
 
 or_none : {X : Type 0} (o : Option X) → option_or o None ≡ o
 or_none None = refl
 or_none (Some x) = refl
 
 -- one potential more, of that name and of another
-found_last : (text : List ℕ) (name : List ℕ) (blocks : List BlockTree) (p : BlockTree) → find (λ q. bytes_eq (name_of text q) name) blocks ≡ None → name_of text p ≡ name → find (λ q. bytes_eq (name_of text q) name) (blocks ++ p ∷ []) ≡ Some p
-found_last text name blocks p none is = find-append (λ q. bytes_eq (name_of text q) name) blocks (p ∷ [])
-    ∙ ap (λ o. option_or o (find (λ q. bytes_eq (name_of text q) name) (p ∷ []))) none
-    ∙ ap (λ b. option_or None (cond b (Some p) None)) (bytes_same (name_of text p) name is)
+found_last : (text : List ℕ) (name : List ℕ) (blocks : List BlockTree) (p : BlockTree) → find (λ q. bytes_eq (block_name text q) name) blocks ≡ None → block_name text p ≡ name → find (λ q. bytes_eq (block_name text q) name) (blocks ++ p ∷ []) ≡ Some p
+found_last text name blocks p none is = find-append (λ q. bytes_eq (block_name text q) name) blocks (p ∷ [])
+    ∙ ap (λ o. option_or o (find (λ q. bytes_eq (block_name text q) name) (p ∷ []))) none
+    ∙ ap (λ b. option_or None (cond b (Some p) None)) (bytes_same (block_name text p) name is)
 
-found_still : (text : List ℕ) (name : List ℕ) (blocks : List BlockTree) (p : BlockTree) → (name_of text p ≡ name → ⊥) → find (λ q. bytes_eq (name_of text q) name) (blocks ++ p ∷ []) ≡ find (λ q. bytes_eq (name_of text q) name) blocks
-found_still text name blocks p other = find-append (λ q. bytes_eq (name_of text q) name) blocks (p ∷ [])
-    ∙ ap (λ b. option_or (find (λ q. bytes_eq (name_of text q) name) blocks) (cond b (Some p) None)) (bytes_differ (name_of text p) name other)
-    ∙ or_none (find (λ q. bytes_eq (name_of text q) name) blocks)
+found_still : (text : List ℕ) (name : List ℕ) (blocks : List BlockTree) (p : BlockTree) → (block_name text p ≡ name → ⊥) → find (λ q. bytes_eq (block_name text q) name) (blocks ++ p ∷ []) ≡ find (λ q. bytes_eq (block_name text q) name) blocks
+found_still text name blocks p other = find-append (λ q. bytes_eq (block_name text q) name) blocks (p ∷ [])
+    ∙ ap (λ b. option_or (find (λ q. bytes_eq (block_name text q) name) blocks) (cond b (Some p) None)) (bytes_differ (block_name text p) name other)
+    ∙ or_none (find (λ q. bytes_eq (block_name text q) name) blocks)
 
 same_or_not : (k v : ℕ) → (k ≡ v) ⊎ (k ≢ v)
 same_or_not k v = below (cases_lt k v) where
@@ -66,7 +66,7 @@ places_differ names distinct k v hk hv ne same = by_order (cases_lt k v) where
   by_order (inr above) = distinct v k [] (omega arith) hk same
 
 -- the node's entry is set
-pub entered : (text : List ℕ) (names : List (List ℕ)) (blocks : List BlockTree) (p : BlockTree) (v : ℕ) → AllPairs (λ a b. a ≢ b) names → v < length names → get_or names v [] ≡ name_of text p → get_or (potentials_among text names blocks) v None ≡ None → set (potentials_among text names blocks) v (Some p) ≡ potentials_among text names (blocks ++ p ∷ [])
+pub entered : (text : List ℕ) (names : List (List ℕ)) (blocks : List BlockTree) (p : BlockTree) (v : ℕ) → AllPairs (λ a b. a ≢ b) names → v < length names → get_or names v [] ≡ block_name text p → get_or (potentials_among text names blocks) v None ≡ None → set (potentials_among text names blocks) v (Some p) ≡ potentials_among text names (blocks ++ p ∷ [])
 entered text names blocks p v distinct hv is none = same_lists (set (potentials_among text names blocks) v (Some p)) (potentials_among text names (blocks ++ p ∷ [])) lengths each where
   lengths : length (set (potentials_among text names blocks) v (Some p)) ≡ length (potentials_among text names (blocks ++ p ∷ []))
   lengths = simp (length-set, length-map)
@@ -117,7 +117,7 @@ parents_set text names potentials v p list is = ap (set (parents_in text names p
 pub entered_from : (text : List ℕ) (names : List (List ℕ)) (blocks : List BlockTree) (i : ℕ) (x : BlockTree) (v : ℕ) (before now : List (Option BlockTree)) → i < length blocks → x ≡ get_or blocks i x → is_potential x.kind ≡ true → AllPairs (λ a b. a ≢ b) names → v < length names → v ≡ node_named text names (title x) → taken_row (potentials_among text names (filter (λ b. is_potential b.kind) (take i blocks))) (node_named text names (title x)) (title x) None → before ≡ potentials_among text names (filter (λ b. is_potential b.kind) (take i blocks)) → now ≡ set before v (Some x) → now ≡ potentials_among text names (filter (λ b. is_potential b.kind) (take (i + 1) blocks))
 entered_from text names blocks i x v before now h is kept distinct hv at free so made = made
     ∙ ap (λ os. set os v (Some x)) so
-    ∙ entered text names (filter (λ b. is_potential b.kind) (take i blocks)) x v distinct hv (ap (λ (w : ℕ). get_or names w []) at ∙ place_holds names (name_of text x) (subst (λ (w : ℕ). w < length names) at hv)) (none_from_not_some _ (subst (λ (w : ℕ). IsSome (get_or (potentials_among text names (filter (λ b. is_potential b.kind) (take i blocks))) w None) → ⊥) (sym at) free))
+    ∙ entered text names (filter (λ b. is_potential b.kind) (take i blocks)) x v distinct hv (ap (λ (w : ℕ). get_or names w []) at ∙ place_holds names (block_name text x) (subst (λ (w : ℕ). w < length names) at hv)) (none_from_not_some _ (subst (λ (w : ℕ). IsSome (get_or (potentials_among text names (filter (λ b. is_potential b.kind) (take i blocks))) w None) → ⊥) (sym at) free))
     ∙ ap (potentials_among text names) (sym (filter_front_yes (λ b. is_potential b.kind) blocks i x h is kept))
 
 -- and its parents

@@ -5,7 +5,7 @@ use Rattle.std.proofs.lemmas.List.{drop_more, get_or_default}
 use Rattle.maid_model.specs.declared.diagrams.Kind.TheVariants.{Chance, Decision}
 use Rattle.maid_model.specs.Nodes.{rows_under}
 use Rattle.net_build.specs.declared.nodes.Head.{Head}
-use Rattle.net_build.specs.Stages.{LinkLists, head_at, no_head, rows_at}
+use Rattle.net_build.specs.Stages.{LinkLists, head_at, no_head, head_rows}
 use Rattle.net_build.specs.TableParts.{CanRead, IsDraftOf, IsDraftAt, numerals_in, potential_at}
 use Rattle.net_build.specs.declared.drafts.Draft.{Draft}
 use Rattle.net_parser.specs.Trees.{BlockTree}
@@ -56,7 +56,7 @@ module _ (text : List ℕ) (heads : List Head) (links : LinkLists) (read : CanRe
   parents_known parents is k d h = read.fit.known (get_or parents k d) v (subst (λ us. Contains us (get_or parents k d)) is (k, h, get_or_default parents k (get_or parents k d) d h))
 
   pub rows_small : (parents : List ℕ) → parents ≡ get_or links.parents v [] → rows_under (states_in heads) parents ≤ 65536
-  rows_small parents is = rw is (rows_bound (rows_at heads links.parents v) (head_at heads v).states its_states (read.fit.cells v within))
+  rows_small parents is = rw is (rows_bound (head_rows heads links.parents v) (head_at heads v).states its_states (read.fit.cells v within))
 
   pub head_is : (h : Head) → h ≡ get_or heads v h → head_at heads v ≡ h
   head_is h is = get_or_default heads v no_head h within ∙ sym is

@@ -22,7 +22,7 @@ use Rattle.std.proofs.lemmas.Bool.{false≢true}
 use Rattle.std.specs.Option.{SomeIff, is_some}
 use Rattle.net_build.proofs.Passing.{Leads}
 use Rattle.net_build.proofs.EachPassing.{EachFrom, each_step_at, each_refused_at, each_refuses_none}
-use Rattle.net_build.specs.TableParts.{IsScaleOf, scaled_pass, raised, Fits}
+use Rattle.net_build.specs.TableParts.{IsScaleOf, scaled_pass, value_at_scale, Fits}
 use Rattle.net_build.specs.Zero.{nought}
 
 pub tens_positive : (k : ℕ) → 0 < 10 ^ k
@@ -67,8 +67,8 @@ whole_by m num t den p e =
     let flat : up m * den + down num * p ≡ up num * p + down m * den = omega (arith, ints, e) in
     omega (arith, ints, by t _ _ flat, by den _ _ (product_is m (pos t)).0, by den _ _ (product_is m (pos t)).1)
 
--- the number raised is the value to scale
-pub raised_is : (numeral : List ℕ) (d : Decimal) (scale : ℕ) → IsLeastDecimalOf (numerator numeral) (denominator numeral) d → d.k ≤ scale → IsScaledBy scale numeral (raised scale d)
+-- the number value_at_scale is the value to scale
+pub raised_is : (numeral : List ℕ) (d : Decimal) (scale : ℕ) → IsLeastDecimalOf (numerator numeral) (denominator numeral) d → d.k ≤ scale → IsScaledBy scale numeral (value_at_scale scale d)
 raised_is numeral d scale is enough = rw (tens_split d.k scale enough) (whole_by d.m (numerator numeral) (10 ^ (scale - d.k)) (denominator numeral) (10 ^ d.k) is.value)
 
 one_more : (x num : ℤ) (p den : ℕ) → x *ℤ pos den ≡ (num *ℤ pos p) *ℤ pos 1 → x *ℤ pos den ≡ num *ℤ pos p
@@ -112,7 +112,7 @@ scale_found text tokens ds scale are most reached = (whole, least) where
   len = are.len ∙ length-map tokens (token_bytes text)
 
   whole : All (λ t. IsWholeBy scale (token_bytes text t)) tokens
-  whole i t h = (raised scale (decimal_at ds i), raised_is (token_bytes text (get_or tokens i t)) (decimal_at ds i) scale (decimal_of text tokens ds i t are h) (most i nought (omega (arith, len))))
+  whole i t h = (value_at_scale scale (decimal_at ds i), raised_is (token_bytes text (get_or tokens i t)) (decimal_at ds i) scale (decimal_of text tokens ds i t are h) (most i nought (omega (arith, len))))
 
   at : (k : ℕ) → k < scale → (i : ℕ) × (i < length ds) × ((decimal_at ds i).k ≡ scale) → All (λ t. IsWholeBy k (token_bytes text t)) tokens → ⊥
   at k h (i, within, is) all = not_whole (token_bytes text (get_or tokens i no_token)) (decimal_at ds i) k (decimal_of text tokens ds i no_token are (omega (arith, len))) (omega (arith, is)) (all i no_token (omega (arith, len)))
@@ -129,7 +129,7 @@ fit None P v h e = absurd (false≢true e)
 fit (Some x) P v h e = h.0
 
 -- the number at a place is wide where it does not fit, and only there
-module _ (text : List ℕ) (tokens : List Token) (ds : List Decimal) (scale : ℕ) (W : Pass) (i : ℕ) (d : Decimal) (r : Option ℤ) (within : i < length tokens) (len : length ds ≡ length tokens) (most : All (λ e. e.k ≤ scale) ds) (is : d ≡ get_or ds i d) (tried : SomeIff r (Fits scale d) (raised scale d)) (are : AreDecimals (map (token_bytes text) tokens) ds) (lead : Leads (EachFrom (wide_row text scale) tokens i) W) where
+module _ (text : List ℕ) (tokens : List Token) (ds : List Decimal) (scale : ℕ) (W : Pass) (i : ℕ) (d : Decimal) (r : Option ℤ) (within : i < length tokens) (len : length ds ≡ length tokens) (most : All (λ e. e.k ≤ scale) ds) (is : d ≡ get_or ds i d) (tried : SomeIff r (Fits scale d) (value_at_scale scale d)) (are : AreDecimals (map (token_bytes text) tokens) ds) (lead : Leads (EachFrom (wide_row text scale) tokens i) W) where
   here : decimal_at ds i ≡ d
   here = get_or_default ds i nought d (omega (arith, len)) ∙ sym is
 
@@ -145,11 +145,11 @@ module _ (text : List ℕ) (tokens : List Token) (ds : List Decimal) (scale : �
   pub wide_on : is_some r ≡ true → Leads (EachFrom (wide_row text scale) tokens (i + 1)) W
   wide_on some = each_step_at (wide_row text scale) tokens W i no_token within lead (fits_narrow (token_bytes text (get_or tokens i no_token)) d scale its enough (fit r _ _ tried some))
 
--- the numbers raised are utility cells
-pub cells_found : (numerals : List (List ℕ)) (ds : List Decimal) (scale : ℕ) → AreDecimals numerals ds → All (λ d. d.k ≤ scale) ds → AreUtilityCells scale numerals (map (raised scale) ds)
+-- the numbers value_at_scale are utility cells
+pub cells_found : (numerals : List (List ℕ)) (ds : List Decimal) (scale : ℕ) → AreDecimals numerals ds → All (λ d. d.k ≤ scale) ds → AreUtilityCells scale numerals (map (value_at_scale scale) ds)
 cells_found numerals ds scale are most = record {
-  len = length-map ds (raised scale) ∙ are.len;
-  each = λ i h. let within : i < length ds = omega (arith, length-map ds (raised scale)) in subst (λ x. IsScaledBy scale (get_or numerals i []) x) (sym (get_or-map (raised scale) ds i nought (pos 0) within)) (raised_is (get_or numerals i []) (decimal_at ds i) scale (are.each i (omega (arith, are.len))) (most i nought within));
+  len = length-map ds (value_at_scale scale) ∙ are.len;
+  each = λ i h. let within : i < length ds = omega (arith, length-map ds (value_at_scale scale)) in subst (λ x. IsScaledBy scale (get_or numerals i []) x) (sym (get_or-map (value_at_scale scale) ds i nought (pos 0) within)) (raised_is (get_or numerals i []) (decimal_at ds i) scale (are.each i (omega (arith, are.len))) (most i nought within));
 }
 
 long_or_not : (text : List ℕ) (t : Token) (f : Found) → length_row text t None → length_row text t (Some f) → ⊥

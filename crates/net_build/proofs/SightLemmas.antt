@@ -7,7 +7,7 @@ use Rattle.std.proofs.lemmas.Slice.Eq.{bytes_eq-Decides}
 use Rattle.std.specs.List.{list_any}
 use Rattle.std.specs.Prelude.{if◌then◌else◌}
 use Rattle.std.specs.Str.{bytes_eq}
-use Rattle.net_build.specs.Blocks.{first_sights, place_of, has_agent, agent_of, agents_of, owner_of}
+use Rattle.net_build.specs.Blocks.{first_sights, place_among, has_agent, agent_of, agents_of, owner_of}
 use Rattle.net_build.specs.Stages.{with_sight, with_agent}
 use Rattle.net_parser.specs.Trees.{BlockTree}
 use Rattle.net_build.proofs.AttributeLemmas.{or_true}
@@ -90,14 +90,14 @@ sights_grow xs (y ∷ ys) = by_test (has (first_sights xs) y) refl (sights_grow 
   by_test false e (zs, rec) = (y ∷ zs, ap first_sights (sym (append_assoc xs (y ∷ []) ys)) ∙ rec ∙ ap (λ s. s ++ zs) (first_sights_more xs y ∙ ap (λ b. if b then first_sights xs else first_sights xs ++ y ∷ []) e) ∙ append_assoc (first_sights xs) (y ∷ []) zs)
 
 -- a name that is there keeps its place
-pub place_grow : (xs zs : List (List ℕ)) (a : List ℕ) → has xs a ≡ true → place_of (xs ++ zs) a ≡ place_of xs a
+pub place_grow : (xs zs : List (List ℕ)) (a : List ℕ) → has xs a ≡ true → place_among (xs ++ zs) a ≡ place_among xs a
 place_grow [] zs a e = absurd (false≢true e)
 place_grow (x ∷ xs) zs a e = by_test (bytes_eq x a) refl (λ k. place_grow xs zs a k) where
-  by_test : (b : Bool) → bytes_eq x a ≡ b → (has xs a ≡ true → place_of (xs ++ zs) a ≡ place_of xs a) → place_of (x ∷ (xs ++ zs)) a ≡ place_of (x ∷ xs) a
-  by_test true t rec = ap (λ b. cond (not b) (1 + place_of (xs ++ zs) a) 0) t ∙ sym (ap (λ b. cond (not b) (1 + place_of xs a) 0) t)
+  by_test : (b : Bool) → bytes_eq x a ≡ b → (has xs a ≡ true → place_among (xs ++ zs) a ≡ place_among xs a) → place_among (x ∷ (xs ++ zs)) a ≡ place_among (x ∷ xs) a
+  by_test true t rec = ap (λ b. cond (not b) (1 + place_among (xs ++ zs) a) 0) t ∙ sym (ap (λ b. cond (not b) (1 + place_among xs a) 0) t)
   by_test false t rec =
-      ap (λ b. cond (not b) (1 + place_of (xs ++ zs) a) 0) t ∙ ap (λ n. 1 + n) (rec (ap (λ b. b || has xs a) (sym t) ∙ e))
-      ∙ sym (ap (λ b. cond (not b) (1 + place_of xs a) 0) t)
+      ap (λ b. cond (not b) (1 + place_among (xs ++ zs) a) 0) t ∙ ap (λ n. 1 + n) (rec (ap (λ b. b || has xs a) (sym t) ∙ e))
+      ∙ sym (ap (λ b. cond (not b) (1 + place_among xs a) 0) t)
 
 has-append : (xs ys : List (List ℕ)) (a : List ℕ) → has ys a ≡ true → has (xs ++ ys) a ≡ true
 has-append [] ys a e = e
@@ -111,17 +111,17 @@ has_sight agents a = by_test (has agents a) refl where
   by_test false e = ap (λ b. has (if b then agents else agents ++ a ∷ []) a) e ∙ has-append agents (a ∷ []) a (ap (λ b. b || false) (bytes_same a a refl))
 
 -- a node's owner is the place of its agent among the agents up to it
-pub owner_here : (text : List ℕ) (nodes front back : List BlockTree) (block : BlockTree) (agents : List (List ℕ)) → nodes ≡ (front ++ block ∷ []) ++ back → agents ≡ with_agent text (agents_of text front) block → (if has_agent block.kind then place_of agents (agent_of text block) else 0) ≡ owner_of text nodes block
+pub owner_here : (text : List ℕ) (nodes front back : List BlockTree) (block : BlockTree) (agents : List (List ℕ)) → nodes ≡ (front ++ block ∷ []) ++ back → agents ≡ with_agent text (agents_of text front) block → (if has_agent block.kind then place_among agents (agent_of text block) else 0) ≡ owner_of text nodes block
 owner_here text nodes front back block agents all are = by_test (has_agent block.kind) refl where
-  by_test : (b : Bool) → has_agent block.kind ≡ b → (if has_agent block.kind then place_of agents (agent_of text block) else 0) ≡ owner_of text nodes block
-  by_test false e = ap (λ b. if b then place_of agents (agent_of text block) else 0) e ∙ sym (ap (λ b. if b then place_of (agents_of text nodes) (agent_of text block) else 0) e)
+  by_test : (b : Bool) → has_agent block.kind ≡ b → (if has_agent block.kind then place_among agents (agent_of text block) else 0) ≡ owner_of text nodes block
+  by_test false e = ap (λ b. if b then place_among agents (agent_of text block) else 0) e ∙ sym (ap (λ b. if b then place_among (agents_of text nodes) (agent_of text block) else 0) e)
   by_test true e =
       let grown = sights_grow (agents_among text (front ++ block ∷ [])) (agents_among text back) in
       let up_to = agents_more text front block in
       let seen : agents_of text (front ++ block ∷ []) ≡ with_sight (agents_of text front) (agent_of text block) = up_to ∙ ap (λ b. if b then with_sight (agents_of text front) (agent_of text block) else agents_of text front) e in
       let whole : agents_of text nodes ≡ agents_of text (front ++ block ∷ []) ++ grown.0 = ap (agents_of text) all ∙ ap first_sights (agents_among-append text (front ++ block ∷ []) back) ∙ grown.1 in
-      ap (λ b. if b then place_of agents (agent_of text block) else 0) e
-      ∙ ap (λ s. place_of s (agent_of text block)) (are ∙ sym up_to)
+      ap (λ b. if b then place_among agents (agent_of text block) else 0) e
+      ∙ ap (λ s. place_among s (agent_of text block)) (are ∙ sym up_to)
       ∙ sym (place_grow (agents_of text (front ++ block ∷ [])) grown.0 (agent_of text block) (ap (λ s. has s (agent_of text block)) seen ∙ has_sight (agents_of text front) (agent_of text block)))
-      ∙ ap (λ s. place_of s (agent_of text block)) (sym whole)
-      ∙ sym (ap (λ b. if b then place_of (agents_of text nodes) (agent_of text block) else 0) e)
+      ∙ ap (λ s. place_among s (agent_of text block)) (sym whole)
+      ∙ sym (ap (λ b. if b then place_among (agents_of text nodes) (agent_of text block) else 0) e)

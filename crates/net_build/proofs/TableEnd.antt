@@ -18,13 +18,13 @@ use Rattle.weight_scale.specs.Numeral.{numerator, denominator, IsLeastDecimalOf}
 use Rattle.net_build.specs.declared.nodes.Head.{Head}
 use Rattle.net_build.specs.declared.drafts.Draft.{Draft}
 use Rattle.net_build.specs.declared.drafts.Draft.TheVariants.{Cells, Values}
-use Rattle.net_build.specs.Blocks.{no_token, is_node, is_potential, potentials, is_number, node_blocks, kind_of, states_of, row_count, name_of, potential_of, parent_lists, data_of, leaves_of, numbers_of, word_of}
-use Rattle.net_build.specs.Building.{AreTables, IsTableOf}
+use Rattle.net_build.specs.Blocks.{no_token, is_node, is_potential, potentials, is_number, node_blocks, kind_of, block_states, row_count, block_name, potential_of, parent_lists, data_of, leaves_of, block_numbers, word_of}
+use Rattle.net_build.specs.Building.{AreTables, IsTableFrom}
 use Rattle.net_build.specs.Passes.{Pass, each}
 use Rattle.net_build.specs.Scaling.{AreDecimals, decimal_at, IsWholeBy}
-use Rattle.net_build.specs.Stages.{AreLinks, NodeLists, LinkLists, TablesFit, FitsTable, head_of, head_at, node_lists, link_lists, no_head, rows_at}
+use Rattle.net_build.specs.Stages.{AreLinks, NodeLists, LinkLists, TablesFit, FitsTable, head_of, head_at, node_lists, link_lists, no_head, head_rows}
 use Rattle.net_build.specs.Table.{length_row, wide_row, IsWideValue, node_pass, potential_pass, missing_pass, no_block}
-use Rattle.net_build.specs.TableParts.{AreDrafts, CanRead, FitsDraft, Fits, IsDraftOf, IsDraftAt, IsScaleOf, data_parts, drafts_pass, finished, node_part, node_rows_at, numerals_in, potential_at, raised, values_in}
+use Rattle.net_build.specs.TableParts.{AreDrafts, CanRead, FitsDraft, Fits, IsDraftOf, IsDraftAt, IsScaleOf, data_parts, drafts_pass, finished, node_part, node_rows_at, numerals_in, potential_at, value_at_scale, values_in}
 use Rattle.net_build.specs.Zero.{nought}
 use Rattle.net_build.proofs.BlockLemmas.{all_filter, found_in}
 use Rattle.net_build.proofs.WeightPasses.{rows_are}
@@ -109,7 +109,7 @@ draft_fits text scale rows states model.Utility tokens (Values ds) is all = valu
 draft_fits text scale rows states model.Chance tokens (Values ds) is all = absurd is
 draft_fits text scale rows states model.Decision tokens (Values ds) is all = absurd is
 
-draft_table : (scale rows states : ℕ) (kind : Kind) (numerals : List (List ℕ)) (draft : Draft) → IsDraftOf kind rows states numerals draft → FitsDraft scale draft → IsTableOf kind scale states numerals (finished scale draft)
+draft_table : (scale rows states : ℕ) (kind : Kind) (numerals : List (List ℕ)) (draft : Draft) → IsDraftOf kind rows states numerals draft → FitsDraft scale draft → IsTableFrom kind scale states numerals (finished scale draft)
 draft_table scale rows states model.Chance numerals (Cells cells) is fits = (is.0, is.2.scaled, is.1, is.2.is, is.2.cells_are)
 draft_table scale rows states model.Decision numerals (Cells cells) is fits = is
 draft_table scale rows states model.Utility numerals (Values ds) is fits = cells_found numerals ds.items scale is.0 fits.0
@@ -117,13 +117,13 @@ draft_table scale rows states model.Chance numerals (Values ds) is fits = absurd
 draft_table scale rows states model.Decision numerals (Values ds) is fits = absurd is
 draft_table scale rows states model.Utility numerals (Cells cells) is fits = absurd is
 
-raised_small : (d : Decimal) (scale : ℕ) → Fits scale d → unsigned_abs (raised scale d) ≤ greatest_number
+raised_small : (d : Decimal) (scale : ℕ) → Fits scale d → unsigned_abs (value_at_scale scale d) ≤ greatest_number
 raised_small d scale fits = subst (λ n. n ≤ greatest_number) (sym (unsigned_abs-mul d.m (pos (10 ^ (scale - d.k))))) fits
 
-all_small : (ds : List Decimal) (scale : ℕ) → All (Fits scale) ds → All (λ x. unsigned_abs x ≤ greatest_number) (map (raised scale) ds)
+all_small : (ds : List Decimal) (scale : ℕ) → All (Fits scale) ds → All (λ x. unsigned_abs x ≤ greatest_number) (map (value_at_scale scale) ds)
 all_small ds scale all k d within =
-    let near : k < length ds = omega (arith, within, length-map ds (raised scale)) in
-    subst (λ x. unsigned_abs x ≤ greatest_number) (sym (get_or-map (raised scale) ds k nought d near)) (raised_small (decimal_at ds k) scale (all k nought near))
+    let near : k < length ds = omega (arith, within, length-map ds (value_at_scale scale)) in
+    subst (λ x. unsigned_abs x ≤ greatest_number) (sym (get_or-map (value_at_scale scale) ds k nought d near)) (raised_small (decimal_at ds k) scale (all k nought near))
 
 whole_rows : (rows states n : ℕ) → 0 < states → n ≡ rows * states → n / states ≡ rows
 whole_rows rows states n some e = sym (rows_are rows states n n some e refl)
@@ -131,19 +131,19 @@ whole_rows rows states n some e = sym (rows_are rows states n n some e refl)
 draft_limits : (scale rows states : ℕ) (kind : Kind) (numerals : List (List ℕ)) (draft : Draft) → 0 < states → (kind ≡ model.Utility → states ≡ 1) → IsDraftOf kind rows states numerals draft → FitsDraft scale draft → FitsTable kind rows states (finished scale draft)
 draft_limits scale rows states model.Chance numerals (Cells cells) some one is fits = (is.2.scaled.total, is.2.is.common.positive, is.2.is.small, subst (λ n. IsTable cells.items n states is.2.scaled.total) (whole_rows rows states (length is.0) some is.3) is.2.table)
 draft_limits scale rows states model.Decision numerals (Cells cells) some one is fits = is
-draft_limits scale rows states model.Utility numerals (Values ds) some one is fits = (length-map ds.items (raised scale) ∙ is.1 ∙ ap (λ n. rows * n) (one refl) ∙ times_one rows, all_small ds.items scale fits.1) where
+draft_limits scale rows states model.Utility numerals (Values ds) some one is fits = (length-map ds.items (value_at_scale scale) ∙ is.1 ∙ ap (λ n. rows * n) (one refl) ∙ times_one rows, all_small ds.items scale fits.1) where
   times_one : (n : ℕ) → n * 1 ≡ n
   times_one n = omega arith
 draft_limits scale rows states model.Chance numerals (Values ds) some one is fits = absurd is
 draft_limits scale rows states model.Decision numerals (Values ds) some one is fits = absurd is
 draft_limits scale rows states model.Utility numerals (Cells cells) some one is fits = absurd is
 
-one_state : (text : List ℕ) (b : BlockTree) → is_node b.kind ≡ true → kind_of b.kind ≡ model.Utility → states_of text b ≡ 1
+one_state : (text : List ℕ) (b : BlockTree) → is_node b.kind ≡ true → kind_of b.kind ≡ model.Utility → block_states text b ≡ 1
 one_state text b kept kind = by_kind b.kind refl where
   not_utility : (k : Kind) → (k ≡ model.Utility → ⊥) → kind_of b.kind ≡ k → ⊥
   not_utility k n e = n (sym e ∙ kind)
 
-  by_kind : (k : BlockKind) → b.kind ≡ k → states_of text b ≡ 1
+  by_kind : (k : BlockKind) → b.kind ≡ k → block_states text b ≡ 1
   by_kind Utility e = rw e refl
   by_kind Node e = absurd (not_utility model.Chance (λ h. cc) (ap kind_of e))
   by_kind Decision e = absurd (not_utility model.Decision (λ h. cc) (ap kind_of e))
@@ -170,7 +170,7 @@ module _ (text : List ℕ) (blocks : List BlockTree) (own : All (IsBlockOf text)
   heads_len : length heads ≡ length nodes
   heads_len = length-map nodes (head_of text nodes)
 
-  part_none : (v : ℕ) → drafts_pass text heads links None → v < length nodes → node_part text (kind_of (block_at v).kind) (row_count text blocks (block_at v)) (states_of text (block_at v)) (potential_of text blocks (name_of text (block_at v))) None
+  part_none : (v : ℕ) → drafts_pass text heads links None → v < length nodes → node_part text (kind_of (block_at v).kind) (row_count text blocks (block_at v)) (block_states text (block_at v)) (potential_of text blocks (block_name text (block_at v))) None
   part_none v h near = subst (λ (P : Pass). P None) (part_here text blocks v near)
       (subst (λ n. node_rows_at text heads links n None) (get_or-range_with_len 0 (length heads) v 0 (omega (arith, near, heads_len)) ∙ plain v)
       (each_at (node_rows_at text heads links) (range_with_len 0 (length heads)) v 0 h (omega (arith, near, heads_len, length-range_with_len 0 (length heads)))))
@@ -181,18 +181,18 @@ module _ (text : List ℕ) (blocks : List BlockTree) (own : All (IsBlockOf text)
   -- each of the utilities' numbers is read
   pub values_read : drafts_pass text heads links None → All (IsRead text) numbers
   values_read h = values_of_nodes text blocks own node_rows_none potential_rows_none (IsRead text) (λ v p near kind is.
-      let found = found_in (λ b. bytes_eq (name_of text b) (name_of text (block_at v))) (IsBlockOf text) (potentials blocks) p is (λ k d w. (all_filter (IsBlockOf text) (λ b. is_potential b.kind) blocks own k d w).0) in
-      let part : node_part text model.Utility (row_count text blocks (block_at v)) (states_of text (block_at v)) (Some p) None = subst (λ o. node_part text model.Utility (row_count text blocks (block_at v)) (states_of text (block_at v)) o None) is (subst (λ (k : Kind). node_part text k (row_count text blocks (block_at v)) (states_of text (block_at v)) (potential_of text blocks (name_of text (block_at v))) None) kind (part_none v h near)) in
-      read_numbers_of text model.Utility (row_count text blocks (block_at v)) (states_of text (block_at v)) p (data_of text p)
+      let found = found_in (λ b. bytes_eq (block_name text b) (block_name text (block_at v))) (IsBlockOf text) (potentials blocks) p is (λ k d w. (all_filter (IsBlockOf text) (λ b. is_potential b.kind) blocks own k d w).0) in
+      let part : node_part text model.Utility (row_count text blocks (block_at v)) (block_states text (block_at v)) (Some p) None = subst (λ o. node_part text model.Utility (row_count text blocks (block_at v)) (block_states text (block_at v)) o None) is (subst (λ (k : Kind). node_part text k (row_count text blocks (block_at v)) (block_states text (block_at v)) (potential_of text blocks (block_name text (block_at v))) None) kind (part_none v h near)) in
+      read_numbers_of text model.Utility (row_count text blocks (block_at v)) (block_states text (block_at v)) p (data_of text p)
       (own_values text (data_of text p) (λ k d w. (all_filter (IsAttributeOf text) (λ a. bytes_eq (word_of text a) (codes "data")) p.attributes found.0.attributes k d w).0)) part.1)
 
   -- a draft by its block
-  pub draft_here : (v : ℕ) (draft : Draft) → v < length nodes → IsDraftAt text heads links v draft → IsDraftOf (kind_of (block_at v).kind) (row_count text blocks (block_at v)) (states_of text (block_at v)) (map (token_bytes text) (numbers_of text blocks (block_at v))) draft
+  pub draft_here : (v : ℕ) (draft : Draft) → v < length nodes → IsDraftAt text heads links v draft → IsDraftOf (kind_of (block_at v).kind) (row_count text blocks (block_at v)) (block_states text (block_at v)) (map (token_bytes text) (block_numbers text blocks (block_at v))) draft
   draft_here v draft near is = subst (λ (T : Type 0). T) (λ i. IsDraftOf (head_here text blocks v near i).kind (rows_here text blocks v near i) (head_here text blocks v near i).states (numerals_in text (potential_here text blocks v near i)) draft) is
 
-  pub values_at : (Q : Token → Type 0) (v : ℕ) → All Q numbers → v < length nodes → kind_of (block_at v).kind ≡ model.Utility → All Q (numbers_of text blocks (block_at v))
-  values_at Q v all near kind = by_option (potential_of text blocks (name_of text (block_at v))) refl where
-    by_option : (o : Option BlockTree) → potential_of text blocks (name_of text (block_at v)) ≡ o → All Q (option_map_or (λ p. leaves_of (data_of text p)) o [])
+  pub values_at : (Q : Token → Type 0) (v : ℕ) → All Q numbers → v < length nodes → kind_of (block_at v).kind ≡ model.Utility → All Q (block_numbers text blocks (block_at v))
+  values_at Q v all near kind = by_option (potential_of text blocks (block_name text (block_at v))) refl where
+    by_option : (o : Option BlockTree) → potential_of text blocks (block_name text (block_at v)) ≡ o → All Q (option_map_or (λ p. leaves_of (data_of text p)) o [])
     by_option None e = λ k d h. absurd (omega arith)
     by_option (Some p) e = value_of_node text blocks own node_rows_none potential_rows_none Q v p all near kind e
 
@@ -205,7 +205,7 @@ module _ (text : List ℕ) (blocks : List BlockTree) (own : All (IsBlockOf text)
 
     -- the utilities' drafts fit the scale
     pub all_fit : All (FitsDraft scale) drafts
-    all_fit v d h = draft_fits text scale (row_count text blocks (block_at v)) (states_of text (block_at v)) (kind_of (block_at v).kind) (numbers_of text blocks (block_at v)) (get_or drafts v d) (draft_here v (get_or drafts v d) (near_of v h) (are.each v d h)) (λ kind. values_at (λ t. IsWholeBy scale (token_bytes text t) × (IsWideValue scale (token_bytes text t) → ⊥)) v scaled_all (near_of v h) kind)
+    all_fit v d h = draft_fits text scale (row_count text blocks (block_at v)) (block_states text (block_at v)) (kind_of (block_at v).kind) (block_numbers text blocks (block_at v)) (get_or drafts v d) (draft_here v (get_or drafts v d) (near_of v h) (are.each v d h)) (λ kind. values_at (λ t. IsWholeBy scale (token_bytes text t) × (IsWideValue scale (token_bytes text t) → ⊥)) v scaled_all (near_of v h) kind)
 
     finished_at : (v : ℕ) (d : Draft) → v < length drafts → get_or (map (finished scale) drafts) v [] ≡ finished scale (get_or drafts v d)
     finished_at v d h = get_or-map (finished scale) drafts v d [] h
@@ -215,16 +215,16 @@ module _ (text : List ℕ) (blocks : List BlockTree) (own : All (IsBlockOf text)
     tables_are = record {
       len = length-map drafts (finished scale) ∙ are.len ∙ heads_len;
       each = λ v h. let near : v < length drafts = omega (arith, h, length-map drafts (finished scale)) in
-          subst (IsTableOf (kind_of (block_at v).kind) scale (states_of text (block_at v)) (map (token_bytes text) (numbers_of text blocks (block_at v)))) (sym (finished_at v (item_of drafts v near) near))
-          (draft_table scale (row_count text blocks (block_at v)) (states_of text (block_at v)) (kind_of (block_at v).kind) (map (token_bytes text) (numbers_of text blocks (block_at v))) (get_or drafts v (item_of drafts v near)) (draft_here v (get_or drafts v (item_of drafts v near)) (near_of v near) (are.each v (item_of drafts v near) near)) (all_fit v (item_of drafts v near) near));
+          subst (IsTableFrom (kind_of (block_at v).kind) scale (block_states text (block_at v)) (map (token_bytes text) (block_numbers text blocks (block_at v)))) (sym (finished_at v (item_of drafts v near) near))
+          (draft_table scale (row_count text blocks (block_at v)) (block_states text (block_at v)) (kind_of (block_at v).kind) (map (token_bytes text) (block_numbers text blocks (block_at v))) (get_or drafts v (item_of drafts v near)) (draft_here v (get_or drafts v (item_of drafts v near)) (near_of v near) (are.each v (item_of drafts v near) near)) (all_fit v (item_of drafts v near) near));
     }
 
     pub tables_fit : CanRead text heads links → TablesFit heads (parent_lists text blocks) (map (finished scale) drafts)
     tables_fit read v h =
         let near : v < length drafts = omega (arith, h, are.len) in
         let its : v < length nodes = omega (arith, h, heads_len) in
-        subst (FitsTable (head_at heads v).kind (rows_at heads (parent_lists text blocks) v) (head_at heads v).states) (sym (finished_at v (item_of drafts v near) near))
-        (draft_limits scale (rows_at heads (parent_lists text blocks) v) (head_at heads v).states (head_at heads v).kind (numerals_in text (potential_at links v)) (get_or drafts v (item_of drafts v near)) (read.states v no_head h)
+        subst (FitsTable (head_at heads v).kind (head_rows heads (parent_lists text blocks) v) (head_at heads v).states) (sym (finished_at v (item_of drafts v near) near))
+        (draft_limits scale (head_rows heads (parent_lists text blocks) v) (head_at heads v).states (head_at heads v).kind (numerals_in text (potential_at links v)) (get_or drafts v (item_of drafts v near)) (read.states v no_head h)
         (λ kind. ap (λ (g : Head). g.states) (head_here text blocks v its) ∙ one_state text (block_at v) (nodes_are text blocks v its) (sym (ap (λ (g : Head). g.kind) (head_here text blocks v its)) ∙ kind))
         (are.each v (item_of drafts v near) near) (all_fit v (item_of drafts v near) near))
 

@@ -18,7 +18,7 @@ use Rattle.net_parser.specs.declared.trees.BlockKind.TheVariants.{Net, Node, Dec
 use Rattle.net_parser.specs.Trees.{BlockTree}
 use Rattle.net_parser.specs.Owned.{IsBlockOf}
 use Rattle.net_build.specs.declared.nodes.Head.{Head}
-use Rattle.net_build.specs.Blocks.{is_node, is_potential, is_number, node_blocks, potentials, kind_of, has_table, states_of, name_of, names_of, place_of, potential_of, parent_lists, data_of, leaves_of, word_of, named}
+use Rattle.net_build.specs.Blocks.{is_node, is_potential, is_number, node_blocks, potentials, kind_of, has_table, block_states, block_name, names_of, place_among, potential_of, parent_lists, data_of, leaves_of, word_of, named}
 use Rattle.net_build.specs.Stages.{AreLinks, NodeLists, head_of, node_lists, link_lists, no_head}
 use Rattle.net_build.specs.Table.{name_rows, node_rows, node_pass, potential_rows, potential_pass, missing_row, missing_pass, no_block, utility_numbers}
 use Rattle.net_build.specs.TableParts.{CanRead, kind_in, has_values, values_in}
@@ -79,19 +79,19 @@ module _ (text : List ℕ) (blocks : List BlockTree) (own : All (IsBlockOf text)
   unfolding node_pass
   node_at v h = each_after_at (λ earlier b. node_rows text (names_of text earlier) (Rattle.net_build.specs.Blocks.agents_of text earlier) b) [] nodes no_block v node_rows_none h
 
-  states_at : (v : ℕ) → v < length nodes → 0 < states_of text (block_at v)
+  states_at : (v : ℕ) → v < length nodes → 0 < block_states text (block_at v)
   states_at v h = states_some text _ _ (block_at v) (node_at v h)
 
-  name_here : (v : ℕ) → v < length nodes → get_or (names_of text nodes) v [] ≡ name_of text (block_at v)
-  name_here v h = get_or-map (name_of text) nodes v no_block [] h
+  name_here : (v : ℕ) → v < length nodes → get_or (names_of text nodes) v [] ≡ block_name text (block_at v)
+  name_here v h = get_or-map (block_name text) nodes v no_block [] h
 
-  names_differ : (k v : ℕ) → k < v → v < length nodes → name_of text (block_at k) ≡ name_of text (block_at v) → ⊥
+  names_differ : (k v : ℕ) → k < v → v < length nodes → block_name text (block_at k) ≡ block_name text (block_at v) → ⊥
   unfolding node_rows name_rows
-  names_differ k v l h same = (node_at v h).0.1.1 (subst (Contains (names_of text (take v nodes))) same (contains_map (name_of text) (take v nodes) (block_at k) (take_at nodes no_block k v l h)))
+  names_differ k v l h same = (node_at v h).0.1.1 (subst (Contains (names_of text (take v nodes))) same (contains_map (block_name text) (take v nodes) (block_at k) (take_at nodes no_block k v l h)))
 
   -- a node's name stands at its place
-  node_place : (v : ℕ) → v < length nodes → place_of (names_of text nodes) (name_of text (block_at v)) ≡ v
-  node_place v h = ap (place_of (names_of text nodes)) (sym (name_here v h)) ∙ place_at (names_of text nodes) v (omega (arith, h, length-map nodes (name_of text)))
+  node_place : (v : ℕ) → v < length nodes → place_among (names_of text nodes) (block_name text (block_at v)) ≡ v
+  node_place v h = ap (place_among (names_of text nodes)) (sym (name_here v h)) ∙ place_at (names_of text nodes) v (omega (arith, h, length-map nodes (block_name text)))
       (λ k l same. names_differ k v l h (sym (name_here k (omega arith)) ∙ same ∙ name_here v h))
 
   abbrev its : List BlockTree
@@ -100,30 +100,30 @@ module _ (text : List ℕ) (blocks : List BlockTree) (own : All (IsBlockOf text)
   abbrev its_at : ℕ → BlockTree
   its_at j = get_or its j no_block
 
-  potential_names_differ : (k j : ℕ) → k < j → j < length its → name_of text (its_at k) ≡ name_of text (its_at j) → ⊥
+  potential_names_differ : (k j : ℕ) → k < j → j < length its → block_name text (its_at k) ≡ block_name text (its_at j) → ⊥
   unfolding potential_pass potential_rows
-  potential_names_differ k j l h same = (each_after_at (potential_rows text nodes) [] its no_block j potential_rows_none h).1.0 (subst (Contains (names_of text (take j its))) same (contains_map (name_of text) (take j its) (its_at k) (take_at its no_block k j l h)))
+  potential_names_differ k j l h same = (each_after_at (potential_rows text nodes) [] its no_block j potential_rows_none h).1.0 (subst (Contains (names_of text (take j its))) same (contains_map (block_name text) (take j its) (its_at k) (take_at its no_block k j l h)))
 
   differ_test : (xs ys : List ℕ) → (xs ≡ ys → ⊥) → bytes_eq xs ys ≡ false
   differ_test xs ys h = Rattle.net_build.proofs.PlaceLemmas.bytes_differ xs ys h
 
   -- each potential is that of its head
-  potential_found : (j : ℕ) → j < length its → potential_of text blocks (name_of text (its_at j)) ≡ Some (its_at j)
-  potential_found j h = finds (λ p. bytes_eq (name_of text p) (name_of text (its_at j))) its no_block j h
-      (λ k l. differ_test (name_of text (its_at k)) (name_of text (its_at j)) (potential_names_differ k j l h)) (bytes_same (name_of text (its_at j)) (name_of text (its_at j)) refl)
+  potential_found : (j : ℕ) → j < length its → potential_of text blocks (block_name text (its_at j)) ≡ Some (its_at j)
+  potential_found j h = finds (λ p. bytes_eq (block_name text p) (block_name text (its_at j))) its no_block j h
+      (λ k l. differ_test (block_name text (its_at k)) (block_name text (its_at j)) (potential_names_differ k j l h)) (bytes_same (block_name text (its_at j)) (block_name text (its_at j)) refl)
 
   kind_here : (v : ℕ) → v < length nodes → get_or (map (λ (h : Head). h.kind) (map (head_of text nodes) nodes)) v model.Chance ≡ kind_of (block_at v).kind
   kind_here v h = get_or-map (λ (g : Head). g.kind) (map (head_of text nodes) nodes) v no_head model.Chance (omega (arith, h, length-map nodes (head_of text nodes))) ∙ ap (λ (g : Head). g.kind) (head_here text blocks v h)
 
   -- the potential of a utility has numbers that count
-  pub value_potential : (v : ℕ) (p : BlockTree) → v < length nodes → kind_of (block_at v).kind ≡ model.Utility → is_potential p.kind ≡ true → name_of text p ≡ name_of text (block_at v) → has_values text listed p ≡ true
+  pub value_potential : (v : ℕ) (p : BlockTree) → v < length nodes → kind_of (block_at v).kind ≡ model.Utility → is_potential p.kind ≡ true → block_name text p ≡ block_name text (block_at v) → has_values text listed p ≡ true
   value_potential v p h kind potential same = and_true _ _ potential (ap (λ name. is_utility (kind_in listed name)) same ∙ ap (λ n. is_utility (get_or (map (λ (g : Head). g.kind) listed.heads) n model.Chance)) (node_place v h) ∙ ap is_utility (kind_here v h ∙ kind))
 
   -- what holds of all utilities' numbers holds of each one's
-  pub value_of_node : (P : Token → Type 0) (v : ℕ) (p : BlockTree) → All P (values_in text listed blocks) → v < length nodes → kind_of (block_at v).kind ≡ model.Utility → potential_of text blocks (name_of text (block_at v)) ≡ Some p → All P (leaves_of (data_of text p))
+  pub value_of_node : (P : Token → Type 0) (v : ℕ) (p : BlockTree) → All P (values_in text listed blocks) → v < length nodes → kind_of (block_at v).kind ≡ model.Utility → potential_of text blocks (block_name text (block_at v)) ≡ Some p → All P (leaves_of (data_of text p))
   value_of_node P v p all h kind is =
       let f : BlockTree → List Token = λ b. leaves_of (data_of text b) in
-      let found = found_in (λ b. bytes_eq (name_of text b) (name_of text (block_at v))) (λ b. (has_values text listed b ≡ true → All P (leaves_of (data_of text b))) × (is_potential b.kind ≡ true)) its p is
+      let found = found_in (λ b. bytes_eq (block_name text b) (block_name text (block_at v))) (λ b. (has_values text listed b ≡ true → All P (leaves_of (data_of text b))) × (is_potential b.kind ≡ true)) its p is
       (all_filter (λ b. has_values text listed b ≡ true → All P (leaves_of (data_of text b))) (λ b. is_potential b.kind) blocks (flat_all P (λ b. leaves_of (data_of text b)) (has_values text listed) blocks all)) in
       found.0.0 (value_potential v p h kind found.0.1 ((bytes_eq-Decides _ _).0 found.1))
 
@@ -136,29 +136,29 @@ module _ (text : List ℕ) (blocks : List BlockTree) (own : All (IsBlockOf text)
     by_order (inl h) = h
     by_order (inr h) = absurd (false≢true (sym (ap is_utility (get_or-eq_default (map (λ (g : Head). g.kind) (map (head_of text nodes) nodes)) model.Chance {n = v} (omega (arith, h, length-map nodes (head_of text nodes), length-map (map (head_of text nodes) nodes) (λ (g : Head). g.kind))))) ∙ e))
 
-  values_are : values_in text listed blocks ≡ flat_map (λ p. leaves_of (data_of text p)) (filter (λ p. is_utility (kind_in listed (name_of text p))) its)
-  values_are = ap (flat_map (λ p. leaves_of (data_of text p))) (sym (filter_filter (λ p. is_potential p.kind) (λ p. is_utility (kind_in listed (name_of text p))) blocks))
+  values_are : values_in text listed blocks ≡ flat_map (λ p. leaves_of (data_of text p)) (filter (λ p. is_utility (kind_in listed (block_name text p))) its)
+  values_are = ap (flat_map (λ p. leaves_of (data_of text p))) (sym (filter_filter (λ p. is_potential p.kind) (λ p. is_utility (kind_in listed (block_name text p))) blocks))
 
   -- what holds of each utility's numbers holds of all
-  pub values_of_nodes : (P : Token → Type 0) → ((v : ℕ) (p : BlockTree) → v < length nodes → kind_of (block_at v).kind ≡ model.Utility → potential_of text blocks (name_of text (block_at v)) ≡ Some p → All P (leaves_of (data_of text p))) → All P (values_in text listed blocks)
+  pub values_of_nodes : (P : Token → Type 0) → ((v : ℕ) (p : BlockTree) → v < length nodes → kind_of (block_at v).kind ≡ model.Utility → potential_of text blocks (block_name text (block_at v)) ≡ Some p → All P (leaves_of (data_of text p))) → All P (values_in text listed blocks)
   values_of_nodes P each_node = subst (All P) (sym values_are) (all_flat P (λ p. leaves_of (data_of text p)) (filter utility its) (λ k d within. let here = all_filter (λ p. utility p ≡ true → All P (leaves_of (data_of text p))) utility its by_place k d within in here.0 here.1))
     where
       utility : BlockTree → Bool
-      utility p = is_utility (kind_in listed (name_of text p))
+      utility p = is_utility (kind_in listed (block_name text p))
 
       by_place : All (λ p. utility p ≡ true → All P (leaves_of (data_of text p))) its
-      by_place j d h = subst (λ p. utility p ≡ true → All P (leaves_of (data_of text p))) (get_or_default its j no_block d h) (at (place_of (names_of text nodes) (name_of text (its_at j))) refl)
+      by_place j d h = subst (λ p. utility p ≡ true → All P (leaves_of (data_of text p))) (get_or_default its j no_block d h) (at (place_among (names_of text nodes) (block_name text (its_at j))) refl)
         where
-          at : (v : ℕ) → place_of (names_of text nodes) (name_of text (its_at j)) ≡ v → utility (its_at j) ≡ true → All P (leaves_of (data_of text (its_at j)))
+          at : (v : ℕ) → place_among (names_of text nodes) (block_name text (its_at j)) ≡ v → utility (its_at j) ≡ true → All P (leaves_of (data_of text (its_at j)))
           at v e t =
               let chosen : is_utility (get_or (map (λ (g : Head). g.kind) (map (head_of text nodes) nodes)) v model.Chance) ≡ true = subst (λ n. is_utility (get_or (map (λ (g : Head). g.kind) (map (head_of text nodes) nodes)) n model.Chance) ≡ true) e t in
               let near : v < length nodes = within_kinds v chosen in
-              let named_here : name_of text (block_at v) ≡ name_of text (its_at j) = sym (name_here v near) ∙ ap (λ n. get_or (names_of text nodes) n []) (sym e) ∙ place_here (names_of text nodes) (name_of text (its_at j)) (subst (λ n. n < length (names_of text nodes)) (sym e) (omega (arith, near, length-map nodes (name_of text)))) in
+              let named_here : block_name text (block_at v) ≡ block_name text (its_at j) = sym (name_here v near) ∙ ap (λ n. get_or (names_of text nodes) n []) (sym e) ∙ place_here (names_of text nodes) (block_name text (its_at j)) (subst (λ n. n < length (names_of text nodes)) (sym e) (omega (arith, near, length-map nodes (block_name text)))) in
               each_node v (its_at j) near (is_utility_true (kind_of (block_at v).kind) (ap is_utility (sym (kind_here v near)) ∙ chosen)) (ap (potential_of text blocks) named_here ∙ potential_found j h)
 
   -- the words of the table of passes say the same
   pub values_are_numbers : values_in text listed blocks ≡ utility_numbers text blocks
-  values_are_numbers = values_are ∙ ap (λ kinds. flat_map (λ p. leaves_of (data_of text p)) (filter (λ p. is_utility (get_or kinds (place_of (names_of text nodes) (name_of text p)) model.Chance)) its)) (map-map (λ (g : Head). g.kind) (head_of text nodes) nodes)
+  values_are_numbers = values_are ∙ ap (λ kinds. flat_map (λ p. leaves_of (data_of text p)) (filter (λ p. is_utility (get_or kinds (place_among (names_of text nodes) (block_name text p)) model.Chance)) its)) (map-map (λ (g : Head). g.kind) (head_of text nodes) nodes)
 
   row_at : (v : ℕ) → missing_pass text blocks None → v < length nodes → has_table (block_at v).kind ≡ true → missing_row text blocks (block_at v) None
   unfolding missing_pass
@@ -168,15 +168,15 @@ module _ (text : List ℕ) (blocks : List BlockTree) (own : All (IsBlockOf text)
   pub can_read : missing_pass text blocks None → AreLinks (map (head_of text nodes) nodes) (parent_lists text blocks) → CanRead text (map (head_of text nodes) nodes) (link_lists text blocks)
   can_read missing fit = record {
     states = λ k d h. let near : k < length nodes = omega (arith, h, length-map nodes (head_of text nodes)) in subst (λ (g : Head). 0 < g.states) (sym (get_or-map (head_of text nodes) nodes k no_block d near)) (states_at k near);
-    parents_len = length-map nodes (λ b. Rattle.net_build.specs.Blocks.parents_of text blocks (name_of text b)) ∙ sym (length-map nodes (head_of text nodes));
-    potentials_len = length-map nodes (λ b. potential_of text blocks (name_of text b)) ∙ sym (length-map nodes (head_of text nodes));
+    parents_len = length-map nodes (λ b. Rattle.net_build.specs.Blocks.parents_of text blocks (block_name text b)) ∙ sym (length-map nodes (head_of text nodes));
+    potentials_len = length-map nodes (λ b. potential_of text blocks (block_name text b)) ∙ sym (length-map nodes (head_of text nodes));
     fit = fit;
     own = λ v h. let near : v < length nodes = omega (arith, h, length-map nodes (head_of text nodes)) in subst (λ o. IfSome o (λ p. IsBlockOf text p × (is_potential p.kind ≡ true))) (sym (potential_here text blocks v near))
-        (if_some_by (λ p. IsBlockOf text p × (is_potential p.kind ≡ true)) (potential_of text blocks (name_of text (block_at v))) (λ p e. (found_in (λ b. bytes_eq (name_of text b) (name_of text (block_at v))) (λ b. IsBlockOf text b × (is_potential b.kind ≡ true)) its p e (all_filter (IsBlockOf text) (λ b. is_potential b.kind) blocks own)).0));
+        (if_some_by (λ p. IsBlockOf text p × (is_potential p.kind ≡ true)) (potential_of text blocks (block_name text (block_at v))) (λ p e. (found_in (λ b. bytes_eq (block_name text b) (block_name text (block_at v))) (λ b. IsBlockOf text b × (is_potential b.kind ≡ true)) its p e (all_filter (IsBlockOf text) (λ b. is_potential b.kind) blocks own)).0));
     there = λ v h kind. let near : v < length nodes = omega (arith, h, length-map nodes (head_of text nodes)) in subst IsSome (sym (potential_here text blocks v near)) (there v near (subst (λ (g : Head). g.kind ≢ model.Decision) (head_here text blocks v near) kind));
   }
     where
-      there : (v : ℕ) → v < length nodes → kind_of (block_at v).kind ≢ model.Decision → IsSome (potential_of text blocks (name_of text (block_at v)))
-      there v h kind = is_some_by (potential_of text blocks (name_of text (block_at v))) (λ e. row_at v missing h (table_kind (block_at v).kind (nodes_are text blocks v h) kind) (λ (k, within, here).
-          let near : k < length its = omega (arith, within, length-map its (name_of text)) in
-          false≢true (sym (not_found (λ b. bytes_eq (name_of text b) (name_of text (block_at v))) its e k no_block near) ∙ (bytes_eq-Decides _ _).1 (sym (get_or-map (name_of text) its k no_block (name_of text (block_at v)) near) ∙ here))))
+      there : (v : ℕ) → v < length nodes → kind_of (block_at v).kind ≢ model.Decision → IsSome (potential_of text blocks (block_name text (block_at v)))
+      there v h kind = is_some_by (potential_of text blocks (block_name text (block_at v))) (λ e. row_at v missing h (table_kind (block_at v).kind (nodes_are text blocks v h) kind) (λ (k, within, here).
+          let near : k < length its = omega (arith, within, length-map its (block_name text)) in
+          false≢true (sym (not_found (λ b. bytes_eq (block_name text b) (block_name text (block_at v))) its e k no_block near) ∙ (bytes_eq-Decides _ _).1 (sym (get_or-map (block_name text) its k no_block (block_name text (block_at v)) near) ∙ here))))

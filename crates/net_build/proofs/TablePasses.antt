@@ -10,9 +10,9 @@ use Rattle.net_parser.specs.Owned.{leaves}
 use Rattle.net_build.specs.declared.nodes.Head.{Head}
 use Rattle.std.proofs.lemmas.Bool.{false≢true}
 use Rattle.net_build.proofs.BlockLemmas.{all_filter}
-use Rattle.net_build.specs.Blocks.{is_node, node_blocks, kind_of, has_table, states_of, state_counts, row_count, cell_count, title_at, name_of, potential_of, parents_of, parent_lists, data_of}
+use Rattle.net_build.specs.Blocks.{is_node, node_blocks, kind_of, has_table, block_states, state_counts, row_count, cell_count, title_at, block_name, potential_of, block_parents, parent_lists, data_of}
 use Rattle.net_build.specs.Passes.{Pass, found, clear, always, only, ◌▸◌, each, MissingTable}
-use Rattle.net_build.specs.Stages.{head_of, head_at, link_lists, rows_at, no_head}
+use Rattle.net_build.specs.Stages.{head_of, head_at, link_lists, head_rows, no_head}
 use Rattle.net_build.specs.Table.{number_row, length_row, repeats, data_rows, weight_rows, table_rows, table_pass, no_block}
 use Rattle.net_build.specs.TableParts.{count_row, weight_part, data_parts, table_part, draft_part, node_part, node_rows_at, drafts_pass, potential_at}
 use Rattle.net_build.proofs.Passing.{Leads, leads_all}
@@ -60,7 +60,7 @@ rows_same : (f g : ℕ → ℕ) (us : List ℕ) → ((u : ℕ) → f u ≡ g u) 
 rows_same f g [] same = refl
 rows_same f g (u ∷ us) same = λ i. same u i * rows_same f g us same i
 
-states_at : (text : List ℕ) (all nodes : List BlockTree) (u : ℕ) → (head_at (map (head_of text all) nodes) u).states ≡ get_or (map (states_of text) nodes) u 1
+states_at : (text : List ℕ) (all nodes : List BlockTree) (u : ℕ) → (head_at (map (head_of text all) nodes) u).states ≡ get_or (map (block_states text) nodes) u 1
 states_at text all [] u = refl
 states_at text all (b ∷ bs) zero = refl
 states_at text all (b ∷ bs) (suc u) = states_at text all bs u
@@ -86,40 +86,40 @@ module _ (text : List ℕ) (blocks : List BlockTree) where
   pub head_here : (v : ℕ) → v < length nodes → head_at heads v ≡ head_of text nodes (block_at v)
   head_here v h = get_or-map (head_of text nodes) nodes v no_block no_head h
 
-  pub parents_here : (v : ℕ) → v < length nodes → get_or (parent_lists text blocks) v [] ≡ parents_of text blocks (name_of text (block_at v))
-  parents_here v h = get_or-map (λ b. parents_of text blocks (name_of text b)) nodes v no_block [] h
+  pub parents_here : (v : ℕ) → v < length nodes → get_or (parent_lists text blocks) v [] ≡ block_parents text blocks (block_name text (block_at v))
+  parents_here v h = get_or-map (λ b. block_parents text blocks (block_name text b)) nodes v no_block [] h
 
-  pub potential_here : (v : ℕ) → v < length nodes → potential_at (link_lists text blocks) v ≡ potential_of text blocks (name_of text (block_at v))
-  potential_here v h = get_or-map (λ b. potential_of text blocks (name_of text b)) nodes v no_block None h
+  pub potential_here : (v : ℕ) → v < length nodes → potential_at (link_lists text blocks) v ≡ potential_of text blocks (block_name text (block_at v))
+  potential_here v h = get_or-map (λ b. potential_of text blocks (block_name text b)) nodes v no_block None h
 
-  pub rows_here : (v : ℕ) → v < length nodes → rows_at heads (parent_lists text blocks) v ≡ row_count text blocks (block_at v)
-  rows_here v h = ap (rows_under (λ u. (head_at heads u).states)) (parents_here v h) ∙ rows_same (λ u. (head_at heads u).states) (λ u. get_or (state_counts text nodes) u 1) (parents_of text blocks (name_of text (block_at v))) (states_at text nodes nodes)
+  pub rows_here : (v : ℕ) → v < length nodes → head_rows heads (parent_lists text blocks) v ≡ row_count text blocks (block_at v)
+  rows_here v h = ap (rows_under (λ u. (head_at heads u).states)) (parents_here v h) ∙ rows_same (λ u. (head_at heads u).states) (λ u. get_or (state_counts text nodes) u 1) (block_parents text blocks (block_name text (block_at v))) (states_at text nodes nodes)
 
   abbrev own_part : BlockTree → Pass
-  own_part b = node_part text (kind_of b.kind) (row_count text blocks b) (states_of text b) (potential_of text blocks (name_of text b))
+  own_part b = node_part text (kind_of b.kind) (row_count text blocks b) (block_states text b) (potential_of text blocks (block_name text b))
 
   pub part_here : (v : ℕ) → v < length nodes → node_rows_at text heads (link_lists text blocks) v ≡ own_part (block_at v)
   part_here v h = λ i. node_part text (head_here v h i).kind (rows_here v h i) (head_here v h i).states (potential_here v h i)
 
-  data_leads : (b potential : BlockTree) (attributes : List AttributeTree) → Leads (data_parts text (kind_of b.kind) (row_count text blocks b) (states_of text b) potential attributes) (data_rows text blocks b potential attributes)
+  data_leads : (b potential : BlockTree) (attributes : List AttributeTree) → Leads (data_parts text (kind_of b.kind) (row_count text blocks b) (block_states text b) potential attributes) (data_rows text blocks b potential attributes)
   unfolding data_rows weight_rows
   data_leads b potential [] = leads_all (always (found (title_at potential) MissingTable))
-  data_leads b potential (table ∷ more) = regrouped (each number_row (leaves table.value)) (count_row table.name.start (cell_count text blocks b) (length (leaves table.value))) (each (length_row text) (leaves table.value)) (only (is_chance (kind_of b.kind)) (weight_part text (states_of text b) (row_count text blocks b) table.name.start (leaves table.value)))
+  data_leads b potential (table ∷ more) = regrouped (each number_row (leaves table.value)) (count_row table.name.start (cell_count text blocks b) (length (leaves table.value))) (each (length_row text) (leaves table.value)) (only (is_chance (kind_of b.kind)) (weight_part text (block_states text b) (row_count text blocks b) table.name.start (leaves table.value)))
 
-  table_leads : (b potential : BlockTree) → Leads (table_part text (kind_of b.kind) (row_count text blocks b) (states_of text b) potential) (table_rows text blocks b (Some potential))
+  table_leads : (b potential : BlockTree) → Leads (table_part text (kind_of b.kind) (row_count text blocks b) (block_states text b) potential) (table_rows text blocks b (Some potential))
   unfolding table_rows
-  table_leads b potential = leads_both (repeats text potential) (repeats text potential) (data_parts text (kind_of b.kind) (row_count text blocks b) (states_of text b) potential (data_of text potential)) (data_rows text blocks b potential (data_of text potential)) (leads_all (repeats text potential)) (data_leads b potential (data_of text potential))
+  table_leads b potential = leads_both (repeats text potential) (repeats text potential) (data_parts text (kind_of b.kind) (row_count text blocks b) (block_states text b) potential (data_of text potential)) (data_rows text blocks b potential (data_of text potential)) (leads_all (repeats text potential)) (data_leads b potential (data_of text potential))
 
-  draft_leads : (b : BlockTree) (potential : Option BlockTree) → Leads (draft_part text (kind_of b.kind) (row_count text blocks b) (states_of text b) potential) (table_rows text blocks b potential)
+  draft_leads : (b : BlockTree) (potential : Option BlockTree) → Leads (draft_part text (kind_of b.kind) (row_count text blocks b) (block_states text b) potential) (table_rows text blocks b potential)
   unfolding table_rows
   draft_leads b None = leads_all clear
   draft_leads b (Some potential) = table_leads b potential
 
   abbrev its_rows : BlockTree → Pass
-  its_rows b = table_rows text blocks b (potential_of text blocks (name_of text b))
+  its_rows b = table_rows text blocks b (potential_of text blocks (block_name text b))
 
   own_leads : (b : BlockTree) → is_node b.kind ≡ true → Leads (own_part b) (only (has_table b.kind) (its_rows b))
-  own_leads b kept = kind_leads text b.kind (row_count text blocks b) (states_of text b) (potential_of text blocks (name_of text b)) (its_rows b) kept (draft_leads b (potential_of text blocks (name_of text b)))
+  own_leads b kept = kind_leads text b.kind (row_count text blocks b) (block_states text b) (potential_of text blocks (block_name text b)) (its_rows b) kept (draft_leads b (potential_of text blocks (block_name text b)))
 
   -- each is a node block
   pub nodes_are : (v : ℕ) → v < length nodes → is_node (block_at v).kind ≡ true

@@ -81,35 +81,35 @@ nought_decimal numeral d is h = nought_by (unsigned_abs d.m) (unsigned_abs (nume
 no_sum : (x y : ℕ) → x + y ≡ 0 → (x ≡ 0) × (y ≡ 0)
 no_sum x y e = (omega arith, omega arith)
 
-raised_nought : (d : Decimal) → scaling.raised 30 d ≡ 0 → unsigned_abs d.m ≡ 0
+raised_nought : (d : Decimal) → scaling.whole_number 30 d ≡ 0 → unsigned_abs d.m ≡ 0
 raised_nought d e = eq_of_mul-eq-mul_right (10 ^ (30 - d.k)) (tens_positive (30 - d.k)) (unsigned_abs d.m) 0 (e ∙ sym (zero-mul (10 ^ (30 - d.k))))
 
-pub row_of_noughts : (text : List ℕ) (ts : List Token) (ds : List Decimal) → AreWritten text ts ds → sum (map (scaling.raised 30) ds) ≡ 0 → All (λ t. numerator (token_bytes text t) ≡ pos 0) ts
+pub row_of_noughts : (text : List ℕ) (ts : List Token) (ds : List Decimal) → AreWritten text ts ds → sum (map (scaling.whole_number 30) ds) ≡ 0 → All (λ t. numerator (token_bytes text t) ≡ pos 0) ts
 row_of_noughts text [] [] h e = λ k d within. absurd (omega arith)
 row_of_noughts text [] (d ∷ ds) h e = absurd h
 row_of_noughts text (t ∷ ts) [] h e = absurd h
 row_of_noughts text (t ∷ ts) (d ∷ ds) h e =
-    let parts = no_sum (scaling.raised 30 d) (sum (map (scaling.raised 30) ds)) (sym (sum_by-cons (λ n. n) (scaling.raised 30 d) (map (scaling.raised 30) ds)) ∙ e) in
+    let parts = no_sum (scaling.whole_number 30 d) (sum (map (scaling.whole_number 30) ds)) (sym (sum_by-cons (λ n. n) (scaling.whole_number 30 d) (map (scaling.whole_number 30) ds)) ∙ e) in
     All-cons (λ u. numerator (token_bytes text u) ≡ pos 0) t ts (nought_number (token_bytes text t) d h.0 (raised_nought d parts.0)) (row_of_noughts text ts ds h.1 parts.1)
 
-pub noughts_in_row : (text : List ℕ) (ts : List Token) (ds : List Decimal) → AreWritten text ts ds → All (λ t. numerator (token_bytes text t) ≡ pos 0) ts → sum (map (scaling.raised 30) ds) ≡ 0
+pub noughts_in_row : (text : List ℕ) (ts : List Token) (ds : List Decimal) → AreWritten text ts ds → All (λ t. numerator (token_bytes text t) ≡ pos 0) ts → sum (map (scaling.whole_number 30) ds) ≡ 0
 noughts_in_row text [] [] h all = refl
 noughts_in_row text [] (d ∷ ds) h all = absurd h
 noughts_in_row text (t ∷ ts) [] h all = absurd h
 noughts_in_row text (t ∷ ts) (d ∷ ds) h all =
-    let first : scaling.raised 30 d ≡ 0 = ap (λ x. x * 10 ^ (30 - d.k)) (nought_decimal (token_bytes text t) d h.0 (all 0 t (omega arith))) ∙ zero-mul (10 ^ (30 - d.k)) in
-    let rest : sum (map (scaling.raised 30) ds) ≡ 0 = noughts_in_row text ts ds h.1 (λ k u within. all (suc k) u (omega arith)) in
-    omega (arith, first, rest, sum_by-cons (λ n. n) (scaling.raised 30 d) (map (scaling.raised 30) ds))
+    let first : scaling.whole_number 30 d ≡ 0 = ap (λ x. x * 10 ^ (30 - d.k)) (nought_decimal (token_bytes text t) d h.0 (all 0 t (omega arith))) ∙ zero-mul (10 ^ (30 - d.k)) in
+    let rest : sum (map (scaling.whole_number 30) ds) ≡ 0 = noughts_in_row text ts ds h.1 (λ k u within. all (suc k) u (omega arith)) in
+    omega (arith, first, rest, sum_by-cons (λ n. n) (scaling.whole_number 30 d) (map (scaling.whole_number 30) ds))
 
 -- decimals of one value are one number, raised
-raised_same : (numeral : List ℕ) (d e : Decimal) → IsLeastDecimalOf (numerator numeral) (denominator numeral) d → IsLeastDecimalOf (numerator numeral) (denominator numeral) e → scaling.raised 30 d ≡ scaling.raised 30 e
-raised_same numeral d e is also = eq_of_mul-eq-mul_right (denominator numeral) (den_positive numeral) (scaling.raised 30 d) (scaling.raised 30 e) (whole d is ∙ sym (whole e also)) where
-  whole : (f : Decimal) → IsLeastDecimalOf (numerator numeral) (denominator numeral) f → scaling.raised 30 f * denominator numeral ≡ unsigned_abs (numerator numeral) * 10 ^ 30
+raised_same : (numeral : List ℕ) (d e : Decimal) → IsLeastDecimalOf (numerator numeral) (denominator numeral) d → IsLeastDecimalOf (numerator numeral) (denominator numeral) e → scaling.whole_number 30 d ≡ scaling.whole_number 30 e
+raised_same numeral d e is also = eq_of_mul-eq-mul_right (denominator numeral) (den_positive numeral) (scaling.whole_number 30 d) (scaling.whole_number 30 e) (whole d is ∙ sym (whole e also)) where
+  whole : (f : Decimal) → IsLeastDecimalOf (numerator numeral) (denominator numeral) f → scaling.whole_number 30 f * denominator numeral ≡ unsigned_abs (numerator numeral) * 10 ^ 30
   whole f are = by_parts (unsigned_abs f.m) (10 ^ (30 - f.k)) (denominator numeral) (unsigned_abs (numerator numeral)) (10 ^ f.k) (10 ^ 30) (sizes f.m (numerator numeral) (10 ^ f.k) (denominator numeral) are.value) (tens_split f.k 30 f.few) where
     by_parts : (m t den num p q : ℕ) → m * den ≡ num * p → q ≡ p * t → (m * t) * den ≡ num * q
     by_parts m t den num p q x y = omega (arith, ap (λ z. z * t) x, ap (λ z. num * z) y)
 
-table_same : (text : List ℕ) (ts : List Token) (ds es : List Decimal) → AreWritten text ts ds → AreWritten text ts es → map (scaling.raised 30) ds ≡ map (scaling.raised 30) es
+table_same : (text : List ℕ) (ts : List Token) (ds es : List Decimal) → AreWritten text ts ds → AreWritten text ts es → map (scaling.whole_number 30) ds ≡ map (scaling.whole_number 30) es
 table_same text [] [] [] h g = refl
 table_same text [] [] (e ∷ es) h g = absurd g
 table_same text [] (d ∷ ds) es h g = absurd h
@@ -117,8 +117,8 @@ table_same text (t ∷ ts) [] es h g = absurd h
 table_same text (t ∷ ts) (d ∷ ds) [] h g = absurd g
 table_same text (t ∷ ts) (d ∷ ds) (e ∷ es) h g = λ i. raised_same (token_bytes text t) d e h.0 g.0 i ∷ table_same text ts ds es h.1 g.1 i
 
-raised_part : (states : ℕ) (ds : List Decimal) (r : ℕ) → raised_row states ds r ≡ row_at states (map (scaling.raised 30) ds) r
-raised_part states ds r = sym (take-map (scaling.raised 30) states (drop (r * states) ds)) ∙ ap (take states) (sym (drop-map (scaling.raised 30) (r * states) ds))
+raised_part : (states : ℕ) (ds : List Decimal) (r : ℕ) → raised_row states ds r ≡ row_at states (map (scaling.whole_number 30) ds) r
+raised_part states ds r = sym (take-map (scaling.whole_number 30) states (drop (r * states) ds)) ∙ ap (take states) (sym (drop-map (scaling.whole_number 30) (r * states) ds))
 
 reduced_once : (row a b : List ℕ) → IsReducedRow row a → IsReducedRow row b → a ≡ b
 reduced_once row a b p q =
@@ -129,11 +129,11 @@ reduced_once row a b p q =
 pub not_wide : (text : List ℕ) (states : ℕ) (ts : List Token) (ds es : List Decimal) (scaled : ScaledView) → AreWritten text ts ds → AreWritten text ts es → IsScaled ds states scaled → IsTooWide es states → ⊥
 not_wide text states ts ds es scaled h g p q = omega (arith, total, p.small, q.wide)
   where
-    same : map (scaling.raised 30) ds ≡ map (scaling.raised 30) es
+    same : map (scaling.whole_number 30) ds ≡ map (scaling.whole_number 30) es
     same = table_same text ts ds es h g
 
     len : length ds ≡ length es
-    len = sym (length-map ds (scaling.raised 30)) ∙ ap length same ∙ length-map es (scaling.raised 30)
+    len = sym (length-map ds (scaling.whole_number 30)) ∙ ap length same ∙ length-map es (scaling.whole_number 30)
 
     count : length ds / states ≡ length es / states
     count = ap (λ n. n / states) len

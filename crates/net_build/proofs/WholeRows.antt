@@ -13,7 +13,7 @@ use Rattle.net_parser.specs.declared.trees.BlockKind.TheVariants as blocks_of
 use Rattle.net_parser.specs.Trees.{AttributeTree, BlockTree}
 use Rattle.net_parser.specs.Owned.{leaves}
 use Rattle.net_build.specs.Passes.{Pass, each}
-use Rattle.net_build.specs.Blocks.{node_blocks, kind_of, has_table, name_of, states_of, row_count, cell_count, potential_of, data_of, leaves_of, numbers_of}
+use Rattle.net_build.specs.Blocks.{node_blocks, kind_of, has_table, block_name, block_states, row_count, cell_count, potential_of, data_of, leaves_of, block_numbers}
 use Rattle.net_build.specs.Table.{no_block, data_rows, table_rows, table_pass, all_passes}
 
 -- an item that is kept, and the kept items behind one
@@ -43,28 +43,28 @@ stable a b h = elim (cases_lt a b) as (λ _. a ≡ b) [
   | inr g ↦ elim (cases_lt b a) as (λ _. a ≡ b) [ inl l ↦ absurd (h (λ e. omega arith)) | inr m ↦ omega arith ]
 ]
 
-data_whole : (text : List ℕ) (blocks : List BlockTree) (block potential : BlockTree) (tables : List AttributeTree) → data_rows text blocks block potential tables None → states_of text block ∣ length (leaves_of tables)
+data_whole : (text : List ℕ) (blocks : List BlockTree) (block potential : BlockTree) (tables : List AttributeTree) → data_rows text blocks block potential tables None → block_states text block ∣ length (leaves_of tables)
 unfolding data_rows
 data_whole text blocks block potential [] h = absurd (h tt)
 data_whole text blocks block potential (table ∷ more) h =
-    subst (λ n. states_of text block ∣ n) (sym (stable (length (leaves table.value)) (cell_count text blocks block) h.1.0)) (dvd-mul_left (states_of text block) (row_count text blocks block))
+    subst (λ n. block_states text block ∣ n) (sym (stable (length (leaves table.value)) (cell_count text blocks block) h.1.0)) (dvd-mul_left (block_states text block) (row_count text blocks block))
 
-table_whole : (text : List ℕ) (blocks : List BlockTree) (block : BlockTree) (potential : Option BlockTree) → table_rows text blocks block potential None → states_of text block ∣ length (option_map_or (λ p. leaves_of (data_of text p)) potential [])
+table_whole : (text : List ℕ) (blocks : List BlockTree) (block : BlockTree) (potential : Option BlockTree) → table_rows text blocks block potential None → block_states text block ∣ length (option_map_or (λ p. leaves_of (data_of text p)) potential [])
 unfolding table_rows
-table_whole text blocks block None h = dvd-zero (states_of text block)
+table_whole text blocks block None h = dvd-zero (block_states text block)
 table_whole text blocks block (Some potential) h = data_whole text blocks block potential (data_of text potential) h.1
 
 node_whole : (text : List ℕ) (blocks : List BlockTree) (v : ℕ) → v < length (node_blocks blocks) → kind_of (get_or (node_blocks blocks) v no_block).kind ≡ Chance → table_pass text blocks None
-    → states_of text (get_or (node_blocks blocks) v no_block) ∣ length (numbers_of text blocks (get_or (node_blocks blocks) v no_block))
+    → block_states text (get_or (node_blocks blocks) v no_block) ∣ length (block_numbers text blocks (get_or (node_blocks blocks) v no_block))
 unfolding table_pass
 node_whole text blocks v l kind h =
     let block = get_or (node_blocks blocks) v no_block in
-    table_whole text blocks block (potential_of text blocks (name_of text block))
-    (each_kept (λ b. table_rows text blocks b (potential_of text blocks (name_of text b))) (λ b. has_table b.kind) (node_blocks blocks) h v no_block l (chance_has_table block.kind kind))
+    table_whole text blocks block (potential_of text blocks (block_name text block))
+    (each_kept (λ b. table_rows text blocks b (potential_of text blocks (block_name text b))) (λ b. has_table b.kind) (node_blocks blocks) h v no_block l (chance_has_table block.kind kind))
 
 pub rows_whole : (text : List ℕ) (blocks : List BlockTree) → all_passes text blocks None → (v : ℕ) → v < length (node_blocks blocks) → kind_of (get_or (node_blocks blocks) v no_block).kind ≡ Chance
-    → states_of text (get_or (node_blocks blocks) v no_block) ∣ length (map (token_bytes text) (numbers_of text blocks (get_or (node_blocks blocks) v no_block)))
+    → block_states text (get_or (node_blocks blocks) v no_block) ∣ length (map (token_bytes text) (block_numbers text blocks (get_or (node_blocks blocks) v no_block)))
 unfolding all_passes
 rows_whole text blocks h v l kind =
     let block = get_or (node_blocks blocks) v no_block in
-    subst (λ n. states_of text block ∣ n) (sym (length-map (numbers_of text blocks block) (token_bytes text))) (node_whole text blocks v l kind h.1.1.1.1.1.0)
+    subst (λ n. block_states text block ∣ n) (sym (length-map (block_numbers text blocks block) (token_bytes text))) (node_whole text blocks v l kind h.1.1.1.1.1.0)

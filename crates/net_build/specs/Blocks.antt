@@ -50,11 +50,11 @@ title block = slice_index_or block.names 0 no_token
 abbrev pub title_at : BlockTree → ℕ
 title_at block = (title block).start
 
-abbrev pub name_of : List ℕ → BlockTree → List ℕ
-name_of text block = token_bytes text (title block)
+abbrev pub block_name : List ℕ → BlockTree → List ℕ
+block_name text block = token_bytes text (title block)
 
 abbrev pub names_of : List ℕ → List BlockTree → List (List ℕ)
-names_of text blocks = map (name_of text) blocks
+names_of text blocks = map (block_name text) blocks
 
 -- the names behind a potential's bar
 abbrev pub conditions : BlockTree → List Token
@@ -138,12 +138,12 @@ abbrev pub label_tokens : List ℕ → BlockTree → List Token
 label_tokens text block = if has_states block.kind then leaves_of (named text (codes "states") block.attributes) else []
 
 -- a node's labels, with escapes undone; a utility has none
-abbrev pub labels_of : List ℕ → BlockTree → List (List ℕ)
-labels_of text block = map (text_value text) (label_tokens text block)
+abbrev pub block_labels : List ℕ → BlockTree → List (List ℕ)
+block_labels text block = map (text_value text) (label_tokens text block)
 
 -- how many states a node has: one a label, and a utility one
-abbrev pub states_of : List ℕ → BlockTree → ℕ
-states_of text block = if has_states block.kind then length (label_tokens text block) else 1
+abbrev pub block_states : List ℕ → BlockTree → ℕ
+block_states text block = if has_states block.kind then length (label_tokens text block) else 1
 
 abbrev pub first_text : List ℕ → List Token → List ℕ
 first_text text [] = codes "agent"
@@ -163,44 +163,44 @@ abbrev pub agents_of : List ℕ → List BlockTree → List (List ℕ)
 agents_of text nodes = first_sights (map (agent_of text) (filter (λ b. has_agent b.kind) nodes))
 
 -- how many names stand before the first that is this one
-abbrev pub place_of : List (List ℕ) → List ℕ → ℕ
-place_of names name = position_or_len (λ other. bytes_eq other name) names
+abbrev pub place_among : List (List ℕ) → List ℕ → ℕ
+place_among names name = position_or_len (λ other. bytes_eq other name) names
 
 -- the number of a node's agent; a chance node has 0
 abbrev pub owner_of : List ℕ → List BlockTree → BlockTree → ℕ
-owner_of text nodes block = if has_agent block.kind then place_of (agents_of text nodes) (agent_of text block) else 0
+owner_of text nodes block = if has_agent block.kind then place_among (agents_of text nodes) (agent_of text block) else 0
 
 -- the potential with that head
 abbrev pub potential_of : List ℕ → List BlockTree → List ℕ → Option BlockTree
-potential_of text blocks name = find (λ p. bytes_eq (name_of text p) name) (potentials blocks)
+potential_of text blocks name = find (λ p. bytes_eq (block_name text p) name) (potentials blocks)
 
 -- the numbers of the nodes behind its bar
 abbrev pub condition_places : List ℕ → List BlockTree → BlockTree → List ℕ
-condition_places text nodes potential = map (λ t. place_of (names_of text nodes) (token_bytes text t)) (conditions potential)
+condition_places text nodes potential = map (λ t. place_among (names_of text nodes) (token_bytes text t)) (conditions potential)
 
 -- the parents of the node of that name; none where it has no potential
-abbrev pub parents_of : List ℕ → List BlockTree → List ℕ → List ℕ
-parents_of text blocks name = option_map_or (condition_places text (node_blocks blocks)) (potential_of text blocks name) []
+abbrev pub block_parents : List ℕ → List BlockTree → List ℕ → List ℕ
+block_parents text blocks name = option_map_or (condition_places text (node_blocks blocks)) (potential_of text blocks name) []
 
 abbrev pub parent_lists : List ℕ → List BlockTree → List (List ℕ)
-parent_lists text blocks = map (λ b. parents_of text blocks (name_of text b)) (node_blocks blocks)
+parent_lists text blocks = map (λ b. block_parents text blocks (block_name text b)) (node_blocks blocks)
 
 -- the count of states of each node
 abbrev pub state_counts : List ℕ → List BlockTree → List ℕ
-state_counts text nodes = map (states_of text) nodes
+state_counts text nodes = map (block_states text) nodes
 
 -- how many rows a table or a rule has: the product of the parents' counts of states
 abbrev pub row_count : List ℕ → List BlockTree → BlockTree → ℕ
-row_count text blocks block = rows_under (λ v. slice_index_or (state_counts text (node_blocks blocks)) v 1) (parents_of text blocks (name_of text block))
+row_count text blocks block = rows_under (λ v. slice_index_or (state_counts text (node_blocks blocks)) v 1) (block_parents text blocks (block_name text block))
 
 -- how many cells: one for each row and state
 abbrev pub cell_count : List ℕ → List BlockTree → BlockTree → ℕ
-cell_count text blocks block = row_count text blocks block * states_of text block
+cell_count text blocks block = row_count text blocks block * block_states text block
 
 -- a potential's attributes `data`
 abbrev pub data_of : List ℕ → BlockTree → List AttributeTree
 data_of text potential = named text (codes "data") potential.attributes
 
 -- the numbers of a node's table as they stand in the text
-abbrev pub numbers_of : List ℕ → List BlockTree → BlockTree → List Token
-numbers_of text blocks block = option_map_or (λ p. leaves_of (data_of text p)) (potential_of text blocks (name_of text block)) []
+abbrev pub block_numbers : List ℕ → List BlockTree → BlockTree → List Token
+block_numbers text blocks block = option_map_or (λ p. leaves_of (data_of text p)) (potential_of text blocks (block_name text block)) []

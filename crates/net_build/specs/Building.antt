@@ -7,7 +7,7 @@ use Rattle.maid_model.specs.Views.{DiagramView}
 use Rattle.net_lexer.specs.Token.{token_bytes}
 use Rattle.net_parser.specs.Trees.{BlockTree}
 use Rattle.weight_scale.specs.declared.decimal.Decimal.{Decimal}
-use Rattle.net_build.specs.Blocks.{node_blocks, kind_of, names_of, labels_of, states_of, state_counts, agents_of, owner_of, parent_lists, numbers_of}
+use Rattle.net_build.specs.Blocks.{node_blocks, kind_of, names_of, block_labels, block_states, state_counts, agents_of, owner_of, parent_lists, block_numbers}
 use Rattle.weight_scale.specs.Scaling.{IsScaled}
 use Rattle.weight_scale.specs.Views.{ScaledView}
 use Rattle.net_build.specs.Scaling.{AreDecimals, IsScaledBy}
@@ -17,7 +17,7 @@ use Rattle.net_build.specs.Table.{IsUtilityScale, no_block}
 abbrev pub names_view : List ℕ → List BlockTree → NamesView
 names_view text blocks = record {
   nodes = names_of text (node_blocks blocks);
-  labels = map (labels_of text) (node_blocks blocks);
+  labels = map (block_labels text) (node_blocks blocks);
   agents = agents_of text (node_blocks blocks);
 }
 
@@ -31,15 +31,15 @@ pub record AreUtilityCells (scale : ℕ) (numerals : List (List ℕ)) (cells : L
   pub each : (i : ℕ) → i < length cells → IsScaledBy scale (slice_index_or numerals i []) (slice_index_or cells i (pos 0))
 
 -- the table of a node of that kind and with so many states, from its numerals; a decision has none
-abbrev pub IsTableOf : Kind → ℕ → ℕ → List (List ℕ) → List ℤ → Type 0
-IsTableOf Chance scale states numerals cells = AreChanceCells states numerals cells
-IsTableOf Decision scale states numerals cells = cells ≡ []
-IsTableOf Utility scale states numerals cells = AreUtilityCells scale numerals cells
+abbrev pub IsTableFrom : Kind → ℕ → ℕ → List (List ℕ) → List ℤ → Type 0
+IsTableFrom Chance scale states numerals cells = AreChanceCells states numerals cells
+IsTableFrom Decision scale states numerals cells = cells ≡ []
+IsTableFrom Utility scale states numerals cells = AreUtilityCells scale numerals cells
 
 -- the tables of all nodes, in order
 pub record AreTables (text : List ℕ) (blocks : List BlockTree) (scale : ℕ) (tables : List (List ℤ)) : Type 0 where
   pub len : length tables ≡ length (node_blocks blocks)
-  pub each : (v : ℕ) → v < length tables → let block = slice_index_or (node_blocks blocks) v no_block in IsTableOf (kind_of block.kind) scale (states_of text block) (map (token_bytes text) (numbers_of text blocks block)) (slice_index_or tables v [])
+  pub each : (v : ℕ) → v < length tables → let block = slice_index_or (node_blocks blocks) v no_block in IsTableFrom (kind_of block.kind) scale (block_states text block) (map (token_bytes text) (block_numbers text blocks block)) (slice_index_or tables v [])
 
 -- The diagram and the names that a tree stands for: one node for each node block in text order.
 pub record StandsFor (text : List ℕ) (blocks : List BlockTree) (d : DiagramView) (names : NamesView) : Type 0 where

@@ -1,5 +1,4 @@
 pub mod Lists
-pub mod Places
 pub mod Passes
 pub mod Blocks
 pub mod Zero

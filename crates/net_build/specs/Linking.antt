@@ -14,12 +14,12 @@ use Rattle.net_parser.specs.Trees.{BlockTree}
 use Rattle.net_build.specs.declared.faults.Limit.TheVariants.{Parents, Cells, Rules}
 use Rattle.net_build.specs.declared.nodes.Head.{Head}
 use Rattle.net_build.specs.Passes.{Pass, found, rule, only, ◌▸◌, each, each_after, UnknownName, DoublePotential, RepeatedParent, UtilityParent, MissingTable, GraphCycle, LimitPassed}
-use Rattle.net_build.specs.Blocks.{title, name_of, potentials, conditions, place_of}
+use Rattle.net_build.specs.Blocks.{title, block_name, potentials, conditions, place_among}
 use Rattle.net_build.specs.Stages.{head_at, cells_at}
 
 -- the number of the node of that name
 abbrev pub node_named : List ℕ → List (List ℕ) → Token → ℕ
-node_named text names name = place_of names (token_bytes text name)
+node_named text names name = place_among names (token_bytes text name)
 
 -- the kind of a node
 abbrev pub kind_at : List Head → ℕ → Kind
@@ -46,8 +46,8 @@ abbrev pub conditions_steps : List ℕ → List (List ℕ) → List Head → Lis
 conditions_steps text names heads conditions = each_after (condition_steps text names heads) [] conditions
 
 -- borrowed potentials as trees
-abbrev pub trees_of : List (Option (Bor BlockTree)) → List (Option BlockTree)
-trees_of potentials = map (option_map (λ p. p.now)) potentials
+abbrev pub borrowed_trees : List (Option (Bor BlockTree)) → List (Option BlockTree)
+borrowed_trees potentials = map (option_map (λ p. p.now)) potentials
 
 -- the node has a potential already
 abbrev pub taken_row : List (Option BlockTree) → ℕ → Token → Pass
@@ -67,7 +67,7 @@ potential_steps text names heads potentials head conditions =
 
 -- the potential of each node among these blocks
 abbrev pub potentials_among : List ℕ → List (List ℕ) → List BlockTree → List (Option BlockTree)
-potentials_among text names blocks = map (λ name. find (λ p. bytes_eq (name_of text p) name) blocks) names
+potentials_among text names blocks = map (λ name. find (λ p. bytes_eq (block_name text p) name) blocks) names
 
 -- the parents in them
 abbrev pub parents_in : List ℕ → List (List ℕ) → List (Option BlockTree) → List (List ℕ)

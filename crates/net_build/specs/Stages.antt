@@ -15,7 +15,7 @@ use Rattle.net_parser.specs.Trees.{BlockTree}
 use Rattle.net_parser.specs.Views.{value_tree}
 use Rattle.net_parser.specs.declared.trees.Value.{Value}
 use Rattle.net_build.specs.declared.nodes.Head.{Head}
-use Rattle.net_build.specs.Blocks.{is_string, node_blocks, kind_of, title_at, name_of, names_of, labels_of, has_agent, states_of, agent_of, agents_of, owner_of, potential_of, parent_lists}
+use Rattle.net_build.specs.Blocks.{is_string, node_blocks, kind_of, title_at, block_name, names_of, block_labels, has_agent, block_states, agent_of, agents_of, owner_of, potential_of, parent_lists}
 
 -- the leaves of these values, from left to right
 abbrev pub leaves_in : List Value → List Token
@@ -34,12 +34,12 @@ pub record NodeLists : Type 0 where
   pub heads : List Head
 
 abbrev pub head_of : List ℕ → List BlockTree → BlockTree → Head
-head_of text nodes block = record { at = title_at block; kind = kind_of block.kind; owner = owner_of text nodes block; states = states_of text block }
+head_of text nodes block = record { at = title_at block; kind = kind_of block.kind; owner = owner_of text nodes block; states = block_states text block }
 
 abbrev pub node_lists : List ℕ → List BlockTree → NodeLists
 node_lists text nodes = record {
   names = names_of text nodes;
-  labels = map (labels_of text) nodes;
+  labels = map (block_labels text) nodes;
   agents = agents_of text nodes;
   heads = map (head_of text nodes) nodes;
 }
@@ -60,7 +60,7 @@ pub record LinkLists : Type 0 where
 abbrev pub link_lists : List ℕ → List BlockTree → LinkLists
 link_lists text blocks = record {
   parents = parent_lists text blocks;
-  potentials = map (λ b. potential_of text blocks (name_of text b)) (node_blocks blocks);
+  potentials = map (λ b. potential_of text blocks (block_name text b)) (node_blocks blocks);
 }
 
 abbrev pub no_head : Head
@@ -70,12 +70,12 @@ abbrev pub head_at : List Head → ℕ → Head
 head_at heads v = slice_index_or heads v no_head
 
 -- how many rows node v has
-abbrev pub rows_at : List Head → List (List ℕ) → ℕ → ℕ
-rows_at heads parents v = rows_under (λ u. (head_at heads u).states) (slice_index_or parents v [])
+abbrev pub head_rows : List Head → List (List ℕ) → ℕ → ℕ
+head_rows heads parents v = rows_under (λ u. (head_at heads u).states) (slice_index_or parents v [])
 
 -- how many cells node v has
 abbrev pub cells_at : List Head → List (List ℕ) → ℕ → ℕ
-cells_at heads parents v = rows_at heads parents v * (head_at heads v).states
+cells_at heads parents v = head_rows heads parents v * (head_at heads v).states
 
 -- the parents make a graph within the limits
 pub record AreLinks (heads : List Head) (parents : List (List ℕ)) : Type 0 where
@@ -100,7 +100,7 @@ FitsTable Utility rows states cells = (length cells ≡ rows) × All (λ x. nat_
 
 -- each node's cells do
 abbrev pub TablesFit : List Head → List (List ℕ) → List (List ℤ) → Type 0
-TablesFit heads parents cells = (v : ℕ) → v < length heads → FitsTable (head_at heads v).kind (rows_at heads parents v) (head_at heads v).states (slice_index_or cells v [])
+TablesFit heads parents cells = (v : ℕ) → v < length heads → FitsTable (head_at heads v).kind (head_rows heads parents v) (head_at heads v).states (slice_index_or cells v [])
 
 -- a node from what its block, its potential and its table say
 abbrev pub made_node : Head → List ℕ → List ℤ → NodeView

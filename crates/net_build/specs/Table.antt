@@ -17,7 +17,7 @@ use Rattle.weight_scale.specs.Numeral.{numerator, denominator, IsDecimalOf}
 use Rattle.weight_scale.specs.declared.decimal.Decimal.{Decimal}
 use Rattle.net_build.specs.declared.faults.Limit.TheVariants.{Nodes, NameBytes, States, Agents, Parents, Cells, Rules}
 use Rattle.net_build.specs.Passes.{Pass, found, clear, rule, always, only, ◌▸◌, each, each_after, DoubleName, DoubleAttribute, MissingStates, BadStates, BadLabel, BadAgent, UnknownName, DoublePotential, RepeatedParent, UtilityParent, MissingTable, GraphCycle, NotANumber, WrongCount, NumberTooLong, Negative, ZeroRow, WideWeight, WideValue, LimitPassed}
-use Rattle.net_build.specs.Blocks.{node_blocks, potentials, kind_of, title_at, name_of, names_of, conditions, word_of, named, has_states, has_agent, has_table, counted, is_number, is_string_list, is_plain, is_agent, states_of, agent_of, agents_of, place_of, potential_of, parent_lists, row_count, cell_count, data_of, leaves_of}
+use Rattle.net_build.specs.Blocks.{node_blocks, potentials, kind_of, title_at, block_name, names_of, conditions, word_of, named, has_states, has_agent, has_table, counted, is_number, is_string_list, is_plain, is_agent, block_states, agent_of, agents_of, place_among, potential_of, parent_lists, row_count, cell_count, data_of, leaves_of}
 use Rattle.net_build.specs.Scaling.{AreDecimals, IsWholeBy}
 use Rattle.weight_scale.specs.Scaling.{row_at, IsTooWide}
 
@@ -57,8 +57,8 @@ IsAgentTooMany agents agent = (16 ≤ length agents) × (Contains agents agent �
 unfoldable pub name_rows : List ℕ → List (List ℕ) → BlockTree → Pass
 name_rows text names block =
     rule (256 ≤ length names) (found (title_at block) (LimitPassed Nodes 257))
-    ▸ rule (255 < length (name_of text block)) (found (title_at block) (LimitPassed NameBytes (length (name_of text block))))
-    ▸ rule (Contains names (name_of text block)) (found (title_at block) DoubleName)
+    ▸ rule (255 < length (block_name text block)) (found (title_at block) (LimitPassed NameBytes (length (block_name text block))))
+    ▸ rule (Contains names (block_name text block)) (found (title_at block) DoubleName)
 
 -- the agent of a decision or a utility behind those of these agents
 unfoldable pub owner_rows : List ℕ → List (List ℕ) → BlockTree → Pass
@@ -80,7 +80,7 @@ node_pass text blocks = each_after (λ earlier b. node_rows text (names_of text 
 
 -- the kind of the node of that name
 abbrev pub kind_named : List ℕ → List BlockTree → List ℕ → Kind
-kind_named text nodes name = slice_index_or (map (λ b. kind_of b.kind) nodes) (place_of (names_of text nodes) name) model.Chance
+kind_named text nodes name = slice_index_or (map (λ b. kind_of b.kind) nodes) (place_among (names_of text nodes) name) model.Chance
 
 -- a name behind the bar, and behind those earlier
 unfoldable pub condition_rows : List ℕ → List BlockTree → List Token → Token → Pass
@@ -92,8 +92,8 @@ condition_rows text nodes earlier name =
 -- a potential behind those earlier
 unfoldable pub potential_rows : List ℕ → List BlockTree → List BlockTree → BlockTree → Pass
 potential_rows text nodes earlier potential =
-    rule (Contains (names_of text nodes) (name_of text potential) → ⊥) (found (title_at potential) UnknownName)
-    ▸ rule (Contains (names_of text earlier) (name_of text potential)) (found (title_at potential) DoublePotential)
+    rule (Contains (names_of text nodes) (block_name text potential) → ⊥) (found (title_at potential) UnknownName)
+    ▸ rule (Contains (names_of text earlier) (block_name text potential)) (found (title_at potential) DoublePotential)
     ▸ each_after (condition_rows text nodes) [] (conditions potential)
     ▸ rule (16 < length (conditions potential)) (found (title_at potential) (LimitPassed Parents (length (conditions potential))))
 
@@ -106,7 +106,7 @@ abbrev pub table_nodes : List BlockTree → List BlockTree
 table_nodes blocks = filter (λ b. has_table b.kind) (node_blocks blocks)
 
 abbrev pub missing_row : List ℕ → List BlockTree → BlockTree → Pass
-missing_row text blocks block = rule (Contains (names_of text (potentials blocks)) (name_of text block) → ⊥) (found (title_at block) MissingTable)
+missing_row text blocks block = rule (Contains (names_of text (potentials blocks)) (block_name text block) → ⊥) (found (title_at block) MissingTable)
 
 -- chance and utility nodes in text order
 unfoldable pub missing_pass : List ℕ → List BlockTree → Pass
@@ -175,7 +175,7 @@ data_rows text blocks block potential (table ∷ more) =
     each number_row (leaves table.value)
     ▸ rule (length (leaves table.value) ≢ cell_count text blocks block) (found table.name.start (WrongCount (cell_count text blocks block) (length (leaves table.value))))
     ▸ each (length_row text) (leaves table.value)
-    ▸ only (is_chance (kind_of block.kind)) (weight_rows text (states_of text block) (row_count text blocks block) table)
+    ▸ only (is_chance (kind_of block.kind)) (weight_rows text (block_states text block) (row_count text blocks block) table)
 
 -- the table of a node, given its potential
 unfoldable pub table_rows : List ℕ → List BlockTree → BlockTree → Option BlockTree → Pass
@@ -184,11 +184,11 @@ table_rows text blocks block (Some potential) = repeats text potential ▸ data_
 
 -- chance and utility nodes in text order
 unfoldable pub table_pass : List ℕ → List BlockTree → Pass
-table_pass text blocks = each (λ b. table_rows text blocks b (potential_of text blocks (name_of text b))) (table_nodes blocks)
+table_pass text blocks = each (λ b. table_rows text blocks b (potential_of text blocks (block_name text b))) (table_nodes blocks)
 
 -- the numbers of all utilities, as they stand in the text
 abbrev pub utility_numbers : List ℕ → List BlockTree → List Token
-utility_numbers text blocks = flat_map (λ p. leaves_of (data_of text p)) (filter (λ p. is_utility (kind_named text (node_blocks blocks) (name_of text p))) (potentials blocks))
+utility_numbers text blocks = flat_map (λ p. leaves_of (data_of text p)) (filter (λ p. is_utility (kind_named text (node_blocks blocks) (block_name text p))) (potentials blocks))
 
 -- K: the least number for which every utility value times 10^K is whole
 abbrev pub IsUtilityScale : List ℕ → List BlockTree → ℕ → Type 0

@@ -18,9 +18,9 @@ use Rattle.weight_scale.specs.declared.decimal.Decimal.{Decimal}
 use Rattle.net_build.specs.declared.drafts.Draft.{Draft}
 use Rattle.net_build.specs.declared.drafts.Draft.TheVariants.{Cells, Values}
 use Rattle.net_build.specs.Passes.{Pass, found, rule, clear, always, only, ◌▸◌, each, WrongCount, WideWeight, MissingTable}
-use Rattle.net_build.specs.Blocks.{title_at, name_of, data_of, leaves_of, place_of, is_potential}
+use Rattle.net_build.specs.Blocks.{title_at, block_name, data_of, leaves_of, place_among, is_potential}
 use Rattle.net_build.specs.Scaling.{AreDecimals, IsWholeBy, decimal_at}
-use Rattle.net_build.specs.Stages.{NodeLists, LinkLists, head_at, rows_at, AreLinks}
+use Rattle.net_build.specs.Stages.{NodeLists, LinkLists, head_at, head_rows, AreLinks}
 use Rattle.net_build.specs.declared.nodes.Head.{Head}
 use Rattle.net_build.specs.Table.{number_row, length_row, wide_row, sign_row, total_row, rows_by, IsWideTotal, repeats}
 
@@ -44,8 +44,8 @@ abbrev pub scaled_pass : List ℕ → List Token → Pass
 scaled_pass text numbers outcome = (scale : ℕ) × IsScaleOf text numbers scale × each (wide_row text scale) numbers outcome
 
 -- the decimal times 10^scale, where it has no more decimals than that
-abbrev pub raised : ℕ → Decimal → ℤ
-raised scale d = d.m *ℤ pos (10 ^ (scale - d.k))
+abbrev pub value_at_scale : ℕ → Decimal → ℤ
+value_at_scale scale d = d.m *ℤ pos (10 ^ (scale - d.k))
 
 -- that is within the limits
 abbrev pub Fits : ℕ → Decimal → Type 0
@@ -122,15 +122,15 @@ FitsDraft scale (Values decimals) = All (λ d. d.k ≤ scale) decimals.items × 
 -- the cells to that scale
 abbrev pub finished : ℕ → Draft → List ℤ
 finished scale (Cells cells) = cells.items
-finished scale (Values decimals) = map (raised scale) decimals.items
+finished scale (Values decimals) = map (value_at_scale scale) decimals.items
 
 -- the kind of the node of that name, a chance node's where there is none
 abbrev pub kind_in : NodeLists → List ℕ → Kind
-kind_in nodes name = slice_index_or (map (λ h. h.kind) nodes.heads) (place_of nodes.names name) Chance
+kind_in nodes name = slice_index_or (map (λ h. h.kind) nodes.heads) (place_among nodes.names name) Chance
 
 -- a utility's potential
 abbrev pub has_values : List ℕ → NodeLists → BlockTree → Bool
-has_values text nodes block = is_potential block.kind && is_utility (kind_in nodes (name_of text block))
+has_values text nodes block = is_potential block.kind && is_utility (kind_in nodes (block_name text block))
 
 -- the numbers of the utilities' potentials, in text order
 abbrev pub values_in : List ℕ → NodeLists → List BlockTree → List Token
@@ -141,7 +141,7 @@ potential_at links v = slice_index_or links.potentials v None
 
 -- node v by its head, its rows and its potential
 abbrev pub node_rows_at : List ℕ → List Head → LinkLists → ℕ → Pass
-node_rows_at text heads links v = node_part text (head_at heads v).kind (rows_at heads links.parents v) (head_at heads v).states (potential_at links v)
+node_rows_at text heads links v = node_part text (head_at heads v).kind (head_rows heads links.parents v) (head_at heads v).states (potential_at links v)
 
 -- the nodes in order
 abbrev pub drafts_pass : List ℕ → List Head → LinkLists → Pass
@@ -158,7 +158,7 @@ pub record CanRead (text : List ℕ) (heads : List Head) (links : LinkLists) : T
 
 -- the draft of node v
 abbrev pub IsDraftAt : List ℕ → List Head → LinkLists → ℕ → Draft → Type 0
-IsDraftAt text heads links v draft = IsDraftOf (head_at heads v).kind (rows_at heads links.parents v) (head_at heads v).states (numerals_in text (potential_at links v)) draft
+IsDraftAt text heads links v draft = IsDraftOf (head_at heads v).kind (head_rows heads links.parents v) (head_at heads v).states (numerals_in text (potential_at links v)) draft
 
 -- the draft of each node
 pub record AreDrafts (text : List ℕ) (heads : List Head) (links : LinkLists) (drafts : List Draft) : Type 0 where

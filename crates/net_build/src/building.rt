@@ -17,10 +17,9 @@ ghost use Rattle.net_parser.specs.Owned.{IsBlockOf};
 
 use crate::faults::BuildFault;
 use crate::links::{Links, read_links};
-use crate::names::Names;
 use crate::nodes::{Head, Nodes, read_nodes};
 use crate::tables::{Tables, read_tables};
-use maid_model::{Diagram, Node};
+use maid_model::{Diagram, Names, Node};
 use net_lexer::Tokens;
 use net_parser::Syntax;
 use smallvec::SmallVec;

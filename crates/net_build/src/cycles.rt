@@ -1,7 +1,7 @@
 //! The graph of a text has no cycle.
 
 ghost use Rattle.std.specs.Prelude.{◌≡◌, ℕ, ◌<◌, length, slice_index};
-ghost use Rattle.diagram_graph.specs.Cycles.{ListedArc, rows_of};
+ghost use Rattle.diagram_graph.specs.Cycles.{ListedArc, lists_in};
 ghost use Rattle.net_build.specs.Linking.{graph_steps};
 ghost use Rattle.net_build.specs.Passes.{Passes};
 ghost use Rattle.net_build.specs.Stages.{head_at};
@@ -24,8 +24,8 @@ fn cycle_fault(heads: &[Head], cycle: Vec<usize>) -> BuildFault
 /// No parents lead round in a cycle.
 pub fn check_graph(alloc: Global, heads: &[Head], parents: &[Vec<usize>]) -> Result<(), BuildFault>
     requires len { length parents.now ≡ length heads.now }
-    requires known { (u v : ℕ) → ListedArc (rows_of parents.now) u v → u < length parents.now }
-    ensures { Passes (graph_steps heads.now (rows_of parents.now)) result }
+    requires known { (u v : ℕ) → ListedArc (lists_in parents.now) u v → u < length parents.now }
+    ensures { Passes (graph_steps heads.now (lists_in parents.now)) result }
 {
     match first_cycle(alloc, parents)? {
         Some(cycle) => Err(cycle_fault(heads, cycle)),

@@ -2,8 +2,8 @@
 
 ghost use Rattle.std.specs.Prelude.{◌≡◌, ◌<◌, ◌∷◌, [], All, map, length, nat_le, true, false, IfOk, IfSome, MatchOption, codes};
 ghost use Rattle.std.specs.List.{list_all};
-ghost use Rattle.net_build.specs.Blocks.{title, is_plain, is_string, is_string_list, has_states, named, labels_of};
-ghost use Rattle.net_build.specs.Lists.{list_of};
+ghost use Rattle.net_build.specs.Blocks.{title, is_plain, is_string, is_string_list, has_states, named, block_labels};
+ghost use Rattle.maid_model.specs.Names.{list_of};
 ghost use Rattle.net_build.specs.Passes.{Passes, each};
 ghost use Rattle.net_build.specs.Stages.{leaves_in, are_string_values};
 ghost use Rattle.net_build.specs.Table.{label_row, label_rows, states_rows};
@@ -135,7 +135,7 @@ pub fn read_labels(alloc: Global, text: &[u8], block: &Block) -> Result<Vec<Vec<
     requires own { IsBlockOf text.now block.now }
     requires kind { has_states block.now.kind ≡ true }
     ensures rows { Passes (states_rows text.now block.now (named text.now (codes "states") block.now.attributes)) result }
-    ensures labels { IfOk result (λ labels. list_of labels.items ≡ labels_of text.now block.now) }
+    ensures labels { IfOk result (λ labels. list_of labels.items ≡ block_labels text.now block.now) }
 {
     match first_named(text, &block.attributes, b"states") {
         Some(states) => state_labels(alloc, text, states),

@@ -16,7 +16,6 @@ mod labels;
 mod laws;
 mod leaves;
 mod links;
-mod names;
 mod node_names;
 mod nodes;
 mod numbers;
@@ -32,7 +31,7 @@ mod weights;
 pub use building::build;
 pub use faults::{BuildFault, BuildKind, Limit};
 pub use laws::{a_tree_has_a_fault_or_none, a_tree_has_one_fault, a_tree_stands_for_one_diagram};
-pub use names::Names;
+pub use maid_model::Names;
 
 #[cfg(test)]
 mod tests;

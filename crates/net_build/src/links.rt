@@ -3,7 +3,7 @@
 ghost use Rattle.std.specs.Prelude.{◌≡◌, None, length, All, IfOk, OnOk};
 ghost use Rattle.net_parser.specs.Owned.{IsBlockOf};
 ghost use Rattle.net_build.specs.Blocks.{node_blocks};
-ghost use Rattle.net_build.specs.Linking.{trees_of, missing_steps, graph_steps, size_steps, AreParents};
+ghost use Rattle.net_build.specs.Linking.{borrowed_trees, missing_steps, graph_steps, size_steps, AreParents};
 ghost use Rattle.net_build.specs.Lists.{numbers_of_lists};
 ghost use Rattle.net_build.specs.Passes.{Passes, ◌▸◌};
 ghost use Rattle.net_build.specs.Stages.{node_lists, link_lists, AreLinks};
@@ -50,7 +50,7 @@ fn check_links(
     requires parents { length parents.now ≡ length heads.now }
     requires potentials { length potentials.now ≡ length heads.now }
     requires fit { All (AreParents heads.now) (numbers_of_lists parents.now) }
-    ensures rows { Passes (missing_steps heads.now (trees_of potentials.now) ▸ graph_steps heads.now (numbers_of_lists parents.now) ▸ size_steps heads.now (numbers_of_lists parents.now)) result }
+    ensures rows { Passes (missing_steps heads.now (borrowed_trees potentials.now) ▸ graph_steps heads.now (numbers_of_lists parents.now) ▸ size_steps heads.now (numbers_of_lists parents.now)) result }
     ensures fit { OnOk result (AreLinks heads.now (numbers_of_lists parents.now)) }
 {
     check_tables(heads, potentials)?;

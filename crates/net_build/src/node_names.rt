@@ -2,8 +2,8 @@
 
 ghost use Rattle.std.specs.Prelude.{◌≡◌, ◌++◌, [], ◌∷◌, length, Contains, IfOk, OnOk};
 ghost use Rattle.std.specs.Option.{SomeIff};
-ghost use Rattle.net_build.specs.Blocks.{place_of};
-ghost use Rattle.net_build.specs.Lists.{list_of};
+ghost use Rattle.net_build.specs.Blocks.{place_among};
+ghost use Rattle.maid_model.specs.Names.{list_of};
 
 use indexmap::IndexSet;
 use std::alloc::{AllocError, AllocFailed, Global};
@@ -18,7 +18,7 @@ pub struct NodeNames {
 
 impl Model for NodeNames {
     ghost use Rattle.std.specs.Prelude.{ℕ, List};
-    ghost use Rattle.net_build.specs.Lists.{list_of};
+    ghost use Rattle.maid_model.specs.Names.{list_of};
 
     ghost Value = { List (List ℕ) };
 
@@ -44,7 +44,7 @@ impl NodeNames {
 
     /// The place of the name, if it is there.
     pub fn place(&self, name: &[u8]) -> Option<usize>
-        ensures { SomeIff result (Contains self.now name.now) (place_of self.now name.now) }
+        ensures { SomeIff result (Contains self.now name.now) (place_among self.now name.now) }
     {
         self.names.get_index_of(name)
     }

@@ -1,8 +1,8 @@
 //! The node blocks of a text: names, labels, agents, kinds and counts of states.
 
 ghost use Rattle.std.specs.Prelude.{◌≡◌, ◌<◌, All, length, IfOk, OnOk, codes, if◌then◌else◌};
-ghost use Rattle.net_build.specs.Blocks.{is_node, kind_of, title_at, name_of, node_blocks, has_states, has_agent, named, labels_of, states_of, agent_of, place_of};
-ghost use Rattle.net_build.specs.Lists.{list_of};
+ghost use Rattle.net_build.specs.Blocks.{is_node, kind_of, title_at, block_name, node_blocks, has_states, has_agent, named, block_labels, block_states, agent_of, place_among};
+ghost use Rattle.maid_model.specs.Names.{list_of};
 ghost use Rattle.net_build.specs.Passes.{Passes, only};
 ghost use Rattle.net_build.specs.Stages.{with_agent, node_lists};
 ghost use Rattle.net_build.specs.Table.{name_rows, states_rows, node_rows, node_pass};
@@ -38,7 +38,7 @@ pub struct Nodes {
 }
 
 impl Model for Nodes {
-    ghost use Rattle.net_build.specs.Lists.{list_of, lists_of};
+    ghost use Rattle.maid_model.specs.Names.{list_of, lists_of};
     ghost use Rattle.net_build.specs.Stages.{NodeLists};
 
     ghost Value = { NodeLists };
@@ -84,7 +84,7 @@ fn read_name<'a>(text: &'a [u8], block: &Block, names: &NodeNames) -> Result<&'a
     requires own { IsBlockOf text.now block.now }
     requires named { 0 < length block.now.names }
     ensures rows { Passes (name_rows text.now names.now block.now) result }
-    ensures name { IfOk result (λ name. name.now ≡ name_of text.now block.now) }
+    ensures name { IfOk result (λ name. name.now ≡ block_name text.now block.now) }
 {
     let title = title(block);
     if names.len() >= 256 {
@@ -112,7 +112,7 @@ fn read_name<'a>(text: &'a [u8], block: &Block, names: &NodeNames) -> Result<&'a
 fn node_labels(alloc: Global, text: &[u8], block: &Block) -> Result<Vec<Vec<u8>>, BuildFault>
     requires { IsBlockOf text.now block.now }
     ensures rows { Passes (only (has_states block.now.kind) (states_rows text.now block.now (named text.now (codes "states") block.now.attributes))) result }
-    ensures labels { IfOk result (λ labels. list_of labels.items ≡ labels_of text.now block.now) }
+    ensures labels { IfOk result (λ labels. list_of labels.items ≡ block_labels text.now block.now) }
 {
     if has_states(block.kind) {
         read_labels(alloc, text, block)
@@ -123,8 +123,8 @@ fn node_labels(alloc: Global, text: &[u8], block: &Block) -> Result<Vec<Vec<u8>>
 
 // How many states a node with these labels has.
 fn state_count(text: &[u8], block: &Block, labels: &[Vec<u8>]) -> usize
-    requires { list_of labels.now ≡ labels_of text.now block.now }
-    ensures { result ≡ states_of text.now block.now }
+    requires { list_of labels.now ≡ block_labels text.now block.now }
+    ensures { result ≡ block_states text.now block.now }
 {
     if has_states(block.kind) {
         labels.len()
@@ -145,12 +145,12 @@ fn read_entry(
     requires named { 0 < length block.now.names }
     ensures rows { Passes (node_rows text.now names.now (list_of agents.old.items) block.now) result }
     ensures agents { OnOk result (list_of agents.new.items ≡ with_agent text.now (list_of agents.old.items) block.now) }
-    ensures name { IfOk result (λ entry. entry.name.items ≡ name_of text.now block.now) }
-    ensures labels { IfOk result (λ entry. list_of entry.labels.items ≡ labels_of text.now block.now) }
+    ensures name { IfOk result (λ entry. entry.name.items ≡ block_name text.now block.now) }
+    ensures labels { IfOk result (λ entry. list_of entry.labels.items ≡ block_labels text.now block.now) }
     ensures at { IfOk result (λ entry. entry.head.at ≡ title_at block.now) }
     ensures kind { IfOk result (λ entry. entry.head.kind ≡ kind_of block.now.kind) }
-    ensures states { IfOk result (λ entry. entry.head.states ≡ states_of text.now block.now) }
-    ensures owner { IfOk result (λ entry. entry.head.owner ≡ (if has_agent block.now.kind then place_of (list_of agents.new.items) (agent_of text.now block.now) else 0)) }
+    ensures states { IfOk result (λ entry. entry.head.states ≡ block_states text.now block.now) }
+    ensures owner { IfOk result (λ entry. entry.head.owner ≡ (if has_agent block.now.kind then place_among (list_of agents.new.items) (agent_of text.now block.now) else 0)) }
 {
     let name = read_name(text, block, names)?;
     check_repeats(text, block)?;

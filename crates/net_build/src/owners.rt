@@ -2,8 +2,8 @@
 
 ghost use Rattle.std.specs.Prelude.{◌≡◌, ◌<◌, length, false, IfOk, OnOk, MatchOption, IfSome, codes, if◌then◌else◌};
 ghost use Rattle.net_build.specs.declared.faults.Limit.TheVariants.{Agents};
-ghost use Rattle.net_build.specs.Blocks.{title_at, is_plain, is_agent, is_string, has_agent, named, first_text, agent_of, place_of};
-ghost use Rattle.net_build.specs.Lists.{list_of};
+ghost use Rattle.net_build.specs.Blocks.{title_at, is_plain, is_agent, is_string, has_agent, named, first_text, agent_of, place_among};
+ghost use Rattle.maid_model.specs.Names.{list_of};
 ghost use Rattle.net_build.specs.Passes.{Passes, rule, only, found, BadAgent, LimitPassed};
 ghost use Rattle.net_build.specs.Stages.{with_sight, with_agent};
 ghost use Rattle.net_build.specs.Table.{IsAgentTooMany, agent_rows, owner_rows};
@@ -70,7 +70,7 @@ fn read_agent(alloc: Global, text: &[u8], block: &Block) -> Result<Vec<u8>, Buil
 fn number_agent(agents: &mut Vec<Vec<u8>>, agent: Vec<u8>, at: usize) -> Result<usize, BuildFault>
     ensures rows { Passes (rule (IsAgentTooMany (list_of agents.old.items) agent.items) (found at (LimitPassed Agents 17))) result }
     ensures agents { OnOk result (list_of agents.new.items ≡ with_sight (list_of agents.old.items) agent.items) }
-    ensures place { IfOk result (λ place. place ≡ place_of (list_of agents.new.items) agent.items) }
+    ensures place { IfOk result (λ place. place ≡ place_among (list_of agents.new.items) agent.items) }
 {
     if let Some(place) = place_of(agents, &agent) {
         return Ok(place);
@@ -98,7 +98,7 @@ fn owner(
     requires named { 0 < length block.now.names }
     ensures rows { Passes (owner_rows text.now (list_of agents.old.items) block.now) result }
     ensures agents { OnOk result (list_of agents.new.items ≡ with_sight (list_of agents.old.items) (agent_of text.now block.now)) }
-    ensures place { IfOk result (λ place. place ≡ place_of (list_of agents.new.items) (agent_of text.now block.now)) }
+    ensures place { IfOk result (λ place. place ≡ place_among (list_of agents.new.items) (agent_of text.now block.now)) }
 {
     let agent = read_agent(alloc, text, block)?;
     number_agent(agents, agent, title(block).start)
@@ -122,7 +122,7 @@ pub fn read_owner(
     requires named { 0 < length block.now.names }
     ensures rows { Passes (only (has_agent block.now.kind) (owner_rows text.now (list_of agents.old.items) block.now)) result }
     ensures agents { OnOk result (list_of agents.new.items ≡ with_agent text.now (list_of agents.old.items) block.now) }
-    ensures place { IfOk result (λ place. place ≡ (if has_agent block.now.kind then place_of (list_of agents.new.items) (agent_of text.now block.now) else 0)) }
+    ensures place { IfOk result (λ place. place ≡ (if has_agent block.now.kind then place_among (list_of agents.new.items) (agent_of text.now block.now) else 0)) }
 {
     if has_agent(block.kind) {
         owner(alloc, text, block, agents)

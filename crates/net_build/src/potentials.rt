@@ -4,7 +4,7 @@ ghost use Rattle.std.specs.Prelude.{◌≡◌, ◌≢◌, ◌<◌, ◌≤◌, tr
 ghost use Rattle.net_lexer.specs.Token.{IsTokenOf};
 ghost use Rattle.net_parser.specs.Owned.{IsBlockOf};
 ghost use Rattle.net_build.specs.Blocks.{is_potential, title, conditions, potentials};
-ghost use Rattle.net_build.specs.Linking.{node_named, trees_of, taken_row, many_row, potential_steps, potentials_steps, potentials_among, parents_in, absent_row, missing_at, missing_steps, AreParents};
+ghost use Rattle.net_build.specs.Linking.{node_named, borrowed_trees, taken_row, many_row, potential_steps, potentials_steps, potentials_among, parents_in, absent_row, missing_at, missing_steps, AreParents};
 ghost use Rattle.net_build.specs.Lists.{numbers_of_lists};
 ghost use Rattle.net_build.specs.Passes.{Passes};
 ghost use Rattle.net_build.specs.Stages.{head_at};
@@ -22,7 +22,7 @@ use std::alloc::{AllocError, Global};
 // The node has no potential yet.
 fn check_single(potentials: &[Option<&Block>], node: usize, head: &Token) -> Result<(), BuildFault>
     requires { node < length potentials.now }
-    ensures { Passes (taken_row (trees_of potentials.now) node head.now) result }
+    ensures { Passes (taken_row (borrowed_trees potentials.now) node head.now) result }
 {
     match potentials[node] {
         Some(_) => Err(BuildKind::DoublePotential.at(head.start)),
@@ -59,7 +59,7 @@ fn read_potential(
     requires conditions { All (IsTokenOf text.now) conditions.now }
     requires heads { length heads.now ≡ length names.now }
     requires potentials { length potentials.now ≡ length names.now }
-    ensures rows { Passes (potential_steps text.now names.now heads.now (trees_of potentials.now) head.now conditions.now) result }
+    ensures rows { Passes (potential_steps text.now names.now heads.now (borrowed_trees potentials.now) head.now conditions.now) result }
     ensures node { IfOk result (λ read. read.0 ≡ node_named text.now names.now head.now) }
     ensures within { IfOk result (λ read. read.0 < length names.now) }
     ensures parents { IfOk result (λ read. read.1.items ≡ map (node_named text.now names.now) conditions.now) }
@@ -99,7 +99,7 @@ fn read_block(
     requires potential { is_potential block.now.kind ≡ true }
     requires heads { length heads.now ≡ length names.now }
     requires potentials { length potentials.now ≡ length names.now }
-    ensures rows { Passes (potential_steps text.now names.now heads.now (trees_of potentials.now) (title block.now) (conditions block.now)) result }
+    ensures rows { Passes (potential_steps text.now names.now heads.now (borrowed_trees potentials.now) (title block.now) (conditions block.now)) result }
     ensures node { IfOk result (λ read. read.0 ≡ node_named text.now names.now (title block.now)) }
     ensures within { IfOk result (λ read. read.0 < length names.now) }
     ensures parents { IfOk result (λ read. read.1.items ≡ map (node_named text.now names.now) (conditions block.now)) }
@@ -124,7 +124,7 @@ fn no_parents(alloc: Global, count: usize) -> Result<Vec<Vec<usize>>, AllocError
 
 // No potential for each of so many nodes.
 fn no_potentials<'a>(alloc: Global, count: usize) -> Result<Vec<Option<&'a Block>>, AllocError>
-    ensures { IfOk result (λ found. trees_of found.items ≡ replicate count None) }
+    ensures { IfOk result (λ found. borrowed_trees found.items ≡ replicate count None) }
 {
     let mut found = Vec::with_capacity(alloc, count)?;
     for _node in 0..count {
@@ -144,7 +144,7 @@ fn enter<'a>(
     requires parents { node < length parents.old.items }
     requires potentials { node < length potentials.old.items }
     ensures parents { numbers_of_lists parents.new.items ≡ slice_set (numbers_of_lists parents.old.items) node list.items }
-    ensures potentials { trees_of potentials.new.items ≡ slice_set (trees_of potentials.old.items) node (Some block.now) }
+    ensures potentials { borrowed_trees potentials.new.items ≡ slice_set (borrowed_trees potentials.old.items) node (Some block.now) }
 {
     parents[node] = list;
     potentials[node] = Some(block);
@@ -188,7 +188,7 @@ fn check_present(
 ) -> Result<(), BuildFault>
     requires within { node < length heads.now }
     requires len { length potentials.now ≡ length heads.now }
-    ensures { Passes (absent_row (head_at heads.now node) (trees_of potentials.now) node) result }
+    ensures { Passes (absent_row (head_at heads.now node) (borrowed_trees potentials.now) node) result }
 {
     match potentials[node] {
         Some(_) => Ok(()),
@@ -200,7 +200,7 @@ fn check_present(
 fn check_table(heads: &[Head], potentials: &[Option<&Block>], node: usize) -> Result<(), BuildFault>
     requires within { node < length heads.now }
     requires len { length potentials.now ≡ length heads.now }
-    ensures { Passes (missing_at heads.now (trees_of potentials.now) node) result }
+    ensures { Passes (missing_at heads.now (borrowed_trees potentials.now) node) result }
 {
     match heads[node].kind {
         Kind::Chance | Kind::Utility => check_present(heads, potentials, node),
@@ -211,7 +211,7 @@ fn check_table(heads: &[Head], potentials: &[Option<&Block>], node: usize) -> Re
 /// Each chance and utility node has a potential.
 pub fn check_tables(heads: &[Head], potentials: &[Option<&Block>]) -> Result<(), BuildFault>
     requires { length potentials.now ≡ length heads.now }
-    ensures { Passes (missing_steps heads.now (trees_of potentials.now)) result }
+    ensures { Passes (missing_steps heads.now (borrowed_trees potentials.now)) result }
 {
     for node in 0..heads.len() {
         check_table(heads, potentials, node)?;

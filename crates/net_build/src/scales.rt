@@ -7,7 +7,7 @@ ghost use Rattle.net_build.specs.Blocks.{is_number};
 ghost use Rattle.net_build.specs.Passes.{Passes, each};
 ghost use Rattle.net_build.specs.Scaling.{AreDecimals, decimal_at};
 ghost use Rattle.net_build.specs.Table.{length_row, wide_row};
-ghost use Rattle.net_build.specs.TableParts.{IsScaleOf, scaled_pass, raised, Fits};
+ghost use Rattle.net_build.specs.TableParts.{IsScaleOf, scaled_pass, value_at_scale, Fits};
 ghost use Rattle.net_lexer.specs.Token.{IsTokenOf, token_bytes};
 ghost use Rattle.weight_scale.specs.Numeral.{signed};
 
@@ -47,7 +47,7 @@ fn signed(minus: bool, size: u128) -> i128
 fn scaled(number: Decimal, scale: u32) -> Option<i128>
     requires enough { number.k ≤ scale }
     requires few { scale ≤ 30 }
-    ensures { SomeIff result (Fits scale number) (raised scale number) }
+    ensures { SomeIff result (Fits scale number) (value_at_scale scale number) }
 {
     let tens = 10u128.pow(scale - number.k);
     let size = mul_within(number.m.unsigned_abs(), tens, GREATEST)?;
@@ -109,7 +109,7 @@ pub fn scaled_cells(
     requires enough { All (λ d. d.k ≤ scale) decimals.now }
     requires few { scale ≤ 30 }
     requires narrow { All (Fits scale) decimals.now }
-    ensures { IfOk result (λ cells. cells.items ≡ map (raised scale) decimals.now) }
+    ensures { IfOk result (λ cells. cells.items ≡ map (value_at_scale scale) decimals.now) }
 {
     let mut cells = Vec::with_capacity(alloc, decimals.len())?;
     for decimal in decimals {

@@ -14,7 +14,7 @@ use Rattle.net_parser.specs.declared.reader.Stop.TheVariants.{Unexpected}
 use Rattle.net_parser.specs.Trees.{ValueTree, ValueTrees, leaf, list, none, more, AttributeTree, BlockTree}
 use Rattle.net_parser.specs.Lexemes.{Lexeme, IsWord}
 use Rattle.net_parser.specs.Grammar.{Empty, ◌▹◌, Either, Each, Mark, Word, Name, Value, Values, Attribute, NodeHead, Head, Block, Text, Given, is_potential}
-use Rattle.net_parser.specs.Faults.{IsText}
+use Rattle.net_parser.specs.Faults.{IsSentence}
 use Rattle.net_parser.specs.Reading.{Symbol, mark, name, node_word, attribute_name, attributes, value, values, given, names, next, node_kind, net_rest, node_rest, potential_rest, block_word, block_token, Place, start, within, step, stop, stop_at_end, refusal}
 use Rattle.net_parser.proofs.Telling.{word_is}
 use Rattle.net_parser.proofs.Moves.{Lang, Langs, Onward, forth, back, begun}
@@ -25,7 +25,7 @@ Tail [] ls = (blocks : List BlockTree) × Each (Block false) blocks ls []
 Tail (symbol ∷ after) ls = (between : List Lexeme) × Lang symbol ls between × Tail after between
 
 abbrev pub Rest : Place → List Lexeme → Type 0
-Rest start ls = IsText ls
+Rest start ls = IsSentence ls
 Rest (within symbols) ls = Tail symbols ls
 
 abbrev pub Goes : Option (List Symbol) → List Lexeme → Type 0

@@ -11,7 +11,7 @@ use Rattle.net_parser.specs.declared.parsing.ParseFault.TheVariants as faults
 use Rattle.net_parser.specs.Trees.{BlockTree}
 use Rattle.net_parser.specs.Lexemes.{Lexeme, lexemes, IsMark}
 use Rattle.net_parser.specs.Grammar.{IsModelName, Spells}
-use Rattle.net_parser.specs.Faults.{IsText, IsPossible, IsWrong, Stops, IsForeignWord, IsForeignBlock, IsFunction, IsModelAttribute, IsUnsupported, IsDeepList, IsTooDeep, IsUnexpected, StopsAt, IsFault, Refuses, place_of}
+use Rattle.net_parser.specs.Faults.{IsSentence, IsPossible, IsWrong, Stops, IsForeignWord, IsForeignBlock, IsFunction, IsModelAttribute, IsUnsupported, IsDeepList, IsTooDeep, IsUnexpected, StopsAt, IsFault, Refuses, rest_place}
 use Rattle.net_parser.specs.Laws.{Covered, Exclusive, OneFault}
 use Rattle.net_parser.specs.Reading.{Place, start, within, step, stop, stop_at_end, refusal, fault_at, IsStop}
 use Rattle.net_parser.proofs.Places.{Rest, Leads, EndsAt, found, leads_forth, leads_back, symbol_some, finish_place, may_stand, stands, rest_from_none}
@@ -31,19 +31,19 @@ module _ (before : List Lexeme) (last : Place) (leads : Leads start before last)
   possible : (l : Lexeme) → Stands last l → IsPossible (before ++ l ∷ [])
   possible l stands =
       let more = may_stand last l stands.0 stands.1 in
-      (more.0, subst IsText (sym (regrouped l more.0)) (leads_forth before start last (l ∷ more.0) leads more.1))
+      (more.0, subst IsSentence (sym (regrouped l more.0)) (leads_forth before start last (l ∷ more.0) leads more.1))
 
   stood : (l : Lexeme) → IsPossible (before ++ l ∷ []) → Stands last l
-  stood l h = stands last l h.0 (leads_back before start last (l ∷ h.0) leads (subst IsText (regrouped l h.0) h.1))
+  stood l h = stands last l h.0 (leads_back before start last (l ∷ h.0) leads (subst IsSentence (regrouped l h.0) h.1))
 
   all_possible : IsPossible before
   all_possible = let rest = finish_place last in (rest.0, leads_forth before start last rest.0 leads rest.1)
 
-  whole : IsText before → Rest last []
-  whole h = leads_back before start last [] leads (subst IsText (sym (append-nil before)) h)
+  whole : IsSentence before → Rest last []
+  whole h = leads_back before start last [] leads (subst IsSentence (sym (append-nil before)) h)
 
-  text : Rest last [] → IsText before
-  text h = subst IsText (append-nil before) (leads_forth before start last [] leads h)
+  text : Rest last [] → IsSentence before
+  text h = subst IsSentence (append-nil before) (leads_forth before start last [] leads h)
 
   foreign : (l : Lexeme) → IsForeignBlock before l → Foreign last l
   foreign l h = record { whole = whole h.place; word = h.word }
@@ -96,7 +96,7 @@ stopped ls why rest e =
     let t = told f.before rest f.last why f.leads f.ends in
     (f.before, record { all = f.all; possible = all_possible f.before f.last f.leads; wrong = t.1 }, t.0)
 
-pub is_fault : (text : List ℕ) (tokens : List Token) (why : Stop) (before rest : List Lexeme) → Stops (lexemes text tokens) before rest → IsKind why before rest → IsFault text tokens (fault_at why (place_of (length text) rest))
+pub is_fault : (text : List ℕ) (tokens : List Token) (why : Stop) (before rest : List Lexeme) → Stops (lexemes text tokens) before rest → IsKind why before rest → IsFault text tokens (fault_at why (rest_place (length text) rest))
 is_fault text tokens Unexpected before rest stops kind = (before, rest, stops, refl, kind)
 is_fault text tokens Unsupported before rest stops kind = (before, rest, stops, refl, kind)
 is_fault text tokens TooDeep before rest stops kind = (before, rest, stops, refl, kind)
@@ -106,15 +106,15 @@ covered_by : (text : List ℕ) (tokens : List Token) (found : Option (Stop × Li
 covered_by text tokens None e = inl (rest_from_none (lexemes text tokens) start e)
 covered_by text tokens (Some (why, rest)) e =
     let s = stopped (lexemes text tokens) why rest e in
-    inr (fault_at why (place_of (length text) rest), is_fault text tokens why s.0 rest s.1 s.2)
+    inr (fault_at why (rest_place (length text) rest), is_fault text tokens why s.0 rest s.1 s.2)
 
 pub covered : Covered
 covered text tokens = covered_by text tokens (stop start (lexemes text tokens)) refl
 
 -- a tree leaves no place for a stop
-pub no_stop : (ls before rest : List Lexeme) → IsText ls → Stops ls before rest → ⊥
-no_stop ls before [] h s = s.wrong (subst IsText (s.all ∙ append-nil before) h)
-no_stop ls before (l ∷ after) h s = s.wrong (after, subst IsText (s.all ∙ sym (append_assoc before (l ∷ []) after)) h)
+pub no_stop : (ls before rest : List Lexeme) → IsSentence ls → Stops ls before rest → ⊥
+no_stop ls before [] h s = s.wrong (subst IsSentence (s.all ∙ append-nil before) h)
+no_stop ls before (l ∷ after) h s = s.wrong (after, subst IsSentence (s.all ∙ sym (append_assoc before (l ∷ []) after)) h)
 
 pub exclusive : Exclusive
 exclusive text tokens tree (faults.Unexpected at) spells h = no_stop (lexemes text tokens) h.0 h.1 (tree, spells) h.2
@@ -124,7 +124,7 @@ exclusive text tokens tree faults.NoMemory spells h = h
 
 -- the front of a possible list is possible
 front : (xs ys : List Lexeme) → IsPossible (xs ++ ys) → IsPossible xs
-front xs ys h = (ys ++ h.0, subst IsText (append_assoc xs ys h.0) h.1)
+front xs ys h = (ys ++ h.0, subst IsSentence (append_assoc xs ys h.0) h.1)
 
 longer : (before more : List Lexeme) (l : Lexeme) (rest : List Lexeme) → IsWrong before (l ∷ rest) → IsPossible (before ++ l ∷ more) → ⊥
 longer before more l rest wrong h = wrong (front (before ++ l ∷ []) more (subst IsPossible (sym (append_assoc before (l ∷ []) more)) h))
@@ -172,7 +172,7 @@ module _ (text : List ℕ) (tokens : List Token) (a b : ℕ) where
   same_place : (P Q : List Lexeme → List Lexeme → Type 0) → StopsAt text tokens a P → StopsAt text tokens b Q → a ≡ b
   same_place P Q h k =
       let same = one_stop (lexemes text tokens) h.0 h.1 k.0 k.1 h.2 k.2 in
-      h.3 ∙ ap (place_of (length text)) same.1 ∙ sym k.3
+      h.3 ∙ ap (rest_place (length text)) same.1 ∙ sym k.3
 
   -- both kinds at one place
   both_kinds : (P Q : List Lexeme → List Lexeme → Type 0) → StopsAt text tokens a P → StopsAt text tokens b Q → (before : List Lexeme) × (rest : List Lexeme) × P before rest × Q before rest
@@ -197,7 +197,7 @@ one_fault text tokens faults.NoMemory other h k = absurd h
 one_fault text tokens fault faults.NoMemory h k = absurd k
 
 -- what a reader's stop says of the tokens
-pub refused : (text : List ℕ) (tokens : List Token) (why : Stop) (rest : List Lexeme) → IsStop why (stop start (lexemes text tokens)) rest → Refuses text tokens (fault_at why (place_of (length text) rest))
+pub refused : (text : List ℕ) (tokens : List Token) (why : Stop) (rest : List Lexeme) → IsStop why (stop start (lexemes text tokens)) rest → Refuses text tokens (fault_at why (rest_place (length text) rest))
 refused text tokens Unexpected rest e = let s = stopped (lexemes text tokens) Unexpected rest e in is_fault text tokens Unexpected s.0 rest s.1 s.2
 refused text tokens Unsupported rest e = let s = stopped (lexemes text tokens) Unsupported rest e in is_fault text tokens Unsupported s.0 rest s.1 s.2
 refused text tokens TooDeep rest e = let s = stopped (lexemes text tokens) TooDeep rest e in is_fault text tokens TooDeep s.0 rest s.1 s.2

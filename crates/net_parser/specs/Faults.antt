@@ -9,12 +9,12 @@ use Rattle.net_parser.specs.Lexemes.{Lexeme, lexemes, IsMark, IsWord, IsName, is
 use Rattle.net_parser.specs.Grammar.{Spells, IsModelName}
 
 -- these are the tokens of a text of the grammar
-abbrev pub IsText : List Lexeme → Type 0
-IsText tokens = (tree : List BlockTree) × Spells tree tokens
+abbrev pub IsSentence : List Lexeme → Type 0
+IsSentence tokens = (tree : List BlockTree) × Spells tree tokens
 
 -- some text of the grammar begins with these tokens
 abbrev pub IsPossible : List Lexeme → Type 0
-IsPossible front = (rest : List Lexeme) × IsText (front ++ rest)
+IsPossible front = (rest : List Lexeme) × IsSentence (front ++ rest)
 
 -- some token of that kind may stand behind these
 abbrev pub MayFollow : List Lexeme → (Lexeme → Type 0) → Type 0
@@ -22,7 +22,7 @@ MayFollow before P = (l : Lexeme) × P l × IsPossible (before ++ l ∷ [])
 
 -- no text of the grammar goes on, or ends, as the tokens do behind those before
 abbrev pub IsWrong : List Lexeme → List Lexeme → Type 0
-IsWrong before [] = IsText before → ⊥
+IsWrong before [] = IsSentence before → ⊥
 IsWrong before (l ∷ after) = IsPossible (before ++ l ∷ []) → ⊥
 
 -- Behind the tokens before, which are possible, the rest begins with the first impossible token, or is empty where the text ends too early.
@@ -37,7 +37,7 @@ pub record IsForeignWord (l : Lexeme) : Type 0 where
 
 -- such a word in the place of a block's first word, where the tokens before are a text
 pub record IsForeignBlock (before : List Lexeme) (l : Lexeme) : Type 0 where
-  pub place : IsText before
+  pub place : IsSentence before
   pub word : IsForeignWord l
 
 -- function in the place of node, also behind discrete
@@ -70,13 +70,13 @@ pub record IsUnexpected (before rest : List Lexeme) : Type 0 where
   pub shallow : IsTooDeep before rest → ⊥
 
 -- where the rest begins in the text of that length
-abbrev pub place_of : ℕ → List Lexeme → ℕ
-place_of end [] = end
-place_of end (l ∷ after) = l.token.start
+abbrev pub rest_place : ℕ → List Lexeme → ℕ
+rest_place end [] = end
+rest_place end (l ∷ after) = l.token.start
 
 -- the tokens stop at that place, and the impossible token is such
 abbrev pub StopsAt : List ℕ → List Token → ℕ → (List Lexeme → List Lexeme → Type 0) → Type 0
-StopsAt text tokens at Is = (before rest : List Lexeme) × Stops (lexemes text tokens) before rest × (at ≡ place_of (length text) rest) × Is before rest
+StopsAt text tokens at Is = (before rest : List Lexeme) × Stops (lexemes text tokens) before rest × (at ≡ rest_place (length text) rest) × Is before rest
 
 -- The fault of a text's tokens.
 abbrev pub IsFault : List ℕ → List Token → ParseFault → Type 0

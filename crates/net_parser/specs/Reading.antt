@@ -144,9 +144,9 @@ IsStop NoMemory found new = Unit {0}
 IsStop why found new = found ≡ Some (why, new)
 
 -- What is read stops where what follows it stops, or there.
-abbrev pub Reads : {A : Type 0} → Result A Stop → Option (Stop × List Lexeme) → (A → Option (Stop × List Lexeme)) → List Lexeme → Type 0
-Reads (Ok x) whole rest new = whole ≡ rest x
-Reads (Err why) whole rest new = IsStop why whole new
+abbrev pub IsReading : {A : Type 0} → Result A Stop → Option (Stop × List Lexeme) → (A → Option (Stop × List Lexeme)) → List Lexeme → Type 0
+IsReading (Ok x) whole rest new = whole ≡ rest x
+IsReading (Err why) whole rest new = IsStop why whole new
 
 -- the next token, if there is one, is of that kind
 abbrev pub is_next : TokenKind → List Lexeme → Bool
@@ -155,7 +155,7 @@ is_next kind (l ∷ ls) = same_kind kind l.token.kind
 
 -- Reading of these symbols: what comes behind them is met behind what is read.
 abbrev pub Follows : {A : Type 0} → List Symbol → Result A Stop → List Lexeme → List Lexeme → Type 0
-Follows symbols result old new = (after : List Symbol) → Reads result (stop (within (symbols ++ after)) old) (λ x. stop (within after) new) new
+Follows symbols result old new = (after : List Symbol) → IsReading result (stop (within (symbols ++ after)) old) (λ x. stop (within after) new) new
 
 -- a word that begins a node block of that kind
 abbrev pub NodeWord : BlockKind → Rule

@@ -5,7 +5,7 @@ ghost use Rattle.net_lexer.specs.declared.tokens.Token.{Token};
 ghost use Rattle.net_lexer.specs.declared.tokens.TokenKind.TheVariants.{BraceOpen, ParenOpen, ParenClose, Equals, Semicolon};
 ghost use Rattle.net_parser.specs.Grammar as grammar;
 ghost use Rattle.net_parser.specs.Grammar.{◌▹◌, Mark, Name, Each, Given, Head, is_potential, Spells};
-ghost use Rattle.net_parser.specs.Reading.{mark, name, attribute_name, attributes, value, given, names, start, within, stop, block_place, Reads, Follows, NodeNames, PotentialNames};
+ghost use Rattle.net_parser.specs.Reading.{mark, name, attribute_name, attributes, value, given, names, start, within, stop, block_place, IsReading, Follows, NodeNames, PotentialNames};
 
 use crate::reader::{Reader, Stop};
 use crate::words::BlockWord;
@@ -91,7 +91,7 @@ impl Reader<'_> {
     fn head(&mut self, alloc: Global, first: bool) -> Result<(BlockKind, Vec<Token>), Stop>
         requires { 0 < length self.old }
         ensures rule { IfOk result (λ head. Head first head.0 head.1.items self.old self.new) }
-        ensures follows { Reads result (stop (block_place first) self.old)
+        ensures follows { IsReading result (stop (block_place first) self.old)
             (λ head. stop (within (mark BraceOpen ∷ attributes (is_potential head.0) ∷ [])) self.new) self.new }
         ensures shorter { OnOk result (length self.new < length self.old) }
     {
@@ -117,7 +117,7 @@ impl Reader<'_> {
     fn block(&mut self, alloc: Global, first: bool) -> Result<Block, Stop>
         requires { 0 < length self.old }
         ensures rule { IfOk result (λ block. grammar.Block first block self.old self.new) }
-        ensures follows { Reads result (stop (block_place first) self.old)
+        ensures follows { IsReading result (stop (block_place first) self.old)
             (λ block. stop (within []) self.new) self.new }
         ensures shorter { OnOk result (length self.new < length self.old) }
     {
@@ -133,7 +133,7 @@ impl Reader<'_> {
     /// Reads all blocks up to the last token.
     pub fn text(&mut self, alloc: Global) -> Result<Vec<Block>, Stop>
         ensures rule { IfOk result (λ blocks. Spells blocks.items self.old) }
-        ensures follows { Reads result (stop start self.old) (λ blocks. None) self.new }
+        ensures follows { IsReading result (stop start self.old) (λ blocks. None) self.new }
     {
         let mut blocks = Vec::new(alloc);
         while self.peek().is_some() {

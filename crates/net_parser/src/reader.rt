@@ -7,7 +7,7 @@
 ghost use Rattle.std.specs.Prelude.{◌≡◌, ◌<◌, [], ◌∷◌, length, drop, All, IfSome, IfNone, IsTrue};
 ghost use Rattle.net_lexer.specs.Token.{IsTokenOf, is_token};
 ghost use Rattle.net_parser.specs.Lexemes.{lexemes};
-ghost use Rattle.net_parser.specs.Faults.{place_of};
+ghost use Rattle.net_parser.specs.Faults.{rest_place};
 ghost use Rattle.net_parser.specs.Reading.{fault_at};
 
 use crate::ParseFault;
@@ -108,7 +108,7 @@ impl<'a> Reader<'a> {
 
     /// Where the next token begins, or the text's end where there is none.
     pub fn place(&self, end: usize) -> usize
-        ensures { result ≡ place_of end self.now }
+        ensures { result ≡ rest_place end self.now }
     {
         match self.rest {
             [token, ..] => token.start,

@@ -30,7 +30,7 @@ pub bytes_same : (xs ys : List ℕ) → xs ≡ ys → bytes_eq xs ys ≡ true
 bytes_same xs ys e = (bytes_eq-Decides xs ys).1 e
 
 -- where names differ, each stands at its own place
-pub place_here : (names : List (List ℕ)) → AllPairs (λ name later. name ≢ later) names → (i : ℕ) → i < length names → look.place_of names (get_or names i []) ≡ i
+pub place_here : (names : List (List ℕ)) → AllPairs (λ name later. name ≢ later) names → (i : ℕ) → i < length names → look.place_among names (get_or names i []) ≡ i
 place_here names differ i l =
     position_or_len_is (λ other. bytes_eq other (get_or names i [])) names i [] (omega arith)
     (λ k h. bytes_differ (get_or names k []) (get_or names i []) (differ k i [] h l))
@@ -92,16 +92,16 @@ module _ (d : DiagramView) (names : NamesView) (is : IsPrintable d names) where
     one : (v p : ℕ) (more : List ℕ) → v < length d.nodes → At (printed d names) p (text_onto (node_words d.nodes names v) more) → look.owner_of (printed d names) Blocks (node_tree d.nodes names p v) ≡ (node_at d.nodes v).owner
     one v p more l at =
         let owner = (node_at d.nodes v).owner in
-        owner_case (node_at d.nodes v).kind (look.place_of (look.agents_of (printed d names) Blocks) (look.agent_of (printed d names) (node_tree d.nodes names p v))) owner
+        owner_case (node_at d.nodes v).kind (look.place_among (look.agents_of (printed d names) Blocks) (look.agent_of (printed d names) (node_tree d.nodes names p v))) owner
         (λ owned.
-        ap (λ agents. look.place_of agents (look.agent_of (printed d names) (node_tree d.nodes names p v))) agents_told
-        ∙ ap (look.place_of names.agents) (node_agent_told (printed d names) d.nodes names v p more at owned)
+        ap (λ agents. look.place_among agents (look.agent_of (printed d names) (node_tree d.nodes names p v))) agents_told
+        ∙ ap (look.place_among names.agents) (node_agent_told (printed d names) d.nodes names v p more at owned)
         ∙ place_here names.agents agents_differ owner (subst (λ n. owner < n) (sym is.fit.agents) (is.diagram.owners.agent v l owned)))
         (is.diagram.owners.chance v)
 
   pub states_told : map (λ n. n.states) d.nodes ≡ look.state_counts (printed d names) Blocks
-  states_told = sym (tell d names is (look.states_of (printed d names)) (λ v. (node_at d.nodes v).states) one ∙ each_node (λ n. n.states) d.nodes) where
-    one : (v p : ℕ) (more : List ℕ) → v < length d.nodes → At (printed d names) p (text_onto (node_words d.nodes names v) more) → look.states_of (printed d names) (node_tree d.nodes names p v) ≡ (node_at d.nodes v).states
+  states_told = sym (tell d names is (look.block_states (printed d names)) (λ v. (node_at d.nodes v).states) one ∙ each_node (λ n. n.states) d.nodes) where
+    one : (v p : ℕ) (more : List ℕ) → v < length d.nodes → At (printed d names) p (text_onto (node_words d.nodes names v) more) → look.block_states (printed d names) (node_tree d.nodes names p v) ≡ (node_at d.nodes v).states
     one v p more l at =
         let tree = node_tree d.nodes names p v in
         state_case (node_at d.nodes v).kind (length (look.label_tokens (printed d names) tree)) (node_at d.nodes v).states

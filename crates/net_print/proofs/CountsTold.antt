@@ -32,7 +32,7 @@ module _ (d : DiagramView) (names : NamesView) (is : IsPrintable d names) where
   Blocks = tree_of d names is
 
   -- a block has the states of its node
-  pub block_states_told : (v p : ℕ) (more : List ℕ) → v < length d.nodes → At Text p (text_onto (node_words d.nodes names v) more) → look.states_of Text (node_tree d.nodes names p v) ≡ states_of d.nodes v
+  pub block_states_told : (v p : ℕ) (more : List ℕ) → v < length d.nodes → At Text p (text_onto (node_words d.nodes names v) more) → look.block_states Text (node_tree d.nodes names p v) ≡ states_of d.nodes v
   block_states_told v p more l at =
       let tree = node_tree d.nodes names p v in
       state_case (node_at d.nodes v).kind (length (look.label_tokens Text tree)) (node_at d.nodes v).states
@@ -40,10 +40,10 @@ module _ (d : DiagramView) (names : NamesView) (is : IsPrintable d names) where
       (is.diagram.graph.utility_states v)
 
   -- and the parents
-  pub block_parents_told : (v p : ℕ) (more : List ℕ) → v < length d.nodes → At Text p (text_onto (node_words d.nodes names v) more) → look.parents_of Text Blocks (look.name_of Text (node_tree d.nodes names p v)) ≡ (node_at d.nodes v).parents
+  pub block_parents_told : (v p : ℕ) (more : List ℕ) → v < length d.nodes → At Text p (text_onto (node_words d.nodes names v) more) → look.block_parents Text Blocks (look.block_name Text (node_tree d.nodes names p v)) ≡ (node_at d.nodes v).parents
   block_parents_told v p more l at =
       let found = potential_found d names is v l in
-      ap (look.parents_of Text Blocks) (node_name_told Text d.nodes names v p more at)
+      ap (look.block_parents Text Blocks) (node_name_told Text d.nodes names v p more at)
       ∙ ap (λ o. option_map_or (look.condition_places Text (look.node_blocks Blocks)) o []) found.3
       ∙ conditions_told d names is v found.0 found.1 found.2
 
@@ -57,5 +57,5 @@ module _ (d : DiagramView) (names : NamesView) (is : IsPrintable d names) where
   -- and the cells
   pub cell_count_told : (v p : ℕ) (more : List ℕ) → v < length d.nodes → At Text p (text_onto (node_words d.nodes names v) more) → look.cell_count Text Blocks (node_tree d.nodes names p v) ≡ rows_of d.nodes v * states_of d.nodes v
   cell_count_told v p more l at =
-      ap (λ rows. rows * look.states_of Text (node_tree d.nodes names p v)) (row_count_told v p more l at)
+      ap (λ rows. rows * look.block_states Text (node_tree d.nodes names p v)) (row_count_told v p more l at)
       ∙ ap (λ states. rows_of d.nodes v * states) (block_states_told v p more l at)

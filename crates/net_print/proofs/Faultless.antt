@@ -59,8 +59,8 @@ module _ (d : DiagramView) (names : NamesView) (is : IsPrintable d names) where
   -- the heads of the potentials are all names
   pub heads_told : look.names_of Text (look.potentials Blocks) ≡ names.nodes
   heads_told =
-      ap (map (look.name_of Text)) (potentials_are d names is)
-      ∙ trees_tell Text (look.name_of Text) (name_of names) (potential_tree d names) (potential_words d names) (end_at 0 (node_lines d names is)) (numbers_of d.nodes) [] (at_potentials d names is) (λ k e h p more at. potential_title d names is (get_or (numbers_of d.nodes) k e) p more at)
+      ap (map (look.block_name Text)) (potentials_are d names is)
+      ∙ trees_tell Text (look.block_name Text) (name_of names) (potential_tree d names) (potential_words d names) (end_at 0 (node_lines d names is)) (numbers_of d.nodes) [] (at_potentials d names is) (λ k e h p more at. potential_title d names is (get_or (numbers_of d.nodes) k e) p more at)
       ∙ each_place names.nodes (length d.nodes) [] is.fit.nodes
 
   -- what holds of each node's block
@@ -71,4 +71,4 @@ module _ (d : DiagramView) (names : NamesView) (is : IsPrintable d names) where
   unfolding missing_pass
   missing_clear = each_clear (missing_row Text Blocks) (table_nodes Blocks) (All-filter (λ b. look.has_table b.kind) (λ b. missing_row Text Blocks b None) (look.node_blocks Blocks) (nodes_hold (λ b. missing_row Text Blocks b None) one)) where
     one : (v p : ℕ) (more : List ℕ) → v < length d.nodes → At Text p (text_onto (node_words d.nodes names v) more) → missing_row Text Blocks (node_tree d.nodes names p v) None
-    one v p more l at none = none (subst (λ list. Contains list (look.name_of Text (node_tree d.nodes names p v))) (sym heads_told) (subst (Contains names.nodes) (sym (node_name_told Text d.nodes names v p more at)) (Contains-get_or names.nodes v [] (subst (λ n. v < n) (sym is.fit.nodes) l))))
+    one v p more l at none = none (subst (λ list. Contains list (look.block_name Text (node_tree d.nodes names p v))) (sym heads_told) (subst (Contains names.nodes) (sym (node_name_told Text d.nodes names v p more at)) (Contains-get_or names.nodes v [] (subst (λ n. v < n) (sym is.fit.nodes) l))))

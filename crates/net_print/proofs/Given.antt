@@ -84,7 +84,7 @@ module _ (d : DiagramView) (names : NamesView) (is : IsPrintable d names) where
       head_told (printed d names) names p v node.parents (text_onto body more) (subst (At (printed d names) p) (text_onto-append head body more) at)
 
   -- a potential's head is the name of its node
-  pub potential_title : (v p : ℕ) (more : List ℕ) → At (printed d names) p (text_onto (potential_words d names v) more) → look.name_of (printed d names) (potential_tree d names p v) ≡ name_of names v
+  pub potential_title : (v p : ℕ) (more : List ℕ) → At (printed d names) p (text_onto (potential_words d names v) more) → look.block_name (printed d names) (potential_tree d names p v) ≡ name_of names v
   potential_title v p more at = (potential_told v p more at).title
 
   -- and the names behind its bar are those of the parents
@@ -92,26 +92,26 @@ module _ (d : DiagramView) (names : NamesView) (is : IsPrintable d names) where
   potential_given v p more at = (potential_told v p more at).given
 
   -- a name stands at its node's place
-  pub place_told : (v : ℕ) → v < length d.nodes → look.place_of names.nodes (name_of names v) ≡ v
+  pub place_told : (v : ℕ) → v < length d.nodes → look.place_among names.nodes (name_of names v) ≡ v
   place_told v l = place_here names.nodes is.form.distinct v (subst (λ n. v < n) (sym is.fit.nodes) l)
 
   names_apart : (u v : ℕ) → u < length d.nodes → v < length d.nodes → (u ≡ v → ⊥) → bytes_eq (name_of names u) (name_of names v) ≡ false
-  names_apart u v l m other = bytes_differ (name_of names u) (name_of names v) (λ e. other (sym (place_told u l) ∙ ap (look.place_of names.nodes) e ∙ place_told v m))
+  names_apart u v l m other = bytes_differ (name_of names u) (name_of names v) (λ e. other (sym (place_told u l) ∙ ap (look.place_among names.nodes) e ∙ place_told v m))
 
   -- the potential of that node, and where it stands
   abbrev IsPotentialAt : ℕ → List BlockTree → ℕ → List ℕ → Type 0
-  IsPotentialAt v trees p more = At (printed d names) p (text_onto (potential_words d names v) more) × (find (λ b. bytes_eq (look.name_of (printed d names) b) (name_of names v)) trees ≡ Some (potential_tree d names p v))
+  IsPotentialAt v trees p more = At (printed d names) p (text_onto (potential_words d names v) more) × (find (λ b. bytes_eq (look.block_name (printed d names) b) (name_of names v)) trees ≡ Some (potential_tree d names p v))
 
   -- the first is it, or it is among the others
   first_is : (u v from : ℕ) (rest : List ℕ) (later : List BlockTree) → At (printed d names) from (text_onto (potential_words d names u) rest) → u ≡ v → IsPotentialAt v (potential_tree d names from u ∷ later) from rest
   first_is u v from rest later at e =
-      let test = bytes_eq (look.name_of (printed d names) (potential_tree d names from u)) (name_of names v) in
+      let test = bytes_eq (look.block_name (printed d names) (potential_tree d names from u)) (name_of names v) in
       let same : test ≡ true = bytes_same _ _ ((potential_told u from rest at).title ∙ ap (name_of names) e) in
-      (subst (λ w. At (printed d names) from (text_onto (potential_words d names w) rest)) e at, ap (λ b. cond b (Some (potential_tree d names from u)) (find (λ p. bytes_eq (look.name_of (printed d names) p) (name_of names v)) later)) same ∙ ap (λ w. Some (potential_tree d names from w)) e)
+      (subst (λ w. At (printed d names) from (text_onto (potential_words d names w) rest)) e at, ap (λ b. cond b (Some (potential_tree d names from u)) (find (λ p. bytes_eq (look.block_name (printed d names) p) (name_of names v)) later)) same ∙ ap (λ w. Some (potential_tree d names from w)) e)
 
   not_first : (u v from p : ℕ) (rest more : List ℕ) (later : List BlockTree) → u < length d.nodes → v < length d.nodes → At (printed d names) from (text_onto (potential_words d names u) rest) → (u ≡ v → ⊥) → IsPotentialAt v later p more → IsPotentialAt v (potential_tree d names from u ∷ later) p more
   not_first u v from p rest more later l m at other found =
-      let rest_of = find (λ b. bytes_eq (look.name_of (printed d names) b) (name_of names v)) later in (
+      let rest_of = find (λ b. bytes_eq (look.block_name (printed d names) b) (name_of names v)) later in (
         found.0,
         ap (λ title. cond (bytes_eq title (name_of names v)) (Some (potential_tree d names from u)) rest_of) (potential_told u from rest at).title
             ∙ ap (λ b. cond b (Some (potential_tree d names from u)) rest_of) (names_apart u v l m other)
@@ -133,9 +133,9 @@ module _ (d : DiagramView) (names : NamesView) (is : IsPrintable d names) where
       (cases_eq u v)
 
   -- the places of names are the nodes' numbers
-  places_told : (us : List ℕ) → All (λ u. u < length d.nodes) us → map (look.place_of names.nodes) (map (name_of names) us) ≡ us
+  places_told : (us : List ℕ) → All (λ u. u < length d.nodes) us → map (look.place_among names.nodes) (map (name_of names) us) ≡ us
   places_told [] all = refl
-  places_told (u ∷ us) all = ap (λ n. n ∷ map (look.place_of names.nodes) (map (name_of names) us)) (place_told u (All-head (λ w. w < length d.nodes) u us all)) ∙ ap (λ ns. u ∷ ns) (places_told us (All-tail (λ w. w < length d.nodes) u us all))
+  places_told (u ∷ us) all = ap (λ n. n ∷ map (look.place_among names.nodes) (map (name_of names) us)) (place_told u (All-head (λ w. w < length d.nodes) u us all)) ∙ ap (λ ns. u ∷ ns) (places_told us (All-tail (λ w. w < length d.nodes) u us all))
 
   abbrev Blocks : List BlockTree
   Blocks = tree_of d names is
@@ -144,9 +144,9 @@ module _ (d : DiagramView) (names : NamesView) (is : IsPrintable d names) where
   conditions_told v p more at =
       let parents = (node_at d.nodes v).parents in
       let tokens = drop 1 (head_tokens p names v parents) in
-      ap (λ list. map (λ t. look.place_of list (token_bytes (printed d names) t)) tokens) (names_told d names is)
-      ∙ map_map (look.place_of names.nodes) (token_bytes (printed d names)) tokens
-      ∙ ap (map (look.place_of names.nodes)) (potential_told v p more at).given
+      ap (λ list. map (λ t. look.place_among list (token_bytes (printed d names) t)) tokens) (names_told d names is)
+      ∙ map_map (look.place_among names.nodes) (token_bytes (printed d names)) tokens
+      ∙ ap (map (look.place_among names.nodes)) (potential_told v p more at).given
       ∙ places_told parents (λ k e h. is.diagram.graph.parents_known (get_or parents k e) v (All-contains_itself parents k e h))
 
   has_number : (v : ℕ) → v < length d.nodes → Contains (numbers_of d.nodes) v
@@ -158,13 +158,13 @@ module _ (d : DiagramView) (names : NamesView) (is : IsPrintable d names) where
   pub potential_found : (v : ℕ) → v < length d.nodes → (p : ℕ) × (more : List ℕ) × At (printed d names) p (text_onto (potential_words d names v) more) × (look.potential_of (printed d names) Blocks (name_of names v) ≡ Some (potential_tree d names p v))
   potential_found v l =
       let found = finds v l (end_at 0 (node_lines d names is)) (numbers_of d.nodes) [] (at_potentials d names is) (numbers_below (length d.nodes)) (has_number v l) in
-      (found.0, found.1, found.2.0, ap (find (λ b. bytes_eq (look.name_of (printed d names) b) (name_of names v))) (potentials_are d names is) ∙ found.2.1)
+      (found.0, found.1, found.2.0, ap (find (λ b. bytes_eq (look.block_name (printed d names) b) (name_of names v))) (potentials_are d names is) ∙ found.2.1)
 
   pub parents_told : map (λ n. n.parents) d.nodes ≡ look.parent_lists (printed d names) Blocks
-  parents_told = sym (tell d names is (λ b. look.parents_of (printed d names) Blocks (look.name_of (printed d names) b)) (λ v. (node_at d.nodes v).parents) one ∙ each_node (λ n. n.parents) d.nodes) where
-    one : (v p : ℕ) (more : List ℕ) → v < length d.nodes → At (printed d names) p (text_onto (node_words d.nodes names v) more) → look.parents_of (printed d names) Blocks (look.name_of (printed d names) (node_tree d.nodes names p v)) ≡ (node_at d.nodes v).parents
+  parents_told = sym (tell d names is (λ b. look.block_parents (printed d names) Blocks (look.block_name (printed d names) b)) (λ v. (node_at d.nodes v).parents) one ∙ each_node (λ n. n.parents) d.nodes) where
+    one : (v p : ℕ) (more : List ℕ) → v < length d.nodes → At (printed d names) p (text_onto (node_words d.nodes names v) more) → look.block_parents (printed d names) Blocks (look.block_name (printed d names) (node_tree d.nodes names p v)) ≡ (node_at d.nodes v).parents
     one v p more l at =
         let found = potential_found v l in
-        ap (look.parents_of (printed d names) Blocks) (node_name_told (printed d names) d.nodes names v p more at)
+        ap (look.block_parents (printed d names) Blocks) (node_name_told (printed d names) d.nodes names v p more at)
         ∙ ap (λ o. option_map_or (look.condition_places (printed d names) (look.node_blocks Blocks)) o []) found.3
         ∙ conditions_told v found.0 found.1 found.2

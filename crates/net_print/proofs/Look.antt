@@ -91,7 +91,7 @@ module _ (text : List ℕ) where
       text_says text (behind (behind from name) equals) [] agent [] (text_onto (semicolon ∷ []) rest) at_value
 
   -- the labels of a node's attributes
-  labels_told : (from : ℕ) (kind : Kind) (labels : List (List ℕ)) (agent rest : List ℕ) → At text from (text_onto (attribute_words kind labels agent) rest) → (kind ≡ Utility → labels ≡ []) → (block : BlockTree) → block.kind ≡ block_kind kind → block.attributes ≡ attribute_trees from kind labels agent → look.labels_of text block ≡ labels
+  labels_told : (from : ℕ) (kind : Kind) (labels : List (List ℕ)) (agent rest : List ℕ) → At text from (text_onto (attribute_words kind labels agent) rest) → (kind ≡ Utility → labels ≡ []) → (block : BlockTree) → block.kind ≡ block_kind kind → block.attributes ≡ attribute_trees from kind labels agent → look.block_labels text block ≡ labels
   labels_told from Chance labels agent rest at none block is attributes = ap (λ k. map (text_value text) (cond (look.has_states k) (look.leaves_of (look.named text (codes "states") block.attributes)) [])) is ∙ ap (λ attrs. map (text_value text) (look.leaves_of (look.named text (codes "states") attrs))) attributes ∙ states_leaves from labels rest at []
   labels_told from Decision labels agent rest at none block is attributes =
       let states = list_words (codes "states") Text quoted labels in
@@ -124,7 +124,7 @@ module _ (text : List ℕ) where
       subst (At text (end_at from opening)) (text_onto-append attributes (brace_close ∷ []) rest)
       (at_end text from opening (text_onto (attributes ++ brace_close ∷ []) rest) (subst (At text from) (text_onto-append opening (attributes ++ brace_close ∷ []) rest) at))
 
-  pub node_name_told : (nodes : List NodeView) (names : NamesView) (v from : ℕ) (rest : List ℕ) → At text from (text_onto (node_words nodes names v) rest) → look.name_of text (node_tree nodes names from v) ≡ name_of names v
+  pub node_name_told : (nodes : List NodeView) (names : NamesView) (v from : ℕ) (rest : List ℕ) → At text from (text_onto (node_words nodes names v) rest) → look.block_name text (node_tree nodes names from v) ≡ name_of names v
   node_name_told nodes names v from rest at =
       let kind = (node_at nodes v).kind in
       let attributes = attribute_words kind (labels_of names v) (agent_name names (node_at nodes v).owner) in
@@ -133,7 +133,7 @@ module _ (text : List ℕ) where
       let more = brace_open ∷ (attributes ++ brace_close ∷ []) in
       says text (behind from first) second (text_onto more rest) (at_rest text from first (text_onto (second ∷ more) rest) at)
 
-  pub node_labels_told : (nodes : List NodeView) (names : NamesView) (v from : ℕ) (rest : List ℕ) → At text from (text_onto (node_words nodes names v) rest) → ((node_at nodes v).kind ≡ Utility → labels_of names v ≡ []) → look.labels_of text (node_tree nodes names from v) ≡ labels_of names v
+  pub node_labels_told : (nodes : List NodeView) (names : NamesView) (v from : ℕ) (rest : List ℕ) → At text from (text_onto (node_words nodes names v) rest) → ((node_at nodes v).kind ≡ Utility → labels_of names v ≡ []) → look.block_labels text (node_tree nodes names from v) ≡ labels_of names v
   node_labels_told nodes names v from rest at none =
       labels_told (end_at from (open_words (kind_word (node_at nodes v).kind) (name_of names v))) (node_at nodes v).kind (labels_of names v) (agent_name names (node_at nodes v).owner) (text_onto (brace_close ∷ []) rest) (at_attributes nodes names v from rest at) none (node_tree nodes names from v) refl refl
 
@@ -201,10 +201,10 @@ module _ (d : DiagramView) (names : NamesView) (is : IsPrintable d names) where
   tell f g one = ap (map f) node_blocks_are ∙ trees_tell (printed d names) f g (node_tree d.nodes names) (node_words d.nodes names) 0 (numbers_of d.nodes) (text_onto potential_lines []) at_nodes (λ k e h p more at. one (get_or (numbers_of d.nodes) k e) p more (numbers_below (length d.nodes) k e h) at)
 
   pub names_told : look.names_of (printed d names) (look.node_blocks (tree_of d names is)) ≡ names.nodes
-  names_told = tell (look.name_of (printed d names)) (name_of names) (λ v p more l at. node_name_told (printed d names) d.nodes names v p more at) ∙ each_place names.nodes (length d.nodes) [] is.fit.nodes
+  names_told = tell (look.block_name (printed d names)) (name_of names) (λ v p more l at. node_name_told (printed d names) d.nodes names v p more at) ∙ each_place names.nodes (length d.nodes) [] is.fit.nodes
 
-  pub labels_are_told : map (look.labels_of (printed d names)) (look.node_blocks (tree_of d names is)) ≡ names.labels
-  labels_are_told = tell (look.labels_of (printed d names)) (labels_of names) (λ v p more l at. node_labels_told (printed d names) d.nodes names v p more at (is.form.utility_labels v)) ∙ each_place names.labels (length d.nodes) [] is.fit.labels
+  pub labels_are_told : map (look.block_labels (printed d names)) (look.node_blocks (tree_of d names is)) ≡ names.labels
+  labels_are_told = tell (look.block_labels (printed d names)) (labels_of names) (λ v p more l at. node_labels_told (printed d names) d.nodes names v p more at (is.form.utility_labels v)) ∙ each_place names.labels (length d.nodes) [] is.fit.labels
 
   pub kinds_told : map (λ n. n.kind) d.nodes ≡ map (λ b. look.kind_of b.kind) (look.node_blocks (tree_of d names is))
   kinds_told = sym (tell (λ b. look.kind_of b.kind) (λ v. (node_at d.nodes v).kind) (λ v p more l at. kind_is (node_at d.nodes v).kind) ∙ each_node (λ n. n.kind) d.nodes)

@@ -62,17 +62,17 @@ module _ (d : DiagramView) (names : NamesView) (is : IsPrintable d names) where
         let kind = (node_at d.nodes v).kind in
         block_clear Text (end_at p (open_words (kind_word kind) (name_of names v))) kind (labels_of names v) (agent_name names (node_at d.nodes v).owner) (text_onto (brace_close ∷ []) more) (at_attributes Text d.nodes names v p more at) (labels_are v l) (agent_is v l) (node_tree d.nodes names p v) refl refl
 
-  names_short : All (λ b. length (look.name_of Text b) ≤ 255) Nodes
-  names_short = nodes_hold d names is (λ b. length (look.name_of Text b) ≤ 255) (λ v p more l at. subst (λ name. length name ≤ 255) (sym (node_name_told Text d.nodes names v p more at)) (is.form.words v [] (subst (λ n. v < n) (sym is.fit.nodes) l)).size)
+  names_short : All (λ b. length (look.block_name Text b) ≤ 255) Nodes
+  names_short = nodes_hold d names is (λ b. length (look.block_name Text b) ≤ 255) (λ v p more l at. subst (λ name. length name ≤ 255) (sym (node_name_told Text d.nodes names v p more at)) (is.form.words v [] (subst (λ n. v < n) (sym is.fit.nodes) l)).size)
 
   -- the names of the blocks differ
-  names_new : (front : List BlockTree) (b : BlockTree) (back : List BlockTree) → front ++ (b ∷ back) ≡ Nodes → Contains (look.names_of Text front) (look.name_of Text b) → ⊥
-  names_new front b back e = not_earlier (look.names_of Text front) (look.name_of Text b) (look.names_of Text back) (subst (λ list. AllPairs (λ name later. name ≢ later) list) (sym (sym (map-append (look.name_of Text) front (b ∷ back)) ∙ ap (look.names_of Text) e ∙ names_told d names is)) is.form.distinct)
+  names_new : (front : List BlockTree) (b : BlockTree) (back : List BlockTree) → front ++ (b ∷ back) ≡ Nodes → Contains (look.names_of Text front) (look.block_name Text b) → ⊥
+  names_new front b back e = not_earlier (look.names_of Text front) (look.block_name Text b) (look.names_of Text back) (subst (λ list. AllPairs (λ name later. name ≢ later) list) (sym (sym (map-append (look.block_name Text) front (b ∷ back)) ∙ ap (look.names_of Text) e ∙ names_told d names is)) is.form.distinct)
 
   names_few : (front : List BlockTree) (b : BlockTree) (back : List BlockTree) → front ++ (b ∷ back) ≡ Nodes → 256 ≤ length (look.names_of Text front) → ⊥
   names_few front b back e =
-      let whole : length Nodes ≡ length d.nodes = sym (length-map Nodes (look.name_of Text)) ∙ ap length (names_told d names is) ∙ is.fit.nodes in
-      full (length (look.names_of Text front)) (length front) (length back) (length d.nodes) (length-map front (look.name_of Text)) (sym whole ∙ ap length (sym e) ∙ length-append front (b ∷ back)) is.diagram.limits.nodes
+      let whole : length Nodes ≡ length d.nodes = sym (length-map Nodes (look.block_name Text)) ∙ ap length (names_told d names is) ∙ is.fit.nodes in
+      full (length (look.names_of Text front)) (length front) (length back) (length d.nodes) (length-map front (look.block_name Text)) (sym whole ∙ ap length (sym e) ∙ length-append front (b ∷ back)) is.diagram.limits.nodes
 
   -- an agent of the nodes is not one too many
   agents_few : (front : List BlockTree) (b : BlockTree) (back : List BlockTree) → front ++ (b ∷ back) ≡ Nodes → look.has_agent b.kind ≡ true → IsAgentTooMany (look.agents_of Text front) (look.agent_of Text b) → ⊥
@@ -95,7 +95,7 @@ module _ (d : DiagramView) (names : NamesView) (is : IsPrintable d names) where
         (
           names_few front b back e,
           (
-            too_long (length (look.name_of Text b)) 255 (All-contains (λ b. length (look.name_of Text b) ≤ 255) Nodes b names_short among),
+            too_long (length (look.block_name Text b)) 255 (All-contains (λ b. length (look.block_name Text b) ≤ 255) Nodes b names_short among),
             names_new front b back e,
           ),
         ),

@@ -39,7 +39,7 @@ module _ (d : DiagramView) (names : NamesView) (is : IsPrintable d names) where
 
   -- names that are the same are of one node
   one_node : (u v : ℕ) → u < length d.nodes → v < length d.nodes → name_of names u ≡ name_of names v → u ≡ v
-  one_node u v l m e = sym (place_told d names is u l) ∙ ap (look.place_of names.nodes) e ∙ place_told d names is v m
+  one_node u v l m e = sym (place_told d names is u l) ∙ ap (look.place_among names.nodes) e ∙ place_told d names is v m
 
   has_name : (v : ℕ) → v < length d.nodes → Contains (look.names_of Text Nodes) (name_of names v)
   has_name v l = subst (λ list. Contains list (name_of names v)) (sym (names_told d names is)) (Contains-get_or names.nodes v [] (subst (λ n. v < n) (sym is.fit.nodes) l))
@@ -53,8 +53,8 @@ module _ (d : DiagramView) (names : NamesView) (is : IsPrintable d names) where
 
   pub kind_told : (u : ℕ) → u < length d.nodes → kind_named Text Nodes (name_of names u) ≡ (node_at d.nodes u).kind
   kind_told u l =
-      let place : look.place_of (look.names_of Text Nodes) (name_of names u) ≡ u = ap (λ list. look.place_of list (name_of names u)) (names_told d names is) ∙ place_told d names is u l in
-      ap (λ kinds. get_or kinds (look.place_of (look.names_of Text Nodes) (name_of names u)) Chance) (sym (kinds_told d names is))
+      let place : look.place_among (look.names_of Text Nodes) (name_of names u) ≡ u = ap (λ list. look.place_among list (name_of names u)) (names_told d names is) ∙ place_told d names is u l in
+      ap (λ kinds. get_or kinds (look.place_among (look.names_of Text Nodes) (name_of names u)) Chance) (sym (kinds_told d names is))
       ∙ ap (λ n. get_or (map (λ m. m.kind) d.nodes) n Chance) place
       ∙ get_or-map (λ (m : NodeView). m.kind) d.nodes u no_node Chance l
 
@@ -124,8 +124,8 @@ module _ (d : DiagramView) (names : NamesView) (is : IsPrintable d names) where
       let here : At Text from (text_onto (potential_words d names a) (text_onto later rest)) = subst (At Text from) (text_onto-append (potential_words d names a) later rest) at in (
         potential_clear earlier a from (text_onto later rest) (omega arith) here told,
         after_clear n (a + 1) (end_at from (potential_words d names a)) (earlier ++ potential_tree d names from a ∷ []) rest (omega arith) (at_end Text from (potential_words d names a) (text_onto later rest) here)
-            (map_push (look.name_of Text) earlier (potential_tree d names from a)
-            ∙ ap (λ list. list ++ look.name_of Text (potential_tree d names from a) ∷ []) told
+            (map_push (look.block_name Text) earlier (potential_tree d names from a)
+            ∙ ap (λ list. list ++ look.block_name Text (potential_tree d names from a) ∷ []) told
             ∙ ap (λ name. map (name_of names) (range_with_len 0 a) ++ name ∷ []) (potential_title d names is a from (text_onto later rest) here)
             ∙ sym (map-range_with_len_more (name_of names) 0 a a (omega arith))),
       )

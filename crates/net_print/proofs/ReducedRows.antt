@@ -9,7 +9,7 @@ use Rattle.std.proofs.lemmas.List.Elements.{All-nil, All-head, All-tail, All-app
 use Rattle.std.proofs.lemmas.List.Sums.{get_or-le-sum_by}
 use Rattle.std.proofs.lemmas.Nat.Gcd.{le_of_dvd}
 use Rattle.maid_model.specs.Tables.{IsTable}
-use Rattle.weight_scale.specs.Scaling.{row_at, weights_of}
+use Rattle.weight_scale.specs.Scaling.{row_at, multiplied_row}
 use Rattle.net_build.specs.Plain.{reduced_row, reduced_rows}
 use Rattle.net_print.proofs.Steps.{lines_more}
 use Rattle.net_print.proofs.Rows.{row_within, length-row, length-rows, size_of, sum_cells}
@@ -102,10 +102,10 @@ module _ (cells : List ℤ) (rows states total : ℕ) (table : IsTable cells row
   row_shares_none r l = subst SharesNone (sym (row_is r l)) (reduced_shares_none (sizes_at states cells r) (sizes_positive r l))
 
   -- Scaled to the total, a reduced row is the row of cells.
-  pub row_weights : (r : ℕ) → r < rows → weights_of total (row_at states (reduced_rows states rows cells) r) ≡ row_at states cells r
+  pub row_weights : (r : ℕ) → r < rows → multiplied_row total (row_at states (reduced_rows states rows cells) r) ≡ row_at states cells r
   row_weights r l =
-      ap (weights_of total) (row_is r l)
-      ∙ ap (λ n. weights_of n (reduced_row (sizes_at states cells r))) (sym (sizes_sum r l))
+      ap (multiplied_row total) (row_is r l)
+      ∙ ap (λ n. multiplied_row n (reduced_row (sizes_at states cells r))) (sym (sizes_sum r l))
       ∙ weights_back (sizes_at states cells r) (sizes_positive r l)
       ∙ sizes_back (row_at states cells r) (All-take (λ z. pos 0 ≤ℤ z) states (drop (r * states) cells) (All-drop (λ z. pos 0 ≤ℤ z) (r * states) cells (All-from_get_or (λ z. pos 0 ≤ℤ z) cells (pos 0) (λ i h. table.not_negative i))))
 

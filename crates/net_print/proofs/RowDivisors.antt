@@ -7,7 +7,7 @@ use Rattle.std.proofs.lemmas.List.{get_or-map, length-map}
 use Rattle.std.proofs.lemmas.List.Elements.{All-cons, All-head, All-tail, All-weaker, All-map}
 use Rattle.std.proofs.lemmas.List.Sums.{sum_by-cons}
 use Rattle.weight_scale.specs.Scaling as scaling
-use Rattle.weight_scale.specs.Scaling.{IsReducedRow, weights_of}
+use Rattle.weight_scale.specs.Scaling.{IsReducedRow, multiplied_row}
 use Rattle.net_build.specs.Plain.{row_divisor, reduced_row}
 use Rattle.net_print.proofs.Divisors.{IsGreatestDivisor, divisor_none, divisor_is, divisor_positive}
 
@@ -136,7 +136,7 @@ pub reduced_positive : (row : List ℕ) → 0 < sum row → 0 < sum (reduced_row
 reduced_positive row positive = pos_of_dvd_of_pos (reduced_sum_divides row) positive
 
 -- ---- scaled to the row's total, it is the row again
-pub weights_back : (row : List ℕ) → 0 < sum row → weights_of (sum row) (reduced_row row) ≡ map pos row
+pub weights_back : (row : List ℕ) → 0 < sum row → multiplied_row (sum row) (reduced_row row) ≡ map pos row
 weights_back row positive =
     map_twice (λ x. x / row_divisor row) (λ x. pos (x * (sum row / sum (reduced_row row)))) row
     ∙ map_same (λ x. pos (x / row_divisor row * (sum row / sum (reduced_row row)))) pos row

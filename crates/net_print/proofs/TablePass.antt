@@ -10,7 +10,7 @@ use Rattle.maid_model.specs.Nodes.{node_at, no_node, states_of, rows_of, is_chan
 use Rattle.maid_model.specs.Tables.{chance_total}
 use Rattle.maid_model.specs.Views.{NodeView, DiagramView}
 use Rattle.net_build.specs.Blocks as look
-use Rattle.net_build.specs.Building.{AreTables, IsTableOf}
+use Rattle.net_build.specs.Building.{AreTables, IsTableFrom}
 use Rattle.net_build.specs.Passes.{each, only}
 use Rattle.net_build.specs.Table.{table_pass, table_rows, data_rows, weight_rows, length_row, table_nodes}
 use Rattle.net_lexer.specs.Token.{token_bytes}
@@ -40,15 +40,15 @@ no_decision : (kind : Kind) → look.has_table (tree_kind kind) ≡ true → kin
 no_decision kind has e = false≢true (sym (ap (λ k. look.has_table (tree_kind k)) e) ∙ has)
 
 -- A table of printed numbers has no fault, by its kind.
-data_clear : (text : List ℕ) (blocks : List BlockTree) (block potential : BlockTree) (from : ℕ) (kind : Kind) (decimals states rows : ℕ) (cells : List ℤ) → look.kind_of block.kind ≡ kind → kind ≢ Decision → look.states_of text block ≡ states → look.row_count text blocks block ≡ rows → length (number_texts kind decimals states rows cells) ≡ look.cell_count text blocks block → map (token_bytes text) (look.leaves_of (table_trees from kind decimals states rows cells)) ≡ number_texts kind decimals states rows cells → each (length_row text) (look.leaves_of (table_trees from kind decimals states rows cells)) None → (kind ≡ Chance → (table : AttributeTree) → map (token_bytes text) (leaves table.value) ≡ map decimal (reduced_rows states rows cells) → weight_rows text states rows table None) → data_rows text blocks block potential (table_trees from kind decimals states rows cells) None
+data_clear : (text : List ℕ) (blocks : List BlockTree) (block potential : BlockTree) (from : ℕ) (kind : Kind) (decimals states rows : ℕ) (cells : List ℤ) → look.kind_of block.kind ≡ kind → kind ≢ Decision → look.block_states text block ≡ states → look.row_count text blocks block ≡ rows → length (number_texts kind decimals states rows cells) ≡ look.cell_count text blocks block → map (token_bytes text) (look.leaves_of (table_trees from kind decimals states rows cells)) ≡ number_texts kind decimals states rows cells → each (length_row text) (look.leaves_of (table_trees from kind decimals states rows cells)) None → (kind ≡ Chance → (table : AttributeTree) → map (token_bytes text) (leaves table.value) ≡ map decimal (reduced_rows states rows cells) → weight_rows text states rows table None) → data_rows text blocks block potential (table_trees from kind decimals states rows cells) None
 unfolding data_rows
 data_clear text blocks block potential from Chance decimals states rows cells is some has_states has_rows count told short fair =
     let table = list_tree from (codes "data") Number decimal (reduced_rows states rows cells) in
-    let weights = subst (λ r. weight_rows text (look.states_of text block) r table None) (sym has_rows) (subst (λ n. weight_rows text n rows table None) (sym has_states) (fair refl table told)) in (
+    let weights = subst (λ r. weight_rows text (look.block_states text block) r table None) (sym has_rows) (subst (λ n. weight_rows text n rows table None) (sym has_states) (fair refl table told)) in (
       table_numbers from Chance decimals states rows cells,
       (
         λ other. other (sym (length-map (leaves table.value) (token_bytes text)) ∙ ap length told ∙ count),
-        (short, subst (λ k. only (is_chance k) (weight_rows text (look.states_of text block) (look.row_count text blocks block) table) None) (sym is) weights),
+        (short, subst (λ k. only (is_chance k) (weight_rows text (look.block_states text block) (look.row_count text blocks block) table) None) (sym is) weights),
       ),
     )
 data_clear text blocks block potential from Decision decimals states rows cells is some has_states has_rows count told short fair = absurd (some refl)
@@ -57,7 +57,7 @@ data_clear text blocks block potential from Utility decimals states rows cells i
       table_numbers from Utility decimals states rows cells,
       (
         λ other. other (sym (length-map (leaves table.value) (token_bytes text)) ∙ ap length told ∙ count),
-        (short, subst (λ k. only (is_chance k) (weight_rows text (look.states_of text block) (look.row_count text blocks block) table) None) (sym is) tt),
+        (short, subst (λ k. only (is_chance k) (weight_rows text (look.block_states text block) (look.row_count text blocks block) table) None) (sym is) tt),
       ),
     )
 
@@ -90,7 +90,7 @@ module _ (d : DiagramView) (names : NamesView) (is : IsPrintable d names) where
   weights_fair : (v : ℕ) → (node_at d.nodes v).kind ≡ Chance → (table : AttributeTree) → map (token_bytes Text) (leaves table.value) ≡ map decimal (reduced_rows (states_of d.nodes v) (rows_of d.nodes v) (node_at d.nodes v).cells) → weight_rows Text (states_of d.nodes v) (rows_of d.nodes v) table None
   weights_fair v kind table told = weights_clear (node_at d.nodes v).cells (rows_of d.nodes v) (states_of d.nodes v) (chance_total d.nodes v) (is.diagram.tables.table v kind) (is.diagram.tables.positive v kind) (is.diagram.limits.totals v kind) (is.diagram.graph.has_state v) Text (leaves table.value) told table refl
 
-  table_clear : (v p : ℕ) (more : List ℕ) → v < length d.nodes → At Text p (text_onto (node_words d.nodes names v) more) → look.has_table (node_tree d.nodes names p v).kind ≡ true → table_rows Text Blocks (node_tree d.nodes names p v) (look.potential_of Text Blocks (look.name_of Text (node_tree d.nodes names p v))) None
+  table_clear : (v p : ℕ) (more : List ℕ) → v < length d.nodes → At Text p (text_onto (node_words d.nodes names v) more) → look.has_table (node_tree d.nodes names p v).kind ≡ true → table_rows Text Blocks (node_tree d.nodes names p v) (look.potential_of Text Blocks (look.block_name Text (node_tree d.nodes names p v))) None
   unfolding table_rows
   table_clear v p more l at has =
       let node = node_at d.nodes v in
@@ -114,25 +114,25 @@ module _ (d : DiagramView) (names : NamesView) (is : IsPrintable d names) where
   unfolding table_pass
   tables_clear =
       let has = λ (b : BlockTree). look.has_table b.kind in
-      let row = λ (b : BlockTree). table_rows Text Blocks b (look.potential_of Text Blocks (look.name_of Text b)) in
+      let row = λ (b : BlockTree). table_rows Text Blocks b (look.potential_of Text Blocks (look.block_name Text b)) in
       let nodes = look.node_blocks Blocks in
       each_clear row (table_nodes Blocks) (λ k e h. All-filter has (λ b. has b ≡ true → row b None) nodes (nodes_hold d names is (λ b. has b ≡ true → row b None) table_clear) k e h (filter_passes has nodes k e h))
 
-  table_is : (v : ℕ) → v < length d.nodes → (kind : Kind) → (node_at d.nodes v).kind ≡ kind → IsTableOf kind d.decimals (states_of d.nodes v) (number_texts kind d.decimals (states_of d.nodes v) (rows_of d.nodes v) (node_at d.nodes v).cells) (node_at d.nodes v).cells
+  table_is : (v : ℕ) → v < length d.nodes → (kind : Kind) → (node_at d.nodes v).kind ≡ kind → IsTableFrom kind d.decimals (states_of d.nodes v) (number_texts kind d.decimals (states_of d.nodes v) (rows_of d.nodes v) (node_at d.nodes v).cells) (node_at d.nodes v).cells
   table_is v l Chance kind = chance_cells (node_at d.nodes v).cells (rows_of d.nodes v) (states_of d.nodes v) (chance_total d.nodes v) (is.diagram.tables.table v kind) (is.diagram.tables.positive v kind) (is.diagram.limits.totals v kind) (is.diagram.graph.has_state v) (is.plain.weights v kind)
   table_is v l Decision kind = is.diagram.values.decision v kind
   table_is v l Utility kind = values_scaled d.decimals (node_at d.nodes v).cells (λ k e h. small_enough (nat_abs (get_or (node_at d.nodes v).cells k e)) (is.diagram.limits.values v kind k e h))
 
-  told_table : (v : ℕ) → v < length d.nodes → IsTableOf (look.kind_of (block_at d names is v).kind) d.decimals (look.states_of Text (block_at d names is v)) (map (token_bytes Text) (look.numbers_of Text Blocks (block_at d names is v))) (get_or (map (λ n. n.cells) d.nodes) v [])
+  told_table : (v : ℕ) → v < length d.nodes → IsTableFrom (look.kind_of (block_at d names is v).kind) d.decimals (look.block_states Text (block_at d names is v)) (map (token_bytes Text) (look.block_numbers Text Blocks (block_at d names is v))) (get_or (map (λ n. n.cells) d.nodes) v [])
   told_table v l =
       let node = node_at d.nodes v in
       let block = block_at d names is v in
-      let numbers = map (token_bytes Text) (look.numbers_of Text Blocks block) in
+      let numbers = map (token_bytes Text) (look.block_numbers Text Blocks block) in
       let cells = get_or (map (λ (n : NodeView). n.cells) d.nodes) v [] in
-      subst (λ kind. IsTableOf kind d.decimals (look.states_of Text block) numbers cells) (sym (block_kind d names is v l))
-      (subst (λ states. IsTableOf node.kind d.decimals states numbers cells) (sym (block_states d names is v l))
-      (subst (λ numerals. IsTableOf node.kind d.decimals node.states numerals cells) (sym (block_numbers d names is v l))
-      (subst (λ list. IsTableOf node.kind d.decimals node.states (texts_of d v) list) (sym (get_or-map (λ (n : NodeView). n.cells) d.nodes v no_node [] l))
+      subst (λ kind. IsTableFrom kind d.decimals (look.block_states Text block) numbers cells) (sym (block_kind d names is v l))
+      (subst (λ states. IsTableFrom node.kind d.decimals states numbers cells) (sym (block_states d names is v l))
+      (subst (λ numerals. IsTableFrom node.kind d.decimals node.states numerals cells) (sym (block_numbers d names is v l))
+      (subst (λ list. IsTableFrom node.kind d.decimals node.states (texts_of d v) list) (sym (get_or-map (λ (n : NodeView). n.cells) d.nodes v no_node [] l))
       (table_is v l node.kind refl))))
 
   -- The tables that are told are the nodes' cells.

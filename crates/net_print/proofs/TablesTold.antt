@@ -158,7 +158,7 @@ module _ (d : DiagramView) (names : NamesView) (is : IsPrintable d names) where
   potential_repeats v p = let node = node_at d.nodes v in table_repeats Text (potential_tree d names p v).kind (potential_tree d names p v).names (table_place v p) node.kind d.decimals node.states (rows_of d.nodes v) node.cells
 
   pub blocks_count : length Nodes ≡ length d.nodes
-  blocks_count = sym (length-map Nodes (look.name_of Text)) ∙ ap length (names_told d names is) ∙ is.fit.nodes
+  blocks_count = sym (length-map Nodes (look.block_name Text)) ∙ ap length (names_told d names is) ∙ is.fit.nodes
 
   -- the block of node v
   abbrev pub block_at : ℕ → BlockTree
@@ -167,8 +167,8 @@ module _ (d : DiagramView) (names : NamesView) (is : IsPrintable d names) where
   in_blocks : (v : ℕ) → v < length d.nodes → v < length Nodes
   in_blocks v l = subst (λ n. v < n) (sym blocks_count) l
 
-  pub block_name : (v : ℕ) → v < length d.nodes → look.name_of Text (block_at v) ≡ name_of names v
-  block_name v l = sym (get_or-map (look.name_of Text) Nodes v no_block [] (in_blocks v l)) ∙ ap (λ list. get_or list v []) (names_told d names is)
+  pub block_name : (v : ℕ) → v < length d.nodes → look.block_name Text (block_at v) ≡ name_of names v
+  block_name v l = sym (get_or-map (look.block_name Text) Nodes v no_block [] (in_blocks v l)) ∙ ap (λ list. get_or list v []) (names_told d names is)
 
   pub block_kind : (v : ℕ) → v < length d.nodes → look.kind_of (block_at v).kind ≡ (node_at d.nodes v).kind
   block_kind v l =
@@ -176,14 +176,14 @@ module _ (d : DiagramView) (names : NamesView) (is : IsPrintable d names) where
       ∙ ap (λ kinds. get_or kinds v Chance) (sym (kinds_told d names is))
       ∙ get_or-map (λ (n : NodeView). n.kind) d.nodes v no_node Chance l
 
-  pub block_states : (v : ℕ) → v < length d.nodes → look.states_of Text (block_at v) ≡ (node_at d.nodes v).states
+  pub block_states : (v : ℕ) → v < length d.nodes → look.block_states Text (block_at v) ≡ (node_at d.nodes v).states
   block_states v l =
-      sym (get_or-map (look.states_of Text) Nodes v no_block 1 (in_blocks v l))
+      sym (get_or-map (look.block_states Text) Nodes v no_block 1 (in_blocks v l))
       ∙ ap (λ counts. get_or counts v 1) (sym (states_told d names is))
       ∙ get_or-map (λ (n : NodeView). n.states) d.nodes v no_node 1 l
 
   -- The numbers of each node's table are those that are printed for it.
-  pub block_numbers : (v : ℕ) → v < length d.nodes → map (token_bytes Text) (look.numbers_of Text Blocks (block_at v)) ≡ texts_of d v
+  pub block_numbers : (v : ℕ) → v < length d.nodes → map (token_bytes Text) (look.block_numbers Text Blocks (block_at v)) ≡ texts_of d v
   block_numbers v l =
       let found = potential_found d names is v l in
       ap (λ name. map (token_bytes Text) (option_map_or (λ p. look.leaves_of (look.data_of Text p)) (look.potential_of Text Blocks name) [])) (block_name v l)
@@ -193,7 +193,7 @@ module _ (d : DiagramView) (names : NamesView) (is : IsPrintable d names) where
 
   -- what is told of a potential that is a utility's
   abbrev told_piece : BlockTree → List (List ℕ)
-  told_piece b = cond (is_utility (kind_named Text Nodes (look.name_of Text b))) (map (token_bytes Text) (look.leaves_of (look.data_of Text b))) []
+  told_piece b = cond (is_utility (kind_named Text Nodes (look.block_name Text b))) (map (token_bytes Text) (look.leaves_of (look.data_of Text b))) []
 
   abbrev cells_piece : ℕ → List (List ℕ)
   cells_piece v = cond (is_utility (node_at d.nodes v).kind) (map (value_text d.decimals) (node_at d.nodes v).cells) []
@@ -209,7 +209,7 @@ module _ (d : DiagramView) (names : NamesView) (is : IsPrintable d names) where
   -- The numbers of all utilities are their values, one after the other.
   pub utilities_told : map (token_bytes Text) (utility_numbers Text Blocks) ≡ map (value_text d.decimals) (utility_cells d.nodes)
   utilities_told =
-      kept_flat (token_bytes Text) (λ (p : BlockTree). look.leaves_of (look.data_of Text p)) (λ p. is_utility (kind_named Text Nodes (look.name_of Text p))) (look.potentials Blocks)
+      kept_flat (token_bytes Text) (λ (p : BlockTree). look.leaves_of (look.data_of Text p)) (λ p. is_utility (kind_named Text Nodes (look.block_name Text p))) (look.potentials Blocks)
       ∙ ap (flat_map (λ ys. ys)) (
       ap (map told_piece) (potentials_are d names is)
       ∙ trees_tell Text told_piece cells_piece (potential_tree d names) (potential_words d names) (end_at 0 (node_lines d names is)) (numbers_of d.nodes) [] (at_potentials d names is)

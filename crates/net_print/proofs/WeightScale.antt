@@ -4,7 +4,7 @@ use Rattle.std.proofs.Math.Nat.{mul-div_cancel}
 use Rattle.std.proofs.lemmas.List.{length-map}
 use Rattle.maid_model.specs.Diagrams.{greatest_number}
 use Rattle.maid_model.specs.Tables.{IsTable}
-use Rattle.weight_scale.specs.Scaling.{row_at, raised, raised_row, IsReducedRow, IsReduced, IsCommonTotal, IsScaled}
+use Rattle.weight_scale.specs.Scaling.{row_at, whole_number, raised_row, IsReducedRow, AreReducedRows, IsCommonTotal, IsScaled}
 use Rattle.weight_scale.specs.declared.decimal.Decimal.{Decimal}
 use Rattle.net_build.specs.Building.{AreChanceCells}
 use Rattle.net_build.specs.Scaling.{AreDecimals}
@@ -33,9 +33,9 @@ module _ (cells : List ℤ) (rows states total : ℕ) (table : IsTable cells row
     row_reduced r l = subst (λ row. IsReducedRow row (row_at states Reduced r)) (sym again) (raised_reduced (row_at states Reduced r) (10 ^ 30) (tens_positive 30) (row_shares_none cells rows states total table positive r l))
       where
         again : raised_row states ds r ≡ map (λ n. n * 10 ^ 30) (row_at states Reduced r)
-        again = sym (row_map (raised 30) states ds r) ∙ ap (λ ns. row_at states ns r) (raised_are Reduced ds numbers_small are) ∙ row_map (λ n. n * 10 ^ 30) states Reduced r
+        again = sym (row_map (whole_number 30) states ds r) ∙ ap (λ ns. row_at states ns r) (raised_are Reduced ds numbers_small are) ∙ row_map (λ n. n * 10 ^ 30) states Reduced r
 
-    pub rows_reduced : IsReduced ds states Reduced
+    pub rows_reduced : AreReducedRows ds states Reduced
     rows_reduced = record {
       len = sym (length-map Reduced decimal) ∙ sym are.len;
       row = λ r l. row_reduced r (subst (λ n. r < n) rows_counted l);

@@ -4,7 +4,7 @@ use Rattle.std.proofs.lemmas.Int.{ints}
 use Rattle.std.proofs.lemmas.List.{get_or-map, length-map, ext_get_or}
 use Rattle.maid_model.specs.Diagrams.{greatest_number}
 use Rattle.weight_scale.specs.Numeral.{numerator, denominator, IsLeastDecimalOf}
-use Rattle.weight_scale.specs.Scaling.{raised}
+use Rattle.weight_scale.specs.Scaling.{whole_number}
 use Rattle.weight_scale.specs.declared.decimal.Decimal.{Decimal}
 use Rattle.net_build.specs.Scaling.{AreDecimals, decimal_at}
 use Rattle.net_build.specs.Zero.{nought}
@@ -44,7 +44,7 @@ are_decimals ns small = record {
   each = λ i l. let within : i < length ns = subst (λ n. i < n) (length-map ns decimal) l in least_of_text (get_or (map decimal ns) i []) (get_or ns i 0) (decimal_at (decimals_of ns) i) (small i 0 within) (get_or-map decimal ns i 0 [] within) (get_or-map decimal_of ns i 0 nought within);
 }
 
--- whatever the least decimal of a number is, raised it is the number with noughts behind it
+-- whatever the least decimal of a number is, whole_number it is the number with noughts behind it
 raised_by : (m : ℤ) (k n : ℕ) → k ≡ 0 → m *ℤ pos 1 ≡ pos n *ℤ pos (10 ^ k) → unsigned_abs m * 10 ^ (30 - k) ≡ n * 10 ^ 30
 raised_by m k n none e =
     let whole : m ≡ pos n = once m ∙ e ∙ ap (λ j. pos n *ℤ pos (10 ^ j)) none ∙ sym (once (pos n)) in
@@ -53,12 +53,12 @@ raised_by m k n none e =
     once : (z : ℤ) → z ≡ z *ℤ pos 1
     once z = omega (arith, ints)
 
-raised_is : (n : ℕ) (d : Decimal) → n ≤ greatest_number → IsLeastDecimalOf (pos n) 1 d → raised 30 d ≡ n * 10 ^ 30
+raised_is : (n : ℕ) (d : Decimal) → n ≤ greatest_number → IsLeastDecimalOf (pos n) 1 d → whole_number 30 d ≡ n * 10 ^ 30
 raised_is n d small is =
     let most : d.k ≤ 0 = is.least (decimal_of n) (least_of n small).value in
     raised_by d.m d.k n (omega arith) is.value
 
-raised_text : (text : List ℕ) (n : ℕ) (d : Decimal) → n ≤ greatest_number → text ≡ decimal n → IsLeastDecimalOf (numerator text) (denominator text) d → raised 30 d ≡ n * 10 ^ 30
+raised_text : (text : List ℕ) (n : ℕ) (d : Decimal) → n ≤ greatest_number → text ≡ decimal n → IsLeastDecimalOf (numerator text) (denominator text) d → whole_number 30 d ≡ n * 10 ^ 30
 raised_text text n d small e is =
     let read = decimal_read n (small_enough n small) in
     raised_is n d small
@@ -67,16 +67,16 @@ raised_text text n d small e is =
     (subst (λ bytes. IsLeastDecimalOf (numerator bytes) (denominator bytes) d) e is)))
 
 -- Raised, all decimals of printed numbers are the numbers with noughts behind them.
-pub raised_are : (ns : List ℕ) (ds : List Decimal) → AreSmall ns → AreDecimals (map decimal ns) ds → map (raised 30) ds ≡ map (λ n. n * 10 ^ 30) ns
-raised_are ns ds small are = ext_get_or 0 (map (raised 30) ds) (map (λ n. n * 10 ^ 30) ns) (length-map ds (raised 30) ∙ len ∙ sym (length-map ns (λ n. n * 10 ^ 30))) (λ i l. at i (subst (λ n. i < n) (length-map ds (raised 30)) l))
+pub raised_are : (ns : List ℕ) (ds : List Decimal) → AreSmall ns → AreDecimals (map decimal ns) ds → map (whole_number 30) ds ≡ map (λ n. n * 10 ^ 30) ns
+raised_are ns ds small are = ext_get_or 0 (map (whole_number 30) ds) (map (λ n. n * 10 ^ 30) ns) (length-map ds (whole_number 30) ∙ len ∙ sym (length-map ns (λ n. n * 10 ^ 30))) (λ i l. at i (subst (λ n. i < n) (length-map ds (whole_number 30)) l))
   where
     len : length ds ≡ length ns
     len = are.len ∙ length-map ns decimal
 
-    at : (i : ℕ) → i < length ds → get_or (map (raised 30) ds) i 0 ≡ get_or (map (λ n. n * 10 ^ 30) ns) i 0
+    at : (i : ℕ) → i < length ds → get_or (map (whole_number 30) ds) i 0 ≡ get_or (map (λ n. n * 10 ^ 30) ns) i 0
     at i l =
         let within : i < length ns = subst (λ n. i < n) len l in
         let here : i < length (map decimal ns) = subst (λ n. i < n) are.len l in
-        get_or-map (raised 30) ds i nought 0 l
+        get_or-map (whole_number 30) ds i nought 0 l
         ∙ raised_text (get_or (map decimal ns) i []) (get_or ns i 0) (decimal_at ds i) (small i 0 within) (get_or-map decimal ns i 0 [] within) (are.each i here)
         ∙ sym (get_or-map (λ n. n * 10 ^ 30) ns i 0 0 within)

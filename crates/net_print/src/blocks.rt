@@ -10,8 +10,7 @@ ghost use Rattle.net_print.specs.Printed.{agent_text, attributes_text, kind_word
 
 use crate::pieces::push_gap;
 use line_pieces::push_quoted;
-use maid_model::{Diagram, Kind};
-use net_build::Names;
+use maid_model::{Diagram, Kind, Names};
 use std::alloc::AllocError;
 
 // The word that begins a node's block.

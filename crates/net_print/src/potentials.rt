@@ -10,8 +10,7 @@ ghost use Rattle.net_print.specs.Printed.{given_text, head_text, numbers_text, p
 
 use crate::numbers::{push_reduced_row, push_value};
 use crate::pieces::push_gap;
-use maid_model::{Diagram, Kind};
-use net_build::Names;
+use maid_model::{Diagram, Kind, Names};
 use std::alloc::AllocError;
 
 // Appends the names of these nodes, parted by one space.

@@ -6,8 +6,7 @@ ghost use Rattle.net_print.specs.Printed.{printed};
 
 use crate::blocks::push_blocks;
 use crate::potentials::push_potentials;
-use maid_model::Diagram;
-use net_build::Names;
+use maid_model::{Diagram, Names};
 use std::alloc::{AllocError, Global};
 
 /// The text of a diagram with these names: first each node's block, then each node's potential, a line each. Weights are

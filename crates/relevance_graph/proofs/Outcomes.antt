@@ -9,8 +9,8 @@ use Rattle.maid_model.specs.Relevance.{ReliesOn}
 use Rattle.maid_model.specs.Placing.{IsLeast, Remains, CanPlace, IsPlacing, IsOrder, IsRound, IsRelianceOrder, IsRelianceCycle}
 use Rattle.bayes_ball.specs.Search.{IsIn}
 use Rattle.diagram_graph.specs.Needs.{needs_of, NeedsItem}
-use Rattle.diagram_graph.specs.Rounds.{IsFirstLeft, IsFirstCycle, IsRing}
-use Rattle.diagram_graph.specs.Rounds.{IsRound as IsListRound}
+use Rattle.diagram_graph.specs.Rounds.{IsFirstLeft, IsFirstCycle, IsRingOfNeeds}
+use Rattle.diagram_graph.specs.Rounds.{IsListedRound as IsListRound}
 use Rattle.diagram_graph.specs.Placed.{IsPlacingOf, IsOrderOf}
 use Rattle.diagram_graph.specs.declared.placing.Placing.{Placing}
 use Rattle.diagram_graph.specs.declared.placing.Placing.TheVariants.{Order, Cycle}
@@ -96,7 +96,7 @@ module _ (nodes : List NodeView) (lists : List (List ℕ)) (tells : TellsRelianc
       round = round_is (Remains (IsIn items) h.placed) (Remains (IsDecision nodes) h.placed) (λ v. ((λ r. ((all v).0 r.0, r.1)), (λ r. ((all v).1 r.0, r.1)))) cycle h.round;
     }
 
-    ring_is : (cycle : List ℕ) → IsRing (NeedsItem lists) cycle → IsRing (ReliesOn nodes) cycle
+    ring_is : (cycle : List ℕ) → IsRingOfNeeds (NeedsItem lists) cycle → IsRingOfNeeds (ReliesOn nodes) cycle
     ring_is cycle h = record {
       some = h.some;
       next = λ k l. (needs_relies _ _).0 (h.next k l);

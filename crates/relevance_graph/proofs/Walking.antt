@@ -4,7 +4,7 @@ use Rattle.maid_model.specs.declared.diagrams.Kind.TheVariants.{Utility}
 use Rattle.maid_model.specs.Views.{NodeView}
 use Rattle.maid_model.specs.Nodes.{IsDecision, node_at}
 use Rattle.maid_model.specs.Graph.{Arc, IsGraph, IsPath, Here, Along, Descends}
-use Rattle.maid_model.specs.Relevance.{IsLive, IsFixed, IsGoal}
+use Rattle.maid_model.specs.Relevance.{IsLive, IsInFamily, IsGoal}
 use Rattle.maid_model.specs.Walks.{IsActive, IsReached, IsReachedFromParent, WithArc, WithNode}
 use Rattle.bayes_ball.specs.Search.{IsIn}
 use Rattle.relevance_graph.specs.Steps.{LeadsToGoal}
@@ -22,15 +22,15 @@ reached_same : (Arc : ℕ → ℕ → Type 0) (Live P Q : ℕ → Type 0) → ((
 reached_same Arc Live P Q f from to h = record { rest = h.rest; active = active_same Arc Live P Q f (from ∷ h.rest) h.active; ends = h.ends }
 
 -- a path to another node has an arc
-pub path_descends : (Arc : ℕ → ℕ → Type 0) (to from : ℕ) → (from ≡ to → ⊥) → IsPath Arc to from → Descends Arc from to
+pub path_descends : (Arc : ℕ → ℕ → Type 0) (to from : ℕ) → (from ≡ to → ⊥) → IsPath Arc from to → Descends Arc from to
 path_descends Arc to from apart Here = absurd (apart refl)
 path_descends Arc to from apart (Along {v = b} a p) = (b, a, p)
 
-pub descends_path : (Arc : ℕ → ℕ → Type 0) (from to : ℕ) → Descends Arc from to → IsPath Arc to from
+pub descends_path : (Arc : ℕ → ℕ → Type 0) (from to : ℕ) → Descends Arc from to → IsPath Arc from to
 descends_path Arc from to h = Along h.1 h.2
 
 -- a goal is neither the decision nor one of its parents
-pub goal_free : (nodes : List NodeView) (d u : ℕ) → IsGraph nodes → IsDecision nodes d → IsGoal nodes d u → IsFixed (Arc nodes) d u → ⊥
+pub goal_free : (nodes : List NodeView) (d u : ℕ) → IsGraph nodes → IsDecision nodes d → IsGoal nodes d u → IsInFamily (Arc nodes) d u → ⊥
 goal_free nodes d u graph decision goal (inl e) = let k : (node_at nodes d).kind ≡ Utility = subst (λ x. (node_at nodes x).kind ≡ Utility) e goal.kind in let m = decision.kind in cc
 goal_free nodes d u graph decision goal (inr arc) = graph.no_utility_parent u d arc goal.kind
 
@@ -38,12 +38,12 @@ pub goal_live : (nodes : List NodeView) (d u : ℕ) → IsGoal nodes d u → IsL
 goal_live nodes d u goal = record { within = goal.within; states = inl goal.kind }
 
 -- a search from all goals, given what is fixed, tells from which nodes' extra parents a walk leads to a goal
-pub search_tells : (nodes : List NodeView) (d : ℕ) (starts given found : List Bool) → ((v : ℕ) → IsIn starts v ↔ IsGoal nodes d v) → ((v : ℕ) → IsIn given v ↔ IsFixed (Arc nodes) d v) →
+pub search_tells : (nodes : List NodeView) (d : ℕ) (starts given found : List Bool) → ((v : ℕ) → IsIn starts v ↔ IsGoal nodes d v) → ((v : ℕ) → IsIn given v ↔ IsInFamily (Arc nodes) d v) →
     ((v : ℕ) → v < length nodes → IsIn found v ↔ ((u : ℕ) × IsIn starts u × IsReachedFromParent (Arc nodes) (IsLive nodes) (IsIn given) (length nodes) v u)) →
     (e : ℕ) → e < length nodes → IsIn found e ↔ LeadsToGoal nodes d e
 search_tells nodes d starts given found goals fixed search e within =
     let A = WithArc (Arc nodes) (length nodes) e in
     let L = WithNode (IsLive nodes) (length nodes) in (
-      (λ m. let h = (search e within).0 m in (h.0, (goals h.0).0 h.1, reached_same A L (IsIn given) (IsFixed (Arc nodes) d) fixed (length nodes) h.0 h.2)),
-      (λ h. (search e within).1 (h.0, (goals h.0).1 h.1, reached_same A L (IsFixed (Arc nodes) d) (IsIn given) (λ x. ((fixed x).1, (fixed x).0)) (length nodes) h.0 h.2)),
+      (λ m. let h = (search e within).0 m in (h.0, (goals h.0).0 h.1, reached_same A L (IsIn given) (IsInFamily (Arc nodes) d) fixed (length nodes) h.0 h.2)),
+      (λ h. (search e within).1 (h.0, (goals h.0).1 h.1, reached_same A L (IsInFamily (Arc nodes) d) (IsIn given) (λ x. ((fixed x).1, (fixed x).0)) (length nodes) h.0 h.2)),
     )

@@ -3,13 +3,13 @@ use Rattle.std.specs.Prelude.{◌≡◌, ◌↔◌, ℕ, List, length, Result, O
 use Rattle.maid_model.specs.Views.{NodeView}
 use Rattle.maid_model.specs.Placing.{IsRelianceOrder, IsRelianceCycle}
 use Rattle.maid_model.specs.Relevance.{ReliesOn}
-use Rattle.diagram_graph.specs.Rounds.{IsRing}
+use Rattle.diagram_graph.specs.Rounds.{IsRingOfNeeds}
 use Rattle.relevance_graph.specs.Views.{RelevanceView, ReliesTo, IsRising, relied_on_by}
 
 -- the relevance cycle: a ring of decisions each of which relies on the next, so that no order of solving has them all
 pub record IsBlockedBy (nodes : List NodeView) (cycle : List ℕ) : Type 0 where
   pub is_cycle : IsRelianceCycle nodes cycle
-  pub ring : IsRing (ReliesOn nodes) cycle
+  pub ring : IsRingOfNeeds (ReliesOn nodes) cycle
   pub no_order : (order : List ℕ) → IsRelianceOrder nodes order → ⊥
 
 -- the order of solving, or the relevance cycle

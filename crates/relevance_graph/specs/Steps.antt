@@ -4,7 +4,7 @@ use Rattle.maid_model.specs.declared.diagrams.Kind.TheVariants.{Utility}
 use Rattle.maid_model.specs.Views.{NodeView}
 use Rattle.maid_model.specs.Nodes.{IsDecision, node_at}
 use Rattle.maid_model.specs.Graph.{Arc}
-use Rattle.maid_model.specs.Relevance.{IsLive, IsFixed, IsGoal, ReliesOn}
+use Rattle.maid_model.specs.Relevance.{IsLive, IsInFamily, IsGoal, ReliesOn}
 use Rattle.maid_model.specs.Walks.{IsReachedFromParent}
 use Rattle.bayes_ball.specs.Search.{MarksView, IsIn}
 use Rattle.diagram_graph.specs.Needs.{needs_of}
@@ -21,7 +21,7 @@ IsUtilityOf nodes agent v = ((node_at nodes v).kind ≡ Utility) × ((node_at no
 -- given d and its parents an active walk leads from an extra parent of e to a goal of d
 abbrev pub LeadsToGoal : List NodeView → ℕ → ℕ → Type 0
 LeadsToGoal nodes d e =
-    (goal : ℕ) × IsGoal nodes d goal × IsReachedFromParent (Arc nodes) (IsLive nodes) (IsFixed (Arc nodes) d) (length nodes) e goal
+    (goal : ℕ) × IsGoal nodes d goal × IsReachedFromParent (Arc nodes) (IsLive nodes) (IsInFamily (Arc nodes) d) (length nodes) e goal
 
 -- the marks tell from which nodes' extra parents an active walk leads to a goal of d
 pub record IsSearchedFor (nodes : List NodeView) (d : ℕ) (marks : MarksView) : Type 0 where

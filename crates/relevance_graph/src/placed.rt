@@ -1,6 +1,6 @@
 ghost use Rattle.std.specs.Prelude.{◌≡◌, ◌<◌, ◌↔◌, ℕ, length, IsTrue, IfOk};
 ghost use Rattle.maid_model.specs.Nodes.{IsDecision};
-ghost use Rattle.diagram_graph.specs.Cycles.{rows_of};
+ghost use Rattle.diagram_graph.specs.Cycles.{lists_in};
 ghost use Rattle.diagram_graph.specs.Needs.{IsIn};
 ghost use Rattle.relevance_graph.specs.Views.{outcome_of};
 ghost use Rattle.relevance_graph.specs.Relevant.{IsOutcome};
@@ -35,7 +35,7 @@ pub(crate) fn place_decisions(
     diagram: &Diagram,
     relied_on: &[Vec<usize>],
 ) -> Result<Placing, AllocError>
-    requires { TellsReliance diagram.now.nodes (length diagram.now.nodes) (rows_of relied_on.now) }
+    requires { TellsReliance diagram.now.nodes (length diagram.now.nodes) (lists_in relied_on.now) }
     ensures { IfOk result (λ placing. IsOutcome diagram.now.nodes (outcome_of placing)) }
 {
     let decisions = mark_decisions(alloc, diagram)?;

@@ -19,16 +19,16 @@ pub struct Relevance {
 
 impl Model for Relevance {
     ghost use Rattle.std.specs.Prelude.{ℕ};
-    ghost use Rattle.diagram_graph.specs.Cycles.{rows_of};
+    ghost use Rattle.diagram_graph.specs.Cycles.{lists_in};
     ghost use Rattle.diagram_graph.specs.Needs.{needs_of};
     ghost use Rattle.relevance_graph.specs.Views.{IsRising};
     ghost use Rattle.relevance_graph.specs.Views.{RelevanceView, outcome_of};
 
     ghost Value = { RelevanceView };
 
-    ghost view = { λ r. record { relied_on = rows_of r.relied_on.items; outcome = outcome_of r.placing } };
+    ghost view = { λ r. record { relied_on = lists_in r.relied_on.items; outcome = outcome_of r.placing } };
 
-    ghost invariant = { λ r. (d : ℕ) → IsRising (needs_of (rows_of r.relied_on.items) d) };
+    ghost invariant = { λ r. (d : ℕ) → IsRising (needs_of (lists_in r.relied_on.items) d) };
 }
 
 impl Relevance {

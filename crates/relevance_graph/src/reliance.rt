@@ -1,7 +1,7 @@
 ghost use Rattle.std.specs.Prelude.{◌≡◌, ◌<◌, ◌↔◌, length, IsTrue, IfOk, OnOk};
 ghost use Rattle.maid_model.specs.Nodes.{IsDecision};
 ghost use Rattle.maid_model.specs.Relevance.{IsLive, ReliesOn};
-ghost use Rattle.diagram_graph.specs.Cycles.{rows_of};
+ghost use Rattle.diagram_graph.specs.Cycles.{lists_in};
 ghost use Rattle.relevance_graph.specs.Steps.{IsLiveDecision, IsSearchedFor, ListsBelow, TellsReliance};
 
 use crate::walks::search_from_goals;
@@ -74,7 +74,7 @@ fn relied_on_by(
 
 /// What each node relies on, in text order.
 pub(crate) fn list_reliance(alloc: Global, diagram: &Diagram) -> Result<Vec<Vec<usize>>, AllocError>
-    ensures { IfOk result (λ lists. TellsReliance diagram.now.nodes (length diagram.now.nodes) (rows_of lists.items)) }
+    ensures { IfOk result (λ lists. TellsReliance diagram.now.nodes (length diagram.now.nodes) (lists_in lists.items)) }
 {
     let mut marks = Marks::new(alloc, diagram)?;
     let mut fixed = vec![in alloc; false; diagram.count()]?;

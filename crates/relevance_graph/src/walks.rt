@@ -1,7 +1,7 @@
 ghost use Rattle.std.specs.Prelude.{◌≡◌, ◌<◌, ◌↔◌, ℕ, length, IsTrue, OnOk};
 ghost use Rattle.maid_model.specs.Graph.{Arc, IsPath};
 ghost use Rattle.maid_model.specs.Nodes.{IsDecision};
-ghost use Rattle.maid_model.specs.Relevance.{IsFixed, IsGoal};
+ghost use Rattle.maid_model.specs.Relevance.{IsInFamily, IsGoal};
 ghost use Rattle.bayes_ball.specs.Search.{IsIn};
 ghost use Rattle.relevance_graph.specs.Steps.{IsSearchedFor, IsUtilityOf};
 
@@ -26,7 +26,7 @@ fn is_utility_of(diagram: &Diagram, agent: usize, v: usize) -> bool
 fn is_goal(diagram: &Diagram, decision: usize, v: usize, below: bool) -> bool
     requires decision { IsDecision diagram.now.nodes decision }
     requires within { v < length diagram.now.nodes }
-    requires below { IsTrue below ↔ IsPath (Arc diagram.now.nodes) v decision }
+    requires below { IsTrue below ↔ IsPath (Arc diagram.now.nodes) decision v }
     ensures { IsTrue result ↔ IsGoal diagram.now.nodes decision v }
 {
     below && is_utility_of(diagram, diagram.owner(decision), v)
@@ -36,7 +36,7 @@ fn is_goal(diagram: &Diagram, decision: usize, v: usize, below: bool) -> bool
 fn keep_goals(diagram: &Diagram, decision: usize, below: &mut [bool])
     requires decision { IsDecision diagram.now.nodes decision }
     requires len { length below.old ≡ length diagram.now.nodes }
-    requires below { (v : ℕ) → IsIn below.old v ↔ IsPath (Arc diagram.now.nodes) v decision }
+    requires below { (v : ℕ) → IsIn below.old v ↔ IsPath (Arc diagram.now.nodes) decision v }
     ensures { (v : ℕ) → IsIn below.new v ↔ IsGoal diagram.now.nodes decision v }
 {
     for v in 0..diagram.count() {
@@ -48,7 +48,7 @@ fn keep_goals(diagram: &Diagram, decision: usize, below: &mut [bool])
 fn mark_fixed(diagram: &Diagram, decision: usize, fixed: &mut [bool])
     requires decision { IsDecision diagram.now.nodes decision }
     requires len { length fixed.old ≡ length diagram.now.nodes }
-    ensures marked { (v : ℕ) → IsIn fixed.new v ↔ IsFixed (Arc diagram.now.nodes) decision v }
+    ensures marked { (v : ℕ) → IsIn fixed.new v ↔ IsInFamily (Arc diagram.now.nodes) decision v }
     ensures no_goal { (v : ℕ) → IsGoal diagram.now.nodes decision v → IsIn fixed.new v → ⊥ }
 {
     fixed.fill(false);

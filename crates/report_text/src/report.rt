@@ -8,8 +8,7 @@ ghost use Rattle.maid_model.specs.declared.diagrams.Kind.TheVariants.{Utility};
 
 use crate::pieces::push_ratio;
 use line_pieces::{push_names, push_number, push_quoted};
-use maid_model::{Answer, Diagram, Ratio, Row, Solved};
-use net_build::Names;
+use maid_model::{Answer, Diagram, Names, Ratio, Row, Solved};
 use std::alloc::{AllocError, Global};
 
 // The parents of the node, none of which is a utility.

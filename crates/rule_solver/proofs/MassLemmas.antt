@@ -18,7 +18,7 @@ use Rattle.maid_model.specs.Nodes.{IsDecision, node_at, numbers_of, states_of}
 use Rattle.maid_model.specs.Sums.{nat_product_over}
 use Rattle.maid_model.specs.Tables.{chance_total, rule_total, total_by, weight_total}
 use Rattle.maid_model.specs.Views.{NodeView, DiagramView, RuleView}
-use Rattle.rule_solver.specs.Masses.{HasGains, KeepsStates, TakesOneState, chance_factor}
+use Rattle.rule_solver.specs.Masses.{HasGains, KeepsStates, TakesOneState, chance_factor_or_one}
 
 -- ---- products over the nodes from k on
 pub product_le : (f g : ℕ → ℕ) (k n : ℕ) → ((v : ℕ) → v < k + n → f v ≤ g v) → nat_product_over f (range_with_len k n) ≤ nat_product_over g (range_with_len k n)
@@ -93,7 +93,7 @@ room_scale d keeps m h =
 
 -- ---- the product of the chance totals
 module _ (d : DiagramView) (is : IsDiagram d) where
-  chance_pos : (v : ℕ) → 0 < chance_factor d.nodes v
+  chance_pos : (v : ℕ) → 0 < chance_factor_or_one d.nodes v
   chance_pos v = go (node_at d.nodes v).kind refl
     where
       go : (k : Kind) → (node_at d.nodes v).kind ≡ k → 0 < total_by k (chance_total d.nodes v) 1
@@ -101,7 +101,7 @@ module _ (d : DiagramView) (is : IsDiagram d) where
       go Decision e = omega arith
       go Utility e = omega arith
 
-  chance_le : (v : ℕ) → chance_factor d.nodes v ≤ bound_factor d.nodes v
+  chance_le : (v : ℕ) → chance_factor_or_one d.nodes v ≤ bound_factor d.nodes v
   chance_le v = go (node_at d.nodes v).kind
     where
       go : (k : Kind) → total_by k (chance_total d.nodes v) 1 ≤ bound_by k (chance_total d.nodes v) (states_of d.nodes v)
@@ -109,14 +109,14 @@ module _ (d : DiagramView) (is : IsDiagram d) where
       go Decision = is.graph.has_state v
       go Utility = omega arith
 
-  pub chance_product_le : nat_product_over (chance_factor d.nodes) (numbers_of d.nodes) ≤ bound_product d.nodes
-  chance_product_le = product_le (chance_factor d.nodes) (bound_factor d.nodes) 0 (length d.nodes) (λ v h. chance_le v)
+  pub chance_product_le : nat_product_over (chance_factor_or_one d.nodes) (numbers_of d.nodes) ≤ bound_product d.nodes
+  chance_product_le = product_le (chance_factor_or_one d.nodes) (bound_factor d.nodes) 0 (length d.nodes) (λ v h. chance_le v)
 
-  pub chance_rest : (k n : ℕ) → 0 < nat_product_over (chance_factor d.nodes) (range_with_len k n)
-  chance_rest k n = product_pos (chance_factor d.nodes) k n (λ v h. chance_pos v)
+  pub chance_rest : (k n : ℕ) → 0 < nat_product_over (chance_factor_or_one d.nodes) (range_with_len k n)
+  chance_rest k n = product_pos (chance_factor_or_one d.nodes) k n (λ v h. chance_pos v)
 
-  pub chance_is_mass : (p : List RuleView) → TakesOneState d.nodes p → nat_product_over (chance_factor d.nodes) (numbers_of d.nodes) ≡ mass d.nodes p
-  chance_is_mass p one = product_same (chance_factor d.nodes) (weight_total d.nodes p) 0 (length d.nodes) (λ v h. go v (omega arith) (node_at d.nodes v).kind refl)
+  pub chance_is_mass : (p : List RuleView) → TakesOneState d.nodes p → nat_product_over (chance_factor_or_one d.nodes) (numbers_of d.nodes) ≡ mass d.nodes p
+  chance_is_mass p one = product_same (chance_factor_or_one d.nodes) (weight_total d.nodes p) 0 (length d.nodes) (λ v h. go v (omega arith) (node_at d.nodes v).kind refl)
     where
       go : (v : ℕ) → v < length d.nodes → (k : Kind) → (node_at d.nodes v).kind ≡ k → total_by k (chance_total d.nodes v) 1 ≡ total_by k (chance_total d.nodes v) (rule_total p v)
       go v h Chance e = refl
@@ -126,24 +126,24 @@ module _ (d : DiagramView) (is : IsDiagram d) where
   -- one more node in the product
   pub record IsMassStep (v m : ℕ) : Type 0 where
     pub small : m ≤ greatest_number
-    pub whole : m * nat_product_over (chance_factor d.nodes) (range_with_len (v + 1) (length d.nodes - (v + 1))) ≡ nat_product_over (chance_factor d.nodes) (numbers_of d.nodes)
+    pub whole : m * nat_product_over (chance_factor_or_one d.nodes) (range_with_len (v + 1) (length d.nodes - (v + 1))) ≡ nat_product_over (chance_factor_or_one d.nodes) (numbers_of d.nodes)
     pub some : 0 < m
 
-  pub mass_step : KeepsBound d → (v m : ℕ) → v < length d.nodes → m * nat_product_over (chance_factor d.nodes) (range_with_len v (length d.nodes - v)) ≡ nat_product_over (chance_factor d.nodes) (numbers_of d.nodes) → 0 < m → IsMassStep v (m * chance_factor d.nodes v)
+  pub mass_step : KeepsBound d → (v m : ℕ) → v < length d.nodes → m * nat_product_over (chance_factor_or_one d.nodes) (range_with_len v (length d.nodes - v)) ≡ nat_product_over (chance_factor_or_one d.nodes) (numbers_of d.nodes) → 0 < m → IsMassStep v (m * chance_factor_or_one d.nodes v)
   mass_step keeps v m h e some = record {
-    small = chain (m * chance_factor d.nodes v) (m * chance_factor d.nodes v * rest) (nat_product_over (chance_factor d.nodes) (numbers_of d.nodes)) (grow (m * chance_factor d.nodes v) rest (chance_rest (v + 1) (length d.nodes - (v + 1)))) whole small_whole;
+    small = chain (m * chance_factor_or_one d.nodes v) (m * chance_factor_or_one d.nodes v * rest) (nat_product_over (chance_factor_or_one d.nodes) (numbers_of d.nodes)) (grow (m * chance_factor_or_one d.nodes v) rest (chance_rest (v + 1) (length d.nodes - (v + 1)))) whole small_whole;
     whole = whole;
     some = mul-pos some (chance_pos v);
   }
     where
       rest : ℕ
-      rest = nat_product_over (chance_factor d.nodes) (range_with_len (v + 1) (length d.nodes - (v + 1)))
+      rest = nat_product_over (chance_factor_or_one d.nodes) (range_with_len (v + 1) (length d.nodes - (v + 1)))
 
       one : (n v : ℕ) → v < n → n - v ≡ suc (n - (v + 1))
       one n v l = omega arith
 
-      whole : m * chance_factor d.nodes v * rest ≡ nat_product_over (chance_factor d.nodes) (numbers_of d.nodes)
-      whole = group m (chance_factor d.nodes v) rest ∙ ap (λ n. m * nat_product_over (chance_factor d.nodes) (range_with_len v n)) (sym (one (length d.nodes) v h)) ∙ e
+      whole : m * chance_factor_or_one d.nodes v * rest ≡ nat_product_over (chance_factor_or_one d.nodes) (numbers_of d.nodes)
+      whole = group m (chance_factor_or_one d.nodes v) rest ∙ ap (λ n. m * nat_product_over (chance_factor_or_one d.nodes) (range_with_len v n)) (sym (one (length d.nodes) v h)) ∙ e
         where
           group : (a b c : ℕ) → a * b * c ≡ a * (b * c)
           group a b c = simp mul_assoc
@@ -151,12 +151,12 @@ module _ (d : DiagramView) (is : IsDiagram d) where
       grow : (a r : ℕ) → 0 < r → a * 1 ≤ a * r
       grow a r k = mul-le-mul_left a k
 
-      small_whole : nat_product_over (chance_factor d.nodes) (numbers_of d.nodes) * 1 ≤ greatest_number
+      small_whole : nat_product_over (chance_factor_or_one d.nodes) (numbers_of d.nodes) * 1 ≤ greatest_number
       small_whole =
           let ten : 0 < 10 = omega arith in
-          let room : nat_product_over (chance_factor d.nodes) (numbers_of d.nodes) * 10 ^ d.decimals ≤ greatest_number = room_scale d keeps (nat_product_over (chance_factor d.nodes) (numbers_of d.nodes)) chance_product_le in
-          let less : nat_product_over (chance_factor d.nodes) (numbers_of d.nodes) * 1 ≤ nat_product_over (chance_factor d.nodes) (numbers_of d.nodes) * 10 ^ d.decimals = mul-le-mul_left (nat_product_over (chance_factor d.nodes) (numbers_of d.nodes)) (one-le-pow d.decimals 10 ten) in
-          trans (nat_product_over (chance_factor d.nodes) (numbers_of d.nodes) * 1) (nat_product_over (chance_factor d.nodes) (numbers_of d.nodes) * 10 ^ d.decimals) less room
+          let room : nat_product_over (chance_factor_or_one d.nodes) (numbers_of d.nodes) * 10 ^ d.decimals ≤ greatest_number = room_scale d keeps (nat_product_over (chance_factor_or_one d.nodes) (numbers_of d.nodes)) chance_product_le in
+          let less : nat_product_over (chance_factor_or_one d.nodes) (numbers_of d.nodes) * 1 ≤ nat_product_over (chance_factor_or_one d.nodes) (numbers_of d.nodes) * 10 ^ d.decimals = mul-le-mul_left (nat_product_over (chance_factor_or_one d.nodes) (numbers_of d.nodes)) (one-le-pow d.decimals 10 ten) in
+          trans (nat_product_over (chance_factor_or_one d.nodes) (numbers_of d.nodes) * 1) (nat_product_over (chance_factor_or_one d.nodes) (numbers_of d.nodes) * 10 ^ d.decimals) less room
         where
           trans : (a b : ℕ) → a ≤ b → b ≤ greatest_number → a ≤ greatest_number
           trans a b h k = omega (arith, h, k)
@@ -165,8 +165,8 @@ module _ (d : DiagramView) (is : IsDiagram d) where
       chain a b w h e k = omega (arith, h, e, k)
 
   -- at the end the product is the whole
-  pub mass_end : (v m : ℕ) → length d.nodes ≤ v → m * nat_product_over (chance_factor d.nodes) (range_with_len v (length d.nodes - v)) ≡ nat_product_over (chance_factor d.nodes) (numbers_of d.nodes) → m ≡ nat_product_over (chance_factor d.nodes) (numbers_of d.nodes)
-  mass_end v m h e = sym (by_one m) ∙ ap (λ n. m * nat_product_over (chance_factor d.nodes) (range_with_len v n)) (sym (none (length d.nodes) v h)) ∙ e
+  pub mass_end : (v m : ℕ) → length d.nodes ≤ v → m * nat_product_over (chance_factor_or_one d.nodes) (range_with_len v (length d.nodes - v)) ≡ nat_product_over (chance_factor_or_one d.nodes) (numbers_of d.nodes) → m ≡ nat_product_over (chance_factor_or_one d.nodes) (numbers_of d.nodes)
+  mass_end v m h e = sym (by_one m) ∙ ap (λ n. m * nat_product_over (chance_factor_or_one d.nodes) (range_with_len v n)) (sym (none (length d.nodes) v h)) ∙ e
     where
       none : (n v : ℕ) → n ≤ v → n - v ≡ 0
       none n v h = omega arith

@@ -16,8 +16,8 @@ abbrev pub KeepsStates : List NodeView → List RuleView → Type 0
 KeepsStates nodes p = (v : ℕ) → IsDecision nodes v → rule_total p v ≤ states_of nodes v
 
 -- the total of a chance node, and 1 at another node
-abbrev pub chance_factor : List NodeView → ℕ → ℕ
-chance_factor nodes v = total_by (node_at nodes v).kind (chance_total nodes v) 1
+abbrev pub chance_factor_or_one : List NodeView → ℕ → ℕ
+chance_factor_or_one nodes v = total_by (node_at nodes v).kind (chance_total nodes v) 1
 
 -- what the profile is worth to each of the first n agents
 pub record HasGains (d : DiagramView) (p : List RuleView) (n : ℕ) (gains : List Ratio) : Type 0 where

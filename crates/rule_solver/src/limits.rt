@@ -1,7 +1,8 @@
 ghost use Rattle.std.specs.Prelude.{◌≡◌, ◌≤◌, ◌^◌, min, IsOk, IfErr, OnOk};
-ghost use Rattle.maid_model.specs.Bounds.{KeepsBound, leaves, most_leaves};
+ghost use Rattle.maid_model.specs.Bounds.{KeepsBound, world_count, most_worlds};
 ghost use Rattle.maid_model.specs.Diagrams.{IsDiagram};
-ghost use Rattle.rule_solver.specs.Faults.{HasSolvingOrder, IsRefusal};
+ghost use Rattle.maid_model.specs.Placing.{HasRelianceOrder};
+ghost use Rattle.rule_solver.specs.Faults.{IsRefusal};
 
 use crate::SolveFault;
 use maid_model::Diagram;
@@ -15,7 +16,7 @@ const COUNT_END: u128 = 1_000_000_000_000_000_000;
 
 /// How many worlds the diagram has, or 10 to the power of 18 where that is less.
 fn count_leaves(diagram: &Diagram) -> u128
-    ensures leaves { result ≡ min (leaves diagram.now.nodes) (10 ^ 18) }
+    ensures world_count { result ≡ min (world_count diagram.now.nodes) (10 ^ 18) }
     ensures diagram { IsDiagram diagram.now }
 {
     let mut leaves: u128 = 1;
@@ -27,7 +28,7 @@ fn count_leaves(diagram: &Diagram) -> u128
 
 /// Refuses a diagram that doesn't keep the weight bound.
 fn keep_bound(diagram: &Diagram) -> Result<(), SolveFault>
-    requires { HasSolvingOrder diagram.now.nodes }
+    requires { HasRelianceOrder diagram.now.nodes }
     ensures kept { OnOk result (KeepsBound diagram.now) }
     ensures fault { IfErr result (IsRefusal diagram.now) }
 {
@@ -40,9 +41,9 @@ fn keep_bound(diagram: &Diagram) -> Result<(), SolveFault>
 
 /// Refuses a diagram with too many worlds.
 fn keep_leaves(diagram: &Diagram) -> Result<(), SolveFault>
-    requires order { HasSolvingOrder diagram.now.nodes }
+    requires order { HasRelianceOrder diagram.now.nodes }
     requires bound { KeepsBound diagram.now }
-    ensures kept { OnOk result (leaves diagram.now.nodes ≤ most_leaves) }
+    ensures kept { OnOk result (world_count diagram.now.nodes ≤ most_worlds) }
     ensures diagram { IsDiagram diagram.now }
     ensures fault { IfErr result (IsRefusal diagram.now) }
 {
@@ -55,9 +56,9 @@ fn keep_leaves(diagram: &Diagram) -> Result<(), SolveFault>
 
 /// Refuses a diagram that doesn't keep the weight bound, or else one with too many worlds.
 pub(crate) fn keep_limits(diagram: &Diagram) -> Result<(), SolveFault>
-    requires { HasSolvingOrder diagram.now.nodes }
+    requires { HasRelianceOrder diagram.now.nodes }
     ensures bound { OnOk result (KeepsBound diagram.now) }
-    ensures leaves { OnOk result (leaves diagram.now.nodes ≤ most_leaves) }
+    ensures world_count { OnOk result (world_count diagram.now.nodes ≤ most_worlds) }
     ensures diagram { OnOk result (IsDiagram diagram.now) }
     ensures fault { IfErr result (IsRefusal diagram.now) }
 {

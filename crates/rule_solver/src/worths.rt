@@ -5,7 +5,7 @@ ghost use Rattle.maid_model.specs.Gains.{mass};
 ghost use Rattle.maid_model.specs.Profiles.{IsProfile};
 ghost use Rattle.maid_model.specs.Views.{RuleView};
 ghost use Rattle.maid_model.specs.Worlds.{first_world};
-ghost use Rattle.rule_solver.specs.Masses.{HasGains, TakesOneState, chance_factor};
+ghost use Rattle.rule_solver.specs.Masses.{HasGains, TakesOneState, chance_factor_or_one};
 
 use crate::rows::fraction;
 use maid_model::{Diagram, Kind, Profile, Ratio, World, leaf_sum};
@@ -22,7 +22,7 @@ pub(crate) fn scale(diagram: &Diagram) -> u128
 /// The total of a chance node, and 1 at another node.
 fn chance_total(diagram: &Diagram, v: usize) -> u128
     requires { v < length diagram.now.nodes }
-    ensures { result ≡ chance_factor diagram.now.nodes v }
+    ensures { result ≡ chance_factor_or_one diagram.now.nodes v }
 {
     match diagram.kind(v) {
         Kind::Chance => diagram.weight_total(v),

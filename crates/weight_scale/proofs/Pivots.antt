@@ -1,4 +1,4 @@
--- The number with the most decimals, by which a row is raised, and the divisor that starts with it.
+-- The number with the most decimals, by which a row is whole_number, and the divisor that starts with it.
 use Rattle.std.proofs.Common.{◌≡◌, ◌<◌, ◌≤◌, ◌+◌, ◌-◌, ◌*◌, ◌^◌, ◌⊎◌, inl, inr, ⊎_elim, ℕ, sym, ap, ◌∙◌, arith, subst, List, [], ◌∷◌, ◌++◌, All, map, length, get_or, take, drop, sum, unsigned_abs}
 use Rattle.std.specs.Int.{IsGcd, ◌∣◌}
 use Rattle.std.proofs.Math.Numerals.{add-one}
@@ -8,7 +8,7 @@ use Rattle.std.proofs.lemmas.Nat.Gcd.{dvd-zero, dvd_refl}
 use Rattle.std.proofs.lemmas.List.{take_more}
 use Rattle.std.proofs.lemmas.List.Elements.{All-nil, All-cons, All-tail, All-push, All-weaker}
 use Rattle.weight_scale.specs.declared.decimal.Decimal.{Decimal}
-use Rattle.weight_scale.specs.Scaling.{raised, IsGreatestDivisor}
+use Rattle.weight_scale.specs.Scaling.{whole_number, IsGreatestDivisor}
 use Rattle.weight_scale.specs.Rows.{IsFinest, IsFiner}
 use Rattle.weight_scale.proofs.Tens.{tens_positive}
 use Rattle.weight_scale.proofs.Lists.{all_front, all_last, all_unmapped, sum_nought, nought_sum}
@@ -23,8 +23,8 @@ finest_start = record {
   nought = λ _. All-nil (λ d. unsigned_abs d.m ≡ 0);
 }
 
--- raised by its own decimals a number is its size
-own_size : (d : Decimal) → raised d.k d ≡ unsigned_abs d.m
+-- whole_number by its own decimals a number is its size
+own_size : (d : Decimal) → whole_number d.k d ≡ unsigned_abs d.m
 own_size d = ap (λ n. unsigned_abs d.m * 10 ^ n) (none d.k) ∙ once (unsigned_abs d.m)
   where
     none : (k : ℕ) → k - k ≡ 0
@@ -41,7 +41,7 @@ module _ (xs : List Decimal) (s k : ℕ) (d : Decimal) (so_far : IsFinest xs s k
   keep last = record {
     few = so_far.few;
     most = All-push (λ x. (unsigned_abs x.m ≡ 0) ⊎ (x.k ≤ k)) xs d so_far.most (⊎_elim (λ e. inl e) (λ h. inr h.1) last);
-    divided = λ g all. so_far.divided g (all_front (λ x. g ∣ raised k x) xs (d ∷ []) all);
+    divided = λ g all. so_far.divided g (all_front (λ x. g ∣ whole_number k x) xs (d ∷ []) all);
     nought = λ e. All-push (λ x. unsigned_abs x.m ≡ 0) xs d (so_far.nought e) (⊎_elim (λ z. z) (λ h. absurd (omega (arith, h.0, e))) last);
   }
 
@@ -49,7 +49,7 @@ module _ (xs : List Decimal) (s k : ℕ) (d : Decimal) (so_far : IsFinest xs s k
   change positive first = record {
     few = d.few;
     most = All-push (λ x. (unsigned_abs x.m ≡ 0) ⊎ (x.k ≤ d.k)) xs d (⊎_elim before (λ less. All-weaker (λ x. (unsigned_abs x.m ≡ 0) ⊎ (x.k ≤ k)) (λ x. (unsigned_abs x.m ≡ 0) ⊎ (x.k ≤ d.k)) (more less) xs so_far.most) first) (inr (omega arith));
-    divided = λ g all. subst (λ n. g ∣ n) (own_size d) (all_last (λ x. g ∣ raised d.k x) xs d all);
+    divided = λ g all. subst (λ n. g ∣ n) (own_size d) (all_last (λ x. g ∣ whole_number d.k x) xs d all);
     nought = λ e. absurd (omega (arith, e, positive));
   }
     where
@@ -70,34 +70,34 @@ finest_step row i d s k s' k' l is so_far finer =
 
 -- ---- rows of total nought
 module _ (row : List Decimal) (size decimals : ℕ) (is : IsFinest row size decimals) where
-  pub nought_row : size ≡ 0 → sum (map (raised 30) row) ≡ 0
-  nought_row e = sum_nought (raised 30) row (All-weaker (λ d. unsigned_abs d.m ≡ 0) (λ d. raised 30 d ≡ 0) (λ d h. nought d h) row (is.nought e))
+  pub nought_row : size ≡ 0 → sum (map (whole_number 30) row) ≡ 0
+  nought_row e = sum_nought (whole_number 30) row (All-weaker (λ d. unsigned_abs d.m ≡ 0) (λ d. whole_number 30 d ≡ 0) (λ d h. nought d h) row (is.nought e))
     where
-      nought : (d : Decimal) → unsigned_abs d.m ≡ 0 → raised 30 d ≡ 0
+      nought : (d : Decimal) → unsigned_abs d.m ≡ 0 → whole_number 30 d ≡ 0
       nought d h = ap (λ n. n * 10 ^ (30 - d.k)) h ∙ none (10 ^ (30 - d.k))
         where
           none : (n : ℕ) → 0 * n ≡ 0
           none n = omega arith
 
-  pub row_nought : sum (map (raised 30) row) ≡ 0 → size ≡ 0
-  row_nought e = eq-zero_of_zero-dvd (is.divided 0 (All-weaker (λ d. raised 30 d ≡ 0) (λ d. 0 ∣ raised decimals d) (λ d h. divided d h) row (nought_sum (raised 30) row e)))
+  pub row_nought : sum (map (whole_number 30) row) ≡ 0 → size ≡ 0
+  row_nought e = eq-zero_of_zero-dvd (is.divided 0 (All-weaker (λ d. whole_number 30 d ≡ 0) (λ d. 0 ∣ whole_number decimals d) (λ d h. divided d h) row (nought_sum (whole_number 30) row e)))
     where
       size_nought : (m t : ℕ) → 0 < t → m * t ≡ 0 → m ≡ 0
       size_nought m t positive e = eq_of_mul-eq-mul_right t positive m 0 (omega (arith, e))
 
-      divided : (d : Decimal) → raised 30 d ≡ 0 → 0 ∣ raised decimals d
+      divided : (d : Decimal) → whole_number 30 d ≡ 0 → 0 ∣ whole_number decimals d
       divided d h =
           let none : unsigned_abs d.m ≡ 0 = size_nought (unsigned_abs d.m) (10 ^ (30 - d.k)) (tens_positive (30 - d.k)) h in
-          let empty : raised decimals d ≡ 0 = ap (λ n. n * 10 ^ (decimals - d.k)) none ∙ clear (10 ^ (decimals - d.k)) in
+          let empty : whole_number decimals d ≡ 0 = ap (λ n. n * 10 ^ (decimals - d.k)) none ∙ clear (10 ^ (decimals - d.k)) in
           subst (λ n. 0 ∣ n) (sym empty) (dvd_refl 0)
         where
           clear : (n : ℕ) → 0 * n ≡ 0
           clear n = omega arith
 
-  pub size_positive : 0 < sum (map (raised 30) row) → 0 < size
+  pub size_positive : 0 < sum (map (whole_number 30) row) → 0 < size
   size_positive positive = pos_of_ne-zero (λ e. absurd (omega (arith, nought_row e, positive)))
 
-  pub total_positive : 0 < size → 0 < sum (map (raised 30) row)
+  pub total_positive : 0 < size → 0 < sum (map (whole_number 30) row)
   total_positive positive = pos_of_ne-zero (λ e. absurd (omega (arith, row_nought e, positive)))
 
 -- ---- the common divisor
@@ -109,8 +109,8 @@ divisor_step f row i d a h Q l is both before g more =
     before g (subst (λ xs. IsGreatestDivisor (a ∷ xs) g) (sym rest) (greatest_step a (f d) h g (map f (drop (i + 1) row)) both more))
 
 -- all are taken in; the size with which it began brings nothing more
-pub divisor_end : (row : List Decimal) (size decimals g : ℕ) → IsFinest row size decimals → IsGreatestDivisor (size ∷ map (raised decimals) row) g → IsGreatestDivisor (map (raised decimals) row) g
+pub divisor_end : (row : List Decimal) (size decimals g : ℕ) → IsFinest row size decimals → IsGreatestDivisor (size ∷ map (whole_number decimals) row) g → IsGreatestDivisor (map (whole_number decimals) row) g
 divisor_end row size decimals g finest is = record {
-  divides = All-tail (λ x. g ∣ x) size (map (raised decimals) row) is.divides;
-  greatest = λ d all. is.greatest d (All-cons (λ x. d ∣ x) size (map (raised decimals) row) (finest.divided d (all_unmapped (λ x. d ∣ x) (raised decimals) row all)) all);
+  divides = All-tail (λ x. g ∣ x) size (map (whole_number decimals) row) is.divides;
+  greatest = λ d all. is.greatest d (All-cons (λ x. d ∣ x) size (map (whole_number decimals) row) (finest.divided d (all_unmapped (λ x. d ∣ x) (whole_number decimals) row all)) all);
 }

@@ -8,7 +8,7 @@ use Rattle.std.proofs.lemmas.List.{length-map, length-append}
 use Rattle.whole_num.specs.Divisors.{IsLcm}
 use Rattle.maid_model.specs.Diagrams.{greatest_number}
 use Rattle.weight_scale.specs.declared.decimal.Decimal.{Decimal}
-use Rattle.weight_scale.specs.Scaling.{row_at, raised, raised_row, IsReducedRow, IsReduced, NoZeroRow, IsTooWide}
+use Rattle.weight_scale.specs.Scaling.{row_at, whole_number, raised_row, IsReducedRow, AreReducedRows, NoZeroRow, IsTooWide}
 use Rattle.weight_scale.specs.Rows.{AppendsReduced, ReducesRows, IsWideRow}
 use Rattle.weight_scale.proofs.Lists.{sum_nought, nought_sum}
 use Rattle.weight_scale.proofs.Divisors.{greatest_exists, lcm_exists}
@@ -58,7 +58,7 @@ module _ (rows : List Decimal) (states : ℕ) (states_positive : 0 < states) whe
 
   module _ (n : ℕ) (old new : List ℕ) (total added common : ℕ) (l : n < length rows / states) (so_far : ReducesRows rows states n old total) (appends : AppendsReduced (raised_row states rows n) old new added) (least : IsLcm total added common) (positive : 0 < common) where
     last_length : length appends.reduced ≡ states
-    last_length = reduced_length (raised_row states rows n) appends.reduced appends.is_reduced ∙ length-map (row_at states rows n) (raised 30) ∙ row_length states rows n (row_within (length rows) states n l)
+    last_length = reduced_length (raised_row states rows n) appends.reduced appends.is_reduced ∙ length-map (row_at states rows n) (whole_number 30) ∙ row_length states rows n (row_within (length rows) states n l)
 
     kept : (r : ℕ) → r < n → row_at states new r ≡ row_at states old r
     kept r less = ap (λ xs. row_at states xs r) appends.appends.appended ∙ row_kept states n old appends.reduced r so_far.len less
@@ -111,7 +111,7 @@ module _ (rows : List Decimal) (states : ℕ) (states_positive : 0 < states) whe
 
     module _ (whole : states ∣ length rows) where
       -- all rows reduced
-      pub all_reduced : (reduced : List ℕ) (total : ℕ) → ReducesRows rows states count reduced total → IsReduced rows states reduced
+      pub all_reduced : (reduced : List ℕ) (total : ℕ) → ReducesRows rows states count reduced total → AreReducedRows rows states reduced
       all_reduced reduced total is = record { len = is.len ∙ rows_whole (length rows) states whole; row = is.row }
 
       too_wide : (reduced : List ℕ) (total : ℕ) → ReducesRows rows states count reduced total → greatest_number < total → IsTooWide rows states

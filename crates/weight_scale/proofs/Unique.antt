@@ -7,7 +7,7 @@ use Rattle.std.proofs.lemmas.Nat.Gcd.{dvd_antisymm}
 use Rattle.std.proofs.lemmas.List.{take_all}
 use Rattle.weight_scale.specs.declared.decimal.Decimal.{Decimal}
 use Rattle.weight_scale.specs.Views.{ScaledView}
-use Rattle.weight_scale.specs.Scaling.{row_at, raised_row, weights_of, IsScaled}
+use Rattle.weight_scale.specs.Scaling.{row_at, raised_row, multiplied_row, IsScaled}
 use Rattle.weight_scale.proofs.RowParts.{rows_whole}
 use Rattle.weight_scale.proofs.Shares.{reduced_same}
 
@@ -42,4 +42,4 @@ scaled_once rows states a b positive whole p q = λ i. record { weights = weight
 
     weights : a.weights ≡ b.weights
     weights = rows_same states (length rows / states) a.weights b.weights (len (length a.weights) p.len) (len (length b.weights) q.len)
-        (λ r l. p.row r l ∙ (λ i. weights_of (total i) (reduced r l i)) ∙ sym (q.row r l))
+        (λ r l. p.row r l ∙ (λ i. multiplied_row (total i) (reduced r l i)) ∙ sym (q.row r l))

@@ -4,7 +4,7 @@ use Rattle.std.proofs.Math.Nat.{pow-le-pow_right, add-zero, zero-mul, eq_of_mul-
 use Rattle.std.proofs.lemmas.Nat.{pow-add}
 use Rattle.weight_scale.specs.declared.decimal.Decimal.{Decimal}
 use Rattle.weight_scale.specs.Numeral.{signed, IsDecimalOf, IsLeastDecimalOf}
-use Rattle.weight_scale.specs.Significant.{IsSignificand, IsTooLong}
+use Rattle.weight_scale.specs.Significant.{IsSignificand, HasTooManyDigits}
 use Rattle.weight_scale.proofs.Signs.{fraction_from_sizes, sizes_from_fraction, same_fraction}
 use Rattle.weight_scale.proofs.Tens.{tens_positive, by_tens, some_of_same, none_of_same}
 
@@ -59,7 +59,7 @@ module _ (minus : Bool) (number decimals : ℕ) (down : Bool) (exponent : ℕ) w
       by_tens (unsigned_abs d.m) size (above_by above) (below_by below) d.k (is.last some) sizes.1
 
   -- too many digits
-  pub too_long : IsTooLong number decimals → (d : Decimal) → IsDecimalOf (signed minus num) den d → ⊥
+  pub too_long : HasTooManyDigits number decimals → (d : Decimal) → IsDecimalOf (signed minus num) den d → ⊥
   too_long (size, above, below, is, wide) d value =
       let m_is = (size_of size above below is (omega arith) d value).1 in
       omega (arith, d.small, m_is, mul-le-mul_left {m = 1} size (tens_positive (above_by above + d.k - below_by below)))

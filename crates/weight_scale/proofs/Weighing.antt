@@ -13,7 +13,7 @@ use Rattle.maid_model.specs.Tables.{IsTable}
 use Rattle.maid_model.specs.Diagrams.{greatest_number}
 use Rattle.weight_scale.specs.declared.decimal.Decimal.{Decimal}
 use Rattle.weight_scale.specs.Views.{ScaledView}
-use Rattle.weight_scale.specs.Scaling.{row_at, raised_row, weights_of, IsScaled, NoZeroRow}
+use Rattle.weight_scale.specs.Scaling.{row_at, raised_row, multiplied_row, IsScaled, NoZeroRow}
 use Rattle.weight_scale.specs.Rows.{WeighsRows, ReducesRows}
 use Rattle.weight_scale.proofs.RowParts.{row_within, rows_whole, count_of_rows, row_length, row_kept, row_added, row_cell}
 use Rattle.weight_scale.proofs.Totals.{reduced_positive}
@@ -30,18 +30,18 @@ module _ (reduced : List ℕ) (states total : ℕ) where
   pub weighs_start : WeighsRows reduced states total 0 []
   weighs_start = record { len = sym (zero-mul states); row = λ r l. absurd (omega (arith, l)) }
 
-  pub weighs_step : (n : ℕ) (old new : List ℤ) → n < length reduced / states → WeighsRows reduced states total n old → new ≡ old ++ weights_of total (row_at states reduced n) → WeighsRows reduced states total (n + 1) new
+  pub weighs_step : (n : ℕ) (old new : List ℤ) → n < length reduced / states → WeighsRows reduced states total n old → new ≡ old ++ multiplied_row total (row_at states reduced n) → WeighsRows reduced states total (n + 1) new
   weighs_step n old new l so_far is = record {
-    len = ap length is ∙ length-append old (weights_of total (row_at states reduced n)) ∙ add so_far.len last_length;
-    row = below_more (λ r. row_at states new r ≡ weights_of total (row_at states reduced r)) n
-        (λ r less. ap (λ xs. row_at states xs r) is ∙ row_kept states n old (weights_of total (row_at states reduced n)) r so_far.len less ∙ so_far.row r less)
-        (ap (λ xs. row_at states xs n) is ∙ row_added states n old (weights_of total (row_at states reduced n)) so_far.len last_length);
+    len = ap length is ∙ length-append old (multiplied_row total (row_at states reduced n)) ∙ add so_far.len last_length;
+    row = below_more (λ r. row_at states new r ≡ multiplied_row total (row_at states reduced r)) n
+        (λ r less. ap (λ xs. row_at states xs r) is ∙ row_kept states n old (multiplied_row total (row_at states reduced n)) r so_far.len less ∙ so_far.row r less)
+        (ap (λ xs. row_at states xs n) is ∙ row_added states n old (multiplied_row total (row_at states reduced n)) so_far.len last_length);
   }
     where
-      last_length : length (weights_of total (row_at states reduced n)) ≡ states
+      last_length : length (multiplied_row total (row_at states reduced n)) ≡ states
       last_length = length-map (row_at states reduced n) (λ x. pos (x * (total / sum (row_at states reduced n)))) ∙ row_length states reduced n (row_within (length reduced) states n l)
 
-      add : length old ≡ n * states → length (weights_of total (row_at states reduced n)) ≡ states → length old + length (weights_of total (row_at states reduced n)) ≡ (n + 1) * states
+      add : length old ≡ n * states → length (multiplied_row total (row_at states reduced n)) ≡ states → length old + length (multiplied_row total (row_at states reduced n)) ≡ (n + 1) * states
       add a b = omega (arith, a, b)
 
 -- ---- the weights are those of the rows
@@ -111,13 +111,13 @@ module _ (rows : List Decimal) (states : ℕ) (states_positive : 0 < states) (wh
   row_states : (r : ℕ) → r < count → length (row r) ≡ states
   row_states r l = row_length states is.reduced r (rw is.rows_reduced.len (row_within (length rows) states r l))
 
-  cell : (r s : ℕ) → r < count → s < states → get_or scaled.weights (r * states + s) (pos 0) ≡ get_or (weights_of scaled.total (row r)) s (pos 0)
+  cell : (r s : ℕ) → r < count → s < states → get_or scaled.weights (r * states + s) (pos 0) ≡ get_or (multiplied_row scaled.total (row r)) s (pos 0)
   cell r s l less = sym (row_cell states scaled.weights r s (pos 0) less) ∙ ap (λ xs. get_or xs s (pos 0)) (is.row r l)
 
   row_sum : (r : ℕ) → r < count → sum_below states (λ s. get_or scaled.weights (r * states + s) (pos 0)) ≡ pos scaled.total
   row_sum r l =
-      sum_below_same states (λ s. get_or scaled.weights (r * states + s) (pos 0)) (λ s. get_or (weights_of scaled.total (row r)) s (pos 0)) (λ s less. cell r s l less)
-      ∙ ap (λ n. sum_below n (λ s. get_or (weights_of scaled.total (row r)) s (pos 0))) (sym (row_states r l))
+      sum_below_same states (λ s. get_or scaled.weights (r * states + s) (pos 0)) (λ s. get_or (multiplied_row scaled.total (row r)) s (pos 0)) (λ s less. cell r s l less)
+      ∙ ap (λ n. sum_below n (λ s. get_or (multiplied_row scaled.total (row r)) s (pos 0))) (sym (row_states r l))
       ∙ sum_of_row (factor r) (row r) ∙ ap pos (mul-div_cancel' (sum (row r)) (is.common.multiple r l))
 
   not_negative : (i : ℕ) → pos 0 ≤ℤ get_or scaled.weights i (pos 0)

@@ -2,16 +2,16 @@
 use Rattle.std.specs.Prelude.{◌≡◌, ◌<◌, ◌≤◌, ◌*◌, ◌/◌, ℕ, ℤ, unsigned_abs, List, ◌++◌, map, length, sum, All, ◌⊎◌}
 use Rattle.std.specs.Int.{◌∣◌}
 use Rattle.maid_model.specs.Diagrams.{greatest_number}
-use Rattle.weight_scale.specs.Scaling.{raised, raised_row, row_at, IsReducedRow, IsCommonTotal, weights_of}
+use Rattle.weight_scale.specs.Scaling.{whole_number, raised_row, row_at, IsReducedRow, IsCommonTotal, multiplied_row}
 use Rattle.weight_scale.specs.declared.decimal.Decimal.{Decimal}
 use Rattle.weight_scale.specs.declared.scaling.ScaleFault.{ScaleFault}
 use Rattle.weight_scale.specs.declared.scaling.ScaleFault.TheVariants.{Negative, ZeroRow, WideWeight, NoMemory}
 
--- The size and the decimals of one of the numbers: no other but noughts has more decimals, what divides all numbers, raised by these, divides the size, and the size is nought only where all are.
+-- The size and the decimals of one of the numbers: no other but noughts has more decimals, what divides all numbers, whole_number by these, divides the size, and the size is nought only where all are.
 pub record IsFinest (row : List Decimal) (size decimals : ℕ) : Type 0 where
   pub few : decimals ≤ 30
   pub most : All (λ d. (unsigned_abs d.m ≡ 0) ⊎ (d.k ≤ decimals)) row
-  pub divided : (g : ℕ) → All (λ d. g ∣ raised decimals d) row → g ∣ size
+  pub divided : (g : ℕ) → All (λ d. g ∣ whole_number decimals d) row → g ∣ size
   pub nought : size ≡ 0 → All (λ d. unsigned_abs d.m ≡ 0) row
 
 -- the number takes the place of the finest so far where it isn't nought and has more decimals, or is the first that isn't nought
@@ -20,9 +20,9 @@ IsFiner size decimals d size' decimals' =
     ((size' ≡ size) × (decimals' ≡ decimals) × ((unsigned_abs d.m ≡ 0) ⊎ ((0 < size) × (d.k ≤ decimals))))
     ⊎ ((size' ≡ unsigned_abs d.m) × (decimals' ≡ d.k) × (0 < unsigned_abs d.m) × ((size ≡ 0) ⊎ (decimals < d.k)))
 
--- the row's numbers, raised, over the divisor
+-- the row's numbers, whole_number, over the divisor
 abbrev pub shares : ℕ → ℕ → List Decimal → List ℕ
-shares tens divisor row = map (λ d. raised tens d / divisor) row
+shares tens divisor row = map (λ d. whole_number tens d / divisor) row
 
 -- the shares stand behind what was there, and the total is theirs
 pub record AppendsShares (old new shares : List ℕ) (total : ℕ) : Type 0 where
@@ -55,4 +55,4 @@ pub record ReducesRows (rows : List Decimal) (states count : ℕ) (reduced : Lis
 -- the first rows of weights
 pub record WeighsRows (reduced : List ℕ) (states total count : ℕ) (weights : List ℤ) : Type 0 where
   pub len : length weights ≡ count * states
-  pub row : (r : ℕ) → r < count → row_at states weights r ≡ weights_of total (row_at states reduced r)
+  pub row : (r : ℕ) → r < count → row_at states weights r ≡ multiplied_row total (row_at states reduced r)

@@ -11,13 +11,13 @@ use Rattle.weight_scale.specs.declared.scaling.ScaleFault.TheVariants.{Negative,
 abbrev pub row_at : {A : Type 0} → ℕ → List A → ℕ → List A
 row_at states cells r = take states (drop (r * states) cells)
 
--- a number raised by ten to the power of `tens`: a whole number, where it has no more decimals than that
-abbrev pub raised : ℕ → Decimal → ℕ
-raised tens d = unsigned_abs d.m * 10 ^ (tens - d.k)
+-- a number whole_number by ten to the power of `tens`: a whole number, where it has no more decimals than that
+abbrev pub whole_number : ℕ → Decimal → ℕ
+whole_number tens d = unsigned_abs d.m * 10 ^ (tens - d.k)
 
--- the numbers of row r raised to whole numbers by one power of ten: none has more than 30 decimals
+-- the numbers of row r whole_number to whole numbers by one power of ten: none has more than 30 decimals
 abbrev pub raised_row : ℕ → List Decimal → ℕ → List ℕ
-raised_row states rows r = map (raised 30) (row_at states rows r)
+raised_row states rows r = map (whole_number 30) (row_at states rows r)
 
 -- the greatest common divisor: it divides each number, and each number that divides them all divides it
 pub record IsGreatestDivisor (xs : List ℕ) (g : ℕ) : Type 0 where
@@ -31,7 +31,7 @@ pub record IsReducedRow (row reduced : List ℕ) : Type 0 where
   pub divided : reduced ≡ map (λ x. x / divisor) row
 
 -- the reduced rows, one after another
-pub record IsReduced (rows : List Decimal) (states : ℕ) (reduced : List ℕ) : Type 0 where
+pub record AreReducedRows (rows : List Decimal) (states : ℕ) (reduced : List ℕ) : Type 0 where
   pub len : length reduced ≡ length rows
   pub row : (r : ℕ) → r < length rows / states → IsReducedRow (raised_row states rows r) (row_at states reduced r)
 
@@ -42,8 +42,8 @@ pub record IsCommonTotal (reduced : List ℕ) (states count total : ℕ) : Type 
   pub least : (m : ℕ) → ((r : ℕ) → r < count → sum (row_at states reduced r) ∣ m) → total ∣ m
 
 -- a reduced row multiplied so that its total is the common one
-abbrev pub weights_of : ℕ → List ℕ → List ℤ
-weights_of total row = map (λ x. pos (x * (total / sum row))) row
+abbrev pub multiplied_row : ℕ → List ℕ → List ℤ
+multiplied_row total row = map (λ x. pos (x * (total / sum row))) row
 
 -- the number at a place
 abbrev pub number_at : List Decimal → ℕ → ℤ
@@ -60,11 +60,11 @@ NoZeroRow rows states count = (r : ℕ) → r < count → 0 < sum (raised_row st
 -- the weights: each reduced row multiplied so that its total is the least common multiple of all totals
 pub record IsScaled (rows : List Decimal) (states : ℕ) (scaled : ScaledView) : Type 0 where
   pub reduced : List ℕ
-  pub rows_reduced : IsReduced rows states reduced
+  pub rows_reduced : AreReducedRows rows states reduced
   pub common : IsCommonTotal reduced states (length rows / states) scaled.total
   pub small : scaled.total ≤ greatest_number
   pub len : length scaled.weights ≡ length rows
-  pub row : (r : ℕ) → r < length rows / states → row_at states scaled.weights r ≡ weights_of scaled.total (row_at states reduced r)
+  pub row : (r : ℕ) → r < length rows / states → row_at states scaled.weights r ≡ multiplied_row scaled.total (row_at states reduced r)
 
 -- the place of the first number below nought
 pub record IsFirstNegative (rows : List Decimal) (place : ℕ) : Type 0 where
@@ -82,7 +82,7 @@ pub record IsFirstZeroRow (rows : List Decimal) (states row : ℕ) : Type 0 wher
 pub record IsTooWide (rows : List Decimal) (states : ℕ) : Type 0 where
   pub reduced : List ℕ
   pub total : ℕ
-  pub rows_reduced : IsReduced rows states reduced
+  pub rows_reduced : AreReducedRows rows states reduced
   pub common : IsCommonTotal reduced states (length rows / states) total
   pub wide : greatest_number < total
 

@@ -7,5 +7,5 @@ pub record IsSignificand (number decimals size above below : ℕ) : Type 0 where
   pub last : 0 < size → 0 < size % 10
 
 -- the number over 10^decimals has too many digits, not counting noughts at the end
-abbrev pub IsTooLong : ℕ → ℕ → Type 0
-IsTooLong number decimals = (size above below : ℕ) × IsSignificand number decimals size above below × (2 ^ 126 ≤ size)
+abbrev pub HasTooManyDigits : ℕ → ℕ → Type 0
+HasTooManyDigits number decimals = (size above below : ℕ) × IsSignificand number decimals size above below × (2 ^ 126 ≤ size)

@@ -3,7 +3,7 @@ ghost use Rattle.std.specs.List.{list_all};
 ghost use Rattle.net_lexer.specs.Bytes.{is_digit};
 ghost use Rattle.net_lexer.specs.Numerals.{is_numeral};
 ghost use Rattle.weight_scale.specs.Numeral.{number_of, signed, numerator, denominator, IsDecimalOf, IsLeastDecimalOf};
-ghost use Rattle.weight_scale.specs.Significant.{IsSignificand, IsTooLong};
+ghost use Rattle.weight_scale.specs.Significant.{IsSignificand, HasTooManyDigits};
 ghost use Rattle.weight_scale.specs.declared.decimal.Decimal.{Decimal};
 
 use crate::Decimal;
@@ -30,7 +30,7 @@ fn significand(whole: &[u8], decimals: &[u8]) -> Option<Scientific>
     requires decimal_digits { list_all is_digit decimals.now ≡ true }
     ensures some { IfSome result (λ s. IsSignificand (number_of (whole.now ++ decimals.now)) (length decimals.now) s.size s.above s.below) }
     ensures small { IfSome result (λ s. (s.size < 2 ^ 126) × (s.above < 2 ^ 64) × (s.below < 2 ^ 64)) }
-    ensures none { IfNone result (IsTooLong (number_of (whole.now ++ decimals.now)) (length decimals.now)) }
+    ensures none { IfNone result (HasTooManyDigits (number_of (whole.now ++ decimals.now)) (length decimals.now)) }
 {
     let kept = without_trailing_noughts(decimals);
     if kept.is_empty() {

@@ -4,7 +4,7 @@ ghost use Rattle.std.specs.Prelude.{◌≡◌, ◌<◌, ◌≤◌, ◌+◌, ◌*
 ghost use Rattle.std.specs.Int.{◌∣◌};
 ghost use Rattle.std.specs.Option.{SomeIff};
 ghost use Rattle.maid_model.specs.Diagrams.{greatest_number};
-ghost use Rattle.weight_scale.specs.Scaling.{raised, row_at, IsGreatestDivisor};
+ghost use Rattle.weight_scale.specs.Scaling.{whole_number, row_at, IsGreatestDivisor};
 ghost use Rattle.weight_scale.specs.Rows.{IsFinest, IsFiner, shares, AppendsShares, AppendsReduced, OnWide, IsWideRow};
 
 use crate::decimal::{Decimal, GREATEST};
@@ -62,7 +62,7 @@ fn finer(finest: Pivot, number: Decimal) -> Pivot
 fn common_divisor(row: &[Decimal], finest: Pivot) -> u128
     requires finest { IsFinest row.now finest.size finest.decimals }
     requires positive { 0 < finest.size }
-    ensures greatest { IsGreatestDivisor (map (raised finest.decimals) row.now) result }
+    ensures greatest { IsGreatestDivisor (map (whole_number finest.decimals) row.now) result }
     ensures positive { 0 < result }
 {
     let mut divisor = finest.size;
@@ -82,7 +82,7 @@ fn push_shares(
 ) -> Result<u128, ScaleFault>
     requires decimals { decimals ≤ 30 }
     requires positive { 0 < divisor }
-    requires divides { All (λ d. divisor ∣ raised decimals d) row.now }
+    requires divides { All (λ d. divisor ∣ whole_number decimals d) row.now }
     ensures ok { IfOk result (AppendsShares reduced.old.items reduced.new.items (shares decimals divisor row.now)) }
     ensures err { IfErr result (λ fault. OnWide fault (greatest_number < sum (shares decimals divisor row.now))) }
 {
@@ -103,9 +103,9 @@ fn push_shares(
 
 // Appends the reduced row, and gives its total.
 pub(crate) fn push_reduced(reduced: &mut Vec<u128>, row: &[Decimal]) -> Result<u128, ScaleFault>
-    requires { 0 < sum (map (raised 30) row.now) }
-    ensures ok { IfOk result (AppendsReduced (map (raised 30) row.now) reduced.old.items reduced.new.items) }
-    ensures err { IfErr result (λ fault. OnWide fault (IsWideRow (map (raised 30) row.now))) }
+    requires { 0 < sum (map (whole_number 30) row.now) }
+    ensures ok { IfOk result (AppendsReduced (map (whole_number 30) row.now) reduced.old.items reduced.new.items) }
+    ensures err { IfErr result (λ fault. OnWide fault (IsWideRow (map (whole_number 30) row.now))) }
 {
     let finest = finest(row);
     let divisor = common_divisor(row, finest);

@@ -5,7 +5,7 @@ use Rattle.std.specs.Int.{w128, cast_signed, cast_unsigned, ◌∣◌}
 use Rattle.std.proofs.lemmas.Bool.{cases_eq}
 use Rattle.std.proofs.lemmas.Int.{ints, quot_is, quot_fits, fits_signed_from_abs}
 use Rattle.whole_num.specs.Divisors.{IsGcd}
-use Rattle.whole_num.specs.Fractions.{IsSameFraction, IsReduced}
+use Rattle.whole_num.specs.Fractions.{IsSameFraction, IsInLowestTerms}
 use Rattle.whole_num.proofs.Multiples.{gcd_positive, cross, coprime, quotient_positive}
 
 neg_mul : (q d : ℕ) → neg_ℤ (pos q) *ℤ pos d ≡ neg_ℤ (pos (q * d))
@@ -24,7 +24,7 @@ pub same_value : (num : ℤ) (den g : ℕ) → IsGcd (unsigned_abs num) den g �
 same_value (pos n) den g is = ap pos (sym (cross n den g is.0 is.1))
 same_value (negsuc n) den g is = ap (λ z. neg_ℤ (pos z)) (sym (cross (suc n) den g is.0 is.1)) ∙ sym (neg_mul (suc n / g) den)
 
-pub reduced : (num : ℤ) (den g : ℕ) → 0 < den → IsGcd (unsigned_abs num) den g → IsReduced (int_div num (pos g)) (den / g)
+pub reduced : (num : ℤ) (den g : ℕ) → 0 < den → IsGcd (unsigned_abs num) den g → IsInLowestTerms (int_div num (pos g)) (den / g)
 reduced num den g h is = (quotient_positive den g h is.1, rw (abs_of_quotient num g) (coprime (unsigned_abs num) den g (gcd_positive (unsigned_abs num) den g is (omega arith)) is))
 
 size_positive : (num : ℤ) → (of_z w128 num ≡ 0 → ⊥) → 0 < unsigned_abs num

@@ -7,5 +7,5 @@ abbrev pub IsSameFraction : ℤ → ℕ → ℤ → ℕ → Type 0
 IsSameFraction num den num' den' = num *ℤ pos den' ≡ num' *ℤ pos den
 
 -- the denominator is positive and shares no divisor but 1 with the numerator
-abbrev pub IsReduced : ℤ → ℕ → Type 0
-IsReduced num den = (0 < den) × IsGcd (unsigned_abs num) den 1
+abbrev pub IsInLowestTerms : ℤ → ℕ → Type 0
+IsInLowestTerms num den = (0 < den) × IsGcd (unsigned_abs num) den 1

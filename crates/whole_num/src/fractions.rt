@@ -1,5 +1,5 @@
 ghost use Rattle.std.specs.Prelude.{◌≡◌, ◌≢◌, ◌<◌, ◌≤◌, pos, unsigned_abs};
-ghost use Rattle.whole_num.specs.Fractions.{IsSameFraction, IsReduced};
+ghost use Rattle.whole_num.specs.Fractions.{IsSameFraction, IsInLowestTerms};
 
 use crate::gcd;
 
@@ -9,7 +9,7 @@ pub fn reduce(num: i128, den: u128) -> (i128, u128)
     requires positive { 0 < den }
     requires not_least { num ≢ i128.MIN }
     ensures same { IsSameFraction num den result.0 result.1 }
-    ensures reduced { IsReduced result.0 result.1 }
+    ensures reduced { IsInLowestTerms result.0 result.1 }
     ensures nought { num ≡ pos 0 → result ≡ (pos 0, 1) }
     ensures no_greater_num { unsigned_abs result.0 ≤ unsigned_abs num }
     ensures no_greater_den { result.1 ≤ den }

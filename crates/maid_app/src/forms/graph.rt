@@ -7,7 +7,7 @@ ghost use Rattle.maid_model.specs.Nodes.{decisions_of};
 ghost use Rattle.relevance_graph.specs.Relevant.{IsRelevance};
 ghost use Rattle.relevance_graph.specs.Views.{relied_on_by};
 ghost use Rattle.maid_app.specs.Graph.{Graphs, IsGraphText, IsLastLine, relies_line};
-ghost use Rattle.maid_app.specs.GraphLines.{node_line};
+ghost use Rattle.maid_app.specs.GraphLines.{relies_line_of};
 ghost use Rattle.maid_app.specs.Outcome.{text};
 ghost use Rattle.maid_app.specs.Reading.{RefusesAs};
 ghost use Rattle.maid_app.specs.Refusal.{status_of, line_of};
@@ -15,8 +15,7 @@ ghost use Rattle.maid_app.specs.Refusal.{status_of, line_of};
 use crate::reading::Source;
 use crate::refusal::Refusal;
 use app_lines::list_line;
-use maid_model::{Diagram, Kind};
-use net_build::Names;
+use maid_model::{Diagram, Kind, Names};
 use relevance_graph::{Relevance, find_relevance};
 use std::alloc::{AllocError, Global};
 
@@ -50,7 +49,7 @@ fn push_node(
     requires within { v < length diagram.now.nodes }
     requires names { NamesFit diagram.now names.now }
     requires relevance { IsRelevance diagram.now.nodes relevance.now }
-    ensures { OnOk result (out.new.items ≡ out.old.items ++ node_line diagram.now.nodes names.now relevance.now v) }
+    ensures { OnOk result (out.new.items ≡ out.old.items ++ relies_line_of diagram.now.nodes names.now relevance.now v) }
 {
     match diagram.kind(v) {
         Kind::Decision => push_decision(alloc, out, names, v, relevance.relied_on(v)),

@@ -1,7 +1,7 @@
 use Rattle.std.proofs.Common.{◌<◌, length, subst, ◌∙◌}
 use Rattle.std.proofs.lemmas.List.{length-map}
 use Rattle.diagram_graph.specs.Needs.{IsIn}
-use Rattle.diagram_graph.specs.Cycles.{rows_of}
+use Rattle.diagram_graph.specs.Cycles.{lists_in}
 use Rattle.diagram_graph.specs.Placed.{IsPlacingOf, IsOrderOf, IsCycleOf}
 use Rattle.diagram_graph.proofs.Orders.{all_in, order_same, order_no_cycle, first_cycle_same}
 use Rattle.diagram_graph.proofs.cycles.first_cycle.Goals as goal
@@ -12,7 +12,7 @@ place_all-requires-clause-needs c v e h =
 
 pub returns-in-Order-clause-cycle : goal.returns-in-Order-clause-cycle
 returns-in-Order-clause-cycle c =
-    let lists = rows_of c.args.parents.now in
+    let lists = lists_in c.args.parents.now in
     let marks = c.deref.result.now in
     let order : IsOrderOf lists marks c.in-Order.field-0.items = subst (λ p. IsPlacingOf lists marks p) c.in-Order.is c.in_ok-place_all.ensures in
     order_no_cycle lists c.in-Order.field-0.items
@@ -22,7 +22,7 @@ returns-in-Order-clause-cycle c =
 
 pub returns-clause-cycle : goal.returns-clause-cycle
 returns-clause-cycle c =
-    let lists = rows_of c.args.parents.now in
+    let lists = lists_in c.args.parents.now in
     let marks = c.deref.result.now in
     let cycle : IsCycleOf lists marks c.in-Cycle.cycle.items = subst (λ p. IsPlacingOf lists marks p) c.in-Cycle.is c.in_ok-place_all.ensures in
     first_cycle_same (IsIn marks) (λ v. v < length lists) lists

@@ -5,7 +5,7 @@ use Rattle.std.proofs.lemmas.List.{length-set}
 use Rattle.std.proofs.lemmas.Result.{IfOk-weaker}
 use Rattle.diagram_graph.specs.Needs.{IsIn}
 use Rattle.diagram_graph.specs.Free.{IsFree}
-use Rattle.diagram_graph.specs.Rounds.{IsRound}
+use Rattle.diagram_graph.specs.Rounds.{IsListedRound}
 use Rattle.diagram_graph.proofs.Placings.{in_within, marks_push, read_mark}
 use Rattle.diagram_graph.proofs.Trails.{IsWalking, walking_push, round_from}
 use Rattle.diagram_graph.proofs.rounds.find_round.Goals as goal
@@ -45,5 +45,5 @@ returns g c =
     let within : back < length trail = subst (λ (xs : List ℕ). back < length xs) same c.place_of-back.ensures.within in
     let there : get_or trail back 0 ≡ c.trail.at = subst (λ (xs : List ℕ). get_or xs back 0 ≡ c.trail.at) same c.place_of-back.ensures.there in
     IfOk-weaker c.split_off.result _ _
-    (λ w e. subst (λ (xs : List ℕ). IsRound Left (g.N.Needs.lists c.args.needs.now) xs) (sym e) (round_from Left (g.N.Needs.lists c.args.needs.now) trail c.trail.at back c.trail.invariant.walking within there))
+    (λ w e. subst (λ (xs : List ℕ). IsListedRound Left (g.N.Needs.lists c.args.needs.now) xs) (sym e) (round_from Left (g.N.Needs.lists c.args.needs.now) trail c.trail.at back c.trail.invariant.walking within there))
     c.split_off.ensures.tail

@@ -3,7 +3,8 @@ use Rattle.std.proofs.Common.{◌≡◌, ℕ, length, ap, sym, ◌∙◌, subst,
 use Rattle.std.proofs.lemmas.List.{length-map}
 use Rattle.std.specs.Global.{Vec}
 use Rattle.maid_model.specs.Diagrams.{IsDiagram}
-use Rattle.net_build.specs.Lists.{list_of, numbers_of_lists, cells_of_lists}
+use Rattle.maid_model.specs.Names.{list_of}
+use Rattle.net_build.specs.Lists.{numbers_of_lists, cells_of_lists}
 use Rattle.net_build.specs.Stages.{NodeLists, LinkLists, TableLists, made_nodes, made_diagram}
 use Rattle.net_build.proofs.building.assemble.Goals as goal
 

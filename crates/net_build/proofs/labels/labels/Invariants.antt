@@ -1,7 +1,7 @@
 use Rattle.std.proofs.Common.{◌≡◌, true, All, drop, map, ◌++◌}
 use Rattle.std.specs.List.{list_all}
 use Rattle.net_build.specs.Blocks.{is_string}
-use Rattle.net_build.specs.Lists.{list_of}
+use Rattle.maid_model.specs.Names.{list_of}
 use Rattle.net_build.specs.Passes.{each}
 use Rattle.net_build.specs.Stages.{leaves_in}
 use Rattle.net_build.specs.Table.{label_row}

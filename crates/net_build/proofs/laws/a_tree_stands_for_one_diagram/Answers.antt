@@ -1,5 +1,5 @@
 use Rattle.weight_scale.specs.Laws.{ScalesInOneWay}
-use Rattle.net_build.specs.Blocks.{states_of}
+use Rattle.net_build.specs.Blocks.{block_states}
 use Rattle.net_build.specs.Laws.{OneDiagram}
 use Rattle.net_build.proofs.OneDiagram.{block_at, numerals_at, diagram_once}
 use Rattle.net_build.proofs.OneWeights.{chance_cells_once}
@@ -8,7 +8,7 @@ use Rattle.net_build.proofs.laws.a_tree_stands_for_one_diagram.Goals as goal
 
 one_diagram : ScalesInOneWay → OneDiagram
 one_diagram one_way text blocks d other names others nothing =
-    diagram_once text blocks (λ v l kind. chance_cells_once one_way (states_of text (block_at text blocks v)) (numerals_at text blocks v) (rows_whole text blocks nothing v l kind)) d other names others
+    diagram_once text blocks (λ v l kind. chance_cells_once one_way (block_states text (block_at text blocks v)) (numerals_at text blocks v) (rows_whole text blocks nothing v l kind)) d other names others
 
 pub returns : goal.returns
 returns c = record { one_diagram = one_diagram c.rows_scale_in_one_way.ensures }

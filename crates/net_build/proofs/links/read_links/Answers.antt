@@ -3,7 +3,7 @@ use Rattle.std.proofs.Common.{◌≡◌, length, map, None, AllPairs, ◌≢◌,
 use Rattle.std.proofs.lemmas.List.{length-map}
 use Rattle.std.specs.Option.{option_map}
 use Rattle.net_build.specs.Blocks.{node_blocks, names_of, potentials}
-use Rattle.net_build.specs.Linking.{trees_of, parents_in, potentials_steps, missing_steps, graph_steps, size_steps}
+use Rattle.net_build.specs.Linking.{borrowed_trees, parents_in, potentials_steps, missing_steps, graph_steps, size_steps}
 use Rattle.net_build.specs.Lists.{numbers_of_lists}
 use Rattle.net_build.specs.Passes.{◌▸◌}
 use Rattle.net_build.specs.Stages.{NodeLists, LinkLists, head_of}
@@ -39,7 +39,7 @@ pub check_links-requires-clause-potentials : goal.check_links-requires-clause-po
 check_links-requires-clause-potentials c =
     let names : c.nodes.inside.names ≡ names_of c.args.text.now (node_blocks c.args.syntax.now) = ap (λ (n : NodeLists). n.names) c.nodes.view_is ∙ ap (λ (n : NodeLists). n.names) c.requires.nodes in
     let heads : c.as_slice-heads.result.now ≡ map (head_of c.args.text.now (node_blocks c.args.syntax.now)) (node_blocks c.args.syntax.now) = c.as_slice-heads.ensures.value ∙ ap (λ (n : NodeLists). n.heads) c.nodes.view_is ∙ ap (λ (n : NodeLists). n.heads) c.requires.nodes in
-    let found : trees_of c.deref-2.result.now ≡ c.in_ok-links.links.potentials = ap trees_of c.deref-2.ensures.value ∙ ap (λ (l : LinkLists). l.potentials) c.links.view_is in
+    let found : borrowed_trees c.deref-2.result.now ≡ c.in_ok-links.links.potentials = ap borrowed_trees c.deref-2.ensures.value ∙ ap (λ (l : LinkLists). l.potentials) c.links.view_is in
     sym (length-map c.deref-2.result.now (option_map (λ p. p.now))) ∙ ap length found
     ∙ length_among c.args.text.now c.nodes.inside.names (potentials c.args.syntax.now) c.in_ok-links.links.potentials c.in_ok-links.ensures.potentials
     ∙ length_heads c.args.text.now c.args.syntax.now c.nodes.inside.names c.as_slice-heads.result.now names heads
@@ -48,18 +48,18 @@ pub returns-in_err-check_links-clause-rows : goal.returns-in_err-check_links-cla
 returns-in_err-check_links-clause-rows c =
     let names : c.nodes.inside.names ≡ names_of c.args.text.now (node_blocks c.args.syntax.now) = ap (λ (n : NodeLists). n.names) c.nodes.view_is ∙ ap (λ (n : NodeLists). n.names) c.requires.nodes in
     let heads : c.as_slice-heads.result.now ≡ map (head_of c.args.text.now (node_blocks c.args.syntax.now)) (node_blocks c.args.syntax.now) = c.as_slice-heads.ensures.value ∙ ap (λ (n : NodeLists). n.heads) c.nodes.view_is ∙ ap (λ (n : NodeLists). n.heads) c.requires.nodes in
-    let found : trees_of c.deref-2.result.now ≡ c.in_ok-links.links.potentials = ap trees_of c.deref-2.ensures.value ∙ ap (λ (l : LinkLists). l.potentials) c.links.view_is in
+    let found : borrowed_trees c.deref-2.result.now ≡ c.in_ok-links.links.potentials = ap borrowed_trees c.deref-2.ensures.value ∙ ap (λ (l : LinkLists). l.potentials) c.links.view_is in
     let rows : numbers_of_lists c.deref.result.now ≡ c.in_ok-links.links.parents = ap numbers_of_lists c.deref.ensures.value ∙ ap (λ (l : LinkLists). l.parents) c.links.view_is in
     hands_on (potential_pass c.args.text.now c.args.syntax.now ▸ missing_pass c.args.text.now c.args.syntax.now ▸ graph_pass c.args.text.now c.args.syntax.now ▸ size_pass c.args.text.now c.args.syntax.now) _ _ c.from_residual-in_err-check_links.ensures
-    (second_refuses (potential_pass c.args.text.now c.args.syntax.now) (missing_pass c.args.text.now c.args.syntax.now ▸ graph_pass c.args.text.now c.args.syntax.now ▸ size_pass c.args.text.now c.args.syntax.now) _ (potentials_into c.args.text.now c.args.syntax.now c.nodes.inside.names c.as_slice-heads.result.now names heads None c.in_ok-links.ensures.rows) (leads_refused (missing_steps c.as_slice-heads.result.now (trees_of c.deref-2.result.now) ▸ graph_steps c.as_slice-heads.result.now (numbers_of_lists c.deref.result.now) ▸ size_steps c.as_slice-heads.result.now (numbers_of_lists c.deref.result.now)) (missing_pass c.args.text.now c.args.syntax.now ▸ graph_pass c.args.text.now c.args.syntax.now ▸ size_pass c.args.text.now c.args.syntax.now) _ (rest_into c.args.text.now c.args.syntax.now c.nodes.inside.names c.as_slice-heads.result.now (trees_of c.deref-2.result.now) (numbers_of_lists c.deref.result.now) names heads (found ∙ c.in_ok-links.ensures.potentials) (rows ∙ c.in_ok-links.ensures.parents ∙ ap (parents_in c.args.text.now c.nodes.inside.names) (sym found))) c.in_err-check_links.ensures.rows))
+    (second_refuses (potential_pass c.args.text.now c.args.syntax.now) (missing_pass c.args.text.now c.args.syntax.now ▸ graph_pass c.args.text.now c.args.syntax.now ▸ size_pass c.args.text.now c.args.syntax.now) _ (potentials_into c.args.text.now c.args.syntax.now c.nodes.inside.names c.as_slice-heads.result.now names heads None c.in_ok-links.ensures.rows) (leads_refused (missing_steps c.as_slice-heads.result.now (borrowed_trees c.deref-2.result.now) ▸ graph_steps c.as_slice-heads.result.now (numbers_of_lists c.deref.result.now) ▸ size_steps c.as_slice-heads.result.now (numbers_of_lists c.deref.result.now)) (missing_pass c.args.text.now c.args.syntax.now ▸ graph_pass c.args.text.now c.args.syntax.now ▸ size_pass c.args.text.now c.args.syntax.now) _ (rest_into c.args.text.now c.args.syntax.now c.nodes.inside.names c.as_slice-heads.result.now (borrowed_trees c.deref-2.result.now) (numbers_of_lists c.deref.result.now) names heads (found ∙ c.in_ok-links.ensures.potentials) (rows ∙ c.in_ok-links.ensures.parents ∙ ap (parents_in c.args.text.now c.nodes.inside.names) (sym found))) c.in_err-check_links.ensures.rows))
 
 pub returns-clause-rows : goal.returns-clause-rows
 returns-clause-rows c =
     let names : c.nodes.inside.names ≡ names_of c.args.text.now (node_blocks c.args.syntax.now) = ap (λ (n : NodeLists). n.names) c.nodes.view_is ∙ ap (λ (n : NodeLists). n.names) c.requires.nodes in
     let heads : c.as_slice-heads.result.now ≡ map (head_of c.args.text.now (node_blocks c.args.syntax.now)) (node_blocks c.args.syntax.now) = c.as_slice-heads.ensures.value ∙ ap (λ (n : NodeLists). n.heads) c.nodes.view_is ∙ ap (λ (n : NodeLists). n.heads) c.requires.nodes in
-    let found : trees_of c.deref-2.result.now ≡ c.in_ok-links.links.potentials = ap trees_of c.deref-2.ensures.value ∙ ap (λ (l : LinkLists). l.potentials) c.links.view_is in
+    let found : borrowed_trees c.deref-2.result.now ≡ c.in_ok-links.links.potentials = ap borrowed_trees c.deref-2.ensures.value ∙ ap (λ (l : LinkLists). l.potentials) c.links.view_is in
     let rows : numbers_of_lists c.deref.result.now ≡ c.in_ok-links.links.parents = ap numbers_of_lists c.deref.ensures.value ∙ ap (λ (l : LinkLists). l.parents) c.links.view_is in
-    (potentials_into c.args.text.now c.args.syntax.now c.nodes.inside.names c.as_slice-heads.result.now names heads None c.in_ok-links.ensures.rows, rest_into c.args.text.now c.args.syntax.now c.nodes.inside.names c.as_slice-heads.result.now (trees_of c.deref-2.result.now) (numbers_of_lists c.deref.result.now) names heads (found ∙ c.in_ok-links.ensures.potentials) (rows ∙ c.in_ok-links.ensures.parents ∙ ap (parents_in c.args.text.now c.nodes.inside.names) (sym found)) None c.in_ok-check_links.ensures.rows)
+    (potentials_into c.args.text.now c.args.syntax.now c.nodes.inside.names c.as_slice-heads.result.now names heads None c.in_ok-links.ensures.rows, rest_into c.args.text.now c.args.syntax.now c.nodes.inside.names c.as_slice-heads.result.now (borrowed_trees c.deref-2.result.now) (numbers_of_lists c.deref.result.now) names heads (found ∙ c.in_ok-links.ensures.potentials) (rows ∙ c.in_ok-links.ensures.parents ∙ ap (parents_in c.args.text.now c.nodes.inside.names) (sym found)) None c.in_ok-check_links.ensures.rows)
 
 pub returns-clause-links : goal.returns-clause-links
 returns-clause-links c =

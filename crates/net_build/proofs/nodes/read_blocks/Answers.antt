@@ -2,8 +2,8 @@
 use Rattle.std.proofs.Common.{◌≡◌, ℕ, ◌<◌, List, All, map, length, get_or, ap, sym, ◌∙◌}
 use Rattle.std.proofs.lemmas.Result.{err_from_is_err_and}
 use Rattle.std.specs.Global.{Vec}
-use Rattle.net_build.specs.Blocks.{is_node, node_blocks, title_at, name_of, names_of, labels_of, states_of, agents_of, owner_of}
-use Rattle.net_build.specs.Lists.{list_of, lists_of}
+use Rattle.net_build.specs.Blocks.{is_node, node_blocks, title_at, block_name, names_of, block_labels, block_states, agents_of, owner_of}
+use Rattle.maid_model.specs.Names.{list_of, lists_of}
 use Rattle.net_build.specs.Stages.{head_of}
 use Rattle.net_build.specs.Table.{node_pass}
 use Rattle.net_parser.specs.Owned.{IsBlockOf}
@@ -53,7 +53,7 @@ pub returns-clause-nodes : goal.returns-clause-nodes
 returns-clause-nodes c =
     let done = nodes_done c.args.blocks.now c.loop-block.block-index c.loop-block-test.false in
     let names = c.loop-block.invariant.names ∙ ap (names_of c.args.text.now) done in
-    let labels = c.loop-block.invariant.labels ∙ ap (map (labels_of c.args.text.now)) done in
+    let labels = c.loop-block.invariant.labels ∙ ap (map (block_labels c.args.text.now)) done in
     let agents = c.loop-block.invariant.agents ∙ ap (agents_of c.args.text.now) done in
     let heads = c.loop-block.invariant.heads ∙ ap (map (head_of c.args.text.now (node_blocks c.args.blocks.now))) done in
     λ j. record { names = names j; labels = labels j; agents = agents j; heads = heads j }
@@ -69,11 +69,11 @@ loop-block-preserved c = elim c.if-is_node.branch [
       record {
         lead = after_step (rows_behind text) is_node_block blocks (node_pass text blocks) i b c.loop-block-test.true c.block-item.is kept c.loop-block.invariant.lead
             (rw (c.loop-block.invariant.names, c.loop-block.invariant.agents) at w.in_ok-entry.ensures.rows);
-        names = rw w.names-is (front_more (name_of text) is_node_block blocks i b c.loop-block.names _ w.in_ok-entry.entry.name.items c.loop-block-test.true c.block-item.is kept c.loop-block.invariant.names w.in_ok-add.ensures w.in_ok-entry.ensures.name);
-        labels = rw w.labels-is (front_pushed (λ (v : Vec (Vec ℕ)). list_of v.items) (labels_of text) is_node_block blocks i b c.loop-block.labels.items _ w.in_ok-entry.entry.labels c.loop-block-test.true c.block-item.is kept c.loop-block.invariant.labels w.in_ok-push.ensures.items w.in_ok-entry.ensures.labels);
+        names = rw w.names-is (front_more (block_name text) is_node_block blocks i b c.loop-block.names _ w.in_ok-entry.entry.name.items c.loop-block-test.true c.block-item.is kept c.loop-block.invariant.names w.in_ok-add.ensures w.in_ok-entry.ensures.name);
+        labels = rw w.labels-is (front_pushed (λ (v : Vec (Vec ℕ)). list_of v.items) (block_labels text) is_node_block blocks i b c.loop-block.labels.items _ w.in_ok-entry.entry.labels c.loop-block-test.true c.block-item.is kept c.loop-block.invariant.labels w.in_ok-push.ensures.items w.in_ok-entry.ensures.labels);
         agents = rw w.agents-is (agents_up_to text blocks i b _ _ c.loop-block-test.true c.block-item.is kept c.loop-block.invariant.agents w.in_ok-entry.ensures.agents);
         heads = rw w.heads-is (front_more (head_of text (node_blocks blocks)) is_node_block blocks i b c.loop-block.heads.items _ w.in_ok-entry.entry.head c.loop-block-test.true c.block-item.is kept c.loop-block.invariant.heads w.in_ok-push-2.ensures.items
-            (head_is w.in_ok-entry.entry.head (title_at b) (owner_of text (node_blocks blocks) b) (states_of text b) b w.in_ok-entry.ensures.at w.in_ok-entry.ensures.kind
+            (head_is w.in_ok-entry.entry.head (title_at b) (owner_of text (node_blocks blocks) b) (block_states text b) b w.in_ok-entry.ensures.at w.in_ok-entry.ensures.kind
             (w.in_ok-entry.ensures.owner ∙ owner_up_to text blocks i b _ _ c.loop-block-test.true c.block-item.is kept c.loop-block.invariant.agents w.in_ok-entry.ensures.agents)
             w.in_ok-entry.ensures.states));
       }
@@ -86,7 +86,7 @@ loop-block-preserved c = elim c.if-is_node.branch [
       record {
         lead = after_skip (rows_behind text) is_node_block blocks (node_pass text blocks) i c.block-item.result c.loop-block-test.true c.block-item.is left c.loop-block.invariant.lead;
         names = rw w.names-is (c.loop-block.invariant.names ∙ ap (names_of text) front);
-        labels = rw w.labels-is (c.loop-block.invariant.labels ∙ ap (map (labels_of text)) front);
+        labels = rw w.labels-is (c.loop-block.invariant.labels ∙ ap (map (block_labels text)) front);
         agents = rw w.agents-is (c.loop-block.invariant.agents ∙ ap (agents_of text) front);
         heads = rw w.heads-is (c.loop-block.invariant.heads ∙ ap (map (head_of text (node_blocks blocks))) front);
       }

@@ -1,6 +1,6 @@
 use Rattle.std.proofs.Common.{◌≡◌, map, take}
-use Rattle.net_build.specs.Blocks.{is_node, node_blocks, names_of, labels_of, agents_of}
-use Rattle.net_build.specs.Lists.{list_of, lists_of}
+use Rattle.net_build.specs.Blocks.{is_node, node_blocks, names_of, block_labels, agents_of}
+use Rattle.maid_model.specs.Names.{list_of, lists_of}
 use Rattle.net_build.specs.Stages.{head_of}
 use Rattle.net_build.specs.Table.{node_rows, node_pass}
 use Rattle.net_build.proofs.Passing.{Leads, AfterPass}
@@ -11,7 +11,7 @@ abbrev pub invariant-loop-block : goal.invariant-loop-block
 invariant-loop-block l = record {
   lead : Leads (AfterPass (λ earlier b. node_rows l.text (names_of l.text earlier) (agents_of l.text earlier) b) (λ b. is_node b.kind) l.blocks l.block-index) (node_pass l.text l.blocks);
   names : l.names ≡ names_of l.text (node_blocks (take l.block-index l.blocks));
-  labels : lists_of l.labels.items ≡ map (labels_of l.text) (node_blocks (take l.block-index l.blocks));
+  labels : lists_of l.labels.items ≡ map (block_labels l.text) (node_blocks (take l.block-index l.blocks));
   agents : list_of l.agents.items ≡ agents_of l.text (node_blocks (take l.block-index l.blocks));
   heads : l.heads.items ≡ map (head_of l.text (node_blocks l.blocks)) (node_blocks (take l.block-index l.blocks));
 }

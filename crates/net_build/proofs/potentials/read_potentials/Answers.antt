@@ -6,7 +6,7 @@ use Rattle.std.specs.Global.{Vec}
 use Rattle.net_build.proofs.FitLemmas.{none_fit_all}
 use Rattle.net_parser.specs.Trees.{BlockTree}
 use Rattle.net_build.specs.Blocks.{is_potential}
-use Rattle.net_build.specs.Linking.{trees_of, behind_rows, potentials_steps, potentials_among, parents_in, AreParents}
+use Rattle.net_build.specs.Linking.{borrowed_trees, behind_rows, potentials_steps, potentials_among, parents_in, AreParents}
 use Rattle.net_build.specs.Lists.{numbers_of_lists}
 use Rattle.net_build.proofs.LinkLemmas.{hands_on}
 use Rattle.net_build.proofs.Passing.{after_refused, after_skip, after_step, leads_all, filter_front_no}
@@ -29,7 +29,7 @@ returns-in_err-node-clause-rows c =
     let within : c.loop-block.block-index < length c.args.syntax.now = subst (λ (bs : List BlockTree). c.loop-block.block-index < length bs) blocks c.loop-block-test.true in
     let is : c.block-item.result ≡ get_or c.args.syntax.now c.loop-block.block-index c.block-item.result = c.block-item.is ∙ ap (λ bs. get_or bs c.loop-block.block-index c.block-item.result) blocks in
     let kept : is_potential c.block-item.result.kind ≡ true = sym c.is_potential.ensures ∙ c.if-is_potential.true in
-    let trees : trees_of c.deref.result.now ≡ potentials_among c.args.text.now c.args.names.now (filter (λ b. is_potential b.kind) (take c.loop-block.block-index c.args.syntax.now)) = ap trees_of c.deref.ensures.value ∙ c.loop-block.invariant.potentials in
+    let trees : borrowed_trees c.deref.result.now ≡ potentials_among c.args.text.now c.args.names.now (filter (λ b. is_potential b.kind) (take c.loop-block.block-index c.args.syntax.now)) = ap borrowed_trees c.deref.ensures.value ∙ c.loop-block.invariant.potentials in
     hands_on (potentials_steps c.args.text.now c.args.names.now c.args.heads.now c.args.syntax.now) _ _ c.from_residual-in_err-node.ensures
     (after_refused (behind_rows c.args.text.now c.args.names.now c.args.heads.now) (λ b. is_potential b.kind) c.args.syntax.now _ c.loop-block.block-index c.block-item.result _ within is kept c.loop-block.invariant.lead
     (rw (← trees) c.in_err-node.ensures.rows))
@@ -42,9 +42,9 @@ loop-block-preserved c =
     elim c.if-is_potential.branch [
       | then-is_potential+in_ok-node w ↦
           let kept : is_potential c.block-item.result.kind ≡ true = sym c.is_potential.ensures ∙ w.if-is_potential.true in
-          let trees : trees_of w.deref.result.now ≡ potentials_among c.args.text.now c.args.names.now (filter (λ b. is_potential b.kind) (take c.loop-block.block-index c.args.syntax.now)) = ap trees_of w.deref.ensures.value ∙ c.loop-block.invariant.potentials in
+          let trees : borrowed_trees w.deref.result.now ≡ potentials_among c.args.text.now c.args.names.now (filter (λ b. is_potential b.kind) (take c.loop-block.block-index c.args.syntax.now)) = ap borrowed_trees w.deref.ensures.value ∙ c.loop-block.invariant.potentials in
           let rows : behind_rows c.args.text.now c.args.names.now c.args.heads.now (filter (λ b. is_potential b.kind) (take c.loop-block.block-index c.args.syntax.now)) c.block-item.result None = rw (← trees) w.in_ok-node.ensures.rows in
-          let now : trees_of c.if-is_potential.potentials.items ≡ trees_of w.enter.new.potentials.items = ap (λ (v : Vec (Option _)). trees_of v.items) w.potentials-is in
+          let now : borrowed_trees c.if-is_potential.potentials.items ≡ borrowed_trees w.enter.new.potentials.items = ap (λ (v : Vec (Option _)). borrowed_trees v.items) w.potentials-is in
           let new : numbers_of_lists c.if-is_potential.parents.items ≡ numbers_of_lists w.enter.new.parents.items = ap (λ (v : Vec (Vec ℕ)). numbers_of_lists v.items) w.parents-is in
           record {
             potentials = entered_from c.args.text.now c.args.names.now c.args.syntax.now c.loop-block.block-index c.block-item.result w.in_ok-node.node _ _ within is kept c.requires.names w.in_ok-node.ensures.within w.in_ok-node.ensures.node rows.1.0 c.loop-block.invariant.potentials (now ∙ w.enter.ensures.potentials);
@@ -54,7 +54,7 @@ loop-block-preserved c =
           }
       | else-is_potential w ↦
           let left : is_potential c.block-item.result.kind ≡ false = sym c.is_potential.ensures ∙ w.if-is_potential.false in
-          let now : trees_of c.if-is_potential.potentials.items ≡ trees_of c.loop-block.potentials.items = ap (λ (v : Vec (Option _)). trees_of v.items) w.potentials-is in
+          let now : borrowed_trees c.if-is_potential.potentials.items ≡ borrowed_trees c.loop-block.potentials.items = ap (λ (v : Vec (Option _)). borrowed_trees v.items) w.potentials-is in
           let new : numbers_of_lists c.if-is_potential.parents.items ≡ numbers_of_lists c.loop-block.parents.items = ap (λ (v : Vec (Vec ℕ)). numbers_of_lists v.items) w.parents-is in
           record {
             potentials = now ∙ c.loop-block.invariant.potentials ∙ ap (potentials_among c.args.text.now c.args.names.now) (sym (filter_front_no (λ b. is_potential b.kind) c.args.syntax.now c.loop-block.block-index c.block-item.result within is left));

@@ -4,7 +4,7 @@ use Rattle.std.proofs.lemmas.List.{take_all, length-set}
 use Rattle.std.proofs.lemmas.List.Elements.{Contains-get_or}
 use Rattle.bayes_ball.specs.Search.{IsIn}
 use Rattle.maid_model.specs.Graph.{Arc}
-use Rattle.maid_model.specs.Relevance.{IsFixed}
+use Rattle.maid_model.specs.Relevance.{IsInFamily}
 use Rattle.relevance_graph.proofs.Marking.{marked_more}
 use Rattle.relevance_graph.proofs.Walking.{goal_free}
 use Rattle.relevance_graph.proofs.walks.mark_fixed.Goals as goal
@@ -21,7 +21,7 @@ loop-p-preserved c = marked_more c.args.decision c.parents-p-items.result.now c.
 
 pub returns : goal.returns
 returns c =
-    let marked : (x : ℕ) → IsIn c.loop-p.fixed x ↔ IsFixed (Arc c.args.diagram.now.nodes) c.args.decision x = λ x.
+    let marked : (x : ℕ) → IsIn c.loop-p.fixed x ↔ IsInFamily (Arc c.args.diagram.now.nodes) c.args.decision x = λ x.
     subst (λ (xs : List ℕ). IsIn c.loop-p.fixed x ↔ ((x ≡ c.args.decision) ⊎ Contains xs x)) (take_all _ c.parents-p-items.result.now c.loop-p-test.false ∙ c.parents-p-items.ensures.parents) (c.loop-p.invariant x)
     in record {
       marked = marked;

@@ -1,6 +1,6 @@
 -- A key that isn't there goes last.
 use Rattle.std.proofs.Common.{ℕ, List, [], ◌∷◌, ◌++◌, Contains, ap, sym, subst, ◌∙◌}
-use Rattle.net_build.specs.Lists.{list_of}
+use Rattle.maid_model.specs.Names.{list_of}
 use Rattle.net_build.proofs.NameLemmas.{one_more}
 use Rattle.net_build.proofs.node_names.NodeNames.add.Goals as goal
 

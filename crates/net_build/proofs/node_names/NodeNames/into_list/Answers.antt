@@ -1,7 +1,7 @@
 -- A set gives its keys in order.
 use Rattle.std.proofs.Common.{◌≡◌, ap, ◌∙◌}
 use Rattle.indexmap.proofs.CallerLemmas.{Drains-YieldsInOrder}
-use Rattle.net_build.specs.Lists.{list_of}
+use Rattle.maid_model.specs.Names.{list_of}
 use Rattle.net_build.proofs.node_names.NodeNames.into_list.Goals as goal
 
 pub returns : goal.returns

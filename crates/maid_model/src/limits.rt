@@ -1,0 +1,34 @@
+//! The limits of the program, each once: code and definitions cite these.
+
+/// The most nodes of a diagram, utilities among them.
+pub const MOST_NODES: usize = 256;
+
+/// The most states of a node.
+pub const MOST_STATES: usize = 256;
+
+/// The most parents of a node.
+pub const MOST_PARENTS: usize = 16;
+
+/// The most cells of one table or one rule.
+pub const MOST_CELLS: usize = 65_536;
+
+/// The most cells of all rules together.
+pub const MOST_RULE_CELLS: usize = 262_144;
+
+/// The most agents of a diagram.
+pub const MOST_AGENTS: usize = 16;
+
+/// The most decimals by which a diagram's utilities are scaled.
+pub const MOST_DECIMALS: u32 = 30;
+
+/// The most bytes of a name, a label or an agent.
+pub const MOST_NAME_BYTES: usize = 255;
+
+/// The greatest absolute value of a weight total, of a scaled utility and of the weight bound: 2^126 - 1.
+pub const GREATEST_NUMBER: u128 = (1 << 126) - 1;
+
+/// The most worlds that are listed.
+pub const MOST_WORLDS: u128 = 65_536;
+
+/// Counts stop here: 10^18.
+pub const COUNT_END: u128 = 1_000_000_000_000_000_000;

@@ -1,7 +1,0 @@
-use Rattle.std.proofs.Common.{◌≡◌, ℕ, ◌<◌, [], slice_index_or}
-use Rattle.net_build.specs.Lists.{list_of}
-use Rattle.net_build.proofs.names.first_place.Given as goal
-
--- none of the names before has it
-abbrev pub invariant-loop-place : goal.invariant-loop-place
-invariant-loop-place l = (k : ℕ) → k < l.place → slice_index_or (list_of l.names) k [] ≡ l.name → ⊥
