@@ -14,14 +14,16 @@ use Rattle.net_build.specs.Building.{AreUtilityCells}
 use Rattle.net_build.specs.Scaling.{AreDecimals, decimal_at, IsWholeBy, IsScaledBy}
 use Rattle.net_build.specs.Blocks.{no_token}
 use Rattle.net_build.specs.Table.{IsWideValue, wide_row, length_row}
-use Rattle.net_build.specs.Passes.{Pass, Found, each, Refuses}
+use Rattle.first_fault.specs.Passes.{Pass, each}
+use Rattle.first_fault.specs.Answers.{IsFaultOrNoMemory}
+use Rattle.net_build.specs.Passes.{Found, build_fault}
 use Rattle.net_build.specs.declared.faults.BuildFault.{BuildFault}
 use Rattle.net_build.specs.declared.faults.BuildFault.TheVariants.{Fault, NoMemory}
 use Rattle.net_build.specs.declared.faults.BuildKind.TheVariants as kinds
 use Rattle.std.proofs.lemmas.Bool.{false≢true}
 use Rattle.std.specs.Option.{SomeIff, is_some}
-use Rattle.net_build.proofs.Passing.{Leads}
-use Rattle.net_build.proofs.EachPassing.{EachFrom, each_step_at, each_refused_at, each_refuses_none}
+use Rattle.first_fault.proofs.Leading.{Leads}
+use Rattle.first_fault.proofs.Items.{EachFrom, each_step_at, each_refused_at, each_refuses_none}
 use Rattle.net_build.specs.TableParts.{IsScaleOf, scaled_pass, value_at_scale, Fits}
 use Rattle.net_build.specs.Zero.{nought}
 
@@ -129,7 +131,7 @@ fit None P v h e = absurd (false≢true e)
 fit (Some x) P v h e = h.0
 
 -- the number at a place is wide where it does not fit, and only there
-module _ (text : List ℕ) (tokens : List Token) (ds : List Decimal) (scale : ℕ) (W : Pass) (i : ℕ) (d : Decimal) (r : Option ℤ) (within : i < length tokens) (len : length ds ≡ length tokens) (most : All (λ e. e.k ≤ scale) ds) (is : d ≡ get_or ds i d) (tried : SomeIff r (Fits scale d) (value_at_scale scale d)) (are : AreDecimals (map (token_bytes text) tokens) ds) (lead : Leads (EachFrom (wide_row text scale) tokens i) W) where
+module _ (text : List ℕ) (tokens : List Token) (ds : List Decimal) (scale : ℕ) (W : Pass Found) (i : ℕ) (d : Decimal) (r : Option ℤ) (within : i < length tokens) (len : length ds ≡ length tokens) (most : All (λ e. e.k ≤ scale) ds) (is : d ≡ get_or ds i d) (tried : SomeIff r (Fits scale d) (value_at_scale scale d)) (are : AreDecimals (map (token_bytes text) tokens) ds) (lead : Leads (EachFrom (wide_row text scale) tokens i) W) where
   here : decimal_at ds i ≡ d
   here = get_or_default ds i nought d (omega (arith, len)) ∙ sym is
 
@@ -139,8 +141,8 @@ module _ (text : List ℕ) (tokens : List Token) (ds : List Decimal) (scale : �
   enough : d.k ≤ scale
   enough = subst (λ (e : Decimal). e.k ≤ scale) here (most i nought (omega (arith, len)))
 
-  pub wide_refused : (fault : BuildFault) → is_some r ≡ false → fault ≡ Fault (get_or tokens i no_token).start kinds.WideValue → Refuses W fault
-  wide_refused fault none what = rw what (each_refused_at (wide_row text scale) tokens W i no_token (Fault (get_or tokens i no_token).start kinds.WideValue) within lead (unfit_wide (token_bytes text (get_or tokens i no_token)) d scale its enough (unfit r _ _ tried none), refl))
+  pub wide_refused : (fault : BuildFault) → is_some r ≡ false → fault ≡ Fault (get_or tokens i no_token).start kinds.WideValue → IsFaultOrNoMemory build_fault W fault
+  wide_refused fault none what = rw what (each_refused_at (wide_row text scale) tokens W i no_token (build_fault (Fault (get_or tokens i no_token).start kinds.WideValue)) within lead (unfit_wide (token_bytes text (get_or tokens i no_token)) d scale its enough (unfit r _ _ tried none), refl))
 
   pub wide_on : is_some r ≡ true → Leads (EachFrom (wide_row text scale) tokens (i + 1)) W
   wide_on some = each_step_at (wide_row text scale) tokens W i no_token within lead (fits_narrow (token_bytes text (get_or tokens i no_token)) d scale its enough (fit r _ _ tried some))
@@ -156,11 +158,11 @@ long_or_not : (text : List ℕ) (t : Token) (f : Found) → length_row text t No
 long_or_not text t f nothing here = nothing here.0
 
 -- where no number is too long, only want of memory refuses
-pub short_refuses : (text : List ℕ) (tokens : List Token) (fault : BuildFault) → each (length_row text) tokens None → Refuses (each (length_row text) tokens) fault → Refuses (scaled_pass text tokens) fault
-short_refuses text tokens fault short h = each_refuses_none (length_row text) (scaled_pass text tokens) (long_or_not text) tokens fault short h
+pub short_refuses : (text : List ℕ) (tokens : List Token) (fault : BuildFault) → each (length_row text) tokens None → IsFaultOrNoMemory build_fault (each (length_row text) tokens) fault → IsFaultOrNoMemory build_fault (scaled_pass text tokens) fault
+short_refuses text tokens fault short h = each_refuses_none (length_row text) (scaled_pass text tokens) (λ token. long_or_not text token) tokens (build_fault fault) short h
 
 -- a wide value to that scale
-pub scaled_refuses : (text : List ℕ) (tokens : List Token) (scale : ℕ) (fault : BuildFault) → IsScaleOf text tokens scale → Refuses (each (wide_row text scale) tokens) fault → Refuses (scaled_pass text tokens) fault
+pub scaled_refuses : (text : List ℕ) (tokens : List Token) (scale : ℕ) (fault : BuildFault) → IsScaleOf text tokens scale → IsFaultOrNoMemory build_fault (each (wide_row text scale) tokens) fault → IsFaultOrNoMemory build_fault (scaled_pass text tokens) fault
 scaled_refuses text tokens scale NoMemory is h = tt
 scaled_refuses text tokens scale (Fault at kind) is h = (scale, is, h)
 

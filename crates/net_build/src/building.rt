@@ -6,7 +6,8 @@ ghost use Rattle.maid_model.specs.Names.{NamesFit};
 ghost use Rattle.net_build.specs.Building.{StandsFor};
 ghost use Rattle.net_build.specs.Form.{HasTextForm};
 ghost use Rattle.net_build.specs.Lists.{numbers_of_lists, cells_of_lists};
-ghost use Rattle.net_build.specs.Passes.{Passes};
+ghost use Rattle.first_fault.specs.Answers.{Passes};
+ghost use Rattle.net_build.specs.Passes.{build_fault};
 ghost use Rattle.net_build.specs.Plain.{IsPlain};
 ghost use Rattle.net_build.specs.Stages.{made_node, made_nodes, made_diagram};
 ghost use Rattle.net_build.specs.Table.{all_passes};
@@ -95,7 +96,7 @@ pub fn build(
     requires tokens { IsTokens text.now tokens.now }
     requires tree { Spells syntax.now (lexemes text.now tokens.now) }
     requires blocks { All (IsBlockOf text.now) syntax.now }
-    ensures rows { Passes (all_passes text.now syntax.now) result }
+    ensures rows { Passes build_fault (all_passes text.now syntax.now) result }
     ensures stands { IfOk result (λ built. StandsFor text.now syntax.now built.0 built.1) }
     ensures diagram { IfOk result (λ built. IsDiagram built.0) }
     ensures fit { IfOk result (λ built. NamesFit built.0 built.1) }

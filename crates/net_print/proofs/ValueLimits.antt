@@ -7,7 +7,7 @@ use Rattle.net_lexer.specs.Token.{token_bytes}
 use Rattle.net_lexer.specs.declared.tokens.Token.{Token}
 use Rattle.weight_scale.specs.Numeral.{numerator, denominator}
 use Rattle.weight_scale.specs.declared.decimal.Decimal.{Decimal}
-use Rattle.net_build.specs.Passes.{each}
+use Rattle.first_fault.specs.Passes.{each}
 use Rattle.net_build.specs.Table.{IsNumberTooLong, IsWideValue, length_row, wide_row}
 use Rattle.net_print.specs.Printed.{value_text}
 use Rattle.net_print.proofs.Faultless.{each_clear}
