@@ -90,7 +90,7 @@ pub not_whole : (numeral : List ℕ) (d : Decimal) (k : ℕ) → IsLeastDecimalO
 not_whole numeral d k is fewer (x, scaled) =
     let value : x *ℤ pos (denominator numeral) ≡ numerator numeral *ℤ pos (10 ^ k) = one_more x (numerator numeral) (10 ^ k) (denominator numeral) scaled in
     let near : unsigned_abs x ≤ unsigned_abs d.m = smaller_by (unsigned_abs x) (unsigned_abs d.m) (denominator numeral) (unsigned_abs (numerator numeral)) (10 ^ k) (10 ^ (d.k - k)) (den_positive numeral) (tens_positive (d.k - k)) (sizes x (numerator numeral) (10 ^ k) (denominator numeral) value) (sizes d.m (numerator numeral) (10 ^ d.k) (denominator numeral) is.value ∙ ap (λ y. unsigned_abs (numerator numeral) * y) (tens_split k d.k (omega arith))) in
-    let small : unsigned_abs x < 2 ^ 126 = omega (arith, near, d.small) in
+    let small : unsigned_abs x ≤ greatest_number = omega (arith, near, d.small) in
     let few : k ≤ 30 = omega (arith, d.few) in
     let other : Decimal = record { m = x; k = k; small = small; few = few } in
     let least : d.k ≤ k = is.least other value in
