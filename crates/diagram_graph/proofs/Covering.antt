@@ -14,7 +14,7 @@ use Rattle.std.proofs.lemmas.Map.Steps.{length-le_from_distinct_below}
 use Rattle.maid_model.specs.Graph.{IsAcyclic}
 use Rattle.maid_model.specs.Placing.{IsLeast, Remains, CanPlace, IsPlacing}
 use Rattle.diagram_graph.specs.Needs.{needs_of, NeedsItem}
-use Rattle.diagram_graph.specs.Rounds.{IsFirstLeft, IsListedRound, IsFirstCycle}
+use Rattle.diagram_graph.specs.Rounds.{IsFirstLeft, IsListedRound}
 use Rattle.diagram_graph.specs.Cycles.{ListedArc, IsParentCycle}
 use Rattle.diagram_graph.specs.Laws.{CycleOrNone}
 use Rattle.diagram_graph.proofs.Orders.{order_no_cycle}

@@ -63,7 +63,7 @@ le_or_more a b h = omega (arith, h)
 pub unfit_wide : (numeral : List ℕ) (d : Decimal) (scale : ℕ) → IsLeastDecimalOf (numerator numeral) (denominator numeral) d → d.k ≤ scale → (Fits scale d → ⊥) → IsWideValue scale numeral
 unfit_wide numeral d scale is enough unfit = wide_by greatest_number (unsigned_abs d.m) (10 ^ (scale - d.k)) (denominator numeral) (unsigned_abs (numerator numeral)) (10 ^ d.k) (10 ^ scale) (den_positive numeral) (sizes d.m (numerator numeral) (10 ^ d.k) (denominator numeral) is.value) (tens_split d.k scale enough) (le_or_more _ _ unfit)
 
-whole_by : (m num : ℤ) (t den p : ℕ) → m *ℤ pos den ≡ num *ℤ pos p → (m *ℤ pos t) *ℤ pos den ≡ (num *ℤ pos (p * t)) *ℤ pos 1
+pub whole_by : (m num : ℤ) (t den p : ℕ) → m *ℤ pos den ≡ num *ℤ pos p → (m *ℤ pos t) *ℤ pos den ≡ (num *ℤ pos (p * t)) *ℤ pos 1
 whole_by m num t den p e =
     let by = λ (k : ℕ) (a b : ℕ) (q : a ≡ b). ap (λ x. x * k) q in
     let flat : up m * den + down num * p ≡ up num * p + down m * den = omega (arith, ints, e) in
