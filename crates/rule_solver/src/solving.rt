@@ -1,12 +1,12 @@
 ghost use Rattle.std.specs.Prelude.{◌≤◌, ℕ, IfOk, IfErr};
-ghost use Rattle.maid_model.specs.Answers.{IsAnswer, pure_profile};
-ghost use Rattle.maid_model.specs.Bounds.{KeepsBound, world_count, most_worlds};
+ghost use Rattle.maid_model.specs.Answers.{IsAnswer, KeepsWorth, answered};
+ghost use Rattle.maid_model.specs.declared.limits.TheConstants.{MOST_WORLDS};
+ghost use Rattle.maid_model.specs.Bounds.{KeepsBound, world_count};
 ghost use Rattle.maid_model.specs.Diagrams.{IsDiagram};
 ghost use Rattle.maid_model.specs.Placing.{IsRelianceOrder};
 ghost use Rattle.maid_model.specs.Subgames.{IsOptimal, IsSubgamePerfect, OwnsAll};
 ghost use Rattle.relevance_graph.specs.Relevant.{IsRelevance};
 ghost use Rattle.rule_solver.specs.Faults.{Tells};
-ghost use Rattle.rule_solver.specs.Promised.{KeepsWorth};
 
 use crate::SolveFault;
 use crate::answering::answer_all;
@@ -51,7 +51,7 @@ fn solve_ordered(
     requires relevance { IsRelevance diagram.now.nodes relevance.now }
     requires order { IsRelianceOrder diagram.now.nodes order.now }
     ensures ok { IfOk result (IsAnswer diagram.now) }
-    ensures within { IfOk result (λ solved. KeepsBound diagram.now × (world_count diagram.now.nodes ≤ most_worlds)) }
+    ensures within { IfOk result (λ solved. KeepsBound diagram.now × (world_count diagram.now.nodes ≤ MOST_WORLDS)) }
     ensures diagram { IfOk result (λ solved. IsDiagram diagram.now) }
     ensures fault { IfErr result (Tells diagram.now) }
 {
@@ -71,13 +71,13 @@ fn solve_ordered(
 /// passed, and `NotBuilt` where there are more than 65,536 worlds. `NoMemory` may come at any point.
 pub fn solve(alloc: Global, diagram: &Diagram) -> Result<Solved, SolveFault>
     ensures ok { IfOk result (IsAnswer diagram.now) }
-    ensures within { IfOk result (λ solved. KeepsBound diagram.now × (world_count diagram.now.nodes ≤ most_worlds)) }
+    ensures within { IfOk result (λ solved. KeepsBound diagram.now × (world_count diagram.now.nodes ≤ MOST_WORLDS)) }
     // Each refusal says that those before it don't apply.
     ensures fault { IfErr result (Tells diagram.now) }
     // From no subgame start does an agent gain by other rules of its own.
-    ensures subgame_perfect { IfOk result (λ solved. IsSubgamePerfect diagram.now.nodes (pure_profile diagram.now.nodes solved.answers)) }
+    ensures subgame_perfect { IfOk result (λ solved. IsSubgamePerfect diagram.now.nodes (answered diagram.now solved)) }
     // No profile is worth more to an agent that owns all decisions.
-    ensures optimal { IfOk result (λ solved. (agent : ℕ) → OwnsAll diagram.now.nodes agent → IsOptimal diagram.now.nodes (pure_profile diagram.now.nodes solved.answers) agent) }
+    ensures optimal { IfOk result (λ solved. (agent : ℕ) → OwnsAll diagram.now.nodes agent → IsOptimal diagram.now.nodes (answered diagram.now solved) agent) }
     // In a row that the answered profile reaches, the printed worth is also that under the profile itself.
     ensures worth { IfOk result (KeepsWorth diagram.now) }
 {
