@@ -11,6 +11,9 @@ use Rattle.maid_model.specs.Gains.{gain_at, mass_at}
 use Rattle.maid_model.specs.Relevance.{IsLive, ReliesOn}
 use Rattle.maid_model.specs.Subgames.{IsSubgamePerfect, IsOptimal, OwnsAll}
 use Rattle.maid_model.specs.Answers.{IsAnswer, IsBase, FitsDiagram, IsWorthAt, KeepsWorth, answered, answer_at}
+use Rattle.maid_model.specs.Accepted.{IsAccepted}
+use Rattle.maid_model.specs.Placing.{HasRelianceOrder}
+use Rattle.maid_model.specs.Values.{PrintsOptima}
 use Rattle.maid_laws.specs.Exchange.{IsBestInBases}
 
 -- at each row of v in which its base has mass, no state has a greater gain against the base than the answered choice
@@ -40,6 +43,24 @@ abbrev pub AnswersAreOptimal : Type 0
 AnswersAreOptimal =
     (d : DiagramView) (solved : SolvedView) (agent : ℕ) → IsGraph d.nodes → HasChanceTables d.nodes → IsAnswer d solved → OwnsAll d.nodes agent
     → IsOptimal d.nodes (answered d solved) agent
+
+-- Where one agent owns all decisions, the fraction printed for it is the optimum of the diagram.
+abbrev pub GainsAreOptima : Type 0
+GainsAreOptima = (d : DiagramView) (solved : SolvedView) → IsGraph d.nodes → HasChanceTables d.nodes → IsAnswer d solved → PrintsOptima d solved
+
+-- An answer is an accepted report.
+abbrev pub AnswersAreAccepted : Type 0
+AnswersAreAccepted = (d : DiagramView) (solved : SolvedView) → IsAnswer d solved → IsAccepted d solved
+
+-- A diagram has one answer at most: the order, the choices, the worths and the gains are all settled.
+abbrev pub OneAnswer : Type 0
+OneAnswer =
+    (d : DiagramView) (one other : SolvedView) → IsGraph d.nodes → HasChanceTables d.nodes
+    → IsAnswer d one → IsAnswer d other → one ≡ other
+
+-- Where its decisions have an order of solving it has one.
+abbrev pub AnswerExists : Type 0
+AnswerExists = (d : DiagramView) → IsGraph d.nodes → HasChanceTables d.nodes → HasRelianceOrder d.nodes → (solved : SolvedView) × IsAnswer d solved
 
 -- Where a profile has mass in a row, so has the base of the decision in it, and what a state of a live decision is worth against the base it is worth under the profile itself.
 abbrev pub WorthInBase : Type 0

@@ -1,8 +1,8 @@
 -- The optimum of one agent, and what information and control are worth to it (Everitt et al. 2021).
-use Rattle.std.specs.Prelude.{◌≡◌, ℕ, ◌<◌, ◌*◌, ◌^◌, List, length, pos, ◌+ℤ◌, ◌*ℤ◌}
+use Rattle.std.specs.Prelude.{◌≡◌, ℕ, ◌<◌, ◌*◌, ◌^◌, List, length, slice_index_or, pos, ◌+ℤ◌, ◌*ℤ◌}
 use Rattle.maid_model.specs.declared.answers.Ratio.{Ratio}
 use Rattle.maid_model.specs.declared.diagrams.Kind.TheVariants.{Chance, Utility}
-use Rattle.maid_model.specs.Views.{NodeView, RuleView, AnswerView}
+use Rattle.maid_model.specs.Views.{NodeView, DiagramView, RuleView, AnswerView, SolvedView}
 use Rattle.maid_model.specs.Nodes.{IsDecision, node_at}
 use Rattle.maid_model.specs.Graph.{Arc, Descends, IsGraph}
 use Rattle.maid_model.specs.Answers.{IsReduced, IsExpectedUtility}
@@ -15,6 +15,12 @@ pub record IsOptimum (nodes : List NodeView) (decimals agent : ℕ) (r : Ratio) 
   pub best : List RuleView
   pub optimal : IsOptimal nodes best agent
   pub worth : IsExpectedUtility nodes (10 ^ decimals) best agent r
+
+-- For each agent that owns all decisions the answer prints its optimum.
+abbrev pub PrintsOptima : DiagramView → SolvedView → Type 0
+PrintsOptima d solved =
+    (agent : ℕ) (r : Ratio) → agent < d.agents → OwnsAll d.nodes agent
+    → IsOptimum d.nodes d.decimals agent (slice_index_or solved.gains agent r)
 
 -- the reduced fraction that is a less b
 pub record IsDifference (r a b : Ratio) : Type 0 where

@@ -2,6 +2,7 @@ use Rattle.std.proofs.Common.{ℕ, sym, subst}
 use Rattle.maid_model.specs.Answers.{KeepsWorth, answered}
 use Rattle.maid_model.specs.Placing.{IsRelianceCycle}
 use Rattle.maid_model.specs.Subgames.{IsOptimal, IsSubgamePerfect, OwnsAll}
+use Rattle.maid_model.specs.Values.{PrintsOptima}
 use Rattle.relevance_graph.specs.Relevant.{IsBlockedBy, IsOutcome}
 use Rattle.rule_solver.proofs.Promises.{both}
 use Rattle.rule_solver.proofs.solving.solve.Goals as goal
@@ -16,6 +17,11 @@ pub returns-in-Ok-clause-optimal : goal.returns-in-Ok-clause-optimal
 returns-in-Ok-clause-optimal c =
     both c.args.diagram.now c.solve_ordered.result (λ solved. (agent : ℕ) → OwnsAll c.args.diagram.now.nodes agent → IsOptimal c.args.diagram.now.nodes (answered c.args.diagram.now solved) agent)
     (λ solved d h agent owns. c.answers_are_optimal.ensures.law c.args.diagram.now solved agent d.graph d.tables h owns) c.solve_ordered.ensures.diagram c.solve_ordered.ensures.ok
+
+pub returns-in-Ok-clause-optimum : goal.returns-in-Ok-clause-optimum
+returns-in-Ok-clause-optimum c =
+    both c.args.diagram.now c.solve_ordered.result (PrintsOptima c.args.diagram.now)
+    (λ solved d h. c.gains_are_optima.ensures.law c.args.diagram.now solved d.graph d.tables h) c.solve_ordered.ensures.diagram c.solve_ordered.ensures.ok
 
 pub returns-in-Ok-clause-worth : goal.returns-in-Ok-clause-worth
 returns-in-Ok-clause-worth c =
