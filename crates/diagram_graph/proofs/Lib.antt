@@ -3,3 +3,4 @@ pub mod Trails
 pub mod Rings
 pub mod Orders
 pub mod OneCycle
+pub mod Covering
