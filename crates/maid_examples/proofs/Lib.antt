@@ -4,3 +4,10 @@ pub mod Turning
 pub mod Reliance
 pub mod Starting
 pub mod Rooms
+pub mod Threats
+pub mod Cycles
+pub mod TwoStates
+pub mod Fractions
+pub mod Optimal
+pub mod ByCopy
+pub mod CopyReports

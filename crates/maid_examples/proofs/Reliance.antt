@@ -12,14 +12,14 @@ use Rattle.maid_examples.specs.NodeBetween as between
 use Rattle.maid_examples.proofs.Members.{Among, among_of}
 use Rattle.maid_examples.proofs.Turning.{end_of_walk}
 
-decision : (nodes : List NodeView) (v : ℕ) → v < length nodes → (node_at nodes v).kind ≡ Decision → IsDecision nodes v
+pub decision : (nodes : List NodeView) (v : ℕ) → v < length nodes → (node_at nodes v).kind ≡ Decision → IsDecision nodes v
 decision nodes v l k = record { within = l; kind = k }
 
-live : (nodes : List NodeView) (v : ℕ) → v < length nodes → 1 < states_of nodes v → IsLive nodes v
+pub live : (nodes : List NodeView) (v : ℕ) → v < length nodes → 1 < states_of nodes v → IsLive nodes v
 live nodes v l k = record { within = l; states = inr k }
 
 -- the walk from the new parent of e through e to the utility
-relies : (nodes : List NodeView) (d e goal : ℕ) → IsGraph nodes → d ≢ e → IsDecision nodes d → IsDecision nodes e → IsLive nodes d → IsLive nodes e → IsGoal nodes d goal → Arc nodes e goal → (Arc nodes e d → ⊥) → ReliesOn nodes d e
+pub relies : (nodes : List NodeView) (d e goal : ℕ) → IsGraph nodes → d ≢ e → IsDecision nodes d → IsDecision nodes e → IsLive nodes d → IsLive nodes e → IsGoal nodes d goal → Arc nodes e goal → (Arc nodes e d → ⊥) → ReliesOn nodes d e
 relies nodes d e goal g n kd ke ld le is arc unseen = record {
   apart = n;
   from_decision = kd;

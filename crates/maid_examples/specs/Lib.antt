@@ -1,4 +1,9 @@
+pub mod Samples
 pub mod FollowerLeader
 pub mod CopySeen
 pub mod NodeBetween
+pub mod EmptyThreat
+pub mod CopyAnswered
+pub mod Tie
+pub mod Pennies
 pub mod Trial
