@@ -1,25 +1,13 @@
 -- The answer by a copy: who relies on whom, the bases, and the rows by computation.
-use Rattle.std.proofs.Common.{◌≡◌, ◌≢◌, ◌⊎◌, ◌∙◌, ◌↔◌, ℕ, zero, suc, ◌+◌, ◌*◌, ◌<◌, List, [], ◌∷◌, take, length, slice_index, slice_index_or, refl, sym, ap, subst, inl, inr, arith, rules, ℤ, pos, ◌+ℤ◌, ◌*ℤ◌, ◌≤ℤ◌, ◌<ℤ◌, Option, Some, None, IfSome, Contains}
-use Rattle.std.proofs.lemmas.Int.{ints}
-use Rattle.std.proofs.lemmas.List.Elements.{All-cons}
-use Rattle.maid_model.specs.declared.diagrams.Kind.TheVariants.{Chance, Decision, Utility}
-use Rattle.maid_model.specs.declared.answers.Ratio.{Ratio}
-use Rattle.maid_model.specs.declared.answers.Row.{Row}
-use Rattle.maid_model.specs.Laws.{TestsDiagrams, TestsProfiles}
-use Rattle.maid_model.specs.Views.{RuleView, SolvedView}
+use Rattle.std.proofs.Common.{◌≡◌, ◌⊎◌, ◌↔◌, ℕ, zero, suc, ◌<◌, [], ◌∷◌, refl, sym, subst, inl, inr, arith}
+use Rattle.maid_model.specs.declared.diagrams.Kind.TheVariants.{Decision, Utility}
+use Rattle.maid_model.specs.Laws.{TestsDiagrams}
 use Rattle.maid_model.specs.Nodes.{IsDecision}
 use Rattle.maid_model.specs.Graph.{Arc, Here, IsGraph}
-use Rattle.maid_model.specs.Gains.{gain_at, mass_at, gain_of, mass}
 use Rattle.maid_model.specs.Relevance.{IsLive, IsInFamily, IsGoal, ReliesOn}
 use Rattle.maid_model.specs.Walks.{WithArc, WithNode, IsJoined, IsCollider}
-use Rattle.maid_model.specs.Placing.{IsRelianceOrder, CanPlace, IsLeast}
-use Rattle.maid_model.specs.Profiles.{IsProfile, SameRule, uniform_profile}
-use Rattle.maid_model.specs.Answers.{IsAnswer, IsAnswerAt, IsAnswerRow, IsBase, IsReduced, IsFraction, IsGains, FitsDiagram, FitsAnswer, pure_profile, rows_at, no_row}
-use Rattle.maid_model.specs.Accepted.{IsAccepted, IsAcceptedAt, IsAcceptedRow, IsReliedFirst}
-use Rattle.maid_examples.specs.Samples.{rule, whole, reached, never}
-use Rattle.maid_examples.specs.CopyAnswered.{trace, trace_diagram, report, HasReliance, HasAnswer, HasAccepted}
+use Rattle.maid_examples.specs.CopyAnswered.{trace, trace_diagram, HasReliance}
 use Rattle.maid_examples.proofs.Members.{Among, among_of}
-use Rattle.maid_examples.proofs.Fractions.{reduced_1, worth_or, itself, none}
 use Rattle.maid_examples.proofs.Reliance.{decision, live, relies}
 use Rattle.maid_examples.proofs.Turning.{end_of_walk}
 

@@ -1,18 +1,17 @@
 -- What is answered by a copy: the bases and the rows by computation, and what a wrong entry would ask for.
-use Rattle.std.proofs.Common.{◌≡◌, ◌≢◌, ◌⊎◌, ◌∙◌, ℕ, zero, suc, ◌+◌, ◌*◌, ◌<◌, List, [], ◌∷◌, take, length, slice_index, slice_index_or, refl, sym, ap, subst, inl, inr, arith, rules, ℤ, pos, ◌+ℤ◌, ◌*ℤ◌, ◌≤ℤ◌, ◌<ℤ◌, nat_abs, Option, Some, None, IfSome, Contains}
+use Rattle.std.proofs.Common.{◌≡◌, ℕ, zero, suc, ◌*◌, ◌<◌, List, [], ◌∷◌, take, slice_index, slice_index_or, refl, sym, ap, subst, inl, inr, arith, pos, ◌*ℤ◌, ◌≤ℤ◌, ◌<ℤ◌, nat_abs, Option, Some, None, IfSome, Contains}
 use Rattle.std.proofs.lemmas.Int.{ints}
 use Rattle.std.proofs.lemmas.List.Elements.{All-cons}
-use Rattle.maid_model.specs.declared.diagrams.Kind.TheVariants.{Chance, Decision, Utility}
 use Rattle.maid_model.specs.declared.answers.Ratio.{Ratio}
 use Rattle.maid_model.specs.declared.answers.Row.{Row}
-use Rattle.maid_model.specs.Laws.{TestsDiagrams, TestsProfiles}
+use Rattle.maid_model.specs.Laws.{TestsProfiles}
 use Rattle.maid_model.specs.Views.{RuleView, SolvedView}
 use Rattle.maid_model.specs.Nodes.{IsDecision}
 use Rattle.maid_model.specs.Tables.{weights_of}
 use Rattle.maid_model.specs.Gains.{gain_at, mass_at, gain_of, mass}
 use Rattle.maid_model.specs.Relevance.{ReliesOn}
 use Rattle.maid_model.specs.Placing.{IsRelianceOrder, CanPlace, IsLeast}
-use Rattle.maid_model.specs.Profiles.{IsProfile, SameRule, uniform_profile}
+use Rattle.maid_model.specs.Profiles.{SameRule, uniform_profile}
 use Rattle.maid_model.specs.Answers.{IsAnswer, IsAnswerAt, IsAnswerRow, IsBase, IsReduced, IsFraction, IsGains, HasWorth, FitsDiagram, FitsAnswer, pure_profile, rows_at, no_row}
 use Rattle.maid_model.specs.Accepted.{IsAccepted, IsAcceptedAt, IsAcceptedRow, IsReliedFirst}
 use Rattle.maid_examples.specs.Samples.{rule, whole, reached, never}

@@ -1,11 +1,10 @@
 -- Two who rely on each other: neither can be placed, and the trail goes round.
-use Rattle.std.proofs.Common.{◌≡◌, ◌≢◌, ◌⊎◌, ◌∙◌, ℕ, zero, suc, ◌+◌, ◌<◌, List, [], ◌∷◌, drop, length, slice_index, refl, sym, ap, subst, inl, inr, arith, Contains, take}
-use Rattle.maid_model.specs.declared.diagrams.Kind.TheVariants.{Decision, Utility}
+use Rattle.std.proofs.Common.{◌≡◌, ◌⊎◌, ◌∙◌, ℕ, zero, suc, ◌+◌, ◌<◌, List, [], ◌∷◌, drop, length, slice_index, refl, sym, subst, inl, inr, arith, take}
 use Rattle.maid_model.specs.Laws.{TestsDiagrams}
 use Rattle.maid_model.specs.Nodes.{IsDecision}
 use Rattle.maid_model.specs.Graph.{Here, IsGraph}
 use Rattle.maid_model.specs.Relevance.{ReliesOn}
-use Rattle.maid_model.specs.Placing.{Remains, CanPlace, IsLeast, IsTrail, IsRound, IsCycle, HasRelianceOrder, IsRelianceCycle}
+use Rattle.maid_model.specs.Placing.{Remains, CanPlace, IsLeast, IsTrail, IsRound, HasRelianceOrder, IsRelianceCycle}
 use Rattle.maid_examples.specs.Pennies.{pennies, pennies_diagram, HasCycle}
 use Rattle.maid_examples.proofs.Members.{among_of}
 use Rattle.maid_examples.proofs.Reliance.{decision, live, relies}

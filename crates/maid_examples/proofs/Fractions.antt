@@ -1,5 +1,5 @@
 -- Whole numbers as reduced fractions, and what a row's worth is.
-use Rattle.std.proofs.Common.{◌≡◌, ℕ, suc, refl, arith, List, [], ◌∷◌, ℤ, pos, ◌≤ℤ◌, Option, Some, None}
+use Rattle.std.proofs.Common.{refl, arith, [], ℤ, pos, ◌≤ℤ◌, Option, Some, None}
 use Rattle.std.specs.Prelude.{All}
 use Rattle.std.proofs.lemmas.Int.{ints}
 use Rattle.std.proofs.lemmas.Nat.Gcd.{IsGcd-from_zero, IsGcd-from_mod}

@@ -1,7 +1,7 @@
 -- One agent between 5 and 3: what every profile is worth, by its two weights.
-use Rattle.std.proofs.Common.{◌≡◌, ◌≢◌, ◌⊎◌, ◌∙◌, ℕ, zero, suc, ◌+◌, ◌*◌, ◌<◌, ◌≤◌, List, [], ◌∷◌, map, length, slice_index, refl, sym, ap, subst, subst₂, inl, inr, arith, rules, ℤ, pos, ◌+ℤ◌, ◌*ℤ◌, ◌≤ℤ◌, Contains}
+use Rattle.std.proofs.Common.{◌≡◌, ◌≢◌, ◌∙◌, ℕ, zero, suc, ◌<◌, ◌≤◌, List, [], ◌∷◌, map, length, refl, sym, subst, subst₂, arith, rules, pos, ◌+ℤ◌, ◌*ℤ◌, ◌≤ℤ◌}
 use Rattle.std.proofs.lemmas.Int.{ints}
-use Rattle.maid_model.specs.declared.diagrams.Kind.TheVariants.{Decision, Utility}
+use Rattle.maid_model.specs.declared.diagrams.Kind.TheVariants.{Utility}
 use Rattle.maid_model.specs.Laws.{TestsDiagrams, TestsProfiles}
 use Rattle.maid_model.specs.Views.{RuleView}
 use Rattle.maid_model.specs.Nodes.{IsDecision, node_at}
@@ -10,7 +10,7 @@ use Rattle.maid_model.specs.Profiles.{IsProfile, uniform_profile}
 use Rattle.maid_model.specs.Gains.{gain_of, mass}
 use Rattle.maid_model.specs.Subgames.{IsListing, IsSubgameStart, IsSubgamePerfect, IsNoBetter, IsNoBetterFrom, IsOptimal, DiffersOnlyFor, OwnsAll, gain_from, mass_from}
 use Rattle.maid_examples.specs.Samples.{rule}
-use Rattle.maid_examples.specs.Tie.{tie, uneven, tie_diagram, uneven_diagram, taking, AreSound, HasBest}
+use Rattle.maid_examples.specs.Tie.{uneven, tie_diagram, uneven_diagram, taking, AreSound, HasBest}
 use Rattle.maid_examples.proofs.Members.{among_of}
 use Rattle.maid_examples.proofs.Fractions.{itself}
 use Rattle.maid_examples.proofs.TwoStates.{first_answers, not_accepted}

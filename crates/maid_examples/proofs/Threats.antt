@@ -1,15 +1,14 @@
 -- The threat that holds at the start and isn't subgame-perfect: what other profiles are worth, by their weights.
-use Rattle.std.proofs.Common.{◌≡◌, ◌≢◌, ◌∙◌, ℕ, zero, suc, ◌+◌, ◌*◌, ◌<◌, List, [], ◌∷◌, map, length, slice_index_or, refl, sym, ap, subst, subst₂, arith, rules, ℤ, pos, ◌+ℤ◌, ◌*ℤ◌, ◌≤ℤ◌}
+use Rattle.std.proofs.Common.{◌≡◌, ℕ, zero, suc, ◌<◌, List, [], ◌∷◌, map, length, refl, sym, subst₂, arith, rules, ℤ, pos, ◌+ℤ◌, ◌*ℤ◌, ◌≤ℤ◌}
 use Rattle.std.proofs.lemmas.Int.{ints}
 use Rattle.maid_model.specs.Laws.{TestsDiagrams, TestsProfiles}
 use Rattle.maid_model.specs.declared.diagrams.Kind.TheVariants.{Decision}
 use Rattle.maid_model.specs.Views.{RuleView}
 use Rattle.maid_model.specs.Nodes.{IsDecision, node_at}
-use Rattle.maid_model.specs.Sums.{sum_below}
 use Rattle.maid_model.specs.Tables.{IsTable, weights_of, rule_total}
-use Rattle.maid_model.specs.Profiles.{IsProfile, SameRule}
+use Rattle.maid_model.specs.Profiles.{IsProfile}
 use Rattle.maid_model.specs.Gains.{gain_of, mass}
-use Rattle.maid_model.specs.Subgames.{IsListing, IsSubgameStart, IsSubgamePerfect, IsNoBetter, IsNoBetterFrom, DiffersOnlyFor}
+use Rattle.maid_model.specs.Subgames.{IsListing, IsSubgameStart, IsSubgamePerfect, IsNoBetter, DiffersOnlyFor}
 use Rattle.maid_examples.specs.Samples.{rule}
 use Rattle.maid_examples.specs.EmptyThreat.{moves, moves_diagram, threat, called, IsSound, HoldsAtFirst, FailsAfterLeft}
 

@@ -1,21 +1,19 @@
 -- One agent between two states: answers, accepted reports and optima by computation, since no rule of another decision is looked at.
-use Rattle.std.proofs.Common.{◌≡◌, ◌≢◌, ◌⊎◌, ◌∙◌, ℕ, zero, suc, ◌+◌, ◌*◌, ◌<◌, List, [], ◌∷◌, map, take, length, slice_index, slice_index_or, refl, sym, ap, subst, subst₂, inl, inr, arith, rules, ℤ, pos, negsuc, ◌+ℤ◌, ◌*ℤ◌, ◌≤ℤ◌, ◌<ℤ◌, Option, Some, None, IfSome, Contains}
+use Rattle.std.proofs.Common.{◌≡◌, ◌∙◌, ℕ, zero, suc, ◌*◌, ◌<◌, List, [], ◌∷◌, take, slice_index, slice_index_or, refl, sym, ap, subst, arith, ℤ, pos, ◌*ℤ◌, ◌≤ℤ◌, ◌<ℤ◌, Option, Some, None, IfSome, Contains}
 use Rattle.std.proofs.lemmas.List.Elements.{All-cons}
 use Rattle.std.proofs.lemmas.Int.{ints}
-use Rattle.maid_model.specs.declared.diagrams.Kind.TheVariants.{Decision, Utility}
 use Rattle.maid_model.specs.declared.answers.Ratio.{Ratio}
 use Rattle.maid_model.specs.declared.answers.Row.{Row}
-use Rattle.maid_model.specs.Laws.{TestsDiagrams, TestsProfiles}
-use Rattle.maid_model.specs.Views.{NodeView, RuleView, DiagramView, SolvedView}
+use Rattle.maid_model.specs.Views.{NodeView, RuleView, DiagramView}
 use Rattle.maid_model.specs.Nodes.{IsDecision}
 use Rattle.maid_model.specs.Relevance.{ReliesOn}
 use Rattle.maid_model.specs.Placing.{IsRelianceOrder, CanPlace}
-use Rattle.maid_model.specs.Gains.{gain_at, mass_at, gain_of, mass}
+use Rattle.maid_model.specs.Gains.{gain_at, gain_of, mass}
 use Rattle.maid_model.specs.Profiles.{IsProfile, uniform_profile}
 use Rattle.maid_model.specs.Answers.{IsAnswer, IsAnswerAt, IsAnswerRow, IsBase, IsReduced, IsFraction, IsGains, FitsDiagram, FitsAnswer, pure_profile, rows_at, no_row}
 use Rattle.maid_model.specs.Accepted.{IsAccepted, IsAcceptedAt, IsAcceptedRow, IsReliedFirst}
-use Rattle.maid_examples.specs.Samples.{rule, whole, reached, never}
-use Rattle.maid_examples.specs.Tie.{between, tie, uneven, tie_diagram, uneven_diagram, taking, report, AreSound, HasTie, HasBest, LacksRules}
+use Rattle.maid_examples.specs.Samples.{whole, reached, never}
+use Rattle.maid_examples.specs.Tie.{between, tie, uneven, tie_diagram, uneven_diagram, report, HasTie}
 use Rattle.maid_examples.proofs.Members.{among_of}
 use Rattle.maid_examples.proofs.Fractions.{reduced_5, worth_or, itself, none}
 

@@ -1,5 +1,5 @@
 -- A leader who cares for its own choice alone, a follower who sees a copy of it, and what is answered.
-use Rattle.std.specs.Prelude.{ℕ, ℤ, List, [], ◌∷◌, pos}
+use Rattle.std.specs.Prelude.{ℤ, List, [], ◌∷◌, pos}
 use Rattle.maid_model.specs.declared.answers.Row.{Row}
 use Rattle.maid_model.specs.Views.{NodeView, DiagramView, SolvedView}
 use Rattle.maid_model.specs.Diagrams.{IsDiagram}

@@ -5,17 +5,17 @@
 mod answered;
 mod coins;
 mod copy_seen;
-mod threat;
-mod ties;
 mod follower_leader;
 mod node_between;
 #[cfg(test)]
 mod tests;
+mod threat;
+mod ties;
 
 pub use answered::answer_by_copy;
 pub use coins::pennies;
 pub use copy_seen::copy_in_place;
-pub use threat::empty_threat;
-pub use ties::tie_and_best;
 pub use follower_leader::follower_and_leader;
 pub use node_between::one_state_between;
+pub use threat::empty_threat;
+pub use ties::tie_and_best;

@@ -1,10 +1,16 @@
 ghost use Rattle.std.specs.Prelude.{◌≡◌, ◌∷◌, [], IfOk};
-ghost use Rattle.maid_examples.specs.FollowerLeader.{sight_diagram, plan as plan_in_sight};
-ghost use Rattle.maid_examples.specs.CopySeen.{copied_diagram, plan as plan_by_copy};
+ghost use Rattle.maid_examples.specs.Samples.{plan};
+ghost use Rattle.maid_examples.specs.FollowerLeader.{sight_diagram};
+ghost use Rattle.maid_examples.specs.CopySeen.{copied_diagram};
+ghost use Rattle.maid_examples.specs.CopyAnswered.{trace_diagram};
+ghost use Rattle.maid_examples.specs.EmptyThreat.{moves_diagram, threat};
+ghost use Rattle.maid_examples.specs.Pennies.{pennies_diagram};
 ghost use Rattle.maid_examples.specs.Trial.{HasRoom};
 ghost use Rattle.maid_examples.specs.NodeBetween.{joined_diagram, parted_diagram, asks_much, asks_little};
 
-use crate::{copy_in_place, follower_and_leader, one_state_between};
+use crate::{
+    answer_by_copy, copy_in_place, empty_threat, follower_and_leader, one_state_between, pennies,
+};
 use maid_model::{Diagram, Kind, Node, Profile, Rule, World, base_sums, leaf_sum};
 use relevance_graph::find_relevance;
 use smallvec::SmallVec;
@@ -106,6 +112,43 @@ fn parted(alloc: Global) -> Result<Diagram, AllocError>
     Ok(Diagram::from_nodes(nodes, 2, 0))
 }
 
+fn moves(alloc: Global) -> Result<Diagram, AllocError>
+    ensures { IfOk result (λ d. d ≡ moves_diagram) }
+{
+    empty_threat();
+    let mut nodes = Vec::new(alloc);
+    nodes.push(decision(alloc, 0, &[])?)?;
+    nodes.push(decision(alloc, 1, &[0])?)?;
+    nodes.push(utility(alloc, 0, &[0, 1], &[2, 0, 3, 1])?)?;
+    nodes.push(utility(alloc, 1, &[0, 1], &[1, 0, 0, 1])?)?;
+    Ok(Diagram::from_nodes(nodes, 2, 0))
+}
+
+fn coins(alloc: Global) -> Result<Diagram, AllocError>
+    ensures { IfOk result (λ d. d ≡ pennies_diagram) }
+{
+    pennies();
+    let mut nodes = Vec::new(alloc);
+    nodes.push(decision(alloc, 0, &[])?)?;
+    nodes.push(decision(alloc, 1, &[])?)?;
+    nodes.push(utility(alloc, 0, &[0, 1], &[1, -1, -1, 1])?)?;
+    nodes.push(utility(alloc, 1, &[0, 1], &[-1, 1, 1, -1])?)?;
+    Ok(Diagram::from_nodes(nodes, 2, 0))
+}
+
+fn trace(alloc: Global) -> Result<Diagram, AllocError>
+    ensures { IfOk result (λ d. d ≡ trace_diagram) }
+{
+    answer_by_copy();
+    let mut nodes = Vec::new(alloc);
+    nodes.push(decision(alloc, 0, &[])?)?;
+    nodes.push(chance(alloc, 2, &[1, 0, 0, 1])?)?;
+    nodes.push(decision(alloc, 1, &[1])?)?;
+    nodes.push(utility(alloc, 0, &[0], &[1, 0])?)?;
+    nodes.push(utility(alloc, 1, &[0, 2], &[1, 0, 0, 1])?)?;
+    Ok(Diagram::from_nodes(nodes, 2, 0))
+}
+
 fn rule(alloc: Global, decision: usize, total: u128, weights: &[u128]) -> Result<Rule, AllocError>
     ensures { IfOk result (λ r. r ≡ record { decision = decision; total = total; weights = weights.now }) }
 {
@@ -126,7 +169,7 @@ fn profile_of(alloc: Global, first: Rule, second: Rule) -> Result<Profile, Alloc
 }
 
 fn plan_in_sight(alloc: Global) -> Result<Profile, AllocError>
-    ensures { IfOk result (λ p. p ≡ plan_in_sight) }
+    ensures { IfOk result (λ p. p ≡ plan 1) }
 {
     let leader = rule(alloc, 0, 1, &[0, 1])?;
     let follower = rule(alloc, 1, 1, &[0, 1, 1, 0])?;
@@ -134,7 +177,7 @@ fn plan_in_sight(alloc: Global) -> Result<Profile, AllocError>
 }
 
 fn plan_by_copy(alloc: Global) -> Result<Profile, AllocError>
-    ensures { IfOk result (λ p. p ≡ plan_by_copy) }
+    ensures { IfOk result (λ p. p ≡ plan 2) }
 {
     let leader = rule(alloc, 0, 1, &[0, 1])?;
     let follower = rule(alloc, 2, 1, &[0, 1, 1, 0])?;
@@ -154,6 +197,14 @@ fn asks_little(alloc: Global) -> Result<Profile, AllocError>
 {
     let leader = rule(alloc, 0, 1, &[0, 1])?;
     let follower = rule(alloc, 2, 2, &[1, 1])?;
+    profile_of(alloc, leader, follower)
+}
+
+fn threat(alloc: Global) -> Result<Profile, AllocError>
+    ensures { IfOk result (λ p. p ≡ threat) }
+{
+    let leader = rule(alloc, 0, 1, &[0, 1])?;
+    let follower = rule(alloc, 1, 1, &[0, 1, 0, 1])?;
     profile_of(alloc, leader, follower)
 }
 
@@ -292,6 +343,13 @@ fn parted_little(alloc: Global) -> Result<Trial, AllocError> {
     Ok(Trial::new(diagram, profile))
 }
 
+fn threatened(alloc: Global) -> Result<Trial, AllocError> {
+    empty_threat();
+    let diagram = moves(alloc)?;
+    let profile = threat(alloc)?;
+    Ok(Trial::new(diagram, profile))
+}
+
 #[test]
 fn sums_in_sight(rt: HostRuntime) -> Result<(), Fail> {
     let alloc = rt.alloc();
@@ -414,6 +472,15 @@ fn little_through_one_state(rt: HostRuntime) -> Result<(), Fail> {
 }
 
 #[test]
+fn sums_of_the_threat(rt: HostRuntime) -> Result<(), Fail> {
+    let alloc = rt.alloc();
+    let trial = threatened(alloc)?;
+    assert_eq!(rt; trial.gain(alloc, 0)?, 1);
+    assert_eq!(rt; trial.gain(alloc, 1)?, 1);
+    Ok(())
+}
+
+#[test]
 fn worlds_of_sight(rt: HostRuntime) -> Result<(), Fail> {
     let alloc = rt.alloc();
     let diagram = sight(alloc)?;
@@ -451,5 +518,25 @@ fn who_relies_on_whom(rt: HostRuntime) -> Result<(), Fail> {
     assert_eq!(rt; one_state.relied_on(0), [2].as_slice());
     assert_eq!(rt; one_state.relied_on(2), [].as_slice());
     assert_eq!(rt; one_state.order().ok().ok_or("a cycle")?, [2, 0].as_slice());
+    Ok(())
+}
+
+#[test]
+fn cycle_of_pennies(rt: HostRuntime) -> Result<(), Fail> {
+    let alloc = rt.alloc();
+    let seen = find_relevance(alloc, &coins(alloc)?)?;
+    assert_eq!(rt; seen.relied_on(0), [1].as_slice());
+    assert_eq!(rt; seen.relied_on(1), [0].as_slice());
+    assert_eq!(rt; seen.order().err().ok_or("an order")?, [0, 1].as_slice());
+    Ok(())
+}
+
+#[test]
+fn order_by_copy(rt: HostRuntime) -> Result<(), Fail> {
+    let alloc = rt.alloc();
+    let seen = find_relevance(alloc, &trace(alloc)?)?;
+    assert_eq!(rt; seen.relied_on(0), [].as_slice());
+    assert_eq!(rt; seen.relied_on(2), [0].as_slice());
+    assert_eq!(rt; seen.order().ok().ok_or("a cycle")?, [0, 2].as_slice());
     Ok(())
 }

@@ -1,7 +1,7 @@
 use Rattle.std.proofs.Common.{refl}
 use Rattle.maid_model.specs.Profiles.{uniform_profile}
-use Rattle.maid_examples.specs.Tie.{tie, uneven}
-use Rattle.maid_examples.proofs.TwoStates.{has_tie, first_answers}
+use Rattle.maid_examples.specs.Tie.{tie}
+use Rattle.maid_examples.proofs.TwoStates.{has_tie}
 use Rattle.maid_examples.proofs.Optimal.{has_best, sound}
 use Rattle.maid_examples.proofs.ties.tie_and_best.Goals as goal
 
