@@ -11,3 +11,4 @@ pub mod Fractions
 pub mod Optimal
 pub mod ByCopy
 pub mod CopyReports
+pub mod Guessing

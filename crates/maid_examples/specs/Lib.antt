@@ -6,4 +6,5 @@ pub mod EmptyThreat
 pub mod CopyAnswered
 pub mod Tie
 pub mod Pennies
+pub mod TwoCoins
 pub mod Trial

@@ -6,6 +6,7 @@ mod answered;
 mod coins;
 mod copy_seen;
 mod follower_leader;
+mod guess;
 mod node_between;
 #[cfg(test)]
 mod tests;
@@ -16,6 +17,7 @@ pub use answered::answer_by_copy;
 pub use coins::pennies;
 pub use copy_seen::copy_in_place;
 pub use follower_leader::follower_and_leader;
+pub use guess::two_coins;
 pub use node_between::one_state_between;
 pub use threat::empty_threat;
 pub use ties::tie_and_best;
