@@ -1,13 +1,12 @@
 -- What `solve` makes of a file's bytes: the report of the diagram's answer, or the first that applies of the text's fault, the relevance cycle, the weight bound and too many worlds.
 use Rattle.std.specs.Prelude.{◌≡◌, ◌<◌, ◌≤◌, ℕ, List}
-use Rattle.maid_model.specs.Answers.{IsAnswer, pure_profile}
+use Rattle.maid_model.specs.Answers.{IsAnswer, KeepsWorth, pure_profile}
 use Rattle.maid_model.specs.Bounds.{KeepsBound, PassesAt, world_count, most_worlds}
 use Rattle.maid_model.specs.Names.{NamesView}
 use Rattle.maid_model.specs.Placing.{HasRelianceOrder, IsRelianceCycle}
 use Rattle.maid_model.specs.Reports.{report}
 use Rattle.maid_model.specs.Subgames.{IsSubgamePerfect, IsOptimal, OwnsAll}
 use Rattle.maid_model.specs.Views.{DiagramView, SolvedView}
-use Rattle.rule_solver.specs.Promised.{KeepsWorth}
 use Rattle.maid_app.specs.Diagrams.{IsDiagramOf}
 use Rattle.maid_app.specs.Faults.{TellsFault}
 use Rattle.maid_app.specs.Lines.{cycle_line, bound_node_line, bound_utilities_line, not_built_line}
