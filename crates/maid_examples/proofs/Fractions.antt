@@ -16,6 +16,15 @@ reduced_1 = record { positive = omega arith; coprime = IsGcd-from_mod 1 1 1 (IsG
 pub reduced_5 : IsReduced (whole (pos 5))
 reduced_5 = record { positive = omega arith; coprime = IsGcd-from_mod 5 1 1 (IsGcd-from_zero 1 0 refl) }
 
+pub reduced_7 : IsReduced (whole (pos 7))
+reduced_7 = record { positive = omega arith; coprime = IsGcd-from_mod 7 1 1 (IsGcd-from_zero 1 0 refl) }
+
+pub reduced_13_2 : IsReduced (record { num = pos 13; den = 2 })
+reduced_13_2 = record { positive = omega arith; coprime = IsGcd-from_mod 13 2 1 (IsGcd-from_mod 2 1 1 (IsGcd-from_zero 1 0 refl)) }
+
+pub reduced_1_2 : IsReduced (record { num = pos 1; den = 2 })
+reduced_1_2 = record { positive = omega arith; coprime = IsGcd-from_mod 1 2 1 (IsGcd-from_mod 2 1 1 (IsGcd-from_zero 1 0 refl)) }
+
 -- the worth that a row shows, if it shows one
 abbrev pub worth_or : Ratio → Option Ratio → Ratio
 worth_or other (Some worth) = worth

@@ -12,3 +12,5 @@ pub mod Optimal
 pub mod ByCopy
 pub mod CopyReports
 pub mod Guessing
+pub mod Weather
+pub mod GuessWorth

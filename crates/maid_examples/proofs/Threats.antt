@@ -1,5 +1,5 @@
 -- The threat that holds at the start and isn't subgame-perfect: what other profiles are worth, by their weights.
-use Rattle.std.proofs.Common.{◌≡◌, ℕ, zero, suc, ◌<◌, List, [], ◌∷◌, map, length, refl, sym, subst₂, arith, rules, ℤ, pos, ◌+ℤ◌, ◌*ℤ◌, ◌≤ℤ◌}
+use Rattle.std.proofs.Common.{◌≡◌, ℕ, zero, suc, ◌<◌, List, [], ◌∷◌, map, length, refl, sym, subst, subst₂, arith, rules, ℤ, pos, ◌+ℤ◌, ◌*ℤ◌, ◌≤ℤ◌, ◌<ℤ◌}
 use Rattle.std.proofs.lemmas.Int.{ints}
 use Rattle.maid_model.specs.Laws.{TestsDiagrams, TestsProfiles}
 use Rattle.maid_model.specs.declared.diagrams.Kind.TheVariants.{Decision}
@@ -7,10 +7,14 @@ use Rattle.maid_model.specs.Views.{RuleView}
 use Rattle.maid_model.specs.Nodes.{IsDecision, node_at}
 use Rattle.maid_model.specs.Tables.{IsTable, weights_of, rule_total}
 use Rattle.maid_model.specs.Profiles.{IsProfile}
-use Rattle.maid_model.specs.Gains.{gain_of, mass}
+use Rattle.maid_model.specs.Gains.{gain_of, mass, gain_at, mass_at}
 use Rattle.maid_model.specs.Subgames.{IsListing, IsSubgameStart, IsSubgamePerfect, IsNoBetter, DiffersOnlyFor}
+use Rattle.maid_model.specs.Graph.{IsGraph}
+use Rattle.maid_model.specs.Relevance.{ReliesOn}
+use Rattle.maid_laws.specs.Exchange.{IsBestInBases}
+use Rattle.maid_examples.proofs.Reliance.{seen_not_on_leader}
 use Rattle.maid_examples.specs.Samples.{rule}
-use Rattle.maid_examples.specs.EmptyThreat.{moves, moves_diagram, threat, called, IsSound, HoldsAtFirst, FailsAfterLeft}
+use Rattle.maid_examples.specs.EmptyThreat.{moves, moves_diagram, threat, called, IsSound, HoldsAtFirst, FailsAfterLeft, IsNotBest}
 
 -- ---- what a subgame from left on says
 listing : IsListing moves (0 ∷ 1 ∷ [])
@@ -82,3 +86,19 @@ holds = record { leader = refl; follower = refl; no_gain = no_gain }
 module _ (diagrams : TestsDiagrams) (profiles : TestsProfiles) where
   pub sound : IsSound
   sound = record { diagram = diagrams moves_diagram refl; of_threat = profiles moves threat refl refl; of_called = profiles moves called refl refl }
+
+-- ---- against the follower's base
+not_on_leader : IsGraph moves → ReliesOn moves 1 0 → ⊥
+not_on_leader graph = seen_not_on_leader (pos 2 ∷ pos 0 ∷ pos 3 ∷ pos 1 ∷ []) (pos 1 ∷ pos 0 ∷ pos 0 ∷ pos 1 ∷ []) graph
+
+not_best : IsGraph moves → IsBestInBases moves threat → ⊥
+not_best graph b =
+    let at = b.best 1 (decides 1 (omega arith) refl) in
+    let same = at.is_base.others 0 (decides 0 (omega arith) refl) (not_on_leader graph) in
+    let massive : pos 0 <ℤ mass_at moves at.base 1 0 = subst (λ ws. pos 0 <ℤ mass_at moves (rule 0 2 ws ∷ []) 1 0) (sym same.weights) (omega (arith, ints)) in
+    let f : gain_at moves at.base 1 0 0 ≤ℤ gain_at moves at.base 1 1 0 = at.best 0 1 0 (omega arith) (omega arith) refl massive (omega arith) in
+    let g : pos 1 ≤ℤ pos 0 = subst (λ ws. gain_at moves (rule 0 2 ws ∷ []) 1 0 0 ≤ℤ gain_at moves (rule 0 2 ws ∷ []) 1 1 0) same.weights f in
+    omega (arith, ints)
+
+pub is_not_best : IsGraph moves → IsNotBest
+is_not_best graph = record { not_on_leader = not_on_leader graph; left = record { of_first = refl; of_second = refl; of_row = refl }; not_best = not_best graph }

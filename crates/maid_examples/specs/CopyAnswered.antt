@@ -1,12 +1,14 @@
 -- A leader who cares for its own choice alone, a follower who sees a copy of it, and what is answered.
 use Rattle.std.specs.Prelude.{ℤ, List, [], ◌∷◌, pos}
 use Rattle.maid_model.specs.declared.answers.Row.{Row}
-use Rattle.maid_model.specs.Views.{NodeView, DiagramView, SolvedView}
+use Rattle.maid_model.specs.Views.{NodeView, RuleView, DiagramView, SolvedView}
 use Rattle.maid_model.specs.Diagrams.{IsDiagram}
 use Rattle.maid_model.specs.Relevance.{ReliesOn}
+use Rattle.maid_model.specs.Subgames.{IsSubgamePerfect}
 use Rattle.maid_model.specs.Answers.{IsAnswer}
 use Rattle.maid_model.specs.Accepted.{IsAccepted}
-use Rattle.maid_examples.specs.Samples.{leader, copy, follower, pay, whole, reached, never}
+use Rattle.maid_laws.specs.Exchange.{IsBestInBases}
+use Rattle.maid_examples.specs.Samples.{leader, copy, follower, pay, rule, whole, reached, never}
 
 -- The first state is worth 1 to the leader, and the second 0; the follower gets 1 where it takes the leader's state.
 abbrev pub trace : List NodeView
@@ -49,3 +51,12 @@ pub record HasAccepted : Type 0 where
   pub worth_off : IsAccepted trace_diagram (report (reached 0 2 ∷ []) (reached 0 1 ∷ never 0 ∷ []) (pos 1) (pos 1)) → ⊥
   pub lesser_state : IsAccepted trace_diagram (report (reached 1 0 ∷ []) (never 0 ∷ reached 1 1 ∷ []) (pos 0) (pos 1)) → ⊥
   pub gain_off : IsAccepted trace_diagram (report (reached 0 1 ∷ []) (reached 0 1 ∷ never 0 ∷ []) (pos 1) (pos 2)) → ⊥
+
+-- the first state everywhere, as answered
+abbrev pub plan : List RuleView
+plan = rule 0 1 (1 ∷ 0 ∷ []) ∷ rule 2 1 (1 ∷ 0 ∷ 1 ∷ 0 ∷ []) ∷ []
+
+-- By laws the answered plan is best in its bases and subgame-perfect.
+pub record IsPerfect : Type 0 where
+  pub best : IsBestInBases trace plan
+  pub perfect : IsSubgamePerfect trace plan

@@ -2,10 +2,12 @@
 use Rattle.std.specs.Prelude.{◌≡◌, ℕ, List, [], ◌∷◌, pos}
 use Rattle.maid_model.specs.Views.{NodeView, RuleView, DiagramView}
 use Rattle.maid_model.specs.Diagrams.{IsDiagram}
-use Rattle.maid_model.specs.Profiles.{IsProfile}
+use Rattle.maid_model.specs.Profiles.{IsProfile, uniform_profile}
 use Rattle.maid_model.specs.Gains.{gain_of}
+use Rattle.maid_model.specs.Relevance.{ReliesOn}
 use Rattle.maid_model.specs.Subgames.{IsListing, IsSubgameStart, IsSubgamePerfect, IsNoBetter, DiffersOnlyFor, gain_from}
-use Rattle.maid_examples.specs.Samples.{leader, follower, pay, rule}
+use Rattle.maid_laws.specs.Exchange.{IsBestInBases}
+use Rattle.maid_examples.specs.Samples.{leader, follower, pay, rule, HasRow}
 
 -- The leader moves left or right, the follower in sight of it. Left is worth 2 to the leader where the follower goes left too and 0 where not, right 3 and 1; the follower gets 1 where it goes the leader's way.
 abbrev pub moves : List NodeView
@@ -42,3 +44,9 @@ pub record FailsAfterLeft : Type 0 where
   pub matched : gain_from moves (0 ∷ 1 ∷ []) (0 ∷ []) called 1 ≡ pos 1
   pub same_leader : DiffersOnlyFor moves 1 threat called
   pub not_perfect : IsSubgamePerfect moves threat → ⊥
+
+-- The follower doesn't rely on the leader, so its base has uniform rules: in the row of left the threat's state gains 0 and the other 1. The threat is not best in its bases.
+pub record IsNotBest : Type 0 where
+  pub not_on_leader : ReliesOn moves 1 0 → ⊥
+  pub left : HasRow moves (uniform_profile moves) 1 0 (pos 1) (pos 0) (pos 1)
+  pub not_best : IsBestInBases moves threat → ⊥

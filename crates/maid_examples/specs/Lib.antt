@@ -7,4 +7,5 @@ pub mod CopyAnswered
 pub mod Tie
 pub mod Pennies
 pub mod TwoCoins
+pub mod Trip
 pub mod Trial

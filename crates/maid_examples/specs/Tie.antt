@@ -8,6 +8,7 @@ use Rattle.maid_model.specs.Gains.{gain_of}
 use Rattle.maid_model.specs.Subgames.{IsOptimal, IsSubgamePerfect, OwnsAll}
 use Rattle.maid_model.specs.Answers.{IsAnswer}
 use Rattle.maid_model.specs.Accepted.{IsAccepted}
+use Rattle.maid_laws.specs.Exchange.{IsBestInBases}
 use Rattle.maid_examples.specs.Samples.{decision, pay, rule, whole, reached, never}
 
 -- a choice between two states of these worths
@@ -63,8 +64,9 @@ pub record HasBest : Type 0 where
   pub perfect : IsSubgamePerfect uneven (taking 1 0)
   pub not_perfect : IsSubgamePerfect uneven (taking 0 1) → ⊥
 
--- An empty list of rules is no profile of a diagram with a decision, and so neither subgame-perfect nor optimal.
+-- An empty list of rules is no profile of a diagram with a decision, and so neither subgame-perfect nor optimal nor best in its bases.
 pub record LacksRules : Type 0 where
   pub no_profile : IsProfile uneven [] → ⊥
   pub not_perfect : IsSubgamePerfect uneven [] → ⊥
   pub not_optimal : IsOptimal uneven [] 0 → ⊥
+  pub not_best : IsBestInBases uneven [] → ⊥

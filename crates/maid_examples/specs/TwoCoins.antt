@@ -1,6 +1,7 @@
 -- Two coins, a node that shows whether they fell alike, and a guess at the second coin.
 use Rattle.std.specs.Prelude.{◌≡◌, ℕ, List, [], ◌∷◌, pos}
 use Rattle.maid_model.specs.declared.diagrams.Kind.TheVariants.{Chance}
+use Rattle.maid_model.specs.declared.answers.Ratio.{Ratio}
 use Rattle.maid_model.specs.Views.{NodeView, DiagramView}
 use Rattle.maid_model.specs.Diagrams.{IsDiagram}
 use Rattle.maid_model.specs.Graph.{Arc}
@@ -8,7 +9,8 @@ use Rattle.maid_model.specs.Walks.{IsActive}
 use Rattle.maid_model.specs.Relevance.{IsLive, IsRequisite}
 use Rattle.maid_model.specs.Edits.{without_arc}
 use Rattle.maid_model.specs.Trimming.{IsFirstToRemove, IsTrimmed}
-use Rattle.maid_examples.specs.Samples.{decision, pay}
+use Rattle.maid_model.specs.Values.{IsOptimum, IsValueOfSeen, IsValueOfUnseen}
+use Rattle.maid_examples.specs.Samples.{decision, pay, whole}
 
 -- nodes 0 and 1: a coin whose two sides are as likely
 abbrev pub coin : NodeView
@@ -60,3 +62,17 @@ pub record HasRequisites : Type 0 where
   pub coin_alone : IsRequisite untold 3 0 → ⊥
   pub first_to_go : IsFirstToRemove untold 0 3
   pub trimmed : IsTrimmed untold ((0, 3) ∷ []) (without_arc untold 0 3)
+
+-- the fraction 1/2
+abbrev pub half : Ratio
+half = record { num = pos 1; den = 2 }
+
+-- Told both, the guess is always right: the optimum is 1. Told one of them or nothing it is right half of the time, whatever the rules: the optimum is 1/2.
+-- So coin 0 is worth 1/2 beside the news whether the coins are alike, and nothing alone; and so is the news worth 1/2 beside coin 0.
+pub record HasValues : Type 0 where
+  pub told_optimum : IsOptimum told 0 0 (whole (pos 1))
+  pub untold_optimum : IsOptimum untold 0 0 half
+  pub coin_beside_news : IsValueOfSeen told 0 [] 0 0 3 half
+  pub coin_alone : IsValueOfSeen untold 0 [] 0 0 3 (whole (pos 0))
+  pub news : IsValueOfUnseen untold 0 [] 0 2 3 half
+  pub no_other : (r : Ratio) → IsValueOfSeen told 0 [] 0 0 3 r → r ≡ half

@@ -8,6 +8,7 @@ mod copy_seen;
 mod follower_leader;
 mod guess;
 mod node_between;
+mod outing;
 #[cfg(test)]
 mod tests;
 mod threat;
@@ -19,5 +20,6 @@ pub use copy_seen::copy_in_place;
 pub use follower_leader::follower_and_leader;
 pub use guess::two_coins;
 pub use node_between::one_state_between;
+pub use outing::a_trip;
 pub use threat::empty_threat;
 pub use ties::tie_and_best;
