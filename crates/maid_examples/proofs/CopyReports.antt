@@ -15,7 +15,7 @@ use Rattle.maid_model.specs.Profiles.{SameRule, uniform_profile}
 use Rattle.maid_model.specs.Answers.{IsAnswer, IsAnswerAt, IsAnswerRow, IsBase, IsReduced, IsFraction, IsGains, HasWorth, FitsDiagram, FitsAnswer, pure_profile, rows_at, no_row}
 use Rattle.maid_model.specs.Accepted.{IsAccepted, IsAcceptedAt, IsAcceptedRow, IsReliedFirst}
 use Rattle.maid_examples.specs.Samples.{rule, whole, reached, never}
-use Rattle.maid_examples.specs.CopyAnswered.{trace, trace_diagram, report, HasReliance, HasAnswer, HasAccepted}
+use Rattle.maid_examples.specs.CopyAnswered.{trace, trace_diagram, report, answer, other_where_never, marked_where_reached, worth_where_never, worth_off, lesser_state, HasReliance, HasAnswer, HasAccepted}
 use Rattle.maid_examples.proofs.Members.{Among, among_of}
 use Rattle.maid_examples.proofs.Fractions.{reduced_1, worth_or, itself, none}
 use Rattle.maid_examples.proofs.ByCopy.{leads, follows, one_of}
@@ -186,8 +186,8 @@ module _ (relies : HasReliance) (profiles : TestsProfiles) where
       each (suc (suc agent)) r l = absurd (omega arith)
   gains (suc (suc choice)) l = absurd (omega arith)
 
-  answer : IsAnswer trace_diagram (solved 0)
-  answer = record { fits = fits 0 (omega arith); order = order; answers = answers; gains = gains 0 (omega arith) }
+  answered : IsAnswer trace_diagram answer
+  answered = record { fits = fits 0 (omega arith); order = order; answers = answers; gains = gains 0 (omega arith) }
     where
       lead : IsAnswerAt trace 0 (plan 0) 0 (reached 0 1 ∷ [])
       lead = record { base = uniform; is_base = lead_base (plan 0); each = each }
@@ -237,65 +237,53 @@ module _ (relies : HasReliance) (profiles : TestsProfiles) where
   not_none : {X : Type 0} (x : X) → ◌≡◌ {A = Option X} None (Some x) → ⊥
   not_none x e = cc
 
-  other_where_never : IsAnswer trace_diagram (solved 1) → ⊥
-  other_where_never a =
+  not_other : IsAnswer trace_diagram other_where_never → ⊥
+  not_other a =
       let at = a.answers 2 follows in
       let e : ◌≡◌ {A = ℕ} 1 0 = ((at.each 1 (omega arith)).never (unseen_without at.base (at.is_base.relied 0 relies.on_leader).weights)).0 in
       omega arith
 
-  abbrev marked : SolvedView
-  marked = report (reached 0 1 ∷ []) (never 0 ∷ never 0 ∷ []) (pos 1) (pos 1)
-
-  answer_unmarked : IsAnswer trace_diagram marked → ⊥
+  answer_unmarked : IsAnswer trace_diagram marked_where_reached → ⊥
   answer_unmarked a =
       let at = a.answers 2 follows in
       let h = (at.each 0 (omega arith)).worth (seen_with_mass at.base (at.is_base.relied 0 relies.on_leader).weights) in
       not_none h.0 h.1
 
-  accepted_unmarked : IsAccepted trace_diagram marked → ⊥
+  accepted_unmarked : IsAccepted trace_diagram marked_where_reached → ⊥
   accepted_unmarked a =
       let at = a.rows 2 follows in
       let h = (at.each 0 (omega arith)).worth (seen_with_mass at.base (at.is_base.relied 0 relies.on_leader).weights) in
       not_none h.0 h.1
 
-  abbrev unmarked : SolvedView
-  unmarked = report (reached 0 1 ∷ []) (reached 0 1 ∷ reached 0 0 ∷ []) (pos 1) (pos 1)
-
-  answer_marked : IsAnswer trace_diagram unmarked → ⊥
+  answer_marked : IsAnswer trace_diagram worth_where_never → ⊥
   answer_marked a =
       let at = a.answers 2 follows in
       not_none (whole (pos 0)) (sym ((at.each 1 (omega arith)).never (unseen_without at.base (at.is_base.relied 0 relies.on_leader).weights)).1)
 
-  accepted_marked : IsAccepted trace_diagram unmarked → ⊥
+  accepted_marked : IsAccepted trace_diagram worth_where_never → ⊥
   accepted_marked a =
       let at = a.rows 2 follows in
       not_none (whole (pos 0)) (sym ((at.each 1 (omega arith)).never (unseen_without at.base (at.is_base.relied 0 relies.on_leader).weights)))
 
-  abbrev costly : SolvedView
-  costly = report (reached 0 2 ∷ []) (reached 0 1 ∷ never 0 ∷ []) (pos 1) (pos 1)
-
-  answer_worth : IsAnswer trace_diagram costly → ⊥
+  answer_worth : IsAnswer trace_diagram worth_off → ⊥
   answer_worth a =
       let at = a.answers 0 leads in
       let same = at.is_base.others 2 follows relies.not_on_follower in
       not_worth_2 at.base same ((at.each 0 (omega arith)).worth (leads_with_mass at.base same))
 
-  accepted_worth : IsAccepted trace_diagram costly → ⊥
+  accepted_worth : IsAccepted trace_diagram worth_off → ⊥
   accepted_worth a =
       let at = a.rows 0 leads in
       let same = at.is_base.others 2 follows relies.not_on_follower in
       not_worth_2 at.base same ((at.each 0 (omega arith)).worth (leads_with_mass at.base same))
 
-  abbrev lesser : SolvedView
-  lesser = report (reached 1 0 ∷ []) (never 0 ∷ reached 1 1 ∷ []) (pos 0) (pos 1)
-
-  answer_best : IsAnswer trace_diagram lesser → ⊥
+  answer_best : IsAnswer trace_diagram lesser_state → ⊥
   answer_best a =
       let at = a.answers 0 leads in
       let same = at.is_base.others 2 follows relies.not_on_follower in
       second_is_less at.base same (((at.each 0 (omega arith)).best (leads_with_mass at.base same)).greatest 0 (omega arith))
 
-  accepted_best : IsAccepted trace_diagram lesser → ⊥
+  accepted_best : IsAccepted trace_diagram lesser_state → ⊥
   accepted_best a =
       let at = a.rows 0 leads in
       let same = at.is_base.others 2 follows relies.not_on_follower in
@@ -307,22 +295,22 @@ module _ (relies : HasReliance) (profiles : TestsProfiles) where
 
   pub has_answer : HasAnswer
   has_answer = record {
-    answer = answer;
-    other_where_never = other_where_never;
-    marked_where_reached = answer_unmarked;
-    worth_where_never = answer_marked;
-    worth_off = answer_worth;
-    lesser_state = answer_best;
-    gain_off = λ a. not_gain_2 a.gains;
+    answered = answered;
+    not_other = not_other;
+    not_marked = answer_unmarked;
+    not_unmarked = answer_marked;
+    not_worth = answer_worth;
+    not_lesser = answer_best;
+    not_gain = λ a. not_gain_2 a.gains;
   }
 
   pub has_accepted : HasAccepted
   has_accepted = record {
-    answer = accepts 0 (omega arith) (gains 0 (omega arith));
-    other_where_never = accepts 1 (omega arith) (gains 1 (omega arith));
-    marked_where_reached = accepted_unmarked;
-    worth_where_never = accepted_marked;
-    worth_off = accepted_worth;
-    lesser_state = accepted_best;
-    gain_off = λ a. not_gain_2 a.gains;
+    answered = accepts 0 (omega arith) (gains 0 (omega arith));
+    other = accepts 1 (omega arith) (gains 1 (omega arith));
+    not_marked = accepted_unmarked;
+    not_unmarked = accepted_marked;
+    not_worth = accepted_worth;
+    not_lesser = accepted_best;
+    not_gain = λ a. not_gain_2 a.gains;
   }

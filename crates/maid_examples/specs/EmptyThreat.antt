@@ -11,7 +11,12 @@ use Rattle.maid_examples.specs.Samples.{leader, follower, pay, rule, HasRow}
 
 -- The leader moves left or right, the follower in sight of it. Left is worth 2 to the leader where the follower goes left too and 0 where not, right 3 and 1; the follower gets 1 where it goes the leader's way.
 abbrev pub moves : List NodeView
-moves = leader ∷ follower (0 ∷ []) ∷ pay 0 (0 ∷ 1 ∷ []) (pos 2 ∷ pos 0 ∷ pos 3 ∷ pos 1 ∷ []) ∷ pay 1 (0 ∷ 1 ∷ []) (pos 1 ∷ pos 0 ∷ pos 0 ∷ pos 1 ∷ []) ∷ []
+moves =
+    leader
+    ∷ follower (0 ∷ [])
+    ∷ pay 0 (0 ∷ 1 ∷ []) (pos 2 ∷ pos 0 ∷ pos 3 ∷ pos 1 ∷ [])
+    ∷ pay 1 (0 ∷ 1 ∷ []) (pos 1 ∷ pos 0 ∷ pos 0 ∷ pos 1 ∷ [])
+    ∷ []
 
 abbrev pub moves_diagram : DiagramView
 moves_diagram = record { nodes = moves; agents = 2; decimals = 0 }
@@ -34,7 +39,8 @@ pub record IsSound : Type 0 where
 pub record HoldsAtFirst : Type 0 where
   pub leader : gain_of moves threat 0 ≡ pos 1
   pub follower : gain_of moves threat 1 ≡ pos 1
-  pub no_gain : (agent : ℕ) (t : List RuleView) → IsProfile moves t → DiffersOnlyFor moves agent threat t → IsNoBetter moves agent threat t
+  pub no_gain : (agent : ℕ) (t : List RuleView) → IsProfile moves t
+      → DiffersOnlyFor moves agent threat t → IsNoBetter moves agent threat t
 
 -- But a subgame starts where the leader went left, and from there the threat is worth 0 to the follower and the leader's way 1: the threat is not subgame-perfect.
 pub record FailsAfterLeft : Type 0 where

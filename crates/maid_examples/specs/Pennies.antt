@@ -8,7 +8,12 @@ use Rattle.maid_examples.specs.Samples.{leader, follower, pay}
 
 -- agent 0 gets 1 where both take the same state and -1 where not, agent 1 the other way round
 abbrev pub pennies : List NodeView
-pennies = leader ∷ follower [] ∷ pay 0 (0 ∷ 1 ∷ []) (pos 1 ∷ negsuc 0 ∷ negsuc 0 ∷ pos 1 ∷ []) ∷ pay 1 (0 ∷ 1 ∷ []) (negsuc 0 ∷ pos 1 ∷ pos 1 ∷ negsuc 0 ∷ []) ∷ []
+pennies =
+    leader
+    ∷ follower []
+    ∷ pay 0 (0 ∷ 1 ∷ []) (pos 1 ∷ negsuc 0 ∷ negsuc 0 ∷ pos 1 ∷ [])
+    ∷ pay 1 (0 ∷ 1 ∷ []) (negsuc 0 ∷ pos 1 ∷ pos 1 ∷ negsuc 0 ∷ [])
+    ∷ []
 
 abbrev pub pennies_diagram : DiagramView
 pennies_diagram = record { nodes = pennies; agents = 2; decimals = 0 }

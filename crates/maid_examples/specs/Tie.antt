@@ -33,7 +33,11 @@ taking first second = rule 0 1 (first ∷ second ∷ []) ∷ []
 
 -- one row is answered, and the plan is worth this
 abbrev pub report : Row → ℤ → SolvedView
-report row gain = record { order = 0 ∷ []; answers = record { decision = 0; rows = row ∷ [] } ∷ []; gains = whole gain ∷ [] }
+report row gain = record {
+  order = 0 ∷ [];
+  answers = record { decision = 0; rows = row ∷ [] } ∷ [];
+  gains = whole gain ∷ [];
+}
 
 -- both are diagrams of one agent, and the rules are profiles of both
 pub record AreSound : Type 0 where

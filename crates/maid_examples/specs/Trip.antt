@@ -1,5 +1,5 @@
 -- One agent sees the weather and stays or goes; and the same beside a coin that has nothing to do with it.
-use Rattle.std.specs.Prelude.{◌≡◌, List, [], ◌∷◌, pos, negsuc}
+use Rattle.std.specs.Prelude.{◌≡◌, ℕ, List, [], ◌∷◌, pos, negsuc}
 use Rattle.maid_model.specs.declared.diagrams.Kind.TheVariants.{Chance}
 use Rattle.maid_model.specs.Views.{NodeView, RuleView, DiagramView, SolvedView}
 use Rattle.maid_model.specs.Diagrams.{IsDiagram}
@@ -18,9 +18,13 @@ use Rattle.maid_examples.specs.Samples.{decision, pay, rule, reached, HasRow}
 abbrev pub weather : NodeView
 weather = record { kind = Chance; owner = 0; states = 2; parents = []; cells = pos 1 ∷ pos 3 ∷ [] }
 
--- Node 1 stays or goes, seeing the weather. Rain is worth 5 at home and 0 outside, sun -1 at home and 7 outside.
+-- rain is worth 5 at home and 0 outside, sun -1 at home and 7 outside
+abbrev pub joy : ℕ → ℕ → NodeView
+joy weather outing = pay 0 (weather ∷ outing ∷ []) (pos 5 ∷ pos 0 ∷ negsuc 0 ∷ pos 7 ∷ [])
+
+-- node 1 stays or goes, seeing the weather
 abbrev pub trip : List NodeView
-trip = weather ∷ decision 0 (0 ∷ []) ∷ pay 0 (0 ∷ 1 ∷ []) (pos 5 ∷ pos 0 ∷ negsuc 0 ∷ pos 7 ∷ []) ∷ []
+trip = weather ∷ decision 0 (0 ∷ []) ∷ joy 0 1 ∷ []
 
 abbrev pub trip_diagram : DiagramView
 trip_diagram = record { nodes = trip; agents = 1; decimals = 0 }
@@ -81,9 +85,13 @@ pub record IsSolved : Type 0 where
 abbrev pub coin : NodeView
 coin = record { kind = Chance; owner = 0; states = 3; parents = []; cells = pos 2 ∷ pos 2 ∷ pos 1 ∷ [] }
 
--- the trip's nodes behind the coin and beside another agent's bet on it
+-- what agent 1 has bet on the coin
+abbrev pub bet : NodeView
+bet = pay 1 (0 ∷ []) (pos 1 ∷ pos 0 ∷ negsuc 4 ∷ [])
+
+-- the trip's nodes behind the coin and beside the bet
 abbrev pub tossed : List NodeView
-tossed = coin ∷ weather ∷ pay 1 (0 ∷ []) (pos 1 ∷ pos 0 ∷ negsuc 4 ∷ []) ∷ decision 0 (1 ∷ []) ∷ pay 0 (1 ∷ 3 ∷ []) (pos 5 ∷ pos 0 ∷ negsuc 0 ∷ pos 7 ∷ []) ∷ []
+tossed = coin ∷ weather ∷ bet ∷ decision 0 (1 ∷ []) ∷ joy 1 3 ∷ []
 
 abbrev pub tossed_diagram : DiagramView
 tossed_diagram = record { nodes = tossed; agents = 2; decimals = 0 }

@@ -18,11 +18,21 @@ coin = record { kind = Chance; owner = 0; states = 2; parents = []; cells = pos 
 
 -- node 2: the first state where the coins are alike, the second where not
 abbrev pub alike : NodeView
-alike = record { kind = Chance; owner = 0; states = 2; parents = 0 ∷ 1 ∷ []; cells = pos 1 ∷ pos 0 ∷ pos 0 ∷ pos 1 ∷ pos 0 ∷ pos 1 ∷ pos 1 ∷ pos 0 ∷ [] }
+alike = record {
+  kind = Chance;
+  owner = 0;
+  states = 2;
+  parents = 0 ∷ 1 ∷ [];
+  cells = pos 1 ∷ pos 0 ∷ pos 0 ∷ pos 1 ∷ pos 0 ∷ pos 1 ∷ pos 1 ∷ pos 0 ∷ [];
+}
 
--- node 3 guesses the side of coin 1 and sees these nodes; a right guess is worth 1
+-- node 4: a right guess at coin 1 is worth 1
+abbrev pub right : NodeView
+right = pay 0 (1 ∷ 3 ∷ []) (pos 1 ∷ pos 0 ∷ pos 0 ∷ pos 1 ∷ [])
+
+-- node 3 guesses the side of coin 1 and sees these nodes
 abbrev pub guessing : List ℕ → List NodeView
-guessing seen = coin ∷ coin ∷ alike ∷ decision 0 seen ∷ pay 0 (1 ∷ 3 ∷ []) (pos 1 ∷ pos 0 ∷ pos 0 ∷ pos 1 ∷ []) ∷ []
+guessing seen = coin ∷ coin ∷ alike ∷ decision 0 seen ∷ right ∷ []
 
 -- the guess sees coin 0 and whether the coins are alike
 abbrev pub told : List NodeView

@@ -1,6 +1,4 @@
-use Rattle.std.proofs.Common.{[], ◌∷◌, pos}
-use Rattle.maid_examples.specs.Samples.{reached, never}
-use Rattle.maid_examples.specs.CopyAnswered.{trace_diagram, report}
+use Rattle.maid_examples.specs.CopyAnswered.{trace_diagram, answer}
 use Rattle.maid_examples.proofs.ByCopy.{has_reliance}
 use Rattle.maid_examples.proofs.CopyReports.{has_answer, has_accepted}
 use Rattle.maid_examples.proofs.answered.answer_by_copy.Goals as goal
@@ -17,9 +15,8 @@ returns-clause-accepted c = has_accepted (has_reliance c.literals_are_tested.ens
 pub returns-clause-perfect : goal.returns-clause-perfect
 returns-clause-perfect c =
     let relies = has_reliance c.literals_are_tested.ensures.diagram in
-    let answered = (has_answer relies c.literals_are_tested.ensures.profile).answer in
-    let solved = report (reached 0 1 ∷ []) (reached 0 1 ∷ never 0 ∷ []) (pos 1) (pos 1) in
+    let answered = (has_answer relies c.literals_are_tested.ensures.profile).answered in
     record {
-      best = c.answers_are_best.ensures.answers trace_diagram solved relies.diagram.graph relies.diagram.tables answered;
-      perfect = c.answers_are_subgame_perfect.ensures.law trace_diagram solved relies.diagram.graph relies.diagram.tables answered;
+      best = c.answers_are_best.ensures.answers trace_diagram answer relies.diagram.graph relies.diagram.tables answered;
+      perfect = c.answers_are_subgame_perfect.ensures.law trace_diagram answer relies.diagram.graph relies.diagram.tables answered;
     }
