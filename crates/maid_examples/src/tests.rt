@@ -6,10 +6,12 @@ ghost use Rattle.maid_examples.specs.CopyAnswered.{trace_diagram};
 ghost use Rattle.maid_examples.specs.EmptyThreat.{moves_diagram, threat};
 ghost use Rattle.maid_examples.specs.Pennies.{pennies_diagram};
 ghost use Rattle.maid_examples.specs.Trial.{HasRoom};
+ghost use Rattle.maid_examples.specs.Trip.{weather, trip_diagram};
 ghost use Rattle.maid_examples.specs.NodeBetween.{joined_diagram, parted_diagram, asks_much, asks_little};
 
 use crate::{
-    answer_by_copy, copy_in_place, empty_threat, follower_and_leader, one_state_between, pennies,
+    a_trip, answer_by_copy, copy_in_place, empty_threat, follower_and_leader, one_state_between,
+    pennies,
 };
 use maid_model::{Diagram, Kind, Node, Profile, Rule, World, base_sums, leaf_sum};
 use relevance_graph::find_relevance;
@@ -147,6 +149,29 @@ fn trace(alloc: Global) -> Result<Diagram, AllocError>
     nodes.push(utility(alloc, 0, &[0], &[1, 0])?)?;
     nodes.push(utility(alloc, 1, &[0, 2], &[1, 0, 0, 1])?)?;
     Ok(Diagram::from_nodes(nodes, 2, 0))
+}
+
+fn weather(alloc: Global) -> Result<Node, AllocError>
+    ensures { IfOk result (λ n. n ≡ weather) }
+{
+    Ok(Node {
+        kind: Kind::Chance,
+        owner: 0,
+        states: 2,
+        parents: SmallVec::from_slice(alloc, &[])?,
+        cells: Vec::from_slice(alloc, &[1, 3])?,
+    })
+}
+
+fn trip(alloc: Global) -> Result<Diagram, AllocError>
+    ensures { IfOk result (λ d. d ≡ trip_diagram) }
+{
+    a_trip();
+    let mut nodes = Vec::new(alloc);
+    nodes.push(weather(alloc)?)?;
+    nodes.push(decision(alloc, 0, &[0])?)?;
+    nodes.push(utility(alloc, 0, &[0, 1], &[5, 0, -1, 7])?)?;
+    Ok(Diagram::from_nodes(nodes, 1, 0))
 }
 
 fn rule(alloc: Global, decision: usize, total: u128, weights: &[u128]) -> Result<Rule, AllocError>
@@ -350,6 +375,22 @@ fn threatened(alloc: Global) -> Result<Trial, AllocError> {
     Ok(Trial::new(diagram, profile))
 }
 
+fn trip_uniform(alloc: Global) -> Result<Trial, AllocError> {
+    a_trip();
+    let diagram = trip(alloc)?;
+    let profile = Profile::uniform(alloc, &diagram)?;
+    Ok(Trial::new(diagram, profile))
+}
+
+/// The plan's rule, put in the place of the uniform one.
+fn trip_plan(alloc: Global) -> Result<Trial, AllocError> {
+    a_trip();
+    let diagram = trip(alloc)?;
+    let mut profile = Profile::uniform(alloc, &diagram)?;
+    profile.put(rule(alloc, 1, 1, &[1, 0, 0, 1])?);
+    Ok(Trial::new(diagram, profile))
+}
+
 #[test]
 fn sums_in_sight(rt: HostRuntime) -> Result<(), Fail> {
     let alloc = rt.alloc();
@@ -477,6 +518,33 @@ fn sums_of_the_threat(rt: HostRuntime) -> Result<(), Fail> {
     let trial = threatened(alloc)?;
     assert_eq!(rt; trial.gain(alloc, 0)?, 1);
     assert_eq!(rt; trial.gain(alloc, 1)?, 1);
+    Ok(())
+}
+
+#[test]
+fn sums_of_the_trip(rt: HostRuntime) -> Result<(), Fail> {
+    let alloc = rt.alloc();
+    let uniform = trip_uniform(alloc)?;
+    assert_eq!(rt; uniform.gain(alloc, 0)?, 23);
+    let outing = uniform.sums(alloc, 1)?;
+    assert_eq!(rt; outing.gains.as_slice(), [5, 0, -3, 21].as_slice());
+    assert_eq!(rt; outing.masses.as_slice(), [1, 3].as_slice());
+    let planned = trip_plan(alloc)?;
+    assert_eq!(rt; planned.gain(alloc, 0)?, 26);
+    Ok(())
+}
+
+#[test]
+fn parts_of_the_trip(rt: HostRuntime) -> Result<(), Fail> {
+    let alloc = rt.alloc();
+    let diagram = trip(alloc)?;
+    let profile = Profile::uniform(alloc, &diagram)?;
+    assert_eq!(rt; diagram.weight_total(0), 4);
+    assert_eq!(rt; profile.rule(1).weights.as_slice(), [1, 1, 1, 1].as_slice());
+    let mut world = World::first(alloc, &diagram)?;
+    let more = world.next(&diagram);
+    assert!(rt; more);
+    assert_eq!(rt; world.states.as_slice(), [0, 1, 0].as_slice());
     Ok(())
 }
 
