@@ -10,8 +10,6 @@ mod marks;
 mod names;
 mod profiles;
 mod pure_rules;
-#[cfg(test)]
-mod tests;
 mod weights;
 mod world_sums;
 mod worlds;
