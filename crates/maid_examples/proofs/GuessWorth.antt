@@ -23,7 +23,7 @@ cell (w ∷ ws) zero = refl
 cell (w ∷ ws) (suc i) = cell ws i
 
 -- a row's two weights
-row : (ws : List ℕ) (rows total r : ℕ) → IsTable (map pos ws) rows 2 total → r < rows → slice_index ws (r * 2 + 0) + slice_index ws (r * 2 + 1) ≡ total
+pub row : (ws : List ℕ) (rows total r : ℕ) → IsTable (map pos ws) rows 2 total → r < rows → slice_index ws (r * 2 + 0) + slice_index ws (r * 2 + 1) ≡ total
 row ws rows total r t l =
     let e : (pos 0 +ℤ slice_index_or (map pos ws) (r * 2 + 0) (pos 0)) +ℤ slice_index_or (map pos ws) (r * 2 + 1) (pos 0) ≡ pos total = t.row r l in
     let f = cell ws (r * 2 + 0) in

@@ -14,3 +14,4 @@ pub mod CopyReports
 pub mod Guessing
 pub mod Weather
 pub mod GuessWorth
+pub mod WeatherMade

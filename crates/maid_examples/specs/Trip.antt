@@ -7,12 +7,13 @@ use Rattle.maid_model.specs.Profiles.{IsProfile, uniform_profile}
 use Rattle.maid_model.specs.Gains.{gain_of, mass, gain_at, mass_at}
 use Rattle.maid_model.specs.Subgames.{IsListing, IsSubgameStart, IsSubgamePerfect, IsOptimal, gain_from, mass_from}
 use Rattle.maid_model.specs.Answers.{IsAnswer}
-use Rattle.maid_model.specs.Values.{IsOptimum}
+use Rattle.maid_model.specs.Edits.{as_decision}
+use Rattle.maid_model.specs.Values.{IsOptimum, IsValueOfControl}
 use Rattle.maid_model.specs.Bounds.{bound_product}
 use Rattle.maid_laws.specs.Exchange.{IsBestInBases}
 use Rattle.maid_laws.specs.Parts.{place_in, part_of, rules_in, mass_left_out}
 use Rattle.maid_laws.specs.Scopes.{scope_of, scope_for, scope_product, scope_product_for, scope_bound}
-use Rattle.maid_examples.specs.Samples.{decision, pay, rule, reached, HasRow}
+use Rattle.maid_examples.specs.Samples.{decision, pay, rule, whole, reached, HasRow}
 
 -- node 0: one part rain, three parts sun
 abbrev pub weather : NodeView
@@ -80,6 +81,11 @@ pub record IsSolved : Type 0 where
   pub stay_not_best : IsBestInBases trip stay → ⊥
   pub stay_not_perfect : IsSubgamePerfect trip stay → ⊥
   pub stay_not_optimal : IsOptimal trip stay 0 → ⊥
+
+-- Whoever makes the weather makes it sunny and goes, worth 7: control of it is worth 7 - 13/2 = 1/2.
+pub record HasControl : Type 0 where
+  pub optimum : IsOptimum (as_decision trip 0 0) 0 0 (whole (pos 7))
+  pub control : IsValueOfControl trip 0 [] 0 0 (record { num = pos 1; den = 2 })
 
 -- a coin with a third side
 abbrev pub coin : NodeView

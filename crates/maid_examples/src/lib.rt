@@ -13,6 +13,8 @@ mod outing;
 mod tests;
 mod threat;
 mod ties;
+#[cfg(test)]
+mod trials;
 
 pub use answered::answer_by_copy;
 pub use coins::pennies;

@@ -2,6 +2,7 @@ use Rattle.std.proofs.Common.{refl}
 use Rattle.maid_model.specs.Profiles.{uniform_profile}
 use Rattle.maid_examples.specs.Trip.{trip, trip_diagram, plan, stay, tossed, tossed_diagram, tossed_plan}
 use Rattle.maid_examples.proofs.Weather.{solved}
+use Rattle.maid_examples.proofs.WeatherMade.{in_control}
 use Rattle.maid_examples.proofs.outing.a_trip.Goals as goal
 
 pub returns-clause-sound : goal.returns-clause-sound
@@ -14,6 +15,11 @@ returns-clause-sound c = let rules = c.literals_are_tested.ensures.profile in re
 
 pub returns-clause-solved : goal.returns-clause-solved
 returns-clause-solved c = solved c.literals_are_tested.ensures.profile (c.literals_are_tested.ensures.diagram trip_diagram refl) c.answers_are_best.ensures.answers c.answers_are_subgame_perfect.ensures.law c.answers_are_optimal.ensures.law c.gains_are_optima.ensures.law
+
+pub returns-clause-control : goal.returns-clause-control
+returns-clause-control c =
+    let a = solved c.literals_are_tested.ensures.profile (c.literals_are_tested.ensures.diagram trip_diagram refl) c.answers_are_best.ensures.answers c.answers_are_subgame_perfect.ensures.law c.answers_are_optimal.ensures.law c.gains_are_optima.ensures.law in
+    in_control c.literals_are_tested.ensures.profile a.optimum
 
 pub returns-clause-part : goal.returns-clause-part
 returns-clause-part c = record {
