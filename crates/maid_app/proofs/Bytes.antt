@@ -1,6 +1,7 @@
 -- Bytes come to one status.
 use Rattle.std.proofs.Common.{◌≡◌, ◌≤◌, inl, inr, ℕ, List, None, refl, subst, arith}
-use Rattle.maid_model.specs.Bounds.{KeepsBound, world_count, most_worlds}
+use Rattle.maid_model.specs.Bounds.{KeepsBound, world_count}
+use Rattle.maid_model.specs.declared.limits.TheConstants.{MOST_WORLDS}
 use Rattle.maid_model.specs.Names.{NamesView}
 use Rattle.maid_model.specs.Placing.{HasRelianceOrder}
 use Rattle.maid_model.specs.Views.{DiagramView}
@@ -41,10 +42,10 @@ same_tree laws bytes tree other is is' =
 
 -- bytes that stand for a diagram have no fault
 no_fault : Laws → (bytes : List ℕ) (d : DiagramView) (names : NamesView) (at : ℕ) (words : List ℕ) → IsDiagramOf bytes d names → IsTextFault bytes at words → ⊥
-no_fault laws bytes d names at words has (inl is) = laws.tokens_or_fault bytes has.is_tree.tokens is.fault has.is_tree.is_tokens is.is_fault
+no_fault laws bytes d names at words has (inl is) = laws.tokens_or_fault bytes is.fault (has.is_tree.tokens, has.is_tree.is_tokens) is.is_fault
 no_fault laws bytes d names at words has (inr (inl is)) =
     let same = laws.one_list bytes is.token_list has.is_tree.tokens is.is_tokens has.is_tree.is_tokens in
-    laws.tree_or_fault bytes has.is_tree.tokens has.tree is.fault has.is_tree.spells (subst (λ tokens. grammar.IsFault bytes tokens is.fault) same is.is_fault)
+    laws.tree_or_fault bytes has.is_tree.tokens is.fault (has.tree, has.is_tree.spells) (subst (λ tokens. grammar.IsFault bytes tokens is.fault) same is.is_fault)
 no_fault laws bytes d names at words has (inr (inr is)) =
     let same = same_tree laws bytes has.tree is.tree has.is_tree is.is_tree in
     laws.diagram_or_fault bytes is.tree is.fault (subst (λ tree. all_passes bytes tree None) same has.clear) is.is_fault
@@ -95,7 +96,7 @@ no_report_bound laws bytes a b x y = y.passed (along laws bytes x.d y.d x.names 
 
 no_report_many : Laws → (bytes a b : List ℕ) → Reports bytes a → TellsNotBuilt bytes b → ⊥
 no_report_many laws bytes a b x y =
-    let few : world_count y.d.nodes ≤ most_worlds = along laws bytes x.d y.d x.names y.names (λ d. world_count d.nodes ≤ most_worlds) x.is_diagram y.is_diagram x.few in
+    let few : world_count y.d.nodes ≤ MOST_WORLDS = along laws bytes x.d y.d x.names y.names (λ d. world_count d.nodes ≤ MOST_WORLDS) x.is_diagram y.is_diagram x.few in
     let many = y.many in omega (arith, few, many)
 
 no_cycle_bound : Laws → (bytes a b : List ℕ) → TellsCycle bytes a → TellsBound bytes b → ⊥

@@ -1,11 +1,12 @@
 //! From a file's bytes to the diagram that they stand for, or to the line of their fault.
 
 ghost use Rattle.std.specs.Prelude.{◌≡◌, All, IfOk, IfErr, Some};
+ghost use Rattle.first_fault.specs.Answers.{IsFaultOrNoMemory};
 ghost use Rattle.maid_model.specs.Names.{NamesFit};
-ghost use Rattle.net_build.specs.Passes.{Refuses as RefusesPass, kind_view, found};
+ghost use Rattle.net_build.specs.Passes.{build_fault, kind_view, found};
 ghost use Rattle.net_build.specs.Table.{all_passes};
-ghost use Rattle.net_lexer.specs.Pieces.{IsTokens, IsRefusal};
-ghost use Rattle.net_parser.specs.Faults.{Refuses};
+ghost use Rattle.net_lexer.specs.Pieces.{IsTokens, token_pass, lex_fault};
+ghost use Rattle.net_parser.specs.Faults.{tree_pass, parse_fault};
 ghost use Rattle.net_parser.specs.Grammar.{Spells};
 ghost use Rattle.net_parser.specs.Lexemes.{lexemes};
 ghost use Rattle.net_parser.specs.Owned.{IsBlockOf};
@@ -47,7 +48,7 @@ impl Source<'_> {
 
     // The refusal of bytes that have no tokens.
     fn token_refusal(self, alloc: Global, fault: LexFault) -> Refusal
-        requires { IsRefusal self.bytes.now fault }
+        requires { IsFaultOrNoMemory lex_fault (token_pass self.bytes.now) fault }
         ensures { RefusesBytes self.entry.name.now self.entry.bytes.now (status_of result) (line_of result) }
     {
         match fault {
@@ -61,7 +62,7 @@ impl Source<'_> {
     // The refusal of tokens that spell no tree.
     fn grammar_refusal(self, alloc: Global, tokens: &Tokens, fault: ParseFault) -> Refusal
         requires tokens { IsTokens self.bytes.now tokens.now }
-        requires refuses { Refuses self.bytes.now tokens.now fault }
+        requires refuses { IsFaultOrNoMemory parse_fault (tree_pass self.bytes.now tokens.now) fault }
         ensures { RefusesBytes self.entry.name.now self.entry.bytes.now (status_of result) (line_of result) }
     {
         match fault {
@@ -128,7 +129,7 @@ impl Source<'_> {
         requires tokens { IsTokens self.bytes.now tokens.now }
         requires spells { Spells tree.now (lexemes self.bytes.now tokens.now) }
         requires blocks { All (IsBlockOf self.bytes.now) tree.now }
-        requires refuses { RefusesPass (all_passes self.bytes.now tree.now) fault.now }
+        requires refuses { IsFaultOrNoMemory build_fault (all_passes self.bytes.now tree.now) fault.now }
         ensures { RefusesBytes self.entry.name.now self.entry.bytes.now (status_of result) (line_of result) }
     {
         match fault {

@@ -15,3 +15,4 @@ pub mod Guessing
 pub mod Weather
 pub mod GuessWorth
 pub mod WeatherMade
+pub mod InSight

@@ -3,6 +3,7 @@ pub mod FollowerLeader
 pub mod CopySeen
 pub mod NodeBetween
 pub mod EmptyThreat
+pub mod SightAnswered
 pub mod CopyAnswered
 pub mod Tie
 pub mod Pennies

@@ -9,6 +9,7 @@ mod follower_leader;
 mod guess;
 mod node_between;
 mod outing;
+mod sighted;
 #[cfg(test)]
 mod tests;
 mod threat;
@@ -23,5 +24,6 @@ pub use follower_leader::follower_and_leader;
 pub use guess::two_coins;
 pub use node_between::one_state_between;
 pub use outing::a_trip;
+pub use sighted::answer_in_sight;
 pub use threat::empty_threat;
 pub use ties::tie_and_best;

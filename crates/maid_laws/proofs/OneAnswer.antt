@@ -120,7 +120,7 @@ first_best_one gain states x y a b = go (dec_lt x y) (dec_lt y x)
     go (no m) (no n) = omega arith
 
 -- the scale of a row with mass
-scaled : (m : ℤ) (decimals : ℕ) → pos 0 <ℤ m → 0 < nat_abs m * 10 ^ decimals
+pub scaled : (m : ℤ) (decimals : ℕ) → pos 0 <ℤ m → 0 < nat_abs m * 10 ^ decimals
 scaled m decimals h = mul-pos (size m h) (power decimals)
   where
     size : (m : ℤ) → pos 0 <ℤ m → 0 < nat_abs m

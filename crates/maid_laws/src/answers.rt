@@ -1,4 +1,4 @@
-ghost use Rattle.maid_laws.specs.Answers.{ChoicesAreBest, AnswersAreBest, AnswersAreSubgamePerfect, AnswersAreOptimal, AnswersAreAccepted, GainsAreOptima, OneAnswer, WorthInBase, WorthUnderTheProfile};
+ghost use Rattle.maid_laws.specs.Answers.{ChoicesAreBest, AnswersAreBest, AnswersAreSubgamePerfect, AnswersAreOptimal, AnswersAreAccepted, GainsAreOptima, OneAnswer, AnswerExists, WorthInBase, WorthUnderTheProfile};
 
 /// Answered choices that are best against the bases make a profile that is best in its bases: so does an answer, an
 /// accepted report, and a report whose choices still hold at changed numbers.
@@ -27,8 +27,9 @@ pub fn answers_are_accepted()
     ensures law { AnswersAreAccepted }
 {}
 
-/// A diagram has one answer at most.
+/// A diagram whose decisions have an order of solving has an answer, and no diagram has two.
 pub fn one_answer()
+    ensures exists { AnswerExists }
     ensures one { OneAnswer }
 {}
 

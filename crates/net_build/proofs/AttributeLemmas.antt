@@ -8,11 +8,13 @@ use Rattle.net_build.specs.declared.faults.BuildFault.{BuildFault}
 use Rattle.net_build.specs.declared.faults.BuildFault.TheVariants.{Fault}
 use Rattle.net_build.specs.declared.faults.BuildKind.TheVariants as kinds
 use Rattle.net_build.specs.Blocks.{is_counted, word_of}
-use Rattle.net_build.specs.Passes.{Pass, Refuses}
+use Rattle.first_fault.specs.Passes.{Pass}
+use Rattle.first_fault.specs.Answers.{IsFaultOrNoMemory}
+use Rattle.net_build.specs.Passes.{Found, build_fault}
 use Rattle.net_build.specs.Table.{repeated_row}
 use Rattle.net_parser.specs.declared.trees.BlockKind.{BlockKind}
 use Rattle.net_parser.specs.Trees.{AttributeTree}
-use Rattle.net_build.proofs.Passing.{Leads, AfterPass, after_skip, after_step, after_refused}
+use Rattle.first_fault.proofs.Leading.{Leads, AfterPass, after_skip, after_step, after_refused}
 use Rattle.net_build.proofs.PlaceLemmas.{bytes_same}
 
 -- both sides of an `and`
@@ -70,7 +72,7 @@ contained_is_any f q w (x ∷ xs) h = by_test (q (f x)) refl (λ k. ap (λ b. by
   by_test false k later = later (rw (words_left f q x xs k) at h)
 
 -- the attributes of a kind of block that count, and what those from place i on find
-abbrev pub CountedFrom : List ℕ → BlockKind → List AttributeTree → ℕ → Pass
+abbrev pub CountedFrom : List ℕ → BlockKind → List AttributeTree → ℕ → Pass Found
 CountedFrom text kind attributes i = AfterPass (repeated_row text) (λ a. is_counted kind (word_of text a)) attributes i
 
 -- the word counts and stands before the place
@@ -78,13 +80,13 @@ abbrev pub stands_before : List ℕ → BlockKind → List AttributeTree → ℕ
 stands_before text kind attributes i word = is_counted kind word && list_any (λ a. bytes_eq (word_of text a) word) (take i attributes)
 
 -- where the attribute's does, it stands a second time
-pub repeated_refused : (text : List ℕ) (kind : BlockKind) (attributes : List AttributeTree) (W : Pass) (i : ℕ) (x : AttributeTree) (fault : BuildFault) → i < length attributes → x ≡ get_or attributes i x → stands_before text kind attributes i (word_of text x) ≡ true → fault ≡ Fault x.name.start kinds.DoubleAttribute → Leads (CountedFrom text kind attributes i) W → Refuses W fault
+pub repeated_refused : (text : List ℕ) (kind : BlockKind) (attributes : List AttributeTree) (W : Pass Found) (i : ℕ) (x : AttributeTree) (fault : BuildFault) → i < length attributes → x ≡ get_or attributes i x → stands_before text kind attributes i (word_of text x) ≡ true → fault ≡ Fault x.name.start kinds.DoubleAttribute → Leads (CountedFrom text kind attributes i) W → IsFaultOrNoMemory build_fault W fault
 repeated_refused text kind attributes W i x fault h is before what lead =
-    rw what (after_refused (repeated_row text) (λ a. is_counted kind (word_of text a)) attributes W i x (Fault x.name.start kinds.DoubleAttribute) h is (and_left _ _ before) lead
+    rw what (after_refused (repeated_row text) (λ a. is_counted kind (word_of text a)) attributes W i x (build_fault (Fault x.name.start kinds.DoubleAttribute)) h is (and_left _ _ before) lead
     (any_is_contained (word_of text) (is_counted kind) (word_of text x) (take i attributes) (and_left _ _ before) (and_right _ _ before), refl))
 
 -- where it doesn't, the attributes behind it lead on
-pub repeated_on : (text : List ℕ) (kind : BlockKind) (attributes : List AttributeTree) (W : Pass) (i : ℕ) (x : AttributeTree) → i < length attributes → x ≡ get_or attributes i x → stands_before text kind attributes i (word_of text x) ≡ false → Leads (CountedFrom text kind attributes i) W → Leads (CountedFrom text kind attributes (i + 1)) W
+pub repeated_on : (text : List ℕ) (kind : BlockKind) (attributes : List AttributeTree) (W : Pass Found) (i : ℕ) (x : AttributeTree) → i < length attributes → x ≡ get_or attributes i x → stands_before text kind attributes i (word_of text x) ≡ false → Leads (CountedFrom text kind attributes i) W → Leads (CountedFrom text kind attributes (i + 1)) W
 repeated_on text kind attributes W i x h is before lead = by_test (is_counted kind (word_of text x)) refl where
   by_test : (t : Bool) → is_counted kind (word_of text x) ≡ t → Leads (CountedFrom text kind attributes (i + 1)) W
   by_test true k = after_step (repeated_row text) (λ a. is_counted kind (word_of text a)) attributes W i x h is k lead

@@ -12,17 +12,18 @@ use Rattle.net_lexer.specs.declared.tokens.Token.{Token}
 use Rattle.net_parser.specs.Trees.{ValueTree, leaf, list, none, more, AttributeTree, BlockTree}
 use Rattle.net_parser.specs.Owned.{leaves}
 use Rattle.net_build.specs.Blocks.{leaves_of, has_states, is_string_list, named, block_states, place_among}
-use Rattle.net_build.specs.Passes.{Pass, each, each_after, only}
+use Rattle.first_fault.specs.Passes.{Pass, each, each_after, only}
+use Rattle.net_build.specs.Passes.{Found}
 use Rattle.net_build.specs.Table.{node_rows, states_rows, label_rows}
 use Rattle.net_build.proofs.PlaceLemmas.{first_place_is}
 
 -- in lists
-pub each_after_at : {X : Type 0} (P : List X → X → Pass) (earlier xs : List X) (d : X) (v : ℕ) → each_after P earlier xs None → v < length xs → P (earlier ++ take v xs) (get_or xs v d) None
+pub each_after_at : {X : Type 0} (P : List X → X → Pass Found) (earlier xs : List X) (d : X) (v : ℕ) → each_after P earlier xs None → v < length xs → P (earlier ++ take v xs) (get_or xs v d) None
 each_after_at P earlier [] d v h within = absurd (omega arith)
 each_after_at P earlier (x ∷ xs) d zero h within = rw (append-nil earlier) h.0
 each_after_at P earlier (x ∷ xs) d (suc v) h within = rw (append_assoc earlier (x ∷ []) (take v xs)) at (each_after_at P (earlier ++ x ∷ []) xs d v h.1 (omega arith))
 
-pub each_filter_at : {X : Type 0} (P : X → Pass) (q : X → Bool) (xs : List X) (d : X) (v : ℕ) → each P (filter q xs) None → v < length xs → q (get_or xs v d) ≡ true → P (get_or xs v d) None
+pub each_filter_at : {X : Type 0} (P : X → Pass Found) (q : X → Bool) (xs : List X) (d : X) (v : ℕ) → each P (filter q xs) None → v < length xs → q (get_or xs v d) ≡ true → P (get_or xs v d) None
 each_filter_at P q [] d v h within kept = absurd (omega arith)
 each_filter_at P q (x ∷ xs) d zero h within kept = (subst (λ b. each P (cond b (x ∷ filter q xs) (filter q xs)) None) kept h).0
 each_filter_at P q (x ∷ xs) d (suc v) h within kept = by_test (q x) refl (λ g. each_filter_at P q xs d v g (omega arith) kept) where

@@ -12,9 +12,11 @@ use Rattle.net_lexer.specs.declared.tokens.Token.{Token}
 use Rattle.net_parser.specs.Trees.{AttributeTree}
 use Rattle.net_parser.specs.Owned.{leaves}
 use Rattle.net_build.specs.declared.faults.BuildFault.{BuildFault}
-use Rattle.net_build.specs.Passes.{only, Refuses}
+use Rattle.first_fault.specs.Passes.{only}
+use Rattle.first_fault.specs.Answers.{IsFaultOrNoMemory}
+use Rattle.net_build.specs.Passes.{build_fault}
 use Rattle.net_build.specs.TableParts.{number_rows, weight_part, data_part}
-use Rattle.net_build.proofs.Passing.{refused_later}
+use Rattle.first_fault.proofs.Leading.{refused_later}
 
 -- numbers that do not differ are the same
 pub same_count : (a b : ℕ) → (a ≢ b → ⊥) → a ≡ b
@@ -30,10 +32,10 @@ pub divides_by : (n rows states : ℕ) → n ≡ rows * states → states ∣ n
 divides_by n rows states e = subst (λ m. states ∣ m) (sym e) (dvd-mul_left states rows)
 
 module _ (text : List ℕ) (kind : Kind) (rows states at : ℕ) (table : AttributeTree) (is : kind ≡ model.Chance) (numbers : number_rows text (rows * states) table None) (place : at ≡ table.name.start) where
-  pub chance_refused : (tokens : List Token) (fault : BuildFault) → tokens ≡ leaves table.value → Refuses (weight_part text states rows at tokens) fault → Refuses (data_part text kind rows states table) fault
-  chance_refused tokens fault same h = refused_later (number_rows text (rows * states) table) (only (is_chance kind) (weight_part text states rows table.name.start (leaves table.value))) fault numbers
-      (subst (λ (k : Kind). Refuses (only (is_chance k) (weight_part text states rows table.name.start (leaves table.value))) fault) (sym is)
-      (subst (λ n. Refuses (weight_part text states rows n (leaves table.value)) fault) place (subst (λ ts. Refuses (weight_part text states rows at ts) fault) same h)))
+  pub chance_refused : (tokens : List Token) (fault : BuildFault) → tokens ≡ leaves table.value → IsFaultOrNoMemory build_fault (weight_part text states rows at tokens) fault → IsFaultOrNoMemory build_fault (data_part text kind rows states table) fault
+  chance_refused tokens fault same h = refused_later (number_rows text (rows * states) table) (only (is_chance kind) (weight_part text states rows table.name.start (leaves table.value))) (build_fault fault) numbers
+      (subst (λ (k : Kind). IsFaultOrNoMemory build_fault (only (is_chance k) (weight_part text states rows table.name.start (leaves table.value))) fault) (sym is)
+      (subst (λ n. IsFaultOrNoMemory build_fault (weight_part text states rows n (leaves table.value)) fault) place (subst (λ ts. IsFaultOrNoMemory build_fault (weight_part text states rows at ts) fault) same h)))
 
   pub chance_clear : (tokens : List Token) → tokens ≡ leaves table.value → weight_part text states rows at tokens None → data_part text kind rows states table None
   chance_clear tokens same h = (

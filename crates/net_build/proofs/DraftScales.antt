@@ -13,13 +13,13 @@ use Rattle.net_build.specs.declared.nodes.Head.{Head}
 use Rattle.net_build.specs.declared.drafts.Draft.{Draft}
 use Rattle.net_build.specs.declared.drafts.Draft.TheVariants.{Cells, Values}
 use Rattle.net_build.specs.Blocks.{no_token, node_blocks, kind_of, block_states, row_count, data_of, leaves_of, block_numbers}
-use Rattle.net_build.specs.Passes.{each}
+use Rattle.first_fault.specs.Passes.{each}
 use Rattle.net_build.specs.Scaling.{AreDecimals, decimal_at, IsWholeBy}
 use Rattle.net_build.specs.Stages.{NodeLists, head_of, node_lists, link_lists}
 use Rattle.net_build.specs.Table.{IsWideValue, wide_row, node_pass, potential_pass, no_block}
 use Rattle.net_build.specs.TableParts.{AreDrafts, FitsDraft, Fits, HasAtMost, Reaches, IsDraftOf, IsDraftAt, IsScaleOf, value_at_scale, values_in, values_of}
 use Rattle.net_build.specs.Zero.{nought}
-use Rattle.net_build.proofs.EachPassing.{each_all}
+use Rattle.first_fault.proofs.Items.{each_all}
 use Rattle.net_build.proofs.ScaleLemmas.{decimal_of, raised_is, fits_narrow, not_whole}
 use Rattle.net_build.proofs.TableEnd.{item_of, draft_here, values_at}
 use Rattle.net_build.proofs.TableFacts.{values_of_nodes}

@@ -12,7 +12,7 @@ use Rattle.net_lexer.specs.declared.tokens.Token.{Token}
 use Rattle.net_build.specs.declared.nodes.Head.{Head}
 use Rattle.net_build.specs.Blocks.{no_token}
 use Rattle.net_build.specs.Linking.{node_named, kind_at, unknown_row, condition_steps, AreParents, rules_before}
-use Rattle.net_build.specs.Passes.{each_after}
+use Rattle.first_fault.specs.Passes.{each_after}
 use Rattle.net_build.specs.Stages.{head_at, no_head, cells_at, AreLinks}
 use Rattle.net_build.proofs.AttributeLemmas.{contains_first, contains_cases, contains_none}
 use Rattle.net_build.proofs.LinkLemmas.{place_within}

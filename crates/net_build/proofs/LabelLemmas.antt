@@ -13,11 +13,13 @@ use Rattle.net_build.specs.declared.faults.BuildFault.TheVariants.{Fault, NoMemo
 use Rattle.net_build.specs.declared.faults.BuildKind.TheVariants as kinds
 use Rattle.net_build.specs.declared.faults.Limit.TheVariants as limits
 use Rattle.maid_model.specs.Names.{list_of}
-use Rattle.net_build.specs.Passes.{Pass, Refuses, Passes, each}
+use Rattle.first_fault.specs.Passes.{Pass, each}
+use Rattle.first_fault.specs.Answers.{IsFaultOrNoMemory, Passes}
+use Rattle.net_build.specs.Passes.{Found, build_fault}
 use Rattle.net_build.specs.Stages.{leaves_in, are_string_values}
 use Rattle.net_build.specs.Table.{label_row, label_rows, states_rows}
 use Rattle.net_build.proofs.AttributeLemmas.{and_left, and_right}
-use Rattle.net_build.proofs.Passing.{Leads, drop_item, each_on, each_refused, leads_refused}
+use Rattle.first_fault.proofs.Leading.{Leads, drop_item, each_on, each_refused, leads_refused}
 use Rattle.net_lexer.specs.Token.{text_value}
 use Rattle.net_lexer.specs.declared.tokens.Token.{Token}
 use Rattle.net_parser.specs.Owned.{leaves, all_leaves, IsLeafOf}
@@ -102,12 +104,12 @@ pub all_behind : (P : Token → Type 0) (vs : List Value) (i : ℕ) (v : Value) 
 all_behind P vs i v h is all = All-back P (leaves (value_tree v)) (leaves_in (drop (i + 1) vs)) (rw (leaves_from vs i v h is) at all)
 
 -- a value's labels find nothing, and those behind lead on
-pub labels_on : (P : Token → Pass) (vs : List Value) (W : Pass) (i : ℕ) (v : Value) → i < length vs → v ≡ get_or vs i v → Leads (each P (leaves_in (drop i vs))) W → each P (leaves (value_tree v)) None → Leads (each P (leaves_in (drop (i + 1) vs))) W
+pub labels_on : (P : Token → Pass Found) (vs : List Value) (W : Pass Found) (i : ℕ) (v : Value) → i < length vs → v ≡ get_or vs i v → Leads (each P (leaves_in (drop i vs))) W → each P (leaves (value_tree v)) None → Leads (each P (leaves_in (drop (i + 1) vs))) W
 labels_on P vs W i v h is lead nothing = each_on P (leaves (value_tree v)) (leaves_in (drop (i + 1) vs)) W (rw (leaves_from vs i v h is) at lead) nothing
 
 -- or they are refused
-pub labels_refused : (P : Token → Pass) (vs : List Value) (W : Pass) (i : ℕ) (v : Value) (fault : BuildFault) → i < length vs → v ≡ get_or vs i v → Leads (each P (leaves_in (drop i vs))) W → Refuses (each P (leaves (value_tree v))) fault → Refuses W fault
-labels_refused P vs W i v fault h is lead here = leads_refused (each P (leaves (value_tree v) ++ leaves_in (drop (i + 1) vs))) W fault (rw (leaves_from vs i v h is) at lead) (each_refused P (leaves (value_tree v)) (leaves_in (drop (i + 1) vs)) fault here)
+pub labels_refused : (P : Token → Pass Found) (vs : List Value) (W : Pass Found) (i : ℕ) (v : Value) (fault : BuildFault) → i < length vs → v ≡ get_or vs i v → Leads (each P (leaves_in (drop i vs))) W → IsFaultOrNoMemory build_fault (each P (leaves (value_tree v))) fault → IsFaultOrNoMemory build_fault W fault
+labels_refused P vs W i v fault h is lead here = leads_refused (each P (leaves (value_tree v) ++ leaves_in (drop (i + 1) vs))) W (build_fault fault) (rw (leaves_from vs i v h is) at lead) (each_refused P (leaves (value_tree v)) (leaves_in (drop (i + 1) vs)) (build_fault fault) here)
 
 -- one more label
 pub labels_more : (text : List ℕ) (vs : List Value) (i : ℕ) (v : Value) (labels longer : List (Vec ℕ)) (label : Vec ℕ) (all : List (List ℕ)) → i < length vs → v ≡ get_or vs i v → map (text_value text) (leaves (value_tree v)) ≡ label.items ∷ [] → longer ≡ labels ++ label ∷ [] → list_of labels ++ map (text_value text) (leaves_in (drop i vs)) ≡ all → list_of longer ++ map (text_value text) (leaves_in (drop (i + 1) vs)) ≡ all
@@ -134,28 +136,28 @@ count_leaves (v ∷ vs) e =
     length-append (leaves (value_tree v)) (leaves_in vs) ∙ (let sum : length (leaves (value_tree v)) + length (leaves_in vs) ≡ suc (length vs) = omega arith in sum)
 
 -- the value of `states` is no list of strings
-pub bad_states : (text : List ℕ) (states : AttributeTree) (fault : BuildFault) → is_string_list states.value ≡ false → fault ≡ Fault states.name.start kinds.BadStates → Refuses (label_rows text states) fault
+pub bad_states : (text : List ℕ) (states : AttributeTree) (fault : BuildFault) → is_string_list states.value ≡ false → fault ≡ Fault states.name.start kinds.BadStates → IsFaultOrNoMemory build_fault (label_rows text states) fault
 unfolding label_rows
 bad_states text states fault bad what = rw what (inl (bad, refl))
 
 -- or one of too many
-pub many_states : (text : List ℕ) (states : AttributeTree) (fault : BuildFault) (count : ℕ) → is_string_list states.value ≡ true → count ≡ length (leaves states.value) → 256 < count → fault ≡ Fault states.name.start (kinds.LimitPassed limits.States count) → Refuses (label_rows text states) fault
+pub many_states : (text : List ℕ) (states : AttributeTree) (fault : BuildFault) (count : ℕ) → is_string_list states.value ≡ true → count ≡ length (leaves states.value) → 256 < count → fault ≡ Fault states.name.start (kinds.LimitPassed limits.States count) → IsFaultOrNoMemory build_fault (label_rows text states) fault
 unfolding label_rows
 many_states text states fault count good counted many what = rw (what, counted) (inr (λ bad. false≢true (sym bad ∙ good), inl (rw counted at many, refl)))
 
 -- or of few, so that its labels decide
-pub few_states : {A : Type 0} (text : List ℕ) (states : AttributeTree) (result : Result A BuildFault) → is_string_list states.value ≡ true → length (leaves states.value) ≤ 256 → Passes (each (label_row text) (leaves states.value)) result → Passes (label_rows text states) result
+pub few_states : {A : Type 0} (text : List ℕ) (states : AttributeTree) (result : Result A BuildFault) → is_string_list states.value ≡ true → length (leaves states.value) ≤ 256 → Passes build_fault (each (label_row text) (leaves states.value)) result → Passes build_fault (label_rows text states) result
 unfolding label_rows
 few_states text states (Ok x) good few rows = (λ bad. false≢true (sym bad ∙ good), (λ many. omega arith, rows))
 few_states text states (Err NoMemory) good few rows = tt
 few_states text states (Err (Fault at kind)) good few rows = inr (λ bad. false≢true (sym bad ∙ good), inr (λ many. omega arith, rows))
 
 -- a block without `states`
-pub no_states : (text : List ℕ) (block : BlockTree) (states : List AttributeTree) (fault : BuildFault) → states ≡ [] → fault ≡ Fault (title_at block) kinds.MissingStates → Refuses (states_rows text block states) fault
+pub no_states : (text : List ℕ) (block : BlockTree) (states : List AttributeTree) (fault : BuildFault) → states ≡ [] → fault ≡ Fault (title_at block) kinds.MissingStates → IsFaultOrNoMemory build_fault (states_rows text block states) fault
 unfolding states_rows
 no_states text block states fault none what = rw (what, none) (tt, refl)
 
 -- a block with `states`
-pub some_states : {A : Type 0} (text : List ℕ) (block : BlockTree) (states : List AttributeTree) (first : AttributeTree) (rest : List AttributeTree) (result : Result A BuildFault) → states ≡ first ∷ rest → Passes (label_rows text first) result → Passes (states_rows text block states) result
+pub some_states : {A : Type 0} (text : List ℕ) (block : BlockTree) (states : List AttributeTree) (first : AttributeTree) (rest : List AttributeTree) (result : Result A BuildFault) → states ≡ first ∷ rest → Passes build_fault (label_rows text first) result → Passes build_fault (states_rows text block states) result
 unfolding states_rows
 some_states text block states first rest result some rows = rw some rows

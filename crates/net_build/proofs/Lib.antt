@@ -1,8 +1,6 @@
-pub mod Passing
 pub mod PlaceLemmas
 pub mod AttributeLemmas
 pub mod LeafLemmas
-pub mod EachPassing
 pub mod DecimalLemmas
 pub mod NumberLemmas
 pub mod ScaleLemmas
@@ -41,3 +39,4 @@ pub mod LinkPasses
 pub mod RowDivisors
 pub mod PlainTables
 pub mod NameLemmas
+pub mod Covered

@@ -8,39 +8,35 @@ use Rattle.std.specs.List.{list_any, range_with_len}
 use Rattle.std.specs.Result.{IsErr, IsErrAnd}
 use Rattle.std.specs.Str.{bytes_eq}
 use Rattle.net_build.specs.declared.faults.BuildFault.{BuildFault}
-use Rattle.net_build.specs.declared.faults.BuildFault.TheVariants.{Fault, NoMemory}
 use Rattle.net_build.specs.Blocks.{place_among}
 use Rattle.net_build.specs.declared.nodes.Head.{Head}
 use Rattle.net_build.specs.Linking.{kind_at, node_named, unknown_row, repeat_row, utility_row, condition_steps}
 use Rattle.net_lexer.specs.declared.tokens.Token.{Token}
-use Rattle.net_build.specs.Passes.{Pass, ◌▸◌, each, each_after, Refuses, Passes}
+use Rattle.first_fault.specs.Passes.{Pass, ◌▸◌, each, each_after}
+use Rattle.first_fault.specs.Answers.{IsFaultOrNoMemory, Passes}
+use Rattle.net_build.specs.Passes.{Found, build_fault}
 use Rattle.net_build.proofs.AttributeLemmas.{contains_later, contains_cases, contains_none}
-use Rattle.net_build.proofs.Passing.{Leads, leads_on, leads_end, leads_refused, refused_first, drop_item, take_item}
+use Rattle.first_fault.proofs.Leading.{Leads, leads_on, leads_end, leads_refused, refused_first, refused_later, drop_item, take_item}
 use Rattle.net_build.proofs.PlaceLemmas.{bytes_same}
 
 -- what a `?` hands on is refused as it was
-pub hands_on : {A : Type 0} (P : Pass) (r : Result A BuildFault) (fault : BuildFault) → IsErr r × IsErrAnd r (λ y. y ≡ fault) → Refuses P fault → Passes P r
+pub hands_on : {A : Type 0} (P : Pass Found) (r : Result A BuildFault) (fault : BuildFault) → IsErr r × IsErrAnd r (λ y. y ≡ fault) → IsFaultOrNoMemory build_fault P fault → Passes build_fault P r
 hands_on P r fault e h = let p = err_from_is_err_and r e.1 in rw (p.1, p.2) h
 
--- rows that find nothing before those that refuse
-pub second_refuses : (P Q : Pass) (fault : BuildFault) → P None → Refuses Q fault → Refuses (P ▸ Q) fault
-second_refuses P Q NoMemory nothing h = tt
-second_refuses P Q (Fault at kind) nothing h = inr (nothing, h)
-
 -- what the items from place i on find, those before having found nothing
-abbrev pub Behind : {X : Type 0} → (List X → X → Pass) → List X → ℕ → Pass
+abbrev pub Behind : {X : Type 0} → (List X → X → Pass Found) → List X → ℕ → Pass Found
 Behind P xs i = each_after P (take i xs) (drop i xs)
 
 -- an item whose rows find nothing
-pub behind_on : {X : Type 0} (P : List X → X → Pass) (xs : List X) (W : Pass) (i : ℕ) (x : X) → i < length xs → x ≡ get_or xs i x → Leads (Behind P xs i) W → P (take i xs) x None → Leads (Behind P xs (i + 1)) W
+pub behind_on : {X : Type 0} (P : List X → X → Pass Found) (xs : List X) (W : Pass Found) (i : ℕ) (x : X) → i < length xs → x ≡ get_or xs i x → Leads (Behind P xs i) W → P (take i xs) x None → Leads (Behind P xs (i + 1)) W
 behind_on P xs W i x h is lead nothing = rw (take_item xs i x h is) (leads_on (P (take i xs) x) (each_after P (take i xs ++ x ∷ []) (drop (i + 1) xs)) W (rw (drop_item xs i x h is) at lead) nothing)
 
 -- an item whose rows find a fault
-pub behind_refused : {X : Type 0} (P : List X → X → Pass) (xs : List X) (W : Pass) (i : ℕ) (x : X) (fault : BuildFault) → i < length xs → x ≡ get_or xs i x → Leads (Behind P xs i) W → Refuses (P (take i xs) x) fault → Refuses W fault
-behind_refused P xs W i x fault h is lead here = leads_refused (P (take i xs) x ▸ each_after P (take i xs ++ x ∷ []) (drop (i + 1) xs)) W fault (rw (drop_item xs i x h is) at lead) (refused_first (P (take i xs) x) (each_after P (take i xs ++ x ∷ []) (drop (i + 1) xs)) fault here)
+pub behind_refused : {X : Type 0} (P : List X → X → Pass Found) (xs : List X) (W : Pass Found) (i : ℕ) (x : X) (fault : BuildFault) → i < length xs → x ≡ get_or xs i x → Leads (Behind P xs i) W → IsFaultOrNoMemory build_fault (P (take i xs) x) fault → IsFaultOrNoMemory build_fault W fault
+behind_refused P xs W i x fault h is lead here = leads_refused (P (take i xs) x ▸ each_after P (take i xs ++ x ∷ []) (drop (i + 1) xs)) W (build_fault fault) (rw (drop_item xs i x h is) at lead) (refused_first (P (take i xs) x) (each_after P (take i xs ++ x ∷ []) (drop (i + 1) xs)) (build_fault fault) here)
 
 -- no item is left
-pub behind_end : {X : Type 0} (P : List X → X → Pass) (xs : List X) (W : Pass) (i : ℕ) → length xs ≤ i → Leads (Behind P xs i) W → W None
+pub behind_end : {X : Type 0} (P : List X → X → Pass Found) (xs : List X) (W : Pass Found) (i : ℕ) → length xs ≤ i → Leads (Behind P xs i) W → W None
 behind_end P xs W i h lead = leads_end W (λ outcome nothing. lead outcome (rw (drop_all i xs h) nothing))
 
 -- the test finds the word among those of the items, just where it is there
@@ -72,23 +68,23 @@ place_within (x ∷ names) name h = by_test (bytes_eq x name) refl (contains_cas
   by_test false e (inr k) rec = let s : place_among (x ∷ names) name ≡ 1 + place_among names name = ap (λ b. cond (not b) (1 + place_among names name) 0) e in omega (arith, s, rec k)
 
 -- the rows of a name behind the bar, where the first, the second or the third finds a fault
-pub condition_unknown : {A : Type 0} (text : List ℕ) (names : List (List ℕ)) (heads : List Head) (earlier : List Token) (name : Token) (r : Result A BuildFault) (fault : BuildFault) → IsErr r × IsErrAnd r (λ y. y ≡ fault) → Refuses (unknown_row text names name) fault → Passes (condition_steps text names heads earlier name) r
+pub condition_unknown : {A : Type 0} (text : List ℕ) (names : List (List ℕ)) (heads : List Head) (earlier : List Token) (name : Token) (r : Result A BuildFault) (fault : BuildFault) → IsErr r × IsErrAnd r (λ y. y ≡ fault) → IsFaultOrNoMemory build_fault (unknown_row text names name) fault → Passes build_fault (condition_steps text names heads earlier name) r
 condition_unknown text names heads earlier name r fault e h =
     hands_on (condition_steps text names heads earlier name) r fault e
-    (refused_first (unknown_row text names name) (repeat_row text earlier name ▸ utility_row (kind_at heads (node_named text names name)) name) fault h)
+    (refused_first (unknown_row text names name) (repeat_row text earlier name ▸ utility_row (kind_at heads (node_named text names name)) name) (build_fault fault) h)
 
-pub condition_repeat : {A : Type 0} (text : List ℕ) (names : List (List ℕ)) (heads : List Head) (earlier : List Token) (name : Token) (r : Result A BuildFault) (fault : BuildFault) → IsErr r × IsErrAnd r (λ y. y ≡ fault) → unknown_row text names name None → Refuses (repeat_row text earlier name) fault → Passes (condition_steps text names heads earlier name) r
+pub condition_repeat : {A : Type 0} (text : List ℕ) (names : List (List ℕ)) (heads : List Head) (earlier : List Token) (name : Token) (r : Result A BuildFault) (fault : BuildFault) → IsErr r × IsErrAnd r (λ y. y ≡ fault) → unknown_row text names name None → IsFaultOrNoMemory build_fault (repeat_row text earlier name) fault → Passes build_fault (condition_steps text names heads earlier name) r
 condition_repeat text names heads earlier name r fault e known h =
     hands_on (condition_steps text names heads earlier name) r fault e
-    (second_refuses (unknown_row text names name) (repeat_row text earlier name ▸ utility_row (kind_at heads (node_named text names name)) name) fault known
-    (refused_first (repeat_row text earlier name) (utility_row (kind_at heads (node_named text names name)) name) fault h))
+    (refused_later (unknown_row text names name) (repeat_row text earlier name ▸ utility_row (kind_at heads (node_named text names name)) name) (build_fault fault) known
+    (refused_first (repeat_row text earlier name) (utility_row (kind_at heads (node_named text names name)) name) (build_fault fault) h))
 
-pub condition_utility : {A : Type 0} (text : List ℕ) (names : List (List ℕ)) (heads : List Head) (earlier : List Token) (name : Token) (v : ℕ) (r : Result A BuildFault) (fault : BuildFault) → IsErr r × IsErrAnd r (λ y. y ≡ fault) → unknown_row text names name None → repeat_row text earlier name None → v ≡ node_named text names name → Refuses (utility_row (kind_at heads v) name) fault → Passes (condition_steps text names heads earlier name) r
+pub condition_utility : {A : Type 0} (text : List ℕ) (names : List (List ℕ)) (heads : List Head) (earlier : List Token) (name : Token) (v : ℕ) (r : Result A BuildFault) (fault : BuildFault) → IsErr r × IsErrAnd r (λ y. y ≡ fault) → unknown_row text names name None → repeat_row text earlier name None → v ≡ node_named text names name → IsFaultOrNoMemory build_fault (utility_row (kind_at heads v) name) fault → Passes build_fault (condition_steps text names heads earlier name) r
 condition_utility text names heads earlier name v r fault e known new is h =
     hands_on (condition_steps text names heads earlier name) r fault e
-    (second_refuses (unknown_row text names name) (repeat_row text earlier name ▸ utility_row (kind_at heads (node_named text names name)) name) fault known
-    (second_refuses (repeat_row text earlier name) (utility_row (kind_at heads (node_named text names name)) name) fault new
-    (subst (λ (w : ℕ). Refuses (utility_row (kind_at heads w) name) fault) is h)))
+    (refused_later (unknown_row text names name) (repeat_row text earlier name ▸ utility_row (kind_at heads (node_named text names name)) name) (build_fault fault) known
+    (refused_later (repeat_row text earlier name) (utility_row (kind_at heads (node_named text names name)) name) (build_fault fault) new
+    (subst (λ (w : ℕ). IsFaultOrNoMemory build_fault (utility_row (kind_at heads w) name) fault) is h)))
 
 -- what is made of the items so far, one item on
 pub map_more : {X Y : Type 0} (f : X → Y) (xs : List X) (ys new : List Y) (i : ℕ) (x : X) (y : Y) → i < length xs → x ≡ get_or xs i x → y ≡ f x → ys ≡ map f (take i xs) → new ≡ ys ++ y ∷ [] → new ≡ map f (take (i + 1) xs)
@@ -107,11 +103,11 @@ range_more a zero j e = ap (λ x. x ∷ []) (let k : a ≡ j = omega (arith, e) 
 range_more a (suc n) j e = let s : suc n + 1 ≡ suc (n + 1) = omega arith in ap (range_with_len a) s ∙ ap (λ xs. a ∷ xs) (range_more (a + 1) n j (omega (arith, e)))
 
 -- numbered rows that find nothing, that find a fault, and the end of them
-pub range_on : (P : ℕ → Pass) (W : Pass) (i n : ℕ) → i < n → Leads (each P (range_with_len i (n - i))) W → P i None → Leads (each P (range_with_len (i + 1) (n - (i + 1)))) W
+pub range_on : (P : ℕ → Pass Found) (W : Pass Found) (i n : ℕ) → i < n → Leads (each P (range_with_len i (n - i))) W → P i None → Leads (each P (range_with_len (i + 1) (n - (i + 1)))) W
 range_on P W i n h lead nothing = leads_on (P i) (each P (range_with_len (i + 1) (n - (i + 1)))) W (rw (range_next i n h) at lead) nothing
 
-pub range_refused : (P : ℕ → Pass) (W : Pass) (i n : ℕ) (fault : BuildFault) → i < n → Leads (each P (range_with_len i (n - i))) W → Refuses (P i) fault → Refuses W fault
-range_refused P W i n fault h lead here = leads_refused (P i ▸ each P (range_with_len (i + 1) (n - (i + 1)))) W fault (rw (range_next i n h) at lead) (refused_first (P i) (each P (range_with_len (i + 1) (n - (i + 1)))) fault here)
+pub range_refused : (P : ℕ → Pass Found) (W : Pass Found) (i n : ℕ) (fault : BuildFault) → i < n → Leads (each P (range_with_len i (n - i))) W → IsFaultOrNoMemory build_fault (P i) fault → IsFaultOrNoMemory build_fault W fault
+range_refused P W i n fault h lead here = leads_refused (P i ▸ each P (range_with_len (i + 1) (n - (i + 1)))) W (build_fault fault) (rw (range_next i n h) at lead) (refused_first (P i) (each P (range_with_len (i + 1) (n - (i + 1)))) (build_fault fault) here)
 
-pub range_end : (P : ℕ → Pass) (W : Pass) (i n : ℕ) → n ≤ i → Leads (each P (range_with_len i (n - i))) W → W None
+pub range_end : (P : ℕ → Pass Found) (W : Pass Found) (i n : ℕ) → n ≤ i → Leads (each P (range_with_len i (n - i))) W → W None
 range_end P W i n h lead = leads_end W (λ outcome nothing. lead outcome (rw (range_done i n h) nothing))

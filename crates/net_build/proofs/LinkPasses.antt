@@ -19,10 +19,11 @@ use Rattle.net_build.specs.declared.nodes.Head.{Head}
 use Rattle.net_build.specs.Blocks.{is_node, node_blocks, potentials, kind_of, title, title_at, block_name, names_of, conditions, has_table, block_states, potential_of, block_parents, parent_lists, state_counts, row_count, cell_count}
 use Rattle.net_build.specs.Linking.{node_named, unknown_row, repeat_row, utility_row, condition_steps, conditions_steps, taken_row, many_row, potentials_among, parents_in, behind_rows, potentials_steps, absent_row, missing_at, missing_steps, graph_steps, rows_over, rules_before, size_steps_at, size_steps}
 use Rattle.net_build.specs.declared.faults.Limit.TheVariants.{Cells, Rules}
-use Rattle.net_build.specs.Passes.{Pass, Found, found, clear, rule, only, ◌▸◌, each, each_after, DoublePotential, MissingTable, GraphCycle, LimitPassed}
+use Rattle.first_fault.specs.Passes.{Pass, clear, rule, only, ◌▸◌, each, each_after}
+use Rattle.net_build.specs.Passes.{Found, found, DoublePotential, MissingTable, GraphCycle, LimitPassed}
 use Rattle.net_build.specs.Stages.{head_of, head_at, cells_at, LinkLists, link_lists}
 use Rattle.net_build.specs.Table.{node_pass, condition_rows, potential_rows, potential_pass, missing_row, missing_pass, no_block, graph_pass, rule_cells, size_rows, size_pass}
-use Rattle.net_build.proofs.Passing.{Leads, leads_all}
+use Rattle.first_fault.proofs.Leading.{Leads, leads_all}
 use Rattle.net_build.proofs.FitLemmas.{within_names}
 use Rattle.net_build.proofs.LinkLemmas.{any_is_there, there_is_any}
 use Rattle.net_build.proofs.PotentialLemmas.{place_holds, among_at, none_from_not_some}
@@ -35,18 +36,18 @@ rule_leads A B f to from None nothing = λ b. nothing (from b)
 rule_leads A B f to from (Some g) h = (to h.0, h.1)
 
 -- one after the other, the later where the earlier finds nothing
-pub then_leads : (P P' Q Q' : Pass) → Leads P P' → (P None → Leads Q Q') → Leads (P ▸ Q) (P' ▸ Q')
+pub then_leads : (P P' Q Q' : Pass Found) → Leads P P' → (P None → Leads Q Q') → Leads (P ▸ Q) (P' ▸ Q')
 then_leads P P' Q Q' first later None h = (first None h.0, later h.0 None h.1)
 then_leads P P' Q Q' first later (Some f) (inl h) = inl (first (Some f) h)
 then_leads P P' Q Q' first later (Some f) (inr h) = inr (first None h.0, later h.0 (Some f) h.1)
 
 -- each item in turn, behind those before
-pub after_leads : {X : Type 0} (P Q : List X → X → Pass) → ((earlier : List X) (x : X) → Leads (P earlier x) (Q earlier x)) → (earlier xs : List X) → Leads (each_after P earlier xs) (each_after Q earlier xs)
+pub after_leads : {X : Type 0} (P Q : List X → X → Pass Found) → ((earlier : List X) (x : X) → Leads (P earlier x) (Q earlier x)) → (earlier xs : List X) → Leads (each_after P earlier xs) (each_after Q earlier xs)
 after_leads P Q leads earlier [] = leads_all clear
 after_leads P Q leads earlier (x ∷ xs) = then_leads (P earlier x) (Q earlier x) (each_after P (earlier ++ x ∷ []) xs) (each_after Q (earlier ++ x ∷ []) xs) (leads earlier x) (λ _. after_leads P Q leads (earlier ++ x ∷ []) xs)
 
 -- numbered rows, as rows of the items that a test keeps
-pub numbered_leads : {X : Type 0} (p : X → Bool) (P : X → Pass) (Q : ℕ → Pass) (d : X) (xs : List X) (s : ℕ) → ((k : ℕ) → k < length xs → Leads (Q (s + k)) (only (p (get_or xs k d)) (P (get_or xs k d)))) → Leads (each Q (range_with_len s (length xs))) (each P (filter p xs))
+pub numbered_leads : {X : Type 0} (p : X → Bool) (P : X → Pass Found) (Q : ℕ → Pass Found) (d : X) (xs : List X) (s : ℕ) → ((k : ℕ) → k < length xs → Leads (Q (s + k)) (only (p (get_or xs k d)) (P (get_or xs k d)))) → Leads (each Q (range_with_len s (length xs))) (each P (filter p xs))
 numbered_leads p P Q d [] s rows = leads_all clear
 numbered_leads p P Q d (x ∷ xs) s rows = by_test (p x) refl (rw (let e : s + 0 ≡ s = omega arith in e) at (rows 0 (omega arith))) (numbered_leads p P Q d xs (s + 1) (λ k h. rw (let e : s + 1 + k ≡ s + suc k = omega arith in e) (rows (suc k) (omega arith)))) where
   by_test : (b : Bool) → p x ≡ b → Leads (Q s) (only (p x) (P x)) → Leads (each Q (range_with_len (s + 1) (length xs))) (each P (filter p xs)) → Leads (Q s ▸ each Q (range_with_len (s + 1) (length xs))) (each P (cond (p x) (x ∷ filter p xs) (filter p xs)))
@@ -60,7 +61,7 @@ numbered_leads p P Q d (x ∷ xs) s rows = by_test (p x) refl (rw (let e : s + 0
         skip (Some f) (inr h) = h.1
 
 -- numbered rows, as rows of items behind those before
-pub numbered_after : {X : Type 0} (P : List X → X → Pass) (Q : ℕ → Pass) (d : X) (earlier xs : List X) (s : ℕ) → ((k : ℕ) → k < length xs → Leads (Q (s + k)) (P (earlier ++ take k xs) (get_or xs k d))) → Leads (each Q (range_with_len s (length xs))) (each_after P earlier xs)
+pub numbered_after : {X : Type 0} (P : List X → X → Pass Found) (Q : ℕ → Pass Found) (d : X) (earlier xs : List X) (s : ℕ) → ((k : ℕ) → k < length xs → Leads (Q (s + k)) (P (earlier ++ take k xs) (get_or xs k d))) → Leads (each Q (range_with_len s (length xs))) (each_after P earlier xs)
 numbered_after P Q d earlier [] s rows = leads_all clear
 numbered_after P Q d earlier (x ∷ xs) s rows = then_leads (Q s) (P earlier x) (each Q (range_with_len (s + 1) (length xs))) (each_after P (earlier ++ x ∷ []) xs)
     (rw ((let e : s + 0 ≡ s = omega arith in e), append-nil) at (rows 0 (omega arith)))
@@ -147,7 +148,7 @@ table_kind blocks.Decision e = refl
 table_kind blocks.Utility e = refl
 table_kind blocks.Potential e = absurd (false≢true e)
 
-only_leads : (b : Bool) (P Q : Pass) → Leads P Q → Leads (only b P) (only b Q)
+only_leads : (b : Bool) (P Q : Pass Found) → Leads P Q → Leads (only b P) (only b Q)
 only_leads true P Q lead = lead
 only_leads false P Q lead = leads_all clear
 
@@ -220,7 +221,7 @@ rules_same text bs (suc v) h = let e : v + 1 ≡ suc v = omega arith in let with
     ∙ ap (rule_cells text bs) (sym (take_more (node_blocks bs) v no_block within)))
 
 -- a node's rows of its size, from its head, its cells and the rules' before it
-abbrev pub plain_size : Head → ℕ → ℕ → Pass
+abbrev pub plain_size : Head → ℕ → ℕ → Pass Found
 plain_size head cells rules = rule (65536 < cells) (found head.at (LimitPassed Cells (min cells (10 ^ 18)))) ▸ only (is_decision head.kind) (rule (262144 < rules + cells) (found head.at (LimitPassed Rules (rules + cells))))
 
 rules_lead : (at cells rules whole : ℕ) (b : Bool) → whole ≡ rules + cond b cells 0 → Leads (only b (rule (262144 < rules + cells) (found at (LimitPassed Rules (rules + cells))))) (only b (rule (262144 < whole) (found at (LimitPassed Rules whole))))

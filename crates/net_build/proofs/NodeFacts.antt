@@ -8,7 +8,8 @@ use Rattle.std.specs.List.{list_any}
 use Rattle.std.specs.Prelude.{if◌then◌else◌, codes}
 use Rattle.std.specs.Str.{bytes_eq}
 use Rattle.net_build.specs.Blocks.{node_blocks, block_name, names_of, has_states, has_agent, named, is_string, are_strings, is_string_list, is_plain, is_agent, is_text, leaves_of, agent_of, first_text, agents_of, first_sights}
-use Rattle.net_build.specs.Passes.{Pass, only, each, each_after}
+use Rattle.first_fault.specs.Passes.{Pass, only, each, each_after}
+use Rattle.net_build.specs.Passes.{Found}
 use Rattle.net_build.specs.Stages.{with_sight, with_agent}
 use Rattle.net_build.specs.Table.{IsAgentTooMany, label_row, label_rows, states_rows, agent_rows, owner_rows, name_rows, node_rows, node_pass}
 use Rattle.net_lexer.specs.Token.{text_value}
@@ -22,12 +23,12 @@ use Rattle.net_build.proofs.NodeLemmas.{rows_behind}
 use Rattle.net_build.proofs.SightLemmas.{agents_more}
 
 -- what holds of no items, and of one more where its rows find nothing, holds of all
-pub after_all : {X : Type 0} (P : List X → X → Pass) (Q : List X → Type 0) → ((earlier : List X) (x : X) → Q earlier → P earlier x None → Q (earlier ++ x ∷ [])) → (earlier xs : List X) → Q earlier → each_after P earlier xs None → Q (earlier ++ xs)
+pub after_all : {X : Type 0} (P : List X → X → Pass Found) (Q : List X → Type 0) → ((earlier : List X) (x : X) → Q earlier → P earlier x None → Q (earlier ++ x ∷ [])) → (earlier xs : List X) → Q earlier → each_after P earlier xs None → Q (earlier ++ xs)
 after_all P Q step earlier [] q h = subst Q (sym (append-nil earlier)) q
 after_all P Q step earlier (x ∷ xs) q h = subst Q (append_assoc earlier (x ∷ []) xs) (after_all P Q step (earlier ++ x ∷ []) xs (step earlier x q h.0) h.1)
 
 -- rows that find nothing find nothing at each item
-pub each_all : {X : Type 0} (P : X → Pass) (xs : List X) → each P xs None → All (λ x. P x None) xs
+pub each_all : {X : Type 0} (P : X → Pass Found) (xs : List X) → each P xs None → All (λ x. P x None) xs
 each_all P [] h = All-nil (λ x. P x None)
 each_all P (x ∷ xs) h = All-cons (λ y. P y None) x xs h.0 (each_all P xs h.1)
 
@@ -37,7 +38,7 @@ not_false true h = refl
 not_false false h = absurd (h refl)
 
 -- rows that count
-only_on : (b : Bool) (P : Pass) → b ≡ true → only b P None → P None
+only_on : (b : Bool) (P : Pass Found) → b ≡ true → only b P None → P None
 only_on true P e h = h
 only_on false P e h = absurd (false≢true e)
 

@@ -14,26 +14,28 @@ use Rattle.net_build.specs.declared.faults.BuildKind.TheVariants as kinds
 use Rattle.net_build.specs.declared.faults.Limit.TheVariants as limits
 use Rattle.net_build.specs.declared.nodes.Head.{Head}
 use Rattle.net_build.specs.Blocks.{is_node, kind_of, title_at, block_name, names_of, named, has_states, has_agent, agent_of, agents_of, owner_of, place_among, node_blocks}
-use Rattle.net_build.specs.Passes.{Pass, Refuses, only}
+use Rattle.first_fault.specs.Passes.{Pass, only}
+use Rattle.first_fault.specs.Answers.{IsFaultOrNoMemory}
+use Rattle.net_build.specs.Passes.{Found, build_fault}
 use Rattle.net_build.specs.Table.{name_rows, states_rows, owner_rows, repeats, node_rows}
 use Rattle.net_parser.specs.Owned.{HasNames}
 use Rattle.net_parser.specs.Trees.{BlockTree}
 use Rattle.net_parser.specs.declared.trees.BlockKind.{BlockKind}
 use Rattle.net_parser.specs.declared.trees.BlockKind.TheVariants.{Net, Node, Decision, Utility, Potential}
-use Rattle.net_build.proofs.Passing.{filter_front_yes}
+use Rattle.first_fault.proofs.Leading.{filter_front_yes}
 
 -- the 257th node
-pub many_nodes : (text : List ℕ) (names : List (List ℕ)) (block : BlockTree) (fault : BuildFault) → 256 ≤ length names → fault ≡ Fault (title_at block) (kinds.LimitPassed limits.Nodes 257) → Refuses (name_rows text names block) fault
+pub many_nodes : (text : List ℕ) (names : List (List ℕ)) (block : BlockTree) (fault : BuildFault) → 256 ≤ length names → fault ≡ Fault (title_at block) (kinds.LimitPassed limits.Nodes 257) → IsFaultOrNoMemory build_fault (name_rows text names block) fault
 unfolding name_rows
 many_nodes text names block fault many what = rw what (inl (omega arith, refl))
 
 -- a name of too many bytes
-pub long_name : (text : List ℕ) (names : List (List ℕ)) (block : BlockTree) (fault : BuildFault) (count : ℕ) → length names < 256 → count ≡ length (block_name text block) → 255 < count → fault ≡ Fault (title_at block) (kinds.LimitPassed limits.NameBytes count) → Refuses (name_rows text names block) fault
+pub long_name : (text : List ℕ) (names : List (List ℕ)) (block : BlockTree) (fault : BuildFault) (count : ℕ) → length names < 256 → count ≡ length (block_name text block) → 255 < count → fault ≡ Fault (title_at block) (kinds.LimitPassed limits.NameBytes count) → IsFaultOrNoMemory build_fault (name_rows text names block) fault
 unfolding name_rows
 long_name text names block fault count few counted long what = rw (what, counted) (inr ((λ many. omega arith), inl (rw counted at long, refl)))
 
 -- a name that another block has
-pub double_name : (text : List ℕ) (names : List (List ℕ)) (block : BlockTree) (fault : BuildFault) → length names < 256 → length (block_name text block) ≤ 255 → Contains names (block_name text block) → fault ≡ Fault (title_at block) kinds.DoubleName → Refuses (name_rows text names block) fault
+pub double_name : (text : List ℕ) (names : List (List ℕ)) (block : BlockTree) (fault : BuildFault) → length names < 256 → length (block_name text block) ≤ 255 → Contains names (block_name text block) → fault ≡ Fault (title_at block) kinds.DoubleName → IsFaultOrNoMemory build_fault (name_rows text names block) fault
 unfolding name_rows
 double_name text names block fault few short has what = rw what (inr ((λ many. omega arith), inr ((λ long. omega arith), (has, refl))))
 
@@ -57,22 +59,22 @@ unfolding node_rows name_rows
 entry_new text names agents block h has = h.0.1.1 has
 
 -- the rows of a block in their order
-pub entry_name : (text : List ℕ) (names agents : List (List ℕ)) (block : BlockTree) (fault : BuildFault) → Refuses (name_rows text names block) fault → Refuses (node_rows text names agents block) fault
+pub entry_name : (text : List ℕ) (names agents : List (List ℕ)) (block : BlockTree) (fault : BuildFault) → IsFaultOrNoMemory build_fault (name_rows text names block) fault → IsFaultOrNoMemory build_fault (node_rows text names agents block) fault
 unfolding node_rows
 entry_name text names agents block NoMemory h = tt
 entry_name text names agents block (Fault at kind) h = inl h
 
-pub entry_repeats : (text : List ℕ) (names agents : List (List ℕ)) (block : BlockTree) (fault : BuildFault) → name_rows text names block None → Refuses (repeats text block) fault → Refuses (node_rows text names agents block) fault
+pub entry_repeats : (text : List ℕ) (names agents : List (List ℕ)) (block : BlockTree) (fault : BuildFault) → name_rows text names block None → IsFaultOrNoMemory build_fault (repeats text block) fault → IsFaultOrNoMemory build_fault (node_rows text names agents block) fault
 unfolding node_rows
 entry_repeats text names agents block NoMemory name h = tt
 entry_repeats text names agents block (Fault at kind) name h = inr (name, inl h)
 
-pub entry_labels : (text : List ℕ) (names agents : List (List ℕ)) (block : BlockTree) (fault : BuildFault) → name_rows text names block None → repeats text block None → Refuses (only (has_states block.kind) (states_rows text block (named text (codes "states") block.attributes))) fault → Refuses (node_rows text names agents block) fault
+pub entry_labels : (text : List ℕ) (names agents : List (List ℕ)) (block : BlockTree) (fault : BuildFault) → name_rows text names block None → repeats text block None → IsFaultOrNoMemory build_fault (only (has_states block.kind) (states_rows text block (named text (codes "states") block.attributes))) fault → IsFaultOrNoMemory build_fault (node_rows text names agents block) fault
 unfolding node_rows
 entry_labels text names agents block NoMemory name single h = tt
 entry_labels text names agents block (Fault at kind) name single h = inr (name, inr (single, inl h))
 
-pub entry_owner : (text : List ℕ) (names agents : List (List ℕ)) (block : BlockTree) (fault : BuildFault) → name_rows text names block None → repeats text block None → only (has_states block.kind) (states_rows text block (named text (codes "states") block.attributes)) None → Refuses (only (has_agent block.kind) (owner_rows text agents block)) fault → Refuses (node_rows text names agents block) fault
+pub entry_owner : (text : List ℕ) (names agents : List (List ℕ)) (block : BlockTree) (fault : BuildFault) → name_rows text names block None → repeats text block None → only (has_states block.kind) (states_rows text block (named text (codes "states") block.attributes)) None → IsFaultOrNoMemory build_fault (only (has_agent block.kind) (owner_rows text agents block)) fault → IsFaultOrNoMemory build_fault (node_rows text names agents block) fault
 unfolding node_rows
 entry_owner text names agents block NoMemory name single labels h = tt
 entry_owner text names agents block (Fault at kind) name single labels h = inr (name, inr (single, inr (labels, h)))
@@ -105,7 +107,7 @@ pub head_is : (head : Head) (at owner states : ℕ) (block : BlockTree) → head
 head_is head at owner states block is_at is_kind is_owner is_states = λ i. record { at = is_at i; kind = is_kind i; owner = is_owner i; states = is_states i }
 
 -- the rows of a block behind nodes of these names and agents
-abbrev pub rows_behind : List ℕ → List BlockTree → BlockTree → Pass
+abbrev pub rows_behind : List ℕ → List BlockTree → BlockTree → Pass Found
 rows_behind text earlier b = node_rows text (names_of text earlier) (agents_of text earlier) b
 
 abbrev pub is_node_block : BlockTree → Bool

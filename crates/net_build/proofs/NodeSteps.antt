@@ -1,31 +1,7 @@
--- Nodes tried by their numbers, and their drafts.
-use Rattle.std.proofs.Common.{◌≡◌, ◌⊎◌, inl, inr, ℕ, ◌+◌, ◌<◌, ◌≤◌, List, [], ◌∷◌, ◌++◌, length, get_or, None, sym, ◌∙◌, subst, arith}
-use Rattle.std.specs.List.{range_with_len}
+-- A list of items, each with a property of its place, goes on by one.
+use Rattle.std.proofs.Common.{◌≡◌, ◌⊎◌, inl, inr, ℕ, ◌+◌, ◌<◌, List, [], ◌∷◌, ◌++◌, length, get_or, arith}
 use Rattle.std.proofs.Math.ListN.{get_or-append}
 use Rattle.std.proofs.Math.Seq.{get_or-append_seam}
-use Rattle.std.proofs.lemmas.List.FromFn.{length-range_with_len, get_or-range_with_len}
-use Rattle.net_build.specs.declared.faults.BuildFault.{BuildFault}
-use Rattle.net_build.specs.Passes.{Pass, Refuses}
-use Rattle.net_build.proofs.Passing.{Leads}
-use Rattle.net_build.proofs.EachPassing.{EachFrom, each_step_at, each_refused_at, each_end}
-
-module _ (R : ℕ → Pass) (n : ℕ) (W : Pass) (v : ℕ) (lead : Leads (EachFrom R (range_with_len 0 n) v) W) where
-  within : v < n → v < length (range_with_len 0 n)
-  within h = omega (arith, h, length-range_with_len 0 n)
-
-  here : v < n → get_or (range_with_len 0 n) v 0 ≡ v
-  here h = get_or-range_with_len 0 n v 0 h ∙ plain v where
-    plain : (k : ℕ) → 0 + k ≡ k
-    plain k = omega arith
-
-  pub number_step : v < n → R v None → Leads (EachFrom R (range_with_len 0 n) (v + 1)) W
-  number_step h nothing = each_step_at R (range_with_len 0 n) W v 0 (within h) lead (subst (λ k. R k None) (sym (here h)) nothing)
-
-  pub number_refused : (fault : BuildFault) → v < n → Refuses (R v) fault → Refuses W fault
-  number_refused fault h refuses = each_refused_at R (range_with_len 0 n) W v 0 fault (within h) lead (subst (λ k. Refuses (R k) fault) (sym (here h)) refuses)
-
-  pub number_end : n ≤ v → W None
-  number_end h = each_end R (range_with_len 0 n) W v (omega (arith, h, length-range_with_len 0 n)) lead
 
 -- one more item of which the property of its place holds
 pub items_more : {X : Type 0} (P : ℕ → X → Type 0) (xs new : List X) (x : X) (n : ℕ) → length xs ≡ n → ((v : ℕ) (d : X) → v < n → P v (get_or xs v d)) → P n x → new ≡ xs ++ x ∷ [] → (v : ℕ) (d : X) → v < n + 1 → P v (get_or new v d)

@@ -1,12 +1,12 @@
 -- Leaves that are numbers, and what their rows find.
 use Rattle.std.proofs.Common.{◌≡◌, ℕ, Bool, true, false, List, All, None, sym, subst, refl}
 use Rattle.net_build.specs.Blocks.{is_number}
-use Rattle.net_build.specs.Passes.{each}
+use Rattle.first_fault.specs.Passes.{each}
 use Rattle.net_build.specs.Table.{number_row}
 use Rattle.net_lexer.specs.Token.{IsTokenOf}
 use Rattle.net_lexer.specs.declared.tokens.Token.{Token}
 use Rattle.net_parser.specs.Owned.{IsLeafOf}
-use Rattle.net_build.proofs.EachPassing.{each_none}
+use Rattle.first_fault.proofs.Items.{each_none}
 
 -- leaves are tokens of the text
 pub own_leaves : (text : List ℕ) (tokens leaves : List Token) → tokens ≡ leaves → All (IsLeafOf text) leaves → All (IsTokenOf text) tokens

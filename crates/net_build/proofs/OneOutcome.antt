@@ -1,5 +1,5 @@
 -- A pass finds nothing or a fault, never both, and one fault at most: each row does, and so do rows in turn.
-use Rattle.std.proofs.Common.{◌≡◌, ℕ, Bool, true, false, inl, inr, List, [], ◌∷◌, ◌++◌, Option, None, Some, sym, ◌∙◌, ap, subst, arith}
+use Rattle.std.proofs.Common.{◌≡◌, ℕ, inl, inr, List, [], ◌∷◌, Option, None, Some, sym, ◌∙◌, ap, arith}
 use Rattle.std.specs.Prelude.{slice_index, slice_index_or, All}
 use Rattle.std.proofs.lemmas.Bool.{cases_lt}
 use Rattle.diagram_graph.specs.Laws.{CycleLeadsBack, OneCycle}
@@ -7,45 +7,12 @@ use Rattle.maid_model.specs.Placing.{IsLeast}
 use Rattle.net_lexer.specs.Token.{token_bytes}
 use Rattle.net_lexer.specs.declared.tokens.Token.{Token}
 use Rattle.net_parser.specs.Trees.{AttributeTree, BlockTree}
-use Rattle.net_build.specs.Passes.{Pass, Found, found, GraphCycle, clear, rule, only, ◌▸◌, each, each_after}
+use Rattle.first_fault.specs.Passes.{each}
+use Rattle.first_fault.proofs.Kept.{IsOne, clear_one, rule_one, only_one, then_one, each_one, each_after_one, over_one}
+use Rattle.net_build.specs.Passes.{found, GraphCycle}
 use Rattle.net_build.specs.Blocks.{node_blocks, title_at, parent_lists}
 use Rattle.net_build.specs.Scaling.{IsWholeBy}
 use Rattle.net_build.specs.Table.{repeated_row, repeats, label_row, label_rows, states_rows, agent_rows, name_rows, owner_rows, node_rows, node_pass, condition_rows, potential_rows, potential_pass, missing_row, missing_pass, no_block, graph_pass, size_rows, size_pass, number_row, length_row, sign_row, total_row, weight_rows, data_rows, table_rows, table_pass, utility_numbers, IsUtilityScale, wide_row, wide_pass, all_passes}
-
-pub record IsOne (P : Pass) : Type 0 where
-  pub apart : (f : Found) → P None → P (Some f) → ⊥
-  pub once : (f g : Found) → P (Some f) → P (Some g) → f ≡ g
-
-rule_one : (Applies : Type 0) (fault : Found) → IsOne (rule Applies fault)
-rule_one Applies fault = record { apart = λ f none some. none some.0; once = λ f g h k. h.1 ∙ sym k.1 }
-
-clear_one : IsOne clear
-clear_one = record { apart = λ f none some. some; once = λ f g h k. absurd h }
-
-then_apart : (P Q : Pass) → IsOne P → IsOne Q → (f : Found) → (P ▸ Q) None → (P ▸ Q) (Some f) → ⊥
-then_apart P Q p q f none (inl some) = p.apart f none.0 some
-then_apart P Q p q f none (inr some) = q.apart f none.1 some.1
-
-then_once : (P Q : Pass) → IsOne P → IsOne Q → (f g : Found) → (P ▸ Q) (Some f) → (P ▸ Q) (Some g) → f ≡ g
-then_once P Q p q f g (inl h) (inl k) = p.once f g h k
-then_once P Q p q f g (inl h) (inr k) = absurd (p.apart f k.0 h)
-then_once P Q p q f g (inr h) (inl k) = absurd (p.apart g h.0 k)
-then_once P Q p q f g (inr h) (inr k) = q.once f g h.1 k.1
-
-then_one : {P Q : Pass} → IsOne P → IsOne Q → IsOne (P ▸ Q)
-then_one {P = P} {Q = Q} p q = record { apart = then_apart P Q p q; once = then_once P Q p q }
-
-only_one : (b : Bool) {P : Pass} → IsOne P → IsOne (only b P)
-only_one true p = p
-only_one false p = clear_one
-
-each_one : {A : Type 0} {P : A → Pass} → ((x : A) → IsOne (P x)) → (xs : List A) → IsOne (each P xs)
-each_one p [] = clear_one
-each_one p (x ∷ xs) = then_one (p x) (each_one p xs)
-
-each_after_one : {A : Type 0} {P : List A → A → Pass} → ((earlier : List A) (x : A) → IsOne (P earlier x)) → (earlier xs : List A) → IsOne (each_after P earlier xs)
-each_after_one p earlier [] = clear_one
-each_after_one p earlier (x ∷ xs) = then_one (p earlier x) (each_after_one p (earlier ++ x ∷ []) xs)
 
 pub least_once : (P : ℕ → Type 0) (v w : ℕ) → IsLeast P v → IsLeast P w → v ≡ w
 least_once P v w h k = elim (cases_lt v w) as (λ _. v ≡ w) [
@@ -112,8 +79,8 @@ missing_pass_one text blocks = each_one {P = missing_row text blocks} (λ block.
 graph_pass_one : CycleLeadsBack → OneCycle → (text : List ℕ) (blocks : List BlockTree) → IsOne (graph_pass text blocks)
 unfolding graph_pass
 graph_pass_one leads_back one_cycle text blocks = record {
-  apart = λ f none some. leads_back (parent_lists text blocks) some.0 some.1 none;
-  once = λ f g h k. h.2 ∙ ap (λ (cycle : List ℕ). found (title_at (slice_index_or (node_blocks blocks) (slice_index cycle 0) no_block)) (GraphCycle cycle)) (one_cycle (parent_lists text blocks) h.0 k.0 h.1 k.1) ∙ sym k.2;
+  exclusive = λ f none some. leads_back (parent_lists text blocks) some.0 some.1 none;
+  one = λ f g h k. h.2 ∙ ap (λ (cycle : List ℕ). found (title_at (slice_index_or (node_blocks blocks) (slice_index cycle 0) no_block)) (GraphCycle cycle)) (one_cycle (parent_lists text blocks) h.0 k.0 h.1 k.1) ∙ sym k.2;
 }
 
 size_rows_one : (text : List ℕ) (blocks earlier : List BlockTree) (block : BlockTree) → IsOne (size_rows text blocks earlier block)
@@ -152,12 +119,8 @@ table_pass_one text blocks = each_one (λ b. table_rows_one text blocks b _) _
 wide_pass_one : (text : List ℕ) (blocks : List BlockTree) → IsOne (wide_pass text blocks)
 unfolding wide_pass
 wide_pass_one text blocks =
-    let Rows : ℕ → Pass = λ k. each (wide_row text k) (utility_numbers text blocks) in
-    let rows : (k : ℕ) → IsOne (Rows k) = λ k. each_one {P = wide_row text k} (λ number. rule_one _ _) (utility_numbers text blocks) in
-    record {
-      apart = λ f none some. (rows none.0).apart f none.2 (subst (λ k. Rows k (Some f)) (scale_once text blocks some.0 none.0 some.1 none.1) some.2);
-      once = λ f g h k. (rows h.0).once f g h.2 (subst (λ l. Rows l (Some g)) (scale_once text blocks k.0 h.0 k.1 h.1) k.2);
-    }
+    over_one (IsUtilityScale text blocks) (λ scale. each (wide_row text scale) (utility_numbers text blocks)) (scale_once text blocks)
+    (λ scale is. each_one {P = wide_row text scale} (λ number. rule_one _ _) (utility_numbers text blocks))
 
 pub all_one : CycleLeadsBack → OneCycle → (text : List ℕ) (blocks : List BlockTree) → IsOne (all_passes text blocks)
 unfolding all_passes

@@ -13,13 +13,15 @@ use Rattle.net_build.specs.declared.faults.BuildKind.TheVariants as kinds
 use Rattle.net_build.specs.declared.faults.Limit.TheVariants as limits
 use Rattle.net_build.specs.Blocks.{is_agent, place_among, named, agent_of, title_at}
 use Rattle.maid_model.specs.Names.{list_of}
-use Rattle.net_build.specs.Passes.{Refuses, Passes, rule, found, BadAgent, LimitPassed}
+use Rattle.first_fault.specs.Passes.{rule}
+use Rattle.first_fault.specs.Answers.{IsFaultOrNoMemory, Passes}
+use Rattle.net_build.specs.Passes.{found, BadAgent, LimitPassed, build_fault}
 use Rattle.net_build.specs.Stages.{with_sight}
 use Rattle.net_build.specs.Table.{IsAgentTooMany, agent_rows, owner_rows}
 use Rattle.net_lexer.specs.declared.tokens.Token.{Token}
 use Rattle.net_parser.specs.Trees.{AttributeTree, BlockTree}
 use Rattle.net_build.proofs.AttributeLemmas.{contains_none, contains_cases, contains_later, or_true}
-use Rattle.net_build.proofs.Passing.{refused_first}
+use Rattle.first_fault.proofs.Leading.{refused_first}
 use Rattle.net_build.proofs.PlaceLemmas.{bytes_same, first_place_is}
 use Rattle.std.specs.Prelude.{codes}
 
@@ -69,11 +71,11 @@ place_pushed names more name lacks is =
     sym (ap (λ ns. place_among (list_of ns) name.items) is ∙ ap (λ ns. place_among ns name.items) (map-append (λ (v : Vec ℕ). v.items) names (name ∷ [])) ∙ place_last (list_of names) name.items lacks ∙ length-map names (λ (v : Vec ℕ). v.items))
 
 -- the seventeenth agent
-pub too_many : (agents : List (Vec ℕ)) (agent : List ℕ) (at : ℕ) (fault : BuildFault) → 16 ≤ length agents → (Contains (list_of agents) agent → ⊥) → fault ≡ Fault at (kinds.LimitPassed limits.Agents 17) → Refuses (rule (IsAgentTooMany (list_of agents) agent) (found at (LimitPassed limits.Agents 17))) fault
+pub too_many : (agents : List (Vec ℕ)) (agent : List ℕ) (at : ℕ) (fault : BuildFault) → 16 ≤ length agents → (Contains (list_of agents) agent → ⊥) → fault ≡ Fault at (kinds.LimitPassed limits.Agents 17) → IsFaultOrNoMemory build_fault (rule (IsAgentTooMany (list_of agents) agent) (found at (LimitPassed limits.Agents 17))) fault
 too_many agents agent at fault many lacks what = rw what ((let l = length-map agents (λ (v : Vec ℕ). v.items) in omega arith, lacks), refl)
 
 -- the first `agent` of a block decides
-pub some_agent : {A : Type 0} (text : List ℕ) (agents : List AttributeTree) (first : AttributeTree) (rest : List AttributeTree) (result : Result A BuildFault) → agents ≡ first ∷ rest → Passes (rule (is_agent text first.value ≡ false) (found first.name.start BadAgent)) result → Passes (agent_rows text agents) result
+pub some_agent : {A : Type 0} (text : List ℕ) (agents : List AttributeTree) (first : AttributeTree) (rest : List AttributeTree) (result : Result A BuildFault) → agents ≡ first ∷ rest → Passes build_fault (rule (is_agent text first.value ≡ false) (found first.name.start BadAgent)) result → Passes build_fault (agent_rows text agents) result
 unfolding agent_rows
 some_agent text agents first rest result some rows = rw some rows
 
@@ -82,12 +84,12 @@ unfolding agent_rows
 no_agent text agents none = rw none tt
 
 -- the agent is refused
-pub owner_refused : (text : List ℕ) (agents : List (List ℕ)) (block : BlockTree) (fault : BuildFault) → Refuses (agent_rows text (named text (codes "agent") block.attributes)) fault → Refuses (owner_rows text agents block) fault
+pub owner_refused : (text : List ℕ) (agents : List (List ℕ)) (block : BlockTree) (fault : BuildFault) → IsFaultOrNoMemory build_fault (agent_rows text (named text (codes "agent") block.attributes)) fault → IsFaultOrNoMemory build_fault (owner_rows text agents block) fault
 unfolding owner_rows
-owner_refused text agents block fault h = refused_first (agent_rows text (named text (codes "agent") block.attributes)) (rule (IsAgentTooMany agents (agent_of text block)) (found (title_at block) (LimitPassed limits.Agents 17))) fault h
+owner_refused text agents block fault h = refused_first (agent_rows text (named text (codes "agent") block.attributes)) (rule (IsAgentTooMany agents (agent_of text block)) (found (title_at block) (LimitPassed limits.Agents 17))) (build_fault fault) h
 
 -- or numbered
-pub owner_numbered : {A : Type 0} (text : List ℕ) (agents : List (List ℕ)) (block : BlockTree) (agent : List ℕ) (name : Token) (result : Result A BuildFault) → agent_rows text (named text (codes "agent") block.attributes) None → agent ≡ agent_of text block → name.start ≡ title_at block → Passes (rule (IsAgentTooMany agents agent) (found name.start (LimitPassed limits.Agents 17))) result → Passes (owner_rows text agents block) result
+pub owner_numbered : {A : Type 0} (text : List ℕ) (agents : List (List ℕ)) (block : BlockTree) (agent : List ℕ) (name : Token) (result : Result A BuildFault) → agent_rows text (named text (codes "agent") block.attributes) None → agent ≡ agent_of text block → name.start ≡ title_at block → Passes build_fault (rule (IsAgentTooMany agents agent) (found name.start (LimitPassed limits.Agents 17))) result → Passes build_fault (owner_rows text agents block) result
 unfolding owner_rows
 owner_numbered text agents block agent name (Ok x) nothing is at rows = (nothing, rw is at rows)
 owner_numbered text agents block agent name (Err NoMemory) nothing is at rows = tt

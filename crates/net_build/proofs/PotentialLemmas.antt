@@ -17,9 +17,11 @@ use Rattle.net_build.specs.declared.faults.BuildFault.{BuildFault}
 use Rattle.net_build.specs.declared.nodes.Head.{Head}
 use Rattle.net_build.specs.Blocks.{is_potential, title, block_name, conditions, place_among}
 use Rattle.net_build.specs.Linking.{node_named, potentials_among, parents_in, taken_row, absent_row, missing_at}
-use Rattle.net_build.specs.Passes.{only, Passes}
+use Rattle.first_fault.specs.Passes.{only}
+use Rattle.first_fault.specs.Answers.{Passes}
+use Rattle.net_build.specs.Passes.{build_fault}
 use Rattle.net_build.specs.Stages.{head_at, no_head}
-use Rattle.net_build.proofs.Passing.{filter_front_yes}
+use Rattle.first_fault.proofs.Leading.{filter_front_yes}
 use Rattle.net_build.proofs.PlaceLemmas.{bytes_same, bytes_differ}
 
 -- a place within the list holds the name that was sought
@@ -96,9 +98,9 @@ no_decision k (inl e) = ap (λ j. not (is_decision j)) e
 no_decision k (inr e) = ap (λ j. not (is_decision j)) e
 
 -- its row is the pass's
-pub present_passes : (heads : List Head) (potentials : List (Option BlockTree)) (v : ℕ) (r : Result Unit BuildFault) → v < length heads → ((get_or heads v record { at = 0; kind = Chance; owner = 0; states = 0 }).kind ≡ Chance) ⊎ ((get_or heads v record { at = 0; kind = Chance; owner = 0; states = 0 }).kind ≡ Utility) → Passes (absent_row (head_at heads v) potentials v) r → Passes (missing_at heads potentials v) r
+pub present_passes : (heads : List Head) (potentials : List (Option BlockTree)) (v : ℕ) (r : Result Unit BuildFault) → v < length heads → ((get_or heads v record { at = 0; kind = Chance; owner = 0; states = 0 }).kind ≡ Chance) ⊎ ((get_or heads v record { at = 0; kind = Chance; owner = 0; states = 0 }).kind ≡ Utility) → Passes build_fault (absent_row (head_at heads v) potentials v) r → Passes build_fault (missing_at heads potentials v) r
 present_passes heads potentials v r h kind passes =
-    subst (λ (b : Bool). Passes (only b (absent_row (head_at heads v) potentials v)) r) (sym (no_decision (head_at heads v).kind (subst (λ (x : Head). (x.kind ≡ Chance) ⊎ (x.kind ≡ Utility)) (get_or_default heads v record { at = 0; kind = Chance; owner = 0; states = 0 } no_head h) kind))) passes
+    subst (λ (b : Bool). Passes build_fault (only b (absent_row (head_at heads v) potentials v)) r) (sym (no_decision (head_at heads v).kind (subst (λ (x : Head). (x.kind ≡ Chance) ⊎ (x.kind ≡ Utility)) (get_or_default heads v record { at = 0; kind = Chance; owner = 0; states = 0 } no_head h) kind))) passes
 
 -- at first no node has a potential, or parents
 pub none_among : (text : List ℕ) (names : List (List ℕ)) → replicate (length names) None ≡ potentials_among text names []

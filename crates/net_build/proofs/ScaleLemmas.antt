@@ -14,14 +14,16 @@ use Rattle.net_build.specs.Building.{AreUtilityCells}
 use Rattle.net_build.specs.Scaling.{AreDecimals, decimal_at, IsWholeBy, IsScaledBy}
 use Rattle.net_build.specs.Blocks.{no_token}
 use Rattle.net_build.specs.Table.{IsWideValue, wide_row, length_row}
-use Rattle.net_build.specs.Passes.{Pass, Found, each, Refuses}
+use Rattle.first_fault.specs.Passes.{Pass, each}
+use Rattle.first_fault.specs.Answers.{IsFaultOrNoMemory}
+use Rattle.net_build.specs.Passes.{Found, build_fault}
 use Rattle.net_build.specs.declared.faults.BuildFault.{BuildFault}
 use Rattle.net_build.specs.declared.faults.BuildFault.TheVariants.{Fault, NoMemory}
 use Rattle.net_build.specs.declared.faults.BuildKind.TheVariants as kinds
 use Rattle.std.proofs.lemmas.Bool.{false≢true}
 use Rattle.std.specs.Option.{SomeIff, is_some}
-use Rattle.net_build.proofs.Passing.{Leads}
-use Rattle.net_build.proofs.EachPassing.{EachFrom, each_step_at, each_refused_at, each_refuses_none}
+use Rattle.first_fault.proofs.Leading.{Leads}
+use Rattle.first_fault.proofs.Items.{EachFrom, each_step_at, each_refused_at, each_refuses_none}
 use Rattle.net_build.specs.TableParts.{IsScaleOf, scaled_pass, value_at_scale, Fits}
 use Rattle.net_build.specs.Zero.{nought}
 
@@ -61,13 +63,13 @@ le_or_more a b h = omega (arith, h)
 pub unfit_wide : (numeral : List ℕ) (d : Decimal) (scale : ℕ) → IsLeastDecimalOf (numerator numeral) (denominator numeral) d → d.k ≤ scale → (Fits scale d → ⊥) → IsWideValue scale numeral
 unfit_wide numeral d scale is enough unfit = wide_by greatest_number (unsigned_abs d.m) (10 ^ (scale - d.k)) (denominator numeral) (unsigned_abs (numerator numeral)) (10 ^ d.k) (10 ^ scale) (den_positive numeral) (sizes d.m (numerator numeral) (10 ^ d.k) (denominator numeral) is.value) (tens_split d.k scale enough) (le_or_more _ _ unfit)
 
-whole_by : (m num : ℤ) (t den p : ℕ) → m *ℤ pos den ≡ num *ℤ pos p → (m *ℤ pos t) *ℤ pos den ≡ (num *ℤ pos (p * t)) *ℤ pos 1
+pub whole_by : (m num : ℤ) (t den p : ℕ) → m *ℤ pos den ≡ num *ℤ pos p → (m *ℤ pos t) *ℤ pos den ≡ (num *ℤ pos (p * t)) *ℤ pos 1
 whole_by m num t den p e =
     let by = λ (k : ℕ) (a b : ℕ) (q : a ≡ b). ap (λ x. x * k) q in
     let flat : up m * den + down num * p ≡ up num * p + down m * den = omega (arith, ints, e) in
     omega (arith, ints, by t _ _ flat, by den _ _ (product_is m (pos t)).0, by den _ _ (product_is m (pos t)).1)
 
--- the number value_at_scale is the value to scale
+-- the number raised by the scale is the value to scale
 pub raised_is : (numeral : List ℕ) (d : Decimal) (scale : ℕ) → IsLeastDecimalOf (numerator numeral) (denominator numeral) d → d.k ≤ scale → IsScaledBy scale numeral (value_at_scale scale d)
 raised_is numeral d scale is enough = rw (tens_split d.k scale enough) (whole_by d.m (numerator numeral) (10 ^ (scale - d.k)) (denominator numeral) (10 ^ d.k) is.value)
 
@@ -88,7 +90,7 @@ pub not_whole : (numeral : List ℕ) (d : Decimal) (k : ℕ) → IsLeastDecimalO
 not_whole numeral d k is fewer (x, scaled) =
     let value : x *ℤ pos (denominator numeral) ≡ numerator numeral *ℤ pos (10 ^ k) = one_more x (numerator numeral) (10 ^ k) (denominator numeral) scaled in
     let near : unsigned_abs x ≤ unsigned_abs d.m = smaller_by (unsigned_abs x) (unsigned_abs d.m) (denominator numeral) (unsigned_abs (numerator numeral)) (10 ^ k) (10 ^ (d.k - k)) (den_positive numeral) (tens_positive (d.k - k)) (sizes x (numerator numeral) (10 ^ k) (denominator numeral) value) (sizes d.m (numerator numeral) (10 ^ d.k) (denominator numeral) is.value ∙ ap (λ y. unsigned_abs (numerator numeral) * y) (tens_split k d.k (omega arith))) in
-    let small : unsigned_abs x < 2 ^ 126 = omega (arith, near, d.small) in
+    let small : unsigned_abs x ≤ greatest_number = omega (arith, near, d.small) in
     let few : k ≤ 30 = omega (arith, d.few) in
     let other : Decimal = record { m = x; k = k; small = small; few = few } in
     let least : d.k ≤ k = is.least other value in
@@ -129,7 +131,7 @@ fit None P v h e = absurd (false≢true e)
 fit (Some x) P v h e = h.0
 
 -- the number at a place is wide where it does not fit, and only there
-module _ (text : List ℕ) (tokens : List Token) (ds : List Decimal) (scale : ℕ) (W : Pass) (i : ℕ) (d : Decimal) (r : Option ℤ) (within : i < length tokens) (len : length ds ≡ length tokens) (most : All (λ e. e.k ≤ scale) ds) (is : d ≡ get_or ds i d) (tried : SomeIff r (Fits scale d) (value_at_scale scale d)) (are : AreDecimals (map (token_bytes text) tokens) ds) (lead : Leads (EachFrom (wide_row text scale) tokens i) W) where
+module _ (text : List ℕ) (tokens : List Token) (ds : List Decimal) (scale : ℕ) (W : Pass Found) (i : ℕ) (d : Decimal) (r : Option ℤ) (within : i < length tokens) (len : length ds ≡ length tokens) (most : All (λ e. e.k ≤ scale) ds) (is : d ≡ get_or ds i d) (tried : SomeIff r (Fits scale d) (value_at_scale scale d)) (are : AreDecimals (map (token_bytes text) tokens) ds) (lead : Leads (EachFrom (wide_row text scale) tokens i) W) where
   here : decimal_at ds i ≡ d
   here = get_or_default ds i nought d (omega (arith, len)) ∙ sym is
 
@@ -139,13 +141,13 @@ module _ (text : List ℕ) (tokens : List Token) (ds : List Decimal) (scale : �
   enough : d.k ≤ scale
   enough = subst (λ (e : Decimal). e.k ≤ scale) here (most i nought (omega (arith, len)))
 
-  pub wide_refused : (fault : BuildFault) → is_some r ≡ false → fault ≡ Fault (get_or tokens i no_token).start kinds.WideValue → Refuses W fault
-  wide_refused fault none what = rw what (each_refused_at (wide_row text scale) tokens W i no_token (Fault (get_or tokens i no_token).start kinds.WideValue) within lead (unfit_wide (token_bytes text (get_or tokens i no_token)) d scale its enough (unfit r _ _ tried none), refl))
+  pub wide_refused : (fault : BuildFault) → is_some r ≡ false → fault ≡ Fault (get_or tokens i no_token).start kinds.WideValue → IsFaultOrNoMemory build_fault W fault
+  wide_refused fault none what = rw what (each_refused_at (wide_row text scale) tokens W i no_token (build_fault (Fault (get_or tokens i no_token).start kinds.WideValue)) within lead (unfit_wide (token_bytes text (get_or tokens i no_token)) d scale its enough (unfit r _ _ tried none), refl))
 
   pub wide_on : is_some r ≡ true → Leads (EachFrom (wide_row text scale) tokens (i + 1)) W
   wide_on some = each_step_at (wide_row text scale) tokens W i no_token within lead (fits_narrow (token_bytes text (get_or tokens i no_token)) d scale its enough (fit r _ _ tried some))
 
--- the numbers value_at_scale are utility cells
+-- the numbers raised by the scale are utility cells
 pub cells_found : (numerals : List (List ℕ)) (ds : List Decimal) (scale : ℕ) → AreDecimals numerals ds → All (λ d. d.k ≤ scale) ds → AreUtilityCells scale numerals (map (value_at_scale scale) ds)
 cells_found numerals ds scale are most = record {
   len = length-map ds (value_at_scale scale) ∙ are.len;
@@ -156,11 +158,11 @@ long_or_not : (text : List ℕ) (t : Token) (f : Found) → length_row text t No
 long_or_not text t f nothing here = nothing here.0
 
 -- where no number is too long, only want of memory refuses
-pub short_refuses : (text : List ℕ) (tokens : List Token) (fault : BuildFault) → each (length_row text) tokens None → Refuses (each (length_row text) tokens) fault → Refuses (scaled_pass text tokens) fault
-short_refuses text tokens fault short h = each_refuses_none (length_row text) (scaled_pass text tokens) (long_or_not text) tokens fault short h
+pub short_refuses : (text : List ℕ) (tokens : List Token) (fault : BuildFault) → each (length_row text) tokens None → IsFaultOrNoMemory build_fault (each (length_row text) tokens) fault → IsFaultOrNoMemory build_fault (scaled_pass text tokens) fault
+short_refuses text tokens fault short h = each_refuses_none (length_row text) (scaled_pass text tokens) (λ token. long_or_not text token) tokens (build_fault fault) short h
 
 -- a wide value to that scale
-pub scaled_refuses : (text : List ℕ) (tokens : List Token) (scale : ℕ) (fault : BuildFault) → IsScaleOf text tokens scale → Refuses (each (wide_row text scale) tokens) fault → Refuses (scaled_pass text tokens) fault
+pub scaled_refuses : (text : List ℕ) (tokens : List Token) (scale : ℕ) (fault : BuildFault) → IsScaleOf text tokens scale → IsFaultOrNoMemory build_fault (each (wide_row text scale) tokens) fault → IsFaultOrNoMemory build_fault (scaled_pass text tokens) fault
 scaled_refuses text tokens scale NoMemory is h = tt
 scaled_refuses text tokens scale (Fault at kind) is h = (scale, is, h)
 

@@ -11,9 +11,12 @@ use Rattle.maid_model.specs.Nodes.{is_decision}
 use Rattle.net_build.specs.declared.faults.BuildFault.{BuildFault}
 use Rattle.net_build.specs.declared.nodes.Head.{Head}
 use Rattle.net_build.specs.Linking.{cells_over, cells_row, rules_row, size_rows_over, rules_before}
-use Rattle.net_build.specs.Passes.{only, Refuses}
+use Rattle.first_fault.specs.Passes.{only}
+use Rattle.first_fault.specs.Answers.{IsFaultOrNoMemory}
+use Rattle.net_build.specs.Passes.{build_fault}
 use Rattle.net_build.specs.Stages.{head_at, cells_at}
-use Rattle.net_build.proofs.LinkLemmas.{second_refuses, range_more}
+use Rattle.first_fault.proofs.Leading.{refused_later}
+use Rattle.net_build.proofs.LinkLemmas.{range_more}
 
 -- a count that stopped at the limit, times a number, stops as the count would
 pub capped : (limit a r : ℕ) → min (min a limit * r) limit ≡ min (a * r) limit
@@ -31,12 +34,12 @@ pub sum_append : (xs ys : List ℕ) → sum (xs ++ ys) ≡ sum xs + sum ys
 sum_append xs ys = sum_by-append (λ x. x) xs ys
 
 -- a decision whose rules are too many, and one whose rules are not
-pub size_refused : (heads : List Head) (parents : List ℕ) (v rules cells : ℕ) (head : Head) (fault : BuildFault) → cells ≡ cells_over heads parents v → cells_row heads parents v None → head ≡ head_at heads v → head.kind ≡ Decision → Refuses (rules_row head (rules + cells)) fault → Refuses (size_rows_over heads parents v rules) fault
+pub size_refused : (heads : List Head) (parents : List ℕ) (v rules cells : ℕ) (head : Head) (fault : BuildFault) → cells ≡ cells_over heads parents v → cells_row heads parents v None → head ≡ head_at heads v → head.kind ≡ Decision → IsFaultOrNoMemory build_fault (rules_row head (rules + cells)) fault → IsFaultOrNoMemory build_fault (size_rows_over heads parents v rules) fault
 size_refused heads parents v rules cells head fault is nothing same kind h =
-    second_refuses (cells_row heads parents v) (only (is_decision (head_at heads v).kind) (rules_row (head_at heads v) (rules + cells_over heads parents v))) fault nothing
-    (subst (λ (b : Bool). Refuses (only b (rules_row (head_at heads v) (rules + cells_over heads parents v))) fault) (sym (ap (λ (x : Head). is_decision x.kind) (sym same) ∙ ap is_decision kind))
-    (subst (λ (x : Head). Refuses (rules_row x (rules + cells_over heads parents v)) fault) same
-    (subst (λ (n : ℕ). Refuses (rules_row head (rules + n)) fault) is h)))
+    refused_later (cells_row heads parents v) (only (is_decision (head_at heads v).kind) (rules_row (head_at heads v) (rules + cells_over heads parents v))) (build_fault fault) nothing
+    (subst (λ (b : Bool). IsFaultOrNoMemory build_fault (only b (rules_row (head_at heads v) (rules + cells_over heads parents v))) fault) (sym (ap (λ (x : Head). is_decision x.kind) (sym same) ∙ ap is_decision kind))
+    (subst (λ (x : Head). IsFaultOrNoMemory build_fault (rules_row x (rules + cells_over heads parents v)) fault) same
+    (subst (λ (n : ℕ). IsFaultOrNoMemory build_fault (rules_row head (rules + n)) fault) is h)))
 
 pub size_kept : (heads : List Head) (parents : List ℕ) (v rules cells : ℕ) (head : Head) → cells ≡ cells_over heads parents v → cells_row heads parents v None → head ≡ head_at heads v → head.kind ≡ Decision → rules_row head (rules + cells) None → size_rows_over heads parents v rules None
 size_kept heads parents v rules cells head is nothing same kind h = (

@@ -20,7 +20,8 @@ use Rattle.net_build.specs.declared.drafts.Draft.{Draft}
 use Rattle.net_build.specs.declared.drafts.Draft.TheVariants.{Cells, Values}
 use Rattle.net_build.specs.Blocks.{no_token, is_node, is_potential, potentials, is_number, node_blocks, kind_of, block_states, row_count, block_name, potential_of, parent_lists, data_of, leaves_of, block_numbers, word_of}
 use Rattle.net_build.specs.Building.{AreTables, IsTableFrom}
-use Rattle.net_build.specs.Passes.{Pass, each}
+use Rattle.first_fault.specs.Passes.{Pass, each}
+use Rattle.net_build.specs.Passes.{Found}
 use Rattle.net_build.specs.Scaling.{AreDecimals, decimal_at, IsWholeBy}
 use Rattle.net_build.specs.Stages.{AreLinks, NodeLists, LinkLists, TablesFit, FitsTable, head_of, head_at, node_lists, link_lists, no_head, head_rows}
 use Rattle.net_build.specs.Table.{length_row, wide_row, IsWideValue, node_pass, potential_pass, missing_pass, no_block}
@@ -43,7 +44,7 @@ item_of [] v h = absurd (omega arith)
 item_of (x ∷ xs) v h = x
 
 -- an item of those that find nothing
-each_at : {X : Type 0} (P : X → Pass) (xs : List X) (k : ℕ) (d : X) → each P xs None → k < length xs → P (get_or xs k d) None
+each_at : {X : Type 0} (P : X → Pass Found) (xs : List X) (k : ℕ) (d : X) → each P xs None → k < length xs → P (get_or xs k d) None
 each_at P [] k d h within = absurd (omega arith)
 each_at P (x ∷ xs) zero d h within = h.0
 each_at P (x ∷ xs) (suc k) d h within = each_at P xs k d h.1 (omega arith)
@@ -171,7 +172,7 @@ module _ (text : List ℕ) (blocks : List BlockTree) (own : All (IsBlockOf text)
   heads_len = length-map nodes (head_of text nodes)
 
   part_none : (v : ℕ) → drafts_pass text heads links None → v < length nodes → node_part text (kind_of (block_at v).kind) (row_count text blocks (block_at v)) (block_states text (block_at v)) (potential_of text blocks (block_name text (block_at v))) None
-  part_none v h near = subst (λ (P : Pass). P None) (part_here text blocks v near)
+  part_none v h near = subst (λ (P : Pass Found). P None) (part_here text blocks v near)
       (subst (λ n. node_rows_at text heads links n None) (get_or-range_with_len 0 (length heads) v 0 (omega (arith, near, heads_len)) ∙ plain v)
       (each_at (node_rows_at text heads links) (range_with_len 0 (length heads)) v 0 h (omega (arith, near, heads_len, length-range_with_len 0 (length heads)))))
     where

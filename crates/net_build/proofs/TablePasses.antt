@@ -11,18 +11,19 @@ use Rattle.net_build.specs.declared.nodes.Head.{Head}
 use Rattle.std.proofs.lemmas.Bool.{false≢true}
 use Rattle.net_build.proofs.BlockLemmas.{all_filter}
 use Rattle.net_build.specs.Blocks.{is_node, node_blocks, kind_of, has_table, block_states, state_counts, row_count, cell_count, title_at, block_name, potential_of, block_parents, parent_lists, data_of}
-use Rattle.net_build.specs.Passes.{Pass, found, clear, always, only, ◌▸◌, each, MissingTable}
+use Rattle.first_fault.specs.Passes.{Pass, clear, always, only, ◌▸◌, each}
+use Rattle.net_build.specs.Passes.{found, MissingTable, Found}
 use Rattle.net_build.specs.Stages.{head_of, head_at, link_lists, head_rows, no_head}
 use Rattle.net_build.specs.Table.{number_row, length_row, repeats, data_rows, weight_rows, table_rows, table_pass, no_block}
 use Rattle.net_build.specs.TableParts.{count_row, weight_part, data_parts, table_part, draft_part, node_part, node_rows_at, drafts_pass, potential_at}
-use Rattle.net_build.proofs.Passing.{Leads, leads_all}
+use Rattle.first_fault.proofs.Leading.{Leads, leads_all}
 
-leads_both : (P P' Q Q' : Pass) → Leads P P' → Leads Q Q' → Leads (P ▸ Q) (P' ▸ Q')
+leads_both : (P P' Q Q' : Pass Found) → Leads P P' → Leads Q Q' → Leads (P ▸ Q) (P' ▸ Q')
 leads_both P P' Q Q' l r None h = (l None h.0, r None h.1)
 leads_both P P' Q Q' l r (Some f) (inl h) = inl (l (Some f) h)
 leads_both P P' Q Q' l r (Some f) (inr h) = inr (l None h.0, r (Some f) h.1)
 
-regrouped : (A B C D : Pass) → Leads ((A ▸ (B ▸ C)) ▸ D) (A ▸ (B ▸ (C ▸ D)))
+regrouped : (A B C D : Pass Found) → Leads ((A ▸ (B ▸ C)) ▸ D) (A ▸ (B ▸ (C ▸ D)))
 regrouped A B C D None h = (h.0.0, (h.0.1.0, (h.0.1.1, h.1)))
 regrouped A B C D (Some f) (inl (inl a)) = inl a
 regrouped A B C D (Some f) (inl (inr (a, inl b))) = inr (a, inl b)
@@ -30,10 +31,10 @@ regrouped A B C D (Some f) (inl (inr (a, inr (b, c)))) = inr (a, inr (b, inl c))
 regrouped A B C D (Some f) (inr ((a, (b, c)), d)) = inr (a, inr (b, inr (c, d)))
 
 -- an item is tried where it counts
-each_only : {X : Type 0} (P : X → Pass) (q : X → Bool) (xs : List X) → Leads (each (λ x. only (q x) (P x)) xs) (each P (filter q xs))
+each_only : {X : Type 0} (P : X → Pass Found) (q : X → Bool) (xs : List X) → Leads (each (λ x. only (q x) (P x)) xs) (each P (filter q xs))
 each_only P q [] = leads_all clear
 each_only P q (x ∷ xs) = by_test (q x) refl (each_only P q xs) where
-  skip : (Q : Pass) → Leads (clear ▸ Q) Q
+  skip : (Q : Pass Found) → Leads (clear ▸ Q) Q
   skip Q None h = h.1
   skip Q (Some f) (inl h) = absurd h
   skip Q (Some f) (inr h) = h.1
@@ -43,7 +44,7 @@ each_only P q (x ∷ xs) = by_test (q x) refl (each_only P q xs) where
   by_test false e rest = subst (λ b. Leads (only b (P x) ▸ each (λ y. only (q y) (P y)) xs) (each P (cond b (x ∷ filter q xs) (filter q xs)))) (sym e) (λ outcome h. rest outcome (skip (each (λ y. only (q y) (P y)) xs) outcome h))
 
 -- items by their numbers
-by_number : {X : Type 0} (R : ℕ → Pass) (P : X → Pass) (xs : List X) (d : X) (a : ℕ) → ((v : ℕ) → v < length xs → Leads (R (a + v)) (P (get_or xs v d))) → Leads (each R (range_with_len a (length xs))) (each P xs)
+by_number : {X : Type 0} (R : ℕ → Pass Found) (P : X → Pass Found) (xs : List X) (d : X) (a : ℕ) → ((v : ℕ) → v < length xs → Leads (R (a + v)) (P (get_or xs v d))) → Leads (each R (range_with_len a (length xs))) (each P xs)
 by_number R P [] d a h = leads_all clear
 by_number R P (x ∷ xs) d a h = leads_both (R a) (P x) (each R (range_with_len (a + 1) (length xs))) (each P xs)
     (subst (λ n. Leads (R n) (P x)) (plain a) (h 0 (omega arith)))
@@ -66,7 +67,7 @@ states_at text all (b ∷ bs) zero = refl
 states_at text all (b ∷ bs) (suc u) = states_at text all bs u
 
 -- a decision has no rows
-kind_leads : (text : List ℕ) (k : BlockKind) (rows states : ℕ) (potential : Option BlockTree) (R : Pass) → is_node k ≡ true → Leads (draft_part text (kind_of k) rows states potential) R → Leads (node_part text (kind_of k) rows states potential) (only (has_table k) R)
+kind_leads : (text : List ℕ) (k : BlockKind) (rows states : ℕ) (potential : Option BlockTree) (R : Pass Found) → is_node k ≡ true → Leads (draft_part text (kind_of k) rows states potential) R → Leads (node_part text (kind_of k) rows states potential) (only (has_table k) R)
 kind_leads text Node rows states potential R kept lead = lead
 kind_leads text Utility rows states potential R kept lead = lead
 kind_leads text Decision rows states potential R kept lead = leads_all clear
@@ -95,7 +96,7 @@ module _ (text : List ℕ) (blocks : List BlockTree) where
   pub rows_here : (v : ℕ) → v < length nodes → head_rows heads (parent_lists text blocks) v ≡ row_count text blocks (block_at v)
   rows_here v h = ap (rows_under (λ u. (head_at heads u).states)) (parents_here v h) ∙ rows_same (λ u. (head_at heads u).states) (λ u. get_or (state_counts text nodes) u 1) (block_parents text blocks (block_name text (block_at v))) (states_at text nodes nodes)
 
-  abbrev own_part : BlockTree → Pass
+  abbrev own_part : BlockTree → Pass Found
   own_part b = node_part text (kind_of b.kind) (row_count text blocks b) (block_states text b) (potential_of text blocks (block_name text b))
 
   pub part_here : (v : ℕ) → v < length nodes → node_rows_at text heads (link_lists text blocks) v ≡ own_part (block_at v)
@@ -115,7 +116,7 @@ module _ (text : List ℕ) (blocks : List BlockTree) where
   draft_leads b None = leads_all clear
   draft_leads b (Some potential) = table_leads b potential
 
-  abbrev its_rows : BlockTree → Pass
+  abbrev its_rows : BlockTree → Pass Found
   its_rows b = table_rows text blocks b (potential_of text blocks (block_name text b))
 
   own_leads : (b : BlockTree) → is_node b.kind ≡ true → Leads (own_part b) (only (has_table b.kind) (its_rows b))
@@ -130,7 +131,7 @@ module _ (text : List ℕ) (blocks : List BlockTree) where
   unfolding table_pass
   drafts_lead outcome h = each_only its_rows (λ b. has_table b.kind) nodes outcome
       (by_number (node_rows_at text heads (link_lists text blocks)) (λ b. only (has_table b.kind) (its_rows b)) nodes no_block 0
-      (λ v within outcome here. own_leads (block_at v) (nodes_are v within) outcome (subst (λ (P : Pass). P outcome) (part_here v within) (subst (λ n. node_rows_at text heads (link_lists text blocks) n outcome) (plain v) here)))
+      (λ v within outcome here. own_leads (block_at v) (nodes_are v within) outcome (subst (λ (P : Pass Found). P outcome) (part_here v within) (subst (λ n. node_rows_at text heads (link_lists text blocks) n outcome) (plain v) here)))
       outcome (subst (λ n. each (node_rows_at text heads (link_lists text blocks)) (range_with_len 0 n) outcome) (length-map nodes (head_of text nodes)) h))
     where
       plain : (n : ℕ) → 0 + n ≡ n

@@ -14,12 +14,14 @@ use Rattle.net_build.specs.declared.faults.BuildFault.{BuildFault}
 use Rattle.net_build.specs.declared.faults.BuildFault.TheVariants.{Fault}
 use Rattle.net_build.specs.declared.faults.BuildKind.TheVariants as kinds
 use Rattle.net_build.specs.Blocks.{no_token}
-use Rattle.net_build.specs.Passes.{found, each, Refuses, Negative, ZeroRow}
+use Rattle.first_fault.specs.Passes.{each}
+use Rattle.first_fault.specs.Answers.{IsFaultOrNoMemory}
+use Rattle.net_build.specs.Passes.{found, Negative, ZeroRow, build_fault}
 use Rattle.net_build.specs.Scaling.{AreDecimals, decimal_at}
 use Rattle.net_build.specs.Table.{sign_row, total_row, rows_by}
 use Rattle.net_build.specs.TableParts.{weight_part}
 use Rattle.net_build.specs.Zero.{nought}
-use Rattle.net_build.proofs.EachPassing.{each_all, each_first}
+use Rattle.first_fault.proofs.Items.{each_all, each_first}
 use Rattle.net_build.proofs.ScaleLemmas.{decimal_of}
 use Rattle.net_build.proofs.WeightLemmas.{written, written_row, negative_number, negative_decimal, not_below, row_of_noughts, noughts_in_row, not_wide}
 
@@ -94,13 +96,13 @@ module _ (text : List ℕ) (states rows at : ℕ) (ts : List Token) (ds : List D
       (row_of_noughts text (row_at states ts row) (row_at states ds row) (written_row text states row ts ds (written text ts ds are)) h.zero_row)))
 
   -- the scaling's faults are those of the rows
-  pub weight_negative : (place : ℕ) (t : Token) (fault : BuildFault) → IsFirstNegative ds place → t ≡ get_or ts place t → fault ≡ Fault t.start kinds.Negative → Refuses (weight_part text states rows at ts) fault
+  pub weight_negative : (place : ℕ) (t : Token) (fault : BuildFault) → IsFirstNegative ds place → t ≡ get_or ts place t → fault ≡ Fault t.start kinds.Negative → IsFaultOrNoMemory build_fault (weight_part text states rows at ts) fault
   weight_negative place t fault h is what = rw (what, ← here ts place t (omega (arith, same_len, h.within)) is) (inl (signs_found place h))
 
-  pub weight_zero : (row : ℕ) (t : Token) (fault : BuildFault) → NoneNegative ds → IsFirstZeroRow ds states row → t ≡ get_or ts (row * states) t → fault ≡ Fault t.start kinds.ZeroRow → Refuses (weight_part text states rows at ts) fault
+  pub weight_zero : (row : ℕ) (t : Token) (fault : BuildFault) → NoneNegative ds → IsFirstZeroRow ds states row → t ≡ get_or ts (row * states) t → fault ≡ Fault t.start kinds.ZeroRow → IsFaultOrNoMemory build_fault (weight_part text states rows at ts) fault
   weight_zero row t fault signs h is what = rw (what, ← here ts (row * states) t (let l = end_of row (omega (arith, count, h.within)) in omega arith) is) (inr (signs_clear signs, inl (totals_found row h)))
 
-  pub weight_wide : (fault : BuildFault) → NoneNegative ds → NoZeroRow ds states (length ds / states) → IsTooWide ds states → fault ≡ Fault at kinds.WideWeight → Refuses (weight_part text states rows at ts) fault
+  pub weight_wide : (fault : BuildFault) → NoneNegative ds → NoZeroRow ds states (length ds / states) → IsTooWide ds states → fault ≡ Fault at kinds.WideWeight → IsFaultOrNoMemory build_fault (weight_part text states rows at ts) fault
   weight_wide fault signs totals wide what = rw what (inr (signs_clear signs, inr (totals_clear totals, ((ds, are, wide), refl))))
 
   pub weight_clear : (scaled : ScaledView) → NoneNegative ds → NoZeroRow ds states (length ds / states) → IsScaled ds states scaled → weight_part text states rows at ts None

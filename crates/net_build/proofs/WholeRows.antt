@@ -12,20 +12,21 @@ use Rattle.net_parser.specs.declared.trees.BlockKind.{BlockKind}
 use Rattle.net_parser.specs.declared.trees.BlockKind.TheVariants as blocks_of
 use Rattle.net_parser.specs.Trees.{AttributeTree, BlockTree}
 use Rattle.net_parser.specs.Owned.{leaves}
-use Rattle.net_build.specs.Passes.{Pass, each}
+use Rattle.first_fault.specs.Passes.{Pass, each}
+use Rattle.net_build.specs.Passes.{Found}
 use Rattle.net_build.specs.Blocks.{node_blocks, kind_of, has_table, block_name, block_states, row_count, cell_count, potential_of, data_of, leaves_of, block_numbers}
 use Rattle.net_build.specs.Table.{no_block, data_rows, table_rows, table_pass, all_passes}
 
 -- an item that is kept, and the kept items behind one
-kept_first : {A : Type 0} (P : A → Pass) (x : A) (rest : List A) (b : Bool) → b ≡ true → each P (cond b (x ∷ rest) rest) None → P x None
+kept_first : {A : Type 0} (P : A → Pass Found) (x : A) (rest : List A) (b : Bool) → b ≡ true → each P (cond b (x ∷ rest) rest) None → P x None
 kept_first P x rest true e h = h.0
 kept_first P x rest false e h = cc
 
-kept_rest : {A : Type 0} (P : A → Pass) (x : A) (rest : List A) (b : Bool) → each P (cond b (x ∷ rest) rest) None → each P rest None
+kept_rest : {A : Type 0} (P : A → Pass Found) (x : A) (rest : List A) (b : Bool) → each P (cond b (x ∷ rest) rest) None → each P rest None
 kept_rest P x rest true h = h.1
 kept_rest P x rest false h = h
 
-each_kept : {A : Type 0} (P : A → Pass) (p : A → Bool) (xs : List A) → each P (filter p xs) None → (i : ℕ) (d : A) → i < length xs → p (get_or xs i d) ≡ true → P (get_or xs i d) None
+each_kept : {A : Type 0} (P : A → Pass Found) (p : A → Bool) (xs : List A) → each P (filter p xs) None → (i : ℕ) (d : A) → i < length xs → p (get_or xs i d) ≡ true → P (get_or xs i d) None
 each_kept P p [] h i d l kept = absurd (omega arith)
 each_kept P p (x ∷ xs) h zero d l kept = kept_first P x (filter p xs) (p x) kept h
 each_kept P p (x ∷ xs) h (suc i) d l kept = each_kept P p xs (kept_rest P x (filter p xs) (p x) h) i d (omega arith) kept

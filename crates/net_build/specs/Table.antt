@@ -16,36 +16,37 @@ use Rattle.net_parser.specs.Owned.{leaves}
 use Rattle.weight_scale.specs.Numeral.{numerator, denominator, IsDecimalOf}
 use Rattle.weight_scale.specs.declared.decimal.Decimal.{Decimal}
 use Rattle.net_build.specs.declared.faults.Limit.TheVariants.{Nodes, NameBytes, States, Agents, Parents, Cells, Rules}
-use Rattle.net_build.specs.Passes.{Pass, found, clear, rule, always, only, ◌▸◌, each, each_after, DoubleName, DoubleAttribute, MissingStates, BadStates, BadLabel, BadAgent, UnknownName, DoublePotential, RepeatedParent, UtilityParent, MissingTable, GraphCycle, NotANumber, WrongCount, NumberTooLong, Negative, ZeroRow, WideWeight, WideValue, LimitPassed}
+use Rattle.first_fault.specs.Passes.{Pass, clear, rule, always, only, ◌▸◌, each, each_after}
+use Rattle.net_build.specs.Passes.{found, DoubleName, DoubleAttribute, MissingStates, BadStates, BadLabel, BadAgent, UnknownName, DoublePotential, RepeatedParent, UtilityParent, MissingTable, GraphCycle, NotANumber, WrongCount, NumberTooLong, Negative, ZeroRow, WideWeight, WideValue, LimitPassed, Found}
 use Rattle.net_build.specs.Blocks.{node_blocks, potentials, kind_of, title_at, block_name, names_of, conditions, word_of, named, has_states, has_agent, has_table, counted, is_number, is_string_list, is_plain, is_agent, block_states, agent_of, agents_of, place_among, potential_of, parent_lists, row_count, cell_count, data_of, leaves_of}
 use Rattle.net_build.specs.Scaling.{AreDecimals, IsWholeBy}
 use Rattle.weight_scale.specs.Scaling.{row_at, IsTooWide}
 
 -- an attribute whose name stands among those before it
-abbrev pub repeated_row : List ℕ → List AttributeTree → AttributeTree → Pass
+abbrev pub repeated_row : List ℕ → List AttributeTree → AttributeTree → Pass Found
 repeated_row text earlier a = rule (Contains (map (word_of text) earlier) (word_of text a)) (found a.name.start DoubleAttribute)
 
 -- the attributes that count in a block
-unfoldable pub repeats : List ℕ → BlockTree → Pass
+unfoldable pub repeats : List ℕ → BlockTree → Pass Found
 repeats text block = each_after (repeated_row text) [] (counted text block)
 
-abbrev pub label_row : List ℕ → Token → Pass
+abbrev pub label_row : List ℕ → Token → Pass Found
 label_row text label = rule (is_plain (text_value text label) ≡ false) (found label.start BadLabel)
 
 -- the value of `states`
-unfoldable pub label_rows : List ℕ → AttributeTree → Pass
+unfoldable pub label_rows : List ℕ → AttributeTree → Pass Found
 label_rows text states =
     rule (is_string_list states.value ≡ false) (found states.name.start BadStates)
     ▸ rule (256 < length (leaves states.value)) (found states.name.start (LimitPassed States (length (leaves states.value))))
     ▸ each (label_row text) (leaves states.value)
 
 -- the states of a chance node or a decision, given its attributes of that name
-unfoldable pub states_rows : List ℕ → BlockTree → List AttributeTree → Pass
+unfoldable pub states_rows : List ℕ → BlockTree → List AttributeTree → Pass Found
 states_rows text block [] = always (found (title_at block) MissingStates)
 states_rows text block (states ∷ more) = label_rows text states
 
 -- the agent of a decision or a utility, given its attributes of that name
-unfoldable pub agent_rows : List ℕ → List AttributeTree → Pass
+unfoldable pub agent_rows : List ℕ → List AttributeTree → Pass Found
 agent_rows text [] = clear
 agent_rows text (agent ∷ more) = rule (is_agent text agent.value ≡ false) (found agent.name.start BadAgent)
 
@@ -54,20 +55,20 @@ abbrev pub IsAgentTooMany : List (List ℕ) → List ℕ → Type 0
 IsAgentTooMany agents agent = (16 ≤ length agents) × (Contains agents agent → ⊥)
 
 -- the name of a node block behind those with these names
-unfoldable pub name_rows : List ℕ → List (List ℕ) → BlockTree → Pass
+unfoldable pub name_rows : List ℕ → List (List ℕ) → BlockTree → Pass Found
 name_rows text names block =
     rule (256 ≤ length names) (found (title_at block) (LimitPassed Nodes 257))
     ▸ rule (255 < length (block_name text block)) (found (title_at block) (LimitPassed NameBytes (length (block_name text block))))
     ▸ rule (Contains names (block_name text block)) (found (title_at block) DoubleName)
 
 -- the agent of a decision or a utility behind those of these agents
-unfoldable pub owner_rows : List ℕ → List (List ℕ) → BlockTree → Pass
+unfoldable pub owner_rows : List ℕ → List (List ℕ) → BlockTree → Pass Found
 owner_rows text agents block =
     agent_rows text (named text (codes "agent") block.attributes)
     ▸ rule (IsAgentTooMany agents (agent_of text block)) (found (title_at block) (LimitPassed Agents 17))
 
 -- a node block behind those with these names and agents
-unfoldable pub node_rows : List ℕ → List (List ℕ) → List (List ℕ) → BlockTree → Pass
+unfoldable pub node_rows : List ℕ → List (List ℕ) → List (List ℕ) → BlockTree → Pass Found
 node_rows text names agents block =
     name_rows text names block
     ▸ repeats text block
@@ -75,7 +76,7 @@ node_rows text names agents block =
     ▸ only (has_agent block.kind) (owner_rows text agents block)
 
 -- node blocks in text order
-unfoldable pub node_pass : List ℕ → List BlockTree → Pass
+unfoldable pub node_pass : List ℕ → List BlockTree → Pass Found
 node_pass text blocks = each_after (λ earlier b. node_rows text (names_of text earlier) (agents_of text earlier) b) [] (node_blocks blocks)
 
 -- the kind of the node of that name
@@ -83,14 +84,14 @@ abbrev pub kind_named : List ℕ → List BlockTree → List ℕ → Kind
 kind_named text nodes name = slice_index_or (map (λ b. kind_of b.kind) nodes) (place_among (names_of text nodes) name) model.Chance
 
 -- a name behind the bar, and behind those earlier
-unfoldable pub condition_rows : List ℕ → List BlockTree → List Token → Token → Pass
+unfoldable pub condition_rows : List ℕ → List BlockTree → List Token → Token → Pass Found
 condition_rows text nodes earlier name =
     rule (Contains (names_of text nodes) (token_bytes text name) → ⊥) (found name.start UnknownName)
     ▸ rule (Contains (map (token_bytes text) earlier) (token_bytes text name)) (found name.start RepeatedParent)
     ▸ rule (kind_named text nodes (token_bytes text name) ≡ model.Utility) (found name.start UtilityParent)
 
 -- a potential behind those earlier
-unfoldable pub potential_rows : List ℕ → List BlockTree → List BlockTree → BlockTree → Pass
+unfoldable pub potential_rows : List ℕ → List BlockTree → List BlockTree → BlockTree → Pass Found
 potential_rows text nodes earlier potential =
     rule (Contains (names_of text nodes) (block_name text potential) → ⊥) (found (title_at potential) UnknownName)
     ▸ rule (Contains (names_of text earlier) (block_name text potential)) (found (title_at potential) DoublePotential)
@@ -98,18 +99,18 @@ potential_rows text nodes earlier potential =
     ▸ rule (16 < length (conditions potential)) (found (title_at potential) (LimitPassed Parents (length (conditions potential))))
 
 -- potentials in text order
-unfoldable pub potential_pass : List ℕ → List BlockTree → Pass
+unfoldable pub potential_pass : List ℕ → List BlockTree → Pass Found
 potential_pass text blocks = each_after (potential_rows text (node_blocks blocks)) [] (potentials blocks)
 
 -- the chance and utility nodes, in text order
 abbrev pub table_nodes : List BlockTree → List BlockTree
 table_nodes blocks = filter (λ b. has_table b.kind) (node_blocks blocks)
 
-abbrev pub missing_row : List ℕ → List BlockTree → BlockTree → Pass
+abbrev pub missing_row : List ℕ → List BlockTree → BlockTree → Pass Found
 missing_row text blocks block = rule (Contains (names_of text (potentials blocks)) (block_name text block) → ⊥) (found (title_at block) MissingTable)
 
 -- chance and utility nodes in text order
-unfoldable pub missing_pass : List ℕ → List BlockTree → Pass
+unfoldable pub missing_pass : List ℕ → List BlockTree → Pass Found
 missing_pass text blocks = each (missing_row text blocks) (table_nodes blocks)
 
 -- what stands for a block that isn't there
@@ -117,7 +118,7 @@ abbrev pub no_block : BlockTree
 no_block = record { kind = Net; names = []; attributes = [] }
 
 -- the graph: no cycle, or the first one
-unfoldable pub graph_pass : List ℕ → List BlockTree → Pass
+unfoldable pub graph_pass : List ℕ → List BlockTree → Pass Found
 graph_pass text blocks None = IsAcyclic (ListedArc (parent_lists text blocks))
 graph_pass text blocks (Some f) = (cycle : List ℕ) × IsParentCycle (parent_lists text blocks) cycle × (f ≡ found (title_at (slice_index_or (node_blocks blocks) (slice_index cycle 0) no_block)) (GraphCycle cycle))
 
@@ -126,30 +127,30 @@ abbrev pub rule_cells : List ℕ → List BlockTree → List BlockTree → ℕ
 rule_cells text blocks nodes = sum (map (cell_count text blocks) (filter (λ b. is_decision (kind_of b.kind)) nodes))
 
 -- a node behind those earlier; the count of cells is named up to 10^18
-unfoldable pub size_rows : List ℕ → List BlockTree → List BlockTree → BlockTree → Pass
+unfoldable pub size_rows : List ℕ → List BlockTree → List BlockTree → BlockTree → Pass Found
 size_rows text blocks earlier block =
     rule (65536 < cell_count text blocks block) (found (title_at block) (LimitPassed Cells (min (cell_count text blocks block) (10 ^ 18))))
     ▸ only (is_decision (kind_of block.kind)) (rule (262144 < rule_cells text blocks (earlier ++ block ∷ [])) (found (title_at block) (LimitPassed Rules (rule_cells text blocks (earlier ++ block ∷ [])))))
 
 -- all nodes in text order
-unfoldable pub size_pass : List ℕ → List BlockTree → Pass
+unfoldable pub size_pass : List ℕ → List BlockTree → Pass Found
 size_pass text blocks = each_after (size_rows text blocks) [] (node_blocks blocks)
 
-abbrev pub number_row : Token → Pass
+abbrev pub number_row : Token → Pass Found
 number_row leaf = rule (is_number leaf.kind ≡ false) (found leaf.start NotANumber)
 
 -- no decimal within the limits is the number
 abbrev pub IsNumberTooLong : List ℕ → Type 0
 IsNumberTooLong numeral = (d : Decimal) → IsDecimalOf (numerator numeral) (denominator numeral) d → ⊥
 
-abbrev pub length_row : List ℕ → Token → Pass
+abbrev pub length_row : List ℕ → Token → Pass Found
 length_row text number = rule (IsNumberTooLong (token_bytes text number)) (found number.start NumberTooLong)
 
-abbrev pub sign_row : List ℕ → Token → Pass
+abbrev pub sign_row : List ℕ → Token → Pass Found
 sign_row text number = rule (numerator (token_bytes text number) <ℤ pos 0) (found number.start Negative)
 
 -- a row of total nought: no number is below nought, so that each is nought
-abbrev pub total_row : List ℕ → List Token → Pass
+abbrev pub total_row : List ℕ → List Token → Pass Found
 total_row text [] = clear
 total_row text (number ∷ numbers) = rule (All (λ t. numerator (token_bytes text t) ≡ pos 0) (number ∷ numbers)) (found number.start ZeroRow)
 
@@ -162,14 +163,14 @@ abbrev pub IsWideTotal : List ℕ → ℕ → List Token → Type 0
 IsWideTotal text states numbers = (decimals : List Decimal) × AreDecimals (map (token_bytes text) numbers) decimals × IsTooWide decimals states
 
 -- the numbers of a chance table of so many rows
-unfoldable pub weight_rows : List ℕ → ℕ → ℕ → AttributeTree → Pass
+unfoldable pub weight_rows : List ℕ → ℕ → ℕ → AttributeTree → Pass Found
 weight_rows text states rows table =
     each (sign_row text) (leaves table.value)
     ▸ each (total_row text) (rows_by states (leaves table.value) rows)
     ▸ rule (IsWideTotal text states (leaves table.value)) (found table.name.start WideWeight)
 
 -- the table of a chance or utility node, given the attributes `data` of its potential
-unfoldable pub data_rows : List ℕ → List BlockTree → BlockTree → BlockTree → List AttributeTree → Pass
+unfoldable pub data_rows : List ℕ → List BlockTree → BlockTree → BlockTree → List AttributeTree → Pass Found
 data_rows text blocks block potential [] = always (found (title_at potential) MissingTable)
 data_rows text blocks block potential (table ∷ more) =
     each number_row (leaves table.value)
@@ -178,12 +179,12 @@ data_rows text blocks block potential (table ∷ more) =
     ▸ only (is_chance (kind_of block.kind)) (weight_rows text (block_states text block) (row_count text blocks block) table)
 
 -- the table of a node, given its potential
-unfoldable pub table_rows : List ℕ → List BlockTree → BlockTree → Option BlockTree → Pass
+unfoldable pub table_rows : List ℕ → List BlockTree → BlockTree → Option BlockTree → Pass Found
 table_rows text blocks block None = clear
 table_rows text blocks block (Some potential) = repeats text potential ▸ data_rows text blocks block potential (data_of text potential)
 
 -- chance and utility nodes in text order
-unfoldable pub table_pass : List ℕ → List BlockTree → Pass
+unfoldable pub table_pass : List ℕ → List BlockTree → Pass Found
 table_pass text blocks = each (λ b. table_rows text blocks b (potential_of text blocks (block_name text b))) (table_nodes blocks)
 
 -- the numbers of all utilities, as they stand in the text
@@ -198,15 +199,15 @@ IsUtilityScale text blocks scale = IsLeast (λ k. All (λ t. IsWholeBy k (token_
 abbrev pub IsWideValue : ℕ → List ℕ → Type 0
 IsWideValue scale numeral = greatest_number * denominator numeral < nat_abs (numerator numeral) * 10 ^ scale
 
-abbrev pub wide_row : List ℕ → ℕ → Token → Pass
+abbrev pub wide_row : List ℕ → ℕ → Token → Pass Found
 wide_row text scale number = rule (IsWideValue scale (token_bytes text number)) (found number.start WideValue)
 
 -- utility values in text order, to scale
-unfoldable pub wide_pass : List ℕ → List BlockTree → Pass
+unfoldable pub wide_pass : List ℕ → List BlockTree → Pass Found
 wide_pass text blocks outcome = (scale : ℕ) × IsUtilityScale text blocks scale × each (wide_row text scale) (utility_numbers text blocks) outcome
 
 -- all passes, one after the other
-unfoldable pub all_passes : List ℕ → List BlockTree → Pass
+unfoldable pub all_passes : List ℕ → List BlockTree → Pass Found
 all_passes text blocks =
     node_pass text blocks
     ▸ potential_pass text blocks

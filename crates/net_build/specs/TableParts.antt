@@ -17,7 +17,8 @@ use Rattle.weight_scale.specs.Views.{ScaledView}
 use Rattle.weight_scale.specs.declared.decimal.Decimal.{Decimal}
 use Rattle.net_build.specs.declared.drafts.Draft.{Draft}
 use Rattle.net_build.specs.declared.drafts.Draft.TheVariants.{Cells, Values}
-use Rattle.net_build.specs.Passes.{Pass, found, rule, clear, always, only, ◌▸◌, each, WrongCount, WideWeight, MissingTable}
+use Rattle.first_fault.specs.Passes.{Pass, rule, clear, always, only, ◌▸◌, each}
+use Rattle.net_build.specs.Passes.{found, WrongCount, WideWeight, MissingTable, Found}
 use Rattle.net_build.specs.Blocks.{title_at, block_name, data_of, leaves_of, place_among, is_potential}
 use Rattle.net_build.specs.Scaling.{AreDecimals, IsWholeBy, decimal_at}
 use Rattle.net_build.specs.Stages.{NodeLists, LinkLists, head_at, head_rows, AreLinks}
@@ -25,11 +26,11 @@ use Rattle.net_build.specs.declared.nodes.Head.{Head}
 use Rattle.net_build.specs.Table.{number_row, length_row, wide_row, sign_row, total_row, rows_by, IsWideTotal, repeats}
 
 -- another count of numbers than the table has cells
-abbrev pub count_row : ℕ → ℕ → ℕ → Pass
+abbrev pub count_row : ℕ → ℕ → ℕ → Pass Found
 count_row at want got = rule (got ≢ want) (found at (WrongCount want got))
 
 -- the leaves of `data`, whatever the table
-abbrev pub number_rows : List ℕ → ℕ → AttributeTree → Pass
+abbrev pub number_rows : List ℕ → ℕ → AttributeTree → Pass Found
 number_rows text want table =
     each number_row (leaves table.value)
     ▸ count_row table.name.start want (length (leaves table.value))
@@ -40,7 +41,7 @@ abbrev pub IsScaleOf : List ℕ → List Token → ℕ → Type 0
 IsScaleOf text numbers scale = IsLeast (λ k. All (λ t. IsWholeBy k (token_bytes text t)) numbers) scale
 
 -- these numbers to their scale
-abbrev pub scaled_pass : List ℕ → List Token → Pass
+abbrev pub scaled_pass : List ℕ → List Token → Pass Found
 scaled_pass text numbers outcome = (scale : ℕ) × IsScaleOf text numbers scale × each (wide_row text scale) numbers outcome
 
 -- the decimal times 10^scale, where it has no more decimals than that
@@ -52,7 +53,7 @@ abbrev pub Fits : ℕ → Decimal → Type 0
 Fits scale d = nat_abs d.m * 10 ^ (scale - d.k) ≤ greatest_number
 
 -- these numbers as those of a chance table whose `data` stands at a place
-abbrev pub weight_part : List ℕ → ℕ → ℕ → ℕ → List Token → Pass
+abbrev pub weight_part : List ℕ → ℕ → ℕ → ℕ → List Token → Pass Found
 weight_part text states rows at numbers =
     each (sign_row text) numbers
     ▸ each (total_row text) (rows_by states numbers rows)
@@ -66,27 +67,27 @@ pub record IsWeighed (decimals : List Decimal) (states : ℕ) (cells : List ℤ)
   pub table : IsTable cells (length decimals / states) states scaled.total
 
 -- the `data` of a node of that kind, with so many rows and states
-abbrev pub data_part : List ℕ → Kind → ℕ → ℕ → AttributeTree → Pass
+abbrev pub data_part : List ℕ → Kind → ℕ → ℕ → AttributeTree → Pass Found
 data_part text kind rows states table =
     number_rows text (rows * states) table
     ▸ only (is_chance kind) (weight_part text states rows table.name.start (leaves table.value))
 
 -- the first of these attributes as its `data`
-abbrev pub data_parts : List ℕ → Kind → ℕ → ℕ → BlockTree → List AttributeTree → Pass
+abbrev pub data_parts : List ℕ → Kind → ℕ → ℕ → BlockTree → List AttributeTree → Pass Found
 data_parts text kind rows states potential [] = always (found (title_at potential) MissingTable)
 data_parts text kind rows states potential (table ∷ more) = data_part text kind rows states table
 
 -- its potential
-abbrev pub table_part : List ℕ → Kind → ℕ → ℕ → BlockTree → Pass
+abbrev pub table_part : List ℕ → Kind → ℕ → ℕ → BlockTree → Pass Found
 table_part text kind rows states potential = repeats text potential ▸ data_parts text kind rows states potential (data_of text potential)
 
 -- its potential, where it has one
-abbrev pub draft_part : List ℕ → Kind → ℕ → ℕ → Option BlockTree → Pass
+abbrev pub draft_part : List ℕ → Kind → ℕ → ℕ → Option BlockTree → Pass Found
 draft_part text kind rows states None = clear
 draft_part text kind rows states (Some potential) = table_part text kind rows states potential
 
 -- a decision has no table
-abbrev pub node_part : List ℕ → Kind → ℕ → ℕ → Option BlockTree → Pass
+abbrev pub node_part : List ℕ → Kind → ℕ → ℕ → Option BlockTree → Pass Found
 node_part text Decision rows states potential = clear
 node_part text kind rows states potential = draft_part text kind rows states potential
 
@@ -140,11 +141,11 @@ abbrev pub potential_at : LinkLists → ℕ → Option BlockTree
 potential_at links v = slice_index_or links.potentials v None
 
 -- node v by its head, its rows and its potential
-abbrev pub node_rows_at : List ℕ → List Head → LinkLists → ℕ → Pass
+abbrev pub node_rows_at : List ℕ → List Head → LinkLists → ℕ → Pass Found
 node_rows_at text heads links v = node_part text (head_at heads v).kind (head_rows heads links.parents v) (head_at heads v).states (potential_at links v)
 
 -- the nodes in order
-abbrev pub drafts_pass : List ℕ → List Head → LinkLists → Pass
+abbrev pub drafts_pass : List ℕ → List Head → LinkLists → Pass Found
 drafts_pass text heads links = each (node_rows_at text heads links) (range_with_len 0 (length heads))
 
 -- what reading the tables needs: each node has states, and each chance node and utility its potential

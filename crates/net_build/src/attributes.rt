@@ -3,7 +3,9 @@
 ghost use Rattle.std.specs.Prelude.{◌≡◌, ◌&&◌, ◌∷◌, [], List, All, filter, IfSome, MatchOption, bytes_eq};
 ghost use Rattle.std.specs.List.{list_any};
 ghost use Rattle.net_build.specs.Blocks.{is_counted, named, word_of};
-ghost use Rattle.net_build.specs.Passes.{Passes, each_after};
+ghost use Rattle.first_fault.specs.Passes.{each_after};
+ghost use Rattle.first_fault.specs.Answers.{Passes};
+ghost use Rattle.net_build.specs.Passes.{build_fault};
 ghost use Rattle.net_build.specs.Table.{repeated_row, repeats};
 ghost use Rattle.net_parser.specs.Owned.{IsAttributeOf, IsBlockOf};
 ghost use Rattle.net_parser.specs.Trees.{AttributeTree};
@@ -80,7 +82,7 @@ fn is_repeated(text: &[u8], kind: BlockKind, before: &[Attribute], word: &[u8]) 
 // No attribute that counts stands a second time.
 fn check_counted(text: &[u8], kind: BlockKind, attributes: &[Attribute]) -> Result<(), BuildFault>
     requires { All (IsAttributeOf text.now) attributes.now }
-    ensures { Passes (each_after (repeated_row text.now) [] (filter (λ a. is_counted kind (word_of text.now a)) attributes.now)) result }
+    ensures { Passes build_fault (each_after (repeated_row text.now) [] (filter (λ a. is_counted kind (word_of text.now a)) attributes.now)) result }
 {
     for (place, attribute) in attributes.iter().enumerate() {
         let word = word_of(text, attribute);
@@ -94,7 +96,7 @@ fn check_counted(text: &[u8], kind: BlockKind, attributes: &[Attribute]) -> Resu
 /// No attribute that counts in the block stands a second time.
 pub fn check_repeats(text: &[u8], block: &Block) -> Result<(), BuildFault>
     requires { IsBlockOf text.now block.now }
-    ensures { Passes (repeats text.now block.now) result }
+    ensures { Passes build_fault (repeats text.now block.now) result }
 {
     check_counted(text, block.kind, &block.attributes)
 }

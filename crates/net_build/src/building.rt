@@ -1,19 +1,19 @@
 //! From a text's tree to its diagram and its names, or to its first fault.
 
-ghost use Rattle.std.specs.Prelude.{◌≡◌, All, length, IfOk};
+ghost use Rattle.std.specs.Prelude.{◌≡◌, length, IfOk};
 ghost use Rattle.maid_model.specs.Diagrams.{IsDiagram};
 ghost use Rattle.maid_model.specs.Names.{NamesFit};
 ghost use Rattle.net_build.specs.Building.{StandsFor};
 ghost use Rattle.net_build.specs.Form.{HasTextForm};
 ghost use Rattle.net_build.specs.Lists.{numbers_of_lists, cells_of_lists};
-ghost use Rattle.net_build.specs.Passes.{Passes};
+ghost use Rattle.first_fault.specs.Answers.{Passes};
+ghost use Rattle.net_build.specs.Passes.{build_fault};
 ghost use Rattle.net_build.specs.Plain.{IsPlain};
 ghost use Rattle.net_build.specs.Stages.{made_node, made_nodes, made_diagram};
 ghost use Rattle.net_build.specs.Table.{all_passes};
 ghost use Rattle.net_lexer.specs.Pieces.{IsTokens};
 ghost use Rattle.net_parser.specs.Grammar.{Spells};
 ghost use Rattle.net_parser.specs.Lexemes.{lexemes};
-ghost use Rattle.net_parser.specs.Owned.{IsBlockOf};
 
 use crate::faults::BuildFault;
 use crate::links::{Links, read_links};
@@ -21,7 +21,7 @@ use crate::nodes::{Head, Nodes, read_nodes};
 use crate::tables::{Tables, read_tables};
 use maid_model::{Diagram, Names, Node};
 use net_lexer::Tokens;
-use net_parser::Syntax;
+use net_parser::{Syntax, blocks_stand_in_their_text};
 use smallvec::SmallVec;
 use std::alloc::{AllocError, Global};
 use std::mem;
@@ -94,16 +94,16 @@ pub fn build(
 ) -> Result<(Diagram, Names), BuildFault>
     requires tokens { IsTokens text.now tokens.now }
     requires tree { Spells syntax.now (lexemes text.now tokens.now) }
-    requires blocks { All (IsBlockOf text.now) syntax.now }
-    ensures rows { Passes (all_passes text.now syntax.now) result }
+    ensures rows { Passes build_fault (all_passes text.now syntax.now) result }
     ensures stands { IfOk result (λ built. StandsFor text.now syntax.now built.0 built.1) }
     ensures diagram { IfOk result (λ built. IsDiagram built.0) }
     ensures fit { IfOk result (λ built. NamesFit built.0 built.1) }
     ensures form { IfOk result (λ built. HasTextForm built.0 built.1) }
     ensures plain { IfOk result (λ built. IsPlain built.0) }
 {
-    // The blocks have all of the tokens that are needed.
+    // The blocks that the tokens spell have all of them that is needed.
     let _ = tokens;
+    blocks_stand_in_their_text();
     let nodes = read_nodes(alloc, text, syntax)?;
     let links = read_links(alloc, text, syntax, &nodes)?;
     let tables = read_tables(alloc, text, syntax, &nodes, &links)?;

@@ -5,7 +5,8 @@ ghost use Rattle.std.specs.List.{list_any};
 ghost use Rattle.std.specs.Str.{bytes_eq};
 ghost use Rattle.net_lexer.specs.Token.{IsTokenOf, token_bytes};
 ghost use Rattle.net_build.specs.Linking.{node_named, kind_at, unknown_row, repeat_row, utility_row, condition_steps, conditions_steps, AreParents};
-ghost use Rattle.net_build.specs.Passes.{Passes};
+ghost use Rattle.first_fault.specs.Answers.{Passes};
+ghost use Rattle.net_build.specs.Passes.{build_fault};
 
 use crate::faults::{BuildFault, BuildKind};
 use crate::node_names::NodeNames;
@@ -25,7 +26,7 @@ fn stands_in(text: &[u8], tokens: &[Token], bytes: &[u8]) -> bool
 /// The node of that name.
 pub fn read_name(text: &[u8], names: &NodeNames, name: &Token) -> Result<usize, BuildFault>
     requires { IsTokenOf text.now name.now }
-    ensures row { Passes (unknown_row text.now names.now name.now) result }
+    ensures row { Passes build_fault (unknown_row text.now names.now name.now) result }
     ensures node { IfOk result (λ node. node ≡ node_named text.now names.now name.now) }
     ensures within { IfOk result (λ node. node < length names.now) }
 {
@@ -39,7 +40,7 @@ pub fn read_name(text: &[u8], names: &NodeNames, name: &Token) -> Result<usize, 
 fn check_repeat(text: &[u8], earlier: &[Token], name: &Token) -> Result<(), BuildFault>
     requires earlier { All (IsTokenOf text.now) earlier.now }
     requires name { IsTokenOf text.now name.now }
-    ensures { Passes (repeat_row text.now earlier.now name.now) result }
+    ensures { Passes build_fault (repeat_row text.now earlier.now name.now) result }
 {
     if stands_in(text, earlier, name.bytes(text)) {
         return Err(BuildKind::RepeatedParent.at(name.start));
@@ -50,7 +51,7 @@ fn check_repeat(text: &[u8], earlier: &[Token], name: &Token) -> Result<(), Buil
 // The node of the name can be a parent.
 fn check_kind(heads: &[Head], node: usize, name: &Token) -> Result<(), BuildFault>
     requires { node < length heads.now }
-    ensures { Passes (utility_row (kind_at heads.now node) name.now) result }
+    ensures { Passes build_fault (utility_row (kind_at heads.now node) name.now) result }
 {
     match heads[node].kind {
         Kind::Utility => Err(BuildKind::UtilityParent.at(name.start)),
@@ -69,7 +70,7 @@ fn read_condition(
     requires earlier { All (IsTokenOf text.now) earlier.now }
     requires name { IsTokenOf text.now name.now }
     requires heads { length heads.now ≡ length names.now }
-    ensures rows { Passes (condition_steps text.now names.now heads.now earlier.now name.now) result }
+    ensures rows { Passes build_fault (condition_steps text.now names.now heads.now earlier.now name.now) result }
     ensures node { IfOk result (λ node. node ≡ node_named text.now names.now name.now) }
 {
     let node = read_name(text, names, name)?;
@@ -88,7 +89,7 @@ pub fn read_conditions(
 ) -> Result<Vec<usize>, BuildFault>
     requires conditions { All (IsTokenOf text.now) conditions.now }
     requires heads { length heads.now ≡ length names.now }
-    ensures rows { Passes (conditions_steps text.now names.now heads.now conditions.now) result }
+    ensures rows { Passes build_fault (conditions_steps text.now names.now heads.now conditions.now) result }
     ensures nodes { IfOk result (λ list. list.items ≡ map (node_named text.now names.now) conditions.now) }
 {
     // A name that stands twice is refused there, so that each is compared with no more than there are nodes.

@@ -3,7 +3,8 @@
 ghost use Rattle.std.specs.Prelude.{◌≡◌, ℕ, ◌<◌, length, slice_index};
 ghost use Rattle.diagram_graph.specs.Cycles.{ListedArc, lists_in};
 ghost use Rattle.net_build.specs.Linking.{graph_steps};
-ghost use Rattle.net_build.specs.Passes.{Passes};
+ghost use Rattle.first_fault.specs.Answers.{Passes};
+ghost use Rattle.net_build.specs.Passes.{build_fault};
 ghost use Rattle.net_build.specs.Stages.{head_at};
 
 use crate::faults::{BuildFault, BuildKind};
@@ -25,7 +26,7 @@ fn cycle_fault(heads: &[Head], cycle: Vec<usize>) -> BuildFault
 pub fn check_graph(alloc: Global, heads: &[Head], parents: &[Vec<usize>]) -> Result<(), BuildFault>
     requires len { length parents.now ≡ length heads.now }
     requires known { (u v : ℕ) → ListedArc (lists_in parents.now) u v → u < length parents.now }
-    ensures { Passes (graph_steps heads.now (lists_in parents.now)) result }
+    ensures { Passes build_fault (graph_steps heads.now (lists_in parents.now)) result }
 {
     match first_cycle(alloc, parents)? {
         Some(cycle) => Err(cycle_fault(heads, cycle)),

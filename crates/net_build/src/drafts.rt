@@ -4,7 +4,8 @@ ghost use Rattle.std.specs.Prelude.{◌≡◌, ◌≢◌, ◌<◌, ◌≤◌, �
 ghost use Rattle.std.specs.Option.{option_map};
 ghost use Rattle.maid_model.specs.declared.diagrams.Kind.TheVariants.{Decision};
 ghost use Rattle.net_build.specs.Blocks.{is_potential, data_of, leaves_of};
-ghost use Rattle.net_build.specs.Passes.{Passes};
+ghost use Rattle.first_fault.specs.Answers.{Passes};
+ghost use Rattle.net_build.specs.Passes.{build_fault};
 ghost use Rattle.net_build.specs.TableParts.{data_part, table_part, node_part, numerals_in, IsDraftOf, FitsDraft, finished, values_of};
 ghost use Rattle.net_lexer.specs.Token.{token_bytes};
 ghost use Rattle.net_parser.specs.Owned.{IsAttributeOf, IsBlockOf, leaves};
@@ -40,7 +41,7 @@ fn read_data(
     requires kind { head.now.kind ≢ Decision }
     requires states { 0 < head.now.states }
     requires small { rows * head.now.states ≤ 65536 }
-    ensures rows { Passes (data_part text.now head.now.kind rows head.now.states table.now) result }
+    ensures rows { Passes build_fault (data_part text.now head.now.kind rows head.now.states table.now) result }
     ensures draft { IfOk result (IsDraftOf head.now.kind rows head.now.states (map (token_bytes text.now) (leaves table.now.value))) }
 {
     let numbers = read_numbers(alloc, text, table, rows * head.states)?;
@@ -66,7 +67,7 @@ fn read_table(
     requires kind { head.now.kind ≢ Decision }
     requires states { 0 < head.now.states }
     requires small { rows * head.now.states ≤ 65536 }
-    ensures rows { Passes (table_part text.now head.now.kind rows head.now.states potential.now) result }
+    ensures rows { Passes build_fault (table_part text.now head.now.kind rows head.now.states potential.now) result }
     ensures draft { IfOk result (IsDraftOf head.now.kind rows head.now.states (map (token_bytes text.now) (leaves_of (data_of text.now potential.now)))) }
 {
     check_repeats(text, potential)?;
@@ -88,7 +89,7 @@ pub fn read_draft(
     requires there { head.now.kind ≢ Decision → IsSome potential }
     requires states { 0 < head.now.states }
     requires small { rows * head.now.states ≤ 65536 }
-    ensures rows { Passes (node_part text.now head.now.kind rows head.now.states (option_map (λ p. p.now) potential.entry)) result }
+    ensures rows { Passes build_fault (node_part text.now head.now.kind rows head.now.states (option_map (λ p. p.now) potential.entry)) result }
     ensures draft { IfOk result (IsDraftOf head.now.kind rows head.now.states (numerals_in text.now (option_map (λ p. p.now) potential.entry))) }
 {
     match (head.kind, potential) {

@@ -4,7 +4,9 @@ ghost use Rattle.std.specs.Prelude.{◌≡◌, ◌<◌, ◌∷◌, [], All, map,
 ghost use Rattle.std.specs.List.{list_all};
 ghost use Rattle.net_build.specs.Blocks.{title, is_plain, is_string, is_string_list, has_states, named, block_labels};
 ghost use Rattle.maid_model.specs.Names.{list_of};
-ghost use Rattle.net_build.specs.Passes.{Passes, each};
+ghost use Rattle.first_fault.specs.Passes.{each};
+ghost use Rattle.first_fault.specs.Answers.{Passes};
+ghost use Rattle.net_build.specs.Passes.{build_fault};
 ghost use Rattle.net_build.specs.Stages.{leaves_in, are_string_values};
 ghost use Rattle.net_build.specs.Table.{label_row, label_rows, states_rows};
 ghost use Rattle.net_lexer.specs.Token.{text_value};
@@ -83,7 +85,7 @@ fn strings(value: &Value) -> Option<&[Value]>
 fn label(alloc: Global, text: &[u8], value: &Value) -> Result<Vec<u8>, BuildFault>
     requires string { is_string (value_tree value.now) ≡ true }
     requires own { All (IsLeafOf text.now) (leaves (value_tree value.now)) }
-    ensures rows { Passes (each (label_row text.now) (leaves (value_tree value.now))) result }
+    ensures rows { Passes build_fault (each (label_row text.now) (leaves (value_tree value.now))) result }
     ensures label { IfOk result (λ label. map (text_value text.now) (leaves (value_tree value.now)) ≡ label.items ∷ []) }
 {
     let Value::Leaf(token) = value else {
@@ -100,7 +102,7 @@ fn label(alloc: Global, text: &[u8], value: &Value) -> Result<Vec<u8>, BuildFaul
 fn labels(alloc: Global, text: &[u8], values: &[Value]) -> Result<Vec<Vec<u8>>, BuildFault>
     requires strings { list_all (λ v. is_string (value_tree v)) values.now ≡ true }
     requires own { All (IsLeafOf text.now) (leaves_in values.now) }
-    ensures rows { Passes (each (label_row text.now) (leaves_in values.now)) result }
+    ensures rows { Passes build_fault (each (label_row text.now) (leaves_in values.now)) result }
     ensures labels { IfOk result (λ labels. list_of labels.items ≡ map (text_value text.now) (leaves_in values.now)) }
 {
     let mut labels = Vec::new(alloc);
@@ -113,7 +115,7 @@ fn labels(alloc: Global, text: &[u8], values: &[Value]) -> Result<Vec<Vec<u8>>, 
 // The labels in the value of `states`.
 fn state_labels(alloc: Global, text: &[u8], states: &Attribute) -> Result<Vec<Vec<u8>>, BuildFault>
     requires { IsAttributeOf text.now states.now }
-    ensures rows { Passes (label_rows text.now states.now) result }
+    ensures rows { Passes build_fault (label_rows text.now states.now) result }
     ensures labels { IfOk result (λ labels. list_of labels.items ≡ map (text_value text.now) (leaves states.now.value)) }
 {
     let at = states.name.start;
@@ -134,7 +136,7 @@ fn state_labels(alloc: Global, text: &[u8], states: &Attribute) -> Result<Vec<Ve
 pub fn read_labels(alloc: Global, text: &[u8], block: &Block) -> Result<Vec<Vec<u8>>, BuildFault>
     requires own { IsBlockOf text.now block.now }
     requires kind { has_states block.now.kind ≡ true }
-    ensures rows { Passes (states_rows text.now block.now (named text.now (codes "states") block.now.attributes)) result }
+    ensures rows { Passes build_fault (states_rows text.now block.now (named text.now (codes "states") block.now.attributes)) result }
     ensures labels { IfOk result (λ labels. list_of labels.items ≡ block_labels text.now block.now) }
 {
     match first_named(text, &block.attributes, b"states") {

@@ -3,7 +3,9 @@
 ghost use Rattle.std.specs.Prelude.{◌≡◌, ◌<◌, All, length, IfOk, OnOk, codes, if◌then◌else◌};
 ghost use Rattle.net_build.specs.Blocks.{is_node, kind_of, title_at, block_name, node_blocks, has_states, has_agent, named, block_labels, block_states, agent_of, place_among};
 ghost use Rattle.maid_model.specs.Names.{list_of};
-ghost use Rattle.net_build.specs.Passes.{Passes, only};
+ghost use Rattle.first_fault.specs.Passes.{only};
+ghost use Rattle.first_fault.specs.Answers.{Passes};
+ghost use Rattle.net_build.specs.Passes.{build_fault};
 ghost use Rattle.net_build.specs.Stages.{with_agent, node_lists};
 ghost use Rattle.net_build.specs.Table.{name_rows, states_rows, node_rows, node_pass};
 ghost use Rattle.net_parser.specs.Owned.{IsBlockOf};
@@ -83,7 +85,7 @@ fn kind_of(kind: BlockKind) -> Kind
 fn read_name<'a>(text: &'a [u8], block: &Block, names: &NodeNames) -> Result<&'a [u8], BuildFault>
     requires own { IsBlockOf text.now block.now }
     requires named { 0 < length block.now.names }
-    ensures rows { Passes (name_rows text.now names.now block.now) result }
+    ensures rows { Passes build_fault (name_rows text.now names.now block.now) result }
     ensures name { IfOk result (λ name. name.now ≡ block_name text.now block.now) }
 {
     let title = title(block);
@@ -111,7 +113,7 @@ fn read_name<'a>(text: &'a [u8], block: &Block, names: &NodeNames) -> Result<&'a
 // The labels of a node; a utility has none.
 fn node_labels(alloc: Global, text: &[u8], block: &Block) -> Result<Vec<Vec<u8>>, BuildFault>
     requires { IsBlockOf text.now block.now }
-    ensures rows { Passes (only (has_states block.now.kind) (states_rows text.now block.now (named text.now (codes "states") block.now.attributes))) result }
+    ensures rows { Passes build_fault (only (has_states block.now.kind) (states_rows text.now block.now (named text.now (codes "states") block.now.attributes))) result }
     ensures labels { IfOk result (λ labels. list_of labels.items ≡ block_labels text.now block.now) }
 {
     if has_states(block.kind) {
@@ -143,7 +145,7 @@ fn read_entry(
 ) -> Result<Entry, BuildFault>
     requires own { IsBlockOf text.now block.now }
     requires named { 0 < length block.now.names }
-    ensures rows { Passes (node_rows text.now names.now (list_of agents.old.items) block.now) result }
+    ensures rows { Passes build_fault (node_rows text.now names.now (list_of agents.old.items) block.now) result }
     ensures agents { OnOk result (list_of agents.new.items ≡ with_agent text.now (list_of agents.old.items) block.now) }
     ensures name { IfOk result (λ entry. entry.name.items ≡ block_name text.now block.now) }
     ensures labels { IfOk result (λ entry. list_of entry.labels.items ≡ block_labels text.now block.now) }
@@ -172,7 +174,7 @@ fn read_entry(
 // What the node blocks among these say.
 fn read_blocks(alloc: Global, text: &[u8], blocks: &[Block]) -> Result<Nodes, BuildFault>
     requires { All (IsBlockOf text.now) blocks.now }
-    ensures rows { Passes (node_pass text.now blocks.now) result }
+    ensures rows { Passes build_fault (node_pass text.now blocks.now) result }
     ensures nodes { IfOk result (λ nodes. nodes ≡ node_lists text.now (node_blocks blocks.now)) }
 {
     let mut names = NodeNames::new(alloc);
@@ -198,7 +200,7 @@ fn read_blocks(alloc: Global, text: &[u8], blocks: &[Block]) -> Result<Nodes, Bu
 /// What the node blocks of a text say, or the first fault among them. It goes over the blocks once.
 pub fn read_nodes(alloc: Global, text: &[u8], syntax: &Syntax) -> Result<Nodes, BuildFault>
     requires { All (IsBlockOf text.now) syntax.now }
-    ensures rows { Passes (node_pass text.now syntax.now) result }
+    ensures rows { Passes build_fault (node_pass text.now syntax.now) result }
     ensures nodes { IfOk result (λ nodes. nodes ≡ node_lists text.now (node_blocks syntax.now)) }
 {
     read_blocks(alloc, text, &syntax.blocks)

@@ -2,7 +2,9 @@
 
 ghost use Rattle.std.specs.Prelude.{◌≡◌, ◌≢◌, All, map, length, true, false, IfOk};
 ghost use Rattle.net_build.specs.Blocks.{is_number};
-ghost use Rattle.net_build.specs.Passes.{Passes, each, rule, found, WrongCount};
+ghost use Rattle.first_fault.specs.Passes.{each, rule};
+ghost use Rattle.first_fault.specs.Answers.{Passes};
+ghost use Rattle.net_build.specs.Passes.{found, WrongCount, build_fault};
 ghost use Rattle.net_build.specs.Scaling.{AreDecimals};
 ghost use Rattle.net_build.specs.Table.{number_row, length_row};
 ghost use Rattle.net_build.specs.TableParts.{count_row, number_rows};
@@ -26,7 +28,7 @@ pub struct Numbers {
 
 // Each leaf is a number.
 fn check_numbers(tokens: &[Token]) -> Result<(), BuildFault>
-    ensures { Passes (each number_row tokens.now) result }
+    ensures { Passes build_fault (each number_row tokens.now) result }
 {
     for token in tokens {
         if token.kind != TokenKind::Number {
@@ -38,7 +40,7 @@ fn check_numbers(tokens: &[Token]) -> Result<(), BuildFault>
 
 // There are as many numbers as the table has cells.
 fn check_count(at: usize, want: usize, got: usize) -> Result<(), BuildFault>
-    ensures { Passes (count_row at want got) result }
+    ensures { Passes build_fault (count_row at want got) result }
 {
     if got == want {
         Ok(())
@@ -51,7 +53,7 @@ fn check_count(at: usize, want: usize, got: usize) -> Result<(), BuildFault>
 fn decimal(text: &[u8], token: &Token) -> Result<Decimal, BuildFault>
     requires own { IsTokenOf text.now token.now }
     requires number { is_number token.now.kind ≡ true }
-    ensures row { Passes (length_row text.now token.now) result }
+    ensures row { Passes build_fault (length_row text.now token.now) result }
     ensures decimal { IfOk result (λ d. IsLeastDecimalOf (numerator (token_bytes text.now token.now)) (denominator (token_bytes text.now token.now)) d) }
 {
     match numeral(token.bytes(text)) {
@@ -64,7 +66,7 @@ fn decimal(text: &[u8], token: &Token) -> Result<Decimal, BuildFault>
 pub fn decimals(alloc: Global, text: &[u8], tokens: &[Token]) -> Result<Vec<Decimal>, BuildFault>
     requires own { All (IsTokenOf text.now) tokens.now }
     requires numbers { All (λ t. is_number t.kind ≡ true) tokens.now }
-    ensures rows { Passes (each (length_row text.now) tokens.now) result }
+    ensures rows { Passes build_fault (each (length_row text.now) tokens.now) result }
     ensures decimals { IfOk result (λ ds. AreDecimals (map (token_bytes text.now) tokens.now) ds.items) }
 {
     let mut decimals = Vec::with_capacity(alloc, tokens.len())?;
@@ -82,7 +84,7 @@ pub fn read_numbers(
     want: usize,
 ) -> Result<Numbers, BuildFault>
     requires { IsAttributeOf text.now table.now }
-    ensures rows { Passes (number_rows text.now want table.now) result }
+    ensures rows { Passes build_fault (number_rows text.now want table.now) result }
     ensures tokens { IfOk result (λ n. n.tokens.items ≡ leaves table.now.value) }
     ensures decimals { IfOk result (λ n. AreDecimals (map (token_bytes text.now) (leaves table.now.value)) n.decimals.items) }
 {

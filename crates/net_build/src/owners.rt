@@ -4,7 +4,9 @@ ghost use Rattle.std.specs.Prelude.{◌≡◌, ◌<◌, length, false, IfOk, OnO
 ghost use Rattle.net_build.specs.declared.faults.Limit.TheVariants.{Agents};
 ghost use Rattle.net_build.specs.Blocks.{title_at, is_plain, is_agent, is_string, has_agent, named, first_text, agent_of, place_among};
 ghost use Rattle.maid_model.specs.Names.{list_of};
-ghost use Rattle.net_build.specs.Passes.{Passes, rule, only, found, BadAgent, LimitPassed};
+ghost use Rattle.first_fault.specs.Passes.{rule, only};
+ghost use Rattle.first_fault.specs.Answers.{Passes};
+ghost use Rattle.net_build.specs.Passes.{found, BadAgent, LimitPassed, build_fault};
 ghost use Rattle.net_build.specs.Stages.{with_sight, with_agent};
 ghost use Rattle.net_build.specs.Table.{IsAgentTooMany, agent_rows, owner_rows};
 ghost use Rattle.net_lexer.specs.declared.tokens.TokenKind.TheVariants.{Text};
@@ -40,7 +42,7 @@ fn string_token(value: &Value) -> Option<&Token>
 // The agent in the value of `agent`.
 fn agent_value(alloc: Global, text: &[u8], agent: &Attribute) -> Result<Vec<u8>, BuildFault>
     requires { IsAttributeOf text.now agent.now }
-    ensures rows { Passes (rule (is_agent text.now agent.now.value ≡ false) (found agent.now.name.start BadAgent)) result }
+    ensures rows { Passes build_fault (rule (is_agent text.now agent.now.value ≡ false) (found agent.now.name.start BadAgent)) result }
     ensures agent { IfOk result (λ value. value.items ≡ first_text text.now (leaves agent.now.value)) }
 {
     let at = agent.name.start;
@@ -57,7 +59,7 @@ fn agent_value(alloc: Global, text: &[u8], agent: &Attribute) -> Result<Vec<u8>,
 // The agent of a decision or a utility.
 fn read_agent(alloc: Global, text: &[u8], block: &Block) -> Result<Vec<u8>, BuildFault>
     requires { IsBlockOf text.now block.now }
-    ensures rows { Passes (agent_rows text.now (named text.now (codes "agent") block.now.attributes)) result }
+    ensures rows { Passes build_fault (agent_rows text.now (named text.now (codes "agent") block.now.attributes)) result }
     ensures agent { IfOk result (λ agent. agent.items ≡ agent_of text.now block.now) }
 {
     match first_named(text, &block.attributes, b"agent") {
@@ -68,7 +70,7 @@ fn read_agent(alloc: Global, text: &[u8], block: &Block) -> Result<Vec<u8>, Buil
 
 // The number of an agent, which is added where it is new.
 fn number_agent(agents: &mut Vec<Vec<u8>>, agent: Vec<u8>, at: usize) -> Result<usize, BuildFault>
-    ensures rows { Passes (rule (IsAgentTooMany (list_of agents.old.items) agent.items) (found at (LimitPassed Agents 17))) result }
+    ensures rows { Passes build_fault (rule (IsAgentTooMany (list_of agents.old.items) agent.items) (found at (LimitPassed Agents 17))) result }
     ensures agents { OnOk result (list_of agents.new.items ≡ with_sight (list_of agents.old.items) agent.items) }
     ensures place { IfOk result (λ place. place ≡ place_among (list_of agents.new.items) agent.items) }
 {
@@ -96,7 +98,7 @@ fn owner(
 ) -> Result<usize, BuildFault>
     requires own { IsBlockOf text.now block.now }
     requires named { 0 < length block.now.names }
-    ensures rows { Passes (owner_rows text.now (list_of agents.old.items) block.now) result }
+    ensures rows { Passes build_fault (owner_rows text.now (list_of agents.old.items) block.now) result }
     ensures agents { OnOk result (list_of agents.new.items ≡ with_sight (list_of agents.old.items) (agent_of text.now block.now)) }
     ensures place { IfOk result (λ place. place ≡ place_among (list_of agents.new.items) (agent_of text.now block.now)) }
 {
@@ -120,7 +122,7 @@ pub fn read_owner(
 ) -> Result<usize, BuildFault>
     requires own { IsBlockOf text.now block.now }
     requires named { 0 < length block.now.names }
-    ensures rows { Passes (only (has_agent block.now.kind) (owner_rows text.now (list_of agents.old.items) block.now)) result }
+    ensures rows { Passes build_fault (only (has_agent block.now.kind) (owner_rows text.now (list_of agents.old.items) block.now)) result }
     ensures agents { OnOk result (list_of agents.new.items ≡ with_agent text.now (list_of agents.old.items) block.now) }
     ensures place { IfOk result (λ place. place ≡ (if has_agent block.now.kind then place_among (list_of agents.new.items) (agent_of text.now block.now) else 0)) }
 {

@@ -6,7 +6,8 @@ ghost use Rattle.net_parser.specs.Owned.{IsBlockOf};
 ghost use Rattle.net_build.specs.Blocks.{is_potential, title, conditions, potentials};
 ghost use Rattle.net_build.specs.Linking.{node_named, borrowed_trees, taken_row, many_row, potential_steps, potentials_steps, potentials_among, parents_in, absent_row, missing_at, missing_steps, AreParents};
 ghost use Rattle.net_build.specs.Lists.{numbers_of_lists};
-ghost use Rattle.net_build.specs.Passes.{Passes};
+ghost use Rattle.first_fault.specs.Answers.{Passes};
+ghost use Rattle.net_build.specs.Passes.{build_fault};
 ghost use Rattle.net_build.specs.Stages.{head_at};
 
 use crate::conditions::{read_conditions, read_name};
@@ -22,7 +23,7 @@ use std::alloc::{AllocError, Global};
 // The node has no potential yet.
 fn check_single(potentials: &[Option<&Block>], node: usize, head: &Token) -> Result<(), BuildFault>
     requires { node < length potentials.now }
-    ensures { Passes (taken_row (borrowed_trees potentials.now) node head.now) result }
+    ensures { Passes build_fault (taken_row (borrowed_trees potentials.now) node head.now) result }
 {
     match potentials[node] {
         Some(_) => Err(BuildKind::DoublePotential.at(head.start)),
@@ -32,7 +33,7 @@ fn check_single(potentials: &[Option<&Block>], node: usize, head: &Token) -> Res
 
 // There are no more names behind the bar than a node may have parents.
 fn check_count(head: &Token, conditions: &[Token]) -> Result<(), BuildFault>
-    ensures row { Passes (many_row head.now conditions.now) result }
+    ensures row { Passes build_fault (many_row head.now conditions.now) result }
 {
     let count = conditions.len();
     if count > 16 {
@@ -59,7 +60,7 @@ fn read_potential(
     requires conditions { All (IsTokenOf text.now) conditions.now }
     requires heads { length heads.now ≡ length names.now }
     requires potentials { length potentials.now ≡ length names.now }
-    ensures rows { Passes (potential_steps text.now names.now heads.now (borrowed_trees potentials.now) head.now conditions.now) result }
+    ensures rows { Passes build_fault (potential_steps text.now names.now heads.now (borrowed_trees potentials.now) head.now conditions.now) result }
     ensures node { IfOk result (λ read. read.0 ≡ node_named text.now names.now head.now) }
     ensures within { IfOk result (λ read. read.0 < length names.now) }
     ensures parents { IfOk result (λ read. read.1.items ≡ map (node_named text.now names.now) conditions.now) }
@@ -99,7 +100,7 @@ fn read_block(
     requires potential { is_potential block.now.kind ≡ true }
     requires heads { length heads.now ≡ length names.now }
     requires potentials { length potentials.now ≡ length names.now }
-    ensures rows { Passes (potential_steps text.now names.now heads.now (borrowed_trees potentials.now) (title block.now) (conditions block.now)) result }
+    ensures rows { Passes build_fault (potential_steps text.now names.now heads.now (borrowed_trees potentials.now) (title block.now) (conditions block.now)) result }
     ensures node { IfOk result (λ read. read.0 ≡ node_named text.now names.now (title block.now)) }
     ensures within { IfOk result (λ read. read.0 < length names.now) }
     ensures parents { IfOk result (λ read. read.1.items ≡ map (node_named text.now names.now) (conditions block.now)) }
@@ -161,7 +162,7 @@ pub fn read_potentials<'a>(
     requires blocks { All (IsBlockOf text.now) syntax.now }
     requires heads { length heads.now ≡ length names.now }
     requires names { AllPairs (λ name later. name ≢ later) names.now }
-    ensures rows { Passes (potentials_steps text.now names.now heads.now syntax.now) result }
+    ensures rows { Passes build_fault (potentials_steps text.now names.now heads.now syntax.now) result }
     ensures potentials { IfOk result (λ links. links.potentials ≡ potentials_among text.now names.now (potentials syntax.now)) }
     ensures parents { IfOk result (λ links. links.parents ≡ parents_in text.now names.now links.potentials) }
     ensures fit { IfOk result (λ links. All (AreParents heads.now) links.parents) }
@@ -188,7 +189,7 @@ fn check_present(
 ) -> Result<(), BuildFault>
     requires within { node < length heads.now }
     requires len { length potentials.now ≡ length heads.now }
-    ensures { Passes (absent_row (head_at heads.now node) (borrowed_trees potentials.now) node) result }
+    ensures { Passes build_fault (absent_row (head_at heads.now node) (borrowed_trees potentials.now) node) result }
 {
     match potentials[node] {
         Some(_) => Ok(()),
@@ -200,7 +201,7 @@ fn check_present(
 fn check_table(heads: &[Head], potentials: &[Option<&Block>], node: usize) -> Result<(), BuildFault>
     requires within { node < length heads.now }
     requires len { length potentials.now ≡ length heads.now }
-    ensures { Passes (missing_at heads.now (borrowed_trees potentials.now) node) result }
+    ensures { Passes build_fault (missing_at heads.now (borrowed_trees potentials.now) node) result }
 {
     match heads[node].kind {
         Kind::Chance | Kind::Utility => check_present(heads, potentials, node),
@@ -211,7 +212,7 @@ fn check_table(heads: &[Head], potentials: &[Option<&Block>], node: usize) -> Re
 /// Each chance and utility node has a potential.
 pub fn check_tables(heads: &[Head], potentials: &[Option<&Block>]) -> Result<(), BuildFault>
     requires { length potentials.now ≡ length heads.now }
-    ensures { Passes (missing_steps heads.now (borrowed_trees potentials.now)) result }
+    ensures { Passes build_fault (missing_steps heads.now (borrowed_trees potentials.now)) result }
 {
     for node in 0..heads.len() {
         check_table(heads, potentials, node)?;

@@ -1,10 +1,12 @@
 //! Utility values as whole numbers, all to one scale.
 
-ghost use Rattle.std.specs.Prelude.{◌≡◌, ℕ, ◌<◌, ◌≤◌, ◌-◌, ◌*◌, ◌*ℤ◌, ◌^◌, List, All, map, length, pos, true, None, IfOk};
+ghost use Rattle.std.specs.Prelude.{◌≡◌, ◌↔◌, IsTrue, ℕ, ◌<◌, ◌≤◌, ◌-◌, ◌*◌, ◌*ℤ◌, ◌^◌, List, All, map, length, pos, true, None, IfOk};
 ghost use Rattle.std.specs.Option.{SomeIff};
 ghost use Rattle.maid_model.specs.Diagrams.{greatest_number};
 ghost use Rattle.net_build.specs.Blocks.{is_number};
-ghost use Rattle.net_build.specs.Passes.{Passes, each};
+ghost use Rattle.first_fault.specs.Passes.{each};
+ghost use Rattle.first_fault.specs.Answers.{Passes};
+ghost use Rattle.net_build.specs.Passes.{build_fault};
 ghost use Rattle.net_build.specs.Scaling.{AreDecimals, decimal_at};
 ghost use Rattle.net_build.specs.Table.{length_row, wide_row};
 ghost use Rattle.net_build.specs.TableParts.{IsScaleOf, scaled_pass, value_at_scale, Fits};
@@ -58,7 +60,7 @@ fn scaled(number: Decimal, scale: u32) -> Option<i128>
 pub fn all_fit(decimals: &[Decimal], scale: u32) -> bool
     requires enough { All (λ d. d.k ≤ scale) decimals.now }
     requires few { scale ≤ 30 }
-    ensures { result ≡ true → All (Fits scale) decimals.now }
+    ensures { IsTrue result ↔ All (Fits scale) decimals.now }
 {
     for decimal in decimals {
         if scaled(*decimal, scale).is_none() {
@@ -73,7 +75,7 @@ fn check_wide(tokens: &[Token], decimals: &[Decimal], scale: u32) -> Result<(), 
     requires len { length decimals.now ≡ length tokens.now }
     requires enough { All (λ d. d.k ≤ scale) decimals.now }
     requires few { scale ≤ 30 }
-    ensures { (text : List ℕ) → AreDecimals (map (token_bytes text) tokens.now) decimals.now → Passes (each (wide_row text scale) tokens.now) result }
+    ensures { (text : List ℕ) → AreDecimals (map (token_bytes text) tokens.now) decimals.now → Passes build_fault (each (wide_row text scale) tokens.now) result }
 {
     for (place, token) in tokens.iter().enumerate() {
         if scaled(decimals[place], scale).is_none() {
@@ -89,7 +91,7 @@ pub fn scale_of(alloc: Global, text: &[u8], tokens: &[Token]) -> Result<u32, Bui
     requires own { All (IsTokenOf text.now) tokens.now }
     requires numbers { All (λ t. is_number t.kind ≡ true) tokens.now }
     requires short { each (length_row text.now) tokens.now None }
-    ensures rows { Passes (scaled_pass text.now tokens.now) result }
+    ensures rows { Passes build_fault (scaled_pass text.now tokens.now) result }
     ensures scale { IfOk result (λ scale. IsScaleOf text.now tokens.now scale) }
     ensures narrow { IfOk result (λ scale. each (wide_row text.now scale) tokens.now None) }
     ensures few { IfOk result (λ scale. scale ≤ 30) }

@@ -4,7 +4,8 @@ ghost use Rattle.std.specs.Prelude.{◌≡◌, ◌<◌, ◌≤◌, ◌+◌, ◌*
 ghost use Rattle.maid_model.specs.Nodes.{is_decision};
 ghost use Rattle.net_build.specs.Linking.{rows_over, cells_over, cells_row, rules_row, size_rows_over, size_steps, rules_before};
 ghost use Rattle.net_build.specs.Lists.{numbers_of_lists};
-ghost use Rattle.net_build.specs.Passes.{Passes};
+ghost use Rattle.first_fault.specs.Answers.{Passes};
+ghost use Rattle.net_build.specs.Passes.{build_fault};
 ghost use Rattle.net_build.specs.Stages.{head_at, cells_at};
 
 use crate::faults::{BuildFault, BuildKind, Limit};
@@ -38,7 +39,7 @@ fn count_rows(heads: &[Head], parents: &[usize]) -> u128
 fn check_cells(heads: &[Head], parents: &[usize], node: usize) -> Result<u128, BuildFault>
     requires within { node < length heads.now }
     requires parents { All (λ u. u < length heads.now) parents.now }
-    ensures row { Passes (cells_row heads.now parents.now node) result }
+    ensures row { Passes build_fault (cells_row heads.now parents.now node) result }
     ensures cells { IfOk result (λ cells. cells ≡ cells_over heads.now parents.now node) }
     ensures few { IfOk result (λ cells. cells ≤ 65536) }
 {
@@ -55,7 +56,7 @@ fn check_cells(heads: &[Head], parents: &[usize], node: usize) -> Result<u128, B
 
 // The rules up to the node of this head have no more cells than all rules may have.
 fn check_rules(head: &Head, rules: u128) -> Result<(), BuildFault>
-    ensures { Passes (rules_row head.now rules) result }
+    ensures { Passes build_fault (rules_row head.now rules) result }
 {
     if rules > 262_144 {
         return Err(BuildKind::LimitPassed {
@@ -77,7 +78,7 @@ fn check_size(
     requires within { node < length heads.now }
     requires parents { All (λ u. u < length heads.now) parents.now }
     requires rules { rules ≤ 262144 }
-    ensures rows { Passes (size_rows_over heads.now parents.now node rules) result }
+    ensures rows { Passes build_fault (size_rows_over heads.now parents.now node rules) result }
     ensures sum { IfOk result (λ sum. sum ≡ rules + cond (is_decision (head_at heads.now node).kind) (cells_over heads.now parents.now node) 0) }
     ensures few { IfOk result (λ sum. sum ≤ 262144) }
     ensures cells { OnOk result (cells_over heads.now parents.now node ≤ 65536) }
@@ -96,7 +97,7 @@ fn check_size(
 pub fn check_sizes(heads: &[Head], parents: &[Vec<usize>]) -> Result<(), BuildFault>
     requires len { length parents.now ≡ length heads.now }
     requires parents { All (All (λ u. u < length heads.now)) (numbers_of_lists parents.now) }
-    ensures rows { Passes (size_steps heads.now (numbers_of_lists parents.now)) result }
+    ensures rows { Passes build_fault (size_steps heads.now (numbers_of_lists parents.now)) result }
     ensures cells { OnOk result ((v : ℕ) → v < length heads.now → cells_at heads.now (numbers_of_lists parents.now) v ≤ 65536) }
     ensures rules { OnOk result (rules_before heads.now (numbers_of_lists parents.now) (length heads.now) ≤ 262144) }
 {

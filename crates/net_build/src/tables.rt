@@ -1,11 +1,13 @@
 //! The tables of a text: the cells of each node, and the scale of the utilities.
 
-ghost use Rattle.std.specs.Prelude.{◌≡◌, ◌<◌, ◌≤◌, All, Contains, map, length, true, None, IfOk};
+ghost use Rattle.std.specs.Prelude.{◌≡◌, ◌↔◌, IsTrue, ◌<◌, ◌≤◌, All, Contains, map, length, true, None, IfOk};
 ghost use Rattle.maid_model.specs.Nodes.{rows_under};
 ghost use Rattle.net_build.specs.Blocks.{node_blocks};
 ghost use Rattle.net_build.specs.Building.{AreTables};
 ghost use Rattle.net_build.specs.Lists.{cells_of_lists};
-ghost use Rattle.net_build.specs.Passes.{Passes, each, ◌▸◌};
+ghost use Rattle.first_fault.specs.Passes.{each, ◌▸◌};
+ghost use Rattle.first_fault.specs.Answers.{Passes};
+ghost use Rattle.net_build.specs.Passes.{build_fault};
 ghost use Rattle.net_build.specs.Stages.{AreLinks, TablesFit, head_at, link_lists, node_lists};
 ghost use Rattle.net_build.specs.Table.{IsUtilityScale, missing_pass, node_pass, potential_pass, table_pass, wide_pass, wide_row};
 ghost use Rattle.net_build.specs.TableParts.{AreDrafts, CanRead, FitsDraft, HasAtMost, IsDraftAt, IsScaleOf, Reaches, drafts_pass, finished, node_rows_at, scaled_pass, values_in};
@@ -61,7 +63,7 @@ fn read_node(
 ) -> Result<Draft, BuildFault>
     requires read { CanRead text.now nodes.now.heads links.now }
     requires within { node < length nodes.now.heads }
-    ensures rows { Passes (node_rows_at text.now nodes.now.heads links.now node) result }
+    ensures rows { Passes build_fault (node_rows_at text.now nodes.now.heads links.now node) result }
     ensures draft { IfOk result (IsDraftAt text.now nodes.now.heads links.now node) }
 {
     let rows = row_count(&nodes.heads, &links.parents[node]);
@@ -82,7 +84,7 @@ fn read_drafts(
     links: &Links<'_>,
 ) -> Result<Vec<Draft>, BuildFault>
     requires { CanRead text.now nodes.now.heads links.now }
-    ensures rows { Passes (drafts_pass text.now nodes.now.heads links.now) result }
+    ensures rows { Passes build_fault (drafts_pass text.now nodes.now.heads links.now) result }
     ensures drafts { IfOk result (λ drafts. AreDrafts text.now nodes.now.heads links.now drafts.items) }
 {
     let mut drafts = Vec::with_capacity(alloc, nodes.heads.len())?;
@@ -112,7 +114,7 @@ fn most_of(drafts: &[Draft]) -> u32
 fn drafts_fit(drafts: &[Draft], scale: u32) -> bool
     requires enough { All (HasAtMost scale) drafts.now }
     requires few { scale ≤ 30 }
-    ensures { result ≡ true → All (FitsDraft scale) drafts.now }
+    ensures { IsTrue result ↔ All (FitsDraft scale) drafts.now }
 {
     for draft in drafts {
         if !all_fit(values(draft), scale) {
@@ -137,7 +139,7 @@ fn utility_scale(
     requires potential_rows { potential_pass text.now syntax.now None }
     requires table_rows { drafts_pass text.now nodes.now.heads (link_lists text.now syntax.now) None }
     requires drafts { AreDrafts text.now nodes.now.heads (link_lists text.now syntax.now) drafts.now }
-    ensures rows { Passes (scaled_pass text.now (values_in text.now nodes.now syntax.now)) result }
+    ensures rows { Passes build_fault (scaled_pass text.now (values_in text.now nodes.now syntax.now)) result }
     ensures scale { IfOk result (λ scale. IsScaleOf text.now (values_in text.now nodes.now syntax.now) scale) }
     ensures narrow { IfOk result (λ scale. each (wide_row text.now scale) (values_in text.now nodes.now syntax.now) None) }
     ensures few { IfOk result (λ scale. scale ≤ 30) }
@@ -181,7 +183,7 @@ pub fn read_tables(
     requires node_rows { node_pass text.now syntax.now None }
     requires potential_rows { potential_pass text.now syntax.now None }
     requires missing_rows { missing_pass text.now syntax.now None }
-    ensures rows { Passes (table_pass text.now syntax.now ▸ wide_pass text.now syntax.now) result }
+    ensures rows { Passes build_fault (table_pass text.now syntax.now ▸ wide_pass text.now syntax.now) result }
     ensures scale { IfOk result (λ tables. IsUtilityScale text.now syntax.now tables.decimals) }
     ensures cells { IfOk result (λ tables. AreTables text.now syntax.now tables.decimals tables.cells) }
     ensures few { IfOk result (λ tables. tables.decimals ≤ 30) }

@@ -4,7 +4,8 @@ ghost use Rattle.std.specs.Prelude.{◌≡◌, ℕ, ◌<◌, ◌≤◌, ◌*◌,
 ghost use Rattle.std.specs.Int.{◌∣◌};
 ghost use Rattle.maid_model.specs.Diagrams.{greatest_number};
 ghost use Rattle.maid_model.specs.Tables.{IsTable};
-ghost use Rattle.net_build.specs.Passes.{Passes};
+ghost use Rattle.first_fault.specs.Answers.{Passes};
+ghost use Rattle.net_build.specs.Passes.{build_fault};
 ghost use Rattle.net_build.specs.Scaling.{AreDecimals};
 ghost use Rattle.net_build.specs.TableParts.{weight_part, IsWeighed};
 ghost use Rattle.net_lexer.specs.Token.{token_bytes};
@@ -26,7 +27,7 @@ pub fn weights(
     requires states { 0 < states }
     requires whole { states ∣ length numbers.now.decimals.items }
     requires len { length numbers.now.decimals.items ≡ length numbers.now.tokens.items }
-    ensures rows { (text : List ℕ) (rows : ℕ) → length numbers.now.tokens.items ≡ rows * states → AreDecimals (map (token_bytes text) numbers.now.tokens.items) numbers.now.decimals.items → Passes (weight_part text states rows at numbers.now.tokens.items) result }
+    ensures rows { (text : List ℕ) (rows : ℕ) → length numbers.now.tokens.items ≡ rows * states → AreDecimals (map (token_bytes text) numbers.now.tokens.items) numbers.now.decimals.items → Passes build_fault (weight_part text states rows at numbers.now.tokens.items) result }
     ensures weighed { IfOk result (λ cells. IsWeighed numbers.now.decimals.items states cells.items) }
 {
     match scale_rows(alloc, &numbers.decimals, states) {

@@ -1,15 +1,16 @@
 -- Where no row finds anything, a pass finds nothing.
 use Rattle.std.proofs.Common.{◌≡◌, ◌∙◌, Bool, true, false, List, [], ◌∷◌, ◌++◌, Contains, None, refl, arith, append_assoc}
 use Rattle.std.proofs.lemmas.List.Elements.{Contains-append_right}
-use Rattle.net_build.specs.Passes.{Pass, only, each_after}
+use Rattle.first_fault.specs.Passes.{Pass, only, each_after}
+use Rattle.net_build.specs.Passes.{Found}
 
 -- where nothing is found at each item, behind those before it, nothing is found
-pub after_clear : {A : Type 0} (P : List A → A → Pass) (earlier xs : List A) → ((front : List A) (x : A) (back : List A) → front ++ (x ∷ back) ≡ earlier ++ xs → P front x None) → each_after P earlier xs None
+pub after_clear : {A : Type 0} (P : List A → A → Pass Found) (earlier xs : List A) → ((front : List A) (x : A) (back : List A) → front ++ (x ∷ back) ≡ earlier ++ xs → P front x None) → each_after P earlier xs None
 after_clear P earlier [] one = tt
 after_clear P earlier (x ∷ xs) one = (one earlier x xs refl, after_clear P (earlier ++ x ∷ []) xs (λ front y back e. one front y back (e ∙ append_assoc earlier (x ∷ []) xs)))
 
 -- rows that count where a test holds
-pub only_clear : (test : Bool) (P : Pass) → (test ≡ true → P None) → only test P None
+pub only_clear : (test : Bool) (P : Pass Found) → (test ≡ true → P None) → only test P None
 only_clear true P clear = clear refl
 only_clear false P clear = tt
 

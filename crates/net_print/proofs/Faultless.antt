@@ -8,7 +8,8 @@ use Rattle.maid_model.specs.Names.{NamesView, name_of}
 use Rattle.maid_model.specs.Nodes.{node_at, numbers_of}
 use Rattle.maid_model.specs.Views.{NodeView, DiagramView}
 use Rattle.net_build.specs.Blocks as look
-use Rattle.net_build.specs.Passes.{Pass, each}
+use Rattle.first_fault.specs.Passes.{Pass, each}
+use Rattle.net_build.specs.Passes.{Found}
 use Rattle.net_build.specs.Table.{graph_pass, missing_pass, missing_row, table_nodes}
 use Rattle.net_parser.specs.Trees.{BlockTree}
 use Rattle.net_print.specs.Printed.{printed}
@@ -23,7 +24,7 @@ use Rattle.net_print.proofs.Words.{node_words, potential_words}
 use Rattle.net_print.proofs.Written.{Written, At, at_end, end_at, text_onto, text_onto-append}
 
 -- where nothing is found at each, nothing is found
-pub each_clear : {A : Type 0} (P : A → Pass) (xs : List A) → All (λ x. P x None) xs → each P xs None
+pub each_clear : {A : Type 0} (P : A → Pass Found) (xs : List A) → All (λ x. P x None) xs → each P xs None
 each_clear P [] all = tt
 each_clear P (x ∷ xs) all = (All-head (λ y. P y None) x xs all, each_clear P xs (All-tail (λ y. P y None) x xs all))
 

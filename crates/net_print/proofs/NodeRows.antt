@@ -8,7 +8,7 @@ use Rattle.maid_model.specs.declared.diagrams.Kind.{Kind}
 use Rattle.maid_model.specs.declared.diagrams.Kind.TheVariants.{Chance, Decision, Utility}
 use Rattle.maid_model.specs.Reports.{quoted}
 use Rattle.net_build.specs.Blocks as look
-use Rattle.net_build.specs.Passes.{each, each_after}
+use Rattle.first_fault.specs.Passes.{each, each_after}
 use Rattle.net_build.specs.Table.{repeats, repeated_row, label_row, label_rows, states_rows, agent_rows}
 use Rattle.net_lexer.specs.Token.{text_value}
 use Rattle.net_lexer.specs.declared.tokens.Token.{Token}

@@ -10,7 +10,7 @@ use Rattle.maid_model.specs.Names.{NamesView, name_of}
 use Rattle.maid_model.specs.Nodes.{node_at, no_node}
 use Rattle.maid_model.specs.Views.{NodeView, DiagramView}
 use Rattle.net_build.specs.Blocks as look
-use Rattle.net_build.specs.Passes.{each_after}
+use Rattle.first_fault.specs.Passes.{each_after}
 use Rattle.net_build.specs.Table.{potential_pass, potential_rows, condition_rows, kind_named}
 use Rattle.net_lexer.specs.Token.{token_bytes}
 use Rattle.net_lexer.specs.declared.tokens.Token.{Token}

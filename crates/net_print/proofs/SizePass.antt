@@ -9,7 +9,8 @@ use Rattle.maid_model.specs.Nodes.{node_at, states_of, rows_of, numbers_of, deci
 use Rattle.maid_model.specs.Sums.{nat_sum_over}
 use Rattle.maid_model.specs.Views.{DiagramView}
 use Rattle.net_build.specs.Blocks as look
-use Rattle.net_build.specs.Passes.{rule, found, LimitPassed}
+use Rattle.first_fault.specs.Passes.{rule}
+use Rattle.net_build.specs.Passes.{found, LimitPassed}
 use Rattle.net_build.specs.Table.{size_pass, size_rows, rule_cells}
 use Rattle.net_build.specs.declared.faults.Limit.TheVariants.{Rules}
 use Rattle.net_parser.specs.Trees.{BlockTree}

@@ -11,7 +11,7 @@ use Rattle.maid_model.specs.Tables.{chance_total}
 use Rattle.maid_model.specs.Views.{NodeView, DiagramView}
 use Rattle.net_build.specs.Blocks as look
 use Rattle.net_build.specs.Building.{AreTables, IsTableFrom}
-use Rattle.net_build.specs.Passes.{each, only}
+use Rattle.first_fault.specs.Passes.{each, only}
 use Rattle.net_build.specs.Table.{table_pass, table_rows, data_rows, weight_rows, length_row, table_nodes}
 use Rattle.net_lexer.specs.Token.{token_bytes}
 use Rattle.net_lexer.specs.declared.tokens.Token.{Token}

@@ -11,7 +11,7 @@ use Rattle.maid_model.specs.Names.{NamesView, name_of}
 use Rattle.maid_model.specs.Nodes.{node_at, no_node, rows_of, numbers_of, is_utility}
 use Rattle.maid_model.specs.Views.{NodeView, DiagramView}
 use Rattle.net_build.specs.Blocks as look
-use Rattle.net_build.specs.Passes.{each}
+use Rattle.first_fault.specs.Passes.{each}
 use Rattle.net_build.specs.Table.{repeats, number_row, kind_named, utility_numbers, no_block}
 use Rattle.net_lexer.specs.Token.{token_bytes}
 use Rattle.net_lexer.specs.declared.tokens.Token.{Token}

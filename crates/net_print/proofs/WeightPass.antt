@@ -17,7 +17,7 @@ use Rattle.weight_scale.specs.Numeral.{numerator}
 use Rattle.weight_scale.specs.Scaling.{row_at, raised_row, IsTooWide}
 use Rattle.weight_scale.specs.declared.decimal.Decimal.{Decimal}
 use Rattle.net_build.specs.Blocks.{no_token}
-use Rattle.net_build.specs.Passes.{each}
+use Rattle.first_fault.specs.Passes.{each}
 use Rattle.net_build.specs.Scaling.{AreDecimals}
 use Rattle.net_build.specs.Table.{length_row, sign_row, total_row, rows_by, IsNumberTooLong, IsWideTotal, weight_rows}
 use Rattle.net_build.specs.Plain.{reduced_rows}

@@ -1,8 +1,8 @@
 use Rattle.std.proofs.Common.{[], filter}
 use Rattle.net_build.specs.Blocks.{is_counted, word_of}
-use Rattle.net_build.specs.Passes.{each_after}
+use Rattle.first_fault.specs.Passes.{each_after}
 use Rattle.net_build.specs.Table.{repeated_row}
-use Rattle.net_build.proofs.Passing.{Leads, AfterPass}
+use Rattle.first_fault.proofs.Leading.{Leads, AfterPass}
 use Rattle.net_build.proofs.attributes.check_counted.Given as goal
 
 -- what the attributes still to come find, the whole pass finds

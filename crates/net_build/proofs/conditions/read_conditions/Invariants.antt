@@ -1,7 +1,7 @@
 use Rattle.std.proofs.Common.{◌≡◌, map, take}
 use Rattle.net_build.specs.Linking.{node_named, condition_steps, conditions_steps}
 use Rattle.net_build.proofs.LinkLemmas.{Behind}
-use Rattle.net_build.proofs.Passing.{Leads}
+use Rattle.first_fault.proofs.Leading.{Leads}
 use Rattle.net_build.proofs.conditions.read_conditions.Given as goal
 
 -- the nodes of the names so far, and what the names still to come find, the whole pass finds

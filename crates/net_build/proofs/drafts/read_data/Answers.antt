@@ -1,6 +1,7 @@
 -- A chance table's weights are its numbers'.
 use Rattle.std.proofs.Common.{◌≡◌, ◌*◌, length, ap, ◌∙◌, rules, map}
-use Rattle.net_build.specs.Passes.{Refuses}
+use Rattle.first_fault.specs.Answers.{IsFaultOrNoMemory}
+use Rattle.net_build.specs.Passes.{build_fault}
 use Rattle.net_build.specs.Scaling.{AreDecimals}
 use Rattle.net_build.specs.TableParts.{data_part}
 use Rattle.net_lexer.specs.Token.{token_bytes}
@@ -13,7 +14,7 @@ returns-in_err-cells-in-Chance-clause-rows c =
     let same = c.in_ok-numbers.ensures.tokens in
     let count : length c.in_ok-numbers.numbers.tokens.items ≡ c.args.rows * c.args.head.now.states = ap length same ∙ same_count _ _ c.in_ok-numbers.ensures.rows.1.0 in
     let are : AreDecimals (map (token_bytes c.args.text.now) c.in_ok-numbers.numbers.tokens.items) c.in_ok-numbers.numbers.decimals.items = rw same c.in_ok-numbers.ensures.decimals in
-    let h : Refuses (data_part c.args.text.now c.args.head.now.kind c.args.rows c.args.head.now.states c.args.table.now) c.in_err-cells-in-Chance.field-0.0 =
+    let h : IsFaultOrNoMemory build_fault (data_part c.args.text.now c.args.head.now.kind c.args.rows c.args.head.now.states c.args.table.now) c.in_err-cells-in-Chance.field-0.0 =
     chance_refused c.args.text.now c.args.head.now.kind c.args.rows c.args.head.now.states _ c.args.table.now c.in-Chance.is c.in_ok-numbers.ensures.rows (ap (λ (a : AttributeTree). a.name.start) c.table.view_is) c.in_ok-numbers.numbers.tokens.items c.in_err-cells-in-Chance.field-0.0 same (c.in_err-cells-in-Chance.ensures.rows c.args.text.now c.args.rows count are) in
     search rules
 

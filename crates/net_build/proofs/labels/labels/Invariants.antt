@@ -2,13 +2,13 @@ use Rattle.std.proofs.Common.{◌≡◌, true, All, drop, map, ◌++◌}
 use Rattle.std.specs.List.{list_all}
 use Rattle.net_build.specs.Blocks.{is_string}
 use Rattle.maid_model.specs.Names.{list_of}
-use Rattle.net_build.specs.Passes.{each}
+use Rattle.first_fault.specs.Passes.{each}
 use Rattle.net_build.specs.Stages.{leaves_in}
 use Rattle.net_build.specs.Table.{label_row}
 use Rattle.net_lexer.specs.Token.{text_value}
 use Rattle.net_parser.specs.Owned.{IsLeafOf}
 use Rattle.net_parser.specs.Views.{value_tree}
-use Rattle.net_build.proofs.Passing.{Leads}
+use Rattle.first_fault.proofs.Leading.{Leads}
 use Rattle.net_build.proofs.labels.labels.Given as goal
 
 -- the values still to come are strings of the text, they find what the whole pass finds, and their labels are still to be added

@@ -9,7 +9,7 @@ use Rattle.net_build.specs.Table.{node_pass}
 use Rattle.net_parser.specs.Owned.{IsBlockOf}
 use Rattle.net_parser.specs.Trees.{BlockTree}
 use Rattle.net_build.proofs.NodeLemmas.{rows_behind, is_node_block, front_more, front_pushed, entry_new, head_is, agents_up_to, owner_up_to, nodes_done, node_is_named}
-use Rattle.net_build.proofs.Passing.{after_skip, after_step, after_refused, after_end, filter_front_no}
+use Rattle.first_fault.proofs.Leading.{after_skip, after_step, after_refused, after_end, filter_front_no}
 use Rattle.net_build.proofs.nodes.read_blocks.Goals as goal
 use Rattle.net_build.proofs.nodes.read_blocks.Goals.{then-is_node+in_ok-entry+in_ok-add+in_ok-push+in_ok-push-2, else-is_node}
 

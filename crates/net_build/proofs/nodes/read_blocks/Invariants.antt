@@ -3,7 +3,7 @@ use Rattle.net_build.specs.Blocks.{is_node, node_blocks, names_of, block_labels,
 use Rattle.maid_model.specs.Names.{list_of, lists_of}
 use Rattle.net_build.specs.Stages.{head_of}
 use Rattle.net_build.specs.Table.{node_rows, node_pass}
-use Rattle.net_build.proofs.Passing.{Leads, AfterPass}
+use Rattle.first_fault.proofs.Leading.{Leads, AfterPass}
 use Rattle.net_build.proofs.nodes.read_blocks.Given as goal
 
 -- the blocks still to come find what the whole pass finds, and the lists are those of the blocks before

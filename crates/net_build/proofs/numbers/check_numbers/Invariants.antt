@@ -1,7 +1,7 @@
-use Rattle.net_build.specs.Passes.{each}
+use Rattle.first_fault.specs.Passes.{each}
 use Rattle.net_build.specs.Table.{number_row}
-use Rattle.net_build.proofs.Passing.{Leads}
-use Rattle.net_build.proofs.EachPassing.{EachFrom}
+use Rattle.first_fault.proofs.Leading.{Leads}
+use Rattle.first_fault.proofs.Items.{EachFrom}
 use Rattle.net_build.proofs.numbers.check_numbers.Given as goal
 
 abbrev pub invariant-loop-token : goal.invariant-loop-token

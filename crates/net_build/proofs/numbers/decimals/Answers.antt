@@ -1,7 +1,7 @@
 -- One more number has its decimal.
 use Rattle.net_build.specs.Blocks.{no_token}
 use Rattle.net_build.specs.Table.{length_row}
-use Rattle.net_build.proofs.EachPassing.{each_step_at}
+use Rattle.first_fault.proofs.Items.{each_step_at}
 use Rattle.net_build.proofs.DecimalLemmas.{decimals_step}
 use Rattle.net_build.proofs.numbers.decimals.Goals as goal
 

@@ -1,10 +1,10 @@
 use Rattle.std.proofs.Common.{take, map}
 use Rattle.net_lexer.specs.Token.{token_bytes}
-use Rattle.net_build.specs.Passes.{each}
+use Rattle.first_fault.specs.Passes.{each}
 use Rattle.net_build.specs.Scaling.{AreDecimals}
 use Rattle.net_build.specs.Table.{length_row}
-use Rattle.net_build.proofs.Passing.{Leads}
-use Rattle.net_build.proofs.EachPassing.{EachFrom}
+use Rattle.first_fault.proofs.Leading.{Leads}
+use Rattle.first_fault.proofs.Items.{EachFrom}
 use Rattle.net_build.proofs.numbers.decimals.Given as goal
 
 -- the decimals of the numbers so far, and the rows of those to come

@@ -1,6 +1,6 @@
 -- Each leaf is a token of the text, and a number where the first rows find nothing.
 use Rattle.std.proofs.Common.{None, ap, sym, ◌∙◌, subst}
-use Rattle.net_build.specs.Passes.{each}
+use Rattle.first_fault.specs.Passes.{each}
 use Rattle.net_build.specs.Table.{number_row}
 use Rattle.net_parser.specs.Owned.{leaves}
 use Rattle.net_parser.specs.Trees.{AttributeTree}

@@ -1,8 +1,8 @@
 use Rattle.std.proofs.Common.{◌-◌, length}
 use Rattle.std.specs.List.{range_with_len}
 use Rattle.net_build.specs.Linking.{missing_at, missing_steps, borrowed_trees}
-use Rattle.net_build.specs.Passes.{each}
-use Rattle.net_build.proofs.Passing.{Leads}
+use Rattle.first_fault.specs.Passes.{each}
+use Rattle.first_fault.proofs.Leading.{Leads}
 use Rattle.net_build.proofs.potentials.check_tables.Given as goal
 
 -- what the nodes still to come find, the whole pass finds

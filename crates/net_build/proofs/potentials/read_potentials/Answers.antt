@@ -9,7 +9,7 @@ use Rattle.net_build.specs.Blocks.{is_potential}
 use Rattle.net_build.specs.Linking.{borrowed_trees, behind_rows, potentials_steps, potentials_among, parents_in, AreParents}
 use Rattle.net_build.specs.Lists.{numbers_of_lists}
 use Rattle.net_build.proofs.LinkLemmas.{hands_on}
-use Rattle.net_build.proofs.Passing.{after_refused, after_skip, after_step, leads_all, filter_front_no}
+use Rattle.first_fault.proofs.Leading.{after_refused, after_skip, after_step, leads_all, filter_front_no}
 use Rattle.net_build.proofs.PotentialLemmas.{none_among, none_in, entered_from, parents_from}
 use Rattle.net_build.proofs.potentials.read_potentials.Goals as goal
 use Rattle.net_build.proofs.potentials.read_potentials.Goals.{then-is_potential+in_ok-node, else-is_potential}

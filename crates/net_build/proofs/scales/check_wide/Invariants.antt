@@ -1,10 +1,10 @@
 use Rattle.std.proofs.Common.{ℕ, List, map}
 use Rattle.net_lexer.specs.Token.{token_bytes}
-use Rattle.net_build.specs.Passes.{each}
+use Rattle.first_fault.specs.Passes.{each}
 use Rattle.net_build.specs.Scaling.{AreDecimals}
 use Rattle.net_build.specs.Table.{wide_row}
-use Rattle.net_build.proofs.Passing.{Leads}
-use Rattle.net_build.proofs.EachPassing.{EachFrom}
+use Rattle.first_fault.proofs.Leading.{Leads}
+use Rattle.first_fault.proofs.Items.{EachFrom}
 use Rattle.net_build.proofs.scales.check_wide.Given as goal
 
 abbrev pub invariant-loop-place : goal.invariant-loop-place

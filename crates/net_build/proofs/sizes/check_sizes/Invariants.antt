@@ -2,9 +2,9 @@ use Rattle.std.proofs.Common.{◌≡◌, ℕ, ◌-◌, ◌<◌, ◌≤◌, lengt
 use Rattle.std.specs.List.{range_with_len}
 use Rattle.net_build.specs.Linking.{rules_before, size_steps_at, size_steps}
 use Rattle.net_build.specs.Lists.{numbers_of_lists}
-use Rattle.net_build.specs.Passes.{each}
+use Rattle.first_fault.specs.Passes.{each}
 use Rattle.net_build.specs.Stages.{cells_at}
-use Rattle.net_build.proofs.Passing.{Leads}
+use Rattle.first_fault.proofs.Leading.{Leads}
 use Rattle.net_build.proofs.sizes.check_sizes.Given as goal
 
 -- the limits hold of the nodes so far, and what those still to come find, the whole pass finds

@@ -1,17 +1,19 @@
 -- One node after another.
 use Rattle.std.proofs.Common.{◌<◌, ◌+◌, ℕ, length, ◌∙◌, ap, rules, arith}
 use Rattle.std.proofs.lemmas.List.{length_push}
-use Rattle.net_build.specs.Passes.{Refuses}
+use Rattle.first_fault.specs.Answers.{IsFaultOrNoMemory}
+use Rattle.net_build.specs.Passes.{build_fault}
 use Rattle.net_build.specs.Stages.{NodeLists}
 use Rattle.net_build.specs.TableParts.{IsDraftAt, drafts_pass, node_rows_at}
-use Rattle.net_build.proofs.NodeSteps.{number_step, number_refused, number_end, items_more}
+use Rattle.first_fault.proofs.Items.{number_step, number_refused, number_end}
+use Rattle.net_build.proofs.NodeSteps.{items_more}
 use Rattle.net_build.proofs.tables.read_drafts.Goals as goal
 
 pub returns-in_err-read_node-clause-rows : goal.returns-in_err-read_node-clause-rows
 returns-in_err-read_node-clause-rows c =
     let near : c.loop-node.node < length c.args.nodes.now.heads = rw (← ap (λ (n : NodeLists). length n.heads) c.nodes.view_is) (omega (arith, c.loop-node-test.true, c.len-node-end.ensures)) in
-    let h : Refuses (drafts_pass c.args.text.now c.args.nodes.now.heads c.args.links.now) c.in_err-read_node.field-0.0 =
-    number_refused (node_rows_at c.args.text.now c.args.nodes.now.heads c.args.links.now) (length c.args.nodes.now.heads) _ c.loop-node.node c.loop-node.invariant.lead c.in_err-read_node.field-0.0 near c.in_err-read_node.ensures.rows in
+    let h : IsFaultOrNoMemory build_fault (drafts_pass c.args.text.now c.args.nodes.now.heads c.args.links.now) c.in_err-read_node.field-0.0 =
+    number_refused (node_rows_at c.args.text.now c.args.nodes.now.heads c.args.links.now) (length c.args.nodes.now.heads) _ c.loop-node.node c.loop-node.invariant.lead (build_fault c.in_err-read_node.field-0.0) near c.in_err-read_node.ensures.rows in
     search rules
 
 pub loop-node-preserved : goal.loop-node-preserved

@@ -2,8 +2,8 @@ use Rattle.std.proofs.Common.{◌≡◌, ◌<◌, ℕ, length, get_or}
 use Rattle.std.specs.List.{range_with_len}
 use Rattle.net_build.specs.declared.drafts.Draft.{Draft}
 use Rattle.net_build.specs.TableParts.{IsDraftAt, drafts_pass, node_rows_at}
-use Rattle.net_build.proofs.Passing.{Leads}
-use Rattle.net_build.proofs.EachPassing.{EachFrom}
+use Rattle.first_fault.proofs.Leading.{Leads}
+use Rattle.first_fault.proofs.Items.{EachFrom}
 use Rattle.net_build.proofs.tables.read_drafts.Given as goal
 
 -- the drafts of the nodes so far, and the rows of those to come

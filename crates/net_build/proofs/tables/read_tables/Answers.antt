@@ -1,6 +1,8 @@
 -- The drafts, the scale of the utilities' numbers, and the finished cells.
 use Rattle.std.proofs.Common.{None, refl, subst, rules}
-use Rattle.net_build.specs.Passes.{Refuses, ◌▸◌}
+use Rattle.first_fault.specs.Passes.{◌▸◌}
+use Rattle.first_fault.specs.Answers.{IsFaultOrNoMemory}
+use Rattle.net_build.specs.Passes.{build_fault}
 use Rattle.net_build.specs.Table.{table_pass, wide_pass}
 use Rattle.net_build.specs.Lists.{cells_of_lists}
 use Rattle.net_build.specs.TableParts.{AreDrafts, drafts_pass, values_in}
@@ -14,12 +16,12 @@ read_drafts-requires c = can_read_them c.args.text.now c.args.syntax.now c.requi
 
 pub returns-in_err-drafts-clause-rows : goal.returns-in_err-drafts-clause-rows
 returns-in_err-drafts-clause-rows c =
-    let h : Refuses (table_pass c.args.text.now c.args.syntax.now ▸ wide_pass c.args.text.now c.args.syntax.now) c.in_err-drafts.field-0.0 = table_refused c.args.text.now c.args.syntax.now c.requires.blocks c.requires.node_rows c.requires.potential_rows c.args.nodes.now c.args.links.now c.requires.nodes c.requires.links c.in_err-drafts.field-0.0 c.in_err-drafts.ensures.rows in
+    let h : IsFaultOrNoMemory build_fault (table_pass c.args.text.now c.args.syntax.now ▸ wide_pass c.args.text.now c.args.syntax.now) c.in_err-drafts.field-0.0 = table_refused c.args.text.now c.args.syntax.now c.requires.blocks c.requires.node_rows c.requires.potential_rows c.args.nodes.now c.args.links.now c.requires.nodes c.requires.links c.in_err-drafts.field-0.0 c.in_err-drafts.ensures.rows in
     search rules
 
 pub returns-in_err-decimals-clause-rows : goal.returns-in_err-decimals-clause-rows
 returns-in_err-decimals-clause-rows c =
-    let h : Refuses (table_pass c.args.text.now c.args.syntax.now ▸ wide_pass c.args.text.now c.args.syntax.now) c.in_err-decimals.field-0.0 = wide_refused c.args.text.now c.args.syntax.now c.requires.blocks c.requires.node_rows c.requires.potential_rows c.args.nodes.now c.args.links.now c.requires.nodes c.requires.links (values_in c.args.text.now c.args.nodes.now c.args.syntax.now) refl c.in_ok-drafts.ensures.rows c.in_err-decimals.field-0.0 c.in_err-decimals.ensures.rows in
+    let h : IsFaultOrNoMemory build_fault (table_pass c.args.text.now c.args.syntax.now ▸ wide_pass c.args.text.now c.args.syntax.now) c.in_err-decimals.field-0.0 = wide_refused c.args.text.now c.args.syntax.now c.requires.blocks c.requires.node_rows c.requires.potential_rows c.args.nodes.now c.args.links.now c.requires.nodes c.requires.links (values_in c.args.text.now c.args.nodes.now c.args.syntax.now) refl c.in_ok-drafts.ensures.rows c.in_err-decimals.field-0.0 c.in_err-decimals.ensures.rows in
     search rules
 
 pub utility_scale-requires-clause-table_rows : goal.utility_scale-requires-clause-table_rows

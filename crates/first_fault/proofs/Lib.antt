@@ -1,0 +1,6 @@
+pub mod Kept
+pub mod Ends
+pub mod Leading
+pub mod Items
+pub mod Rows
+pub mod Repeats
