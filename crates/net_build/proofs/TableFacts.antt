@@ -168,7 +168,7 @@ module _ (text : List ℕ) (blocks : List BlockTree) (own : All (IsBlockOf text)
   pub can_read : missing_pass text blocks None → AreLinks (map (head_of text nodes) nodes) (parent_lists text blocks) → CanRead text (map (head_of text nodes) nodes) (link_lists text blocks)
   can_read missing fit = record {
     states = λ k d h. let near : k < length nodes = omega (arith, h, length-map nodes (head_of text nodes)) in subst (λ (g : Head). 0 < g.states) (sym (get_or-map (head_of text nodes) nodes k no_block d near)) (states_at k near);
-    parents_len = length-map nodes (λ b. Rattle.net_build.specs.Blocks.parents_of text blocks (block_name text b)) ∙ sym (length-map nodes (head_of text nodes));
+    parents_len = length-map nodes (λ b. Rattle.net_build.specs.Blocks.block_parents text blocks (block_name text b)) ∙ sym (length-map nodes (head_of text nodes));
     potentials_len = length-map nodes (λ b. potential_of text blocks (block_name text b)) ∙ sym (length-map nodes (head_of text nodes));
     fit = fit;
     own = λ v h. let near : v < length nodes = omega (arith, h, length-map nodes (head_of text nodes)) in subst (λ o. IfSome o (λ p. IsBlockOf text p × (is_potential p.kind ≡ true))) (sym (potential_here text blocks v near))
