@@ -29,14 +29,14 @@ makes = record { within = omega arith; kind = refl }
 goes : IsDecision made 1
 goes = record { within = omega arith; kind = refl }
 
-no_more : (ws us : List ℕ) (total whole : ℕ) → IsTable (map pos ws) 1 2 total → IsTable (map pos us) 2 2 whole → (gain_of made (rule 0 total ws ∷ rule 1 whole us ∷ []) 0 *ℤ pos 1) ≤ℤ (pos 7 *ℤ pos (mass made (rule 0 total ws ∷ rule 1 whole us ∷ [])))
-no_more ws us total whole t v =
+no_more : (ws us : List ℕ) (total under : ℕ) → IsTable (map pos ws) 1 2 total → IsTable (map pos us) 2 2 under → (gain_of made (rule 0 total ws ∷ rule 1 under us ∷ []) 0 *ℤ pos 1) ≤ℤ (pos 7 *ℤ pos (mass made (rule 0 total ws ∷ rule 1 under us ∷ [])))
+no_more ws us total under t v =
     let a : slice_index ws 0 + slice_index ws 1 ≡ total = row ws 1 total 0 t (omega arith) in
-    let b : slice_index us 0 + slice_index us 1 ≡ whole = row us 2 whole 0 v (omega arith) in
-    let c : slice_index us 2 + slice_index us 3 ≡ whole = row us 2 whole 1 v (omega arith) in
-    let d : slice_index ws 0 * (slice_index us 0 + slice_index us 1) ≡ slice_index ws 0 * whole = ap (λ x. slice_index ws 0 * x) b in
-    let e : slice_index ws 1 * (slice_index us 2 + slice_index us 3) ≡ slice_index ws 1 * whole = ap (λ x. slice_index ws 1 * x) c in
-    let f : (slice_index ws 0 + slice_index ws 1) * whole ≡ total * whole = ap (λ x. x * whole) a in
+    let b : slice_index us 0 + slice_index us 1 ≡ under = row us 2 under 0 v (omega arith) in
+    let c : slice_index us 2 + slice_index us 3 ≡ under = row us 2 under 1 v (omega arith) in
+    let d : slice_index ws 0 * (slice_index us 0 + slice_index us 1) ≡ slice_index ws 0 * under = ap (λ x. slice_index ws 0 * x) b in
+    let e : slice_index ws 1 * (slice_index us 2 + slice_index us 3) ≡ slice_index ws 1 * under = ap (λ x. slice_index ws 1 * x) c in
+    let f : (slice_index ws 0 + slice_index ws 1) * under ≡ total * under = ap (λ x. x * under) a in
     omega (arith, ints)
 
 abbrev sunny : List RuleView

@@ -58,10 +58,10 @@ pub record HasRow (nodes : List NodeView) (p : List RuleView) (d row : ℕ) (fir
   pub of_row : mass_at nodes p d row ≡ mass
 
 -- what the profile gives to the leader and to the follower, and its mass
-pub record HasGains (nodes : List NodeView) (p : List RuleView) (leader follower : ℤ) (whole : ℕ) : Type 0 where
+pub record HasGains (nodes : List NodeView) (p : List RuleView) (leader follower : ℤ) (product : ℕ) : Type 0 where
   pub to_leader : gain_of nodes p 0 ≡ leader
   pub to_follower : gain_of nodes p 1 ≡ follower
-  pub of_profile : mass nodes p ≡ whole
+  pub of_profile : mass nodes p ≡ product
 
 -- the leader asks little, the follower leaves much and takes little
 abbrev pub plan : ℕ → List RuleView
