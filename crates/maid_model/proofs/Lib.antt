@@ -25,4 +25,3 @@ pub mod Adding
 pub mod Leaves
 pub mod Bases
 pub mod Tested
-pub mod Coin

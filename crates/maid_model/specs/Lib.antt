@@ -22,4 +22,3 @@ pub mod Names
 pub mod Reports
 pub mod Laws
 pub mod Private
-pub mod Example

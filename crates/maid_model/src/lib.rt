@@ -10,8 +10,6 @@ mod limits;
 mod names;
 mod profiles;
 mod pure_rules;
-#[cfg(test)]
-mod tests;
 mod utilities;
 mod weights;
 mod world_sums;
