@@ -1,3 +1,5 @@
+//! Each call once, over small texts and lists.
+
 use super::*;
 
 #[test]

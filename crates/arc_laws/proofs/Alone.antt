@@ -15,7 +15,7 @@ use Rattle.maid_model.specs.Graph.{IsGraph}
 use Rattle.maid_model.specs.Nodes.{IsDecision, node_at, no_node, states_of, parents_of, rows_of, numbers_of, is_utility}
 use Rattle.maid_model.specs.Profiles.{IsProfile, IsRule, SameRule, pure_row}
 use Rattle.maid_model.specs.Subgames.{OwnsAll, IsOptimal, IsListing, IsSubgamePerfect, gain_from, mass_from}
-use Rattle.maid_model.specs.Sums.{World, sum_below}
+use Rattle.finite_sums.specs.Sums.{World, sum_below}
 use Rattle.maid_model.specs.Tables.{HasChanceTables, IsTable, row_of, table, table_by, weights_of, rule_total, weight_total, total_by, chance_total, cell_of}
 use Rattle.maid_model.specs.Values.{IsOptimum}
 use Rattle.maid_model.specs.Views.{NodeView, RuleView, AnswerView}

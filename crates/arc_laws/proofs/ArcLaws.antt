@@ -10,13 +10,13 @@ use Rattle.maid_model.specs.Nodes.{IsDecision, node_at, states_of, parents_of, r
 use Rattle.maid_model.specs.Profiles.{IsProfile, IsRule}
 use Rattle.maid_model.specs.Relevance.{IsRequisite}
 use Rattle.maid_model.specs.Subgames.{OwnsAll}
-use Rattle.maid_model.specs.Sums.{World, InRange, with_state, sum_below}
+use Rattle.finite_sums.specs.Sums.{World, InRange, with_state, sum_below}
 use Rattle.maid_model.specs.Tables.{HasChanceTables, IsTable, row_of, row_from, weights_of, rule_total}
 use Rattle.maid_model.specs.Trimming.{IsTrimmed, Done, Removed}
 use Rattle.maid_model.specs.Views.{NodeView, RuleView}
-use Rattle.maid_model.proofs.Lists.{among_filter}
+use Rattle.finite_sums.proofs.Lists.{among_filter}
 use Rattle.maid_model.proofs.Setting.{HasTables}
-use Rattle.maid_model.proofs.Sums.{sum_below_cong, with_same, with_other, with_in, with_again}
+use Rattle.finite_sums.proofs.Sums.{sum_below_cong, with_same, with_other, with_in, with_again}
 use Rattle.maid_model.proofs.Tables.{row_of-below}
 use Rattle.arc_laws.specs.Arcs.{CanGet, KeptWithoutArc, LessWithoutArc, AsMuchWithoutArc, SameWithoutArc, SameWhenTrimmed}
 use Rattle.maid_laws.specs.Optimum.{IsAsGood}

@@ -6,7 +6,7 @@ use Rattle.std.proofs.lemmas.Nat.Gcd.{dvd_refl}
 use Rattle.maid_model.specs.declared.answers.Ratio.{Ratio}
 use Rattle.maid_model.specs.Answers.{IsFraction}
 use Rattle.maid_model.specs.Values.{IsDifference}
-use Rattle.maid_model.proofs.Ints.{zero_mul, mul_one, add_mul, products}
+use Rattle.finite_sums.proofs.Ints.{zero_mul, mul_one, add_mul, products}
 use Rattle.arc_laws.specs.Worths.{nought}
 use Rattle.maid_laws.proofs.Best.{cancel_le}
 use Rattle.maid_laws.proofs.Fractions.{fraction_of, one_fraction, same_fraction, cancel}

@@ -11,7 +11,7 @@ use Rattle.maid_model.specs.Graph.{Arc, IsGraph}
 use Rattle.maid_model.specs.Nodes.{IsDecision, node_at, states_of, parents_of, rows_of, is_utility}
 use Rattle.maid_model.specs.Relevance.{IsLive, IsInFamilyBut, IsRequisite}
 use Rattle.maid_model.specs.Subgames.{OwnsAll}
-use Rattle.maid_model.specs.Sums.{World, sum_below}
+use Rattle.finite_sums.specs.Sums.{World, sum_below}
 use Rattle.maid_model.specs.Tables.{HasChanceTables, IsTable, row_of, table, table_by, weights_of, rule_total, weight_total, total_by, chance_total, cell_of}
 use Rattle.maid_model.specs.Views.{NodeView, RuleView}
 use Rattle.maid_model.specs.Walks.{IsJoined, IsCollider, IsActive, IsReached}

@@ -9,7 +9,7 @@ use Rattle.maid_model.specs.Subgames.{OwnsAll}
 use Rattle.maid_model.specs.Tables.{HasChanceTables}
 use Rattle.maid_model.specs.Values.{IsOptimum}
 use Rattle.maid_model.specs.Views.{NodeView, RuleView}
-use Rattle.maid_model.proofs.Ints.{products}
+use Rattle.finite_sums.proofs.Ints.{products}
 use Rattle.arc_laws.specs.Arcs.{CanGet, HasSameOptimum, IsNotAbove}
 use Rattle.maid_laws.specs.Optimum.{IsAsGood}
 use Rattle.maid_laws.proofs.Best.{cancel_le}

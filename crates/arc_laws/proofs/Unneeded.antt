@@ -7,15 +7,18 @@ use Rattle.maid_model.specs.Gains.{weight_without, sum_worlds, is_at, gain_at, m
 use Rattle.maid_model.specs.Graph.{Arc, IsGraph}
 use Rattle.maid_model.specs.Nodes.{IsDecision, node_at, states_of, numbers_of}
 use Rattle.maid_model.specs.Relevance.{IsLive, IsGoal, IsInFamilyBut, IsRequisite}
-use Rattle.maid_model.specs.Sums.{World, InRange, with_state, sum_over, product_over}
+use Rattle.finite_sums.specs.Sums.{World, InRange, with_state, sum_over, product_over}
 use Rattle.maid_model.specs.Tables.{row_of, weight_total}
 use Rattle.maid_model.specs.Views.{NodeView, RuleView}
-use Rattle.maid_model.proofs.Setting.{Among, Ignores, EachIgnoresAll, HasTotal, HasTables}
-use Rattle.maid_model.proofs.Ints.{mul_one, one_mul, zero_mul, mul_zero, products}
-use Rattle.maid_model.proofs.Lists.{avoids, decide_among, each_ignored, product_over-shuffled, sum_over-shuffled}
-use Rattle.maid_model.proofs.Sums.{sum_below_cong, sum_over_cong, sum_over_ignores, with_same, with_other, with_in, with_own, Ignores-mul}
-use Rattle.maid_model.proofs.Tables.{Avoids, table-total}
-use Rattle.maid_model.proofs.Totals.{Ignores-product}
+use Rattle.finite_sums.specs.Members.{Among}
+use Rattle.finite_sums.specs.Looks.{Ignores, EachIgnoresAll, HasTotal}
+use Rattle.maid_model.proofs.Setting.{HasTables}
+use Rattle.finite_sums.proofs.Ints.{mul_one, one_mul, zero_mul, mul_zero, products}
+use Rattle.finite_sums.proofs.Lists.{avoids, decide_among, each_ignored, product_over-shuffled, sum_over-shuffled}
+use Rattle.finite_sums.proofs.Sums.{sum_below_cong, sum_over_cong, sum_over_ignores, with_same, with_other, with_in, with_own, Ignores-mul}
+use Rattle.finite_sums.specs.Members.{Avoids}
+use Rattle.maid_model.proofs.Tables.{table-total}
+use Rattle.finite_sums.proofs.Totals.{Ignores-product}
 use Rattle.arc_laws.specs.Requisite.{NoWalkPastUnneeded, UnneededParent}
 use Rattle.maid_laws.proofs.Basis.{Setup, Totals, Tells, LooksAtParents, product_over-cong}
 use Rattle.maid_laws.proofs.Best.{product_over-times}

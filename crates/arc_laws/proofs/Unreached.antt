@@ -5,13 +5,15 @@ use Rattle.maid_model.specs.Gains.{gain_of, mass, utility, value_for}
 use Rattle.maid_model.specs.Graph.{IsGraph}
 use Rattle.maid_model.specs.Nodes.{IsDecision, node_at, states_of, numbers_of, is_decision, is_utility}
 use Rattle.maid_model.specs.Profiles.{IsProfile, SameRule}
-use Rattle.maid_model.specs.Sums.{with_state, sum_each}
+use Rattle.finite_sums.specs.Sums.{with_state, sum_each}
 use Rattle.maid_model.specs.Tables.{weights_of, rule_total, weight_total, row_of}
 use Rattle.maid_model.specs.Views.{NodeView, RuleView}
-use Rattle.maid_model.proofs.Ints.{products}
-use Rattle.maid_model.proofs.Lists.{among_filter}
-use Rattle.maid_model.proofs.Setting.{Among, Ignores, HasTables}
-use Rattle.maid_model.proofs.Sums.{Ignores-add}
+use Rattle.finite_sums.proofs.Ints.{products}
+use Rattle.finite_sums.proofs.Lists.{among_filter}
+use Rattle.finite_sums.specs.Members.{Among}
+use Rattle.finite_sums.specs.Looks.{Ignores}
+use Rattle.maid_model.proofs.Setting.{HasTables}
+use Rattle.finite_sums.proofs.Sums.{Ignores-add}
 use Rattle.maid_model.specs.Values.{IsUnreached}
 use Rattle.arc_laws.specs.Control.{UnreachedRule}
 use Rattle.maid_laws.proofs.Booleans.{eqb_same}

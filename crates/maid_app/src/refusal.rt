@@ -1,3 +1,5 @@
+//! Why a run does not write the whole text of its form.
+
 ghost use Rattle.std.specs.Prelude.{◌≡◌};
 ghost use Rattle.maid_app.specs.Refusal.{status_of, line_of};
 

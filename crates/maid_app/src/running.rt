@@ -1,3 +1,5 @@
+//! The shell: words, devices, the order of refusals, and one line to `err`.
+
 ghost use Rattle.std.specs.Prelude.{◌≡◌, ◌≢◌, ◌++◌, ◌<◌, ◌≤◌, ◌↔◌, List, ℕ, length, None, Some, IfSome, IfOk, IfErr, OnOk};
 ghost use Rattle.std.specs.Io.KnownBytes.{Appends};
 ghost use Rattle.maid_io.specs.Count.{Rose};

@@ -1,3 +1,5 @@
+//! Runs over devices in memory.
+
 use super::*;
 use maid_io::{MemShelf, MemSink};
 use std::alloc::Global;

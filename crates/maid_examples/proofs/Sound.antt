@@ -3,7 +3,7 @@ use Rattle.std.proofs.Common.{◌≡◌, ℕ, zero, suc, ◌+◌, ◌*◌, ◌<�
 use Rattle.std.proofs.lemmas.Int.{ints}
 use Rattle.maid_model.specs.Laws.{TestsDiagrams, TestsRules, TestsProfiles}
 use Rattle.maid_model.specs.Nodes.{IsDecision}
-use Rattle.maid_model.specs.Sums.{sum_below}
+use Rattle.finite_sums.specs.Sums.{sum_below}
 use Rattle.maid_model.specs.Profiles.{IsRule, IsProfile, uniform_profile}
 use Rattle.maid_model.specs.Tested.{rule_at}
 use Rattle.maid_examples.specs.Samples.{plan}

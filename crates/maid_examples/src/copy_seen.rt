@@ -1,3 +1,5 @@
+//! The follower sees a copy of the choice in its place.
+
 ghost use Rattle.maid_examples.specs.Samples.{HasSums};
 ghost use Rattle.maid_examples.specs.CopySeen.{copied, IsSound, HasReliance, HasStarts};
 

@@ -1,3 +1,5 @@
+//! The follower sees the leader's choice.
+
 ghost use Rattle.maid_examples.specs.Samples.{HasSums};
 ghost use Rattle.maid_examples.specs.FollowerLeader.{sight, IsSound, HasSumsInProportion, HasReliance, HasStarts};
 

@@ -19,7 +19,7 @@ use Rattle.maid_model.specs.Relevance.{ReliesOn}
 use Rattle.maid_model.specs.Tables.{HasChanceTables, weights_of, rule_total}
 use Rattle.maid_model.specs.Views.{NodeView, RuleView, AnswerView, SolvedView}
 use Rattle.maid_model.proofs.Pure.{pure_is_profile, pure_is_rule}
-use Rattle.maid_model.proofs.Setting.{Among}
+use Rattle.finite_sums.specs.Members.{Among}
 use Rattle.maid_model.proofs.Uniform.{uniform_is_profile}
 use Rattle.maid_laws.specs.Answers.{AnswerExists}
 use Rattle.maid_laws.proofs.Booleans.{eqb_yes, eqb_no}

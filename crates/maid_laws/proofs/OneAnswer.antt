@@ -17,7 +17,7 @@ use Rattle.maid_model.specs.Profiles.{SameRule, pure_row}
 use Rattle.maid_model.specs.Relevance.{ReliesOn}
 use Rattle.maid_model.specs.Tables.{HasChanceTables, weights_of, rule_total}
 use Rattle.maid_model.specs.Views.{NodeView, RuleView, AnswerView, DiagramView, SolvedView}
-use Rattle.maid_model.proofs.Setting.{Among}
+use Rattle.finite_sums.specs.Members.{Among}
 use Rattle.maid_laws.specs.Answers.{OneAnswer}
 use Rattle.maid_laws.proofs.AnswerLaws.{answers_fit, positive_or_none, profile}
 use Rattle.maid_laws.proofs.Booleans.{eqb_yes, eqb_no}

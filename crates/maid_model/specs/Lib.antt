@@ -1,7 +1,6 @@
 pub mod Views
 pub mod Nodes
 pub mod Graph
-pub mod Sums
 pub mod Worlds
 pub mod Tables
 pub mod Diagrams

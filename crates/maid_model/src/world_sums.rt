@@ -1,3 +1,5 @@
+//! The two sums over all worlds.
+
 ghost use Rattle.std.specs.Prelude.{◌≡◌, ℕ, ◌+◌, ◌*◌, ◌^◌, ◌<◌, ◌≤◌, max, length, pos, ◌+ℤ◌, ◌*ℤ◌, nat_abs, slice_index, slice_index_or, slice_set, ◌==◌, if◌then◌else◌};
 ghost use Rattle.maid_model.specs.Nodes.{IsDecision, states_of, rows_of, counts_of};
 ghost use Rattle.maid_model.specs.Private.{MarksUtilities, marked_utility};

@@ -4,14 +4,14 @@ use Rattle.std.proofs.lemmas.Int.{unsigned_abs-mul}
 use Rattle.maid_model.specs.Gains.{mass}
 use Rattle.maid_model.specs.Graph.{Arc, IsPath, IsPathTo, Here, Along, IsGraph, descends}
 use Rattle.maid_model.specs.Nodes.{node_at, numbers_of, is_utility}
-use Rattle.maid_model.specs.Sums.{product_over}
+use Rattle.finite_sums.specs.Sums.{product_over}
 use Rattle.maid_model.specs.Tables.{weight_total}
 use Rattle.maid_model.specs.Views.{NodeView}
 use Rattle.maid_model.proofs.Descent.{any_has, any_of, or_cases, or_right, path_from_test, test_from_path}
-use Rattle.maid_model.proofs.Ints.{mul_comm}
-use Rattle.maid_model.proofs.Lists.{among_filter, product_over-shuffled}
-use Rattle.maid_model.proofs.Setting.{Among}
-use Rattle.maid_model.proofs.Totals.{product_over-split}
+use Rattle.finite_sums.proofs.Ints.{mul_comm}
+use Rattle.finite_sums.proofs.Lists.{among_filter, product_over-shuffled}
+use Rattle.finite_sums.specs.Members.{Among}
+use Rattle.finite_sums.proofs.Totals.{product_over-split}
 use Rattle.maid_model.proofs.Weighing.{product_positive}
 use Rattle.part_laws.specs.Parts.{is_in, leads_to, with_ancestors, IsAncestral, part_of, rules_in, left_out, mass_left_out}
 use Rattle.part_laws.specs.PartLaws.{AncestorsAreClosed, PartsAreGraphs, PartsHaveTables, PartsHaveProfiles, GainsOfParts, MassesOfParts, AgentsGainsOfParts, MassOfParts, LawOfParts, LeftOutIsPositive}

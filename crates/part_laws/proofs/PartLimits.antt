@@ -8,10 +8,10 @@ use Rattle.std.specs.List.{range_with_len}
 use Rattle.maid_model.specs.Diagrams.{greatest_number}
 use Rattle.maid_model.specs.Graph.{Arc, Descends}
 use Rattle.maid_model.specs.Nodes.{node_at, states_of, parents_of, rows_of, numbers_of, decisions_of, is_decision}
-use Rattle.maid_model.specs.Sums.{sum_below, product_over, nat_sum_over}
+use Rattle.finite_sums.specs.Sums.{sum_below, product_over, nat_sum_over}
 use Rattle.maid_model.specs.Views.{NodeView}
 use Rattle.maid_model.specs.Gains.{sum_worlds, is_at, utility, utility_below}
-use Rattle.maid_model.proofs.Setting.{Among}
+use Rattle.finite_sums.specs.Members.{Among}
 use Rattle.std.proofs.Math.Path.{fun_ext}
 use Rattle.maid_laws.proofs.Basis.{table_same}
 use Rattle.maid_laws.proofs.Tied.{decision_of}

@@ -7,11 +7,11 @@ use Rattle.maid_model.specs.declared.diagrams.Kind.TheVariants.{Chance, Decision
 use Rattle.maid_model.specs.Graph.{Arc, IsPath, Here, Along, Descends, IsGraph, AllDifferent}
 use Rattle.maid_model.specs.Nodes.{node_at, no_node, states_of, parents_of, decisions_of, rows_under, rows_of}
 use Rattle.maid_model.specs.Profiles.{IsProfile, IsRule}
-use Rattle.maid_model.specs.Sums.{World, sum_below}
+use Rattle.finite_sums.specs.Sums.{World, sum_below}
 use Rattle.maid_model.specs.Tables.{HasChanceTables, IsTable, row_from, row_of, cell_of, table, table_by, weights_of, rule_total, chance_total, weight_total, total_by}
 use Rattle.maid_model.specs.Views.{NodeView, RuleView}
 use Rattle.maid_model.proofs.Members.{decision_listed}
-use Rattle.maid_model.proofs.Setting.{Among}
+use Rattle.finite_sums.specs.Members.{Among}
 use Rattle.part_laws.specs.Parts.{IsAncestral, place_in, renumbered, part_of, rule_in, rules_in}
 use Rattle.maid_laws.proofs.Basis.{table_same}
 use Rattle.maid_laws.proofs.Booleans.{eqb_yes, eqb_no}

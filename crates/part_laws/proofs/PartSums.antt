@@ -7,18 +7,20 @@ use Rattle.std.specs.List.{range_with_len}
 use Rattle.maid_model.specs.Gains.{sum_worlds, weight, value_for, utility, gain_of, table_without, weight_without, value_below, utility_below, is_at, gain_at, mass_at}
 use Rattle.maid_model.specs.Graph.{Arc, Descends, IsGraph, descends}
 use Rattle.maid_model.specs.Nodes.{node_at, states_of, numbers_of, is_utility, is_utility_of}
-use Rattle.maid_model.specs.Sums.{World, with_state, sum_over, sum_each, product_over}
+use Rattle.finite_sums.specs.Sums.{World, with_state, sum_over, sum_each, product_over}
 use Rattle.maid_model.specs.Tables.{table, row_of}
 use Rattle.maid_model.specs.Views.{NodeView, RuleView}
-use Rattle.maid_model.proofs.Counts.{true_or_false}
+use Rattle.finite_sums.proofs.Counts.{true_or_false}
 use Rattle.maid_model.proofs.Descent.{any_has, any_of, equal_from_test, path_from_test, test_from_path}
-use Rattle.maid_model.proofs.Ints.{mul_assoc, mul_comm, one_mul, zero_mul}
+use Rattle.finite_sums.proofs.Ints.{mul_assoc, mul_comm, one_mul, zero_mul}
 use Rattle.maid_model.proofs.Leaves.{sum_each_cong}
-use Rattle.maid_model.proofs.Lists.{avoids, among_filter, all_ignored, each_ignored, product_over-shuffled, sum_over-shuffled}
-use Rattle.maid_model.proofs.Setting.{Among, Shuffled, none, put, Ignores, HasTables}
-use Rattle.maid_model.proofs.Sums.{sum_over_cong, sum_over_append, sum_over_split, sum_over_mul, with_other, Ignores-mul, Ignores-add}
+use Rattle.finite_sums.proofs.Lists.{avoids, among_filter, all_ignored, each_ignored, product_over-shuffled, sum_over-shuffled}
+use Rattle.finite_sums.specs.Members.{Among, Shuffled, none, put}
+use Rattle.finite_sums.specs.Looks.{Ignores}
+use Rattle.maid_model.proofs.Setting.{HasTables}
+use Rattle.finite_sums.proofs.Sums.{sum_over_cong, sum_over_append, sum_over_split, sum_over_mul, with_other, Ignores-mul, Ignores-add}
 use Rattle.maid_model.proofs.Tables.{row_from_other}
-use Rattle.maid_model.proofs.Totals.{product_over-split, Ignores-product}
+use Rattle.finite_sums.proofs.Totals.{product_over-split, Ignores-product}
 use Rattle.part_laws.specs.Parts.{is_in, place_in, part_of, rules_in, left_out, mass_left_out}
 use Rattle.maid_laws.proofs.Basis.{LooksAtParents, table_looks, product_over-cong, among_filter_in}
 use Rattle.maid_laws.proofs.Booleans.{not_both, bool_same, eqb_yes, eqb_no, eqb_same}

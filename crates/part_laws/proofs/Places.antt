@@ -3,10 +3,10 @@ use Rattle.std.proofs.Common.{◌≡◌, ◌≢◌, ◌⊎◌, ◌∙◌, ℕ, z
 use Rattle.std.proofs.Math.Decide.{ℕ_discrete}
 use Rattle.std.proofs.Math.Path.{fun_ext}
 use Rattle.std.specs.List.{range_with_len}
-use Rattle.maid_model.specs.Sums.{World, with_state, sum_below, sum_over, sum_each, product_over, nat_product_over, nat_sum_over}
-use Rattle.maid_model.proofs.Setting.{Among}
-use Rattle.maid_model.proofs.Lists.{decide_among}
-use Rattle.maid_model.proofs.Sums.{sum_below_cong}
+use Rattle.finite_sums.specs.Sums.{World, with_state, sum_below, sum_over, sum_each, product_over, nat_product_over, nat_sum_over}
+use Rattle.finite_sums.specs.Members.{Among}
+use Rattle.finite_sums.proofs.Lists.{decide_among}
+use Rattle.finite_sums.proofs.Sums.{sum_below_cong}
 use Rattle.part_laws.specs.Parts.{place_in}
 use Rattle.maid_laws.proofs.Booleans.{eqb_yes, eqb_no}
 use Rattle.maid_laws.proofs.Collapse.{Apart}

@@ -12,15 +12,17 @@ use Rattle.maid_model.specs.Gains.{sum_worlds, weight, mass, value_for, utility,
 use Rattle.maid_model.specs.Graph.{Arc, IsPath, Here, Along, IsGraph, descends}
 use Rattle.maid_model.specs.Nodes.{IsDecision, node_at, states_of, numbers_of, is_utility, is_utility_of}
 use Rattle.maid_model.specs.Profiles.{IsProfile}
-use Rattle.maid_model.specs.Sums.{World, InRange, with_state, sum_below, sum_over, sum_each, nat_product_over, nat_sum_over}
+use Rattle.finite_sums.specs.Sums.{World, InRange, with_state, sum_below, sum_over, sum_each, nat_product_over, nat_sum_over}
 use Rattle.maid_model.specs.Tables.{HasChanceTables, table, row_of, weight_total, total_by, chance_total, rule_total}
 use Rattle.maid_model.specs.Views.{NodeView, RuleView}
 use Rattle.maid_model.proofs.Weighing.{product_positive}
-use Rattle.maid_model.proofs.Lists.{among_filter, product_over-shuffled, sum_over-shuffled}
-use Rattle.maid_model.proofs.Setting.{Among, HasTotal, HasTables}
+use Rattle.finite_sums.proofs.Lists.{among_filter, product_over-shuffled, sum_over-shuffled}
+use Rattle.finite_sums.specs.Members.{Among}
+use Rattle.finite_sums.specs.Looks.{HasTotal}
+use Rattle.maid_model.proofs.Setting.{HasTables}
 use Rattle.maid_model.proofs.Summing.{abs_add}
-use Rattle.maid_model.proofs.Sums.{sum_over_mul, with_in}
-use Rattle.maid_model.proofs.Totals.{sum_over_totals}
+use Rattle.finite_sums.proofs.Sums.{sum_over_mul, with_in}
+use Rattle.finite_sums.proofs.Totals.{sum_over_totals}
 use Rattle.part_laws.specs.Parts.{leads_to, with_ancestors, place_in, part_of, rules_in}
 use Rattle.part_laws.specs.Scopes.{goals_of, utilities_for, scope_of, scope_for, scope_product, scope_product_for, chance_factor_by, greatest_of, scope_bound, scope_bound_for}
 use Rattle.part_laws.specs.ScopeLaws.{SumsOfScopesFit, SumsOfAgentsScopesFit}

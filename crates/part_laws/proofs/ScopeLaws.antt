@@ -6,8 +6,8 @@ use Rattle.maid_model.specs.Nodes.{IsDecision, node_at, numbers_of, is_utility, 
 use Rattle.maid_model.specs.Relevance.{IsLive, IsInFamily, IsGoal}
 use Rattle.maid_model.specs.Views.{NodeView}
 use Rattle.maid_model.proofs.Descent.{path_from_test, test_from_path}
-use Rattle.maid_model.proofs.Lists.{among_filter}
-use Rattle.maid_model.proofs.Setting.{Among}
+use Rattle.finite_sums.proofs.Lists.{among_filter}
+use Rattle.finite_sums.specs.Members.{Among}
 use Rattle.part_laws.specs.Parts.{IsAncestral}
 use Rattle.part_laws.specs.Scopes.{goals_of, utilities_for, scope_of, scope_for, IsInScope}
 use Rattle.part_laws.specs.ScopeLaws.{ScopesAreParts, AgentsScopesAreParts, ReliesInScope}

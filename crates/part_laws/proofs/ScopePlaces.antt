@@ -4,9 +4,9 @@ use Rattle.std.proofs.lemmas.Bool.Decides.{nat_tests}
 use Rattle.std.proofs.Math.Decide.{dec_lt}
 use Rattle.maid_model.specs.Diagrams.{greatest_number}
 use Rattle.maid_model.specs.Nodes.{IsDecision, numbers_of}
-use Rattle.maid_model.specs.Sums.{nat_product_over}
-use Rattle.maid_model.proofs.Lists.{among_filter, decide_among}
-use Rattle.maid_model.proofs.Setting.{Among}
+use Rattle.finite_sums.specs.Sums.{nat_product_over}
+use Rattle.finite_sums.proofs.Lists.{among_filter, decide_among}
+use Rattle.finite_sums.specs.Members.{Among}
 use Rattle.part_laws.specs.Parts.{leads_to, with_ancestors}
 use Rattle.part_laws.specs.Scopes.{scope_bound, scope_bound_for, product_before, PassesInScope, KeepsScopedBounds, FailsFirst, FailsFirstFor}
 use Rattle.part_laws.specs.ScopeLaws.{FirstFailureExists, FirstPassingExists}

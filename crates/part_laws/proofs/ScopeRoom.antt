@@ -14,7 +14,7 @@ use Rattle.maid_model.specs.Profiles.{uniform_rule, pure_rule}
 use Rattle.maid_model.specs.Relevance.{ReliesOn}
 use Rattle.maid_model.specs.Tables.{rule_total, chance_total}
 use Rattle.maid_model.specs.Views.{NodeView}
-use Rattle.maid_model.proofs.Setting.{Among}
+use Rattle.finite_sums.specs.Members.{Among}
 use Rattle.part_laws.specs.Parts.{leads_to}
 use Rattle.part_laws.specs.Scopes.{goals_of, utilities_for, scope_product, scope_product_for, chance_factor_by, greatest_of, scope_bound, scope_bound_for}
 use Rattle.part_laws.specs.ScopeLaws.{AnswersHaveUnitRules, BasesHaveSmallRules, ScopedSumsHaveRoom, ScopedBoundsAreWeaker}

@@ -4,7 +4,7 @@ use Rattle.maid_model.specs.declared.diagrams.Kind.TheVariants.{Utility}
 use Rattle.maid_model.specs.Views.{NodeView, DiagramView, RuleView, AnswerView}
 use Rattle.maid_model.specs.Nodes.{IsDecision, node_at, states_of}
 use Rattle.maid_model.specs.Graph.{IsGraph}
-use Rattle.maid_model.specs.Sums.{nat_product_over}
+use Rattle.finite_sums.specs.Sums.{nat_product_over}
 use Rattle.maid_model.specs.Diagrams.{greatest_number}
 use Rattle.maid_model.specs.Tables.{HasChanceTables, rule_total}
 use Rattle.maid_model.specs.Profiles.{IsProfile}

@@ -5,7 +5,7 @@ use Rattle.maid_model.specs.declared.diagrams.Kind.TheVariants.{Chance, Decision
 use Rattle.maid_model.specs.Views.{NodeView, DiagramView, RuleView}
 use Rattle.maid_model.specs.Nodes.{IsDecision, node_at, numbers_of, is_utility_of}
 use Rattle.maid_model.specs.Graph.{Arc, IsPath, descends}
-use Rattle.maid_model.specs.Sums.{nat_product_over, nat_sum_over}
+use Rattle.finite_sums.specs.Sums.{nat_product_over, nat_sum_over}
 use Rattle.maid_model.specs.Tables.{chance_total}
 use Rattle.maid_model.specs.Gains.{greatest_abs}
 use Rattle.maid_model.specs.Relevance.{IsGoal}

@@ -1,3 +1,5 @@
+//! The goals of a decision, and the walks that lead to them.
+
 ghost use Rattle.std.specs.Prelude.{◌<◌, ◌↔◌, ℕ, length};
 ghost use Rattle.node_sets.specs.Sets.{IsIn};
 ghost use Rattle.maid_model.specs.Graph.{Arc};

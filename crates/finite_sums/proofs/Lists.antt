@@ -1,11 +1,12 @@
 -- Lists of node numbers.
 use Rattle.std.proofs.Common.{◌≡◌, ◌⊎◌, ◌∙◌, ℕ, Bool, true, false, cond, filter, List, [], ◌∷◌, ◌++◌, refl, sym, ap, inl, inr, ℤ, ◌*ℤ◌}
 use Rattle.std.proofs.Math.Decide.{ℕ_discrete}
-use Rattle.maid_model.proofs.Setting.{Among, Shuffled, none, put, Ignores, IgnoresAll, EachIgnoresAll}
-use Rattle.maid_model.specs.Sums.{World, with_state, sum_over, product_over}
-use Rattle.maid_model.proofs.Ints.{mul_left_comm}
-use Rattle.maid_model.proofs.Sums.{sum_below_cong, sum_over_front}
-use Rattle.maid_model.proofs.Tables.{Avoids}
+use Rattle.finite_sums.specs.Members.{Among, Shuffled, none, put}
+use Rattle.finite_sums.specs.Looks.{Ignores, IgnoresAll, EachIgnoresAll}
+use Rattle.finite_sums.specs.Sums.{World, with_state, sum_over, product_over}
+use Rattle.finite_sums.proofs.Ints.{mul_left_comm}
+use Rattle.finite_sums.proofs.Sums.{sum_below_cong, sum_over_front}
+use Rattle.finite_sums.specs.Members.{Avoids}
 
 pub avoids : (u : ℕ) (xs : List ℕ) → ¬ (Among u xs) → Avoids u xs
 avoids u [] h = tt

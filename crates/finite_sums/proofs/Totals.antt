@@ -1,10 +1,10 @@
 -- The law of totals and the law of products, for tables seen as functions of a world.
 use Rattle.std.proofs.Common.{◌≡◌, ℕ, Bool, true, false, not, cond, filter, List, [], ◌∷◌, ◌++◌, ℤ, ◌*ℤ◌, refl, sym, ap, ◌∙◌}
 use Rattle.std.proofs.Math.Path.{fun_ext}
-use Rattle.maid_model.proofs.Setting.{Ignores, IgnoresAll, IgnoresLater, HaveTotals, EachIgnoresAll}
-use Rattle.maid_model.specs.Sums.{World, with_state, sum_over, InRange, product_over}
-use Rattle.maid_model.proofs.Ints.{mul_assoc, mul_comm, one_mul, mul_left_comm}
-use Rattle.maid_model.proofs.Sums.{sum_below_cong, sum_below_mul, sum_over_cong, sum_over_out, sum_over_append, sum_over_split, sum_over_mul, with_in, Ignores-mul}
+use Rattle.finite_sums.specs.Looks.{Ignores, IgnoresAll, IgnoresLater, HaveTotals, EachIgnoresAll}
+use Rattle.finite_sums.specs.Sums.{World, with_state, sum_over, InRange, product_over}
+use Rattle.finite_sums.proofs.Ints.{mul_assoc, mul_comm, one_mul, mul_left_comm}
+use Rattle.finite_sums.proofs.Sums.{sum_below_cong, sum_below_mul, sum_over_cong, sum_over_out, sum_over_append, sum_over_split, sum_over_mul, with_in, Ignores-mul}
 
 -- the product over a list in two parts
 pub product_over-append : (f : ℕ → ℤ) (us vs : List ℕ) → product_over f (us ++ vs) ≡ product_over f us *ℤ product_over f vs

@@ -4,9 +4,9 @@ use Rattle.std.proofs.lemmas.Bool.Decides.{nat_tests}
 use Rattle.std.proofs.lemmas.Int.{ints}
 use Rattle.std.proofs.Math.Path.{fun_ext}
 use Rattle.std.proofs.Math.Decide.{ℕ_discrete}
-use Rattle.maid_model.proofs.Setting.{Ignores, IgnoresAll}
-use Rattle.maid_model.specs.Sums.{World, with_state, sum_below, sum_over, InRange}
-use Rattle.maid_model.proofs.Ints.{mul_add, mul_comm, mul_zero}
+use Rattle.finite_sums.specs.Looks.{Ignores, IgnoresAll}
+use Rattle.finite_sums.specs.Sums.{World, with_state, sum_below, sum_over, InRange}
+use Rattle.finite_sums.proofs.Ints.{mul_add, mul_comm, mul_zero}
 
 -- ---- sums below a bound
 pub sum_below_cong : (n : ℕ) (f g : ℕ → ℤ) → ((i : ℕ) → i < n → f i ≡ g i) → sum_below n f ≡ sum_below n g
