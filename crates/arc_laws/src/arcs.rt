@@ -1,3 +1,5 @@
+//! Laws of arcs that are removed.
+
 ghost use Rattle.arc_laws.specs.Arcs.{KeptWithoutArc, LessWithoutArc, AsMuchWithoutArc, SameWithoutArc, SameWhenTrimmed};
 
 /// The removal of an arc into a decision: no agent can get more, and where the arc is not requisite the decision's

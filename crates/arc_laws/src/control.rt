@@ -1,3 +1,5 @@
+//! Laws of control.
+
 ghost use Rattle.arc_laws.specs.Control.{UnreachedRule, KeptAsDecision, MoreWithControl, SameWithControl};
 
 /// The rule of a decision from which no utility of an agent descends does not matter to the agent.

@@ -1,3 +1,5 @@
+//! The law of parents that are not requisite.
+
 ghost use Rattle.arc_laws.specs.Requisite.{NoWalkPastUnneeded, UnneededParent};
 
 /// In rows that differ at a parent that is not requisite a decision weighs its states alike.

@@ -1,3 +1,5 @@
+//! Laws of information and control values.
+
 ghost use Rattle.arc_laws.specs.Worths.{ValueExists, OneValue, SeenValue, UnseenValue, ControlValue, OneAgentDiagram, AnswerIsOptimum};
 
 /// Two diagrams in which one agent owns all decisions differ in worth to it by one fraction.

@@ -1,3 +1,5 @@
+//! The follower sees a copy of the leader's choice: its answer, and what is none by one entry.
+
 ghost use Rattle.maid_examples.specs.CopyAnswered.{HasReliance, HasAnswer, HasAccepted, IsPerfect};
 
 use maid_laws::{answers_are_best, answers_are_subgame_perfect};

@@ -1,3 +1,5 @@
+//! Matching pennies: a relevance cycle of two.
+
 ghost use Rattle.maid_examples.specs.Pennies.{HasCycle};
 
 use maid_model::literals_are_tested;

@@ -1,3 +1,5 @@
+//! A guess at one of two coins: what a common child opens, and what seeing is worth.
+
 ghost use Rattle.maid_examples.specs.TwoCoins.{AreSound, HasWalks, HasRequisites, HasValues};
 
 use maid_laws::one_value;

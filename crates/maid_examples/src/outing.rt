@@ -1,3 +1,5 @@
+//! An outing whose weather is seen, and a coin beside it.
+
 ghost use Rattle.maid_examples.specs.Trip.{IsSound, HasSums, HasASubgame, IsSolved, HasControl, HasAPart};
 
 use maid_laws::{

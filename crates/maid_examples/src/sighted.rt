@@ -1,3 +1,5 @@
+//! The follower sees the leader's choice: both of its rows are answered.
+
 ghost use Rattle.maid_examples.specs.SightAnswered.{HasNoReliance, HasAnswer};
 
 use maid_laws::answers_are_accepted;

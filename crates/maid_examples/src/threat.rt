@@ -1,3 +1,5 @@
+//! An empty threat: no agent gains by leaving it, and it is not subgame-perfect.
+
 ghost use Rattle.maid_examples.specs.EmptyThreat.{IsSound, HoldsAtFirst, FailsAfterLeft, IsNotBest};
 
 use maid_model::literals_are_tested;

@@ -1,3 +1,5 @@
+//! Two states of one agent: a tie, and two that differ.
+
 ghost use Rattle.maid_examples.specs.Tie.{AreSound, HasTie, HasBest, LacksRules};
 
 use maid_model::literals_are_tested;

@@ -1,3 +1,5 @@
+//! A diagram as a graph of numbered nodes.
+
 ghost use Rattle.std.specs.Prelude.{length};
 ghost use Rattle.std.proofs.Common.{ap};
 ghost use Rattle.std.proofs.lemmas.List.{get_or_past};

@@ -1,3 +1,5 @@
+//! Sets of utilities: those of an agent, and those below a decision.
+
 ghost use Rattle.std.specs.Prelude.{◌≡◌, ℕ, ◌<◌, ◌↔◌, length};
 ghost use Rattle.node_sets.specs.Sets.{holds, IsIn};
 ghost use Rattle.maid_model.specs.Nodes.{is_utility_of};

@@ -1,3 +1,5 @@
+//! Graphs of numbered nodes.
+
 ghost use Rattle.std.specs.Prelude.{◌≡◌, ℕ, ◌<◌, ◌≤◌, List, [], Contains};
 ghost use Rattle.node_sets.specs.declared.sets.TheConstants.{MOST_NODES};
 

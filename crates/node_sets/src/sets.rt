@@ -1,3 +1,5 @@
+//! Sets of node numbers.
+
 ghost use Rattle.std.specs.Prelude.{◌≡◌, ℕ, ◌<◌, ◌⊎◌, ◌↔◌, Contains};
 ghost use Rattle.node_sets.specs.declared.sets.TheConstants.{MOST_NODES};
 

@@ -1,3 +1,5 @@
+//! Each call once, over a small graph.
+
 ghost use Rattle.std.specs.Prelude.{[], ◌∷◌, slice_index_or};
 ghost use Rattle.std.proofs.lemmas.List.{get_or_past};
 

@@ -1,3 +1,5 @@
+//! A trip, and a coin beside it that is no part of it.
+
 ghost use Rattle.part_laws.specs.PartExamples.{HasAPart};
 
 /// A coin beside the trip is no part of it: the decision's scope makes the trip alone.

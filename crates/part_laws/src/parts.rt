@@ -1,3 +1,5 @@
+//! Laws of parts of a diagram and of scopes.
+
 ghost use Rattle.part_laws.specs.PartLaws.{AncestorsAreClosed, PartsAreGraphs, PartsHaveTables, PartsAreDiagrams, PartsHaveProfiles, NodesOfParts, RulesOfParts};
 ghost use Rattle.part_laws.specs.PartLaws.{GainsOfParts, MassesOfParts, AgentsGainsOfParts, MassOfParts, LeftOutIsPositive, LawOfParts, SumsReadWeights, ChoicesOfParts, WorthsOfParts};
 ghost use Rattle.part_laws.specs.ScopeLaws.{ScopesAreParts, AgentsScopesAreParts, ReliesInScope, SumsOfScopesFit, SumsOfAgentsScopesFit, AnswersHaveUnitRules, BasesHaveSmallRules, ScopedSumsHaveRoom, ScopedBoundsAreWeaker, FirstFailureExists, FirstPassingExists};
