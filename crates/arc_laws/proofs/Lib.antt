@@ -9,4 +9,3 @@ pub mod ControlLaws
 pub mod Differences
 pub mod WorthLaws
 pub mod Alone
-pub mod SmallStroll

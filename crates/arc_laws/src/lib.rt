@@ -4,12 +4,10 @@
 
 mod arcs;
 mod control;
-mod examples;
 mod requisite;
 mod worths;
 
 pub use arcs::{arc_removed, trimmed_optimum};
 pub use control::{controlled, rule_unreached};
-pub use examples::a_stroll;
 pub use requisite::unneeded_parent;
 pub use worths::{answer_is_optimum, arc_value, control_value, one_value};

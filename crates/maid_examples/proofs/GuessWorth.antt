@@ -10,7 +10,7 @@ use Rattle.maid_model.specs.Tables.{IsTable, weights_of, rule_total}
 use Rattle.maid_model.specs.Gains.{gain_of, mass}
 use Rattle.maid_model.specs.Subgames.{OwnsAll}
 use Rattle.maid_model.specs.Values.{IsOptimum, IsDifference, IsValueOfSeen, IsValueOfUnseen}
-use Rattle.maid_laws.specs.Worths.{OneValue}
+use Rattle.arc_laws.specs.Worths.{OneValue}
 use Rattle.maid_examples.specs.Samples.{rule, whole}
 use Rattle.maid_examples.specs.TwoCoins.{guessing, told, untold, half, HasValues}
 use Rattle.maid_examples.proofs.Members.{Among, among_of}

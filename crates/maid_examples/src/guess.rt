@@ -2,7 +2,7 @@
 
 ghost use Rattle.maid_examples.specs.TwoCoins.{AreSound, HasWalks, HasRequisites, HasValues};
 
-use maid_laws::one_value;
+use arc_laws::one_value;
 use maid_model::literals_are_tested;
 
 /// A guess at one of two coins: which walks a common child opens, which parents are requisite, what is

@@ -1,6 +1,5 @@
 -- Decisions stand among the listed ones, and a profile has their rules.
-use Rattle.std.proofs.Common.{◌≡◌, ◌∙◌, ◌⊎◌, ℕ, zero, suc, ◌+◌, ◌<◌, ◌≤◌, Bool, true, false, cond, filter, List, [], ◌∷◌, length, sym, ap, subst, inl, inr, arith, Contains}
-use Rattle.std.specs.List.{range_with_len}
+use Rattle.std.proofs.Common.{ℕ, ◌<◌, List, length, sym, ap, subst, arith, Contains}
 use Rattle.maid_model.specs.Nodes.{IsDecision, decisions_of, numbers_of, node_at, is_decision}
 use Rattle.maid_model.specs.Profiles.{IsProfile, HasRule}
 use Rattle.maid_model.specs.Views.{NodeView, RuleView}

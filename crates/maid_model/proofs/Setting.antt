@@ -1,11 +1,10 @@
 -- Node lists with parents first, and tables that have their cells and totals.
-use Rattle.std.specs.Prelude.{◌≡◌, ◌≢◌, ◌⊎◌, ℕ, ◌<◌, List, [], ◌∷◌, ◌++◌, length, map, ℤ, pos}
+use Rattle.std.specs.Prelude.{◌≡◌, ◌≢◌, ℕ, ◌<◌, List, [], ◌∷◌, length, map, ℤ, pos}
 use Rattle.maid_model.specs.declared.diagrams.Kind.{Kind}
 use Rattle.maid_model.specs.declared.diagrams.Kind.TheVariants.{Chance, Decision, Utility}
 use Rattle.maid_model.specs.Views.{NodeView, RuleView}
 use Rattle.maid_model.specs.Nodes.{node_at, states_of, rows_under}
 use Rattle.finite_sums.specs.Members.{Among}
-use Rattle.finite_sums.specs.Sums.{World, InRange, with_state, sum_below}
 use Rattle.maid_model.specs.Tables.{IsTable, weights_of, weight_total}
 
 -- no node of the list has itself, or one that stands later, as a parent

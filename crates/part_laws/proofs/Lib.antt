@@ -9,4 +9,3 @@ pub mod ScopeLaws
 pub mod ScopeBounds
 pub mod ScopeRoom
 pub mod ScopePlaces
-pub mod SmallPart

@@ -2,4 +2,3 @@ pub mod Parts
 pub mod Scopes
 pub mod PartLaws
 pub mod ScopeLaws
-pub mod PartExamples

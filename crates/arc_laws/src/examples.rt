@@ -1,9 +1,0 @@
-//! A stroll whose weather need not be seen.
-
-ghost use Rattle.arc_laws.specs.Examples.{NeedsNoWeather};
-
-/// A decision that sees what does not matter to it: the arc is trimmed, and neither it nor control of its tail is worth
-/// anything.
-pub fn a_stroll()
-    ensures needless { NeedsNoWeather }
-{}
