@@ -164,11 +164,14 @@ module _ (nodes : List NodeView) (g : IsGraph nodes) (c : HasChanceTables nodes)
 
   -- each start is a set of nodes with a world
   pub subgame_perfect : IsSubgamePerfect nodes s
-  subgame_perfect order start listing is_start agent t ht other =
-      let h = exchange_at nodes s choice base (filter (λ v. is_decision (node_at nodes v).kind) b.order) (ordered nodes g) is_best solved_order solved_all
-      (in_start order start) (world_of_history order start) (start_of nodes g order start listing is_start) agent t (tables_of nodes t g c ht) (same_for_others agent t other) in
-      subst (λ x. x ≤ℤ (gain_from nodes order start s agent *ℤ pos (mass_from nodes order start t))) (λ i. gain_same nodes g order start listing is_start.history t agent i *ℤ mass_same nodes g order start listing is_start.history s i)
-      (subst (λ x. (gain_from_start nodes (in_start order start) (world_of_history order start) t agent *ℤ mass_from_start nodes (in_start order start) s) ≤ℤ x) (λ i. gain_same nodes g order start listing is_start.history s agent i *ℤ mass_same nodes g order start listing is_start.history t i) h)
+  subgame_perfect = record {
+    profile = b.profile;
+    from_each_start = λ order start listing is_start agent t ht other.
+        let h = exchange_at nodes s choice base (filter (λ v. is_decision (node_at nodes v).kind) b.order) (ordered nodes g) is_best solved_order solved_all
+        (in_start order start) (world_of_history order start) (start_of nodes g order start listing is_start) agent t (tables_of nodes t g c ht) (same_for_others agent t other) in
+        subst (λ x. x ≤ℤ (gain_from nodes order start s agent *ℤ pos (mass_from nodes order start t))) (λ i. gain_same nodes g order start listing is_start.history t agent i *ℤ mass_same nodes g order start listing is_start.history s i)
+        (subst (λ x. (gain_from_start nodes (in_start order start) (world_of_history order start) t agent *ℤ mass_from_start nodes (in_start order start) s) ≤ℤ x) (λ i. gain_same nodes g order start listing is_start.history s agent i *ℤ mass_same nodes g order start listing is_start.history t i) h);
+  }
 
 -- for every diagram
 pub exchange_law : Exchange

@@ -5,7 +5,8 @@ use Rattle.std.specs.List.{list_all}
 use Rattle.maid_model.specs.Gains.{gain_of, mass, sum_worlds, utility}
 use Rattle.maid_model.specs.Graph.{IsGraph}
 use Rattle.maid_model.specs.Nodes.{numbers_of}
-use Rattle.maid_model.specs.Subgames.{IsListing, IsHistory, IsSubgameStart, gain_from, mass_from}
+use Rattle.maid_model.specs.Profiles.{IsProfile}
+use Rattle.maid_model.specs.Subgames.{IsNoBetter, IsListing, IsHistory, IsSubgameStart, gain_from, mass_from}
 use Rattle.maid_model.specs.Sums.{product_over}
 use Rattle.maid_model.specs.Tables.{table, weight_total}
 use Rattle.maid_model.specs.Views.{NodeView, RuleView}
@@ -50,8 +51,11 @@ module _ (nodes : List NodeView) (g : IsGraph nodes) (order : List ℕ) (l : IsL
 
 -- an agent that owns all may deviate to any profile at the empty start
 pub one_agent_law : OneAgent
-one_agent_law nodes s agent g perfect owns t ht =
-    let l = listing_law nodes g in
-    let h = perfect l.0 [] l.1 (empty_start nodes l.0) agent t ht (λ v d n. absurd (n (owns v d))) in
-    subst (λ x. x ≤ℤ (gain_of nodes s agent *ℤ pos (mass nodes t))) (λ i. gain_whole nodes g l.0 l.1 t agent i *ℤ mass_whole nodes g l.0 l.1 s i)
-    (subst (λ x. (gain_from nodes l.0 [] t agent *ℤ pos (mass_from nodes l.0 [] s)) ≤ℤ x) (λ i. gain_whole nodes g l.0 l.1 s agent i *ℤ mass_whole nodes g l.0 l.1 t i) h)
+one_agent_law nodes s agent g perfect owns = record { profile = perfect.profile; greatest = greatest }
+  where
+    greatest : (t : List RuleView) → IsProfile nodes t → IsNoBetter nodes agent s t
+    greatest t ht =
+        let l = listing_law nodes g in
+        let h = perfect.from_each_start l.0 [] l.1 (empty_start nodes l.0) agent t ht (λ v d n. absurd (n (owns v d))) in
+        subst (λ x. x ≤ℤ (gain_of nodes s agent *ℤ pos (mass nodes t))) (λ i. gain_whole nodes g l.0 l.1 t agent i *ℤ mass_whole nodes g l.0 l.1 s i)
+        (subst (λ x. (gain_from nodes l.0 [] t agent *ℤ pos (mass_from nodes l.0 [] s)) ≤ℤ x) (λ i. gain_whole nodes g l.0 l.1 s agent i *ℤ mass_whole nodes g l.0 l.1 t i) h)

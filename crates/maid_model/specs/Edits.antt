@@ -1,11 +1,10 @@
 -- Diagrams that differ in one place: an arc more or less, a chance node under an agent's control, decisions of others as chance nodes.
 use Rattle.std.specs.Prelude.{ℕ, List, [], ◌∷◌, ◌++◌, map, filter, ◌==◌, not, pos, if◌then◌else◌, slice_set}
-use Rattle.std.specs.List.{flat_map}
 use Rattle.maid_model.specs.declared.diagrams.Kind.{Kind}
 use Rattle.maid_model.specs.declared.diagrams.Kind.TheVariants.{Chance, Decision, Utility}
 use Rattle.maid_model.specs.Views.{NodeView, AnswerView}
 use Rattle.maid_model.specs.Nodes.{node_at, states_of, numbers_of}
-use Rattle.maid_model.specs.Profiles.{pure_row}
+use Rattle.maid_model.specs.Profiles.{pure_rule}
 use Rattle.maid_model.specs.Answers.{rows_at}
 
 -- d sees x no more; its other parents keep their order
@@ -27,7 +26,7 @@ as_chance nodes answers v = record {
   owner = 0;
   states = states_of nodes v;
   parents = (node_at nodes v).parents;
-  cells = flat_map (λ r. map (λ weight. pos weight) (pure_row (states_of nodes v) r.choice)) (rows_at answers v);
+  cells = map pos (pure_rule nodes v (map (λ r. r.choice) (rows_at answers v))).weights;
 }
 
 abbrev pub fixed_by : Kind → List NodeView → ℕ → List AnswerView → ℕ → NodeView

@@ -1,8 +1,10 @@
 -- The optimum of one agent, and what information and control are worth to it (Everitt et al. 2021).
-use Rattle.std.specs.Prelude.{◌≡◌, ℕ, ◌*◌, ◌^◌, List, pos, ◌+ℤ◌, ◌*ℤ◌}
+use Rattle.std.specs.Prelude.{◌≡◌, ℕ, ◌<◌, ◌*◌, ◌^◌, List, length, pos, ◌+ℤ◌, ◌*ℤ◌}
 use Rattle.maid_model.specs.declared.answers.Ratio.{Ratio}
+use Rattle.maid_model.specs.declared.diagrams.Kind.TheVariants.{Chance, Utility}
 use Rattle.maid_model.specs.Views.{NodeView, RuleView, AnswerView}
-use Rattle.maid_model.specs.Profiles.{IsProfile}
+use Rattle.maid_model.specs.Nodes.{IsDecision, node_at}
+use Rattle.maid_model.specs.Graph.{Arc, Descends, IsGraph}
 use Rattle.maid_model.specs.Gains.{gain_of, mass}
 use Rattle.maid_model.specs.Answers.{IsReduced, IsFraction}
 use Rattle.maid_model.specs.Subgames.{OwnsAll, IsOptimal}
@@ -12,7 +14,6 @@ use Rattle.maid_model.specs.Edits.{without_arc, with_arc, as_decision, one_agent
 pub record IsOptimum (nodes : List NodeView) (decimals agent : ℕ) (r : Ratio) : Type 0 where
   pub alone : OwnsAll nodes agent
   pub best : List RuleView
-  pub profile : IsProfile nodes best
   pub optimal : IsOptimal nodes best agent
   pub worth : IsFraction r (gain_of nodes best agent) (mass nodes best * 10 ^ decimals)
 
@@ -21,21 +22,37 @@ pub record IsDifference (r a b : Ratio) : Type 0 where
   pub reduced : IsReduced r
   pub same : (r.num *ℤ pos (a.den * b.den)) +ℤ (b.num *ℤ pos (a.den * r.den)) ≡ a.num *ℤ pos (r.den * b.den)
 
--- what seeing x at d is worth to the agent: the optimum with the arc less the optimum without it
-pub record IsValueOfArc (with_it without_it : List NodeView) (decimals agent : ℕ) (r : Ratio) : Type 0 where
-  pub seeing : Ratio
-  pub is_seeing : IsOptimum with_it decimals agent seeing
-  pub not_seeing : Ratio
-  pub is_not_seeing : IsOptimum without_it decimals agent not_seeing
-  pub difference : IsDifference r seeing not_seeing
+-- the agent's optimum in the one diagram, less its optimum in the other
+pub record IsDifferenceOfOptima (nodes others : List NodeView) (decimals agent : ℕ) (r : Ratio) : Type 0 where
+  pub more : Ratio
+  pub is_more : IsOptimum nodes decimals agent more
+  pub less : Ratio
+  pub is_less : IsOptimum others decimals agent less
+  pub difference : IsDifference r more less
 
--- Information value: in the diagram in which only the agent decides, of an arc that is there, and of one that is not.
-abbrev pub IsValueOfSeen : List NodeView → ℕ → List AnswerView → ℕ → ℕ → ℕ → Ratio → Type 0
-IsValueOfSeen nodes decimals answers agent x d r = IsValueOfArc (one_agent nodes agent answers) (without_arc (one_agent nodes agent answers) x d) decimals agent r
+-- a decision of the agent
+pub record IsDecisionOf (nodes : List NodeView) (d agent : ℕ) : Type 0 where
+  pub decision : IsDecision nodes d
+  pub owner : (node_at nodes d).owner ≡ agent
 
-abbrev pub IsValueOfUnseen : List NodeView → ℕ → List AnswerView → ℕ → ℕ → ℕ → Ratio → Type 0
-IsValueOfUnseen nodes decimals answers agent x d r = IsValueOfArc (with_arc (one_agent nodes agent answers) x d) (one_agent nodes agent answers) decimals agent r
+-- Information value of an arc that is there, from x into a decision d of the agent: in the diagram in which only the agent decides, the optimum with the arc less the optimum without it.
+pub record IsValueOfSeen (nodes : List NodeView) (decimals : ℕ) (answers : List AnswerView) (agent x d : ℕ) (r : Ratio) : Type 0 where
+  pub own : IsDecisionOf nodes d agent
+  pub seen : Arc nodes x d
+  pub value : IsDifferenceOfOptima (one_agent nodes agent answers) (without_arc (one_agent nodes agent answers) x d) decimals agent r
+
+-- Information value of an arc that is not there and can be added: the diagram with the arc less the one without it.
+pub record IsValueOfUnseen (nodes : List NodeView) (decimals : ℕ) (answers : List AnswerView) (agent x d : ℕ) (r : Ratio) : Type 0 where
+  pub own : IsDecisionOf nodes d agent
+  pub unseen : Arc nodes x d → ⊥
+  pub can_see : IsGraph (with_arc nodes x d)
+  pub value : IsDifferenceOfOptima (with_arc (one_agent nodes agent answers) x d) (one_agent nodes agent answers) decimals agent r
 
 -- Control value: the optimum where the chance node x is a decision of the agent over its own parents, less the optimum before.
-abbrev pub IsValueOfControl : List NodeView → ℕ → List AnswerView → ℕ → ℕ → Ratio → Type 0
-IsValueOfControl nodes decimals answers agent x r = IsValueOfArc (as_decision (one_agent nodes agent answers) agent x) (one_agent nodes agent answers) decimals agent r
+pub record IsValueOfControl (nodes : List NodeView) (decimals : ℕ) (answers : List AnswerView) (agent x : ℕ) (r : Ratio) : Type 0 where
+  pub chance : (node_at nodes x).kind ≡ Chance
+  pub value : IsDifferenceOfOptima (as_decision (one_agent nodes agent answers) agent x) (one_agent nodes agent answers) decimals agent r
+
+-- no utility of the agent descends from x
+abbrev pub IsUnreached : List NodeView → ℕ → ℕ → Type 0
+IsUnreached nodes agent x = (u : ℕ) → u < length nodes → (node_at nodes u).kind ≡ Utility → (node_at nodes u).owner ≡ agent → Descends (Arc nodes) x u → ⊥
