@@ -1,6 +1,7 @@
 -- Bytes come to one status.
 use Rattle.std.proofs.Common.{◌≡◌, ◌≤◌, inl, inr, ℕ, List, None, refl, subst, arith}
-use Rattle.maid_model.specs.Bounds.{KeepsBound, world_count, most_worlds}
+use Rattle.maid_model.specs.Bounds.{KeepsBound, world_count}
+use Rattle.maid_model.specs.declared.limits.TheConstants.{MOST_WORLDS}
 use Rattle.maid_model.specs.Names.{NamesView}
 use Rattle.maid_model.specs.Placing.{HasRelianceOrder}
 use Rattle.maid_model.specs.Views.{DiagramView}
@@ -95,7 +96,7 @@ no_report_bound laws bytes a b x y = y.passed (along laws bytes x.d y.d x.names 
 
 no_report_many : Laws → (bytes a b : List ℕ) → Reports bytes a → TellsNotBuilt bytes b → ⊥
 no_report_many laws bytes a b x y =
-    let few : world_count y.d.nodes ≤ most_worlds = along laws bytes x.d y.d x.names y.names (λ d. world_count d.nodes ≤ most_worlds) x.is_diagram y.is_diagram x.few in
+    let few : world_count y.d.nodes ≤ MOST_WORLDS = along laws bytes x.d y.d x.names y.names (λ d. world_count d.nodes ≤ MOST_WORLDS) x.is_diagram y.is_diagram x.few in
     let many = y.many in omega (arith, few, many)
 
 no_cycle_bound : Laws → (bytes a b : List ℕ) → TellsCycle bytes a → TellsBound bytes b → ⊥

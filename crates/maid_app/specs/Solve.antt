@@ -1,7 +1,8 @@
 -- What `solve` makes of a file's bytes: the report of the diagram's answer, or the first that applies of the text's fault, the relevance cycle, the weight bound and too many worlds.
 use Rattle.std.specs.Prelude.{◌≡◌, ◌<◌, ◌≤◌, ℕ, List}
 use Rattle.maid_model.specs.Answers.{IsAnswer, pure_profile}
-use Rattle.maid_model.specs.Bounds.{KeepsBound, PassesAt, world_count, most_worlds}
+use Rattle.maid_model.specs.Bounds.{KeepsBound, PassesAt, world_count}
+use Rattle.maid_model.specs.declared.limits.TheConstants.{MOST_WORLDS}
 use Rattle.maid_model.specs.Names.{NamesView}
 use Rattle.maid_model.specs.Placing.{HasRelianceOrder, IsRelianceCycle}
 use Rattle.maid_model.specs.Reports.{report}
@@ -29,7 +30,7 @@ pub record Reports (bytes printed : List ℕ) : Type 0 where
   pub names : NamesView
   pub is_diagram : IsDiagramOf bytes d names
   pub bound : KeepsBound d
-  pub few : world_count d.nodes ≤ most_worlds
+  pub few : world_count d.nodes ≤ MOST_WORLDS
   pub has_report : HasReport d names printed
 
 -- the relevance graph of the diagram has a cycle
@@ -63,7 +64,7 @@ pub record TellsNotBuilt (bytes told : List ℕ) : Type 0 where
   pub is_diagram : IsDiagramOf bytes d names
   pub order : HasRelianceOrder d.nodes
   pub bound : KeepsBound d
-  pub many : most_worlds < world_count d.nodes
+  pub many : MOST_WORLDS < world_count d.nodes
   pub says : told ≡ not_built_line
 
 -- what `solve` makes of the bytes of the file of that name

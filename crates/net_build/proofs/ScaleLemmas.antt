@@ -69,7 +69,7 @@ whole_by m num t den p e =
     let flat : up m * den + down num * p ≡ up num * p + down m * den = omega (arith, ints, e) in
     omega (arith, ints, by t _ _ flat, by den _ _ (product_is m (pos t)).0, by den _ _ (product_is m (pos t)).1)
 
--- the number value_at_scale is the value to scale
+-- the number raised by the scale is the value to scale
 pub raised_is : (numeral : List ℕ) (d : Decimal) (scale : ℕ) → IsLeastDecimalOf (numerator numeral) (denominator numeral) d → d.k ≤ scale → IsScaledBy scale numeral (value_at_scale scale d)
 raised_is numeral d scale is enough = rw (tens_split d.k scale enough) (whole_by d.m (numerator numeral) (10 ^ (scale - d.k)) (denominator numeral) (10 ^ d.k) is.value)
 
@@ -147,7 +147,7 @@ module _ (text : List ℕ) (tokens : List Token) (ds : List Decimal) (scale : �
   pub wide_on : is_some r ≡ true → Leads (EachFrom (wide_row text scale) tokens (i + 1)) W
   wide_on some = each_step_at (wide_row text scale) tokens W i no_token within lead (fits_narrow (token_bytes text (get_or tokens i no_token)) d scale its enough (fit r _ _ tried some))
 
--- the numbers value_at_scale are utility cells
+-- the numbers raised by the scale are utility cells
 pub cells_found : (numerals : List (List ℕ)) (ds : List Decimal) (scale : ℕ) → AreDecimals numerals ds → All (λ d. d.k ≤ scale) ds → AreUtilityCells scale numerals (map (value_at_scale scale) ds)
 cells_found numerals ds scale are most = record {
   len = length-map ds (value_at_scale scale) ∙ are.len;

@@ -12,7 +12,7 @@ use Rattle.net_build.specs.Plain.{reduced_rows}
 use Rattle.net_print.proofs.ReducedRows.{row_map, row_shares_none, row_weights, all_small, reduced_len}
 use Rattle.net_print.proofs.RowDivisors.{raised_reduced}
 use Rattle.net_print.proofs.ValueTexts.{tens_positive}
-use Rattle.net_print.proofs.WeightTexts.{decimals_of, AreSmall, are_decimals, raised_are}
+use Rattle.net_print.proofs.WeightTexts.{decimals_of, AreSmall, are_decimals, raised_are, none_below}
 
 module _ (cells : List ℤ) (rows states total : ℕ) (table : IsTable cells rows states total) (positive : 0 < total) (small : total ≤ greatest_number) (some : 0 < states) where
   abbrev Reduced : List ℕ
@@ -44,6 +44,7 @@ module _ (cells : List ℤ) (rows states total : ℕ) (table : IsTable cells row
   -- The printed weights scale to the cells.
   pub weights_scaled : IsCommonTotal Reduced states rows total → (ds : List Decimal) → AreDecimals (map decimal Reduced) ds → IsScaled ds states (record { weights = cells; total = total })
   weights_scaled common ds are = record {
+    none_negative = none_below Reduced ds numbers_small are;
     reduced = Reduced;
     rows_reduced = rows_reduced ds are;
     common = subst (λ n. IsCommonTotal Reduced states n total) (sym (rows_counted ds are)) common;

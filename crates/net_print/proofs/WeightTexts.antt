@@ -1,10 +1,10 @@
 -- The decimals of printed weights: a number up to the greatest, and no digit behind a point.
-use Rattle.std.proofs.Common.{◌≡◌, ◌∙◌, ℕ, ◌*◌, ◌-◌, ◌^◌, ◌<◌, ◌≤◌, min, ℤ, pos, ◌*ℤ◌, unsigned_abs, List, [], All, length, map, get_or, decimal, sym, ap, subst, arith}
+use Rattle.std.proofs.Common.{◌≡◌, ◌∙◌, ℕ, ◌*◌, ◌-◌, ◌^◌, ◌<◌, ◌≤◌, min, ℤ, pos, ◌*ℤ◌, ◌≤ℤ◌, unsigned_abs, List, [], All, length, map, get_or, decimal, sym, ap, subst, arith}
 use Rattle.std.proofs.lemmas.Int.{ints}
 use Rattle.std.proofs.lemmas.List.{get_or-map, length-map, ext_get_or}
 use Rattle.maid_model.specs.Diagrams.{greatest_number}
 use Rattle.weight_scale.specs.Numeral.{numerator, denominator, IsLeastDecimalOf}
-use Rattle.weight_scale.specs.Scaling.{whole_number}
+use Rattle.weight_scale.specs.Scaling.{whole_number, NoneNegative}
 use Rattle.weight_scale.specs.declared.decimal.Decimal.{Decimal}
 use Rattle.net_build.specs.Scaling.{AreDecimals, decimal_at}
 use Rattle.net_build.specs.Zero.{nought}
@@ -44,7 +44,7 @@ are_decimals ns small = record {
   each = λ i l. let within : i < length ns = subst (λ n. i < n) (length-map ns decimal) l in least_of_text (get_or (map decimal ns) i []) (get_or ns i 0) (decimal_at (decimals_of ns) i) (small i 0 within) (get_or-map decimal ns i 0 [] within) (get_or-map decimal_of ns i 0 nought within);
 }
 
--- whatever the least decimal of a number is, whole_number it is the number with noughts behind it
+-- whatever the least decimal of a number is, raised it is the number with noughts behind it
 raised_by : (m : ℤ) (k n : ℕ) → k ≡ 0 → m *ℤ pos 1 ≡ pos n *ℤ pos (10 ^ k) → unsigned_abs m * 10 ^ (30 - k) ≡ n * 10 ^ 30
 raised_by m k n none e =
     let whole : m ≡ pos n = once m ∙ e ∙ ap (λ j. pos n *ℤ pos (10 ^ j)) none ∙ sym (once (pos n)) in
@@ -80,3 +80,24 @@ raised_are ns ds small are = ext_get_or 0 (map (whole_number 30) ds) (map (λ n.
         get_or-map (whole_number 30) ds i nought 0 l
         ∙ raised_text (get_or (map decimal ns) i []) (get_or ns i 0) (decimal_at ds i) (small i 0 within) (get_or-map decimal ns i 0 [] within) (are.each i here)
         ∙ sym (get_or-map (λ n. n * 10 ^ 30) ns i 0 0 within)
+
+-- a number that is one from nought times a power of ten is not below nought
+from_nought : (m : ℤ) (n : ℕ) → m *ℤ pos 1 ≡ pos n → pos 0 ≤ℤ m
+from_nought m n e = omega (arith, ints, e)
+
+-- no decimal of a printed number is below nought
+not_below : (text : List ℕ) (n : ℕ) (d : Decimal) → n ≤ greatest_number → text ≡ decimal n → IsLeastDecimalOf (numerator text) (denominator text) d → pos 0 ≤ℤ d.m
+not_below text n d small e is =
+    let read = decimal_read n (small_enough n small) in
+    let of_number : IsLeastDecimalOf (pos n) 1 d =
+        subst (λ k. IsLeastDecimalOf (pos n) k d) read.1
+        (subst (λ z. IsLeastDecimalOf z (denominator (decimal n)) d) read.0
+        (subst (λ bytes. IsLeastDecimalOf (numerator bytes) (denominator bytes) d) e is)) in
+    from_nought d.m (n * 10 ^ d.k) of_number.value
+
+pub none_below : (ns : List ℕ) (ds : List Decimal) → AreSmall ns → AreDecimals (map decimal ns) ds → NoneNegative ds
+none_below ns ds small are i l =
+    let within : i < length ns = subst (λ n. i < n) (are.len ∙ length-map ns decimal) l in
+    let here : i < length (map decimal ns) = subst (λ n. i < n) are.len l in
+    subst (λ z. pos 0 ≤ℤ z) (sym (get_or-map (λ (d : Decimal). d.m) ds i nought (pos 0) l))
+    (not_below (get_or (map decimal ns) i []) (get_or ns i 0) (decimal_at ds i) (small i 0 within) (get_or-map decimal ns i 0 [] within) (are.each i here))

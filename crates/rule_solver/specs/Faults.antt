@@ -1,6 +1,7 @@
 -- What a refusal tells of the diagram.
 use Rattle.std.specs.Prelude.{◌≡◌, ℕ, ◌<◌, ◌^◌, min, List, Some, None}
-use Rattle.maid_model.specs.Bounds.{KeepsBound, PassesAt, world_count, most_worlds}
+use Rattle.maid_model.specs.Bounds.{KeepsBound, PassesAt, stopped, world_count}
+use Rattle.maid_model.specs.declared.limits.TheConstants.{MOST_WORLDS}
 use Rattle.maid_model.specs.Placing.{HasRelianceOrder, IsRelianceCycle}
 use Rattle.maid_model.specs.Views.{NodeView, DiagramView}
 use Rattle.rule_solver.specs.declared.faults.SolveFault.{SolveFault}
@@ -11,7 +12,7 @@ abbrev pub IsRefusal : DiagramView → SolveFault → Type 0
 IsRefusal d (Cycle list) = IsRelianceCycle d.nodes list.items × (HasRelianceOrder d.nodes → ⊥)
 IsRefusal d (WeightBound (Some v)) = HasRelianceOrder d.nodes × (KeepsBound d → ⊥) × PassesAt d.nodes v
 IsRefusal d (WeightBound None) = HasRelianceOrder d.nodes × (KeepsBound d → ⊥) × ((v : ℕ) → PassesAt d.nodes v → ⊥)
-IsRefusal d (NotBuilt count) = HasRelianceOrder d.nodes × KeepsBound d × (most_worlds < world_count d.nodes) × (count ≡ min (world_count d.nodes) (10 ^ 18))
+IsRefusal d (NotBuilt count) = HasRelianceOrder d.nodes × KeepsBound d × (MOST_WORLDS < world_count d.nodes) × (count ≡ stopped (world_count d.nodes))
 IsRefusal d NoMemory = ⊥
 
 -- What a fault tells: that the diagram is refused so, and nothing where memory ran out.

@@ -1,22 +1,17 @@
 ghost use Rattle.std.specs.Prelude.{◌≡◌, ◌≤◌, ◌^◌, min, IsOk, IfErr, OnOk};
-ghost use Rattle.maid_model.specs.Bounds.{KeepsBound, world_count, most_worlds};
+ghost use Rattle.maid_model.specs.Bounds.{KeepsBound, stopped, world_count};
+ghost use Rattle.maid_model.specs.declared.limits.TheConstants.{MOST_WORLDS};
 ghost use Rattle.maid_model.specs.Diagrams.{IsDiagram};
 ghost use Rattle.maid_model.specs.Placing.{HasRelianceOrder};
 ghost use Rattle.rule_solver.specs.Faults.{IsRefusal};
 
 use crate::SolveFault;
-use maid_model::Diagram;
+use maid_model::{COUNT_END, Diagram, MOST_WORLDS};
 use weight_scale::{BoundPlace, bound};
-
-/// The greatest number of worlds that are gone through.
-const MOST_LEAVES: u128 = 65_536;
-
-/// At which number the worlds are counted no further.
-const COUNT_END: u128 = 1_000_000_000_000_000_000;
 
 /// How many worlds the diagram has, or 10 to the power of 18 where that is less.
 fn count_leaves(diagram: &Diagram) -> u128
-    ensures world_count { result ≡ min (world_count diagram.now.nodes) (10 ^ 18) }
+    ensures world_count { result ≡ stopped (world_count diagram.now.nodes) }
     ensures diagram { IsDiagram diagram.now }
 {
     let mut leaves: u128 = 1;
@@ -43,12 +38,12 @@ fn keep_bound(diagram: &Diagram) -> Result<(), SolveFault>
 fn keep_leaves(diagram: &Diagram) -> Result<(), SolveFault>
     requires order { HasRelianceOrder diagram.now.nodes }
     requires bound { KeepsBound diagram.now }
-    ensures kept { OnOk result (world_count diagram.now.nodes ≤ most_worlds) }
+    ensures kept { OnOk result (world_count diagram.now.nodes ≤ MOST_WORLDS) }
     ensures diagram { IsDiagram diagram.now }
     ensures fault { IfErr result (IsRefusal diagram.now) }
 {
     let leaves = count_leaves(diagram);
-    if leaves > MOST_LEAVES {
+    if leaves > MOST_WORLDS {
         return Err(SolveFault::NotBuilt { leaves });
     }
     Ok(())
@@ -58,7 +53,7 @@ fn keep_leaves(diagram: &Diagram) -> Result<(), SolveFault>
 pub(crate) fn keep_limits(diagram: &Diagram) -> Result<(), SolveFault>
     requires { HasRelianceOrder diagram.now.nodes }
     ensures bound { OnOk result (KeepsBound diagram.now) }
-    ensures world_count { OnOk result (world_count diagram.now.nodes ≤ most_worlds) }
+    ensures world_count { OnOk result (world_count diagram.now.nodes ≤ MOST_WORLDS) }
     ensures diagram { OnOk result (IsDiagram diagram.now) }
     ensures fault { IfErr result (IsRefusal diagram.now) }
 {

@@ -1,6 +1,7 @@
 ghost use Rattle.std.specs.Prelude.{◌≤◌, ℕ, IfOk, IfErr};
 ghost use Rattle.maid_model.specs.Answers.{IsAnswer, pure_profile};
-ghost use Rattle.maid_model.specs.Bounds.{KeepsBound, world_count, most_worlds};
+ghost use Rattle.maid_model.specs.Bounds.{KeepsBound, world_count};
+ghost use Rattle.maid_model.specs.declared.limits.TheConstants.{MOST_WORLDS};
 ghost use Rattle.maid_model.specs.Diagrams.{IsDiagram};
 ghost use Rattle.maid_model.specs.Placing.{IsRelianceOrder};
 ghost use Rattle.maid_model.specs.Subgames.{IsOptimal, IsSubgamePerfect, OwnsAll};
@@ -51,7 +52,7 @@ fn solve_ordered(
     requires relevance { IsRelevance diagram.now.nodes relevance.now }
     requires order { IsRelianceOrder diagram.now.nodes order.now }
     ensures ok { IfOk result (IsAnswer diagram.now) }
-    ensures within { IfOk result (λ solved. KeepsBound diagram.now × (world_count diagram.now.nodes ≤ most_worlds)) }
+    ensures within { IfOk result (λ solved. KeepsBound diagram.now × (world_count diagram.now.nodes ≤ MOST_WORLDS)) }
     ensures diagram { IfOk result (λ solved. IsDiagram diagram.now) }
     ensures fault { IfErr result (Tells diagram.now) }
 {
@@ -71,7 +72,7 @@ fn solve_ordered(
 /// passed, and `NotBuilt` where there are more than 65,536 worlds. `NoMemory` may come at any point.
 pub fn solve(alloc: Global, diagram: &Diagram) -> Result<Solved, SolveFault>
     ensures ok { IfOk result (IsAnswer diagram.now) }
-    ensures within { IfOk result (λ solved. KeepsBound diagram.now × (world_count diagram.now.nodes ≤ most_worlds)) }
+    ensures within { IfOk result (λ solved. KeepsBound diagram.now × (world_count diagram.now.nodes ≤ MOST_WORLDS)) }
     // Each refusal says that those before it don't apply.
     ensures fault { IfErr result (Tells diagram.now) }
     // From no subgame start does an agent gain by other rules of its own.

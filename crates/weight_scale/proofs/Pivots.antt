@@ -1,4 +1,4 @@
--- The number with the most decimals, by which a row is whole_number, and the divisor that starts with it.
+-- The number with the most decimals, by which a row is raised, and the divisor that starts with it.
 use Rattle.std.proofs.Common.{◌≡◌, ◌<◌, ◌≤◌, ◌+◌, ◌-◌, ◌*◌, ◌^◌, ◌⊎◌, inl, inr, ⊎_elim, ℕ, sym, ap, ◌∙◌, arith, subst, List, [], ◌∷◌, ◌++◌, All, map, length, get_or, take, drop, sum, unsigned_abs}
 use Rattle.std.specs.Int.{IsGcd, ◌∣◌}
 use Rattle.std.proofs.Math.Numerals.{add-one}
@@ -23,7 +23,7 @@ finest_start = record {
   nought = λ _. All-nil (λ d. unsigned_abs d.m ≡ 0);
 }
 
--- whole_number by its own decimals a number is its size
+-- raised by its own decimals a number is its size
 own_size : (d : Decimal) → whole_number d.k d ≡ unsigned_abs d.m
 own_size d = ap (λ n. unsigned_abs d.m * 10 ^ n) (none d.k) ∙ once (unsigned_abs d.m)
   where

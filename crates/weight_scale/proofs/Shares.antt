@@ -25,7 +25,7 @@ shares_step row i d tens divisor total share longer old mid new l is so_far shar
     more : shares tens divisor (take (i + 1) row) ≡ shares tens divisor (take i row) ++ (share ∷ [])
     more = map_more (λ x. whole_number tens x / divisor) row i d l ∙ ap (λ x. shares tens divisor (take i row) ++ ((whole_number tens x / divisor) ∷ [])) (sym is) ∙ ap (λ n. shares tens divisor (take i row) ++ (n ∷ [])) (sym share_is)
 
--- whole_number by more tens
+-- raised by more tens
 raised_more : (d : Decimal) (decimals : ℕ) → decimals ≤ 30 → (unsigned_abs d.m ≡ 0) ⊎ (d.k ≤ decimals) → whole_number 30 d ≡ whole_number decimals d * 10 ^ (30 - decimals)
 raised_more d decimals few most = ⊎_elim nought finer most
   where

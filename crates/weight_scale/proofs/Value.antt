@@ -79,7 +79,7 @@ module _ (minus : Bool) (number decimals : ℕ) (down : Bool) (exponent : ℕ) w
   pub too_far : (size above below : ℕ) → IsSignificand number decimals size above below → 0 < size → above < 2 ^ 64 → below < 2 ^ 64 → (exponent < 2 ^ 126 → ⊥) → (d : Decimal) → IsDecimalOf (signed minus num) den d → ⊥
   too_far size above below is some near_above near_below far d value =
       let at = size_of size above below is some d value in
-      out_of_reach down exponent size above below d.k (unsigned_abs d.m) some near_above near_below far d.small d.few at.0 at.1
+      out_of_reach down exponent size above below d.k (unsigned_abs d.m) some near_above near_below far (let small = d.small in omega (arith, small)) d.few at.0 at.1
 
   -- what the significant digits with their tens are, the numeral is
   pub some_of_significand : (size above below : ℕ) → IsSignificand number decimals size above below → (r : Option Decimal) →

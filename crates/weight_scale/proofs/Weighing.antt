@@ -13,7 +13,7 @@ use Rattle.maid_model.specs.Tables.{IsTable}
 use Rattle.maid_model.specs.Diagrams.{greatest_number}
 use Rattle.weight_scale.specs.declared.decimal.Decimal.{Decimal}
 use Rattle.weight_scale.specs.Views.{ScaledView}
-use Rattle.weight_scale.specs.Scaling.{row_at, raised_row, multiplied_row, IsScaled, NoZeroRow}
+use Rattle.weight_scale.specs.Scaling.{row_at, raised_row, multiplied_row, IsScaled, NoneNegative, NoZeroRow}
 use Rattle.weight_scale.specs.Rows.{WeighsRows, ReducesRows}
 use Rattle.weight_scale.proofs.RowParts.{row_within, rows_whole, count_of_rows, row_length, row_kept, row_added, row_cell}
 use Rattle.weight_scale.proofs.Totals.{reduced_positive}
@@ -58,8 +58,9 @@ module _ (rows : List Decimal) (states : ℕ) (states_positive : 0 < states) (wh
   pub total_multiple : (r : ℕ) → r < length reduced / states → sum (row_at states reduced r) ∣ total
   total_multiple r l = let inside : r < length rows / states = rw (← reduced_count) l in reduces.common.multiple r inside
 
-  pub scaled : (weights : List ℤ) → total ≤ greatest_number → WeighsRows reduced states total (length reduced / states) weights → IsScaled rows states (record { weights = weights; total = total })
-  scaled weights small weighs = record {
+  pub scaled : NoneNegative rows → (weights : List ℤ) → total ≤ greatest_number → WeighsRows reduced states total (length reduced / states) weights → IsScaled rows states (record { weights = weights; total = total })
+  scaled none_negative weights small weighs = record {
+    none_negative = none_negative;
     reduced = reduced;
     rows_reduced = record { len = reduces.len ∙ rows_whole (length rows) states whole; row = reduces.row };
     common = reduces.common;

@@ -7,7 +7,7 @@ use Rattle.weight_scale.specs.declared.decimal.Decimal.{Decimal}
 use Rattle.weight_scale.specs.declared.scaling.ScaleFault.{ScaleFault}
 use Rattle.weight_scale.specs.declared.scaling.ScaleFault.TheVariants.{Negative, ZeroRow, WideWeight, NoMemory}
 
--- The size and the decimals of one of the numbers: no other but noughts has more decimals, what divides all numbers, whole_number by these, divides the size, and the size is nought only where all are.
+-- The size and the decimals of one of the numbers: no other but noughts has more decimals, what divides all numbers, raised by these, divides the size, and the size is nought only where all are.
 pub record IsFinest (row : List Decimal) (size decimals : ℕ) : Type 0 where
   pub few : decimals ≤ 30
   pub most : All (λ d. (unsigned_abs d.m ≡ 0) ⊎ (d.k ≤ decimals)) row
@@ -20,7 +20,7 @@ IsFiner size decimals d size' decimals' =
     ((size' ≡ size) × (decimals' ≡ decimals) × ((unsigned_abs d.m ≡ 0) ⊎ ((0 < size) × (d.k ≤ decimals))))
     ⊎ ((size' ≡ unsigned_abs d.m) × (decimals' ≡ d.k) × (0 < unsigned_abs d.m) × ((size ≡ 0) ⊎ (decimals < d.k)))
 
--- the row's numbers, whole_number, over the divisor
+-- the row's numbers, raised, over the divisor
 abbrev pub shares : ℕ → ℕ → List Decimal → List ℕ
 shares tens divisor row = map (λ d. whole_number tens d / divisor) row
 

@@ -11,11 +11,11 @@ use Rattle.weight_scale.specs.declared.scaling.ScaleFault.TheVariants.{Negative,
 abbrev pub row_at : {A : Type 0} → ℕ → List A → ℕ → List A
 row_at states cells r = take states (drop (r * states) cells)
 
--- a number whole_number by ten to the power of `tens`: a whole number, where it has no more decimals than that
+-- a number raised by ten to the power of `tens`: a whole number, where it has no more decimals than that
 abbrev pub whole_number : ℕ → Decimal → ℕ
 whole_number tens d = unsigned_abs d.m * 10 ^ (tens - d.k)
 
--- the numbers of row r whole_number to whole numbers by one power of ten: none has more than 30 decimals
+-- the numbers of row r raised to whole numbers by one power of ten: none has more than 30 decimals
 abbrev pub raised_row : ℕ → List Decimal → ℕ → List ℕ
 raised_row states rows r = map (whole_number 30) (row_at states rows r)
 
@@ -57,8 +57,9 @@ NoneNegative rows = (i : ℕ) → i < length rows → pos 0 ≤ℤ number_at row
 abbrev pub NoZeroRow : List Decimal → ℕ → ℕ → Type 0
 NoZeroRow rows states count = (r : ℕ) → r < count → 0 < sum (raised_row states rows r)
 
--- the weights: each reduced row multiplied so that its total is the least common multiple of all totals
+-- the weights: no number is below nought, and each reduced row is multiplied so that its total is the least common multiple of all totals
 pub record IsScaled (rows : List Decimal) (states : ℕ) (scaled : ScaledView) : Type 0 where
+  pub none_negative : NoneNegative rows
   pub reduced : List ℕ
   pub rows_reduced : AreReducedRows rows states reduced
   pub common : IsCommonTotal reduced states (length rows / states) scaled.total

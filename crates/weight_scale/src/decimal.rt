@@ -1,24 +1,21 @@
-ghost use Rattle.std.specs.Prelude.{◌≡◌, ◌<◌, ◌≤◌, ◌-◌, ◌^◌, unsigned_abs};
+//! Decimals: whole numbers over powers of ten.
 
-/// The greatest size of a decimal's number, of a weight and of a common total.
-pub(crate) const GREATEST: u128 = (1 << 126) - 1;
-
-/// The most digits that a decimal has behind the point.
-pub(crate) const MOST_DECIMALS: u128 = 30;
+ghost use Rattle.std.specs.Prelude.{◌≡◌, ◌≤◌, ◌-◌, ◌^◌, unsigned_abs};
+ghost use Rattle.maid_model.specs.declared.limits.TheConstants.{GREATEST_NUMBER, MOST_DECIMALS};
 
 /// The number m / 10^k, where m lies from -(2^126 - 1) to 2^126 - 1 and k is at most 30.
 #[derive(Clone, Copy, Debug, PartialEq, Eq)]
 pub struct Decimal {
     pub m: i128,
     pub k: u32,
-    ghost small: { unsigned_abs m < 2 ^ 126 },
-    ghost few: { k ≤ 30 },
+    ghost small: { unsigned_abs m ≤ GREATEST_NUMBER },
+    ghost few: { k ≤ MOST_DECIMALS },
 }
 
 impl Decimal {
     // The power of ten by which the number is raised when its row is raised by 10^decimals.
     pub(crate) fn tens(self, decimals: u32) -> u128
-        requires { decimals ≤ 30 }
+        requires { decimals ≤ MOST_DECIMALS }
         ensures { result ≡ 10 ^ (decimals - self.k) }
     {
         10u128.pow(decimals.saturating_sub(self.k))

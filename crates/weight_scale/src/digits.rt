@@ -5,7 +5,7 @@ ghost use Rattle.net_lexer.specs.Bytes.{is_digit};
 ghost use Rattle.net_lexer.specs.Numerals.{without_sign};
 ghost use Rattle.weight_scale.specs.Numeral.{front_digits, behind_digits, point_digits, behind_point, is_minus, number_behind, whole_digits, decimal_digits, exponent_of, exponent_size};
 
-use crate::decimal::GREATEST;
+use maid_model::GREATEST_NUMBER;
 
 // How many digits stand at the front.
 fn count_digits(bytes: &[u8]) -> usize
@@ -71,10 +71,10 @@ fn append_digit(number: u128, digit: u8) -> Option<u128>
     requires { is_digit digit ≡ true }
     ensures { SomeIff result (number * 10 + (digit - 48) < 2 ^ 126) (number * 10 + (digit - 48)) }
 {
-    if number > GREATEST / 10 {
+    if number > GREATEST_NUMBER / 10 {
         return None;
     }
-    Some(number * 10 + u128::from(digit - b'0')).filter(|longer| *longer <= GREATEST)
+    Some(number * 10 + u128::from(digit - b'0')).filter(|longer| *longer <= GREATEST_NUMBER)
 }
 
 // The number with more digits behind it, if it isn't too great.

@@ -7,14 +7,17 @@ ghost use Rattle.weight_scale.specs.Significant.{IsSignificand, HasTooManyDigits
 ghost use Rattle.weight_scale.specs.declared.decimal.Decimal.{Decimal};
 
 use crate::Decimal;
-use crate::decimal::{GREATEST, MOST_DECIMALS};
 use crate::digits::{
     append_digits, exponent_size, is_minus, split_numeral, without_trailing_noughts,
 };
+use maid_model::GREATEST_NUMBER;
 use whole_num::mul_within;
 
 // With more tens than these a number exceeds the greatest size.
 const MOST_TENS: u128 = 38;
+
+// The most digits that a decimal has behind the point.
+const MOST_DECIMALS: u128 = maid_model::MOST_DECIMALS as u128;
 
 // The number size * 10^above / 10^below.
 #[derive(Clone, Copy)]
@@ -67,7 +70,7 @@ fn with_tens(minus: bool, size: u128, tens: u128) -> Option<Decimal>
     if tens > MOST_TENS {
         return None;
     }
-    let size = mul_within(size, 10u128.pow(tens as u32), GREATEST)?;
+    let size = mul_within(size, 10u128.pow(tens as u32), GREATEST_NUMBER)?;
     Some(Decimal {
         m: signed(minus, size),
         k: 0,

@@ -7,7 +7,7 @@ ghost use Rattle.std.specs.Option.{SomeIff};
 ghost use Rattle.whole_num.specs.Divisors.{IsGcd};
 ghost use Rattle.maid_model.specs.Diagrams.{greatest_number};
 
-use crate::decimal::GREATEST;
+use maid_model::GREATEST_NUMBER;
 use whole_num::{gcd, mul_within};
 
 // The greatest common divisor of a and size * tens.
@@ -31,8 +31,8 @@ pub(crate) fn divided_product(size: u128, tens: u128, divisor: u128) -> Option<u
     ensures { SomeIff result (size * tens / divisor ≤ greatest_number) (size * tens / divisor) }
 {
     if divisor == 1 {
-        return mul_within(size, tens, GREATEST);
+        return mul_within(size, tens, GREATEST_NUMBER);
     }
     let common = gcd(size, divisor);
-    mul_within(size / common, tens / (divisor / common), GREATEST)
+    mul_within(size / common, tens / (divisor / common), GREATEST_NUMBER)
 }

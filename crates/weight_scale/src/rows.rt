@@ -7,9 +7,10 @@ ghost use Rattle.maid_model.specs.Diagrams.{greatest_number};
 ghost use Rattle.weight_scale.specs.Scaling.{whole_number, row_at, IsGreatestDivisor};
 ghost use Rattle.weight_scale.specs.Rows.{IsFinest, IsFiner, shares, AppendsShares, AppendsReduced, OnWide, IsWideRow};
 
-use crate::decimal::{Decimal, GREATEST};
+use crate::decimal::Decimal;
 use crate::products::{divided_product, gcd_with_product};
 use crate::scaling::ScaleFault;
+use maid_model::GREATEST_NUMBER;
 use std::alloc::AllocError;
 use whole_num::add_within;
 
@@ -92,7 +93,7 @@ fn push_shares(
         let Some(share) = divided_product(number.m.unsigned_abs(), tens, divisor) else {
             return Err(ScaleFault::WideWeight);
         };
-        let Some(longer) = add_within(total, share, GREATEST) else {
+        let Some(longer) = add_within(total, share, GREATEST_NUMBER) else {
             return Err(ScaleFault::WideWeight);
         };
         total = longer;

@@ -5,8 +5,9 @@ ghost use Rattle.maid_model.specs.Tables.{IsTable};
 ghost use Rattle.weight_scale.specs.Scaling.{row_at, IsFirstNegative, NoneNegative, IsFirstZeroRow, NoZeroRow, IsTooWide, IsScaled, IsScaleFault};
 ghost use Rattle.weight_scale.specs.Rows.{ReducesRows, WeighsRows, OnWide};
 
-use crate::decimal::{Decimal, GREATEST};
+use crate::decimal::Decimal;
 use crate::rows::{finest, push_reduced, push_weights, row_at, row_total};
+use maid_model::GREATEST_NUMBER;
 use std::alloc::{AllocError, AllocFailed, Global};
 use std::marker::Model;
 use thiserror::Error;
@@ -109,7 +110,7 @@ fn reduce_rows(alloc: Global, rows: &[Decimal], states: usize) -> Result<Reduced
     let mut total = 1;
     for r in 0..rows.len() / states {
         let added = push_reduced(&mut numbers, row_at(rows, states, r))?;
-        let Some(common) = lcm_within(total, added, GREATEST) else {
+        let Some(common) = lcm_within(total, added, GREATEST_NUMBER) else {
             return Err(ScaleFault::WideWeight);
         };
         total = common;

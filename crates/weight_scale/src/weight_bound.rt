@@ -6,8 +6,7 @@ ghost use Rattle.maid_model.specs.Gains.{greatest_abs, greatest_utility};
 ghost use Rattle.maid_model.specs.Nodes.{node_at, is_utility};
 ghost use Rattle.weight_scale.specs.Bound.{IsBoundPlace};
 
-use crate::decimal::GREATEST;
-use maid_model::{Diagram, Kind};
+use maid_model::{Diagram, GREATEST_NUMBER, Kind};
 use whole_num::{add_within, mul_within};
 
 /// Where the weight bound of a diagram fails: nowhere, first at a node, or at the utilities.
@@ -58,7 +57,7 @@ fn greatest_utility(diagram: &Diagram) -> Option<u128>
 {
     let mut sum = 0;
     for v in 0..diagram.count() {
-        sum = add_within(sum, greatest_at(diagram, v), GREATEST)?;
+        sum = add_within(sum, greatest_at(diagram, v), GREATEST_NUMBER)?;
     }
     Some(sum)
 }
@@ -70,7 +69,7 @@ fn has_room(diagram: &Diagram, product: u128) -> bool
 {
     let scale = 10u128.pow(diagram.decimals());
     match greatest_utility(diagram) {
-        Some(utility) => mul_within(product, scale.max(utility), GREATEST).is_some(),
+        Some(utility) => mul_within(product, scale.max(utility), GREATEST_NUMBER).is_some(),
         None => false,
     }
 }
@@ -83,7 +82,7 @@ pub fn bound(diagram: &Diagram) -> BoundPlace
 {
     let mut product = 1;
     for v in 0..diagram.count() {
-        match mul_within(product, factor(diagram, v), GREATEST) {
+        match mul_within(product, factor(diagram, v), GREATEST_NUMBER) {
             Some(longer) => product = longer,
             None => return BoundPlace::Node(v),
         }

@@ -10,9 +10,9 @@ weigh_rows-requires-clause-multiple c = rw c.deref.ensures.value (total_multiple
 pub returns-clause-ok : goal.returns-clause-ok
 returns-clause-ok c =
     let weighs = rw c.deref.ensures.value at c.in_ok-weights.ensures in
-    scaled c.args.rows.now c.args.states c.requires.states c.requires.whole c.in_ok-reduced.reduced.numbers.items c.in_ok-reduced.reduced.total c.in_ok-reduced.ensures.ok c.in_ok-weights.weights.items c.in_ok-reduced.ensures.small weighs
+    scaled c.args.rows.now c.args.states c.requires.states c.requires.whole c.in_ok-reduced.reduced.numbers.items c.in_ok-reduced.reduced.total c.in_ok-reduced.ensures.ok c.in_default.ensures.none c.in_ok-weights.weights.items c.in_ok-reduced.ensures.small weighs
 
 pub returns-clause-table : goal.returns-clause-table
 returns-clause-table c =
     let weighs = rw c.deref.ensures.value at c.in_ok-weights.ensures in
-    is_table c.args.rows.now c.args.states c.requires.states c.requires.whole _ (scaled c.args.rows.now c.args.states c.requires.states c.requires.whole c.in_ok-reduced.reduced.numbers.items c.in_ok-reduced.reduced.total c.in_ok-reduced.ensures.ok c.in_ok-weights.weights.items c.in_ok-reduced.ensures.small weighs)
+    is_table c.args.rows.now c.args.states c.requires.states c.requires.whole _ (scaled c.args.rows.now c.args.states c.requires.states c.requires.whole c.in_ok-reduced.reduced.numbers.items c.in_ok-reduced.reduced.total c.in_ok-reduced.ensures.ok c.in_default.ensures.none c.in_ok-weights.weights.items c.in_ok-reduced.ensures.small weighs)
