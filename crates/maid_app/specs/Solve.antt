@@ -1,14 +1,12 @@
 -- What `solve` makes of a file's bytes: the report of the diagram's answer, or the first that applies of the text's fault, the relevance cycle, the weight bound and too many worlds.
 use Rattle.std.specs.Prelude.{◌≡◌, ◌<◌, ◌≤◌, ℕ, List}
-use Rattle.maid_model.specs.Answers.{IsAnswer, pure_profile}
-use Rattle.maid_model.specs.Bounds.{KeepsBound, PassesAt, world_count}
-use Rattle.maid_model.specs.declared.limits.TheConstants.{MOST_WORLDS}
+use Rattle.maid_model.specs.Answers.{IsAnswer, KeepsWorth, pure_profile}
+use Rattle.maid_model.specs.Bounds.{KeepsBound, PassesAt, world_count, most_worlds}
 use Rattle.maid_model.specs.Names.{NamesView}
 use Rattle.maid_model.specs.Placing.{HasRelianceOrder, IsRelianceCycle}
 use Rattle.maid_model.specs.Reports.{report}
 use Rattle.maid_model.specs.Subgames.{IsSubgamePerfect, IsOptimal, OwnsAll}
 use Rattle.maid_model.specs.Views.{DiagramView, SolvedView}
-use Rattle.rule_solver.specs.Promised.{KeepsWorth}
 use Rattle.maid_app.specs.Diagrams.{IsDiagramOf}
 use Rattle.maid_app.specs.Faults.{TellsFault}
 use Rattle.maid_app.specs.Lines.{cycle_line, bound_node_line, bound_utilities_line, not_built_line}
@@ -30,7 +28,7 @@ pub record Reports (bytes printed : List ℕ) : Type 0 where
   pub names : NamesView
   pub is_diagram : IsDiagramOf bytes d names
   pub bound : KeepsBound d
-  pub few : world_count d.nodes ≤ MOST_WORLDS
+  pub few : world_count d.nodes ≤ most_worlds
   pub has_report : HasReport d names printed
 
 -- the relevance graph of the diagram has a cycle
@@ -64,7 +62,7 @@ pub record TellsNotBuilt (bytes told : List ℕ) : Type 0 where
   pub is_diagram : IsDiagramOf bytes d names
   pub order : HasRelianceOrder d.nodes
   pub bound : KeepsBound d
-  pub many : MOST_WORLDS < world_count d.nodes
+  pub many : most_worlds < world_count d.nodes
   pub says : told ≡ not_built_line
 
 -- what `solve` makes of the bytes of the file of that name

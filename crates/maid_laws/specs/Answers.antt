@@ -10,16 +10,11 @@ use Rattle.maid_model.specs.Profiles.{IsProfile}
 use Rattle.maid_model.specs.Gains.{gain_at, mass_at}
 use Rattle.maid_model.specs.Relevance.{IsLive, ReliesOn}
 use Rattle.maid_model.specs.Subgames.{IsSubgamePerfect, IsOptimal, OwnsAll}
-use Rattle.maid_model.specs.Answers.{IsAnswer, IsBase, FitsDiagram, IsFraction, HasWorth, pure_profile, rows_at, no_row}
+use Rattle.maid_model.specs.Answers.{IsAnswer, IsBase, FitsDiagram, IsWorthAt, KeepsWorth, answered, answer_at}
+use Rattle.maid_model.specs.Accepted.{IsAccepted}
+use Rattle.maid_model.specs.Placing.{HasRelianceOrder}
+use Rattle.maid_model.specs.Values.{PrintsOptima}
 use Rattle.maid_laws.specs.Exchange.{IsBestInBases}
-
--- The pure profile of the answered choices.
-abbrev pub answered : DiagramView → SolvedView → List RuleView
-answered d solved = pure_profile d.nodes solved.answers
-
--- what is answered at the decision v in a row
-abbrev pub answer_at : SolvedView → ℕ → ℕ → Row
-answer_at solved v row = slice_index_or (rows_at solved.answers v) row no_row
 
 -- at each row of v in which its base has mass, no state has a greater gain against the base than the answered choice
 pub record HasBestChoices (d : DiagramView) (solved : SolvedView) (v : ℕ) : Type 0 where
@@ -49,17 +44,32 @@ AnswersAreOptimal =
     (d : DiagramView) (solved : SolvedView) (agent : ℕ) → IsGraph d.nodes → HasChanceTables d.nodes → IsAnswer d solved → OwnsAll d.nodes agent
     → IsOptimal d.nodes (answered d solved) agent
 
+-- Where one agent owns all decisions, the fraction printed for it is the optimum of the diagram.
+abbrev pub GainsAreOptima : Type 0
+GainsAreOptima = (d : DiagramView) (solved : SolvedView) → IsGraph d.nodes → HasChanceTables d.nodes → IsAnswer d solved → PrintsOptima d solved
+
+-- An answer is an accepted report.
+abbrev pub AnswersAreAccepted : Type 0
+AnswersAreAccepted = (d : DiagramView) (solved : SolvedView) → IsAnswer d solved → IsAccepted d solved
+
+-- A diagram has one answer at most: the order, the choices, the worths and the gains are all settled.
+abbrev pub OneAnswer : Type 0
+OneAnswer =
+    (d : DiagramView) (one other : SolvedView) → IsGraph d.nodes → HasChanceTables d.nodes
+    → IsAnswer d one → IsAnswer d other → one ≡ other
+
+-- Where its decisions have an order of solving it has one.
+abbrev pub AnswerExists : Type 0
+AnswerExists = (d : DiagramView) → IsGraph d.nodes → HasChanceTables d.nodes → HasRelianceOrder d.nodes → (solved : SolvedView) × IsAnswer d solved
+
 -- Where a profile has mass in a row, so has the base of the decision in it, and what a state of a live decision is worth against the base it is worth under the profile itself.
 abbrev pub WorthInBase : Type 0
 WorthInBase =
     (nodes : List NodeView) (s base : List RuleView) (v state row scale : ℕ) (w : Ratio) → IsGraph nodes → HasChanceTables nodes → IsProfile nodes s
     → IsDecision nodes v → IsBase nodes s v base → pos 0 <ℤ mass_at nodes s v row
     → (pos 0 <ℤ mass_at nodes base v row)
-    × (IsLive nodes v → IsFraction w (gain_at nodes base v state row) (nat_abs (mass_at nodes base v row) * scale) → IsFraction w (gain_at nodes s v state row) (nat_abs (mass_at nodes s v row) * scale))
+    × (IsLive nodes v → IsWorthAt nodes scale base v state row w → IsWorthAt nodes scale s v state row w)
 
 -- In a row that the answered profile reaches, the row's worth is the expected utility below the decision under that profile itself.
 abbrev pub WorthUnderTheProfile : Type 0
-WorthUnderTheProfile =
-    (d : DiagramView) (solved : SolvedView) (v row : ℕ) → IsGraph d.nodes → HasChanceTables d.nodes → IsAnswer d solved
-    → IsDecision d.nodes v → IsLive d.nodes v → row < rows_of d.nodes v → pos 0 <ℤ mass_at d.nodes (answered d solved) v row
-    → HasWorth d.nodes d.decimals (answered d solved) v row (answer_at solved v row)
+WorthUnderTheProfile = (d : DiagramView) (solved : SolvedView) → IsGraph d.nodes → HasChanceTables d.nodes → IsAnswer d solved → KeepsWorth d solved

@@ -1,4 +1,4 @@
-ghost use Rattle.maid_laws.specs.Answers.{ChoicesAreBest, AnswersAreBest, AnswersAreSubgamePerfect, AnswersAreOptimal, WorthInBase, WorthUnderTheProfile};
+ghost use Rattle.maid_laws.specs.Answers.{ChoicesAreBest, AnswersAreBest, AnswersAreSubgamePerfect, AnswersAreOptimal, AnswersAreAccepted, GainsAreOptima, WorthInBase, WorthUnderTheProfile};
 
 /// Answered choices that are best against the bases make a profile that is best in its bases: so does an answer, an
 /// accepted report, and a report whose choices still hold at changed numbers.
@@ -15,6 +15,16 @@ pub fn answers_are_subgame_perfect()
 /// Where one agent owns all decisions, no profile is worth more to it than the answered one.
 pub fn answers_are_optimal()
     ensures law { AnswersAreOptimal }
+{}
+
+/// The fraction that is printed for an agent that owns all decisions is the optimum of the diagram.
+pub fn gains_are_optima()
+    ensures law { GainsAreOptima }
+{}
+
+/// An answer is a report that is accepted.
+pub fn answers_are_accepted()
+    ensures law { AnswersAreAccepted }
 {}
 
 /// A row that a profile reaches is worth under the profile itself what it is worth against the base, and so is a row

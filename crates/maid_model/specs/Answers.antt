@@ -8,7 +8,7 @@ use Rattle.maid_model.specs.Nodes.{IsDecision, states_of, rows_of, decisions_of}
 use Rattle.maid_model.specs.Graph.{AllDifferent}
 use Rattle.maid_model.specs.Profiles.{IsProfile, SameRule, pure_rule, uniform_profile}
 use Rattle.maid_model.specs.Gains.{gain_at, mass_at, gain_of, mass}
-use Rattle.maid_model.specs.Relevance.{ReliesOn}
+use Rattle.maid_model.specs.Relevance.{IsLive, ReliesOn}
 use Rattle.maid_model.specs.Placing.{IsRelianceOrder}
 
 -- a reduced fraction: a positive denominator that shares no divisor but 1 with the numerator
@@ -21,11 +21,19 @@ pub record IsFraction (r : Ratio) (num : ℤ) (den : ℕ) : Type 0 where
   pub reduced : IsReduced r
   pub same : r.num *ℤ pos den ≡ num *ℤ pos r.den
 
--- what a row of d says that its choice is worth against the profile: the choice's gain over the row's mass
+-- what a state of d is worth in a row against the profile: the state's gain over the row's mass, where utilities are whole numbers of one part in `scale`
+abbrev pub IsWorthAt : List NodeView → ℕ → List RuleView → ℕ → ℕ → ℕ → Ratio → Type 0
+IsWorthAt nodes scale p d state row w =
+    IsFraction w (gain_at nodes p d state row) (nat_abs (mass_at nodes p d row) * scale)
+
+-- the row of d says what its choice is worth against the profile
 abbrev pub HasWorth : List NodeView → ℕ → List RuleView → ℕ → ℕ → Row → Type 0
 HasWorth nodes decimals p d row r =
-    (w : Ratio) × (r.worth ≡ Some w)
-    × IsFraction w (gain_at nodes p d r.choice row) (nat_abs (mass_at nodes p d row) * 10 ^ decimals)
+    (w : Ratio) × (r.worth ≡ Some w) × IsWorthAt nodes (10 ^ decimals) p d r.choice row w
+
+-- the agent's expected utility under the profile: its gain over the mass, where utilities are whole numbers of one part in `scale`
+abbrev pub IsExpectedUtility : List NodeView → ℕ → List RuleView → ℕ → Ratio → Type 0
+IsExpectedUtility nodes scale p agent r = IsFraction r (gain_of nodes p agent) (mass nodes p * scale)
 
 -- what stands for a row that there is not
 abbrev pub no_row : Row
@@ -39,6 +47,21 @@ rows_at (a ∷ answers) v = if a.decision == v then a.rows else rows_at answers 
 -- the profile of the answered choices: at each decision its pure rule
 abbrev pub pure_profile : List NodeView → List AnswerView → List RuleView
 pure_profile nodes answers = map (λ v. pure_rule nodes v (map (λ r. r.choice) (rows_at answers v))) (decisions_of nodes)
+
+-- the profile of the answered choices of a diagram
+abbrev pub answered : DiagramView → SolvedView → List RuleView
+answered d solved = pure_profile d.nodes solved.answers
+
+-- what is answered at the decision v in a row
+abbrev pub answer_at : SolvedView → ℕ → ℕ → Row
+answer_at solved v row = slice_index_or (rows_at solved.answers v) row no_row
+
+-- In a row of a live decision that the answered profile reaches, the printed worth is that against the profile itself.
+abbrev pub KeepsWorth : DiagramView → SolvedView → Type 0
+KeepsWorth d solved =
+    (v row : ℕ) → IsDecision d.nodes v → IsLive d.nodes v → row < rows_of d.nodes v
+    → pos 0 <ℤ mass_at d.nodes (answered d solved) v row
+    → HasWorth d.nodes d.decimals (answered d solved) v row (answer_at solved v row)
 
 -- The base of d in s: the rules of s at the decisions that d relies on, and uniform rules at all others.
 pub record IsBase (nodes : List NodeView) (s : List RuleView) (d : ℕ) (base : List RuleView) : Type 0 where
@@ -66,7 +89,7 @@ pub record IsAnswerAt (nodes : List NodeView) (decimals : ℕ) (s : List RuleVie
 
 -- what the profile is worth to each agent
 pub record IsGains (d : DiagramView) (s : List RuleView) (gains : List Ratio) : Type 0 where
-  pub each : (agent : ℕ) (r : Ratio) → agent < d.agents → IsFraction (slice_index_or gains agent r) (gain_of d.nodes s agent) (mass d.nodes s * 10 ^ d.decimals)
+  pub each : (agent : ℕ) (r : Ratio) → agent < d.agents → IsExpectedUtility d.nodes (10 ^ d.decimals) s agent (slice_index_or gains agent r)
 
 -- an answer of a decision, with a row for each choice of its parents' states, choices in range and reduced fractions
 pub record FitsAnswer (nodes : List NodeView) (answer : AnswerView) : Type 0 where

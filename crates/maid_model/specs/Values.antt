@@ -1,12 +1,11 @@
 -- The optimum of one agent, and what information and control are worth to it (Everitt et al. 2021).
-use Rattle.std.specs.Prelude.{◌≡◌, ℕ, ◌<◌, ◌*◌, ◌^◌, List, length, pos, ◌+ℤ◌, ◌*ℤ◌}
+use Rattle.std.specs.Prelude.{◌≡◌, ℕ, ◌<◌, ◌*◌, ◌^◌, List, length, slice_index_or, pos, ◌+ℤ◌, ◌*ℤ◌}
 use Rattle.maid_model.specs.declared.answers.Ratio.{Ratio}
 use Rattle.maid_model.specs.declared.diagrams.Kind.TheVariants.{Chance, Utility}
-use Rattle.maid_model.specs.Views.{NodeView, RuleView, AnswerView}
+use Rattle.maid_model.specs.Views.{NodeView, DiagramView, RuleView, AnswerView, SolvedView}
 use Rattle.maid_model.specs.Nodes.{IsDecision, node_at}
 use Rattle.maid_model.specs.Graph.{Arc, Descends, IsGraph}
-use Rattle.maid_model.specs.Gains.{gain_of, mass}
-use Rattle.maid_model.specs.Answers.{IsReduced, IsFraction}
+use Rattle.maid_model.specs.Answers.{IsReduced, IsExpectedUtility}
 use Rattle.maid_model.specs.Subgames.{OwnsAll, IsOptimal}
 use Rattle.maid_model.specs.Edits.{without_arc, with_arc, as_decision, one_agent}
 
@@ -15,7 +14,13 @@ pub record IsOptimum (nodes : List NodeView) (decimals agent : ℕ) (r : Ratio) 
   pub alone : OwnsAll nodes agent
   pub best : List RuleView
   pub optimal : IsOptimal nodes best agent
-  pub worth : IsFraction r (gain_of nodes best agent) (mass nodes best * 10 ^ decimals)
+  pub worth : IsExpectedUtility nodes (10 ^ decimals) best agent r
+
+-- For each agent that owns all decisions the answer prints its optimum.
+abbrev pub PrintsOptima : DiagramView → SolvedView → Type 0
+PrintsOptima d solved =
+    (agent : ℕ) (r : Ratio) → agent < d.agents → OwnsAll d.nodes agent
+    → IsOptimum d.nodes d.decimals agent (slice_index_or solved.gains agent r)
 
 -- the reduced fraction that is a less b
 pub record IsDifference (r a b : Ratio) : Type 0 where

@@ -1,8 +1,7 @@
 -- The masses of profiles, and what they are worth. Only private functions cite it.
 use Rattle.std.specs.Prelude.{◌≡◌, ◌<◌, ◌≤◌, ◌*◌, ◌^◌, ℕ, List, All, length, slice_index_or}
 use Rattle.maid_model.specs.declared.answers.Ratio.{Ratio}
-use Rattle.maid_model.specs.Answers.{IsFraction, IsReduced}
-use Rattle.maid_model.specs.Gains.{gain_of, mass}
+use Rattle.maid_model.specs.Answers.{IsExpectedUtility, IsReduced}
 use Rattle.maid_model.specs.Nodes.{IsDecision, node_at, states_of}
 use Rattle.maid_model.specs.Tables.{chance_total, rule_total, total_by}
 use Rattle.maid_model.specs.Views.{NodeView, DiagramView, RuleView}
@@ -22,5 +21,5 @@ chance_factor_or_one nodes v = total_by (node_at nodes v).kind (chance_total nod
 -- what the profile is worth to each of the first n agents
 pub record HasGains (d : DiagramView) (p : List RuleView) (n : ℕ) (gains : List Ratio) : Type 0 where
   pub count : length gains ≡ n
-  pub each : (agent : ℕ) (r : Ratio) → agent < n → IsFraction (slice_index_or gains agent r) (gain_of d.nodes p agent) (mass d.nodes p * 10 ^ d.decimals)
+  pub each : (agent : ℕ) (r : Ratio) → agent < n → IsExpectedUtility d.nodes (10 ^ d.decimals) p agent (slice_index_or gains agent r)
   pub reduced : All IsReduced gains

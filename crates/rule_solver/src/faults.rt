@@ -14,8 +14,8 @@ pub enum SolveFault {
     #[error("the weight bound is passed at {node:?}")]
     WeightBound { node: Option<usize> },
     /// There are more than 65,536 worlds: so many, or 10 to the power of 18 where that is less.
-    #[error("{leaves} worlds are too many")]
-    NotBuilt { leaves: u128 },
+    #[error("{worlds} worlds are too many")]
+    NotBuilt { worlds: u128 },
     /// Memory ran out, which says nothing of the diagram.
     #[error("out of memory")]
     NoMemory,

@@ -1,6 +1,6 @@
-ghost use Rattle.std.specs.Prelude.{◌≡◌, ◌≤◌, ◌^◌, min, IsOk, IfErr, OnOk};
-ghost use Rattle.maid_model.specs.Bounds.{KeepsBound, stopped, world_count};
+ghost use Rattle.std.specs.Prelude.{◌≡◌, ◌≤◌, IsOk, IfErr, OnOk};
 ghost use Rattle.maid_model.specs.declared.limits.TheConstants.{MOST_WORLDS};
+ghost use Rattle.maid_model.specs.Bounds.{KeepsBound, world_count, stopped};
 ghost use Rattle.maid_model.specs.Diagrams.{IsDiagram};
 ghost use Rattle.maid_model.specs.Placing.{HasRelianceOrder};
 ghost use Rattle.rule_solver.specs.Faults.{IsRefusal};
@@ -10,15 +10,15 @@ use maid_model::{COUNT_END, Diagram, MOST_WORLDS};
 use weight_scale::{BoundPlace, bound};
 
 /// How many worlds the diagram has, or 10 to the power of 18 where that is less.
-fn count_leaves(diagram: &Diagram) -> u128
+fn count_worlds(diagram: &Diagram) -> u128
     ensures world_count { result ≡ stopped (world_count diagram.now.nodes) }
     ensures diagram { IsDiagram diagram.now }
 {
-    let mut leaves: u128 = 1;
+    let mut worlds: u128 = 1;
     for v in 0..diagram.count() {
-        leaves = COUNT_END.min(leaves * diagram.states(v) as u128);
+        worlds = COUNT_END.min(worlds * diagram.states(v) as u128);
     }
-    leaves
+    worlds
 }
 
 /// Refuses a diagram that doesn't keep the weight bound.
@@ -35,16 +35,16 @@ fn keep_bound(diagram: &Diagram) -> Result<(), SolveFault>
 }
 
 /// Refuses a diagram with too many worlds.
-fn keep_leaves(diagram: &Diagram) -> Result<(), SolveFault>
+fn keep_worlds(diagram: &Diagram) -> Result<(), SolveFault>
     requires order { HasRelianceOrder diagram.now.nodes }
     requires bound { KeepsBound diagram.now }
     ensures kept { OnOk result (world_count diagram.now.nodes ≤ MOST_WORLDS) }
     ensures diagram { IsDiagram diagram.now }
     ensures fault { IfErr result (IsRefusal diagram.now) }
 {
-    let leaves = count_leaves(diagram);
-    if leaves > MOST_WORLDS {
-        return Err(SolveFault::NotBuilt { leaves });
+    let worlds = count_worlds(diagram);
+    if worlds > MOST_WORLDS {
+        return Err(SolveFault::NotBuilt { worlds });
     }
     Ok(())
 }
@@ -58,5 +58,5 @@ pub(crate) fn keep_limits(diagram: &Diagram) -> Result<(), SolveFault>
     ensures fault { IfErr result (IsRefusal diagram.now) }
 {
     keep_bound(diagram)?;
-    keep_leaves(diagram)
+    keep_worlds(diagram)
 }

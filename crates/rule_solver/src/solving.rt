@@ -1,19 +1,21 @@
 ghost use Rattle.std.specs.Prelude.{◌≤◌, ℕ, IfOk, IfErr};
-ghost use Rattle.maid_model.specs.Answers.{IsAnswer, pure_profile};
-ghost use Rattle.maid_model.specs.Bounds.{KeepsBound, world_count};
+ghost use Rattle.maid_model.specs.Answers.{IsAnswer, KeepsWorth, answered};
 ghost use Rattle.maid_model.specs.declared.limits.TheConstants.{MOST_WORLDS};
+ghost use Rattle.maid_model.specs.Bounds.{KeepsBound, world_count};
 ghost use Rattle.maid_model.specs.Diagrams.{IsDiagram};
 ghost use Rattle.maid_model.specs.Placing.{IsRelianceOrder};
 ghost use Rattle.maid_model.specs.Subgames.{IsOptimal, IsSubgamePerfect, OwnsAll};
+ghost use Rattle.maid_model.specs.Values.{PrintsOptima};
 ghost use Rattle.relevance_graph.specs.Relevant.{IsRelevance};
 ghost use Rattle.rule_solver.specs.Faults.{Tells};
-ghost use Rattle.rule_solver.specs.Promised.{KeepsWorth};
 
 use crate::SolveFault;
 use crate::answering::answer_all;
 use crate::limits::keep_limits;
 use crate::worths::expected;
-use maid_laws::{answers_are_optimal, answers_are_subgame_perfect, worth_under_the_profile};
+use maid_laws::{
+    answers_are_optimal, answers_are_subgame_perfect, gains_are_optima, worth_under_the_profile,
+};
 use maid_model::{Diagram, Profile, Solved, World};
 use relevance_graph::{Relevance, find_relevance};
 use std::alloc::{AllocError, Global};
@@ -76,14 +78,17 @@ pub fn solve(alloc: Global, diagram: &Diagram) -> Result<Solved, SolveFault>
     // Each refusal says that those before it don't apply.
     ensures fault { IfErr result (Tells diagram.now) }
     // From no subgame start does an agent gain by other rules of its own.
-    ensures subgame_perfect { IfOk result (λ solved. IsSubgamePerfect diagram.now.nodes (pure_profile diagram.now.nodes solved.answers)) }
+    ensures subgame_perfect { IfOk result (λ solved. IsSubgamePerfect diagram.now.nodes (answered diagram.now solved)) }
     // No profile is worth more to an agent that owns all decisions.
-    ensures optimal { IfOk result (λ solved. (agent : ℕ) → OwnsAll diagram.now.nodes agent → IsOptimal diagram.now.nodes (pure_profile diagram.now.nodes solved.answers) agent) }
+    ensures optimal { IfOk result (λ solved. (agent : ℕ) → OwnsAll diagram.now.nodes agent → IsOptimal diagram.now.nodes (answered diagram.now solved) agent) }
+    // So what is printed for such an agent is the optimum of the diagram.
+    ensures optimum { IfOk result (PrintsOptima diagram.now) }
     // In a row that the answered profile reaches, the printed worth is also that under the profile itself.
     ensures worth { IfOk result (KeepsWorth diagram.now) }
 {
     answers_are_subgame_perfect();
     answers_are_optimal();
+    gains_are_optima();
     worth_under_the_profile();
     let relevance = find_relevance(alloc, diagram)?;
     match relevance.order() {

@@ -1,27 +1,32 @@
 use Rattle.std.proofs.Common.{ℕ, sym, subst}
-use Rattle.maid_model.specs.Answers.{pure_profile}
+use Rattle.maid_model.specs.Answers.{KeepsWorth, answered}
 use Rattle.maid_model.specs.Placing.{IsRelianceCycle}
 use Rattle.maid_model.specs.Subgames.{IsOptimal, IsSubgamePerfect, OwnsAll}
+use Rattle.maid_model.specs.Values.{PrintsOptima}
 use Rattle.relevance_graph.specs.Relevant.{IsBlockedBy, IsOutcome}
-use Rattle.rule_solver.specs.Promised.{KeepsWorth}
 use Rattle.rule_solver.proofs.Promises.{both}
 use Rattle.rule_solver.proofs.solving.solve.Goals as goal
 
 -- each law holds of an answer of a diagram
 pub returns-in-Ok-clause-subgame_perfect : goal.returns-in-Ok-clause-subgame_perfect
 returns-in-Ok-clause-subgame_perfect c =
-    both c.args.diagram.now c.solve_ordered.result (λ solved. IsSubgamePerfect c.args.diagram.now.nodes (pure_profile c.args.diagram.now.nodes solved.answers))
+    both c.args.diagram.now c.solve_ordered.result (λ solved. IsSubgamePerfect c.args.diagram.now.nodes (answered c.args.diagram.now solved))
     (λ solved d h. c.answers_are_subgame_perfect.ensures.law c.args.diagram.now solved d.graph d.tables h) c.solve_ordered.ensures.diagram c.solve_ordered.ensures.ok
 
 pub returns-in-Ok-clause-optimal : goal.returns-in-Ok-clause-optimal
 returns-in-Ok-clause-optimal c =
-    both c.args.diagram.now c.solve_ordered.result (λ solved. (agent : ℕ) → OwnsAll c.args.diagram.now.nodes agent → IsOptimal c.args.diagram.now.nodes (pure_profile c.args.diagram.now.nodes solved.answers) agent)
+    both c.args.diagram.now c.solve_ordered.result (λ solved. (agent : ℕ) → OwnsAll c.args.diagram.now.nodes agent → IsOptimal c.args.diagram.now.nodes (answered c.args.diagram.now solved) agent)
     (λ solved d h agent owns. c.answers_are_optimal.ensures.law c.args.diagram.now solved agent d.graph d.tables h owns) c.solve_ordered.ensures.diagram c.solve_ordered.ensures.ok
+
+pub returns-in-Ok-clause-optimum : goal.returns-in-Ok-clause-optimum
+returns-in-Ok-clause-optimum c =
+    both c.args.diagram.now c.solve_ordered.result (PrintsOptima c.args.diagram.now)
+    (λ solved d h. c.gains_are_optima.ensures.law c.args.diagram.now solved d.graph d.tables h) c.solve_ordered.ensures.diagram c.solve_ordered.ensures.ok
 
 pub returns-in-Ok-clause-worth : goal.returns-in-Ok-clause-worth
 returns-in-Ok-clause-worth c =
     both c.args.diagram.now c.solve_ordered.result (KeepsWorth c.args.diagram.now)
-    (λ solved d h v row is live inside mass. c.worth_under_the_profile.ensures.answer c.args.diagram.now solved v row d.graph d.tables h is live inside mass) c.solve_ordered.ensures.diagram c.solve_ordered.ensures.ok
+    (λ solved d h. c.worth_under_the_profile.ensures.answer c.args.diagram.now solved d.graph d.tables h) c.solve_ordered.ensures.diagram c.solve_ordered.ensures.ok
 
 -- the relevance graph tells the cycle, and that there is no order
 pub returns-clause-fault : goal.returns-clause-fault
