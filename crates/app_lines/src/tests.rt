@@ -1,3 +1,5 @@
+//! Places of a text.
+
 use super::*;
 
 #[test]

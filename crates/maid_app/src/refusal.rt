@@ -1,3 +1,5 @@
+//! Why a run writes no text, with its status and its line.
+
 ghost use Rattle.std.specs.Prelude.{◌≡◌};
 ghost use Rattle.maid_app.specs.Refusal.{status_of, line_of};
 

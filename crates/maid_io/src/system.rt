@@ -1,3 +1,5 @@
+//! The files and the writers of the system.
+
 ghost use Rattle.std.specs.Prelude.{None, ◌≡◌, ◌≤◌, OnOk, IsOk};
 ghost use Rattle.std.specs.Io.{ReadsAtMost, WritesAtMost};
 ghost use Rattle.std.specs.Io.KnownBytes.{ReadConsumes, WriteAppends};
