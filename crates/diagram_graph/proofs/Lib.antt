@@ -5,3 +5,4 @@ pub mod Growing
 pub mod Following
 pub mod Orders
 pub mod OneCycle
+pub mod Covering

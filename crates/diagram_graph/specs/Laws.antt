@@ -1,5 +1,5 @@
 -- Laws of the cycles of parents.
-use Rattle.std.specs.Prelude.{◌≡◌, ℕ, List}
+use Rattle.std.specs.Prelude.{◌≡◌, ◌⊎◌, ℕ, ◌<◌, List, length}
 use Rattle.maid_model.specs.Graph.{IsAcyclic}
 use Rattle.diagram_graph.specs.Cycles.{ListedArc, IsParentCycle}
 
@@ -10,3 +10,7 @@ CycleLeadsBack = (lists : List (List ℕ)) (cycle : List ℕ) → IsParentCycle 
 -- lists of parents have one parent cycle at most
 abbrev pub OneCycle : Type 0
 OneCycle = (lists : List (List ℕ)) (cycle other : List ℕ) → IsParentCycle lists cycle → IsParentCycle lists other → cycle ≡ other
+
+-- and where each parent has a list, they have no cycle or a parent cycle
+abbrev pub CycleOrNone : Type 0
+CycleOrNone = (lists : List (List ℕ)) → ((u v : ℕ) → ListedArc lists u v → u < length lists) → IsAcyclic (ListedArc lists) ⊎ ((cycle : List ℕ) × IsParentCycle lists cycle)

@@ -12,7 +12,7 @@ mod placing;
 mod rounds;
 
 pub use cycles::{first_cycle, topological};
-pub use laws::parents_have_one_cycle_at_most;
+pub use laws::{parents_have_a_cycle_or_none, parents_have_one_cycle_at_most};
 pub use needs::Needs;
 pub use paths::{ancestors, descendants};
 pub use placing::{Placing, place_all};

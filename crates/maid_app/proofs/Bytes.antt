@@ -46,10 +46,10 @@ same_tree laws bytes tree other is is' =
 
 -- bytes that stand for a diagram have no fault
 no_fault : Laws → (bytes : List ℕ) (d : DiagramView) (names : NamesView) (at : ℕ) (words : List ℕ) → IsDiagramOf bytes d names → IsTextFault bytes at words → ⊥
-no_fault laws bytes d names at words has (inl is) = laws.tokens_or_fault bytes has.is_tree.tokens is.fault has.is_tree.is_tokens is.is_fault
+no_fault laws bytes d names at words has (inl is) = laws.tokens_or_fault bytes is.fault (has.is_tree.tokens, has.is_tree.is_tokens) is.is_fault
 no_fault laws bytes d names at words has (inr (inl is)) =
     let same = laws.one_list bytes is.token_list has.is_tree.tokens is.is_tokens has.is_tree.is_tokens in
-    laws.tree_or_fault bytes has.is_tree.tokens has.tree is.fault has.is_tree.spells (subst (λ tokens. grammar.IsFault bytes tokens is.fault) same is.is_fault)
+    laws.tree_or_fault bytes has.is_tree.tokens is.fault (has.tree, has.is_tree.spells) (subst (λ tokens. grammar.IsFault bytes tokens is.fault) same is.is_fault)
 no_fault laws bytes d names at words has (inr (inr is)) =
     let same = same_tree laws bytes has.tree is.tree has.is_tree is.is_tree in
     laws.diagram_or_fault bytes is.tree is.fault (subst (λ tree. all_passes bytes tree None) same has.clear) is.is_fault

@@ -5,8 +5,8 @@ ghost use Rattle.maid_model.specs.Names.{NamesFit};
 ghost use Rattle.first_fault.specs.Answers.{IsFaultOrNoMemory};
 ghost use Rattle.net_build.specs.Passes.{build_fault, kind_view, found};
 ghost use Rattle.net_build.specs.Table.{all_passes};
-ghost use Rattle.net_lexer.specs.Pieces.{IsTokens, IsRefusal};
-ghost use Rattle.net_parser.specs.Faults.{Refuses};
+ghost use Rattle.net_lexer.specs.Pieces.{IsTokens, token_pass, lex_fault};
+ghost use Rattle.net_parser.specs.Faults.{tree_pass, parse_fault};
 ghost use Rattle.net_parser.specs.Grammar.{Spells};
 ghost use Rattle.net_parser.specs.Lexemes.{lexemes};
 ghost use Rattle.net_parser.specs.Owned.{IsBlockOf};
@@ -47,7 +47,7 @@ impl Source<'_> {
 
     // The refusal of bytes that have no tokens.
     fn token_refusal(self, alloc: Global, fault: LexFault) -> Refusal
-        requires { IsRefusal self.bytes.now fault }
+        requires { IsFaultOrNoMemory lex_fault (token_pass self.bytes.now) fault }
         ensures { TellsTextFault self.entry.name.now self.entry.bytes.now result }
     {
         match fault {
@@ -61,7 +61,7 @@ impl Source<'_> {
     // The refusal of tokens that spell no tree.
     fn grammar_refusal(self, alloc: Global, tokens: &Tokens, fault: ParseFault) -> Refusal
         requires tokens { IsTokens self.bytes.now tokens.now }
-        requires refuses { Refuses self.bytes.now tokens.now fault }
+        requires refuses { IsFaultOrNoMemory parse_fault (tree_pass self.bytes.now tokens.now) fault }
         ensures { TellsTextFault self.entry.name.now self.entry.bytes.now result }
     {
         match fault {

@@ -39,3 +39,4 @@ pub mod LinkPasses
 pub mod RowDivisors
 pub mod PlainTables
 pub mod NameLemmas
+pub mod Covered

@@ -4,6 +4,7 @@ use Rattle.std.proofs.Math.Bridge.{le_prop}
 use Rattle.std.proofs.Math.Nat.{pow-le-pow_right, mul-pos, eq_of_mul-eq-mul_right}
 use Rattle.std.proofs.lemmas.Int.{ints}
 use Rattle.std.proofs.lemmas.List.{ext_get_or}
+use Rattle.maid_model.specs.Diagrams.{greatest_number}
 use Rattle.weight_scale.specs.declared.decimal.Decimal.{Decimal}
 use Rattle.weight_scale.specs.Numeral.{numerator, denominator, is_minus, exponent_of, exponent_size, decimal_digits, IsLeastDecimalOf}
 use Rattle.net_build.specs.Building.{AreUtilityCells}
@@ -40,16 +41,16 @@ utility_cells_once scale numerals cells others h k =
     (λ i l. scaled_once (get_or numerals i []) scale (get_or cells i (pos 0)) (get_or others i (pos 0)) (h.each i l) (k.each i (subst (λ n. i < n) len l)))
 
 -- decimals of one number and as many decimals are one
-abbrev decimal : (m : ℤ) (k : ℕ) → unsigned_abs m < 2 ^ 126 → k ≤ 30 → Decimal
+abbrev decimal : (m : ℤ) (k : ℕ) → unsigned_abs m ≤ greatest_number → k ≤ 30 → Decimal
 decimal m k small few = record { m = m; k = k; small = small; few = few }
 
-same_number : (m : ℤ) (k : ℕ) (small small' : unsigned_abs m < 2 ^ 126) (few few' : k ≤ 30) → decimal m k small few ≡ decimal m k small' few'
-same_number m k small small' few few' = ap (λ (s : unsigned_abs m < 2 ^ 126). decimal m k s few) (le_prop small small') ∙ ap (λ (f : k ≤ 30). decimal m k small' f) (le_prop few few')
+same_number : (m : ℤ) (k : ℕ) (small small' : unsigned_abs m ≤ greatest_number) (few few' : k ≤ 30) → decimal m k small few ≡ decimal m k small' few'
+same_number m k small small' few few' = ap (λ (s : unsigned_abs m ≤ greatest_number). decimal m k s few) (le_prop small small') ∙ ap (λ (f : k ≤ 30). decimal m k small' f) (le_prop few few')
 
 same_decimal : (d e : Decimal) → d.m ≡ e.m → d.k ≡ e.k → d ≡ e
 same_decimal d e m k =
-    subst (λ (x : ℤ). (small : unsigned_abs x < 2 ^ 126) → d ≡ decimal x e.k small e.few) m
-    (subst (λ (x : ℕ). (few : x ≤ 30) (small : unsigned_abs d.m < 2 ^ 126) → d ≡ decimal d.m x small few) k
+    subst (λ (x : ℤ). (small : unsigned_abs x ≤ greatest_number) → d ≡ decimal x e.k small e.few) m
+    (subst (λ (x : ℕ). (few : x ≤ 30) (small : unsigned_abs d.m ≤ greatest_number) → d ≡ decimal d.m x small few) k
     (λ few small. same_number d.m d.k d.small small d.few few) e.few)
     e.small
 

@@ -63,7 +63,7 @@ le_or_more a b h = omega (arith, h)
 pub unfit_wide : (numeral : List ℕ) (d : Decimal) (scale : ℕ) → IsLeastDecimalOf (numerator numeral) (denominator numeral) d → d.k ≤ scale → (Fits scale d → ⊥) → IsWideValue scale numeral
 unfit_wide numeral d scale is enough unfit = wide_by greatest_number (unsigned_abs d.m) (10 ^ (scale - d.k)) (denominator numeral) (unsigned_abs (numerator numeral)) (10 ^ d.k) (10 ^ scale) (den_positive numeral) (sizes d.m (numerator numeral) (10 ^ d.k) (denominator numeral) is.value) (tens_split d.k scale enough) (le_or_more _ _ unfit)
 
-whole_by : (m num : ℤ) (t den p : ℕ) → m *ℤ pos den ≡ num *ℤ pos p → (m *ℤ pos t) *ℤ pos den ≡ (num *ℤ pos (p * t)) *ℤ pos 1
+pub whole_by : (m num : ℤ) (t den p : ℕ) → m *ℤ pos den ≡ num *ℤ pos p → (m *ℤ pos t) *ℤ pos den ≡ (num *ℤ pos (p * t)) *ℤ pos 1
 whole_by m num t den p e =
     let by = λ (k : ℕ) (a b : ℕ) (q : a ≡ b). ap (λ x. x * k) q in
     let flat : up m * den + down num * p ≡ up num * p + down m * den = omega (arith, ints, e) in
@@ -90,7 +90,7 @@ pub not_whole : (numeral : List ℕ) (d : Decimal) (k : ℕ) → IsLeastDecimalO
 not_whole numeral d k is fewer (x, scaled) =
     let value : x *ℤ pos (denominator numeral) ≡ numerator numeral *ℤ pos (10 ^ k) = one_more x (numerator numeral) (10 ^ k) (denominator numeral) scaled in
     let near : unsigned_abs x ≤ unsigned_abs d.m = smaller_by (unsigned_abs x) (unsigned_abs d.m) (denominator numeral) (unsigned_abs (numerator numeral)) (10 ^ k) (10 ^ (d.k - k)) (den_positive numeral) (tens_positive (d.k - k)) (sizes x (numerator numeral) (10 ^ k) (denominator numeral) value) (sizes d.m (numerator numeral) (10 ^ d.k) (denominator numeral) is.value ∙ ap (λ y. unsigned_abs (numerator numeral) * y) (tens_split k d.k (omega arith))) in
-    let small : unsigned_abs x < 2 ^ 126 = omega (arith, near, d.small) in
+    let small : unsigned_abs x ≤ greatest_number = omega (arith, near, d.small) in
     let few : k ≤ 30 = omega (arith, d.few) in
     let other : Decimal = record { m = x; k = k; small = small; few = few } in
     let least : d.k ≤ k = is.least other value in

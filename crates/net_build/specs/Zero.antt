@@ -1,7 +1,7 @@
 -- The decimal nought.
 use Rattle.std.specs.Prelude.{pos}
-use Rattle.std.proofs.Common.{lit<, lit≤}
+use Rattle.std.proofs.Common.{lit≤}
 use Rattle.weight_scale.specs.declared.decimal.Decimal.{Decimal}
 
 abbrev pub nought : Decimal
-nought = record { m = pos 0; k = 0; small = lit< tt; few = lit≤ tt }
+nought = record { m = pos 0; k = 0; small = lit≤ tt; few = lit≤ tt }

@@ -1,6 +1,6 @@
 //! From a text's tree to its diagram and its names, or to its first fault.
 
-ghost use Rattle.std.specs.Prelude.{◌≡◌, All, length, IfOk};
+ghost use Rattle.std.specs.Prelude.{◌≡◌, length, IfOk};
 ghost use Rattle.maid_model.specs.Diagrams.{IsDiagram};
 ghost use Rattle.maid_model.specs.Names.{NamesFit};
 ghost use Rattle.net_build.specs.Building.{StandsFor};
@@ -14,7 +14,6 @@ ghost use Rattle.net_build.specs.Table.{all_passes};
 ghost use Rattle.net_lexer.specs.Pieces.{IsTokens};
 ghost use Rattle.net_parser.specs.Grammar.{Spells};
 ghost use Rattle.net_parser.specs.Lexemes.{lexemes};
-ghost use Rattle.net_parser.specs.Owned.{IsBlockOf};
 
 use crate::faults::BuildFault;
 use crate::links::{Links, read_links};
@@ -22,7 +21,7 @@ use crate::nodes::{Head, Nodes, read_nodes};
 use crate::tables::{Tables, read_tables};
 use maid_model::{Diagram, Names, Node};
 use net_lexer::Tokens;
-use net_parser::Syntax;
+use net_parser::{Syntax, blocks_stand_in_their_text};
 use smallvec::SmallVec;
 use std::alloc::{AllocError, Global};
 use std::mem;
@@ -95,7 +94,6 @@ pub fn build(
 ) -> Result<(Diagram, Names), BuildFault>
     requires tokens { IsTokens text.now tokens.now }
     requires tree { Spells syntax.now (lexemes text.now tokens.now) }
-    requires blocks { All (IsBlockOf text.now) syntax.now }
     ensures rows { Passes build_fault (all_passes text.now syntax.now) result }
     ensures stands { IfOk result (λ built. StandsFor text.now syntax.now built.0 built.1) }
     ensures diagram { IfOk result (λ built. IsDiagram built.0) }
@@ -103,8 +101,9 @@ pub fn build(
     ensures form { IfOk result (λ built. HasTextForm built.0 built.1) }
     ensures plain { IfOk result (λ built. IsPlain built.0) }
 {
-    // The blocks have all of the tokens that are needed.
+    // The blocks that the tokens spell have all of them that is needed.
     let _ = tokens;
+    blocks_stand_in_their_text();
     let nodes = read_nodes(alloc, text, syntax)?;
     let links = read_links(alloc, text, syntax, &nodes)?;
     let tables = read_tables(alloc, text, syntax, &nodes, &links)?;

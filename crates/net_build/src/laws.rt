@@ -1,14 +1,16 @@
 //! Laws of trees, faults and diagrams, over the definitions alone.
 
-ghost use Rattle.net_build.specs.Laws.{Exclusive, OneDiagram, OneFault};
+ghost use Rattle.net_build.specs.Laws.{NeverUncovered, Exclusive, OneDiagram, OneFault};
 
-use diagram_graph::parents_have_one_cycle_at_most;
+use diagram_graph::{parents_have_a_cycle_or_none, parents_have_one_cycle_at_most};
 use weight_scale::rows_scale_in_one_way;
 
-/// The passes over a tree find nothing or a fault, never both.
+/// The passes over a tree find nothing or a fault, never neither and never both.
 pub fn a_tree_has_a_fault_or_none()
+    ensures covered { NeverUncovered }
     ensures exclusive { Exclusive }
 {
+    parents_have_a_cycle_or_none();
     parents_have_one_cycle_at_most();
 }
 

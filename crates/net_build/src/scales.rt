@@ -1,6 +1,6 @@
 //! Utility values as whole numbers, all to one scale.
 
-ghost use Rattle.std.specs.Prelude.{◌≡◌, ℕ, ◌<◌, ◌≤◌, ◌-◌, ◌*◌, ◌*ℤ◌, ◌^◌, List, All, map, length, pos, true, None, IfOk};
+ghost use Rattle.std.specs.Prelude.{◌≡◌, ◌↔◌, IsTrue, ℕ, ◌<◌, ◌≤◌, ◌-◌, ◌*◌, ◌*ℤ◌, ◌^◌, List, All, map, length, pos, true, None, IfOk};
 ghost use Rattle.std.specs.Option.{SomeIff};
 ghost use Rattle.maid_model.specs.Diagrams.{greatest_number};
 ghost use Rattle.net_build.specs.Blocks.{is_number};
@@ -60,7 +60,7 @@ fn scaled(number: Decimal, scale: u32) -> Option<i128>
 pub fn all_fit(decimals: &[Decimal], scale: u32) -> bool
     requires enough { All (λ d. d.k ≤ scale) decimals.now }
     requires few { scale ≤ 30 }
-    ensures { result ≡ true → All (Fits scale) decimals.now }
+    ensures { IsTrue result ↔ All (Fits scale) decimals.now }
 {
     for decimal in decimals {
         if scaled(*decimal, scale).is_none() {

@@ -1,6 +1,6 @@
 //! The tables of a text: the cells of each node, and the scale of the utilities.
 
-ghost use Rattle.std.specs.Prelude.{◌≡◌, ◌<◌, ◌≤◌, All, Contains, map, length, true, None, IfOk};
+ghost use Rattle.std.specs.Prelude.{◌≡◌, ◌↔◌, IsTrue, ◌<◌, ◌≤◌, All, Contains, map, length, true, None, IfOk};
 ghost use Rattle.maid_model.specs.Nodes.{rows_under};
 ghost use Rattle.net_build.specs.Blocks.{node_blocks};
 ghost use Rattle.net_build.specs.Building.{AreTables};
@@ -114,7 +114,7 @@ fn most_of(drafts: &[Draft]) -> u32
 fn drafts_fit(drafts: &[Draft], scale: u32) -> bool
     requires enough { All (HasAtMost scale) drafts.now }
     requires few { scale ≤ 30 }
-    ensures { result ≡ true → All (FitsDraft scale) drafts.now }
+    ensures { IsTrue result ↔ All (FitsDraft scale) drafts.now }
 {
     for draft in drafts {
         if !all_fit(values(draft), scale) {

@@ -73,7 +73,7 @@ one_fault text fault other is is' =
 
 -- the same pieces can't lead to the end and to a place before it
 pub exclusive : Exclusive
-exclusive text tokens fault is is' =
+exclusive text fault (tokens, is) is' =
     let same = same_way text 0 is.pieces is'.pieces (length text) is'.place is.lead is'.lead (at_end text) (at_fault text is'.place fault is'.found) in
     let within = is'.within in
     omega (arith, same.1)

@@ -1,17 +1,17 @@
 -- Laws of token lists and faults.
-use Rattle.std.specs.Prelude.{◌≡◌, ◌⊎◌, ℕ, ◌≤◌, List, All, AllPairs}
-use Rattle.net_lexer.specs.Pieces.{IsTokens, IsFault}
+use Rattle.std.specs.Prelude.{◌≡◌, ℕ, ◌≤◌, List, All, AllPairs}
+use Rattle.first_fault.specs.Properties.{IsCovered, IsExclusive, HasOneFault}
+use Rattle.net_lexer.specs.Pieces.{IsTokens, token_pass}
 use Rattle.net_lexer.specs.Token.{IsTokenOf}
 use Rattle.net_lexer.specs.declared.tokens.Token.{Token}
-use Rattle.net_lexer.specs.declared.tokens.LexFault.{LexFault}
 
 -- every text has a token list or a fault
 abbrev pub Covered : Type 0
-Covered = (text : List ℕ) → ((tokens : List Token) × IsTokens text tokens) ⊎ ((fault : LexFault) × IsFault text fault)
+Covered = (text : List ℕ) → IsCovered (token_pass text)
 
 -- no text has both a token list and a fault
 abbrev pub Exclusive : Type 0
-Exclusive = (text : List ℕ) (tokens : List Token) (fault : LexFault) → IsTokens text tokens → IsFault text fault → ⊥
+Exclusive = (text : List ℕ) → IsExclusive (token_pass text)
 
 -- a text's token list is the only one
 abbrev pub OneList : Type 0
@@ -19,7 +19,7 @@ OneList = (text : List ℕ) (tokens others : List Token) → IsTokens text token
 
 -- a text's fault is the only one
 abbrev pub OneFault : Type 0
-OneFault = (text : List ℕ) (fault other : LexFault) → IsFault text fault → IsFault text other → fault ≡ other
+OneFault = (text : List ℕ) → HasOneFault (token_pass text)
 
 -- each token of a text's list is a token of the text
 abbrev pub EachToken : Type 0

@@ -1,17 +1,16 @@
 -- A tree of a text's tokens holds tokens of the text.
-use Rattle.std.proofs.Common.{◌≡◌, ◌<◌, ◌-◌, ℕ, Bool, true, false, List, [], ◌∷◌, ◌++◌, ◌⊎◌, inl, inr, refl, sym, subst, ◌∙◌, length, map, arith}
+use Rattle.std.proofs.Common.{◌≡◌, ◌-◌, ℕ, Bool, true, false, List, [], ◌∷◌, ◌++◌, inl, inr, refl, subst, length, arith}
 use Rattle.std.specs.Prelude.{All, codes}
 use Rattle.std.specs.List.{AllByRecursion}
 use Rattle.std.proofs.lemmas.List.Elements.{All-from_recursion, recursion_from_All}
 use Rattle.net_lexer.specs.Token.{IsTokenOf}
 use Rattle.net_lexer.specs.declared.tokens.Token.{Token}
-use Rattle.net_lexer.specs.declared.tokens.TokenKind.{TokenKind}
 use Rattle.net_lexer.specs.declared.tokens.TokenKind.TheVariants as kinds
 use Rattle.net_parser.specs.declared.trees.BlockKind.{BlockKind}
 use Rattle.net_parser.specs.declared.trees.BlockKind.TheVariants.{Net, Node, Decision, Utility, Potential}
 use Rattle.net_parser.specs.Trees.{ValueTree, ValueTrees, leaf, list, none, more, AttributeTree, BlockTree}
 use Rattle.net_parser.specs.Lexemes.{Lexeme, lexeme_of, lexemes, IsMark, IsWord, IsName, is_leaf}
-use Rattle.net_parser.specs.Grammar.{Rule, One, Empty, ◌▹◌, Either, Each, Mark, Word, Name, Value, Values, AttributeName, Attribute, Body, NodeHead, PotentialHead, Head, Block, Text, Spells, Given, is_potential, IsModelName}
+use Rattle.net_parser.specs.Grammar.{Rule, One, Empty, Either, Each, Word, Name, Value, Values, AttributeName, Attribute, Body, NodeHead, Head, Block, Text, Spells, Given, is_potential}
 use Rattle.net_parser.specs.Owned.{leaves, all_leaves, IsLeafOf, IsNameOf, IsAttributeOf, HasNames, IsBlockOf}
 
 append_all : {A : Type 0} (P : A → Type 0) (xs ys : List A) → AllByRecursion P xs → AllByRecursion P ys → AllByRecursion P (xs ++ ys)

@@ -11,7 +11,8 @@ use Rattle.net_parser.specs.declared.parsing.ParseFault.TheVariants as faults
 use Rattle.net_parser.specs.Trees.{BlockTree}
 use Rattle.net_parser.specs.Lexemes.{Lexeme, lexemes, IsMark}
 use Rattle.net_parser.specs.Grammar.{IsModelName, Spells}
-use Rattle.net_parser.specs.Faults.{IsSentence, IsPossible, IsWrong, Stops, IsForeignWord, IsForeignBlock, IsFunction, IsModelAttribute, IsUnsupported, IsDeepList, IsTooDeep, IsUnexpected, StopsAt, IsFault, Refuses, rest_place}
+use Rattle.first_fault.specs.Answers.{IsFaultOrNoMemory}
+use Rattle.net_parser.specs.Faults.{IsSentence, IsPossible, IsWrong, Stops, IsForeignWord, IsForeignBlock, IsFunction, IsModelAttribute, IsUnsupported, IsDeepList, IsTooDeep, IsUnexpected, StopsAt, IsFault, tree_pass, parse_fault, rest_place}
 use Rattle.net_parser.specs.Laws.{Covered, Exclusive, OneFault}
 use Rattle.net_parser.specs.Reading.{Place, start, within, step, stop, stop_at_end, refusal, fault_at, IsStop}
 use Rattle.net_parser.proofs.Places.{Rest, Leads, EndsAt, found, leads_forth, leads_back, symbol_some, finish_place, may_stand, stands, rest_from_none}
@@ -117,10 +118,10 @@ no_stop ls before [] h s = s.wrong (subst IsSentence (s.all ∙ append-nil befor
 no_stop ls before (l ∷ after) h s = s.wrong (after, subst IsSentence (s.all ∙ sym (append_assoc before (l ∷ []) after)) h)
 
 pub exclusive : Exclusive
-exclusive text tokens tree (faults.Unexpected at) spells h = no_stop (lexemes text tokens) h.0 h.1 (tree, spells) h.2
-exclusive text tokens tree (faults.Unsupported at) spells h = no_stop (lexemes text tokens) h.0 h.1 (tree, spells) h.2
-exclusive text tokens tree (faults.TooDeep at) spells h = no_stop (lexemes text tokens) h.0 h.1 (tree, spells) h.2
-exclusive text tokens tree faults.NoMemory spells h = h
+exclusive text tokens (faults.Unexpected at) spelled h = no_stop (lexemes text tokens) h.0 h.1 spelled h.2
+exclusive text tokens (faults.Unsupported at) spelled h = no_stop (lexemes text tokens) h.0 h.1 spelled h.2
+exclusive text tokens (faults.TooDeep at) spelled h = no_stop (lexemes text tokens) h.0 h.1 spelled h.2
+exclusive text tokens faults.NoMemory spelled h = h
 
 -- the front of a possible list is possible
 front : (xs ys : List Lexeme) → IsPossible (xs ++ ys) → IsPossible xs
@@ -197,7 +198,7 @@ one_fault text tokens faults.NoMemory other h k = absurd h
 one_fault text tokens fault faults.NoMemory h k = absurd k
 
 -- what a reader's stop says of the tokens
-pub refused : (text : List ℕ) (tokens : List Token) (why : Stop) (rest : List Lexeme) → IsStop why (stop start (lexemes text tokens)) rest → Refuses text tokens (fault_at why (rest_place (length text) rest))
+pub refused : (text : List ℕ) (tokens : List Token) (why : Stop) (rest : List Lexeme) → IsStop why (stop start (lexemes text tokens)) rest → IsFaultOrNoMemory parse_fault (tree_pass text tokens) (fault_at why (rest_place (length text) rest))
 refused text tokens Unexpected rest e = let s = stopped (lexemes text tokens) Unexpected rest e in is_fault text tokens Unexpected s.0 rest s.1 s.2
 refused text tokens Unsupported rest e = let s = stopped (lexemes text tokens) Unsupported rest e in is_fault text tokens Unsupported s.0 rest s.1 s.2
 refused text tokens TooDeep rest e = let s = stopped (lexemes text tokens) TooDeep rest e in is_fault text tokens TooDeep s.0 rest s.1 s.2

@@ -1,5 +1,6 @@
 -- The first impossible token.
-use Rattle.std.specs.Prelude.{◌≡◌, ◌⊎◌, ℕ, true, List, [], ◌∷◌, ◌++◌, length, codes}
+use Rattle.std.specs.Prelude.{◌≡◌, ◌⊎◌, ℕ, true, List, [], ◌∷◌, ◌++◌, Option, None, Some, length, codes}
+use Rattle.first_fault.specs.Passes.{Pass}
 use Rattle.net_lexer.specs.declared.tokens.Token.{Token}
 use Rattle.net_lexer.specs.declared.tokens.TokenKind.TheVariants.{ParenOpen}
 use Rattle.net_parser.specs.declared.parsing.ParseFault.{ParseFault}
@@ -85,7 +86,12 @@ IsFault text tokens (Unsupported at) = StopsAt text tokens at IsUnsupported
 IsFault text tokens (TooDeep at) = StopsAt text tokens at IsTooDeep
 IsFault text tokens NoMemory = ⊥
 
--- What a refusal says: the fault, or that memory ran out, which says nothing of the text.
-abbrev pub Refuses : List ℕ → List Token → ParseFault → Type 0
-Refuses text tokens NoMemory = Unit {0}
-Refuses text tokens fault = IsFault text tokens fault
+-- The pass over a text's tokens: nothing is found where they spell a tree.
+abbrev pub tree_pass : List ℕ → List Token → Pass ParseFault
+tree_pass text tokens None = (tree : List BlockTree) × Spells tree (lexemes text tokens)
+tree_pass text tokens (Some fault) = IsFault text tokens fault
+
+-- the fault that an error is, or None where memory ran out, which says nothing of the text
+abbrev pub parse_fault : ParseFault → Option ParseFault
+parse_fault NoMemory = None
+parse_fault fault = Some fault

@@ -15,7 +15,7 @@ mod trees;
 mod values;
 mod words;
 
-pub use laws::tokens_read_one_way;
+pub use laws::{blocks_stand_in_their_text, tokens_read_one_way};
 pub use parsing::{ParseFault, parse};
 pub use trees::{Attribute, Block, BlockKind, Syntax, Value};
 

@@ -1,11 +1,12 @@
 //! From tokens to the tree, or to the first impossible token.
 
 ghost use Rattle.std.specs.Prelude.{All, IfOk, IfErr};
+ghost use Rattle.first_fault.specs.Answers.{IsFaultOrNoMemory};
 ghost use Rattle.net_lexer.specs.Pieces.{IsTokens};
 ghost use Rattle.net_parser.specs.Lexemes.{lexemes};
 ghost use Rattle.net_parser.specs.Grammar.{Spells};
 ghost use Rattle.net_parser.specs.Owned.{IsBlockOf};
-ghost use Rattle.net_parser.specs.Faults.{Refuses};
+ghost use Rattle.net_parser.specs.Faults.{tree_pass, parse_fault};
 
 use crate::Syntax;
 use crate::reader::Reader;
@@ -41,7 +42,7 @@ pub fn parse(alloc: Global, text: &[u8], tokens: &Tokens) -> Result<Syntax, Pars
     // Its tokens are those of the text, with as many names as the kind of block asks for.
     ensures blocks { IfOk result (λ syntax. All (IsBlockOf text.now) syntax) }
     // The first impossible token, or the text's end. Want of memory says nothing of the text.
-    ensures fault { IfErr result (Refuses text.now tokens.now) }
+    ensures fault { IfErr result (IsFaultOrNoMemory parse_fault (tree_pass text.now tokens.now)) }
 {
     // Each token has its bytes in the text.
     tokens_stand_in_their_text();

@@ -21,7 +21,7 @@ small_enough n h = omega arith
 -- the decimal with the cell as its number is the value
 pub value_fits : (k : ℕ) (cell : ℤ) → k ≤ 30 → nat_abs cell ≤ greatest_number → IsNumberTooLong (value_text k cell) → ⊥
 value_fits k cell few h long =
-    let small : unsigned_abs cell < 2 ^ 126 = omega (arith, h) in
+    let small : unsigned_abs cell ≤ greatest_number = omega (arith, h) in
     let decimal : Decimal = record { m = cell; k = k; small = small; few = few } in
     long decimal (value_read k cell (small_enough (nat_abs cell) h))
 

@@ -13,6 +13,15 @@ use Rattle.net_build.proofs.Assembly.{made_is, made_stands, made_fit, made_form}
 use Rattle.net_build.proofs.PlainTables.{stands_plain}
 use Rattle.net_build.proofs.building.build.Goals as goal
 
+pub read_nodes-requires : goal.read_nodes-requires
+read_nodes-requires c = c.blocks_stand_in_their_text.ensures.blocks c.args.text.now c.args.tokens.now c.args.syntax.now c.requires.tokens c.requires.tree
+
+pub read_links-requires-clause-blocks : goal.read_links-requires-clause-blocks
+read_links-requires-clause-blocks c = c.blocks_stand_in_their_text.ensures.blocks c.args.text.now c.args.tokens.now c.args.syntax.now c.requires.tokens c.requires.tree
+
+pub read_tables-requires-clause-blocks : goal.read_tables-requires-clause-blocks
+read_tables-requires-clause-blocks c = c.blocks_stand_in_their_text.ensures.blocks c.args.text.now c.args.tokens.now c.args.syntax.now c.requires.tokens c.requires.tree
+
 pub returns-in_err-nodes-clause-rows : goal.returns-in_err-nodes-clause-rows
 returns-in_err-nodes-clause-rows c =
     let p = err_from_is_err_and c.from_residual.result c.from_residual.ensures.1 in
@@ -31,7 +40,7 @@ returns-in_err-tables-clause-rows c =
 pub assemble-requires-clause-diagram : goal.assemble-requires-clause-diagram
 assemble-requires-clause-diagram c =
     rw (c.in_ok-nodes.ensures.nodes, c.in_ok-links.ensures.links)
-    (made_is c.args.text.now c.args.syntax.now c.in_ok-tables.tables c.requires.blocks c.in_ok-nodes.ensures.rows
+    (made_is c.args.text.now c.args.syntax.now c.in_ok-tables.tables (c.blocks_stand_in_their_text.ensures.blocks c.args.text.now c.args.tokens.now c.args.syntax.now c.requires.tokens c.requires.tree) c.in_ok-nodes.ensures.rows
     (rw (c.in_ok-nodes.ensures.nodes, c.in_ok-links.ensures.links) at c.in_ok-links.ensures.fit)
     c.in_ok-tables.ensures.cells
     (rw (c.in_ok-nodes.ensures.nodes, c.in_ok-links.ensures.links) at c.in_ok-tables.ensures.fit)
@@ -46,7 +55,7 @@ returns-clause-stands c =
     let names = c.in_ok-assemble.ensures.names ∙ ap (λ (n : NodeLists). record { nodes = n.names; labels = n.labels; agents = n.agents }) c.in_ok-nodes.ensures.nodes in
     subst (λ (n : NamesView). StandsFor c.args.text.now c.args.syntax.now c.in_ok-assemble.field-0.0 n) (sym names)
     (subst (λ (d : DiagramView). StandsFor c.args.text.now c.args.syntax.now d (names_view c.args.text.now c.args.syntax.now)) (sym diagram)
-    (made_stands c.args.text.now c.args.syntax.now c.in_ok-tables.tables c.requires.blocks c.in_ok-nodes.ensures.rows
+    (made_stands c.args.text.now c.args.syntax.now c.in_ok-tables.tables (c.blocks_stand_in_their_text.ensures.blocks c.args.text.now c.args.tokens.now c.args.syntax.now c.requires.tokens c.requires.tree) c.in_ok-nodes.ensures.rows
     (rw (c.in_ok-nodes.ensures.nodes, c.in_ok-links.ensures.links) at c.in_ok-links.ensures.fit)
     c.in_ok-tables.ensures.cells
     (rw (c.in_ok-nodes.ensures.nodes, c.in_ok-links.ensures.links) at c.in_ok-tables.ensures.fit)
@@ -58,7 +67,7 @@ returns-clause-fit c =
     let names = c.in_ok-assemble.ensures.names ∙ ap (λ (n : NodeLists). record { nodes = n.names; labels = n.labels; agents = n.agents }) c.in_ok-nodes.ensures.nodes in
     subst (λ (n : NamesView). NamesFit c.in_ok-assemble.field-0.0 n) (sym names)
     (subst (λ (d : DiagramView). NamesFit d (names_view c.args.text.now c.args.syntax.now)) (sym diagram)
-    (made_fit c.args.text.now c.args.syntax.now c.in_ok-tables.tables c.requires.blocks c.in_ok-nodes.ensures.rows
+    (made_fit c.args.text.now c.args.syntax.now c.in_ok-tables.tables (c.blocks_stand_in_their_text.ensures.blocks c.args.text.now c.args.tokens.now c.args.syntax.now c.requires.tokens c.requires.tree) c.in_ok-nodes.ensures.rows
     (rw (c.in_ok-nodes.ensures.nodes, c.in_ok-links.ensures.links) at c.in_ok-links.ensures.fit)
     c.in_ok-tables.ensures.cells
     (rw (c.in_ok-nodes.ensures.nodes, c.in_ok-links.ensures.links) at c.in_ok-tables.ensures.fit)
@@ -70,7 +79,7 @@ returns-clause-form c =
     let names = c.in_ok-assemble.ensures.names ∙ ap (λ (n : NodeLists). record { nodes = n.names; labels = n.labels; agents = n.agents }) c.in_ok-nodes.ensures.nodes in
     subst (λ (n : NamesView). HasTextForm c.in_ok-assemble.field-0.0 n) (sym names)
     (subst (λ (d : DiagramView). HasTextForm d (names_view c.args.text.now c.args.syntax.now)) (sym diagram)
-    (made_form c.args.text.now c.args.syntax.now c.in_ok-tables.tables c.requires.blocks c.in_ok-nodes.ensures.rows
+    (made_form c.args.text.now c.args.syntax.now c.in_ok-tables.tables (c.blocks_stand_in_their_text.ensures.blocks c.args.text.now c.args.tokens.now c.args.syntax.now c.requires.tokens c.requires.tree) c.in_ok-nodes.ensures.rows
     (rw (c.in_ok-nodes.ensures.nodes, c.in_ok-links.ensures.links) at c.in_ok-links.ensures.fit)
     c.in_ok-tables.ensures.cells
     (rw (c.in_ok-nodes.ensures.nodes, c.in_ok-links.ensures.links) at c.in_ok-tables.ensures.fit)
@@ -80,13 +89,13 @@ pub returns-clause-plain : goal.returns-clause-plain
 returns-clause-plain c =
     let diagram = c.in_ok-assemble.ensures.diagram ∙ (λ j. made_diagram (c.in_ok-nodes.ensures.nodes j) (c.in_ok-links.ensures.links j) c.in_ok-tables.tables) in
     subst IsPlain (sym diagram)
-    (stands_plain c.args.text.now c.args.syntax.now c.requires.blocks c.in_ok-nodes.ensures.rows c.in_ok-links.ensures.rows.0 (made_diagram (node_lists c.args.text.now (node_blocks c.args.syntax.now)) (link_lists c.args.text.now c.args.syntax.now) c.in_ok-tables.tables) (names_view c.args.text.now c.args.syntax.now)
-    (made_stands c.args.text.now c.args.syntax.now c.in_ok-tables.tables c.requires.blocks c.in_ok-nodes.ensures.rows
+    (stands_plain c.args.text.now c.args.syntax.now (c.blocks_stand_in_their_text.ensures.blocks c.args.text.now c.args.tokens.now c.args.syntax.now c.requires.tokens c.requires.tree) c.in_ok-nodes.ensures.rows c.in_ok-links.ensures.rows.0 (made_diagram (node_lists c.args.text.now (node_blocks c.args.syntax.now)) (link_lists c.args.text.now c.args.syntax.now) c.in_ok-tables.tables) (names_view c.args.text.now c.args.syntax.now)
+    (made_stands c.args.text.now c.args.syntax.now c.in_ok-tables.tables (c.blocks_stand_in_their_text.ensures.blocks c.args.text.now c.args.tokens.now c.args.syntax.now c.requires.tokens c.requires.tree) c.in_ok-nodes.ensures.rows
     (rw (c.in_ok-nodes.ensures.nodes, c.in_ok-links.ensures.links) at c.in_ok-links.ensures.fit)
     c.in_ok-tables.ensures.cells
     (rw (c.in_ok-nodes.ensures.nodes, c.in_ok-links.ensures.links) at c.in_ok-tables.ensures.fit)
     c.in_ok-tables.ensures.few c.in_ok-tables.ensures.scale)
-    (made_is c.args.text.now c.args.syntax.now c.in_ok-tables.tables c.requires.blocks c.in_ok-nodes.ensures.rows
+    (made_is c.args.text.now c.args.syntax.now c.in_ok-tables.tables (c.blocks_stand_in_their_text.ensures.blocks c.args.text.now c.args.tokens.now c.args.syntax.now c.requires.tokens c.requires.tree) c.in_ok-nodes.ensures.rows
     (rw (c.in_ok-nodes.ensures.nodes, c.in_ok-links.ensures.links) at c.in_ok-links.ensures.fit)
     c.in_ok-tables.ensures.cells
     (rw (c.in_ok-nodes.ensures.nodes, c.in_ok-links.ensures.links) at c.in_ok-tables.ensures.fit)

@@ -11,14 +11,14 @@ use Rattle.net_build.proofs.tables.utility_scale.Goals as goal
 
 pub returns-then-drafts_fit-clause-rows : goal.returns-then-drafts_fit-clause-rows
 returns-then-drafts_fit-clause-rows c = scaled_passes c.args.text.now (values_in c.args.text.now c.args.nodes.now c.args.syntax.now) c.most_of-most.result
-    (scale_of_them c.args.text.now c.args.syntax.now c.requires.blocks c.requires.node_rows c.requires.potential_rows c.args.nodes.now c.requires.nodes c.most_of-most.result c.args.drafts.now c.requires.drafts (c.drafts_fit.ensures c.if-drafts_fit.true) c.most_of-most.ensures.reached)
-    (none_wide_of_them c.args.text.now c.args.syntax.now c.requires.blocks c.requires.node_rows c.requires.potential_rows c.args.nodes.now c.requires.nodes c.most_of-most.result c.args.drafts.now c.requires.drafts (c.drafts_fit.ensures c.if-drafts_fit.true))
+    (scale_of_them c.args.text.now c.args.syntax.now c.requires.blocks c.requires.node_rows c.requires.potential_rows c.args.nodes.now c.requires.nodes c.most_of-most.result c.args.drafts.now c.requires.drafts (c.drafts_fit.ensures.0 c.if-drafts_fit.true) c.most_of-most.ensures.reached)
+    (none_wide_of_them c.args.text.now c.args.syntax.now c.requires.blocks c.requires.node_rows c.requires.potential_rows c.args.nodes.now c.requires.nodes c.most_of-most.result c.args.drafts.now c.requires.drafts (c.drafts_fit.ensures.0 c.if-drafts_fit.true))
 
 pub returns-then-drafts_fit-clause-scale : goal.returns-then-drafts_fit-clause-scale
-returns-then-drafts_fit-clause-scale c = scale_of_them c.args.text.now c.args.syntax.now c.requires.blocks c.requires.node_rows c.requires.potential_rows c.args.nodes.now c.requires.nodes c.most_of-most.result c.args.drafts.now c.requires.drafts (c.drafts_fit.ensures c.if-drafts_fit.true) c.most_of-most.ensures.reached
+returns-then-drafts_fit-clause-scale c = scale_of_them c.args.text.now c.args.syntax.now c.requires.blocks c.requires.node_rows c.requires.potential_rows c.args.nodes.now c.requires.nodes c.most_of-most.result c.args.drafts.now c.requires.drafts (c.drafts_fit.ensures.0 c.if-drafts_fit.true) c.most_of-most.ensures.reached
 
 pub returns-then-drafts_fit-clause-narrow : goal.returns-then-drafts_fit-clause-narrow
-returns-then-drafts_fit-clause-narrow c = none_wide_of_them c.args.text.now c.args.syntax.now c.requires.blocks c.requires.node_rows c.requires.potential_rows c.args.nodes.now c.requires.nodes c.most_of-most.result c.args.drafts.now c.requires.drafts (c.drafts_fit.ensures c.if-drafts_fit.true)
+returns-then-drafts_fit-clause-narrow c = none_wide_of_them c.args.text.now c.args.syntax.now c.requires.blocks c.requires.node_rows c.requires.potential_rows c.args.nodes.now c.requires.nodes c.most_of-most.result c.args.drafts.now c.requires.drafts (c.drafts_fit.ensures.0 c.if-drafts_fit.true)
 
 pub scale_of-requires-clause-own : goal.scale_of-requires-clause-own
 scale_of-requires-clause-own c = all_own c.args.text.now c.deref.result.now (tokens_read c.args.text.now c.args.syntax.now c.requires.blocks c.requires.node_rows c.requires.potential_rows c.args.nodes.now (link_lists c.args.text.now c.args.syntax.now) c.requires.nodes refl c.deref.result.now (c.deref.ensures.value ∙ c.in_ok-numbers.ensures) c.requires.table_rows)
