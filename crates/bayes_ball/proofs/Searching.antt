@@ -1,25 +1,26 @@
 -- The closed marks of a search are what active walks reach.
-use Rattle.std.proofs.Common.{◌≡◌, ℕ, zero, suc, ◌<◌, Bool, false, List, [], length, replicate, ◌⊎◌, ◌↔◌, inl, inr, refl, subst, sym, ◌∙◌, arith}
+use Rattle.std.proofs.Common.{◌≡◌, ℕ, ◌<◌, List, [], length, ◌⊎◌, ◌↔◌, inl, inr, refl, subst, sym, ◌∙◌, arith}
 use Rattle.std.specs.Prelude.{Contains}
 use Rattle.std.proofs.lemmas.List.{get_or_past}
-use Rattle.std.proofs.lemmas.Bool.{false≢true}
 use Rattle.maid_model.specs.Views.{NodeView}
 use Rattle.maid_model.specs.Nodes.{no_node}
 use Rattle.maid_model.specs.Graph.{Arc, IsGraph, Here, Along, IsAcyclic}
 use Rattle.maid_model.specs.Relevance.{IsLive}
 use Rattle.maid_model.specs.Walks.{IsReached, IsReachedFromParent}
-use Rattle.bayes_ball.specs.Search.{IsIn, CanStart, IsReachedBy}
+use Rattle.node_sets.specs.declared.sets.NodeSet.{NodeSet}
+use Rattle.node_sets.specs.Sets.{IsIn}
+use Rattle.bayes_ball.specs.Search.{CanStart, IsReachedBy}
 use Rattle.bayes_ball.specs.declared.search.Start.{Start}
 use Rattle.bayes_ball.specs.declared.search.Start.TheVariants.{Node, ParentOf}
 use Rattle.bayes_ball.specs.Flow.{Way, Up, Down, Flows, Begin, Forward, Back, Bounce, IsClosed}
-use Rattle.bayes_ball.specs.Spread.{IsMarked, LiveArc, LeadsUp, StartsAt}
+use Rattle.bayes_ball.specs.Spread.{IsMarked, LiveArc, LeadsUp, StartsAt, node_of}
 use Rattle.bayes_ball.proofs.Turning.{reached_turn}
 use Rattle.bayes_ball.proofs.Walking.{FromNodes, flows_walk, walk_reached, reached_marked, flows_reached_from_parent, reached_marked_from_parent, reached_goes_up, goes_up_reached}
 
 -- the marks that the rules make of the start, in a diagram
-pub record IsSearched (nodes : List NodeView) (given : List Bool) (Start : Way → ℕ → Type 0) (down up : List Bool) : Type 0 where
+pub record IsSearched (nodes : List NodeView) (given : NodeSet) (Start : Way → ℕ → Type 0) (down up : NodeSet) : Type 0 where
   pub graph : IsGraph nodes
-  pub given_len : length given ≡ length nodes
+  pub given_within : (v : ℕ) → IsIn given v → v < length nodes
   pub live : (w : Way) (v : ℕ) → Start w v → IsLive nodes v
   pub starts : (w : Way) (v : ℕ) → Start w v → IsMarked down up w v
   pub sound : (w : Way) (v : ℕ) → IsMarked down up w v → Flows (LiveArc nodes) (IsIn given) Start w v
@@ -45,7 +46,7 @@ swap_marks : {A B : Type 0} → A ⊎ B → B ⊎ A
 swap_marks (inl a) = inr a
 swap_marks (inr b) = inl b
 
-module _ (nodes : List NodeView) (given : List Bool) (Start : Way → ℕ → Type 0) (down up : List Bool) (h : IsSearched nodes given Start down up) where
+module _ (nodes : List NodeView) (given : NodeSet) (Start : Way → ℕ → Type 0) (down up : NodeSet) (h : IsSearched nodes given Start down up) where
   abbrev new : ℕ
   new = length nodes
 
@@ -61,7 +62,7 @@ module _ (nodes : List NodeView) (given : List Bool) (Start : Way → ℕ → Ty
       let l = k.1 in omega arith
 
   new_free : IsIn given new → ⊥
-  new_free m = let e = get_or_past given new false (let l = h.given_len in omega arith) in cc
+  new_free m = let l = h.given_within new m in omega arith
 
   live_old : (v : ℕ) → IsLive nodes v → v ≡ new → ⊥
   live_old v l e = let k = l.within in omega arith
@@ -74,7 +75,7 @@ module _ (nodes : List NodeView) (given : List Bool) (Start : Way → ℕ → Ty
   goes_up_live v (inr m) = marked_live Up v m.1
 
 -- a search from nodes of a set
-module _ (nodes : List NodeView) (given : List Bool) (Start : ℕ → Type 0) (down up : List Bool) (h : IsSearched nodes given (FromNodes Start) down up)
+module _ (nodes : List NodeView) (given : NodeSet) (Start : ℕ → Type 0) (down up : NodeSet) (h : IsSearched nodes given (FromNodes Start) down up)
     (free : (a : ℕ) → Start a → IsIn given a → ⊥) where
   start_live : (a : ℕ) → Start a → IsLive nodes a
   start_live a s = h.live Up a (refl, s)
@@ -111,7 +112,7 @@ module _ (nodes : List NodeView) (given : List Bool) (Start : ℕ → Type 0) (d
       )
 
 -- a search from an extra parent
-pub reached_from_parent : (nodes : List NodeView) (given : List Bool) (x : ℕ) (down up : List Bool) → IsSearched nodes given (λ w v. (w ≡ Down) × (v ≡ x)) down up →
+pub reached_from_parent : (nodes : List NodeView) (given : NodeSet) (x : ℕ) (down up : NodeSet) → IsSearched nodes given (λ w v. (w ≡ Down) × (v ≡ x)) down up →
     (v : ℕ) → v < length nodes → (IsIn down v ⊎ IsIn up v) ↔ IsReachedFromParent (Arc nodes) (IsLive nodes) (IsIn given) (length nodes) x v
 reached_from_parent nodes given x down up h v within =
     let S : Way → ℕ → Type 0 = λ w v. (w ≡ Down) × (v ≡ x) in
@@ -126,26 +127,33 @@ reached_from_parent nodes given x down up h v within =
       (λ r. swap_marks (reached_marked_from_parent (Arc nodes) (IsLive nodes) (IsIn given) f (length nodes) x a b apart c (IsMarked down up) h.closed (h.starts Down x (refl, refl)) v (λ e. omega arith) r)),
     )
 
-module _ (nodes : List NodeView) (given : List Bool) where
+pub same_fact : {A B C : Type 0} → A ↔ B → B ↔ C → A ↔ C
+same_fact f g = ((λ a. g.0 (f.0 a)), (λ c. f.1 (g.1 c)))
+
+module _ (nodes : List NodeView) (given : NodeSet) where
+  pub start_within : (start : Start) → CanStart nodes given start → node_of start < length nodes
+  start_within (Node x) can = can.0.within
+  start_within (ParentOf x) can = can.within
+
   start_live_by : (start : Start) → CanStart nodes given start → (w : Way) (v : ℕ) → StartsAt start w v → IsLive nodes v
   start_live_by (Node x) can w v s = subst (λ y. IsLive nodes y) (sym s.1) can.0
   start_live_by (ParentOf x) can w v s = subst (λ y. IsLive nodes y) (sym s.1) can
 
-  pub searched_by : (start : Start) (down up down' up' : List Bool) → IsGraph nodes → length given ≡ length nodes → CanStart nodes given start →
+  pub searched_by : (start : Start) (down up down' up' : NodeSet) → IsGraph nodes → ((v : ℕ) → IsIn given v → v < length nodes) → CanStart nodes given start →
       ((w : Way) (v : ℕ) → IsMarked down up w v ↔ StartsAt start w v) →
       ((w : Way) (v : ℕ) → IsMarked down up w v → IsMarked down' up' w v) →
       ((w : Way) (v : ℕ) → IsMarked down' up' w v → Flows (LiveArc nodes) (IsIn given) (IsMarked down up) w v) →
       IsClosed (LiveArc nodes) (IsIn given) (IsMarked down' up') → IsSearched nodes given (StartsAt start) down' up'
-  searched_by start down up down' up' graph len can begins kept sound closed = record {
+  searched_by start down up down' up' graph given_known can begins kept sound closed = record {
     graph = graph;
-    given_len = len;
+    given_within = given_known;
     live = start_live_by start can;
     starts = λ w v s. kept w v ((begins w v).1 s);
     sound = λ w v m. flows_start (λ w v m. (begins w v).0 m) (sound w v m);
     closed = closed;
   }
 
-  pub reached_by : (start : Start) (down up : List Bool) → CanStart nodes given start → IsSearched nodes given (StartsAt start) down up →
+  pub reached_by : (start : Start) (down up : NodeSet) → CanStart nodes given start → IsSearched nodes given (StartsAt start) down up →
       (v : ℕ) → v < length nodes → (IsIn down v ⊎ IsIn up v) ↔ IsReachedBy nodes given start v
   reached_by (Node x) down up can h v within =
       let r = reached_from_any nodes given (λ y. y ≡ x) down up h (λ a e. subst (λ y. IsIn given y → ⊥) (sym e) can.1) v in (
@@ -154,7 +162,7 @@ module _ (nodes : List NodeView) (given : List Bool) where
       )
   reached_by (ParentOf x) down up can h v within = reached_from_parent nodes given x down up h v within
 
-  pub parents_reached_by : (start : Start) (down up : List Bool) → CanStart nodes given start → IsSearched nodes given (StartsAt start) down up →
+  pub parents_reached_by : (start : Start) (down up : NodeSet) → CanStart nodes given start → IsSearched nodes given (StartsAt start) down up →
       (u v : ℕ) → start ≡ Node u → v < length nodes → LeadsUp given down up v ↔ IsReachedFromParent (Arc nodes) (IsLive nodes) (IsIn given) (length nodes) v u
   parents_reached_by (Node x) down up can h u v e within =
       let same : x ≡ u = cc in
@@ -164,24 +172,19 @@ module _ (nodes : List NodeView) (given : List Bool) where
       )
   parents_reached_by (ParentOf x) down up can h u v e within = cc
 
--- the marks that are one at each start, and none else
-pub begins_at : (down up starts : List Bool) (n : ℕ) → down ≡ replicate n false → up ≡ starts → (w : Way) (v : ℕ) → IsMarked down up w v ↔ FromNodes (IsIn starts) w v
-begins_at down up starts n e f Up v = ((λ m. (refl, subst (λ (xs : List Bool). IsIn xs v) f m)), (λ h. subst (λ (xs : List Bool). IsIn xs v) (sym f) h.1))
-begins_at down up starts n e f Down v = ((λ m. absurd (none n v (subst (λ (xs : List Bool). IsIn xs v) e m))), (λ h. cc))
-  where
-    none : (n v : ℕ) → IsIn (replicate n false) v → ⊥
-    none zero v m = false≢true m
-    none (suc n) zero m = false≢true m
-    none (suc n) (suc v) m = none n v m
+-- a walk arrives up an arc at each start, and down an arc nowhere
+pub begins_at : (down starts : NodeSet) → ((v : ℕ) → IsIn down v → ⊥) → (w : Way) (v : ℕ) → IsMarked down starts w v ↔ FromNodes (IsIn starts) w v
+begins_at down starts none Up v = ((λ m. (refl, m)), (λ h. h.1))
+begins_at down starts none Down v = ((λ m. absurd (none v m)), (λ h. cc))
 
-pub searched_from_any : (nodes : List NodeView) (given starts down up down' up' : List Bool) → IsGraph nodes → length given ≡ length nodes →
+pub searched_from_any : (nodes : List NodeView) (given starts down up down' up' : NodeSet) → IsGraph nodes → ((v : ℕ) → IsIn given v → v < length nodes) →
     ((u : ℕ) → IsIn starts u → CanStart nodes given (Node u)) → ((w : Way) (v : ℕ) → IsMarked down up w v ↔ FromNodes (IsIn starts) w v) →
     ((w : Way) (v : ℕ) → IsMarked down up w v → IsMarked down' up' w v) →
     ((w : Way) (v : ℕ) → IsMarked down' up' w v → Flows (LiveArc nodes) (IsIn given) (IsMarked down up) w v) →
     IsClosed (LiveArc nodes) (IsIn given) (IsMarked down' up') → IsSearched nodes given (FromNodes (IsIn starts)) down' up'
-searched_from_any nodes given starts down up down' up' graph len can begins kept sound closed = record {
+searched_from_any nodes given starts down up down' up' graph given_known can begins kept sound closed = record {
   graph = graph;
-  given_len = len;
+  given_within = given_known;
   live = λ w v s. (can v s.1).0;
   starts = λ w v s. kept w v ((begins w v).1 s);
   sound = λ w v m. flows_start (λ w v m. (begins w v).0 m) (sound w v m);

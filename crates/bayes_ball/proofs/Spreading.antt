@@ -1,10 +1,13 @@
 -- Steps of a search, one after another.
-use Rattle.std.proofs.Common.{◌≡◌, ℕ, ◌+◌, ◌<◌, ◌≤◌, Bool, true, false, ◌||◌, List, length, ◌⊎◌, ◌↔◌, inl, inr, refl, subst, sym, ◌∙◌, arith}
+use Rattle.std.proofs.Common.{◌≡◌, ℕ, ◌+◌, ◌<◌, ◌≤◌, Bool, true, false, ◌||◌, List, length, take, get_or, ◌⊎◌, ◌↔◌, inl, inr, refl, subst, sym, ◌∙◌, arith}
+use Rattle.std.specs.Prelude.{Contains}
 use Rattle.std.proofs.lemmas.Bool.{cases_eq}
 use Rattle.maid_model.specs.Views.{NodeView}
-use Rattle.bayes_ball.specs.Search.{IsIn}
+use Rattle.node_sets.specs.declared.sets.NodeSet.{NodeSet}
+use Rattle.node_sets.specs.Sets.{IsIn, room, Adds}
+use Rattle.node_sets.proofs.Growing.{first_more}
 use Rattle.bayes_ball.specs.Flow.{Way, Up, Down, Flows, Begin, Forward, Back, Bounce, IsClosed}
-use Rattle.bayes_ball.specs.Spread.{Adds, IsMarked, unmarked, IsSpread, LiveArc, LeadsDown, LeadsUp, HearsAll, TellsAll, ClosedInto}
+use Rattle.bayes_ball.specs.Spread.{IsMarked, IsSpread, LiveArc, LeadsDown, LeadsUp, HearsAll, TellsAll, ClosedInto}
 
 -- what spreads from marks that spread from the start
 pub flows_again : {Arc : ℕ → ℕ → Type 0} {Given : ℕ → Type 0} {Start Next : Way → ℕ → Type 0} {w : Way} {v : ℕ} →
@@ -15,7 +18,7 @@ flows_again s (Back a n f) = Back a n (flows_again s f)
 flows_again s (Bounce a g f) = Bounce a g (flows_again s f)
 
 module _ (Arc : ℕ → ℕ → Type 0) (Given : ℕ → Type 0) where
-  pub spread_weaker : (P Q : List Bool → List Bool → Type 0) (d u d' u' : List Bool) (c : Bool) →
+  pub spread_weaker : (P Q : NodeSet → NodeSet → Type 0) (d u d' u' : NodeSet) (c : Bool) →
       (P d u → Q d u) → IsSpread Arc Given P d u d' u' c → IsSpread Arc Given Q d u d' u' c
   spread_weaker P Q d u d' u' c f h = record {
     kept = h.kept;
@@ -25,7 +28,7 @@ module _ (Arc : ℕ → ℕ → Type 0) (Given : ℕ → Type 0) where
   }
 
   -- nothing changes
-  pub spread_none : (P : List Bool → List Bool → Type 0) (d u : List Bool) → P d u → IsSpread Arc Given P d u d u false
+  pub spread_none : (P : NodeSet → NodeSet → Type 0) (d u : NodeSet) → P d u → IsSpread Arc Given P d u d u false
   spread_none P d u p = record {
     kept = λ w v m. m;
     sound = λ w v m. Begin m;
@@ -33,12 +36,12 @@ module _ (Arc : ℕ → ℕ → Type 0) (Given : ℕ → Type 0) where
     fewer = λ e. cc;
   }
 
-  not_more : (P : List Bool → List Bool → Type 0) (d u d' u' : List Bool) (c : Bool) → IsSpread Arc Given P d u d' u' c →
-      unmarked d' + unmarked u' ≤ unmarked d + unmarked u
+  not_more : (P : NodeSet → NodeSet → Type 0) (d u d' u' : NodeSet) (c : Bool) → IsSpread Arc Given P d u d' u' c →
+      room d' + room u' ≤ room d + room u
   not_more P d u d' u' true h = let l = h.fewer refl in omega arith
-  not_more P d u d' u' false h = let e = h.steady refl in let a : unmarked d' ≡ unmarked d = cc in let b : unmarked u' ≡ unmarked u = cc in omega arith
+  not_more P d u d' u' false h = let e = h.steady refl in let a : room d' ≡ room d = cc in let b : room u' ≡ room u = cc in omega arith
 
-  pub spread_then : (P Q : List Bool → List Bool → Type 0) (d u d' u' d'' u'' : List Bool) (b c : Bool) →
+  pub spread_then : (P Q : NodeSet → NodeSet → Type 0) (d u d' u' d'' u'' : NodeSet) (b c : Bool) →
       IsSpread Arc Given P d u d' u' b → IsSpread Arc Given Q d' u' d'' u'' c →
       IsSpread Arc Given (λ x y. P x y × Q x y) d u d'' u'' (b || c)
   spread_then P Q d u d' u' d'' u'' b c h k = record {
@@ -56,12 +59,12 @@ module _ (Arc : ℕ → ℕ → Type 0) (Given : ℕ → Type 0) where
           (q.0 ∙ p.0, q.1 ∙ p.1, (p.2, subst (λ x. Q x u) p.0 (subst (λ y. Q d' y) p.1 q.2)))
 
       both_fewer : (b c : Bool) → IsSpread Arc Given P d u d' u' b → IsSpread Arc Given Q d' u' d'' u'' c →
-          (b || c) ≡ true → unmarked d'' + unmarked u'' < unmarked d + unmarked u
+          (b || c) ≡ true → room d'' + room u'' < room d + room u
       both_fewer true c h k e = let l = h.fewer refl in let m = not_more Q d' u' d'' u'' c k in omega arith
       both_fewer false c h k e = let l = k.fewer e in let m = not_more P d u d' u' false h in omega arith
 
 -- a new mark of v, down an arc from p
-module _ (Arc : ℕ → ℕ → Type 0) (given down up new : List Bool) (v : ℕ) (f : Bool) where
+module _ (Arc : ℕ → ℕ → Type 0) (given down up new : NodeSet) (v : ℕ) (f : Bool) where
   marked_down : (p : ℕ) → Arc p v → LeadsDown given down up p → ((x : ℕ) → IsIn new x ↔ (IsIn down x ⊎ (x ≡ v))) → (w : Way) (x : ℕ) → IsMarked new up w x → Flows Arc (IsIn given) (IsMarked down up) w x
   marked_down p arc l all Up x m = Begin m
   marked_down p arc l all Down x m = elim ((all x).0 m) as (λ _. Flows Arc (IsIn given) (IsMarked down up) Down x) [
@@ -74,7 +77,7 @@ module _ (Arc : ℕ → ℕ → Type 0) (given down up new : List Bool) (v : ℕ
   kept_down all Up x m = m
   kept_down all Down x m = (all x).1 (inl m)
 
-  pub spread_down : (Done : List Bool → List Bool → Type 0) (p : ℕ) → Arc p v → LeadsDown given down up p → Adds (λ x. x ≡ v) down new f →
+  pub spread_down : (Done : NodeSet → NodeSet → Type 0) (p : ℕ) → Arc p v → LeadsDown given down up p → Adds (λ x. x ≡ v) down new f →
       (IsIn down v → Done down up) → IsSpread Arc (IsIn given) Done down up new up f
   spread_down Done p arc l h done = record {
     kept = kept_down h.all;
@@ -84,7 +87,7 @@ module _ (Arc : ℕ → ℕ → Type 0) (given down up new : List Bool) (v : ℕ
   }
 
 -- new marks of parents of v, up the arcs from v
-module _ (Arc : ℕ → ℕ → Type 0) (given down up new : List Bool) (v : ℕ) (f : Bool) where
+module _ (Arc : ℕ → ℕ → Type 0) (given down up new : NodeSet) (v : ℕ) (f : Bool) where
   marked_up : LeadsUp given down up v → ((x : ℕ) → IsIn new x ↔ (IsIn up x ⊎ Arc x v)) → (w : Way) (x : ℕ) → IsMarked down new w x → Flows Arc (IsIn given) (IsMarked down up) w x
   marked_up l all Down x m = Begin m
   marked_up l all Up x m = elim ((all x).0 m) as (λ _. Flows Arc (IsIn given) (IsMarked down up) Up x) [
@@ -106,7 +109,7 @@ module _ (Arc : ℕ → ℕ → Type 0) (given down up new : List Bool) (v : ℕ
   }
 
 -- marks from which each node hears and tells are closed under the rules
-pub closed_from : (nodes : List NodeView) (given d u : List Bool) → ((v : ℕ) → HearsAll nodes given v d u × TellsAll nodes given v d u) → IsClosed (LiveArc nodes) (IsIn given) (IsMarked d u)
+pub closed_from : (nodes : List NodeView) (given d u : NodeSet) → ((v : ℕ) → HearsAll nodes given v d u × TellsAll nodes given v d u) → IsClosed (LiveArc nodes) (IsIn given) (IsMarked d u)
 closed_from nodes given d u h = record {
   forward = λ w p v a n m. (h v).0 p a (n, either_way w p m);
   back = λ p v a n m. (h v).1 p a (inr (n, m));
@@ -118,7 +121,7 @@ closed_from nodes given d u h = record {
     either_way Down x m = inl m
 
 -- closed into one node more
-pub closed_more : (nodes : List NodeView) (given d u : List Bool) (P : ℕ → Type 0) (v : ℕ) (Q : ℕ → Type 0) → ((x : ℕ) → Q x → (x ≡ v → ⊥) → P x) →
+pub closed_more : (nodes : List NodeView) (given d u : NodeSet) (P : ℕ → Type 0) (v : ℕ) (Q : ℕ → Type 0) → ((x : ℕ) → Q x → (x ≡ v → ⊥) → P x) →
     ClosedInto nodes given P d u → ClosedInto nodes given (λ x. x ≡ v) d u → ClosedInto nodes given Q d u
 closed_more nodes given d u P v Q f h k x q = elim (cases_eq x v) as (λ _. HearsAll nodes given x d u × TellsAll nodes given x d u) [
   | inl e ↦ k x e
@@ -126,7 +129,7 @@ closed_more nodes given d u P v Q f h k x q = elim (cases_eq x v) as (λ _. Hear
 ]
 
 -- a sweep that changes nothing leaves closed marks
-pub closed_after : (nodes : List NodeView) (given d u d' u' : List Bool) (c : Bool) →
+pub closed_after : (nodes : List NodeView) (given d u d' u' : NodeSet) (c : Bool) →
     IsSpread (LiveArc nodes) (IsIn given) (ClosedInto nodes given (λ x. x < length nodes)) d u d' u' c → c ≡ false → IsClosed (LiveArc nodes) (IsIn given) (IsMarked d' u')
 closed_after nodes given d u d' u' c h e =
     let s = h.steady e in
@@ -134,3 +137,11 @@ closed_after nodes given d u d' u' c h e =
       (λ p arc. subst (λ x. LeadsDown given x u' p → IsIn x v) (sym s.0) (subst (λ y. LeadsDown given d y p → IsIn d v) (sym s.1) ((s.2 v arc.2.within).0 p arc))),
       (λ p arc. subst (λ x. LeadsUp given x u' v → IsIn u' p) (sym s.0) (subst (λ y. LeadsUp given d y v → IsIn y p) (sym s.1) ((s.2 v arc.2.within).1 p arc))),
     ))
+
+-- the live ones of one parent more
+pub live_more : (Live : ℕ → Type 0) (list : List ℕ) (i : ℕ) → i < length list → (x : ℕ) →
+    (Contains (take (i + 1) list) x × Live x) ↔ ((Contains (take i list) x × Live x) ⊎ ((x ≡ get_or list i 0) × Live x))
+live_more Live list i within x = (
+  (λ c. elim ((first_more list i x within).0 c.0) as (λ _. (Contains (take i list) x × Live x) ⊎ ((x ≡ get_or list i 0) × Live x)) [ inl t ↦ inl (t, c.1) | inr e ↦ inr (e, c.1) ]),
+  elim [ inl c ↦ ((first_more list i x within).1 (inl c.0), c.1) | inr c ↦ ((first_more list i x within).1 (inr c.0), c.1) ],
+)

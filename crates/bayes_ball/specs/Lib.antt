@@ -1,4 +1,3 @@
 pub mod Search
 pub mod Flow
 pub mod Spread
-pub mod Views

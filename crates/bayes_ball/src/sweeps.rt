@@ -1,61 +1,50 @@
 ghost use Rattle.std.specs.Prelude.{◌≡◌, ℕ, ◌+◌, ◌<◌, ◌⊎◌, ◌↔◌, length, Contains, IsTrue, IsFalse};
 ghost use Rattle.maid_model.specs.Graph.{Arc};
 ghost use Rattle.maid_model.specs.Relevance.{IsLive};
-ghost use Rattle.bayes_ball.specs.Search.{IsIn};
+ghost use Rattle.node_sets.specs.declared.sets.TheConstants.{MOST_NODES};
+ghost use Rattle.node_sets.specs.Sets.{IsIn, Adds, room};
 ghost use Rattle.bayes_ball.specs.Flow.{Way, Flows, IsClosed};
-ghost use Rattle.bayes_ball.specs.Spread.{Adds, LiveArc, Fits, IsMarked, unmarked, LeadsDown, LeadsUp, IsSpread, HearsAll, TellsAll, ClosedInto};
+ghost use Rattle.bayes_ball.specs.Spread.{LiveArc, IsMarked, LeadsDown, LeadsUp, IsSpread, HearsAll, TellsAll, ClosedInto};
 
-use crate::graph::{is_live, parents};
+use crate::graph::is_live;
 use maid_model::Diagram;
+use node_sets::NodeSet;
 
 /// Whether walks that arrived at the node go on down its arcs.
-fn leads_down(v: usize, given: &[bool], down: &[bool], up: &[bool]) -> bool
-    requires given { v < length given.now }
-    requires down { v < length down.now }
-    requires up { v < length up.now }
+fn leads_down(v: usize, given: &NodeSet, down: &NodeSet, up: &NodeSet) -> bool
+    requires { v < MOST_NODES }
     ensures { IsTrue result ↔ LeadsDown given.now down.now up.now v }
 {
-    (down[v] || up[v]) && !given[v]
+    (down.holds(v) || up.holds(v)) && !given.holds(v)
 }
 
 /// Whether walks that arrived at the node go on up the arcs into it.
-fn leads_up(v: usize, given: &[bool], down: &[bool], up: &[bool]) -> bool
-    requires given { v < length given.now }
-    requires down { v < length down.now }
-    requires up { v < length up.now }
+fn leads_up(v: usize, given: &NodeSet, down: &NodeSet, up: &NodeSet) -> bool
+    requires { v < MOST_NODES }
     ensures { IsTrue result ↔ LeadsUp given.now down.now up.now v }
 {
-    if given[v] { down[v] } else { up[v] }
-}
-
-/// Marks the node, and says whether that is new.
-fn mark(marks: &mut [bool], v: usize) -> bool
-    requires { v < length marks.old }
-    ensures { Adds (λ x. x ≡ v) marks.old marks.new result }
-{
-    if marks[v] {
-        return false;
+    if given.holds(v) {
+        down.holds(v)
+    } else {
+        up.holds(v)
     }
-    marks[v] = true;
-    true
 }
 
 /// Marks the node if it is live, and says whether that is new.
-fn mark_live(diagram: &Diagram, v: usize, marks: &mut [bool]) -> bool
+fn mark_live(diagram: &Diagram, v: usize, marks: &mut NodeSet) -> bool
     requires within { v < length diagram.now.nodes }
-    requires marks { length marks.old ≡ length diagram.now.nodes }
+    requires small { v < MOST_NODES }
     ensures { Adds (λ x. (x ≡ v) × IsLive diagram.now.nodes x) marks.old marks.new result }
 {
-    is_live(diagram, v) && mark(marks, v)
+    is_live(diagram, v) && marks.insert(v)
 }
 
 /// Whether walks arrive at the live node from a parent.
-fn hears_parent(diagram: &Diagram, v: usize, given: &[bool], down: &[bool], up: &[bool]) -> bool
-    requires fits { Fits diagram.now.nodes given.now down.now up.now }
+fn hears_parent(diagram: &Diagram, v: usize, given: &NodeSet, down: &NodeSet, up: &NodeSet) -> bool
     requires live { IsLive diagram.now.nodes v }
     ensures { IsTrue result ↔ ((p : ℕ) × LiveArc diagram.now.nodes p v × LeadsDown given.now down.now up.now p) }
 {
-    for p in parents(diagram, v) {
+    for p in diagram.parents(v) {
         if leads_down(*p, given, down, up) && is_live(diagram, *p) {
             return true;
         }
@@ -64,33 +53,32 @@ fn hears_parent(diagram: &Diagram, v: usize, given: &[bool], down: &[bool], up: 
 }
 
 /// Marks the live node where walks arrive at it from a parent.
-fn hear(diagram: &Diagram, v: usize, given: &[bool], down: &mut [bool], up: &[bool]) -> bool
-    requires fits { Fits diagram.now.nodes given.now down.old up.now }
+fn hear(diagram: &Diagram, v: usize, given: &NodeSet, down: &mut NodeSet, up: &NodeSet) -> bool
+    requires small { v < MOST_NODES }
     requires live { IsLive diagram.now.nodes v }
     ensures { IsSpread (LiveArc diagram.now.nodes) (IsIn given.now) (HearsAll diagram.now.nodes given.now v) down.old up.now down.new up.now result }
 {
-    if down[v] {
+    if down.holds(v) {
         return false;
     }
-    hears_parent(diagram, v, given, down, up) && mark(down, v)
+    hears_parent(diagram, v, given, down, up) && down.insert(v)
 }
 
 /// Marks the live parents of a live node, and says whether that is new.
-fn mark_parents(diagram: &Diagram, v: usize, up: &mut [bool]) -> bool
-    requires up { length up.old ≡ length diagram.now.nodes }
+fn mark_parents(diagram: &Diagram, v: usize, up: &mut NodeSet) -> bool
     requires live { IsLive diagram.now.nodes v }
     ensures { Adds (λ x. LiveArc diagram.now.nodes x v) up.old up.new result }
 {
     let mut changed = false;
-    for p in parents(diagram, v) {
+    for p in diagram.parents(v) {
         changed |= mark_live(diagram, *p, up);
     }
     changed
 }
 
 /// Marks the live parents of a live node where walks go on up from it.
-fn tell(diagram: &Diagram, v: usize, given: &[bool], down: &[bool], up: &mut [bool]) -> bool
-    requires fits { Fits diagram.now.nodes given.now down.now up.old }
+fn tell(diagram: &Diagram, v: usize, given: &NodeSet, down: &NodeSet, up: &mut NodeSet) -> bool
+    requires small { v < MOST_NODES }
     requires live { IsLive diagram.now.nodes v }
     ensures { IsSpread (LiveArc diagram.now.nodes) (IsIn given.now) (TellsAll diagram.now.nodes given.now v) down.now up.old down.now up.new result }
 {
@@ -98,8 +86,8 @@ fn tell(diagram: &Diagram, v: usize, given: &[bool], down: &[bool], up: &mut [bo
 }
 
 /// Follows each arc into the node in both directions.
-fn visit(diagram: &Diagram, v: usize, given: &[bool], down: &mut [bool], up: &mut [bool]) -> bool
-    requires fits { Fits diagram.now.nodes given.now down.old up.old }
+fn visit(diagram: &Diagram, v: usize, given: &NodeSet, down: &mut NodeSet, up: &mut NodeSet) -> bool
+    requires small { v < MOST_NODES }
     requires within { v < length diagram.now.nodes }
     ensures { IsSpread (LiveArc diagram.now.nodes) (IsIn given.now) (ClosedInto diagram.now.nodes given.now (λ x. x ≡ v)) down.old up.old down.new up.new result }
 {
@@ -112,8 +100,7 @@ fn visit(diagram: &Diagram, v: usize, given: &[bool], down: &mut [bool], up: &mu
 }
 
 /// Follows every arc once, nodes from first to last.
-fn sweep_on(diagram: &Diagram, given: &[bool], down: &mut [bool], up: &mut [bool]) -> bool
-    requires fits { Fits diagram.now.nodes given.now down.old up.old }
+fn sweep_on(diagram: &Diagram, given: &NodeSet, down: &mut NodeSet, up: &mut NodeSet) -> bool
     ensures { IsSpread (LiveArc diagram.now.nodes) (IsIn given.now) (ClosedInto diagram.now.nodes given.now (λ x. x < length diagram.now.nodes)) down.old up.old down.new up.new result }
 {
     let mut changed = false;
@@ -124,8 +111,7 @@ fn sweep_on(diagram: &Diagram, given: &[bool], down: &mut [bool], up: &mut [bool
 }
 
 /// Follows every arc once, nodes from last to first.
-fn sweep_back(diagram: &Diagram, given: &[bool], down: &mut [bool], up: &mut [bool]) -> bool
-    requires fits { Fits diagram.now.nodes given.now down.old up.old }
+fn sweep_back(diagram: &Diagram, given: &NodeSet, down: &mut NodeSet, up: &mut NodeSet) -> bool
     ensures { IsSpread (LiveArc diagram.now.nodes) (IsIn given.now) (ClosedInto diagram.now.nodes given.now (λ x. x < length diagram.now.nodes)) down.old up.old down.new up.new result }
 {
     let mut changed = false;
@@ -136,19 +122,17 @@ fn sweep_back(diagram: &Diagram, given: &[bool], down: &mut [bool], up: &mut [bo
 }
 
 /// Sweeps back and on. It says whether there can be more to follow.
-fn sweep_twice(diagram: &Diagram, given: &[bool], down: &mut [bool], up: &mut [bool]) -> bool
-    requires fits { Fits diagram.now.nodes given.now down.old up.old }
+fn sweep_twice(diagram: &Diagram, given: &NodeSet, down: &mut NodeSet, up: &mut NodeSet) -> bool
     ensures kept { (w : Way) (v : ℕ) → IsMarked down.old up.old w v → IsMarked down.new up.new w v }
     ensures sound { (w : Way) (v : ℕ) → IsMarked down.new up.new w v → Flows (LiveArc diagram.now.nodes) (IsIn given.now) (IsMarked down.old up.old) w v }
-    ensures fewer { IsTrue result → unmarked down.new + unmarked up.new < unmarked down.old + unmarked up.old }
+    ensures fewer { IsTrue result → room down.new + room up.new < room down.old + room up.old }
     ensures closed { IsFalse result → IsClosed (LiveArc diagram.now.nodes) (IsIn given.now) (IsMarked down.new up.new) }
 {
     sweep_back(diagram, given, down, up) && sweep_on(diagram, given, down, up)
 }
 
 /// Adds the marks to which walks go on from those that are there.
-pub fn close(diagram: &Diagram, given: &[bool], down: &mut [bool], up: &mut [bool])
-    requires fits { Fits diagram.now.nodes given.now down.old up.old }
+pub fn close(diagram: &Diagram, given: &NodeSet, down: &mut NodeSet, up: &mut NodeSet)
     ensures kept { (w : Way) (v : ℕ) → IsMarked down.old up.old w v → IsMarked down.new up.new w v }
     ensures sound { (w : Way) (v : ℕ) → IsMarked down.new up.new w v → Flows (LiveArc diagram.now.nodes) (IsIn given.now) (IsMarked down.old up.old) w v }
     ensures closed { IsClosed (LiveArc diagram.now.nodes) (IsIn given.now) (IsMarked down.new up.new) }

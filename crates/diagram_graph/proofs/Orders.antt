@@ -13,7 +13,7 @@ use Rattle.diagram_graph.specs.Rounds.{IsFirstCycle, IsRingOfNeeds}
 use Rattle.diagram_graph.proofs.Placings.{least_same}
 use Rattle.diagram_graph.proofs.Trails.{round_same}
 use Rattle.diagram_graph.proofs.Rings.{order_acyclic, ring_descends}
-use Rattle.diagram_graph.proofs.Following.{path_turn}
+use Rattle.node_sets.proofs.Turning.{path_turn}
 
 -- all are in the set
 pub all_in : (n : ℕ) (marks : List Bool) → marks ≡ replicate n true → (v : ℕ) → IsIn marks v ↔ (v < n)

@@ -3,5 +3,4 @@ pub mod Free
 pub mod Rounds
 pub mod Placed
 pub mod Cycles
-pub mod Paths
 pub mod Laws

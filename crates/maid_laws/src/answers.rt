@@ -1,4 +1,4 @@
-ghost use Rattle.maid_laws.specs.Answers.{ChoicesAreBest, AnswersAreBest, AnswersAreSubgamePerfect, AnswersAreOptimal, AnswersAreAccepted, GainsAreOptima, WorthInBase, WorthUnderTheProfile};
+ghost use Rattle.maid_laws.specs.Answers.{ChoicesAreBest, AnswersAreBest, AnswersAreSubgamePerfect, AnswersAreOptimal, AnswersAreAccepted, GainsAreOptima, OneAnswer, AnswerExists, WorthInBase, WorthUnderTheProfile};
 
 /// Answered choices that are best against the bases make a profile that is best in its bases: so does an answer, an
 /// accepted report, and a report whose choices still hold at changed numbers.
@@ -25,6 +25,12 @@ pub fn gains_are_optima()
 /// An answer is a report that is accepted.
 pub fn answers_are_accepted()
     ensures law { AnswersAreAccepted }
+{}
+
+/// A diagram whose decisions have an order of solving has an answer, and no diagram has two.
+pub fn one_answer()
+    ensures exists { AnswerExists }
+    ensures one { OneAnswer }
 {}
 
 /// A row that a profile reaches is worth under the profile itself what it is worth against the base, and so is a row

@@ -12,7 +12,9 @@ use Rattle.maid_model.specs.Diagrams.{IsDiagram, greatest_number}
 use Rattle.maid_model.specs.Gains.{weight_without, utility_below, value_below, is_at, gain_at, mass_at, base_mass, greatest_utility, sum_worlds}
 use Rattle.maid_model.specs.Graph.{descends}
 use Rattle.maid_model.specs.Nodes.{node_at, states_of, rows_of, counts_of, numbers_of, is_utility_of}
-use Rattle.maid_model.specs.Private.{is_marked, marked_value, marked_utility, MarksUtilities}
+use Rattle.node_sets.specs.declared.sets.NodeSet.{NodeSet}
+use Rattle.node_sets.specs.Sets.{holds}
+use Rattle.maid_model.specs.Private.{marked_value, marked_utility, MarksUtilities}
 use Rattle.maid_model.specs.Profiles.{IsProfile}
 use Rattle.maid_model.specs.Sums.{World, InRange}
 use Rattle.maid_model.specs.Tables.{row_of}
@@ -26,7 +28,7 @@ use Rattle.maid_model.proofs.Picked.{world_in_range, world_length}
 use Rattle.maid_model.proofs.Tables.{row_of-below, step_below}
 
 -- marks of the utilities below the decision
-pub below_is : (nodes : List NodeView) (marks : List Bool) (d : ℕ) (w : World) → ((v : ℕ) → v < length nodes → is_marked marks v ≡ (descends nodes d v && is_utility_of nodes (node_at nodes d).owner v)) → marked_utility nodes marks w ≡ utility_below nodes d w
+pub below_is : (nodes : List NodeView) (marks : NodeSet) (d : ℕ) (w : World) → ((v : ℕ) → v < length nodes → holds marks v ≡ (descends nodes d v && is_utility_of nodes (node_at nodes d).owner v)) → marked_utility nodes marks w ≡ utility_below nodes d w
 below_is nodes marks d w h =
     sum_each_cong (λ v. marked_value nodes marks v w) (λ v. value_below nodes d v w) (numbers_of nodes)
     (λ v m. ap (λ b. cond b (slice_index_or (node_at nodes v).cells (row_of nodes v w) (pos 0)) (pos 0)) (h v (inside (length nodes) v m))
@@ -37,13 +39,13 @@ below_is nodes marks d w h =
     both false b x = refl
 
 -- what a listed world adds to a cell of the gains, and to a row of the masses
-abbrev pub gain_term : List NodeView → List RuleView → ℕ → List Bool → ℕ → ℕ → List ℕ → ℤ
+abbrev pub gain_term : List NodeView → List RuleView → ℕ → NodeSet → ℕ → ℕ → List ℕ → ℤ
 gain_term nodes p d marks row s ys = cond (is_at nodes d s row (world_of ys)) (weight_in nodes p d ys *ℤ marked_utility nodes marks (world_of ys)) (pos 0)
 
 abbrev pub mass_term : List NodeView → List RuleView → ℕ → ℕ → List ℕ → ℤ
 mass_term nodes p d row ys = cond (is_at nodes d 0 row (world_of ys)) (weight_in nodes p d ys) (pos 0)
 
-pub record BaseSoFar (nodes : List NodeView) (p : List RuleView) (d : ℕ) (marks : List Bool) (gains : List ℤ) (masses : List ℕ) (xs : List ℕ) : Type 0 where
+pub record BaseSoFar (nodes : List NodeView) (p : List RuleView) (d : ℕ) (marks : NodeSet) (gains : List ℤ) (masses : List ℕ) (xs : List ℕ) : Type 0 where
   pub world : IsWorld (counts_of nodes) xs
   pub gains_len : length gains ≡ rows_of nodes d * states_of nodes d
   pub masses_len : length masses ≡ rows_of nodes d
@@ -61,8 +63,8 @@ digits r s x y c h k e = (sym (div-mul-add r c x h) ∙ ap (λ n. n / c) e ∙ d
 pub state_read : (nodes : List NodeView) (items xs : List ℕ) (v st : ℕ) → IsWorld (counts_of nodes) xs → v < length nodes → items ≡ xs → st ≡ slice_index_or items v st → st ≡ world_of xs v
 state_read nodes items xs v st w l e r = r ∙ ap (λ ys. slice_index_or ys v st) e ∙ get_or_default xs v st 0 (let n : length xs ≡ length nodes = world_length nodes xs w in omega arith)
 
-module _ (d : DiagramView) (is : IsDiagram d) (p : List RuleView) (prof : IsProfile d.nodes p) (v : ℕ) (marks : List Bool) (utilities : MarksUtilities d.nodes marks)
-    (marks_are : (u : ℕ) → u < length d.nodes → is_marked marks u ≡ (descends d.nodes v u && is_utility_of d.nodes (node_at d.nodes v).owner u)) where
+module _ (d : DiagramView) (is : IsDiagram d) (p : List RuleView) (prof : IsProfile d.nodes p) (v : ℕ) (marks : NodeSet) (utilities : MarksUtilities d.nodes marks)
+    (marks_are : (u : ℕ) → u < length d.nodes → holds marks u ≡ (descends d.nodes v u && is_utility_of d.nodes (node_at d.nodes v).owner u)) where
   -- ---- the start
   zeros_at : (n i : ℕ) → slice_index_or (replicate n (pos 0)) i (pos 0) ≡ pos 0
   zeros_at zero i = refl

@@ -1,5 +1,5 @@
 -- The sum over all worlds of the weight times an agent's utilities.
-use Rattle.std.proofs.Common.{◌≡◌, ◌∙◌, ◌⊎◌, ℕ, ◌+◌, ◌*◌, ◌^◌, ◌<◌, ◌≤◌, Bool, true, false, cond, eqb, List, [], ◌∷◌, max, length, refl, sym, ap, subst, inl, inr, arith, ℤ, pos, ◌+ℤ◌, ◌*ℤ◌, nat_abs, slice_index_or}
+use Rattle.std.proofs.Common.{◌≡◌, ◌∙◌, ◌⊎◌, ℕ, ◌+◌, ◌*◌, ◌^◌, ◌<◌, ◌≤◌, true, false, cond, eqb, List, [], ◌∷◌, max, length, refl, sym, ap, subst, inl, inr, arith, ℤ, pos, ◌+ℤ◌, ◌*ℤ◌, nat_abs, slice_index_or}
 use Rattle.std.proofs.lemmas.Int.{unsigned_abs-mul, to_z-of_z, fits_signed_from_abs}
 use Rattle.std.proofs.Math.IntN.{+ℤ_assoc, +ℤ_idr, +ℤ_idl}
 use Rattle.std.proofs.Math.Nat.{mul-le-mul_left}
@@ -11,7 +11,9 @@ use mir.Val.{to_z, of_z}
 use Rattle.maid_model.specs.Diagrams.{IsDiagram, greatest_number}
 use Rattle.maid_model.specs.Gains.{weight, weight_without, utility, value_for, mass, base_mass, base_total, gain_of, greatest_utility, sum_worlds}
 use Rattle.maid_model.specs.Nodes.{node_at, states_of, numbers_of, counts_of, is_utility_of}
-use Rattle.maid_model.specs.Private.{is_marked, marked_value, marked_utility, MarksUtilities}
+use Rattle.node_sets.specs.declared.sets.NodeSet.{NodeSet}
+use Rattle.node_sets.specs.Sets.{holds}
+use Rattle.maid_model.specs.Private.{marked_value, marked_utility, MarksUtilities}
 use Rattle.maid_model.specs.Profiles.{IsProfile}
 use Rattle.maid_model.specs.Sums.{World, sum_each, nat_sum_over, nat_product_over}
 use Rattle.maid_model.specs.Tables.{row_of, table, weight_total}
@@ -40,10 +42,10 @@ sum_each_le f t (v ∷ vs) h = go (nat_abs (f v +ℤ sum_each f vs)) (nat_abs (f
 pub inside : (n v : ℕ) → Among v (range_with_len 0 n) → v < n
 inside n v m = let l : v < 0 + n = (range_within 0 n v m).1 in omega arith
 
-pub marked_le : (nodes : List NodeView) (marks : List Bool) (w : World) → MarksUtilities nodes marks → nat_abs (marked_utility nodes marks w) ≤ greatest_utility nodes
-marked_le nodes marks w m = sum_each_le (values nodes marks w) (greatest_at nodes) (numbers_of nodes) (λ v k. go v (inside (length nodes) v k) (true_or_false (is_marked marks v)))
+pub marked_le : (nodes : List NodeView) (marks : NodeSet) (w : World) → MarksUtilities nodes marks → nat_abs (marked_utility nodes marks w) ≤ greatest_utility nodes
+marked_le nodes marks w m = sum_each_le (values nodes marks w) (greatest_at nodes) (numbers_of nodes) (λ v k. go v (inside (length nodes) v k) (true_or_false (holds marks v)))
   where
-    go : (v : ℕ) → v < length nodes → (is_marked marks v ≡ true) ⊎ (is_marked marks v ≡ false) → nat_abs (values nodes marks w v) ≤ greatest_at nodes v
+    go : (v : ℕ) → v < length nodes → (holds marks v ≡ true) ⊎ (holds marks v ≡ false) → nat_abs (values nodes marks w v) ≤ greatest_at nodes v
     go v l (inl e) = value_le nodes marks w v m l e
     go v l (inr e) = subst (λ b. nat_abs (cond b (slice_index_or (node_at nodes v).cells (row_of nodes v w) (pos 0)) (pos 0)) ≤ greatest_at nodes v) (sym e) (omega arith)
 
@@ -61,25 +63,25 @@ whole_mass nodes p = go (range_with_len 0 (length nodes)) (λ v m. inside (lengt
     go (v ∷ vs) h = λ i. cond (eqb_no v (length nodes) (λ e. let l : v < length nodes = h v (inl refl) in absurd (omega arith)) i) (states_of nodes (length nodes)) (weight_total nodes p v) * go vs (λ u m. h u (inr m)) i
 
 -- marks of the agent's utilities
-pub marked_is : (nodes : List NodeView) (marks : List Bool) (agent : ℕ) (w : World) → ((v : ℕ) → v < length nodes → is_marked marks v ≡ is_utility_of nodes agent v) → marked_utility nodes marks w ≡ utility nodes agent w
+pub marked_is : (nodes : List NodeView) (marks : NodeSet) (agent : ℕ) (w : World) → ((v : ℕ) → v < length nodes → holds marks v ≡ is_utility_of nodes agent v) → marked_utility nodes marks w ≡ utility nodes agent w
 marked_is nodes marks agent w h =
     sum_each_cong (λ v. marked_value nodes marks v w) (λ v. value_for nodes agent v w) (numbers_of nodes)
     (λ v m. ap (λ b. cond b (slice_index_or (node_at nodes v).cells (row_of nodes v w) (pos 0)) (pos 0)) (h v (inside (length nodes) v m)))
 
 -- ---- world by world
 -- what a listed world adds
-abbrev pub gain_in : List NodeView → List RuleView → List Bool → List ℕ → ℤ
+abbrev pub gain_in : List NodeView → List RuleView → NodeSet → List ℕ → ℤ
 gain_in nodes p marks ys = weight_in nodes p (length nodes) ys *ℤ marked_utility nodes marks (world_of ys)
 
-pub record LeavesSoFar (nodes : List NodeView) (p : List RuleView) (agent : ℕ) (marks : List Bool) (sum : ℤ) (xs : List ℕ) : Type 0 where
+pub record LeavesSoFar (nodes : List NodeView) (p : List RuleView) (agent : ℕ) (marks : NodeSet) (sum : ℤ) (xs : List ℕ) : Type 0 where
   pub world : IsWorld (counts_of nodes) xs
   pub value : sum +ℤ sum_list (gain_in nodes p marks) (worlds_from (counts_of nodes) xs) ≡ gain_of nodes p agent
   pub m : ℕ
   pub bound : nat_abs sum ≤ m * greatest_utility nodes
   pub mass : MassSoFar nodes p (length nodes) m xs
 
-module _ (d : DiagramView) (is : IsDiagram d) (p : List RuleView) (prof : IsProfile d.nodes p) (agent : ℕ) (marks : List Bool) (utilities : MarksUtilities d.nodes marks)
-    (marks_are : (v : ℕ) → v < length d.nodes → is_marked marks v ≡ is_utility_of d.nodes agent v) where
+module _ (d : DiagramView) (is : IsDiagram d) (p : List RuleView) (prof : IsProfile d.nodes p) (agent : ℕ) (marks : NodeSet) (utilities : MarksUtilities d.nodes marks)
+    (marks_are : (v : ℕ) → v < length d.nodes → holds marks v ≡ is_utility_of d.nodes agent v) where
   pub leaves_start : (xs : List ℕ) → xs ≡ first_world (length d.nodes) → LeavesSoFar d.nodes p agent marks (pos 0) xs
   leaves_start xs e = record {
     world = subst (IsWorld (counts_of d.nodes)) (sym e) (first_is_world d.nodes is.graph.has_state);

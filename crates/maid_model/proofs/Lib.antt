@@ -15,11 +15,11 @@ pub mod Uniform
 pub mod Pure
 pub mod Counts
 pub mod Descent
+pub mod Below
 pub mod Ordering
 pub mod Listing
 pub mod Picked
 pub mod Weighing
-pub mod Marking
 pub mod Summing
 pub mod Adding
 pub mod Leaves

@@ -1,5 +1,5 @@
 -- The utilities of a world, node by node.
-use Rattle.std.proofs.Common.{◌≡◌, ◌∙◌, ℕ, zero, suc, ◌+◌, ◌*◌, ◌^◌, ◌<◌, ◌≤◌, Bool, true, false, cond, List, [], ◌∷◌, length, sym, ap, subst, arith, ℤ, pos, negsuc, ◌+ℤ◌, nat_abs, slice_index_or}
+use Rattle.std.proofs.Common.{◌≡◌, ◌∙◌, ℕ, zero, suc, ◌+◌, ◌*◌, ◌^◌, ◌<◌, ◌≤◌, true, false, cond, List, [], ◌∷◌, length, sym, ap, subst, arith, ℤ, pos, negsuc, ◌+ℤ◌, nat_abs, slice_index_or}
 use Rattle.std.proofs.lemmas.Int.{ints, to_z-of_z, fits_signed_from_abs}
 use Rattle.std.proofs.Math.IntN.{+ℤ_assoc, +ℤ_idl, +ℤ_idr}
 use Rattle.std.proofs.Math.Nat.{mul-le-mul_left}
@@ -9,7 +9,9 @@ use mir.Val.{to_z, of_z}
 use Rattle.maid_model.specs.Diagrams.{IsDiagram, greatest_number}
 use Rattle.maid_model.specs.Gains.{greatest_abs, greatest_utility}
 use Rattle.maid_model.specs.Nodes.{node_at, states_of, rows_of, numbers_of, counts_of, is_utility}
-use Rattle.maid_model.specs.Private.{is_marked, marked_value, MarksUtilities}
+use Rattle.node_sets.specs.declared.sets.NodeSet.{NodeSet}
+use Rattle.node_sets.specs.Sets.{holds}
+use Rattle.maid_model.specs.Private.{marked_value, MarksUtilities}
 use Rattle.maid_model.specs.Sums.{World, sum_each, nat_sum_over}
 use Rattle.maid_model.specs.Tables.{row_of}
 use Rattle.maid_model.specs.Views.{NodeView, DiagramView}
@@ -34,13 +36,13 @@ cell_abs (x ∷ xs) zero = omega arith
 cell_abs (x ∷ xs) (suc i) = omega (arith, cell_abs xs i)
 
 -- the marked cells that a world picks
-abbrev pub values : List NodeView → List Bool → World → ℕ → ℤ
+abbrev pub values : List NodeView → NodeSet → World → ℕ → ℤ
 values nodes marks w v = marked_value nodes marks v w
 
-pub value_le : (nodes : List NodeView) (marks : List Bool) (w : World) (v : ℕ) → MarksUtilities nodes marks → v < length nodes → is_marked marks v ≡ true → nat_abs (values nodes marks w v) ≤ greatest_at nodes v
+pub value_le : (nodes : List NodeView) (marks : NodeSet) (w : World) (v : ℕ) → MarksUtilities nodes marks → v < length nodes → holds marks v ≡ true → nat_abs (values nodes marks w v) ≤ greatest_at nodes v
 value_le nodes marks w v m l e =
     subst (λ b. nat_abs (cond b (slice_index_or (node_at nodes v).cells (row_of nodes v w) (pos 0)) (pos 0)) ≤ greatest_at nodes v) (sym e)
-    (subst (λ k. nat_abs (slice_index_or (node_at nodes v).cells (row_of nodes v w) (pos 0)) ≤ cond (is_utility k) (greatest_abs (node_at nodes v).cells) 0) (sym (m.kind v l e)) (cell_abs (node_at nodes v).cells (row_of nodes v w)))
+    (subst (λ k. nat_abs (slice_index_or (node_at nodes v).cells (row_of nodes v w) (pos 0)) ≤ cond (is_utility k) (greatest_abs (node_at nodes v).cells) 0) (sym (m v l e)) (cell_abs (node_at nodes v).cells (row_of nodes v w)))
 
 -- the sum so far, with the values still to come
 pub record SumSoFar (nodes : List NodeView) (f : ℕ → ℤ) (t : ℕ → ℕ) (total : ℤ) (i : ℕ) : Type 0 where
@@ -92,12 +94,12 @@ sum_end nodes f t total i s h = (
 )
 
 -- ---- in the words of the code
-module _ (d : DiagramView) (is : IsDiagram d) (marks : List Bool) (m : MarksUtilities d.nodes marks) (xs : List ℕ) (world : IsWorld (counts_of d.nodes) xs) (v : ℕ) (v_in : v < length d.nodes) where
+module _ (d : DiagramView) (is : IsDiagram d) (marks : NodeSet) (m : MarksUtilities d.nodes marks) (xs : List ℕ) (world : IsWorld (counts_of d.nodes) xs) (v : ℕ) (v_in : v < length d.nodes) where
   -- a node without a mark adds nothing
-  pub unmarked : is_marked marks v ≡ false → values d.nodes marks (world_of xs) v ≡ pos 0
+  pub unmarked : holds marks v ≡ false → values d.nodes marks (world_of xs) v ≡ pos 0
   unmarked e = ap (λ b. cond b (slice_index_or (node_at d.nodes v).cells (row_of d.nodes v (world_of xs)) (pos 0)) (pos 0)) e
 
-  module _ (marked : is_marked marks v ≡ true) (row : ℕ) (cells : List ℤ) (row_is : row ≡ row_of d.nodes v (world_of xs)) (cells_are : cells ≡ (node_at d.nodes v).cells) where
+  module _ (marked : holds marks v ≡ true) (row : ℕ) (cells : List ℤ) (row_is : row ≡ row_of d.nodes v (world_of xs)) (cells_are : cells ≡ (node_at d.nodes v).cells) where
     row_below : row_of d.nodes v (world_of xs) < rows_of d.nodes v
     row_below = row_of-below d.nodes v (world_of xs) (world_in_range d.nodes xs is.graph.has_state world)
 
@@ -108,7 +110,7 @@ module _ (d : DiagramView) (is : IsDiagram d) (marks : List Bool) (m : MarksUtil
         go x y n k e l h m = omega (arith, mul-le-mul_left n h)
 
     pub row_inside : row < length cells
-    row_inside = subst (λ n. row < n) (sym (ap length cells_are ∙ is.values.utility v v_in (m.kind v v_in marked))) (subst (λ r. r < rows_of d.nodes v) (sym row_is) row_below)
+    row_inside = subst (λ n. row < n) (sym (ap length cells_are ∙ is.values.utility v v_in (m v v_in marked))) (subst (λ r. r < rows_of d.nodes v) (sym row_is) row_below)
 
     read_is : slice_index_or cells row (pos 0) ≡ values d.nodes marks (world_of xs) v
     read_is = (λ i. slice_index_or (cells_are i) (row_is i) (pos 0)) ∙ sym (ap (λ b. cond b (slice_index_or (node_at d.nodes v).cells (row_of d.nodes v (world_of xs)) (pos 0)) (pos 0)) marked)

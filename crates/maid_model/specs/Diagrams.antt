@@ -1,6 +1,7 @@
 -- What makes a list of nodes an influence diagram of several agents, within the limits of the program.
-use Rattle.std.specs.Prelude.{◌≡◌, ◌≢◌, ◌<◌, ◌≤◌, ◌*◌, ◌-◌, ◌^◌, ℕ, List, [], length, All, nat_abs}
-use Rattle.maid_model.specs.declared.limits.TheConstants.{MOST_NODES, MOST_STATES, MOST_PARENTS, MOST_CELLS, MOST_RULE_CELLS, MOST_AGENTS, MOST_DECIMALS, GREATEST_NUMBER}
+use Rattle.std.specs.Prelude.{◌≡◌, ◌≢◌, ◌<◌, ◌≤◌, ◌*◌, ℕ, List, [], length, All, nat_abs}
+use Rattle.node_sets.specs.declared.sets.TheConstants.{MOST_NODES}
+use Rattle.maid_model.specs.declared.limits.TheConstants.{MOST_STATES, MOST_PARENTS, MOST_CELLS, MOST_RULE_CELLS, MOST_AGENTS, MOST_DECIMALS, GREATEST_NUMBER}
 use Rattle.maid_model.specs.declared.diagrams.Kind.TheVariants.{Chance, Decision, Utility}
 use Rattle.maid_model.specs.Views.{NodeView, DiagramView}
 use Rattle.maid_model.specs.Nodes.{node_at, states_of, parents_of, rows_of, decisions_of}

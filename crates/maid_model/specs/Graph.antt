@@ -4,27 +4,11 @@ use Rattle.std.specs.List.{list_any}
 use Rattle.maid_model.specs.declared.diagrams.Kind.TheVariants.{Utility}
 use Rattle.maid_model.specs.Views.{NodeView}
 use Rattle.maid_model.specs.Nodes.{node_at, states_of, parents_of}
+pub use Rattle.node_sets.specs.Paths.{IsPathTo, Here, Along, IsPath, Descends, IsAcyclic}
 
 -- an arc leads from u to v: u is one of v's parents
 abbrev pub Arc : List NodeView → ℕ → ℕ → Type 0
 Arc nodes u v = Contains (parents_of nodes v) u
-
--- from which nodes a path of nought or more arcs leads to a node: from itself, and along an arc
-pub data IsPathTo (Arc : ℕ → ℕ → Type 0) (to : ℕ) : ℕ → Type 0 where
-  Here : IsPathTo Arc to to
-  Along : {u v : ℕ} → Arc u v → IsPathTo Arc to v → IsPathTo Arc to u
-
--- a path of nought or more arcs leads from the one node to the other
-abbrev pub IsPath : (ℕ → ℕ → Type 0) → ℕ → ℕ → Type 0
-IsPath Arc from to = IsPathTo Arc to from
-
--- `to` descends from `from`: a path of one or more arcs leads there
-abbrev pub Descends : (ℕ → ℕ → Type 0) → ℕ → ℕ → Type 0
-Descends Arc from to = (next : ℕ) × Arc from next × IsPath Arc next to
-
--- no node descends from itself
-abbrev pub IsAcyclic : (ℕ → ℕ → Type 0) → Type 0
-IsAcyclic Arc = (v : ℕ) → Descends Arc v v → ⊥
 
 -- no number stands twice in the list
 abbrev pub AllDifferent : List ℕ → Type 0

@@ -1,7 +1,8 @@
 -- Tests for a small diagram, written as a literal, and for its rules. That what passes is a diagram, a rule or a profile is a law (`Laws`).
 use Rattle.std.specs.Prelude.{ℕ, ◌+◌, ◌*◌, Bool, true, false, ◌&&◌, not, eqb, ltb, leb, List, [], ◌∷◌, map, length, slice_index_or, ℤ, pos, negsuc, nat_abs}
 use Rattle.std.specs.List.{list_all, range_with_len}
-use Rattle.maid_model.specs.declared.limits.TheConstants.{MOST_NODES, MOST_STATES, MOST_PARENTS, MOST_CELLS, MOST_RULE_CELLS, MOST_AGENTS, MOST_DECIMALS}
+use Rattle.node_sets.specs.declared.sets.TheConstants.{MOST_NODES}
+use Rattle.maid_model.specs.declared.limits.TheConstants.{MOST_STATES, MOST_PARENTS, MOST_CELLS, MOST_RULE_CELLS, MOST_AGENTS, MOST_DECIMALS}
 use Rattle.maid_model.specs.declared.diagrams.Kind.{Kind}
 use Rattle.maid_model.specs.declared.diagrams.Kind.TheVariants.{Chance, Decision, Utility}
 use Rattle.maid_model.specs.Views.{NodeView, DiagramView, RuleView}

@@ -1,4 +1,4 @@
-ghost use Rattle.std.specs.Prelude.{◌≡◌, ℕ, ◌<◌, ◌≤◌, ◌↔◌, ◌^◌, length, IsTrue, pos, ◌≤ℤ◌, nat_abs, slice_index_or};
+ghost use Rattle.std.specs.Prelude.{◌≡◌, ℕ, ◌<◌, ◌≤◌, ◌↔◌, ◌^◌, length, Contains, IsTrue, pos, ◌≤ℤ◌, nat_abs, slice_index_or};
 ghost use Rattle.maid_model.specs.Diagrams.{IsDiagram};
 ghost use Rattle.maid_model.specs.Nodes.{node_at, states_of, parents_of, rows_of, IsOwnedBy};
 ghost use Rattle.maid_model.specs.Sums.{sum_below};
@@ -116,9 +116,11 @@ impl Diagram {
     pub fn parents(&self, v: usize) -> &[usize]
         requires { v < length self.now.nodes }
         ensures parents { result.now ≡ parents_of self.now.nodes v }
+        ensures known { (p : ℕ) → Contains result.now p → p < length self.now.nodes }
         ensures diagram { IsDiagram self.now }
     {
-        self.nodes[v].parents.as_slice()
+        let node = self.node(v);
+        node.parents.as_slice()
     }
 
     /// The node's cells.

@@ -4,6 +4,7 @@
 
 mod answers;
 mod diagrams;
+mod graph;
 mod laws;
 mod limits;
 mod marks;
@@ -22,10 +23,11 @@ pub use laws::{
     descent_is_tested, graph_has_order, literals_are_tested, profile_has_rules, worlds_are_listed,
 };
 pub use limits::{
-    COUNT_END, GREATEST_NUMBER, MOST_AGENTS, MOST_CELLS, MOST_DECIMALS, MOST_NAME_BYTES, MOST_NODES,
+    COUNT_END, GREATEST_NUMBER, MOST_AGENTS, MOST_CELLS, MOST_DECIMALS, MOST_NAME_BYTES,
     MOST_PARENTS, MOST_RULE_CELLS, MOST_STATES, MOST_WORLDS,
 };
 pub use names::{Names, first_place};
+pub use node_sets::MOST_NODES;
 pub use profiles::{Profile, Rule};
 pub use world_sums::{base_sums, leaf_sum};
 pub use worlds::World;

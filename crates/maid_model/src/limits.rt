@@ -1,7 +1,4 @@
-//! The limits of the program, each once: code and definitions cite these.
-
-/// The most nodes of a diagram, utilities among them.
-pub const MOST_NODES: usize = 256;
+//! The limits of the program, each once: code and definitions cite these, and `node_sets` has the most nodes.
 
 /// The most states of a node.
 pub const MOST_STATES: usize = 256;

@@ -7,9 +7,9 @@ ghost use Rattle.maid_model.specs.Gains.{table_without, weight_without, base_tot
 ghost use Rattle.maid_model.specs.Worlds.{IsWorld, world_of};
 
 use crate::diagrams::{Diagram, Kind};
-use crate::limits::MOST_NODES;
 use crate::profiles::Profile;
 use crate::worlds::World;
+use node_sets::MOST_NODES;
 
 /// At which place of the profile each decision's rule stands, so that no sum over worlds has to search for it.
 pub(crate) fn rule_places(diagram: &Diagram, profile: &Profile) -> [usize; MOST_NODES]

@@ -11,6 +11,7 @@ use crate::marks::{utilities_below, utilities_of};
 use crate::profiles::Profile;
 use crate::weights::{rule_places, world_weight};
 use crate::worlds::World;
+use node_sets::NodeSet;
 
 /// The sum, over all worlds, of the world's weight under the profile times the agent's utilities. It goes through all
 /// worlds, and in each through all arcs. The world comes as the first and is the first again in the end. It takes no
@@ -80,7 +81,7 @@ pub fn base_sums(
 }
 
 /// The sum of the marked utilities in the world.
-fn marked_utility(diagram: &Diagram, marks: &[bool], world: &World) -> i128
+fn marked_utility(diagram: &Diagram, marks: &NodeSet, world: &World) -> i128
     requires marks { MarksUtilities diagram.now.nodes marks.now }
     requires world { IsWorld (counts_of diagram.now.nodes) world.now }
     requires fits { greatest_utility diagram.now.nodes ≤ greatest_number }
@@ -89,7 +90,7 @@ fn marked_utility(diagram: &Diagram, marks: &[bool], world: &World) -> i128
 {
     let mut sum: i128 = 0;
     for v in 0..diagram.count() {
-        if !marks[v] {
+        if !marks.holds(v) {
             continue;
         }
         sum += diagram.cells(v)[world.row(diagram, v)];
@@ -98,7 +99,7 @@ fn marked_utility(diagram: &Diagram, marks: &[bool], world: &World) -> i128
 }
 
 /// What a world of that weight adds to a sum of gains: its weight times its marked utilities.
-fn world_gain(diagram: &Diagram, marks: &[bool], weight: u128, world: &World) -> i128
+fn world_gain(diagram: &Diagram, marks: &NodeSet, weight: u128, world: &World) -> i128
     requires marks { MarksUtilities diagram.now.nodes marks.now }
     requires world { IsWorld (counts_of diagram.now.nodes) world.now }
     requires utility { greatest_utility diagram.now.nodes ≤ greatest_number }

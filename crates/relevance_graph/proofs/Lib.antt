@@ -1,4 +1,3 @@
-pub mod Marking
 pub mod Listing
 pub mod Walking
 pub mod Outcomes

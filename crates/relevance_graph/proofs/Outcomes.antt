@@ -7,7 +7,7 @@ use Rattle.maid_model.specs.Views.{NodeView}
 use Rattle.maid_model.specs.Nodes.{IsDecision}
 use Rattle.maid_model.specs.Relevance.{ReliesOn}
 use Rattle.maid_model.specs.Placing.{IsLeast, Remains, CanPlace, IsPlacing, IsOrder, IsRound, IsRelianceOrder, IsRelianceCycle}
-use Rattle.bayes_ball.specs.Search.{IsIn}
+use Rattle.diagram_graph.specs.Needs.{IsIn}
 use Rattle.diagram_graph.specs.Needs.{needs_of, NeedsItem}
 use Rattle.diagram_graph.specs.Rounds.{IsFirstLeft, IsFirstCycle, IsRingOfNeeds}
 use Rattle.diagram_graph.specs.Rounds.{IsListedRound as IsListRound}

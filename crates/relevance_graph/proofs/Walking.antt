@@ -1,12 +1,13 @@
 -- What a search from the goals of a decision finds.
-use Rattle.std.proofs.Common.{◌≡◌, ℕ, ◌<◌, Bool, List, [], ◌∷◌, length, ◌↔◌, inl, inr, refl, subst}
+use Rattle.std.proofs.Common.{◌≡◌, ℕ, ◌<◌, List, [], ◌∷◌, length, ◌↔◌, inl, inr, refl, subst}
 use Rattle.maid_model.specs.declared.diagrams.Kind.TheVariants.{Utility}
 use Rattle.maid_model.specs.Views.{NodeView}
 use Rattle.maid_model.specs.Nodes.{IsDecision, node_at}
 use Rattle.maid_model.specs.Graph.{Arc, IsGraph, IsPath, Here, Along, Descends}
 use Rattle.maid_model.specs.Relevance.{IsLive, IsInFamily, IsGoal}
 use Rattle.maid_model.specs.Walks.{IsActive, IsReached, IsReachedFromParent, WithArc, WithNode}
-use Rattle.bayes_ball.specs.Search.{IsIn}
+use Rattle.node_sets.specs.declared.sets.NodeSet.{NodeSet}
+use Rattle.node_sets.specs.Sets.{IsIn}
 use Rattle.relevance_graph.specs.Steps.{LeadsToGoal}
 
 -- active walks given one set of nodes are active walks given any other with the same members
@@ -38,7 +39,7 @@ pub goal_live : (nodes : List NodeView) (d u : ℕ) → IsGoal nodes d u → IsL
 goal_live nodes d u goal = record { within = goal.within; states = inl goal.kind }
 
 -- a search from all goals, given what is fixed, tells from which nodes' extra parents a walk leads to a goal
-pub search_tells : (nodes : List NodeView) (d : ℕ) (starts given found : List Bool) → ((v : ℕ) → IsIn starts v ↔ IsGoal nodes d v) → ((v : ℕ) → IsIn given v ↔ IsInFamily (Arc nodes) d v) →
+pub search_tells : (nodes : List NodeView) (d : ℕ) (starts given found : NodeSet) → ((v : ℕ) → IsIn starts v ↔ IsGoal nodes d v) → ((v : ℕ) → IsIn given v ↔ IsInFamily (Arc nodes) d v) →
     ((v : ℕ) → v < length nodes → IsIn found v ↔ ((u : ℕ) × IsIn starts u × IsReachedFromParent (Arc nodes) (IsLive nodes) (IsIn given) (length nodes) v u)) →
     (e : ℕ) → e < length nodes → IsIn found e ↔ LeadsToGoal nodes d e
 search_tells nodes d starts given found goals fixed search e within =

@@ -1,12 +1,13 @@
 -- What the steps of finding a relevance graph promise one another. Only private functions and the invariant of private fields cite this file.
-use Rattle.std.specs.Prelude.{◌≡◌, ◌↔◌, ◌<◌, ℕ, List, length, Contains, slice_index}
+use Rattle.std.specs.Prelude.{◌≡◌, ◌↔◌, ◌<◌, ℕ, List, length, Contains}
 use Rattle.maid_model.specs.declared.diagrams.Kind.TheVariants.{Utility}
 use Rattle.maid_model.specs.Views.{NodeView}
 use Rattle.maid_model.specs.Nodes.{IsDecision, node_at}
 use Rattle.maid_model.specs.Graph.{Arc}
 use Rattle.maid_model.specs.Relevance.{IsLive, IsInFamily, IsGoal, ReliesOn}
 use Rattle.maid_model.specs.Walks.{IsReachedFromParent}
-use Rattle.bayes_ball.specs.Search.{MarksView, IsIn}
+use Rattle.node_sets.specs.Sets.{IsIn}
+use Rattle.bayes_ball.specs.declared.marks.Marks.{Marks}
 use Rattle.diagram_graph.specs.Needs.{needs_of}
 use Rattle.relevance_graph.specs.Views.{IsRising}
 
@@ -24,9 +25,8 @@ LeadsToGoal nodes d e =
     (goal : ℕ) × IsGoal nodes d goal × IsReachedFromParent (Arc nodes) (IsLive nodes) (IsInFamily (Arc nodes) d) (length nodes) e goal
 
 -- the marks tell from which nodes' extra parents an active walk leads to a goal of d
-pub record IsSearchedFor (nodes : List NodeView) (d : ℕ) (marks : MarksView) : Type 0 where
-  pub count : length marks.reached ≡ length nodes
-  pub parents : (e : ℕ) → e < length nodes → IsIn marks.parents_reached e ↔ LeadsToGoal nodes d e
+abbrev pub IsSearchedFor : List NodeView → ℕ → Marks → Type 0
+IsSearchedFor nodes d marks = (e : ℕ) → e < length nodes → IsIn marks.parents_reached e ↔ LeadsToGoal nodes d e
 
 -- the numbers below n with the property P, in rising order
 pub record ListsBelow (P : ℕ → Type 0) (n : ℕ) (list : List ℕ) : Type 0 where

@@ -1,4 +1,5 @@
-ghost use Rattle.std.specs.Prelude.{◌≡◌, ◌<◌, ◌↔◌, length, IsTrue, IfOk, OnOk};
+ghost use Rattle.std.specs.Prelude.{◌≡◌, ◌<◌, ◌↔◌, length, IsTrue, IfOk};
+ghost use Rattle.node_sets.specs.declared.sets.TheConstants.{MOST_NODES};
 ghost use Rattle.maid_model.specs.Nodes.{IsDecision};
 ghost use Rattle.maid_model.specs.Relevance.{IsLive, ReliesOn};
 ghost use Rattle.diagram_graph.specs.Cycles.{lists_in};
@@ -25,6 +26,7 @@ fn is_live_decision(diagram: &Diagram, v: usize) -> bool
 fn relies_on(diagram: &Diagram, decision: usize, on: usize, marks: &Marks) -> bool
     requires decision { IsLiveDecision diagram.now.nodes decision }
     requires on { on < length diagram.now.nodes }
+    requires small { on < MOST_NODES }
     requires marks { IsSearchedFor diagram.now.nodes decision marks.now }
     ensures { IsTrue result ↔ ReliesOn diagram.now.nodes decision on }
 {
@@ -52,35 +54,24 @@ fn list_relied_on(
 }
 
 /// What the node relies on, by one search where it is a decision of two states or more.
-fn relied_on_by(
-    alloc: Global,
-    diagram: &Diagram,
-    v: usize,
-    fixed: &mut [bool],
-    marks: &mut Marks,
-) -> Result<Vec<usize>, AllocError>
-    requires within { v < length diagram.now.nodes }
-    requires fixed { length fixed.old ≡ length diagram.now.nodes }
-    requires marks { length marks.old.reached ≡ length diagram.now.nodes }
-    ensures list { IfOk result (λ list. ListsBelow (ReliesOn diagram.now.nodes v) (length diagram.now.nodes) list.items) }
-    ensures marks { OnOk result (length marks.new.reached ≡ length diagram.now.nodes) }
+fn relied_on_by(alloc: Global, diagram: &Diagram, v: usize) -> Result<Vec<usize>, AllocError>
+    requires { v < length diagram.now.nodes }
+    ensures { IfOk result (λ list. ListsBelow (ReliesOn diagram.now.nodes v) (length diagram.now.nodes) list.items) }
 {
     if !is_live_decision(diagram, v) {
         return Ok(Vec::new(alloc));
     }
-    search_from_goals(alloc, diagram, v, fixed, marks)?;
-    list_relied_on(alloc, diagram, v, marks)
+    let marks = search_from_goals(diagram, v);
+    list_relied_on(alloc, diagram, v, &marks)
 }
 
 /// What each node relies on, in text order.
 pub(crate) fn list_reliance(alloc: Global, diagram: &Diagram) -> Result<Vec<Vec<usize>>, AllocError>
     ensures { IfOk result (λ lists. TellsReliance diagram.now.nodes (length diagram.now.nodes) (lists_in lists.items)) }
 {
-    let mut marks = Marks::new(alloc, diagram)?;
-    let mut fixed = vec![in alloc; false; diagram.count()]?;
     let mut lists = Vec::with_capacity(alloc, diagram.count())?;
     for v in 0..diagram.count() {
-        lists.push(relied_on_by(alloc, diagram, v, &mut fixed, &mut marks)?)?;
+        lists.push(relied_on_by(alloc, diagram, v)?)?;
     }
     Ok(lists)
 }

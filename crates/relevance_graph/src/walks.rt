@@ -1,14 +1,13 @@
-ghost use Rattle.std.specs.Prelude.{◌≡◌, ◌<◌, ◌↔◌, ℕ, length, IsTrue, OnOk};
+ghost use Rattle.std.specs.Prelude.{◌≡◌, ◌<◌, ◌↔◌, ℕ, length, IsTrue};
+ghost use Rattle.node_sets.specs.Sets.{IsIn};
 ghost use Rattle.maid_model.specs.Graph.{Arc, IsPath};
 ghost use Rattle.maid_model.specs.Nodes.{IsDecision};
 ghost use Rattle.maid_model.specs.Relevance.{IsInFamily, IsGoal};
-ghost use Rattle.bayes_ball.specs.Search.{IsIn};
 ghost use Rattle.relevance_graph.specs.Steps.{IsSearchedFor, IsUtilityOf};
 
 use bayes_ball::{Marks, reach_from_any};
-use diagram_graph::descendants;
 use maid_model::{Diagram, Kind};
-use std::alloc::{AllocError, Global};
+use node_sets::{NodeSet, descendants};
 
 /// Whether it is a utility of the agent.
 fn is_utility_of(diagram: &Diagram, agent: usize, v: usize) -> bool
@@ -32,48 +31,41 @@ fn is_goal(diagram: &Diagram, decision: usize, v: usize, below: bool) -> bool
     below && is_utility_of(diagram, diagram.owner(decision), v)
 }
 
-/// Leaves of the decision's descendants the utilities of its agent.
-fn keep_goals(diagram: &Diagram, decision: usize, below: &mut [bool])
-    requires decision { IsDecision diagram.now.nodes decision }
-    requires len { length below.old ≡ length diagram.now.nodes }
-    requires below { (v : ℕ) → IsIn below.old v ↔ IsPath (Arc diagram.now.nodes) decision v }
-    ensures { (v : ℕ) → IsIn below.new v ↔ IsGoal diagram.now.nodes decision v }
+/// The utilities of the decision's agent that descend from the decision.
+fn goals_of(diagram: &Diagram, decision: usize) -> NodeSet
+    requires { IsDecision diagram.now.nodes decision }
+    ensures { (v : ℕ) → IsIn result v ↔ IsGoal diagram.now.nodes decision v }
 {
-    for v in 0..diagram.count() {
-        below[v] = is_goal(diagram, decision, v, below[v]);
+    let count = diagram.count();
+    let below = descendants(diagram, NodeSet::of(decision));
+    let mut goals = NodeSet::empty();
+    for v in 0..count {
+        if is_goal(diagram, decision, v, below.holds(v)) {
+            goals.insert(v);
+        }
     }
+    goals
 }
 
-/// Marks the decision and its parents alone, none of which is a utility.
-fn mark_fixed(diagram: &Diagram, decision: usize, fixed: &mut [bool])
-    requires decision { IsDecision diagram.now.nodes decision }
-    requires len { length fixed.old ≡ length diagram.now.nodes }
-    ensures marked { (v : ℕ) → IsIn fixed.new v ↔ IsInFamily (Arc diagram.now.nodes) decision v }
-    ensures no_goal { (v : ℕ) → IsGoal diagram.now.nodes decision v → IsIn fixed.new v → ⊥ }
+/// The decision and its parents, none of which is a utility.
+fn family_of(diagram: &Diagram, decision: usize) -> NodeSet
+    requires { IsDecision diagram.now.nodes decision }
+    ensures family { (v : ℕ) → IsIn result v ↔ IsInFamily (Arc diagram.now.nodes) decision v }
+    ensures known { (v : ℕ) → IsIn result v → v < length diagram.now.nodes }
+    ensures no_goal { (v : ℕ) → IsGoal diagram.now.nodes decision v → IsIn result v → ⊥ }
 {
-    fixed.fill(false);
-    fixed[decision] = true;
-    for p in diagram.parents(decision) {
-        fixed[*p] = true;
-    }
+    let parents = diagram.parents(decision);
+    let mut family = NodeSet::of(decision);
+    family.insert_all(parents);
+    family
 }
 
 /// Searches, given the decision and its parents, from all utilities of its agent that descend from it.
-pub(crate) fn search_from_goals(
-    alloc: Global,
-    diagram: &Diagram,
-    decision: usize,
-    fixed: &mut [bool],
-    marks: &mut Marks,
-) -> Result<(), AllocError>
-    requires decision { IsDecision diagram.now.nodes decision }
-    requires fixed { length fixed.old ≡ length diagram.now.nodes }
-    requires marks { length marks.old.reached ≡ length diagram.now.nodes }
-    ensures { OnOk result (IsSearchedFor diagram.now.nodes decision marks.new) }
+pub(crate) fn search_from_goals(diagram: &Diagram, decision: usize) -> Marks
+    requires { IsDecision diagram.now.nodes decision }
+    ensures { IsSearchedFor diagram.now.nodes decision result }
 {
-    let mut goals = descendants(alloc, diagram, decision)?;
-    keep_goals(diagram, decision, &mut goals);
-    mark_fixed(diagram, decision, fixed);
-    reach_from_any(diagram, &goals, fixed, marks);
-    Ok(())
+    let goals = goals_of(diagram, decision);
+    let family = family_of(diagram, decision);
+    reach_from_any(diagram, &goals, &family)
 }

@@ -31,7 +31,8 @@ pub(crate) fn base_of(
     profile_has_rules();
     let mut base = Profile::uniform(alloc, diagram)?;
     for answer in answers {
-        if relevance.relies(decision, answer.decision) {
+        let relied = relevance.relies(decision, answer.decision);
+        if relied {
             base.put(Rule::pure(alloc, diagram, answer.decision, &answer.rows)?);
         }
     }

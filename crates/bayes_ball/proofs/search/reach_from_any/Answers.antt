@@ -1,39 +1,19 @@
-use Rattle.std.proofs.Common.{◌≡◌, length, ap, ◌∙◌, arith}
-use Rattle.std.proofs.lemmas.List.{with_items_is}
-use Rattle.bayes_ball.specs.Search.{MarksView}
-use Rattle.bayes_ball.proofs.Viewing.{length-seen, length-searched, searched_at, parents_searched_at}
+use Rattle.node_sets.specs.Sets.{IsIn}
+use Rattle.bayes_ball.proofs.Searching.{begins_at, searched_from_any, reached_from_any, parents_reached_from_any, same_fact}
 use Rattle.bayes_ball.proofs.search.reach_from_any.Goals as goal
-
-pub copy_from_slice-requires : goal.copy_from_slice-requires
-copy_from_slice-requires c =
-    let d = c.marks.inside.down.ok.0 in let u = c.marks.inside.up.ok.0 in let i = c.marks.invariant.0 in let j = c.marks.invariant.1 in
-    let l = length-seen _ _ _ (ap (λ (m : MarksView). m.reached) c.marks.view_is) (omega arith) in omega arith
-
-pub returns-clause-count : goal.returns-clause-count
-returns-clause-count c =
-    let d = c.marks.inside.down.ok.0 in let u = c.marks.inside.up.ok.0 in let i = c.marks.invariant.0 in
-    let l = length-seen _ _ _ (ap (λ (m : MarksView). m.reached) c.marks.view_is) (omega arith) in
-    let e = with_items_is c.marks.inside.down c.search_from_any.new.down (c.search_from_any.auto.down ∙ c.deref_mut.ensures.len) in
-    let f = with_items_is c.marks.inside.up c.search_from_any.new.up (c.search_from_any.auto.up ∙ c.deref_mut-2.ensures.len) in
-    let same : length c.search_from_any.new.up ≡ length c.search_from_any.new.down = let a = c.search_from_any.auto.down in let b = c.search_from_any.auto.up in let p = c.deref_mut.ensures.len in let q = c.deref_mut-2.ensures.len in omega arith in
-    let a = c.search_from_any.auto.down in let p = c.deref_mut.ensures.len in
-    let n = length-searched _ _ _ _ e f same in omega arith
 
 pub returns-clause-reached : goal.returns-clause-reached
 returns-clause-reached c v within =
-    let d = c.marks.inside.down.ok.0 in let u = c.marks.inside.up.ok.0 in let i = c.marks.invariant.0 in
-    let l = length-seen _ _ _ (ap (λ (m : MarksView). m.reached) c.marks.view_is) (omega arith) in
-    let e = with_items_is c.marks.inside.down c.search_from_any.new.down (c.search_from_any.auto.down ∙ c.deref_mut.ensures.len) in
-    let f = with_items_is c.marks.inside.up c.search_from_any.new.up (c.search_from_any.auto.up ∙ c.deref_mut-2.ensures.len) in
-    let same : length c.search_from_any.new.up ≡ length c.search_from_any.new.down = let a = c.search_from_any.auto.down in let b = c.search_from_any.auto.up in let p = c.deref_mut.ensures.len in let q = c.deref_mut-2.ensures.len in omega arith in
-    searched_at _ _ _ _ e f same v (c.search_from_any.ensures.reached v within)
+    same_fact (c.of.ensures.reached v)
+    (reached_from_any _ _ (IsIn c.args.starts.now) _ _
+    (searched_from_any c.args.diagram.now.nodes c.args.given.now c.args.starts.now _ _ _ _ c.count-count.ensures.diagram.graph c.requires.given c.requires.starts
+    (begins_at c.empty-down.result c.args.starts.now c.empty-down.ensures) c.close.ensures.kept c.close.ensures.sound c.close.ensures.closed)
+    (λ a s. (c.requires.starts a s).1) v)
 
 pub returns-clause-parents : goal.returns-clause-parents
 returns-clause-parents c v within =
-    let d = c.marks.inside.down.ok.0 in let u = c.marks.inside.up.ok.0 in let i = c.marks.invariant.0 in
-    let l = length-seen _ _ _ (ap (λ (m : MarksView). m.reached) c.marks.view_is) (omega arith) in
-    let e = with_items_is c.marks.inside.down c.search_from_any.new.down (c.search_from_any.auto.down ∙ c.deref_mut.ensures.len) in
-    let f = with_items_is c.marks.inside.up c.search_from_any.new.up (c.search_from_any.auto.up ∙ c.deref_mut-2.ensures.len) in
-    let same : length c.search_from_any.new.up ≡ length c.search_from_any.new.down = let a = c.search_from_any.auto.down in let b = c.search_from_any.auto.up in let p = c.deref_mut.ensures.len in let q = c.deref_mut-2.ensures.len in omega arith in
-    let a = c.search_from_any.auto.down in let p = c.deref_mut.ensures.len in
-    parents_searched_at _ _ _ _ e f same c.args.given.now _ v c.copy_from_slice.ensures.items (omega arith) (c.search_from_any.ensures.parents v within)
+    same_fact (c.of.ensures.parents v)
+    (parents_reached_from_any _ _ (IsIn c.args.starts.now) _ _
+    (searched_from_any c.args.diagram.now.nodes c.args.given.now c.args.starts.now _ _ _ _ c.count-count.ensures.diagram.graph c.requires.given c.requires.starts
+    (begins_at c.empty-down.result c.args.starts.now c.empty-down.ensures) c.close.ensures.kept c.close.ensures.sound c.close.ensures.closed)
+    (λ a s. (c.requires.starts a s).1) v within)

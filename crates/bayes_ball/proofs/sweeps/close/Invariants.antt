@@ -1,7 +1,7 @@
 use Rattle.std.proofs.Common.{ℕ, ◌+◌}
-use Rattle.bayes_ball.specs.Search.{IsIn}
+use Rattle.node_sets.specs.Sets.{IsIn, room}
 use Rattle.bayes_ball.specs.Flow.{Way, Flows}
-use Rattle.bayes_ball.specs.Spread.{IsMarked, LiveArc, unmarked}
+use Rattle.bayes_ball.specs.Spread.{IsMarked, LiveArc}
 use Rattle.bayes_ball.proofs.sweeps.close.Given as goal
 
 abbrev pub invariant-sweeps : goal.invariant-sweeps
@@ -11,4 +11,4 @@ invariant-sweeps l = record {
 }
 
 abbrev pub decreases-sweeps : goal.decreases-sweeps
-decreases-sweeps l = unmarked l.down + unmarked l.up
+decreases-sweeps l = room l.down + room l.up

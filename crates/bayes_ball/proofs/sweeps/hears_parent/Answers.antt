@@ -6,20 +6,10 @@ use Rattle.maid_model.specs.Relevance.{IsLive}
 use Rattle.bayes_ball.specs.Spread.{LeadsDown}
 use Rattle.bayes_ball.proofs.sweeps.hears_parent.Goals as goal
 
-pub leads_down-requires-clause-given : goal.leads_down-requires-clause-given
-leads_down-requires-clause-given c =
+pub leads_down-requires : goal.leads_down-requires
+leads_down-requires c =
     let l = c.parents-p-items.ensures.known _ (Contains-get_or _ _ 0 c.loop-p-test.true) in
-    let m = c.requires.fits.given_len in omega arith
-
-pub leads_down-requires-clause-down : goal.leads_down-requires-clause-down
-leads_down-requires-clause-down c =
-    let l = c.parents-p-items.ensures.known _ (Contains-get_or _ _ 0 c.loop-p-test.true) in
-    let m = c.requires.fits.down_len in omega arith
-
-pub leads_down-requires-clause-up : goal.leads_down-requires-clause-up
-leads_down-requires-clause-up c =
-    let l = c.parents-p-items.ensures.known _ (Contains-get_or _ _ 0 c.loop-p-test.true) in
-    let m = c.requires.fits.up_len in omega arith
+    let m = c.parents-p-items.ensures.diagram.limits.nodes in omega arith
 
 pub returns : goal.returns
 returns c = (
@@ -33,3 +23,6 @@ returns c = (
       (subst (λ p. LeadsDown c.args.given.now c.args.down.now c.args.up.now p) (sym at) h.2)
       (subst (λ p. IsLive c.args.diagram.now.nodes p) (sym at) h.1.1))),
 )
+
+pub is_live-requires : goal.is_live-requires
+is_live-requires c = c.parents-p-items.ensures.known _ (Contains-get_or _ _ 0 c.loop-p-test.true)

@@ -4,11 +4,17 @@ use Rattle.std.proofs.lemmas.List.{take_all}
 use Rattle.std.proofs.lemmas.List.Elements.{Contains-get_or}
 use Rattle.maid_model.specs.Nodes.{parents_of}
 use Rattle.maid_model.specs.Relevance.{IsLive}
-use Rattle.bayes_ball.proofs.Growing.{adds_none, adds_then, adds_same, live_more}
+use Rattle.node_sets.proofs.Growing.{adds_none, adds_then, adds_same}
+use Rattle.bayes_ball.proofs.Spreading.{live_more}
 use Rattle.bayes_ball.proofs.sweeps.mark_parents.Goals as goal
 
 pub mark_live-changed-requires-clause-within : goal.mark_live-changed-requires-clause-within
 mark_live-changed-requires-clause-within c = c.parents-p-items.ensures.known _ (Contains-get_or _ _ 0 c.loop-p-test.true)
+
+pub mark_live-changed-requires-clause-small : goal.mark_live-changed-requires-clause-small
+mark_live-changed-requires-clause-small c =
+    let l = c.parents-p-items.ensures.known _ (Contains-get_or _ _ 0 c.loop-p-test.true) in
+    let m = c.parents-p-items.ensures.diagram.limits.nodes in omega arith
 
 pub loop-p-init : goal.loop-p-init
 loop-p-init c = adds_none _ _ (λ x h. let l = h.0.1 in absurd (omega arith))

@@ -1,7 +1,7 @@
 use Rattle.std.proofs.Common.{take}
 use Rattle.std.specs.Prelude.{Contains}
 use Rattle.maid_model.specs.Relevance.{IsLive}
-use Rattle.bayes_ball.specs.Spread.{Adds}
+use Rattle.node_sets.specs.Sets.{Adds}
 use Rattle.bayes_ball.proofs.sweeps.mark_parents.Given as goal
 
 -- the live ones of the first parents are marked

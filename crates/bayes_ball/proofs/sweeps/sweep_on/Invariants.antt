@@ -1,5 +1,5 @@
 use Rattle.std.proofs.Common.{◌<◌}
-use Rattle.bayes_ball.specs.Search.{IsIn}
+use Rattle.node_sets.specs.Sets.{IsIn}
 use Rattle.bayes_ball.specs.Spread.{LiveArc, IsSpread, ClosedInto}
 use Rattle.bayes_ball.proofs.sweeps.sweep_on.Given as goal
 

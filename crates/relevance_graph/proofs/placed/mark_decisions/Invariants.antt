@@ -1,6 +1,6 @@
 use Rattle.std.proofs.Common.{◌≡◌, ℕ, ◌<◌, ◌↔◌, length}
 use Rattle.maid_model.specs.Nodes.{IsDecision}
-use Rattle.bayes_ball.specs.Search.{IsIn}
+use Rattle.diagram_graph.specs.Needs.{IsIn}
 use Rattle.relevance_graph.proofs.placed.mark_decisions.Given as goal
 
 abbrev pub invariant-loop-v : goal.invariant-loop-v

@@ -1,6 +1,6 @@
 use Rattle.std.proofs.Common.{◌↔◌, ℕ, List, Bool, subst, sym}
 use Rattle.maid_model.specs.Nodes.{IsDecision}
-use Rattle.bayes_ball.specs.Search.{IsIn}
+use Rattle.diagram_graph.specs.Needs.{IsIn}
 use Rattle.diagram_graph.specs.Cycles.{lists_in}
 use Rattle.std.proofs.lemmas.Result.{IfOk-weaker}
 use Rattle.relevance_graph.proofs.Outcomes.{needs_relies, outcome_is}

@@ -1,5 +1,5 @@
-use Rattle.std.proofs.Common.{◌≡◌, ◌+◌, ℕ, List, [], ◌∷◌, ◌++◌, length, ap, sym, subst, ◌∙◌}
-use Rattle.std.proofs.lemmas.List.{with_items_is, map-append}
+use Rattle.std.proofs.Common.{◌≡◌, ◌+◌, ℕ, List, [], ◌∷◌, ◌++◌, ap, sym, subst, ◌∙◌}
+use Rattle.std.proofs.lemmas.List.{map-append}
 use Rattle.diagram_graph.specs.Cycles.{lists_in}
 use Rattle.relevance_graph.specs.Steps.{TellsReliance}
 use Rattle.relevance_graph.proofs.Listing.{tells_push}
@@ -10,10 +10,5 @@ loop-v-preserved c =
     let nodes = c.args.diagram.now.nodes in
     let list = c.in_ok-relied_on_by.field-0 in
     let grown : lists_in c.push.new.self.items ≡ lists_in c.loop-v.lists.items ++ list.items ∷ [] = ap lists_in c.in_ok-push.ensures.items ∙ map-append (λ row. row.items) c.loop-v.lists.items (list ∷ []) in
-    let auto : length c.relied_on_by.new.fixed ≡ length c.deref_mut.result.now = c.relied_on_by.auto.fixed in
-    record {
-      told = subst (λ (xs : List (List ℕ)). TellsReliance nodes (c.loop-v.v + 1) xs) (sym grown)
-          (tells_push nodes c.loop-v.v (lists_in c.loop-v.lists.items) list.items c.loop-v.invariant.told c.in_ok-relied_on_by.ensures.list);
-      fixed = ap length (with_items_is c.loop-v.fixed c.relied_on_by.new.fixed (auto ∙ c.deref_mut.ensures.len)) ∙ (auto ∙ (ap length c.deref_mut.ensures.value ∙ c.loop-v.invariant.fixed));
-      marks = c.in_ok-relied_on_by.ensures.marks;
-    }
+    subst (λ (xs : List (List ℕ)). TellsReliance nodes (c.loop-v.v + 1) xs) (sym grown)
+    (tells_push nodes c.loop-v.v (lists_in c.loop-v.lists.items) list.items c.loop-v.invariant c.in_ok-relied_on_by.ensures)

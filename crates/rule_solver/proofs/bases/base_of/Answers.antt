@@ -7,7 +7,7 @@ use Rattle.maid_model.specs.Relevance.{ReliesOn}
 use Rattle.maid_model.specs.Views.{AnswerView, RuleView}
 use Rattle.rule_solver.proofs.BaseLemmas.{BaseSoFar, base_skip, base_put, base_end, fits_at, rule_of}
 use Rattle.rule_solver.proofs.bases.base_of.Goals as goal
-use Rattle.rule_solver.proofs.bases.base_of.Goals.{then-relies+in_ok-pure, else-relies}
+use Rattle.rule_solver.proofs.bases.base_of.Goals.{then-relied+in_ok-pure, else-relied}
 
 -- the base has a rule of the answered decision, and so a place for its answered rule
 pub put-requires : goal.put-requires
@@ -23,8 +23,8 @@ loop-answer-preserved c =
     let nodes = c.args.diagram.now.nodes in
     let a : AnswerView = c.answer-item.result in
     let decided : c.answer.inside.decision ≡ a.decision = ap (λ (x : AnswerView). x.decision) c.answer.view_is in
-    elim c.if-relies.branch [
-      | then-relies+in_ok-pure w ↦
+    elim c.if-relied.branch [
+      | then-relied+in_ok-pure w ↦
           let fits : FitsAnswer nodes a = fits_at nodes c.args.answers.now c.loop-answer.answer-index a c.requires.fits c.loop-answer-test.true (sym c.answer-item.is) in
           let rows : w.deref.result.now ≡ a.rows = w.deref.ensures.value ∙ ap (λ (x : AnswerView). x.rows) c.answer.view_is in
           let is : w.in_ok-pure.field-0 ≡ rule_of nodes a = w.in_ok-pure.ensures.choices ∙ (λ i. pure_rule nodes (decided i) (map (λ r. r.choice) (rows i))) in
@@ -34,12 +34,12 @@ loop-answer-preserved c =
           subst (BaseSoFar nodes c.args.answers.now c.args.decision (c.loop-answer.answer-index + 1)) (sym w.base-is)
           (base_put nodes c.args.answers.now c.args.decision c.loop-answer.answer-index c.loop-answer.base c.loop-answer.invariant a c.loop-answer-test.true (sym c.answer-item.is) w.put.new.self
           (subst (Replaces c.loop-answer.base w.put.new.self) is w.put.ensures.replaced) fits c.requires.once
-          (subst (ReliesOn nodes c.args.decision) decided ((c.requires.relevance.pairs c.args.decision c.answer.inside.decision).0 (w.if-relies.ensures.0 refl)))
+          (subst (ReliesOn nodes c.args.decision) decided ((c.requires.relevance.pairs c.args.decision c.answer.inside.decision).0 (c.relies-relied.ensures.0 w.if-relied.true)))
           (w.put.ensures.profile nodes c.loop-answer.invariant.profile rule))
-      | else-relies w ↦
+      | else-relied w ↦
           subst (BaseSoFar nodes c.args.answers.now c.args.decision (c.loop-answer.answer-index + 1)) (sym w.base-is)
           (base_skip nodes c.args.answers.now c.args.decision c.loop-answer.answer-index c.loop-answer.base c.loop-answer.invariant a c.loop-answer-test.true (sym c.answer-item.is)
-          (λ r. let clash : false ≡ true = w.if-relies.ensures.1 ((c.requires.relevance.pairs c.args.decision c.answer.inside.decision).1 (subst (ReliesOn nodes c.args.decision) (sym decided) r)) in cc))
+          (λ r. let clash : false ≡ true = sym w.if-relied.false ∙ c.relies-relied.ensures.1 ((c.requires.relevance.pairs c.args.decision c.answer.inside.decision).1 (subst (ReliesOn nodes c.args.decision) (sym decided) r)) in cc))
     ]
 
 pub returns-clause-base : goal.returns-clause-base

@@ -1,0 +1,5 @@
+pub mod Bits
+pub mod Growing
+pub mod Words
+pub mod Turning
+pub mod Following

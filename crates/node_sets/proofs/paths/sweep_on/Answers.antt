@@ -1,0 +1,14 @@
+use Rattle.std.proofs.Common.{◌<◌, arith}
+use Rattle.node_sets.proofs.Following.{followed_none, followed_weaker, followed_then, closed_more}
+use Rattle.node_sets.proofs.paths.sweep_on.Goals as goal
+
+pub loop-v-init : goal.loop-v-init
+loop-v-init g c = followed_none _ _ _ (λ v l. absurd (omega arith))
+
+pub loop-v-preserved : goal.loop-v-preserved
+loop-v-preserved g c =
+    followed_weaker _ _ _ _ _ _ (λ h. closed_more _ _ _ (λ x. x < c.loop-v.v) c.loop-v.v _ (λ x l n. omega arith) h.0 h.1)
+    (followed_then _ _ _ _ _ _ _ _ c.loop-v.invariant c.visit-changed.ensures)
+
+pub returns : goal.returns
+returns g c = followed_weaker _ _ _ _ _ _ (λ h v l. h v (omega arith)) c.loop-v.invariant

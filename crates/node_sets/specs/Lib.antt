@@ -1,0 +1,3 @@
+pub mod Sets
+pub mod Paths
+pub mod Sweeps

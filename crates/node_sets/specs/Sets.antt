@@ -1,0 +1,28 @@
+-- Sets of node numbers: what they hold, and how they grow.
+use Rattle.std.specs.Prelude.{◌≡◌, ℕ, zero, suc, ◌+◌, ◌/◌, ◌%◌, ◌<◌, ◌⊎◌, ◌↔◌, ◌==◌, Bool, true, false, slice_index, if◌then◌else◌}
+use Rattle.std.specs.Int.{bit_at}
+use Rattle.node_sets.specs.declared.sets.NodeSet.{NodeSet}
+use Rattle.node_sets.specs.declared.sets.TheConstants.{MOST_NODES}
+
+-- the set holds v, as a test: bit v of its words
+unfoldable pub holds : NodeSet → ℕ → Bool
+holds set v = bit_at (slice_index set.words (v / 64)) (v % 64) == 1
+
+-- v is in the set
+abbrev pub IsIn : NodeSet → ℕ → Type 0
+IsIn set v = holds set v ≡ true
+
+-- how many numbers below n are not in the set
+unfoldable pub missing_below : NodeSet → ℕ → ℕ
+missing_below set zero = 0
+missing_below set (suc n) = (if holds set n then 0 else 1) + missing_below set n
+
+-- how many nodes a set can still gain
+abbrev pub room : NodeSet → ℕ
+room set = missing_below set MOST_NODES
+
+-- the set gains exactly the numbers with the property Add; `changed` tells whether that is any
+pub record Adds (Add : ℕ → Type 0) (before after : NodeSet) (changed : Bool) : Type 0 where
+  pub all : (x : ℕ) → IsIn after x ↔ (IsIn before x ⊎ Add x)
+  pub same : changed ≡ false → after ≡ before
+  pub fewer : changed ≡ true → room after < room before

@@ -1,0 +1,27 @@
+-- What the steps of a search along arcs, or back, promise one another.
+use Rattle.std.specs.Prelude.{◌≡◌, ℕ, ◌<◌, Bool, true, false, List}
+use Rattle.node_sets.specs.declared.paths.Way.{Way}
+use Rattle.node_sets.specs.declared.paths.Way.TheVariants.{Down, Up}
+use Rattle.node_sets.specs.declared.sets.NodeSet.{NodeSet}
+use Rattle.node_sets.specs.Sets.{IsIn, room}
+use Rattle.node_sets.specs.Paths.{ParentArc, LeadsFrom}
+
+-- one arc along, or one arc back
+abbrev pub Step : (ℕ → List ℕ) → Way → ℕ → ℕ → Type 0
+Step parents Down a b = ParentArc parents a b
+Step parents Up a b = ParentArc parents b a
+
+-- no step along an arc into v leads from a node of the set to one outside
+abbrev pub ClosedAt : (ℕ → List ℕ) → Way → ℕ → NodeSet → Type 0
+ClosedAt parents Down v set = (p : ℕ) → ParentArc parents p v → IsIn set p → IsIn set v
+ClosedAt parents Up v set = (p : ℕ) → ParentArc parents p v → IsIn set v → IsIn set p
+
+abbrev pub ClosedInto : (ℕ → List ℕ) → Way → (ℕ → Type 0) → NodeSet → Type 0
+ClosedInto parents way Into set = (v : ℕ) → Into v → ClosedAt parents way v set
+
+-- one step: the set grows along steps alone, and where nothing changes it has the property Done
+pub record IsFollowed (Step : ℕ → ℕ → Type 0) (Done : NodeSet → Type 0) (before after : NodeSet) (changed : Bool) : Type 0 where
+  pub kept : (v : ℕ) → IsIn before v → IsIn after v
+  pub sound : (v : ℕ) → IsIn after v → LeadsFrom Step (IsIn before) v
+  pub steady : changed ≡ false → (after ≡ before) × Done before
+  pub fewer : changed ≡ true → room after < room before
