@@ -16,7 +16,7 @@ use Rattle.net_parser.specs.Owned.{leaves}
 use Rattle.weight_scale.specs.Numeral.{numerator, denominator, IsDecimalOf}
 use Rattle.weight_scale.specs.declared.decimal.Decimal.{Decimal}
 use Rattle.net_build.specs.declared.faults.Limit.TheVariants.{Nodes, NameBytes, States, Agents, Parents, Cells, Rules}
-use Rattle.first_fault.specs.Passes.{Pass, clear, rule, always, only, ◌▸◌, each, each_after}
+use Rattle.first_fault.specs.Passes.{Pass, clear, rule, always, only, ◌▸◌, each, each_after, over}
 use Rattle.net_build.specs.Passes.{found, DoubleName, DoubleAttribute, MissingStates, BadStates, BadLabel, BadAgent, UnknownName, DoublePotential, RepeatedParent, UtilityParent, MissingTable, GraphCycle, NotANumber, WrongCount, NumberTooLong, Negative, ZeroRow, WideWeight, WideValue, LimitPassed, Found}
 use Rattle.net_build.specs.Blocks.{node_blocks, potentials, kind_of, title_at, block_name, names_of, conditions, word_of, named, has_states, has_agent, has_table, counted, is_number, is_string_list, is_plain, is_agent, block_states, agent_of, agents_of, place_among, potential_of, parent_lists, row_count, cell_count, data_of, leaves_of}
 use Rattle.net_build.specs.Scaling.{AreDecimals, IsWholeBy}
@@ -204,7 +204,7 @@ wide_row text scale number = rule (IsWideValue scale (token_bytes text number)) 
 
 -- utility values in text order, to scale
 unfoldable pub wide_pass : List ℕ → List BlockTree → Pass Found
-wide_pass text blocks outcome = (scale : ℕ) × IsUtilityScale text blocks scale × each (wide_row text scale) (utility_numbers text blocks) outcome
+wide_pass text blocks = over (IsUtilityScale text blocks) (λ scale. each (wide_row text scale) (utility_numbers text blocks))
 
 -- all passes, one after the other
 unfoldable pub all_passes : List ℕ → List BlockTree → Pass Found

@@ -17,7 +17,7 @@ use Rattle.weight_scale.specs.Views.{ScaledView}
 use Rattle.weight_scale.specs.declared.decimal.Decimal.{Decimal}
 use Rattle.net_build.specs.declared.drafts.Draft.{Draft}
 use Rattle.net_build.specs.declared.drafts.Draft.TheVariants.{Cells, Values}
-use Rattle.first_fault.specs.Passes.{Pass, rule, clear, always, only, ◌▸◌, each}
+use Rattle.first_fault.specs.Passes.{Pass, rule, clear, always, only, ◌▸◌, each, over}
 use Rattle.net_build.specs.Passes.{found, WrongCount, WideWeight, MissingTable, Found}
 use Rattle.net_build.specs.Blocks.{title_at, block_name, data_of, leaves_of, place_among, is_potential}
 use Rattle.net_build.specs.Scaling.{AreDecimals, IsWholeBy, decimal_at}
@@ -42,7 +42,7 @@ IsScaleOf text numbers scale = IsLeast (λ k. All (λ t. IsWholeBy k (token_byte
 
 -- these numbers to their scale
 abbrev pub scaled_pass : List ℕ → List Token → Pass Found
-scaled_pass text numbers outcome = (scale : ℕ) × IsScaleOf text numbers scale × each (wide_row text scale) numbers outcome
+scaled_pass text numbers = over (IsScaleOf text numbers) (λ scale. each (wide_row text scale) numbers)
 
 -- the decimal times 10^scale, where it has no more decimals than that
 abbrev pub value_at_scale : ℕ → Decimal → ℤ
