@@ -21,8 +21,11 @@ relies_line names d list = names_line (codes "relies " ++ name_of names d ++ cod
 
 -- the last line: the order of solving, or where there is none the relevance cycle
 pub data IsLastLine (nodes : List NodeView) (names : NamesView) (told : List ℕ) : Type 0 where
-  OfOrder : (order : List ℕ) → IsRelianceOrder nodes order → told ≡ names_line (codes "order:") names order → IsLastLine nodes names told
-  OfCycle : (cycle : List ℕ) → IsRelianceCycle nodes cycle → ((order : List ℕ) → IsRelianceOrder nodes order → ⊥) → told ≡ names_line (codes "cycle:") names cycle → IsLastLine nodes names told
+  OfOrder : (order : List ℕ) → IsRelianceOrder nodes order
+      → told ≡ names_line (codes "order:") names order → IsLastLine nodes names told
+  OfCycle : (cycle : List ℕ) → IsRelianceCycle nodes cycle
+      → ((order : List ℕ) → IsRelianceOrder nodes order → ⊥)
+      → told ≡ names_line (codes "cycle:") names cycle → IsLastLine nodes names told
 
 -- a line for each decision in text order, and the last line
 pub record IsGraphText (d : DiagramView) (names : NamesView) (printed : List ℕ) : Type 0 where

@@ -11,4 +11,6 @@ OneStatus = (request : Request) (bytes : List ℕ) → EndsAlike status_with (An
 
 -- and is not refused where no stage finds anything
 abbrev pub ClearOrRefused : Type 0
-ClearOrRefused = (request : Request) (bytes : List ℕ) (refusal : Refused) → FindsNothing request bytes → Answers request bytes (Err refusal) → ⊥
+ClearOrRefused =
+    (request : Request) (bytes : List ℕ) (refusal : Refused) → FindsNothing request bytes
+    → Answers request bytes (Err refusal) → ⊥

@@ -18,7 +18,8 @@ Tells status line refusal = IsFaultOrNoMemory refused_as (always (refused status
 
 -- the text's fault, or that memory ran out
 abbrev pub TellsTextFault : List ℕ → List ℕ → Refusal → Type 0
-TellsTextFault name bytes refusal = IsFaultOrNoMemory refused_as (Finds text_fault (name, bytes)) refusal
+TellsTextFault name bytes refusal =
+    IsFaultOrNoMemory refused_as (Finds text_fault (name, bytes)) refusal
 
 -- what the stages find, or that memory ran out
 abbrev pub TellsOf : Outcomes (List ℕ) Refused → Refusal → Type 0

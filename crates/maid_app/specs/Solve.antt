@@ -12,7 +12,9 @@ use Rattle.maid_model.specs.declared.limits.TheConstants.{MOST_WORLDS}
 use Rattle.maid_app.specs.Stages.{text_fault, relevance_cycle, weight_bound, too_many_worlds}
 use Rattle.maid_app.specs.Tasks.{Task}
 
--- The report of the answer, by definition and by what holds of it: its profile is subgame-perfect; for an agent that owns all decisions no profile is worth more, and its printed fraction is the optimum; and in a row that the plan reaches the printed worth is that under the plan.
+-- The report of the answer, by definition and by what holds of it: its profile is subgame-perfect;
+-- for an agent that owns all decisions no profile is worth more, and its printed fraction is the
+-- optimum; and in a row that the plan reaches the printed worth is that under the plan.
 pub record HasReport (d : DiagramView) (names : NamesView) (printed : List ℕ) : Type 0 where
   pub solved : SolvedView
   pub is_answer : IsAnswer d solved
@@ -28,6 +30,10 @@ pub record IsSolvable (d : DiagramView) : Type 0 where
   pub bound : KeepsBound d
   pub few : world_count d.nodes ≤ MOST_WORLDS
 
--- the first that applies of the text's fault, the relevance cycle, the weight bound and too many worlds, and else the report
+-- the first that applies of the text's fault, the relevance cycle, the weight bound and too many
+-- worlds, and else the report
 abbrev pub solving : Task
-solving = record { stages = text_fault ∷ relevance_cycle ∷ weight_bound ∷ too_many_worlds ∷ []; IsTextOf = HasReport }
+solving = record {
+  stages = text_fault ∷ relevance_cycle ∷ weight_bound ∷ too_many_worlds ∷ [];
+  IsTextOf = HasReport;
+}

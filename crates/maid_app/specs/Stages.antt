@@ -1,4 +1,5 @@
--- The stages that may refuse a request for what its file holds. A form of words has some of them, in an order of its own.
+-- The stages that may refuse a request for what its file holds. A form of words has some of them,
+-- in an order of its own.
 use Rattle.std.specs.Prelude.{◌≡◌, ◌<◌, ◌≤◌, ℕ, List, Option, None, Some}
 use Rattle.first_fault.specs.Passes.{Pass}
 use Rattle.maid_io.specs.Device.{File}
@@ -46,7 +47,7 @@ pub record TellsNotBuilt (d : DiagramView) (names : NamesView) (told : List ℕ)
   pub many : MOST_WORLDS < world_count d.nodes
   pub says : told ≡ not_built_line
 
--- a stage finds nothing where all is clear, and else refuses with its status and a line that tells why
+-- a stage finds nothing where it is clear, and else refuses with its status and a line that says why
 abbrev pub stage : Status → Type 0 → (List ℕ → Type 0) → Pass Refused
 stage status IsClear Tells None = IsClear
 stage status IsClear Tells (Some refusal) = (refusal.status ≡ status) × Tells refusal.told
@@ -54,6 +55,9 @@ stage status IsClear Tells (Some refusal) = (refusal.status ≡ status) × Tells
 -- what each stage finds in a file, which is a name and bytes
 abbrev pub Finds : Stage → File → Pass Refused
 Finds text_fault file = stage TextFault (IsText file.1) (TellsFault file.0 file.1)
-Finds relevance_cycle file = of_diagram file.1 (λ d names. stage Cycle (HasRelianceOrder d.nodes) (TellsCycle d names))
-Finds weight_bound file = of_diagram file.1 (λ d names. stage WeightBound (KeepsBound d) (TellsBound d names))
-Finds too_many_worlds file = of_diagram file.1 (λ d names. stage NotBuilt (world_count d.nodes ≤ MOST_WORLDS) (TellsNotBuilt d names))
+Finds relevance_cycle file =
+    of_diagram file.1 (λ d names. stage Cycle (HasRelianceOrder d.nodes) (TellsCycle d names))
+Finds weight_bound file =
+    of_diagram file.1 (λ d names. stage WeightBound (KeepsBound d) (TellsBound d names))
+Finds too_many_worlds file =
+    of_diagram file.1 (λ d names. stage NotBuilt (world_count d.nodes ≤ MOST_WORLDS) (TellsNotBuilt d names))

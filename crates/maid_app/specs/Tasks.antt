@@ -12,6 +12,8 @@ pub record Task : Type 1 where
   pub stages : List Stage
   pub IsTextOf : DiagramView → NamesView → List ℕ → Type 0
 
--- what comes of the task on the bytes of the file of that name: what its stages find first, or else its text
+-- what comes of the task on the bytes of the file of that name: what its stages find first, or else
+-- its text
 unfoldable pub comes_of : Task → List ℕ → List ℕ → Outcomes (List ℕ) Refused
-comes_of task name bytes = staged Finds task.stages (λ file. of_diagram file.1 task.IsTextOf) (name, bytes)
+comes_of task name bytes =
+    staged Finds task.stages (λ file. of_diagram file.1 task.IsTextOf) (name, bytes)

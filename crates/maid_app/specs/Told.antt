@@ -15,13 +15,15 @@ use Rattle.maid_app.specs.declared.status.Status.TheVariants.{Done, Usage, Absen
 abbrev pub limit : ℕ
 limit = 4194304
 
--- These bytes were read of the file and keep the limit. The shelf counted them, and where its list is told they are the file's.
+-- These bytes were read of the file and keep the limit. The shelf counted them, and where its list
+-- is told they are the file's.
 pub record IsFileText (list : Option (List File)) (name : List ℕ) (given : ℕ) (bytes : List ℕ) : Type 0 where
   pub told : IfSome list (λ files. file_of files name ≡ Some bytes)
   pub counted : given ≡ length bytes
   pub fits : length bytes ≤ limit
 
--- One byte more than the limit was read of the file. Where the list is told the file has more bytes than the limit.
+-- One byte more than the limit was read of the file. Where the list is told the file has more bytes
+-- than the limit.
 pub record IsTooLong (list : Option (List File)) (name : List ℕ) (given : ℕ) : Type 0 where
   pub told : IfSome list (λ files. IsSomeAnd (file_of files name) (λ bytes. limit < length bytes))
   pub counted : given ≡ limit + 1
@@ -30,7 +32,8 @@ pub record IsTooLong (list : Option (List File)) (name : List ℕ) (given : ℕ)
 abbrev pub IsOneOf : Status → Status → Type 0
 IsOneOf status wanted = (status ≡ wanted) ⊎ (status ≡ NoMemory)
 
--- At most one byte more than the limit was given, that one only of a file that is too long, and nothing of an absent one.
+-- At most one byte more than the limit was given, that one only of a file that is too long, and
+-- nothing of an absent one.
 pub record KeepsLimit (status : Status) (given : ℕ) : Type 0 where
   pub most : given ≤ limit + 1
   pub one_more : limit < given → IsOneOf status TextTooLong
@@ -48,7 +51,8 @@ pub record HasText (list : Option (List File)) (request : Request) (given : ℕ)
 
 -- the text was taken so
 abbrev pub WritesText : Option (List File) → Option Request → ℕ → (List ℕ → Type 0) → Type 0
-WritesText list requested given IsTaken = IfSome requested (λ request. (printed : List ℕ) × HasText list request given printed × IsTaken printed)
+WritesText list requested given IsTaken =
+    IfSome requested (λ request. (printed : List ℕ) × HasText list request given printed × IsTaken printed)
 
 -- the request comes to nothing on its file's bytes, with that status and that line
 pub record Refuses (list : Option (List File)) (request : Request) (given : ℕ) (status : Status) (told : List ℕ) : Type 0 where
@@ -64,15 +68,20 @@ IsUnread list name given TextTooLong told = IsTooLong list name given × (told �
 IsUnread list name given NoMemory told = told ≡ no_memory_line
 IsUnread list name given status told = ⊥
 
--- What a status other than Done says, and the line that is told with it: of the words, of reading, of writing, of memory, or else of the file's bytes.
+-- What a status other than Done says, and the line that is told with it: of the words, of reading,
+-- of writing, of memory, or else of the file's bytes.
 abbrev pub Says : Option (List File) → Option Request → ℕ → Status → List ℕ → Type 0
 Says list requested given Usage told = (requested ≡ None) × (told ≡ usage_line)
-Says list requested given Absent told = IsSomeAnd requested (λ request. IsUnread list (file_name request) given Absent told)
-Says list requested given ReadFault told = IsSomeAnd requested (λ request. IsUnread list (file_name request) given ReadFault told)
-Says list requested given TextTooLong told = IsSomeAnd requested (λ request. IsUnread list (file_name request) given TextTooLong told)
+Says list requested given Absent told =
+    IsSomeAnd requested (λ request. IsUnread list (file_name request) given Absent told)
+Says list requested given ReadFault told =
+    IsSomeAnd requested (λ request. IsUnread list (file_name request) given ReadFault told)
+Says list requested given TextTooLong told =
+    IsSomeAnd requested (λ request. IsUnread list (file_name request) given TextTooLong told)
 Says list requested given WriteFault told = told ≡ write_fault_line
 Says list requested given NoMemory told = told ≡ no_memory_line
-Says list requested given status told = IsSomeAnd requested (λ request. Refuses list request given status told)
+Says list requested given status told =
+    IsSomeAnd requested (λ request. Refuses list request given status told)
 
 -- the whole line was taken, or where a write failed a proper front of it
 abbrev pub TakesLine : Option (List ℕ) → Option (List ℕ) → ℕ → ℕ → List ℕ → Type 0

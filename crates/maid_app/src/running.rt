@@ -39,11 +39,15 @@ fn told(alloc: Global, status: Status, head: &[u8], name: &str) -> Refusal
 
 // The bytes of the file of that name.
 fn read_file<H: Shelf>(alloc: Global, shelf: &mut H, name: &str) -> Result<Vec<u8>, Refusal>
-    ensures ok { IfOk result (λ bytes. IsFileText (H.list shelf.old) name.now (H.given shelf.new) bytes.items) }
-    ensures err { IfErr result (λ refusal. IsUnread (H.list shelf.old) name.now (H.given shelf.new) (status_of refusal) (line_of refusal)) }
+    ensures ok { IfOk result (λ bytes.
+        IsFileText (H.list shelf.old) name.now (H.given shelf.new) bytes.items) }
+    ensures err { IfErr result (λ refusal.
+        IsUnread (H.list shelf.old) name.now (H.given shelf.new) (status_of refusal) (line_of refusal)) }
     ensures bounded { IfErr result (λ refusal. KeepsLimit (status_of refusal) (H.given shelf.new)) }
-    ensures absent_cause { IfErr result (λ refusal. status_of refusal ≡ Status.Absent → Rose (H.absences shelf.old) (H.absences shelf.new)) }
-    ensures read_cause { IfErr result (λ refusal. status_of refusal ≡ Status.ReadFault → Rose (H.faults shelf.old) (H.faults shelf.new)) }
+    ensures absent_cause { IfErr result (λ refusal.
+        status_of refusal ≡ Status.Absent → Rose (H.absences shelf.old) (H.absences shelf.new)) }
+    ensures read_cause { IfErr result (λ refusal.
+        status_of refusal ≡ Status.ReadFault → Rose (H.faults shelf.old) (H.faults shelf.new)) }
     ensures faults { H.faults shelf.old ≤ H.faults shelf.new }
     ensures absences { H.absences shelf.old ≤ H.absences shelf.new }
     ensures list { H.list shelf.new ≡ H.list shelf.old }
@@ -70,7 +74,8 @@ fn read_file<H: Shelf>(alloc: Global, shelf: &mut H, name: &str) -> Result<Vec<u
 // the run's own.
 fn text_of(alloc: Global, form: Form<'_>, bytes: &[u8]) -> Result<Vec<u8>, Refusal>
     ensures ok { IfOk result (λ printed. Answers (request_by form.entry) bytes.now (Ok printed.items)) }
-    ensures err { IfErr result (λ refusal. RefusesAs (Answers (request_by form.entry) bytes.now) (status_of refusal) (line_of refusal)) }
+    ensures err { IfErr result (λ refusal.
+        RefusesAs (Answers (request_by form.entry) bytes.now) (status_of refusal) (line_of refusal)) }
 {
     form.text(alloc, bytes)
 }
@@ -85,18 +90,26 @@ fn serve<H: Shelf, O: Sink>(
     ensures ok { OnOk result (WritesText (H.list shelf.old) (requested words.now) (H.given shelf.new)
         (Appends (O.taken out.old) (O.taken out.new))) }
     ensures ok_words { OnOk result (requested words.now ≢ None) }
-    ensures err { IfErr result (λ refusal. Says (H.list shelf.old) (requested words.now) (H.given shelf.new) (status_of refusal) (line_of refusal)) }
+    ensures err { IfErr result (λ refusal.
+        Says (H.list shelf.old) (requested words.now) (H.given shelf.new) (status_of refusal) (line_of refusal)) }
     ensures bounded_done { OnOk result (KeepsLimit Status.Done (H.given shelf.new)) }
-    ensures bounded { IfErr result (λ refusal. status_of refusal ≢ Status.Usage → KeepsLimit (status_of refusal) (H.given shelf.new)) }
-    ensures usage { IfErr result (λ refusal. (status_of refusal ≡ Status.Usage) ↔ (requested words.now ≡ None)) }
-    ensures untouched_shelf { IfErr result (λ refusal. status_of refusal ≡ Status.Usage → shelf.new ≡ shelf.old) }
+    ensures bounded { IfErr result (λ refusal.
+        status_of refusal ≢ Status.Usage → KeepsLimit (status_of refusal) (H.given shelf.new)) }
+    ensures usage { IfErr result (λ refusal.
+        (status_of refusal ≡ Status.Usage) ↔ (requested words.now ≡ None)) }
+    ensures untouched_shelf { IfErr result (λ refusal.
+        status_of refusal ≡ Status.Usage → shelf.new ≡ shelf.old) }
     ensures part { IfErr result (λ refusal. status_of refusal ≡ Status.WriteFault
         → WritesText (H.list shelf.old) (requested words.now) (H.given shelf.new)
         (AppendsPart (O.taken out.old) (O.taken out.new))) }
-    ensures absent_cause { IfErr result (λ refusal. status_of refusal ≡ Status.Absent → Rose (H.absences shelf.old) (H.absences shelf.new)) }
-    ensures read_cause { IfErr result (λ refusal. status_of refusal ≡ Status.ReadFault → Rose (H.faults shelf.old) (H.faults shelf.new)) }
-    ensures write_cause { IfErr result (λ refusal. status_of refusal ≡ Status.WriteFault → Rose (O.faults out.old) (O.faults out.new)) }
-    ensures untouched { IfErr result (λ refusal. status_of refusal ≢ Status.WriteFault → out.new ≡ out.old) }
+    ensures absent_cause { IfErr result (λ refusal.
+        status_of refusal ≡ Status.Absent → Rose (H.absences shelf.old) (H.absences shelf.new)) }
+    ensures read_cause { IfErr result (λ refusal.
+        status_of refusal ≡ Status.ReadFault → Rose (H.faults shelf.old) (H.faults shelf.new)) }
+    ensures write_cause { IfErr result (λ refusal.
+        status_of refusal ≡ Status.WriteFault → Rose (O.faults out.old) (O.faults out.new)) }
+    ensures untouched { IfErr result (λ refusal.
+        status_of refusal ≢ Status.WriteFault → out.new ≡ out.old) }
     ensures not_done { IfErr result (λ refusal. status_of refusal ≢ Status.Done) }
     ensures out_faults { O.faults out.old ≤ O.faults out.new }
     ensures faults { H.faults shelf.old ≤ H.faults shelf.new }
@@ -115,13 +128,14 @@ fn serve<H: Shelf, O: Sink>(
 ///
 /// The words are those of one form, which names a file F of the shelf: `solve F` writes the report
 /// of its diagram to `out`, `graph F` who relies on whom, and `print F` the diagram. The whole text
-/// is made before its first byte is written, and writing takes no memory. After a status other than [`Status::Done`] `err` takes one line that says why.
+/// is made before its first byte is written, and writing takes no memory. After a status other
+/// than [`Status::Done`] `err` takes one line that says why.
 ///
 /// The order of refusals is [`Status::Usage`] where the words are of no form, [`Status::Absent`],
 /// [`Status::ReadFault`] and [`Status::TextTooLong`] for the file, [`Status::TextFault`] for its
 /// bytes, for `solve` then [`Status::Cycle`], [`Status::WeightBound`] and [`Status::NotBuilt`] for
-/// its diagram, and last [`Status::WriteFault`]. [`Status::NoMemory`] may come at
-/// any point after the words and before the first write. A fault of `err` changes nothing else.
+/// its diagram, and last [`Status::WriteFault`]. [`Status::NoMemory`] may come at any point after
+/// the words and before the first write. A fault of `err` changes nothing else.
 pub fn run<H: Shelf, O: Sink, E: Sink>(
     alloc: Global,
     words: &[String],

@@ -249,7 +249,11 @@ fn each_call_of_the_shelf_fails_in_turn(rt: HostRuntime) -> Result<(), Fail> {
         let (status, out, err) = ended(rt.alloc(), "solve steer.net", [call, 0, 0], 400)?;
         assert_eq!(rt; status, Status::ReadFault, "{call}");
         assert_eq!(rt; out.len(), 0, "{call}");
-        assert_eq!(rt; err.as_slice(), "read fault: steer.net\n".as_bytes(), "{call}");
+        assert_eq!(rt;
+            err.as_slice(),
+            "read fault: steer.net\n".as_bytes(),
+            "{call}"
+        );
     }
     let (status, out, _) = ended(rt.alloc(), "solve steer.net", [7, 0, 0], 400)?;
     assert_eq!(rt; status, Status::Done);
