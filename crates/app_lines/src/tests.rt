@@ -1,4 +1,4 @@
-//! Places of a text.
+//! Each call once, over small texts and lists.
 
 use super::*;
 

@@ -1,3 +1,5 @@
+//! What a search asks of a diagram.
+
 ghost use Rattle.std.specs.Prelude.{◌<◌, ◌↔◌, length, IsTrue};
 ghost use Rattle.maid_model.specs.Relevance.{IsLive};
 

@@ -1,3 +1,5 @@
+//! The steps of a search: sweeps over all arcs until no mark is added.
+
 ghost use Rattle.std.specs.Prelude.{◌≡◌, ℕ, ◌+◌, ◌<◌, ◌⊎◌, ◌↔◌, length, Contains, IsTrue, IsFalse};
 ghost use Rattle.maid_model.specs.Graph.{Arc};
 ghost use Rattle.maid_model.specs.Relevance.{IsLive};

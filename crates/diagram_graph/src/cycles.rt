@@ -1,3 +1,5 @@
+//! The first cycle of lists of parents.
+
 ghost use Rattle.std.specs.Prelude.{◌≡◌, ℕ, ◌<◌, length, IfOk, IfSome, MatchOption};
 ghost use Rattle.maid_model.specs.Graph.{Arc, IsAcyclic};
 ghost use Rattle.maid_model.specs.Placing.{IsOrder};

@@ -1,3 +1,5 @@
+//! Items and what each of them needs.
+
 ghost use Rattle.std.specs.Prelude.{◌≡◌, ℕ, ◌<◌, List, length, map};
 ghost use Rattle.diagram_graph.specs.Needs.{needs_of};
 

@@ -1,3 +1,5 @@
+//! Items placed one by one, each after those that it needs.
+
 ghost use Rattle.std.specs.Prelude.{◌≡◌, ℕ, ◌<◌, ◌↔◌, length, Contains, IsTrue, IfOk, OnOk, MatchOption};
 ghost use Rattle.maid_model.specs.Placing.{IsLeast, IsPlacing};
 ghost use Rattle.diagram_graph.specs.Needs.{IsIn, needs_of, NeedsItem};

@@ -1,3 +1,5 @@
+//! The round among the items that are left where placing stops short.
+
 ghost use Rattle.std.specs.Prelude.{◌≡◌, ℕ, ◌<◌, length, Contains, IfOk, MatchOption, slice_index};
 ghost use Rattle.maid_model.specs.Placing.{IsLeast};
 ghost use Rattle.diagram_graph.specs.Needs.{needs_of};

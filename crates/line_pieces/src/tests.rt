@@ -1,3 +1,5 @@
+//! Each call once, over small pieces.
+
 use super::*;
 use std::test::Fail;
 

@@ -1,4 +1,4 @@
-//! Why a run writes no text, with its status and its line.
+//! Why a run does not write the whole text of its form.
 
 ghost use Rattle.std.specs.Prelude.{◌≡◌};
 ghost use Rattle.maid_app.specs.Refusal.{status_of, line_of};

@@ -1,4 +1,4 @@
-//! A run: words to a request, the request's file to a text, and the text to `out`.
+//! The shell: words, devices, the order of refusals, and one line to `err`.
 
 ghost use Rattle.std.specs.Prelude.{◌≡◌, ◌≢◌, ◌++◌, ◌<◌, ◌≤◌, ◌↔◌, List, ℕ, length, None, Some, Ok, Err, IfSome, IfOk, IfErr, OnOk};
 ghost use Rattle.std.specs.Io.KnownBytes.{Appends};

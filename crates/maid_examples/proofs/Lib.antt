@@ -4,3 +4,15 @@ pub mod Turning
 pub mod Reliance
 pub mod Starting
 pub mod Rooms
+pub mod Threats
+pub mod Cycles
+pub mod TwoStates
+pub mod Fractions
+pub mod Optimal
+pub mod ByCopy
+pub mod CopyReports
+pub mod Guessing
+pub mod Weather
+pub mod GuessWorth
+pub mod WeatherMade
+pub mod InSight

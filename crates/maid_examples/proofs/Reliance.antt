@@ -1,25 +1,26 @@
 -- Who relies on whom in the small diagrams: a walk, or a closed set of steps without a goal.
-use Rattle.std.proofs.Common.{◌≡◌, ◌≢◌, ◌⊎◌, ◌↔◌, ℕ, zero, suc, ◌<◌, List, [], ◌∷◌, length, refl, sym, subst, inl, inr, arith}
+use Rattle.std.proofs.Common.{◌≡◌, ◌≢◌, ◌⊎◌, ◌↔◌, ℕ, zero, suc, ◌<◌, List, [], ◌∷◌, length, refl, sym, subst, inl, inr, arith, ℤ}
 use Rattle.maid_model.specs.declared.diagrams.Kind.TheVariants.{Chance, Decision, Utility}
 use Rattle.maid_model.specs.Views.{NodeView}
 use Rattle.maid_model.specs.Nodes.{IsDecision, node_at, states_of}
 use Rattle.maid_model.specs.Graph.{Arc, Here, IsGraph}
 use Rattle.maid_model.specs.Relevance.{IsLive, IsInFamily, IsGoal, ReliesOn}
 use Rattle.maid_model.specs.Walks.{WithArc, WithNode, IsJoined, IsCollider}
+use Rattle.maid_examples.specs.Samples.{leader, follower, pay}
 use Rattle.maid_examples.specs.FollowerLeader as seen
 use Rattle.maid_examples.specs.CopySeen as copy
 use Rattle.maid_examples.specs.NodeBetween as between
 use Rattle.maid_examples.proofs.Members.{Among, among_of}
 use Rattle.maid_examples.proofs.Turning.{end_of_walk}
 
-decision : (nodes : List NodeView) (v : ℕ) → v < length nodes → (node_at nodes v).kind ≡ Decision → IsDecision nodes v
+pub decision : (nodes : List NodeView) (v : ℕ) → v < length nodes → (node_at nodes v).kind ≡ Decision → IsDecision nodes v
 decision nodes v l k = record { within = l; kind = k }
 
-live : (nodes : List NodeView) (v : ℕ) → v < length nodes → 1 < states_of nodes v → IsLive nodes v
+pub live : (nodes : List NodeView) (v : ℕ) → v < length nodes → 1 < states_of nodes v → IsLive nodes v
 live nodes v l k = record { within = l; states = inr k }
 
 -- the walk from the new parent of e through e to the utility
-relies : (nodes : List NodeView) (d e goal : ℕ) → IsGraph nodes → d ≢ e → IsDecision nodes d → IsDecision nodes e → IsLive nodes d → IsLive nodes e → IsGoal nodes d goal → Arc nodes e goal → (Arc nodes e d → ⊥) → ReliesOn nodes d e
+pub relies : (nodes : List NodeView) (d e goal : ℕ) → IsGraph nodes → d ≢ e → IsDecision nodes d → IsDecision nodes e → IsLive nodes d → IsLive nodes e → IsGoal nodes d goal → Arc nodes e goal → (Arc nodes e d → ⊥) → ReliesOn nodes d e
 relies nodes d e goal g n kd ke ld le is arc unseen = record {
   apart = n;
   from_decision = kd;
@@ -43,53 +44,57 @@ relies nodes d e goal g n kd ke ld le is arc unseen = record {
     given (inl f) = n (sym f)
     given (inr a) = unseen a
 
--- ---- a follower who sees the leader
-seen_on_follower : IsGraph seen.sight → ReliesOn seen.sight 0 1
-seen_on_follower graph =
-    relies seen.sight 0 1 2 graph (λ e. omega arith) (decision seen.sight 0 (omega arith) refl) (decision seen.sight 1 (omega arith) refl)
-    (live seen.sight 0 (omega arith) (omega arith)) (live seen.sight 1 (omega arith) (omega arith))
-    (record { within = omega arith; kind = refl; owner = refl; below = (2, (0, omega arith, refl), Here) })
-    (1, omega arith, refl) (λ a. among_of [] 1 a)
-
+-- ---- a follower who sees the leader, whatever they are paid
 -- the steps of walks from a new parent of the leader: to it and back
 data Turn : ℕ → ℕ → Type 0 where
   There : Turn 4 0
   Back : Turn 0 4
 
-abbrev SeenArc : ℕ → ℕ → Type 0
-SeenArc = WithArc (Arc seen.sight) 4 0
+module _ (leads follows : List ℤ) where
+  abbrev sight : List NodeView
+  sight = leader ∷ follower (0 ∷ []) ∷ pay 0 (0 ∷ 1 ∷ []) leads ∷ pay 1 (0 ∷ 1 ∷ []) follows ∷ []
 
--- the new parent has an arc to the leader alone
-seen_from_new : IsGraph seen.sight → (z : ℕ) → IsJoined SeenArc 4 z → Turn 4 z
-seen_from_new graph z j = subst (λ x. Turn 4 x) (sym (leader z j)) There
-  where
-    leader : (z : ℕ) → IsJoined SeenArc 4 z → z ≡ 0
-    leader z (inl (inl a)) = let l : 4 < 4 = graph.parents_known 4 z a in absurd (omega arith)
-    leader z (inl (inr h)) = h.1
-    leader z (inr (inl a)) = absurd (among_of [] z a)
-    leader z (inr (inr h)) = let e : ◌≡◌ {A = ℕ} 4 0 = h.1 in absurd (omega arith)
+  pub seen_on_follower : IsGraph sight → ReliesOn sight 0 1
+  seen_on_follower graph =
+      relies sight 0 1 2 graph (λ e. omega arith) (decision sight 0 (omega arith) refl) (decision sight 1 (omega arith) refl)
+      (live sight 0 (omega arith) (omega arith)) (live sight 1 (omega arith) (omega arith))
+      (record { within = omega arith; kind = refl; owner = refl; below = (2, (0, omega arith, refl), Here) })
+      (1, omega arith, refl) (λ a. among_of [] 1 a)
 
--- the leader is given, so the walk goes on to one of its parents
-seen_closed : IsGraph seen.sight → (x y z : ℕ) → Turn x y → IsJoined SeenArc y z → WithNode (IsLive seen.sight) 4 z → IsCollider SeenArc x y z ↔ IsInFamily (Arc seen.sight) 1 y → Turn y z
-seen_closed graph x y z There j l m = parent z (m.1 (inr (0, omega arith, refl))).1
-  where
-    parent : (z : ℕ) → SeenArc z 0 → Turn 0 z
-    parent z (inl a) = absurd (among_of [] z a)
-    parent z (inr h) = subst (λ x. Turn 0 x) (sym h.0) Back
-seen_closed graph x y z Back j l m = seen_from_new graph z j
+  abbrev SeenArc : ℕ → ℕ → Type 0
+  SeenArc = WithArc (Arc sight) 4 0
 
-seen_no_goal : (goal u : ℕ) → Turn u goal → IsGoal seen.sight 1 goal → ⊥
-seen_no_goal goal u There g = let k : Decision ≡ Utility = g.kind in cc
-seen_no_goal goal u Back g = let l : 4 < 4 = g.within in omega arith
+  -- the new parent has an arc to the leader alone
+  seen_from_new : IsGraph sight → (z : ℕ) → IsJoined SeenArc 4 z → Turn 4 z
+  seen_from_new graph z j = subst (λ x. Turn 4 x) (sym (leader z j)) There
+    where
+      leader : (z : ℕ) → IsJoined SeenArc 4 z → z ≡ 0
+      leader z (inl (inl a)) = let l : 4 < 4 = graph.parents_known 4 z a in absurd (omega arith)
+      leader z (inl (inr h)) = h.1
+      leader z (inr (inl a)) = absurd (among_of [] z a)
+      leader z (inr (inr h)) = let e : ◌≡◌ {A = ℕ} 4 0 = h.1 in absurd (omega arith)
 
-seen_not_on_leader : IsGraph seen.sight → ReliesOn seen.sight 1 0 → ⊥
-seen_not_on_leader graph r = elim (end_of_walk SeenArc (WithNode (IsLive seen.sight) 4) (IsInFamily (Arc seen.sight) 1) Turn (seen_closed graph) 4 r.goal (λ y j l. seen_from_new graph y j) r.walk) [
-  | inl e ↦ (let l : r.goal < 4 = r.is_goal.within in omega arith)
-  | inr t ↦ seen_no_goal r.goal t.0 t.1 r.is_goal
-]
+  -- the leader is given, so the walk goes on to one of its parents
+  seen_closed : IsGraph sight → (x y z : ℕ) → Turn x y → IsJoined SeenArc y z → WithNode (IsLive sight) 4 z → IsCollider SeenArc x y z ↔ IsInFamily (Arc sight) 1 y → Turn y z
+  seen_closed graph x y z There j l m = parent z (m.1 (inr (0, omega arith, refl))).1
+    where
+      parent : (z : ℕ) → SeenArc z 0 → Turn 0 z
+      parent z (inl a) = absurd (among_of [] z a)
+      parent z (inr h) = subst (λ x. Turn 0 x) (sym h.0) Back
+  seen_closed graph x y z Back j l m = seen_from_new graph z j
+
+  seen_no_goal : (goal u : ℕ) → Turn u goal → IsGoal sight 1 goal → ⊥
+  seen_no_goal goal u There g = let k : Decision ≡ Utility = g.kind in cc
+  seen_no_goal goal u Back g = let l : 4 < 4 = g.within in omega arith
+
+  pub seen_not_on_leader : IsGraph sight → ReliesOn sight 1 0 → ⊥
+  seen_not_on_leader graph r = elim (end_of_walk SeenArc (WithNode (IsLive sight) 4) (IsInFamily (Arc sight) 1) Turn (seen_closed graph) 4 r.goal (λ y j l. seen_from_new graph y j) r.walk) [
+    | inl e ↦ (let l : r.goal < 4 = r.is_goal.within in omega arith)
+    | inr t ↦ seen_no_goal r.goal t.0 t.1 r.is_goal
+  ]
 
 pub seen_reliance : IsGraph seen.sight → seen.HasReliance
-seen_reliance graph = record { on_follower = seen_on_follower graph; not_on_leader = seen_not_on_leader graph }
+seen_reliance graph = let leads = (node_at seen.sight 2).cells in let follows = (node_at seen.sight 3).cells in record { on_follower = seen_on_follower leads follows graph; not_on_leader = seen_not_on_leader leads follows graph }
 
 -- ---- one who sees a copy
 copied_on_follower : IsGraph copy.copied → ReliesOn copy.copied 0 2

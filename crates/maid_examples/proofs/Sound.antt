@@ -3,9 +3,10 @@ use Rattle.std.proofs.Common.{◌≡◌, ℕ, zero, suc, ◌+◌, ◌*◌, ◌<�
 use Rattle.std.proofs.lemmas.Int.{ints}
 use Rattle.maid_model.specs.Laws.{TestsDiagrams, TestsRules, TestsProfiles}
 use Rattle.maid_model.specs.Nodes.{IsDecision}
-use Rattle.maid_model.specs.Sums.{sum_below}
+use Rattle.finite_sums.specs.Sums.{sum_below}
 use Rattle.maid_model.specs.Profiles.{IsRule, IsProfile, uniform_profile}
 use Rattle.maid_model.specs.Tested.{rule_at}
+use Rattle.maid_examples.specs.Samples.{plan}
 use Rattle.maid_examples.specs.FollowerLeader as seen
 use Rattle.maid_examples.specs.CopySeen as copy
 use Rattle.maid_examples.specs.NodeBetween as between
@@ -38,7 +39,7 @@ module _ (diagrams : TestsDiagrams) (rules : TestsRules) (profiles : TestsProfil
   seen_sound = record {
     diagram = diagrams seen.sight_diagram refl;
     of_uniform = profiles seen.sight (uniform_profile seen.sight) refl refl;
-    of_plan = profiles seen.sight seen.plan refl refl;
+    of_plan = profiles seen.sight (plan 1) refl refl;
     of_mixed = seen_mixed;
   }
 
@@ -46,7 +47,7 @@ module _ (diagrams : TestsDiagrams) (rules : TestsRules) (profiles : TestsProfil
   copied_sound = record {
     diagram = diagrams copy.copied_diagram refl;
     of_uniform = profiles copy.copied (uniform_profile copy.copied) refl refl;
-    of_plan = profiles copy.copied copy.plan refl refl;
+    of_plan = profiles copy.copied (plan 2) refl refl;
   }
 
   pub between_sound : between.AreSound

@@ -1,4 +1,12 @@
+pub mod Samples
 pub mod FollowerLeader
 pub mod CopySeen
 pub mod NodeBetween
+pub mod EmptyThreat
+pub mod SightAnswered
+pub mod CopyAnswered
+pub mod Tie
+pub mod Pennies
+pub mod TwoCoins
+pub mod Trip
 pub mod Trial

@@ -11,8 +11,13 @@ pub record TrialView : Type 0 where
   pub diagram : DiagramView
   pub profile : List RuleView
 
+-- what a mass is multiplied by at most: the utilities' scale, or their summed greatest values
+abbrev pub greatest_factor : DiagramView → ℕ
+greatest_factor d = max (10 ^ d.decimals) (greatest_utility d.nodes)
+
 -- the rules are a profile, and the sums against it keep the weight bound
 pub record HasRoom (t : TrialView) : Type 0 where
   pub profile : IsProfile t.diagram.nodes t.profile
-  pub whole : mass t.diagram.nodes t.profile * max (10 ^ t.diagram.decimals) (greatest_utility t.diagram.nodes) ≤ greatest_number
-  pub base : (v : ℕ) → IsDecision t.diagram.nodes v → base_mass t.diagram.nodes t.profile v * max (10 ^ t.diagram.decimals) (greatest_utility t.diagram.nodes) ≤ greatest_number
+  pub whole : mass t.diagram.nodes t.profile * greatest_factor t.diagram ≤ greatest_number
+  pub base : (v : ℕ) → IsDecision t.diagram.nodes v
+      → base_mass t.diagram.nodes t.profile v * greatest_factor t.diagram ≤ greatest_number

@@ -1,4 +1,7 @@
-ghost use Rattle.maid_examples.specs.CopySeen.{IsSound, HasSums, HasReliance, HasStarts};
+//! The follower sees a copy of the choice in its place.
+
+ghost use Rattle.maid_examples.specs.Samples.{HasSums};
+ghost use Rattle.maid_examples.specs.CopySeen.{copied, IsSound, HasReliance, HasStarts};
 
 use maid_model::literals_are_tested;
 
@@ -6,7 +9,7 @@ use maid_model::literals_are_tested;
 /// subgame starts after the leader's choice.
 pub fn copy_in_place()
     ensures sound { IsSound }
-    ensures sums { HasSums }
+    ensures sums { HasSums copied 2 }
     ensures reliance { HasReliance }
     ensures starts { HasStarts }
 {

@@ -1,11 +1,14 @@
-ghost use Rattle.maid_examples.specs.FollowerLeader.{IsSound, HasSums, HasSumsInProportion, HasReliance, HasStarts};
+//! The follower sees the leader's choice.
+
+ghost use Rattle.maid_examples.specs.Samples.{HasSums};
+ghost use Rattle.maid_examples.specs.FollowerLeader.{sight, IsSound, HasSumsInProportion, HasReliance, HasStarts};
 
 use maid_model::literals_are_tested;
 
 /// A follower who sees the leader's choice: the sums, who relies on whom, and where subgames start.
 pub fn follower_and_leader()
     ensures sound { IsSound }
-    ensures sums { HasSums }
+    ensures sums { HasSums sight 1 }
     ensures proportion { HasSumsInProportion }
     ensures reliance { HasReliance }
     ensures starts { HasStarts }

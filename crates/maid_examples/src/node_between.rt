@@ -1,3 +1,5 @@
+//! A node stands between the leader's choice and the follower's pay.
+
 ghost use Rattle.maid_examples.specs.NodeBetween.{AreSound, HasJoinedSums, HasPartedSums, HasReliance};
 
 use maid_model::literals_are_tested;

@@ -1,4 +1,4 @@
-//! Files in memory.
+//! A shelf of files in memory.
 
 ghost use Rattle.std.specs.Prelude.{◌≡◌, ◌≢◌, ◌≤◌, ◌+◌, ◌^◌, ◌<◌, ◌↔◌, min, [], Some, length, take, map, IfOk, IfSome, IsErr};
 ghost use Rattle.std.specs.Io.{ReadsAtMost};

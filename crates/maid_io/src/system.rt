@@ -1,4 +1,4 @@
-//! The files and the writers of the system.
+//! The edge to the system: its files as a shelf, its writers as sinks.
 
 ghost use Rattle.std.specs.Prelude.{None, ◌≡◌, ◌≤◌, OnOk, IsOk};
 ghost use Rattle.std.specs.Io.{ReadsAtMost, WritesAtMost};

@@ -1,5 +1,5 @@
 -- An answer is made along an order of solving: each base is put together from the rules answered before, and each row takes its first best state.
-use Rattle.std.proofs.Common.{◌≡◌, ◌≢◌, ◌⊎◌, ◌∙◌, ℕ, zero, suc, ◌+◌, ◌*◌, ◌^◌, ◌<◌, ◌≤◌, cond, eqb, List, [], ◌∷◌, All, flat_map, map, take, length, get_or, slice_index, refl, sym, ap, subst, inl, inr, arith, ℤ, pos, ◌*ℤ◌, ◌≤ℤ◌, ◌<ℤ◌, nat_abs, Some, None}
+use Rattle.std.proofs.Common.{◌≡◌, ◌≢◌, ◌⊎◌, ◌∙◌, ℕ, zero, suc, ◌+◌, ◌*◌, ◌^◌, ◌<◌, ◌≤◌, cond, eqb, List, [], ◌∷◌, All, flat_map, map, take, length, get_or, slice_index, refl, sym, ap, subst, inl, inr, arith, ℤ, pos, ◌≤ℤ◌, ◌<ℤ◌, nat_abs, Some, None}
 use Rattle.std.proofs.lemmas.Int.{ints}
 use Rattle.std.proofs.lemmas.List.{get_or-take, get_or_default, length-take}
 use Rattle.std.proofs.lemmas.List.Elements.{All-map, All-from_get_or}
@@ -9,7 +9,7 @@ use Rattle.std.specs.List.{range_with_len}
 use Rattle.std.specs.Prelude.{Contains, IfSome}
 use Rattle.maid_model.specs.declared.answers.Ratio.{Ratio}
 use Rattle.maid_model.specs.declared.answers.Row.{Row}
-use Rattle.maid_model.specs.Answers.{IsAnswer, IsAnswerAt, IsAnswerRow, IsBase, IsFirstBest, IsReduced, IsExpectedUtility, FitsAnswer, FitsDiagram, pure_profile, rows_at, no_row}
+use Rattle.maid_model.specs.Answers.{IsAnswer, IsAnswerAt, IsAnswerRow, IsBase, IsFirstBest, IsReduced, IsExpectedUtility, FitsAnswer, pure_profile, rows_at, no_row}
 use Rattle.maid_model.specs.Gains.{gain_at, mass_at, gain_of, mass}
 use Rattle.maid_model.specs.Graph.{IsGraph, AllDifferent}
 use Rattle.maid_model.specs.Nodes.{IsDecision, states_of, rows_of}
@@ -17,9 +17,9 @@ use Rattle.maid_model.specs.Placing.{IsRelianceOrder}
 use Rattle.maid_model.specs.Profiles.{IsProfile, IsRule, uniform_profile, pure_row}
 use Rattle.maid_model.specs.Relevance.{ReliesOn}
 use Rattle.maid_model.specs.Tables.{HasChanceTables, weights_of, rule_total}
-use Rattle.maid_model.specs.Views.{NodeView, RuleView, AnswerView, DiagramView, SolvedView}
+use Rattle.maid_model.specs.Views.{NodeView, RuleView, AnswerView, SolvedView}
 use Rattle.maid_model.proofs.Pure.{pure_is_profile, pure_is_rule}
-use Rattle.maid_model.proofs.Setting.{Among}
+use Rattle.finite_sums.specs.Members.{Among}
 use Rattle.maid_model.proofs.Uniform.{uniform_is_profile}
 use Rattle.maid_laws.specs.Answers.{AnswerExists}
 use Rattle.maid_laws.proofs.Booleans.{eqb_yes, eqb_no}
@@ -302,8 +302,8 @@ module _ (nodes : List NodeView) (decimals : ℕ) (g : IsGraph nodes) (order : L
       is_base = record {
         profile = base_profile;
         relied = λ e r. record {
-            weights = (base_at e r.on_decision).0 ∙ weights_relied e r (relies_told nodes g d e) ∙ sym (pure_weights nodes answers e r.on_decision);
-            total = (base_at e r.on_decision).1 ∙ total_relied e r (relies_told nodes g d e) ∙ sym (pure_total nodes answers e r.on_decision);
+          weights = (base_at e r.on_decision).0 ∙ weights_relied e r (relies_told nodes g d e) ∙ sym (pure_weights nodes answers e r.on_decision);
+          total = (base_at e r.on_decision).1 ∙ total_relied e r (relies_told nodes g d e) ∙ sym (pure_total nodes answers e r.on_decision);
         };
         others = λ e k n. record { weights = (base_at e k).0 ∙ weights_else e n (relies_told nodes g d e); total = (base_at e k).1 ∙ total_else e n (relies_told nodes g d e) };
       }

@@ -5,12 +5,14 @@ use Rattle.maid_model.specs.declared.diagrams.Kind.{Kind}
 use Rattle.maid_model.specs.declared.diagrams.Kind.TheVariants.{Chance, Decision, Utility}
 use Rattle.maid_model.specs.Relevance.{IsLive}
 use Rattle.maid_model.specs.Nodes.{rows_under, node_at, states_of, numbers_of, is_utility}
-use Rattle.maid_model.specs.Sums.{World, product_over}
+use Rattle.finite_sums.specs.Sums.{World, product_over}
 use Rattle.maid_model.specs.Tables.{table, table_by, weights_of}
 use Rattle.maid_model.specs.Views.{NodeView, RuleView}
-use Rattle.maid_model.proofs.Setting.{Among, Shuffled, Ignores, IgnoresLater, HasTotal, HaveTotals, ParentsFirst}
+use Rattle.finite_sums.specs.Members.{Among, Shuffled}
+use Rattle.finite_sums.specs.Looks.{Ignores, IgnoresLater, HasTotal, HaveTotals}
+use Rattle.maid_model.proofs.Setting.{ParentsFirst}
 use Rattle.maid_model.proofs.Tables.{TableSums, table_ignores, one_state_ignored}
-use Rattle.maid_model.proofs.Lists.{avoids, among_filter, all_ignored}
+use Rattle.finite_sums.proofs.Lists.{avoids, among_filter, all_ignored}
 use Rattle.maid_laws.proofs.Notions.{IsParent}
 use Rattle.maid_laws.proofs.Collapse.{Apart}
 

@@ -2,7 +2,7 @@
 use Rattle.std.proofs.Common.{◌≡◌, ◌≢◌, ◌⊎◌, ◌∙◌, ℕ, Bool, true, false, ◌&&◌, eqb, List, [], ◌∷◌, refl, sym, ap, inl, inr, arith}
 use Rattle.std.proofs.lemmas.Bool.Decides.{nat_tests}
 use Rattle.std.specs.List.{list_all}
-use Rattle.maid_model.proofs.Setting.{Among}
+use Rattle.finite_sums.specs.Members.{Among}
 
 -- a test has one answer
 pub not_both : (b : Bool) → b ≡ true → b ≡ false → ⊥

@@ -5,12 +5,13 @@ use Rattle.std.proofs.lemmas.Bool.Decides.{nat_tests}
 use Rattle.std.proofs.lemmas.Nat.{div-mul-add, mod-mul-add}
 use Rattle.std.proofs.Math.Decide.{ℕ_discrete}
 use Rattle.std.proofs.Math.Path.{fun_ext}
-use Rattle.maid_model.proofs.Setting.{Among, IgnoresAll}
-use Rattle.maid_model.specs.Sums.{World, with_state, sum_below, sum_over, product_over, InRange}
+use Rattle.finite_sums.specs.Members.{Among}
+use Rattle.finite_sums.specs.Looks.{IgnoresAll}
+use Rattle.finite_sums.specs.Sums.{World, with_state, sum_below, sum_over, product_over, InRange}
 use Rattle.maid_model.specs.Tables.{row_from}
-use Rattle.maid_model.proofs.Ints.{mul_assoc, zero_mul, one_mul}
-use Rattle.maid_model.proofs.Sums.{sum_below_cong, sum_below_zero, sum_over_out, with_same, with_other, with_in}
-use Rattle.maid_model.proofs.Tables.{Avoids}
+use Rattle.finite_sums.proofs.Ints.{mul_assoc, zero_mul, one_mul}
+use Rattle.finite_sums.proofs.Sums.{sum_below_cong, sum_below_zero, sum_over_out, with_same, with_other, with_in}
+use Rattle.finite_sums.specs.Members.{Avoids}
 
 -- 1 where the test holds, else 0
 abbrev pub one_if : Bool → ℤ

@@ -8,11 +8,12 @@ use Rattle.maid_model.specs.Nodes.{IsDecision, node_at, states_of, rows_of, is_d
 use Rattle.maid_model.specs.Profiles.{uniform_profile}
 use Rattle.maid_model.specs.Relevance.{IsLive, ReliesOn}
 use Rattle.maid_model.specs.Subgames.{IsSubgamePerfect, DiffersOnlyFor, gain_from, mass_from, world_of_history}
-use Rattle.maid_model.specs.Sums.{World, InRange}
+use Rattle.finite_sums.specs.Sums.{World, InRange}
 use Rattle.maid_model.specs.Tables.{HasChanceTables, weights_of, table}
 use Rattle.maid_model.specs.Views.{NodeView, RuleView}
-use Rattle.maid_model.proofs.Setting.{Among, HasTables}
-use Rattle.maid_model.proofs.Sums.{sum_below_cong}
+use Rattle.finite_sums.specs.Members.{Among}
+use Rattle.maid_model.proofs.Setting.{HasTables}
+use Rattle.finite_sums.proofs.Sums.{sum_below_cong}
 use Rattle.maid_laws.specs.Exchange.{weight_at, IsBestInBases, Exchange}
 use Rattle.maid_laws.proofs.Booleans.{eqb_yes}
 use Rattle.maid_laws.proofs.FromStarts.{exchange_at}

@@ -4,15 +4,15 @@ use Rattle.std.proofs.lemmas.Int.{ints}
 use Rattle.std.proofs.lemmas.Bool.Decides.{nat_tests}
 use Rattle.std.proofs.Math.Path.{fun_ext}
 use Rattle.std.proofs.Math.Decide.{ℕ_discrete}
-use Rattle.maid_model.proofs.Setting.{Among}
+use Rattle.finite_sums.specs.Members.{Among}
 use Rattle.maid_model.specs.Gains.{weight_without, utility_below, gain_at, is_at}
 use Rattle.maid_model.specs.Nodes.{node_at, states_of, rows_under}
-use Rattle.maid_model.specs.Sums.{World, sum_over, product_over, InRange}
+use Rattle.finite_sums.specs.Sums.{World, sum_over, product_over, InRange}
 use Rattle.maid_model.specs.Tables.{row_of, row_from, cell_of, table, table_by, weights_of}
 use Rattle.maid_model.specs.Views.{NodeView, RuleView}
-use Rattle.maid_model.proofs.Ints.{mul_comm, mul_assoc, zero_mul, one_mul, mul_one, mul_zero}
-use Rattle.maid_model.proofs.Sums.{sum_over_cong, sum_over_mul}
-use Rattle.maid_model.proofs.Lists.{sum_over-shuffled, product_over-shuffled}
+use Rattle.finite_sums.proofs.Ints.{mul_comm, mul_assoc, zero_mul, one_mul, mul_one, mul_zero}
+use Rattle.finite_sums.proofs.Sums.{sum_over_cong, sum_over_mul}
+use Rattle.finite_sums.proofs.Lists.{sum_over-shuffled, product_over-shuffled}
 use Rattle.maid_laws.proofs.Booleans.{eqb_yes, eqb_no}
 use Rattle.maid_laws.proofs.Basis.{Setup}
 use Rattle.maid_laws.proofs.Best.{product_over-times, product_zero_at, products_positive, cancel_le}

@@ -5,12 +5,13 @@ use Rattle.std.specs.List.{list_all}
 use Rattle.maid_model.specs.declared.diagrams.Kind.TheVariants.{Decision}
 use Rattle.maid_model.specs.Gains.{utility, sum_worlds}
 use Rattle.maid_model.specs.Nodes.{states_of, numbers_of, node_at}
-use Rattle.maid_model.specs.Sums.{World, product_over}
+use Rattle.finite_sums.specs.Sums.{World, product_over}
 use Rattle.maid_model.specs.Tables.{table, weight_total}
 use Rattle.maid_model.specs.Views.{NodeView, RuleView}
-use Rattle.maid_model.proofs.Setting.{Among, HasTables}
-use Rattle.maid_model.proofs.Ints.{mul_comm, mul_assoc, one_mul, mul_one}
-use Rattle.maid_model.proofs.Lists.{sum_over-shuffled, product_over-shuffled}
+use Rattle.finite_sums.specs.Members.{Among}
+use Rattle.maid_model.proofs.Setting.{HasTables}
+use Rattle.finite_sums.proofs.Ints.{mul_comm, mul_assoc, one_mul, mul_one}
+use Rattle.finite_sums.proofs.Lists.{sum_over-shuffled, product_over-shuffled}
 use Rattle.maid_laws.proofs.Best.{product_over-times}
 use Rattle.maid_laws.proofs.Collapse.{one_if, one_if-and, one_if-cond}
 use Rattle.maid_laws.proofs.PutBack.{subgame_perfect}

@@ -1,13 +1,14 @@
 -- The law of products: a sum over worlds whose tables fall into two groups and others that sum to their totals.
 use Rattle.std.proofs.Common.{◌≡◌, ◌≢◌, ◌∙◌, ℕ, Bool, true, false, not, eqb, filter, List, [], ◌∷◌, ◌++◌, refl, sym, ap, ℤ, ◌*ℤ◌}
 use Rattle.std.proofs.Math.Path.{fun_ext}
-use Rattle.maid_model.proofs.Setting.{Among, IgnoresAll, EachIgnoresAll, IgnoresLater, HaveTotals}
-use Rattle.maid_model.specs.Sums.{World, sum_over, product_over, InRange}
-use Rattle.maid_model.proofs.Ints.{mul_comm, mul_assoc, products}
-use Rattle.maid_model.proofs.Sums.{sum_over_cong, sum_over_out, sum_over_append, sum_over_split, sum_over_product, with_other, Ignores-mul}
-use Rattle.maid_model.proofs.Totals.{law_of_totals, IgnoresAll-product, product_over-split}
-use Rattle.maid_model.proofs.Tables.{Avoids}
-use Rattle.maid_model.proofs.Lists.{among_filter, each_ignored}
+use Rattle.finite_sums.specs.Members.{Among}
+use Rattle.finite_sums.specs.Looks.{IgnoresAll, EachIgnoresAll, IgnoresLater, HaveTotals}
+use Rattle.finite_sums.specs.Sums.{World, sum_over, product_over, InRange}
+use Rattle.finite_sums.proofs.Ints.{mul_comm, mul_assoc, products}
+use Rattle.finite_sums.proofs.Sums.{sum_over_cong, sum_over_out, sum_over_append, sum_over_split, sum_over_product, with_other, Ignores-mul}
+use Rattle.finite_sums.proofs.Totals.{law_of_totals, IgnoresAll-product, product_over-split}
+use Rattle.finite_sums.specs.Members.{Avoids}
+use Rattle.finite_sums.proofs.Lists.{among_filter, each_ignored}
 use Rattle.maid_laws.proofs.Collapse.{one_if, agree, fix_is, collapse, Apart}
 
 -- a product looks at no node that neither factor looks at

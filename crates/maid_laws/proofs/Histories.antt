@@ -1,9 +1,9 @@
 -- A start as a list of states, and as a set of nodes with a world.
 use Rattle.std.proofs.Common.{◌≡◌, ◌∙◌, ℕ, zero, suc, ◌<◌, ◌≤◌, Bool, true, false, cond, ◌||◌, ◌&&◌, eqb, List, [], ◌∷◌, map, take, drop, length, slice_index, refl, sym, ap, subst, inl, inr, arith, ℤ, pos, ◌*ℤ◌}
 use Rattle.maid_model.specs.Subgames.{agrees, world_of_history}
-use Rattle.maid_model.specs.Sums.{World, product_over}
-use Rattle.maid_model.proofs.Setting.{Among}
-use Rattle.maid_model.proofs.Ints.{one_mul}
+use Rattle.finite_sums.specs.Sums.{World, product_over}
+use Rattle.finite_sums.specs.Members.{Among}
+use Rattle.finite_sums.proofs.Ints.{one_mul}
 use Rattle.maid_laws.proofs.Booleans.{eqb_yes, eqb_no, eqb_same}
 use Rattle.maid_laws.proofs.Basis.{product_over-cong}
 use Rattle.maid_laws.proofs.Collapse.{Apart}

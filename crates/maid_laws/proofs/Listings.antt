@@ -8,13 +8,13 @@ use Rattle.maid_model.specs.Gains.{sum_worlds, utility}
 use Rattle.maid_model.specs.Graph.{Arc, IsGraph}
 use Rattle.maid_model.specs.Nodes.{IsDecision, node_at, states_of, numbers_of, is_utility}
 use Rattle.maid_model.specs.Subgames.{IsListing, IsHistory, IsSubgameStart, IsReachable, KeepsInformation, AgreeOnParents, agrees, world_of_history, gain_from, mass_from}
-use Rattle.maid_model.specs.Sums.{World, InRange, product_over}
+use Rattle.finite_sums.specs.Sums.{World, InRange, product_over}
 use Rattle.maid_model.specs.Tables.{table, table_by, weights_of, cell_of, weight_total, total_by, chance_total, rule_total}
 use Rattle.maid_model.specs.Views.{NodeView, RuleView}
-use Rattle.maid_model.proofs.Setting.{Among, Shuffled}
-use Rattle.maid_model.proofs.Lists.{among_filter, product_over-shuffled}
-use Rattle.maid_model.proofs.Totals.{product_over-append}
-use Rattle.maid_model.proofs.Ints.{mul_one}
+use Rattle.finite_sums.specs.Members.{Among, Shuffled}
+use Rattle.finite_sums.proofs.Lists.{among_filter, product_over-shuffled}
+use Rattle.finite_sums.proofs.Totals.{product_over-append}
+use Rattle.finite_sums.proofs.Ints.{mul_one}
 use Rattle.maid_laws.proofs.Booleans.{eqb_yes, eqb_same, bool_same, all_at, at_all}
 use Rattle.maid_laws.proofs.Basis.{among_filter_in}
 use Rattle.maid_laws.proofs.Collapse.{Apart}

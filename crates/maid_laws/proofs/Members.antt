@@ -5,9 +5,9 @@ use Rattle.maid_model.specs.Views.{NodeView}
 use Rattle.maid_model.specs.Nodes.{parents_of}
 use Rattle.maid_model.specs.Graph.{Arc, AllDifferent}
 use Rattle.maid_model.specs.Relevance.{IsInFamily}
-use Rattle.maid_model.proofs.Setting.{Among}
-use Rattle.maid_model.proofs.Tables.{Avoids}
-use Rattle.maid_model.proofs.Lists.{avoids}
+use Rattle.finite_sums.specs.Members.{Among}
+use Rattle.finite_sums.specs.Members.{Avoids}
+use Rattle.finite_sums.proofs.Lists.{avoids}
 use Rattle.maid_laws.proofs.Notions.{IsParent}
 use Rattle.maid_laws.proofs.Collapse.{Apart}
 

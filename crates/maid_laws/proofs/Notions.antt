@@ -5,11 +5,12 @@ use Rattle.maid_model.specs.declared.diagrams.Kind.TheVariants.{Chance, Decision
 use Rattle.maid_model.specs.Views.{NodeView, RuleView}
 use Rattle.maid_model.specs.Nodes.{node_at, states_of, parents_of, numbers_of, rows_of}
 use Rattle.maid_model.specs.Graph.{IsGraph}
-use Rattle.maid_model.specs.Sums.{World, InRange, product_over}
+use Rattle.finite_sums.specs.Sums.{World, InRange, product_over}
 use Rattle.maid_model.specs.Tables.{table, weights_of, rule_total, weight_total}
 use Rattle.maid_model.specs.Gains.{utility, sum_worlds, gain_at, mass_at}
 use Rattle.maid_model.specs.Relevance.{IsLive, ReliesOn}
-use Rattle.maid_model.proofs.Setting.{Among, Shuffled, ParentsFirst, HasTables}
+use Rattle.finite_sums.specs.Members.{Among, Shuffled}
+use Rattle.maid_model.proofs.Setting.{ParentsFirst, HasTables}
 
 -- u is one of v's parents
 abbrev pub IsParent : List NodeView → ℕ → ℕ → Type 0

@@ -7,7 +7,7 @@ use Rattle.maid_model.specs.Graph.{IsGraph}
 use Rattle.maid_model.specs.Nodes.{numbers_of}
 use Rattle.maid_model.specs.Profiles.{IsProfile}
 use Rattle.maid_model.specs.Subgames.{IsNoBetter, IsListing, IsHistory, IsSubgameStart, gain_from, mass_from}
-use Rattle.maid_model.specs.Sums.{product_over}
+use Rattle.finite_sums.specs.Sums.{product_over}
 use Rattle.maid_model.specs.Tables.{table, weight_total}
 use Rattle.maid_model.specs.Views.{NodeView, RuleView}
 use Rattle.maid_laws.specs.Exchange.{OneAgent}

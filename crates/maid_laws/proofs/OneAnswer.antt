@@ -1,5 +1,5 @@
 -- A diagram has one answer: the order is settled place by place, and with it each base, each row and each gain.
-use Rattle.std.proofs.Common.{◌≡◌, ◌≢◌, ◌⊎◌, ◌∙◌, ℕ, zero, suc, ◌+◌, ◌*◌, ◌^◌, ◌<◌, ◌≤◌, cond, eqb, List, [], ◌∷◌, flat_map, map, take, length, get_or, slice_index, refl, sym, ap, subst, inl, inr, arith, ℤ, pos, negsuc, ◌*ℤ◌, ◌≤ℤ◌, ◌<ℤ◌, nat_abs, Option, Some, None}
+use Rattle.std.proofs.Common.{◌≡◌, ◌≢◌, ◌⊎◌, ◌∙◌, ℕ, zero, suc, ◌+◌, ◌*◌, ◌^◌, ◌<◌, ◌≤◌, cond, List, [], ◌∷◌, flat_map, map, take, length, get_or, slice_index, refl, sym, ap, subst, inl, inr, arith, ℤ, pos, negsuc, ◌*ℤ◌, ◌≤ℤ◌, ◌<ℤ◌, nat_abs, Some}
 use Rattle.std.proofs.lemmas.Int.{ints}
 use Rattle.std.proofs.lemmas.List.{ext_get_or, take_more_same, get_or-take, length-take}
 use Rattle.std.proofs.Math.Decide.{ℕ_discrete, dec_lt}
@@ -8,7 +8,7 @@ use Rattle.std.proofs.Math.Seq.{take-length}
 use Rattle.std.specs.Prelude.{Contains}
 use Rattle.maid_model.specs.declared.answers.Ratio.{Ratio}
 use Rattle.maid_model.specs.declared.answers.Row.{Row}
-use Rattle.maid_model.specs.Answers.{IsAnswer, IsAnswerRow, IsBase, IsFirstBest, FitsDiagram, answered, rows_at, no_row}
+use Rattle.maid_model.specs.Answers.{IsAnswer, IsAnswerRow, IsBase, IsFirstBest, answered, rows_at, no_row}
 use Rattle.maid_model.specs.Gains.{gain_at, mass_at, gain_of, mass}
 use Rattle.maid_model.specs.Graph.{IsGraph}
 use Rattle.maid_model.specs.Nodes.{IsDecision, states_of, rows_of}
@@ -17,14 +17,14 @@ use Rattle.maid_model.specs.Profiles.{SameRule, pure_row}
 use Rattle.maid_model.specs.Relevance.{ReliesOn}
 use Rattle.maid_model.specs.Tables.{HasChanceTables, weights_of, rule_total}
 use Rattle.maid_model.specs.Views.{NodeView, RuleView, AnswerView, DiagramView, SolvedView}
-use Rattle.maid_model.proofs.Setting.{Among}
+use Rattle.finite_sums.specs.Members.{Among}
 use Rattle.maid_laws.specs.Answers.{OneAnswer}
 use Rattle.maid_laws.proofs.AnswerLaws.{answers_fit, positive_or_none, profile}
 use Rattle.maid_laws.proofs.Booleans.{eqb_yes, eqb_no}
 use Rattle.maid_laws.proofs.Collapse.{Apart}
 use Rattle.maid_laws.proofs.Decided.{not_not_dec}
 use Rattle.maid_laws.proofs.Fractions.{same_fraction}
-use Rattle.maid_laws.proofs.Members.{among_of, among_index, apart_of, index_of, not_among}
+use Rattle.maid_laws.proofs.Members.{among_of, apart_of, index_of, not_among}
 use Rattle.maid_laws.proofs.Optima.{scale_positive}
 use Rattle.maid_laws.proofs.PureRules.{pure_weights, pure_total}
 use Rattle.maid_laws.proofs.RowLaws.{mass_at_least}

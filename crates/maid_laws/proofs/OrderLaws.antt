@@ -5,8 +5,9 @@ use Rattle.maid_model.specs.declared.diagrams.Kind.TheVariants.{Chance, Decision
 use Rattle.maid_model.specs.Graph.{Arc, IsPath, Here, Along, IsAcyclic}
 use Rattle.maid_model.specs.Nodes.{node_at, numbers_of, is_utility}
 use Rattle.maid_model.specs.Views.{NodeView}
-use Rattle.maid_model.proofs.Setting.{Among, ParentsFirst}
-use Rattle.maid_model.proofs.Lists.{among_filter}
+use Rattle.finite_sums.specs.Members.{Among}
+use Rattle.maid_model.proofs.Setting.{ParentsFirst}
+use Rattle.finite_sums.proofs.Lists.{among_filter}
 use Rattle.maid_model.specs.Laws.{IsParentsFirst}
 use Rattle.maid_laws.specs.Orders.{AcyclicIffListed, ListingExists}
 use Rattle.maid_laws.proofs.Basis.{Setup, among_filter_in}

@@ -3,8 +3,9 @@ use Rattle.std.proofs.Common.{ℕ, List, [], ◌∷◌, length, sym, subst}
 use Rattle.maid_model.specs.Graph.{Arc, IsGraph, IsPath, Here, Along}
 use Rattle.maid_model.specs.Nodes.{numbers_of, parents_of}
 use Rattle.maid_model.specs.Views.{NodeView}
-use Rattle.maid_model.proofs.Setting.{Among, ParentsFirst}
-use Rattle.maid_model.proofs.Lists.{decide_among}
+use Rattle.finite_sums.specs.Members.{Among}
+use Rattle.maid_model.proofs.Setting.{ParentsFirst}
+use Rattle.finite_sums.proofs.Lists.{decide_among}
 use Rattle.maid_laws.proofs.Notions.{IsParent, OrderedGraph}
 use Rattle.maid_laws.proofs.Collapse.{Apart}
 use Rattle.maid_laws.proofs.Members.{arc_of, not_among}

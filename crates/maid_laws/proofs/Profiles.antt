@@ -6,15 +6,16 @@ use Rattle.std.proofs.Math.ListN.{length-replicate}
 use Rattle.std.proofs.Math.Decide.{ℕ_discrete}
 use Rattle.maid_model.specs.declared.diagrams.Kind.{Kind}
 use Rattle.maid_model.specs.declared.diagrams.Kind.TheVariants.{Chance, Decision, Utility}
-use Rattle.maid_model.proofs.Setting.{Among, TableFits, HasTables}
+use Rattle.finite_sums.specs.Members.{Among}
+use Rattle.maid_model.proofs.Setting.{TableFits, HasTables}
 use Rattle.maid_model.specs.Nodes.{node_at, states_of, rows_under}
-use Rattle.maid_model.specs.Sums.{World, sum_below, InRange}
+use Rattle.finite_sums.specs.Sums.{World, sum_below, InRange}
 use Rattle.maid_model.specs.Tables.{row_of, cell_of, table, table_by, weights_of, rule_total, weight_total, total_by, chance_total, IsTable}
 use Rattle.maid_model.specs.Profiles.{uniform_rule}
 use Rattle.maid_model.specs.Views.{NodeView, RuleView}
-use Rattle.maid_model.proofs.Sums.{sum_below_cong}
+use Rattle.finite_sums.proofs.Sums.{sum_below_cong}
 use Rattle.maid_model.proofs.Tables.{row_of-below, step_below}
-use Rattle.maid_model.proofs.Lists.{decide_among}
+use Rattle.finite_sums.proofs.Lists.{decide_among}
 use Rattle.maid_laws.proofs.Booleans.{eqb_yes, eqb_no}
 
 -- p with the rule of s at d

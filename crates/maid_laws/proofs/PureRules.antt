@@ -12,7 +12,7 @@ use Rattle.maid_model.specs.Profiles.{pure_row, pure_rule}
 use Rattle.maid_model.specs.Tables.{weights_of, rule_total}
 use Rattle.maid_model.specs.Views.{NodeView, AnswerView}
 use Rattle.maid_model.proofs.Made.{made_total}
-use Rattle.maid_model.proofs.Setting.{Among}
+use Rattle.finite_sums.specs.Members.{Among}
 use Rattle.maid_laws.proofs.Booleans.{eqb_yes, eqb_same}
 use Rattle.maid_laws.proofs.Rearranged.{length_range}
 use Rattle.maid_laws.proofs.Rules.{weights_map, among_decisions}

@@ -5,7 +5,8 @@ use Rattle.std.proofs.Math.Decide.{ℕ_discrete, dec_lt}
 use Rattle.maid_model.specs.Nodes.{node_at, no_node}
 use Rattle.maid_model.specs.Relevance.{IsInFamily}
 use Rattle.maid_model.specs.Views.{NodeView}
-use Rattle.maid_model.proofs.Setting.{Among, ParentsFirst}
+use Rattle.finite_sums.specs.Members.{Among}
+use Rattle.maid_model.proofs.Setting.{ParentsFirst}
 use Rattle.maid_laws.proofs.Notions.{IsParent}
 use Rattle.maid_laws.proofs.Basis.{Setup}
 use Rattle.maid_laws.proofs.Leads.{Below, child, further}

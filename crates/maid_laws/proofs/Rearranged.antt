@@ -3,9 +3,9 @@ use Rattle.std.proofs.Common.{◌≡◌, ◌≢◌, ◌⊎◌, ℕ, zero, suc, �
 use Rattle.std.specs.List.{range_with_len}
 use Rattle.maid_model.specs.Nodes.{numbers_of}
 use Rattle.maid_model.specs.Views.{NodeView}
-use Rattle.maid_model.proofs.Setting.{Among, Shuffled, none, put}
-use Rattle.maid_model.proofs.Tables.{Avoids}
-use Rattle.maid_model.proofs.Lists.{avoids, among_filter}
+use Rattle.finite_sums.specs.Members.{Among, Shuffled, none, put}
+use Rattle.finite_sums.specs.Members.{Avoids}
+use Rattle.finite_sums.proofs.Lists.{avoids, among_filter}
 use Rattle.maid_laws.proofs.Basis.{among_filter_in}
 use Rattle.maid_laws.proofs.Collapse.{Apart}
 use Rattle.maid_laws.proofs.Members.{not_among}

@@ -8,7 +8,6 @@ use Rattle.maid_model.specs.Nodes.{IsDecision, node_at, states_of}
 use Rattle.maid_model.specs.Relevance.{IsLive, IsInFamily, IsGoal, ReliesOn}
 use Rattle.maid_model.specs.Views.{NodeView}
 use Rattle.maid_model.proofs.Descent.{path_from_test, test_from_path}
-use Rattle.maid_laws.proofs.Basis.{Setup}
 use Rattle.maid_laws.proofs.Leads.{Leads, ends, head_down, head_up, tail_down, tail_up}
 use Rattle.maid_laws.proofs.Notions.{IsParent}
 use Rattle.maid_laws.proofs.Ordered.{setup_of}

@@ -3,10 +3,10 @@ use Rattle.std.proofs.Common.{◌≡◌, ◌∙◌, ℕ, ◌<◌, ◌+◌, ◌*�
 use Rattle.std.proofs.lemmas.Nat.{div-add-mod'}
 use Rattle.std.proofs.Math.Nat.{div-lt_iff_lt-mul, mul-pos}
 use Rattle.maid_model.specs.Nodes.{rows_under}
-use Rattle.maid_model.specs.Sums.{World, with_state, InRange}
+use Rattle.finite_sums.specs.Sums.{World, with_state, InRange}
 use Rattle.maid_model.specs.Tables.{row_from}
-use Rattle.maid_model.proofs.Setting.{Among}
-use Rattle.maid_model.proofs.Sums.{with_same, with_other, with_in}
+use Rattle.finite_sums.specs.Members.{Among}
+use Rattle.finite_sums.proofs.Sums.{with_same, with_other, with_in}
 use Rattle.maid_model.proofs.Tables.{row_from_other}
 use Rattle.maid_laws.proofs.Collapse.{Apart}
 

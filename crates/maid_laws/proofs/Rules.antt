@@ -6,10 +6,10 @@ use Rattle.maid_model.specs.declared.diagrams.Kind.{Kind}
 use Rattle.maid_model.specs.declared.diagrams.Kind.TheVariants.{Chance, Decision, Utility}
 use Rattle.maid_model.specs.Nodes.{IsDecision, node_at, states_of, rows_of, numbers_of, decisions_of, is_decision}
 use Rattle.maid_model.specs.Profiles.{uniform_rule, uniform_profile}
-use Rattle.maid_model.specs.Sums.{World, InRange, sum_below}
+use Rattle.finite_sums.specs.Sums.{World, InRange, sum_below}
 use Rattle.maid_model.specs.Tables.{weights_of, table, table_by, cell_of, row_of}
 use Rattle.maid_model.specs.Views.{NodeView, RuleView}
-use Rattle.maid_model.proofs.Setting.{Among}
+use Rattle.finite_sums.specs.Members.{Among}
 use Rattle.maid_model.proofs.Tables.{row_of-below, step_below}
 use Rattle.maid_laws.proofs.Booleans.{eqb_yes, eqb_no}
 use Rattle.maid_laws.proofs.Basis.{among_filter_in}

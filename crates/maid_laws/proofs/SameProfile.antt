@@ -4,8 +4,8 @@ use Rattle.maid_model.specs.Nodes.{IsDecision, node_at, numbers_of, is_decision,
 use Rattle.maid_model.specs.Profiles.{IsProfile}
 use Rattle.maid_model.specs.Tables.{weights_of, rule_total}
 use Rattle.maid_model.specs.Views.{NodeView, RuleView}
-use Rattle.maid_model.proofs.Setting.{Among}
-use Rattle.maid_model.proofs.Lists.{among_filter}
+use Rattle.finite_sums.specs.Members.{Among}
+use Rattle.finite_sums.proofs.Lists.{among_filter}
 use Rattle.maid_laws.proofs.Booleans.{eqb_yes, eqb_no}
 use Rattle.maid_laws.proofs.Collapse.{Apart}
 use Rattle.maid_laws.proofs.Members.{not_among}

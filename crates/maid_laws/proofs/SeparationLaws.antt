@@ -6,13 +6,15 @@ use Rattle.maid_model.specs.Gains.{sum_worlds, weight_without}
 use Rattle.maid_model.specs.Graph.{Arc, IsPath, Here, Along, IsGraph}
 use Rattle.maid_model.specs.Nodes.{states_of, numbers_of}
 use Rattle.maid_model.specs.Relevance.{IsLive}
-use Rattle.maid_model.specs.Sums.{World, InRange, with_state, sum_below, sum_over, product_over, nat_product_over}
+use Rattle.finite_sums.specs.Sums.{World, InRange, with_state, sum_below, sum_over, product_over, nat_product_over}
 use Rattle.maid_model.specs.Tables.{weight_total}
 use Rattle.maid_model.specs.Views.{NodeView, RuleView}
-use Rattle.maid_model.proofs.Setting.{Among, Shuffled, Ignores, HasTotal, HasTables}
-use Rattle.maid_model.proofs.Lists.{among_filter, product_over-shuffled, sum_over-shuffled}
-use Rattle.maid_model.proofs.Sums.{sum_below_cong, sum_over_cong, with_same, with_other}
-use Rattle.maid_model.proofs.Tables.{Avoids}
+use Rattle.finite_sums.specs.Members.{Among, Shuffled}
+use Rattle.finite_sums.specs.Looks.{Ignores, HasTotal}
+use Rattle.maid_model.proofs.Setting.{HasTables}
+use Rattle.finite_sums.proofs.Lists.{among_filter, product_over-shuffled, sum_over-shuffled}
+use Rattle.finite_sums.proofs.Sums.{sum_below_cong, sum_over_cong, with_same, with_other}
+use Rattle.finite_sums.specs.Members.{Avoids}
 use Rattle.maid_laws.specs.Separation.{IsUtility, IsFixedBy, Matters, HasWalk, LooksAt, SharedNodeJoins, IsSplit, SplitExists, agrees_at_fixed, total_without, product_without, SumsSeparate}
 use Rattle.maid_laws.specs.Sums.{Overlooks}
 use Rattle.maid_laws.proofs.Booleans.{eqb_yes, eqb_no, eqb_same, not_both, all_at, at_all}

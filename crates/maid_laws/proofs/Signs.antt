@@ -5,11 +5,12 @@ use Rattle.std.proofs.Math.Decide.{dec_lt}
 use Rattle.maid_model.specs.declared.diagrams.Kind.{Kind}
 use Rattle.maid_model.specs.declared.diagrams.Kind.TheVariants.{Chance, Decision, Utility}
 use Rattle.maid_model.specs.Nodes.{node_at, states_of, rows_under}
-use Rattle.maid_model.specs.Sums.{World, product_over, nat_product_over}
+use Rattle.finite_sums.specs.Sums.{World, product_over, nat_product_over}
 use Rattle.maid_model.specs.Tables.{cell_of, table, table_by, weights_of, weight_total}
 use Rattle.maid_model.specs.Views.{NodeView, RuleView}
-use Rattle.maid_model.proofs.Setting.{Among, TableFits, HasTables}
-use Rattle.maid_model.proofs.Sums.{sum_below_cong}
+use Rattle.finite_sums.specs.Members.{Among}
+use Rattle.maid_model.proofs.Setting.{TableFits, HasTables}
+use Rattle.finite_sums.proofs.Sums.{sum_below_cong}
 use Rattle.maid_model.proofs.Tables.{TableSums}
 use Rattle.maid_laws.proofs.Ranks.{past_end}
 

@@ -6,13 +6,13 @@ use Rattle.maid_model.specs.declared.diagrams.Kind.TheVariants.{Chance, Decision
 use Rattle.maid_model.specs.Nodes.{IsDecision, node_at, states_of, parents_of, rows_of}
 use Rattle.maid_model.specs.Graph.{Arc, IsPath, Here, Along, IsAcyclic, IsGraph}
 use Rattle.maid_model.specs.Tables.{HasChanceTables, table, IsTable, weights_of, rule_total, chance_total}
-use Rattle.maid_model.specs.Sums.{sum_below}
+use Rattle.finite_sums.specs.Sums.{sum_below}
 use Rattle.maid_model.specs.Profiles.{IsProfile, IsRule, uniform_profile}
 use Rattle.maid_model.specs.Gains.{gain_at}
 use Rattle.maid_model.specs.Relevance.{IsLive, IsInFamily, ReliesOn}
 use Rattle.maid_model.specs.Walks.{WithArc}
 use Rattle.maid_model.specs.Subgames.{IsListing, IsHistory, IsSubgameStart, world_of_history}
-use Rattle.maid_model.proofs.Setting.{Among}
+use Rattle.finite_sums.specs.Members.{Among}
 use Rattle.maid_laws.proofs.StartLaws.{keeps_if}
 use Rattle.maid_laws.specs.Exchange.{IsBestInBase, IsBestInBases, weight_at}
 use Rattle.maid_laws.specs.Examples.{trip, plan, pair, MeetsTheLaws, HasSums, HasASubgame, RelyOnEachOther}

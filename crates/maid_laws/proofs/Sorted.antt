@@ -1,7 +1,7 @@
 -- A finite graph without a cycle has a list in which each node stands after its parents: nodes are inserted one by one, and what led through a node that is still to come counts as an arc.
 use Rattle.std.proofs.Common.{◌≡◌, ◌⊎◌, ℕ, List, [], ◌∷◌, ◌++◌, refl, sym, ap, subst, inl, inr}
 use Rattle.maid_model.specs.Graph.{IsPath, Here, Along, IsAcyclic}
-use Rattle.maid_model.proofs.Setting.{Among, Shuffled, none, put}
+use Rattle.finite_sums.specs.Members.{Among, Shuffled, none, put}
 
 -- no node of the list has a later one as a parent
 abbrev pub First : (ℕ → ℕ → Type 0) → List ℕ → Type 0

@@ -3,10 +3,10 @@ use Rattle.std.proofs.Common.{◌≡◌, ◌≢◌, ◌⊎◌, ◌∙◌, ℕ, z
 use Rattle.maid_model.specs.declared.diagrams.Kind.TheVariants.{Decision, Utility}
 use Rattle.maid_model.specs.Nodes.{node_at, states_of}
 use Rattle.maid_model.specs.Relevance.{IsLive, IsInFamily, ReliesOn}
-use Rattle.maid_model.specs.Sums.{World, with_state, InRange}
+use Rattle.finite_sums.specs.Sums.{World, with_state, InRange}
 use Rattle.maid_model.specs.Views.{NodeView}
-use Rattle.maid_model.proofs.Sums.{with_same, with_other, with_in}
-use Rattle.maid_model.proofs.Lists.{decide_among}
+use Rattle.finite_sums.proofs.Sums.{with_same, with_other, with_in}
+use Rattle.finite_sums.proofs.Lists.{decide_among}
 use Rattle.maid_laws.proofs.Notions.{IsParent}
 use Rattle.maid_laws.proofs.Basis.{Setup}
 use Rattle.maid_laws.proofs.Leads.{Leads, ends, head_down, head_up, tail_down, tail_up}

@@ -4,16 +4,17 @@ use Rattle.std.proofs.lemmas.Int.{ints}
 use Rattle.std.proofs.Math.Path.{fun_ext}
 use Rattle.std.proofs.Math.Decide.{ℕ_discrete}
 use Rattle.maid_model.specs.declared.diagrams.Kind.TheVariants.{Decision}
-use Rattle.maid_model.proofs.Setting.{Among, Ignores, HasTotal}
+use Rattle.finite_sums.specs.Members.{Among}
+use Rattle.finite_sums.specs.Looks.{Ignores, HasTotal}
 use Rattle.maid_model.specs.Gains.{is_at}
 use Rattle.maid_model.specs.Nodes.{node_at, states_of, rows_under}
-use Rattle.maid_model.specs.Sums.{World, with_state, sum_below, sum_over, product_over, InRange}
+use Rattle.finite_sums.specs.Sums.{World, with_state, sum_below, sum_over, product_over, InRange}
 use Rattle.maid_model.specs.Tables.{row_of, cell_of, table, table_by, weights_of}
 use Rattle.maid_model.specs.Views.{NodeView, RuleView}
-use Rattle.maid_model.proofs.Ints.{mul_comm, mul_one, mul_add, add_mul, products}
-use Rattle.maid_model.proofs.Sums.{sum_below_cong, sum_below_mul, sum_over_cong, sum_over_mul, with_same, with_other}
+use Rattle.finite_sums.proofs.Ints.{mul_comm, mul_one, mul_add, add_mul, products}
+use Rattle.finite_sums.proofs.Sums.{sum_below_cong, sum_below_mul, sum_over_cong, sum_over_mul, with_same, with_other}
 use Rattle.maid_model.proofs.Tables.{row_of-below, table_ignores, table-total}
-use Rattle.maid_model.proofs.Lists.{avoids, among_filter}
+use Rattle.finite_sums.proofs.Lists.{avoids, among_filter}
 use Rattle.maid_laws.proofs.Booleans.{eqb_yes, eqb_no}
 use Rattle.maid_laws.proofs.Basis.{Setup, Tells, Totals, among_filter_in, product_over-cong, table_same, LooksAtParents}
 use Rattle.maid_laws.proofs.Collapse.{one_if, sum_below_at}

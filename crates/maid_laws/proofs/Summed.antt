@@ -2,17 +2,19 @@
 use Rattle.std.proofs.Common.{◌≡◌, ◌≢◌, ◌⊎◌, ◌∙◌, ℕ, ◌+◌, ◌*◌, ◌<◌, Bool, not, eqb, filter, List, [], ◌∷◌, refl, sym, ap, subst, inl, inr, ℤ, ◌*ℤ◌, arith}
 use Rattle.std.proofs.lemmas.Bool.Decides.{nat_tests}
 use Rattle.std.proofs.Math.Decide.{ℕ_discrete}
-use Rattle.maid_model.proofs.Setting.{Among, Ignores, IgnoresLater, HasTotal, ParentsFirst}
+use Rattle.finite_sums.specs.Members.{Among}
+use Rattle.finite_sums.specs.Looks.{Ignores, IgnoresLater, HasTotal}
+use Rattle.maid_model.proofs.Setting.{ParentsFirst}
 use Rattle.maid_model.specs.Gains.{is_at}
 use Rattle.maid_model.specs.Nodes.{states_of}
-use Rattle.maid_model.specs.Sums.{World, with_state, sum_below, sum_over, product_over, InRange}
+use Rattle.finite_sums.specs.Sums.{World, with_state, sum_below, sum_over, product_over, InRange}
 use Rattle.maid_model.specs.Tables.{row_of}
 use Rattle.maid_model.specs.Views.{NodeView}
-use Rattle.maid_model.proofs.Ints.{mul_assoc, products}
-use Rattle.maid_model.proofs.Sums.{sum_below_cong, sum_below_swap}
-use Rattle.maid_model.proofs.Totals.{law_of_totals}
-use Rattle.maid_model.proofs.Tables.{Avoids}
-use Rattle.maid_model.proofs.Lists.{among_filter, all_ignored, each_ignored}
+use Rattle.finite_sums.proofs.Ints.{mul_assoc, products}
+use Rattle.finite_sums.proofs.Sums.{sum_below_cong, sum_below_swap}
+use Rattle.finite_sums.proofs.Totals.{law_of_totals}
+use Rattle.finite_sums.specs.Members.{Avoids}
+use Rattle.finite_sums.proofs.Lists.{among_filter, all_ignored, each_ignored}
 use Rattle.maid_laws.proofs.Basis.{Setup, Tells, LooksAtParents, later_general, have_totals}
 use Rattle.maid_laws.proofs.Collapse.{one_if, one_if-and, Apart, sum_below_at}
 use Rattle.maid_laws.proofs.Grouped.{passes_not}

@@ -5,15 +5,17 @@ use Rattle.std.proofs.Math.Path.{fun_ext}
 use Rattle.maid_model.specs.Gains.{sum_worlds, weight, mass}
 use Rattle.maid_model.specs.Graph.{IsGraph, Here}
 use Rattle.maid_model.specs.Nodes.{node_at, no_node, states_of, numbers_of}
-use Rattle.maid_model.specs.Sums.{World, InRange, with_state, sum_below, sum_over, product_over, nat_product_over}
+use Rattle.finite_sums.specs.Sums.{World, InRange, with_state, sum_below, sum_over, product_over, nat_product_over}
 use Rattle.maid_model.specs.Tables.{table, table_by, weights_of, cell_of, weight_total, total_by, chance_total, rule_total}
 use Rattle.maid_model.specs.Views.{NodeView, RuleView}
-use Rattle.maid_model.proofs.Setting.{Among, Shuffled, Ignores, IgnoresAll, HasTotal, HasTables}
-use Rattle.maid_model.proofs.Ints.{mul_comm, one_mul}
-use Rattle.maid_model.proofs.Lists.{all_ignored, avoids, sum_over-shuffled, product_over-shuffled}
-use Rattle.maid_model.proofs.Sums.{sum_over_product}
+use Rattle.finite_sums.specs.Members.{Among, Shuffled}
+use Rattle.finite_sums.specs.Looks.{Ignores, IgnoresAll, HasTotal}
+use Rattle.maid_model.proofs.Setting.{HasTables}
+use Rattle.finite_sums.proofs.Ints.{mul_comm, one_mul}
+use Rattle.finite_sums.proofs.Lists.{all_ignored, avoids, sum_over-shuffled, product_over-shuffled}
+use Rattle.finite_sums.proofs.Sums.{sum_over_product}
 use Rattle.maid_model.proofs.Tables.{table-total}
-use Rattle.maid_model.proofs.Totals.{totals_out}
+use Rattle.finite_sums.proofs.Totals.{totals_out}
 use Rattle.maid_laws.specs.Sums.{Overlooks, OverlooksAll, LawOfTotals, WeightsAddUp, LawOfProducts, SumsInAnyOrder}
 use Rattle.maid_laws.proofs.Basis.{table_looks, have_totals}
 use Rattle.maid_laws.proofs.Collapse.{Apart}

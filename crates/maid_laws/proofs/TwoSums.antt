@@ -3,11 +3,12 @@ use Rattle.std.proofs.Common.{◌≡◌, ◌⊎◌, ℕ, Bool, true, not, filter
 use Rattle.maid_model.specs.declared.diagrams.Kind.TheVariants.{Utility}
 use Rattle.maid_model.specs.Relevance.{IsLive}
 use Rattle.maid_model.specs.Nodes.{node_at, states_of}
-use Rattle.maid_model.specs.Sums.{World, sum_over, product_over, InRange}
+use Rattle.finite_sums.specs.Sums.{World, sum_over, product_over, InRange}
 use Rattle.maid_model.specs.Views.{NodeView}
-use Rattle.maid_model.proofs.Setting.{Among, Ignores, IgnoresAll, EachIgnoresAll, HasTotal}
-use Rattle.maid_model.proofs.Tables.{Avoids}
-use Rattle.maid_model.proofs.Lists.{among_filter, all_ignored, each_ignored}
+use Rattle.finite_sums.specs.Members.{Among}
+use Rattle.finite_sums.specs.Looks.{Ignores, IgnoresAll, EachIgnoresAll, HasTotal}
+use Rattle.finite_sums.specs.Members.{Avoids}
+use Rattle.finite_sums.proofs.Lists.{among_filter, all_ignored, each_ignored}
 use Rattle.maid_laws.proofs.Notions.{IsParent}
 use Rattle.maid_laws.proofs.Basis.{Setup, Tells, LooksAtParents, later_general, have_totals, unless_live, among_filter_in, tells_true}
 use Rattle.maid_laws.proofs.Collapse.{agree, Apart}

@@ -1,7 +1,6 @@
 -- What holds of the answer of a diagram.
-use Rattle.std.specs.Prelude.{◌≡◌, ℕ, ◌<◌, ◌*◌, ◌^◌, List, length, take, Contains, slice_index, slice_index_or, pos, ◌<ℤ◌, ◌≤ℤ◌, nat_abs, Some}
+use Rattle.std.specs.Prelude.{◌≡◌, ℕ, ◌<◌, List, length, take, Contains, slice_index, pos, ◌<ℤ◌, ◌≤ℤ◌}
 use Rattle.maid_model.specs.declared.answers.Ratio.{Ratio}
-use Rattle.maid_model.specs.declared.answers.Row.{Row}
 use Rattle.maid_model.specs.Views.{NodeView, DiagramView, RuleView, SolvedView}
 use Rattle.maid_model.specs.Nodes.{IsDecision, states_of, rows_of}
 use Rattle.maid_model.specs.Graph.{IsGraph}

@@ -5,7 +5,7 @@ use Rattle.maid_model.specs.declared.diagrams.Kind.TheVariants.{Utility}
 use Rattle.maid_model.specs.Views.{NodeView, RuleView}
 use Rattle.maid_model.specs.Nodes.{node_at, states_of, numbers_of}
 use Rattle.maid_model.specs.Graph.{Arc, IsPath, IsGraph}
-use Rattle.maid_model.specs.Sums.{World, InRange, sum_over, product_over, nat_product_over}
+use Rattle.finite_sums.specs.Sums.{World, InRange, sum_over, product_over, nat_product_over}
 use Rattle.maid_model.specs.Tables.{HasChanceTables, weight_total}
 use Rattle.maid_model.specs.Profiles.{IsProfile}
 use Rattle.maid_model.specs.Gains.{sum_worlds, table_without, weight_without}

@@ -3,7 +3,7 @@ use Rattle.std.specs.Prelude.{◌≡◌, ◌↔◌, ℕ, ◌<◌, List, ◌++◌
 use Rattle.maid_model.specs.Views.{NodeView, RuleView}
 use Rattle.maid_model.specs.Nodes.{states_of}
 use Rattle.maid_model.specs.Graph.{IsGraph, AllDifferent}
-use Rattle.maid_model.specs.Sums.{World, InRange, with_state, sum_over, product_over, nat_product_over}
+use Rattle.finite_sums.specs.Sums.{World, InRange, with_state, sum_over, product_over, nat_product_over}
 use Rattle.maid_model.specs.Tables.{HasChanceTables, table, weight_total}
 use Rattle.maid_model.specs.Profiles.{IsProfile}
 use Rattle.maid_model.specs.Gains.{sum_worlds, weight, mass}

@@ -1,3 +1,5 @@
+//! Laws of the answer.
+
 ghost use Rattle.maid_laws.specs.Answers.{ChoicesAreBest, AnswersAreBest, AnswersAreSubgamePerfect, AnswersAreOptimal, AnswersAreAccepted, GainsAreOptima, OneAnswer, AnswerExists, WorthInBase, WorthUnderTheProfile};
 
 /// Answered choices that are best against the bases make a profile that is best in its bases: so does an answer, an

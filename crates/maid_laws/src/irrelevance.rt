@@ -1,3 +1,5 @@
+//! The law of irrelevance.
+
 ghost use Rattle.maid_laws.specs.Irrelevance.{Irrelevance, MassAtEachState, NoGainWithoutMass};
 
 /// Rules on which a decision does not rely don't matter to it (Koller and Milch 2003): where two profiles agree at the

@@ -1,3 +1,5 @@
+//! Laws of separated tables.
+
 ghost use Rattle.maid_laws.specs.Separation.{SharedNodeJoins, SplitExists, SumsSeparate};
 ghost use Rattle.maid_laws.specs.Walks.{WalksTurn, ChildrenJoin};
 

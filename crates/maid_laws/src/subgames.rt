@@ -1,3 +1,5 @@
+//! Laws of subgames, and the exchange.
+
 ghost use Rattle.maid_laws.specs.Exchange.{Exchange, OneAgent};
 ghost use Rattle.maid_laws.specs.Starts.{InformationKept, NoRelianceBack};
 

@@ -1,3 +1,5 @@
+//! The laws of totals and of products.
+
 ghost use Rattle.maid_laws.specs.Sums.{LawOfTotals, WeightsAddUp, LawOfProducts, SumsInAnyOrder};
 
 /// Tables and rules summed over their nodes leave their totals.

@@ -14,18 +14,20 @@ use Rattle.maid_model.specs.Diagrams.{IsDiagram, greatest_number}
 use Rattle.maid_model.specs.Gains.{weight_without, table_without, base_total, base_mass, sum_worlds, greatest_utility}
 use Rattle.maid_model.specs.Nodes.{node_at, states_of, parents_of, rows_of, numbers_of, counts_of}
 use Rattle.maid_model.specs.Profiles.{IsProfile}
-use Rattle.maid_model.specs.Sums.{World, with_state, sum_below, sum_over, InRange, product_over, nat_product_over}
+use Rattle.finite_sums.specs.Sums.{World, with_state, sum_below, sum_over, InRange, product_over, nat_product_over}
 use Rattle.maid_model.specs.Tables.{cell_of, table, table_by, weights_of, weight_total, total_by, chance_total, rule_total}
 use Rattle.maid_model.specs.Views.{NodeView, RuleView, DiagramView}
 use Rattle.maid_model.specs.Worlds.{IsWorld, world_of, worlds, worlds_from, first_world, sum_list}
-use Rattle.maid_model.proofs.Setting.{Among, Ignores, IgnoresLater, HasTotal, HaveTotals, TableFits, ParentsFirst}
-use Rattle.maid_model.proofs.Sums.{sum_below_cong}
-use Rattle.maid_model.proofs.Totals.{sum_over_totals}
+use Rattle.finite_sums.specs.Members.{Among}
+use Rattle.finite_sums.specs.Looks.{Ignores, IgnoresLater, HasTotal, HaveTotals}
+use Rattle.maid_model.proofs.Setting.{TableFits, ParentsFirst}
+use Rattle.finite_sums.proofs.Sums.{sum_below_cong}
+use Rattle.finite_sums.proofs.Totals.{sum_over_totals}
 use Rattle.maid_model.proofs.Tables.{TableSums, table-total, table_ignores}
-use Rattle.maid_model.proofs.Lists.{avoids, all_ignored, sum_over-shuffled, product_over-shuffled}
+use Rattle.finite_sums.proofs.Lists.{avoids, all_ignored, sum_over-shuffled, product_over-shuffled}
 use Rattle.maid_model.proofs.Bridge.{sum_over_worlds}
 use Rattle.maid_model.proofs.Next.{worlds_from-first, IsWorld-tail, states_positive}
-use Rattle.maid_model.proofs.Members.{range_within}
+use Rattle.finite_sums.proofs.Members.{range_within}
 use Rattle.maid_model.proofs.Found.{eqb_yes, eqb_no}
 use Rattle.maid_model.proofs.Ordering.{order, order_shuffled, order_within, order_parents_first, not_own_parent}
 use Rattle.maid_model.proofs.Summing.{abs_add}

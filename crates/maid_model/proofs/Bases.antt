@@ -16,7 +16,7 @@ use Rattle.node_sets.specs.declared.sets.NodeSet.{NodeSet}
 use Rattle.node_sets.specs.Sets.{holds}
 use Rattle.maid_model.specs.Private.{marked_value, marked_utility, MarksUtilities}
 use Rattle.maid_model.specs.Profiles.{IsProfile}
-use Rattle.maid_model.specs.Sums.{World, InRange}
+use Rattle.finite_sums.specs.Sums.{World, InRange}
 use Rattle.maid_model.specs.Tables.{row_of}
 use Rattle.maid_model.specs.Views.{NodeView, RuleView, DiagramView}
 use Rattle.maid_model.specs.Worlds.{IsWorld, world_of, worlds_from, first_world, sum_list}

@@ -5,9 +5,9 @@ use Rattle.std.proofs.lemmas.Bool.Decides.{nat_tests}
 use Rattle.std.proofs.Math.Path.{fun_ext}
 use Rattle.std.proofs.Math.IntN.{+ℤ_idl, +ℤ_idr}
 use Rattle.std.specs.List.{range_with_len}
-use Rattle.maid_model.specs.Sums.{World, with_state, sum_below, sum_over}
+use Rattle.finite_sums.specs.Sums.{World, with_state, sum_below, sum_over}
 use Rattle.maid_model.specs.Worlds.{sum_list, worlds, world_of}
-use Rattle.maid_model.proofs.Sums.{sum_below_cong}
+use Rattle.finite_sums.proofs.Sums.{sum_below_cong}
 
 pub sum_list-append : {X : Type 0} (f : X → ℤ) (xs ys : List X) → sum_list f (xs ++ ys) ≡ sum_list f xs +ℤ sum_list f ys
 sum_list-append f [] ys = sym (+ℤ_idl (sum_list f ys))

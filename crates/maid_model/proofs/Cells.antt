@@ -12,7 +12,7 @@ use Rattle.maid_model.specs.Nodes.{node_at, states_of, parents_of, rows_of, rows
 use Rattle.maid_model.specs.Views.{NodeView, DiagramView}
 use Rattle.maid_model.specs.Graph.{IsGraph}
 use Rattle.maid_model.specs.Diagrams.{IsDiagram}
-use Rattle.maid_model.specs.Sums.{sum_below}
+use Rattle.finite_sums.specs.Sums.{sum_below}
 
 pub drop_at : (us : List ℕ) (i : ℕ) → i < length us → drop i us ≡ get_or us i 0 ∷ drop (i + 1) us
 drop_at us i h = drop-cons us i 0 h ∙ ap (λ n. get_or us i 0 ∷ drop n us) (sym (add-one i))

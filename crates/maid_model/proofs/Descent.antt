@@ -4,9 +4,9 @@ use Rattle.std.specs.List.{list_any}
 use Rattle.maid_model.specs.Graph.{Arc, IsPath, Here, Along, Descends, leads_within, descends}
 use Rattle.maid_model.specs.Nodes.{parents_of}
 use Rattle.maid_model.specs.Views.{NodeView}
-use Rattle.maid_model.proofs.Setting.{Among}
-use Rattle.maid_model.proofs.Members.{among_from_contains, contains_from_among}
-use Rattle.maid_model.proofs.Counts.{true_or_false, count_below, Within, more_or_same, all_pass}
+use Rattle.finite_sums.specs.Members.{Among}
+use Rattle.finite_sums.proofs.Members.{among_from_contains, contains_from_among}
+use Rattle.finite_sums.proofs.Counts.{true_or_false, count_below, Within, more_or_same, all_pass}
 use Rattle.maid_model.proofs.Found.{eqb_yes}
 use Rattle.std.proofs.lemmas.Bool.Decides.{nat_tests}
 

@@ -15,15 +15,15 @@ use Rattle.node_sets.specs.declared.sets.NodeSet.{NodeSet}
 use Rattle.node_sets.specs.Sets.{holds}
 use Rattle.maid_model.specs.Private.{marked_value, marked_utility, MarksUtilities}
 use Rattle.maid_model.specs.Profiles.{IsProfile}
-use Rattle.maid_model.specs.Sums.{World, sum_each, nat_sum_over, nat_product_over}
+use Rattle.finite_sums.specs.Sums.{World, sum_each, nat_sum_over, nat_product_over}
 use Rattle.maid_model.specs.Tables.{row_of, table, weight_total}
 use Rattle.maid_model.specs.Views.{NodeView, RuleView, DiagramView}
 use Rattle.maid_model.specs.Worlds.{IsWorld, world_of, worlds_from, first_world, sum_list}
-use Rattle.maid_model.proofs.Setting.{Among}
+use Rattle.finite_sums.specs.Members.{Among}
 use Rattle.maid_model.proofs.Adding.{all_worlds, product_cong, some_rest, weight_in, MassSoFar, mass_start, mass_within, mass_step, HasRoom, room_of, base_some, added_bound}
-use Rattle.maid_model.proofs.Counts.{true_or_false}
+use Rattle.finite_sums.proofs.Counts.{true_or_false}
 use Rattle.maid_model.proofs.Found.{eqb_no}
-use Rattle.maid_model.proofs.Members.{range_within}
+use Rattle.finite_sums.proofs.Members.{range_within}
 use Rattle.maid_model.proofs.Next.{first_is_world}
 use Rattle.maid_model.proofs.Summing.{abs_add, values, value_le, greatest_at}
 

@@ -1,10 +1,6 @@
 pub mod Setting
-pub mod Ints
-pub mod Sums
-pub mod Totals
 pub mod Bridge
 pub mod Tables
-pub mod Lists
 pub mod Views
 pub mod Next
 pub mod Cells
@@ -13,7 +9,6 @@ pub mod Members
 pub mod Made
 pub mod Uniform
 pub mod Pure
-pub mod Counts
 pub mod Descent
 pub mod Below
 pub mod Ordering
@@ -25,4 +20,3 @@ pub mod Adding
 pub mod Leaves
 pub mod Bases
 pub mod Tested
-pub mod Coin

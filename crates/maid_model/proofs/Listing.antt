@@ -3,8 +3,8 @@ use Rattle.std.proofs.Common.{◌≡◌, ◌≢◌, ◌∙◌, ◌⊎◌, ℕ, z
 use Rattle.std.specs.List.{range_with_len}
 use Rattle.maid_model.specs.Laws.{ListsWorlds}
 use Rattle.maid_model.specs.Worlds.{worlds, worlds_from, IsWorld}
-use Rattle.maid_model.proofs.Setting.{Among}
-use Rattle.maid_model.proofs.Members.{range_within, range_has}
+use Rattle.finite_sums.specs.Members.{Among}
+use Rattle.finite_sums.proofs.Members.{range_within, range_has}
 use Rattle.maid_model.proofs.Next.{IsWorld-tail}
 
 -- a world of the list, by cases

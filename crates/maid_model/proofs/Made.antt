@@ -8,7 +8,7 @@ use Rattle.maid_model.specs.Nodes.{IsDecision, node_at, is_decision, decisions_o
 use Rattle.maid_model.specs.Profiles.{IsProfile, IsRule}
 use Rattle.maid_model.specs.Tables.{weights_of, rule_total}
 use Rattle.maid_model.specs.Views.{NodeView, RuleView}
-use Rattle.maid_model.proofs.Setting.{Among}
+use Rattle.finite_sums.specs.Members.{Among}
 use Rattle.maid_model.proofs.Members.{decision_listed}
 use Rattle.maid_model.proofs.Found.{eqb_yes, eqb_no}
 

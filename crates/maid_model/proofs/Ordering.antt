@@ -6,9 +6,10 @@ use Rattle.maid_model.specs.Graph.{Arc, Here, IsGraph, AllDifferent, descends}
 use Rattle.maid_model.specs.Laws.{IsParentsFirst}
 use Rattle.maid_model.specs.Nodes.{parents_of, numbers_of}
 use Rattle.maid_model.specs.Views.{NodeView}
-use Rattle.maid_model.proofs.Setting.{Among, Shuffled, none, put, ParentsFirst}
-use Rattle.maid_model.proofs.Members.{among_from_contains, contains_from_among, range_within, range_has}
-use Rattle.maid_model.proofs.Counts.{true_or_false, count_below, count_strict}
+use Rattle.finite_sums.specs.Members.{Among, Shuffled, none, put}
+use Rattle.maid_model.proofs.Setting.{ParentsFirst}
+use Rattle.finite_sums.proofs.Members.{among_from_contains, contains_from_among, range_within, range_has}
+use Rattle.finite_sums.proofs.Counts.{true_or_false, count_below, count_strict}
 use Rattle.maid_model.proofs.Descent.{path_from_test, test_from_path, descends_more}
 
 -- ---- sorting by a key

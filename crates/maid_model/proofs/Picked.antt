@@ -5,7 +5,7 @@ use Rattle.std.proofs.Math.Decide.{dec_lt}
 use Rattle.std.proofs.lemmas.List.{length-map, get_or_past, get_or_default}
 use Rattle.maid_model.specs.Diagrams.{IsDiagram}
 use Rattle.maid_model.specs.Nodes.{states_of, parents_of, counts_of, rows_of}
-use Rattle.maid_model.specs.Sums.{World, InRange}
+use Rattle.finite_sums.specs.Sums.{World, InRange}
 use Rattle.maid_model.specs.Tables.{row_from, row_of, cell_of}
 use Rattle.maid_model.specs.Views.{NodeView, DiagramView}
 use Rattle.maid_model.specs.Worlds.{IsWorld, world_of}

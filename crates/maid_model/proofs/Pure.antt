@@ -9,12 +9,12 @@ use Rattle.maid_model.specs.declared.answers.Row.{Row}
 use Rattle.maid_model.specs.Answers.{FitsAnswers, pure_profile, rows_at}
 use Rattle.maid_model.specs.Nodes.{states_of, rows_of}
 use Rattle.maid_model.specs.Profiles.{IsProfile, IsRule, pure_row, pure_rule}
-use Rattle.maid_model.specs.Sums.{sum_below}
+use Rattle.finite_sums.specs.Sums.{sum_below}
 use Rattle.maid_model.specs.Tables.{IsTable}
 use Rattle.maid_model.specs.Views.{NodeView, RuleView, AnswerView}
 use Rattle.maid_model.proofs.Found.{eqb_yes, eqb_no}
 use Rattle.maid_model.proofs.Made.{made_is_profile}
-use Rattle.maid_model.proofs.Sums.{sum_below_cong}
+use Rattle.finite_sums.proofs.Sums.{sum_below_cong}
 
 abbrev pub pure_at : List NodeView → List AnswerView → ℕ → RuleView
 pure_at nodes answers v = pure_rule nodes v (map (λ r. r.choice) (rows_at answers v))

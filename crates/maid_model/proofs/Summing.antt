@@ -12,7 +12,7 @@ use Rattle.maid_model.specs.Nodes.{node_at, states_of, rows_of, numbers_of, coun
 use Rattle.node_sets.specs.declared.sets.NodeSet.{NodeSet}
 use Rattle.node_sets.specs.Sets.{holds}
 use Rattle.maid_model.specs.Private.{marked_value, MarksUtilities}
-use Rattle.maid_model.specs.Sums.{World, sum_each, nat_sum_over}
+use Rattle.finite_sums.specs.Sums.{World, sum_each, nat_sum_over}
 use Rattle.maid_model.specs.Tables.{row_of}
 use Rattle.maid_model.specs.Views.{NodeView, DiagramView}
 use Rattle.maid_model.specs.Worlds.{IsWorld, world_of}

@@ -3,17 +3,13 @@ use Rattle.std.proofs.Common.{◌≡◌, ◌≢◌, ℕ, ◌+◌, ◌*◌, ◌<�
 use Rattle.std.proofs.Math.Nat.{mul-le-mul_right, mul_assoc}
 use Rattle.maid_model.specs.declared.diagrams.Kind.{Kind}
 use Rattle.maid_model.specs.declared.diagrams.Kind.TheVariants.{Chance, Decision, Utility}
-use Rattle.maid_model.proofs.Setting.{Ignores, HasTotal}
+use Rattle.finite_sums.specs.Members.{Avoids}
+use Rattle.finite_sums.specs.Looks.{Ignores, HasTotal}
 use Rattle.maid_model.specs.Nodes.{node_at, states_of, rows_under}
-use Rattle.maid_model.specs.Sums.{World, with_state, sum_below, InRange}
+use Rattle.finite_sums.specs.Sums.{World, with_state, sum_below, InRange}
 use Rattle.maid_model.specs.Tables.{row_from, row_of, table, table_by, weights_of}
 use Rattle.maid_model.specs.Views.{NodeView, RuleView}
-use Rattle.maid_model.proofs.Sums.{sum_below_cong, with_same, with_other, with_own}
-
--- u is not in the list
-abbrev pub Avoids : ℕ → List ℕ → Type 0
-Avoids u [] = Unit {0}
-Avoids u (x ∷ xs) = (x ≢ u) × Avoids u xs
+use Rattle.finite_sums.proofs.Sums.{sum_below_cong, with_same, with_other, with_own}
 
 -- ---- rows
 pub row_from_other : (count : ℕ → ℕ) (w : World) (v s : ℕ) (us : List ℕ) → Avoids v us → (row : ℕ) → row_from count (with_state w v s) row us ≡ row_from count w row us

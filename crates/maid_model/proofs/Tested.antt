@@ -8,12 +8,13 @@ use Rattle.maid_model.specs.declared.diagrams.Kind.TheVariants.{Chance, Decision
 use Rattle.maid_model.specs.Views.{NodeView, DiagramView, RuleView}
 use Rattle.maid_model.specs.Nodes.{no_node, node_at, states_of, parents_of, rows_of, decisions_of, is_utility}
 use Rattle.maid_model.specs.Graph.{Arc, IsPath, Here, Along, IsAcyclic, AllDifferent, IsGraph}
-use Rattle.maid_model.specs.Sums.{sum_below, nat_sum_over}
+use Rattle.finite_sums.specs.Sums.{sum_below, nat_sum_over}
 use Rattle.maid_model.specs.Tables.{IsTable, HasChanceTables, chance_total}
 use Rattle.maid_model.specs.Profiles.{IsRule, IsProfile}
 use Rattle.maid_model.specs.Diagrams.{IsDiagram, HasOwners, HasValues, KeepsLimits, greatest_number}
 use Rattle.maid_model.specs.Tested.{all_true, differ, from_nought, comes_to, table_tests, kind_tests, node_tests, diagram_tests, rule_tests, rule_at}
-use Rattle.maid_model.proofs.Members.{contains_from_among, range_has, decision_listed}
+use Rattle.finite_sums.proofs.Members.{contains_from_among, range_has}
+use Rattle.maid_model.proofs.Members.{decision_listed}
 
 -- test number k of a list of tests
 nth : (tests : List Bool) → all_true tests ≡ true → (k : ℕ) → k < length tests → get_or tests k false ≡ true

@@ -7,7 +7,7 @@ use Rattle.std.proofs.Math.Nat.{mul-le-mul_right}
 use Rattle.maid_model.specs.Graph.{IsGraph}
 use Rattle.maid_model.specs.Nodes.{states_of, rows_of}
 use Rattle.maid_model.specs.Profiles.{IsProfile, IsRule, uniform_rule, uniform_profile}
-use Rattle.maid_model.specs.Sums.{sum_below}
+use Rattle.finite_sums.specs.Sums.{sum_below}
 use Rattle.maid_model.specs.Tables.{IsTable}
 use Rattle.maid_model.specs.Views.{NodeView}
 use Rattle.maid_model.proofs.Made.{made_is_profile}

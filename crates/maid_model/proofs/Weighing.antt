@@ -13,14 +13,14 @@ use Rattle.maid_model.specs.Gains.{table_without, base_total}
 use Rattle.maid_model.specs.Nodes.{node_at, states_of, counts_of, rows_of, numbers_of}
 use Rattle.maid_model.specs.Private.{HasPlaces}
 use Rattle.maid_model.specs.Profiles.{IsProfile, IsRule, no_rule}
-use Rattle.maid_model.specs.Sums.{World, InRange, sum_below, product_over, nat_product_over}
+use Rattle.finite_sums.specs.Sums.{World, InRange, sum_below, product_over, nat_product_over}
 use Rattle.maid_model.specs.Tables.{IsTable, row_of, cell_of, table, table_by, weights_of, rule_total, weight_total, total_by, chance_total}
 use Rattle.maid_model.specs.Views.{NodeView, RuleView, DiagramView}
 use Rattle.maid_model.specs.Worlds.{IsWorld, world_of}
 use Rattle.maid_model.proofs.Setting.{TableFits, HasTables}
 use Rattle.maid_model.proofs.Cells.{sum_grows_to}
 use Rattle.maid_model.proofs.Found.{eqb_yes, eqb_no, weights_at}
-use Rattle.maid_model.proofs.Ints.{mul_assoc, mul_one, one_mul, zero_mul}
+use Rattle.finite_sums.proofs.Ints.{mul_assoc, mul_one, one_mul, zero_mul}
 use Rattle.maid_model.proofs.Picked.{world_in_range}
 use Rattle.maid_model.proofs.Tables.{row_of-below}
 

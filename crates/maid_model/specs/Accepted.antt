@@ -1,6 +1,5 @@
 -- A finished report that is accepted: the order is one of solving, each row is best against its base and worth what it says, and so is each agent's gain.
-use Rattle.std.specs.Prelude.{◌≡◌, ℕ, ◌<◌, ◌*◌, ◌^◌, List, length, take, Contains, slice_index, slice_index_or, pos, ◌≤ℤ◌, ◌<ℤ◌, nat_abs, Some, None}
-use Rattle.maid_model.specs.declared.answers.Ratio.{Ratio}
+use Rattle.std.specs.Prelude.{◌≡◌, ℕ, ◌<◌, List, length, take, Contains, slice_index, slice_index_or, pos, ◌≤ℤ◌, ◌<ℤ◌, None}
 use Rattle.maid_model.specs.declared.answers.Row.{Row}
 use Rattle.maid_model.specs.Views.{NodeView, DiagramView, RuleView, SolvedView}
 use Rattle.maid_model.specs.Nodes.{IsDecision, states_of, rows_of}

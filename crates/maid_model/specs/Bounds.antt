@@ -5,7 +5,7 @@ use Rattle.maid_model.specs.declared.diagrams.Kind.{Kind}
 use Rattle.maid_model.specs.declared.diagrams.Kind.TheVariants.{Chance, Decision, Utility}
 use Rattle.maid_model.specs.Views.{NodeView, DiagramView}
 use Rattle.maid_model.specs.Nodes.{node_at, states_of, numbers_of}
-use Rattle.maid_model.specs.Sums.{nat_product_over}
+use Rattle.finite_sums.specs.Sums.{nat_product_over}
 use Rattle.maid_model.specs.Tables.{chance_total}
 use Rattle.maid_model.specs.Gains.{greatest_utility}
 use Rattle.maid_model.specs.Diagrams.{greatest_number}

@@ -6,7 +6,7 @@ use Rattle.maid_model.specs.declared.diagrams.Kind.TheVariants.{Chance, Decision
 use Rattle.maid_model.specs.Views.{NodeView, DiagramView}
 use Rattle.maid_model.specs.Nodes.{node_at, states_of, parents_of, rows_of, decisions_of}
 use Rattle.maid_model.specs.Graph.{IsGraph}
-use Rattle.maid_model.specs.Sums.{nat_sum_over}
+use Rattle.finite_sums.specs.Sums.{nat_sum_over}
 use Rattle.maid_model.specs.Tables.{HasChanceTables, chance_total}
 
 -- the greatest absolute value of a weight total, of a utility and of the weight bound

@@ -3,7 +3,7 @@ use Rattle.std.specs.Prelude.{ℕ, Bool, ◌&&◌, List, [], ◌∷◌, slice_in
 use Rattle.maid_model.specs.Views.{NodeView, RuleView}
 use Rattle.maid_model.specs.Nodes.{node_at, states_of, numbers_of, is_utility, is_utility_of}
 use Rattle.maid_model.specs.Graph.{descends}
-use Rattle.maid_model.specs.Sums.{World, sum_over, sum_each, product_over, nat_product_over, nat_sum_over}
+use Rattle.finite_sums.specs.Sums.{World, sum_over, sum_each, product_over, nat_product_over, nat_sum_over}
 use Rattle.maid_model.specs.Tables.{row_of, table, weight_total}
 
 -- the sum of f over all worlds

@@ -1,7 +1,6 @@
 pub mod Views
 pub mod Nodes
 pub mod Graph
-pub mod Sums
 pub mod Worlds
 pub mod Tables
 pub mod Diagrams
@@ -22,4 +21,3 @@ pub mod Names
 pub mod Reports
 pub mod Laws
 pub mod Private
-pub mod Example

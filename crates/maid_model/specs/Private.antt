@@ -6,7 +6,7 @@ use Rattle.maid_model.specs.declared.diagrams.Kind.TheVariants.{Utility}
 use Rattle.maid_model.specs.Views.{NodeView, RuleView}
 use Rattle.maid_model.specs.Nodes.{IsDecision, node_at, numbers_of}
 use Rattle.maid_model.specs.Profiles.{no_rule}
-use Rattle.maid_model.specs.Sums.{World, sum_each}
+use Rattle.finite_sums.specs.Sums.{World, sum_each}
 use Rattle.maid_model.specs.Tables.{row_of}
 
 -- place i is the first with a rule of the decision

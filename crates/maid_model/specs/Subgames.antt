@@ -4,7 +4,7 @@ use Rattle.maid_model.specs.declared.diagrams.Kind.TheVariants.{Chance, Utility}
 use Rattle.maid_model.specs.Views.{NodeView, RuleView}
 use Rattle.maid_model.specs.Nodes.{IsDecision, node_at, states_of}
 use Rattle.maid_model.specs.Graph.{Arc, AllDifferent}
-use Rattle.maid_model.specs.Sums.{World, product_over, nat_product_over}
+use Rattle.finite_sums.specs.Sums.{World, product_over, nat_product_over}
 use Rattle.maid_model.specs.Tables.{table, weight_total}
 use Rattle.maid_model.specs.Profiles.{IsProfile, SameRule}
 use Rattle.maid_model.specs.Gains.{sum_worlds, utility, gain_of, mass}

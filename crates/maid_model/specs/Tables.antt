@@ -4,7 +4,7 @@ use Rattle.maid_model.specs.declared.diagrams.Kind.{Kind}
 use Rattle.maid_model.specs.declared.diagrams.Kind.TheVariants.{Chance, Decision, Utility}
 use Rattle.maid_model.specs.Views.{NodeView, RuleView}
 use Rattle.maid_model.specs.Nodes.{node_at, states_of, parents_of, rows_of}
-use Rattle.maid_model.specs.Sums.{World, sum_below}
+use Rattle.finite_sums.specs.Sums.{World, sum_below}
 
 -- the row that the world gives to these parents, the first parent slowest; `row` stands for those before them
 abbrev pub row_from : (ℕ → ℕ) → World → ℕ → List ℕ → ℕ

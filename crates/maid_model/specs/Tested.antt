@@ -7,7 +7,7 @@ use Rattle.maid_model.specs.declared.diagrams.Kind.{Kind}
 use Rattle.maid_model.specs.declared.diagrams.Kind.TheVariants.{Chance, Decision, Utility}
 use Rattle.maid_model.specs.Views.{NodeView, DiagramView, RuleView}
 use Rattle.maid_model.specs.Nodes.{node_at, states_of, parents_of, numbers_of, rows_of, decisions_of, is_utility}
-use Rattle.maid_model.specs.Sums.{sum_below, nat_sum_over}
+use Rattle.finite_sums.specs.Sums.{sum_below, nat_sum_over}
 use Rattle.maid_model.specs.Tables.{chance_total, weights_of, rule_total}
 use Rattle.maid_model.specs.Diagrams.{greatest_number}
 

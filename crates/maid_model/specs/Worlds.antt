@@ -2,7 +2,7 @@
 use Rattle.std.specs.Prelude.{◌≡◌, ℕ, ◌+◌, ◌-◌, ◌<◌, List, [], ◌∷◌, ◌++◌, map, length, slice_index, ℤ, pos, ◌+ℤ◌}
 use Rattle.std.specs.Prelude.{replicate}
 use Rattle.std.specs.List.{range_with_len, flat_map}
-use Rattle.maid_model.specs.Sums.{World}
+use Rattle.finite_sums.specs.Sums.{World}
 
 -- the sum of f over a list
 abbrev pub sum_list : {X : Type 0} → (X → ℤ) → List X → ℤ

@@ -1,3 +1,5 @@
+//! Answers: rows, worths and gains.
+
 use std::marker::Model;
 
 /// A fraction.

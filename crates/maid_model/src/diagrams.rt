@@ -1,7 +1,9 @@
+//! Nodes and diagrams.
+
 ghost use Rattle.std.specs.Prelude.{◌≡◌, ℕ, ◌<◌, ◌≤◌, ◌↔◌, ◌^◌, length, Contains, IsTrue, pos, ◌≤ℤ◌, nat_abs, slice_index_or};
 ghost use Rattle.maid_model.specs.Diagrams.{IsDiagram};
 ghost use Rattle.maid_model.specs.Nodes.{node_at, states_of, parents_of, rows_of, IsOwnedBy};
-ghost use Rattle.maid_model.specs.Sums.{sum_below};
+ghost use Rattle.finite_sums.specs.Sums.{sum_below};
 ghost use Rattle.maid_model.specs.Tables.{chance_total};
 
 use smallvec::SmallVec;

@@ -1,3 +1,5 @@
+//! Laws over the definitions alone.
+
 ghost use Rattle.maid_model.specs.Laws.{TestsDescent, GraphsHaveOrders, ListsWorlds, EndsWithWorldsFrom, HasRules, TestsDiagrams, TestsRules, TestsProfiles};
 
 /// The test of descent inside the sums says where a path of arcs leads.

@@ -7,12 +7,10 @@ mod diagrams;
 mod graph;
 mod laws;
 mod limits;
-mod marks;
 mod names;
 mod profiles;
 mod pure_rules;
-#[cfg(test)]
-mod tests;
+mod utilities;
 mod weights;
 mod world_sums;
 mod worlds;
@@ -29,5 +27,6 @@ pub use limits::{
 pub use names::{Names, first_place};
 pub use node_sets::MOST_NODES;
 pub use profiles::{Profile, Rule};
+pub use utilities::goals_of;
 pub use world_sums::{base_sums, leaf_sum};
 pub use worlds::World;

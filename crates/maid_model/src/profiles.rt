@@ -1,3 +1,5 @@
+//! Rules and profiles.
+
 ghost use Rattle.std.specs.Prelude.{◌≡◌, ◌<◌, List, ℕ, IfOk, length, slice_index, slice_index_or};
 ghost use Rattle.maid_model.specs.Views.{NodeView, RuleView};
 ghost use Rattle.maid_model.specs.Profiles.{IsProfile, IsRule, HasRule, no_rule, Replaces, uniform_rule, uniform_profile};

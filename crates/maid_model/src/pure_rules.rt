@@ -1,3 +1,5 @@
+//! Rules that take one state in each row.
+
 ghost use Rattle.std.specs.Prelude.{◌≡◌, ◌<◌, ◌++◌, ℕ, All, IfOk, OnOk, length, map};
 ghost use Rattle.maid_model.specs.Answers.{FitsAnswers, pure_profile, rows_at};
 ghost use Rattle.maid_model.specs.Nodes.{IsDecision, states_of, rows_of};

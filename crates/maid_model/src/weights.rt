@@ -1,3 +1,5 @@
+//! The weight of a world, and the cells that it picks.
+
 ghost use Rattle.std.specs.Prelude.{◌≡◌, ◌<◌, ◌≤◌, length, pos};
 ghost use Rattle.maid_model.specs.Nodes.{counts_of};
 ghost use Rattle.maid_model.specs.Diagrams.{greatest_number};

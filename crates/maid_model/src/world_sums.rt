@@ -1,3 +1,5 @@
+//! The two sums over all worlds.
+
 ghost use Rattle.std.specs.Prelude.{◌≡◌, ℕ, ◌+◌, ◌*◌, ◌^◌, ◌<◌, ◌≤◌, max, length, pos, ◌+ℤ◌, ◌*ℤ◌, nat_abs, slice_index, slice_index_or, slice_set, ◌==◌, if◌then◌else◌};
 ghost use Rattle.maid_model.specs.Nodes.{IsDecision, states_of, rows_of, counts_of};
 ghost use Rattle.maid_model.specs.Private.{MarksUtilities, marked_utility};
@@ -7,8 +9,8 @@ ghost use Rattle.maid_model.specs.Gains.{gain_of, gain_at, mass_at, mass, base_m
 ghost use Rattle.maid_model.specs.Worlds.{IsWorld, first_world, world_of};
 
 use crate::diagrams::Diagram;
-use crate::marks::{utilities_below, utilities_of};
 use crate::profiles::Profile;
+use crate::utilities::{goals_of, utilities_of};
 use crate::weights::{rule_places, world_weight};
 use crate::worlds::World;
 use node_sets::NodeSet;
@@ -63,7 +65,7 @@ pub fn base_sums(
     ensures again { world.new ≡ world.old }
 {
     let places = rule_places(diagram, profile);
-    let marks = utilities_below(diagram, decision);
+    let marks = goals_of(diagram, decision);
     let states = diagram.states(decision);
     gains.fill(0);
     masses.fill(0);

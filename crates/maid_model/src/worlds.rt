@@ -1,3 +1,5 @@
+//! Worlds, one after another.
+
 ghost use Rattle.std.specs.Prelude.{◌≡◌, ◌<◌, ◌*◌, IfOk, IsTrue, IsFalse, length, [], ◌∷◌};
 ghost use Rattle.maid_model.specs.Nodes.{counts_of, states_of, rows_of};
 ghost use Rattle.maid_model.specs.Tables.{row_of, cell_of};

@@ -12,7 +12,7 @@ use Rattle.maid_model.specs.declared.diagrams.Kind.TheVariants.{Chance, Decision
 use Rattle.maid_model.specs.Diagrams.{IsDiagram, HasOwners, HasValues, KeepsLimits, greatest_number}
 use Rattle.maid_model.specs.Graph.{Arc, IsAcyclic, AllDifferent, IsGraph}
 use Rattle.maid_model.specs.Nodes.{node_at, no_node, states_of, rows_of, rows_under, decisions_of, is_decision}
-use Rattle.maid_model.specs.Sums.{sum_below, nat_sum_over}
+use Rattle.finite_sums.specs.Sums.{sum_below, nat_sum_over}
 use Rattle.maid_model.specs.Tables.{chance_total, IsTable, HasChanceTables}
 use Rattle.maid_model.specs.Views.{NodeView}
 use Rattle.net_build.specs.declared.nodes.Head.{Head}

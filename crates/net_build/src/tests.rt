@@ -1,3 +1,5 @@
+//! Small texts, built and refused.
+
 ghost use Rattle.std.specs.Prelude.{IfOk};
 ghost use Rattle.maid_model.specs.Names.{NamesFit};
 

@@ -1,3 +1,5 @@
+//! Small texts, parsed and refused.
+
 use super::*;
 use net_lexer::lex;
 use std::alloc::Global;

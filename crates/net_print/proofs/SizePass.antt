@@ -6,7 +6,7 @@ use Rattle.std.proofs.lemmas.List.Elements.{All-contains, filter-append}
 use Rattle.std.proofs.lemmas.List.Sums.{sum_by-append, sum_by-cons}
 use Rattle.maid_model.specs.Names.{NamesView}
 use Rattle.maid_model.specs.Nodes.{node_at, states_of, rows_of, numbers_of, decisions_of, is_decision}
-use Rattle.maid_model.specs.Sums.{nat_sum_over}
+use Rattle.finite_sums.specs.Sums.{nat_sum_over}
 use Rattle.maid_model.specs.Views.{DiagramView}
 use Rattle.net_build.specs.Blocks as look
 use Rattle.first_fault.specs.Passes.{rule}

@@ -90,9 +90,9 @@ not_below : (text : List ℕ) (n : ℕ) (d : Decimal) → n ≤ greatest_number 
 not_below text n d small e is =
     let read = decimal_read n (small_enough n small) in
     let of_number : IsLeastDecimalOf (pos n) 1 d =
-        subst (λ k. IsLeastDecimalOf (pos n) k d) read.1
-        (subst (λ z. IsLeastDecimalOf z (denominator (decimal n)) d) read.0
-        (subst (λ bytes. IsLeastDecimalOf (numerator bytes) (denominator bytes) d) e is)) in
+    subst (λ k. IsLeastDecimalOf (pos n) k d) read.1
+    (subst (λ z. IsLeastDecimalOf z (denominator (decimal n)) d) read.0
+    (subst (λ bytes. IsLeastDecimalOf (numerator bytes) (denominator bytes) d) e is)) in
     from_nought d.m (n * 10 ^ d.k) of_number.value
 
 pub none_below : (ns : List ℕ) (ds : List Decimal) → AreSmall ns → AreDecimals (map decimal ns) ds → NoneNegative ds

@@ -1,3 +1,5 @@
+//! Small diagrams, printed.
+
 use crate::print;
 use net_build::build;
 use net_lexer::lex;

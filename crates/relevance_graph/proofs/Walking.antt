@@ -1,9 +1,9 @@
 -- What a search from the goals of a decision finds.
-use Rattle.std.proofs.Common.{◌≡◌, ℕ, ◌<◌, List, [], ◌∷◌, length, ◌↔◌, inl, inr, refl, subst}
+use Rattle.std.proofs.Common.{◌≡◌, ℕ, ◌<◌, List, [], ◌∷◌, length, ◌↔◌, inl, inr, subst}
 use Rattle.maid_model.specs.declared.diagrams.Kind.TheVariants.{Utility}
 use Rattle.maid_model.specs.Views.{NodeView}
 use Rattle.maid_model.specs.Nodes.{IsDecision, node_at}
-use Rattle.maid_model.specs.Graph.{Arc, IsGraph, IsPath, Here, Along, Descends}
+use Rattle.maid_model.specs.Graph.{Arc, IsGraph}
 use Rattle.maid_model.specs.Relevance.{IsLive, IsInFamily, IsGoal}
 use Rattle.maid_model.specs.Walks.{IsActive, IsReached, IsReachedFromParent, WithArc, WithNode}
 use Rattle.node_sets.specs.declared.sets.NodeSet.{NodeSet}
@@ -21,14 +21,6 @@ active_same Arc Live P Q f (x ∷ (y ∷ (z ∷ rest))) h =
 
 reached_same : (Arc : ℕ → ℕ → Type 0) (Live P Q : ℕ → Type 0) → ((x : ℕ) → P x ↔ Q x) → (from to : ℕ) → IsReached Arc Live P from to → IsReached Arc Live Q from to
 reached_same Arc Live P Q f from to h = record { rest = h.rest; active = active_same Arc Live P Q f (from ∷ h.rest) h.active; ends = h.ends }
-
--- a path to another node has an arc
-pub path_descends : (Arc : ℕ → ℕ → Type 0) (to from : ℕ) → (from ≡ to → ⊥) → IsPath Arc from to → Descends Arc from to
-path_descends Arc to from apart Here = absurd (apart refl)
-path_descends Arc to from apart (Along {v = b} a p) = (b, a, p)
-
-pub descends_path : (Arc : ℕ → ℕ → Type 0) (from to : ℕ) → Descends Arc from to → IsPath Arc from to
-descends_path Arc from to h = Along h.1 h.2
 
 -- a goal is neither the decision nor one of its parents
 pub goal_free : (nodes : List NodeView) (d u : ℕ) → IsGraph nodes → IsDecision nodes d → IsGoal nodes d u → IsInFamily (Arc nodes) d u → ⊥

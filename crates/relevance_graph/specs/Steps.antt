@@ -1,8 +1,7 @@
 -- What the steps of finding a relevance graph promise one another. Only private functions and the invariant of private fields cite this file.
 use Rattle.std.specs.Prelude.{◌≡◌, ◌↔◌, ◌<◌, ℕ, List, length, Contains}
-use Rattle.maid_model.specs.declared.diagrams.Kind.TheVariants.{Utility}
 use Rattle.maid_model.specs.Views.{NodeView}
-use Rattle.maid_model.specs.Nodes.{IsDecision, node_at}
+use Rattle.maid_model.specs.Nodes.{IsDecision}
 use Rattle.maid_model.specs.Graph.{Arc}
 use Rattle.maid_model.specs.Relevance.{IsLive, IsInFamily, IsGoal, ReliesOn}
 use Rattle.maid_model.specs.Walks.{IsReachedFromParent}
@@ -14,10 +13,6 @@ use Rattle.relevance_graph.specs.Views.{IsRising}
 -- a decision of two states or more
 abbrev pub IsLiveDecision : List NodeView → ℕ → Type 0
 IsLiveDecision nodes v = IsDecision nodes v × IsLive nodes v
-
--- a utility of the agent
-abbrev pub IsUtilityOf : List NodeView → ℕ → ℕ → Type 0
-IsUtilityOf nodes agent v = ((node_at nodes v).kind ≡ Utility) × ((node_at nodes v).owner ≡ agent)
 
 -- given d and its parents an active walk leads from an extra parent of e to a goal of d
 abbrev pub LeadsToGoal : List NodeView → ℕ → ℕ → Type 0

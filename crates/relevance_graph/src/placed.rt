@@ -1,3 +1,5 @@
+//! The order of solving, or the relevance cycle.
+
 ghost use Rattle.std.specs.Prelude.{◌≡◌, ◌<◌, ◌↔◌, ℕ, length, IsTrue, IfOk};
 ghost use Rattle.maid_model.specs.Nodes.{IsDecision};
 ghost use Rattle.diagram_graph.specs.Cycles.{lists_in};

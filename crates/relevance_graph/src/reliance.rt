@@ -1,3 +1,5 @@
+//! On which decisions each decision relies.
+
 ghost use Rattle.std.specs.Prelude.{◌≡◌, ◌<◌, ◌↔◌, length, IsTrue, IfOk};
 ghost use Rattle.node_sets.specs.declared.sets.TheConstants.{MOST_NODES};
 ghost use Rattle.maid_model.specs.Nodes.{IsDecision};

@@ -1,3 +1,5 @@
+//! Small diagrams, and who relies on whom in them.
+
 ghost use Rattle.std.specs.Prelude.{◌≡◌, IfOk};
 ghost use Rattle.relevance_graph.specs.Example.{pair_diagram, seen_if as seen_in};
 

@@ -1,3 +1,5 @@
+//! The report of an answered diagram.
+
 ghost use Rattle.std.specs.Prelude.{◌≡◌, ◌≢◌, ◌<◌, ◌+◌, [], ◌∷◌, ◌++◌, All, IfOk, OnOk, codes, decimal, length, map};
 ghost use Rattle.std.specs.List.{flat_map};
 ghost use Rattle.maid_model.specs.Answers.{FitsAnswer, FitsDiagram};

@@ -3,7 +3,7 @@ use Rattle.std.proofs.Common.{◌≡◌, ◌∙◌, ℕ, zero, suc, ◌+◌, ◌
 use Rattle.std.proofs.Math.Decide.{dec_lt}
 use Rattle.std.proofs.Math.Nat.{mul-le-mul_left}
 use Rattle.std.specs.List.{range_with_len}
-use Rattle.maid_model.specs.Sums.{nat_product_over}
+use Rattle.finite_sums.specs.Sums.{nat_product_over}
 
 product_last : (f : ℕ → ℕ) (k n : ℕ) → nat_product_over f (range_with_len k (suc n)) ≡ nat_product_over f (range_with_len k n) * f (k + n)
 product_last f k zero = one (f k) ∙ ap (λ v. 1 * f v) (here k)

@@ -15,7 +15,7 @@ use Rattle.maid_model.specs.Bounds.{KeepsBound, bound_by, bound_factor, bound_pr
 use Rattle.maid_model.specs.Diagrams.{IsDiagram, greatest_number}
 use Rattle.maid_model.specs.Gains.{base_mass, base_total, gain_of, greatest_utility, mass}
 use Rattle.maid_model.specs.Nodes.{IsDecision, node_at, numbers_of, states_of}
-use Rattle.maid_model.specs.Sums.{nat_product_over}
+use Rattle.finite_sums.specs.Sums.{nat_product_over}
 use Rattle.maid_model.specs.Tables.{chance_total, rule_total, total_by, weight_total}
 use Rattle.maid_model.specs.Views.{NodeView, DiagramView, RuleView}
 use Rattle.rule_solver.specs.Masses.{HasGains, KeepsStates, TakesOneState, chance_factor_or_one}

@@ -1,9 +1,9 @@
 -- What a refusal tells of the diagram.
-use Rattle.std.specs.Prelude.{◌≡◌, ℕ, ◌<◌, List, Some, None}
+use Rattle.std.specs.Prelude.{◌≡◌, ℕ, ◌<◌, Some, None}
 use Rattle.maid_model.specs.declared.limits.TheConstants.{MOST_WORLDS}
 use Rattle.maid_model.specs.Bounds.{KeepsBound, PassesAt, world_count, stopped}
 use Rattle.maid_model.specs.Placing.{HasRelianceOrder, IsRelianceCycle}
-use Rattle.maid_model.specs.Views.{NodeView, DiagramView}
+use Rattle.maid_model.specs.Views.{DiagramView}
 use Rattle.rule_solver.specs.declared.faults.SolveFault.{SolveFault}
 use Rattle.rule_solver.specs.declared.faults.SolveFault.TheVariants.{Cycle, WeightBound, NotBuilt, NoMemory}
 

@@ -1,5 +1,5 @@
 -- The masses of profiles, and what they are worth. Only private functions cite it.
-use Rattle.std.specs.Prelude.{◌≡◌, ◌<◌, ◌≤◌, ◌*◌, ◌^◌, ℕ, List, All, length, slice_index_or}
+use Rattle.std.specs.Prelude.{◌≡◌, ◌<◌, ◌≤◌, ◌^◌, ℕ, List, All, length, slice_index_or}
 use Rattle.maid_model.specs.declared.answers.Ratio.{Ratio}
 use Rattle.maid_model.specs.Answers.{IsExpectedUtility, IsReduced}
 use Rattle.maid_model.specs.Nodes.{IsDecision, node_at, states_of}

@@ -1,3 +1,5 @@
+//! The answer of one decision.
+
 ghost use Rattle.std.specs.Prelude.{◌≡◌, ◌≤◌, ◌*◌, ◌^◌, List, ℕ, IfOk, max, length};
 ghost use Rattle.maid_model.specs.Bounds.{KeepsBound};
 ghost use Rattle.maid_model.specs.Diagrams.{greatest_number};

@@ -1,3 +1,5 @@
+//! The base of a decision in the rules chosen so far.
+
 ghost use Rattle.std.specs.Prelude.{ℕ, All, Contains, IfOk, map};
 ghost use Rattle.maid_model.specs.Answers.{FitsAnswer, IsBase, pure_profile};
 ghost use Rattle.maid_model.specs.Graph.{AllDifferent};

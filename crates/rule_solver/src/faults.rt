@@ -1,3 +1,5 @@
+//! Why a diagram isn't solved.
+
 ghost use Rattle.std.specs.Prelude.{◌≡◌};
 
 use std::alloc::AllocError;

@@ -1,3 +1,5 @@
+//! The limits that a diagram must keep to be solved.
+
 ghost use Rattle.std.specs.Prelude.{◌≡◌, ◌≤◌, IsOk, IfErr, OnOk};
 ghost use Rattle.maid_model.specs.declared.limits.TheConstants.{MOST_WORLDS};
 ghost use Rattle.maid_model.specs.Bounds.{KeepsBound, world_count, stopped};

@@ -1,3 +1,5 @@
+//! The answer of one row.
+
 ghost use Rattle.std.specs.Prelude.{◌≡◌, ◌<◌, ◌≤◌, ◌+◌, ◌*◌, ◌^◌, ℕ, All, IfOk, IfSome, length, pos, nat_abs, slice_index, slice_index_or};
 ghost use Rattle.maid_model.specs.Answers.{IsFirstBest, IsFraction, IsReduced, no_row};
 ghost use Rattle.maid_model.specs.Diagrams.{greatest_number};

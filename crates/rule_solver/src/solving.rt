@@ -1,3 +1,5 @@
+//! A whole diagram, solved decision by decision.
+
 ghost use Rattle.std.specs.Prelude.{◌≤◌, ℕ, IfOk, IfErr};
 ghost use Rattle.maid_model.specs.Answers.{IsAnswer, KeepsWorth, answered};
 ghost use Rattle.maid_model.specs.declared.limits.TheConstants.{MOST_WORLDS};

@@ -1,3 +1,5 @@
+//! A diagram solved with ample memory.
+
 ghost use Rattle.std.specs.Prelude.{◌≡◌, IfOk};
 
 use crate::solve;

@@ -1,3 +1,5 @@
+//! What a plan is worth, as reduced fractions.
+
 ghost use Rattle.std.specs.Prelude.{◌≡◌, ◌<◌, ◌≤◌, ◌*◌, ◌^◌, List, IfOk, length};
 ghost use Rattle.maid_model.specs.Bounds.{KeepsBound};
 ghost use Rattle.maid_model.specs.Diagrams.{greatest_number};

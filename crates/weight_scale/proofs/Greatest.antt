@@ -4,7 +4,7 @@ use Rattle.std.specs.List.{range_with_len}
 use Rattle.weight_scale.proofs.Bounding.{rest_next}
 use Rattle.maid_model.specs.Views.{NodeView}
 use Rattle.maid_model.specs.Nodes.{node_at, is_utility}
-use Rattle.maid_model.specs.Sums.{nat_sum_over}
+use Rattle.finite_sums.specs.Sums.{nat_sum_over}
 use Rattle.maid_model.specs.Gains.{greatest_abs}
 
 -- the sum over these nodes

@@ -8,7 +8,7 @@ use Rattle.std.proofs.lemmas.Bool.{cases_lt}
 use Rattle.std.proofs.Math.ListN.{get_or-eq_default}
 use Rattle.std.proofs.lemmas.List.{length-map, length-append}
 use Rattle.std.proofs.lemmas.List.Sums.{sum_by-cons}
-use Rattle.maid_model.specs.Sums.{sum_below}
+use Rattle.finite_sums.specs.Sums.{sum_below}
 use Rattle.maid_model.specs.Tables.{IsTable}
 use Rattle.maid_model.specs.Diagrams.{greatest_number}
 use Rattle.weight_scale.specs.declared.decimal.Decimal.{Decimal}

@@ -1,3 +1,5 @@
+//! Digits, exponents and signs of numerals.
+
 ghost use Rattle.std.specs.Prelude.{◌≡◌, ◌<◌, ◌≤◌, ◌+◌, ◌-◌, ◌*◌, ◌^◌, ◌++◌, ◌≢◌, drop, length, replicate, slice_index, true};
 ghost use Rattle.std.specs.Option.{SomeIff};
 ghost use Rattle.std.specs.List.{prefix_len, list_all};

@@ -1,3 +1,5 @@
+//! Laws of rows taken in proportion.
+
 ghost use Rattle.weight_scale.specs.Laws.{ScalesInOneWay};
 
 /// The rows of a table have one scaling: the weights and their total are determined.

@@ -1,3 +1,5 @@
+//! Numerals, rows and bounds at the ends of their ranges.
+
 ghost use Rattle.std.specs.Prelude.{◌≡◌, ◌<◌, ◌%◌, ◌^◌, [], IfOk, length, true, unsigned_abs};
 ghost use Rattle.net_lexer.specs.Numerals.{is_numeral};
 

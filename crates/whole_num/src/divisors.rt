@@ -1,3 +1,5 @@
+//! Common divisors and common multiples.
+
 ghost use Rattle.std.specs.Prelude.{◌<◌, ◌≤◌, ◌+◌, ℕ, IfSome, IfNone};
 ghost use Rattle.whole_num.specs.Divisors.{IsGcd, IsLcm};
 

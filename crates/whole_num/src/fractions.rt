@@ -1,3 +1,5 @@
+//! Fractions in lowest terms.
+
 ghost use Rattle.std.specs.Prelude.{◌≡◌, ◌≢◌, ◌<◌, ◌≤◌, pos, unsigned_abs};
 ghost use Rattle.whole_num.specs.Fractions.{IsSameFraction, IsInLowestTerms};
 

@@ -1,3 +1,5 @@
+//! Sums and products that stop at a limit.
+
 ghost use Rattle.std.specs.Prelude.{◌≤◌, ◌+◌, ◌*◌};
 ghost use Rattle.std.specs.Option.{SomeIff};
 

@@ -1,3 +1,5 @@
+//! Each call once, at the ends of its range.
+
 use super::*;
 
 #[test]

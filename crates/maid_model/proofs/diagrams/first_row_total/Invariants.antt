@@ -1,5 +1,5 @@
 use Rattle.std.proofs.Common.{◌≡◌, pos, slice_index_or}
-use Rattle.maid_model.specs.Sums.{sum_below}
+use Rattle.finite_sums.specs.Sums.{sum_below}
 use Rattle.maid_model.proofs.diagrams.first_row_total.Given as goal
 
 abbrev pub invariant-loop-s : goal.invariant-loop-s

@@ -7,27 +7,28 @@ use Rattle.maid_model.specs.Nodes.{rows_of, states_of}
 use Rattle.maid_model.proofs.Adding.{HasRoom}
 use Rattle.maid_model.proofs.Bases.{BaseSoFar, state_read, base_start, base_room, code_place, code_row, code_gain, code_mass, base_step, base_gains, base_masses, base_gains_small, base_masses_small}
 use Rattle.maid_model.proofs.Picked.{cell_times_fits, cell_fits}
+use Rattle.maid_model.proofs.Below.{goals_are_utilities, goals_marked}
 use Rattle.maid_model.proofs.world_sums.base_sums.Goals as goal
 
 pub worlds-init : goal.worlds-init
 worlds-init c =
-    subst (λ l. BaseSoFar c.args.diagram.now.nodes c.args.profile.now c.args.decision c.utilities_below-marks.result l c.fill-2.new.self c.args.world.now) (sym (c.fill.ensures.after (λ y e. e) ∙ ap (λ n. replicate n (pos 0)) c.requires.gains))
-    (subst (λ l. BaseSoFar c.args.diagram.now.nodes c.args.profile.now c.args.decision c.utilities_below-marks.result (replicate (rows_of c.args.diagram.now.nodes c.args.decision * states_of c.args.diagram.now.nodes c.args.decision) (pos 0)) l c.args.world.now) (sym (c.fill-2.ensures.after (λ y e. e) ∙ ap (λ n. replicate n 0) c.requires.masses))
-    (base_start c.args.diagram.now c.states-states.ensures.diagram c.args.profile.now c.requires.profile c.args.decision c.utilities_below-marks.result c.utilities_below-marks.ensures.utilities c.utilities_below-marks.ensures.marks c.args.world.now c.requires.first))
+    subst (λ l. BaseSoFar c.args.diagram.now.nodes c.args.profile.now c.args.decision c.goals_of-marks.result l c.fill-2.new.self c.args.world.now) (sym (c.fill.ensures.after (λ y e. e) ∙ ap (λ n. replicate n (pos 0)) c.requires.gains))
+    (subst (λ l. BaseSoFar c.args.diagram.now.nodes c.args.profile.now c.args.decision c.goals_of-marks.result (replicate (rows_of c.args.diagram.now.nodes c.args.decision * states_of c.args.diagram.now.nodes c.args.decision) (pos 0)) l c.args.world.now) (sym (c.fill-2.ensures.after (λ y e. e) ∙ ap (λ n. replicate n 0) c.requires.masses))
+    (base_start c.args.diagram.now c.states-states.ensures.diagram c.args.profile.now c.requires.profile c.args.decision c.goals_of-marks.result (goals_are_utilities _ _ _ c.goals_of-marks.ensures) (goals_marked _ _ _ c.goals_of-marks.ensures) c.args.world.now c.requires.first))
 
 pub world_weight-weight-requires-clause-fits : goal.world_weight-weight-requires-clause-fits
-world_weight-weight-requires-clause-fits c = (base_room c.args.diagram.now c.states-states.ensures.diagram c.args.profile.now c.requires.profile c.args.decision c.utilities_below-marks.result c.utilities_below-marks.ensures.utilities c.utilities_below-marks.ensures.marks c.requires.fits).mass
+world_weight-weight-requires-clause-fits c = (base_room c.args.diagram.now c.states-states.ensures.diagram c.args.profile.now c.requires.profile c.args.decision c.goals_of-marks.result (goals_are_utilities _ _ _ c.goals_of-marks.ensures) (goals_marked _ _ _ c.goals_of-marks.ensures) c.requires.fits).mass
 
 pub world_gain-gain-requires-clause-utility : goal.world_gain-gain-requires-clause-utility
-world_gain-gain-requires-clause-utility c = (base_room c.args.diagram.now c.states-states.ensures.diagram c.args.profile.now c.requires.profile c.args.decision c.utilities_below-marks.result c.utilities_below-marks.ensures.utilities c.utilities_below-marks.ensures.marks c.requires.fits).utility
+world_gain-gain-requires-clause-utility c = (base_room c.args.diagram.now c.states-states.ensures.diagram c.args.profile.now c.requires.profile c.args.decision c.goals_of-marks.result (goals_are_utilities _ _ _ c.goals_of-marks.ensures) (goals_marked _ _ _ c.goals_of-marks.ensures) c.requires.fits).utility
 
 pub world_gain-gain-requires-clause-weight : goal.world_gain-gain-requires-clause-weight
 world_gain-gain-requires-clause-weight c =
-    let room : HasRoom c.args.diagram.now.nodes (base_mass c.args.diagram.now.nodes c.args.profile.now c.args.decision) = base_room c.args.diagram.now c.states-states.ensures.diagram c.args.profile.now c.requires.profile c.args.decision c.utilities_below-marks.result c.utilities_below-marks.ensures.utilities c.utilities_below-marks.ensures.marks c.requires.fits in
+    let room : HasRoom c.args.diagram.now.nodes (base_mass c.args.diagram.now.nodes c.args.profile.now c.args.decision) = base_room c.args.diagram.now c.states-states.ensures.diagram c.args.profile.now c.requires.profile c.args.decision c.goals_of-marks.result (goals_are_utilities _ _ _ c.goals_of-marks.ensures) (goals_marked _ _ _ c.goals_of-marks.ensures) c.requires.fits in
     omega (arith, room.mass, c.world_weight-weight.ensures.within)
 
 pub world_gain-gain-requires-clause-fits : goal.world_gain-gain-requires-clause-fits
-world_gain-gain-requires-clause-fits c = (base_room c.args.diagram.now c.states-states.ensures.diagram c.args.profile.now c.requires.profile c.args.decision c.utilities_below-marks.result c.utilities_below-marks.ensures.utilities c.utilities_below-marks.ensures.marks c.requires.fits).product c.world_weight-weight.result c.world_weight-weight.ensures.within
+world_gain-gain-requires-clause-fits c = (base_room c.args.diagram.now c.states-states.ensures.diagram c.args.profile.now c.requires.profile c.args.decision c.goals_of-marks.result (goals_are_utilities _ _ _ c.goals_of-marks.ensures) (goals_marked _ _ _ c.goals_of-marks.ensures) c.requires.fits).product c.world_weight-weight.result c.world_weight-weight.ensures.within
 
 pub overflow_mul-row : goal.overflow_mul-row
 overflow_mul-row c = omega (arith, cell_times_fits c.args.diagram.now c.states-states.ensures.diagram c.worlds.world c.worlds.invariant.world c.args.decision c.requires.decision.within c.row-row.result c.states-states.result c.row-row.ensures c.states-states.ensures.states)
@@ -42,50 +43,50 @@ overflow_add-row c =
 
 pub add_gain-requires-clause-cell : goal.add_gain-requires-clause-cell
 add_gain-requires-clause-cell c =
-    code_place c.args.diagram.now c.states-states.ensures.diagram c.args.profile.now c.requires.profile c.args.decision c.utilities_below-marks.result c.utilities_below-marks.ensures.utilities c.utilities_below-marks.ensures.marks c.requires.fits c.worlds.gains c.worlds.masses c.worlds.world c.worlds.invariant c.world_weight-weight.result c.world_weight-weight.ensures.weight (to_z w128 (of_z w128 c.world_gain-gain.result)) (to_z-of_z w128 c.world_gain-gain.result (search rules) ∙ c.world_gain-gain.ensures) c.row-row.result c.index-state.result.now (c.row-row.result * c.states-states.result + c.index-state.result.now) c.row-row.ensures (state_read c.args.diagram.now.nodes c.world.inside.states.items c.worlds.world c.args.decision c.index-state.result.now c.worlds.invariant.world c.requires.decision.within c.world.view_is c.index-state.ensures)
+    code_place c.args.diagram.now c.states-states.ensures.diagram c.args.profile.now c.requires.profile c.args.decision c.goals_of-marks.result (goals_are_utilities _ _ _ c.goals_of-marks.ensures) (goals_marked _ _ _ c.goals_of-marks.ensures) c.requires.fits c.worlds.gains c.worlds.masses c.worlds.world c.worlds.invariant c.world_weight-weight.result c.world_weight-weight.ensures.weight (to_z w128 (of_z w128 c.world_gain-gain.result)) (to_z-of_z w128 c.world_gain-gain.result (search rules) ∙ c.world_gain-gain.ensures) c.row-row.result c.index-state.result.now (c.row-row.result * c.states-states.result + c.index-state.result.now) c.row-row.ensures (state_read c.args.diagram.now.nodes c.world.inside.states.items c.worlds.world c.args.decision c.index-state.result.now c.worlds.invariant.world c.requires.decision.within c.world.view_is c.index-state.ensures)
     (λ i. c.row-row.ensures i * c.states-states.ensures.states i + (state_read c.args.diagram.now.nodes c.world.inside.states.items c.worlds.world c.args.decision c.index-state.result.now c.worlds.invariant.world c.requires.decision.within c.world.view_is c.index-state.ensures) i)
 
 pub add_gain-requires-clause-fits : goal.add_gain-requires-clause-fits
 add_gain-requires-clause-fits c =
-    code_gain c.args.diagram.now c.states-states.ensures.diagram c.args.profile.now c.requires.profile c.args.decision c.utilities_below-marks.result c.utilities_below-marks.ensures.utilities c.utilities_below-marks.ensures.marks c.requires.fits c.worlds.gains c.worlds.masses c.worlds.world c.worlds.invariant c.world_weight-weight.result c.world_weight-weight.ensures.weight (to_z w128 (of_z w128 c.world_gain-gain.result)) (to_z-of_z w128 c.world_gain-gain.result (search rules) ∙ c.world_gain-gain.ensures) c.row-row.result c.index-state.result.now (c.row-row.result * c.states-states.result + c.index-state.result.now) c.row-row.ensures (state_read c.args.diagram.now.nodes c.world.inside.states.items c.worlds.world c.args.decision c.index-state.result.now c.worlds.invariant.world c.requires.decision.within c.world.view_is c.index-state.ensures)
+    code_gain c.args.diagram.now c.states-states.ensures.diagram c.args.profile.now c.requires.profile c.args.decision c.goals_of-marks.result (goals_are_utilities _ _ _ c.goals_of-marks.ensures) (goals_marked _ _ _ c.goals_of-marks.ensures) c.requires.fits c.worlds.gains c.worlds.masses c.worlds.world c.worlds.invariant c.world_weight-weight.result c.world_weight-weight.ensures.weight (to_z w128 (of_z w128 c.world_gain-gain.result)) (to_z-of_z w128 c.world_gain-gain.result (search rules) ∙ c.world_gain-gain.ensures) c.row-row.result c.index-state.result.now (c.row-row.result * c.states-states.result + c.index-state.result.now) c.row-row.ensures (state_read c.args.diagram.now.nodes c.world.inside.states.items c.worlds.world c.args.decision c.index-state.result.now c.worlds.invariant.world c.requires.decision.within c.world.view_is c.index-state.ensures)
     (λ i. c.row-row.ensures i * c.states-states.ensures.states i + (state_read c.args.diagram.now.nodes c.world.inside.states.items c.worlds.world c.args.decision c.index-state.result.now c.worlds.invariant.world c.requires.decision.within c.world.view_is c.index-state.ensures) i)
 
 pub add_mass-requires-clause-row : goal.add_mass-requires-clause-row
 add_mass-requires-clause-row c =
-    code_row c.args.diagram.now c.states-states.ensures.diagram c.args.profile.now c.requires.profile c.args.decision c.utilities_below-marks.result c.utilities_below-marks.ensures.utilities c.utilities_below-marks.ensures.marks c.requires.fits c.worlds.gains c.worlds.masses c.worlds.world c.worlds.invariant c.world_weight-weight.result c.world_weight-weight.ensures.weight (to_z w128 (of_z w128 c.world_gain-gain.result)) (to_z-of_z w128 c.world_gain-gain.result (search rules) ∙ c.world_gain-gain.ensures) c.row-row.result c.index-state.result.now (c.row-row.result * c.states-states.result + c.index-state.result.now) c.row-row.ensures (state_read c.args.diagram.now.nodes c.world.inside.states.items c.worlds.world c.args.decision c.index-state.result.now c.worlds.invariant.world c.requires.decision.within c.world.view_is c.index-state.ensures)
+    code_row c.args.diagram.now c.states-states.ensures.diagram c.args.profile.now c.requires.profile c.args.decision c.goals_of-marks.result (goals_are_utilities _ _ _ c.goals_of-marks.ensures) (goals_marked _ _ _ c.goals_of-marks.ensures) c.requires.fits c.worlds.gains c.worlds.masses c.worlds.world c.worlds.invariant c.world_weight-weight.result c.world_weight-weight.ensures.weight (to_z w128 (of_z w128 c.world_gain-gain.result)) (to_z-of_z w128 c.world_gain-gain.result (search rules) ∙ c.world_gain-gain.ensures) c.row-row.result c.index-state.result.now (c.row-row.result * c.states-states.result + c.index-state.result.now) c.row-row.ensures (state_read c.args.diagram.now.nodes c.world.inside.states.items c.worlds.world c.args.decision c.index-state.result.now c.worlds.invariant.world c.requires.decision.within c.world.view_is c.index-state.ensures)
     (λ i. c.row-row.ensures i * c.states-states.ensures.states i + (state_read c.args.diagram.now.nodes c.world.inside.states.items c.worlds.world c.args.decision c.index-state.result.now c.worlds.invariant.world c.requires.decision.within c.world.view_is c.index-state.ensures) i)
 
 pub add_mass-requires-clause-fits : goal.add_mass-requires-clause-fits
 add_mass-requires-clause-fits c =
-    code_mass c.args.diagram.now c.states-states.ensures.diagram c.args.profile.now c.requires.profile c.args.decision c.utilities_below-marks.result c.utilities_below-marks.ensures.utilities c.utilities_below-marks.ensures.marks c.requires.fits c.worlds.gains c.worlds.masses c.worlds.world c.worlds.invariant c.world_weight-weight.result c.world_weight-weight.ensures.weight (to_z w128 (of_z w128 c.world_gain-gain.result)) (to_z-of_z w128 c.world_gain-gain.result (search rules) ∙ c.world_gain-gain.ensures) c.row-row.result c.index-state.result.now (c.row-row.result * c.states-states.result + c.index-state.result.now) c.row-row.ensures (state_read c.args.diagram.now.nodes c.world.inside.states.items c.worlds.world c.args.decision c.index-state.result.now c.worlds.invariant.world c.requires.decision.within c.world.view_is c.index-state.ensures)
+    code_mass c.args.diagram.now c.states-states.ensures.diagram c.args.profile.now c.requires.profile c.args.decision c.goals_of-marks.result (goals_are_utilities _ _ _ c.goals_of-marks.ensures) (goals_marked _ _ _ c.goals_of-marks.ensures) c.requires.fits c.worlds.gains c.worlds.masses c.worlds.world c.worlds.invariant c.world_weight-weight.result c.world_weight-weight.ensures.weight (to_z w128 (of_z w128 c.world_gain-gain.result)) (to_z-of_z w128 c.world_gain-gain.result (search rules) ∙ c.world_gain-gain.ensures) c.row-row.result c.index-state.result.now (c.row-row.result * c.states-states.result + c.index-state.result.now) c.row-row.ensures (state_read c.args.diagram.now.nodes c.world.inside.states.items c.worlds.world c.args.decision c.index-state.result.now c.worlds.invariant.world c.requires.decision.within c.world.view_is c.index-state.ensures)
     (λ i. c.row-row.ensures i * c.states-states.ensures.states i + (state_read c.args.diagram.now.nodes c.world.inside.states.items c.worlds.world c.args.decision c.index-state.result.now c.worlds.invariant.world c.requires.decision.within c.world.view_is c.index-state.ensures) i)
 
 pub returns-then-not-next-clause-gains : goal.returns-then-not-next-clause-gains
 returns-then-not-next-clause-gains c =
-    base_gains c.args.diagram.now c.states-states.ensures.diagram c.args.profile.now c.requires.profile c.args.decision c.utilities_below-marks.result c.utilities_below-marks.ensures.utilities c.utilities_below-marks.ensures.marks c.requires.fits c.worlds.gains c.worlds.masses c.worlds.world c.worlds.invariant c.world_weight-weight.result c.world_weight-weight.ensures.weight (to_z w128 (of_z w128 c.world_gain-gain.result)) (to_z-of_z w128 c.world_gain-gain.result (search rules) ∙ c.world_gain-gain.ensures) c.row-row.result c.index-state.result.now (c.row-row.result * c.states-states.result + c.index-state.result.now) c.row-row.ensures (state_read c.args.diagram.now.nodes c.world.inside.states.items c.worlds.world c.args.decision c.index-state.result.now c.worlds.invariant.world c.requires.decision.within c.world.view_is c.index-state.ensures)
+    base_gains c.args.diagram.now c.states-states.ensures.diagram c.args.profile.now c.requires.profile c.args.decision c.goals_of-marks.result (goals_are_utilities _ _ _ c.goals_of-marks.ensures) (goals_marked _ _ _ c.goals_of-marks.ensures) c.requires.fits c.worlds.gains c.worlds.masses c.worlds.world c.worlds.invariant c.world_weight-weight.result c.world_weight-weight.ensures.weight (to_z w128 (of_z w128 c.world_gain-gain.result)) (to_z-of_z w128 c.world_gain-gain.result (search rules) ∙ c.world_gain-gain.ensures) c.row-row.result c.index-state.result.now (c.row-row.result * c.states-states.result + c.index-state.result.now) c.row-row.ensures (state_read c.args.diagram.now.nodes c.world.inside.states.items c.worlds.world c.args.decision c.index-state.result.now c.worlds.invariant.world c.requires.decision.within c.world.view_is c.index-state.ensures)
     (λ i. c.row-row.ensures i * c.states-states.ensures.states i + (state_read c.args.diagram.now.nodes c.world.inside.states.items c.worlds.world c.args.decision c.index-state.result.now c.worlds.invariant.world c.requires.decision.within c.world.view_is c.index-state.ensures) i)
     c.add_gain.new.gains c.add_mass.new.masses c.add_gain.ensures c.add_mass.ensures (c.if-not-next.ensures.last (search rules))
 
 pub returns-then-not-next-clause-masses : goal.returns-then-not-next-clause-masses
 returns-then-not-next-clause-masses c =
-    base_masses c.args.diagram.now c.states-states.ensures.diagram c.args.profile.now c.requires.profile c.args.decision c.utilities_below-marks.result c.utilities_below-marks.ensures.utilities c.utilities_below-marks.ensures.marks c.requires.fits c.worlds.gains c.worlds.masses c.worlds.world c.worlds.invariant c.world_weight-weight.result c.world_weight-weight.ensures.weight (to_z w128 (of_z w128 c.world_gain-gain.result)) (to_z-of_z w128 c.world_gain-gain.result (search rules) ∙ c.world_gain-gain.ensures) c.row-row.result c.index-state.result.now (c.row-row.result * c.states-states.result + c.index-state.result.now) c.row-row.ensures (state_read c.args.diagram.now.nodes c.world.inside.states.items c.worlds.world c.args.decision c.index-state.result.now c.worlds.invariant.world c.requires.decision.within c.world.view_is c.index-state.ensures)
+    base_masses c.args.diagram.now c.states-states.ensures.diagram c.args.profile.now c.requires.profile c.args.decision c.goals_of-marks.result (goals_are_utilities _ _ _ c.goals_of-marks.ensures) (goals_marked _ _ _ c.goals_of-marks.ensures) c.requires.fits c.worlds.gains c.worlds.masses c.worlds.world c.worlds.invariant c.world_weight-weight.result c.world_weight-weight.ensures.weight (to_z w128 (of_z w128 c.world_gain-gain.result)) (to_z-of_z w128 c.world_gain-gain.result (search rules) ∙ c.world_gain-gain.ensures) c.row-row.result c.index-state.result.now (c.row-row.result * c.states-states.result + c.index-state.result.now) c.row-row.ensures (state_read c.args.diagram.now.nodes c.world.inside.states.items c.worlds.world c.args.decision c.index-state.result.now c.worlds.invariant.world c.requires.decision.within c.world.view_is c.index-state.ensures)
     (λ i. c.row-row.ensures i * c.states-states.ensures.states i + (state_read c.args.diagram.now.nodes c.world.inside.states.items c.worlds.world c.args.decision c.index-state.result.now c.worlds.invariant.world c.requires.decision.within c.world.view_is c.index-state.ensures) i)
     c.add_gain.new.gains c.add_mass.new.masses c.add_gain.ensures c.add_mass.ensures (c.if-not-next.ensures.last (search rules))
 
 pub returns-then-not-next-clause-gains_small : goal.returns-then-not-next-clause-gains_small
 returns-then-not-next-clause-gains_small c =
-    base_gains_small c.args.diagram.now c.states-states.ensures.diagram c.args.profile.now c.requires.profile c.args.decision c.utilities_below-marks.result c.utilities_below-marks.ensures.utilities c.utilities_below-marks.ensures.marks c.requires.fits c.worlds.gains c.worlds.masses c.worlds.world c.worlds.invariant c.world_weight-weight.result c.world_weight-weight.ensures.weight (to_z w128 (of_z w128 c.world_gain-gain.result)) (to_z-of_z w128 c.world_gain-gain.result (search rules) ∙ c.world_gain-gain.ensures) c.row-row.result c.index-state.result.now (c.row-row.result * c.states-states.result + c.index-state.result.now) c.row-row.ensures (state_read c.args.diagram.now.nodes c.world.inside.states.items c.worlds.world c.args.decision c.index-state.result.now c.worlds.invariant.world c.requires.decision.within c.world.view_is c.index-state.ensures)
+    base_gains_small c.args.diagram.now c.states-states.ensures.diagram c.args.profile.now c.requires.profile c.args.decision c.goals_of-marks.result (goals_are_utilities _ _ _ c.goals_of-marks.ensures) (goals_marked _ _ _ c.goals_of-marks.ensures) c.requires.fits c.worlds.gains c.worlds.masses c.worlds.world c.worlds.invariant c.world_weight-weight.result c.world_weight-weight.ensures.weight (to_z w128 (of_z w128 c.world_gain-gain.result)) (to_z-of_z w128 c.world_gain-gain.result (search rules) ∙ c.world_gain-gain.ensures) c.row-row.result c.index-state.result.now (c.row-row.result * c.states-states.result + c.index-state.result.now) c.row-row.ensures (state_read c.args.diagram.now.nodes c.world.inside.states.items c.worlds.world c.args.decision c.index-state.result.now c.worlds.invariant.world c.requires.decision.within c.world.view_is c.index-state.ensures)
     (λ i. c.row-row.ensures i * c.states-states.ensures.states i + (state_read c.args.diagram.now.nodes c.world.inside.states.items c.worlds.world c.args.decision c.index-state.result.now c.worlds.invariant.world c.requires.decision.within c.world.view_is c.index-state.ensures) i)
     c.add_gain.new.gains c.add_mass.new.masses c.add_gain.ensures c.add_mass.ensures
 
 pub returns-then-not-next-clause-masses_small : goal.returns-then-not-next-clause-masses_small
 returns-then-not-next-clause-masses_small c =
-    base_masses_small c.args.diagram.now c.states-states.ensures.diagram c.args.profile.now c.requires.profile c.args.decision c.utilities_below-marks.result c.utilities_below-marks.ensures.utilities c.utilities_below-marks.ensures.marks c.requires.fits c.worlds.gains c.worlds.masses c.worlds.world c.worlds.invariant c.world_weight-weight.result c.world_weight-weight.ensures.weight (to_z w128 (of_z w128 c.world_gain-gain.result)) (to_z-of_z w128 c.world_gain-gain.result (search rules) ∙ c.world_gain-gain.ensures) c.row-row.result c.index-state.result.now (c.row-row.result * c.states-states.result + c.index-state.result.now) c.row-row.ensures (state_read c.args.diagram.now.nodes c.world.inside.states.items c.worlds.world c.args.decision c.index-state.result.now c.worlds.invariant.world c.requires.decision.within c.world.view_is c.index-state.ensures)
+    base_masses_small c.args.diagram.now c.states-states.ensures.diagram c.args.profile.now c.requires.profile c.args.decision c.goals_of-marks.result (goals_are_utilities _ _ _ c.goals_of-marks.ensures) (goals_marked _ _ _ c.goals_of-marks.ensures) c.requires.fits c.worlds.gains c.worlds.masses c.worlds.world c.worlds.invariant c.world_weight-weight.result c.world_weight-weight.ensures.weight (to_z w128 (of_z w128 c.world_gain-gain.result)) (to_z-of_z w128 c.world_gain-gain.result (search rules) ∙ c.world_gain-gain.ensures) c.row-row.result c.index-state.result.now (c.row-row.result * c.states-states.result + c.index-state.result.now) c.row-row.ensures (state_read c.args.diagram.now.nodes c.world.inside.states.items c.worlds.world c.args.decision c.index-state.result.now c.worlds.invariant.world c.requires.decision.within c.world.view_is c.index-state.ensures)
     (λ i. c.row-row.ensures i * c.states-states.ensures.states i + (state_read c.args.diagram.now.nodes c.world.inside.states.items c.worlds.world c.args.decision c.index-state.result.now c.worlds.invariant.world c.requires.decision.within c.world.view_is c.index-state.ensures) i)
     c.add_gain.new.gains c.add_mass.new.masses c.add_gain.ensures c.add_mass.ensures
 
 pub worlds-preserved : goal.worlds-preserved
 worlds-preserved c =
-    base_step c.args.diagram.now c.states-states.ensures.diagram c.args.profile.now c.requires.profile c.args.decision c.utilities_below-marks.result c.utilities_below-marks.ensures.utilities c.utilities_below-marks.ensures.marks c.requires.fits c.worlds.gains c.worlds.masses c.worlds.world c.worlds.invariant c.world_weight-weight.result c.world_weight-weight.ensures.weight (to_z w128 (of_z w128 c.world_gain-gain.result)) (to_z-of_z w128 c.world_gain-gain.result (search rules) ∙ c.world_gain-gain.ensures) c.row-row.result c.index-state.result.now (c.row-row.result * c.states-states.result + c.index-state.result.now) c.row-row.ensures (state_read c.args.diagram.now.nodes c.world.inside.states.items c.worlds.world c.args.decision c.index-state.result.now c.worlds.invariant.world c.requires.decision.within c.world.view_is c.index-state.ensures)
+    base_step c.args.diagram.now c.states-states.ensures.diagram c.args.profile.now c.requires.profile c.args.decision c.goals_of-marks.result (goals_are_utilities _ _ _ c.goals_of-marks.ensures) (goals_marked _ _ _ c.goals_of-marks.ensures) c.requires.fits c.worlds.gains c.worlds.masses c.worlds.world c.worlds.invariant c.world_weight-weight.result c.world_weight-weight.ensures.weight (to_z w128 (of_z w128 c.world_gain-gain.result)) (to_z-of_z w128 c.world_gain-gain.result (search rules) ∙ c.world_gain-gain.ensures) c.row-row.result c.index-state.result.now (c.row-row.result * c.states-states.result + c.index-state.result.now) c.row-row.ensures (state_read c.args.diagram.now.nodes c.world.inside.states.items c.worlds.world c.args.decision c.index-state.result.now c.worlds.invariant.world c.requires.decision.within c.world.view_is c.index-state.ensures)
     (λ i. c.row-row.ensures i * c.states-states.ensures.states i + (state_read c.args.diagram.now.nodes c.world.inside.states.items c.worlds.world c.args.decision c.index-state.result.now c.worlds.invariant.world c.requires.decision.within c.world.view_is c.index-state.ensures) i)
     c.add_gain.new.gains c.add_mass.new.masses c.add_gain.ensures c.add_mass.ensures c.next.new.self c.if-not-next.ensures.world (c.if-not-next.ensures.more (search rules))

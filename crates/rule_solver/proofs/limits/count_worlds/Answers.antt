@@ -2,7 +2,7 @@ use Rattle.std.proofs.Common.{◌≡◌, ◌∙◌, ◌^◌, ◌*◌, ◌≤◌,
 use Rattle.std.proofs.Math.Nat.{mul-le-mul}
 use Rattle.std.specs.List.{range_with_len}
 use Rattle.maid_model.specs.Nodes.{states_of}
-use Rattle.maid_model.specs.Sums.{nat_product_over}
+use Rattle.finite_sums.specs.Sums.{nat_product_over}
 use Rattle.rule_solver.proofs.LeafLemmas.{product_more, counted_times}
 use Rattle.rule_solver.proofs.limits.count_worlds.Goals as goal
 

@@ -1,7 +1,7 @@
 use Rattle.std.proofs.Common.{◌≡◌, ◌*◌, ◌-◌, ◌<◌, length}
 use Rattle.std.specs.List.{range_with_len}
 use Rattle.maid_model.specs.Nodes.{numbers_of}
-use Rattle.maid_model.specs.Sums.{nat_product_over}
+use Rattle.finite_sums.specs.Sums.{nat_product_over}
 use Rattle.rule_solver.specs.Masses.{chance_factor_or_one}
 use Rattle.rule_solver.proofs.worths.chance_mass.Given as goal
 

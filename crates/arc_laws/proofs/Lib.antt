@@ -1,0 +1,12 @@
+pub mod Unneeded
+pub mod LostArc
+pub mod SameOptimum
+pub mod ArcLaws
+pub mod Unreached
+pub mod SameArcs
+pub mod InControl
+pub mod ControlLaws
+pub mod Differences
+pub mod WorthLaws
+pub mod Alone
+pub mod SmallStroll

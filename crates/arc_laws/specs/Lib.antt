@@ -1,0 +1,5 @@
+pub mod Requisite
+pub mod Arcs
+pub mod Control
+pub mod Worths
+pub mod Examples

@@ -1,0 +1,6 @@
+pub mod Ints
+pub mod Sums
+pub mod Totals
+pub mod Lists
+pub mod Members
+pub mod Counts

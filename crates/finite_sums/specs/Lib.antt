@@ -1,0 +1,4 @@
+pub mod Sums
+pub mod Looks
+pub mod Members
+pub mod Laws

@@ -1,0 +1,392 @@
+//! The small diagrams and profiles as values, which meet their literals, and room for their sums.
+
+ghost use Rattle.std.specs.Prelude.{◌≡◌, ◌∷◌, [], IfOk};
+ghost use Rattle.maid_examples.specs.Samples.{plan};
+ghost use Rattle.maid_examples.specs.FollowerLeader.{sight_diagram};
+ghost use Rattle.maid_examples.specs.CopySeen.{copied_diagram};
+ghost use Rattle.maid_examples.specs.CopyAnswered.{trace_diagram};
+ghost use Rattle.maid_examples.specs.EmptyThreat.{moves_diagram, threat};
+ghost use Rattle.maid_examples.specs.Pennies.{pennies_diagram};
+ghost use Rattle.maid_examples.specs.Trial.{HasRoom};
+ghost use Rattle.maid_examples.specs.Trip.{weather, trip_diagram};
+ghost use Rattle.maid_examples.specs.NodeBetween.{joined_diagram, parted_diagram, asks_much, asks_little};
+
+use crate::{
+    a_trip, answer_by_copy, copy_in_place, empty_threat, follower_and_leader, one_state_between,
+    pennies,
+};
+use maid_model::{Diagram, Kind, Node, Profile, Rule, World, base_sums, leaf_sum};
+use smallvec::SmallVec;
+use std::alloc::{AllocError, Global};
+use std::marker::Model;
+
+/// A decision of two states.
+fn decision(alloc: Global, owner: usize, parents: &[usize]) -> Result<Node, AllocError>
+    ensures { IfOk result (λ n. n ≡ record { kind = Kind.Decision; owner = owner; states = 2; parents = parents.now; cells = [] }) }
+{
+    Ok(Node {
+        kind: Kind::Decision,
+        owner,
+        states: 2,
+        parents: SmallVec::from_slice(alloc, parents)?,
+        cells: Vec::new(alloc),
+    })
+}
+
+/// A chance node below node 0.
+fn chance(alloc: Global, states: usize, cells: &[i128]) -> Result<Node, AllocError>
+    ensures { IfOk result (λ n. n ≡ record { kind = Kind.Chance; owner = 0; states = states; parents = 0 ∷ []; cells = cells.now }) }
+{
+    Ok(Node {
+        kind: Kind::Chance,
+        owner: 0,
+        states,
+        parents: SmallVec::from_slice(alloc, &[0])?,
+        cells: Vec::from_slice(alloc, cells)?,
+    })
+}
+
+fn utility(
+    alloc: Global,
+    owner: usize,
+    parents: &[usize],
+    cells: &[i128],
+) -> Result<Node, AllocError>
+    ensures { IfOk result (λ n. n ≡ record { kind = Kind.Utility; owner = owner; states = 1; parents = parents.now; cells = cells.now }) }
+{
+    Ok(Node {
+        kind: Kind::Utility,
+        owner,
+        states: 1,
+        parents: SmallVec::from_slice(alloc, parents)?,
+        cells: Vec::from_slice(alloc, cells)?,
+    })
+}
+
+pub(crate) fn sight(alloc: Global) -> Result<Diagram, AllocError>
+    ensures { IfOk result (λ d. d ≡ sight_diagram) }
+{
+    follower_and_leader();
+    let mut nodes = Vec::new(alloc);
+    nodes.push(decision(alloc, 0, &[])?)?;
+    nodes.push(decision(alloc, 1, &[0])?)?;
+    nodes.push(utility(alloc, 0, &[0, 1], &[5, -1, 3, 0])?)?;
+    nodes.push(utility(alloc, 1, &[0, 1], &[-2, 1, 5, 0])?)?;
+    Ok(Diagram::from_nodes(nodes, 2, 0))
+}
+
+pub(crate) fn copied(alloc: Global) -> Result<Diagram, AllocError>
+    ensures { IfOk result (λ d. d ≡ copied_diagram) }
+{
+    copy_in_place();
+    let mut nodes = Vec::new(alloc);
+    nodes.push(decision(alloc, 0, &[])?)?;
+    nodes.push(chance(alloc, 2, &[1, 0, 0, 1])?)?;
+    nodes.push(decision(alloc, 1, &[1])?)?;
+    nodes.push(utility(alloc, 0, &[0, 2], &[5, -1, 3, 0])?)?;
+    nodes.push(utility(alloc, 1, &[0, 2], &[-2, 1, 5, 0])?)?;
+    Ok(Diagram::from_nodes(nodes, 2, 0))
+}
+
+pub(crate) fn joined(alloc: Global) -> Result<Diagram, AllocError>
+    ensures { IfOk result (λ d. d ≡ joined_diagram) }
+{
+    one_state_between();
+    let mut nodes = Vec::new(alloc);
+    nodes.push(decision(alloc, 0, &[])?)?;
+    nodes.push(chance(alloc, 2, &[1, 0, 0, 1])?)?;
+    nodes.push(decision(alloc, 1, &[])?)?;
+    nodes.push(utility(alloc, 0, &[0, 2], &[5, -1, 3, 0])?)?;
+    nodes.push(utility(alloc, 1, &[1, 2], &[-2, 1, 5, 0])?)?;
+    Ok(Diagram::from_nodes(nodes, 2, 0))
+}
+
+pub(crate) fn parted(alloc: Global) -> Result<Diagram, AllocError>
+    ensures { IfOk result (λ d. d ≡ parted_diagram) }
+{
+    one_state_between();
+    let mut nodes = Vec::new(alloc);
+    nodes.push(decision(alloc, 0, &[])?)?;
+    nodes.push(chance(alloc, 1, &[1, 1])?)?;
+    nodes.push(decision(alloc, 1, &[])?)?;
+    nodes.push(utility(alloc, 0, &[0, 2], &[5, -1, 3, 0])?)?;
+    nodes.push(utility(alloc, 1, &[1, 2], &[3, 1])?)?;
+    Ok(Diagram::from_nodes(nodes, 2, 0))
+}
+
+fn moves(alloc: Global) -> Result<Diagram, AllocError>
+    ensures { IfOk result (λ d. d ≡ moves_diagram) }
+{
+    empty_threat();
+    let mut nodes = Vec::new(alloc);
+    nodes.push(decision(alloc, 0, &[])?)?;
+    nodes.push(decision(alloc, 1, &[0])?)?;
+    nodes.push(utility(alloc, 0, &[0, 1], &[2, 0, 3, 1])?)?;
+    nodes.push(utility(alloc, 1, &[0, 1], &[1, 0, 0, 1])?)?;
+    Ok(Diagram::from_nodes(nodes, 2, 0))
+}
+
+pub(crate) fn coins(alloc: Global) -> Result<Diagram, AllocError>
+    ensures { IfOk result (λ d. d ≡ pennies_diagram) }
+{
+    pennies();
+    let mut nodes = Vec::new(alloc);
+    nodes.push(decision(alloc, 0, &[])?)?;
+    nodes.push(decision(alloc, 1, &[])?)?;
+    nodes.push(utility(alloc, 0, &[0, 1], &[1, -1, -1, 1])?)?;
+    nodes.push(utility(alloc, 1, &[0, 1], &[-1, 1, 1, -1])?)?;
+    Ok(Diagram::from_nodes(nodes, 2, 0))
+}
+
+pub(crate) fn trace(alloc: Global) -> Result<Diagram, AllocError>
+    ensures { IfOk result (λ d. d ≡ trace_diagram) }
+{
+    answer_by_copy();
+    let mut nodes = Vec::new(alloc);
+    nodes.push(decision(alloc, 0, &[])?)?;
+    nodes.push(chance(alloc, 2, &[1, 0, 0, 1])?)?;
+    nodes.push(decision(alloc, 1, &[1])?)?;
+    nodes.push(utility(alloc, 0, &[0], &[1, 0])?)?;
+    nodes.push(utility(alloc, 1, &[0, 2], &[1, 0, 0, 1])?)?;
+    Ok(Diagram::from_nodes(nodes, 2, 0))
+}
+
+fn weather(alloc: Global) -> Result<Node, AllocError>
+    ensures { IfOk result (λ n. n ≡ weather) }
+{
+    Ok(Node {
+        kind: Kind::Chance,
+        owner: 0,
+        states: 2,
+        parents: SmallVec::from_slice(alloc, &[])?,
+        cells: Vec::from_slice(alloc, &[1, 3])?,
+    })
+}
+
+pub(crate) fn trip(alloc: Global) -> Result<Diagram, AllocError>
+    ensures { IfOk result (λ d. d ≡ trip_diagram) }
+{
+    a_trip();
+    let mut nodes = Vec::new(alloc);
+    nodes.push(weather(alloc)?)?;
+    nodes.push(decision(alloc, 0, &[0])?)?;
+    nodes.push(utility(alloc, 0, &[0, 1], &[5, 0, -1, 7])?)?;
+    Ok(Diagram::from_nodes(nodes, 1, 0))
+}
+
+fn rule(alloc: Global, decision: usize, total: u128, weights: &[u128]) -> Result<Rule, AllocError>
+    ensures { IfOk result (λ r. r ≡ record { decision = decision; total = total; weights = weights.now }) }
+{
+    Ok(Rule {
+        decision,
+        total,
+        weights: Vec::from_slice(alloc, weights)?,
+    })
+}
+
+fn profile_of(alloc: Global, first: Rule, second: Rule) -> Result<Profile, AllocError>
+    ensures { IfOk result (λ p. p ≡ first ∷ second ∷ []) }
+{
+    let mut rules = Vec::new(alloc);
+    rules.push(first)?;
+    rules.push(second)?;
+    Ok(Profile::from_rules(rules))
+}
+
+fn plan_in_sight(alloc: Global) -> Result<Profile, AllocError>
+    ensures { IfOk result (λ p. p ≡ plan 1) }
+{
+    let leader = rule(alloc, 0, 1, &[0, 1])?;
+    let follower = rule(alloc, 1, 1, &[0, 1, 1, 0])?;
+    profile_of(alloc, leader, follower)
+}
+
+fn plan_by_copy(alloc: Global) -> Result<Profile, AllocError>
+    ensures { IfOk result (λ p. p ≡ plan 2) }
+{
+    let leader = rule(alloc, 0, 1, &[0, 1])?;
+    let follower = rule(alloc, 2, 1, &[0, 1, 1, 0])?;
+    profile_of(alloc, leader, follower)
+}
+
+fn asks_much(alloc: Global) -> Result<Profile, AllocError>
+    ensures { IfOk result (λ p. p ≡ asks_much) }
+{
+    let leader = rule(alloc, 0, 1, &[1, 0])?;
+    let follower = rule(alloc, 2, 2, &[1, 1])?;
+    profile_of(alloc, leader, follower)
+}
+
+fn asks_little(alloc: Global) -> Result<Profile, AllocError>
+    ensures { IfOk result (λ p. p ≡ asks_little) }
+{
+    let leader = rule(alloc, 0, 1, &[0, 1])?;
+    let follower = rule(alloc, 2, 2, &[1, 1])?;
+    profile_of(alloc, leader, follower)
+}
+
+fn threat(alloc: Global) -> Result<Profile, AllocError>
+    ensures { IfOk result (λ p. p ≡ threat) }
+{
+    let leader = rule(alloc, 0, 1, &[0, 1])?;
+    let follower = rule(alloc, 1, 1, &[0, 1, 0, 1])?;
+    profile_of(alloc, leader, follower)
+}
+
+/// G, row by row and the state fastest, and R of each row.
+#[derive(Debug, Drop)]
+pub(crate) struct Sums {
+    pub(crate) gains: Vec<i128>,
+    pub(crate) masses: Vec<u128>,
+}
+
+/// A diagram with a profile, and room for their sums.
+#[derive(Debug, Drop)]
+pub(crate) struct Trial {
+    diagram: Diagram,
+    profile: Profile,
+}
+
+impl Model for Trial {
+    ghost use Rattle.maid_examples.specs.Trial.{TrialView, HasRoom};
+
+    ghost Value = { TrialView };
+
+    ghost view = { λ t. record { diagram = t.diagram; profile = t.profile } };
+
+    ghost invariant = { λ t. HasRoom (record { diagram = t.diagram; profile = t.profile }) };
+}
+
+impl Trial {
+    fn new(diagram: Diagram, profile: Profile) -> Trial
+        requires { HasRoom (record { diagram = diagram; profile = profile }) }
+    {
+        Trial { diagram, profile }
+    }
+
+    /// N of the agent.
+    pub(crate) fn gain(&self, alloc: Global, agent: usize) -> Result<i128, AllocError> {
+        let mut world = World::first(alloc, &self.diagram)?;
+        Ok(leaf_sum(&self.diagram, &self.profile, agent, &mut world))
+    }
+
+    /// The sums of a node, empty where it is no decision.
+    pub(crate) fn sums(&self, alloc: Global, decision: usize) -> Result<Sums, AllocError> {
+        let mut sums = Sums {
+            gains: Vec::new(alloc),
+            masses: Vec::new(alloc),
+        };
+        if decision >= self.diagram.count() {
+            return Ok(sums);
+        }
+        if self.diagram.kind(decision) != Kind::Decision {
+            return Ok(sums);
+        }
+        let rows = self.diagram.rows(decision);
+        let mut world = World::first(alloc, &self.diagram)?;
+        sums.gains = vec![in alloc; 0; rows * self.diagram.states(decision)]?;
+        sums.masses = vec![in alloc; 0; rows]?;
+        base_sums(
+            &self.diagram,
+            &self.profile,
+            decision,
+            &mut world,
+            &mut sums.gains,
+            &mut sums.masses,
+        );
+        Ok(sums)
+    }
+}
+
+pub(crate) fn sight_uniform(alloc: Global) -> Result<Trial, AllocError> {
+    follower_and_leader();
+    let diagram = sight(alloc)?;
+    let profile = Profile::uniform(alloc, &diagram)?;
+    Ok(Trial::new(diagram, profile))
+}
+
+pub(crate) fn sight_plan(alloc: Global) -> Result<Trial, AllocError> {
+    follower_and_leader();
+    let diagram = sight(alloc)?;
+    let profile = plan_in_sight(alloc)?;
+    Ok(Trial::new(diagram, profile))
+}
+
+pub(crate) fn copied_uniform(alloc: Global) -> Result<Trial, AllocError> {
+    copy_in_place();
+    let diagram = copied(alloc)?;
+    let profile = Profile::uniform(alloc, &diagram)?;
+    Ok(Trial::new(diagram, profile))
+}
+
+pub(crate) fn copied_plan(alloc: Global) -> Result<Trial, AllocError> {
+    copy_in_place();
+    let diagram = copied(alloc)?;
+    let profile = plan_by_copy(alloc)?;
+    Ok(Trial::new(diagram, profile))
+}
+
+pub(crate) fn joined_uniform(alloc: Global) -> Result<Trial, AllocError> {
+    one_state_between();
+    let diagram = joined(alloc)?;
+    let profile = Profile::uniform(alloc, &diagram)?;
+    Ok(Trial::new(diagram, profile))
+}
+
+pub(crate) fn joined_much(alloc: Global) -> Result<Trial, AllocError> {
+    one_state_between();
+    let diagram = joined(alloc)?;
+    let profile = asks_much(alloc)?;
+    Ok(Trial::new(diagram, profile))
+}
+
+pub(crate) fn joined_little(alloc: Global) -> Result<Trial, AllocError> {
+    one_state_between();
+    let diagram = joined(alloc)?;
+    let profile = asks_little(alloc)?;
+    Ok(Trial::new(diagram, profile))
+}
+
+pub(crate) fn parted_uniform(alloc: Global) -> Result<Trial, AllocError> {
+    one_state_between();
+    let diagram = parted(alloc)?;
+    let profile = Profile::uniform(alloc, &diagram)?;
+    Ok(Trial::new(diagram, profile))
+}
+
+pub(crate) fn parted_much(alloc: Global) -> Result<Trial, AllocError> {
+    one_state_between();
+    let diagram = parted(alloc)?;
+    let profile = asks_much(alloc)?;
+    Ok(Trial::new(diagram, profile))
+}
+
+pub(crate) fn parted_little(alloc: Global) -> Result<Trial, AllocError> {
+    one_state_between();
+    let diagram = parted(alloc)?;
+    let profile = asks_little(alloc)?;
+    Ok(Trial::new(diagram, profile))
+}
+
+pub(crate) fn threatened(alloc: Global) -> Result<Trial, AllocError> {
+    empty_threat();
+    let diagram = moves(alloc)?;
+    let profile = threat(alloc)?;
+    Ok(Trial::new(diagram, profile))
+}
+
+pub(crate) fn trip_uniform(alloc: Global) -> Result<Trial, AllocError> {
+    a_trip();
+    let diagram = trip(alloc)?;
+    let profile = Profile::uniform(alloc, &diagram)?;
+    Ok(Trial::new(diagram, profile))
+}
+
+/// The plan's rule, put in the place of the uniform one.
+pub(crate) fn trip_plan(alloc: Global) -> Result<Trial, AllocError> {
+    a_trip();
+    let diagram = trip(alloc)?;
+    let mut profile = Profile::uniform(alloc, &diagram)?;
+    profile.put(rule(alloc, 1, 1, &[1, 0, 0, 1])?);
+    Ok(Trial::new(diagram, profile))
+}

@@ -1,0 +1,12 @@
+pub mod Places
+pub mod PartNodes
+pub mod PartSums
+pub mod PartLaws
+pub mod NaturalSums
+pub mod PartLimits
+pub mod PartChoices
+pub mod ScopeLaws
+pub mod ScopeBounds
+pub mod ScopeRoom
+pub mod ScopePlaces
+pub mod SmallPart
