@@ -1,5 +1,10 @@
--- Bytes come to one status.
-use Rattle.std.proofs.Common.{◌≡◌, ◌≤◌, inl, inr, ℕ, List, None, refl, subst, arith}
+-- Bytes come to one status: they stand for one diagram or have a fault, and each stage is clear or refuses with its status, never both.
+use Rattle.std.proofs.Common.{◌≡◌, ◌≤◌, ◌<◌, inl, inr, ℕ, List, None, Some, refl, ap, subst, sym, ◌∙◌, arith, Ok, Err}
+use Rattle.first_fault.specs.Passes.{each}
+use Rattle.first_fault.specs.Properties.{EndsAlike}
+use Rattle.first_fault.proofs.Ends.{staged_alike}
+use Rattle.first_fault.proofs.Kept.{IsOneBy, over_one, each_one, each_only}
+use Rattle.maid_io.specs.Device.{File}
 use Rattle.maid_model.specs.Bounds.{KeepsBound, world_count}
 use Rattle.maid_model.specs.declared.limits.TheConstants.{MOST_WORLDS}
 use Rattle.maid_model.specs.Names.{NamesView}
@@ -14,17 +19,16 @@ use Rattle.net_parser.specs.Grammar.{Spells}
 use Rattle.net_parser.specs.Laws as parser
 use Rattle.net_parser.specs.Lexemes.{lexemes}
 use Rattle.net_parser.specs.Trees.{BlockTree}
-use Rattle.maid_app.specs.Answers.{Answers}
-use Rattle.maid_app.specs.Diagrams.{IsTreeOf, IsDiagramOf}
+use Rattle.maid_app.specs.Answers.{Answers, FindsNothing, task_of}
+use Rattle.maid_app.specs.Diagrams.{NamedDiagram, IsTreeOf, IsDiagramOf, of_diagram}
 use Rattle.maid_app.specs.Faults.{TellsFault, IsTextFault}
-use Rattle.maid_app.specs.Graph.{Graphs, HasGraphText}
-use Rattle.maid_app.specs.Laws.{OneStatus, RefusedForBytes}
-use Rattle.maid_app.specs.Outcome.{Outcome, text, refused, status_with}
-use Rattle.maid_app.specs.Print.{Prints, HasPrint}
-use Rattle.maid_app.specs.Request.{solve, graph, print}
-use Rattle.maid_app.specs.Solve.{Solves, Reports, TellsCycle, TellsBound, TellsNotBuilt}
+use Rattle.maid_app.specs.Laws.{OneStatus}
+use Rattle.maid_app.specs.Outcome.{Refused, refused, status_with}
+use Rattle.maid_app.specs.Request.{Request, file_name}
+use Rattle.maid_app.specs.Stages.{Stage, text_fault, relevance_cycle, weight_bound, too_many_worlds, Finds, IsText, stage, TellsCycle, TellsBound, TellsNotBuilt}
+use Rattle.maid_app.specs.Tasks.{Task, comes_of}
 use Rattle.maid_app.specs.declared.status.Status.{Status}
-use Rattle.maid_app.specs.declared.status.Status.TheVariants.{Done, Usage, Absent, ReadFault, TextTooLong, TextFault, Cycle, WeightBound, TooLarge, WriteFault, NoMemory, Rejected, UnknownAgent, NotBuilt}
+use Rattle.maid_app.specs.declared.status.Status.TheVariants.{TextFault, Cycle, WeightBound, NotBuilt}
 
 -- the laws of the layers below
 pub record Laws : Type 0 where
@@ -50,194 +54,84 @@ no_fault laws bytes d names at words has (inr (inr is)) =
     let same = same_tree laws bytes has.tree is.tree has.is_tree is.is_tree in
     laws.diagram_or_fault bytes is.tree is.fault (subst (λ tree. all_passes bytes tree None) same has.clear) is.is_fault
 
--- bytes stand for one diagram
-same_diagram : Laws → (bytes : List ℕ) (d other : DiagramView) (names others : NamesView) → IsDiagramOf bytes d names → IsDiagramOf bytes other others → d ≡ other
-same_diagram laws bytes d other names others has has' =
+same_both : (x y : NamedDiagram) → x.d ≡ y.d → x.names ≡ y.names → x ≡ y
+same_both x y e e' =
+    let made : DiagramView → NamesView → NamedDiagram = λ d names. record { d = d; names = names } in
+    ap (λ d. made d x.names) e ∙ ap (made y.d) e'
+
+-- bytes stand for one diagram, with one list of names
+same_diagram : Laws → (bytes : List ℕ) (x y : NamedDiagram) → IsDiagramOf bytes x.d x.names → IsDiagramOf bytes y.d y.names → x ≡ y
+same_diagram laws bytes x y has has' =
     let same = same_tree laws bytes has.tree has'.tree has.is_tree has'.is_tree in
-    (laws.one_diagram bytes has'.tree d other names others has'.clear (subst (λ tree. StandsFor bytes tree d names) same has.stands) has'.stands).0
+    let both = laws.one_diagram bytes has'.tree x.d y.d x.names y.names has'.clear (subst (λ tree. StandsFor bytes tree x.d x.names) same has.stands) has'.stands in
+    same_both x y both.0 both.1
 
--- what an outcome of `solve` is
-data Kind (bytes : List ℕ) : Status → Type 0 where
-  report : {printed : List ℕ} → Reports bytes printed → Kind bytes Done
-  fault : {name told : List ℕ} → TellsFault name bytes told → Kind bytes TextFault
-  cycle : {told : List ℕ} → TellsCycle bytes told → Kind bytes Cycle
-  bound : {told : List ℕ} → TellsBound bytes told → Kind bytes WeightBound
-  many : {told : List ℕ} → TellsNotBuilt bytes told → Kind bytes NotBuilt
+-- what a refusal looks like here: its status
+abbrev Status1 : Refused → Status
+Status1 refusal = status_with (Err refusal)
 
-kind_of : (name bytes : List ℕ) (outcome : Outcome) → Solves name bytes outcome → Kind bytes (status_with outcome)
-kind_of name bytes (text printed) is = report is
-kind_of name bytes (refused TextFault told) is = fault {name = name} is
-kind_of name bytes (refused Cycle told) is = cycle is
-kind_of name bytes (refused WeightBound told) is = bound is
-kind_of name bytes (refused NotBuilt told) is = many is
-kind_of name bytes (refused Done told) is = absurd is
-kind_of name bytes (refused Usage told) is = absurd is
-kind_of name bytes (refused Absent told) is = absurd is
-kind_of name bytes (refused ReadFault told) is = absurd is
-kind_of name bytes (refused TextTooLong told) is = absurd is
-kind_of name bytes (refused TooLarge told) is = absurd is
-kind_of name bytes (refused WriteFault told) is = absurd is
-kind_of name bytes (refused NoMemory told) is = absurd is
-kind_of name bytes (refused Rejected told) is = absurd is
-kind_of name bytes (refused UnknownAgent told) is = absurd is
+-- a stage whose tale excludes that it is clear
+stage_one : (status : Status) (IsClear : Type 0) (Tells : List ℕ → Type 0) → ((told : List ℕ) → IsClear → Tells told → ⊥) → IsOneBy Status1 (stage status IsClear Tells)
+stage_one status IsClear Tells apart = record {
+  exclusive = λ f clear found. apart f.told clear found.1;
+  one = λ f g h k. h.0 ∙ sym k.0;
+}
 
--- what holds of the diagram of the bytes, in whichever outcome it stands
-along : Laws → (bytes : List ℕ) (d other : DiagramView) (names others : NamesView) (P : DiagramView → Type 0) → IsDiagramOf bytes d names → IsDiagramOf bytes other others → P d → P other
-along laws bytes d other names others P has has' h = subst P (same_diagram laws bytes d other names others has has') h
+module _ (laws : Laws) where
+  -- and one over the diagram of the bytes
+  of_diagram_one : (bytes : List ℕ) (status : Status) (IsClear : DiagramView → NamesView → Type 0) (Tells : DiagramView → NamesView → List ℕ → Type 0)
+      → ((d : DiagramView) (names : NamesView) (told : List ℕ) → IsClear d names → Tells d names told → ⊥) → IsOneBy Status1 (of_diagram bytes (λ d names. stage status (IsClear d names) (Tells d names)))
+  of_diagram_one bytes status IsClear Tells apart =
+      over_one (λ (x : NamedDiagram). IsDiagramOf bytes x.d x.names) (λ x. stage status (IsClear x.d x.names) (Tells x.d x.names)) (same_diagram laws bytes)
+      (λ x is. stage_one status (IsClear x.d x.names) (Tells x.d x.names) (apart x.d x.names))
 
-ordered : (bytes printed : List ℕ) (r : Reports bytes printed) → HasRelianceOrder r.d.nodes
-ordered bytes printed r = (r.has_report.solved.order, r.has_report.is_answer.order)
+  -- each stage is clear or refuses, never both, and refuses with one status
+  finds_one : (s : Stage) (file : File) → IsOneBy Status1 (Finds s file)
+  finds_one text_fault file = stage_one TextFault (IsText file.1) (TellsFault file.0 file.1) (λ told clear fault. no_fault laws file.1 clear.0.d clear.0.names fault.at fault.words clear.1 fault.is_fault)
+  finds_one relevance_cycle file = of_diagram_one file.1 Cycle (λ d names. HasRelianceOrder d.nodes) TellsCycle (λ d names told order tells. tells.no_order order)
+  finds_one weight_bound file = of_diagram_one file.1 WeightBound (λ d names. KeepsBound d) TellsBound (λ d names told keeps tells. tells.passed keeps)
+  finds_one too_many_worlds file = of_diagram_one file.1 NotBuilt (λ d names. world_count d.nodes ≤ MOST_WORLDS) TellsNotBuilt (λ d names told few tells. let many = tells.many in omega (arith, few, many))
 
-no_both : Laws → (bytes a b : List ℕ) → Reports bytes a → TellsCycle bytes b → ⊥
-no_both laws bytes a b x y = y.no_order (along laws bytes x.d y.d x.names y.names (λ d. HasRelianceOrder d.nodes) x.is_diagram y.is_diagram (ordered bytes a x))
+  task_alike : (task : Task) (name bytes : List ℕ) → EndsAlike status_with (comes_of task name bytes)
+  unfolding comes_of
+  task_alike task name bytes = staged_alike status_with Finds task.stages (λ file. of_diagram file.1 task.IsTextOf) (name, bytes) (λ s. finds_one s (name, bytes)) (λ x y h k. refl)
 
-no_report_bound : Laws → (bytes a b : List ℕ) → Reports bytes a → TellsBound bytes b → ⊥
-no_report_bound laws bytes a b x y = y.passed (along laws bytes x.d y.d x.names y.names KeepsBound x.is_diagram y.is_diagram x.bound)
+  -- where no stage finds anything, none refuses
+  task_clear : (task : Task) (name bytes : List ℕ) (refusal : Refused) → each (λ s. Finds s (name, bytes)) task.stages None → comes_of task name bytes (Err refusal) → ⊥
+  unfolding comes_of
+  task_clear task name bytes refusal clear (inl h) = (each_one (λ s. finds_one s (name, bytes)) task.stages).exclusive refusal clear h
+  task_clear task name bytes refusal clear (inr h) = h.1
 
-no_report_many : Laws → (bytes a b : List ℕ) → Reports bytes a → TellsNotBuilt bytes b → ⊥
-no_report_many laws bytes a b x y =
-    let few : world_count y.d.nodes ≤ MOST_WORLDS = along laws bytes x.d y.d x.names y.names (λ d. world_count d.nodes ≤ MOST_WORLDS) x.is_diagram y.is_diagram x.few in
-    let many = y.many in omega (arith, few, many)
+  pub not_refused : (request : Request) (bytes : List ℕ) (refusal : Refused) → FindsNothing request bytes → Answers request bytes (Err refusal) → ⊥
+  unfolding Answers
+  not_refused request bytes refusal clear h = task_clear (task_of request) (file_name request) bytes refusal clear h
 
-no_cycle_bound : Laws → (bytes a b : List ℕ) → TellsCycle bytes a → TellsBound bytes b → ⊥
-no_cycle_bound laws bytes a b x y = x.no_order (along laws bytes y.d x.d y.names x.names (λ d. HasRelianceOrder d.nodes) y.is_diagram x.is_diagram y.order)
+  pub one_status : OneStatus
+  unfolding Answers
+  one_status request bytes = task_alike (task_of request) (file_name request) bytes
 
-no_cycle_many : Laws → (bytes a b : List ℕ) → TellsCycle bytes a → TellsNotBuilt bytes b → ⊥
-no_cycle_many laws bytes a b x y = x.no_order (along laws bytes y.d x.d y.names x.names (λ d. HasRelianceOrder d.nodes) y.is_diagram x.is_diagram y.order)
+-- the status of each stage
+abbrev pub status_by : Stage → Status
+status_by text_fault = TextFault
+status_by relevance_cycle = Cycle
+status_by weight_bound = WeightBound
+status_by too_many_worlds = NotBuilt
 
-no_bound_many : Laws → (bytes a b : List ℕ) → TellsBound bytes a → TellsNotBuilt bytes b → ⊥
-no_bound_many laws bytes a b x y = x.passed (along laws bytes y.d x.d y.names x.names KeepsBound y.is_diagram x.is_diagram y.bound)
+abbrev HasStatusOfStage : Refused → Type 0
+HasStatusOfStage refusal = (s : Stage) × (refusal.status ≡ status_by s)
 
-one_kind : Laws → (bytes : List ℕ) (s t : Status) → Kind bytes s → Kind bytes t → s ≡ t
-one_kind laws bytes _ _ (report x) (report y) = refl
-one_kind laws bytes _ _ (report x) (fault y) = absurd (no_fault laws bytes x.d x.names y.at y.words x.is_diagram y.is_fault)
-one_kind laws bytes _ _ (report x) (cycle y) = absurd (no_both laws bytes _ _ x y)
-one_kind laws bytes _ _ (report x) (bound y) = absurd (no_report_bound laws bytes _ _ x y)
-one_kind laws bytes _ _ (report x) (many y) = absurd (no_report_many laws bytes _ _ x y)
-one_kind laws bytes _ _ (fault x) (report y) = absurd (no_fault laws bytes y.d y.names x.at x.words y.is_diagram x.is_fault)
-one_kind laws bytes _ _ (fault x) (fault y) = refl
-one_kind laws bytes _ _ (fault x) (cycle y) = absurd (no_fault laws bytes y.d y.names x.at x.words y.is_diagram x.is_fault)
-one_kind laws bytes _ _ (fault x) (bound y) = absurd (no_fault laws bytes y.d y.names x.at x.words y.is_diagram x.is_fault)
-one_kind laws bytes _ _ (fault x) (many y) = absurd (no_fault laws bytes y.d y.names x.at x.words y.is_diagram x.is_fault)
-one_kind laws bytes _ _ (cycle x) (report y) = absurd (no_both laws bytes _ _ y x)
-one_kind laws bytes _ _ (cycle x) (fault y) = absurd (no_fault laws bytes x.d x.names y.at y.words x.is_diagram y.is_fault)
-one_kind laws bytes _ _ (cycle x) (cycle y) = refl
-one_kind laws bytes _ _ (cycle x) (bound y) = absurd (no_cycle_bound laws bytes _ _ x y)
-one_kind laws bytes _ _ (cycle x) (many y) = absurd (no_cycle_many laws bytes _ _ x y)
-one_kind laws bytes _ _ (bound x) (report y) = absurd (no_report_bound laws bytes _ _ y x)
-one_kind laws bytes _ _ (bound x) (fault y) = absurd (no_fault laws bytes x.d x.names y.at y.words x.is_diagram y.is_fault)
-one_kind laws bytes _ _ (bound x) (cycle y) = absurd (no_cycle_bound laws bytes _ _ y x)
-one_kind laws bytes _ _ (bound x) (bound y) = refl
-one_kind laws bytes _ _ (bound x) (many y) = absurd (no_bound_many laws bytes _ _ x y)
-one_kind laws bytes _ _ (many x) (report y) = absurd (no_report_many laws bytes _ _ y x)
-one_kind laws bytes _ _ (many x) (fault y) = absurd (no_fault laws bytes x.d x.names y.at y.words x.is_diagram y.is_fault)
-one_kind laws bytes _ _ (many x) (cycle y) = absurd (no_cycle_many laws bytes _ _ y x)
-one_kind laws bytes _ _ (many x) (bound y) = absurd (no_bound_many laws bytes _ _ y x)
-one_kind laws bytes _ _ (many x) (many y) = refl
+finds_status : (s : Stage) (file : File) (refusal : Refused) → Finds s file (Some refusal) → refusal.status ≡ status_by s
+finds_status text_fault file refusal h = h.0
+finds_status relevance_cycle file refusal h = h.2.0
+finds_status weight_bound file refusal h = h.2.0
+finds_status too_many_worlds file refusal h = h.2.0
 
--- what an outcome of `graph` is
-data GraphKind (bytes : List ℕ) : Status → Type 0 where
-  told : {printed : List ℕ} → HasGraphText bytes printed → GraphKind bytes Done
-  faulty : {name line : List ℕ} → TellsFault name bytes line → GraphKind bytes TextFault
+-- what is refused for its bytes has the status of a stage
+of_stages : (task : Task) (name bytes : List ℕ) (refusal : Refused) → comes_of task name bytes (Err refusal) → HasStatusOfStage refusal
+unfolding comes_of
+of_stages task name bytes refusal (inl h) = each_only HasStatusOfStage (λ s. Finds s (name, bytes)) (λ s f k. (s, finds_status s (name, bytes) f k)) task.stages refusal h
+of_stages task name bytes refusal (inr h) = absurd h.1
 
-graph_kind_of : (name bytes : List ℕ) (outcome : Outcome) → Graphs name bytes outcome → GraphKind bytes (status_with outcome)
-graph_kind_of name bytes (text printed) is = told is
-graph_kind_of name bytes (refused TextFault line) is = faulty {name = name} is
-graph_kind_of name bytes (refused Cycle line) is = absurd is
-graph_kind_of name bytes (refused WeightBound line) is = absurd is
-graph_kind_of name bytes (refused NotBuilt line) is = absurd is
-graph_kind_of name bytes (refused Done line) is = absurd is
-graph_kind_of name bytes (refused Usage line) is = absurd is
-graph_kind_of name bytes (refused Absent line) is = absurd is
-graph_kind_of name bytes (refused ReadFault line) is = absurd is
-graph_kind_of name bytes (refused TextTooLong line) is = absurd is
-graph_kind_of name bytes (refused TooLarge line) is = absurd is
-graph_kind_of name bytes (refused WriteFault line) is = absurd is
-graph_kind_of name bytes (refused NoMemory line) is = absurd is
-graph_kind_of name bytes (refused Rejected line) is = absurd is
-graph_kind_of name bytes (refused UnknownAgent line) is = absurd is
-
-one_graph_kind : Laws → (bytes : List ℕ) (s t : Status) → GraphKind bytes s → GraphKind bytes t → s ≡ t
-one_graph_kind laws bytes _ _ (told x) (told y) = refl
-one_graph_kind laws bytes _ _ (told x) (faulty y) = absurd (no_fault laws bytes x.d x.names y.at y.words x.is_diagram y.is_fault)
-one_graph_kind laws bytes _ _ (faulty x) (told y) = absurd (no_fault laws bytes y.d y.names x.at x.words y.is_diagram x.is_fault)
-one_graph_kind laws bytes _ _ (faulty x) (faulty y) = refl
-
--- what an outcome of `print` is
-data PrintKind (bytes : List ℕ) : Status → Type 0 where
-  shown : {printed : List ℕ} → HasPrint bytes printed → PrintKind bytes Done
-  wrong : {name line : List ℕ} → TellsFault name bytes line → PrintKind bytes TextFault
-
-print_kind_of : (name bytes : List ℕ) (outcome : Outcome) → Prints name bytes outcome → PrintKind bytes (status_with outcome)
-print_kind_of name bytes (text printed) is = shown is
-print_kind_of name bytes (refused TextFault line) is = wrong {name = name} is
-print_kind_of name bytes (refused Cycle line) is = absurd is
-print_kind_of name bytes (refused WeightBound line) is = absurd is
-print_kind_of name bytes (refused NotBuilt line) is = absurd is
-print_kind_of name bytes (refused Done line) is = absurd is
-print_kind_of name bytes (refused Usage line) is = absurd is
-print_kind_of name bytes (refused Absent line) is = absurd is
-print_kind_of name bytes (refused ReadFault line) is = absurd is
-print_kind_of name bytes (refused TextTooLong line) is = absurd is
-print_kind_of name bytes (refused TooLarge line) is = absurd is
-print_kind_of name bytes (refused WriteFault line) is = absurd is
-print_kind_of name bytes (refused NoMemory line) is = absurd is
-print_kind_of name bytes (refused Rejected line) is = absurd is
-print_kind_of name bytes (refused UnknownAgent line) is = absurd is
-
-one_print_kind : Laws → (bytes : List ℕ) (s t : Status) → PrintKind bytes s → PrintKind bytes t → s ≡ t
-one_print_kind laws bytes _ _ (shown x) (shown y) = refl
-one_print_kind laws bytes _ _ (shown x) (wrong y) = absurd (no_fault laws bytes x.d x.names y.at y.words x.is_diagram y.is_fault)
-one_print_kind laws bytes _ _ (wrong x) (shown y) = absurd (no_fault laws bytes y.d y.names x.at x.words y.is_diagram x.is_fault)
-one_print_kind laws bytes _ _ (wrong x) (wrong y) = refl
-
-pub one_status : Laws → OneStatus
+pub status_of_a_stage : (request : Request) (bytes : List ℕ) (refusal : Refused) → Answers request bytes (Err refusal) → HasStatusOfStage refusal
 unfolding Answers
-one_status laws (solve name) bytes one other is is' = one_kind laws bytes (status_with one) (status_with other) (kind_of name bytes one is) (kind_of name bytes other is')
-one_status laws (graph name) bytes one other is is' = one_graph_kind laws bytes (status_with one) (status_with other) (graph_kind_of name bytes one is) (graph_kind_of name bytes other is')
-one_status laws (print name) bytes one other is is' = one_print_kind laws bytes (status_with one) (status_with other) (print_kind_of name bytes one is) (print_kind_of name bytes other is')
-
-pub refused_for_bytes : RefusedForBytes
-unfolding Answers
-refused_for_bytes (solve name) bytes line TextFault is = tt
-refused_for_bytes (graph name) bytes line TextFault is = tt
-refused_for_bytes (print name) bytes line TextFault is = tt
-refused_for_bytes (solve name) bytes line NotBuilt is = tt
-refused_for_bytes (graph name) bytes line NotBuilt is = tt
-refused_for_bytes (print name) bytes line NotBuilt is = tt
-refused_for_bytes (solve name) bytes line Cycle is = tt
-refused_for_bytes (graph name) bytes line Cycle is = tt
-refused_for_bytes (print name) bytes line Cycle is = tt
-refused_for_bytes (solve name) bytes line WeightBound is = tt
-refused_for_bytes (graph name) bytes line WeightBound is = tt
-refused_for_bytes (print name) bytes line WeightBound is = tt
-refused_for_bytes (solve name) bytes line TooLarge is = tt
-refused_for_bytes (graph name) bytes line TooLarge is = tt
-refused_for_bytes (print name) bytes line TooLarge is = tt
-refused_for_bytes (solve name) bytes line Rejected is = tt
-refused_for_bytes (graph name) bytes line Rejected is = tt
-refused_for_bytes (print name) bytes line Rejected is = tt
-refused_for_bytes (solve name) bytes line UnknownAgent is = tt
-refused_for_bytes (graph name) bytes line UnknownAgent is = tt
-refused_for_bytes (print name) bytes line UnknownAgent is = tt
-refused_for_bytes (solve name) bytes line Done is = absurd is
-refused_for_bytes (graph name) bytes line Done is = absurd is
-refused_for_bytes (print name) bytes line Done is = absurd is
-refused_for_bytes (solve name) bytes line Usage is = absurd is
-refused_for_bytes (graph name) bytes line Usage is = absurd is
-refused_for_bytes (print name) bytes line Usage is = absurd is
-refused_for_bytes (solve name) bytes line Absent is = absurd is
-refused_for_bytes (graph name) bytes line Absent is = absurd is
-refused_for_bytes (print name) bytes line Absent is = absurd is
-refused_for_bytes (solve name) bytes line ReadFault is = absurd is
-refused_for_bytes (graph name) bytes line ReadFault is = absurd is
-refused_for_bytes (print name) bytes line ReadFault is = absurd is
-refused_for_bytes (solve name) bytes line TextTooLong is = absurd is
-refused_for_bytes (graph name) bytes line TextTooLong is = absurd is
-refused_for_bytes (print name) bytes line TextTooLong is = absurd is
-refused_for_bytes (solve name) bytes line WriteFault is = absurd is
-refused_for_bytes (graph name) bytes line WriteFault is = absurd is
-refused_for_bytes (print name) bytes line WriteFault is = absurd is
-refused_for_bytes (solve name) bytes line NoMemory is = absurd is
-refused_for_bytes (graph name) bytes line NoMemory is = absurd is
-refused_for_bytes (print name) bytes line NoMemory is = absurd is
+status_of_a_stage request bytes refusal h = of_stages (task_of request) (file_name request) bytes refusal h

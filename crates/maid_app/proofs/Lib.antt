@@ -2,5 +2,6 @@ pub mod Bytes
 pub mod Nodes
 pub mod Outcomes
 pub mod Refusals
+pub mod Solving
 pub mod Tells
 pub mod Titles

@@ -1,131 +1,171 @@
 -- How the refusals of a run follow from what it read.
-use Rattle.std.proofs.Common.{◌≡◌, ◌⊎◌, ◌<◌, ◌≤◌, inl, inr, ℕ, List, length, Option, None, Some, IfSome, IsSomeAnd, refl, sym, subst, ◌∙◌, arith}
+use Rattle.std.proofs.Common.{◌≡◌, ◌⊎◌, ◌<◌, ◌≤◌, inl, inr, ℕ, List, length, Option, None, Some, IfSome, IsSomeAnd, IfErr, Result, Ok, Err, refl, sym, subst, ap, ◌∙◌, arith}
 use Rattle.maid_io.specs.Device.{File, file_of}
-use Rattle.maid_app.specs.Answers.{Answers}
-use Rattle.maid_app.specs.Laws.{OneStatus, RefusedForBytes}
-use Rattle.maid_app.specs.Outcome.{Outcome, text, refused, status_with}
-use Rattle.maid_app.specs.Reading.{RefusesAs, IsOfBytes}
-use Rattle.maid_app.specs.Request.{Request, file_name}
-use Rattle.maid_app.specs.Told.{limit, IsFileText, IsUnread, HasText, Refuses, Says, IsOneOf}
+use Rattle.maid_model.specs.Names.{NamesView}
+use Rattle.maid_model.specs.Views.{DiagramView}
+use Rattle.maid_app.specs.Answers.{Answers, FindsNothing, CanAnswer}
+use Rattle.maid_app.specs.Diagrams.{NamedDiagram, IsDiagramOf}
+use Rattle.maid_app.specs.Laws.{OneStatus, ClearOrRefused}
+use Rattle.maid_app.specs.Outcome.{Refused, refused}
+use Rattle.maid_app.specs.Reading.{TellsOf, RefusesAs, IsOfBytes}
+use Rattle.maid_app.specs.Refusal.{status_of, line_of}
+use Rattle.maid_app.specs.Request.{Request, solve, graph, print, file_name}
+use Rattle.maid_app.specs.Stages.{Stage, text_fault, relevance_cycle, weight_bound, too_many_worlds}
+use Rattle.maid_app.specs.Told.{limit, IsFileText, IsTooLong, HasText, WritesText, Refuses, Says, HasFile, LacksFile, IsOneOf}
+use Rattle.maid_app.specs.declared.refusal.Refusal.{Refusal}
+use Rattle.maid_app.specs.declared.refusal.Refusal.TheVariants as refusals
 use Rattle.maid_app.specs.declared.status.Status.{Status}
 use Rattle.maid_app.specs.declared.status.Status.TheVariants.{Done, Usage, Absent, ReadFault, TextTooLong, TextFault, Cycle, WeightBound, TooLarge, WriteFault, NoMemory, Rejected, UnknownAgent, NotBuilt}
+use Rattle.maid_app.proofs.Bytes.{status_by, status_of_a_stage}
 
--- what the bytes come to, the run says
-pub says_of_bytes : (list : Option (List File)) (request : Request) (given : ℕ) (bytes : List ℕ) (s : Status) (t : List ℕ)
-    → IsFileText list (file_name request) given bytes → RefusesAs (Answers request bytes) s t → Says list (Some request) given s t
-says_of_bytes list request given bytes Done t is h = absurd h.0
-says_of_bytes list request given bytes Usage t is h = absurd h.0
-says_of_bytes list request given bytes Absent t is h = absurd h.0
-says_of_bytes list request given bytes ReadFault t is h = absurd h.0
-says_of_bytes list request given bytes TextTooLong t is h = absurd h.0
-says_of_bytes list request given bytes WriteFault t is h = absurd h.0
-says_of_bytes list request given bytes NoMemory t is h = h
-says_of_bytes list request given bytes TextFault t is h = record { bytes = bytes; is_text = is; answers = h.1 }
-says_of_bytes list request given bytes Cycle t is h = record { bytes = bytes; is_text = is; answers = h.1 }
-says_of_bytes list request given bytes WeightBound t is h = record { bytes = bytes; is_text = is; answers = h.1 }
-says_of_bytes list request given bytes TooLarge t is h = record { bytes = bytes; is_text = is; answers = h.1 }
-says_of_bytes list request given bytes Rejected t is h = record { bytes = bytes; is_text = is; answers = h.1 }
-says_of_bytes list request given bytes UnknownAgent t is h = record { bytes = bytes; is_text = is; answers = h.1 }
-says_of_bytes list request given bytes NotBuilt t is h = record { bytes = bytes; is_text = is; answers = h.1 }
+-- what a stage refuses has a status of bytes
+as_of_stage : (Comes : Result (List ℕ) Refused → Type 0) (s : Stage) (told : List ℕ) → Comes (Err (refused (status_by s) told)) → RefusesAs Comes (status_by s) told
+as_of_stage Comes text_fault told h = (tt, h)
+as_of_stage Comes relevance_cycle told h = (tt, h)
+as_of_stage Comes weight_bound told h = (tt, h)
+as_of_stage Comes too_many_worlds told h = (tt, h)
 
--- what was wrong with reading, the run says
-pub says_unread : (list : Option (List File)) (request : Request) (given : ℕ) (s : Status) (t : List ℕ) → IsUnread list (file_name request) given s t → Says list (Some request) given s t
-says_unread list request given Absent t h = h
-says_unread list request given ReadFault t h = h
-says_unread list request given TextTooLong t h = h
-says_unread list request given NoMemory t h = h
-says_unread list request given Done t h = absurd h
-says_unread list request given Usage t h = absurd h
-says_unread list request given WriteFault t h = absurd h
-says_unread list request given TextFault t h = absurd h
-says_unread list request given Cycle t h = absurd h
-says_unread list request given WeightBound t h = absurd h
-says_unread list request given TooLarge t h = absurd h
-says_unread list request given Rejected t h = absurd h
-says_unread list request given UnknownAgent t h = absurd h
-says_unread list request given NotBuilt t h = absurd h
+as_refused : (request : Request) (bytes : List ℕ) (status : Status) (told : List ℕ) → Answers request bytes (Err (refused status told)) → RefusesAs (Answers request bytes) status told
+as_refused request bytes status told h =
+    let of = status_of_a_stage request bytes (refused status told) h in
+    subst (λ s. RefusesAs (Answers request bytes) s told) (sym of.1) (as_of_stage (Answers request bytes) of.0 told (subst (λ s. Answers request bytes (Err (refused s told))) of.1 h))
 
--- a status that bytes come to is none of the words, of reading or of writing
-pub not_of_bytes : (Comes : Outcome → Type 0) (s : Status) (told : List ℕ) → RefusesAs Comes s told → IsOfBytes s ⊎ (s ≡ NoMemory)
-not_of_bytes Comes Done told h = inl h.0
-not_of_bytes Comes Usage told h = inl h.0
-not_of_bytes Comes Absent told h = inl h.0
-not_of_bytes Comes ReadFault told h = inl h.0
-not_of_bytes Comes TextTooLong told h = inl h.0
-not_of_bytes Comes WriteFault told h = inl h.0
-not_of_bytes Comes TextFault told h = inl h.0
-not_of_bytes Comes Cycle told h = inl h.0
-not_of_bytes Comes WeightBound told h = inl h.0
-not_of_bytes Comes TooLarge told h = inl h.0
-not_of_bytes Comes Rejected told h = inl h.0
-not_of_bytes Comes UnknownAgent told h = inl h.0
-not_of_bytes Comes NotBuilt told h = inl h.0
-not_of_bytes Comes NoMemory told h = inr refl
+-- what the stages find, the refusal's status and line say
+refuses_as : (request : Request) (bytes : List ℕ) (refusal : Refusal) → TellsOf (Answers request bytes) refusal → RefusesAs (Answers request bytes) (status_of refusal) (line_of refusal)
+refuses_as request bytes refusals.Usage h = as_refused request bytes (status_of refusals.Usage) (line_of refusals.Usage) h
+refuses_as request bytes (refusals.Told status told) h = as_refused request bytes status told.items h
+refuses_as request bytes refusals.WriteFault h = as_refused request bytes (status_of refusals.WriteFault) (line_of refusals.WriteFault) h
+refuses_as request bytes refusals.NoMemory h = refl
 
--- the bytes read are the file's
-same_bytes : (files : List File) (request : Request) (given : ℕ) (bytes read : List ℕ) (o : Outcome) → file_of files (file_name request) ≡ Some bytes → IsFileText (Some files) (file_name request) given read
-    → Answers request read o → Answers request bytes o
-same_bytes files request given bytes read o there is h =
-    let P : Option (List ℕ) → Type 0 = λ found. IfSome found (λ b. Answers request b o) in subst P (sym is.told ∙ there) h
+pub refuses_if_err : {A : Type 0} (request : Request) (bytes : List ℕ) (result : Result A Refusal) → IfErr result (TellsOf (Answers request bytes))
+    → IfErr result (λ refusal. RefusesAs (Answers request bytes) (status_of refusal) (line_of refusal))
+refuses_if_err request bytes (Ok printed) h = tt
+refuses_if_err request bytes (Err refusal) h = refuses_as request bytes refusal h
 
--- a run that refuses the bytes read says what the file's bytes come to
-of_bytes : OneStatus → (files : List File) (request : Request) (given : ℕ) (s : Status) (t bytes : List ℕ) (o : Outcome)
-    → Refuses (Some files) request given s t → file_of files (file_name request) ≡ Some bytes → Answers request bytes o → s ≡ status_with o
-of_bytes one files request given s t bytes o h there is = one request bytes (refused s t) o (same_bytes files request given bytes h.bytes (refused s t) there h.is_text h.answers) is
+-- no stage refuses with Done
+not_done : (s : Stage) → Done ≡ status_by s → ⊥
+not_done text_fault e = absurd cc
+not_done relevance_cycle e = absurd cc
+not_done weight_bound e = absurd cc
+not_done too_many_worlds e = absurd cc
 
--- a run that refuses says what its file's bytes come to, but for causes of reading and writing
-only_refusal : OneStatus → (files : List File) (request : Request) (given : ℕ) (s : Status) (t bytes : List ℕ) (o : Outcome)
-    → Says (Some files) (Some request) given s t → file_of files (file_name request) ≡ Some bytes → length bytes ≤ limit → Answers request bytes o
-    → (s ≡ ReadFault → ⊥) → (s ≡ WriteFault → ⊥) → IsOneOf s (status_with o)
-only_refusal one files request given Done t bytes o h there fits is no_read no_write = absurd h
-only_refusal one files request given Usage t bytes o h there fits is no_read no_write = let e = h.0 in absurd cc
-only_refusal one files request given Absent t bytes o h there fits is no_read no_write = let e = sym there ∙ h.0 in absurd cc
-only_refusal one files request given ReadFault t bytes o h there fits is no_read no_write = absurd (no_read refl)
-only_refusal one files request given TextTooLong t bytes o h there fits is no_read no_write =
-    let P : Option (List ℕ) → Type 0 = λ found. IsSomeAnd found (λ read. limit < length read) in
-    let longer : limit < length bytes = subst P there h.0.told in absurd (omega (arith, longer, fits))
-only_refusal one files request given WriteFault t bytes o h there fits is no_read no_write = absurd (no_write refl)
-only_refusal one files request given NoMemory t bytes o h there fits is no_read no_write = inr refl
-only_refusal one files request given TextFault t bytes o h there fits is no_read no_write = inl (of_bytes one files request given TextFault t bytes o h there is)
-only_refusal one files request given Cycle t bytes o h there fits is no_read no_write = inl (of_bytes one files request given Cycle t bytes o h there is)
-only_refusal one files request given WeightBound t bytes o h there fits is no_read no_write = inl (of_bytes one files request given WeightBound t bytes o h there is)
-only_refusal one files request given TooLarge t bytes o h there fits is no_read no_write = inl (of_bytes one files request given TooLarge t bytes o h there is)
-only_refusal one files request given Rejected t bytes o h there fits is no_read no_write = inl (of_bytes one files request given Rejected t bytes o h there is)
-only_refusal one files request given UnknownAgent t bytes o h there fits is no_read no_write = inl (of_bytes one files request given UnknownAgent t bytes o h there is)
-only_refusal one files request given NotBuilt t bytes o h there fits is no_read no_write = inl (of_bytes one files request given NotBuilt t bytes o h there is)
+-- why a run over a told file ended with a status other than Done
+data Why (files : List File) (request : Request) (given : ℕ) : Status → Type 0 where
+  absent : file_of files (file_name request) ≡ None → Why files request given Absent
+  unread : Why files request given ReadFault
+  longer : IsTooLong (Some files) (file_name request) given → Why files request given TextTooLong
+  unwritten : Why files request given WriteFault
+  memory : Why files request given NoMemory
+  refused_so : (s : Status) (t : List ℕ) → Refuses (Some files) request given s t → Why files request given s
 
--- a run that ends well has bytes that are not refused
-pub refused_not_done : OneStatus → (list : Option (List File)) (r : Option Request) (given : ℕ) (A : List ℕ → Type 0) (Cause : Type 0)
-    → IfSome r (λ request. (printed : List ℕ) × HasText list request given printed × A printed)
-    → IfSome r (λ request. IfSome list (λ files. (bytes told : List ℕ) (status : Status) → file_of files (file_name request) ≡ Some bytes → length bytes ≤ limit → Answers request bytes (refused status told) → ¬ Cause → IsOneOf Done status))
-refused_not_done one list None given A Cause h = tt
-refused_not_done one None (Some request) given A Cause h = tt
-refused_not_done one (Some files) (Some request) given A Cause (printed, has, taken) = λ bytes told status there fits is no_cause.
-    inl (one request bytes (text printed) (refused status told) (same_bytes files request given bytes has.bytes (text printed) there has.is_text has.answers) is)
+why : (files : List File) (request : Request) (given : ℕ) (s : Status) (t : List ℕ) → Says (Some files) (Some request) given s t → Why files request given s
+why files request given Usage t h = let e = h.0 in absurd cc
+why files request given Absent t h = absent h.0
+why files request given ReadFault t h = unread
+why files request given TextTooLong t h = longer h.0
+why files request given WriteFault t h = unwritten
+why files request given NoMemory t h = memory
+why files request given Done t h = refused_so Done t h
+why files request given TextFault t h = refused_so TextFault t h
+why files request given Cycle t h = refused_so Cycle t h
+why files request given WeightBound t h = refused_so WeightBound t h
+why files request given TooLarge t h = refused_so TooLarge t h
+why files request given Rejected t h = refused_so Rejected t h
+why files request given UnknownAgent t h = refused_so UnknownAgent t h
+why files request given NotBuilt t h = refused_so NotBuilt t h
 
--- bytes that are refused have no text
-not_written : OneStatus → RefusedForBytes → (files : List File) (request : Request) (given : ℕ) (A : List ℕ → Type 0) (bytes told : List ℕ) (status : Status) → file_of files (file_name request) ≡ Some bytes
-    → Answers request bytes (refused status told) → ((printed : List ℕ) × HasText (Some files) request given printed × A printed) → ⊥
-not_written one of_bytes_only files request given A bytes told status there is (printed, has, taken) =
-    let same : Done ≡ status = one request bytes (text printed) (refused status told) (same_bytes files request given bytes has.bytes (text printed) there has.is_text has.answers) is in
-    subst IsOfBytes (sym same) (of_bytes_only request bytes told status is)
+-- A run over a shelf that tells its list, on words that ask for this.
+module _ (list : Option (List File)) (requested : Option Request) (given : ℕ) where
+  -- what it says, of the told files
+  told_why : (files : List File) (request : Request) (s : Status) (t : List ℕ) → requested ≡ Some request → list ≡ Some files → Says list requested given s t → Why files request given s
+  told_why files request s t asks told says = why files request given s t (subst (λ l. Says l (Some request) given s t) told (subst (λ r. Says list r given s t) asks says))
 
--- a run that refuses ends with the status of the bytes, but for causes of reading
-pub only_refused : OneStatus → RefusedForBytes → (list : Option (List File)) (r : Option Request) (given : ℕ) (s : Status) (t : List ℕ) (A : List ℕ → Type 0) (Cause : Type 0)
-    → Says list r given s t → (s ≡ ReadFault → Cause) → (s ≡ WriteFault → IfSome r (λ request. (printed : List ℕ) × HasText list request given printed × A printed))
-    → IfSome r (λ request. IfSome list (λ files. (bytes told : List ℕ) (status : Status) → file_of files (file_name request) ≡ Some bytes → length bytes ≤ limit → Answers request bytes (refused status told) → ¬ Cause → IsOneOf s status))
-only_refused one of_bytes_only list None given s t A Cause says read part = tt
-only_refused one of_bytes_only None (Some request) given s t A Cause says read part = tt
-only_refused one of_bytes_only (Some files) (Some request) given s t A Cause says read part = λ bytes told status there fits is no_cause.
-    only_refusal one files request given s t bytes (refused status told) says there fits is
-    (λ e. no_cause (read e))
-    (λ e. not_written one of_bytes_only files request given A bytes told status there is (part e))
+  -- the bytes of its text are the file's
+  told_text : (files : List File) (request : Request) (A : List ℕ → Type 0) → requested ≡ Some request → list ≡ Some files → WritesText list requested given A → (printed : List ℕ) × HasText (Some files) request given printed × A printed
+  told_text files request A asks told has = subst (λ l. (printed : List ℕ) × HasText l request given printed × A printed) told (subst (λ r. WritesText list r given A) asks has)
 
--- a run that refuses has a cause of reading or of writing where the bytes have a text
-pub only_done : OneStatus → (list : Option (List File)) (r : Option Request) (given : ℕ) (s : Status) (t : List ℕ) (Read Write : Type 0)
-    → Says list r given s t → (s ≡ ReadFault → Read) → (s ≡ WriteFault → Write)
-    → IfSome r (λ request. IfSome list (λ files. (bytes printed : List ℕ) → file_of files (file_name request) ≡ Some bytes → length bytes ≤ limit → Answers request bytes (text printed) → ¬ Read → ¬ Write → IsOneOf s Done))
-only_done one list None given s t Read Write says read write = tt
-only_done one None (Some request) given s t Read Write says read write = tt
-only_done one (Some files) (Some request) given s t Read Write says read write = λ bytes printed there fits is no_read no_write.
-    only_refusal one files request given s t bytes (text printed) says there fits is (λ e. no_read (read e)) (λ e. no_write (write e))
+  module _ (s : Status) (t : List ℕ) (A : List ℕ → Type 0) (Cause : Type 0) (says : Says list requested given s t) (read : s ≡ ReadFault → Cause) (part : s ≡ WriteFault → WritesText list requested given A) where
+    pub only_absent : LacksFile list requested → (Cause → ⊥) → IsOneOf s Absent
+    only_absent lacks no_cause = by_why s (told_why lacks.files lacks.request s t lacks.asks lacks.told says) read (λ e. told_text lacks.files lacks.request A lacks.asks lacks.told (part e)) where
+      no_text : (bytes : List ℕ) → IsFileText (Some lacks.files) (file_name lacks.request) given bytes → ⊥
+      no_text bytes is = let e = sym is.told ∙ lacks.absent in absurd cc
+
+      by_why : (s : Status) → Why lacks.files lacks.request given s → (s ≡ ReadFault → Cause) → (s ≡ WriteFault → (printed : List ℕ) × HasText (Some lacks.files) lacks.request given printed × A printed) → IsOneOf s Absent
+      by_why s (absent h) read part = inl refl
+      by_why s unread read part = absurd (no_cause (read refl))
+      by_why s (longer h) read part = absurd (subst (λ found. IsSomeAnd found (λ bytes. limit < length bytes)) lacks.absent h.told)
+      by_why s unwritten read part = let has = part refl in absurd (no_text has.1.bytes has.1.is_text)
+      by_why s memory read part = inr refl
+      by_why s (refused_so _ t h) read part = absurd (no_text h.bytes h.is_text)
+
+    module _ (request : Request) (bytes : List ℕ) (has : HasFile list requested request bytes) where
+      -- the bytes read are the file's
+      same : (read : List ℕ) → IsFileText (Some has.files) (file_name request) given read → read ≡ bytes
+      same read is = let e = sym is.told ∙ has.there in cc
+
+      pub only_too_long : limit < length bytes → (Cause → ⊥) → IsOneOf s TextTooLong
+      only_too_long long no_cause = by_why s (told_why has.files request s t has.asks has.told says) read (λ e. told_text has.files request A has.asks has.told (part e)) where
+        no_text : (read : List ℕ) → IsFileText (Some has.files) (file_name request) given read → ⊥
+        no_text read is = let e = ap length (same read is) in let fits = is.fits in omega (arith, e, fits, long)
+
+        by_why : (s : Status) → Why has.files request given s → (s ≡ ReadFault → Cause) → (s ≡ WriteFault → (printed : List ℕ) × HasText (Some has.files) request given printed × A printed) → IsOneOf s TextTooLong
+        by_why s (absent h) read part = let e = sym has.there ∙ h in absurd cc
+        by_why s unread read part = absurd (no_cause (read refl))
+        by_why s (longer h) read part = inl refl
+        by_why s unwritten read part = let text = part refl in absurd (no_text text.1.bytes text.1.is_text)
+        by_why s memory read part = inr refl
+        by_why s (refused_so _ t h) read part = absurd (no_text h.bytes h.is_text)
+
+      module _ (fits : length bytes ≤ limit) where
+        -- an end of bytes within the limit, but for causes of reading and writing: what their refusal comes to
+        by_bytes : (wanted : Status) → ((s : Status) (t : List ℕ) → Answers request bytes (Err (refused s t)) → IsOneOf s wanted) → (s ≡ ReadFault → ⊥) → (s ≡ WriteFault → ⊥) → IsOneOf s wanted
+        by_bytes wanted of no_read no_write = by_why s (told_why has.files request s t has.asks has.told says) no_read no_write where
+          by_why : (s : Status) → Why has.files request given s → (s ≡ ReadFault → ⊥) → (s ≡ WriteFault → ⊥) → IsOneOf s wanted
+          by_why s (absent h) no_read no_write = let e = sym has.there ∙ h in absurd cc
+          by_why s unread no_read no_write = absurd (no_read refl)
+          by_why s (longer h) no_read no_write =
+              let long : limit < length bytes = subst (λ found. IsSomeAnd found (λ read. limit < length read)) has.there h.told in absurd (omega (arith, long, fits))
+          by_why s unwritten no_read no_write = absurd (no_write refl)
+          by_why s memory no_read no_write = inr refl
+          by_why s (refused_so _ t h) no_read no_write = of s t (subst (λ b. Answers request b (Err (refused s t))) (same h.bytes h.is_text) h.answers)
+
+        pub only_refused : OneStatus → (refusal : Refused) → Answers request bytes (Err refusal) → (Cause → ⊥) → IsOneOf s refusal.status
+        only_refused one refusal is no_cause =
+            by_bytes refusal.status (λ s t h. inl (one request bytes (Err (refused s t)) (Err refusal) h is)) (λ e. no_cause (read e)) (λ e. not_written (told_text has.files request A has.asks has.told (part e))) where
+              not_written : ((printed : List ℕ) × HasText (Some has.files) request given printed × A printed) → ⊥
+              not_written text =
+                  let of = status_of_a_stage request bytes refusal is in
+                  let answers = subst (λ b. Answers request b (Ok text.0)) (same text.1.bytes text.1.is_text) text.1.answers in
+                  not_done of.0 (one request bytes (Ok text.0) (Err refusal) answers is ∙ of.1)
+
+        pub only_done : ClearOrRefused → (Write : Type 0) → (s ≡ WriteFault → Write) → FindsNothing request bytes → (Cause → ⊥) → (Write → ⊥) → IsOneOf s Done
+        only_done law Write write clear no_cause no_write =
+            by_bytes Done (λ s t h. absurd (law request bytes (refused s t) clear h)) (λ e. no_cause (read e)) (λ e. no_write (write e))
+
+  -- A run that ended well.
+  module _ (A : List ℕ → Type 0) (text : WritesText list requested given A) where
+    pub done_not_absent : LacksFile list requested → IsOneOf Done Absent
+    done_not_absent lacks =
+        let has = told_text lacks.files lacks.request A lacks.asks lacks.told text in
+        let e = sym has.1.is_text.told ∙ lacks.absent in absurd cc
+
+    module _ (request : Request) (bytes : List ℕ) (has : HasFile list requested request bytes) where
+      same_text : (told : (printed : List ℕ) × HasText (Some has.files) request given printed × A printed) → told.1.bytes ≡ bytes
+      same_text told = let e = sym told.1.is_text.told ∙ has.there in cc
+
+      pub done_not_too_long : limit < length bytes → IsOneOf Done TextTooLong
+      done_not_too_long long =
+          let told = told_text has.files request A has.asks has.told text in
+          let e = ap length (same_text told) in let fits = told.1.is_text.fits in absurd (omega (arith, e, fits, long))
+
+      pub done_refused : OneStatus → (refusal : Refused) → Answers request bytes (Err refusal) → IsOneOf Done refusal.status
+      done_refused one refusal is =
+          let told = told_text has.files request A has.asks has.told text in
+          inl (one request bytes (Ok told.0) (Err refusal) (subst (λ b. Answers request b (Ok told.0)) (same_text told) told.1.answers) is)
+
+-- where the bytes stand for a diagram that can be answered, no stage finds anything
+pub nothing_found : (request : Request) (bytes : List ℕ) (d : DiagramView) (names : NamesView) → IsDiagramOf bytes d names → CanAnswer request d → FindsNothing request bytes
+nothing_found (solve name) bytes d names is can =
+    let x : NamedDiagram = record { d = d; names = names } in ((x, is), ((x, is, can.order), ((x, is, can.bound), ((x, is, can.few), tt))))
+nothing_found (graph name) bytes d names is can = ((record { d = d; names = names }, is), tt)
+nothing_found (print name) bytes d names is can = ((record { d = d; names = names }, is), tt)

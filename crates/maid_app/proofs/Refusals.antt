@@ -1,18 +1,52 @@
 -- A refusal tells what was wanted, or that memory ran out.
-use Rattle.std.proofs.Common.{◌≡◌, ℕ, List, IfOk, Vec, Global, Result, Ok, Err, MatchResult, sym, subst}
-use Rattle.maid_app.specs.Lines.{no_memory_line}
-use Rattle.maid_app.specs.Refusal.{status_of, line_of}
+use Rattle.std.proofs.Common.{◌≡◌, ℕ, List, [], ◌∷◌, inl, inr, IfOk, IfErr, Vec, Global, Option, None, Some, Result, Ok, Err, MatchResult, sym, subst, refl}
+use Rattle.first_fault.specs.Answers.{IsFoundIfAny}
+use Rattle.first_fault.specs.Outcomes.{refusals as refusals_of}
+use Rattle.first_fault.specs.Passes.{Pass, always}
+use Rattle.maid_app.specs.Diagrams.{NamedDiagram, IsDiagramOf}
+use Rattle.maid_app.specs.Outcome.{Refused, refused}
+use Rattle.maid_app.specs.Reading.{Tells, TellsTextFault, TellsOf}
+use Rattle.maid_app.specs.Refusal.{refused_as}
+use Rattle.maid_app.specs.Stages.{Stage, Finds, text_fault}
+use Rattle.maid_app.specs.Tasks.{Task, comes_of}
 use Rattle.maid_app.specs.declared.refusal.Refusal.{Refusal}
 use Rattle.maid_app.specs.declared.refusal.Refusal.TheVariants as refusals
 use Rattle.maid_app.specs.declared.status.Status.{Status}
-use Rattle.maid_app.specs.declared.status.Status.TheVariants.{NoMemory}
+use Rattle.maid_model.specs.Names.{NamesView}
+use Rattle.maid_model.specs.Views.{DiagramView}
 
--- what holds of the status and of each line that may be made, and where memory ran out, holds of the refusal
-pub told_gives : {E : Type 0} (P : Status → List ℕ → Type 0) (status : Status) (line : Result (Vec ℕ Global) E) (refusal : Refusal) → P NoMemory no_memory_line → IfOk line (λ t. P status t.items)
-    → MatchResult line (λ t. (status_of refusal ≡ status) × (line_of refusal ≡ t.items)) (λ _. refusal ≡ refusals.NoMemory) → P (status_of refusal) (line_of refusal)
-told_gives P status (Ok t) refusal none is h = subst (λ s. P s (line_of refusal)) (sym h.0) (subst (λ l. P status l) (sym h.1) is)
-told_gives P status (Err e) refusal none is h = subst (λ r. P (status_of r) (line_of r)) (sym h) none
+-- what one pass finds, another does
+found_too : {Fault : Type 0} (P Q : Pass Fault) → ((f : Fault) → P (Some f) → Q (Some f)) → (told : Option Fault) → IsFoundIfAny P told → IsFoundIfAny Q told
+found_too P Q f None h = tt
+found_too P Q f (Some x) h = f x h
+
+-- a pass that finds the wanted refusal finds what is told
+pub tells_found : (P : Pass Refused) (status : Status) (line : List ℕ) (refusal : Refusal) → P (Some (refused status line)) → Tells status line refusal → IsFoundIfAny P (refused_as refusal)
+tells_found P status line refusal is tells = found_too (always (refused status line)) P (λ f h. subst (λ r. P (Some r)) (sym h.1) is) (refused_as refusal) tells
+
+-- what is found with each line that may be made is told
+pub told_gives : {E : Type 0} (P : Pass Refused) (status : Status) (line : Result (Vec ℕ Global) E) (refusal : Refusal) → IfOk line (λ t. P (Some (refused status t.items)))
+    → MatchResult line (λ t. Tells status t.items refusal) (λ _. refusal ≡ refusals.NoMemory) → IsFoundIfAny P (refused_as refusal)
+told_gives P status (Ok t) refusal is h = tells_found P status t.items refusal is h
+told_gives P status (Err e) refusal is h = subst (λ r. IsFoundIfAny P (refused_as r)) (sym h) tt
 
 pub if_ok_then : {A E : Type 0} (r : Result A E) (P Q : A → Type 0) → ((x : A) → P x → Q x) → IfOk r P → IfOk r Q
 if_ok_then (Ok x) P Q f h = f x h
 if_ok_then (Err e) P Q f h = tt
+
+pub if_err_then : {A E : Type 0} (r : Result A E) (P Q : E → Type 0) → ((e : E) → P e → Q e) → IfErr r P → IfErr r Q
+if_err_then (Ok x) P Q f h = tt
+if_err_then (Err e) P Q f h = f e h
+
+-- a task that looks for the text's fault first refuses with it
+pub text_refused : (stages : List Stage) (IsTextOf : DiagramView → NamesView → List ℕ → Type 0) (name bytes : List ℕ) (refusal : Refusal)
+    → TellsTextFault name bytes refusal → TellsOf (comes_of (record { stages = text_fault ∷ stages; IsTextOf = IsTextOf }) name bytes) refusal
+unfolding comes_of
+text_refused stages IsTextOf name bytes refusal h =
+    found_too (Finds text_fault (name, bytes)) (refusals_of (comes_of (record { stages = text_fault ∷ stages; IsTextOf = IsTextOf }) name bytes)) (λ f found. inl (inl found)) (refused_as refusal) h
+
+-- a task without other stages gives its text
+pub text_given : (IsTextOf : DiagramView → NamesView → List ℕ → Type 0) (name bytes : List ℕ) (d : DiagramView) (names : NamesView) (printed : List ℕ) → IsDiagramOf bytes d names → IsTextOf d names printed
+    → comes_of (record { stages = text_fault ∷ []; IsTextOf = IsTextOf }) name bytes (Ok printed)
+unfolding comes_of
+text_given IsTextOf name bytes d names printed is text = let x : NamedDiagram = record { d = d; names = names } in (((x, is), tt), (x, is, text))

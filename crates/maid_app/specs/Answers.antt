@@ -1,12 +1,33 @@
 -- What comes of each request on its file's bytes: the one definition of what the program answers.
-use Rattle.std.specs.Prelude.{ℕ, List}
-use Rattle.maid_app.specs.Graph.{Graphs}
-use Rattle.maid_app.specs.Outcome.{Outcome}
-use Rattle.maid_app.specs.Print.{Prints}
-use Rattle.maid_app.specs.Request.{Request, solve, graph, print}
-use Rattle.maid_app.specs.Solve.{Solves}
+use Rattle.std.specs.Prelude.{ℕ, List, None}
+use Rattle.first_fault.specs.Outcomes.{Outcomes}
+use Rattle.first_fault.specs.Passes.{each}
+use Rattle.maid_model.specs.Views.{DiagramView}
+use Rattle.maid_app.specs.Graph.{graphing}
+use Rattle.maid_app.specs.Outcome.{Refused}
+use Rattle.maid_app.specs.Print.{printing}
+use Rattle.maid_app.specs.Request.{Request, solve, graph, print, file_name}
+use Rattle.maid_app.specs.Solve.{IsSolvable, solving}
+use Rattle.maid_app.specs.Stages.{Finds}
+use Rattle.maid_app.specs.Tasks.{Task, comes_of}
 
-unfoldable pub Answers : Request → List ℕ → Outcome → Type 0
-Answers (solve name) bytes outcome = Solves name bytes outcome
-Answers (graph name) bytes outcome = Graphs name bytes outcome
-Answers (print name) bytes outcome = Prints name bytes outcome
+-- the task of each form of words
+abbrev pub task_of : Request → Task
+task_of (solve file) = solving
+task_of (graph file) = graphing
+task_of (print file) = printing
+
+-- no stage of the request finds anything in its file's bytes
+abbrev pub FindsNothing : Request → List ℕ → Type 0
+FindsNothing request bytes =
+    each (λ s. Finds s (file_name request, bytes)) (task_of request).stages None
+
+-- what a diagram must keep so that its text comes: `solve` asks for an order of solving, the weight
+-- bound and few worlds, and the others ask for nothing
+abbrev pub CanAnswer : Request → DiagramView → Type 0
+CanAnswer (solve file) d = IsSolvable d
+CanAnswer (graph file) d = Unit {0}
+CanAnswer (print file) d = Unit {0}
+
+unfoldable pub Answers : Request → List ℕ → Outcomes (List ℕ) Refused
+Answers request bytes = comes_of (task_of request) (file_name request) bytes

@@ -1,5 +1,5 @@
--- What `graph` makes of a file's bytes: who relies on whom, and then the order of solving or the relevance cycle.
-use Rattle.std.specs.Prelude.{◌≡◌, ◌↔◌, ◌<◌, ◌++◌, ℕ, List, length, Contains, slice_index, codes}
+-- What `graph` writes: who relies on whom, and then the order of solving or the relevance cycle.
+use Rattle.std.specs.Prelude.{◌≡◌, ◌↔◌, ◌<◌, ◌++◌, ℕ, List, [], ◌∷◌, length, Contains, slice_index, codes}
 use Rattle.std.specs.List.{flat_map}
 use Rattle.maid_model.specs.Names.{NamesView, name_of}
 use Rattle.maid_model.specs.Nodes.{IsDecision, decisions_of}
@@ -7,10 +7,8 @@ use Rattle.maid_model.specs.Placing.{IsRelianceOrder, IsRelianceCycle}
 use Rattle.maid_model.specs.Relevance.{ReliesOn}
 use Rattle.maid_model.specs.Reports.{names_line}
 use Rattle.maid_model.specs.Views.{NodeView, DiagramView}
-use Rattle.maid_app.specs.Diagrams.{IsDiagramOf}
-use Rattle.maid_app.specs.Faults.{TellsFault}
-use Rattle.maid_app.specs.Outcome.{Outcome, text, refused}
-use Rattle.maid_app.specs.declared.status.Status.TheVariants.{TextFault}
+use Rattle.maid_app.specs.Stages.{text_fault}
+use Rattle.maid_app.specs.Tasks.{Task}
 
 -- the decisions on which d relies, in text order
 pub record IsReliedOn (nodes : List NodeView) (d : ℕ) (list : List ℕ) : Type 0 where
@@ -23,8 +21,11 @@ relies_line names d list = names_line (codes "relies " ++ name_of names d ++ cod
 
 -- the last line: the order of solving, or where there is none the relevance cycle
 pub data IsLastLine (nodes : List NodeView) (names : NamesView) (told : List ℕ) : Type 0 where
-  OfOrder : (order : List ℕ) → IsRelianceOrder nodes order → told ≡ names_line (codes "order:") names order → IsLastLine nodes names told
-  OfCycle : (cycle : List ℕ) → IsRelianceCycle nodes cycle → ((order : List ℕ) → IsRelianceOrder nodes order → ⊥) → told ≡ names_line (codes "cycle:") names cycle → IsLastLine nodes names told
+  OfOrder : (order : List ℕ) → IsRelianceOrder nodes order
+      → told ≡ names_line (codes "order:") names order → IsLastLine nodes names told
+  OfCycle : (cycle : List ℕ) → IsRelianceCycle nodes cycle
+      → ((order : List ℕ) → IsRelianceOrder nodes order → ⊥)
+      → told ≡ names_line (codes "cycle:") names cycle → IsLastLine nodes names told
 
 -- a line for each decision in text order, and the last line
 pub record IsGraphText (d : DiagramView) (names : NamesView) (printed : List ℕ) : Type 0 where
@@ -34,15 +35,6 @@ pub record IsGraphText (d : DiagramView) (names : NamesView) (printed : List ℕ
   pub is_last : IsLastLine d.nodes names last
   pub is : printed ≡ flat_map (λ v. relies_line names v (relied_on v)) (decisions_of d.nodes) ++ last
 
--- the text is that of the diagram of the bytes
-pub record HasGraphText (bytes printed : List ℕ) : Type 0 where
-  pub d : DiagramView
-  pub names : NamesView
-  pub is_diagram : IsDiagramOf bytes d names
-  pub is_text : IsGraphText d names printed
-
--- what `graph` makes of the bytes of the file of that name
-abbrev pub Graphs : List ℕ → List ℕ → Outcome → Type 0
-Graphs name bytes (text printed) = HasGraphText bytes printed
-Graphs name bytes (refused TextFault told) = TellsFault name bytes told
-Graphs name bytes (refused status told) = ⊥
+-- the text's fault, and else the lines of the relevance graph
+abbrev pub graphing : Task
+graphing = record { stages = text_fault ∷ []; IsTextOf = IsGraphText }

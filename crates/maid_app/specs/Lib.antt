@@ -12,6 +12,8 @@ pub mod Reading
 pub mod Refusal
 pub mod Request
 pub mod Solve
+pub mod Stages
 pub mod Status
+pub mod Tasks
 pub mod Told
 pub mod Words

@@ -1,14 +1,17 @@
--- What comes of a request on its file's bytes.
-use Rattle.std.specs.Prelude.{ℕ, List}
+-- What comes of a request on its file's bytes: a text for `out`, or a refusal.
+use Rattle.std.specs.Prelude.{ℕ, List, Result, Ok, Err}
 use Rattle.maid_app.specs.declared.status.Status.{Status}
 use Rattle.maid_app.specs.declared.status.Status.TheVariants.{Done}
 
--- a text for `out`, or a status and the line for `err`
-pub data Outcome : Type 0 where
-  text : List ℕ → Outcome
-  refused : Status → List ℕ → Outcome
+-- why there is no text: the status that a run ends with, and the line for `err`
+pub record Refused : Type 0 where
+  pub status : Status
+  pub told : List ℕ
+
+abbrev pub refused : Status → List ℕ → Refused
+refused status told = record { status = status; told = told }
 
 -- the status that a run with this outcome ends with
-abbrev pub status_with : Outcome → Status
-status_with (text printed) = Done
-status_with (refused status told) = status
+abbrev pub status_with : Result (List ℕ) Refused → Status
+status_with (Ok printed) = Done
+status_with (Err refusal) = refusal.status

@@ -1,23 +1,17 @@
--- What `print` makes of a file's bytes: the text of the diagram, which stands for it again.
-use Rattle.std.specs.Prelude.{◌≡◌, ℕ, List}
+-- What `print` writes: the text of the diagram, which stands for it again.
+use Rattle.std.specs.Prelude.{◌≡◌, ℕ, List, [], ◌∷◌}
 use Rattle.maid_model.specs.Names.{NamesView}
 use Rattle.maid_model.specs.Views.{DiagramView}
 use Rattle.net_print.specs.Printed.{printed}
 use Rattle.maid_app.specs.Diagrams.{IsDiagramOf}
-use Rattle.maid_app.specs.Faults.{TellsFault}
-use Rattle.maid_app.specs.Outcome.{Outcome, text, refused}
-use Rattle.maid_app.specs.declared.status.Status.TheVariants.{TextFault}
+use Rattle.maid_app.specs.Stages.{text_fault}
+use Rattle.maid_app.specs.Tasks.{Task}
 
--- the text is that of the diagram of the bytes, and stands for the very same diagram and names
-pub record HasPrint (bytes told : List ℕ) : Type 0 where
-  pub d : DiagramView
-  pub names : NamesView
-  pub is_diagram : IsDiagramOf bytes d names
+-- the text of the diagram, which stands for the very same diagram and names
+pub record HasPrint (d : DiagramView) (names : NamesView) (told : List ℕ) : Type 0 where
   pub is : told ≡ printed d names
   pub reads_back : IsDiagramOf told d names
 
--- what `print` makes of the bytes of the file of that name
-abbrev pub Prints : List ℕ → List ℕ → Outcome → Type 0
-Prints name bytes (text told) = HasPrint bytes told
-Prints name bytes (refused TextFault told) = TellsFault name bytes told
-Prints name bytes (refused status told) = ⊥
+-- the text's fault, and else the printed diagram
+abbrev pub printing : Task
+printing = record { stages = text_fault ∷ []; IsTextOf = HasPrint }

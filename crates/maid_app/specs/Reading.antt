@@ -1,22 +1,31 @@
--- Refusals of a file's bytes. Only contracts of private functions cite these.
-use Rattle.std.specs.Prelude.{◌≡◌, ◌⊎◌, ℕ, List}
-use Rattle.maid_app.specs.Faults.{TellsFault}
+-- What a refusal for a file's bytes tells. Only contracts of private functions cite these.
+use Rattle.std.specs.Prelude.{◌≡◌, ℕ, List, Result, Err}
+use Rattle.first_fault.specs.Answers.{IsFaultOrNoMemory}
+use Rattle.first_fault.specs.Outcomes.{Outcomes, refusals}
+use Rattle.first_fault.specs.Passes.{always}
 use Rattle.maid_app.specs.Lines.{no_memory_line}
-use Rattle.maid_app.specs.Outcome.{Outcome, refused}
+use Rattle.maid_app.specs.Outcome.{Refused, refused}
+use Rattle.maid_app.specs.Refusal.{refused_as}
+use Rattle.maid_app.specs.Stages.{Finds, text_fault}
+use Rattle.maid_app.specs.Tasks.{Task, comes_of}
+use Rattle.maid_app.specs.declared.refusal.Refusal.{Refusal}
 use Rattle.maid_app.specs.declared.status.Status.{Status}
-use Rattle.maid_app.specs.declared.status.Status.TheVariants.{Done, Usage, Absent, ReadFault, TextTooLong, TextFault, WriteFault, NoMemory}
+use Rattle.maid_app.specs.declared.status.Status.TheVariants.{Done, Usage, Absent, ReadFault, TextTooLong, WriteFault, NoMemory}
 
--- that status and that line, or want of memory
-abbrev pub Tells : Status → List ℕ → Status → List ℕ → Type 0
-Tells wanted line status told = ((status ≡ wanted) × (told ≡ line)) ⊎ ((status ≡ NoMemory) × (told ≡ no_memory_line))
+-- that status and that line, or that memory ran out
+abbrev pub Tells : Status → List ℕ → Refusal → Type 0
+Tells status line refusal = IsFaultOrNoMemory refused_as (always (refused status line)) refusal
 
--- the line tells the fault of the bytes, or that memory ran out
-abbrev pub RefusesBytes : List ℕ → List ℕ → Status → List ℕ → Type 0
-RefusesBytes name bytes TextFault told = TellsFault name bytes told
-RefusesBytes name bytes NoMemory told = told ≡ no_memory_line
-RefusesBytes name bytes status told = ⊥
+-- the text's fault, or that memory ran out
+abbrev pub TellsTextFault : List ℕ → List ℕ → Refusal → Type 0
+TellsTextFault name bytes refusal =
+    IsFaultOrNoMemory refused_as (Finds text_fault (name, bytes)) refusal
 
--- a status that comes of a file's bytes
+-- what the stages find, or that memory ran out
+abbrev pub TellsOf : Outcomes (List ℕ) Refused → Refusal → Type 0
+TellsOf Comes refusal = IsFaultOrNoMemory refused_as (refusals Comes) refusal
+
+-- a status that is not of the words, of reading or of writing
 abbrev pub IsOfBytes : Status → Type 0
 IsOfBytes Done = ⊥
 IsOfBytes Usage = ⊥
@@ -24,10 +33,9 @@ IsOfBytes Absent = ⊥
 IsOfBytes ReadFault = ⊥
 IsOfBytes TextTooLong = ⊥
 IsOfBytes WriteFault = ⊥
-IsOfBytes NoMemory = ⊥
 IsOfBytes status = Unit {0}
 
--- the status and the line come of the bytes as the outcome says, or memory ran out
-abbrev pub RefusesAs : (Outcome → Type 0) → Status → List ℕ → Type 0
+-- the status is of the bytes, and it and the line come of them, or memory ran out
+abbrev pub RefusesAs : Outcomes (List ℕ) Refused → Status → List ℕ → Type 0
 RefusesAs Comes NoMemory told = told ≡ no_memory_line
-RefusesAs Comes status told = IsOfBytes status × Comes (refused status told)
+RefusesAs Comes status told = IsOfBytes status × Comes (Err (refused status told))

@@ -1,6 +1,7 @@
 -- Why a run doesn't write the whole text of its form.
-use Rattle.std.specs.Prelude.{ℕ, List}
+use Rattle.std.specs.Prelude.{ℕ, List, Option, None, Some}
 use Rattle.maid_app.specs.Lines.{usage_line, write_fault_line, no_memory_line}
+use Rattle.maid_app.specs.Outcome.{Refused, refused}
 use Rattle.maid_app.specs.declared.refusal.Refusal.{Refusal}
 use Rattle.maid_app.specs.declared.refusal.Refusal.TheVariants as refusals
 use Rattle.maid_app.specs.declared.status.Status.{Status}
@@ -19,3 +20,8 @@ line_of refusals.Usage = usage_line
 line_of (refusals.Told status told) = told.items
 line_of refusals.WriteFault = write_fault_line
 line_of refusals.NoMemory = no_memory_line
+
+-- what is refused, or None where memory ran out
+abbrev pub refused_as : Refusal → Option Refused
+refused_as refusals.NoMemory = None
+refused_as refusal = Some (refused (status_of refusal) (line_of refusal))

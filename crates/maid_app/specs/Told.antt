@@ -1,12 +1,12 @@
 -- What a run read, wrote and told.
-use Rattle.std.specs.Prelude.{◌≡◌, ◌<◌, ◌≤◌, ◌+◌, ◌⊎◌, ℕ, List, length, Option, None, Some, IfSome, IsSomeAnd}
+use Rattle.std.specs.Prelude.{◌≡◌, ◌<◌, ◌≤◌, ◌+◌, ◌⊎◌, ℕ, List, length, Option, None, Some, Ok, Err, IfSome, IsSomeAnd}
 use Rattle.std.specs.Io.KnownBytes.{Appends}
 use Rattle.maid_io.specs.Count.{Rose}
 use Rattle.maid_io.specs.Device.{File, file_of}
 use Rattle.maid_io.specs.Whole.{AppendsPart}
 use Rattle.maid_app.specs.Answers.{Answers}
 use Rattle.maid_app.specs.Lines.{usage_line, absent_line, read_fault_line, too_long_line, write_fault_line, no_memory_line}
-use Rattle.maid_app.specs.Outcome.{text, refused}
+use Rattle.maid_app.specs.Outcome.{refused}
 use Rattle.maid_app.specs.Request.{Request, file_name}
 use Rattle.maid_app.specs.declared.status.Status.{Status}
 use Rattle.maid_app.specs.declared.status.Status.TheVariants.{Done, Usage, Absent, ReadFault, TextTooLong, WriteFault, NoMemory}
@@ -15,16 +15,29 @@ use Rattle.maid_app.specs.declared.status.Status.TheVariants.{Done, Usage, Absen
 abbrev pub limit : ℕ
 limit = 4194304
 
--- These bytes were read of the file and keep the limit. The shelf counted them, and where its list is told they are the file's.
+-- These bytes were read of the file and keep the limit. The shelf counted them, and where its list
+-- is told they are the file's.
 pub record IsFileText (list : Option (List File)) (name : List ℕ) (given : ℕ) (bytes : List ℕ) : Type 0 where
   pub told : IfSome list (λ files. file_of files name ≡ Some bytes)
   pub counted : given ≡ length bytes
   pub fits : length bytes ≤ limit
 
--- One byte more than the limit was read of the file. Where the list is told the file has more bytes than the limit.
+-- One byte more than the limit was read of the file. Where the list is told the file has more bytes
+-- than the limit.
 pub record IsTooLong (list : Option (List File)) (name : List ℕ) (given : ℕ) : Type 0 where
   pub told : IfSome list (λ files. IsSomeAnd (file_of files name) (λ bytes. limit < length bytes))
   pub counted : given ≡ limit + 1
+
+-- that status, or want of memory
+abbrev pub IsOneOf : Status → Status → Type 0
+IsOneOf status wanted = (status ≡ wanted) ⊎ (status ≡ NoMemory)
+
+-- At most one byte more than the limit was given, that one only of a file that is too long, and
+-- nothing of an absent one.
+pub record KeepsLimit (status : Status) (given : ℕ) : Type 0 where
+  pub most : given ≤ limit + 1
+  pub one_more : limit < given → IsOneOf status TextTooLong
+  pub absent : status ≡ Absent → given ≡ 0
 
 -- where the list is told it lacks the name
 abbrev pub IsAbsent : Option (List File) → List ℕ → Type 0
@@ -34,13 +47,18 @@ IsAbsent list name = IfSome list (λ files. file_of files name ≡ None)
 pub record HasText (list : Option (List File)) (request : Request) (given : ℕ) (printed : List ℕ) : Type 0 where
   pub bytes : List ℕ
   pub is_text : IsFileText list (file_name request) given bytes
-  pub answers : Answers request bytes (text printed)
+  pub answers : Answers request bytes (Ok printed)
+
+-- the text was taken so
+abbrev pub WritesText : Option (List File) → Option Request → ℕ → (List ℕ → Type 0) → Type 0
+WritesText list requested given IsTaken =
+    IfSome requested (λ request. (printed : List ℕ) × HasText list request given printed × IsTaken printed)
 
 -- the request comes to nothing on its file's bytes, with that status and that line
 pub record Refuses (list : Option (List File)) (request : Request) (given : ℕ) (status : Status) (told : List ℕ) : Type 0 where
   pub bytes : List ℕ
   pub is_text : IsFileText list (file_name request) given bytes
-  pub answers : Answers request bytes (refused status told)
+  pub answers : Answers request bytes (Err (refused status told))
 
 -- why a file's bytes were not had, and the line that says so
 abbrev pub IsUnread : Option (List File) → List ℕ → ℕ → Status → List ℕ → Type 0
@@ -50,31 +68,39 @@ IsUnread list name given TextTooLong told = IsTooLong list name given × (told �
 IsUnread list name given NoMemory told = told ≡ no_memory_line
 IsUnread list name given status told = ⊥
 
--- what is wrong with the request's file or with what it holds
-abbrev pub RefusesFile : Option (List File) → Request → ℕ → Status → List ℕ → Type 0
-RefusesFile list request given Done told = ⊥
-RefusesFile list request given Usage told = ⊥
-RefusesFile list request given WriteFault told = ⊥
-RefusesFile list request given Absent told = IsUnread list (file_name request) given Absent told
-RefusesFile list request given ReadFault told = IsUnread list (file_name request) given ReadFault told
-RefusesFile list request given TextTooLong told = IsUnread list (file_name request) given TextTooLong told
-RefusesFile list request given NoMemory told = told ≡ no_memory_line
-RefusesFile list request given status told = Refuses list request given status told
-
--- What a status other than Done says, and the line that is told with it.
+-- What a status other than Done says, and the line that is told with it: of the words, of reading,
+-- of writing, of memory, or else of the file's bytes.
 abbrev pub Says : Option (List File) → Option Request → ℕ → Status → List ℕ → Type 0
 Says list requested given Usage told = (requested ≡ None) × (told ≡ usage_line)
+Says list requested given Absent told =
+    IsSomeAnd requested (λ request. IsUnread list (file_name request) given Absent told)
+Says list requested given ReadFault told =
+    IsSomeAnd requested (λ request. IsUnread list (file_name request) given ReadFault told)
+Says list requested given TextTooLong told =
+    IsSomeAnd requested (λ request. IsUnread list (file_name request) given TextTooLong told)
 Says list requested given WriteFault told = told ≡ write_fault_line
 Says list requested given NoMemory told = told ≡ no_memory_line
-Says list requested given status told = IsSomeAnd requested (λ request. RefusesFile list request given status told)
+Says list requested given status told =
+    IsSomeAnd requested (λ request. Refuses list request given status told)
 
 -- the whole line was taken, or where a write failed a proper front of it
 abbrev pub TakesLine : Option (List ℕ) → Option (List ℕ) → ℕ → ℕ → List ℕ → Type 0
 TakesLine old new before now told = Appends old new told ⊎ (Rose before now × AppendsPart old new told)
 
--- that status, or want of memory
-abbrev pub IsOneOf : Status → Status → Type 0
-IsOneOf status wanted = (status ≡ wanted) ⊎ (status ≡ NoMemory)
+-- the words ask for this, and the shelf tells that the file that they name has these bytes
+pub record HasFile (list : Option (List File)) (requested : Option Request) (request : Request) (bytes : List ℕ) : Type 0 where
+  pub asks : requested ≡ Some request
+  pub files : List File
+  pub told : list ≡ Some files
+  pub there : file_of files (file_name request) ≡ Some bytes
+
+-- the words name a file, and the shelf tells that it lacks it
+pub record LacksFile (list : Option (List File)) (requested : Option Request) : Type 0 where
+  pub request : Request
+  pub asks : requested ≡ Some request
+  pub files : List File
+  pub told : list ≡ Some files
+  pub absent : file_of files (file_name request) ≡ None
 
 -- a status that comes before the first write to `out`
 abbrev pub IsBeforeWriting : Status → Type 0

@@ -1,13 +1,19 @@
 //! The forms of words, each with a module that makes its text.
 
-ghost use Rattle.std.specs.Prelude.{◌≡◌};
+ghost use Rattle.std.specs.Prelude.{◌≡◌, Ok, IfOk, IfErr};
 ghost use Rattle.std.specs.Option.{option_map};
+ghost use Rattle.maid_app.specs.Answers.{Answers};
+ghost use Rattle.maid_app.specs.Reading.{TellsOf};
 ghost use Rattle.maid_app.specs.Request.{requested, file_name};
 ghost use Rattle.maid_app.specs.Form.{request_by};
 
-pub mod graph;
-pub mod print;
-pub mod solve;
+mod graph;
+mod print;
+mod solve;
+
+use crate::reading::Source;
+use crate::refusal::Refusal;
+use std::alloc::Global;
 
 /// What the words ask for.
 #[derive(Clone, Copy)]
@@ -38,6 +44,23 @@ impl<'a> Form<'a> {
             Form::Solve { file } => file,
             Form::Graph { file } => file,
             Form::Print { file } => file,
+        }
+    }
+
+    /// The form's text from the bytes of its file.
+    ///
+    /// # Errors
+    ///
+    /// What the form's stages find first, or want of memory.
+    #[tactic(auto, unfolding(crate::specs::Answers::Answers))]
+    pub fn text(self, alloc: Global, bytes: &[u8]) -> Result<Vec<u8>, Refusal>
+        ensures ok { IfOk result (λ printed. Answers (request_by self.entry) bytes.now (Ok printed.items)) }
+        ensures err { IfErr result (TellsOf (Answers (request_by self.entry) bytes.now)) }
+    {
+        match self {
+            Form::Solve { file } => solve::answer(alloc, Source { name: file, bytes }),
+            Form::Graph { file } => graph::answer(alloc, Source { name: file, bytes }),
+            Form::Print { file } => print::answer(alloc, Source { name: file, bytes }),
         }
     }
 }

@@ -1,8 +1,8 @@
 //! From a file's bytes to the diagram that they stand for, or to the line of their fault.
 
 ghost use Rattle.std.specs.Prelude.{◌≡◌, All, IfOk, IfErr, Some};
-ghost use Rattle.first_fault.specs.Answers.{IsFaultOrNoMemory};
 ghost use Rattle.maid_model.specs.Names.{NamesFit};
+ghost use Rattle.first_fault.specs.Answers.{IsFaultOrNoMemory};
 ghost use Rattle.net_build.specs.Passes.{build_fault, kind_view, found};
 ghost use Rattle.net_build.specs.Table.{all_passes};
 ghost use Rattle.net_lexer.specs.Pieces.{IsTokens, token_pass, lex_fault};
@@ -13,8 +13,7 @@ ghost use Rattle.net_parser.specs.Owned.{IsBlockOf};
 ghost use Rattle.net_print.specs.RoundTrip.{IsPrintable};
 ghost use Rattle.maid_app.specs.Diagrams.{IsDiagramOf};
 ghost use Rattle.maid_app.specs.Lines.{fault_line};
-ghost use Rattle.maid_app.specs.Reading.{Tells, RefusesBytes};
-ghost use Rattle.maid_app.specs.Refusal.{status_of, line_of};
+ghost use Rattle.maid_app.specs.Reading.{Tells, TellsTextFault};
 
 use crate::fault_words::kind_words;
 use crate::refusal::Refusal;
@@ -35,7 +34,7 @@ pub struct Source<'a> {
 impl Source<'_> {
     // The refusal that tells the fault at that place. Its line takes memory, which may run out.
     fn fault(self, alloc: Global, at: usize, words: &[u8]) -> Refusal
-        ensures { Tells Status.TextFault (fault_line self.entry.name.now self.entry.bytes.now at words.now) (status_of result) (line_of result) }
+        ensures { Tells Status.TextFault (fault_line self.entry.name.now self.entry.bytes.now at words.now) result }
     {
         match lines::fault(alloc, self.name.as_bytes(), self.bytes, at, words) {
             Ok(line) => Refusal::Told {
@@ -49,7 +48,7 @@ impl Source<'_> {
     // The refusal of bytes that have no tokens.
     fn token_refusal(self, alloc: Global, fault: LexFault) -> Refusal
         requires { IsFaultOrNoMemory lex_fault (token_pass self.bytes.now) fault }
-        ensures { RefusesBytes self.entry.name.now self.entry.bytes.now (status_of result) (line_of result) }
+        ensures { TellsTextFault self.entry.name.now self.entry.bytes.now result }
     {
         match fault {
             LexFault::BadByte { at } => self.fault(alloc, at, b"bad byte"),
@@ -63,7 +62,7 @@ impl Source<'_> {
     fn grammar_refusal(self, alloc: Global, tokens: &Tokens, fault: ParseFault) -> Refusal
         requires tokens { IsTokens self.bytes.now tokens.now }
         requires refuses { IsFaultOrNoMemory parse_fault (tree_pass self.bytes.now tokens.now) fault }
-        ensures { RefusesBytes self.entry.name.now self.entry.bytes.now (status_of result) (line_of result) }
+        ensures { TellsTextFault self.entry.name.now self.entry.bytes.now result }
     {
         match fault {
             ParseFault::Unexpected { at } => self.fault(alloc, at, b"unexpected"),
@@ -76,7 +75,7 @@ impl Source<'_> {
     // The tokens of the bytes.
     fn tokens(self, alloc: Global) -> Result<Tokens, Refusal>
         ensures ok { IfOk result (λ tokens. IsTokens self.entry.bytes.now tokens) }
-        ensures err { IfErr result (λ refusal. RefusesBytes self.entry.name.now self.entry.bytes.now (status_of refusal) (line_of refusal)) }
+        ensures err { IfErr result (TellsTextFault self.entry.name.now self.entry.bytes.now) }
     {
         match lex(alloc, self.bytes) {
             Ok(tokens) => Ok(tokens),
@@ -89,7 +88,7 @@ impl Source<'_> {
         requires { IsTokens self.bytes.now tokens.now }
         ensures spells { IfOk result (λ tree. Spells tree (lexemes self.entry.bytes.now tokens.now)) }
         ensures blocks { IfOk result (λ tree. All (IsBlockOf self.entry.bytes.now) tree) }
-        ensures err { IfErr result (λ refusal. RefusesBytes self.entry.name.now self.entry.bytes.now (status_of refusal) (line_of refusal)) }
+        ensures err { IfErr result (TellsTextFault self.entry.name.now self.entry.bytes.now) }
     {
         match parse(alloc, self.bytes, tokens) {
             Ok(tree) => Ok(tree),
@@ -110,7 +109,7 @@ impl Source<'_> {
         requires spells { Spells tree.now (lexemes self.bytes.now tokens.now) }
         requires blocks { All (IsBlockOf self.bytes.now) tree.now }
         requires fault { all_passes self.bytes.now tree.now (Some (found at (kind_view kind.now))) }
-        ensures { RefusesBytes self.entry.name.now self.entry.bytes.now (status_of result) (line_of result) }
+        ensures { TellsTextFault self.entry.name.now self.entry.bytes.now result }
     {
         match kind_words(alloc, self.bytes, tree, kind) {
             Ok(words) => self.fault(alloc, at, &words),
@@ -130,7 +129,7 @@ impl Source<'_> {
         requires spells { Spells tree.now (lexemes self.bytes.now tokens.now) }
         requires blocks { All (IsBlockOf self.bytes.now) tree.now }
         requires refuses { IsFaultOrNoMemory build_fault (all_passes self.bytes.now tree.now) fault.now }
-        ensures { RefusesBytes self.entry.name.now self.entry.bytes.now (status_of result) (line_of result) }
+        ensures { TellsTextFault self.entry.name.now self.entry.bytes.now result }
     {
         match fault {
             BuildFault::Fault { at, kind } => self.kind_refusal(alloc, tokens, tree, *at, kind),
@@ -143,7 +142,7 @@ impl Source<'_> {
         ensures ok { IfOk result (λ built. IsDiagramOf self.entry.bytes.now built.0 built.1) }
         ensures fit { IfOk result (λ built. NamesFit built.0 built.1) }
         ensures printable { IfOk result (λ built. IsPrintable built.0 built.1) }
-        ensures err { IfErr result (λ refusal. RefusesBytes self.entry.name.now self.entry.bytes.now (status_of refusal) (line_of refusal)) }
+        ensures err { IfErr result (TellsTextFault self.entry.name.now self.entry.bytes.now) }
     {
         let tokens = self.tokens(alloc)?;
         let tree = self.tree(alloc, &tokens)?;

@@ -1,24 +1,24 @@
 //! The shell: words, devices, the order of refusals, and one line to `err`.
 
-ghost use Rattle.std.specs.Prelude.{◌≡◌, ◌≢◌, ◌++◌, ◌<◌, ◌≤◌, ◌↔◌, List, ℕ, length, None, Some, IfSome, IfOk, IfErr, OnOk};
+ghost use Rattle.std.specs.Prelude.{◌≡◌, ◌≢◌, ◌++◌, ◌<◌, ◌≤◌, ◌↔◌, List, ℕ, length, None, Some, Ok, Err, IfSome, IfOk, IfErr, OnOk};
 ghost use Rattle.std.specs.Io.KnownBytes.{Appends};
 ghost use Rattle.maid_io.specs.Count.{Rose};
-ghost use Rattle.maid_io.specs.Device.{file_of};
 ghost use Rattle.maid_io.specs.Whole.{AppendsPart};
-ghost use Rattle.maid_app.specs.Request.{requested, file_name};
+ghost use Rattle.maid_app.specs.Request.{Request, requested, file_name};
 ghost use Rattle.maid_app.specs.Form.{request_by};
-ghost use Rattle.maid_app.specs.Answers.{Answers};
-ghost use Rattle.maid_app.specs.Outcome.{text, refused};
+ghost use Rattle.maid_app.specs.Answers.{Answers, FindsNothing, CanAnswer};
+ghost use Rattle.maid_app.specs.Diagrams.{IsDiagramOf};
+ghost use Rattle.maid_app.specs.Outcome.{Refused};
 ghost use Rattle.maid_app.specs.Laws.{OneStatus};
-ghost use Rattle.maid_app.specs.Lines.{absent_line};
 ghost use Rattle.maid_app.specs.Reading.{Tells, RefusesAs};
 ghost use Rattle.maid_app.specs.Refusal.{status_of, line_of};
+ghost use Rattle.maid_model.specs.Names.{NamesView};
 ghost use Rattle.maid_model.specs.Reports.{line};
-ghost use Rattle.maid_app.specs.Told.{limit, IsFileText, IsUnread, RefusesFile, Says, HasText, TakesLine, IsBeforeWriting, IsOneOf};
+ghost use Rattle.maid_model.specs.Views.{DiagramView};
+ghost use Rattle.maid_app.specs.Told.{limit, IsFileText, IsUnread, KeepsLimit, WritesText, Says, TakesLine, HasFile, LacksFile, IsBeforeWriting, IsOneOf};
 
-use crate::forms::{Form, form_of, graph, print, solve};
+use crate::forms::{Form, form_of};
 use crate::laws::one_status;
-use crate::reading::Source;
 use crate::refusal::Refusal;
 use crate::{Status, lines};
 use maid_io::{Opened, ReadAllFault, Shelf, Sink, read_all, write_all};
@@ -29,7 +29,7 @@ const LIMIT: usize = 4_194_304;
 
 // The refusal that tells the line of these two pieces. The line takes memory, which may run out.
 fn told(alloc: Global, status: Status, head: &[u8], name: &str) -> Refusal
-    ensures { Tells status (line (head.now ++ name.now)) (status_of result) (line_of result) }
+    ensures { Tells status (line (head.now ++ name.now)) result }
 {
     match lines::told(alloc, head, name.as_bytes()) {
         Ok(line) => Refusal::Told { status, line },
@@ -39,10 +39,15 @@ fn told(alloc: Global, status: Status, head: &[u8], name: &str) -> Refusal
 
 // The bytes of the file of that name.
 fn read_file<H: Shelf>(alloc: Global, shelf: &mut H, name: &str) -> Result<Vec<u8>, Refusal>
-    ensures ok { IfOk result (λ bytes. IsFileText (H.list shelf.old) name.now (H.given shelf.new) bytes.items) }
-    ensures err { IfErr result (λ refusal. IsUnread (H.list shelf.old) name.now (H.given shelf.new) (status_of refusal) (line_of refusal)) }
-    ensures absent_cause { IfErr result (λ refusal. status_of refusal ≡ Status.Absent → Rose (H.absences shelf.old) (H.absences shelf.new)) }
-    ensures read_cause { IfErr result (λ refusal. status_of refusal ≡ Status.ReadFault → Rose (H.faults shelf.old) (H.faults shelf.new)) }
+    ensures ok { IfOk result (λ bytes.
+        IsFileText (H.list shelf.old) name.now (H.given shelf.new) bytes.items) }
+    ensures err { IfErr result (λ refusal.
+        IsUnread (H.list shelf.old) name.now (H.given shelf.new) (status_of refusal) (line_of refusal)) }
+    ensures bounded { IfErr result (λ refusal. KeepsLimit (status_of refusal) (H.given shelf.new)) }
+    ensures absent_cause { IfErr result (λ refusal.
+        status_of refusal ≡ Status.Absent → Rose (H.absences shelf.old) (H.absences shelf.new)) }
+    ensures read_cause { IfErr result (λ refusal.
+        status_of refusal ≡ Status.ReadFault → Rose (H.faults shelf.old) (H.faults shelf.new)) }
     ensures faults { H.faults shelf.old ≤ H.faults shelf.new }
     ensures absences { H.absences shelf.old ≤ H.absences shelf.new }
     ensures list { H.list shelf.new ≡ H.list shelf.old }
@@ -65,17 +70,14 @@ fn read_file<H: Shelf>(alloc: Global, shelf: &mut H, name: &str) -> Result<Vec<u
     }
 }
 
-// What the form makes of its file's bytes, before any byte of it is written.
-#[tactic(auto, unfolding(crate::specs::Answers::Answers))]
+// What the form makes of its file's bytes, before any byte of it is written. It refuses with no status of
+// the run's own.
 fn text_of(alloc: Global, form: Form<'_>, bytes: &[u8]) -> Result<Vec<u8>, Refusal>
-    ensures ok { IfOk result (λ printed. Answers (request_by form.entry) bytes.now (text printed.items)) }
-    ensures err { IfErr result (λ refusal. RefusesAs (Answers (request_by form.entry) bytes.now) (status_of refusal) (line_of refusal)) }
+    ensures ok { IfOk result (λ printed. Answers (request_by form.entry) bytes.now (Ok printed.items)) }
+    ensures err { IfErr result (λ refusal.
+        RefusesAs (Answers (request_by form.entry) bytes.now) (status_of refusal) (line_of refusal)) }
 {
-    match form {
-        Form::Solve { file } => solve::answer(alloc, Source { name: file, bytes }),
-        Form::Graph { file } => graph::answer(alloc, Source { name: file, bytes }),
-        Form::Print { file } => print::answer(alloc, Source { name: file, bytes }),
-    }
+    form.text(alloc, bytes)
 }
 
 // Writes the whole text of the words' form, or refuses.
@@ -85,18 +87,29 @@ fn serve<H: Shelf, O: Sink>(
     shelf: &mut H,
     out: &mut O,
 ) -> Result<(), Refusal>
-    ensures ok { OnOk result (IfSome (requested words.now) (λ request.
-        (printed : List ℕ) × HasText (H.list shelf.old) request (H.given shelf.new) printed × Appends (O.taken out.old) (O.taken out.new) printed)) }
+    ensures ok { OnOk result (WritesText (H.list shelf.old) (requested words.now) (H.given shelf.new)
+        (Appends (O.taken out.old) (O.taken out.new))) }
     ensures ok_words { OnOk result (requested words.now ≢ None) }
-    ensures err { IfErr result (λ refusal. Says (H.list shelf.old) (requested words.now) (H.given shelf.new) (status_of refusal) (line_of refusal)) }
-    ensures usage { IfErr result (λ refusal. (status_of refusal ≡ Status.Usage) ↔ (requested words.now ≡ None)) }
-    ensures untouched_shelf { IfErr result (λ refusal. status_of refusal ≡ Status.Usage → shelf.new ≡ shelf.old) }
-    ensures part { IfErr result (λ refusal. status_of refusal ≡ Status.WriteFault → IfSome (requested words.now) (λ request.
-        (printed : List ℕ) × HasText (H.list shelf.old) request (H.given shelf.new) printed × AppendsPart (O.taken out.old) (O.taken out.new) printed)) }
-    ensures absent_cause { IfErr result (λ refusal. status_of refusal ≡ Status.Absent → Rose (H.absences shelf.old) (H.absences shelf.new)) }
-    ensures read_cause { IfErr result (λ refusal. status_of refusal ≡ Status.ReadFault → Rose (H.faults shelf.old) (H.faults shelf.new)) }
-    ensures write_cause { IfErr result (λ refusal. status_of refusal ≡ Status.WriteFault → Rose (O.faults out.old) (O.faults out.new)) }
-    ensures untouched { IfErr result (λ refusal. status_of refusal ≢ Status.WriteFault → out.new ≡ out.old) }
+    ensures err { IfErr result (λ refusal.
+        Says (H.list shelf.old) (requested words.now) (H.given shelf.new) (status_of refusal) (line_of refusal)) }
+    ensures bounded_done { OnOk result (KeepsLimit Status.Done (H.given shelf.new)) }
+    ensures bounded { IfErr result (λ refusal.
+        status_of refusal ≢ Status.Usage → KeepsLimit (status_of refusal) (H.given shelf.new)) }
+    ensures usage { IfErr result (λ refusal.
+        (status_of refusal ≡ Status.Usage) ↔ (requested words.now ≡ None)) }
+    ensures untouched_shelf { IfErr result (λ refusal.
+        status_of refusal ≡ Status.Usage → shelf.new ≡ shelf.old) }
+    ensures part { IfErr result (λ refusal. status_of refusal ≡ Status.WriteFault
+        → WritesText (H.list shelf.old) (requested words.now) (H.given shelf.new)
+        (AppendsPart (O.taken out.old) (O.taken out.new))) }
+    ensures absent_cause { IfErr result (λ refusal.
+        status_of refusal ≡ Status.Absent → Rose (H.absences shelf.old) (H.absences shelf.new)) }
+    ensures read_cause { IfErr result (λ refusal.
+        status_of refusal ≡ Status.ReadFault → Rose (H.faults shelf.old) (H.faults shelf.new)) }
+    ensures write_cause { IfErr result (λ refusal.
+        status_of refusal ≡ Status.WriteFault → Rose (O.faults out.old) (O.faults out.new)) }
+    ensures untouched { IfErr result (λ refusal.
+        status_of refusal ≢ Status.WriteFault → out.new ≡ out.old) }
     ensures not_done { IfErr result (λ refusal. status_of refusal ≢ Status.Done) }
     ensures out_faults { O.faults out.old ≤ O.faults out.new }
     ensures faults { H.faults shelf.old ≤ H.faults shelf.new }
@@ -114,14 +127,15 @@ fn serve<H: Shelf, O: Sink>(
 /// Runs the program on the words after its name, and answers how it ended.
 ///
 /// The words are those of one form, which names a file F of the shelf: `solve F` writes the report
-/// of its diagram to `out`, `graph F` who relies on whom, and `print F` the diagram. The whole text is made before its first byte is written, and writing takes
-/// no memory. After a status other than [`Status::Done`] `err` takes one line that says why.
+/// of its diagram to `out`, `graph F` who relies on whom, and `print F` the diagram. The whole text
+/// is made before its first byte is written, and writing takes no memory. After a status other
+/// than [`Status::Done`] `err` takes one line that says why.
 ///
 /// The order of refusals is [`Status::Usage`] where the words are of no form, [`Status::Absent`],
 /// [`Status::ReadFault`] and [`Status::TextTooLong`] for the file, [`Status::TextFault`] for its
 /// bytes, for `solve` then [`Status::Cycle`], [`Status::WeightBound`] and [`Status::NotBuilt`] for
-/// its diagram, and last [`Status::WriteFault`]. [`Status::NoMemory`] may come at
-/// any point after the words and before the first write. A fault of `err` changes nothing else.
+/// its diagram, and last [`Status::WriteFault`]. [`Status::NoMemory`] may come at any point after
+/// the words and before the first write. A fault of `err` changes nothing else.
 pub fn run<H: Shelf, O: Sink, E: Sink>(
     alloc: Global,
     words: &[String],
@@ -133,16 +147,22 @@ pub fn run<H: Shelf, O: Sink, E: Sink>(
     ensures usage { (result ≡ Status.Usage) ↔ (requested words.now ≡ None) }
     ensures usage_reads_nothing { result ≡ Status.Usage → shelf.new ≡ shelf.old }
 
+    // What was read of the file, however the run ended.
+    ensures bounded { result ≢ Status.Usage → KeepsLimit result (H.given shelf.new) }
+
     // What `out` took: the whole text, a proper front of it, or nothing.
-    ensures done { result ≡ Status.Done → IfSome (requested words.now) (λ request.
-        (printed : List ℕ) × HasText (H.list shelf.old) request (H.given shelf.new) printed × Appends (O.taken out.old) (O.taken out.new) printed) }
-    ensures part { result ≡ Status.WriteFault → IfSome (requested words.now) (λ request.
-        (printed : List ℕ) × HasText (H.list shelf.old) request (H.given shelf.new) printed × AppendsPart (O.taken out.old) (O.taken out.new) printed) }
+    ensures done { result ≡ Status.Done
+        → WritesText (H.list shelf.old) (requested words.now) (H.given shelf.new)
+        (Appends (O.taken out.old) (O.taken out.new)) }
+    ensures part { result ≡ Status.WriteFault
+        → WritesText (H.list shelf.old) (requested words.now) (H.given shelf.new)
+        (AppendsPart (O.taken out.old) (O.taken out.new)) }
     ensures untouched { IsBeforeWriting result → out.new ≡ out.old }
 
     // What `err` took: nothing, or the line that says why.
     ensures silent { result ≡ Status.Done → err.new ≡ err.old }
-    ensures told { result ≢ Status.Done → (line : List ℕ) × Says (H.list shelf.old) (requested words.now) (H.given shelf.new) result line
+    ensures told { result ≢ Status.Done → (line : List ℕ)
+        × Says (H.list shelf.old) (requested words.now) (H.given shelf.new) result line
         × TakesLine (E.taken err.old) (E.taken err.new) (E.faults err.old) (E.faults err.new) line }
 
     // Where the devices tell nothing, they counted a cause.
@@ -150,18 +170,26 @@ pub fn run<H: Shelf, O: Sink, E: Sink>(
     ensures read_cause { result ≡ Status.ReadFault → Rose (H.faults shelf.old) (H.faults shelf.new) }
     ensures write_cause { result ≡ Status.WriteFault → Rose (O.faults out.old) (O.faults out.new) }
 
-    // Nothing else keeps it from an answer.
-    ensures always_absent { IfSome (requested words.now) (λ request. IfSome (H.list shelf.old) (λ files.
-        file_of files (file_name request) ≡ None → ¬ Rose (H.faults shelf.old) (H.faults shelf.new) → IsOneOf result Status.Absent)) }
-    ensures always_too_long { IfSome (requested words.now) (λ request. IfSome (H.list shelf.old) (λ files. (bytes : List ℕ) →
-        file_of files (file_name request) ≡ Some bytes → limit < length bytes
-        → ¬ Rose (H.faults shelf.old) (H.faults shelf.new) → IsOneOf result Status.TextTooLong)) }
-    ensures always_refused { IfSome (requested words.now) (λ request. IfSome (H.list shelf.old) (λ files. (bytes told : List ℕ) (status : Status) →
-        file_of files (file_name request) ≡ Some bytes → length bytes ≤ limit → Answers request bytes (refused status told)
-        → ¬ Rose (H.faults shelf.old) (H.faults shelf.new) → IsOneOf result status)) }
-    ensures always_done { IfSome (requested words.now) (λ request. IfSome (H.list shelf.old) (λ files. (bytes printed : List ℕ) →
-        file_of files (file_name request) ≡ Some bytes → length bytes ≤ limit → Answers request bytes (text printed)
-        → ¬ Rose (H.faults shelf.old) (H.faults shelf.new) → ¬ Rose (O.faults out.old) (O.faults out.new) → IsOneOf result Status.Done)) }
+    // Nothing else keeps it from an answer but want of memory.
+    ensures always_absent { LacksFile (H.list shelf.old) (requested words.now)
+        → ¬ Rose (H.faults shelf.old) (H.faults shelf.new) → IsOneOf result Status.Absent }
+    ensures always_too_long { (request : Request) (bytes : List ℕ)
+        → HasFile (H.list shelf.old) (requested words.now) request bytes → limit < length bytes
+        → ¬ Rose (H.faults shelf.old) (H.faults shelf.new) → IsOneOf result Status.TextTooLong }
+    ensures always_refused { (request : Request) (bytes : List ℕ)
+        → HasFile (H.list shelf.old) (requested words.now) request bytes → length bytes ≤ limit
+        → (refusal : Refused) → Answers request bytes (Err refusal)
+        → ¬ Rose (H.faults shelf.old) (H.faults shelf.new) → IsOneOf result refusal.status }
+    ensures always_done { (request : Request) (bytes : List ℕ)
+        → HasFile (H.list shelf.old) (requested words.now) request bytes → length bytes ≤ limit
+        → FindsNothing request bytes
+        → ¬ Rose (H.faults shelf.old) (H.faults shelf.new)
+        → ¬ Rose (O.faults out.old) (O.faults out.new) → IsOneOf result Status.Done }
+    ensures always_answers { (request : Request) (bytes : List ℕ)
+        → HasFile (H.list shelf.old) (requested words.now) request bytes → length bytes ≤ limit
+        → (d : DiagramView) (names : NamesView) → IsDiagramOf bytes d names → CanAnswer request d
+        → ¬ Rose (H.faults shelf.old) (H.faults shelf.new)
+        → ¬ Rose (O.faults out.old) (O.faults out.new) → IsOneOf result Status.Done }
 
     // What any answer leaves.
     ensures list { H.list shelf.new ≡ H.list shelf.old }

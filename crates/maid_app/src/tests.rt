@@ -109,21 +109,22 @@ fn files(alloc: Global) -> Result<Vec<(String, Vec<u8>)>, Fail> {
     Ok(files)
 }
 
-// Runs the words over a shelf of these files whose call of that number fails, and over an `out` with so
-// much room whose writes take ten bytes at most. It gives the status and what `out` and `err` took.
+// Runs the words over a shelf of these files that gives 50 bytes a read at most, an `out` with so much room
+// that takes ten a write, and an `err` that takes seven. Of each the call of that number fails. It gives the
+// status and what `out` and `err` took.
 fn ended(
     alloc: Global,
     words: &str,
-    call: u64,
+    [shelf_call, out_call, err_call]: [u64; 3],
     room: usize,
 ) -> Result<(Status, Vec<u8>, Vec<u8>), Fail> {
     let mut list = Vec::new(alloc);
     for word in words.split_whitespace() {
         list.push(word.to_string(alloc)?)?;
     }
-    let mut shelf = MemShelf::new(files(alloc)?, vec![in alloc; call]?, 50);
-    let mut out = MemSink::new(alloc, room, Vec::new(alloc), 10)?;
-    let mut err = MemSink::new(alloc, 200, Vec::new(alloc), 7)?;
+    let mut shelf = MemShelf::new(files(alloc)?, vec![in alloc; shelf_call]?, 50);
+    let mut out = MemSink::new(alloc, room, vec![in alloc; out_call]?, 10)?;
+    let mut err = MemSink::new(alloc, 200, vec![in alloc; err_call]?, 7)?;
     let status = run(alloc, &list, &mut shelf, &mut out, &mut err);
     Ok((
         status,
@@ -232,11 +233,62 @@ fn runs_end_as_they_must(rt: HostRuntime) -> Result<(), Fail> {
             "write fault\n",
         ),
     ] {
-        let (ended, bytes, line) = ended(rt.alloc(), words, call, room)?;
+        let (ended, bytes, line) = ended(rt.alloc(), words, [call, 0, 0], room)?;
         assert_eq!(rt; ended, status, "{words} {call} {room}");
         assert_eq!(rt; ended.code(), code, "{words} {call} {room}");
         assert_eq!(rt; bytes.as_slice(), took.as_bytes(), "{words} {call} {room}");
         assert_eq!(rt; line.as_slice(), told.as_bytes(), "{words} {call} {room}");
     }
+    Ok(())
+}
+
+// A start, four reads of the text and one that gives nothing.
+#[test]
+fn each_call_of_the_shelf_fails_in_turn(rt: HostRuntime) -> Result<(), Fail> {
+    for call in 1..7u64 {
+        let (status, out, err) = ended(rt.alloc(), "solve steer.net", [call, 0, 0], 400)?;
+        assert_eq!(rt; status, Status::ReadFault, "{call}");
+        assert_eq!(rt; out.len(), 0, "{call}");
+        assert_eq!(rt;
+            err.as_slice(),
+            "read fault: steer.net\n".as_bytes(),
+            "{call}"
+        );
+    }
+    let (status, out, _) = ended(rt.alloc(), "solve steer.net", [7, 0, 0], 400)?;
+    assert_eq!(rt; status, Status::Done);
+    assert_eq!(rt; out.as_slice(), REPORT.as_bytes());
+    Ok(())
+}
+
+// Ten bytes a write.
+#[test]
+fn each_write_of_the_text_fails_in_turn(rt: HostRuntime) -> Result<(), Fail> {
+    for call in 1..14u64 {
+        let (status, out, err) = ended(rt.alloc(), "solve steer.net", [0, call, 0], 400)?;
+        assert_eq!(rt; status, Status::WriteFault, "{call}");
+        assert_eq!(rt; out.len() as u64, 10 * (call - 1), "{call}");
+        assert!(rt; REPORT.as_bytes().starts_with(&out), "{call}");
+        assert_eq!(rt; err.as_slice(), "write fault\n".as_bytes(), "{call}");
+    }
+    let (status, out, _) = ended(rt.alloc(), "solve steer.net", [0, 14, 0], 400)?;
+    assert_eq!(rt; status, Status::Done);
+    assert_eq!(rt; out.as_slice(), REPORT.as_bytes());
+    Ok(())
+}
+
+// Seven bytes a write. The status stays what it is.
+#[test]
+fn each_write_of_the_line_fails_in_turn(rt: HostRuntime) -> Result<(), Fail> {
+    for call in 1..4u64 {
+        let (status, out, err) = ended(rt.alloc(), "solve gone.net", [0, 0, call], 400)?;
+        assert_eq!(rt; status, Status::Absent, "{call}");
+        assert_eq!(rt; out.len(), 0, "{call}");
+        assert_eq!(rt; err.len() as u64, 7 * (call - 1), "{call}");
+        assert!(rt; "absent: gone.net\n".as_bytes().starts_with(&err), "{call}");
+    }
+    let (status, _, err) = ended(rt.alloc(), "solve gone.net", [0, 0, 4], 400)?;
+    assert_eq!(rt; status, Status::Absent);
+    assert_eq!(rt; err.as_slice(), "absent: gone.net\n".as_bytes());
     Ok(())
 }

@@ -6,3 +6,6 @@ mod report;
 
 pub use pieces::print_ratio;
 pub use report::print_report;
+
+#[cfg(test)]
+mod tests;

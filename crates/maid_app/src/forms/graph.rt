@@ -1,16 +1,15 @@
 //! `graph F`: who relies on whom.
 
-ghost use Rattle.std.specs.Prelude.{◌≡◌, ◌<◌, ◌++◌, All, IfOk, IfErr, OnOk, length};
+ghost use Rattle.std.specs.Prelude.{◌≡◌, ◌<◌, ◌++◌, All, Ok, IfOk, IfErr, OnOk, length};
 ghost use Rattle.std.specs.List.{flat_map};
 ghost use Rattle.maid_model.specs.Names.{NamesFit};
 ghost use Rattle.maid_model.specs.Nodes.{decisions_of};
 ghost use Rattle.relevance_graph.specs.Relevant.{IsRelevance};
 ghost use Rattle.relevance_graph.specs.Views.{relied_on_by};
-ghost use Rattle.maid_app.specs.Graph.{Graphs, IsGraphText, IsLastLine, relies_line};
+ghost use Rattle.maid_app.specs.Graph.{graphing, IsGraphText, IsLastLine, relies_line};
 ghost use Rattle.maid_app.specs.GraphLines.{relies_line_of};
-ghost use Rattle.maid_app.specs.Outcome.{text};
-ghost use Rattle.maid_app.specs.Reading.{RefusesAs};
-ghost use Rattle.maid_app.specs.Refusal.{status_of, line_of};
+ghost use Rattle.maid_app.specs.Reading.{TellsOf};
+ghost use Rattle.maid_app.specs.Tasks.{comes_of};
 
 use crate::reading::Source;
 use crate::refusal::Refusal;
@@ -115,8 +114,8 @@ fn graph_text(
 ///
 /// The fault of the bytes, or want of memory.
 pub fn answer(alloc: Global, source: Source<'_>) -> Result<Vec<u8>, Refusal>
-    ensures ok { IfOk result (λ printed. Graphs source.entry.name.now source.entry.bytes.now (text printed.items)) }
-    ensures err { IfErr result (λ refusal. RefusesAs (Graphs source.entry.name.now source.entry.bytes.now) (status_of refusal) (line_of refusal)) }
+    ensures ok { IfOk result (λ printed. comes_of graphing source.entry.name.now source.entry.bytes.now (Ok printed.items)) }
+    ensures err { IfErr result (TellsOf (comes_of graphing source.entry.name.now source.entry.bytes.now)) }
 {
     let (diagram, names) = source.diagram(alloc)?;
     let relevance = find_relevance(alloc, &diagram)?;

@@ -1,10 +1,9 @@
 //! `print F`: the text of a diagram.
 
-ghost use Rattle.std.specs.Prelude.{IfOk, IfErr};
-ghost use Rattle.maid_app.specs.Outcome.{text};
-ghost use Rattle.maid_app.specs.Print.{Prints};
-ghost use Rattle.maid_app.specs.Reading.{RefusesAs};
-ghost use Rattle.maid_app.specs.Refusal.{status_of, line_of};
+ghost use Rattle.std.specs.Prelude.{Ok, IfOk, IfErr};
+ghost use Rattle.maid_app.specs.Print.{printing};
+ghost use Rattle.maid_app.specs.Reading.{TellsOf};
+ghost use Rattle.maid_app.specs.Tasks.{comes_of};
 
 use crate::reading::Source;
 use crate::refusal::Refusal;
@@ -17,8 +16,8 @@ use std::alloc::Global;
 ///
 /// The fault of the bytes, or want of memory.
 pub fn answer(alloc: Global, source: Source<'_>) -> Result<Vec<u8>, Refusal>
-    ensures ok { IfOk result (λ told. Prints source.entry.name.now source.entry.bytes.now (text told.items)) }
-    ensures err { IfErr result (λ refusal. RefusesAs (Prints source.entry.name.now source.entry.bytes.now) (status_of refusal) (line_of refusal)) }
+    ensures ok { IfOk result (λ told. comes_of printing source.entry.name.now source.entry.bytes.now (Ok told.items)) }
+    ensures err { IfErr result (TellsOf (comes_of printing source.entry.name.now source.entry.bytes.now)) }
 {
     let (diagram, names) = source.diagram(alloc)?;
     printed_texts_read_back();

@@ -1,13 +1,12 @@
 //! `solve F`: the report.
 
-ghost use Rattle.std.specs.Prelude.{◌≡◌, ℕ, List, IfOk, IfErr, MatchResult};
+ghost use Rattle.std.specs.Prelude.{◌≡◌, ℕ, List, Ok, IfOk, IfErr, MatchResult};
 ghost use Rattle.maid_model.specs.Names.{NamesFit};
 ghost use Rattle.maid_app.specs.Diagrams.{IsDiagramOf};
-ghost use Rattle.maid_app.specs.Outcome.{text};
-ghost use Rattle.maid_app.specs.Reading.{RefusesAs};
-ghost use Rattle.maid_app.specs.Refusal.{status_of, line_of};
-ghost use Rattle.maid_app.specs.Solve.{Solves};
-ghost use Rattle.rule_solver.specs.Faults.{Tells};
+ghost use Rattle.maid_app.specs.Reading.{Tells, TellsOf};
+ghost use Rattle.maid_app.specs.Tasks.{comes_of};
+ghost use Rattle.maid_app.specs.Solve.{solving};
+ghost use Rattle.rule_solver.specs.Faults.{Tells as TellsOfSolving};
 
 use crate::reading::Source;
 use crate::refusal::Refusal;
@@ -20,7 +19,7 @@ use std::alloc::{AllocError, Global};
 
 // The refusal of that status, if memory suffices for its line.
 fn told(status: Status, line: Result<Vec<u8>, AllocError>) -> Refusal
-    ensures { MatchResult line (λ made. (status_of result ≡ status) × (line_of result ≡ made.items)) (λ _. result ≡ Refusal.NoMemory) }
+    ensures { MatchResult line (λ made. Tells status made.items result) (λ _. result ≡ Refusal.NoMemory) }
 {
     match line {
         Ok(line) => Refusal::Told { status, line },
@@ -31,8 +30,8 @@ fn told(status: Status, line: Result<Vec<u8>, AllocError>) -> Refusal
 // The refusal of a diagram that passes the weight bound at that node, or by its utilities.
 fn bound_refusal(alloc: Global, diagram: &Diagram, names: &Names, node: Option<usize>) -> Refusal
     requires fit { NamesFit diagram.now names.now }
-    requires tells { Tells diagram.now (SolveFault.WeightBound node) }
-    ensures { (name bytes : List ℕ) → IsDiagramOf bytes diagram.now names.now → RefusesAs (Solves name bytes) (status_of result) (line_of result) }
+    requires tells { TellsOfSolving diagram.now (SolveFault.WeightBound node) }
+    ensures { (name bytes : List ℕ) → IsDiagramOf bytes diagram.now names.now → TellsOf (comes_of solving name bytes) result }
 {
     match node {
         Some(v) => told(
@@ -49,8 +48,8 @@ fn bound_refusal(alloc: Global, diagram: &Diagram, names: &Names, node: Option<u
 // The refusal of a diagram that isn't solved.
 fn refusal(alloc: Global, diagram: &Diagram, names: &Names, fault: &SolveFault) -> Refusal
     requires fit { NamesFit diagram.now names.now }
-    requires tells { Tells diagram.now fault.now }
-    ensures { (name bytes : List ℕ) → IsDiagramOf bytes diagram.now names.now → RefusesAs (Solves name bytes) (status_of result) (line_of result) }
+    requires tells { TellsOfSolving diagram.now fault.now }
+    ensures { (name bytes : List ℕ) → IsDiagramOf bytes diagram.now names.now → TellsOf (comes_of solving name bytes) result }
 {
     match fault {
         SolveFault::Cycle { list } => told(
@@ -73,8 +72,8 @@ fn refusal(alloc: Global, diagram: &Diagram, names: &Names, fault: &SolveFault) 
 /// The fault of the bytes, the relevance cycle, the place at which the weight bound is passed, that there are more than
 /// 65,536 worlds, or want of memory.
 pub fn answer(alloc: Global, source: Source<'_>) -> Result<Vec<u8>, Refusal>
-    ensures ok { IfOk result (λ printed. Solves source.entry.name.now source.entry.bytes.now (text printed.items)) }
-    ensures err { IfErr result (λ refusal. RefusesAs (Solves source.entry.name.now source.entry.bytes.now) (status_of refusal) (line_of refusal)) }
+    ensures ok { IfOk result (λ printed. comes_of solving source.entry.name.now source.entry.bytes.now (Ok printed.items)) }
+    ensures err { IfErr result (TellsOf (comes_of solving source.entry.name.now source.entry.bytes.now)) }
 {
     let (diagram, names) = source.diagram(alloc)?;
     match solve(alloc, &diagram) {

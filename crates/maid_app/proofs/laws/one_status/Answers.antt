@@ -1,7 +1,7 @@
-use Rattle.maid_app.proofs.Bytes.{one_status, refused_for_bytes}
+use Rattle.maid_app.proofs.Bytes.{Laws, one_status, not_refused}
 use Rattle.maid_app.proofs.laws.one_status.Goals as goal
 
--- bytes with a diagram have no fault, and the kinds of outcome exclude one another
+-- each stage is clear or refuses, never both
 pub returns-clause-one : goal.returns-clause-one
 returns-clause-one c = one_status (record {
   tokens_or_fault = c.every_text_reads_one_way.ensures.exclusive;
@@ -12,5 +12,12 @@ returns-clause-one c = one_status (record {
   one_diagram = c.a_tree_stands_for_one_diagram.ensures.one_diagram;
 })
 
-pub returns-clause-of_bytes : goal.returns-clause-of_bytes
-returns-clause-of_bytes c = refused_for_bytes
+pub returns-clause-clear : goal.returns-clause-clear
+returns-clause-clear c = not_refused (record {
+  tokens_or_fault = c.every_text_reads_one_way.ensures.exclusive;
+  one_list = c.every_text_reads_one_way.ensures.one_list;
+  tree_or_fault = c.tokens_read_one_way.ensures.exclusive;
+  one_tree = c.tokens_read_one_way.ensures.one_tree;
+  diagram_or_fault = c.a_tree_has_a_fault_or_none.ensures.exclusive;
+  one_diagram = c.a_tree_stands_for_one_diagram.ensures.one_diagram;
+})

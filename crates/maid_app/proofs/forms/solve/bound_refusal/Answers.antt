@@ -1,11 +1,15 @@
-use Rattle.std.proofs.Common.{◌≡◌, ◌∙◌, ◌++◌, refl, subst, ap, codes}
+use Rattle.std.proofs.Common.{◌≡◌, ◌∙◌, ◌++◌, inl, inr, refl, subst, ap, codes, Err}
+use Rattle.first_fault.specs.Outcomes.{refusals}
 use Rattle.maid_model.specs.Reports.{line}
 use Rattle.rule_solver.specs.Faults.{Tells}
 use Rattle.rule_solver.specs.declared.faults.SolveFault.TheVariants as faults
-use Rattle.maid_app.specs.Reading.{RefusesAs}
-use Rattle.maid_app.specs.Solve.{Solves, AtNode}
+use Rattle.maid_app.specs.Outcome.{refused}
+use Rattle.maid_app.specs.Solve.{solving}
+use Rattle.maid_app.specs.Stages.{AtNode, AtUtilities}
+use Rattle.maid_app.specs.Tasks.{comes_of}
 use Rattle.maid_app.specs.declared.status.Status.TheVariants.{WeightBound}
 use Rattle.maid_app.proofs.Refusals.{told_gives, if_ok_then}
+use Rattle.maid_app.proofs.Solving.{bound_found}
 use Rattle.maid_app.proofs.forms.solve.bound_refusal.Goals as goal
 
 -- the line names the node at which the weight bound is passed
@@ -14,8 +18,20 @@ returns-in-Some c name bytes is =
     let d = c.args.diagram.now in
     let names = c.args.names.now in
     let tells = subst (λ node. Tells d (faults.WeightBound node)) c.in-Some.is c.requires.tells in
-    told_gives (RefusesAs (Solves name bytes)) WeightBound c.told.result c.told-in-Some.result refl
-    (if_ok_then c.told.result (λ t. t.items ≡ line (codes "weight bound: node " ++ c.name.result.now)) (λ t. RefusesAs (Solves name bytes) WeightBound t.items)
-    (λ t e. (tt, record { d = d; names = names; is_diagram = is; order = tells.0; passed = tells.1; says = AtNode c.in-Some.v tells.2 (e ∙ ap (λ xs. line (codes "weight bound: node " ++ xs)) c.name.ensures) }))
+    told_gives (refusals (comes_of solving name bytes)) WeightBound c.told.result c.told-in-Some.result
+    (if_ok_then c.told.result (λ t. t.items ≡ line (codes "weight bound: node " ++ c.name.result.now)) (λ t. comes_of solving name bytes (Err (refused WeightBound t.items)))
+    (λ t e. bound_found name bytes d names t.items is tells.0 tells.1 (AtNode c.in-Some.v tells.2 (e ∙ ap (λ xs. line (codes "weight bound: node " ++ xs)) c.name.ensures)))
     c.told.ensures)
     c.told-in-Some.ensures
+
+-- or it tells the utilities
+pub returns-in-None : goal.returns-in-None
+returns-in-None c name bytes is =
+    let d = c.args.diagram.now in
+    let names = c.args.names.now in
+    let tells = subst (λ node. Tells d (faults.WeightBound node)) c.in-None.is c.requires.tells in
+    told_gives (refusals (comes_of solving name bytes)) WeightBound c.told-in-None.result c.told-in-None-2.result
+    (if_ok_then c.told-in-None.result (λ t. t.items ≡ line (codes "weight bound: utilities")) (λ t. comes_of solving name bytes (Err (refused WeightBound t.items)))
+    (λ t e. bound_found name bytes d names t.items is tells.0 tells.1 (AtUtilities tells.2 e))
+    c.told-in-None.ensures)
+    c.told-in-None-2.ensures

@@ -2,19 +2,18 @@ use Rattle.std.proofs.Common.{subst}
 use Rattle.first_fault.specs.Answers.{IsFaultOrNoMemory}
 use Rattle.net_parser.specs.Faults.{tree_pass, parse_fault}
 use Rattle.net_parser.specs.declared.parsing.ParseFault.TheVariants.{Unexpected, Unsupported, TooDeep}
-use Rattle.maid_app.specs.Refusal.{status_of, line_of}
 use Rattle.maid_app.proofs.Tells.{tells_grammar}
 use Rattle.maid_app.proofs.reading.Source.grammar_refusal.Goals as goal
 
 -- the line tells the first impossible token
 pub returns-in-Unexpected : goal.returns-in-Unexpected
-returns-in-Unexpected c = tells_grammar c.args.self.name.now c.args.self.bytes.now c.args.tokens.now (Unexpected c.in-Unexpected.at) (status_of c.fault.result) (line_of c.fault.result) c.requires.tokens
-    (subst (λ f. IsFaultOrNoMemory parse_fault (tree_pass c.args.self.bytes.now c.args.tokens.now) f) c.in-Unexpected.is c.requires.refuses) c.fault.ensures
+returns-in-Unexpected c = tells_grammar c.args.self.name.now c.args.self.bytes.now c.args.tokens.now (Unexpected c.in-Unexpected.at) c.fault.result c.requires.tokens
+    (subst (IsFaultOrNoMemory parse_fault (tree_pass c.args.self.bytes.now c.args.tokens.now)) c.in-Unexpected.is c.requires.refuses) c.fault.ensures
 
 pub returns-in-Unsupported : goal.returns-in-Unsupported
-returns-in-Unsupported c = tells_grammar c.args.self.name.now c.args.self.bytes.now c.args.tokens.now (Unsupported c.in-Unsupported.at) (status_of c.fault-in-Unsupported.result) (line_of c.fault-in-Unsupported.result) c.requires.tokens
-    (subst (λ f. IsFaultOrNoMemory parse_fault (tree_pass c.args.self.bytes.now c.args.tokens.now) f) c.in-Unsupported.is c.requires.refuses) c.fault-in-Unsupported.ensures
+returns-in-Unsupported c = tells_grammar c.args.self.name.now c.args.self.bytes.now c.args.tokens.now (Unsupported c.in-Unsupported.at) c.fault-in-Unsupported.result c.requires.tokens
+    (subst (IsFaultOrNoMemory parse_fault (tree_pass c.args.self.bytes.now c.args.tokens.now)) c.in-Unsupported.is c.requires.refuses) c.fault-in-Unsupported.ensures
 
 pub returns-in-TooDeep : goal.returns-in-TooDeep
-returns-in-TooDeep c = tells_grammar c.args.self.name.now c.args.self.bytes.now c.args.tokens.now (TooDeep c.in-TooDeep.at) (status_of c.fault-in-TooDeep.result) (line_of c.fault-in-TooDeep.result) c.requires.tokens
-    (subst (λ f. IsFaultOrNoMemory parse_fault (tree_pass c.args.self.bytes.now c.args.tokens.now) f) c.in-TooDeep.is c.requires.refuses) c.fault-in-TooDeep.ensures
+returns-in-TooDeep c = tells_grammar c.args.self.name.now c.args.self.bytes.now c.args.tokens.now (TooDeep c.in-TooDeep.at) c.fault-in-TooDeep.result c.requires.tokens
+    (subst (IsFaultOrNoMemory parse_fault (tree_pass c.args.self.bytes.now c.args.tokens.now)) c.in-TooDeep.is c.requires.refuses) c.fault-in-TooDeep.ensures
