@@ -4,6 +4,7 @@ use Rattle.std.specs.Io.KnownBytes.{Appends}
 use Rattle.maid_io.specs.Count.{Rose}
 use Rattle.maid_io.specs.Device.{File, file_of}
 use Rattle.maid_io.specs.Whole.{AppendsPart}
+use Rattle.maid_app.specs.declared.running.TheConstants.{LIMIT}
 use Rattle.maid_app.specs.Answers.{Answers}
 use Rattle.maid_app.specs.Lines.{usage_line, absent_line, read_fault_line, too_long_line, write_fault_line, no_memory_line}
 use Rattle.maid_app.specs.Outcome.{refused}
@@ -13,7 +14,7 @@ use Rattle.maid_app.specs.declared.status.Status.TheVariants.{Done, Usage, Absen
 
 -- the most bytes of a diagram's text
 abbrev pub limit : ℕ
-limit = 4194304
+limit = LIMIT
 
 -- These bytes were read of the file and keep the limit. The shelf counted them, and where its list
 -- is told they are the file's.

@@ -25,7 +25,7 @@ use maid_io::{Opened, ReadAllFault, Shelf, Sink, read_all, write_all};
 use std::alloc::Global;
 
 // The most bytes of a diagram's text.
-const LIMIT: usize = 4_194_304;
+pub const LIMIT: usize = 4_194_304;
 
 // The refusal that tells the line of these two pieces. The line takes memory, which may run out.
 fn told(alloc: Global, status: Status, head: &[u8], name: &str) -> Refusal

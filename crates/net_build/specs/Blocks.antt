@@ -2,6 +2,7 @@
 use Rattle.std.specs.Prelude.{◌*◌, ℕ, Bool, true, false, not, ◌&&◌, ◌||◌, List, [], ◌∷◌, Option, map, filter, find, length, drop, nat_le, bytes_eq, codes, slice_index_or, if◌then◌else◌}
 use Rattle.std.specs.List.{list_all, position_or_len}
 use Rattle.std.specs.Option.{option_map_or}
+use Rattle.maid_model.specs.declared.limits.TheConstants.{MOST_NAME_BYTES}
 use Rattle.maid_model.specs.declared.diagrams.Kind.{Kind}
 use Rattle.maid_model.specs.declared.diagrams.Kind.TheVariants as model
 use Rattle.maid_model.specs.Nodes.{rows_under}
@@ -121,7 +122,7 @@ is_string_list (list (more value values)) = is_string value && are_strings value
 
 -- a label or an agent: at most 255 bytes, none below 32
 abbrev pub is_plain : List ℕ → Bool
-is_plain bytes = nat_le (length bytes) 255 && list_all (λ b. nat_le 32 b) bytes
+is_plain bytes = nat_le (length bytes) MOST_NAME_BYTES && list_all (λ b. nat_le 32 b) bytes
 
 -- a string that is an agent
 abbrev pub is_agent : List ℕ → ValueTree → Bool

@@ -1,5 +1,6 @@
 -- The form that names have in a text.
 use Rattle.std.specs.Prelude.{◌≡◌, ◌≢◌, ◌≤◌, ℕ, true, not, List, [], map, filter, length, All, AllPairs}
+use Rattle.maid_model.specs.declared.limits.TheConstants.{MOST_NAME_BYTES}
 use Rattle.maid_model.specs.declared.diagrams.Kind.TheVariants.{Utility}
 use Rattle.maid_model.specs.Names.{NamesView, labels_of, agent_name}
 use Rattle.maid_model.specs.Nodes.{node_at, is_chance}
@@ -10,7 +11,7 @@ use Rattle.net_build.specs.Blocks.{is_plain, first_sights}
 -- a node's name: a word without a sign, of at most 255 bytes
 pub record IsNodeName (name : List ℕ) : Type 0 where
   pub unsigned : is_name name ≡ true
-  pub size : length name ≤ 255
+  pub size : length name ≤ MOST_NAME_BYTES
 
 -- The node names differ and are such words, labels and agents are plain, a utility has no label, and the agents are those of the decisions and utilities in order of first sight.
 pub record HasTextForm (d : DiagramView) (names : NamesView) : Type 0 where

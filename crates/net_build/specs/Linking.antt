@@ -3,6 +3,7 @@ use Rattle.std.specs.Prelude.{◌≡◌, ◌≢◌, ◌<◌, ◌≤◌, ◌+◌,
 use Rattle.std.specs.List.{range_with_len}
 use Rattle.std.specs.Borrow.{Bor}
 use Rattle.std.specs.Option.{IsSome, option_map, option_map_or}
+use Rattle.maid_model.specs.declared.limits.TheConstants.{COUNT_END, MOST_CELLS, MOST_PARENTS, MOST_RULE_CELLS}
 use Rattle.diagram_graph.specs.Cycles.{ListedArc, IsParentCycle}
 use Rattle.maid_model.specs.declared.diagrams.Kind.{Kind}
 use Rattle.maid_model.specs.declared.diagrams.Kind.TheVariants.{Chance, Utility}
@@ -56,7 +57,7 @@ taken_row potentials v head = rule (IsSome (slice_index_or potentials v None)) (
 
 -- there are too many names behind the bar
 abbrev pub many_row : Token → List Token → Pass Found
-many_row head conditions = rule (16 < length conditions) (found head.start (LimitPassed Parents (length conditions)))
+many_row head conditions = rule (MOST_PARENTS < length conditions) (found head.start (LimitPassed Parents (length conditions)))
 
 -- a potential's head and the names behind its bar, where those nodes have potentials
 abbrev pub potential_steps : List ℕ → List (List ℕ) → List Head → List (Option BlockTree) → Token → List Token → Pass Found
@@ -87,7 +88,7 @@ pub record AreParents (heads : List Head) (parents : List ℕ) : Type 0 where
   pub known : All (λ u. u < length heads) parents
   pub differ : AllDifferent parents
   pub no_utility : All (λ u. (head_at heads u).kind ≢ Utility) parents
-  pub few : length parents ≤ 16
+  pub few : length parents ≤ MOST_PARENTS
 
 -- the node has no potential
 abbrev pub absent_row : Head → List (Option BlockTree) → ℕ → Pass Found
@@ -116,11 +117,11 @@ cells_over heads parents v = rows_over heads parents * (head_at heads v).states
 
 -- they are too many; the count is named up to 10^18
 abbrev pub cells_row : List Head → List ℕ → ℕ → Pass Found
-cells_row heads parents v = rule (65536 < cells_over heads parents v) (found (head_at heads v).at (LimitPassed Cells (min (cells_over heads parents v) (10 ^ 18))))
+cells_row heads parents v = rule (MOST_CELLS < cells_over heads parents v) (found (head_at heads v).at (LimitPassed Cells (min (cells_over heads parents v) COUNT_END)))
 
 -- the rules' cells up to a node are too many
 abbrev pub rules_row : Head → ℕ → Pass Found
-rules_row head rules = rule (262144 < rules) (found head.at (LimitPassed Rules rules))
+rules_row head rules = rule (MOST_RULE_CELLS < rules) (found head.at (LimitPassed Rules rules))
 
 -- a node over these parents, behind rules of so many cells
 abbrev pub size_rows_over : List Head → List ℕ → ℕ → ℕ → Pass Found

@@ -1,6 +1,7 @@
 -- What the steps of building hand to one another, as plain lists. No public contract needs it.
 use Rattle.std.specs.Prelude.{◌≡◌, ◌≢◌, ◌<◌, ◌≤◌, ◌*◌, ℕ, ℤ, Bool, false, List, [], ◌∷◌, ◌++◌, bytes_eq, if◌then◌else◌, map, length, filter, flat_map, sum, All, Option, nat_abs, slice_index_or}
 use Rattle.std.specs.List.{range_with_len, list_all, list_any}
+use Rattle.maid_model.specs.declared.limits.TheConstants.{MOST_CELLS, MOST_PARENTS, MOST_RULE_CELLS}
 use Rattle.diagram_graph.specs.Cycles.{ListedArc}
 use Rattle.maid_model.specs.declared.diagrams.Kind.{Kind}
 use Rattle.maid_model.specs.declared.diagrams.Kind.TheVariants.{Chance, Decision, Utility}
@@ -83,9 +84,9 @@ pub record AreLinks (heads : List Head) (parents : List (List ℕ)) : Type 0 whe
   pub differ : (v : ℕ) → AllDifferent (slice_index_or parents v [])
   pub no_utility : (u v : ℕ) → ListedArc parents u v → (head_at heads u).kind ≢ Utility
   pub acyclic : IsAcyclic (ListedArc parents)
-  pub few : (v : ℕ) → length (slice_index_or parents v []) ≤ 16
-  pub cells : (v : ℕ) → v < length heads → cells_at heads parents v ≤ 65536
-  pub rules : sum (map (cells_at heads parents) (filter (λ v. is_decision (head_at heads v).kind) (range_with_len 0 (length heads)))) ≤ 262144
+  pub few : (v : ℕ) → length (slice_index_or parents v []) ≤ MOST_PARENTS
+  pub cells : (v : ℕ) → v < length heads → cells_at heads parents v ≤ MOST_CELLS
+  pub rules : sum (map (cells_at heads parents) (filter (λ v. is_decision (head_at heads v).kind) (range_with_len 0 (length heads)))) ≤ MOST_RULE_CELLS
 
 -- what the tables hold: the cells of each node, and by how many decimals utilities are scaled
 pub record TableLists : Type 0 where

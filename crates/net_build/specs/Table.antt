@@ -1,6 +1,8 @@
 -- The table of passes, row by row. A text's first fault is the first that applies, by pass, then by item, then by row.
 use Rattle.std.specs.Prelude.{◌≡◌, ◌≢◌, ◌<◌, ◌≤◌, ◌*◌, ◌^◌, min, ℕ, pos, ◌<ℤ◌, nat_abs, false, List, [], ◌∷◌, ◌++◌, Option, None, Some, map, filter, length, sum, flat_map, All, Contains, slice_index, slice_index_or, codes}
 use Rattle.std.specs.List.{range_with_len}
+use Rattle.node_sets.specs.declared.sets.TheConstants.{MOST_NODES}
+use Rattle.maid_model.specs.declared.limits.TheConstants.{COUNT_END, MOST_AGENTS, MOST_CELLS, MOST_NAME_BYTES, MOST_PARENTS, MOST_RULE_CELLS, MOST_STATES}
 use Rattle.diagram_graph.specs.Cycles.{ListedArc, IsParentCycle}
 use Rattle.maid_model.specs.declared.diagrams.Kind.{Kind}
 use Rattle.maid_model.specs.declared.diagrams.Kind.TheVariants as model
@@ -37,7 +39,7 @@ label_row text label = rule (is_plain (text_value text label) ≡ false) (found 
 unfoldable pub label_rows : List ℕ → AttributeTree → Pass Found
 label_rows text states =
     rule (is_string_list states.value ≡ false) (found states.name.start BadStates)
-    ▸ rule (256 < length (leaves states.value)) (found states.name.start (LimitPassed States (length (leaves states.value))))
+    ▸ rule (MOST_STATES < length (leaves states.value)) (found states.name.start (LimitPassed States (length (leaves states.value))))
     ▸ each (label_row text) (leaves states.value)
 
 -- the states of a chance node or a decision, given its attributes of that name
@@ -50,22 +52,22 @@ unfoldable pub agent_rows : List ℕ → List AttributeTree → Pass Found
 agent_rows text [] = clear
 agent_rows text (agent ∷ more) = rule (is_agent text agent.value ≡ false) (found agent.name.start BadAgent)
 
--- the agent is none of these, of which there are 16
+-- the agent is none of these, of which there are as many as may be
 abbrev pub IsAgentTooMany : List (List ℕ) → List ℕ → Type 0
-IsAgentTooMany agents agent = (16 ≤ length agents) × (Contains agents agent → ⊥)
+IsAgentTooMany agents agent = (MOST_AGENTS ≤ length agents) × (Contains agents agent → ⊥)
 
 -- the name of a node block behind those with these names
 unfoldable pub name_rows : List ℕ → List (List ℕ) → BlockTree → Pass Found
 name_rows text names block =
-    rule (256 ≤ length names) (found (title_at block) (LimitPassed Nodes 257))
-    ▸ rule (255 < length (block_name text block)) (found (title_at block) (LimitPassed NameBytes (length (block_name text block))))
+    rule (MOST_NODES ≤ length names) (found (title_at block) (LimitPassed Nodes (MOST_NODES + 1)))
+    ▸ rule (MOST_NAME_BYTES < length (block_name text block)) (found (title_at block) (LimitPassed NameBytes (length (block_name text block))))
     ▸ rule (Contains names (block_name text block)) (found (title_at block) DoubleName)
 
 -- the agent of a decision or a utility behind those of these agents
 unfoldable pub owner_rows : List ℕ → List (List ℕ) → BlockTree → Pass Found
 owner_rows text agents block =
     agent_rows text (named text (codes "agent") block.attributes)
-    ▸ rule (IsAgentTooMany agents (agent_of text block)) (found (title_at block) (LimitPassed Agents 17))
+    ▸ rule (IsAgentTooMany agents (agent_of text block)) (found (title_at block) (LimitPassed Agents (MOST_AGENTS + 1)))
 
 -- a node block behind those with these names and agents
 unfoldable pub node_rows : List ℕ → List (List ℕ) → List (List ℕ) → BlockTree → Pass Found
@@ -96,7 +98,7 @@ potential_rows text nodes earlier potential =
     rule (Contains (names_of text nodes) (block_name text potential) → ⊥) (found (title_at potential) UnknownName)
     ▸ rule (Contains (names_of text earlier) (block_name text potential)) (found (title_at potential) DoublePotential)
     ▸ each_after (condition_rows text nodes) [] (conditions potential)
-    ▸ rule (16 < length (conditions potential)) (found (title_at potential) (LimitPassed Parents (length (conditions potential))))
+    ▸ rule (MOST_PARENTS < length (conditions potential)) (found (title_at potential) (LimitPassed Parents (length (conditions potential))))
 
 -- potentials in text order
 unfoldable pub potential_pass : List ℕ → List BlockTree → Pass Found
@@ -129,8 +131,8 @@ rule_cells text blocks nodes = sum (map (cell_count text blocks) (filter (λ b. 
 -- a node behind those earlier; the count of cells is named up to 10^18
 unfoldable pub size_rows : List ℕ → List BlockTree → List BlockTree → BlockTree → Pass Found
 size_rows text blocks earlier block =
-    rule (65536 < cell_count text blocks block) (found (title_at block) (LimitPassed Cells (min (cell_count text blocks block) (10 ^ 18))))
-    ▸ only (is_decision (kind_of block.kind)) (rule (262144 < rule_cells text blocks (earlier ++ block ∷ [])) (found (title_at block) (LimitPassed Rules (rule_cells text blocks (earlier ++ block ∷ [])))))
+    rule (MOST_CELLS < cell_count text blocks block) (found (title_at block) (LimitPassed Cells (min (cell_count text blocks block) COUNT_END)))
+    ▸ only (is_decision (kind_of block.kind)) (rule (MOST_RULE_CELLS < rule_cells text blocks (earlier ++ block ∷ [])) (found (title_at block) (LimitPassed Rules (rule_cells text blocks (earlier ++ block ∷ [])))))
 
 -- all nodes in text order
 unfoldable pub size_pass : List ℕ → List BlockTree → Pass Found

@@ -2,6 +2,7 @@
 
 ghost use Rattle.std.specs.Prelude.{◌≡◌, ◌≢◌, ◌<◌, ◌≤◌, ◌*◌, map, true, IfOk, IfSome, IsSome};
 ghost use Rattle.std.specs.Option.{option_map};
+ghost use Rattle.maid_model.specs.declared.limits.TheConstants.{MOST_CELLS};
 ghost use Rattle.maid_model.specs.declared.diagrams.Kind.TheVariants.{Decision};
 ghost use Rattle.net_build.specs.Blocks.{is_potential, data_of, leaves_of};
 ghost use Rattle.first_fault.specs.Answers.{Passes};
@@ -40,7 +41,7 @@ fn read_data(
     requires own { IsAttributeOf text.now table.now }
     requires kind { head.now.kind ≢ Decision }
     requires states { 0 < head.now.states }
-    requires small { rows * head.now.states ≤ 65536 }
+    requires small { rows * head.now.states ≤ MOST_CELLS }
     ensures rows { Passes build_fault (data_part text.now head.now.kind rows head.now.states table.now) result }
     ensures draft { IfOk result (IsDraftOf head.now.kind rows head.now.states (map (token_bytes text.now) (leaves table.now.value))) }
 {
@@ -66,7 +67,7 @@ fn read_table(
     requires potential { is_potential potential.now.kind ≡ true }
     requires kind { head.now.kind ≢ Decision }
     requires states { 0 < head.now.states }
-    requires small { rows * head.now.states ≤ 65536 }
+    requires small { rows * head.now.states ≤ MOST_CELLS }
     ensures rows { Passes build_fault (table_part text.now head.now.kind rows head.now.states potential.now) result }
     ensures draft { IfOk result (IsDraftOf head.now.kind rows head.now.states (map (token_bytes text.now) (leaves_of (data_of text.now potential.now)))) }
 {
@@ -88,7 +89,7 @@ pub fn read_draft(
     requires own { IfSome potential (λ p. IsBlockOf text.now p.now × (is_potential p.now.kind ≡ true)) }
     requires there { head.now.kind ≢ Decision → IsSome potential }
     requires states { 0 < head.now.states }
-    requires small { rows * head.now.states ≤ 65536 }
+    requires small { rows * head.now.states ≤ MOST_CELLS }
     ensures rows { Passes build_fault (node_part text.now head.now.kind rows head.now.states (option_map (λ p. p.now) potential.entry)) result }
     ensures draft { IfOk result (IsDraftOf head.now.kind rows head.now.states (numerals_in text.now (option_map (λ p. p.now) potential.entry))) }
 {

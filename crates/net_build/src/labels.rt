@@ -15,6 +15,7 @@ ghost use Rattle.net_parser.specs.Views.{value_tree};
 
 use crate::attributes::first_named;
 use crate::faults::{BuildFault, BuildKind, Limit};
+use maid_model::{MOST_NAME_BYTES, MOST_STATES};
 use net_lexer::{Token, TokenKind, text_value};
 use net_parser::{Attribute, Block, Value};
 use std::alloc::Global;
@@ -37,7 +38,7 @@ fn are_printable(bytes: &[u8]) -> bool
 pub fn is_plain(bytes: &[u8]) -> bool
     ensures { result ≡ is_plain bytes.now }
 {
-    bytes.len() <= 255 && are_printable(bytes)
+    bytes.len() <= MOST_NAME_BYTES && are_printable(bytes)
 }
 
 fn is_string(value: &Value) -> bool
@@ -122,7 +123,7 @@ fn state_labels(alloc: Global, text: &[u8], states: &Attribute) -> Result<Vec<Ve
     let Some(values) = strings(&states.value) else {
         return Err(BuildKind::BadStates.at(at));
     };
-    if values.len() > 256 {
+    if values.len() > MOST_STATES {
         let passed = BuildKind::LimitPassed {
             which: Limit::States,
             got: values.len() as u128,

@@ -15,7 +15,7 @@ use crate::faults::{BuildFault, BuildKind, Limit};
 use crate::labels::{read_labels, title};
 use crate::node_names::NodeNames;
 use crate::owners::read_owner;
-use maid_model::Kind;
+use maid_model::{Kind, MOST_NAME_BYTES, MOST_NODES};
 use net_parser::{Block, BlockKind, Syntax};
 use std::alloc::Global;
 use std::marker::Model;
@@ -89,15 +89,15 @@ fn read_name<'a>(text: &'a [u8], block: &Block, names: &NodeNames) -> Result<&'a
     ensures name { IfOk result (λ name. name.now ≡ block_name text.now block.now) }
 {
     let title = title(block);
-    if names.len() >= 256 {
+    if names.len() >= MOST_NODES {
         let passed = BuildKind::LimitPassed {
             which: Limit::Nodes,
-            got: 257,
+            got: MOST_NODES as u128 + 1,
         };
         return Err(passed.at(title.start));
     }
     let name = title.bytes(text);
-    if name.len() > 255 {
+    if name.len() > MOST_NAME_BYTES {
         let passed = BuildKind::LimitPassed {
             which: Limit::NameBytes,
             got: name.len() as u128,

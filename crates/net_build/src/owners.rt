@@ -1,6 +1,7 @@
 //! The agents of decisions and utilities, numbered in order of first sight.
 
 ghost use Rattle.std.specs.Prelude.{◌≡◌, ◌<◌, length, false, IfOk, OnOk, MatchOption, IfSome, codes, if◌then◌else◌};
+ghost use Rattle.maid_model.specs.declared.limits.TheConstants.{MOST_AGENTS};
 ghost use Rattle.net_build.specs.declared.faults.Limit.TheVariants.{Agents};
 ghost use Rattle.net_build.specs.Blocks.{title_at, is_plain, is_agent, is_string, has_agent, named, first_text, agent_of, place_among};
 ghost use Rattle.maid_model.specs.Names.{list_of};
@@ -18,6 +19,7 @@ use crate::attributes::first_named;
 use crate::faults::{BuildFault, BuildKind, Limit};
 use crate::labels::{is_plain, title};
 use crate::places::place_of;
+use maid_model::MOST_AGENTS;
 use net_lexer::{Token, TokenKind, text_value};
 use net_parser::{Attribute, Block, BlockKind, Value};
 use std::alloc::Global;
@@ -70,7 +72,7 @@ fn read_agent(alloc: Global, text: &[u8], block: &Block) -> Result<Vec<u8>, Buil
 
 // The number of an agent, which is added where it is new.
 fn number_agent(agents: &mut Vec<Vec<u8>>, agent: Vec<u8>, at: usize) -> Result<usize, BuildFault>
-    ensures rows { Passes build_fault (rule (IsAgentTooMany (list_of agents.old.items) agent.items) (found at (LimitPassed Agents 17))) result }
+    ensures rows { Passes build_fault (rule (IsAgentTooMany (list_of agents.old.items) agent.items) (found at (LimitPassed Agents (MOST_AGENTS + 1)))) result }
     ensures agents { OnOk result (list_of agents.new.items ≡ with_sight (list_of agents.old.items) agent.items) }
     ensures place { IfOk result (λ place. place ≡ place_among (list_of agents.new.items) agent.items) }
 {
@@ -78,10 +80,10 @@ fn number_agent(agents: &mut Vec<Vec<u8>>, agent: Vec<u8>, at: usize) -> Result<
         return Ok(place);
     }
     let place = agents.len();
-    if place >= 16 {
+    if place >= MOST_AGENTS {
         let passed = BuildKind::LimitPassed {
             which: Limit::Agents,
-            got: 17,
+            got: MOST_AGENTS as u128 + 1,
         };
         return Err(passed.at(at));
     }

@@ -15,7 +15,7 @@ use crate::faults::{BuildFault, BuildKind, Limit};
 use crate::links::Links;
 use crate::node_names::NodeNames;
 use crate::nodes::Head;
-use maid_model::Kind;
+use maid_model::{Kind, MOST_PARENTS};
 use net_lexer::Token;
 use net_parser::{Block, BlockKind, Syntax};
 use std::alloc::{AllocError, Global};
@@ -36,7 +36,7 @@ fn check_count(head: &Token, conditions: &[Token]) -> Result<(), BuildFault>
     ensures row { Passes build_fault (many_row head.now conditions.now) result }
 {
     let count = conditions.len();
-    if count > 16 {
+    if count > MOST_PARENTS {
         return Err(BuildKind::LimitPassed {
             which: Limit::Parents,
             got: count as u128,

@@ -15,13 +15,11 @@ ghost use Rattle.weight_scale.specs.Numeral.{signed};
 
 use crate::faults::{BuildFault, BuildKind};
 use crate::numbers::decimals;
+use maid_model::GREATEST_NUMBER;
 use net_lexer::Token;
 use std::alloc::{AllocError, Global};
 use weight_scale::Decimal;
 use whole_num::mul_within;
-
-// The greatest size of a utility value to scale.
-const GREATEST: u128 = (1 << 126) - 1;
 
 /// The most decimals that one of the numbers has.
 pub fn most_decimals(decimals: &[Decimal]) -> u32
@@ -52,7 +50,7 @@ fn scaled(number: Decimal, scale: u32) -> Option<i128>
     ensures { SomeIff result (Fits scale number) (value_at_scale scale number) }
 {
     let tens = 10u128.pow(scale - number.k);
-    let size = mul_within(number.m.unsigned_abs(), tens, GREATEST)?;
+    let size = mul_within(number.m.unsigned_abs(), tens, GREATEST_NUMBER)?;
     Some(signed(number.m < 0, size))
 }
 

@@ -1,6 +1,7 @@
 //! How many cells tables and rules have.
 
 ghost use Rattle.std.specs.Prelude.{◌≡◌, ◌<◌, ◌≤◌, ◌+◌, ◌*◌, ◌^◌, min, ℕ, length, map, cond, All, IfOk, OnOk};
+ghost use Rattle.maid_model.specs.declared.limits.TheConstants.{COUNT_END, MOST_CELLS, MOST_RULE_CELLS};
 ghost use Rattle.maid_model.specs.Nodes.{is_decision};
 ghost use Rattle.net_build.specs.Linking.{rows_over, cells_over, cells_row, rules_row, size_rows_over, size_steps, rules_before};
 ghost use Rattle.net_build.specs.Lists.{numbers_of_lists};
@@ -10,23 +11,20 @@ ghost use Rattle.net_build.specs.Stages.{head_at, cells_at};
 
 use crate::faults::{BuildFault, BuildKind, Limit};
 use crate::nodes::Head;
-use maid_model::Kind;
-
-/// Cells are counted up to here.
-const MOST_COUNTED: u128 = 1_000_000_000_000_000_000;
+use maid_model::{COUNT_END, Kind, MOST_CELLS, MOST_RULE_CELLS};
 
 // So many times as many, counted up to 10^18.
 fn times(count: u128, states: usize) -> u128
-    requires { count ≤ 10 ^ 18 }
-    ensures { result ≡ min (count * states) (10 ^ 18) }
+    requires { count ≤ COUNT_END }
+    ensures { result ≡ min (count * states) COUNT_END }
 {
-    (count * states as u128).min(MOST_COUNTED)
+    (count * states as u128).min(COUNT_END)
 }
 
 // How many rows a table over these parents has, counted up to 10^18.
 fn count_rows(heads: &[Head], parents: &[usize]) -> u128
     requires { All (λ u. u < length heads.now) parents.now }
-    ensures { result ≡ min (rows_over heads.now parents.now) (10 ^ 18) }
+    ensures { result ≡ min (rows_over heads.now parents.now) COUNT_END }
 {
     let mut rows = 1;
     for parent in parents {
@@ -41,10 +39,10 @@ fn check_cells(heads: &[Head], parents: &[usize], node: usize) -> Result<u128, B
     requires parents { All (λ u. u < length heads.now) parents.now }
     ensures row { Passes build_fault (cells_row heads.now parents.now node) result }
     ensures cells { IfOk result (λ cells. cells ≡ cells_over heads.now parents.now node) }
-    ensures few { IfOk result (λ cells. cells ≤ 65536) }
+    ensures few { IfOk result (λ cells. cells ≤ MOST_CELLS) }
 {
     let cells = times(count_rows(heads, parents), heads[node].states);
-    if cells > 65_536 {
+    if cells > MOST_CELLS as u128 {
         return Err(BuildKind::LimitPassed {
             which: Limit::Cells,
             got: cells,
@@ -58,7 +56,7 @@ fn check_cells(heads: &[Head], parents: &[usize], node: usize) -> Result<u128, B
 fn check_rules(head: &Head, rules: u128) -> Result<(), BuildFault>
     ensures { Passes build_fault (rules_row head.now rules) result }
 {
-    if rules > 262_144 {
+    if rules > MOST_RULE_CELLS as u128 {
         return Err(BuildKind::LimitPassed {
             which: Limit::Rules,
             got: rules,
@@ -77,11 +75,11 @@ fn check_size(
 ) -> Result<u128, BuildFault>
     requires within { node < length heads.now }
     requires parents { All (λ u. u < length heads.now) parents.now }
-    requires rules { rules ≤ 262144 }
+    requires rules { rules ≤ MOST_RULE_CELLS }
     ensures rows { Passes build_fault (size_rows_over heads.now parents.now node rules) result }
     ensures sum { IfOk result (λ sum. sum ≡ rules + cond (is_decision (head_at heads.now node).kind) (cells_over heads.now parents.now node) 0) }
-    ensures few { IfOk result (λ sum. sum ≤ 262144) }
-    ensures cells { OnOk result (cells_over heads.now parents.now node ≤ 65536) }
+    ensures few { IfOk result (λ sum. sum ≤ MOST_RULE_CELLS) }
+    ensures cells { OnOk result (cells_over heads.now parents.now node ≤ MOST_CELLS) }
 {
     let cells = check_cells(heads, parents, node)?;
     match heads[node].kind {
@@ -98,8 +96,8 @@ pub fn check_sizes(heads: &[Head], parents: &[Vec<usize>]) -> Result<(), BuildFa
     requires len { length parents.now ≡ length heads.now }
     requires parents { All (All (λ u. u < length heads.now)) (numbers_of_lists parents.now) }
     ensures rows { Passes build_fault (size_steps heads.now (numbers_of_lists parents.now)) result }
-    ensures cells { OnOk result ((v : ℕ) → v < length heads.now → cells_at heads.now (numbers_of_lists parents.now) v ≤ 65536) }
-    ensures rules { OnOk result (rules_before heads.now (numbers_of_lists parents.now) (length heads.now) ≤ 262144) }
+    ensures cells { OnOk result ((v : ℕ) → v < length heads.now → cells_at heads.now (numbers_of_lists parents.now) v ≤ MOST_CELLS) }
+    ensures rules { OnOk result (rules_before heads.now (numbers_of_lists parents.now) (length heads.now) ≤ MOST_RULE_CELLS) }
 {
     let mut rules = 0;
     for node in 0..heads.len() {

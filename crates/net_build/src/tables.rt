@@ -1,6 +1,7 @@
 //! The tables of a text: the cells of each node, and the scale of the utilities.
 
 ghost use Rattle.std.specs.Prelude.{◌≡◌, ◌↔◌, IsTrue, ◌<◌, ◌≤◌, All, Contains, map, length, true, None, IfOk};
+ghost use Rattle.maid_model.specs.declared.limits.TheConstants.{MOST_CELLS};
 ghost use Rattle.maid_model.specs.Nodes.{rows_under};
 ghost use Rattle.net_build.specs.Blocks.{node_blocks};
 ghost use Rattle.net_build.specs.Building.{AreTables};
@@ -43,7 +44,7 @@ impl Model for Tables {
 fn row_count(heads: &[Head], parents: &[usize]) -> usize
     requires known { All (λ u. u < length heads.now) parents.now }
     requires states { All (λ h. 0 < h.states) heads.now }
-    requires small { rows_under (λ u. (head_at heads.now u).states) parents.now ≤ 65536 }
+    requires small { rows_under (λ u. (head_at heads.now u).states) parents.now ≤ MOST_CELLS }
     ensures { result ≡ rows_under (λ u. (head_at heads.now u).states) parents.now }
 {
     let mut rows = 1;

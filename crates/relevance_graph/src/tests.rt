@@ -4,6 +4,7 @@ ghost use Rattle.std.specs.Prelude.{◌≡◌, IfOk};
 ghost use Rattle.relevance_graph.specs.Example.{pair_diagram, seen_if as seen_in};
 
 use crate::find_relevance;
+use diagram_graph::topological;
 use maid_model::{Diagram, Kind, Node, literals_are_tested};
 use smallvec::SmallVec;
 use std::alloc::{AllocError, Global};
@@ -55,6 +56,10 @@ fn choices_rely_on_what_they_do_not_see(rt: HostRuntime) -> Result<(), Fail> {
     assert!(rt; !blind.relies(0, 2));
     assert_eq!(rt; blind.order().err().ok_or("an order")?, [0, 1].as_slice());
     let diagram = pair(alloc, true)?;
+    assert_eq!(rt;
+        topological(alloc, &diagram)?.as_slice(),
+        [0, 1, 2].as_slice()
+    );
     let sighted = find_relevance(alloc, &diagram)?;
     assert!(rt; sighted.relies(0, 1));
     assert!(rt; !sighted.relies(1, 0));
