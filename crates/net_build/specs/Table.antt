@@ -1,5 +1,5 @@
 -- The table of passes, row by row. A text's first fault is the first that applies, by pass, then by item, then by row.
-use Rattle.std.specs.Prelude.{◌≡◌, ◌≢◌, ◌<◌, ◌≤◌, ◌*◌, ◌^◌, min, ℕ, pos, ◌<ℤ◌, nat_abs, false, List, [], ◌∷◌, ◌++◌, Option, None, Some, map, filter, length, sum, flat_map, All, Contains, slice_index, slice_index_or, codes}
+use Rattle.std.specs.Prelude.{◌+◌, ◌≡◌, ◌≢◌, ◌<◌, ◌≤◌, ◌*◌, ◌^◌, min, ℕ, pos, ◌<ℤ◌, nat_abs, false, List, [], ◌∷◌, ◌++◌, Option, None, Some, map, filter, length, sum, flat_map, All, Contains, slice_index, slice_index_or, codes}
 use Rattle.std.specs.List.{range_with_len}
 use Rattle.node_sets.specs.declared.sets.TheConstants.{MOST_NODES}
 use Rattle.maid_model.specs.declared.limits.TheConstants.{COUNT_END, MOST_AGENTS, MOST_CELLS, MOST_NAME_BYTES, MOST_PARENTS, MOST_RULE_CELLS, MOST_STATES}

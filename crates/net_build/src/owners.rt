@@ -1,6 +1,6 @@
 //! The agents of decisions and utilities, numbered in order of first sight.
 
-ghost use Rattle.std.specs.Prelude.{◌≡◌, ◌<◌, length, false, IfOk, OnOk, MatchOption, IfSome, codes, if◌then◌else◌};
+ghost use Rattle.std.specs.Prelude.{◌≡◌, ◌+◌, ◌<◌, length, false, IfOk, OnOk, MatchOption, IfSome, codes, if◌then◌else◌};
 ghost use Rattle.maid_model.specs.declared.limits.TheConstants.{MOST_AGENTS};
 ghost use Rattle.net_build.specs.declared.faults.Limit.TheVariants.{Agents};
 ghost use Rattle.net_build.specs.Blocks.{title_at, is_plain, is_agent, is_string, has_agent, named, first_text, agent_of, place_among};

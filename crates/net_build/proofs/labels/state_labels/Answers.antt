@@ -14,12 +14,12 @@ returns-in_default-clause-rows c = bad_states c.args.text.now c.args.states.now 
     (ap (λ (a : AttributeTree). is_string_list a.value) (sym c.states.view_is) ∙ c.in_default.ensures.list)
     (c.at.ensures ∙ ap (λ (a : AttributeTree). Fault a.name.start kinds.BadStates) c.states.view_is)
 
-pub returns-then-values-gt256-clause-rows : goal.returns-then-values-gt256-clause-rows
-returns-then-values-gt256-clause-rows c = many_states c.args.text.now c.args.states.now _ (length c.in-Some.values.now)
+pub returns-then-values-gt-MOST_STATES-clause-rows : goal.returns-then-values-gt-MOST_STATES-clause-rows
+returns-then-values-gt-MOST_STATES-clause-rows c = many_states c.args.text.now c.args.states.now _ (length c.in-Some.values.now)
     (ap (λ (a : AttributeTree). is_string_list a.value) (sym c.states.view_is) ∙ c.in-Some.ensures.list)
     (sym (ap (λ (a : AttributeTree). length (leaves a.value)) (sym c.states.view_is) ∙ ap length c.in-Some.ensures.leaves ∙ count_leaves c.in-Some.values.now c.in-Some.ensures.strings))
-    c.if-values-gt256.true
-    (c.at-then-values-gt256.ensures ∙ ap (λ (a : AttributeTree). Fault a.name.start (kinds.LimitPassed limits.States (length c.in-Some.values.now))) c.states.view_is)
+    c.if-values-gt-MOST_STATES.true
+    (c.at-then-values-gt-MOST_STATES.ensures ∙ ap (λ (a : AttributeTree). Fault a.name.start (kinds.LimitPassed limits.States (length c.in-Some.values.now))) c.states.view_is)
 
 pub labels-requires-clause-own : goal.labels-requires-clause-own
 labels-requires-clause-own c = rw (ap (λ (a : AttributeTree). leaves a.value) (sym c.states.view_is) ∙ c.in-Some.ensures.leaves) at c.requires.value
@@ -29,5 +29,5 @@ returns-clause-rows c =
     let all = ap (λ (a : AttributeTree). leaves a.value) (sym c.states.view_is) ∙ c.in-Some.ensures.leaves in
     few_states c.args.text.now c.args.states.now _
     (ap (λ (a : AttributeTree). is_string_list a.value) (sym c.states.view_is) ∙ c.in-Some.ensures.list)
-    (rw (all, count_leaves c.in-Some.values.now c.in-Some.ensures.strings) c.if-values-gt256.false)
+    (rw (all, count_leaves c.in-Some.values.now c.in-Some.ensures.strings) c.if-values-gt-MOST_STATES.false)
     (rw all c.labels.ensures.rows)

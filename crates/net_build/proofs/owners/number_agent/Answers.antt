@@ -6,8 +6,8 @@ use Rattle.net_build.proofs.owners.number_agent.Goals as goal
 pub returns-in-Some-clause-agents : goal.returns-in-Some-clause-agents
 returns-in-Some-clause-agents c = let seen = rw (c.deref.ensures.value, c.deref-2.ensures.value) at c.in-Some.ensures in sight_old _ _ seen.0
 
-pub returns-then-place-ge16-clause-rows : goal.returns-then-place-ge16-clause-rows
-returns-then-place-ge16-clause-rows c =
+pub returns-then-place-ge-MOST_AGENTS-clause-rows : goal.returns-then-place-ge-MOST_AGENTS-clause-rows
+returns-then-place-ge-MOST_AGENTS-clause-rows c =
     let lacks = rw (c.deref.ensures.value, c.deref-2.ensures.value) at c.in_default.ensures in
     too_many c.args.agents.now.items _ _ _ (omega (arith, c.args.agents.now.ok)) lacks c.at.ensures
 
