@@ -8,7 +8,7 @@ ghost use Rattle.maid_examples.specs.CopyAnswered.{trace_diagram};
 ghost use Rattle.maid_examples.specs.EmptyThreat.{moves_diagram, threat};
 ghost use Rattle.maid_examples.specs.Pennies.{pennies_diagram};
 ghost use Rattle.maid_examples.specs.Trial.{HasRoom};
-ghost use Rattle.maid_examples.specs.Trip.{weather, trip_diagram};
+ghost use Rattle.maid_examples.specs.Trip.{weather, trip_diagram, plan as planned};
 ghost use Rattle.maid_examples.specs.NodeBetween.{joined_diagram, parted_diagram, asks_much, asks_little};
 
 use crate::{
@@ -233,6 +233,15 @@ fn threat(alloc: Global) -> Result<Profile, AllocError>
     profile_of(alloc, leader, follower)
 }
 
+/// To stay in the rain and go in the sun.
+fn outing(alloc: Global) -> Result<Profile, AllocError>
+    ensures { IfOk result (λ p. p ≡ planned) }
+{
+    let mut rules = Vec::new(alloc);
+    rules.push(rule(alloc, 1, 1, &[1, 0, 0, 1])?)?;
+    Ok(Profile::from_rules(rules))
+}
+
 /// G, row by row and the state fastest, and R of each row.
 #[derive(Debug, Drop)]
 pub(crate) struct Sums {
@@ -382,11 +391,9 @@ pub(crate) fn trip_uniform(alloc: Global) -> Result<Trial, AllocError> {
     Ok(Trial::new(diagram, profile))
 }
 
-/// The plan's rule, put in the place of the uniform one.
 pub(crate) fn trip_plan(alloc: Global) -> Result<Trial, AllocError> {
     a_trip();
     let diagram = trip(alloc)?;
-    let mut profile = Profile::uniform(alloc, &diagram)?;
-    profile.put(rule(alloc, 1, 1, &[1, 0, 0, 1])?);
+    let profile = outing(alloc)?;
     Ok(Trial::new(diagram, profile))
 }
