@@ -22,11 +22,12 @@ use std::marker::Model;
 
 /// A decision of two states.
 fn decision(alloc: Global, owner: usize, parents: &[usize]) -> Result<Node, AllocError>
-    ensures { IfOk result (λ n. n ≡ record { kind = Kind.Decision; owner = owner; states = 2; parents = parents.now; cells = [] }) }
+    ensures { IfOk result (λ n. n ≡ record { kind = Kind.Decision; owner = owner; more = []; states = 2; parents = parents.now; cells = [] }) }
 {
     Ok(Node {
         kind: Kind::Decision,
         owner,
+        more: SmallVec::new(alloc),
         states: 2,
         parents: SmallVec::from_slice(alloc, parents)?,
         cells: Vec::new(alloc),
@@ -35,11 +36,12 @@ fn decision(alloc: Global, owner: usize, parents: &[usize]) -> Result<Node, Allo
 
 /// A chance node below node 0.
 fn chance(alloc: Global, states: usize, cells: &[i128]) -> Result<Node, AllocError>
-    ensures { IfOk result (λ n. n ≡ record { kind = Kind.Chance; owner = 0; states = states; parents = 0 ∷ []; cells = cells.now }) }
+    ensures { IfOk result (λ n. n ≡ record { kind = Kind.Chance; owner = 0; more = []; states = states; parents = 0 ∷ []; cells = cells.now }) }
 {
     Ok(Node {
         kind: Kind::Chance,
         owner: 0,
+        more: SmallVec::new(alloc),
         states,
         parents: SmallVec::from_slice(alloc, &[0])?,
         cells: Vec::from_slice(alloc, cells)?,
@@ -52,11 +54,12 @@ fn utility(
     parents: &[usize],
     cells: &[i128],
 ) -> Result<Node, AllocError>
-    ensures { IfOk result (λ n. n ≡ record { kind = Kind.Utility; owner = owner; states = 1; parents = parents.now; cells = cells.now }) }
+    ensures { IfOk result (λ n. n ≡ record { kind = Kind.Utility; owner = owner; more = []; states = 1; parents = parents.now; cells = cells.now }) }
 {
     Ok(Node {
         kind: Kind::Utility,
         owner,
+        more: SmallVec::new(alloc),
         states: 1,
         parents: SmallVec::from_slice(alloc, parents)?,
         cells: Vec::from_slice(alloc, cells)?,
@@ -157,6 +160,7 @@ fn weather(alloc: Global) -> Result<Node, AllocError>
     Ok(Node {
         kind: Kind::Chance,
         owner: 0,
+        more: SmallVec::new(alloc),
         states: 2,
         parents: SmallVec::from_slice(alloc, &[])?,
         cells: Vec::from_slice(alloc, &[1, 3])?,
