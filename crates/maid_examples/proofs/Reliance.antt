@@ -1,12 +1,12 @@
 -- Who relies on whom in the small diagrams: a walk, or a closed set of steps without a goal.
-use Rattle.std.proofs.Common.{◌≡◌, ◌≢◌, ◌⊎◌, ◌↔◌, ℕ, zero, suc, ◌<◌, List, [], ◌∷◌, length, refl, sym, subst, inl, inr, arith, ℤ}
+use Rattle.std.proofs.Common.{◌≡◌, ◌≢◌, ◌⊎◌, ◌↔◌, ℕ, zero, suc, ◌<◌, List, [], ◌∷◌, length, refl, sym, subst, inl, inr, arith}
 use Rattle.maid_model.specs.declared.diagrams.Kind.TheVariants.{Chance, Decision, Utility}
 use Rattle.maid_model.specs.Views.{NodeView}
-use Rattle.maid_model.specs.Nodes.{IsDecision, node_at, states_of}
-use Rattle.maid_model.specs.Graph.{Arc, Here, IsGraph}
+use Rattle.maid_model.specs.Nodes.{IsDecision, Owns, node_at, states_of}
+use Rattle.maid_model.specs.Graph.{Arc, Here, Along, IsGraph}
 use Rattle.maid_model.specs.Relevance.{IsLive, IsInFamily, IsGoal, ReliesOn}
 use Rattle.maid_model.specs.Walks.{WithArc, WithNode, IsJoined, IsCollider}
-use Rattle.maid_examples.specs.Samples.{leader, follower, pay}
+use Rattle.maid_examples.specs.Samples.{leader, follower, leader_pay, follower_pay}
 use Rattle.maid_examples.specs.FollowerLeader as seen
 use Rattle.maid_examples.specs.CopySeen as copy
 use Rattle.maid_examples.specs.NodeBetween as between
@@ -45,22 +45,23 @@ relies nodes d e goal g n kd ke ld le is arc unseen = record {
     given (inl f) = n (sym f)
     given (inr a) = unseen a
 
--- ---- a follower who sees the leader, whatever they are paid
+-- ---- a follower who sees the leader, whatever utilities stand behind them
 -- the steps of walks from a new parent of the leader: to it and back
 data Turn : ℕ → ℕ → Type 0 where
   There : Turn 4 0
   Back : Turn 0 4
 
-module _ (leads follows : List ℤ) where
+module _ (first second : NodeView) where
   abbrev sight : List NodeView
-  sight = leader ∷ follower (0 ∷ []) ∷ pay 0 (0 ∷ 1 ∷ []) leads ∷ pay 1 (0 ∷ 1 ∷ []) follows ∷ []
+  sight = leader ∷ follower (0 ∷ []) ∷ first ∷ second ∷ []
 
-  pub seen_on_follower : IsGraph sight → ReliesOn sight 0 1
-  seen_on_follower graph =
+  -- the leader owns the first, which has an arrow from the follower
+  pub seen_on_follower : IsGraph sight → first.kind ≡ Utility → Owns sight 0 2 → Arc sight 1 2 → ReliesOn sight 0 1
+  seen_on_follower graph kind owned arc =
       relies sight 0 1 2 graph (λ e. omega arith) (decision sight 0 (omega arith) refl) (decision sight 1 (omega arith) refl)
       (live sight 0 (omega arith) (omega arith)) (live sight 1 (omega arith) (omega arith))
-      (record { within = omega arith; kind = refl; owner = (0, omega arith, refl); below = (2, (0, omega arith, refl), Here) })
-      (1, omega arith, refl) (λ a. among_of [] 1 a)
+      (record { within = omega arith; kind = kind; owner = owned; below = (1, (0, omega arith, refl), Along arc Here) })
+      arc (λ a. among_of [] 1 a)
 
   abbrev SeenArc : ℕ → ℕ → Type 0
   SeenArc = WithArc (Arc sight) 4 0
@@ -95,7 +96,10 @@ module _ (leads follows : List ℤ) where
   ]
 
 pub seen_reliance : IsGraph seen.sight → seen.HasReliance
-seen_reliance graph = let leads = (node_at seen.sight 2).cells in let follows = (node_at seen.sight 3).cells in record { on_follower = seen_on_follower leads follows graph; not_on_leader = seen_not_on_leader leads follows graph }
+seen_reliance graph = record {
+  on_follower = seen_on_follower (leader_pay 1) (follower_pay 0 1) graph refl (0, omega arith, refl) (1, omega arith, refl);
+  not_on_leader = seen_not_on_leader (leader_pay 1) (follower_pay 0 1) graph;
+}
 
 -- ---- one who sees a copy
 copied_on_follower : IsGraph copy.copied → ReliesOn copy.copied 0 2
