@@ -38,7 +38,7 @@ not_false true h = refl
 not_false false h = absurd (h refl)
 
 -- rows that count
-only_on : (b : Bool) (P : Pass Found) → b ≡ true → only b P None → P None
+pub only_on : (b : Bool) (P : Pass Found) → b ≡ true → only b P None → P None
 only_on true P e h = h
 only_on false P e h = absurd (false≢true e)
 

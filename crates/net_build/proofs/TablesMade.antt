@@ -1,5 +1,5 @@
 -- Where the passes find nothing, each node has a table: a chance node its rows in proportion, and a utility its values to scale.
-use Rattle.std.proofs.Common.{◌≡◌, ◌⊎◌, inl, inr, ◌<◌, ◌≤◌, ◌*◌, ◌^◌, ℕ, zero, suc, ℤ, Bool, true, false, List, [], ◌∷◌, All, length, get_or, map, Option, None, Some, refl, sym, ap, subst, ◌∙◌, arith}
+use Rattle.std.proofs.Common.{◌≡◌, ◌⊎◌, inl, inr, ◌<◌, ◌≤◌, ◌*◌, ◌^◌, ℕ, zero, suc, ℤ, Bool, true, false, List, [], ◌∷◌, All, Contains, length, get_or, map, Option, None, Some, refl, sym, ap, subst, ◌∙◌, arith}
 use Rattle.std.specs.Option.{IsSome, option_map_or}
 use Rattle.std.proofs.lemmas.Bool.{false≢true, cases_lt}
 use Rattle.std.proofs.lemmas.List.{length-map}
@@ -15,7 +15,7 @@ use Rattle.net_parser.specs.Owned.{leaves, IsBlockOf}
 use Rattle.weight_scale.specs.Laws.{DecimalOrNone, ScaledOrTooWide, ScaledIsTable}
 use Rattle.first_fault.specs.Passes.{each, only}
 use Rattle.net_build.specs.declared.nodes.Head.{Head}
-use Rattle.net_build.specs.Blocks.{is_node, node_blocks, potentials, kind_of, has_table, block_states, row_count, cell_count, block_name, potential_of, parent_lists, data_of, leaves_of, block_numbers}
+use Rattle.net_build.specs.Blocks.{is_node, node_blocks, potentials, kind_of, has_table, block_states, row_count, cell_count, block_name, names_of, potential_of, parent_lists, data_of, leaves_of, block_numbers}
 use Rattle.net_build.specs.Building.{AreTables, IsTableFrom, AreChanceCells, AreUtilityCells}
 use Rattle.net_build.specs.Scaling.{IsWholeBy}
 use Rattle.net_build.specs.Stages.{FitsTable, TablesFit, head_of, node_lists}
@@ -106,7 +106,7 @@ module _ (decides : DecimalOrNone) (text : List ℕ) (blocks : List BlockTree) w
     data_at : (v : ℕ) → v < length nodes → has_table (block_at v).kind ≡ true → (p : BlockTree) × (potential_at v ≡ Some p) × data_rows text blocks (block_at v) p (data_of text p) None
     unfolding table_rows
     data_at v h kept = by_option (potential_at v) refl (there (dec_contains _ _)) (rows_at v h kept) where
-      there : Dec _ → IsSome (potential_at v)
+      there : Dec (Contains (names_of text (potentials blocks)) (block_name text (block_at v))) → IsSome (potential_at v)
       there (yes c) = there_is_found (block_name text) (block_name text (block_at v)) (potentials blocks) c
       there (no n) = absurd (missing_at v h kept n)
 
@@ -165,14 +165,13 @@ module _ (decides : DecimalOrNone) (text : List ℕ) (blocks : List BlockTree) w
           -- from the potential's numbers to the block's
           from : (k : Kind) → kind_of (block_at v).kind ≡ k → (p : BlockTree) → potential_at v ≡ Some p → (cells : List ℤ) → IsTableFrom k scale (block_states text (block_at v)) (map (token_bytes text) (leaves_of (data_of text p))) cells → FitsTable k (row_count text blocks (block_at v)) (block_states text (block_at v)) cells → (found : List ℤ) × IsCells (block_at v) found
           from k e p there cells is fits = (
-            cells,
-            subst (λ (j : Kind). IsTableFrom j scale (block_states text (block_at v)) (map (token_bytes text) (block_numbers text blocks (block_at v))) cells) (sym e)
+            cells, (subst (λ (j : Kind). IsTableFrom j scale (block_states text (block_at v)) (map (token_bytes text) (block_numbers text blocks (block_at v))) cells) (sym e)
                 (subst (λ (o : Option BlockTree). IsTableFrom k scale (block_states text (block_at v)) (map (token_bytes text) (option_map_or (λ q. leaves_of (data_of text q)) o [])) cells) (sym there) is),
-            subst (λ (j : Kind). FitsTable j (row_count text blocks (block_at v)) (block_states text (block_at v)) cells) (sym e) fits,
+            subst (λ (j : Kind). FitsTable j (row_count text blocks (block_at v)) (block_states text (block_at v)) cells) (sym e) fits),
           )
 
           by_kind : (k : Kind) → kind_of (block_at v).kind ≡ k → (cells : List ℤ) × IsCells (block_at v) cells
-          by_kind model.Decision e = ([], subst (λ (j : Kind). IsTableFrom j scale (block_states text (block_at v)) (map (token_bytes text) (block_numbers text blocks (block_at v))) []) (sym e) refl, subst (λ (j : Kind). FitsTable j (row_count text blocks (block_at v)) (block_states text (block_at v)) []) (sym e) refl)
+          by_kind model.Decision e = ([], (subst (λ (j : Kind). IsTableFrom j scale (block_states text (block_at v)) (map (token_bytes text) (block_numbers text blocks (block_at v))) []) (sym e) refl, subst (λ (j : Kind). FitsTable j (row_count text blocks (block_at v)) (block_states text (block_at v)) []) (sym e) refl))
           by_kind model.Chance e =
               let here = data_at v h (table_kept (block_at v).kind (kept refl) (λ d. clash (sym e ∙ d))) in
               let made = chance_made scales table (block_at v) here.0 (data_of text here.0) (states_at text blocks own node_none potential_none v h) e here.2 in
