@@ -9,7 +9,7 @@ use Rattle.maid_model.specs.declared.diagrams.Kind.TheVariants.{Chance}
 use Rattle.maid_model.specs.Nodes.{is_decision}
 use Rattle.net_lexer.specs.declared.tokens.Token.{Token}
 use Rattle.net_parser.specs.Trees.{BlockTree}
-use Rattle.first_fault.specs.Passes.{rule, only, each_after}
+use Rattle.first_fault.specs.Passes.{rule, each_after}
 use Rattle.net_build.specs.declared.faults.Limit.TheVariants.{Rules}
 use Rattle.net_build.specs.declared.nodes.Head.{Head}
 use Rattle.net_build.specs.Passes.{found, LimitPassed}

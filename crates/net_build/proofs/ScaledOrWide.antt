@@ -1,5 +1,5 @@
 -- A numeral that is not too long has a decimal, and the rows of a table whose numbers and totals the rows before allow are scaled or too wide.
-use Rattle.std.proofs.Common.{◌≡◌, ◌⊎◌, inl, inr, ◌<◌, ◌≤◌, ◌*◌, ◌/◌, ℕ, zero, suc, ℤ, pos, negsuc, ◌≤ℤ◌, ◌<ℤ◌, List, [], ◌∷◌, All, length, get_or, map, sum, None, refl, sym, subst, ◌∙◌, arith}
+use Rattle.std.proofs.Common.{◌≡◌, ◌⊎◌, inl, inr, ◌<◌, ◌*◌, ◌/◌, ℕ, zero, suc, ℤ, pos, negsuc, ◌≤ℤ◌, ◌<ℤ◌, List, [], ◌∷◌, All, length, get_or, map, sum, None, refl, sym, subst, ◌∙◌, arith}
 use Rattle.std.specs.Int.{◌∣◌}
 use Rattle.std.proofs.Math.Nat.{div-zero, dvd-mul_left}
 use Rattle.std.proofs.lemmas.Int.{ints}
@@ -10,7 +10,7 @@ use Rattle.net_lexer.specs.Token.{token_bytes}
 use Rattle.net_lexer.specs.declared.tokens.Token.{Token}
 use Rattle.weight_scale.specs.declared.decimal.Decimal.{Decimal}
 use Rattle.weight_scale.specs.Laws.{DecimalOrNone, ScaledOrTooWide, ScaledIsTable}
-use Rattle.weight_scale.specs.Numeral.{numerator, denominator, IsDecimalOf, IsLeastDecimalOf}
+use Rattle.weight_scale.specs.Numeral.{numerator, denominator, IsLeastDecimalOf}
 use Rattle.weight_scale.specs.Scaling.{row_at, raised_row, NoneNegative, NoZeroRow, IsScaled, IsTooWide}
 use Rattle.weight_scale.specs.Views.{ScaledView}
 use Rattle.maid_model.specs.Tables.{IsTable}
@@ -24,7 +24,7 @@ use Rattle.net_build.proofs.DecimalLemmas.{are_none}
 use Rattle.net_build.proofs.NodeFacts.{each_all}
 use Rattle.net_build.proofs.ScaleLemmas.{decimal_of}
 use Rattle.net_build.proofs.WeightLemmas.{written, written_row, negative_number, row_of_noughts, not_wide}
-use Rattle.net_build.proofs.WeightPasses.{rows_are, same_len, sign_at, row_here, rows_len, row_some}
+use Rattle.net_build.proofs.WeightPasses.{rows_are, sign_at, row_here, rows_len, row_some}
 
 -- ---- the decimals of numerals
 pub dec_too_long : DecimalOrNone → (numeral : List ℕ) → Dec (IsNumberTooLong numeral)
@@ -91,7 +91,7 @@ module _ (text : List ℕ) (states rows : ℕ) (ts : List Token) (ds : List Deci
     no_zero_row r l =
         let within : r < rows = omega (arith, l, count) in
         let here : total_row text (row_at states ts r) None = subst (λ (row : List Token). total_row text row None) (row_here text states rows 0 ts ds some len count are r within)
-                (each_all (total_row text) (rows_by states ts rows) totals r [] (omega (arith, within, rows_len text states rows 0 ts ds some len count are))) in
+        (each_all (total_row text) (rows_by states ts rows) totals r [] (omega (arith, within, rows_len text states rows 0 ts ds some len count are))) in
         let noughts = row_of_noughts text (row_at states ts r) (row_at states ds r) (written_row text states r ts ds (written text ts ds are)) in
         positive (sum (raised_row states ds r)) (λ e. not_nought text (row_at states ts r) (row_some text states rows 0 ts ds some len count are r within) here (noughts e))
 

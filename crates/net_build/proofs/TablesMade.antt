@@ -1,5 +1,5 @@
 -- Where the passes find nothing, each node has a table: a chance node its rows in proportion, and a utility its values to scale.
-use Rattle.std.proofs.Common.{◌≡◌, ◌⊎◌, inl, inr, ◌<◌, ◌≤◌, ◌*◌, ◌^◌, ℕ, zero, suc, ℤ, Bool, true, false, List, [], ◌∷◌, All, Contains, length, get_or, map, Option, None, Some, refl, sym, ap, subst, ◌∙◌, arith}
+use Rattle.std.proofs.Common.{◌≡◌, ◌⊎◌, inl, inr, ◌<◌, ◌≤◌, ◌*◌, ℕ, zero, suc, ℤ, true, List, [], ◌∷◌, All, Contains, length, get_or, map, Option, None, Some, refl, sym, ap, subst, ◌∙◌, arith}
 use Rattle.std.specs.Option.{IsSome, option_map_or}
 use Rattle.std.proofs.lemmas.Bool.{false≢true, cases_lt}
 use Rattle.std.proofs.lemmas.List.{length-map}
@@ -13,14 +13,13 @@ use Rattle.net_parser.specs.declared.trees.BlockKind.TheVariants.{Net, Node, Dec
 use Rattle.net_parser.specs.Trees.{AttributeTree, BlockTree}
 use Rattle.net_parser.specs.Owned.{leaves, IsBlockOf}
 use Rattle.weight_scale.specs.Laws.{DecimalOrNone, ScaledOrTooWide, ScaledIsTable}
-use Rattle.first_fault.specs.Passes.{each, only}
-use Rattle.net_build.specs.declared.nodes.Head.{Head}
+use Rattle.first_fault.specs.Passes.{each}
 use Rattle.net_build.specs.Blocks.{is_node, node_blocks, potentials, kind_of, has_table, block_states, row_count, cell_count, block_name, names_of, potential_of, parent_lists, data_of, leaves_of, block_numbers}
 use Rattle.net_build.specs.Building.{AreTables, IsTableFrom, AreChanceCells, AreUtilityCells}
 use Rattle.net_build.specs.Scaling.{IsWholeBy}
 use Rattle.net_build.specs.Stages.{FitsTable, TablesFit, head_of, node_lists}
 use Rattle.net_build.specs.Table.{length_row, wide_row, weight_rows, data_rows, table_rows, table_pass, missing_row, missing_pass, node_pass, potential_pass, no_block, utility_numbers, IsUtilityScale, IsWideValue}
-use Rattle.net_build.specs.TableParts.{Fits, value_at_scale, values_in}
+use Rattle.net_build.specs.TableParts.{value_at_scale, values_in}
 use Rattle.net_build.proofs.BlockLemmas.{each_filter_at}
 use Rattle.net_build.proofs.LinkPasses.{there_is_found}
 use Rattle.net_build.proofs.NodeFacts.{each_all, only_on}
@@ -152,8 +151,8 @@ module _ (decides : DecimalOrNone) (text : List ℕ) (blocks : List BlockTree) w
 
         cells_exist : (v : ℕ) → v < length nodes → (cells : List ℤ) × IsCells (block_at v) cells
         cells_exist v h = by_kind (kind_of (block_at v).kind) refl where
-          kept : (block_at v).kind ≡ (block_at v).kind → is_node (block_at v).kind ≡ true
-          kept e = nodes_are text blocks v h
+          kept : is_node (block_at v).kind ≡ true
+          kept = nodes_are text blocks v h
 
           table_kept : (k : BlockKind) → is_node k ≡ true → (kind_of k ≡ model.Decision → ⊥) → has_table k ≡ true
           table_kept Node n other = refl
@@ -165,23 +164,26 @@ module _ (decides : DecimalOrNone) (text : List ℕ) (blocks : List BlockTree) w
           -- from the potential's numbers to the block's
           from : (k : Kind) → kind_of (block_at v).kind ≡ k → (p : BlockTree) → potential_at v ≡ Some p → (cells : List ℤ) → IsTableFrom k scale (block_states text (block_at v)) (map (token_bytes text) (leaves_of (data_of text p))) cells → FitsTable k (row_count text blocks (block_at v)) (block_states text (block_at v)) cells → (found : List ℤ) × IsCells (block_at v) found
           from k e p there cells is fits = (
-            cells, (subst (λ (j : Kind). IsTableFrom j scale (block_states text (block_at v)) (map (token_bytes text) (block_numbers text blocks (block_at v))) cells) (sym e)
-                (subst (λ (o : Option BlockTree). IsTableFrom k scale (block_states text (block_at v)) (map (token_bytes text) (option_map_or (λ q. leaves_of (data_of text q)) o [])) cells) (sym there) is),
-            subst (λ (j : Kind). FitsTable j (row_count text blocks (block_at v)) (block_states text (block_at v)) cells) (sym e) fits),
+            cells,
+            (
+              subst (λ (j : Kind). IsTableFrom j scale (block_states text (block_at v)) (map (token_bytes text) (block_numbers text blocks (block_at v))) cells) (sym e)
+                  (subst (λ (o : Option BlockTree). IsTableFrom k scale (block_states text (block_at v)) (map (token_bytes text) (option_map_or (λ q. leaves_of (data_of text q)) o [])) cells) (sym there) is),
+              subst (λ (j : Kind). FitsTable j (row_count text blocks (block_at v)) (block_states text (block_at v)) cells) (sym e) fits,
+            ),
           )
 
           by_kind : (k : Kind) → kind_of (block_at v).kind ≡ k → (cells : List ℤ) × IsCells (block_at v) cells
           by_kind model.Decision e = ([], (subst (λ (j : Kind). IsTableFrom j scale (block_states text (block_at v)) (map (token_bytes text) (block_numbers text blocks (block_at v))) []) (sym e) refl, subst (λ (j : Kind). FitsTable j (row_count text blocks (block_at v)) (block_states text (block_at v)) []) (sym e) refl))
           by_kind model.Chance e =
-              let here = data_at v h (table_kept (block_at v).kind (kept refl) (λ d. clash (sym e ∙ d))) in
+              let here = data_at v h (table_kept (block_at v).kind kept (λ d. clash (sym e ∙ d))) in
               let made = chance_made scales table (block_at v) here.0 (data_of text here.0) (states_at text blocks own node_none potential_none v h) e here.2 in
               from model.Chance e here.0 here.1 made.0 made.1 made.2 where
                 clash : model.Chance ≡ model.Decision → ⊥
                 clash d = cc
           by_kind model.Utility e =
-              let here = data_at v h (table_kept (block_at v).kind (kept refl) (λ d. clash (sym e ∙ d))) in
+              let here = data_at v h (table_kept (block_at v).kind kept (λ d. clash (sym e ∙ d))) in
               let good = subst (λ (o : Option BlockTree). All (IsGood text scale) (option_map_or (λ q. leaves_of (data_of text q)) o [])) here.1 (values_at text blocks own node_none potential_none (IsGood text scale) v all_good h e) in
-              let made = utility_made scale (block_at v) here.0 (data_of text here.0) (one_state text (block_at v) (kept refl) e) good here.2 in
+              let made = utility_made scale (block_at v) here.0 (data_of text here.0) (one_state text (block_at v) kept e) good here.2 in
               from model.Utility e here.0 here.1 made.0 made.1 made.2 where
                 clash : model.Utility ≡ model.Decision → ⊥
                 clash d = cc

@@ -1,5 +1,5 @@
 -- The passes over potentials, the graph and the sizes, told of plain lists of nodes and links as the steps have them. No public contract needs it.
-use Rattle.std.specs.Prelude.{◌≡◌, ◌≢◌, ◌<◌, ◌≤◌, ◌+◌, ◌*◌, ◌^◌, min, not, ℕ, List, [], Option, None, Some, map, filter, find, length, sum, All, Contains, slice_index, slice_index_or, bytes_eq}
+use Rattle.std.specs.Prelude.{◌≡◌, ◌≢◌, ◌<◌, ◌≤◌, ◌+◌, ◌*◌, min, not, ℕ, List, [], Option, None, Some, map, filter, find, length, sum, All, Contains, slice_index, slice_index_or, bytes_eq}
 use Rattle.std.specs.List.{range_with_len}
 use Rattle.std.specs.Borrow.{Bor}
 use Rattle.std.specs.Option.{IsSome, option_map, option_map_or}
