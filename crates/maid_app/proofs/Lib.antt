@@ -5,4 +5,5 @@ pub mod Refusals
 pub mod SolveRefusals
 pub mod Solving
 pub mod Tells
+pub mod Texts
 pub mod Titles

@@ -1,5 +1,5 @@
 -- Which stage of solving finds a fault, and that those before it find nothing.
-use Rattle.std.proofs.Common.{◌⊎◌, inl, inr, ℕ, List, Option, None, Some}
+use Rattle.std.proofs.Common.{inl, inr, ℕ, List, Option, Some}
 use Rattle.maid_model.specs.Bounds.{KeepsBound}
 use Rattle.maid_model.specs.Placing.{HasRelianceOrder}
 use Rattle.maid_model.specs.Views.{DiagramView}
@@ -10,10 +10,10 @@ cycle_of d list (inl h) = h
 cycle_of d list (inr (order, inl h)) = absurd h
 cycle_of d list (inr (order, inr (bound, h))) = absurd h
 
-pub bound_of : (d : DiagramView) (node : Option ℕ) → solve_pass d (Some (WeightBound node)) → HasRelianceOrder d.nodes × bound_pass d (Some (WeightBound node))
-bound_of d node (inl h) = absurd h
-bound_of d node (inr (order, inl h)) = (order, h)
-bound_of d node (inr (order, inr (bound, h))) = absurd h
+pub bound_of : (d : DiagramView) (at : Option ℕ) → solve_pass d (Some (WeightBound at)) → HasRelianceOrder d.nodes × bound_pass d (Some (WeightBound at))
+bound_of d at (inl h) = absurd h
+bound_of d at (inr (order, inl h)) = (order, h)
+bound_of d at (inr (order, inr (bound, h))) = absurd h
 
 pub worlds_of : (d : DiagramView) (worlds : ℕ) → solve_pass d (Some (NotBuilt worlds)) → HasRelianceOrder d.nodes × KeepsBound d × worlds_pass d (Some (NotBuilt worlds))
 worlds_of d worlds (inl h) = absurd h

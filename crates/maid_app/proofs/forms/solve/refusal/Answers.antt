@@ -1,4 +1,4 @@
-use Rattle.std.proofs.Common.{◌≡◌, ◌∙◌, Err, subst, ap, codes}
+use Rattle.std.proofs.Common.{◌≡◌, ◌∙◌, ◌<◌, ℕ, All, Err, length, sym, subst, ap}
 use Rattle.first_fault.specs.Answers.{IsFaultOrNoMemory}
 use Rattle.first_fault.specs.Outcomes.{refusals}
 use Rattle.rule_solver.specs.Faults.{solve_fault, solve_pass}
@@ -7,10 +7,18 @@ use Rattle.maid_app.specs.Outcome.{refused}
 use Rattle.maid_app.specs.Solve.{solving}
 use Rattle.maid_app.specs.Tasks.{comes_of}
 use Rattle.maid_app.specs.declared.status.Status.TheVariants.{Cycle, NotBuilt}
+use Rattle.maid_app.proofs.Nodes.{cycle_within}
 use Rattle.maid_app.proofs.Refusals.{told_gives, if_ok_then}
 use Rattle.maid_app.proofs.SolveRefusals.{cycle_of, worlds_of}
 use Rattle.maid_app.proofs.Solving.{cycle_found, many_found}
 use Rattle.maid_app.proofs.forms.solve.refusal.Goals as goal
+
+-- the decisions of the relevance cycle are nodes, which have names
+pub list_line-requires : goal.list_line-requires
+list_line-requires c =
+    let d = c.args.diagram.now in
+    let found = cycle_of d c.in-Cycle.list.items (subst (IsFaultOrNoMemory solve_fault (solve_pass d)) c.in-Cycle.is c.requires.fault) in
+    subst (λ (n : ℕ). All (λ v. v < n) c.deref.result.now) (sym c.requires.fit.nodes) (subst (All (λ v. v < length d.nodes)) (sym c.deref.ensures.value) (cycle_within d.nodes c.in-Cycle.list.items found.1))
 
 -- the line names the relevance cycle
 pub returns-in-Cycle : goal.returns-in-Cycle
