@@ -1,20 +1,19 @@
 -- A text's tree has a fault or none: it can be told of each row of the table whether it applies, the graph has a cycle or none, and the utilities have a scale.
-use Rattle.std.proofs.Common.{◌≡◌, ◌⊎◌, ◌<◌, ◌≤◌, ◌+◌, ◌-◌, ◌*◌, ◌^◌, ℕ, zero, suc, ℤ, pos, ◌*ℤ◌, Bool, true, false, cond, inl, inr, List, [], ◌∷◌, ◌++◌, length, get_or, map, All, Option, None, Some, refl, sym, ◌∙◌, subst, arith}
-use Rattle.std.specs.Prelude.{Contains, slice_index, slice_index_or, find, bytes_eq, nat_abs, unsigned_abs, ◌≢◌}
+use Rattle.std.proofs.Common.{◌≡◌, ◌⊎◌, ◌<◌, ◌≤◌, ◌+◌, ◌-◌, ◌*◌, ◌^◌, ℕ, zero, suc, ℤ, pos, ◌*ℤ◌, Bool, true, false, cond, inl, inr, List, [], ◌∷◌, length, map, All, Option, None, Some, refl, sym, subst, arith}
+use Rattle.std.specs.Prelude.{slice_index, slice_index_or, nat_abs, unsigned_abs, ◌≢◌}
 use Rattle.std.specs.Int.{◌∣◌}
 use Rattle.std.proofs.Math.Decide.{ℕ_discrete, dec_dvd, dec_le, dec_lt, map_dec}
 use Rattle.std.proofs.Math.IntN.{ℤ_discrete}
 use Rattle.std.proofs.Math.Nat.{dvd-mul_left}
 use Rattle.std.proofs.lemmas.Int.{ints}
-use Rattle.std.specs.Option.{option_map_or}
 use Rattle.std.proofs.lemmas.Bool.{cases_lt}
-use Rattle.std.proofs.lemmas.List.{get_or_past, get_or-map, length-map}
+use Rattle.std.proofs.lemmas.List.{length-map}
 use Rattle.std.proofs.lemmas.List.Elements.{All-nil, All-cons}
 use Rattle.std.proofs.lemmas.Nat.{pow-add}
 use Rattle.diagram_graph.specs.Cycles.{ListedArc, IsParentCycle}
 use Rattle.maid_model.specs.Graph.{IsAcyclic}
 use Rattle.diagram_graph.specs.Laws.{CycleOrNone}
-use Rattle.first_fault.specs.Passes.{rule, only, ◌▸◌, each, each_after}
+use Rattle.first_fault.specs.Passes.{rule, only, ◌▸◌, each}
 use Rattle.first_fault.specs.Properties.{IsCovered}
 use Rattle.first_fault.proofs.Kept.{IsWhole, covered_whole, clear_whole, rule_whole, only_whole, then_whole, behind_whole, each_whole, each_after_whole, over_whole}
 use Rattle.maid_model.specs.Nodes.{is_chance}
@@ -27,10 +26,11 @@ use Rattle.weight_scale.specs.Laws.{DecimalOrNone, ScaledOrTooWide}
 use Rattle.weight_scale.specs.Numeral.{numerator, denominator, is_minus, exponent_of, exponent_size, decimal_digits}
 use Rattle.net_build.specs.Passes.{found, GraphCycle, WrongCount, WideWeight, ZeroRow}
 use Rattle.net_build.specs.Scaling.{IsWholeBy}
-use Rattle.net_build.specs.Blocks.{kind_of, block_states, row_count, cell_count, node_blocks, potentials, names_of, block_name, conditions, condition_places, block_parents, parent_lists, place_among, title_at}
+use Rattle.net_build.specs.Blocks.{kind_of, block_states, row_count, cell_count, node_blocks, block_name, block_parents, parent_lists, title_at}
+use Rattle.net_build.specs.Stages.{head_of}
 use Rattle.net_build.specs.Table.{repeated_row, repeats, label_row, label_rows, states_rows, agent_rows, name_rows, owner_rows, node_rows, node_pass, condition_rows, potential_rows, potential_pass, missing_row, missing_pass, no_block, graph_pass, size_rows, size_pass, number_row, length_row, sign_row, total_row, rows_by, IsWideTotal, weight_rows, data_rows, table_rows, table_pass, utility_numbers, IsUtilityScale, wide_row, wide_pass, all_passes}
-use Rattle.net_build.proofs.AttributeLemmas.{contains_none, contains_cases}
-use Rattle.net_build.proofs.LinkLemmas.{place_within}
+use Rattle.net_build.proofs.FitLemmas.{known_arcs}
+use Rattle.net_build.proofs.LinksMade.{parents_fit}
 use Rattle.net_build.proofs.PlainTables.{whole_part}
 use Rattle.net_build.proofs.ScaledOrWide.{decimals_exist, dec_too_long, dec_negative, dec_wide}
 use Rattle.net_build.proofs.ScaleLemmas.{one_more, sizes, tens_split, whole_by}
@@ -139,45 +139,13 @@ module _ (decides : DecimalOrNone) (scales : ScaledOrTooWide) (text : List ℕ) 
   unfolding table_pass
   table_pass_whole blocks = each_whole (λ b. table_rows_whole blocks b _) _
 
--- the names behind a bar are nodes
-conditions_known : (text : List ℕ) (nodes : List BlockTree) (earlier names : List Token) → each_after (condition_rows text nodes) earlier names None → (u : ℕ) → Contains (map (λ t. place_among (names_of text nodes) (token_bytes text t)) names) u → u < length (names_of text nodes)
-unfolding condition_rows
-conditions_known text nodes earlier [] h u c = absurd (contains_none u c)
-conditions_known text nodes earlier (name ∷ names) h u c = by_place (contains_cases (place_among (names_of text nodes) (token_bytes text name)) u (map (λ t. place_among (names_of text nodes) (token_bytes text t)) names) c) (λ k. conditions_known text nodes (earlier ++ name ∷ []) names h.1 u k) where
-  here : (place_among (names_of text nodes) (token_bytes text name) < length (names_of text nodes)) ⊎ (length (names_of text nodes) ≤ place_among (names_of text nodes) (token_bytes text name)) → place_among (names_of text nodes) (token_bytes text name) < length (names_of text nodes)
-  here (inl l) = l
-  here (inr g) = absurd (h.0.0 (λ k. let l = place_within (names_of text nodes) (token_bytes text name) k in omega arith))
-
-  by_place : (place_among (names_of text nodes) (token_bytes text name) ≡ u) ⊎ Contains (map (λ t. place_among (names_of text nodes) (token_bytes text t)) names) u → (Contains (map (λ t. place_among (names_of text nodes) (token_bytes text t)) names) u → u < length (names_of text nodes)) → u < length (names_of text nodes)
-  by_place (inl e) later = subst (λ w. w < length (names_of text nodes)) e (here (cases_lt _ _))
-  by_place (inr k) later = later k
-
--- and so are the parents of the node of a name
-parents_known : (text : List ℕ) (nodes earlier ps : List BlockTree) (name : List ℕ) → each_after (potential_rows text nodes) earlier ps None
-    → (u : ℕ) → Contains (option_map_or (condition_places text nodes) (find (λ p. bytes_eq (block_name text p) name) ps) []) u → u < length (names_of text nodes)
-unfolding potential_rows
-parents_known text nodes earlier [] name h u c = absurd (contains_none u c)
-parents_known text nodes earlier (p ∷ ps) name h u c = by_test (bytes_eq (block_name text p) name) c (λ k. parents_known text nodes (earlier ++ p ∷ []) ps name h.1 u k) where
-  by_test : (b : Bool) → Contains (option_map_or (condition_places text nodes) (cond b (Some p) (find (λ q. bytes_eq (block_name text q) name) ps)) []) u → (Contains (option_map_or (condition_places text nodes) (find (λ q. bytes_eq (block_name text q) name) ps) []) u → u < length (names_of text nodes)) → u < length (names_of text nodes)
-  by_test true k later = conditions_known text nodes [] (conditions p) h.0.1.1.0 u k
-  by_test false k later = later k
-
-pub known : (text : List ℕ) (blocks : List BlockTree) → potential_pass text blocks None → (u v : ℕ) → ListedArc (parent_lists text blocks) u v → u < length (parent_lists text blocks)
-unfolding potential_pass
-known text blocks h u v arc = by_place (cases_lt v (length (parent_lists text blocks))) where
-  parents : BlockTree → List ℕ
-  parents b = block_parents text blocks (block_name text b)
-
-  count : length (names_of text (node_blocks blocks)) ≡ length (parent_lists text blocks)
-  count = length-map (node_blocks blocks) (block_name text) ∙ sym (length-map (node_blocks blocks) parents)
-
-  by_place : (v < length (parent_lists text blocks)) ⊎ (length (parent_lists text blocks) ≤ v) → u < length (parent_lists text blocks)
-  by_place (inl l) =
-      let block = get_or (node_blocks blocks) v no_block in
-      let within : v < length (node_blocks blocks) = let n = length-map (node_blocks blocks) parents in omega arith in
-      subst (λ n. u < n) count (parents_known text (node_blocks blocks) [] (potentials blocks) (block_name text block) h u
-      (subst (λ (xs : List ℕ). Contains xs u) (get_or-map parents (node_blocks blocks) v no_block [] within) arc))
-  by_place (inr g) = absurd (contains_none u (subst (λ (xs : List ℕ). Contains xs u) (get_or_past (parent_lists text blocks) v [] g) arc))
+-- the parents are nodes
+known : (text : List ℕ) (blocks : List BlockTree) → potential_pass text blocks None → (u v : ℕ) → ListedArc (parent_lists text blocks) u v → u < length (parent_lists text blocks)
+known text blocks none u v arc =
+    let nodes = node_blocks blocks in
+    let heads = length-map nodes (head_of text nodes) in
+    let lists = length-map nodes (λ b. block_parents text blocks (block_name text b)) in
+    omega (arith, known_arcs (map (head_of text nodes) nodes) (parent_lists text blocks) (parents_fit text blocks none) u v arc, heads, lists)
 
 graph_pass_covered : CycleOrNone → (text : List ℕ) (blocks : List BlockTree) → potential_pass text blocks None → IsCovered (graph_pass text blocks)
 unfolding graph_pass

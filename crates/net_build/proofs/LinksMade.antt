@@ -50,7 +50,7 @@ module _ (text : List ℕ) (blocks : List BlockTree) where
   unfolding potential_pass
   potentials_fit none k d h = potential_fits (take k (potentials blocks)) (get_or (potentials blocks) k d) (each_after_at (potential_rows text nodes) [] (potentials blocks) d k none h)
 
-  parents_fit : potential_pass text blocks None → All (AreParents heads) (parent_lists text blocks)
+  pub parents_fit : potential_pass text blocks None → All (AreParents heads) (parent_lists text blocks)
   parents_fit none = All-map (AreParents heads) (λ b. block_parents text blocks (block_name text b)) nodes (λ k d h. by_option (block_name text (get_or nodes k d)) (potential_of text blocks (block_name text (get_or nodes k d))) refl) where
     by_option : (name : List ℕ) (o : Option BlockTree) → potential_of text blocks name ≡ o → AreParents heads (option_map_or (condition_places text nodes) o [])
     by_option name None e = none_fit heads
