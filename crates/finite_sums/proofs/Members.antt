@@ -1,6 +1,6 @@
 -- Members of lists, by place and by cases.
-use Rattle.std.proofs.Common.{◌≡◌, ◌∙◌, ◌⊎◌, ℕ, zero, suc, ◌+◌, ◌<◌, ◌≤◌, Bool, true, false, cond, filter, List, [], ◌∷◌, sym, ap, inl, inr, arith, Contains}
-use Rattle.std.specs.List.{range_with_len}
+use Rattle.std.proofs.Common.{◌≡◌, ◌∙◌, ◌⊎◌, ◌↔◌, ◌==◌, ◌||◌, ℕ, zero, suc, ◌+◌, ◌<◌, ◌≤◌, Bool, true, false, cond, filter, eqb, eqb-true, eq-eqb, List, [], ◌∷◌, refl, sym, ap, subst, inl, inr, arith, Contains}
+use Rattle.std.specs.List.{list_any, range_with_len}
 use Rattle.finite_sums.specs.Members.{Among}
 
 pub among_from_contains : (xs : List ℕ) (x : ℕ) → Contains xs x → Among x xs
@@ -12,6 +12,35 @@ pub contains_from_among : (xs : List ℕ) (x : ℕ) → Among x xs → Contains 
 contains_from_among [] x h = absurd h
 contains_from_among (y ∷ ys) x (inl e) = (0, omega arith, sym e)
 contains_from_among (y ∷ ys) x (inr m) = let c = contains_from_among ys x m in (suc c.0, omega (arith, c.1), c.2)
+
+-- the test for a member
+pub any_is : (x : ℕ) (xs : List ℕ) → (list_any (λ y. y == x) xs ≡ true) ↔ Contains xs x
+any_is x xs = (λ e. contains_from_among xs x (there xs e), λ c. found xs (among_from_contains xs x c))
+  where
+    there : (xs : List ℕ) → list_any (λ y. y == x) xs ≡ true → Among x xs
+    there [] e = absurd (cc)
+    there (y ∷ ys) e = go (eqb y x) refl e (there ys)
+      where
+        go : (b : Bool) → eqb y x ≡ b → (b || list_any (λ z. z == x) ys) ≡ true → (list_any (λ z. z == x) ys ≡ true → Among x ys) → Among x (y ∷ ys)
+        go true f e r = inl (sym (eqb-true y x f))
+        go false f e r = inr (r e)
+
+    found : (xs : List ℕ) → Among x xs → list_any (λ y. y == x) xs ≡ true
+    found [] h = absurd h
+    found (y ∷ ys) (inl e) = ap (λ b. b || list_any (λ z. z == x) ys) (eq-eqb y x (sym e))
+    found (y ∷ ys) (inr m) = either (eqb y x) (found ys m)
+      where
+        either : (b : Bool) → list_any (λ z. z == x) ys ≡ true → (b || list_any (λ z. z == x) ys) ≡ true
+        either true e = refl
+        either false e = e
+
+-- the one member of a list of one
+pub one_member : (x y : ℕ) (more : List ℕ) → more ≡ [] → Contains (y ∷ more) x → x ≡ y
+one_member x y more e c = go (subst (λ m. Among x (y ∷ m)) e (among_from_contains (y ∷ more) x c))
+  where
+    go : (x ≡ y) ⊎ Among x [] → x ≡ y
+    go (inl f) = f
+    go (inr h) = absurd h
 
 -- the numbers from k on
 pub range_within : (k n v : ℕ) → Among v (range_with_len k n) → (k ≤ v) × (v < k + n)

@@ -1,5 +1,5 @@
 -- The nodes below one node, those to which a path leads from it but for the node itself; and the goals of a decision.
-use Rattle.std.proofs.Common.{◌≡◌, ◌↔◌, ℕ, ◌<◌, Bool, true, false, ◌&&◌, eqb, List, length, refl, sym, subst}
+use Rattle.std.proofs.Common.{◌≡◌, ◌↔◌, ℕ, ◌<◌, Bool, true, false, ◌&&◌, List, length, refl, sym, subst}
 use Rattle.std.proofs.lemmas.Bool.{false≢true}
 use Rattle.node_sets.specs.declared.sets.NodeSet.{NodeSet}
 use Rattle.node_sets.specs.Paths.{LeadsFrom}
@@ -7,12 +7,12 @@ use Rattle.node_sets.specs.Sets.{holds, IsIn}
 use Rattle.maid_model.specs.declared.diagrams.Kind.{Kind}
 use Rattle.maid_model.specs.declared.diagrams.Kind.TheVariants.{Chance, Decision, Utility}
 use Rattle.maid_model.specs.Graph.{Arc, IsPath, Here, Along, Descends, IsAcyclic, descends}
-use Rattle.maid_model.specs.Nodes.{node_at, is_utility, is_utility_of}
+use Rattle.maid_model.specs.Nodes.{node_at, owners_of, Owns, owns, is_utility, is_utility_of}
 use Rattle.maid_model.specs.Private.{MarksUtilities}
 use Rattle.maid_model.specs.Relevance.{IsGoal}
 use Rattle.maid_model.specs.Views.{NodeView}
-use Rattle.maid_model.proofs.Descent.{path_from_test, test_from_path, equal_from_test}
-use Rattle.maid_model.proofs.Found.{eqb_yes}
+use Rattle.finite_sums.proofs.Members.{any_is}
+use Rattle.maid_model.proofs.Descent.{path_from_test, test_from_path}
 
 pub below_is : (nodes : List NodeView) (start v : ℕ) → IsAcyclic (Arc nodes) → (Set : ℕ → Type 0) → ((x : ℕ) → Set x ↔ (x ≡ start)) →
     (LeadsFrom (Arc nodes) Set v × (v ≡ start → ⊥)) ↔ Descends (Arc nodes) start v
@@ -35,13 +35,13 @@ and_is false true true h = h.1 (refl, refl)
 and_is false true false h = refl
 and_is false false c h = refl
 
-pub utility_is : (nodes : List NodeView) (agent v : ℕ) → (is_utility_of nodes agent v ≡ true) ↔ (((node_at nodes v).kind ≡ Utility) × ((node_at nodes v).owner ≡ agent))
-utility_is nodes agent v = go (node_at nodes v).kind (node_at nodes v).owner
+pub utility_is : (nodes : List NodeView) (agent v : ℕ) → (is_utility_of nodes agent v ≡ true) ↔ (((node_at nodes v).kind ≡ Utility) × Owns nodes agent v)
+utility_is nodes agent v = go (node_at nodes v).kind
   where
-    go : (kind : Kind) (owner : ℕ) → ((is_utility kind && eqb owner agent) ≡ true) ↔ ((kind ≡ Utility) × (owner ≡ agent))
-    go Utility owner = ((λ h. (refl, equal_from_test owner agent h)), (λ h. eqb_yes owner agent h.1))
-    go Chance owner = ((λ h. absurd (false≢true h)), (λ h. cc))
-    go Decision owner = ((λ h. absurd (false≢true h)), (λ h. cc))
+    go : (kind : Kind) → ((is_utility kind && owns nodes agent v) ≡ true) ↔ ((kind ≡ Utility) × Owns nodes agent v)
+    go Utility = ((λ h. (refl, (any_is agent (owners_of nodes v)).0 h)), (λ h. (any_is agent (owners_of nodes v)).1 h.1))
+    go Chance = ((λ h. absurd (false≢true h)), (λ h. cc))
+    go Decision = ((λ h. absurd (false≢true h)), (λ h. cc))
 
 module _ (nodes : List NodeView) (d : ℕ) (goals : NodeSet) (are : (v : ℕ) → IsIn goals v ↔ IsGoal nodes d v) where
   pub goals_are_utilities : MarksUtilities nodes goals

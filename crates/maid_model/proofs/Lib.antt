@@ -12,6 +12,7 @@ pub mod Pure
 pub mod Descent
 pub mod Below
 pub mod Ordering
+pub mod Owners
 pub mod Listing
 pub mod Picked
 pub mod Weighing

@@ -6,14 +6,14 @@ use Rattle.std.specs.List.{list_all, range_with_len}
 use Rattle.maid_model.specs.declared.diagrams.Kind.{Kind}
 use Rattle.maid_model.specs.declared.diagrams.Kind.TheVariants.{Chance, Decision, Utility}
 use Rattle.maid_model.specs.Views.{NodeView, DiagramView, RuleView}
-use Rattle.maid_model.specs.Nodes.{no_node, node_at, states_of, parents_of, rows_of, decisions_of, is_utility}
+use Rattle.maid_model.specs.Nodes.{no_node, node_at, states_of, parents_of, owners_of, Owns, rows_of, decisions_of, is_utility}
 use Rattle.maid_model.specs.Graph.{Arc, IsPath, Here, Along, IsAcyclic, AllDifferent, IsGraph}
 use Rattle.finite_sums.specs.Sums.{sum_below, nat_sum_over}
 use Rattle.maid_model.specs.Tables.{IsTable, HasChanceTables, chance_total}
 use Rattle.maid_model.specs.Profiles.{IsRule, IsProfile}
 use Rattle.maid_model.specs.Diagrams.{IsDiagram, HasOwners, HasValues, KeepsLimits, greatest_number}
 use Rattle.maid_model.specs.Tested.{all_true, differ, from_nought, comes_to, table_tests, kind_tests, node_tests, diagram_tests, rule_tests, rule_at}
-use Rattle.finite_sums.proofs.Members.{contains_from_among, range_has}
+use Rattle.finite_sums.proofs.Members.{contains_from_among, one_member, range_has}
 use Rattle.maid_model.proofs.Members.{decision_listed}
 
 -- test number k of a list of tests
@@ -139,13 +139,13 @@ module _ (d : DiagramView) (e : all_true (diagram_tests d) ≡ true) where
   of_kind : (k : Kind) (v : ℕ) → v < length nodes → (node_at nodes v).kind ≡ k → all_true (kind_tests k d v) ≡ true
   of_kind k v l f = subst (λ m. all_true (kind_tests m d v) ≡ true) f (of_node v l 7 (omega arith))
 
-  of_chance : (v : ℕ) → (node_at nodes v).kind ≡ Chance → (k : ℕ) → k < 4 → get_or (kind_tests Chance d v) k false ≡ true
+  of_chance : (v : ℕ) → (node_at nodes v).kind ≡ Chance → (k : ℕ) → k < 5 → get_or (kind_tests Chance d v) k false ≡ true
   of_chance v f = nth (kind_tests Chance d v) (of_kind Chance v (kind_node Chance (λ g. cc) v f) f)
 
-  of_decision : (v : ℕ) → (node_at nodes v).kind ≡ Decision → (k : ℕ) → k < 2 → get_or (kind_tests Decision d v) k false ≡ true
+  of_decision : (v : ℕ) → (node_at nodes v).kind ≡ Decision → (k : ℕ) → k < 3 → get_or (kind_tests Decision d v) k false ≡ true
   of_decision v f = nth (kind_tests Decision d v) (of_kind Decision v (kind_node Decision (λ g. cc) v f) f)
 
-  of_utility : (v : ℕ) → v < length nodes → (node_at nodes v).kind ≡ Utility → (k : ℕ) → k < 4 → get_or (kind_tests Utility d v) k false ≡ true
+  of_utility : (v : ℕ) → v < length nodes → (node_at nodes v).kind ≡ Utility → (k : ℕ) → k < 5 → get_or (kind_tests Utility d v) k false ≡ true
   of_utility v l f = nth (kind_tests Utility d v) (of_kind Utility v l f)
 
   up : (u v : ℕ) → Arc nodes u v → u < v
@@ -164,14 +164,38 @@ module _ (d : DiagramView) (e : all_true (diagram_tests d) ≡ true) where
     acyclic = acyclic_up (Arc nodes) up;
   }
 
-  owned : (v : ℕ) → v < length nodes → (k : Kind) → (node_at nodes v).kind ≡ k → k ≢ Chance → (node_at nodes v).owner < d.agents
-  owned v l Chance f n = absurd (n refl)
-  owned v l Decision f n = ltb-true (node_at nodes v).owner d.agents (of_decision v f 0 (omega arith))
-  owned v l Utility f n = ltb-true (node_at nodes v).owner d.agents (of_utility v l f 0 (omega arith))
+  alone : (v : ℕ) → (k : Kind) → (node_at nodes v).kind ≡ k → k ≢ Utility → (node_at nodes v).more ≡ []
+  alone v Chance f n = empty (node_at nodes v).more (eqb-true (length (node_at nodes v).more) 0 (of_chance v f 4 (omega arith)))
+  alone v Decision f n = empty (node_at nodes v).more (eqb-true (length (node_at nodes v).more) 0 (of_decision v f 2 (omega arith)))
+  alone v Utility f n = absurd (n refl)
+
+  owned : (v a : ℕ) → v < length nodes → (k : Kind) → (node_at nodes v).kind ≡ k → k ≢ Chance → Owns nodes a v → a < d.agents
+  owned v a l Chance f n o = absurd (n refl)
+  owned v a l Decision f n o = subst (λ x. x < d.agents) (sym (one_member a (node_at nodes v).owner (node_at nodes v).more (alone v Decision f (λ e. cc)) o)) (ltb-true (node_at nodes v).owner d.agents (of_decision v f 0 (omega arith)))
+  owned v a l Utility f n o = ltb-true a d.agents (at_member (λ x. ltb x d.agents) (owners_of nodes v) (of_utility v l f 0 (omega arith)) a o)
+
+  none_else : (v : ℕ) → (node_at nodes v).more ≡ [] → AllDifferent (owners_of nodes v)
+  none_else v e = subst (λ m. AllDifferent ((node_at nodes v).owner ∷ m)) (sym e) ((λ c. absurd (no_member c)), tt)
+    where
+      no_member : Contains {X = ℕ} [] (node_at nodes v).owner → ⊥
+      no_member (k, l, f) = absurd (omega arith)
+
+  owners_differ : (v : ℕ) → AllDifferent (owners_of nodes v)
+  owners_differ = anywhere (λ n. AllDifferent (n.owner ∷ n.more)) ((λ c. absurd (no_owner c)), tt) (λ v l. by_kind v l (node_at nodes v).kind refl)
+    where
+      no_owner : Contains {X = ℕ} [] 0 → ⊥
+      no_owner (k, l, f) = absurd (omega arith)
+
+      by_kind : (v : ℕ) → v < length nodes → (k : Kind) → (node_at nodes v).kind ≡ k → AllDifferent (owners_of nodes v)
+      by_kind v l Chance f = none_else v (alone v Chance f (λ e. cc))
+      by_kind v l Decision f = none_else v (alone v Decision f (λ e. cc))
+      by_kind v l Utility f = different (owners_of nodes v) (of_utility v l f 4 (omega arith))
 
   owners : HasOwners nodes d.agents
   owners = record {
-    agent = λ v l n. owned v l (node_at nodes v).kind refl n;
+    agent = λ v a l n. owned v a l (node_at nodes v).kind refl n;
+    differ = owners_differ;
+    one = λ v n. alone v (node_at nodes v).kind refl n;
     chance = λ v f. eqb-true (node_at nodes v).owner 0 (of_chance v f 0 (omega arith));
   }
 

@@ -4,8 +4,8 @@ use Rattle.node_sets.specs.declared.sets.TheConstants.{MOST_NODES}
 use Rattle.maid_model.specs.declared.limits.TheConstants.{MOST_STATES, MOST_PARENTS, MOST_CELLS, MOST_RULE_CELLS, MOST_AGENTS, MOST_DECIMALS, GREATEST_NUMBER}
 use Rattle.maid_model.specs.declared.diagrams.Kind.TheVariants.{Chance, Decision, Utility}
 use Rattle.maid_model.specs.Views.{NodeView, DiagramView}
-use Rattle.maid_model.specs.Nodes.{node_at, states_of, parents_of, rows_of, decisions_of}
-use Rattle.maid_model.specs.Graph.{IsGraph}
+use Rattle.maid_model.specs.Nodes.{node_at, states_of, parents_of, owners_of, Owns, rows_of, decisions_of}
+use Rattle.maid_model.specs.Graph.{IsGraph, AllDifferent}
 use Rattle.finite_sums.specs.Sums.{nat_sum_over}
 use Rattle.maid_model.specs.Tables.{HasChanceTables, chance_total}
 
@@ -13,9 +13,11 @@ use Rattle.maid_model.specs.Tables.{HasChanceTables, chance_total}
 abbrev pub greatest_number : ℕ
 greatest_number = GREATEST_NUMBER
 
--- whose node it is: a decision or a utility has one of the agents, a chance node none, which is written 0
+-- whose node it is: a decision has one of the agents, a utility one or more, each once, a chance node none, which is written 0
 pub record HasOwners (nodes : List NodeView) (agents : ℕ) : Type 0 where
-  pub agent : (v : ℕ) → v < length nodes → (node_at nodes v).kind ≢ Chance → (node_at nodes v).owner < agents
+  pub agent : (v a : ℕ) → v < length nodes → (node_at nodes v).kind ≢ Chance → Owns nodes a v → a < agents
+  pub differ : (v : ℕ) → AllDifferent (owners_of nodes v)
+  pub one : (v : ℕ) → (node_at nodes v).kind ≢ Utility → (node_at nodes v).more ≡ []
   pub chance : (v : ℕ) → (node_at nodes v).kind ≡ Chance → (node_at nodes v).owner ≡ 0
 
 -- a utility has one whole number for each row, and a decision has no table

@@ -3,34 +3,35 @@ use Rattle.std.specs.Prelude.{ℕ, List, [], ◌∷◌, ◌++◌, map, filter, �
 use Rattle.maid_model.specs.declared.diagrams.Kind.{Kind}
 use Rattle.maid_model.specs.declared.diagrams.Kind.TheVariants.{Chance, Decision, Utility}
 use Rattle.maid_model.specs.Views.{NodeView, AnswerView}
-use Rattle.maid_model.specs.Nodes.{node_at, states_of, numbers_of}
+use Rattle.maid_model.specs.Nodes.{agent_of, node_at, states_of, numbers_of}
 use Rattle.maid_model.specs.Profiles.{pure_rule}
 use Rattle.maid_model.specs.Answers.{rows_at}
 
 -- d sees x no more; its other parents keep their order
 abbrev pub without_arc : List NodeView → ℕ → ℕ → List NodeView
-without_arc nodes x d = let node = node_at nodes d in slice_set nodes d (record { kind = node.kind; owner = node.owner; states = node.states; parents = filter (λ u. not (u == x)) node.parents; cells = node.cells })
+without_arc nodes x d = let node = node_at nodes d in slice_set nodes d (record { kind = node.kind; owner = node.owner; more = node.more; states = node.states; parents = filter (λ u. not (u == x)) node.parents; cells = node.cells })
 
 -- d sees x too, as its last parent
 abbrev pub with_arc : List NodeView → ℕ → ℕ → List NodeView
-with_arc nodes x d = let node = node_at nodes d in slice_set nodes d (record { kind = node.kind; owner = node.owner; states = node.states; parents = node.parents ++ x ∷ []; cells = node.cells })
+with_arc nodes x d = let node = node_at nodes d in slice_set nodes d (record { kind = node.kind; owner = node.owner; more = node.more; states = node.states; parents = node.parents ++ x ∷ []; cells = node.cells })
 
 -- the chance node x is a decision of the agent over its own parents
 abbrev pub as_decision : List NodeView → ℕ → ℕ → List NodeView
-as_decision nodes agent x = let node = node_at nodes x in slice_set nodes x (record { kind = Decision; owner = agent; states = node.states; parents = node.parents; cells = [] })
+as_decision nodes agent x = let node = node_at nodes x in slice_set nodes x (record { kind = Decision; owner = agent; more = []; states = node.states; parents = node.parents; cells = [] })
 
 -- a decision that has become a chance node: in each row weight 1 on the answered choice
 abbrev pub as_chance : List NodeView → List AnswerView → ℕ → NodeView
 as_chance nodes answers v = record {
   kind = Chance;
   owner = 0;
+  more = [];
   states = states_of nodes v;
   parents = (node_at nodes v).parents;
   cells = map pos (pure_rule nodes v (map (λ r. r.choice) (rows_at answers v))).weights;
 }
 
 abbrev pub fixed_by : Kind → List NodeView → ℕ → List AnswerView → ℕ → NodeView
-fixed_by Decision nodes agent answers v = if (node_at nodes v).owner == agent then node_at nodes v else as_chance nodes answers v
+fixed_by Decision nodes agent answers v = if agent_of nodes v == agent then node_at nodes v else as_chance nodes answers v
 fixed_by Chance nodes agent answers v = node_at nodes v
 fixed_by Utility nodes agent answers v = node_at nodes v
 

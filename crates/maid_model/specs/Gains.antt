@@ -1,7 +1,7 @@
 -- The weight of a world, and the sums over worlds: expected utilities, and what a decision's states are worth in a row.
 use Rattle.std.specs.Prelude.{ℕ, Bool, ◌&&◌, List, [], ◌∷◌, slice_index_or, ℤ, pos, ◌*ℤ◌, ◌==◌, if◌then◌else◌, nat_abs, max}
 use Rattle.maid_model.specs.Views.{NodeView, RuleView}
-use Rattle.maid_model.specs.Nodes.{node_at, states_of, numbers_of, is_utility, is_utility_of}
+use Rattle.maid_model.specs.Nodes.{agent_of, node_at, states_of, numbers_of, is_utility, is_utility_of}
 use Rattle.maid_model.specs.Graph.{descends}
 use Rattle.finite_sums.specs.Sums.{World, sum_over, sum_each, product_over, nat_product_over, nat_sum_over}
 use Rattle.maid_model.specs.Tables.{row_of, table, weight_total}
@@ -40,7 +40,7 @@ weight_without nodes p d w = product_over (λ v. table_without nodes p d v w) (n
 
 -- the cell that the world picks in v, if v is a utility of the decision's agent that descends from the decision
 abbrev pub value_below : List NodeView → ℕ → ℕ → World → ℤ
-value_below nodes d v w = if descends nodes d v then value_for nodes (node_at nodes d).owner v w else pos 0
+value_below nodes d v w = if descends nodes d v then value_for nodes (agent_of nodes d) v w else pos 0
 
 -- the summed utilities of the decision's agent that descend from the decision
 abbrev pub utility_below : List NodeView → ℕ → World → ℤ

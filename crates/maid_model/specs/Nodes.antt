@@ -1,13 +1,13 @@
 -- Looking up nodes. Each look-up has an answer for every number, so that no sum over nodes carries a premise.
-use Rattle.std.specs.Prelude.{◌≡◌, ◌⊎◌, ℕ, ◌<◌, ◌*◌, Bool, true, false, ◌&&◌, ◌==◌, List, [], ◌∷◌, map, length, filter, slice_index_or}
-use Rattle.std.specs.List.{range_with_len}
+use Rattle.std.specs.Prelude.{◌≡◌, ◌⊎◌, ℕ, ◌<◌, ◌*◌, Bool, true, false, ◌&&◌, ◌==◌, List, [], ◌∷◌, map, length, filter, Contains, slice_index_or}
+use Rattle.std.specs.List.{list_any, range_with_len}
 use Rattle.maid_model.specs.declared.diagrams.Kind.{Kind}
 use Rattle.maid_model.specs.declared.diagrams.Kind.TheVariants.{Chance, Decision, Utility}
 use Rattle.maid_model.specs.Views.{NodeView}
 
 -- what stands for a number that no node has
 abbrev pub no_node : NodeView
-no_node = record { kind = Utility; owner = 0; states = 1; parents = []; cells = [] }
+no_node = record { kind = Utility; owner = 0; more = []; states = 1; parents = []; cells = [] }
 
 abbrev pub node_at : List NodeView → ℕ → NodeView
 node_at nodes v = slice_index_or nodes v no_node
@@ -50,15 +50,31 @@ pub record IsDecision (nodes : List NodeView) (v : ℕ) : Type 0 where
   pub within : v < length nodes
   pub kind : (node_at nodes v).kind ≡ Decision
 
+-- the agents to which v belongs, in written order
+abbrev pub owners_of : List NodeView → ℕ → List ℕ
+owners_of nodes v = (node_at nodes v).owner ∷ (node_at nodes v).more
+
+-- the agent owns v: it is among v's owners
+abbrev pub Owns : List NodeView → ℕ → ℕ → Type 0
+Owns nodes agent v = Contains (owners_of nodes v) agent
+
+-- the same as a test
+abbrev pub owns : List NodeView → ℕ → ℕ → Bool
+owns nodes agent v = list_any (λ a. a == agent) (owners_of nodes v)
+
 -- v is a node, and a decision or a utility of the agent
 pub record IsOwnedBy (nodes : List NodeView) (v agent : ℕ) : Type 0 where
   pub within : v < length nodes
   pub kind : ((node_at nodes v).kind ≡ Decision) ⊎ ((node_at nodes v).kind ≡ Utility)
-  pub owner : (node_at nodes v).owner ≡ agent
+  pub owner : Owns nodes agent v
 
--- a utility of the agent
+-- the agent of a decision, which is its one owner
+abbrev pub agent_of : List NodeView → ℕ → ℕ
+agent_of nodes d = (node_at nodes d).owner
+
+-- a utility that the agent owns, alone or with others
 abbrev pub is_utility_of : List NodeView → ℕ → ℕ → Bool
-is_utility_of nodes agent v = is_utility (node_at nodes v).kind && ((node_at nodes v).owner == agent)
+is_utility_of nodes agent v = is_utility (node_at nodes v).kind && owns nodes agent v
 
 -- how many choices the parents' states have: the product of their counts
 abbrev pub rows_under : (ℕ → ℕ) → List ℕ → ℕ

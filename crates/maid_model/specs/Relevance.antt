@@ -2,7 +2,7 @@
 use Rattle.std.specs.Prelude.{◌≡◌, ◌≢◌, ◌⊎◌, ℕ, ◌<◌, List, length}
 use Rattle.maid_model.specs.declared.diagrams.Kind.TheVariants.{Utility}
 use Rattle.maid_model.specs.Views.{NodeView}
-use Rattle.maid_model.specs.Nodes.{IsDecision, node_at, states_of}
+use Rattle.maid_model.specs.Nodes.{IsDecision, Owns, agent_of, node_at, states_of}
 use Rattle.maid_model.specs.Graph.{Arc, Descends}
 use Rattle.maid_model.specs.Walks.{IsReached, IsReachedFromParent}
 
@@ -19,7 +19,7 @@ IsInFamily Arc d x = (x ≡ d) ⊎ Arc x d
 pub record IsGoal (nodes : List NodeView) (d u : ℕ) : Type 0 where
   pub within : u < length nodes
   pub kind : (node_at nodes u).kind ≡ Utility
-  pub owner : (node_at nodes u).owner ≡ (node_at nodes d).owner
+  pub owner : Owns nodes (agent_of nodes d) u
   pub below : Descends (Arc nodes) d u
 
 -- d relies on e: both are decisions of two states or more, and given d and its parents an active walk leads from an extra parent of e to a goal of d

@@ -5,7 +5,7 @@ use Rattle.std.specs.List.{flat_map}
 use Rattle.maid_model.specs.declared.answers.Ratio.{Ratio}
 use Rattle.maid_model.specs.declared.answers.Row.{Row}
 use Rattle.maid_model.specs.Views.{NodeView, DiagramView, AnswerView, SolvedView}
-use Rattle.maid_model.specs.Nodes.{node_at, states_of, parents_of, rows_under}
+use Rattle.maid_model.specs.Nodes.{agent_of, states_of, parents_of, rows_under}
 use Rattle.maid_model.specs.Names.{NamesView, name_of, label_of, agent_name}
 
 -- a backslash before a quote and before a backslash
@@ -64,7 +64,7 @@ row_lines nodes names d number (row ∷ rows) = row_line nodes names d number ro
 -- a decision, whose it is and what it sees
 abbrev pub decision_head : List NodeView → NamesView → ℕ → List ℕ
 decision_head nodes names d =
-    names_line (codes "decision " ++ name_of names d ++ codes " by " ++ quoted (agent_name names (node_at nodes d).owner) ++ codes " sees") names (parents_of nodes d)
+    names_line (codes "decision " ++ name_of names d ++ codes " by " ++ quoted (agent_name names (agent_of nodes d)) ++ codes " sees") names (parents_of nodes d)
 
 -- a decision's line, and then its rows
 abbrev pub decision_lines : List NodeView → NamesView → AnswerView → List ℕ

@@ -2,7 +2,7 @@
 use Rattle.std.specs.Prelude.{◌≡◌, ◌≢◌, ℕ, ◌<◌, ◌≤◌, Bool, true, ◌&&◌, List, [], ◌∷◌, length, take, drop, Contains, slice_index, ℤ, pos, ◌*ℤ◌, ◌≤ℤ◌, ◌<ℤ◌, ◌==◌, if◌then◌else◌}
 use Rattle.maid_model.specs.declared.diagrams.Kind.TheVariants.{Chance, Utility}
 use Rattle.maid_model.specs.Views.{NodeView, RuleView}
-use Rattle.maid_model.specs.Nodes.{IsDecision, node_at, states_of}
+use Rattle.maid_model.specs.Nodes.{IsDecision, agent_of, node_at, states_of}
 use Rattle.maid_model.specs.Graph.{Arc, AllDifferent}
 use Rattle.finite_sums.specs.Sums.{World, product_over, nat_product_over}
 use Rattle.maid_model.specs.Tables.{table, weight_total}
@@ -68,7 +68,7 @@ pub record IsSubgameStart (nodes : List NodeView) (order start : List ℕ) : Typ
 
 -- t differs from s in rules of the agent's decisions alone
 abbrev pub DiffersOnlyFor : List NodeView → ℕ → List RuleView → List RuleView → Type 0
-DiffersOnlyFor nodes agent s t = (v : ℕ) → IsDecision nodes v → (node_at nodes v).owner ≢ agent → SameRule t s v
+DiffersOnlyFor nodes agent s t = (v : ℕ) → IsDecision nodes v → agent_of nodes v ≢ agent → SameRule t s v
 
 -- from the start the profile t is worth no more to the agent than s: fractions are compared by cross products
 abbrev pub IsNoBetterFrom : List NodeView → List ℕ → List ℕ → ℕ → List RuleView → List RuleView → Type 0
@@ -84,7 +84,7 @@ pub record IsSubgamePerfect (nodes : List NodeView) (s : List RuleView) : Type 0
 
 -- one agent owns all decisions
 abbrev pub OwnsAll : List NodeView → ℕ → Type 0
-OwnsAll nodes agent = (v : ℕ) → IsDecision nodes v → (node_at nodes v).owner ≡ agent
+OwnsAll nodes agent = (v : ℕ) → IsDecision nodes v → agent_of nodes v ≡ agent
 
 -- t gives the agent no greater expected utility than s: fractions are compared by cross products
 abbrev pub IsNoBetter : List NodeView → ℕ → List RuleView → List RuleView → Type 0

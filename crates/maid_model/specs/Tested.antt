@@ -6,7 +6,7 @@ use Rattle.maid_model.specs.declared.limits.TheConstants.{MOST_STATES, MOST_PARE
 use Rattle.maid_model.specs.declared.diagrams.Kind.{Kind}
 use Rattle.maid_model.specs.declared.diagrams.Kind.TheVariants.{Chance, Decision, Utility}
 use Rattle.maid_model.specs.Views.{NodeView, DiagramView, RuleView}
-use Rattle.maid_model.specs.Nodes.{node_at, states_of, parents_of, numbers_of, rows_of, decisions_of, is_utility}
+use Rattle.maid_model.specs.Nodes.{node_at, states_of, parents_of, owners_of, numbers_of, rows_of, decisions_of, is_utility}
 use Rattle.finite_sums.specs.Sums.{sum_below, nat_sum_over}
 use Rattle.maid_model.specs.Tables.{chance_total, weights_of, rule_total}
 use Rattle.maid_model.specs.Diagrams.{greatest_number}
@@ -38,25 +38,28 @@ table_tests cells rows states total =
     ∷ list_all (λ r. comes_to (sum_below states (λ s. slice_index_or cells (r * states + s) (pos 0))) total) (range_with_len 0 rows)
     ∷ []
 
--- A chance node has the owner 0, a total from 1 to the greatest number, and a table.
--- A decision has an agent and no cells.
--- A utility has an agent, one state, and a number for each row, none past the greatest.
+-- A chance node has the owner 0 and no more, a total from 1 to the greatest number, and a table.
+-- A decision has one agent and no cells.
+-- A utility has agents, each once, one state, and a number for each row, none past the greatest.
 abbrev pub kind_tests : Kind → DiagramView → ℕ → List Bool
 kind_tests Chance d v =
     eqb (node_at d.nodes v).owner 0
     ∷ ltb 0 (chance_total d.nodes v)
     ∷ leb (chance_total d.nodes v) greatest_number
     ∷ all_true (table_tests (node_at d.nodes v).cells (rows_of d.nodes v) (states_of d.nodes v) (chance_total d.nodes v))
+    ∷ eqb (length (node_at d.nodes v).more) 0
     ∷ []
 kind_tests Decision d v =
     ltb (node_at d.nodes v).owner d.agents
     ∷ eqb (length (node_at d.nodes v).cells) 0
+    ∷ eqb (length (node_at d.nodes v).more) 0
     ∷ []
 kind_tests Utility d v =
-    ltb (node_at d.nodes v).owner d.agents
+    list_all (λ a. ltb a d.agents) (owners_of d.nodes v)
     ∷ eqb (states_of d.nodes v) 1
     ∷ eqb (length (node_at d.nodes v).cells) (rows_of d.nodes v)
     ∷ list_all (λ x. leb (nat_abs x) greatest_number) (node_at d.nodes v).cells
+    ∷ differ (owners_of d.nodes v)
     ∷ []
 
 -- the parents stand before the node, are no utilities and differ; there is a state; states, parents and cells are not too many; and what its kind asks for

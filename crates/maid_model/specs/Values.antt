@@ -3,7 +3,7 @@ use Rattle.std.specs.Prelude.{◌≡◌, ℕ, ◌<◌, ◌*◌, ◌^◌, List, l
 use Rattle.maid_model.specs.declared.answers.Ratio.{Ratio}
 use Rattle.maid_model.specs.declared.diagrams.Kind.TheVariants.{Chance, Utility}
 use Rattle.maid_model.specs.Views.{NodeView, DiagramView, RuleView, AnswerView, SolvedView}
-use Rattle.maid_model.specs.Nodes.{IsDecision, node_at}
+use Rattle.maid_model.specs.Nodes.{IsDecision, Owns, agent_of, node_at}
 use Rattle.maid_model.specs.Graph.{Arc, Descends, IsGraph}
 use Rattle.maid_model.specs.Answers.{IsReduced, IsExpectedUtility}
 use Rattle.maid_model.specs.Subgames.{OwnsAll, IsOptimal}
@@ -38,7 +38,7 @@ pub record IsDifferenceOfOptima (nodes others : List NodeView) (decimals agent :
 -- a decision of the agent
 pub record IsDecisionOf (nodes : List NodeView) (d agent : ℕ) : Type 0 where
   pub decision : IsDecision nodes d
-  pub owner : (node_at nodes d).owner ≡ agent
+  pub owner : agent_of nodes d ≡ agent
 
 -- Information value of an arc that is there, from x into a decision d of the agent: in the diagram in which only the agent decides, the optimum with the arc less the optimum without it.
 pub record IsValueOfSeen (nodes : List NodeView) (decimals : ℕ) (answers : List AnswerView) (agent x d : ℕ) (r : Ratio) : Type 0 where
@@ -60,4 +60,4 @@ pub record IsValueOfControl (nodes : List NodeView) (decimals : ℕ) (answers : 
 
 -- no utility of the agent descends from x
 abbrev pub IsUnreached : List NodeView → ℕ → ℕ → Type 0
-IsUnreached nodes agent x = (u : ℕ) → u < length nodes → (node_at nodes u).kind ≡ Utility → (node_at nodes u).owner ≡ agent → Descends (Arc nodes) x u → ⊥
+IsUnreached nodes agent x = (u : ℕ) → u < length nodes → (node_at nodes u).kind ≡ Utility → Owns nodes agent u → Descends (Arc nodes) x u → ⊥

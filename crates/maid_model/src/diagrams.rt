@@ -2,7 +2,7 @@
 
 ghost use Rattle.std.specs.Prelude.{◌≡◌, ℕ, ◌<◌, ◌≤◌, ◌↔◌, ◌^◌, length, Contains, IsTrue, pos, ◌≤ℤ◌, nat_abs, slice_index_or};
 ghost use Rattle.maid_model.specs.Diagrams.{IsDiagram};
-ghost use Rattle.maid_model.specs.Nodes.{node_at, states_of, parents_of, rows_of, IsOwnedBy};
+ghost use Rattle.maid_model.specs.Nodes.{agent_of, node_at, states_of, parents_of, rows_of, IsOwnedBy};
 ghost use Rattle.finite_sums.specs.Sums.{sum_below};
 ghost use Rattle.maid_model.specs.Tables.{chance_total};
 
@@ -19,11 +19,13 @@ pub enum Kind {
 }
 
 /// A node of a diagram. Its cells stand with the first parent slowest, and a chance node's own state fastest. A
-/// chance node has owner 0, a utility one state, and a decision no cells.
+/// chance node has owner 0, a utility one state, and a decision no cells. Where several agents share a utility, `more`
+/// has the owners after the first in written order; it is empty at every other node.
 #[derive(Debug, Drop)]
 pub struct Node {
     pub kind: Kind,
     pub owner: usize,
+    pub more: SmallVec<usize, 4, Global>,
     pub states: usize,
     pub parents: SmallVec<usize, 4, Global>,
     pub cells: Vec<i128>,
@@ -34,7 +36,7 @@ impl Model for Node {
 
     ghost Value = { NodeView };
 
-    ghost view = { λ n. record { kind = n.kind; owner = n.owner; states = n.states; parents = n.parents.items; cells = n.cells.items } };
+    ghost view = { λ n. record { kind = n.kind; owner = n.owner; more = n.more.items; states = n.states; parents = n.parents.items; cells = n.cells.items } };
 }
 
 /// An influence diagram. Its nodes are numbered from 0 in text order, its agents from 0 in order of first sight, and
@@ -96,13 +98,13 @@ impl Diagram {
         self.nodes[v].kind
     }
 
-    /// The number of the node's agent, or 0 at a chance node.
-    pub fn owner(&self, v: usize) -> usize
-        requires { v < length self.now.nodes }
-        ensures owner { result ≡ (node_at self.now.nodes v).owner }
+    /// The number of the decision's agent.
+    pub fn agent_of(&self, decision: usize) -> usize
+        requires { decision < length self.now.nodes }
+        ensures agent { result ≡ agent_of self.now.nodes decision }
         ensures diagram { IsDiagram self.now }
     {
-        self.nodes[v].owner
+        self.nodes[decision].owner
     }
 
     /// How many states the node has.
@@ -150,15 +152,17 @@ impl Diagram {
         self.decimals
     }
 
-    /// Whether the node is a decision or a utility of the agent.
+    /// Whether the node is a decision of the agent, or a utility that the agent owns, alone or with others.
     pub fn owns(&self, agent: usize, node: usize) -> bool
         requires { node < length self.now.nodes }
         ensures { IsTrue result ↔ IsOwnedBy self.now.nodes node agent }
     {
-        let node = &self.nodes[node];
+        let node = self.node(node);
         match node.kind {
             Kind::Chance => false,
-            Kind::Decision | Kind::Utility => node.owner == agent,
+            Kind::Decision | Kind::Utility => {
+                node.owner == agent || node.more.as_slice().contains(&agent)
+            }
         }
     }
 

@@ -15,7 +15,7 @@ fn is_utility_of(diagram: &Diagram, agent: usize, v: usize) -> bool
     ensures { result ≡ is_utility_of diagram.now.nodes agent v }
 {
     match diagram.kind(v) {
-        Kind::Utility => diagram.owner(v) == agent,
+        Kind::Utility => diagram.owns(agent, v),
         Kind::Chance | Kind::Decision => false,
     }
 }
@@ -40,7 +40,7 @@ pub fn goals_of(diagram: &Diagram, decision: usize) -> NodeSet
     requires { decision < length diagram.now.nodes }
     ensures { (v : ℕ) → IsIn result v ↔ IsGoal diagram.now.nodes decision v }
 {
-    let agent = diagram.owner(decision);
+    let agent = diagram.agent_of(decision);
     let mut below = descendants(diagram, NodeSet::of(decision));
     below.remove(decision);
     below.intersection(&utilities_of(diagram, agent))

@@ -1,32 +1,35 @@
 -- What a tree stands for is made of what its steps say.
-use Rattle.std.proofs.Common.{◌≡◌, ◌≢◌, ◌⊎◌, inl, inr, ℕ, ◌<◌, ◌≤◌, Bool, true, false, not, cond, List, [], ◌∷◌, length, get_or, map, filter, All, None, refl, ap, sym, ◌∙◌, subst, arith}
+use Rattle.std.proofs.Common.{◌≡◌, ◌≢◌, ◌⊎◌, inl, inr, ℕ, suc, ◌<◌, ◌≤◌, Bool, true, false, not, cond, List, [], ◌∷◌, ◌++◌, length, get_or, map, filter, drop, All, Contains, None, refl, ap, sym, ◌∙◌, subst, arith}
 use Rattle.std.proofs.lemmas.Bool.{false≢true, cases_lt}
 use Rattle.std.proofs.lemmas.List.{get_or-map, get_or_past, length-map, map-id}
-use Rattle.std.proofs.lemmas.List.Elements.{All-map, All-filter, filter_passes}
+use Rattle.std.proofs.lemmas.List.Elements.{All-nil, All-append, All-map, All-filter, filter_passes}
 use Rattle.std.proofs.lemmas.List.FromFn.{fill_by_all, length-map-range_with_len}
-use Rattle.std.specs.List.{range_with_len}
+use Rattle.std.proofs.lemmas.List.Concat.{flat_map-cons}
+use Rattle.std.specs.List.{flat_map, range_with_len}
 use Rattle.std.specs.Prelude.{if◌then◌else◌, codes}
 use Rattle.maid_model.specs.declared.diagrams.Kind.TheVariants.{Chance, Decision, Utility}
 use Rattle.maid_model.specs.Diagrams.{IsDiagram}
+use Rattle.maid_model.specs.Graph.{AllDifferent}
 use Rattle.maid_model.specs.Names.{NamesFit, agent_name}
 use Rattle.maid_model.specs.Nodes.{is_chance}
 use Rattle.maid_model.specs.Views.{NodeView}
 use Rattle.net_lexer.specs.Token.{text_value}
 use Rattle.net_build.specs.declared.nodes.Head.{Head}
-use Rattle.net_build.specs.Blocks.{is_node, kind_of, node_blocks, block_name, has_states, has_agent, named, leaves_of, label_tokens, block_labels, block_states, agent_of, agents_of, place_among, owner_of, block_parents, parent_lists, is_plain, first_sights, no_token}
+use Rattle.net_build.specs.Blocks.{is_node, kind_of, node_blocks, block_name, has_states, has_agent, may_share, named, leaves_of, label_tokens, block_labels, block_states, owner_names, agents_of, place_among, owners_of, block_parents, parent_lists, is_plain, first_sights, no_token}
 use Rattle.net_build.specs.Building.{StandsFor, AreTables, names_view}
 use Rattle.net_build.specs.Form.{IsNodeName, HasTextForm}
-use Rattle.net_build.specs.Stages.{TableLists, AreLinks, TablesFit, head_of, node_lists, link_lists, head_at, no_head, made_at, made_nodes, made_diagram}
+use Rattle.net_build.specs.Stages.{TableLists, AreLinks, TablesFit, first_owner, more_owners, head_of, node_lists, link_lists, head_at, no_head, made_at, made_nodes, made_diagram}
 use Rattle.net_build.specs.Table.{IsUtilityScale, node_pass, no_block}
 use Rattle.net_lexer.specs.declared.tokens.Token.{Token}
 use Rattle.net_parser.specs.Owned.{IsBlockOf}
 use Rattle.net_parser.specs.Trees.{BlockTree}
 use Rattle.net_parser.specs.declared.trees.BlockKind.{BlockKind}
 use Rattle.net_parser.specs.declared.trees.BlockKind.TheVariants as blocks
-use Rattle.net_build.proofs.AgentFacts.{place_within, agents_known, owners_name}
-use Rattle.net_build.proofs.MadeDiagram.{HeadFits, Fits, made_node_at, made_is_diagram}
+use Rattle.net_build.proofs.AgentFacts.{HasOwnersOf, agents_known, owners_name, places_within, places_differ}
+use Rattle.net_build.proofs.MadeDiagram.{HeadFits, OwnersFit, Fits, made_node_at, made_is_diagram}
 use Rattle.net_build.proofs.NodeFacts.{IsGood, AreGood, nodes_are_good, sights_all}
 use Rattle.net_build.proofs.NodeLemmas.{node_is_named}
+use Rattle.net_build.proofs.OwnerLemmas.{first_and_more}
 use Rattle.net_build.proofs.SightLemmas.{agents_among}
 
 -- a function of the elements by their places
@@ -43,6 +46,10 @@ filter_map_swap p f (x ∷ xs) = by_test (p (f x)) refl (filter_map_swap p f xs)
 
 by_places : {X Y : Type 0} (h : X → Y) (xs : List X) (d : X) → map (λ v. h (get_or xs v d)) (range_with_len 0 (length xs)) ≡ map h xs
 by_places h xs d = sym (fill_by_all (λ v. h (get_or xs v d)) (map h xs) (length xs) (h d) (length-map xs h) (λ k l. get_or-map h xs k d (h d) l))
+
+-- a list by what stands at each of its places
+by_each : {Y : Type 0} (f : ℕ → List Y) (ys : List (List Y)) (n : ℕ) → length ys ≡ n → ((v : ℕ) → v < n → f v ≡ get_or ys v []) → map f (range_with_len 0 n) ≡ ys
+by_each f ys n len here = sym (fill_by_all f ys n [] len (λ k l. sym (here k l)))
 
 -- what holds of all heads, and of what stands for one that isn't there, holds at each number
 at_all : (P : Head → Type 0) (heads : List Head) → All P heads → P no_head → (v : ℕ) → P (head_at heads v)
@@ -74,7 +81,7 @@ block_fits text nodes b good node = by_kind b.kind refl node where
         some = omega (arith, count, some);
         many = omega (arith, count, few);
         utility = λ u. let clash : Chance ≡ Utility = sym (ap kind_of e) ∙ u in cc;
-        chance = λ c. ap (λ k. if has_agent k then place_among (agents_of text nodes) (agent_of text b) else 0) e;
+        chance = λ c. ap (λ k. get_or (if has_agent k then map (place_among (agents_of text nodes)) (owner_names text b) else 0 ∷ []) 0 0) e;
       }
   by_kind blocks.Decision e n =
       let count = with_labels blocks.Decision e refl in
@@ -104,6 +111,13 @@ has_owner blocks.Decision n c = refl
 has_owner blocks.Utility n c = refl
 has_owner blocks.Potential n c = absurd (false≢true n)
 
+not_shared : (k : BlockKind) → is_node k ≡ true → kind_of k ≢ Utility → may_share k ≡ false
+not_shared blocks.Net n c = absurd (false≢true n)
+not_shared blocks.Node n c = refl
+not_shared blocks.Decision n c = refl
+not_shared blocks.Utility n c = absurd (c refl)
+not_shared blocks.Potential n c = absurd (false≢true n)
+
 has_labels : (k : BlockKind) → is_node k ≡ true → kind_of k ≢ Utility → has_states k ≡ true
 has_labels blocks.Net n c = absurd (false≢true n)
 has_labels blocks.Node n c = refl
@@ -127,6 +141,9 @@ module _ (text : List ℕ) (tree : List BlockTree) (tables : TableLists) (own : 
   abbrev heads : List Head
   heads = map (head_of text (node_blocks tree)) (node_blocks tree)
 
+  abbrev more : List (List ℕ)
+  more = map (more_owners text (node_blocks tree)) (node_blocks tree)
+
   good : AreGood text nodes
   good = nodes_are_good text tree rows
 
@@ -143,11 +160,57 @@ module _ (text : List ℕ) (tree : List BlockTree) (tables : TableLists) (own : 
   heads_are = at_all HeadFits heads (All-map HeadFits (head_of text nodes) nodes (λ k d h. block_fits text nodes (get_or nodes k d) (good.each k d h) (kinds k d h)))
       (record { some = omega arith; many = omega arith; utility = λ u. refl; chance = λ c. refl })
 
-  owners_are : (v : ℕ) → v < length heads → (head_at heads v).kind ≢ Chance → (head_at heads v).owner < length (agents_of text nodes)
-  owners_are v h = (All-map (λ (x : Head). x.kind ≢ Chance → x.owner < length (agents_of text nodes)) (head_of text nodes) nodes
-      (λ k d l c. let agent = has_owner (get_or nodes k d).kind (kinds k d l) c in
-      let place : owner_of text nodes (get_or nodes k d) ≡ place_among (agents_of text nodes) (agent_of text (get_or nodes k d)) = ap (λ t. if t then place_among (agents_of text nodes) (agent_of text (get_or nodes k d)) else 0) agent in
-      subst (λ (n : ℕ). n < length (agents_of text nodes)) (sym place) (place_within (agents_of text nodes) (agent_of text (get_or nodes k d)) (agents_known text nodes k d l agent)))) v no_head h
+  -- each node has an owner's number
+  some_owner : (b : BlockTree) → is_node b.kind ≡ true → IsGood text b → 0 < length (owners_of text nodes b)
+  some_owner b node this = by_test (has_agent b.kind) refl where
+    by_test : (t : Bool) → has_agent b.kind ≡ t → 0 < length (owners_of text nodes b)
+    by_test true e =
+        let count = ap (λ t. length (if t then map (place_among (agents_of text nodes)) (owner_names text b) else 0 ∷ [])) e ∙ length-map (owner_names text b) (place_among (agents_of text nodes)) in
+        let some = (this.owners e).some in omega (arith, count, some)
+    by_test false e = let count = ap (λ t. length (if t then map (place_among (agents_of text nodes)) (owner_names text b) else 0 ∷ [])) e in omega (arith, count)
+
+  -- the owners of a block fit its kind
+  owners_of_block : (b : BlockTree) → is_node b.kind ≡ true → IsGood text b → HasOwnersOf text (agents_of text nodes) b → OwnersFit (kind_of b.kind) (first_owner text nodes b) (more_owners text nodes b) (length (agents_of text nodes))
+  owners_of_block b node this known = by_test (has_agent b.kind) refl where
+    nothing_in : Contains {X = ℕ} [] 0 → ⊥
+    nothing_in (k, l, f) = absurd (omega arith)
+
+    alone : (owners : List ℕ) → length owners ≡ 1 → drop 1 owners ≡ []
+    alone [] l = absurd (omega arith)
+    alone (o ∷ []) l = refl
+    alone (o ∷ p ∷ owners) l = absurd (omega arith)
+
+    by_test : (t : Bool) → has_agent b.kind ≡ t → OwnersFit (kind_of b.kind) (first_owner text nodes b) (more_owners text nodes b) (length (agents_of text nodes))
+    by_test true e =
+        let names = this.owners e in
+        let are : owners_of text nodes b ≡ map (place_among (agents_of text nodes)) (owner_names text b) = ap (λ t. if t then map (place_among (agents_of text nodes)) (owner_names text b) else 0 ∷ []) e in
+        let count : length (owners_of text nodes b) ≡ length (owner_names text b) = ap length are ∙ length-map (owner_names text b) (place_among (agents_of text nodes)) in
+        let whole : first_owner text nodes b ∷ more_owners text nodes b ≡ map (place_among (agents_of text nodes)) (owner_names text b) = first_and_more (owners_of text nodes b) (let s = names.some in omega (arith, count, s)) ∙ are in
+        record {
+          known = λ c. subst (All (λ a. a < length (agents_of text nodes))) (sym whole) (places_within (agents_of text nodes) (owner_names text b) (known e));
+          differ = subst AllDifferent (sym whole) (places_differ (agents_of text nodes) (owner_names text b) (known e) names.distinct);
+          one = λ u. alone (owners_of text nodes b) (count ∙ names.one (not_shared b.kind node u));
+        }
+    by_test false e =
+        let are : owners_of text nodes b ≡ 0 ∷ [] = ap (λ t. if t then map (place_among (agents_of text nodes)) (owner_names text b) else 0 ∷ []) e in
+        record {
+          known = λ c. absurd (false≢true (sym e ∙ has_owner b.kind node c));
+          differ = subst (λ l. AllDifferent (get_or l 0 0 ∷ drop 1 l)) (sym are) ((λ c. absurd (nothing_in c)), tt);
+          one = λ u. ap (drop 1) are;
+        }
+
+  owners_are : (v : ℕ) → v < length heads → OwnersFit (head_at heads v).kind (head_at heads v).owner (get_or more v []) (length (agents_of text nodes))
+  owners_are v h =
+      let within : v < length nodes = subst (λ (n : ℕ). v < n) heads_len h in
+      let b : BlockTree = get_or nodes v no_block in
+      let head : head_at heads v ≡ head_of text nodes b = get_or-map (head_of text nodes) nodes v no_block no_head within in
+      let others : get_or more v [] ≡ more_owners text nodes b = get_or-map (more_owners text nodes) nodes v no_block [] within in
+      let fit = owners_of_block b (kinds v no_block within) (good.each v no_block within) (agents_known text nodes v no_block within) in
+      subst (λ (x : Head). OwnersFit x.kind x.owner (get_or more v []) (length (agents_of text nodes))) (sym head)
+      (subst (λ (m : List ℕ). OwnersFit (kind_of b.kind) (first_owner text nodes b) m (length (agents_of text nodes))) (sym others) fit)
+
+  more_len : length more ≡ length heads
+  more_len = length-map nodes (more_owners text nodes) ∙ sym heads_len
 
   parents_len : length (parent_lists text tree) ≡ length heads
   parents_len = let n = heads_len in let m = length-map nodes (λ b. block_parents text tree (block_name text b)) in omega arith
@@ -155,8 +218,9 @@ module _ (text : List ℕ) (tree : List BlockTree) (tables : TableLists) (own : 
   cells_len : length tables.cells ≡ length heads
   cells_len = are.len ∙ sym heads_len
 
-  fits : Fits heads (parent_lists text tree) tables.cells (length (agents_of text nodes)) tables.decimals
+  fits : Fits heads more (parent_lists text tree) tables.cells (length (agents_of text nodes)) tables.decimals
   fits = record {
+    more_len = more_len;
     parents_len = parents_len;
     cells_len = cells_len;
     heads_fit = heads_are;
@@ -169,38 +233,53 @@ module _ (text : List ℕ) (tree : List BlockTree) (tables : TableLists) (own : 
   }
 
   pub made_is : IsDiagram (made_diagram (node_lists text (node_blocks tree)) (link_lists text tree) tables)
-  made_is = made_is_diagram heads (parent_lists text tree) tables.cells (length (agents_of text nodes)) tables.decimals fits
+  made_is = made_is_diagram heads more (parent_lists text tree) tables.cells (length (agents_of text nodes)) tables.decimals fits
 
   -- a part of each head, as a part of each node
-  parts : {Y : Type 0} (h : Head → Y) (g : NodeView → Y) → ((v : ℕ) → g (made_at heads (parent_lists text tree) tables.cells v) ≡ h (head_at heads v)) → map g (made_nodes heads (parent_lists text tree) tables.cells) ≡ map (λ b. h (head_of text nodes b)) nodes
+  parts : {Y : Type 0} (h : Head → Y) (g : NodeView → Y) → ((v : ℕ) → g (made_at heads more (parent_lists text tree) tables.cells v) ≡ h (head_at heads v)) → map g (made_nodes heads more (parent_lists text tree) tables.cells) ≡ map (λ b. h (head_of text nodes b)) nodes
   parts h g same =
-      map_map g (made_at heads (parent_lists text tree) tables.cells) (range_with_len 0 (length heads))
+      map_map g (made_at heads more (parent_lists text tree) tables.cells) (range_with_len 0 (length heads))
       ∙ ap (λ f. map f (range_with_len 0 (length heads))) (λ j v. same v j)
       ∙ by_places h heads no_head
       ∙ map_map h (head_of text nodes) nodes
 
   -- a list with an element for each node
-  columns : {X : Type 0} (xs : List X) (d : X) (g : NodeView → X) → length xs ≡ length heads → ((v : ℕ) → g (made_at heads (parent_lists text tree) tables.cells v) ≡ get_or xs v d) → map g (made_nodes heads (parent_lists text tree) tables.cells) ≡ xs
+  columns : {X : Type 0} (xs : List X) (d : X) (g : NodeView → X) → length xs ≡ length heads → ((v : ℕ) → g (made_at heads more (parent_lists text tree) tables.cells v) ≡ get_or xs v d) → map g (made_nodes heads more (parent_lists text tree) tables.cells) ≡ xs
   columns xs d g len same =
-      map_map g (made_at heads (parent_lists text tree) tables.cells) (range_with_len 0 (length heads))
+      map_map g (made_at heads more (parent_lists text tree) tables.cells) (range_with_len 0 (length heads))
       ∙ (λ j. map (λ v. same v j) (range_with_len 0 (sym len j)))
       ∙ by_places (λ x. x) xs d
       ∙ map-id xs
+
+  -- each node's owners are its block's
+  owner_lists : map (λ n. n.owner ∷ n.more) (made_nodes heads more (parent_lists text tree) tables.cells) ≡ map (owners_of text nodes) nodes
+  owner_lists =
+      map_map (λ n. n.owner ∷ n.more) (made_at heads more (parent_lists text tree) tables.cells) (range_with_len 0 (length heads))
+      ∙ by_each (λ v. (head_at heads v).owner ∷ get_or more v []) (map (owners_of text nodes) nodes) (length heads) (length-map nodes (owners_of text nodes) ∙ sym heads_len) here
+    where
+      here : (v : ℕ) → v < length heads → (head_at heads v).owner ∷ get_or more v [] ≡ get_or (map (owners_of text nodes) nodes) v []
+      here v h =
+          let within : v < length nodes = subst (λ (n : ℕ). v < n) heads_len h in
+          let b : BlockTree = get_or nodes v no_block in
+          let head : head_at heads v ≡ head_of text nodes b = get_or-map (head_of text nodes) nodes v no_block no_head within in
+          let others : get_or more v [] ≡ more_owners text nodes b = get_or-map (more_owners text nodes) nodes v no_block [] within in
+          (λ j. (head j).owner ∷ others j) ∙ first_and_more (owners_of text nodes b) (some_owner b (kinds v no_block within) (good.each v no_block within))
+          ∙ sym (get_or-map (owners_of text nodes) nodes v no_block [] within)
 
   pub made_stands : StandsFor text tree (made_diagram (node_lists text (node_blocks tree)) (link_lists text tree) tables) (names_view text tree)
   made_stands = record {
     names_are = refl;
     agents = refl;
     kinds = parts (λ h. h.kind) (λ n. n.kind) (λ v. refl);
-    owners = parts (λ h. h.owner) (λ n. n.owner) (λ v. refl);
+    owners = owner_lists;
     states = parts (λ h. h.states) (λ n. n.states) (λ v. refl);
     parents = columns (parent_lists text tree) [] (λ n. n.parents) parents_len (λ v. refl);
     scale = scale;
     tables = subst (AreTables text tree tables.decimals) (sym (columns tables.cells [] (λ n. n.cells) cells_len (λ v. refl))) are;
   }
 
-  made_len : length (made_nodes heads (parent_lists text tree) tables.cells) ≡ length heads
-  made_len = length-map-range_with_len (made_at heads (parent_lists text tree) tables.cells) 0 (length heads)
+  made_len : length (made_nodes heads more (parent_lists text tree) tables.cells) ≡ length heads
+  made_len = length-map-range_with_len (made_at heads more (parent_lists text tree) tables.cells) 0 (length heads)
 
   label_counts : (v : ℕ) → v < length heads → (head_at heads v).kind ≢ Utility → length (get_or (map (block_labels text) nodes) v []) ≡ (head_at heads v).states
   label_counts v h other =
@@ -216,7 +295,7 @@ module _ (text : List ℕ) (tree : List BlockTree) (tables : TableLists) (own : 
     nodes = length-map nodes (block_name text) ∙ sym (made_len ∙ heads_len);
     labels = length-map nodes (block_labels text) ∙ sym (made_len ∙ heads_len);
     states = λ v h.
-        let at = made_node_at heads (parent_lists text tree) tables.cells parents_len cells_len v in
+        let at = made_node_at heads more (parent_lists text tree) tables.cells more_len parents_len cells_len v in
         let within : v < length heads = subst (λ (n : ℕ). v < n) made_len h in
         subst (λ (n : NodeView). n.kind ≢ Utility → length (get_or (map (block_labels text) nodes) v []) ≡ n.states) (sym at) (label_counts v within);
     agents = refl;
@@ -243,20 +322,48 @@ module _ (text : List ℕ) (tree : List BlockTree) (tables : TableLists) (own : 
     by_test false e = subst (λ (ts : List Token). All (λ l. is_plain l ≡ true) (map (text_value text) ts)) (sym (ap (λ t. if t then leaves_of (named text (codes "states") b.attributes) else []) e)) (λ k d h. absurd (omega arith))
 
   agents_plain : All (λ a. is_plain a ≡ true) (agents_of text nodes)
-  agents_plain = sights_all (λ a. is_plain a ≡ true) (agents_among text nodes) (All-map (λ a. is_plain a ≡ true) (agent_of text) (filter (λ b. has_agent b.kind) nodes)
-      (λ k d h. (All-filter (λ b. has_agent b.kind) (IsGood text) nodes good.each k d h).agent (filter_passes (λ b. has_agent b.kind) nodes k d h)))
+  agents_plain = sights_all (λ a. is_plain a ≡ true) (agents_among text nodes) (all_among (filter (λ b. has_agent b.kind) nodes)
+      (λ k d h. ((All-filter (λ b. has_agent b.kind) (IsGood text) nodes good.each k d h).owners (filter_passes (λ b. has_agent b.kind) nodes k d h)).plain))
+    where
+      all_among : (bs : List BlockTree) → All (λ b. All (λ a. is_plain a ≡ true) (owner_names text b)) bs → All (λ a. is_plain a ≡ true) (flat_map (owner_names text) bs)
+      all_among [] all = All-nil (λ a. is_plain a ≡ true)
+      all_among (b ∷ bs) all = subst (All (λ a. is_plain a ≡ true)) (sym (flat_map-cons (owner_names text) b bs))
+          (All-append (λ a. is_plain a ≡ true) (owner_names text b) (flat_map (owner_names text) bs) (all 0 b (omega arith)) (all_among bs (λ k d h. all (suc k) d (omega arith))))
 
   -- the agents by the nodes' owners
-  numbered : agents_of text nodes ≡ first_sights (map (λ n. agent_name (names_view text tree) n.owner) (filter (λ n. not (is_chance n.kind)) (made_nodes heads (parent_lists text tree) tables.cells)))
-  numbered = sym (ap first_sights
-      (ap (map (λ n. get_or (agents_of text nodes) n.owner [])) (filter_map_swap (λ n. not (is_chance n.kind)) (made_at heads (parent_lists text tree) tables.cells) (range_with_len 0 (length heads)))
-      ∙ map_map (λ n. get_or (agents_of text nodes) n.owner []) (made_at heads (parent_lists text tree) tables.cells) (filter (λ v. not (is_chance (head_at heads v).kind)) (range_with_len 0 (length heads)))
-      ∙ sym (map_map (λ h. get_or (agents_of text nodes) h.owner []) (head_at heads) (filter (λ v. not (is_chance (head_at heads v).kind)) (range_with_len 0 (length heads))))
-      ∙ ap (map (λ h. get_or (agents_of text nodes) h.owner [])) (sym (filter_map_swap (λ h. not (is_chance h.kind)) (head_at heads) (range_with_len 0 (length heads))))
-      ∙ ap (λ hs. map (λ h. get_or (agents_of text nodes) h.owner []) (filter (λ h. not (is_chance h.kind)) hs)) (by_places (λ h. h) heads no_head ∙ map-id heads)
-      ∙ ap (map (λ h. get_or (agents_of text nodes) h.owner [])) (filter_map_swap (λ h. not (is_chance h.kind)) (head_of text nodes) nodes)
-      ∙ map_map (λ h. get_or (agents_of text nodes) h.owner []) (head_of text nodes) (filter (λ b. not (is_chance (kind_of b.kind))) nodes)
-      ∙ owners_name text nodes nodes kinds (agents_known text nodes)))
+  numbered : agents_of text nodes ≡ first_sights (flat_map (λ n. map (agent_name (names_view text tree)) (n.owner ∷ n.more)) (filter (λ n. not (is_chance n.kind)) (made_nodes heads more (parent_lists text tree) tables.cells)))
+  numbered = sym (ap first_sights (kept (made_nodes heads more (parent_lists text tree) tables.cells) nodes kinds_same owner_lists ∙ owners_name text nodes nodes kinds (agents_known text nodes)))
+    where
+      kinds_same : map (λ (n : NodeView). n.kind) (made_nodes heads more (parent_lists text tree) tables.cells) ≡ map (λ b. kind_of b.kind) nodes
+      kinds_same = parts (λ h. h.kind) (λ n. n.kind) (λ v. refl)
+
+      named : List ℕ → List (List ℕ)
+      named owners = map (λ v. get_or (agents_of text nodes) v []) owners
+
+      -- what is kept by kinds and named by owners is the same where these are
+      kept : (ns : List NodeView) (bs : List BlockTree) → map (λ (n : NodeView). n.kind) ns ≡ map (λ b. kind_of b.kind) bs → map (λ (n : NodeView). n.owner ∷ n.more) ns ≡ map (owners_of text nodes) bs
+          → flat_map (λ (n : NodeView). named (n.owner ∷ n.more)) (filter (λ n. not (is_chance n.kind)) ns) ≡ flat_map (λ b. named (owners_of text nodes b)) (filter (λ b. not (is_chance (kind_of b.kind))) bs)
+      kept [] [] k o = refl
+      kept [] (b ∷ bs) k o = cc
+      kept (n ∷ ns) [] k o = cc
+      kept (n ∷ ns) (b ∷ bs) k o =
+          let kinds : n.kind ≡ kind_of b.kind = ap (λ l. get_or l 0 Chance) k in
+          let owners : n.owner ∷ n.more ≡ owners_of text nodes b = ap (λ l. get_or l 0 []) o in
+          by_test (not (is_chance n.kind)) refl (ap (λ x. not (is_chance x)) kinds) owners (kept ns bs (ap (drop 1) k) (ap (drop 1) o))
+        where
+          by_test : (t : Bool) → not (is_chance n.kind) ≡ t → not (is_chance n.kind) ≡ not (is_chance (kind_of b.kind)) → n.owner ∷ n.more ≡ owners_of text nodes b
+              → flat_map (λ (n : NodeView). named (n.owner ∷ n.more)) (filter (λ n. not (is_chance n.kind)) ns) ≡ flat_map (λ b. named (owners_of text nodes b)) (filter (λ b. not (is_chance (kind_of b.kind))) bs)
+              → flat_map (λ (n : NodeView). named (n.owner ∷ n.more)) (filter (λ n. not (is_chance n.kind)) (n ∷ ns)) ≡ flat_map (λ b. named (owners_of text nodes b)) (filter (λ b. not (is_chance (kind_of b.kind))) (b ∷ bs))
+          by_test true t same owners rec =
+              ap (λ c. flat_map (λ (n : NodeView). named (n.owner ∷ n.more)) (cond c (n ∷ filter (λ n. not (is_chance n.kind)) ns) (filter (λ n. not (is_chance n.kind)) ns))) t
+              ∙ flat_map-cons (λ (n : NodeView). named (n.owner ∷ n.more)) n (filter (λ n. not (is_chance n.kind)) ns)
+              ∙ (λ j. named (owners j) ++ rec j)
+              ∙ sym (flat_map-cons (λ b. named (owners_of text nodes b)) b (filter (λ b. not (is_chance (kind_of b.kind))) bs))
+              ∙ sym (ap (λ c. flat_map (λ b. named (owners_of text nodes b)) (cond c (b ∷ filter (λ b. not (is_chance (kind_of b.kind))) bs) (filter (λ b. not (is_chance (kind_of b.kind))) bs))) (sym same ∙ t))
+          by_test false t same owners rec =
+              ap (λ c. flat_map (λ (n : NodeView). named (n.owner ∷ n.more)) (cond c (n ∷ filter (λ n. not (is_chance n.kind)) ns) (filter (λ n. not (is_chance n.kind)) ns))) t
+              ∙ rec
+              ∙ sym (ap (λ c. flat_map (λ b. named (owners_of text nodes b)) (cond c (b ∷ filter (λ b. not (is_chance (kind_of b.kind))) bs) (filter (λ b. not (is_chance (kind_of b.kind))) bs))) (sym same ∙ t))
 
   pub made_form : HasTextForm (made_diagram (node_lists text (node_blocks tree)) (link_lists text tree) tables) (names_view text tree)
   made_form = record {
@@ -264,7 +371,7 @@ module _ (text : List ℕ) (tree : List BlockTree) (tables : TableLists) (own : 
     words = All-map IsNodeName (block_name text) nodes (λ k d h. node_name (get_or nodes k d) (owned_blocks k d h) (kinds k d h) (good.each k d h).short);
     labels = All-map (All (λ l. is_plain l ≡ true)) (block_labels text) nodes (λ k d h. labels_plain (get_or nodes k d) (good.each k d h));
     utility_labels = λ v u.
-        let at = made_node_at heads (parent_lists text tree) tables.cells parents_len cells_len v in
+        let at = made_node_at heads more (parent_lists text tree) tables.cells more_len parents_len cells_len v in
         labels_absent v (sym (ap (λ (n : NodeView). n.kind) at) ∙ u);
     agents = agents_plain;
     numbered = numbered;

@@ -7,7 +7,7 @@ use Rattle.std.specs.Str.{bytes_eq}
 use Rattle.net_build.specs.declared.faults.BuildFault.{BuildFault}
 use Rattle.net_build.specs.declared.faults.BuildFault.TheVariants.{Fault}
 use Rattle.net_build.specs.declared.faults.BuildKind.TheVariants as kinds
-use Rattle.net_build.specs.Blocks.{is_counted, word_of}
+use Rattle.net_build.specs.Blocks.{is_counted, topic_of, word_of}
 use Rattle.first_fault.specs.Passes.{Pass}
 use Rattle.first_fault.specs.Answers.{IsFaultOrNoMemory}
 use Rattle.net_build.specs.Passes.{Found, build_fault}
@@ -40,55 +40,60 @@ pub contains_none : {X : Type 0} (x : X) → Contains [] x → ⊥
 contains_none x (k, within, here) = omega arith
 
 -- the words of the items that a test keeps, one item on
-words_kept : {X : Type 0} (f : X → List ℕ) (q : List ℕ → Bool) (x : X) (xs : List X) → q (f x) ≡ true → map f (filter (λ y. q (f y)) (x ∷ xs)) ≡ f x ∷ map f (filter (λ y. q (f y)) xs)
-words_kept f q x xs e = ap (λ b. map f (cond b (x ∷ filter (λ y. q (f y)) xs) (filter (λ y. q (f y)) xs))) e
+words_kept : {X : Type 0} (f : X → List ℕ) (p : X → Bool) (x : X) (xs : List X) → p x ≡ true → map f (filter p (x ∷ xs)) ≡ f x ∷ map f (filter p xs)
+words_kept f p x xs e = ap (λ b. map f (cond b (x ∷ filter p xs) (filter p xs))) e
 
-words_left : {X : Type 0} (f : X → List ℕ) (q : List ℕ → Bool) (x : X) (xs : List X) → q (f x) ≡ false → map f (filter (λ y. q (f y)) (x ∷ xs)) ≡ map f (filter (λ y. q (f y)) xs)
-words_left f q x xs e = ap (λ b. map f (cond b (x ∷ filter (λ y. q (f y)) xs) (filter (λ y. q (f y)) xs))) e
+words_left : {X : Type 0} (f : X → List ℕ) (p : X → Bool) (x : X) (xs : List X) → p x ≡ false → map f (filter p (x ∷ xs)) ≡ map f (filter p xs)
+words_left f p x xs e = ap (λ b. map f (cond b (x ∷ filter p xs) (filter p xs))) e
 
 pub or_true : (b : Bool) → (b || true) ≡ true
 or_true true = refl
 or_true false = refl
 
--- an item of that word is among those kept
-pub any_is_contained : {X : Type 0} (f : X → List ℕ) (q : List ℕ → Bool) (w : List ℕ) (xs : List X) → q w ≡ true → list_any (λ x. bytes_eq (f x) w) xs ≡ true → Contains (map f (filter (λ x. q (f x)) xs)) w
-any_is_contained f q w [] kept any = absurd (false≢true any)
-any_is_contained f q w (x ∷ xs) kept any = by_test (bytes_eq (f x) w) refl (q (f x)) refl (λ k. any_is_contained f q w xs kept k) where
-  by_test : (b : Bool) → bytes_eq (f x) w ≡ b → (t : Bool) → q (f x) ≡ t → (list_any (λ y. bytes_eq (f y) w) xs ≡ true → Contains (map f (filter (λ y. q (f y)) xs)) w) → Contains (map f (filter (λ y. q (f y)) (x ∷ xs))) w
-  by_test true e t k rec = let same : f x ≡ w = (bytes_eq-Decides (f x) w).0 e in rw (words_kept f q x xs (ap q same ∙ kept)) (0, omega arith, same)
-  by_test false e true k rec = rw (words_kept f q x xs k) (contains_later (f x) w _ (rec (ap (λ b. b || list_any (λ y. bytes_eq (f y) w) xs) (sym e) ∙ any)))
-  by_test false e false k rec = rw (words_left f q x xs k) (rec (ap (λ b. b || list_any (λ y. bytes_eq (f y) w) xs) (sym e) ∙ any))
+-- an item that the test keeps and that has the word
+abbrev pub has_kept : {X : Type 0} → (X → List ℕ) → (X → Bool) → List ℕ → List X → Bool
+has_kept f p w xs = list_any (λ x. p x && bytes_eq (f x) w) xs
 
--- an item among those kept has that word
-pub contained_is_any : {X : Type 0} (f : X → List ℕ) (q : List ℕ → Bool) (w : List ℕ) (xs : List X) → Contains (map f (filter (λ x. q (f x)) xs)) w → list_any (λ x. bytes_eq (f x) w) xs ≡ true
-contained_is_any f q w [] h = absurd (contains_none w h)
-contained_is_any f q w (x ∷ xs) h = by_test (q (f x)) refl (λ k. ap (λ b. bytes_eq (f x) w || b) (contained_is_any f q w xs k) ∙ or_true (bytes_eq (f x) w)) where
-  here : (f x ≡ w) ⊎ Contains (map f (filter (λ y. q (f y)) xs)) w → (Contains (map f (filter (λ y. q (f y)) xs)) w → (bytes_eq (f x) w || list_any (λ y. bytes_eq (f y) w) xs) ≡ true) → (bytes_eq (f x) w || list_any (λ y. bytes_eq (f y) w) xs) ≡ true
-  here (inl e) later = ap (λ b. b || list_any (λ y. bytes_eq (f y) w) xs) (bytes_same (f x) w e)
-  here (inr k) later = later k
+-- is among those kept
+pub any_is_contained : {X : Type 0} (f : X → List ℕ) (p : X → Bool) (w : List ℕ) (xs : List X) → has_kept f p w xs ≡ true → Contains (map f (filter p xs)) w
+any_is_contained f p w [] any = absurd (false≢true any)
+any_is_contained f p w (x ∷ xs) any = by_test (p x) refl (bytes_eq (f x) w) refl (λ k. any_is_contained f p w xs k) where
+  by_test : (t : Bool) → p x ≡ t → (b : Bool) → bytes_eq (f x) w ≡ b → (has_kept f p w xs ≡ true → Contains (map f (filter p xs)) w) → Contains (map f (filter p (x ∷ xs))) w
+  by_test true k true e rec = rw (words_kept f p x xs k) (0, omega arith, (bytes_eq-Decides (f x) w).0 e)
+  by_test true k false e rec = rw (words_kept f p x xs k) (contains_later (f x) w _ (rec (sym (λ i. (k i && e i) || has_kept f p w xs) ∙ any)))
+  by_test false k b e rec = rw (words_left f p x xs k) (rec (sym (λ i. (k i && bytes_eq (f x) w) || has_kept f p w xs) ∙ any))
 
-  by_test : (t : Bool) → q (f x) ≡ t → (Contains (map f (filter (λ y. q (f y)) xs)) w → (bytes_eq (f x) w || list_any (λ y. bytes_eq (f y) w) xs) ≡ true) → (bytes_eq (f x) w || list_any (λ y. bytes_eq (f y) w) xs) ≡ true
-  by_test true k later = here (contains_cases (f x) w _ (rw (words_kept f q x xs k) at h)) later
-  by_test false k later = later (rw (words_left f q x xs k) at h)
+-- and the other way round
+pub contained_is_any : {X : Type 0} (f : X → List ℕ) (p : X → Bool) (w : List ℕ) (xs : List X) → Contains (map f (filter p xs)) w → has_kept f p w xs ≡ true
+contained_is_any f p w [] h = absurd (contains_none w h)
+contained_is_any f p w (x ∷ xs) h = by_test (p x) refl (λ k. ap (λ b. (p x && bytes_eq (f x) w) || b) (contained_is_any f p w xs k) ∙ or_true (p x && bytes_eq (f x) w)) where
+  by_test : (t : Bool) → p x ≡ t → (Contains (map f (filter p xs)) w → has_kept f p w (x ∷ xs) ≡ true) → has_kept f p w (x ∷ xs) ≡ true
+  by_test true k later = here (contains_cases (f x) w _ (rw (words_kept f p x xs k) at h)) where
+    here : (f x ≡ w) ⊎ Contains (map f (filter p xs)) w → has_kept f p w (x ∷ xs) ≡ true
+    here (inl e) = λ i. (k i && bytes_same (f x) w e i) || has_kept f p w xs
+    here (inr m) = later m
+  by_test false k later = later (rw (words_left f p x xs k) at h)
 
 -- the attributes of a kind of block that count, and what those from place i on find
 abbrev pub CountedFrom : List ℕ → BlockKind → List AttributeTree → ℕ → Pass Found
 CountedFrom text kind attributes i = AfterPass (repeated_row text) (λ a. is_counted kind (word_of text a)) attributes i
 
--- the word counts and stands before the place
-abbrev pub stands_before : List ℕ → BlockKind → List AttributeTree → ℕ → List ℕ → Bool
-stands_before text kind attributes i word = is_counted kind word && list_any (λ a. bytes_eq (word_of text a) word) (take i attributes)
+-- the attribute counts, and so does one before the place that is about the same
+abbrev pub stands_before : List ℕ → BlockKind → List AttributeTree → ℕ → AttributeTree → Bool
+stands_before text kind attributes i x = is_counted kind (word_of text x) && has_kept (topic_of text) (λ a. is_counted kind (word_of text a)) (topic_of text x) (take i attributes)
 
--- where the attribute's does, it stands a second time
-pub repeated_refused : (text : List ℕ) (kind : BlockKind) (attributes : List AttributeTree) (W : Pass Found) (i : ℕ) (x : AttributeTree) (fault : BuildFault) → i < length attributes → x ≡ get_or attributes i x → stands_before text kind attributes i (word_of text x) ≡ true → fault ≡ Fault x.name.start kinds.DoubleAttribute → Leads (CountedFrom text kind attributes i) W → IsFaultOrNoMemory build_fault W fault
+-- where the attribute does, it stands a second time
+pub repeated_refused : (text : List ℕ) (kind : BlockKind) (attributes : List AttributeTree) (W : Pass Found) (i : ℕ) (x : AttributeTree) (fault : BuildFault) → i < length attributes → x ≡ get_or attributes i x
+    → stands_before text kind attributes i x ≡ true → fault ≡ Fault x.name.start kinds.DoubleAttribute → Leads (CountedFrom text kind attributes i) W → IsFaultOrNoMemory build_fault W fault
 repeated_refused text kind attributes W i x fault h is before what lead =
     rw what (after_refused (repeated_row text) (λ a. is_counted kind (word_of text a)) attributes W i x (build_fault (Fault x.name.start kinds.DoubleAttribute)) h is (and_left _ _ before) lead
-    (any_is_contained (word_of text) (is_counted kind) (word_of text x) (take i attributes) (and_left _ _ before) (and_right _ _ before), refl))
+    (any_is_contained (topic_of text) (λ a. is_counted kind (word_of text a)) (topic_of text x) (take i attributes) (and_right _ _ before), refl))
 
 -- where it doesn't, the attributes behind it lead on
-pub repeated_on : (text : List ℕ) (kind : BlockKind) (attributes : List AttributeTree) (W : Pass Found) (i : ℕ) (x : AttributeTree) → i < length attributes → x ≡ get_or attributes i x → stands_before text kind attributes i (word_of text x) ≡ false → Leads (CountedFrom text kind attributes i) W → Leads (CountedFrom text kind attributes (i + 1)) W
+pub repeated_on : (text : List ℕ) (kind : BlockKind) (attributes : List AttributeTree) (W : Pass Found) (i : ℕ) (x : AttributeTree) → i < length attributes → x ≡ get_or attributes i x
+    → stands_before text kind attributes i x ≡ false → Leads (CountedFrom text kind attributes i) W → Leads (CountedFrom text kind attributes (i + 1)) W
 repeated_on text kind attributes W i x h is before lead = by_test (is_counted kind (word_of text x)) refl where
   by_test : (t : Bool) → is_counted kind (word_of text x) ≡ t → Leads (CountedFrom text kind attributes (i + 1)) W
   by_test true k = after_step (repeated_row text) (λ a. is_counted kind (word_of text a)) attributes W i x h is k lead
-      (λ among. false≢true (sym before ∙ ap (λ b. is_counted kind (word_of text x) && b) (contained_is_any (word_of text) (is_counted kind) (word_of text x) (take i attributes) among) ∙ ap (λ b. b && true) k))
+      (λ among. false≢true (sym before ∙ (λ j. k j && contained_is_any (topic_of text) (λ a. is_counted kind (word_of text a)) (topic_of text x) (take i attributes) among j)))
   by_test false k = after_skip (repeated_row text) (λ a. is_counted kind (word_of text a)) attributes W i x h is k lead

@@ -28,7 +28,7 @@ use Rattle.net_build.specs.Passes.{found, GraphCycle, WrongCount, WideWeight, Ze
 use Rattle.net_build.specs.Scaling.{IsWholeBy}
 use Rattle.net_build.specs.Blocks.{kind_of, block_states, row_count, cell_count, node_blocks, block_name, block_parents, parent_lists, title_at}
 use Rattle.net_build.specs.Stages.{head_of}
-use Rattle.net_build.specs.Table.{repeated_row, repeats, label_row, label_rows, states_rows, agent_rows, name_rows, owner_rows, node_rows, node_pass, condition_rows, potential_rows, potential_pass, missing_row, missing_pass, no_block, graph_pass, size_rows, size_pass, number_row, length_row, sign_row, total_row, rows_by, IsWideTotal, weight_rows, data_rows, table_rows, table_pass, utility_numbers, IsUtilityScale, wide_row, wide_pass, all_passes}
+use Rattle.net_build.specs.Table.{repeated_row, repeats, label_row, label_rows, states_rows, repeated_agent_row, agent_rows, sight_row, name_rows, owner_rows, node_rows, node_pass, condition_rows, potential_rows, potential_pass, missing_row, missing_pass, no_block, graph_pass, size_rows, size_pass, number_row, length_row, sign_row, total_row, rows_by, IsWideTotal, weight_rows, data_rows, table_rows, table_pass, utility_numbers, IsUtilityScale, wide_row, wide_pass, all_passes}
 use Rattle.net_build.proofs.FitLemmas.{known_arcs}
 use Rattle.net_build.proofs.LinksMade.{parents_fit}
 use Rattle.net_build.proofs.PlainTables.{whole_part}
@@ -54,7 +54,7 @@ states_rows_whole text block (states ∷ more) = label_rows_whole text states
 agent_rows_whole : (text : List ℕ) (attributes : List AttributeTree) → IsWhole (agent_rows text attributes)
 unfolding agent_rows
 agent_rows_whole text [] = clear_whole
-agent_rows_whole text (agent ∷ more) = rule_whole _ _ (dec_false _)
+agent_rows_whole text (agents ∷ more) = then_whole (rule_whole _ _ (dec_false _)) (each_after_whole {P = repeated_agent_row text} (λ earlier agent. rule_whole _ _ (dec_contains _ _)) [] _)
 
 name_rows_whole : (text : List ℕ) (names : List (List ℕ)) (block : BlockTree) → IsWhole (name_rows text names block)
 unfolding name_rows
@@ -62,7 +62,7 @@ name_rows_whole text names block = then_whole (rule_whole _ _ (dec_le _ _)) (the
 
 owner_rows_whole : (text : List ℕ) (agents : List (List ℕ)) (block : BlockTree) → IsWhole (owner_rows text agents block)
 unfolding owner_rows
-owner_rows_whole text agents block = then_whole (agent_rows_whole text _) (rule_whole _ _ (dec_both (dec_le _ _) (dec_not (dec_contains _ _))))
+owner_rows_whole text agents block = then_whole (agent_rows_whole text _) (each_after_whole {P = sight_row agents _} (λ earlier agent. rule_whole _ _ (dec_both (dec_le _ _) (dec_not (dec_contains _ _)))) [] _)
 
 node_rows_whole : (text : List ℕ) (names agents : List (List ℕ)) (block : BlockTree) → IsWhole (node_rows text names agents block)
 unfolding node_rows

@@ -23,7 +23,7 @@ use Rattle.first_fault.proofs.Leading.{Leads, drop_item, each_on, each_refused, 
 use Rattle.net_lexer.specs.Token.{text_value}
 use Rattle.net_lexer.specs.declared.tokens.Token.{Token}
 use Rattle.net_parser.specs.Owned.{leaves, all_leaves, IsLeafOf}
-use Rattle.net_parser.specs.Trees.{ValueTree, leaf, list, AttributeTree, BlockTree}
+use Rattle.net_parser.specs.Trees.{ValueTree, leaf, list, none, more, AttributeTree, BlockTree}
 use Rattle.net_parser.specs.Views.{value_tree, trees_of}
 use Rattle.net_parser.specs.declared.trees.Value.{Value}
 use Rattle.net_parser.specs.declared.trees.Value.TheVariants as values
@@ -127,6 +127,19 @@ pub one_leaf : (tree : ValueTree) → is_string tree ≡ true → length (leaves
 one_leaf (leaf t) e = refl
 one_leaf (list vs) e = absurd (false≢true e)
 
+-- a test that doesn't fail
+pub not_false : (b : Bool) → (b ≡ false → ⊥) → b ≡ true
+not_false true h = refl
+not_false false h = absurd (h refl)
+
+-- a list of strings has a leaf
+pub some_leaf : (tree : ValueTree) → is_string_list tree ≡ true → 0 < length (leaves tree)
+some_leaf (leaf t) e = absurd (false≢true e)
+some_leaf (list none) e = absurd (false≢true e)
+some_leaf (list (more v vs)) e =
+    let first = one_leaf v (and_left (is_string v) (are_strings vs) e) in
+    let sum = length-append (leaves v) (all_leaves vs) in omega arith
+
 -- strings have as many leaves as there are
 pub count_leaves : (vs : List Value) → list_all (λ w. is_string (value_tree w)) vs ≡ true → length (leaves_in vs) ≡ length vs
 count_leaves [] e = refl
@@ -155,7 +168,7 @@ few_states text states (Err (Fault at kind)) good few rows = inr (λ bad. false�
 -- a block without `states`
 pub no_states : (text : List ℕ) (block : BlockTree) (states : List AttributeTree) (fault : BuildFault) → states ≡ [] → fault ≡ Fault (title_at block) kinds.MissingStates → IsFaultOrNoMemory build_fault (states_rows text block states) fault
 unfolding states_rows
-no_states text block states fault none what = rw (what, none) (tt, refl)
+no_states text block states fault absent what = rw (what, absent) (tt, refl)
 
 -- a block with `states`
 pub some_states : {A : Type 0} (text : List ℕ) (block : BlockTree) (states : List AttributeTree) (first : AttributeTree) (rest : List AttributeTree) (result : Result A BuildFault) → states ≡ first ∷ rest → Passes build_fault (label_rows text first) result → Passes build_fault (states_rows text block states) result

@@ -23,6 +23,7 @@ pub mod OneDiagram
 pub mod OneWeights
 pub mod WholeRows
 pub mod OwnerLemmas
+pub mod OwnerNames
 pub mod NodeLemmas
 pub mod SightLemmas
 pub mod MadeLemmas

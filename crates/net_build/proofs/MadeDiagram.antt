@@ -25,12 +25,19 @@ pub record HeadFits (h : Head) : Type 0 where
   pub utility : h.kind ≡ Utility → h.states ≡ 1
   pub chance : h.kind ≡ Chance → h.owner ≡ 0
 
--- heads, parents and tables that fit one another
-pub record Fits (heads : List Head) (parents : List (List ℕ)) (cells : List (List ℤ)) (agents decimals : ℕ) : Type 0 where
+-- owners that fit a node of that kind, among so many agents
+pub record OwnersFit (kind : Kind) (owner : ℕ) (more : List ℕ) (agents : ℕ) : Type 0 where
+  pub known : kind ≢ Chance → All (λ a. a < agents) (owner ∷ more)
+  pub differ : AllDifferent (owner ∷ more)
+  pub one : kind ≢ Utility → more ≡ []
+
+-- heads, further owners, parents and tables that fit one another
+pub record Fits (heads : List Head) (more parents : List (List ℕ)) (cells : List (List ℤ)) (agents decimals : ℕ) : Type 0 where
+  pub more_len : length more ≡ length heads
   pub parents_len : length parents ≡ length heads
   pub cells_len : length cells ≡ length heads
   pub heads_fit : (v : ℕ) → HeadFits (head_at heads v)
-  pub owners : (v : ℕ) → v < length heads → (head_at heads v).kind ≢ Chance → (head_at heads v).owner < agents
+  pub owners : (v : ℕ) → v < length heads → OwnersFit (head_at heads v).kind (head_at heads v).owner (get_or more v []) agents
   pub count : length heads ≤ 256
   pub few_agents : agents ≤ 16
   pub links : AreLinks heads parents
@@ -52,27 +59,28 @@ rows_positive count some [] = omega arith
 rows_positive count some (u ∷ us) = let product = mul-lt 0 0 (count u) (rows_under count us) (some u) (rows_positive count some us) in product
 
 -- node number v
-pub made_node_at : (heads : List Head) (parents : List (List ℕ)) (cells : List (List ℤ)) → length parents ≡ length heads → length cells ≡ length heads → (v : ℕ) → node_at (made_nodes heads parents cells) v ≡ made_at heads parents cells v
-made_node_at heads parents cells ps cs v = by_place (cases_lt v (length heads)) where
-  by_place : (v < length heads) ⊎ (length heads ≤ v) → node_at (made_nodes heads parents cells) v ≡ made_at heads parents cells v
-  by_place (inl h) = get_or-map-range_with_len (made_at heads parents cells) 0 (length heads) v v no_node h (omega arith)
+pub made_node_at : (heads : List Head) (more parents : List (List ℕ)) (cells : List (List ℤ)) → length more ≡ length heads → length parents ≡ length heads → length cells ≡ length heads → (v : ℕ) → node_at (made_nodes heads more parents cells) v ≡ made_at heads more parents cells v
+made_node_at heads more parents cells ms ps cs v = by_place (cases_lt v (length heads)) where
+  by_place : (v < length heads) ⊎ (length heads ≤ v) → node_at (made_nodes heads more parents cells) v ≡ made_at heads more parents cells v
+  by_place (inl h) = get_or-map-range_with_len (made_at heads more parents cells) 0 (length heads) v v no_node h (omega arith)
   by_place (inr h) =
-      let n = length-map-range_with_len (made_at heads parents cells) 0 (length heads) in
+      let n = length-map-range_with_len (made_at heads more parents cells) 0 (length heads) in
       let head : head_at heads v ≡ no_head = get_or_past heads v no_head h in
+      let others : get_or more v [] ≡ [] = get_or_past more v [] (omega arith) in
       let these : get_or parents v [] ≡ [] = get_or_past parents v [] (omega arith) in
       let table : get_or cells v [] ≡ [] = get_or_past cells v [] (omega arith) in
-      get_or_past (made_nodes heads parents cells) v no_node (omega arith)
-      ∙ sym (λ j. record { kind = (head j).kind; owner = (head j).owner; states = (head j).states; parents = these j; cells = table j })
+      get_or_past (made_nodes heads more parents cells) v no_node (omega arith)
+      ∙ sym (λ j. record { kind = (head j).kind; owner = (head j).owner; more = others j; states = (head j).states; parents = these j; cells = table j })
 
-module _ (heads : List Head) (parents : List (List ℕ)) (cells : List (List ℤ)) (agents decimals : ℕ) (f : Fits heads parents cells agents decimals) where
+module _ (heads : List Head) (more parents : List (List ℕ)) (cells : List (List ℤ)) (agents decimals : ℕ) (f : Fits heads more parents cells agents decimals) where
   abbrev N : List NodeView
-  N = made_nodes heads parents cells
+  N = made_nodes heads more parents cells
 
-  at : (v : ℕ) → node_at N v ≡ made_at heads parents cells v
-  at v = made_node_at heads parents cells f.parents_len f.cells_len v
+  at : (v : ℕ) → node_at N v ≡ made_at heads more parents cells v
+  at v = made_node_at heads more parents cells f.more_len f.parents_len f.cells_len v
 
   count_is : length N ≡ length heads
-  count_is = length-map-range_with_len (made_at heads parents cells) 0 (length heads)
+  count_is = length-map-range_with_len (made_at heads more parents cells) 0 (length heads)
 
   arc_is : (u v : ℕ) → Arc N u v → ListedArc parents u v
   arc_is u v arc = subst (λ (n : NodeView). Contains n.parents u) (at v) arc
@@ -90,9 +98,23 @@ module _ (heads : List Head) (parents : List (List ℕ)) (cells : List (List ℤ
     acyclic = subst IsAcyclic (sym arcs) f.links.acyclic;
   }
 
+  no_more : (v : ℕ) → get_or more v [] ≡ [] → AllDifferent ((head_at heads v).owner ∷ get_or more v [])
+  no_more v e = subst (λ (m : List ℕ). AllDifferent ((head_at heads v).owner ∷ m)) (sym e) ((λ c. absurd (none c)), tt) where
+    none : Contains {X = ℕ} [] (head_at heads v).owner → ⊥
+    none (k, l, f) = absurd (omega arith)
+
+  by_place : {P : Type 0} (v : ℕ) → (v < length heads → P) → (length heads ≤ v → P) → P
+  by_place {P = P} v inside past = go (cases_lt v (length heads)) where
+    go : (v < length heads) ⊎ (length heads ≤ v) → P
+    go (inl h) = inside h
+    go (inr h) = past h
+
   owners_are : HasOwners N agents
   owners_are = record {
-    agent = λ v h. subst (λ (n : NodeView). n.kind ≢ Chance → n.owner < agents) (sym (at v)) (f.owners v (subst (λ (n : ℕ). v < n) count_is h));
+    agent = λ v a h. subst (λ (n : NodeView). n.kind ≢ Chance → Contains (n.owner ∷ n.more) a → a < agents) (sym (at v))
+        (λ k c. subst (λ (x : ℕ). x < agents) c.2 ((f.owners v (subst (λ (n : ℕ). v < n) count_is h)).known k c.0 a c.1));
+    differ = λ v. subst (λ (n : NodeView). AllDifferent (n.owner ∷ n.more)) (sym (at v)) (by_place v (λ l. (f.owners v l).differ) (λ m. no_more v (get_or_past more v [] (let e = f.more_len in omega arith))));
+    one = λ v. subst (λ (n : NodeView). n.kind ≢ Utility → n.more ≡ []) (sym (at v)) (by_place v (λ l. (f.owners v l).one) (λ m k. get_or_past more v [] (let e = f.more_len in omega arith)));
     chance = λ v. subst (λ (n : NodeView). n.kind ≡ Chance → n.owner ≡ 0) (sym (at v)) (f.heads_fit v).chance;
   }
 
@@ -169,5 +191,5 @@ module _ (heads : List Head) (parents : List (List ℕ)) (cells : List (List ℤ
     decimals = f.few;
   }
 
-  pub made_is_diagram : IsDiagram (record { nodes = made_nodes heads parents cells; agents = agents; decimals = decimals })
+  pub made_is_diagram : IsDiagram (record { nodes = made_nodes heads more parents cells; agents = agents; decimals = decimals })
   made_is_diagram = record { graph = is_graph; owners = owners_are; tables = tables_are; values = values_are; limits = limits_are }

@@ -4,8 +4,8 @@ use Rattle.std.proofs.lemmas.Bool.{false≢true}
 use Rattle.std.proofs.lemmas.List.{map-append, take-append-drop, take_all}
 use Rattle.std.proofs.lemmas.List.Elements.{filter-append}
 use Rattle.std.specs.Prelude.{if◌then◌else◌}
-use Rattle.net_build.specs.Stages.{with_agent}
-use Rattle.net_build.proofs.SightLemmas.{agents_more, owner_here}
+use Rattle.net_build.specs.Stages.{with_owners}
+use Rattle.net_build.proofs.SightLemmas.{agents_more, owners_here}
 use Rattle.std.specs.Option.{SomeIff}
 use Rattle.std.specs.Prelude.{codes}
 use Rattle.net_build.specs.declared.faults.BuildFault.{BuildFault}
@@ -13,7 +13,7 @@ use Rattle.net_build.specs.declared.faults.BuildFault.TheVariants.{Fault, NoMemo
 use Rattle.net_build.specs.declared.faults.BuildKind.TheVariants as kinds
 use Rattle.net_build.specs.declared.faults.Limit.TheVariants as limits
 use Rattle.net_build.specs.declared.nodes.Head.{Head}
-use Rattle.net_build.specs.Blocks.{is_node, kind_of, title_at, block_name, names_of, named, has_states, has_agent, agent_of, agents_of, owner_of, place_among, node_blocks}
+use Rattle.net_build.specs.Blocks.{is_node, kind_of, title_at, block_name, names_of, named, has_states, has_agent, owner_names, agents_of, owners_of, place_among, node_blocks}
 use Rattle.first_fault.specs.Passes.{Pass, only}
 use Rattle.first_fault.specs.Answers.{IsFaultOrNoMemory}
 use Rattle.net_build.specs.Passes.{Found, build_fault}
@@ -120,14 +120,22 @@ nodes_split blocks i b h is kept =
     ∙ ap (λ front. front ++ node_blocks (drop (i + 1) blocks)) (filter_front_yes is_node_block blocks i b h is kept)
 
 -- the agents up to a block
-pub agents_up_to : (text : List ℕ) (blocks : List BlockTree) (i : ℕ) (b : BlockTree) (before agents : List (List ℕ)) → i < length blocks → b ≡ get_or blocks i b → is_node b.kind ≡ true → before ≡ agents_of text (node_blocks (take i blocks)) → agents ≡ with_agent text before b → agents ≡ agents_of text (node_blocks (take (i + 1) blocks))
+pub agents_up_to : (text : List ℕ) (blocks : List BlockTree) (i : ℕ) (b : BlockTree) (before agents : List (List ℕ)) → i < length blocks → b ≡ get_or blocks i b → is_node b.kind ≡ true → before ≡ agents_of text (node_blocks (take i blocks)) → agents ≡ with_owners text before b → agents ≡ agents_of text (node_blocks (take (i + 1) blocks))
 agents_up_to text blocks i b before agents h is kept so_far are =
-    are ∙ ap (λ s. with_agent text s b) so_far ∙ sym (agents_more text (node_blocks (take i blocks)) b) ∙ ap (agents_of text) (sym (filter_front_yes is_node_block blocks i b h is kept))
+    are ∙ ap (λ s. with_owners text s b) so_far ∙ sym (agents_more text (node_blocks (take i blocks)) b) ∙ ap (agents_of text) (sym (filter_front_yes is_node_block blocks i b h is kept))
 
--- the owner of a block's node
-pub owner_up_to : (text : List ℕ) (blocks : List BlockTree) (i : ℕ) (b : BlockTree) (before agents : List (List ℕ)) → i < length blocks → b ≡ get_or blocks i b → is_node b.kind ≡ true → before ≡ agents_of text (node_blocks (take i blocks)) → agents ≡ with_agent text before b → (if has_agent b.kind then place_among agents (agent_of text b) else 0) ≡ owner_of text (node_blocks blocks) b
-owner_up_to text blocks i b before agents h is kept so_far are =
-    owner_here text (node_blocks blocks) (node_blocks (take i blocks)) (node_blocks (drop (i + 1) blocks)) b agents (nodes_split blocks i b h is kept) (are ∙ ap (λ s. with_agent text s b) so_far)
+-- the owners of a block's node
+pub owners_up_to : (text : List ℕ) (blocks : List BlockTree) (i : ℕ) (b : BlockTree) (before agents : List (List ℕ)) → i < length blocks → b ≡ get_or blocks i b → is_node b.kind ≡ true → before ≡ agents_of text (node_blocks (take i blocks)) → agents ≡ with_owners text before b
+    → (if has_agent b.kind then map (place_among agents) (owner_names text b) else 0 ∷ []) ≡ owners_of text (node_blocks blocks) b
+owners_up_to text blocks i b before agents h is kept so_far are =
+    owners_here text (node_blocks blocks) (node_blocks (take i blocks)) (node_blocks (drop (i + 1) blocks)) b agents (nodes_split blocks i b h is kept) (are ∙ ap (λ s. with_owners text s b) so_far)
+
+-- the first of them, and the others
+pub first_is : (owner : ℕ) (more owners : List ℕ) → owner ∷ more ≡ owners → owner ≡ get_or owners 0 0
+first_is owner more owners e = ap (λ l. get_or l 0 0) e
+
+pub others_are : (owner : ℕ) (more owners : List ℕ) → owner ∷ more ≡ owners → more ≡ drop 1 owners
+others_are owner more owners e = ap (drop 1) e
 
 -- all blocks have been seen
 pub nodes_done : (blocks : List BlockTree) (i : ℕ) → length blocks ≤ i → node_blocks (take i blocks) ≡ node_blocks blocks

@@ -1,5 +1,5 @@
 -- A tree stands for one diagram: names, kinds, owners, states and parents are those of the blocks, and each table is the only one.
-use Rattle.std.proofs.Common.{◌≡◌, ◌<◌, ℕ, ℤ, List, [], ◌∷◌, map, length, get_or, refl, sym, ap, subst, ◌∙◌}
+use Rattle.std.proofs.Common.{◌≡◌, ◌<◌, ℕ, ℤ, List, [], ◌∷◌, map, length, get_or, drop, refl, sym, ap, subst, ◌∙◌}
 use Rattle.std.proofs.lemmas.List.{ext_get_or}
 use Rattle.maid_model.specs.declared.diagrams.Kind.{Kind}
 use Rattle.maid_model.specs.declared.diagrams.Kind.TheVariants.{Chance, Decision, Utility}
@@ -22,27 +22,24 @@ table_once Chance scale states numerals chance cells others h k = chance refl ce
 table_once Decision scale states numerals chance cells others h k = h ∙ sym k
 table_once Utility scale states numerals chance cells others h k = utility_cells_once scale numerals cells others h k
 
--- nodes of one kind, owner, count of states, list of parents and table are one
-same_node : (x y : NodeView) → x.kind ≡ y.kind → x.owner ≡ y.owner → x.states ≡ y.states → x.parents ≡ y.parents → x.cells ≡ y.cells → x ≡ y
-same_node x y kind owner states parents cells =
-    let make : Kind → ℕ → ℕ → List ℕ → List ℤ → NodeView = λ k o s p c. record { kind = k; owner = o; states = s; parents = p; cells = c } in
-    ap (λ k. make k x.owner x.states x.parents x.cells) kind
-    ∙ ap (λ o. make y.kind o x.states x.parents x.cells) owner
-    ∙ ap (λ s. make y.kind y.owner s x.parents x.cells) states
-    ∙ ap (λ p. make y.kind y.owner y.states p x.cells) parents
-    ∙ ap (λ c. make y.kind y.owner y.states y.parents c) cells
+-- nodes of one kind, list of owners, count of states, list of parents and table are one
+same_node : (x y : NodeView) → x.kind ≡ y.kind → x.owner ∷ x.more ≡ y.owner ∷ y.more → x.states ≡ y.states → x.parents ≡ y.parents → x.cells ≡ y.cells → x ≡ y
+same_node x y kind owners states parents cells =
+    let first : x.owner ≡ y.owner = ap (λ l. get_or l 0 0) owners in
+    let others : x.more ≡ y.more = ap (drop 1) owners in
+    λ j. record { kind = kind j; owner = first j; more = others j; states = states j; parents = parents j; cells = cells j }
 
 cons_same : {X : Type 0} (x y : X) (xs ys : List X) → x ∷ xs ≡ y ∷ ys → (x ≡ y) × (xs ≡ ys)
 cons_same x y xs ys e = (cc, cc)
 
-same_nodes : (xs ys : List NodeView) → map (λ n. n.kind) xs ≡ map (λ n. n.kind) ys → map (λ n. n.owner) xs ≡ map (λ n. n.owner) ys → map (λ n. n.states) xs ≡ map (λ n. n.states) ys
+same_nodes : (xs ys : List NodeView) → map (λ n. n.kind) xs ≡ map (λ n. n.kind) ys → map (λ n. n.owner ∷ n.more) xs ≡ map (λ n. n.owner ∷ n.more) ys → map (λ n. n.states) xs ≡ map (λ n. n.states) ys
     → map (λ n. n.parents) xs ≡ map (λ n. n.parents) ys → map (λ n. n.cells) xs ≡ map (λ n. n.cells) ys → xs ≡ ys
 same_nodes [] [] a b c d e = refl
 same_nodes [] (y ∷ ys) a b c d e = cc
 same_nodes (x ∷ xs) [] a b c d e = cc
 same_nodes (x ∷ xs) (y ∷ ys) a b c d e =
     let kinds = cons_same x.kind y.kind (map (λ n. n.kind) xs) (map (λ n. n.kind) ys) a in
-    let owners = cons_same x.owner y.owner (map (λ n. n.owner) xs) (map (λ n. n.owner) ys) b in
+    let owners = cons_same (x.owner ∷ x.more) (y.owner ∷ y.more) (map (λ n. n.owner ∷ n.more) xs) (map (λ n. n.owner ∷ n.more) ys) b in
     let states = cons_same x.states y.states (map (λ n. n.states) xs) (map (λ n. n.states) ys) c in
     let parents = cons_same x.parents y.parents (map (λ n. n.parents) xs) (map (λ n. n.parents) ys) d in
     let cells = cons_same x.cells y.cells (map (λ n. n.cells) xs) (map (λ n. n.cells) ys) e in

@@ -12,7 +12,7 @@ use Rattle.first_fault.proofs.Kept.{IsOne, clear_one, rule_one, only_one, then_o
 use Rattle.net_build.specs.Passes.{found, GraphCycle}
 use Rattle.net_build.specs.Blocks.{node_blocks, title_at, parent_lists}
 use Rattle.net_build.specs.Scaling.{IsWholeBy}
-use Rattle.net_build.specs.Table.{repeated_row, repeats, label_row, label_rows, states_rows, agent_rows, name_rows, owner_rows, node_rows, node_pass, condition_rows, potential_rows, potential_pass, missing_row, missing_pass, no_block, graph_pass, size_rows, size_pass, number_row, length_row, sign_row, total_row, weight_rows, data_rows, table_rows, table_pass, utility_numbers, IsUtilityScale, wide_row, wide_pass, all_passes}
+use Rattle.net_build.specs.Table.{repeated_row, repeats, label_row, label_rows, states_rows, repeated_agent_row, agent_rows, sight_row, name_rows, owner_rows, node_rows, node_pass, condition_rows, potential_rows, potential_pass, missing_row, missing_pass, no_block, graph_pass, size_rows, size_pass, number_row, length_row, sign_row, total_row, weight_rows, data_rows, table_rows, table_pass, utility_numbers, IsUtilityScale, wide_row, wide_pass, all_passes}
 
 pub least_once : (P : ℕ → Type 0) (v w : ℕ) → IsLeast P v → IsLeast P w → v ≡ w
 least_once P v w h k = elim (cases_lt v w) as (λ _. v ≡ w) [
@@ -40,7 +40,7 @@ states_rows_one text block (states ∷ more) = label_rows_one text states
 agent_rows_one : (text : List ℕ) (attributes : List AttributeTree) → IsOne (agent_rows text attributes)
 unfolding agent_rows
 agent_rows_one text [] = clear_one
-agent_rows_one text (agent ∷ more) = rule_one _ _
+agent_rows_one text (agents ∷ more) = then_one (rule_one _ _) (each_after_one {P = repeated_agent_row text} (λ earlier agent. rule_one _ _) [] _)
 
 name_rows_one : (text : List ℕ) (names : List (List ℕ)) (block : BlockTree) → IsOne (name_rows text names block)
 unfolding name_rows
@@ -48,7 +48,7 @@ name_rows_one text names block = then_one (rule_one _ _) (then_one (rule_one _ _
 
 owner_rows_one : (text : List ℕ) (agents : List (List ℕ)) (block : BlockTree) → IsOne (owner_rows text agents block)
 unfolding owner_rows
-owner_rows_one text agents block = then_one (agent_rows_one text _) (rule_one _ _)
+owner_rows_one text agents block = then_one (agent_rows_one text _) (each_after_one {P = sight_row agents _} (λ earlier agent. rule_one _ _) [] _)
 
 node_rows_one : (text : List ℕ) (names agents : List (List ℕ)) (block : BlockTree) → IsOne (node_rows text names agents block)
 unfolding node_rows

@@ -1,29 +1,27 @@
 -- Agents in order of first sight.
-use Rattle.std.proofs.Common.{◌≡◌, ◌⊎◌, inl, inr, ℕ, ◌≤◌, Bool, true, false, ◌||◌, List, [], ◌∷◌, ◌++◌, length, Contains, Result, Ok, Err, None, refl, ap, sym, ◌∙◌, arith}
+use Rattle.std.proofs.Common.{◌≡◌, ◌⊎◌, inl, inr, ℕ, ◌+◌, ◌<◌, ◌≤◌, Bool, true, false, ◌||◌, List, [], ◌∷◌, ◌++◌, length, get_or, map, take, drop, All, Contains, Result, None, refl, ap, sym, subst, ◌∙◌, arith}
 use Rattle.std.proofs.lemmas.Bool.{false≢true}
-use Rattle.std.proofs.lemmas.List.{map-append, length-map, length_push, get_or_push, get_or_append_left, get_or_default}
+use Rattle.std.proofs.lemmas.List.{map-append, length-map, get_or-map, length_push, get_or_push, get_or_append_left, get_or_default}
 use Rattle.std.proofs.lemmas.Slice.Eq.{bytes_eq-Decides}
 use Rattle.std.specs.Global.{Vec}
 use Rattle.std.specs.List.{list_any}
 use Rattle.std.specs.Prelude.{if◌then◌else◌}
 use Rattle.std.specs.Str.{bytes_eq}
 use Rattle.net_build.specs.declared.faults.BuildFault.{BuildFault}
-use Rattle.net_build.specs.declared.faults.BuildFault.TheVariants.{Fault, NoMemory}
+use Rattle.net_build.specs.declared.faults.BuildFault.TheVariants.{Fault}
 use Rattle.net_build.specs.declared.faults.BuildKind.TheVariants as kinds
 use Rattle.net_build.specs.declared.faults.Limit.TheVariants as limits
-use Rattle.net_build.specs.Blocks.{is_agent, place_among, named, agent_of, title_at}
+use Rattle.net_build.specs.Blocks.{place_among, owner_attributes, owner_names, title_at, with_sight, with_sights}
 use Rattle.maid_model.specs.Names.{list_of}
-use Rattle.first_fault.specs.Passes.{rule}
+use Rattle.first_fault.specs.Passes.{rule, each_after}
 use Rattle.first_fault.specs.Answers.{IsFaultOrNoMemory, Passes}
-use Rattle.net_build.specs.Passes.{found, BadAgent, LimitPassed, build_fault}
-use Rattle.net_build.specs.Stages.{with_sight}
-use Rattle.net_build.specs.Table.{IsAgentTooMany, agent_rows, owner_rows}
-use Rattle.net_lexer.specs.declared.tokens.Token.{Token}
-use Rattle.net_parser.specs.Trees.{AttributeTree, BlockTree}
+use Rattle.net_build.specs.Passes.{found, LimitPassed, build_fault}
+use Rattle.net_build.specs.Table.{IsAgentTooMany, agent_rows, sight_row, owner_rows}
+use Rattle.net_parser.specs.Trees.{BlockTree}
 use Rattle.net_build.proofs.AttributeLemmas.{contains_none, contains_cases, contains_later, or_true}
-use Rattle.first_fault.proofs.Leading.{refused_first}
+use Rattle.first_fault.proofs.Leading.{passes_on, refused_first, take_item}
 use Rattle.net_build.proofs.PlaceLemmas.{bytes_same, first_place_is}
-use Rattle.std.specs.Prelude.{codes}
+use Rattle.net_build.proofs.SightLemmas.{has, has_sights, places_grow, sight_adds}
 
 -- a list has a name where the test of one of its names says so
 pub contains_any : (xs : List (List ℕ)) (x : List ℕ) → Contains xs x → list_any (λ y. bytes_eq y x) xs ≡ true
@@ -74,23 +72,44 @@ place_pushed names more name lacks is =
 pub too_many : (agents : List (Vec ℕ)) (agent : List ℕ) (at : ℕ) (fault : BuildFault) → 16 ≤ length agents → (Contains (list_of agents) agent → ⊥) → fault ≡ Fault at (kinds.LimitPassed limits.Agents 17) → IsFaultOrNoMemory build_fault (rule (IsAgentTooMany (list_of agents) agent) (found at (LimitPassed limits.Agents 17))) fault
 too_many agents agent at fault many lacks what = rw what ((let l = length-map agents (λ (v : Vec ℕ). v.items) in omega arith, lacks), refl)
 
--- the first `agent` of a block decides
-pub some_agent : {A : Type 0} (text : List ℕ) (agents : List AttributeTree) (first : AttributeTree) (rest : List AttributeTree) (result : Result A BuildFault) → agents ≡ first ∷ rest → Passes build_fault (rule (is_agent text first.value ≡ false) (found first.name.start BadAgent)) result → Passes build_fault (agent_rows text agents) result
-unfolding agent_rows
-some_agent text agents first rest result some rows = rw some rows
+-- the agents with the names of a list up to one more
+pub sights_push : (agents names : List (List ℕ)) (x : List ℕ) → with_sights agents (names ++ x ∷ []) ≡ with_sight (with_sights agents names) x
+sights_push agents [] x = refl
+sights_push agents (y ∷ names) x = sights_push (with_sight agents y) names x
 
-pub no_agent : (text : List ℕ) (agents : List AttributeTree) → agents ≡ [] → agent_rows text agents None
-unfolding agent_rows
-no_agent text agents none = rw none tt
+pub sights_step : (agents names : List (List ℕ)) (i : ℕ) (x : List ℕ) → i < length names → x ≡ get_or names i x → with_sights agents (take (i + 1) names) ≡ with_sight (with_sights agents (take i names)) x
+sights_step agents names i x h is = ap (with_sights agents) (take_item names i x h is) ∙ sights_push agents (take i names) x
 
--- the agent is refused
-pub owner_refused : (text : List ℕ) (agents : List (List ℕ)) (block : BlockTree) (fault : BuildFault) → IsFaultOrNoMemory build_fault (agent_rows text (named text (codes "agent") block.attributes)) fault → IsFaultOrNoMemory build_fault (owner_rows text agents block) fault
+-- their numbers
+pub numbers_step : (agents names cur new : List (List ℕ)) (numbers longer : List ℕ) (number i : ℕ) (x : List ℕ) → i < length names → x ≡ get_or names i x → cur ≡ with_sights agents (take i names) → new ≡ with_sight cur x
+    → numbers ≡ map (place_among cur) (take i names) → longer ≡ numbers ++ number ∷ [] → number ≡ place_among new x → longer ≡ map (place_among new) (take (i + 1) names)
+numbers_step agents names cur new numbers longer number i x h is so_far seen are is_longer this =
+    let added = sight_adds cur x in
+    let all : All (λ a. has cur a ≡ true) (take i names) = subst (λ s. All (λ a. has s a ≡ true) (take i names)) (sym so_far) (has_sights agents (take i names)) in
+    let kept : map (place_among new) (take i names) ≡ map (place_among cur) (take i names) = ap (λ s. map (place_among s) (take i names)) (seen ∙ added.1) ∙ places_grow cur added.0 (take i names) all in
+    is_longer ∙ (λ j. are j ++ this j ∷ []) ∙ ap (λ ns. ns ++ place_among new x ∷ []) (sym kept)
+    ∙ sym (map-append (place_among new) (take i names) (x ∷ [])) ∙ ap (map (place_among new)) (sym (take_item names i x h is))
+
+-- the name at a place of a list of vectors
+pub name_item : (names : List (Vec ℕ)) (i : ℕ) (v : Vec ℕ) → i < length names → v ≡ get_or names i v → v.items ≡ get_or (list_of names) i v.items
+name_item names i v h is = ap (λ (w : Vec ℕ). w.items) is ∙ sym (get_or-map (λ (w : Vec ℕ). w.items) names i v v.items h)
+
+pub names_within : (names : List (Vec ℕ)) (i : ℕ) → i < length names → i < length (list_of names)
+names_within names i h = let l = length-map names (λ (v : Vec ℕ). v.items) in omega arith
+
+-- the names are refused
+pub owners_refused : (text : List ℕ) (agents : List (List ℕ)) (block : BlockTree) (fault : BuildFault) → IsFaultOrNoMemory build_fault (agent_rows text (owner_attributes text block)) fault → IsFaultOrNoMemory build_fault (owner_rows text agents block) fault
 unfolding owner_rows
-owner_refused text agents block fault h = refused_first (agent_rows text (named text (codes "agent") block.attributes)) (rule (IsAgentTooMany agents (agent_of text block)) (found (title_at block) (LimitPassed limits.Agents 17))) (build_fault fault) h
+owners_refused text agents block fault h = refused_first (agent_rows text (owner_attributes text block)) (each_after (sight_row agents (title_at block)) [] (owner_names text block)) (build_fault fault) h
 
 -- or numbered
-pub owner_numbered : {A : Type 0} (text : List ℕ) (agents : List (List ℕ)) (block : BlockTree) (agent : List ℕ) (name : Token) (result : Result A BuildFault) → agent_rows text (named text (codes "agent") block.attributes) None → agent ≡ agent_of text block → name.start ≡ title_at block → Passes build_fault (rule (IsAgentTooMany agents agent) (found name.start (LimitPassed limits.Agents 17))) result → Passes build_fault (owner_rows text agents block) result
+pub owners_numbered : {A : Type 0} (text : List ℕ) (agents : List (List ℕ)) (block : BlockTree) (names : List (List ℕ)) (at : ℕ) (result : Result A BuildFault) → agent_rows text (owner_attributes text block) None → names ≡ owner_names text block → at ≡ title_at block
+    → Passes build_fault (each_after (sight_row agents at) [] names) result → Passes build_fault (owner_rows text agents block) result
 unfolding owner_rows
-owner_numbered text agents block agent name (Ok x) nothing is at rows = (nothing, rw is at rows)
-owner_numbered text agents block agent name (Err NoMemory) nothing is at rows = tt
-owner_numbered text agents block agent name (Err (Fault place kind)) nothing is at rows = inr (nothing, rw (is, at) at rows)
+owners_numbered text agents block names at result nothing are is rows =
+    passes_on build_fault (agent_rows text (owner_attributes text block)) (each_after (sight_row agents (title_at block)) [] (owner_names text block)) result nothing (rw (are, is) at rows)
+
+-- the first owner and the others
+pub first_and_more : (numbers : List ℕ) → 0 < length numbers → get_or numbers 0 0 ∷ drop 1 numbers ≡ numbers
+first_and_more [] h = absurd (omega arith)
+first_and_more (n ∷ numbers) h = refl

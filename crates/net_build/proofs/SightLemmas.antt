@@ -1,14 +1,16 @@
 -- Agents in order of first sight, one more agent on.
-use Rattle.std.proofs.Common.{◌≡◌, ℕ, ◌+◌, Bool, true, false, not, ◌||◌, cond, List, [], ◌∷◌, ◌++◌, map, filter, refl, ap, sym, ◌∙◌}
+use Rattle.std.proofs.Common.{◌≡◌, ℕ, suc, ◌+◌, Bool, true, false, not, ◌||◌, cond, List, [], ◌∷◌, ◌++◌, map, filter, All, refl, ap, sym, subst, ◌∙◌, arith}
 use Rattle.std.proofs.lemmas.Bool.{false≢true}
-use Rattle.std.proofs.lemmas.List.{map-append, append-nil, append_assoc}
-use Rattle.std.proofs.lemmas.List.Elements.{filter-append}
+use Rattle.std.proofs.lemmas.List.{append-nil, append_assoc}
+use Rattle.std.proofs.lemmas.Grind.{flat_map-append}
+use Rattle.std.proofs.lemmas.List.Concat.{flat_map-cons}
+use Rattle.std.proofs.lemmas.List.Elements.{All-nil, All-cons, filter-append}
 use Rattle.std.proofs.lemmas.Slice.Eq.{bytes_eq-Decides}
-use Rattle.std.specs.List.{list_any}
+use Rattle.std.specs.List.{flat_map, list_any}
 use Rattle.std.specs.Prelude.{if◌then◌else◌}
 use Rattle.std.specs.Str.{bytes_eq}
-use Rattle.net_build.specs.Blocks.{first_sights, place_among, has_agent, agent_of, agents_of, owner_of}
-use Rattle.net_build.specs.Stages.{with_sight, with_agent}
+use Rattle.net_build.specs.Blocks.{first_sights, place_among, has_agent, owner_names, agents_of, owners_of, with_sight, with_sights}
+use Rattle.net_build.specs.Stages.{with_owners}
 use Rattle.net_parser.specs.Trees.{BlockTree}
 use Rattle.net_build.proofs.AttributeLemmas.{or_true}
 use Rattle.net_build.proofs.PlaceLemmas.{bytes_same, bytes_differ}
@@ -61,25 +63,37 @@ first_sights_more (y ∷ xs) x = ap (λ s. y ∷ others y s) (first_sights_more 
       ∙ sym (ap (λ b. if b || has (others y (first_sights xs)) x then y ∷ others y (first_sights xs) else (y ∷ others y (first_sights xs)) ++ x ∷ []) e
       ∙ ap (λ b. if b then y ∷ others y (first_sights xs) else (y ∷ others y (first_sights xs)) ++ x ∷ []) (has_others y x (first_sights xs) e ∙ s))
 
--- the agents of the decisions and utilities among nodes
+-- more sights
+pub first_sights_all : (xs ys : List (List ℕ)) → first_sights (xs ++ ys) ≡ with_sights (first_sights xs) ys
+first_sights_all xs [] = ap first_sights (append-nil xs)
+first_sights_all xs (y ∷ ys) = ap first_sights (sym (append_assoc xs (y ∷ []) ys)) ∙ first_sights_all (xs ++ y ∷ []) ys ∙ ap (λ s. with_sights s ys) (first_sights_more xs y)
+
+-- the owners of the decisions and utilities among nodes
 abbrev pub agents_among : List ℕ → List BlockTree → List (List ℕ)
-agents_among text nodes = map (agent_of text) (filter (λ b. has_agent b.kind) nodes)
+agents_among text nodes = flat_map (owner_names text) (filter (λ b. has_agent b.kind) nodes)
 
 agents_among-append : (text : List ℕ) (nodes others : List BlockTree) → agents_among text (nodes ++ others) ≡ agents_among text nodes ++ agents_among text others
-agents_among-append text nodes others = ap (map (agent_of text)) (filter-append (λ b. has_agent b.kind) nodes others) ∙ map-append (agent_of text) (filter (λ b. has_agent b.kind) nodes) (filter (λ b. has_agent b.kind) others)
+agents_among-append text nodes others =
+    ap (flat_map (owner_names text)) (filter-append (λ b. has_agent b.kind) nodes others)
+    ∙ flat_map-append (owner_names text) (filter (λ b. has_agent b.kind) nodes) (filter (λ b. has_agent b.kind) others)
+
+-- those of one node
+agents_alone : (text : List ℕ) (block : BlockTree) → has_agent block.kind ≡ true → agents_among text (block ∷ []) ≡ owner_names text block
+agents_alone text block e =
+    ap (λ b. flat_map (owner_names text) (cond b (block ∷ []) [])) e ∙ flat_map-cons (owner_names text) block [] ∙ append-nil (owner_names text block)
 
 -- the agents of one more node
-pub agents_more : (text : List ℕ) (nodes : List BlockTree) (block : BlockTree) → agents_of text (nodes ++ block ∷ []) ≡ with_agent text (agents_of text nodes) block
+pub agents_more : (text : List ℕ) (nodes : List BlockTree) (block : BlockTree) → agents_of text (nodes ++ block ∷ []) ≡ with_owners text (agents_of text nodes) block
 agents_more text nodes block = ap first_sights (agents_among-append text nodes (block ∷ [])) ∙ by_test (has_agent block.kind) refl where
-  by_test : (b : Bool) → has_agent block.kind ≡ b → first_sights (agents_among text nodes ++ agents_among text (block ∷ [])) ≡ with_agent text (agents_of text nodes) block
+  by_test : (b : Bool) → has_agent block.kind ≡ b → first_sights (agents_among text nodes ++ agents_among text (block ∷ [])) ≡ with_owners text (agents_of text nodes) block
   by_test true e =
-      ap (λ b. first_sights (agents_among text nodes ++ map (agent_of text) (cond b (block ∷ []) []))) e
-      ∙ first_sights_more (agents_among text nodes) (agent_of text block)
-      ∙ sym (ap (λ b. if b then with_sight (agents_of text nodes) (agent_of text block) else agents_of text nodes) e)
+      ap (λ zs. first_sights (agents_among text nodes ++ zs)) (agents_alone text block e)
+      ∙ first_sights_all (agents_among text nodes) (owner_names text block)
+      ∙ sym (ap (λ b. if b then with_sights (agents_of text nodes) (owner_names text block) else agents_of text nodes) e)
   by_test false e =
-      ap (λ b. first_sights (agents_among text nodes ++ map (agent_of text) (cond b (block ∷ []) []))) e
+      ap (λ b. first_sights (agents_among text nodes ++ flat_map (owner_names text) (cond b (block ∷ []) []))) e
       ∙ ap first_sights (append-nil (agents_among text nodes))
-      ∙ sym (ap (λ b. if b then with_sight (agents_of text nodes) (agent_of text block) else agents_of text nodes) e)
+      ∙ sym (ap (λ b. if b then with_sights (agents_of text nodes) (owner_names text block) else agents_of text nodes) e)
 
 -- more sights come behind those before
 sights_grow : (xs ys : List (List ℕ)) → (zs : List (List ℕ)) × (first_sights (xs ++ ys) ≡ first_sights xs ++ zs)
@@ -99,7 +113,7 @@ place_grow (x ∷ xs) zs a e = by_test (bytes_eq x a) refl (λ k. place_grow xs 
       ap (λ b. cond (not b) (1 + place_among (xs ++ zs) a) 0) t ∙ ap (λ n. 1 + n) (rec (ap (λ b. b || has xs a) (sym t) ∙ e))
       ∙ sym (ap (λ b. cond (not b) (1 + place_among xs a) 0) t)
 
-has-append : (xs ys : List (List ℕ)) (a : List ℕ) → has ys a ≡ true → has (xs ++ ys) a ≡ true
+pub has-append : (xs ys : List (List ℕ)) (a : List ℕ) → has ys a ≡ true → has (xs ++ ys) a ≡ true
 has-append [] ys a e = e
 has-append (x ∷ xs) ys a e = ap (λ b. bytes_eq x a || b) (has-append xs ys a e) ∙ or_true (bytes_eq x a)
 
@@ -110,18 +124,57 @@ has_sight agents a = by_test (has agents a) refl where
   by_test true e = ap (λ b. has (if b then agents else agents ++ a ∷ []) a) e ∙ e
   by_test false e = ap (λ b. has (if b then agents else agents ++ a ∷ []) a) e ∙ has-append agents (a ∷ []) a (ap (λ b. b || false) (bytes_same a a refl))
 
--- a node's owner is the place of its agent among the agents up to it
-pub owner_here : (text : List ℕ) (nodes front back : List BlockTree) (block : BlockTree) (agents : List (List ℕ)) → nodes ≡ (front ++ block ∷ []) ++ back → agents ≡ with_agent text (agents_of text front) block → (if has_agent block.kind then place_among agents (agent_of text block) else 0) ≡ owner_of text nodes block
-owner_here text nodes front back block agents all are = by_test (has_agent block.kind) refl where
-  by_test : (b : Bool) → has_agent block.kind ≡ b → (if has_agent block.kind then place_among agents (agent_of text block) else 0) ≡ owner_of text nodes block
-  by_test false e = ap (λ b. if b then place_among agents (agent_of text block) else 0) e ∙ sym (ap (λ b. if b then place_among (agents_of text nodes) (agent_of text block) else 0) e)
+-- sights add to the agents that are there
+pub sight_adds : (agents : List (List ℕ)) (a : List ℕ) → (zs : List (List ℕ)) × (with_sight agents a ≡ agents ++ zs)
+sight_adds agents a = by_test (has agents a) refl where
+  by_test : (b : Bool) → has agents a ≡ b → (zs : List (List ℕ)) × (with_sight agents a ≡ agents ++ zs)
+  by_test true e = ([], ap (λ b. if b then agents else agents ++ a ∷ []) e ∙ sym (append-nil agents))
+  by_test false e = (a ∷ [], ap (λ b. if b then agents else agents ++ a ∷ []) e)
+
+pub sights_add : (agents names : List (List ℕ)) → (zs : List (List ℕ)) × (with_sights agents names ≡ agents ++ zs)
+sights_add agents [] = ([], sym (append-nil agents))
+sights_add agents (x ∷ xs) =
+    let one = sight_adds agents x in
+    let rest = sights_add (with_sight agents x) xs in
+    (one.0 ++ rest.0, rest.1 ∙ ap (λ s. s ++ rest.0) one.1 ∙ append_assoc agents one.0 rest.0)
+
+pub has-before : (xs ys : List (List ℕ)) (a : List ℕ) → has xs a ≡ true → has (xs ++ ys) a ≡ true
+has-before [] ys a e = absurd (false≢true e)
+has-before (x ∷ xs) ys a e = by_test (bytes_eq x a) refl (λ k. has-before xs ys a k) where
+  by_test : (b : Bool) → bytes_eq x a ≡ b → (has xs a ≡ true → has (xs ++ ys) a ≡ true) → has (x ∷ (xs ++ ys)) a ≡ true
+  by_test true t rec = ap (λ b. b || has (xs ++ ys) a) t
+  by_test false t rec = ap (λ b. b || has (xs ++ ys) a) t ∙ rec (ap (λ b. b || has xs a) (sym t) ∙ e)
+
+-- each name that was seen is there
+pub has_sights : (agents names : List (List ℕ)) → All (λ a. has (with_sights agents names) a ≡ true) names
+has_sights agents [] = All-nil (λ a. has agents a ≡ true)
+has_sights agents (x ∷ xs) =
+    let rest = sights_add (with_sight agents x) xs in
+    All-cons (λ a. has (with_sights agents (x ∷ xs)) a ≡ true) x xs
+    (ap (λ s. has s x) rest.1 ∙ has-before (with_sight agents x) rest.0 x (has_sight agents x))
+    (has_sights (with_sight agents x) xs)
+
+-- names that are there keep their places
+pub places_grow : (xs zs names : List (List ℕ)) → All (λ a. has xs a ≡ true) names → map (place_among (xs ++ zs)) names ≡ map (place_among xs) names
+places_grow xs zs [] all = refl
+places_grow xs zs (a ∷ names) all = λ j. place_grow xs zs a (all 0 a (omega arith)) j ∷ places_grow xs zs names (λ k d h. all (suc k) d (omega arith)) j
+
+-- a node's owners are the places of their names among the agents up to it
+pub owners_here : (text : List ℕ) (nodes front back : List BlockTree) (block : BlockTree) (agents : List (List ℕ)) → nodes ≡ (front ++ block ∷ []) ++ back → agents ≡ with_owners text (agents_of text front) block
+    → (if has_agent block.kind then map (place_among agents) (owner_names text block) else 0 ∷ []) ≡ owners_of text nodes block
+owners_here text nodes front back block agents all are = by_test (has_agent block.kind) refl where
+  by_test : (b : Bool) → has_agent block.kind ≡ b → (if has_agent block.kind then map (place_among agents) (owner_names text block) else 0 ∷ []) ≡ owners_of text nodes block
+  by_test false e =
+      ap (λ b. if b then map (place_among agents) (owner_names text block) else 0 ∷ []) e
+      ∙ sym (ap (λ b. if b then map (place_among (agents_of text nodes)) (owner_names text block) else 0 ∷ []) e)
   by_test true e =
       let grown = sights_grow (agents_among text (front ++ block ∷ [])) (agents_among text back) in
       let up_to = agents_more text front block in
-      let seen : agents_of text (front ++ block ∷ []) ≡ with_sight (agents_of text front) (agent_of text block) = up_to ∙ ap (λ b. if b then with_sight (agents_of text front) (agent_of text block) else agents_of text front) e in
+      let seen : agents_of text (front ++ block ∷ []) ≡ with_sights (agents_of text front) (owner_names text block) =
+      up_to ∙ ap (λ b. if b then with_sights (agents_of text front) (owner_names text block) else agents_of text front) e in
       let whole : agents_of text nodes ≡ agents_of text (front ++ block ∷ []) ++ grown.0 = ap (agents_of text) all ∙ ap first_sights (agents_among-append text (front ++ block ∷ []) back) ∙ grown.1 in
-      ap (λ b. if b then place_among agents (agent_of text block) else 0) e
-      ∙ ap (λ s. place_among s (agent_of text block)) (are ∙ sym up_to)
-      ∙ sym (place_grow (agents_of text (front ++ block ∷ [])) grown.0 (agent_of text block) (ap (λ s. has s (agent_of text block)) seen ∙ has_sight (agents_of text front) (agent_of text block)))
-      ∙ ap (λ s. place_among s (agent_of text block)) (sym whole)
-      ∙ sym (ap (λ b. if b then place_among (agents_of text nodes) (agent_of text block) else 0) e)
+      ap (λ b. if b then map (place_among agents) (owner_names text block) else 0 ∷ []) e
+      ∙ ap (λ s. map (place_among s) (owner_names text block)) (are ∙ sym up_to)
+      ∙ sym (places_grow (agents_of text (front ++ block ∷ [])) grown.0 (owner_names text block) (subst (λ s. All (λ a. has s a ≡ true) (owner_names text block)) (sym seen) (has_sights (agents_of text front) (owner_names text block))))
+      ∙ ap (λ s. map (place_among s) (owner_names text block)) (sym whole)
+      ∙ sym (ap (λ b. if b then map (place_among (agents_of text nodes)) (owner_names text block) else 0 ∷ []) e)

@@ -1,6 +1,6 @@
 -- Looking up what the blocks of a text say. Each look-up has an answer for every tree; it is the one that is meant where the passes before it find nothing.
-use Rattle.std.specs.Prelude.{◌*◌, ℕ, Bool, true, false, not, ◌&&◌, ◌||◌, List, [], ◌∷◌, Option, map, filter, find, length, drop, nat_le, bytes_eq, codes, slice_index_or, if◌then◌else◌}
-use Rattle.std.specs.List.{list_all, position_or_len}
+use Rattle.std.specs.Prelude.{◌*◌, ℕ, Bool, true, false, not, ◌&&◌, ◌||◌, List, [], ◌∷◌, ◌++◌, Option, map, filter, find, length, drop, nat_le, bytes_eq, codes, slice_index_or, if◌then◌else◌}
+use Rattle.std.specs.List.{flat_map, list_all, list_any, position_or_len}
 use Rattle.std.specs.Option.{option_map_or}
 use Rattle.maid_model.specs.declared.limits.TheConstants.{MOST_NAME_BYTES}
 use Rattle.maid_model.specs.declared.diagrams.Kind.{Kind}
@@ -87,13 +87,30 @@ has_table Node = true
 has_table Utility = true
 has_table kind = false
 
--- the name of an attribute that counts in a block: `states`, `agent` or `data`
+-- several agents may share a utility
+abbrev pub may_share : BlockKind → Bool
+may_share Utility = true
+may_share kind = false
+
+-- the name of an attribute that tells the owners of such a node: `agent`, and for a utility `agents` too
+abbrev pub names_owners : BlockKind → List ℕ → Bool
+names_owners kind word = (has_agent kind && bytes_eq word (codes "agent")) || (may_share kind && bytes_eq word (codes "agents"))
+
+-- the name of an attribute that counts in a block: `states`, `agent`, `agents` or `data`
 abbrev pub is_counted : BlockKind → List ℕ → Bool
-is_counted kind word = (has_states kind && bytes_eq word (codes "states")) || (has_agent kind && bytes_eq word (codes "agent")) || (is_potential kind && bytes_eq word (codes "data"))
+is_counted kind word = (has_states kind && bytes_eq word (codes "states")) || names_owners kind word || (is_potential kind && bytes_eq word (codes "data"))
 
 -- the attributes that count in a block
 abbrev pub counted : List ℕ → BlockTree → List AttributeTree
 counted text block = filter (λ a. is_counted block.kind (word_of text a)) block.attributes
+
+-- what an attribute is about: `agents` is about the owners, as `agent` is
+abbrev pub topic_of : List ℕ → AttributeTree → List ℕ
+topic_of text attribute = if bytes_eq (word_of text attribute) (codes "agents") then codes "agent" else word_of text attribute
+
+-- the attributes that tell the owners
+abbrev pub owner_attributes : List ℕ → BlockTree → List AttributeTree
+owner_attributes text block = filter (λ a. names_owners block.kind (word_of text a)) block.attributes
 
 abbrev pub is_text : TokenKind → Bool
 is_text tokens.Text = true
@@ -124,10 +141,9 @@ is_string_list (list (more value values)) = is_string value && are_strings value
 abbrev pub is_plain : List ℕ → Bool
 is_plain bytes = nat_le (length bytes) MOST_NAME_BYTES && list_all (λ b. nat_le 32 b) bytes
 
--- a string that is an agent
-abbrev pub is_agent : List ℕ → ValueTree → Bool
-is_agent text (leaf token) = is_text token.kind && is_plain (text_value text token)
-is_agent text (list values) = false
+-- plain strings: one as the value of `agent`, a list of one or more as that of `agents`
+abbrev pub tells_owners : List ℕ → AttributeTree → Bool
+tells_owners text a = (if bytes_eq (word_of text a) (codes "agents") then is_string_list a.value else is_string a.value) && list_all (λ t. is_plain (text_value text t)) (leaves a.value)
 
 -- the leaves of the first of these attributes, from left to right
 abbrev pub leaves_of : List AttributeTree → List Token
@@ -146,30 +162,39 @@ block_labels text block = map (text_value text) (label_tokens text block)
 abbrev pub block_states : List ℕ → BlockTree → ℕ
 block_states text block = if has_states block.kind then length (label_tokens text block) else 1
 
-abbrev pub first_text : List ℕ → List Token → List ℕ
-first_text text [] = codes "agent"
-first_text text (token ∷ tokens) = text_value text token
+abbrev pub texts_or_agent : List ℕ → List Token → List (List ℕ)
+texts_or_agent text [] = codes "agent" ∷ []
+texts_or_agent text (token ∷ tokens) = map (text_value text) (token ∷ tokens)
 
--- the agent of a decision or a utility: the value of `agent`, and "agent" where there is none
-abbrev pub agent_of : List ℕ → BlockTree → List ℕ
-agent_of text block = first_text text (leaves_of (named text (codes "agent") block.attributes))
+-- the owners of a decision or a utility in written order: the strings that tell them, and "agent" where none does
+abbrev pub owner_names : List ℕ → BlockTree → List (List ℕ)
+owner_names text block = texts_or_agent text (leaves_of (owner_attributes text block))
 
 -- each value where it stands first
 abbrev pub first_sights : List (List ℕ) → List (List ℕ)
 first_sights [] = []
 first_sights (x ∷ xs) = x ∷ filter (λ y. not (bytes_eq x y)) (first_sights xs)
 
--- the agents in order of first sight
+-- the agents in order of first sight, and within a node's owners from left to right
 abbrev pub agents_of : List ℕ → List BlockTree → List (List ℕ)
-agents_of text nodes = first_sights (map (agent_of text) (filter (λ b. has_agent b.kind) nodes))
+agents_of text nodes = first_sights (flat_map (owner_names text) (filter (λ b. has_agent b.kind) nodes))
+
+-- the agents and one more, where it is new
+abbrev pub with_sight : List (List ℕ) → List ℕ → List (List ℕ)
+with_sight agents agent = if list_any (λ a. bytes_eq a agent) agents then agents else agents ++ agent ∷ []
+
+-- the agents and each of these that is new
+abbrev pub with_sights : List (List ℕ) → List (List ℕ) → List (List ℕ)
+with_sights agents [] = agents
+with_sights agents (x ∷ xs) = with_sights (with_sight agents x) xs
 
 -- how many names stand before the first that is this one
 abbrev pub place_among : List (List ℕ) → List ℕ → ℕ
 place_among names name = position_or_len (λ other. bytes_eq other name) names
 
--- the number of a node's agent; a chance node has 0
-abbrev pub owner_of : List ℕ → List BlockTree → BlockTree → ℕ
-owner_of text nodes block = if has_agent block.kind then place_among (agents_of text nodes) (agent_of text block) else 0
+-- the numbers of a node's owners in written order; a chance node has 0
+abbrev pub owners_of : List ℕ → List BlockTree → BlockTree → List ℕ
+owners_of text nodes block = if has_agent block.kind then map (place_among (agents_of text nodes)) (owner_names text block) else 0 ∷ []
 
 -- the potential with that head
 abbrev pub potential_of : List ℕ → List BlockTree → List ℕ → Option BlockTree

@@ -1,5 +1,6 @@
 -- The form that names have in a text.
-use Rattle.std.specs.Prelude.{◌≡◌, ◌≢◌, ◌≤◌, ℕ, true, not, List, [], map, filter, length, All, AllPairs}
+use Rattle.std.specs.Prelude.{◌≡◌, ◌≢◌, ◌≤◌, ℕ, true, not, List, [], ◌∷◌, map, filter, length, All, AllPairs}
+use Rattle.std.specs.List.{flat_map}
 use Rattle.maid_model.specs.declared.limits.TheConstants.{MOST_NAME_BYTES}
 use Rattle.maid_model.specs.declared.diagrams.Kind.TheVariants.{Utility}
 use Rattle.maid_model.specs.Names.{NamesView, labels_of, agent_name}
@@ -20,4 +21,4 @@ pub record HasTextForm (d : DiagramView) (names : NamesView) : Type 0 where
   pub labels : All (All (λ label. is_plain label ≡ true)) names.labels
   pub utility_labels : (v : ℕ) → (node_at d.nodes v).kind ≡ Utility → labels_of names v ≡ []
   pub agents : All (λ agent. is_plain agent ≡ true) names.agents
-  pub numbered : names.agents ≡ first_sights (map (λ n. agent_name names n.owner) (filter (λ n. not (is_chance n.kind)) d.nodes))
+  pub numbered : names.agents ≡ first_sights (flat_map (λ n. map (agent_name names) (n.owner ∷ n.more)) (filter (λ n. not (is_chance n.kind)) d.nodes))

@@ -14,6 +14,7 @@ pub data KindView : Type 0 where
   BadStates : KindView
   BadLabel : KindView
   BadAgent : KindView
+  RepeatedAgent : KindView
   UnknownName : KindView
   DoublePotential : KindView
   RepeatedParent : KindView
@@ -36,6 +37,7 @@ kind_view kinds.MissingStates = MissingStates
 kind_view kinds.BadStates = BadStates
 kind_view kinds.BadLabel = BadLabel
 kind_view kinds.BadAgent = BadAgent
+kind_view kinds.RepeatedAgent = RepeatedAgent
 kind_view kinds.UnknownName = UnknownName
 kind_view kinds.DoublePotential = DoublePotential
 kind_view kinds.RepeatedParent = RepeatedParent

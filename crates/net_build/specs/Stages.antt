@@ -1,6 +1,6 @@
 -- What the steps of building hand to one another, as plain lists. No public contract needs it.
-use Rattle.std.specs.Prelude.{◌≡◌, ◌≢◌, ◌<◌, ◌≤◌, ◌*◌, ℕ, ℤ, Bool, false, List, [], ◌∷◌, ◌++◌, bytes_eq, if◌then◌else◌, map, length, filter, flat_map, sum, All, Option, nat_abs, slice_index_or}
-use Rattle.std.specs.List.{range_with_len, list_all, list_any}
+use Rattle.std.specs.Prelude.{◌≡◌, ◌≢◌, ◌<◌, ◌≤◌, ◌*◌, ℕ, ℤ, Bool, false, List, [], ◌∷◌, if◌then◌else◌, map, length, filter, drop, flat_map, sum, All, Option, nat_abs, slice_index_or}
+use Rattle.std.specs.List.{range_with_len, list_all}
 use Rattle.maid_model.specs.declared.limits.TheConstants.{MOST_CELLS, MOST_PARENTS, MOST_RULE_CELLS}
 use Rattle.diagram_graph.specs.Cycles.{ListedArc}
 use Rattle.maid_model.specs.declared.diagrams.Kind.{Kind}
@@ -16,7 +16,7 @@ use Rattle.net_parser.specs.Trees.{BlockTree}
 use Rattle.net_parser.specs.Views.{value_tree}
 use Rattle.net_parser.specs.declared.trees.Value.{Value}
 use Rattle.net_build.specs.declared.nodes.Head.{Head}
-use Rattle.net_build.specs.Blocks.{is_string, node_blocks, kind_of, title_at, block_name, names_of, block_labels, has_agent, block_states, agent_of, agents_of, owner_of, potential_of, parent_lists}
+use Rattle.net_build.specs.Blocks.{is_string, node_blocks, kind_of, title_at, block_name, names_of, block_labels, has_agent, block_states, owner_names, agents_of, with_sights, owners_of, potential_of, parent_lists}
 
 -- the leaves of these values, from left to right
 abbrev pub leaves_in : List Value → List Token
@@ -27,15 +27,24 @@ abbrev pub are_string_values : List Value → Bool
 are_string_values [] = false
 are_string_values (v ∷ vs) = list_all (λ w. is_string (value_tree w)) (v ∷ vs)
 
--- what the node blocks say: names, labels and agents, and for each node where its name stands, its kind, the number of its agent and the count of its states
+-- what the node blocks say: names, labels and agents, and for each node where its name stands, its kind, the number of its first owner and the count of its states; and the numbers of its further owners
 pub record NodeLists : Type 0 where
   pub names : List (List ℕ)
   pub labels : List (List (List ℕ))
   pub agents : List (List ℕ)
   pub heads : List Head
+  pub more : List (List ℕ)
+
+-- the number of a node's first owner
+abbrev pub first_owner : List ℕ → List BlockTree → BlockTree → ℕ
+first_owner text nodes block = slice_index_or (owners_of text nodes block) 0 0
+
+-- those of the further ones
+abbrev pub more_owners : List ℕ → List BlockTree → BlockTree → List ℕ
+more_owners text nodes block = drop 1 (owners_of text nodes block)
 
 abbrev pub head_of : List ℕ → List BlockTree → BlockTree → Head
-head_of text nodes block = record { at = title_at block; kind = kind_of block.kind; owner = owner_of text nodes block; states = block_states text block }
+head_of text nodes block = record { at = title_at block; kind = kind_of block.kind; owner = first_owner text nodes block; states = block_states text block }
 
 abbrev pub node_lists : List ℕ → List BlockTree → NodeLists
 node_lists text nodes = record {
@@ -43,15 +52,12 @@ node_lists text nodes = record {
   labels = map (block_labels text) nodes;
   agents = agents_of text nodes;
   heads = map (head_of text nodes) nodes;
+  more = map (more_owners text nodes) nodes;
 }
 
--- the agents and one more, where it is new
-abbrev pub with_sight : List (List ℕ) → List ℕ → List (List ℕ)
-with_sight agents agent = if list_any (λ a. bytes_eq a agent) agents then agents else agents ++ agent ∷ []
-
--- the agents and the block's, where it has one
-abbrev pub with_agent : List ℕ → List (List ℕ) → BlockTree → List (List ℕ)
-with_agent text agents block = if has_agent block.kind then with_sight agents (agent_of text block) else agents
+-- the agents and the block's, where it has some
+abbrev pub with_owners : List ℕ → List (List ℕ) → BlockTree → List (List ℕ)
+with_owners text agents block = if has_agent block.kind then with_sights agents (owner_names text block) else agents
 
 -- what the potentials say: for each node its parents and its potential
 pub record LinkLists : Type 0 where
@@ -104,16 +110,16 @@ abbrev pub TablesFit : List Head → List (List ℕ) → List (List ℤ) → Typ
 TablesFit heads parents cells = (v : ℕ) → v < length heads → FitsTable (head_at heads v).kind (head_rows heads parents v) (head_at heads v).states (slice_index_or cells v [])
 
 -- a node from what its block, its potential and its table say
-abbrev pub made_node : Head → List ℕ → List ℤ → NodeView
-made_node head parents cells = record { kind = head.kind; owner = head.owner; states = head.states; parents = parents; cells = cells }
+abbrev pub made_node : Head → List ℕ → List ℕ → List ℤ → NodeView
+made_node head more parents cells = record { kind = head.kind; owner = head.owner; more = more; states = head.states; parents = parents; cells = cells }
 
 -- node number v of these lists
-abbrev pub made_at : List Head → List (List ℕ) → List (List ℤ) → ℕ → NodeView
-made_at heads parents cells v = made_node (head_at heads v) (slice_index_or parents v []) (slice_index_or cells v [])
+abbrev pub made_at : List Head → List (List ℕ) → List (List ℕ) → List (List ℤ) → ℕ → NodeView
+made_at heads more parents cells v = made_node (head_at heads v) (slice_index_or more v []) (slice_index_or parents v []) (slice_index_or cells v [])
 
-abbrev pub made_nodes : List Head → List (List ℕ) → List (List ℤ) → List NodeView
-made_nodes heads parents cells = map (made_at heads parents cells) (range_with_len 0 (length heads))
+abbrev pub made_nodes : List Head → List (List ℕ) → List (List ℕ) → List (List ℤ) → List NodeView
+made_nodes heads more parents cells = map (made_at heads more parents cells) (range_with_len 0 (length heads))
 
 -- the diagram of these lists
 abbrev pub made_diagram : NodeLists → LinkLists → TableLists → DiagramView
-made_diagram nodes links tables = record { nodes = made_nodes nodes.heads links.parents tables.cells; agents = length nodes.agents; decimals = tables.decimals }
+made_diagram nodes links tables = record { nodes = made_nodes nodes.heads nodes.more links.parents tables.cells; agents = length nodes.agents; decimals = tables.decimals }

@@ -19,14 +19,14 @@ use Rattle.weight_scale.specs.Numeral.{numerator, denominator, IsDecimalOf}
 use Rattle.weight_scale.specs.declared.decimal.Decimal.{Decimal}
 use Rattle.net_build.specs.declared.faults.Limit.TheVariants.{Nodes, NameBytes, States, Agents, Parents, Cells, Rules}
 use Rattle.first_fault.specs.Passes.{Pass, clear, rule, always, only, ◌▸◌, each, each_after, over}
-use Rattle.net_build.specs.Passes.{found, DoubleName, DoubleAttribute, MissingStates, BadStates, BadLabel, BadAgent, UnknownName, DoublePotential, RepeatedParent, UtilityParent, MissingTable, GraphCycle, NotANumber, WrongCount, NumberTooLong, Negative, ZeroRow, WideWeight, WideValue, LimitPassed, Found}
-use Rattle.net_build.specs.Blocks.{node_blocks, potentials, kind_of, title_at, block_name, names_of, conditions, word_of, named, has_states, has_agent, has_table, counted, is_number, is_string_list, is_plain, is_agent, block_states, agent_of, agents_of, place_among, potential_of, parent_lists, row_count, cell_count, data_of, leaves_of}
+use Rattle.net_build.specs.Passes.{found, DoubleName, DoubleAttribute, MissingStates, BadStates, BadLabel, BadAgent, RepeatedAgent, UnknownName, DoublePotential, RepeatedParent, UtilityParent, MissingTable, GraphCycle, NotANumber, WrongCount, NumberTooLong, Negative, ZeroRow, WideWeight, WideValue, LimitPassed, Found}
+use Rattle.net_build.specs.Blocks.{node_blocks, potentials, kind_of, title_at, block_name, names_of, conditions, topic_of, named, owner_attributes, has_states, has_agent, has_table, counted, is_number, is_string_list, is_plain, tells_owners, block_states, owner_names, agents_of, with_sights, place_among, potential_of, parent_lists, row_count, cell_count, data_of, leaves_of}
 use Rattle.net_build.specs.Scaling.{AreDecimals, IsWholeBy}
 use Rattle.weight_scale.specs.Scaling.{row_at, IsTooWide}
 
--- an attribute whose name stands among those before it
+-- an attribute about what one before it is about
 abbrev pub repeated_row : List ℕ → List AttributeTree → AttributeTree → Pass Found
-repeated_row text earlier a = rule (Contains (map (word_of text) earlier) (word_of text a)) (found a.name.start DoubleAttribute)
+repeated_row text earlier a = rule (Contains (map (topic_of text) earlier) (topic_of text a)) (found a.name.start DoubleAttribute)
 
 -- the attributes that count in a block
 unfoldable pub repeats : List ℕ → BlockTree → Pass Found
@@ -47,14 +47,24 @@ unfoldable pub states_rows : List ℕ → BlockTree → List AttributeTree → P
 states_rows text block [] = always (found (title_at block) MissingStates)
 states_rows text block (states ∷ more) = label_rows text states
 
--- the agent of a decision or a utility, given its attributes of that name
+-- an agent that stands among those before it
+abbrev pub repeated_agent_row : List ℕ → List Token → Token → Pass Found
+repeated_agent_row text earlier agent = rule (Contains (map (text_value text) earlier) (text_value text agent)) (found agent.start RepeatedAgent)
+
+-- the owners of a decision or a utility, given the attributes that tell them
 unfoldable pub agent_rows : List ℕ → List AttributeTree → Pass Found
 agent_rows text [] = clear
-agent_rows text (agent ∷ more) = rule (is_agent text agent.value ≡ false) (found agent.name.start BadAgent)
+agent_rows text (agents ∷ more) =
+    rule (tells_owners text agents ≡ false) (found agents.name.start BadAgent)
+    ▸ each_after (repeated_agent_row text) [] (leaves agents.value)
 
 -- the agent is none of these, of which there are as many as may be
 abbrev pub IsAgentTooMany : List (List ℕ) → List ℕ → Type 0
 IsAgentTooMany agents agent = (MOST_AGENTS ≤ length agents) × (Contains agents agent → ⊥)
+
+-- an owner of the node that is named there, behind these agents and the node's owners before it
+abbrev pub sight_row : List (List ℕ) → ℕ → List (List ℕ) → List ℕ → Pass Found
+sight_row agents at earlier agent = rule (IsAgentTooMany (with_sights agents earlier) agent) (found at (LimitPassed Agents (MOST_AGENTS + 1)))
 
 -- the name of a node block behind those with these names
 unfoldable pub name_rows : List ℕ → List (List ℕ) → BlockTree → Pass Found
@@ -63,11 +73,11 @@ name_rows text names block =
     ▸ rule (MOST_NAME_BYTES < length (block_name text block)) (found (title_at block) (LimitPassed NameBytes (length (block_name text block))))
     ▸ rule (Contains names (block_name text block)) (found (title_at block) DoubleName)
 
--- the agent of a decision or a utility behind those of these agents
+-- the owners of a decision or a utility behind those of these agents
 unfoldable pub owner_rows : List ℕ → List (List ℕ) → BlockTree → Pass Found
 owner_rows text agents block =
-    agent_rows text (named text (codes "agent") block.attributes)
-    ▸ rule (IsAgentTooMany agents (agent_of text block)) (found (title_at block) (LimitPassed Agents (MOST_AGENTS + 1)))
+    agent_rows text (owner_attributes text block)
+    ▸ each_after (sight_row agents (title_at block)) [] (owner_names text block)
 
 -- a node block behind those with these names and agents
 unfoldable pub node_rows : List ℕ → List (List ℕ) → List (List ℕ) → BlockTree → Pass Found

@@ -2,7 +2,7 @@
 
 ghost use Rattle.std.specs.Prelude.{◌≡◌, ◌&&◌, ◌∷◌, [], List, All, filter, IfSome, MatchOption, bytes_eq};
 ghost use Rattle.std.specs.List.{list_any};
-ghost use Rattle.net_build.specs.Blocks.{is_counted, named, word_of};
+ghost use Rattle.net_build.specs.Blocks.{is_counted, named, names_owners, topic_of, word_of};
 ghost use Rattle.first_fault.specs.Passes.{each_after};
 ghost use Rattle.first_fault.specs.Answers.{Passes};
 ghost use Rattle.net_build.specs.Passes.{build_fault};
@@ -47,6 +47,17 @@ pub fn first_named<'a>(
     None
 }
 
+/// An attribute of that name tells the owners of such a node.
+pub fn names_owners(kind: BlockKind, word: &[u8]) -> bool
+    ensures { result ≡ names_owners kind word.now }
+{
+    match kind {
+        BlockKind::Decision => word == b"agent".as_slice(),
+        BlockKind::Utility => word == b"agent".as_slice() || word == b"agents".as_slice(),
+        BlockKind::Net | BlockKind::Node | BlockKind::Potential => false,
+    }
+}
+
 // An attribute of that name counts in a block of the kind.
 fn counts(kind: BlockKind, word: &[u8]) -> bool
     ensures { result ≡ is_counted kind word.now }
@@ -54,29 +65,51 @@ fn counts(kind: BlockKind, word: &[u8]) -> bool
     match kind {
         BlockKind::Net => false,
         BlockKind::Node => word == b"states".as_slice(),
-        BlockKind::Decision => word == b"states".as_slice() || word == b"agent".as_slice(),
-        BlockKind::Utility => word == b"agent".as_slice(),
+        BlockKind::Decision => word == b"states".as_slice() || names_owners(kind, word),
+        BlockKind::Utility => names_owners(kind, word),
         BlockKind::Potential => word == b"data".as_slice(),
     }
 }
 
-// One of the attributes has that name.
-fn has_named(text: &[u8], attributes: &[Attribute], word: &[u8]) -> bool
+// What the attribute is about.
+fn topic_of<'a>(text: &'a [u8], attribute: &Attribute) -> &'a [u8]
+    requires { IsAttributeOf text.now attribute.now }
+    ensures { result.now ≡ topic_of text.now attribute.now }
+{
+    if is_named(text, attribute, b"agents") {
+        b"agent"
+    } else {
+        word_of(text, attribute)
+    }
+}
+
+// The attribute counts and is about that topic.
+fn counts_for(text: &[u8], kind: BlockKind, attribute: &Attribute, topic: &[u8]) -> bool
+    requires { IsAttributeOf text.now attribute.now }
+    ensures { result ≡ (is_counted kind (word_of text.now attribute.now) && bytes_eq (topic_of text.now attribute.now) topic.now) }
+{
+    counts(kind, word_of(text, attribute)) && topic_of(text, attribute) == topic
+}
+
+// One of the attributes counts and is about that topic.
+fn has_counted(text: &[u8], kind: BlockKind, attributes: &[Attribute], topic: &[u8]) -> bool
     requires { All (IsAttributeOf text.now) attributes.now }
-    ensures { result ≡ list_any (λ a. bytes_eq (word_of text.now a) word.now) attributes.now }
+    ensures { result ≡ list_any (λ a. is_counted kind (word_of text.now a) && bytes_eq (topic_of text.now a) topic.now) attributes.now }
 {
     attributes
         .iter()
-        .any(|attribute| is_named(text, attribute, word))
+        .any(|attribute| counts_for(text, kind, attribute, topic))
 }
 
-// The word is the name of an attribute that counts and stands before.
-fn is_repeated(text: &[u8], kind: BlockKind, before: &[Attribute], word: &[u8]) -> bool
-    requires { All (IsAttributeOf text.now) before.now }
-    ensures { result ≡ (is_counted kind word.now && list_any (λ a. bytes_eq (word_of text.now a) word.now) before.now) }
+// The attribute counts, and one that counts before it is about the same.
+fn is_repeated(text: &[u8], kind: BlockKind, before: &[Attribute], attribute: &Attribute) -> bool
+    requires before { All (IsAttributeOf text.now) before.now }
+    requires own { IsAttributeOf text.now attribute.now }
+    ensures { result ≡ (is_counted kind (word_of text.now attribute.now) && list_any (λ a. is_counted kind (word_of text.now a) && bytes_eq (topic_of text.now a) (topic_of text.now attribute.now)) before.now) }
 {
-    // Two names count at most, so that few attributes are compared with those before them.
-    counts(kind, word) && has_named(text, before, word)
+    // Of two topics at most does one attribute count, so that few are compared with those before them.
+    counts(kind, word_of(text, attribute))
+        && has_counted(text, kind, before, topic_of(text, attribute))
 }
 
 // No attribute that counts stands a second time.
@@ -85,8 +118,7 @@ fn check_counted(text: &[u8], kind: BlockKind, attributes: &[Attribute]) -> Resu
     ensures { Passes build_fault (each_after (repeated_row text.now) [] (filter (λ a. is_counted kind (word_of text.now a)) attributes.now)) result }
 {
     for (place, attribute) in attributes.iter().enumerate() {
-        let word = word_of(text, attribute);
-        if is_repeated(text, kind, &attributes[..place], word) {
+        if is_repeated(text, kind, &attributes[..place], attribute) {
             return Err(BuildKind::DoubleAttribute.at(attribute.name.start));
         }
     }

@@ -30,14 +30,16 @@ use std::mem;
 fn make_node(
     alloc: Global,
     head: Head,
+    more: &[usize],
     parents: &[usize],
     cells: Vec<i128>,
 ) -> Result<Node, AllocError>
-    ensures { IfOk result (λ node. node ≡ made_node head parents.now cells.items) }
+    ensures { IfOk result (λ node. node ≡ made_node head more.now parents.now cells.items) }
 {
     Ok(Node {
         kind: head.kind,
         owner: head.owner,
+        more: SmallVec::from_slice(alloc, more)?,
         states: head.states,
         parents: SmallVec::from_slice(alloc, parents)?,
         cells,
@@ -48,17 +50,19 @@ fn make_node(
 fn make_nodes(
     alloc: Global,
     heads: &[Head],
+    more: &[Vec<usize>],
     parents: &[Vec<usize>],
     tables: &mut [Vec<i128>],
 ) -> Result<Vec<Node>, AllocError>
+    requires more { length more.now ≡ length heads.now }
     requires parents { length parents.now ≡ length heads.now }
     requires tables { length tables.old ≡ length heads.now }
-    ensures { IfOk result (λ nodes. nodes.items ≡ made_nodes heads.now (numbers_of_lists parents.now) (cells_of_lists tables.old)) }
+    ensures { IfOk result (λ nodes. nodes.items ≡ made_nodes heads.now (numbers_of_lists more.now) (numbers_of_lists parents.now) (cells_of_lists tables.old)) }
 {
     let mut nodes = Vec::with_capacity(alloc, heads.len())?;
     for (v, head) in heads.iter().enumerate() {
         let cells = mem::replace(&mut tables[v], Vec::new(alloc));
-        nodes.push(make_node(alloc, *head, &parents[v], cells)?)?;
+        nodes.push(make_node(alloc, *head, &more[v], &parents[v], cells)?)?;
     }
     Ok(nodes)
 }
@@ -70,6 +74,7 @@ fn assemble(
     links: &Links<'_>,
     tables: Tables,
 ) -> Result<(Diagram, Names), AllocError>
+    requires more { length nodes.more ≡ length nodes.heads }
     requires parents { length links.now.parents ≡ length nodes.heads }
     requires tables { length tables.cells ≡ length nodes.heads }
     requires diagram { IsDiagram (made_diagram nodes links.now tables) }
@@ -77,7 +82,7 @@ fn assemble(
     ensures names { IfOk result (λ built. built.1 ≡ record { nodes = nodes.names; labels = nodes.labels; agents = nodes.agents }) }
 {
     let mut cells = tables.cells;
-    let list = make_nodes(alloc, &nodes.heads, &links.parents, &mut cells)?;
+    let list = make_nodes(alloc, &nodes.heads, &nodes.more, &links.parents, &mut cells)?;
     let diagram = Diagram::from_nodes(list, nodes.agents.len(), tables.decimals);
     let node_names = nodes.names.into_list(alloc)?;
     let names = Names::from_lists(node_names, nodes.labels, nodes.agents);

@@ -42,9 +42,13 @@ pub enum BuildKind {
     /// A label has a byte below 32 or more than 255 bytes.
     #[error("bad label")]
     BadLabel,
-    /// The `agent` is no string, or has a byte below 32 or more than 255 bytes.
+    /// The `agent` is no string, or the `agents` are no list of one or more strings, or one has a byte below 32 or more
+    /// than 255 bytes.
     #[error("bad agent")]
     BadAgent,
+    /// An agent stands twice in a list of `agents`.
+    #[error("repeated agent")]
+    RepeatedAgent,
     /// No node has the name.
     #[error("unknown name")]
     UnknownName,

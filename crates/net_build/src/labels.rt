@@ -64,8 +64,8 @@ fn are_strings(values: &[Value]) -> bool
     !values.is_empty() && all_strings(values)
 }
 
-// The values in a list of one or more strings.
-fn strings(value: &Value) -> Option<&[Value]>
+/// The values in a list of one or more strings.
+pub fn strings(value: &Value) -> Option<&[Value]>
     ensures list { MatchOption result (is_string_list (value_tree value.now) ≡ false) (λ values. is_string_list (value_tree value.now) ≡ true) }
     ensures strings { IfSome result (λ values. list_all (λ v. is_string (value_tree v)) values.now ≡ true) }
     ensures leaves { IfSome result (λ values. leaves (value_tree value.now) ≡ leaves_in values.now) }
@@ -99,8 +99,8 @@ fn label(alloc: Global, text: &[u8], value: &Value) -> Result<Vec<u8>, BuildFaul
     Ok(label)
 }
 
-// The labels, from their strings.
-fn labels(alloc: Global, text: &[u8], values: &[Value]) -> Result<Vec<Vec<u8>>, BuildFault>
+/// The labels, from their strings.
+pub fn labels(alloc: Global, text: &[u8], values: &[Value]) -> Result<Vec<Vec<u8>>, BuildFault>
     requires strings { list_all (λ v. is_string (value_tree v)) values.now ≡ true }
     requires own { All (IsLeafOf text.now) (leaves_in values.now) }
     ensures rows { Passes build_fault (each (label_row text.now) (leaves_in values.now)) result }

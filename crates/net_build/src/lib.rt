@@ -19,6 +19,7 @@ mod links;
 mod node_names;
 mod nodes;
 mod numbers;
+mod owner_names;
 mod owners;
 mod places;
 mod potentials;

@@ -1,12 +1,12 @@
 //! The node blocks of a text: names, labels, agents, kinds and counts of states.
 
-ghost use Rattle.std.specs.Prelude.{◌≡◌, ◌<◌, All, length, IfOk, OnOk, codes, if◌then◌else◌};
-ghost use Rattle.net_build.specs.Blocks.{is_node, kind_of, title_at, block_name, node_blocks, has_states, has_agent, named, block_labels, block_states, agent_of, place_among};
+ghost use Rattle.std.specs.Prelude.{◌≡◌, ◌<◌, [], ◌∷◌, All, map, length, IfOk, OnOk, codes, if◌then◌else◌};
+ghost use Rattle.net_build.specs.Blocks.{is_node, kind_of, title_at, block_name, node_blocks, has_states, has_agent, named, block_labels, block_states, owner_names, place_among};
 ghost use Rattle.maid_model.specs.Names.{list_of};
 ghost use Rattle.first_fault.specs.Passes.{only};
 ghost use Rattle.first_fault.specs.Answers.{Passes};
 ghost use Rattle.net_build.specs.Passes.{build_fault};
-ghost use Rattle.net_build.specs.Stages.{with_agent, node_lists};
+ghost use Rattle.net_build.specs.Stages.{with_owners, node_lists};
 ghost use Rattle.net_build.specs.Table.{name_rows, states_rows, node_rows, node_pass};
 ghost use Rattle.net_parser.specs.Owned.{IsBlockOf};
 
@@ -14,14 +14,14 @@ use crate::attributes::check_repeats;
 use crate::faults::{BuildFault, BuildKind, Limit};
 use crate::labels::{read_labels, title};
 use crate::node_names::NodeNames;
-use crate::owners::read_owner;
+use crate::owners::read_owners;
 use maid_model::{Kind, MOST_NAME_BYTES, MOST_NODES};
 use net_parser::{Block, BlockKind, Syntax};
 use std::alloc::Global;
 use std::marker::Model;
 
-/// What a node block says in numbers: where its name stands, and the node's kind, the number of its agent (0 at a
-/// chance node) and the count of its states.
+/// What a node block says in numbers: where its name stands, and the node's kind, the number of its first owner (0 at
+/// a chance node) and the count of its states.
 #[derive(Clone, Copy, Debug)]
 pub struct Head {
     pub at: usize,
@@ -30,22 +30,25 @@ pub struct Head {
     pub states: usize,
 }
 
-/// What the node blocks say, node by node, and the agents in order of first sight.
+/// What the node blocks say, node by node, and the agents in order of first sight. `more` has the numbers of each node's
+/// owners after the first.
 #[derive(Drop)]
 pub struct Nodes {
     pub names: NodeNames,
     pub labels: Vec<Vec<Vec<u8>>>,
     pub agents: Vec<Vec<u8>>,
     pub heads: Vec<Head>,
+    pub more: Vec<Vec<usize>>,
 }
 
 impl Model for Nodes {
     ghost use Rattle.maid_model.specs.Names.{list_of, lists_of};
+    ghost use Rattle.net_build.specs.Lists.{numbers_of_lists};
     ghost use Rattle.net_build.specs.Stages.{NodeLists};
 
     ghost Value = { NodeLists };
 
-    ghost view = { λ n. record { names = n.names; labels = lists_of n.labels.items; agents = list_of n.agents.items; heads = n.heads.items } };
+    ghost view = { λ n. record { names = n.names; labels = lists_of n.labels.items; agents = list_of n.agents.items; heads = n.heads.items; more = numbers_of_lists n.more.items } };
 }
 
 // What one node block says.
@@ -54,6 +57,7 @@ struct Entry {
     name: Vec<u8>,
     labels: Vec<Vec<u8>>,
     head: Head,
+    more: Vec<usize>,
 }
 
 fn is_node(kind: BlockKind) -> bool
@@ -146,28 +150,29 @@ fn read_entry(
     requires own { IsBlockOf text.now block.now }
     requires named { 0 < length block.now.names }
     ensures rows { Passes build_fault (node_rows text.now names.now (list_of agents.old.items) block.now) result }
-    ensures agents { OnOk result (list_of agents.new.items ≡ with_agent text.now (list_of agents.old.items) block.now) }
+    ensures agents { OnOk result (list_of agents.new.items ≡ with_owners text.now (list_of agents.old.items) block.now) }
     ensures name { IfOk result (λ entry. entry.name.items ≡ block_name text.now block.now) }
     ensures labels { IfOk result (λ entry. list_of entry.labels.items ≡ block_labels text.now block.now) }
     ensures at { IfOk result (λ entry. entry.head.at ≡ title_at block.now) }
     ensures kind { IfOk result (λ entry. entry.head.kind ≡ kind_of block.now.kind) }
     ensures states { IfOk result (λ entry. entry.head.states ≡ block_states text.now block.now) }
-    ensures owner { IfOk result (λ entry. entry.head.owner ≡ (if has_agent block.now.kind then place_among (list_of agents.new.items) (agent_of text.now block.now) else 0)) }
+    ensures owners { IfOk result (λ entry. entry.head.owner ∷ entry.more.items ≡ (if has_agent block.now.kind then map (place_among (list_of agents.new.items)) (owner_names text.now block.now) else 0 ∷ [])) }
 {
     let name = read_name(text, block, names)?;
     check_repeats(text, block)?;
     let labels = node_labels(alloc, text, block)?;
-    let owner = read_owner(alloc, text, block, agents)?;
+    let owners = read_owners(alloc, text, block, agents)?;
     let head = Head {
         at: title(block).start,
         kind: kind_of(block.kind),
-        owner,
+        owner: owners.first,
         states: state_count(text, block, &labels),
     };
     Ok(Entry {
         name: Vec::from_slice(alloc, name)?,
         labels,
         head,
+        more: owners.more,
     })
 }
 
@@ -181,12 +186,14 @@ fn read_blocks(alloc: Global, text: &[u8], blocks: &[Block]) -> Result<Nodes, Bu
     let mut labels = Vec::new(alloc);
     let mut agents = Vec::new(alloc);
     let mut heads = Vec::new(alloc);
+    let mut more = Vec::new(alloc);
     for block in blocks {
         if is_node(block.kind) {
             let entry = read_entry(alloc, text, block, &names, &mut agents)?;
             names.add(entry.name)?;
             labels.push(entry.labels)?;
             heads.push(entry.head)?;
+            more.push(entry.more)?;
         }
     }
     Ok(Nodes {
@@ -194,6 +201,7 @@ fn read_blocks(alloc: Global, text: &[u8], blocks: &[Block]) -> Result<Nodes, Bu
         labels,
         agents,
         heads,
+        more,
     })
 }
 

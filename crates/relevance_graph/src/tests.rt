@@ -17,11 +17,12 @@ fn node(
     parents: &[usize],
     cells: &[i128],
 ) -> Result<Node, AllocError>
-    ensures { IfOk result (λ n. n ≡ record { kind = kind; owner = 0; states = states; parents = parents.now; cells = cells.now }) }
+    ensures { IfOk result (λ n. n ≡ record { kind = kind; owner = 0; more = []; states = states; parents = parents.now; cells = cells.now }) }
 {
     Ok(Node {
         kind,
         owner: 0,
+        more: SmallVec::new(alloc),
         states,
         parents: SmallVec::from_slice(alloc, parents)?,
         cells: Vec::from_slice(alloc, cells)?,

@@ -198,7 +198,7 @@ fn push_head(
     out.extend_from_slice(b"decision ")?;
     out.extend_from_slice(names.name(decision))?;
     out.extend_from_slice(b" by ")?;
-    push_quoted(out, names.agent(diagram.node(decision).owner))?;
+    push_quoted(out, names.agent(diagram.agent_of(decision)))?;
     out.extend_from_slice(b" sees")?;
     push_names(out, names, parents_of(diagram, decision))?;
     out.push(b'\n')?;

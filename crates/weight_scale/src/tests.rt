@@ -156,11 +156,12 @@ fn rows_have_their_weights(rt: HostRuntime) {
 
 // A node without parents.
 fn node(alloc: Global, kind: Kind, states: usize, cells: &[i128]) -> Result<Node, AllocError>
-    ensures { IfOk result (λ n. n ≡ record { kind = kind; owner = 0; states = states; parents = []; cells = cells.now }) }
+    ensures { IfOk result (λ n. n ≡ record { kind = kind; owner = 0; more = []; states = states; parents = []; cells = cells.now }) }
 {
     Ok(Node {
         kind,
         owner: 0,
+        more: SmallVec::new(alloc),
         states,
         parents: SmallVec::new(alloc),
         cells: Vec::from_slice(alloc, cells)?,

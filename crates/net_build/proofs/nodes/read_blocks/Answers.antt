@@ -2,16 +2,17 @@
 use Rattle.std.proofs.Common.{◌≡◌, ℕ, ◌<◌, List, All, map, length, get_or, ap, sym, ◌∙◌}
 use Rattle.std.proofs.lemmas.Result.{err_from_is_err_and}
 use Rattle.std.specs.Global.{Vec}
-use Rattle.net_build.specs.Blocks.{is_node, node_blocks, title_at, block_name, names_of, block_labels, block_states, agents_of, owner_of}
+use Rattle.net_build.specs.Blocks.{is_node, node_blocks, title_at, block_name, names_of, block_labels, block_states, agents_of}
 use Rattle.maid_model.specs.Names.{list_of, lists_of}
-use Rattle.net_build.specs.Stages.{head_of}
+use Rattle.net_build.specs.Lists.{numbers_of_lists}
+use Rattle.net_build.specs.Stages.{first_owner, more_owners, head_of}
 use Rattle.net_build.specs.Table.{node_pass}
 use Rattle.net_parser.specs.Owned.{IsBlockOf}
 use Rattle.net_parser.specs.Trees.{BlockTree}
-use Rattle.net_build.proofs.NodeLemmas.{rows_behind, is_node_block, front_more, front_pushed, entry_new, head_is, agents_up_to, owner_up_to, nodes_done, node_is_named}
+use Rattle.net_build.proofs.NodeLemmas.{rows_behind, is_node_block, front_more, front_pushed, entry_new, head_is, first_is, others_are, agents_up_to, owners_up_to, nodes_done, node_is_named}
 use Rattle.first_fault.proofs.Leading.{after_skip, after_step, after_refused, after_end, filter_front_no}
 use Rattle.net_build.proofs.nodes.read_blocks.Goals as goal
-use Rattle.net_build.proofs.nodes.read_blocks.Goals.{then-is_node+in_ok-entry+in_ok-add+in_ok-push+in_ok-push-2, else-is_node}
+use Rattle.net_build.proofs.nodes.read_blocks.Goals.{then-is_node+in_ok-entry+in_ok-add+in_ok-push+in_ok-push-2+in_ok-push-3, else-is_node}
 
 -- the block at the place is one of the text
 own : (text : List ℕ) (blocks : List BlockTree) (i : ℕ) (b : BlockTree) → All (IsBlockOf text) blocks → i < length blocks → b ≡ get_or blocks i b → IsBlockOf text b
@@ -25,6 +26,7 @@ loop-block-init c = record {
   labels = ap lists_of c.new-labels.ensures.items;
   agents = ap list_of c.new-agents.ensures.items;
   heads = c.new-heads.ensures.items;
+  more = ap numbers_of_lists c.new-more.ensures.items;
 }
 
 pub read_entry-requires-clause-own : goal.read_entry-requires-clause-own
@@ -56,16 +58,18 @@ returns-clause-nodes c =
     let labels = c.loop-block.invariant.labels ∙ ap (map (block_labels c.args.text.now)) done in
     let agents = c.loop-block.invariant.agents ∙ ap (agents_of c.args.text.now) done in
     let heads = c.loop-block.invariant.heads ∙ ap (map (head_of c.args.text.now (node_blocks c.args.blocks.now))) done in
-    λ j. record { names = names j; labels = labels j; agents = agents j; heads = heads j }
+    let more = c.loop-block.invariant.more ∙ ap (map (more_owners c.args.text.now (node_blocks c.args.blocks.now))) done in
+    λ j. record { names = names j; labels = labels j; agents = agents j; heads = heads j; more = more j }
 
 pub loop-block-preserved : goal.loop-block-preserved
 loop-block-preserved c = elim c.if-is_node.branch [
-  | then-is_node+in_ok-entry+in_ok-add+in_ok-push+in_ok-push-2 w ↦
+  | then-is_node+in_ok-entry+in_ok-add+in_ok-push+in_ok-push-2+in_ok-push-3 w ↦
       let text = c.args.text.now in
       let blocks = c.args.blocks.now in
       let b = c.block-item.result in
       let i = c.loop-block.block-index in
       let kept = ap (λ (b : BlockTree). is_node b.kind) (sym c.block.view_is) ∙ sym c.is_node.ensures ∙ w.if-is_node.true in
+      let owners = w.in_ok-entry.ensures.owners ∙ owners_up_to text blocks i b _ _ c.loop-block-test.true c.block-item.is kept c.loop-block.invariant.agents w.in_ok-entry.ensures.agents in
       record {
         lead = after_step (rows_behind text) is_node_block blocks (node_pass text blocks) i b c.loop-block-test.true c.block-item.is kept c.loop-block.invariant.lead
             (rw (c.loop-block.invariant.names, c.loop-block.invariant.agents) at w.in_ok-entry.ensures.rows);
@@ -73,9 +77,11 @@ loop-block-preserved c = elim c.if-is_node.branch [
         labels = rw w.labels-is (front_pushed (λ (v : Vec (Vec ℕ)). list_of v.items) (block_labels text) is_node_block blocks i b c.loop-block.labels.items _ w.in_ok-entry.entry.labels c.loop-block-test.true c.block-item.is kept c.loop-block.invariant.labels w.in_ok-push.ensures.items w.in_ok-entry.ensures.labels);
         agents = rw w.agents-is (agents_up_to text blocks i b _ _ c.loop-block-test.true c.block-item.is kept c.loop-block.invariant.agents w.in_ok-entry.ensures.agents);
         heads = rw w.heads-is (front_more (head_of text (node_blocks blocks)) is_node_block blocks i b c.loop-block.heads.items _ w.in_ok-entry.entry.head c.loop-block-test.true c.block-item.is kept c.loop-block.invariant.heads w.in_ok-push-2.ensures.items
-            (head_is w.in_ok-entry.entry.head (title_at b) (owner_of text (node_blocks blocks) b) (block_states text b) b w.in_ok-entry.ensures.at w.in_ok-entry.ensures.kind
-            (w.in_ok-entry.ensures.owner ∙ owner_up_to text blocks i b _ _ c.loop-block-test.true c.block-item.is kept c.loop-block.invariant.agents w.in_ok-entry.ensures.agents)
+            (head_is w.in_ok-entry.entry.head (title_at b) (first_owner text (node_blocks blocks) b) (block_states text b) b w.in_ok-entry.ensures.at w.in_ok-entry.ensures.kind
+            (first_is _ _ _ owners)
             w.in_ok-entry.ensures.states));
+        more = rw w.more-is (front_pushed (λ (v : Vec ℕ). v.items) (more_owners text (node_blocks blocks)) is_node_block blocks i b c.loop-block.more.items _ w.in_ok-entry.entry.more c.loop-block-test.true c.block-item.is kept c.loop-block.invariant.more w.in_ok-push-3.ensures.items
+            (others_are _ _ _ owners));
       }
   | else-is_node w ↦
       let text = c.args.text.now in
@@ -89,5 +95,6 @@ loop-block-preserved c = elim c.if-is_node.branch [
         labels = rw w.labels-is (c.loop-block.invariant.labels ∙ ap (map (block_labels text)) front);
         agents = rw w.agents-is (c.loop-block.invariant.agents ∙ ap (agents_of text) front);
         heads = rw w.heads-is (c.loop-block.invariant.heads ∙ ap (map (head_of text (node_blocks blocks))) front);
+        more = rw w.more-is (c.loop-block.invariant.more ∙ ap (map (more_owners text (node_blocks blocks))) front);
       }
 ]

@@ -1,7 +1,8 @@
 use Rattle.std.proofs.Common.{◌≡◌, map, take}
 use Rattle.net_build.specs.Blocks.{is_node, node_blocks, names_of, block_labels, agents_of}
 use Rattle.maid_model.specs.Names.{list_of, lists_of}
-use Rattle.net_build.specs.Stages.{head_of}
+use Rattle.net_build.specs.Lists.{numbers_of_lists}
+use Rattle.net_build.specs.Stages.{head_of, more_owners}
 use Rattle.net_build.specs.Table.{node_rows, node_pass}
 use Rattle.first_fault.proofs.Leading.{Leads, AfterPass}
 use Rattle.net_build.proofs.nodes.read_blocks.Given as goal
@@ -14,4 +15,5 @@ invariant-loop-block l = record {
   labels : lists_of l.labels.items ≡ map (block_labels l.text) (node_blocks (take l.block-index l.blocks));
   agents : list_of l.agents.items ≡ agents_of l.text (node_blocks (take l.block-index l.blocks));
   heads : l.heads.items ≡ map (head_of l.text (node_blocks l.blocks)) (node_blocks (take l.block-index l.blocks));
+  more : numbers_of_lists l.more.items ≡ map (more_owners l.text (node_blocks l.blocks)) (node_blocks (take l.block-index l.blocks));
 }

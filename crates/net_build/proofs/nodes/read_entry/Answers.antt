@@ -12,8 +12,8 @@ returns-in_err-check_repeats-clause-rows c = let p = err_from_is_err_and c.from_
 pub returns-in_err-labels-clause-rows : goal.returns-in_err-labels-clause-rows
 returns-in_err-labels-clause-rows c = let p = err_from_is_err_and c.from_residual-in_err-labels.result c.from_residual-in_err-labels.ensures.1 in rw (p.1, p.2) (entry_labels c.args.text.now _ _ c.args.block.now _ c.in_ok-name.ensures.rows c.in_ok-check_repeats.ensures c.in_err-labels.ensures.rows)
 
-pub returns-in_err-owner-clause-rows : goal.returns-in_err-owner-clause-rows
-returns-in_err-owner-clause-rows c = let p = err_from_is_err_and c.from_residual-in_err-owner.result c.from_residual-in_err-owner.ensures.1 in rw (p.1, p.2) (entry_owner c.args.text.now _ _ c.args.block.now _ c.in_ok-name.ensures.rows c.in_ok-check_repeats.ensures c.in_ok-labels.ensures.rows c.in_err-owner.ensures.rows)
+pub returns-in_err-owners-clause-rows : goal.returns-in_err-owners-clause-rows
+returns-in_err-owners-clause-rows c = let p = err_from_is_err_and c.from_residual-in_err-owners.result c.from_residual-in_err-owners.ensures.1 in rw (p.1, p.2) (entry_owner c.args.text.now _ _ c.args.block.now _ c.in_ok-name.ensures.rows c.in_ok-check_repeats.ensures c.in_ok-labels.ensures.rows c.in_err-owners.ensures.rows)
 
 pub returns-clause-rows : goal.returns-clause-rows
-returns-clause-rows c = entry_good c.args.text.now _ _ c.args.block.now c.in_ok-name.ensures.rows c.in_ok-check_repeats.ensures c.in_ok-labels.ensures.rows c.in_ok-owner.ensures.rows
+returns-clause-rows c = entry_good c.args.text.now _ _ c.args.block.now c.in_ok-name.ensures.rows c.in_ok-check_repeats.ensures c.in_ok-labels.ensures.rows c.in_ok-owners.ensures.rows

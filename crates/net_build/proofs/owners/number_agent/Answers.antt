@@ -1,23 +1,29 @@
 -- An agent was seen, or it is added at the end.
-use Rattle.std.proofs.Common.{arith}
+use Rattle.std.proofs.Common.{◌≡◌, length, Contains, sym, subst, arith}
+use Rattle.maid_model.specs.Names.{list_of}
+use Rattle.net_build.specs.Blocks.{place_among, with_sight}
 use Rattle.net_build.proofs.OwnerLemmas.{sight_old, sight_pushed, place_pushed, too_many}
 use Rattle.net_build.proofs.owners.number_agent.Goals as goal
 
 pub returns-in-Some-clause-agents : goal.returns-in-Some-clause-agents
-returns-in-Some-clause-agents c = let seen = rw (c.deref.ensures.value, c.deref-2.ensures.value) at c.in-Some.ensures in sight_old _ _ seen.0
+returns-in-Some-clause-agents c = let seen = rw c.deref.ensures.value at c.in-Some.ensures in sight_old _ _ seen.0
 
 pub returns-then-place-ge-MOST_AGENTS-clause-rows : goal.returns-then-place-ge-MOST_AGENTS-clause-rows
 returns-then-place-ge-MOST_AGENTS-clause-rows c =
-    let lacks = rw (c.deref.ensures.value, c.deref-2.ensures.value) at c.in_default.ensures in
+    let lacks = rw c.deref.ensures.value at c.in_default.ensures in
     too_many c.args.agents.now.items _ _ _ (omega (arith, c.args.agents.now.ok)) lacks c.at.ensures
 
 pub returns-clause-agents : goal.returns-clause-agents
 returns-clause-agents c =
-    let lacks = rw (c.deref.ensures.value, c.deref-2.ensures.value) at c.in_default.ensures in
-    sight_pushed c.args.agents.now.items _ c.args.agent lacks c.in_ok-push.ensures.items
+    let lacks = rw c.deref.ensures.value at c.in_default.ensures in
+    let are = c.in_ok-from_slice.ensures.items in
+    let lacks_it = subst (λ a. Contains (list_of c.args.agents.now.items) a → ⊥) (sym are) lacks in
+    subst (λ a. list_of c.push.new.self.items ≡ with_sight (list_of c.args.agents.now.items) a) are (sight_pushed c.args.agents.now.items _ c.in_ok-from_slice.field-0 lacks_it c.in_ok-push.ensures.items)
 
 pub returns-clause-place : goal.returns-clause-place
 returns-clause-place c =
-    let lacks = rw (c.deref.ensures.value, c.deref-2.ensures.value) at c.in_default.ensures in
-    let at_end = place_pushed c.args.agents.now.items _ c.args.agent lacks c.in_ok-push.ensures.items in
+    let lacks = rw c.deref.ensures.value at c.in_default.ensures in
+    let are = c.in_ok-from_slice.ensures.items in
+    let lacks_it = subst (λ a. Contains (list_of c.args.agents.now.items) a → ⊥) (sym are) lacks in
+    let at_end = subst (λ a. length c.args.agents.now.items ≡ place_among (list_of c.push.new.self.items) a) are (place_pushed c.args.agents.now.items _ c.in_ok-from_slice.field-0 lacks_it c.in_ok-push.ensures.items) in
     omega (arith, c.args.agents.now.ok)

@@ -5,10 +5,10 @@ use Rattle.maid_model.specs.Views.{NodeView}
 use Rattle.rule_solver.proofs.tests.reply_diagram.Goals as goal
 
 abbrev choice : List ℕ → NodeView
-choice parents = record { kind = Decision; owner = 0; states = 2; parents = parents; cells = [] }
+choice parents = record { kind = Decision; owner = 0; more = []; states = 2; parents = parents; cells = [] }
 
 abbrev pay : NodeView
-pay = record { kind = Utility; owner = 0; states = 1; parents = 0 ∷ 1 ∷ []; cells = pos 1 ∷ pos 4 ∷ pos 3 ∷ pos 2 ∷ [] }
+pay = record { kind = Utility; owner = 0; more = []; states = 1; parents = 0 ∷ 1 ∷ []; cells = pos 1 ∷ pos 4 ∷ pos 3 ∷ pos 2 ∷ [] }
 
 abbrev nodes : List NodeView
 nodes = choice [] ∷ choice (0 ∷ []) ∷ pay ∷ []

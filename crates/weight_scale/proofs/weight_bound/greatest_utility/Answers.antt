@@ -1,4 +1,4 @@
-use Rattle.std.proofs.Common.{arith, length, ◌<◌}
+use Rattle.std.proofs.Common.{arith, length, sym, ◌<◌}
 use Rattle.weight_scale.proofs.Greatest.{greatest_step}
 use Rattle.weight_scale.proofs.weight_bound.greatest_utility.Goals as goal
 
@@ -9,3 +9,11 @@ loop-v-preserved c =
       small = omega (arith, c.in_ok-sum.ensures);
       whole = rw (c.in_ok-sum.ensures.1, c.greatest_at.ensures) (greatest_step c.args.diagram.now.nodes c.loop-v.v c.loop-v.sum _ inside c.loop-v.invariant.whole);
     }
+
+-- the sum so far and this node's are too much already, so all are
+pub returns-in_err-sum : goal.returns-in_err-sum
+returns-in_err-sum c = rw c.from_residual.ensures (λ fits.
+    let inside : c.loop-v.v < length c.args.diagram.now.nodes = omega (arith, c.loop-v-test.true, c.count-v-end.ensures.count) in
+    let whole = rw (sym c.greatest_at.ensures) at (greatest_step c.args.diagram.now.nodes c.loop-v.v c.loop-v.sum _ inside c.loop-v.invariant.whole) in
+    let many = c.in_err-sum.ensures in
+    omega (arith, whole, many, fits))

@@ -1,0 +1,34 @@
+-- A name's row is the first of those still to come.
+use Rattle.std.proofs.Common.{[], ap, sym, ◌∙◌}
+use Rattle.maid_model.specs.Names.{list_of}
+use Rattle.first_fault.specs.Passes.{each_after}
+use Rattle.net_build.specs.Blocks.{with_sight}
+use Rattle.net_build.specs.Table.{sight_row}
+use Rattle.net_build.proofs.LinkLemmas.{hands_on, behind_on, behind_refused}
+use Rattle.net_build.proofs.OwnerLemmas.{name_item, names_within, numbers_step, sights_step}
+use Rattle.net_build.proofs.owners.number_owners.Goals as goal
+
+pub returns-in_err-number_agent-clause-rows : goal.returns-in_err-number_agent-clause-rows
+returns-in_err-number_agent-clause-rows c =
+    let row = sight_row (list_of c.args.agents.now.items) c.args.at in
+    let names = list_of c.args.names.now in
+    hands_on (each_after row [] names) _ _ c.from_residual.ensures
+    (behind_refused row names (each_after row [] names) c.loop-name.name-index c.name-item.result.items _ (names_within c.args.names.now c.loop-name.name-index c.loop-name-test.true)
+    (name_item c.args.names.now c.loop-name.name-index c.name-item.result c.loop-name-test.true c.name-item.is) c.loop-name.invariant.lead
+    (rw (c.deref.ensures.value, c.loop-name.invariant.agents) at c.in_err-number_agent.ensures.rows))
+
+pub loop-name-preserved : goal.loop-name-preserved
+loop-name-preserved c =
+    let old = list_of c.args.agents.now.items in
+    let names = list_of c.args.names.now in
+    let i = c.loop-name.name-index in
+    let x = c.name-item.result.items in
+    let within = names_within c.args.names.now i c.loop-name-test.true in
+    let is = name_item c.args.names.now i c.name-item.result c.loop-name-test.true c.name-item.is in
+    let so_far = c.loop-name.invariant.agents in
+    let seen = rw c.deref.ensures.value at c.in_ok-number_agent.ensures.agents in
+    record {
+      agents = seen ∙ ap (λ s. with_sight s x) so_far ∙ sym (sights_step old names i x within is);
+      numbers = numbers_step old names (list_of c.loop-name.agents.items) _ c.loop-name.numbers.items _ c.in_ok-number_agent.field-0 i x within is so_far seen c.loop-name.invariant.numbers c.in_ok-push.ensures.items (rw c.deref.ensures.value at c.in_ok-number_agent.ensures.place);
+      lead = behind_on (sight_row old c.args.at) names _ i x within is c.loop-name.invariant.lead (rw (c.deref.ensures.value, so_far) at c.in_ok-number_agent.ensures.rows);
+    }

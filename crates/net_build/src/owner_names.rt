@@ -1,0 +1,159 @@
+//! The names of a node's owners: the string of `agent`, or the strings of `agents`.
+
+ghost use Rattle.std.specs.Prelude.{◌≡◌, [], ◌∷◌, List, All, filter, map, true, false, IfOk, IfSome, MatchOption, bytes_eq, codes};
+ghost use Rattle.net_build.specs.Blocks.{is_string, names_owners, owner_attributes, owner_names, tells_owners, texts_or_agent, word_of};
+ghost use Rattle.maid_model.specs.Names.{list_of};
+ghost use Rattle.first_fault.specs.Passes.{rule, each_after};
+ghost use Rattle.first_fault.specs.Answers.{Passes};
+ghost use Rattle.net_build.specs.Passes.{found, BadAgent, build_fault};
+ghost use Rattle.net_build.specs.Table.{repeated_agent_row, agent_rows};
+ghost use Rattle.net_lexer.specs.Token.{text_value};
+ghost use Rattle.net_lexer.specs.declared.tokens.TokenKind.TheVariants.{Text};
+ghost use Rattle.net_parser.specs.Owned.{IsAttributeOf, IsBlockOf, leaves};
+ghost use Rattle.net_parser.specs.Trees.{AttributeTree, leaf};
+ghost use Rattle.net_parser.specs.Views.{value_tree};
+
+use crate::attributes::{is_named, names_owners, word_of};
+use crate::faults::{BuildFault, BuildKind};
+use crate::labels::{is_plain, labels, strings};
+use crate::leaves::leaves;
+use crate::node_names::NodeNames;
+use net_lexer::{Token, TokenKind, text_value};
+use net_parser::{Attribute, Block, BlockKind, Value};
+use std::alloc::Global;
+
+// The first of the attributes that tell the owners of such a node.
+fn first_telling<'a>(
+    text: &[u8],
+    kind: BlockKind,
+    attributes: &'a [Attribute],
+) -> Option<&'a Attribute>
+    requires { All (IsAttributeOf text.now) attributes.now }
+    ensures first { MatchOption result (filter (λ a. names_owners kind (word_of text.now a)) attributes.now ≡ []) (λ a. (rest : List AttributeTree) × (filter (λ a. names_owners kind (word_of text.now a)) attributes.now ≡ a.now ∷ rest)) }
+    ensures own { IfSome result (λ a. IsAttributeOf text.now a.now) }
+{
+    for attribute in attributes {
+        if names_owners(kind, word_of(text, attribute)) {
+            return Some(attribute);
+        }
+    }
+    None
+}
+
+// The token of a string.
+fn string_token(value: &Value) -> Option<&Token>
+    ensures tree { MatchOption result (is_string (value_tree value.now) ≡ false) (λ token. value_tree value.now ≡ leaf token.now) }
+    ensures string { IfSome result (λ token. token.now.kind ≡ Text) }
+{
+    match value {
+        Value::Leaf(token) => {
+            if token.kind == TokenKind::Text {
+                Some(token)
+            } else {
+                None
+            }
+        }
+        Value::List(_) => None,
+    }
+}
+
+// The one owner that an `agent` tells.
+fn one_name(alloc: Global, text: &[u8], agent: &Attribute) -> Result<Vec<Vec<u8>>, BuildFault>
+    requires own { IsAttributeOf text.now agent.now }
+    requires one { bytes_eq (word_of text.now agent.now) (codes "agents") ≡ false }
+    ensures rows { Passes build_fault (rule (tells_owners text.now agent.now ≡ false) (found agent.now.name.start BadAgent)) result }
+    ensures names { IfOk result (λ names. list_of names.items ≡ map (text_value text.now) (leaves agent.now.value)) }
+{
+    let at = agent.name.start;
+    let Some(token) = string_token(&agent.value) else {
+        return Err(BuildKind::BadAgent.at(at));
+    };
+    let name = text_value(alloc, text, token)?;
+    if !is_plain(&name) {
+        return Err(BuildKind::BadAgent.at(at));
+    }
+    let mut names = Vec::new(alloc);
+    names.push(name)?;
+    Ok(names)
+}
+
+// The owners that an `agents` tells. An agent's name has the form of a label.
+fn listed_names(alloc: Global, text: &[u8], agents: &Attribute) -> Result<Vec<Vec<u8>>, BuildFault>
+    requires own { IsAttributeOf text.now agents.now }
+    requires list { bytes_eq (word_of text.now agents.now) (codes "agents") ≡ true }
+    ensures rows { Passes build_fault (rule (tells_owners text.now agents.now ≡ false) (found agents.now.name.start BadAgent)) result }
+    ensures names { IfOk result (λ names. list_of names.items ≡ map (text_value text.now) (leaves agents.now.value)) }
+{
+    let at = agents.name.start;
+    let Some(values) = strings(&agents.value) else {
+        return Err(BuildKind::BadAgent.at(at));
+    };
+    match labels(alloc, text, values) {
+        Ok(names) => Ok(names),
+        Err(BuildFault::Fault { .. }) => Err(BuildKind::BadAgent.at(at)),
+        Err(BuildFault::NoMemory) => Err(BuildFault::NoMemory),
+    }
+}
+
+// The owners that the attribute tells, whatever stands twice.
+fn agent_names(alloc: Global, text: &[u8], agents: &Attribute) -> Result<Vec<Vec<u8>>, BuildFault>
+    requires { IsAttributeOf text.now agents.now }
+    ensures rows { Passes build_fault (rule (tells_owners text.now agents.now ≡ false) (found agents.now.name.start BadAgent)) result }
+    ensures names { IfOk result (λ names. list_of names.items ≡ map (text_value text.now) (leaves agents.now.value)) }
+{
+    if is_named(text, agents, b"agents") {
+        listed_names(alloc, text, agents)
+    } else {
+        one_name(alloc, text, agents)
+    }
+}
+
+// None of the names stands a second time; they are those of these strings. It goes over them once.
+fn check_distinct(
+    alloc: Global,
+    text: &[u8],
+    agents: &[Token],
+    names: &[Vec<u8>],
+) -> Result<(), BuildFault>
+    requires { list_of names.now ≡ map (text_value text.now) agents.now }
+    ensures { Passes build_fault (each_after (repeated_agent_row text.now) [] agents.now) result }
+{
+    let _ = text;
+    let mut seen = NodeNames::new(alloc);
+    for (place, agent) in agents.iter().enumerate() {
+        let name = &names[place];
+        if seen.place(name).is_some() {
+            return Err(BuildKind::RepeatedAgent.at(agent.start));
+        }
+        seen.add(Vec::from_slice(alloc, name)?)?;
+    }
+    Ok(())
+}
+
+// The owners that the attribute tells.
+fn told_names(alloc: Global, text: &[u8], agents: &Attribute) -> Result<Vec<Vec<u8>>, BuildFault>
+    requires { IsAttributeOf text.now agents.now }
+    ensures rows { Passes build_fault (agent_rows text.now (agents.now ∷ [])) result }
+    ensures names { IfOk result (λ names. list_of names.items ≡ texts_or_agent text.now (leaves agents.now.value)) }
+{
+    let names = agent_names(alloc, text, agents)?;
+    let tokens = leaves(alloc, &agents.value)?;
+    check_distinct(alloc, text, &tokens, &names)?;
+    Ok(names)
+}
+
+/// The names of the owners of a decision or a utility, in written order.
+pub fn read_names(alloc: Global, text: &[u8], block: &Block) -> Result<Vec<Vec<u8>>, BuildFault>
+    requires { IsBlockOf text.now block.now }
+    ensures rows { Passes build_fault (agent_rows text.now (owner_attributes text.now block.now)) result }
+    ensures names { IfOk result (λ names. list_of names.items ≡ owner_names text.now block.now) }
+{
+    match first_telling(text, block.kind, &block.attributes) {
+        Some(agents) => told_names(alloc, text, agents),
+        None => {
+            let mut names = Vec::new(alloc);
+            names.push(Vec::from_slice(alloc, b"agent")?)?;
+            Ok(names)
+        }
+    }
+}
