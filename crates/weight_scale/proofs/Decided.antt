@@ -1,13 +1,13 @@
 -- A numeral's decimal, or that it has none: the fewest tens that make the value whole are looked for among 0 to 30, and only the number that they make can be the decimal.
-use Rattle.std.proofs.Common.{◌≡◌, ◌<◌, ◌≤◌, ◌+◌, ◌-◌, ◌*◌, ◌/◌, ◌^◌, ◌⊎◌, ⊎_elim, inl, inr, ℕ, zero, suc, neg_ℤ, pos, unsigned_abs, Bool, true, false, cond, List, length, refl, sym, ap, ◌∙◌, subst, arith}
+use Rattle.std.proofs.Common.{◌≡◌, ◌<◌, ◌≤◌, ◌+◌, ◌-◌, ◌*◌, ◌/◌, ◌^◌, ◌⊎◌, ⊎_elim, inl, inr, ℕ, zero, suc, unsigned_abs, Bool, true, false, List, length, refl, sym, ap, ◌∙◌, subst, arith}
 use Rattle.std.specs.Int.{◌∣◌}
 use Rattle.std.proofs.Math.Decide.{dec_dvd}
-use Rattle.std.proofs.Math.Nat.{div-mul_cancel, dvd-mul_left, eq_of_mul-eq-mul_right, mul-le-mul_left, mul-pos}
+use Rattle.std.proofs.Math.Nat.{div-mul_cancel, dvd-mul_left, eq_of_mul-eq-mul_right, mul-le-mul_left}
 use Rattle.std.proofs.lemmas.Bool.{cases_lt}
 use Rattle.std.proofs.lemmas.Nat.{pow-add}
 use Rattle.maid_model.specs.Diagrams.{greatest_number}
 use Rattle.weight_scale.specs.declared.decimal.Decimal.{Decimal}
-use Rattle.weight_scale.specs.Numeral.{signed, numerator, denominator, is_minus, number_of, whole_digits, decimal_digits, exponent_of, exponent_size, IsDecimalOf, IsLeastDecimalOf}
+use Rattle.weight_scale.specs.Numeral.{signed, numerator, denominator, is_minus, decimal_digits, exponent_of, exponent_size, IsDecimalOf, IsLeastDecimalOf}
 use Rattle.weight_scale.proofs.Signs.{fraction_from_sizes, sizes_from_fraction}
 use Rattle.weight_scale.proofs.Tens.{tens_positive}
 use Rattle.weight_scale.proofs.Value.{den_positive}
