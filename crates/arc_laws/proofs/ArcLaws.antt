@@ -6,7 +6,7 @@ use Rattle.std.specs.List.{range_with_len}
 use Rattle.maid_model.specs.Edits.{without_arc}
 use Rattle.maid_model.specs.Gains.{gain_at, mass_at}
 use Rattle.maid_model.specs.Graph.{IsGraph}
-use Rattle.maid_model.specs.Nodes.{IsDecision, node_at, states_of, parents_of, rows_of, rows_under, decisions_of, is_decision}
+use Rattle.maid_model.specs.Nodes.{IsDecision, states_of, parents_of, rows_of, rows_under, decisions_of, is_decision, owns, agent_of}
 use Rattle.maid_model.specs.Profiles.{IsProfile, IsRule}
 use Rattle.maid_model.specs.Relevance.{IsRequisite}
 use Rattle.maid_model.specs.Subgames.{OwnsAll}
@@ -263,13 +263,13 @@ module _ (nodes others : List NodeView) (x d : ℕ) (l : Loses nodes others x d)
             (λ j. slice_index ((put_here others d 1 (pure_weights others d choice) p decisions_p kd).0 j) (row_from (states_of nodes) w 0 less * sym (states_at nodes others x d l d) j + w d))
             ∙ weights_by-at (rows_of others d) (states_of others d) (λ r s. cond (eqb s (choice r)) 1 0) (row_from (states_of nodes) w 0 less) (w d) (row_from-less w i) (subst (λ n. w d < n) (sym (states_at nodes others x d l d)) (i.state d))
 
-    pub shorten : (q : List RuleView) × IsProfile others q × IsAsGood nodes p others q (node_at nodes d).owner
+    pub shorten : (q : List RuleView) × IsProfile others q × IsAsGood nodes p others q (agent_of nodes d)
     shorten = (
       short,
       short_profile,
-      as_good_then nodes nodes others p high short (node_at nodes d).owner tp (tables_of nodes high g c high_profile) (tables_of others short (graph_kept nodes others x d l g) (tables_kept nodes others x d l k c) short_profile)
+      as_good_then nodes nodes others p high short (agent_of nodes d) tp (tables_of nodes high g c high_profile) (tables_of others short (graph_kept nodes others x d l g) (tables_kept nodes others x d l k c) short_profile)
           (pure_as_good nodes g p hp tp d k (λ r. choice (row_less r)) (λ r m. (richest (row_less r)).1) (tables_of nodes high g c high_profile) best)
-          (good_equal nodes others high short (node_at nodes d).owner (sym (gain_lifted nodes others x d l k g.has_state high short short_lifts (node_at nodes d).owner)) (sym (mass_lifted nodes others x d l k g.has_state high short short_lifts))),
+          (good_equal nodes others high short (agent_of nodes d) (sym (gain_lifted nodes others x d l k g.has_state high short short_lifts (agent_of nodes d))) (sym (mass_lifted nodes others x d l k g.has_state high short short_lifts))),
     )
 
 -- ---- for every diagram

@@ -1,5 +1,5 @@
 -- A diagram in which a chance node is a decision of an agent over its own parents.
-use Rattle.std.proofs.Common.{◌≡◌, ◌≢◌, ◌⊎◌, ◌↔◌, ◌∙◌, ℕ, suc, ◌+◌, ◌*◌, ◌<◌, Bool, true, false, cond, ◌&&◌, eqb, List, [], ◌∷◌, map, length, slice_index_or, filter, not, refl, sym, ap, subst, inl, inr, ℤ, pos, negsuc, ◌≤ℤ◌, nat_abs, arith}
+use Rattle.std.proofs.Common.{◌≡◌, ◌≢◌, ◌⊎◌, ◌↔◌, ◌∙◌, ℕ, suc, ◌+◌, ◌*◌, ◌<◌, Bool, true, false, cond, ◌&&◌, eqb, List, [], ◌∷◌, map, length, slice_index_or, filter, not, refl, sym, ap, subst, inl, inr, ℤ, pos, negsuc, ◌≤ℤ◌, nat_abs, arith, Contains, ◌==◌}
 use Rattle.std.proofs.lemmas.Int.{ints}
 use Rattle.std.proofs.lemmas.List.{length-set}
 use Rattle.std.proofs.Math.Decide.{ℕ_discrete}
@@ -8,7 +8,7 @@ use Rattle.maid_model.specs.declared.diagrams.Kind.TheVariants.{Chance, Decision
 use Rattle.maid_model.specs.Edits.{as_decision}
 use Rattle.maid_model.specs.Gains.{gain_of, mass, value_for}
 use Rattle.maid_model.specs.Graph.{Arc, IsGraph}
-use Rattle.maid_model.specs.Nodes.{IsDecision, node_at, states_of, parents_of, rows_of, is_utility}
+use Rattle.maid_model.specs.Nodes.{IsDecision, node_at, states_of, parents_of, rows_of, is_utility, owns, Owns, agent_of, is_utility_of}
 use Rattle.maid_model.specs.Relevance.{IsLive, IsInFamilyBut, IsRequisite}
 use Rattle.maid_model.specs.Subgames.{OwnsAll}
 use Rattle.finite_sums.specs.Sums.{World, sum_below}
@@ -22,6 +22,7 @@ use Rattle.arc_laws.proofs.LostArc.{Loses, set_at, set_else}
 use Rattle.arc_laws.proofs.SameArcs.{states_same, row_same, arc_back, arc_there, descends_back, graph_alike, table_there}
 use Rattle.maid_laws.proofs.Signs.{at_pos}
 use Rattle.maid_laws.proofs.Tied.{decision_of}
+use Rattle.std.specs.List.{list_any}
 
 -- walks of other live nodes along the same arcs
 module _ (Arc More : ℕ → ℕ → Type 0) (there : (x y : ℕ) → Arc x y → More x y) (back : (x y : ℕ) → More x y → Arc x y) (Live Lives Given Fixed : ℕ → Type 0) (live : (x : ℕ) → Live x → Lives x) (same : (x : ℕ) → Given x ↔ Fixed x) where
@@ -54,7 +55,7 @@ abs_cells (x ∷ xs) h = λ i. abs x (h 0) i ∷ abs_cells xs (λ k. h (suc k)) 
 pub record Controls (nodes others : List NodeView) (agent x : ℕ) : Type 0 where
   pub len : length others ≡ length nodes
   pub else : (v : ℕ) → v ≢ x → node_at others v ≡ node_at nodes v
-  pub at : node_at others x ≡ record { kind = Decision; owner = agent; states = (node_at nodes x).states; parents = (node_at nodes x).parents; cells = [] }
+  pub at : node_at others x ≡ record { kind = Decision; owner = agent; more = []; states = (node_at nodes x).states; parents = (node_at nodes x).parents; cells = [] }
 
 pub controls : (nodes : List NodeView) (agent x : ℕ) → x < length nodes → Controls nodes (as_decision nodes agent x) agent x
 controls nodes agent x l = record {
@@ -64,20 +65,20 @@ controls nodes agent x l = record {
 }
   where
     made : List NodeView → ℕ → ℕ → NodeView
-    made nodes agent x = record { kind = Decision; owner = agent; states = (node_at nodes x).states; parents = (node_at nodes x).parents; cells = [] }
+    made nodes agent x = record { kind = Decision; owner = agent; more = []; states = (node_at nodes x).states; parents = (node_at nodes x).parents; cells = [] }
 
 -- also where both diagrams lose an arc into another node
 pub controls_less : (nodes others less fewer : List NodeView) (agent x y d : ℕ) → d ≢ x → Controls nodes others agent x → Loses nodes less y d → Loses others fewer y d → Controls less fewer agent x
 controls_less nodes others less fewer agent x y d n r l m = record {
   len = m.len ∙ r.len ∙ sym l.len;
   else = λ v k. else v k (ℕ_discrete v d);
-  at = m.else x (λ e. n (sym e)) ∙ r.at ∙ (λ i. record { kind = Decision; owner = agent; states = (sym (l.else x (λ e. n (sym e))) i).states; parents = (sym (l.else x (λ e. n (sym e))) i).parents; cells = [] });
+  at = m.else x (λ e. n (sym e)) ∙ r.at ∙ (λ i. record { kind = Decision; owner = agent; more = []; states = (sym (l.else x (λ e. n (sym e))) i).states; parents = (sym (l.else x (λ e. n (sym e))) i).parents; cells = [] });
 }
   where
     else : (v : ℕ) → v ≢ x → Dec (v ≡ d) → node_at fewer v ≡ node_at less v
     else v k (yes e) =
         ap (node_at fewer) e ∙ m.at
-        ∙ (λ i. record { kind = (r.else d n i).kind; owner = (r.else d n i).owner; states = (r.else d n i).states; parents = filter (λ u. not (eqb u y)) (r.else d n i).parents; cells = (r.else d n i).cells })
+        ∙ (λ i. record { kind = (r.else d n i).kind; owner = (r.else d n i).owner; more = (r.else d n i).more; states = (r.else d n i).states; parents = filter (λ u. not (eqb u y)) (r.else d n i).parents; cells = (r.else d n i).cells })
         ∙ sym (ap (node_at less) e ∙ l.at)
     else v k (no j) = m.else v j ∙ r.else v k ∙ sym (l.else v j)
 
@@ -95,7 +96,7 @@ module _ (nodes others : List NodeView) (agent x : ℕ) (r : Controls nodes othe
   decision_chance e = cc
 
   -- states and parents stay
-  kept : {A : Type 0} (f : NodeView → A) → f (record { kind = Decision; owner = agent; states = (node_at nodes x).states; parents = (node_at nodes x).parents; cells = [] }) ≡ f (node_at nodes x) → (v : ℕ) → f (node_at others v) ≡ f (node_at nodes v)
+  kept : {A : Type 0} (f : NodeView → A) → f (record { kind = Decision; owner = agent; more = []; states = (node_at nodes x).states; parents = (node_at nodes x).parents; cells = [] }) ≡ f (node_at nodes x) → (v : ℕ) → f (node_at others v) ≡ f (node_at nodes v)
   kept f same v = go (ℕ_discrete v x)
     where
       go : Dec (v ≡ x) → f (node_at others v) ≡ f (node_at nodes v)
@@ -126,6 +127,10 @@ module _ (nodes others : List NodeView) (agent x : ℕ) (r : Controls nodes othe
 
   pub utility_back : (v : ℕ) → (node_at others v).kind ≡ Utility → (node_at nodes v).kind ≡ Utility
   utility_back v e = sym (else_of v (not_x v Utility e decision_utility)) ∙ e
+
+  -- whose a utility is stays
+  owns_back : (other v : ℕ) → (node_at others v).kind ≡ Utility → Owns others other v → Owns nodes other v
+  owns_back other v e o = subst (λ m. Contains (m.owner ∷ m.more) other) (r.else v (not_x v Utility e decision_utility)) o
 
   pub decision_there : (v : ℕ) → IsDecision nodes v → IsDecision others v
   decision_there v d = record { within = subst (λ n. v < n) (sym r.len) d.within; kind = else_of v (was_not_x v Decision d.kind chance_decision) ∙ d.kind }
@@ -182,7 +187,7 @@ module _ (nodes others : List NodeView) (agent x : ℕ) (r : Controls nodes othe
     is_goal = record {
       within = subst (λ n. q.goal < n) r.len q.is_goal.within;
       kind = utility_back q.goal q.is_goal.kind;
-      owner = sym (ap (λ m. m.owner) (r.else q.goal (not_x q.goal Utility q.is_goal.kind decision_utility))) ∙ q.is_goal.owner ∙ ap (λ m. m.owner) (r.else d (decision_not_x d kd));
+      owner = owns_back (agent_of nodes d) q.goal q.is_goal.kind (subst (λ m. Owns others m.owner q.goal) (r.else d (decision_not_x d kd)) q.is_goal.owner);
       below = descends_back nodes others r.len states_at parents_at d q.goal q.is_goal.below;
     };
     walk = reached_map (Arc others) (Arc nodes) (arc_back nodes others r.len states_at parents_at) (arc_there nodes others r.len states_at parents_at) (IsLive others) (IsLive nodes) (IsInFamilyBut (Arc others) d y) (IsInFamilyBut (Arc nodes) d y) live_back (fixed_back d y) y q.goal q.walk;
@@ -191,7 +196,7 @@ module _ (nodes others : List NodeView) (agent x : ℕ) (r : Controls nodes othe
   pub unreached_there : (other : ℕ) → IsUnreached nodes other x → IsUnreached others other x
   unreached_there other far u l k o h =
       far u (subst (λ n. u < n) r.len l) (utility_back u k)
-      (sym (ap (λ m. m.owner) (r.else u (not_x u Utility k decision_utility))) ∙ o) (descends_back nodes others r.len states_at parents_at x u h)
+      (owns_back other u k o) (descends_back nodes others r.len states_at parents_at x u h)
 
   -- ---- x's table as a rule
   abbrev pub own_weights : List ℕ
@@ -235,11 +240,11 @@ module _ (nodes others : List NodeView) (agent x : ℕ) (r : Controls nodes othe
         none false z e = refl
 
         no_value : (ns : List NodeView) (d : Kind) → (node_at ns v).kind ≡ d → is_utility d ≡ false → value_for ns other v w ≡ pos 0
-        no_value ns d e f = none (is_utility (node_at ns v).kind && eqb (node_at ns v).owner other) (slice_index_or (node_at ns v).cells (row_of ns v w) (pos 0)) (ap (λ a. is_utility a && eqb (node_at ns v).owner other) e ∙ ap (λ b. b && eqb (node_at ns v).owner other) f)
+        no_value ns d e f = none (is_utility_of ns other v) (slice_index_or (node_at ns v).cells (row_of ns v w) (pos 0)) (ap (λ a. is_utility a && owns ns other v) e ∙ ap (λ b. b && owns ns other v) f)
 
         go : Dec (v ≡ x) → value_for others other v w ≡ value_for nodes other v w
         go (yes e) = no_value others Decision (ap (λ u. (node_at others u).kind) e ∙ kind_x) refl ∙ sym (no_value nodes Chance (ap (λ u. (node_at nodes u).kind) e ∙ k) refl)
-        go (no n) = λ i. cond (is_utility (r.else v n i).kind && eqb (r.else v n i).owner other) (slice_index_or (r.else v n i).cells (row_same nodes others r.len states_at parents_at v w i) (pos 0)) (pos 0)
+        go (no n) = λ i. cond (is_utility (r.else v n i).kind && list_any (λ a. a == other) ((r.else v n i).owner ∷ (r.else v n i).more)) (slice_index_or (r.else v n i).cells (row_same nodes others r.len states_at parents_at v w i) (pos 0)) (pos 0)
 
     pub gain_filled : (other : ℕ) → gain_of others q other ≡ gain_of nodes p other
     gain_filled other = gain_between nodes others r.len p q other has (states_same nodes others r.len states_at parents_at) (λ v l w i. table_filled v l w) (value_same other)

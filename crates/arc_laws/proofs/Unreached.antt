@@ -1,9 +1,9 @@
 -- The rule of a decision from which no utility of an agent descends does not matter to the agent.
-use Rattle.std.proofs.Common.{◌≡◌, ◌≢◌, ◌∙◌, ℕ, ◌<◌, Bool, true, false, cond, ◌&&◌, eqb, List, [], ◌∷◌, length, slice_index_or, refl, sym, ap, subst, inl, inr, ℤ, pos, ◌*ℤ◌, ◌<ℤ◌, arith}
+use Rattle.std.proofs.Common.{◌≡◌, ◌≢◌, ◌∙◌, ℕ, ◌<◌, Bool, true, false, cond, ◌&&◌, List, [], ◌∷◌, length, slice_index_or, refl, sym, ap, subst, inl, inr, ℤ, pos, ◌*ℤ◌, ◌<ℤ◌, arith}
 use Rattle.std.proofs.lemmas.Int.{ints}
 use Rattle.maid_model.specs.Gains.{gain_of, mass, utility, value_for}
 use Rattle.maid_model.specs.Graph.{IsGraph}
-use Rattle.maid_model.specs.Nodes.{IsDecision, node_at, states_of, numbers_of, is_decision, is_utility}
+use Rattle.maid_model.specs.Nodes.{IsDecision, node_at, states_of, numbers_of, is_decision, is_utility, owns, owners_of}
 use Rattle.maid_model.specs.Profiles.{IsProfile, SameRule}
 use Rattle.finite_sums.specs.Sums.{with_state, sum_each}
 use Rattle.maid_model.specs.Tables.{weights_of, rule_total, weight_total, row_of}
@@ -14,9 +14,9 @@ use Rattle.finite_sums.specs.Members.{Among}
 use Rattle.finite_sums.specs.Looks.{Ignores}
 use Rattle.maid_model.proofs.Setting.{HasTables}
 use Rattle.finite_sums.proofs.Sums.{Ignores-add}
+use Rattle.finite_sums.proofs.Members.{any_is}
 use Rattle.maid_model.specs.Values.{IsUnreached}
 use Rattle.arc_laws.specs.Control.{UnreachedRule}
-use Rattle.maid_laws.proofs.Booleans.{eqb_same}
 use Rattle.maid_laws.proofs.Choices.{none_found}
 use Rattle.maid_laws.proofs.Decided.{tests, by_contradiction}
 use Rattle.maid_laws.proofs.Fractions.{cancel}
@@ -57,20 +57,20 @@ module _ (nodes : List NodeView) (g : IsGraph nodes) (d agent : ℕ) (far : IsUn
       next v (inl e) a = child (subst (λ z. IsParent nodes z v) e a)
       next v (inr b) a = further b a
 
-      one : (v : ℕ) (b : Bool) → (is_utility (node_at nodes v).kind && eqb (node_at nodes v).owner agent) ≡ b → Ignores (states_of nodes) (value_for nodes agent v) u
+      one : (v : ℕ) (b : Bool) → (is_utility (node_at nodes v).kind && owns nodes agent v) ≡ b → Ignores (states_of nodes) (value_for nodes agent v) u
       one v false e = record { same = λ w i s l. (λ z. cond (e z) (slice_index_or (node_at nodes v).cells (row_of nodes v (with_state w u s)) (pos 0)) (pos 0)) ∙ sym (λ z. cond (e z) (slice_index_or (node_at nodes v).cells (row_of nodes v w) (pos 0)) (pos 0)) }
-      one v true e = record { same = λ w i s l. ap (λ y. cond (is_utility (node_at nodes v).kind && eqb (node_at nodes v).owner agent) y (pos 0)) ((cell_ignores nodes d v u not_parent).same w i s l) }
+      one v true e = record { same = λ w i s l. ap (λ y. cond (is_utility (node_at nodes v).kind && owns nodes agent v) y (pos 0)) ((cell_ignores nodes d v u not_parent).same w i s l) }
         where
           not_parent : ¬ (IsParent nodes u v)
           not_parent a = n (λ f. far v
               (arc_inside nodes u v a)
-              (kind_of_utility (node_at nodes v).kind (and_left (is_utility (node_at nodes v).kind) (eqb (node_at nodes v).owner agent) e))
-              (eqb_same (node_at nodes v).owner agent (and_right (is_utility (node_at nodes v).kind) (eqb (node_at nodes v).owner agent) e))
+              (kind_of_utility (node_at nodes v).kind (and_left (is_utility (node_at nodes v).kind) (owns nodes agent v) e))
+              ((any_is agent (owners_of nodes v)).0 (and_right (is_utility (node_at nodes v).kind) (owns nodes agent v) e))
               (below_path nodes (next v f a)))
 
       each : (vs : List ℕ) → Ignores (states_of nodes) (λ w. sum_each (λ v. value_for nodes agent v w) vs) u
       each [] = record { same = λ w i x l. refl }
-      each (v ∷ vs) = Ignores-add (states_of nodes) (value_for nodes agent v) (λ w. sum_each (λ v. value_for nodes agent v w) vs) u (one v (is_utility (node_at nodes v).kind && eqb (node_at nodes v).owner agent) refl) (each vs)
+      each (v ∷ vs) = Ignores-add (states_of nodes) (value_for nodes agent v) (λ w. sum_each (λ v. value_for nodes agent v w) vs) u (one v (is_utility (node_at nodes v).kind && owns nodes agent v) refl) (each vs)
 
   module _ (p q : List RuleView) (tp : HasTables nodes p) (tq : HasTables nodes q) (k : IsDecision nodes d) (same : (v : ℕ) → v ≢ d → (weights_of p v ≡ weights_of q v) × (rule_total p v ≡ rule_total q v)) where
     total_else : (v : ℕ) → v ≢ d → weight_total nodes p v ≡ weight_total nodes q v

@@ -4,3 +4,4 @@ pub mod Totals
 pub mod Lists
 pub mod Members
 pub mod Counts
+pub mod Sights

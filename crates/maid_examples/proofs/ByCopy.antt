@@ -10,6 +10,7 @@ use Rattle.maid_examples.specs.CopyAnswered.{trace, trace_diagram, HasReliance}
 use Rattle.maid_examples.proofs.Members.{Among, among_of}
 use Rattle.maid_examples.proofs.Reliance.{decision, live, relies}
 use Rattle.maid_examples.proofs.Turning.{end_of_walk}
+use Rattle.finite_sums.proofs.Members.{one_member}
 
 pub leads : IsDecision trace 0
 leads = decision trace 0 (omega arith) refl
@@ -29,7 +30,7 @@ one_of (suc (suc (suc (suc (suc v))))) k = let e = k.kind in absurd (cc)
 pub on_leader : IsGraph trace → ReliesOn trace 2 0
 on_leader graph =
     relies trace 2 0 4 graph (λ e. omega arith) follows leads (live trace 2 (omega arith) (omega arith)) (live trace 0 (omega arith) (omega arith))
-    (record { within = omega arith; kind = refl; owner = refl; below = (4, (1, omega arith, refl), Here) })
+    (record { within = omega arith; kind = refl; owner = (0, omega arith, refl); below = (4, (1, omega arith, refl), Here) })
     (0, omega arith, refl) (λ a. unseen (among_of (1 ∷ []) 0 a))
   where
     unseen : Among 0 (1 ∷ []) → ⊥
@@ -93,7 +94,7 @@ closed graph x y z Aside j l m = absurd (stops z j m.0)
 
 no_goal : (goal u : ℕ) → Step u goal → IsGoal trace 0 goal → ⊥
 no_goal goal u There g = let k : Decision ≡ Utility = g.kind in cc
-no_goal goal u Aside g = let o : ◌≡◌ {A = ℕ} 1 0 = g.owner in omega arith
+no_goal goal u Aside g = let o : ◌≡◌ {A = ℕ} 0 1 = one_member 0 1 [] refl g.owner in omega arith
 
 pub not_on_follower : IsGraph trace → ReliesOn trace 0 2 → ⊥
 not_on_follower graph r = elim (end_of_walk NewArc (WithNode (IsLive trace) 5) (IsInFamily (Arc trace) 0) Step (closed graph) 5 r.goal (λ y j l. from_new graph y j) r.walk) [

@@ -26,13 +26,13 @@ one_of (suc (suc (suc (suc v)))) k = let e = k.kind in absurd (cc)
 on_second : IsGraph pennies → ReliesOn pennies 0 1
 on_second graph =
     relies pennies 0 1 2 graph (λ e. omega arith) first second (live pennies 0 (omega arith) (omega arith)) (live pennies 1 (omega arith) (omega arith))
-    (record { within = omega arith; kind = refl; owner = refl; below = (2, (0, omega arith, refl), Here) })
+    (record { within = omega arith; kind = refl; owner = (0, omega arith, refl); below = (2, (0, omega arith, refl), Here) })
     (1, omega arith, refl) (λ a. among_of [] 1 a)
 
 on_first : IsGraph pennies → ReliesOn pennies 1 0
 on_first graph =
     relies pennies 1 0 3 graph (λ e. omega arith) second first (live pennies 1 (omega arith) (omega arith)) (live pennies 0 (omega arith) (omega arith))
-    (record { within = omega arith; kind = refl; owner = refl; below = (3, (1, omega arith, refl), Here) })
+    (record { within = omega arith; kind = refl; owner = (0, omega arith, refl); below = (3, (1, omega arith, refl), Here) })
     (0, omega arith, refl) (λ a. among_of [] 0 a)
 
 -- the second of two that are left of a list

@@ -13,6 +13,12 @@ reduced_0 = record { positive = omega arith; coprime = IsGcd-from_mod 0 1 1 (IsG
 pub reduced_1 : IsReduced (whole (pos 1))
 reduced_1 = record { positive = omega arith; coprime = IsGcd-from_mod 1 1 1 (IsGcd-from_zero 1 0 refl) }
 
+pub reduced_3 : IsReduced (whole (pos 3))
+reduced_3 = record { positive = omega arith; coprime = IsGcd-from_mod 3 1 1 (IsGcd-from_zero 1 0 refl) }
+
+pub reduced_4 : IsReduced (whole (pos 4))
+reduced_4 = record { positive = omega arith; coprime = IsGcd-from_mod 4 1 1 (IsGcd-from_zero 1 0 refl) }
+
 pub reduced_5 : IsReduced (whole (pos 5))
 reduced_5 = record { positive = omega arith; coprime = IsGcd-from_mod 5 1 1 (IsGcd-from_zero 1 0 refl) }
 

@@ -54,7 +54,7 @@ abbrev TellsBut : ℕ → ℕ → Type 0
 TellsBut x = IsInFamilyBut (Arc told) 3 x
 
 is_goal : IsGoal told 3 4
-is_goal = record { within = omega arith; kind = refl; owner = refl; below = (4, (1, omega arith, refl), Here) }
+is_goal = record { within = omega arith; kind = refl; owner = (0, omega arith, refl); below = (4, (1, omega arith, refl), Here) }
 
 -- coin 1 isn't seen
 coin_1_unseen : (x : ℕ) → TellsBut x 1 → ⊥

@@ -22,6 +22,7 @@ use Rattle.maid_examples.proofs.Members.{Among, among_of}
 use Rattle.maid_examples.proofs.Fractions.{reduced_1, itself, none}
 use Rattle.maid_examples.proofs.Reliance.{decision}
 use Rattle.maid_examples.proofs.Turning.{end_of_walk}
+use Rattle.finite_sums.proofs.Members.{one_member}
 
 leads : IsDecision trail 0
 leads = decision trail 0 (omega arith) refl
@@ -88,7 +89,7 @@ closed graph x y z Aside j l m = absurd (stops z j m.0)
 
 no_goal : (goal u : ℕ) → Step u goal → IsGoal trail 0 goal → ⊥
 no_goal goal u There g = let k : Decision ≡ Utility = g.kind in cc
-no_goal goal u Aside g = let o : ◌≡◌ {A = ℕ} 1 0 = g.owner in omega arith
+no_goal goal u Aside g = let o : ◌≡◌ {A = ℕ} 0 1 = one_member 0 1 [] refl g.owner in omega arith
 
 not_on_follower : IsGraph trail → ReliesOn trail 0 1 → ⊥
 not_on_follower graph r = elim (end_of_walk NewArc (WithNode (IsLive trail) 4) (IsInFamily (Arc trail) 0) Step (closed graph) 4 r.goal (λ y j l. from_new graph y j) r.walk) [

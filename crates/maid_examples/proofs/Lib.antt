@@ -16,3 +16,4 @@ pub mod Weather
 pub mod GuessWorth
 pub mod WeatherMade
 pub mod InSight
+pub mod Sharing

@@ -1,17 +1,18 @@
 -- Who relies on whom in the small diagrams: a walk, or a closed set of steps without a goal.
-use Rattle.std.proofs.Common.{◌≡◌, ◌≢◌, ◌⊎◌, ◌↔◌, ℕ, zero, suc, ◌<◌, List, [], ◌∷◌, length, refl, sym, subst, inl, inr, arith, ℤ}
+use Rattle.std.proofs.Common.{◌≡◌, ◌≢◌, ◌⊎◌, ◌↔◌, ℕ, zero, suc, ◌<◌, List, [], ◌∷◌, length, refl, sym, subst, inl, inr, arith}
 use Rattle.maid_model.specs.declared.diagrams.Kind.TheVariants.{Chance, Decision, Utility}
 use Rattle.maid_model.specs.Views.{NodeView}
-use Rattle.maid_model.specs.Nodes.{IsDecision, node_at, states_of}
-use Rattle.maid_model.specs.Graph.{Arc, Here, IsGraph}
+use Rattle.maid_model.specs.Nodes.{IsDecision, Owns, node_at, states_of}
+use Rattle.maid_model.specs.Graph.{Arc, Here, Along, IsGraph}
 use Rattle.maid_model.specs.Relevance.{IsLive, IsInFamily, IsGoal, ReliesOn}
 use Rattle.maid_model.specs.Walks.{WithArc, WithNode, IsJoined, IsCollider}
-use Rattle.maid_examples.specs.Samples.{leader, follower, pay}
+use Rattle.maid_examples.specs.Samples.{leader, follower, leader_pay, follower_pay}
 use Rattle.maid_examples.specs.FollowerLeader as seen
 use Rattle.maid_examples.specs.CopySeen as copy
 use Rattle.maid_examples.specs.NodeBetween as between
 use Rattle.maid_examples.proofs.Members.{Among, among_of}
 use Rattle.maid_examples.proofs.Turning.{end_of_walk}
+use Rattle.finite_sums.proofs.Members.{one_member}
 
 pub decision : (nodes : List NodeView) (v : ℕ) → v < length nodes → (node_at nodes v).kind ≡ Decision → IsDecision nodes v
 decision nodes v l k = record { within = l; kind = k }
@@ -44,22 +45,23 @@ relies nodes d e goal g n kd ke ld le is arc unseen = record {
     given (inl f) = n (sym f)
     given (inr a) = unseen a
 
--- ---- a follower who sees the leader, whatever they are paid
+-- ---- a follower who sees the leader, whatever utilities stand behind them
 -- the steps of walks from a new parent of the leader: to it and back
 data Turn : ℕ → ℕ → Type 0 where
   There : Turn 4 0
   Back : Turn 0 4
 
-module _ (leads follows : List ℤ) where
+module _ (first second : NodeView) where
   abbrev sight : List NodeView
-  sight = leader ∷ follower (0 ∷ []) ∷ pay 0 (0 ∷ 1 ∷ []) leads ∷ pay 1 (0 ∷ 1 ∷ []) follows ∷ []
+  sight = leader ∷ follower (0 ∷ []) ∷ first ∷ second ∷ []
 
-  pub seen_on_follower : IsGraph sight → ReliesOn sight 0 1
-  seen_on_follower graph =
+  -- the leader owns the first, which has an arrow from the follower
+  pub seen_on_follower : IsGraph sight → first.kind ≡ Utility → Owns sight 0 2 → Arc sight 1 2 → ReliesOn sight 0 1
+  seen_on_follower graph kind owned arc =
       relies sight 0 1 2 graph (λ e. omega arith) (decision sight 0 (omega arith) refl) (decision sight 1 (omega arith) refl)
       (live sight 0 (omega arith) (omega arith)) (live sight 1 (omega arith) (omega arith))
-      (record { within = omega arith; kind = refl; owner = refl; below = (2, (0, omega arith, refl), Here) })
-      (1, omega arith, refl) (λ a. among_of [] 1 a)
+      (record { within = omega arith; kind = kind; owner = owned; below = (1, (0, omega arith, refl), Along arc Here) })
+      arc (λ a. among_of [] 1 a)
 
   abbrev SeenArc : ℕ → ℕ → Type 0
   SeenArc = WithArc (Arc sight) 4 0
@@ -94,21 +96,24 @@ module _ (leads follows : List ℤ) where
   ]
 
 pub seen_reliance : IsGraph seen.sight → seen.HasReliance
-seen_reliance graph = let leads = (node_at seen.sight 2).cells in let follows = (node_at seen.sight 3).cells in record { on_follower = seen_on_follower leads follows graph; not_on_leader = seen_not_on_leader leads follows graph }
+seen_reliance graph = record {
+  on_follower = seen_on_follower (leader_pay 1) (follower_pay 0 1) graph refl (0, omega arith, refl) (1, omega arith, refl);
+  not_on_leader = seen_not_on_leader (leader_pay 1) (follower_pay 0 1) graph;
+}
 
 -- ---- one who sees a copy
 copied_on_follower : IsGraph copy.copied → ReliesOn copy.copied 0 2
 copied_on_follower graph =
     relies copy.copied 0 2 3 graph (λ e. omega arith) (decision copy.copied 0 (omega arith) refl) (decision copy.copied 2 (omega arith) refl)
     (live copy.copied 0 (omega arith) (omega arith)) (live copy.copied 2 (omega arith) (omega arith))
-    (record { within = omega arith; kind = refl; owner = refl; below = (3, (0, omega arith, refl), Here) })
+    (record { within = omega arith; kind = refl; owner = (0, omega arith, refl); below = (3, (0, omega arith, refl), Here) })
     (1, omega arith, refl) (λ a. among_of [] 2 a)
 
 copied_on_leader : IsGraph copy.copied → ReliesOn copy.copied 2 0
 copied_on_leader graph =
     relies copy.copied 2 0 4 graph (λ e. omega arith) (decision copy.copied 2 (omega arith) refl) (decision copy.copied 0 (omega arith) refl)
     (live copy.copied 2 (omega arith) (omega arith)) (live copy.copied 0 (omega arith) (omega arith))
-    (record { within = omega arith; kind = refl; owner = refl; below = (4, (1, omega arith, refl), Here) })
+    (record { within = omega arith; kind = refl; owner = (0, omega arith, refl); below = (4, (1, omega arith, refl), Here) })
     (0, omega arith, refl) (λ a. unseen (among_of (1 ∷ []) 0 a))
   where
     unseen : Among 0 (1 ∷ []) → ⊥
@@ -123,14 +128,14 @@ joined_on_follower : IsGraph between.joined → ReliesOn between.joined 0 2
 joined_on_follower graph =
     relies between.joined 0 2 3 graph (λ e. omega arith) (decision between.joined 0 (omega arith) refl) (decision between.joined 2 (omega arith) refl)
     (live between.joined 0 (omega arith) (omega arith)) (live between.joined 2 (omega arith) (omega arith))
-    (record { within = omega arith; kind = refl; owner = refl; below = (3, (0, omega arith, refl), Here) })
+    (record { within = omega arith; kind = refl; owner = (0, omega arith, refl); below = (3, (0, omega arith, refl), Here) })
     (1, omega arith, refl) (λ a. among_of [] 2 a)
 
 parted_on_follower : IsGraph between.parted → ReliesOn between.parted 0 2
 parted_on_follower graph =
     relies between.parted 0 2 3 graph (λ e. omega arith) (decision between.parted 0 (omega arith) refl) (decision between.parted 2 (omega arith) refl)
     (live between.parted 0 (omega arith) (omega arith)) (live between.parted 2 (omega arith) (omega arith))
-    (record { within = omega arith; kind = refl; owner = refl; below = (3, (0, omega arith, refl), Here) })
+    (record { within = omega arith; kind = refl; owner = (0, omega arith, refl); below = (3, (0, omega arith, refl), Here) })
     (1, omega arith, refl) (λ a. among_of [] 2 a)
 
 -- through the leader and the node between, neither of which is given
@@ -142,7 +147,7 @@ joined_on_leader graph = record {
   from_live = live between.joined 2 (omega arith) (omega arith);
   on_live = live between.joined 0 (omega arith) (omega arith);
   goal = 4;
-  is_goal = record { within = omega arith; kind = refl; owner = refl; below = (4, (1, omega arith, refl), Here) };
+  is_goal = record { within = omega arith; kind = refl; owner = (0, omega arith, refl); below = (4, (1, omega arith, refl), Here) };
   walk = record {
     rest = 0 ∷ (1 ∷ (4 ∷ []));
     active = (
@@ -236,7 +241,7 @@ parted_closed graph x y z PartAside j l m = absurd (stops z j m.0)
 parted_no_goal : (goal u : ℕ) → Part u goal → IsGoal between.parted 2 goal → ⊥
 parted_no_goal goal u PartThere g = let k : Decision ≡ Utility = g.kind in cc
 parted_no_goal goal u PartBack g = let l : 5 < 5 = g.within in omega arith
-parted_no_goal goal u PartAside g = let o : ◌≡◌ {A = ℕ} 0 1 = g.owner in omega arith
+parted_no_goal goal u PartAside g = let o : ◌≡◌ {A = ℕ} 1 0 = one_member 1 0 [] refl g.owner in omega arith
 
 parted_not_on_leader : IsGraph between.parted → ReliesOn between.parted 2 0 → ⊥
 parted_not_on_leader graph r = elim (end_of_walk PartedArc (WithNode (IsLive between.parted) 5) (IsInFamily (Arc between.parted) 2) Part (parted_closed graph) 5 r.goal (λ y j l. parted_from_new graph y j) r.walk) [

@@ -89,7 +89,7 @@ module _ (diagrams : TestsDiagrams) (profiles : TestsProfiles) where
 
 -- ---- against the follower's base
 not_on_leader : IsGraph moves → ReliesOn moves 1 0 → ⊥
-not_on_leader graph = seen_not_on_leader (pos 2 ∷ pos 0 ∷ pos 3 ∷ pos 1 ∷ []) (pos 1 ∷ pos 0 ∷ pos 0 ∷ pos 1 ∷ []) graph
+not_on_leader graph = seen_not_on_leader (node_at moves 2) (node_at moves 3) graph
 
 not_best : IsGraph moves → IsBestInBases moves threat → ⊥
 not_best graph b =

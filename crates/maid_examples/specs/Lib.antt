@@ -9,4 +9,5 @@ pub mod Tie
 pub mod Pennies
 pub mod TwoCoins
 pub mod Trip
+pub mod Team
 pub mod Trial

@@ -9,7 +9,7 @@ use Rattle.maid_examples.specs.Samples.{leader, copy, follower, leader_pay, foll
 
 -- node 1 with one state
 abbrev pub narrow : NodeView
-narrow = record { kind = Chance; owner = 0; states = 1; parents = 0 ∷ []; cells = pos 1 ∷ pos 1 ∷ [] }
+narrow = record { kind = Chance; owner = 0; more = []; states = 1; parents = 0 ∷ []; cells = pos 1 ∷ pos 1 ∷ [] }
 
 -- node 4, agent 1, over the one state: 3 taken and 1 left
 abbrev pub narrow_pay : NodeView

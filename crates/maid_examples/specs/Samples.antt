@@ -9,11 +9,11 @@ use Rattle.maid_model.specs.Gains.{gain_of, mass, gain_at, mass_at}
 
 -- a decision of two states, of the agent, that sees the parents
 abbrev pub decision : ℕ → List ℕ → NodeView
-decision owner parents = record { kind = Decision; owner = owner; states = 2; parents = parents; cells = [] }
+decision owner parents = record { kind = Decision; owner = owner; more = []; states = 2; parents = parents; cells = [] }
 
 -- what the agent gets for the parents' states
 abbrev pub pay : ℕ → List ℕ → List ℤ → NodeView
-pay owner parents cells = record { kind = Utility; owner = owner; states = 1; parents = parents; cells = cells }
+pay owner parents cells = record { kind = Utility; owner = owner; more = []; states = 1; parents = parents; cells = cells }
 
 -- node 0, of agent 0: to ask much or little
 abbrev pub leader : NodeView
@@ -21,7 +21,7 @@ leader = decision 0 []
 
 -- what node 0 chose, copied without fail
 abbrev pub copy : NodeView
-copy = record { kind = Chance; owner = 0; states = 2; parents = 0 ∷ []; cells = pos 1 ∷ pos 0 ∷ pos 0 ∷ pos 1 ∷ [] }
+copy = record { kind = Chance; owner = 0; more = []; states = 2; parents = 0 ∷ []; cells = pos 1 ∷ pos 0 ∷ pos 0 ∷ pos 1 ∷ [] }
 
 -- of agent 1: to take or to leave, seeing the parents
 abbrev pub follower : List ℕ → NodeView

@@ -17,7 +17,7 @@ use Rattle.maid_examples.specs.Samples.{decision, pay, rule, whole, reached, Has
 
 -- node 0: one part rain, three parts sun
 abbrev pub weather : NodeView
-weather = record { kind = Chance; owner = 0; states = 2; parents = []; cells = pos 1 ∷ pos 3 ∷ [] }
+weather = record { kind = Chance; owner = 0; more = []; states = 2; parents = []; cells = pos 1 ∷ pos 3 ∷ [] }
 
 -- rain is worth 5 at home and 0 outside, sun -1 at home and 7 outside
 abbrev pub joy : ℕ → ℕ → NodeView
@@ -89,7 +89,7 @@ pub record HasControl : Type 0 where
 
 -- a coin with a third side
 abbrev pub coin : NodeView
-coin = record { kind = Chance; owner = 0; states = 3; parents = []; cells = pos 2 ∷ pos 2 ∷ pos 1 ∷ [] }
+coin = record { kind = Chance; owner = 0; more = []; states = 3; parents = []; cells = pos 2 ∷ pos 2 ∷ pos 1 ∷ [] }
 
 -- what agent 1 has bet on the coin
 abbrev pub bet : NodeView

@@ -14,13 +14,14 @@ use Rattle.maid_examples.specs.Samples.{decision, pay, whole}
 
 -- nodes 0 and 1: a coin whose two sides are as likely
 abbrev pub coin : NodeView
-coin = record { kind = Chance; owner = 0; states = 2; parents = []; cells = pos 1 ∷ pos 1 ∷ [] }
+coin = record { kind = Chance; owner = 0; more = []; states = 2; parents = []; cells = pos 1 ∷ pos 1 ∷ [] }
 
 -- node 2: the first state where the coins are alike, the second where not
 abbrev pub alike : NodeView
 alike = record {
   kind = Chance;
   owner = 0;
+  more = [];
   states = 2;
   parents = 0 ∷ 1 ∷ [];
   cells = pos 1 ∷ pos 0 ∷ pos 0 ∷ pos 1 ∷ pos 0 ∷ pos 1 ∷ pos 1 ∷ pos 0 ∷ [];

@@ -9,6 +9,7 @@ mod follower_leader;
 mod guess;
 mod node_between;
 mod outing;
+mod shared;
 mod sighted;
 #[cfg(test)]
 mod tests;
@@ -24,6 +25,7 @@ pub use follower_leader::follower_and_leader;
 pub use guess::two_coins;
 pub use node_between::one_state_between;
 pub use outing::a_trip;
+pub use shared::shared_result;
 pub use sighted::answer_in_sight;
 pub use threat::empty_threat;
 pub use ties::tie_and_best;

@@ -2,8 +2,8 @@
 
 use crate::trials::{
     coins, copied, copied_plan, copied_uniform, joined, joined_little, joined_much, joined_uniform,
-    parted, parted_little, parted_much, parted_uniform, sight, sight_plan, sight_uniform,
-    threatened, trace, trip, trip_plan, trip_uniform,
+    parted, parted_little, parted_much, parted_uniform, sight, sight_plan, sight_uniform, team,
+    team_plan, team_uniform, threatened, trace, trip, trip_plan, trip_uniform,
 };
 use maid_model::{Profile, World};
 use relevance_graph::find_relevance;
@@ -153,6 +153,24 @@ fn sums_of_the_trip(rt: HostRuntime) -> Result<(), Fail> {
 }
 
 #[test]
+fn sums_of_the_team(rt: HostRuntime) -> Result<(), Fail> {
+    let alloc = rt.alloc();
+    let uniform = team_uniform(alloc)?;
+    assert_eq!(rt; uniform.gain(alloc, 0)?, 5);
+    assert_eq!(rt; uniform.gain(alloc, 1)?, 9);
+    let follower = uniform.sums(alloc, 1)?;
+    assert_eq!(rt; follower.gains.as_slice(), [3, 2, 0, 4].as_slice());
+    assert_eq!(rt; follower.masses.as_slice(), [1, 1].as_slice());
+    let planned = team_plan(alloc)?;
+    assert_eq!(rt; planned.gain(alloc, 0)?, 3);
+    assert_eq!(rt; planned.gain(alloc, 1)?, 3);
+    let leader = planned.sums(alloc, 0)?;
+    assert_eq!(rt; leader.gains.as_slice(), [3, 2].as_slice());
+    assert_eq!(rt; leader.masses.as_slice(), [1].as_slice());
+    Ok(())
+}
+
+#[test]
 fn parts_of_the_trip(rt: HostRuntime) -> Result<(), Fail> {
     let alloc = rt.alloc();
     let diagram = trip(alloc)?;
@@ -224,5 +242,15 @@ fn order_by_copy(rt: HostRuntime) -> Result<(), Fail> {
     assert_eq!(rt; seen.relied_on(0), [].as_slice());
     assert_eq!(rt; seen.relied_on(2), [0].as_slice());
     assert_eq!(rt; seen.order().ok().ok_or("a cycle")?, [0, 2].as_slice());
+    Ok(())
+}
+
+#[test]
+fn order_of_the_team(rt: HostRuntime) -> Result<(), Fail> {
+    let alloc = rt.alloc();
+    let seen = find_relevance(alloc, &team(alloc)?)?;
+    assert_eq!(rt; seen.relied_on(0), [1].as_slice());
+    assert_eq!(rt; seen.relied_on(1), [].as_slice());
+    assert_eq!(rt; seen.order().ok().ok_or("a cycle")?, [1, 0].as_slice());
     Ok(())
 }

@@ -7,13 +7,14 @@ ghost use Rattle.maid_examples.specs.CopySeen.{copied_diagram};
 ghost use Rattle.maid_examples.specs.CopyAnswered.{trace_diagram};
 ghost use Rattle.maid_examples.specs.EmptyThreat.{moves_diagram, threat};
 ghost use Rattle.maid_examples.specs.Pennies.{pennies_diagram};
+ghost use Rattle.maid_examples.specs.Team.{team_diagram, plan as team_rules};
 ghost use Rattle.maid_examples.specs.Trial.{HasRoom};
 ghost use Rattle.maid_examples.specs.Trip.{weather, trip_diagram, plan as planned};
 ghost use Rattle.maid_examples.specs.NodeBetween.{joined_diagram, parted_diagram, asks_much, asks_little};
 
 use crate::{
     a_trip, answer_by_copy, copy_in_place, empty_threat, follower_and_leader, one_state_between,
-    pennies,
+    pennies, shared_result,
 };
 use maid_model::{Diagram, Kind, Node, Profile, Rule, World, base_sums, leaf_sum};
 use smallvec::SmallVec;
@@ -22,11 +23,12 @@ use std::marker::Model;
 
 /// A decision of two states.
 fn decision(alloc: Global, owner: usize, parents: &[usize]) -> Result<Node, AllocError>
-    ensures { IfOk result (λ n. n ≡ record { kind = Kind.Decision; owner = owner; states = 2; parents = parents.now; cells = [] }) }
+    ensures { IfOk result (λ n. n ≡ record { kind = Kind.Decision; owner = owner; more = []; states = 2; parents = parents.now; cells = [] }) }
 {
     Ok(Node {
         kind: Kind::Decision,
         owner,
+        more: SmallVec::new(alloc),
         states: 2,
         parents: SmallVec::from_slice(alloc, parents)?,
         cells: Vec::new(alloc),
@@ -35,11 +37,12 @@ fn decision(alloc: Global, owner: usize, parents: &[usize]) -> Result<Node, Allo
 
 /// A chance node below node 0.
 fn chance(alloc: Global, states: usize, cells: &[i128]) -> Result<Node, AllocError>
-    ensures { IfOk result (λ n. n ≡ record { kind = Kind.Chance; owner = 0; states = states; parents = 0 ∷ []; cells = cells.now }) }
+    ensures { IfOk result (λ n. n ≡ record { kind = Kind.Chance; owner = 0; more = []; states = states; parents = 0 ∷ []; cells = cells.now }) }
 {
     Ok(Node {
         kind: Kind::Chance,
         owner: 0,
+        more: SmallVec::new(alloc),
         states,
         parents: SmallVec::from_slice(alloc, &[0])?,
         cells: Vec::from_slice(alloc, cells)?,
@@ -52,11 +55,26 @@ fn utility(
     parents: &[usize],
     cells: &[i128],
 ) -> Result<Node, AllocError>
-    ensures { IfOk result (λ n. n ≡ record { kind = Kind.Utility; owner = owner; states = 1; parents = parents.now; cells = cells.now }) }
+    ensures { IfOk result (λ n. n ≡ record { kind = Kind.Utility; owner = owner; more = []; states = 1; parents = parents.now; cells = cells.now }) }
 {
     Ok(Node {
         kind: Kind::Utility,
         owner,
+        more: SmallVec::new(alloc),
+        states: 1,
+        parents: SmallVec::from_slice(alloc, parents)?,
+        cells: Vec::from_slice(alloc, cells)?,
+    })
+}
+
+/// A utility of the agents 0 and 1.
+fn shared_utility(alloc: Global, parents: &[usize], cells: &[i128]) -> Result<Node, AllocError>
+    ensures { IfOk result (λ n. n ≡ record { kind = Kind.Utility; owner = 0; more = 1 ∷ []; states = 1; parents = parents.now; cells = cells.now }) }
+{
+    Ok(Node {
+        kind: Kind::Utility,
+        owner: 0,
+        more: SmallVec::from_slice(alloc, &[1])?,
         states: 1,
         parents: SmallVec::from_slice(alloc, parents)?,
         cells: Vec::from_slice(alloc, cells)?,
@@ -157,6 +175,7 @@ fn weather(alloc: Global) -> Result<Node, AllocError>
     Ok(Node {
         kind: Kind::Chance,
         owner: 0,
+        more: SmallVec::new(alloc),
         states: 2,
         parents: SmallVec::from_slice(alloc, &[])?,
         cells: Vec::from_slice(alloc, &[1, 3])?,
@@ -172,6 +191,18 @@ pub(crate) fn trip(alloc: Global) -> Result<Diagram, AllocError>
     nodes.push(decision(alloc, 0, &[0])?)?;
     nodes.push(utility(alloc, 0, &[0, 1], &[5, 0, -1, 7])?)?;
     Ok(Diagram::from_nodes(nodes, 1, 0))
+}
+
+pub(crate) fn team(alloc: Global) -> Result<Diagram, AllocError>
+    ensures { IfOk result (λ d. d ≡ team_diagram) }
+{
+    shared_result();
+    let mut nodes = Vec::new(alloc);
+    nodes.push(decision(alloc, 0, &[])?)?;
+    nodes.push(decision(alloc, 1, &[0])?)?;
+    nodes.push(shared_utility(alloc, &[0, 1], &[3, 0, 0, 2])?)?;
+    nodes.push(utility(alloc, 1, &[1], &[0, 2])?)?;
+    Ok(Diagram::from_nodes(nodes, 2, 0))
 }
 
 fn rule(alloc: Global, decision: usize, total: u128, weights: &[u128]) -> Result<Rule, AllocError>
@@ -230,6 +261,14 @@ fn threat(alloc: Global) -> Result<Profile, AllocError>
 {
     let leader = rule(alloc, 0, 1, &[0, 1])?;
     let follower = rule(alloc, 1, 1, &[0, 1, 0, 1])?;
+    profile_of(alloc, leader, follower)
+}
+
+fn team_rules(alloc: Global) -> Result<Profile, AllocError>
+    ensures { IfOk result (λ p. p ≡ team_rules) }
+{
+    let leader = rule(alloc, 0, 1, &[1, 0])?;
+    let follower = rule(alloc, 1, 1, &[1, 0, 0, 1])?;
     profile_of(alloc, leader, follower)
 }
 
@@ -395,5 +434,19 @@ pub(crate) fn trip_plan(alloc: Global) -> Result<Trial, AllocError> {
     a_trip();
     let diagram = trip(alloc)?;
     let profile = outing(alloc)?;
+    Ok(Trial::new(diagram, profile))
+}
+
+pub(crate) fn team_uniform(alloc: Global) -> Result<Trial, AllocError> {
+    shared_result();
+    let diagram = team(alloc)?;
+    let profile = Profile::uniform(alloc, &diagram)?;
+    Ok(Trial::new(diagram, profile))
+}
+
+pub(crate) fn team_plan(alloc: Global) -> Result<Trial, AllocError> {
+    shared_result();
+    let diagram = team(alloc)?;
+    let profile = team_rules(alloc)?;
     Ok(Trial::new(diagram, profile))
 }

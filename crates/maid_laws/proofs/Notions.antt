@@ -3,7 +3,7 @@ use Rattle.std.specs.Prelude.{◌≡◌, ◌≢◌, ℕ, ◌<◌, ◌+◌, ◌*�
 use Rattle.std.specs.List.{list_all}
 use Rattle.maid_model.specs.declared.diagrams.Kind.TheVariants.{Chance, Decision}
 use Rattle.maid_model.specs.Views.{NodeView, RuleView}
-use Rattle.maid_model.specs.Nodes.{node_at, states_of, parents_of, numbers_of, rows_of}
+use Rattle.maid_model.specs.Nodes.{node_at, states_of, parents_of, numbers_of, rows_of, agent_of}
 use Rattle.maid_model.specs.Graph.{IsGraph}
 use Rattle.finite_sums.specs.Sums.{World, InRange, product_over}
 use Rattle.maid_model.specs.Tables.{table, weights_of, rule_total, weight_total}
@@ -45,7 +45,7 @@ pub record IsStart (nodes : List NodeView) (started : ℕ → Bool) (q : World) 
 
 -- the profiles have the same rules at the decisions of the other agents
 abbrev pub SameForOthers : List NodeView → ℕ → List RuleView → List RuleView → Type 0
-SameForOthers nodes agent s t = (v : ℕ) → (node_at nodes v).kind ≡ Decision → (node_at nodes v).owner ≢ agent → (weights_of t v ≡ weights_of s v) × (rule_total t v ≡ rule_total s v)
+SameForOthers nodes agent s t = (v : ℕ) → (node_at nodes v).kind ≡ Decision → agent_of nodes v ≢ agent → (weights_of t v ≡ weights_of s v) × (rule_total t v ≡ rule_total s v)
 
 -- s is pure, with these choices; base gives each decision a profile with s's weights where the decision relies and weights of 1 elsewhere; and at each row with mass in the base no state has a greater gain than the choice
 pub record IsBest (nodes : List NodeView) (s : List RuleView) (choice : ℕ → ℕ → ℕ) (base : ℕ → List RuleView) : Type 0 where

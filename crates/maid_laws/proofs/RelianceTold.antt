@@ -1,13 +1,15 @@
 -- Whether a decision relies on another can be told: walks are chains of steps between finitely many places, and chains are told by which places they may pass.
-use Rattle.std.proofs.Common.{◌≡◌, ◌≢◌, ◌⊎◌, ◌∙◌, ℕ, zero, suc, ◌<◌, Bool, true, false, List, [], ◌∷◌, length, refl, sym, ap, subst, inl, inr, arith}
+use Rattle.std.proofs.Common.{◌≡◌, ◌≢◌, ◌⊎◌, ℕ, zero, suc, ◌<◌, Bool, true, false, List, [], ◌∷◌, length, refl, sym, ap, subst, inl, inr, arith}
 use Rattle.std.proofs.Math.Decide.{ℕ_discrete, dec_lt}
 use Rattle.maid_model.specs.declared.diagrams.Kind.{Kind}
 use Rattle.maid_model.specs.declared.diagrams.Kind.TheVariants.{Chance, Decision, Utility}
 use Rattle.maid_model.specs.Graph.{Arc, Descends, IsGraph, descends}
-use Rattle.maid_model.specs.Nodes.{IsDecision, node_at, states_of}
+use Rattle.maid_model.specs.Nodes.{IsDecision, node_at, states_of, owns, Owns, agent_of, owners_of}
 use Rattle.maid_model.specs.Relevance.{IsLive, IsInFamily, IsGoal, ReliesOn}
 use Rattle.maid_model.specs.Views.{NodeView}
+use Rattle.finite_sums.proofs.Members.{any_is}
 use Rattle.maid_model.proofs.Descent.{path_from_test, test_from_path}
+use Rattle.maid_laws.proofs.Booleans.{not_both}
 use Rattle.maid_laws.proofs.Leads.{Leads, ends, head_down, head_up, tail_down, tail_up}
 use Rattle.maid_laws.proofs.Notions.{IsParent}
 use Rattle.maid_laws.proofs.Ordered.{setup_of}
@@ -196,17 +198,21 @@ module _ (nodes : List NodeView) (g : IsGraph nodes) where
   below_told : (d u : ℕ) → Dec (Descends (Arc nodes) d u)
   below_told d u = go (descends nodes d u) refl
     where
-      true_false : true ≡ false → ⊥
-      true_false e = cc
-
       go : (b : Bool) → descends nodes d u ≡ b → Dec (Descends (Arc nodes) d u)
       go true e = yes (path_from_test nodes d u e)
-      go false e = no (λ h. true_false (sym (test_from_path nodes d u h) ∙ e))
+      go false e = no (λ h. not_both (descends nodes d u) (test_from_path nodes d u h) e)
+
+  owner_told : (agent u : ℕ) → Dec (Owns nodes agent u)
+  owner_told agent u = go (owns nodes agent u) refl
+    where
+      go : (b : Bool) → owns nodes agent u ≡ b → Dec (Owns nodes agent u)
+      go true e = yes ((any_is agent (owners_of nodes u)).0 e)
+      go false e = no (λ o. not_both (owns nodes agent u) ((any_is agent (owners_of nodes u)).1 o) e)
 
   goal_told : (d u : ℕ) → Dec (IsGoal nodes d u)
   goal_told d u =
       along (λ h. record { within = h.0.0; kind = h.0.1; owner = h.1.0; below = h.1.1 }) (λ h. ((h.within, h.kind), (h.owner, h.below)))
-      (both (both (dec_lt u (length nodes)) (utility_told nodes u)) (both (ℕ_discrete (node_at nodes u).owner (node_at nodes d).owner) (below_told d u)))
+      (both (both (dec_lt u (length nodes)) (utility_told nodes u)) (both (owner_told (agent_of nodes d) u) (below_told d u)))
 
   family_told : (d x : ℕ) → Dec (IsInFamily (IsParent nodes) d x)
   family_told d x = either (ℕ_discrete x d) (parent_dec nodes x d)

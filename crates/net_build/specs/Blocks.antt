@@ -1,7 +1,8 @@
 -- Looking up what the blocks of a text say. Each look-up has an answer for every tree; it is the one that is meant where the passes before it find nothing.
-use Rattle.std.specs.Prelude.{◌*◌, ℕ, Bool, true, false, not, ◌&&◌, ◌||◌, List, [], ◌∷◌, ◌++◌, Option, map, filter, find, length, drop, nat_le, bytes_eq, codes, slice_index_or, if◌then◌else◌}
-use Rattle.std.specs.List.{flat_map, list_all, list_any, position_or_len}
+use Rattle.std.specs.Prelude.{◌*◌, ℕ, Bool, true, false, not, ◌&&◌, ◌||◌, List, [], ◌∷◌, Option, map, filter, find, length, drop, nat_le, bytes_eq, codes, slice_index_or, if◌then◌else◌}
+use Rattle.std.specs.List.{flat_map, list_all, position_or_len}
 use Rattle.std.specs.Option.{option_map_or}
+pub use Rattle.finite_sums.specs.Sights.{first_sights, with_sight, with_sights}
 use Rattle.maid_model.specs.declared.limits.TheConstants.{MOST_NAME_BYTES}
 use Rattle.maid_model.specs.declared.diagrams.Kind.{Kind}
 use Rattle.maid_model.specs.declared.diagrams.Kind.TheVariants as model
@@ -170,23 +171,9 @@ texts_or_agent text (token ∷ tokens) = map (text_value text) (token ∷ tokens
 abbrev pub owner_names : List ℕ → BlockTree → List (List ℕ)
 owner_names text block = texts_or_agent text (leaves_of (owner_attributes text block))
 
--- each value where it stands first
-abbrev pub first_sights : List (List ℕ) → List (List ℕ)
-first_sights [] = []
-first_sights (x ∷ xs) = x ∷ filter (λ y. not (bytes_eq x y)) (first_sights xs)
-
 -- the agents in order of first sight, and within a node's owners from left to right
 abbrev pub agents_of : List ℕ → List BlockTree → List (List ℕ)
 agents_of text nodes = first_sights (flat_map (owner_names text) (filter (λ b. has_agent b.kind) nodes))
-
--- the agents and one more, where it is new
-abbrev pub with_sight : List (List ℕ) → List ℕ → List (List ℕ)
-with_sight agents agent = if list_any (λ a. bytes_eq a agent) agents then agents else agents ++ agent ∷ []
-
--- the agents and each of these that is new
-abbrev pub with_sights : List (List ℕ) → List (List ℕ) → List (List ℕ)
-with_sights agents [] = agents
-with_sights agents (x ∷ xs) = with_sights (with_sight agents x) xs
 
 -- how many names stand before the first that is this one
 abbrev pub place_among : List (List ℕ) → List ℕ → ℕ

@@ -1,9 +1,10 @@
 -- The agents, owners and states that the tree of a printed text tells.
-use Rattle.std.proofs.Common.{◌≡◌, ◌∙◌, ◌≢◌, ℕ, ◌<◌, Bool, true, false, not, cond, List, [], ◌∷◌, ◌++◌, length, map, filter, get_or, AllPairs, refl, sym, ap, subst, arith}
+use Rattle.std.proofs.Common.{◌≡◌, ◌∙◌, ◌≢◌, ℕ, suc, ◌<◌, Bool, true, false, not, cond, List, [], ◌∷◌, ◌++◌, length, map, filter, get_or, AllPairs, Contains, refl, sym, ap, subst, arith}
 use Rattle.std.specs.List.{flat_map}
 use Rattle.std.specs.Str.{bytes_eq}
 use Rattle.std.proofs.lemmas.Bool.{not-true, both_ways, false_from_ne_true}
-use Rattle.std.proofs.lemmas.List.{length-map}
+use Rattle.std.proofs.lemmas.List.{get_or-map, get_or_default, length-map}
+use Rattle.std.proofs.lemmas.List.Concat.{flat_map-cons}
 use Rattle.std.proofs.lemmas.List.Elements.{filter_passes}
 use Rattle.std.proofs.lemmas.List.Kept.{AllPairs-cons, AllPairs-filter}
 use Rattle.std.proofs.lemmas.List.Sums.{position_or_len_is}
@@ -11,13 +12,14 @@ use Rattle.std.proofs.lemmas.Slice.Eq.{bytes_eq-Decides}
 use Rattle.maid_model.specs.declared.diagrams.Kind.{Kind}
 use Rattle.maid_model.specs.declared.diagrams.Kind.TheVariants.{Chance, Decision, Utility}
 use Rattle.maid_model.specs.Names.{NamesView, agent_name}
-use Rattle.maid_model.specs.Nodes.{node_at, is_chance}
+use Rattle.maid_model.specs.Nodes.{node_at, owners_of, is_chance}
+use Rattle.maid_model.specs.Graph.{AllDifferent}
 use Rattle.maid_model.specs.Views.{NodeView, DiagramView}
 use Rattle.net_build.specs.Blocks as look
 use Rattle.net_parser.specs.Trees.{BlockTree}
-use Rattle.net_print.specs.Printed.{printed}
+use Rattle.net_print.specs.Printed.{printed, owner_names}
 use Rattle.net_print.specs.RoundTrip.{IsPrintable}
-use Rattle.net_print.proofs.Look.{tell, each_node, node_agent_told, node_labels_told}
+use Rattle.net_print.proofs.Look.{tell, each_node, node_owners_told, node_labels_told}
 use Rattle.net_lexer.specs.Token.{text_value}
 use Rattle.net_print.proofs.Tree.{block_kind, node_tree, tree_of}
 use Rattle.net_print.proofs.Words.{node_words}
@@ -45,28 +47,48 @@ sights_differ (x ∷ xs) =
     (λ k e h same. both_ways (bytes_eq x (get_or (filter (λ y. not (bytes_eq x y)) others) k e)) (not-true (bytes_eq x (get_or (filter (λ y. not (bytes_eq x y)) others) k e)) (filter_passes (λ y. not (bytes_eq x y)) others k e h)) (bytes_same x (get_or (filter (λ y. not (bytes_eq x y)) others) k e) same))
     (AllPairs-filter (λ y z. y ≢ z) (λ y. not (bytes_eq x y)) others (sights_differ xs))
 
--- what is kept of each, one after the other
-pub filter_flat : {A B : Type 0} (f : A → B) (p : A → Bool) (xs : List A) → map f (filter p xs) ≡ flat_map (λ ys. ys) (map (λ x. cond (p x) (f x ∷ []) []) xs)
+-- what is told of those kept, one after the other
+pub filter_flat : {A B : Type 0} (f : A → List B) (p : A → Bool) (xs : List A) → flat_map f (filter p xs) ≡ flat_map (λ ys. ys) (map (λ x. cond (p x) (f x) []) xs)
 filter_flat f p [] = refl
 filter_flat f p (x ∷ xs) = by_test (p x) (filter_flat f p xs) where
-  by_test : (b : Bool) → map f (filter p xs) ≡ flat_map (λ ys. ys) (map (λ y. cond (p y) (f y ∷ []) []) xs) → map f (cond b (x ∷ filter p xs) (filter p xs)) ≡ cond b (f x ∷ []) [] ++ flat_map (λ ys. ys) (map (λ y. cond (p y) (f y ∷ []) []) xs)
-  by_test true e = ap (λ ys. f x ∷ ys) e
+  by_test : (b : Bool) → flat_map f (filter p xs) ≡ flat_map (λ ys. ys) (map (λ y. cond (p y) (f y) []) xs) → flat_map f (cond b (x ∷ filter p xs) (filter p xs)) ≡ cond b (f x) [] ++ flat_map (λ ys. ys) (map (λ y. cond (p y) (f y) []) xs)
+  by_test true e = flat_map-cons f x (filter p xs) ∙ ap (λ ys. f x ++ ys) e
   by_test false e = e
 
-owner_piece : (kind : Kind) (x y : List ℕ) → (kind ≢ Chance → x ≡ y) → cond (look.has_agent (block_kind kind)) (x ∷ []) [] ≡ cond (not (is_chance kind)) (y ∷ []) []
+owner_piece : (kind : Kind) (x y : List (List ℕ)) → (kind ≢ Chance → x ≡ y) → cond (look.has_agent (block_kind kind)) x [] ≡ cond (not (is_chance kind)) y []
 owner_piece Chance x y h = refl
-owner_piece Decision x y h = ap (λ z. z ∷ []) (h (λ e. cc))
-owner_piece Utility x y h = ap (λ z. z ∷ []) (h (λ e. cc))
+owner_piece Decision x y h = h (λ e. cc)
+owner_piece Utility x y h = h (λ e. cc)
 
-owner_case : (kind : Kind) (x y : ℕ) → (kind ≢ Chance → x ≡ y) → (kind ≡ Chance → y ≡ 0) → cond (look.has_agent (block_kind kind)) x 0 ≡ y
+owner_case : (kind : Kind) (x y : List ℕ) → (kind ≢ Chance → x ≡ y) → (kind ≡ Chance → y ≡ 0 ∷ []) → cond (look.has_agent (block_kind kind)) x (0 ∷ []) ≡ y
 owner_case Chance x y h none = sym (none refl)
 owner_case Decision x y h none = h (λ e. cc)
 owner_case Utility x y h none = h (λ e. cc)
+
+-- where names differ, those of a list of places stand at these
+places_here : (names : List (List ℕ)) → AllPairs (λ name later. name ≢ later) names → (places : List ℕ) → ((a : ℕ) → Contains places a → a < length names) → map (look.place_among names) (map (λ a. get_or names a []) places) ≡ places
+places_here names differ [] known = refl
+places_here names differ (a ∷ places) known = λ j. place_here names differ a (known a (0, omega arith, refl)) j ∷ places_here names differ places (λ b c. known b (suc c.0, omega (arith, c.1), c.2)) j
+
+-- and different places have different names
+pub agents_apart : (names : List (List ℕ)) → AllPairs (λ name later. name ≢ later) names → (places : List ℕ) → AllDifferent places → ((a : ℕ) → Contains places a → a < length names) → AllPairs (λ name later. name ≢ later) (map (λ a. get_or names a []) places)
+agents_apart names differ [] apart known = λ i j e h l. absurd (omega arith)
+agents_apart names differ (a ∷ places) apart known =
+    AllPairs-cons (λ name later. name ≢ later) (get_or names a []) (map (λ b. get_or names b []) places)
+    (λ k e h same.
+    let within : k < length places = let n = length-map places (λ b. get_or names b []) in omega arith in
+    let b = get_or places k 0 in
+    let there : get_or names a [] ≡ get_or names b [] = same ∙ get_or-map (λ b. get_or names b []) places k 0 e within in
+    apart.0 (k, within, get_or_default places k a 0 within ∙ sym (sym (place_here names differ a (known a (0, omega arith, refl))) ∙ ap (look.place_among names) there ∙ place_here names differ b (known b (suc k, omega arith, get_or_default places k b 0 within)))))
+    (agents_apart names differ places apart.1 (λ b c. known b (suc c.0, omega (arith, c.1), c.2)))
 
 pub state_case : (kind : Kind) (x y : ℕ) → (kind ≢ Utility → x ≡ y) → (kind ≡ Utility → y ≡ 1) → cond (look.has_states (block_kind kind)) x 1 ≡ y
 state_case Chance x y h one = h (λ e. cc)
 state_case Decision x y h one = h (λ e. cc)
 state_case Utility x y h one = sym (one refl)
+
+chance_utility : Chance ≡ Utility → ⊥
+chance_utility e = cc
 
 module _ (d : DiagramView) (names : NamesView) (is : IsPrintable d names) where
   abbrev Blocks : List BlockTree
@@ -74,30 +96,30 @@ module _ (d : DiagramView) (names : NamesView) (is : IsPrintable d names) where
 
   pub agents_told : look.agents_of (printed d names) Blocks ≡ names.agents
   agents_told =
-      let piece = λ (n : NodeView). cond (not (is_chance n.kind)) (agent_name names n.owner ∷ []) [] in
+      let piece = λ (n : NodeView). cond (not (is_chance n.kind)) (map (agent_name names) (n.owner ∷ n.more)) [] in
       ap look.first_sights (
-      filter_flat (look.agent_of (printed d names)) (λ b. look.has_agent b.kind) Blocks
+      filter_flat (look.owner_names (printed d names)) (λ b. look.has_agent b.kind) Blocks
       ∙ ap (flat_map (λ ys. ys)) (
-      tell d names is (λ b. cond (look.has_agent b.kind) (look.agent_of (printed d names) b ∷ []) []) (λ v. piece (node_at d.nodes v))
-      (λ v p more l at. owner_piece (node_at d.nodes v).kind (look.agent_of (printed d names) (node_tree d.nodes names p v)) (agent_name names (node_at d.nodes v).owner) (node_agent_told (printed d names) d.nodes names v p more at))
+      tell d names is (λ b. cond (look.has_agent b.kind) (look.owner_names (printed d names) b) []) (λ v. piece (node_at d.nodes v))
+      (λ v p more l at. owner_piece (node_at d.nodes v).kind (look.owner_names (printed d names) (node_tree d.nodes names p v)) (owner_names d.nodes names v) (λ owned. node_owners_told (printed d names) d.nodes names v p more at owned (is.diagram.owners.one v)))
       ∙ each_node piece d.nodes)
-      ∙ sym (filter_flat (λ (n : NodeView). agent_name names n.owner) (λ n. not (is_chance n.kind)) d.nodes))
+      ∙ sym (filter_flat (λ (n : NodeView). map (agent_name names) (n.owner ∷ n.more)) (λ n. not (is_chance n.kind)) d.nodes))
       ∙ sym is.form.numbered
 
-  agents_differ : AllPairs (λ x y. x ≢ y) names.agents
-  agents_differ = subst (λ agents. AllPairs (λ x y. x ≢ y) agents) (sym is.form.numbered) (sights_differ (map (λ n. agent_name names n.owner) (filter (λ n. not (is_chance n.kind)) d.nodes)))
+  pub agents_differ : AllPairs (λ x y. x ≢ y) names.agents
+  agents_differ = subst (λ agents. AllPairs (λ x y. x ≢ y) agents) (sym is.form.numbered) (sights_differ (flat_map (λ n. map (agent_name names) (n.owner ∷ n.more)) (filter (λ n. not (is_chance n.kind)) d.nodes)))
 
-  pub owners_told : map (λ n. n.owner) d.nodes ≡ map (look.owner_of (printed d names) Blocks) Blocks
-  owners_told = sym (tell d names is (look.owner_of (printed d names) Blocks) (λ v. (node_at d.nodes v).owner) one ∙ each_node (λ n. n.owner) d.nodes) where
-    one : (v p : ℕ) (more : List ℕ) → v < length d.nodes → At (printed d names) p (text_onto (node_words d.nodes names v) more) → look.owner_of (printed d names) Blocks (node_tree d.nodes names p v) ≡ (node_at d.nodes v).owner
+  pub owners_told : map (λ n. n.owner ∷ n.more) d.nodes ≡ map (look.owners_of (printed d names) Blocks) Blocks
+  owners_told = sym (tell d names is (look.owners_of (printed d names) Blocks) (λ v. owners_of d.nodes v) one ∙ each_node (λ n. n.owner ∷ n.more) d.nodes) where
+    one : (v p : ℕ) (more : List ℕ) → v < length d.nodes → At (printed d names) p (text_onto (node_words d.nodes names v) more) → look.owners_of (printed d names) Blocks (node_tree d.nodes names p v) ≡ owners_of d.nodes v
     one v p more l at =
-        let owner = (node_at d.nodes v).owner in
-        owner_case (node_at d.nodes v).kind (look.place_among (look.agents_of (printed d names) Blocks) (look.agent_of (printed d names) (node_tree d.nodes names p v))) owner
+        let tree = node_tree d.nodes names p v in
+        owner_case (node_at d.nodes v).kind (map (look.place_among (look.agents_of (printed d names) Blocks)) (look.owner_names (printed d names) tree)) (owners_of d.nodes v)
         (λ owned.
-        ap (λ agents. look.place_among agents (look.agent_of (printed d names) (node_tree d.nodes names p v))) agents_told
-        ∙ ap (look.place_among names.agents) (node_agent_told (printed d names) d.nodes names v p more at owned)
-        ∙ place_here names.agents agents_differ owner (subst (λ n. owner < n) (sym is.fit.agents) (is.diagram.owners.agent v l owned)))
-        (is.diagram.owners.chance v)
+        ap (λ agents. map (look.place_among agents) (look.owner_names (printed d names) tree)) agents_told
+        ∙ ap (map (look.place_among names.agents)) (node_owners_told (printed d names) d.nodes names v p more at owned (is.diagram.owners.one v))
+        ∙ places_here names.agents agents_differ (owners_of d.nodes v) (λ a o. subst (λ n. a < n) (sym is.fit.agents) (is.diagram.owners.agent v a l owned o)))
+        (λ chance. λ j. is.diagram.owners.chance v chance j ∷ is.diagram.owners.one v (λ u. chance_utility (sym chance ∙ u)) j)
 
   pub states_told : map (λ n. n.states) d.nodes ≡ look.state_counts (printed d names) Blocks
   states_told = sym (tell d names is (look.block_states (printed d names)) (λ v. (node_at d.nodes v).states) one ∙ each_node (λ n. n.states) d.nodes) where

@@ -1,5 +1,7 @@
 -- Where no row finds anything, a pass finds nothing.
-use Rattle.std.proofs.Common.{◌≡◌, ◌∙◌, Bool, true, false, List, [], ◌∷◌, ◌++◌, Contains, None, refl, arith, append_assoc}
+use Rattle.std.proofs.Common.{◌≡◌, ◌∙◌, ◌≢◌, ℕ, suc, ◌+◌, ◌<◌, Bool, true, false, List, [], ◌∷◌, ◌++◌, length, AllPairs, Contains, None, refl, sym, arith, append_assoc}
+use Rattle.std.proofs.Math.Seq.{get_or-append_seam}
+use Rattle.std.proofs.lemmas.List.{get_or_append_left, length-append}
 use Rattle.std.proofs.lemmas.List.Elements.{Contains-append_right}
 use Rattle.first_fault.specs.Passes.{Pass, only, each_after}
 use Rattle.net_build.specs.Passes.{Found}
@@ -17,3 +19,9 @@ only_clear false P clear = tt
 -- an item stands in its list
 pub in_whole : {A : Type 0} (front : List A) (x : A) (back : List A) → Contains (front ++ (x ∷ back)) x
 in_whole front x back = Contains-append_right front (x ∷ back) x (0, omega arith, refl)
+
+-- where the items of a list differ, none stands before itself
+pub not_earlier : {A : Type 0} (xs : List A) (y : A) (ys : List A) → AllPairs (λ a b. a ≢ b) (xs ++ y ∷ ys) → Contains xs y → ⊥
+not_earlier xs y ys differ (k, h, e) = differ k (length xs) y h (within (length xs) (length ys) (length (xs ++ y ∷ ys)) (length-append xs (y ∷ ys))) (get_or_append_left xs (y ∷ ys) y k h ∙ e ∙ sym (get_or-append_seam xs y ys y)) where
+  within : (n m whole : ℕ) → whole ≡ n + suc m → n < whole
+  within n m whole e = omega arith

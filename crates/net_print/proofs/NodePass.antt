@@ -1,32 +1,30 @@
 -- The pass over nodes finds nothing in the tree of a printed text.
-use Rattle.std.proofs.Common.{◌≡◌, ◌∙◌, ◌≢◌, ℕ, suc, ◌+◌, ◌<◌, ◌≤◌, true, cond, List, [], ◌∷◌, ◌++◌, length, map, filter, All, AllPairs, Contains, None, codes, refl, sym, ap, subst, arith}
-use Rattle.std.proofs.Math.Seq.{get_or-append_seam}
-use Rattle.std.proofs.lemmas.List.{length-append, length-map, map-append, get_or_append_left}
-use Rattle.std.proofs.lemmas.List.Elements.{All-contains, filter-append}
+use Rattle.std.proofs.Common.{◌≡◌, ◌∙◌, ◌≢◌, ℕ, suc, ◌+◌, ◌<◌, ◌≤◌, true, cond, List, [], ◌∷◌, ◌++◌, length, get_or, map, filter, All, AllPairs, Contains, None, codes, refl, sym, ap, subst, arith}
+use Rattle.std.proofs.lemmas.List.{append_assoc, length-append, length-map, map-append, get_or_default}
+use Rattle.std.proofs.lemmas.List.Elements.{All-contains, All-map, filter-append}
+use Rattle.std.proofs.lemmas.Grind.{flat_map-append}
+use Rattle.std.proofs.lemmas.List.Concat.{flat_map-cons}
+use Rattle.std.specs.List.{flat_map}
 use Rattle.maid_model.specs.declared.diagrams.Kind.TheVariants.{Chance, Utility}
 use Rattle.maid_model.specs.Names.{NamesView, name_of, labels_of, agent_name}
-use Rattle.maid_model.specs.Nodes.{node_at}
+use Rattle.maid_model.specs.Nodes.{node_at, owners_of, Owns}
 use Rattle.maid_model.specs.Views.{DiagramView}
 use Rattle.net_build.specs.Blocks as look
-use Rattle.net_build.specs.Table.{node_pass, node_rows, name_rows, owner_rows, states_rows, IsAgentTooMany}
+use Rattle.net_build.specs.Table.{node_pass, node_rows, name_rows, owner_rows, states_rows, sight_row, IsAgentTooMany}
+use Rattle.first_fault.specs.Passes.{each_after}
+use Rattle.finite_sums.proofs.Sights.{first_sights_all}
 use Rattle.net_parser.specs.Trees.{BlockTree}
-use Rattle.net_print.specs.Printed.{printed, kind_word}
+use Rattle.net_print.specs.Printed.{printed, kind_word, owner_names}
 use Rattle.net_print.specs.RoundTrip.{IsPrintable}
 use Rattle.net_print.proofs.AgentCount.{one_more}
-use Rattle.net_print.proofs.Agents.{agents_told}
-use Rattle.net_print.proofs.ClearPasses.{after_clear, only_clear, in_whole}
+use Rattle.net_print.proofs.Agents.{agents_apart, agents_differ, agents_told}
+use Rattle.net_print.proofs.ClearPasses.{after_clear, only_clear, in_whole, not_earlier}
 use Rattle.net_print.proofs.Faultless.{nodes_hold}
 use Rattle.net_print.proofs.Look.{names_told, node_name_told, at_attributes}
-use Rattle.net_print.proofs.NodeRows.{AreLabels, BlockClear, block_clear}
+use Rattle.net_print.proofs.NodeRows.{AreLabels, AreOwners, BlockClear, block_clear}
 use Rattle.net_print.proofs.Tree.{node_tree, tree_of}
 use Rattle.net_print.proofs.Words.{brace_close, open_words, node_words}
 use Rattle.net_print.proofs.Written.{At, end_at, text_onto}
-
--- where the items of a list differ, none stands before itself
-not_earlier : {A : Type 0} (xs : List A) (y : A) (ys : List A) → AllPairs (λ a b. a ≢ b) (xs ++ y ∷ ys) → Contains xs y → ⊥
-not_earlier xs y ys differ (k, h, e) = differ k (length xs) y h (within (length xs) (length ys) (length (xs ++ y ∷ ys)) (length-append xs (y ∷ ys))) (get_or_append_left xs (y ∷ ys) y k h ∙ e ∙ sym (get_or-append_seam xs y ys y)) where
-  within : (n m whole : ℕ) → whole ≡ n + suc m → n < whole
-  within n m whole e = omega arith
 
 too_many : (n m agents : ℕ) → 16 ≤ n → n < m → m ≡ agents → agents ≤ 16 → ⊥
 too_many n m agents h l e k = omega arith
@@ -52,15 +50,26 @@ module _ (d : DiagramView) (names : NamesView) (is : IsPrintable d names) where
     plain = is.form.labels v [] (subst (λ n. v < n) (sym is.fit.labels) l);
   }
 
-  agent_is : (v : ℕ) → v < length d.nodes → (node_at d.nodes v).kind ≢ Chance → look.is_plain (agent_name names (node_at d.nodes v).owner) ≡ true
-  agent_is v l owned = is.form.agents (node_at d.nodes v).owner [] (subst (λ n. (node_at d.nodes v).owner < n) (sym is.fit.agents) (is.diagram.owners.agent v l owned))
+  -- the owners of a decision or a utility
+  owners_are : (v : ℕ) → v < length d.nodes → (node_at d.nodes v).kind ≢ Chance → AreOwners (owner_names d.nodes names v)
+  owners_are v l owned = record {
+    some = omega arith;
+    plain = All-map (λ name. look.is_plain name ≡ true) (agent_name names) (owners_of d.nodes v) (λ k e h. is.form.agents (get_or (owners_of d.nodes v) k e) [] (known (get_or (owners_of d.nodes v) k e) (k, h, get_or_default (owners_of d.nodes v) k (get_or (owners_of d.nodes v) k e) e h)));
+    differ = agents_apart names.agents (agents_differ d names is) (owners_of d.nodes v) (is.diagram.owners.differ v) known;
+  }
+    where
+      known : (a : ℕ) → Owns d.nodes a v → a < length names.agents
+      known a o = subst (λ n. a < n) (sym is.fit.agents) (is.diagram.owners.agent v a l owned o)
+
+  one_owner : (v : ℕ) → (node_at d.nodes v).kind ≢ Utility → length (owner_names d.nodes names v) ≡ 1
+  one_owner v u = ap (λ more. length (map (agent_name names) ((node_at d.nodes v).owner ∷ more))) (is.diagram.owners.one v u)
 
   blocks_clear : All (BlockClear Text) Nodes
   blocks_clear = nodes_hold d names is (BlockClear Text) one where
     one : (v p : ℕ) (more : List ℕ) → v < length d.nodes → At Text p (text_onto (node_words d.nodes names v) more) → BlockClear Text (node_tree d.nodes names p v)
     one v p more l at =
         let kind = (node_at d.nodes v).kind in
-        block_clear Text (end_at p (open_words (kind_word kind) (name_of names v))) kind (labels_of names v) (agent_name names (node_at d.nodes v).owner) (text_onto (brace_close ∷ []) more) (at_attributes Text d.nodes names v p more at) (labels_are v l) (agent_is v l) (node_tree d.nodes names p v) refl refl
+        block_clear Text (end_at p (open_words (kind_word kind) (name_of names v))) kind (labels_of names v) (owner_names d.nodes names v) (text_onto (brace_close ∷ []) more) (at_attributes Text d.nodes names v p more at) (labels_are v l) (owners_are v l) (one_owner v) (node_tree d.nodes names p v) refl refl
 
   names_short : All (λ b. length (look.block_name Text b) ≤ 255) Nodes
   names_short = nodes_hold d names is (λ b. length (look.block_name Text b) ≤ 255) (λ v p more l at. subst (λ name. length name ≤ 255) (sym (node_name_told Text d.nodes names v p more at)) (is.form.words v [] (subst (λ n. v < n) (sym is.fit.nodes) l)).size)
@@ -74,18 +83,35 @@ module _ (d : DiagramView) (names : NamesView) (is : IsPrintable d names) where
       let whole : length Nodes ≡ length d.nodes = sym (length-map Nodes (look.block_name Text)) ∙ ap length (names_told d names is) ∙ is.fit.nodes in
       full (length (look.names_of Text front)) (length front) (length back) (length d.nodes) (length-map front (look.block_name Text)) (sym whole ∙ ap length (sym e) ∙ length-append front (b ∷ back)) is.diagram.limits.nodes
 
-  -- an agent of the nodes is not one too many
-  agents_few : (front : List BlockTree) (b : BlockTree) (back : List BlockTree) → front ++ (b ∷ back) ≡ Nodes → look.has_agent b.kind ≡ true → IsAgentTooMany (look.agents_of Text front) (look.agent_of Text b) → ⊥
-  agents_few front b back e owned (many, new) =
-      let kept = λ (bs : List BlockTree). filter (λ c. look.has_agent c.kind) bs in
-      let agents = λ (bs : List BlockTree). map (look.agent_of Text) bs in
-      let parts : agents (kept (front ++ (b ∷ back))) ≡ agents (kept front) ++ (look.agent_of Text b ∷ agents (kept back)) =
-      ap agents (filter-append (λ c. look.has_agent c.kind) front (b ∷ back))
-      ∙ map-append (look.agent_of Text) (kept front) (kept (b ∷ back))
-      ∙ ap (λ t. agents (kept front) ++ agents (cond t (b ∷ kept back) (kept back))) owned in
-      let count : length (look.first_sights (agents (kept front) ++ (look.agent_of Text b ∷ agents (kept back)))) ≡ d.agents =
-      ap (λ list. length (look.first_sights list)) (sym parts) ∙ ap (λ bs. length (look.agents_of Text bs)) e ∙ ap length (agents_told d names is) ∙ is.fit.agents in
-      too_many (length (look.agents_of Text front)) (length (look.first_sights (agents (kept front) ++ (look.agent_of Text b ∷ agents (kept back))))) d.agents many (one_more (agents (kept front)) (look.agent_of Text b) (agents (kept back)) new) count is.diagram.limits.agents
+  -- no owner of the nodes is one too many
+  agents_few : (front : List BlockTree) (b : BlockTree) (back : List BlockTree) → front ++ (b ∷ back) ≡ Nodes → look.has_agent b.kind ≡ true → each_after (sight_row (look.agents_of Text front) (look.title_at b)) [] (look.owner_names Text b) None
+  agents_few front b back e owned = after_clear (sight_row (look.agents_of Text front) (look.title_at b)) [] (look.owner_names Text b) one where
+    kept : List BlockTree → List BlockTree
+    kept bs = filter (λ c. look.has_agent c.kind) bs
+
+    agents : List BlockTree → List (List ℕ)
+    agents bs = flat_map (look.owner_names Text) (kept bs)
+
+    parts : agents (front ++ (b ∷ back)) ≡ agents front ++ (look.owner_names Text b ++ agents back)
+    parts =
+        ap (flat_map (look.owner_names Text)) (filter-append (λ c. look.has_agent c.kind) front (b ∷ back))
+        ∙ flat_map-append (look.owner_names Text) (kept front) (kept (b ∷ back))
+        ∙ ap (λ t. agents front ++ flat_map (look.owner_names Text) (cond t (b ∷ kept back) (kept back))) owned
+        ∙ ap (λ rest. agents front ++ rest) (flat_map-cons (look.owner_names Text) b (kept back))
+
+    one : (before : List (List ℕ)) (agent : List ℕ) (after : List (List ℕ)) → before ++ (agent ∷ after) ≡ look.owner_names Text b → IsAgentTooMany (look.with_sights (look.agents_of Text front) before) agent → ⊥
+    one before agent after split (many, new) =
+        let seen : look.first_sights (agents front ++ before) ≡ look.with_sights (look.agents_of Text front) before = first_sights_all (agents front) before in
+        let whole : (agents front ++ before) ++ (agent ∷ (after ++ agents back)) ≡ agents (front ++ (b ∷ back)) =
+        append_assoc (agents front) before (agent ∷ (after ++ agents back))
+        ∙ ap (λ rest. agents front ++ rest) (sym (append_assoc before (agent ∷ after) (agents back)) ∙ ap (λ own. own ++ agents back) split)
+        ∙ sym parts in
+        let count : length (look.first_sights ((agents front ++ before) ++ (agent ∷ (after ++ agents back)))) ≡ d.agents =
+        ap (λ list. length (look.first_sights list)) whole ∙ ap (λ bs. length (look.agents_of Text bs)) e ∙ ap length (agents_told d names is) ∙ is.fit.agents in
+        too_many (length (look.with_sights (look.agents_of Text front) before)) (length (look.first_sights ((agents front ++ before) ++ (agent ∷ (after ++ agents back))))) d.agents many
+        (subst (λ s. length s < length (look.first_sights ((agents front ++ before) ++ (agent ∷ (after ++ agents back))))) seen
+        (one_more (agents front ++ before) agent (after ++ agents back) (subst (λ s. Contains s agent → ⊥) (sym seen) new)))
+        count is.diagram.limits.agents
 
   row_clear : (front : List BlockTree) (b : BlockTree) (back : List BlockTree) → front ++ (b ∷ back) ≡ Nodes → node_rows Text (look.names_of Text front) (look.agents_of Text front) b None
   unfolding node_rows name_rows owner_rows
@@ -103,7 +129,7 @@ module _ (d : DiagramView) (names : NamesView) (is : IsPrintable d names) where
           clear.once,
           (
             only_clear (look.has_states b.kind) (states_rows Text b (look.named Text (codes "states") b.attributes)) clear.states,
-            only_clear (look.has_agent b.kind) (owner_rows Text (look.agents_of Text front) b) (λ owned. (clear.agent owned, agents_few front b back e owned)),
+            only_clear (look.has_agent b.kind) (owner_rows Text (look.agents_of Text front) b) (λ owned. (clear.owners owned, agents_few front b back e owned)),
           ),
         ),
       )

@@ -16,6 +16,7 @@ use Rattle.net_build.specs.declared.faults.Limit.TheVariants.{Rules}
 use Rattle.net_parser.specs.Trees.{BlockTree}
 use Rattle.net_print.specs.Printed.{printed}
 use Rattle.net_print.specs.RoundTrip.{IsPrintable}
+use Rattle.std.proofs.lemmas.List.Concat.{flat_map_single}
 use Rattle.net_print.proofs.Agents.{filter_flat}
 use Rattle.net_print.proofs.ClearPasses.{after_clear, only_clear, in_whole}
 use Rattle.net_print.proofs.CountsTold.{cell_count_told}
@@ -62,9 +63,9 @@ module _ (d : DiagramView) (names : NamesView) (is : IsPrintable d names) where
   all_rules : rule_cells Text Blocks Nodes ≡ nat_sum_over cells (decisions_of d.nodes)
   all_rules =
       ap sum (
-      filter_flat (look.cell_count Text Blocks) (λ b. is_decision (look.kind_of b.kind)) Nodes
+      sym (flat_map_single (look.cell_count Text Blocks) (filter (λ b. is_decision (look.kind_of b.kind)) Nodes)) ∙ filter_flat (λ b. look.cell_count Text Blocks b ∷ []) (λ b. is_decision (look.kind_of b.kind)) Nodes
       ∙ ap (flat_map (λ ys. ys)) (tell d names is (λ b. cond (is_decision (look.kind_of b.kind)) (look.cell_count Text Blocks b ∷ []) []) (λ v. cond (is_decision (node_at d.nodes v).kind) (cells v ∷ []) []) cells_of)
-      ∙ sym (filter_flat cells (λ v. is_decision (node_at d.nodes v).kind) (numbers_of d.nodes)))
+      ∙ sym (filter_flat (λ v. cells v ∷ []) (λ v. is_decision (node_at d.nodes v).kind) (numbers_of d.nodes)) ∙ flat_map_single cells (decisions_of d.nodes))
       ∙ sum_is cells (decisions_of d.nodes)
 
   rules_parts : (xs ys : List BlockTree) → rule_cells Text Blocks (xs ++ ys) ≡ rule_cells Text Blocks xs + rule_cells Text Blocks ys

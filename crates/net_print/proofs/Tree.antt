@@ -20,12 +20,12 @@ use Rattle.net_parser.specs.Grammar.{Rule, Spells, IsModelName, ◌▹◌}
 use Rattle.net_parser.specs.Lexemes.{Lexeme, lexemes, is_leaf, IsWord}
 use Rattle.net_parser.specs.Trees.{leaf, list, AttributeTree, BlockTree}
 use Rattle.net_build.specs.Plain.{reduced_rows}
-use Rattle.net_print.specs.Printed.{printed, kind_word, value_text}
+use Rattle.net_print.specs.Printed.{printed, kind_word, value_text, owner_names}
 use Rattle.net_print.specs.RoundTrip.{IsPrintable}
 use Rattle.net_print.proofs.Spelling.{lexemes_onto, lexemes_onto-append, lexemes_onto_none, Spelled, spelled-append, spelled-cons, mark_spelled, word_spelled, name_spelled, AreNames, names_spelled, leaf_trees, AreLeaves, leaf_spelled, list_spelled, trees_at}
 use Rattle.net_print.proofs.Texts.{named, numbers_below, parents_named, text_is, text_writes}
 use Rattle.net_print.proofs.Texts as texts
-use Rattle.net_print.proofs.Words.{written, space, items, equals, paren_open, paren_close, semicolon, brace_open, brace_close, bar, list_words, agent_words, attribute_words, open_words, node_words, head_words, table_words, potential_words}
+use Rattle.net_print.proofs.Words.{written, space, items, equals, paren_open, paren_close, semicolon, brace_open, brace_close, bar, list_words, agent_words, owner_words, attribute_words, open_words, node_words, head_words, table_words, potential_words}
 use Rattle.net_print.proofs.Written.{Written, behind, end_at, token_at, tokens_at, written_tokens, written_lexemes}
 
 -- WORD = ( ITEMS ) ;
@@ -77,10 +77,24 @@ agent_tree_spelled from agent =
     (spelled-cons (grammar.Mark Equals) (grammar.Value 32 tree.value ▹ grammar.Mark Semicolon) (behind from word) equals (text ∷ semicolon ∷ []) (mark_spelled Equals (behind from word) equals refl)
     (spelled-cons (grammar.Value 32 tree.value) (grammar.Mark Semicolon) at_value text (semicolon ∷ []) (leaf_spelled 32 at_value text refl) (mark_spelled Semicolon (behind at_value text) semicolon refl)))
 
-abbrev pub attribute_trees : ℕ → Kind → List (List ℕ) → List ℕ → List AttributeTree
-attribute_trees from Chance labels agent = list_tree from (codes "states") Text quoted labels ∷ []
-attribute_trees from Decision labels agent = list_tree from (codes "states") Text quoted labels ∷ agent_tree (end_at from (list_words (codes "states") Text quoted labels)) agent ∷ []
-attribute_trees from Utility labels agent = agent_tree from agent ∷ []
+-- what tells the owners
+abbrev pub owner_tree : ℕ → List (List ℕ) → AttributeTree
+owner_tree from [] = list_tree from (codes "agents") Text quoted []
+owner_tree from (agent ∷ []) = agent_tree from agent
+owner_tree from (agent ∷ other ∷ more) = list_tree from (codes "agents") Text quoted (agent ∷ other ∷ more)
+
+agents_spelled : (from : ℕ) (owners : List (List ℕ)) → Spelled (grammar.Attribute false (list_tree from (codes "agents") Text quoted owners)) from (list_words (codes "agents") Text quoted owners)
+agents_spelled from owners = list_tree_spelled false from (codes "agents") Text quoted owners (name_spelled from (written [] Word (codes "agents") space) refl refl) refl
+
+owner_tree_spelled : (from : ℕ) (owners : List (List ℕ)) → Spelled (grammar.Attribute false (owner_tree from owners)) from (owner_words owners)
+owner_tree_spelled from [] = agents_spelled from []
+owner_tree_spelled from (agent ∷ []) = agent_tree_spelled from agent
+owner_tree_spelled from (agent ∷ other ∷ more) = agents_spelled from (agent ∷ other ∷ more)
+
+abbrev pub attribute_trees : ℕ → Kind → List (List ℕ) → List (List ℕ) → List AttributeTree
+attribute_trees from Chance labels owners = list_tree from (codes "states") Text quoted labels ∷ []
+attribute_trees from Decision labels owners = list_tree from (codes "states") Text quoted labels ∷ owner_tree (end_at from (list_words (codes "states") Text quoted labels)) owners ∷ []
+attribute_trees from Utility labels owners = owner_tree from owners ∷ []
 
 states_spelled : (from : ℕ) (labels : List (List ℕ)) → Spelled (grammar.Attribute false (list_tree from (codes "states") Text quoted labels)) from (list_words (codes "states") Text quoted labels)
 states_spelled from labels = list_tree_spelled false from (codes "states") Text quoted labels (name_spelled from (written [] Word (codes "states") space) refl refl) refl
@@ -89,13 +103,13 @@ states_spelled from labels = list_tree_spelled false from (codes "states") Text 
 one_spelled : (potential : Bool) (a : AttributeTree) (from : ℕ) (ws : List Written) → Spelled (grammar.Attribute potential a) from ws → Spelled (grammar.Each (grammar.Attribute potential) (a ∷ [])) from ws
 one_spelled potential a from ws is rest = (rest, is rest, refl)
 
-attributes_spelled : (from : ℕ) (kind : Kind) (labels : List (List ℕ)) (agent : List ℕ) → Spelled (grammar.Each (grammar.Attribute false) (attribute_trees from kind labels agent)) from (attribute_words kind labels agent)
-attributes_spelled from Chance labels agent = one_spelled false (list_tree from (codes "states") Text quoted labels) from (list_words (codes "states") Text quoted labels) (states_spelled from labels)
-attributes_spelled from Decision labels agent =
+attributes_spelled : (from : ℕ) (kind : Kind) (labels owners : List (List ℕ)) → Spelled (grammar.Each (grammar.Attribute false) (attribute_trees from kind labels owners)) from (attribute_words kind labels owners)
+attributes_spelled from Chance labels owners = one_spelled false (list_tree from (codes "states") Text quoted labels) from (list_words (codes "states") Text quoted labels) (states_spelled from labels)
+attributes_spelled from Decision labels owners =
     let states = list_words (codes "states") Text quoted labels in
-    spelled-append (grammar.Attribute false (list_tree from (codes "states") Text quoted labels)) (grammar.Each (grammar.Attribute false) (agent_tree (end_at from states) agent ∷ [])) from states (agent_words agent) (states_spelled from labels)
-    (one_spelled false (agent_tree (end_at from states) agent) (end_at from states) (agent_words agent) (agent_tree_spelled (end_at from states) agent))
-attributes_spelled from Utility labels agent = one_spelled false (agent_tree from agent) from (agent_words agent) (agent_tree_spelled from agent)
+    spelled-append (grammar.Attribute false (list_tree from (codes "states") Text quoted labels)) (grammar.Each (grammar.Attribute false) (owner_tree (end_at from states) owners ∷ [])) from states (owner_words owners) (states_spelled from labels)
+    (one_spelled false (owner_tree (end_at from states) owners) (end_at from states) (owner_words owners) (owner_tree_spelled (end_at from states) owners))
+attributes_spelled from Utility labels owners = one_spelled false (owner_tree from owners) from (owner_words owners) (owner_tree_spelled from owners)
 
 abbrev pub block_kind : Kind → BlockKind
 block_kind Chance = blocks.Node
@@ -106,7 +120,7 @@ abbrev pub node_tree : List NodeView → NamesView → ℕ → ℕ → BlockTree
 node_tree nodes names from v = record {
   kind = block_kind (node_at nodes v).kind;
   names = token_at (behind from (written [] Word (kind_word (node_at nodes v).kind) space)) (written [] Word (name_of names v) space) ∷ [];
-  attributes = attribute_trees (end_at from (open_words (kind_word (node_at nodes v).kind) (name_of names v))) (node_at nodes v).kind (labels_of names v) (agent_name names (node_at nodes v).owner);
+  attributes = attribute_trees (end_at from (open_words (kind_word (node_at nodes v).kind) (name_of names v))) (node_at nodes v).kind (labels_of names v) (owner_names nodes names v);
 }
 
 node_head : (word : List ℕ) (from : ℕ) (name : List ℕ) → is_name name ≡ true → Spelled (grammar.NodeHead word (token_at (behind from (written [] Word word space)) (written [] Word name space))) from (written [] Word word space ∷ written [] Word name space ∷ [])
@@ -139,13 +153,13 @@ plain_body Utility attributes from ws is = is
 node_spelled : (first : Bool) (nodes : List NodeView) (names : NamesView) (from v : ℕ) → is_name (name_of names v) ≡ true → Spelled (grammar.Block first (node_tree nodes names from v)) from (node_words nodes names v)
 node_spelled first nodes names from v is =
     let kind = (node_at nodes v).kind in
-    let agent = agent_name names (node_at nodes v).owner in
+    let owners = owner_names nodes names v in
     let tree = node_tree nodes names from v in
     let head = written [] Word (kind_word kind) space ∷ written [] Word (name_of names v) space ∷ [] in
-    let words = attribute_words kind (labels_of names v) agent in
+    let words = attribute_words kind (labels_of names v) owners in
     spelled-append (grammar.Head first tree.kind tree.names) (grammar.Body (grammar.is_potential tree.kind) tree.attributes) from head (brace_open ∷ (words ++ brace_close ∷ [])) (head_spelled first kind from (name_of names v) is)
     (plain_body kind tree.attributes (end_at from head) (brace_open ∷ (words ++ brace_close ∷ []))
-    (body_spelled false tree.attributes (end_at from head) words (attributes_spelled (end_at from (open_words (kind_word kind) (name_of names v))) kind (labels_of names v) agent)))
+    (body_spelled false tree.attributes (end_at from head) words (attributes_spelled (end_at from (open_words (kind_word kind) (name_of names v))) kind (labels_of names v) owners)))
 
 -- the names in a potential's head
 abbrev pub head_tokens : ℕ → NamesView → ℕ → List ℕ → List Token

@@ -17,7 +17,7 @@ use Rattle.net_lexer.specs.declared.pieces.PieceKind.TheVariants as pieces
 use Rattle.net_lexer.specs.declared.tokens.TokenKind.{TokenKind}
 use Rattle.net_lexer.specs.declared.tokens.TokenKind.TheVariants.{Word, Text, Number, BraceOpen, BraceClose, ParenOpen, ParenClose, Equals, Semicolon, Bar}
 use Rattle.net_build.specs.Plain.{reduced_rows}
-use Rattle.net_print.specs.Printed.{parted, kind_word, states_text, agent_text, attributes_text, node_line, head_text, table_text, potential_line, value_text}
+use Rattle.net_print.specs.Printed.{parted, kind_word, states_text, agent_text, owners_text, owner_names, attributes_text, node_line, head_text, table_text, potential_line, value_text}
 use Rattle.net_print.proofs.Forms.{quoted_string}
 use Rattle.net_print.proofs.Written.{Written, text_onto, Fits, Stands, text_onto-append, stands-append}
 
@@ -195,18 +195,29 @@ agent_writes agent = record {
   );
 }
 
-abbrev pub attribute_words : Kind → List (List ℕ) → List ℕ → List Written
-attribute_words Chance labels agent = list_words (codes "states") Text quoted labels
-attribute_words Decision labels agent = list_words (codes "states") Text quoted labels ++ agent_words agent
-attribute_words Utility labels agent = agent_words agent
+-- what tells the owners
+abbrev pub owner_words : List (List ℕ) → List Written
+owner_words [] = list_words (codes "agents") Text quoted []
+owner_words (agent ∷ []) = agent_words agent
+owner_words (agent ∷ other ∷ more) = list_words (codes "agents") Text quoted (agent ∷ other ∷ more)
+
+owners_write : (owners : List (List ℕ)) → Writes (owner_words owners) (owners_text owners)
+owners_write [] = list_writes (codes "agents") Text quoted [] refl (λ k d l. absurd (omega arith))
+owners_write (agent ∷ []) = agent_writes agent
+owners_write (agent ∷ other ∷ more) = list_writes (codes "agents") Text quoted (agent ∷ other ∷ more) refl (λ k d l. label_item (get_or (agent ∷ other ∷ more) k d))
+
+abbrev pub attribute_words : Kind → List (List ℕ) → List (List ℕ) → List Written
+attribute_words Chance labels owners = list_words (codes "states") Text quoted labels
+attribute_words Decision labels owners = list_words (codes "states") Text quoted labels ++ owner_words owners
+attribute_words Utility labels owners = owner_words owners
 
 states_write : (labels : List (List ℕ)) → Writes (list_words (codes "states") Text quoted labels) (states_text labels)
 states_write labels = list_writes (codes "states") Text quoted labels refl (λ k d l. label_item (get_or labels k d))
 
-pub attributes_write : (kind : Kind) (labels : List (List ℕ)) (agent : List ℕ) → Writes (attribute_words kind labels agent) (attributes_text kind labels agent)
-attributes_write Chance labels agent = states_write labels
-attributes_write Decision labels agent = writes-append (list_words (codes "states") Text quoted labels) (agent_words agent) (states_text labels) (agent_text agent) (states_write labels) (agent_writes agent)
-attributes_write Utility labels agent = agent_writes agent
+pub attributes_write : (kind : Kind) (labels owners : List (List ℕ)) → Writes (attribute_words kind labels owners) (attributes_text kind labels owners)
+attributes_write Chance labels owners = states_write labels
+attributes_write Decision labels owners = writes-append (list_words (codes "states") Text quoted labels) (owner_words owners) (states_text labels) (owners_text owners) (states_write labels) (owners_write owners)
+attributes_write Utility labels owners = owners_write owners
 
 -- WORD NAME {
 abbrev pub open_words : List ℕ → List ℕ → List Written
@@ -231,20 +242,20 @@ in_line head attributes = simp append_assoc
 
 -- a node's block
 abbrev pub node_words : List NodeView → NamesView → ℕ → List Written
-node_words nodes names v = open_words (kind_word (node_at nodes v).kind) (name_of names v) ++ (attribute_words (node_at nodes v).kind (labels_of names v) (agent_name names (node_at nodes v).owner) ++ brace_close ∷ [])
+node_words nodes names v = open_words (kind_word (node_at nodes v).kind) (name_of names v) ++ (attribute_words (node_at nodes v).kind (labels_of names v) (owner_names nodes names v) ++ brace_close ∷ [])
 
 pub node_writes : (nodes : List NodeView) (names : NamesView) (v : ℕ) → is_name (name_of names v) ≡ true → Writes (node_words nodes names v) (node_line nodes names v)
 node_writes nodes names v named =
     let kind = (node_at nodes v).kind in
     let name = name_of names v in
-    let agent = agent_name names (node_at nodes v).owner in
-    let words = attribute_words kind (labels_of names v) agent in
-    let text = attributes_text kind (labels_of names v) agent in
+    let owners = owner_names nodes names v in
+    let words = attribute_words kind (labels_of names v) owners in
+    let text = attributes_text kind (labels_of names v) owners in
     let opened = (kind_word kind ++ 32 ∷ name) ++ codes " { " in
     let closed = codes "}" ++ 10 ∷ [] in
     writes-same (node_words nodes names v) (opened ++ (text ++ closed)) (node_line nodes names v)
     (writes-append (open_words (kind_word kind) name) (words ++ brace_close ∷ []) opened (text ++ closed) (open_writes (kind_word kind) name (kind_named kind) named)
-    (writes-append words (brace_close ∷ []) text closed (attributes_write kind (labels_of names v) agent) close_writes))
+    (writes-append words (brace_close ∷ []) text closed (attributes_write kind (labels_of names v) owners) close_writes))
     (in_line (kind_word kind ++ 32 ∷ name) text)
 
 -- a potential's head

@@ -1,10 +1,10 @@
 -- The text of a diagram: a line for each node block, and then a line for each potential, both in the order of the nodes.
-use Rattle.std.specs.Prelude.{ℕ, zero, suc, ◌-◌, ◌/◌, ◌%◌, ◌^◌, ◌==◌, ℤ, pos, negsuc, unsigned_abs, List, [], ◌∷◌, ◌++◌, length, replicate, codes, decimal, if◌then◌else◌}
+use Rattle.std.specs.Prelude.{ℕ, zero, suc, ◌-◌, ◌/◌, ◌%◌, ◌^◌, ◌==◌, ℤ, pos, negsuc, unsigned_abs, List, [], ◌∷◌, ◌++◌, length, map, replicate, codes, decimal, if◌then◌else◌}
 use Rattle.std.specs.List.{flat_map}
 use Rattle.maid_model.specs.declared.diagrams.Kind.{Kind}
 use Rattle.maid_model.specs.declared.diagrams.Kind.TheVariants.{Chance, Decision, Utility}
 use Rattle.maid_model.specs.Names.{NamesView, name_of, labels_of, agent_name}
-use Rattle.maid_model.specs.Nodes.{node_at, rows_of, numbers_of}
+use Rattle.maid_model.specs.Nodes.{node_at, owners_of, rows_of, numbers_of}
 use Rattle.maid_model.specs.Reports.{line, quoted}
 use Rattle.maid_model.specs.Views.{NodeView, DiagramView}
 use Rattle.net_build.specs.Plain.{reduced_rows}
@@ -26,19 +26,29 @@ states_text labels = codes "states = (" ++ parted quoted labels ++ codes "); "
 abbrev pub agent_text : List ℕ → List ℕ
 agent_text agent = codes "agent = " ++ quoted agent ++ codes "; "
 
--- a chance node and a decision have states, and a decision and a utility have an agent
-abbrev pub attributes_text : Kind → List (List ℕ) → List ℕ → List ℕ
-attributes_text Chance labels agent = states_text labels
-attributes_text Decision labels agent = states_text labels ++ agent_text agent
-attributes_text Utility labels agent = agent_text agent
+-- one owner stands behind `agent`, several in a list behind `agents`
+abbrev pub owners_text : List (List ℕ) → List ℕ
+owners_text [] = codes "agents = (" ++ codes "); "
+owners_text (agent ∷ []) = agent_text agent
+owners_text (agent ∷ other ∷ more) = codes "agents = (" ++ parted quoted (agent ∷ other ∷ more) ++ codes "); "
+
+-- a chance node and a decision have states, and a decision and a utility have owners
+abbrev pub attributes_text : Kind → List (List ℕ) → List (List ℕ) → List ℕ
+attributes_text Chance labels owners = states_text labels
+attributes_text Decision labels owners = states_text labels ++ owners_text owners
+attributes_text Utility labels owners = owners_text owners
 
 -- what stands behind a head: attributes in braces
 abbrev pub body_text : List ℕ → List ℕ
 body_text attributes = codes " { " ++ attributes ++ codes "}"
 
+-- the names of a node's owners, in written order
+abbrev pub owner_names : List NodeView → NamesView → ℕ → List (List ℕ)
+owner_names nodes names v = map (agent_name names) (owners_of nodes v)
+
 -- a node's block
 abbrev pub node_line : List NodeView → NamesView → ℕ → List ℕ
-node_line nodes names v = let node = node_at nodes v in line (kind_word node.kind ++ 32 ∷ name_of names v ++ body_text (attributes_text node.kind (labels_of names v) (agent_name names node.owner)))
+node_line nodes names v = let node = node_at nodes v in line (kind_word node.kind ++ 32 ∷ name_of names v ++ body_text (attributes_text node.kind (labels_of names v) (owner_names nodes names v)))
 
 -- the names of the parents behind a bar; without parents there is no bar
 abbrev pub given_text : NamesView → List ℕ → List ℕ

@@ -1,12 +1,12 @@
 //! The lines of node blocks.
 
-ghost use Rattle.std.specs.Prelude.{◌≡◌, ◌≢◌, ◌<◌, [], ◌∷◌, ◌++◌, OnOk, length, codes};
+ghost use Rattle.std.specs.Prelude.{◌≡◌, ◌≢◌, ◌<◌, [], ◌∷◌, ◌++◌, All, OnOk, length, codes};
 ghost use Rattle.std.specs.List.{flat_map};
 ghost use Rattle.maid_model.specs.declared.diagrams.Kind.TheVariants.{Chance, Utility};
 ghost use Rattle.maid_model.specs.Names.{NamesFit, labels_of, agent_name};
 ghost use Rattle.maid_model.specs.Nodes.{node_at, numbers_of};
 ghost use Rattle.maid_model.specs.Reports.{quoted};
-ghost use Rattle.net_print.specs.Printed.{agent_text, attributes_text, kind_word, node_line, parted, states_text};
+ghost use Rattle.net_print.specs.Printed.{agent_text, attributes_text, kind_word, node_line, owner_names, owners_text, parted, states_text};
 
 use crate::pieces::push_gap;
 use line_pieces::push_quoted;
@@ -61,9 +61,47 @@ fn push_states(
     out.extend_from_slice(b"); ")
 }
 
-// Appends the agent of a decision or a utility.
+// Appends an agent's name.
 #[tactic(auto, using(std::proofs::Common::append_assoc))]
-fn push_agent(
+fn push_agent(out: &mut Vec<u8>, agent: &[u8]) -> Result<(), AllocError>
+    ensures { OnOk result (out.new.items ≡ out.old.items ++ agent_text agent.now) }
+{
+    out.extend_from_slice(b"agent = ")?;
+    push_quoted(out, agent)?;
+    out.extend_from_slice(b"; ")
+}
+
+// Appends the agents of these numbers, each behind a space.
+fn push_others(out: &mut Vec<u8>, names: &Names, agents: &[usize]) -> Result<(), AllocError>
+    requires { All (λ a. a < length names.now.agents) agents.now }
+    ensures { OnOk result (out.new.items ≡ out.old.items ++ flat_map (λ a. 32 ∷ quoted (agent_name names.now a)) agents.now) }
+{
+    for agent in agents {
+        out.push(b' ')?;
+        push_quoted(out, names.agent(*agent))?;
+    }
+    Ok(())
+}
+
+// Appends a list of agents.
+#[tactic(auto, using(std::proofs::Common::append_assoc))]
+fn push_agents(
+    out: &mut Vec<u8>,
+    names: &Names,
+    first: &[u8],
+    others: &[usize],
+) -> Result<(), AllocError>
+    requires { All (λ a. a < length names.now.agents) others.now }
+    ensures { OnOk result (out.new.items ≡ out.old.items ++ (codes "agents = (" ++ (quoted first.now ++ flat_map (λ a. 32 ∷ quoted (agent_name names.now a)) others.now) ++ codes "); ")) }
+{
+    out.extend_from_slice(b"agents = (")?;
+    push_quoted(out, first)?;
+    push_others(out, names, others)?;
+    out.extend_from_slice(b"); ")
+}
+
+// Appends the owners of a decision or a utility.
+fn push_owners(
     out: &mut Vec<u8>,
     diagram: &Diagram,
     names: &Names,
@@ -72,11 +110,16 @@ fn push_agent(
     requires fit { NamesFit diagram.now names.now }
     requires node { node < length diagram.now.nodes }
     requires kind { (node_at diagram.now.nodes node).kind ≢ Chance }
-    ensures { OnOk result (out.new.items ≡ out.old.items ++ agent_text (agent_name names.now (node_at diagram.now.nodes node).owner)) }
+    ensures { OnOk result (out.new.items ≡ out.old.items ++ owners_text (owner_names diagram.now.nodes names.now node)) }
 {
-    out.extend_from_slice(b"agent = ")?;
-    push_quoted(out, names.agent(diagram.owner(node)))?;
-    out.extend_from_slice(b"; ")
+    let node = diagram.node(node);
+    let first = names.agent(node.owner);
+    let others = node.more.as_slice();
+    if others.is_empty() {
+        push_agent(out, first)
+    } else {
+        push_agents(out, names, first, others)
+    }
 }
 
 // Appends the attributes of a node's block.
@@ -89,15 +132,15 @@ fn push_attributes(
 ) -> Result<(), AllocError>
     requires fit { NamesFit diagram.now names.now }
     requires node { node < length diagram.now.nodes }
-    ensures { OnOk result (out.new.items ≡ out.old.items ++ attributes_text (node_at diagram.now.nodes node).kind (labels_of names.now node) (agent_name names.now (node_at diagram.now.nodes node).owner)) }
+    ensures { OnOk result (out.new.items ≡ out.old.items ++ attributes_text (node_at diagram.now.nodes node).kind (labels_of names.now node) (owner_names diagram.now.nodes names.now node)) }
 {
     match diagram.kind(node) {
         Kind::Chance => push_states(out, diagram, names, node),
         Kind::Decision => {
             push_states(out, diagram, names, node)?;
-            push_agent(out, diagram, names, node)
+            push_owners(out, diagram, names, node)
         }
-        Kind::Utility => push_agent(out, diagram, names, node),
+        Kind::Utility => push_owners(out, diagram, names, node),
     }
 }
 

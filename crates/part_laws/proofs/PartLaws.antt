@@ -3,7 +3,7 @@ use Rattle.std.proofs.Common.{◌≡◌, ◌⊎◌, ◌∙◌, ℕ, ◌<◌, tru
 use Rattle.std.proofs.lemmas.Int.{unsigned_abs-mul}
 use Rattle.maid_model.specs.Gains.{mass}
 use Rattle.maid_model.specs.Graph.{Arc, IsPath, IsPathTo, Here, Along, IsGraph, descends}
-use Rattle.maid_model.specs.Nodes.{node_at, numbers_of, is_utility}
+use Rattle.maid_model.specs.Nodes.{node_at, numbers_of, is_utility, owns, agent_of, owners_of}
 use Rattle.finite_sums.specs.Sums.{product_over}
 use Rattle.maid_model.specs.Tables.{weight_total}
 use Rattle.maid_model.specs.Views.{NodeView}
@@ -12,6 +12,7 @@ use Rattle.finite_sums.proofs.Ints.{mul_comm}
 use Rattle.finite_sums.proofs.Lists.{among_filter, product_over-shuffled}
 use Rattle.finite_sums.specs.Members.{Among}
 use Rattle.finite_sums.proofs.Totals.{product_over-split}
+use Rattle.finite_sums.proofs.Members.{any_is}
 use Rattle.maid_model.proofs.Weighing.{product_positive}
 use Rattle.part_laws.specs.Parts.{is_in, leads_to, with_ancestors, IsAncestral, part_of, rules_in, left_out, mass_left_out}
 use Rattle.part_laws.specs.PartLaws.{AncestorsAreClosed, PartsAreGraphs, PartsHaveTables, PartsHaveProfiles, GainsOfParts, MassesOfParts, AgentsGainsOfParts, MassOfParts, LawOfParts, LeftOutIsPositive}
@@ -90,10 +91,10 @@ profiles_law nodes p kept h c = profile_is nodes kept (closed_of nodes kept c) p
 pub gains_law : GainsOfParts
 gains_law nodes p kept d state row g h r c is m all =
     gain_at_part nodes kept (closed_of nodes kept c) g p (tables_of nodes p g h r) d (among_of d kept m)
-    (λ u l k e. among_of u kept (all u (let b = and_both (is_utility (node_at nodes u).kind) (eqb (node_at nodes u).owner (node_at nodes d).owner) k in record {
+    (λ u l k e. among_of u kept (all u (let b = and_both (is_utility (node_at nodes u).kind) (owns nodes (agent_of nodes d) u) k in record {
       within = l;
       kind = kind_of_utility (node_at nodes u).kind b.0;
-      owner = eqb_same (node_at nodes u).owner (node_at nodes d).owner b.1;
+      owner = (any_is (agent_of nodes d) (owners_of nodes u)).0 b.1;
       below = path_from_test nodes d u e;
     })))
     state row
@@ -104,7 +105,7 @@ masses_law nodes p kept d row g h r c is m = mass_at_part nodes kept (closed_of 
 pub agents_gains_law : AgentsGainsOfParts
 agents_gains_law nodes p kept agent g h r c all =
     gain_of_part nodes kept (closed_of nodes kept c) g p (tables_of nodes p g h r) agent
-    (λ u l k. among_of u kept (let b = and_both (is_utility (node_at nodes u).kind) (eqb (node_at nodes u).owner agent) k in all u l (kind_of_utility (node_at nodes u).kind b.0) (eqb_same (node_at nodes u).owner agent b.1)))
+    (λ u l k. among_of u kept (let b = and_both (is_utility (node_at nodes u).kind) (owns nodes agent u) k in all u l (kind_of_utility (node_at nodes u).kind b.0) ((any_is agent (owners_of nodes u)).0 b.1)))
 
 -- the totals of all nodes are those of the part's and those left out
 pub mass_law : MassOfParts

@@ -1,12 +1,12 @@
 -- A part of a diagram is one, within the same limits.
-use Rattle.std.proofs.Common.{◌≡◌, ◌∙◌, ℕ, ◌*◌, ◌<◌, ◌≤◌, cond, List, length, slice_index, slice_index_or, sym, ap, subst, arith, pos, nat_abs, All, eqb, ◌*ℤ◌}
+use Rattle.std.proofs.Common.{◌≡◌, ◌∙◌, ℕ, ◌*◌, ◌<◌, ◌≤◌, cond, List, length, slice_index, slice_index_or, sym, ap, subst, arith, pos, nat_abs, All, eqb, ◌*ℤ◌, Contains, ◌∷◌}
 use Rattle.maid_model.specs.Tables.{table, cell_of, weights_of, rule_total}
 use Rattle.maid_model.specs.declared.diagrams.Kind.TheVariants.{Decision}
 use Rattle.std.proofs.lemmas.List.{length-map}
 use Rattle.std.proofs.Math.Decide.{dec_lt}
 use Rattle.std.specs.List.{range_with_len}
 use Rattle.maid_model.specs.Diagrams.{greatest_number}
-use Rattle.maid_model.specs.Graph.{Arc, Descends}
+use Rattle.maid_model.specs.Graph.{Arc, Descends, AllDifferent}
 use Rattle.maid_model.specs.Nodes.{node_at, states_of, parents_of, rows_of, numbers_of, decisions_of, is_decision}
 use Rattle.finite_sums.specs.Sums.{sum_below, product_over, nat_sum_over}
 use Rattle.maid_model.specs.Views.{NodeView}
@@ -75,7 +75,9 @@ pub diagrams_law : PartsAreDiagrams
 diagrams_law d kept is closed = record {
   graph = graph_is d.nodes kept c is.graph;
   owners = record {
-    agent = λ k l n. subst (λ x. x.owner < d.agents) (sym (node k l)) (is.owners.agent (slice_index kept k) (c.within (slice_index kept k) (old_in d.nodes kept c k (inside d.nodes kept c k l))) (λ e. n (ap (λ x. x.kind) (node k l) ∙ e)));
+    agent = λ k a l n o. is.owners.agent (slice_index kept k) a (c.within (slice_index kept k) (old_in d.nodes kept c k (inside d.nodes kept c k l))) (λ e. n (ap (λ x. x.kind) (node k l) ∙ e)) (subst (λ x. Contains (x.owner ∷ x.more) a) (node k l) o);
+    differ = λ k. let o = some_old d.nodes kept c k in subst (λ x. AllDifferent (x.owner ∷ x.more)) (sym o.1) (is.owners.differ o.0);
+    one = λ k n. let o = some_old d.nodes kept c k in ap (λ x. x.more) o.1 ∙ is.owners.one o.0 (λ e. n (ap (λ x. x.kind) o.1 ∙ e));
     chance = λ k e. let o = some_old d.nodes kept c k in ap (λ x. x.owner) o.1 ∙ is.owners.chance o.0 (sym (ap (λ x. x.kind) o.1) ∙ e);
   };
   tables = tables_are d.nodes kept c is.tables;

@@ -1,12 +1,12 @@
 -- A sum over the worlds of a diagram as one over the worlds of a part.
-use Rattle.std.proofs.Common.{◌≡◌, ◌⊎◌, ◌∙◌, ℕ, ◌+◌, ◌<◌, Bool, true, false, not, cond, ◌&&◌, eqb, filter, List, [], ◌∷◌, ◌++◌, length, slice_index, slice_index_or, refl, sym, ap, subst, inl, inr, arith, ℤ, pos, ◌+ℤ◌, ◌*ℤ◌}
+use Rattle.std.proofs.Common.{◌≡◌, ◌⊎◌, ◌∙◌, ℕ, ◌+◌, ◌<◌, Bool, true, false, not, cond, ◌&&◌, eqb, filter, List, [], ◌∷◌, ◌++◌, length, slice_index, slice_index_or, refl, sym, ap, subst, inl, inr, arith, ℤ, pos, ◌+ℤ◌, ◌*ℤ◌, ◌==◌}
 use Rattle.std.proofs.Math.IntN.{+ℤ_idl}
 use Rattle.std.proofs.lemmas.Int.{ints}
 use Rattle.std.proofs.Math.Path.{fun_ext}
-use Rattle.std.specs.List.{range_with_len}
+use Rattle.std.specs.List.{range_with_len, list_any}
 use Rattle.maid_model.specs.Gains.{sum_worlds, weight, value_for, utility, gain_of, table_without, weight_without, value_below, utility_below, is_at, gain_at, mass_at}
 use Rattle.maid_model.specs.Graph.{Arc, Descends, IsGraph, descends}
-use Rattle.maid_model.specs.Nodes.{node_at, states_of, numbers_of, is_utility, is_utility_of}
+use Rattle.maid_model.specs.Nodes.{node_at, states_of, numbers_of, is_utility, is_utility_of, agent_of}
 use Rattle.finite_sums.specs.Sums.{World, with_state, sum_over, sum_each, product_over}
 use Rattle.maid_model.specs.Tables.{table, row_of}
 use Rattle.maid_model.specs.Views.{NodeView, RuleView}
@@ -168,7 +168,7 @@ module _ (nodes : List NodeView) (kept : List ℕ) (c : Closed nodes kept) where
 
     -- ---- utilities
     pub value_is : (agent k : ℕ) (x : World) → k < length kept → value_for (part_of nodes kept) agent k x ≡ value_for nodes agent (slice_index kept k) (spread kept x)
-    value_is agent k x l = λ i. cond (is_utility (node_is nodes kept c k l i).kind && eqb (node_is nodes kept c k l i).owner agent) (slice_index_or (node_is nodes kept c k l i).cells (row_is nodes kept c x k l i) (pos 0)) (pos 0)
+    value_is agent k x l = λ i. cond (is_utility (node_is nodes kept c k l i).kind && list_any (λ a. a == agent) ((node_is nodes kept c k l i).owner ∷ (node_is nodes kept c k l i).more)) (slice_index_or (node_is nodes kept c k l i).cells (row_is nodes kept c x k l i) (pos 0)) (pos 0)
 
     value_blind : (agent v u : ℕ) → Among v kept → ¬ (Among u kept) → Ignores (states_of nodes) (value_for nodes agent v) u
     value_blind agent v u m n = record {
@@ -235,7 +235,7 @@ module _ (nodes : List NodeView) (kept : List ℕ) (c : Closed nodes kept) where
           as_factor true a = sym (one_mul a)
           as_factor false a = sym (zero_mul a)
 
-      owner_is : (node_at (part_of nodes kept) (place_in kept d)).owner ≡ (node_at nodes d).owner
+      owner_is : agent_of (part_of nodes kept) (place_in kept d) ≡ agent_of nodes d
       owner_is = ap (λ n. n.owner) (node_new nodes kept c d d_in)
 
       below_same : (k : ℕ) → k < length kept → descends (part_of nodes kept) (place_in kept d) k ≡ descends nodes d (slice_index kept k)
@@ -247,13 +247,13 @@ module _ (nodes : List NodeView) (kept : List ℕ) (c : Closed nodes kept) where
       below_is : (k : ℕ) (x : World) → k < length kept → value_below (part_of nodes kept) (place_in kept d) k x ≡ value_below nodes d (slice_index kept k) (spread kept x)
       below_is k x l =
           (λ i. cond (below_same k l i) (value_for (part_of nodes kept) (owner_is i) k x) (pos 0))
-          ∙ ap (λ y. cond (descends nodes d (slice_index kept k)) y (pos 0)) (value_is (node_at nodes d).owner k x l)
+          ∙ ap (λ y. cond (descends nodes d (slice_index kept k)) y (pos 0)) (value_is (agent_of nodes d) k x l)
 
       below_blind : (v u : ℕ) → Among v kept → ¬ (Among u kept) → Ignores (states_of nodes) (value_below nodes d v) u
-      below_blind v u m n = record { same = λ w i s l. ap (λ y. cond (descends nodes d v) y (pos 0)) ((value_blind (node_at nodes d).owner v u m n).same w i s l) }
+      below_blind v u m n = record { same = λ w i s l. ap (λ y. cond (descends nodes d v) y (pos 0)) ((value_blind (agent_of nodes d) v u m n).same w i s l) }
 
       -- G of a kept decision all of whose goals are kept
-      pub gain_at_part : ((u : ℕ) → u < length nodes → is_utility_of nodes (node_at nodes d).owner u ≡ true → descends nodes d u ≡ true → Among u kept) → (state row : ℕ)
+      pub gain_at_part : ((u : ℕ) → u < length nodes → is_utility_of nodes (agent_of nodes d) u ≡ true → descends nodes d u ≡ true → Among u kept) → (state row : ℕ)
           → gain_at nodes p d state row ≡ pos (mass_left_out nodes p kept) *ℤ gain_at (part_of nodes kept) (rules_in nodes p kept) (place_in kept d) state row
       gain_at_part all state row =
           ap (sum_worlds nodes) (fun_ext (λ x. cond_first (is_at nodes d state row x) (weight_without nodes p d x) (utility_below nodes d x) ∙ ap (λ y. cond (is_at nodes d state row x) y (pos 0) *ℤ weight_without nodes p d x) (in_kept x)))
@@ -265,9 +265,9 @@ module _ (nodes : List NodeView) (kept : List ℕ) (c : Closed nodes kept) where
           (fun_ext (λ x. sym (cond_first (is_at (part_of nodes kept) (place_in kept d) state row x) (weight_without (part_of nodes kept) (rules_in nodes p kept) (place_in kept d) x) (utility_below (part_of nodes kept) (place_in kept d) x))))
         where
           in_kept : (x : World) → utility_below nodes d x ≡ sum_each (λ v. value_below nodes d v x) kept
-          in_kept x = sum_in (λ v. value_below nodes d v x) (λ v l n. none v l n (true_or_false (descends nodes d v)) (true_or_false (is_utility_of nodes (node_at nodes d).owner v)))
+          in_kept x = sum_in (λ v. value_below nodes d v x) (λ v l n. none v l n (true_or_false (descends nodes d v)) (true_or_false (is_utility_of nodes (agent_of nodes d) v)))
             where
-              none : (v : ℕ) → v < length nodes → ¬ (Among v kept) → (descends nodes d v ≡ true) ⊎ (descends nodes d v ≡ false) → (is_utility_of nodes (node_at nodes d).owner v ≡ true) ⊎ (is_utility_of nodes (node_at nodes d).owner v ≡ false) → value_below nodes d v x ≡ pos 0
-              none v l n (inr e) k = ap (λ b. cond b (value_for nodes (node_at nodes d).owner v x) (pos 0)) e
+              none : (v : ℕ) → v < length nodes → ¬ (Among v kept) → (descends nodes d v ≡ true) ⊎ (descends nodes d v ≡ false) → (is_utility_of nodes (agent_of nodes d) v ≡ true) ⊎ (is_utility_of nodes (agent_of nodes d) v ≡ false) → value_below nodes d v x ≡ pos 0
+              none v l n (inr e) k = ap (λ b. cond b (value_for nodes (agent_of nodes d) v x) (pos 0)) e
               none v l n (inl e) (inl k) = absurd (n (all v l k e))
-              none v l n (inl e) (inr k) = ap (λ b. cond b (value_for nodes (node_at nodes d).owner v x) (pos 0)) e ∙ ap (λ b. cond b (slice_index_or (node_at nodes v).cells (row_of nodes v x) (pos 0)) (pos 0)) k
+              none v l n (inl e) (inr k) = ap (λ b. cond b (value_for nodes (agent_of nodes d) v x) (pos 0)) e ∙ ap (λ b. cond b (slice_index_or (node_at nodes v).cells (row_of nodes v x) (pos 0)) (pos 0)) k

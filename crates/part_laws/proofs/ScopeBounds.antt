@@ -10,7 +10,7 @@ use Rattle.maid_model.specs.declared.diagrams.Kind.TheVariants.{Chance, Decision
 use Rattle.maid_model.specs.Bounds.{bound_by, bound_factor}
 use Rattle.maid_model.specs.Gains.{sum_worlds, weight, mass, value_for, utility, gain_of, table_without, weight_without, value_below, utility_below, is_at, gain_at, mass_at, greatest_abs, greatest_utility, base_total, base_mass}
 use Rattle.maid_model.specs.Graph.{Arc, IsPath, Here, Along, IsGraph, descends}
-use Rattle.maid_model.specs.Nodes.{IsDecision, node_at, states_of, numbers_of, is_utility, is_utility_of}
+use Rattle.maid_model.specs.Nodes.{IsDecision, node_at, states_of, numbers_of, is_utility, is_utility_of, owns, agent_of}
 use Rattle.maid_model.specs.Profiles.{IsProfile}
 use Rattle.finite_sums.specs.Sums.{World, InRange, with_state, sum_below, sum_over, sum_each, nat_product_over, nat_sum_over}
 use Rattle.maid_model.specs.Tables.{HasChanceTables, table, row_of, weight_total, total_by, chance_total, rule_total}
@@ -113,7 +113,7 @@ as_one x b h = omega (arith, ints)
 
 module _ (nodes : List NodeView) (g : IsGraph nodes) (p : List RuleView) (t : HasTables nodes p) where
   value_le : (agent v : ℕ) (w : World) → nat_abs (value_for nodes agent v w) ≤ cond (is_utility (node_at nodes v).kind) (greatest_abs (node_at nodes v).cells) 0
-  value_le agent v w = go (is_utility (node_at nodes v).kind) (eqb (node_at nodes v).owner agent)
+  value_le agent v w = go (is_utility (node_at nodes v).kind) (owns nodes agent v)
     where
       go : (a b : Bool) → nat_abs (cond (a && b) (slice_index_or (node_at nodes v).cells (row_of nodes v w) (pos 0)) (pos 0)) ≤ cond a (greatest_abs (node_at nodes v).cells) 0
       go true true = cell_le (node_at nodes v).cells (row_of nodes v w)
@@ -126,8 +126,8 @@ module _ (nodes : List NodeView) (g : IsGraph nodes) (p : List RuleView) (t : Ha
   below_utility_le : (d : ℕ) (w : World) → nat_abs (utility_below nodes d w) ≤ greatest_utility nodes
   below_utility_le d w = each_le (λ v. value_below nodes d v w) (λ v. cond (is_utility (node_at nodes v).kind) (greatest_abs (node_at nodes v).cells) 0) (numbers_of nodes) (λ v. go (descends nodes d v) v)
     where
-      go : (b : Bool) (v : ℕ) → nat_abs (cond b (value_for nodes (node_at nodes d).owner v w) (pos 0)) ≤ cond (is_utility (node_at nodes v).kind) (greatest_abs (node_at nodes v).cells) 0
-      go true v = value_le (node_at nodes d).owner v w
+      go : (b : Bool) (v : ℕ) → nat_abs (cond b (value_for nodes (agent_of nodes d) v w) (pos 0)) ≤ cond (is_utility (node_at nodes v).kind) (greatest_abs (node_at nodes v).cells) 0
+      go true v = value_le (agent_of nodes d) v w
       go false v = omega arith
 
   range : InRange (states_of nodes) (λ v. 0)
@@ -363,18 +363,18 @@ decisions_law d p v g h r is small =
     base_le : base_mass (part_of d.nodes (scope_of d.nodes v)) (rules_in d.nodes p (scope_of d.nodes v)) (place_in (scope_of d.nodes v) v) ≤ scope_product d.nodes v
     base_le = base_part d.nodes (scope_of d.nodes v) closed p v (scope_has d.nodes g v is v v (inl refl) Here) is.kind small
 
-    toward : (u : ℕ) → Among u (v ∷ goals_of d.nodes v) → (node_at d.nodes u).kind ≡ Utility → (is_utility_of d.nodes (node_at d.nodes v).owner u && descends d.nodes v u) ≡ true
+    toward : (u : ℕ) → Among u (v ∷ goals_of d.nodes v) → (node_at d.nodes u).kind ≡ Utility → (is_utility_of d.nodes (agent_of d.nodes v) u && descends d.nodes v u) ≡ true
     toward u (inl e) k = absurd (no_both (sym is.kind ∙ ap (λ x. (node_at d.nodes x).kind) (sym e) ∙ k))
       where
         no_both : Decision ≡ Utility → ⊥
         no_both f = cc
-    toward u (inr m) k = (among_filter (λ x. is_utility_of d.nodes (node_at d.nodes v).owner x && descends d.nodes v x) u (numbers_of d.nodes) m).1
+    toward u (inr m) k = (among_filter (λ x. is_utility_of d.nodes (agent_of d.nodes v) x && descends d.nodes v x) u (numbers_of d.nodes) m).1
 
-    back : (u : ℕ) → u < length d.nodes → (is_utility_of d.nodes (node_at d.nodes v).owner u && descends d.nodes v u) ≡ true → Among u (v ∷ goals_of d.nodes v) × (is_utility (node_at d.nodes u).kind ≡ true)
-    back u l e = (inr (among_filter_in (λ x. is_utility_of d.nodes (node_at d.nodes v).owner x && descends d.nodes v x) u (numbers_of d.nodes) (number d.nodes u l) e), (and_both (is_utility (node_at d.nodes u).kind) (eqb (node_at d.nodes u).owner (node_at d.nodes v).owner) (and_both (is_utility_of d.nodes (node_at d.nodes v).owner u) (descends d.nodes v u) e).0).0)
+    back : (u : ℕ) → u < length d.nodes → (is_utility_of d.nodes (agent_of d.nodes v) u && descends d.nodes v u) ≡ true → Among u (v ∷ goals_of d.nodes v) × (is_utility (node_at d.nodes u).kind ≡ true)
+    back u l e = (inr (among_filter_in (λ x. is_utility_of d.nodes (agent_of d.nodes v) x && descends d.nodes v x) u (numbers_of d.nodes) (number d.nodes u l) e), (and_both (is_utility (node_at d.nodes u).kind) (owns d.nodes (agent_of d.nodes v) u) (and_both (is_utility_of d.nodes (agent_of d.nodes v) u) (descends d.nodes v u) e).0).0)
 
     most : greatest_utility (part_of d.nodes (scope_of d.nodes v)) ≡ greatest_of d.nodes (goals_of d.nodes v)
-    most = utility_part d.nodes (scope_of d.nodes v) closed ∙ kept_utilities d.nodes g (v ∷ goals_of d.nodes v) (λ u. is_utility_of d.nodes (node_at d.nodes v).owner u && descends d.nodes v u) toward back
+    most = utility_part d.nodes (scope_of d.nodes v) closed ∙ kept_utilities d.nodes g (v ∷ goals_of d.nodes v) (λ u. is_utility_of d.nodes (agent_of d.nodes v) u && descends d.nodes v u) toward back
 
 pub agents_law : SumsOfAgentsScopesFit
 agents_law d p agent g h r unit =
@@ -411,7 +411,7 @@ agents_law d p agent g h r unit =
     mass_le = mass_part d.nodes (scope_for d.nodes agent) closed p unit
 
     back : (u : ℕ) → u < length d.nodes → is_utility_of d.nodes agent u ≡ true → Among u (utilities_for d.nodes agent) × (is_utility (node_at d.nodes u).kind ≡ true)
-    back u l e = (among_filter_in (is_utility_of d.nodes agent) u (numbers_of d.nodes) (number d.nodes u l) e, (and_both (is_utility (node_at d.nodes u).kind) (eqb (node_at d.nodes u).owner agent) e).0)
+    back u l e = (among_filter_in (is_utility_of d.nodes agent) u (numbers_of d.nodes) (number d.nodes u l) e, (and_both (is_utility (node_at d.nodes u).kind) (owns d.nodes agent u) e).0)
 
     most : greatest_utility (part_of d.nodes (scope_for d.nodes agent)) ≡ greatest_of d.nodes (utilities_for d.nodes agent)
     most = utility_part d.nodes (scope_for d.nodes agent) closed ∙ kept_utilities d.nodes g (utilities_for d.nodes agent) (is_utility_of d.nodes agent) (λ u m k. (among_filter (is_utility_of d.nodes agent) u (numbers_of d.nodes) m).1) back

@@ -1,18 +1,18 @@
 -- The laws of scopes, for every diagram.
-use Rattle.std.proofs.Common.{◌≡◌, ◌⊎◌, ℕ, ◌<◌, true, ◌&&◌, eqb, List, ◌∷◌, length, refl, sym, ap, subst, inl, inr}
+use Rattle.std.proofs.Common.{◌≡◌, ◌⊎◌, ℕ, ◌<◌, true, ◌&&◌, List, ◌∷◌, length, refl, sym, ap, subst, inl, inr}
 use Rattle.maid_model.specs.declared.diagrams.Kind.TheVariants.{Utility}
 use Rattle.maid_model.specs.Graph.{Arc, IsPath, IsPathTo, Here, Along, IsGraph, descends}
-use Rattle.maid_model.specs.Nodes.{IsDecision, node_at, numbers_of, is_utility, is_utility_of}
+use Rattle.maid_model.specs.Nodes.{IsDecision, node_at, numbers_of, is_utility, is_utility_of, owns, Owns, agent_of, owners_of}
 use Rattle.maid_model.specs.Relevance.{IsLive, IsInFamily, IsGoal}
 use Rattle.maid_model.specs.Views.{NodeView}
 use Rattle.maid_model.proofs.Descent.{path_from_test, test_from_path}
 use Rattle.finite_sums.proofs.Lists.{among_filter}
+use Rattle.finite_sums.proofs.Members.{any_is}
 use Rattle.finite_sums.specs.Members.{Among}
 use Rattle.part_laws.specs.Parts.{IsAncestral}
 use Rattle.part_laws.specs.Scopes.{goals_of, utilities_for, scope_of, scope_for, IsInScope}
 use Rattle.part_laws.specs.ScopeLaws.{ScopesAreParts, AgentsScopesAreParts, ReliesInScope}
 use Rattle.maid_laws.proofs.Basis.{among_filter_in}
-use Rattle.maid_laws.proofs.Booleans.{eqb_yes, eqb_same}
 use Rattle.maid_laws.proofs.Leads.{Leads, ends, head_down, head_up}
 use Rattle.maid_laws.proofs.Members.{among_of, contains_of, arc_of}
 use Rattle.maid_laws.proofs.Notions.{IsParent}
@@ -28,15 +28,15 @@ module _ (nodes : List NodeView) (g : IsGraph nodes) (d : ℕ) (is : IsDecision 
   pub target_of : (u : ℕ) → Among u (d ∷ goals_of nodes d) → (u ≡ d) ⊎ IsGoal nodes d u
   target_of u (inl e) = inl e
   target_of u (inr m) =
-      let r = among_filter (λ x. is_utility_of nodes (node_at nodes d).owner x && descends nodes d x) u (numbers_of nodes) m in
-      let a = and_both (is_utility_of nodes (node_at nodes d).owner u) (descends nodes d u) r.1 in
-      let b = and_both (is_utility (node_at nodes u).kind) (eqb (node_at nodes u).owner (node_at nodes d).owner) a.0 in
-      inr (record { within = numbered nodes u r.0; kind = kind_of_utility (node_at nodes u).kind b.0; owner = eqb_same (node_at nodes u).owner (node_at nodes d).owner b.1; below = path_from_test nodes d u a.1 })
+      let r = among_filter (λ x. is_utility_of nodes (agent_of nodes d) x && descends nodes d x) u (numbers_of nodes) m in
+      let a = and_both (is_utility_of nodes (agent_of nodes d) u) (descends nodes d u) r.1 in
+      let b = and_both (is_utility (node_at nodes u).kind) (owns nodes (agent_of nodes d) u) a.0 in
+      inr (record { within = numbered nodes u r.0; kind = kind_of_utility (node_at nodes u).kind b.0; owner = (any_is (agent_of nodes d) (owners_of nodes u)).0 b.1; below = path_from_test nodes d u a.1 })
 
   pub goal_listed : (u : ℕ) → IsGoal nodes d u → Among u (goals_of nodes d)
   goal_listed u h =
-      among_filter_in (λ x. is_utility_of nodes (node_at nodes d).owner x && descends nodes d x) u (numbers_of nodes) (number nodes u h.within)
-      (λ i. (ap is_utility h.kind i && eqb_yes (node_at nodes u).owner (node_at nodes d).owner h.owner i) && test_from_path nodes d u h.below i)
+      among_filter_in (λ x. is_utility_of nodes (agent_of nodes d) x && descends nodes d x) u (numbers_of nodes) (number nodes u h.within)
+      (λ i. (ap is_utility h.kind i && (any_is (agent_of nodes d) (owners_of nodes u)).1 h.owner i) && test_from_path nodes d u h.below i)
 
   pub targets_inside : (u : ℕ) → Among u (d ∷ goals_of nodes d) → u < length nodes
   targets_inside u m = elim (target_of u m) [ inl e ↦ subst (λ z. z < length nodes) (sym e) is.within | inr h ↦ h.within ]
@@ -63,8 +63,8 @@ scopes_law nodes d g is = (
 )
 
 module _ (nodes : List NodeView) (g : IsGraph nodes) (agent : ℕ) where
-  pub utility_listed : (u : ℕ) → u < length nodes → (node_at nodes u).kind ≡ Utility → (node_at nodes u).owner ≡ agent → Among u (utilities_for nodes agent)
-  utility_listed u l k o = among_filter_in (is_utility_of nodes agent) u (numbers_of nodes) (number nodes u l) (λ i. ap is_utility k i && eqb_yes (node_at nodes u).owner agent o i)
+  pub utility_listed : (u : ℕ) → u < length nodes → (node_at nodes u).kind ≡ Utility → Owns nodes agent u → Among u (utilities_for nodes agent)
+  utility_listed u l k o = among_filter_in (is_utility_of nodes agent) u (numbers_of nodes) (number nodes u l) (λ i. ap is_utility k i && (any_is agent (owners_of nodes u)).1 o i)
 
   pub utilities_inside : (u : ℕ) → Among u (utilities_for nodes agent) → u < length nodes
   utilities_inside u m = numbered nodes u (among_filter (is_utility_of nodes agent) u (numbers_of nodes) m).0

@@ -1,5 +1,5 @@
 -- The room that the bounds of scopes leave, whose rules are small, and the bound of the whole.
-use Rattle.std.proofs.Common.{◌≡◌, ◌⊎◌, ◌∙◌, ℕ, ◌*◌, ◌^◌, ◌<◌, ◌≤◌, max, Bool, true, false, cond, ◌&&◌, eqb, filter, List, [], ◌∷◌, map, refl, sym, ap, subst, inl, inr, arith}
+use Rattle.std.proofs.Common.{◌≡◌, ◌⊎◌, ◌∙◌, ℕ, ◌*◌, ◌^◌, ◌<◌, ◌≤◌, max, Bool, true, false, cond, ◌&&◌, filter, List, [], ◌∷◌, map, refl, sym, ap, subst, inl, inr, arith}
 use Rattle.std.proofs.Math.Decide.{ℕ_discrete, dec_lt}
 use Rattle.std.proofs.Math.Nat.{mul-le-mul_left, mul-le-mul_right}
 use Rattle.maid_model.specs.declared.diagrams.Kind.{Kind}
@@ -9,7 +9,7 @@ use Rattle.maid_model.specs.Bounds.{bound_by, bound_factor, bound_product}
 use Rattle.maid_model.specs.Diagrams.{greatest_number}
 use Rattle.maid_model.specs.Gains.{greatest_abs, greatest_utility}
 use Rattle.maid_model.specs.Graph.{IsGraph, descends}
-use Rattle.maid_model.specs.Nodes.{node_at, states_of, numbers_of, decisions_of, is_utility, is_utility_of}
+use Rattle.maid_model.specs.Nodes.{node_at, states_of, numbers_of, decisions_of, is_utility, is_utility_of, owns, agent_of}
 use Rattle.maid_model.specs.Profiles.{uniform_rule, pure_rule}
 use Rattle.maid_model.specs.Relevance.{ReliesOn}
 use Rattle.maid_model.specs.Tables.{rule_total, chance_total}
@@ -125,11 +125,11 @@ pub weaker_law : ScopedBoundsAreWeaker
 weaker_law d g h k = record {
   decisions = λ v is. trans (product_bound (scope_product d.nodes v) (bound_product d.nodes) (10 ^ d.decimals) (greatest_of d.nodes (goals_of d.nodes v)) (greatest_utility d.nodes)
       (some_factors_le (bound_factor d.nodes) (leads_to d.nodes (v ∷ goals_of d.nodes v)) (numbers_of d.nodes) (λ u. one (factors_positive d.nodes g h u)))
-      (utilities_le d.nodes (λ u. is_utility_of d.nodes (node_at d.nodes v).owner u && descends d.nodes v u) (λ u e. first_test d.nodes (is_utility (node_at d.nodes u).kind) (eqb (node_at d.nodes u).owner (node_at d.nodes v).owner) (first_test d.nodes (is_utility_of d.nodes (node_at d.nodes v).owner u) (descends d.nodes v u) e)))) k;
+      (utilities_le d.nodes (λ u. is_utility_of d.nodes (agent_of d.nodes v) u && descends d.nodes v u) (λ u e. first_test d.nodes (is_utility (node_at d.nodes u).kind) (owns d.nodes (agent_of d.nodes v) u) (first_test d.nodes (is_utility_of d.nodes (agent_of d.nodes v) u) (descends d.nodes v u) e)))) k;
   agents = λ agent l. trans (product_bound (scope_product_for d.nodes agent) (bound_product d.nodes) (10 ^ d.decimals) (greatest_of d.nodes (utilities_for d.nodes agent)) (greatest_utility d.nodes)
       (trans (some_factors_le (λ v. chance_factor_by (node_at d.nodes v).kind (chance_total d.nodes v)) (leads_to d.nodes (utilities_for d.nodes agent)) (numbers_of d.nodes) (λ u. one (chances_positive d.nodes h u)))
       (product_le (λ v. chance_factor_by (node_at d.nodes v).kind (chance_total d.nodes v)) (bound_factor d.nodes) (numbers_of d.nodes) (λ u m. chance_le d.nodes g u)))
-      (utilities_le d.nodes (is_utility_of d.nodes agent) (λ u e. first_test d.nodes (is_utility (node_at d.nodes u).kind) (eqb (node_at d.nodes u).owner agent) e))) k;
+      (utilities_le d.nodes (is_utility_of d.nodes agent) (λ u e. first_test d.nodes (is_utility (node_at d.nodes u).kind) (owns d.nodes agent u) e))) k;
 }
   where
     trans : {a b c : ℕ} → a ≤ b → b ≤ c → a ≤ c

@@ -3,7 +3,7 @@ use Rattle.std.specs.Prelude.{◌≡◌, ◌↔◌, ℕ, ◌<◌, ◌*◌, List,
 use Rattle.maid_model.specs.declared.answers.Ratio.{Ratio}
 use Rattle.maid_model.specs.declared.diagrams.Kind.TheVariants.{Utility}
 use Rattle.maid_model.specs.Views.{NodeView, DiagramView, RuleView}
-use Rattle.maid_model.specs.Nodes.{IsDecision, node_at, rows_of}
+use Rattle.maid_model.specs.Nodes.{IsDecision, node_at, rows_of, Owns}
 use Rattle.maid_model.specs.Graph.{Arc, IsPath, Descends, IsGraph}
 use Rattle.maid_model.specs.Diagrams.{IsDiagram}
 use Rattle.maid_model.specs.Tables.{HasChanceTables, weights_of, rule_total}
@@ -84,7 +84,7 @@ MassesOfParts =
 abbrev pub AgentsGainsOfParts : Type 0
 AgentsGainsOfParts =
     (nodes : List NodeView) (p : List RuleView) (kept : List ℕ) (agent : ℕ) → IsGraph nodes → HasChanceTables nodes → IsProfile nodes p → IsAncestral nodes kept
-    → ((u : ℕ) → u < length nodes → (node_at nodes u).kind ≡ Utility → (node_at nodes u).owner ≡ agent → Contains kept u)
+    → ((u : ℕ) → u < length nodes → (node_at nodes u).kind ≡ Utility → Owns nodes agent u → Contains kept u)
     → gain_of nodes p agent ≡ pos (mass_left_out nodes p kept) *ℤ gain_of (part_of nodes kept) (rules_in nodes p kept) agent
 
 -- So is the mass of a profile, in any part.
@@ -108,7 +108,7 @@ abbrev pub LawOfParts : Type 0
 LawOfParts =
     (nodes : List NodeView) (p : List RuleView) (of : List ℕ) → IsGraph nodes → HasChanceTables nodes → IsProfile nodes p → ((v : ℕ) → Contains of v → v < length nodes)
     → ((d : ℕ) → IsDecision nodes d → Contains of d → ((u : ℕ) → IsGoal nodes d u → Contains of u) → HasDecisionsSums nodes p (with_ancestors nodes of) d)
-    × ((agent : ℕ) → ((u : ℕ) → u < length nodes → (node_at nodes u).kind ≡ Utility → (node_at nodes u).owner ≡ agent → Contains of u) → HasAgentsSums nodes p (with_ancestors nodes of) agent)
+    × ((agent : ℕ) → ((u : ℕ) → u < length nodes → (node_at nodes u).kind ≡ Utility → Owns nodes agent u → Contains of u) → HasAgentsSums nodes p (with_ancestors nodes of) agent)
 
 -- The totals left out are above nought.
 abbrev pub LeftOutIsPositive : Type 0
@@ -132,5 +132,5 @@ ChoicesOfParts =
 abbrev pub WorthsOfParts : Type 0
 WorthsOfParts =
     (nodes : List NodeView) (p : List RuleView) (kept : List ℕ) (agent scale : ℕ) (w : Ratio) → IsGraph nodes → HasChanceTables nodes → IsProfile nodes p → IsAncestral nodes kept
-    → ((u : ℕ) → u < length nodes → (node_at nodes u).kind ≡ Utility → (node_at nodes u).owner ≡ agent → Contains kept u)
+    → ((u : ℕ) → u < length nodes → (node_at nodes u).kind ≡ Utility → Owns nodes agent u → Contains kept u)
     → IsExpectedUtility nodes scale p agent w ↔ IsExpectedUtility (part_of nodes kept) scale (rules_in nodes p kept) agent w

@@ -2,7 +2,7 @@
 use Rattle.std.specs.Prelude.{◌≡◌, ◌≢◌, ◌⊎◌, ◌↔◌, ℕ, ◌<◌, ◌≤◌, ◌*◌, ◌^◌, max, List, length, Contains, nat_abs}
 use Rattle.maid_model.specs.declared.diagrams.Kind.TheVariants.{Utility}
 use Rattle.maid_model.specs.Views.{NodeView, DiagramView, RuleView, AnswerView}
-use Rattle.maid_model.specs.Nodes.{IsDecision, node_at, states_of}
+use Rattle.maid_model.specs.Nodes.{IsDecision, node_at, states_of, Owns}
 use Rattle.maid_model.specs.Graph.{IsGraph}
 use Rattle.finite_sums.specs.Sums.{nat_product_over}
 use Rattle.maid_model.specs.Diagrams.{greatest_number}
@@ -29,7 +29,7 @@ abbrev pub AgentsScopesAreParts : Type 0
 AgentsScopesAreParts =
     (nodes : List NodeView) (agent : ℕ) → IsGraph nodes
     → IsAncestral nodes (scope_for nodes agent)
-    × ((u : ℕ) → u < length nodes → (node_at nodes u).kind ≡ Utility → (node_at nodes u).owner ≡ agent → Contains (scope_for nodes agent) u)
+    × ((u : ℕ) → u < length nodes → (node_at nodes u).kind ≡ Utility → Owns nodes agent u → Contains (scope_for nodes agent) u)
 
 -- A decision relies only on decisions of its scope.
 abbrev pub ReliesInScope : Type 0

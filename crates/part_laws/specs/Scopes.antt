@@ -3,7 +3,7 @@ use Rattle.std.specs.Prelude.{◌≡◌, ◌⊎◌, ℕ, ◌<◌, ◌≤◌, ◌
 use Rattle.maid_model.specs.declared.diagrams.Kind.{Kind}
 use Rattle.maid_model.specs.declared.diagrams.Kind.TheVariants.{Chance, Decision, Utility}
 use Rattle.maid_model.specs.Views.{NodeView, DiagramView, RuleView}
-use Rattle.maid_model.specs.Nodes.{IsDecision, node_at, numbers_of, is_utility_of}
+use Rattle.maid_model.specs.Nodes.{IsDecision, node_at, numbers_of, is_utility_of, agent_of}
 use Rattle.maid_model.specs.Graph.{Arc, IsPath, descends}
 use Rattle.finite_sums.specs.Sums.{nat_product_over, nat_sum_over}
 use Rattle.maid_model.specs.Tables.{chance_total}
@@ -15,7 +15,7 @@ use Rattle.part_laws.specs.Parts.{with_ancestors, place_in, part_of, rules_in}
 
 -- the utilities of d's agent that descend from d
 abbrev pub goals_of : List NodeView → ℕ → List ℕ
-goals_of nodes d = filter (λ u. is_utility_of nodes (node_at nodes d).owner u && descends nodes d u) (numbers_of nodes)
+goals_of nodes d = filter (λ u. is_utility_of nodes (agent_of nodes d) u && descends nodes d u) (numbers_of nodes)
 
 -- the utilities of the agent
 abbrev pub utilities_for : List NodeView → ℕ → List ℕ
