@@ -1,12 +1,12 @@
 #!/usr/bin/env python3
 """Writes crates/worked_rows/stdin and stdout from worked rows given as data.
 
-    bench/rows.py STAGE ROWS.json..
+    bench/rows.py CHANGES ROWS.json..
 
 The rows of our own are bench/more_rows.json, each with why it is there. What must come is taken from
-the data alone and never from the program. STAGE is the number of
-changes made so far: a row holds from one such number to another. To take up a new form of words,
-add it to FORMS and run this again. Of a row that tells only that a line is among those of `out`,
+the data alone and never from the program. CHANGES are the numbers of the changes made so far, as in
+`11,15`: all up to 11, and 15. A row holds from the change that makes it to the last before the one that
+ends it. To take up a new form of words, add it to FORMS and run this again. Of a row that tells only that a line is among those of `out`,
 no more than the status and `err` are compared.
 
 A file is given as pieces, each a text and how often it stands there, one behind the other; `out_is` and
@@ -87,14 +87,16 @@ def told(row):
     return parts
 
 
-def is_taken(row, stage):
+def is_taken(row, changes):
     first = row["words"][0] if row["words"] else ""
-    holds = row.get("from", 0) <= stage and (row.get("to") is None or stage <= row["to"])
-    return holds and (first in FORMS or first not in ALL_FORMS)
+    begun = row.get("from", 0) in changes
+    ended = row.get("to") is not None and row["to"] + 1 in changes
+    return begun and not ended and (first in FORMS or first not in ALL_FORMS)
 
 
 def main():
-    stage = int(sys.argv[1])
+    whole_up_to, *alone = map(int, sys.argv[1].split(","))
+    changes = {*range(whole_up_to + 1), *alone}
     rows = []
     for name in sys.argv[2:]:
         with open(name, encoding="utf-8") as file:
@@ -102,7 +104,7 @@ def main():
     # Of rows that run on the same, the one that tells most counts.
     runs = {}
     for row in rows:
-        if is_taken(row, stage):
+        if is_taken(row, changes):
             given, parts = tuple(given_lines(row)), told(row)
             if given not in runs or len(parts) > len(runs[given][2]):
                 runs[given] = (row["words"], row["status"], parts)
