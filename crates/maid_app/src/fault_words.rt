@@ -141,6 +141,7 @@ pub fn kind_words(
         BuildKind::BadStates => b"bad states",
         BuildKind::BadLabel => b"bad label",
         BuildKind::BadAgent => b"bad agent",
+        BuildKind::RepeatedAgent => b"repeated agent",
         BuildKind::UnknownName => b"unknown name",
         BuildKind::DoublePotential => b"double potential",
         BuildKind::RepeatedParent => b"repeated parent",
