@@ -1,7 +1,7 @@
 -- What the words of a table keep: where each part finds nothing or a fault, or never both, or one fault at most, so does the whole.
 use Rattle.std.proofs.Common.{◌≡◌, Bool, true, false, inl, inr, List, [], ◌∷◌, ◌++◌, None, Some, refl, sym, ◌∙◌, ap, subst}
 use Rattle.first_fault.specs.Passes.{Pass, clear, rule, always, only, ◌▸◌, each, each_after, over}
-use Rattle.first_fault.specs.Properties.{IsCovered, IsNeverUncovered, IsExclusive, HasOne, FindsOnly}
+use Rattle.first_fault.specs.Properties.{IsCovered, IsExclusive, HasOne, FindsOnly}
 
 -- A fault or none. A row's condition has to be decided.
 pub clear_covered : {Fault : Type 0} → IsCovered (clear {Fault = Fault})
@@ -38,44 +38,38 @@ pub over_covered : {A Fault : Type 0} (IsIt : A → Type 0) (P : A → Pass Faul
 over_covered IsIt P x is (inl nothing) = inl (x, is, nothing)
 over_covered IsIt P x is (inr found) = inr (found.0, (x, is, found.1))
 
--- Never neither. A row's condition need not be decided.
+-- The same as a record, from which the pass can be read off.
 pub record IsWhole {Fault : Type 0} (P : Pass Fault) : Type 0 where
-  pub never : IsNeverUncovered P
+  pub covered : IsCovered P
 
 pub covered_whole : {Fault : Type 0} {P : Pass Fault} → IsCovered P → IsWhole P
-covered_whole h = record { never = λ k. k h }
+covered_whole h = record { covered = h }
 
 pub clear_whole : {Fault : Type 0} → IsWhole (clear {Fault = Fault})
-clear_whole = record { never = λ k. k (inl tt) }
+clear_whole = record { covered = clear_covered }
 
-pub rule_whole : {Fault : Type 0} (Applies : Type 0) (fault : Fault) → IsWhole (rule Applies fault)
-rule_whole Applies fault = record { never = λ k. k (inl (λ h. k (inr (fault, (h, refl))))) }
+pub rule_whole : {Fault : Type 0} (Applies : Type 0) (fault : Fault) → Dec Applies → IsWhole (rule Applies fault)
+rule_whole Applies fault h = record { covered = rule_covered Applies fault h }
 
 pub only_whole : {Fault : Type 0} (b : Bool) {P : Pass Fault} → IsWhole P → IsWhole (only b P)
 only_whole true p = p
 only_whole false p = clear_whole
 
-behind_never : {Fault : Type 0} (P Q : Pass Fault) → (P None → IsNeverUncovered Q) → IsCovered P → IsNeverUncovered (P ▸ Q)
-behind_never P Q q (inr found) k = k (inr (found.0, inl found.1))
-behind_never P Q q (inl nothing) k = q nothing (λ h. k (then_covered P Q (inl nothing) (λ _. h)))
-
 -- the second pass may rely on it that the first finds nothing
 pub behind_whole : {Fault : Type 0} (P Q : Pass Fault) → IsWhole P → (P None → IsWhole Q) → IsWhole (P ▸ Q)
-behind_whole P Q p q = record { never = λ k. p.never (λ h. behind_never P Q (λ nothing. (q nothing).never) h k) }
+behind_whole P Q p q = record { covered = then_covered P Q p.covered (λ nothing. (q nothing).covered) }
 
 pub then_whole : {Fault : Type 0} {P Q : Pass Fault} → IsWhole P → IsWhole Q → IsWhole (P ▸ Q)
 then_whole {P = P} {Q = Q} p q = behind_whole P Q p (λ _. q)
 
 pub each_whole : {A Fault : Type 0} {P : A → Pass Fault} → ((x : A) → IsWhole (P x)) → (xs : List A) → IsWhole (each P xs)
-each_whole p [] = clear_whole
-each_whole p (x ∷ xs) = then_whole (p x) (each_whole p xs)
+each_whole {P = P} p xs = record { covered = each_covered P (λ x. (p x).covered) xs }
 
 pub each_after_whole : {A Fault : Type 0} {P : List A → A → Pass Fault} → ((earlier : List A) (x : A) → IsWhole (P earlier x)) → (earlier xs : List A) → IsWhole (each_after P earlier xs)
-each_after_whole p earlier [] = clear_whole
-each_after_whole p earlier (x ∷ xs) = then_whole (p earlier x) (each_after_whole p (earlier ++ x ∷ []) xs)
+each_after_whole {P = P} p earlier xs = record { covered = each_after_covered P (λ before x. (p before x).covered) earlier xs }
 
 pub over_whole : {A Fault : Type 0} (IsIt : A → Type 0) (P : A → Pass Fault) (x : A) → IsIt x → IsWhole (P x) → IsWhole (over IsIt P)
-over_whole IsIt P x is p = record { never = λ k. p.never (λ h. k (over_covered IsIt P x is h)) }
+over_whole IsIt P x is p = record { covered = over_covered IsIt P x is p.covered }
 
 -- Never both, and faults of one look. The look of a fault itself is the fault.
 pub record IsOneBy {Fault Look : Type 0} (look : Fault → Look) (P : Pass Fault) : Type 0 where

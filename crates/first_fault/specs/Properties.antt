@@ -7,10 +7,6 @@ use Rattle.first_fault.specs.Outcomes.{Outcomes}
 abbrev pub IsCovered : {Fault : Type 0} → Pass Fault → Type 0
 IsCovered {Fault = Fault} P = P None ⊎ ((f : Fault) × P (Some f))
 
--- it can't be that it finds neither: what a covered pass says, also where no one can tell which
-abbrev pub IsNeverUncovered : {Fault : Type 0} → Pass Fault → Type 0
-IsNeverUncovered P = (IsCovered P → ⊥) → ⊥
-
 -- and never both
 abbrev pub IsExclusive : {Fault : Type 0} → Pass Fault → Type 0
 IsExclusive {Fault = Fault} P = (f : Fault) → P None → P (Some f) → ⊥

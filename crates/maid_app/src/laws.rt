@@ -1,6 +1,6 @@
 //! Laws of what comes of a file's bytes.
 
-ghost use Rattle.maid_app.specs.Laws.{OneStatus, ClearOrRefused};
+ghost use Rattle.maid_app.specs.Laws.{OneStatus, ClearOrRefused, TextOrFault};
 
 use net_build::{a_tree_has_a_fault_or_none, a_tree_stands_for_one_diagram};
 use net_lexer::every_text_reads_one_way;
@@ -10,6 +10,16 @@ use net_parser::tokens_read_one_way;
 pub fn one_status()
     ensures one { OneStatus }
     ensures clear { ClearOrRefused }
+{
+    every_text_reads_one_way();
+    tokens_read_one_way();
+    a_tree_has_a_fault_or_none();
+    a_tree_stands_for_one_diagram();
+}
+
+/// The bytes of a file stand for a diagram, or have a fault that is told.
+pub fn a_text_has_a_diagram_or_a_fault()
+    ensures { TextOrFault }
 {
     every_text_reads_one_way();
     tokens_read_one_way();

@@ -16,6 +16,7 @@ mod refusal;
 mod running;
 mod status;
 
+pub use laws::a_text_has_a_diagram_or_a_fault;
 pub use running::run;
 pub use status::Status;
 

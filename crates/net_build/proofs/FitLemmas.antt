@@ -25,7 +25,7 @@ below_from a b h = by_order (cases_lt a b) where
   by_order (inl lt) = lt
   by_order (inr ge) = absurd (h (λ lt. omega arith))
 
-not_above : (n limit : ℕ) → (limit < n → ⊥) → n ≤ limit
+pub not_above : (n limit : ℕ) → (limit < n → ⊥) → n ≤ limit
 not_above n limit h = by_order (cases_lt limit n) where
   by_order : (limit < n) ⊎ (n ≤ limit) → n ≤ limit
   by_order (inl gt) = absurd (h gt)

@@ -41,3 +41,8 @@ pub mod RowDivisors
 pub mod PlainTables
 pub mod NameLemmas
 pub mod Covered
+pub mod Telling
+pub mod ScaledOrWide
+pub mod LinksMade
+pub mod TablesMade
+pub mod TreeStands

@@ -193,14 +193,14 @@ counts_same heads counts same (u ∷ us) = ap (λ n. n * rows_over heads us) (sa
 states_same : (text : List ℕ) (ns : List BlockTree) (u : ℕ) → (head_at (map (head_of text ns) ns) u).states ≡ get_or (state_counts text ns) u 1
 states_same text ns u = ap (λ (x : Head). x.states) (head_is text ns u) ∙ sym (get_or-map (block_states text) ns u no_block)
 
-cells_same : (text : List ℕ) (bs : List BlockTree) (v : ℕ) → v < length (node_blocks bs) → cells_at (map (head_of text (node_blocks bs)) (node_blocks bs)) (parent_lists text bs) v ≡ cell_count text bs (get_or (node_blocks bs) v no_block)
+pub cells_same : (text : List ℕ) (bs : List BlockTree) (v : ℕ) → v < length (node_blocks bs) → cells_at (map (head_of text (node_blocks bs)) (node_blocks bs)) (parent_lists text bs) v ≡ cell_count text bs (get_or (node_blocks bs) v no_block)
 cells_same text bs v h =
     ap (λ us. rows_over (map (head_of text (node_blocks bs)) (node_blocks bs)) us * (head_at (map (head_of text (node_blocks bs)) (node_blocks bs)) v).states) (get_or_map_within (λ b. block_parents text bs (block_name text b)) (node_blocks bs) v no_block [] h)
     ∙ ap (λ n. n * (head_at (map (head_of text (node_blocks bs)) (node_blocks bs)) v).states) (counts_same (map (head_of text (node_blocks bs)) (node_blocks bs)) (state_counts text (node_blocks bs)) (states_same text (node_blocks bs)) (block_parents text bs (block_name text (get_or (node_blocks bs) v no_block))))
     ∙ ap (λ (x : Head). row_count text bs (get_or (node_blocks bs) v no_block) * x.states) (head_is text (node_blocks bs) v)
 
 -- the cells of the rules, one node on
-cells_more : (text : List ℕ) (bs earlier : List BlockTree) (b : BlockTree) → rule_cells text bs (earlier ++ b ∷ []) ≡ rule_cells text bs earlier + cond (is_decision (kind_of b.kind)) (cell_count text bs b) 0
+pub cells_more : (text : List ℕ) (bs earlier : List BlockTree) (b : BlockTree) → rule_cells text bs (earlier ++ b ∷ []) ≡ rule_cells text bs earlier + cond (is_decision (kind_of b.kind)) (cell_count text bs b) 0
 cells_more text bs earlier b = ap (λ xs. sum (map (cell_count text bs) xs)) (filter-append (λ x. is_decision (kind_of x.kind)) earlier (b ∷ []))
     ∙ ap sum (map-append (cell_count text bs) (filter (λ x. is_decision (kind_of x.kind)) earlier) (filter (λ x. is_decision (kind_of x.kind)) (b ∷ [])))
     ∙ sum_append (map (cell_count text bs) (filter (λ x. is_decision (kind_of x.kind)) earlier)) (map (cell_count text bs) (filter (λ x. is_decision (kind_of x.kind)) (b ∷ [])))
@@ -209,7 +209,7 @@ cells_more text bs earlier b = ap (λ xs. sum (map (cell_count text bs) xs)) (fi
       last true = omega arith
       last false = refl
 
-rules_same : (text : List ℕ) (bs : List BlockTree) (v : ℕ) → v ≤ length (node_blocks bs) → rules_before (map (head_of text (node_blocks bs)) (node_blocks bs)) (parent_lists text bs) v ≡ rule_cells text bs (take v (node_blocks bs))
+pub rules_same : (text : List ℕ) (bs : List BlockTree) (v : ℕ) → v ≤ length (node_blocks bs) → rules_before (map (head_of text (node_blocks bs)) (node_blocks bs)) (parent_lists text bs) v ≡ rule_cells text bs (take v (node_blocks bs))
 rules_same text bs zero h = refl
 rules_same text bs (suc v) h = let e : v + 1 ≡ suc v = omega arith in let within : v < length (node_blocks bs) = omega arith in
     subst (λ (m : ℕ). rules_before (map (head_of text (node_blocks bs)) (node_blocks bs)) (parent_lists text bs) m ≡ rule_cells text bs (take m (node_blocks bs))) e

@@ -37,7 +37,7 @@ each_all P [] h = All-nil (λ x. P x None)
 each_all P (x ∷ xs) h = All-cons (λ y. P y None) x xs h.0 (each_all P xs h.1)
 
 -- rows that count
-only_on : (b : Bool) (P : Pass Found) → b ≡ true → only b P None → P None
+pub only_on : (b : Bool) (P : Pass Found) → b ≡ true → only b P None → P None
 only_on true P e h = h
 only_on false P e h = absurd (false≢true e)
 

@@ -130,7 +130,7 @@ negative_part : (n p w q : ℕ) → q * p ≡ suc n * w → (y : ℤ) × (y *ℤ
 negative_part n p w zero e = (pos 0, omega (arith, ints, e))
 negative_part n p w (suc q) e = (negsuc q, omega (arith, ints, e))
 
-whole_part : (x : ℤ) (p w : ℕ) → p ∣ nat_abs x * w → (y : ℤ) × (y *ℤ pos p ≡ x *ℤ pos w)
+pub whole_part : (x : ℤ) (p w : ℕ) → p ∣ nat_abs x * w → (y : ℤ) × (y *ℤ pos p ≡ x *ℤ pos w)
 whole_part (pos n) p w d = (pos (n * w / p), let q = div-mul_cancel p d in omega (arith, ints, q))
 whole_part (negsuc n) p w d = negative_part n p w (suc n * w / p) (div-mul_cancel p d)
 

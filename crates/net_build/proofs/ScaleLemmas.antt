@@ -73,7 +73,7 @@ whole_by m num t den p e =
 pub raised_is : (numeral : List ℕ) (d : Decimal) (scale : ℕ) → IsLeastDecimalOf (numerator numeral) (denominator numeral) d → d.k ≤ scale → IsScaledBy scale numeral (value_at_scale scale d)
 raised_is numeral d scale is enough = rw (tens_split d.k scale enough) (whole_by d.m (numerator numeral) (10 ^ (scale - d.k)) (denominator numeral) (10 ^ d.k) is.value)
 
-one_more : (x num : ℤ) (p den : ℕ) → x *ℤ pos den ≡ (num *ℤ pos p) *ℤ pos 1 → x *ℤ pos den ≡ num *ℤ pos p
+pub one_more : (x num : ℤ) (p den : ℕ) → x *ℤ pos den ≡ (num *ℤ pos p) *ℤ pos 1 → x *ℤ pos den ≡ num *ℤ pos p
 one_more x num p den e = omega (arith, ints, e)
 
 smaller_by : (x m den num p r : ℕ) → 0 < den → 0 < r → x * den ≡ num * p → m * den ≡ num * (p * r) → x ≤ m

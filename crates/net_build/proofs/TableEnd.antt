@@ -88,7 +88,7 @@ fits_by numeral d scale is few narrow = by_order (order (unsigned_abs d.m * 10 ^
     no_both : (a b : ℕ) → a ≤ b → b < a → ⊥
     no_both a b l m = omega arith
 
-values_fit : (text : List ℕ) (tokens : List Token) (ds : List Decimal) (scale : ℕ) → AreDecimals (map (token_bytes text) tokens) ds → All (λ t. IsWholeBy scale (token_bytes text t) × (IsWideValue scale (token_bytes text t) → ⊥)) tokens → All (λ d. d.k ≤ scale) ds × All (Fits scale) ds
+pub values_fit : (text : List ℕ) (tokens : List Token) (ds : List Decimal) (scale : ℕ) → AreDecimals (map (token_bytes text) tokens) ds → All (λ t. IsWholeBy scale (token_bytes text t) × (IsWideValue scale (token_bytes text t) → ⊥)) tokens → All (λ d. d.k ≤ scale) ds × All (Fits scale) ds
 values_fit text tokens ds scale are all = (λ k d h. subst (λ (e : Decimal). e.k ≤ scale) (same k d h) (few k (near k h)), λ k d h. subst (Fits scale) (same k d h) (fits_by (token_bytes text (get_or tokens k no_token)) (decimal_at ds k) scale (its k (near k h)) (few k (near k h)) (all k no_token (near k h)).1))
   where
     near : (k : ℕ) → k < length ds → k < length tokens
@@ -121,7 +121,7 @@ draft_table scale rows states model.Utility numerals (Cells cells) is fits = abs
 raised_small : (d : Decimal) (scale : ℕ) → Fits scale d → unsigned_abs (value_at_scale scale d) ≤ greatest_number
 raised_small d scale fits = subst (λ n. n ≤ greatest_number) (sym (unsigned_abs-mul d.m (pos (10 ^ (scale - d.k))))) fits
 
-all_small : (ds : List Decimal) (scale : ℕ) → All (Fits scale) ds → All (λ x. unsigned_abs x ≤ greatest_number) (map (value_at_scale scale) ds)
+pub all_small : (ds : List Decimal) (scale : ℕ) → All (Fits scale) ds → All (λ x. unsigned_abs x ≤ greatest_number) (map (value_at_scale scale) ds)
 all_small ds scale all k d within =
     let near : k < length ds = omega (arith, within, length-map ds (value_at_scale scale)) in
     subst (λ x. unsigned_abs x ≤ greatest_number) (sym (get_or-map (value_at_scale scale) ds k nought d near)) (raised_small (decimal_at ds k) scale (all k nought near))
@@ -139,7 +139,7 @@ draft_limits scale rows states model.Chance numerals (Values ds) some one is fit
 draft_limits scale rows states model.Decision numerals (Values ds) some one is fits = absurd is
 draft_limits scale rows states model.Utility numerals (Cells cells) some one is fits = absurd is
 
-one_state : (text : List ℕ) (b : BlockTree) → is_node b.kind ≡ true → kind_of b.kind ≡ model.Utility → block_states text b ≡ 1
+pub one_state : (text : List ℕ) (b : BlockTree) → is_node b.kind ≡ true → kind_of b.kind ≡ model.Utility → block_states text b ≡ 1
 one_state text b kept kind = by_kind b.kind refl where
   not_utility : (k : Kind) → (k ≡ model.Utility → ⊥) → kind_of b.kind ≡ k → ⊥
   not_utility k n e = n (sym e ∙ kind)

@@ -79,7 +79,7 @@ module _ (text : List ℕ) (blocks : List BlockTree) (own : All (IsBlockOf text)
   unfolding node_pass
   node_at v h = each_after_at (λ earlier b. node_rows text (names_of text earlier) (Rattle.net_build.specs.Blocks.agents_of text earlier) b) [] nodes no_block v node_rows_none h
 
-  states_at : (v : ℕ) → v < length nodes → 0 < block_states text (block_at v)
+  pub states_at : (v : ℕ) → v < length nodes → 0 < block_states text (block_at v)
   states_at v h = states_some text _ _ (block_at v) (node_at v h)
 
   name_here : (v : ℕ) → v < length nodes → get_or (names_of text nodes) v [] ≡ block_name text (block_at v)

@@ -41,10 +41,10 @@ no_total : (n : ℕ) → 0 < n → n ≡ 0 → ⊥
 no_total n h e = omega arith
 
 module _ (text : List ℕ) (states rows at : ℕ) (ts : List Token) (ds : List Decimal) (some : 0 < states) (len : length ts ≡ rows * states) (count : rows ≡ length ds / states) (are : AreDecimals (map (token_bytes text) ts) ds) where
-  same_len : length ds ≡ length ts
+  pub same_len : length ds ≡ length ts
   same_len = are.len ∙ length-map ts (token_bytes text)
 
-  sign_at : (i : ℕ) → i < length ts → number_at ds i ≡ (decimal_at ds i).m
+  pub sign_at : (i : ℕ) → i < length ts → number_at ds i ≡ (decimal_at ds i).m
   sign_at i h = get_or-map (λ (d : Decimal). d.m) ds i nought (pos 0) (omega (arith, same_len))
 
   not_negative : NoneNegative ds → (k : ℕ) → k < length ts → numerator (token_bytes text (get_or ts k no_token)) <ℤ pos 0 → ⊥
@@ -60,19 +60,19 @@ module _ (text : List ℕ) (states rows at : ℕ) (ts : List Token) (ds : List D
       (λ k l below. not_below (decimal_at ds k).m (subst (λ x. pos 0 ≤ℤ x) (sign_at k (omega arith)) (h.first k l)) (negative_decimal (token_bytes text (get_or ts k no_token)) (decimal_at ds k) (decimal_of text ts ds k no_token are (omega arith)) below))
       (negative_number (token_bytes text (get_or ts place no_token)) (decimal_at ds place) (decimal_of text ts ds place no_token are within) (subst (λ x. x <ℤ pos 0) (sign_at place within) h.negative), refl)
 
-  row_here : (r : ℕ) → r < rows → get_or (rows_by states ts rows) r [] ≡ row_at states ts r
+  pub row_here : (r : ℕ) → r < rows → get_or (rows_by states ts rows) r [] ≡ row_at states ts r
   row_here r h = get_or-map (λ n. row_at states ts n) (range_with_len 0 rows) r 0 [] (omega (arith, length-range_with_len 0 rows)) ∙ ap (λ n. row_at states ts n) (get_or-range_with_len 0 rows r 0 h ∙ plain r)
     where
       plain : (n : ℕ) → 0 + n ≡ n
       plain n = omega arith
 
-  rows_len : length (rows_by states ts rows) ≡ rows
+  pub rows_len : length (rows_by states ts rows) ≡ rows
   rows_len = length-map (range_with_len 0 rows) (λ n. row_at states ts n) ∙ length-range_with_len 0 rows
 
   end_of : (r : ℕ) → r < rows → r * states + states ≤ length ts
   end_of r h = omega (arith, len, mul-le-mul_right {m = suc r} {n = rows} states h)
 
-  row_some : (r : ℕ) → r < rows → 0 < length (row_at states ts r)
+  pub row_some : (r : ℕ) → r < rows → 0 < length (row_at states ts r)
   row_some r h = omega (arith, length-take-le states (drop (r * states) ts) (omega (arith, length-drop (r * states) ts, end_of r h)))
 
   row_head : (r : ℕ) → r < rows → get_or (row_at states ts r) 0 no_token ≡ get_or ts (r * states) no_token

@@ -38,7 +38,7 @@ chance_has_table blocks_of.Decision e = cc
 chance_has_table blocks_of.Utility e = refl
 chance_has_table blocks_of.Potential e = cc
 
-stable : (a b : ℕ) → ((a ≡ b → ⊥) → ⊥) → a ≡ b
+pub stable : (a b : ℕ) → ((a ≡ b → ⊥) → ⊥) → a ≡ b
 stable a b h = elim (cases_lt a b) as (λ _. a ≡ b) [
   | inl l ↦ absurd (h (λ e. omega arith))
   | inr g ↦ elim (cases_lt b a) as (λ _. a ≡ b) [ inl l ↦ absurd (h (λ e. omega arith)) | inr m ↦ omega arith ]

@@ -1,11 +1,11 @@
 //! The limits that a diagram must keep to be solved.
 
-ghost use Rattle.std.specs.Prelude.{◌≡◌, ◌≤◌, IsOk, IfErr, OnOk};
-ghost use Rattle.maid_model.specs.declared.limits.TheConstants.{MOST_WORLDS};
-ghost use Rattle.maid_model.specs.Bounds.{KeepsBound, world_count, stopped};
+ghost use Rattle.std.specs.Prelude.{◌≡◌, OnOk};
+ghost use Rattle.first_fault.specs.Answers.{Passes};
+ghost use Rattle.first_fault.specs.Passes.{◌▸◌};
+ghost use Rattle.maid_model.specs.Bounds.{world_count, stopped};
 ghost use Rattle.maid_model.specs.Diagrams.{IsDiagram};
-ghost use Rattle.maid_model.specs.Placing.{HasRelianceOrder};
-ghost use Rattle.rule_solver.specs.Faults.{IsRefusal};
+ghost use Rattle.rule_solver.specs.Faults.{solve_fault, bound_pass, worlds_pass};
 
 use crate::SolveFault;
 use maid_model::{COUNT_END, Diagram, MOST_WORLDS};
@@ -25,9 +25,7 @@ fn count_worlds(diagram: &Diagram) -> u128
 
 /// Refuses a diagram that doesn't keep the weight bound.
 fn keep_bound(diagram: &Diagram) -> Result<(), SolveFault>
-    requires { HasRelianceOrder diagram.now.nodes }
-    ensures kept { OnOk result (KeepsBound diagram.now) }
-    ensures fault { IfErr result (IsRefusal diagram.now) }
+    ensures { Passes solve_fault (bound_pass diagram.now) result }
 {
     match bound(diagram) {
         BoundPlace::Within => Ok(()),
@@ -38,11 +36,8 @@ fn keep_bound(diagram: &Diagram) -> Result<(), SolveFault>
 
 /// Refuses a diagram with too many worlds.
 fn keep_worlds(diagram: &Diagram) -> Result<(), SolveFault>
-    requires order { HasRelianceOrder diagram.now.nodes }
-    requires bound { KeepsBound diagram.now }
-    ensures kept { OnOk result (world_count diagram.now.nodes ≤ MOST_WORLDS) }
+    ensures rows { Passes solve_fault (worlds_pass diagram.now) result }
     ensures diagram { IsDiagram diagram.now }
-    ensures fault { IfErr result (IsRefusal diagram.now) }
 {
     let worlds = count_worlds(diagram);
     if worlds > MOST_WORLDS {
@@ -53,11 +48,8 @@ fn keep_worlds(diagram: &Diagram) -> Result<(), SolveFault>
 
 /// Refuses a diagram that doesn't keep the weight bound, or else one with too many worlds.
 pub(crate) fn keep_limits(diagram: &Diagram) -> Result<(), SolveFault>
-    requires { HasRelianceOrder diagram.now.nodes }
-    ensures bound { OnOk result (KeepsBound diagram.now) }
-    ensures world_count { OnOk result (world_count diagram.now.nodes ≤ MOST_WORLDS) }
+    ensures rows { Passes solve_fault (bound_pass diagram.now ▸ worlds_pass diagram.now) result }
     ensures diagram { OnOk result (IsDiagram diagram.now) }
-    ensures fault { IfErr result (IsRefusal diagram.now) }
 {
     keep_bound(diagram)?;
     keep_worlds(diagram)

@@ -1,15 +1,15 @@
 //! A whole diagram, solved decision by decision.
 
-ghost use Rattle.std.specs.Prelude.{◌≤◌, ℕ, IfOk, IfErr};
+ghost use Rattle.std.specs.Prelude.{ℕ, IfOk};
+ghost use Rattle.first_fault.specs.Answers.{Passes};
 ghost use Rattle.maid_model.specs.Answers.{IsAnswer, KeepsWorth, answered};
-ghost use Rattle.maid_model.specs.declared.limits.TheConstants.{MOST_WORLDS};
-ghost use Rattle.maid_model.specs.Bounds.{KeepsBound, world_count};
+ghost use Rattle.maid_model.specs.Bounds.{KeepsBound};
 ghost use Rattle.maid_model.specs.Diagrams.{IsDiagram};
 ghost use Rattle.maid_model.specs.Placing.{IsRelianceOrder};
 ghost use Rattle.maid_model.specs.Subgames.{IsOptimal, IsSubgamePerfect, OwnsAll};
 ghost use Rattle.maid_model.specs.Values.{PrintsOptima};
 ghost use Rattle.relevance_graph.specs.Relevant.{IsRelevance};
-ghost use Rattle.rule_solver.specs.Faults.{Tells};
+ghost use Rattle.rule_solver.specs.Faults.{solve_fault, solve_pass};
 
 use crate::SolveFault;
 use crate::answering::answer_all;
@@ -55,10 +55,9 @@ fn solve_ordered(
 ) -> Result<Solved, SolveFault>
     requires relevance { IsRelevance diagram.now.nodes relevance.now }
     requires order { IsRelianceOrder diagram.now.nodes order.now }
+    ensures rows { Passes solve_fault (solve_pass diagram.now) result }
     ensures ok { IfOk result (IsAnswer diagram.now) }
-    ensures within { IfOk result (λ solved. KeepsBound diagram.now × (world_count diagram.now.nodes ≤ MOST_WORLDS)) }
     ensures diagram { IfOk result (λ solved. IsDiagram diagram.now) }
-    ensures fault { IfErr result (Tells diagram.now) }
 {
     keep_limits(diagram)?;
     Ok(solve_along(alloc, diagram, relevance, order)?)
@@ -75,10 +74,9 @@ fn solve_ordered(
 /// The first of these that holds: `Cycle` where the relevance graph has one, `WeightBound` where the weight bound is
 /// passed, and `NotBuilt` where there are more than 65,536 worlds. `NoMemory` may come at any point.
 pub fn solve(alloc: Global, diagram: &Diagram) -> Result<Solved, SolveFault>
+    // An answer where nothing refuses the diagram, and else the first refusal that applies.
+    ensures rows { Passes solve_fault (solve_pass diagram.now) result }
     ensures ok { IfOk result (IsAnswer diagram.now) }
-    ensures within { IfOk result (λ solved. KeepsBound diagram.now × (world_count diagram.now.nodes ≤ MOST_WORLDS)) }
-    // Each refusal says that those before it don't apply.
-    ensures fault { IfErr result (Tells diagram.now) }
     // From no subgame start does an agent gain by other rules of its own.
     ensures subgame_perfect { IfOk result (λ solved. IsSubgamePerfect diagram.now.nodes (answered diagram.now solved)) }
     // No profile is worth more to an agent that owns all decisions.

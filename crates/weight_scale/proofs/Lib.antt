@@ -1,4 +1,5 @@
 pub mod Bounding
+pub mod Decided
 pub mod Divisors
 pub mod Greatest
 pub mod Lists

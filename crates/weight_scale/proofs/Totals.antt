@@ -114,7 +114,7 @@ module _ (rows : List Decimal) (states : ℕ) (states_positive : 0 < states) whe
       pub all_reduced : (reduced : List ℕ) (total : ℕ) → ReducesRows rows states count reduced total → AreReducedRows rows states reduced
       all_reduced reduced total is = record { len = is.len ∙ rows_whole (length rows) states whole; row = is.row }
 
-      too_wide : (reduced : List ℕ) (total : ℕ) → ReducesRows rows states count reduced total → greatest_number < total → IsTooWide rows states
+      pub too_wide : (reduced : List ℕ) (total : ℕ) → ReducesRows rows states count reduced total → greatest_number < total → IsTooWide rows states
       too_wide reduced total is wide = record { reduced = reduced; total = total; rows_reduced = all_reduced reduced total is; common = is.common; wide = wide }
 
       -- a row that adds up to too much makes the common total too great

@@ -1,13 +1,13 @@
--- The rows of a table have one scaling: each row has one reduced row, so the totals and their least common multiple are the same, and so is each row of weights.
+-- The rows of a table have one scaling: each row has one reduced row, so the totals and their least common multiple are the same, and so is each row of weights. Nor is a table's common total too great where it has one.
 use Rattle.std.proofs.Common.{◌≡◌, ◌<◌, ◌+◌, ◌*◌, ◌/◌, ℕ, zero, suc, sym, ap, ◌∙◌, arith, subst, List, ◌++◌, length, take, sum}
 use Rattle.std.specs.Int.{◌∣◌}
 use Rattle.std.proofs.Math.Nat.{zero-mul}
 use Rattle.std.proofs.Math.Seq.{take-add}
-use Rattle.std.proofs.lemmas.Nat.Gcd.{dvd_antisymm}
+use Rattle.std.proofs.lemmas.Nat.Gcd.{dvd_antisymm, le_of_dvd}
 use Rattle.std.proofs.lemmas.List.{take_all}
 use Rattle.weight_scale.specs.declared.decimal.Decimal.{Decimal}
 use Rattle.weight_scale.specs.Views.{ScaledView}
-use Rattle.weight_scale.specs.Scaling.{row_at, raised_row, multiplied_row, IsScaled}
+use Rattle.weight_scale.specs.Scaling.{row_at, raised_row, multiplied_row, AreReducedRows, IsCommonTotal, IsScaled, IsTooWide}
 use Rattle.weight_scale.proofs.RowParts.{rows_whole}
 use Rattle.weight_scale.proofs.Shares.{reduced_same}
 
@@ -26,6 +26,16 @@ module _ {A : Type 0} where
   rows_same : (states n : ℕ) (xs ys : List A) → length xs ≡ n * states → length ys ≡ n * states → ((r : ℕ) → r < n → row_at states xs r ≡ row_at states ys r) → xs ≡ ys
   rows_same states n xs ys a b same = sym (take_all (n * states) xs (omega (arith, a))) ∙ fronts_same states xs ys n same ∙ take_all (n * states) ys (omega (arith, b))
 
+-- the common total of reduced rows divides every other one
+total_divides : (rows : List Decimal) (states : ℕ) (a b : List ℕ) (s t : ℕ) → AreReducedRows rows states a → AreReducedRows rows states b → IsCommonTotal a states (length rows / states) s → IsCommonTotal b states (length rows / states) t → s ∣ t
+total_divides rows states a b s t p q is other =
+    is.least t (λ r l. subst (λ xs. sum xs ∣ t) (sym (reduced_same (raised_row states rows r) (row_at states a r) (row_at states b r) (p.row r l) (q.row r l))) (other.multiple r l))
+
+pub never_both : (rows : List Decimal) (states : ℕ) (scaled : ScaledView) → IsScaled rows states scaled → IsTooWide rows states → ⊥
+never_both rows states scaled p q =
+    let divides = total_divides rows states q.reduced p.reduced q.total scaled.total q.rows_reduced p.rows_reduced q.common p.common in
+    omega (arith, le_of_dvd p.common.positive divides, p.small, q.wide)
+
 pub scaled_once : (rows : List Decimal) (states : ℕ) (a b : ScaledView) → 0 < states → states ∣ length rows → IsScaled rows states a → IsScaled rows states b → a ≡ b
 scaled_once rows states a b positive whole p q = λ i. record { weights = weights i; total = total i }
   where
@@ -34,8 +44,8 @@ scaled_once rows states a b positive whole p q = λ i. record { weights = weight
 
     total : a.total ≡ b.total
     total = dvd_antisymm
-        (p.common.least b.total (λ r l. subst (λ xs. sum xs ∣ b.total) (sym (reduced r l)) (q.common.multiple r l)))
-        (q.common.least a.total (λ r l. subst (λ xs. sum xs ∣ a.total) (reduced r l) (p.common.multiple r l)))
+        (total_divides rows states p.reduced q.reduced a.total b.total p.rows_reduced q.rows_reduced p.common q.common)
+        (total_divides rows states q.reduced p.reduced b.total a.total q.rows_reduced p.rows_reduced q.common p.common)
 
     len : (n : ℕ) → n ≡ length rows → n ≡ length rows / states * states
     len n e = e ∙ sym (rows_whole (length rows) states whole)

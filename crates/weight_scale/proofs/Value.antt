@@ -44,7 +44,7 @@ module _ (minus : Bool) (number decimals : ℕ) (down : Bool) (exponent : ℕ) w
   abbrev den : ℕ
   den = 10 ^ decimals * cond down (10 ^ exponent) 1
 
-  den_positive : 0 < den
+  pub den_positive : 0 < den
   den_positive = elim down as (λ b. 0 < 10 ^ decimals * cond b (10 ^ exponent) 1) [ true ↦ mul-pos (tens_positive decimals) (tens_positive exponent) | false ↦ omega (arith, tens_positive decimals) ]
 
   -- the numeral is its significant digits with the tens of their place and of the exponent

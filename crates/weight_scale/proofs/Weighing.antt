@@ -1,6 +1,7 @@
 -- Reduced rows multiplied to the common total, and the table that they make.
 use Rattle.std.proofs.Common.{◌≡◌, ◌<◌, ◌≤◌, ◌+◌, ◌*◌, ◌/◌, ◌%◌, ◌^◌, ℕ, ℤ, zero, suc, pos, ◌+ℤ◌, ◌≤ℤ◌, refl, sym, ap, ◌∙◌, arith, subst, below_more, ⊎_elim, ◌⊎◌, inl, inr, List, [], ◌∷◌, ◌++◌, map, length, get_or, sum}
 use Rattle.std.specs.Int.{◌∣◌}
+use Rattle.std.proofs.Math.Numerals.{add-one}
 use Rattle.std.proofs.Math.Nat.{mul-le-mul_right, mul-div-le, mul-div_cancel', zero-mul}
 use Rattle.std.proofs.lemmas.Nat.Gcd.{le_of_dvd}
 use Rattle.std.proofs.lemmas.Int.{ints}
@@ -13,10 +14,10 @@ use Rattle.maid_model.specs.Tables.{IsTable}
 use Rattle.maid_model.specs.Diagrams.{greatest_number}
 use Rattle.weight_scale.specs.declared.decimal.Decimal.{Decimal}
 use Rattle.weight_scale.specs.Views.{ScaledView}
-use Rattle.weight_scale.specs.Scaling.{row_at, raised_row, multiplied_row, IsScaled, NoneNegative, NoZeroRow}
+use Rattle.weight_scale.specs.Scaling.{row_at, raised_row, multiplied_row, IsScaled, IsTooWide, NoneNegative, NoZeroRow}
 use Rattle.weight_scale.specs.Rows.{WeighsRows, ReducesRows}
 use Rattle.weight_scale.proofs.RowParts.{row_within, rows_whole, count_of_rows, row_length, row_kept, row_added, row_cell}
-use Rattle.weight_scale.proofs.Totals.{reduced_positive}
+use Rattle.weight_scale.proofs.Totals.{reduced_positive, reduces_exist, too_wide}
 
 -- ---- row by row
 -- a row's total divides the common one
@@ -44,6 +45,16 @@ module _ (reduced : List ℕ) (states total : ℕ) where
       add : length old ≡ n * states → length (multiplied_row total (row_at states reduced n)) ≡ states → length old + length (multiplied_row total (row_at states reduced n)) ≡ (n + 1) * states
       add a b = omega (arith, a, b)
 
+  -- each row can be multiplied
+  pub weighs_exist : (n : ℕ) → n ≤ length reduced / states → (weights : List ℤ) × WeighsRows reduced states total n weights
+  weighs_exist zero le = ([], weighs_start)
+  weighs_exist (suc n) le = go (weighs_exist n (omega (arith, le)))
+    where
+      go : (weights : List ℤ) × WeighsRows reduced states total n weights → (weights : List ℤ) × WeighsRows reduced states total (suc n) weights
+      go before =
+          let row = multiplied_row total (row_at states reduced n) in
+          (before.0 ++ row, subst (λ k. WeighsRows reduced states total k (before.0 ++ row)) (add-one n) (weighs_step n before.0 (before.0 ++ row) le before.1 refl))
+
 -- ---- the weights are those of the rows
 module _ (rows : List Decimal) (states : ℕ) (states_positive : 0 < states) (whole : states ∣ length rows) (reduced : List ℕ) (total : ℕ) (reduces : ReducesRows rows states (length rows / states) reduced total) where
   -- as many rows are reduced as there are
@@ -68,6 +79,16 @@ module _ (rows : List Decimal) (states : ℕ) (states_positive : 0 < states) (wh
     len = weighs.len ∙ ap (λ n. n * states) reduced_count ∙ rows_whole (length rows) states whole;
     row = λ r l. weighs.row r (subst (λ n. r < n) (sym reduced_count) l);
   }
+
+-- rows of totals above nought have a scaling, or too great a common total
+pub scaled_or_wide : (rows : List Decimal) (states : ℕ) → 0 < states → states ∣ length rows → NoneNegative rows → NoZeroRow rows states (length rows / states) → ((scaled : ScaledView) × IsScaled rows states scaled) ⊎ IsTooWide rows states
+scaled_or_wide rows states some whole none_negative positive = by_total (reduces_exist rows states some positive (length rows / states) (omega arith))
+  where
+    by_total : (reduced : List ℕ) × (total : ℕ) × ReducesRows rows states (length rows / states) reduced total → ((view : ScaledView) × IsScaled rows states view) ⊎ IsTooWide rows states
+    by_total (reduced, total, is) = ⊎_elim
+        (λ wide. inr (too_wide rows states some positive whole reduced total is wide))
+        (λ small. let all = weighs_exist reduced states total (length reduced / states) (omega arith) in inl (record { weights = all.0; total = total }, scaled rows states some whole reduced total is none_negative all.0 small all.1))
+        (cases_lt greatest_number total)
 
 -- ---- the table
 sum_below_same : (n : ℕ) (f g : ℕ → ℤ) → ((i : ℕ) → i < n → f i ≡ g i) → sum_below n f ≡ sum_below n g

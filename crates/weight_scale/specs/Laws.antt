@@ -1,9 +1,27 @@
--- What holds of every scaling.
-use Rattle.std.specs.Prelude.{◌≡◌, ◌<◌, ℕ, List, length}
+-- What holds of every numeral and of every scaling.
+use Rattle.std.specs.Prelude.{◌≡◌, ◌⊎◌, ◌<◌, ◌/◌, ℕ, List, length}
 use Rattle.std.specs.Int.{◌∣◌}
+use Rattle.maid_model.specs.Tables.{IsTable}
 use Rattle.weight_scale.specs.declared.decimal.Decimal.{Decimal}
+use Rattle.weight_scale.specs.Numeral.{numerator, denominator, IsDecimalOf, IsLeastDecimalOf}
 use Rattle.weight_scale.specs.Views.{ScaledView}
-use Rattle.weight_scale.specs.Scaling.{IsScaled}
+use Rattle.weight_scale.specs.Scaling.{NoneNegative, NoZeroRow, IsScaled, IsTooWide}
+
+-- each numeral has a decimal, with fewest decimals, or none at all
+abbrev pub DecimalOrNone : Type 0
+DecimalOrNone = (numeral : List ℕ) → ((d : Decimal) × IsLeastDecimalOf (numerator numeral) (denominator numeral) d) ⊎ ((d : Decimal) → IsDecimalOf (numerator numeral) (denominator numeral) d → ⊥)
+
+-- rows without numbers below nought and of totals above nought have a scaling, or too great a common total
+abbrev pub ScaledOrTooWide : Type 0
+ScaledOrTooWide = (rows : List Decimal) (states : ℕ) → 0 < states → states ∣ length rows → NoneNegative rows → NoZeroRow rows states (length rows / states) → ((scaled : ScaledView) × IsScaled rows states scaled) ⊎ IsTooWide rows states
+
+-- and never both
+abbrev pub NeverScaledAndTooWide : Type 0
+NeverScaledAndTooWide = (rows : List Decimal) (states : ℕ) (scaled : ScaledView) → IsScaled rows states scaled → IsTooWide rows states → ⊥
+
+-- scaled rows are a table
+abbrev pub ScaledIsTable : Type 0
+ScaledIsTable = (rows : List Decimal) (states : ℕ) (scaled : ScaledView) → 0 < states → states ∣ length rows → IsScaled rows states scaled → IsTable scaled.weights (length rows / states) states scaled.total
 
 -- two scalings of the same rows are equal
 abbrev pub ScalesInOneWay : Type 0

@@ -13,7 +13,9 @@ mod scaling;
 mod weight_bound;
 
 pub use decimal::Decimal;
-pub use laws::rows_scale_in_one_way;
+pub use laws::{
+    a_numeral_has_a_decimal_or_none, rows_are_scaled_or_too_wide, rows_scale_in_one_way,
+};
 pub use numerals::numeral;
 pub use scaling::{ScaleFault, Scaled, scale_rows};
 pub use weight_bound::{BoundPlace, bound};

@@ -1,12 +1,13 @@
 //! `solve F`: the report.
 
 ghost use Rattle.std.specs.Prelude.{◌≡◌, ℕ, List, Ok, IfOk, IfErr, MatchResult};
+ghost use Rattle.first_fault.specs.Answers.{IsFaultOrNoMemory};
 ghost use Rattle.maid_model.specs.Names.{NamesFit};
 ghost use Rattle.maid_app.specs.Diagrams.{IsDiagramOf};
 ghost use Rattle.maid_app.specs.Reading.{Tells, TellsOf};
 ghost use Rattle.maid_app.specs.Tasks.{comes_of};
 ghost use Rattle.maid_app.specs.Solve.{solving};
-ghost use Rattle.rule_solver.specs.Faults.{Tells as TellsOfSolving};
+ghost use Rattle.rule_solver.specs.Faults.{solve_fault, solve_pass};
 
 use crate::reading::Source;
 use crate::refusal::Refusal;
@@ -30,7 +31,7 @@ fn told(status: Status, line: Result<Vec<u8>, AllocError>) -> Refusal
 // The refusal of a diagram that passes the weight bound at that node, or by its utilities.
 fn bound_refusal(alloc: Global, diagram: &Diagram, names: &Names, node: Option<usize>) -> Refusal
     requires fit { NamesFit diagram.now names.now }
-    requires tells { TellsOfSolving diagram.now (SolveFault.WeightBound node) }
+    requires fault { IsFaultOrNoMemory solve_fault (solve_pass diagram.now) (SolveFault.WeightBound node) }
     ensures { (name bytes : List ℕ) → IsDiagramOf bytes diagram.now names.now → TellsOf (comes_of solving name bytes) result }
 {
     match node {
@@ -48,7 +49,7 @@ fn bound_refusal(alloc: Global, diagram: &Diagram, names: &Names, node: Option<u
 // The refusal of a diagram that isn't solved.
 fn refusal(alloc: Global, diagram: &Diagram, names: &Names, fault: &SolveFault) -> Refusal
     requires fit { NamesFit diagram.now names.now }
-    requires tells { TellsOfSolving diagram.now fault.now }
+    requires fault { IsFaultOrNoMemory solve_fault (solve_pass diagram.now) fault.now }
     ensures { (name bytes : List ℕ) → IsDiagramOf bytes diagram.now names.now → TellsOf (comes_of solving name bytes) result }
 {
     match fault {

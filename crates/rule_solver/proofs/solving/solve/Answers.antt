@@ -1,4 +1,4 @@
-use Rattle.std.proofs.Common.{ℕ, sym, subst}
+use Rattle.std.proofs.Common.{ℕ, inl, sym, subst}
 use Rattle.maid_model.specs.Answers.{KeepsWorth, answered}
 use Rattle.maid_model.specs.Placing.{IsRelianceCycle}
 use Rattle.maid_model.specs.Subgames.{IsOptimal, IsSubgamePerfect, OwnsAll}
@@ -29,8 +29,8 @@ returns-in-Ok-clause-worth c =
     (λ solved d h. c.worth_under_the_profile.ensures.answer c.args.diagram.now solved d.graph d.tables h) c.solve_ordered.ensures.diagram c.solve_ordered.ensures.ok
 
 -- the relevance graph tells the cycle, and that there is no order
-pub returns-clause-fault : goal.returns-clause-fault
-returns-clause-fault c =
+pub returns-clause-rows : goal.returns-clause-rows
+returns-clause-rows c =
     let nodes = c.args.diagram.now.nodes in
     let blocked : IsBlockedBy nodes c.in-Err.cycle.now = subst (IsOutcome nodes) c.in-Err.ensures c.in_ok-relevance.ensures.outcome in
-    (subst (IsRelianceCycle nodes) (sym c.in_ok-from_slice-in-Err.ensures.items) blocked.is_cycle, λ o. blocked.no_order o.0 o.1)
+    inl (λ o. blocked.no_order o.0 o.1, subst (IsRelianceCycle nodes) (sym c.in_ok-from_slice-in-Err.ensures.items) blocked.is_cycle)

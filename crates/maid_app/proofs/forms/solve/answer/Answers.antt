@@ -12,7 +12,7 @@ pub returns-in-Ok-clause-ok : goal.returns-in-Ok-clause-ok
 returns-in-Ok-clause-ok c =
     let solved = c.in-Ok.ensures in
     report_given c.args.source.name.now c.args.source.bytes.now c.in_ok-diagram.diagram c.in_ok-diagram.names c.in_ok-print_report-in-Ok.field-0.items
-    c.in_ok-diagram.ensures.ok (c.in-Ok.solved.order, solved.ok.order) solved.within.0 solved.within.1
+    c.in_ok-diagram.ensures.ok solved.rows.0 solved.rows.1.0 solved.rows.1.1
     (record {
       solved = c.in-Ok.solved;
       is_answer = solved.ok;

@@ -1,24 +1,34 @@
-use Rattle.std.proofs.Common.{◌≡◌, ◌∙◌, Err, subst, ap, codes}
+use Rattle.std.proofs.Common.{◌≡◌, ◌∙◌, ◌<◌, ℕ, All, Err, length, sym, subst, ap}
+use Rattle.first_fault.specs.Answers.{IsFaultOrNoMemory}
 use Rattle.first_fault.specs.Outcomes.{refusals}
-use Rattle.rule_solver.specs.Faults.{Tells}
+use Rattle.rule_solver.specs.Faults.{solve_fault, solve_pass}
 use Rattle.maid_app.specs.Lines.{cycle_line, not_built_line}
 use Rattle.maid_app.specs.Outcome.{refused}
 use Rattle.maid_app.specs.Solve.{solving}
 use Rattle.maid_app.specs.Tasks.{comes_of}
 use Rattle.maid_app.specs.declared.status.Status.TheVariants.{Cycle, NotBuilt}
+use Rattle.maid_app.proofs.Nodes.{cycle_within}
 use Rattle.maid_app.proofs.Refusals.{told_gives, if_ok_then}
+use Rattle.maid_app.proofs.SolveRefusals.{cycle_of, worlds_of}
 use Rattle.maid_app.proofs.Solving.{cycle_found, many_found}
 use Rattle.maid_app.proofs.forms.solve.refusal.Goals as goal
+
+-- the decisions of the relevance cycle are nodes, which have names
+pub list_line-requires : goal.list_line-requires
+list_line-requires c =
+    let d = c.args.diagram.now in
+    let found = cycle_of d c.in-Cycle.list.items (subst (IsFaultOrNoMemory solve_fault (solve_pass d)) c.in-Cycle.is c.requires.fault) in
+    subst (λ (n : ℕ). All (λ v. v < n) c.deref.result.now) (sym c.requires.fit.nodes) (subst (All (λ v. v < length d.nodes)) (sym c.deref.ensures.value) (cycle_within d.nodes c.in-Cycle.list.items found.1))
 
 -- the line names the relevance cycle
 pub returns-in-Cycle : goal.returns-in-Cycle
 returns-in-Cycle c name bytes is =
     let d = c.args.diagram.now in
     let names = c.args.names.now in
-    let tells = subst (Tells d) c.in-Cycle.is c.requires.tells in
+    let found = cycle_of d c.in-Cycle.list.items (subst (IsFaultOrNoMemory solve_fault (solve_pass d)) c.in-Cycle.is c.requires.fault) in
     told_gives (refusals (comes_of solving name bytes)) Cycle c.list_line.result c.told.result
     (if_ok_then c.list_line.result (λ t. t.items ≡ cycle_line names c.deref.result.now) (λ t. comes_of solving name bytes (Err (refused Cycle t.items)))
-    (λ t e. cycle_found name bytes d names t.items c.in-Cycle.list.items is tells.1 tells.0 (e ∙ ap (cycle_line names) c.deref.ensures.value))
+    (λ t e. cycle_found name bytes d names t.items c.in-Cycle.list.items is found.0 found.1 (e ∙ ap (cycle_line names) c.deref.ensures.value))
     c.list_line.ensures)
     c.told.ensures
 
@@ -27,9 +37,9 @@ pub returns-in-NotBuilt : goal.returns-in-NotBuilt
 returns-in-NotBuilt c name bytes is =
     let d = c.args.diagram.now in
     let names = c.args.names.now in
-    let tells = subst (Tells d) c.in-NotBuilt.is c.requires.tells in
+    let many = worlds_of d c.in-NotBuilt.worlds (subst (IsFaultOrNoMemory solve_fault (solve_pass d)) c.in-NotBuilt.is c.requires.fault) in
     told_gives (refusals (comes_of solving name bytes)) NotBuilt c.told-in-NotBuilt.result c.told-in-NotBuilt-2.result
     (if_ok_then c.told-in-NotBuilt.result (λ t. t.items ≡ not_built_line) (λ t. comes_of solving name bytes (Err (refused NotBuilt t.items)))
-    (λ t e. many_found name bytes d names t.items is tells.0 tells.1 tells.2 e)
+    (λ t e. many_found name bytes d names t.items is many.0 many.1 many.2.0 e)
     c.told-in-NotBuilt.ensures)
     c.told-in-NotBuilt-2.ensures
