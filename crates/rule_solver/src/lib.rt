@@ -1,5 +1,19 @@
 //! The answer of a diagram: the order of solving, the first best state in each row of each decision, and what the plan
 //! is worth to each agent. It is subgame-perfect, and optimal where one agent owns all decisions.
+//!
+//! ```rust
+//! use net_build::build;
+//! use net_lexer::lex;
+//! use net_parser::parse;
+//! use report_text::print_report;
+//! use rule_solver::solve;
+//!
+//! let tokens = lex(alloc, text)?;
+//! let syntax = parse(alloc, text, &tokens)?;
+//! let (diagram, names) = build(alloc, text, &tokens, &syntax)?;
+//! let solved = solve(alloc, &diagram)?;
+//! let report = print_report(alloc, &diagram, &names, &solved)?;
+//! ```
 #![tactic(auto)]
 
 mod answering;
