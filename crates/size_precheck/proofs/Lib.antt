@@ -1,0 +1,4 @@
+pub mod Counting
+pub mod Somewhere
+pub mod Live
+pub mod Scoped

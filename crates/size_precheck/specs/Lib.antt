@@ -1,0 +1,5 @@
+pub mod Counts
+pub mod Greedy
+pub mod Sizes
+pub mod Laws
+pub mod Joints
