@@ -1,12 +1,12 @@
 -- Members and products counted along a walk through a set, and counts that stop.
-use Rattle.std.proofs.Common.{◌≡◌, ◌∙◌, ◌⊎◌, ℕ, zero, suc, ◌+◌, ◌*◌, ◌<◌, ◌≤◌, min, Bool, true, false, cond, List, length, get_or, refl, sym, ap, inl, inr, arith}
+use Rattle.std.proofs.Common.{◌≡◌, ◌∙◌, ◌⊎◌, ℕ, zero, suc, ◌+◌, ◌*◌, ◌^◌, ◌<◌, ◌≤◌, min, Bool, true, false, cond, List, length, get_or, refl, sym, ap, inl, inr, arith}
 use Rattle.finite_sums.proofs.Counts.{true_or_false}
 use Rattle.node_sets.specs.declared.sets.NodeSet.{NodeSet}
 use Rattle.node_sets.specs.Sets.{holds, IsIn, IsFirstFrom}
 use Rattle.std.proofs.lemmas.List.{get_or_default}
 use Rattle.maid_model.specs.declared.limits.TheConstants.{COUNT_END}
 use Rattle.size_precheck.specs.Counts.{stopped}
-use Rattle.size_precheck.specs.Joints.{members_below, product_below, factor}
+use Rattle.size_precheck.specs.Joints.{members_below, product_below, factor, counted_over}
 
 -- ---- counts that stop
 -- a factor of a product may be stopped first
@@ -27,6 +27,13 @@ stop_first e a (suc b) = go (le_or_lt a e)
         let k : e ≤ e * suc b = more e b in
         let m : a ≤ a * suc b = more a b in
         ap (λ x. min (x * suc b) e) s ∙ omega arith
+
+-- so may a part of a sum
+pub stop_part : (e a b : ℕ) → min (min a e + b) e ≡ min (a + b) e
+stop_part e a b = omega arith
+
+pub stop_later : (e a b : ℕ) → min (a + min b e) e ≡ min (a + b) e
+stop_later e a b = omega arith
 
 -- ---- walks
 below_or_last : (a b : ℕ) → a ≤ suc b → (a ≤ b) ⊎ (a ≡ suc b)
@@ -85,3 +92,13 @@ module _ (set : NodeSet) where
       ∙ stop_first COUNT_END before (get_or states v 0)
       ∙ ap (λ x. stopped (before * x)) (get_or_default states v 0 1 within)
       ∙ ap (λ n. stopped n) (sym (factors_with states from v h))
+
+at_most : (a e : ℕ) → min a e ≤ e
+at_most a e = omega arith
+
+pub counted_few : (states : List ℕ) (scope : ℕ → Bool) → counted_over states scope ≤ 10 ^ 18
+unfolding counted_over
+counted_few states scope = at_most (product_below (factor states scope) 256) (10 ^ 18)
+
+pub stopped_few : (n : ℕ) → stopped n ≤ 10 ^ 18
+stopped_few n = at_most n (10 ^ 18)

@@ -103,9 +103,9 @@ module _ (live : List Table) (made : Table) (v : ℕ)
     shared u apart s = elim (some_split (Both u) (λ t. holds t.scope v) live s) as (λ _. SomeOf (Both u) (without_v v live) ⊎ (IsIn made.scope y × IsIn made.scope u)) [
       | inl h ↦ inl (filter_some (Both u) (λ t. not (holds t.scope v)) live h)
       | inr h ↦ inr (
-          (scope y).1 (some_map (λ t. Holds t × Both u t) (λ t. Holds t × IsIn t.scope y) (λ t k. (k.0, k.1.0)) live h, other),
-          (scope u).1 (some_map (λ t. Holds t × Both u t) (λ t. Holds t × IsIn t.scope u) (λ t k. (k.0, k.1.1)) live h, apart),
-        )
+        (scope y).1 (some_map (λ t. Holds t × Both u t) (λ t. Holds t × IsIn t.scope y) (λ t k. (k.0, k.1.0)) live h, other),
+        (scope u).1 (some_map (λ t. Holds t × Both u t) (λ t. Holds t × IsIn t.scope u) (λ t k. (k.0, k.1.1)) live h, apart),
+      )
     ]
 
     kept : (P : Table → Type 0) → SomeOf P (without_v v live) → SomeOf P live
@@ -120,11 +120,11 @@ module _ (live : List Table) (made : Table) (v : ℕ)
     step_put gone before after differ gone_is holds_y put tells = record {
       set = λ u. (
         (λ m.
-          let h = (put.set u).0 m in
-          push_some (Both u) (without_v v live) made (elim h.0 as (λ _. SomeOf (Both u) (without_v v live) ⊎ Both u made) [
-            | inl b ↦ shared u h.1 ((tells.set u).0 b)
-            | inr s ↦ inr (holds_y, s)
-          ])),
+            let h = (put.set u).0 m in
+            push_some (Both u) (without_v v live) made (elim h.0 as (λ _. SomeOf (Both u) (without_v v live) ⊎ Both u made) [
+              | inl b ↦ shared u h.1 ((tells.set u).0 b)
+              | inr s ↦ inr (holds_y, s)
+            ])),
         (λ s. (put.set u).1 (elim (some_push (Both u) (without_v v live) made s) as (λ _. (IsIn before.set u ⊎ IsIn made.scope u) × (u ≡ v → ⊥)) [
           | inl h ↦ (inl ((tells.set u).1 (kept (Both u) h)), not_v u h)
           | inr h ↦ (inr h.1, ((scope u).0 h.1).1)
@@ -133,9 +133,9 @@ module _ (live : List Table) (made : Table) (v : ℕ)
       tables = λ x. (
         (λ m. push_some (Tagged x) (without_v v live) made (elim ((put.tables x).0 m) as (λ _. SomeOf (Tagged x) (without_v v live) ⊎ Tagged x made) [
           | inl h ↦ elim (some_split (Tagged x) (λ t. holds t.scope v) live ((tells.tables x).0 h.0)) as (λ _. SomeOf (Tagged x) (without_v v live) ⊎ Tagged x made) [
-              | inl k ↦ inl (filter_some (Tagged x) (λ t. not (holds t.scope v)) live k)
-              | inr k ↦ absurd (h.1 ((gone_is x).1 (some_map (λ t. Holds t × Tagged x t) (λ t. (t.tag ≡ x) × Holds t) (λ t i. (i.1.0, i.0)) live k)))
-            ]
+            | inl k ↦ inl (filter_some (Tagged x) (λ t. not (holds t.scope v)) live k)
+            | inr k ↦ absurd (h.1 ((gone_is x).1 (some_map (λ t. Holds t × Tagged x t) (λ t. (t.tag ≡ x) × Holds t) (λ t i. (i.1.0, i.0)) live k)))
+          ]
           | inr e ↦ inr (sym e, holds_y)
         ])),
         (λ s. (put.tables x).1 (elim (some_push (Tagged x) (without_v v live) made s) as (λ _. (IsIn before.tables x × (IsIn gone x → ⊥)) ⊎ (x ≡ made.tag)) [

@@ -17,7 +17,7 @@ use Rattle.size_precheck.specs.declared.joints.Joint.{Joint}
 use Rattle.size_precheck.specs.declared.joints.Table.{Table}
 use Rattle.size_precheck.specs.Counts.{stopped, cells_over}
 use Rattle.size_precheck.specs.Greedy.{holding, joined_set}
-use Rattle.size_precheck.specs.Joints.{members_below, member_count, product_below, factor, counted_over, AreStates, SomeOf, Each, TagsDiffer, Tells, AreLive}
+use Rattle.size_precheck.specs.Joints.{members_below, member_count, product_below, factor, counted_over, AreStates, tests_of, SomeOf, Each, TagsDiffer, Tells, AreLive}
 use Rattle.size_precheck.proofs.Counting.{members_gap, product_gap}
 use Rattle.size_precheck.proofs.Somewhere.{some_map, some_filter, filter_some, any_some, some_any, some_mapped, mapped_some, each_filter, same_test, not_true, true_not}
 use Rattle.size_precheck.proofs.Live.{with_v, without_v, differ_filter, after_step}
@@ -105,9 +105,6 @@ tables_counted Waiting live v gone h gone_is =
     ))
 
 -- ---- the live scopes
-abbrev pub tests_of : List Table → List (ℕ → Bool)
-tests_of live = map (λ t. holds t.scope) live
-
 abbrev in_test : Table → ℕ → Bool
 in_test t = holds t.scope
 
@@ -171,12 +168,12 @@ product_range f k (suc n) =
 pub product_listed : (f : ℕ → ℕ) (n : ℕ) → nat_product_over f (range_with_len 0 n) ≡ product_below f n
 product_listed f n = let e : nat_product_over f (range_with_len 0 n) ≡ 1 * nat_product_over f (range_with_len 0 n) = omega arith in e ∙ product_range f 0 n ∙ ap (λ n. product_below f n) (omega arith)
 
-pub cells_counted : (nodes : List NodeView) (states : List ℕ) (set : NodeSet) (scope : ℕ → Bool) → AreStates nodes states → length nodes ≤ 256
+pub cells_counted : (nodes : List NodeView) (states : List ℕ) (set : NodeSet) (scope : ℕ → Bool) → AreStates nodes states
     → ((u : ℕ) → holds set u ≡ scope u) → counted_over states (holds set) ≡ cells_over nodes scope
 unfolding counted_over
-cells_counted nodes states set scope are few told =
+cells_counted nodes states set scope are told =
     ap (λ n. stopped n)
-    (product_gap (factor states (holds set)) (length nodes) 256 few (λ w past _. past_one w past (holds set w))
+    (product_gap (factor states (holds set)) (length nodes) 256 are.few (λ w past _. past_one w past (holds set w))
     ∙ sym (product_listed (factor states (holds set)) (length nodes))
     ∙ ap (λ (f : ℕ → ℕ). nat_product_over f (numbers_of nodes)) (fun_ext (λ u. same_factor u)))
   where

@@ -19,21 +19,21 @@ holding v scopes = filter (λ s. s v) scopes
 abbrev pub joined_set : ℕ → List (ℕ → Bool) → ℕ → Bool
 joined_set v scopes u = list_any (λ s. s u) (holding v scopes)
 
--- the cells of v's joined set after these steps of the plan
-abbrev pub joined_cells : List NodeView → PlanView → List ℕ → ℕ → ℕ
-joined_cells nodes plan steps v = cells_over nodes (joined_set v (scopes_after steps (first_scopes nodes plan)))
+-- the cells of v's joined set after these steps
+abbrev pub joined_cells : List NodeView → List (ℕ → Bool) → List ℕ → ℕ → ℕ
+joined_cells nodes scopes steps v = cells_over nodes (joined_set v (scopes_after steps scopes))
 
--- v is still to be eliminated after these steps
-abbrev pub Waits : List NodeView → PlanView → List ℕ → ℕ → Type 0
-Waits nodes plan steps v = Remains (Contains (eliminated_nodes nodes plan)) steps v
+-- of the items that remain after these steps v is taken next: no joined set of one that remains has fewer cells than v's, and none of one before v in text has as few
+pub record IsNext (nodes : List NodeView) (Item : ℕ → Type 0) (scopes : List (ℕ → Bool)) (steps : List ℕ) (v : ℕ) : Type 0 where
+  pub remains : Remains Item steps v
+  pub fewest : (w : ℕ) → Remains Item steps w → joined_cells nodes scopes steps v ≤ joined_cells nodes scopes steps w
+  pub first : (w : ℕ) → Remains Item steps w → w < v → joined_cells nodes scopes steps v < joined_cells nodes scopes steps w
 
--- v is eliminated next: no waiting node's joined set has fewer cells, and none that stands before v in text has as few
-pub record IsNext (nodes : List NodeView) (plan : PlanView) (steps : List ℕ) (v : ℕ) : Type 0 where
-  pub waits : Waits nodes plan steps v
-  pub fewest : (w : ℕ) → Waits nodes plan steps w → joined_cells nodes plan steps v ≤ joined_cells nodes plan steps w
-  pub first : (w : ℕ) → Waits nodes plan steps w → w < v → joined_cells nodes plan steps v < joined_cells nodes plan steps w
+-- each step takes the next after those before it, and no item remains
+pub record IsGreedy (nodes : List NodeView) (Item : ℕ → Type 0) (scopes : List (ℕ → Bool)) (steps : List ℕ) : Type 0 where
+  pub each : (k : ℕ) → k < length steps → IsNext nodes Item scopes (take k steps) (slice_index steps k)
+  pub complete : (v : ℕ) → Remains Item steps v → ⊥
 
--- each step takes the node that is next after those before it, and no node is left
-pub record IsGreedyOrder (nodes : List NodeView) (plan : PlanView) (steps : List ℕ) : Type 0 where
-  pub each : (k : ℕ) → k < length steps → IsNext nodes plan (take k steps) (slice_index steps k)
-  pub complete : (v : ℕ) → Waits nodes plan steps v → ⊥
+-- the order in which the plan eliminates its nodes
+abbrev pub IsGreedyOrder : List NodeView → PlanView → List ℕ → Type 0
+IsGreedyOrder nodes plan steps = IsGreedy nodes (Contains (eliminated_nodes nodes plan)) (first_scopes nodes plan) steps

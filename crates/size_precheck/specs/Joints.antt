@@ -1,5 +1,5 @@
 -- What the steps of simulating a plan promise one another. Only private functions cite this file.
-use Rattle.std.specs.Prelude.{◌≡◌, ◌⊎◌, ◌↔◌, ℕ, zero, suc, ◌+◌, ◌*◌, ◌<◌, Bool, true, List, [], ◌∷◌, map, length, slice_index_or, Contains, if◌then◌else◌}
+use Rattle.std.specs.Prelude.{◌≤◌, slice_index, sum_by, ◌≡◌, ◌⊎◌, ◌↔◌, ℕ, zero, suc, ◌+◌, ◌*◌, ◌<◌, Bool, List, [], ◌∷◌, map, length, slice_index_or, Contains, if◌then◌else◌}
 use Rattle.maid_model.specs.Nodes.{states_of}
 use Rattle.maid_model.specs.Views.{NodeView}
 use Rattle.node_sets.specs.declared.sets.NodeSet.{NodeSet}
@@ -7,7 +7,13 @@ use Rattle.node_sets.specs.declared.sets.TheConstants.{MOST_NODES}
 use Rattle.node_sets.specs.Sets.{holds, IsIn}
 use Rattle.size_precheck.specs.declared.joints.Joint.{Joint}
 use Rattle.size_precheck.specs.declared.joints.Table.{Table}
-use Rattle.size_precheck.specs.Counts.{stopped}
+use Rattle.ring_sums.specs.Tables.{joined_without, scopes_one, scopes_after}
+use Rattle.size_precheck.specs.declared.simulation.Start.{Start}
+use Rattle.size_precheck.specs.declared.simulation.Made.{Made}
+use Rattle.size_precheck.specs.declared.simulation.Run.{Run}
+use Rattle.size_precheck.specs.Counts.{stopped, cells_over}
+use Rattle.size_precheck.specs.Greedy.{holding, joined_set, IsGreedy}
+use Rattle.size_precheck.specs.Sizes.{made_cells, steps_work}
 
 -- how many of the first n numbers pass the test
 abbrev pub members_below : (ℕ → Bool) → ℕ → ℕ
@@ -33,7 +39,7 @@ counted_over states scope = stopped (product_below (factor states scope) MOST_NO
 
 -- the counts are those of the nodes, and 1 past them
 pub record AreStates (nodes : List NodeView) (states : List ℕ) : Type 0 where
-  pub all : length states ≡ MOST_NODES
+  pub few : length nodes ≤ MOST_NODES
   pub each : (u : ℕ) → slice_index_or states u 1 ≡ states_of nodes u
 
 -- ---- tables by their scopes
@@ -73,3 +79,57 @@ pub record AreLive (Waiting : ℕ → Type 0) (live : List Table) : Type 0 where
   pub small : Each (λ t. t.tag < MOST_NODES) live
   pub differ : TagsDiffer live
   pub own : Each (λ t. Waiting t.tag → IsIn t.scope t.tag) live
+
+-- the scopes of these tables
+abbrev pub tests_of : List Table → List (ℕ → Bool)
+tests_of live = map (λ t. holds t.scope) live
+
+-- what is known of the nodes that wait is right for these live tables
+pub record Stands (states : List ℕ) (Waiting : ℕ → Type 0) (tables : List Table) (joints : List Joint) (cells : List ℕ) : Type 0 where
+  pub live : AreLive Waiting tables
+  pub tells : (y : ℕ) → Waiting y → Tells tables y (joint_at joints y)
+  pub counted : (y : ℕ) → Waiting y → slice_index cells y ≡ counted_over states (holds (joint_at joints y).set)
+
+-- what a step at v makes of these live tables, after which v waits no more
+pub record IsStep (nodes : List NodeView) (states : List ℕ) (Waiting : ℕ → Type 0) (v : ℕ) (before : List Table) (joints : List Joint) (counts : List ℕ) (made : Made) : Type 0 where
+  pub after : List Table
+  pub stands : Stands states Waiting after joints counts
+  pub scopes : tests_of after ≡ scopes_one v (tests_of before)
+  pub cells : made.cells ≡ cells_over nodes (joined_without v (holding v (tests_of before)))
+  pub work : made.work ≡ stopped (cells_over nodes (joined_set v (tests_of before)) * length (holding v (tests_of before)))
+  pub joined : made.tables ≡ length (holding v (tests_of before))
+
+-- before the first step: the joints are right for tables of these scopes, which are counted
+pub record IsStarted (nodes : List NodeView) (states : List ℕ) (Waiting : ℕ → Type 0) (scopes : List (ℕ → Bool)) (start : Start) : Type 0 where
+  pub are_states : AreStates nodes states
+  pub tables : List Table
+  pub are_live : AreLive Waiting tables
+  pub tells : (y : ℕ) → Waiting y → Tells tables y (joint_at start.joints.items y)
+  pub scopes_are : tests_of tables ≡ scopes
+  pub live : start.live ≡ length scopes
+  pub cells : start.cells ≡ stopped (sum_by (λ s. cells_over nodes s) scopes)
+
+-- after the last step: the steps are greedy, and what they made is counted
+pub record IsRun (nodes : List NodeView) (Item : ℕ → Type 0) (scopes : List (ℕ → Bool)) (run : Run) : Type 0 where
+  pub greedy : IsGreedy nodes Item scopes run.steps.items
+  pub live : run.live ≡ length (scopes_after run.steps.items scopes)
+  pub cells : run.cells ≡ stopped (sum_by (λ s. cells_over nodes s) scopes + made_cells nodes run.steps.items scopes)
+  pub work : run.work ≡ stopped (steps_work nodes run.steps.items scopes)
+
+-- ---- lists of what waits
+-- each number is less than those after it
+abbrev pub Rising : List ℕ → Type 0
+Rising [] = Unit {0}
+Rising (x ∷ xs) = Each (λ y. x < y) xs × Rising xs
+
+-- the members of the set, in text order
+pub record IsListOf (set : NodeSet) (list : List ℕ) : Type 0 where
+  pub inside : Each (λ v. IsIn set v) list
+  pub all : (v : ℕ) → IsIn set v → SomeOf (λ x. x ≡ v) list
+  pub rising : Rising list
+
+-- the place of the first of the list with fewest cells
+pub record IsFewestAt (list : List ℕ) (cells : List ℕ) (place : ℕ) : Type 0 where
+  pub within : place < length list
+  pub fewest : (k : ℕ) → k < length list → slice_index cells (slice_index list place) ≤ slice_index cells (slice_index list k)
+  pub first : (k : ℕ) → k < place → slice_index cells (slice_index list place) < slice_index cells (slice_index list k)

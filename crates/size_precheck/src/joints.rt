@@ -50,13 +50,7 @@ impl Joint {
 }
 
 /// Puts a table to each of these nodes, after the tables `gone` and the nodes `out` have left.
-pub fn put_table(
-    joints: &mut [Joint],
-    at: &NodeSet,
-    table: &Table,
-    gone: &NodeSet,
-    out: &NodeSet,
-)
+pub fn put_table(joints: &mut [Joint], at: &NodeSet, table: &Table, gone: &NodeSet, out: &NodeSet)
     requires tag { table.now.tag < MOST_NODES }
     requires within { (y : ℕ) → IsIn at.now y → y < length joints.old }
     ensures len { length joints.new ≡ length joints.old }
@@ -68,4 +62,12 @@ pub fn put_table(
         joints[y] = joints[y].with_table(table, gone, out);
         from = y + 1;
     }
+}
+
+/// What is known of a node.
+pub fn joint_of(joints: &[Joint], v: usize) -> Joint
+    requires { v < length joints.now }
+    ensures { result ≡ joint_at joints.now v }
+{
+    joints[v]
 }

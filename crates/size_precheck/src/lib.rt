@@ -9,8 +9,6 @@ mod plans;
 mod runs;
 mod simulation;
 mod sizes;
-
-
-
+mod starts;
 
 pub use sizes::Size;
