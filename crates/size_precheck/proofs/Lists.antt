@@ -1,9 +1,13 @@
 -- Lists of what waits, as a member comes or goes.
-use Rattle.std.proofs.Common.{◌≡◌, ◌∙◌, ◌⊎◌, ℕ, zero, suc, ◌+◌, ◌<◌, ◌≤◌, List, [], ◌∷◌, ◌++◌, length, take, drop, get_or, refl, sym, ap, subst, inl, inr, arith, All}
+use Rattle.std.proofs.Common.{◌≡◌, ◌⊎◌, ℕ, eqb, true, zero, suc, ◌+◌, ◌<◌, ◌≤◌, List, [], ◌∷◌, ◌++◌, length, take, drop, get_or, refl, sym, ap, subst, inl, inr, arith, All}
+use Rattle.std.proofs.lemmas.Bool.Decides.{nat_tests}
 use Rattle.node_sets.specs.declared.sets.NodeSet.{NodeSet}
 use Rattle.node_sets.specs.Sets.{IsIn, IsFirstFrom}
 use Rattle.size_precheck.specs.Joints.{SomeOf, Each, Rising, IsListOf}
 use Rattle.size_precheck.proofs.Somewhere.{push_some, each_push, each_map}
+
+pub number_from_test : (a b : ℕ) → eqb a b ≡ true → a ≡ b
+number_from_test a b e = grind (arith, nat_tests)
 
 -- by place
 pub each_at : (P : ℕ → Type 0) (list : List ℕ) (i d : ℕ) → Each P list → i < length list → P (get_or list i d)

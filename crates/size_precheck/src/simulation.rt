@@ -1,6 +1,6 @@
 //! The steps of a plan, simulated on the scopes of its tables.
 
-ghost use Rattle.std.specs.Prelude.{◌≡◌, ◌⊎◌, ℕ, ◌<◌, ◌≤◌, Bool, List, length, All, IfOk, slice_index};
+ghost use Rattle.std.specs.Prelude.{◌≡◌, ◌⊎◌, ℕ, ◌<◌, ◌≤◌, ◌+◌, Bool, List, length, All, IfOk, slice_index};
 ghost use Rattle.maid_model.specs.declared.limits.TheConstants.{COUNT_END};
 ghost use Rattle.maid_model.specs.Views.{NodeView};
 ghost use Rattle.node_sets.specs.declared.sets.TheConstants.{MOST_NODES};
@@ -143,6 +143,7 @@ pub fn eliminate_all(
 ) -> Result<Run, AllocError>
     requires states { length states.now ≡ MOST_NODES }
     requires within { (y : ℕ) → IsIn waiting y → (y < length start.joints.items) × (y < MOST_NODES) }
+    requires few { start.live ≤ MOST_NODES + 1 }
     requires started { (nodes : List NodeView) × (scopes : List (ℕ → Bool)) × IsStarted nodes states.now (IsIn waiting) scopes start }
     ensures run { IfOk result (λ run. (nodes : List NodeView) (scopes : List (ℕ → Bool)) → IsStarted nodes states.now (IsIn waiting) scopes start → IsRun nodes (IsIn waiting) scopes run) }
     ensures few { IfOk result (λ run. run.cells ≤ COUNT_END) }
@@ -157,13 +158,15 @@ pub fn eliminate_all(
         mut cells,
     } = start;
     let mut counts = vec![in alloc; 0; joints.len()]?;
-    count_sets(states, &joints, &mut counts, &rest);
+    let joints: &mut [Joint] = &mut joints;
+    let counts: &mut [u64] = &mut counts;
+    count_sets(states, joints, counts, &rest);
     let mut work = 0;
     'steps: while !list.is_empty() {
-        let v = list.remove(find_fewest(&list, &counts));
+        let v = list.remove(find_fewest(&list, counts));
         rest.remove(v);
         steps.push(v)?;
-        let made = eliminate(states, &mut joints, &mut counts, &rest, v);
+        let made = eliminate(states, joints, counts, &rest, v);
         live = live + 1 - made.tables;
         cells = add(cells, made.cells);
         work = add(work, made.work);
