@@ -5,3 +5,5 @@ pub mod Scoped
 pub mod Lists
 pub mod Stepping
 pub mod Running
+pub mod Starting
+pub mod Putting

@@ -1,6 +1,7 @@
 -- What the steps of simulating a plan promise one another. Only private functions cite this file.
-use Rattle.std.specs.Prelude.{◌≤◌, slice_index, sum_by, ◌≡◌, ◌⊎◌, ◌↔◌, ℕ, zero, suc, ◌+◌, ◌*◌, ◌<◌, Bool, List, [], ◌∷◌, map, length, slice_index_or, Contains, if◌then◌else◌}
-use Rattle.maid_model.specs.Nodes.{states_of}
+use Rattle.std.specs.Prelude.{◌==◌, ◌||◌, ◌≤◌, slice_index, sum_by, ◌≡◌, ◌⊎◌, ◌↔◌, ℕ, zero, suc, ◌+◌, ◌*◌, ◌<◌, Bool, List, [], ◌∷◌, map, length, slice_index_or, Contains, if◌then◌else◌}
+use Rattle.maid_model.specs.Nodes.{states_of, parents_of}
+use Rattle.plan_sums.specs.Plans.{has}
 use Rattle.maid_model.specs.Views.{NodeView}
 use Rattle.node_sets.specs.declared.sets.NodeSet.{NodeSet}
 use Rattle.node_sets.specs.declared.sets.TheConstants.{MOST_NODES}
@@ -133,3 +134,12 @@ pub record IsFewestAt (list : List ℕ) (cells : List ℕ) (place : ℕ) : Type 
   pub within : place < length list
   pub fewest : (k : ℕ) → k < length list → slice_index cells (slice_index list place) ≤ slice_index cells (slice_index list k)
   pub first : (k : ℕ) → k < place → slice_index cells (slice_index list place) < slice_index cells (slice_index list k)
+
+-- ---- first tables
+-- the scope of a chance or decision node's table, as `plan_sums` has it: the node and its parents
+abbrev pub family_test : List NodeView → ℕ → ℕ → Bool
+family_test nodes v u = (v == u) || has (parents_of nodes v) u
+
+-- that of a utility's: its parents
+abbrev pub parents_test : List NodeView → ℕ → ℕ → Bool
+parents_test nodes u x = has (parents_of nodes u) x
