@@ -1,10 +1,10 @@
 -- First tables, as they are put one after the other.
-use Rattle.std.proofs.Common.{◌≡◌, ◌∙◌, ◌⊎◌, ◌↔◌, ℕ, zero, suc, ◌+◌, ◌<◌, ◌≤◌, Bool, true, false, ◌||◌, eqb, map, List, [], ◌∷◌, ◌++◌, length, get_or, refl, sym, ap, subst, inl, inr, arith, Option, Some, None}
+use Rattle.std.proofs.Common.{◌≡◌, ◌∙◌, ◌⊎◌, ◌↔◌, ℕ, zero, suc, ◌+◌, ◌<◌, ◌≤◌, Bool, true, false, ◌||◌, eqb, map, List, [], ◌∷◌, ◌++◌, length, take, drop, get_or, refl, sym, ap, subst, inl, inr, arith, Option, Some, None}
 use Rattle.std.specs.Prelude.{Contains, sum_by, option_to_list, replicate}
 use Rattle.std.specs.List.{list_any}
 use Rattle.std.proofs.Math.Path.{fun_ext}
 use Rattle.std.proofs.lemmas.Bool.Decides.{nat_tests}
-use Rattle.std.proofs.lemmas.List.{length_push}
+use Rattle.std.proofs.lemmas.List.{length_push, take-append-le, take_all}
 use Rattle.std.proofs.lemmas.List.Sums.{sum_by_push}
 use Rattle.finite_sums.proofs.Members.{among_from_contains, contains_from_among}
 use Rattle.finite_sums.specs.Members.{Among}
@@ -117,6 +117,12 @@ differ_rising (t ∷ ts) r = (
   differ_rising ts r.1,
 )
 
+-- what a slice of a vector writes back
+pub back_written : (len : ℕ) (xs ys : List Joint) → length xs ≡ length ys → len ≡ length ys → take len (xs ++ drop (length xs) ys) ≡ xs
+back_written len xs ys same is =
+    let whole : len ≡ length xs = omega arith in
+    ap (λ n. take n (xs ++ drop (length xs) ys)) whole ∙ take-append-le (length xs) xs (drop (length xs) ys) (omega arith) ∙ take_all (length xs) xs (omega arith)
+
 -- ---- the tables so far
 pub record Put (nodes : List NodeView) (ruled waiting : NodeSet) (from : ℕ) (joints : List Joint) (live cells : ℕ) : Type 0 where
   pub list : List ℕ
@@ -128,6 +134,10 @@ pub record Put (nodes : List NodeView) (ruled waiting : NodeSet) (from : ℕ) (j
   pub tells : (y : ℕ) → IsIn waiting y → Tells tables y (joint_at joints y)
   pub live_is : live ≡ length tables
   pub cells_are : cells ≡ stopped (sum_by (λ s. cells_over nodes s) (tests_of tables))
+
+pub replicate_long : (n : ℕ) (none : Joint) → length (replicate n none) ≡ n
+replicate_long zero none = refl
+replicate_long (suc n) none = ap suc (replicate_long n none)
 
 empty_at : (n : ℕ) (none d : Joint) (y : ℕ) → y < n → get_or (replicate n none) y d ≡ none
 empty_at zero none d y l = absurd (omega arith)
