@@ -7,3 +7,5 @@ pub mod Stepping
 pub mod Running
 pub mod Starting
 pub mod Putting
+pub mod Planning
+pub mod Orders

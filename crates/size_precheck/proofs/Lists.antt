@@ -46,9 +46,9 @@ pub list_more : (set : NodeSet) (from v : ℕ) (list : List ℕ) → IsFirstFrom
 list_more set from v list f h = record {
   inside = each_push (λ x. IsIn set x × (x < v + 1)) list v (each_map (λ x. IsIn set x × (x < from)) (λ x. IsIn set x × (x < v + 1)) (λ x k. (k.0, further x k.1)) list h.inside) (f.inside, here v);
   all = λ x l m. push_some (λ y. y ≡ x) list v (elim (old_or_new x l) as (λ _. SomeOf (λ y. y ≡ x) list ⊎ (v ≡ x)) [
-      | inl o ↦ elim (before_or_from x) as (λ _. SomeOf (λ y. y ≡ x) list ⊎ (v ≡ x)) [ inl b ↦ inl (h.all x b m) | inr a ↦ absurd (f.first x a o m) ]
-      | inr e ↦ inr e
-    ]);
+    | inl o ↦ elim (before_or_from x) as (λ _. SomeOf (λ y. y ≡ x) list ⊎ (v ≡ x)) [ inl b ↦ inl (h.all x b m) | inr a ↦ absurd (f.first x a o m) ]
+    | inr e ↦ inr e
+  ]);
   rising = rising_push list v h.rising (each_map (λ x. IsIn set x × (x < from)) (λ x. x < v) (λ x k. less x k.1) list h.inside);
 }
   where

@@ -83,8 +83,8 @@ rising_same (x ∷ xs) [] r s f g = absurd (f x (inl refl))
 rising_same (x ∷ xs) (y ∷ ys) r s f g =
     let heads : x ≡ y = same (f x (inl refl)) (g y (inl refl)) in
     let tails : xs ≡ ys = rising_same xs ys r.1 s.1
-        (λ v m. elim (f v (inr m)) as (λ _. SomeOf (λ x. x ≡ v) ys) [ inl e ↦ absurd (above x v xs r.0 m (heads ∙ e)) | inr k ↦ k ])
-        (λ v m. elim (g v (inr m)) as (λ _. SomeOf (λ x. x ≡ v) xs) [ inl e ↦ absurd (above y v ys s.0 m (sym heads ∙ e)) | inr k ↦ k ]) in
+    (λ v m. elim (f v (inr m)) as (λ _. SomeOf (λ x. x ≡ v) ys) [ inl e ↦ absurd (above x v xs r.0 m (heads ∙ e)) | inr k ↦ k ])
+    (λ v m. elim (g v (inr m)) as (λ _. SomeOf (λ x. x ≡ v) xs) [ inl e ↦ absurd (above y v ys s.0 m (sym heads ∙ e)) | inr k ↦ k ]) in
     cc
   where
     above : (a v : ℕ) (zs : List ℕ) → Each (λ z. a < z) zs → SomeOf (λ z. z ≡ v) zs → a ≡ v → ⊥
@@ -253,9 +253,9 @@ module _ (nodes : List NodeView) (states : List ℕ) (ruled waiting : NodeSet) (
   started_with u table joints' counted start small unruled kept tag scope puts counted_is joints_are live_are cells_are =
       let all = h.tables ++ table ∷ [] in
       let scopes_are : tests_of all ≡ map (family_test nodes) other ++ parents_test nodes u ∷ [] =
-          map_append (λ (t : Table). holds t.scope) h.tables (table ∷ [])
-          ∙ ap (λ (ss : List (ℕ → Bool)). ss ++ holds table.scope ∷ []) tests_are
-          ∙ ap (λ (s : ℕ → Bool). map (family_test nodes) other ++ s ∷ []) (fun_ext (parents_told nodes u table.scope scope)) in
+      map_append (λ (t : Table). holds t.scope) h.tables (table ∷ [])
+      ∙ ap (λ (ss : List (ℕ → Bool)). ss ++ holds table.scope ∷ []) tests_are
+      ∙ ap (λ (s : ℕ → Bool). map (family_test nodes) other ++ s ∷ []) (fun_ext (parents_told nodes u table.scope scope)) in
       record {
         are_states = are;
         tables = all;

@@ -160,8 +160,8 @@ module _ (nodes : List NodeView) (states : List ℕ) (Item : ℕ → Type 0) (re
         ∙ ap (λ n. stopped (n + made.cells)) now.cells_are
         ∙ stop_part COUNT_END (first + made_cells nodes steps scopes) made.cells
         ∙ ap (λ n. stopped n) (sym (add_assoc first (made_cells nodes steps scopes) made.cells)
-            ∙ ap (λ n. first + (made_cells nodes steps scopes + n)) (step.cells ∙ ap (λ (ss : List (ℕ → Bool)). cells_over nodes (joined_without v (holding v ss))) now.scopes_are)
-            ∙ ap (λ n. first + n) (sym (made_push nodes steps v scopes)));
+        ∙ ap (λ n. first + (made_cells nodes steps scopes + n)) (step.cells ∙ ap (λ (ss : List (ℕ → Bool)). cells_over nodes (joined_without v (holding v ss))) now.scopes_are)
+        ∙ ap (λ n. first + n) (sym (made_push nodes steps v scopes)));
     work_is =
         work_new
         ∙ ap (λ n. stopped (n + made.work)) now.work_is

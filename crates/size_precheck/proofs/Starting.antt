@@ -122,12 +122,12 @@ module _ (nodes : List NodeView) (keep : List ℕ) (utility : Option ℕ) (graph
       → (v : ℕ) → IsIn result v ↔ Contains (plan_nodes nodes plan) v
   ends_without none ends result ends_are leads v = (
     (λ m.
-      let h = (leads v).0 m in
-      let k = (ends_are h.0).0 h.1 in
-      led_in v h.0 (inl k) h.2 (elim (plain_or_end v h.0 h.2) as (λ _. (node_at nodes v).kind ≢ Utility) [ inl p ↦ p | inr e ↦ asked.kept v (subst (λ x. Contains keep x) (sym e) k) ])),
+        let h = (leads v).0 m in
+        let k = (ends_are h.0).0 h.1 in
+        led_in v h.0 (inl k) h.2 (elim (plain_or_end v h.0 h.2) as (λ _. (node_at nodes v).kind ≢ Utility) [ inl p ↦ p | inr e ↦ asked.kept v (subst (λ x. Contains keep x) (sym e) k) ])),
     (λ m.
-      let h = led_from v m in
-      (leads v).1 (h.0.0, (ends_are h.0.0).1 (elim h.0.1 as (λ _. Contains keep h.0.0) [ inl k ↦ k | inr e ↦ absurd (let f = sym none ∙ e in cc) ]), h.0.2)),
+        let h = led_from v m in
+        (leads v).1 (h.0.0, (ends_are h.0.0).1 (elim h.0.1 as (λ _. Contains keep h.0.0) [ inl k ↦ k | inr e ↦ absurd (let f = sym none ∙ e in cc) ]), h.0.2)),
   )
 
   pub ends_with : (u : ℕ) → utility ≡ Some u → (kept ends all result : NodeSet) → ((v : ℕ) → IsIn kept v ↔ Contains keep v) → ((v : ℕ) → IsIn ends v ↔ (IsIn kept v ⊎ (v ≡ u)))
@@ -135,12 +135,12 @@ module _ (nodes : List NodeView) (keep : List ℕ) (utility : Option ℕ) (graph
       → (v : ℕ) → IsIn result v ↔ Contains (plan_nodes nodes plan) v
   ends_with u some kept ends all result kept_are ends_are leads less v = (
     (λ m.
-      let a = (less v).0 m in
-      let h = (leads v).0 a.0 in
-      led_in v h.0 (an_end h.0 h.1) h.2 (elim (plain_or_end v h.0 h.2) as (λ _. (node_at nodes v).kind ≢ Utility) [ inl p ↦ p | inr e ↦ plain_end v (subst (IsIn ends) (sym e) h.1) a.1 ])),
+        let a = (less v).0 m in
+        let h = (leads v).0 a.0 in
+        led_in v h.0 (an_end h.0 h.1) h.2 (elim (plain_or_end v h.0 h.2) as (λ _. (node_at nodes v).kind ≢ Utility) [ inl p ↦ p | inr e ↦ plain_end v (subst (IsIn ends) (sym e) h.1) a.1 ])),
     (λ m.
-      let h = led_from v m in
-      (less v).1 ((leads v).1 (h.0.0, end_in h.0.0 h.0.1, h.0.2), λ e. h.1 (asked.utility v (some ∙ ap Some (sym e))))),
+        let h = led_from v m in
+        (less v).1 ((leads v).1 (h.0.0, end_in h.0.0 h.0.1, h.0.2), λ e. h.1 (asked.utility v (some ∙ ap Some (sym e))))),
   )
     where
       an_end : (t : ℕ) → IsIn ends t → Ends t

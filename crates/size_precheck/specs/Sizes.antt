@@ -1,12 +1,13 @@
 -- How large plans are, and a run of them.
-use Rattle.std.specs.Prelude.{◌≡◌, ℕ, ◌+◌, ◌*◌, ◌&&◌, Bool, List, [], ◌∷◌, ◌++◌, map, filter, flat_map, length, max, sum_by}
+use Rattle.std.specs.Prelude.{◌≡◌, ◌⊎◌, ◌<◌, Some, Contains, ℕ, ◌+◌, ◌*◌, ◌&&◌, Bool, List, [], ◌∷◌, ◌++◌, map, filter, flat_map, length, max, sum_by}
 use Rattle.std.specs.List.{AllZip}
-use Rattle.maid_model.specs.Graph.{descends}
-use Rattle.maid_model.specs.Nodes.{node_at, numbers_of, is_utility, is_utility_of}
+use Rattle.maid_model.specs.Graph.{Arc, Descends, descends}
+use Rattle.maid_model.specs.Nodes.{IsDecision, node_at, numbers_of, is_utility, is_utility_of}
 use Rattle.maid_model.specs.Views.{NodeView}
 use Rattle.ring_sums.specs.Tables.{joined_without, scopes_one, scopes_after}
 use Rattle.plan_sums.specs.Laws.{IsOrderOfPlan}
 use Rattle.plan_sums.specs.Plans.{PlanView, has, row_plan, gain_plan, worth_plan}
+use Rattle.plan_sums.specs.Sizes.{IsPlan}
 use Rattle.size_precheck.specs.declared.sizes.Size.{Size}
 use Rattle.size_precheck.specs.Counts.{stopped, cells_over}
 use Rattle.size_precheck.specs.Greedy.{first_scopes, holding, joined_set, IsGreedyOrder}
@@ -32,6 +33,13 @@ abbrev pub plan_work : List NodeView → PlanView → List ℕ → ℕ
 plan_work nodes plan steps =
     let scopes = first_scopes nodes plan in
     stopped (steps_work nodes steps scopes + cells_over nodes (has plan.keep) * length (scopes_after steps scopes))
+
+-- a plan that may be asked for: different chance or decision nodes are kept, the utility is one, and the rule that is left out is that of a kept decision from which a path of arcs leads to the utility or to another kept node
+pub record CanBePlanned (nodes : List NodeView) (plan : PlanView) : Type 0 where
+  pub is_plan : IsPlan nodes plan
+  pub known : (u : ℕ) → plan.utility ≡ Some u → u < length nodes
+  pub decision : (d : ℕ) → plan.without ≡ Some d → IsDecision nodes d
+  pub leads : (d : ℕ) → plan.without ≡ Some d → (t : ℕ) × ((plan.utility ≡ Some t) ⊎ Contains plan.keep t) × Descends (Arc nodes) d t
 
 -- what a plan is seen as: what is kept, left out and summed, the nodes that it eliminates in their order, and its size
 pub record SizedPlan : Type 0 where

@@ -11,4 +11,5 @@ mod simulation;
 mod sizes;
 mod starts;
 
+pub use plans::{Plan, make_plan};
 pub use sizes::Size;

@@ -1,6 +1,6 @@
 //! The nodes of a plan and its first tables.
 
-ghost use Rattle.std.specs.Prelude.{◌≡◌, ◌⊎◌, ◌↔◌, ℕ, ◌<◌, ◌≤◌, ◌+◌, List, [], ◌∷◌, ◌++◌, length, map, Contains, Some, None, IfOk, option_to_list};
+ghost use Rattle.std.specs.Prelude.{◌≡◌, ◌⊎◌, ◌↔◌, ℕ, ◌<◌, ◌≤◌, ◌+◌, List, [], ◌∷◌, ◌++◌, length, map, Contains, Some, None, IfOk, OnOk, option_to_list};
 ghost use Rattle.maid_model.specs.declared.limits.TheConstants.{COUNT_END};
 ghost use Rattle.maid_model.specs.Diagrams.{IsDiagram};
 ghost use Rattle.maid_model.specs.Nodes.{parents_of};
@@ -23,6 +23,7 @@ use std::alloc::{AllocError, Global};
 pub fn list_states(alloc: Global, diagram: &Diagram) -> Result<Vec<u64>, AllocError>
     ensures len { IfOk result (λ states. length states.items ≡ MOST_NODES) }
     ensures states { IfOk result (λ states. AreStates diagram.now.nodes states.items) }
+    ensures diagram { OnOk result (IsDiagram diagram.now) }
 {
     let mut states = vec![in alloc; 1; MOST_NODES]?;
     for v in 0..diagram.count() {
@@ -59,6 +60,18 @@ pub fn plan_nodes(diagram: &Diagram, keep: &[usize], utility: Option<usize>) -> 
         }
         None => ancestors(diagram, ends),
     }
+}
+
+/// Those whose own rules are not left out.
+pub fn ruled_nodes(nodes: &NodeSet, without: Option<usize>) -> NodeSet
+    requires { (d : ℕ) → without ≡ Some d → d < MOST_NODES }
+    ensures { (v : ℕ) → IsIn result v ↔ (IsIn nodes.now v × (without ≡ Some v → ⊥)) }
+{
+    let mut ruled = *nodes;
+    if let Some(d) = without {
+        ruled.remove(d);
+    }
+    ruled
 }
 
 /// Puts a first table, and gives its cells.

@@ -23,8 +23,8 @@ overflow_sub-live c =
     let v_is : v ≡ get_or list i 0 = c.remove-v.ensures.value ∙ get_or_default list i v 0 best.within in
     let here : IsIn c.steps.rest v = subst (IsIn c.steps.rest) (sym v_is) (each_at (IsIn c.steps.rest) list i 0 c.steps.invariant.list.inside best.within) in
     let before : Stands states (λ y. IsIn c.remove.new.self y ⊎ (y ≡ v)) now.tables c.steps.joints c.steps.counts =
-        stands_less states (IsIn c.steps.rest) (λ y. IsIn c.remove.new.self y ⊎ (y ≡ v)) now.tables c.steps.joints c.steps.counts
-        (λ y. elim [ inl m ↦ ((c.remove.ensures y).0 m).0 | inr e ↦ subst (IsIn c.steps.rest) (sym e) here ]) now.stands in
+    stands_less states (IsIn c.steps.rest) (λ y. IsIn c.remove.new.self y ⊎ (y ≡ v)) now.tables c.steps.joints c.steps.counts
+    (λ y. elim [ inl m ↦ ((c.remove.ensures y).0 m).0 | inr e ↦ subst (IsIn c.steps.rest) (sym e) here ]) now.stands in
     joined_few started.0 states waiting c.steps.rest started.1 c.steps.steps.items c.steps.joints c.steps.counts c.steps.live c.steps.cells c.steps.work started.2.are_states now v _ _ _ _
     (c.eliminate-made.ensures.step started.0 now.tables started.2.are_states before)
 
@@ -56,14 +56,14 @@ steps-preserved c =
       at = λ (nodes : List NodeView) (scopes : List (ℕ → Bool)) (started : IsStarted nodes states waiting scopes c.args.start).
           let now = inv.at nodes scopes started in
           let before : Stands states (λ y. IsIn c.remove.new.self y ⊎ (y ≡ v)) now.tables c.steps.joints c.steps.counts =
-              stands_less states (IsIn c.steps.rest) (λ y. IsIn c.remove.new.self y ⊎ (y ≡ v)) now.tables c.steps.joints c.steps.counts
-              (λ y. elim [ inl m ↦ ((c.remove.ensures y).0 m).0 | inr e ↦ subst (IsIn c.steps.rest) (sym e) here ]) now.stands in
+          stands_less states (IsIn c.steps.rest) (λ y. IsIn c.remove.new.self y ⊎ (y ≡ v)) now.tables c.steps.joints c.steps.counts
+          (λ y. elim [ inl m ↦ ((c.remove.ensures y).0 m).0 | inr e ↦ subst (IsIn c.steps.rest) (sym e) here ]) now.stands in
           let next : IsNext nodes waiting scopes c.steps.steps.items v = subst (λ x. IsNext nodes waiting scopes c.steps.steps.items x) (sym v_is)
-              (is_next nodes states waiting c.steps.rest scopes c.steps.steps.items c.steps.joints c.steps.counts c.steps.live c.steps.cells c.steps.work started.are_states now list i inv.list inv.remains best there) in
+          (is_next nodes states waiting c.steps.rest scopes c.steps.steps.items c.steps.joints c.steps.counts c.steps.live c.steps.cells c.steps.work started.are_states now list i inv.list inv.remains best there) in
           subst (λ (xs : List ℕ). At nodes states waiting (IsIn c.remove.new.self) scopes xs c.eliminate-made.new.joints c.eliminate-made.new.cells (c.steps.live + 1 - c.eliminate-made.result.tables) c.add-cells.result c.add-work.result)
           (sym c.in_ok-push.ensures.items)
           (at_more nodes states waiting c.steps.rest scopes c.steps.steps.items c.steps.joints c.steps.counts c.steps.live c.steps.cells c.steps.work started.are_states now v (IsIn c.remove.new.self) _ _ c.eliminate-made.result _ _ _
-            next (c.eliminate-made.ensures.step nodes now.tables started.are_states before) refl c.add-cells.ensures c.add-work.ensures);
+          next (c.eliminate-made.ensures.step nodes now.tables started.are_states before) refl c.add-cells.ensures c.add-work.ensures);
     }
 
 pub returns-clause-run : goal.returns-clause-run

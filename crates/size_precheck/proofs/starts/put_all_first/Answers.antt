@@ -37,9 +37,9 @@ tables-preserved c =
       little = subst (λ (n : ℕ). n ≤ 10 ^ 18) (sym c.add-cells.ensures) (stopped_few _);
       put = subst (λ (js : List Joint). Put c.args.diagram.now.nodes c.args.ruled.now c.args.waiting.now (c.in-Some.v + 1) js (c.tables.live + 1) c.add-cells.result) (sym back)
           (put_more c.args.diagram.now.nodes c.args.states.now c.args.ruled.now c.args.waiting.now c.tables.from c.in-Some.v c.tables.joints.items c.put_first.new.joints c.tables.live c.tables.cells _ c.put_first.result c.node_table-table.result
-            c.requires.states c.in-Some.ensures c.node_table-table.ensures.tag c.node_table-table.ensures.scope
-            (λ (tables : List Table) (y : ℕ) m h. c.put_first.ensures.tells tables y m (subst (λ (js : List Joint). Tells tables y (joint_at js y)) (sym before) h))
-            c.put_first.ensures.cells c.add-cells.ensures inv.put);
+          c.requires.states c.in-Some.ensures c.node_table-table.ensures.tag c.node_table-table.ensures.scope
+          (λ (tables : List Table) (y : ℕ) m h. c.put_first.ensures.tells tables y m (subst (λ (js : List Joint). Tells tables y (joint_at js y)) (sym before) h))
+          c.put_first.ensures.cells c.add-cells.ensures inv.put);
     }
 
 pub returns-clause-started : goal.returns-clause-started
@@ -58,12 +58,12 @@ returns-clause-started c list listed =
           let small : u < 256 = let a = c.requires.known u some in let b = c.requires.states.few in omega arith in
           subst (λ (o : Option ℕ). IsStarted nodes c.args.states.now (IsIn c.args.waiting.now) (map (family_test nodes) list ++ map (parents_test nodes) (option_to_list o)) start) (sym some)
           (started_with nodes c.args.states.now c.args.ruled.now c.args.waiting.now c.tables.from inv.within c.in_default.ensures c.requires.states c.tables.joints.items c.tables.live c.tables.cells inv.put list listed
-            u w.utility_table-table.result w.put_first-in-Some-utility.new.joints w.put_first-in-Some-utility.result start small (c.requires.unruled u some) (c.requires.kept u some)
-            w.utility_table-table.ensures.tag w.utility_table-table.ensures.scope
-            (λ (tables : List Table) (y : ℕ) m h. w.put_first-in-Some-utility.ensures.tells tables y m (subst (λ (js : List Joint). Tells tables y (joint_at js y)) (sym before) h))
-            w.put_first-in-Some-utility.ensures.cells (ap (λ (v : Vec Joint). v.items) w.joints-is ∙ back) w.live-is (w.cells-is ∙ w.add-cells-in-Some-utility.ensures))
+          u w.utility_table-table.result w.put_first-in-Some-utility.new.joints w.put_first-in-Some-utility.result start small (c.requires.unruled u some) (c.requires.kept u some)
+          w.utility_table-table.ensures.tag w.utility_table-table.ensures.scope
+          (λ (tables : List Table) (y : ℕ) m h. w.put_first-in-Some-utility.ensures.tells tables y m (subst (λ (js : List Joint). Tells tables y (joint_at js y)) (sym before) h))
+          w.put_first-in-Some-utility.ensures.cells (ap (λ (v : Vec Joint). v.items) w.joints-is ∙ back) w.live-is (w.cells-is ∙ w.add-cells-in-Some-utility.ensures))
       | in_default-utility w ↦
           subst (λ (o : Option ℕ). IsStarted nodes c.args.states.now (IsIn c.args.waiting.now) (map (family_test nodes) list ++ map (parents_test nodes) (option_to_list o)) start) (sym w.in_default-utility.is)
           (started_without nodes c.args.states.now c.args.ruled.now c.args.waiting.now c.tables.from inv.within c.in_default.ensures c.requires.states c.tables.joints.items c.tables.live c.tables.cells inv.put list listed
-            start (ap (λ (v : Vec Joint). v.items) w.joints-is) w.live-is w.cells-is)
+          start (ap (λ (v : Vec Joint). v.items) w.joints-is) w.live-is w.cells-is)
     ]
