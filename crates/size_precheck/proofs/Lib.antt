@@ -9,3 +9,4 @@ pub mod Starting
 pub mod Putting
 pub mod Planning
 pub mod Orders
+pub mod Measuring

@@ -3,3 +3,4 @@ pub mod Greedy
 pub mod Sizes
 pub mod Laws
 pub mod Joints
+pub mod Runs

@@ -1,7 +1,7 @@
 -- How large plans are, and a run of them.
-use Rattle.std.specs.Prelude.{◌≡◌, ◌⊎◌, ◌<◌, Some, Contains, ℕ, ◌+◌, ◌*◌, ◌&&◌, Bool, List, [], ◌∷◌, ◌++◌, map, filter, flat_map, length, max, sum_by}
+use Rattle.std.specs.Prelude.{◌≡◌, ◌⊎◌, ◌↔◌, ◌<◌, Some, Contains, ℕ, ◌+◌, ◌*◌, ◌&&◌, Bool, List, [], ◌∷◌, ◌++◌, map, filter, flat_map, length, max, sum_by}
 use Rattle.std.specs.List.{AllZip}
-use Rattle.maid_model.specs.Graph.{Arc, Descends, descends}
+use Rattle.maid_model.specs.Graph.{AllDifferent, Arc, Descends, descends}
 use Rattle.maid_model.specs.Nodes.{IsDecision, node_at, numbers_of, is_utility, is_utility_of}
 use Rattle.maid_model.specs.Views.{NodeView}
 use Rattle.ring_sums.specs.Tables.{joined_without, scopes_one, scopes_after}
@@ -57,8 +57,11 @@ pub record IsMade (nodes : List NodeView) (asked : PlanView) (made : SizedPlan) 
 
 -- ---- a run
 -- the utilities of the decision's agent that descend from it
+abbrev pub is_goal : List NodeView → ℕ → ℕ → Bool
+is_goal nodes d u = descends nodes d u && is_utility_of nodes (node_at nodes d).owner u
+
 abbrev pub goal_list : List NodeView → ℕ → List ℕ
-goal_list nodes d = filter (λ u. descends nodes d u && is_utility_of nodes (node_at nodes d).owner u) (numbers_of nodes)
+goal_list nodes d = filter (λ u. is_goal nodes d u) (numbers_of nodes)
 
 abbrev pub utility_list : List NodeView → List ℕ
 utility_list nodes = filter (λ u. is_utility (node_at nodes u).kind) (numbers_of nodes)
@@ -85,3 +88,12 @@ pub record IsSizeOfAll (nodes : List NodeView) (plans : List PlanView) (size : S
   pub each : AllZip (HasSize nodes) plans sizes
   pub cells : size.cells ≡ greatest (map (λ s. s.cells) sizes)
   pub work : size.work ≡ stopped (sum_by (λ s. s.work) sizes)
+
+-- the order lists each decision once
+pub record ListsDecisions (nodes : List NodeView) (order : List ℕ) : Type 0 where
+  pub once : AllDifferent order
+  pub all : (v : ℕ) → Contains order v ↔ IsDecision nodes v
+
+-- the size of a run
+abbrev pub IsSizeOfRun : List NodeView → List ℕ → Size → Type 0
+IsSizeOfRun nodes order size = IsSizeOfAll nodes (run_plans nodes order) size

@@ -12,4 +12,5 @@ mod sizes;
 mod starts;
 
 pub use plans::{Plan, make_plan};
+pub use runs::measure;
 pub use sizes::Size;
