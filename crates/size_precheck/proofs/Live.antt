@@ -1,13 +1,11 @@
 -- What joints tell of the live tables, as tables are put and nodes are eliminated.
-use Rattle.std.proofs.Common.{◌≡◌, ◌∙◌, ◌⊎◌, ◌↔◌, ℕ, ◌<◌, Bool, true, false, cond, not, filter, List, [], ◌∷◌, ◌++◌, sym, ap, subst, inl, inr}
-use Rattle.finite_sums.proofs.Counts.{true_or_false}
-use Rattle.std.proofs.Math.Decide.{ℕ_discrete}
+use Rattle.std.proofs.Common.{◌≡◌, ◌∙◌, ◌⊎◌, ◌↔◌, ℕ, ◌<◌, Bool, true, false, cond, not, filter, List, [], ◌∷◌, ◌++◌, sym, subst, inl, inr}
 use Rattle.node_sets.specs.Sets.{holds, IsIn}
 use Rattle.node_sets.specs.declared.sets.NodeSet.{NodeSet}
 use Rattle.size_precheck.specs.declared.joints.Joint.{Joint}
 use Rattle.size_precheck.specs.declared.joints.Table.{Table}
-use Rattle.size_precheck.specs.Joints.{IsPut, SomeOf, Each, TagsDiffer, Tells, AreLive}
-use Rattle.size_precheck.proofs.Somewhere.{some_map, some_push, push_some, some_filter, filter_some, some_never, some_split, each_push, each_some, each_filter, each_map, not_true, true_not}
+use Rattle.size_precheck.specs.Joints.{IsPut, SomeOf, TagsDiffer, Tells, AreLive}
+use Rattle.size_precheck.proofs.Somewhere.{some_map, some_push, push_some, some_filter, filter_some, some_never, some_split, each_push, each_some, each_filter, not_true}
 
 -- the tables that hold v, and those that don't
 abbrev pub with_v : ℕ → List Table → List Table

@@ -1,7 +1,7 @@
 -- The plans of a run, counted one after the other.
-use Rattle.std.proofs.Common.{◌≡◌, ◌≢◌, ◌∙◌, ◌⊎◌, ◌↔◌, ℕ, zero, suc, ◌+◌, ◌<◌, ◌≤◌, ◌^◌, Bool, true, false, cond, not, ◌&&◌, eqb, filter, map, List, [], ◌∷◌, ◌++◌, length, take, get_or, max, min, refl, sym, ap, subst, inl, inr, arith, Option, Some, None}
+use Rattle.std.proofs.Common.{◌≡◌, ◌≢◌, ◌∙◌, ◌↔◌, ℕ, zero, suc, ◌+◌, ◌<◌, ◌≤◌, ◌^◌, Bool, true, false, cond, ◌&&◌, eqb, filter, map, List, [], ◌∷◌, ◌++◌, length, take, get_or, max, refl, sym, ap, subst, inl, inr, arith, None}
 use Rattle.std.specs.Prelude.{Contains, sum_by, flat_map}
-use Rattle.std.specs.List.{range_with_len, AllZip}
+use Rattle.std.specs.List.{range_with_len}
 use Rattle.std.proofs.lemmas.Bool.Decides.{nat_tests}
 use Rattle.std.proofs.lemmas.List.{take_more}
 use Rattle.std.proofs.lemmas.List.Concat.{flat_map-append}
@@ -9,15 +9,14 @@ use Rattle.std.proofs.lemmas.List.Sums.{sum_by-append}
 use Rattle.maid_model.specs.declared.limits.TheConstants.{COUNT_END}
 use Rattle.maid_model.specs.declared.diagrams.Kind.{Kind}
 use Rattle.maid_model.specs.declared.diagrams.Kind.TheVariants.{Chance, Decision, Utility}
-use Rattle.maid_model.specs.Graph.{Arc, IsPath, Here, Along, Descends, IsGraph, AllDifferent, descends}
+use Rattle.maid_model.specs.Graph.{Arc, Here, Descends, IsGraph, descends}
 use Rattle.maid_model.specs.Laws.{TestsDescent}
-use Rattle.maid_model.specs.Nodes.{IsDecision, node_at, parents_of, numbers_of, is_utility, is_utility_of}
+use Rattle.maid_model.specs.Nodes.{IsDecision, node_at, parents_of, is_utility, is_utility_of}
 use Rattle.maid_model.specs.Relevance.{IsGoal}
 use Rattle.maid_model.specs.Views.{NodeView}
 use Rattle.finite_sums.proofs.Counts.{true_or_false}
 use Rattle.finite_sums.proofs.Members.{among_from_contains, contains_from_among}
 use Rattle.plan_sums.specs.Plans.{PlanView, row_plan, gain_plan, worth_plan}
-use Rattle.plan_sums.specs.Sizes.{IsPlan}
 use Rattle.ring_sums.proofs.Same.{map_append}
 use Rattle.ring_sums.proofs.Each.{zip_append}
 use Rattle.size_precheck.specs.declared.sizes.Size.{Size}

@@ -1,8 +1,7 @@
 -- The nodes, scopes and steps of a plan by the sets and counts of `make_plan`.
-use Rattle.std.proofs.Common.{◌≡◌, ◌∙◌, ◌⊎◌, ◌↔◌, ℕ, zero, suc, ◌+◌, ◌*◌, ◌<◌, ◌≤◌, Bool, true, false, cond, not, ◌&&◌, ◌||◌, eqb, filter, map, List, [], ◌∷◌, ◌++◌, length, refl, sym, ap, subst, inl, inr, arith, Option, Some, None}
-use Rattle.std.specs.Prelude.{Contains, sum_by, option_to_list}
-use Rattle.std.specs.List.{list_any, range_with_len}
-use Rattle.finite_sums.proofs.Counts.{true_or_false}
+use Rattle.std.proofs.Common.{◌≡◌, ◌∙◌, ◌↔◌, ℕ, zero, suc, ◌+◌, ◌*◌, ◌<◌, Bool, true, false, cond, not, ◌&&◌, ◌||◌, filter, map, List, [], ◌∷◌, ◌++◌, length, refl, sym, ap, subst, inl, inr, arith, Option, Some, None}
+use Rattle.std.specs.Prelude.{Contains, option_to_list}
+use Rattle.std.specs.List.{range_with_len}
 use Rattle.finite_sums.proofs.Lists.{among_filter}
 use Rattle.finite_sums.proofs.Members.{among_from_contains, contains_from_among, filter_has}
 use Rattle.maid_model.specs.declared.limits.TheConstants.{COUNT_END}
@@ -14,9 +13,8 @@ use Rattle.node_sets.specs.declared.sets.NodeSet.{NodeSet}
 use Rattle.plan_sums.specs.Plans.{Cells, PlanView, has, in_plan, plan_nodes, eliminated_nodes, ruled_nodes, node_table, utility_table, first_tables}
 use Rattle.plan_sums.specs.Sizes.{IsPlan}
 use Rattle.ring_sums.proofs.Same.{map_append}
-use Rattle.ring_sums.specs.Tables.{scopes_of, scopes_after}
+use Rattle.ring_sums.specs.Tables.{scopes_of}
 use Rattle.size_precheck.specs.Counts.{stopped, cells_over}
-use Rattle.size_precheck.specs.Greedy.{first_scopes}
 use Rattle.size_precheck.specs.Joints.{counted_over, AreStates, SomeOf, Each, Rising, IsListOf, family_test, parents_test}
 use Rattle.size_precheck.proofs.Counting.{stop_part, stop_later}
 use Rattle.size_precheck.proofs.Putting.{has_contains, contains_some}

@@ -1,7 +1,6 @@
 -- First tables, as they are put one after the other.
-use Rattle.std.proofs.Common.{◌≡◌, ◌∙◌, ◌⊎◌, ◌↔◌, ℕ, zero, suc, ◌+◌, ◌<◌, ◌≤◌, Bool, true, false, ◌||◌, eqb, map, List, [], ◌∷◌, ◌++◌, length, take, drop, get_or, refl, sym, ap, subst, inl, inr, arith, Option, Some, None}
-use Rattle.std.specs.Prelude.{Contains, sum_by, option_to_list, replicate}
-use Rattle.std.specs.List.{list_any}
+use Rattle.std.proofs.Common.{◌≡◌, ◌∙◌, ◌⊎◌, ◌↔◌, ℕ, zero, suc, ◌+◌, ◌<◌, ◌≤◌, Bool, true, false, ◌||◌, eqb, map, List, [], ◌∷◌, ◌++◌, length, take, drop, get_or, refl, sym, ap, subst, inl, inr, arith}
+use Rattle.std.specs.Prelude.{Contains, sum_by, replicate}
 use Rattle.std.proofs.Math.Path.{fun_ext}
 use Rattle.std.proofs.lemmas.Bool.Decides.{nat_tests}
 use Rattle.std.proofs.lemmas.List.{length_push, take-append-le, take_all}
@@ -21,10 +20,10 @@ use Rattle.size_precheck.specs.declared.simulation.Start.{Start}
 use Rattle.size_precheck.specs.Counts.{stopped, cells_over}
 use Rattle.size_precheck.specs.Joints.{joint_at, counted_over, AreStates, SomeOf, Each, TagsDiffer, Tells, AreLive, tests_of, Rising, IsListOf, IsStarted, family_test, parents_test}
 use Rattle.size_precheck.proofs.Counting.{stop_part}
-use Rattle.size_precheck.proofs.Lists.{IsListTo, list_more, list_done, each_at}
+use Rattle.size_precheck.proofs.Lists.{IsListTo, list_more, list_done}
 use Rattle.size_precheck.proofs.Live.{differ_push}
 use Rattle.size_precheck.proofs.Scoped.{cells_counted}
-use Rattle.size_precheck.proofs.Somewhere.{some_map, some_mapped, mapped_some, any_some, some_any, each_some, each_push, each_map, same_test, some_never}
+use Rattle.size_precheck.proofs.Somewhere.{some_map, any_some, some_any, each_some, each_push, each_map, same_test, some_never}
 
 -- ---- scopes as tests
 some_among : (v : ℕ) (list : List ℕ) → SomeOf (λ x. x ≡ v) list → Among v list

@@ -1,10 +1,10 @@
 -- The joints' sets and counts are those of the live scopes.
-use Rattle.std.proofs.Common.{◌≡◌, ◌∙◌, ◌⊎◌, ◌↔◌, ℕ, zero, suc, ◌+◌, ◌*◌, ◌<◌, ◌≤◌, Bool, true, false, cond, not, ◌&&◌, eqb, filter, map, List, [], ◌∷◌, ◌++◌, length, get_or, refl, sym, ap, subst, inl, inr, arith}
+use Rattle.std.proofs.Common.{◌≡◌, ◌∙◌, ◌↔◌, ℕ, zero, suc, ◌+◌, ◌*◌, ◌<◌, ◌≤◌, Bool, true, false, cond, not, ◌&&◌, eqb, filter, List, [], ◌∷◌, ◌++◌, length, get_or, refl, sym, ap, inl, inr, arith}
 use Rattle.std.proofs.Math.Path.{fun_ext}
 use Rattle.std.proofs.Math.Decide.{ℕ_discrete}
 use Rattle.std.proofs.lemmas.Bool.Decides.{nat_tests}
 use Rattle.std.proofs.lemmas.List.{get_or_past, length-map}
-use Rattle.std.specs.List.{list_any, range_with_len}
+use Rattle.std.specs.List.{range_with_len}
 use Rattle.finite_sums.proofs.Counts.{true_or_false}
 use Rattle.finite_sums.specs.Sums.{nat_product_over}
 use Rattle.maid_model.specs.Nodes.{no_node, states_of, numbers_of}
@@ -20,7 +20,7 @@ use Rattle.size_precheck.specs.Greedy.{holding, joined_set}
 use Rattle.size_precheck.specs.Joints.{members_below, member_count, product_below, factor, counted_over, AreStates, tests_of, SomeOf, Each, TagsDiffer, Tells, AreLive}
 use Rattle.size_precheck.proofs.Counting.{members_gap, product_gap}
 use Rattle.size_precheck.proofs.Somewhere.{some_map, some_filter, filter_some, any_some, some_any, some_mapped, mapped_some, each_filter, same_test, not_true, true_not}
-use Rattle.size_precheck.proofs.Live.{with_v, without_v, differ_filter, after_step}
+use Rattle.size_precheck.proofs.Live.{with_v, without_v, differ_filter}
 
 -- ---- as many members as different tags
 members_same : (f g : ℕ → Bool) (n : ℕ) → ((x : ℕ) → x < n → f x ≡ g x) → members_below f n ≡ members_below g n

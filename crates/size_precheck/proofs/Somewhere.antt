@@ -1,5 +1,5 @@
 -- A fact of some element of a list, by cases.
-use Rattle.std.proofs.Common.{◌≡◌, ◌∙◌, ◌⊎◌, Bool, true, false, cond, ◌||◌, ◌&&◌, not, filter, map, List, [], ◌∷◌, ◌++◌, refl, sym, ap, inl, inr}
+use Rattle.std.proofs.Common.{◌≡◌, ◌∙◌, ◌⊎◌, Bool, true, false, cond, ◌||◌, not, filter, map, List, [], ◌∷◌, ◌++◌, refl, sym, ap, inl, inr}
 use Rattle.std.specs.List.{list_any}
 use Rattle.finite_sums.proofs.Counts.{true_or_false}
 use Rattle.size_precheck.specs.Joints.{SomeOf, Each}

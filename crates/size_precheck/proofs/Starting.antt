@@ -1,22 +1,20 @@
 -- The nodes of a plan, its first tables, and what is known before the first step.
-use Rattle.std.proofs.Common.{◌≡◌, ◌≢◌, ◌∙◌, ◌⊎◌, ◌↔◌, ℕ, zero, suc, ◌+◌, ◌<◌, ◌≤◌, Bool, true, false, cond, not, ◌||◌, eqb, filter, map, List, [], ◌∷◌, ◌++◌, length, get_or, refl, sym, ap, subst, inl, inr, arith, Option, Some, None}
-use Rattle.std.specs.Prelude.{Contains, slice_index_or, option_to_list, replicate, set}
-use Rattle.std.specs.List.{list_any, range_with_len}
+use Rattle.std.proofs.Common.{◌≡◌, ◌≢◌, ◌∙◌, ◌⊎◌, ◌↔◌, ℕ, zero, suc, ◌+◌, ◌<◌, ◌≤◌, Bool, true, false, filter, List, [], ◌∷◌, ◌++◌, length, get_or, refl, sym, ap, subst, inl, inr, arith, Option, Some, None}
+use Rattle.std.specs.Prelude.{Contains, slice_index_or, replicate, set}
+use Rattle.std.specs.List.{range_with_len}
 use Rattle.std.proofs.lemmas.Bool.{cases_lt, cases_eq}
-use Rattle.std.proofs.lemmas.Bool.Decides.{nat_tests}
 use Rattle.std.proofs.lemmas.List.{get_or_past, get_or-set_same, get_or-set_other}
 use Rattle.finite_sums.proofs.Counts.{true_or_false}
 use Rattle.finite_sums.proofs.Lists.{among_filter}
 use Rattle.finite_sums.proofs.Members.{among_from_contains, contains_from_among, range_within, range_has, filter_has}
-use Rattle.finite_sums.specs.Members.{Among}
 use Rattle.maid_model.specs.declared.diagrams.Kind.TheVariants.{Utility}
 use Rattle.maid_model.specs.Graph.{Arc, IsPath, Here, Along, Descends, IsGraph}
-use Rattle.maid_model.specs.Nodes.{no_node, node_at, states_of, parents_of, numbers_of}
+use Rattle.maid_model.specs.Nodes.{no_node, node_at, states_of}
 use Rattle.maid_model.specs.Views.{NodeView}
 use Rattle.node_sets.specs.Sets.{holds, IsIn}
 use Rattle.node_sets.specs.declared.sets.NodeSet.{NodeSet}
 use Rattle.plan_sums.specs.Laws.{TestsPlanNodes}
-use Rattle.plan_sums.specs.Plans.{PlanView, has, in_plan, plan_nodes}
+use Rattle.plan_sums.specs.Plans.{PlanView, in_plan, plan_nodes}
 use Rattle.plan_sums.specs.Sizes.{IsPlan}
 use Rattle.size_precheck.specs.declared.joints.Joint.{Joint}
 use Rattle.size_precheck.specs.declared.joints.Table.{Table}

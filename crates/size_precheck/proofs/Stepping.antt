@@ -1,5 +1,5 @@
 -- What a step of the simulation makes is what a step makes of the live scopes.
-use Rattle.std.proofs.Common.{◌≡◌, ◌∙◌, ◌⊎◌, ◌↔◌, ℕ, ◌*◌, ◌<◌, Bool, true, false, not, filter, List, [], ◌∷◌, ◌++◌, length, refl, sym, ap, subst, inl, inr}
+use Rattle.std.proofs.Common.{◌≡◌, ◌∙◌, ◌⊎◌, ◌↔◌, ℕ, ◌*◌, ◌<◌, true, false, List, length, refl, sym, ap, subst, inl, inr}
 use Rattle.std.specs.Prelude.{slice_index}
 use Rattle.finite_sums.proofs.Counts.{true_or_false}
 use Rattle.maid_model.specs.Views.{NodeView}
@@ -10,7 +10,7 @@ use Rattle.size_precheck.specs.declared.joints.Table.{Table}
 use Rattle.size_precheck.specs.Counts.{stopped, cells_over}
 use Rattle.size_precheck.specs.Greedy.{holding, joined_set}
 use Rattle.size_precheck.specs.Joints.{joint_at, member_count, counted_over, AreStates, IsPut, SomeOf, Tells, Stands, IsStep, tests_of}
-use Rattle.size_precheck.proofs.Live.{with_v, without_v, after_step, step_put, step_same, step_live}
+use Rattle.size_precheck.proofs.Live.{after_step, step_put, step_same, step_live}
 use Rattle.size_precheck.proofs.Scoped.{tables_counted, holding_counted, set_told, made_told, step_scopes, cells_counted}
 
 -- a put is one where the same nodes leave

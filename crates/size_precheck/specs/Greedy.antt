@@ -1,5 +1,5 @@
 -- The order in which a plan eliminates its nodes: each time the one whose joined set has fewest cells (Koller and Friedman 2009, greedy elimination by weight).
-use Rattle.std.specs.Prelude.{◌≡◌, ℕ, ◌<◌, ◌≤◌, Bool, List, [], filter, take, length, slice_index, Contains}
+use Rattle.std.specs.Prelude.{ℕ, ◌<◌, ◌≤◌, Bool, List, [], filter, take, length, slice_index, Contains}
 use Rattle.std.specs.List.{list_any}
 use Rattle.maid_model.specs.Placing.{Remains}
 use Rattle.maid_model.specs.Views.{NodeView}

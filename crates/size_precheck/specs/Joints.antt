@@ -1,5 +1,5 @@
 -- What the steps of simulating a plan promise one another. Only private functions cite this file.
-use Rattle.std.specs.Prelude.{◌==◌, ◌||◌, ◌≤◌, slice_index, sum_by, ◌≡◌, ◌⊎◌, ◌↔◌, ℕ, zero, suc, ◌+◌, ◌*◌, ◌<◌, Bool, List, [], ◌∷◌, map, length, slice_index_or, Contains, if◌then◌else◌}
+use Rattle.std.specs.Prelude.{◌==◌, ◌||◌, ◌≤◌, slice_index, sum_by, ◌≡◌, ◌⊎◌, ◌↔◌, ℕ, zero, suc, ◌+◌, ◌*◌, ◌<◌, Bool, List, [], ◌∷◌, map, length, slice_index_or, if◌then◌else◌}
 use Rattle.maid_model.specs.Nodes.{states_of, parents_of}
 use Rattle.plan_sums.specs.Plans.{has}
 use Rattle.maid_model.specs.Views.{NodeView}

@@ -1,5 +1,5 @@
 -- What the steps of measuring a run promise one another. Only private functions cite this file.
-use Rattle.std.specs.Prelude.{◌≡◌, ℕ, ◌+◌, List, map, max, sum_by}
+use Rattle.std.specs.Prelude.{◌≡◌, ◌+◌, List, map, max, sum_by}
 use Rattle.std.specs.List.{AllZip}
 use Rattle.maid_model.specs.Views.{NodeView}
 use Rattle.plan_sums.specs.Plans.{PlanView}

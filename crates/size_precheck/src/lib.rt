@@ -11,6 +11,7 @@ mod simulation;
 mod sizes;
 mod starts;
 
+pub use laws::{greedy_orders, sizes_of_plans};
 pub use plans::{Plan, make_plan};
 pub use runs::measure;
 pub use sizes::Size;

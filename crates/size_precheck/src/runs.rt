@@ -91,12 +91,7 @@ fn include_gain(
 }
 
 /// Counts the plans of the decision's states in, for each of its goals.
-fn include_gains(
-    alloc: Global,
-    diagram: &Diagram,
-    d: usize,
-    size: Size,
-) -> Result<Size, AllocError>
+fn include_gains(alloc: Global, diagram: &Diagram, d: usize, size: Size) -> Result<Size, AllocError>
     requires decision { IsDecision diagram.now.nodes d }
     requires few { size.work ≤ COUNT_END }
     ensures { IfOk result (λ after. Includes diagram.now.nodes (map (λ u. gain_plan diagram.now.nodes d u) (goal_list diagram.now.nodes d)) size after) }
@@ -133,12 +128,7 @@ fn include_all_gains(
 }
 
 /// Counts the plan of the node's worth in, if it is a utility.
-fn include_worth(
-    alloc: Global,
-    diagram: &Diagram,
-    u: usize,
-    size: Size,
-) -> Result<Size, AllocError>
+fn include_worth(alloc: Global, diagram: &Diagram, u: usize, size: Size) -> Result<Size, AllocError>
     requires within { u < length diagram.now.nodes }
     requires few { size.work ≤ COUNT_END }
     ensures { IfOk result (λ after. Includes diagram.now.nodes (map (λ x. worth_plan x) (filter (λ x. is_utility (node_at diagram.now.nodes x).kind) (u ∷ []))) size after) }

@@ -1,12 +1,11 @@
-use Rattle.std.proofs.Common.{◌≡◌, ◌↔◌, ◌∙◌, ℕ, ◌+◌, ◌<◌, ◌≤◌, ◌^◌, Bool, List, [], map, ◌++◌, length, refl, subst, sym, ap, arith}
+use Rattle.std.proofs.Common.{◌∙◌, ℕ, ◌≤◌, ◌^◌, Bool, List, [], map, ◌++◌, subst, sym, ap, arith}
 use Rattle.std.specs.Prelude.{Contains, option_to_list}
 use Rattle.maid_model.specs.Views.{NodeView}
 use Rattle.node_sets.specs.Sets.{IsIn}
-use Rattle.plan_sums.specs.Plans.{PlanView, plan_nodes, ruled_nodes, eliminated_nodes, mass_cells}
+use Rattle.plan_sums.specs.Plans.{PlanView, ruled_nodes, eliminated_nodes, mass_cells}
 use Rattle.size_precheck.specs.Joints.{AreStates, IsStarted, IsRun, family_test, parents_test}
 use Rattle.size_precheck.specs.Greedy.{first_scopes, IsGreedyOrder}
-use Rattle.size_precheck.specs.Sizes.{IsMade}
-use Rattle.size_precheck.proofs.Counting.{stopped_few, counted_few}
+use Rattle.size_precheck.proofs.Counting.{counted_few}
 use Rattle.size_precheck.proofs.Orders.{greedy_same, order_of_greedy}
 use Rattle.size_precheck.proofs.Planning.{all_known, all_plain, in_waiting, ruled_listed, scopes_listed, kept_counted, last_cells, last_work}
 use Rattle.size_precheck.proofs.Starting.{kept_known}
@@ -48,9 +47,11 @@ eliminate_all-requires-clause-within c y m =
 pub eliminate_all-requires-clause-started : goal.eliminate_all-requires-clause-started
 eliminate_all-requires-clause-started c =
     let nodes : List NodeView = c.args.diagram.now.nodes in
-    let plan : PlanView = record { keep = c.args.keep.now; without = c.args.without; utility = c.args.utility } in
-    (nodes, map (family_test nodes) (ruled_nodes nodes plan) ++ map (parents_test nodes) (option_to_list plan.utility),
-      c.in_ok-start.ensures.started (ruled_nodes nodes plan) (ruled_listed nodes plan c.plan_nodes-nodes.result c.plan_nodes-nodes.ensures c.ruled_nodes-ruled.result c.ruled_nodes-ruled.ensures))
+    let plan : PlanView = record { keep = c.args.keep.now; without = c.args.without; utility = c.args.utility } in (
+      nodes,
+      map (family_test nodes) (ruled_nodes nodes plan) ++ map (parents_test nodes) (option_to_list plan.utility),
+      c.in_ok-start.ensures.started (ruled_nodes nodes plan) (ruled_listed nodes plan c.plan_nodes-nodes.result c.plan_nodes-nodes.ensures c.ruled_nodes-ruled.result c.ruled_nodes-ruled.ensures),
+    )
 
 pub add-cells-requires-clause-b : goal.add-cells-requires-clause-b
 add-cells-requires-clause-b c = subst (λ (n : ℕ). n ≤ 10 ^ 18) (sym c.count_cells-last.ensures) (counted_few _ _)
@@ -63,11 +64,11 @@ returns c =
     let are : AreStates nodes states = subst (λ (xs : List ℕ). AreStates nodes xs) (sym c.as_slice-states.ensures.value) c.in_ok-counts.ensures.states in
     let listed = ruled_listed nodes plan c.plan_nodes-nodes.result c.plan_nodes-nodes.ensures c.ruled_nodes-ruled.result c.ruled_nodes-ruled.ensures in
     let started : IsStarted nodes states (IsIn c.difference-waiting.result) (first_scopes nodes plan) c.in_ok-start.start =
-        subst (λ (ss : List (ℕ → Bool)). IsStarted nodes states (IsIn c.difference-waiting.result) ss c.in_ok-start.start) (sym (scopes_listed mass_cells nodes [] plan)) (c.in_ok-start.ensures.started (ruled_nodes nodes plan) listed) in
+    subst (λ (ss : List (ℕ → Bool)). IsStarted nodes states (IsIn c.difference-waiting.result) ss c.in_ok-start.start) (sym (scopes_listed mass_cells nodes [] plan)) (c.in_ok-start.ensures.started (ruled_nodes nodes plan) listed) in
     let run : IsRun nodes (IsIn c.difference-waiting.result) (first_scopes nodes plan) c.in_ok-run.run' = c.in_ok-run.ensures.run nodes (first_scopes nodes plan) started in
     let greedy : IsGreedyOrder nodes plan c.in_ok-run.run'.steps.items =
-        greedy_same nodes (IsIn c.difference-waiting.result) (Contains (eliminated_nodes nodes plan)) (first_scopes nodes plan) c.in_ok-run.run'.steps.items
-        (in_waiting nodes plan c.plan_nodes-nodes.result c.plan_nodes-nodes.ensures c.set_of-kept.result c.difference-waiting.result c.set_of-kept.ensures c.difference-waiting.ensures) run.greedy in
+    greedy_same nodes (IsIn c.difference-waiting.result) (Contains (eliminated_nodes nodes plan)) (first_scopes nodes plan) c.in_ok-run.run'.steps.items
+    (in_waiting nodes plan c.plan_nodes-nodes.result c.plan_nodes-nodes.ensures c.set_of-kept.result c.difference-waiting.result c.set_of-kept.ensures c.difference-waiting.ensures) run.greedy in
     let last = c.count_cells-last.ensures ∙ kept_counted nodes states c.args.keep.now c.set_of-kept.result are c.set_of-kept.ensures in
     record {
       plan = ap (λ (xs : List ℕ). record { keep = xs; without = c.args.without; utility = c.args.utility }) c.in_ok-from_slice.ensures.items;

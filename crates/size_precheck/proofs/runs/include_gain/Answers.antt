@@ -1,8 +1,6 @@
-use Rattle.std.proofs.Common.{◌≡◌, ◌∙◌, ℕ, Bool, true, List, ◌∷◌, [], Some, subst, sym}
-use Rattle.plan_sums.specs.Plans.{gain_plan}
-use Rattle.size_precheck.specs.Runs.{Includes}
-use Rattle.size_precheck.specs.Sizes.{CanBePlanned, is_goal}
-use Rattle.size_precheck.proofs.Measuring.{gain_planned, goal_tested, include_passed, include_failed, not_goal}
+use Rattle.std.proofs.Common.{◌∙◌, ℕ, List, Some, subst, sym}
+use Rattle.size_precheck.specs.Sizes.{CanBePlanned}
+use Rattle.size_precheck.proofs.Measuring.{gain_planned}
 use Rattle.size_precheck.proofs.runs.include_gain.Goals as goal
 
 pub include_plan-requires-clause-planned : goal.include_plan-requires-clause-planned

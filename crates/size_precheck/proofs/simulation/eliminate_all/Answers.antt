@@ -1,12 +1,12 @@
-use Rattle.std.proofs.Common.{◌≡◌, ◌⊎◌, ◌↔◌, ◌∙◌, ℕ, ◌+◌, ◌<◌, ◌≤◌, ◌^◌, ◌-◌, Bool, List, ◌∷◌, ◌++◌, [], length, get_or, refl, subst, sym, ap, inl, inr, arith, vec_len}
+use Rattle.std.proofs.Common.{◌≡◌, ◌⊎◌, ◌↔◌, ◌∙◌, ℕ, ◌+◌, ◌≤◌, ◌^◌, ◌-◌, Bool, List, length, get_or, refl, subst, sym, ap, inl, inr, arith, vec_len}
 use Rattle.std.proofs.lemmas.List.{get_or_default, length_push}
 use Rattle.maid_model.specs.Placing.{Remains}
 use Rattle.maid_model.specs.Views.{NodeView}
 use Rattle.node_sets.specs.Sets.{IsIn}
-use Rattle.size_precheck.specs.Greedy.{IsNext, IsGreedy}
-use Rattle.size_precheck.specs.Joints.{Stands, IsListOf, IsFewestAt, IsStep, IsStarted, SomeOf}
+use Rattle.size_precheck.specs.Greedy.{IsNext}
+use Rattle.size_precheck.specs.Joints.{Stands, IsListOf, IsFewestAt, IsStarted}
 use Rattle.size_precheck.proofs.Counting.{stopped_few}
-use Rattle.size_precheck.proofs.Lists.{each_at, number_from_test, list_less, cut, some_at}
+use Rattle.size_precheck.proofs.Lists.{each_at, number_from_test, list_less, some_at}
 use Rattle.size_precheck.proofs.Running.{At, remains_push, stands_less, is_next, joined_few, at_more}
 use Rattle.size_precheck.proofs.simulation.eliminate_all.Goals as goal
 

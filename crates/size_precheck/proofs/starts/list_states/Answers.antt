@@ -1,4 +1,4 @@
-use Rattle.std.proofs.Common.{arith, ◌≡◌, ◌∙◌, ◌<◌, ℕ, List, sym, ap, length}
+use Rattle.std.proofs.Common.{arith, ◌∙◌, ◌<◌, length}
 use Rattle.std.proofs.Math.ListN.{length-set}
 use Rattle.size_precheck.proofs.Starting.{states_told, all_ones, ones_long, state_more, rest_less}
 use Rattle.size_precheck.proofs.starts.list_states.Goals as goal

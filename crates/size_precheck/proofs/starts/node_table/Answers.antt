@@ -1,4 +1,4 @@
-use Rattle.std.proofs.Common.{◌<◌, ◌≤◌, arith}
+use Rattle.std.proofs.Common.{arith}
 use Rattle.size_precheck.proofs.starts.node_table.Goals as goal
 
 pub insert_all-requires : goal.insert_all-requires

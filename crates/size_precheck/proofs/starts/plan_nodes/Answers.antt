@@ -1,4 +1,4 @@
-use Rattle.std.proofs.Common.{◌<◌, ◌≤◌, arith}
+use Rattle.std.proofs.Common.{arith}
 use Rattle.size_precheck.proofs.Starting.{ends_with, ends_without, kept_known}
 use Rattle.size_precheck.proofs.starts.plan_nodes.Goals as goal
 

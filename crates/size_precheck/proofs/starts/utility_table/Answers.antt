@@ -1,4 +1,4 @@
-use Rattle.std.proofs.Common.{◌<◌, ◌≤◌, arith}
+use Rattle.std.proofs.Common.{arith}
 use Rattle.size_precheck.proofs.starts.utility_table.Goals as goal
 
 pub set_of-requires : goal.set_of-requires
