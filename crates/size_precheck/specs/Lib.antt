@@ -4,3 +4,4 @@ pub mod Sizes
 pub mod Laws
 pub mod Joints
 pub mod Runs
+pub mod Example

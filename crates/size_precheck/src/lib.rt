@@ -10,6 +10,8 @@ mod runs;
 mod simulation;
 mod sizes;
 mod starts;
+#[cfg(test)]
+mod tests;
 
 pub use laws::{greedy_orders, sizes_of_plans};
 pub use plans::{Plan, make_plan};
