@@ -10,3 +10,4 @@ pub mod Putting
 pub mod Planning
 pub mod Orders
 pub mod Measuring
+pub mod Samples
