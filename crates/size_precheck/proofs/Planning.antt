@@ -17,7 +17,7 @@ use Rattle.ring_sums.specs.Tables.{scopes_of}
 use Rattle.size_precheck.specs.Counts.{stopped, cells_over}
 use Rattle.size_precheck.specs.Joints.{counted_over, AreStates, SomeOf, Each, Rising, IsListOf, family_test, parents_test}
 use Rattle.size_precheck.proofs.Counting.{stop_part, stop_later}
-use Rattle.size_precheck.proofs.Putting.{has_contains, contains_some}
+use Rattle.size_precheck.proofs.Putting.{has_contains, contains_some, some_contains}
 use Rattle.size_precheck.proofs.Scoped.{cells_counted}
 use Rattle.size_precheck.proofs.Somewhere.{each_filter, same_test, not_true, true_not}
 use Rattle.size_precheck.proofs.Starting.{in_numbers}
@@ -48,14 +48,6 @@ rising_range k (suc n) = (above_range k (k + 1) n (omega arith), rising_range (k
 each_contained : (P : ℕ → Type 0) (list : List ℕ) → ((v : ℕ) → SomeOf (λ x. x ≡ v) list → P v) → Each P list
 each_contained P [] f = tt
 each_contained P (x ∷ xs) f = (f x (inl refl), each_contained P xs (λ v s. f v (inr s)))
-
-some_among : (v : ℕ) (list : List ℕ) → SomeOf (λ x. x ≡ v) list → Contains list v
-some_among v list s = contains_from_among list v (among list s)
-  where
-    among : (xs : List ℕ) → SomeOf (λ x. x ≡ v) xs → Rattle.finite_sums.specs.Members.Among v xs
-    among [] h = h
-    among (x ∷ xs) (inl e) = inl (sym e)
-    among (x ∷ xs) (inr h) = inr (among xs h)
 
 -- ---- scopes
 map_map : {X Y Z : Type 0} (f : X → Y) (g : Y → Z) (xs : List X) → map g (map f xs) ≡ map (λ x. g (f x)) xs
@@ -98,7 +90,7 @@ module _ (nodes : List NodeView) (plan : PlanView) (all : NodeSet) (all_are : (v
   pub ruled_listed : (ruled : NodeSet) → ((v : ℕ) → IsIn ruled v ↔ (IsIn all v × (plan.without ≡ Some v → ⊥))) → IsListOf ruled (ruled_nodes nodes plan)
   ruled_listed ruled less = record {
     inside = each_contained (IsIn ruled) (ruled_nodes nodes plan) (λ v s.
-        let a = (inside v).0 (some_among v (ruled_nodes nodes plan) s) in
+        let a = (inside v).0 (some_contains v (ruled_nodes nodes plan) s) in
         (less v).1 ((all_are v).1 a.0, λ e. not_true _ a.1 (one_has v plan.without e)));
     all = λ v m.
         let a = (less v).0 m in

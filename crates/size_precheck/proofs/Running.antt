@@ -1,8 +1,7 @@
 -- Along the steps of a plan: what is known after each is what its scopes say.
 use Rattle.std.proofs.Common.{◌≡◌, ◌∙◌, ◌↔◌, ℕ, suc, ◌+◌, ◌-◌, ◌*◌, ◌<◌, ◌≤◌, Bool, true, false, cond, not, filter, List, [], ◌∷◌, ◌++◌, length, take, get_or, refl, sym, ap, subst, inl, inr, arith}
 use Rattle.std.specs.Prelude.{Contains, slice_index, sum_by}
-use Rattle.std.proofs.lemmas.Bool.{cases_lt}
-use Rattle.std.proofs.lemmas.List.{take-append-le, get_or_append_left, take_at, get_or_at, length_push}
+use Rattle.std.proofs.lemmas.List.{length_push}
 use Rattle.std.proofs.lemmas.List.Elements.{Contains-push, Contains-push_cases, Contains-append_left}
 use Rattle.maid_model.specs.declared.limits.TheConstants.{COUNT_END}
 use Rattle.maid_model.specs.Placing.{Remains}
@@ -19,6 +18,7 @@ use Rattle.size_precheck.specs.Joints.{joint_at, AreStates, Each, Stands, IsStep
 use Rattle.size_precheck.specs.Sizes.{made_cells, steps_work}
 use Rattle.size_precheck.proofs.Counting.{stop_part, stop_later}
 use Rattle.size_precheck.proofs.Lists.{some_at, rises}
+use Rattle.size_precheck.proofs.Orders.{next_more}
 use Rattle.size_precheck.proofs.Scoped.{set_told, cells_counted}
 
 -- ---- one step more, at the end
@@ -142,12 +142,7 @@ module _ (nodes : List NodeView) (states : List ℕ) (Item : ℕ → Type 0) (re
     tables = step.after;
     stands = step.stands;
     scopes_are = step.scopes ∙ ap (λ (ss : List (ℕ → Bool)). scopes_one v ss) now.scopes_are ∙ sym (scopes_push steps v scopes);
-    each = λ k l. elim (cases_lt k (length steps)) as (λ _. IsNext nodes Item scopes (take k (steps ++ v ∷ [])) (get_or (steps ++ v ∷ []) k 0)) [
-      | inl lt ↦ rw (take-append-le k steps (v ∷ []) (omega arith), get_or_append_left steps (v ∷ []) 0 k lt) (now.each k lt)
-      | inr g ↦
-          let e : length steps ≡ k = let m = length_push steps v in omega arith in
-          rw (take_at steps (v ∷ []) k e, get_or_at steps v [] 0 k e) next
-    ];
+    each = next_more nodes Item scopes steps v now.each next;
     live_is =
         let a = length_one v (scopes_after steps scopes) in
         let b : made.tables ≡ length (holding v (scopes_after steps scopes)) = step.joined ∙ ap (λ (ss : List (ℕ → Bool)). length (holding v ss)) now.scopes_are in

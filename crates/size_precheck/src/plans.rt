@@ -67,13 +67,14 @@ impl Plan {
     }
 }
 
-/// The plan that keeps these nodes, leaves the rule of `without` out, and has that utility.
+/// The plan that keeps these nodes, leaves the rule of `without` out, and has that utility. Its nodes are the kept ones and
+/// all from which a path of arcs leads to one of them or to the utility; its tables are those of its nodes and of the
+/// utility. Each time that node is eliminated whose joined set, all nodes of the tables that hold it, has fewest cells, and
+/// of several the first in text (greedy elimination by weight: Koller and Friedman 2009).
 ///
-/// Its nodes are the kept ones and all from which a path of arcs leads to one of them or to the utility. Its tables are
-/// those of its nodes and of the utility. Each time that node is eliminated whose joined set, all nodes of the tables that
-/// hold it, has fewest cells, and of several the first in text (greedy elimination by weight: Koller and Friedman 2009,
-/// section 9.4.3). A step takes a look at each node that waits, and a few for each node of the joined set: about 30
-/// microseconds for 180 nodes whose sets are small, and never more than the cube of the number of nodes.
+/// A step looks at the counts of all nodes that wait, and joins and counts the sets of the node's neighbours anew: at most
+/// as many looks as the square of the number of nodes, and as many steps of counting as the joined sets have pairs of
+/// nodes. It takes memory for a few lists of as many entries as there are nodes.
 pub fn make_plan(
     alloc: Global,
     diagram: &Diagram,

@@ -154,8 +154,7 @@ fn include_worths(alloc: Global, diagram: &Diagram, size: Size) -> Result<Size, 
 /// The size of a run that solves the decisions in this order: the greatest cells of its plans, and their work together.
 ///
 /// The plans are one for each decision's rows, one for each decision and each utility of its agent that descends from it,
-/// and one for each utility's worth. Each is made once: some tens of microseconds a plan, and there are as many as
-/// decisions, pairs of a decision and such a utility, and utilities.
+/// and one for each utility's worth. Each of them is made once (`make_plan` tells its cost), and let go.
 pub fn measure(alloc: Global, diagram: &Diagram, order: &[usize]) -> Result<Size, AllocError>
     requires { ListsDecisions diagram.now.nodes order.now }
     ensures { IfOk result (IsSizeOfRun diagram.now.nodes order.now) }
