@@ -101,3 +101,18 @@ none_past set four v far m =
     let one = is_set _ m in
     let nought = ap (λ word. bit_at word (v % 64)) (get_or_past set.words (v / 64) 0 past) ∙ bit_at-zero (v % 64) in
     absurd (omega arith)
+
+-- a word from its own start is whole
+pub whole_word : (words : List ℕ) (i : ℕ) → get_or words ((64 * i) / 64) 0 / 2 ^ ((64 * i) % 64) ≡ get_or words i 0
+whole_word words i =
+    let at : (64 * i) / 64 ≡ i = omega arith in
+    let start : (64 * i) % 64 ≡ 0 = omega arith in
+    ap (λ j. get_or words j 0 / 2 ^ ((64 * i) % 64)) at ∙ ap (λ j. get_or words i 0 / 2 ^ j) start ∙ one (get_or words i 0)
+  where
+    one : (n : ℕ) → n / 1 ≡ n
+    one n = omega arith
+
+-- where the word of a place has nothing from there on, nothing is held up to the next word
+pub next_word : (words : List ℕ) (place from : ℕ) → get_or words (place / 64) 0 < 2 ^ 64 → NoneBetween (record { words = words }) from place → get_or words (place / 64) 0 / 2 ^ (place % 64) ≡ 0
+    → NoneBetween (record { words = words }) from (64 * (place / 64 + 1))
+next_word words place from fits none e = λ w l m. none_in_word words place fits from none e w l (omega arith)

@@ -47,13 +47,18 @@ impl NodeSet {
         requires { from ≤ MOST_NODES }
         ensures { MatchOption result ((v : ℕ) → from ≤ v → IsIn self.now v → ⊥) (IsFirstFrom self.now from) }
     {
-        let mut place = from;
-        'words: while place < MOST_NODES {
-            let rest = self.words[place / 64] >> (place % 64);
-            if rest != 0 {
-                return Some(place + rest.trailing_zeros() as usize);
+        let first = from / 64;
+        if first == self.words.len() {
+            return None;
+        }
+        let rest = self.words[first] >> (from % 64);
+        if rest != 0 {
+            return Some(from + rest.trailing_zeros() as usize);
+        }
+        for i in first + 1..self.words.len() {
+            if self.words[i] != 0 {
+                return Some(64 * i + self.words[i].trailing_zeros() as usize);
             }
-            place = (place / 64 + 1) * 64;
         }
         None
     }
