@@ -3,3 +3,4 @@ pub mod Growing
 pub mod Words
 pub mod Turning
 pub mod Following
+pub mod Scanning

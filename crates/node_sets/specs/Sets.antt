@@ -1,5 +1,5 @@
 -- Sets of node numbers: what they hold, and how they grow.
-use Rattle.std.specs.Prelude.{◌≡◌, ℕ, zero, suc, ◌+◌, ◌/◌, ◌%◌, ◌<◌, ◌⊎◌, ◌↔◌, ◌==◌, Bool, true, false, slice_index, if◌then◌else◌}
+use Rattle.std.specs.Prelude.{◌≡◌, ℕ, zero, suc, ◌+◌, ◌/◌, ◌%◌, ◌<◌, ◌≤◌, ◌⊎◌, ◌↔◌, ◌==◌, Bool, true, false, slice_index, if◌then◌else◌}
 use Rattle.std.specs.Int.{bit_at}
 use Rattle.node_sets.specs.declared.sets.NodeSet.{NodeSet}
 use Rattle.node_sets.specs.declared.sets.TheConstants.{MOST_NODES}
@@ -11,6 +11,13 @@ holds set v = bit_at (slice_index set.words (v / 64)) (v % 64) == 1
 -- v is in the set
 abbrev pub IsIn : NodeSet → ℕ → Type 0
 IsIn set v = holds set v ≡ true
+
+-- v is the first node of the set that does not stand before `from`
+pub record IsFirstFrom (set : NodeSet) (from v : ℕ) : Type 0 where
+  pub not_before : from ≤ v
+  pub small : v < MOST_NODES
+  pub inside : IsIn set v
+  pub first : (w : ℕ) → from ≤ w → w < v → IsIn set w → ⊥
 
 -- how many numbers below n are not in the set
 unfoldable pub missing_below : NodeSet → ℕ → ℕ

@@ -1,6 +1,6 @@
 //! Sets of node numbers.
 
-ghost use Rattle.std.specs.Prelude.{◌≡◌, ℕ, ◌<◌, ◌⊎◌, ◌↔◌, Contains};
+ghost use Rattle.std.specs.Prelude.{◌≡◌, ℕ, ◌<◌, ◌≤◌, ◌⊎◌, ◌↔◌, Contains, MatchOption};
 ghost use Rattle.node_sets.specs.declared.sets.TheConstants.{MOST_NODES};
 
 /// How many nodes a diagram may have.
@@ -14,7 +14,7 @@ pub struct NodeSet {
 }
 
 impl NodeSet {
-    ghost use Rattle.node_sets.specs.Sets.{holds, IsIn, Adds};
+    ghost use Rattle.node_sets.specs.Sets.{holds, IsIn, IsFirstFrom, Adds};
 
     /// The set without a node.
     pub fn empty() -> NodeSet
@@ -39,6 +39,28 @@ impl NodeSet {
         ensures { result ≡ holds self.now v }
     {
         (self.words[v / 64] >> (v % 64)) & 1 == 1
+    }
+
+    /// The first node of the set from this number on. It looks at each of the words once at most, so a walk through the
+    /// whole set takes about as long as it has nodes.
+    pub fn first_from(&self, from: usize) -> Option<usize>
+        requires { from ≤ MOST_NODES }
+        ensures { MatchOption result ((v : ℕ) → from ≤ v → IsIn self.now v → ⊥) (IsFirstFrom self.now from) }
+    {
+        let first = from / 64;
+        if first == self.words.len() {
+            return None;
+        }
+        let rest = self.words[first] >> (from % 64);
+        if rest != 0 {
+            return Some(from + rest.trailing_zeros() as usize);
+        }
+        for i in first + 1..self.words.len() {
+            if self.words[i] != 0 {
+                return Some(64 * i + self.words[i].trailing_zeros() as usize);
+            }
+        }
+        None
     }
 
     /// Adds the node, and says whether that is new.

@@ -42,6 +42,9 @@ fn holds_what_was_added(rt: HostRuntime) {
     set.remove(65);
     assert!(rt; set.holds(0) && set.holds(63) && set.holds(255));
     assert!(rt; !set.holds(1) && !set.holds(62) && !set.holds(64) && !set.holds(128));
+    assert_eq!(rt; set.first_from(1), Some(63));
+    assert_eq!(rt; set.first_from(101), Some(255));
+    assert_eq!(rt; set.first_from(256), None);
 }
 
 #[test]

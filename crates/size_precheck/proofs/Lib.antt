@@ -1,0 +1,13 @@
+pub mod Counting
+pub mod Somewhere
+pub mod Live
+pub mod Scoped
+pub mod Lists
+pub mod Stepping
+pub mod Running
+pub mod Starting
+pub mod Putting
+pub mod Planning
+pub mod Orders
+pub mod Measuring
+pub mod Samples

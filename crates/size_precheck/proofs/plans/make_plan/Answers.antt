@@ -1,0 +1,79 @@
+use Rattle.std.proofs.Common.{◌∙◌, ℕ, ◌≤◌, ◌^◌, Bool, List, [], map, ◌++◌, subst, sym, ap, arith}
+use Rattle.std.specs.Prelude.{Contains, option_to_list}
+use Rattle.maid_model.specs.Views.{NodeView}
+use Rattle.node_sets.specs.Sets.{IsIn}
+use Rattle.plan_sums.specs.Plans.{PlanView, ruled_nodes, eliminated_nodes, mass_cells}
+use Rattle.size_precheck.specs.Joints.{AreStates, IsStarted, IsRun, family_test, parents_test}
+use Rattle.size_precheck.specs.Greedy.{first_scopes, IsGreedyOrder}
+use Rattle.size_precheck.proofs.Counting.{counted_few}
+use Rattle.size_precheck.proofs.Orders.{greedy_same, order_of_greedy}
+use Rattle.size_precheck.proofs.Planning.{all_known, all_plain, in_waiting, ruled_listed, scopes_listed, kept_counted, last_cells, last_work}
+use Rattle.size_precheck.proofs.Starting.{kept_known}
+use Rattle.size_precheck.proofs.plans.make_plan.Goals as goal
+
+pub set_of-kept-requires : goal.set_of-kept-requires
+set_of-kept-requires c v m = let a = kept_known c.args.diagram.now.nodes _ c.requires.is_plan v m in let b = c.in_ok-counts.ensures.diagram.limits.nodes in omega arith
+
+pub ruled_nodes-ruled-requires : goal.ruled_nodes-ruled-requires
+ruled_nodes-ruled-requires c d e = let a = (c.requires.decision d e).within in let b = c.in_ok-counts.ensures.diagram.limits.nodes in omega arith
+
+pub put_all_first-requires-clause-ruled : goal.put_all_first-requires-clause-ruled
+put_all_first-requires-clause-ruled c v m =
+    let plan : PlanView = record { keep = c.args.keep.now; without = c.args.without; utility = c.args.utility } in
+    all_known c.args.diagram.now.nodes plan c.plan_nodes-nodes.result c.plan_nodes-nodes.ensures v ((c.ruled_nodes-ruled.ensures v).0 m).0
+
+pub put_all_first-requires-clause-waiting : goal.put_all_first-requires-clause-waiting
+put_all_first-requires-clause-waiting c v m =
+    let plan : PlanView = record { keep = c.args.keep.now; without = c.args.without; utility = c.args.utility } in
+    all_known c.args.diagram.now.nodes plan c.plan_nodes-nodes.result c.plan_nodes-nodes.ensures v ((c.difference-waiting.ensures v).0 m).0
+
+pub put_all_first-requires-clause-unruled : goal.put_all_first-requires-clause-unruled
+put_all_first-requires-clause-unruled c u some m =
+    let plan : PlanView = record { keep = c.args.keep.now; without = c.args.without; utility = c.args.utility } in
+    all_plain c.args.diagram.now.nodes plan c.plan_nodes-nodes.result c.plan_nodes-nodes.ensures c.requires.is_plan u some ((c.ruled_nodes-ruled.ensures u).0 m).0
+
+pub put_all_first-requires-clause-kept : goal.put_all_first-requires-clause-kept
+put_all_first-requires-clause-kept c u some m =
+    let plan : PlanView = record { keep = c.args.keep.now; without = c.args.without; utility = c.args.utility } in
+    all_plain c.args.diagram.now.nodes plan c.plan_nodes-nodes.result c.plan_nodes-nodes.ensures c.requires.is_plan u some ((c.difference-waiting.ensures u).0 m).0
+
+pub eliminate_all-requires-clause-within : goal.eliminate_all-requires-clause-within
+eliminate_all-requires-clause-within c y m =
+    let plan : PlanView = record { keep = c.args.keep.now; without = c.args.without; utility = c.args.utility } in
+    let a = all_known c.args.diagram.now.nodes plan c.plan_nodes-nodes.result c.plan_nodes-nodes.ensures y ((c.difference-waiting.ensures y).0 m).0 in
+    let b = c.in_ok-counts.ensures.diagram.limits.nodes in
+    (omega (arith, c.in_ok-start.ensures.len), omega arith)
+
+pub eliminate_all-requires-clause-started : goal.eliminate_all-requires-clause-started
+eliminate_all-requires-clause-started c =
+    let nodes : List NodeView = c.args.diagram.now.nodes in
+    let plan : PlanView = record { keep = c.args.keep.now; without = c.args.without; utility = c.args.utility } in (
+      nodes,
+      map (family_test nodes) (ruled_nodes nodes plan) ++ map (parents_test nodes) (option_to_list plan.utility),
+      c.in_ok-start.ensures.started (ruled_nodes nodes plan) (ruled_listed nodes plan c.plan_nodes-nodes.result c.plan_nodes-nodes.ensures c.ruled_nodes-ruled.result c.ruled_nodes-ruled.ensures),
+    )
+
+pub add-cells-requires-clause-b : goal.add-cells-requires-clause-b
+add-cells-requires-clause-b c = subst (λ (n : ℕ). n ≤ 10 ^ 18) (sym c.count_cells-last.ensures) (counted_few _ _)
+
+pub returns : goal.returns
+returns c =
+    let nodes : List NodeView = c.args.diagram.now.nodes in
+    let plan : PlanView = record { keep = c.args.keep.now; without = c.args.without; utility = c.args.utility } in
+    let states = c.as_slice-states.result.now in
+    let are : AreStates nodes states = subst (λ (xs : List ℕ). AreStates nodes xs) (sym c.as_slice-states.ensures.value) c.in_ok-counts.ensures.states in
+    let listed = ruled_listed nodes plan c.plan_nodes-nodes.result c.plan_nodes-nodes.ensures c.ruled_nodes-ruled.result c.ruled_nodes-ruled.ensures in
+    let started : IsStarted nodes states (IsIn c.difference-waiting.result) (first_scopes nodes plan) c.in_ok-start.start =
+    subst (λ (ss : List (ℕ → Bool)). IsStarted nodes states (IsIn c.difference-waiting.result) ss c.in_ok-start.start) (sym (scopes_listed mass_cells nodes [] plan)) (c.in_ok-start.ensures.started (ruled_nodes nodes plan) listed) in
+    let run : IsRun nodes (IsIn c.difference-waiting.result) (first_scopes nodes plan) c.in_ok-run.run' = c.in_ok-run.ensures.run nodes (first_scopes nodes plan) started in
+    let greedy : IsGreedyOrder nodes plan c.in_ok-run.run'.steps.items =
+    greedy_same nodes (IsIn c.difference-waiting.result) (Contains (eliminated_nodes nodes plan)) (first_scopes nodes plan) c.in_ok-run.run'.steps.items
+    (in_waiting nodes plan c.plan_nodes-nodes.result c.plan_nodes-nodes.ensures c.set_of-kept.result c.difference-waiting.result c.set_of-kept.ensures c.difference-waiting.ensures) run.greedy in
+    let last = c.count_cells-last.ensures ∙ kept_counted nodes states c.args.keep.now c.set_of-kept.result are c.set_of-kept.ensures in
+    record {
+      plan = ap (λ (xs : List ℕ). record { keep = xs; without = c.args.without; utility = c.args.utility }) c.in_ok-from_slice.ensures.items;
+      greedy = greedy;
+      order = order_of_greedy nodes plan c.in_ok-run.run'.steps.items greedy;
+      cells = last_cells _ _ _ _ _ run.cells last c.add-cells.ensures;
+      work = last_work _ _ _ _ _ _ _ _ run.work last run.live c.multiply.ensures c.add-work.ensures;
+    }

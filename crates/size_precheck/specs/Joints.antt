@@ -1,0 +1,145 @@
+-- What the steps of simulating a plan promise one another. Only private functions cite this file.
+use Rattle.std.specs.Prelude.{◌==◌, ◌||◌, ◌≤◌, slice_index, sum_by, ◌≡◌, ◌⊎◌, ◌↔◌, ℕ, zero, suc, ◌+◌, ◌*◌, ◌<◌, Bool, List, [], ◌∷◌, map, length, slice_index_or, if◌then◌else◌}
+use Rattle.maid_model.specs.Nodes.{states_of, parents_of}
+use Rattle.plan_sums.specs.Plans.{has}
+use Rattle.maid_model.specs.Views.{NodeView}
+use Rattle.node_sets.specs.declared.sets.NodeSet.{NodeSet}
+use Rattle.node_sets.specs.declared.sets.TheConstants.{MOST_NODES}
+use Rattle.node_sets.specs.Sets.{holds, IsIn}
+use Rattle.size_precheck.specs.declared.joints.Joint.{Joint}
+use Rattle.size_precheck.specs.declared.joints.Table.{Table}
+use Rattle.ring_sums.specs.Tables.{joined_without, scopes_one, scopes_after}
+use Rattle.size_precheck.specs.declared.simulation.Start.{Start}
+use Rattle.size_precheck.specs.declared.simulation.Made.{Made}
+use Rattle.size_precheck.specs.declared.simulation.Run.{Run}
+use Rattle.size_precheck.specs.Counts.{stopped, cells_over}
+use Rattle.size_precheck.specs.Greedy.{holding, joined_set, IsGreedy}
+use Rattle.size_precheck.specs.Sizes.{made_cells, steps_work}
+
+-- how many of the first n numbers pass the test
+abbrev pub members_below : (ℕ → Bool) → ℕ → ℕ
+members_below test zero = 0
+members_below test (suc n) = members_below test n + (if test n then 1 else 0)
+
+-- f 0 * f 1 * .. * f (n - 1)
+abbrev pub product_below : (ℕ → ℕ) → ℕ → ℕ
+product_below f zero = 1
+product_below f (suc n) = product_below f n * f n
+
+-- a number's factor in the cells of a set: its count of states, or 1 outside
+abbrev pub factor : List ℕ → (ℕ → Bool) → ℕ → ℕ
+factor states scope u = if scope u then slice_index_or states u 1 else 1
+
+-- how many nodes the set has
+unfoldable pub member_count : NodeSet → ℕ
+member_count set = members_below (holds set) MOST_NODES
+
+-- the cells of a set by the counts of all numbers
+unfoldable pub counted_over : List ℕ → (ℕ → Bool) → ℕ
+counted_over states scope = stopped (product_below (factor states scope) MOST_NODES)
+
+-- the counts are those of the nodes, and 1 past them
+pub record AreStates (nodes : List NodeView) (states : List ℕ) : Type 0 where
+  pub few : length nodes ≤ MOST_NODES
+  pub each : (u : ℕ) → slice_index_or states u 1 ≡ states_of nodes u
+
+-- ---- tables by their scopes
+-- what is known of a number that no node has
+abbrev pub no_joint : Joint
+no_joint = record { set = record { words = [] }; tables = record { words = [] } }
+
+abbrev pub joint_at : List Joint → ℕ → Joint
+joint_at joints y = slice_index_or joints y no_joint
+
+-- a table more, after some tables and some nodes have left
+pub record IsPut (table : Table) (Gone Out : ℕ → Type 0) (before after : Joint) : Type 0 where
+  pub set : (u : ℕ) → IsIn after.set u ↔ ((IsIn before.set u ⊎ IsIn table.scope u) × (Out u → ⊥))
+  pub tables : (x : ℕ) → IsIn after.tables x ↔ ((IsIn before.tables x × (Gone x → ⊥)) ⊎ (x ≡ table.tag))
+
+-- P holds of each element, or of some
+abbrev pub Each : {X : Type 0} → (X → Type 0) → List X → Type 0
+Each P [] = Unit {0}
+Each P (x ∷ xs) = P x × Each P xs
+
+abbrev pub SomeOf : {X : Type 0} → (X → Type 0) → List X → Type 0
+SomeOf P [] = ⊥
+SomeOf P (x ∷ xs) = P x ⊎ SomeOf P xs
+
+-- no two tables have one tag
+abbrev pub TagsDiffer : List Table → Type 0
+TagsDiffer [] = Unit {0}
+TagsDiffer (t ∷ ts) = (SomeOf (λ s. s.tag ≡ t.tag) ts → ⊥) × TagsDiffer ts
+
+-- the joint has the live tables that hold y
+pub record Tells (live : List Table) (y : ℕ) (joint : Joint) : Type 0 where
+  pub set : (u : ℕ) → IsIn joint.set u ↔ SomeOf (λ t. IsIn t.scope y × IsIn t.scope u) live
+  pub tables : (x : ℕ) → IsIn joint.tables x ↔ SomeOf (λ t. (t.tag ≡ x) × IsIn t.scope y) live
+
+-- the live tables have different tags, each of which is that of a node in the scope or of one that waits no more
+pub record AreLive (Waiting : ℕ → Type 0) (live : List Table) : Type 0 where
+  pub small : Each (λ t. t.tag < MOST_NODES) live
+  pub differ : TagsDiffer live
+  pub own : Each (λ t. Waiting t.tag → IsIn t.scope t.tag) live
+
+-- the scopes of these tables
+abbrev pub tests_of : List Table → List (ℕ → Bool)
+tests_of live = map (λ t. holds t.scope) live
+
+-- what is known of the nodes that wait is right for these live tables
+pub record Stands (states : List ℕ) (Waiting : ℕ → Type 0) (tables : List Table) (joints : List Joint) (cells : List ℕ) : Type 0 where
+  pub live : AreLive Waiting tables
+  pub tells : (y : ℕ) → Waiting y → Tells tables y (joint_at joints y)
+  pub counted : (y : ℕ) → Waiting y → slice_index cells y ≡ counted_over states (holds (joint_at joints y).set)
+
+-- what a step at v makes of these live tables, after which v waits no more
+pub record IsStep (nodes : List NodeView) (states : List ℕ) (Waiting : ℕ → Type 0) (v : ℕ) (before : List Table) (joints : List Joint) (counts : List ℕ) (made : Made) : Type 0 where
+  pub after : List Table
+  pub stands : Stands states Waiting after joints counts
+  pub scopes : tests_of after ≡ scopes_one v (tests_of before)
+  pub cells : made.cells ≡ cells_over nodes (joined_without v (holding v (tests_of before)))
+  pub work : made.work ≡ stopped (cells_over nodes (joined_set v (tests_of before)) * length (holding v (tests_of before)))
+  pub joined : made.tables ≡ length (holding v (tests_of before))
+
+-- before the first step: the joints are right for tables of these scopes, which are counted
+pub record IsStarted (nodes : List NodeView) (states : List ℕ) (Waiting : ℕ → Type 0) (scopes : List (ℕ → Bool)) (start : Start) : Type 0 where
+  pub are_states : AreStates nodes states
+  pub tables : List Table
+  pub are_live : AreLive Waiting tables
+  pub tells : (y : ℕ) → Waiting y → Tells tables y (joint_at start.joints.items y)
+  pub scopes_are : tests_of tables ≡ scopes
+  pub live : start.live ≡ length scopes
+  pub cells : start.cells ≡ stopped (sum_by (λ s. cells_over nodes s) scopes)
+
+-- after the last step: the steps are greedy, and what they made is counted
+pub record IsRun (nodes : List NodeView) (Item : ℕ → Type 0) (scopes : List (ℕ → Bool)) (run : Run) : Type 0 where
+  pub greedy : IsGreedy nodes Item scopes run.steps.items
+  pub live : run.live ≡ length (scopes_after run.steps.items scopes)
+  pub cells : run.cells ≡ stopped (sum_by (λ s. cells_over nodes s) scopes + made_cells nodes run.steps.items scopes)
+  pub work : run.work ≡ stopped (steps_work nodes run.steps.items scopes)
+
+-- ---- lists of what waits
+-- each number is less than those after it
+abbrev pub Rising : List ℕ → Type 0
+Rising [] = Unit {0}
+Rising (x ∷ xs) = Each (λ y. x < y) xs × Rising xs
+
+-- the members of the set, in text order
+pub record IsListOf (set : NodeSet) (list : List ℕ) : Type 0 where
+  pub inside : Each (λ v. IsIn set v) list
+  pub all : (v : ℕ) → IsIn set v → SomeOf (λ x. x ≡ v) list
+  pub rising : Rising list
+
+-- the place of the first of the list with fewest cells
+pub record IsFewestAt (list : List ℕ) (cells : List ℕ) (place : ℕ) : Type 0 where
+  pub within : place < length list
+  pub fewest : (k : ℕ) → k < length list → slice_index cells (slice_index list place) ≤ slice_index cells (slice_index list k)
+  pub first : (k : ℕ) → k < place → slice_index cells (slice_index list place) < slice_index cells (slice_index list k)
+
+-- ---- first tables
+-- the scope of a chance or decision node's table, as `plan_sums` has it: the node and its parents
+abbrev pub family_test : List NodeView → ℕ → ℕ → Bool
+family_test nodes v u = (v == u) || has (parents_of nodes v) u
+
+-- that of a utility's: its parents
+abbrev pub parents_test : List NodeView → ℕ → ℕ → Bool
+parents_test nodes u x = has (parents_of nodes u) x

@@ -1,0 +1,73 @@
+//! What is known of each node while the tables of a plan are simulated.
+
+ghost use Rattle.std.specs.Prelude.{◌≡◌, ℕ, ◌<◌, length};
+ghost use Rattle.node_sets.specs.declared.sets.TheConstants.{MOST_NODES};
+ghost use Rattle.node_sets.specs.Sets.{IsIn};
+ghost use Rattle.size_precheck.specs.Joints.{joint_at, IsPut};
+
+use node_sets::NodeSet;
+
+/// A table: the number of the node that it came of, and the nodes of its scope.
+#[derive(Clone, Copy, Debug)]
+pub struct Table {
+    pub tag: usize,
+    pub scope: NodeSet,
+}
+
+/// The live tables that hold a node.
+#[derive(Clone, Copy, Debug)]
+pub struct Joint {
+    /// The node's joined set: all nodes of these tables.
+    pub set: NodeSet,
+    /// The tables' tags.
+    pub tables: NodeSet,
+}
+
+impl Joint {
+    /// No table.
+    pub fn empty() -> Joint
+        ensures set { (u : ℕ) → IsIn result.set u → ⊥ }
+        ensures tables { (x : ℕ) → IsIn result.tables x → ⊥ }
+    {
+        Joint {
+            set: NodeSet::empty(),
+            tables: NodeSet::empty(),
+        }
+    }
+
+    /// The same with one table more, after the tables `gone` and the nodes `out` have left.
+    fn with_table(&self, table: &Table, gone: &NodeSet, out: &NodeSet) -> Joint
+        requires { table.now.tag < MOST_NODES }
+        ensures { IsPut table.now (IsIn gone.now) (IsIn out.now) self.now result }
+    {
+        let mut tables = self.tables.difference(gone);
+        tables.insert(table.tag);
+        Joint {
+            set: self.set.union(&table.scope).difference(out),
+            tables,
+        }
+    }
+}
+
+/// Puts a table to each of these nodes, after the tables `gone` and the nodes `out` have left.
+pub fn put_table(joints: &mut [Joint], at: &NodeSet, table: &Table, gone: &NodeSet, out: &NodeSet)
+    requires tag { table.now.tag < MOST_NODES }
+    requires within { (y : ℕ) → IsIn at.now y → y < length joints.old }
+    ensures len { length joints.new ≡ length joints.old }
+    ensures put { (y : ℕ) → IsIn at.now y → IsPut table.now (IsIn gone.now) (IsIn out.now) (joint_at joints.old y) (joint_at joints.new y) }
+    ensures same { (y : ℕ) → (IsIn at.now y → ⊥) → joint_at joints.new y ≡ joint_at joints.old y }
+{
+    let mut from = 0;
+    'nodes: while let Some(y) = at.first_from(from) {
+        joints[y] = joints[y].with_table(table, gone, out);
+        from = y + 1;
+    }
+}
+
+/// What is known of a node.
+pub fn joint_of(joints: &[Joint], v: usize) -> Joint
+    requires { v < length joints.now }
+    ensures { result ≡ joint_at joints.now v }
+{
+    joints[v]
+}

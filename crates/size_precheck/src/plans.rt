@@ -1,0 +1,109 @@
+//! Plans of elimination.
+
+ghost use Rattle.std.specs.Prelude.{◌≡◌, IfOk};
+ghost use Rattle.size_precheck.specs.Sizes.{CanBePlanned, IsMade};
+
+use crate::counts::{add, count_cells, multiply};
+use crate::simulation::eliminate_all;
+use crate::sizes::Size;
+use crate::starts::{list_states, plan_nodes, put_all_first, ruled_nodes, set_of};
+use maid_model::Diagram;
+use std::alloc::{AllocError, Global};
+use std::marker::Model;
+
+/// A plan: which nodes are kept, whose rule is left out, which utility is summed, and in which order the other nodes of
+/// the plan are eliminated.
+#[derive(Debug, Drop)]
+pub struct Plan {
+    keep: Vec<usize>,
+    without: Option<usize>,
+    utility: Option<usize>,
+    steps: Vec<usize>,
+    size: Size,
+}
+
+impl Model for Plan {
+    ghost use Rattle.size_precheck.specs.Sizes.{SizedPlan};
+
+    ghost Value = { SizedPlan };
+
+    ghost view = { λ p. record { plan = record { keep = p.keep.items; without = p.without; utility = p.utility }; steps = p.steps.items; size = p.size } };
+}
+
+impl Plan {
+    /// The kept nodes, in the order in which they were asked for. It takes no memory.
+    pub fn keep(&self) -> &[usize]
+        ensures { result.now ≡ self.now.plan.keep }
+    {
+        &self.keep
+    }
+
+    /// The kept decision whose own rule is left out. It takes no memory.
+    pub fn without(&self) -> Option<usize>
+        ensures { result ≡ self.now.plan.without }
+    {
+        self.without
+    }
+
+    /// The utility. It takes no memory.
+    pub fn utility(&self) -> Option<usize>
+        ensures { result ≡ self.now.plan.utility }
+    {
+        self.utility
+    }
+
+    /// The nodes that are eliminated, in their order. It takes no memory.
+    pub fn steps(&self) -> &[usize]
+        ensures { result.now ≡ self.now.steps }
+    {
+        &self.steps
+    }
+
+    /// How many cells its tables have together, and its work. It takes no memory.
+    pub fn size(&self) -> Size
+        ensures { result ≡ self.now.size }
+    {
+        self.size
+    }
+}
+
+/// The plan that keeps these nodes, leaves the rule of `without` out, and has that utility. Its nodes are the kept ones and
+/// all from which a path of arcs leads to one of them or to the utility; its tables are those of its nodes and of the
+/// utility. Each time that node is eliminated whose joined set, all nodes of the tables that hold it, has fewest cells, and
+/// of several the first in text (greedy elimination by weight: Koller and Friedman 2009).
+///
+/// A step looks at the counts of all nodes that wait, and joins and counts the sets of the node's neighbours anew: at most
+/// as many looks as the square of the number of nodes, and as many steps of counting as the joined sets have pairs of
+/// nodes. It takes memory for a few lists of as many entries as there are nodes.
+pub fn make_plan(
+    alloc: Global,
+    diagram: &Diagram,
+    keep: &[usize],
+    without: Option<usize>,
+    utility: Option<usize>,
+) -> Result<Plan, AllocError>
+    requires { CanBePlanned diagram.now.nodes (record { keep = keep.now; without = without; utility = utility }) }
+    ensures { IfOk result (IsMade diagram.now.nodes (record { keep = keep.now; without = without; utility = utility })) }
+{
+    let counts = list_states(alloc, diagram)?;
+    let states = counts.as_slice();
+    let nodes = plan_nodes(diagram, keep, utility);
+    let kept = set_of(keep);
+    let waiting = nodes.difference(&kept);
+    let ruled = ruled_nodes(&nodes, without);
+    let start = put_all_first(alloc, diagram, states, &ruled, utility, &waiting)?;
+    let run = eliminate_all(alloc, states, start, waiting)?;
+    let last = count_cells(states, &kept);
+    let cells = add(run.cells, last);
+    let work = add(run.work, multiply(last, run.live as u64));
+    Ok(Plan {
+        keep: Vec::from_slice(alloc, keep)?,
+        without,
+        utility,
+        steps: run.steps,
+        size: Size {
+            cells: cells as u128,
+            work: work as u128,
+        },
+    })
+}

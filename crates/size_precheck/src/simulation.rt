@@ -1,0 +1,180 @@
+//! The steps of a plan, simulated on the scopes of its tables.
+
+ghost use Rattle.std.specs.Prelude.{◌≡◌, ◌⊎◌, ℕ, ◌<◌, ◌≤◌, ◌+◌, Bool, List, length, All, IfOk, slice_index};
+ghost use Rattle.maid_model.specs.declared.limits.TheConstants.{COUNT_END};
+ghost use Rattle.maid_model.specs.Views.{NodeView};
+ghost use Rattle.node_sets.specs.declared.sets.TheConstants.{MOST_NODES};
+ghost use Rattle.node_sets.specs.Sets.{holds, IsIn};
+ghost use Rattle.size_precheck.specs.Joints.{counted_over, joint_at, AreStates, Stands, IsStep, IsStarted, IsRun, IsListOf, IsFewestAt};
+
+use crate::counts::{add, count_cells, count_members, multiply};
+use crate::joints::{Joint, Table, joint_of, put_table};
+use node_sets::NodeSet;
+use std::alloc::{AllocError, Global};
+
+/// What is known before the first step.
+#[derive(Drop)]
+pub struct Start {
+    /// For each node the live tables that hold it; only those of the nodes that wait count.
+    pub joints: Vec<Joint>,
+    /// How many tables are live.
+    pub live: usize,
+    /// The cells of all first tables.
+    pub cells: u64,
+}
+
+/// What a step makes.
+#[derive(Clone, Copy)]
+struct Made {
+    /// The cells of the table that it makes.
+    cells: u64,
+    /// The cells of the joined set times the number of tables joined.
+    work: u64,
+    /// How many tables are joined.
+    tables: usize,
+}
+
+/// What is known after the last step.
+#[derive(Drop)]
+pub struct Run {
+    /// The nodes in the order in which they were eliminated.
+    pub steps: Vec<usize>,
+    /// How many tables are live.
+    pub live: usize,
+    /// The cells of all first tables and of those that the steps made.
+    pub cells: u64,
+    /// The work of the steps.
+    pub work: u64,
+}
+
+/// The members of the set, in text order.
+fn list_members(alloc: Global, set: &NodeSet) -> Result<Vec<usize>, AllocError>
+    ensures { IfOk result (λ list. IsListOf set.now list.items) }
+{
+    let mut list = Vec::with_capacity(alloc, count_members(set))?;
+    let mut from = 0;
+    'members: while let Some(v) = set.first_from(from) {
+        list.push(v)?;
+        from = v + 1;
+    }
+    Ok(list)
+}
+
+/// Counts the cells of these nodes' joined sets, each at the place of its node.
+fn count_sets(states: &[u64], joints: &[Joint], cells: &mut [u64], nodes: &NodeSet)
+    requires states { length states.now ≡ MOST_NODES }
+    requires len { length cells.old ≡ length joints.now }
+    requires within { (y : ℕ) → IsIn nodes.now y → y < length joints.now }
+    ensures len { length cells.new ≡ length cells.old }
+    ensures counted { (y : ℕ) → IsIn nodes.now y → slice_index cells.new y ≡ counted_over states.now (holds (joint_at joints.now y).set) }
+    ensures same { (y : ℕ) → (IsIn nodes.now y → ⊥) → slice_index cells.new y ≡ slice_index cells.old y }
+{
+    let mut from = 0;
+    'nodes: while let Some(y) = nodes.first_from(from) {
+        cells[y] = count_cells(states, &joints[y].set);
+        from = y + 1;
+    }
+}
+
+/// The place, among the waiting nodes, of the first whose joined set has fewest cells.
+fn find_fewest(waiting: &[usize], cells: &[u64]) -> usize
+    requires some { 0 < length waiting.now }
+    requires within { All (λ v. v < length cells.now) waiting.now }
+    ensures { IsFewestAt waiting.now cells.now result }
+{
+    let mut best = 0;
+    let mut fewest = cells[waiting[0]];
+    for (i, v) in waiting.iter().enumerate() {
+        if cells[*v] < fewest {
+            best = i;
+            fewest = cells[*v];
+        }
+    }
+    best
+}
+
+/// Joins the tables that hold v, which waits no more, and puts the table over their joined set without v in their place.
+fn eliminate(
+    states: &[u64],
+    joints: &mut [Joint],
+    cells: &mut [u64],
+    waiting: &NodeSet,
+    v: usize,
+) -> Made
+    requires states { length states.now ≡ MOST_NODES }
+    requires small { v < MOST_NODES }
+    requires len { length cells.old ≡ length joints.old }
+    requires here { v < length joints.old }
+    requires within { (y : ℕ) → IsIn waiting.now y → y < length joints.old }
+    requires apart { IsIn waiting.now v → ⊥ }
+    ensures joints_len { length joints.new ≡ length joints.old }
+    ensures cells_len { length cells.new ≡ length cells.old }
+    ensures few { result.cells ≤ COUNT_END }
+    ensures little { result.work ≤ COUNT_END }
+    ensures step { (nodes : List NodeView) (live : List Table) → AreStates nodes states.now → Stands states.now (λ y. IsIn waiting.now y ⊎ (y ≡ v)) live joints.old cells.old → IsStep nodes states.now (IsIn waiting.now) v live joints.new cells.new result }
+{
+    let joint = joint_of(joints, v);
+    let mut scope = joint.set;
+    scope.remove(v);
+    let at = scope.intersection(waiting);
+    put_table(
+        joints,
+        &at,
+        &Table { tag: v, scope },
+        &joint.tables,
+        &NodeSet::of(v),
+    );
+    let tables = count_members(&joint.tables);
+    let work = multiply(cells[v], tables as u64);
+    count_sets(states, joints, cells, &at);
+    Made {
+        cells: count_cells(states, &scope),
+        work,
+        tables,
+    }
+}
+
+/// Eliminates the nodes that wait, each time the first whose joined set has fewest cells.
+pub fn eliminate_all(
+    alloc: Global,
+    states: &[u64],
+    start: Start,
+    waiting: NodeSet,
+) -> Result<Run, AllocError>
+    requires states { length states.now ≡ MOST_NODES }
+    requires within { (y : ℕ) → IsIn waiting y → (y < length start.joints.items) × (y < MOST_NODES) }
+    requires few { start.live ≤ MOST_NODES + 1 }
+    requires started { (nodes : List NodeView) × (scopes : List (ℕ → Bool)) × IsStarted nodes states.now (IsIn waiting) scopes start }
+    ensures run { IfOk result (λ run. (nodes : List NodeView) (scopes : List (ℕ → Bool)) → IsStarted nodes states.now (IsIn waiting) scopes start → IsRun nodes (IsIn waiting) scopes run) }
+    ensures few { IfOk result (λ run. run.cells ≤ COUNT_END) }
+    ensures little { IfOk result (λ run. run.work ≤ COUNT_END) }
+{
+    let mut rest: NodeSet = waiting;
+    let mut list = list_members(alloc, &rest)?;
+    let mut steps = Vec::with_capacity(alloc, list.len())?;
+    let Start {
+        mut joints,
+        mut live,
+        mut cells,
+    } = start;
+    let mut counts = vec![in alloc; 0; joints.len()]?;
+    let joints: &mut [Joint] = &mut joints;
+    let counts: &mut [u64] = &mut counts;
+    count_sets(states, joints, counts, &rest);
+    let mut work = 0;
+    'steps: while !list.is_empty() {
+        let v = list.remove(find_fewest(&list, counts));
+        rest.remove(v);
+        steps.push(v)?;
+        let made = eliminate(states, joints, counts, &rest, v);
+        live = live + 1 - made.tables;
+        cells = add(cells, made.cells);
+        work = add(work, made.work);
+    }
+    Ok(Run {
+        steps,
+        live,
+        cells,
+        work,
+    })
+}
