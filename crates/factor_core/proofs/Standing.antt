@@ -1,0 +1,80 @@
+-- Tables that stand in a list of cells, also when more cells come behind them.
+use Rattle.std.proofs.Common.{◌≡◌, ◌∙◌, ℕ, zero, suc, ◌+◌, ◌-◌, ◌<◌, ◌≤◌, min, Bool, true, false, List, [], ◌∷◌, take, drop, length, map, get_or, refl, sym, ap, subst, arith, All}
+use Rattle.std.proofs.lemmas.List.{get_or-take, get_or-drop, length-take, length-take-le, length-drop, drop-take, take-take}
+use Rattle.finite_sums.specs.Sums.{World, InRange}
+use Rattle.node_sets.specs.declared.sets.NodeSet.{NodeSet}
+use Rattle.node_sets.specs.Sets.{holds, IsIn}
+use Rattle.ring_sums.specs.Tables.{Table}
+use Rattle.maid_model.specs.Views.{NodeView}
+use Rattle.maid_model.specs.Nodes.{states_of, counts_of}
+use Rattle.maid_model.specs.Tables.{row_from}
+use Rattle.cell_rings.specs.Rings.{Ring}
+use Rattle.cell_rings.specs.Sums.{cell_at}
+use Rattle.factor_core.specs.declared.slots.Slot.{Slot}
+use Rattle.factor_core.specs.Slots.{WorkspaceView, space, nodes_in, cells_over, part, picked, IsLive, table_of, Appends, StaysLive, AppendsTable}
+use Rattle.factor_core.specs.Tables.{LiesIn, place_of, size_of, states_in}
+use Rattle.factor_core.proofs.Counts.{counts_length, cells_are, place_among, range_is}
+use Rattle.factor_core.proofs.Joining.{place_below}
+use Rattle.factor_core.proofs.Scoping.{not_held}
+
+-- a cell of a part
+pub part_at : {C : Type 0} (r : Ring C) (cells : List C) (start len p : ℕ) → p < len → cell_at r (part cells start len) p ≡ cell_at r cells (start + p)
+part_at r cells start len p l = get_or-take len (drop start cells) p r.nought l ∙ get_or-drop start cells p r.nought
+
+-- a part of the first cells is a part of all
+pub part_of_first : {C : Type 0} (cells : List C) (used start len : ℕ) → start + len ≤ used → part (take used cells) start len ≡ part cells start len
+part_of_first cells used start len l =
+    let whole : start + (len + (used - (start + len))) ≡ used = omega arith in
+    ap (λ k. take len (drop start (take k cells))) (sym whole)
+    ∙ ap (take len) (drop-take start (len + (used - (start + len))) cells)
+    ∙ take-take len (len + (used - (start + len))) (drop start cells) (omega arith)
+
+module _ {C : Type 0} (r : Ring C) (nodes : List NodeView) where
+  -- as the walks see it
+  pub lies_in : (cells : List C) (s : Slot) → IsLive nodes cells s → LiesIn (counts_of nodes) (length cells) s
+  lies_in cells s live = record {
+    known = λ v l. not_held (holds s.scope v) (λ t. let k = live.known v t in let e = counts_length nodes in omega arith);
+    size = live.size ∙ sym (cells_are nodes (holds s.scope));
+    within = live.within;
+  }
+
+  -- a slot's cell in a world
+  pub cell_of_slot : (cells : List C) (s : Slot) (w : World) → IsLive nodes cells s → InRange (states_of nodes) w → cell_at r cells (s.start + place_of (counts_of nodes) s.scope w) ≡ (table_of r nodes cells s).cell w
+  cell_of_slot cells s w live i =
+      let below = place_below (states_in (counts_of nodes)) (holds s.scope) w (range_is nodes w i) (length (counts_of nodes)) 0 in
+      let inside : place_of (counts_of nodes) s.scope w < s.len = omega (arith, below, live.size, cells_are nodes (holds s.scope)) in
+      sym (part_at r cells s.start s.len (place_of (counts_of nodes) s.scope w) inside)
+      ∙ ap (cell_at r (part cells s.start s.len)) (place_among nodes (holds s.scope) w)
+
+  -- earlier slots stay
+  pub stays_live : (before after : List C) (s : Slot) → take (length before) after ≡ before → length before ≤ length after → IsLive nodes before s → StaysLive r nodes before after s
+  stays_live before after s kept longer live = record {
+    live = record { known = live.known; size = live.size; within = (let l = live.within in omega arith) };
+    table = ap (λ cs. let t = picked r nodes (nodes_in nodes (holds s.scope)) cs in record { holds = holds s.scope; cell = t })
+        (sym (part_of_first after (length before) s.start s.len live.within) ∙ ap (λ cs. part cs s.start s.len) kept);
+  }
+
+  -- what was written behind the first cells is a table more
+  pub appends_table : (all new : List C) (used len : ℕ) (scope : NodeSet) (t : Table C)
+      → length new ≡ length all → used + len ≤ length all → take used new ≡ take used all
+      → len ≡ size_of (counts_of nodes) scope → ((v : ℕ) → IsIn scope v → v < length nodes) → ((v : ℕ) → holds scope v ≡ t.holds v)
+      → ((w : World) → InRange (states_of nodes) w → cell_at r new (used + place_of (counts_of nodes) scope w) ≡ t.cell w)
+      → AppendsTable r nodes (space all used) (space new (used + len)) (record { start = used; len = len; scope = scope }) t
+  appends_table all new used len scope t same fits kept size known held is =
+      let before : length (take used all) ≡ used = length-take-le used all (omega arith) in
+      let after : length (take (used + len) new) ≡ used + len = length-take-le (used + len) new (omega arith) in
+      let first : take (length (take used all)) (take (used + len) new) ≡ take used all = ap (λ k. take k (take (used + len) new)) before ∙ take-take used (used + len) new (omega arith) ∙ kept in
+      record {
+        appends = record { start = sym before; kept = first; longer = (omega arith); less = (omega arith) };
+        live = record { known = known; size = size ∙ cells_are nodes (holds scope); within = (omega arith) };
+        table = record {
+          holds = held;
+          cell = λ w i.
+              let below = place_below (states_in (counts_of nodes)) (holds scope) w (range_is nodes w i) (length (counts_of nodes)) 0 in
+              ap (λ cs. cell_at r cs (row_from (states_of nodes) w 0 (nodes_in nodes (holds scope)))) (part_of_first new (used + len) used len (omega arith))
+              ∙ sym (ap (cell_at r (part new used len)) (place_among nodes (holds scope) w))
+              ∙ part_at r new used len (place_of (counts_of nodes) scope w) (omega arith)
+              ∙ is w i;
+        };
+        stays = λ s live. stays_live (take used all) (take (used + len) new) s first (omega arith) live;
+      }

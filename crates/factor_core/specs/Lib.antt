@@ -1,0 +1,6 @@
+pub mod Slots
+pub mod Operations
+pub mod Walks
+pub mod Scopes
+pub mod Tables
+pub mod Spaces

@@ -1,0 +1,19 @@
+//! Tables over scopes, one behind another in one workspace: what each call makes of them is said by the tables of
+//! `ring_sums`, and a slot is seen as one of those.
+#![tactic(auto)]
+
+mod appending;
+mod cells;
+mod joins;
+mod orders;
+mod products;
+mod setting;
+mod sizes;
+mod slots;
+mod states;
+mod walks;
+mod workspaces;
+mod writes;
+
+pub use slots::{Slot, Strip};
+pub use workspaces::Workspace;

@@ -1,0 +1,98 @@
+//! Workspaces: tables one behind another in one vector of cells.
+
+ghost use Rattle.std.specs.Prelude.{◌≡◌, ◌≤◌, ◌<◌, ◌+◌, ℕ, All, length, map, IfOk, [], ◌∷◌};
+ghost use Rattle.std.specs.List.{AllZip};
+ghost use Rattle.node_sets.specs.Sets.{holds, IsIn};
+ghost use Rattle.maid_model.specs.Nodes.{states_of};
+ghost use Rattle.ring_sums.specs.Groups.{JoinFits, ProductsFit};
+ghost use Rattle.ring_sums.specs.Tables.{sum_out};
+ghost use Rattle.factor_core.specs.Operations.{product_table, SumFits};
+ghost use Rattle.factor_core.specs.Slots.{nodes_in, cells_over, part, IsLive, table_of, tables_of, AppendsTable};
+
+use crate::appending::{join_behind, product_behind};
+use crate::slots::{Slot, Strip};
+use cell_rings::Cell;
+use maid_model::Diagram;
+use std::alloc::{AllocError, Global};
+use std::marker::Model;
+
+/// Tables one behind another in one vector of cells, for which all memory is taken when it is made.
+#[derive(Drop)]
+pub struct Workspace<C> {
+    cells: Vec<C>,
+    used: usize,
+}
+
+impl<C> Model for Workspace<C> {
+    ghost use Rattle.std.specs.Prelude.{◌≤◌, vec_len};
+    ghost use Rattle.factor_core.specs.Slots.{WorkspaceView, space};
+
+    ghost Value = { WorkspaceView C };
+
+    ghost view = { λ w. space w.cells.items w.used };
+
+    ghost invariant = { λ w. (w.used ≤ vec_len w.cells) × (vec_len w.cells ≤ 4194304) };
+}
+
+impl<C: Cell> Workspace<C> {
+    /// A workspace without a table, with room for so many cells. It takes all of its memory, and writes it once.
+    pub fn reserve(alloc: Global, cells: usize) -> Result<Workspace<C>, AllocError>
+        requires { cells ≤ 4194304 }
+        ensures { IfOk result (λ w. w ≡ record { cells = []; spare = cells }) }
+    {
+        let mut room = Vec::with_capacity(alloc, cells)?;
+        for _ in 0..cells {
+            room.push(C::zero())?;
+        }
+        Ok(Workspace {
+            cells: room,
+            used: 0,
+        })
+    }
+
+    /// Ends all tables.
+    pub fn clear(&mut self)
+        ensures { self.new ≡ record { cells = []; spare = self.old.spare + length self.old.cells } }
+    {
+        self.used = 0;
+    }
+
+    /// The join of the slots with the node summed out of it: over their nodes but this one, and in each world the sum
+    /// over the node's states of the product of the slots' cells. The joined table is never stored. It goes over each of
+    /// its cells once.
+    pub fn join_out(&mut self, diagram: &Diagram, slots: &[Slot], node: usize) -> Slot
+        requires few { length slots.now ≤ 256 }
+        requires some { 0 < length slots.now }
+        requires live { All (IsLive diagram.now.nodes self.old.cells) slots.now }
+        requires hold { All (λ s. IsIn s.scope node) slots.now }
+        requires fits { JoinFits C.ring.size (states_of diagram.now.nodes) C.ring.most node (tables_of C.ring diagram.now.nodes self.old.cells slots.now) }
+        requires room { cells_over diagram.now.nodes (sum_out C.ring (states_of diagram.now.nodes) node (tables_of C.ring diagram.now.nodes self.old.cells slots.now)).holds ≤ self.old.spare }
+        ensures { AppendsTable C.ring diagram.now.nodes self.old self.new result (sum_out C.ring (states_of diagram.now.nodes) node (tables_of C.ring diagram.now.nodes self.old.cells slots.now)) }
+    {
+        let slot = join_behind(diagram, slots, node, self.cells.as_mut_slice(), self.used);
+        self.used += slot.len;
+        slot
+    }
+
+    /// The product of the slots: over their nodes, and in each world the product of their cells. Without a slot it has
+    /// the one cell `one`.
+    pub fn product(&mut self, diagram: &Diagram, slots: &[Slot]) -> Slot
+        requires few { length slots.now ≤ 256 }
+        requires live { All (IsLive diagram.now.nodes self.old.cells) slots.now }
+        requires fits { ProductsFit C.ring.size (states_of diagram.now.nodes) C.ring.most (tables_of C.ring diagram.now.nodes self.old.cells slots.now) }
+        requires room { cells_over diagram.now.nodes (product_table C.ring (tables_of C.ring diagram.now.nodes self.old.cells slots.now)).holds ≤ self.old.spare }
+        ensures { AppendsTable C.ring diagram.now.nodes self.old self.new result (product_table C.ring (tables_of C.ring diagram.now.nodes self.old.cells slots.now)) }
+    {
+        let slot = product_behind(diagram, slots, self.cells.as_mut_slice(), self.used);
+        self.used += slot.len;
+        slot
+    }
+
+    /// The cells of the strip.
+    pub fn strip(&self, strip: &Strip) -> &[C]
+        requires { strip.now.start + strip.now.len ≤ length self.now.cells }
+        ensures { result.now ≡ part self.now.cells strip.now.start strip.now.len }
+    {
+        &self.cells[strip.start..strip.start + strip.len]
+    }
+}
