@@ -2,7 +2,7 @@
 use Rattle.std.proofs.Common.{refl, ap}
 use Rattle.cell_rings.specs.Rings.{Pair, IsRing, IsSize, IsMap, mass_ring, gain_ring, can_ring, both_ring}
 use Rattle.cell_rings.specs.Kinds.{mass_of, mass_kind, gain_of, gain_kind, can_of, can_kind, both_of, both_kind, pair_in, small_mass_of, small_mass_kind, small_gain_of, small_gain_kind}
-pub use Rattle.cell_rings.specs.RingLaws.{at_most_itself, pair_of_weight, one_at_most, value_at_most, pair_of_value, can_of_weight}
+pub use Rattle.cell_rings.specs.RingLaws.{at_most_itself, pair_of_weight, one_at_most, value_at_most, pair_of_value, can_of_weight, most_has_room, small_has_room}
 use Rattle.cell_rings.specs.RingLaws.{mass_is_ring, gain_is_ring, can_is_ring, both_is_ring, mass_sized, gain_sized, can_sized, both_sized}
 use Rattle.cell_rings.specs.declared.boths.Both.{Both}
 

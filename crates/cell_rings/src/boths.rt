@@ -1,5 +1,5 @@
 ghost use Rattle.std.specs.Prelude.{◌≡◌, ◌*◌, ◌^◌, ◌<◌, ◌*ℤ◌, pos, nat_abs};
-ghost use Rattle.cell_rings.specs.KindLaws.{both_laws, both_sizes, pair_of_weight, pair_of_value};
+ghost use Rattle.cell_rings.specs.KindLaws.{most_has_room, both_laws, both_sizes, pair_of_weight, pair_of_value};
 ghost use Rattle.cell_rings.specs.Kinds.{both_kind, both_of};
 
 use crate::cells::Cell;
@@ -23,6 +23,8 @@ impl Cell for Both {
     ghost sizes = { both_sizes };
 
     ghost weight_sizes = { pair_of_weight };
+
+    ghost one_fits = { most_has_room };
 
     ghost value_sizes = { pair_of_value };
 

@@ -1,5 +1,5 @@
 ghost use Rattle.std.specs.Prelude.{nat_lt, true};
-ghost use Rattle.cell_rings.specs.KindLaws.{can_laws, can_sizes, can_of_weight, one_at_most};
+ghost use Rattle.cell_rings.specs.KindLaws.{most_has_room, can_laws, can_sizes, can_of_weight, one_at_most};
 ghost use Rattle.cell_rings.specs.Kinds.{can_kind, can_of};
 
 use crate::cells::Cell;
@@ -20,6 +20,8 @@ impl Cell for Can {
     ghost sizes = { can_sizes };
 
     ghost weight_sizes = { can_of_weight };
+
+    ghost one_fits = { most_has_room };
 
     ghost value_sizes = { one_at_most };
 

@@ -2,7 +2,8 @@ ghost use Rattle.std.specs.Prelude.{◌≡◌, ℕ, ℤ, ◌+◌, ◌*◌, ◌<�
 ghost use Rattle.cell_rings.specs.Sums.{ring_sum, cell_at, run_sum, Adds, HasRoom};
 ghost use Rattle.cell_rings.specs.Rings.{Ring, IsRing, IsSize, mass_ring};
 
-/// A cell of a table. `ring` has its two operations and its sizes. A result fits where its size is at most `most`.
+/// A cell of a table. `ring` has its two operations and its sizes; a result fits where its size is at most `ring.most`.
+/// The laws, of the operations and of the sizes, are all that the layers above know.
 pub trait Cell: Copy {
     ghost ring: { Ring Self };
 
@@ -96,6 +97,8 @@ pub trait Cell: Copy {
     ghost sizes: { IsSize ring ring.size };
 
     ghost weight_sizes: { (w : ℕ) → ring.size (of_weight w) ≤ w };
+
+    ghost one_fits: { 1 ≤ ring.most };
 
     ghost value_sizes: { (v : ℤ) → ring.size (of_value v) ≤ 2 * max 1 (nat_abs v) };
 }

@@ -1,7 +1,7 @@
 ghost use Rattle.std.specs.Prelude.{◌≡◌, ◌+◌, ◌-◌, ◌*◌, ◌%◌, ◌^◌, ◌<◌, ◌≤◌, ◌*ℤ◌, ◌≤ℤ◌, ◌<ℤ◌, ℤ, pos, nat_abs, length, IsTrue};
 ghost use Rattle.cell_rings.specs.Rings.{mass_ring};
 ghost use Rattle.cell_rings.specs.Sums.{cell_at, run_sum, Adds, HasRoom};
-ghost use Rattle.cell_rings.specs.KindLaws.{gain_laws, gain_sizes, at_most_itself, value_at_most};
+ghost use Rattle.cell_rings.specs.KindLaws.{most_has_room, gain_laws, gain_sizes, at_most_itself, value_at_most};
 ghost use Rattle.cell_rings.specs.Kinds.{gain_kind, gain_of};
 
 use crate::cells::Cell;
@@ -22,6 +22,8 @@ impl Cell for Gain {
     ghost sizes = { gain_sizes };
 
     ghost weight_sizes = { at_most_itself };
+
+    ghost one_fits = { most_has_room };
 
     ghost value_sizes = { value_at_most };
 

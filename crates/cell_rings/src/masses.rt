@@ -1,7 +1,7 @@
 ghost use Rattle.std.specs.Prelude.{◌≡◌, ◌+◌, ◌-◌, ◌*◌, ◌^◌, ◌<◌, ◌≤◌, length};
 ghost use Rattle.cell_rings.specs.Rings.{mass_ring};
 ghost use Rattle.cell_rings.specs.Sums.{cell_at, run_sum, Adds, HasRoom};
-ghost use Rattle.cell_rings.specs.KindLaws.{mass_laws, mass_sizes, at_most_itself, one_at_most};
+ghost use Rattle.cell_rings.specs.KindLaws.{most_has_room, mass_laws, mass_sizes, at_most_itself, one_at_most};
 ghost use Rattle.cell_rings.specs.Kinds.{mass_kind, mass_of};
 
 use crate::cells::Cell;
@@ -22,6 +22,8 @@ impl Cell for Mass {
     ghost sizes = { mass_sizes };
 
     ghost weight_sizes = { at_most_itself };
+
+    ghost one_fits = { most_has_room };
 
     ghost value_sizes = { one_at_most };
 

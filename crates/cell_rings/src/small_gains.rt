@@ -1,5 +1,5 @@
 ghost use Rattle.std.specs.Prelude.{ℤ, pos, nat_abs};
-ghost use Rattle.cell_rings.specs.KindLaws.{small_gain_laws, small_gain_sizes, at_most_itself, value_at_most};
+ghost use Rattle.cell_rings.specs.KindLaws.{small_has_room, small_gain_laws, small_gain_sizes, at_most_itself, value_at_most};
 ghost use Rattle.cell_rings.specs.Kinds.{small_gain_kind, small_gain_of};
 
 use crate::cells::Cell;
@@ -20,6 +20,8 @@ impl Cell for SmallGain {
     ghost sizes = { small_gain_sizes };
 
     ghost weight_sizes = { at_most_itself };
+
+    ghost one_fits = { small_has_room };
 
     ghost value_sizes = { value_at_most };
 

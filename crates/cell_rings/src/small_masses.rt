@@ -1,4 +1,4 @@
-ghost use Rattle.cell_rings.specs.KindLaws.{small_mass_laws, small_mass_sizes, at_most_itself, one_at_most};
+ghost use Rattle.cell_rings.specs.KindLaws.{small_has_room, small_mass_laws, small_mass_sizes, at_most_itself, one_at_most};
 ghost use Rattle.cell_rings.specs.Kinds.{small_mass_kind, small_mass_of};
 
 use crate::cells::Cell;
@@ -19,6 +19,8 @@ impl Cell for SmallMass {
     ghost sizes = { small_mass_sizes };
 
     ghost weight_sizes = { at_most_itself };
+
+    ghost one_fits = { small_has_room };
 
     ghost value_sizes = { one_at_most };
 

@@ -1,8 +1,8 @@
 -- What fits for the tables of slots fits for the cells at their places, and the cells that walks make are those of the tables.
-use Rattle.std.proofs.Common.{◌≡◌, ◌∙◌, ℕ, zero, suc, ◌+◌, ◌*◌, ◌<◌, ◌≤◌, Bool, true, false, cond, not, ◌&&◌, ◌||◌, ◌==◌, List, [], ◌∷◌, take, length, map, refl, sym, ap, subst, arith}
+use Rattle.std.proofs.Common.{◌≡◌, ◌∙◌, ℕ, zero, suc, ◌+◌, ◌*◌, ◌<◌, ◌≤◌, Bool, true, false, cond, not, ◌&&◌, ◌||◌, ◌==◌, List, [], ◌∷◌, take, length, map, refl, sym, ap, subst, arith, inl, inr}
 use Rattle.std.specs.List.{list_any}
-use Rattle.std.proofs.Math.Nat.{mul-le-mul_left}
-use Rattle.std.proofs.lemmas.List.{length-map}
+use Rattle.std.proofs.Math.Path.{fun_ext}
+use Rattle.std.proofs.lemmas.Bool.{cases_eq}
 use Rattle.finite_sums.specs.Sums.{World, InRange, with_state}
 use Rattle.finite_sums.proofs.Sums.{with_in}
 use Rattle.node_sets.specs.Sets.{holds}
@@ -11,7 +11,8 @@ use Rattle.maid_model.specs.Nodes.{states_of, counts_of}
 use Rattle.cell_rings.specs.Rings.{Ring, IsRing, IsSize, mass_ring}
 use Rattle.cell_rings.specs.RingLaws.{mass_is_ring}
 use Rattle.cell_rings.specs.Sums.{ring_sum, cell_at, product_from, product_at, sizes_of, ProductFits}
-use Rattle.cell_rings.proofs.Adding.{size_at}
+use Rattle.cell_rings.proofs.Adding.{size_at, nat_sum_one_more}
+use Rattle.cell_rings.proofs.Runs.{chosen, not_chosen}
 use Rattle.ring_sums.specs.Groups.{sizes, ProductsFit, JoinFits}
 use Rattle.ring_sums.specs.Sums.{ring_product}
 use Rattle.ring_sums.specs.Tables.{Table, joined, product_of}
@@ -133,3 +134,29 @@ module _ {C : Type 0} {r : Ring C} (laws : IsRing r) (sized : IsSize r r.size) (
           with_true : (d : Bool) → d ≡ (d && true)
           with_true true = refl
           with_true false = refl
+
+-- a node at the state that it has
+with_itself : (w : World) (v : ℕ) → with_state w v (w v) ≡ w
+with_itself w v = fun_ext (λ u. elim (cases_eq u v) [ inl e ↦ chosen u v (w v) (w u) e ∙ ap w (sym e) | inr ne ↦ not_chosen u v (w v) (w u) ne ])
+
+-- where the sums of one table fit, its join does
+pub sum_fits_join : {C : Type 0} {r : Ring C} → 1 ≤ r.most → (nodes : List NodeView) (cells : List C) (slot : Slot) (x : ℕ)
+    → SumFits r (states_of nodes) x (table_of r nodes cells slot) → JoinFits r.size (states_of nodes) r.most x (tables_of r nodes cells (slot ∷ []))
+sum_fits_join {C} {r} one nodes cells slot x f = record {
+  products = λ j w i. first j w i;
+  sum = λ w i.
+      subst (λ z. z ≤ r.most)
+      (sum_cong mass_ring mass_is_ring (states_of nodes x) (λ s. r.size ((table_of r nodes cells slot).cell (with_state w x s))) (λ s. sizes r.size (tables_of r nodes cells (slot ∷ [])) (with_state w x s)) (λ s l. sym (mass_is_ring.times_unit (r.size ((table_of r nodes cells slot).cell (with_state w x s))))))
+      (f.sum w i);
+}
+  where
+    whole : (w : World) → InRange (states_of nodes) w → r.size ((table_of r nodes cells slot).cell w) ≤ r.most
+    whole w i =
+        let term = nat_sum_one_more (w x) (states_of nodes x) (λ s. r.size ((table_of r nodes cells slot).cell (with_state w x s))) (i.state x) in
+        let here = ap (λ u. r.size ((table_of r nodes cells slot).cell u)) (with_itself w x) in
+        omega (arith, term, here, f.sum w i)
+
+    first : (j : ℕ) (w : World) → InRange (states_of nodes) w → sizes r.size (take j (tables_of r nodes cells (slot ∷ []))) w ≤ r.most
+    first zero w i = one
+    first (suc zero) w i = let h = whole w i in omega arith
+    first (suc (suc j)) w i = let h = whole w i in omega arith

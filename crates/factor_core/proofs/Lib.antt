@@ -17,3 +17,4 @@ pub mod Counts
 pub mod Standing
 pub mod Conditions
 pub mod Behind
+pub mod Zips

@@ -3,10 +3,10 @@
 #![tactic(auto)]
 
 mod appending;
-mod cells;
 mod joins;
 mod orders;
 mod products;
+mod reading;
 mod setting;
 mod sizes;
 mod slots;

@@ -6,10 +6,12 @@ ghost use Rattle.node_sets.specs.Sets.{holds, IsIn};
 ghost use Rattle.maid_model.specs.Nodes.{states_of};
 ghost use Rattle.ring_sums.specs.Groups.{JoinFits, ProductsFit};
 ghost use Rattle.ring_sums.specs.Tables.{sum_out};
+ghost use Rattle.finite_sums.specs.Sums.{World};
 ghost use Rattle.factor_core.specs.Operations.{product_table, SumFits};
 ghost use Rattle.factor_core.specs.Slots.{nodes_in, cells_over, part, IsLive, table_of, tables_of, AppendsTable};
 
 use crate::appending::{join_behind, product_behind};
+use crate::reading::read_cell;
 use crate::slots::{Slot, Strip};
 use cell_rings::Cell;
 use maid_model::Diagram;
@@ -86,6 +88,27 @@ impl<C: Cell> Workspace<C> {
         let slot = product_behind(diagram, slots, self.cells.as_mut_slice(), self.used);
         self.used += slot.len;
         slot
+    }
+
+    /// The slot with the node summed out of it: over its other nodes, and in each world the sum of its cells over the
+    /// node's states.
+    pub fn sum_out(&mut self, diagram: &Diagram, slot: &Slot, node: usize) -> Slot
+        requires live { IsLive diagram.now.nodes self.old.cells slot.now }
+        requires hold { IsIn slot.now.scope node }
+        requires fits { SumFits C.ring (states_of diagram.now.nodes) node (table_of C.ring diagram.now.nodes self.old.cells slot.now) }
+        requires room { cells_over diagram.now.nodes (sum_out C.ring (states_of diagram.now.nodes) node (table_of C.ring diagram.now.nodes self.old.cells slot.now ∷ [])).holds ≤ self.old.spare }
+        ensures { AppendsTable C.ring diagram.now.nodes self.old self.new result (sum_out C.ring (states_of diagram.now.nodes) node (table_of C.ring diagram.now.nodes self.old.cells slot.now ∷ [])) }
+    {
+        self.join_out(diagram, &[*slot], node)
+    }
+
+    /// The slot's cell at these states of its nodes, the lowest node first.
+    pub fn at(&self, diagram: &Diagram, slot: &Slot, states: &[usize]) -> C
+        requires live { IsLive diagram.now.nodes self.now.cells slot.now }
+        requires states { AllZip (λ v s. s < states_of diagram.now.nodes v) (nodes_in diagram.now.nodes (holds slot.now.scope)) states.now }
+        ensures { (w : World) → map w (nodes_in diagram.now.nodes (holds slot.now.scope)) ≡ states.now → result ≡ (table_of C.ring diagram.now.nodes self.now.cells slot.now).cell w }
+    {
+        read_cell(diagram, slot, states, self.cells.as_slice(), self.used)
     }
 
     /// The cells of the strip.

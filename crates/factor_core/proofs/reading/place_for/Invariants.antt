@@ -1,7 +1,7 @@
 use Rattle.std.proofs.Common.{◌≡◌, ℕ, ◌+◌, ◌-◌, ◌*◌, ◌≤◌, drop, length}
 use Rattle.node_sets.specs.Sets.{holds}
 use Rattle.factor_core.specs.Tables.{states_in, size_from, place_from, size_of, place_of, listed, Gives}
-use Rattle.factor_core.proofs.cells.place_for.Given as goal
+use Rattle.factor_core.proofs.reading.place_for.Given as goal
 
 abbrev pub invariant-loop-v : goal.invariant-loop-v
 invariant-loop-v l = record {

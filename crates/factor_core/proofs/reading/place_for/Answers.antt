@@ -4,7 +4,7 @@ use Rattle.std.proofs.lemmas.List.{get_or_default}
 use Rattle.node_sets.specs.Sets.{holds}
 use Rattle.factor_core.specs.Tables.{states_in, size_from, size_of, place_of, listed}
 use Rattle.factor_core.proofs.Placing.{first_left, left_next, next_size, next_place_is, size_some}
-use Rattle.factor_core.proofs.cells.place_for.Goals as goal
+use Rattle.factor_core.proofs.reading.place_for.Goals as goal
 
 pub next_place-place-requires-clause-small : goal.next_place-place-requires-clause-small
 next_place-place-requires-clause-small c =
