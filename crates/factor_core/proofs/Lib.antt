@@ -18,3 +18,4 @@ pub mod Standing
 pub mod Conditions
 pub mod Behind
 pub mod Zips
+pub mod Copying

@@ -1,5 +1,6 @@
 pub mod Slots
 pub mod Operations
+pub mod Copies
 pub mod Walks
 pub mod Scopes
 pub mod Tables

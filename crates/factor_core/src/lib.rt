@@ -3,6 +3,7 @@
 #![tactic(auto)]
 
 mod appending;
+mod copies;
 mod joins;
 mod orders;
 mod products;
@@ -10,6 +11,7 @@ mod reading;
 mod setting;
 mod sizes;
 mod slots;
+mod sources;
 mod states;
 mod walks;
 mod workspaces;

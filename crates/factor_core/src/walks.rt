@@ -14,7 +14,7 @@ pub struct Axis {
 }
 
 /// What of the list follows its first n items.
-fn after<T>(list: &[T], n: usize) -> &[T]
+pub fn after<T>(list: &[T], n: usize) -> &[T]
     requires { n ≤ length list.now }
     ensures { result.now ≡ drop n list.now }
 {
