@@ -107,13 +107,13 @@ module _ {C : Type 0} (r : Ring C) where
         place : (s c m q a : ℕ) → a ≡ (0 * c + s) * m + q → a ≡ s * m + q
         place s c m q a e = omega arith
 
-  -- where every world's place is before n, so is each choice of states
-  pub reads_before : (count stride : ℕ → ℕ) (n : ℕ) (vs : List ℕ) (from : ℕ) → AllOnce vs → (some : World) → InRange count some → ((w : World) → InRange count w → from + out_place stride vs w < n) → ReadsBefore n (steps_of count stride vs) from
-  reads_before count stride n [] from once some ok h = (let e = h some ok in omega arith)
-  reads_before count stride n (v ∷ vs) from once some ok h = λ s l.
-      reads_before count stride n vs (from + s * stride v) once.1 some ok
-      (λ w i.
-      let there = h (with_state w v s) (with_in_range count w v s i l) in
-      let same = ap (λ k. k * stride v) (with_same w v s) in
-      let other = out_other count stride (λ u. []) 0 (λ u. refl) vs w v s once.0 in
-      omega arith)
+-- where every world's place is before n, so is each choice of states
+pub reads_before : (count stride : ℕ → ℕ) (n : ℕ) (vs : List ℕ) (from : ℕ) → AllOnce vs → (some : World) → InRange count some → ((w : World) → InRange count w → from + out_place stride vs w < n) → ReadsBefore n (steps_of count stride vs) from
+reads_before count stride n [] from once some ok h = (let e = h some ok in omega arith)
+reads_before count stride n (v ∷ vs) from once some ok h = λ s l.
+    reads_before count stride n vs (from + s * stride v) once.1 some ok
+    (λ w i.
+    let there = h (with_state w v s) (with_in_range count w v s i l) in
+    let same = ap (λ k. k * stride v) (with_same w v s) in
+    let other = out_other count stride (λ u. []) 0 (λ u. refl) vs w v s once.0 in
+    omega arith)

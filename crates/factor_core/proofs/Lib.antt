@@ -19,3 +19,4 @@ pub mod Conditions
 pub mod Behind
 pub mod Zips
 pub mod Copying
+pub mod Gathering

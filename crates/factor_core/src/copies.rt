@@ -1,9 +1,9 @@
 //! A walk that copies cells in another order.
 
-ghost use Rattle.std.specs.Prelude.{◌≡◌, ◌+◌, ◌≤◌, length, take, ◌++◌, [], ◌∷◌};
+ghost use Rattle.std.specs.Prelude.{◌≡◌, ◌+◌, ◌-◌, ◌≤◌, length, take, ◌++◌, [], ◌∷◌};
 ghost use Rattle.factor_core.specs.Copies.{gathered, count_of_steps, CanCopy};
 
-use crate::sources::Source;
+use crate::sources::{Source, Stored};
 use crate::walks::after;
 use cell_rings::Cell;
 
@@ -65,4 +65,14 @@ pub fn copy_walk<C: Cell, S: Source<C>>(
         here += step.stride;
     }
     place
+}
+
+/// Copies cells that stand before `start` to the places from there on.
+pub fn copy_at<C: Cell>(steps: &[Step], from: usize, all: &mut [C], start: usize)
+    requires start { start ≤ length all.old }
+    requires can { CanCopy (Unit {0}) start steps.now from (length all.old - start) 0 }
+    ensures { take (start + count_of_steps steps.now) all.new ≡ take start all.old ++ gathered C.ring (take start all.old) steps.now from }
+{
+    let (cells, out) = all.split_at_mut(start);
+    copy_walk(steps, &Stored { cells }, from, out, 0);
 }

@@ -8,6 +8,7 @@ mod joins;
 mod orders;
 mod products;
 mod reading;
+mod reorders;
 mod setting;
 mod sizes;
 mod slots;

@@ -1,9 +1,11 @@
 ghost use Rattle.std.specs.Prelude.{◌≡◌, ◌+◌, ◌*◌, ◌^◌, ◌<◌, ◌≤◌, All, length, take, ◌++◌};
 ghost use Rattle.node_sets.specs.Sets.{holds};
+ghost use Rattle.factor_core.specs.Copies.{steps_of};
 ghost use Rattle.factor_core.specs.Tables.{AreCounts, states_in, stride_of, size_of, axes_of, rows_of, row_of, starts_of};
 
 use crate::slots::Slot;
 use node_sets::NodeSet;
+use crate::copies::Step;
 use crate::sizes::stride;
 use crate::walks::Axis;
 
@@ -58,5 +60,21 @@ pub fn set_places(places: &mut [usize], slots: &[Slot])
 {
     for j in 0..slots.len() {
         places[j] = slots[j].start;
+    }
+}
+
+/// Writes the steps of the nodes, with the strides of a table over the scope.
+pub fn set_steps(steps: &mut [Step], counts: &[usize], scope: &NodeSet, order: &[usize])
+    requires counts { AreCounts counts.now }
+    requires order { All (λ v. v < length counts.now) order.now }
+    requires room { length order.now ≤ length steps.old }
+    requires fits { size_of counts.now scope.now ≤ 2 ^ 32 }
+    ensures { take (length order.now) steps.new ≡ steps_of (states_in counts.now) (stride_of (states_in counts.now) (length counts.now) (holds scope.now)) order.now }
+{
+    for i in 0..order.len() {
+        steps[i] = Step {
+            states: counts[order[i]],
+            stride: stride(counts, scope, order[i]),
+        };
     }
 }

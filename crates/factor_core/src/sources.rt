@@ -19,6 +19,7 @@ pub trait Source<C: Cell> {
 }
 
 /// Cells themselves.
+#[derive(Drop)]
 pub struct Stored<'a, C> {
     pub cells: &'a [C],
 }
