@@ -20,3 +20,4 @@ pub mod Behind
 pub mod Zips
 pub mod Copying
 pub mod Gathering
+pub mod Reordering

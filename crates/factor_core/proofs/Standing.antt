@@ -54,27 +54,42 @@ module _ {C : Type 0} (r : Ring C) (nodes : List NodeView) where
         (sym (part_of_first after (length before) s.start s.len live.within) ∙ ap (λ cs. part cs s.start s.len) kept);
   }
 
-  -- what was written behind the first cells is a table more
-  pub appends_table : (all new : List C) (used len : ℕ) (scope : NodeSet) (t : Table C)
-      → length new ≡ length all → used + len ≤ length all → take used new ≡ take used all
-      → len ≡ size_of (counts_of nodes) scope → ((v : ℕ) → IsIn scope v → v < length nodes) → ((v : ℕ) → holds scope v ≡ t.holds v)
-      → ((w : World) → InRange (states_of nodes) w → cell_at r new (used + place_of (counts_of nodes) scope w) ≡ t.cell w)
-      → AppendsTable r nodes (space all used) (space new (used + len)) (record { start = used; len = len; scope = scope }) t
-  appends_table all new used len scope t same fits kept size known held is =
-      let before : length (take used all) ≡ used = length-take-le used all (omega arith) in
-      let after : length (take (used + len) new) ≡ used + len = length-take-le (used + len) new (omega arith) in
-      let first : take (length (take used all)) (take (used + len) new) ≡ take used all = ap (λ k. take k (take (used + len) new)) before ∙ take-take used (used + len) new (omega arith) ∙ kept in
-      record {
-        appends = record { start = sym before; kept = first; longer = (omega arith); less = (omega arith) };
-        live = record { known = known; size = size ∙ cells_are nodes (holds scope); within = (omega arith) };
-        table = record {
-          holds = held;
-          cell = λ w i.
-              let below = place_below (states_in (counts_of nodes)) (holds scope) w (range_is nodes w i) (length (counts_of nodes)) 0 in
-              ap (λ cs. cell_at r cs (row_from (states_of nodes) w 0 (nodes_in nodes (holds scope)))) (part_of_first new (used + len) used len (omega arith))
-              ∙ sym (ap (cell_at r (part new used len)) (place_among nodes (holds scope) w))
-              ∙ part_at r new used len (place_of (counts_of nodes) scope w) (omega arith)
-              ∙ is w i;
-        };
-        stays = λ s live. stays_live (take used all) (take (used + len) new) s first (omega arith) live;
-      }
+  -- cells were written behind the first ones
+  module _ (all new : List C) (used len : ℕ) (same : length new ≡ length all) (fits : used + len ≤ length all) (kept : take used new ≡ take used all) where
+    before : length (take used all) ≡ used
+    before = length-take-le used all (omega arith)
+
+    after : length (take (used + len) new) ≡ used + len
+    after = length-take-le (used + len) new (omega arith)
+
+    first : take (length (take used all)) (take (used + len) new) ≡ take used all
+    first = ap (λ k. take k (take (used + len) new)) before ∙ take-take used (used + len) new (omega arith) ∙ kept
+
+    pub appends : Appends (space all used) (space new (used + len)) used len
+    appends = record { start = sym before; kept = first; longer = (let b = before in let a = after in omega arith); less = (omega arith) }
+
+    pub stays : (s : Slot) → IsLive nodes (take used all) s → StaysLive r nodes (take used all) (take (used + len) new) s
+    stays s live = stays_live (take used all) (take (used + len) new) s first (let b = before in let a = after in omega arith) live
+
+    -- a cell of what was written
+    pub cell_written : (p : ℕ) → p < len → cell_at r (part (take (used + len) new) used len) p ≡ cell_at r new (used + p)
+    cell_written p l = ap (λ cs. cell_at r cs p) (part_of_first new (used + len) used len (omega arith)) ∙ part_at r new used len p l
+
+    -- what was written is a table more
+    pub appends_table : (scope : NodeSet) (t : Table C)
+        → len ≡ size_of (counts_of nodes) scope → ((v : ℕ) → IsIn scope v → v < length nodes) → ((v : ℕ) → holds scope v ≡ t.holds v)
+        → ((w : World) → InRange (states_of nodes) w → cell_at r new (used + place_of (counts_of nodes) scope w) ≡ t.cell w)
+        → AppendsTable r nodes (space all used) (space new (used + len)) (record { start = used; len = len; scope = scope }) t
+    appends_table scope t size known held is = record {
+      appends = appends;
+      live = record { known = known; size = size ∙ cells_are nodes (holds scope); within = (let a = after in omega arith) };
+      table = record {
+        holds = held;
+        cell = λ w i.
+            let below = place_below (states_in (counts_of nodes)) (holds scope) w (range_is nodes w i) (length (counts_of nodes)) 0 in
+            sym (ap (cell_at r (part (take (used + len) new) used len)) (place_among nodes (holds scope) w))
+            ∙ cell_written (place_of (counts_of nodes) scope w) (omega arith)
+            ∙ is w i;
+      };
+      stays = stays;
+    }

@@ -1,6 +1,6 @@
 -- Slots and workspaces as contracts see them: the tables that stand in a list of cells.
 use Rattle.std.specs.Prelude.{◌≡◌, ℕ, ◌+◌, ◌-◌, ◌<◌, ◌≤◌, Bool, List, map, filter, take, drop, length}
-use Rattle.finite_sums.specs.Sums.{World}
+use Rattle.finite_sums.specs.Sums.{World, InRange}
 use Rattle.node_sets.specs.Sets.{holds, IsIn}
 use Rattle.maid_model.specs.Views.{NodeView}
 use Rattle.maid_model.specs.Nodes.{states_of, numbers_of, rows_under}
@@ -50,6 +50,10 @@ table_of r nodes cells slot = record {
 
 abbrev pub tables_of : {C : Type 0} → Ring C → List NodeView → List C → List Slot → List (Table C)
 tables_of r nodes cells slots = map (table_of r nodes cells) slots
+
+-- the cells of a table with the first of these nodes slowest
+pub record HasCells {C : Type 0} (r : Ring C) (nodes : List NodeView) (vs : List ℕ) (cells : List C) (t : Table C) : Type 0 where
+  pub cell : (w : World) → InRange (states_of nodes) w → picked r nodes vs cells w ≡ t.cell w
 
 -- cells were appended: earlier ones stay, and what is spare is less by as many
 pub record Appends {C : Type 0} (before after : WorkspaceView C) (first len : ℕ) : Type 0 where

@@ -1,19 +1,21 @@
 //! Tables copied behind the first cells of a list: at one state of a node, and in another order of nodes.
 
-ghost use Rattle.std.specs.Prelude.{◌≡◌, ◌+◌, ◌*◌, ◌^◌, ◌<◌, ◌≤◌, ℕ, length, not, ◌&&◌, ◌==◌};
+ghost use Rattle.std.specs.Prelude.{◌≡◌, ◌+◌, ◌*◌, ◌^◌, ◌<◌, ◌≤◌, ℕ, length, not, ◌&&◌, ◌==◌, ◌↔◌, Contains};
 ghost use Rattle.node_sets.specs.declared.sets.TheConstants.{MOST_NODES};
 ghost use Rattle.finite_sums.specs.Sums.{World, InRange};
 ghost use Rattle.node_sets.specs.Sets.{holds, IsIn};
+ghost use Rattle.maid_model.specs.Graph.{AllDifferent};
 ghost use Rattle.maid_model.specs.Nodes.{states_of};
+ghost use Rattle.factor_core.specs.declared.slots.Slot.{Slot};
 ghost use Rattle.factor_core.specs.Operations.{restricted};
-ghost use Rattle.factor_core.specs.Slots.{space, cells_over, IsLive, table_of, AppendsTable};
+ghost use Rattle.factor_core.specs.Slots.{space, cells_over, part, HasCells, IsLive, table_of, Appends, AppendsTable, StaysLive};
 ghost use Rattle.factor_core.specs.Tables.{AreCounts, states_in, stride_of, size_of};
 
 use crate::copies::{Step, copy_at};
 use crate::orders::list_nodes;
 use crate::setting::set_steps;
 use crate::sizes::{stride, table_size};
-use crate::slots::Slot;
+use crate::slots::{Slot, Strip};
 use crate::states::list_states;
 use crate::walks::before;
 use cell_rings::Cell;
@@ -78,5 +80,37 @@ pub fn restrict_behind<C: Cell>(
         start: used,
         len,
         scope,
+    }
+}
+
+/// The slot's cells with the first of these nodes slowest, behind the first `used` cells.
+pub fn reorder_behind<C: Cell>(
+    diagram: &Diagram,
+    slot: &Slot,
+    nodes: &[usize],
+    all: &mut [C],
+    used: usize,
+) -> Strip
+    requires used { used ≤ length all.old }
+    requires short { length all.old ≤ 4194304 }
+    requires live { IsLive diagram.now.nodes (space all.old used).cells slot.now }
+    requires once { AllDifferent nodes.now }
+    requires scope { (v : ℕ) → Contains nodes.now v ↔ IsIn slot.now.scope v }
+    requires room { slot.now.len ≤ (space all.old used).spare }
+    ensures start { result.start ≡ used }
+    ensures len { used + result.len ≤ length all.new }
+    ensures appends { Appends (space all.old used) (space all.new (used + result.len)) result.start result.len }
+    ensures cells { HasCells C.ring diagram.now.nodes nodes.now (part (space all.new (used + result.len)).cells result.start result.len) (table_of C.ring diagram.now.nodes (space all.old used).cells slot.now) }
+    ensures stays { (s : Slot) → IsLive diagram.now.nodes (space all.old used).cells s → StaysLive C.ring diagram.now.nodes (space all.old used).cells (space all.new (used + result.len)).cells s }
+{
+    let mut counts = [1; MOST_NODES];
+    list_states(&mut counts, diagram);
+    let counts = before(&counts, diagram.count());
+    let mut steps = [Step { states: 1, stride: 0 }; MOST_NODES + 1];
+    set_steps(&mut steps, counts, &slot.scope, nodes);
+    copy_at(before(&steps, nodes.len()), slot.start, all, used);
+    Strip {
+        start: used,
+        len: slot.len,
     }
 }

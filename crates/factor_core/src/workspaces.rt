@@ -1,17 +1,20 @@
 //! Workspaces: tables one behind another in one vector of cells.
 
-ghost use Rattle.std.specs.Prelude.{◌≡◌, ◌≤◌, ◌<◌, ◌+◌, ℕ, All, length, map, IfOk, [], ◌∷◌};
+ghost use Rattle.std.specs.Prelude.{◌≡◌, ◌≤◌, ◌<◌, ◌+◌, ℕ, All, length, map, IfOk, [], ◌∷◌, ◌↔◌, Contains};
 ghost use Rattle.std.specs.List.{AllZip};
 ghost use Rattle.node_sets.specs.Sets.{holds, IsIn};
+ghost use Rattle.maid_model.specs.Graph.{AllDifferent};
 ghost use Rattle.maid_model.specs.Nodes.{states_of};
+ghost use Rattle.factor_core.specs.declared.slots.Slot.{Slot};
 ghost use Rattle.ring_sums.specs.Groups.{JoinFits, ProductsFit};
 ghost use Rattle.ring_sums.specs.Tables.{sum_out};
 ghost use Rattle.finite_sums.specs.Sums.{World};
-ghost use Rattle.factor_core.specs.Operations.{product_table, SumFits};
-ghost use Rattle.factor_core.specs.Slots.{nodes_in, cells_over, part, IsLive, table_of, tables_of, AppendsTable};
+ghost use Rattle.factor_core.specs.Operations.{product_table, restricted, SumFits};
+ghost use Rattle.factor_core.specs.Slots.{nodes_in, cells_over, part, HasCells, IsLive, table_of, tables_of, Appends, AppendsTable, StaysLive};
 
 use crate::appending::{join_behind, product_behind};
 use crate::reading::read_cell;
+use crate::reorders::{reorder_behind, restrict_behind};
 use crate::slots::{Slot, Strip};
 use cell_rings::Cell;
 use maid_model::Diagram;
@@ -100,6 +103,34 @@ impl<C: Cell> Workspace<C> {
         ensures { AppendsTable C.ring diagram.now.nodes self.old self.new result (sum_out C.ring (states_of diagram.now.nodes) node (table_of C.ring diagram.now.nodes self.old.cells slot.now ∷ [])) }
     {
         self.join_out(diagram, &[*slot], node)
+    }
+
+    /// The slot's cells at one state of the node, over its other nodes. It copies them.
+    pub fn restrict(&mut self, diagram: &Diagram, slot: &Slot, node: usize, state: usize) -> Slot
+        requires live { IsLive diagram.now.nodes self.old.cells slot.now }
+        requires hold { IsIn slot.now.scope node }
+        requires state { state < states_of diagram.now.nodes node }
+        requires room { cells_over diagram.now.nodes (restricted node state (table_of C.ring diagram.now.nodes self.old.cells slot.now)).holds ≤ self.old.spare }
+        ensures { AppendsTable C.ring diagram.now.nodes self.old self.new result (restricted node state (table_of C.ring diagram.now.nodes self.old.cells slot.now)) }
+    {
+        let slot = restrict_behind(diagram, slot, node, state, self.cells.as_mut_slice(), self.used);
+        self.used += slot.len;
+        slot
+    }
+
+    /// The slot's cells in another order: the first of these nodes, which are the slot's, slowest. It copies them.
+    pub fn reorder(&mut self, diagram: &Diagram, slot: &Slot, nodes: &[usize]) -> Strip
+        requires live { IsLive diagram.now.nodes self.old.cells slot.now }
+        requires once { AllDifferent nodes.now }
+        requires scope { (v : ℕ) → Contains nodes.now v ↔ IsIn slot.now.scope v }
+        requires room { slot.now.len ≤ self.old.spare }
+        ensures appends { Appends self.old self.new result.start result.len }
+        ensures cells { HasCells C.ring diagram.now.nodes nodes.now (part self.new.cells result.start result.len) (table_of C.ring diagram.now.nodes self.old.cells slot.now) }
+        ensures stays { (s : Slot) → IsLive diagram.now.nodes self.old.cells s → StaysLive C.ring diagram.now.nodes self.old.cells self.new.cells s }
+    {
+        let strip = reorder_behind(diagram, slot, nodes, self.cells.as_mut_slice(), self.used);
+        self.used += strip.len;
+        strip
     }
 
     /// The slot's cell at these states of its nodes, the lowest node first.

@@ -87,10 +87,10 @@ returns-clause-table g c =
     let same : length c.multiply_at.new.all ≡ length c.args.all.now = search rules in
     let live = each_of (IsLive d.nodes cells) slots c.requires.live in
     let written = subst (λ cs. (w : World) → InRange (states_in cs) w → cell_at r c.multiply_at.new.all (used + place_of cs scope w) ≡ product_cell r cells cs slots w) is c.multiply_at.ensures.cells in
-    appends_table r d.nodes c.args.all.now c.multiply_at.new.all used c.table_size-len.result scope t
-    same
+    appends_table r d.nodes c.args.all.now c.multiply_at.new.all used c.table_size-len.result same
     (omega (arith, c.table_size-len.ensures, ends_within d.nodes counts is scope t.holds held c.args.all.now used c.requires.used c.requires.room))
     c.multiply_at.ensures.kept
+    scope t
     (c.table_size-len.ensures ∙ ap (λ cs. size_of cs scope) is)
     (λ v t. united_known d.nodes cells slots v live (sym (c.united_scope-scope.ensures v) ∙ t))
     held

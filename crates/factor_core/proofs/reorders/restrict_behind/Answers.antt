@@ -154,10 +154,10 @@ returns-clause-table g c =
     let written : take (used + c.table_size-len.result) c.copy_at.new.all ≡ cells ++ copied =
     ap (λ k. take (used + k) c.copy_at.new.all) (c.table_size-len.ensures ∙ sym size ∙ ap count_of_steps (sym steps)) ∙ c.copy_at.ensures ∙ ap (λ l. cells ++ gathered r cells l from) steps in
     let same : length c.copy_at.new.all ≡ length all = search rules in
-    appends_table r d.nodes all c.copy_at.new.all used c.table_size-len.result scope t
-    same
+    appends_table r d.nodes all c.copy_at.new.all used c.table_size-len.result same
     (omega (arith, c.table_size-len.ensures, ends))
     (copied_kept r all c.copy_at.new.all copied used c.table_size-len.result c.requires.used long written)
+    scope t
     (c.table_size-len.ensures ∙ ap (λ cs. size_of cs scope) is)
     (λ v k. c.requires.live.known v (held_too (holds slot.scope v) (v == x) (sym (c.without-scope.ensures v) ∙ k)))
     c.without-scope.ensures
