@@ -1,5 +1,5 @@
 -- One level of a copy: the states of the first step one after another, each with the copy over the steps below.
-use Rattle.std.proofs.Common.{◌≡◌, ◌∙◌, ℕ, zero, suc, ◌+◌, ◌-◌, ◌*◌, ◌^◌, ◌<◌, ◌≤◌, List, [], ◌∷◌, ◌++◌, drop, length, get_or, refl, sym, ap, subst, arith, All, append_assoc, inl, inr}
+use Rattle.std.proofs.Common.{◌≡◌, ◌∙◌, ℕ, zero, suc, ◌+◌, ◌-◌, ◌*◌, ◌^◌, ◌<◌, ◌≤◌, List, [], ◌∷◌, ◌++◌, take, drop, length, get_or, refl, sym, ap, subst, arith, All, append_assoc, inl, inr}
 use Rattle.std.proofs.Math.Nat.{mul-le-mul_right}
 use Rattle.std.proofs.lemmas.List.{drop_more, length-append, get_or_append_left, get_or-append_right, append-nil}
 use Rattle.std.proofs.lemmas.Bool.{cases_lt}
@@ -54,6 +54,10 @@ first_of steps = get_or steps 0 (record { states = 0; stride = 0 })
 
 pub split : (steps : List Step) → 0 < length steps → steps ≡ first_of steps ∷ drop 1 steps
 split steps h = drop_more steps 0 (record { states = 0; stride = 0 }) h
+
+pub take_behind : {X : Type 0} (xs ys : List X) (m : ℕ) → take (length xs + m) (xs ++ ys) ≡ xs ++ take m ys
+take_behind [] ys m = ap (λ k. take k ys) (let e : 0 + m ≡ m = omega arith in e)
+take_behind (x ∷ xs) ys m = ap (λ k. take k (x ∷ (xs ++ ys))) (let e : length (x ∷ xs) + m ≡ suc (length xs + m) = omega arith in e) ∙ ap (λ l. x ∷ l) (take_behind xs ys m)
 
 -- ---- which cell stands where
 length_in_turn : {C : Type 0} (m n : ℕ) (f : ℕ → List C) → ((i : ℕ) → length (f i) ≡ m) → length (one_by_one n f) ≡ n * m

@@ -21,3 +21,4 @@ pub mod Zips
 pub mod Copying
 pub mod Gathering
 pub mod Reordering
+pub mod ListTables

@@ -1,7 +1,12 @@
 -- A walk that copies cells in another order. Only private contracts cite this file.
-use Rattle.std.specs.Prelude.{ℕ, zero, suc, ◌+◌, ◌*◌, ◌^◌, ◌<◌, ◌≤◌, List, [], ◌∷◌, ◌++◌, map, All}
+use Rattle.std.specs.Prelude.{ℕ, zero, suc, ◌+◌, ◌*◌, ◌^◌, ◌<◌, ◌≤◌, ◌==◌, if◌then◌else◌, List, [], ◌∷◌, ◌++◌, map, All}
+use Rattle.maid_model.specs.Views.{NodeView}
+use Rattle.maid_model.specs.Nodes.{rows_under}
+use Rattle.plan_sums.specs.Plans.{has}
+use Rattle.ring_sums.specs.Tables.{Table}
 use Rattle.cell_rings.specs.Rings.{Ring}
 use Rattle.cell_rings.specs.Sums.{cell_at}
+use Rattle.factor_core.specs.Slots.{picked}
 use Rattle.factor_core.specs.declared.copies.Step.{Step}
 
 -- f 0, f 1, .., f (n - 1) one after another
@@ -40,3 +45,12 @@ pub record CanCopy (Fit : Type 0) (n : ℕ) (steps : List Step) (from len at : �
   pub reads : ReadsBefore n steps from
   pub short : n ≤ 2 ^ 32
   pub room : at + count_of_steps steps ≤ len
+
+-- how far apart the cells of neighbouring states of u stand, in cells with the first of these nodes slowest
+abbrev pub list_stride : (ℕ → ℕ) → List ℕ → ℕ → ℕ
+list_stride count [] u = 0
+list_stride count (x ∷ xs) u = if x == u then rows_under count xs else list_stride count xs u
+
+-- the table whose cells stand in that order
+abbrev pub list_table : {C : Type 0} → Ring C → List NodeView → List ℕ → List C → Table C
+list_table r nodes vs cells = record { holds = has vs; cell = picked r nodes vs cells }

@@ -76,3 +76,18 @@ pub fn copy_at<C: Cell>(steps: &[Step], from: usize, all: &mut [C], start: usize
     let (cells, out) = all.split_at_mut(start);
     copy_walk(steps, &Stored { cells }, from, out, 0);
 }
+
+/// Copies cells of a source to the places from `start` on.
+pub fn copy_from<C: Cell, S: Source<C>>(
+    steps: &[Step],
+    source: &S,
+    all: &mut [C],
+    start: usize,
+)
+    requires start { start ≤ length all.old }
+    requires can { CanCopy (S.is_fit source.now) (length (S.cells source.now)) steps.now 0 (length all.old - start) 0 }
+    ensures { take (start + count_of_steps steps.now) all.new ≡ take start all.old ++ gathered C.ring (S.cells source.now) steps.now 0 }
+{
+    let (_, out) = all.split_at_mut(start);
+    copy_walk(steps, source, 0, out, 0);
+}

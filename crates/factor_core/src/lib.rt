@@ -14,6 +14,7 @@ mod sizes;
 mod slots;
 mod sources;
 mod states;
+mod tables;
 mod walks;
 mod workspaces;
 mod writes;

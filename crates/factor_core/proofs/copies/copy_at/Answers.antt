@@ -1,10 +1,7 @@
-use Rattle.std.proofs.Common.{◌≡◌, ◌∙◌, ℕ, zero, suc, ◌+◌, List, [], ◌∷◌, ◌++◌, take, length, refl, ap, arith}
+use Rattle.std.proofs.Common.{◌≡◌, ◌∙◌, ◌+◌, ◌++◌, take, length, ap, arith}
 use Rattle.factor_core.specs.Copies.{gathered, count_of_steps}
+use Rattle.factor_core.proofs.Copying.{take_behind}
 use Rattle.factor_core.proofs.copies.copy_at.Goals as goal
-
-take_behind : {X : Type 0} (xs ys : List X) (m : ℕ) → take (length xs + m) (xs ++ ys) ≡ xs ++ take m ys
-take_behind [] ys m = ap (λ k. take k ys) (let e : 0 + m ≡ m = omega arith in e)
-take_behind (x ∷ xs) ys m = ap (λ k. take k (x ∷ (xs ++ ys))) (let e : length (x ∷ xs) + m ≡ suc (length xs + m) = omega arith in e) ∙ ap (λ l. x ∷ l) (take_behind xs ys m)
 
 pub returns : goal.returns
 returns g c =
