@@ -22,3 +22,4 @@ pub mod Copying
 pub mod Gathering
 pub mod Reordering
 pub mod ListTables
+pub mod FirstTables

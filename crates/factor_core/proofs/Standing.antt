@@ -4,7 +4,7 @@ use Rattle.std.proofs.lemmas.List.{get_or-take, get_or-drop, length-take, length
 use Rattle.finite_sums.specs.Sums.{World, InRange}
 use Rattle.node_sets.specs.declared.sets.NodeSet.{NodeSet}
 use Rattle.node_sets.specs.Sets.{holds, IsIn}
-use Rattle.ring_sums.specs.Tables.{Table}
+use Rattle.ring_sums.specs.Tables.{Table, IsSame}
 use Rattle.maid_model.specs.Views.{NodeView}
 use Rattle.maid_model.specs.Nodes.{states_of, counts_of}
 use Rattle.maid_model.specs.Tables.{row_from}
@@ -93,3 +93,12 @@ module _ {C : Type 0} (r : Ring C) (nodes : List NodeView) where
       };
       stays = stays;
     }
+
+  -- a table that is the same was appended too
+  pub appends_same : (before after : WorkspaceView C) (slot : Slot) (t u : Table C) → AppendsTable r nodes before after slot t → IsSame (states_of nodes) t u → AppendsTable r nodes before after slot u
+  appends_same before after slot t u a same = record {
+    appends = a.appends;
+    live = a.live;
+    table = record { holds = λ v. a.table.holds v ∙ same.holds v; cell = λ w i. a.table.cell w i ∙ same.cell w i };
+    stays = a.stays;
+  }

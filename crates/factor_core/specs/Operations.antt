@@ -39,3 +39,7 @@ numbers_in nodes p v = numbers_by (node_at nodes v).kind (node_at nodes v).cells
 -- they are at most half of what fits in absolute value
 abbrev pub NumbersFit : ℕ → List NodeView → List RuleView → ℕ → Type 0
 NumbersFit most nodes p v = All (λ z. 2 * nat_abs z ≤ most) (numbers_in nodes p v)
+
+-- a kind of cell, as plans see it
+abbrev pub cells_by : {C : Type 0} → Ring C → (ℕ → C) → (ℤ → C) → Cells C
+cells_by r weight value = record { ring = r; weight = weight; value = value }

@@ -4,6 +4,7 @@
 
 mod appending;
 mod copies;
+mod firsts;
 mod joins;
 mod orders;
 mod products;

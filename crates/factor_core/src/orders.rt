@@ -6,7 +6,7 @@ use crate::slots::Slot;
 use node_sets::NodeSet;
 
 /// Writes the node behind the first n, where it is held. Gives how many there are now.
-fn push_held(order: &mut [usize], n: usize, node: usize, held: bool) -> usize
+pub fn push_held(order: &mut [usize], n: usize, node: usize, held: bool) -> usize
     requires { n < length order.old }
     ensures list { take result order.new ≡ take n order.old ++ (if held then node ∷ [] else []) }
     ensures few { result ≤ n + 1 }

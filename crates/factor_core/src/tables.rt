@@ -82,7 +82,7 @@ fn scope_of(list: &[usize]) -> NodeSet
 
 /// The table over the nodes of the list, behind the first `used` cells. The source has its cells with the first node of
 /// the list slowest.
-fn write_table<C: Cell, S: Source<C>>(
+pub fn write_table<C: Cell, S: Source<C>>(
     diagram: &Diagram,
     list: &[usize],
     source: &S,

@@ -6,18 +6,20 @@ ghost use Rattle.node_sets.specs.Sets.{holds, IsIn};
 ghost use Rattle.maid_model.specs.Graph.{AllDifferent};
 ghost use Rattle.maid_model.specs.Nodes.{states_of};
 ghost use Rattle.factor_core.specs.declared.slots.Slot.{Slot};
+ghost use Rattle.maid_model.specs.Profiles.{IsProfile};
 ghost use Rattle.ring_sums.specs.Groups.{JoinFits, ProductsFit};
 ghost use Rattle.ring_sums.specs.Tables.{sum_out};
 ghost use Rattle.finite_sums.specs.Sums.{World};
-ghost use Rattle.factor_core.specs.Operations.{product_table, restricted, SumFits};
+ghost use Rattle.factor_core.specs.Operations.{cells_by, first_table, product_table, restricted, NumbersFit, SumFits};
 ghost use Rattle.factor_core.specs.Slots.{nodes_in, cells_over, part, HasCells, IsLive, table_of, tables_of, Appends, AppendsTable, StaysLive};
 
 use crate::appending::{join_behind, product_behind};
+use crate::firsts::table_behind;
 use crate::reading::read_cell;
 use crate::reorders::{reorder_behind, restrict_behind};
 use crate::slots::{Slot, Strip};
 use cell_rings::Cell;
-use maid_model::Diagram;
+use maid_model::{Diagram, Profile};
 use std::alloc::{AllocError, Global};
 use std::marker::Model;
 
@@ -60,6 +62,20 @@ impl<C: Cell> Workspace<C> {
         ensures { self.new ≡ record { cells = []; spare = self.old.spare + length self.old.cells } }
     {
         self.used = 0;
+    }
+
+    /// The first table of a node: a chance node's cells and the weights of a decision's rule by `Cell::weight`, over the
+    /// node and its parents, and a utility's cells by `Cell::value`, over its parents.
+    pub fn table(&mut self, diagram: &Diagram, profile: &Profile, node: usize) -> Slot
+        requires profile { IsProfile diagram.now.nodes profile.now }
+        requires node { node < length diagram.now.nodes }
+        requires fit { NumbersFit C.ring.most diagram.now.nodes profile.now node }
+        requires room { cells_over diagram.now.nodes (first_table (cells_by C.ring C.of_weight C.of_value) diagram.now.nodes profile.now node).holds ≤ self.old.spare }
+        ensures { AppendsTable C.ring diagram.now.nodes self.old self.new result (first_table (cells_by C.ring C.of_weight C.of_value) diagram.now.nodes profile.now node) }
+    {
+        let slot = table_behind(diagram, profile, node, self.cells.as_mut_slice(), self.used);
+        self.used += slot.len;
+        slot
     }
 
     /// The join of the slots with the node summed out of it: over their nodes but this one, and in each world the sum
