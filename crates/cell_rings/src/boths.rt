@@ -1,3 +1,5 @@
+//! Pairs of a mass and a gain.
+
 ghost use Rattle.std.specs.Prelude.{◌≡◌, ◌*◌, ◌^◌, ◌<◌, ◌*ℤ◌, pos, nat_abs};
 ghost use Rattle.cell_rings.specs.KindLaws.{most_has_room, both_laws, both_sizes, pair_of_weight, pair_of_value};
 ghost use Rattle.cell_rings.specs.Kinds.{both_kind, both_of};

@@ -1,3 +1,5 @@
+//! Truth values.
+
 ghost use Rattle.std.specs.Prelude.{nat_lt, true};
 ghost use Rattle.cell_rings.specs.KindLaws.{most_has_room, can_laws, can_sizes, can_of_weight, one_at_most};
 ghost use Rattle.cell_rings.specs.Kinds.{can_kind, can_of};

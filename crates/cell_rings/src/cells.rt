@@ -1,3 +1,5 @@
+//! What a cell is.
+
 ghost use Rattle.std.specs.Prelude.{◌≡◌, ℕ, ℤ, ◌+◌, ◌*◌, ◌<◌, ◌≤◌, max, nat_abs, length};
 ghost use Rattle.cell_rings.specs.Sums.{ring_sum, cell_at, run_sum, Adds, HasRoom};
 ghost use Rattle.cell_rings.specs.Rings.{Ring, IsRing, IsSize, mass_ring};

@@ -1,3 +1,5 @@
+//! Whole numbers from 0.
+
 ghost use Rattle.std.specs.Prelude.{◌≡◌, ◌+◌, ◌-◌, ◌*◌, ◌^◌, ◌<◌, ◌≤◌, length};
 ghost use Rattle.cell_rings.specs.Rings.{mass_ring};
 ghost use Rattle.cell_rings.specs.Sums.{cell_at, run_sum, Adds, HasRoom};

@@ -1,3 +1,5 @@
+//! Whole numbers with a sign, in 64 bits.
+
 ghost use Rattle.std.specs.Prelude.{ℤ, pos, nat_abs};
 ghost use Rattle.cell_rings.specs.KindLaws.{small_has_room, small_gain_laws, small_gain_sizes, at_most_itself, value_at_most};
 ghost use Rattle.cell_rings.specs.Kinds.{small_gain_kind, small_gain_of};

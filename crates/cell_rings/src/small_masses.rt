@@ -1,3 +1,5 @@
+//! Whole numbers from 0, in 64 bits.
+
 ghost use Rattle.cell_rings.specs.KindLaws.{small_has_room, small_mass_laws, small_mass_sizes, at_most_itself, one_at_most};
 ghost use Rattle.cell_rings.specs.Kinds.{small_mass_kind, small_mass_of};
 

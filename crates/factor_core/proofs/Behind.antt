@@ -1,8 +1,6 @@
 -- What may be written behind the first cells.
-use Rattle.std.proofs.Common.{◌≡◌, ◌∙◌, ℕ, zero, suc, ◌+◌, ◌-◌, ◌^◌, ◌<◌, ◌≤◌, Bool, true, false, ◌||◌, List, [], ◌∷◌, take, length, refl, sym, ap, subst, arith, All, inl, inr}
+use Rattle.std.proofs.Common.{◌≡◌, ◌∙◌, ℕ, ◌+◌, ◌^◌, ◌<◌, ◌≤◌, Bool, true, false, ◌||◌, List, [], ◌∷◌, length, sym, ap, subst, arith, All, inl, inr}
 use Rattle.std.proofs.Math.Path.{fun_ext}
-use Rattle.std.proofs.lemmas.List.{length-take-le}
-use Rattle.finite_sums.specs.Sums.{World, InRange}
 use Rattle.node_sets.specs.declared.sets.NodeSet.{NodeSet}
 use Rattle.node_sets.specs.Sets.{holds, IsIn}
 use Rattle.maid_model.specs.Views.{NodeView, DiagramView}
@@ -10,11 +8,10 @@ use Rattle.maid_model.specs.Diagrams.{IsDiagram}
 use Rattle.maid_model.specs.Nodes.{states_of, counts_of}
 use Rattle.cell_rings.specs.Rings.{Ring, IsRing, IsSize}
 use Rattle.ring_sums.specs.Groups.{ProductsFit, JoinFits}
-use Rattle.ring_sums.specs.Tables.{Table}
 use Rattle.ring_sums.proofs.Each.{Each, each_of, all_of, each_map, yes_or_no}
 use Rattle.factor_core.specs.declared.slots.Slot.{Slot}
 use Rattle.factor_core.specs.Scopes.{united}
-use Rattle.factor_core.specs.Slots.{WorkspaceView, space, cells_over, IsLive, tables_of}
+use Rattle.factor_core.specs.Slots.{space, cells_over, IsLive, tables_of}
 use Rattle.factor_core.specs.Spaces.{CanJoinIn, CanMultiplyIn}
 use Rattle.factor_core.specs.Tables.{LiesIn, size_of}
 use Rattle.factor_core.proofs.Conditions.{room_to_join, room_to_multiply}

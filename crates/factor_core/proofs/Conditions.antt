@@ -1,6 +1,5 @@
 -- What fits for the tables of slots fits for the cells at their places, and the cells that walks make are those of the tables.
-use Rattle.std.proofs.Common.{◌≡◌, ◌∙◌, ℕ, zero, suc, ◌+◌, ◌*◌, ◌<◌, ◌≤◌, Bool, true, false, cond, not, ◌&&◌, ◌||◌, ◌==◌, List, [], ◌∷◌, take, length, map, refl, sym, ap, subst, arith, inl, inr}
-use Rattle.std.specs.List.{list_any}
+use Rattle.std.proofs.Common.{◌≡◌, ◌∙◌, ℕ, zero, suc, ◌+◌, ◌*◌, ◌≤◌, Bool, true, false, cond, not, ◌&&◌, ◌||◌, ◌==◌, List, [], ◌∷◌, take, length, refl, sym, ap, subst, arith, inl, inr}
 use Rattle.std.proofs.Math.Path.{fun_ext}
 use Rattle.std.proofs.lemmas.Bool.{cases_eq}
 use Rattle.finite_sums.specs.Sums.{World, InRange, with_state}
@@ -14,7 +13,6 @@ use Rattle.cell_rings.specs.Sums.{ring_sum, cell_at, product_from, product_at, s
 use Rattle.cell_rings.proofs.Adding.{size_at, nat_sum_one_more}
 use Rattle.cell_rings.proofs.Runs.{chosen, not_chosen}
 use Rattle.ring_sums.specs.Groups.{sizes, ProductsFit, JoinFits}
-use Rattle.ring_sums.specs.Sums.{ring_product}
 use Rattle.ring_sums.specs.Tables.{Table, joined, product_of}
 use Rattle.ring_sums.proofs.Each.{Each}
 use Rattle.ring_sums.proofs.Sums.{sum_cong}
@@ -22,7 +20,7 @@ use Rattle.factor_core.specs.declared.slots.Slot.{Slot}
 use Rattle.factor_core.specs.Operations.{SumFits}
 use Rattle.factor_core.specs.Scopes.{united, united_but}
 use Rattle.factor_core.specs.Slots.{IsLive, table_of, tables_of}
-use Rattle.factor_core.specs.Tables.{states_in, place_of, places_in, join_cell, product_cell, RoomToJoin, RoomToMultiply}
+use Rattle.factor_core.specs.Tables.{place_of, places_in, join_cell, RoomToJoin, RoomToMultiply}
 use Rattle.factor_core.proofs.Counts.{states_is, range_back}
 use Rattle.factor_core.proofs.Standing.{cell_of_slot}
 
@@ -49,7 +47,7 @@ module _ {C : Type 0} {r : Ring C} (laws : IsRing r) (sized : IsSize r r.size) (
   join_is slots x w live i =
       ap (λ n. ring_sum r n (λ s. product_at r cells (places_in (counts_of nodes) slots (with_state w x s)))) (ap (λ c. c x) (states_is nodes))
       ∙ sum_cong r laws (states_of nodes x) (λ s. product_at r cells (places_in (counts_of nodes) slots (with_state w x s))) (λ s. product_of r (tables_of r nodes cells slots) (with_state w x s))
-          (λ s l. product_is slots (with_state w x s) live (with_in (states_of nodes) w x s i l))
+      (λ s l. product_is slots (with_state w x s) live (with_in (states_of nodes) w x s i l))
 
   -- ---- sizes
   size_of_slot : (s : Slot) (w : World) → IsLive nodes cells s → InRange (states_of nodes) w → r.size (cell_at r cells (s.start + place_of (counts_of nodes) s.scope w)) ≡ r.size ((table_of r nodes cells s).cell w)
@@ -71,11 +69,12 @@ module _ {C : Type 0} {r : Ring C} (laws : IsRing r) (sized : IsSize r r.size) (
   first_fit [] w before live i f = tt
   first_fit (s ∷ ss) w before live i f =
       let k = r.size (cell_at r cells (s.start + place_of (counts_of nodes) s.scope w)) in
-      let e : k ≡ r.size ((table_of r nodes cells s).cell w) = size_of_slot s w live.0 i in
-      (subst (λ x. before * x ≤ r.most) (sym e) (once before (r.size ((table_of r nodes cells s).cell w)) r.most (f 1)),
-      first_fit ss w (before * k) live.1 i
-      (λ j. subst (λ x. (before * x) * sizes r.size (take j (tables_of r nodes cells ss)) w ≤ r.most) (sym e)
-      (more before (r.size ((table_of r nodes cells s).cell w)) (sizes r.size (take j (tables_of r nodes cells ss)) w) r.most (f (suc j)))))
+      let e : k ≡ r.size ((table_of r nodes cells s).cell w) = size_of_slot s w live.0 i in (
+        subst (λ x. before * x ≤ r.most) (sym e) (once before (r.size ((table_of r nodes cells s).cell w)) r.most (f 1)),
+        first_fit ss w (before * k) live.1 i
+            (λ j. subst (λ x. (before * x) * sizes r.size (take j (tables_of r nodes cells ss)) w ≤ r.most) (sym e)
+            (more before (r.size ((table_of r nodes cells s).cell w)) (sizes r.size (take j (tables_of r nodes cells ss)) w) r.most (f (suc j)))),
+      )
     where
       once : (b x m : ℕ) → b * (x * 1) ≤ m → b * x ≤ m
       once b x m h = omega arith

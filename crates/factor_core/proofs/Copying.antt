@@ -1,7 +1,7 @@
 -- One level of a copy: the states of the first step one after another, each with the copy over the steps below.
 use Rattle.std.proofs.Common.{◌≡◌, ◌∙◌, ℕ, zero, suc, ◌+◌, ◌-◌, ◌*◌, ◌^◌, ◌<◌, ◌≤◌, List, [], ◌∷◌, ◌++◌, take, drop, length, get_or, refl, sym, ap, subst, arith, All, append_assoc, inl, inr}
 use Rattle.std.proofs.Math.Nat.{mul-le-mul_right}
-use Rattle.std.proofs.lemmas.List.{drop_more, length-append, get_or_append_left, get_or-append_right, append-nil}
+use Rattle.std.proofs.lemmas.List.{drop_more, length-append, get_or_append_left, get_or-append_right}
 use Rattle.std.proofs.lemmas.Bool.{cases_lt}
 use Rattle.finite_sums.specs.Sums.{World, InRange, with_state}
 use Rattle.maid_model.specs.Nodes.{rows_under}
@@ -83,6 +83,7 @@ module _ {C : Type 0} (r : Ring C) where
             ∙ ap (cell_at r (f n)) (let step = ap (λ x. x * m) same in let d : (s * m + q) - n * m ≡ q = omega arith in d)
             ∙ ap (λ x. cell_at r (f x) q) same
       ]
+
   module _ (count stride : ℕ → ℕ) where
     pub count_is : (vs : List ℕ) → count_of_steps (steps_of count stride vs) ≡ rows_under count vs
     count_is [] = refl

@@ -1,18 +1,16 @@
 -- Places and sizes over a list of counts are those over the nodes that have these counts.
-use Rattle.std.proofs.Common.{◌≡◌, ◌∙◌, ℕ, zero, suc, ◌+◌, ◌*◌, ◌<◌, ◌≤◌, Bool, true, false, cond, List, [], ◌∷◌, ◌++◌, length, filter, map, refl, sym, ap, subst, arith}
+use Rattle.std.proofs.Common.{◌≡◌, ◌∙◌, ℕ, zero, suc, ◌+◌, ◌*◌, ◌<◌, ◌≤◌, Bool, true, false, cond, List, [], ◌∷◌, ◌++◌, length, filter, refl, sym, ap, subst, arith}
 use Rattle.std.specs.List.{range_with_len}
 use Rattle.std.proofs.Math.Path.{fun_ext}
 use Rattle.std.proofs.Math.ListN.{get_or-map}
 use Rattle.std.proofs.lemmas.List.{length-map}
 use Rattle.finite_sums.specs.Sums.{World, InRange}
-use Rattle.node_sets.specs.declared.sets.NodeSet.{NodeSet}
-use Rattle.node_sets.specs.Sets.{holds}
 use Rattle.maid_model.specs.Views.{NodeView, DiagramView}
 use Rattle.maid_model.specs.Diagrams.{IsDiagram}
-use Rattle.maid_model.specs.Nodes.{no_node, node_at, states_of, counts_of, numbers_of, rows_under}
+use Rattle.maid_model.specs.Nodes.{no_node, states_of, counts_of, rows_under}
 use Rattle.maid_model.specs.Tables.{row_from}
 use Rattle.factor_core.specs.Slots.{nodes_in, cells_over}
-use Rattle.factor_core.specs.Tables.{AreCounts, listed, size_from, place_from, size_of, place_of, states_in}
+use Rattle.factor_core.specs.Tables.{AreCounts, listed, size_from, place_from, states_in}
 
 -- the row over the nodes to come stands behind the row so far
 pub row_from_split : (count : ℕ → ℕ) (w : World) (r : ℕ) (us : List ℕ) → row_from count w r us ≡ r * rows_under count us + row_from count w 0 us

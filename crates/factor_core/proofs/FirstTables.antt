@@ -1,21 +1,19 @@
 -- The first tables of nodes are the tables whose cells stand in the order of the node's parents.
-use Rattle.std.proofs.Common.{◌≡◌, ◌≢◌, ◌⊎◌, ◌∙◌, ◌↔◌, ℕ, suc, ◌+◌, ◌*◌, ◌<◌, ◌≤◌, ◌≤ℤ◌, Bool, true, false, ◌||◌, ◌==◌, List, [], ◌∷◌, ◌++◌, map, length, get_or, refl, sym, ap, subst, arith, All, Contains, inl, inr, ℤ, pos, nat_abs}
+use Rattle.std.proofs.Common.{◌≡◌, ◌⊎◌, ◌∙◌, ℕ, ◌*◌, ◌<◌, Bool, ◌||◌, ◌==◌, List, [], ◌∷◌, ◌++◌, map, length, get_or, refl, sym, ap, subst, arith, Contains, inl, inr, pos, nat_abs}
 use Rattle.std.proofs.Math.Path.{fun_ext}
-use Rattle.std.proofs.lemmas.List.{length-map, get_or-map, get_or_default}
-use Rattle.finite_sums.specs.Sums.{World, InRange}
+use Rattle.std.proofs.lemmas.List.{length-map, get_or-map}
+use Rattle.finite_sums.specs.Sums.{World}
 use Rattle.finite_sums.specs.Members.{Among}
 use Rattle.maid_laws.proofs.Basis.{among_filter_in}
 use Rattle.maid_laws.proofs.Members.{among_of, contains_of}
 use Rattle.maid_laws.proofs.Rearranged.{number}
-use Rattle.maid_model.specs.declared.diagrams.Kind.{Kind}
 use Rattle.maid_model.specs.declared.diagrams.Kind.TheVariants.{Chance, Decision, Utility}
 use Rattle.maid_model.specs.Diagrams.{IsDiagram}
-use Rattle.maid_model.specs.Graph.{AllDifferent, Arc, Here}
+use Rattle.maid_model.specs.Graph.{AllDifferent, Here}
 use Rattle.maid_model.specs.Nodes.{node_at, states_of, parents_of, numbers_of, decisions_of, rows_of, rows_under, is_decision, IsDecision}
 use Rattle.maid_model.specs.Profiles.{IsProfile, HasRule}
-use Rattle.maid_model.specs.Tables.{row_from, row_of, cell_of, table, table_by, weights_of}
-use Rattle.maid_model.specs.Views.{NodeView, DiagramView, RuleView}
-use Rattle.cell_rings.specs.Sums.{cell_at}
+use Rattle.maid_model.specs.Tables.{row_from, row_of, cell_of, table_by, weights_of}
+use Rattle.maid_model.specs.Views.{DiagramView, RuleView}
 use Rattle.ring_sums.specs.Tables.{IsSame}
 use Rattle.plan_sums.specs.Plans.{Cells, has, node_table, utility_table}
 use Rattle.factor_core.specs.Copies.{list_table}

@@ -1,19 +1,18 @@
 -- Copies of a slot's cells: they may begin, and what they write are cells of the slot.
-use Rattle.std.proofs.Common.{◌≡◌, ◌∙◌, ℕ, suc, ◌+◌, ◌-◌, ◌*◌, ◌^◌, ◌<◌, ◌≤◌, Bool, true, false, cond, not, ◌&&◌, ◌==◌, List, [], ◌∷◌, ◌++◌, take, length, get_or, map, refl, sym, ap, subst, arith, All, inl, inr}
-use Rattle.std.proofs.lemmas.List.{length-map, get_or-map, get_or-take, get_or-append_right, length-take-le, length-append, take-take, take-append-le, take-append-drop}
+use Rattle.std.proofs.Common.{◌≡◌, ◌∙◌, ℕ, suc, ◌+◌, ◌-◌, ◌*◌, ◌^◌, ◌<◌, ◌≤◌, Bool, true, false, cond, not, ◌&&◌, ◌==◌, List, [], ◌++◌, take, length, get_or, refl, sym, ap, subst, arith, All, inl}
+use Rattle.std.proofs.lemmas.List.{length-map, get_or-map, get_or-take, get_or-append_right, length-take-le, take-take, take-append-le}
 use Rattle.finite_sums.specs.Sums.{World, InRange, with_state}
 use Rattle.node_sets.specs.declared.sets.NodeSet.{NodeSet}
 use Rattle.node_sets.specs.Sets.{holds}
 use Rattle.cell_rings.specs.Rings.{Ring}
 use Rattle.cell_rings.specs.Sums.{cell_at}
 use Rattle.cell_rings.proofs.Runs.{chosen, not_chosen}
-use Rattle.factor_core.specs.declared.slots.Slot.{Slot}
 use Rattle.factor_core.specs.declared.copies.Step.{Step}
-use Rattle.factor_core.specs.Copies.{gathered, count_of_steps, IsStep, steps_of, CanCopy}
-use Rattle.factor_core.specs.Tables.{AreCounts, LiesIn, listed, states_in, size_from, place_from, stride_of, out_place, size_of, place_of}
-use Rattle.factor_core.proofs.Collapse.{IsNoneOf, AllOnce, with_same, with_in_range, out_other}
+use Rattle.factor_core.specs.Copies.{count_of_steps, IsStep, steps_of, CanCopy}
+use Rattle.factor_core.specs.Tables.{AreCounts, listed, states_in, size_from, place_from, stride_of, out_place, size_of}
+use Rattle.factor_core.proofs.Collapse.{AllOnce, with_same, out_other}
 use Rattle.factor_core.proofs.Copying.{reads_before}
-use Rattle.factor_core.proofs.Joining.{place_below, place_along, out_extra}
+use Rattle.factor_core.proofs.Joining.{place_along, out_extra}
 use Rattle.factor_core.proofs.Ordering.{listed_none}
 use Rattle.factor_core.proofs.SizeLemmas.{size_later}
 

@@ -1,9 +1,9 @@
 -- Cells that stand in the order of a list of nodes.
-use Rattle.std.proofs.Common.{◌≡◌, ◌≢◌, ◌⊎◌, ◌∙◌, ◌↔◌, ℕ, zero, suc, ◌+◌, ◌*◌, ◌<◌, ◌≤◌, Bool, true, false, cond, ◌||◌, ◌==◌, List, [], ◌∷◌, ◌++◌, drop, length, get_or, refl, sym, ap, subst, arith, Contains, inl, inr}
+use Rattle.std.proofs.Common.{◌≡◌, ◌∙◌, ◌↔◌, ℕ, zero, suc, ◌+◌, ◌*◌, ◌<◌, ◌≤◌, Bool, true, false, cond, ◌||◌, ◌==◌, List, [], ◌∷◌, ◌++◌, drop, refl, sym, ap, arith, Contains, inl, inr}
 use Rattle.std.proofs.Math.Nat.{mul-le-mul_right}
 use Rattle.std.proofs.lemmas.Bool.{cases_eq}
 use Rattle.std.proofs.lemmas.Bool.Decides.{nat_tests}
-use Rattle.finite_sums.specs.Sums.{World, InRange}
+use Rattle.finite_sums.specs.Sums.{World}
 use Rattle.finite_sums.specs.Members.{Among}
 use Rattle.maid_laws.proofs.Members.{among_of, contains_of}
 use Rattle.maid_model.specs.Nodes.{rows_under}

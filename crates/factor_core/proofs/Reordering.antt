@@ -1,8 +1,8 @@
 -- The nodes of a scope in another order: they are shuffled, so sums and products over them are the same.
-use Rattle.std.proofs.Common.{◌≡◌, ◌∙◌, ◌↔◌, ℕ, suc, ◌+◌, ◌*◌, ◌<◌, ◌≤◌, Bool, true, false, List, [], ◌∷◌, ◌++◌, length, get_or, refl, sym, ap, subst, arith, All, Contains, inl, inr}
+use Rattle.std.proofs.Common.{◌≡◌, ◌∙◌, ◌↔◌, ℕ, suc, ◌+◌, ◌*◌, ◌<◌, Bool, true, List, [], ◌∷◌, ◌++◌, length, get_or, refl, sym, ap, arith, All, Contains}
 use Rattle.std.proofs.lemmas.List.{get_or_default}
 use Rattle.finite_sums.specs.Sums.{World}
-use Rattle.finite_sums.specs.Members.{Among, Shuffled, none, put}
+use Rattle.finite_sums.specs.Members.{Shuffled, none, put}
 use Rattle.finite_sums.proofs.Lists.{among_filter}
 use Rattle.maid_laws.proofs.Basis.{among_filter_in}
 use Rattle.maid_laws.proofs.Members.{among_of, contains_of, apart_of}
@@ -12,7 +12,7 @@ use Rattle.maid_model.specs.Views.{NodeView}
 use Rattle.maid_model.specs.Nodes.{numbers_of, rows_under}
 use Rattle.factor_core.specs.Slots.{nodes_in}
 use Rattle.factor_core.specs.Tables.{out_place}
-use Rattle.factor_core.proofs.Collapse.{IsNoneOf, AllOnce}
+use Rattle.factor_core.proofs.Collapse.{AllOnce}
 
 -- different nodes that are those of the scope
 pub shuffled_nodes : (nodes : List NodeView) (h : ℕ → Bool) (vs : List ℕ) → AllDifferent vs → ((v : ℕ) → Contains vs v ↔ (h v ≡ true)) → ((v : ℕ) → h v ≡ true → v < length nodes) → Shuffled vs (nodes_in nodes h)

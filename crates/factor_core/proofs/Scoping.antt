@@ -1,6 +1,5 @@
 -- Tests of membership in scopes.
-use Rattle.std.proofs.Common.{◌≡◌, ◌⊎◌, ◌↔◌, ◌∙◌, ℕ, ◌<◌, ◌+◌, Bool, true, false, cond, ◌||◌, List, [], drop, length, get_or, inl, inr, refl, sym, ap, arith}
-use Rattle.std.specs.List.{list_any}
+use Rattle.std.proofs.Common.{◌≡◌, ◌⊎◌, ◌↔◌, ◌∙◌, ℕ, ◌<◌, ◌+◌, Bool, true, false, ◌||◌, List, [], drop, length, get_or, inl, inr, refl, sym, ap}
 use Rattle.std.proofs.lemmas.List.{drop_more}
 use Rattle.std.proofs.lemmas.Bool.{cases_eq}
 use Rattle.node_sets.specs.declared.sets.NodeSet.{NodeSet}

@@ -1,17 +1,16 @@
 -- Tables that stand in a list of cells, also when more cells come behind them.
-use Rattle.std.proofs.Common.{◌≡◌, ◌∙◌, ℕ, zero, suc, ◌+◌, ◌-◌, ◌<◌, ◌≤◌, min, Bool, true, false, List, [], ◌∷◌, take, drop, length, map, get_or, refl, sym, ap, subst, arith, All}
-use Rattle.std.proofs.lemmas.List.{get_or-take, get_or-drop, length-take, length-take-le, length-drop, drop-take, take-take}
+use Rattle.std.proofs.Common.{◌≡◌, ◌∙◌, ℕ, ◌+◌, ◌-◌, ◌<◌, ◌≤◌, List, take, drop, length, sym, ap, arith}
+use Rattle.std.proofs.lemmas.List.{get_or-take, get_or-drop, length-take-le, drop-take, take-take}
 use Rattle.finite_sums.specs.Sums.{World, InRange}
 use Rattle.node_sets.specs.declared.sets.NodeSet.{NodeSet}
 use Rattle.node_sets.specs.Sets.{holds, IsIn}
 use Rattle.ring_sums.specs.Tables.{Table, IsSame}
 use Rattle.maid_model.specs.Views.{NodeView}
 use Rattle.maid_model.specs.Nodes.{states_of, counts_of}
-use Rattle.maid_model.specs.Tables.{row_from}
 use Rattle.cell_rings.specs.Rings.{Ring}
 use Rattle.cell_rings.specs.Sums.{cell_at}
 use Rattle.factor_core.specs.declared.slots.Slot.{Slot}
-use Rattle.factor_core.specs.Slots.{WorkspaceView, space, nodes_in, cells_over, part, picked, IsLive, table_of, Appends, StaysLive, AppendsTable}
+use Rattle.factor_core.specs.Slots.{WorkspaceView, space, nodes_in, part, picked, IsLive, table_of, Appends, StaysLive, AppendsTable}
 use Rattle.factor_core.specs.Tables.{LiesIn, place_of, size_of, states_in}
 use Rattle.factor_core.proofs.Counts.{counts_length, cells_are, place_among, range_is}
 use Rattle.factor_core.proofs.Joining.{place_below}

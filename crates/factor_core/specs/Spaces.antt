@@ -2,7 +2,7 @@
 use Rattle.std.specs.Prelude.{ℕ, ◌^◌, ◌<◌, ◌≤◌, List, All, length}
 use Rattle.cell_rings.specs.Rings.{Ring}
 use Rattle.factor_core.specs.declared.slots.Slot.{Slot}
-use Rattle.factor_core.specs.Tables.{AreCounts, LiesIn, RoomToJoin, RoomToMultiply, states_in, size_of}
+use Rattle.factor_core.specs.Tables.{AreCounts, LiesIn, RoomToJoin, RoomToMultiply, size_of}
 
 -- what a join of these slots over the cells so far requires
 pub record CanJoinIn {C : Type 0} (r : Ring C) (cells : List C) (counts : List ℕ) (slots : List Slot) (x : ℕ) : Type 0 where

@@ -50,7 +50,12 @@ pub fn join_behind<C: Cell>(
 }
 
 /// The product of the slots, behind the first `used` cells.
-pub fn product_behind<C: Cell>(diagram: &Diagram, slots: &[Slot], all: &mut [C], used: usize) -> Slot
+pub fn product_behind<C: Cell>(
+    diagram: &Diagram,
+    slots: &[Slot],
+    all: &mut [C],
+    used: usize,
+) -> Slot
     requires used { used ≤ length all.old }
     requires short { length all.old ≤ 4194304 }
     requires few { length slots.now ≤ 256 }

@@ -78,12 +78,7 @@ pub fn copy_at<C: Cell>(steps: &[Step], from: usize, all: &mut [C], start: usize
 }
 
 /// Copies cells of a source to the places from `start` on.
-pub fn copy_from<C: Cell, S: Source<C>>(
-    steps: &[Step],
-    source: &S,
-    all: &mut [C],
-    start: usize,
-)
+pub fn copy_from<C: Cell, S: Source<C>>(steps: &[Step], source: &S, all: &mut [C], start: usize)
     requires start { start ≤ length all.old }
     requires can { CanCopy (S.is_fit source.now) (length (S.cells source.now)) steps.now 0 (length all.old - start) 0 }
     ensures { take (start + count_of_steps steps.now) all.new ≡ take start all.old ++ gathered C.ring (S.cells source.now) steps.now 0 }

@@ -1,3 +1,5 @@
+//! Joins of slots, with a node summed out, as walks.
+
 ghost use Rattle.std.specs.Prelude.{◌≡◌, ◌≤◌, ◌<◌, ◌+◌, ◌*◌, ℕ, length};
 ghost use Rattle.cell_rings.specs.Sums.{cell_at};
 ghost use Rattle.node_sets.specs.Sets.{holds};
@@ -5,11 +7,11 @@ ghost use Rattle.finite_sums.specs.Sums.{InRange};
 ghost use Rattle.factor_core.specs.Tables.{listed, CanJoin, states_in, place_of, join_cell};
 
 use crate::orders::{count_nodes, insert_node, list_nodes, summed_place};
-use crate::slots::Slot;
-use node_sets::NodeSet;
 use crate::setting::{set_axes, set_places, set_strides};
+use crate::slots::Slot;
 use crate::walks::{Axis, before, walk};
 use cell_rings::Cell;
+use node_sets::NodeSet;
 
 /// The join with these lists to write its order, axes, strides and places into.
 fn join_in<C: Cell>(

@@ -1,3 +1,5 @@
+//! The order in which a walk goes over the nodes.
+
 ghost use Rattle.std.specs.Prelude.{◌≡◌, ◌+◌, ◌<◌, ◌≤◌, length, take, [], ◌∷◌, ◌++◌, if◌then◌else◌};
 ghost use Rattle.node_sets.specs.Sets.{holds};
 ghost use Rattle.factor_core.specs.Tables.{listed, with_extra};

@@ -72,7 +72,10 @@ pub fn restrict_behind<C: Cell>(
     let mut order = [0; MOST_NODES + 1];
     let n = list_nodes(&mut order, counts.len(), &scope);
     let order = before(&order, n);
-    let mut steps = [Step { states: 1, stride: 0 }; MOST_NODES + 1];
+    let mut steps = [Step {
+        states: 1,
+        stride: 0,
+    }; MOST_NODES + 1];
     set_steps(&mut steps, counts, &slot.scope, order);
     let from = first_of_state(counts, slot, node, state);
     copy_at(before(&steps, n), from, all, used);
@@ -106,7 +109,10 @@ pub fn reorder_behind<C: Cell>(
     let mut counts = [1; MOST_NODES];
     list_states(&mut counts, diagram);
     let counts = before(&counts, diagram.count());
-    let mut steps = [Step { states: 1, stride: 0 }; MOST_NODES + 1];
+    let mut steps = [Step {
+        states: 1,
+        stride: 0,
+    }; MOST_NODES + 1];
     set_steps(&mut steps, counts, &slot.scope, nodes);
     copy_at(before(&steps, nodes.len()), slot.start, all, used);
     Strip {

@@ -1,13 +1,15 @@
+//! The axes, strides and places that a walk begins with.
+
 ghost use Rattle.std.specs.Prelude.{◌≡◌, ◌+◌, ◌*◌, ◌^◌, ◌<◌, ◌≤◌, All, length, take, ◌++◌};
 ghost use Rattle.node_sets.specs.Sets.{holds};
 ghost use Rattle.factor_core.specs.Copies.{steps_of};
 ghost use Rattle.factor_core.specs.Tables.{AreCounts, states_in, stride_of, size_of, axes_of, rows_of, row_of, starts_of};
 
-use crate::slots::Slot;
-use node_sets::NodeSet;
 use crate::copies::Step;
 use crate::sizes::stride;
+use crate::slots::Slot;
 use crate::walks::Axis;
+use node_sets::NodeSet;
 
 /// Writes the axes of the nodes, with the strides of the result.
 pub fn set_axes(axes: &mut [Axis], counts: &[usize], scope: &NodeSet, order: &[usize])

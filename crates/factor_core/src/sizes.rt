@@ -1,3 +1,5 @@
+//! Sizes of tables, and how far apart their cells stand.
+
 ghost use Rattle.std.specs.Prelude.{◌≡◌, ◌+◌, ◌-◌, ◌*◌, ◌^◌, ◌<◌, ◌≤◌, ℕ, length, if◌then◌else◌, slice_index};
 ghost use Rattle.node_sets.specs.Sets.{holds};
 ghost use Rattle.factor_core.specs.Tables.{AreCounts, states_in, size_from, size_of, stride_of};

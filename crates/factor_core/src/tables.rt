@@ -108,7 +108,10 @@ pub fn write_table<C: Cell, S: Source<C>>(
     let mut order = [0; MOST_NODES + 1];
     let n = list_nodes(&mut order, counts.len(), &scope);
     let order = before(&order, n);
-    let mut steps = [Step { states: 1, stride: 0 }; MOST_NODES + 1];
+    let mut steps = [Step {
+        states: 1,
+        stride: 0,
+    }; MOST_NODES + 1];
     set_list_steps(&mut steps, counts, list, order);
     copy_from(before(&steps, n), source, all, used);
     Slot {

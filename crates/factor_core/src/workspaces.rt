@@ -129,7 +129,14 @@ impl<C: Cell> Workspace<C> {
         requires room { cells_over diagram.now.nodes (restricted node state (table_of C.ring diagram.now.nodes self.old.cells slot.now)).holds ≤ self.old.spare }
         ensures { AppendsTable C.ring diagram.now.nodes self.old self.new result (restricted node state (table_of C.ring diagram.now.nodes self.old.cells slot.now)) }
     {
-        let slot = restrict_behind(diagram, slot, node, state, self.cells.as_mut_slice(), self.used);
+        let slot = restrict_behind(
+            diagram,
+            slot,
+            node,
+            state,
+            self.cells.as_mut_slice(),
+            self.used,
+        );
         self.used += slot.len;
         slot
     }

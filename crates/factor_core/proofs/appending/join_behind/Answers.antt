@@ -1,5 +1,5 @@
 -- The scope and the length are those of the joined table, so there is room for it, and what the join writes are its cells.
-use Rattle.std.proofs.Common.{rules, ◌≡◌, ◌∙◌, ◌+◌, ◌<◌, ◌≤◌, ℕ, Bool, true, false, cond, ◌==◌, List, length, take, sym, ap, subst, arith, inl, inr}
+use Rattle.std.proofs.Common.{rules, ◌≡◌, ◌∙◌, ◌+◌, ◌≤◌, ℕ, Bool, true, false, cond, ◌==◌, List, length, take, sym, ap, subst, arith, inl, inr}
 use Rattle.std.proofs.lemmas.List.{length-take-le}
 use Rattle.finite_sums.specs.Sums.{World, InRange}
 use Rattle.maid_model.specs.Nodes.{states_of, counts_of}

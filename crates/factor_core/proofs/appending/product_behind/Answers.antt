@@ -1,14 +1,14 @@
 -- The scope and the length are those of the product's table, so there is room for it, and what is written are its cells.
-use Rattle.std.proofs.Common.{rules, ◌≡◌, ◌∙◌, ◌+◌, ◌<◌, ◌≤◌, ℕ, true, false, length, take, sym, ap, subst, arith}
+use Rattle.std.proofs.Common.{rules, ◌≡◌, ◌∙◌, ◌+◌, ◌≤◌, ℕ, length, take, sym, ap, subst, arith}
 use Rattle.std.proofs.lemmas.List.{length-take-le}
 use Rattle.finite_sums.specs.Sums.{World, InRange}
-use Rattle.maid_model.specs.Nodes.{states_of, counts_of}
+use Rattle.maid_model.specs.Nodes.{counts_of}
 use Rattle.node_sets.specs.Sets.{holds}
 use Rattle.cell_rings.specs.Sums.{cell_at}
 use Rattle.ring_sums.proofs.Each.{each_of}
 use Rattle.factor_core.specs.Operations.{product_table}
 use Rattle.factor_core.specs.Slots.{IsLive, tables_of}
-use Rattle.factor_core.specs.Tables.{AreCounts, IsUnion, states_in, size_of, place_of, product_cell}
+use Rattle.factor_core.specs.Tables.{AreCounts, states_in, size_of, place_of, product_cell}
 use Rattle.factor_core.proofs.Behind.{united_known, ends_within, size_small, can_multiply}
 use Rattle.factor_core.proofs.Conditions.{product_is, united_is}
 use Rattle.factor_core.proofs.Counts.{are_counts, counts_length, range_is}

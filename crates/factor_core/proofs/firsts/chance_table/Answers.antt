@@ -1,4 +1,4 @@
-use Rattle.std.proofs.Common.{◌≡◌, ◌∙◌, ◌+◌, ◌*◌, ◌<◌, ◌≤◌, ◌≤ℤ◌, ◌++◌, [], ◌∷◌, map, length, sym, ap, subst, arith, All, pos, nat_abs, Contains, ℕ, ℤ}
+use Rattle.std.proofs.Common.{◌∙◌, ◌+◌, ◌*◌, ◌<◌, ◌≤◌, ◌≤ℤ◌, ◌++◌, [], ◌∷◌, map, length, sym, ap, subst, arith, All, pos, nat_abs, Contains, ℕ}
 use Rattle.std.proofs.lemmas.List.{length-map, get_or_default}
 use Rattle.maid_model.specs.Graph.{AllDifferent}
 use Rattle.maid_model.specs.Nodes.{node_at, states_of, rows_under}

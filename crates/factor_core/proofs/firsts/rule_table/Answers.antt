@@ -1,7 +1,7 @@
-use Rattle.std.proofs.Common.{◌≡◌, ◌∙◌, ◌+◌, ◌*◌, ◌<◌, ◌≤◌, ◌++◌, [], ◌∷◌, map, length, sym, ap, subst, arith, All, Contains, ℕ}
+use Rattle.std.proofs.Common.{◌∙◌, ◌+◌, ◌<◌, ◌++◌, [], ◌∷◌, map, length, sym, ap, subst, arith, Contains, ℕ}
 use Rattle.std.proofs.lemmas.List.{length-map}
 use Rattle.maid_model.specs.Graph.{AllDifferent}
-use Rattle.maid_model.specs.Nodes.{node_at, states_of, rows_under}
+use Rattle.maid_model.specs.Nodes.{states_of, rows_under}
 use Rattle.maid_model.specs.Tables.{weights_of}
 use Rattle.plan_sums.specs.Plans.{node_table}
 use Rattle.factor_core.specs.Copies.{list_table}

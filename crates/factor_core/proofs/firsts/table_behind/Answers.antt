@@ -1,4 +1,4 @@
-use Rattle.std.proofs.Common.{◌≡◌, ◌∙◌, ◌+◌, ◌*◌, ◌<◌, ◌≤◌, cond, map, length, sym, subst, arith, All, pos, nat_abs, ℕ}
+use Rattle.std.proofs.Common.{◌≡◌, ◌∙◌, ◌+◌, ◌*◌, ◌≤◌, cond, sym, subst, arith, All, pos, nat_abs}
 use Rattle.std.proofs.lemmas.List.{length-map, get_or-map}
 use Rattle.maid_model.specs.declared.diagrams.Kind.TheVariants.{Chance, Decision}
 use Rattle.maid_model.specs.Nodes.{node_at, is_utility}

@@ -1,4 +1,4 @@
-use Rattle.std.proofs.Common.{◌≡◌, ◌∙◌, ◌+◌, ◌≤◌, map, sym, ap, subst, arith}
+use Rattle.std.proofs.Common.{◌+◌, map, ap, subst, arith}
 use Rattle.maid_model.specs.Nodes.{node_at, parents_of, states_of, rows_under}
 use Rattle.plan_sums.specs.Plans.{utility_table}
 use Rattle.factor_core.specs.Copies.{list_table}

@@ -1,8 +1,8 @@
 -- The place over the counts is the one over the nodes, and it lies in the slot.
-use Rattle.std.proofs.Common.{rules, ◌≡◌, ◌∙◌, ◌+◌, ◌^◌, ◌<◌, ◌≤◌, ℕ, List, take, length, map, get_or, sym, ap, subst, arith}
+use Rattle.std.proofs.Common.{rules, ◌≡◌, ◌∙◌, ◌+◌, ◌^◌, ◌<◌, ℕ, List, take, length, map, get_or, sym, ap, subst, arith}
 use Rattle.std.proofs.lemmas.List.{length-take-le, get_or-take, get_or-map, get_or_read}
 use Rattle.std.specs.List.{AllZip}
-use Rattle.finite_sums.specs.Sums.{World, InRange}
+use Rattle.finite_sums.specs.Sums.{World}
 use Rattle.maid_model.specs.Views.{NodeView}
 use Rattle.maid_model.specs.Nodes.{states_of, counts_of}
 use Rattle.maid_model.specs.Tables.{row_from}

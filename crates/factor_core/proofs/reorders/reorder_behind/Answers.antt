@@ -1,7 +1,7 @@
 -- The copy goes over the nodes in the order named, and their strides add up to the place in the slot in any order.
-use Rattle.std.proofs.Common.{rules, ◌≡◌, ◌∙◌, ℕ, ◌+◌, ◌-◌, ◌*◌, ◌^◌, ◌<◌, ◌≤◌, true, ◌++◌, length, take, sym, ap, subst, arith, All}
+use Rattle.std.proofs.Common.{rules, ◌≡◌, ◌∙◌, ◌+◌, ◌-◌, ◌^◌, ◌<◌, ◌≤◌, ◌++◌, length, take, sym, ap, subst, arith}
 use Rattle.std.proofs.lemmas.List.{length-take-le}
-use Rattle.finite_sums.specs.Sums.{World, InRange}
+use Rattle.finite_sums.specs.Sums.{InRange}
 use Rattle.maid_model.specs.Nodes.{states_of, counts_of, rows_under}
 use Rattle.maid_model.specs.Tables.{row_from}
 use Rattle.node_sets.specs.Sets.{holds}

@@ -1,18 +1,18 @@
 -- The cells of one state stand along the steps over the other nodes, from the first of them on.
-use Rattle.std.proofs.Common.{rules, ◌≡◌, ◌∙◌, ℕ, ◌+◌, ◌-◌, ◌*◌, ◌^◌, ◌<◌, ◌≤◌, Bool, true, false, not, ◌&&◌, ◌==◌, ◌++◌, length, take, refl, sym, ap, subst, arith, All}
+use Rattle.std.proofs.Common.{rules, ◌≡◌, ◌∙◌, ◌+◌, ◌-◌, ◌^◌, ◌<◌, ◌≤◌, Bool, true, false, not, ◌&&◌, ◌==◌, ◌++◌, length, take, refl, sym, ap, subst, arith, All}
 use Rattle.std.proofs.lemmas.List.{length-take-le}
-use Rattle.finite_sums.specs.Sums.{World, InRange, with_state}
+use Rattle.finite_sums.specs.Sums.{InRange, with_state}
 use Rattle.finite_sums.proofs.Sums.{with_in}
 use Rattle.maid_model.specs.Nodes.{states_of, counts_of}
-use Rattle.node_sets.specs.Sets.{holds, IsIn}
+use Rattle.node_sets.specs.Sets.{holds}
 use Rattle.cell_rings.specs.Sums.{cell_at}
 use Rattle.factor_core.specs.Copies.{gathered, count_of_steps, steps_of, CanCopy}
 use Rattle.factor_core.specs.Operations.{restricted}
 use Rattle.factor_core.specs.Slots.{table_of}
-use Rattle.factor_core.specs.Tables.{AreCounts, LiesIn, listed, states_in, size_from, stride_of, size_of, place_of, out_place}
+use Rattle.factor_core.specs.Tables.{AreCounts, LiesIn, listed, states_in, stride_of, size_of, place_of, out_place}
 use Rattle.factor_core.proofs.Behind.{ends_within, size_small}
-use Rattle.factor_core.proofs.Copying.{count_is, gathered_at, length-gathered, row_below}
-use Rattle.factor_core.proofs.Counts.{are_counts, counts_length, states_is, size_is, place_is, range_is, range_back}
+use Rattle.factor_core.proofs.Copying.{count_is, gathered_at, length-gathered}
+use Rattle.factor_core.proofs.Counts.{are_counts, counts_length, states_is, size_is, place_is, range_is}
 use Rattle.factor_core.proofs.Gathering.{stride_small, can_copy, restrict_place, copied_kept, copied_at}
 use Rattle.factor_core.proofs.Joining.{place_below}
 use Rattle.factor_core.proofs.Listing.{listed_few}

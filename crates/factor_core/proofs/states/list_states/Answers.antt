@@ -14,7 +14,7 @@ loop-v-preserved c =
     let listed : v < length (counts_of nodes) = omega (arith, length-map nodes (λ (n : NodeView). n.states)) in (
       search rules,
       take_more_set counts v c.states.result room
-      ∙ ap (λ xs. xs ++ c.states.result ∷ []) c.loop-v.invariant.1
-      ∙ ap (λ s. take v (counts_of nodes) ++ s ∷ []) (c.states.ensures.states ∙ sym (get_or-map (λ (n : NodeView). n.states) nodes v no_node 0 inside))
-      ∙ sym (take_more (counts_of nodes) v 0 listed),
+          ∙ ap (λ xs. xs ++ c.states.result ∷ []) c.loop-v.invariant.1
+          ∙ ap (λ s. take v (counts_of nodes) ++ s ∷ []) (c.states.ensures.states ∙ sym (get_or-map (λ (n : NodeView). n.states) nodes v no_node 0 inside))
+          ∙ sym (take_more (counts_of nodes) v 0 listed),
     )

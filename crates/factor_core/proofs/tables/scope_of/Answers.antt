@@ -1,5 +1,5 @@
-use Rattle.std.proofs.Common.{◌≡◌, ◌⊎◌, ◌↔◌, ℕ, Bool, true, false, Contains, refl, sym, inl, inr}
-use Rattle.node_sets.specs.Sets.{holds, IsIn}
+use Rattle.std.proofs.Common.{◌≡◌, Bool, true, false, refl, sym, inl, inr}
+use Rattle.node_sets.specs.Sets.{holds}
 use Rattle.plan_sums.specs.Plans.{has}
 use Rattle.factor_core.proofs.ListTables.{has_is}
 use Rattle.factor_core.proofs.tables.scope_of.Goals as goal

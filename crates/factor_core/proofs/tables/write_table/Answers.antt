@@ -1,8 +1,8 @@
 -- The cells of the source stand along the steps over the nodes in ascending order, with the strides of the list.
-use Rattle.std.proofs.Common.{rules, ◌≡◌, ◌∙◌, ◌↔◌, ℕ, ◌+◌, ◌-◌, ◌^◌, ◌<◌, ◌≤◌, true, ◌++◌, length, take, sym, ap, subst, arith, All, Contains}
+use Rattle.std.proofs.Common.{rules, ◌≡◌, ◌∙◌, ◌+◌, ◌-◌, ◌<◌, ◌≤◌, ◌++◌, length, take, sym, ap, subst, arith, All}
 use Rattle.std.proofs.Math.Path.{fun_ext}
 use Rattle.std.proofs.lemmas.List.{length-take-le}
-use Rattle.finite_sums.specs.Sums.{World, InRange}
+use Rattle.finite_sums.specs.Sums.{InRange}
 use Rattle.maid_model.specs.Nodes.{states_of, counts_of, rows_under}
 use Rattle.maid_model.specs.Tables.{row_from}
 use Rattle.node_sets.specs.Sets.{holds}

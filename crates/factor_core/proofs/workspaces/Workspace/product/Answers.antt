@@ -1,7 +1,7 @@
 use Rattle.std.proofs.Common.{◌≡◌, ◌∙◌, take, sym, ap, subst}
 use Rattle.maid_model.specs.Nodes.{states_of}
 use Rattle.ring_sums.specs.Groups.{ProductsFit}
-use Rattle.factor_core.specs.Slots.{WorkspaceView, tables_of}
+use Rattle.factor_core.specs.Slots.{tables_of}
 use Rattle.factor_core.proofs.workspaces.Workspace.product.Goals as goal
 
 pub product_behind-slot-requires-clause-fits : goal.product_behind-slot-requires-clause-fits

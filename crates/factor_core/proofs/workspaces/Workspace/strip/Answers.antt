@@ -1,6 +1,6 @@
 use Rattle.std.proofs.Common.{◌≡◌, ◌∙◌, ◌+◌, ◌-◌, ◌≤◌, take, drop, length, sym, ap, arith}
 use Rattle.std.proofs.lemmas.List.{length-take-le}
-use Rattle.factor_core.specs.Slots.{WorkspaceView, part}
+use Rattle.factor_core.specs.Slots.{part}
 use Rattle.factor_core.proofs.Standing.{part_of_first}
 use Rattle.factor_core.proofs.workspaces.Workspace.strip.Goals as goal
 
