@@ -23,3 +23,4 @@ pub mod Gathering
 pub mod Reordering
 pub mod ListTables
 pub mod FirstTables
+pub mod SmallTables

@@ -5,3 +5,4 @@ pub mod Walks
 pub mod Scopes
 pub mod Tables
 pub mod Spaces
+pub mod Trials

@@ -16,6 +16,8 @@ mod slots;
 mod sources;
 mod states;
 mod tables;
+#[cfg(test)]
+mod tests;
 mod walks;
 mod workspaces;
 mod writes;
