@@ -10,7 +10,7 @@ use Rattle.factor_core.specs.Slots.{WorkspaceView, IsLive, table_of}
 
 -- a chance node of two states without a parent
 abbrev pub coin_of : ℕ → ℕ → NodeView
-coin_of a b = record { kind = Chance; owner = 0; states = 2; parents = []; cells = pos a ∷ pos b ∷ [] }
+coin_of a b = record { kind = Chance; owner = 0; more = []; states = 2; parents = []; cells = pos a ∷ pos b ∷ [] }
 
 abbrev pub two_coins : List NodeView
 two_coins = coin_of 2 3 ∷ coin_of 5 7 ∷ []

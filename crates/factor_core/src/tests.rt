@@ -15,13 +15,14 @@ use std::test::Fail;
 
 /// A chance node of two states.
 fn coin(alloc: Global, cells: &[i128]) -> Result<Node, AllocError>
-    ensures { IfOk result (λ n. n ≡ record { kind = Kind.Chance; owner = 0; states = 2; parents = []; cells = cells.now }) }
+    ensures { IfOk result (λ n. n ≡ record { kind = Kind.Chance; owner = 0; more = []; states = 2; parents = []; cells = cells.now }) }
 {
     Ok(Node {
         kind: Kind::Chance,
         owner: 0,
+        more: SmallVec::new(alloc),
         states: 2,
-        parents: SmallVec::from_slice(alloc, &[])?,
+        parents: SmallVec::new(alloc),
         cells: Vec::from_slice(alloc, cells)?,
     })
 }
