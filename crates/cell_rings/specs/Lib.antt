@@ -1,0 +1,5 @@
+pub mod Rings
+pub mod RingLaws
+pub mod Sums
+pub mod Kinds
+pub mod KindLaws

@@ -1,0 +1,150 @@
+//! Whole numbers from 0.
+
+ghost use Rattle.std.specs.Prelude.{◌≡◌, ◌+◌, ◌-◌, ◌*◌, ◌^◌, ◌<◌, ◌≤◌, length};
+ghost use Rattle.cell_rings.specs.Rings.{mass_ring};
+ghost use Rattle.cell_rings.specs.Sums.{cell_at, run_sum, Adds, HasRoom};
+ghost use Rattle.cell_rings.specs.KindLaws.{most_has_room, mass_laws, mass_sizes, at_most_itself, one_at_most};
+ghost use Rattle.cell_rings.specs.Kinds.{mass_kind, mass_of};
+
+use crate::cells::Cell;
+
+/// A whole number from 0.
+#[derive(Clone, Copy, Debug, PartialEq, Eq)]
+pub struct Mass(pub u128);
+
+impl Cell for Mass {
+    ghost ring = { mass_kind };
+
+    ghost of_weight = { mass_of };
+
+    ghost of_value = { λ _. mass_of 1 };
+
+    ghost laws = { mass_laws };
+
+    ghost sizes = { mass_sizes };
+
+    ghost weight_sizes = { at_most_itself };
+
+    ghost one_fits = { most_has_room };
+
+    ghost value_sizes = { one_at_most };
+
+    fn zero() -> Mass {
+        Mass(0)
+    }
+
+    fn one() -> Mass {
+        Mass(1)
+    }
+
+    fn weight(w: u128) -> Mass {
+        Mass(w)
+    }
+
+    fn value(_v: i128) -> Mass {
+        Mass(1)
+    }
+
+    fn add(self, other: Mass) -> Mass {
+        Mass(self.0 + other.0)
+    }
+
+    fn mul(self, other: Mass) -> Mass {
+        Mass(self.0 * other.0)
+    }
+
+    fn add_two_scaled(
+        out: &mut [Mass],
+        at: usize,
+        n: usize,
+        first: Mass,
+        second: Mass,
+        cells: &[Mass],
+        from: usize,
+        beside: usize,
+    ) {
+        if first.0 >> 64 == 0 && second.0 >> 64 == 0 {
+            add_two_short(
+                out,
+                at,
+                n,
+                first.0 as u64,
+                second.0 as u64,
+                cells,
+                from,
+                beside,
+            )
+        } else {
+            add_two_long(out, at, n, first, second, cells, from, beside)
+        }
+    }
+}
+
+/// Both products and their sum added to each cell of the run.
+fn add_two_long(
+    out: &mut [Mass],
+    at: usize,
+    n: usize,
+    first: Mass,
+    second: Mass,
+    cells: &[Mass],
+    from: usize,
+    beside: usize,
+)
+    requires out { at + n ≤ length out.old }
+    requires cells { (from + n ≤ length cells.now) × (beside + n ≤ length cells.now) }
+    requires room { HasRoom mass_kind out.old (run_sum mass_ring n at (λ i. mass_kind.size first * mass_kind.size (cell_at mass_kind cells.now (from + i)) + mass_kind.size second * mass_kind.size (cell_at mass_kind cells.now (beside + i)))) }
+    ensures { Adds mass_kind (run_sum mass_kind n at (λ i. mass_kind.plus (mass_kind.times first (cell_at mass_kind cells.now (from + i))) (mass_kind.times second (cell_at mass_kind cells.now (beside + i))))) out.old out.new }
+{
+    for i in 0..n {
+        let both = first
+            .mul(cells[from + i])
+            .add(second.mul(cells[beside + i]));
+        out[at + i] = out[at + i].add(both);
+    }
+}
+
+/// The same where both factors are below 2^64, with two products of 64 bits in place of three.
+#[inline(never)]
+fn add_two_short(
+    out: &mut [Mass],
+    at: usize,
+    n: usize,
+    first: u64,
+    second: u64,
+    cells: &[Mass],
+    from: usize,
+    beside: usize,
+)
+    requires out { at + n ≤ length out.old }
+    requires cells { (from + n ≤ length cells.now) × (beside + n ≤ length cells.now) }
+    requires room { HasRoom mass_kind out.old (run_sum mass_ring n at (λ i. first * mass_kind.size (cell_at mass_kind cells.now (from + i)) + second * mass_kind.size (cell_at mass_kind cells.now (beside + i)))) }
+    ensures { Adds mass_kind (run_sum mass_kind n at (λ i. mass_kind.plus (mass_kind.times (mass_of first) (cell_at mass_kind cells.now (from + i))) (mass_kind.times (mass_of second) (cell_at mass_kind cells.now (beside + i))))) out.old out.new }
+{
+    for i in 0..n {
+        let both = short_product(first, cells[from + i]).add(short_product(
+            second,
+            cells[beside + i],
+        ));
+        out[at + i] = out[at + i].add(both);
+    }
+}
+
+/// The product with a number below 2^64.
+fn short_product(a: u64, b: Mass) -> Mass
+    requires { a * b.0 ≤ 2 ^ 127 - 1 }
+    ensures { result ≡ mass_of (a * b.0) }
+{
+    Mass(short_times(a, b.0))
+}
+
+/// The product of a number below 2^64 and one of two words. The upper word is multiplied in 64 bits, since the compiler
+/// makes a whole product of 128 bits of anything else.
+fn short_times(a: u64, b: u128) -> u128
+    requires { a * b < 2 ^ 127 }
+    ensures { result ≡ a * b }
+{
+    let low = a as u128 * (b & 0xffff_ffff_ffff_ffff);
+    let high = a * (b >> 64) as u64;
+    low + ((high as u128) << 64)
+}

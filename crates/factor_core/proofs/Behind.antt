@@ -1,0 +1,68 @@
+-- What may be written behind the first cells.
+use Rattle.std.proofs.Common.{◌≡◌, ◌∙◌, ℕ, ◌+◌, ◌^◌, ◌<◌, ◌≤◌, Bool, true, false, ◌||◌, List, [], ◌∷◌, length, sym, ap, subst, arith, All, inl, inr}
+use Rattle.std.proofs.Math.Path.{fun_ext}
+use Rattle.node_sets.specs.declared.sets.NodeSet.{NodeSet}
+use Rattle.node_sets.specs.Sets.{holds, IsIn}
+use Rattle.maid_model.specs.Views.{NodeView, DiagramView}
+use Rattle.maid_model.specs.Diagrams.{IsDiagram}
+use Rattle.maid_model.specs.Nodes.{states_of, counts_of}
+use Rattle.cell_rings.specs.Rings.{Ring, IsRing, IsSize}
+use Rattle.ring_sums.specs.Groups.{ProductsFit, JoinFits}
+use Rattle.ring_sums.proofs.Each.{Each, each_of, all_of, each_map, yes_or_no}
+use Rattle.factor_core.specs.declared.slots.Slot.{Slot}
+use Rattle.factor_core.specs.Scopes.{united}
+use Rattle.factor_core.specs.Slots.{space, cells_over, IsLive, tables_of}
+use Rattle.factor_core.specs.Spaces.{CanJoinIn, CanMultiplyIn}
+use Rattle.factor_core.specs.Tables.{LiesIn, size_of}
+use Rattle.factor_core.proofs.Conditions.{room_to_join, room_to_multiply}
+use Rattle.factor_core.proofs.Counts.{are_counts, cells_are, counts_length}
+use Rattle.factor_core.proofs.Standing.{lies_in}
+
+module _ {C : Type 0} (nodes : List NodeView) (cells : List C) where
+  -- a node of the slots is one of the diagram
+  pub node_known : (slots : List Slot) (x : ℕ) → 0 < length slots → Each (IsLive nodes cells) slots → Each (λ s. IsIn s.scope x) slots → x < length nodes
+  node_known [] x some live hold = absurd (omega arith)
+  node_known (s ∷ ss) x some live hold = live.0.known x hold.0
+
+  pub united_known : (slots : List Slot) (v : ℕ) → Each (IsLive nodes cells) slots → united slots v ≡ true → v < length nodes
+  united_known [] v live t = absurd (let no : false ≡ true = t in cc)
+  united_known (s ∷ ss) v live t =
+      elim (yes_or_no (holds s.scope v)) [
+        | inl e ↦ live.0.known v e
+        | inr f ↦ united_known ss v live.1 (sym (ap (λ b. b || united ss v) f) ∙ t)
+      ]
+
+-- a table of a scope behind the first cells
+module _ {C : Type 0} (nodes : List NodeView) (counts : List ℕ) (is : counts ≡ counts_of nodes) (scope : NodeSet) (h : ℕ → Bool) (held : (v : ℕ) → holds scope v ≡ h v) (all : List C) (used : ℕ) (within : used ≤ length all) (room : cells_over nodes h ≤ (space all used).spare) where
+  pub size_is_cells : size_of counts scope ≡ cells_over nodes h
+  size_is_cells = ap (λ cs. size_of cs scope) is ∙ cells_are nodes (holds scope) ∙ ap (cells_over nodes) (fun_ext held)
+
+  pub ends_within : used + size_of counts scope ≤ length all
+  ends_within = omega (arith, size_is_cells, room, within)
+
+  pub size_small : length all ≤ 4194304 → size_of counts scope ≤ 2 ^ 32
+  size_small short = omega (arith, ends_within, short)
+
+module _ {C : Type 0} {r : Ring C} (laws : IsRing r) (sized : IsSize r r.size) (d : DiagramView) (is : IsDiagram d) (counts : List ℕ) (e : counts ≡ counts_of d.nodes) (cells : List C) (short : length cells ≤ 4194304) (slots : List Slot) (live : All (IsLive d.nodes cells) slots) where
+  lying : All (LiesIn (counts_of d.nodes) (length cells)) slots
+  lying = all_of (LiesIn (counts_of d.nodes) (length cells)) slots (each_map (IsLive d.nodes cells) (LiesIn (counts_of d.nodes) (length cells)) (λ s l. lies_in r d.nodes cells s l) slots (each_of (IsLive d.nodes cells) slots live))
+
+  small : All (λ s. size_of (counts_of d.nodes) s.scope ≤ 2 ^ 32) slots
+  small = λ i z l. let s = lying i z l in omega (arith, s.size, s.within, short)
+
+  pub can_join : (x : ℕ) → x < length d.nodes → JoinFits r.size (states_of d.nodes) r.most x (tables_of r d.nodes cells slots) → CanJoinIn r cells counts slots x
+  can_join x inside f = subst (λ cs. CanJoinIn r cells cs slots x) (sym e) (record {
+    are_counts = are_counts d is;
+    node = (omega (arith, counts_length d.nodes, inside));
+    live = lying;
+    small = small;
+    fits = room_to_join laws sized d.nodes cells slots x (each_of (IsLive d.nodes cells) slots live) f;
+  })
+
+  pub can_multiply : ProductsFit r.size (states_of d.nodes) r.most (tables_of r d.nodes cells slots) → CanMultiplyIn r cells counts slots
+  can_multiply f = subst (λ cs. CanMultiplyIn r cells cs slots) (sym e) (record {
+    are_counts = are_counts d is;
+    live = lying;
+    small = small;
+    fits = room_to_multiply laws sized d.nodes cells slots (each_of (IsLive d.nodes cells) slots live) f;
+  })

@@ -1,0 +1,63 @@
+use Rattle.std.proofs.Common.{◌∙◌, ◌+◌, ◌*◌, ◌<◌, ◌≤◌, ◌≤ℤ◌, ◌++◌, [], ◌∷◌, map, length, sym, ap, subst, arith, All, pos, nat_abs, Contains, ℕ}
+use Rattle.std.proofs.lemmas.List.{length-map, get_or_default}
+use Rattle.maid_model.specs.Graph.{AllDifferent}
+use Rattle.maid_model.specs.Nodes.{node_at, states_of, rows_under}
+use Rattle.plan_sums.specs.Plans.{node_table}
+use Rattle.factor_core.specs.Copies.{list_table}
+use Rattle.factor_core.specs.Operations.{cells_by}
+use Rattle.factor_core.specs.Slots.{space, AppendsTable}
+use Rattle.factor_core.proofs.FirstTables.{family, family_once, family_known, family_rows, family_room, chance_same}
+use Rattle.factor_core.proofs.Standing.{appends_same}
+use Rattle.factor_core.proofs.firsts.chance_table.Goals as goal
+
+pub write_table-requires-clause-once : goal.write_table-requires-clause-once
+write_table-requires-clause-once g c =
+    let d = c.args.diagram.now in
+    let list = c.before-2.ensures ∙ c.list_family-n.ensures.list ∙ ap (λ us. us ++ c.args.v ∷ []) c.parents.ensures.parents in
+    subst AllDifferent (sym list) (family_once d c.parents.ensures.diagram c.args.v c.requires.node)
+
+pub write_table-requires-clause-known : goal.write_table-requires-clause-known
+write_table-requires-clause-known g c =
+    let d = c.args.diagram.now in
+    let list = c.before-2.ensures ∙ c.list_family-n.ensures.list ∙ ap (λ us. us ++ c.args.v ∷ []) c.parents.ensures.parents in
+    subst (λ vs. (u : ℕ) → Contains vs u → u < length d.nodes) (sym list) (family_known d c.parents.ensures.diagram c.args.v c.requires.node)
+
+pub write_table-requires-clause-fit : goal.write_table-requires-clause-fit
+write_table-requires-clause-fit g c =
+    let d = c.args.diagram.now in
+    let most = g.C.Cell.ring.most in
+    let is = c.parents.ensures.diagram in
+    subst (All (λ z. (pos 0 ≤ℤ z) × (2 * nat_abs z ≤ most))) (sym c.cells.ensures.cells)
+    (λ k z l. (subst (λ x. pos 0 ≤ℤ x) (get_or_default (node_at d.nodes c.args.v).cells k (pos 0) z l) ((is.tables.table c.args.v c.requires.kind).not_negative k), c.requires.fit k z l))
+
+pub write_table-requires-clause-cells : goal.write_table-requires-clause-cells
+write_table-requires-clause-cells g c =
+    let d = c.args.diagram.now in
+    let is = c.parents.ensures.diagram in
+    let list = c.before-2.ensures ∙ c.list_family-n.ensures.list ∙ ap (λ us. us ++ c.args.v ∷ []) c.parents.ensures.parents in
+    length-map c.cells.result.now (λ z. g.C.Cell.of_weight (nat_abs z))
+    ∙ ap length c.cells.ensures.cells
+    ∙ (is.tables.table c.args.v c.requires.kind).len
+    ∙ sym (family_rows d is c.args.v c.requires.node)
+    ∙ ap (rows_under (states_of d.nodes)) (sym list)
+
+pub write_table-requires-clause-room : goal.write_table-requires-clause-room
+write_table-requires-clause-room g c =
+    let d = c.args.diagram.now in
+    let list = c.before-2.ensures ∙ c.list_family-n.ensures.list ∙ ap (λ us. us ++ c.args.v ∷ []) c.parents.ensures.parents in
+    omega (arith, ap (rows_under (states_of d.nodes)) list, family_room d c.parents.ensures.diagram c.args.v c.requires.node, c.requires.room)
+
+pub returns-clause-table : goal.returns-clause-table
+returns-clause-table g c = λ p.
+    let d = c.args.diagram.now in
+    let r = g.C.Cell.ring in
+    let k = cells_by r g.C.Cell.of_weight g.C.Cell.of_value in
+    let before = space c.args.all.now c.args.used in
+    let after = space c.write_table.new.all (c.args.used + c.write_table.result.len) in
+    let vs = family d c.parents.ensures.diagram c.args.v c.requires.node in
+    let list = c.before-2.ensures ∙ c.list_family-n.ensures.list ∙ ap (λ us. us ++ c.args.v ∷ []) c.parents.ensures.parents in
+    let cells = map (λ z. g.C.Cell.of_weight (nat_abs z)) (node_at d.nodes c.args.v).cells in
+    appends_same r d.nodes before after c.write_table.result (list_table r d.nodes vs cells) (node_table k d.nodes p c.args.v)
+    (subst (λ xs. AppendsTable r d.nodes before after c.write_table.result (list_table r d.nodes xs cells)) list
+    (subst (λ zs. AppendsTable r d.nodes before after c.write_table.result (list_table r d.nodes c.before-2.result.now (map (λ z. g.C.Cell.of_weight (nat_abs z)) zs))) c.cells.ensures.cells c.write_table.ensures.table))
+    (chance_same d c.parents.ensures.diagram c.args.v c.requires.node k p c.requires.kind)

@@ -1,0 +1,80 @@
+//! Tables made behind the first cells of a list.
+
+ghost use Rattle.std.specs.Prelude.{◌≡◌, ◌+◌, ◌<◌, ◌≤◌, All, length, map};
+ghost use Rattle.node_sets.specs.Sets.{holds, IsIn};
+ghost use Rattle.maid_model.specs.Nodes.{states_of};
+ghost use Rattle.ring_sums.specs.Groups.{JoinFits, ProductsFit};
+ghost use Rattle.ring_sums.specs.Tables.{sum_out};
+ghost use Rattle.factor_core.specs.Operations.{product_table};
+ghost use Rattle.factor_core.specs.Slots.{space, cells_over, IsLive, tables_of, AppendsTable};
+
+use crate::sizes::table_size;
+use crate::slots::{Slot, joined_scope, united_scope};
+use crate::states::list_states;
+use crate::walks::before;
+use crate::writes::{join_at, multiply_at};
+use cell_rings::Cell;
+use maid_model::{Diagram, MOST_NODES};
+
+/// The join of the slots with the node summed out of it, behind the first `used` cells.
+pub fn join_behind<C: Cell>(
+    diagram: &Diagram,
+    slots: &[Slot],
+    node: usize,
+    all: &mut [C],
+    used: usize,
+) -> Slot
+    requires used { used ≤ length all.old }
+    requires short { length all.old ≤ 4194304 }
+    requires few { length slots.now ≤ 256 }
+    requires some { 0 < length slots.now }
+    requires live { All (IsLive diagram.now.nodes (space all.old used).cells) slots.now }
+    requires hold { All (λ s. IsIn s.scope node) slots.now }
+    requires fits { JoinFits C.ring.size (states_of diagram.now.nodes) C.ring.most node (tables_of C.ring diagram.now.nodes (space all.old used).cells slots.now) }
+    requires room { cells_over diagram.now.nodes (sum_out C.ring (states_of diagram.now.nodes) node (tables_of C.ring diagram.now.nodes (space all.old used).cells slots.now)).holds ≤ (space all.old used).spare }
+    ensures start { result.start ≡ used }
+    ensures len { used + result.len ≤ length all.new }
+    ensures table { AppendsTable C.ring diagram.now.nodes (space all.old used) (space all.new (used + result.len)) result (sum_out C.ring (states_of diagram.now.nodes) node (tables_of C.ring diagram.now.nodes (space all.old used).cells slots.now)) }
+{
+    let mut counts = [1; MOST_NODES];
+    list_states(&mut counts, diagram);
+    let counts = before(&counts, diagram.count());
+    let scope = joined_scope(slots, node);
+    let len = table_size(counts, &scope);
+    join_at(counts, slots, node, &scope, all, used, len);
+    Slot {
+        start: used,
+        len,
+        scope,
+    }
+}
+
+/// The product of the slots, behind the first `used` cells.
+pub fn product_behind<C: Cell>(
+    diagram: &Diagram,
+    slots: &[Slot],
+    all: &mut [C],
+    used: usize,
+) -> Slot
+    requires used { used ≤ length all.old }
+    requires short { length all.old ≤ 4194304 }
+    requires few { length slots.now ≤ 256 }
+    requires live { All (IsLive diagram.now.nodes (space all.old used).cells) slots.now }
+    requires fits { ProductsFit C.ring.size (states_of diagram.now.nodes) C.ring.most (tables_of C.ring diagram.now.nodes (space all.old used).cells slots.now) }
+    requires room { cells_over diagram.now.nodes (product_table C.ring (tables_of C.ring diagram.now.nodes (space all.old used).cells slots.now)).holds ≤ (space all.old used).spare }
+    ensures start { result.start ≡ used }
+    ensures len { used + result.len ≤ length all.new }
+    ensures table { AppendsTable C.ring diagram.now.nodes (space all.old used) (space all.new (used + result.len)) result (product_table C.ring (tables_of C.ring diagram.now.nodes (space all.old used).cells slots.now)) }
+{
+    let mut counts = [1; MOST_NODES];
+    list_states(&mut counts, diagram);
+    let counts = before(&counts, diagram.count());
+    let scope = united_scope(slots);
+    let len = table_size(counts, &scope);
+    multiply_at(counts, slots, &scope, all, used, len);
+    Slot {
+        start: used,
+        len,
+        scope,
+    }
+}

@@ -1,0 +1,176 @@
+//! Joins of slots, with a node summed out, as walks.
+
+ghost use Rattle.std.specs.Prelude.{◌≡◌, ◌≤◌, ◌<◌, ◌+◌, ◌*◌, ℕ, length};
+ghost use Rattle.cell_rings.specs.Sums.{cell_at};
+ghost use Rattle.node_sets.specs.Sets.{holds};
+ghost use Rattle.finite_sums.specs.Sums.{InRange};
+ghost use Rattle.factor_core.specs.Tables.{listed, CanJoin, states_in, place_of, join_cell};
+
+use crate::orders::{count_nodes, insert_node, list_nodes, summed_place};
+use crate::setting::{set_axes, set_places, set_strides};
+use crate::slots::Slot;
+use crate::walks::{Axis, before, walk};
+use cell_rings::Cell;
+use node_sets::NodeSet;
+
+/// The join with these lists to write its order, axes, strides and places into.
+fn join_in<C: Cell>(
+    counts: &[usize],
+    slots: &[Slot],
+    node: usize,
+    scope: &NodeSet,
+    cells: &[C],
+    out: &mut [C],
+    order: &mut [usize],
+    axes: &mut [Axis],
+    strides: &mut [usize],
+    places: &mut [usize],
+)
+    requires order { length (listed (holds scope.now) 0 (length counts.now)) < length order.old }
+    requires axes { length (listed (holds scope.now) 0 (length counts.now)) < length axes.old }
+    requires strides { (length (listed (holds scope.now) 0 (length counts.now)) + 1) * length slots.now ≤ length strides.old }
+    requires places { length slots.now ≤ length places.old }
+    requires can { CanJoin C.ring cells.now counts.now slots.now node scope.now out.old }
+    ensures { (w : ℕ → ℕ) → InRange (states_in counts.now) w → cell_at C.ring out.new (place_of counts.now scope.now w) ≡ join_cell C.ring cells.now counts.now slots.now node w }
+{
+    let kept = list_nodes(order, counts.len(), scope);
+    let at = summed_place(order, kept, slots, node);
+    insert_node(order, kept, at, node);
+    let n = kept + 1;
+    let order = before(order, n);
+    set_axes(axes, counts, scope, order);
+    set_strides(strides, counts, slots, order);
+    set_places(places, slots);
+    let axes = before(axes, n);
+    let strides = before(strides, n * slots.len());
+    walk(axes, strides, cells, &mut places[..slots.len()], out, 0);
+}
+
+/// A join of few slots over few nodes.
+#[inline(never)]
+fn join_small<C: Cell>(
+    counts: &[usize],
+    slots: &[Slot],
+    node: usize,
+    scope: &NodeSet,
+    cells: &[C],
+    out: &mut [C],
+)
+    requires nodes { length (listed (holds scope.now) 0 (length counts.now)) < 16 }
+    requires slots { length slots.now ≤ 8 }
+    requires strides { (length (listed (holds scope.now) 0 (length counts.now)) + 1) * length slots.now ≤ 64 }
+    requires can { CanJoin C.ring cells.now counts.now slots.now node scope.now out.old }
+    ensures { (w : ℕ → ℕ) → InRange (states_in counts.now) w → cell_at C.ring out.new (place_of counts.now scope.now w) ≡ join_cell C.ring cells.now counts.now slots.now node w }
+{
+    let mut order = [0; 16];
+    let mut axes = [Axis { states: 1, out: 0 }; 16];
+    let mut strides = [0; 64];
+    let mut places = [0; 8];
+    join_in(
+        counts,
+        slots,
+        node,
+        scope,
+        cells,
+        out,
+        &mut order,
+        &mut axes,
+        &mut strides,
+        &mut places,
+    );
+}
+
+/// A join of few slots.
+#[inline(never)]
+fn join_some<C: Cell>(
+    counts: &[usize],
+    slots: &[Slot],
+    node: usize,
+    scope: &NodeSet,
+    cells: &[C],
+    out: &mut [C],
+)
+    requires nodes { length (listed (holds scope.now) 0 (length counts.now)) < 257 }
+    requires slots { length slots.now ≤ 256 }
+    requires strides { (length (listed (holds scope.now) 0 (length counts.now)) + 1) * length slots.now ≤ 1028 }
+    requires can { CanJoin C.ring cells.now counts.now slots.now node scope.now out.old }
+    ensures { (w : ℕ → ℕ) → InRange (states_in counts.now) w → cell_at C.ring out.new (place_of counts.now scope.now w) ≡ join_cell C.ring cells.now counts.now slots.now node w }
+{
+    let mut order = [0; 257];
+    let mut axes = [Axis { states: 1, out: 0 }; 257];
+    let mut strides = [0; 1028];
+    let mut places = [0; 257];
+    join_in(
+        counts,
+        slots,
+        node,
+        scope,
+        cells,
+        out,
+        &mut order,
+        &mut axes,
+        &mut strides,
+        &mut places,
+    );
+}
+
+/// A join of many slots.
+#[inline(never)]
+fn join_many<C: Cell>(
+    counts: &[usize],
+    slots: &[Slot],
+    node: usize,
+    scope: &NodeSet,
+    cells: &[C],
+    out: &mut [C],
+)
+    requires nodes { length (listed (holds scope.now) 0 (length counts.now)) < 257 }
+    requires slots { length slots.now ≤ 256 }
+    requires strides { (length (listed (holds scope.now) 0 (length counts.now)) + 1) * length slots.now ≤ 65792 }
+    requires can { CanJoin C.ring cells.now counts.now slots.now node scope.now out.old }
+    ensures { (w : ℕ → ℕ) → InRange (states_in counts.now) w → cell_at C.ring out.new (place_of counts.now scope.now w) ≡ join_cell C.ring cells.now counts.now slots.now node w }
+{
+    let mut order = [0; 257];
+    let mut axes = [Axis { states: 1, out: 0 }; 257];
+    let mut strides = [0; 65792];
+    let mut places = [0; 257];
+    join_in(
+        counts,
+        slots,
+        node,
+        scope,
+        cells,
+        out,
+        &mut order,
+        &mut axes,
+        &mut strides,
+        &mut places,
+    );
+}
+
+/// Adds the join of the slots to a result of noughts over the scope: each cell is the sum over the node's states of
+/// the product of the slots' cells. It takes no memory.
+pub fn join_into<C: Cell>(
+    counts: &[usize],
+    slots: &[Slot],
+    node: usize,
+    scope: &NodeSet,
+    cells: &[C],
+    out: &mut [C],
+)
+    requires few { length slots.now ≤ 256 }
+    requires can { CanJoin C.ring cells.now counts.now slots.now node scope.now out.old }
+    ensures { (w : ℕ → ℕ) → InRange (states_in counts.now) w → cell_at C.ring out.new (place_of counts.now scope.now w) ≡ join_cell C.ring cells.now counts.now slots.now node w }
+{
+    let n = count_nodes(counts.len(), scope);
+    let size = (n + 1) * slots.len();
+    if n < 16 && slots.len() <= 8 && size <= 64 {
+        join_small(counts, slots, node, scope, cells, out);
+        return;
+    }
+    if size <= 1028 {
+        join_some(counts, slots, node, scope, cells, out);
+        return;
+    }
+    join_many(counts, slots, node, scope, cells, out);
+}

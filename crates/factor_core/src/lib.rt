@@ -1,0 +1,26 @@
+//! Tables over scopes, one behind another in one workspace: what each call makes of them is said by the tables of
+//! `ring_sums`, and a slot is seen as one of those.
+#![tactic(auto)]
+
+mod appending;
+mod copies;
+mod firsts;
+mod joins;
+mod orders;
+mod products;
+mod reading;
+mod reorders;
+mod setting;
+mod sizes;
+mod slots;
+mod sources;
+mod states;
+mod tables;
+#[cfg(test)]
+mod tests;
+mod walks;
+mod workspaces;
+mod writes;
+
+pub use slots::{Slot, Strip};
+pub use workspaces::Workspace;

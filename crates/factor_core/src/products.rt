@@ -1,0 +1,165 @@
+//! Products of slots as walks.
+
+ghost use Rattle.std.specs.Prelude.{◌≡◌, ◌≤◌, ◌<◌, ◌+◌, ◌*◌, ℕ, length};
+ghost use Rattle.cell_rings.specs.Sums.{cell_at};
+ghost use Rattle.node_sets.specs.Sets.{holds};
+ghost use Rattle.finite_sums.specs.Sums.{InRange};
+ghost use Rattle.factor_core.specs.Tables.{listed, CanMultiply, states_in, place_of, product_cell};
+
+use crate::orders::{count_nodes, list_nodes};
+use crate::setting::{set_axes, set_places, set_strides};
+use crate::slots::Slot;
+use crate::walks::{Axis, before, walk};
+use cell_rings::Cell;
+use node_sets::NodeSet;
+
+/// The product with these lists to write its order, axes, strides and places into.
+fn multiply_in<C: Cell>(
+    counts: &[usize],
+    slots: &[Slot],
+    scope: &NodeSet,
+    cells: &[C],
+    out: &mut [C],
+    order: &mut [usize],
+    axes: &mut [Axis],
+    strides: &mut [usize],
+    places: &mut [usize],
+)
+    requires order { length (listed (holds scope.now) 0 (length counts.now)) < length order.old }
+    requires axes { length (listed (holds scope.now) 0 (length counts.now)) < length axes.old }
+    requires strides { (length (listed (holds scope.now) 0 (length counts.now)) + 1) * length slots.now ≤ length strides.old }
+    requires places { length slots.now ≤ length places.old }
+    requires can { CanMultiply C.ring cells.now counts.now slots.now scope.now out.old }
+    ensures { (w : ℕ → ℕ) → InRange (states_in counts.now) w → cell_at C.ring out.new (place_of counts.now scope.now w) ≡ product_cell C.ring cells.now counts.now slots.now w }
+{
+    let n = list_nodes(order, counts.len(), scope);
+    let order = before(order, n);
+    set_axes(axes, counts, scope, order);
+    set_strides(strides, counts, slots, order);
+    set_places(places, slots);
+    let axes = before(axes, n);
+    let strides = before(strides, n * slots.len());
+    walk(axes, strides, cells, &mut places[..slots.len()], out, 0);
+}
+
+/// A product of few slots over few nodes.
+#[inline(never)]
+fn multiply_small<C: Cell>(
+    counts: &[usize],
+    slots: &[Slot],
+    scope: &NodeSet,
+    cells: &[C],
+    out: &mut [C],
+)
+    requires nodes { length (listed (holds scope.now) 0 (length counts.now)) < 16 }
+    requires slots { length slots.now ≤ 8 }
+    requires strides { (length (listed (holds scope.now) 0 (length counts.now)) + 1) * length slots.now ≤ 64 }
+    requires can { CanMultiply C.ring cells.now counts.now slots.now scope.now out.old }
+    ensures { (w : ℕ → ℕ) → InRange (states_in counts.now) w → cell_at C.ring out.new (place_of counts.now scope.now w) ≡ product_cell C.ring cells.now counts.now slots.now w }
+{
+    let mut order = [0; 16];
+    let mut axes = [Axis { states: 1, out: 0 }; 16];
+    let mut strides = [0; 64];
+    let mut places = [0; 8];
+    multiply_in(
+        counts,
+        slots,
+        scope,
+        cells,
+        out,
+        &mut order,
+        &mut axes,
+        &mut strides,
+        &mut places,
+    );
+}
+
+/// A product of few slots.
+#[inline(never)]
+fn multiply_some<C: Cell>(
+    counts: &[usize],
+    slots: &[Slot],
+    scope: &NodeSet,
+    cells: &[C],
+    out: &mut [C],
+)
+    requires nodes { length (listed (holds scope.now) 0 (length counts.now)) < 257 }
+    requires slots { length slots.now ≤ 256 }
+    requires strides { (length (listed (holds scope.now) 0 (length counts.now)) + 1) * length slots.now ≤ 1028 }
+    requires can { CanMultiply C.ring cells.now counts.now slots.now scope.now out.old }
+    ensures { (w : ℕ → ℕ) → InRange (states_in counts.now) w → cell_at C.ring out.new (place_of counts.now scope.now w) ≡ product_cell C.ring cells.now counts.now slots.now w }
+{
+    let mut order = [0; 257];
+    let mut axes = [Axis { states: 1, out: 0 }; 257];
+    let mut strides = [0; 1028];
+    let mut places = [0; 257];
+    multiply_in(
+        counts,
+        slots,
+        scope,
+        cells,
+        out,
+        &mut order,
+        &mut axes,
+        &mut strides,
+        &mut places,
+    );
+}
+
+/// A product of many slots.
+#[inline(never)]
+fn multiply_many<C: Cell>(
+    counts: &[usize],
+    slots: &[Slot],
+    scope: &NodeSet,
+    cells: &[C],
+    out: &mut [C],
+)
+    requires nodes { length (listed (holds scope.now) 0 (length counts.now)) < 257 }
+    requires slots { length slots.now ≤ 256 }
+    requires strides { (length (listed (holds scope.now) 0 (length counts.now)) + 1) * length slots.now ≤ 65792 }
+    requires can { CanMultiply C.ring cells.now counts.now slots.now scope.now out.old }
+    ensures { (w : ℕ → ℕ) → InRange (states_in counts.now) w → cell_at C.ring out.new (place_of counts.now scope.now w) ≡ product_cell C.ring cells.now counts.now slots.now w }
+{
+    let mut order = [0; 257];
+    let mut axes = [Axis { states: 1, out: 0 }; 257];
+    let mut strides = [0; 65792];
+    let mut places = [0; 257];
+    multiply_in(
+        counts,
+        slots,
+        scope,
+        cells,
+        out,
+        &mut order,
+        &mut axes,
+        &mut strides,
+        &mut places,
+    );
+}
+
+/// Adds the product of the slots to a result of noughts over the scope: each cell is the product of the slots' cells.
+/// It takes no memory.
+pub fn multiply_into<C: Cell>(
+    counts: &[usize],
+    slots: &[Slot],
+    scope: &NodeSet,
+    cells: &[C],
+    out: &mut [C],
+)
+    requires few { length slots.now ≤ 256 }
+    requires can { CanMultiply C.ring cells.now counts.now slots.now scope.now out.old }
+    ensures { (w : ℕ → ℕ) → InRange (states_in counts.now) w → cell_at C.ring out.new (place_of counts.now scope.now w) ≡ product_cell C.ring cells.now counts.now slots.now w }
+{
+    let n = count_nodes(counts.len(), scope);
+    let size = (n + 1) * slots.len();
+    if n < 16 && slots.len() <= 8 && size <= 64 {
+        multiply_small(counts, slots, scope, cells, out);
+        return;
+    }
+    if size <= 1028 {
+        multiply_some(counts, slots, scope, cells, out);
+        return;
+    }
+    multiply_many(counts, slots, scope, cells, out);
+}

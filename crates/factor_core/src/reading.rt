@@ -1,0 +1,69 @@
+//! The cell of a slot at states of its nodes.
+
+ghost use Rattle.std.specs.Prelude.{◌≡◌, ◌+◌, ◌*◌, ◌^◌, ◌<◌, ◌≤◌, ℕ, IsTrue, if◌then◌else◌, slice_index, length, map, take};
+ghost use Rattle.std.specs.List.{AllZip};
+ghost use Rattle.finite_sums.specs.Sums.{World};
+ghost use Rattle.maid_model.specs.Nodes.{states_of};
+ghost use Rattle.factor_core.specs.Slots.{nodes_in, IsLive, table_of};
+ghost use Rattle.node_sets.specs.Sets.{holds};
+ghost use Rattle.factor_core.specs.Tables.{AreCounts, AreStates, Gives, size_of, place_of, listed};
+
+use crate::orders::counted;
+use crate::slots::Slot;
+use crate::states::list_states;
+use crate::walks::before;
+use cell_rings::Cell;
+use maid_model::{Diagram, MOST_NODES};
+use node_sets::NodeSet;
+
+/// The place with one state more, where the node is held.
+fn next_place(place: usize, held: bool, states: &[usize], i: usize, count: usize) -> usize
+    requires small { place < 2 ^ 32 }
+    requires count { count ≤ 256 }
+    requires state { IsTrue held → (i < length states.now) × (slice_index states.now i < count) }
+    ensures { result ≡ (if held then place * count + slice_index states.now i else place) }
+{
+    if held {
+        place * count + states[i]
+    } else {
+        place
+    }
+}
+
+/// Where the cell stands in a table of the scope at these states of its nodes.
+pub fn place_for(counts: &[usize], scope: &NodeSet, states: &[usize]) -> usize
+    requires counts { AreCounts counts.now }
+    requires fits { size_of counts.now scope.now ≤ 2 ^ 32 }
+    requires states { AreStates counts.now scope.now states.now }
+    ensures within { result < size_of counts.now scope.now }
+    ensures place { (w : ℕ → ℕ) → Gives counts.now scope.now w states.now → result ≡ place_of counts.now scope.now w }
+{
+    let mut place = 0;
+    let mut i = 0;
+    for v in 0..counts.len() {
+        let held = scope.holds(v);
+        place = next_place(place, held, states, i, counts[v]);
+        i = counted(i, held);
+    }
+    place
+}
+
+/// The slot's cell at these states of its nodes, the slot standing in the first `used` cells.
+pub fn read_cell<C: Cell>(
+    diagram: &Diagram,
+    slot: &Slot,
+    states: &[usize],
+    all: &[C],
+    used: usize,
+) -> C
+    requires used { used ≤ length all.now }
+    requires short { length all.now ≤ 4194304 }
+    requires live { IsLive diagram.now.nodes (take used all.now) slot.now }
+    requires states { AllZip (λ v s. s < states_of diagram.now.nodes v) (nodes_in diagram.now.nodes (holds slot.now.scope)) states.now }
+    ensures { (w : World) → map w (nodes_in diagram.now.nodes (holds slot.now.scope)) ≡ states.now → result ≡ (table_of C.ring diagram.now.nodes (take used all.now) slot.now).cell w }
+{
+    let mut counts = [1; MOST_NODES];
+    list_states(&mut counts, diagram);
+    let counts = before(&counts, diagram.count());
+    all[slot.start + place_for(counts, &slot.scope, states)]
+}

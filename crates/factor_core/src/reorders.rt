@@ -1,0 +1,122 @@
+//! Tables copied behind the first cells of a list: at one state of a node, and in another order of nodes.
+
+ghost use Rattle.std.specs.Prelude.{◌≡◌, ◌+◌, ◌*◌, ◌^◌, ◌<◌, ◌≤◌, ℕ, length, not, ◌&&◌, ◌==◌, ◌↔◌, Contains};
+ghost use Rattle.node_sets.specs.declared.sets.TheConstants.{MOST_NODES};
+ghost use Rattle.finite_sums.specs.Sums.{World, InRange};
+ghost use Rattle.node_sets.specs.Sets.{holds, IsIn};
+ghost use Rattle.maid_model.specs.Graph.{AllDifferent};
+ghost use Rattle.maid_model.specs.Nodes.{states_of};
+ghost use Rattle.factor_core.specs.declared.slots.Slot.{Slot};
+ghost use Rattle.factor_core.specs.Operations.{restricted};
+ghost use Rattle.factor_core.specs.Slots.{space, cells_over, part, HasCells, IsLive, table_of, Appends, AppendsTable, StaysLive};
+ghost use Rattle.factor_core.specs.Tables.{AreCounts, states_in, stride_of, size_of};
+
+use crate::copies::{Step, copy_at};
+use crate::orders::list_nodes;
+use crate::setting::set_steps;
+use crate::sizes::{stride, table_size};
+use crate::slots::{Slot, Strip};
+use crate::states::list_states;
+use crate::walks::before;
+use cell_rings::Cell;
+use maid_model::{Diagram, MOST_NODES};
+use node_sets::NodeSet;
+
+/// Where the slot's cells of that state of the node start.
+fn first_of_state(counts: &[usize], slot: &Slot, node: usize, state: usize) -> usize
+    requires counts { AreCounts counts.now }
+    requires node { node < length counts.now }
+    requires state { state < 256 }
+    requires start { slot.now.start ≤ 2 ^ 32 }
+    requires fits { size_of counts.now slot.now.scope ≤ 2 ^ 32 }
+    requires near { stride_of (states_in counts.now) (length counts.now) (holds slot.now.scope) node ≤ 2 ^ 32 }
+    ensures { result ≡ slot.now.start + state * stride_of (states_in counts.now) (length counts.now) (holds slot.now.scope) node }
+{
+    slot.start + state * stride(counts, &slot.scope, node)
+}
+
+/// The scope without the node.
+fn without(scope: &NodeSet, node: usize) -> NodeSet
+    requires { node < MOST_NODES }
+    ensures { (v : ℕ) → holds result v ≡ (holds scope.now v && not (v == node)) }
+{
+    let mut rest = *scope;
+    rest.remove(node);
+    rest
+}
+
+/// The slot's cells at one state of the node, behind the first `used` cells.
+pub fn restrict_behind<C: Cell>(
+    diagram: &Diagram,
+    slot: &Slot,
+    node: usize,
+    state: usize,
+    all: &mut [C],
+    used: usize,
+) -> Slot
+    requires used { used ≤ length all.old }
+    requires short { length all.old ≤ 4194304 }
+    requires live { IsLive diagram.now.nodes (space all.old used).cells slot.now }
+    requires hold { IsIn slot.now.scope node }
+    requires state { state < states_of diagram.now.nodes node }
+    requires room { cells_over diagram.now.nodes (restricted node state (table_of C.ring diagram.now.nodes (space all.old used).cells slot.now)).holds ≤ (space all.old used).spare }
+    ensures start { result.start ≡ used }
+    ensures len { used + result.len ≤ length all.new }
+    ensures table { AppendsTable C.ring diagram.now.nodes (space all.old used) (space all.new (used + result.len)) result (restricted node state (table_of C.ring diagram.now.nodes (space all.old used).cells slot.now)) }
+{
+    let mut counts = [1; MOST_NODES];
+    list_states(&mut counts, diagram);
+    let counts = before(&counts, diagram.count());
+    let scope = without(&slot.scope, node);
+    let len = table_size(counts, &scope);
+    let mut order = [0; MOST_NODES + 1];
+    let n = list_nodes(&mut order, counts.len(), &scope);
+    let order = before(&order, n);
+    let mut steps = [Step {
+        states: 1,
+        stride: 0,
+    }; MOST_NODES + 1];
+    set_steps(&mut steps, counts, &slot.scope, order);
+    let from = first_of_state(counts, slot, node, state);
+    copy_at(before(&steps, n), from, all, used);
+    Slot {
+        start: used,
+        len,
+        scope,
+    }
+}
+
+/// The slot's cells with the first of these nodes slowest, behind the first `used` cells.
+pub fn reorder_behind<C: Cell>(
+    diagram: &Diagram,
+    slot: &Slot,
+    nodes: &[usize],
+    all: &mut [C],
+    used: usize,
+) -> Strip
+    requires used { used ≤ length all.old }
+    requires short { length all.old ≤ 4194304 }
+    requires live { IsLive diagram.now.nodes (space all.old used).cells slot.now }
+    requires once { AllDifferent nodes.now }
+    requires scope { (v : ℕ) → Contains nodes.now v ↔ IsIn slot.now.scope v }
+    requires room { slot.now.len ≤ (space all.old used).spare }
+    ensures start { result.start ≡ used }
+    ensures len { used + result.len ≤ length all.new }
+    ensures appends { Appends (space all.old used) (space all.new (used + result.len)) result.start result.len }
+    ensures cells { HasCells C.ring diagram.now.nodes nodes.now (part (space all.new (used + result.len)).cells result.start result.len) (table_of C.ring diagram.now.nodes (space all.old used).cells slot.now) }
+    ensures stays { (s : Slot) → IsLive diagram.now.nodes (space all.old used).cells s → StaysLive C.ring diagram.now.nodes (space all.old used).cells (space all.new (used + result.len)).cells s }
+{
+    let mut counts = [1; MOST_NODES];
+    list_states(&mut counts, diagram);
+    let counts = before(&counts, diagram.count());
+    let mut steps = [Step {
+        states: 1,
+        stride: 0,
+    }; MOST_NODES + 1];
+    set_steps(&mut steps, counts, &slot.scope, nodes);
+    copy_at(before(&steps, nodes.len()), slot.start, all, used);
+    Strip {
+        start: used,
+        len: slot.len,
+    }
+}

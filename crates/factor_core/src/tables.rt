@@ -1,0 +1,122 @@
+//! First tables of nodes, behind the first cells of a list.
+
+ghost use Rattle.std.specs.Prelude.{◌≡◌, ◌+◌, ◌^◌, ◌<◌, ◌≤◌, ℕ, All, Contains, ◌++◌, [], ◌∷◌, drop, if◌then◌else◌, length, take};
+ghost use Rattle.node_sets.specs.declared.sets.TheConstants.{MOST_NODES};
+ghost use Rattle.node_sets.specs.Sets.{holds};
+ghost use Rattle.maid_model.specs.Graph.{AllDifferent};
+ghost use Rattle.maid_model.specs.Nodes.{states_of, rows_under};
+ghost use Rattle.plan_sums.specs.Plans.{has};
+ghost use Rattle.factor_core.specs.Copies.{steps_of, list_stride, list_table};
+ghost use Rattle.factor_core.specs.Slots.{space, AppendsTable};
+ghost use Rattle.factor_core.specs.Tables.{AreCounts, states_in};
+
+use crate::copies::{Step, copy_from};
+use crate::orders::list_nodes;
+use crate::sizes::table_size;
+use crate::slots::Slot;
+use crate::sources::Source;
+use crate::states::list_states;
+use crate::walks::before;
+use cell_rings::Cell;
+use maid_model::{Diagram, MOST_NODES};
+use node_sets::NodeSet;
+
+/// How many choices of states the nodes of the list have from a place on.
+fn rows_after(counts: &[usize], list: &[usize], from: usize) -> usize
+    requires counts { AreCounts counts.now }
+    requires list { All (λ v. v < length counts.now) list.now }
+    requires from { from ≤ length list.now }
+    requires fits { rows_under (states_in counts.now) list.now ≤ 2 ^ 32 }
+    ensures { result ≡ rows_under (states_in counts.now) (drop from list.now) }
+{
+    let mut rows = 1;
+    let mut i = list.len();
+    while i > from {
+        i -= 1;
+        rows *= counts[list[i]];
+    }
+    rows
+}
+
+/// How far apart the cells of neighbouring states of the node stand, in cells with the first node of the list slowest.
+fn stride_in(counts: &[usize], list: &[usize], node: usize) -> usize
+    requires counts { AreCounts counts.now }
+    requires list { All (λ v. v < length counts.now) list.now }
+    requires fits { rows_under (states_in counts.now) list.now ≤ 2 ^ 32 }
+    ensures { result ≡ list_stride (states_in counts.now) list.now node }
+{
+    for i in 0..list.len() {
+        if list[i] == node {
+            return rows_after(counts, list, i + 1);
+        }
+    }
+    0
+}
+
+/// Writes the steps of the nodes, with the strides of cells that stand with the first node of the list slowest.
+fn set_list_steps(steps: &mut [Step], counts: &[usize], list: &[usize], order: &[usize])
+    requires counts { AreCounts counts.now }
+    requires list { All (λ v. v < length counts.now) list.now }
+    requires order { All (λ v. v < length counts.now) order.now }
+    requires room { length order.now ≤ length steps.old }
+    requires fits { rows_under (states_in counts.now) list.now ≤ 2 ^ 32 }
+    ensures { take (length order.now) steps.new ≡ steps_of (states_in counts.now) (list_stride (states_in counts.now) list.now) order.now }
+{
+    for i in 0..order.len() {
+        steps[i] = Step {
+            states: counts[order[i]],
+            stride: stride_in(counts, list, order[i]),
+        };
+    }
+}
+
+/// The nodes of the list.
+fn scope_of(list: &[usize]) -> NodeSet
+    requires { (v : ℕ) → Contains list.now v → v < MOST_NODES }
+    ensures { (v : ℕ) → holds result v ≡ has list.now v }
+{
+    let mut scope = NodeSet::empty();
+    scope.insert_all(list);
+    scope
+}
+
+/// The table over the nodes of the list, behind the first `used` cells. The source has its cells with the first node of
+/// the list slowest.
+pub fn write_table<C: Cell, S: Source<C>>(
+    diagram: &Diagram,
+    list: &[usize],
+    source: &S,
+    all: &mut [C],
+    used: usize,
+) -> Slot
+    requires used { used ≤ length all.old }
+    requires short { length all.old ≤ 4194304 }
+    requires once { AllDifferent list.now }
+    requires known { (v : ℕ) → Contains list.now v → v < length diagram.now.nodes }
+    requires fit { S.is_fit source.now }
+    requires cells { length (S.cells source.now) ≡ rows_under (states_of diagram.now.nodes) list.now }
+    requires room { rows_under (states_of diagram.now.nodes) list.now ≤ (space all.old used).spare }
+    ensures start { result.start ≡ used }
+    ensures len { used + result.len ≤ length all.new }
+    ensures table { AppendsTable C.ring diagram.now.nodes (space all.old used) (space all.new (used + result.len)) result (list_table C.ring diagram.now.nodes list.now (S.cells source.now)) }
+{
+    let mut counts = [1; MOST_NODES];
+    list_states(&mut counts, diagram);
+    let counts = before(&counts, diagram.count());
+    let scope = scope_of(list);
+    let len = table_size(counts, &scope);
+    let mut order = [0; MOST_NODES + 1];
+    let n = list_nodes(&mut order, counts.len(), &scope);
+    let order = before(&order, n);
+    let mut steps = [Step {
+        states: 1,
+        stride: 0,
+    }; MOST_NODES + 1];
+    set_list_steps(&mut steps, counts, list, order);
+    copy_from(before(&steps, n), source, all, used);
+    Slot {
+        start: used,
+        len,
+        scope,
+    }
+}

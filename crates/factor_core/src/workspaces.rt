@@ -1,0 +1,175 @@
+//! Workspaces: tables one behind another in one vector of cells.
+
+ghost use Rattle.std.specs.Prelude.{◌≡◌, ◌≤◌, ◌<◌, ◌+◌, ℕ, All, length, map, IfOk, [], ◌∷◌, ◌↔◌, Contains};
+ghost use Rattle.std.specs.List.{AllZip};
+ghost use Rattle.node_sets.specs.Sets.{holds, IsIn};
+ghost use Rattle.maid_model.specs.Graph.{AllDifferent};
+ghost use Rattle.maid_model.specs.Nodes.{states_of};
+ghost use Rattle.factor_core.specs.declared.slots.Slot.{Slot};
+ghost use Rattle.maid_model.specs.Profiles.{IsProfile};
+ghost use Rattle.ring_sums.specs.Groups.{JoinFits, ProductsFit};
+ghost use Rattle.ring_sums.specs.Tables.{sum_out};
+ghost use Rattle.finite_sums.specs.Sums.{World};
+ghost use Rattle.factor_core.specs.Operations.{cells_by, first_table, product_table, restricted, NumbersFit, SumFits};
+ghost use Rattle.factor_core.specs.Slots.{nodes_in, cells_over, part, HasCells, IsLive, table_of, tables_of, Appends, AppendsTable, StaysLive};
+
+use crate::appending::{join_behind, product_behind};
+use crate::firsts::table_behind;
+use crate::reading::read_cell;
+use crate::reorders::{reorder_behind, restrict_behind};
+use crate::slots::{Slot, Strip};
+use cell_rings::Cell;
+use maid_model::{Diagram, Profile};
+use std::alloc::{AllocError, Global};
+use std::marker::Model;
+
+/// Tables one behind another in one vector of cells, for which all memory is taken when it is made.
+#[derive(Drop)]
+pub struct Workspace<C> {
+    cells: Vec<C>,
+    used: usize,
+}
+
+impl<C> Model for Workspace<C> {
+    ghost use Rattle.std.specs.Prelude.{◌≤◌, vec_len};
+    ghost use Rattle.factor_core.specs.Slots.{WorkspaceView, space};
+
+    ghost Value = { WorkspaceView C };
+
+    ghost view = { λ w. space w.cells.items w.used };
+
+    ghost invariant = { λ w. (w.used ≤ vec_len w.cells) × (vec_len w.cells ≤ 4194304) };
+}
+
+impl<C: Cell> Workspace<C> {
+    /// A workspace without a table, with room for so many cells. It takes all of its memory, and writes it once.
+    pub fn reserve(alloc: Global, cells: usize) -> Result<Workspace<C>, AllocError>
+        requires { cells ≤ 4194304 }
+        ensures { IfOk result (λ w. w ≡ record { cells = []; spare = cells }) }
+    {
+        let mut room = Vec::with_capacity(alloc, cells)?;
+        for _ in 0..cells {
+            room.push(C::zero())?;
+        }
+        Ok(Workspace {
+            cells: room,
+            used: 0,
+        })
+    }
+
+    /// Ends all tables.
+    pub fn clear(&mut self)
+        ensures { self.new ≡ record { cells = []; spare = self.old.spare + length self.old.cells } }
+    {
+        self.used = 0;
+    }
+
+    /// The first table of a node: a chance node's cells and the weights of a decision's rule by `Cell::weight`, over the
+    /// node and its parents, and a utility's cells by `Cell::value`, over its parents.
+    pub fn table(&mut self, diagram: &Diagram, profile: &Profile, node: usize) -> Slot
+        requires profile { IsProfile diagram.now.nodes profile.now }
+        requires node { node < length diagram.now.nodes }
+        requires fit { NumbersFit C.ring.most diagram.now.nodes profile.now node }
+        requires room { cells_over diagram.now.nodes (first_table (cells_by C.ring C.of_weight C.of_value) diagram.now.nodes profile.now node).holds ≤ self.old.spare }
+        ensures { AppendsTable C.ring diagram.now.nodes self.old self.new result (first_table (cells_by C.ring C.of_weight C.of_value) diagram.now.nodes profile.now node) }
+    {
+        let slot = table_behind(diagram, profile, node, self.cells.as_mut_slice(), self.used);
+        self.used += slot.len;
+        slot
+    }
+
+    /// The join of the slots with the node summed out of it: over their nodes but this one, and in each world the sum
+    /// over the node's states of the product of the slots' cells. The joined table is never stored. It goes over each of
+    /// its cells once.
+    pub fn join_out(&mut self, diagram: &Diagram, slots: &[Slot], node: usize) -> Slot
+        requires few { length slots.now ≤ 256 }
+        requires some { 0 < length slots.now }
+        requires live { All (IsLive diagram.now.nodes self.old.cells) slots.now }
+        requires hold { All (λ s. IsIn s.scope node) slots.now }
+        requires fits { JoinFits C.ring.size (states_of diagram.now.nodes) C.ring.most node (tables_of C.ring diagram.now.nodes self.old.cells slots.now) }
+        requires room { cells_over diagram.now.nodes (sum_out C.ring (states_of diagram.now.nodes) node (tables_of C.ring diagram.now.nodes self.old.cells slots.now)).holds ≤ self.old.spare }
+        ensures { AppendsTable C.ring diagram.now.nodes self.old self.new result (sum_out C.ring (states_of diagram.now.nodes) node (tables_of C.ring diagram.now.nodes self.old.cells slots.now)) }
+    {
+        let slot = join_behind(diagram, slots, node, self.cells.as_mut_slice(), self.used);
+        self.used += slot.len;
+        slot
+    }
+
+    /// The product of the slots: over their nodes, and in each world the product of their cells. Without a slot it has
+    /// the one cell `one`.
+    pub fn product(&mut self, diagram: &Diagram, slots: &[Slot]) -> Slot
+        requires few { length slots.now ≤ 256 }
+        requires live { All (IsLive diagram.now.nodes self.old.cells) slots.now }
+        requires fits { ProductsFit C.ring.size (states_of diagram.now.nodes) C.ring.most (tables_of C.ring diagram.now.nodes self.old.cells slots.now) }
+        requires room { cells_over diagram.now.nodes (product_table C.ring (tables_of C.ring diagram.now.nodes self.old.cells slots.now)).holds ≤ self.old.spare }
+        ensures { AppendsTable C.ring diagram.now.nodes self.old self.new result (product_table C.ring (tables_of C.ring diagram.now.nodes self.old.cells slots.now)) }
+    {
+        let slot = product_behind(diagram, slots, self.cells.as_mut_slice(), self.used);
+        self.used += slot.len;
+        slot
+    }
+
+    /// The slot with the node summed out of it: over its other nodes, and in each world the sum of its cells over the
+    /// node's states.
+    pub fn sum_out(&mut self, diagram: &Diagram, slot: &Slot, node: usize) -> Slot
+        requires live { IsLive diagram.now.nodes self.old.cells slot.now }
+        requires hold { IsIn slot.now.scope node }
+        requires fits { SumFits C.ring (states_of diagram.now.nodes) node (table_of C.ring diagram.now.nodes self.old.cells slot.now) }
+        requires room { cells_over diagram.now.nodes (sum_out C.ring (states_of diagram.now.nodes) node (table_of C.ring diagram.now.nodes self.old.cells slot.now ∷ [])).holds ≤ self.old.spare }
+        ensures { AppendsTable C.ring diagram.now.nodes self.old self.new result (sum_out C.ring (states_of diagram.now.nodes) node (table_of C.ring diagram.now.nodes self.old.cells slot.now ∷ [])) }
+    {
+        self.join_out(diagram, &[*slot], node)
+    }
+
+    /// The slot's cells at one state of the node, over its other nodes. It copies them.
+    pub fn restrict(&mut self, diagram: &Diagram, slot: &Slot, node: usize, state: usize) -> Slot
+        requires live { IsLive diagram.now.nodes self.old.cells slot.now }
+        requires hold { IsIn slot.now.scope node }
+        requires state { state < states_of diagram.now.nodes node }
+        requires room { cells_over diagram.now.nodes (restricted node state (table_of C.ring diagram.now.nodes self.old.cells slot.now)).holds ≤ self.old.spare }
+        ensures { AppendsTable C.ring diagram.now.nodes self.old self.new result (restricted node state (table_of C.ring diagram.now.nodes self.old.cells slot.now)) }
+    {
+        let slot = restrict_behind(
+            diagram,
+            slot,
+            node,
+            state,
+            self.cells.as_mut_slice(),
+            self.used,
+        );
+        self.used += slot.len;
+        slot
+    }
+
+    /// The slot's cells in another order: the first of these nodes, which are the slot's, slowest. It copies them.
+    pub fn reorder(&mut self, diagram: &Diagram, slot: &Slot, nodes: &[usize]) -> Strip
+        requires live { IsLive diagram.now.nodes self.old.cells slot.now }
+        requires once { AllDifferent nodes.now }
+        requires scope { (v : ℕ) → Contains nodes.now v ↔ IsIn slot.now.scope v }
+        requires room { slot.now.len ≤ self.old.spare }
+        ensures appends { Appends self.old self.new result.start result.len }
+        ensures cells { HasCells C.ring diagram.now.nodes nodes.now (part self.new.cells result.start result.len) (table_of C.ring diagram.now.nodes self.old.cells slot.now) }
+        ensures stays { (s : Slot) → IsLive diagram.now.nodes self.old.cells s → StaysLive C.ring diagram.now.nodes self.old.cells self.new.cells s }
+    {
+        let strip = reorder_behind(diagram, slot, nodes, self.cells.as_mut_slice(), self.used);
+        self.used += strip.len;
+        strip
+    }
+
+    /// The slot's cell at these states of its nodes, the lowest node first.
+    pub fn at(&self, diagram: &Diagram, slot: &Slot, states: &[usize]) -> C
+        requires live { IsLive diagram.now.nodes self.now.cells slot.now }
+        requires states { AllZip (λ v s. s < states_of diagram.now.nodes v) (nodes_in diagram.now.nodes (holds slot.now.scope)) states.now }
+        ensures { (w : World) → map w (nodes_in diagram.now.nodes (holds slot.now.scope)) ≡ states.now → result ≡ (table_of C.ring diagram.now.nodes self.now.cells slot.now).cell w }
+    {
+        read_cell(diagram, slot, states, self.cells.as_slice(), self.used)
+    }
+
+    /// The cells of the strip.
+    pub fn strip(&self, strip: &Strip) -> &[C]
+        requires { strip.now.start + strip.now.len ≤ length self.now.cells }
+        ensures { result.now ≡ part self.now.cells strip.now.start strip.now.len }
+    {
+        &self.cells[strip.start..strip.start + strip.len]
+    }
+}
