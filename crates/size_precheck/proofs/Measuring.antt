@@ -1,8 +1,7 @@
 -- The plans of a run, counted one after the other.
-use Rattle.std.proofs.Common.{◌≡◌, ◌≢◌, ◌∙◌, ◌↔◌, ℕ, zero, suc, ◌+◌, ◌<◌, ◌≤◌, ◌^◌, Bool, true, false, cond, ◌&&◌, eqb, filter, map, List, [], ◌∷◌, ◌++◌, length, take, get_or, max, refl, sym, ap, subst, inl, inr, arith, None}
+use Rattle.std.proofs.Common.{◌≡◌, ◌≢◌, ◌∙◌, ◌↔◌, ℕ, zero, suc, ◌+◌, ◌<◌, ◌≤◌, ◌^◌, Bool, true, false, cond, ◌&&◌, filter, map, List, [], ◌∷◌, ◌++◌, length, take, get_or, max, refl, sym, ap, subst, inl, inr, arith, None}
 use Rattle.std.specs.Prelude.{Contains, sum_by, flat_map}
 use Rattle.std.specs.List.{range_with_len}
-use Rattle.std.proofs.lemmas.Bool.Decides.{nat_tests}
 use Rattle.std.proofs.lemmas.List.{take_more}
 use Rattle.std.proofs.lemmas.List.Concat.{flat_map-append}
 use Rattle.std.proofs.lemmas.List.Sums.{sum_by-append}
@@ -11,11 +10,11 @@ use Rattle.maid_model.specs.declared.diagrams.Kind.{Kind}
 use Rattle.maid_model.specs.declared.diagrams.Kind.TheVariants.{Chance, Decision, Utility}
 use Rattle.maid_model.specs.Graph.{Arc, Here, Descends, IsGraph, descends}
 use Rattle.maid_model.specs.Laws.{TestsDescent}
-use Rattle.maid_model.specs.Nodes.{IsDecision, node_at, parents_of, is_utility, is_utility_of}
+use Rattle.maid_model.specs.Nodes.{IsDecision, agent_of, node_at, owners_of, parents_of, is_utility, is_utility_of}
 use Rattle.maid_model.specs.Relevance.{IsGoal}
 use Rattle.maid_model.specs.Views.{NodeView}
 use Rattle.finite_sums.proofs.Counts.{true_or_false}
-use Rattle.finite_sums.proofs.Members.{among_from_contains, contains_from_among}
+use Rattle.finite_sums.proofs.Members.{among_from_contains, any_is, contains_from_among}
 use Rattle.plan_sums.specs.Plans.{PlanView, row_plan, gain_plan, worth_plan}
 use Rattle.ring_sums.proofs.Same.{map_append}
 use Rattle.ring_sums.proofs.Each.{zip_append}
@@ -167,13 +166,13 @@ gain_planned nodes d u graph decision goal = record {
     plain_decision k = let e = decision.kind in absurd (cc)
 
 -- ---- goals as tests
-pub goal_tested : (nodes : List NodeView) (d u : ℕ) → TestsDescent → u < length nodes → (IsGoal nodes d u) ↔ ((descends nodes d u && is_utility_of nodes (node_at nodes d).owner u) ≡ true)
+pub goal_tested : (nodes : List NodeView) (d u : ℕ) → TestsDescent → u < length nodes → (IsGoal nodes d u) ↔ ((descends nodes d u && is_utility_of nodes (agent_of nodes d) u) ≡ true)
 goal_tested nodes d u tested within = (
-  (λ g. both _ _ ((tested nodes d u).1 g.below) (both _ _ (is_kind u g.kind) (same_numbers _ _ g.owner))),
+  (λ g. both _ _ ((tested nodes d u).1 g.below) (both _ _ (is_kind u g.kind) ((any_is (agent_of nodes d) (owners_of nodes u)).1 g.owner))),
   (λ e. record {
     within = within;
     kind = kind_is (node_at nodes u).kind (left _ _ (right _ _ e));
-    owner = numbers_same _ _ (right _ _ (right _ _ e));
+    owner = (any_is (agent_of nodes d) (owners_of nodes u)).0 (right _ _ (right _ _ e));
     below = (tested nodes d u).0 (left _ _ e);
   }),
 )
@@ -189,12 +188,6 @@ goal_tested nodes d u tested within = (
     both : (a b : Bool) → a ≡ true → b ≡ true → (a && b) ≡ true
     both true b e f = f
     both false b e f = e
-
-    same_numbers : (a b : ℕ) → a ≡ b → eqb a b ≡ true
-    same_numbers a b e = grind (arith, nat_tests)
-
-    numbers_same : (a b : ℕ) → eqb a b ≡ true → a ≡ b
-    numbers_same a b e = grind (arith, nat_tests)
 
     kind_is : (k : Kind) → is_utility k ≡ true → k ≡ Utility
     kind_is Chance e = absurd (cc)

@@ -5,7 +5,7 @@ use Rattle.maid_model.specs.declared.diagrams.Kind.TheVariants.{Chance, Decision
 use Rattle.maid_model.specs.Views.{NodeView, DiagramView}
 
 abbrev pub node_of : Kind → ℕ → List ℕ → List ℤ → NodeView
-node_of kind states parents cells = record { kind = kind; owner = 0; states = states; parents = parents; cells = cells }
+node_of kind states parents cells = record { kind = kind; owner = 0; more = []; states = states; parents = parents; cells = cells }
 
 -- four cells of one
 abbrev pub ones : List ℤ

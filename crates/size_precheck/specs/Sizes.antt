@@ -2,7 +2,7 @@
 use Rattle.std.specs.Prelude.{◌≡◌, ◌⊎◌, ◌↔◌, ◌<◌, Some, Contains, ℕ, ◌+◌, ◌*◌, ◌&&◌, Bool, List, [], ◌∷◌, ◌++◌, map, filter, flat_map, length, max, sum_by}
 use Rattle.std.specs.List.{AllZip}
 use Rattle.maid_model.specs.Graph.{AllDifferent, Arc, Descends, descends}
-use Rattle.maid_model.specs.Nodes.{IsDecision, node_at, numbers_of, is_utility, is_utility_of}
+use Rattle.maid_model.specs.Nodes.{IsDecision, agent_of, node_at, numbers_of, is_utility, is_utility_of}
 use Rattle.maid_model.specs.Views.{NodeView}
 use Rattle.ring_sums.specs.Tables.{joined_without, scopes_one, scopes_after}
 use Rattle.plan_sums.specs.Laws.{IsOrderOfPlan}
@@ -58,7 +58,7 @@ pub record IsMade (nodes : List NodeView) (asked : PlanView) (made : SizedPlan) 
 -- ---- a run
 -- the utilities of the decision's agent that descend from it
 abbrev pub is_goal : List NodeView → ℕ → ℕ → Bool
-is_goal nodes d u = descends nodes d u && is_utility_of nodes (node_at nodes d).owner u
+is_goal nodes d u = descends nodes d u && is_utility_of nodes (agent_of nodes d) u
 
 abbrev pub goal_list : List NodeView → ℕ → List ℕ
 goal_list nodes d = filter (λ u. is_goal nodes d u) (numbers_of nodes)

@@ -24,6 +24,7 @@ fn with_node(
     let node = Node {
         kind,
         owner: 0,
+        more: SmallVec::new(alloc),
         states,
         parents: SmallVec::from_slice(alloc, parents)?,
         cells: Vec::from_slice(alloc, cells)?,
