@@ -1,5 +1,5 @@
 -- Products and sums of small cells are small. Only the tests cite this file.
-use Rattle.std.proofs.Common.{◌≡◌, ◌∙◌, ℕ, zero, suc, ◌+◌, ◌*◌, ◌<◌, ◌≤◌, Bool, true, false, cond, List, [], ◌∷◌, take, map, length, refl, sym, ap, subst, arith, All, pos, ℤ, nat_abs, mul-le-mul, le_trans}
+use Rattle.std.proofs.Common.{◌≡◌, ◌∙◌, ℕ, zero, suc, ◌+◌, ◌*◌, ◌<◌, ◌≤◌, Bool, true, false, cond, List, [], ◌∷◌, take, map, length, refl, sym, ap, subst, arith, All, pos, ℤ, nat_abs, mul-le-mul, le_trans, Contains, ◌↔◌, inl, inr}
 use Rattle.std.specs.Prelude.{slice_index_or}
 use Rattle.finite_sums.specs.Sums.{World, InRange, with_state}
 use Rattle.finite_sums.proofs.Sums.{with_in}
@@ -14,11 +14,15 @@ use Rattle.ring_sums.specs.Groups.{sizes, ProductsFit, JoinFits}
 use Rattle.ring_sums.specs.Sums.{ring_product}
 use Rattle.ring_sums.specs.Tables.{Table, product_of, sum_out}
 use Rattle.ring_sums.proofs.Bounds.{size_product}
+use Rattle.ring_sums.proofs.Sums.{sum_cong}
+use Rattle.cell_rings.specs.RingLaws.{mass_is_ring}
+use Rattle.finite_sums.specs.Members.{Among}
+use Rattle.maid_laws.proofs.Members.{among_of, contains_of}
 use Rattle.ring_sums.proofs.Each.{Each, each_of}
 use Rattle.plan_sums.specs.Plans.{Cells}
 use Rattle.factor_core.specs.declared.slots.Slot.{Slot}
-use Rattle.factor_core.specs.Operations.{first_table, NumbersFit}
-use Rattle.factor_core.specs.Slots.{WorkspaceView, cells_over, table_of, tables_of, AppendsTable}
+use Rattle.factor_core.specs.Operations.{first_table, NumbersFit, SumFits}
+use Rattle.factor_core.specs.Slots.{WorkspaceView, IsLive, StaysLive, nodes_in, cells_over, table_of, tables_of, AppendsTable}
 use Rattle.factor_core.specs.Trials.{two_coins, IsSmall, Grows}
 
 -- no table over the two has more than four cells
@@ -114,6 +118,36 @@ module _ {C : Type 0} {r : Ring C} (laws : IsRing r) (sized : IsSize r r.size) (
       le_trans (size_sum laws sized (states_of two_coins v) (λ s. product_of r ts (with_state w v s)))
       (two_sum v k (λ s. r.size (product_of r ts (with_state w v s))) (λ s m. product_small ts l e (with_state w v s) (with_in (states_of two_coins) w v s i m)))
 
+module _ {C : Type 0} {r : Ring C} (laws : IsRing r) (sized : IsSize r r.size) (b : ℕ) (some : 1 ≤ b) where
+  pub sum_fits : (t : Table C) → Below laws sized b some t → (v : ℕ) → v < 2 → 2 * (b * b) ≤ r.most → SumFits r (states_of two_coins) v t
+  sum_fits t e v k h = record {
+    sum = λ w i.
+        let f = join_fits laws sized b some (t ∷ []) (omega arith) (e, tt) v k r.most h in
+        subst (λ z. z ≤ r.most) (sum_cong mass_ring mass_is_ring (states_of two_coins v) (λ s. r.size (t.cell (with_state w v s)) * 1) (λ s. r.size (t.cell (with_state w v s))) (λ s l. mass_is_ring.times_unit (r.size (t.cell (with_state w v s))))) (f.sum w i);
+  }
+
+-- the nodes of a scope that holds both
+pub both_nodes : (h : ℕ → Bool) → h 0 ≡ true → h 1 ≡ true → nodes_in two_coins h ≡ 0 ∷ 1 ∷ []
+both_nodes h e f = (λ i. cond (e i) (0 ∷ cond (f i) (1 ∷ []) []) (cond (f i) (1 ∷ []) []))
+
+pub two_states : (v : ℕ) → v < 2 → states_of two_coins v ≡ 2
+two_states zero l = refl
+two_states (suc zero) l = refl
+two_states (suc (suc v)) l = absurd (omega arith)
+
+pub turned_nodes : (h : ℕ → Bool) → h 0 ≡ true → h 1 ≡ true → ((v : ℕ) → h v ≡ true → v < 2) → (v : ℕ) → Contains (1 ∷ 0 ∷ []) v ↔ (h v ≡ true)
+turned_nodes h e f known v = ((λ m. there v (among_of v (1 ∷ 0 ∷ []) m)), (λ t. contains_of v (1 ∷ 0 ∷ []) (here v (known v t))))
+  where
+    there : (v : ℕ) → Among v (1 ∷ 0 ∷ []) → h v ≡ true
+    there v (inl a) = ap h a ∙ f
+    there v (inr (inl a)) = ap h a ∙ e
+    there v (inr (inr a)) = absurd a
+
+    here : (v : ℕ) → v < 2 → Among v (1 ∷ 0 ∷ [])
+    here zero l = inr (inl refl)
+    here (suc zero) l = inl refl
+    here (suc (suc v)) l = absurd (omega arith)
+
 -- the tables of small slots
 pub below_of_slots : {C : Type 0} {r : Ring C} (laws : IsRing r) (sized : IsSize r r.size) (b : ℕ) (some : 1 ≤ b) (cells : List C) (slots : List Slot) → Each (λ s. IsSmall r cells s b) slots → Each (Below laws sized b some) (tables_of r two_coins cells slots)
 below_of_slots laws sized b some cells [] e = tt
@@ -136,3 +170,8 @@ pub all_two : {X : Type 0} (P : X → Type 0) (a b : X) → P a → P b → All 
 all_two P a b h k zero d l = h
 all_two P a b h k (suc zero) d l = k
 all_two P a b h k (suc (suc i)) d l = absurd (omega arith)
+
+pub stays_small : {C : Type 0} (r : Ring C) (before after : List C) → ((s : Slot) → IsLive two_coins before s → StaysLive r two_coins before after s) → (s : Slot) (b : ℕ) → IsSmall r before s b → IsSmall r after s b
+stays_small r before after h s b m =
+    let k = h s m.live in
+    record { live = k.live; sizes = λ w i. subst (λ t. r.size (t.cell w) ≤ b) (sym k.table) (m.sizes w i) }
