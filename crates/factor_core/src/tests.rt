@@ -68,12 +68,7 @@ fn multiply<C: Cell>(work: &mut Workspace<C>, diagram: &Diagram, slots: &[Slot])
     work.product(diagram, slots)
 }
 
-fn add_up<C: Cell>(
-    work: &mut Workspace<C>,
-    diagram: &Diagram,
-    slots: &[Slot],
-    node: usize,
-) -> Slot
+fn add_up<C: Cell>(work: &mut Workspace<C>, diagram: &Diagram, slots: &[Slot], node: usize) -> Slot
     requires diagram { diagram.now ≡ coins_diagram }
     requires two { length slots.now ≤ 2 }
     requires some { 0 < length slots.now }
@@ -147,12 +142,7 @@ fn look<C: Cell>(work: &Workspace<C>, diagram: &Diagram, slot: &Slot) -> C
 }
 
 /// Compares the slot's cells with those of these weights.
-fn compare<C: Cell + PartialEq>(
-    rt: &impl Abort,
-    work: &Workspace<C>,
-    slot: &Slot,
-    weights: &[u128],
-)
+fn compare<C: Cell + PartialEq>(rt: &impl Abort, work: &Workspace<C>, slot: &Slot, weights: &[u128])
     requires within { slot.now.start + slot.now.len ≤ length work.now.cells }
     requires fits { All (λ x. 2 * x ≤ C.ring.most) weights.now }
 {

@@ -1,10 +1,10 @@
-use Rattle.std.proofs.Common.{◌≡◌, ◌<◌, ◌≤◌, sym, ap, subst}
+use Rattle.std.proofs.Common.{◌<◌, sym, ap, subst}
 use Rattle.finite_sums.specs.Sums.{with_state}
 use Rattle.finite_sums.proofs.Sums.{with_in}
 use Rattle.maid_model.specs.Nodes.{states_of}
 use Rattle.maid_model.specs.Views.{DiagramView}
 use Rattle.factor_core.specs.Operations.{restricted}
-use Rattle.factor_core.specs.Slots.{WorkspaceView, table_of, AppendsTable}
+use Rattle.factor_core.specs.Slots.{table_of, AppendsTable}
 use Rattle.factor_core.specs.Trials.{two_coins}
 use Rattle.factor_core.proofs.SmallTables.{grows_of, two_states}
 use Rattle.factor_core.proofs.tests.keep_state.Goals as goal

@@ -1,8 +1,8 @@
-use Rattle.std.proofs.Common.{◌≡◌, ◌≤◌, [], ◌∷◌, ap, subst, arith}
+use Rattle.std.proofs.Common.{[], ◌∷◌, ap, subst, arith}
 use Rattle.maid_model.specs.Nodes.{states_of}
 use Rattle.maid_model.specs.Views.{DiagramView}
 use Rattle.ring_sums.specs.Tables.{sum_out}
-use Rattle.factor_core.specs.Slots.{WorkspaceView, table_of, AppendsTable}
+use Rattle.factor_core.specs.Slots.{table_of, AppendsTable}
 use Rattle.factor_core.specs.Trials.{two_coins}
 use Rattle.factor_core.proofs.SmallTables.{grows_of, sum_small}
 use Rattle.factor_core.proofs.tests.sum_one.Goals as goal

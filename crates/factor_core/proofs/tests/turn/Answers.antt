@@ -1,8 +1,8 @@
-use Rattle.std.proofs.Common.{◌≡◌, ◌+◌, ◌<◌, ◌≤◌, ap, subst, arith}
+use Rattle.std.proofs.Common.{ap, subst, arith}
 use Rattle.maid_model.specs.Views.{DiagramView}
 use Rattle.node_sets.specs.Sets.{holds}
 use Rattle.factor_core.specs.declared.slots.Slot.{Slot}
-use Rattle.factor_core.specs.Slots.{WorkspaceView, IsLive, StaysLive}
+use Rattle.factor_core.specs.Slots.{IsLive, StaysLive}
 use Rattle.factor_core.proofs.SmallTables.{four_cells, turned_nodes, stays_small}
 use Rattle.factor_core.proofs.tests.turn.Goals as goal
 
