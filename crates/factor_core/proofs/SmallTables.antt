@@ -43,32 +43,6 @@ grows_of r before after slot t most a h = record {
       record { live = k.live; sizes = λ w i. subst (λ t. r.size (t.cell w) ≤ b) (sym k.table) (m.sizes w i) };
 }
 
--- ---- first tables
-of_two : (a b k : ℕ) → a ≤ 7 → b ≤ 7 → nat_abs (slice_index_or (pos a ∷ pos b ∷ []) k (pos 0)) ≤ 7
-of_two a b zero h j = h
-of_two a b (suc zero) h j = j
-of_two a b (suc (suc k)) h j = omega arith
-
-pub numbers_fit : (most v : ℕ) → v < 2 → 4096 ≤ most → NumbersFit most two_coins [] v
-numbers_fit most zero l h = λ i d k. two 2 3 i d (omega arith) (omega arith) k
-  where
-    two : (a b i : ℕ) (d : ℤ) → a ≤ 7 → b ≤ 7 → i < 2 → 2 * nat_abs (slice_index_or (pos a ∷ pos b ∷ []) i d) ≤ most
-    two a b zero d j k l = omega arith
-    two a b (suc zero) d j k l = omega arith
-    two a b (suc (suc i)) d j k l = absurd (omega arith)
-numbers_fit most (suc zero) l h = λ i d k. two 5 7 i d (omega arith) (omega arith) k
-  where
-    two : (a b i : ℕ) (d : ℤ) → a ≤ 7 → b ≤ 7 → i < 2 → 2 * nat_abs (slice_index_or (pos a ∷ pos b ∷ []) i d) ≤ most
-    two a b zero d j k l = omega arith
-    two a b (suc zero) d j k l = omega arith
-    two a b (suc (suc i)) d j k l = absurd (omega arith)
-numbers_fit most (suc (suc v)) l h = absurd (omega arith)
-
-pub first_sizes : {C : Type 0} (c : Cells C) → ((w : ℕ) → c.ring.size (c.weight w) ≤ w) → (v : ℕ) → v < 2 → (w : World) → c.ring.size ((first_table c two_coins [] v).cell w) ≤ 7
-first_sizes c small zero l w = le_trans (small _) (of_two 2 3 (0 * 2 + w 0) (omega arith) (omega arith))
-first_sizes c small (suc zero) l w = le_trans (small _) (of_two 5 7 (0 * 2 + w 1) (omega arith) (omega arith))
-first_sizes c small (suc (suc v)) l w = absurd (omega arith)
-
 -- ---- products and sums
 module _ {C : Type 0} {r : Ring C} (laws : IsRing r) (sized : IsSize r r.size) (b : ℕ) (some : 1 ≤ b) where
   abbrev pub Below : Table C → Type 0
@@ -117,18 +91,6 @@ module _ {C : Type 0} {r : Ring C} (laws : IsRing r) (sized : IsSize r r.size) (
       le_trans (size_sum laws sized (states_of two_coins v) (λ s. product_of r ts (with_state w v s)))
       (two_sum v k (λ s. r.size (product_of r ts (with_state w v s))) (λ s m. product_small ts l e (with_state w v s) (with_in (states_of two_coins) w v s i m)))
 
-module _ {C : Type 0} {r : Ring C} (laws : IsRing r) (sized : IsSize r r.size) (b : ℕ) (some : 1 ≤ b) where
-  pub sum_fits : (t : Table C) → Below laws sized b some t → (v : ℕ) → v < 2 → 2 * (b * b) ≤ r.most → SumFits r (states_of two_coins) v t
-  sum_fits t e v k h = record {
-    sum = λ w i.
-        let f = join_fits laws sized b some (t ∷ []) (omega arith) (e, tt) v k r.most h in
-        subst (λ z. z ≤ r.most) (sum_cong mass_ring mass_is_ring (states_of two_coins v) (λ s. r.size (t.cell (with_state w v s)) * 1) (λ s. r.size (t.cell (with_state w v s))) (λ s l. mass_is_ring.times_unit (r.size (t.cell (with_state w v s))))) (f.sum w i);
-  }
-
--- the nodes of a scope that holds both
-pub both_nodes : (h : ℕ → Bool) → h 0 ≡ true → h 1 ≡ true → nodes_in two_coins h ≡ 0 ∷ 1 ∷ []
-both_nodes h e f = (λ i. cond (e i) (0 ∷ cond (f i) (1 ∷ []) []) (cond (f i) (1 ∷ []) []))
-
 pub two_states : (v : ℕ) → v < 2 → states_of two_coins v ≡ 2
 two_states zero l = refl
 two_states (suc zero) l = refl
@@ -151,15 +113,6 @@ turned_nodes h e f known v = ((λ m. there v (among_of v (1 ∷ 0 ∷ []) m)), (
 pub below_of_slots : {C : Type 0} {r : Ring C} (laws : IsRing r) (sized : IsSize r r.size) (b : ℕ) (some : 1 ≤ b) (cells : List C) (slots : List Slot) → Each (λ s. IsSmall r cells s b) slots → Each (Below laws sized b some) (tables_of r two_coins cells slots)
 below_of_slots laws sized b some cells [] e = tt
 below_of_slots laws sized b some cells (s ∷ ss) e = (e.0.sizes, below_of_slots laws sized b some cells ss e.1)
-
--- there is no rule to give
-pub no_rules : IsProfile two_coins []
-no_rules = record { decisions = refl; rule = λ v dec. absurd (none v dec.within dec.kind) }
-  where
-    none : (v : ℕ) → v < 2 → (node_at two_coins v).kind ≡ Decision → ⊥
-    none zero l e = (let no_way : Chance ≡ Decision = e in cc)
-    none (suc zero) l e = (let no_way : Chance ≡ Decision = e in cc)
-    none (suc (suc v)) l e = omega arith
 
 -- small for one bound, small for a greater
 pub wider : {C : Type 0} (r : Ring C) (cells : List C) (s : Slot) (a b : ℕ) → a ≤ b → IsSmall r cells s a → IsSmall r cells s b
