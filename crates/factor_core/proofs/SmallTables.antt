@@ -1,24 +1,27 @@
 -- Products and sums of small cells are small. Only the tests cite this file.
-use Rattle.std.proofs.Common.{◌≡◌, ◌∙◌, ℕ, zero, suc, ◌+◌, ◌*◌, ◌<◌, ◌≤◌, Bool, true, false, cond, List, [], ◌∷◌, take, map, length, refl, sym, ap, subst, arith, All, pos, ℤ, nat_abs, mul-le-mul, le_trans}
+use Rattle.std.proofs.Common.{◌≡◌, ◌∙◌, ℕ, zero, suc, ◌+◌, ◌*◌, ◌<◌, ◌≤◌, Bool, true, false, cond, List, [], ◌∷◌, take, length, refl, sym, ap, subst, arith, All, pos, ℤ, nat_abs, mul-le-mul, le_trans, Contains, ◌↔◌, inl, inr}
 use Rattle.std.specs.Prelude.{slice_index_or}
 use Rattle.finite_sums.specs.Sums.{World, InRange, with_state}
 use Rattle.finite_sums.proofs.Sums.{with_in}
 use Rattle.node_sets.specs.Sets.{holds}
-use Rattle.maid_model.specs.Nodes.{node_at, states_of, numbers_of, rows_under}
+use Rattle.maid_model.specs.Nodes.{node_at, states_of, rows_under}
 use Rattle.maid_model.specs.declared.diagrams.Kind.TheVariants.{Chance, Decision}
 use Rattle.maid_model.specs.Profiles.{IsProfile}
 use Rattle.cell_rings.specs.Rings.{Ring, IsRing, IsSize, mass_ring}
 use Rattle.cell_rings.specs.Sums.{ring_sum}
-use Rattle.cell_rings.proofs.Adding.{size_sum, nat_sum_le}
+use Rattle.cell_rings.proofs.Adding.{size_sum}
 use Rattle.ring_sums.specs.Groups.{sizes, ProductsFit, JoinFits}
-use Rattle.ring_sums.specs.Sums.{ring_product}
 use Rattle.ring_sums.specs.Tables.{Table, product_of, sum_out}
 use Rattle.ring_sums.proofs.Bounds.{size_product}
-use Rattle.ring_sums.proofs.Each.{Each, each_of}
+use Rattle.ring_sums.proofs.Sums.{sum_cong}
+use Rattle.cell_rings.specs.RingLaws.{mass_is_ring}
+use Rattle.finite_sums.specs.Members.{Among}
+use Rattle.maid_laws.proofs.Members.{among_of, contains_of}
+use Rattle.ring_sums.proofs.Each.{Each}
 use Rattle.plan_sums.specs.Plans.{Cells}
 use Rattle.factor_core.specs.declared.slots.Slot.{Slot}
-use Rattle.factor_core.specs.Operations.{first_table, NumbersFit}
-use Rattle.factor_core.specs.Slots.{WorkspaceView, cells_over, table_of, tables_of, AppendsTable}
+use Rattle.factor_core.specs.Operations.{first_table, NumbersFit, SumFits}
+use Rattle.factor_core.specs.Slots.{WorkspaceView, IsLive, StaysLive, nodes_in, cells_over, tables_of, AppendsTable}
 use Rattle.factor_core.specs.Trials.{two_coins, IsSmall, Grows}
 
 -- no table over the two has more than four cells
@@ -39,32 +42,6 @@ grows_of r before after slot t most a h = record {
       let k = a.stays s m.live in
       record { live = k.live; sizes = λ w i. subst (λ t. r.size (t.cell w) ≤ b) (sym k.table) (m.sizes w i) };
 }
-
--- ---- first tables
-of_two : (a b k : ℕ) → a ≤ 7 → b ≤ 7 → nat_abs (slice_index_or (pos a ∷ pos b ∷ []) k (pos 0)) ≤ 7
-of_two a b zero h j = h
-of_two a b (suc zero) h j = j
-of_two a b (suc (suc k)) h j = omega arith
-
-pub numbers_fit : (most v : ℕ) → v < 2 → 4096 ≤ most → NumbersFit most two_coins [] v
-numbers_fit most zero l h = λ i d k. two 2 3 i d (omega arith) (omega arith) k
-  where
-    two : (a b i : ℕ) (d : ℤ) → a ≤ 7 → b ≤ 7 → i < 2 → 2 * nat_abs (slice_index_or (pos a ∷ pos b ∷ []) i d) ≤ most
-    two a b zero d j k l = omega arith
-    two a b (suc zero) d j k l = omega arith
-    two a b (suc (suc i)) d j k l = absurd (omega arith)
-numbers_fit most (suc zero) l h = λ i d k. two 5 7 i d (omega arith) (omega arith) k
-  where
-    two : (a b i : ℕ) (d : ℤ) → a ≤ 7 → b ≤ 7 → i < 2 → 2 * nat_abs (slice_index_or (pos a ∷ pos b ∷ []) i d) ≤ most
-    two a b zero d j k l = omega arith
-    two a b (suc zero) d j k l = omega arith
-    two a b (suc (suc i)) d j k l = absurd (omega arith)
-numbers_fit most (suc (suc v)) l h = absurd (omega arith)
-
-pub first_sizes : {C : Type 0} (c : Cells C) → ((w : ℕ) → c.ring.size (c.weight w) ≤ w) → (v : ℕ) → v < 2 → (w : World) → c.ring.size ((first_table c two_coins [] v).cell w) ≤ 7
-first_sizes c small zero l w = le_trans (small _) (of_two 2 3 (0 * 2 + w 0) (omega arith) (omega arith))
-first_sizes c small (suc zero) l w = le_trans (small _) (of_two 5 7 (0 * 2 + w 1) (omega arith) (omega arith))
-first_sizes c small (suc (suc v)) l w = absurd (omega arith)
 
 -- ---- products and sums
 module _ {C : Type 0} {r : Ring C} (laws : IsRing r) (sized : IsSize r r.size) (b : ℕ) (some : 1 ≤ b) where
@@ -114,19 +91,28 @@ module _ {C : Type 0} {r : Ring C} (laws : IsRing r) (sized : IsSize r r.size) (
       le_trans (size_sum laws sized (states_of two_coins v) (λ s. product_of r ts (with_state w v s)))
       (two_sum v k (λ s. r.size (product_of r ts (with_state w v s))) (λ s m. product_small ts l e (with_state w v s) (with_in (states_of two_coins) w v s i m)))
 
+pub two_states : (v : ℕ) → v < 2 → states_of two_coins v ≡ 2
+two_states zero l = refl
+two_states (suc zero) l = refl
+two_states (suc (suc v)) l = absurd (omega arith)
+
+pub turned_nodes : (h : ℕ → Bool) → h 0 ≡ true → h 1 ≡ true → ((v : ℕ) → h v ≡ true → v < 2) → (v : ℕ) → Contains (1 ∷ 0 ∷ []) v ↔ (h v ≡ true)
+turned_nodes h e f known v = ((λ m. there v (among_of v (1 ∷ 0 ∷ []) m)), (λ t. contains_of v (1 ∷ 0 ∷ []) (here v (known v t))))
+  where
+    there : (v : ℕ) → Among v (1 ∷ 0 ∷ []) → h v ≡ true
+    there v (inl a) = ap h a ∙ f
+    there v (inr (inl a)) = ap h a ∙ e
+    there v (inr (inr a)) = absurd a
+
+    here : (v : ℕ) → v < 2 → Among v (1 ∷ 0 ∷ [])
+    here zero l = inr (inl refl)
+    here (suc zero) l = inl refl
+    here (suc (suc v)) l = absurd (omega arith)
+
 -- the tables of small slots
 pub below_of_slots : {C : Type 0} {r : Ring C} (laws : IsRing r) (sized : IsSize r r.size) (b : ℕ) (some : 1 ≤ b) (cells : List C) (slots : List Slot) → Each (λ s. IsSmall r cells s b) slots → Each (Below laws sized b some) (tables_of r two_coins cells slots)
 below_of_slots laws sized b some cells [] e = tt
 below_of_slots laws sized b some cells (s ∷ ss) e = (e.0.sizes, below_of_slots laws sized b some cells ss e.1)
-
--- there is no rule to give
-pub no_rules : IsProfile two_coins []
-no_rules = record { decisions = refl; rule = λ v dec. absurd (none v dec.within dec.kind) }
-  where
-    none : (v : ℕ) → v < 2 → (node_at two_coins v).kind ≡ Decision → ⊥
-    none zero l e = (let no_way : Chance ≡ Decision = e in cc)
-    none (suc zero) l e = (let no_way : Chance ≡ Decision = e in cc)
-    none (suc (suc v)) l e = omega arith
 
 -- small for one bound, small for a greater
 pub wider : {C : Type 0} (r : Ring C) (cells : List C) (s : Slot) (a b : ℕ) → a ≤ b → IsSmall r cells s a → IsSmall r cells s b
@@ -136,3 +122,8 @@ pub all_two : {X : Type 0} (P : X → Type 0) (a b : X) → P a → P b → All 
 all_two P a b h k zero d l = h
 all_two P a b h k (suc zero) d l = k
 all_two P a b h k (suc (suc i)) d l = absurd (omega arith)
+
+pub stays_small : {C : Type 0} (r : Ring C) (before after : List C) → ((s : Slot) → IsLive two_coins before s → StaysLive r two_coins before after s) → (s : Slot) (b : ℕ) → IsSmall r before s b → IsSmall r after s b
+stays_small r before after h s b m =
+    let k = h s m.live in
+    record { live = k.live; sizes = λ w i. subst (λ t. r.size (t.cell w) ≤ b) (sym k.table) (m.sizes w i) }

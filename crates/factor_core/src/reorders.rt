@@ -102,6 +102,7 @@ pub fn reorder_behind<C: Cell>(
     requires room { slot.now.len ≤ (space all.old used).spare }
     ensures start { result.start ≡ used }
     ensures len { used + result.len ≤ length all.new }
+    ensures same { result.len ≡ slot.now.len }
     ensures appends { Appends (space all.old used) (space all.new (used + result.len)) result.start result.len }
     ensures cells { HasCells C.ring diagram.now.nodes nodes.now (part (space all.new (used + result.len)).cells result.start result.len) (table_of C.ring diagram.now.nodes (space all.old used).cells slot.now) }
     ensures stays { (s : Slot) → IsLive diagram.now.nodes (space all.old used).cells s → StaysLive C.ring diagram.now.nodes (space all.old used).cells (space all.new (used + result.len)).cells s }

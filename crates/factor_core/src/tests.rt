@@ -2,6 +2,7 @@
 
 ghost use Rattle.std.specs.Prelude.{◌≡◌, ◌+◌, ◌*◌, ◌<◌, ◌≤◌, ℕ, All, IfOk, length, true, [], ◌∷◌};
 ghost use Rattle.node_sets.specs.Sets.{holds, IsIn};
+ghost use Rattle.factor_core.specs.declared.slots.Slot.{Slot};
 ghost use Rattle.factor_core.specs.Scopes.{united};
 ghost use Rattle.factor_core.specs.Trials.{coins_diagram, IsSmall, Grows};
 
@@ -67,12 +68,7 @@ fn multiply<C: Cell>(work: &mut Workspace<C>, diagram: &Diagram, slots: &[Slot])
     work.product(diagram, slots)
 }
 
-fn add_up<C: Cell>(
-    work: &mut Workspace<C>,
-    diagram: &Diagram,
-    slots: &[Slot],
-    node: usize,
-) -> Slot
+fn add_up<C: Cell>(work: &mut Workspace<C>, diagram: &Diagram, slots: &[Slot], node: usize) -> Slot
     requires diagram { diagram.now ≡ coins_diagram }
     requires two { length slots.now ≤ 2 }
     requires some { 0 < length slots.now }
@@ -86,13 +82,67 @@ fn add_up<C: Cell>(
     work.join_out(diagram, slots, node)
 }
 
-/// Compares the slot's cells with those of these weights.
-fn compare<C: Cell + PartialEq>(
-    rt: &impl Abort,
-    work: &Workspace<C>,
+fn sum_one<C: Cell>(work: &mut Workspace<C>, diagram: &Diagram, slot: &Slot, node: usize) -> Slot
+    requires diagram { diagram.now ≡ coins_diagram }
+    requires small { IsSmall C.ring work.old.cells slot.now 2401 }
+    requires hold { IsIn slot.now.scope node }
+    requires node { node < 2 }
+    requires most { 16777216 ≤ C.ring.most }
+    requires room { 4 ≤ work.old.spare }
+    ensures { Grows C.ring work.old work.new result 11529602 }
+{
+    work.sum_out(diagram, slot, node)
+}
+
+fn keep_state<C: Cell>(
+    work: &mut Workspace<C>,
+    diagram: &Diagram,
     slot: &Slot,
-    weights: &[u128],
-)
+    node: usize,
+    state: usize,
+) -> Slot
+    requires diagram { diagram.now ≡ coins_diagram }
+    requires small { IsSmall C.ring work.old.cells slot.now 2401 }
+    requires hold { IsIn slot.now.scope node }
+    requires node { node < 2 }
+    requires state { state < 2 }
+    requires room { 4 ≤ work.old.spare }
+    ensures { Grows C.ring work.old work.new result 2401 }
+{
+    work.restrict(diagram, slot, node, state)
+}
+
+/// The slot's cells with the second coin slowest.
+fn turn<C: Cell>(work: &mut Workspace<C>, diagram: &Diagram, slot: &Slot) -> Slot
+    requires diagram { diagram.now ≡ coins_diagram }
+    requires small { IsSmall C.ring work.old.cells slot.now 2401 }
+    requires first { IsIn slot.now.scope 0 }
+    requires second { IsIn slot.now.scope 1 }
+    requires room { 4 ≤ work.old.spare }
+    ensures within { result.start + result.len ≤ length work.new.cells }
+    ensures spare { work.old.spare ≤ work.new.spare + 4 }
+    ensures stays { (s : Slot) (b : ℕ) → IsSmall C.ring work.old.cells s b → IsSmall C.ring work.new.cells s b }
+{
+    let strip = work.reorder(diagram, slot, &[1, 0]);
+    Slot {
+        start: strip.start,
+        len: strip.len,
+        scope: slot.scope,
+    }
+}
+
+/// The slot's cell at the second state of the first coin and the first of the second.
+fn look<C: Cell>(work: &Workspace<C>, diagram: &Diagram, slot: &Slot) -> C
+    requires diagram { diagram.now ≡ coins_diagram }
+    requires small { IsSmall C.ring work.now.cells slot.now 2401 }
+    requires first { IsIn slot.now.scope 0 }
+    requires second { IsIn slot.now.scope 1 }
+{
+    work.at(diagram, slot, &[1, 0])
+}
+
+/// Compares the slot's cells with those of these weights.
+fn compare<C: Cell + PartialEq>(rt: &impl Abort, work: &Workspace<C>, slot: &Slot, weights: &[u128])
     requires within { slot.now.start + slot.now.len ≤ length work.now.cells }
     requires fits { All (λ x. 2 * x ≤ C.ring.most) weights.now }
 {
@@ -127,6 +177,14 @@ fn rows<C: Cell + PartialEq>(
     compare(rt, &work, &summed, &[25, 35]);
     let joined = add_up(&mut work, diagram, &[left, both], 0);
     compare(rt, &work, &joined, &[65, 91]);
+    let summed = sum_one(&mut work, diagram, &both, 0);
+    compare(rt, &work, &summed, &[25, 35]);
+    let kept = keep_state(&mut work, diagram, &both, 0, 1);
+    compare(rt, &work, &kept, &[15, 21]);
+    let turned = turn(&mut work, diagram, &both);
+    compare(rt, &work, &turned, &[10, 15, 14, 21]);
+    let same = look(&work, diagram, &both) == C::weight(15);
+    assert!(rt; same);
     let none = multiply(&mut work, diagram, &[]);
     compare(rt, &work, &none, &[1]);
     Ok(())

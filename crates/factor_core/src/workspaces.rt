@@ -147,6 +147,7 @@ impl<C: Cell> Workspace<C> {
         requires once { AllDifferent nodes.now }
         requires scope { (v : ℕ) → Contains nodes.now v ↔ IsIn slot.now.scope v }
         requires room { slot.now.len ≤ self.old.spare }
+        ensures len { result.len ≡ slot.now.len }
         ensures appends { Appends self.old self.new result.start result.len }
         ensures cells { HasCells C.ring diagram.now.nodes nodes.now (part self.new.cells result.start result.len) (table_of C.ring diagram.now.nodes self.old.cells slot.now) }
         ensures stays { (s : Slot) → IsLive diagram.now.nodes self.old.cells s → StaysLive C.ring diagram.now.nodes self.old.cells self.new.cells s }

@@ -1,11 +1,11 @@
-use Rattle.std.proofs.Common.{◌≡◌, ◌∙◌, ◌+◌, ◌*◌, ◌<◌, ◌≤◌, length, map, sym, ap, subst, arith}
+use Rattle.std.proofs.Common.{◌∙◌, ◌≤◌, length, sym, ap, subst, arith}
 use Rattle.std.proofs.lemmas.List.{length-map}
 use Rattle.maid_model.specs.Nodes.{states_of}
 use Rattle.maid_model.specs.Views.{DiagramView}
 use Rattle.ring_sums.specs.Groups.{ProductsFit}
 use Rattle.ring_sums.proofs.Each.{each_of}
 use Rattle.factor_core.specs.Operations.{product_table}
-use Rattle.factor_core.specs.Slots.{WorkspaceView, table_of, tables_of, AppendsTable}
+use Rattle.factor_core.specs.Slots.{table_of, tables_of, AppendsTable}
 use Rattle.factor_core.specs.Trials.{two_coins, IsSmall}
 use Rattle.factor_core.proofs.Conditions.{united_is}
 use Rattle.factor_core.proofs.SmallTables.{grows_of, products_fit, product_small, below_of_slots}
