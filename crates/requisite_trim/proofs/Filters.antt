@@ -1,6 +1,7 @@
 -- Lists of parents that lose some.
 use Rattle.std.proofs.Common.{◌≡◌, ◌∙◌, ℕ, zero, suc, ◌+◌, ◌*◌, ◌<◌, ◌≤◌, Bool, true, false, not, cond, filter, List, [], ◌∷◌, length, get_or, refl, sym, subst, arith}
 use Rattle.std.specs.List.Retain.{RetainsInTurn}
+use Rattle.std.specs.Prelude.{Contains}
 use Rattle.std.proofs.lemmas.List.Filters.{length-filter_both}
 use Rattle.std.proofs.lemmas.Nat.{mul-le}
 use Rattle.maid_model.specs.Nodes.{rows_under}
@@ -29,6 +30,16 @@ filter_less p (x ∷ xs) (suc i) l e = at (p x) (filter_less p xs i (omega arith
     at : (b : Bool) → length (filter p xs) < length xs → length (cond b (x ∷ filter p xs) (filter p xs)) < length (x ∷ xs)
     at true h = omega arith
     at false h = omega arith
+
+-- what is left was there
+pub contains_filter : (p : ℕ → Bool) (xs : List ℕ) (x : ℕ) → Contains (filter p xs) x → Contains xs x
+contains_filter p [] x h = h
+contains_filter p (y ∷ ys) x h = at (p y) (λ m. contains_filter p ys x m) h
+  where
+    at : (b : Bool) → (Contains (filter p ys) x → Contains ys x) → Contains (cond b (y ∷ filter p ys) (filter p ys)) x → Contains (y ∷ ys) x
+    at false r m = let k = r m in let l = k.1 in (suc k.0, omega arith, k.2)
+    at true r (zero, l, e) = (zero, omega arith, e)
+    at true r (suc i, l, e) = let k = r (i, omega arith, e) in let m = k.1 in (suc k.0, omega arith, k.2)
 
 -- fewer parents, fewer rows
 pub rows_le : (count : ℕ → ℕ) → ((v : ℕ) → 0 < count v) → (p : ℕ → Bool) (us : List ℕ) → rows_under count (filter p us) ≤ rows_under count us

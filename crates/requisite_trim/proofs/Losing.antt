@@ -5,6 +5,7 @@ use Rattle.std.specs.Prelude.{Contains}
 use Rattle.std.proofs.lemmas.List.{get_or-set_same, get_or-set_other, length-set}
 use Rattle.std.proofs.lemmas.List.Sums.{sum_by-set}
 use Rattle.std.proofs.Math.Path.{fun_ext}
+use Rattle.std.proofs.Math.Seq.{map-set_same}
 use Rattle.std.proofs.Math.Decide.{ℕ_discrete}
 use Rattle.std.proofs.Math.Nat.{mul-le-mul_right}
 use Rattle.maid_model.specs.declared.diagrams.Kind.{Kind}
@@ -18,7 +19,8 @@ use Rattle.maid_model.specs.Tables.{HasChanceTables, chance_total}
 use Rattle.maid_model.specs.Views.{NodeView, DiagramView}
 use Rattle.finite_sums.specs.Sums.{sum_below, nat_sum_over}
 use Rattle.requisite_trim.specs.Steps.{without_parent}
-use Rattle.requisite_trim.proofs.Filters.{filter_le, filter_less, rows_le, sum_over_le}
+use Rattle.requisite_trim.specs.Trims.{but_parents, LosesArcs}
+use Rattle.requisite_trim.proofs.Filters.{contains_filter, filter_le, filter_less, rows_le, sum_over_le}
 
 -- how many arcs there are
 abbrev pub arcs_in : List NodeView → ℕ
@@ -142,3 +144,18 @@ module _ (nodes : List NodeView) (x d : ℕ) (k : IsDecision nodes d) where
       let lost = filter_less (λ u. not (eqb u x)) (parents_of nodes d) place l (ap not (eq-eqb (get_or (parents_of nodes d) place 0) x e)) in
       let sums = sum_by-set (λ (n : NodeView). length n.parents) nodes d (without_parent (node_at nodes d) x) no_node k.within in
       omega arith
+
+  -- all else stays
+  arc_back : (u v : ℕ) → Arc less u v → Arc nodes u v
+  arc_back u v = go (ℕ_discrete v d)
+    where
+      go : Dec (v ≡ d) → Arc less u v → Arc nodes u v
+      go (yes e) a = subst (λ w. Arc nodes u w) (sym e) (contains_filter (λ w. not (eqb w x)) (parents_of nodes d) u (subst (λ (n : NodeView). Contains n.parents u) at (subst (λ w. Arc less u w) e a)))
+      go (no n) a = subst (λ (m : NodeView). Contains m.parents u) (else v n) a
+
+  pub loses_arc : LosesArcs nodes less
+  loses_arc = record {
+    nodes = map-set_same but_parents nodes d (without_parent (node_at nodes d) x) no_node refl;
+    arcs = arc_back;
+    others = λ v n. ap (λ (m : NodeView). m.parents) (else v (λ e. n (ap (λ u. (node_at nodes u).kind) e ∙ k.kind)));
+  }

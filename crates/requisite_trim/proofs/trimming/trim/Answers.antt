@@ -2,7 +2,7 @@ use Rattle.std.proofs.Common.{◌≡◌, ◌∙◌, ℕ, List, [], ◌∷◌, �
 use Rattle.maid_model.specs.Edits.{without_arc}
 use Rattle.maid_model.specs.Views.{NodeView, DiagramView}
 use Rattle.requisite_trim.proofs.Losing.{arcs_in, arcs_fewer}
-use Rattle.requisite_trim.proofs.Trims.{Leads, leads_none, leads_more, leads_end}
+use Rattle.requisite_trim.proofs.Trims.{Leads, leads_none, leads_more, leads_end, trimmed_loses}
 use Rattle.requisite_trim.proofs.trimming.trim.Goals as goal
 
 pub looks-smaller : goal.looks-smaller
@@ -40,6 +40,7 @@ returns c =
     record {
       trimmed = trimmed;
       diagram = c.count-count-2.ensures.diagram;
+      nodes = trimmed_loses trimmed;
       agents = c.looks.invariant.agents;
       decimals = c.looks.invariant.decimals;
       optimum = λ agent owns. (c.trimmed_optimum.ensures.same before.nodes c.looks.trimmed.nodes c.looks.removed.items agent is_diagram.graph is_diagram.tables owns trimmed).5;
