@@ -4,7 +4,7 @@ use Rattle.std.specs.Prelude.{Contains}
 use Rattle.std.proofs.lemmas.Bool.{cases_eq}
 use Rattle.std.proofs.lemmas.List.{get_or_default}
 use Rattle.maid_model.specs.Views.{NodeView}
-use Rattle.maid_model.specs.Nodes.{IsDecision, parents_of}
+use Rattle.maid_model.specs.Nodes.{parents_of}
 use Rattle.maid_model.specs.Relevance.{IsRequisite}
 use Rattle.maid_model.specs.Trimming.{SeesRequisites}
 use Rattle.requisite_trim.specs.Steps.{IsFirstUnneeded}

@@ -1,5 +1,5 @@
 -- A diagram without an arc into a decision is a diagram, and has fewer arcs.
-use Rattle.std.proofs.Common.{◌≡◌, ◌≢◌, ◌∙◌, ℕ, ◌+◌, ◌*◌, ◌<◌, ◌≤◌, true, false, not, eqb, filter, List, [], ◌∷◌, length, get_or, slice_set, refl, sym, ap, subst, inl, inr, pos, nat_abs, arith, slice_index_or, All, eq-eqb}
+use Rattle.std.proofs.Common.{◌≡◌, ◌≢◌, ◌∙◌, ℕ, ◌*◌, ◌<◌, ◌≤◌, not, eqb, filter, List, ◌∷◌, length, get_or, refl, sym, ap, subst, pos, nat_abs, arith, slice_index_or, All, eq-eqb}
 use Rattle.std.specs.List.{sum_by, range_with_len}
 use Rattle.std.specs.Prelude.{Contains}
 use Rattle.std.proofs.lemmas.List.{get_or-set_same, get_or-set_other, length-set}
@@ -9,14 +9,14 @@ use Rattle.std.proofs.Math.Seq.{map-set_same}
 use Rattle.std.proofs.Math.Decide.{ℕ_discrete}
 use Rattle.std.proofs.Math.Nat.{mul-le-mul_right}
 use Rattle.maid_model.specs.declared.diagrams.Kind.{Kind}
-use Rattle.maid_model.specs.declared.diagrams.Kind.TheVariants.{Chance, Decision, Utility}
-use Rattle.maid_model.specs.declared.limits.TheConstants.{MOST_PARENTS, MOST_CELLS, MOST_RULE_CELLS}
+use Rattle.maid_model.specs.declared.diagrams.Kind.TheVariants.{Decision, Utility}
+use Rattle.maid_model.specs.declared.limits.TheConstants.{MOST_RULE_CELLS}
 use Rattle.maid_model.specs.Diagrams.{IsDiagram, HasOwners, HasValues, KeepsLimits, greatest_number}
 use Rattle.maid_model.specs.Edits.{without_arc}
 use Rattle.maid_model.specs.Graph.{Arc, IsGraph, AllDifferent}
-use Rattle.maid_model.specs.Nodes.{IsDecision, is_decision, node_at, no_node, states_of, parents_of, rows_of, rows_under, owners_of, decisions_of, numbers_of}
+use Rattle.maid_model.specs.Nodes.{IsDecision, is_decision, node_at, no_node, states_of, parents_of, rows_of, rows_under, owners_of, decisions_of}
 use Rattle.maid_model.specs.Tables.{HasChanceTables, chance_total}
-use Rattle.maid_model.specs.Views.{NodeView, DiagramView}
+use Rattle.maid_model.specs.Views.{NodeView}
 use Rattle.finite_sums.specs.Sums.{sum_below, nat_sum_over}
 use Rattle.requisite_trim.specs.Steps.{without_parent}
 use Rattle.requisite_trim.specs.Trims.{but_parents, LosesArcs}

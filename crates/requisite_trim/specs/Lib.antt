@@ -1,2 +1,3 @@
 pub mod Trims
 pub mod Steps
+pub mod Example

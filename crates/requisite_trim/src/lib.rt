@@ -5,6 +5,8 @@
 mod arcs;
 mod looks;
 mod searches;
+#[cfg(test)]
+mod tests;
 mod trimming;
 
 pub use searches::requisite;

@@ -19,7 +19,8 @@ pub struct Trimmed {
 
 /// Removes the first arc that is not requisite, in text order of decisions and then in the order of the decision's
 /// parents, and looks anew after each removal, until none is left (Lauritzen and Nilsson 2001). An arc that one look
-/// keeps may go at a later one. Where one agent owns all decisions, the trimmed diagram has the same optimum.
+/// keeps may go at a later one. Where one agent owns all decisions, the trimmed diagram has the same optimum, also where
+/// decisions rely on one another in a cycle.
 ///
 /// A look searches once for each decision, which goes over all arcs a few times: decisions times arcs for each removed
 /// arc. Each removal copies the diagram.

@@ -1,7 +1,6 @@
 use Rattle.std.proofs.Common.{◌≡◌, ◌∙◌, ap, sym, subst}
 use Rattle.maid_model.specs.Diagrams.{IsDiagram}
 use Rattle.maid_model.specs.Edits.{without_arc}
-use Rattle.maid_model.specs.Views.{NodeView}
 use Rattle.requisite_trim.proofs.Losing.{diagram_kept}
 use Rattle.requisite_trim.proofs.arcs.remove_arc.Goals as goal
 

@@ -1,6 +1,5 @@
-use Rattle.std.proofs.Common.{◌≡◌, ◌∙◌, ℕ, List, [], ◌∷◌, ◌++◌, ◌<◌, ap, sym, subst}
-use Rattle.maid_model.specs.Edits.{without_arc}
-use Rattle.maid_model.specs.Views.{NodeView, DiagramView}
+use Rattle.std.proofs.Common.{◌∙◌, ℕ, List, [], ◌∷◌, ◌++◌, ◌<◌, ap, sym, subst}
+use Rattle.maid_model.specs.Views.{DiagramView}
 use Rattle.requisite_trim.proofs.Losing.{arcs_in, arcs_fewer}
 use Rattle.requisite_trim.proofs.Trims.{Leads, leads_none, leads_more, leads_end, trimmed_loses}
 use Rattle.requisite_trim.proofs.trimming.trim.Goals as goal
