@@ -1,0 +1,3 @@
+pub mod Trims
+pub mod Steps
+pub mod Example

@@ -1,0 +1,23 @@
+-- What the steps of trimming promise one another. Only private functions cite this file.
+use Rattle.std.specs.Prelude.{◌≡◌, ◌↔◌, ℕ, ◌<◌, ◌==◌, not, filter, List, length, slice_index}
+use Rattle.maid_model.specs.Views.{NodeView}
+use Rattle.maid_model.specs.Nodes.{parents_of}
+use Rattle.maid_model.specs.Relevance.{IsRequisite}
+use Rattle.node_sets.specs.Sets.{IsIn}
+use Rattle.bayes_ball.specs.declared.marks.Marks.{Marks}
+
+-- the marks tell which nodes would be requisite parents of d
+abbrev pub TellsRequisites : List NodeView → ℕ → Marks → Type 0
+TellsRequisites nodes d marks = (x : ℕ) → x < length nodes → IsIn marks.reached x ↔ IsRequisite nodes d x
+
+-- x is the first parent of d that is not requisite
+pub record IsFirstUnneeded (nodes : List NodeView) (d x : ℕ) : Type 0 where
+  pub place : ℕ
+  pub within : place < length (parents_of nodes d)
+  pub there : slice_index (parents_of nodes d) place ≡ x
+  pub not_requisite : IsRequisite nodes d x → ⊥
+  pub earlier : (k : ℕ) → k < place → IsRequisite nodes d (slice_index (parents_of nodes d) k)
+
+-- the node without that parent
+abbrev pub without_parent : NodeView → ℕ → NodeView
+without_parent node x = record { kind = node.kind; owner = node.owner; more = node.more; states = node.states; parents = filter (λ u. not (u == x)) node.parents; cells = node.cells }

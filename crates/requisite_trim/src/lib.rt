@@ -1,0 +1,13 @@
+//! Arcs that a decision does not need (Lauritzen and Nilsson 2001): which parents of a decision are requisite, and the
+//! diagram without the arcs from those that are not.
+#![tactic(auto)]
+
+mod arcs;
+mod looks;
+mod searches;
+#[cfg(test)]
+mod tests;
+mod trimming;
+
+pub use searches::requisite;
+pub use trimming::{Trimmed, trim};

@@ -1,0 +1,100 @@
+//! Small diagrams, and the arcs that go when they are trimmed.
+
+ghost use Rattle.std.specs.Prelude.{◌≡◌, [], IfOk};
+ghost use Rattle.requisite_trim.specs.Example.{example, states_if, weights_if, values_if, agent_if};
+
+use crate::{requisite, trim};
+use maid_model::{Diagram, Kind, Node, literals_are_tested};
+use smallvec::SmallVec;
+use std::alloc::{AllocError, Global};
+use std::test::Fail;
+
+fn node(
+    alloc: Global,
+    kind: Kind,
+    owner: usize,
+    states: usize,
+    parents: &[usize],
+    cells: &[i128],
+) -> Result<Node, AllocError>
+    ensures { IfOk result (λ n. n ≡ record { kind = kind; owner = owner; more = []; states = states; parents = parents.now; cells = cells.now }) }
+{
+    Ok(Node {
+        kind,
+        owner,
+        more: SmallVec::new(alloc),
+        states,
+        parents: SmallVec::from_slice(alloc, parents)?,
+        cells: Vec::from_slice(alloc, cells)?,
+    })
+}
+
+fn states(one: bool) -> usize
+    ensures { result ≡ states_if one }
+{
+    if one { 1 } else { 2 }
+}
+
+fn weights(one: bool) -> &'static [i128]
+    ensures { result.now ≡ weights_if one }
+{
+    if one { &[1] } else { &[1, 1] }
+}
+
+fn values(forced: bool) -> &'static [i128]
+    ensures { result.now ≡ values_if forced }
+{
+    if forced { &[0, 2] } else { &[0, 3, 2, 1] }
+}
+
+fn agent(rival: bool) -> usize
+    ensures { result ≡ agent_if rival }
+{
+    if rival { 1 } else { 0 }
+}
+
+/// A chance node, two decisions that see it, the second of which sees the first too, and a utility over both.
+fn diagram(alloc: Global, sure: bool, forced: bool, rival: bool) -> Result<Diagram, AllocError>
+    ensures { IfOk result (λ d. d ≡ example sure forced rival) }
+{
+    literals_are_tested();
+    let mut nodes = Vec::new(alloc);
+    nodes.push(node(alloc, Kind::Chance, 0, states(sure), &[], weights(sure))?)?;
+    nodes.push(node(alloc, Kind::Decision, 0, 2, &[0], &[])?)?;
+    nodes.push(node(
+        alloc,
+        Kind::Decision,
+        agent(rival),
+        states(forced),
+        &[0, 1],
+        &[],
+    )?)?;
+    nodes.push(node(alloc, Kind::Utility, 0, 1, &[1, 2], values(forced))?)?;
+    Ok(Diagram::from_nodes(nodes, 2, 0))
+}
+
+// The first decision needs the chance node only as long as the second one tells of it. An arc from a node of one state
+// goes at once; an arc into a decision of one state may stay. A rival to whom nothing is worth anything needs nothing.
+#[test]
+fn trims_anew_after_each_arc(rt: HostRuntime) -> Result<(), Fail> {
+    let alloc = rt.alloc();
+    let rows: [(bool, bool, bool, &[(usize, usize)]); 4] = [
+        (false, false, false, &[(0, 2), (0, 1)]),
+        (true, false, false, &[(0, 1), (0, 2)]),
+        (false, true, false, &[(0, 1), (0, 2)]),
+        (false, false, true, &[(0, 2), (0, 1), (1, 2)]),
+    ];
+    for (sure, forced, rival, removed) in rows {
+        let whole = diagram(alloc, sure, forced, rival)?;
+        let trimmed = trim(alloc, &whole)?;
+        assert_eq!(rt; trimmed.removed.as_slice(), removed);
+        assert_eq!(rt; trimmed.diagram.count(), 4);
+        let again = trim(alloc, &trimmed.diagram)?;
+        assert!(rt; again.removed.is_empty());
+    }
+    let whole = diagram(alloc, false, false, false)?;
+    assert!(rt; requisite(&whole, 0, 1));
+    assert!(rt; !requisite(&whole, 0, 2));
+    assert!(rt; requisite(&whole, 1, 2));
+    Ok(())
+}
