@@ -82,15 +82,16 @@ fn find_fewest(waiting: &[usize], cells: &[u64]) -> usize
     requires within { All (λ v. v < length cells.now) waiting.now }
     ensures { IsFewestAt waiting.now cells.now result }
 {
-    let mut best = 0;
     let mut fewest = cells[waiting[0]];
-    for (i, v) in waiting.iter().enumerate() {
-        if cells[*v] < fewest {
-            best = i;
-            fewest = cells[*v];
+    'counts: for v in waiting {
+        fewest = fewest.min(cells[*v]);
+    }
+    'places: for (i, v) in waiting.iter().enumerate() {
+        if cells[*v] == fewest {
+            return i;
         }
     }
-    best
+    unreachable!()
 }
 
 /// Joins the tables that hold v, which waits no more, and puts the table over their joined set without v in their place.
