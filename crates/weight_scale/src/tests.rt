@@ -4,7 +4,7 @@ ghost use Rattle.std.specs.Prelude.{◌≡◌, ◌<◌, ◌%◌, ◌^◌, [], If
 ghost use Rattle.net_lexer.specs.Numerals.{is_numeral};
 
 use super::*;
-use maid_model::{Diagram, Kind, Node};
+use maid_model::{Diagram, Kind, Node, literals_are_tested};
 use smallvec::SmallVec;
 use std::alloc::{AllocError, Global};
 use std::test::Fail;
@@ -170,6 +170,7 @@ fn node(alloc: Global, kind: Kind, states: usize, cells: &[i128]) -> Result<Node
 
 #[test]
 fn bound_has_its_place(rt: HostRuntime) -> Result<(), Fail> {
+    literals_are_tested();
     let alloc = rt.alloc();
     let empty = Diagram::from_nodes(Vec::new(alloc), 1, 0);
     assert_eq!(rt; bound(&empty), BoundPlace::Within);
