@@ -1,6 +1,6 @@
 //! Small diagrams, and who relies on whom in them.
 
-ghost use Rattle.std.specs.Prelude.{◌≡◌, IfOk};
+ghost use Rattle.std.specs.Prelude.{◌≡◌, [], IfOk};
 ghost use Rattle.relevance_graph.specs.Example.{pair_diagram, seen_if as seen_in};
 
 use crate::find_relevance;

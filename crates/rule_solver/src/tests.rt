@@ -1,6 +1,6 @@
 //! A diagram solved with ample memory.
 
-ghost use Rattle.std.specs.Prelude.{◌≡◌, IfOk};
+ghost use Rattle.std.specs.Prelude.{◌≡◌, [], IfOk};
 
 use crate::solve;
 use maid_model::{Diagram, Kind, Node, Ratio, Row, literals_are_tested};
