@@ -11,8 +11,8 @@ use Rattle.maid_model.specs.Edits.{as_decision}
 use Rattle.maid_model.specs.Values.{IsOptimum, IsValueOfControl}
 use Rattle.maid_model.specs.Bounds.{bound_product}
 use Rattle.maid_laws.specs.Exchange.{IsBestInBases}
-use Rattle.part_laws.specs.Parts.{place_in, part_of, rules_in, mass_left_out}
-use Rattle.part_laws.specs.Scopes.{scope_of, scope_for, scope_product, scope_product_for, scope_bound}
+use Rattle.maid_model.specs.Parts.{place_in, part_of, rules_in, mass_left_out}
+use Rattle.maid_model.specs.Scopes.{scope_of, scope_for, scope_product, scope_product_for, scope_bound}
 use Rattle.maid_examples.specs.Samples.{decision, pay, rule, whole, reached, HasRow}
 
 -- node 0: one part rain, three parts sun

@@ -17,6 +17,8 @@ pub mod Edits
 pub mod Trimming
 pub mod Values
 pub mod Bounds
+pub mod Parts
+pub mod Scopes
 pub mod Names
 pub mod Reports
 pub mod Laws

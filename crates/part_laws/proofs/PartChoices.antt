@@ -6,7 +6,7 @@ use Rattle.maid_model.specs.Answers.{IsFraction}
 use Rattle.maid_model.specs.Gains.{gain_of, mass, gain_at, mass_at}
 use Rattle.maid_model.specs.Views.{NodeView, RuleView}
 use Rattle.finite_sums.proofs.Ints.{mul_comm, mul_assoc, mul_left_comm}
-use Rattle.part_laws.specs.Parts.{place_in, part_of, rules_in, mass_left_out}
+use Rattle.maid_model.specs.Parts.{place_in, part_of, rules_in, mass_left_out}
 use Rattle.part_laws.specs.PartLaws.{ChoicesOfParts, WorthsOfParts}
 use Rattle.maid_laws.proofs.Best.{cancel_le}
 use Rattle.part_laws.proofs.PartLaws.{gains_law, masses_law, agents_gains_law, mass_law, positive_law}

@@ -14,7 +14,7 @@ use Rattle.finite_sums.specs.Members.{Among}
 use Rattle.finite_sums.proofs.Totals.{product_over-split}
 use Rattle.finite_sums.proofs.Members.{any_is}
 use Rattle.maid_model.proofs.Weighing.{product_positive}
-use Rattle.part_laws.specs.Parts.{is_in, leads_to, with_ancestors, IsAncestral, part_of, rules_in, left_out, mass_left_out}
+use Rattle.maid_model.specs.Parts.{is_in, leads_to, with_ancestors, IsAncestral, part_of, rules_in, left_out, mass_left_out}
 use Rattle.part_laws.specs.PartLaws.{AncestorsAreClosed, PartsAreGraphs, PartsHaveTables, PartsHaveProfiles, GainsOfParts, MassesOfParts, AgentsGainsOfParts, MassOfParts, LawOfParts, LeftOutIsPositive}
 use Rattle.maid_laws.proofs.Basis.{among_filter_in}
 use Rattle.maid_laws.proofs.Booleans.{eqb_yes, eqb_same}

@@ -15,7 +15,7 @@ use Rattle.finite_sums.specs.Members.{Among}
 use Rattle.std.proofs.Math.Path.{fun_ext}
 use Rattle.maid_laws.proofs.Basis.{table_same}
 use Rattle.maid_laws.proofs.Tied.{decision_of}
-use Rattle.part_laws.specs.Parts.{is_in, place_in, renumbered, part_of}
+use Rattle.maid_model.specs.Parts.{is_in, place_in, renumbered, part_of}
 use Rattle.part_laws.specs.PartLaws.{PartsAreDiagrams, NodesOfParts, RulesOfParts, SumsReadWeights}
 use Rattle.maid_laws.proofs.Members.{among_of}
 use Rattle.part_laws.proofs.NaturalSums.{some_sum, same_sum, some_le_all, nat_sum_over-shuffled, count_ones}

@@ -12,7 +12,7 @@ use Rattle.maid_model.specs.Tables.{HasChanceTables, IsTable, row_from, row_of, 
 use Rattle.maid_model.specs.Views.{NodeView, RuleView}
 use Rattle.maid_model.proofs.Members.{decision_listed}
 use Rattle.finite_sums.specs.Members.{Among}
-use Rattle.part_laws.specs.Parts.{IsAncestral, place_in, renumbered, part_of, rule_in, rules_in}
+use Rattle.maid_model.specs.Parts.{IsAncestral, place_in, renumbered, part_of, rule_in, rules_in}
 use Rattle.maid_laws.proofs.Basis.{table_same}
 use Rattle.maid_laws.proofs.Booleans.{eqb_yes, eqb_no}
 use Rattle.maid_laws.proofs.Collapse.{Apart}

@@ -21,7 +21,7 @@ use Rattle.maid_model.proofs.Setting.{HasTables}
 use Rattle.finite_sums.proofs.Sums.{sum_over_cong, sum_over_append, sum_over_split, sum_over_mul, with_other, Ignores-mul, Ignores-add}
 use Rattle.maid_model.proofs.Tables.{row_from_other}
 use Rattle.finite_sums.proofs.Totals.{product_over-split, Ignores-product}
-use Rattle.part_laws.specs.Parts.{is_in, place_in, part_of, rules_in, left_out, mass_left_out}
+use Rattle.maid_model.specs.Parts.{is_in, place_in, part_of, rules_in, left_out, mass_left_out}
 use Rattle.maid_laws.proofs.Basis.{LooksAtParents, table_looks, product_over-cong, among_filter_in}
 use Rattle.maid_laws.proofs.Booleans.{not_both, bool_same, eqb_yes, eqb_no, eqb_same}
 use Rattle.maid_laws.proofs.Grouped.{passes_not}

@@ -7,7 +7,7 @@ use Rattle.finite_sums.specs.Sums.{World, with_state, sum_below, sum_over, sum_e
 use Rattle.finite_sums.specs.Members.{Among}
 use Rattle.finite_sums.proofs.Lists.{decide_among}
 use Rattle.finite_sums.proofs.Sums.{sum_below_cong}
-use Rattle.part_laws.specs.Parts.{place_in}
+use Rattle.maid_model.specs.Parts.{place_in}
 use Rattle.maid_laws.proofs.Booleans.{eqb_yes, eqb_no}
 use Rattle.maid_laws.proofs.Collapse.{Apart}
 use Rattle.maid_laws.proofs.Members.{not_among}

@@ -23,8 +23,8 @@ use Rattle.maid_model.proofs.Setting.{HasTables}
 use Rattle.maid_model.proofs.Summing.{abs_add}
 use Rattle.finite_sums.proofs.Sums.{sum_over_mul, with_in}
 use Rattle.finite_sums.proofs.Totals.{sum_over_totals}
-use Rattle.part_laws.specs.Parts.{leads_to, with_ancestors, place_in, part_of, rules_in}
-use Rattle.part_laws.specs.Scopes.{goals_of, utilities_for, scope_of, scope_for, scope_product, scope_product_for, chance_factor_by, greatest_of, scope_bound, scope_bound_for}
+use Rattle.maid_model.specs.Parts.{leads_to, with_ancestors, place_in, part_of, rules_in}
+use Rattle.maid_model.specs.Scopes.{goals_of, utilities_for, scope_of, scope_for, scope_product, scope_product_for, chance_factor_by, greatest_of, scope_bound, scope_bound_for}
 use Rattle.part_laws.specs.ScopeLaws.{SumsOfScopesFit, SumsOfAgentsScopesFit}
 use Rattle.maid_laws.proofs.Basis.{have_totals, among_filter_in}
 use Rattle.maid_laws.proofs.Booleans.{bool_same, eqb_yes, eqb_no}

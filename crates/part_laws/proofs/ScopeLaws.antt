@@ -9,8 +9,8 @@ use Rattle.maid_model.proofs.Descent.{path_from_test, test_from_path}
 use Rattle.finite_sums.proofs.Lists.{among_filter}
 use Rattle.finite_sums.proofs.Members.{any_is}
 use Rattle.finite_sums.specs.Members.{Among}
-use Rattle.part_laws.specs.Parts.{IsAncestral}
-use Rattle.part_laws.specs.Scopes.{goals_of, utilities_for, scope_of, scope_for, IsInScope}
+use Rattle.maid_model.specs.Parts.{IsAncestral}
+use Rattle.maid_model.specs.Scopes.{goals_of, utilities_for, scope_of, scope_for, IsInScope}
 use Rattle.part_laws.specs.ScopeLaws.{ScopesAreParts, AgentsScopesAreParts, ReliesInScope}
 use Rattle.maid_laws.proofs.Basis.{among_filter_in}
 use Rattle.maid_laws.proofs.Leads.{Leads, ends, head_down, head_up}

@@ -7,8 +7,8 @@ use Rattle.maid_model.specs.Nodes.{IsDecision, numbers_of}
 use Rattle.finite_sums.specs.Sums.{nat_product_over}
 use Rattle.finite_sums.proofs.Lists.{among_filter, decide_among}
 use Rattle.finite_sums.specs.Members.{Among}
-use Rattle.part_laws.specs.Parts.{leads_to, with_ancestors}
-use Rattle.part_laws.specs.Scopes.{scope_bound, scope_bound_for, product_before, PassesInScope, KeepsScopedBounds, FailsFirst, FailsFirstFor}
+use Rattle.maid_model.specs.Parts.{leads_to, with_ancestors}
+use Rattle.maid_model.specs.Scopes.{scope_bound, scope_bound_for, product_before, PassesInScope, KeepsScopedBounds, FailsFirst, FailsFirstFor}
 use Rattle.part_laws.specs.ScopeLaws.{FirstFailureExists, FirstPassingExists}
 use Rattle.maid_laws.proofs.Members.{contains_of}
 use Rattle.maid_laws.proofs.Rearranged.{numbered}

@@ -15,8 +15,8 @@ use Rattle.maid_model.specs.Relevance.{ReliesOn}
 use Rattle.maid_model.specs.Tables.{rule_total, chance_total}
 use Rattle.maid_model.specs.Views.{NodeView}
 use Rattle.finite_sums.specs.Members.{Among}
-use Rattle.part_laws.specs.Parts.{leads_to}
-use Rattle.part_laws.specs.Scopes.{goals_of, utilities_for, scope_product, scope_product_for, chance_factor_by, greatest_of, scope_bound, scope_bound_for}
+use Rattle.maid_model.specs.Parts.{leads_to}
+use Rattle.maid_model.specs.Scopes.{goals_of, utilities_for, scope_product, scope_product_for, chance_factor_by, greatest_of, scope_bound, scope_bound_for}
 use Rattle.part_laws.specs.ScopeLaws.{AnswersHaveUnitRules, BasesHaveSmallRules, ScopedSumsHaveRoom, ScopedBoundsAreWeaker}
 use Rattle.maid_laws.proofs.Booleans.{eqb_yes, eqb_no}
 use Rattle.part_laws.proofs.NaturalSums.{some_sum, sum_le, product_le, some_factors_le}

@@ -1,4 +1,2 @@
-pub mod Parts
-pub mod Scopes
 pub mod PartLaws
 pub mod ScopeLaws

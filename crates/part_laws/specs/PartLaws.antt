@@ -11,7 +11,7 @@ use Rattle.maid_model.specs.Profiles.{IsProfile}
 use Rattle.maid_model.specs.Gains.{gain_of, mass, gain_at, mass_at}
 use Rattle.maid_model.specs.Relevance.{IsGoal}
 use Rattle.maid_model.specs.Answers.{IsWorthAt, IsExpectedUtility}
-use Rattle.part_laws.specs.Parts.{with_ancestors, IsAncestral, place_in, renumbered, part_of, part_diagram, rules_in, mass_left_out}
+use Rattle.maid_model.specs.Parts.{with_ancestors, IsAncestral, place_in, renumbered, part_of, part_diagram, rules_in, mass_left_out}
 
 -- Nodes and all their ancestors are nodes from which a path leads to one of the list, and have with each node its parents.
 abbrev pub AncestorsAreClosed : Type 0

@@ -12,8 +12,8 @@ use Rattle.maid_model.specs.Gains.{gain_of, mass, gain_at, mass_at, base_mass, g
 use Rattle.maid_model.specs.Relevance.{IsGoal, ReliesOn}
 use Rattle.maid_model.specs.Answers.{IsBase, pure_profile}
 use Rattle.maid_model.specs.Bounds.{KeepsBound}
-use Rattle.part_laws.specs.Parts.{IsAncestral, with_ancestors}
-use Rattle.part_laws.specs.Scopes.{PassesInScope, FailsFirst, FailsFirstFor, IsInScope, scope_of, scope_for, scope_part, place_in_scope, rules_in_scope, scope_part_for, rules_in_scope_for, goals_of, utilities_for, scope_product, scope_product_for, greatest_of, scope_bound, scope_bound_for, KeepsScopedBounds}
+use Rattle.maid_model.specs.Parts.{IsAncestral, with_ancestors}
+use Rattle.maid_model.specs.Scopes.{PassesInScope, FailsFirst, FailsFirstFor, IsInScope, scope_of, scope_for, scope_part, place_in_scope, rules_in_scope, scope_part_for, rules_in_scope_for, goals_of, utilities_for, scope_product, scope_product_for, greatest_of, scope_bound, scope_bound_for, KeepsScopedBounds}
 
 -- The scope of a decision keeps with each node its parents, and is told by paths. It has the decision and all utilities of its agent that descend from it.
 abbrev pub ScopesAreParts : Type 0

@@ -11,7 +11,7 @@ use Rattle.maid_model.specs.Gains.{greatest_abs}
 use Rattle.maid_model.specs.Relevance.{IsGoal}
 use Rattle.maid_model.specs.Diagrams.{greatest_number}
 use Rattle.maid_model.specs.Bounds.{bound_factor}
-use Rattle.part_laws.specs.Parts.{with_ancestors, place_in, part_of, rules_in}
+use Rattle.maid_model.specs.Parts.{with_ancestors, place_in, part_of, rules_in}
 
 -- the utilities of d's agent that descend from d
 abbrev pub goals_of : List NodeView → ℕ → List ℕ
