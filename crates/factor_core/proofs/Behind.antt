@@ -1,6 +1,7 @@
 -- What may be written behind the first cells.
 use Rattle.std.proofs.Common.{◌≡◌, ◌∙◌, ℕ, ◌+◌, ◌^◌, ◌<◌, ◌≤◌, Bool, true, false, ◌||◌, List, [], ◌∷◌, length, sym, ap, subst, arith, All, inl, inr}
 use Rattle.std.proofs.Math.Path.{fun_ext}
+use Rattle.maid_model.specs.declared.limits.TheConstants.{MOST_PLAN_CELLS}
 use Rattle.node_sets.specs.declared.sets.NodeSet.{NodeSet}
 use Rattle.node_sets.specs.Sets.{holds, IsIn}
 use Rattle.maid_model.specs.Views.{NodeView, DiagramView}
@@ -40,10 +41,10 @@ module _ {C : Type 0} (nodes : List NodeView) (counts : List ℕ) (is : counts �
   pub ends_within : used + size_of counts scope ≤ length all
   ends_within = omega (arith, size_is_cells, room, within)
 
-  pub size_small : length all ≤ 4194304 → size_of counts scope ≤ 2 ^ 32
+  pub size_small : length all ≤ MOST_PLAN_CELLS → size_of counts scope ≤ 2 ^ 32
   size_small short = omega (arith, ends_within, short)
 
-module _ {C : Type 0} {r : Ring C} (laws : IsRing r) (sized : IsSize r r.size) (d : DiagramView) (is : IsDiagram d) (counts : List ℕ) (e : counts ≡ counts_of d.nodes) (cells : List C) (short : length cells ≤ 4194304) (slots : List Slot) (live : All (IsLive d.nodes cells) slots) where
+module _ {C : Type 0} {r : Ring C} (laws : IsRing r) (sized : IsSize r r.size) (d : DiagramView) (is : IsDiagram d) (counts : List ℕ) (e : counts ≡ counts_of d.nodes) (cells : List C) (short : length cells ≤ MOST_PLAN_CELLS) (slots : List Slot) (live : All (IsLive d.nodes cells) slots) where
   lying : All (LiesIn (counts_of d.nodes) (length cells)) slots
   lying = all_of (LiesIn (counts_of d.nodes) (length cells)) slots (each_map (IsLive d.nodes cells) (LiesIn (counts_of d.nodes) (length cells)) (λ s l. lies_in r d.nodes cells s l) slots (each_of (IsLive d.nodes cells) slots live))
 

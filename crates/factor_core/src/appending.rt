@@ -1,6 +1,7 @@
 //! Tables made behind the first cells of a list.
 
 ghost use Rattle.std.specs.Prelude.{◌≡◌, ◌+◌, ◌<◌, ◌≤◌, All, length, map};
+ghost use Rattle.maid_model.specs.declared.limits.TheConstants.{MOST_PLAN_CELLS};
 ghost use Rattle.node_sets.specs.Sets.{holds, IsIn};
 ghost use Rattle.maid_model.specs.Nodes.{states_of};
 ghost use Rattle.ring_sums.specs.Groups.{JoinFits, ProductsFit};
@@ -25,7 +26,7 @@ pub fn join_behind<C: Cell>(
     used: usize,
 ) -> Slot
     requires used { used ≤ length all.old }
-    requires short { length all.old ≤ 4194304 }
+    requires short { length all.old ≤ MOST_PLAN_CELLS }
     requires few { length slots.now ≤ 256 }
     requires some { 0 < length slots.now }
     requires live { All (IsLive diagram.now.nodes (space all.old used).cells) slots.now }
@@ -57,7 +58,7 @@ pub fn product_behind<C: Cell>(
     used: usize,
 ) -> Slot
     requires used { used ≤ length all.old }
-    requires short { length all.old ≤ 4194304 }
+    requires short { length all.old ≤ MOST_PLAN_CELLS }
     requires few { length slots.now ≤ 256 }
     requires live { All (IsLive diagram.now.nodes (space all.old used).cells) slots.now }
     requires fits { ProductsFit C.ring.size (states_of diagram.now.nodes) C.ring.most (tables_of C.ring diagram.now.nodes (space all.old used).cells slots.now) }

@@ -1,6 +1,7 @@
 //! First tables of nodes: of a chance node, of a decision's rule, and of a utility.
 
 ghost use Rattle.std.specs.Prelude.{◌≡◌, ◌+◌, ◌*◌, ◌<◌, ◌≤◌, List, All, ◌++◌, [], ◌∷◌, if◌then◌else◌, length, take, nat_abs};
+ghost use Rattle.maid_model.specs.declared.limits.TheConstants.{MOST_PLAN_CELLS};
 ghost use Rattle.maid_model.specs.declared.diagrams.Kind.{Kind};
 ghost use Rattle.maid_model.specs.Nodes.{node_at, IsDecision};
 ghost use Rattle.maid_model.specs.Profiles.{IsProfile, HasRule};
@@ -42,7 +43,7 @@ fn rule_weights(profile: &Profile, decision: usize) -> &[u128]
 /// The table of a chance node, behind the first `used` cells.
 fn chance_table<C: Cell>(diagram: &Diagram, v: usize, all: &mut [C], used: usize) -> Slot
     requires used { used ≤ length all.old }
-    requires short { length all.old ≤ 4194304 }
+    requires short { length all.old ≤ MOST_PLAN_CELLS }
     requires node { v < length diagram.now.nodes }
     requires kind { (node_at diagram.now.nodes v).kind ≡ Kind.Chance }
     requires fit { All (λ z. 2 * nat_abs z ≤ C.ring.most) (node_at diagram.now.nodes v).cells }
@@ -68,7 +69,7 @@ fn rule_table<C: Cell>(
     used: usize,
 ) -> Slot
     requires used { used ≤ length all.old }
-    requires short { length all.old ≤ 4194304 }
+    requires short { length all.old ≤ MOST_PLAN_CELLS }
     requires profile { IsProfile diagram.now.nodes profile.now }
     requires node { IsDecision diagram.now.nodes v }
     requires fit { All (λ w. 2 * w ≤ C.ring.most) (weights_of profile.now v) }
@@ -88,7 +89,7 @@ fn rule_table<C: Cell>(
 /// The table of a utility, behind the first `used` cells.
 fn value_table<C: Cell>(diagram: &Diagram, v: usize, all: &mut [C], used: usize) -> Slot
     requires used { used ≤ length all.old }
-    requires short { length all.old ≤ 4194304 }
+    requires short { length all.old ≤ MOST_PLAN_CELLS }
     requires node { v < length diagram.now.nodes }
     requires kind { (node_at diagram.now.nodes v).kind ≡ Kind.Utility }
     requires fit { All (λ z. 2 * nat_abs z ≤ C.ring.most) (node_at diagram.now.nodes v).cells }
@@ -112,7 +113,7 @@ pub fn table_behind<C: Cell>(
     used: usize,
 ) -> Slot
     requires used { used ≤ length all.old }
-    requires short { length all.old ≤ 4194304 }
+    requires short { length all.old ≤ MOST_PLAN_CELLS }
     requires profile { IsProfile diagram.now.nodes profile.now }
     requires node { v < length diagram.now.nodes }
     requires fit { NumbersFit C.ring.most diagram.now.nodes profile.now v }

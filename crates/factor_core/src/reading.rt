@@ -2,6 +2,7 @@
 
 ghost use Rattle.std.specs.Prelude.{◌≡◌, ◌+◌, ◌*◌, ◌^◌, ◌<◌, ◌≤◌, ℕ, IsTrue, if◌then◌else◌, slice_index, length, map, take};
 ghost use Rattle.std.specs.List.{AllZip};
+ghost use Rattle.maid_model.specs.declared.limits.TheConstants.{MOST_PLAN_CELLS};
 ghost use Rattle.finite_sums.specs.Sums.{World};
 ghost use Rattle.maid_model.specs.Nodes.{states_of};
 ghost use Rattle.factor_core.specs.Slots.{nodes_in, IsLive, table_of};
@@ -57,7 +58,7 @@ pub fn read_cell<C: Cell>(
     used: usize,
 ) -> C
     requires used { used ≤ length all.now }
-    requires short { length all.now ≤ 4194304 }
+    requires short { length all.now ≤ MOST_PLAN_CELLS }
     requires live { IsLive diagram.now.nodes (take used all.now) slot.now }
     requires states { AllZip (λ v s. s < states_of diagram.now.nodes v) (nodes_in diagram.now.nodes (holds slot.now.scope)) states.now }
     ensures { (w : World) → map w (nodes_in diagram.now.nodes (holds slot.now.scope)) ≡ states.now → result ≡ (table_of C.ring diagram.now.nodes (take used all.now) slot.now).cell w }

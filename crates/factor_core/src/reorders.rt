@@ -1,6 +1,7 @@
 //! Tables copied behind the first cells of a list: at one state of a node, and in another order of nodes.
 
 ghost use Rattle.std.specs.Prelude.{◌≡◌, ◌+◌, ◌*◌, ◌^◌, ◌<◌, ◌≤◌, ℕ, length, not, ◌&&◌, ◌==◌, ◌↔◌, Contains};
+ghost use Rattle.maid_model.specs.declared.limits.TheConstants.{MOST_PLAN_CELLS};
 ghost use Rattle.node_sets.specs.declared.sets.TheConstants.{MOST_NODES};
 ghost use Rattle.finite_sums.specs.Sums.{World, InRange};
 ghost use Rattle.node_sets.specs.Sets.{holds, IsIn};
@@ -55,7 +56,7 @@ pub fn restrict_behind<C: Cell>(
     used: usize,
 ) -> Slot
     requires used { used ≤ length all.old }
-    requires short { length all.old ≤ 4194304 }
+    requires short { length all.old ≤ MOST_PLAN_CELLS }
     requires live { IsLive diagram.now.nodes (space all.old used).cells slot.now }
     requires hold { IsIn slot.now.scope node }
     requires state { state < states_of diagram.now.nodes node }
@@ -95,7 +96,7 @@ pub fn reorder_behind<C: Cell>(
     used: usize,
 ) -> Strip
     requires used { used ≤ length all.old }
-    requires short { length all.old ≤ 4194304 }
+    requires short { length all.old ≤ MOST_PLAN_CELLS }
     requires live { IsLive diagram.now.nodes (space all.old used).cells slot.now }
     requires once { AllDifferent nodes.now }
     requires scope { (v : ℕ) → Contains nodes.now v ↔ IsIn slot.now.scope v }

@@ -1,6 +1,7 @@
 //! First tables of nodes, behind the first cells of a list.
 
 ghost use Rattle.std.specs.Prelude.{◌≡◌, ◌+◌, ◌^◌, ◌<◌, ◌≤◌, ℕ, All, Contains, ◌++◌, [], ◌∷◌, drop, if◌then◌else◌, length, take};
+ghost use Rattle.maid_model.specs.declared.limits.TheConstants.{MOST_PLAN_CELLS};
 ghost use Rattle.node_sets.specs.declared.sets.TheConstants.{MOST_NODES};
 ghost use Rattle.node_sets.specs.Sets.{holds};
 ghost use Rattle.maid_model.specs.Graph.{AllDifferent};
@@ -90,7 +91,7 @@ pub fn write_table<C: Cell, S: Source<C>>(
     used: usize,
 ) -> Slot
     requires used { used ≤ length all.old }
-    requires short { length all.old ≤ 4194304 }
+    requires short { length all.old ≤ MOST_PLAN_CELLS }
     requires once { AllDifferent list.now }
     requires known { (v : ℕ) → Contains list.now v → v < length diagram.now.nodes }
     requires fit { S.is_fit source.now }

@@ -2,6 +2,7 @@
 
 ghost use Rattle.std.specs.Prelude.{◌≡◌, ◌≤◌, ◌<◌, ◌+◌, ℕ, All, length, map, IfOk, [], ◌∷◌, ◌↔◌, Contains};
 ghost use Rattle.std.specs.List.{AllZip};
+ghost use Rattle.maid_model.specs.declared.limits.TheConstants.{MOST_PLAN_CELLS};
 ghost use Rattle.node_sets.specs.Sets.{holds, IsIn};
 ghost use Rattle.maid_model.specs.Graph.{AllDifferent};
 ghost use Rattle.maid_model.specs.Nodes.{states_of};
@@ -32,19 +33,20 @@ pub struct Workspace<C> {
 
 impl<C> Model for Workspace<C> {
     ghost use Rattle.std.specs.Prelude.{◌≤◌, vec_len};
+    ghost use Rattle.maid_model.specs.declared.limits.TheConstants.{MOST_PLAN_CELLS};
     ghost use Rattle.factor_core.specs.Slots.{WorkspaceView, space};
 
     ghost Value = { WorkspaceView C };
 
     ghost view = { λ w. space w.cells.items w.used };
 
-    ghost invariant = { λ w. (w.used ≤ vec_len w.cells) × (vec_len w.cells ≤ 4194304) };
+    ghost invariant = { λ w. (w.used ≤ vec_len w.cells) × (vec_len w.cells ≤ MOST_PLAN_CELLS) };
 }
 
 impl<C: Cell> Workspace<C> {
     /// A workspace without a table, with room for so many cells. It takes all of its memory, and writes it once.
     pub fn reserve(alloc: Global, cells: usize) -> Result<Workspace<C>, AllocError>
-        requires { cells ≤ 4194304 }
+        requires { cells ≤ MOST_PLAN_CELLS }
         ensures { IfOk result (λ w. w ≡ record { cells = []; spare = cells }) }
     {
         let mut room = Vec::with_capacity(alloc, cells)?;

@@ -27,5 +27,11 @@ pub const GREATEST_NUMBER: u128 = (1 << 126) - 1;
 /// The most worlds that are listed.
 pub const MOST_WORLDS: u128 = 65_536;
 
+/// The most cells that the tables of one plan of elimination have together, and so of a workspace.
+pub const MOST_PLAN_CELLS: usize = 4_194_304;
+
+/// The most work of all plans of a run.
+pub const MOST_WORK: u128 = 134_217_728;
+
 /// Counts stop here: 10^18.
 pub const COUNT_END: u128 = 1_000_000_000_000_000_000;

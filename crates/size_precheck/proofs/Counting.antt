@@ -5,7 +5,7 @@ use Rattle.node_sets.specs.declared.sets.NodeSet.{NodeSet}
 use Rattle.node_sets.specs.Sets.{holds, IsIn, IsFirstFrom}
 use Rattle.std.proofs.lemmas.List.{get_or_default}
 use Rattle.maid_model.specs.declared.limits.TheConstants.{COUNT_END}
-use Rattle.size_precheck.specs.Counts.{stopped}
+use Rattle.maid_model.specs.Bounds.{stopped}
 use Rattle.size_precheck.specs.Joints.{members_below, product_below, factor, counted_over}
 
 -- ---- counts that stop

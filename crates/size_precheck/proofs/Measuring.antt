@@ -19,7 +19,7 @@ use Rattle.plan_sums.specs.Plans.{PlanView, row_plan, gain_plan, worth_plan}
 use Rattle.ring_sums.proofs.Same.{map_append}
 use Rattle.ring_sums.proofs.Each.{zip_append}
 use Rattle.size_precheck.specs.declared.sizes.Size.{Size}
-use Rattle.size_precheck.specs.Counts.{stopped}
+use Rattle.maid_model.specs.Bounds.{stopped}
 use Rattle.size_precheck.specs.Runs.{Includes}
 use Rattle.size_precheck.specs.Sizes.{CanBePlanned, SizedPlan, IsMade, HasSize, IsSizeOfAll, greatest, is_goal}
 use Rattle.size_precheck.proofs.Counting.{stop_part, stopped_few}

@@ -14,7 +14,7 @@ use Rattle.plan_sums.specs.Laws.{IsOrderOfPlan}
 use Rattle.plan_sums.specs.Plans.{PlanView, has, eliminated_nodes}
 use Rattle.size_precheck.proofs.Putting.{has_contains}
 use Rattle.size_precheck.specs.declared.sizes.Size.{Size}
-use Rattle.size_precheck.specs.Counts.{stopped}
+use Rattle.maid_model.specs.Bounds.{stopped}
 use Rattle.size_precheck.specs.Greedy.{first_scopes, joined_cells, IsNext, IsGreedy, IsGreedyOrder}
 use Rattle.size_precheck.specs.Sizes.{plan_cells, plan_work, HasSize, IsSizeOfAll, greatest}
 

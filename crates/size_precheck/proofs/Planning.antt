@@ -14,7 +14,8 @@ use Rattle.plan_sums.specs.Plans.{Cells, PlanView, has, in_plan, plan_nodes, eli
 use Rattle.plan_sums.specs.Sizes.{IsPlan}
 use Rattle.ring_sums.proofs.Same.{map_append}
 use Rattle.ring_sums.specs.Tables.{scopes_of}
-use Rattle.size_precheck.specs.Counts.{stopped, cells_over}
+use Rattle.maid_model.specs.Bounds.{stopped}
+use Rattle.size_precheck.specs.Counts.{counted_cells}
 use Rattle.size_precheck.specs.Joints.{counted_over, AreStates, SomeOf, Each, Rising, IsListOf, family_test, parents_test}
 use Rattle.size_precheck.proofs.Counting.{stop_part, stop_later}
 use Rattle.size_precheck.proofs.Putting.{has_contains, contains_some, some_contains}
@@ -113,7 +114,7 @@ module _ (nodes : List NodeView) (plan : PlanView) (all : NodeSet) (all_are : (v
           among d (inr f) = absurd f
 
 -- ---- the last table
-pub kept_counted : (nodes : List NodeView) (states : List ℕ) (keep : List ℕ) (kept : NodeSet) → AreStates nodes states → ((v : ℕ) → IsIn kept v ↔ Contains keep v) → counted_over states (holds kept) ≡ cells_over nodes (has keep)
+pub kept_counted : (nodes : List NodeView) (states : List ℕ) (keep : List ℕ) (kept : NodeSet) → AreStates nodes states → ((v : ℕ) → IsIn kept v ↔ Contains keep v) → counted_over states (holds kept) ≡ counted_cells nodes (has keep)
 kept_counted nodes states keep kept are kept_are =
     cells_counted nodes states kept (has keep) are (λ u. same_test _ _ (λ m. (has_contains keep u).1 ((kept_are u).0 m)) (λ e. (kept_are u).1 ((has_contains keep u).0 e)))
 

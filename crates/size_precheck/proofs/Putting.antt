@@ -17,7 +17,8 @@ use Rattle.ring_sums.proofs.Same.{map_append}
 use Rattle.size_precheck.specs.declared.joints.Joint.{Joint}
 use Rattle.size_precheck.specs.declared.joints.Table.{Table}
 use Rattle.size_precheck.specs.declared.simulation.Start.{Start}
-use Rattle.size_precheck.specs.Counts.{stopped, cells_over}
+use Rattle.maid_model.specs.Bounds.{stopped}
+use Rattle.size_precheck.specs.Counts.{counted_cells}
 use Rattle.size_precheck.specs.Joints.{joint_at, counted_over, AreStates, SomeOf, Each, TagsDiffer, Tells, AreLive, tests_of, Rising, IsListOf, IsStarted, family_test, parents_test}
 use Rattle.size_precheck.proofs.Counting.{stop_part}
 use Rattle.size_precheck.proofs.Lists.{IsListTo, list_more, list_done}
@@ -132,7 +133,7 @@ pub record Put (nodes : List NodeView) (ruled waiting : NodeSet) (from : ℕ) (j
   pub own : Each (λ t. IsIn t.scope t.tag) tables
   pub tells : (y : ℕ) → IsIn waiting y → Tells tables y (joint_at joints y)
   pub live_is : live ≡ length tables
-  pub cells_are : cells ≡ stopped (sum_by (λ s. cells_over nodes s) (tests_of tables))
+  pub cells_are : cells ≡ stopped (sum_by (λ s. counted_cells nodes s) (tests_of tables))
 
 pub replicate_long : (n : ℕ) (none : Joint) → length (replicate n none) ≡ n
 replicate_long zero none = refl
@@ -159,15 +160,15 @@ put_none nodes ruled waiting joints n none is no_set no_table within = record {
 }
 
 -- a sum with one scope more
-sum_more : (nodes : List NodeView) (tables : List Table) (table : Table) (before now cells : ℕ) → before ≡ stopped (sum_by (λ s. cells_over nodes s) (tests_of tables)) → cells ≡ cells_over nodes (holds table.scope)
-    → now ≡ stopped (before + cells) → now ≡ stopped (sum_by (λ s. cells_over nodes s) (tests_of (tables ++ table ∷ [])))
+sum_more : (nodes : List NodeView) (tables : List Table) (table : Table) (before now cells : ℕ) → before ≡ stopped (sum_by (λ s. counted_cells nodes s) (tests_of tables)) → cells ≡ counted_cells nodes (holds table.scope)
+    → now ≡ stopped (before + cells) → now ≡ stopped (sum_by (λ s. counted_cells nodes s) (tests_of (tables ++ table ∷ [])))
 sum_more nodes tables table before now cells is here next =
-    let so_far = sum_by (λ s. cells_over nodes s) (tests_of tables) in
+    let so_far = sum_by (λ s. counted_cells nodes s) (tests_of tables) in
     next
     ∙ ap (λ n. stopped (n + cells)) is
     ∙ stop_part COUNT_END so_far cells
     ∙ ap (λ n. stopped (so_far + n)) here
-    ∙ ap (λ n. stopped n) (sym (sum_by_push (λ s. cells_over nodes s) (tests_of tables) (holds table.scope)) ∙ ap (λ (ss : List (ℕ → Bool)). sum_by (λ s. cells_over nodes s) ss) (sym (map_append (λ (t : Table). holds t.scope) tables (table ∷ []))))
+    ∙ ap (λ n. stopped n) (sym (sum_by_push (λ s. counted_cells nodes s) (tests_of tables) (holds table.scope)) ∙ ap (λ (ss : List (ℕ → Bool)). sum_by (λ s. counted_cells nodes s) ss) (sym (map_append (λ (t : Table). holds t.scope) tables (table ∷ []))))
 
 pub put_more : (nodes : List NodeView) (states : List ℕ) (ruled waiting : NodeSet) (from v : ℕ) (joints joints' : List Joint) (live cells now counted : ℕ) (table : Table) → AreStates nodes states
     → IsFirstFrom ruled from v → table.tag ≡ v → ((u : ℕ) → IsIn table.scope u ↔ ((u ≡ v) ⊎ Contains (parents_of nodes v) u))
@@ -231,7 +232,7 @@ module _ (nodes : List NodeView) (states : List ℕ) (ruled waiting : NodeSet) (
         tells = λ y m. subst (λ (js : List Joint). Tells h.tables y (joint_at js y)) (sym joints_are) (h.tells y m);
         scopes_are = scopes_are;
         live = live_are ∙ h.live_is ∙ sym (length_tests h.tables) ∙ ap (λ (ss : List (ℕ → Bool)). length ss) scopes_are;
-        cells = cells_are ∙ h.cells_are ∙ ap (λ (ss : List (ℕ → Bool)). stopped (sum_by (λ s. cells_over nodes s) ss)) scopes_are;
+        cells = cells_are ∙ h.cells_are ∙ ap (λ (ss : List (ℕ → Bool)). stopped (sum_by (λ s. counted_cells nodes s) ss)) scopes_are;
       }
     where
       append_none : (ss : List (ℕ → Bool)) → ss ++ [] ≡ ss
@@ -268,7 +269,7 @@ module _ (nodes : List NodeView) (states : List ℕ) (ruled waiting : NodeSet) (
         scopes_are = scopes_are;
         live = live_are ∙ ap (λ n. n + 1) h.live_is ∙ sym (length_push h.tables table) ∙ sym (length_tests all) ∙ ap (λ (ss : List (ℕ → Bool)). length ss) scopes_are;
         cells = sum_more nodes h.tables table cells start.cells counted h.cells_are (counted_is ∙ cells_counted nodes states table.scope (holds table.scope) are (λ u. refl)) cells_are
-            ∙ ap (λ (ss : List (ℕ → Bool)). stopped (sum_by (λ s. cells_over nodes s) ss)) scopes_are;
+            ∙ ap (λ (ss : List (ℕ → Bool)). stopped (sum_by (λ s. counted_cells nodes s) ss)) scopes_are;
       }
     where
       length_tests : (ts : List Table) → length (tests_of ts) ≡ length ts

@@ -12,7 +12,8 @@ use Rattle.ring_sums.specs.Tables.{joined_without, scopes_one, scopes_after}
 use Rattle.size_precheck.specs.declared.joints.Joint.{Joint}
 use Rattle.size_precheck.specs.declared.joints.Table.{Table}
 use Rattle.size_precheck.specs.declared.simulation.Made.{Made}
-use Rattle.size_precheck.specs.Counts.{stopped, cells_over}
+use Rattle.maid_model.specs.Bounds.{stopped}
+use Rattle.size_precheck.specs.Counts.{counted_cells}
 use Rattle.size_precheck.specs.Greedy.{holding, joined_set, joined_cells, IsNext}
 use Rattle.size_precheck.specs.Joints.{joint_at, AreStates, Each, Stands, IsStep, IsListOf, IsFewestAt, tests_of}
 use Rattle.size_precheck.specs.Sizes.{made_cells, steps_work}
@@ -30,15 +31,15 @@ add_assoc : (a b c : ℕ) → a + (b + c) ≡ (a + b) + c
 add_assoc a b c = omega arith
 
 pub made_push : (nodes : List NodeView) (steps : List ℕ) (v : ℕ) (scopes : List (ℕ → Bool))
-    → made_cells nodes (steps ++ v ∷ []) scopes ≡ made_cells nodes steps scopes + cells_over nodes (joined_without v (holding v (scopes_after steps scopes)))
+    → made_cells nodes (steps ++ v ∷ []) scopes ≡ made_cells nodes steps scopes + counted_cells nodes (joined_without v (holding v (scopes_after steps scopes)))
 made_push nodes [] v scopes = omega arith
 made_push nodes (x ∷ xs) v scopes =
-    ap (λ n. cells_over nodes (joined_without x (holding x scopes)) + n) (made_push nodes xs v (scopes_one x scopes))
-    ∙ add_assoc (cells_over nodes (joined_without x (holding x scopes))) (made_cells nodes xs (scopes_one x scopes)) (cells_over nodes (joined_without v (holding v (scopes_after xs (scopes_one x scopes)))))
+    ap (λ n. counted_cells nodes (joined_without x (holding x scopes)) + n) (made_push nodes xs v (scopes_one x scopes))
+    ∙ add_assoc (counted_cells nodes (joined_without x (holding x scopes))) (made_cells nodes xs (scopes_one x scopes)) (counted_cells nodes (joined_without v (holding v (scopes_after xs (scopes_one x scopes)))))
 
 -- the work of a step
 abbrev pub step_work : List NodeView → ℕ → List (ℕ → Bool) → ℕ
-step_work nodes v scopes = cells_over nodes (joined_set v scopes) * length (holding v scopes)
+step_work nodes v scopes = counted_cells nodes (joined_set v scopes) * length (holding v scopes)
 
 pub work_push : (nodes : List NodeView) (steps : List ℕ) (v : ℕ) (scopes : List (ℕ → Bool))
     → steps_work nodes (steps ++ v ∷ []) scopes ≡ steps_work nodes steps scopes + step_work nodes v (scopes_after steps scopes)
@@ -88,7 +89,7 @@ pub record At (nodes : List NodeView) (states : List ℕ) (Item Rest : ℕ → T
   pub scopes_are : tests_of tables ≡ scopes_after steps scopes
   pub each : (k : ℕ) → k < length steps → IsNext nodes Item scopes (take k steps) (slice_index steps k)
   pub live_is : live ≡ length (scopes_after steps scopes)
-  pub cells_are : cells ≡ stopped (sum_by (λ s. cells_over nodes s) scopes + made_cells nodes steps scopes)
+  pub cells_are : cells ≡ stopped (sum_by (λ s. counted_cells nodes s) scopes + made_cells nodes steps scopes)
   pub work_is : work ≡ stopped (steps_work nodes steps scopes)
 
 module _ (nodes : List NodeView) (states : List ℕ) (Item : ℕ → Type 0) (rest : NodeSet) (scopes : List (ℕ → Bool)) (steps : List ℕ)
@@ -99,7 +100,7 @@ module _ (nodes : List NodeView) (states : List ℕ) (Item : ℕ → Type 0) (re
   counted_at w m =
       now.stands.counted w m
       ∙ cells_counted nodes states (joint_at joints w).set (joined_set w (tests_of now.tables)) are (set_told now.tables w (joint_at joints w) (now.stands.tells w m))
-      ∙ ap (λ (ss : List (ℕ → Bool)). cells_over nodes (joined_set w ss)) now.scopes_are
+      ∙ ap (λ (ss : List (ℕ → Bool)). counted_cells nodes (joined_set w ss)) now.scopes_are
 
   -- the first of the waiting list with fewest cells is next
   pub is_next : (list : List ℕ) (place : ℕ) → IsListOf rest list → ((x : ℕ) → IsIn rest x ↔ Remains Item steps x) → IsFewestAt list counts place → IsIn rest (slice_index list place)
@@ -150,12 +151,12 @@ module _ (nodes : List NodeView) (states : List ℕ) (Item : ℕ → Type 0) (re
         let d : live' ≡ length (scopes_one v (scopes_after steps scopes)) = omega arith in
         d ∙ ap length (sym (scopes_push steps v scopes));
     cells_are =
-        let first = sum_by (λ s. cells_over nodes s) scopes in
+        let first = sum_by (λ s. counted_cells nodes s) scopes in
         cells_new
         ∙ ap (λ n. stopped (n + made.cells)) now.cells_are
         ∙ stop_part COUNT_END (first + made_cells nodes steps scopes) made.cells
         ∙ ap (λ n. stopped n) (sym (add_assoc first (made_cells nodes steps scopes) made.cells)
-        ∙ ap (λ n. first + (made_cells nodes steps scopes + n)) (step.cells ∙ ap (λ (ss : List (ℕ → Bool)). cells_over nodes (joined_without v (holding v ss))) now.scopes_are)
+        ∙ ap (λ n. first + (made_cells nodes steps scopes + n)) (step.cells ∙ ap (λ (ss : List (ℕ → Bool)). counted_cells nodes (joined_without v (holding v ss))) now.scopes_are)
         ∙ ap (λ n. first + n) (sym (made_push nodes steps v scopes)));
     work_is =
         work_new

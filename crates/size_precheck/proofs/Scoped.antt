@@ -15,7 +15,8 @@ use Rattle.ring_sums.specs.Tables.{joined_without, scopes_one}
 use Rattle.ring_sums.proofs.Same.{map_append, map_filter}
 use Rattle.size_precheck.specs.declared.joints.Joint.{Joint}
 use Rattle.size_precheck.specs.declared.joints.Table.{Table}
-use Rattle.size_precheck.specs.Counts.{stopped, cells_over}
+use Rattle.maid_model.specs.Bounds.{stopped}
+use Rattle.size_precheck.specs.Counts.{counted_cells}
 use Rattle.size_precheck.specs.Greedy.{holding, joined_set}
 use Rattle.size_precheck.specs.Joints.{members_below, member_count, product_below, factor, counted_over, AreStates, tests_of, SomeOf, Each, TagsDiffer, Tells, AreLive}
 use Rattle.size_precheck.proofs.Counting.{members_gap, product_gap}
@@ -169,7 +170,7 @@ pub product_listed : (f : ℕ → ℕ) (n : ℕ) → nat_product_over f (range_w
 product_listed f n = let e : nat_product_over f (range_with_len 0 n) ≡ 1 * nat_product_over f (range_with_len 0 n) = omega arith in e ∙ product_range f 0 n ∙ ap (λ n. product_below f n) (omega arith)
 
 pub cells_counted : (nodes : List NodeView) (states : List ℕ) (set : NodeSet) (scope : ℕ → Bool) → AreStates nodes states
-    → ((u : ℕ) → holds set u ≡ scope u) → counted_over states (holds set) ≡ cells_over nodes scope
+    → ((u : ℕ) → holds set u ≡ scope u) → counted_over states (holds set) ≡ counted_cells nodes scope
 unfolding counted_over
 cells_counted nodes states set scope are told =
     ap (λ n. stopped n)

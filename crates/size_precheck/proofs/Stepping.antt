@@ -7,7 +7,8 @@ use Rattle.node_sets.specs.Sets.{holds, IsIn}
 use Rattle.node_sets.specs.declared.sets.NodeSet.{NodeSet}
 use Rattle.size_precheck.specs.declared.joints.Joint.{Joint}
 use Rattle.size_precheck.specs.declared.joints.Table.{Table}
-use Rattle.size_precheck.specs.Counts.{stopped, cells_over}
+use Rattle.maid_model.specs.Bounds.{stopped}
+use Rattle.size_precheck.specs.Counts.{counted_cells}
 use Rattle.size_precheck.specs.Greedy.{holding, joined_set}
 use Rattle.size_precheck.specs.Joints.{joint_at, member_count, counted_over, AreStates, IsPut, SomeOf, Tells, Stands, IsStep, tests_of}
 use Rattle.size_precheck.proofs.Live.{after_step, step_put, step_same, step_live}
@@ -61,7 +62,7 @@ module _ (nodes : List NodeView) (states : List ℕ) (waiting : NodeSet) (v : �
     };
     scopes = step_scopes live v made (made_told live v scope scope_told);
     cells = cells_is ∙ cells_counted nodes states scope _ are (made_told live v scope scope_told);
-    work = work_is ∙ ap (λ n. stopped (n * k)) v_counted ∙ ap (λ n. stopped (cells_over nodes (joined_set v (tests_of live)) * n)) k_right;
+    work = work_is ∙ ap (λ n. stopped (n * k)) v_counted ∙ ap (λ n. stopped (counted_cells nodes (joined_set v (tests_of live)) * n)) k_right;
     joined = k_right;
   }
     where
@@ -83,5 +84,5 @@ module _ (nodes : List NodeView) (states : List ℕ) (waiting : NodeSet) (v : �
       k_right : k ≡ length (holding v (tests_of live))
       k_right = k_is ∙ tables_counted Before live v joint.tables stands.live told.tables ∙ sym (holding_counted live v)
 
-      v_counted : slice_index counts v ≡ cells_over nodes (joined_set v (tests_of live))
+      v_counted : slice_index counts v ≡ counted_cells nodes (joined_set v (tests_of live))
       v_counted = stands.counted v (inr refl) ∙ ap (λ (j : Joint). counted_over states (holds j.set)) (sym calls.joint_is) ∙ cells_counted nodes states joint.set _ are (set_told live v joint told)

@@ -5,7 +5,7 @@ use Rattle.maid_model.specs.Placing.{Remains}
 use Rattle.maid_model.specs.Views.{NodeView}
 use Rattle.ring_sums.specs.Tables.{scopes_of, scopes_after}
 use Rattle.plan_sums.specs.Plans.{PlanView, mass_cells, eliminated_nodes, first_tables}
-use Rattle.size_precheck.specs.Counts.{cells_over}
+use Rattle.size_precheck.specs.Counts.{counted_cells}
 
 -- the scopes of a plan's first tables; they are the same for every kind of cell and for all rules
 abbrev pub first_scopes : List NodeView → PlanView → List (ℕ → Bool)
@@ -21,7 +21,7 @@ joined_set v scopes u = list_any (λ s. s u) (holding v scopes)
 
 -- the cells of v's joined set after these steps
 abbrev pub joined_cells : List NodeView → List (ℕ → Bool) → List ℕ → ℕ → ℕ
-joined_cells nodes scopes steps v = cells_over nodes (joined_set v (scopes_after steps scopes))
+joined_cells nodes scopes steps v = counted_cells nodes (joined_set v (scopes_after steps scopes))
 
 -- of the items that remain after these steps v is taken next: no joined set of one that remains has fewer cells than v's, and none of one before v in text has as few
 pub record IsNext (nodes : List NodeView) (Item : ℕ → Type 0) (scopes : List (ℕ → Bool)) (steps : List ℕ) (v : ℕ) : Type 0 where

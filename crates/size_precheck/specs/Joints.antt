@@ -12,7 +12,8 @@ use Rattle.ring_sums.specs.Tables.{joined_without, scopes_one, scopes_after}
 use Rattle.size_precheck.specs.declared.simulation.Start.{Start}
 use Rattle.size_precheck.specs.declared.simulation.Made.{Made}
 use Rattle.size_precheck.specs.declared.simulation.Run.{Run}
-use Rattle.size_precheck.specs.Counts.{stopped, cells_over}
+use Rattle.maid_model.specs.Bounds.{stopped}
+use Rattle.size_precheck.specs.Counts.{counted_cells}
 use Rattle.size_precheck.specs.Greedy.{holding, joined_set, IsGreedy}
 use Rattle.size_precheck.specs.Sizes.{made_cells, steps_work}
 
@@ -96,8 +97,8 @@ pub record IsStep (nodes : List NodeView) (states : List ℕ) (Waiting : ℕ →
   pub after : List Table
   pub stands : Stands states Waiting after joints counts
   pub scopes : tests_of after ≡ scopes_one v (tests_of before)
-  pub cells : made.cells ≡ cells_over nodes (joined_without v (holding v (tests_of before)))
-  pub work : made.work ≡ stopped (cells_over nodes (joined_set v (tests_of before)) * length (holding v (tests_of before)))
+  pub cells : made.cells ≡ counted_cells nodes (joined_without v (holding v (tests_of before)))
+  pub work : made.work ≡ stopped (counted_cells nodes (joined_set v (tests_of before)) * length (holding v (tests_of before)))
   pub joined : made.tables ≡ length (holding v (tests_of before))
 
 -- before the first step: the joints are right for tables of these scopes, which are counted
@@ -108,13 +109,13 @@ pub record IsStarted (nodes : List NodeView) (states : List ℕ) (Waiting : ℕ 
   pub tells : (y : ℕ) → Waiting y → Tells tables y (joint_at start.joints.items y)
   pub scopes_are : tests_of tables ≡ scopes
   pub live : start.live ≡ length scopes
-  pub cells : start.cells ≡ stopped (sum_by (λ s. cells_over nodes s) scopes)
+  pub cells : start.cells ≡ stopped (sum_by (λ s. counted_cells nodes s) scopes)
 
 -- after the last step: the steps are greedy, and what they made is counted
 pub record IsRun (nodes : List NodeView) (Item : ℕ → Type 0) (scopes : List (ℕ → Bool)) (run : Run) : Type 0 where
   pub greedy : IsGreedy nodes Item scopes run.steps.items
   pub live : run.live ≡ length (scopes_after run.steps.items scopes)
-  pub cells : run.cells ≡ stopped (sum_by (λ s. cells_over nodes s) scopes + made_cells nodes run.steps.items scopes)
+  pub cells : run.cells ≡ stopped (sum_by (λ s. counted_cells nodes s) scopes + made_cells nodes run.steps.items scopes)
   pub work : run.work ≡ stopped (steps_work nodes run.steps.items scopes)
 
 -- ---- lists of what waits

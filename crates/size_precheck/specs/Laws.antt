@@ -5,7 +5,7 @@ use Rattle.ring_sums.specs.Tables.{scopes_of}
 use Rattle.plan_sums.specs.Laws.{IsOrderOfPlan}
 use Rattle.plan_sums.specs.Plans.{Cells, PlanView, first_tables}
 use Rattle.size_precheck.specs.declared.sizes.Size.{Size}
-use Rattle.size_precheck.specs.Counts.{stopped}
+use Rattle.maid_model.specs.Bounds.{stopped}
 use Rattle.size_precheck.specs.Greedy.{first_scopes, IsGreedyOrder}
 use Rattle.size_precheck.specs.Sizes.{IsSizeOfAll}
 

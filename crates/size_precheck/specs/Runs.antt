@@ -4,7 +4,7 @@ use Rattle.std.specs.List.{AllZip}
 use Rattle.maid_model.specs.Views.{NodeView}
 use Rattle.plan_sums.specs.Plans.{PlanView}
 use Rattle.size_precheck.specs.declared.sizes.Size.{Size}
-use Rattle.size_precheck.specs.Counts.{stopped}
+use Rattle.maid_model.specs.Bounds.{stopped}
 use Rattle.size_precheck.specs.Sizes.{HasSize, greatest}
 
 -- the size after these plans are counted with those before

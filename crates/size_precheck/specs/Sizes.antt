@@ -9,30 +9,31 @@ use Rattle.plan_sums.specs.Laws.{IsOrderOfPlan}
 use Rattle.plan_sums.specs.Plans.{PlanView, has, row_plan, gain_plan, worth_plan}
 use Rattle.plan_sums.specs.Sizes.{IsPlan}
 use Rattle.size_precheck.specs.declared.sizes.Size.{Size}
-use Rattle.size_precheck.specs.Counts.{stopped, cells_over}
+use Rattle.maid_model.specs.Bounds.{stopped}
+use Rattle.size_precheck.specs.Counts.{counted_cells}
 use Rattle.size_precheck.specs.Greedy.{first_scopes, holding, joined_set, IsGreedyOrder}
 
 -- the cells of the tables that the steps make: each time those of the joined set without the node
 abbrev pub made_cells : List NodeView → List ℕ → List (ℕ → Bool) → ℕ
 made_cells nodes [] scopes = 0
-made_cells nodes (v ∷ vs) scopes = cells_over nodes (joined_without v (holding v scopes)) + made_cells nodes vs (scopes_one v scopes)
+made_cells nodes (v ∷ vs) scopes = counted_cells nodes (joined_without v (holding v scopes)) + made_cells nodes vs (scopes_one v scopes)
 
 -- the work of the steps: each time the cells of the joined set times the number of tables joined
 abbrev pub steps_work : List NodeView → List ℕ → List (ℕ → Bool) → ℕ
 steps_work nodes [] scopes = 0
-steps_work nodes (v ∷ vs) scopes = cells_over nodes (joined_set v scopes) * length (holding v scopes) + steps_work nodes vs (scopes_one v scopes)
+steps_work nodes (v ∷ vs) scopes = counted_cells nodes (joined_set v scopes) * length (holding v scopes) + steps_work nodes vs (scopes_one v scopes)
 
 -- the cells of a plan with these steps: of all first tables, of each table that a step makes, and of the last table over the kept nodes
 abbrev pub plan_cells : List NodeView → PlanView → List ℕ → ℕ
 plan_cells nodes plan steps =
     let scopes = first_scopes nodes plan in
-    stopped (sum_by (λ s. cells_over nodes s) scopes + made_cells nodes steps scopes + cells_over nodes (has plan.keep))
+    stopped (sum_by (λ s. counted_cells nodes s) scopes + made_cells nodes steps scopes + counted_cells nodes (has plan.keep))
 
 -- the work of a plan with these steps: that of the steps, and at the end the cells of the kept nodes times the number of live tables
 abbrev pub plan_work : List NodeView → PlanView → List ℕ → ℕ
 plan_work nodes plan steps =
     let scopes = first_scopes nodes plan in
-    stopped (steps_work nodes steps scopes + cells_over nodes (has plan.keep) * length (scopes_after steps scopes))
+    stopped (steps_work nodes steps scopes + counted_cells nodes (has plan.keep) * length (scopes_after steps scopes))
 
 -- a plan that may be asked for: different chance or decision nodes are kept, the utility is one, and the rule that is left out is that of a kept decision from which a path of arcs leads to the utility or to another kept node
 pub record CanBePlanned (nodes : List NodeView) (plan : PlanView) : Type 0 where

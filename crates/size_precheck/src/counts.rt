@@ -4,7 +4,7 @@ ghost use Rattle.std.specs.Prelude.{◌≡◌, ◌+◌, ◌*◌, ◌≤◌, leng
 ghost use Rattle.maid_model.specs.declared.limits.TheConstants.{COUNT_END};
 ghost use Rattle.node_sets.specs.declared.sets.TheConstants.{MOST_NODES};
 ghost use Rattle.node_sets.specs.Sets.{holds};
-ghost use Rattle.size_precheck.specs.Counts.{stopped};
+ghost use Rattle.maid_model.specs.Bounds.{stopped};
 ghost use Rattle.size_precheck.specs.Joints.{member_count, counted_over};
 
 use maid_model::COUNT_END;

@@ -7,7 +7,7 @@ ghost use Rattle.maid_model.specs.Nodes.{IsDecision, node_at, parents_of, is_uti
 ghost use Rattle.maid_model.specs.Relevance.{IsGoal};
 ghost use Rattle.node_sets.specs.Sets.{IsIn};
 ghost use Rattle.plan_sums.specs.Plans.{row_plan, gain_plan, worth_plan};
-ghost use Rattle.size_precheck.specs.Counts.{stopped};
+ghost use Rattle.maid_model.specs.Bounds.{stopped};
 ghost use Rattle.size_precheck.specs.Runs.{Includes};
 ghost use Rattle.size_precheck.specs.Sizes.{CanBePlanned, ListsDecisions, IsSizeOfRun, is_goal, goal_list, utility_list};
 

@@ -1,6 +1,7 @@
 -- The scope and the length are those of the joined table, so there is room for it, and what the join writes are its cells.
 use Rattle.std.proofs.Common.{rules, ◌≡◌, ◌∙◌, ◌+◌, ◌≤◌, ℕ, Bool, true, false, cond, ◌==◌, List, length, take, sym, ap, subst, arith, inl, inr}
 use Rattle.std.proofs.lemmas.List.{length-take-le}
+use Rattle.maid_model.specs.declared.limits.TheConstants.{MOST_PLAN_CELLS}
 use Rattle.finite_sums.specs.Sums.{World, InRange}
 use Rattle.maid_model.specs.Nodes.{states_of, counts_of}
 use Rattle.node_sets.specs.Sets.{holds, IsIn}
@@ -62,7 +63,7 @@ join_at-requires-clause-can g c =
     let cells = take c.args.used c.args.all.now in
     let slots = c.args.slots.now in
     let inside = node_known d.nodes cells slots c.args.node c.requires.some (each_of (IsLive d.nodes cells) slots c.requires.live) (each_of (λ s. IsIn s.scope c.args.node) slots c.requires.hold) in
-    let short : length cells ≤ 4194304 = omega (arith, length-take-le c.args.used c.args.all.now c.requires.used, c.requires.used, c.requires.short) in
+    let short : length cells ≤ MOST_PLAN_CELLS = omega (arith, length-take-le c.args.used c.args.all.now c.requires.used, c.requires.used, c.requires.short) in
     can_join g.met.C.Cell.laws g.met.C.Cell.sizes d c.count.ensures.diagram c.before-counts.result.now is cells short slots c.requires.live c.args.node inside c.requires.fits
 
 pub returns-clause-len : goal.returns-clause-len

@@ -1,6 +1,7 @@
 -- The scope and the length are those of the product's table, so there is room for it, and what is written are its cells.
 use Rattle.std.proofs.Common.{rules, ◌≡◌, ◌∙◌, ◌+◌, ◌≤◌, ℕ, length, take, sym, ap, subst, arith}
 use Rattle.std.proofs.lemmas.List.{length-take-le}
+use Rattle.maid_model.specs.declared.limits.TheConstants.{MOST_PLAN_CELLS}
 use Rattle.finite_sums.specs.Sums.{World, InRange}
 use Rattle.maid_model.specs.Nodes.{counts_of}
 use Rattle.node_sets.specs.Sets.{holds}
@@ -59,7 +60,7 @@ multiply_at-requires-clause-can g c =
     let is : c.before-counts.result.now ≡ counts_of d.nodes = c.before-counts.ensures ∙ ap (λ k. take k c.list_states.new.counts) c.count.ensures.count ∙ c.list_states.ensures in
     let cells = take c.args.used c.args.all.now in
     let slots = c.args.slots.now in
-    let short : length cells ≤ 4194304 = omega (arith, length-take-le c.args.used c.args.all.now c.requires.used, c.requires.used, c.requires.short) in
+    let short : length cells ≤ MOST_PLAN_CELLS = omega (arith, length-take-le c.args.used c.args.all.now c.requires.used, c.requires.used, c.requires.short) in
     can_multiply g.met.C.Cell.laws g.met.C.Cell.sizes d c.count.ensures.diagram c.before-counts.result.now is cells short slots c.requires.live c.requires.fits
 
 pub returns-clause-len : goal.returns-clause-len

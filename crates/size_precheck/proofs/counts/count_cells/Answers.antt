@@ -1,6 +1,6 @@
 use Rattle.std.proofs.Common.{◌∙◌, ap, sym, arith, ℕ}
 use Rattle.size_precheck.specs.Joints.{counted_over}
-use Rattle.size_precheck.specs.Counts.{stopped}
+use Rattle.maid_model.specs.Bounds.{stopped}
 use Rattle.size_precheck.proofs.Counting.{counted_more, factors_to}
 use Rattle.size_precheck.proofs.counts.count_cells.Goals as goal
 

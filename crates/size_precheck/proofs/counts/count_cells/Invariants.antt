@@ -1,6 +1,6 @@
 use Rattle.std.proofs.Common.{◌≡◌, ◌-◌, ◌≤◌}
 use Rattle.node_sets.specs.Sets.{holds}
-use Rattle.size_precheck.specs.Counts.{stopped}
+use Rattle.maid_model.specs.Bounds.{stopped}
 use Rattle.size_precheck.specs.Joints.{product_below, factor}
 use Rattle.size_precheck.proofs.counts.count_cells.Given as goal
 
