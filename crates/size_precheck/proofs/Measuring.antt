@@ -1,5 +1,5 @@
 -- The plans of a run, counted one after the other.
-use Rattle.std.proofs.Common.{◌≡◌, ◌≢◌, ◌∙◌, ◌↔◌, ℕ, zero, suc, ◌+◌, ◌<◌, ◌≤◌, ◌^◌, Bool, true, false, cond, ◌&&◌, filter, map, List, [], ◌∷◌, ◌++◌, length, take, get_or, max, refl, sym, ap, subst, inl, inr, arith, None}
+use Rattle.std.proofs.Common.{Result, Ok, Err, OnOk, ◌≡◌, ◌≢◌, ◌∙◌, ◌↔◌, ℕ, zero, suc, ◌+◌, ◌<◌, ◌≤◌, ◌^◌, Bool, true, false, cond, ◌&&◌, filter, map, List, [], ◌∷◌, ◌++◌, length, take, get_or, max, refl, sym, ap, subst, inl, inr, arith, None}
 use Rattle.std.specs.Prelude.{Contains, sum_by, flat_map}
 use Rattle.std.specs.List.{range_with_len}
 use Rattle.std.proofs.lemmas.List.{take_more}
@@ -228,3 +228,13 @@ keeps list = record { keep = list; without = None; utility = None }
 
 pub not_goal : (nodes : List NodeView) (d u : ℕ) → TestsDescent → u < length nodes → (IsGoal nodes d u → ⊥) → is_goal nodes d u ≡ false
 not_goal nodes d u tested within n = elim (true_or_false (is_goal nodes d u)) as (λ _. is_goal nodes d u ≡ false) [ inl e ↦ absurd (n ((goal_tested nodes d u tested within).1 e)) | inr e ↦ e ]
+
+-- what holds anyhow holds where there is a value
+pub on_ok : {T E P : Type 0} (r : Result T E) → P → OnOk r P
+on_ok (Ok x) p = p
+on_ok (Err e) p = tt
+
+-- one plan more that was made
+pub include_made : (nodes : List NodeView) (asked : PlanView) (made : SizedPlan) (before size after : Size) → IsMade nodes asked made → size ≡ made.size → after ≡ record { cells = max before.cells size.cells; work = stopped (before.work + size.work) }
+    → Includes nodes (asked ∷ []) before after
+include_made nodes asked made before size after h e is = include_one nodes asked before size after (subst (λ (s : Size). HasSize nodes asked s) (sym e) (has_size nodes asked made h)) is

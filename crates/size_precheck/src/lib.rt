@@ -4,6 +4,7 @@
 
 mod counts;
 mod joints;
+mod kinds;
 mod laws;
 mod plans;
 mod runs;
@@ -13,6 +14,7 @@ mod starts;
 #[cfg(test)]
 mod tests;
 
+pub use kinds::{plan_gain, plan_rows, plan_worth};
 pub use laws::{greedy_orders, sizes_of_plans};
 pub use plans::{Plan, make_plan};
 pub use runs::measure;

@@ -1,6 +1,9 @@
 //! Plans of elimination.
 
-ghost use Rattle.std.specs.Prelude.{◌≡◌, IfOk};
+ghost use Rattle.std.specs.Prelude.{◌≡◌, ◌↔◌, ℕ, Contains, IfOk};
+ghost use Rattle.maid_model.specs.Diagrams.{IsDiagram};
+ghost use Rattle.node_sets.specs.Sets.{IsIn};
+ghost use Rattle.plan_sums.specs.Plans.{plan_nodes};
 ghost use Rattle.size_precheck.specs.Sizes.{CanBePlanned, IsMade};
 
 use crate::counts::{add, count_cells, multiply};
@@ -8,6 +11,7 @@ use crate::simulation::eliminate_all;
 use crate::sizes::Size;
 use crate::starts::{list_states, plan_nodes, put_all_first, ruled_nodes, set_of};
 use maid_model::Diagram;
+use node_sets::NodeSet;
 use std::alloc::{AllocError, Global};
 use std::marker::Model;
 
@@ -57,6 +61,16 @@ impl Plan {
         ensures { result.now ≡ self.now.steps }
     {
         &self.steps
+    }
+
+    /// The nodes of the plan: the kept ones, and all from which a path of arcs leads to one of them or to the utility. It takes
+    /// no memory, and goes along the arcs again.
+    pub fn nodes(&self, diagram: &Diagram) -> NodeSet
+        requires diagram { IsDiagram diagram.now }
+        requires asked { CanBePlanned diagram.now.nodes self.now.plan }
+        ensures { (v : ℕ) → IsIn result v ↔ Contains (plan_nodes diagram.now.nodes self.now.plan) v }
+    {
+        plan_nodes(diagram, &self.keep, self.utility)
     }
 
     /// How many cells its tables have together, and its work. It takes no memory.

@@ -11,9 +11,9 @@ ghost use Rattle.maid_model.specs.Bounds.{stopped};
 ghost use Rattle.size_precheck.specs.Runs.{Includes};
 ghost use Rattle.size_precheck.specs.Sizes.{CanBePlanned, ListsDecisions, IsSizeOfRun, is_goal, goal_list, utility_list};
 
-use crate::plans::make_plan;
+use crate::kinds::{plan_gain, plan_rows, plan_worth};
 use crate::sizes::Size;
-use maid_model::{COUNT_END, Diagram, Kind, MOST_PARENTS, descent_is_tested, goals_of};
+use maid_model::{COUNT_END, Diagram, Kind, descent_is_tested, goals_of};
 use node_sets::NodeSet;
 use std::alloc::{AllocError, Global};
 
@@ -29,23 +29,6 @@ fn join_sizes(size: Size, other: Size) -> Size
     }
 }
 
-/// Counts one plan in.
-fn include_plan(
-    alloc: Global,
-    diagram: &Diagram,
-    keep: &[usize],
-    without: Option<usize>,
-    utility: Option<usize>,
-    size: Size,
-) -> Result<Size, AllocError>
-    requires planned { CanBePlanned diagram.now.nodes (record { keep = keep.now; without = without; utility = utility }) }
-    requires few { size.work ≤ COUNT_END }
-    ensures { IfOk result (λ after. Includes diagram.now.nodes (record { keep = keep.now; without = without; utility = utility } ∷ []) size after) }
-{
-    let plan = make_plan(alloc, diagram, keep, without, utility)?;
-    Ok(join_sizes(size, plan.size()))
-}
-
 /// Counts the plans of the decisions' rows in.
 fn include_rows(
     alloc: Global,
@@ -59,8 +42,8 @@ fn include_rows(
 {
     let mut sum = size;
     for d in order {
-        let parents = diagram.parents(*d);
-        sum = include_plan(alloc, diagram, parents, None, None, sum)?;
+        let plan = plan_rows(alloc, diagram, *d)?;
+        sum = join_sizes(sum, plan.size());
     }
     Ok(sum)
 }
@@ -70,14 +53,12 @@ fn include_gain(
     alloc: Global,
     diagram: &Diagram,
     d: usize,
-    keep: &[usize],
     goals: &NodeSet,
     u: usize,
     size: Size,
 ) -> Result<Size, AllocError>
     requires diagram { IsDiagram diagram.now }
     requires decision { IsDecision diagram.now.nodes d }
-    requires keep { keep.now ≡ d ∷ parents_of diagram.now.nodes d }
     requires goals { (v : ℕ) → IsIn goals.now v ↔ IsGoal diagram.now.nodes d v }
     requires within { u < length diagram.now.nodes }
     requires few { size.work ≤ COUNT_END }
@@ -87,7 +68,8 @@ fn include_gain(
     if !goals.holds(u) {
         return Ok(size);
     }
-    include_plan(alloc, diagram, keep, Some(d), Some(u), size)
+    let plan = plan_gain(alloc, diagram, d, u)?;
+    Ok(join_sizes(size, plan.size()))
 }
 
 /// Counts the plans of the decision's states in, for each of its goals.
@@ -97,14 +79,9 @@ fn include_gains(alloc: Global, diagram: &Diagram, d: usize, size: Size) -> Resu
     ensures { IfOk result (λ after. Includes diagram.now.nodes (map (λ u. gain_plan diagram.now.nodes d u) (goal_list diagram.now.nodes d)) size after) }
 {
     let goals = goals_of(diagram, d);
-    let parents = diagram.parents(d);
-    let mut keep = Vec::with_capacity(alloc, MOST_PARENTS + 1)?;
-    keep.push(d)?;
-    keep.extend_from_slice(parents)?;
-    let keep = keep.as_slice();
     let mut sum = size;
     for u in 0..diagram.count() {
-        sum = include_gain(alloc, diagram, d, keep, &goals, u, sum)?;
+        sum = include_gain(alloc, diagram, d, &goals, u, sum)?;
     }
     Ok(sum)
 }
@@ -134,7 +111,10 @@ fn include_worth(alloc: Global, diagram: &Diagram, u: usize, size: Size) -> Resu
     ensures { IfOk result (λ after. Includes diagram.now.nodes (map (λ x. worth_plan x) (filter (λ x. is_utility (node_at diagram.now.nodes x).kind) (u ∷ []))) size after) }
 {
     match diagram.kind(u) {
-        Kind::Utility => include_plan(alloc, diagram, &[], None, Some(u), size),
+        Kind::Utility => {
+            let plan = plan_worth(alloc, diagram, u)?;
+            Ok(join_sizes(size, plan.size()))
+        }
         Kind::Chance | Kind::Decision => Ok(size),
     }
 }

@@ -1,0 +1,52 @@
+//! The three kinds of plan that a run makes.
+
+ghost use Rattle.std.specs.Prelude.{◌≡◌, ◌<◌, ℕ, length, IfOk, OnOk};
+ghost use Rattle.maid_model.specs.declared.diagrams.Kind.TheVariants.{Utility};
+ghost use Rattle.maid_model.specs.Nodes.{IsDecision, node_at};
+ghost use Rattle.maid_model.specs.Relevance.{IsGoal};
+ghost use Rattle.plan_sums.specs.Plans.{row_plan, gain_plan, worth_plan};
+ghost use Rattle.size_precheck.specs.Sizes.{CanBePlanned, IsMade};
+
+use crate::plans::{Plan, make_plan};
+use maid_model::{Diagram, MOST_PARENTS};
+use std::alloc::{AllocError, Global};
+
+/// The plan of a decision's rows: its parents are kept. What it sums to is the mass of each row.
+pub fn plan_rows(alloc: Global, diagram: &Diagram, decision: usize) -> Result<Plan, AllocError>
+    requires { IsDecision diagram.now.nodes decision }
+    ensures asked { OnOk result (CanBePlanned diagram.now.nodes (row_plan diagram.now.nodes decision)) }
+    ensures made { IfOk result (IsMade diagram.now.nodes (row_plan diagram.now.nodes decision)) }
+{
+    let parents = diagram.parents(decision);
+    make_plan(alloc, diagram, parents, None, None)
+}
+
+/// The plan of a decision's states for one of its goals: the decision and its parents are kept, and its own rule is left
+/// out. What it sums to is the goal's part of each gain.
+pub fn plan_gain(
+    alloc: Global,
+    diagram: &Diagram,
+    decision: usize,
+    goal: usize,
+) -> Result<Plan, AllocError>
+    requires decision { IsDecision diagram.now.nodes decision }
+    requires goal { IsGoal diagram.now.nodes decision goal }
+    ensures asked { OnOk result (CanBePlanned diagram.now.nodes (gain_plan diagram.now.nodes decision goal)) }
+    ensures made { IfOk result (IsMade diagram.now.nodes (gain_plan diagram.now.nodes decision goal)) }
+{
+    let parents = diagram.parents(decision);
+    let mut keep = Vec::with_capacity(alloc, MOST_PARENTS + 1)?;
+    keep.push(decision)?;
+    keep.extend_from_slice(parents)?;
+    make_plan(alloc, diagram, &keep, Some(decision), Some(goal))
+}
+
+/// The plan of a utility's worth: nothing is kept. What it sums to is the utility's part of an expected utility.
+pub fn plan_worth(alloc: Global, diagram: &Diagram, utility: usize) -> Result<Plan, AllocError>
+    requires within { utility < length diagram.now.nodes }
+    requires kind { (node_at diagram.now.nodes utility).kind ≡ Utility }
+    ensures asked { OnOk result (CanBePlanned diagram.now.nodes (worth_plan utility)) }
+    ensures made { IfOk result (IsMade diagram.now.nodes (worth_plan utility)) }
+{
+    make_plan(alloc, diagram, &[], None, Some(utility))
+}
