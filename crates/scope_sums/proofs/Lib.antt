@@ -1,3 +1,4 @@
 pub mod Lacking
 pub mod Summed
 pub mod Asked
+pub mod Kept
