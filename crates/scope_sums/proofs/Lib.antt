@@ -2,3 +2,4 @@ pub mod Lacking
 pub mod Summed
 pub mod Asked
 pub mod Kept
+pub mod Agents
