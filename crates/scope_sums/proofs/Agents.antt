@@ -1,16 +1,15 @@
 -- The same of an agent's scope, with the plans of its utilities.
-use Rattle.std.proofs.Common.{◌≡◌, ◌∙◌, ℕ, ◌*◌, ◌<◌, ◌≤◌, Bool, true, cond, filter, List, [], length, refl, sym, ap, subst, arith, Contains, Some, ℤ, pos, ◌*ℤ◌, nat_abs, le_trans, le_of_eq}
+use Rattle.std.proofs.Common.{◌≡◌, ◌∙◌, ℕ, ◌*◌, ◌<◌, ◌≤◌, Bool, true, cond, filter, List, [], refl, sym, ap, subst, arith, Some, ℤ, pos, ◌*ℤ◌, nat_abs, le_trans, le_of_eq}
 use Rattle.std.proofs.Math.Nat.{le_of_mul-le-mul_left}
 use Rattle.std.proofs.Math.Path.{fun_ext}
 use Rattle.maid_model.specs.declared.diagrams.Kind.{Kind}
 use Rattle.maid_model.specs.declared.diagrams.Kind.TheVariants.{Chance, Decision, Utility}
 use Rattle.maid_model.specs.Gains.{gain_of, mass, greatest_abs}
 use Rattle.maid_model.specs.Graph.{IsGraph}
-use Rattle.maid_model.specs.Nodes.{node_at, states_of, numbers_of, is_utility_of, Owns}
+use Rattle.maid_model.specs.Nodes.{node_at, states_of, numbers_of, is_utility_of}
 use Rattle.maid_model.specs.Parts.{mass_left_out}
-use Rattle.maid_model.specs.Profiles.{IsProfile}
 use Rattle.maid_model.specs.Scopes.{utilities_for, scope_for, scope_part_for, rules_in_scope_for, chance_factor, chance_factor_by, scope_product_for}
-use Rattle.maid_model.specs.Tables.{HasChanceTables, weight_total, total_by, chance_total, rule_total}
+use Rattle.maid_model.specs.Tables.{weight_total, total_by, chance_total, rule_total}
 use Rattle.maid_model.specs.Views.{NodeView, RuleView}
 use Rattle.maid_model.proofs.Leaves.{sum_each_cong}
 use Rattle.maid_model.proofs.Setting.{HasTables}

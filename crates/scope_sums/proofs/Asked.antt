@@ -1,12 +1,12 @@
 -- Which plans may be asked for.
-use Rattle.std.proofs.Common.{◌≡◌, ◌≢◌, ℕ, [], ◌∷◌, List, inl, inr, sym, subst, arith, ap, ◌∙◌, Contains, Some, None, refl}
+use Rattle.std.proofs.Common.{◌≡◌, ℕ, [], ◌∷◌, List, inl, inr, sym, subst, ap, ◌∙◌, Some, None}
 use Rattle.maid_model.specs.declared.diagrams.Kind.TheVariants.{Decision, Utility}
 use Rattle.maid_model.specs.Graph.{IsGraph, Here}
 use Rattle.maid_model.specs.Nodes.{IsDecision, node_at, parents_of}
 use Rattle.maid_model.specs.Relevance.{IsGoal}
 use Rattle.maid_model.specs.Views.{NodeView}
 use Rattle.maid_laws.proofs.Members.{among_of, contains_of}
-use Rattle.plan_sums.specs.Plans.{row_plan, gain_plan, worth_plan}
+use Rattle.plan_sums.specs.Plans.{row_plan, gain_plan}
 use Rattle.plan_sums.specs.Sizes.{IsPlan}
 use Rattle.scope_sums.specs.Laws.{PlansCanBeAsked, UtilitysPlanCanBeAsked}
 

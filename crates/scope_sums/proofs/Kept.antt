@@ -1,5 +1,5 @@
 -- The plans of a scope keep its P.
-use Rattle.std.proofs.Common.{◌≡◌, ◌≢◌, ◌⊎◌, ◌∙◌, ℕ, ◌*◌, ◌<◌, ◌≤◌, Bool, true, false, not, cond, eqb, filter, List, [], ◌∷◌, refl, sym, ap, subst, inl, inr, arith, Some, None, ℤ, pos, ◌*ℤ◌, nat_abs, le_trans, le_refl, le_of_eq, mul-le-mul, option_to_list}
+use Rattle.std.proofs.Common.{◌≡◌, ◌≢◌, ◌∙◌, ℕ, ◌*◌, ◌<◌, ◌≤◌, Bool, true, false, not, cond, eqb, List, [], ◌∷◌, refl, sym, ap, subst, inl, arith, pos, nat_abs, le_trans, le_refl, le_of_eq, mul-le-mul, option_to_list}
 use Rattle.std.proofs.Math.Decide.{ℕ_discrete}
 use Rattle.std.proofs.Math.Nat.{mul-le-mul_right, le_of_mul-le-mul_left}
 use Rattle.maid_model.specs.declared.diagrams.Kind.{Kind}
@@ -9,10 +9,9 @@ use Rattle.maid_model.specs.Gains.{greatest_abs, base_total, base_mass}
 use Rattle.maid_model.specs.Graph.{IsGraph}
 use Rattle.maid_model.specs.Nodes.{IsDecision, node_at, states_of, numbers_of}
 use Rattle.maid_model.specs.Parts.{left_out, mass_left_out}
-use Rattle.maid_model.specs.Profiles.{IsProfile}
 use Rattle.maid_model.specs.Relevance.{IsGoal}
 use Rattle.maid_model.specs.Scopes.{scope_of, scope_product}
-use Rattle.maid_model.specs.Tables.{HasChanceTables, weight_total, total_by, chance_total, rule_total}
+use Rattle.maid_model.specs.Tables.{weight_total, total_by, chance_total, rule_total}
 use Rattle.maid_model.specs.Views.{NodeView, RuleView}
 use Rattle.maid_model.proofs.Setting.{HasTables}
 use Rattle.maid_model.proofs.Weighing.{product_positive}
@@ -31,7 +30,6 @@ use Rattle.part_laws.proofs.PartLaws.{positive_law}
 use Rattle.part_laws.proofs.PartNodes.{Closed}
 use Rattle.part_laws.proofs.PartSums.{is_out}
 use Rattle.part_laws.proofs.ScopeBounds.{factors_positive}
-use Rattle.plan_sums.specs.Laws.{missing_total, missing_without}
 use Rattle.plan_sums.specs.Plans.{PlanView, mass_cells, gain_cells, has, in_plan, plan_nodes, ruled_nodes, plan_sum, row_plan, gain_plan}
 use Rattle.plan_sums.proofs.Closed.{kept_in, own_row_out}
 use Rattle.plan_sums.proofs.Filters.{has_yes}

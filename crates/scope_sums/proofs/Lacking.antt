@@ -8,17 +8,14 @@ use Rattle.maid_model.specs.Nodes.{numbers_of}
 use Rattle.maid_model.specs.Parts.{is_in, left_out}
 use Rattle.maid_model.specs.Views.{NodeView}
 use Rattle.maid_laws.proofs.Basis.{among_filter_in}
-use Rattle.maid_laws.proofs.Booleans.{not_both, bool_same}
-use Rattle.maid_laws.proofs.Grouped.{passes_not}
-use Rattle.maid_laws.proofs.Members.{among_of}
-use Rattle.maid_laws.proofs.Rearranged.{apart_filter, range_apart, shuffled_of, number, numbered}
+use Rattle.maid_laws.proofs.Rearranged.{apart_filter, range_apart, shuffled_of, number}
 use Rattle.cell_rings.specs.Rings.{mass_ring}
 use Rattle.cell_rings.specs.RingLaws.{mass_is_ring}
 use Rattle.ring_sums.specs.Sums.{ring_product}
 use Rattle.ring_sums.proofs.Bounds.{product_shuffled}
 use Rattle.ring_sums.proofs.Sums.{product_split}
 use Rattle.part_laws.proofs.PartNodes.{Closed, path_in}
-use Rattle.part_laws.proofs.PartSums.{in_test, test_in, ins, ins_shuffled}
+use Rattle.part_laws.proofs.PartSums.{in_test, test_in, ins_shuffled}
 use Rattle.plan_sums.specs.Plans.{PlanView, in_plan, plan_nodes, lacking_nodes}
 use Rattle.plan_sums.proofs.Filters.{filter_cong, filter_filter}
 use Rattle.plan_sums.proofs.Scopes.{tests_plan_nodes}

@@ -1,21 +1,20 @@
 -- The sums of a scope's part are those of its plans: both are the whole's, but for the totals left out.
-use Rattle.std.proofs.Common.{◌≡◌, ◌⊎◌, ◌∙◌, ℕ, ◌*◌, ◌<◌, Bool, true, false, cond, ◌&&◌, eqb, filter, List, [], ◌∷◌, refl, sym, ap, subst, inl, inr, arith, Contains, Some, None, ℤ, pos, ◌+ℤ◌, ◌*ℤ◌, ◌<ℤ◌}
+use Rattle.std.proofs.Common.{◌≡◌, ◌∙◌, ℕ, ◌*◌, ◌<◌, Bool, true, false, cond, ◌&&◌, eqb, filter, List, [], ◌∷◌, refl, sym, ap, subst, inl, inr, arith, Contains, Some, None, ℤ, pos, ◌+ℤ◌, ◌*ℤ◌}
 use Rattle.std.proofs.lemmas.Int.{ints}
 use Rattle.maid_model.specs.Gains.{gain_at, mass_at}
 use Rattle.maid_model.specs.Graph.{IsGraph, descends}
 use Rattle.maid_model.specs.Nodes.{IsDecision, node_at, states_of, numbers_of, parents_of, is_utility, is_utility_of, owns, owners_of, agent_of}
 use Rattle.maid_model.specs.Parts.{left_out, mass_left_out}
-use Rattle.maid_model.specs.Profiles.{IsProfile}
 use Rattle.maid_model.specs.Relevance.{IsGoal}
 use Rattle.maid_model.specs.Scopes.{goals_of, scope_of, scope_part, place_in_scope, rules_in_scope}
-use Rattle.maid_model.specs.Tables.{HasChanceTables, row_of, weight_total}
+use Rattle.maid_model.specs.Tables.{row_of, weight_total}
 use Rattle.maid_model.specs.Views.{NodeView, RuleView}
 use Rattle.maid_model.proofs.Descent.{path_from_test}
 use Rattle.maid_model.proofs.Leaves.{sum_each_cong}
 use Rattle.maid_model.proofs.Setting.{HasTables}
 use Rattle.finite_sums.specs.Members.{Among}
 use Rattle.finite_sums.specs.Sums.{World, InRange, sum_each, nat_product_over}
-use Rattle.finite_sums.proofs.Ints.{mul_zero, mul_add, mul_comm, mul_assoc, mul_left_comm}
+use Rattle.finite_sums.proofs.Ints.{mul_zero, mul_add, mul_comm, mul_left_comm}
 use Rattle.finite_sums.proofs.Lists.{among_filter}
 use Rattle.finite_sums.proofs.Members.{any_is}
 use Rattle.maid_laws.proofs.Booleans.{eqb_no}
