@@ -11,13 +11,14 @@ pub enum SolveFault {
     /// No order of solving has all decisions. Each decision of the list relies on the next, and the last on the first.
     #[error("a relevance cycle of the decisions {list:?}")]
     Cycle { list: Vec<usize> },
-    /// The numbers don't surely fit: the first node in text at which the running product passes the weight bound, or
-    /// `None` where the utilities pass it.
+    /// The numbers don't surely fit: in the first scope that passes the weight bound, the first node in text at which the
+    /// running product passes it, or `None` where the utilities pass it.
     #[error("the weight bound is passed at {node:?}")]
     WeightBound { node: Option<usize> },
-    /// There are more than 65,536 worlds: so many, or 10 to the power of 18 where that is less.
-    #[error("{worlds} worlds are too many")]
-    NotBuilt { worlds: u128 },
+    /// The run is too large: `cells` is the most cells of one of its plans, and `work` that of all plans together, each
+    /// counted up to 10 to the power of 18.
+    #[error("too large: {cells} cells, {work} steps of work")]
+    TooLarge { cells: u128, work: u128 },
     /// Memory ran out, which says nothing of the diagram.
     #[error("out of memory")]
     NoMemory,

@@ -20,10 +20,15 @@ mod answering;
 mod bases;
 mod faults;
 mod limits;
+mod odometer;
+mod reading;
+mod row_sums;
 mod rows;
+mod scopes;
 mod solving;
 #[cfg(test)]
 mod tests;
+mod totals;
 mod worths;
 
 pub use faults::SolveFault;

@@ -1,0 +1,29 @@
+-- What the plans of a run ask for: room for their cells.
+use Rattle.std.specs.Prelude.{◌≡◌, ℕ, ◌<◌, ◌≤◌, List, [], length}
+use Rattle.maid_model.specs.declared.diagrams.Kind.TheVariants.{Utility}
+use Rattle.maid_model.specs.declared.limits.TheConstants.{MOST_PLAN_CELLS}
+use Rattle.maid_model.specs.Nodes.{node_at}
+use Rattle.maid_model.specs.Relevance.{IsGoal}
+use Rattle.maid_model.specs.Views.{NodeView}
+use Rattle.plan_sums.specs.Plans.{PlanView, row_plan, gain_plan, worth_plan}
+use Rattle.factor_core.specs.Slots.{WorkspaceView}
+use Rattle.size_precheck.specs.Sizes.{SizedPlan, IsMade}
+
+-- the plan has at most so many cells
+abbrev pub HasAtMost : List NodeView → PlanView → ℕ → Type 0
+HasAtMost nodes plan cells = (made : SizedPlan) → IsMade nodes plan made → made.size.cells ≤ cells
+
+-- so do the plans of a decision: that of its rows, and those of its goals
+pub record HasRoomAt (nodes : List NodeView) (d cells : ℕ) : Type 0 where
+  pub rows : HasAtMost nodes (row_plan nodes d) cells
+  pub goals : (u : ℕ) → IsGoal nodes d u → HasAtMost nodes (gain_plan nodes d u) cells
+
+-- and those of all utilities' worths
+abbrev pub HasRoomForWorths : List NodeView → ℕ → Type 0
+HasRoomForWorths nodes cells = (u : ℕ) → u < length nodes → (node_at nodes u).kind ≡ Utility → HasAtMost nodes (worth_plan u) cells
+
+-- a workspace within the limit has no table and room for so many cells
+pub record IsReady {C : Type 0} (cells : ℕ) (work : WorkspaceView C) : Type 0 where
+  pub empty : work.cells ≡ []
+  pub spare : work.spare ≡ cells
+  pub limit : cells ≤ MOST_PLAN_CELLS
