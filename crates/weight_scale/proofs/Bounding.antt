@@ -1,18 +1,14 @@
--- Products and sums over the numbers of nodes, as far as a loop has come.
-use Rattle.std.proofs.Common.{⊎_elim, ◌≡◌, ◌≤◌, ◌<◌, ◌+◌, ◌-◌, ◌*◌, ◌^◌, ℕ, zero, suc, max, List, [], ◌∷◌, length, take, refl, sym, ap, ◌∙◌, arith, mul-pos, mul_assoc}
+-- Products over the members of a set in text order, as far as a loop has come.
+use Rattle.std.proofs.Common.{◌≡◌, ◌⊎◌, ◌≤◌, ◌<◌, ◌+◌, ◌-◌, ◌*◌, ◌^◌, ◌&&◌, ℕ, zero, suc, max, Bool, true, false, cond, ltb, filter, List, [], ◌∷◌, refl, sym, ap, subst, ◌∙◌, inl, inr, arith, mul-pos, mul_assoc}
 use Rattle.std.proofs.Math.Nat.{mul-le-mul_left, pow-le-pow_right}
-use Rattle.std.proofs.lemmas.Bool.{cases_lt}
+use Rattle.std.proofs.lemmas.Bool.Decides.{nat_tests}
 use Rattle.std.specs.List.{range_with_len}
-use Rattle.maid_model.specs.declared.diagrams.Kind.{Kind}
-use Rattle.maid_model.specs.declared.diagrams.Kind.TheVariants.{Chance, Decision, Utility}
-use Rattle.maid_model.specs.Views.{NodeView, DiagramView}
-use Rattle.maid_model.specs.Nodes.{node_at, states_of, numbers_of}
+use Rattle.finite_sums.specs.Members.{Among}
 use Rattle.finite_sums.specs.Sums.{nat_product_over}
-use Rattle.maid_model.specs.Tables.{chance_total}
-use Rattle.maid_model.specs.Gains.{greatest_utility}
-use Rattle.maid_model.specs.Diagrams.{IsDiagram, greatest_number}
-use Rattle.maid_model.specs.Bounds.{bound_by, bound_factor, bound_up_to, bound_product, KeepsBound, PassesAt}
-use Rattle.weight_scale.specs.Bound.{NonePasses}
+use Rattle.finite_sums.proofs.Lists.{among_filter}
+use Rattle.finite_sums.proofs.Members.{contains_from_among, filter_has, range_has, range_within}
+use Rattle.maid_model.specs.Diagrams.{greatest_number}
+use Rattle.maid_model.specs.Scopes.{product_before, PassesInScope}
 
 -- ---- ranges
 pub rest_next : (n v : ℕ) → v < n → range_with_len v (n - v) ≡ v ∷ range_with_len (v + 1) (n - (v + 1))
@@ -27,104 +23,185 @@ rest_none n v l = ap (range_with_len v) (none n v l)
     none : (n v : ℕ) → n ≤ v → n - v ≡ 0
     none n v l = omega arith
 
--- one more factor
-one_more : (f : ℕ → ℕ) (v a n : ℕ) → v < n → nat_product_over f (take (suc v) (range_with_len a n)) ≡ nat_product_over f (take v (range_with_len a n)) * f (a + v)
-one_more f zero a zero l = absurd (omega arith)
-one_more f zero a (suc n) l = omega (arith, ap f (add_nought a))
-  where
-    add_nought : (a : ℕ) → a + 0 ≡ a
-    add_nought a = omega arith
-one_more f (suc v) a zero l = absurd (omega arith)
-one_more f (suc v) a (suc n) l =
-    ap (λ p. f a * p) (one_more f v (a + 1) n (omega arith)) ∙ sym (mul_assoc (f a) (nat_product_over f (take v (range_with_len (a + 1) n))) (f ((a + 1) + v)))
-    ∙ ap (λ i. (f a * nat_product_over f (take v (range_with_len (a + 1) n))) * f i) (shift a v)
-  where
-    shift : (a v : ℕ) → (a + 1) + v ≡ a + suc v
-    shift a v = omega arith
+-- ---- lists that pass a test
+none_pass : (q : ℕ → Bool) (xs : List ℕ) → ((v : ℕ) → Among v xs → q v ≡ false) → filter q xs ≡ []
+none_pass q [] h = refl
+none_pass q (x ∷ xs) h = ap (λ b. cond b (x ∷ filter q xs) (filter q xs)) (h x (inl refl)) ∙ none_pass q xs (λ u m. h u (inr m))
 
-take_all : (n a : ℕ) → take n (range_with_len a n) ≡ range_with_len a n
-take_all zero a = refl
-take_all (suc n) a = ap (λ xs. a ∷ xs) (take_all n (a + 1))
+all_pass : (q : ℕ → Bool) (xs : List ℕ) → ((v : ℕ) → Among v xs → q v ≡ true) → filter q xs ≡ xs
+all_pass q [] h = refl
+all_pass q (x ∷ xs) h = λ i. cond (h x (inl refl) i) (x ∷ all_pass q xs (λ u m. h u (inr m)) i) (filter q xs)
 
-positive_product : (f : ℕ → ℕ) → ((v : ℕ) → 0 < f v) → (xs : List ℕ) → 0 < nat_product_over f xs
+one_mul : (n : ℕ) → 1 * n ≡ n
+one_mul n = omega arith
+
+-- the first of a list, if it passes both tests, is a factor of the product over those that do
+front : (f : ℕ → ℕ) (q : ℕ → Bool) (b : Bool) (x : ℕ) (xs : List ℕ) → nat_product_over f (filter q (cond b (x ∷ xs) xs)) ≡ cond (b && q x) (f x) 1 * nat_product_over f (filter q xs)
+front f q true x xs = go (q x)
+  where
+    go : (c : Bool) → nat_product_over f (cond c (x ∷ filter q xs) (filter q xs)) ≡ cond c (f x) 1 * nat_product_over f (filter q xs)
+    go true = refl
+    go false = sym (one_mul (nat_product_over f (filter q xs)))
+front f q false x xs = sym (one_mul (nat_product_over f (filter q xs)))
+
+and_true : (b : Bool) → (b && true) ≡ b
+and_true true = refl
+and_true false = refl
+
+and_false : (b : Bool) → (b && false) ≡ false
+and_false true = refl
+and_false false = refl
+
+pub positive_product : (f : ℕ → ℕ) → ((v : ℕ) → 0 < f v) → (xs : List ℕ) → 0 < nat_product_over f xs
 positive_product f p [] = omega arith
 positive_product f p (x ∷ xs) = mul-pos (p x) (positive_product f p xs)
 
-front_within : (f : ℕ → ℕ) → ((v : ℕ) → 0 < f v) → (n : ℕ) (xs : List ℕ) → nat_product_over f (take n xs) ≤ nat_product_over f xs
-front_within f p zero xs = positive_product f p xs
-front_within f p (suc n) [] = omega arith
-front_within f p (suc n) (x ∷ xs) = mul-le-mul_left (f x) (front_within f p n xs)
+-- a product above nought has factors above nought
+parts_positive : (a b : ℕ) → 0 < a * b → (0 < a) × (0 < b)
+parts_positive zero b l = absurd (omega (arith, l))
+parts_positive (suc a) zero l = absurd (none a l)
+  where
+    none : (a : ℕ) → ¬ (0 < suc a * 0)
+    none a l = omega (arith, l)
+parts_positive (suc a) (suc b) l = (omega arith, omega arith)
 
--- ---- the product over the nodes
--- the product over the nodes before v, which passes at none of them
-pub record ProductSoFar (nodes : List NodeView) (v product : ℕ) : Type 0 where
-  pub so_far : product ≡ bound_up_to nodes v
-  pub none_passes : (n : ℕ) → n ≤ v → bound_up_to nodes n ≤ greatest_number
+grows : (a n : ℕ) → 0 < a → n ≤ a * n
+grows zero n l = absurd (omega arith)
+grows (suc a) n l = omega arith
+
+-- and so over some of the list it is at most that over all
+pub filter_within : (f : ℕ → ℕ) (q : ℕ → Bool) (xs : List ℕ) → 0 < nat_product_over f xs → nat_product_over f (filter q xs) ≤ nat_product_over f xs
+filter_within f q [] l = omega arith
+filter_within f q (x ∷ xs) l = go (q x) parts (filter_within f q xs parts.1)
+  where
+    parts : (0 < f x) × (0 < nat_product_over f xs)
+    parts = parts_positive (f x) (nat_product_over f xs) l
+
+    go : (b : Bool) → (0 < f x) × (0 < nat_product_over f xs) → nat_product_over f (filter q xs) ≤ nat_product_over f xs → nat_product_over f (cond b (x ∷ filter q xs) (filter q xs)) ≤ f x * nat_product_over f xs
+    go true r less = mul-le-mul_left (f x) less
+    go false r less = omega (arith, less, grows (f x) (nat_product_over f xs) r.0)
+
+-- ---- node by node
+module _ (f : ℕ → ℕ) (p : ℕ → Bool) where
+  -- none of the nodes from a on stands before v
+  before_none : (v a n : ℕ) → v ≤ a → product_before f (filter p (range_with_len a n)) v ≡ 1
+  before_none v a n l = ap (nat_product_over f) (none_pass (λ u. ltb u v) (filter p (range_with_len a n)) (λ u m. later u (range_within a n u (among_filter p u (range_with_len a n) m).0).0))
+    where
+      later : (u : ℕ) → a ≤ u → ltb u v ≡ false
+      later u h = grind (arith, nat_tests)
+
+  -- one more node
+  before_next : (v a n : ℕ) → a ≤ v → v < a + n → product_before f (filter p (range_with_len a n)) (v + 1) ≡ product_before f (filter p (range_with_len a n)) v * cond (p v) (f v) 1
+  before_next v a zero h l = absurd (omega arith)
+  before_next v a (suc n) h l = go (split a v h) (λ k. before_next v (a + 1) n k (omega arith))
+    where
+      rest : List ℕ
+      rest = filter p (range_with_len (a + 1) n)
+
+      head : ℕ → ℕ
+      head w = cond (p a && ltb a w) (f a) 1
+
+      whole : (w : ℕ) → product_before f (filter p (range_with_len a (suc n))) w ≡ head w * product_before f rest w
+      whole w = front f (λ u. ltb u w) (p a) a rest
+
+      split : (a v : ℕ) → a ≤ v → (a ≡ v) ⊎ (a + 1 ≤ v)
+      split a v h = grind arith
+
+      below_next : (a v : ℕ) → a ≤ v → ltb a (v + 1) ≡ true
+      below_next a v h = grind (arith, nat_tests)
+
+      below : (a v : ℕ) → a + 1 ≤ v → ltb a v ≡ true
+      below a v h = grind (arith, nat_tests)
+
+      not_below : (a v : ℕ) → a ≡ v → ltb a v ≡ false
+      not_below a v h = grind (arith, nat_tests)
+
+      swap : (x : ℕ) → x * 1 ≡ (1 * 1) * x
+      swap x = omega arith
+
+      at_next : head (v + 1) ≡ cond (p a) (f a) 1
+      at_next = ap (λ b. cond (p a && b) (f a) 1) (below_next a v h) ∙ ap (λ b. cond b (f a) 1) (and_true (p a))
+
+      go : (a ≡ v) ⊎ (a + 1 ≤ v) → (a + 1 ≤ v → product_before f rest (v + 1) ≡ product_before f rest v * cond (p v) (f v) 1) → product_before f (filter p (range_with_len a (suc n))) (v + 1) ≡ product_before f (filter p (range_with_len a (suc n))) v * cond (p v) (f v) 1
+      go (inl e) further =
+          let here : head v ≡ 1 = ap (λ b. cond (p a && b) (f a) 1) (not_below a v e) ∙ ap (λ b. cond b (f a) 1) (and_false (p a)) in
+          whole (v + 1) ∙ (λ i. at_next i * before_none (v + 1) (a + 1) n (omega (arith, e)) i) ∙ swap (cond (p a) (f a) 1)
+          ∙ (λ i. (sym here i * sym (before_none v (a + 1) n (omega (arith, e))) i) * cond (p (e i)) (f (e i)) 1) ∙ ap (λ x. x * cond (p v) (f v) 1) (sym (whole v))
+      go (inr k) further =
+          let same : head (v + 1) ≡ head v = at_next ∙ sym (ap (λ b. cond (p a && b) (f a) 1) (below a v k) ∙ ap (λ b. cond b (f a) 1) (and_true (p a))) in
+          whole (v + 1) ∙ (λ i. same i * further k i) ∙ sym (mul_assoc (head v) (product_before f rest v) (cond (p v) (f v) 1))
+          ∙ ap (λ x. x * cond (p v) (f v) 1) (sym (whole v))
+
+-- the product over the scope's nodes before v, which passes at none of them
+pub record ProductSoFar (f : ℕ → ℕ) (scope : List ℕ) (v product : ℕ) : Type 0 where
+  pub so_far : product ≡ product_before f scope v
+  pub none_passes : (n : ℕ) → n ≤ v → product_before f scope n ≤ greatest_number
   pub positive : 0 < product
 
-factor_positive : (d : DiagramView) → IsDiagram d → (v : ℕ) → 0 < bound_factor d.nodes v
-factor_positive d is v = go (node_at d.nodes v).kind (is.tables.positive v) (is.graph.has_state v)
+module _ (f : ℕ → ℕ) (p : ℕ → Bool) (count : ℕ) where
+  abbrev scope : List ℕ
+  scope = filter p (range_with_len 0 count)
+
+  next : (v product : ℕ) → v < count → product ≡ product_before f scope v → product * cond (p v) (f v) 1 ≡ product_before f scope (v + 1)
+  next v product l e = ap (λ x. x * cond (p v) (f v) 1) e ∙ sym (before_next f p v 0 count (omega arith) (omega arith))
+
+  pub product_start : ProductSoFar f (filter p (range_with_len 0 count)) 0 1
+  product_start = record {
+    so_far = sym (before_none f p 0 0 count (omega arith));
+    none_passes = λ n l. subst (λ x. x ≤ greatest_number) (sym (before_none f p n 0 count l)) (omega arith);
+    positive = omega arith;
+  }
+
+  pub product_step : (v product : ℕ) → v < count → 0 < f v → ProductSoFar f (filter p (range_with_len 0 count)) v product → product * cond (p v) (f v) 1 ≤ greatest_number → ProductSoFar f (filter p (range_with_len 0 count)) (v + 1) (product * cond (p v) (f v) 1)
+  product_step v product l positive s small = record {
+    so_far = next v product l s.so_far;
+    none_passes = λ n le. go n (split n v le);
+    positive = mul-pos s.positive (factor (p v));
+  }
+    where
+      factor : (b : Bool) → 0 < cond b (f v) 1
+      factor true = positive
+      factor false = omega arith
+
+      split : (n v : ℕ) → n ≤ v + 1 → (n ≡ v + 1) ⊎ (n ≤ v)
+      split n v le = grind arith
+
+      go : (n : ℕ) → (n ≡ v + 1) ⊎ (n ≤ v) → product_before f scope n ≤ greatest_number
+      go n (inl e) = subst (λ x. x ≤ greatest_number) (next v product l s.so_far ∙ ap (λ m. product_before f scope m) (sym e)) small
+      go n (inr k) = s.none_passes n k
+
+  pub passes_here : (v product : ℕ) → v < count → ProductSoFar f (filter p (range_with_len 0 count)) v product → greatest_number < product * cond (p v) (f v) 1 → PassesInScope f (filter p (range_with_len 0 count)) v
+  passes_here v product l s wide = record {
+    listed = contains_from_among scope v (filter_has p v (range_with_len 0 count) (range_has 0 count v (omega arith) (omega arith)) (held (p v) refl));
+    passes = subst (λ x. greatest_number < x) (next v product l s.so_far) wide;
+    first = s.none_passes;
+  }
+    where
+      small : product ≤ greatest_number
+      small = subst (λ x. x ≤ greatest_number) (sym s.so_far) (s.none_passes v (omega arith))
+
+      unchanged : (x most : ℕ) → x ≤ most → ¬ (most < x * 1)
+      unchanged x most h k = omega arith
+
+      held : (b : Bool) → p v ≡ b → p v ≡ true
+      held true e = e
+      held false e = absurd (unchanged product greatest_number small (subst (λ b. greatest_number < product * cond b (f v) 1) e wide))
+
+  pub product_end : (v product : ℕ) → ProductSoFar f (filter p (range_with_len 0 count)) v product → count ≤ v → v ≤ count → (product ≡ nat_product_over f (filter p (range_with_len 0 count))) × (nat_product_over f (filter p (range_with_len 0 count)) ≤ greatest_number)
+  product_end v product s l m = (e, subst (λ x. x ≤ greatest_number) (sym s.so_far ∙ e) (s.none_passes v (omega arith)))
+    where
+      inside : (u : ℕ) → u < 0 + count → ltb u v ≡ true
+      inside u h = grind (arith, nat_tests)
+
+      e : product ≡ nat_product_over f scope
+      e = s.so_far ∙ ap (nat_product_over f) (all_pass (λ u. ltb u v) scope (λ u k. inside u (range_within 0 count u (among_filter p u (range_with_len 0 count) k).0).1))
+
+-- a product that passes makes the bound fail, whatever the utilities
+pub fails_by_product : (f : ℕ → ℕ) → ((v : ℕ) → 0 < f v) → (scope : List ℕ) (v decimals utilities : ℕ) → PassesInScope f scope v → greatest_number < nat_product_over f scope * max (10 ^ decimals) utilities
+fails_by_product f positive scope v decimals utilities h = omega (arith, h.passes, filter_within f (λ u. ltb u (v + 1)) scope (positive_product f positive scope), scaled)
   where
-    go : (k : Kind) → (k ≡ Chance → 0 < chance_total d.nodes v) → 0 < states_of d.nodes v → 0 < bound_by k (chance_total d.nodes v) (states_of d.nodes v)
-    go Chance total states = total refl
-    go Decision total states = states
-    go Utility total states = omega arith
+    scale : 1 ≤ max (10 ^ decimals) utilities
+    scale = omega (arith, pow-le-pow_right {n = 10} (omega arith) {i = 0} {j = decimals} (omega arith))
 
-pub up_to_next : (nodes : List NodeView) (v : ℕ) → v < length nodes → bound_up_to nodes (v + 1) ≡ bound_up_to nodes v * bound_factor nodes v
-up_to_next nodes v l = ap (λ n. bound_up_to nodes n) (next v) ∙ one_more (bound_factor nodes) v 0 (length nodes) l ∙ ap (λ i. bound_up_to nodes v * bound_factor nodes i) (nought v)
-  where
-    next : (v : ℕ) → v + 1 ≡ suc v
-    next v = omega arith
-
-    nought : (v : ℕ) → 0 + v ≡ v
-    nought v = omega arith
-
-pub product_start : (nodes : List NodeView) → ProductSoFar nodes 0 1
-product_start nodes = record {
-  so_far = refl;
-  none_passes = λ n l. let e : n ≡ 0 = omega arith in rw e (omega arith);
-  positive = omega arith;
-}
-
-pub product_step : (d : DiagramView) → IsDiagram d → (v product : ℕ) → v < length d.nodes → ProductSoFar d.nodes v product → product * bound_factor d.nodes v ≤ greatest_number → ProductSoFar d.nodes (v + 1) (product * bound_factor d.nodes v)
-product_step d is v product l s small = record {
-  so_far = next;
-  none_passes = λ n le. go n (s.none_passes n) le;
-  positive = mul-pos s.positive (factor_positive d is v);
-}
-  where
-    next : product * bound_factor d.nodes v ≡ bound_up_to d.nodes (v + 1)
-    next = ap (λ p. p * bound_factor d.nodes v) s.so_far ∙ sym (up_to_next d.nodes v l)
-
-    here : bound_up_to d.nodes (v + 1) ≤ greatest_number
-    here = rw (← next) small
-
-    at_end : (n : ℕ) → n ≡ v + 1 → bound_up_to d.nodes n ≤ greatest_number
-    at_end n e = rw e here
-
-    go : (n : ℕ) → (n ≤ v → bound_up_to d.nodes n ≤ greatest_number) → n ≤ v + 1 → bound_up_to d.nodes n ≤ greatest_number
-    go n before le = ⊎_elim (λ (h : v < n). at_end n (omega arith)) (λ (h : n ≤ v). before h) (cases_lt v n)
-
-pub passes_here : (d : DiagramView) → IsDiagram d → (v product : ℕ) → v < length d.nodes → ProductSoFar d.nodes v product → greatest_number < product * bound_factor d.nodes v → (KeepsBound d → ⊥) × PassesAt d.nodes v
-passes_here d is v product l s wide = (
-  λ keeps. omega (arith, keeps, passes, front_within (bound_factor d.nodes) (factor_positive d is) (v + 1) (numbers_of d.nodes), grows),
-  (l, passes, s.none_passes),
-)
-  where
-    passes : greatest_number < bound_up_to d.nodes (v + 1)
-    passes = rw (up_to_next d.nodes v l, ← s.so_far) wide
-
-    scale : 1 ≤ max (10 ^ d.decimals) (greatest_utility d.nodes)
-    scale = omega (arith, pow-le-pow_right {n = 10} (omega arith) {i = 0} {j = d.decimals} (omega arith))
-
-    grows : bound_product d.nodes * 1 ≤ bound_product d.nodes * max (10 ^ d.decimals) (greatest_utility d.nodes)
-    grows = mul-le-mul_left (bound_product d.nodes) scale
-
-pub product_end : (nodes : List NodeView) (v product : ℕ) → ProductSoFar nodes v product → length nodes ≤ v → v ≤ length nodes → (product ≡ bound_product nodes) × NonePasses nodes
-product_end nodes v product s l m = (
-  s.so_far ∙ ap (λ n. bound_up_to nodes n) ends ∙ ap (nat_product_over (bound_factor nodes)) (take_all (length nodes) 0),
-  λ u p. omega (arith, p.1, s.none_passes (u + 1) (omega (arith, p.0))),
-)
-  where
-    ends : v ≡ length nodes
-    ends = omega arith
+    scaled : nat_product_over f scope * 1 ≤ nat_product_over f scope * max (10 ^ decimals) utilities
+    scaled = mul-le-mul_left (nat_product_over f scope) scale

@@ -1,4 +1,5 @@
 pub mod Bounding
+pub mod BoundPlaces
 pub mod Decided
 pub mod Divisors
 pub mod Greatest
@@ -6,6 +7,7 @@ pub mod Lists
 pub mod Pivots
 pub mod Results
 pub mod RowParts
+pub mod ScopeMembers
 pub mod Shares
 pub mod Signs
 pub mod Stripped

@@ -1,8 +1,11 @@
--- What holds of every numeral and of every scaling.
+-- What holds of every numeral, of every scaling and of the place of a bound.
 use Rattle.std.specs.Prelude.{◌≡◌, ◌⊎◌, ◌<◌, ◌/◌, ℕ, List, length}
 use Rattle.std.specs.Int.{◌∣◌}
 use Rattle.maid_model.specs.Tables.{IsTable}
+use Rattle.maid_model.specs.Views.{DiagramView}
 use Rattle.weight_scale.specs.declared.decimal.Decimal.{Decimal}
+use Rattle.weight_scale.specs.declared.weight_bound.BoundPlace.{BoundPlace}
+use Rattle.weight_scale.specs.Bound.{IsBoundPlace}
 use Rattle.weight_scale.specs.Numeral.{numerator, denominator, IsDecimalOf, IsLeastDecimalOf}
 use Rattle.weight_scale.specs.Views.{ScaledView}
 use Rattle.weight_scale.specs.Scaling.{NoneNegative, NoZeroRow, IsScaled, IsTooWide}
@@ -26,3 +29,11 @@ ScaledIsTable = (rows : List Decimal) (states : ℕ) (scaled : ScaledView) → 0
 -- two scalings of the same rows are equal
 abbrev pub ScalesInOneWay : Type 0
 ScalesInOneWay = (rows : List Decimal) (states : ℕ) (a b : ScaledView) → 0 < states → states ∣ length rows → IsScaled rows states a → IsScaled rows states b → a ≡ b
+
+-- the bounds of all scopes hold, or the first that fails has a place
+abbrev pub HasBoundPlace : Type 0
+HasBoundPlace = (d : DiagramView) → (place : BoundPlace) × IsBoundPlace d place
+
+-- and never two
+abbrev pub OneBoundPlace : Type 0
+OneBoundPlace = (d : DiagramView) (a b : BoundPlace) → IsBoundPlace d a → IsBoundPlace d b → a ≡ b

@@ -3,5 +3,6 @@ pub mod Laws
 pub mod Numeral
 pub mod Rows
 pub mod Scaling
+pub mod ScopePlaces
 pub mod Significant
 pub mod Views

@@ -1,6 +1,6 @@
-//! Laws of numerals and of scaled rows, over the definitions alone.
+//! Laws of numerals, of scaled rows and of the weight bound, over the definitions alone.
 
-ghost use Rattle.weight_scale.specs.Laws.{DecimalOrNone, ScaledOrTooWide, NeverScaledAndTooWide, ScaledIsTable, ScalesInOneWay};
+ghost use Rattle.weight_scale.specs.Laws.{DecimalOrNone, ScaledOrTooWide, NeverScaledAndTooWide, ScaledIsTable, ScalesInOneWay, HasBoundPlace, OneBoundPlace};
 
 /// Each numeral has a decimal, or none at all.
 pub fn a_numeral_has_a_decimal_or_none()
@@ -18,4 +18,11 @@ pub fn rows_are_scaled_or_too_wide()
 /// The rows of a table have one scaling: the weights and their total are determined.
 pub fn rows_scale_in_one_way()
     ensures { ScalesInOneWay }
+{}
+
+/// Either the weight bound holds in the scopes of all decisions and agents, or it fails first at one node or at the
+/// utilities: one of the three, and at one node at most.
+pub fn bound_has_one_place()
+    ensures some { HasBoundPlace }
+    ensures one { OneBoundPlace }
 {}

@@ -1,6 +1,6 @@
 //! The numbers of a text made exact: `numeral` gives a numeral's value as a whole number and its
 //! decimals, `scale_rows` takes the rows of a chance table in proportion, and `bound` says whether
-//! the sums over a diagram's worlds have room.
+//! the sums over the worlds that matter to a decision or an agent have room.
 #![tactic(auto)]
 
 mod decimal;
@@ -10,11 +10,13 @@ mod numerals;
 mod products;
 mod rows;
 mod scaling;
+mod scopes;
 mod weight_bound;
 
 pub use decimal::Decimal;
 pub use laws::{
-    a_numeral_has_a_decimal_or_none, rows_are_scaled_or_too_wide, rows_scale_in_one_way,
+    a_numeral_has_a_decimal_or_none, bound_has_one_place, rows_are_scaled_or_too_wide,
+    rows_scale_in_one_way,
 };
 pub use numerals::numeral;
 pub use scaling::{ScaleFault, Scaled, scale_rows};

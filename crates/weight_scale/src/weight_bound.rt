@@ -1,15 +1,15 @@
-//! The weight bound, and the place at which it fails.
+//! The weight bound of decisions and agents, and the place at which the first that fails does so.
 
-ghost use Rattle.std.specs.Prelude.{◌≡◌, ◌<◌, ◌≤◌, ◌*◌, ◌^◌, ◌↔◌, length, max, IsTrue, if◌then◌else◌};
-ghost use Rattle.std.specs.Option.{SomeIff};
+ghost use Rattle.std.specs.Prelude.{◌≡◌, ℕ, ◌<◌, ◌≤◌, length};
 ghost use Rattle.maid_model.specs.Bounds.{bound_factor};
 ghost use Rattle.maid_model.specs.Diagrams.{greatest_number};
-ghost use Rattle.maid_model.specs.Gains.{greatest_abs, greatest_utility};
-ghost use Rattle.maid_model.specs.Nodes.{node_at, is_utility};
+ghost use Rattle.maid_model.specs.Nodes.{IsDecision};
+ghost use Rattle.maid_model.specs.Scopes.{chance_factor, goals_of, scope_bound, scope_for, scope_of, utilities_for};
 ghost use Rattle.weight_scale.specs.Bound.{IsBoundPlace};
+ghost use Rattle.weight_scale.specs.ScopePlaces.{IsPlaceInScope, IsPlaceOfDecisions};
 
-use maid_model::{Diagram, GREATEST_NUMBER, Kind};
-use whole_num::{add_within, mul_within};
+use crate::scopes::{scope_for, scope_of};
+use maid_model::Diagram;
 
 /// Where the weight bound of a diagram fails: nowhere, first at a node, or at the utilities.
 #[derive(Clone, Copy, Debug, PartialEq, Eq)]
@@ -19,79 +19,57 @@ pub enum BoundPlace {
     Utilities,
 }
 
-// With what the node counts in the bound: a chance node with its total, a decision with the count of
-// its states.
-fn factor(diagram: &Diagram, v: usize) -> u128
+// Where the bound of the node fails, if it is a decision.
+fn place_at(diagram: &Diagram, v: usize) -> BoundPlace
     requires { v < length diagram.now.nodes }
-    ensures { result ≡ bound_factor diagram.now.nodes v }
+    ensures decision { IsDecision diagram.now.nodes v → IsPlaceInScope diagram.now (bound_factor diagram.now.nodes) (scope_of diagram.now.nodes v) (goals_of diagram.now.nodes v) result }
+    ensures other { (IsDecision diagram.now.nodes v → ⊥) → result ≡ BoundPlace.Within }
 {
-    match diagram.kind(v) {
-        Kind::Chance => diagram.weight_total(v),
-        Kind::Decision => diagram.states(v) as u128,
-        Kind::Utility => 1,
+    match scope_of(diagram, v) {
+        Some(scope) => scope.place(diagram),
+        None => BoundPlace::Within,
     }
 }
 
-fn greatest_abs(cells: &[i128]) -> u128
-    ensures { result ≡ greatest_abs cells.now }
+// Where the bound of the first decision that fails does so.
+fn place_of_decisions(diagram: &Diagram) -> BoundPlace
+    ensures { IsPlaceOfDecisions diagram.now result }
 {
-    let mut greatest = 0;
-    for cell in cells {
-        greatest = cell.unsigned_abs().max(greatest);
-    }
-    greatest
-}
-
-// The greatest absolute value of the node's cells if it is a utility, and else 0.
-fn greatest_at(diagram: &Diagram, v: usize) -> u128
-    requires { v < length diagram.now.nodes }
-    ensures { result ≡ (if is_utility (node_at diagram.now.nodes v).kind then greatest_abs (node_at diagram.now.nodes v).cells else 0) }
-{
-    match diagram.kind(v) {
-        Kind::Utility => greatest_abs(diagram.cells(v)),
-        Kind::Chance | Kind::Decision => 0,
-    }
-}
-
-// The greatest absolute values of all utilities added up, if the sum isn't too great.
-fn greatest_utility(diagram: &Diagram) -> Option<u128>
-    ensures { SomeIff result (greatest_utility diagram.now.nodes ≤ greatest_number) (greatest_utility diagram.now.nodes) }
-{
-    let mut sum = 0;
     for v in 0..diagram.count() {
-        sum = add_within(sum, greatest_at(diagram, v), GREATEST_NUMBER)?;
-    }
-    Some(sum)
-}
-
-// Whether the product over the nodes keeps the bound with the utilities, too.
-fn has_room(diagram: &Diagram, product: u128) -> bool
-    requires { 0 < product }
-    ensures { IsTrue result ↔ (product * max (10 ^ diagram.now.decimals) (greatest_utility diagram.now.nodes) ≤ greatest_number) }
-{
-    let scale = 10u128.pow(diagram.decimals());
-    match greatest_utility(diagram) {
-        Some(utility) => mul_within(product, scale.max(utility), GREATEST_NUMBER).is_some(),
-        None => false,
-    }
-}
-
-/// Where the weight bound of the diagram fails: at the first node up to which the product of the
-/// chance totals and of the decisions' counts of states passes 2^126 - 1, or else at the utilities.
-/// It takes no memory, and looks at each node and each utility's cell once.
-pub fn bound(diagram: &Diagram) -> BoundPlace
-    ensures { IsBoundPlace diagram.now result }
-{
-    let mut product = 1;
-    for v in 0..diagram.count() {
-        match mul_within(product, factor(diagram, v), GREATEST_NUMBER) {
-            Some(longer) => product = longer,
-            None => return BoundPlace::Node(v),
+        match place_at(diagram, v) {
+            BoundPlace::Within => {}
+            place => return place,
         }
     }
-    if has_room(diagram, product) {
-        BoundPlace::Within
-    } else {
-        BoundPlace::Utilities
+    BoundPlace::Within
+}
+
+// Where the bound of the first agent that fails does so.
+fn place_of_agents(diagram: &Diagram) -> BoundPlace
+    requires { (v : ℕ) → IsDecision diagram.now.nodes v → scope_bound diagram.now v ≤ greatest_number }
+    ensures { IsBoundPlace diagram.now result }
+{
+    for agent in 0..diagram.agents() {
+        match scope_for(diagram, agent).place(diagram) {
+            BoundPlace::Within => {}
+            place => return place,
+        }
+    }
+    BoundPlace::Within
+}
+
+/// Where the weight bound of the diagram fails. It is tried for the scope of each decision in text
+/// order, then for that of each agent; the first that fails counts. Its place is the first node of
+/// the scope up to which the product of the chance totals, and in a decision's scope of the
+/// decisions' counts of states too, passes 2^126 - 1, or else the utilities. It takes no memory; for
+/// each decision and each agent it goes over all arcs a few times, and once over the cells of the
+/// scope's utilities and the first row of its chance tables.
+pub fn bound(diagram: &Diagram) -> BoundPlace
+    ensures place { IsBoundPlace diagram.now result }
+    ensures only { (place : BoundPlace) → IsBoundPlace diagram.now place → place ≡ result }
+{
+    match place_of_decisions(diagram) {
+        BoundPlace::Within => place_of_agents(diagram),
+        place => place,
     }
 }

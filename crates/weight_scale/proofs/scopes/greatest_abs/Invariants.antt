@@ -1,6 +1,6 @@
 use Rattle.std.proofs.Common.{◌≡◌, max, drop}
 use Rattle.maid_model.specs.Gains.{greatest_abs}
-use Rattle.weight_scale.proofs.weight_bound.greatest_abs.Given as goal
+use Rattle.weight_scale.proofs.scopes.greatest_abs.Given as goal
 
 abbrev pub invariant-loop-cell : goal.invariant-loop-cell
 invariant-loop-cell l = max (greatest_abs (drop l.cell-index l.cells)) l.greatest ≡ greatest_abs l.cells

@@ -1,0 +1,53 @@
+-- What the steps of the search for the bound's place promise one another.
+use Rattle.std.specs.Prelude.{◌≡◌, ℕ, ◌<◌, ◌≤◌, ◌*◌, ◌^◌, max, List, length, filter}
+use Rattle.node_sets.specs.declared.sets.NodeSet.{NodeSet}
+use Rattle.node_sets.specs.Sets.{holds}
+use Rattle.finite_sums.specs.Sums.{nat_product_over}
+use Rattle.maid_model.specs.declared.diagrams.Kind.TheVariants.{Utility}
+use Rattle.maid_model.specs.Views.{NodeView, DiagramView}
+use Rattle.maid_model.specs.Nodes.{IsDecision, Owns, node_at, numbers_of}
+use Rattle.maid_model.specs.Bounds.{bound_factor}
+use Rattle.maid_model.specs.Diagrams.{greatest_number}
+use Rattle.maid_model.specs.Scopes.{scope_of, scope_bound, scope_product, chance_factor, greatest_of, PassesInScope, FailsFirst}
+use Rattle.weight_scale.specs.declared.scopes.Counted.{Counted}
+use Rattle.weight_scale.specs.declared.scopes.Counted.TheVariants.{ChanceAndDecisions, ChanceAlone}
+use Rattle.weight_scale.specs.declared.scopes.Scope.{Scope}
+use Rattle.weight_scale.specs.declared.weight_bound.BoundPlace.{BoundPlace}
+use Rattle.weight_scale.specs.declared.weight_bound.BoundPlace.TheVariants.{Within, Node, Utilities}
+
+-- the nodes that the set holds, in text order
+abbrev pub members_of : List NodeView → NodeSet → List ℕ
+members_of nodes set = filter (holds set) (numbers_of nodes)
+
+-- u is a utility of the agent
+pub record IsUtilityFor (nodes : List NodeView) (agent u : ℕ) : Type 0 where
+  pub within : u < length nodes
+  pub kind : (node_at nodes u).kind ≡ Utility
+  pub owner : Owns nodes agent u
+
+-- with what a node counts in a product
+abbrev pub factor_by : Counted → List NodeView → ℕ → ℕ
+factor_by ChanceAndDecisions nodes v = bound_factor nodes v
+factor_by ChanceAlone nodes v = chance_factor nodes v
+
+-- the scope has these nodes and these utilities, and counts so
+pub record IsScope (nodes : List NodeView) (scope : Scope) (counted : Counted) (members utilities : List ℕ) : Type 0 where
+  pub counts : scope.counted ≡ counted
+  pub members_are : members_of nodes scope.nodes ≡ members
+  pub utilities_are : members_of nodes scope.utilities ≡ utilities
+
+-- a scope's product by these factors, times the greatest of the utilities' scale and the sum of the greatest values of these utilities
+abbrev pub bound_in : DiagramView → (ℕ → ℕ) → List ℕ → List ℕ → ℕ
+bound_in d factor scope utilities = nat_product_over factor scope * max (10 ^ d.decimals) (greatest_of d.nodes utilities)
+
+-- of one scope. Within: its bound holds. Node: it fails, and its product passes there. Utilities: it fails, and its product is within the range.
+abbrev pub IsPlaceInScope : DiagramView → (ℕ → ℕ) → List ℕ → List ℕ → BoundPlace → Type 0
+IsPlaceInScope d factor scope utilities Within = bound_in d factor scope utilities ≤ greatest_number
+IsPlaceInScope d factor scope utilities (Node v) = (greatest_number < bound_in d factor scope utilities) × PassesInScope factor scope v
+IsPlaceInScope d factor scope utilities Utilities = (greatest_number < bound_in d factor scope utilities) × (nat_product_over factor scope ≤ greatest_number)
+
+-- of the decisions. Within: their bounds hold. Node: the first that fails passes there. Utilities: it passes by its utilities alone.
+abbrev pub IsPlaceOfDecisions : DiagramView → BoundPlace → Type 0
+IsPlaceOfDecisions d Within = (v : ℕ) → IsDecision d.nodes v → scope_bound d v ≤ greatest_number
+IsPlaceOfDecisions d (Node v) = (e : ℕ) × FailsFirst d e × PassesInScope (bound_factor d.nodes) (scope_of d.nodes e) v
+IsPlaceOfDecisions d Utilities = (e : ℕ) × FailsFirst d e × (scope_product d.nodes e ≤ greatest_number)

@@ -1,0 +1,167 @@
+//! The scope of a decision or of an agent, and where its bound fails.
+
+ghost use Rattle.std.specs.Prelude.{◌≡◌, ℕ, ◌<◌, ◌≤◌, ◌*◌, ◌^◌, ◌↔◌, length, max, IsTrue, MatchOption, if◌then◌else◌};
+ghost use Rattle.std.specs.Option.{SomeIff};
+ghost use Rattle.node_sets.specs.Sets.{holds, IsIn};
+ghost use Rattle.maid_model.specs.Diagrams.{greatest_number};
+ghost use Rattle.maid_model.specs.Gains.{greatest_abs};
+ghost use Rattle.maid_model.specs.Nodes.{IsDecision, node_at};
+ghost use Rattle.maid_model.specs.Scopes.{goals_of, greatest_of, scope_for, scope_of, utilities_for};
+ghost use Rattle.weight_scale.specs.ScopePlaces.{factor_by, members_of, IsUtilityFor, IsScope, IsPlaceInScope};
+
+use crate::weight_bound::BoundPlace;
+use maid_model::{Diagram, GREATEST_NUMBER, Kind, goals_of};
+use node_sets::{NodeSet, ancestors};
+use whole_num::{add_within, mul_within};
+
+/// Which nodes of a scope count in its product.
+#[derive(Clone, Copy)]
+pub(crate) enum Counted {
+    ChanceAndDecisions,
+    ChanceAlone,
+}
+
+/// The nodes from which a path leads to what somebody looks at, and the utilities among that.
+#[derive(Clone, Copy)]
+pub(crate) struct Scope {
+    counted: Counted,
+    nodes: NodeSet,
+    utilities: NodeSet,
+}
+
+fn is_utility_of(diagram: &Diagram, agent: usize, v: usize) -> bool
+    requires { v < length diagram.now.nodes }
+    ensures { IsTrue result ↔ IsUtilityFor diagram.now.nodes agent v }
+{
+    match diagram.kind(v) {
+        Kind::Utility => diagram.owns(agent, v),
+        Kind::Chance | Kind::Decision => false,
+    }
+}
+
+fn utilities_of(diagram: &Diagram, agent: usize) -> NodeSet
+    ensures { (v : ℕ) → IsIn result v ↔ IsUtilityFor diagram.now.nodes agent v }
+{
+    let mut utilities = NodeSet::empty();
+    for v in 0..diagram.count() {
+        if is_utility_of(diagram, agent, v) {
+            utilities.insert(v);
+        }
+    }
+    utilities
+}
+
+/// The scope of the node, if it is a decision: what leads to it, or to a utility of its agent that descends from it.
+pub(crate) fn scope_of(diagram: &Diagram, v: usize) -> Option<Scope>
+    requires { v < length diagram.now.nodes }
+    ensures { MatchOption result (IsDecision diagram.now.nodes v → ⊥) (λ scope. IsDecision diagram.now.nodes v × IsScope diagram.now.nodes scope Counted.ChanceAndDecisions (scope_of diagram.now.nodes v) (goals_of diagram.now.nodes v)) }
+{
+    match diagram.kind(v) {
+        Kind::Decision => {
+            let utilities = goals_of(diagram, v);
+            let mut ends = utilities;
+            ends.insert(v);
+            Some(Scope {
+                counted: Counted::ChanceAndDecisions,
+                nodes: ancestors(diagram, ends),
+                utilities,
+            })
+        }
+        Kind::Chance | Kind::Utility => None,
+    }
+}
+
+/// The scope of the agent: what leads to one of its utilities.
+pub(crate) fn scope_for(diagram: &Diagram, agent: usize) -> Scope
+    ensures { IsScope diagram.now.nodes result Counted.ChanceAlone (scope_for diagram.now.nodes agent) (utilities_for diagram.now.nodes agent) }
+{
+    let utilities = utilities_of(diagram, agent);
+    Scope {
+        counted: Counted::ChanceAlone,
+        nodes: ancestors(diagram, utilities),
+        utilities,
+    }
+}
+
+fn greatest_abs(cells: &[i128]) -> u128
+    ensures { result ≡ greatest_abs cells.now }
+{
+    let mut greatest = 0;
+    for cell in cells {
+        greatest = cell.unsigned_abs().max(greatest);
+    }
+    greatest
+}
+
+impl Scope {
+    // With what the node counts in the scope's product: a chance node with its total, a decision with
+    // the count of its states where decisions count, and a node that the scope lacks with 1.
+    fn factor(&self, diagram: &Diagram, v: usize) -> u128
+        requires { v < length diagram.now.nodes }
+        ensures { result ≡ (if holds self.now.nodes v then factor_by self.now.counted diagram.now.nodes v else 1) }
+    {
+        let kind = diagram.kind(v);
+        if !self.nodes.holds(v) {
+            return 1;
+        }
+        match (kind, self.counted) {
+            (Kind::Chance, _) => diagram.weight_total(v),
+            (Kind::Decision, Counted::ChanceAndDecisions) => diagram.states(v) as u128,
+            (Kind::Decision, Counted::ChanceAlone) | (Kind::Utility, _) => 1,
+        }
+    }
+
+    // The greatest absolute value of the node's cells if it is one of the scope's utilities, and else 0.
+    fn greatest_at(&self, diagram: &Diagram, v: usize) -> u128
+        requires { v < length diagram.now.nodes }
+        ensures { result ≡ (if holds self.now.utilities v then greatest_abs (node_at diagram.now.nodes v).cells else 0) }
+    {
+        let cells = diagram.cells(v);
+        if self.utilities.holds(v) {
+            greatest_abs(cells)
+        } else {
+            0
+        }
+    }
+
+    // The greatest absolute values of the scope's utilities added up, if the sum isn't too great.
+    fn greatest(&self, diagram: &Diagram) -> Option<u128>
+        ensures { SomeIff result (greatest_of diagram.now.nodes (members_of diagram.now.nodes self.now.utilities) ≤ greatest_number) (greatest_of diagram.now.nodes (members_of diagram.now.nodes self.now.utilities)) }
+    {
+        let mut sum = 0;
+        for v in 0..diagram.count() {
+            sum = add_within(sum, self.greatest_at(diagram, v), GREATEST_NUMBER)?;
+        }
+        Some(sum)
+    }
+
+    // Whether the scope's product keeps the bound with its utilities, too.
+    fn has_room(&self, diagram: &Diagram, product: u128) -> bool
+        requires { 0 < product }
+        ensures { IsTrue result ↔ (product * max (10 ^ diagram.now.decimals) (greatest_of diagram.now.nodes (members_of diagram.now.nodes self.now.utilities)) ≤ greatest_number) }
+    {
+        let scale = 10u128.pow(diagram.decimals());
+        match self.greatest(diagram) {
+            Some(utility) => mul_within(product, scale.max(utility), GREATEST_NUMBER).is_some(),
+            None => false,
+        }
+    }
+
+    /// Where the scope's bound fails.
+    pub(crate) fn place(&self, diagram: &Diagram) -> BoundPlace
+        ensures { IsPlaceInScope diagram.now (factor_by self.now.counted diagram.now.nodes) (members_of diagram.now.nodes self.now.nodes) (members_of diagram.now.nodes self.now.utilities) result }
+    {
+        let mut product = 1;
+        for v in 0..diagram.count() {
+            match mul_within(product, self.factor(diagram, v), GREATEST_NUMBER) {
+                Some(longer) => product = longer,
+                None => return BoundPlace::Node(v),
+            }
+        }
+        if self.has_room(diagram, product) {
+            BoundPlace::Within
+        } else {
+            BoundPlace::Utilities
+        }
+    }
+}
