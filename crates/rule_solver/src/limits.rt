@@ -1,30 +1,22 @@
 //! The limits that a diagram must keep to be solved.
 
-ghost use Rattle.std.specs.Prelude.{◌≡◌, OnOk};
+ghost use Rattle.std.specs.Prelude.{◌≡◌, ◌≤◌, IfOk, OnOk};
 ghost use Rattle.first_fault.specs.Answers.{Passes};
-ghost use Rattle.first_fault.specs.Passes.{◌▸◌};
-ghost use Rattle.maid_model.specs.Bounds.{world_count, stopped};
 ghost use Rattle.maid_model.specs.Diagrams.{IsDiagram};
-ghost use Rattle.rule_solver.specs.Faults.{solve_fault, bound_pass, worlds_pass};
+ghost use Rattle.maid_model.specs.Placing.{IsRelianceOrder};
+ghost use Rattle.maid_model.specs.Scopes.{KeepsScopedBounds};
+ghost use Rattle.rule_solver.specs.Faults.{bound_pass, size_pass, solve_fault};
+ghost use Rattle.rule_solver.specs.Rooms.{HasRoom};
 
 use crate::SolveFault;
-use maid_model::{COUNT_END, Diagram, MOST_WORLDS};
+use maid_laws::one_answer;
+use maid_model::{Diagram, MOST_PLAN_CELLS, MOST_WORK};
+use size_precheck::{Size, greedy_orders, measure, sizes_of_plans};
+use std::alloc::Global;
 use weight_scale::{BoundPlace, bound};
 
-/// How many worlds the diagram has, or 10 to the power of 18 where that is less.
-fn count_worlds(diagram: &Diagram) -> u128
-    ensures world_count { result ≡ stopped (world_count diagram.now.nodes) }
-    ensures diagram { IsDiagram diagram.now }
-{
-    let mut worlds: u128 = 1;
-    for v in 0..diagram.count() {
-        worlds = COUNT_END.min(worlds * diagram.states(v) as u128);
-    }
-    worlds
-}
-
 /// Refuses a diagram that doesn't keep the weight bound.
-fn keep_bound(diagram: &Diagram) -> Result<(), SolveFault>
+pub(crate) fn keep_bound(diagram: &Diagram) -> Result<(), SolveFault>
     ensures { Passes solve_fault (bound_pass diagram.now) result }
 {
     match bound(diagram) {
@@ -34,23 +26,31 @@ fn keep_bound(diagram: &Diagram) -> Result<(), SolveFault>
     }
 }
 
-/// Refuses a diagram with too many worlds.
-fn keep_worlds(diagram: &Diagram) -> Result<(), SolveFault>
-    ensures rows { Passes solve_fault (worlds_pass diagram.now) result }
-    ensures diagram { IsDiagram diagram.now }
-{
-    let worlds = count_worlds(diagram);
-    if worlds > MOST_WORLDS {
-        return Err(SolveFault::NotBuilt { worlds });
-    }
-    Ok(())
+/// Whether a size passes a limit.
+fn is_too_large(size: &Size) -> bool {
+    size.cells > MOST_PLAN_CELLS as u128 || size.work > MOST_WORK
 }
 
-/// Refuses a diagram that doesn't keep the weight bound, or else one with too many worlds.
-pub(crate) fn keep_limits(diagram: &Diagram) -> Result<(), SolveFault>
-    ensures rows { Passes solve_fault (bound_pass diagram.now ▸ worlds_pass diagram.now) result }
+/// How many cells the plans of the run that solves the decisions in this order need at most. Refuses one that is too
+/// large.
+pub(crate) fn keep_sizes(
+    alloc: Global,
+    diagram: &Diagram,
+    order: &[usize],
+) -> Result<usize, SolveFault>
+    requires order { IsRelianceOrder diagram.now.nodes order.now }
+    ensures rows { Passes solve_fault (size_pass diagram.now) result }
+    ensures room { IfOk result (λ cells. HasRoom diagram.now.nodes cells) }
+    ensures limit { IfOk result (λ cells. cells ≤ MOST_PLAN_CELLS) }
     ensures diagram { OnOk result (IsDiagram diagram.now) }
 {
-    keep_bound(diagram)?;
-    keep_worlds(diagram)
+    sizes_of_plans();
+    let size = measure(alloc, diagram, order)?;
+    if is_too_large(&size) {
+        return Err(SolveFault::TooLarge {
+            cells: size.cells,
+            work: size.work,
+        });
+    }
+    Ok(size.cells as usize)
 }
