@@ -1,7 +1,6 @@
 mod Equals
 mod Members
 mod Orders
-mod LeafLemmas
 mod MassLemmas
 mod RowLemmas
 mod DecisionLemmas

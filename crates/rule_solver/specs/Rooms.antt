@@ -2,7 +2,7 @@
 use Rattle.std.specs.Prelude.{◌≡◌, ℕ, ◌<◌, ◌≤◌, List, [], length}
 use Rattle.maid_model.specs.declared.diagrams.Kind.TheVariants.{Utility}
 use Rattle.maid_model.specs.declared.limits.TheConstants.{MOST_PLAN_CELLS}
-use Rattle.maid_model.specs.Nodes.{node_at}
+use Rattle.maid_model.specs.Nodes.{IsDecision, node_at}
 use Rattle.maid_model.specs.Relevance.{IsGoal}
 use Rattle.maid_model.specs.Views.{NodeView}
 use Rattle.plan_sums.specs.Plans.{PlanView, row_plan, gain_plan, worth_plan}
@@ -27,3 +27,8 @@ pub record IsReady {C : Type 0} (cells : ℕ) (work : WorkspaceView C) : Type 0 
   pub empty : work.cells ≡ []
   pub spare : work.spare ≡ cells
   pub limit : cells ≤ MOST_PLAN_CELLS
+
+-- so do all plans of a run
+pub record HasRoom (nodes : List NodeView) (cells : ℕ) : Type 0 where
+  pub decisions : (d : ℕ) → IsDecision nodes d → HasRoomAt nodes d cells
+  pub worths : HasRoomForWorths nodes cells
