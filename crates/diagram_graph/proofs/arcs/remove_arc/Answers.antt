@@ -1,8 +1,8 @@
 use Rattle.std.proofs.Common.{◌≡◌, ◌∙◌, ap, sym, subst}
 use Rattle.maid_model.specs.Diagrams.{IsDiagram}
 use Rattle.maid_model.specs.Edits.{without_arc}
-use Rattle.requisite_trim.proofs.Losing.{diagram_kept}
-use Rattle.requisite_trim.proofs.arcs.remove_arc.Goals as goal
+use Rattle.diagram_graph.proofs.Losing.{diagram_kept}
+use Rattle.diagram_graph.proofs.arcs.remove_arc.Goals as goal
 
 pub from_nodes-requires : goal.from_nodes-requires
 from_nodes-requires c =
