@@ -39,12 +39,12 @@ pub record KeepsRoom (nodes : List NodeView) (d : ℕ) (gains : List ℤ) (masse
 -- ---- on the way; only private functions cite the rest
 -- a decision and a profile whose other rules are small, within the bound, with the totals of all nodes and the decision's scope
 pub record IsSetting (d : DiagramView) (p : List RuleView) (decision : ℕ) (totals : List ℕ) (scope : NodeSet) : Type 0 where
-  pub decision : IsDecision d.nodes decision
+  pub is_decision : IsDecision d.nodes decision
   pub profile : IsProfile d.nodes p
   pub rules : HasSmallRules d.nodes p decision
   pub bound : scope_bound d decision ≤ greatest_number
-  pub totals : HasTotals d.nodes p totals
-  pub scope : (v : ℕ) → IsIn scope v ↔ Contains (scope_of d.nodes decision) v
+  pub has_totals : HasTotals d.nodes p totals
+  pub is_scope : (v : ℕ) → IsIn scope v ↔ Contains (scope_of d.nodes decision) v
 
 -- a mass for each row
 pub record HasMasses (d : DiagramView) (p : List RuleView) (decision : ℕ) (masses : List ℕ) : Type 0 where

@@ -34,9 +34,9 @@ pub record IsStake (d : DiagramView) (p : List RuleView) (agent : ℕ) (totals :
   pub profile : IsProfile d.nodes p
   pub rules : HasUnitRules d.nodes p
   pub bound : scope_bound_for d agent ≤ greatest_number
-  pub totals : HasTotals d.nodes p totals
-  pub worths : HasWorths d.nodes p worths
-  pub scope : (v : ℕ) → IsIn scope v ↔ Contains (scope_for d.nodes agent) v
+  pub has_totals : HasTotals d.nodes p totals
+  pub has_worths : HasWorths d.nodes p worths
+  pub is_scope : (v : ℕ) → IsIn scope v ↔ Contains (scope_for d.nodes agent) v
 
 -- the agent's gain in the part of its scope
 abbrev pub scope_gain_for : List NodeView → List RuleView → ℕ → ℤ
