@@ -1,2 +1,7 @@
 pub mod Listing
 pub mod Stepping
+pub mod Numbers
+pub mod Ruled
+pub mod Standing
+pub mod Starting
+pub mod Sizes
