@@ -5,3 +5,5 @@ pub mod Ruled
 pub mod Standing
 pub mod Starting
 pub mod Sizes
+pub mod Going
+pub mod Whole
