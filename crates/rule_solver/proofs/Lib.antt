@@ -1,9 +1,11 @@
 mod Equals
 mod Members
 mod Orders
-mod MassLemmas
+mod GainLemmas
 mod RowLemmas
 mod DecisionLemmas
+mod PlanLemmas
+mod SumLemmas
 mod AnsweredRules
 mod BaseLemmas
 mod AnswerLemmas

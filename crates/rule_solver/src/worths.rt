@@ -103,6 +103,7 @@ fn list_worths(
 }
 
 /// An agent, and what its expected utility is made of.
+#[derive(Drop)]
 struct Stake<'a> {
     diagram: &'a Diagram,
     profile: &'a Profile,
