@@ -1,6 +1,9 @@
 mod Equals
 mod Members
 mod Orders
+mod Rooms
+mod ProductLemmas
+mod Missing
 mod LeafLemmas
 mod MassLemmas
 mod RowLemmas

@@ -2,7 +2,7 @@
 use Rattle.std.specs.Prelude.{◌≡◌, ℕ, ◌<◌, ◌≤◌, List, [], length}
 use Rattle.maid_model.specs.declared.diagrams.Kind.TheVariants.{Utility}
 use Rattle.maid_model.specs.declared.limits.TheConstants.{MOST_PLAN_CELLS}
-use Rattle.maid_model.specs.Nodes.{node_at}
+use Rattle.maid_model.specs.Nodes.{IsDecision, node_at}
 use Rattle.maid_model.specs.Relevance.{IsGoal}
 use Rattle.maid_model.specs.Views.{NodeView}
 use Rattle.plan_sums.specs.Plans.{PlanView, row_plan, gain_plan, worth_plan}
@@ -21,6 +21,11 @@ pub record HasRoomAt (nodes : List NodeView) (d cells : ℕ) : Type 0 where
 -- and those of all utilities' worths
 abbrev pub HasRoomForWorths : List NodeView → ℕ → Type 0
 HasRoomForWorths nodes cells = (u : ℕ) → u < length nodes → (node_at nodes u).kind ≡ Utility → HasAtMost nodes (worth_plan u) cells
+
+-- so do all plans of a run
+pub record HasRoom (nodes : List NodeView) (cells : ℕ) : Type 0 where
+  pub decisions : (d : ℕ) → IsDecision nodes d → HasRoomAt nodes d cells
+  pub worths : HasRoomForWorths nodes cells
 
 -- a workspace within the limit has no table and room for so many cells
 pub record IsReady {C : Type 0} (cells : ℕ) (work : WorkspaceView C) : Type 0 where
