@@ -2,6 +2,9 @@ mod Equals
 mod Members
 mod Orders
 mod GainLemmas
+mod Rooms
+mod ProductLemmas
+mod Missing
 mod RowLemmas
 mod DecisionLemmas
 mod PlanLemmas

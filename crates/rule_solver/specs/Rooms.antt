@@ -22,13 +22,13 @@ pub record HasRoomAt (nodes : List NodeView) (d cells : ℕ) : Type 0 where
 abbrev pub HasRoomForWorths : List NodeView → ℕ → Type 0
 HasRoomForWorths nodes cells = (u : ℕ) → u < length nodes → (node_at nodes u).kind ≡ Utility → HasAtMost nodes (worth_plan u) cells
 
+-- so do all plans of a run
+pub record HasRoom (nodes : List NodeView) (cells : ℕ) : Type 0 where
+  pub decisions : (d : ℕ) → IsDecision nodes d → HasRoomAt nodes d cells
+  pub worths : HasRoomForWorths nodes cells
+
 -- a workspace within the limit has no table and room for so many cells
 pub record IsReady {C : Type 0} (cells : ℕ) (work : WorkspaceView C) : Type 0 where
   pub empty : work.cells ≡ []
   pub spare : work.spare ≡ cells
   pub limit : cells ≤ MOST_PLAN_CELLS
-
--- so do all plans of a run
-pub record HasRoom (nodes : List NodeView) (cells : ℕ) : Type 0 where
-  pub decisions : (d : ℕ) → IsDecision nodes d → HasRoomAt nodes d cells
-  pub worths : HasRoomForWorths nodes cells

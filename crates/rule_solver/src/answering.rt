@@ -13,7 +13,7 @@ ghost use Rattle.rule_solver.specs.Rooms.{HasRoomAt, IsReady};
 use crate::bases::base_of;
 use crate::row_sums::Setting;
 use crate::rows::answer_rows;
-use crate::scopes::decision_scope;
+
 use crate::totals::list_totals;
 use crate::worths::scale;
 use cell_rings::{Gain, Mass};
@@ -22,6 +22,7 @@ use maid_model::{Answer, Diagram, Profile, Row};
 use part_laws::{parts_decide, scoped_sums_fit, scopes_are_parts};
 use relevance_graph::Relevance;
 use std::alloc::{AllocError, Global};
+use weight_scale::decision_scope;
 
 /// What is answered at the decision against the base, by the plan of its rows and one plan for each of its goals.
 fn answer_decision(

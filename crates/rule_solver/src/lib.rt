@@ -24,7 +24,6 @@ mod odometer;
 mod reading;
 mod row_sums;
 mod rows;
-mod scopes;
 mod solving;
 #[cfg(test)]
 mod tests;

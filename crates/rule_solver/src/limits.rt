@@ -1,23 +1,23 @@
 //! The limits that a diagram must keep to be solved.
 
-ghost use Rattle.std.specs.Prelude.{◌≡◌, ◌≤◌, IfOk, OnOk};
+ghost use Rattle.std.specs.Prelude.{◌≡◌, ◌≤◌, ◌↔◌, IsTrue, IfOk};
 ghost use Rattle.first_fault.specs.Answers.{Passes};
 ghost use Rattle.maid_model.specs.Diagrams.{IsDiagram};
 ghost use Rattle.maid_model.specs.Placing.{IsRelianceOrder};
 ghost use Rattle.maid_model.specs.Scopes.{KeepsScopedBounds};
-ghost use Rattle.rule_solver.specs.Faults.{bound_pass, size_pass, solve_fault};
+ghost use Rattle.rule_solver.specs.Faults.{KeepsSizes, bound_pass, size_pass, solve_fault};
 ghost use Rattle.rule_solver.specs.Rooms.{HasRoom};
 
 use crate::SolveFault;
-use maid_laws::one_answer;
-use maid_model::{Diagram, MOST_PLAN_CELLS, MOST_WORK};
+use maid_model::{Diagram, MOST_PLAN_CELLS, MOST_WORK, descent_is_tested};
 use size_precheck::{Size, greedy_orders, measure, sizes_of_plans};
 use std::alloc::Global;
 use weight_scale::{BoundPlace, bound};
 
 /// Refuses a diagram that doesn't keep the weight bound.
 pub(crate) fn keep_bound(diagram: &Diagram) -> Result<(), SolveFault>
-    ensures { Passes solve_fault (bound_pass diagram.now) result }
+    ensures rows { Passes solve_fault (bound_pass diagram.now) result }
+    ensures diagram { IsDiagram diagram.now }
 {
     match bound(diagram) {
         BoundPlace::Within => Ok(()),
@@ -26,9 +26,11 @@ pub(crate) fn keep_bound(diagram: &Diagram) -> Result<(), SolveFault>
     }
 }
 
-/// Whether a size passes a limit.
-fn is_too_large(size: &Size) -> bool {
-    size.cells > MOST_PLAN_CELLS as u128 || size.work > MOST_WORK
+/// Whether a size is within both limits.
+fn is_small(size: &Size) -> bool
+    ensures { IsTrue result ↔ KeepsSizes size.now }
+{
+    size.cells <= MOST_PLAN_CELLS as u128 && size.work <= MOST_WORK
 }
 
 /// How many cells the plans of the run that solves the decisions in this order need at most. Refuses one that is too
@@ -38,15 +40,16 @@ pub(crate) fn keep_sizes(
     diagram: &Diagram,
     order: &[usize],
 ) -> Result<usize, SolveFault>
-    requires order { IsRelianceOrder diagram.now.nodes order.now }
+    requires { IsRelianceOrder diagram.now.nodes order.now }
     ensures rows { Passes solve_fault (size_pass diagram.now) result }
     ensures room { IfOk result (λ cells. HasRoom diagram.now.nodes cells) }
     ensures limit { IfOk result (λ cells. cells ≤ MOST_PLAN_CELLS) }
-    ensures diagram { OnOk result (IsDiagram diagram.now) }
 {
     sizes_of_plans();
+    greedy_orders();
+    descent_is_tested();
     let size = measure(alloc, diagram, order)?;
-    if is_too_large(&size) {
+    if !is_small(&size) {
         return Err(SolveFault::TooLarge {
             cells: size.cells,
             work: size.work,

@@ -3,7 +3,7 @@
 ghost use Rattle.std.specs.Prelude.{◌≡◌, ◌<◌, ◌≤◌, ◌^◌, ℕ, true, IfOk, OnOk, length, nat_abs};
 ghost use Rattle.maid_model.specs.declared.diagrams.Kind.TheVariants.{Utility};
 ghost use Rattle.maid_model.specs.Answers.{IsExpectedUtility};
-ghost use Rattle.maid_model.specs.Diagrams.{greatest_number};
+ghost use Rattle.maid_model.specs.Diagrams.{IsDiagram, greatest_number};
 ghost use Rattle.maid_model.specs.Nodes.{is_utility_of, node_at};
 ghost use Rattle.maid_model.specs.Profiles.{IsProfile};
 ghost use Rattle.maid_model.specs.Scopes.{KeepsScopedBounds};
@@ -14,7 +14,7 @@ ghost use Rattle.rule_solver.specs.Rooms.{HasAtMost, HasRoomForWorths, IsReady};
 ghost use Rattle.rule_solver.specs.Worths.{HasWorths, IsStake, IsWorth, gain_given, scope_gain_for};
 
 use crate::rows::fraction;
-use crate::scopes::agent_scope;
+
 use crate::totals::{list_totals, product_in};
 use cell_rings::Gain;
 use eliminate::{release, run_plan};
@@ -25,6 +25,7 @@ use part_laws::{parts_decide, scopes_are_parts};
 use scope_sums::{plans_keep_scopes, plans_sum_scopes};
 use size_precheck::plan_worth;
 use std::alloc::{AllocError, Global};
+use weight_scale::agent_scope;
 
 /// By what the utilities are scaled: ten to the power of the diagram's decimals.
 pub(crate) fn scale(diagram: &Diagram) -> u128
@@ -42,6 +43,7 @@ fn worth(
     utility: usize,
     work: &mut Workspace<Gain>,
 ) -> Result<i128, AllocError>
+    requires diagram { IsDiagram diagram.now }
     requires within { utility < length diagram.now.nodes }
     requires kind { (node_at diagram.now.nodes utility).kind ≡ Utility }
     requires profile { IsProfile diagram.now.nodes profile.now }

@@ -1,21 +1,21 @@
 -- The sets of a scope have the members that its definition lists.
-use Rattle.std.proofs.Common.{◌≡◌, ◌⊎◌, ◌↔◌, ◌∙◌, ◌&&◌, ℕ, ◌<◌, Bool, true, false, cond, filter, List, [], ◌∷◌, length, refl, sym, ap, inl, inr}
+use Rattle.std.proofs.Common.{◌≡◌, ◌⊎◌, ◌↔◌, ◌∙◌, ◌&&◌, ℕ, ◌<◌, Bool, true, false, cond, filter, List, [], ◌∷◌, Contains, length, refl, sym, ap, subst, inl, inr}
 use Rattle.node_sets.specs.declared.sets.NodeSet.{NodeSet}
 use Rattle.node_sets.specs.Sets.{holds, IsIn}
 use Rattle.finite_sums.specs.Members.{Among}
 use Rattle.finite_sums.proofs.Lists.{among_filter}
-use Rattle.finite_sums.proofs.Members.{any_is, filter_has}
+use Rattle.finite_sums.proofs.Members.{among_from_contains, any_is, contains_from_among, filter_has}
 use Rattle.maid_model.specs.Views.{NodeView}
-use Rattle.maid_model.specs.Graph.{Arc, IsPath, IsGraph, descends}
+use Rattle.maid_model.specs.Graph.{Arc, IsPath, Here, Along, IsGraph, descends}
 use Rattle.maid_model.specs.Nodes.{IsDecision, node_at, numbers_of, is_utility, is_utility_of, owns, owners_of, agent_of}
 use Rattle.maid_model.specs.Relevance.{IsGoal}
-use Rattle.maid_model.specs.Parts.{leads_to, with_ancestors}
-use Rattle.maid_model.specs.Scopes.{goals_of, utilities_for}
+use Rattle.maid_model.specs.Scopes.{IsInScope, goals_of, scope_for, scope_of, utilities_for}
+use Rattle.maid_laws.proofs.Paths.{path_further}
 use Rattle.maid_laws.proofs.Proportions.{kind_of_utility}
 use Rattle.maid_laws.proofs.Rearranged.{number, numbered}
-use Rattle.part_laws.proofs.PartLaws.{path_of_test, test_of_path}
+use Rattle.part_laws.proofs.PartLaws.{kept_path, path_kept}
 use Rattle.part_laws.proofs.PartSums.{and_both}
-use Rattle.part_laws.proofs.ScopeLaws.{target_of, goal_listed}
+use Rattle.part_laws.proofs.ScopeLaws.{goal_listed, scope_has, scope_path, target_of, utilities_inside}
 use Rattle.weight_scale.specs.ScopePlaces.{members_of, IsUtilityFor}
 
 same_test : (a b : Bool) → (a ≡ true → b ≡ true) → (b ≡ true → a ≡ true) → a ≡ b
@@ -30,11 +30,11 @@ same_filter p q (x ∷ xs) h =
     let e = same_test (p x) (q x) (h x (inl refl)).0 (h x (inl refl)).1 in
     λ i. cond (e i) (x ∷ same_filter p q xs (λ u m. h u (inr m)) i) (same_filter p q xs (λ u m. h u (inr m)) i)
 
--- the nodes from which a path leads to one of the set's, where the set has the members of the list
-pub ancestors_are : (nodes : List NodeView) (of : List ℕ) (ends set : NodeSet) → ((u : ℕ) → IsIn ends u ↔ Among u of) → ((v : ℕ) → IsIn set v ↔ ((to : ℕ) × IsIn ends to × IsPath (Arc nodes) v to)) → members_of nodes set ≡ with_ancestors nodes of
-ancestors_are nodes of ends set e h = same_filter (holds set) (leads_to nodes of) (numbers_of nodes) (λ v m. (
-  (λ t. let r = (h v).0 t in test_of_path nodes of r.0 v ((e r.0).0 r.1) r.2),
-  (λ t. let r = path_of_test nodes of v t in (h v).1 (r.0, (e r.0).1 r.1, r.2)),
+-- a set has the members of a list of the nodes that pass a test
+pub members_are : (nodes : List NodeView) (q : ℕ → Bool) (set : NodeSet) → ((v : ℕ) → IsIn set v ↔ Contains (filter q (numbers_of nodes)) v) → members_of nodes set ≡ filter q (numbers_of nodes)
+members_are nodes q set h = same_filter (holds set) q (numbers_of nodes) (λ v m. (
+  (λ t. (among_filter q v (numbers_of nodes) (among_from_contains (filter q (numbers_of nodes)) v ((h v).0 t))).1),
+  (λ t. (h v).1 (contains_from_among (filter q (numbers_of nodes)) v (filter_has q v (numbers_of nodes) m t))),
 ))
 
 -- ---- the utilities of an agent
@@ -51,11 +51,18 @@ module _ (nodes : List NodeView) (agent : ℕ) where
     pub utilities_are : members_of nodes set ≡ utilities_for nodes agent
     utilities_are = same_filter (holds set) (is_utility_of nodes agent) (numbers_of nodes) (λ u m. ((λ t. test_of_utility u ((is u).0 t)), (λ t. (is u).1 (utility_of_test u (numbered nodes u m) t))))
 
-    pub utilities_listed : (u : ℕ) → IsIn set u ↔ Among u (utilities_for nodes agent)
-    utilities_listed u = (
-      (λ t. let h = (is u).0 t in filter_has (is_utility_of nodes agent) u (numbers_of nodes) (number nodes u h.within) (test_of_utility u h)),
-      (λ m. let r = among_filter (is_utility_of nodes agent) u (numbers_of nodes) m in (is u).1 (utility_of_test u (numbered nodes u r.0) r.1)),
+    -- those from which a path leads to one of them
+    pub agents_ancestors : IsGraph nodes → (scope : NodeSet) → ((v : ℕ) → IsIn scope v ↔ ((to : ℕ) × IsIn set to × IsPath (Arc nodes) v to)) → (v : ℕ) → IsIn scope v ↔ Contains (scope_for nodes agent) v
+    agents_ancestors g scope h v = (
+      (λ t. let r = (h v).0 t in contains_from_among (scope_for nodes agent) v (path_kept nodes (utilities_for nodes agent) g (utilities_inside nodes g agent) r.0 v (listed r.0 r.1) r.2)),
+      (λ c. let r = kept_path nodes (utilities_for nodes agent) g (utilities_inside nodes g agent) v (among_from_contains (scope_for nodes agent) v c) in (h v).1 (r.0, unlisted r.0 r.1, r.2)),
     )
+      where
+        listed : (u : ℕ) → IsIn set u → Among u (utilities_for nodes agent)
+        listed u t = let k = (is u).0 t in filter_has (is_utility_of nodes agent) u (numbers_of nodes) (number nodes u k.within) (test_of_utility u k)
+
+        unlisted : (u : ℕ) → Among u (utilities_for nodes agent) → IsIn set u
+        unlisted u m = let r = among_filter (is_utility_of nodes agent) u (numbers_of nodes) m in (is u).1 (utility_of_test u (numbered nodes u r.0) r.1)
 
 -- ---- the goals of a decision
 module _ (nodes : List NodeView) (g : IsGraph nodes) (d : ℕ) (is : IsDecision nodes d) (set : NodeSet) (goals : (u : ℕ) → IsIn set u ↔ IsGoal nodes d u) where
@@ -82,14 +89,37 @@ module _ (nodes : List NodeView) (g : IsGraph nodes) (d : ℕ) (is : IsDecision 
   pub goals_are : members_of nodes set ≡ goals_of nodes d
   goals_are = same_filter (holds set) goal_test (numbers_of nodes) (λ u m. ((λ t. test_of_goal u ((goals u).0 t)), (λ t. (goals u).1 (goal_of_test u (numbered nodes u m) t))))
 
-  -- the goals and the decision itself
-  pub ends_listed : (ends : NodeSet) → ((u : ℕ) → IsIn ends u ↔ (IsIn set u ⊎ (u ≡ d))) → (u : ℕ) → IsIn ends u ↔ Among u (d ∷ goals_of nodes d)
-  ends_listed ends all u = (λ t. there ((all u).0 t), λ m. (all u).1 (back m))
-    where
-      there : IsIn set u ⊎ (u ≡ d) → Among u (d ∷ goals_of nodes d)
-      there (inl t) = inr (goal_listed nodes g d is u ((goals u).0 t))
-      there (inr e) = inl e
+  -- a path to the decision is that of no arc, or comes in by a parent
+  last_arc : {v : ℕ} → IsPath (Arc nodes) v d → (v ≡ d) ⊎ ((u : ℕ) × Arc nodes u d × IsPath (Arc nodes) v u)
+  last_arc Here = inl refl
+  last_arc (Along {u} a path) = elim (last_arc path) [
+    | inl e ↦ inr (u, subst (Arc nodes u) e a, Here)
+    | inr r ↦ inr (r.0, r.1, Along a r.2)
+  ]
 
-      back : Among u (d ∷ goals_of nodes d) → IsIn set u ⊎ (u ≡ d)
-      back (inl e) = inr e
-      back (inr m) = let r = among_filter goal_test u (numbers_of nodes) m in inl ((goals u).1 (goal_of_test u (numbered nodes u r.0) r.1))
+  -- what leads to a goal or to a parent, and the decision itself
+  module _ (ends ancestors scope : NodeSet)
+      (all : (u : ℕ) → IsIn ends u ↔ (IsIn set u ⊎ Arc nodes u d))
+      (leads : (v : ℕ) → IsIn ancestors v ↔ ((to : ℕ) × IsIn ends to × IsPath (Arc nodes) v to))
+      (own : (v : ℕ) → IsIn scope v ↔ (IsIn ancestors v ⊎ (v ≡ d)))
+    where
+      pub decisions_ancestors : (v : ℕ) → IsIn scope v ↔ Contains (scope_of nodes d) v
+      decisions_ancestors v = (λ t. contains_from_among (scope_of nodes d) v (there ((own v).0 t)), λ c. back (scope_path nodes g d is v (among_from_contains (scope_of nodes d) v c)))
+        where
+          ended : (to : ℕ) → IsPath (Arc nodes) v to → IsIn set to ⊎ Arc nodes to d → Among v (scope_of nodes d)
+          ended to path (inl t) = scope_has nodes g d is to v (inr ((goals to).0 t)) path
+          ended to path (inr a) = scope_has nodes g d is d v (inl refl) (path_further (Arc nodes) path a)
+
+          there : IsIn ancestors v ⊎ (v ≡ d) → Among v (scope_of nodes d)
+          there (inl t) = let r = (leads v).0 t in ended r.0 r.2 ((all r.0).0 r.1)
+          there (inr e) = scope_has nodes g d is d v (inl refl) (subst (λ z. IsPath (Arc nodes) z d) (sym e) Here)
+
+          arrives : (v ≡ d) ⊎ ((u : ℕ) × Arc nodes u d × IsPath (Arc nodes) v u) → IsIn scope v
+          arrives (inl e) = (own v).1 (inr e)
+          arrives (inr r) = (own v).1 (inl ((leads v).1 (r.0, (all r.0).1 (inr r.1), r.2)))
+
+          back : IsInScope nodes d v → IsIn scope v
+          back s = elim s.is_target [
+            | inl e ↦ arrives (last_arc (subst (IsPath (Arc nodes) v) e s.path))
+            | inr goal ↦ (own v).1 (inl ((leads v).1 (s.target, (all s.target).1 (inl ((goals s.target).1 goal)), s.path)))
+          ]

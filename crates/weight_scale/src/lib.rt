@@ -20,6 +20,7 @@ pub use laws::{
 };
 pub use numerals::numeral;
 pub use scaling::{ScaleFault, Scaled, scale_rows};
+pub use scopes::{agent_scope, decision_scope};
 pub use weight_bound::{BoundPlace, bound};
 
 #[cfg(test)]

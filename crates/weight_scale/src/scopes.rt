@@ -1,11 +1,12 @@
 //! The scope of a decision or of an agent, and where its bound fails.
 
-ghost use Rattle.std.specs.Prelude.{◌≡◌, ℕ, ◌<◌, ◌≤◌, ◌*◌, ◌^◌, ◌↔◌, length, max, IsTrue, MatchOption};
+ghost use Rattle.std.specs.Prelude.{◌≡◌, ℕ, ◌<◌, ◌≤◌, ◌*◌, ◌^◌, ◌↔◌, length, max, Contains, IsTrue, MatchOption};
 ghost use Rattle.std.specs.Option.{SomeIff};
 ghost use Rattle.node_sets.specs.Sets.{IsIn};
-ghost use Rattle.maid_model.specs.Diagrams.{greatest_number};
+ghost use Rattle.maid_model.specs.Diagrams.{IsDiagram, greatest_number};
 ghost use Rattle.maid_model.specs.Gains.{greatest_abs};
 ghost use Rattle.maid_model.specs.Nodes.{IsDecision};
+ghost use Rattle.maid_model.specs.Scopes.{scope_for, scope_of};
 ghost use Rattle.weight_scale.specs.ScopePlaces.{factor_in, greatest_in, greatest_sum, IsUtilityFor, IsScopeOf, IsScopeFor, IsPlaceIn};
 
 use crate::weight_bound::BoundPlace;
@@ -39,7 +40,8 @@ fn is_utility_of(diagram: &Diagram, agent: usize, v: usize) -> bool
 }
 
 fn utilities_of(diagram: &Diagram, agent: usize) -> NodeSet
-    ensures { (v : ℕ) → IsIn result v ↔ IsUtilityFor diagram.now.nodes agent v }
+    ensures utilities { (v : ℕ) → IsIn result v ↔ IsUtilityFor diagram.now.nodes agent v }
+    ensures diagram { IsDiagram diagram.now }
 {
     let mut utilities = NodeSet::empty();
     for v in 0..diagram.count() {
@@ -50,22 +52,40 @@ fn utilities_of(diagram: &Diagram, agent: usize) -> NodeSet
     utilities
 }
 
+/// The scope of a decision: the nodes from which a path of nought or more arcs leads to it, or to a utility of its agent
+/// that descends from it. It takes no memory, and goes over all arcs a few times.
+pub fn decision_scope(diagram: &Diagram, decision: usize) -> NodeSet
+    requires { IsDecision diagram.now.nodes decision }
+    ensures { (v : ℕ) → IsIn result v ↔ Contains (scope_of diagram.now.nodes decision) v }
+{
+    // A path from another node to the decision comes in by a parent.
+    let parents = diagram.parents(decision);
+    let mut ends = goals_of(diagram, decision);
+    ends.insert_all(parents);
+    let mut scope = ancestors(diagram, ends);
+    scope.insert(decision);
+    scope
+}
+
+/// The scope of an agent: the nodes from which a path of nought or more arcs leads to one of its utilities. It takes no
+/// memory, and goes over all arcs a few times.
+pub fn agent_scope(diagram: &Diagram, agent: usize) -> NodeSet
+    ensures { (v : ℕ) → IsIn result v ↔ Contains (scope_for diagram.now.nodes agent) v }
+{
+    ancestors(diagram, utilities_of(diagram, agent))
+}
+
 /// The scope of the node, if it is a decision: what leads to it, or to a utility of its agent that descends from it.
 pub(crate) fn scope_of(diagram: &Diagram, v: usize) -> Option<Scope>
     requires { v < length diagram.now.nodes }
     ensures { MatchOption result (IsDecision diagram.now.nodes v → ⊥) (IsScopeOf diagram.now.nodes v) }
 {
     match diagram.kind(v) {
-        Kind::Decision => {
-            let utilities = goals_of(diagram, v);
-            let mut ends = utilities;
-            ends.insert(v);
-            Some(Scope {
-                counted: Counted::ChanceAndDecisions,
-                nodes: ancestors(diagram, ends),
-                utilities,
-            })
-        }
+        Kind::Decision => Some(Scope {
+            counted: Counted::ChanceAndDecisions,
+            nodes: decision_scope(diagram, v),
+            utilities: goals_of(diagram, v),
+        }),
         Kind::Chance | Kind::Utility => None,
     }
 }
@@ -74,11 +94,10 @@ pub(crate) fn scope_of(diagram: &Diagram, v: usize) -> Option<Scope>
 pub(crate) fn scope_for(diagram: &Diagram, agent: usize) -> Scope
     ensures { IsScopeFor diagram.now.nodes agent result }
 {
-    let utilities = utilities_of(diagram, agent);
     Scope {
         counted: Counted::ChanceAlone,
-        nodes: ancestors(diagram, utilities),
-        utilities,
+        nodes: agent_scope(diagram, agent),
+        utilities: utilities_of(diagram, agent),
     }
 }
 

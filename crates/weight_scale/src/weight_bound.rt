@@ -1,7 +1,7 @@
 //! The weight bound of decisions and agents, and the place at which the first that fails does so.
 
 ghost use Rattle.std.specs.Prelude.{◌≡◌, ℕ, ◌<◌, ◌≤◌, length};
-ghost use Rattle.maid_model.specs.Diagrams.{greatest_number};
+ghost use Rattle.maid_model.specs.Diagrams.{IsDiagram, greatest_number};
 ghost use Rattle.maid_model.specs.Nodes.{IsDecision};
 ghost use Rattle.maid_model.specs.Scopes.{scope_bound};
 ghost use Rattle.weight_scale.specs.Bound.{IsBoundPlace};
@@ -32,7 +32,8 @@ fn place_at(diagram: &Diagram, v: usize) -> BoundPlace
 
 // Where the bound of the first decision that fails does so.
 fn place_of_decisions(diagram: &Diagram) -> BoundPlace
-    ensures { IsPlaceOfDecisions diagram.now result }
+    ensures place { IsPlaceOfDecisions diagram.now result }
+    ensures diagram { IsDiagram diagram.now }
 {
     for v in 0..diagram.count() {
         match place_at(diagram, v) {
@@ -66,6 +67,7 @@ fn place_of_agents(diagram: &Diagram) -> BoundPlace
 pub fn bound(diagram: &Diagram) -> BoundPlace
     ensures place { IsBoundPlace diagram.now result }
     ensures only { (place : BoundPlace) → IsBoundPlace diagram.now place → place ≡ result }
+    ensures diagram { IsDiagram diagram.now }
 {
     match place_of_decisions(diagram) {
         BoundPlace::Within => place_of_agents(diagram),
