@@ -4,3 +4,6 @@ pub mod Rings
 pub mod Orders
 pub mod OneCycle
 pub mod Covering
+pub mod Filters
+pub mod Losing
+pub mod Kept

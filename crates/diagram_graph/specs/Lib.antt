@@ -4,3 +4,4 @@ pub mod Rounds
 pub mod Placed
 pub mod Cycles
 pub mod Laws
+pub mod Edited

@@ -2,13 +2,19 @@
 //! influence diagram with parents first, and the first directed cycle of a list of parents.
 #![tactic(auto)]
 
+mod arcs;
+mod copies;
 mod cycles;
 mod laws;
 mod needs;
+mod parts;
 mod placing;
 mod rounds;
 
+pub use arcs::{RemoveFault, remove_arc};
+pub use copies::copy_diagram;
 pub use cycles::{first_cycle, topological};
 pub use laws::{parents_have_a_cycle_or_none, parents_have_one_cycle_at_most};
 pub use needs::Needs;
+pub use parts::{SubDiagram, part};
 pub use placing::{Placing, place_all};

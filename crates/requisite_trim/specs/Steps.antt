@@ -1,5 +1,5 @@
 -- What the steps of trimming promise one another. Only private functions cite this file.
-use Rattle.std.specs.Prelude.{◌≡◌, ◌↔◌, ℕ, ◌<◌, ◌==◌, not, filter, List, length, slice_index}
+use Rattle.std.specs.Prelude.{◌≡◌, ◌↔◌, ℕ, ◌<◌, List, length, slice_index}
 use Rattle.maid_model.specs.Views.{NodeView}
 use Rattle.maid_model.specs.Nodes.{parents_of}
 use Rattle.maid_model.specs.Relevance.{IsRequisite}
@@ -17,7 +17,3 @@ pub record IsFirstUnneeded (nodes : List NodeView) (d x : ℕ) : Type 0 where
   pub there : slice_index (parents_of nodes d) place ≡ x
   pub not_requisite : IsRequisite nodes d x → ⊥
   pub earlier : (k : ℕ) → k < place → IsRequisite nodes d (slice_index (parents_of nodes d) k)
-
--- the node without that parent
-abbrev pub without_parent : NodeView → ℕ → NodeView
-without_parent node x = record { kind = node.kind; owner = node.owner; more = node.more; states = node.states; parents = filter (λ u. not (u == x)) node.parents; cells = node.cells }

@@ -2,7 +2,6 @@
 //! diagram without the arcs from those that are not.
 #![tactic(auto)]
 
-mod arcs;
 mod looks;
 mod searches;
 #[cfg(test)]

@@ -4,7 +4,6 @@ mod Orders
 mod Rooms
 mod ProductLemmas
 mod Missing
-mod LeafLemmas
 mod MassLemmas
 mod RowLemmas
 mod DecisionLemmas

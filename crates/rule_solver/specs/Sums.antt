@@ -1,17 +1,17 @@
--- The sums of a decision and of an agent in the parts of their scopes, as plans give them.
-use Rattle.std.specs.Prelude.{◌≡◌, ◌↔◌, ℕ, ◌<◌, ◌≤◌, ◌+◌, ◌*◌, List, length, slice_index, Contains, ℤ, pos, ◌+ℤ◌, ◌*ℤ◌, nat_abs}
+-- The sums of a decision in the part of its scope, as plans give them.
+use Rattle.std.specs.Prelude.{◌≡◌, ◌↔◌, ℕ, ◌<◌, ◌≤◌, ◌+◌, ◌*◌, List, length, slice_index, slice_index_or, Contains, ℤ, pos, ◌+ℤ◌, ◌*ℤ◌, nat_abs}
 use Rattle.maid_model.specs.Diagrams.{greatest_number}
-use Rattle.maid_model.specs.Gains.{gain_at, mass_at, gain_of, greatest_abs}
+use Rattle.maid_model.specs.Gains.{gain_at, mass_at, greatest_abs}
 use Rattle.maid_model.specs.Nodes.{IsDecision, node_at, rows_of, states_of}
 use Rattle.maid_model.specs.Profiles.{IsProfile}
-use Rattle.maid_model.specs.Scopes.{greatest_of, place_in_scope, rules_in_scope, rules_in_scope_for, scope_bound, scope_for, scope_of, scope_part, scope_part_for, scope_product}
+use Rattle.maid_model.specs.Scopes.{goals_of, greatest_of, place_in_scope, rules_in_scope, scope_bound, scope_of, scope_part, scope_product}
 use Rattle.maid_model.specs.Tables.{row_of}
 use Rattle.maid_model.specs.Views.{NodeView, DiagramView, RuleView}
 use Rattle.node_sets.specs.declared.sets.NodeSet.{NodeSet}
 use Rattle.node_sets.specs.Sets.{IsIn}
 use Rattle.finite_sums.specs.Sums.{World, InRange, sum_each}
 use Rattle.part_laws.specs.ScopeLaws.{HasSmallRules}
-use Rattle.plan_sums.specs.Plans.{gain_cells, plan_sum, gain_plan, worth_plan}
+use Rattle.plan_sums.specs.Plans.{gain_cells, plan_sum, gain_plan}
 use Rattle.scope_sums.specs.Missing.{missing_in}
 use Rattle.rule_solver.specs.Reading.{gain_there}
 use Rattle.rule_solver.specs.Rows.{gain_in}
@@ -31,15 +31,20 @@ pub record IsRowSums (nodes : List NodeView) (p : List RuleView) (d : ℕ) (gain
   pub gain : (state row : ℕ) → state < states_of nodes d → row < rows_of nodes d → gain_in gains (states_of nodes d) row state ≡ scope_gain nodes p d state row
   pub mass_there : (row : ℕ) → row < rows_of nodes d → pos (slice_index masses row) ≡ scope_mass nodes p d row
 
+-- the gains keep the weight bound, and the masses the P of the scope
+pub record KeepsRoom (nodes : List NodeView) (d : ℕ) (gains : List ℤ) (masses : List ℕ) : Type 0 where
+  pub gain : (i : ℕ) → i < length gains → nat_abs (slice_index_or gains i (pos 0)) ≤ scope_product nodes d * greatest_of nodes (goals_of nodes d)
+  pub mass_there : (row : ℕ) → row < length masses → slice_index masses row ≤ scope_product nodes d
+
 -- ---- on the way; only private functions cite the rest
 -- a decision and a profile whose other rules are small, within the bound, with the totals of all nodes and the decision's scope
 pub record IsSetting (d : DiagramView) (p : List RuleView) (decision : ℕ) (totals : List ℕ) (scope : NodeSet) : Type 0 where
-  pub decision : IsDecision d.nodes decision
+  pub is_decision : IsDecision d.nodes decision
   pub profile : IsProfile d.nodes p
   pub rules : HasSmallRules d.nodes p decision
   pub bound : scope_bound d decision ≤ greatest_number
-  pub totals : HasTotals d.nodes p totals
-  pub scope : (v : ℕ) → IsIn scope v ↔ Contains (scope_of d.nodes decision) v
+  pub has_totals : HasTotals d.nodes p totals
+  pub is_scope : (v : ℕ) → IsIn scope v ↔ Contains (scope_of d.nodes decision) v
 
 -- a mass for each row
 pub record HasMasses (d : DiagramView) (p : List RuleView) (decision : ℕ) (masses : List ℕ) : Type 0 where
@@ -66,11 +71,3 @@ pub record HasRoomFor (d : DiagramView) (decision goal : ℕ) (gains : List ℤ)
 pub record AddsGoal (nodes : List NodeView) (p : List RuleView) (d goal : ℕ) (before after : List ℤ) : Type 0 where
   pub count : length after ≡ length before
   pub each : (q : World) → InRange (states_of nodes) q → gain_there after nodes d q ≡ gain_there before nodes d q +ℤ goal_part nodes p d goal q
-
--- what one utility gives to an agent's gain
-abbrev pub worth_part_for : List NodeView → List RuleView → ℕ → ℕ → World → ℤ
-worth_part_for nodes p agent u q = plan_sum gain_cells nodes p (worth_plan u) q *ℤ pos (missing_in nodes p (scope_for nodes agent) (worth_plan u))
-
--- the agent's gain in the part of its scope
-abbrev pub scope_gain_for : List NodeView → List RuleView → ℕ → ℤ
-scope_gain_for nodes p agent = gain_of (scope_part_for nodes agent) (rules_in_scope_for nodes p agent) agent

@@ -24,7 +24,6 @@ mod limits;
 
 
 mod rows;
-mod scopes;
 mod solving;
 #[cfg(test)]
 mod tests;

@@ -1,44 +1,53 @@
 //! A whole diagram, solved decision by decision.
 
-ghost use Rattle.std.specs.Prelude.{ℕ, IfOk};
+ghost use Rattle.std.specs.Prelude.{ℕ, ◌≤◌, IfOk};
 ghost use Rattle.first_fault.specs.Answers.{Passes};
 ghost use Rattle.maid_model.specs.Answers.{IsAnswer, KeepsWorth, answered};
-ghost use Rattle.maid_model.specs.Bounds.{KeepsBound};
 ghost use Rattle.maid_model.specs.Diagrams.{IsDiagram};
+ghost use Rattle.maid_model.specs.declared.limits.TheConstants.{MOST_PLAN_CELLS};
 ghost use Rattle.maid_model.specs.Placing.{IsRelianceOrder};
+ghost use Rattle.maid_model.specs.Scopes.{KeepsScopedBounds};
 ghost use Rattle.maid_model.specs.Subgames.{IsOptimal, IsSubgamePerfect, OwnsAll};
 ghost use Rattle.maid_model.specs.Values.{PrintsOptima};
 ghost use Rattle.relevance_graph.specs.Relevant.{IsRelevance};
 ghost use Rattle.rule_solver.specs.Faults.{solve_fault, solve_pass};
+ghost use Rattle.rule_solver.specs.Rooms.{HasRoom};
 
 use crate::SolveFault;
 use crate::answering::answer_all;
-use crate::limits::keep_limits;
-use crate::worths::expected;
+use crate::limits::{keep_bound, keep_sizes};
+use crate::worths::expected_in;
+use factor_core::Workspace;
 use maid_laws::{
     answers_are_optimal, answers_are_subgame_perfect, gains_are_optima, worth_under_the_profile,
 };
-use maid_model::{Diagram, Profile, Solved, World};
+use maid_model::{Diagram, Profile, Solved};
+use part_laws::scoped_sums_fit;
 use relevance_graph::{Relevance, find_relevance};
 use std::alloc::{AllocError, Global};
 
-/// The answer of a diagram whose decisions have this order of solving. It goes through all worlds once for each
-/// decision and once for each agent.
+/// The answer of a diagram whose decisions have this order of solving, by plans that need no more cells than these. The
+/// workspaces are reserved once.
 fn solve_along(
     alloc: Global,
     diagram: &Diagram,
     relevance: &Relevance,
     order: &[usize],
+    cells: usize,
 ) -> Result<Solved, AllocError>
-    requires bound { KeepsBound diagram.now }
+    requires bound { KeepsScopedBounds diagram.now }
     requires relevance { IsRelevance diagram.now.nodes relevance.now }
     requires order { IsRelianceOrder diagram.now.nodes order.now }
+    requires room { HasRoom diagram.now.nodes cells }
+    requires limit { cells ≤ MOST_PLAN_CELLS }
     ensures { IfOk result (IsAnswer diagram.now) }
 {
-    let mut world = World::first(alloc, diagram)?;
-    let answers = answer_all(alloc, diagram, relevance, order, &mut world)?;
+    scoped_sums_fit();
+    let mut masses = Workspace::reserve(alloc, cells)?;
+    let mut gains = Workspace::reserve(alloc, cells)?;
+    let answers = answer_all(alloc, diagram, relevance, order, &mut masses, &mut gains)?;
     let profile = Profile::pure(alloc, diagram, &answers)?;
-    let gains = expected(alloc, diagram, &profile, &mut world)?;
+    let gains = expected_in(alloc, diagram, &profile, &mut gains)?;
     Ok(Solved {
         order: Vec::from_slice(alloc, order)?,
         answers,
@@ -59,20 +68,23 @@ fn solve_ordered(
     ensures ok { IfOk result (IsAnswer diagram.now) }
     ensures diagram { IfOk result (λ solved. IsDiagram diagram.now) }
 {
-    keep_limits(diagram)?;
-    Ok(solve_along(alloc, diagram, relevance, order)?)
+    keep_bound(diagram)?;
+    let cells = keep_sizes(alloc, diagram, order)?;
+    Ok(solve_along(alloc, diagram, relevance, order, cells)?)
 }
 
 /// The answer of a diagram: the order of solving, at each decision the first best state in each row against the
 /// decision's base, and what the plan is worth to each agent.
 ///
-/// It takes the relevance graph, and goes through all worlds, of which there are at most 65,536, once for each decision
-/// and once for each agent.
+/// It takes the relevance graph, and sums by variable elimination: one plan for each decision's rows, one for each
+/// decision and each utility of its agent that descends from it, and one for each utility. Their work is what
+/// `size_precheck::measure` counts; two workspaces are reserved once, with the most cells of a plan.
 ///
 /// # Errors
 ///
-/// The first of these that holds: `Cycle` where the relevance graph has one, `WeightBound` where the weight bound is
-/// passed, and `NotBuilt` where there are more than 65,536 worlds. `NoMemory` may come at any point.
+/// The first of these that holds: `Cycle` where the relevance graph has one, `WeightBound` where a scope passes the
+/// weight bound, and `TooLarge` where a plan has more than 4,194,304 cells, or all plans together have more than
+/// 134,217,728 steps of work. `NoMemory` may come at any point.
 pub fn solve(alloc: Global, diagram: &Diagram) -> Result<Solved, SolveFault>
     // An answer where nothing refuses the diagram, and else the first refusal that applies.
     ensures rows { Passes solve_fault (solve_pass diagram.now) result }

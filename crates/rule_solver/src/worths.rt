@@ -1,17 +1,30 @@
-//! What a plan is worth, as reduced fractions.
+//! What a plan is worth to each agent, as reduced fractions.
 
-ghost use Rattle.std.specs.Prelude.{◌≡◌, ◌<◌, ◌≤◌, ◌*◌, ◌^◌, List, IfOk, length};
-ghost use Rattle.maid_model.specs.Bounds.{KeepsBound};
+ghost use Rattle.std.specs.Prelude.{◌≡◌, ◌<◌, ◌≤◌, ◌^◌, ℕ, true, IfOk, OnOk, length, nat_abs};
+ghost use Rattle.maid_model.specs.declared.diagrams.Kind.TheVariants.{Utility};
+ghost use Rattle.maid_model.specs.Answers.{IsExpectedUtility};
 ghost use Rattle.maid_model.specs.Diagrams.{greatest_number};
-ghost use Rattle.maid_model.specs.Gains.{mass};
+ghost use Rattle.maid_model.specs.Nodes.{is_utility_of, node_at};
 ghost use Rattle.maid_model.specs.Profiles.{IsProfile};
-ghost use Rattle.maid_model.specs.Views.{RuleView};
-ghost use Rattle.maid_model.specs.Worlds.{first_world};
-ghost use Rattle.rule_solver.specs.Masses.{HasGains, TakesOneState, chance_factor_or_one};
+ghost use Rattle.maid_model.specs.Scopes.{KeepsScopedBounds};
+ghost use Rattle.part_laws.specs.ScopeLaws.{HasUnitRules};
+ghost use Rattle.plan_sums.specs.Plans.{worth_plan};
+ghost use Rattle.rule_solver.specs.Masses.{HasGains};
+ghost use Rattle.rule_solver.specs.Rooms.{HasAtMost, HasRoomForWorths, IsReady};
+ghost use Rattle.rule_solver.specs.Worths.{HasWorths, IsStake, IsWorth, gain_given, scope_gain_for};
 
 use crate::rows::fraction;
-use maid_model::{Diagram, Kind, Profile, Ratio, World, leaf_sum};
+use crate::totals::{list_totals, product_in};
+use cell_rings::Gain;
+use eliminate::{release, run_plan};
+use factor_core::Workspace;
+use maid_model::{Diagram, Kind, Profile, Ratio};
+use node_sets::{NodeSet, ancestors};
+use part_laws::{parts_decide, scopes_are_parts};
+use scope_sums::{plans_keep_scopes, plans_sum_scopes};
+use size_precheck::plan_worth;
 use std::alloc::{AllocError, Global};
+use weight_scale::agent_scope;
 
 /// By what the utilities are scaled: ten to the power of the diagram's decimals.
 pub(crate) fn scale(diagram: &Diagram) -> u128
@@ -21,50 +34,169 @@ pub(crate) fn scale(diagram: &Diagram) -> u128
     10u128.pow(diagram.decimals())
 }
 
-/// The total of a chance node, and 1 at another node.
-fn chance_total(diagram: &Diagram, v: usize) -> u128
-    requires { v < length diagram.now.nodes }
-    ensures { result ≡ chance_factor_or_one diagram.now.nodes v }
-{
-    match diagram.kind(v) {
-        Kind::Chance => diagram.weight_total(v),
-        _ => 1,
-    }
-}
-
-/// The product of the totals of all chance nodes.
-fn chance_mass(diagram: &Diagram) -> u128
-    requires { KeepsBound diagram.now }
-    ensures mass { (p : List RuleView) → TakesOneState diagram.now.nodes p → result ≡ mass diagram.now.nodes p }
-    ensures small { result * 10 ^ diagram.now.decimals ≤ greatest_number }
-    ensures some { 0 < result }
-{
-    let mut mass = 1;
-    for v in 0..diagram.count() {
-        mass *= chance_total(diagram, v);
-    }
-    mass
-}
-
-/// What the profile, which takes one state in each row, is worth to each agent. It goes through all worlds once for
-/// each agent.
-pub(crate) fn expected(
+/// What the utility's plan sums to.
+fn worth(
     alloc: Global,
     diagram: &Diagram,
     profile: &Profile,
-    world: &mut World,
-) -> Result<Vec<Ratio>, AllocError>
-    requires bound { KeepsBound diagram.now }
+    utility: usize,
+    work: &mut Workspace<Gain>,
+) -> Result<i128, AllocError>
+    requires within { utility < length diagram.now.nodes }
+    requires kind { (node_at diagram.now.nodes utility).kind ≡ Utility }
     requires profile { IsProfile diagram.now.nodes profile.now }
-    requires pure { TakesOneState diagram.now.nodes profile.now }
-    requires first { world.old ≡ first_world (length diagram.now.nodes) }
+    requires rules { HasUnitRules diagram.now.nodes profile.now }
+    requires bound { KeepsScopedBounds diagram.now }
+    requires ready { (cells : ℕ) × IsReady cells work.old × HasAtMost diagram.now.nodes (worth_plan utility) cells }
+    ensures worth { IfOk result (IsWorth diagram.now.nodes profile.now utility) }
+    ensures again { OnOk result (work.new ≡ work.old) }
+{
+    plans_keep_scopes();
+    let plan = plan_worth(alloc, diagram, utility)?;
+    let slot = run_plan(work, &plan, diagram, profile);
+    let worth = work.at(diagram, &slot, &[]);
+    release(work);
+    Ok(worth.0)
+}
+
+/// The worth of a utility, and 0 at another node.
+fn worth_or_none(
+    alloc: Global,
+    diagram: &Diagram,
+    profile: &Profile,
+    v: usize,
+    work: &mut Workspace<Gain>,
+) -> Result<i128, AllocError>
+    requires within { v < length diagram.now.nodes }
+    requires profile { IsProfile diagram.now.nodes profile.now }
+    requires rules { HasUnitRules diagram.now.nodes profile.now }
+    requires bound { KeepsScopedBounds diagram.now }
+    requires ready { (cells : ℕ) × IsReady cells work.old × HasRoomForWorths diagram.now.nodes cells }
+    ensures worth { IfOk result (λ worth. (node_at diagram.now.nodes v).kind ≡ Utility → IsWorth diagram.now.nodes profile.now v worth) }
+    ensures again { OnOk result (work.new ≡ work.old) }
+{
+    match diagram.kind(v) {
+        Kind::Utility => worth(alloc, diagram, profile, v, work),
+        Kind::Chance | Kind::Decision => Ok(0),
+    }
+}
+
+/// The worth of each utility, and 0 at other nodes. It runs one plan for each utility.
+fn list_worths(
+    alloc: Global,
+    diagram: &Diagram,
+    profile: &Profile,
+    work: &mut Workspace<Gain>,
+) -> Result<Vec<i128>, AllocError>
+    requires profile { IsProfile diagram.now.nodes profile.now }
+    requires rules { HasUnitRules diagram.now.nodes profile.now }
+    requires bound { KeepsScopedBounds diagram.now }
+    requires ready { (cells : ℕ) × IsReady cells work.old × HasRoomForWorths diagram.now.nodes cells }
+    ensures worths { IfOk result (λ worths. HasWorths diagram.now.nodes profile.now worths.items) }
+    ensures again { OnOk result (work.new ≡ work.old) }
+{
+    let mut worths = Vec::with_capacity(alloc, diagram.count())?;
+    for v in 0..diagram.count() {
+        worths.push(worth_or_none(alloc, diagram, profile, v, work)?)?;
+    }
+    Ok(worths)
+}
+
+/// An agent, and what its expected utility is made of.
+struct Stake<'a> {
+    diagram: &'a Diagram,
+    profile: &'a Profile,
+    agent: usize,
+    /// The total of each node's table or rule.
+    totals: &'a [u128],
+    /// What each utility's plan sums to.
+    worths: &'a [i128],
+    /// The nodes from which a path leads to one of the agent's utilities.
+    scope: NodeSet,
+}
+
+impl<'a> Stake<'a> {
+    /// What the utility gives to the agent's gain: its worth times the totals of the scope's nodes that its plan lacks.
+    fn given(&self, utility: usize) -> i128
+        requires stake { IsStake self.now.diagram.now self.now.profile.now self.now.agent self.now.totals.now self.now.worths.now self.now.scope }
+        requires within { utility < length self.now.diagram.now.nodes }
+        requires owned { is_utility_of self.now.diagram.now.nodes self.now.agent utility ≡ true }
+        ensures { result ≡ gain_given self.now.diagram.now.nodes self.now.profile.now self.now.agent self.now.worths.now utility }
+    {
+        plans_keep_scopes();
+        let mut planned = ancestors(self.diagram, NodeSet::of(utility));
+        planned.remove(utility);
+        let left = self.scope.difference(&planned);
+        self.worths[utility] * product_in(self.totals, &left) as i128
+    }
+
+    /// The same of any node: 0 where it is none of the agent's utilities.
+    fn given_by(&self, v: usize) -> i128
+        requires stake { IsStake self.now.diagram.now self.now.profile.now self.now.agent self.now.totals.now self.now.worths.now self.now.scope }
+        requires within { v < length self.now.diagram.now.nodes }
+        ensures { result ≡ gain_given self.now.diagram.now.nodes self.now.profile.now self.now.agent self.now.worths.now v }
+    {
+        let owned = self.diagram.owns(self.agent, v);
+        match self.diagram.kind(v) {
+            Kind::Utility if owned => self.given(v),
+            _ => 0,
+        }
+    }
+
+    /// The agent's gain in the part of its scope.
+    fn gain(&self) -> i128
+        requires stake { IsStake self.now.diagram.now self.now.profile.now self.now.agent self.now.totals.now self.now.worths.now self.now.scope }
+        ensures gain { result ≡ scope_gain_for self.now.diagram.now.nodes self.now.profile.now self.now.agent }
+        ensures small { nat_abs result ≤ greatest_number }
+    {
+        plans_sum_scopes();
+        let mut gain = 0;
+        for v in 0..self.diagram.count() {
+            gain += self.given_by(v);
+        }
+        gain
+    }
+
+    /// What the profile is worth to the agent.
+    fn expected(&self) -> Ratio
+        requires stake { IsStake self.now.diagram.now self.now.profile.now self.now.agent self.now.totals.now self.now.worths.now self.now.scope }
+        ensures { IsExpectedUtility self.now.diagram.now.nodes (10 ^ self.now.diagram.now.decimals) self.now.profile.now self.now.agent result }
+    {
+        // The part of the scope has the whole's fraction, and its mass is the product of the scope's totals.
+        scopes_are_parts();
+        parts_decide();
+        plans_sum_scopes();
+        let mass = product_in(self.totals, &self.scope);
+        fraction(self.gain(), mass * scale(self.diagram))
+    }
+}
+
+/// What the profile, whose rules are pure, is worth to each agent. It runs one plan for each utility.
+pub(crate) fn expected_in(
+    alloc: Global,
+    diagram: &Diagram,
+    profile: &Profile,
+    work: &mut Workspace<Gain>,
+) -> Result<Vec<Ratio>, AllocError>
+    requires bound { KeepsScopedBounds diagram.now }
+    requires profile { IsProfile diagram.now.nodes profile.now }
+    requires pure { HasUnitRules diagram.now.nodes profile.now }
+    requires ready { (cells : ℕ) × IsReady cells work.old × HasRoomForWorths diagram.now.nodes cells }
     ensures gains { IfOk result (λ v. HasGains diagram.now profile.now diagram.now.agents v.items) }
 {
-    let mass = chance_mass(diagram) * scale(diagram);
+    let totals = list_totals(alloc, diagram, profile)?;
+    let worths = list_worths(alloc, diagram, profile, work)?;
     let mut gains = Vec::with_capacity(alloc, diagram.agents())?;
     for agent in 0..diagram.agents() {
-        let gain = leaf_sum(diagram, profile, agent, world);
-        gains.push(fraction(gain, mass))?;
+        let stake = Stake {
+            diagram,
+            profile,
+            agent,
+            totals: &totals,
+            worths: &worths,
+            scope: agent_scope(diagram, agent),
+        };
+        gains.push(stake.expected())?;
     }
     Ok(gains)
 }

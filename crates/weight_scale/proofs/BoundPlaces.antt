@@ -13,7 +13,7 @@ use Rattle.part_laws.proofs.ScopePlaces.{failure_law, passing_law}
 use Rattle.weight_scale.proofs.Bounding.{filter_within}
 use Rattle.weight_scale.specs.Bound.{IsPassedAt, IsPassedByUtilities, IsBoundPlace}
 use Rattle.weight_scale.specs.Laws.{HasBoundPlace, OneBoundPlace}
-use Rattle.weight_scale.specs.ScopePlaces.{factor_by, members_of, IsScope, IsPlaceInScope, IsPlaceOfDecisions}
+use Rattle.weight_scale.specs.ScopePlaces.{factor_by, members_of, IsScope, IsPlaceIn, IsPlaceInScope, IsPlaceOfDecisions}
 use Rattle.weight_scale.specs.declared.scopes.Scope.{Scope}
 use Rattle.weight_scale.specs.declared.scopes.Counted.{Counted}
 use Rattle.weight_scale.specs.declared.scopes.Counted.TheVariants.{ChanceAndDecisions, ChanceAlone}
@@ -39,8 +39,8 @@ factor_positive d is ChanceAlone v = go (node_at d.nodes v).kind (is.tables.posi
     go Utility total = omega arith
 
 -- the place of a scope, by what its definition lists
-pub place_is : (d : DiagramView) (s : Scope) (counted : Counted) (members us : List ℕ) (place : BoundPlace) → IsScope d.nodes s counted members us
-    → IsPlaceInScope d (factor_by s.counted d.nodes) (members_of d.nodes s.nodes) (members_of d.nodes s.utilities) place → IsPlaceInScope d (factor_by counted d.nodes) members us place
+pub place_is : (d : DiagramView) (s : Scope) (counted : Counted) (members us : List ℕ) (place : BoundPlace) → IsScope d.nodes counted members us s
+    → IsPlaceIn d s place → IsPlaceInScope d (factor_by counted d.nodes) members us place
 place_is d s counted members us place is h =
     subst (λ c. IsPlaceInScope d (factor_by c d.nodes) members us place) is.counts
     (subst (λ m. IsPlaceInScope d (factor_by s.counted d.nodes) m us place) is.members_are

@@ -1,4 +1,5 @@
 pub mod Bound
+pub mod Example
 pub mod Laws
 pub mod Numeral
 pub mod Rows

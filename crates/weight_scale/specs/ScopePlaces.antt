@@ -1,5 +1,5 @@
 -- What the steps of the search for the bound's place promise one another.
-use Rattle.std.specs.Prelude.{◌≡◌, ℕ, ◌<◌, ◌≤◌, ◌*◌, ◌^◌, max, List, length, filter}
+use Rattle.std.specs.Prelude.{◌≡◌, ℕ, ◌<◌, ◌≤◌, ◌*◌, ◌^◌, max, List, length, filter, if◌then◌else◌}
 use Rattle.node_sets.specs.declared.sets.NodeSet.{NodeSet}
 use Rattle.node_sets.specs.Sets.{holds}
 use Rattle.finite_sums.specs.Sums.{nat_product_over}
@@ -7,8 +7,9 @@ use Rattle.maid_model.specs.declared.diagrams.Kind.TheVariants.{Utility}
 use Rattle.maid_model.specs.Views.{NodeView, DiagramView}
 use Rattle.maid_model.specs.Nodes.{IsDecision, Owns, node_at, numbers_of}
 use Rattle.maid_model.specs.Bounds.{bound_factor}
+use Rattle.maid_model.specs.Gains.{greatest_abs}
 use Rattle.maid_model.specs.Diagrams.{greatest_number}
-use Rattle.maid_model.specs.Scopes.{scope_of, scope_bound, scope_product, chance_factor, greatest_of, PassesInScope, FailsFirst}
+use Rattle.maid_model.specs.Scopes.{goals_of, utilities_for, scope_of, scope_for, scope_bound, scope_product, chance_factor, greatest_of, PassesInScope, FailsFirst}
 use Rattle.weight_scale.specs.declared.scopes.Counted.{Counted}
 use Rattle.weight_scale.specs.declared.scopes.Counted.TheVariants.{ChanceAndDecisions, ChanceAlone}
 use Rattle.weight_scale.specs.declared.scopes.Scope.{Scope}
@@ -30,21 +31,49 @@ abbrev pub factor_by : Counted → List NodeView → ℕ → ℕ
 factor_by ChanceAndDecisions nodes v = bound_factor nodes v
 factor_by ChanceAlone nodes v = chance_factor nodes v
 
+-- the same, and 1 where the scope lacks the node
+abbrev pub factor_in : List NodeView → Scope → ℕ → ℕ
+factor_in nodes scope v = if holds scope.nodes v then factor_by scope.counted nodes v else 1
+
+-- the greatest absolute value of the node's cells, and 0 where it is none of the scope's utilities
+abbrev pub greatest_in : List NodeView → Scope → ℕ → ℕ
+greatest_in nodes scope v = if holds scope.utilities v then greatest_abs (node_at nodes v).cells else 0
+
+-- S: the greatest absolute value of each of the scope's utilities, added up
+abbrev pub greatest_sum : List NodeView → Scope → ℕ
+greatest_sum nodes scope = greatest_of nodes (members_of nodes scope.utilities)
+
 -- the scope has these nodes and these utilities, and counts so
-pub record IsScope (nodes : List NodeView) (scope : Scope) (counted : Counted) (members utilities : List ℕ) : Type 0 where
+pub record IsScope (nodes : List NodeView) (counted : Counted) (members utilities : List ℕ) (scope : Scope) : Type 0 where
   pub counts : scope.counted ≡ counted
   pub members_are : members_of nodes scope.nodes ≡ members
   pub utilities_are : members_of nodes scope.utilities ≡ utilities
 
+-- it is the scope of the decision
+abbrev pub IsScopeOf : List NodeView → ℕ → Scope → Type 0
+IsScopeOf nodes d scope = IsDecision nodes d × IsScope nodes ChanceAndDecisions (scope_of nodes d) (goals_of nodes d) scope
+
+-- it is the scope of the agent
+abbrev pub IsScopeFor : List NodeView → ℕ → Scope → Type 0
+IsScopeFor nodes agent scope = IsScope nodes ChanceAlone (scope_for nodes agent) (utilities_for nodes agent) scope
+
 -- a scope's product by these factors, times the greatest of the utilities' scale and the sum of the greatest values of these utilities
 abbrev pub bound_in : DiagramView → (ℕ → ℕ) → List ℕ → List ℕ → ℕ
-bound_in d factor scope utilities = nat_product_over factor scope * max (10 ^ d.decimals) (greatest_of d.nodes utilities)
+bound_in d factor members utilities = nat_product_over factor members * max (10 ^ d.decimals) (greatest_of d.nodes utilities)
 
 -- of one scope. Within: its bound holds. Node: it fails, and its product passes there. Utilities: it fails, and its product is within the range.
 abbrev pub IsPlaceInScope : DiagramView → (ℕ → ℕ) → List ℕ → List ℕ → BoundPlace → Type 0
-IsPlaceInScope d factor scope utilities Within = bound_in d factor scope utilities ≤ greatest_number
-IsPlaceInScope d factor scope utilities (Node v) = (greatest_number < bound_in d factor scope utilities) × PassesInScope factor scope v
-IsPlaceInScope d factor scope utilities Utilities = (greatest_number < bound_in d factor scope utilities) × (nat_product_over factor scope ≤ greatest_number)
+IsPlaceInScope d factor members utilities Within = bound_in d factor members utilities ≤ greatest_number
+IsPlaceInScope d factor members utilities (Node v) = (greatest_number < bound_in d factor members utilities) × PassesInScope factor members v
+IsPlaceInScope d factor members utilities Utilities = (greatest_number < bound_in d factor members utilities) × (nat_product_over factor members ≤ greatest_number)
+
+-- of this scope
+abbrev pub IsPlaceIn : DiagramView → Scope → BoundPlace → Type 0
+IsPlaceIn d scope place = IsPlaceInScope d (factor_by scope.counted d.nodes) (members_of d.nodes scope.nodes) (members_of d.nodes scope.utilities) place
+
+-- of the scope of a decision
+abbrev pub IsPlaceOf : DiagramView → ℕ → BoundPlace → Type 0
+IsPlaceOf d v place = IsPlaceInScope d (bound_factor d.nodes) (scope_of d.nodes v) (goals_of d.nodes v) place
 
 -- of the decisions. Within: their bounds hold. Node: the first that fails passes there. Utilities: it passes by its utilities alone.
 abbrev pub IsPlaceOfDecisions : DiagramView → BoundPlace → Type 0

@@ -1,27 +1,27 @@
 //! The scope of a decision or of an agent, and where its bound fails.
 
-ghost use Rattle.std.specs.Prelude.{◌≡◌, ℕ, ◌<◌, ◌≤◌, ◌*◌, ◌^◌, ◌↔◌, length, max, Contains, IsTrue, MatchOption, if◌then◌else◌};
+ghost use Rattle.std.specs.Prelude.{◌≡◌, ℕ, ◌<◌, ◌≤◌, ◌*◌, ◌^◌, ◌↔◌, length, max, Contains, IsTrue, MatchOption};
 ghost use Rattle.std.specs.Option.{SomeIff};
-ghost use Rattle.node_sets.specs.Sets.{holds, IsIn};
+ghost use Rattle.node_sets.specs.Sets.{IsIn};
 ghost use Rattle.maid_model.specs.Diagrams.{IsDiagram, greatest_number};
 ghost use Rattle.maid_model.specs.Gains.{greatest_abs};
-ghost use Rattle.maid_model.specs.Nodes.{IsDecision, node_at};
-ghost use Rattle.maid_model.specs.Scopes.{goals_of, greatest_of, scope_for, scope_of, utilities_for};
-ghost use Rattle.weight_scale.specs.ScopePlaces.{factor_by, members_of, IsUtilityFor, IsScope, IsPlaceInScope};
+ghost use Rattle.maid_model.specs.Nodes.{IsDecision};
+ghost use Rattle.maid_model.specs.Scopes.{scope_for, scope_of};
+ghost use Rattle.weight_scale.specs.ScopePlaces.{factor_in, greatest_in, greatest_sum, IsUtilityFor, IsScopeOf, IsScopeFor, IsPlaceIn};
 
 use crate::weight_bound::BoundPlace;
 use maid_model::{Diagram, GREATEST_NUMBER, Kind, goals_of};
 use node_sets::{NodeSet, ancestors};
 use whole_num::{add_within, mul_within};
 
-/// Which nodes of a scope count in its product.
+/// Which nodes of a scope count in its product: in an agent's the chance nodes, in a decision's the decisions too.
 #[derive(Clone, Copy)]
 pub(crate) enum Counted {
     ChanceAndDecisions,
     ChanceAlone,
 }
 
-/// The nodes from which a path leads to what somebody looks at, and the utilities among that.
+/// The scope of a decision or of an agent, and the utilities for which it is one.
 #[derive(Clone, Copy)]
 pub(crate) struct Scope {
     counted: Counted,
@@ -78,7 +78,7 @@ pub fn agent_scope(diagram: &Diagram, agent: usize) -> NodeSet
 /// The scope of the node, if it is a decision: what leads to it, or to a utility of its agent that descends from it.
 pub(crate) fn scope_of(diagram: &Diagram, v: usize) -> Option<Scope>
     requires { v < length diagram.now.nodes }
-    ensures { MatchOption result (IsDecision diagram.now.nodes v → ⊥) (λ scope. IsDecision diagram.now.nodes v × IsScope diagram.now.nodes scope Counted.ChanceAndDecisions (scope_of diagram.now.nodes v) (goals_of diagram.now.nodes v)) }
+    ensures { MatchOption result (IsDecision diagram.now.nodes v → ⊥) (IsScopeOf diagram.now.nodes v) }
 {
     match diagram.kind(v) {
         Kind::Decision => Some(Scope {
@@ -92,7 +92,7 @@ pub(crate) fn scope_of(diagram: &Diagram, v: usize) -> Option<Scope>
 
 /// The scope of the agent: what leads to one of its utilities.
 pub(crate) fn scope_for(diagram: &Diagram, agent: usize) -> Scope
-    ensures { IsScope diagram.now.nodes result Counted.ChanceAlone (scope_for diagram.now.nodes agent) (utilities_for diagram.now.nodes agent) }
+    ensures { IsScopeFor diagram.now.nodes agent result }
 {
     Scope {
         counted: Counted::ChanceAlone,
@@ -116,7 +116,7 @@ impl Scope {
     // the count of its states where decisions count, and a node that the scope lacks with 1.
     fn factor(&self, diagram: &Diagram, v: usize) -> u128
         requires { v < length diagram.now.nodes }
-        ensures { result ≡ (if holds self.now.nodes v then factor_by self.now.counted diagram.now.nodes v else 1) }
+        ensures { result ≡ factor_in diagram.now.nodes self.now v }
     {
         let kind = diagram.kind(v);
         if !self.nodes.holds(v) {
@@ -132,7 +132,7 @@ impl Scope {
     // The greatest absolute value of the node's cells if it is one of the scope's utilities, and else 0.
     fn greatest_at(&self, diagram: &Diagram, v: usize) -> u128
         requires { v < length diagram.now.nodes }
-        ensures { result ≡ (if holds self.now.utilities v then greatest_abs (node_at diagram.now.nodes v).cells else 0) }
+        ensures { result ≡ greatest_in diagram.now.nodes self.now v }
     {
         let cells = diagram.cells(v);
         if self.utilities.holds(v) {
@@ -144,7 +144,7 @@ impl Scope {
 
     // The greatest absolute values of the scope's utilities added up, if the sum isn't too great.
     fn greatest(&self, diagram: &Diagram) -> Option<u128>
-        ensures { SomeIff result (greatest_of diagram.now.nodes (members_of diagram.now.nodes self.now.utilities) ≤ greatest_number) (greatest_of diagram.now.nodes (members_of diagram.now.nodes self.now.utilities)) }
+        ensures { SomeIff result (greatest_sum diagram.now.nodes self.now ≤ greatest_number) (greatest_sum diagram.now.nodes self.now) }
     {
         let mut sum = 0;
         for v in 0..diagram.count() {
@@ -156,7 +156,7 @@ impl Scope {
     // Whether the scope's product keeps the bound with its utilities, too.
     fn has_room(&self, diagram: &Diagram, product: u128) -> bool
         requires { 0 < product }
-        ensures { IsTrue result ↔ (product * max (10 ^ diagram.now.decimals) (greatest_of diagram.now.nodes (members_of diagram.now.nodes self.now.utilities)) ≤ greatest_number) }
+        ensures { IsTrue result ↔ (product * max (10 ^ diagram.now.decimals) (greatest_sum diagram.now.nodes self.now) ≤ greatest_number) }
     {
         let scale = 10u128.pow(diagram.decimals());
         match self.greatest(diagram) {
@@ -167,7 +167,7 @@ impl Scope {
 
     /// Where the scope's bound fails.
     pub(crate) fn place(&self, diagram: &Diagram) -> BoundPlace
-        ensures { IsPlaceInScope diagram.now (factor_by self.now.counted diagram.now.nodes) (members_of diagram.now.nodes self.now.nodes) (members_of diagram.now.nodes self.now.utilities) result }
+        ensures { IsPlaceIn diagram.now self.now result }
     {
         let mut product = 1;
         for v in 0..diagram.count() {

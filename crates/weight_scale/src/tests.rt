@@ -2,6 +2,7 @@
 
 ghost use Rattle.std.specs.Prelude.{◌≡◌, ◌<◌, ◌%◌, ◌^◌, [], IfOk, length, true, unsigned_abs};
 ghost use Rattle.net_lexer.specs.Numerals.{is_numeral};
+ghost use Rattle.weight_scale.specs.Example.{chance_of, choice, utility_of, weights_if, values_if, others_if};
 
 use super::*;
 use maid_model::{Diagram, Kind, Node, literals_are_tested};
@@ -9,7 +10,7 @@ use smallvec::SmallVec;
 use std::alloc::{AllocError, Global};
 use std::test::Fail;
 
-fn value(text: &[u8]) -> Option<(i128, u32)>
+fn value_of(text: &[u8]) -> Option<(i128, u32)>
     requires { is_numeral text.now ≡ true }
 {
     numeral(text).map(|decimal| (decimal.m, decimal.k))
@@ -17,35 +18,35 @@ fn value(text: &[u8]) -> Option<(i128, u32)>
 
 #[test]
 fn numerals_have_their_value(rt: HostRuntime) {
-    assert_eq!(rt; value(b"0"), Some((0, 0)));
-    assert_eq!(rt; value(b"-0"), Some((0, 0)));
-    assert_eq!(rt; value(b"0e999"), Some((0, 0)));
-    assert_eq!(rt; value(b".5"), Some((5, 1)));
-    assert_eq!(rt; value(b"5."), Some((5, 0)));
-    assert_eq!(rt; value(b"+1.000"), Some((1, 0)));
-    assert_eq!(rt; value(b"-12.50E+1"), Some((-125, 0)));
-    assert_eq!(rt; value(b"0012.50e-3"), Some((125, 4)));
+    assert_eq!(rt; value_of(b"0"), Some((0, 0)));
+    assert_eq!(rt; value_of(b"-0"), Some((0, 0)));
+    assert_eq!(rt; value_of(b"0e999"), Some((0, 0)));
+    assert_eq!(rt; value_of(b".5"), Some((5, 1)));
+    assert_eq!(rt; value_of(b"5."), Some((5, 0)));
+    assert_eq!(rt; value_of(b"+1.000"), Some((1, 0)));
+    assert_eq!(rt; value_of(b"-12.50E+1"), Some((-125, 0)));
+    assert_eq!(rt; value_of(b"0012.50e-3"), Some((125, 4)));
     assert_eq!(rt;
-        value(b"1e37"),
+        value_of(b"1e37"),
         Some((10_000_000_000_000_000_000_000_000_000_000_000_000, 0))
     );
-    assert_eq!(rt; value(b"1e38"), None);
-    assert_eq!(rt; value(b"1e-30"), Some((1, 30)));
-    assert_eq!(rt; value(b"1e-31"), None);
-    assert_eq!(rt; value(b"10e-31"), Some((1, 30)));
+    assert_eq!(rt; value_of(b"1e38"), None);
+    assert_eq!(rt; value_of(b"1e-30"), Some((1, 30)));
+    assert_eq!(rt; value_of(b"1e-31"), None);
+    assert_eq!(rt; value_of(b"10e-31"), Some((1, 30)));
     let greatest = 85_070_591_730_234_615_865_843_651_857_942_052_863;
     assert_eq!(rt;
-        value(b"85070591730234615865843651857942052863"),
+        value_of(b"85070591730234615865843651857942052863"),
         Some((greatest, 0))
     );
     assert_eq!(rt;
-        value(b"-8.5070591730234615865843651857942052863e7"),
+        value_of(b"-8.5070591730234615865843651857942052863e7"),
         Some((-greatest, 30))
     );
-    assert_eq!(rt; value(b"85070591730234615865843651857942052864"), None);
+    assert_eq!(rt; value_of(b"85070591730234615865843651857942052864"), None);
     // 2^126 * 10 - 10, written with a decimal that is nought
     assert_eq!(rt;
-        value(b"850705917302346158658436518579420528630e-1"),
+        value_of(b"850705917302346158658436518579420528630e-1"),
         Some((greatest, 0))
     );
 }
@@ -59,21 +60,21 @@ fn exponents_have_any_length(rt: HostRuntime) {
           0000000000000000000000000000000000000000000000000000000000000000000000000000000000000000\
           000000000000000000000000000000000000000000000000\
           e-400";
-    assert_eq!(rt; value(many), Some((1, 0)));
+    assert_eq!(rt; value_of(many), Some((1, 0)));
     assert_eq!(rt;
-        value(b"0e-999999999999999999999999999999999999999999"),
+        value_of(b"0e-999999999999999999999999999999999999999999"),
         Some((0, 0))
     );
     assert_eq!(rt;
-        value(b"1e999999999999999999999999999999999999999999"),
+        value_of(b"1e999999999999999999999999999999999999999999"),
         None
     );
     assert_eq!(rt;
-        value(b"1e-999999999999999999999999999999999999999999"),
+        value_of(b"1e-999999999999999999999999999999999999999999"),
         None
     );
     assert_eq!(rt;
-        value(b"7e-000000000000000000000000000000000000000000000000002"),
+        value_of(b"7e-000000000000000000000000000000000000000000000000002"),
         Some((7, 2))
     );
 }
@@ -154,33 +155,128 @@ fn rows_have_their_weights(rt: HostRuntime) {
     );
 }
 
-// A node without parents.
-fn node(alloc: Global, kind: Kind, states: usize, cells: &[i128]) -> Result<Node, AllocError>
-    ensures { IfOk result (λ n. n ≡ record { kind = kind; owner = 0; more = []; states = states; parents = []; cells = cells.now }) }
+// A chance node of one state.
+fn chance(alloc: Global, cells: &[i128]) -> Result<Node, AllocError>
+    ensures { IfOk result (λ n. n ≡ chance_of cells.now) }
 {
     Ok(Node {
-        kind,
+        kind: Kind::Chance,
         owner: 0,
         more: SmallVec::new(alloc),
-        states,
+        states: 1,
         parents: SmallVec::new(alloc),
         cells: Vec::from_slice(alloc, cells)?,
     })
 }
 
+// A decision of two states, of the first agent.
+fn choice(alloc: Global) -> Node
+    ensures { result ≡ choice }
+{
+    Node {
+        kind: Kind::Decision,
+        owner: 0,
+        more: SmallVec::new(alloc),
+        states: 2,
+        parents: SmallVec::new(alloc),
+        cells: Vec::new(alloc),
+    }
+}
+
+fn utility(
+    alloc: Global,
+    owner: usize,
+    more: &[usize],
+    parents: &[usize],
+    cells: &[i128],
+) -> Result<Node, AllocError>
+    ensures { IfOk result (λ n. n ≡ utility_of owner more.now parents.now cells.now) }
+{
+    Ok(Node {
+        kind: Kind::Utility,
+        owner,
+        more: SmallVec::from_slice(alloc, more)?,
+        states: 1,
+        parents: SmallVec::from_slice(alloc, parents)?,
+        cells: Vec::from_slice(alloc, cells)?,
+    })
+}
+
+// 2^125 or 2^100
+fn weights(wide: bool) -> &'static [i128]
+    ensures { result.now ≡ weights_if wide }
+{
+    if wide {
+        &[42_535_295_865_117_307_932_921_825_928_971_026_432]
+    } else {
+        &[1_267_650_600_228_229_401_496_703_205_376]
+    }
+}
+
+// 2^100 or 1, and 0
+fn values(dear: bool) -> &'static [i128]
+    ensures { result.now ≡ values_if dear }
+{
+    if dear {
+        &[1_267_650_600_228_229_401_496_703_205_376, 0]
+    } else {
+        &[1, 0]
+    }
+}
+
+fn others(shared: bool) -> &'static [usize]
+    ensures { result.now ≡ others_if shared }
+{
+    if shared { &[1] } else { &[] }
+}
+
+// A choice of the first agent, a chance node and a utility over both, which the second agent may share; and beside them
+// a chance node of 2^100 and a utility of the second agent over it.
+fn two_parts(alloc: Global, wide: bool, dear: bool, shared: bool) -> Result<Diagram, AllocError> {
+    literals_are_tested();
+    let mut nodes = Vec::new(alloc);
+    nodes.push(choice(alloc))?;
+    nodes.push(chance(alloc, weights(wide))?)?;
+    nodes.push(utility(alloc, 0, others(shared), &[0, 1], values(dear))?)?;
+    nodes.push(chance(alloc, weights(false))?)?;
+    nodes.push(utility(alloc, 1, &[], &[3], &[1])?)?;
+    Ok(Diagram::from_nodes(nodes, 2, 0))
+}
+
 #[test]
-fn bound_has_its_place(rt: HostRuntime) -> Result<(), Fail> {
+fn each_scope_has_its_bound(rt: HostRuntime) -> Result<(), Fail> {
+    let alloc = rt.alloc();
+    // the product over all nodes is 2^201, and each part's is within the bound
+    let diagram = two_parts(alloc, false, false, false)?;
+    assert_eq!(rt; bound(&diagram), BoundPlace::Within);
+    // 2 * 2^125 passes at the chance node, in the decision's scope alone
+    let diagram = two_parts(alloc, true, false, false)?;
+    assert_eq!(rt; bound(&diagram), BoundPlace::Node(1));
+    // 2 * 2^100 is within the bound, and 2 * 2^100 * 2^100 passes
+    let diagram = two_parts(alloc, false, true, false)?;
+    assert_eq!(rt; bound(&diagram), BoundPlace::Utilities);
+    // the second agent's scope has both parts, and the first agent's one of them
+    let diagram = two_parts(alloc, false, false, true)?;
+    assert_eq!(rt; bound(&diagram), BoundPlace::Node(3));
+    // the decision fails before the second agent
+    let diagram = two_parts(alloc, true, true, true)?;
+    assert_eq!(rt; bound(&diagram), BoundPlace::Node(1));
+    Ok(())
+}
+
+#[test]
+fn an_agent_without_a_utility_keeps_the_bound(rt: HostRuntime) -> Result<(), Fail> {
     literals_are_tested();
     let alloc = rt.alloc();
     let empty = Diagram::from_nodes(Vec::new(alloc), 1, 0);
     assert_eq!(rt; bound(&empty), BoundPlace::Within);
     let mut nodes = Vec::new(alloc);
-    nodes.push(node(alloc, Kind::Utility, 1, &[-GREATEST])?)?;
+    nodes.push(chance(alloc, &[GREATEST])?)?;
+    let certain = Diagram::from_nodes(nodes, 1, 1);
+    assert_eq!(rt; bound(&certain), BoundPlace::Within);
+    let mut nodes = Vec::new(alloc);
+    nodes.push(utility(alloc, 0, &[], &[], &[-GREATEST])?)?;
     let one = Diagram::from_nodes(nodes, 1, 30);
     assert_eq!(rt; bound(&one), BoundPlace::Within);
-    let mut nodes = Vec::new(alloc);
-    nodes.push(node(alloc, Kind::Chance, 1, &[GREATEST])?)?;
-    let certain = Diagram::from_nodes(nodes, 1, 1);
-    assert_eq!(rt; bound(&certain), BoundPlace::Utilities);
     Ok(())
 }

@@ -1,12 +1,11 @@
 //! The weight bound of decisions and agents, and the place at which the first that fails does so.
 
 ghost use Rattle.std.specs.Prelude.{◌≡◌, ℕ, ◌<◌, ◌≤◌, length};
-ghost use Rattle.maid_model.specs.Bounds.{bound_factor};
 ghost use Rattle.maid_model.specs.Diagrams.{IsDiagram, greatest_number};
 ghost use Rattle.maid_model.specs.Nodes.{IsDecision};
-ghost use Rattle.maid_model.specs.Scopes.{chance_factor, goals_of, scope_bound, scope_for, scope_of, utilities_for};
+ghost use Rattle.maid_model.specs.Scopes.{scope_bound};
 ghost use Rattle.weight_scale.specs.Bound.{IsBoundPlace};
-ghost use Rattle.weight_scale.specs.ScopePlaces.{IsPlaceInScope, IsPlaceOfDecisions};
+ghost use Rattle.weight_scale.specs.ScopePlaces.{IsPlaceOf, IsPlaceOfDecisions};
 
 use crate::scopes::{scope_for, scope_of};
 use maid_model::Diagram;
@@ -22,7 +21,7 @@ pub enum BoundPlace {
 // Where the bound of the node fails, if it is a decision.
 fn place_at(diagram: &Diagram, v: usize) -> BoundPlace
     requires { v < length diagram.now.nodes }
-    ensures decision { IsDecision diagram.now.nodes v → IsPlaceInScope diagram.now (bound_factor diagram.now.nodes) (scope_of diagram.now.nodes v) (goals_of diagram.now.nodes v) result }
+    ensures decision { IsDecision diagram.now.nodes v → IsPlaceOf diagram.now v result }
     ensures other { (IsDecision diagram.now.nodes v → ⊥) → result ≡ BoundPlace.Within }
 {
     match scope_of(diagram, v) {

@@ -1,0 +1,144 @@
+//! The part of a diagram that some nodes and all their ancestors make.
+
+ghost use Rattle.std.specs.Prelude.{◌≡◌, ℕ, ◌<◌, ◌↔◌, length, map, filter, slice_index, Contains, IfOk};
+ghost use Rattle.std.specs.List.{range_with_len};
+ghost use Rattle.node_sets.specs.declared.sets.TheConstants.{MOST_NODES};
+ghost use Rattle.node_sets.specs.Sets.{holds, IsIn};
+ghost use Rattle.maid_model.specs.Graph.{AllDifferent};
+ghost use Rattle.maid_model.specs.Nodes.{numbers_of};
+ghost use Rattle.maid_model.specs.Parts.{IsAncestral, with_ancestors, place_in, renumbered, part_of, part_diagram};
+ghost use Rattle.diagram_graph.specs.Edited.{with_parents};
+
+use maid_model::{Diagram, MOST_NODES, Node};
+use node_sets::{NodeSet, ancestors};
+use part_laws::parts_are_diagrams;
+use smallvec::SmallVec;
+use std::alloc::{AllocError, Global};
+
+/// A part of a diagram, and the numbers that its nodes had there, in text order.
+#[derive(Debug, Drop)]
+pub struct SubDiagram {
+    pub diagram: Diagram,
+    pub nodes: Vec<usize>,
+}
+
+/// The nodes of the list and all their ancestors.
+fn kept_set(diagram: &Diagram, of: &[usize]) -> NodeSet
+    requires { (v : ℕ) → Contains of.now v → v < length diagram.now.nodes }
+    ensures { (v : ℕ) → IsIn result v ↔ Contains (with_ancestors diagram.now.nodes of.now) v }
+{
+    parts_are_diagrams();
+    let _count = diagram.count();
+    let mut set = NodeSet::empty();
+    set.insert_all(of);
+    ancestors(diagram, set)
+}
+
+/// The nodes of the set, in text order.
+fn listed(alloc: Global, diagram: &Diagram, set: &NodeSet) -> Result<Vec<usize>, AllocError>
+    ensures { IfOk result (λ list. list.items ≡ filter (holds set.now) (numbers_of diagram.now.nodes)) }
+{
+    let mut list = Vec::new(alloc);
+    for v in 0..diagram.count() {
+        if set.holds(v) {
+            list.push(v)?;
+        }
+    }
+    Ok(list)
+}
+
+/// The nodes of the list and all their ancestors, in text order.
+fn kept_nodes(alloc: Global, diagram: &Diagram, of: &[usize]) -> Result<Vec<usize>, AllocError>
+    requires { (v : ℕ) → Contains of.now v → v < length diagram.now.nodes }
+    ensures { IfOk result (λ kept. kept.items ≡ with_ancestors diagram.now.nodes of.now) }
+{
+    let set = kept_set(diagram, of);
+    listed(alloc, diagram, &set)
+}
+
+/// At each number of the list its place there.
+fn places(kept: &[usize]) -> [usize; MOST_NODES]
+    requires small { (v : ℕ) → Contains kept.now v → v < MOST_NODES }
+    requires differ { AllDifferent kept.now }
+    ensures { (v : ℕ) → Contains kept.now v → slice_index result v ≡ place_in kept.now v }
+{
+    let mut places = [0; MOST_NODES];
+    for (place, v) in kept.iter().enumerate() {
+        places[*v] = place;
+    }
+    places
+}
+
+/// The parents' new numbers.
+fn new_parents(
+    alloc: Global,
+    parents: &[usize],
+    places: &[usize; MOST_NODES],
+) -> Result<SmallVec<usize, 4, Global>, AllocError>
+    requires { (u : ℕ) → Contains parents.now u → u < MOST_NODES }
+    ensures { IfOk result (λ new. new.items ≡ map (slice_index places.now) parents.now) }
+{
+    let mut new = SmallVec::with_capacity(alloc, parents.len())?;
+    for u in parents {
+        new.push(places[*u])?;
+    }
+    Ok(new)
+}
+
+/// A copy of the node with its parents' new numbers.
+fn renumber(
+    alloc: Global,
+    node: &Node,
+    places: &[usize; MOST_NODES],
+) -> Result<Node, AllocError>
+    requires { (u : ℕ) → Contains node.now.parents u → u < MOST_NODES }
+    ensures { IfOk result (λ new. new ≡ with_parents node.now (map (slice_index places.now) node.now.parents)) }
+{
+    Ok(Node {
+        kind: node.kind,
+        owner: node.owner,
+        more: SmallVec::from_slice(alloc, node.more.as_slice())?,
+        states: node.states,
+        parents: new_parents(alloc, node.parents.as_slice(), places)?,
+        cells: Vec::from_slice(alloc, node.cells.as_slice())?,
+    })
+}
+
+/// The kept nodes with their parents' new numbers.
+fn part_nodes(
+    alloc: Global,
+    diagram: &Diagram,
+    kept: &[usize],
+) -> Result<Vec<Node>, AllocError>
+    requires { IsAncestral diagram.now.nodes kept.now }
+    ensures { IfOk result (λ nodes. nodes.items ≡ part_of diagram.now.nodes kept.now) }
+{
+    let _count = diagram.count();
+    let places = places(kept);
+    let mut nodes = Vec::with_capacity(alloc, kept.len())?;
+    for v in kept {
+        nodes.push(renumber(alloc, diagram.node(*v), &places)?)?;
+    }
+    Ok(nodes)
+}
+
+/// The part of the diagram that these nodes and all their ancestors make, in text order, with the agents and the
+/// decimals of the whole. Where the part has a decision and all utilities of its agent that descend from it, the
+/// decision's sums in the whole are those in the part times one factor, the totals of what is left out; and so are an
+/// agent's, where the part has all its utilities: `part_laws::law_of_parts`.
+///
+/// It goes over all arcs a few times, and takes the time and the memory of a copy of the kept cells.
+pub fn part(alloc: Global, diagram: &Diagram, of: &[usize]) -> Result<SubDiagram, AllocError>
+    requires { (v : ℕ) → Contains of.now v → v < length diagram.now.nodes }
+    ensures nodes { IfOk result (λ part. part.nodes.items ≡ with_ancestors diagram.now.nodes of.now) }
+    ensures diagram { IfOk result (λ part. part.diagram ≡ part_diagram diagram.now (with_ancestors diagram.now.nodes of.now)) }
+{
+    parts_are_diagrams();
+    let _count = diagram.count();
+    let kept = kept_nodes(alloc, diagram, of)?;
+    let nodes = part_nodes(alloc, diagram, &kept)?;
+    Ok(SubDiagram {
+        diagram: Diagram::from_nodes(nodes, diagram.agents(), diagram.decimals()),
+        nodes: kept,
+    })
+}

@@ -1,0 +1,108 @@
+-- One step of a plan: what it asks is there, and what it makes leads on.
+use Rattle.std.proofs.Common.{◌≡◌, ◌∙◌, ℕ, ◌+◌, ◌<◌, ◌≤◌, Bool, not, ◌&&◌, ◌||◌, eqb, map, filter, List, [], ◌∷◌, ◌++◌, length, drop, slice_index, drop-cons, suc, refl, sym, ap, subst, arith, All}
+use Rattle.std.specs.List.{list_any, AllZip}
+use Rattle.std.proofs.Math.Path.{fun_ext}
+use Rattle.node_sets.specs.Sets.{holds}
+use Rattle.maid_model.specs.declared.limits.TheConstants.{COUNT_END}
+use Rattle.maid_model.specs.Nodes.{states_of}
+use Rattle.maid_model.specs.Views.{NodeView}
+use Rattle.cell_rings.specs.Rings.{Ring, IsRing}
+use Rattle.ring_sums.specs.Groups.{JoinFits, StepsFit, StepsHold}
+use Rattle.ring_sums.specs.Tables.{Table, IsSame, with_node, without_node, sum_out, eliminate_one, eliminate, scopes_of, joined_without, scopes_one}
+use Rattle.ring_sums.proofs.Each.{zip_filter}
+use Rattle.ring_sums.proofs.Same.{map_filter, same_out, fits_same, holds_same, makes_scopes_at}
+use Rattle.factor_core.specs.declared.slots.Slot.{Slot}
+use Rattle.factor_core.specs.Slots.{WorkspaceView, cells_over, IsLive, table_of, tables_of}
+use Rattle.size_precheck.specs.Counts.{counted_cells}
+use Rattle.size_precheck.specs.Greedy.{holding}
+use Rattle.size_precheck.specs.Sizes.{made_cells}
+use Rattle.eliminate.specs.Steps.{slots_with, slots_without, PutsTable, CanJoinOut, Stand, Between}
+use Rattle.eliminate.proofs.Sizes.{cells_exact}
+use Rattle.eliminate.proofs.Standing.{map_length, more_stands}
+use Rattle.eliminate.proofs.Stepping.{all_filter}
+
+any_map : {X Y : Type 0} (p : Y → Bool) (f : X → Y) (xs : List X) → list_any p (map f xs) ≡ list_any (λ x. p (f x)) xs
+any_map p f [] = refl
+any_map p f (x ∷ xs) = ap (λ b. p (f x) || b) (any_map p f xs)
+
+-- the scope that the plan's count sees is that of the table that is made
+pub made_scope : {C : Type 0} (r : Ring C) (count : ℕ → ℕ) (v : ℕ) (ts : List (Table C)) → joined_without v (holding v (scopes_of ts)) ≡ (sum_out r count v (with_node v ts)).holds
+made_scope r count v ts = fun_ext (λ u. ap (λ b. b && not (eqb u v))
+    (ap (λ ss. list_any (λ s. s u) ss) (sym (map_filter (λ (t : Table _). t.holds) (λ s. s v) ts)) ∙ any_map (λ s. s u) (λ (t : Table _). t.holds) (with_node v ts)))
+
+module _ {C : Type 0} (r : Ring C) (h : IsRing r) (nodes : List NodeView) (before now : WorkspaceView C) (slots : List Slot) (v : ℕ) (rest steps : List ℕ) (first : List (Table C)) (cells : ℕ)
+    (b : Between r nodes before now slots (v ∷ rest) steps first cells) (counted : cells < COUNT_END) (fits : cells ≤ before.spare) where
+  abbrev stored : List (Table C)
+  stored = tables_of r nodes now.cells slots
+
+  abbrev made : Table C
+  made = sum_out r (states_of nodes) v (tables_of r nodes now.cells (slots_with v slots))
+
+  abbrev told : Table C
+  told = sum_out r (states_of nodes) v (with_node v b.tables)
+
+  with_is : tables_of r nodes now.cells (slots_with v slots) ≡ with_node v stored
+  with_is = map_filter (table_of r nodes now.cells) (λ t. t.holds v) slots
+
+  without_is : tables_of r nodes now.cells (slots_without v slots) ≡ without_node v stored
+  without_is = map_filter (table_of r nodes now.cells) (λ t. not (t.holds v)) slots
+
+  made_same : IsSame (states_of nodes) made told
+  made_same = subst (λ ts. IsSame (states_of nodes) (sum_out r (states_of nodes) v ts) told) (sym with_is)
+      (same_out r h (states_of nodes) v (with_node v stored) (with_node v b.tables) (zip_filter (IsSame (states_of nodes)) (λ t. t.holds v) (λ t. t.holds v) (λ t u e. e.holds v) stored b.tables b.stand.same))
+
+  left_same : AllZip (IsSame (states_of nodes)) (tables_of r nodes now.cells (slots_without v slots)) (without_node v b.tables)
+  left_same = subst (λ ts. AllZip (IsSame (states_of nodes)) ts (without_node v b.tables)) (sym without_is)
+      (zip_filter (IsSame (states_of nodes)) (λ t. not (t.holds v)) (λ t. not (t.holds v)) (λ t u e. ap not (e.holds v)) stored b.tables b.stand.same)
+
+  -- the cells that the step makes, as the plan counts them
+  abbrev here : ℕ
+  here = counted_cells nodes (joined_without v (holding v (scopes_of b.tables)))
+
+  abbrev later : ℕ
+  later = made_cells nodes rest (scopes_one v (scopes_of b.tables))
+
+  parts : b.spent + (here + later) ≡ cells
+  parts = b.room
+
+  here_exact : here ≡ cells_over nodes told.holds
+  here_exact = cells_exact nodes (joined_without v (holding v (scopes_of b.tables))) (omega (arith, parts, counted)) ∙ ap (cells_over nodes) (made_scope r (states_of nodes) v b.tables)
+
+  pub can_join : CanJoinOut r nodes now slots v
+  can_join = record {
+    live = b.stand.live;
+    some = some_slots (slots_with v slots) (subst (λ ts. 0 < length ts) (sym with_is) (holds_same r h r.size (states_of nodes) r.most (v ∷ rest) stored b.tables b.stand.same b.holds).0);
+    fits = subst (JoinFits r.size (states_of nodes) r.most v) (sym with_is) (fits_same r h r.size (states_of nodes) r.most (v ∷ rest) stored b.tables b.stand.same b.fits).0;
+    room = subst (λ n. n ≤ now.spare) (here_exact ∙ ap (cells_over nodes) (sym (fun_ext made_same.holds))) (omega (arith, parts, fits, b.stand.appends.less));
+  }
+    where
+      some_slots : (ss : List Slot) → 0 < length (tables_of r nodes now.cells ss) → 0 < length ss
+      some_slots ss l = omega (arith, l, map_length (table_of r nodes now.cells) ss)
+
+  -- after it the rest leads on
+  pub goes_on : (after : WorkspaceView C) (new : List Slot) → PutsTable r nodes now after (slots_without v slots) new made → Between r nodes before after new rest steps first cells
+  goes_on after new puts = record {
+    tables = eliminate_one r (states_of nodes) v b.tables;
+    spent = b.spent + cells_over nodes told.holds;
+    stand = more_stands r nodes before now after b.spent slots (slots_without v slots) new b.tables (without_node v b.tables) made told b.stand
+        (all_filter (IsLive nodes now.cells) (λ s. not (holds s.scope v)) slots b.stand.live) left_same puts made_same;
+    leads = b.leads;
+    fits = b.fits.1;
+    holds = b.holds.1;
+    room = ap (λ ss. b.spent + cells_over nodes told.holds + made_cells nodes rest ss) (makes_scopes_at r (states_of nodes) (v ∷ []) b.tables)
+        ∙ ap (λ n. b.spent + n + later) (sym here_exact)
+        ∙ same_sum b.spent here later
+        ∙ parts;
+  }
+    where
+      same_sum : (x y z : ℕ) → x + y + z ≡ x + (y + z)
+      same_sum x y z = omega arith
+
+-- the next step, by its place
+pub at_place : {C : Type 0} (r : Ring C) (nodes : List NodeView) (before now : WorkspaceView C) (slots : List Slot) (i : ℕ) (steps : List ℕ) (first : List (Table C)) (cells : ℕ)
+    → i < length steps → Between r nodes before now slots (drop i steps) steps first cells → Between r nodes before now slots (slice_index steps i ∷ drop (i + 1) steps) steps first cells
+at_place r nodes before now slots i steps first cells l b =
+    subst (λ k. Between r nodes before now slots (slice_index steps i ∷ drop k steps) steps first cells) (next i) (subst (λ z. Between r nodes before now slots z steps first cells) (drop-cons steps i 0 l) b)
+  where
+    next : (i : ℕ) → suc i ≡ i + 1
+    next i = omega arith

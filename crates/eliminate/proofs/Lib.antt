@@ -1,0 +1,9 @@
+pub mod Listing
+pub mod Stepping
+pub mod Numbers
+pub mod Ruled
+pub mod Standing
+pub mod Starting
+pub mod Sizes
+pub mod Going
+pub mod Whole

@@ -1,0 +1,186 @@
+-- The whole run of a plan: what its count of cells says, its start and its end.
+use Rattle.std.proofs.Common.{◌≡◌, ◌∙◌, ℕ, ◌+◌, ◌*◌, ◌<◌, ◌≤◌, Bool, true, false, cond, ◌||◌, map, List, [], ◌∷◌, ◌++◌, length, refl, sym, ap, subst, inl, inr, arith, Contains, Option, Some, None, option_to_list}
+use Rattle.std.specs.List.{list_any, sum_by, AllZip}
+use Rattle.std.proofs.Math.Path.{fun_ext}
+use Rattle.std.proofs.lemmas.List.{append-nil}
+use Rattle.std.proofs.lemmas.List.Sums.{sum_by-cons}
+use Rattle.finite_sums.specs.Members.{Among}
+use Rattle.finite_sums.specs.Sums.{World, InRange}
+use Rattle.node_sets.specs.Sets.{holds, IsIn}
+use Rattle.maid_model.specs.declared.limits.TheConstants.{COUNT_END}
+use Rattle.maid_model.specs.declared.diagrams.Kind.{Kind}
+use Rattle.maid_model.specs.declared.diagrams.Kind.TheVariants.{Chance, Decision, Utility}
+use Rattle.maid_model.specs.Graph.{IsGraph}
+use Rattle.maid_model.specs.Nodes.{node_at, states_of, is_utility}
+use Rattle.maid_model.specs.Profiles.{IsProfile}
+use Rattle.maid_model.specs.Tables.{HasChanceTables}
+use Rattle.maid_model.specs.Views.{NodeView, RuleView}
+use Rattle.cell_rings.specs.Rings.{Ring, IsRing, IsSize}
+use Rattle.ring_sums.specs.Groups.{ProductsFit, StepsFit, StepsHold}
+use Rattle.ring_sums.specs.Tables.{Table, IsSame, joined, product_of, eliminate, scopes_of}
+use Rattle.ring_sums.proofs.Same.{map_append, fits_same, fits_more, same_product}
+use Rattle.plan_sums.specs.Plans.{Cells, PlanView, mass_cells, has, node_table, utility_table, first_tables, ruled_nodes, plan_sum}
+use Rattle.plan_sums.specs.Sizes.{AreSized, IsPlan}
+use Rattle.plan_sums.proofs.Looks.{runs_plans}
+use Rattle.plan_sums.proofs.Scopes.{plans_keep}
+use Rattle.plan_sums.proofs.Sized.{plans_fit, plans_hold, option_has, ruled_in, in_plan_kind}
+use Rattle.factor_core.specs.declared.slots.Slot.{Slot}
+use Rattle.factor_core.specs.Operations.{first_table, product_table}
+use Rattle.factor_core.specs.Slots.{WorkspaceView, cells_over, IsLive, table_of, tables_of, Appends, AppendsTable}
+use Rattle.size_precheck.specs.Counts.{counted_cells}
+use Rattle.size_precheck.specs.Greedy.{first_scopes}
+use Rattle.size_precheck.specs.Sizes.{SizedPlan, CanBePlanned, IsMade, made_cells}
+use Rattle.eliminate.specs.Results.{plan_total, SumsPlan}
+use Rattle.eliminate.specs.Steps.{first_nodes, first_cells, PutsTable, Stand, Lists, Between}
+use Rattle.eliminate.proofs.Numbers.{bound_fits}
+use Rattle.eliminate.proofs.Ruled.{has_contains}
+use Rattle.eliminate.proofs.Sizes.{cells_exact, sum_exact, sums_exact}
+use Rattle.eliminate.proofs.Standing.{more_stands}
+
+-- ---- lists
+map_same : {Y : Type 0} (f g : ℕ → Y) (xs : List ℕ) → ((v : ℕ) → Among v xs → f v ≡ g v) → map f xs ≡ map g xs
+map_same f g [] h = refl
+map_same f g (x ∷ xs) h = (λ i. h x (inl refl) i ∷ map_same f g xs (λ v m. h v (inr m)) i)
+
+map_map : {X Y Z : Type 0} (f : X → Y) (g : Y → Z) (xs : List X) → map g (map f xs) ≡ map (λ x. g (f x)) xs
+map_map f g [] = refl
+map_map f g (x ∷ xs) = ap (λ ys. g (f x) ∷ ys) (map_map f g xs)
+
+sum_map : {X Y : Type 0} (f : X → Y) (g : Y → ℕ) (xs : List X) → sum_by g (map f xs) ≡ sum_by (λ x. g (f x)) xs
+sum_map f g [] = refl
+sum_map f g (x ∷ xs) = sum_by-cons g (f x) (map f xs) ∙ ap (λ n. g (f x) + n) (sum_map f g xs) ∙ sym (sum_by-cons (λ y. g (f y)) x xs)
+
+-- tables that are the same have one joined scope
+same_joined : {C : Type 0} (count : ℕ → ℕ) (ts us : List (Table C)) (v : ℕ) → AllZip (IsSame count) ts us → joined ts v ≡ joined us v
+same_joined count [] [] v m = refl
+same_joined count [] (u ∷ us) v m = absurd m
+same_joined count (t ∷ ts) [] v m = absurd m
+same_joined count (t ∷ ts) (u ∷ us) v m = (λ j. m.0.holds v j || same_joined count ts us v m.1 j)
+
+-- ---- the first tables
+module _ {C : Type 0} (c : Cells C) (nodes : List NodeView) (p : List RuleView) where
+  first_node : (v : ℕ) → is_utility (node_at nodes v).kind ≡ false → first_table c nodes p v ≡ node_table c nodes p v
+  first_node v e = ap (λ b. cond b (utility_table c nodes v) (node_table c nodes p v)) e
+
+  first_value : (u : ℕ) → is_utility (node_at nodes u).kind ≡ true → first_table c nodes p u ≡ utility_table c nodes u
+  first_value u e = ap (λ b. cond b (utility_table c nodes u) (node_table c nodes p u)) e
+
+  firsts_are : (plan : PlanView) → IsPlan nodes plan → map (first_table c nodes p) (first_nodes nodes plan) ≡ first_tables c nodes p plan
+  firsts_are plan is =
+      map_append (first_table c nodes p) (ruled_nodes nodes plan) (option_to_list plan.utility)
+      ∙ (λ i. map_same (first_table c nodes p) (λ v. node_table c nodes p v) (ruled_nodes nodes plan) (λ v m. first_node v (in_plan_kind nodes plan is v (ruled_in nodes plan is v m))) i
+      ++ utilities plan.utility (λ u e. is.utility u e) i)
+    where
+      utilities : (o : Option ℕ) → ((u : ℕ) → o ≡ Some u → (node_at nodes u).kind ≡ Utility) → map (first_table c nodes p) (option_to_list o) ≡ map (λ u. utility_table c nodes u) (option_to_list o)
+      utilities None k = refl
+      utilities (Some u) k = ap (λ t. t ∷ []) (first_value u (ap is_utility (k u refl)))
+
+-- their scopes are the same for all cells and rules
+one_scope : {C D : Type 0} (c : Cells C) (e : Cells D) (nodes : List NodeView) (p q : List RuleView) (v : ℕ) → (first_table c nodes p v).holds ≡ (first_table e nodes q v).holds
+one_scope c e nodes p q v = go (is_utility (node_at nodes v).kind)
+  where
+    go : (b : Bool) → (cond b (utility_table c nodes v) (node_table c nodes p v)).holds ≡ (cond b (utility_table e nodes v) (node_table e nodes q v)).holds
+    go true = refl
+    go false = refl
+
+module _ {C : Type 0} (c : Cells C) (nodes : List NodeView) (p : List RuleView) (plan : PlanView) (is : IsPlan nodes plan) where
+  scopes_listed : map (λ v. (first_table c nodes p v).holds) (first_nodes nodes plan) ≡ first_scopes nodes plan
+  scopes_listed =
+      ap (λ (f : ℕ → ℕ → Bool). map f (first_nodes nodes plan)) (fun_ext (λ v. one_scope c mass_cells nodes p [] v))
+      ∙ sym (map_map (first_table mass_cells nodes []) (λ t. t.holds) (first_nodes nodes plan))
+      ∙ ap scopes_of (firsts_are mass_cells nodes [] plan is)
+
+  scopes_are : scopes_of (first_tables c nodes p plan) ≡ first_scopes nodes plan
+  scopes_are = ap scopes_of (sym (firsts_are c nodes p plan is)) ∙ map_map (first_table c nodes p) (λ t. t.holds) (first_nodes nodes plan) ∙ scopes_listed
+
+-- ---- the cells of a plan
+module _ (nodes : List NodeView) (made : SizedPlan) where
+  -- of its first tables, and of those that its steps make
+  abbrev pub firsts : ℕ
+  firsts = sum_by (counted_cells nodes) (first_scopes nodes made.plan)
+
+  abbrev pub so_many : ℕ
+  so_many = firsts + made_cells nodes made.steps (first_scopes nodes made.plan)
+
+module _ {C : Type 0} (c : Cells C) (h : IsRing c.ring) (sized : IsSize c.ring c.ring.size) (are : AreSized c c.ring.size) (nodes : List NodeView) (p : List RuleView) (made : SizedPlan)
+    (asked : CanBePlanned nodes made.plan) (is : IsMade nodes made.plan made) (counted : made.size.cells < COUNT_END) where
+  whole : so_many nodes made + counted_cells nodes (has made.plan.keep) ≡ made.size.cells
+  whole = sum_exact (so_many nodes made + counted_cells nodes (has made.plan.keep)) (subst (λ n. n < COUNT_END) is.cells counted) ∙ sym is.cells
+
+  last_exact : counted_cells nodes (has made.plan.keep) ≡ cells_over nodes (has made.plan.keep)
+  last_exact = cells_exact nodes (has made.plan.keep) (omega (arith, whole, counted))
+
+  firsts_exact : sum_by (first_cells c nodes p) (first_nodes nodes made.plan) ≡ firsts nodes made
+  firsts_exact =
+      let told = sym (sum_map (λ v. (first_table c nodes p v).holds) (counted_cells nodes) (first_nodes nodes made.plan)) ∙ ap (sum_by (counted_cells nodes)) (scopes_listed c nodes p made.plan asked.is_plan) in
+      sym (sums_exact nodes (λ v. (first_table c nodes p v).holds) (first_nodes nodes made.plan) (omega (arith, told, whole, counted))) ∙ told
+
+  pub steps_counted : so_many nodes made < COUNT_END
+  steps_counted = omega (arith, whole, counted)
+
+  pub steps_room : (spare : ℕ) → made.size.cells ≤ spare → so_many nodes made ≤ spare
+  steps_room spare l = omega (arith, whole, l)
+
+  pub firsts_room : (spare : ℕ) → made.size.cells ≤ spare → sum_by (first_cells c nodes p) (first_nodes nodes made.plan) ≤ spare
+  firsts_room spare l = omega (arith, whole, l, firsts_exact)
+
+  -- ---- the start
+  module _ (graph : IsGraph nodes) (chance : HasChanceTables nodes) (profile : IsProfile nodes p) (fits : 2 * plan_total nodes p made.plan ≤ c.ring.most) where
+    abbrev pub start_tables : List (Table C)
+    start_tables = first_tables c nodes p made.plan
+
+    pub started : (before now : WorkspaceView C) (slots : List Slot) → Lists c nodes p before now slots [] (first_nodes nodes made.plan)
+        → Between c.ring nodes before now slots made.steps made.steps start_tables (so_many nodes made)
+    started before now slots l = record {
+      tables = start_tables;
+      spent = l.spent;
+      stand = subst (λ ts. Stand c.ring nodes before now l.spent slots ts) (sym (append-nil l.tables) ∙ l.leads ∙ firsts_are c nodes p made.plan asked.is_plan) l.stand;
+      leads = refl;
+      fits = fits_more c.ring c.ring.size (states_of nodes) _ c.ring.most (bound_fits nodes p made.plan c.ring.most graph chance profile fits) made.steps start_tables
+          (plans_fit c h c.ring.size sized are nodes p made.plan made.steps graph chance profile asked.is_plan is.order);
+      holds = plans_hold c h nodes p made.plan made.steps asked.is_plan is.order;
+      room = ap (λ ss. l.spent + made_cells nodes made.steps ss) (scopes_are c nodes p made.plan asked.is_plan) ∙ ap (λ n. n + made_cells nodes made.steps (first_scopes nodes made.plan)) spent_is;
+    }
+      where
+        spent_is : l.spent ≡ firsts nodes made
+        spent_is = (let none : l.spent ≡ l.spent + 0 = omega arith in none) ∙ l.room ∙ firsts_exact
+
+    -- ---- the end
+    module _ (before now : WorkspaceView C) (slots : List Slot) (b : Between c.ring nodes before now slots [] made.steps start_tables (so_many nodes made)) where
+      pub last_fits : ProductsFit c.ring.size (states_of nodes) c.ring.most (tables_of c.ring nodes now.cells slots)
+      last_fits = fits_same c.ring h c.ring.size (states_of nodes) c.ring.most [] (tables_of c.ring nodes now.cells slots) b.tables b.stand.same b.fits
+
+      kept_scope : (v : ℕ) → joined (tables_of c.ring nodes now.cells slots) v ≡ has made.plan.keep v
+      kept_scope v =
+          same_joined (states_of nodes) (tables_of c.ring nodes now.cells slots) b.tables v b.stand.same
+          ∙ ap (λ ts. joined ts v) b.leads
+          ∙ plans_keep c h nodes p made.plan made.steps graph asked.is_plan is.order asked.leads v
+
+      last_cells : cells_over nodes (joined (tables_of c.ring nodes now.cells slots)) ≡ counted_cells nodes (has made.plan.keep)
+      last_cells = ap (cells_over nodes) (fun_ext kept_scope) ∙ sym last_exact
+
+      pub last_room : made.size.cells ≤ before.spare → cells_over nodes (product_table c.ring (tables_of c.ring nodes now.cells slots)).holds ≤ now.spare
+      last_room l = omega (arith, last_cells, whole, l, b.room, b.stand.appends.less)
+
+      abbrev last : Table C
+      last = product_table c.ring (tables_of c.ring nodes now.cells slots)
+
+      pub ended : (after : WorkspaceView C) (slot : Slot) → AppendsTable c.ring nodes now after slot (product_table c.ring (tables_of c.ring nodes now.cells slots)) → SumsPlan c nodes p made before after slot
+      ended after slot a = record {
+        appends = subst (λ n. Appends before after (length before.cells) n) spent_all stands.appends;
+        live = a.live;
+        scope = λ v. ((λ m. (has_contains made.plan.keep v).0 (sym (kept_scope v) ∙ sym (a.table.holds v) ∙ m)), (λ m. a.table.holds v ∙ kept_scope v ∙ (has_contains made.plan.keep v).1 m));
+        cell = λ w i.
+            a.table.cell w i
+            ∙ same_product c.ring h (states_of nodes) (tables_of c.ring nodes now.cells slots) b.tables w b.stand.same i
+            ∙ ap (λ ts. product_of c.ring ts w) b.leads
+            ∙ runs_plans c h nodes p made.plan made.steps w is.order i;
+        stays = stands.stays;
+      }
+        where
+          stands : Stand c.ring nodes before after (b.spent + cells_over nodes last.holds) (slots ++ slot ∷ []) (b.tables ++ last ∷ [])
+          stands = more_stands c.ring nodes before now after b.spent slots slots (slots ++ slot ∷ []) b.tables b.tables last last b.stand b.stand.live b.stand.same (record { slot = slot; appends = a; slots = refl })
+              (record { holds = λ v. refl; cell = λ w i. refl })
+
+          spent_all : b.spent + cells_over nodes last.holds ≡ made.size.cells
+          spent_all = omega (arith, last_cells, whole, b.room)

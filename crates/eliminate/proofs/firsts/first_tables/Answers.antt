@@ -1,0 +1,123 @@
+use Rattle.std.proofs.Common.{◌≡◌, ◌∙◌, ℕ, ◌-◌, ◌+◌, ◌<◌, ◌≤◌, ◌++◌, ◌∷◌, [], List, filter, length, take, true, false, ap, sym, subst, arith, option_to_list, Some}
+use Rattle.std.specs.List.{range_with_len}
+use Rattle.node_sets.specs.Sets.{holds}
+use Rattle.maid_model.specs.Nodes.{numbers_of}
+use Rattle.factor_core.specs.Operations.{cells_by}
+use Rattle.eliminate.specs.Steps.{Lists, first_nodes}
+use Rattle.eliminate.proofs.Numbers.{ruled_fit, value_fit}
+use Rattle.eliminate.proofs.Ruled.{ruled_are, ruled_member, ruled_plain, few_nodes, step_known}
+use Rattle.eliminate.proofs.Starting.{from_node, lists_none, lists_more, lists_room, held_next, other_next, last_next, utility_next, next_place}
+use Rattle.eliminate.proofs.firsts.first_tables.Goals as goal
+use Rattle.eliminate.proofs.firsts.first_tables.Goals.{then-holds, else-holds}
+
+pub ruled_nodes-ruled-requires-clause-steps : goal.ruled_nodes-ruled-requires-clause-steps
+ruled_nodes-ruled-requires-clause-steps g c v m =
+    let a = step_known c.args.diagram.now.nodes c.args.plan.now.plan c.args.plan.now.steps c.requires.order v m in
+    let b = c.count-nodes.ensures.diagram.limits.nodes in
+    omega arith
+
+pub ruled_nodes-ruled-requires-clause-without : goal.ruled_nodes-ruled-requires-clause-without
+ruled_nodes-ruled-requires-clause-without g c d e =
+    let a = (c.requires.asked.decision d e).within in
+    let b = c.count-nodes.ensures.diagram.limits.nodes in
+    omega arith
+
+pub loop-v-init : goal.loop-v-init
+loop-v-init g c =
+    let nodes = c.args.diagram.now.nodes in
+    let plan = c.args.plan.now.plan in
+    let cells = cells_by g.C.Cell.ring g.C.Cell.of_weight g.C.Cell.of_value in
+    let whole : c.count-nodes.result - 0 ≡ length nodes = omega (arith, c.count-nodes.ensures.count) in
+    let all : from_node (holds c.ruled_nodes-ruled.result) 0 c.count-nodes.result ≡ filter (holds c.ruled_nodes-ruled.result) (numbers_of nodes) = ap (λ k. filter (holds c.ruled_nodes-ruled.result) (range_with_len 0 k)) whole in (
+      subst (λ (rest : List ℕ). Lists cells nodes c.args.profile.now c.args.work.now c.args.work.now [] (rest ++ option_to_list plan.utility) (first_nodes nodes plan))
+          (sym (all ∙ ruled_are nodes plan c.args.plan.now.steps c.requires.order c.ruled_nodes-ruled.result c.ruled_nodes-ruled.ensures))
+          (lists_none cells nodes c.args.profile.now c.args.work.now (first_nodes nodes plan)),
+      omega arith,
+    )
+
+pub put_table-count-requires-clause-count : goal.put_table-count-requires-clause-count
+put_table-count-requires-clause-count g c =
+    let nodes = c.args.diagram.now.nodes in
+    let plan = c.args.plan.now.plan in
+    let cells = cells_by g.C.Cell.ring g.C.Cell.of_weight g.C.Cell.of_value in
+    let few = few_nodes nodes plan c.requires.asked.is_plan c.requires.asked.known in
+    let limit = c.count-nodes.ensures.diagram.limits.nodes in
+    next_place cells nodes c.args.profile.now c.args.work.now c.loop-v.work c.loop-v.live c.loop-v.count c.loop-v.v _ (first_nodes nodes plan)
+    (held_next cells nodes c.args.profile.now (holds c.ruled_nodes-ruled.result) (option_to_list plan.utility) (first_nodes nodes plan) c.count-nodes.result
+    c.args.work.now c.loop-v.work (take c.loop-v.count c.loop-v.live) c.loop-v.v c.loop-v-test.true (sym c.holds.ensures ∙ c.if-holds.true) c.loop-v.invariant.0)
+    (omega arith) c.loop-v.invariant.1 (c.loop-v.auto.live ∙ c.requires.len)
+
+pub put_table-count-requires-clause-fit : goal.put_table-count-requires-clause-fit
+put_table-count-requires-clause-fit g c =
+    let nodes = c.args.diagram.now.nodes in
+    let plan = c.args.plan.now.plan in
+    let member = ruled_member nodes plan c.args.plan.now.steps c.requires.order c.ruled_nodes-ruled.result c.ruled_nodes-ruled.ensures c.loop-v.v (omega (arith, c.loop-v-test.true, c.count-nodes.ensures.count)) (sym c.holds.ensures ∙ c.if-holds.true) in
+    ruled_fit nodes c.args.profile.now plan g.C.Cell.ring.most c.count-nodes.ensures.diagram.graph c.count-nodes.ensures.diagram.tables c.requires.profile c.requires.fits c.loop-v.v
+    member (ruled_plain nodes plan c.requires.asked.is_plan c.loop-v.v member)
+
+pub put_table-count-requires-clause-room : goal.put_table-count-requires-clause-room
+put_table-count-requires-clause-room g c =
+    let nodes = c.args.diagram.now.nodes in
+    let plan = c.args.plan.now.plan in
+    let cells = cells_by g.C.Cell.ring g.C.Cell.of_weight g.C.Cell.of_value in
+    lists_room cells nodes c.args.profile.now c.args.work.now c.loop-v.work (take c.loop-v.count c.loop-v.live) c.loop-v.v _ (first_nodes nodes plan)
+    (held_next cells nodes c.args.profile.now (holds c.ruled_nodes-ruled.result) (option_to_list plan.utility) (first_nodes nodes plan) c.count-nodes.result
+    c.args.work.now c.loop-v.work (take c.loop-v.count c.loop-v.live) c.loop-v.v c.loop-v-test.true (sym c.holds.ensures ∙ c.if-holds.true) c.loop-v.invariant.0)
+    c.requires.room
+
+pub loop-v-preserved : goal.loop-v-preserved
+loop-v-preserved g c =
+    let nodes = c.args.diagram.now.nodes in
+    let plan = c.args.plan.now.plan in
+    let cells = cells_by g.C.Cell.ring g.C.Cell.of_weight g.C.Cell.of_value in
+    let few = few_nodes nodes plan c.requires.asked.is_plan c.requires.asked.known in
+    let limit = c.count-nodes.ensures.diagram.limits.nodes in
+    elim c.if-holds.branch [
+      | then-holds w ↦ rw (w.work-is, w.live-is, w.count-is) (
+        lists_more cells nodes c.args.profile.now c.args.work.now c.loop-v.work w.put_table-count.new.work (take c.loop-v.count c.loop-v.live) (take w.put_table-count.result w.put_table-count.new.live) c.loop-v.v _ (first_nodes nodes plan)
+            (held_next cells nodes c.args.profile.now (holds c.ruled_nodes-ruled.result) (option_to_list plan.utility) (first_nodes nodes plan) c.count-nodes.result
+            c.args.work.now c.loop-v.work (take c.loop-v.count c.loop-v.live) c.loop-v.v c.loop-v-test.true (sym c.holds.ensures ∙ w.if-holds.true) c.loop-v.invariant.0)
+            w.put_table-count.ensures.puts,
+        (let l = next_place cells nodes c.args.profile.now c.args.work.now c.loop-v.work c.loop-v.live c.loop-v.count c.loop-v.v _ (first_nodes nodes plan)
+            (held_next cells nodes c.args.profile.now (holds c.ruled_nodes-ruled.result) (option_to_list plan.utility) (first_nodes nodes plan) c.count-nodes.result
+            c.args.work.now c.loop-v.work (take c.loop-v.count c.loop-v.live) c.loop-v.v c.loop-v-test.true (sym c.holds.ensures ∙ w.if-holds.true) c.loop-v.invariant.0)
+            (omega arith) c.loop-v.invariant.1 (c.loop-v.auto.live ∙ c.requires.len) in
+        omega (arith, l, w.put_table-count.ensures.count, c.loop-v.auto.live, c.requires.len)),
+      )
+      | else-holds w ↦ rw (w.work-is, w.live-is, w.count-is) (
+        other_next cells nodes c.args.profile.now (holds c.ruled_nodes-ruled.result) (option_to_list plan.utility) (first_nodes nodes plan) c.count-nodes.result
+            c.args.work.now c.loop-v.work (take c.loop-v.count c.loop-v.live) c.loop-v.v c.loop-v-test.true (sym c.holds.ensures ∙ w.if-holds.false) c.loop-v.invariant.0,
+        c.loop-v.invariant.1,
+      )
+    ]
+
+pub put_table-requires-clause-count : goal.put_table-requires-clause-count
+put_table-requires-clause-count g c =
+    let nodes = c.args.diagram.now.nodes in
+    let plan = c.args.plan.now.plan in
+    let cells = cells_by g.C.Cell.ring g.C.Cell.of_weight g.C.Cell.of_value in
+    let few = few_nodes nodes plan c.requires.asked.is_plan c.requires.asked.known in
+    let limit = c.count-nodes.ensures.diagram.limits.nodes in
+    next_place cells nodes c.args.profile.now c.args.work.now c.loop-v.work c.loop-v.live c.loop-v.count c.in-Some.u [] (first_nodes nodes plan)
+    (utility_next cells nodes c.args.profile.now plan.utility c.in-Some.u (first_nodes nodes plan) c.args.work.now c.loop-v.work (take c.loop-v.count c.loop-v.live) (sym c.utility.ensures ∙ c.in-Some.is)
+    (last_next cells nodes c.args.profile.now (holds c.ruled_nodes-ruled.result) (option_to_list plan.utility) (first_nodes nodes plan) c.count-nodes.result
+    c.args.work.now c.loop-v.work (take c.loop-v.count c.loop-v.live) c.loop-v.v c.loop-v-test.false c.loop-v.invariant.0))
+    (omega arith) c.loop-v.invariant.1 (c.loop-v.auto.live ∙ c.requires.len)
+
+pub put_table-requires-clause-fit : goal.put_table-requires-clause-fit
+put_table-requires-clause-fit g c =
+    let nodes = c.args.diagram.now.nodes in
+    let some = sym c.utility.ensures ∙ c.in-Some.is in
+    value_fit nodes c.args.profile.now c.args.plan.now.plan g.C.Cell.ring.most c.count-nodes.ensures.diagram.graph c.count-nodes.ensures.diagram.tables c.requires.profile c.requires.fits c.in-Some.u
+    some (c.requires.asked.is_plan.utility c.in-Some.u some)
+
+pub returns-in-Some-clause-lists : goal.returns-in-Some-clause-lists
+returns-in-Some-clause-lists g c =
+    let nodes = c.args.diagram.now.nodes in
+    let plan = c.args.plan.now.plan in
+    let cells = cells_by g.C.Cell.ring g.C.Cell.of_weight g.C.Cell.of_value in
+    lists_more cells nodes c.args.profile.now c.args.work.now c.loop-v.work c.put_table.new.work (take c.loop-v.count c.loop-v.live) (take c.put_table.result c.put_table.new.live) c.in-Some.u [] (first_nodes nodes plan)
+    (utility_next cells nodes c.args.profile.now plan.utility c.in-Some.u (first_nodes nodes plan) c.args.work.now c.loop-v.work (take c.loop-v.count c.loop-v.live) (sym c.utility.ensures ∙ c.in-Some.is)
+    (last_next cells nodes c.args.profile.now (holds c.ruled_nodes-ruled.result) (option_to_list plan.utility) (first_nodes nodes plan) c.count-nodes.result
+    c.args.work.now c.loop-v.work (take c.loop-v.count c.loop-v.live) c.loop-v.v c.loop-v-test.false c.loop-v.invariant.0))
+    c.put_table.ensures.puts

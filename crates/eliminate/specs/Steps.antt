@@ -1,0 +1,67 @@
+-- What the steps of a run promise one another. Only private contracts cite this file.
+use Rattle.std.specs.Prelude.{◌≡◌, ℕ, ◌+◌, ◌<◌, ◌≤◌, not, List, [], ◌∷◌, ◌++◌, map, filter, length, All, sum_by, option_to_list}
+use Rattle.std.specs.List.{AllZip}
+use Rattle.node_sets.specs.Sets.{holds}
+use Rattle.maid_model.specs.Nodes.{states_of}
+use Rattle.maid_model.specs.Views.{NodeView, RuleView}
+use Rattle.cell_rings.specs.Rings.{Ring}
+use Rattle.ring_sums.specs.Groups.{JoinFits, StepsFit, StepsHold}
+use Rattle.ring_sums.specs.Tables.{Table, IsSame, sum_out, eliminate, scopes_of}
+use Rattle.plan_sums.specs.Plans.{Cells, PlanView, ruled_nodes}
+use Rattle.factor_core.specs.declared.slots.Slot.{Slot}
+use Rattle.factor_core.specs.Operations.{first_table}
+use Rattle.factor_core.specs.Slots.{WorkspaceView, cells_over, IsLive, tables_of, Appends, AppendsTable, StaysLive}
+use Rattle.size_precheck.specs.Sizes.{made_cells}
+
+-- the slots that hold the node, and the others
+abbrev pub slots_with : ℕ → List Slot → List Slot
+slots_with v slots = filter (λ s. holds s.scope v) slots
+
+abbrev pub slots_without : ℕ → List Slot → List Slot
+slots_without v slots = filter (λ s. not (holds s.scope v)) slots
+
+-- a table was appended, and its slot put behind the others
+pub record PutsTable {C : Type 0} (r : Ring C) (nodes : List NodeView) (before after : WorkspaceView C) (old new : List Slot) (t : Table C) : Type 0 where
+  pub slot : Slot
+  pub appends : AppendsTable r nodes before after slot t
+  pub slots : new ≡ old ++ slot ∷ []
+
+-- what the join of the slots that hold the node asks
+pub record CanJoinOut {C : Type 0} (r : Ring C) (nodes : List NodeView) (work : WorkspaceView C) (slots : List Slot) (v : ℕ) : Type 0 where
+  pub live : All (IsLive nodes work.cells) slots
+  pub some : 0 < length (slots_with v slots)
+  pub fits : JoinFits r.size (states_of nodes) r.most v (tables_of r nodes work.cells (slots_with v slots))
+  pub room : cells_over nodes (sum_out r (states_of nodes) v (tables_of r nodes work.cells (slots_with v slots))).holds ≤ work.spare
+
+-- since the run began so many cells were appended, and the slots are those of these tables
+pub record Stand {C : Type 0} (r : Ring C) (nodes : List NodeView) (before now : WorkspaceView C) (spent : ℕ) (slots : List Slot) (tables : List (Table C)) : Type 0 where
+  pub appends : Appends before now (length before.cells) spent
+  pub stays : (s : Slot) → IsLive nodes before.cells s → StaysLive r nodes before.cells now.cells s
+  pub live : All (IsLive nodes now.cells) slots
+  pub same : AllZip (IsSame (states_of nodes)) (tables_of r nodes now.cells slots) tables
+
+-- the nodes of a plan's first tables, in the order of these
+abbrev pub first_nodes : List NodeView → PlanView → List ℕ
+first_nodes nodes plan = ruled_nodes nodes plan ++ option_to_list plan.utility
+
+-- the cells of a node's first table
+abbrev pub first_cells : {C : Type 0} → Cells C → List NodeView → List RuleView → ℕ → ℕ
+first_cells c nodes p v = cells_over nodes (first_table c nodes p v).holds
+
+-- among the first tables: those that stand, and those of the nodes to come, are those of all
+pub record Lists {C : Type 0} (c : Cells C) (nodes : List NodeView) (p : List RuleView) (before now : WorkspaceView C) (slots : List Slot) (rest all : List ℕ) : Type 0 where
+  pub tables : List (Table C)
+  pub spent : ℕ
+  pub stand : Stand c.ring nodes before now spent slots tables
+  pub leads : tables ++ map (first_table c nodes p) rest ≡ map (first_table c nodes p) all
+  pub room : spent + sum_by (first_cells c nodes p) rest ≡ sum_by (first_cells c nodes p) all
+
+-- between steps: the steps to come lead from the tables that stand to what all steps make of the first ones, their sums fit, each finds a table that holds its node, and what they make has room
+pub record Between {C : Type 0} (r : Ring C) (nodes : List NodeView) (before now : WorkspaceView C) (slots : List Slot) (rest steps : List ℕ) (first : List (Table C)) (cells : ℕ) : Type 0 where
+  pub tables : List (Table C)
+  pub spent : ℕ
+  pub stand : Stand r nodes before now spent slots tables
+  pub leads : eliminate r (states_of nodes) rest tables ≡ eliminate r (states_of nodes) steps first
+  pub fits : StepsFit r r.size (states_of nodes) r.most rest tables
+  pub holds : StepsHold r (states_of nodes) rest tables
+  pub room : spent + made_cells nodes rest (scopes_of tables) ≡ cells

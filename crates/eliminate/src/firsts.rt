@@ -1,0 +1,88 @@
+//! The first tables of a plan.
+
+ghost use Rattle.std.specs.Prelude.{◌≡◌, ◌⊎◌, ◌↔◌, ℕ, ◌+◌, ◌*◌, ◌<◌, ◌≤◌, [], length, take, sum_by, Contains, Some};
+ghost use Rattle.maid_model.specs.Diagrams.{IsDiagram};
+ghost use Rattle.maid_model.specs.Profiles.{IsProfile};
+ghost use Rattle.node_sets.specs.declared.sets.TheConstants.{MOST_NODES};
+ghost use Rattle.node_sets.specs.Sets.{IsIn};
+ghost use Rattle.plan_sums.specs.Laws.{IsOrderOfPlan};
+ghost use Rattle.factor_core.specs.Operations.{cells_by, first_table, NumbersFit};
+ghost use Rattle.size_precheck.specs.Sizes.{CanBePlanned};
+ghost use Rattle.eliminate.specs.Results.{plan_total};
+ghost use Rattle.eliminate.specs.Steps.{first_cells, first_nodes, PutsTable, Lists};
+
+use cell_rings::Cell;
+use factor_core::{Slot, Workspace};
+use maid_model::{Diagram, Profile};
+use node_sets::NodeSet;
+use size_precheck::Plan;
+
+/// The nodes whose own tables the plan has: those that it keeps or eliminates, but for the decision left out.
+fn ruled_nodes(plan: &Plan) -> NodeSet
+    requires keep { (v : ℕ) → Contains plan.now.plan.keep v → v < MOST_NODES }
+    requires steps { (v : ℕ) → Contains plan.now.steps v → v < MOST_NODES }
+    requires without { (d : ℕ) → plan.now.plan.without ≡ Some d → d < MOST_NODES }
+    ensures { (v : ℕ) → IsIn result v ↔ ((Contains plan.now.plan.keep v ⊎ Contains plan.now.steps v) × (plan.now.plan.without ≡ Some v → ⊥)) }
+{
+    let mut ruled = NodeSet::empty();
+    ruled.insert_all(plan.keep());
+    ruled.insert_all(plan.steps());
+    if let Some(d) = plan.without() {
+        ruled.remove(d);
+    }
+    ruled
+}
+
+/// Appends the first table of the node, and writes its slot behind the first `count`. Gives how many there are now.
+fn put_table<C: Cell>(
+    work: &mut Workspace<C>,
+    diagram: &Diagram,
+    profile: &Profile,
+    live: &mut [Slot],
+    count: usize,
+    node: usize,
+) -> usize
+    requires profile { IsProfile diagram.now.nodes profile.now }
+    requires count { count < length live.old }
+    requires node { node < length diagram.now.nodes }
+    requires fit { NumbersFit C.ring.most diagram.now.nodes profile.now node }
+    requires room { first_cells (cells_by C.ring C.of_weight C.of_value) diagram.now.nodes profile.now node ≤ work.old.spare }
+    ensures count { result ≡ count + 1 }
+    ensures puts { PutsTable C.ring diagram.now.nodes work.old work.new (take count live.old) (take result live.new) (first_table (cells_by C.ring C.of_weight C.of_value) diagram.now.nodes profile.now node) }
+{
+    live[count] = work.table(diagram, profile, node);
+    count + 1
+}
+
+/// Appends the first tables of the plan, and lists their slots: those of its nodes in text order, but for the decision
+/// left out, and that of its utility. Gives how many there are.
+pub fn first_tables<C: Cell>(
+    work: &mut Workspace<C>,
+    plan: &Plan,
+    diagram: &Diagram,
+    profile: &Profile,
+    live: &mut [Slot],
+) -> usize
+    requires asked { CanBePlanned diagram.now.nodes plan.now.plan }
+    requires order { IsOrderOfPlan diagram.now.nodes plan.now.plan plan.now.steps }
+    requires profile { IsProfile diagram.now.nodes profile.now }
+    requires fits { 2 * plan_total diagram.now.nodes profile.now plan.now.plan ≤ C.ring.most }
+    requires room { sum_by (first_cells (cells_by C.ring C.of_weight C.of_value) diagram.now.nodes profile.now) (first_nodes diagram.now.nodes plan.now.plan) ≤ work.old.spare }
+    requires len { length live.old ≡ MOST_NODES }
+    ensures diagram { IsDiagram diagram.now }
+    ensures few { result ≤ MOST_NODES }
+    ensures lists { Lists (cells_by C.ring C.of_weight C.of_value) diagram.now.nodes profile.now work.old work.new (take result live.new) [] (first_nodes diagram.now.nodes plan.now.plan) }
+{
+    let nodes = diagram.count();
+    let ruled = ruled_nodes(plan);
+    let mut count = 0;
+    for v in 0..nodes {
+        if ruled.holds(v) {
+            count = put_table(work, diagram, profile, live, count, v);
+        }
+    }
+    match plan.utility() {
+        Some(u) => put_table(work, diagram, profile, live, count, u),
+        None => count,
+    }
+}

@@ -1,0 +1,8 @@
+//! Plans of elimination, run over the tables of one workspace.
+#![tactic(auto)]
+
+mod firsts;
+mod lists;
+mod runs;
+
+pub use runs::{release, run_plan};

@@ -1,0 +1,126 @@
+//! The gains and masses of one decision, by plans of elimination in the part of its scope.
+
+ghost use Rattle.std.specs.Prelude.{◌≡◌, ◌+◌, ◌*◌, ℕ, ◌≤◌, IfOk, OnOk, length};
+ghost use Rattle.maid_model.specs.Nodes.{rows_of, states_of};
+ghost use Rattle.maid_model.specs.Profiles.{IsProfile};
+ghost use Rattle.maid_model.specs.Relevance.{IsGoal};
+ghost use Rattle.maid_model.specs.Scopes.{goals_of};
+ghost use Rattle.plan_sums.specs.Plans.{gain_plan, row_plan};
+ghost use Rattle.rule_solver.specs.Rooms.{HasAtMost, HasRoomAt, IsReady};
+ghost use Rattle.rule_solver.specs.Sums.{AddsGoal, HasGoals, HasMasses, HasRoomFor, IsRowSums, IsSetting, KeepsRoom};
+
+use crate::reading::{add_gains, list_scope, put_masses};
+use crate::totals::product_in;
+use cell_rings::{Gain, Mass};
+use eliminate::{release, run_plan};
+use factor_core::Workspace;
+use maid_model::{Diagram, Profile, goals_of};
+use node_sets::NodeSet;
+use scope_sums::{plans_keep_scopes, plans_sum_scopes};
+use size_precheck::{plan_gain, plan_rows};
+use std::alloc::{AllocError, Global};
+
+/// What the states of a decision gain in each row, and how much mass each row has.
+#[derive(Debug, Drop)]
+pub struct RowSums {
+    /// A gain for each row and state, the first parent slowest and the decision's own state fastest.
+    pub gains: Vec<i128>,
+    /// A mass for each row.
+    pub masses: Vec<u128>,
+}
+
+/// A decision, the profile in which it is looked at, and what its sums count.
+pub(crate) struct Setting<'a> {
+    pub diagram: &'a Diagram,
+    pub base: &'a Profile,
+    pub decision: usize,
+    /// The total of each node's table or rule.
+    pub totals: &'a [u128],
+    /// The nodes from which a path leads to the decision or to one of its goals.
+    pub scope: NodeSet,
+}
+
+impl<'a> Setting<'a> {
+    /// The masses of the decision's rows in the part of its scope: what the plan of its rows sums to, times the totals
+    /// of the scope's other nodes that the plan lacks.
+    fn masses(&self, alloc: Global, work: &mut Workspace<Mass>) -> Result<Vec<u128>, AllocError>
+        requires setting { IsSetting self.now.diagram.now self.now.base.now self.now.decision self.now.totals.now self.now.scope }
+        requires ready { (cells : ℕ) × IsReady cells work.old × HasAtMost self.now.diagram.now.nodes (row_plan self.now.diagram.now.nodes self.now.decision) cells }
+        ensures masses { IfOk result (λ masses. HasMasses self.now.diagram.now self.now.base.now self.now.decision masses.items) }
+        ensures again { OnOk result (work.new ≡ work.old) }
+    {
+        plans_sum_scopes();
+        plans_keep_scopes();
+        let mut masses = vec![in alloc; 0; self.diagram.rows(self.decision)]?;
+        let plan = plan_rows(alloc, self.diagram, self.decision)?;
+        let mut left = self.scope.difference(&plan.nodes(self.diagram));
+        left.remove(self.decision);
+        let factor = product_in(self.totals, &left);
+        let slot = run_plan(work, &plan, self.diagram, self.base);
+        put_masses(alloc, self.diagram, self.decision, work, &slot, factor, &mut masses)?;
+        release(work);
+        Ok(masses)
+    }
+
+    /// Adds what one goal gives to each gain: what the goal's plan sums to, times the totals of the scope's nodes that
+    /// the plan lacks.
+    fn add_goal(
+        &self,
+        alloc: Global,
+        goal: usize,
+        work: &mut Workspace<Gain>,
+        gains: &mut [i128],
+    ) -> Result<(), AllocError>
+        requires setting { IsSetting self.now.diagram.now self.now.base.now self.now.decision self.now.totals.now self.now.scope }
+        requires goal { IsGoal self.now.diagram.now.nodes self.now.decision goal }
+        requires ready { (cells : ℕ) × IsReady cells work.old × HasAtMost self.now.diagram.now.nodes (gain_plan self.now.diagram.now.nodes self.now.decision goal) cells }
+        requires room { HasRoomFor self.now.diagram.now self.now.decision goal gains.old }
+        ensures adds { OnOk result (AddsGoal self.now.diagram.now.nodes self.now.base.now self.now.decision goal gains.old gains.new) }
+        ensures again { OnOk result (work.new ≡ work.old) }
+        ensures len { length gains.new ≡ length gains.old }
+    {
+        plans_keep_scopes();
+        let plan = plan_gain(alloc, self.diagram, self.decision, goal)?;
+        let left = self.scope.difference(&plan.nodes(self.diagram));
+        let factor = product_in(self.totals, &left);
+        let slot = run_plan(work, &plan, self.diagram, self.base);
+        add_gains(alloc, self.diagram, self.decision, work, &slot, factor, gains)?;
+        release(work);
+        Ok(())
+    }
+
+    /// The gains of the decision's states in the part of its scope: what its goals give, added up.
+    fn gains(&self, alloc: Global, work: &mut Workspace<Gain>) -> Result<Vec<i128>, AllocError>
+        requires setting { IsSetting self.now.diagram.now self.now.base.now self.now.decision self.now.totals.now self.now.scope }
+        requires ready { (cells : ℕ) × IsReady cells work.old × ((u : ℕ) → IsGoal self.now.diagram.now.nodes self.now.decision u → HasAtMost self.now.diagram.now.nodes (gain_plan self.now.diagram.now.nodes self.now.decision u) cells) }
+        ensures gains { IfOk result (λ gains. HasGoals self.now.diagram.now.nodes self.now.base.now self.now.decision (goals_of self.now.diagram.now.nodes self.now.decision) gains.items) }
+        ensures again { OnOk result (work.new ≡ work.old) }
+    {
+        let rows = self.diagram.rows(self.decision);
+        let mut gains = vec![in alloc; 0; rows * self.diagram.states(self.decision)]?;
+        let goals = list_scope(alloc, self.diagram, &goals_of(self.diagram, self.decision))?;
+        for goal in &goals {
+            self.add_goal(alloc, *goal, work, &mut gains)?;
+        }
+        Ok(gains)
+    }
+
+    /// Both.
+    pub(crate) fn row_sums(
+        &self,
+        alloc: Global,
+        masses: &mut Workspace<Mass>,
+        gains: &mut Workspace<Gain>,
+    ) -> Result<RowSums, AllocError>
+        requires setting { IsSetting self.now.diagram.now self.now.base.now self.now.decision self.now.totals.now self.now.scope }
+        requires ready { (cells : ℕ) × IsReady cells masses.old × IsReady cells gains.old × HasRoomAt self.now.diagram.now.nodes self.now.decision cells }
+        ensures sums { IfOk result (λ sums. IsRowSums self.now.diagram.now.nodes self.now.base.now self.now.decision sums.gains.items sums.masses.items) }
+        ensures room { IfOk result (λ sums. KeepsRoom self.now.diagram.now.nodes self.now.decision sums.gains.items sums.masses.items) }
+        ensures again { OnOk result ((masses.new ≡ masses.old) × (gains.new ≡ gains.old)) }
+    {
+        plans_sum_scopes();
+        let gains = self.gains(alloc, gains)?;
+        let masses = self.masses(alloc, masses)?;
+        Ok(RowSums { gains, masses })
+    }
+}
