@@ -32,8 +32,3 @@ pub record IsReady {C : Type 0} (cells : ℕ) (work : WorkspaceView C) : Type 0 
   pub empty : work.cells ≡ []
   pub spare : work.spare ≡ cells
   pub limit : cells ≤ MOST_PLAN_CELLS
-
--- so do all plans of a run
-pub record HasRoom (nodes : List NodeView) (cells : ℕ) : Type 0 where
-  pub decisions : (d : ℕ) → IsDecision nodes d → HasRoomAt nodes d cells
-  pub worths : HasRoomForWorths nodes cells
