@@ -1,6 +1,7 @@
 //! The numbers of a text made exact: `numeral` gives a numeral's value as a whole number and its
 //! decimals, `scale_rows` takes the rows of a chance table in proportion, and `bound` says whether
-//! the sums over the worlds that matter to a decision or an agent have room.
+//! the sums over the worlds that matter to a decision or an agent have room. `decision_scope` and
+//! `agent_scope` give the nodes that matter to them.
 #![tactic(auto)]
 
 mod decimal;
