@@ -10,6 +10,8 @@ mod needs;
 mod parts;
 mod placing;
 mod rounds;
+#[cfg(test)]
+mod tests;
 
 pub use arcs::{RemoveFault, remove_arc};
 pub use copies::copy_diagram;
