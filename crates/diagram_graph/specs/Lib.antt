@@ -6,3 +6,4 @@ pub mod Cycles
 pub mod Laws
 pub mod Edited
 pub mod Example
+pub mod Room

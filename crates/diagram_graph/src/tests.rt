@@ -3,7 +3,7 @@
 ghost use Rattle.std.specs.Prelude.{◌≡◌, [], IfOk};
 ghost use Rattle.diagram_graph.specs.Example.{example};
 
-use crate::{RemoveFault, part, remove_arc};
+use crate::{AddFault, RemoveFault, add_arc, make_decision, part, remove_arc};
 use maid_model::{Diagram, Kind, Node, literals_are_tested};
 use smallvec::SmallVec;
 use std::alloc::{AllocError, Global};
@@ -58,5 +58,22 @@ fn removes_an_arc_and_takes_a_part(rt: HostRuntime) -> Result<(), Fail> {
     assert_eq!(rt; below.diagram.cells(0), [1, 3].as_slice());
     assert_eq!(rt; below.diagram.parents(1), [0].as_slice());
     assert_eq!(rt; below.diagram.parents(2), [1].as_slice());
+    Ok(())
+}
+
+#[test]
+fn adds_an_arc_and_gives_control(rt: HostRuntime) -> Result<(), Fail> {
+    let alloc = rt.alloc();
+    let whole = diagram(alloc)?;
+    let present = add_arc(alloc, &whole, 0, 2);
+    assert!(rt; matches!(present, Err(AddFault::Present)));
+    let itself = add_arc(alloc, &whole, 2, 2);
+    assert!(rt; matches!(itself, Err(AddFault::WouldCycle)));
+    let more = add_arc(alloc, &whole, 3, 2)?;
+    assert_eq!(rt; more.parents(2), [0, 1, 3].as_slice());
+    let made = make_decision(alloc, &whole, 1, 1)?;
+    assert!(rt; made.kind(1) == Kind::Decision);
+    assert_eq!(rt; made.agent_of(1), 1);
+    assert!(rt; made.cells(1).is_empty());
     Ok(())
 }
