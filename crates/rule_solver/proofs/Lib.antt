@@ -9,3 +9,8 @@ mod AnsweredRules
 mod BaseLemmas
 mod AnswerLemmas
 mod Promises
+mod WorldRows
+mod Carries
+mod TableCells
+mod GainCells
+mod MassCells

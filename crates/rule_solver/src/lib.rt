@@ -20,6 +20,8 @@ mod answering;
 mod bases;
 mod faults;
 mod limits;
+mod odometer;
+mod reading;
 mod rows;
 mod solving;
 #[cfg(test)]
