@@ -5,6 +5,11 @@ mod GainLemmas
 mod Rooms
 mod ProductLemmas
 mod Missing
+mod Carries
+mod TableCells
+mod WorldRows
+mod GainCells
+mod MassCells
 mod RowLemmas
 mod DecisionLemmas
 mod PlanLemmas

@@ -1,6 +1,6 @@
 //! The last table of a plan, read into a decision's gains and masses.
 
-ghost use Rattle.std.specs.Prelude.{◌≡◌, ◌<◌, ◌≤◌, ◌+◌, ◌*◌, ◌*ℤ◌, ◌+ℤ◌, ◌↔◌, ◌∷◌, ℕ, IfOk, OnOk, Contains, length, nat_abs, pos, slice_index_or, slice_set};
+ghost use Rattle.std.specs.Prelude.{◌≡◌, ◌<◌, ◌≤◌, ◌+◌, ◌*◌, ◌*ℤ◌, ◌+ℤ◌, ◌↔◌, ◌∷◌, ℕ, IfOk, OnErr, OnOk, Contains, length, nat_abs, pos, slice_index_or, slice_set};
 ghost use Rattle.cell_rings.specs.Kinds.{gain_kind, mass_kind};
 ghost use Rattle.factor_core.specs.Slots.{IsLive, nodes_in, table_of};
 ghost use Rattle.finite_sums.specs.Sums.{InRange};
@@ -61,6 +61,7 @@ pub(crate) fn add_gains(
     requires factor { factor ≤ greatest_number }
     requires room { (q : ℕ → ℕ) → InRange (states_of diagram.now.nodes) q → nat_abs (gain_there gains.old diagram.now.nodes decision q) + nat_abs (((table_of gain_kind diagram.now.nodes work.now.cells slot.now).cell q).0 *ℤ pos factor) ≤ greatest_number }
     ensures adds { OnOk result (AddsTable diagram.now.nodes decision (table_of gain_kind diagram.now.nodes work.now.cells slot.now) factor gains.old gains.new) }
+    ensures stays { OnErr result (gains.new ≡ gains.old) }
     ensures len { length gains.new ≡ length gains.old }
 {
     let scope = list_scope(alloc, diagram, &slot.scope)?;
@@ -78,6 +79,10 @@ pub(crate) fn add_gains(
 
 /// Writes the cells of a table over the decision's parents, times the factor, as the decision's masses, one for each
 /// row. It goes over the cells once, in the order in which they stand.
+///
+/// # Errors
+///
+/// Where memory ran out the masses are as they were.
 pub(crate) fn put_masses(
     alloc: Global,
     diagram: &Diagram,
@@ -93,6 +98,7 @@ pub(crate) fn put_masses(
     requires masses { length masses.old ≡ rows_of diagram.now.nodes decision }
     requires room { (q : ℕ → ℕ) → InRange (states_of diagram.now.nodes) q → ((table_of mass_kind diagram.now.nodes work.now.cells slot.now).cell q).0 * factor ≤ greatest_number }
     ensures puts { OnOk result (PutsTable diagram.now.nodes decision (table_of mass_kind diagram.now.nodes work.now.cells slot.now) factor masses.new) }
+    ensures stays { OnErr result (masses.new ≡ masses.old) }
     ensures len { length masses.new ≡ length masses.old }
 {
     let scope = list_scope(alloc, diagram, &slot.scope)?;
