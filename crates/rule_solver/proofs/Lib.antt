@@ -14,6 +14,7 @@ mod RowLemmas
 mod DecisionLemmas
 mod PlanLemmas
 mod SumLemmas
+mod SettingLemmas
 mod AnsweredRules
 mod BaseLemmas
 mod AnswerLemmas
