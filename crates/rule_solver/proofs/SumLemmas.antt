@@ -1,7 +1,7 @@
 -- The sums of a decision: what its goals' plans give, added up, are the gains of the part of its scope.
-use Rattle.std.proofs.Common.{◌≡◌, ◌∙◌, ℕ, zero, suc, ◌+◌, ◌*◌, ◌/◌, ◌%◌, ◌^◌, ◌<◌, ◌≤◌, max, List, [], ◌∷◌, ◌++◌, length, take, replicate, get_or, slice_index, refl, sym, ap, subst, ℤ, pos, ◌+ℤ◌, ◌*ℤ◌, nat_abs, arith, mul_comm}
+use Rattle.std.proofs.Common.{◌≡◌, ◌∙◌, ℕ, zero, suc, ◌+◌, ◌*◌, ◌/◌, ◌%◌, ◌^◌, ◌<◌, ◌≤◌, max, List, [], ◌∷◌, ◌++◌, length, take, drop, replicate, get_or, slice_index, refl, sym, ap, subst, ℤ, pos, ◌+ℤ◌, ◌*ℤ◌, nat_abs, arith, mul_comm}
 use Rattle.std.proofs.lemmas.Int.{ints}
-use Rattle.std.proofs.lemmas.List.{take_more}
+use Rattle.std.proofs.lemmas.List.{take_more, take-append-le, take_all}
 use Rattle.std.proofs.Math.Nat.{mul-add, mul-le-mul_left, mod-add-div, mod-lt, div-lt_iff_lt-mul}
 use Rattle.cell_rings.specs.RingLaws.{abs_add}
 use Rattle.finite_sums.specs.Sums.{World, InRange, nat_sum_over, sum_each}
@@ -17,6 +17,13 @@ use Rattle.scope_sums.specs.Laws.{IsSumOfPlans}
 use Rattle.rule_solver.specs.Reading.{gain_there}
 use Rattle.rule_solver.specs.Rows.{gain_in}
 use Rattle.rule_solver.specs.Sums.{AddsGoal, HasGoals, HasMasses, HasRoomFor, IsRowSums, KeepsRoom, goal_part, scope_gain, scope_mass}
+
+-- ---- lists
+-- a slice of a whole list, written back
+pub back_written : {X : Type 0} (len : ℕ) (xs ys : List X) → length xs ≡ length ys → len ≡ length ys → take len (xs ++ drop (length xs) ys) ≡ xs
+back_written len xs ys same is =
+    let whole : len ≡ length xs = omega arith in
+    ap (λ n. take n (xs ++ drop (length xs) ys)) whole ∙ take-append-le (length xs) xs (drop (length xs) ys) (omega arith) ∙ take_all (length xs) xs (omega arith)
 
 -- ---- lists of goals
 sum_push : (f : ℕ → ℤ) (us : List ℕ) (u : ℕ) → sum_each f (us ++ u ∷ []) ≡ sum_each f us +ℤ f u

@@ -97,6 +97,7 @@ impl<'a> Setting<'a> {
         ensures gains { IfOk result (λ gains. HasGoals self.now.diagram.now.nodes self.now.base.now self.now.decision (goals_of self.now.diagram.now.nodes self.now.decision) gains.items) }
         ensures again { OnOk result (work.new ≡ work.old) }
     {
+        plans_keep_scopes();
         let rows = self.diagram.rows(self.decision);
         let mut gains = vec![in alloc; 0; rows * self.diagram.states(self.decision)]?;
         let goals = list_scope(alloc, self.diagram, &goals_of(self.diagram, self.decision))?;

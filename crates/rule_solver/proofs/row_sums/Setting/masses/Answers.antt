@@ -1,10 +1,14 @@
 -- The plan of the rows, read with what it lacks of the scope.
-use Rattle.std.proofs.Common.{◌≡◌, ◌∙◌, ◌↔◌, ℕ, ◌≤◌, Contains, sym, ap, subst}
+use Rattle.std.proofs.Common.{◌≡◌, ◌∙◌, ◌↔◌, ℕ, ◌≤◌, List, replicate, length, Contains, sym, ap, subst, arith}
+use Rattle.std.proofs.lemmas.List.{length-replicate}
 use Rattle.cell_rings.specs.Kinds.{mass_kind}
 use Rattle.factor_core.specs.Slots.{table_of}
 use Rattle.maid_model.specs.Diagrams.{greatest_number}
+use Rattle.maid_model.specs.Nodes.{rows_of}
 use Rattle.node_sets.specs.Sets.{IsIn}
 use Rattle.plan_sums.specs.Plans.{PlanView}
+use Rattle.rule_solver.specs.Sums.{HasMasses}
+use Rattle.rule_solver.proofs.SumLemmas.{back_written}
 use Rattle.rule_solver.proofs.SettingLemmas.{rows_masses, rows_missing, rows_missing_small, rows_room, rows_total}
 use Rattle.rule_solver.proofs.row_sums.Setting.masses.Goals as goal
 
@@ -40,4 +44,10 @@ returns-clause-masses c =
         (table_of mass_kind d.nodes c.run_plan-slot.new.work.cells c.run_plan-slot.result) c.run_plan-slot.ensures.cell c.product_in-factor.result
         (c.product_in-factor.ensures ∙ rows_missing d p c.args.self.now.decision c.args.self.now.totals.now c.args.self.now.scope c.requires.setting c.plans_keep_scopes.ensures.decisions c.plans_keep_scopes.ensures.positive c.in_ok-plan.plan.plan c.in_ok-plan.ensures.made.plan c.nodes.result c.difference-left.result c.remove.new.self c.nodes.ensures c.difference-left.ensures c.remove.ensures)
         c.plans_sum_scopes.ensures.sums c.put_masses.new.masses c.in_ok-put_masses.ensures.puts in
-    record { count = ?; each = both.0; small = both.1 }
+    let made : c.in_ok-masses.masses.items ≡ replicate c.rows.result 0 = c.in_ok-masses.ensures.items_if_clones_equal (λ y e. e) in
+    let before : length c.deref_mut.result.now ≡ length c.in_ok-masses.masses.items = ap (λ (xs : List ℕ). length xs) c.deref_mut.ensures.value in
+    let same : length c.put_masses.new.masses ≡ length c.in_ok-masses.masses.items = c.put_masses.ensures.len ∙ before in
+    let ok = c.in_ok-masses.masses.ok in
+    let back = back_written c.in_ok-masses.masses.len c.put_masses.new.masses c.in_ok-masses.masses.items same (omega arith) in
+    let count : length c.put_masses.new.masses ≡ rows_of d.nodes c.args.self.now.decision = same ∙ ap (λ (xs : List ℕ). length xs) made ∙ length-replicate c.rows.result 0 ∙ c.rows.ensures in
+    subst (HasMasses d p c.args.self.now.decision) (sym back) (record { count = count; each = both.0; small = both.1 })
