@@ -1,12 +1,12 @@
 -- The step from one choice of states of some nodes to the next one.
-use Rattle.std.proofs.Common.{◌≡◌, ◌≢◌, ◌∙◌, ℕ, zero, suc, ◌+◌, ◌-◌, ◌*◌, ◌%◌, ◌<◌, ◌≤◌, List, [], ◌∷◌, length, get_or, set, drop, refl, sym, ap, subst, inl, inr, slice_index, arith}
+use Rattle.std.proofs.Common.{◌≡◌, ◌∙◌, ℕ, zero, suc, ◌+◌, ◌-◌, ◌*◌, ◌%◌, ◌<◌, ◌≤◌, List, [], ◌∷◌, length, get_or, set, drop, refl, sym, ap, subst, slice_index, arith}
 use Rattle.std.specs.Prelude.{Contains}
 use Rattle.std.proofs.Math.Nat.{mul_assoc, mod_self, mod-eq_of_lt}
 use Rattle.std.proofs.Math.Seq.{drop-cons, drop-length}
 use Rattle.std.proofs.lemmas.List.{get_or_default, get_or-set_same, get_or-set_other}
 use Rattle.finite_sums.specs.Members.{Among, Avoids}
 use Rattle.finite_sums.proofs.Lists.{avoids}
-use Rattle.finite_sums.specs.Sums.{World, InRange}
+use Rattle.finite_sums.specs.Sums.{World}
 use Rattle.maid_model.specs.Graph.{AllDifferent}
 use Rattle.maid_model.specs.Nodes.{states_of, counts_of, rows_under}
 use Rattle.maid_model.specs.Tables.{row_from}
@@ -17,11 +17,13 @@ use Rattle.maid_laws.proofs.Members.{apart_of, contains_of, not_among}
 use Rattle.rule_solver.proofs.WorldRows.{world_length, world_has, world_in_range, world_set, row_below}
 
 -- ---- lists of different nodes
+-- the rest of a list avoids what the list avoids
 drop_avoids : (x : ℕ) (us : List ℕ) (k : ℕ) → Avoids x us → Avoids x (drop k us)
 drop_avoids x us zero a = a
 drop_avoids x [] (suc k) a = a
 drop_avoids x (u ∷ us) (suc k) a = drop_avoids x us k a.1
 
+-- and its nodes differ too
 drop_apart : (us : List ℕ) (k : ℕ) → Apart us → Apart (drop k us)
 drop_apart us zero a = a
 drop_apart [] (suc k) a = a
@@ -125,6 +127,7 @@ pub record IsNextOver (nodes : List NodeView) (us old new : List ℕ) : Type 0 w
   pub row : row_from (states_of nodes) (world_of new) 0 us ≡ (row_from (states_of nodes) (world_of old) 0 us + 1) % rows_under (states_of nodes) us
   pub others : (v : ℕ) → (Contains us v → ⊥) → slice_index new v ≡ slice_index old v
 
+-- what stands at no place of the list is avoided
 avoided_by : (us : List ℕ) (x : ℕ) → (Contains us x → ⊥) → Avoids x us
 avoided_by us x n = avoids x us (λ m. n (contains_of x us m))
 

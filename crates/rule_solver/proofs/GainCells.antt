@@ -1,5 +1,5 @@
 -- A table's cells added to a decision's gains.
-use Rattle.std.proofs.Common.{◌≡◌, ◌∙◌, ◌↔◌, ℕ, ◌+◌, ◌*◌, ◌%◌, ◌<◌, ◌≤◌, List, ◌∷◌, length, get_or, set, refl, sym, ap, subst, ℤ, pos, ◌+ℤ◌, ◌*ℤ◌, arith}
+use Rattle.std.proofs.Common.{◌≡◌, ◌∙◌, ◌↔◌, ℕ, ◌+◌, ◌%◌, ◌<◌, ◌≤◌, List, ◌∷◌, length, get_or, set, sym, ap, subst, ℤ, pos, ◌+ℤ◌, ◌*ℤ◌, arith}
 use Rattle.std.specs.Prelude.{Contains, nat_abs}
 use Rattle.cell_rings.specs.declared.gains.Gain.{Gain}
 use Rattle.cell_rings.specs.Kinds.{gain_kind, gain_of}
@@ -9,12 +9,12 @@ use Rattle.node_sets.specs.Sets.{holds, IsIn}
 use Rattle.factor_core.specs.declared.slots.Slot.{Slot}
 use Rattle.factor_core.specs.Slots.{IsLive, nodes_in, part, table_of}
 use Rattle.maid_model.specs.Diagrams.{greatest_number}
-use Rattle.maid_model.specs.Nodes.{IsDecision, states_of, counts_of, parents_of, rows_of, rows_under}
+use Rattle.maid_model.specs.Nodes.{states_of, counts_of, parents_of, rows_under}
 use Rattle.maid_model.specs.Tables.{row_from, cell_of}
 use Rattle.maid_model.specs.Views.{NodeView}
 use Rattle.maid_model.specs.Worlds.{IsWorld, world_of, first_world}
 use Rattle.rule_solver.specs.Reading.{AddsTable, gain_there}
-use Rattle.rule_solver.proofs.TableCells.{StandsAt, DoneTo, PicksAlike, slot_cells, length-part, first_stands, next_stands, none_done, one_done}
+use Rattle.rule_solver.proofs.TableCells.{StandsAt, DoneTo, slot_cells, length-part, first_stands, next_stands, none_done, one_done}
 use Rattle.rule_solver.proofs.WorldRows.{world_in_range, row_below}
 
 -- a gain with the table's cell added

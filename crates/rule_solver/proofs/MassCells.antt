@@ -1,5 +1,5 @@
 -- A table's cells written as a decision's masses.
-use Rattle.std.proofs.Common.{◌≡◌, ◌∙◌, ◌↔◌, ℕ, ◌+◌, ◌*◌, ◌%◌, ◌<◌, ◌≤◌, List, length, get_or, set, sym, ap, subst, arith}
+use Rattle.std.proofs.Common.{◌≡◌, ◌↔◌, ℕ, ◌+◌, ◌*◌, ◌%◌, ◌<◌, ◌≤◌, List, length, get_or, set, sym, ap, subst, arith}
 use Rattle.std.specs.Prelude.{Contains}
 use Rattle.cell_rings.specs.declared.masses.Mass.{Mass}
 use Rattle.cell_rings.specs.Kinds.{mass_kind, mass_of}

@@ -1,5 +1,5 @@
 -- A table's cells, one after another, taken to the places of another table over the same nodes.
-use Rattle.std.proofs.Common.{◌≡◌, ◌≢◌, ◌∙◌, ◌↔◌, ◌⊎◌, ℕ, zero, suc, ◌+◌, ◌*◌, ◌%◌, ◌<◌, ◌≤◌, Bool, true, false, cond, filter, List, [], ◌∷◌, ◌++◌, length, get_or, set, take, drop, refl, sym, ap, subst, inl, inr, slice_index, arith}
+use Rattle.std.proofs.Common.{◌≡◌, ◌≢◌, ◌∙◌, ◌↔◌, ◌⊎◌, ℕ, zero, suc, ◌+◌, ◌*◌, ◌%◌, ◌<◌, ◌≤◌, Bool, true, false, cond, filter, List, [], ◌∷◌, ◌++◌, length, get_or, set, drop, refl, sym, ap, subst, inl, inr, slice_index, arith}
 use Rattle.std.specs.Prelude.{Contains, replicate}
 use Rattle.std.specs.List.{range_with_len}
 use Rattle.std.proofs.Math.Decide.{ℕ_discrete}
@@ -23,10 +23,12 @@ use Rattle.maid_laws.proofs.Members.{among_of, contains_of, different_of}
 use Rattle.maid_laws.proofs.Rearranged.{range_apart, apart_filter, number, numbered}
 
 -- ---- the nodes of a scope
+-- one number more at the end
 range_push : (k n : ℕ) → range_with_len k (suc n) ≡ range_with_len k n ++ (k + n) ∷ []
 range_push k zero = ap (λ x. x ∷ []) (omega arith)
 range_push k (suc n) = ap (λ x. k ∷ x) (range_push (k + 1) n ∙ ap (λ x. range_with_len (k + 1) n ++ x ∷ []) (omega arith))
 
+-- which is kept where it passes the test
 filter_push : (p : ℕ → Bool) (n : ℕ) → filter p (range_with_len 0 (n + 1)) ≡ filter p (range_with_len 0 n) ++ cond (p n) (n ∷ []) []
 filter_push p n =
     ap (λ m. filter p (range_with_len 0 m)) (one n) ∙ ap (filter p) (range_push 0 n ∙ ap (λ x. range_with_len 0 n ++ x ∷ []) (none n))
@@ -45,9 +47,11 @@ filter_yes p n e = filter_push p n ∙ ap (λ b. filter p (range_with_len 0 n) +
 pub filter_no : (p : ℕ → Bool) (n : ℕ) → p n ≡ false → filter p (range_with_len 0 (n + 1)) ≡ filter p (range_with_len 0 n)
 filter_no p n e = filter_push p n ∙ ap (λ b. filter p (range_with_len 0 n) ++ cond b (n ∷ []) []) e ∙ append-nil (filter p (range_with_len 0 n))
 
+-- no node of a scope is listed twice
 pub scope_once : (nodes : List NodeView) (h : ℕ → Bool) → AllDifferent (nodes_in nodes h)
 scope_once nodes h = different_of (nodes_in nodes h) (apart_filter h (numbers_of nodes) (range_apart 0 (length nodes)))
 
+-- each is a node of the diagram
 pub scope_known : (nodes : List NodeView) (h : ℕ → Bool) (v : ℕ) → Contains (nodes_in nodes h) v → v < length nodes
 scope_known nodes h v c = numbered nodes v (among_filter h v (numbers_of nodes) (among_of v (nodes_in nodes h) c)).0
 
@@ -59,6 +63,7 @@ scope_same nodes cells slot vs live same v = (
   (λ m. let inside : IsIn slot.scope v = (same v).1 (contains_of v vs m) in filter_has (holds slot.scope) v (numbers_of nodes) (number nodes v (live.known v inside)) inside),
 )
 
+-- a slot has a cell for each choice of its nodes' states
 pub length-part : {C : Type 0} (nodes : List NodeView) (cells : List C) (slot : Slot) → IsLive nodes cells slot → length (part cells slot.start slot.len) ≡ cells_over nodes (holds slot.scope)
 length-part nodes cells slot live =
     length-take-le slot.len (drop slot.start cells) (let w : slot.start + slot.len ≤ length cells = live.within in omega (arith, length-drop slot.start cells)) ∙ live.size
@@ -68,12 +73,14 @@ pub record PicksAlike (count : ℕ → ℕ) (us : List ℕ) (at : World → ℕ)
   pub there : (w q : World) → InRange count w → InRange count q → row_from count w 0 us ≡ row_from count q 0 us → at w ≡ at q
   pub back : (w q : World) → InRange count w → InRange count q → at w ≡ at q → row_from count w 0 us ≡ row_from count q 0 us
 
+-- by the states of the parents, which both rows tell
 rows_alike : (nodes : List NodeView) (us : List ℕ) (d : ℕ) → ((v : ℕ) → Among v us ↔ Among v (parents_of nodes d)) → PicksAlike (states_of nodes) us (row_of nodes d)
 rows_alike nodes us d same = record {
   there = λ w q i j e. let h = rows_agree (states_of nodes) w q i j us 0 0 e in agree_rows (states_of nodes) w q (parents_of nodes d) 0 (λ u m. h.1 u ((same u).1 m));
   back = λ w q i j e. let h = rows_agree (states_of nodes) w q i j (parents_of nodes d) 0 0 e in agree_rows (states_of nodes) w q us 0 (λ u m. h.1 u ((same u).0 m));
 }
 
+-- the cell tells the row and the decision's own state
 cells_alike : (nodes : List NodeView) (us : List ℕ) (d : ℕ) → ((v : ℕ) → Among v us ↔ Among v (d ∷ parents_of nodes d)) → PicksAlike (states_of nodes) us (cell_of nodes d)
 cells_alike nodes us d same = record { there = there; back = back }
   where
@@ -108,11 +115,13 @@ pub record StandsAt (nodes : List NodeView) (us xs : List ℕ) (place : ℕ) : T
   pub world : IsWorld (counts_of nodes) xs
   pub row : place < rows_under (states_of nodes) us → row_from (states_of nodes) (world_of xs) 0 us ≡ place
 
+-- the first world has state 0 everywhere
 none_at : (n v : ℕ) → slice_index (replicate n 0) v ≡ 0
 none_at zero v = refl
 none_at (suc n) zero = refl
 none_at (suc n) (suc v) = none_at n v
 
+-- so it picks the first row of any nodes
 first_row : (count : ℕ → ℕ) (n : ℕ) (us : List ℕ) → row_from count (world_of (replicate n 0)) 0 us ≡ 0
 first_row count n [] = refl
 first_row count n (u ∷ us) = ap (λ x. row_from count (world_of (replicate n 0)) x us) (ap (λ x. 0 * count u + x) (none_at n u) ∙ none (count u)) ∙ first_row count n us
@@ -120,9 +129,11 @@ first_row count n (u ∷ us) = ap (λ x. row_from count (world_of (replicate n 0
     none : (c : ℕ) → 0 * c + 0 ≡ 0
     none c = omega arith
 
+-- the walk starts at the first place
 pub first_stands : (nodes : List NodeView) (us world : List ℕ) → IsWorld (counts_of nodes) world → world ≡ first_world (length nodes) → StandsAt nodes us world 0
 first_stands nodes us world w e = record { world = w; row = λ l. ap (λ x. row_from (states_of nodes) (world_of x) 0 us) e ∙ first_row (states_of nodes) (length nodes) us }
 
+-- and goes on by one: within the table the rest is the number itself
 pub next_stands : (nodes : List NodeView) (us vs old new : List ℕ) (place : ℕ) → vs ≡ us → StandsAt nodes us old place → IsWorld (counts_of nodes) new
     → row_from (states_of nodes) (world_of new) 0 vs ≡ (row_from (states_of nodes) (world_of old) 0 vs + 1) % rows_under (states_of nodes) vs → StandsAt nodes us new (place + 1)
 next_stands nodes us vs old new place e s w row = record {
@@ -140,6 +151,7 @@ pub record DoneTo {X : Type 0} (count : ℕ → ℕ) (us : List ℕ) (at : World
   pub done : (q : World) → InRange count q → row_from count q 0 us < place → get_or now (at q) x ≡ target q
   pub kept : (q : World) → InRange count q → place ≤ row_from count q 0 us → get_or now (at q) x ≡ get_or before (at q) x
 
+-- at first nothing is written
 pub none_done : {X : Type 0} (count : ℕ → ℕ) (us : List ℕ) (at : World → ℕ) (x : X) (target : World → X) (before : List X) → DoneTo count us at x target before before 0
 none_done count us at x target before = record { len = refl; done = λ q i l. absurd (omega arith); kept = λ q i l. refl }
 

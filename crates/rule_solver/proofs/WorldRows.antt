@@ -1,5 +1,5 @@
 -- Worlds as lists of states, and the rows that they pick.
-use Rattle.std.proofs.Common.{◌≡◌, ◌≢◌, ◌∙◌, ℕ, zero, suc, ◌+◌, ◌*◌, ◌<◌, ◌≤◌, List, [], ◌∷◌, length, get_or, set, refl, sym, ap, subst, slice_index, arith}
+use Rattle.std.proofs.Common.{◌≡◌, ◌∙◌, ℕ, zero, suc, ◌+◌, ◌*◌, ◌<◌, ◌≤◌, List, [], ◌∷◌, length, get_or, set, refl, sym, subst, slice_index, arith}
 use Rattle.std.proofs.Math.Nat.{mul-le-mul_right, mul_assoc}
 use Rattle.std.proofs.Math.Decide.{ℕ_discrete, dec_lt}
 use Rattle.std.proofs.lemmas.List.{length-map, length-set, get_or_past, get_or-set_same, get_or-set_other}
@@ -9,6 +9,7 @@ use Rattle.maid_model.specs.Tables.{row_from}
 use Rattle.maid_model.specs.Views.{NodeView}
 use Rattle.maid_model.specs.Worlds.{IsWorld, world_of}
 
+-- a node's count in the list of all counts
 pub counts_at : (nodes : List NodeView) (v : ℕ) → v < length nodes → states_of nodes v ≡ get_or (counts_of nodes) v 0
 counts_at [] v h = absurd (omega arith)
 counts_at (n ∷ ns) zero h = refl
@@ -56,6 +57,7 @@ world_set nodes xs v s l h w = record { len = length-set xs v s ∙ w.len; each 
         (subst (λ x. x < slice_index (counts_of nodes) v) (sym (get_or-set_same xs v s 0 inside)) (subst (λ x. s < x) (counts_at nodes v l) h))
     go u (no n) k = subst (λ x. x < slice_index (counts_of nodes) u) (sym (get_or-set_other xs v u s 0 n)) (w.each u k)
 
+-- a row and a state in it are below the whole
 step_below : (row r c x : ℕ) → row < r → x < c → row * c + x < r * c
 step_below row r c x h k = omega (arith, mul-le-mul_right c h)
 

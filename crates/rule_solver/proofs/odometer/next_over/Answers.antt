@@ -1,5 +1,5 @@
 use Rattle.std.proofs.Common.{arith}
-use Rattle.rule_solver.proofs.Carries.{IsNextOver, v_known, v_within, code_back, code_more, code_all}
+use Rattle.rule_solver.proofs.Carries.{v_known, v_within, code_back, code_more, code_all}
 use Rattle.rule_solver.proofs.odometer.next_over.Goals as goal
 
 pub states-last-requires : goal.states-last-requires
