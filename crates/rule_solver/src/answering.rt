@@ -44,6 +44,7 @@ fn answer_decision(
     // The part of the scope has the whole's best states, rows without mass and fractions.
     scopes_are_parts();
     parts_decide();
+    let states = diagram.states(decision);
     let totals = list_totals(alloc, diagram, base)?;
     let setting = Setting {
         diagram,
@@ -53,7 +54,6 @@ fn answer_decision(
         scope: decision_scope(diagram, decision),
     };
     let sums = setting.row_sums(alloc, masses, gains)?;
-    let states = diagram.states(decision);
     answer_rows(alloc, &sums.gains, &sums.masses, states, scale(diagram))
 }
 
