@@ -37,8 +37,8 @@ picked_same p q (x ∷ xs) h =
 -- a test of what another picks picks the same
 pub picked_told : (p q : ℕ → Bool) (xs : List ℕ) → ((v : ℕ) → (p v ≡ true) ↔ Contains (filter q xs) v) → filter p xs ≡ filter q xs
 picked_told p q xs h = picked_same p q xs (λ v m. bool_same (p v) (q v)
-  (λ e. (among_filter q v xs (among_from_contains (filter q xs) v ((h v).0 e))).1)
-  (λ e. (h v).1 (contains_from_among (filter q xs) v (filter_has q v xs m e))))
+    (λ e. (among_filter q v xs (among_from_contains (filter q xs) v ((h v).0 e))).1)
+    (λ e. (h v).1 (contains_from_among (filter q xs) v (filter_has q v xs m e))))
 
 -- functions that agree on the list
 pub mapped_same : (f g : ℕ → ℕ) (us : List ℕ) → ((u : ℕ) → Contains us u → f u ≡ g u) → map f us ≡ map g us

@@ -5,5 +5,10 @@ pub mod Orders
 pub mod OneCycle
 pub mod Covering
 pub mod Filters
+pub mod Reparented
 pub mod Losing
+pub mod RuleCells
+pub mod MoreArcs
+pub mod Deciding
+pub mod Fixing
 pub mod Kept

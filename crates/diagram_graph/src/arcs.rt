@@ -74,9 +74,5 @@ pub fn remove_arc(
     }
     let mut nodes = copy_nodes(alloc, diagram)?;
     drop_arc(&mut nodes, from, to);
-    Ok(Diagram::from_nodes(
-        nodes,
-        diagram.agents(),
-        diagram.decimals(),
-    ))
+    Ok(Diagram::from_nodes(nodes, diagram.agents(), diagram.decimals()))
 }

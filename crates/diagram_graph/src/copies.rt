@@ -36,9 +36,5 @@ pub fn copy_diagram(alloc: Global, diagram: &Diagram) -> Result<Diagram, AllocEr
     ensures { IfOk result (λ copy. copy ≡ diagram.now) }
 {
     let nodes = copy_nodes(alloc, diagram)?;
-    Ok(Diagram::from_nodes(
-        nodes,
-        diagram.agents(),
-        diagram.decimals(),
-    ))
+    Ok(Diagram::from_nodes(nodes, diagram.agents(), diagram.decimals()))
 }

@@ -2,18 +2,25 @@
 //! influence diagram with parents first, and the first directed cycle of a list of parents.
 #![tactic(auto)]
 
+mod adding;
 mod arcs;
 mod copies;
 mod cycles;
+mod kinds;
 mod laws;
 mod needs;
 mod parts;
 mod placing;
+mod room;
 mod rounds;
+#[cfg(test)]
+mod tests;
 
+pub use adding::{AddFault, add_arc};
 pub use arcs::{RemoveFault, remove_arc};
 pub use copies::copy_diagram;
 pub use cycles::{first_cycle, topological};
+pub use kinds::{MakeFault, fix_others, make_decision};
 pub use laws::{parents_have_a_cycle_or_none, parents_have_one_cycle_at_most};
 pub use needs::Needs;
 pub use parts::{SubDiagram, part};

@@ -86,11 +86,7 @@ fn new_parents(
 }
 
 /// A copy of the node with its parents' new numbers.
-fn renumber(
-    alloc: Global,
-    node: &Node,
-    places: &[usize; MOST_NODES],
-) -> Result<Node, AllocError>
+fn renumber(alloc: Global, node: &Node, places: &[usize; MOST_NODES]) -> Result<Node, AllocError>
     requires { (u : ℕ) → Contains node.now.parents u → u < MOST_NODES }
     ensures { IfOk result (λ new. new ≡ with_parents node.now (map (slice_index places.now) node.now.parents)) }
 {
@@ -105,11 +101,7 @@ fn renumber(
 }
 
 /// The kept nodes with their parents' new numbers.
-fn part_nodes(
-    alloc: Global,
-    diagram: &Diagram,
-    kept: &[usize],
-) -> Result<Vec<Node>, AllocError>
+fn part_nodes(alloc: Global, diagram: &Diagram, kept: &[usize]) -> Result<Vec<Node>, AllocError>
     requires { IsAncestral diagram.now.nodes kept.now }
     ensures { IfOk result (λ nodes. nodes.items ≡ part_of diagram.now.nodes kept.now) }
 {

@@ -7,3 +7,4 @@ pub mod Starting
 pub mod Sizes
 pub mod Going
 pub mod Whole
+pub mod Samples

@@ -93,10 +93,10 @@ module _ (nodes : List NodeView) (plan : PlanView) where
         → filter (holds set) (numbers_of nodes) ≡ ruled_nodes nodes plan
     ruled_are set is =
         filter_cong (holds set) (λ v. in_plan nodes plan v && not (has (option_to_list plan.without) v)) (numbers_of nodes) (λ v m. same_test _ _
-          (λ e.
-              let h = (is v).0 e in
-              both _ _ (elim h.0 as (λ _. in_plan nodes plan v ≡ true) [ inl k ↦ kept_in v k | inr s ↦ step_passes v s ]) (not_of _ (λ f. h.1 (option_has plan.without v f))))
-          (λ e. (is v).1 (kept_or_step v (in_numbers v m) (first_of _ _ e), λ f. of_not _ (second_of (in_plan nodes plan v) _ e) (has_option plan.without v f))))
+        (λ e.
+        let h = (is v).0 e in
+        both _ _ (elim h.0 as (λ _. in_plan nodes plan v ≡ true) [ inl k ↦ kept_in v k | inr s ↦ step_passes v s ]) (not_of _ (λ f. h.1 (option_has plan.without v f))))
+        (λ e. (is v).1 (kept_or_step v (in_numbers v m) (first_of _ _ e), λ f. of_not _ (second_of (in_plan nodes plan v) _ e) (has_option plan.without v f))))
         ∙ sym (filter_filter (λ v. not (has (option_to_list plan.without) v)) (in_plan nodes plan) (numbers_of nodes))
 
   -- ---- how many
@@ -117,9 +117,10 @@ module _ (nodes : List NodeView) (plan : PlanView) where
       one xs v m = let l = m.1 in omega arith
 
       outside : (u : ℕ) → plan.utility ≡ Some u → 0 < length (filter (λ v. not (in_plan nodes plan v)) (numbers_of nodes))
-      outside u some = one _ u ((in_filter (λ v. not (in_plan nodes plan v)) (numbers_of nodes) u).1
-          (contains_from_among (numbers_of nodes) u (range_has 0 (length nodes) u (omega arith) (let l = known u some in omega arith)),
-          not_of _ (λ e. absurd (let f : true ≡ false = sym (ap is_utility (is.utility u some)) ∙ in_plan_kind nodes plan is u e in cc))))
+      outside u some = one _ u ((in_filter (λ v. not (in_plan nodes plan v)) (numbers_of nodes) u).1 (
+        contains_from_among (numbers_of nodes) u (range_has 0 (length nodes) u (omega arith) (let l = known u some in omega arith)),
+        not_of _ (λ e. absurd (let f : true ≡ false = sym (ap is_utility (is.utility u some)) ∙ in_plan_kind nodes plan is u e in cc)),
+      ))
 
       by : (o : Option ℕ) → plan.utility ≡ o → length (ruled_nodes nodes plan ++ option_to_list o) ≤ length nodes
       by None e = omega (arith, length-append (ruled_nodes nodes plan) [], ruled_few, counted)

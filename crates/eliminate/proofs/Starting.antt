@@ -38,8 +38,15 @@ module _ {C : Type 0} (c : Cells C) (nodes : List NodeView) (p : List RuleView) 
   -- as many slots as nodes so far
   pub lists_count : (before now : WorkspaceView C) (slots : List Slot) (rest all : List ℕ) → Lists c nodes p before now slots rest all → length slots + length rest ≡ length all
   lists_count before now slots rest all l =
-      omega (arith, zip_length (IsSame (states_of nodes)) _ l.tables l.stand.same, map_length (Rattle.factor_core.specs.Slots.table_of c.ring nodes now.cells) slots,
-      ap length l.leads, length-append l.tables (map (first_table c nodes p) rest), map_length (first_table c nodes p) rest, map_length (first_table c nodes p) all)
+      omega (
+        arith,
+        zip_length (IsSame (states_of nodes)) _ l.tables l.stand.same,
+        map_length (Rattle.factor_core.specs.Slots.table_of c.ring nodes now.cells) slots,
+        ap length l.leads,
+        length-append l.tables (map (first_table c nodes p) rest),
+        map_length (first_table c nodes p) rest,
+        map_length (first_table c nodes p) all,
+      )
 
 -- ---- the nodes of the set from v on
 abbrev pub from_node : (ℕ → Bool) → ℕ → ℕ → List ℕ

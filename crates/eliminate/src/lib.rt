@@ -4,5 +4,7 @@
 mod firsts;
 mod lists;
 mod runs;
+#[cfg(test)]
+mod tests;
 
 pub use runs::{release, run_plan};

@@ -22,12 +22,7 @@ pub struct Trimmed {
 }
 
 /// The diagram without an arc that is there.
-fn without(
-    alloc: Global,
-    diagram: &Diagram,
-    from: usize,
-    to: usize,
-) -> Result<Diagram, AllocError>
+fn without(alloc: Global, diagram: &Diagram, from: usize, to: usize) -> Result<Diagram, AllocError>
     requires decision { IsDecision diagram.now.nodes to }
     requires arc { Arc diagram.now.nodes from to }
     ensures { IfOk result (λ less. less ≡ with_nodes diagram.now (without_arc diagram.now.nodes from to)) }

@@ -1,6 +1,6 @@
 -- The sums of a decision in the part of its scope, as plans give them.
 use Rattle.std.specs.Prelude.{◌≡◌, ◌↔◌, ℕ, ◌<◌, ◌≤◌, ◌+◌, ◌*◌, List, length, slice_index, slice_index_or, Contains, ℤ, pos, ◌+ℤ◌, ◌*ℤ◌, nat_abs}
-use Rattle.maid_model.specs.Diagrams.{greatest_number}
+use Rattle.maid_model.specs.Diagrams.{IsDiagram, greatest_number}
 use Rattle.maid_model.specs.Gains.{gain_at, mass_at, greatest_abs}
 use Rattle.maid_model.specs.Nodes.{IsDecision, node_at, rows_of, states_of}
 use Rattle.maid_model.specs.Profiles.{IsProfile}
@@ -39,6 +39,7 @@ pub record KeepsRoom (nodes : List NodeView) (d : ℕ) (gains : List ℤ) (masse
 -- ---- on the way; only private functions cite the rest
 -- a decision and a profile whose other rules are small, within the bound, with the totals of all nodes and the decision's scope
 pub record IsSetting (d : DiagramView) (p : List RuleView) (decision : ℕ) (totals : List ℕ) (scope : NodeSet) : Type 0 where
+  pub is_diagram : IsDiagram d
   pub is_decision : IsDecision d.nodes decision
   pub profile : IsProfile d.nodes p
   pub rules : HasSmallRules d.nodes p decision

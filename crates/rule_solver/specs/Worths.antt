@@ -1,7 +1,7 @@
 -- What utilities give to expected utilities, as plans give it. Only private functions cite it.
 use Rattle.std.specs.Prelude.{◌≡◌, ◌↔◌, ℕ, ◌<◌, ◌≤◌, List, length, slice_index_or, Contains, ℤ, pos, ◌*ℤ◌, if◌then◌else◌}
 use Rattle.maid_model.specs.declared.diagrams.Kind.TheVariants.{Utility}
-use Rattle.maid_model.specs.Diagrams.{greatest_number}
+use Rattle.maid_model.specs.Diagrams.{IsDiagram, greatest_number}
 use Rattle.maid_model.specs.Gains.{gain_of}
 use Rattle.maid_model.specs.Nodes.{is_utility_of, node_at, states_of}
 use Rattle.maid_model.specs.Profiles.{IsProfile}
@@ -30,6 +30,7 @@ gain_given nodes p agent worths v = if is_utility_of nodes agent v then slice_in
 
 -- an agent and a profile of pure rules, within the bound, with the totals of all nodes, the utilities' worths and the agent's scope
 pub record IsStake (d : DiagramView) (p : List RuleView) (agent : ℕ) (totals : List ℕ) (worths : List ℤ) (scope : NodeSet) : Type 0 where
+  pub is_diagram : IsDiagram d
   pub within : agent < d.agents
   pub profile : IsProfile d.nodes p
   pub rules : HasUnitRules d.nodes p

@@ -20,9 +20,9 @@ mod answering;
 mod bases;
 mod faults;
 mod limits;
-
-
-
+mod odometer;
+mod reading;
+mod row_sums;
 mod rows;
 mod solving;
 #[cfg(test)]

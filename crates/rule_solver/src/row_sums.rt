@@ -30,6 +30,7 @@ pub struct RowSums {
 }
 
 /// A decision, the profile in which it is looked at, and what its sums count.
+#[derive(Drop)]
 pub(crate) struct Setting<'a> {
     pub diagram: &'a Diagram,
     pub base: &'a Profile,

@@ -3,7 +3,7 @@
 ghost use Rattle.std.specs.Prelude.{◌≡◌, ◌<◌, ◌≤◌, ◌^◌, ℕ, true, IfOk, OnOk, length, nat_abs};
 ghost use Rattle.maid_model.specs.declared.diagrams.Kind.TheVariants.{Utility};
 ghost use Rattle.maid_model.specs.Answers.{IsExpectedUtility};
-ghost use Rattle.maid_model.specs.Diagrams.{greatest_number};
+ghost use Rattle.maid_model.specs.Diagrams.{IsDiagram, greatest_number};
 ghost use Rattle.maid_model.specs.Nodes.{is_utility_of, node_at};
 ghost use Rattle.maid_model.specs.Profiles.{IsProfile};
 ghost use Rattle.maid_model.specs.Scopes.{KeepsScopedBounds};
@@ -14,6 +14,7 @@ ghost use Rattle.rule_solver.specs.Rooms.{HasAtMost, HasRoomForWorths, IsReady};
 ghost use Rattle.rule_solver.specs.Worths.{HasWorths, IsStake, IsWorth, gain_given, scope_gain_for};
 
 use crate::rows::fraction;
+
 use crate::totals::{list_totals, product_in};
 use cell_rings::Gain;
 use eliminate::{release, run_plan};
@@ -42,6 +43,7 @@ fn worth(
     utility: usize,
     work: &mut Workspace<Gain>,
 ) -> Result<i128, AllocError>
+    requires diagram { IsDiagram diagram.now }
     requires within { utility < length diagram.now.nodes }
     requires kind { (node_at diagram.now.nodes utility).kind ≡ Utility }
     requires profile { IsProfile diagram.now.nodes profile.now }
@@ -103,6 +105,7 @@ fn list_worths(
 }
 
 /// An agent, and what its expected utility is made of.
+#[derive(Drop)]
 struct Stake<'a> {
     diagram: &'a Diagram,
     profile: &'a Profile,

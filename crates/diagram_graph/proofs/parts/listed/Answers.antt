@@ -11,9 +11,9 @@ loop-v-preserved c =
     let more = picked_more (holds c.args.set.now) v in
     elim c.if-holds.branch [
       | then-holds+in_ok-push w ↦
-        let test = sym c.holds.ensures ∙ w.if-holds.true in
-        ap (λ (l : Vec ℕ Global). l.items) w.list-is ∙ w.in_ok-push.ensures.items ∙ (λ i. c.loop-v.invariant i ++ cond (sym test i) (v ∷ []) []) ∙ sym more
+          let test = sym c.holds.ensures ∙ w.if-holds.true in
+          ap (λ (l : Vec ℕ Global). l.items) w.list-is ∙ w.in_ok-push.ensures.items ∙ (λ i. c.loop-v.invariant i ++ cond (sym test i) (v ∷ []) []) ∙ sym more
       | else-holds w ↦
-        let test = sym c.holds.ensures ∙ w.if-holds.false in
-        ap (λ (l : Vec ℕ Global). l.items) w.list-is ∙ sym (append-nil c.loop-v.list.items) ∙ (λ i. c.loop-v.invariant i ++ cond (sym test i) (v ∷ []) []) ∙ sym more
+          let test = sym c.holds.ensures ∙ w.if-holds.false in
+          ap (λ (l : Vec ℕ Global). l.items) w.list-is ∙ sym (append-nil c.loop-v.list.items) ∙ (λ i. c.loop-v.invariant i ++ cond (sym test i) (v ∷ []) []) ∙ sym more
     ]

@@ -82,7 +82,7 @@ loop-v-preserved g c =
             (held_next cells nodes c.args.profile.now (holds c.ruled_nodes-ruled.result) (option_to_list plan.utility) (first_nodes nodes plan) c.count-nodes.result
             c.args.work.now c.loop-v.work (take c.loop-v.count c.loop-v.live) c.loop-v.v c.loop-v-test.true (sym c.holds.ensures ∙ w.if-holds.true) c.loop-v.invariant.0)
             (omega arith) c.loop-v.invariant.1 (c.loop-v.auto.live ∙ c.requires.len) in
-        omega (arith, l, w.put_table-count.ensures.count, c.loop-v.auto.live, c.requires.len)),
+            omega (arith, l, w.put_table-count.ensures.count, c.loop-v.auto.live, c.requires.len)),
       )
       | else-holds w ↦ rw (w.work-is, w.live-is, w.count-is) (
         other_next cells nodes c.args.profile.now (holds c.ruled_nodes-ruled.result) (option_to_list plan.utility) (first_nodes nodes plan) c.count-nodes.result

@@ -8,7 +8,7 @@ use Rattle.eliminate.proofs.runs.run_plan.Given as goal
 abbrev pub invariant-loop-node : goal.invariant-loop-node
 invariant-loop-node g l =
     Between g.C.Cell.ring l.diagram.nodes l.fn.work l.work (take l.count l.live) (drop l.node-index l.plan.steps) l.plan.steps
-        (first_tables (cells_by g.C.Cell.ring g.C.Cell.of_weight g.C.Cell.of_value) l.diagram.nodes l.profile l.plan.plan) (so_many l.diagram.nodes l.plan)
+    (first_tables (cells_by g.C.Cell.ring g.C.Cell.of_weight g.C.Cell.of_value) l.diagram.nodes l.profile l.plan.plan) (so_many l.diagram.nodes l.plan)
     × (l.count ≤ 256)
     × (length l.live ≡ 256)
     × (length l.joined ≡ 256)

@@ -1,0 +1,196 @@
+//! Nodes of another kind: a chance node under an agent's control, and decisions of other agents as chance nodes.
+
+ghost use Rattle.std.specs.Prelude.{◌≡◌, ◌≢◌, ◌<◌, ◌≤◌, ◌*◌, ◌↔◌, ◌++◌, [], map, slice_set, length, pos, IsTrue, IfOk, OnOk, IsErrOf};
+ghost use Rattle.std.specs.List.{flat_map};
+ghost use Rattle.maid_model.specs.declared.diagrams.Kind.TheVariants.{Chance, Decision};
+ghost use Rattle.maid_model.specs.declared.limits.TheConstants.{MOST_CELLS, MOST_RULE_CELLS};
+ghost use Rattle.maid_model.specs.Answers.{FitsAnswers, rows_at};
+ghost use Rattle.maid_model.specs.Edits.{as_chance, as_decision, fixed_by, one_agent};
+ghost use Rattle.maid_model.specs.Nodes.{IsDecision, agent_of, node_at, parents_of, states_of};
+ghost use Rattle.maid_model.specs.Profiles.{pure_row};
+ghost use Rattle.diagram_graph.specs.Edited.{with_nodes};
+ghost use Rattle.diagram_graph.specs.Room.{rule_cells};
+
+use crate::copies::{copy_node, copy_nodes};
+use crate::room::{cells_at, rule_cells};
+use arc_laws::{answer_is_optimum, controlled};
+use maid_model::{Answer, Diagram, Kind, MOST_RULE_CELLS, Node, Row, Solved};
+use smallvec::SmallVec;
+use std::alloc::{AllocError, Global};
+use thiserror::Error;
+
+/// Why no chance node became a decision.
+#[derive(Clone, Copy, Debug, PartialEq, Eq, Error)]
+pub enum MakeFault {
+    /// All rules together would have too many cells.
+    #[error("too many cells of rules")]
+    TooLarge,
+    /// Memory ran out, which says nothing of the diagram.
+    #[error("out of memory")]
+    NoMemory,
+}
+
+impl From<AllocError> for MakeFault {
+    ghost use Rattle.diagram_graph.specs.declared.kinds.MakeFault.TheVariants.{NoMemory};
+
+    ghost from_gives = { λ _ fault. fault ≡ NoMemory };
+
+    fn from(_failed: AllocError) -> MakeFault {
+        MakeFault::NoMemory
+    }
+}
+
+/// A decision of the agent with the node's states and parents.
+fn decision_node(
+    alloc: Global,
+    diagram: &Diagram,
+    v: usize,
+    agent: usize,
+) -> Result<Node, AllocError>
+    requires { v < length diagram.now.nodes }
+    ensures { IfOk result (λ made. made ≡ record { kind = Decision; owner = agent; more = []; states = states_of diagram.now.nodes v; parents = parents_of diagram.now.nodes v; cells = [] }) }
+{
+    Ok(Node {
+        kind: Kind::Decision,
+        owner: agent,
+        more: SmallVec::new(alloc),
+        states: diagram.states(v),
+        parents: SmallVec::from_slice(alloc, diagram.parents(v))?,
+        cells: Vec::new(alloc),
+    })
+}
+
+fn put(nodes: &mut Vec<Node>, v: usize, node: Node)
+    requires { v < length nodes.old.items }
+    ensures { nodes.new.items ≡ slice_set nodes.old.items v node }
+{
+    nodes[v] = node;
+}
+
+/// The diagram in which the chance node is a decision of the agent, with the same states and parents and without its
+/// table. It takes the time and the memory of a copy of all cells.
+///
+/// It is refused exactly where all rules together would have more than 262,144 cells, and else where memory ran out.
+pub fn make_decision(
+    alloc: Global,
+    diagram: &Diagram,
+    node: usize,
+    agent: usize,
+) -> Result<Diagram, MakeFault>
+    requires chance { (node_at diagram.now.nodes node).kind ≡ Chance }
+    requires agent { agent < diagram.now.agents }
+    ensures made { IfOk result (λ made. made ≡ with_nodes diagram.now (as_decision diagram.now.nodes agent node)) }
+    ensures too_large { IsErrOf result MakeFault.TooLarge ↔ MOST_RULE_CELLS < rule_cells (as_decision diagram.now.nodes agent node) }
+{
+    controlled();
+    let _count = diagram.count();
+    if rule_cells(diagram) + cells_at(diagram, node) > MOST_RULE_CELLS {
+        return Err(MakeFault::TooLarge);
+    }
+    let mut nodes = copy_nodes(alloc, diagram)?;
+    let made = decision_node(alloc, diagram, node, agent)?;
+    put(&mut nodes, node, made);
+    Ok(Diagram::from_nodes(nodes, diagram.agents(), diagram.decimals()))
+}
+
+/// The rows answered at the decision, none where it has no answer.
+fn rows_at(answers: &[Answer], decision: usize) -> &[Row]
+    ensures { result.now ≡ rows_at answers.now decision }
+{
+    for answer in answers {
+        if answer.decision == decision {
+            return &answer.rows;
+        }
+    }
+    &[]
+}
+
+/// Appends weight 1 at the choice and 0 at the other states.
+fn push_row(cells: &mut Vec<i128>, states: usize, choice: usize) -> Result<(), AllocError>
+    ensures { OnOk result (cells.new.items ≡ cells.old.items ++ map pos (pure_row states choice)) }
+{
+    for state in 0..states {
+        cells.push(i128::from(state == choice))?;
+    }
+    Ok(())
+}
+
+/// In each row weight 1 at its choice and 0 at the other states.
+fn pure_cells(alloc: Global, rows: &[Row], states: usize) -> Result<Vec<i128>, AllocError>
+    requires { length rows.now * states ≤ MOST_CELLS }
+    ensures { IfOk result (λ cells. cells.items ≡ map pos (flat_map (pure_row states) (map (λ row. row.choice) rows.now))) }
+{
+    let mut cells = Vec::with_capacity(alloc, rows.len() * states)?;
+    for row in rows {
+        push_row(&mut cells, states, row.choice)?;
+    }
+    Ok(cells)
+}
+
+/// The decision as a chance node that takes the answered choices.
+fn chance_node(
+    alloc: Global,
+    diagram: &Diagram,
+    answers: &[Answer],
+    v: usize,
+) -> Result<Node, AllocError>
+    requires decision { IsDecision diagram.now.nodes v }
+    requires fits { FitsAnswers diagram.now.nodes answers.now }
+    ensures { IfOk result (λ fixed. fixed ≡ as_chance diagram.now.nodes answers.now v) }
+{
+    Ok(Node {
+        kind: Kind::Chance,
+        owner: 0,
+        more: SmallVec::new(alloc),
+        states: diagram.states(v),
+        parents: SmallVec::from_slice(alloc, diagram.parents(v))?,
+        cells: pure_cells(alloc, rows_at(answers, v), diagram.states(v))?,
+    })
+}
+
+/// Whether the node is a decision of another agent.
+fn is_others(diagram: &Diagram, agent: usize, v: usize) -> bool
+    requires { v < length diagram.now.nodes }
+    ensures { IsTrue result ↔ (IsDecision diagram.now.nodes v × (agent_of diagram.now.nodes v ≢ agent)) }
+{
+    diagram.kind(v) == Kind::Decision && diagram.agent_of(v) != agent
+}
+
+/// The node, as a chance node where it is a decision of another agent.
+fn fixed_node(
+    alloc: Global,
+    diagram: &Diagram,
+    agent: usize,
+    answers: &[Answer],
+    v: usize,
+) -> Result<Node, AllocError>
+    requires within { v < length diagram.now.nodes }
+    requires fits { FitsAnswers diagram.now.nodes answers.now }
+    ensures { IfOk result (λ node. node ≡ fixed_by (node_at diagram.now.nodes v).kind diagram.now.nodes agent answers.now v) }
+{
+    if is_others(diagram, agent, v) {
+        chance_node(alloc, diagram, answers, v)
+    } else {
+        copy_node(alloc, diagram.node(v))
+    }
+}
+
+/// The diagram in which only the agent decides: each decision of another agent is a chance node with weight 1 on the
+/// answered choice of each row and 0 elsewhere. It takes the time and the memory of a copy of all cells, and of the
+/// cells of the other agents' rules.
+pub fn fix_others(
+    alloc: Global,
+    diagram: &Diagram,
+    agent: usize,
+    solved: &Solved,
+) -> Result<Diagram, AllocError>
+    requires { FitsAnswers diagram.now.nodes solved.now.answers }
+    ensures { IfOk result (λ alone. alone ≡ with_nodes diagram.now (one_agent diagram.now.nodes agent solved.now.answers)) }
+{
+    answer_is_optimum();
+    let mut nodes = Vec::with_capacity(alloc, diagram.count())?;
+    for v in 0..diagram.count() {
+        nodes.push(fixed_node(alloc, diagram, agent, &solved.answers, v)?)?;
+    }
+    Ok(Diagram::from_nodes(nodes, diagram.agents(), diagram.decimals()))
+}

@@ -1,0 +1,79 @@
+//! A small diagram, and what the calls make of it.
+
+ghost use Rattle.std.specs.Prelude.{◌≡◌, [], IfOk};
+ghost use Rattle.diagram_graph.specs.Example.{example};
+
+use crate::{AddFault, RemoveFault, add_arc, make_decision, part, remove_arc};
+use maid_model::{Diagram, Kind, Node, literals_are_tested};
+use smallvec::SmallVec;
+use std::alloc::{AllocError, Global};
+use std::test::Fail;
+
+fn node(
+    alloc: Global,
+    kind: Kind,
+    owner: usize,
+    states: usize,
+    parents: &[usize],
+    cells: &[i128],
+) -> Result<Node, AllocError>
+    ensures { IfOk result (λ n. n ≡ record { kind = kind; owner = owner; more = []; states = states; parents = parents.now; cells = cells.now }) }
+{
+    Ok(Node {
+        kind,
+        owner,
+        more: SmallVec::new(alloc),
+        states,
+        parents: SmallVec::from_slice(alloc, parents)?,
+        cells: Vec::from_slice(alloc, cells)?,
+    })
+}
+
+/// Two chance nodes, a decision over both, a rival's decision over the second, and a utility over the first decision.
+fn diagram(alloc: Global) -> Result<Diagram, AllocError>
+    ensures { IfOk result (λ d. d ≡ example) }
+{
+    literals_are_tested();
+    let mut nodes = Vec::new(alloc);
+    nodes.push(node(alloc, Kind::Chance, 0, 2, &[], &[1, 1])?)?;
+    nodes.push(node(alloc, Kind::Chance, 0, 2, &[], &[1, 3])?)?;
+    nodes.push(node(alloc, Kind::Decision, 0, 2, &[0, 1], &[])?)?;
+    nodes.push(node(alloc, Kind::Decision, 1, 2, &[1], &[])?)?;
+    nodes.push(node(alloc, Kind::Utility, 0, 1, &[2], &[0, 5])?)?;
+    Ok(Diagram::from_nodes(nodes, 2, 0))
+}
+
+// Without its arc the first chance node is no ancestor of the utility, so the part has the second and the decision.
+#[test]
+fn removes_an_arc_and_takes_a_part(rt: HostRuntime) -> Result<(), Fail> {
+    let alloc = rt.alloc();
+    let whole = diagram(alloc)?;
+    let absent = remove_arc(alloc, &whole, 3, 2);
+    assert!(rt; matches!(absent, Err(RemoveFault::NotPresent)));
+    let less = remove_arc(alloc, &whole, 0, 2)?;
+    assert_eq!(rt; less.parents(2), [1].as_slice());
+    let below = part(alloc, &less, &[4])?;
+    assert_eq!(rt; below.nodes.as_slice(), [1, 2, 4].as_slice());
+    assert_eq!(rt; below.diagram.count(), 3);
+    assert_eq!(rt; below.diagram.cells(0), [1, 3].as_slice());
+    assert_eq!(rt; below.diagram.parents(1), [0].as_slice());
+    assert_eq!(rt; below.diagram.parents(2), [1].as_slice());
+    Ok(())
+}
+
+#[test]
+fn adds_an_arc_and_gives_control(rt: HostRuntime) -> Result<(), Fail> {
+    let alloc = rt.alloc();
+    let whole = diagram(alloc)?;
+    let present = add_arc(alloc, &whole, 0, 2);
+    assert!(rt; matches!(present, Err(AddFault::Present)));
+    let itself = add_arc(alloc, &whole, 2, 2);
+    assert!(rt; matches!(itself, Err(AddFault::WouldCycle)));
+    let more = add_arc(alloc, &whole, 3, 2)?;
+    assert_eq!(rt; more.parents(2), [0, 1, 3].as_slice());
+    let made = make_decision(alloc, &whole, 1, 1)?;
+    assert!(rt; made.kind(1) == Kind::Decision);
+    assert_eq!(rt; made.agent_of(1), 1);
+    assert!(rt; made.cells(1).is_empty());
+    Ok(())
+}

@@ -1,0 +1,118 @@
+-- The plans of a decision and of a utility: their numbers fit, and their cells are numbers.
+use Rattle.std.proofs.Common.{◌≡◌, ◌⊎◌, inl, inr, ℕ, ◌+◌, ◌*◌, ◌^◌, ◌-◌, ◌<◌, ◌≤◌, max, List, [], ◌∷◌, refl, sym, ap, subst, ℤ, pos, arith}
+use Rattle.std.proofs.Math.Nat.{mul-le-mul, mul-le-mul_left, mul-le-mul_right, one-le-pow}
+use Rattle.cell_rings.specs.declared.gains.Gain.{Gain}
+use Rattle.cell_rings.specs.declared.masses.Mass.{Mass}
+use Rattle.cell_rings.specs.Kinds.{gain_kind, gain_of, mass_kind, mass_of}
+use Rattle.cell_rings.specs.KindLaws.{gain_laws, gain_map, mass_laws, mass_map}
+use Rattle.cell_rings.specs.RingLaws.{gain_is_ring, mass_is_ring}
+use Rattle.cell_rings.specs.Rings.{most_size}
+use Rattle.factor_core.specs.Operations.{cells_by}
+use Rattle.finite_sums.specs.Members.{Among}
+use Rattle.finite_sums.specs.Sums.{World, nat_product_over}
+use Rattle.maid_model.specs.Diagrams.{greatest_number}
+use Rattle.maid_model.specs.Gains.{greatest_abs}
+use Rattle.maid_model.specs.Nodes.{node_at}
+use Rattle.maid_model.specs.Scopes.{goals_of, greatest_of, scope_bound, scope_bound_for, scope_for, scope_of, scope_product, scope_product_for, utilities_for}
+use Rattle.maid_model.specs.Tables.{weight_total}
+use Rattle.maid_model.specs.Views.{NodeView, DiagramView, RuleView}
+use Rattle.plan_sums.specs.Laws.{IsCellMap}
+use Rattle.plan_sums.specs.Plans.{Cells, PlanView, gain_cells, mass_cells, gain_plan, plan_sum, row_plan, ruled_nodes, worth_plan}
+use Rattle.plan_sums.proofs.Products.{maps_plans}
+use Rattle.eliminate.specs.Results.{plan_total}
+
+-- ---- cells as numbers
+-- the cells of a run, as plans see them
+abbrev pub gain_run : Cells Gain
+gain_run = cells_by gain_kind (λ w. gain_of (pos w)) gain_of
+
+abbrev pub mass_run : Cells Mass
+mass_run = cells_by mass_kind mass_of (λ v. mass_of 1)
+
+gain_numbers : IsCellMap gain_run gain_cells (λ a. a.0)
+gain_numbers = record { ring = gain_map; weight = λ w. refl; value = λ v. refl }
+
+mass_numbers : IsCellMap mass_run mass_cells (λ a. a.0)
+mass_numbers = record { ring = mass_map; weight = λ w. refl; value = λ v. refl }
+
+-- what a plan sums to in cells is what it sums to in numbers
+pub gain_sum : (nodes : List NodeView) (p : List RuleView) (plan : PlanView) (q : World) → (plan_sum gain_run nodes p plan q).0 ≡ plan_sum gain_cells nodes p plan q
+gain_sum nodes p plan q = maps_plans gain_run gain_cells gain_laws gain_is_ring (λ a. a.0) gain_numbers nodes p plan q
+
+pub mass_sum : (nodes : List NodeView) (p : List RuleView) (plan : PlanView) (q : World) → (plan_sum mass_run nodes p plan q).0 ≡ plan_sum mass_cells nodes p plan q
+mass_sum nodes p plan q = maps_plans mass_run mass_cells mass_laws mass_is_ring (λ a. a.0) mass_numbers nodes p plan q
+
+-- ---- numbers that fit
+-- a utility of the list is no greater than all of them together
+pub one_of_greatest : (nodes : List NodeView) (us : List ℕ) (u : ℕ) → Among u us → greatest_abs (node_at nodes u).cells ≤ greatest_of nodes us
+one_of_greatest nodes [] u m = absurd m
+one_of_greatest nodes (v ∷ us) u (inl e) = subst (λ x. greatest_abs (node_at nodes u).cells ≤ greatest_abs (node_at nodes x).cells + greatest_of nodes us) e (first (greatest_abs (node_at nodes u).cells) (greatest_of nodes us))
+  where
+    first : (a b : ℕ) → a ≤ a + b
+    first a b = omega arith
+one_of_greatest nodes (v ∷ us) u (inr m) = let rest = one_of_greatest nodes us u m in later _ _ _ rest
+  where
+    later : (a b c : ℕ) → a ≤ c → a ≤ b + c
+    later a b c h = omega (arith, h)
+
+-- twice what is within the bound is within 128 bits
+twice : (x : ℕ) → x ≤ greatest_number → 2 * x ≤ most_size
+twice x h = omega (arith, h)
+
+-- what is part of a product is no more
+part_of_product : (a b m : ℕ) → 0 < b → a * b ≤ m → a ≤ m
+part_of_product a b m h k = omega (arith, mul-le-mul_left a h, k)
+
+-- tables within P, and a utility within S: together within the bound
+tables_fit : (tables missing product scale utility all : ℕ) → 0 < missing → tables * missing ≤ product → 0 < scale → utility ≤ all → product * max scale all ≤ greatest_number → 2 * (tables * max 1 utility) ≤ most_size
+tables_fit tables missing product scale utility all some within one less bound =
+    let few : tables ≤ product = part_of_product tables missing product some within in
+    let value : max 1 utility ≤ max scale all = greater utility scale all one less in
+    twice (tables * max 1 utility) (chain _ _ (mul-le-mul few value) bound)
+  where
+    greater : (u s a : ℕ) → 0 < s → u ≤ a → max 1 u ≤ max s a
+    greater u s a h k = omega (arith, h, k)
+
+    chain : (a b : ℕ) → a ≤ b → b ≤ greatest_number → a ≤ greatest_number
+    chain a b h k = omega (arith, h, k)
+
+scale_some : (k : ℕ) → 0 < 10 ^ k
+scale_some k = let ten : 0 < 10 = omega arith in one-le-pow k 10 ten
+
+-- the plan of a goal fits
+pub goal_fits : (d : DiagramView) (p : List RuleView) (decision goal missing : ℕ) → 0 < missing → Among goal (goals_of d.nodes decision) → scope_bound d decision ≤ greatest_number
+    → nat_product_over (weight_total d.nodes p) (ruled_nodes d.nodes (gain_plan d.nodes decision goal)) * missing ≤ scope_product d.nodes decision
+    → 2 * plan_total d.nodes p (gain_plan d.nodes decision goal) ≤ most_size
+goal_fits d p decision goal missing some listed bound within =
+    tables_fit (nat_product_over (weight_total d.nodes p) (ruled_nodes d.nodes (gain_plan d.nodes decision goal))) missing (scope_product d.nodes decision) (10 ^ d.decimals) (greatest_abs (node_at d.nodes goal).cells) (greatest_of d.nodes (goals_of d.nodes decision))
+    some within (scale_some d.decimals) (one_of_greatest d.nodes (goals_of d.nodes decision) goal listed) bound
+
+-- the plan of a decision's rows fits
+pub rows_fit : (d : DiagramView) (p : List RuleView) (decision missing : ℕ) → 0 < missing → scope_bound d decision ≤ greatest_number
+    → nat_product_over (weight_total d.nodes p) (ruled_nodes d.nodes (row_plan d.nodes decision)) * missing ≤ scope_product d.nodes decision
+    → 2 * plan_total d.nodes p (row_plan d.nodes decision) ≤ most_size
+rows_fit d p decision missing some bound within =
+    let tables = nat_product_over (weight_total d.nodes p) (ruled_nodes d.nodes (row_plan d.nodes decision)) in
+    let none : 0 ≤ greatest_of d.nodes (goals_of d.nodes decision) = omega arith in
+    subst (λ n. 2 * n ≤ most_size) (ones tables) (tables_fit tables missing (scope_product d.nodes decision) (10 ^ d.decimals) 0 (greatest_of d.nodes (goals_of d.nodes decision)) some within (scale_some d.decimals) none bound)
+  where
+    ones : (a : ℕ) → a * max 1 0 ≡ a * 1
+    ones a = refl
+
+-- the plan of a utility's worth fits
+pub worth_fits : (d : DiagramView) (p : List RuleView) (agent utility missing : ℕ) → 0 < missing → Among utility (utilities_for d.nodes agent) → scope_bound_for d agent ≤ greatest_number
+    → nat_product_over (weight_total d.nodes p) (ruled_nodes d.nodes (worth_plan utility)) * missing ≤ scope_product_for d.nodes agent
+    → 2 * plan_total d.nodes p (worth_plan utility) ≤ most_size
+worth_fits d p agent utility missing some listed bound within =
+    tables_fit (nat_product_over (weight_total d.nodes p) (ruled_nodes d.nodes (worth_plan utility))) missing (scope_product_for d.nodes agent) (10 ^ d.decimals) (greatest_abs (node_at d.nodes utility).cells) (greatest_of d.nodes (utilities_for d.nodes agent))
+    some within (scale_some d.decimals) (one_of_greatest d.nodes (utilities_for d.nodes agent) utility listed) bound
+
+-- a product within P is within the bound, with the scale too
+pub within_bound : (product scale all m : ℕ) → m ≤ product → product * max scale all ≤ greatest_number → m * scale ≤ greatest_number
+within_bound product scale all m h bound = chain _ _ (mul-le-mul h (left scale all)) bound
+  where
+    left : (a b : ℕ) → a ≤ max a b
+    left a b = omega arith
+
+    chain : (a b : ℕ) → a ≤ b → b ≤ greatest_number → a ≤ greatest_number
+    chain a b h k = omega (arith, h, k)

@@ -1,0 +1,131 @@
+-- A decision in its setting: what its plans give, and that all of it has room.
+use Rattle.std.proofs.Common.{◌≡◌, ◌∙◌, ◌↔◌, ℕ, ◌+◌, ◌*◌, ◌^◌, ◌<◌, ◌≤◌, max, List, ◌∷◌, Contains, slice_index, sym, ap, subst, ℤ, pos, ◌+ℤ◌, ◌*ℤ◌, nat_abs, arith}
+use Rattle.std.proofs.Math.Nat.{mul-le-mul_left, one-le-pow}
+use Rattle.cell_rings.specs.declared.gains.Gain.{Gain}
+use Rattle.cell_rings.specs.declared.masses.Mass.{Mass}
+use Rattle.finite_sums.specs.Sums.{World, InRange}
+use Rattle.maid_model.specs.Diagrams.{greatest_number}
+use Rattle.maid_model.specs.Gains.{greatest_abs}
+use Rattle.maid_model.specs.Nodes.{node_at, parents_of, states_of}
+use Rattle.maid_model.specs.Parts.{leads_to}
+use Rattle.maid_model.specs.Relevance.{IsGoal}
+use Rattle.maid_model.specs.Scopes.{goals_of, greatest_of, scope_of, scope_product}
+use Rattle.maid_model.specs.Tables.{row_of}
+use Rattle.maid_model.specs.Views.{NodeView, DiagramView, RuleView}
+use Rattle.node_sets.specs.declared.sets.NodeSet.{NodeSet}
+use Rattle.node_sets.specs.Sets.{IsIn}
+use Rattle.part_laws.proofs.ScopeLaws.{goal_listed}
+use Rattle.plan_sums.specs.Plans.{PlanView, gain_cells, mass_cells, gain_plan, plan_nodes, plan_sum, row_plan}
+use Rattle.cell_rings.specs.Rings.{most_size}
+use Rattle.eliminate.specs.Results.{plan_total}
+use Rattle.ring_sums.specs.Tables.{Table}
+use Rattle.scope_sums.specs.Laws.{MissingIsPositive, PlansFitScope, ScopesFitPlans, SumsOfScopes}
+use Rattle.scope_sums.specs.Missing.{missing_in, missing_in_without}
+use Rattle.rule_solver.specs.Reading.{AddsTable, PutsTable, gain_there}
+use Rattle.rule_solver.specs.Sums.{AddsGoal, HasMasses, HasRoomFor, IsSetting, goal_part, scope_mass}
+use Rattle.rule_solver.specs.Totals.{product_in}
+use Rattle.rule_solver.proofs.Missing.{missing_product, missing_product_after}
+use Rattle.rule_solver.proofs.PlanLemmas.{gain_run, mass_run, gain_sum, mass_sum, goal_fits, rows_fit}
+
+module _ (d : DiagramView) (p : List RuleView) (decision : ℕ) (totals : List ℕ) (scope : NodeSet) (s : IsSetting d p decision totals scope) where
+  -- P alone is within the bound
+  product_small : scope_product d.nodes decision ≤ greatest_number
+  product_small =
+      let whole : scope_product d.nodes decision * 1 ≤ scope_product d.nodes decision * max (10 ^ d.decimals) (greatest_of d.nodes (goals_of d.nodes decision)) = mul-le-mul_left (scope_product d.nodes decision) (greater (10 ^ d.decimals) (greatest_of d.nodes (goals_of d.nodes decision)) (one-le-pow d.decimals 10 ten)) in
+      chain _ _ whole s.bound
+    where
+      ten : 0 < 10
+      ten = omega arith
+
+      greater : (a b : ℕ) → 1 ≤ a → 1 ≤ max a b
+      greater a b h = omega (arith, h)
+
+      chain : (a b : ℕ) → a * 1 ≤ b → b ≤ greatest_number → a ≤ greatest_number
+      chain a b h k = omega (arith, h, k)
+
+  pub in_room : (m : ℕ) → m ≤ scope_product d.nodes decision → m ≤ greatest_number
+  in_room m h = let k = product_small in omega (arith, h, k)
+
+  module _ (fits : ScopesFitPlans) (some : MissingIsPositive) where
+    fit : PlansFitScope d.nodes p decision
+    fit = fits d.nodes p decision s.is_diagram.graph s.is_diagram.tables s.profile s.is_decision s.rules
+
+    -- ---- the plan of the rows
+    module _ (plan : PlanView) (is : plan ≡ row_plan d.nodes decision) where
+      pub rows_missing : (planned all left : NodeSet) → ((v : ℕ) → IsIn planned v ↔ Contains (plan_nodes d.nodes plan) v) → ((v : ℕ) → IsIn all v ↔ (IsIn scope v × (IsIn planned v → ⊥))) → ((v : ℕ) → IsIn left v ↔ (IsIn all v × (v ≡ decision → ⊥)))
+          → product_in totals left ≡ missing_in_without d.nodes p decision (scope_of d.nodes decision) (row_plan d.nodes decision)
+      rows_missing planned all left plans alls lefts =
+          missing_product_after d.nodes p totals s.has_totals (leads_to d.nodes (decision ∷ goals_of d.nodes decision)) (row_plan d.nodes decision) scope planned left s.is_scope
+          (subst (λ x. (v : ℕ) → IsIn planned v ↔ Contains (plan_nodes d.nodes x) v) is plans) decision all alls lefts
+
+      pub rows_total : 2 * plan_total d.nodes p plan ≤ most_size
+      rows_total =
+          subst (λ x. 2 * plan_total d.nodes p x ≤ most_size) (sym is)
+          (rows_fit d p decision (missing_in_without d.nodes p decision (scope_of d.nodes decision) (row_plan d.nodes decision))
+          ((some d.nodes p (scope_of d.nodes decision) (row_plan d.nodes decision) s.is_diagram.graph s.is_diagram.tables s.profile).1 decision) s.bound fit.row_tables)
+
+      pub rows_missing_small : missing_in_without d.nodes p decision (scope_of d.nodes decision) (row_plan d.nodes decision) ≤ greatest_number
+      rows_missing_small = in_room _ fit.missing_row
+
+      module _ (table : Table Mass) (cell : (q : World) → InRange (states_of d.nodes) q → table.cell q ≡ plan_sum mass_run d.nodes p plan q) where
+        rows_cell : (q : World) → InRange (states_of d.nodes) q → (table.cell q).0 ≡ plan_sum mass_cells d.nodes p (row_plan d.nodes decision) q
+        rows_cell q i = ap (λ (m : Mass). m.0) (cell q i) ∙ mass_sum d.nodes p plan q ∙ ap (λ x. plan_sum mass_cells d.nodes p x q) is
+
+        module _ (factor : ℕ) (factor_is : factor ≡ missing_in_without d.nodes p decision (scope_of d.nodes decision) (row_plan d.nodes decision)) where
+          rows_part : (q : World) → InRange (states_of d.nodes) q → (table.cell q).0 * factor ≡ plan_sum mass_cells d.nodes p (row_plan d.nodes decision) q * missing_in_without d.nodes p decision (scope_of d.nodes decision) (row_plan d.nodes decision)
+          rows_part q i = λ t. rows_cell q i t * factor_is t
+
+          within : (q : World) → InRange (states_of d.nodes) q → (table.cell q).0 * factor ≤ scope_product d.nodes decision
+          within q i = subst (λ n. n ≤ scope_product d.nodes decision) (sym (rows_part q i)) (fit.row q i)
+
+          pub rows_room : (q : World) → InRange (states_of d.nodes) q → (table.cell q).0 * factor ≤ greatest_number
+          rows_room q i = in_room _ (within q i)
+
+          pub rows_masses : SumsOfScopes → (masses : List ℕ) → PutsTable d.nodes decision table factor masses
+              → ((q : World) → InRange (states_of d.nodes) q → pos (slice_index masses (row_of d.nodes decision q)) ≡ scope_mass d.nodes p decision (row_of d.nodes decision q))
+              × ((q : World) → InRange (states_of d.nodes) q → slice_index masses (row_of d.nodes decision q) ≤ scope_product d.nodes decision)
+          rows_masses sums masses puts = (
+            (λ q i. ap pos (puts.each q i ∙ rows_part q i) ∙ sym ((sums d.nodes p decision s.is_diagram.graph s.is_diagram.tables s.profile s.is_decision).mass_there q i)),
+            (λ q i. subst (λ n. n ≤ scope_product d.nodes decision) (sym (puts.each q i)) (within q i)),
+          )
+
+    -- ---- the plan of a goal
+    module _ (goal : ℕ) (is_goal : IsGoal d.nodes decision goal) (plan : PlanView) (is : plan ≡ gain_plan d.nodes decision goal) where
+      pub goal_missing : (planned left : NodeSet) → ((v : ℕ) → IsIn planned v ↔ Contains (plan_nodes d.nodes plan) v) → ((v : ℕ) → IsIn left v ↔ (IsIn scope v × (IsIn planned v → ⊥)))
+          → product_in totals left ≡ missing_in d.nodes p (scope_of d.nodes decision) (gain_plan d.nodes decision goal)
+      goal_missing planned left plans lefts =
+          missing_product d.nodes p totals s.has_totals (leads_to d.nodes (decision ∷ goals_of d.nodes decision)) (gain_plan d.nodes decision goal) scope planned left s.is_scope
+          (subst (λ x. (v : ℕ) → IsIn planned v ↔ Contains (plan_nodes d.nodes x) v) is plans) lefts
+
+      pub goal_missing_small : missing_in d.nodes p (scope_of d.nodes decision) (gain_plan d.nodes decision goal) ≤ greatest_number
+      goal_missing_small = in_room _ (fit.missing goal is_goal)
+
+      pub goal_total : 2 * plan_total d.nodes p plan ≤ most_size
+      goal_total =
+          subst (λ x. 2 * plan_total d.nodes p x ≤ most_size) (sym is)
+          (goal_fits d p decision goal (missing_in d.nodes p (scope_of d.nodes decision) (gain_plan d.nodes decision goal))
+          (some d.nodes p (scope_of d.nodes decision) (gain_plan d.nodes decision goal) s.is_diagram.graph s.is_diagram.tables s.profile).0
+          (goal_listed d.nodes s.is_diagram.graph decision s.is_decision goal is_goal) s.bound (fit.gain_tables goal is_goal))
+
+      module _ (table : Table Gain) (cell : (q : World) → InRange (states_of d.nodes) q → table.cell q ≡ plan_sum gain_run d.nodes p plan q) (factor : ℕ)
+          (factor_is : factor ≡ missing_in d.nodes p (scope_of d.nodes decision) (gain_plan d.nodes decision goal))
+        where
+          goal_cell : (q : World) → InRange (states_of d.nodes) q → (table.cell q).0 ≡ plan_sum gain_cells d.nodes p (gain_plan d.nodes decision goal) q
+          goal_cell q i = ap (λ (g : Gain). g.0) (cell q i) ∙ gain_sum d.nodes p plan q ∙ ap (λ x. plan_sum gain_cells d.nodes p x q) is
+
+          part : (q : World) → InRange (states_of d.nodes) q → (table.cell q).0 *ℤ pos factor ≡ goal_part d.nodes p decision goal q
+          part q i = λ t. goal_cell q i t *ℤ pos (factor_is t)
+
+          pub goal_room : (gains : List ℤ) → HasRoomFor d decision goal gains → (q : World) → InRange (states_of d.nodes) q → nat_abs (gain_there gains d.nodes decision q) + nat_abs ((table.cell q).0 *ℤ pos factor) ≤ greatest_number
+          goal_room gains room q i =
+              sum _ _ _ (subst (λ z. nat_abs z ≤ scope_product d.nodes decision * greatest_abs (node_at d.nodes goal).cells) (sym (part q i)) (fit.gain goal q is_goal i)) (room.room q i)
+            where
+              sum : (a b c : ℕ) → b ≤ c → a + c ≤ greatest_number → a + b ≤ greatest_number
+              sum a b c h k = omega (arith, h, k)
+
+          pub goal_added : (before after : List ℤ) → AddsTable d.nodes decision table factor before after → AddsGoal d.nodes p decision goal before after
+          goal_added before after adds = record { count = adds.len; each = λ q i. adds.each q i ∙ ap (λ z. gain_there before d.nodes decision q +ℤ z) (part q i) }
+
+    -- what a goal gives is within P and its greatest value
+    pub part_small : (goal : ℕ) → IsGoal d.nodes decision goal → (q : World) → InRange (states_of d.nodes) q → nat_abs (goal_part d.nodes p decision goal q) ≤ scope_product d.nodes decision * greatest_abs (node_at d.nodes goal).cells
+    part_small goal is_goal q i = fit.gain goal q is_goal i

@@ -1,0 +1,43 @@
+-- The plan of the rows, read with what it lacks of the scope.
+use Rattle.std.proofs.Common.{◌≡◌, ◌∙◌, ◌↔◌, ℕ, ◌≤◌, Contains, sym, ap, subst}
+use Rattle.cell_rings.specs.Kinds.{mass_kind}
+use Rattle.factor_core.specs.Slots.{table_of}
+use Rattle.maid_model.specs.Diagrams.{greatest_number}
+use Rattle.node_sets.specs.Sets.{IsIn}
+use Rattle.plan_sums.specs.Plans.{PlanView}
+use Rattle.rule_solver.proofs.SettingLemmas.{rows_masses, rows_missing, rows_missing_small, rows_room, rows_total}
+use Rattle.rule_solver.proofs.row_sums.Setting.masses.Goals as goal
+
+pub product_in-factor-requires-clause-fits : goal.product_in-factor-requires-clause-fits
+product_in-factor-requires-clause-fits c =
+    let d = c.args.self.now.diagram.now in
+    let p = c.args.self.now.base.now in
+    subst (λ n. n ≤ greatest_number)
+    (sym (rows_missing d p c.args.self.now.decision c.args.self.now.totals.now c.args.self.now.scope c.requires.setting c.plans_keep_scopes.ensures.decisions c.plans_keep_scopes.ensures.positive c.in_ok-plan.plan.plan c.in_ok-plan.ensures.made.plan c.nodes.result c.difference-left.result c.remove.new.self c.nodes.ensures c.difference-left.ensures c.remove.ensures))
+    (rows_missing_small d p c.args.self.now.decision c.args.self.now.totals.now c.args.self.now.scope c.requires.setting c.plans_keep_scopes.ensures.decisions c.plans_keep_scopes.ensures.positive c.in_ok-plan.plan.plan c.in_ok-plan.ensures.made.plan)
+
+pub run_plan-slot-requires-clause-fits : goal.run_plan-slot-requires-clause-fits
+run_plan-slot-requires-clause-fits c =
+    rows_total c.args.self.now.diagram.now c.args.self.now.base.now c.args.self.now.decision c.args.self.now.totals.now c.args.self.now.scope c.requires.setting c.plans_keep_scopes.ensures.decisions c.plans_keep_scopes.ensures.positive c.in_ok-plan.plan.plan c.in_ok-plan.ensures.made.plan
+
+pub put_masses-requires-clause-scope : goal.put_masses-requires-clause-scope
+put_masses-requires-clause-scope c v =
+    subst (λ (x : PlanView). IsIn c.run_plan-slot.result.scope v ↔ Contains x.keep v) c.in_ok-plan.ensures.made.plan (c.run_plan-slot.ensures.scope v)
+
+pub put_masses-requires-clause-room : goal.put_masses-requires-clause-room
+put_masses-requires-clause-room c =
+    let d = c.args.self.now.diagram.now in
+    let p = c.args.self.now.base.now in
+    rows_room d p c.args.self.now.decision c.args.self.now.totals.now c.args.self.now.scope c.requires.setting c.plans_keep_scopes.ensures.decisions c.plans_keep_scopes.ensures.positive c.in_ok-plan.plan.plan c.in_ok-plan.ensures.made.plan
+    (table_of mass_kind d.nodes c.run_plan-slot.new.work.cells c.run_plan-slot.result) c.run_plan-slot.ensures.cell c.product_in-factor.result
+    (c.product_in-factor.ensures ∙ rows_missing d p c.args.self.now.decision c.args.self.now.totals.now c.args.self.now.scope c.requires.setting c.plans_keep_scopes.ensures.decisions c.plans_keep_scopes.ensures.positive c.in_ok-plan.plan.plan c.in_ok-plan.ensures.made.plan c.nodes.result c.difference-left.result c.remove.new.self c.nodes.ensures c.difference-left.ensures c.remove.ensures)
+
+pub returns-clause-masses : goal.returns-clause-masses
+returns-clause-masses c =
+    let d = c.args.self.now.diagram.now in
+    let p = c.args.self.now.base.now in
+    let both = rows_masses d p c.args.self.now.decision c.args.self.now.totals.now c.args.self.now.scope c.requires.setting c.plans_keep_scopes.ensures.decisions c.plans_keep_scopes.ensures.positive c.in_ok-plan.plan.plan c.in_ok-plan.ensures.made.plan
+        (table_of mass_kind d.nodes c.run_plan-slot.new.work.cells c.run_plan-slot.result) c.run_plan-slot.ensures.cell c.product_in-factor.result
+        (c.product_in-factor.ensures ∙ rows_missing d p c.args.self.now.decision c.args.self.now.totals.now c.args.self.now.scope c.requires.setting c.plans_keep_scopes.ensures.decisions c.plans_keep_scopes.ensures.positive c.in_ok-plan.plan.plan c.in_ok-plan.ensures.made.plan c.nodes.result c.difference-left.result c.remove.new.self c.nodes.ensures c.difference-left.ensures c.remove.ensures)
+        c.plans_sum_scopes.ensures.sums c.put_masses.new.masses c.in_ok-put_masses.ensures.puts in
+    record { count = ?; each = both.0; small = both.1 }
