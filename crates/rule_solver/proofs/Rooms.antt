@@ -1,14 +1,12 @@
 -- Each plan of a run has at most the cells of the run's size.
-use Rattle.std.proofs.Common.{◌≡◌, ◌⊎◌, ◌∙◌, ◌&&◌, ℕ, ◌<◌, ◌≤◌, max, List, [], ◌∷◌, ◌++◌, map, length, true, refl, sym, ap, subst, inl, inr, arith}
+use Rattle.std.proofs.Common.{◌≡◌, ◌⊎◌, ◌∙◌, ◌&&◌, ℕ, ◌≤◌, max, List, [], ◌∷◌, ◌++◌, map, sym, ap, subst, inl, inr, arith}
 use Rattle.std.specs.Prelude.{flat_map}
 use Rattle.std.specs.List.{AllZip}
 use Rattle.std.proofs.lemmas.List.{get_or_default}
 use Rattle.finite_sums.specs.Members.{Among}
 use Rattle.finite_sums.proofs.Members.{among_from_contains, any_is, filter_has}
-use Rattle.maid_model.specs.declared.diagrams.Kind.TheVariants.{Utility}
-use Rattle.maid_model.specs.Graph.{descends}
 use Rattle.maid_model.specs.Laws.{TestsDescent}
-use Rattle.maid_model.specs.Nodes.{IsDecision, agent_of, node_at, numbers_of, owners_of, is_utility, is_utility_of}
+use Rattle.maid_model.specs.Nodes.{IsDecision, agent_of, node_at, numbers_of, owners_of, is_utility}
 use Rattle.maid_model.specs.Placing.{IsRelianceOrder}
 use Rattle.maid_model.specs.Relevance.{IsGoal, ReliesOn}
 use Rattle.maid_model.specs.Views.{NodeView, DiagramView}
@@ -17,9 +15,9 @@ use Rattle.maid_laws.proofs.Rearranged.{number}
 use Rattle.plan_sums.specs.Plans.{PlanView, row_plan, gain_plan, worth_plan}
 use Rattle.size_precheck.specs.declared.sizes.Size.{Size}
 use Rattle.size_precheck.specs.Laws.{OneGreedyOrder, OneSize}
-use Rattle.size_precheck.specs.Sizes.{SizedPlan, IsMade, HasSize, ListsDecisions, IsSizeOfRun, greatest, is_goal, goal_list, utility_list, plan_cells, run_plans}
-use Rattle.rule_solver.specs.Faults.{IsRunSize, IsSmallEnough, KeepsSizes}
-use Rattle.rule_solver.specs.Rooms.{HasAtMost, HasRoom, HasRoomAt}
+use Rattle.size_precheck.specs.Sizes.{IsMade, HasSize, ListsDecisions, IsSizeOfRun, greatest, is_goal, goal_list, utility_list, plan_cells, run_plans}
+use Rattle.rule_solver.specs.Faults.{IsSmallEnough, KeepsSizes}
+use Rattle.rule_solver.specs.Rooms.{HasAtMost, HasRoom}
 use Rattle.rule_solver.proofs.Orders.{order_differs, placed_decision}
 
 -- ---- members of lists of plans

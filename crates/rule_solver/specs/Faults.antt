@@ -1,5 +1,5 @@
 -- What refuses a diagram: the first that applies of the relevance cycle, the weight bound and too large a run.
-use Rattle.std.specs.Prelude.{◌≡◌, ℕ, ◌≤◌, List, Option, Some, None}
+use Rattle.std.specs.Prelude.{ℕ, ◌≤◌, List, Option, Some, None}
 use Rattle.first_fault.specs.Passes.{Pass, ◌▸◌}
 use Rattle.maid_model.specs.declared.limits.TheConstants.{MOST_PLAN_CELLS, MOST_WORK}
 use Rattle.maid_model.specs.Placing.{HasRelianceOrder, IsRelianceCycle, IsRelianceOrder}
