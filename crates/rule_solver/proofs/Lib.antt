@@ -8,6 +8,8 @@ mod Missing
 mod RowLemmas
 mod DecisionLemmas
 mod PlanLemmas
+mod WorthLemmas
+mod StakeLemmas
 mod SumLemmas
 mod AnsweredRules
 mod BaseLemmas
