@@ -13,6 +13,8 @@ mod MassCells
 mod RowLemmas
 mod DecisionLemmas
 mod PlanLemmas
+mod WorthLemmas
+mod StakeLemmas
 mod SumLemmas
 mod SettingLemmas
 mod AnsweredRules

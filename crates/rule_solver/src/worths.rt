@@ -14,12 +14,11 @@ ghost use Rattle.rule_solver.specs.Rooms.{HasAtMost, HasRoomForWorths, IsReady};
 ghost use Rattle.rule_solver.specs.Worths.{HasWorths, IsStake, IsWorth, gain_given, scope_gain_for};
 
 use crate::rows::fraction;
-
 use crate::totals::{list_totals, product_in};
 use cell_rings::Gain;
 use eliminate::{release, run_plan};
 use factor_core::Workspace;
-use maid_model::{Diagram, Kind, Profile, Ratio};
+use maid_model::{Diagram, Kind, Profile, Ratio, descent_is_tested};
 use node_sets::{NodeSet, ancestors};
 use part_laws::{parts_decide, scopes_are_parts};
 use scope_sums::{plans_keep_scopes, plans_sum_scopes};
@@ -126,6 +125,7 @@ impl<'a> Stake<'a> {
         requires owned { is_utility_of self.now.diagram.now.nodes self.now.agent utility ≡ true }
         ensures { result ≡ gain_given self.now.diagram.now.nodes self.now.profile.now self.now.agent self.now.worths.now utility }
     {
+        descent_is_tested();
         plans_keep_scopes();
         let mut planned = ancestors(self.diagram, NodeSet::of(utility));
         planned.remove(utility);
@@ -153,6 +153,7 @@ impl<'a> Stake<'a> {
         ensures small { nat_abs result ≤ greatest_number }
     {
         plans_sum_scopes();
+        plans_keep_scopes();
         let mut gain = 0;
         for v in 0..self.diagram.count() {
             gain += self.given_by(v);

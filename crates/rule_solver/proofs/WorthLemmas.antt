@@ -1,0 +1,101 @@
+-- The plan of a utility's worth: its nodes, and its numbers fit.
+use Rattle.std.proofs.Common.{◌≡◌, ◌≢◌, ◌∙◌, ◌↔◌, ◌&&◌, ◌==◌, ℕ, ◌*◌, ◌^◌, ◌<◌, ◌≤◌, Bool, true, false, not, cond, filter, List, [], ◌∷◌, Contains, length, refl, sym, ap, subst, inl, inr, arith}
+use Rattle.std.specs.List.{list_any, AllZip}
+use Rattle.cell_rings.specs.Rings.{most_size}
+use Rattle.eliminate.specs.Results.{plan_total}
+use Rattle.finite_sums.specs.Members.{Among}
+use Rattle.finite_sums.proofs.Lists.{among_filter}
+use Rattle.finite_sums.proofs.Members.{among_from_contains, any_is, contains_from_among, filter_has}
+use Rattle.maid_model.specs.declared.diagrams.Kind.{Kind}
+use Rattle.maid_model.specs.declared.diagrams.Kind.TheVariants.{Chance, Decision, Utility}
+use Rattle.maid_model.specs.Diagrams.{IsDiagram, greatest_number}
+use Rattle.maid_model.specs.Graph.{Arc, IsPath, Here, Along, Descends, IsGraph, descends}
+use Rattle.maid_model.specs.Laws.{TestsDescent}
+use Rattle.maid_model.specs.Nodes.{Owns, is_utility, is_utility_of, node_at, numbers_of, owners_of, states_of}
+use Rattle.maid_model.specs.Profiles.{IsProfile}
+use Rattle.maid_model.specs.Scopes.{KeepsScopedBounds, scope_for, utilities_for}
+use Rattle.maid_model.specs.Views.{NodeView, DiagramView, RuleView}
+use Rattle.maid_laws.proofs.Rearranged.{number}
+use Rattle.node_sets.specs.declared.sets.NodeSet.{NodeSet}
+use Rattle.node_sets.specs.Sets.{holds, IsIn}
+use Rattle.part_laws.specs.ScopeLaws.{HasUnitRules}
+use Rattle.plan_sums.specs.Plans.{in_plan, plan_nodes, worth_plan}
+use Rattle.factor_core.specs.Slots.{nodes_in}
+use Rattle.scope_sums.specs.Laws.{AgentsScopesFitPlans, MissingIsPositive}
+use Rattle.scope_sums.specs.Missing.{missing_in}
+use Rattle.rule_solver.proofs.PlanLemmas.{worth_fits}
+
+-- ---- the nodes of the plan
+-- nothing passes
+filter_none : (q : ℕ → Bool) (xs : List ℕ) → ((v : ℕ) → q v ≡ true → ⊥) → filter q xs ≡ []
+filter_none q [] h = refl
+filter_none q (x ∷ xs) h = go (q x) (h x) (filter_none q xs h)
+  where
+    go : (b : Bool) {rest : List ℕ} → (b ≡ true → ⊥) → rest ≡ [] → cond b (x ∷ rest) rest ≡ []
+    go true k e = absurd (k refl)
+    go false k e = e
+
+-- a table over no node is picked by no state
+pub no_states : (nodes : List NodeView) (scope : NodeSet) (keep : List ℕ) → keep ≡ [] → ((v : ℕ) → IsIn scope v ↔ Contains keep v) → nodes_in nodes (holds scope) ≡ []
+no_states nodes scope keep none h = filter_none (holds scope) (numbers_of nodes) (λ v t. among_from_contains [] v (subst (λ k. Contains k v) none ((h v).0 t)))
+
+pub all_of_none : (R : ℕ → ℕ → Type 0) (vs : List ℕ) → vs ≡ [] → AllZip R vs []
+all_of_none R vs e = subst (λ v. AllZip R v []) (sym e) tt
+
+-- the ancestors of a utility are its plan's nodes: it is no node of a path of arcs to itself, and no parent is a utility
+module _ (nodes : List NodeView) (g : IsGraph nodes) (tested : TestsDescent) (u : ℕ) where
+  test_of_plan : (v : ℕ) → Descends (Arc nodes) v u → in_plan nodes (worth_plan u) v ≡ true
+  test_of_plan v d = both (is_utility (node_at nodes v).kind) (descends nodes v u) (plain (node_at nodes v).kind (g.no_utility_parent v d.0 d.1)) ((tested nodes v u).1 d)
+    where
+      plain : (k : Kind) → k ≢ Utility → is_utility k ≡ false
+      plain Chance n = refl
+      plain Decision n = refl
+      plain Utility n = absurd (n refl)
+
+      both : (a b : Bool) → a ≡ false → b ≡ true → (not a && list_any (λ t. t) (b ∷ [])) ≡ true
+      both false true e f = refl
+      both false false e f = f
+      both true b e f = sym e
+
+  plan_of_test : (v : ℕ) → in_plan nodes (worth_plan u) v ≡ true → Descends (Arc nodes) v u
+  plan_of_test v t = (tested nodes v u).0 (last (is_utility (node_at nodes v).kind) (descends nodes v u) t)
+    where
+      last : (a b : Bool) → (not a && list_any (λ t. t) (b ∷ [])) ≡ true → b ≡ true
+      last a true e = refl
+      last true false e = e
+      last false false e = e
+
+  pub worth_nodes : (own ancestors planned : NodeSet) → ((v : ℕ) → IsIn own v ↔ (v ≡ u)) → ((v : ℕ) → IsIn ancestors v ↔ ((to : ℕ) × IsIn own to × IsPath (Arc nodes) v to)) → ((v : ℕ) → IsIn planned v ↔ (IsIn ancestors v × (v ≡ u → ⊥)))
+      → (v : ℕ) → IsIn planned v ↔ Contains (plan_nodes nodes (worth_plan u)) v
+  worth_nodes own ancestors planned o a p v = (
+    (λ t. let r = (p v).0 t in let w = (a v).0 r.0 in listed (below (subst (λ x. IsPath (Arc nodes) v x) ((o w.0).0 w.1) w.2) r.1)),
+    (λ c. let d = plan_of_test v (among_filter (in_plan nodes (worth_plan u)) v (numbers_of nodes) (among_from_contains (plan_nodes nodes (worth_plan u)) v c)).1 in
+      (p v).1 ((a v).1 (u, (o u).1 refl, Along d.1 d.2), (λ e. g.acyclic u (subst (λ x. Descends (Arc nodes) x u) e d)))),
+  )
+    where
+      below : {x : ℕ} → IsPath (Arc nodes) x u → (x ≡ u → ⊥) → Descends (Arc nodes) x u
+      below Here n = absurd (n refl)
+      below (Along {u} {v} arc path) n = (v, arc, path)
+
+      listed : Descends (Arc nodes) v u → Contains (plan_nodes nodes (worth_plan u)) v
+      listed d = contains_from_among (plan_nodes nodes (worth_plan u)) v (filter_has (in_plan nodes (worth_plan u)) v (numbers_of nodes) (number nodes v (g.parents_known v d.0 d.1)) (test_of_plan v d))
+
+-- ---- its numbers fit
+-- a utility that an agent owns is one of the agent's
+pub owned_utility : (nodes : List NodeView) (agent u : ℕ) → (node_at nodes u).kind ≡ Utility → Owns nodes agent u → is_utility_of nodes agent u ≡ true
+owned_utility nodes agent u k o = λ i. ap is_utility k i && (any_is agent (owners_of nodes u)).1 o i
+
+pub utility_among : (nodes : List NodeView) (agent u : ℕ) → u < length nodes → is_utility_of nodes agent u ≡ true → Among u (utilities_for nodes agent)
+utility_among nodes agent u l t = filter_has (is_utility_of nodes agent) u (numbers_of nodes) (number nodes u l) t
+
+-- within the bound of its first owner's scope
+pub worth_has_room : (d : DiagramView) (p : List RuleView) → IsDiagram d → IsProfile d.nodes p → HasUnitRules d.nodes p → KeepsScopedBounds d → AgentsScopesFitPlans → MissingIsPositive
+    → (u : ℕ) → u < length d.nodes → (node_at d.nodes u).kind ≡ Utility → 2 * plan_total d.nodes p (worth_plan u) ≤ most_size
+worth_has_room d p is profile unit bounds fit positive u l k =
+    let agent : ℕ = (node_at d.nodes u).owner in
+    let owner : Owns d.nodes agent u = contains_from_among (owners_of d.nodes u) agent (inl refl) in
+    worth_fits d p agent u (missing_in d.nodes p (scope_for d.nodes agent) (worth_plan u))
+    (positive d.nodes p (scope_for d.nodes agent) (worth_plan u) is.graph is.tables profile).0
+    (utility_among d.nodes agent u l (owned_utility d.nodes agent u k owner))
+    (bounds.agents agent (is.owners.agent u agent l (λ e. let f : Utility ≡ Chance = sym k ∙ e in cc) owner))
+    (fit d.nodes p agent u is.graph is.tables profile unit l k owner).tables
