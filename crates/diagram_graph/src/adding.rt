@@ -6,7 +6,7 @@ ghost use Rattle.maid_model.specs.Edits.{with_arc};
 ghost use Rattle.maid_model.specs.Graph.{Arc, IsPath};
 ghost use Rattle.maid_model.specs.Nodes.{IsDecision, node_at};
 ghost use Rattle.diagram_graph.specs.Edited.{with_nodes, with_parents};
-ghost use Rattle.diagram_graph.specs.Room.{RulesFit};
+ghost use Rattle.diagram_graph.specs.Room.{IsTooLarge, RulesFit};
 
 use crate::copies::{copy_nodes, with_nodes};
 use crate::room::{cells_at, rule_cells};
@@ -110,7 +110,7 @@ pub fn add_arc(
     ensures more { IfOk result (λ more. more ≡ with_nodes diagram.now (with_arc diagram.now.nodes from to)) }
     ensures present { IsErrOf result AddFault.Present ↔ Arc diagram.now.nodes from to }
     ensures would_cycle { IsErrOf result AddFault.WouldCycle ↔ IsPath (Arc diagram.now.nodes) to from }
-    ensures too_large { IsErrOf result AddFault.TooLarge ↔ ((Arc diagram.now.nodes from to → ⊥) × (IsPath (Arc diagram.now.nodes) to from → ⊥) × (RulesFit (with_arc diagram.now.nodes from to) to → ⊥)) }
+    ensures too_large { IsErrOf result AddFault.TooLarge ↔ IsTooLarge diagram.now.nodes from to }
 {
     if diagram.parents(to).contains(&from) {
         return Err(AddFault::Present);

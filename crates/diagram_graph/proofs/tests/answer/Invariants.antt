@@ -1,6 +1,5 @@
 use Rattle.std.proofs.Common.{◌≡◌, map, take, ℕ}
 use Rattle.std.specs.Prelude.{None}
-use Rattle.maid_model.specs.declared.answers.Row.{Row}
 use Rattle.diagram_graph.proofs.tests.answer.Given as goal
 
 abbrev pub invariant-loop-choice : goal.invariant-loop-choice
