@@ -1,9 +1,10 @@
 -- The diagram in which other agents' decisions take the answered choices is one.
-use Rattle.std.proofs.Common.{◌≡◌, ◌≢◌, ◌⊎◌, ◌∙◌, ℕ, zero, suc, ◌+◌, ◌*◌, ◌<◌, ◌≤◌, cond, eqb, Bool, true, false, List, [], ◌∷◌, map, flat_map, length, get_or, refl, sym, ap, subst, inl, inr, pos, ◌+ℤ◌, nat_abs, arith, slice_index_or, All}
+use Rattle.std.proofs.Common.{◌≡◌, ◌≢◌, ◌⊎◌, ◌∙◌, ℕ, zero, suc, ◌+◌, ◌*◌, ◌<◌, ◌≤◌, cond, eqb, Bool, true, false, List, [], ◌∷◌, ◌++◌, map, flat_map, length, get_or, refl, sym, ap, subst, inl, inr, pos, ◌+ℤ◌, nat_abs, arith, slice_index_or, All}
 use Rattle.std.specs.List.{range_with_len}
 use Rattle.std.specs.Prelude.{Contains}
 use Rattle.std.proofs.lemmas.Int.{ints}
 use Rattle.std.proofs.lemmas.List.{get_or_past}
+use Rattle.std.proofs.lemmas.List.FromFn.{map-range_with_len_more}
 use Rattle.std.proofs.lemmas.List.Elements.{All-map, All-append, All-nil}
 use Rattle.std.proofs.Math.Path.{fun_ext}
 use Rattle.std.proofs.Math.Decide.{ℕ_discrete, dec_lt}
@@ -15,7 +16,7 @@ use Rattle.maid_model.specs.declared.diagrams.Kind.TheVariants.{Chance, Decision
 use Rattle.maid_model.specs.declared.limits.TheConstants.{MOST_STATES, MOST_PARENTS, MOST_CELLS}
 use Rattle.maid_model.specs.Answers.{rows_at}
 use Rattle.maid_model.specs.Diagrams.{IsDiagram, HasOwners, HasValues, KeepsLimits, greatest_number}
-use Rattle.maid_model.specs.Edits.{as_chance, one_agent}
+use Rattle.maid_model.specs.Edits.{as_chance, fixed_by, one_agent}
 use Rattle.maid_model.specs.Graph.{IsGraph, AllDifferent}
 use Rattle.maid_model.specs.Nodes.{agent_of, is_decision, node_at, states_of, parents_of, owners_of, Owns, numbers_of, rows_of, rows_under}
 use Rattle.maid_model.specs.Profiles.{pure_row}
@@ -24,6 +25,12 @@ use Rattle.maid_model.specs.Views.{NodeView, AnswerView}
 use Rattle.diagram_graph.specs.Room.{cells_at, rule_cells, rule_cells_at}
 use Rattle.diagram_graph.proofs.Filters.{sum_over_le}
 use Rattle.diagram_graph.proofs.RuleCells.{rules_summed}
+
+-- one node more
+pub fixed_more : (nodes : List NodeView) (agent : ℕ) (answers : List AnswerView) (n : ℕ) (made : List NodeView) (node : NodeView)
+    → made ≡ map (λ v. fixed_by (node_at nodes v).kind nodes agent answers v) (range_with_len 0 n) → node ≡ fixed_by (node_at nodes n).kind nodes agent answers n
+    → made ++ node ∷ [] ≡ map (λ v. fixed_by (node_at nodes v).kind nodes agent answers v) (range_with_len 0 (n + 1))
+fixed_more nodes agent answers n made node e f = (λ i. e i ++ f i ∷ []) ∙ sym (map-range_with_len_more (λ v. fixed_by (node_at nodes v).kind nodes agent answers v) 0 n n (omega arith))
 
 -- ---- weights of 0 and 1
 few_weights : (n : ℕ) (choices : List ℕ) → All (λ w. w ≤ 1) (flat_map (pure_row n) choices)

@@ -3,6 +3,8 @@ use Rattle.std.specs.Prelude.{ℕ, ◌*◌, ◌≤◌, List, length, if◌then�
 use Rattle.maid_model.specs.declared.limits.TheConstants.{MOST_PARENTS, MOST_CELLS, MOST_RULE_CELLS}
 use Rattle.maid_model.specs.Views.{NodeView}
 use Rattle.maid_model.specs.Nodes.{node_at, is_decision, states_of, parents_of, rows_of, decisions_of}
+use Rattle.maid_model.specs.Graph.{Arc, IsPath}
+use Rattle.maid_model.specs.Edits.{with_arc}
 use Rattle.finite_sums.specs.Sums.{nat_sum_over}
 
 -- the cells of v's table or rule: one for each row and state
@@ -22,3 +24,9 @@ pub record RulesFit (nodes : List NodeView) (d : ℕ) : Type 0 where
   pub parents : length (parents_of nodes d) ≤ MOST_PARENTS
   pub cells : cells_at nodes d ≤ MOST_CELLS
   pub all : rule_cells nodes ≤ MOST_RULE_CELLS
+
+-- the arc from x to d is not there and closes no cycle, but makes too much of the rules
+pub record IsTooLarge (nodes : List NodeView) (x d : ℕ) : Type 0 where
+  pub absent : Arc nodes x d → ⊥
+  pub no_cycle : IsPath (Arc nodes) d x → ⊥
+  pub too_much : RulesFit (with_arc nodes x d) d → ⊥

@@ -6,9 +6,9 @@ ghost use Rattle.maid_model.specs.Edits.{with_arc};
 ghost use Rattle.maid_model.specs.Graph.{Arc, IsPath};
 ghost use Rattle.maid_model.specs.Nodes.{IsDecision, node_at};
 ghost use Rattle.diagram_graph.specs.Edited.{with_nodes, with_parents};
-ghost use Rattle.diagram_graph.specs.Room.{RulesFit};
+ghost use Rattle.diagram_graph.specs.Room.{IsTooLarge, RulesFit};
 
-use crate::copies::copy_nodes;
+use crate::copies::{copy_nodes, with_nodes};
 use crate::room::{cells_at, rule_cells};
 use maid_model::{Diagram, MOST_CELLS, MOST_PARENTS, MOST_RULE_CELLS, Node};
 use node_sets::{NodeSet, descendants};
@@ -80,7 +80,8 @@ fn has_room(diagram: &Diagram, from: usize, to: usize) -> bool
     requires from { from < length diagram.now.nodes }
     ensures { IsTrue result ↔ RulesFit (with_arc diagram.now.nodes from to) to }
 {
-    if diagram.parents(to).len() == MOST_PARENTS {
+    let seen = diagram.parents(to).len();
+    if seen >= MOST_PARENTS {
         return false;
     }
     let cells = cells_at(diagram, to);
@@ -109,7 +110,7 @@ pub fn add_arc(
     ensures more { IfOk result (λ more. more ≡ with_nodes diagram.now (with_arc diagram.now.nodes from to)) }
     ensures present { IsErrOf result AddFault.Present ↔ Arc diagram.now.nodes from to }
     ensures would_cycle { IsErrOf result AddFault.WouldCycle ↔ IsPath (Arc diagram.now.nodes) to from }
-    ensures too_large { IsErrOf result AddFault.TooLarge ↔ ((Arc diagram.now.nodes from to → ⊥) × (IsPath (Arc diagram.now.nodes) to from → ⊥) × (RulesFit (with_arc diagram.now.nodes from to) to → ⊥)) }
+    ensures too_large { IsErrOf result AddFault.TooLarge ↔ IsTooLarge diagram.now.nodes from to }
 {
     if diagram.parents(to).contains(&from) {
         return Err(AddFault::Present);
@@ -122,5 +123,5 @@ pub fn add_arc(
     }
     let mut nodes = copy_nodes(alloc, diagram)?;
     put_arc(&mut nodes, from, to)?;
-    Ok(Diagram::from_nodes(nodes, diagram.agents(), diagram.decimals()))
+    Ok(with_nodes(diagram, nodes))
 }

@@ -6,7 +6,7 @@ ghost use Rattle.maid_model.specs.Graph.{Arc};
 ghost use Rattle.maid_model.specs.Nodes.{IsDecision};
 ghost use Rattle.diagram_graph.specs.Edited.{with_nodes, without_parent};
 
-use crate::copies::copy_nodes;
+use crate::copies::{copy_nodes, with_nodes};
 use arc_laws::arc_removed;
 use maid_model::{Diagram, Node};
 use smallvec::SmallVec;
@@ -74,5 +74,5 @@ pub fn remove_arc(
     }
     let mut nodes = copy_nodes(alloc, diagram)?;
     drop_arc(&mut nodes, from, to);
-    Ok(Diagram::from_nodes(nodes, diagram.agents(), diagram.decimals()))
+    Ok(with_nodes(diagram, nodes))
 }

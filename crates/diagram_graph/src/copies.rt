@@ -1,6 +1,8 @@
-//! Copies of diagrams.
+//! Copies of diagrams, and diagrams with other nodes.
 
 ghost use Rattle.std.specs.Prelude.{◌≡◌, IfOk};
+ghost use Rattle.maid_model.specs.Diagrams.{IsDiagram};
+ghost use Rattle.diagram_graph.specs.Edited.{with_nodes};
 
 use maid_model::{Diagram, Node};
 use smallvec::SmallVec;
@@ -29,6 +31,14 @@ pub(crate) fn copy_nodes(alloc: Global, diagram: &Diagram) -> Result<Vec<Node>, 
         nodes.push(copy_node(alloc, diagram.node(v))?)?;
     }
     Ok(nodes)
+}
+
+/// The diagram with these nodes in place of its own.
+pub(crate) fn with_nodes(diagram: &Diagram, nodes: Vec<Node>) -> Diagram
+    requires { IsDiagram (with_nodes diagram.now nodes.items) }
+    ensures { result ≡ with_nodes diagram.now nodes.items }
+{
+    Diagram::from_nodes(nodes, diagram.agents(), diagram.decimals())
 }
 
 /// A copy of the diagram. It takes the time and the memory of all cells.

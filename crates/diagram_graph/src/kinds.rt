@@ -11,7 +11,7 @@ ghost use Rattle.maid_model.specs.Profiles.{pure_row};
 ghost use Rattle.diagram_graph.specs.Edited.{with_nodes};
 ghost use Rattle.diagram_graph.specs.Room.{rule_cells};
 
-use crate::copies::{copy_node, copy_nodes};
+use crate::copies::{copy_node, copy_nodes, with_nodes};
 use crate::room::{cells_at, rule_cells};
 use arc_laws::{answer_is_optimum, controlled};
 use maid_model::{Answer, Diagram, Kind, MOST_RULE_CELLS, Node, Row, Solved};
@@ -84,13 +84,14 @@ pub fn make_decision(
 {
     controlled();
     let _count = diagram.count();
-    if rule_cells(diagram) + cells_at(diagram, node) > MOST_RULE_CELLS {
+    let cells = rule_cells(diagram) + cells_at(diagram, node);
+    if cells > MOST_RULE_CELLS {
         return Err(MakeFault::TooLarge);
     }
     let mut nodes = copy_nodes(alloc, diagram)?;
     let made = decision_node(alloc, diagram, node, agent)?;
     put(&mut nodes, node, made);
-    Ok(Diagram::from_nodes(nodes, diagram.agents(), diagram.decimals()))
+    Ok(with_nodes(diagram, nodes))
 }
 
 /// The rows answered at the decision, none where it has no answer.
@@ -192,5 +193,5 @@ pub fn fix_others(
     for v in 0..diagram.count() {
         nodes.push(fixed_node(alloc, diagram, agent, &solved.answers, v)?)?;
     }
-    Ok(Diagram::from_nodes(nodes, diagram.agents(), diagram.decimals()))
+    Ok(with_nodes(diagram, nodes))
 }

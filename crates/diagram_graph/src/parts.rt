@@ -9,6 +9,7 @@ ghost use Rattle.maid_model.specs.Nodes.{numbers_of};
 ghost use Rattle.maid_model.specs.Parts.{IsAncestral, with_ancestors, place_in, renumbered, part_of, part_diagram};
 ghost use Rattle.diagram_graph.specs.Edited.{with_parents};
 
+use crate::copies::with_nodes;
 use maid_model::{Diagram, MOST_NODES, Node};
 use node_sets::{NodeSet, ancestors};
 use part_laws::parts_are_diagrams;
@@ -130,7 +131,7 @@ pub fn part(alloc: Global, diagram: &Diagram, of: &[usize]) -> Result<SubDiagram
     let kept = kept_nodes(alloc, diagram, of)?;
     let nodes = part_nodes(alloc, diagram, &kept)?;
     Ok(SubDiagram {
-        diagram: Diagram::from_nodes(nodes, diagram.agents(), diagram.decimals()),
+        diagram: with_nodes(diagram, nodes),
         nodes: kept,
     })
 }

@@ -1,10 +1,10 @@
 //! A small diagram, and what the calls make of it.
 
 ghost use Rattle.std.specs.Prelude.{◌≡◌, [], IfOk};
-ghost use Rattle.diagram_graph.specs.Example.{example};
+ghost use Rattle.diagram_graph.specs.Example.{example, answer_of, answers};
 
-use crate::{AddFault, RemoveFault, add_arc, make_decision, part, remove_arc};
-use maid_model::{Diagram, Kind, Node, literals_are_tested};
+use crate::{AddFault, RemoveFault, add_arc, fix_others, make_decision, part, remove_arc};
+use maid_model::{Answer, Diagram, Kind, Node, Row, Solved, literals_are_tested};
 use smallvec::SmallVec;
 use std::alloc::{AllocError, Global};
 use std::test::Fail;
@@ -75,5 +75,45 @@ fn adds_an_arc_and_gives_control(rt: HostRuntime) -> Result<(), Fail> {
     assert!(rt; made.kind(1) == Kind::Decision);
     assert_eq!(rt; made.agent_of(1), 1);
     assert!(rt; made.cells(1).is_empty());
+    Ok(())
+}
+
+fn answer(alloc: Global, decision: usize, choices: &[usize]) -> Result<Answer, AllocError>
+    ensures { IfOk result (λ a. a ≡ answer_of decision choices.now) }
+{
+    let mut rows = Vec::new(alloc);
+    for choice in choices {
+        rows.push(Row {
+            choice: *choice,
+            worth: None,
+        })?;
+    }
+    Ok(Answer { decision, rows })
+}
+
+/// The first decision takes its first state, and the rival's its second one, then its first.
+fn solved(alloc: Global) -> Result<Solved, AllocError>
+    ensures { IfOk result (λ s. s.answers ≡ answers) }
+{
+    let mut answers = Vec::new(alloc);
+    answers.push(answer(alloc, 3, &[1, 0])?)?;
+    answers.push(answer(alloc, 2, &[0, 0, 0, 0])?)?;
+    Ok(Solved {
+        order: Vec::new(alloc),
+        answers,
+        gains: Vec::new(alloc),
+    })
+}
+
+#[test]
+fn fixes_the_rivals_decision(rt: HostRuntime) -> Result<(), Fail> {
+    let alloc = rt.alloc();
+    let whole = diagram(alloc)?;
+    let solved = solved(alloc)?;
+    let alone = fix_others(alloc, &whole, 0, &solved)?;
+    assert!(rt; alone.kind(2) == Kind::Decision);
+    assert!(rt; alone.kind(3) == Kind::Chance);
+    assert_eq!(rt; alone.cells(3), [0, 1, 1, 0].as_slice());
+    assert_eq!(rt; alone.parents(3), [1].as_slice());
     Ok(())
 }

@@ -1,53 +1,53 @@
-use Rattle.std.proofs.Common.{◌≡◌, ◌∙◌, sym, subst, refl, arith, rules, slice_set, ◌≤◌}
+use Rattle.std.proofs.Common.{List, ◌≡◌, ◌∙◌, sym, subst, refl, arith, rules, slice_set, ◌≤◌}
 use Rattle.maid_model.specs.declared.limits.TheConstants.{MOST_RULE_CELLS}
 use Rattle.maid_model.specs.Diagrams.{IsDiagram}
 use Rattle.maid_model.specs.Edits.{as_decision}
+use Rattle.maid_model.specs.Views.{NodeView}
+use Rattle.diagram_graph.specs.Edited.{with_nodes}
 use Rattle.diagram_graph.specs.Room.{rule_cells}
 use Rattle.diagram_graph.proofs.Deciding.{rules_grow, made_kept}
 use Rattle.diagram_graph.proofs.kinds.make_decision.Goals as goal
 
-pub returns-then-rule_cells-cells_at-gt-MOST_RULE_CELLS-clause-too_large :
-    goal.returns-then-rule_cells-cells_at-gt-MOST_RULE_CELLS-clause-too_large
-returns-then-rule_cells-cells_at-gt-MOST_RULE_CELLS-clause-too_large c =
+pub returns-then-cells-gt-MOST_RULE_CELLS-clause-too_large :
+    goal.returns-then-cells-gt-MOST_RULE_CELLS-clause-too_large
+returns-then-cells-gt-MOST_RULE_CELLS-clause-too_large c =
     let grown = rules_grow c.args.diagram.now.nodes c.args.agent c.args.node c.requires.chance in
     let all = c.rule_cells.ensures in
     let here = c.cells_at.ensures.cells in
-    let many = c.if-rule_cells-cells_at-gt-MOST_RULE_CELLS.true in ((λ e. omega arith), (λ l. refl))
+    let many = c.if-cells-gt-MOST_RULE_CELLS.true in ((λ e. omega arith), (λ l. refl))
 
 pub returns-in_err-nodes-clause-too_large : goal.returns-in_err-nodes-clause-too_large
 returns-in_err-nodes-clause-too_large c =
     let grown = rules_grow c.args.diagram.now.nodes c.args.agent c.args.node c.requires.chance in
     let all = c.rule_cells.ensures in
     let here = c.cells_at.ensures.cells in
-    let few = c.if-rule_cells-cells_at-gt-MOST_RULE_CELLS.false in (search rules, (λ l. absurd (omega arith)))
+    let few = c.if-cells-gt-MOST_RULE_CELLS.false in (search rules, (λ l. absurd (omega arith)))
 
 pub returns-in_err-made-clause-too_large : goal.returns-in_err-made-clause-too_large
 returns-in_err-made-clause-too_large c =
     let grown = rules_grow c.args.diagram.now.nodes c.args.agent c.args.node c.requires.chance in
     let all = c.rule_cells.ensures in
     let here = c.cells_at.ensures.cells in
-    let few = c.if-rule_cells-cells_at-gt-MOST_RULE_CELLS.false in (search rules, (λ l. absurd (omega arith)))
+    let few = c.if-cells-gt-MOST_RULE_CELLS.false in (search rules, (λ l. absurd (omega arith)))
 
 pub returns-clause-too_large : goal.returns-clause-too_large
 returns-clause-too_large c =
     let grown = rules_grow c.args.diagram.now.nodes c.args.agent c.args.node c.requires.chance in
     let all = c.rule_cells.ensures in
     let here = c.cells_at.ensures.cells in
-    let few = c.if-rule_cells-cells_at-gt-MOST_RULE_CELLS.false in (search rules, (λ l. absurd (omega arith)))
+    let few = c.if-cells-gt-MOST_RULE_CELLS.false in (search rules, (λ l. absurd (omega arith)))
 
-pub from_nodes-requires : goal.from_nodes-requires
-from_nodes-requires c =
+pub with_nodes-requires : goal.with_nodes-requires
+with_nodes-requires c =
     let diagram = c.args.diagram.now in
     let x = c.args.node in
     let agent = c.args.agent in
-    let is_diagram = c.agents.ensures.diagram in
+    let is_diagram = c.count-count.ensures.diagram in
     let kept = c.controlled.ensures.kept diagram.nodes agent x is_diagram.graph is_diagram.tables c.requires.chance in
     let fit : rule_cells (as_decision diagram.nodes agent x) ≤ MOST_RULE_CELLS =
     let grown = rules_grow diagram.nodes agent x c.requires.chance in
     let all = c.rule_cells.ensures in
     let here = c.cells_at.ensures.cells in
-    let few = c.if-rule_cells-cells_at-gt-MOST_RULE_CELLS.false in omega arith in
+    let few = c.if-cells-gt-MOST_RULE_CELLS.false in omega arith in
     let nodes : c.put.new.nodes.items ≡ as_decision diagram.nodes agent x = c.put.ensures ∙ (λ i. slice_set (c.in_ok-nodes.ensures i) x (c.in_ok-made.ensures i)) in
-    let is : record { nodes = c.put.new.nodes.items; agents = c.agents.result; decimals = c.decimals.result } ≡ record { nodes = as_decision diagram.nodes agent x; agents = diagram.agents; decimals = diagram.decimals } =
-    λ i. record { nodes = nodes i; agents = c.agents.ensures.agents i; decimals = c.decimals.ensures.decimals i } in
-    subst IsDiagram (sym is) (made_kept diagram.nodes agent x c.requires.chance diagram.agents diagram.decimals c.requires.agent kept.0 kept.1 fit is_diagram)
+    subst (λ (ns : List NodeView). IsDiagram (with_nodes diagram ns)) (sym nodes) (made_kept diagram.nodes agent x c.requires.chance diagram.agents diagram.decimals c.requires.agent kept.0 kept.1 fit is_diagram)

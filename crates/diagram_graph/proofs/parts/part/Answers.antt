@@ -1,6 +1,8 @@
 use Rattle.std.proofs.Common.{◌≡◌, ◌∙◌, List, ℕ, ap, sym, subst}
 use Rattle.maid_model.specs.Diagrams.{IsDiagram}
-use Rattle.maid_model.specs.Parts.{IsAncestral, with_ancestors, part_of, part_diagram}
+use Rattle.maid_model.specs.Parts.{IsAncestral, with_ancestors, part_of}
+use Rattle.maid_model.specs.Views.{NodeView}
+use Rattle.diagram_graph.specs.Edited.{with_nodes}
 use Rattle.diagram_graph.proofs.parts.part.Goals as goal
 
 pub part_nodes-requires : goal.part_nodes-requires
@@ -9,14 +11,12 @@ part_nodes-requires c =
     let closed = (c.parts_are_diagrams.ensures.ancestors nodes c.args.of.now c.count-count.ensures.diagram.graph c.requires).0 in
     subst (λ (l : List ℕ). IsAncestral nodes l) (sym (c.deref.ensures.value ∙ c.in_ok-kept.ensures)) closed
 
-pub from_nodes-requires : goal.from_nodes-requires
-from_nodes-requires c =
+pub with_nodes-requires : goal.with_nodes-requires
+with_nodes-requires c =
     let d = c.args.diagram.now in
-    let is_diagram = c.agents.ensures.diagram in
+    let is_diagram = c.count-count.ensures.diagram in
     let law = c.parts_are_diagrams.ensures in
     let closed = (law.ancestors d.nodes c.args.of.now is_diagram.graph c.requires).0 in
     let kept : c.deref.result.now ≡ with_ancestors d.nodes c.args.of.now = c.deref.ensures.value ∙ c.in_ok-kept.ensures in
     let nodes : c.in_ok-nodes.nodes.items ≡ part_of d.nodes (with_ancestors d.nodes c.args.of.now) = c.in_ok-nodes.ensures ∙ ap (part_of d.nodes) kept in
-    let is : record { nodes = c.in_ok-nodes.nodes.items; agents = c.agents.result; decimals = c.decimals.result } ≡ part_diagram d (with_ancestors d.nodes c.args.of.now) =
-    λ i. record { nodes = nodes i; agents = c.agents.ensures.agents i; decimals = c.decimals.ensures.decimals i } in
-    subst IsDiagram (sym is) (law.diagram d (with_ancestors d.nodes c.args.of.now) is_diagram closed)
+    subst (λ (ns : List NodeView). IsDiagram (with_nodes d ns)) (sym nodes) (law.diagram d (with_ancestors d.nodes c.args.of.now) is_diagram closed)
