@@ -1,16 +1,16 @@
 -- The first tables of a plan, one after another.
-use Rattle.std.proofs.Common.{◌≡◌, ◌∙◌, ℕ, zero, suc, ◌+◌, ◌-◌, ◌<◌, ◌≤◌, Bool, true, false, cond, map, filter, List, [], ◌∷◌, ◌++◌, length, take, refl, sym, ap, subst, arith, append_assoc, Option, Some, option_to_list}
+use Rattle.std.proofs.Common.{◌≡◌, ◌∙◌, ℕ, suc, ◌+◌, ◌-◌, ◌<◌, ◌≤◌, Bool, true, false, cond, map, filter, List, [], ◌∷◌, ◌++◌, length, take, refl, ap, subst, arith, append_assoc, Option, Some, option_to_list}
 use Rattle.std.specs.List.{range_with_len, sum_by}
 use Rattle.std.proofs.lemmas.List.{length-append, length-take-le}
 use Rattle.std.proofs.lemmas.List.Sums.{sum_by-cons}
 use Rattle.maid_model.specs.Nodes.{states_of}
 use Rattle.maid_model.specs.Views.{NodeView, RuleView}
-use Rattle.ring_sums.specs.Tables.{Table, IsSame}
+use Rattle.ring_sums.specs.Tables.{IsSame}
 use Rattle.plan_sums.specs.Plans.{Cells}
 use Rattle.factor_core.specs.declared.slots.Slot.{Slot}
 use Rattle.factor_core.specs.Operations.{first_table}
 use Rattle.factor_core.specs.Slots.{WorkspaceView, tables_of}
-use Rattle.eliminate.specs.Steps.{PutsTable, Stand, Lists, first_cells}
+use Rattle.eliminate.specs.Steps.{PutsTable, Lists, first_cells}
 use Rattle.eliminate.proofs.Standing.{zip_length, map_length, start_stand, more_stands}
 
 module _ {C : Type 0} (c : Cells C) (nodes : List NodeView) (p : List RuleView) where
