@@ -49,9 +49,9 @@ fn eliminate<C: Cell>(
 
 /// Runs the plan: makes its first tables, eliminates its nodes in their order, and multiplies the tables that are left
 /// (variable elimination: Zhang and Poole 1996). The slot is over the kept nodes, the lowest slowest, and in each world
-/// its cell is the sum, over the states of the plan's other nodes, of the product of the plan's tables. The plan's cells
-/// must be within the room that is left, and as many are appended. It multiplies and adds cells about as often as the
-/// plan's work counts, and takes no memory.
+/// its cell is the sum, over the states of the plan's other nodes, of the product of the plan's tables. The plan's cells,
+/// of which the count has not stopped, must be within the room that is left, and as many are appended. It multiplies and
+/// adds cells about as often as the plan's work counts, and takes no memory.
 pub fn run_plan<C: Cell>(
     work: &mut Workspace<C>,
     plan: &Plan,
