@@ -9,7 +9,7 @@ use Rattle.ring_sums.specs.Tables.{IsSame}
 use Rattle.plan_sums.specs.Plans.{Cells}
 use Rattle.factor_core.specs.declared.slots.Slot.{Slot}
 use Rattle.factor_core.specs.Operations.{first_table}
-use Rattle.factor_core.specs.Slots.{WorkspaceView, tables_of}
+use Rattle.factor_core.specs.Slots.{WorkspaceView, table_of, tables_of}
 use Rattle.eliminate.specs.Steps.{PutsTable, Lists, first_cells}
 use Rattle.eliminate.proofs.Standing.{zip_length, map_length, start_stand, more_stands}
 
@@ -41,7 +41,7 @@ module _ {C : Type 0} (c : Cells C) (nodes : List NodeView) (p : List RuleView) 
       omega (
         arith,
         zip_length (IsSame (states_of nodes)) _ l.tables l.stand.same,
-        map_length (Rattle.factor_core.specs.Slots.table_of c.ring nodes now.cells) slots,
+        map_length (table_of c.ring nodes now.cells) slots,
         ap length l.leads,
         length-append l.tables (map (first_table c nodes p) rest),
         map_length (first_table c nodes p) rest,
