@@ -1,5 +1,5 @@
 -- One step of a plan: what it asks is there, and what it makes leads on.
-use Rattle.std.proofs.Common.{◌≡◌, ◌∙◌, ℕ, ◌+◌, ◌<◌, ◌≤◌, Bool, not, ◌&&◌, ◌||◌, eqb, map, filter, List, [], ◌∷◌, ◌++◌, length, drop, slice_index, drop-cons, suc, refl, sym, ap, subst, arith, All}
+use Rattle.std.proofs.Common.{◌≡◌, ◌∙◌, ℕ, ◌+◌, ◌<◌, ◌≤◌, Bool, not, ◌&&◌, ◌||◌, eqb, map, List, [], ◌∷◌, length, drop, slice_index, drop-cons, suc, refl, sym, ap, subst, arith}
 use Rattle.std.specs.List.{list_any, AllZip}
 use Rattle.std.proofs.Math.Path.{fun_ext}
 use Rattle.node_sets.specs.Sets.{holds}
@@ -7,8 +7,8 @@ use Rattle.maid_model.specs.declared.limits.TheConstants.{COUNT_END}
 use Rattle.maid_model.specs.Nodes.{states_of}
 use Rattle.maid_model.specs.Views.{NodeView}
 use Rattle.cell_rings.specs.Rings.{Ring, IsRing}
-use Rattle.ring_sums.specs.Groups.{JoinFits, StepsFit, StepsHold}
-use Rattle.ring_sums.specs.Tables.{Table, IsSame, with_node, without_node, sum_out, eliminate_one, eliminate, scopes_of, joined_without, scopes_one}
+use Rattle.ring_sums.specs.Groups.{JoinFits}
+use Rattle.ring_sums.specs.Tables.{Table, IsSame, with_node, without_node, sum_out, eliminate_one, scopes_of, joined_without, scopes_one}
 use Rattle.ring_sums.proofs.Each.{zip_filter}
 use Rattle.ring_sums.proofs.Same.{map_filter, same_out, fits_same, holds_same, makes_scopes_at}
 use Rattle.factor_core.specs.declared.slots.Slot.{Slot}
@@ -16,7 +16,7 @@ use Rattle.factor_core.specs.Slots.{WorkspaceView, cells_over, IsLive, table_of,
 use Rattle.size_precheck.specs.Counts.{counted_cells}
 use Rattle.size_precheck.specs.Greedy.{holding}
 use Rattle.size_precheck.specs.Sizes.{made_cells}
-use Rattle.eliminate.specs.Steps.{slots_with, slots_without, PutsTable, CanJoinOut, Stand, Between}
+use Rattle.eliminate.specs.Steps.{slots_with, slots_without, PutsTable, CanJoinOut, Between}
 use Rattle.eliminate.proofs.Sizes.{cells_exact}
 use Rattle.eliminate.proofs.Standing.{map_length, more_stands}
 use Rattle.eliminate.proofs.Stepping.{all_filter}

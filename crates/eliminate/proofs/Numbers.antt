@@ -1,8 +1,7 @@
 -- The numbers of a plan's first tables fit, since each is at most its table's total.
-use Rattle.std.proofs.Common.{◌≡◌, ◌≢◌, ◌∙◌, ◌⊎◌, ℕ, zero, suc, ◌+◌, ◌-◌, ◌*◌, ◌<◌, ◌≤◌, max, map, List, [], ◌∷◌, ◌++◌, length, get_or, refl, sym, ap, subst, inl, inr, arith, All, Option, Some, None, option_to_list, ℤ, pos, nat_abs, ◌+ℤ◌, ◌≤ℤ◌, le_trans, mul-le-mul, mul-add, add-mul, suc-mul}
-use Rattle.std.specs.Prelude.{slice_index_or}
+use Rattle.std.proofs.Common.{◌≡◌, ◌≢◌, ◌⊎◌, ℕ, zero, suc, ◌+◌, ◌-◌, ◌*◌, ◌<◌, ◌≤◌, max, map, List, [], ◌∷◌, length, get_or, refl, sym, ap, subst, inl, inr, arith, All, Option, Some, None, ℤ, pos, nat_abs, ◌+ℤ◌, ◌≤ℤ◌, le_trans, suc-mul}
 use Rattle.std.proofs.lemmas.Int.{ints}
-use Rattle.std.proofs.lemmas.List.{get_or_default, length-map}
+use Rattle.std.proofs.lemmas.List.{get_or_default}
 use Rattle.std.proofs.lemmas.Nat.{mul-le}
 use Rattle.finite_sums.specs.Members.{Among}
 use Rattle.finite_sums.specs.Sums.{sum_below, nat_product_over}

@@ -1,6 +1,5 @@
 -- The nodes of a plan's first tables: by the set that the code makes, and how many they are.
-use Rattle.std.proofs.Common.{◌≡◌, ◌≢◌, ◌∙◌, ◌⊎◌, ◌↔◌, ℕ, zero, suc, ◌+◌, ◌<◌, ◌≤◌, Bool, true, false, not, ◌&&◌, ◌||◌, filter, List, [], ◌∷◌, ◌++◌, length, refl, sym, ap, subst, inl, inr, arith, Option, Some, None, option_to_list, Contains}
-use Rattle.std.specs.List.{range_with_len}
+use Rattle.std.proofs.Common.{◌≡◌, ◌≢◌, ◌∙◌, ◌⊎◌, ◌↔◌, ℕ, ◌+◌, ◌<◌, ◌≤◌, Bool, true, false, not, ◌&&◌, ◌||◌, filter, List, [], ◌∷◌, ◌++◌, length, refl, sym, ap, subst, inl, inr, arith, Option, Some, None, option_to_list, Contains}
 use Rattle.std.proofs.lemmas.List.{length-append}
 use Rattle.std.proofs.lemmas.List.Filters.{length-filter_both}
 use Rattle.std.proofs.lemmas.List.FromFn.{length-range_with_len}
@@ -15,7 +14,7 @@ use Rattle.maid_laws.proofs.Tied.{kind_within}
 use Rattle.node_sets.specs.declared.sets.NodeSet.{NodeSet}
 use Rattle.node_sets.specs.Sets.{holds, IsIn}
 use Rattle.plan_sums.specs.Laws.{IsOrderOfPlan}
-use Rattle.plan_sums.specs.Plans.{PlanView, has, in_plan, plan_nodes, eliminated_nodes, ruled_nodes}
+use Rattle.plan_sums.specs.Plans.{PlanView, has, in_plan, plan_nodes, ruled_nodes}
 use Rattle.plan_sums.specs.Sizes.{IsPlan}
 use Rattle.plan_sums.proofs.Filters.{filter_cong, filter_filter, has_yes, has_member}
 use Rattle.plan_sums.proofs.Sized.{option_has, has_option, in_plan_kind, ruled_in}

@@ -1,5 +1,5 @@
 -- The sample is a diagram, and the plan of its decision's states may be asked for. Only the tests cite this file.
-use Rattle.std.proofs.Common.{◌≡◌, ◌≢◌, ◌∙◌, ℕ, ◌<◌, [], ◌∷◌, length, refl, sym, ap, subst, inl, inr, arith, Some, Contains}
+use Rattle.std.proofs.Common.{◌≡◌, ◌≢◌, ◌∙◌, ℕ, ◌<◌, [], ◌∷◌, length, refl, sym, ap, subst, inl, inr, arith, Some}
 use Rattle.finite_sums.proofs.Members.{among_from_contains, contains_from_among}
 use Rattle.finite_sums.specs.Members.{Among}
 use Rattle.maid_model.specs.declared.diagrams.Kind.TheVariants.{Utility}

@@ -1,12 +1,12 @@
 -- Counts that did not stop are exact.
-use Rattle.std.proofs.Common.{◌≡◌, ◌∙◌, ℕ, zero, suc, ◌+◌, ◌*◌, ◌<◌, ◌≤◌, min, Bool, true, false, cond, map, filter, List, [], ◌∷◌, ◌++◌, refl, sym, ap, subst, arith, Contains, option_to_list}
+use Rattle.std.proofs.Common.{◌≡◌, ◌∙◌, ℕ, ◌+◌, ◌*◌, ◌<◌, Bool, true, false, cond, filter, List, [], ◌∷◌, refl, sym, ap, arith}
 use Rattle.std.specs.List.{sum_by}
 use Rattle.std.proofs.lemmas.List.Sums.{sum_by-cons}
 use Rattle.finite_sums.specs.Sums.{nat_product_over}
 use Rattle.maid_model.specs.declared.limits.TheConstants.{COUNT_END}
 use Rattle.maid_model.specs.Bounds.{stopped}
 use Rattle.maid_model.specs.Nodes.{states_of, numbers_of, rows_under}
-use Rattle.maid_model.specs.Views.{NodeView, RuleView}
+use Rattle.maid_model.specs.Views.{NodeView}
 use Rattle.factor_core.specs.Slots.{cells_over}
 use Rattle.size_precheck.specs.Counts.{counted_cells}
 

@@ -1,17 +1,16 @@
 -- Tables that stand in a workspace, one more at a time.
-use Rattle.std.proofs.Common.{◌≡◌, ◌∙◌, ℕ, suc, ◌+◌, ◌<◌, ◌≤◌, Bool, map, filter, List, [], ◌∷◌, ◌++◌, length, take, refl, sym, ap, subst, arith, All}
+use Rattle.std.proofs.Common.{◌≡◌, ◌∙◌, ℕ, suc, ◌+◌, map, List, [], ◌∷◌, ◌++◌, length, take, refl, sym, ap, subst, arith, All}
 use Rattle.std.specs.List.{AllZip}
 use Rattle.std.proofs.Math.Path.{fun_ext}
 use Rattle.std.proofs.lemmas.List.{take-take, take_all}
-use Rattle.node_sets.specs.Sets.{holds}
 use Rattle.maid_model.specs.Nodes.{states_of}
 use Rattle.maid_model.specs.Views.{NodeView}
 use Rattle.cell_rings.specs.Rings.{Ring}
 use Rattle.ring_sums.proofs.Each.{Each, each_of, all_of, each_append, each_map, zip_append}
-use Rattle.ring_sums.proofs.Same.{map_append, same_both}
+use Rattle.ring_sums.proofs.Same.{map_append}
 use Rattle.ring_sums.specs.Tables.{Table, IsSame}
 use Rattle.factor_core.specs.declared.slots.Slot.{Slot}
-use Rattle.factor_core.specs.Slots.{WorkspaceView, cells_over, IsLive, table_of, tables_of, Appends, AppendsTable, StaysLive}
+use Rattle.factor_core.specs.Slots.{WorkspaceView, cells_over, IsLive, table_of, tables_of, Appends, StaysLive}
 use Rattle.eliminate.specs.Steps.{PutsTable, Stand}
 
 -- lists of pairs have one length

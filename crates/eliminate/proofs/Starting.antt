@@ -1,16 +1,16 @@
 -- The first tables of a plan, one after another.
-use Rattle.std.proofs.Common.{◌≡◌, ◌∙◌, ℕ, zero, suc, ◌+◌, ◌-◌, ◌<◌, ◌≤◌, Bool, true, false, cond, map, filter, List, [], ◌∷◌, ◌++◌, length, take, refl, sym, ap, subst, arith, append_assoc, Option, Some, option_to_list}
+use Rattle.std.proofs.Common.{◌≡◌, ◌∙◌, ℕ, suc, ◌+◌, ◌-◌, ◌<◌, ◌≤◌, Bool, true, false, cond, map, filter, List, [], ◌∷◌, ◌++◌, length, take, refl, ap, subst, arith, append_assoc, Option, Some, option_to_list}
 use Rattle.std.specs.List.{range_with_len, sum_by}
 use Rattle.std.proofs.lemmas.List.{length-append, length-take-le}
 use Rattle.std.proofs.lemmas.List.Sums.{sum_by-cons}
 use Rattle.maid_model.specs.Nodes.{states_of}
 use Rattle.maid_model.specs.Views.{NodeView, RuleView}
-use Rattle.ring_sums.specs.Tables.{Table, IsSame}
+use Rattle.ring_sums.specs.Tables.{IsSame}
 use Rattle.plan_sums.specs.Plans.{Cells}
 use Rattle.factor_core.specs.declared.slots.Slot.{Slot}
 use Rattle.factor_core.specs.Operations.{first_table}
-use Rattle.factor_core.specs.Slots.{WorkspaceView, tables_of}
-use Rattle.eliminate.specs.Steps.{PutsTable, Stand, Lists, first_cells}
+use Rattle.factor_core.specs.Slots.{WorkspaceView, table_of, tables_of}
+use Rattle.eliminate.specs.Steps.{PutsTable, Lists, first_cells}
 use Rattle.eliminate.proofs.Standing.{zip_length, map_length, start_stand, more_stands}
 
 module _ {C : Type 0} (c : Cells C) (nodes : List NodeView) (p : List RuleView) where
@@ -41,7 +41,7 @@ module _ {C : Type 0} (c : Cells C) (nodes : List NodeView) (p : List RuleView) 
       omega (
         arith,
         zip_length (IsSame (states_of nodes)) _ l.tables l.stand.same,
-        map_length (Rattle.factor_core.specs.Slots.table_of c.ring nodes now.cells) slots,
+        map_length (table_of c.ring nodes now.cells) slots,
         ap length l.leads,
         length-append l.tables (map (first_table c nodes p) rest),
         map_length (first_table c nodes p) rest,

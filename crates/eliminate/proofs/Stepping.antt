@@ -1,9 +1,9 @@
 -- One step over stored tables.
-use Rattle.std.proofs.Common.{◌≡◌, ◌∙◌, ℕ, zero, suc, ◌+◌, ◌<◌, ◌≤◌, Bool, true, not, filter, List, [], ◌∷◌, ◌++◌, take, length, set, sym, ap, subst, arith, All}
+use Rattle.std.proofs.Common.{◌≡◌, ◌∙◌, ℕ, suc, ◌+◌, ◌<◌, ◌≤◌, Bool, true, filter, List, [], ◌∷◌, ◌++◌, take, length, set, ap, arith, All}
 use Rattle.std.proofs.Math.Seq.{take-suc-set}
 use Rattle.std.proofs.lemmas.List.{length-take-le}
 use Rattle.node_sets.specs.Sets.{holds}
-use Rattle.ring_sums.proofs.Each.{each_of, all_of, each_map, each_filter}
+use Rattle.ring_sums.proofs.Each.{Each, each_of, all_of, each_map, each_filter}
 use Rattle.factor_core.specs.declared.slots.Slot.{Slot}
 use Rattle.eliminate.specs.Steps.{slots_with, slots_without}
 use Rattle.eliminate.proofs.Listing.{fewer}
@@ -16,7 +16,7 @@ all_filter P p xs h = all_of P (filter p xs) (each_map (λ x. P x × (p x ≡ tr
 pub all_pass : {X : Type 0} (p : X → Bool) (xs : List X) → All (λ x. p x ≡ true) (filter p xs)
 all_pass {X} p xs = all_of (λ x. p x ≡ true) (filter p xs) (each_map (λ x. Unit {0} × (p x ≡ true)) (λ x. p x ≡ true) (λ x k. k.1) (filter p xs) (each_filter (λ x. Unit {0}) p xs (units xs)))
   where
-    units : (ys : List X) → Rattle.ring_sums.proofs.Each.Each (λ x. Unit {0}) ys
+    units : (ys : List X) → Each (λ x. Unit {0}) ys
     units [] = tt
     units (y ∷ ys) = (tt, units ys)
 

@@ -1,37 +1,34 @@
 -- The whole run of a plan: what its count of cells says, its start and its end.
-use Rattle.std.proofs.Common.{◌≡◌, ◌∙◌, ℕ, ◌+◌, ◌*◌, ◌<◌, ◌≤◌, Bool, true, false, cond, ◌||◌, map, List, [], ◌∷◌, ◌++◌, length, refl, sym, ap, subst, inl, inr, arith, Contains, Option, Some, None, option_to_list}
-use Rattle.std.specs.List.{list_any, sum_by, AllZip}
+use Rattle.std.proofs.Common.{◌≡◌, ◌∙◌, ℕ, ◌+◌, ◌*◌, ◌<◌, ◌≤◌, Bool, true, false, cond, ◌||◌, map, List, [], ◌∷◌, ◌++◌, length, refl, sym, ap, subst, inl, inr, arith, Option, Some, None, option_to_list}
+use Rattle.std.specs.List.{sum_by, AllZip}
 use Rattle.std.proofs.Math.Path.{fun_ext}
 use Rattle.std.proofs.lemmas.List.{append-nil}
 use Rattle.std.proofs.lemmas.List.Sums.{sum_by-cons}
 use Rattle.finite_sums.specs.Members.{Among}
-use Rattle.finite_sums.specs.Sums.{World, InRange}
-use Rattle.node_sets.specs.Sets.{holds, IsIn}
 use Rattle.maid_model.specs.declared.limits.TheConstants.{COUNT_END}
-use Rattle.maid_model.specs.declared.diagrams.Kind.{Kind}
-use Rattle.maid_model.specs.declared.diagrams.Kind.TheVariants.{Chance, Decision, Utility}
+use Rattle.maid_model.specs.declared.diagrams.Kind.TheVariants.{Utility}
 use Rattle.maid_model.specs.Graph.{IsGraph}
 use Rattle.maid_model.specs.Nodes.{node_at, states_of, is_utility}
 use Rattle.maid_model.specs.Profiles.{IsProfile}
 use Rattle.maid_model.specs.Tables.{HasChanceTables}
 use Rattle.maid_model.specs.Views.{NodeView, RuleView}
-use Rattle.cell_rings.specs.Rings.{Ring, IsRing, IsSize}
-use Rattle.ring_sums.specs.Groups.{ProductsFit, StepsFit, StepsHold}
-use Rattle.ring_sums.specs.Tables.{Table, IsSame, joined, product_of, eliminate, scopes_of}
+use Rattle.cell_rings.specs.Rings.{IsRing, IsSize}
+use Rattle.ring_sums.specs.Groups.{ProductsFit}
+use Rattle.ring_sums.specs.Tables.{Table, IsSame, joined, product_of, scopes_of}
 use Rattle.ring_sums.proofs.Same.{map_append, fits_same, fits_more, same_product}
-use Rattle.plan_sums.specs.Plans.{Cells, PlanView, mass_cells, has, node_table, utility_table, first_tables, ruled_nodes, plan_sum}
+use Rattle.plan_sums.specs.Plans.{Cells, PlanView, mass_cells, has, node_table, utility_table, first_tables, ruled_nodes}
 use Rattle.plan_sums.specs.Sizes.{AreSized, IsPlan}
 use Rattle.plan_sums.proofs.Looks.{runs_plans}
 use Rattle.plan_sums.proofs.Scopes.{plans_keep}
-use Rattle.plan_sums.proofs.Sized.{plans_fit, plans_hold, option_has, ruled_in, in_plan_kind}
+use Rattle.plan_sums.proofs.Sized.{plans_fit, plans_hold, ruled_in, in_plan_kind}
 use Rattle.factor_core.specs.declared.slots.Slot.{Slot}
 use Rattle.factor_core.specs.Operations.{first_table, product_table}
-use Rattle.factor_core.specs.Slots.{WorkspaceView, cells_over, IsLive, table_of, tables_of, Appends, AppendsTable}
+use Rattle.factor_core.specs.Slots.{WorkspaceView, cells_over, tables_of, Appends, AppendsTable}
 use Rattle.size_precheck.specs.Counts.{counted_cells}
 use Rattle.size_precheck.specs.Greedy.{first_scopes}
 use Rattle.size_precheck.specs.Sizes.{SizedPlan, CanBePlanned, IsMade, made_cells}
 use Rattle.eliminate.specs.Results.{plan_total, SumsPlan}
-use Rattle.eliminate.specs.Steps.{first_nodes, first_cells, PutsTable, Stand, Lists, Between}
+use Rattle.eliminate.specs.Steps.{first_nodes, first_cells, Stand, Lists, Between}
 use Rattle.eliminate.proofs.Numbers.{bound_fits}
 use Rattle.eliminate.proofs.Ruled.{has_contains}
 use Rattle.eliminate.proofs.Sizes.{cells_exact, sum_exact, sums_exact}

@@ -26,7 +26,12 @@ pub record PutsTable {C : Type 0} (r : Ring C) (nodes : List NodeView) (before a
   pub appends : AppendsTable r nodes before after slot t
   pub slots : new ≡ old ++ slot ∷ []
 
--- what the join of the slots that hold the node asks
+-- the slots that hold the node gave way to their join with the node summed out
+abbrev pub GiveWay : {C : Type 0} → Ring C → List NodeView → WorkspaceView C → WorkspaceView C → List Slot → List Slot → ℕ → Type 0
+GiveWay r nodes before after old new v =
+    PutsTable r nodes before after (slots_without v old) new (sum_out r (states_of nodes) v (tables_of r nodes before.cells (slots_with v old)))
+
+-- what that asks
 pub record CanJoinOut {C : Type 0} (r : Ring C) (nodes : List NodeView) (work : WorkspaceView C) (slots : List Slot) (v : ℕ) : Type 0 where
   pub live : All (IsLive nodes work.cells) slots
   pub some : 0 < length (slots_with v slots)

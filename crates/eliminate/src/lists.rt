@@ -7,8 +7,10 @@ ghost use Rattle.eliminate.specs.Steps.{slots_with, slots_without};
 use factor_core::Slot;
 use node_sets::NodeSet;
 
-/// What stands in an array where no slot is listed.
-pub fn blank_slot() -> Slot {
+/// A slot without a cell, for the places of an array where none is listed.
+pub fn blank_slot() -> Slot
+    ensures { result.len ≡ 0 }
+{
     Slot {
         start: 0,
         len: 0,

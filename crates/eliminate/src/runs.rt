@@ -2,15 +2,12 @@
 
 ghost use Rattle.std.specs.Prelude.{◌≡◌, ◌+◌, ◌*◌, ◌<◌, ◌≤◌, [], length, take};
 ghost use Rattle.maid_model.specs.declared.limits.TheConstants.{COUNT_END};
-ghost use Rattle.maid_model.specs.Nodes.{states_of};
 ghost use Rattle.maid_model.specs.Profiles.{IsProfile};
 ghost use Rattle.node_sets.specs.declared.sets.TheConstants.{MOST_NODES};
-ghost use Rattle.ring_sums.specs.Tables.{sum_out};
 ghost use Rattle.factor_core.specs.Operations.{cells_by};
-ghost use Rattle.factor_core.specs.Slots.{tables_of};
 ghost use Rattle.size_precheck.specs.Sizes.{CanBePlanned, IsMade};
 ghost use Rattle.eliminate.specs.Results.{plan_total, SumsPlan};
-ghost use Rattle.eliminate.specs.Steps.{slots_with, slots_without, CanJoinOut, PutsTable};
+ghost use Rattle.eliminate.specs.Steps.{CanJoinOut, GiveWay};
 
 use crate::firsts::first_tables;
 use crate::lists::{before, blank_slot, drop_holding, list_holding};
@@ -42,7 +39,7 @@ fn eliminate<C: Cell>(
     requires node { node < MOST_NODES }
     requires join { CanJoinOut C.ring diagram.now.nodes work.old (take count live.old) node }
     ensures few { result ≤ count }
-    ensures puts { PutsTable C.ring diagram.now.nodes work.old work.new (slots_without node (take count live.old)) (take result live.new) (sum_out C.ring (states_of diagram.now.nodes) node (tables_of C.ring diagram.now.nodes work.old.cells (slots_with node (take count live.old)))) }
+    ensures step { GiveWay C.ring diagram.now.nodes work.old work.new (take count live.old) (take result live.new) node }
 {
     let held = list_holding(before(live, count), node, joined);
     let left = drop_holding(live, count, node);
@@ -50,10 +47,11 @@ fn eliminate<C: Cell>(
     left + 1
 }
 
-/// Runs the plan: makes its first tables, eliminates its nodes in their order, and multiplies the tables that are left.
-/// The slot is over the kept nodes, and in each world its cell is the sum, over the states of the plan's other nodes, of
-/// the product of the plan's tables (variable elimination: Zhang and Poole 1996). It appends as many cells as the plan
-/// counts. The products and sums of cells are as many as the plan's work, and it takes no memory.
+/// Runs the plan: makes its first tables, eliminates its nodes in their order, and multiplies the tables that are left
+/// (variable elimination: Zhang and Poole 1996). The slot is over the kept nodes, the lowest slowest, and in each world
+/// its cell is the sum, over the states of the plan's other nodes, of the product of the plan's tables. The plan's cells,
+/// of which the count has not stopped, must be within the room that is left, and as many are appended. It multiplies and
+/// adds cells about as often as the plan's work counts, and takes no memory.
 pub fn run_plan<C: Cell>(
     work: &mut Workspace<C>,
     plan: &Plan,
@@ -68,6 +66,7 @@ pub fn run_plan<C: Cell>(
     requires fits { 2 * plan_total diagram.now.nodes profile.now plan.now.plan ≤ C.ring.most }
     ensures { SumsPlan (cells_by C.ring C.of_weight C.of_value) diagram.now.nodes profile.now plan.now work.old work.new result }
 {
+    // A plan has one table at most for each node, and no step leaves more than it found.
     let mut live = [blank_slot(); MOST_NODES];
     let mut joined = [blank_slot(); MOST_NODES];
     let mut count = first_tables(work, plan, diagram, profile, &mut live);

@@ -1,4 +1,4 @@
-use Rattle.std.proofs.Common.{◌≡◌, ◌∙◌, ℕ, ◌-◌, ◌+◌, ◌<◌, ◌≤◌, ◌++◌, ◌∷◌, [], List, filter, length, take, true, false, ap, sym, subst, arith, option_to_list, Some}
+use Rattle.std.proofs.Common.{◌≡◌, ◌∙◌, ℕ, ◌-◌, ◌++◌, [], List, filter, length, take, ap, sym, subst, arith, option_to_list}
 use Rattle.std.specs.List.{range_with_len}
 use Rattle.node_sets.specs.Sets.{holds}
 use Rattle.maid_model.specs.Nodes.{numbers_of}

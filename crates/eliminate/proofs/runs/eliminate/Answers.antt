@@ -1,10 +1,10 @@
-use Rattle.std.proofs.Common.{◌≡◌, ◌∙◌, not, ◌∷◌, ◌++◌, [], List, All, length, take, arith, ap, sym, subst}
+use Rattle.std.proofs.Common.{◌≡◌, ◌∙◌, ◌∷◌, ◌++◌, [], List, All, take, arith, ap, sym, subst}
 use Rattle.node_sets.specs.Sets.{holds, IsIn}
 use Rattle.maid_model.specs.Nodes.{states_of}
 use Rattle.ring_sums.specs.Tables.{sum_out}
 use Rattle.factor_core.specs.declared.slots.Slot.{Slot}
 use Rattle.factor_core.specs.Slots.{IsLive, tables_of, AppendsTable}
-use Rattle.eliminate.specs.Steps.{slots_with, slots_without}
+use Rattle.eliminate.specs.Steps.{slots_with}
 use Rattle.eliminate.proofs.Stepping.{all_filter, all_pass, place_left, put_behind}
 use Rattle.eliminate.proofs.runs.eliminate.Goals as goal
 
@@ -27,8 +27,8 @@ bounds-live-left g c =
 pub returns-clause-few : goal.returns-clause-few
 returns-clause-few g c = place_left c.args.live.now c.drop_holding-left.new.slots c.args.count c.drop_holding-left.result c.args.node (omega (arith, c.requires.count, c.requires.live)) c.drop_holding-left.auto.slots c.drop_holding-left.ensures.few c.drop_holding-left.ensures.list c.requires.join.some
 
-pub returns-clause-puts : goal.returns-clause-puts
-returns-clause-puts g c =
+pub returns-clause-step : goal.returns-clause-step
+returns-clause-step g c =
     let nodes = c.args.diagram.now.nodes in
     let is : c.before-3.result.now ≡ slots_with c.args.node (take c.args.count c.args.live.now) = c.before-3.ensures ∙ c.list_holding-held.ensures.list ∙ ap (slots_with c.args.node) c.before-2.ensures in
     let l = place_left c.args.live.now c.drop_holding-left.new.slots c.args.count c.drop_holding-left.result c.args.node (omega (arith, c.requires.count, c.requires.live)) c.drop_holding-left.auto.slots c.drop_holding-left.ensures.few c.drop_holding-left.ensures.list c.requires.join.some in

@@ -1,15 +1,14 @@
-use Rattle.std.proofs.Common.{◌≡◌, ◌∙◌, ℕ, ◌+◌, ◌<◌, ◌≤◌, List, [], drop, take, length, refl, sym, ap, subst, arith}
+use Rattle.std.proofs.Common.{◌≡◌, ◌∙◌, ℕ, ◌+◌, ◌<◌, ◌≤◌, List, [], drop, take, length, refl, sym, subst, arith}
 use Rattle.std.specs.Prelude.{slice_index}
 use Rattle.std.proofs.lemmas.List.{drop_all, get_or_default}
 use Rattle.maid_model.specs.Nodes.{states_of}
 use Rattle.ring_sums.specs.Groups.{ProductsFit}
-use Rattle.ring_sums.specs.Tables.{sum_out}
 use Rattle.plan_sums.specs.Plans.{first_tables}
 use Rattle.plan_sums.specs.Sizes.{AreSized}
 use Rattle.factor_core.specs.declared.slots.Slot.{Slot}
 use Rattle.factor_core.specs.Operations.{cells_by, product_table}
 use Rattle.factor_core.specs.Slots.{cells_over, tables_of, AppendsTable}
-use Rattle.eliminate.specs.Steps.{slots_with, slots_without, CanJoinOut, PutsTable, Between}
+use Rattle.eliminate.specs.Steps.{CanJoinOut, GiveWay, Between}
 use Rattle.eliminate.proofs.Going.{can_join, goes_on, at_place}
 use Rattle.eliminate.proofs.Ruled.{step_known}
 use Rattle.eliminate.proofs.Whole.{so_many, steps_counted, steps_room, firsts_room, started, last_fits, last_room, ended}
@@ -67,10 +66,8 @@ loop-node-preserved g c =
           (steps_counted cells g.met.C.Cell.laws g.met.C.Cell.sizes sized nodes c.args.profile.now c.args.plan.now c.requires.asked c.requires.made c.requires.counted)
           (steps_room cells g.met.C.Cell.laws g.met.C.Cell.sizes sized nodes c.args.profile.now c.args.plan.now c.requires.asked c.requires.made c.requires.counted c.args.work.now.spare c.requires.room)
           c.eliminate-count.new.work (take c.eliminate-count.result c.eliminate-count.new.live)
-          (subst (λ (l : List ℕ). PutsTable g.C.Cell.ring nodes c.loop-node.work c.eliminate-count.new.work (slots_without (slice_index l c.loop-node.node-index) (take c.loop-node.count c.loop-node.live))
-          (take c.eliminate-count.result c.eliminate-count.new.live) (sum_out g.C.Cell.ring (states_of nodes) (slice_index l c.loop-node.node-index)
-          (tables_of g.C.Cell.ring nodes c.loop-node.work.cells (slots_with (slice_index l c.loop-node.node-index) (take c.loop-node.count c.loop-node.live)))))
-          c.steps-node-items.ensures c.eliminate-count.ensures.puts),
+          (subst (λ (l : List ℕ). GiveWay g.C.Cell.ring nodes c.loop-node.work c.eliminate-count.new.work (take c.loop-node.count c.loop-node.live) (take c.eliminate-count.result c.eliminate-count.new.live) (slice_index l c.loop-node.node-index))
+          c.steps-node-items.ensures c.eliminate-count.ensures.step),
       omega (arith, c.eliminate-count.ensures.few, c.loop-node.invariant.1),
       c.eliminate-count.auto.live ∙ c.loop-node.invariant.2,
       c.eliminate-count.auto.joined ∙ c.loop-node.invariant.3,
