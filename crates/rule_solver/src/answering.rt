@@ -19,7 +19,7 @@ use crate::worths::scale;
 use cell_rings::{Gain, Mass};
 use factor_core::Workspace;
 use maid_model::{Answer, Diagram, Profile, Row};
-use part_laws::{parts_decide, scoped_sums_fit, scopes_are_parts};
+use part_laws::{parts_decide, scopes_are_parts};
 use relevance_graph::Relevance;
 use std::alloc::{AllocError, Global};
 use weight_scale::decision_scope;
@@ -73,8 +73,6 @@ pub(crate) fn answer_all(
     ensures answers { IfOk result (λ v. AnswersAll diagram.now.nodes diagram.now.decimals order.now v.items) }
     ensures again { OnOk result ((masses.new ≡ masses.old) × (gains.new ≡ gains.old)) }
 {
-    // The rules of a base add up to no more than the counts of states.
-    scoped_sums_fit();
     let mut answers = Vec::with_capacity(alloc, order.len())?;
     for decision in order {
         let base = base_of(alloc, diagram, relevance, &answers, *decision)?;
