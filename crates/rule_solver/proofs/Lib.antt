@@ -9,6 +9,7 @@ mod RowLemmas
 mod DecisionLemmas
 mod PlanLemmas
 mod WorthLemmas
+mod WorthRooms
 mod StakeLemmas
 mod SumLemmas
 mod AnsweredRules
