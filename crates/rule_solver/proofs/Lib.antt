@@ -14,6 +14,7 @@ mod RowLemmas
 mod DecisionLemmas
 mod PlanLemmas
 mod WorthLemmas
+mod WorthRooms
 mod StakeLemmas
 mod SumLemmas
 mod SettingLemmas

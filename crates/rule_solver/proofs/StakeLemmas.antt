@@ -1,5 +1,5 @@
 -- What an agent's utilities give to its gain, and the gain itself.
-use Rattle.std.proofs.Common.{◌≡◌, ◌∙◌, ◌↔◌, ◌&&◌, ℕ, zero, suc, ◌+◌, ◌*◌, ◌^◌, ◌<◌, ◌≤◌, max, mul-add, Bool, true, false, cond, filter, List, [], ◌∷◌, Contains, length, slice_index_or, refl, sym, ap, subst, inl, inr, arith, ℤ, pos, ◌+ℤ◌, ◌*ℤ◌, nat_abs, FitsSigned, to_z, of_z}
+use Rattle.std.proofs.Common.{◌≡◌, ◌∙◌, ◌↔◌, ℕ, zero, suc, ◌+◌, ◌*◌, ◌^◌, ◌<◌, ◌≤◌, max, mul-add, Bool, true, false, cond, filter, List, [], ◌∷◌, length, slice_index_or, refl, sym, ap, subst, inl, inr, arith, ℤ, pos, ◌+ℤ◌, ◌*ℤ◌, nat_abs, FitsSigned, to_z, of_z}
 use Rattle.std.specs.Int.{w128}
 use Rattle.std.specs.List.{range_with_len}
 use Rattle.std.proofs.lemmas.Int.{ints, to_z-of_z, to_z_pos, fits_signed_from_abs}
@@ -10,16 +10,15 @@ use Rattle.finite_sums.specs.Sums.{World, InRange, nat_product_over, nat_sum_ove
 use Rattle.finite_sums.proofs.Lists.{among_filter}
 use Rattle.finite_sums.proofs.Members.{any_is}
 use Rattle.maid_model.specs.declared.answers.Ratio.{Ratio}
-use Rattle.maid_model.specs.declared.diagrams.Kind.TheVariants.{Utility}
 use Rattle.maid_model.specs.Answers.{IsExpectedUtility, IsFraction}
 use Rattle.maid_model.specs.Diagrams.{greatest_number}
 use Rattle.maid_model.specs.Gains.{greatest_abs, mass}
 use Rattle.maid_model.specs.Graph.{Arc, IsPath}
 use Rattle.maid_model.specs.Laws.{TestsDescent}
-use Rattle.maid_model.specs.Nodes.{Owns, IsOwnedBy, is_utility, is_utility_of, node_at, numbers_of, owners_of, owns, states_of}
+use Rattle.maid_model.specs.Nodes.{IsOwnedBy, is_utility, is_utility_of, node_at, numbers_of, owners_of, owns, states_of}
 use Rattle.maid_model.specs.Parts.{leads_to}
-use Rattle.maid_model.specs.Scopes.{greatest_of, rules_in_scope_for, scope_bound_for, scope_for, scope_part_for, scope_product_for, utilities_for}
-use Rattle.maid_model.specs.Views.{NodeView, DiagramView, RuleView}
+use Rattle.maid_model.specs.Scopes.{greatest_of, rules_in_scope_for, scope_for, scope_part_for, scope_product_for, utilities_for}
+use Rattle.maid_model.specs.Views.{DiagramView, RuleView}
 use Rattle.maid_laws.proofs.Proportions.{kind_of_utility, sum_each_cong}
 use Rattle.maid_laws.proofs.Rearranged.{among_range, numbered}
 use Rattle.node_sets.specs.declared.sets.NodeSet.{NodeSet}

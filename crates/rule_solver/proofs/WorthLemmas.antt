@@ -1,5 +1,5 @@
 -- The plan of a utility's worth: its nodes, and its numbers fit.
-use Rattle.std.proofs.Common.{◌≡◌, ◌≢◌, ◌∙◌, ◌↔◌, ◌&&◌, ◌==◌, ℕ, ◌*◌, ◌^◌, ◌<◌, ◌≤◌, Bool, true, false, not, cond, filter, List, [], ◌∷◌, Contains, length, refl, sym, ap, subst, inl, inr, arith}
+use Rattle.std.proofs.Common.{◌≡◌, ◌≢◌, ◌∙◌, ◌↔◌, ◌&&◌, ℕ, ◌*◌, ◌<◌, ◌≤◌, Bool, true, false, not, cond, filter, List, [], ◌∷◌, Contains, length, refl, sym, ap, subst, inl}
 use Rattle.std.specs.List.{list_any, AllZip}
 use Rattle.cell_rings.specs.Rings.{most_size}
 use Rattle.eliminate.specs.Results.{plan_total}
@@ -8,10 +8,10 @@ use Rattle.finite_sums.proofs.Lists.{among_filter}
 use Rattle.finite_sums.proofs.Members.{among_from_contains, any_is, contains_from_among, filter_has}
 use Rattle.maid_model.specs.declared.diagrams.Kind.{Kind}
 use Rattle.maid_model.specs.declared.diagrams.Kind.TheVariants.{Chance, Decision, Utility}
-use Rattle.maid_model.specs.Diagrams.{IsDiagram, greatest_number}
+use Rattle.maid_model.specs.Diagrams.{IsDiagram}
 use Rattle.maid_model.specs.Graph.{Arc, IsPath, Here, Along, Descends, IsGraph, descends}
 use Rattle.maid_model.specs.Laws.{TestsDescent}
-use Rattle.maid_model.specs.Nodes.{Owns, is_utility, is_utility_of, node_at, numbers_of, owners_of, states_of}
+use Rattle.maid_model.specs.Nodes.{Owns, is_utility, is_utility_of, node_at, numbers_of, owners_of}
 use Rattle.maid_model.specs.Profiles.{IsProfile}
 use Rattle.maid_model.specs.Scopes.{KeepsScopedBounds, scope_for, utilities_for}
 use Rattle.maid_model.specs.Views.{NodeView, DiagramView, RuleView}
@@ -70,7 +70,7 @@ module _ (nodes : List NodeView) (g : IsGraph nodes) (tested : TestsDescent) (u 
   worth_nodes own ancestors planned o a p v = (
     (λ t. let r = (p v).0 t in let w = (a v).0 r.0 in listed (below (subst (λ x. IsPath (Arc nodes) v x) ((o w.0).0 w.1) w.2) r.1)),
     (λ c. let d = plan_of_test v (among_filter (in_plan nodes (worth_plan u)) v (numbers_of nodes) (among_from_contains (plan_nodes nodes (worth_plan u)) v c)).1 in
-      (p v).1 ((a v).1 (u, (o u).1 refl, Along d.1 d.2), (λ e. g.acyclic u (subst (λ x. Descends (Arc nodes) x u) e d)))),
+        (p v).1 ((a v).1 (u, (o u).1 refl, Along d.1 d.2), (λ e. g.acyclic u (subst (λ x. Descends (Arc nodes) x u) e d)))),
   )
     where
       below : {x : ℕ} → IsPath (Arc nodes) x u → (x ≡ u → ⊥) → Descends (Arc nodes) x u

@@ -13,6 +13,7 @@ use Rattle.finite_sums.specs.Sums.{World, InRange}
 use Rattle.part_laws.specs.ScopeLaws.{HasUnitRules}
 use Rattle.plan_sums.specs.Plans.{gain_cells, plan_sum, worth_plan}
 use Rattle.scope_sums.specs.Missing.{missing_in}
+use Rattle.rule_solver.specs.Rooms.{HasRoomForWorths}
 use Rattle.rule_solver.specs.Totals.{HasTotals}
 
 -- the worth is what the utility's plan sums to
@@ -42,3 +43,8 @@ pub record IsStake (d : DiagramView) (p : List RuleView) (agent : ℕ) (totals :
 -- the agent's gain in the part of its scope
 abbrev pub scope_gain_for : List NodeView → List RuleView → ℕ → ℤ
 scope_gain_for nodes p agent = gain_of (scope_part_for nodes agent) (rules_in_scope_for nodes p agent) agent
+
+-- so many cells are room for the plans of all utilities' worths, and no fewer are
+pub record IsLeastRoom (nodes : List NodeView) (cells : ℕ) : Type 0 where
+  pub room : HasRoomForWorths nodes cells
+  pub least : (fewer : ℕ) → HasRoomForWorths nodes fewer → cells ≤ fewer

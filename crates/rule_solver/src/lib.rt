@@ -32,3 +32,4 @@ mod worths;
 
 pub use faults::SolveFault;
 pub use solving::solve;
+pub use worths::expected;

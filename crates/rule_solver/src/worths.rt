@@ -1,6 +1,7 @@
 //! What a plan is worth to each agent, as reduced fractions.
 
 ghost use Rattle.std.specs.Prelude.{◌≡◌, ◌<◌, ◌≤◌, ◌^◌, ℕ, true, IfOk, OnOk, length, nat_abs};
+ghost use Rattle.maid_model.specs.declared.limits.TheConstants.{MOST_PLAN_CELLS};
 ghost use Rattle.maid_model.specs.declared.diagrams.Kind.TheVariants.{Utility};
 ghost use Rattle.maid_model.specs.Answers.{IsExpectedUtility};
 ghost use Rattle.maid_model.specs.Diagrams.{IsDiagram, greatest_number};
@@ -11,7 +12,7 @@ ghost use Rattle.part_laws.specs.ScopeLaws.{HasUnitRules};
 ghost use Rattle.plan_sums.specs.Plans.{worth_plan};
 ghost use Rattle.rule_solver.specs.Masses.{HasGains};
 ghost use Rattle.rule_solver.specs.Rooms.{HasAtMost, HasRoomForWorths, IsReady};
-ghost use Rattle.rule_solver.specs.Worths.{HasWorths, IsStake, IsWorth, gain_given, scope_gain_for};
+ghost use Rattle.rule_solver.specs.Worths.{HasWorths, IsLeastRoom, IsStake, IsWorth, gain_given, scope_gain_for};
 
 use crate::rows::fraction;
 use crate::totals::{list_totals, product_in};
@@ -22,7 +23,7 @@ use maid_model::{Diagram, Kind, Profile, Ratio, descent_is_tested};
 use node_sets::{NodeSet, ancestors};
 use part_laws::{parts_decide, scopes_are_parts};
 use scope_sums::{plans_keep_scopes, plans_sum_scopes};
-use size_precheck::plan_worth;
+use size_precheck::{greedy_orders, plan_worth};
 use std::alloc::{AllocError, Global};
 use weight_scale::agent_scope;
 
@@ -203,4 +204,62 @@ pub(crate) fn expected_in(
         gains.push(stake.expected())?;
     }
     Ok(gains)
+}
+
+/// How many cells the plan of a utility's worth has, and 0 at another node.
+fn worth_cells(alloc: Global, diagram: &Diagram, v: usize) -> Result<usize, AllocError>
+    requires within { v < length diagram.now.nodes }
+    requires room { HasRoomForWorths diagram.now.nodes MOST_PLAN_CELLS }
+    ensures room { IfOk result (λ cells. (node_at diagram.now.nodes v).kind ≡ Utility → HasAtMost diagram.now.nodes (worth_plan v) cells) }
+    ensures least { IfOk result (λ cells. (fewer : ℕ) → HasRoomForWorths diagram.now.nodes fewer → cells ≤ fewer) }
+{
+    greedy_orders();
+    match diagram.kind(v) {
+        Kind::Utility => {
+            let plan = plan_worth(alloc, diagram, v)?;
+            Ok(plan.size().cells as usize)
+        }
+        Kind::Chance | Kind::Decision => Ok(0),
+    }
+}
+
+/// How many cells the largest of the plans of the utilities' worths has.
+fn most_worth_cells(alloc: Global, diagram: &Diagram) -> Result<usize, AllocError>
+    requires { HasRoomForWorths diagram.now.nodes MOST_PLAN_CELLS }
+    ensures { IfOk result (IsLeastRoom diagram.now.nodes) }
+{
+    let mut most = 0;
+    for v in 0..diagram.count() {
+        most = worth_cells(alloc, diagram, v)?.max(most);
+    }
+    Ok(most)
+}
+
+/// What the profile, whose rules are pure, is worth to each agent: a reduced fraction for each, in the agents' order.
+///
+/// A utility's plan sums it with the tables and rules of its ancestors alone, by variable elimination. An agent's gain is
+/// what its utilities' plans give, each times the totals of those nodes of the agent's scope that the plan lacks; its
+/// expected utility is the gain over the product of the scope's totals and ten to the power of the decimals.
+///
+/// It makes each utility's plan twice, once for its size and once to run it, and reserves a workspace of as many cells as
+/// the largest of them has. It may be asked where each scope keeps the weight bound, and where no such plan has more than
+/// 4,194,304 cells.
+///
+/// # Errors
+///
+/// Only where memory runs out.
+pub fn expected(
+    alloc: Global,
+    diagram: &Diagram,
+    profile: &Profile,
+) -> Result<Vec<Ratio>, AllocError>
+    requires bound { KeepsScopedBounds diagram.now }
+    requires profile { IsProfile diagram.now.nodes profile.now }
+    requires pure { HasUnitRules diagram.now.nodes profile.now }
+    requires room { HasRoomForWorths diagram.now.nodes MOST_PLAN_CELLS }
+    ensures gains { IfOk result (λ v. HasGains diagram.now profile.now diagram.now.agents v.items) }
+{
+    let cells = most_worth_cells(alloc, diagram)?;
+    let mut work = Workspace::reserve(alloc, cells)?;
+    expected_in(alloc, diagram, profile, &mut work)
 }

@@ -1,4 +1,4 @@
-use Rattle.std.proofs.Common.{◌∙◌, ◌<◌, ◌+◌, sym, subst}
+use Rattle.std.proofs.Common.{◌<◌, ◌+◌, sym, subst}
 use Rattle.rule_solver.specs.Masses.{HasGains}
 use Rattle.rule_solver.specs.Totals.{HasTotals}
 use Rattle.rule_solver.specs.Worths.{HasWorths}

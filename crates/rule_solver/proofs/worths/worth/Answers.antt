@@ -1,4 +1,4 @@
-use Rattle.std.proofs.Common.{rules, map, ◌≡◌, ◌∙◌, ◌≤◌, ◌*◌, ◌<◌, [], FitsSigned, sym, subst, ap}
+use Rattle.std.proofs.Common.{rules, map, ◌∙◌, ◌≤◌, ◌*◌, ◌<◌, FitsSigned, sym, subst, ap}
 use Rattle.std.specs.Int.{w128}
 use Rattle.std.proofs.lemmas.Int.{to_z-of_z}
 use Rattle.cell_rings.specs.Rings.{most_size}
