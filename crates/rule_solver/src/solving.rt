@@ -43,11 +43,18 @@ fn solve_along(
     ensures { IfOk result (IsAnswer diagram.now) }
 {
     scoped_sums_fit();
-    let mut masses = Workspace::reserve(alloc, cells)?;
-    let mut gains = Workspace::reserve(alloc, cells)?;
-    let answers = answer_all(alloc, diagram, relevance, order, &mut masses, &mut gains)?;
+    let mut mass_space = Workspace::reserve(alloc, cells)?;
+    let mut gain_space = Workspace::reserve(alloc, cells)?;
+    let answers = answer_all(
+        alloc,
+        diagram,
+        relevance,
+        order,
+        &mut mass_space,
+        &mut gain_space,
+    )?;
     let profile = Profile::pure(alloc, diagram, &answers)?;
-    let gains = expected_in(alloc, diagram, &profile, &mut gains)?;
+    let gains = expected_in(alloc, diagram, &profile, &mut gain_space)?;
     Ok(Solved {
         order: Vec::from_slice(alloc, order)?,
         answers,
