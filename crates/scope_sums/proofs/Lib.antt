@@ -1,0 +1,5 @@
+pub mod Lacking
+pub mod Summed
+pub mod Asked
+pub mod Kept
+pub mod Agents
