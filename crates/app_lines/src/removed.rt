@@ -7,12 +7,7 @@ use maid_model::Names;
 use std::alloc::{AllocError, Global};
 
 // Appends the line of an arc.
-fn push_removed(
-    out: &mut Vec<u8>,
-    names: &Names,
-    from: usize,
-    to: usize,
-) -> Result<(), AllocError>
+fn push_removed(out: &mut Vec<u8>, names: &Names, from: usize, to: usize) -> Result<(), AllocError>
     requires from { from < length names.now.nodes }
     requires to { to < length names.now.nodes }
     ensures { OnOk result (out.new.items ≡ out.old.items ++ removed_line names.now (from, to)) }
