@@ -7,3 +7,4 @@ pub mod Solving
 pub mod Tells
 pub mod Texts
 pub mod Titles
+pub mod Trimmed

@@ -9,7 +9,7 @@ use Rattle.maid_app.specs.Laws.{OneStatus, ClearOrRefused}
 use Rattle.maid_app.specs.Outcome.{Refused, refused}
 use Rattle.maid_app.specs.Reading.{TellsOf, RefusesAs, IsOfBytes}
 use Rattle.maid_app.specs.Refusal.{status_of, line_of}
-use Rattle.maid_app.specs.Request.{Request, solve, graph, print, file_name}
+use Rattle.maid_app.specs.Request.{Request, solve, graph, print, trim, file_name}
 use Rattle.maid_app.specs.Stages.{Stage, text_fault, relevance_cycle, weight_bound, too_many_worlds}
 use Rattle.maid_app.specs.Told.{limit, IsFileText, IsTooLong, HasText, WritesText, Refuses, Says, HasFile, LacksFile, IsOneOf}
 use Rattle.maid_app.specs.declared.refusal.Refusal.{Refusal}
@@ -169,3 +169,4 @@ nothing_found (solve name) bytes d names is can =
     let x : NamedDiagram = record { d = d; names = names } in ((x, is), ((x, is, can.order), ((x, is, can.bound), ((x, is, can.few), tt))))
 nothing_found (graph name) bytes d names is can = ((record { d = d; names = names }, is), tt)
 nothing_found (print name) bytes d names is can = ((record { d = d; names = names }, is), tt)
+nothing_found (trim name) bytes d names is can = ((record { d = d; names = names }, is), tt)

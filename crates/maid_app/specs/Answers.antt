@@ -6,16 +6,18 @@ use Rattle.maid_model.specs.Views.{DiagramView}
 use Rattle.maid_app.specs.Graph.{graphing}
 use Rattle.maid_app.specs.Outcome.{Refused}
 use Rattle.maid_app.specs.Print.{printing}
-use Rattle.maid_app.specs.Request.{Request, solve, graph, print, file_name}
+use Rattle.maid_app.specs.Request.{Request, solve, graph, print, trim, file_name}
 use Rattle.maid_app.specs.Solve.{IsSolvable, solving}
 use Rattle.maid_app.specs.Stages.{Finds}
 use Rattle.maid_app.specs.Tasks.{Task, comes_of}
+use Rattle.maid_app.specs.Trim.{trimming}
 
 -- the task of each form of words
 abbrev pub task_of : Request → Task
 task_of (solve file) = solving
 task_of (graph file) = graphing
 task_of (print file) = printing
+task_of (trim file) = trimming
 
 -- no stage of the request finds anything in its file's bytes
 abbrev pub FindsNothing : Request → List ℕ → Type 0
@@ -28,6 +30,7 @@ abbrev pub CanAnswer : Request → DiagramView → Type 0
 CanAnswer (solve file) d = IsSolvable d
 CanAnswer (graph file) d = Unit {0}
 CanAnswer (print file) d = Unit {0}
+CanAnswer (trim file) d = Unit {0}
 
 unfoldable pub Answers : Request → List ℕ → Outcomes (List ℕ) Refused
 Answers request bytes = comes_of (task_of request) (file_name request) bytes

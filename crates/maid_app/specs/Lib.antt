@@ -16,4 +16,5 @@ pub mod Stages
 pub mod Status
 pub mod Tasks
 pub mod Told
+pub mod Trim
 pub mod Words

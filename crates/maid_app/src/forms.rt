@@ -10,6 +10,7 @@ ghost use Rattle.maid_app.specs.Form.{request_by};
 mod graph;
 mod print;
 mod solve;
+mod trim;
 
 use crate::reading::Source;
 use crate::refusal::Refusal;
@@ -33,6 +34,11 @@ pub enum Form<'a> {
         /// The file's name.
         file: &'a str,
     },
+    /// `trim F`: the arcs that decisions do not need, and the text of the diagram without them.
+    Trim {
+        /// The file's name.
+        file: &'a str,
+    },
 }
 
 impl<'a> Form<'a> {
@@ -44,6 +50,7 @@ impl<'a> Form<'a> {
             Form::Solve { file } => file,
             Form::Graph { file } => file,
             Form::Print { file } => file,
+            Form::Trim { file } => file,
         }
     }
 
@@ -61,6 +68,7 @@ impl<'a> Form<'a> {
             Form::Solve { file } => solve::answer(alloc, Source { name: file, bytes }),
             Form::Graph { file } => graph::answer(alloc, Source { name: file, bytes }),
             Form::Print { file } => print::answer(alloc, Source { name: file, bytes }),
+            Form::Trim { file } => trim::answer(alloc, Source { name: file, bytes }),
         }
     }
 }
@@ -77,6 +85,9 @@ pub fn form_of(words: &[String]) -> Option<Form<'_>>
             file: file.as_str(),
         }),
         [word, file] if word.as_str() == "print" => Some(Form::Print {
+            file: file.as_str(),
+        }),
+        [word, file] if word.as_str() == "trim" => Some(Form::Trim {
             file: file.as_str(),
         }),
         _ => None,

@@ -127,9 +127,10 @@ fn serve<H: Shelf, O: Sink>(
 /// Runs the program on the words after its name, and answers how it ended.
 ///
 /// The words are those of one form, which names a file F of the shelf: `solve F` writes the report
-/// of its diagram to `out`, `graph F` who relies on whom, and `print F` the diagram. The whole text
-/// is made before its first byte is written, and writing takes no memory. After a status other
-/// than [`Status::Done`] `err` takes one line that says why.
+/// of its diagram to `out`, `graph F` who relies on whom, `print F` the diagram, and `trim F` the
+/// diagram without the arcs that its decisions do not need. The whole text is made before its first
+/// byte is written, and writing takes no memory. After a status other than [`Status::Done`] `err`
+/// takes one line that says why.
 ///
 /// The order of refusals is [`Status::Usage`] where the words are of no form, [`Status::Absent`],
 /// [`Status::ReadFault`] and [`Status::TextTooLong`] for the file, [`Status::TextFault`] for its

@@ -86,6 +86,29 @@ potential (A) { data = (1 1 1); }
 potential (B | A) { data = (3 7 333333 666667 1 0); }
 ";
 
+// The first decision needs the node X only as long as the second one tells of it.
+const ARCS: &str = "decision D0 { states = (\"a\" \"b\"); }
+decision D1 { states = (\"a\" \"b\"); }
+node X { states = (\"p\" \"q\"); }
+utility U { }
+potential (D0 | X) { }
+potential (D1 | X D0) { }
+potential (X) { data = (1 1); }
+potential (U | D0 D1) { data = (0 3 2 1); }
+";
+
+const ARCS_TRIM: &str = "% removed X -> D1
+% removed X -> D0
+decision D0 { states = (\"a\" \"b\"); agent = \"agent\"; }
+decision D1 { states = (\"a\" \"b\"); agent = \"agent\"; }
+node X { states = (\"p\" \"q\"); }
+utility U { agent = \"agent\"; }
+potential (D0) { }
+potential (D1 | D0) { }
+potential (X) { data = (1 1); }
+potential (U | D0 D1) { data = (0 3 2 1); }
+";
+
 const ZERO: &str = "node A { states = (\"x\" \"y\"); } potential (A) { data = (0 0); }";
 
 const RING: &str =
@@ -100,6 +123,7 @@ fn files(alloc: Global) -> Result<Vec<(String, Vec<u8>)>, Fail> {
         ("lead.net", LEAD),
         ("pennies.net", PENNIES),
         ("thirds.net", THIRDS),
+        ("arcs.net", ARCS),
         ("zero.net", ZERO),
         ("ring.net", RING),
         ("open.net", "net {\n a = \"b"),
@@ -158,6 +182,7 @@ fn runs_end_as_they_must(rt: HostRuntime) -> Result<(), Fail> {
             THIRDS_PRINT,
             "",
         ),
+        ("trim arcs.net", 0, 400, Status::Done, 0, ARCS_TRIM, ""),
         (
             "solve pennies.net",
             0,

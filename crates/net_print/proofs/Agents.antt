@@ -17,8 +17,8 @@ use Rattle.maid_model.specs.Graph.{AllDifferent}
 use Rattle.maid_model.specs.Views.{NodeView, DiagramView}
 use Rattle.net_build.specs.Blocks as look
 use Rattle.net_parser.specs.Trees.{BlockTree}
-use Rattle.net_print.specs.Printed.{printed, owner_names}
-use Rattle.net_print.specs.RoundTrip.{IsPrintable}
+use Rattle.net_print.specs.Printed.{owner_names}
+use Rattle.net_print.proofs.Comments.{IsPrintableBehind, text_of, place_of}
 use Rattle.net_print.proofs.Look.{tell, each_node, node_owners_told, node_labels_told}
 use Rattle.net_lexer.specs.Token.{text_value}
 use Rattle.net_print.proofs.Tree.{block_kind, node_tree, tree_of}
@@ -90,18 +90,18 @@ state_case Utility x y h one = sym (one refl)
 chance_utility : Chance ≡ Utility → ⊥
 chance_utility e = cc
 
-module _ (d : DiagramView) (names : NamesView) (is : IsPrintable d names) where
+module _ (d : DiagramView) (names : NamesView) (is : IsPrintableBehind d names) where
   abbrev Blocks : List BlockTree
   Blocks = look.node_blocks (tree_of d names is)
 
-  pub agents_told : look.agents_of (printed d names) Blocks ≡ names.agents
+  pub agents_told : look.agents_of (text_of d names is) Blocks ≡ names.agents
   agents_told =
       let piece = λ (n : NodeView). cond (not (is_chance n.kind)) (map (agent_name names) (n.owner ∷ n.more)) [] in
       ap look.first_sights (
-      filter_flat (look.owner_names (printed d names)) (λ b. look.has_agent b.kind) Blocks
+      filter_flat (look.owner_names (text_of d names is)) (λ b. look.has_agent b.kind) Blocks
       ∙ ap (flat_map (λ ys. ys)) (
-      tell d names is (λ b. cond (look.has_agent b.kind) (look.owner_names (printed d names) b) []) (λ v. piece (node_at d.nodes v))
-      (λ v p more l at. owner_piece (node_at d.nodes v).kind (look.owner_names (printed d names) (node_tree d.nodes names p v)) (owner_names d.nodes names v) (λ owned. node_owners_told (printed d names) d.nodes names v p more at owned (is.diagram.owners.one v)))
+      tell d names is (λ b. cond (look.has_agent b.kind) (look.owner_names (text_of d names is) b) []) (λ v. piece (node_at d.nodes v))
+      (λ v p more l at. owner_piece (node_at d.nodes v).kind (look.owner_names (text_of d names is) (node_tree d.nodes names p v)) (owner_names d.nodes names v) (λ owned. node_owners_told (text_of d names is) d.nodes names v p more at owned (is.diagram.owners.one v)))
       ∙ each_node piece d.nodes)
       ∙ sym (filter_flat (λ (n : NodeView). map (agent_name names) (n.owner ∷ n.more)) (λ n. not (is_chance n.kind)) d.nodes))
       ∙ sym is.form.numbered
@@ -109,26 +109,26 @@ module _ (d : DiagramView) (names : NamesView) (is : IsPrintable d names) where
   pub agents_differ : AllPairs (λ x y. x ≢ y) names.agents
   agents_differ = subst (λ agents. AllPairs (λ x y. x ≢ y) agents) (sym is.form.numbered) (sights_differ (flat_map (λ n. map (agent_name names) (n.owner ∷ n.more)) (filter (λ n. not (is_chance n.kind)) d.nodes)))
 
-  pub owners_told : map (λ n. n.owner ∷ n.more) d.nodes ≡ map (look.owners_of (printed d names) Blocks) Blocks
-  owners_told = sym (tell d names is (look.owners_of (printed d names) Blocks) (λ v. owners_of d.nodes v) one ∙ each_node (λ n. n.owner ∷ n.more) d.nodes) where
-    one : (v p : ℕ) (more : List ℕ) → v < length d.nodes → At (printed d names) p (text_onto (node_words d.nodes names v) more) → look.owners_of (printed d names) Blocks (node_tree d.nodes names p v) ≡ owners_of d.nodes v
+  pub owners_told : map (λ n. n.owner ∷ n.more) d.nodes ≡ map (look.owners_of (text_of d names is) Blocks) Blocks
+  owners_told = sym (tell d names is (look.owners_of (text_of d names is) Blocks) (λ v. owners_of d.nodes v) one ∙ each_node (λ n. n.owner ∷ n.more) d.nodes) where
+    one : (v p : ℕ) (more : List ℕ) → v < length d.nodes → At (text_of d names is) p (text_onto (node_words d.nodes names v) more) → look.owners_of (text_of d names is) Blocks (node_tree d.nodes names p v) ≡ owners_of d.nodes v
     one v p more l at =
         let tree = node_tree d.nodes names p v in
-        owner_case (node_at d.nodes v).kind (map (look.place_among (look.agents_of (printed d names) Blocks)) (look.owner_names (printed d names) tree)) (owners_of d.nodes v)
+        owner_case (node_at d.nodes v).kind (map (look.place_among (look.agents_of (text_of d names is) Blocks)) (look.owner_names (text_of d names is) tree)) (owners_of d.nodes v)
         (λ owned.
-        ap (λ agents. map (look.place_among agents) (look.owner_names (printed d names) tree)) agents_told
-        ∙ ap (map (look.place_among names.agents)) (node_owners_told (printed d names) d.nodes names v p more at owned (is.diagram.owners.one v))
+        ap (λ agents. map (look.place_among agents) (look.owner_names (text_of d names is) tree)) agents_told
+        ∙ ap (map (look.place_among names.agents)) (node_owners_told (text_of d names is) d.nodes names v p more at owned (is.diagram.owners.one v))
         ∙ places_here names.agents agents_differ (owners_of d.nodes v) (λ a o. subst (λ n. a < n) (sym is.fit.agents) (is.diagram.owners.agent v a l owned o)))
         (λ chance. λ j. is.diagram.owners.chance v chance j ∷ is.diagram.owners.one v (λ u. chance_utility (sym chance ∙ u)) j)
 
-  pub states_told : map (λ n. n.states) d.nodes ≡ look.state_counts (printed d names) Blocks
-  states_told = sym (tell d names is (look.block_states (printed d names)) (λ v. (node_at d.nodes v).states) one ∙ each_node (λ n. n.states) d.nodes) where
-    one : (v p : ℕ) (more : List ℕ) → v < length d.nodes → At (printed d names) p (text_onto (node_words d.nodes names v) more) → look.block_states (printed d names) (node_tree d.nodes names p v) ≡ (node_at d.nodes v).states
+  pub states_told : map (λ n. n.states) d.nodes ≡ look.state_counts (text_of d names is) Blocks
+  states_told = sym (tell d names is (look.block_states (text_of d names is)) (λ v. (node_at d.nodes v).states) one ∙ each_node (λ n. n.states) d.nodes) where
+    one : (v p : ℕ) (more : List ℕ) → v < length d.nodes → At (text_of d names is) p (text_onto (node_words d.nodes names v) more) → look.block_states (text_of d names is) (node_tree d.nodes names p v) ≡ (node_at d.nodes v).states
     one v p more l at =
         let tree = node_tree d.nodes names p v in
-        state_case (node_at d.nodes v).kind (length (look.label_tokens (printed d names) tree)) (node_at d.nodes v).states
+        state_case (node_at d.nodes v).kind (length (look.label_tokens (text_of d names is) tree)) (node_at d.nodes v).states
         (λ some.
-        sym (length-map (look.label_tokens (printed d names) tree) (text_value (printed d names)))
-        ∙ ap length (node_labels_told (printed d names) d.nodes names v p more at (is.form.utility_labels v))
+        sym (length-map (look.label_tokens (text_of d names is) tree) (text_value (text_of d names is)))
+        ∙ ap length (node_labels_told (text_of d names is) d.nodes names v p more at (is.form.utility_labels v))
         ∙ is.fit.states v l some)
         (is.diagram.graph.utility_states v)

@@ -9,8 +9,7 @@ use Rattle.maid_model.specs.Views.{NodeView, DiagramView}
 use Rattle.net_build.specs.Blocks as look
 use Rattle.net_lexer.specs.Token.{text_value}
 use Rattle.net_parser.specs.Trees.{BlockTree}
-use Rattle.net_print.specs.Printed.{printed}
-use Rattle.net_print.specs.RoundTrip.{IsPrintable}
+use Rattle.net_print.proofs.Comments.{IsPrintableBehind, text_of, place_of}
 use Rattle.net_print.proofs.Agents.{state_case, states_told}
 use Rattle.net_print.proofs.Given.{potential_found, conditions_told}
 use Rattle.net_print.proofs.Look.{node_name_told, node_labels_told}
@@ -24,9 +23,9 @@ counts_at [] v = refl
 counts_at (n ∷ nodes) zero = refl
 counts_at (n ∷ nodes) (suc v) = counts_at nodes v
 
-module _ (d : DiagramView) (names : NamesView) (is : IsPrintable d names) where
+module _ (d : DiagramView) (names : NamesView) (is : IsPrintableBehind d names) where
   abbrev Text : List ℕ
-  Text = printed d names
+  Text = text_of d names is
 
   abbrev Blocks : List BlockTree
   Blocks = tree_of d names is

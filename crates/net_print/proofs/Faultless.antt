@@ -12,8 +12,7 @@ use Rattle.first_fault.specs.Passes.{Pass, each}
 use Rattle.net_build.specs.Passes.{Found}
 use Rattle.net_build.specs.Table.{graph_pass, missing_pass, missing_row, table_nodes}
 use Rattle.net_parser.specs.Trees.{BlockTree}
-use Rattle.net_print.specs.Printed.{printed}
-use Rattle.net_print.specs.RoundTrip.{IsPrintable}
+use Rattle.net_print.proofs.Comments.{IsPrintableBehind, text_of, place_of}
 use Rattle.net_print.proofs.Given.{parents_told, potential_title}
 use Rattle.net_print.proofs.Look.{node_blocks_are, potentials_are, at_nodes, at_potentials, node_lines, potential_lines, node_name_told, each_place}
 use Rattle.net_print.proofs.Spelling.{trees_at}
@@ -44,9 +43,9 @@ parents_at [] v = refl
 parents_at (n ∷ nodes) zero = refl
 parents_at (n ∷ nodes) (suc v) = parents_at nodes v
 
-module _ (d : DiagramView) (names : NamesView) (is : IsPrintable d names) where
+module _ (d : DiagramView) (names : NamesView) (is : IsPrintableBehind d names) where
   abbrev Text : List ℕ
-  Text = printed d names
+  Text = text_of d names is
 
   abbrev Blocks : List BlockTree
   Blocks = tree_of d names is
@@ -61,12 +60,12 @@ module _ (d : DiagramView) (names : NamesView) (is : IsPrintable d names) where
   pub heads_told : look.names_of Text (look.potentials Blocks) ≡ names.nodes
   heads_told =
       ap (map (look.block_name Text)) (potentials_are d names is)
-      ∙ trees_tell Text (look.block_name Text) (name_of names) (potential_tree d names) (potential_words d names) (end_at 0 (node_lines d names is)) (numbers_of d.nodes) [] (at_potentials d names is) (λ k e h p more at. potential_title d names is (get_or (numbers_of d.nodes) k e) p more at)
+      ∙ trees_tell Text (look.block_name Text) (name_of names) (potential_tree d names) (potential_words d names) (end_at (place_of d names is) (node_lines d names is)) (numbers_of d.nodes) [] (at_potentials d names is) (λ k e h p more at. potential_title d names is (get_or (numbers_of d.nodes) k e) p more at)
       ∙ each_place names.nodes (length d.nodes) [] is.fit.nodes
 
   -- what holds of each node's block
   pub nodes_hold : (Q : BlockTree → Type 0) → ((v p : ℕ) (more : List ℕ) → v < length d.nodes → At Text p (text_onto (node_words d.nodes names v) more) → Q (node_tree d.nodes names p v)) → All Q (look.node_blocks Blocks)
-  nodes_hold Q one = subst (All Q) (sym (node_blocks_are d names is)) (trees_hold Text Q (node_tree d.nodes names) (node_words d.nodes names) 0 (numbers_of d.nodes) (text_onto (potential_lines d names is) []) (at_nodes d names is) (λ k e h p more at. one (get_or (numbers_of d.nodes) k e) p more (numbers_below (length d.nodes) k e h) at))
+  nodes_hold Q one = subst (All Q) (sym (node_blocks_are d names is)) (trees_hold Text Q (node_tree d.nodes names) (node_words d.nodes names) (place_of d names is) (numbers_of d.nodes) (text_onto (potential_lines d names is) []) (at_nodes d names is) (λ k e h p more at. one (get_or (numbers_of d.nodes) k e) p more (numbers_below (length d.nodes) k e h) at))
 
   pub missing_clear : missing_pass Text Blocks None
   unfolding missing_pass

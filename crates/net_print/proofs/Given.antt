@@ -14,8 +14,7 @@ use Rattle.net_lexer.specs.Token.{token_bytes}
 use Rattle.net_lexer.specs.declared.tokens.TokenKind.{TokenKind}
 use Rattle.net_lexer.specs.declared.tokens.TokenKind.TheVariants.{Word}
 use Rattle.net_parser.specs.Trees.{BlockTree}
-use Rattle.net_print.specs.Printed.{printed}
-use Rattle.net_print.specs.RoundTrip.{IsPrintable}
+use Rattle.net_print.proofs.Comments.{IsPrintableBehind, text_of, place_of}
 use Rattle.net_print.proofs.Agents.{place_here, bytes_differ, bytes_same}
 use Rattle.net_print.proofs.Look.{tell, each_node, node_name_told, names_told, potentials_are, at_potentials, node_lines}
 use Rattle.net_print.proofs.Spelling.{trees_at}
@@ -75,20 +74,20 @@ nothing has = none has.0 has.1 where
   none : (k : ℕ) → k < 0 → ⊥
   none k h = omega arith
 
-module _ (d : DiagramView) (names : NamesView) (is : IsPrintable d names) where
-  potential_told : (v p : ℕ) (more : List ℕ) → At (printed d names) p (text_onto (potential_words d names v) more) → HeadTold (printed d names) names p v (node_at d.nodes v).parents
+module _ (d : DiagramView) (names : NamesView) (is : IsPrintableBehind d names) where
+  potential_told : (v p : ℕ) (more : List ℕ) → At (text_of d names is) p (text_onto (potential_words d names v) more) → HeadTold (text_of d names is) names p v (node_at d.nodes v).parents
   potential_told v p more at =
       let node = node_at d.nodes v in
       let head = head_words names v node.parents in
       let body = brace_open ∷ (table_words node.kind d.decimals node.states (rows_of d.nodes v) node.cells ++ brace_close ∷ []) in
-      head_told (printed d names) names p v node.parents (text_onto body more) (subst (At (printed d names) p) (text_onto-append head body more) at)
+      head_told (text_of d names is) names p v node.parents (text_onto body more) (subst (At (text_of d names is) p) (text_onto-append head body more) at)
 
   -- a potential's head is the name of its node
-  pub potential_title : (v p : ℕ) (more : List ℕ) → At (printed d names) p (text_onto (potential_words d names v) more) → look.block_name (printed d names) (potential_tree d names p v) ≡ name_of names v
+  pub potential_title : (v p : ℕ) (more : List ℕ) → At (text_of d names is) p (text_onto (potential_words d names v) more) → look.block_name (text_of d names is) (potential_tree d names p v) ≡ name_of names v
   potential_title v p more at = (potential_told v p more at).title
 
   -- and the names behind its bar are those of the parents
-  pub potential_given : (v p : ℕ) (more : List ℕ) → At (printed d names) p (text_onto (potential_words d names v) more) → map (token_bytes (printed d names)) (look.conditions (potential_tree d names p v)) ≡ map (name_of names) (node_at d.nodes v).parents
+  pub potential_given : (v p : ℕ) (more : List ℕ) → At (text_of d names is) p (text_onto (potential_words d names v) more) → map (token_bytes (text_of d names is)) (look.conditions (potential_tree d names p v)) ≡ map (name_of names) (node_at d.nodes v).parents
   potential_given v p more at = (potential_told v p more at).given
 
   -- a name stands at its node's place
@@ -100,35 +99,35 @@ module _ (d : DiagramView) (names : NamesView) (is : IsPrintable d names) where
 
   -- the potential of that node, and where it stands
   abbrev IsPotentialAt : ℕ → List BlockTree → ℕ → List ℕ → Type 0
-  IsPotentialAt v trees p more = At (printed d names) p (text_onto (potential_words d names v) more) × (find (λ b. bytes_eq (look.block_name (printed d names) b) (name_of names v)) trees ≡ Some (potential_tree d names p v))
+  IsPotentialAt v trees p more = At (text_of d names is) p (text_onto (potential_words d names v) more) × (find (λ b. bytes_eq (look.block_name (text_of d names is) b) (name_of names v)) trees ≡ Some (potential_tree d names p v))
 
   -- the first is it, or it is among the others
-  first_is : (u v from : ℕ) (rest : List ℕ) (later : List BlockTree) → At (printed d names) from (text_onto (potential_words d names u) rest) → u ≡ v → IsPotentialAt v (potential_tree d names from u ∷ later) from rest
+  first_is : (u v from : ℕ) (rest : List ℕ) (later : List BlockTree) → At (text_of d names is) from (text_onto (potential_words d names u) rest) → u ≡ v → IsPotentialAt v (potential_tree d names from u ∷ later) from rest
   first_is u v from rest later at e =
-      let test = bytes_eq (look.block_name (printed d names) (potential_tree d names from u)) (name_of names v) in
+      let test = bytes_eq (look.block_name (text_of d names is) (potential_tree d names from u)) (name_of names v) in
       let same : test ≡ true = bytes_same _ _ ((potential_told u from rest at).title ∙ ap (name_of names) e) in
-      (subst (λ w. At (printed d names) from (text_onto (potential_words d names w) rest)) e at, ap (λ b. cond b (Some (potential_tree d names from u)) (find (λ p. bytes_eq (look.block_name (printed d names) p) (name_of names v)) later)) same ∙ ap (λ w. Some (potential_tree d names from w)) e)
+      (subst (λ w. At (text_of d names is) from (text_onto (potential_words d names w) rest)) e at, ap (λ b. cond b (Some (potential_tree d names from u)) (find (λ p. bytes_eq (look.block_name (text_of d names is) p) (name_of names v)) later)) same ∙ ap (λ w. Some (potential_tree d names from w)) e)
 
-  not_first : (u v from p : ℕ) (rest more : List ℕ) (later : List BlockTree) → u < length d.nodes → v < length d.nodes → At (printed d names) from (text_onto (potential_words d names u) rest) → (u ≡ v → ⊥) → IsPotentialAt v later p more → IsPotentialAt v (potential_tree d names from u ∷ later) p more
+  not_first : (u v from p : ℕ) (rest more : List ℕ) (later : List BlockTree) → u < length d.nodes → v < length d.nodes → At (text_of d names is) from (text_onto (potential_words d names u) rest) → (u ≡ v → ⊥) → IsPotentialAt v later p more → IsPotentialAt v (potential_tree d names from u ∷ later) p more
   not_first u v from p rest more later l m at other found =
-      let rest_of = find (λ b. bytes_eq (look.block_name (printed d names) b) (name_of names v)) later in (
+      let rest_of = find (λ b. bytes_eq (look.block_name (text_of d names is) b) (name_of names v)) later in (
         found.0,
         ap (λ title. cond (bytes_eq title (name_of names v)) (Some (potential_tree d names from u)) rest_of) (potential_told u from rest at).title
             ∙ ap (λ b. cond b (Some (potential_tree d names from u)) rest_of) (names_apart u v l m other)
             ∙ found.1,
       )
 
-  finds : (v : ℕ) → v < length d.nodes → (from : ℕ) (vs : List ℕ) (rest : List ℕ) → At (printed d names) from (text_onto (flat_map (potential_words d names) vs) rest) → All (λ u. u < length d.nodes) vs → Contains vs v → (p : ℕ) × (more : List ℕ) × IsPotentialAt v (trees_at (potential_tree d names) (potential_words d names) from vs) p more
+  finds : (v : ℕ) → v < length d.nodes → (from : ℕ) (vs : List ℕ) (rest : List ℕ) → At (text_of d names is) from (text_onto (flat_map (potential_words d names) vs) rest) → All (λ u. u < length d.nodes) vs → Contains vs v → (p : ℕ) × (more : List ℕ) × IsPotentialAt v (trees_at (potential_tree d names) (potential_words d names) from vs) p more
   finds v l from [] rest at all has = absurd (nothing has)
   finds v l from (u ∷ us) rest at all has =
       let lines = flat_map (potential_words d names) us in
-      let here : At (printed d names) from (text_onto (potential_words d names u) (text_onto lines rest)) = subst (At (printed d names) from) (text_onto-append (potential_words d names u) lines rest) at in
+      let here : At (text_of d names is) from (text_onto (potential_words d names u) (text_onto lines rest)) = subst (At (text_of d names is) from) (text_onto-append (potential_words d names u) lines rest) at in
       let next = end_at from (potential_words d names u) in
       let later = trees_at (potential_tree d names) (potential_words d names) next us in
       ⊎_elim
       (λ (e : u ≡ v). (from, text_onto lines rest, first_is u v from (text_onto lines rest) later here e))
       (λ (n : u ≡ v → ⊥).
-      let found = finds v l next us rest (at_end (printed d names) from (potential_words d names u) (text_onto lines rest) here) (All-tail (λ w. w < length d.nodes) u us all) (contains_tail u us v has n) in
+      let found = finds v l next us rest (at_end (text_of d names is) from (potential_words d names u) (text_onto lines rest) here) (All-tail (λ w. w < length d.nodes) u us all) (contains_tail u us v has n) in
       (found.0, found.1, not_first u v from found.0 (text_onto lines rest) found.1 later (All-head (λ w. w < length d.nodes) u us all) l here n found.2))
       (cases_eq u v)
 
@@ -140,12 +139,12 @@ module _ (d : DiagramView) (names : NamesView) (is : IsPrintable d names) where
   abbrev Blocks : List BlockTree
   Blocks = tree_of d names is
 
-  pub conditions_told : (v p : ℕ) (more : List ℕ) → At (printed d names) p (text_onto (potential_words d names v) more) → look.condition_places (printed d names) (look.node_blocks Blocks) (potential_tree d names p v) ≡ (node_at d.nodes v).parents
+  pub conditions_told : (v p : ℕ) (more : List ℕ) → At (text_of d names is) p (text_onto (potential_words d names v) more) → look.condition_places (text_of d names is) (look.node_blocks Blocks) (potential_tree d names p v) ≡ (node_at d.nodes v).parents
   conditions_told v p more at =
       let parents = (node_at d.nodes v).parents in
       let tokens = drop 1 (head_tokens p names v parents) in
-      ap (λ list. map (λ t. look.place_among list (token_bytes (printed d names) t)) tokens) (names_told d names is)
-      ∙ map_map (look.place_among names.nodes) (token_bytes (printed d names)) tokens
+      ap (λ list. map (λ t. look.place_among list (token_bytes (text_of d names is) t)) tokens) (names_told d names is)
+      ∙ map_map (look.place_among names.nodes) (token_bytes (text_of d names is)) tokens
       ∙ ap (map (look.place_among names.nodes)) (potential_told v p more at).given
       ∙ places_told parents (λ k e h. is.diagram.graph.parents_known (get_or parents k e) v (All-contains_itself parents k e h))
 
@@ -155,16 +154,16 @@ module _ (d : DiagramView) (names : NamesView) (is : IsPrintable d names) where
     start n = omega arith
 
   -- the potential of each node, and where it stands
-  pub potential_found : (v : ℕ) → v < length d.nodes → (p : ℕ) × (more : List ℕ) × At (printed d names) p (text_onto (potential_words d names v) more) × (look.potential_of (printed d names) Blocks (name_of names v) ≡ Some (potential_tree d names p v))
+  pub potential_found : (v : ℕ) → v < length d.nodes → (p : ℕ) × (more : List ℕ) × At (text_of d names is) p (text_onto (potential_words d names v) more) × (look.potential_of (text_of d names is) Blocks (name_of names v) ≡ Some (potential_tree d names p v))
   potential_found v l =
-      let found = finds v l (end_at 0 (node_lines d names is)) (numbers_of d.nodes) [] (at_potentials d names is) (numbers_below (length d.nodes)) (has_number v l) in
-      (found.0, found.1, found.2.0, ap (find (λ b. bytes_eq (look.block_name (printed d names) b) (name_of names v))) (potentials_are d names is) ∙ found.2.1)
+      let found = finds v l (end_at (place_of d names is) (node_lines d names is)) (numbers_of d.nodes) [] (at_potentials d names is) (numbers_below (length d.nodes)) (has_number v l) in
+      (found.0, found.1, found.2.0, ap (find (λ b. bytes_eq (look.block_name (text_of d names is) b) (name_of names v))) (potentials_are d names is) ∙ found.2.1)
 
-  pub parents_told : map (λ n. n.parents) d.nodes ≡ look.parent_lists (printed d names) Blocks
-  parents_told = sym (tell d names is (λ b. look.block_parents (printed d names) Blocks (look.block_name (printed d names) b)) (λ v. (node_at d.nodes v).parents) one ∙ each_node (λ n. n.parents) d.nodes) where
-    one : (v p : ℕ) (more : List ℕ) → v < length d.nodes → At (printed d names) p (text_onto (node_words d.nodes names v) more) → look.block_parents (printed d names) Blocks (look.block_name (printed d names) (node_tree d.nodes names p v)) ≡ (node_at d.nodes v).parents
+  pub parents_told : map (λ n. n.parents) d.nodes ≡ look.parent_lists (text_of d names is) Blocks
+  parents_told = sym (tell d names is (λ b. look.block_parents (text_of d names is) Blocks (look.block_name (text_of d names is) b)) (λ v. (node_at d.nodes v).parents) one ∙ each_node (λ n. n.parents) d.nodes) where
+    one : (v p : ℕ) (more : List ℕ) → v < length d.nodes → At (text_of d names is) p (text_onto (node_words d.nodes names v) more) → look.block_parents (text_of d names is) Blocks (look.block_name (text_of d names is) (node_tree d.nodes names p v)) ≡ (node_at d.nodes v).parents
     one v p more l at =
         let found = potential_found v l in
-        ap (look.block_parents (printed d names) Blocks) (node_name_told (printed d names) d.nodes names v p more at)
-        ∙ ap (λ o. option_map_or (look.condition_places (printed d names) (look.node_blocks Blocks)) o []) found.3
+        ap (look.block_parents (text_of d names is) Blocks) (node_name_told (text_of d names is) d.nodes names v p more at)
+        ∙ ap (λ o. option_map_or (look.condition_places (text_of d names is) (look.node_blocks Blocks)) o []) found.3
         ∙ conditions_told v found.0 found.1 found.2

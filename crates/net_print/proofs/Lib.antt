@@ -4,6 +4,7 @@ pub mod RowDivisors
 pub mod Steps
 pub mod ReducedRows
 pub mod Written
+pub mod Comments
 pub mod Forms
 pub mod DigitValues
 pub mod WeightTexts

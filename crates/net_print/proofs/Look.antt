@@ -19,12 +19,12 @@ use Rattle.net_parser.specs.declared.trees.BlockKind.{BlockKind}
 use Rattle.net_parser.specs.declared.trees.BlockKind.TheVariants as blocks
 use Rattle.net_parser.specs.Owned.{leaves}
 use Rattle.net_parser.specs.Trees.{AttributeTree, BlockTree}
-use Rattle.net_print.specs.Printed.{printed, kind_word, owner_names}
-use Rattle.net_print.specs.RoundTrip.{IsPrintable}
+use Rattle.net_print.specs.Printed.{kind_word, owner_names}
+use Rattle.net_print.proofs.Comments.{IsPrintableBehind, text_of, place_of}
 use Rattle.net_print.proofs.Spelling.{trees_at}
-use Rattle.net_print.proofs.Texts.{text_is, numbers_below}
+use Rattle.net_print.proofs.Texts.{numbers_below}
 use Rattle.net_print.proofs.Told.{says, text_says, texts_say, trees_tell, leaves_are}
-use Rattle.net_print.proofs.Tree.{block_kind, node_tree, potential_tree, tree_of, list_tree, agent_tree, owner_tree, attribute_trees}
+use Rattle.net_print.proofs.Tree.{block_kind, node_tree, potential_tree, tree_of, at_start, list_tree, agent_tree, owner_tree, attribute_trees}
 use Rattle.net_print.proofs.Words.{written, space, items, equals, paren_open, paren_close, semicolon, brace_open, brace_close, list_words, agent_words, owner_words, attribute_words, open_words, node_words, potential_words}
 use Rattle.net_print.proofs.Written.{Written, At, at_rest, at_end, behind, end_at, text_onto, text_onto-append, tokens_at}
 
@@ -233,7 +233,7 @@ potentials_kept : (d : DiagramView) (names : NamesView) (lines : ℕ → List Wr
 potentials_kept d names lines from [] = refl
 potentials_kept d names lines from (v ∷ vs) = ap (λ bs. potential_tree d names from v ∷ bs) (potentials_kept d names lines (end_at from (lines v)) vs)
 
-module _ (d : DiagramView) (names : NamesView) (is : IsPrintable d names) where
+module _ (d : DiagramView) (names : NamesView) (is : IsPrintableBehind d names) where
   abbrev pub node_lines : List Written
   node_lines = flat_map (node_words d.nodes names) (numbers_of d.nodes)
 
@@ -241,39 +241,39 @@ module _ (d : DiagramView) (names : NamesView) (is : IsPrintable d names) where
   potential_lines = flat_map (potential_words d names) (numbers_of d.nodes)
 
   abbrev pub node_trees : List BlockTree
-  node_trees = trees_at (node_tree d.nodes names) (node_words d.nodes names) 0 (numbers_of d.nodes)
+  node_trees = trees_at (node_tree d.nodes names) (node_words d.nodes names) (place_of d names is) (numbers_of d.nodes)
 
   abbrev pub potential_trees : List BlockTree
-  potential_trees = trees_at (potential_tree d names) (potential_words d names) (end_at 0 node_lines) (numbers_of d.nodes)
+  potential_trees = trees_at (potential_tree d names) (potential_words d names) (end_at (place_of d names is) node_lines) (numbers_of d.nodes)
 
   pub node_blocks_are : look.node_blocks (tree_of d names is) ≡ node_trees
   node_blocks_are =
       filter-append (λ b. look.is_node b.kind) node_trees potential_trees
-      ∙ ap (λ bs. bs ++ filter (λ b. look.is_node b.kind) potential_trees) (nodes_kept d.nodes names (node_words d.nodes names) 0 (numbers_of d.nodes))
-      ∙ ap (λ bs. node_trees ++ bs) (potentials_dropped d names (potential_words d names) (end_at 0 node_lines) (numbers_of d.nodes))
+      ∙ ap (λ bs. bs ++ filter (λ b. look.is_node b.kind) potential_trees) (nodes_kept d.nodes names (node_words d.nodes names) (place_of d names is) (numbers_of d.nodes))
+      ∙ ap (λ bs. node_trees ++ bs) (potentials_dropped d names (potential_words d names) (end_at (place_of d names is) node_lines) (numbers_of d.nodes))
       ∙ append-nil node_trees
 
   pub potentials_are : look.potentials (tree_of d names is) ≡ potential_trees
   potentials_are =
       filter-append (λ b. look.is_potential b.kind) node_trees potential_trees
-      ∙ ap (λ bs. bs ++ filter (λ b. look.is_potential b.kind) potential_trees) (nodes_dropped d.nodes names (node_words d.nodes names) 0 (numbers_of d.nodes))
-      ∙ potentials_kept d names (potential_words d names) (end_at 0 node_lines) (numbers_of d.nodes)
+      ∙ ap (λ bs. bs ++ filter (λ b. look.is_potential b.kind) potential_trees) (nodes_dropped d.nodes names (node_words d.nodes names) (place_of d names is) (numbers_of d.nodes))
+      ∙ potentials_kept d names (potential_words d names) (end_at (place_of d names is) node_lines) (numbers_of d.nodes)
 
-  pub at_nodes : At (printed d names) 0 (text_onto node_lines (text_onto potential_lines []))
-  at_nodes = subst (λ bs. At (printed d names) 0 bs) (text_onto-append node_lines potential_lines []) (record { here = sym (text_is d names is); within = omega arith })
+  pub at_nodes : At (text_of d names is) (place_of d names is) (text_onto node_lines (text_onto potential_lines []))
+  at_nodes = subst (λ bs. At (text_of d names is) (place_of d names is) bs) (text_onto-append node_lines potential_lines []) (at_start d names is)
 
-  pub at_potentials : At (printed d names) (end_at 0 node_lines) (text_onto potential_lines [])
-  at_potentials = at_end (printed d names) 0 node_lines (text_onto potential_lines []) at_nodes
+  pub at_potentials : At (text_of d names is) (end_at (place_of d names is) node_lines) (text_onto potential_lines [])
+  at_potentials = at_end (text_of d names is) (place_of d names is) node_lines (text_onto potential_lines []) at_nodes
 
   -- what the node blocks say
-  pub tell : {B : Type 0} (f : BlockTree → B) (g : ℕ → B) → ((v p : ℕ) (more : List ℕ) → v < length d.nodes → At (printed d names) p (text_onto (node_words d.nodes names v) more) → f (node_tree d.nodes names p v) ≡ g v) → map f (look.node_blocks (tree_of d names is)) ≡ map g (numbers_of d.nodes)
-  tell f g one = ap (map f) node_blocks_are ∙ trees_tell (printed d names) f g (node_tree d.nodes names) (node_words d.nodes names) 0 (numbers_of d.nodes) (text_onto potential_lines []) at_nodes (λ k e h p more at. one (get_or (numbers_of d.nodes) k e) p more (numbers_below (length d.nodes) k e h) at)
+  pub tell : {B : Type 0} (f : BlockTree → B) (g : ℕ → B) → ((v p : ℕ) (more : List ℕ) → v < length d.nodes → At (text_of d names is) p (text_onto (node_words d.nodes names v) more) → f (node_tree d.nodes names p v) ≡ g v) → map f (look.node_blocks (tree_of d names is)) ≡ map g (numbers_of d.nodes)
+  tell f g one = ap (map f) node_blocks_are ∙ trees_tell (text_of d names is) f g (node_tree d.nodes names) (node_words d.nodes names) (place_of d names is) (numbers_of d.nodes) (text_onto potential_lines []) at_nodes (λ k e h p more at. one (get_or (numbers_of d.nodes) k e) p more (numbers_below (length d.nodes) k e h) at)
 
-  pub names_told : look.names_of (printed d names) (look.node_blocks (tree_of d names is)) ≡ names.nodes
-  names_told = tell (look.block_name (printed d names)) (name_of names) (λ v p more l at. node_name_told (printed d names) d.nodes names v p more at) ∙ each_place names.nodes (length d.nodes) [] is.fit.nodes
+  pub names_told : look.names_of (text_of d names is) (look.node_blocks (tree_of d names is)) ≡ names.nodes
+  names_told = tell (look.block_name (text_of d names is)) (name_of names) (λ v p more l at. node_name_told (text_of d names is) d.nodes names v p more at) ∙ each_place names.nodes (length d.nodes) [] is.fit.nodes
 
-  pub labels_are_told : map (look.block_labels (printed d names)) (look.node_blocks (tree_of d names is)) ≡ names.labels
-  labels_are_told = tell (look.block_labels (printed d names)) (labels_of names) (λ v p more l at. node_labels_told (printed d names) d.nodes names v p more at (is.form.utility_labels v)) ∙ each_place names.labels (length d.nodes) [] is.fit.labels
+  pub labels_are_told : map (look.block_labels (text_of d names is)) (look.node_blocks (tree_of d names is)) ≡ names.labels
+  labels_are_told = tell (look.block_labels (text_of d names is)) (labels_of names) (λ v p more l at. node_labels_told (text_of d names is) d.nodes names v p more at (is.form.utility_labels v)) ∙ each_place names.labels (length d.nodes) [] is.fit.labels
 
   pub kinds_told : map (λ n. n.kind) d.nodes ≡ map (λ b. look.kind_of b.kind) (look.node_blocks (tree_of d names is))
   kinds_told = sym (tell (λ b. look.kind_of b.kind) (λ v. (node_at d.nodes v).kind) (λ v p more l at. kind_is (node_at d.nodes v).kind) ∙ each_node (λ n. n.kind) d.nodes)

@@ -14,8 +14,8 @@ use Rattle.net_build.specs.Table.{node_pass, node_rows, name_rows, owner_rows, s
 use Rattle.first_fault.specs.Passes.{each_after}
 use Rattle.finite_sums.proofs.Sights.{first_sights_all}
 use Rattle.net_parser.specs.Trees.{BlockTree}
-use Rattle.net_print.specs.Printed.{printed, kind_word, owner_names}
-use Rattle.net_print.specs.RoundTrip.{IsPrintable}
+use Rattle.net_print.specs.Printed.{kind_word, owner_names}
+use Rattle.net_print.proofs.Comments.{IsPrintableBehind, text_of, place_of}
 use Rattle.net_print.proofs.AgentCount.{one_more}
 use Rattle.net_print.proofs.Agents.{agents_apart, agents_differ, agents_told}
 use Rattle.net_print.proofs.ClearPasses.{after_clear, only_clear, in_whole, not_earlier}
@@ -35,9 +35,9 @@ too_long n most h k = omega arith
 full : (named front rest whole : ℕ) → named ≡ front → whole ≡ front + suc rest → whole ≤ 256 → 256 ≤ named → ⊥
 full named front rest whole n e h k = omega arith
 
-module _ (d : DiagramView) (names : NamesView) (is : IsPrintable d names) where
+module _ (d : DiagramView) (names : NamesView) (is : IsPrintableBehind d names) where
   abbrev Text : List ℕ
-  Text = printed d names
+  Text = text_of d names is
 
   abbrev Nodes : List BlockTree
   Nodes = look.node_blocks (tree_of d names is)

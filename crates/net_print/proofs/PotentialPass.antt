@@ -15,8 +15,7 @@ use Rattle.net_build.specs.Table.{potential_pass, potential_rows, condition_rows
 use Rattle.net_lexer.specs.Token.{token_bytes}
 use Rattle.net_lexer.specs.declared.tokens.Token.{Token}
 use Rattle.net_parser.specs.Trees.{BlockTree}
-use Rattle.net_print.specs.Printed.{printed}
-use Rattle.net_print.specs.RoundTrip.{IsPrintable}
+use Rattle.net_print.proofs.Comments.{IsPrintableBehind, text_of, place_of}
 use Rattle.net_print.proofs.Given.{nothing, potential_title, potential_given, place_told}
 use Rattle.net_print.proofs.Look.{names_told, kinds_told, potentials_are, at_potentials, node_lines}
 use Rattle.net_print.proofs.Spelling.{trees_at}
@@ -30,9 +29,9 @@ first_same e = cc
 pub rest_same : {A : Type 0} {x y : A} {xs ys : List A} → x ∷ xs ≡ y ∷ ys → xs ≡ ys
 rest_same e = cc
 
-module _ (d : DiagramView) (names : NamesView) (is : IsPrintable d names) where
+module _ (d : DiagramView) (names : NamesView) (is : IsPrintableBehind d names) where
   abbrev Text : List ℕ
-  Text = printed d names
+  Text = text_of d names is
 
   abbrev Nodes : List BlockTree
   Nodes = look.node_blocks (tree_of d names is)
@@ -134,4 +133,4 @@ module _ (d : DiagramView) (names : NamesView) (is : IsPrintable d names) where
   unfolding potential_pass
   potentials_clear =
       let n = length d.nodes in
-      subst (λ list. each_after (potential_rows Text Nodes) [] list None) (sym (potentials_are d names is)) (after_clear n 0 (end_at 0 (node_lines d names is)) [] [] (omega arith) (at_potentials d names is) refl)
+      subst (λ list. each_after (potential_rows Text Nodes) [] list None) (sym (potentials_are d names is)) (after_clear n 0 (end_at (place_of d names is) (node_lines d names is)) [] [] (omega arith) (at_potentials d names is) refl)

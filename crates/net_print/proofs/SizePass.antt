@@ -14,8 +14,7 @@ use Rattle.net_build.specs.Passes.{found, LimitPassed}
 use Rattle.net_build.specs.Table.{size_pass, size_rows, rule_cells}
 use Rattle.net_build.specs.declared.faults.Limit.TheVariants.{Rules}
 use Rattle.net_parser.specs.Trees.{BlockTree}
-use Rattle.net_print.specs.Printed.{printed}
-use Rattle.net_print.specs.RoundTrip.{IsPrintable}
+use Rattle.net_print.proofs.Comments.{IsPrintableBehind, text_of, place_of}
 use Rattle.std.proofs.lemmas.List.Concat.{flat_map_single}
 use Rattle.net_print.proofs.Agents.{filter_flat}
 use Rattle.net_print.proofs.ClearPasses.{after_clear, only_clear, in_whole}
@@ -37,9 +36,9 @@ no_more n most h k = omega arith
 front_fits : (front back whole total most : ℕ) → whole ≡ front + back → whole ≡ total → total ≤ most → front ≤ most
 front_fits front back whole total most e f h = omega arith
 
-module _ (d : DiagramView) (names : NamesView) (is : IsPrintable d names) where
+module _ (d : DiagramView) (names : NamesView) (is : IsPrintableBehind d names) where
   abbrev Text : List ℕ
-  Text = printed d names
+  Text = text_of d names is
 
   abbrev Blocks : List BlockTree
   Blocks = tree_of d names is

@@ -19,8 +19,8 @@ use Rattle.net_lexer.specs.declared.tokens.TokenKind.TheVariants.{Number}
 use Rattle.net_parser.specs.Owned.{leaves}
 use Rattle.net_parser.specs.Trees.{AttributeTree, BlockTree}
 use Rattle.net_build.specs.Plain.{reduced_rows}
-use Rattle.net_print.specs.Printed.{printed, value_text}
-use Rattle.net_print.specs.RoundTrip.{IsPrintable}
+use Rattle.net_print.specs.Printed.{value_text}
+use Rattle.net_print.proofs.Comments.{IsPrintableBehind, text_of, place_of}
 use Rattle.net_print.proofs.CountsTold.{block_states_told, row_count_told, cell_count_told}
 use Rattle.net_print.proofs.Faultless.{each_clear, nodes_hold}
 use Rattle.net_print.proofs.Given.{potential_found}
@@ -61,9 +61,9 @@ data_clear text blocks block potential from Utility decimals states rows cells i
       ),
     )
 
-module _ (d : DiagramView) (names : NamesView) (is : IsPrintable d names) where
+module _ (d : DiagramView) (names : NamesView) (is : IsPrintableBehind d names) where
   abbrev Text : List ℕ
-  Text = printed d names
+  Text = text_of d names is
 
   abbrev Blocks : List BlockTree
   Blocks = tree_of d names is

@@ -21,8 +21,8 @@ use Rattle.net_parser.specs.declared.trees.BlockKind.{BlockKind}
 use Rattle.net_parser.specs.Owned.{leaves}
 use Rattle.net_parser.specs.Trees.{BlockTree}
 use Rattle.net_build.specs.Plain.{reduced_rows}
-use Rattle.net_print.specs.Printed.{printed, value_text}
-use Rattle.net_print.specs.RoundTrip.{IsPrintable}
+use Rattle.net_print.specs.Printed.{value_text}
+use Rattle.net_print.proofs.Comments.{IsPrintableBehind, text_of, place_of}
 use Rattle.net_print.proofs.Agents.{states_told}
 use Rattle.net_print.proofs.Given.{item_bytes, potential_found, potential_title}
 use Rattle.net_print.proofs.Look.{names_told, kinds_told, potentials_are, at_potentials, node_lines}
@@ -123,9 +123,9 @@ module _ (text : List ℕ) where
   numbers_told from Decision decimals states rows cells rest at = refl
   numbers_told from Utility decimals states rows cells rest at = list_told from (codes "data") Number (value_text decimals) cells rest at
 
-module _ (d : DiagramView) (names : NamesView) (is : IsPrintable d names) where
+module _ (d : DiagramView) (names : NamesView) (is : IsPrintableBehind d names) where
   abbrev Text : List ℕ
-  Text = printed d names
+  Text = text_of d names is
 
   abbrev Blocks : List BlockTree
   Blocks = tree_of d names is
@@ -212,6 +212,6 @@ module _ (d : DiagramView) (names : NamesView) (is : IsPrintable d names) where
       kept_flat (token_bytes Text) (λ (p : BlockTree). look.leaves_of (look.data_of Text p)) (λ p. is_utility (kind_named Text Nodes (look.block_name Text p))) (look.potentials Blocks)
       ∙ ap (flat_map (λ ys. ys)) (
       ap (map told_piece) (potentials_are d names is)
-      ∙ trees_tell Text told_piece cells_piece (potential_tree d names) (potential_words d names) (end_at 0 (node_lines d names is)) (numbers_of d.nodes) [] (at_potentials d names is)
+      ∙ trees_tell Text told_piece cells_piece (potential_tree d names) (potential_words d names) (end_at (place_of d names is) (node_lines d names is)) (numbers_of d.nodes) [] (at_potentials d names is)
       (λ k e h p more at. piece_told (get_or (numbers_of d.nodes) k e) p more (numbers_below (length d.nodes) k e h) at))
       ∙ sym (kept_flat (value_text d.decimals) (λ (v : ℕ). (node_at d.nodes v).cells) (λ v. is_utility (node_at d.nodes v).kind) (numbers_of d.nodes))

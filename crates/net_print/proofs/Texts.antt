@@ -16,7 +16,7 @@ use Rattle.net_lexer.specs.Numerals.{is_numeral}
 use Rattle.net_lexer.specs.Token.{is_name}
 use Rattle.net_build.specs.Plain.{reduced_row, reduced_rows, row_divisor}
 use Rattle.net_print.specs.Printed.{printed, node_line, potential_line}
-use Rattle.net_print.specs.RoundTrip.{IsPrintable}
+use Rattle.net_print.proofs.Comments.{IsPrintableBehind}
 use Rattle.net_print.proofs.Forms.{decimal_numeral, value_numeral}
 use Rattle.net_print.proofs.Rows.{row_total}
 use Rattle.net_print.proofs.Words.{Writes, writes-append, writes-all, node_words, node_writes, potential_words, potential_writes, HasNumerals}
@@ -31,7 +31,7 @@ all_flat P f (x ∷ xs) all = All-append P (f x) (flat_map f xs) (All-head (λ y
 pub numbers_below : (n : ℕ) → All (λ v. v < n) (range_with_len 0 n)
 numbers_below n k d h = let l : k < n = omega (arith, length-range_with_len 0 n) in subst (λ v. v < n) (sym (get_or-range_with_len 0 n k d l)) (omega arith)
 
-module _ (d : DiagramView) (names : NamesView) (is : IsPrintable d names) where
+module _ (d : DiagramView) (names : NamesView) (is : IsPrintableBehind d names) where
   -- each node has a name
   pub named : (v : ℕ) → v < length d.nodes → is_name (name_of names v) ≡ true
   named v h = (is.form.words v [] (subst (λ n. v < n) (sym is.fit.nodes) h)).unsigned

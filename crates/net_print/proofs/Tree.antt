@@ -20,13 +20,14 @@ use Rattle.net_parser.specs.Grammar.{Rule, Spells, IsModelName, ◌▹◌}
 use Rattle.net_parser.specs.Lexemes.{Lexeme, lexemes, is_leaf, IsWord}
 use Rattle.net_parser.specs.Trees.{leaf, list, AttributeTree, BlockTree}
 use Rattle.net_build.specs.Plain.{reduced_rows}
-use Rattle.net_print.specs.Printed.{printed, kind_word, value_text, owner_names}
-use Rattle.net_print.specs.RoundTrip.{IsPrintable}
+use Rattle.net_print.specs.Printed.{kind_word, value_text, owner_names}
+use Rattle.net_print.specs.RoundTrip.{comment_lines}
+use Rattle.net_print.proofs.Comments.{IsPrintableBehind, text_of, place_of, written_at, written_tokens, written_lexemes}
 use Rattle.net_print.proofs.Spelling.{lexemes_onto, lexemes_onto-append, lexemes_onto_none, Spelled, spelled-append, spelled-cons, mark_spelled, word_spelled, name_spelled, AreNames, names_spelled, leaf_trees, AreLeaves, leaf_spelled, list_spelled, trees_at}
 use Rattle.net_print.proofs.Texts.{named, numbers_below, parents_named, text_is, text_writes}
 use Rattle.net_print.proofs.Texts as texts
 use Rattle.net_print.proofs.Words.{written, space, items, equals, paren_open, paren_close, semicolon, brace_open, brace_close, bar, list_words, agent_words, owner_words, attribute_words, open_words, node_words, head_words, table_words, potential_words}
-use Rattle.net_print.proofs.Written.{Written, behind, end_at, token_at, tokens_at, written_tokens, written_lexemes}
+use Rattle.net_print.proofs.Written.{Written, At, behind, end_at, token_at, tokens_at, text_onto}
 
 -- WORD = ( ITEMS ) ;
 abbrev pub list_tree : {A : Type 0} → ℕ → List ℕ → TokenKind → (A → List ℕ) → List A → AttributeTree
@@ -275,31 +276,39 @@ text_spelled : (tree : List BlockTree) (a b : List Lexeme) → grammar.Each (gra
 text_spelled [] a b h = h
 text_spelled (block ∷ tree) a b h = (h.0, (h.1.0, head_first block.kind block.names a h.1.0 h.1.1, h.1.2), h.2)
 
-module _ (d : DiagramView) (names : NamesView) (is : IsPrintable d names) where
+module _ (d : DiagramView) (names : NamesView) (is : IsPrintableBehind d names) where
   abbrev node_text : List Written
   node_text = flat_map (node_words d.nodes names) (numbers_of d.nodes)
 
   -- the tree: the nodes' blocks, and then their potentials
   abbrev pub tree_of : List BlockTree
-  tree_of = trees_at (node_tree d.nodes names) (node_words d.nodes names) 0 (numbers_of d.nodes) ++ trees_at (potential_tree d names) (potential_words d names) (end_at 0 (flat_map (node_words d.nodes names) (numbers_of d.nodes))) (numbers_of d.nodes)
+  tree_of = trees_at (node_tree d.nodes names) (node_words d.nodes names) (place_of d names is) (numbers_of d.nodes) ++ trees_at (potential_tree d names) (potential_words d names) (end_at (place_of d names is) (flat_map (node_words d.nodes names) (numbers_of d.nodes))) (numbers_of d.nodes)
 
-  tree_spelled : grammar.Each (grammar.Block false) tree_of (lexemes_onto 0 (texts.words d names is) []) []
+  tree_spelled : grammar.Each (grammar.Block false) tree_of (lexemes_onto (place_of d names is) (texts.words d names is) []) []
   tree_spelled =
       let vs = numbers_of d.nodes in
       let n = length d.nodes in
       let potentials = flat_map (potential_words d names) vs in
-      let between = lexemes_onto (end_at 0 node_text) potentials [] in
-      subst (λ ls. grammar.Each (grammar.Block false) tree_of ls []) (sym (lexemes_onto-append 0 node_text potentials []))
-      (each-append (grammar.Block false) (trees_at (node_tree d.nodes names) (node_words d.nodes names) 0 vs) (trees_at (potential_tree d names) (potential_words d names) (end_at 0 node_text) vs) (lexemes_onto 0 node_text between) between []
-      (blocks_spelled (node_tree d.nodes names) (node_words d.nodes names) 0 vs (λ k e h p. node_spelled false d.nodes names p (get_or vs k e) (named d names is (get_or vs k e) (numbers_below n k e h))) between)
-      (blocks_spelled (potential_tree d names) (potential_words d names) (end_at 0 node_text) vs (λ k e h p. potential_spelled false d names p (get_or vs k e) (named d names is (get_or vs k e) (numbers_below n k e h)) (parents_named d names is (get_or vs k e))) []))
+      let between = lexemes_onto (end_at (place_of d names is) node_text) potentials [] in
+      subst (λ ls. grammar.Each (grammar.Block false) tree_of ls []) (sym (lexemes_onto-append (place_of d names is) node_text potentials []))
+      (each-append (grammar.Block false) (trees_at (node_tree d.nodes names) (node_words d.nodes names) (place_of d names is) vs) (trees_at (potential_tree d names) (potential_words d names) (end_at (place_of d names is) node_text) vs) (lexemes_onto (place_of d names is) node_text between) between []
+      (blocks_spelled (node_tree d.nodes names) (node_words d.nodes names) (place_of d names is) vs (λ k e h p. node_spelled false d.nodes names p (get_or vs k e) (named d names is (get_or vs k e) (numbers_below n k e h))) between)
+      (blocks_spelled (potential_tree d names) (potential_words d names) (end_at (place_of d names is) node_text) vs (λ k e h p. potential_spelled false d names p (get_or vs k e) (named d names is (get_or vs k e) (numbers_below n k e h)) (parents_named d names is (get_or vs k e))) []))
 
-  pub spells : Spells tree_of (lexemes (printed d names) (tokens_at 0 (texts.words d names is)))
+  -- the written tokens behind the comments are the text
+  whole : comment_lines is.comments ++ text_onto (texts.words d names is) [] ≡ text_of d names is
+  whole = ap (λ bytes. comment_lines is.comments ++ bytes) (text_is d names is)
+
+  pub at_start : At (text_of d names is) (place_of d names is) (text_onto (texts.words d names is) [])
+  at_start = subst (λ text. At text (place_of d names is) (text_onto (texts.words d names is) [])) whole (written_at is.comments is.lines (texts.words d names is))
+
+  pub spells : Spells tree_of (lexemes (text_of d names is) (tokens_at (place_of d names is) (texts.words d names is)))
   spells =
       let ws = texts.words d names is in
-      let are : lexemes_onto 0 ws [] ≡ lexemes (printed d names) (tokens_at 0 ws) =
-      lexemes_onto_none 0 ws ∙ sym (written_lexemes ws) ∙ ap (λ text. lexemes text (tokens_at 0 ws)) (text_is d names is) in
-      subst (λ ls. Spells tree_of ls) are (text_spelled tree_of (lexemes_onto 0 ws []) [] tree_spelled)
+      let from = place_of d names is in
+      let are : lexemes_onto from ws [] ≡ lexemes (text_of d names is) (tokens_at from ws) =
+      lexemes_onto_none from ws ∙ sym (written_lexemes is.comments is.lines ws) ∙ ap (λ text. lexemes text (tokens_at from ws)) whole in
+      subst (λ ls. Spells tree_of ls) are (text_spelled tree_of (lexemes_onto from ws []) [] tree_spelled)
 
-  pub tokens_are : IsTokens (printed d names) (tokens_at 0 (texts.words d names is))
-  tokens_are = subst (λ text. IsTokens text (tokens_at 0 (texts.words d names is))) (text_is d names is) (written_tokens (texts.words d names is) ((text_writes d names is).stands []))
+  pub tokens_are : IsTokens (text_of d names is) (tokens_at (place_of d names is) (texts.words d names is))
+  tokens_are = subst (λ text. IsTokens text (tokens_at (place_of d names is) (texts.words d names is))) whole (written_tokens is.comments is.lines (texts.words d names is) ((text_writes d names is).stands []))

@@ -5,17 +5,16 @@ use Rattle.maid_model.specs.Names.{NamesView}
 use Rattle.maid_model.specs.Views.{DiagramView}
 use Rattle.net_build.specs.Table.{wide_pass, utility_numbers, IsUtilityScale}
 use Rattle.net_parser.specs.Trees.{BlockTree}
-use Rattle.net_print.specs.Printed.{printed}
-use Rattle.net_print.specs.RoundTrip.{IsPrintable}
+use Rattle.net_print.proofs.Comments.{IsPrintableBehind, text_of, place_of}
 use Rattle.net_print.proofs.TablesTold.{utility_cells, utilities_told}
 use Rattle.net_print.proofs.Tree.{tree_of}
 use Rattle.net_print.proofs.UtilityCells.{from_each, cells_need}
 use Rattle.net_print.proofs.ValueLimits.{small_enough, widths_clear}
 use Rattle.net_print.proofs.ValueScale.{scale_least}
 
-module _ (d : DiagramView) (names : NamesView) (is : IsPrintable d names) where
+module _ (d : DiagramView) (names : NamesView) (is : IsPrintableBehind d names) where
   abbrev Text : List ℕ
-  Text = printed d names
+  Text = text_of d names is
 
   abbrev Blocks : List BlockTree
   Blocks = tree_of d names is

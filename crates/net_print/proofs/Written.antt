@@ -93,7 +93,7 @@ abbrev blanks : ℕ → List ℕ → List Piece
 blanks from [] = []
 blanks from (b ∷ bs) = piece Blank from (from + 1) ∷ blanks (from + 1) bs
 
-lead-append : (text : List ℕ) (from : ℕ) (xs ys : List Piece) (between to : ℕ) → Lead text from xs between → Lead text between ys to → Lead text from (xs ++ ys) to
+pub lead-append : (text : List ℕ) (from : ℕ) (xs ys : List Piece) (between to : ℕ) → Lead text from xs between → Lead text between ys to → Lead text from (xs ++ ys) to
 lead-append text from [] ys between to front back = subst (λ n. Lead text n ys to) (sym front) back
 lead-append text from (x ∷ xs) ys between to front back = (front.0, front.1, lead-append text x.end xs ys between to front.2 back)
 
@@ -144,7 +144,7 @@ abbrev pub end_at : ℕ → List Written → ℕ
 end_at from [] = from
 end_at from (w ∷ ws) = end_at (behind from w) ws
 
-abbrev pieces_at : ℕ → List Written → List Piece
+abbrev pub pieces_at : ℕ → List Written → List Piece
 pieces_at from [] = []
 pieces_at from (w ∷ ws) = blanks from w.before ++ piece (pieces.Token w.kind) (start_of from w) (end_of from w) ∷ (blanks (end_of from w) w.after ++ pieces_at (behind from w) ws)
 
@@ -158,7 +158,7 @@ module _ (text : List ℕ) where
   pub at_rest : (from : ℕ) (w : Written) (rest : List ℕ) → At text from (w.before ++ (w.bytes ++ (w.after ++ rest))) → At text (behind from w) rest
   at_rest from w rest at = at_next text (end_of from w) w.after rest (at_after from w rest at)
 
-  leads : (from : ℕ) (ws : List Written) (rest : List ℕ) → At text from (text_onto ws rest) → Stands ws rest → Lead text from (pieces_at from ws) (end_at from ws)
+  pub leads : (from : ℕ) (ws : List Written) (rest : List ℕ) → At text from (text_onto ws rest) → Stands ws rest → Lead text from (pieces_at from ws) (end_at from ws)
   leads from [] rest at stands = refl
   leads from (w ∷ ws) rest at stands =
       let more = text_onto ws rest in
@@ -184,30 +184,9 @@ module _ (text : List ℕ) where
       ap (λ bs. record { token = token_at from w; bytes = bs } ∷ lexemes text (tokens_at (behind from w) ws)) (at_slice text (start_of from w) w.bytes (w.after ++ more) (at_bytes from w more at))
       ∙ ap (λ ls. record { token = token_at from w; bytes = w.bytes } ∷ ls) (lexemes_are (behind from w) ws rest (at_rest from w more at))
 
-among : (from : ℕ) (ws : List Written) → tokens_at from ws ≡ filter_map token_of (pieces_at from ws)
+pub among : (from : ℕ) (ws : List Written) → tokens_at from ws ≡ filter_map token_of (pieces_at from ws)
 among from [] = refl
 among from (w ∷ ws) = sym (
     filter_map-append token_of (blanks from w.before) (piece (pieces.Token w.kind) (start_of from w) (end_of from w) ∷ (blanks (end_of from w) w.after ++ pieces_at (behind from w) ws))
     ∙ ap (λ front. front ++ (token_at from w ∷ filter_map token_of (blanks (end_of from w) w.after ++ pieces_at (behind from w) ws))) (no_tokens from w.before)
     ∙ ap (λ rest. token_at from w ∷ rest) (filter_map-append token_of (blanks (end_of from w) w.after) (pieces_at (behind from w) ws) ∙ ap (λ front. front ++ filter_map token_of (pieces_at (behind from w) ws)) (no_tokens (end_of from w) w.after) ∙ sym (among (behind from w) ws)))
-
-whole : (ws : List Written) → At (text_onto ws []) 0 (text_onto ws [])
-whole ws = record { here = refl; within = omega arith }
-
--- These are the text's tokens.
-pub written_tokens : (ws : List Written) → Stands ws [] → IsTokens (text_onto ws []) (tokens_at 0 ws)
-written_tokens ws stands =
-    let text = text_onto ws [] in
-    let last = at_end text 0 ws [] (whole ws) in
-    record {
-      pieces = pieces_at 0 ws;
-      lead = subst (λ n. Lead text 0 (pieces_at 0 ws) n) (ended (length text) (end_at 0 ws) last.within (sym (length-drop (end_at 0 ws) text) ∙ ap length last.here)) (leads text 0 ws [] (whole ws) stands);
-      among = among 0 ws;
-    }
-  where
-    ended : (t n : ℕ) → n ≤ t → t - n ≡ 0 → n ≡ t
-    ended t n le e = omega arith
-
--- and these its lexemes
-pub written_lexemes : (ws : List Written) → lexemes (text_onto ws []) (tokens_at 0 ws) ≡ lexemes_at 0 ws
-written_lexemes ws = lexemes_are (text_onto ws []) 0 ws [] (whole ws)

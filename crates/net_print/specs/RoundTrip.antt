@@ -1,8 +1,11 @@
 -- The round trip: the printed text of a diagram stands for that diagram and its names.
-use Rattle.std.specs.Prelude.{List, None}
+use Rattle.std.specs.Prelude.{◌≡◌, ℕ, true, List, ◌∷◌, ◌++◌, All, None}
+use Rattle.std.specs.List.{flat_map, list_all}
 use Rattle.maid_model.specs.Diagrams.{IsDiagram}
 use Rattle.maid_model.specs.Names.{NamesView, NamesFit}
+use Rattle.maid_model.specs.Reports.{line}
 use Rattle.maid_model.specs.Views.{DiagramView}
+use Rattle.net_lexer.specs.Bytes.{is_line_byte}
 use Rattle.net_lexer.specs.Pieces.{IsTokens}
 use Rattle.net_lexer.specs.declared.tokens.Token.{Token}
 use Rattle.net_parser.specs.Grammar.{Spells}
@@ -22,9 +25,25 @@ pub record IsPrintable (d : DiagramView) (names : NamesView) : Type 0 where
   pub form : HasTextForm d names
 
 -- the text has tokens, they spell a tree, and without a fault it stands for the diagram and the names
+abbrev pub ReadsAs : List ℕ → DiagramView → NamesView → Type 0
+ReadsAs text d names = (tokens : List Token) × (tree : List BlockTree) × IsTokens text tokens × Spells tree (lexemes text tokens) × all_passes text tree None × StandsFor text tree d names
+
+-- the printed text does
 abbrev pub ReadsBack : DiagramView → NamesView → Type 0
-ReadsBack d names = (tokens : List Token) × (tree : List BlockTree) × IsTokens (printed d names) tokens × Spells tree (lexemes (printed d names) tokens) × all_passes (printed d names) tree None × StandsFor (printed d names) tree d names
+ReadsBack d names = ReadsAs (printed d names) d names
 
 -- The round trip.
 abbrev pub RoundTrip : Type 0
 RoundTrip = (d : DiagramView) (names : NamesView) → IsPrintable d names → ReadsBack d names
+
+-- no byte ends a line
+abbrev pub IsOneLine : List ℕ → Type 0
+IsOneLine words = list_all is_line_byte words ≡ true
+
+-- a line for each comment: a percent sign and its words
+abbrev pub comment_lines : List (List ℕ) → List ℕ
+comment_lines comments = flat_map (λ words. line (37 ∷ words)) comments
+
+-- The round trip of a text behind such lines, which are read over.
+abbrev pub CommentedRoundTrip : Type 0
+CommentedRoundTrip = (comments : List (List ℕ)) → All IsOneLine comments → (d : DiagramView) (names : NamesView) → IsPrintable d names → ReadsAs (comment_lines comments ++ printed d names) d names

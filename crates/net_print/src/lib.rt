@@ -8,7 +8,7 @@ mod pieces;
 mod potentials;
 mod printing;
 
-pub use laws::printed_texts_read_back;
+pub use laws::{commented_texts_read_back, printed_texts_read_back};
 pub use printing::print;
 
 #[cfg(test)]

@@ -1,0 +1,49 @@
+//! `trim F`: the diagram without the arcs that decisions do not need.
+
+ghost use Rattle.std.specs.Prelude.{◌≡◌, ◌++◌, Ok, IfOk, IfErr};
+ghost use Rattle.app_lines.specs.Removed.{AreNamed, removed_lines};
+ghost use Rattle.maid_model.specs.Names.{NamesFit};
+ghost use Rattle.net_print.specs.Printed.{printed};
+ghost use Rattle.maid_app.specs.Reading.{TellsOf};
+ghost use Rattle.maid_app.specs.Tasks.{comes_of};
+ghost use Rattle.maid_app.specs.Trim.{trimming};
+
+use crate::reading::Source;
+use crate::refusal::Refusal;
+use app_lines::removed_lines;
+use maid_model::{Diagram, Names};
+use net_print::{commented_texts_read_back, print};
+use requisite_trim::trim;
+use std::alloc::{AllocError, Global};
+
+// The lines of the removed arcs, and then the text of the diagram without them.
+fn trimmed_text(
+    alloc: Global,
+    trimmed: &Diagram,
+    names: &Names,
+    removed: &[(usize, usize)],
+) -> Result<Vec<u8>, AllocError>
+    requires fit { NamesFit trimmed.now names.now }
+    requires named { AreNamed names.now removed.now }
+    ensures { IfOk result (λ text. text.items ≡ removed_lines names.now removed.now ++ printed trimmed.now names.now) }
+{
+    let mut text = removed_lines(alloc, names, removed)?;
+    text.extend_from_slice(&print(alloc, trimmed, names)?)?;
+    Ok(text)
+}
+
+/// The arcs of the diagram that a file's bytes stand for which its decisions do not need, a comment line each, and then
+/// the text of the diagram without them. The whole stands for the trimmed diagram and the same names.
+///
+/// # Errors
+///
+/// The fault of the bytes, or want of memory.
+pub fn answer(alloc: Global, source: Source<'_>) -> Result<Vec<u8>, Refusal>
+    ensures ok { IfOk result (λ told. comes_of trimming source.entry.name.now source.entry.bytes.now (Ok told.items)) }
+    ensures err { IfErr result (TellsOf (comes_of trimming source.entry.name.now source.entry.bytes.now)) }
+{
+    let (diagram, names) = source.diagram(alloc)?;
+    commented_texts_read_back();
+    let less = trim(alloc, &diagram)?;
+    Ok(trimmed_text(alloc, &less.diagram, &names, &less.removed)?)
+}
