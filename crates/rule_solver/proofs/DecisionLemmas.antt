@@ -1,11 +1,10 @@
 -- What the two sums of a decision in the part of its scope make of its answered rows.
-use Rattle.std.proofs.Common.{◌≡◌, ◌∙◌, ◌⊎◌, inl, inr, ℕ, ◌*◌, ◌^◌, ◌<◌, List, length, slice_index, get_or, sym, ap, subst, ℤ, pos, ◌<ℤ◌, ◌≤ℤ◌, nat_abs, arith}
+use Rattle.std.proofs.Common.{◌≡◌, ◌∙◌, ◌⊎◌, inl, inr, ℕ, ◌*◌, ◌^◌, ◌<◌, List, length, slice_index, get_or, sym, subst, ℤ, pos, ◌<ℤ◌, ◌≤ℤ◌, nat_abs, arith}
 use Rattle.std.proofs.lemmas.Int.{ints}
-use Rattle.std.proofs.Math.Decide.{dec_lt}
 use Rattle.maid_model.specs.declared.answers.Row.{Row}
 use Rattle.maid_model.specs.Answers.{IsAnswerRow, IsFraction, no_row}
 use Rattle.maid_model.specs.Gains.{gain_at, mass_at}
-use Rattle.maid_model.specs.Nodes.{states_of, rows_of}
+use Rattle.maid_model.specs.Nodes.{states_of}
 use Rattle.maid_model.specs.Scopes.{scope_of}
 use Rattle.maid_model.specs.Views.{NodeView, RuleView}
 use Rattle.part_laws.specs.PartLaws.{DecidesAlike}

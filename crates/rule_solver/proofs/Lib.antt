@@ -14,7 +14,7 @@ mod RowLemmas
 mod DecisionLemmas
 mod PlanLemmas
 mod WorthLemmas
-mod WorthRooms
+mod MadeRooms
 mod StakeLemmas
 mod SumLemmas
 mod SettingLemmas

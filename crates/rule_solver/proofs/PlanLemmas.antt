@@ -1,6 +1,6 @@
 -- The plans of a decision and of a utility: their numbers fit, and their cells are numbers.
-use Rattle.std.proofs.Common.{◌≡◌, ◌⊎◌, inl, inr, ℕ, ◌+◌, ◌*◌, ◌^◌, ◌-◌, ◌<◌, ◌≤◌, max, List, [], ◌∷◌, refl, sym, ap, subst, ℤ, pos, arith}
-use Rattle.std.proofs.Math.Nat.{mul-le-mul, mul-le-mul_left, mul-le-mul_right, one-le-pow}
+use Rattle.std.proofs.Common.{◌≡◌, inl, inr, ℕ, ◌+◌, ◌*◌, ◌^◌, ◌<◌, ◌≤◌, max, List, [], ◌∷◌, refl, subst, pos, arith}
+use Rattle.std.proofs.Math.Nat.{mul-le-mul, mul-le-mul_left, one-le-pow}
 use Rattle.cell_rings.specs.declared.gains.Gain.{Gain}
 use Rattle.cell_rings.specs.declared.masses.Mass.{Mass}
 use Rattle.cell_rings.specs.Kinds.{gain_kind, gain_of, mass_kind, mass_of}
@@ -13,7 +13,7 @@ use Rattle.finite_sums.specs.Sums.{World, nat_product_over}
 use Rattle.maid_model.specs.Diagrams.{greatest_number}
 use Rattle.maid_model.specs.Gains.{greatest_abs}
 use Rattle.maid_model.specs.Nodes.{node_at}
-use Rattle.maid_model.specs.Scopes.{goals_of, greatest_of, scope_bound, scope_bound_for, scope_for, scope_of, scope_product, scope_product_for, utilities_for}
+use Rattle.maid_model.specs.Scopes.{goals_of, greatest_of, scope_bound, scope_bound_for, scope_product, scope_product_for, utilities_for}
 use Rattle.maid_model.specs.Tables.{weight_total}
 use Rattle.maid_model.specs.Views.{NodeView, DiagramView, RuleView}
 use Rattle.plan_sums.specs.Laws.{IsCellMap}

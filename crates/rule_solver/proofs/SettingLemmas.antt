@@ -1,5 +1,5 @@
 -- A decision in its setting: what its plans give, and that all of it has room.
-use Rattle.std.proofs.Common.{◌≡◌, ◌∙◌, ◌↔◌, ◌⊎◌, inl, inr, ℕ, ◌+◌, ◌*◌, ◌^◌, ◌<◌, ◌≤◌, max, Bool, true, false, cond, ◌&&◌, filter, List, [], ◌∷◌, Contains, length, slice_index, refl, sym, ap, subst, ℤ, pos, ◌+ℤ◌, ◌*ℤ◌, nat_abs, arith}
+use Rattle.std.proofs.Common.{◌≡◌, ◌∙◌, ◌↔◌, inl, inr, ℕ, ◌+◌, ◌*◌, ◌^◌, ◌<◌, ◌≤◌, max, Bool, true, false, cond, ◌&&◌, filter, List, [], ◌∷◌, Contains, length, slice_index, refl, sym, ap, subst, ℤ, pos, ◌+ℤ◌, ◌*ℤ◌, nat_abs, arith}
 use Rattle.std.proofs.Math.Nat.{mul-le-mul_left, one-le-pow}
 use Rattle.cell_rings.specs.declared.gains.Gain.{Gain}
 use Rattle.cell_rings.specs.declared.masses.Mass.{Mass}
@@ -8,7 +8,7 @@ use Rattle.factor_core.specs.Slots.{nodes_in}
 use Rattle.finite_sums.specs.Members.{Among}
 use Rattle.finite_sums.specs.Sums.{World, InRange}
 use Rattle.finite_sums.proofs.Lists.{among_filter}
-use Rattle.finite_sums.proofs.Members.{among_from_contains, filter_has}
+use Rattle.finite_sums.proofs.Members.{among_from_contains, contains_from_among, filter_has}
 use Rattle.maid_model.specs.Diagrams.{greatest_number}
 use Rattle.maid_model.specs.Gains.{greatest_abs}
 use Rattle.maid_model.specs.Graph.{IsGraph, descends}
@@ -29,7 +29,7 @@ use Rattle.scope_sums.specs.Laws.{MissingIsPositive, PlansFitScope, ScopesFitPla
 use Rattle.scope_sums.specs.Missing.{missing_in, missing_in_without}
 use Rattle.scope_sums.proofs.Summed.{goal_of}
 use Rattle.rule_solver.specs.Reading.{AddsTable, PutsTable, gain_there}
-use Rattle.rule_solver.specs.Sums.{AddsGoal, HasMasses, HasRoomFor, IsSetting, goal_part, scope_mass}
+use Rattle.rule_solver.specs.Sums.{AddsGoal, HasRoomFor, IsSetting, goal_part, scope_mass}
 use Rattle.rule_solver.specs.Totals.{product_in}
 use Rattle.rule_solver.proofs.Missing.{missing_product, missing_product_after}
 use Rattle.rule_solver.proofs.PlanLemmas.{gain_run, mass_run, gain_sum, mass_sum, goal_fits, rows_fit}
@@ -53,6 +53,10 @@ module _ (nodes : List NodeView) (graph : IsGraph nodes) (decision : ℕ) (is : 
           over : (vs : List ℕ) → ((v : ℕ) → Among v vs → p v ≡ q v) → filter p vs ≡ filter q vs
           over [] h = refl
           over (v ∷ vs) h = λ i. cond (h v (inl refl) i) (v ∷ over vs (λ u m. h u (inr m)) i) (over vs (λ u m. h u (inr m)) i)
+
+  -- a goal stands in the list
+  pub index_of_goal : (u : ℕ) → IsGoal nodes decision u → Contains (goals_of nodes decision) u
+  index_of_goal u h = contains_from_among (goals_of nodes decision) u (goal_listed nodes graph decision is u h)
 
   pub goal_at : (k : ℕ) → k < length (goals_of nodes decision) → IsGoal nodes decision (slice_index (goals_of nodes decision) k)
   goal_at k h = goal_of nodes decision graph is (slice_index (goals_of nodes decision) k) (among_from_contains (goals_of nodes decision) (slice_index (goals_of nodes decision) k) (k, h, get_or_default (goals_of nodes decision) k (slice_index (goals_of nodes decision) k) 0 h))

@@ -1,22 +1,21 @@
 -- The sums of a decision: what its goals' plans give, added up, are the gains of the part of its scope.
-use Rattle.std.proofs.Common.{◌≡◌, ◌∙◌, ℕ, zero, suc, ◌+◌, ◌*◌, ◌/◌, ◌%◌, ◌^◌, ◌<◌, ◌≤◌, max, List, [], ◌∷◌, ◌++◌, length, take, drop, replicate, get_or, slice_index, refl, sym, ap, subst, ℤ, pos, ◌+ℤ◌, ◌*ℤ◌, nat_abs, arith, mul_comm}
+use Rattle.std.proofs.Common.{◌≡◌, ◌∙◌, ℕ, zero, suc, ◌+◌, ◌*◌, ◌/◌, ◌%◌, ◌^◌, ◌<◌, ◌≤◌, max, List, [], ◌∷◌, ◌++◌, length, take, drop, get_or, slice_index, refl, sym, ap, subst, ℤ, pos, ◌+ℤ◌, nat_abs, arith, mul_comm}
 use Rattle.std.proofs.lemmas.Int.{ints}
 use Rattle.std.proofs.lemmas.List.{take_more, take-append-le, take_all}
 use Rattle.std.proofs.Math.Nat.{mul-add, mul-le-mul_left, mod-add-div, mod-lt, div-lt_iff_lt-mul}
 use Rattle.cell_rings.specs.RingLaws.{abs_add}
-use Rattle.finite_sums.specs.Sums.{World, InRange, nat_sum_over, sum_each}
+use Rattle.finite_sums.specs.Sums.{World, InRange, sum_each}
 use Rattle.maid_model.specs.Diagrams.{greatest_number}
 use Rattle.maid_model.specs.Gains.{greatest_abs}
 use Rattle.maid_model.specs.Graph.{IsGraph}
-use Rattle.maid_model.specs.Nodes.{IsDecision, node_at, rows_of, states_of}
+use Rattle.maid_model.specs.Nodes.{node_at, rows_of, states_of}
 use Rattle.maid_model.specs.Scopes.{goals_of, greatest_of, scope_bound, scope_product}
 use Rattle.maid_model.specs.Tables.{cell_of, row_of}
 use Rattle.maid_model.specs.Views.{NodeView, DiagramView, RuleView}
 use Rattle.plan_sums.specs.Laws.{HasWorlds}
 use Rattle.scope_sums.specs.Laws.{IsSumOfPlans}
 use Rattle.rule_solver.specs.Reading.{gain_there}
-use Rattle.rule_solver.specs.Rows.{gain_in}
-use Rattle.rule_solver.specs.Sums.{AddsGoal, HasGoals, HasMasses, HasRoomFor, IsRowSums, KeepsRoom, goal_part, scope_gain, scope_mass}
+use Rattle.rule_solver.specs.Sums.{AddsGoal, HasGoals, HasRoomFor, IsRowSums, KeepsRoom, goal_part, scope_gain, scope_mass}
 
 -- ---- lists
 -- a slice of a whole list, written back

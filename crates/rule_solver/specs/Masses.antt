@@ -1,4 +1,4 @@
--- How great the rules of a profile are, and what it is worth. Only private functions cite it.
+-- How great the rules of a profile are, and what it is worth.
 use Rattle.std.specs.Prelude.{◌≡◌, ◌<◌, ◌≤◌, ◌^◌, ℕ, List, All, length, slice_index_or}
 use Rattle.maid_model.specs.declared.answers.Ratio.{Ratio}
 use Rattle.maid_model.specs.Answers.{IsExpectedUtility, IsReduced}

@@ -11,9 +11,8 @@ ghost use Rattle.rule_solver.specs.Answered.{AnswersAll, IsAnsweredBy};
 ghost use Rattle.rule_solver.specs.Rooms.{HasRoomAt, IsReady};
 
 use crate::bases::base_of;
-use crate::row_sums::Setting;
+use crate::decision_sums::Setting;
 use crate::rows::answer_rows;
-
 use crate::totals::list_totals;
 use crate::worths::scale;
 use cell_rings::{Gain, Mass};

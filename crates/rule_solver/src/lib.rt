@@ -18,11 +18,11 @@
 
 mod answering;
 mod bases;
+mod decision_sums;
 mod faults;
 mod limits;
 mod odometer;
 mod reading;
-mod row_sums;
 mod rows;
 mod solving;
 #[cfg(test)]
@@ -30,6 +30,7 @@ mod tests;
 mod totals;
 mod worths;
 
+pub use decision_sums::{RowSums, row_sums};
 pub use faults::SolveFault;
 pub use solving::solve;
 pub use worths::expected;

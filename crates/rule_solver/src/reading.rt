@@ -17,7 +17,11 @@ use node_sets::NodeSet;
 use std::alloc::{AllocError, Global};
 
 /// The nodes of the scope in ascending order.
-pub(crate) fn list_scope(alloc: Global, diagram: &Diagram, scope: &NodeSet) -> Result<Vec<usize>, AllocError>
+pub(crate) fn list_scope(
+    alloc: Global,
+    diagram: &Diagram,
+    scope: &NodeSet,
+) -> Result<Vec<usize>, AllocError>
     ensures { IfOk result (λ v. v.items ≡ nodes_in diagram.now.nodes (holds scope.now)) }
 {
     let mut nodes = Vec::new(alloc);

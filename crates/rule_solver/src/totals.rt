@@ -1,7 +1,7 @@
 //! The totals of tables and rules, and products of them.
 
-ghost use Rattle.std.specs.Prelude.{◌≡◌, ℕ, ◌<◌, ◌≤◌, IfOk, if◌then◌else◌, length, slice_index};
-ghost use Rattle.maid_model.specs.Diagrams.{greatest_number};
+ghost use Rattle.std.specs.Prelude.{◌≡◌, ℕ, ◌<◌, ◌≤◌, IfOk, OnOk, if◌then◌else◌, length, slice_index};
+ghost use Rattle.maid_model.specs.Diagrams.{IsDiagram, greatest_number};
 ghost use Rattle.maid_model.specs.Profiles.{IsProfile};
 ghost use Rattle.maid_model.specs.Tables.{weight_total};
 ghost use Rattle.node_sets.specs.declared.sets.TheConstants.{MOST_NODES};
@@ -33,7 +33,8 @@ pub(crate) fn list_totals(
     profile: &Profile,
 ) -> Result<Vec<u128>, AllocError>
     requires { IsProfile diagram.now.nodes profile.now }
-    ensures { IfOk result (λ totals. HasTotals diagram.now.nodes profile.now totals.items) }
+    ensures totals { IfOk result (λ totals. HasTotals diagram.now.nodes profile.now totals.items) }
+    ensures diagram { OnOk result (IsDiagram diagram.now) }
 {
     let mut totals = Vec::with_capacity(alloc, diagram.count())?;
     for v in 0..diagram.count() {

@@ -1,6 +1,6 @@
 use Rattle.plan_sums.proofs.Parts.{has_worlds}
 use Rattle.rule_solver.proofs.SumLemmas.{room_is, sums_are}
-use Rattle.rule_solver.proofs.row_sums.Setting.row_sums.Goals as goal
+use Rattle.rule_solver.proofs.decision_sums.Setting.row_sums.Goals as goal
 
 pub returns-clause-sums : goal.returns-clause-sums
 returns-clause-sums c =

@@ -1,5 +1,5 @@
 -- Goal after goal gives its part of the gains.
-use Rattle.std.proofs.Common.{◌≡◌, ◌∙◌, ℕ, ◌+◌, ◌<◌, ◌≤◌, List, length, take, slice_index, sym, ap, subst, arith, ℤ}
+use Rattle.std.proofs.Common.{◌≡◌, ◌∙◌, ℕ, ◌+◌, ◌<◌, List, length, take, slice_index, sym, ap, subst, arith, ℤ}
 use Rattle.cell_rings.specs.declared.gains.Gain.{Gain}
 use Rattle.factor_core.specs.Slots.{WorkspaceView}
 use Rattle.maid_model.specs.Relevance.{IsGoal}
@@ -10,7 +10,7 @@ use Rattle.rule_solver.specs.Sums.{AddsGoal, HasGoals, HasRoomFor}
 use Rattle.rule_solver.proofs.Members.{taken_whole}
 use Rattle.rule_solver.proofs.SettingLemmas.{goal_at, goals_listed, part_small}
 use Rattle.rule_solver.proofs.SumLemmas.{back_written, goal_more, room_for}
-use Rattle.rule_solver.proofs.row_sums.Setting.gains.Goals as goal
+use Rattle.rule_solver.proofs.decision_sums.Setting.gains.Goals as goal
 
 pub add_goal-requires-clause-goal : goal.add_goal-requires-clause-goal
 add_goal-requires-clause-goal c =
@@ -54,8 +54,8 @@ loop-goal-preserved c =
     let ok = c.loop-goal.gains.ok in
     let back = back_written c.loop-goal.gains.len c.add_goal.new.gains c.loop-goal.gains.items same (omega arith) in
     let adds : AddsGoal d.nodes p c.args.self.now.decision (slice_index (goals_of d.nodes c.args.self.now.decision) c.loop-goal.goal-index) c.loop-goal.gains.items c.add_goal.new.gains =
-        subst (λ (g : List ℤ). AddsGoal d.nodes p c.args.self.now.decision (slice_index (goals_of d.nodes c.args.self.now.decision) c.loop-goal.goal-index) g c.add_goal.new.gains) before
-        (subst (λ (l : List ℕ). AddsGoal d.nodes p c.args.self.now.decision (slice_index l c.loop-goal.goal-index) c.deref_mut.result.now c.add_goal.new.gains) list c.in_ok-add_goal.ensures.adds) in (
+    subst (λ (g : List ℤ). AddsGoal d.nodes p c.args.self.now.decision (slice_index (goals_of d.nodes c.args.self.now.decision) c.loop-goal.goal-index) g c.add_goal.new.gains) before
+    (subst (λ (l : List ℕ). AddsGoal d.nodes p c.args.self.now.decision (slice_index l c.loop-goal.goal-index) c.deref_mut.result.now c.add_goal.new.gains) list c.in_ok-add_goal.ensures.adds) in (
       subst (λ (g : List ℤ). HasGoals d.nodes p c.args.self.now.decision (take (c.loop-goal.goal-index + 1) (goals_of d.nodes c.args.self.now.decision)) g) (sym back)
           (goal_more d.nodes p c.args.self.now.decision c.loop-goal.goal-index c.loop-goal.gains.items c.add_goal.new.gains inside
           (part_small d p c.args.self.now.decision c.args.self.now.totals.now c.args.self.now.scope s c.plans_keep_scopes.ensures.decisions c.plans_keep_scopes.ensures.positive (slice_index (goals_of d.nodes c.args.self.now.decision) c.loop-goal.goal-index) (goal_at d.nodes s.is_diagram.graph c.args.self.now.decision s.is_decision c.loop-goal.goal-index inside))

@@ -1,14 +1,12 @@
 -- A goal's plan, read with what it lacks of the scope.
-use Rattle.std.proofs.Common.{◌≡◌, ◌∙◌, ◌↔◌, ℕ, ◌≤◌, ◌∷◌, Contains, sym, ap, subst}
+use Rattle.std.proofs.Common.{◌∙◌, ◌↔◌, ◌≤◌, Contains, sym, subst}
 use Rattle.cell_rings.specs.Kinds.{gain_kind}
 use Rattle.factor_core.specs.Slots.{table_of}
 use Rattle.maid_model.specs.Diagrams.{greatest_number}
-use Rattle.maid_model.specs.Scopes.{scope_of}
 use Rattle.node_sets.specs.Sets.{IsIn}
-use Rattle.plan_sums.specs.Plans.{PlanView, gain_plan}
-use Rattle.scope_sums.specs.Missing.{missing_in}
+use Rattle.plan_sums.specs.Plans.{PlanView}
 use Rattle.rule_solver.proofs.SettingLemmas.{goal_added, goal_missing, goal_missing_small, goal_room, goal_total}
-use Rattle.rule_solver.proofs.row_sums.Setting.add_goal.Goals as goal
+use Rattle.rule_solver.proofs.decision_sums.Setting.add_goal.Goals as goal
 
 pub product_in-factor-requires-clause-fits : goal.product_in-factor-requires-clause-fits
 product_in-factor-requires-clause-fits c =

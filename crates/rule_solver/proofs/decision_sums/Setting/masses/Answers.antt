@@ -10,7 +10,7 @@ use Rattle.plan_sums.specs.Plans.{PlanView}
 use Rattle.rule_solver.specs.Sums.{HasMasses}
 use Rattle.rule_solver.proofs.SumLemmas.{back_written}
 use Rattle.rule_solver.proofs.SettingLemmas.{rows_masses, rows_missing, rows_missing_small, rows_room, rows_total}
-use Rattle.rule_solver.proofs.row_sums.Setting.masses.Goals as goal
+use Rattle.rule_solver.proofs.decision_sums.Setting.masses.Goals as goal
 
 pub product_in-factor-requires-clause-fits : goal.product_in-factor-requires-clause-fits
 product_in-factor-requires-clause-fits c =
@@ -41,9 +41,9 @@ returns-clause-masses c =
     let d = c.args.self.now.diagram.now in
     let p = c.args.self.now.base.now in
     let both = rows_masses d p c.args.self.now.decision c.args.self.now.totals.now c.args.self.now.scope c.requires.setting c.plans_keep_scopes.ensures.decisions c.plans_keep_scopes.ensures.positive c.in_ok-plan.plan.plan c.in_ok-plan.ensures.made.plan
-        (table_of mass_kind d.nodes c.run_plan-slot.new.work.cells c.run_plan-slot.result) c.run_plan-slot.ensures.cell c.product_in-factor.result
-        (c.product_in-factor.ensures ∙ rows_missing d p c.args.self.now.decision c.args.self.now.totals.now c.args.self.now.scope c.requires.setting c.plans_keep_scopes.ensures.decisions c.plans_keep_scopes.ensures.positive c.in_ok-plan.plan.plan c.in_ok-plan.ensures.made.plan c.nodes.result c.difference-left.result c.remove.new.self c.nodes.ensures c.difference-left.ensures c.remove.ensures)
-        c.plans_sum_scopes.ensures.sums c.put_masses.new.masses c.in_ok-put_masses.ensures.puts in
+    (table_of mass_kind d.nodes c.run_plan-slot.new.work.cells c.run_plan-slot.result) c.run_plan-slot.ensures.cell c.product_in-factor.result
+    (c.product_in-factor.ensures ∙ rows_missing d p c.args.self.now.decision c.args.self.now.totals.now c.args.self.now.scope c.requires.setting c.plans_keep_scopes.ensures.decisions c.plans_keep_scopes.ensures.positive c.in_ok-plan.plan.plan c.in_ok-plan.ensures.made.plan c.nodes.result c.difference-left.result c.remove.new.self c.nodes.ensures c.difference-left.ensures c.remove.ensures)
+    c.plans_sum_scopes.ensures.sums c.put_masses.new.masses c.in_ok-put_masses.ensures.puts in
     let made : c.in_ok-masses.masses.items ≡ replicate c.rows.result 0 = c.in_ok-masses.ensures.items_if_clones_equal (λ y e. e) in
     let before : length c.deref_mut.result.now ≡ length c.in_ok-masses.masses.items = ap (λ (xs : List ℕ). length xs) c.deref_mut.ensures.value in
     let same : length c.put_masses.new.masses ≡ length c.in_ok-masses.masses.items = c.put_masses.ensures.len ∙ before in

@@ -1,24 +1,28 @@
 //! The gains and masses of one decision, by plans of elimination in the part of its scope.
 
 ghost use Rattle.std.specs.Prelude.{◌≡◌, ◌+◌, ◌*◌, ℕ, ◌≤◌, IfOk, OnOk, length};
-ghost use Rattle.maid_model.specs.Nodes.{rows_of, states_of};
+ghost use Rattle.maid_model.specs.declared.limits.TheConstants.{MOST_PLAN_CELLS};
+ghost use Rattle.maid_model.specs.Diagrams.{IsDiagram};
+ghost use Rattle.maid_model.specs.Nodes.{IsDecision};
 ghost use Rattle.maid_model.specs.Profiles.{IsProfile};
 ghost use Rattle.maid_model.specs.Relevance.{IsGoal};
-ghost use Rattle.maid_model.specs.Scopes.{goals_of};
+ghost use Rattle.maid_model.specs.Scopes.{KeepsScopedBounds, goals_of};
+ghost use Rattle.part_laws.specs.ScopeLaws.{HasSmallRules};
 ghost use Rattle.plan_sums.specs.Plans.{gain_plan, row_plan};
 ghost use Rattle.rule_solver.specs.Rooms.{HasAtMost, HasRoomAt, IsReady};
 ghost use Rattle.rule_solver.specs.Sums.{AddsGoal, HasGoals, HasMasses, HasRoomFor, IsRowSums, IsSetting, KeepsRoom};
 
 use crate::reading::{add_gains, list_scope, put_masses};
-use crate::totals::product_in;
+use crate::totals::{list_totals, product_in};
 use cell_rings::{Gain, Mass};
 use eliminate::{release, run_plan};
 use factor_core::Workspace;
 use maid_model::{Diagram, Profile, goals_of};
 use node_sets::NodeSet;
 use scope_sums::{plans_keep_scopes, plans_sum_scopes};
-use size_precheck::{plan_gain, plan_rows};
+use size_precheck::{greedy_orders, plan_gain, plan_rows};
 use std::alloc::{AllocError, Global};
+use weight_scale::decision_scope;
 
 /// What the states of a decision gain in each row, and how much mass each row has.
 #[derive(Debug, Drop)]
@@ -58,7 +62,15 @@ impl<'a> Setting<'a> {
         left.remove(self.decision);
         let factor = product_in(self.totals, &left);
         let slot = run_plan(work, &plan, self.diagram, self.base);
-        put_masses(alloc, self.diagram, self.decision, work, &slot, factor, &mut masses)?;
+        put_masses(
+            alloc,
+            self.diagram,
+            self.decision,
+            work,
+            &slot,
+            factor,
+            &mut masses,
+        )?;
         release(work);
         Ok(masses)
     }
@@ -85,7 +97,15 @@ impl<'a> Setting<'a> {
         let left = self.scope.difference(&plan.nodes(self.diagram));
         let factor = product_in(self.totals, &left);
         let slot = run_plan(work, &plan, self.diagram, self.base);
-        add_gains(alloc, self.diagram, self.decision, work, &slot, factor, gains)?;
+        add_gains(
+            alloc,
+            self.diagram,
+            self.decision,
+            work,
+            &slot,
+            factor,
+            gains,
+        )?;
         release(work);
         Ok(())
     }
@@ -107,7 +127,7 @@ impl<'a> Setting<'a> {
         Ok(gains)
     }
 
-    /// Both.
+    /// The gains and the masses.
     pub(crate) fn row_sums(
         &self,
         alloc: Global,
@@ -125,4 +145,62 @@ impl<'a> Setting<'a> {
         let masses = self.masses(alloc, masses)?;
         Ok(RowSums { gains, masses })
     }
+}
+
+/// How many cells the largest of the decision's plans has.
+fn most_cells(alloc: Global, diagram: &Diagram, decision: usize) -> Result<usize, AllocError>
+    requires diagram { IsDiagram diagram.now }
+    requires decision { IsDecision diagram.now.nodes decision }
+    requires room { HasRoomAt diagram.now.nodes decision MOST_PLAN_CELLS }
+    ensures room { IfOk result (HasRoomAt diagram.now.nodes decision) }
+    ensures limit { IfOk result (λ cells. cells ≤ MOST_PLAN_CELLS) }
+{
+    // A plan that is made again has as many cells.
+    greedy_orders();
+    let goals = list_scope(alloc, diagram, &goals_of(diagram, decision))?;
+    let plan = plan_rows(alloc, diagram, decision)?;
+    let mut most = plan.size().cells as usize;
+    for goal in &goals {
+        let plan = plan_gain(alloc, diagram, decision, *goal)?;
+        most = most.max(plan.size().cells as usize);
+    }
+    Ok(most)
+}
+
+/// What the states of a decision gain in each row, and the rows' masses, with the profile as base: the sums over the
+/// worlds of the part that the decision's scope makes. A decision's own rule counts in neither.
+///
+/// It sums by variable elimination: one plan for the rows, and one for each utility of the decision's agent that descends
+/// from the decision. It makes each plan twice, once for its size and once to run it, and reserves two workspaces of as
+/// many cells as the largest of them has. It may be asked where no such plan has more than 4,194,304 cells, each scope
+/// keeps the weight bound, and no other rule adds up to more than its decision has states, as pure and uniform ones do.
+///
+/// # Errors
+///
+/// Only where memory runs out.
+pub fn row_sums(
+    alloc: Global,
+    diagram: &Diagram,
+    profile: &Profile,
+    decision: usize,
+) -> Result<RowSums, AllocError>
+    requires decision { IsDecision diagram.now.nodes decision }
+    requires profile { IsProfile diagram.now.nodes profile.now }
+    requires rules { HasSmallRules diagram.now.nodes profile.now decision }
+    requires bound { KeepsScopedBounds diagram.now }
+    requires room { HasRoomAt diagram.now.nodes decision MOST_PLAN_CELLS }
+    ensures { IfOk result (λ sums. IsRowSums diagram.now.nodes profile.now decision sums.gains.items sums.masses.items) }
+{
+    let totals = list_totals(alloc, diagram, profile)?;
+    let cells = most_cells(alloc, diagram, decision)?;
+    let mut masses = Workspace::reserve(alloc, cells)?;
+    let mut gains = Workspace::reserve(alloc, cells)?;
+    let setting = Setting {
+        diagram,
+        base: profile,
+        decision,
+        totals: &totals,
+        scope: decision_scope(diagram, decision),
+    };
+    setting.row_sums(alloc, &mut masses, &mut gains)
 }

@@ -1,7 +1,7 @@
 use Rattle.std.proofs.Common.{◌≡◌, take}
 use Rattle.maid_model.specs.Scopes.{goals_of}
 use Rattle.rule_solver.specs.Sums.{HasGoals}
-use Rattle.rule_solver.proofs.row_sums.Setting.gains.Given as goal
+use Rattle.rule_solver.proofs.decision_sums.Setting.gains.Given as goal
 
 -- the gains are what the goals so far give; the workspace is as it was
 abbrev pub invariant-loop-goal : goal.invariant-loop-goal
