@@ -18,7 +18,7 @@ use Rattle.maid_model.specs.Views.{NodeView, DiagramView}
 use Rattle.net_build.specs.Blocks as look
 use Rattle.net_parser.specs.Trees.{BlockTree}
 use Rattle.net_print.specs.Printed.{owner_names}
-use Rattle.net_print.proofs.Comments.{IsPrintableBehind, text_of, place_of}
+use Rattle.net_print.proofs.Comments.{IsPrintableBehind, text_of}
 use Rattle.net_print.proofs.Look.{tell, each_node, node_owners_told, node_labels_told}
 use Rattle.net_lexer.specs.Token.{text_value}
 use Rattle.net_print.proofs.Tree.{block_kind, node_tree, tree_of}

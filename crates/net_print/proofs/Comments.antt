@@ -1,5 +1,5 @@
 -- Comment lines before a text that is written token by token: they are read over.
-use Rattle.std.proofs.Common.{◌≡◌, ◌∙◌, ℕ, suc, ◌+◌, ◌-◌, ◌<◌, ◌≤◌, true, false, List, [], ◌∷◌, ◌++◌, All, length, drop, filter_map, refl, sym, ap, subst, arith, append_assoc}
+use Rattle.std.proofs.Common.{◌≡◌, ◌∙◌, ℕ, suc, ◌+◌, ◌-◌, ◌≤◌, false, List, [], ◌∷◌, ◌++◌, All, length, filter_map, refl, sym, ap, subst, arith, append_assoc}
 use Rattle.std.proofs.lemmas.List.{length-drop, length-append, drop_at}
 use Rattle.std.proofs.lemmas.List.Elements.{All-head, All-tail, filter_map-append}
 use Rattle.maid_model.specs.Diagrams.{IsDiagram}
@@ -13,7 +13,7 @@ use Rattle.net_lexer.specs.declared.pieces.Piece.{Piece}
 use Rattle.net_lexer.specs.declared.pieces.PieceKind.TheVariants.{Blank, Comment}
 use Rattle.net_parser.specs.Lexemes.{lexemes}
 use Rattle.net_print.specs.Printed.{printed}
-use Rattle.net_print.specs.RoundTrip.{IsPrintable, IsOneLine, comment_lines}
+use Rattle.net_print.specs.RoundTrip.{IsOneLine, comment_lines}
 use Rattle.net_print.proofs.Written.{Written, Stands, At, at_next, at_end, piece, piece_at, pieces_at, leads, lead-append, among, text_onto, tokens_at, end_at, lexemes_at, lexemes_are}
 
 -- a diagram and names that a text can stand for, and comments to stand before it

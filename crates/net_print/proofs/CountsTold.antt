@@ -9,7 +9,7 @@ use Rattle.maid_model.specs.Views.{NodeView, DiagramView}
 use Rattle.net_build.specs.Blocks as look
 use Rattle.net_lexer.specs.Token.{text_value}
 use Rattle.net_parser.specs.Trees.{BlockTree}
-use Rattle.net_print.proofs.Comments.{IsPrintableBehind, text_of, place_of}
+use Rattle.net_print.proofs.Comments.{IsPrintableBehind, text_of}
 use Rattle.net_print.proofs.Agents.{state_case, states_told}
 use Rattle.net_print.proofs.Given.{potential_found, conditions_told}
 use Rattle.net_print.proofs.Look.{node_name_told, node_labels_told}

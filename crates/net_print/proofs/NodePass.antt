@@ -15,7 +15,7 @@ use Rattle.first_fault.specs.Passes.{each_after}
 use Rattle.finite_sums.proofs.Sights.{first_sights_all}
 use Rattle.net_parser.specs.Trees.{BlockTree}
 use Rattle.net_print.specs.Printed.{kind_word, owner_names}
-use Rattle.net_print.proofs.Comments.{IsPrintableBehind, text_of, place_of}
+use Rattle.net_print.proofs.Comments.{IsPrintableBehind, text_of}
 use Rattle.net_print.proofs.AgentCount.{one_more}
 use Rattle.net_print.proofs.Agents.{agents_apart, agents_differ, agents_told}
 use Rattle.net_print.proofs.ClearPasses.{after_clear, only_clear, in_whole, not_earlier}

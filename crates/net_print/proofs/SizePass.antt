@@ -14,7 +14,7 @@ use Rattle.net_build.specs.Passes.{found, LimitPassed}
 use Rattle.net_build.specs.Table.{size_pass, size_rows, rule_cells}
 use Rattle.net_build.specs.declared.faults.Limit.TheVariants.{Rules}
 use Rattle.net_parser.specs.Trees.{BlockTree}
-use Rattle.net_print.proofs.Comments.{IsPrintableBehind, text_of, place_of}
+use Rattle.net_print.proofs.Comments.{IsPrintableBehind, text_of}
 use Rattle.std.proofs.lemmas.List.Concat.{flat_map_single}
 use Rattle.net_print.proofs.Agents.{filter_flat}
 use Rattle.net_print.proofs.ClearPasses.{after_clear, only_clear, in_whole}

@@ -20,7 +20,7 @@ use Rattle.net_parser.specs.Owned.{leaves}
 use Rattle.net_parser.specs.Trees.{AttributeTree, BlockTree}
 use Rattle.net_build.specs.Plain.{reduced_rows}
 use Rattle.net_print.specs.Printed.{value_text}
-use Rattle.net_print.proofs.Comments.{IsPrintableBehind, text_of, place_of}
+use Rattle.net_print.proofs.Comments.{IsPrintableBehind, text_of}
 use Rattle.net_print.proofs.CountsTold.{block_states_told, row_count_told, cell_count_told}
 use Rattle.net_print.proofs.Faultless.{each_clear, nodes_hold}
 use Rattle.net_print.proofs.Given.{potential_found}

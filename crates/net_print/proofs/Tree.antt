@@ -4,7 +4,7 @@ use Rattle.std.specs.List.{flat_map}
 use Rattle.std.proofs.lemmas.List.Elements.{All-head, All-tail}
 use Rattle.maid_model.specs.declared.diagrams.Kind.{Kind}
 use Rattle.maid_model.specs.declared.diagrams.Kind.TheVariants.{Chance, Decision, Utility}
-use Rattle.maid_model.specs.Names.{NamesView, name_of, labels_of, agent_name}
+use Rattle.maid_model.specs.Names.{NamesView, name_of, labels_of}
 use Rattle.maid_model.specs.Nodes.{node_at, rows_of, numbers_of}
 use Rattle.maid_model.specs.Reports.{quoted}
 use Rattle.maid_model.specs.Views.{NodeView, DiagramView}

@@ -5,7 +5,7 @@ use Rattle.maid_model.specs.Names.{NamesView}
 use Rattle.maid_model.specs.Views.{DiagramView}
 use Rattle.net_build.specs.Table.{wide_pass, utility_numbers, IsUtilityScale}
 use Rattle.net_parser.specs.Trees.{BlockTree}
-use Rattle.net_print.proofs.Comments.{IsPrintableBehind, text_of, place_of}
+use Rattle.net_print.proofs.Comments.{IsPrintableBehind, text_of}
 use Rattle.net_print.proofs.TablesTold.{utility_cells, utilities_told}
 use Rattle.net_print.proofs.Tree.{tree_of}
 use Rattle.net_print.proofs.UtilityCells.{from_each, cells_need}

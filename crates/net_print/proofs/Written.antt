@@ -6,7 +6,7 @@ use Rattle.std.proofs.lemmas.List.{length-drop, length-append, drop-drop, drop_a
 use Rattle.std.proofs.lemmas.List.Elements.{filter_map-append}
 use Rattle.net_lexer.specs.Bytes.{is_white}
 use Rattle.net_lexer.specs.Token.{is_token}
-use Rattle.net_lexer.specs.Pieces.{is_piece, goes_on_with, begins, IsPieceOf, Lead, token_of, IsTokens}
+use Rattle.net_lexer.specs.Pieces.{is_piece, goes_on_with, begins, IsPieceOf, Lead, token_of}
 use Rattle.net_lexer.specs.declared.tokens.Token.{Token}
 use Rattle.net_lexer.specs.declared.tokens.TokenKind.{TokenKind}
 use Rattle.net_lexer.specs.declared.pieces.Piece.{Piece}

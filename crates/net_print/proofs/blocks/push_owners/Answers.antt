@@ -10,7 +10,7 @@ use Rattle.maid_model.specs.Names.{NamesView, NamesFit, agent_name}
 use Rattle.maid_model.specs.Nodes.{node_at, owners_of}
 use Rattle.maid_model.specs.Reports.{quoted}
 use Rattle.maid_model.specs.Views.{NodeView, DiagramView}
-use Rattle.net_print.specs.Printed.{owner_names, owners_text}
+use Rattle.net_print.specs.Printed.{owners_text}
 use Rattle.net_print.proofs.blocks.push_owners.Goals as goal
 
 owners_known : (d : DiagramView) (names : NamesView) (v : ℕ) → NamesFit d names → HasOwners d.nodes d.agents → v < length d.nodes → (node_at d.nodes v).kind ≢ Chance → (n : NodeView) → n ≡ node_at d.nodes v → All (λ a. a < length names.agents) (n.owner ∷ n.more)
