@@ -9,7 +9,7 @@ use Rattle.ring_sums.specs.Tables.{IsSame}
 use Rattle.plan_sums.specs.Plans.{Cells}
 use Rattle.factor_core.specs.declared.slots.Slot.{Slot}
 use Rattle.factor_core.specs.Operations.{first_table}
-use Rattle.factor_core.specs.Slots.{WorkspaceView, table_of, tables_of}
+use Rattle.factor_core.specs.Slots.{WorkspaceView, table_of}
 use Rattle.eliminate.specs.Steps.{PutsTable, Lists, first_cells}
 use Rattle.eliminate.proofs.Standing.{zip_length, map_length, start_stand, more_stands}
 
