@@ -20,6 +20,7 @@ mod answering;
 mod bases;
 mod decision_sums;
 mod faults;
+mod laws;
 mod limits;
 mod odometer;
 mod reading;
@@ -32,5 +33,6 @@ mod worths;
 
 pub use decision_sums::{RowSums, row_sums};
 pub use faults::SolveFault;
+pub use laws::measured_plans_have_room;
 pub use solving::solve;
 pub use worths::expected;
