@@ -5,10 +5,9 @@ use Rattle.first_fault.specs.Properties.{EndsAlike}
 use Rattle.first_fault.proofs.Ends.{staged_alike}
 use Rattle.first_fault.proofs.Kept.{IsOneBy, over_one, each_one, each_only}
 use Rattle.maid_io.specs.Device.{File}
-use Rattle.maid_model.specs.Bounds.{KeepsBound, world_count}
-use Rattle.maid_model.specs.declared.limits.TheConstants.{MOST_WORLDS}
 use Rattle.maid_model.specs.Names.{NamesView}
 use Rattle.maid_model.specs.Placing.{HasRelianceOrder}
+use Rattle.maid_model.specs.Scopes.{KeepsScopedBounds, FailsFirst, FailsFirstFor}
 use Rattle.maid_model.specs.Views.{DiagramView}
 use Rattle.net_build.specs.Building.{StandsFor}
 use Rattle.net_build.specs.Laws as building
@@ -19,16 +18,18 @@ use Rattle.net_parser.specs.Grammar.{Spells}
 use Rattle.net_parser.specs.Laws as parser
 use Rattle.net_parser.specs.Lexemes.{lexemes}
 use Rattle.net_parser.specs.Trees.{BlockTree}
+use Rattle.rule_solver.specs.Faults.{IsSmallEnough, IsTooLarge}
+use Rattle.weight_scale.specs.Bound.{IsPassedAt, IsPassedByUtilities}
 use Rattle.maid_app.specs.Answers.{Answers, FindsNothing, task_of}
 use Rattle.maid_app.specs.Diagrams.{NamedDiagram, IsTreeOf, IsDiagramOf, of_diagram}
 use Rattle.maid_app.specs.Faults.{TellsFault, IsTextFault}
 use Rattle.maid_app.specs.Laws.{OneStatus}
 use Rattle.maid_app.specs.Outcome.{Refused, refused, status_with}
 use Rattle.maid_app.specs.Request.{Request, file_name}
-use Rattle.maid_app.specs.Stages.{Stage, text_fault, relevance_cycle, weight_bound, too_many_worlds, Finds, IsText, stage, TellsCycle, TellsBound, TellsNotBuilt}
+use Rattle.maid_app.specs.Stages.{Stage, text_fault, relevance_cycle, weight_bound, too_large, Finds, IsText, stage, TellsCycle, TellsBound, AtNode, AtUtilities, TellsTooLarge}
 use Rattle.maid_app.specs.Tasks.{Task, comes_of}
 use Rattle.maid_app.specs.declared.status.Status.{Status}
-use Rattle.maid_app.specs.declared.status.Status.TheVariants.{TextFault, Cycle, WeightBound, NotBuilt}
+use Rattle.maid_app.specs.declared.status.Status.TheVariants.{TextFault, Cycle, WeightBound, TooLarge}
 
 -- the laws of the layers below
 pub record Laws : Type 0 where
@@ -77,6 +78,20 @@ stage_one status IsClear Tells apart = record {
   one = λ f g h k. h.0 ∙ sym k.0;
 }
 
+-- the bound of a decision's scope fails, or that of an agent's, so not all hold
+decision_fails : (d : DiagramView) (e : ℕ) → KeepsScopedBounds d → FailsFirst d e → ⊥
+decision_fails d e keeps fails = omega (arith, keeps.decisions e fails.decision, fails.fails)
+
+agent_fails : (d : DiagramView) (agent : ℕ) → KeepsScopedBounds d → FailsFirstFor d agent → ⊥
+agent_fails d agent keeps fails = omega (arith, keeps.agents agent fails.within, fails.fails)
+
+-- so a bound that is told as passed is not kept
+not_kept : (d : DiagramView) (names : NamesView) (told : List ℕ) → KeepsScopedBounds d → TellsBound d names told → ⊥
+not_kept d names told keeps (AtNode v (inl (e, fails, there)) says) = decision_fails d e keeps fails
+not_kept d names told keeps (AtNode v (inr (agent, fails, there)) says) = agent_fails d agent keeps fails
+not_kept d names told keeps (AtUtilities (inl (e, fails, there)) says) = decision_fails d e keeps fails
+not_kept d names told keeps (AtUtilities (inr (agent, fails, there)) says) = agent_fails d agent keeps fails
+
 module _ (laws : Laws) where
   -- and one over the diagram of the bytes
   of_diagram_one : (bytes : List ℕ) (status : Status) (IsClear : DiagramView → NamesView → Type 0) (Tells : DiagramView → NamesView → List ℕ → Type 0)
@@ -89,8 +104,8 @@ module _ (laws : Laws) where
   finds_one : (s : Stage) (file : File) → IsOneBy Status1 (Finds s file)
   finds_one text_fault file = stage_one TextFault (IsText file.1) (TellsFault file.0 file.1) (λ told clear fault. no_fault laws file.1 clear.0.d clear.0.names fault.at fault.words clear.1 fault.is_fault)
   finds_one relevance_cycle file = of_diagram_one file.1 Cycle (λ d names. HasRelianceOrder d.nodes) TellsCycle (λ d names told order tells. tells.no_order order)
-  finds_one weight_bound file = of_diagram_one file.1 WeightBound (λ d names. KeepsBound d) TellsBound (λ d names told keeps tells. tells.passed keeps)
-  finds_one too_many_worlds file = of_diagram_one file.1 NotBuilt (λ d names. world_count d.nodes ≤ MOST_WORLDS) TellsNotBuilt (λ d names told few tells. let many = tells.many in omega (arith, few, many))
+  finds_one weight_bound file = of_diagram_one file.1 WeightBound (λ d names. KeepsScopedBounds d) TellsBound (λ d names told keeps tells. not_kept d names told keeps tells)
+  finds_one too_large file = of_diagram_one file.1 TooLarge (λ d names. IsSmallEnough d) TellsTooLarge (λ d names told small tells. tells.is_size.1 (small _ tells.is_size.0))
 
   task_alike : (task : Task) (name bytes : List ℕ) → EndsAlike status_with (comes_of task name bytes)
   unfolding comes_of
@@ -115,7 +130,7 @@ abbrev pub status_by : Stage → Status
 status_by text_fault = TextFault
 status_by relevance_cycle = Cycle
 status_by weight_bound = WeightBound
-status_by too_many_worlds = NotBuilt
+status_by too_large = TooLarge
 
 abbrev HasStatusOfStage : Refused → Type 0
 HasStatusOfStage refusal = (s : Stage) × (refusal.status ≡ status_by s)
@@ -124,7 +139,7 @@ finds_status : (s : Stage) (file : File) (refusal : Refused) → Finds s file (S
 finds_status text_fault file refusal h = h.0
 finds_status relevance_cycle file refusal h = h.2.0
 finds_status weight_bound file refusal h = h.2.0
-finds_status too_many_worlds file refusal h = h.2.0
+finds_status too_large file refusal h = h.2.0
 
 -- what is refused for its bytes has the status of a stage
 of_stages : (task : Task) (name bytes : List ℕ) (refusal : Refused) → comes_of task name bytes (Err refusal) → HasStatusOfStage refusal

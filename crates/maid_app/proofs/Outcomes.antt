@@ -10,12 +10,12 @@ use Rattle.maid_app.specs.Outcome.{Refused, refused}
 use Rattle.maid_app.specs.Reading.{TellsOf, RefusesAs, IsOfBytes}
 use Rattle.maid_app.specs.Refusal.{status_of, line_of}
 use Rattle.maid_app.specs.Request.{Request, solve, graph, print, trim, file_name}
-use Rattle.maid_app.specs.Stages.{Stage, text_fault, relevance_cycle, weight_bound, too_many_worlds}
+use Rattle.maid_app.specs.Stages.{Stage, text_fault, relevance_cycle, weight_bound, too_large}
 use Rattle.maid_app.specs.Told.{limit, IsFileText, IsTooLong, HasText, WritesText, Refuses, Says, HasFile, LacksFile, IsOneOf}
 use Rattle.maid_app.specs.declared.refusal.Refusal.{Refusal}
 use Rattle.maid_app.specs.declared.refusal.Refusal.TheVariants as refusals
 use Rattle.maid_app.specs.declared.status.Status.{Status}
-use Rattle.maid_app.specs.declared.status.Status.TheVariants.{Done, Usage, Absent, ReadFault, TextTooLong, TextFault, Cycle, WeightBound, TooLarge, WriteFault, NoMemory, Rejected, UnknownAgent, NotBuilt}
+use Rattle.maid_app.specs.declared.status.Status.TheVariants.{Done, Usage, Absent, ReadFault, TextTooLong, TextFault, Cycle, WeightBound, TooLarge, WriteFault, NoMemory, Rejected, UnknownAgent}
 use Rattle.maid_app.proofs.Bytes.{status_by, status_of_a_stage}
 
 -- what a stage refuses has a status of bytes
@@ -23,7 +23,7 @@ as_of_stage : (Comes : Result (List ℕ) Refused → Type 0) (s : Stage) (told :
 as_of_stage Comes text_fault told h = (tt, h)
 as_of_stage Comes relevance_cycle told h = (tt, h)
 as_of_stage Comes weight_bound told h = (tt, h)
-as_of_stage Comes too_many_worlds told h = (tt, h)
+as_of_stage Comes too_large told h = (tt, h)
 
 as_refused : (request : Request) (bytes : List ℕ) (status : Status) (told : List ℕ) → Answers request bytes (Err (refused status told)) → RefusesAs (Answers request bytes) status told
 as_refused request bytes status told h =
@@ -47,7 +47,7 @@ not_done : (s : Stage) → Done ≡ status_by s → ⊥
 not_done text_fault e = absurd cc
 not_done relevance_cycle e = absurd cc
 not_done weight_bound e = absurd cc
-not_done too_many_worlds e = absurd cc
+not_done too_large e = absurd cc
 
 -- why a run over a told file ended with a status other than Done
 data Why (files : List File) (request : Request) (given : ℕ) : Status → Type 0 where
@@ -72,7 +72,6 @@ why files request given WeightBound t h = refused_so WeightBound t h
 why files request given TooLarge t h = refused_so TooLarge t h
 why files request given Rejected t h = refused_so Rejected t h
 why files request given UnknownAgent t h = refused_so UnknownAgent t h
-why files request given NotBuilt t h = refused_so NotBuilt t h
 
 -- A run over a shelf that tells its list, on words that ask for this.
 module _ (list : Option (List File)) (requested : Option Request) (given : ℕ) where
@@ -166,7 +165,7 @@ module _ (list : Option (List File)) (requested : Option Request) (given : ℕ) 
 -- where the bytes stand for a diagram that can be answered, no stage finds anything
 pub nothing_found : (request : Request) (bytes : List ℕ) (d : DiagramView) (names : NamesView) → IsDiagramOf bytes d names → CanAnswer request d → FindsNothing request bytes
 nothing_found (solve name) bytes d names is can =
-    let x : NamedDiagram = record { d = d; names = names } in ((x, is), ((x, is, can.order), ((x, is, can.bound), ((x, is, can.few), tt))))
+    let x : NamedDiagram = record { d = d; names = names } in ((x, is), ((x, is, can.order), ((x, is, can.bound), ((x, is, can.small), tt))))
 nothing_found (graph name) bytes d names is can = ((record { d = d; names = names }, is), tt)
 nothing_found (print name) bytes d names is can = ((record { d = d; names = names }, is), tt)
 nothing_found (trim name) bytes d names is can = ((record { d = d; names = names }, is), tt)

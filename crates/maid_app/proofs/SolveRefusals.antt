@@ -1,9 +1,16 @@
--- Which stage of solving finds a fault, and that those before it find nothing.
-use Rattle.std.proofs.Common.{inl, inr, ℕ, List, Option, Some}
-use Rattle.maid_model.specs.Bounds.{KeepsBound}
+-- Which stage of solving finds a fault, that those before it find nothing, and that a place in a scope is a node.
+use Rattle.std.proofs.Common.{◌<◌, inl, inr, ℕ, List, ◌∷◌, length, Option, Some}
+use Rattle.maid_model.specs.Bounds.{bound_factor}
+use Rattle.maid_model.specs.Nodes.{numbers_of}
+use Rattle.maid_model.specs.Parts.{leads_to, with_ancestors}
 use Rattle.maid_model.specs.Placing.{HasRelianceOrder}
-use Rattle.maid_model.specs.Views.{DiagramView}
-use Rattle.rule_solver.specs.Faults.{Cycle, WeightBound, NotBuilt, cycle_pass, bound_pass, worlds_pass, solve_pass}
+use Rattle.maid_model.specs.Scopes.{KeepsScopedBounds, PassesInScope, goals_of, utilities_for, chance_factor}
+use Rattle.maid_model.specs.Views.{NodeView, DiagramView}
+use Rattle.finite_sums.proofs.Lists.{among_filter}
+use Rattle.maid_laws.proofs.Members.{among_of}
+use Rattle.maid_laws.proofs.Rearranged.{numbered}
+use Rattle.weight_scale.specs.Bound.{IsPassedAt}
+use Rattle.rule_solver.specs.Faults.{Cycle, WeightBound, TooLarge, IsTooLarge, cycle_pass, bound_pass, solve_pass}
 
 pub cycle_of : (d : DiagramView) (list : List ℕ) → solve_pass d (Some (Cycle list)) → cycle_pass d (Some (Cycle list))
 cycle_of d list (inl h) = h
@@ -15,7 +22,16 @@ bound_of d at (inl h) = absurd h
 bound_of d at (inr (order, inl h)) = (order, h)
 bound_of d at (inr (order, inr (bound, h))) = absurd h
 
-pub worlds_of : (d : DiagramView) (worlds : ℕ) → solve_pass d (Some (NotBuilt worlds)) → HasRelianceOrder d.nodes × KeepsBound d × worlds_pass d (Some (NotBuilt worlds))
-worlds_of d worlds (inl h) = absurd h
-worlds_of d worlds (inr (order, inl h)) = absurd h
-worlds_of d worlds (inr (order, inr (bound, h))) = (order, bound, h)
+pub size_of : (d : DiagramView) (cells work : ℕ) → solve_pass d (Some (TooLarge cells work)) → HasRelianceOrder d.nodes × KeepsScopedBounds d × IsTooLarge d cells work
+size_of d cells work (inl h) = absurd h
+size_of d cells work (inr (order, inl h)) = absurd h
+size_of d cells work (inr (order, inr (bound, h))) = (order, bound, h)
+
+-- a scope lists nodes alone
+place_in_scope : (nodes : List NodeView) (of : List ℕ) (factor : ℕ → ℕ) (v : ℕ) → PassesInScope factor (with_ancestors nodes of) v → v < length nodes
+place_in_scope nodes of factor v passes = numbered nodes v (among_filter (leads_to nodes of) v (numbers_of nodes) (among_of v (with_ancestors nodes of) passes.listed)).0
+
+-- so the place at which the weight bound is passed is a node
+pub place_within : (d : DiagramView) (v : ℕ) → IsPassedAt d v → v < length d.nodes
+place_within d v (inl (e, fails, passes)) = place_in_scope d.nodes (e ∷ goals_of d.nodes e) (bound_factor d.nodes) v passes
+place_within d v (inr (agent, fails, passes)) = place_in_scope d.nodes (utilities_for d.nodes agent) (chance_factor d.nodes) v passes

@@ -25,7 +25,7 @@ FindsNothing request bytes =
     each (λ s. Finds s (file_name request, bytes)) (task_of request).stages None
 
 -- what a diagram must keep so that its text comes: `solve` asks for an order of solving, the weight
--- bound and few worlds, and the others ask for nothing
+-- bound and a run within the limits, and the others ask for nothing
 abbrev pub CanAnswer : Request → DiagramView → Type 0
 CanAnswer (solve file) d = IsSolvable d
 CanAnswer (graph file) d = Unit {0}

@@ -26,9 +26,6 @@ write_fault_line = line (codes "write fault")
 abbrev pub no_memory_line : List ℕ
 no_memory_line = line (codes "no memory")
 
-abbrev pub not_built_line : List ℕ
-not_built_line = line (codes "not built")
-
 -- the relevance cycle, each decision relying on the next
 abbrev pub cycle_line : NamesView → List ℕ → List ℕ
 cycle_line names cycle = names_line (codes "relevance cycle:") names cycle
@@ -40,3 +37,7 @@ bound_node_line names v = line (codes "weight bound: node " ++ name_of names v)
 -- the utilities pass it
 abbrev pub bound_utilities_line : List ℕ
 bound_utilities_line = line (codes "weight bound: utilities")
+
+-- the most cells of a plan of the run, and the work of all its plans
+abbrev pub too_large_line : ℕ → ℕ → List ℕ
+too_large_line cells work = line (codes "too large: cells " ++ decimal cells ++ codes " work " ++ decimal work)

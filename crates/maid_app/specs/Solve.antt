@@ -1,15 +1,15 @@
 -- What `solve` writes: the report of the diagram's answer.
-use Rattle.std.specs.Prelude.{◌≡◌, ◌≤◌, ℕ, List, [], ◌∷◌}
+use Rattle.std.specs.Prelude.{◌≡◌, ℕ, List, [], ◌∷◌}
 use Rattle.maid_model.specs.Answers.{IsAnswer, KeepsWorth, answered}
-use Rattle.maid_model.specs.Bounds.{KeepsBound, world_count}
 use Rattle.maid_model.specs.Names.{NamesView}
 use Rattle.maid_model.specs.Placing.{HasRelianceOrder}
 use Rattle.maid_model.specs.Reports.{report}
+use Rattle.maid_model.specs.Scopes.{KeepsScopedBounds}
 use Rattle.maid_model.specs.Subgames.{IsSubgamePerfect, IsOptimal, OwnsAll}
 use Rattle.maid_model.specs.Values.{PrintsOptima}
 use Rattle.maid_model.specs.Views.{DiagramView, SolvedView}
-use Rattle.maid_model.specs.declared.limits.TheConstants.{MOST_WORLDS}
-use Rattle.maid_app.specs.Stages.{text_fault, relevance_cycle, weight_bound, too_many_worlds}
+use Rattle.rule_solver.specs.Faults.{IsSmallEnough}
+use Rattle.maid_app.specs.Stages.{text_fault, relevance_cycle, weight_bound, too_large}
 use Rattle.maid_app.specs.Tasks.{Task}
 
 -- The report of the answer, by definition and by what holds of it: its profile is subgame-perfect;
@@ -24,16 +24,17 @@ pub record HasReport (d : DiagramView) (names : NamesView) (printed : List ℕ) 
   pub optimum : PrintsOptima d solved
   pub worth : KeepsWorth d solved
 
--- the diagram has an order of solving, keeps the weight bound and has no more worlds than are listed
+-- the diagram has an order of solving, keeps the weight bound in each scope, and its run keeps the
+-- limits of cells and work
 pub record IsSolvable (d : DiagramView) : Type 0 where
   pub order : HasRelianceOrder d.nodes
-  pub bound : KeepsBound d
-  pub few : world_count d.nodes ≤ MOST_WORLDS
+  pub bound : KeepsScopedBounds d
+  pub small : IsSmallEnough d
 
--- the first that applies of the text's fault, the relevance cycle, the weight bound and too many
--- worlds, and else the report
+-- the first that applies of the text's fault, the relevance cycle, the weight bound and too large a
+-- run, and else the report
 abbrev pub solving : Task
 solving = record {
-  stages = text_fault ∷ relevance_cycle ∷ weight_bound ∷ too_many_worlds ∷ [];
+  stages = text_fault ∷ relevance_cycle ∷ weight_bound ∷ too_large ∷ [];
   IsTextOf = HasReport;
 }

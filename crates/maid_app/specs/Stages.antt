@@ -1,25 +1,26 @@
 -- The stages that may refuse a request for what its file holds. A form of words has some of them,
 -- in an order of its own.
-use Rattle.std.specs.Prelude.{◌≡◌, ◌<◌, ◌≤◌, ℕ, List, Option, None, Some}
+use Rattle.std.specs.Prelude.{◌≡◌, ℕ, List, Option, None, Some}
 use Rattle.first_fault.specs.Passes.{Pass}
 use Rattle.maid_io.specs.Device.{File}
-use Rattle.maid_model.specs.Bounds.{KeepsBound, PassesAt, world_count}
-use Rattle.maid_model.specs.declared.limits.TheConstants.{MOST_WORLDS}
 use Rattle.maid_model.specs.Names.{NamesView}
 use Rattle.maid_model.specs.Placing.{HasRelianceOrder, IsRelianceCycle}
+use Rattle.maid_model.specs.Scopes.{KeepsScopedBounds}
 use Rattle.maid_model.specs.Views.{DiagramView}
+use Rattle.rule_solver.specs.Faults.{IsSmallEnough, IsTooLarge}
+use Rattle.weight_scale.specs.Bound.{IsPassedAt, IsPassedByUtilities}
 use Rattle.maid_app.specs.Diagrams.{NamedDiagram, IsDiagramOf, of_diagram}
 use Rattle.maid_app.specs.Faults.{TellsFault}
-use Rattle.maid_app.specs.Lines.{cycle_line, bound_node_line, bound_utilities_line, not_built_line}
+use Rattle.maid_app.specs.Lines.{cycle_line, bound_node_line, bound_utilities_line, too_large_line}
 use Rattle.maid_app.specs.Outcome.{Refused}
 use Rattle.maid_app.specs.declared.status.Status.{Status}
-use Rattle.maid_app.specs.declared.status.Status.TheVariants.{TextFault, Cycle, WeightBound, NotBuilt}
+use Rattle.maid_app.specs.declared.status.Status.TheVariants.{TextFault, Cycle, WeightBound, TooLarge}
 
 pub data Stage : Type 0 where
   text_fault : Stage
   relevance_cycle : Stage
   weight_bound : Stage
-  too_many_worlds : Stage
+  too_large : Stage
 
 -- the text stands for a diagram
 abbrev pub IsText : List ℕ → Type 0
@@ -32,20 +33,18 @@ pub record TellsCycle (d : DiagramView) (names : NamesView) (told : List ℕ) : 
   pub is_cycle : IsRelianceCycle d.nodes cycle
   pub says : told ≡ cycle_line names cycle
 
--- the first node in text at which the weight bound is passed, or else the utilities
-pub data IsBoundLine (d : DiagramView) (names : NamesView) (told : List ℕ) : Type 0 where
-  AtNode : (v : ℕ) → PassesAt d.nodes v → told ≡ bound_node_line names v → IsBoundLine d names told
-  AtUtilities : ((v : ℕ) → PassesAt d.nodes v → ⊥) → told ≡ bound_utilities_line → IsBoundLine d names told
+-- the first scope that fails passes the weight bound, and it is told where: at the first node in
+-- text, or by the utilities
+pub data TellsBound (d : DiagramView) (names : NamesView) (told : List ℕ) : Type 0 where
+  AtNode : (v : ℕ) → IsPassedAt d v → told ≡ bound_node_line names v → TellsBound d names told
+  AtUtilities : IsPassedByUtilities d → told ≡ bound_utilities_line → TellsBound d names told
 
--- the weight bound is passed, and it is told where
-pub record TellsBound (d : DiagramView) (names : NamesView) (told : List ℕ) : Type 0 where
-  pub passed : KeepsBound d → ⊥
-  pub says : IsBoundLine d names told
-
--- there are more worlds than are listed
-pub record TellsNotBuilt (d : DiagramView) (names : NamesView) (told : List ℕ) : Type 0 where
-  pub many : MOST_WORLDS < world_count d.nodes
-  pub says : told ≡ not_built_line
+-- the run passes a limit of cells or of work, and both its counts are told
+pub record TellsTooLarge (d : DiagramView) (names : NamesView) (told : List ℕ) : Type 0 where
+  pub cells : ℕ
+  pub work : ℕ
+  pub is_size : IsTooLarge d cells work
+  pub says : told ≡ too_large_line cells work
 
 -- a stage finds nothing where it is clear, and else refuses with its status and a line that says why
 abbrev pub stage : Status → Type 0 → (List ℕ → Type 0) → Pass Refused
@@ -58,6 +57,6 @@ Finds text_fault file = stage TextFault (IsText file.1) (TellsFault file.0 file.
 Finds relevance_cycle file =
     of_diagram file.1 (λ d names. stage Cycle (HasRelianceOrder d.nodes) (TellsCycle d names))
 Finds weight_bound file =
-    of_diagram file.1 (λ d names. stage WeightBound (KeepsBound d) (TellsBound d names))
-Finds too_many_worlds file =
-    of_diagram file.1 (λ d names. stage NotBuilt (world_count d.nodes ≤ MOST_WORLDS) (TellsNotBuilt d names))
+    of_diagram file.1 (λ d names. stage WeightBound (KeepsScopedBounds d) (TellsBound d names))
+Finds too_large file =
+    of_diagram file.1 (λ d names. stage TooLarge (IsSmallEnough d) (TellsTooLarge d names))

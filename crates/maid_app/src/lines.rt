@@ -2,7 +2,7 @@
 
 ghost use Rattle.std.specs.Prelude.{◌≡◌, ◌++◌, IfOk};
 ghost use Rattle.maid_model.specs.Reports.{line};
-ghost use Rattle.maid_app.specs.Lines.{fault_line};
+ghost use Rattle.maid_app.specs.Lines.{fault_line, too_large_line};
 
 use app_lines::place;
 use line_pieces::push_number;
@@ -24,6 +24,18 @@ pub fn told(alloc: Global, head: &[u8], name: &[u8]) -> Result<Vec<u8>, AllocErr
 {
     let mut text = Vec::from_slice(alloc, head)?;
     text.extend_from_slice(name)?;
+    text.push(b'\n')?;
+    Ok(text)
+}
+
+/// The line of a run that is too large: the most cells of one of its plans, and the work of all.
+pub fn too_large(alloc: Global, cells: u128, work: u128) -> Result<Vec<u8>, AllocError>
+    ensures { IfOk result (λ text. text.items ≡ too_large_line cells work) }
+{
+    let mut text = Vec::from_slice(alloc, b"too large: cells ")?;
+    push_number(&mut text, cells)?;
+    text.extend_from_slice(b" work ")?;
+    push_number(&mut text, work)?;
     text.push(b'\n')?;
     Ok(text)
 }

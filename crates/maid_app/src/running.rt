@@ -134,7 +134,7 @@ fn serve<H: Shelf, O: Sink>(
 ///
 /// The order of refusals is [`Status::Usage`] where the words are of no form, [`Status::Absent`],
 /// [`Status::ReadFault`] and [`Status::TextTooLong`] for the file, [`Status::TextFault`] for its
-/// bytes, for `solve` then [`Status::Cycle`], [`Status::WeightBound`] and [`Status::NotBuilt`] for
+/// bytes, for `solve` then [`Status::Cycle`], [`Status::WeightBound`] and [`Status::TooLarge`] for
 /// its diagram, and last [`Status::WriteFault`]. [`Status::NoMemory`] may come at any point after
 /// the words and before the first write. A fault of `err` changes nothing else.
 pub fn run<H: Shelf, O: Sink, E: Sink>(

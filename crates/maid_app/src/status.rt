@@ -22,7 +22,7 @@ pub enum Status {
     Cycle,
     /// The diagram's weights may be too great for exact numbers.
     WeightBound,
-    /// The diagram takes too many steps or too much memory.
+    /// Solving the diagram would take too many cells of tables or too much work.
     TooLarge,
     /// `out` couldn't be written.
     WriteFault,
@@ -32,12 +32,10 @@ pub enum Status {
     Rejected,
     /// No node has that agent.
     UnknownAgent,
-    /// The program doesn't solve such a file yet.
-    NotBuilt,
 }
 
 impl Status {
-    /// The code that the program ends with: 0 to 13 in the order of the variants.
+    /// The code that the program ends with: 0 to 12 in the order of the variants.
     pub fn code(self) -> u8
         ensures { result ≡ code_of self }
     {

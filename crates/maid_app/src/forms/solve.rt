@@ -58,9 +58,9 @@ fn refusal(alloc: Global, diagram: &Diagram, names: &Names, fault: &SolveFault) 
             list_line(alloc, names, b"relevance cycle:", list),
         ),
         SolveFault::WeightBound { node } => bound_refusal(alloc, diagram, names, *node),
-        SolveFault::NotBuilt { .. } => told(
-            Status::NotBuilt,
-            lines::told(alloc, b"not built", b""),
+        SolveFault::TooLarge { cells, work } => told(
+            Status::TooLarge,
+            lines::too_large(alloc, *cells, *work),
         ),
         SolveFault::NoMemory => Refusal::NoMemory,
     }
@@ -70,8 +70,8 @@ fn refusal(alloc: Global, diagram: &Diagram, names: &Names, fault: &SolveFault) 
 ///
 /// # Errors
 ///
-/// The fault of the bytes, the relevance cycle, the place at which the weight bound is passed, that there are more than
-/// 65,536 worlds, or want of memory.
+/// The fault of the bytes, the relevance cycle, the place at which the weight bound is passed, the cells and the work of
+/// a run that passes a limit, or want of memory.
 pub fn answer(alloc: Global, source: Source<'_>) -> Result<Vec<u8>, Refusal>
     ensures ok { IfOk result (λ printed. comes_of solving source.entry.name.now source.entry.bytes.now (Ok printed.items)) }
     ensures err { IfErr result (TellsOf (comes_of solving source.entry.name.now source.entry.bytes.now)) }

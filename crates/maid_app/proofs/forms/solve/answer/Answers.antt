@@ -1,7 +1,7 @@
 use Rattle.std.proofs.Common.{rules, ◌∷◌, []}
 use Rattle.maid_app.specs.Reading.{TellsTextFault, TellsOf}
 use Rattle.maid_app.specs.Solve.{HasReport, solving}
-use Rattle.maid_app.specs.Stages.{relevance_cycle, weight_bound, too_many_worlds}
+use Rattle.maid_app.specs.Stages.{relevance_cycle, weight_bound, too_large}
 use Rattle.maid_app.specs.Tasks.{comes_of}
 use Rattle.maid_app.proofs.Refusals.{if_err_then, text_refused}
 use Rattle.maid_app.proofs.Solving.{report_given}
@@ -27,7 +27,7 @@ returns-in-Ok-clause-ok c =
 pub returns-in_err-diagram-clause-err : goal.returns-in_err-diagram-clause-err
 returns-in_err-diagram-clause-err c =
     if_err_then c.from_residual.result (TellsTextFault c.args.source.name.now c.args.source.bytes.now) (TellsOf (comes_of solving c.args.source.name.now c.args.source.bytes.now))
-    (text_refused (relevance_cycle ∷ weight_bound ∷ too_many_worlds ∷ []) HasReport c.args.source.name.now c.args.source.bytes.now)
+    (text_refused (relevance_cycle ∷ weight_bound ∷ too_large ∷ []) HasReport c.args.source.name.now c.args.source.bytes.now)
     (search rules)
 
 -- a later stage refuses the diagram

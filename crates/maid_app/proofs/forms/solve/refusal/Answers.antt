@@ -2,15 +2,15 @@ use Rattle.std.proofs.Common.{◌≡◌, ◌∙◌, ◌<◌, ℕ, All, Err, leng
 use Rattle.first_fault.specs.Answers.{IsFaultOrNoMemory}
 use Rattle.first_fault.specs.Outcomes.{refusals}
 use Rattle.rule_solver.specs.Faults.{solve_fault, solve_pass}
-use Rattle.maid_app.specs.Lines.{cycle_line, not_built_line}
+use Rattle.maid_app.specs.Lines.{cycle_line, too_large_line}
 use Rattle.maid_app.specs.Outcome.{refused}
 use Rattle.maid_app.specs.Solve.{solving}
 use Rattle.maid_app.specs.Tasks.{comes_of}
-use Rattle.maid_app.specs.declared.status.Status.TheVariants.{Cycle, NotBuilt}
+use Rattle.maid_app.specs.declared.status.Status.TheVariants.{Cycle, TooLarge}
 use Rattle.maid_app.proofs.Nodes.{cycle_within}
 use Rattle.maid_app.proofs.Refusals.{told_gives, if_ok_then}
-use Rattle.maid_app.proofs.SolveRefusals.{cycle_of, worlds_of}
-use Rattle.maid_app.proofs.Solving.{cycle_found, many_found}
+use Rattle.maid_app.proofs.SolveRefusals.{cycle_of, size_of}
+use Rattle.maid_app.proofs.Solving.{cycle_found, size_found}
 use Rattle.maid_app.proofs.forms.solve.refusal.Goals as goal
 
 -- the decisions of the relevance cycle are nodes, which have names
@@ -32,14 +32,14 @@ returns-in-Cycle c name bytes is =
     c.list_line.ensures)
     c.told.ensures
 
--- or it says that there are too many worlds
-pub returns-in-NotBuilt : goal.returns-in-NotBuilt
-returns-in-NotBuilt c name bytes is =
+-- or it tells the cells and the work of too large a run
+pub returns-in-TooLarge : goal.returns-in-TooLarge
+returns-in-TooLarge c name bytes is =
     let d = c.args.diagram.now in
     let names = c.args.names.now in
-    let many = worlds_of d c.in-NotBuilt.worlds (subst (IsFaultOrNoMemory solve_fault (solve_pass d)) c.in-NotBuilt.is c.requires.fault) in
-    told_gives (refusals (comes_of solving name bytes)) NotBuilt c.told-in-NotBuilt.result c.told-in-NotBuilt-2.result
-    (if_ok_then c.told-in-NotBuilt.result (λ t. t.items ≡ not_built_line) (λ t. comes_of solving name bytes (Err (refused NotBuilt t.items)))
-    (λ t e. many_found name bytes d names t.items is many.0 many.1 many.2.0 e)
-    c.told-in-NotBuilt.ensures)
-    c.told-in-NotBuilt-2.ensures
+    let found = size_of d c.in-TooLarge.cells c.in-TooLarge.work (subst (IsFaultOrNoMemory solve_fault (solve_pass d)) c.in-TooLarge.is c.requires.fault) in
+    told_gives (refusals (comes_of solving name bytes)) TooLarge c.too_large.result c.told-in-TooLarge.result
+    (if_ok_then c.too_large.result (λ t. t.items ≡ too_large_line c.in-TooLarge.cells c.in-TooLarge.work) (λ t. comes_of solving name bytes (Err (refused TooLarge t.items)))
+    (λ t e. size_found name bytes d names t.items c.in-TooLarge.cells c.in-TooLarge.work is found.0 found.1 found.2 e)
+    c.too_large.ensures)
+    c.told-in-TooLarge.ensures
