@@ -1,2 +1,3 @@
+pub mod Demo
 pub mod Places
 pub mod Removed

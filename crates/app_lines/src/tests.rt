@@ -1,6 +1,8 @@
 //! Each call once, over small texts and lists.
 
 use super::*;
+use maid_model::{Names, Ratio};
+use std::test::Fail;
 
 #[test]
 fn lines_and_columns(rt: HostRuntime) {
@@ -13,4 +15,51 @@ fn lines_and_columns(rt: HostRuntime) {
     ] {
         assert_eq!(rt; place(b"ab\n\ncd", at), want, "{at}");
     }
+}
+
+#[test]
+fn an_agent_a_line(rt: HostRuntime) -> Result<(), Fail> {
+    let alloc = rt.alloc();
+    let mut agents = Vec::new(alloc);
+    agents.push(Vec::from_slice(alloc, b"A")?)?;
+    agents.push(Vec::from_slice(alloc, b"\"B\"")?)?;
+    let names = Names::from_lists(Vec::new(alloc), Vec::new(alloc), agents);
+    let gains = [Ratio { num: -3, den: 1 }, Ratio { num: 5, den: 4 }];
+    let text = gain_lines(alloc, &names, &gains)?;
+    assert_eq!(rt;
+        text.as_slice(),
+        b"agent \"A\" = -3\nagent \"\\\"B\\\"\" = 5/4\n".as_slice()
+    );
+    Ok(())
+}
+
+const ONE_STAGE: &str = "node X0 { states = (\"s1\" \"s2\"); }
+decision D0 { states = (\"stay\" \"flip\"); agent = \"agent\"; }
+utility U0 { agent = \"agent\"; }
+potential (X0) { data = (1 1); }
+potential (D0 | X0) { }
+potential (U0 | X0) { data = (1 0); }
+";
+
+const TWO_STAGES: &str = "node X0 { states = (\"s1\" \"s2\"); }
+decision D0 { states = (\"stay\" \"flip\"); agent = \"agent\"; }
+utility U0 { agent = \"agent\"; }
+node X1 { states = (\"s1\" \"s2\"); }
+decision D1 { states = (\"stay\" \"flip\"); agent = \"agent\"; }
+utility U1 { agent = \"agent\"; }
+potential (X0) { data = (1 1); }
+potential (D0 | X0) { }
+potential (U0 | X0) { data = (1 0); }
+potential (X1 | X0 D0) { data = (1 0 1 1 0 1 1 1); }
+potential (D1 | X1) { }
+potential (U1 | X1) { data = (1 0); }
+";
+
+#[test]
+fn generated_texts(rt: HostRuntime) -> Result<(), Fail> {
+    for (k, want) in [(1, ONE_STAGE), (2, TWO_STAGES)] {
+        let text = demo_text(rt.alloc(), k)?;
+        assert_eq!(rt; text.as_slice(), want.as_bytes(), "{k}");
+    }
+    Ok(())
 }

@@ -5,7 +5,7 @@ mod pieces;
 mod report;
 
 pub use pieces::print_ratio;
-pub use report::print_report;
+pub use report::{print_report, push_gains};
 
 #[cfg(test)]
 mod tests;

@@ -218,8 +218,8 @@ fn push_gain(out: &mut Vec<u8>, names: &Names, agent: usize, gain: &Ratio) -> Re
     Ok(())
 }
 
-// Appends a line for each agent.
-fn push_gains(out: &mut Vec<u8>, names: &Names, gains: &[Ratio]) -> Result<(), AllocError>
+/// Appends a line for each agent: what the plan is worth to it.
+pub fn push_gains(out: &mut Vec<u8>, names: &Names, gains: &[Ratio]) -> Result<(), AllocError>
     requires { length gains.now ≡ length names.now.agents }
     ensures { OnOk result (out.new.items ≡ out.old.items ++ gain_lines names.now 0 gains.now) }
 {

@@ -2,11 +2,17 @@
 
 ghost use Rattle.std.specs.Prelude.{◌≡◌, [], IfOk};
 
-use crate::solve;
-use maid_model::{Diagram, Kind, Node, Ratio, Row, literals_are_tested};
+use crate::{expected, measured_plans_have_room, row_sums, solve};
+use maid_model::{
+    Answer, Diagram, Kind, MOST_PLAN_CELLS, Node, Profile, Ratio, Row, literals_are_tested,
+};
+use part_laws::scoped_sums_fit;
+use relevance_graph::find_relevance;
+use size_precheck::measure;
 use smallvec::SmallVec;
 use std::alloc::{AllocError, Global};
 use std::test::Fail;
+use weight_scale::{BoundPlace, bound};
 
 fn node(
     alloc: Global,
@@ -28,7 +34,9 @@ fn node(
 }
 
 /// A plan, a reply that sees it, and what the pairs pay: 1, 4, 3 and 2.
-fn reply_diagram(alloc: Global) -> Result<Diagram, AllocError> {
+fn reply_diagram(alloc: Global) -> Result<Diagram, AllocError>
+    ensures { IfOk result (λ d. d.nodes ≡ reply_nodes) }
+{
     literals_are_tested();
     let mut nodes = Vec::new(alloc);
     nodes.push(node(alloc, Kind::Decision, 2, &[], &[])?)?;
@@ -62,5 +70,38 @@ fn a_plan_relies_on_the_reply(rt: HostRuntime) -> Result<(), Fail> {
         solved.gains.as_slice(),
         [Ratio { num: 4, den: 1 }].as_slice()
     );
+    Ok(())
+}
+
+/// Whether the diagram keeps the weight bound, and its run the limit of cells.
+fn has_room(alloc: Global, diagram: &Diagram) -> Result<bool, AllocError>
+    ensures bound { IfOk result (λ has. IsTrue has → KeepsScopedBounds diagram.now) }
+    ensures room { IfOk result (λ has. IsTrue has → HasRoom diagram.now.nodes MOST_PLAN_CELLS) }
+{
+    measured_plans_have_room();
+    if bound(diagram) != BoundPlace::Within {
+        return Ok(false);
+    }
+    let relevance = find_relevance(alloc, diagram)?;
+    match relevance.order() {
+        Ok(order) => {
+            let size = measure(alloc, diagram, order)?;
+            Ok(size.cells <= MOST_PLAN_CELLS as u128)
+        }
+        Err(_) => Ok(false),
+    }
+}
+
+// With an even choice of plans the reply gains in each row what the pair pays, and each row has the mass of one plan.
+#[test]
+fn a_reply_gains_what_the_pairs_pay(rt: HostRuntime) -> Result<(), Fail> {
+    let alloc = rt.alloc();
+    let diagram = reply_diagram(alloc)?;
+    let room = has_room(alloc, &diagram)?;
+    assert!(rt; room);
+    let profile = Profile::uniform(alloc, &diagram)?;
+    let sums = row_sums(alloc, &diagram, &profile, 1)?;
+    assert_eq!(rt; sums.gains.as_slice(), [1, 4, 3, 2].as_slice());
+    assert_eq!(rt; sums.masses.as_slice(), [1, 1].as_slice());
     Ok(())
 }

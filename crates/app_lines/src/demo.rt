@@ -1,0 +1,158 @@
+//! The text of the generated diagram: stages of a state, a decision and a utility, each state but the first behind the
+//! state and the decision before it.
+
+ghost use Rattle.std.specs.Prelude.{◌≡◌, ◌<◌, ◌-◌, ◌++◌, IfOk, OnOk, codes, decimal};
+ghost use Rattle.std.specs.List.{flat_map, range_with_len};
+ghost use Rattle.app_lines.specs.Demo.{state_block, choice_block, worth_block, stage_blocks, later_potential, state_potential, choice_potential, worth_potential, stage_potentials, demo_text};
+
+use line_pieces::push_number;
+use std::alloc::{AllocError, Global};
+
+// Appends a text and a number behind it.
+fn push_numbered(out: &mut Vec<u8>, before: &[u8], number: usize) -> Result<(), AllocError>
+    ensures { OnOk result (out.new.items ≡ out.old.items ++ (before.now ++ decimal number)) }
+{
+    out.extend_from_slice(before)?;
+    push_number(out, number as u128)
+}
+
+// Appends a piece of text with one number in it.
+#[tactic(auto, using(std::proofs::Common::append_assoc))]
+fn push_one(
+    out: &mut Vec<u8>,
+    before: &[u8],
+    number: usize,
+    behind: &[u8],
+) -> Result<(), AllocError>
+    ensures { OnOk result (out.new.items ≡ out.old.items ++ (before.now ++ decimal number ++ behind.now)) }
+{
+    push_numbered(out, before, number)?;
+    out.extend_from_slice(behind)
+}
+
+// Appends a piece of text with two numbers in it.
+#[tactic(auto, using(std::proofs::Common::append_assoc))]
+fn push_two(
+    out: &mut Vec<u8>,
+    before: &[u8],
+    first: usize,
+    between: &[u8],
+    second: usize,
+    behind: &[u8],
+) -> Result<(), AllocError>
+    ensures { OnOk result (out.new.items ≡ out.old.items ++ (before.now ++ decimal first ++ between.now ++ decimal second ++ behind.now)) }
+{
+    push_numbered(out, before, first)?;
+    push_one(out, between, second, behind)
+}
+
+fn push_state_block(out: &mut Vec<u8>, stage: usize) -> Result<(), AllocError>
+    ensures { OnOk result (out.new.items ≡ out.old.items ++ state_block stage) }
+{
+    push_one(out, b"node X", stage, b" { states = (\"s1\" \"s2\"); }\n")
+}
+
+fn push_choice_block(out: &mut Vec<u8>, stage: usize) -> Result<(), AllocError>
+    ensures { OnOk result (out.new.items ≡ out.old.items ++ choice_block stage) }
+{
+    push_one(
+        out,
+        b"decision D",
+        stage,
+        b" { states = (\"stay\" \"flip\"); agent = \"agent\"; }\n",
+    )
+}
+
+fn push_worth_block(out: &mut Vec<u8>, stage: usize) -> Result<(), AllocError>
+    ensures { OnOk result (out.new.items ≡ out.old.items ++ worth_block stage) }
+{
+    push_one(out, b"utility U", stage, b" { agent = \"agent\"; }\n")
+}
+
+#[tactic(auto, using(std::proofs::Common::append_assoc))]
+fn push_stage_blocks(out: &mut Vec<u8>, stage: usize) -> Result<(), AllocError>
+    ensures { OnOk result (out.new.items ≡ out.old.items ++ stage_blocks stage) }
+{
+    push_state_block(out, stage)?;
+    push_choice_block(out, stage)?;
+    push_worth_block(out, stage)
+}
+
+// Appends the potential of a state behind the state and the decision of the stage before.
+fn push_later_potential(out: &mut Vec<u8>, stage: usize) -> Result<(), AllocError>
+    requires { 0 < stage }
+    ensures { OnOk result (out.new.items ≡ out.old.items ++ later_potential stage) }
+{
+    let before = stage - 1;
+    push_two(out, b"potential (X", stage, b" | X", before, b" D")?;
+    push_number(out, before as u128)?;
+    out.extend_from_slice(b") { data = (1 0 1 1 0 1 1 1); }\n")
+}
+
+fn push_state_potential(out: &mut Vec<u8>, stage: usize) -> Result<(), AllocError>
+    ensures { OnOk result (out.new.items ≡ out.old.items ++ state_potential stage) }
+{
+    if stage == 0 {
+        out.extend_from_slice(b"potential (X0) { data = (1 1); }\n")
+    } else {
+        push_later_potential(out, stage)
+    }
+}
+
+fn push_choice_potential(out: &mut Vec<u8>, stage: usize) -> Result<(), AllocError>
+    ensures { OnOk result (out.new.items ≡ out.old.items ++ choice_potential stage) }
+{
+    push_two(out, b"potential (D", stage, b" | X", stage, b") { }\n")
+}
+
+fn push_worth_potential(out: &mut Vec<u8>, stage: usize) -> Result<(), AllocError>
+    ensures { OnOk result (out.new.items ≡ out.old.items ++ worth_potential stage) }
+{
+    push_two(
+        out,
+        b"potential (U",
+        stage,
+        b" | X",
+        stage,
+        b") { data = (1 0); }\n",
+    )
+}
+
+#[tactic(auto, using(std::proofs::Common::append_assoc))]
+fn push_stage_potentials(out: &mut Vec<u8>, stage: usize) -> Result<(), AllocError>
+    ensures { OnOk result (out.new.items ≡ out.old.items ++ stage_potentials stage) }
+{
+    push_state_potential(out, stage)?;
+    push_choice_potential(out, stage)?;
+    push_worth_potential(out, stage)
+}
+
+fn push_blocks(out: &mut Vec<u8>, stages: usize) -> Result<(), AllocError>
+    ensures { OnOk result (out.new.items ≡ out.old.items ++ flat_map stage_blocks (range_with_len 0 stages)) }
+{
+    for stage in 0..stages {
+        push_stage_blocks(out, stage)?;
+    }
+    Ok(())
+}
+
+fn push_potentials(out: &mut Vec<u8>, stages: usize) -> Result<(), AllocError>
+    ensures { OnOk result (out.new.items ≡ out.old.items ++ flat_map stage_potentials (range_with_len 0 stages)) }
+{
+    for stage in 0..stages {
+        push_stage_potentials(out, stage)?;
+    }
+    Ok(())
+}
+
+/// The text of the generated diagram of `k` stages, in the form in which diagrams are printed: the node blocks of each
+/// stage, and then the potentials of each. In state `s1` a stage is worth 1, and from `s2` a decision that flips leads to
+/// either state. The program takes 1 to 60 stages. Its cost is that of the text it makes.
+pub fn demo_text(alloc: Global, k: usize) -> Result<Vec<u8>, AllocError>
+    ensures { IfOk result (λ text. text.items ≡ demo_text k) }
+{
+    let mut text = Vec::new(alloc);
+    push_blocks(&mut text, k)?;
+    push_potentials(&mut text, k)?;
+    Ok(text)
+}
