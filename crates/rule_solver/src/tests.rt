@@ -1,12 +1,13 @@
 //! A diagram solved with ample memory.
 
-ghost use Rattle.std.specs.Prelude.{◌≡◌, [], IfOk};
+ghost use Rattle.std.specs.Prelude.{◌≡◌, [], IfOk, IsTrue};
+ghost use Rattle.maid_model.specs.declared.limits.TheConstants.{MOST_PLAN_CELLS};
+ghost use Rattle.maid_model.specs.Scopes.{KeepsScopedBounds};
+ghost use Rattle.rule_solver.specs.Example.{reply_nodes};
+ghost use Rattle.rule_solver.specs.Rooms.{HasRoom};
 
-use crate::{expected, measured_plans_have_room, row_sums, solve};
-use maid_model::{
-    Answer, Diagram, Kind, MOST_PLAN_CELLS, Node, Profile, Ratio, Row, literals_are_tested,
-};
-use part_laws::scoped_sums_fit;
+use crate::{measured_plans_have_room, row_sums, solve};
+use maid_model::{Diagram, Kind, MOST_PLAN_CELLS, Node, Profile, Ratio, Row, literals_are_tested};
 use relevance_graph::find_relevance;
 use size_precheck::measure;
 use smallvec::SmallVec;
@@ -79,8 +80,9 @@ fn has_room(alloc: Global, diagram: &Diagram) -> Result<bool, AllocError>
     ensures room { IfOk result (λ has. IsTrue has → HasRoom diagram.now.nodes MOST_PLAN_CELLS) }
 {
     measured_plans_have_room();
-    if bound(diagram) != BoundPlace::Within {
-        return Ok(false);
+    match bound(diagram) {
+        BoundPlace::Within => {}
+        BoundPlace::Node(_) | BoundPlace::Utilities => return Ok(false),
     }
     let relevance = find_relevance(alloc, diagram)?;
     match relevance.order() {
