@@ -1,5 +1,5 @@
 -- Bytes come to one status: they stand for one diagram or have a fault, and each stage is clear or refuses with its status, never both.
-use Rattle.std.proofs.Common.{◌≡◌, ◌≤◌, ◌<◌, inl, inr, ℕ, List, None, Some, refl, ap, subst, sym, ◌∙◌, arith, Ok, Err}
+use Rattle.std.proofs.Common.{◌≡◌, inl, inr, ℕ, List, None, Some, refl, ap, subst, sym, ◌∙◌, arith, Err}
 use Rattle.first_fault.specs.Passes.{each}
 use Rattle.first_fault.specs.Properties.{EndsAlike}
 use Rattle.first_fault.proofs.Ends.{staged_alike}
@@ -18,13 +18,12 @@ use Rattle.net_parser.specs.Grammar.{Spells}
 use Rattle.net_parser.specs.Laws as parser
 use Rattle.net_parser.specs.Lexemes.{lexemes}
 use Rattle.net_parser.specs.Trees.{BlockTree}
-use Rattle.rule_solver.specs.Faults.{IsSmallEnough, IsTooLarge}
-use Rattle.weight_scale.specs.Bound.{IsPassedAt, IsPassedByUtilities}
+use Rattle.rule_solver.specs.Faults.{IsSmallEnough}
 use Rattle.maid_app.specs.Answers.{Answers, FindsNothing, task_of}
 use Rattle.maid_app.specs.Diagrams.{NamedDiagram, IsTreeOf, IsDiagramOf, of_diagram}
 use Rattle.maid_app.specs.Faults.{TellsFault, IsTextFault}
 use Rattle.maid_app.specs.Laws.{OneStatus}
-use Rattle.maid_app.specs.Outcome.{Refused, refused, status_with}
+use Rattle.maid_app.specs.Outcome.{Refused, status_with}
 use Rattle.maid_app.specs.Request.{Request, file_name}
 use Rattle.maid_app.specs.Stages.{Stage, text_fault, relevance_cycle, weight_bound, too_large, Finds, IsText, stage, TellsCycle, TellsBound, AtNode, AtUtilities, TellsTooLarge}
 use Rattle.maid_app.specs.Tasks.{Task, comes_of}

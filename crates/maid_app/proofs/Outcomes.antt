@@ -1,5 +1,5 @@
 -- How the refusals of a run follow from what it read.
-use Rattle.std.proofs.Common.{◌≡◌, ◌⊎◌, ◌<◌, ◌≤◌, inl, inr, ℕ, List, length, Option, None, Some, IfSome, IsSomeAnd, IfErr, Result, Ok, Err, refl, sym, subst, ap, ◌∙◌, arith}
+use Rattle.std.proofs.Common.{◌≡◌, ◌<◌, ◌≤◌, inl, inr, ℕ, List, length, Option, None, Some, IsSomeAnd, IfErr, Result, Ok, Err, refl, sym, subst, ap, ◌∙◌, arith}
 use Rattle.maid_io.specs.Device.{File, file_of}
 use Rattle.maid_model.specs.Names.{NamesView}
 use Rattle.maid_model.specs.Views.{DiagramView}
@@ -7,7 +7,7 @@ use Rattle.maid_app.specs.Answers.{Answers, FindsNothing, CanAnswer}
 use Rattle.maid_app.specs.Diagrams.{NamedDiagram, IsDiagramOf}
 use Rattle.maid_app.specs.Laws.{OneStatus, ClearOrRefused}
 use Rattle.maid_app.specs.Outcome.{Refused, refused}
-use Rattle.maid_app.specs.Reading.{TellsOf, RefusesAs, IsOfBytes}
+use Rattle.maid_app.specs.Reading.{TellsOf, RefusesAs}
 use Rattle.maid_app.specs.Refusal.{status_of, line_of}
 use Rattle.maid_app.specs.Request.{Request, solve, graph, print, trim, file_name}
 use Rattle.maid_app.specs.Stages.{Stage, text_fault, relevance_cycle, weight_bound, too_large}

@@ -1,5 +1,5 @@
 -- A refusal tells what was wanted, or that memory ran out.
-use Rattle.std.proofs.Common.{◌≡◌, ℕ, List, [], ◌∷◌, inl, inr, IfOk, IfErr, Vec, Global, Option, None, Some, Result, Ok, Err, MatchResult, sym, subst, refl}
+use Rattle.std.proofs.Common.{◌≡◌, ℕ, List, [], ◌∷◌, inl, IfOk, IfErr, Vec, Global, Option, None, Some, Result, Ok, Err, MatchResult, sym, subst}
 use Rattle.first_fault.specs.Answers.{IsFoundIfAny}
 use Rattle.first_fault.specs.Outcomes.{refusals as refusals_of}
 use Rattle.first_fault.specs.Passes.{Pass, always}
@@ -8,7 +8,7 @@ use Rattle.maid_app.specs.Outcome.{Refused, refused}
 use Rattle.maid_app.specs.Reading.{Tells, TellsTextFault, TellsOf}
 use Rattle.maid_app.specs.Refusal.{refused_as}
 use Rattle.maid_app.specs.Stages.{Stage, Finds, text_fault}
-use Rattle.maid_app.specs.Tasks.{Task, comes_of}
+use Rattle.maid_app.specs.Tasks.{comes_of}
 use Rattle.maid_app.specs.declared.refusal.Refusal.{Refusal}
 use Rattle.maid_app.specs.declared.refusal.Refusal.TheVariants as refusals
 use Rattle.maid_app.specs.declared.status.Status.{Status}

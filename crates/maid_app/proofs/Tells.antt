@@ -1,5 +1,5 @@
 -- What is told is as it was wanted, or memory ran out.
-use Rattle.std.proofs.Common.{◌≡◌, inl, inr, ℕ, List, Some, refl, sym, subst}
+use Rattle.std.proofs.Common.{◌≡◌, inl, inr, ℕ, List, Some, refl}
 use Rattle.net_lexer.specs.Pieces.{IsTokens}
 use Rattle.net_lexer.specs.Pieces as pieces
 use Rattle.net_lexer.specs.declared.tokens.LexFault.{LexFault}

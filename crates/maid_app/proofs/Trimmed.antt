@@ -1,12 +1,11 @@
 -- A diagram without arcs into decisions can be printed where the whole can, and the removed arcs have names.
-use Rattle.std.proofs.Common.{◌≡◌, ◌≢◌, ◌∙◌, ◌⊎◌, inl, inr, ℕ, zero, suc, ◌+◌, ◌*◌, ◌<◌, ◌^◌, Bool, true, false, cond, not, ◌&&◌, List, [], ◌∷◌, ◌++◌, All, length, map, filter, get_or, codes, refl, sym, ap, subst, nat_abs, pos, slice_index_or}
+use Rattle.std.proofs.Common.{◌≡◌, ◌≢◌, ◌∙◌, ◌⊎◌, inl, inr, ℕ, zero, suc, ◌*◌, ◌<◌, ◌^◌, Bool, true, false, cond, not, ◌&&◌, List, [], ◌∷◌, ◌++◌, All, length, map, filter, get_or, codes, refl, sym, ap, subst, nat_abs, pos, slice_index_or}
 use Rattle.std.specs.Int.{◌∣◌}
 use Rattle.std.specs.List.{flat_map, list_all}
 use Rattle.std.proofs.lemmas.Bool.{cases_eq, ne_eqb, and_parts}
 use Rattle.std.proofs.lemmas.List.{length-map, get_or_default}
 use Rattle.std.proofs.lemmas.List.Elements.{All-nil, All-cons, All-head, All-tail}
 use Rattle.std.proofs.lemmas.List.Folds.{list_all-append}
-use Rattle.std.proofs.Math.Path.{fun_ext}
 use Rattle.app_lines.specs.Removed.{AreNamed, removed_line, removed_lines}
 use Rattle.arc_laws.proofs.LostArc.{loses, graph_kept}
 use Rattle.finite_sums.specs.Sums.{sum_below}

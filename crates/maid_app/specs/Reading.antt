@@ -1,5 +1,5 @@
 -- What a refusal for a file's bytes tells. Only contracts of private functions cite these.
-use Rattle.std.specs.Prelude.{◌≡◌, ℕ, List, Result, Err}
+use Rattle.std.specs.Prelude.{◌≡◌, ℕ, List, Err}
 use Rattle.first_fault.specs.Answers.{IsFaultOrNoMemory}
 use Rattle.first_fault.specs.Outcomes.{Outcomes, refusals}
 use Rattle.first_fault.specs.Passes.{always}
@@ -7,7 +7,6 @@ use Rattle.maid_app.specs.Lines.{no_memory_line}
 use Rattle.maid_app.specs.Outcome.{Refused, refused}
 use Rattle.maid_app.specs.Refusal.{refused_as}
 use Rattle.maid_app.specs.Stages.{Finds, text_fault}
-use Rattle.maid_app.specs.Tasks.{Task, comes_of}
 use Rattle.maid_app.specs.declared.refusal.Refusal.{Refusal}
 use Rattle.maid_app.specs.declared.status.Status.{Status}
 use Rattle.maid_app.specs.declared.status.Status.TheVariants.{Done, Usage, Absent, ReadFault, TextTooLong, WriteFault, NoMemory}

@@ -1,4 +1,4 @@
-use Rattle.maid_app.proofs.Bytes.{Laws, one_status, not_refused}
+use Rattle.maid_app.proofs.Bytes.{one_status, not_refused}
 use Rattle.maid_app.proofs.laws.one_status.Goals as goal
 
 -- each stage is clear or refuses, never both

@@ -1,4 +1,3 @@
-use Rattle.std.proofs.Common.{refl}
 use Rattle.maid_app.specs.Refusal.{status_of, line_of}
 use Rattle.maid_app.proofs.Outcomes.{only_absent, only_too_long, only_refused, only_done, done_not_absent, done_not_too_long, done_refused, nothing_found}
 use Rattle.maid_app.proofs.running.run.Goals as goal
