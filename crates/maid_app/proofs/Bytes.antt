@@ -1,5 +1,5 @@
 -- Bytes come to one status: they stand for one diagram or have a fault, and each stage is clear or refuses with its status, never both.
-use Rattle.std.proofs.Common.{◌≡◌, ◌≤◌, inl, inr, ℕ, List, None, Some, refl, ap, subst, sym, ◌∙◌, arith, Err}
+use Rattle.std.proofs.Common.{◌≡◌, inl, inr, ℕ, List, None, Some, refl, ap, subst, sym, ◌∙◌, arith, Err}
 use Rattle.first_fault.specs.Passes.{each}
 use Rattle.first_fault.specs.Properties.{EndsAlike}
 use Rattle.first_fault.proofs.Ends.{staged_alike}
@@ -18,8 +18,7 @@ use Rattle.net_parser.specs.Grammar.{Spells}
 use Rattle.net_parser.specs.Laws as parser
 use Rattle.net_parser.specs.Lexemes.{lexemes}
 use Rattle.net_parser.specs.Trees.{BlockTree}
-use Rattle.rule_solver.specs.Faults.{IsSmallEnough, IsTooLarge}
-use Rattle.weight_scale.specs.Bound.{IsPassedAt, IsPassedByUtilities}
+use Rattle.rule_solver.specs.Faults.{IsSmallEnough}
 use Rattle.maid_app.specs.Answers.{Answers, FindsNothing, task_of}
 use Rattle.maid_app.specs.Diagrams.{NamedDiagram, IsTreeOf, IsDiagramOf, of_diagram}
 use Rattle.maid_app.specs.Faults.{TellsFault, IsTextFault}

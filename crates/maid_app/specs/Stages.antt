@@ -1,6 +1,6 @@
 -- The stages that may refuse a request for what its file holds. A form of words has some of them,
 -- in an order of its own.
-use Rattle.std.specs.Prelude.{◌≡◌, ℕ, List, Option, None, Some}
+use Rattle.std.specs.Prelude.{◌≡◌, ℕ, List, None, Some}
 use Rattle.first_fault.specs.Passes.{Pass}
 use Rattle.maid_io.specs.Device.{File}
 use Rattle.maid_model.specs.Names.{NamesView}
