@@ -1,4 +1,5 @@
 pub mod Bytes
+pub mod Digits
 pub mod Nodes
 pub mod Outcomes
 pub mod Refusals

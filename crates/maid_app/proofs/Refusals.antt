@@ -2,13 +2,14 @@
 use Rattle.std.proofs.Common.{◌≡◌, ℕ, List, [], ◌∷◌, inl, IfOk, IfErr, Vec, Global, Option, None, Some, Result, Ok, Err, MatchResult, sym, subst}
 use Rattle.first_fault.specs.Answers.{IsFoundIfAny}
 use Rattle.first_fault.specs.Outcomes.{refusals as refusals_of}
-use Rattle.first_fault.specs.Passes.{Pass, always}
+use Rattle.first_fault.specs.Passes.{Pass, always, each}
 use Rattle.maid_app.specs.Diagrams.{NamedDiagram, IsDiagramOf}
 use Rattle.maid_app.specs.Outcome.{Refused, refused}
-use Rattle.maid_app.specs.Reading.{Tells, TellsTextFault, TellsOf}
+use Rattle.maid_app.specs.Reading.{Tells, TellsTextFault, TellsUnsolved, TellsOf}
 use Rattle.maid_app.specs.Refusal.{refused_as}
+use Rattle.maid_app.specs.Solve.{solving_stages}
 use Rattle.maid_app.specs.Stages.{Stage, Finds, text_fault}
-use Rattle.maid_app.specs.Tasks.{comes_of}
+use Rattle.maid_app.specs.Tasks.{Task, comes_of}
 use Rattle.maid_app.specs.declared.refusal.Refusal.{Refusal}
 use Rattle.maid_app.specs.declared.refusal.Refusal.TheVariants as refusals
 use Rattle.maid_app.specs.declared.status.Status.{Status}
@@ -37,6 +38,18 @@ if_ok_then (Err e) P Q f h = tt
 pub if_err_then : {A E : Type 0} (r : Result A E) (P Q : E → Type 0) → ((e : E) → P e → Q e) → IfErr r P → IfErr r Q
 if_err_then (Ok x) P Q f h = tt
 if_err_then (Err e) P Q f h = f e h
+
+-- what its stages find, a task refuses with
+pub stages_refuse : (task : Task) (name bytes : List ℕ) (refusal : Refusal)
+    → IsFoundIfAny (each (λ s. Finds s (name, bytes)) task.stages) (refused_as refusal) → TellsOf (comes_of task name bytes) refusal
+unfolding comes_of
+stages_refuse task name bytes refusal h =
+    found_too (each (λ s. Finds s (name, bytes)) task.stages) (refusals_of (comes_of task name bytes)) (λ f found. inl found) (refused_as refusal) h
+
+-- a text's fault is the first thing that the stages of solving find
+pub text_unsolved : (name bytes : List ℕ) (refusal : Refusal) → TellsTextFault name bytes refusal → TellsUnsolved name bytes refusal
+text_unsolved name bytes refusal h =
+    found_too (Finds text_fault (name, bytes)) (each (λ s. Finds s (name, bytes)) solving_stages) (λ f found. inl found) (refused_as refusal) h
 
 -- a task that looks for the text's fault first refuses with it
 pub text_refused : (stages : List Stage) (IsTextOf : DiagramView → NamesView → List ℕ → Type 0) (name bytes : List ℕ) (refusal : Refusal)

@@ -1,12 +1,13 @@
--- What comes of each request on its file's bytes: the one definition of what the program answers.
+-- What comes of each request on its text's bytes: the one definition of what the program answers.
 use Rattle.std.specs.Prelude.{ℕ, List, None}
 use Rattle.first_fault.specs.Outcomes.{Outcomes}
 use Rattle.first_fault.specs.Passes.{each}
 use Rattle.maid_model.specs.Views.{DiagramView}
+use Rattle.maid_app.specs.Demo.{summing}
 use Rattle.maid_app.specs.Graph.{graphing}
 use Rattle.maid_app.specs.Outcome.{Refused}
 use Rattle.maid_app.specs.Print.{printing}
-use Rattle.maid_app.specs.Request.{Request, solve, graph, print, trim, file_name}
+use Rattle.maid_app.specs.Request.{Request, solve, graph, print, trim, demo, file_name}
 use Rattle.maid_app.specs.Solve.{IsSolvable, solving}
 use Rattle.maid_app.specs.Stages.{Finds}
 use Rattle.maid_app.specs.Tasks.{Task, comes_of}
@@ -18,19 +19,21 @@ task_of (solve file) = solving
 task_of (graph file) = graphing
 task_of (print file) = printing
 task_of (trim file) = trimming
+task_of (demo k) = summing k
 
--- no stage of the request finds anything in its file's bytes
+-- no stage of the request finds anything in its text's bytes
 abbrev pub FindsNothing : Request → List ℕ → Type 0
 FindsNothing request bytes =
     each (λ s. Finds s (file_name request, bytes)) (task_of request).stages None
 
--- what a diagram must keep so that its text comes: `solve` asks for an order of solving, the weight
--- bound and a run within the limits, and the others ask for nothing
+-- what a diagram must keep so that its text comes: `solve` and `demo` ask for an order of solving,
+-- the weight bound and a run within the limits, and the others ask for nothing
 abbrev pub CanAnswer : Request → DiagramView → Type 0
 CanAnswer (solve file) d = IsSolvable d
 CanAnswer (graph file) d = Unit {0}
 CanAnswer (print file) d = Unit {0}
 CanAnswer (trim file) d = Unit {0}
+CanAnswer (demo k) d = IsSolvable d
 
 unfoldable pub Answers : Request → List ℕ → Outcomes (List ℕ) Refused
 Answers request bytes = comes_of (task_of request) (file_name request) bytes

@@ -1,4 +1,5 @@
 pub mod Answers
+pub mod Demo
 pub mod Diagrams
 pub mod Faults
 pub mod Form

@@ -1,5 +1,7 @@
 -- What the words of a command line ask for.
-use Rattle.std.specs.Prelude.{ℕ, List, [], ◌∷◌, Option, None, Some, String, string_bytes, codes, map, if◌then◌else◌}
+use Rattle.std.specs.Prelude.{ℕ, List, [], ◌∷◌, Option, None, Some, String, string_bytes, codes, decimal, find, map, if◌then◌else◌}
+use Rattle.std.specs.List.{range_with_len}
+use Rattle.std.specs.Option.{option_map}
 use Rattle.std.specs.Str.{bytes_eq}
 
 -- a request, with the names in it as bytes
@@ -8,24 +10,38 @@ pub data Request : Type 0 where
   graph : (file : List ℕ) → Request
   print : (file : List ℕ) → Request
   trim : (file : List ℕ) → Request
+  demo : (k : ℕ) → Request
 
--- the name of the request's file
+-- the name that lines tell for the request's text: its file's, or `demo` for a generated text
 abbrev pub file_name : Request → List ℕ
 file_name (solve file) = file
 file_name (graph file) = file
 file_name (print file) = file
 file_name (trim file) = file
+file_name (demo k) = codes "demo"
 
--- a form of one file: its word and then the file's name
+-- the request names a file
+abbrev pub IsOfFile : Request → Type 0
+IsOfFile (solve file) = Unit {0}
+IsOfFile (graph file) = Unit {0}
+IsOfFile (print file) = Unit {0}
+IsOfFile (trim file) = Unit {0}
+IsOfFile (demo k) = ⊥
+
+-- the number of stages that a word is: the one from 1 to 60 whose digits it is
+unfoldable pub stages_of : List ℕ → Option ℕ
+stages_of word = find (λ k. bytes_eq word (decimal k)) (range_with_len 1 60)
+
+-- a form of two words: its word, and then the file's name or the number of stages
 abbrev pub request_by_word : List ℕ → List ℕ → Option Request
-request_by_word word file = if bytes_eq word (codes "solve") then Some (solve file) else (if bytes_eq word (codes "graph") then Some (graph file) else (if bytes_eq word (codes "print") then Some (print file) else (if bytes_eq word (codes "trim") then Some (trim file) else None)))
+request_by_word word next = if bytes_eq word (codes "solve") then Some (solve next) else (if bytes_eq word (codes "graph") then Some (graph next) else (if bytes_eq word (codes "print") then Some (print next) else (if bytes_eq word (codes "trim") then Some (trim next) else (if bytes_eq word (codes "demo") then option_map demo (stages_of next) else None))))
 
 -- the request of the words, where they are of a form
 abbrev pub request_of : List (List ℕ) → Option Request
 request_of [] = None
 request_of (word ∷ []) = None
-request_of (word ∷ file ∷ []) = request_by_word word file
-request_of (word ∷ file ∷ other ∷ words) = None
+request_of (word ∷ next ∷ []) = request_by_word word next
+request_of (word ∷ next ∷ other ∷ words) = None
 
 module _ {Z : Type 0} where
   -- the request of the words of the code

@@ -9,20 +9,24 @@ use Rattle.maid_model.specs.Subgames.{IsSubgamePerfect, IsOptimal, OwnsAll}
 use Rattle.maid_model.specs.Values.{PrintsOptima}
 use Rattle.maid_model.specs.Views.{DiagramView, SolvedView}
 use Rattle.rule_solver.specs.Faults.{IsSmallEnough}
-use Rattle.maid_app.specs.Stages.{text_fault, relevance_cycle, weight_bound, too_large}
+use Rattle.maid_app.specs.Stages.{Stage, text_fault, relevance_cycle, weight_bound, too_large}
 use Rattle.maid_app.specs.Tasks.{Task}
 
--- The report of the answer, by definition and by what holds of it: its profile is subgame-perfect;
+-- The answer of the diagram, by definition and by what holds of it: its profile is subgame-perfect;
 -- for an agent that owns all decisions no profile is worth more, and its printed fraction is the
 -- optimum; and in a row that the plan reaches the printed worth is that under the plan.
-pub record HasReport (d : DiagramView) (names : NamesView) (printed : List ℕ) : Type 0 where
-  pub solved : SolvedView
+pub record IsSolution (d : DiagramView) (solved : SolvedView) : Type 0 where
   pub is_answer : IsAnswer d solved
-  pub is_report : printed ≡ report d names solved
   pub subgame_perfect : IsSubgamePerfect d.nodes (answered d solved)
   pub optimal : (agent : ℕ) → OwnsAll d.nodes agent → IsOptimal d.nodes (answered d solved) agent
   pub optimum : PrintsOptima d solved
   pub worth : KeepsWorth d solved
+
+-- the report of the answer
+pub record HasReport (d : DiagramView) (names : NamesView) (printed : List ℕ) : Type 0 where
+  pub solved : SolvedView
+  pub solution : IsSolution d solved
+  pub is_report : printed ≡ report d names solved
 
 -- the diagram has an order of solving, keeps the weight bound in each scope, and its run keeps the
 -- limits of cells and work
@@ -31,10 +35,10 @@ pub record IsSolvable (d : DiagramView) : Type 0 where
   pub bound : KeepsScopedBounds d
   pub small : IsSmallEnough d
 
--- the first that applies of the text's fault, the relevance cycle, the weight bound and too large a
--- run, and else the report
+-- the text's fault, the relevance cycle, the weight bound and too large a run
+abbrev pub solving_stages : List Stage
+solving_stages = text_fault ∷ relevance_cycle ∷ weight_bound ∷ too_large ∷ []
+
+-- the first of them that applies, and else the report
 abbrev pub solving : Task
-solving = record {
-  stages = text_fault ∷ relevance_cycle ∷ weight_bound ∷ too_large ∷ [];
-  IsTextOf = HasReport;
-}
+solving = record { stages = solving_stages; IsTextOf = HasReport }

@@ -1,10 +1,11 @@
 //! The shell: words, devices, the order of refusals, and one line to `err`.
 
-ghost use Rattle.std.specs.Prelude.{◌≡◌, ◌≢◌, ◌++◌, ◌<◌, ◌≤◌, ◌↔◌, List, ℕ, length, None, Some, Ok, Err, IfSome, IfOk, IfErr, OnOk};
+ghost use Rattle.std.specs.Prelude.{◌≡◌, ◌≢◌, ◌++◌, ◌<◌, ◌≤◌, ◌↔◌, List, ℕ, length, None, Some, Ok, Err, IfSome, IsSomeAnd, IfOk, IfErr, OnOk};
 ghost use Rattle.std.specs.Io.KnownBytes.{Appends};
+ghost use Rattle.app_lines.specs.Demo.{demo_text};
 ghost use Rattle.maid_io.specs.Count.{Rose};
 ghost use Rattle.maid_io.specs.Whole.{AppendsPart};
-ghost use Rattle.maid_app.specs.Request.{Request, requested, file_name};
+ghost use Rattle.maid_app.specs.Request.{Request, demo, requested, IsOfFile};
 ghost use Rattle.maid_app.specs.Form.{request_by};
 ghost use Rattle.maid_app.specs.Answers.{Answers, FindsNothing, CanAnswer};
 ghost use Rattle.maid_app.specs.Diagrams.{IsDiagramOf};
@@ -15,12 +16,13 @@ ghost use Rattle.maid_app.specs.Refusal.{status_of, line_of};
 ghost use Rattle.maid_model.specs.Names.{NamesView};
 ghost use Rattle.maid_model.specs.Reports.{line};
 ghost use Rattle.maid_model.specs.Views.{DiagramView};
-ghost use Rattle.maid_app.specs.Told.{limit, IsFileText, IsUnread, KeepsLimit, WritesText, Says, TakesLine, HasFile, LacksFile, IsBeforeWriting, IsOneOf};
+ghost use Rattle.maid_app.specs.Told.{limit, IsFileText, IsTextFor, IsUnread, HasNoBytes, KeepsLimit, WritesText, Says, TakesLine, HasFile, LacksFile, IsBeforeWriting, IsOfReading, IsOneOf};
 
 use crate::forms::{Form, form_of};
 use crate::laws::one_status;
 use crate::refusal::Refusal;
 use crate::{Status, lines};
+use app_lines::demo_text;
 use maid_io::{Opened, ReadAllFault, Shelf, Sink, read_all, write_all};
 use std::alloc::Global;
 
@@ -70,7 +72,31 @@ fn read_file<H: Shelf>(alloc: Global, shelf: &mut H, name: &str) -> Result<Vec<u
     }
 }
 
-// What the form makes of its file's bytes, before any byte of it is written. It refuses with no status of
+// The bytes that the form is asked of: those of its file, or the generated text.
+fn bytes_for<H: Shelf>(alloc: Global, shelf: &mut H, form: Form<'_>) -> Result<Vec<u8>, Refusal>
+    ensures ok { IfOk result (λ bytes.
+        IsTextFor (H.list shelf.old) (request_by form.entry) (H.given shelf.new) bytes.items) }
+    ensures err { IfErr result (λ refusal.
+        HasNoBytes (H.list shelf.old) (request_by form.entry) (H.given shelf.new) (status_of refusal) (line_of refusal)) }
+    ensures bounded { IfErr result (λ refusal.
+        IsOfFile (request_by form.entry) → KeepsLimit (status_of refusal) (H.given shelf.new)) }
+    ensures own { (k : ℕ) → request_by form.entry ≡ demo k → shelf.new ≡ shelf.old }
+    ensures absent_cause { IfErr result (λ refusal.
+        status_of refusal ≡ Status.Absent → Rose (H.absences shelf.old) (H.absences shelf.new)) }
+    ensures read_cause { IfErr result (λ refusal.
+        status_of refusal ≡ Status.ReadFault → Rose (H.faults shelf.old) (H.faults shelf.new)) }
+    ensures faults { H.faults shelf.old ≤ H.faults shelf.new }
+    ensures absences { H.absences shelf.old ≤ H.absences shelf.new }
+    ensures list { H.list shelf.new ≡ H.list shelf.old }
+{
+    match form {
+        Form::Solve { file } | Form::Graph { file } | Form::Print { file } | Form::Trim { file } =>
+            read_file(alloc, shelf, file),
+        Form::Demo { k } => Ok(demo_text(alloc, k)?),
+    }
+}
+
+// What the form makes of its bytes, before any byte of it is written. It refuses with no status of
 // the run's own.
 fn text_of(alloc: Global, form: Form<'_>, bytes: &[u8]) -> Result<Vec<u8>, Refusal>
     ensures ok { IfOk result (λ printed. Answers (request_by form.entry) bytes.now (Ok printed.items)) }
@@ -92,9 +118,11 @@ fn serve<H: Shelf, O: Sink>(
     ensures ok_words { OnOk result (requested words.now ≢ None) }
     ensures err { IfErr result (λ refusal.
         Says (H.list shelf.old) (requested words.now) (H.given shelf.new) (status_of refusal) (line_of refusal)) }
-    ensures bounded_done { OnOk result (KeepsLimit Status.Done (H.given shelf.new)) }
+    ensures bounded_done { OnOk result (IsSomeAnd (requested words.now) IsOfFile
+        → KeepsLimit Status.Done (H.given shelf.new)) }
     ensures bounded { IfErr result (λ refusal.
-        status_of refusal ≢ Status.Usage → KeepsLimit (status_of refusal) (H.given shelf.new)) }
+        IsSomeAnd (requested words.now) IsOfFile → KeepsLimit (status_of refusal) (H.given shelf.new)) }
+    ensures demo_reads_nothing { (k : ℕ) → requested words.now ≡ Some (demo k) → shelf.new ≡ shelf.old }
     ensures usage { IfErr result (λ refusal.
         (status_of refusal ≡ Status.Usage) ↔ (requested words.now ≡ None)) }
     ensures untouched_shelf { IfErr result (λ refusal.
@@ -119,7 +147,7 @@ fn serve<H: Shelf, O: Sink>(
     let Some(form) = form_of(words) else {
         return Err(Refusal::Usage);
     };
-    let bytes = read_file(alloc, shelf, form.file())?;
+    let bytes = bytes_for(alloc, shelf, form)?;
     let text = text_of(alloc, form, &bytes)?;
     write_all(out, &text).map_err(|_| Refusal::WriteFault)
 }
@@ -128,13 +156,14 @@ fn serve<H: Shelf, O: Sink>(
 ///
 /// The words are those of one form, which names a file F of the shelf: `solve F` writes the report
 /// of its diagram to `out`, `graph F` who relies on whom, `print F` the diagram, and `trim F` the
-/// diagram without the arcs that its decisions do not need. The whole text is made before its first
-/// byte is written, and writing takes no memory. After a status other than [`Status::Done`] `err`
+/// diagram without the arcs that its decisions do not need. `demo K` has no file: it writes a
+/// summary of the solved diagram of a generated text of K stages, 1 to 60. The whole text is made
+/// before its first byte is written, and writing takes no memory. After a status other than [`Status::Done`] `err`
 /// takes one line that says why.
 ///
 /// The order of refusals is [`Status::Usage`] where the words are of no form, [`Status::Absent`],
-/// [`Status::ReadFault`] and [`Status::TextTooLong`] for the file, [`Status::TextFault`] for its
-/// bytes, for `solve` then [`Status::Cycle`], [`Status::WeightBound`] and [`Status::TooLarge`] for
+/// [`Status::ReadFault`] and [`Status::TextTooLong`] for a file, [`Status::TextFault`] for its
+/// bytes, for `solve` and `demo` then [`Status::Cycle`], [`Status::WeightBound`] and [`Status::TooLarge`] for
 /// its diagram, and last [`Status::WriteFault`]. [`Status::NoMemory`] may come at any point after
 /// the words and before the first write. A fault of `err` changes nothing else.
 pub fn run<H: Shelf, O: Sink, E: Sink>(
@@ -148,8 +177,12 @@ pub fn run<H: Shelf, O: Sink, E: Sink>(
     ensures usage { (result ≡ Status.Usage) ↔ (requested words.now ≡ None) }
     ensures usage_reads_nothing { result ≡ Status.Usage → shelf.new ≡ shelf.old }
 
-    // What was read of the file, however the run ended.
-    ensures bounded { result ≢ Status.Usage → KeepsLimit result (H.given shelf.new) }
+    // What was read of the file that the words name, however the run ended.
+    ensures bounded { IsSomeAnd (requested words.now) IsOfFile → KeepsLimit result (H.given shelf.new) }
+
+    // `demo` reads no file.
+    ensures demo_reads_nothing { (k : ℕ) → requested words.now ≡ Some (demo k) → shelf.new ≡ shelf.old }
+    ensures demo_status { (k : ℕ) → requested words.now ≡ Some (demo k) → ¬ IsOfReading result }
 
     // What `out` took: the whole text, a proper front of it, or nothing.
     ensures done { result ≡ Status.Done
@@ -190,6 +223,13 @@ pub fn run<H: Shelf, O: Sink, E: Sink>(
         → HasFile (H.list shelf.old) (requested words.now) request bytes → length bytes ≤ limit
         → (d : DiagramView) (names : NamesView) → IsDiagramOf bytes d names → CanAnswer request d
         → ¬ Rose (H.faults shelf.old) (H.faults shelf.new)
+        → ¬ Rose (O.faults out.old) (O.faults out.new) → IsOneOf result Status.Done }
+
+    ensures always_demo_refused { (k : ℕ) → requested words.now ≡ Some (demo k)
+        → (refusal : Refused) → Answers (demo k) (demo_text k) (Err refusal)
+        → IsOneOf result refusal.status }
+    ensures always_demo_done { (k : ℕ) → requested words.now ≡ Some (demo k)
+        → FindsNothing (demo k) (demo_text k)
         → ¬ Rose (O.faults out.old) (O.faults out.new) → IsOneOf result Status.Done }
 
     // What any answer leaves.

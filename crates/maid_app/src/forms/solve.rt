@@ -4,7 +4,7 @@ ghost use Rattle.std.specs.Prelude.{◌≡◌, ℕ, List, Ok, IfOk, IfErr, Match
 ghost use Rattle.first_fault.specs.Answers.{IsFaultOrNoMemory};
 ghost use Rattle.maid_model.specs.Names.{NamesFit};
 ghost use Rattle.maid_app.specs.Diagrams.{IsDiagramOf};
-ghost use Rattle.maid_app.specs.Reading.{Tells, TellsOf};
+ghost use Rattle.maid_app.specs.Reading.{IsSolved, Tells, TellsOf, TellsUnsolved};
 ghost use Rattle.maid_app.specs.Tasks.{comes_of};
 ghost use Rattle.maid_app.specs.Solve.{solving};
 ghost use Rattle.rule_solver.specs.Faults.{solve_fault, solve_pass};
@@ -13,7 +13,7 @@ use crate::reading::Source;
 use crate::refusal::Refusal;
 use crate::{Status, lines};
 use app_lines::list_line;
-use maid_model::{Diagram, Names};
+use maid_model::{Diagram, Names, Solved};
 use report_text::print_report;
 use rule_solver::{SolveFault, solve};
 use std::alloc::{AllocError, Global};
@@ -32,7 +32,7 @@ fn told(status: Status, line: Result<Vec<u8>, AllocError>) -> Refusal
 fn bound_refusal(alloc: Global, diagram: &Diagram, names: &Names, node: Option<usize>) -> Refusal
     requires fit { NamesFit diagram.now names.now }
     requires fault { IsFaultOrNoMemory solve_fault (solve_pass diagram.now) (SolveFault.WeightBound node) }
-    ensures { (name bytes : List ℕ) → IsDiagramOf bytes diagram.now names.now → TellsOf (comes_of solving name bytes) result }
+    ensures { (name bytes : List ℕ) → IsDiagramOf bytes diagram.now names.now → TellsUnsolved name bytes result }
 {
     match node {
         Some(v) => told(
@@ -50,7 +50,7 @@ fn bound_refusal(alloc: Global, diagram: &Diagram, names: &Names, node: Option<u
 fn refusal(alloc: Global, diagram: &Diagram, names: &Names, fault: &SolveFault) -> Refusal
     requires fit { NamesFit diagram.now names.now }
     requires fault { IsFaultOrNoMemory solve_fault (solve_pass diagram.now) fault.now }
-    ensures { (name bytes : List ℕ) → IsDiagramOf bytes diagram.now names.now → TellsOf (comes_of solving name bytes) result }
+    ensures { (name bytes : List ℕ) → IsDiagramOf bytes diagram.now names.now → TellsUnsolved name bytes result }
 {
     match fault {
         SolveFault::Cycle { list } => told(
@@ -66,19 +66,33 @@ fn refusal(alloc: Global, diagram: &Diagram, names: &Names, fault: &SolveFault) 
     }
 }
 
-/// The report of the answer of the diagram that a file's bytes stand for.
+/// The diagram that a text's bytes stand for, the names in it, and its answer.
 ///
 /// # Errors
 ///
 /// The fault of the bytes, the relevance cycle, the place at which the weight bound is passed, the cells and the work of
 /// a run that passes a limit, or want of memory.
+pub fn solved(alloc: Global, source: Source<'_>) -> Result<(Diagram, Names, Solved), Refusal>
+    ensures ok { IfOk result (λ made. IsSolved source.entry.bytes.now made.0 made.1 made.2) }
+    ensures fit { IfOk result (λ made. NamesFit made.0 made.1) }
+    ensures err { IfErr result (TellsUnsolved source.entry.name.now source.entry.bytes.now) }
+{
+    let (diagram, names) = source.diagram(alloc)?;
+    match solve(alloc, &diagram) {
+        Ok(solved) => Ok((diagram, names, solved)),
+        Err(fault) => Err(refusal(alloc, &diagram, &names, &fault)),
+    }
+}
+
+/// The report of the answer of the diagram that a file's bytes stand for.
+///
+/// # Errors
+///
+/// Those of [`solved`].
 pub fn answer(alloc: Global, source: Source<'_>) -> Result<Vec<u8>, Refusal>
     ensures ok { IfOk result (λ printed. comes_of solving source.entry.name.now source.entry.bytes.now (Ok printed.items)) }
     ensures err { IfErr result (TellsOf (comes_of solving source.entry.name.now source.entry.bytes.now)) }
 {
-    let (diagram, names) = source.diagram(alloc)?;
-    match solve(alloc, &diagram) {
-        Ok(solved) => Ok(print_report(alloc, &diagram, &names, &solved)?),
-        Err(fault) => Err(refusal(alloc, &diagram, &names, &fault)),
-    }
+    let (diagram, names, answer) = solved(alloc, source)?;
+    Ok(print_report(alloc, &diagram, &names, &answer)?)
 }

@@ -1,0 +1,54 @@
+//! `demo K`: a summary of the solved diagram of a generated text.
+
+ghost use Rattle.std.specs.Prelude.{◌≡◌, Ok, IfOk, IfErr, codes, length};
+ghost use Rattle.maid_app.specs.Demo.{summary, summing};
+ghost use Rattle.maid_app.specs.Reading.{TellsOf};
+ghost use Rattle.maid_app.specs.Tasks.{comes_of};
+
+use super::solve::solved;
+use crate::reading::Source;
+use crate::refusal::Refusal;
+use app_lines::gain_lines;
+use line_pieces::push_number;
+use maid_model::{Diagram, Names, Ratio, Solved};
+use std::alloc::{AllocError, Global};
+
+// The numbers of stages and nodes, and what the plan is worth to each agent.
+fn summary(
+    alloc: Global,
+    k: usize,
+    diagram: &Diagram,
+    names: &Names,
+    solved: &Solved,
+) -> Result<Vec<u8>, AllocError>
+    requires { length solved.now.gains ≡ length names.now.agents }
+    ensures { IfOk result (λ text. text.items ≡ summary k diagram.now names.now solved.now) }
+{
+    let mut text = Vec::from_slice(alloc, b"demo ")?;
+    push_number(&mut text, k as u128)?;
+    text.extend_from_slice(b"\nnodes ")?;
+    push_number(&mut text, diagram.count() as u128)?;
+    text.push(b'\n')?;
+    text.extend_from_slice(&gain_lines(alloc, names, &solved.gains)?)?;
+    Ok(text)
+}
+
+/// The summary of the solved diagram of the generated text of `k` stages, which is the bytes. It is solved as that of
+/// a file is.
+///
+/// # Errors
+///
+/// Those of `solve`, with `demo` as the text's name.
+pub fn answer(alloc: Global, k: usize, bytes: &[u8]) -> Result<Vec<u8>, Refusal>
+    ensures ok { IfOk result (λ printed. comes_of (summing k) (codes "demo") bytes.now (Ok printed.items)) }
+    ensures err { IfErr result (TellsOf (comes_of (summing k) (codes "demo") bytes.now)) }
+{
+    let (diagram, names, answer) = solved(
+        alloc,
+        Source {
+            name: "demo",
+            bytes,
+        },
+    )?;
+    Ok(summary(alloc, k, &diagram, &names, &answer)?)
+}
