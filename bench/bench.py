@@ -7,7 +7,7 @@ Writes texts of up to 4,194,304 bytes and 256 nodes, the limits of a diagram's t
 on each, one after the other, and prints a row a run: bytes, status, seconds on the clock, seconds of computing, greatest
 memory.
 Every text is in the grammar and within the limits. What it solves is beside the point: a text that `solve` refuses by
-its weight bound (7) or its number of worlds (13) has still been read and built. A text fault (5) or a crash is an error
+its weight bound (7) or its size (8) has still been read and built. A text fault (5) or a crash is an error
 of the run, and so is a run that was cut off. Texts stand in a temporary folder, or in FOLDER where they are to be kept.
 PROGRAM is bench/plain.rs, built: it prints each text, too, for comparison.
 """
@@ -25,8 +25,8 @@ MOST_NAME = 255
 MOST_STATES = 256
 MOST_PARENTS = 16
 PROGRAM = pathlib.Path(__file__).resolve().parent.parent / "crates" / "maidsolve" / "out" / "maidsolve"
-# Done, a relevance cycle, the weight bound, too many worlds.
-READ_STATUSES = {0, 6, 7, 13}
+# Done, a relevance cycle, the weight bound, too large a run.
+READ_STATUSES = {0, 6, 7, 8}
 # What `timeout` ends with where it cut a run off.
 CUT_OFF = 124
 TIME = "/usr/bin/time"
@@ -91,7 +91,7 @@ def chance_tables():
 
 
 def utility_tables():
-    """31 utilities of 65,536 values over the same two nodes: `solve` goes through all 65,536 worlds."""
+    """31 utilities of 65,536 values over the same two nodes: 65,536 worlds."""
     nodes = "".join(f"node N{i} {{ states = {labels(MOST_STATES if i < 2 else 1)}; }}\n" for i in range(MOST_NODES - 31))
     utilities = "".join(f"utility U{i} {{ }}\n" for i in range(31))
     chances = "".join(
@@ -146,7 +146,7 @@ def long_names():
 
 
 def worlds():
-    """16 decisions of two states in a line and 240 utilities: 65,536 worlds, summed over for each decision."""
+    """16 decisions of two states in a line and 240 utilities: 65,536 worlds, and a plan for each decision and each utility below it."""
     count, shared = 16, 15
     text = "".join(f'decision D{i} {{ states = ("a" "b"); }}\n' for i in range(count))
     text += "".join(f"potential (D{i} | D{i - 1}) {{ }}\n" for i in range(1, count))

@@ -9,7 +9,7 @@ use Rattle.maid_app.specs.Reading.{Tells, TellsTextFault, TellsUnsolved, TellsOf
 use Rattle.maid_app.specs.Refusal.{refused_as}
 use Rattle.maid_app.specs.Solve.{solving_stages}
 use Rattle.maid_app.specs.Stages.{Stage, Finds, text_fault}
-use Rattle.maid_app.specs.Tasks.{Task, comes_of}
+use Rattle.maid_app.specs.Tasks.{comes_of}
 use Rattle.maid_app.specs.declared.refusal.Refusal.{Refusal}
 use Rattle.maid_app.specs.declared.refusal.Refusal.TheVariants as refusals
 use Rattle.maid_app.specs.declared.status.Status.{Status}
