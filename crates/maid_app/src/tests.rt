@@ -114,6 +114,13 @@ const ZERO: &str = "node A { states = (\"x\" \"y\"); } potential (A) { data = (0
 const RING: &str =
     "node A { states = (\"x\"); } node B { states = (\"x\"); } potential (A | B) { data = (1); } potential (B | A) { data = (1); }";
 
+const DEMO_1: &str = "demo 1\nnodes 3\nagent \"agent\" = 1/2\n";
+
+const DEMO_2: &str = "demo 2\nnodes 6\nagent \"agent\" = 5/4\n";
+
+const DEMO_60: &str =
+    "demo 60\nnodes 180\nagent \"agent\" = 68022368771803971585/1152921504606846976\n";
+
 // The files of the shelf.
 fn files(alloc: Global) -> Result<Vec<(String, Vec<u8>)>, Fail> {
     let mut files = Vec::new(alloc);
@@ -192,6 +199,17 @@ fn runs_end_as_they_must(rt: HostRuntime) -> Result<(), Fail> {
             "",
             "relevance cycle: P Q\n",
         ),
+        ("demo 1", 1, 400, Status::Done, 0, DEMO_1, ""),
+        ("demo 2", 1, 400, Status::Done, 0, DEMO_2, ""),
+        ("demo 60", 1, 400, Status::Done, 0, DEMO_60, ""),
+        ("demo", 0, 400, Status::Usage, 1, "", lines::USAGE),
+        ("demo 0", 0, 400, Status::Usage, 1, "", lines::USAGE),
+        ("demo 61", 0, 400, Status::Usage, 1, "", lines::USAGE),
+        ("demo 01", 0, 400, Status::Usage, 1, "", lines::USAGE),
+        ("demo +1", 0, 400, Status::Usage, 1, "", lines::USAGE),
+        ("demo x", 0, 400, Status::Usage, 1, "", lines::USAGE),
+        ("demo 100", 0, 400, Status::Usage, 1, "", lines::USAGE),
+        ("demo 1 2", 0, 400, Status::Usage, 1, "", lines::USAGE),
         ("", 0, 400, Status::Usage, 1, "", lines::USAGE),
         ("--help", 0, 400, Status::Usage, 1, "", lines::USAGE),
         (
@@ -315,5 +333,25 @@ fn each_write_of_the_line_fails_in_turn(rt: HostRuntime) -> Result<(), Fail> {
     let (status, _, err) = ended(rt.alloc(), "solve gone.net", [0, 0, 4], 400)?;
     assert_eq!(rt; status, Status::Absent);
     assert_eq!(rt; err.as_slice(), "absent: gone.net\n".as_bytes());
+    Ok(())
+}
+
+// None of the generated texts is refused, and K stages are worth K - 1 + 2^-K.
+#[test]
+fn each_generated_diagram_is_solved(rt: HostRuntime) -> Result<(), Fail> {
+    let alloc = rt.alloc();
+    for k in 1..61u32 {
+        let words = format!(in alloc; "demo {k}")?;
+        let (status, out, err) = ended(alloc, &words, [1, 0, 0], 400)?;
+        let whole = 1u128 << k;
+        let want = format!(in alloc;
+            "demo {k}\nnodes {}\nagent \"agent\" = {}/{whole}\n",
+            3 * k,
+            u128::from(k - 1) * whole + 1
+        )?;
+        assert_eq!(rt; status, Status::Done, "{k}");
+        assert_eq!(rt; out.as_slice(), want.as_bytes(), "{k}");
+        assert_eq!(rt; err.len(), 0, "{k}");
+    }
     Ok(())
 }
