@@ -1,5 +1,5 @@
 -- The weight bound, under which every sum and fraction has room in 128 bits.
-use Rattle.std.specs.Prelude.{ℕ, ◌<◌, ◌≤◌, ◌+◌, ◌*◌, ◌^◌, min, max, List, length, take}
+use Rattle.std.specs.Prelude.{ℕ, ◌≤◌, ◌+◌, ◌*◌, ◌^◌, min, max, List}
 use Rattle.maid_model.specs.declared.limits.TheConstants.{COUNT_END}
 use Rattle.maid_model.specs.declared.diagrams.Kind.{Kind}
 use Rattle.maid_model.specs.declared.diagrams.Kind.TheVariants.{Chance, Decision, Utility}
@@ -19,10 +19,6 @@ bound_by Utility total states = 1
 abbrev pub bound_factor : List NodeView → ℕ → ℕ
 bound_factor nodes v = bound_by (node_at nodes v).kind (chance_total nodes v) (states_of nodes v)
 
--- the product over the first n nodes
-abbrev pub bound_up_to : List NodeView → ℕ → ℕ
-bound_up_to nodes n = nat_product_over (bound_factor nodes) (take n (numbers_of nodes))
-
 -- the product over all nodes
 abbrev pub bound_product : List NodeView → ℕ
 bound_product nodes = nat_product_over (bound_factor nodes) (numbers_of nodes)
@@ -30,10 +26,6 @@ bound_product nodes = nat_product_over (bound_factor nodes) (numbers_of nodes)
 -- the product over all nodes, times the greatest of the utilities' scale and their summed greatest values
 abbrev pub KeepsBound : DiagramView → Type 0
 KeepsBound d = bound_product d.nodes * max (10 ^ d.decimals) (greatest_utility d.nodes) ≤ greatest_number
-
--- the first node in text at which the product over the nodes up to it passes
-abbrev pub PassesAt : List NodeView → ℕ → Type 0
-PassesAt nodes v = (v < length nodes) × (greatest_number < bound_up_to nodes (v + 1)) × ((n : ℕ) → n ≤ v → bound_up_to nodes n ≤ greatest_number)
 
 -- how many worlds there are: the product of the state counts of all chance nodes and decisions, since a utility has one state
 abbrev pub world_count : List NodeView → ℕ

@@ -21,8 +21,9 @@ pub use laws::{
     descent_is_tested, graph_has_order, literals_are_tested, profile_has_rules, worlds_are_listed,
 };
 pub use limits::{
-    COUNT_END, GREATEST_NUMBER, MOST_AGENTS, MOST_CELLS, MOST_DECIMALS, MOST_NAME_BYTES,
-    MOST_PARENTS, MOST_PLAN_CELLS, MOST_RULE_CELLS, MOST_STATES, MOST_WORK, MOST_WORLDS,
+    COUNT_END, GREATEST_NUMBER, MOST_AGENTS, MOST_CELLS, MOST_DECIMALS, MOST_LEAVES, MOST_LISTED,
+    MOST_NAME_BYTES, MOST_PARENTS, MOST_PLAN_CELLS, MOST_PROFILES, MOST_RULE_CELLS, MOST_STATES,
+    MOST_WORK,
 };
 pub use names::{Names, first_place};
 pub use node_sets::MOST_NODES;

@@ -24,8 +24,14 @@ pub const MOST_NAME_BYTES: usize = 255;
 /// The greatest absolute value of a weight total, of a scaled utility and of the weight bound: 2^126 - 1.
 pub const GREATEST_NUMBER: u128 = (1 << 126) - 1;
 
-/// The most worlds that are listed.
-pub const MOST_WORLDS: u128 = 65_536;
+/// The most leaves, worlds of a whole diagram, up to which a report is checked: 2^20.
+pub const MOST_LEAVES: u128 = 1_048_576;
+
+/// The most pure profiles among which an equilibrium is searched.
+pub const MOST_PROFILES: u128 = 65_536;
+
+/// The most worlds that are listed over all pure profiles together: 2^24.
+pub const MOST_LISTED: u128 = 16_777_216;
 
 /// The most cells that the tables of one plan of elimination have together, and so of a workspace.
 pub const MOST_PLAN_CELLS: usize = 4_194_304;
