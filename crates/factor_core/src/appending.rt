@@ -3,7 +3,8 @@
 ghost use Rattle.std.specs.Prelude.{◌≡◌, ◌+◌, ◌<◌, ◌≤◌, All, length, map};
 ghost use Rattle.maid_model.specs.declared.limits.TheConstants.{MOST_PLAN_CELLS};
 ghost use Rattle.node_sets.specs.Sets.{holds, IsIn};
-ghost use Rattle.maid_model.specs.Nodes.{states_of};
+ghost use Rattle.maid_model.specs.Diagrams.{IsDiagram};
+ghost use Rattle.maid_model.specs.Nodes.{counts_of, states_of};
 ghost use Rattle.ring_sums.specs.Groups.{JoinFits, ProductsFit};
 ghost use Rattle.ring_sums.specs.Tables.{sum_out};
 ghost use Rattle.factor_core.specs.Operations.{product_table};
@@ -11,20 +12,21 @@ ghost use Rattle.factor_core.specs.Slots.{space, cells_over, IsLive, tables_of, 
 
 use crate::sizes::table_size;
 use crate::slots::{Slot, joined_scope, united_scope};
-use crate::states::list_states;
-use crate::walks::before;
 use crate::writes::{join_at, multiply_at};
 use cell_rings::Cell;
-use maid_model::{Diagram, MOST_NODES};
+use maid_model::Diagram;
 
 /// The join of the slots with the node summed out of it, behind the first `used` cells.
 pub fn join_behind<C: Cell>(
     diagram: &Diagram,
+    counts: &[usize],
     slots: &[Slot],
     node: usize,
     all: &mut [C],
     used: usize,
 ) -> Slot
+    requires diagram { IsDiagram diagram.now }
+    requires counts { counts.now ≡ counts_of diagram.now.nodes }
     requires used { used ≤ length all.old }
     requires short { length all.old ≤ MOST_PLAN_CELLS }
     requires few { length slots.now ≤ 256 }
@@ -37,9 +39,6 @@ pub fn join_behind<C: Cell>(
     ensures len { used + result.len ≤ length all.new }
     ensures table { AppendsTable C.ring diagram.now.nodes (space all.old used) (space all.new (used + result.len)) result (sum_out C.ring (states_of diagram.now.nodes) node (tables_of C.ring diagram.now.nodes (space all.old used).cells slots.now)) }
 {
-    let mut counts = [1; MOST_NODES];
-    list_states(&mut counts, diagram);
-    let counts = before(&counts, diagram.count());
     let scope = joined_scope(slots, node);
     let len = table_size(counts, &scope);
     join_at(counts, slots, node, &scope, all, used, len);
@@ -53,10 +52,13 @@ pub fn join_behind<C: Cell>(
 /// The product of the slots, behind the first `used` cells.
 pub fn product_behind<C: Cell>(
     diagram: &Diagram,
+    counts: &[usize],
     slots: &[Slot],
     all: &mut [C],
     used: usize,
 ) -> Slot
+    requires diagram { IsDiagram diagram.now }
+    requires counts { counts.now ≡ counts_of diagram.now.nodes }
     requires used { used ≤ length all.old }
     requires short { length all.old ≤ MOST_PLAN_CELLS }
     requires few { length slots.now ≤ 256 }
@@ -67,9 +69,6 @@ pub fn product_behind<C: Cell>(
     ensures len { used + result.len ≤ length all.new }
     ensures table { AppendsTable C.ring diagram.now.nodes (space all.old used) (space all.new (used + result.len)) result (product_table C.ring (tables_of C.ring diagram.now.nodes (space all.old used).cells slots.now)) }
 {
-    let mut counts = [1; MOST_NODES];
-    list_states(&mut counts, diagram);
-    let counts = before(&counts, diagram.count());
     let scope = united_scope(slots);
     let len = table_size(counts, &scope);
     multiply_at(counts, slots, &scope, all, used, len);

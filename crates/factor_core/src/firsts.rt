@@ -3,7 +3,7 @@
 ghost use Rattle.std.specs.Prelude.{◌≡◌, ◌+◌, ◌*◌, ◌<◌, ◌≤◌, List, All, ◌++◌, [], ◌∷◌, if◌then◌else◌, length, take, nat_abs};
 ghost use Rattle.maid_model.specs.declared.limits.TheConstants.{MOST_PLAN_CELLS};
 ghost use Rattle.maid_model.specs.declared.diagrams.Kind.{Kind};
-ghost use Rattle.maid_model.specs.Nodes.{node_at, IsDecision};
+ghost use Rattle.maid_model.specs.Nodes.{counts_of, node_at, IsDecision};
 ghost use Rattle.maid_model.specs.Profiles.{IsProfile, HasRule};
 ghost use Rattle.maid_model.specs.Tables.{weights_of};
 ghost use Rattle.maid_model.specs.Views.{RuleView};
@@ -41,7 +41,14 @@ fn rule_weights(profile: &Profile, decision: usize) -> &[u128]
 }
 
 /// The table of a chance node, behind the first `used` cells.
-fn chance_table<C: Cell>(diagram: &Diagram, v: usize, all: &mut [C], used: usize) -> Slot
+fn chance_table<C: Cell>(
+    diagram: &Diagram,
+    counts: &[usize],
+    v: usize,
+    all: &mut [C],
+    used: usize,
+) -> Slot
+    requires counts { counts.now ≡ counts_of diagram.now.nodes }
     requires used { used ≤ length all.old }
     requires short { length all.old ≤ MOST_PLAN_CELLS }
     requires node { v < length diagram.now.nodes }
@@ -57,17 +64,19 @@ fn chance_table<C: Cell>(diagram: &Diagram, v: usize, all: &mut [C], used: usize
     let source = ChanceCells {
         cells: diagram.cells(v),
     };
-    write_table(diagram, before(&list, n), &source, all, used)
+    write_table(diagram, counts, before(&list, n), &source, all, used)
 }
 
 /// The table of a decision's rule, behind the first `used` cells.
 fn rule_table<C: Cell>(
     diagram: &Diagram,
+    counts: &[usize],
     profile: &Profile,
     v: usize,
     all: &mut [C],
     used: usize,
 ) -> Slot
+    requires counts { counts.now ≡ counts_of diagram.now.nodes }
     requires used { used ≤ length all.old }
     requires short { length all.old ≤ MOST_PLAN_CELLS }
     requires profile { IsProfile diagram.now.nodes profile.now }
@@ -83,11 +92,18 @@ fn rule_table<C: Cell>(
     let source = RuleCells {
         cells: rule_weights(profile, v),
     };
-    write_table(diagram, before(&list, n), &source, all, used)
+    write_table(diagram, counts, before(&list, n), &source, all, used)
 }
 
 /// The table of a utility, behind the first `used` cells.
-fn value_table<C: Cell>(diagram: &Diagram, v: usize, all: &mut [C], used: usize) -> Slot
+fn value_table<C: Cell>(
+    diagram: &Diagram,
+    counts: &[usize],
+    v: usize,
+    all: &mut [C],
+    used: usize,
+) -> Slot
+    requires counts { counts.now ≡ counts_of diagram.now.nodes }
     requires used { used ≤ length all.old }
     requires short { length all.old ≤ MOST_PLAN_CELLS }
     requires node { v < length diagram.now.nodes }
@@ -101,17 +117,19 @@ fn value_table<C: Cell>(diagram: &Diagram, v: usize, all: &mut [C], used: usize)
     let source = ValueCells {
         cells: diagram.cells(v),
     };
-    write_table(diagram, diagram.parents(v), &source, all, used)
+    write_table(diagram, counts, diagram.parents(v), &source, all, used)
 }
 
 /// The first table of a node, behind the first `used` cells.
 pub fn table_behind<C: Cell>(
     diagram: &Diagram,
+    counts: &[usize],
     profile: &Profile,
     v: usize,
     all: &mut [C],
     used: usize,
 ) -> Slot
+    requires counts { counts.now ≡ counts_of diagram.now.nodes }
     requires used { used ≤ length all.old }
     requires short { length all.old ≤ MOST_PLAN_CELLS }
     requires profile { IsProfile diagram.now.nodes profile.now }
@@ -123,8 +141,8 @@ pub fn table_behind<C: Cell>(
     ensures table { AppendsTable C.ring diagram.now.nodes (space all.old used) (space all.new (used + result.len)) result (first_table (cells_by C.ring C.of_weight C.of_value) diagram.now.nodes profile.now v) }
 {
     match diagram.kind(v) {
-        Kind::Chance => chance_table(diagram, v, all, used),
-        Kind::Decision => rule_table(diagram, profile, v, all, used),
-        Kind::Utility => value_table(diagram, v, all, used),
+        Kind::Chance => chance_table(diagram, counts, v, all, used),
+        Kind::Decision => rule_table(diagram, counts, profile, v, all, used),
+        Kind::Utility => value_table(diagram, counts, v, all, used),
     }
 }

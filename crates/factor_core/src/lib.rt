@@ -23,4 +23,5 @@ mod workspaces;
 mod writes;
 
 pub use slots::{Slot, Strip};
+pub use states::StateCounts;
 pub use workspaces::Workspace;

@@ -1,7 +1,8 @@
 //! The order in which a walk goes over the nodes.
 
-ghost use Rattle.std.specs.Prelude.{◌≡◌, ◌+◌, ◌<◌, ◌≤◌, length, take, [], ◌∷◌, ◌++◌, if◌then◌else◌};
-ghost use Rattle.node_sets.specs.Sets.{holds};
+ghost use Rattle.std.specs.Prelude.{◌≡◌, ◌+◌, ◌<◌, ◌≤◌, ℕ, MatchOption, length, take, [], ◌∷◌, ◌++◌, if◌then◌else◌};
+ghost use Rattle.node_sets.specs.declared.sets.TheConstants.{MOST_NODES};
+ghost use Rattle.node_sets.specs.Sets.{holds, IsIn, IsFirstFrom};
 ghost use Rattle.factor_core.specs.Tables.{listed, with_extra};
 
 use crate::slots::Slot;
@@ -39,6 +40,17 @@ pub fn counted(n: usize, held: bool) -> usize
     if held { n + 1 } else { n }
 }
 
+/// The first node of the scope from one number on and below another.
+pub fn first_between(scope: &NodeSet, from: usize, end: usize) -> Option<usize>
+    requires { from ≤ MOST_NODES }
+    ensures { MatchOption result ((v : ℕ) → from ≤ v → v < end → IsIn scope.now v → ⊥) (λ v. IsFirstFrom scope.now from v × (v < end)) }
+{
+    match scope.first_from(from) {
+        Some(v) if v < end => Some(v),
+        _ => None,
+    }
+}
+
 /// How many nodes the scope holds.
 pub fn count_nodes(count: usize, scope: &NodeSet) -> usize
     requires { count ≤ 256 }
@@ -46,8 +58,10 @@ pub fn count_nodes(count: usize, scope: &NodeSet) -> usize
     ensures few { result ≤ count }
 {
     let mut n = 0;
-    for v in 0..count {
-        n = counted(n, scope.holds(v));
+    let mut next = 0;
+    'nodes: while let Some(v) = first_between(scope, next, count) {
+        n += 1;
+        next = v + 1;
     }
     n
 }
@@ -60,8 +74,11 @@ pub fn list_nodes(order: &mut [usize], count: usize, scope: &NodeSet) -> usize
     ensures within { result < length order.old }
 {
     let mut n = 0;
-    for v in 0..count {
-        n = push_held(order, n, v, scope.holds(v));
+    let mut next = 0;
+    'nodes: while let Some(v) = first_between(scope, next, count) {
+        order[n] = v;
+        n += 1;
+        next = v + 1;
     }
     n
 }

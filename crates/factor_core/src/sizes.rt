@@ -1,18 +1,11 @@
 //! Sizes of tables, and how far apart their cells stand.
 
-ghost use Rattle.std.specs.Prelude.{◌≡◌, ◌+◌, ◌-◌, ◌*◌, ◌^◌, ◌<◌, ◌≤◌, ℕ, length, if◌then◌else◌, slice_index};
+ghost use Rattle.std.specs.Prelude.{◌≡◌, ◌+◌, ◌-◌, ◌*◌, ◌^◌, ◌<◌, ◌≤◌, ℕ, length};
 ghost use Rattle.node_sets.specs.Sets.{holds};
 ghost use Rattle.factor_core.specs.Tables.{AreCounts, states_in, size_from, size_of, stride_of};
 
+use crate::orders::first_between;
 use node_sets::NodeSet;
-
-/// The size with one node more, where the scope holds it.
-fn grown(size: usize, held: bool, states: usize) -> usize
-    requires { size * states < 2 ^ 64 }
-    ensures { result ≡ (if held then states else 1) * size }
-{
-    if held { states * size } else { size }
-}
 
 /// How many cells a table has over those of the nodes from one on that the scope holds.
 pub fn size_after(counts: &[usize], scope: &NodeSet, from: usize) -> usize
@@ -22,10 +15,10 @@ pub fn size_after(counts: &[usize], scope: &NodeSet, from: usize) -> usize
     ensures { result ≡ size_from (states_in counts.now) (holds scope.now) from (length counts.now - from) }
 {
     let mut size = 1;
-    let mut v = counts.len();
-    while v > from {
-        v -= 1;
-        size = grown(size, scope.holds(v), counts[v]);
+    let mut next = from;
+    'nodes: while let Some(v) = first_between(scope, next, counts.len()) {
+        size *= counts[v];
+        next = v + 1;
     }
     size
 }

@@ -1,11 +1,12 @@
 //! First tables of nodes, behind the first cells of a list.
 
 ghost use Rattle.std.specs.Prelude.{◌≡◌, ◌+◌, ◌^◌, ◌<◌, ◌≤◌, ℕ, All, Contains, ◌++◌, [], ◌∷◌, drop, if◌then◌else◌, length, take};
-ghost use Rattle.maid_model.specs.declared.limits.TheConstants.{MOST_PLAN_CELLS};
+ghost use Rattle.maid_model.specs.declared.limits.TheConstants.{MOST_PARENTS, MOST_PLAN_CELLS};
 ghost use Rattle.node_sets.specs.declared.sets.TheConstants.{MOST_NODES};
 ghost use Rattle.node_sets.specs.Sets.{holds};
 ghost use Rattle.maid_model.specs.Graph.{AllDifferent};
-ghost use Rattle.maid_model.specs.Nodes.{states_of, rows_under};
+ghost use Rattle.maid_model.specs.Diagrams.{IsDiagram};
+ghost use Rattle.maid_model.specs.Nodes.{counts_of, states_of, rows_under};
 ghost use Rattle.plan_sums.specs.Plans.{has};
 ghost use Rattle.factor_core.specs.Copies.{steps_of, list_stride, list_table};
 ghost use Rattle.factor_core.specs.Slots.{space, AppendsTable};
@@ -16,10 +17,9 @@ use crate::orders::list_nodes;
 use crate::sizes::table_size;
 use crate::slots::Slot;
 use crate::sources::Source;
-use crate::states::list_states;
 use crate::walks::before;
 use cell_rings::Cell;
-use maid_model::{Diagram, MOST_NODES};
+use maid_model::{Diagram, MOST_PARENTS};
 use node_sets::NodeSet;
 
 /// How many choices of states the nodes of the list have from a place on.
@@ -85,13 +85,17 @@ fn scope_of(list: &[usize]) -> NodeSet
 /// the list slowest.
 pub fn write_table<C: Cell, S: Source<C>>(
     diagram: &Diagram,
+    counts: &[usize],
     list: &[usize],
     source: &S,
     all: &mut [C],
     used: usize,
 ) -> Slot
+    requires diagram { IsDiagram diagram.now }
+    requires counts { counts.now ≡ counts_of diagram.now.nodes }
     requires used { used ≤ length all.old }
     requires short { length all.old ≤ MOST_PLAN_CELLS }
+    requires few { length list.now ≤ MOST_PARENTS + 1 }
     requires once { AllDifferent list.now }
     requires known { (v : ℕ) → Contains list.now v → v < length diagram.now.nodes }
     requires fit { S.is_fit source.now }
@@ -101,18 +105,15 @@ pub fn write_table<C: Cell, S: Source<C>>(
     ensures len { used + result.len ≤ length all.new }
     ensures table { AppendsTable C.ring diagram.now.nodes (space all.old used) (space all.new (used + result.len)) result (list_table C.ring diagram.now.nodes list.now (S.cells source.now)) }
 {
-    let mut counts = [1; MOST_NODES];
-    list_states(&mut counts, diagram);
-    let counts = before(&counts, diagram.count());
     let scope = scope_of(list);
     let len = table_size(counts, &scope);
-    let mut order = [0; MOST_NODES + 1];
+    let mut order = [0; MOST_PARENTS + 2];
     let n = list_nodes(&mut order, counts.len(), &scope);
     let order = before(&order, n);
     let mut steps = [Step {
         states: 1,
         stride: 0,
-    }; MOST_NODES + 1];
+    }; MOST_PARENTS + 2];
     set_list_steps(&mut steps, counts, list, order);
     copy_from(before(&steps, n), source, all, used);
     Slot {

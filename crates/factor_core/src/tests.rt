@@ -6,7 +6,7 @@ ghost use Rattle.factor_core.specs.declared.slots.Slot.{Slot};
 ghost use Rattle.factor_core.specs.Scopes.{united};
 ghost use Rattle.factor_core.specs.Trials.{coins_diagram, IsSmall, Grows};
 
-use crate::{Slot, Strip, Workspace};
+use crate::{Slot, StateCounts, Strip, Workspace};
 use cell_rings::{Both, Can, Cell, Gain, Mass};
 use maid_model::{Diagram, Kind, Node, Profile, literals_are_tested};
 use smallvec::SmallVec;
@@ -53,7 +53,7 @@ fn first<C: Cell>(
     ensures grows { Grows C.ring work.old work.new result 49 }
     ensures own { IsIn result.scope node }
 {
-    work.table(diagram, profile, node)
+    work.table(diagram, &StateCounts::of(diagram), profile, node)
 }
 
 fn multiply<C: Cell>(work: &mut Workspace<C>, diagram: &Diagram, slots: &[Slot]) -> Slot
@@ -65,7 +65,7 @@ fn multiply<C: Cell>(work: &mut Workspace<C>, diagram: &Diagram, slots: &[Slot])
     ensures grows { Grows C.ring work.old work.new result 2401 }
     ensures own { (v : ℕ) → united slots.now v ≡ true → IsIn result.scope v }
 {
-    work.product(diagram, slots)
+    work.product(diagram, &StateCounts::of(diagram), slots)
 }
 
 fn add_up<C: Cell>(work: &mut Workspace<C>, diagram: &Diagram, slots: &[Slot], node: usize) -> Slot
@@ -79,7 +79,7 @@ fn add_up<C: Cell>(work: &mut Workspace<C>, diagram: &Diagram, slots: &[Slot], n
     requires room { 4 ≤ work.old.spare }
     ensures { Grows C.ring work.old work.new result 11529602 }
 {
-    work.join_out(diagram, slots, node)
+    work.join_out(diagram, &StateCounts::of(diagram), slots, node)
 }
 
 fn sum_one<C: Cell>(work: &mut Workspace<C>, diagram: &Diagram, slot: &Slot, node: usize) -> Slot
@@ -91,7 +91,7 @@ fn sum_one<C: Cell>(work: &mut Workspace<C>, diagram: &Diagram, slot: &Slot, nod
     requires room { 4 ≤ work.old.spare }
     ensures { Grows C.ring work.old work.new result 11529602 }
 {
-    work.sum_out(diagram, slot, node)
+    work.sum_out(diagram, &StateCounts::of(diagram), slot, node)
 }
 
 fn keep_state<C: Cell>(

@@ -5,7 +5,8 @@ ghost use Rattle.std.specs.List.{AllZip};
 ghost use Rattle.maid_model.specs.declared.limits.TheConstants.{MOST_PLAN_CELLS};
 ghost use Rattle.node_sets.specs.Sets.{holds, IsIn};
 ghost use Rattle.maid_model.specs.Graph.{AllDifferent};
-ghost use Rattle.maid_model.specs.Nodes.{states_of};
+ghost use Rattle.maid_model.specs.Diagrams.{IsDiagram};
+ghost use Rattle.maid_model.specs.Nodes.{counts_of, states_of};
 ghost use Rattle.factor_core.specs.declared.slots.Slot.{Slot};
 ghost use Rattle.maid_model.specs.Profiles.{IsProfile};
 ghost use Rattle.ring_sums.specs.Groups.{JoinFits, ProductsFit};
@@ -19,6 +20,7 @@ use crate::firsts::table_behind;
 use crate::reading::read_cell;
 use crate::reorders::{reorder_behind, restrict_behind};
 use crate::slots::{Slot, Strip};
+use crate::states::StateCounts;
 use cell_rings::Cell;
 use maid_model::{Diagram, Profile};
 use std::alloc::{AllocError, Global};
@@ -68,14 +70,21 @@ impl<C: Cell> Workspace<C> {
 
     /// The first table of a node: a chance node's cells and the weights of a decision's rule by `Cell::weight`, over the
     /// node and its parents, and a utility's cells by `Cell::value`, over its parents.
-    pub fn table(&mut self, diagram: &Diagram, profile: &Profile, node: usize) -> Slot
+    pub fn table(
+        &mut self,
+        diagram: &Diagram,
+        counts: &StateCounts,
+        profile: &Profile,
+        node: usize,
+    ) -> Slot
+        requires counts { counts.now ≡ counts_of diagram.now.nodes }
         requires profile { IsProfile diagram.now.nodes profile.now }
         requires node { node < length diagram.now.nodes }
         requires fit { NumbersFit C.ring.most diagram.now.nodes profile.now node }
         requires room { cells_over diagram.now.nodes (first_table (cells_by C.ring C.of_weight C.of_value) diagram.now.nodes profile.now node).holds ≤ self.old.spare }
         ensures { AppendsTable C.ring diagram.now.nodes self.old self.new result (first_table (cells_by C.ring C.of_weight C.of_value) diagram.now.nodes profile.now node) }
     {
-        let slot = table_behind(diagram, profile, node, self.cells.as_mut_slice(), self.used);
+        let slot = table_behind(diagram, counts.as_slice(), profile, node, self.cells.as_mut_slice(), self.used);
         self.used += slot.len;
         slot
     }
@@ -83,7 +92,15 @@ impl<C: Cell> Workspace<C> {
     /// The join of the slots with the node summed out of it: over their nodes but this one, and in each world the sum
     /// over the node's states of the product of the slots' cells. The joined table is never stored. It goes over each of
     /// its cells once.
-    pub fn join_out(&mut self, diagram: &Diagram, slots: &[Slot], node: usize) -> Slot
+    pub fn join_out(
+        &mut self,
+        diagram: &Diagram,
+        counts: &StateCounts,
+        slots: &[Slot],
+        node: usize,
+    ) -> Slot
+        requires diagram { IsDiagram diagram.now }
+        requires counts { counts.now ≡ counts_of diagram.now.nodes }
         requires few { length slots.now ≤ 256 }
         requires some { 0 < length slots.now }
         requires live { All (IsLive diagram.now.nodes self.old.cells) slots.now }
@@ -92,35 +109,50 @@ impl<C: Cell> Workspace<C> {
         requires room { cells_over diagram.now.nodes (sum_out C.ring (states_of diagram.now.nodes) node (tables_of C.ring diagram.now.nodes self.old.cells slots.now)).holds ≤ self.old.spare }
         ensures { AppendsTable C.ring diagram.now.nodes self.old self.new result (sum_out C.ring (states_of diagram.now.nodes) node (tables_of C.ring diagram.now.nodes self.old.cells slots.now)) }
     {
-        let slot = join_behind(diagram, slots, node, self.cells.as_mut_slice(), self.used);
+        let slot = join_behind(diagram, counts.as_slice(), slots, node, self.cells.as_mut_slice(), self.used);
         self.used += slot.len;
         slot
     }
 
     /// The product of the slots: over their nodes, and in each world the product of their cells. Without a slot it has
     /// the one cell `one`.
-    pub fn product(&mut self, diagram: &Diagram, slots: &[Slot]) -> Slot
+    pub fn product(
+        &mut self,
+        diagram: &Diagram,
+        counts: &StateCounts,
+        slots: &[Slot],
+    ) -> Slot
+        requires diagram { IsDiagram diagram.now }
+        requires counts { counts.now ≡ counts_of diagram.now.nodes }
         requires few { length slots.now ≤ 256 }
         requires live { All (IsLive diagram.now.nodes self.old.cells) slots.now }
         requires fits { ProductsFit C.ring.size (states_of diagram.now.nodes) C.ring.most (tables_of C.ring diagram.now.nodes self.old.cells slots.now) }
         requires room { cells_over diagram.now.nodes (product_table C.ring (tables_of C.ring diagram.now.nodes self.old.cells slots.now)).holds ≤ self.old.spare }
         ensures { AppendsTable C.ring diagram.now.nodes self.old self.new result (product_table C.ring (tables_of C.ring diagram.now.nodes self.old.cells slots.now)) }
     {
-        let slot = product_behind(diagram, slots, self.cells.as_mut_slice(), self.used);
+        let slot = product_behind(diagram, counts.as_slice(), slots, self.cells.as_mut_slice(), self.used);
         self.used += slot.len;
         slot
     }
 
     /// The slot with the node summed out of it: over its other nodes, and in each world the sum of its cells over the
     /// node's states.
-    pub fn sum_out(&mut self, diagram: &Diagram, slot: &Slot, node: usize) -> Slot
+    pub fn sum_out(
+        &mut self,
+        diagram: &Diagram,
+        counts: &StateCounts,
+        slot: &Slot,
+        node: usize,
+    ) -> Slot
+        requires diagram { IsDiagram diagram.now }
+        requires counts { counts.now ≡ counts_of diagram.now.nodes }
         requires live { IsLive diagram.now.nodes self.old.cells slot.now }
         requires hold { IsIn slot.now.scope node }
         requires fits { SumFits C.ring (states_of diagram.now.nodes) node (table_of C.ring diagram.now.nodes self.old.cells slot.now) }
         requires room { cells_over diagram.now.nodes (sum_out C.ring (states_of diagram.now.nodes) node (table_of C.ring diagram.now.nodes self.old.cells slot.now ∷ [])).holds ≤ self.old.spare }
         ensures { AppendsTable C.ring diagram.now.nodes self.old self.new result (sum_out C.ring (states_of diagram.now.nodes) node (table_of C.ring diagram.now.nodes self.old.cells slot.now ∷ [])) }
     {
-        self.join_out(diagram, &[*slot], node)
+        self.join_out(diagram, counts, &[*slot], node)
     }
 
     /// The slot's cells at one state of the node, over its other nodes. It copies them.

@@ -32,56 +32,56 @@ joined_scope-scope-requires g c =
     let cells = take c.args.used c.args.all.now in
     let slots = c.args.slots.now in
     let inside = node_known nodes cells slots c.args.node c.requires.some (each_of (IsLive nodes cells) slots c.requires.live) (each_of (λ s. IsIn s.scope c.args.node) slots c.requires.hold) in
-    omega (arith, inside, c.count.ensures.diagram.limits.nodes)
+    omega (arith, inside, c.requires.diagram.limits.nodes)
 
 pub table_size-len-requires-clause-counts : goal.table_size-len-requires-clause-counts
 table_size-len-requires-clause-counts g c =
     let d = c.args.diagram.now in
-    let is : c.before-counts.result.now ≡ counts_of d.nodes = c.before-counts.ensures ∙ ap (λ k. take k c.list_states.new.counts) c.count.ensures.count ∙ c.list_states.ensures in
-    subst AreCounts (sym is) (are_counts d c.count.ensures.diagram)
+    let is : c.args.counts.now ≡ counts_of d.nodes = c.requires.counts in
+    subst AreCounts (sym is) (are_counts d c.requires.diagram)
 
 pub table_size-len-requires-clause-fits : goal.table_size-len-requires-clause-fits
 table_size-len-requires-clause-fits g c =
     let d = c.args.diagram.now in
-    let is : c.before-counts.result.now ≡ counts_of d.nodes = c.before-counts.ensures ∙ ap (λ k. take k c.list_states.new.counts) c.count.ensures.count ∙ c.list_states.ensures in
+    let is : c.args.counts.now ≡ counts_of d.nodes = c.requires.counts in
     let t = sum_out g.C.Cell.ring (states_of d.nodes) c.args.node (tables_of g.C.Cell.ring d.nodes (take c.args.used c.args.all.now) c.args.slots.now) in
     let held : (v : ℕ) → holds c.joined_scope-scope.result v ≡ t.holds v = λ v. c.joined_scope-scope.ensures v ∙ but_is {r = g.C.Cell.ring} g.met.C.Cell.laws g.met.C.Cell.sizes d.nodes (take c.args.used c.args.all.now) c.args.slots.now c.args.node v in
-    size_small d.nodes c.before-counts.result.now is c.joined_scope-scope.result t.holds held c.args.all.now c.args.used c.requires.used c.requires.room c.requires.short
+    size_small d.nodes c.args.counts.now is c.joined_scope-scope.result t.holds held c.args.all.now c.args.used c.requires.used c.requires.room c.requires.short
 
 pub join_at-requires-clause-within : goal.join_at-requires-clause-within
 join_at-requires-clause-within g c =
     let d = c.args.diagram.now in
-    let is : c.before-counts.result.now ≡ counts_of d.nodes = c.before-counts.ensures ∙ ap (λ k. take k c.list_states.new.counts) c.count.ensures.count ∙ c.list_states.ensures in
+    let is : c.args.counts.now ≡ counts_of d.nodes = c.requires.counts in
     let t = sum_out g.C.Cell.ring (states_of d.nodes) c.args.node (tables_of g.C.Cell.ring d.nodes (take c.args.used c.args.all.now) c.args.slots.now) in
     let held : (v : ℕ) → holds c.joined_scope-scope.result v ≡ t.holds v = λ v. c.joined_scope-scope.ensures v ∙ but_is {r = g.C.Cell.ring} g.met.C.Cell.laws g.met.C.Cell.sizes d.nodes (take c.args.used c.args.all.now) c.args.slots.now c.args.node v in
-    omega (arith, c.table_size-len.ensures, ends_within d.nodes c.before-counts.result.now is c.joined_scope-scope.result t.holds held c.args.all.now c.args.used c.requires.used c.requires.room)
+    omega (arith, c.table_size-len.ensures, ends_within d.nodes c.args.counts.now is c.joined_scope-scope.result t.holds held c.args.all.now c.args.used c.requires.used c.requires.room)
 
 pub join_at-requires-clause-can : goal.join_at-requires-clause-can
 join_at-requires-clause-can g c =
     let d = c.args.diagram.now in
-    let is : c.before-counts.result.now ≡ counts_of d.nodes = c.before-counts.ensures ∙ ap (λ k. take k c.list_states.new.counts) c.count.ensures.count ∙ c.list_states.ensures in
+    let is : c.args.counts.now ≡ counts_of d.nodes = c.requires.counts in
     let cells = take c.args.used c.args.all.now in
     let slots = c.args.slots.now in
     let inside = node_known d.nodes cells slots c.args.node c.requires.some (each_of (IsLive d.nodes cells) slots c.requires.live) (each_of (λ s. IsIn s.scope c.args.node) slots c.requires.hold) in
     let short : length cells ≤ MOST_PLAN_CELLS = omega (arith, length-take-le c.args.used c.args.all.now c.requires.used, c.requires.used, c.requires.short) in
-    can_join g.met.C.Cell.laws g.met.C.Cell.sizes d c.count.ensures.diagram c.before-counts.result.now is cells short slots c.requires.live c.args.node inside c.requires.fits
+    can_join g.met.C.Cell.laws g.met.C.Cell.sizes d c.requires.diagram c.args.counts.now is cells short slots c.requires.live c.args.node inside c.requires.fits
 
 pub returns-clause-len : goal.returns-clause-len
 returns-clause-len g c =
     let d = c.args.diagram.now in
-    let is : c.before-counts.result.now ≡ counts_of d.nodes = c.before-counts.ensures ∙ ap (λ k. take k c.list_states.new.counts) c.count.ensures.count ∙ c.list_states.ensures in
+    let is : c.args.counts.now ≡ counts_of d.nodes = c.requires.counts in
     let t = sum_out g.C.Cell.ring (states_of d.nodes) c.args.node (tables_of g.C.Cell.ring d.nodes (take c.args.used c.args.all.now) c.args.slots.now) in
     let held : (v : ℕ) → holds c.joined_scope-scope.result v ≡ t.holds v = λ v. c.joined_scope-scope.ensures v ∙ but_is {r = g.C.Cell.ring} g.met.C.Cell.laws g.met.C.Cell.sizes d.nodes (take c.args.used c.args.all.now) c.args.slots.now c.args.node v in
     let same : length c.join_at.new.all ≡ length c.args.all.now = search rules in
-    omega (arith, same, c.table_size-len.ensures, ends_within d.nodes c.before-counts.result.now is c.joined_scope-scope.result t.holds held c.args.all.now c.args.used c.requires.used c.requires.room)
+    omega (arith, same, c.table_size-len.ensures, ends_within d.nodes c.args.counts.now is c.joined_scope-scope.result t.holds held c.args.all.now c.args.used c.requires.used c.requires.room)
 
 pub returns-clause-table : goal.returns-clause-table
 returns-clause-table g c =
     let d = c.args.diagram.now in
     let r = g.C.Cell.ring in
     let m = g.met.C.Cell in
-    let counts = c.before-counts.result.now in
-    let is : c.before-counts.result.now ≡ counts_of d.nodes = c.before-counts.ensures ∙ ap (λ k. take k c.list_states.new.counts) c.count.ensures.count ∙ c.list_states.ensures in
+    let counts = c.args.counts.now in
+    let is : c.args.counts.now ≡ counts_of d.nodes = c.requires.counts in
     let cells = take c.args.used c.args.all.now in
     let slots = c.args.slots.now in
     let x = c.args.node in

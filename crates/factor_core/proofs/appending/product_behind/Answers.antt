@@ -20,65 +20,65 @@ use Rattle.factor_core.proofs.appending.product_behind.Goals as goal
 pub table_size-len-requires-clause-counts : goal.table_size-len-requires-clause-counts
 table_size-len-requires-clause-counts g c =
     let d = c.args.diagram.now in
-    let is : c.before-counts.result.now ≡ counts_of d.nodes = c.before-counts.ensures ∙ ap (λ k. take k c.list_states.new.counts) c.count.ensures.count ∙ c.list_states.ensures in
-    subst AreCounts (sym is) (are_counts d c.count.ensures.diagram)
+    let is : c.args.counts.now ≡ counts_of d.nodes = c.requires.counts in
+    subst AreCounts (sym is) (are_counts d c.requires.diagram)
 
 pub table_size-len-requires-clause-fits : goal.table_size-len-requires-clause-fits
 table_size-len-requires-clause-fits g c =
     let d = c.args.diagram.now in
-    let is : c.before-counts.result.now ≡ counts_of d.nodes = c.before-counts.ensures ∙ ap (λ k. take k c.list_states.new.counts) c.count.ensures.count ∙ c.list_states.ensures in
+    let is : c.args.counts.now ≡ counts_of d.nodes = c.requires.counts in
     let t = product_table g.C.Cell.ring (tables_of g.C.Cell.ring d.nodes (take c.args.used c.args.all.now) c.args.slots.now) in
     let held : (v : ℕ) → holds c.united_scope-scope.result v ≡ t.holds v = λ v. c.united_scope-scope.ensures v ∙ united_is {r = g.C.Cell.ring} g.met.C.Cell.laws g.met.C.Cell.sizes d.nodes (take c.args.used c.args.all.now) c.args.slots.now v in
-    size_small d.nodes c.before-counts.result.now is c.united_scope-scope.result t.holds held c.args.all.now c.args.used c.requires.used c.requires.room c.requires.short
+    size_small d.nodes c.args.counts.now is c.united_scope-scope.result t.holds held c.args.all.now c.args.used c.requires.used c.requires.room c.requires.short
 
 pub multiply_at-requires-clause-within : goal.multiply_at-requires-clause-within
 multiply_at-requires-clause-within g c =
     let d = c.args.diagram.now in
-    let is : c.before-counts.result.now ≡ counts_of d.nodes = c.before-counts.ensures ∙ ap (λ k. take k c.list_states.new.counts) c.count.ensures.count ∙ c.list_states.ensures in
+    let is : c.args.counts.now ≡ counts_of d.nodes = c.requires.counts in
     let t = product_table g.C.Cell.ring (tables_of g.C.Cell.ring d.nodes (take c.args.used c.args.all.now) c.args.slots.now) in
     let held : (v : ℕ) → holds c.united_scope-scope.result v ≡ t.holds v = λ v. c.united_scope-scope.ensures v ∙ united_is {r = g.C.Cell.ring} g.met.C.Cell.laws g.met.C.Cell.sizes d.nodes (take c.args.used c.args.all.now) c.args.slots.now v in
-    omega (arith, c.table_size-len.ensures, ends_within d.nodes c.before-counts.result.now is c.united_scope-scope.result t.holds held c.args.all.now c.args.used c.requires.used c.requires.room)
+    omega (arith, c.table_size-len.ensures, ends_within d.nodes c.args.counts.now is c.united_scope-scope.result t.holds held c.args.all.now c.args.used c.requires.used c.requires.room)
 
 pub multiply_at-requires-clause-scope : goal.multiply_at-requires-clause-scope
 multiply_at-requires-clause-scope g c =
     let d = c.args.diagram.now in
-    let is : c.before-counts.result.now ≡ counts_of d.nodes = c.before-counts.ensures ∙ ap (λ k. take k c.list_states.new.counts) c.count.ensures.count ∙ c.list_states.ensures in
+    let is : c.args.counts.now ≡ counts_of d.nodes = c.requires.counts in
     let cells = take c.args.used c.args.all.now in
     let slots = c.args.slots.now in
     let scope = c.united_scope-scope.result in
     let live = each_of (IsLive d.nodes cells) slots c.requires.live in
-    let long : length c.before-counts.result.now ≡ length d.nodes = ap length is ∙ counts_length d.nodes in
+    let long : length c.args.counts.now ≡ length d.nodes = ap length is ∙ counts_length d.nodes in
     record {
       within = λ v l. c.united_scope-scope.ensures v;
-      beyond = not_held (holds scope (length c.before-counts.result.now))
-          (λ t. let known = united_known d.nodes cells slots (length c.before-counts.result.now) live (sym (c.united_scope-scope.ensures (length c.before-counts.result.now)) ∙ t) in omega (arith, known, long));
+      beyond = not_held (holds scope (length c.args.counts.now))
+          (λ t. let known = united_known d.nodes cells slots (length c.args.counts.now) live (sym (c.united_scope-scope.ensures (length c.args.counts.now)) ∙ t) in omega (arith, known, long));
     }
 
 pub multiply_at-requires-clause-can : goal.multiply_at-requires-clause-can
 multiply_at-requires-clause-can g c =
     let d = c.args.diagram.now in
-    let is : c.before-counts.result.now ≡ counts_of d.nodes = c.before-counts.ensures ∙ ap (λ k. take k c.list_states.new.counts) c.count.ensures.count ∙ c.list_states.ensures in
+    let is : c.args.counts.now ≡ counts_of d.nodes = c.requires.counts in
     let cells = take c.args.used c.args.all.now in
     let slots = c.args.slots.now in
     let short : length cells ≤ MOST_PLAN_CELLS = omega (arith, length-take-le c.args.used c.args.all.now c.requires.used, c.requires.used, c.requires.short) in
-    can_multiply g.met.C.Cell.laws g.met.C.Cell.sizes d c.count.ensures.diagram c.before-counts.result.now is cells short slots c.requires.live c.requires.fits
+    can_multiply g.met.C.Cell.laws g.met.C.Cell.sizes d c.requires.diagram c.args.counts.now is cells short slots c.requires.live c.requires.fits
 
 pub returns-clause-len : goal.returns-clause-len
 returns-clause-len g c =
     let d = c.args.diagram.now in
-    let is : c.before-counts.result.now ≡ counts_of d.nodes = c.before-counts.ensures ∙ ap (λ k. take k c.list_states.new.counts) c.count.ensures.count ∙ c.list_states.ensures in
+    let is : c.args.counts.now ≡ counts_of d.nodes = c.requires.counts in
     let t = product_table g.C.Cell.ring (tables_of g.C.Cell.ring d.nodes (take c.args.used c.args.all.now) c.args.slots.now) in
     let held : (v : ℕ) → holds c.united_scope-scope.result v ≡ t.holds v = λ v. c.united_scope-scope.ensures v ∙ united_is {r = g.C.Cell.ring} g.met.C.Cell.laws g.met.C.Cell.sizes d.nodes (take c.args.used c.args.all.now) c.args.slots.now v in
     let same : length c.multiply_at.new.all ≡ length c.args.all.now = search rules in
-    omega (arith, same, c.table_size-len.ensures, ends_within d.nodes c.before-counts.result.now is c.united_scope-scope.result t.holds held c.args.all.now c.args.used c.requires.used c.requires.room)
+    omega (arith, same, c.table_size-len.ensures, ends_within d.nodes c.args.counts.now is c.united_scope-scope.result t.holds held c.args.all.now c.args.used c.requires.used c.requires.room)
 
 pub returns-clause-table : goal.returns-clause-table
 returns-clause-table g c =
     let d = c.args.diagram.now in
     let r = g.C.Cell.ring in
     let m = g.met.C.Cell in
-    let counts = c.before-counts.result.now in
-    let is : c.before-counts.result.now ≡ counts_of d.nodes = c.before-counts.ensures ∙ ap (λ k. take k c.list_states.new.counts) c.count.ensures.count ∙ c.list_states.ensures in
+    let counts = c.args.counts.now in
+    let is : c.args.counts.now ≡ counts_of d.nodes = c.requires.counts in
     let cells = take c.args.used c.args.all.now in
     let slots = c.args.slots.now in
     let used = c.args.used in

@@ -1,24 +1,33 @@
-use Rattle.std.proofs.Common.{◌≤◌, ◌*◌, ◌-◌, length, get_or, arith}
-use Rattle.std.proofs.Math.Nat.{mul-le-mul_left}
+use Rattle.std.proofs.Common.{◌≡◌, ◌∙◌, ◌+◌, ◌-◌, ◌*◌, length, get_or, ap, sym, arith}
 use Rattle.std.proofs.lemmas.List.{get_or_default}
 use Rattle.node_sets.specs.Sets.{holds}
 use Rattle.factor_core.specs.Tables.{states_in}
-use Rattle.factor_core.proofs.SizeLemmas.{size_back, size_later}
+use Rattle.factor_core.proofs.Scoping.{not_held}
+use Rattle.factor_core.proofs.SizeLemmas.{size_found, size_last, part_le}
 use Rattle.factor_core.proofs.sizes.size_after.Goals as goal
 
-pub grown-size-requires : goal.grown-size-requires
-grown-size-requires c =
+pub overflow_mul-size : goal.overflow_mul-size
+overflow_mul-size c =
     let counts = c.args.counts.now in
-    let small = size_later (states_in counts) (holds c.args.scope.now) c.requires.counts.some (length counts) c.args.from c.loop-v.v c.loop-v.invariant.1 c.loop-v.invariant.2 in
-    let states = get_or_default counts (c.loop-v.v - 1) 0 1 (omega (arith, c.loop-v.invariant.2, c.loop-v-test.true)) in
-    let bound : c.loop-v.size * get_or counts (c.loop-v.v - 1) 0 ≤ c.loop-v.size * 256 = mul-le-mul_left c.loop-v.size (omega (arith, states, c.requires.counts.small (c.loop-v.v - 1))) in
-    omega (arith, bound, small, c.loop-v.invariant.0, c.requires.fits)
+    let scope = c.args.scope.now in
+    let first = c.in-Some.ensures.0 in
+    let states = get_or_default counts c.in-Some.v 0 1 c.in-Some.ensures.1 in
+    let more = size_found (states_in counts) (holds scope) (length counts) c.nodes.next c.in-Some.v c.nodes.size (get_or counts c.in-Some.v 0) _ first.not_before c.in-Some.ensures.1 (λ w a b. not_held (holds scope w) (first.first w a b)) first.inside states c.nodes.invariant.0 in
+    omega (arith, part_le (states_in counts) (holds scope) c.requires.counts.some (length counts) (c.in-Some.v + 1) _ _ (omega (arith, c.in-Some.ensures.1)) more, c.requires.fits)
 
-pub loop-v-preserved : goal.loop-v-preserved
-loop-v-preserved c =
+pub nodes-preserved : goal.nodes-preserved
+nodes-preserved c =
     let counts = c.args.counts.now in
-    let states = get_or_default counts (c.loop-v.v - 1) 0 1 (omega (arith, c.loop-v.invariant.2, c.loop-v-test.true)) in (
-      size_back (states_in counts) (holds c.args.scope.now) (length counts) c.loop-v.v c.loop-v.size (get_or counts (c.loop-v.v - 1) 0) c.grown-size.result c.holds.result (omega arith) c.loop-v.invariant.2 c.loop-v.invariant.0 c.holds.ensures states c.grown-size.ensures,
-      omega arith,
-      omega (arith, c.loop-v.invariant.2),
+    let scope = c.args.scope.now in
+    let first = c.in-Some.ensures.0 in
+    let states = get_or_default counts c.in-Some.v 0 1 c.in-Some.ensures.1 in (
+      size_found (states_in counts) (holds scope) (length counts) c.nodes.next c.in-Some.v c.nodes.size (get_or counts c.in-Some.v 0) _ first.not_before c.in-Some.ensures.1 (λ w a b. not_held (holds scope w) (first.first w a b)) first.inside states c.nodes.invariant.0,
+      omega (arith, c.in-Some.ensures.1),
     )
+
+pub returns : goal.returns
+returns c =
+    let counts = c.args.counts.now in
+    let scope = c.args.scope.now in
+    let last = size_last (states_in counts) (holds scope) (length counts) c.nodes.next c.nodes.invariant.1 (λ w a b. not_held (holds scope w) (c.in_default.ensures w a b)) in
+    (let one : c.nodes.size ≡ c.nodes.size * 1 = omega arith in one) ∙ ap (λ k. c.nodes.size * k) (sym last) ∙ c.nodes.invariant.0

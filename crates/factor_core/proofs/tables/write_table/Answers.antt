@@ -16,28 +16,27 @@ use Rattle.factor_core.proofs.Copying.{count_is, gathered_at, length-gathered, r
 use Rattle.factor_core.proofs.Counts.{are_counts, counts_length, states_is, nodes_are, size_is, place_is, range_is}
 use Rattle.factor_core.proofs.Gathering.{can_copy, copied_kept, copied_at}
 use Rattle.factor_core.proofs.Joining.{place_below}
-use Rattle.factor_core.proofs.Listing.{listed_few}
 use Rattle.factor_core.proofs.ListTables.{has_is, stride_le, list_place}
 use Rattle.factor_core.proofs.Ordering.{listed_below, listed_once}
-use Rattle.factor_core.proofs.Reordering.{shuffled_nodes, out_shuffled, rows_shuffled, once_of, below_of}
+use Rattle.factor_core.proofs.Reordering.{shuffled_nodes, length_shuffled, out_shuffled, rows_shuffled, once_of, below_of}
 use Rattle.factor_core.proofs.Standing.{appends_table}
 use Rattle.factor_core.proofs.tables.write_table.Goals as goal
 
 pub scope_of-scope-requires : goal.scope_of-scope-requires
-scope_of-scope-requires g c = λ v m. let k = c.requires.known v m in omega (arith, k, c.count.ensures.diagram.limits.nodes)
+scope_of-scope-requires g c = λ v m. let k = c.requires.known v m in omega (arith, k, c.requires.diagram.limits.nodes)
 
 pub table_size-len-requires-clause-counts : goal.table_size-len-requires-clause-counts
 table_size-len-requires-clause-counts g c =
     let d = c.args.diagram.now in
-    let counts = c.before-counts.result.now in
-    let is : c.before-counts.result.now ≡ counts_of d.nodes = c.before-counts.ensures ∙ ap (λ k. take k c.list_states.new.counts) c.count.ensures.count ∙ c.list_states.ensures in
-    subst AreCounts (sym is) (are_counts d c.count.ensures.diagram)
+    let counts = c.args.counts.now in
+    let is : c.args.counts.now ≡ counts_of d.nodes = c.requires.counts in
+    subst AreCounts (sym is) (are_counts d c.requires.diagram)
 
 pub table_size-len-requires-clause-fits : goal.table_size-len-requires-clause-fits
 table_size-len-requires-clause-fits g c =
     let d = c.args.diagram.now in
-    let counts = c.before-counts.result.now in
-    let is : c.before-counts.result.now ≡ counts_of d.nodes = c.before-counts.ensures ∙ ap (λ k. take k c.list_states.new.counts) c.count.ensures.count ∙ c.list_states.ensures in
+    let counts = c.args.counts.now in
+    let is : c.args.counts.now ≡ counts_of d.nodes = c.requires.counts in
     let list = c.args.list.now in
     let mixed = shuffled_nodes d.nodes (has list) list c.requires.once (has_is list) (λ v t. c.requires.known v ((has_is list v).1 t)) in
     let room : cells_over d.nodes (has list) ≤ length c.args.all.now - c.args.used = omega (arith, rows_shuffled (states_of d.nodes) mixed, c.requires.room) in
@@ -46,46 +45,49 @@ table_size-len-requires-clause-fits g c =
 pub list_nodes-n-requires-clause-room : goal.list_nodes-n-requires-clause-room
 list_nodes-n-requires-clause-room g c =
     let d = c.args.diagram.now in
-    let counts = c.before-counts.result.now in
-    let is : c.before-counts.result.now ≡ counts_of d.nodes = c.before-counts.ensures ∙ ap (λ k. take k c.list_states.new.counts) c.count.ensures.count ∙ c.list_states.ensures in
-    omega (arith, listed_few (holds c.scope_of-scope.result) (length counts), ap length is, counts_length d.nodes, c.count.ensures.diagram.limits.nodes)
+    let counts = c.args.counts.now in
+    let is : c.args.counts.now ≡ counts_of d.nodes = c.requires.counts in
+    let list = c.args.list.now in
+    let mixed = shuffled_nodes d.nodes (has list) list c.requires.once (has_is list) (λ v t. c.requires.known v ((has_is list v).1 t)) in
+    let order_is : listed (holds c.scope_of-scope.result) 0 (length counts) ≡ nodes_in d.nodes (has list) = ap (λ h. listed h 0 (length counts)) (fun_ext c.scope_of-scope.ensures) ∙ ap (λ cs. listed (has list) 0 (length cs)) is ∙ nodes_are d.nodes (has list) in
+    omega (arith, ap length order_is, length_shuffled mixed, c.requires.few)
 
 pub set_list_steps-requires-clause-counts : goal.set_list_steps-requires-clause-counts
 set_list_steps-requires-clause-counts g c =
     let d = c.args.diagram.now in
-    let counts = c.before-counts.result.now in
-    let is : c.before-counts.result.now ≡ counts_of d.nodes = c.before-counts.ensures ∙ ap (λ k. take k c.list_states.new.counts) c.count.ensures.count ∙ c.list_states.ensures in
-    subst AreCounts (sym is) (are_counts d c.count.ensures.diagram)
+    let counts = c.args.counts.now in
+    let is : c.args.counts.now ≡ counts_of d.nodes = c.requires.counts in
+    subst AreCounts (sym is) (are_counts d c.requires.diagram)
 
 pub set_list_steps-requires-clause-list : goal.set_list_steps-requires-clause-list
 set_list_steps-requires-clause-list g c =
     let d = c.args.diagram.now in
-    let counts = c.before-counts.result.now in
-    let is : c.before-counts.result.now ≡ counts_of d.nodes = c.before-counts.ensures ∙ ap (λ k. take k c.list_states.new.counts) c.count.ensures.count ∙ c.list_states.ensures in
+    let counts = c.args.counts.now in
+    let is : c.args.counts.now ≡ counts_of d.nodes = c.requires.counts in
     below_of (length counts) c.args.list.now (λ v m. let k = c.requires.known v m in omega (arith, k, ap length is, counts_length d.nodes))
 
 pub set_list_steps-requires-clause-order : goal.set_list_steps-requires-clause-order
 set_list_steps-requires-clause-order g c =
-    let n = length c.before-counts.result.now in
+    let n = length c.args.counts.now in
     subst (All (λ v. v < n)) (sym (c.before-order.ensures ∙ c.list_nodes-n.ensures.list)) (listed_below (holds c.scope_of-scope.result) n n 0 (omega arith))
 
 pub set_list_steps-requires-clause-fits : goal.set_list_steps-requires-clause-fits
 set_list_steps-requires-clause-fits g c =
     let d = c.args.diagram.now in
-    let counts = c.before-counts.result.now in
-    let is : c.before-counts.result.now ≡ counts_of d.nodes = c.before-counts.ensures ∙ ap (λ k. take k c.list_states.new.counts) c.count.ensures.count ∙ c.list_states.ensures in
+    let counts = c.args.counts.now in
+    let is : c.args.counts.now ≡ counts_of d.nodes = c.requires.counts in
     omega (arith, ap (λ f. rows_under f c.args.list.now) (ap states_in is ∙ states_is d.nodes), c.requires.room, c.requires.short)
 
 pub copy_from-requires-clause-can : goal.copy_from-requires-clause-can
 copy_from-requires-clause-can g c =
     let d = c.args.diagram.now in
-    let counts = c.before-counts.result.now in
-    let is : c.before-counts.result.now ≡ counts_of d.nodes = c.before-counts.ensures ∙ ap (λ k. take k c.list_states.new.counts) c.count.ensures.count ∙ c.list_states.ensures in
+    let counts = c.args.counts.now in
+    let is : c.args.counts.now ≡ counts_of d.nodes = c.requires.counts in
     let r = g.C.Cell.ring in
     let list = c.args.list.now in
     let scope = c.scope_of-scope.result in
     let count = states_in counts in
-    let are = subst AreCounts (sym is) (are_counts d c.count.ensures.diagram) in
+    let are = subst AreCounts (sym is) (are_counts d c.requires.diagram) in
     let order = listed (holds scope) 0 (length counts) in
     let stride = list_stride (states_in counts) list in
     let counts_are : states_in counts ≡ states_of d.nodes = ap states_in is ∙ states_is d.nodes in
@@ -111,8 +113,8 @@ copy_from-requires-clause-can g c =
 pub returns-clause-len : goal.returns-clause-len
 returns-clause-len g c =
     let d = c.args.diagram.now in
-    let counts = c.before-counts.result.now in
-    let is : c.before-counts.result.now ≡ counts_of d.nodes = c.before-counts.ensures ∙ ap (λ k. take k c.list_states.new.counts) c.count.ensures.count ∙ c.list_states.ensures in
+    let counts = c.args.counts.now in
+    let is : c.args.counts.now ≡ counts_of d.nodes = c.requires.counts in
     let list = c.args.list.now in
     let mixed = shuffled_nodes d.nodes (has list) list c.requires.once (has_is list) (λ v t. c.requires.known v ((has_is list v).1 t)) in
     let room : cells_over d.nodes (has list) ≤ length c.args.all.now - c.args.used = omega (arith, rows_shuffled (states_of d.nodes) mixed, c.requires.room) in
@@ -122,8 +124,8 @@ returns-clause-len g c =
 pub returns-clause-table : goal.returns-clause-table
 returns-clause-table g c =
     let d = c.args.diagram.now in
-    let counts = c.before-counts.result.now in
-    let is : c.before-counts.result.now ≡ counts_of d.nodes = c.before-counts.ensures ∙ ap (λ k. take k c.list_states.new.counts) c.count.ensures.count ∙ c.list_states.ensures in
+    let counts = c.args.counts.now in
+    let is : c.args.counts.now ≡ counts_of d.nodes = c.requires.counts in
     let r = g.C.Cell.ring in
     let used = c.args.used in
     let all = c.args.all.now in
