@@ -2,6 +2,7 @@
 
 ghost use Rattle.std.specs.Prelude.{◌≡◌, ◌⊎◌, ◌↔◌, ℕ, ◌+◌, ◌*◌, ◌<◌, ◌≤◌, [], length, take, sum_by, Contains, Some};
 ghost use Rattle.maid_model.specs.Diagrams.{IsDiagram};
+ghost use Rattle.maid_model.specs.Nodes.{counts_of};
 ghost use Rattle.maid_model.specs.Profiles.{IsProfile};
 ghost use Rattle.node_sets.specs.declared.sets.TheConstants.{MOST_NODES};
 ghost use Rattle.node_sets.specs.Sets.{IsIn};
@@ -12,7 +13,7 @@ ghost use Rattle.eliminate.specs.Results.{plan_total};
 ghost use Rattle.eliminate.specs.Steps.{first_cells, first_nodes, PutsTable, Lists};
 
 use cell_rings::Cell;
-use factor_core::{Slot, Workspace};
+use factor_core::{Slot, StateCounts, Workspace};
 use maid_model::{Diagram, Profile};
 use node_sets::NodeSet;
 use size_precheck::Plan;
@@ -37,11 +38,13 @@ fn ruled_nodes(plan: &Plan) -> NodeSet
 fn put_table<C: Cell>(
     work: &mut Workspace<C>,
     diagram: &Diagram,
+    counts: &StateCounts,
     profile: &Profile,
     live: &mut [Slot],
     count: usize,
     node: usize,
 ) -> usize
+    requires counts { counts.now ≡ counts_of diagram.now.nodes }
     requires profile { IsProfile diagram.now.nodes profile.now }
     requires count { count < length live.old }
     requires node { node < length diagram.now.nodes }
@@ -50,7 +53,7 @@ fn put_table<C: Cell>(
     ensures count { result ≡ count + 1 }
     ensures puts { PutsTable C.ring diagram.now.nodes work.old work.new (take count live.old) (take result live.new) (first_table (cells_by C.ring C.of_weight C.of_value) diagram.now.nodes profile.now node) }
 {
-    live[count] = work.table(diagram, profile, node);
+    live[count] = work.table(diagram, counts, profile, node);
     count + 1
 }
 
@@ -60,11 +63,13 @@ pub fn first_tables<C: Cell>(
     work: &mut Workspace<C>,
     plan: &Plan,
     diagram: &Diagram,
+    counts: &StateCounts,
     profile: &Profile,
     live: &mut [Slot],
 ) -> usize
     requires asked { CanBePlanned diagram.now.nodes plan.now.plan }
     requires order { IsOrderOfPlan diagram.now.nodes plan.now.plan plan.now.steps }
+    requires counts { counts.now ≡ counts_of diagram.now.nodes }
     requires profile { IsProfile diagram.now.nodes profile.now }
     requires fits { 2 * plan_total diagram.now.nodes profile.now plan.now.plan ≤ C.ring.most }
     requires room { sum_by (first_cells (cells_by C.ring C.of_weight C.of_value) diagram.now.nodes profile.now) (first_nodes diagram.now.nodes plan.now.plan) ≤ work.old.spare }
@@ -78,11 +83,11 @@ pub fn first_tables<C: Cell>(
     let mut count = 0;
     for v in 0..nodes {
         if ruled.holds(v) {
-            count = put_table(work, diagram, profile, live, count, v);
+            count = put_table(work, diagram, counts, profile, live, count, v);
         }
     }
     match plan.utility() {
-        Some(u) => put_table(work, diagram, profile, live, count, u),
+        Some(u) => put_table(work, diagram, counts, profile, live, count, u),
         None => count,
     }
 }

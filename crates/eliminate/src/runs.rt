@@ -2,6 +2,8 @@
 
 ghost use Rattle.std.specs.Prelude.{◌≡◌, ◌+◌, ◌*◌, ◌<◌, ◌≤◌, [], length, take};
 ghost use Rattle.maid_model.specs.declared.limits.TheConstants.{COUNT_END};
+ghost use Rattle.maid_model.specs.Diagrams.{IsDiagram};
+ghost use Rattle.maid_model.specs.Nodes.{counts_of};
 ghost use Rattle.maid_model.specs.Profiles.{IsProfile};
 ghost use Rattle.node_sets.specs.declared.sets.TheConstants.{MOST_NODES};
 ghost use Rattle.factor_core.specs.Operations.{cells_by};
@@ -12,7 +14,7 @@ ghost use Rattle.eliminate.specs.Steps.{CanJoinOut, GiveWay};
 use crate::firsts::first_tables;
 use crate::lists::{before, blank_slot, drop_holding, list_holding};
 use cell_rings::Cell;
-use factor_core::{Slot, Workspace};
+use factor_core::{Slot, StateCounts, Workspace};
 use maid_model::{Diagram, MOST_NODES, Profile};
 use size_precheck::Plan;
 
@@ -28,11 +30,14 @@ pub fn release<C: Cell>(work: &mut Workspace<C>)
 fn eliminate<C: Cell>(
     work: &mut Workspace<C>,
     diagram: &Diagram,
+    counts: &StateCounts,
     live: &mut [Slot],
     count: usize,
     joined: &mut [Slot],
     node: usize,
 ) -> usize
+    requires diagram { IsDiagram diagram.now }
+    requires counts { counts.now ≡ counts_of diagram.now.nodes }
     requires count { count ≤ MOST_NODES }
     requires live { length live.old ≡ MOST_NODES }
     requires joined { length joined.old ≡ MOST_NODES }
@@ -43,7 +48,7 @@ fn eliminate<C: Cell>(
 {
     let held = list_holding(before(live, count), node, joined);
     let left = drop_holding(live, count, node);
-    live[left] = work.join_out(diagram, before(joined, held), node);
+    live[left] = work.join_out(diagram, counts, before(joined, held), node);
     left + 1
 }
 
@@ -66,12 +71,13 @@ pub fn run_plan<C: Cell>(
     requires fits { 2 * plan_total diagram.now.nodes profile.now plan.now.plan ≤ C.ring.most }
     ensures { SumsPlan (cells_by C.ring C.of_weight C.of_value) diagram.now.nodes profile.now plan.now work.old work.new result }
 {
+    let counts = StateCounts::of(diagram);
     // A plan has one table at most for each node, and no step leaves more than it found.
     let mut live = [blank_slot(); MOST_NODES];
     let mut joined = [blank_slot(); MOST_NODES];
-    let mut count = first_tables(work, plan, diagram, profile, &mut live);
+    let mut count = first_tables(work, plan, diagram, &counts, profile, &mut live);
     for node in plan.steps() {
-        count = eliminate(work, diagram, &mut live, count, &mut joined, *node);
+        count = eliminate(work, diagram, &counts, &mut live, count, &mut joined, *node);
     }
-    work.product(diagram, before(&live, count))
+    work.product(diagram, &counts, before(&live, count))
 }
