@@ -35,6 +35,17 @@ module _ {X : Type 0} (p : X → Bool) (old slots new : List X) (n i : ℕ) wher
       ∙ ap (drop 1) rest
       ∙ drop-drop 1 i old
 
+-- one more was looked at, and listed elsewhere
+pub one_found : {X : Type 0} (p : X → Bool) (old slots list new : List X) (n i result : ℕ) (asked : Bool) (x d : X) → take result new ≡ take n list ++ cond asked (x ∷ []) [] → asked ≡ p x → i < length old → x ≡ get_or slots i d
+    → take n list ≡ filter p (take i old) → drop i slots ≡ drop i old → take result new ≡ filter p (take (i + 1) old)
+one_found p old slots list new n i result asked x d is passes l read front rest =
+    is
+    ∙ ap (λ ys. ys ++ cond asked (x ∷ []) []) front
+    ∙ ap (λ b. filter p (take i old) ++ cond b (x ∷ []) []) passes
+    ∙ ap (λ y. filter p (take i old) ++ filter p (y ∷ [])) (read ∙ as_before p old slots new n i d rest)
+    ∙ sym (filter-append p (take i old) (get_or old i d ∷ []))
+    ∙ ap (filter p) (sym (take_more old i d l))
+
 -- where one leaves, there is a place
 pub fewer : {X : Type 0} (p : X → Bool) (xs : List X) → 0 < length (filter p xs) → length (filter (λ x. not (p x)) xs) + 1 ≤ length xs
 fewer p xs some = omega (arith, length-filter_both p (λ x. not (p x)) (λ x. refl) xs)

@@ -41,31 +41,30 @@ fn push_asked(list: &mut [Slot], n: usize, slot: Slot, asked: bool) -> usize
     }
 }
 
-/// Lists those of the slots that hold the node. Gives how many there are.
-pub fn list_holding(slots: &[Slot], node: usize, found: &mut [Slot]) -> usize
-    requires node { node < MOST_NODES }
-    requires room { length slots.now ≤ length found.old }
-    ensures list { take result found.new ≡ slots_with node slots.now }
-    ensures few { result ≤ length slots.now }
-{
-    let mut n = 0;
-    for slot in slots {
-        n = push_asked(found, n, *slot, slot.scope.holds(node));
-    }
-    n
+/// How many slots hold a node, and how many do not.
+#[derive(Clone, Copy)]
+pub struct Parted {
+    pub held: usize,
+    pub left: usize,
 }
 
-/// Drops those of the first `count` slots that hold the node, and moves the others up. Gives how many are left.
-pub fn drop_holding(slots: &mut [Slot], count: usize, node: usize) -> usize
+/// Lists those of the first `count` slots that hold the node, drops them, and moves the others up.
+pub fn part_holding(slots: &mut [Slot], count: usize, node: usize, found: &mut [Slot]) -> Parted
     requires node { node < MOST_NODES }
     requires count { count ≤ length slots.old }
-    ensures list { take result slots.new ≡ slots_without node (take count slots.old) }
-    ensures few { result ≤ count }
+    requires room { count ≤ length found.old }
+    ensures found { take result.held found.new ≡ slots_with node (take count slots.old) }
+    ensures rest { take result.left slots.new ≡ slots_without node (take count slots.old) }
+    ensures few_held { result.held ≤ count }
+    ensures few_left { result.left ≤ count }
 {
-    let mut n = 0;
+    let mut held = 0;
+    let mut left = 0;
     for i in 0..count {
         let slot = slots[i];
-        n = push_asked(slots, n, slot, !slot.scope.holds(node));
+        let holds = slot.scope.holds(node);
+        held = push_asked(found, held, slot, holds);
+        left = push_asked(slots, left, slot, !holds);
     }
-    n
+    Parted { held, left }
 }

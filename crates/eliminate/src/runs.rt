@@ -12,7 +12,7 @@ ghost use Rattle.eliminate.specs.Results.{plan_total, SumsPlan};
 ghost use Rattle.eliminate.specs.Steps.{CanJoinOut, GiveWay};
 
 use crate::firsts::first_tables;
-use crate::lists::{before, blank_slot, drop_holding, list_holding};
+use crate::lists::{before, blank_slot, part_holding};
 use cell_rings::Cell;
 use factor_core::{Slot, StateCounts, Workspace};
 use maid_model::{Diagram, MOST_NODES, Profile};
@@ -46,9 +46,9 @@ fn eliminate<C: Cell>(
     ensures few { result ≤ count }
     ensures step { GiveWay C.ring diagram.now.nodes work.old work.new (take count live.old) (take result live.new) node }
 {
-    let held = list_holding(before(live, count), node, joined);
-    let left = drop_holding(live, count, node);
-    live[left] = work.join_out(diagram, counts, before(joined, held), node);
+    let parted = part_holding(live, count, node, joined);
+    let left = parted.left;
+    live[left] = work.join_out(diagram, counts, before(joined, parted.held), node);
     left + 1
 }
 
