@@ -82,16 +82,13 @@ fn find_fewest(waiting: &[usize], cells: &[u64]) -> usize
     requires within { All (λ v. v < length cells.now) waiting.now }
     ensures { IsFewestAt waiting.now cells.now result }
 {
-    let mut fewest = cells[waiting[0]];
-    'counts: for v in waiting {
-        fewest = fewest.min(cells[*v]);
-    }
-    'places: for (i, v) in waiting.iter().enumerate() {
-        if cells[*v] == fewest {
-            return i;
+    let mut place = 0;
+    'places: for i in 1..waiting.len() {
+        if cells[waiting[i]] < cells[waiting[place]] {
+            place = i;
         }
     }
-    unreachable!()
+    place
 }
 
 /// Joins the tables that hold v, which waits no more, and puts the table over their joined set without v in their place.
