@@ -1,7 +1,8 @@
 //! Lists of slots in arrays of fixed room: the first ones of an array.
 
-ghost use Rattle.std.specs.Prelude.{◌≡◌, ◌+◌, ◌<◌, ◌≤◌, [], ◌∷◌, ◌++◌, if◌then◌else◌, length, take, drop};
+ghost use Rattle.std.specs.Prelude.{◌≡◌, ◌+◌, ◌<◌, ◌≤◌, [], ◌∷◌, ◌++◌, if◌then◌else◌, length, slice_index_or, take, drop};
 ghost use Rattle.node_sets.specs.declared.sets.TheConstants.{MOST_NODES};
+ghost use Rattle.factor_core.specs.declared.slots.Slot.{Slot};
 ghost use Rattle.eliminate.specs.Steps.{slots_with, slots_without};
 
 use factor_core::Slot;
@@ -27,14 +28,29 @@ pub fn before(list: &[Slot], n: usize) -> &[Slot]
 }
 
 /// Writes the slot behind the first n, where it is asked for. Gives how many there are now.
-fn push_asked(list: &mut [Slot], n: usize, slot: Slot, asked: bool) -> usize
+fn push_asked(list: &mut [Slot], n: usize, slot: &Slot, asked: bool) -> usize
     requires { n < length list.old }
-    ensures list { take result list.new ≡ take n list.old ++ (if asked then slot ∷ [] else []) }
+    ensures list { take result list.new ≡ take n list.old ++ (if asked then slot.now ∷ [] else []) }
+    ensures few { result ≤ n + 1 }
+{
+    if asked {
+        list[n] = *slot;
+        n + 1
+    } else {
+        n
+    }
+}
+
+/// Moves the slot at a place up behind the first n, where it is asked for. Gives how many there are now.
+fn move_asked(list: &mut [Slot], n: usize, place: usize, asked: bool) -> usize
+    requires n { n ≤ place }
+    requires place { place < length list.old }
+    ensures list { (none : Slot) → take result list.new ≡ take n list.old ++ (if asked then slice_index_or list.old place none ∷ [] else []) }
     ensures rest { drop (n + 1) list.new ≡ drop (n + 1) list.old }
     ensures few { result ≤ n + 1 }
 {
     if asked {
-        list[n] = slot;
+        list[n] = list[place];
         n + 1
     } else {
         n
@@ -61,10 +77,9 @@ pub fn part_holding(slots: &mut [Slot], count: usize, node: usize, found: &mut [
     let mut held = 0;
     let mut left = 0;
     for i in 0..count {
-        let slot = slots[i];
-        let holds = slot.scope.holds(node);
-        held = push_asked(found, held, slot, holds);
-        left = push_asked(slots, left, slot, !holds);
+        let holds = slots[i].scope.holds(node);
+        held = push_asked(found, held, &slots[i], holds);
+        left = move_asked(slots, left, i, !holds);
     }
     Parted { held, left }
 }
