@@ -2,6 +2,7 @@ pub mod Loads
 pub mod Shifts
 pub mod Walking
 pub mod RunLemmas
+pub mod Turned
 pub mod Dots
 pub mod TwoRuns
 pub mod Collapse

@@ -54,6 +54,13 @@ pub record IsRun (a : Axis) (strides : List ℕ) (count : ℕ) : Type 0 where
   pub last : slice_index strides (count - 1) ≡ 1
   pub fixed : (i : ℕ) → i < count - 1 → slice_index strides i ≡ 0
 
+-- there are two operands, of which the first and the result move cell by cell along the axis, and the second stands
+pub record IsTurned (a : Axis) (strides : List ℕ) (count : ℕ) : Type 0 where
+  pub two : count ≡ 2
+  pub out : a.out ≡ 1
+  pub first : slice_index strides 0 ≡ 1
+  pub second : slice_index strides 1 ≡ 0
+
 -- along the axis the result stands, the operands from one on move cell by cell, and those before them stand
 pub record IsDot (a : Axis) (strides : List ℕ) (stand count : ℕ) : Type 0 where
   pub within : stand ≤ count

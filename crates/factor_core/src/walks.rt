@@ -3,7 +3,7 @@
 ghost use Rattle.std.specs.Prelude.{◌≡◌, ◌==◌, if◌then◌else◌, ℕ, ◌+◌, ◌*◌, ◌^◌, ◌<◌, ◌≤◌, length, take, drop, [], ◌∷◌, All, IsTrue, slice_index};
 ghost use Rattle.cell_rings.specs.Rings.{mass_ring};
 ghost use Rattle.cell_rings.specs.Sums.{ring_sum, cell_at, product_from, product_at, sizes_of, ProductFits, Adds, HasRoom};
-ghost use Rattle.factor_core.specs.Walks.{shifted, total, CanWalk, IsRun, IsDot, further, CanAddTwo};
+ghost use Rattle.factor_core.specs.Walks.{shifted, total, CanWalk, IsRun, IsTurned, IsDot, further, CanAddTwo};
 
 use cell_rings::Cell;
 
@@ -109,6 +109,31 @@ fn add_run<C: Cell>(
     let last = places.len() - 1;
     let factor = product(cells, before(places, last));
     C::add_scaled(out, at, axis.states, factor, cells, places[last]);
+}
+
+/// Whether the result and the first of two operands move cell by cell along the axis while the second stands.
+fn is_turned(axis: Axis, strides: &[usize], count: usize) -> bool
+    requires { count ≤ length strides.now }
+    ensures { IsTrue result → IsTurned axis strides.now count }
+{
+    count == 2 && axis.out == 1 && strides[0] == 1 && strides[1] == 0
+}
+
+/// The walk over one axis along which the first of two operands runs and the second stands.
+fn add_turned<C: Cell>(
+    axis: Axis,
+    strides: &[usize],
+    cells: &[C],
+    places: &[usize],
+    out: &mut [C],
+    at: usize,
+)
+    requires turned { IsTurned axis strides.now (length places.now) }
+    requires can { CanWalk C.ring cells.now (axis ∷ []) strides.now places.now out.old at }
+    ensures { Adds C.ring (total C.ring cells.now (axis ∷ []) strides.now places.now at) out.old out.new }
+{
+    let factor = cells[places[1]];
+    C::add_scaled(out, at, axis.states, factor, cells, places[0]);
 }
 
 /// The walks over a run at two states of the axis above it, whose strides stand first.
@@ -293,6 +318,10 @@ pub fn walk<C: Cell>(
     if axes.len() == 1 {
         if is_run(axis, strides, places.len()) {
             add_run(axis, strides, cells, places, out, at);
+            return;
+        }
+        if is_turned(axis, strides, places.len()) {
+            add_turned(axis, strides, cells, places, out, at);
             return;
         }
         let stand = count_standing(strides, places.len());

@@ -84,7 +84,14 @@ impl<C: Cell> Workspace<C> {
         requires room { cells_over diagram.now.nodes (first_table (cells_by C.ring C.of_weight C.of_value) diagram.now.nodes profile.now node).holds ≤ self.old.spare }
         ensures { AppendsTable C.ring diagram.now.nodes self.old self.new result (first_table (cells_by C.ring C.of_weight C.of_value) diagram.now.nodes profile.now node) }
     {
-        let slot = table_behind(diagram, counts.as_slice(), profile, node, self.cells.as_mut_slice(), self.used);
+        let slot = table_behind(
+            diagram,
+            counts.as_slice(),
+            profile,
+            node,
+            self.cells.as_mut_slice(),
+            self.used,
+        );
         self.used += slot.len;
         slot
     }
@@ -109,19 +116,21 @@ impl<C: Cell> Workspace<C> {
         requires room { cells_over diagram.now.nodes (sum_out C.ring (states_of diagram.now.nodes) node (tables_of C.ring diagram.now.nodes self.old.cells slots.now)).holds ≤ self.old.spare }
         ensures { AppendsTable C.ring diagram.now.nodes self.old self.new result (sum_out C.ring (states_of diagram.now.nodes) node (tables_of C.ring diagram.now.nodes self.old.cells slots.now)) }
     {
-        let slot = join_behind(diagram, counts.as_slice(), slots, node, self.cells.as_mut_slice(), self.used);
+        let slot = join_behind(
+            diagram,
+            counts.as_slice(),
+            slots,
+            node,
+            self.cells.as_mut_slice(),
+            self.used,
+        );
         self.used += slot.len;
         slot
     }
 
     /// The product of the slots: over their nodes, and in each world the product of their cells. Without a slot it has
     /// the one cell `one`.
-    pub fn product(
-        &mut self,
-        diagram: &Diagram,
-        counts: &StateCounts,
-        slots: &[Slot],
-    ) -> Slot
+    pub fn product(&mut self, diagram: &Diagram, counts: &StateCounts, slots: &[Slot]) -> Slot
         requires diagram { IsDiagram diagram.now }
         requires counts { counts.now ≡ counts_of diagram.now.nodes }
         requires few { length slots.now ≤ 256 }
@@ -130,7 +139,13 @@ impl<C: Cell> Workspace<C> {
         requires room { cells_over diagram.now.nodes (product_table C.ring (tables_of C.ring diagram.now.nodes self.old.cells slots.now)).holds ≤ self.old.spare }
         ensures { AppendsTable C.ring diagram.now.nodes self.old self.new result (product_table C.ring (tables_of C.ring diagram.now.nodes self.old.cells slots.now)) }
     {
-        let slot = product_behind(diagram, counts.as_slice(), slots, self.cells.as_mut_slice(), self.used);
+        let slot = product_behind(
+            diagram,
+            counts.as_slice(),
+            slots,
+            self.cells.as_mut_slice(),
+            self.used,
+        );
         self.used += slot.len;
         slot
     }
