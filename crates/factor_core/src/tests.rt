@@ -1,6 +1,7 @@
 //! The cells of small tables, over each kind of cell.
 
 ghost use Rattle.std.specs.Prelude.{◌≡◌, ◌+◌, ◌*◌, ◌<◌, ◌≤◌, ℕ, All, IfOk, length, true, [], ◌∷◌};
+ghost use Rattle.maid_model.specs.Nodes.{counts_of};
 ghost use Rattle.node_sets.specs.Sets.{holds, IsIn};
 ghost use Rattle.factor_core.specs.declared.slots.Slot.{Slot};
 ghost use Rattle.factor_core.specs.Scopes.{united};
@@ -42,10 +43,12 @@ fn coins(alloc: Global) -> Result<Diagram, AllocError>
 fn first<C: Cell>(
     work: &mut Workspace<C>,
     diagram: &Diagram,
+    counts: &StateCounts,
     profile: &Profile,
     node: usize,
 ) -> Slot
     requires diagram { diagram.now ≡ coins_diagram }
+    requires counts { counts.now ≡ counts_of diagram.now.nodes }
     requires profile { profile.now ≡ [] }
     requires node { node < 2 }
     requires most { 16777216 ≤ C.ring.most }
@@ -53,7 +56,7 @@ fn first<C: Cell>(
     ensures grows { Grows C.ring work.old work.new result 49 }
     ensures own { IsIn result.scope node }
 {
-    work.table(diagram, &StateCounts::of(diagram), profile, node)
+    work.table(diagram, counts, profile, node)
 }
 
 fn multiply<C: Cell>(work: &mut Workspace<C>, diagram: &Diagram, slots: &[Slot]) -> Slot
@@ -169,8 +172,9 @@ fn rows<C: Cell + PartialEq>(
     requires most { 16777216 ≤ C.ring.most }
 {
     let mut work = Workspace::<C>::reserve(alloc, 64)?;
-    let left = first(&mut work, diagram, profile, 0);
-    let right = first(&mut work, diagram, profile, 1);
+    let counts = StateCounts::of(diagram);
+    let left = first(&mut work, diagram, &counts, profile, 0);
+    let right = first(&mut work, diagram, &counts, profile, 1);
     let both = multiply(&mut work, diagram, &[left, right]);
     compare(rt, &work, &both, &[10, 14, 15, 21]);
     let summed = add_up(&mut work, diagram, &[both], 0);

@@ -297,6 +297,35 @@ fn add_line<C: Cell>(
     retreat(places, strides, axis.states);
 }
 
+/// The walk over one axis, by runs where the operands allow.
+fn add_axis<C: Cell>(
+    axis: Axis,
+    strides: &[usize],
+    cells: &[C],
+    places: &mut [usize],
+    out: &mut [C],
+    at: usize,
+)
+    requires { CanWalk C.ring cells.now (axis ∷ []) strides.now places.old out.old at }
+    ensures adds { Adds C.ring (total C.ring cells.now (axis ∷ []) strides.now places.old at) out.old out.new }
+    ensures places { places.new ≡ places.old }
+{
+    if is_run(axis, strides, places.len()) {
+        add_run(axis, strides, cells, places, out, at);
+        return;
+    }
+    if is_turned(axis, strides, places.len()) {
+        add_turned(axis, strides, cells, places, out, at);
+        return;
+    }
+    let stand = count_standing(strides, places.len());
+    if is_dot(axis, strides, stand, places.len()) {
+        add_dot(axis, stand, strides, cells, places, out, at);
+        return;
+    }
+    add_line(axis, strides, cells, places, out, at);
+}
+
 /// Adds to each cell of the result what the walk over the axes leads there.
 pub fn walk<C: Cell>(
     axes: &[Axis],
@@ -316,20 +345,7 @@ pub fn walk<C: Cell>(
     }
     let axis = axes[0];
     if axes.len() == 1 {
-        if is_run(axis, strides, places.len()) {
-            add_run(axis, strides, cells, places, out, at);
-            return;
-        }
-        if is_turned(axis, strides, places.len()) {
-            add_turned(axis, strides, cells, places, out, at);
-            return;
-        }
-        let stand = count_standing(strides, places.len());
-        if is_dot(axis, strides, stand, places.len()) {
-            add_dot(axis, stand, strides, cells, places, out, at);
-            return;
-        }
-        add_line(axis, strides, cells, places, out, at);
+        add_axis(axis, strides, cells, places, out, at);
         return;
     }
     let rest = after(axes, 1);
