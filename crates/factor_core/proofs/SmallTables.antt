@@ -1,27 +1,20 @@
 -- Products and sums of small cells are small. Only the tests cite this file.
-use Rattle.std.proofs.Common.{◌≡◌, ◌∙◌, ℕ, zero, suc, ◌+◌, ◌*◌, ◌<◌, ◌≤◌, Bool, true, false, cond, List, [], ◌∷◌, take, length, refl, sym, ap, subst, arith, All, pos, ℤ, nat_abs, mul-le-mul, le_trans, Contains, ◌↔◌, inl, inr}
-use Rattle.std.specs.Prelude.{slice_index_or}
+use Rattle.std.proofs.Common.{◌≡◌, ◌∙◌, ℕ, zero, suc, ◌*◌, ◌<◌, ◌≤◌, Bool, true, false, cond, List, [], ◌∷◌, take, length, refl, sym, ap, subst, arith, All, mul-le-mul, le_trans, Contains, ◌↔◌, inl, inr}
 use Rattle.finite_sums.specs.Sums.{World, InRange, with_state}
 use Rattle.finite_sums.proofs.Sums.{with_in}
 use Rattle.node_sets.specs.Sets.{holds}
-use Rattle.maid_model.specs.Nodes.{node_at, states_of, rows_under}
-use Rattle.maid_model.specs.declared.diagrams.Kind.TheVariants.{Chance, Decision}
-use Rattle.maid_model.specs.Profiles.{IsProfile}
+use Rattle.maid_model.specs.Nodes.{states_of, rows_under}
 use Rattle.cell_rings.specs.Rings.{Ring, IsRing, IsSize, mass_ring}
 use Rattle.cell_rings.specs.Sums.{ring_sum}
 use Rattle.cell_rings.proofs.Adding.{size_sum}
 use Rattle.ring_sums.specs.Groups.{sizes, ProductsFit, JoinFits}
 use Rattle.ring_sums.specs.Tables.{Table, product_of, sum_out}
 use Rattle.ring_sums.proofs.Bounds.{size_product}
-use Rattle.ring_sums.proofs.Sums.{sum_cong}
-use Rattle.cell_rings.specs.RingLaws.{mass_is_ring}
 use Rattle.finite_sums.specs.Members.{Among}
 use Rattle.maid_laws.proofs.Members.{among_of, contains_of}
 use Rattle.ring_sums.proofs.Each.{Each}
-use Rattle.plan_sums.specs.Plans.{Cells}
 use Rattle.factor_core.specs.declared.slots.Slot.{Slot}
-use Rattle.factor_core.specs.Operations.{first_table, NumbersFit, SumFits}
-use Rattle.factor_core.specs.Slots.{WorkspaceView, IsLive, StaysLive, nodes_in, cells_over, tables_of, AppendsTable}
+use Rattle.factor_core.specs.Slots.{WorkspaceView, IsLive, StaysLive, cells_over, tables_of, AppendsTable}
 use Rattle.factor_core.specs.Trials.{two_coins, IsSmall, Grows}
 
 -- no table over the two has more than four cells

@@ -1,4 +1,4 @@
-use Rattle.std.proofs.Common.{◌+◌, ◌-◌, true, length, ap, sym, arith}
+use Rattle.std.proofs.Common.{◌+◌, true, length, ap, sym, arith}
 use Rattle.node_sets.specs.Sets.{holds}
 use Rattle.factor_core.proofs.Listing.{counted_more, listed_gap, listed_last}
 use Rattle.factor_core.proofs.Scoping.{not_held}

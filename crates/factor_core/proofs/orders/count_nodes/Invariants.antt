@@ -1,4 +1,4 @@
-use Rattle.std.proofs.Common.{◌≡◌, ◌-◌, ◌≤◌, ◌+◌, ◌++◌, length, take}
+use Rattle.std.proofs.Common.{◌≡◌, ◌-◌, ◌≤◌, ◌+◌, length}
 use Rattle.node_sets.specs.Sets.{holds}
 use Rattle.factor_core.specs.Tables.{listed}
 use Rattle.factor_core.proofs.orders.count_nodes.Given as goal

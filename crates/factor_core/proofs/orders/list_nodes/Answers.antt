@@ -1,4 +1,4 @@
-use Rattle.std.proofs.Common.{rules, ◌∙◌, ◌++◌, ◌∷◌, [], ◌+◌, ◌-◌, true, take, length, ap, sym, arith}
+use Rattle.std.proofs.Common.{rules, ◌∙◌, ◌++◌, true, take, ap, sym, arith}
 use Rattle.std.proofs.lemmas.List.{take_more_set, append-nil}
 use Rattle.node_sets.specs.Sets.{holds}
 use Rattle.factor_core.proofs.Listing.{listed_more, listed_gap, listed_last, room_more}
