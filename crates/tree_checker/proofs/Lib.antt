@@ -1,0 +1,15 @@
+mod ProductSteps
+mod Listed
+mod FractionTold
+mod OrderSteps
+mod BaseSteps
+mod PartRules
+mod RowClash
+mod ScopeParts
+mod RowTransfer
+mod LineLaws
+mod OneVerdictLaw
+mod FirstLines
+mod AgentParts
+mod SoundLaws
+mod ExampleReports

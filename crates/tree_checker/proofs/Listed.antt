@@ -1,0 +1,81 @@
+-- Lists of those of the first numbers that pass a test, and the goals of a decision among them.
+use Rattle.std.proofs.Common.{◌≡◌, ◌∙◌, ◌↔◌, ℕ, zero, suc, ◌+◌, ◌<◌, Bool, true, false, ◌&&◌, cond, List, [], ◌∷◌, ◌++◌, filter, length, sym, ap, refl, inl, inr, arith}
+use Rattle.std.proofs.lemmas.List.Elements.{filter-append}
+use Rattle.std.specs.List.{range_with_len}
+use Rattle.finite_sums.specs.Members.{Among}
+use Rattle.finite_sums.proofs.Members.{any_is}
+use Rattle.node_sets.specs.declared.sets.NodeSet.{NodeSet}
+use Rattle.node_sets.specs.Sets.{holds, IsIn}
+use Rattle.maid_model.specs.declared.diagrams.Kind.{Kind}
+use Rattle.maid_model.specs.declared.diagrams.Kind.TheVariants.{Chance, Decision, Utility}
+use Rattle.maid_model.specs.Graph.{descends}
+use Rattle.maid_model.specs.Laws.{TestsDescent}
+use Rattle.maid_model.specs.Nodes.{agent_of, is_utility, is_utility_of, node_at, numbers_of, owners_of, owns, IsOwnedBy}
+use Rattle.maid_model.specs.Relevance.{IsGoal}
+use Rattle.maid_model.specs.Scopes.{goals_of}
+use Rattle.maid_model.specs.Views.{NodeView}
+use Rattle.maid_laws.proofs.Rearranged.{numbered}
+use Rattle.part_laws.proofs.PartSums.{and_both}
+
+range_push : (k n : ℕ) → range_with_len k (suc n) ≡ range_with_len k n ++ (k + n) ∷ []
+range_push k zero = ap (λ x. x ∷ []) (omega arith)
+range_push k (suc n) = ap (λ x. k ∷ x) (range_push (k + 1) n ∙ ap (λ x. range_with_len (k + 1) n ++ x ∷ []) (omega arith))
+
+append-nil : (xs : List ℕ) → xs ++ [] ≡ xs
+append-nil [] = refl
+append-nil (x ∷ xs) = ap (λ l. x ∷ l) (append-nil xs)
+
+-- one number more, which is kept where it passes the test
+pub filter_push : (p : ℕ → Bool) (n : ℕ) → filter p (range_with_len 0 (n + 1)) ≡ filter p (range_with_len 0 n) ++ cond (p n) (n ∷ []) []
+filter_push p n =
+    ap (λ m. filter p (range_with_len 0 m)) (one n) ∙ ap (filter p) (range_push 0 n ∙ ap (λ x. range_with_len 0 n ++ x ∷ []) (none n))
+    ∙ filter-append p (range_with_len 0 n) (n ∷ [])
+  where
+    one : (n : ℕ) → n + 1 ≡ suc n
+    one n = omega arith
+
+    none : (n : ℕ) → 0 + n ≡ n
+    none n = omega arith
+
+pub filter_yes : (p : ℕ → Bool) (n : ℕ) → p n ≡ true → filter p (range_with_len 0 (n + 1)) ≡ filter p (range_with_len 0 n) ++ n ∷ []
+filter_yes p n e = filter_push p n ∙ ap (λ b. filter p (range_with_len 0 n) ++ cond b (n ∷ []) []) e
+
+pub filter_no : (p : ℕ → Bool) (n : ℕ) → p n ≡ false → filter p (range_with_len 0 (n + 1)) ≡ filter p (range_with_len 0 n)
+filter_no p n e = filter_push p n ∙ ap (λ b. filter p (range_with_len 0 n) ++ cond b (n ∷ []) []) e ∙ append-nil (filter p (range_with_len 0 n))
+
+-- tests that say the same of each member keep the same
+filter_same : (p q : ℕ → Bool) (xs : List ℕ) → ((x : ℕ) → Among x xs → p x ≡ q x) → filter p xs ≡ filter q xs
+filter_same p q [] h = refl
+filter_same p q (x ∷ xs) h = (λ i. cond (h x (inl refl) i) (x ∷ filter_same p q xs (λ y m. h y (inr m)) i) (filter_same p q xs (λ y m. h y (inr m)) i))
+
+-- tests of one fact
+pub same_test : (b c : Bool) → (b ≡ true → c ≡ true) → (c ≡ true → b ≡ true) → b ≡ c
+same_test true c f g = sym (f refl)
+same_test false true f g = g refl
+same_test false false f g = refl
+
+utility_kind : (k : Kind) → is_utility k ≡ true → k ≡ Utility
+utility_kind Chance e = absurd (cc)
+utility_kind Decision e = absurd (cc)
+utility_kind Utility e = refl
+
+-- ---- the goals
+module _ (nodes : List NodeView) (d : ℕ) (set : NodeSet) (marks : (v : ℕ) → IsIn set v ↔ IsGoal nodes d v) (tested : TestsDescent) where
+  passes : (u : ℕ) → IsGoal nodes d u → (is_utility_of nodes (agent_of nodes d) u && descends nodes d u) ≡ true
+  passes u h = λ i. (ap is_utility h.kind i && (any_is (agent_of nodes d) (owners_of nodes u)).1 h.owner i) && (tested nodes d u).1 h.below i
+
+  goal_of : (u : ℕ) → u < length nodes → (is_utility_of nodes (agent_of nodes d) u && descends nodes d u) ≡ true → IsGoal nodes d u
+  goal_of u l e =
+      let both = and_both (is_utility_of nodes (agent_of nodes d) u) (descends nodes d u) e in
+      let own = and_both (is_utility (node_at nodes u).kind) (owns nodes (agent_of nodes d) u) both.0 in
+      record { within = l; kind = utility_kind (node_at nodes u).kind own.0; owner = (any_is (agent_of nodes d) (owners_of nodes u)).0 own.1; below = (tested nodes d u).0 both.1 }
+
+  pub goals_listed : filter (holds set) (numbers_of nodes) ≡ goals_of nodes d
+  goals_listed = filter_same (holds set) (λ u. is_utility_of nodes (agent_of nodes d) u && descends nodes d u) (numbers_of nodes)
+      (λ u m. same_test (holds set u) (is_utility_of nodes (agent_of nodes d) u && descends nodes d u) (λ e. passes u ((marks u).0 e)) (λ e. (marks u).1 (goal_of u (numbered nodes u m) e)))
+
+-- ---- the utilities of an agent
+pub utility_owned : (nodes : List NodeView) (v agent : ℕ) → v < length nodes → (node_at nodes v).kind ≡ Utility → (b : Bool) → (b ≡ true ↔ IsOwnedBy nodes v agent) → b ≡ is_utility_of nodes agent v
+utility_owned nodes v agent l kind b told =
+    same_test b (owns nodes agent v) (λ t. (any_is agent (owners_of nodes v)).1 (told.0 t).owner) (λ t. told.1 (record { within = l; kind = inr kind; owner = (any_is agent (owners_of nodes v)).0 t }))
+    ∙ ap (λ x. x && owns nodes agent v) (sym (ap is_utility kind))

@@ -1,0 +1,41 @@
+use Rattle.std.proofs.Common.{◌∙◌, ◌*◌, sym, subst}
+use Rattle.maid_model.specs.Answers.{no_row}
+use Rattle.maid_model.specs.Nodes.{states_of}
+use Rattle.maid_model.specs.Scopes.{scope_of}
+use Rattle.tree_checker.specs.Judged.{FailsListed, JudgesRows, PassesListed}
+use Rattle.tree_checker.proofs.RowTransfer.{gain_count, mass_count, rows_judged}
+use Rattle.tree_checker.proofs.rows.answer_fault.Goals as goal
+
+pub scope_sums-requires-clause-rules : goal.scope_sums-requires-clause-rules
+scope_sums-requires-clause-rules c = c.scoped_sums_fit.ensures.bases c.args.diagram.now.nodes c.args.chosen.now c.in_ok-base.base c.args.decision c.states-states.ensures.diagram.graph c.requires.pure c.in_ok-base.ensures
+
+pub first_fault-requires-clause-gains : goal.first_fault-requires-clause-gains
+first_fault-requires-clause-gains c =
+    let d = c.args.diagram.now in
+    gain_count d c.in_ok-base.base c.args.decision c.states-states.ensures.diagram.graph c.requires.decision c.parts_are_diagrams.ensures.nodes c.scopes_are_parts.ensures.decisions c.in_ok-sums.sums.gains.items c.in_ok-sums.sums.masses.items c.in_ok-sums.ensures
+    ∙ (λ i. sym c.requires.count i * sym c.states-states.ensures.states i)
+
+pub first_fault-requires-clause-masses : goal.first_fault-requires-clause-masses
+first_fault-requires-clause-masses c =
+    let d = c.args.diagram.now in
+    mass_count d c.in_ok-base.base c.args.decision c.states-states.ensures.diagram.graph c.requires.decision c.parts_are_diagrams.ensures.nodes c.scopes_are_parts.ensures.decisions c.in_ok-sums.sums.gains.items c.in_ok-sums.sums.masses.items c.in_ok-sums.ensures
+    ∙ sym c.requires.count
+
+pub returns : goal.returns
+returns c =
+    let d = c.args.diagram.now in
+    let v = c.args.decision in
+    let g = c.states-states.ensures.diagram.graph in
+    let t = c.states-states.ensures.diagram.tables in
+    let base = c.in_ok-base.base in
+    let scope = c.scopes_are_parts.ensures.decisions d.nodes v g c.requires.decision in
+    record {
+      base = base;
+      is_base = c.in_ok-base.ensures;
+      judged = rows_judged d base v g c.requires.decision c.parts_are_diagrams.ensures.nodes c.scopes_are_parts.ensures.decisions c.in_ok-sums.sums.gains.items c.in_ok-sums.sums.masses.items c.in_ok-sums.ensures
+          (λ row. c.parts_decide.ensures.choices d.nodes base (scope_of d.nodes v) v row g t c.in_ok-base.ensures.profile scope.0 c.requires.decision scope.2 scope.3)
+          (λ row. c.law_of_parts.ensures.masses d.nodes base (scope_of d.nodes v) v row g t c.in_ok-base.ensures.profile scope.0 c.requires.decision scope.2)
+          c.args.rows.now c.requires.count (λ row l. c.requires.choices row no_row l) c.first_fault.result
+          (subst (λ n. JudgesRows (PassesListed c.in_ok-sums.sums.gains.items c.in_ok-sums.sums.masses.items (states_of d.nodes v) n) (FailsListed c.in_ok-sums.sums.gains.items c.in_ok-sums.sums.masses.items (states_of d.nodes v) n) c.args.rows.now c.first_fault.result) c.scale_of.ensures.scale
+          (subst (λ n. JudgesRows (PassesListed c.in_ok-sums.sums.gains.items c.in_ok-sums.sums.masses.items n c.scale_of.result) (FailsListed c.in_ok-sums.sums.gains.items c.in_ok-sums.sums.masses.items n c.scale_of.result) c.args.rows.now c.first_fault.result) c.states-states.ensures.states c.first_fault.ensures));
+    }

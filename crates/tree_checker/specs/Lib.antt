@@ -1,0 +1,5 @@
+pub mod Verdicts
+pub mod Sound
+pub mod Laws
+pub mod Judged
+pub mod Example

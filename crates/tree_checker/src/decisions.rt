@@ -1,0 +1,93 @@
+//! The gains and masses of a decision, listed.
+
+ghost use Rattle.std.specs.Prelude.{◌≡◌, ◌∷◌, ◌*◌, ◌^◌, ◌≤◌, max, IfOk};
+ghost use Rattle.maid_model.specs.Diagrams.{greatest_number};
+ghost use Rattle.maid_model.specs.Gains.{base_mass, greatest_utility};
+ghost use Rattle.maid_model.specs.Nodes.{IsDecision};
+ghost use Rattle.maid_model.specs.Profiles.{IsProfile};
+ghost use Rattle.maid_model.specs.Scopes.{KeepsScopedBounds, goals_of};
+ghost use Rattle.part_laws.specs.ScopeLaws.{HasSmallRules};
+ghost use Rattle.tree_checker.specs.Judged.{ListsScopeSums, ListsSums};
+
+use crate::parts::{place_of, stage_of};
+use maid_model::{Diagram, Profile, World, base_sums, descent_is_tested, goals_of};
+use part_laws::{parts_are_diagrams, scoped_sums_fit, scopes_are_parts};
+use std::alloc::{AllocError, Global};
+
+/// What the states of a decision gain in each row, and how much mass each row has.
+#[derive(Drop)]
+pub(crate) struct RowSums {
+    /// A gain for each row and state, the first parent slowest and the decision's own state fastest.
+    pub gains: Vec<i128>,
+    /// A mass for each row.
+    pub masses: Vec<u128>,
+}
+
+/// The decision, and then its goals in text order.
+fn ends_of(alloc: Global, diagram: &Diagram, decision: usize) -> Result<Vec<usize>, AllocError>
+    requires { IsDecision diagram.now.nodes decision }
+    ensures { IfOk result (λ ends. ends.items ≡ decision ∷ goals_of diagram.now.nodes decision) }
+{
+    // The test of descent says where a path leads.
+    descent_is_tested();
+    let goals = goals_of(diagram, decision);
+    let mut ends = Vec::new(alloc);
+    ends.push(decision)?;
+    for v in 0..diagram.count() {
+        if goals.holds(v) {
+            ends.push(v)?;
+        }
+    }
+    Ok(ends)
+}
+
+/// The gains and masses of the decision against the profile, over all worlds of the diagram. It goes through them once.
+fn sums_over(
+    alloc: Global,
+    diagram: &Diagram,
+    profile: &Profile,
+    decision: usize,
+) -> Result<RowSums, AllocError>
+    requires decision { IsDecision diagram.now.nodes decision }
+    requires profile { IsProfile diagram.now.nodes profile.now }
+    requires fits { base_mass diagram.now.nodes profile.now decision * max (10 ^ diagram.now.decimals) (greatest_utility diagram.now.nodes) ≤ greatest_number }
+    ensures { IfOk result (λ sums. ListsSums diagram.now profile.now decision sums.gains.items sums.masses.items) }
+{
+    let rows = diagram.rows(decision);
+    let mut gains = vec![in alloc; 0; rows * diagram.states(decision)]?;
+    let mut masses = vec![in alloc; 0; rows]?;
+    let mut world = World::first(alloc, diagram)?;
+    base_sums(
+        diagram,
+        profile,
+        decision,
+        &mut world,
+        &mut gains,
+        &mut masses,
+    );
+    Ok(RowSums { gains, masses })
+}
+
+/// The gains and masses of the decision against the base, over the worlds of the part that the decision's scope makes.
+pub(crate) fn scope_sums(
+    alloc: Global,
+    diagram: &Diagram,
+    base: &Profile,
+    decision: usize,
+) -> Result<RowSums, AllocError>
+    requires decision { IsDecision diagram.now.nodes decision }
+    requires base { IsProfile diagram.now.nodes base.now }
+    requires rules { HasSmallRules diagram.now.nodes base.now decision }
+    requires bound { KeepsScopedBounds diagram.now }
+    ensures { IfOk result (λ sums. ListsScopeSums diagram.now base.now decision sums.gains.items sums.masses.items) }
+{
+    // The part is a diagram with the decision in it, and its sums have room.
+    parts_are_diagrams();
+    scopes_are_parts();
+    scoped_sums_fit();
+    let _count = diagram.count();
+    let ends = ends_of(alloc, diagram, decision)?;
+    let stage = stage_of(alloc, diagram, base, &ends)?;
+    let place = place_of(&stage.part.nodes, decision);
+    sums_over(alloc, &stage.part.diagram, &stage.rules, place)
+}

@@ -1,0 +1,116 @@
+//! What a report prints for each agent.
+
+ghost use Rattle.std.specs.Prelude.{◌≡◌, ◌<◌, ◌≤◌, ◌↔◌, ◌^◌, ◌*◌, ℕ, All, IfOk, IsTrue, length};
+ghost use Rattle.maid_model.specs.Answers.{IsExpectedUtility, IsReduced};
+ghost use Rattle.maid_model.specs.Diagrams.{greatest_number};
+ghost use Rattle.maid_model.specs.Gains.{mass};
+ghost use Rattle.maid_model.specs.Nodes.{is_utility_of};
+ghost use Rattle.maid_model.specs.Profiles.{IsProfile};
+ghost use Rattle.maid_model.specs.Scopes.{KeepsScopedBounds, utilities_for};
+ghost use Rattle.maid_model.specs.Tables.{weight_total};
+ghost use Rattle.part_laws.specs.ScopeLaws.{HasUnitRules};
+ghost use Rattle.tree_checker.specs.Judged.{JudgesGains};
+
+use crate::parts::stage_of;
+use crate::rows::{is_fraction, scale_of};
+use maid_model::{Diagram, Kind, Profile, Ratio, World, leaf_sum, profile_has_rules};
+use std::alloc::{AllocError, Global};
+
+/// Whether the node is a utility of the agent.
+fn is_utility_of(diagram: &Diagram, agent: usize, v: usize) -> bool
+    requires { v < length diagram.now.nodes }
+    ensures { result ≡ is_utility_of diagram.now.nodes agent v }
+{
+    match diagram.kind(v) {
+        Kind::Utility => diagram.owns(agent, v),
+        Kind::Chance | Kind::Decision => false,
+    }
+}
+
+/// The utilities of the agent, in text order.
+fn utilities_of(alloc: Global, diagram: &Diagram, agent: usize) -> Result<Vec<usize>, AllocError>
+    ensures { IfOk result (λ list. list.items ≡ utilities_for diagram.now.nodes agent) }
+{
+    let mut list = Vec::new(alloc);
+    for v in 0..diagram.count() {
+        if is_utility_of(diagram, agent, v) {
+            list.push(v)?;
+        }
+    }
+    Ok(list)
+}
+
+/// What each row of the node's table or rule adds up to; 1 at a utility.
+fn total_of(diagram: &Diagram, profile: &Profile, v: usize) -> u128
+    requires node { v < length diagram.now.nodes }
+    requires profile { IsProfile diagram.now.nodes profile.now }
+    ensures { result ≡ weight_total diagram.now.nodes profile.now v }
+{
+    // A profile has a rule for each decision.
+    profile_has_rules();
+    match diagram.kind(v) {
+        Kind::Chance => diagram.weight_total(v),
+        Kind::Decision => profile.rule(v).total,
+        Kind::Utility => 1,
+    }
+}
+
+/// The mass of the profile: the product of all tables' and rules' totals.
+fn mass_of(diagram: &Diagram, profile: &Profile) -> u128
+    requires profile { IsProfile diagram.now.nodes profile.now }
+    requires fits { mass diagram.now.nodes profile.now ≤ greatest_number }
+    ensures { result ≡ mass diagram.now.nodes profile.now }
+{
+    let mut mass = 1;
+    for v in 0..diagram.count() {
+        mass *= total_of(diagram, profile, v);
+    }
+    mass
+}
+
+/// Whether the fraction is what the chosen rules are worth to the agent, by the worlds of the part that the agent's
+/// utilities and their ancestors make. It goes through them once.
+fn is_gain(
+    alloc: Global,
+    diagram: &Diagram,
+    chosen: &Profile,
+    agent: usize,
+    gain: &Ratio,
+) -> Result<bool, AllocError>
+    requires agent { agent < diagram.now.agents }
+    requires chosen { IsProfile diagram.now.nodes chosen.now }
+    requires pure { HasUnitRules diagram.now.nodes chosen.now }
+    requires bound { KeepsScopedBounds diagram.now }
+    requires reduced { IsReduced gain.now }
+    ensures { IfOk result (λ is. IsTrue is ↔ IsExpectedUtility diagram.now.nodes (10 ^ diagram.now.decimals) chosen.now agent gain.now) }
+{
+    let _count = diagram.count();
+    let utilities = utilities_of(alloc, diagram, agent)?;
+    let stage = stage_of(alloc, diagram, chosen, &utilities)?;
+    let mut world = World::first(alloc, &stage.part.diagram)?;
+    let sum = leaf_sum(&stage.part.diagram, &stage.rules, agent, &mut world);
+    let mass = mass_of(&stage.part.diagram, &stage.rules);
+    Ok(is_fraction(*gain, sum, mass * scale_of(diagram)))
+}
+
+/// The first agent for which something else is printed than what the chosen rules are worth to it.
+pub(crate) fn first_wrong_gain(
+    alloc: Global,
+    diagram: &Diagram,
+    chosen: &Profile,
+    gains: &[Ratio],
+) -> Result<Option<usize>, AllocError>
+    requires chosen { IsProfile diagram.now.nodes chosen.now }
+    requires pure { HasUnitRules diagram.now.nodes chosen.now }
+    requires bound { KeepsScopedBounds diagram.now }
+    requires count { length gains.now ≡ diagram.now.agents }
+    requires reduced { All IsReduced gains.now }
+    ensures { IfOk result (JudgesGains diagram.now chosen.now gains.now) }
+{
+    for (agent, gain) in gains.iter().enumerate() {
+        if !is_gain(alloc, diagram, chosen, agent, gain)? {
+            return Ok(Some(agent));
+        }
+    }
+    Ok(None)
+}

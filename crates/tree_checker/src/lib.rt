@@ -1,0 +1,21 @@
+//! The check of a finished report: whether its order, its choices, its marks and its numbers are right, by sums over
+//! lists of worlds. It shares nothing with the solver but the relevance graph and the sums of `maid_model`.
+#![tactic(auto)]
+
+mod bases;
+mod checking;
+mod counting;
+mod decisions;
+mod gains;
+mod laws;
+mod orders;
+mod parts;
+mod rows;
+#[cfg(test)]
+mod tests;
+mod verdicts;
+
+pub use checking::check;
+pub use counting::leaves;
+pub use laws::{accepted_reports_are_sound, verdicts_are_one};
+pub use verdicts::{Cause, Verdict};
