@@ -1,2 +1,17 @@
 pub mod Parents
 pub mod Rows
+pub mod OneCut
+pub mod Digits
+pub mod Fractions
+pub mod Tails
+pub mod InOrder
+pub mod Stops
+pub mod Unended
+pub mod Turns
+pub mod OneLine
+pub mod ReportLines
+pub mod Standing
+pub mod Places
+pub mod OneText
+pub mod ReadingLaws
+pub mod BadLines

@@ -1,10 +1,21 @@
-//! The report of an answered diagram, printed.
+//! The report of an answered diagram, printed and read. A report is one text for one value: what is printed reads back
+//! as the value, and what is read prints as the text.
 #![tactic(auto)]
 
+mod cuts;
+mod laws;
+mod lines;
+mod next_lines;
+mod numbers;
+mod orders;
 mod pieces;
+mod reading;
 mod report;
+mod value_lines;
 
+pub use laws::reports_read_one_way;
 pub use pieces::print_ratio;
+pub use reading::{ReportFault, read_report};
 pub use report::{print_report, push_gains};
 
 #[cfg(test)]

@@ -5,8 +5,9 @@ ghost use Rattle.std.specs.List.{flat_map};
 ghost use Rattle.maid_model.specs.Answers.{FitsAnswer, FitsDiagram};
 ghost use Rattle.maid_model.specs.Names.{NamesFit, name_of, label_of, agent_name};
 ghost use Rattle.maid_model.specs.Nodes.{IsDecision, node_at, parents_of, states_of, rows_under, rows_of};
-ghost use Rattle.maid_model.specs.Reports.{choice_text, decision_head, decision_lines, gain_line, gain_lines, names_line, parent_states, quoted, report, row_line, spaced, state_labels, worth_text};
+ghost use Rattle.maid_model.specs.Reports.{decision_head, decision_lines, gain_line, gain_lines, names_line, parent_states, quoted, report, row_line, spaced, state_labels, worth_text};
 ghost use Rattle.maid_model.specs.declared.diagrams.Kind.TheVariants.{Utility};
+ghost use Rattle.report_text.specs.Slots.{decision_words, gain_front, row_front, state_text};
 
 use crate::pieces::push_ratio;
 use line_pieces::{push_names, push_number, push_quoted};
@@ -86,27 +87,54 @@ fn push_worth(out: &mut Vec<u8>, worth: &Option<Ratio>) -> Result<(), AllocError
     }
 }
 
-// Appends the chosen state, by its number from 1 and its label, and what it is worth.
-#[tactic(auto, using(std::proofs::Common::append_assoc))]
-fn push_choice(
+/// Appends the chosen state, by its number from 1 and its label.
+pub(crate) fn push_state(
     out: &mut Vec<u8>,
     diagram: &Diagram,
     names: &Names,
     decision: usize,
-    row: &Row,
+    choice: usize,
 ) -> Result<(), AllocError>
     requires fit { NamesFit diagram.now names.now }
     requires decision { IsDecision diagram.now.nodes decision }
-    requires choice { row.now.choice < states_of diagram.now.nodes decision }
-    ensures { OnOk result (out.new.items ≡ out.old.items ++ choice_text names.now decision row.now) }
+    requires choice { choice < states_of diagram.now.nodes decision }
+    ensures { OnOk result (out.new.items ≡ out.old.items ++ state_text names.now decision choice) }
 {
-    out.extend_from_slice(b" -> ")?;
-    push_number(out, row.choice as u128 + 1)?;
-    push_label(out, diagram, names, decision, row.choice)?;
-    push_worth(out, &row.worth)
+    push_number(out, choice as u128 + 1)?;
+    push_label(out, diagram, names, decision, choice)
 }
 
-// Appends the line of one row. Rows are numbered from 0 here and from 1 in the text.
+/// Appends the line of one row up to its choice. Rows are numbered from 0 here and from 1 in the text.
+#[tactic(auto, using(std::proofs::Common::append_assoc))]
+pub(crate) fn push_row_front(
+    out: &mut Vec<u8>,
+    diagram: &Diagram,
+    names: &Names,
+    decision: usize,
+    rows: usize,
+    number: usize,
+) -> Result<(), AllocError>
+    requires fit { NamesFit diagram.now names.now }
+    requires decision { IsDecision diagram.now.nodes decision }
+    requires rows { rows ≡ rows_of diagram.now.nodes decision }
+    requires number { number < rows }
+    ensures { OnOk result (out.new.items ≡ out.old.items ++ row_front diagram.now.nodes names.now decision number) }
+{
+    out.extend_from_slice(b"row ")?;
+    push_number(out, number as u128 + 1)?;
+    out.push(b':')?;
+    push_states(
+        out,
+        diagram,
+        names,
+        parents_of(diagram, decision),
+        rows,
+        number,
+    )?;
+    out.extend_from_slice(b" -> ")
+}
+
+// Appends the line of one row.
 #[tactic(auto, using(std::proofs::Common::append_assoc))]
 fn push_row(
     out: &mut Vec<u8>,
@@ -124,18 +152,9 @@ fn push_row(
     requires choice { row.now.choice < states_of diagram.now.nodes decision }
     ensures { OnOk result (out.new.items ≡ out.old.items ++ row_line diagram.now.nodes names.now decision number row.now) }
 {
-    out.extend_from_slice(b"row ")?;
-    push_number(out, number as u128 + 1)?;
-    out.push(b':')?;
-    push_states(
-        out,
-        diagram,
-        names,
-        parents_of(diagram, decision),
-        rows,
-        number,
-    )?;
-    push_choice(out, diagram, names, decision, row)?;
+    push_row_front(out, diagram, names, decision, rows, number)?;
+    push_state(out, diagram, names, decision, row.choice)?;
+    push_worth(out, &row.worth)?;
     out.push(b'\n')?;
     Ok(())
 }
@@ -183,7 +202,27 @@ fn push_decisions(
     Ok(())
 }
 
-// Appends the line that names a decision, whose it is and what it sees.
+/// Appends the line that names a decision, whose it is and what it sees, without its end.
+#[tactic(auto, using(std::proofs::Common::append_assoc))]
+pub(crate) fn push_decision_words(
+    out: &mut Vec<u8>,
+    diagram: &Diagram,
+    names: &Names,
+    decision: usize,
+) -> Result<(), AllocError>
+    requires fit { NamesFit diagram.now names.now }
+    requires decision { IsDecision diagram.now.nodes decision }
+    ensures { OnOk result (out.new.items ≡ out.old.items ++ decision_words diagram.now.nodes names.now decision) }
+{
+    out.extend_from_slice(b"decision ")?;
+    out.extend_from_slice(names.name(decision))?;
+    out.extend_from_slice(b" by ")?;
+    push_quoted(out, names.agent(diagram.agent_of(decision)))?;
+    out.extend_from_slice(b" sees")?;
+    push_names(out, names, parents_of(diagram, decision))
+}
+
+// Appends that line.
 #[tactic(auto, using(std::proofs::Common::append_assoc))]
 fn push_head(
     out: &mut Vec<u8>,
@@ -195,24 +234,33 @@ fn push_head(
     requires decision { IsDecision diagram.now.nodes decision }
     ensures { OnOk result (out.new.items ≡ out.old.items ++ decision_head diagram.now.nodes names.now decision) }
 {
-    out.extend_from_slice(b"decision ")?;
-    out.extend_from_slice(names.name(decision))?;
-    out.extend_from_slice(b" by ")?;
-    push_quoted(out, names.agent(diagram.agent_of(decision)))?;
-    out.extend_from_slice(b" sees")?;
-    push_names(out, names, parents_of(diagram, decision))?;
+    push_decision_words(out, diagram, names, decision)?;
     out.push(b'\n')?;
     Ok(())
 }
 
-// Appends the line of what the plan is worth to an agent.
+/// Appends the line of what the plan is worth to an agent, up to the number.
+#[tactic(auto, using(std::proofs::Common::append_assoc))]
+pub(crate) fn push_gain_front(
+    out: &mut Vec<u8>,
+    names: &Names,
+    agent: usize,
+) -> Result<(), AllocError>
+    requires { agent < length names.now.agents }
+    ensures { OnOk result (out.new.items ≡ out.old.items ++ gain_front names.now agent) }
+{
+    out.extend_from_slice(b"agent ")?;
+    push_quoted(out, names.agent(agent))?;
+    out.extend_from_slice(b" = ")
+}
+
+// Appends that line.
+#[tactic(auto, using(std::proofs::Common::append_assoc))]
 fn push_gain(out: &mut Vec<u8>, names: &Names, agent: usize, gain: &Ratio) -> Result<(), AllocError>
     requires { agent < length names.now.agents }
     ensures { OnOk result (out.new.items ≡ out.old.items ++ gain_line names.now agent gain.now) }
 {
-    out.extend_from_slice(b"agent ")?;
-    push_quoted(out, names.agent(agent))?;
-    out.extend_from_slice(b" = ")?;
+    push_gain_front(out, names, agent)?;
     push_ratio(out, gain)?;
     out.push(b'\n')?;
     Ok(())

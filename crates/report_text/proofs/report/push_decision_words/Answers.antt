@@ -1,7 +1,7 @@
 -- A decision's agent is one of the diagram's.
 use Rattle.std.proofs.Common.{◌≡◌, length, refl, sym, ◌∙◌, arith}
 use Rattle.maid_model.specs.declared.diagrams.Kind.TheVariants.{Chance, Decision}
-use Rattle.report_text.proofs.report.push_head.Goals as goal
+use Rattle.report_text.proofs.report.push_decision_words.Goals as goal
 
 pub agent-requires : goal.agent-requires
 agent-requires c =

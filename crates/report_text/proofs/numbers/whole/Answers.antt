@@ -1,0 +1,26 @@
+-- A number is parsed back from its digits, and nothing is that prints otherwise.
+use Rattle.std.proofs.Common.{◌≡◌, ℕ, Bool, true, false, Ok, sym, ◌∙◌, ap, arith}
+use Rattle.std.specs.Prelude.{ℤ, decimal}
+use Rattle.std.specs.Fmt.{signed_decimal}
+use Rattle.std.proofs.lemmas.Slice.Eq.{bytes_eq-Decides}
+use Rattle.report_text.proofs.Digits.{parses_whole, whole_is_text, parses_signed, signed_is_text}
+use Rattle.report_text.proofs.numbers.whole.Goals as goal
+
+pub returns-in_default-clause-none : goal.returns-in_default-clause-none
+returns-in_default-clause-none c n h e = c.in_default.ensures.cases.0 (whole_is_text n c.args.bytes.now (omega (arith, h)) e)
+
+pub returns-in_default-parse-clause-none : goal.returns-in_default-parse-clause-none
+returns-in_default-parse-clause-none c n h e =
+    let read = parses_whole n c.in-Ok.text.now c.parse.result h (c.in-Ok.ensures.cases.0 ∙ e) c.parse.ensures.value.0 in
+    let fails = c.in_default-parse.is in
+    cc
+
+pub returns-else-eq-clause-none : goal.returns-else-eq-clause-none
+returns-else-eq-clause-none c n h e =
+    let read = parses_whole n c.in-Ok.text.now c.parse.result h (c.in-Ok.ensures.cases.0 ∙ e) c.parse.ensures.value.0 in
+    let is = c.in-Ok-parse.is in
+    let number : c.in-Ok-parse.number ≡ n = cc in
+    let same : c.format.result.now ≡ c.in-Ok.text.now = c.format.ensures.text ∙ ap decimal number ∙ sym e ∙ sym c.in-Ok.ensures.cases.0 in
+    let equal : c.eq.result ≡ true = c.eq.ensures ∙ (bytes_eq-Decides c.format.result.now c.in-Ok.text.now).1 same in
+    let differs = c.if-eq.false in
+    cc

@@ -1,0 +1,21 @@
+-- The diagram of the tests: a decision with two states and a utility, both of one agent.
+use Rattle.std.specs.Prelude.{ℕ, List, [], ◌∷◌, codes, pos}
+use Rattle.maid_model.specs.declared.diagrams.Kind.TheVariants.{Decision, Utility}
+use Rattle.maid_model.specs.Views.{NodeView, DiagramView}
+use Rattle.maid_model.specs.Names.{NamesView}
+
+abbrev pub tie_decision : NodeView
+tie_decision = record { kind = Decision; owner = 0; more = []; states = 2; parents = []; cells = [] }
+
+abbrev pub tie_utility : NodeView
+tie_utility = record { kind = Utility; owner = 0; more = []; states = 1; parents = 0 ∷ []; cells = pos 5 ∷ pos 5 ∷ [] }
+
+abbrev pub tie_diagram : DiagramView
+tie_diagram = record { nodes = tie_decision ∷ tie_utility ∷ []; agents = 1; decimals = 0 }
+
+abbrev pub tie_names : NamesView
+tie_names = record {
+  nodes = codes "D" ∷ codes "U" ∷ [];
+  labels = (codes "x" ∷ codes "y" ∷ []) ∷ [] ∷ [];
+  agents = codes "agent" ∷ [];
+}
