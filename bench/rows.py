@@ -9,6 +9,8 @@ the data alone and never from the program. CHANGES are the numbers of the change
 ends it. To take up a new form of words, add it to FORMS and run this again. Of a row that tells only that a line is among those of `out`,
 no more than the status and `err` are compared.
 
+Rows that share their words and some files are given once with these, and `each` has what differs.
+
 A file is given as pieces, each a text and how often it stands there, one behind the other; `out_is` and
 `err_is` may be one text or such pieces. A character of a text is the byte of its number, from 0 to 255.
 
@@ -20,7 +22,7 @@ import os
 import sys
 
 # The first words of the forms that `maid_app::run` has.
-FORMS = ["solve", "graph", "print", "trim", "demo"]
+FORMS = ["solve", "check", "graph", "print", "trim", "demo"]
 
 # The first words of all forms, those to come too. A row of other words must end with the usage line.
 ALL_FORMS = [
@@ -87,6 +89,13 @@ def told(row):
     return parts
 
 
+def single(rows):
+    """The rows, those that are given together one by one."""
+    for row in rows:
+        for own in row.get("each", [{"files": []}]):
+            yield {**row, **own, "files": row["files"] + own["files"]}
+
+
 def is_taken(row, changes):
     first = row["words"][0] if row["words"] else ""
     begun = row.get("from", 0) in changes
@@ -100,7 +109,7 @@ def main():
     rows = []
     for name in sys.argv[2:]:
         with open(name, encoding="utf-8") as file:
-            rows += json.load(file)["rows"]
+            rows += single(json.load(file)["rows"])
     # Of rows that run on the same, the one that tells most counts.
     runs = {}
     for row in rows:

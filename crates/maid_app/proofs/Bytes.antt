@@ -12,6 +12,9 @@ use Rattle.maid_model.specs.Views.{DiagramView}
 use Rattle.net_build.specs.Building.{StandsFor}
 use Rattle.net_build.specs.Laws as building
 use Rattle.net_build.specs.Table.{all_passes}
+use Rattle.report_text.specs.Laws as reading
+use Rattle.tree_checker.specs.Laws as checking
+use Rattle.tree_checker.specs.Verdicts.{IsVerdict}
 use Rattle.net_lexer.specs.Laws as lexer
 use Rattle.net_parser.specs.Faults as grammar
 use Rattle.net_parser.specs.Grammar.{Spells}
@@ -20,13 +23,15 @@ use Rattle.net_parser.specs.Lexemes.{lexemes}
 use Rattle.net_parser.specs.Trees.{BlockTree}
 use Rattle.rule_solver.specs.Faults.{IsSmallEnough}
 use Rattle.maid_app.specs.Answers.{Answers, FindsNothing, task_of}
+use Rattle.maid_app.specs.Check.{HasVerdict, status_after}
 use Rattle.maid_app.specs.Diagrams.{NamedDiagram, IsTreeOf, IsDiagramOf, of_diagram}
 use Rattle.maid_app.specs.Faults.{TellsFault, IsTextFault}
 use Rattle.maid_app.specs.Laws.{OneStatus}
-use Rattle.maid_app.specs.Outcome.{Refused, status_with}
-use Rattle.maid_app.specs.Request.{Request, file_name}
-use Rattle.maid_app.specs.Stages.{Stage, text_fault, relevance_cycle, weight_bound, too_large, Finds, IsText, stage, TellsCycle, TellsBound, AtNode, AtUtilities, TellsTooLarge}
+use Rattle.maid_app.specs.Outcome.{Written, Refused, status_with}
+use Rattle.maid_app.specs.Request.{Request, solve, check, judge, graph, print, trim, demo, file_name}
+use Rattle.maid_app.specs.Stages.{Stage, text_fault, relevance_cycle, weight_bound, too_large, too_many_leaves, bad_line, Finds, IsText, IsReport, HasFewLeaves, stage, TellsCycle, TellsBound, AtNode, AtUtilities, TellsTooLarge, TellsLeaves, TellsBadLine}
 use Rattle.maid_app.specs.Tasks.{Task, comes_of}
+use Rattle.maid_app.proofs.TellApart.{told_apart}
 use Rattle.maid_app.specs.declared.status.Status.{Status}
 use Rattle.maid_app.specs.declared.status.Status.TheVariants.{TextFault, Cycle, WeightBound, TooLarge}
 
@@ -37,7 +42,11 @@ pub record Laws : Type 0 where
   pub tree_or_fault : parser.Exclusive
   pub one_tree : parser.OneTree
   pub diagram_or_fault : building.Exclusive
+  pub some_diagram : building.SomeDiagram
   pub one_diagram : building.OneDiagram
+  pub report_or_fault : reading.Exclusive
+  pub one_value : reading.OneValue
+  pub one_verdict : checking.OneVerdict
 
 same_tree : Laws → (bytes : List ℕ) (tree other : List BlockTree) → IsTreeOf bytes tree → IsTreeOf bytes other → tree ≡ other
 same_tree laws bytes tree other is is' =
@@ -105,10 +114,40 @@ module _ (laws : Laws) where
   finds_one relevance_cycle file = of_diagram_one file.1 Cycle (λ d names. HasRelianceOrder d.nodes) TellsCycle (λ d names told order tells. tells.no_order order)
   finds_one weight_bound file = of_diagram_one file.1 WeightBound (λ d names. KeepsScopedBounds d) TellsBound (λ d names told keeps tells. not_kept d names told keeps tells)
   finds_one too_large file = of_diagram_one file.1 TooLarge (λ d names. IsSmallEnough d) TellsTooLarge (λ d names told small tells. tells.is_size.1 (small _ tells.is_size.0))
+  finds_one too_many_leaves file = of_diagram_one file.1 TooLarge (λ d names. HasFewLeaves d) TellsLeaves (λ d names told few tells. omega (arith, few, tells.many))
+  finds_one (bad_line text) file = of_diagram_one text TextFault (λ d names. IsReport d names file.1) (TellsBadLine file) (λ d names told is tells. laws.report_or_fault d names file.1 tells.at is tells.is_bad)
 
-  task_alike : (task : Task) (name bytes : List ℕ) → EndsAlike status_with (comes_of task name bytes)
-  unfolding comes_of
-  task_alike task name bytes = staged_alike status_with Finds task.stages (λ file. of_diagram file.1 task.IsTextOf) (name, bytes) (λ s. finds_one s (name, bytes)) (λ x y h k. refl)
+  -- the names in a text are told apart
+  is_told : (bytes : List ℕ) (d : DiagramView) (names : NamesView) → IsDiagramOf bytes d names → reading.IsTold d names
+  is_told bytes d names is =
+      let has = laws.some_diagram bytes is.is_tree.tokens is.tree is.is_tree.is_tokens is.is_tree.spells is.clear in
+      let same = laws.one_diagram bytes is.tree has.diagram d has.names names is.clear has.stands is.stands in
+      subst (λ e. reading.IsTold e names) same.0 (subst (λ n. reading.IsTold has.diagram n) same.1 (record { diagram = has.within; fit = has.fit; told = told_apart has.diagram has.names has.form }))
+
+  -- so a text is the report of one value, which has one verdict
+  same_verdict : (d : DiagramView) (names : NamesView) (bytes : List ℕ) (x y : Written) → reading.IsTold d names → HasVerdict d names bytes x → HasVerdict d names bytes y → x.status ≡ y.status
+  same_verdict d names bytes x y told h k =
+      let same = laws.one_value d names bytes k.solved h.solved told k.is_report h.is_report in
+      let verdict = laws.one_verdict d h.solved h.verdict k.verdict h.is_report.value.fits h.is_verdict (subst (λ solved. IsVerdict d solved k.verdict) same k.is_verdict) in
+      h.ends ∙ ap status_after verdict ∙ sym k.ends
+
+  -- what a task gives ends with one status
+  gives_one : (request : Request) (bytes : List ℕ) (x y : Written) → (task_of request).Gives (file_name request, bytes) x → (task_of request).Gives (file_name request, bytes) y → x.status ≡ y.status
+  gives_one (solve file) bytes x y h k = h.0 ∙ sym k.0
+  gives_one (check file report) bytes x y h k = absurd h
+  gives_one (judge text report) bytes x y h k =
+      let same = same_diagram laws text k.0 h.0 k.1 h.1 in
+      same_verdict h.0.d h.0.names bytes x y (is_told text h.0.d h.0.names h.1) h.2 (subst (λ (z : NamedDiagram). HasVerdict z.d z.names bytes y) same k.2)
+  gives_one (graph file) bytes x y h k = h.0 ∙ sym k.0
+  gives_one (print file) bytes x y h k = h.0 ∙ sym k.0
+  gives_one (trim file) bytes x y h k = h.0 ∙ sym k.0
+  gives_one (demo n) bytes x y h k = h.0 ∙ sym k.0
+
+  pub one_status : OneStatus
+  unfolding Answers comes_of
+  one_status request bytes =
+      let file : File = (file_name request, bytes) in
+      staged_alike status_with Finds (task_of request).stages (task_of request).Gives file (λ s. finds_one s file) (gives_one request bytes)
 
   -- where no stage finds anything, none refuses
   task_clear : (task : Task) (name bytes : List ℕ) (refusal : Refused) → each (λ s. Finds s (name, bytes)) task.stages None → comes_of task name bytes (Err refusal) → ⊥
@@ -120,16 +159,14 @@ module _ (laws : Laws) where
   unfolding Answers
   not_refused request bytes refusal clear h = task_clear (task_of request) (file_name request) bytes refusal clear h
 
-  pub one_status : OneStatus
-  unfolding Answers
-  one_status request bytes = task_alike (task_of request) (file_name request) bytes
-
 -- the status of each stage
 abbrev pub status_by : Stage → Status
 status_by text_fault = TextFault
 status_by relevance_cycle = Cycle
 status_by weight_bound = WeightBound
 status_by too_large = TooLarge
+status_by too_many_leaves = TooLarge
+status_by (bad_line text) = TextFault
 
 abbrev HasStatusOfStage : Refused → Type 0
 HasStatusOfStage refusal = (s : Stage) × (refusal.status ≡ status_by s)
@@ -139,6 +176,8 @@ finds_status text_fault file refusal h = h.0
 finds_status relevance_cycle file refusal h = h.2.0
 finds_status weight_bound file refusal h = h.2.0
 finds_status too_large file refusal h = h.2.0
+finds_status too_many_leaves file refusal h = h.2.0
+finds_status (bad_line text) file refusal h = h.2.0
 
 -- what is refused for its bytes has the status of a stage
 of_stages : (task : Task) (name bytes : List ℕ) (refusal : Refused) → comes_of task name bytes (Err refusal) → HasStatusOfStage refusal

@@ -1,10 +1,16 @@
 pub mod Bytes
+pub mod Checks
 pub mod Digits
+pub mod Generated
+pub mod Judging
+pub mod Leading
 pub mod Nodes
 pub mod Outcomes
 pub mod Refusals
 pub mod SolveRefusals
 pub mod Solving
+pub mod Steps
+pub mod TellApart
 pub mod Tells
 pub mod Texts
 pub mod Titles

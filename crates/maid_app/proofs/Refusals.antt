@@ -1,15 +1,15 @@
 -- A refusal tells what was wanted, or that memory ran out.
-use Rattle.std.proofs.Common.{◌≡◌, ℕ, List, [], ◌∷◌, inl, IfOk, IfErr, Vec, Global, Option, None, Some, Result, Ok, Err, MatchResult, sym, subst}
+use Rattle.std.proofs.Common.{◌≡◌, ℕ, List, [], ◌∷◌, inl, IfOk, IfErr, Vec, Global, Option, None, Some, Result, Ok, Err, MatchResult, refl, sym, subst}
 use Rattle.first_fault.specs.Answers.{IsFoundIfAny}
 use Rattle.first_fault.specs.Outcomes.{refusals as refusals_of}
 use Rattle.first_fault.specs.Passes.{Pass, always, each}
 use Rattle.maid_app.specs.Diagrams.{NamedDiagram, IsDiagramOf}
-use Rattle.maid_app.specs.Outcome.{Refused, refused}
+use Rattle.maid_app.specs.Outcome.{Refused, refused, done_with}
 use Rattle.maid_app.specs.Reading.{Tells, TellsTextFault, TellsUnsolved, TellsOf}
 use Rattle.maid_app.specs.Refusal.{refused_as}
 use Rattle.maid_app.specs.Solve.{solving_stages}
 use Rattle.maid_app.specs.Stages.{Stage, Finds, text_fault}
-use Rattle.maid_app.specs.Tasks.{Task, comes_of}
+use Rattle.maid_app.specs.Tasks.{Task, text_task, comes_of}
 use Rattle.maid_app.specs.declared.refusal.Refusal.{Refusal}
 use Rattle.maid_app.specs.declared.refusal.Refusal.TheVariants as refusals
 use Rattle.maid_app.specs.declared.status.Status.{Status}
@@ -17,7 +17,7 @@ use Rattle.maid_model.specs.Names.{NamesView}
 use Rattle.maid_model.specs.Views.{DiagramView}
 
 -- what one pass finds, another does
-found_too : {Fault : Type 0} (P Q : Pass Fault) → ((f : Fault) → P (Some f) → Q (Some f)) → (told : Option Fault) → IsFoundIfAny P told → IsFoundIfAny Q told
+pub found_too : {Fault : Type 0} (P Q : Pass Fault) → ((f : Fault) → P (Some f) → Q (Some f)) → (told : Option Fault) → IsFoundIfAny P told → IsFoundIfAny Q told
 found_too P Q f None h = tt
 found_too P Q f (Some x) h = f x h
 
@@ -39,6 +39,11 @@ pub if_err_then : {A E : Type 0} (r : Result A E) (P Q : E → Type 0) → ((e :
 if_err_then (Ok x) P Q f h = tt
 if_err_then (Err e) P Q f h = f e h
 
+-- two facts of an error are one
+pub if_err_both : {A E : Type 0} (r : Result A E) (P Q R : E → Type 0) → ((e : E) → P e → Q e → R e) → IfErr r P → IfErr r Q → IfErr r R
+if_err_both (Ok x) P Q R f h k = tt
+if_err_both (Err e) P Q R f h k = f e h k
+
 -- what its stages find, a task refuses with
 pub stages_refuse : (task : Task) (name bytes : List ℕ) (refusal : Refusal)
     → IsFoundIfAny (each (λ s. Finds s (name, bytes)) task.stages) (refused_as refusal) → TellsOf (comes_of task name bytes) refusal
@@ -52,14 +57,14 @@ text_unsolved name bytes refusal h =
     found_too (Finds text_fault (name, bytes)) (each (λ s. Finds s (name, bytes)) solving_stages) (λ f found. inl found) (refused_as refusal) h
 
 -- a task that looks for the text's fault first refuses with it
-pub text_refused : (stages : List Stage) (IsTextOf : DiagramView → NamesView → List ℕ → Type 0) (name bytes : List ℕ) (refusal : Refusal)
-    → TellsTextFault name bytes refusal → TellsOf (comes_of (record { stages = text_fault ∷ stages; IsTextOf = IsTextOf }) name bytes) refusal
+pub text_refused : (task : Task) (stages : List Stage) (name bytes : List ℕ) (refusal : Refusal) → task.stages ≡ text_fault ∷ stages
+    → TellsTextFault name bytes refusal → TellsOf (comes_of task name bytes) refusal
 unfolding comes_of
-text_refused stages IsTextOf name bytes refusal h =
-    found_too (Finds text_fault (name, bytes)) (refusals_of (comes_of (record { stages = text_fault ∷ stages; IsTextOf = IsTextOf }) name bytes)) (λ f found. inl (inl found)) (refused_as refusal) h
+text_refused task stages name bytes refusal e h =
+    found_too (Finds text_fault (name, bytes)) (refusals_of (comes_of task name bytes)) (λ f found. inl (subst (λ list. each (λ s. Finds s (name, bytes)) list (Some f)) (sym e) (inl found))) (refused_as refusal) h
 
 -- a task without other stages gives its text
 pub text_given : (IsTextOf : DiagramView → NamesView → List ℕ → Type 0) (name bytes : List ℕ) (d : DiagramView) (names : NamesView) (printed : List ℕ) → IsDiagramOf bytes d names → IsTextOf d names printed
-    → comes_of (record { stages = text_fault ∷ []; IsTextOf = IsTextOf }) name bytes (Ok printed)
+    → comes_of (text_task (text_fault ∷ []) IsTextOf) name bytes (Ok (done_with printed))
 unfolding comes_of
-text_given IsTextOf name bytes d names printed is text = let x : NamedDiagram = record { d = d; names = names } in (((x, is), tt), (x, is, text))
+text_given IsTextOf name bytes d names printed is text = let x : NamedDiagram = record { d = d; names = names } in (((x, is), tt), (refl, (x, is, text)))

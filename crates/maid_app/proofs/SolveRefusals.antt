@@ -1,5 +1,5 @@
 -- Which stage of solving finds a fault, that those before it find nothing, and that a place in a scope is a node.
-use Rattle.std.proofs.Common.{◌<◌, inl, inr, ℕ, List, ◌∷◌, length, Option, Some}
+use Rattle.std.proofs.Common.{◌≡◌, ◌<◌, inl, inr, ℕ, List, ◌∷◌, length, Option, None, Some, IfSome, sym, subst}
 use Rattle.maid_model.specs.Bounds.{bound_factor}
 use Rattle.maid_model.specs.Nodes.{numbers_of}
 use Rattle.maid_model.specs.Parts.{leads_to, with_ancestors}
@@ -10,6 +10,9 @@ use Rattle.finite_sums.proofs.Lists.{among_filter}
 use Rattle.maid_laws.proofs.Members.{among_of}
 use Rattle.maid_laws.proofs.Rearranged.{numbered}
 use Rattle.weight_scale.specs.Bound.{IsPassedAt}
+use Rattle.maid_model.specs.Names.{NamesView, NamesFit}
+use Rattle.maid_app.specs.Lines.{bound_line}
+use Rattle.maid_app.specs.Stages.{TellsBound, AtNode, AtUtilities}
 use Rattle.rule_solver.specs.Faults.{Cycle, WeightBound, TooLarge, IsTooLarge, cycle_pass, bound_pass, solve_pass}
 
 pub cycle_of : (d : DiagramView) (list : List ℕ) → solve_pass d (Some (Cycle list)) → cycle_pass d (Some (Cycle list))
@@ -35,3 +38,13 @@ place_in_scope nodes of factor v passes = numbered nodes v (among_filter (leads_
 pub place_within : (d : DiagramView) (v : ℕ) → IsPassedAt d v → v < length d.nodes
 place_within d v (inl (e, fails, passes)) = place_in_scope d.nodes (e ∷ goals_of d.nodes e) (bound_factor d.nodes) v passes
 place_within d v (inr (agent, fails, passes)) = place_in_scope d.nodes (utilities_for d.nodes agent) (chance_factor d.nodes) v passes
+
+-- and has a name
+pub place_known : (d : DiagramView) (names : NamesView) (at : Option ℕ) → NamesFit d names → solve_pass d (Some (WeightBound at)) → IfSome at (λ v. v < length names.nodes)
+place_known d names None fit h = tt
+place_known d names (Some v) fit h = subst (λ n. v < n) (sym fit.nodes) (place_within d v (bound_of d (Some v) h).1)
+
+-- the line tells the place
+pub bound_told : (d : DiagramView) (names : NamesView) (at : Option ℕ) (told : List ℕ) → bound_pass d (Some (WeightBound at)) → told ≡ bound_line names at → TellsBound d names told
+bound_told d names None told h e = AtUtilities h e
+bound_told d names (Some v) told h e = AtNode v h e

@@ -8,10 +8,10 @@ use Rattle.maid_model.specs.Views.{DiagramView}
 use Rattle.rule_solver.specs.Faults.{IsTooLarge}
 use Rattle.maid_app.specs.Diagrams.{NamedDiagram, IsDiagramOf}
 use Rattle.maid_app.specs.Lines.{cycle_line, too_large_line}
-use Rattle.maid_app.specs.Outcome.{Refused, refused}
+use Rattle.maid_app.specs.Outcome.{Refused, refused, done_with}
 use Rattle.maid_app.specs.Solve.{IsSolvable, solving_stages}
 use Rattle.maid_app.specs.Stages.{Finds, TellsBound}
-use Rattle.maid_app.specs.Tasks.{comes_of}
+use Rattle.maid_app.specs.Tasks.{text_task, comes_of}
 use Rattle.maid_app.specs.declared.status.Status.TheVariants.{Cycle, WeightBound, TooLarge}
 
 -- what the stages of solving find in these bytes
@@ -41,6 +41,6 @@ none_found name bytes d names is can =
 
 -- so a task of these stages gives its text
 pub solved_given : (IsTextOf : DiagramView → NamesView → List ℕ → Type 0) (name bytes : List ℕ) (d : DiagramView) (names : NamesView) (told : List ℕ) → IsDiagramOf bytes d names → IsSolvable d → IsTextOf d names told
-    → comes_of (record { stages = solving_stages; IsTextOf = IsTextOf }) name bytes (Ok told)
+    → comes_of (text_task solving_stages IsTextOf) name bytes (Ok (done_with told))
 unfolding comes_of
-solved_given IsTextOf name bytes d names told is can text = let x : NamedDiagram = record { d = d; names = names } in (none_found name bytes d names is can, (x, is, text))
+solved_given IsTextOf name bytes d names told is can text = let x : NamedDiagram = record { d = d; names = names } in (none_found name bytes d names is can, (refl, (x, is, text)))

@@ -3,11 +3,12 @@ use Rattle.std.specs.Prelude.{ℕ, List, None}
 use Rattle.first_fault.specs.Outcomes.{Outcomes}
 use Rattle.first_fault.specs.Passes.{each}
 use Rattle.maid_model.specs.Views.{DiagramView}
+use Rattle.maid_app.specs.Check.{CanBeChecked, examining, judging}
 use Rattle.maid_app.specs.Demo.{summing}
 use Rattle.maid_app.specs.Graph.{graphing}
-use Rattle.maid_app.specs.Outcome.{Refused}
+use Rattle.maid_app.specs.Outcome.{Written, Refused}
 use Rattle.maid_app.specs.Print.{printing}
-use Rattle.maid_app.specs.Request.{Request, solve, graph, print, trim, demo, file_name}
+use Rattle.maid_app.specs.Request.{Request, solve, check, judge, graph, print, trim, demo, file_name}
 use Rattle.maid_app.specs.Solve.{IsSolvable, solving}
 use Rattle.maid_app.specs.Stages.{Finds}
 use Rattle.maid_app.specs.Tasks.{Task, comes_of}
@@ -16,6 +17,8 @@ use Rattle.maid_app.specs.Trim.{trimming}
 -- the task of each form of words
 abbrev pub task_of : Request → Task
 task_of (solve file) = solving
+task_of (check file report) = examining
+task_of (judge text report) = judging text
 task_of (graph file) = graphing
 task_of (print file) = printing
 task_of (trim file) = trimming
@@ -26,14 +29,17 @@ abbrev pub FindsNothing : Request → List ℕ → Type 0
 FindsNothing request bytes =
     each (λ s. Finds s (file_name request, bytes)) (task_of request).stages None
 
--- what a diagram must keep so that its text comes: `solve` and `demo` ask for an order of solving,
--- the weight bound and a run within the limits, and the others ask for nothing
+-- What a diagram must keep so that its text comes: `solve` and `demo` ask for an order of solving,
+-- the weight bound and a run within the limits, `check` asks for the weight bound and few leaves,
+-- and the others ask for nothing. What is judged is no diagram.
 abbrev pub CanAnswer : Request → DiagramView → Type 0
 CanAnswer (solve file) d = IsSolvable d
+CanAnswer (check file report) d = CanBeChecked d
+CanAnswer (judge text report) d = ⊥
 CanAnswer (graph file) d = Unit {0}
 CanAnswer (print file) d = Unit {0}
 CanAnswer (trim file) d = Unit {0}
 CanAnswer (demo k) d = IsSolvable d
 
-unfoldable pub Answers : Request → List ℕ → Outcomes (List ℕ) Refused
+unfoldable pub Answers : Request → List ℕ → Outcomes Written Refused
 Answers request bytes = comes_of (task_of request) (file_name request) bytes

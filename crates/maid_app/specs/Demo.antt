@@ -4,7 +4,7 @@ use Rattle.maid_model.specs.Names.{NamesView}
 use Rattle.maid_model.specs.Reports.{line, gain_lines}
 use Rattle.maid_model.specs.Views.{DiagramView, SolvedView}
 use Rattle.maid_app.specs.Solve.{IsSolution, solving_stages}
-use Rattle.maid_app.specs.Tasks.{Task}
+use Rattle.maid_app.specs.Tasks.{Task, text_task}
 
 -- the number of stages, the number of nodes, and each agent's expected utility
 abbrev pub summary : ℕ → DiagramView → NamesView → SolvedView → List ℕ
@@ -19,4 +19,4 @@ pub record HasSummary (k : ℕ) (d : DiagramView) (names : NamesView) (printed :
 
 -- the stages of solving, and else the summary
 abbrev pub summing : ℕ → Task
-summing k = record { stages = solving_stages; IsTextOf = HasSummary k }
+summing k = text_task solving_stages (HasSummary k)

@@ -1,12 +1,19 @@
 -- The forms of the code.
-use Rattle.maid_app.specs.Request.{Request, solve, graph, print, trim, demo}
+use Rattle.maid_app.specs.Request.{Request, solve, check, graph, print, trim, demo}
 use Rattle.maid_app.specs.declared.forms.Form.{Form}
-use Rattle.maid_app.specs.declared.forms.Form.TheVariants.{Solve, Graph, Print, Trim, Demo}
+use Rattle.maid_app.specs.declared.forms.Form.TheVariants.{Text, Check}
+use Rattle.maid_app.specs.declared.forms.TextForm.{TextForm}
+use Rattle.maid_app.specs.declared.forms.TextForm.TheVariants.{Solve, Graph, Print, Trim, Demo}
+
+-- the request that a form with one text stands for
+abbrev pub text_request_by : TextForm → Request
+text_request_by (Solve file) = solve file.now
+text_request_by (Graph file) = graph file.now
+text_request_by (Print file) = print file.now
+text_request_by (Trim file) = trim file.now
+text_request_by (Demo k) = demo k
 
 -- the request that a form stands for
 abbrev pub request_by : Form → Request
-request_by (Solve file) = solve file.now
-request_by (Graph file) = graph file.now
-request_by (Print file) = print file.now
-request_by (Trim file) = trim file.now
-request_by (Demo k) = demo k
+request_by (Text form) = text_request_by form
+request_by (Check file report) = check file.now report.now

@@ -8,7 +8,7 @@ use Rattle.maid_model.specs.Relevance.{ReliesOn}
 use Rattle.maid_model.specs.Reports.{names_line}
 use Rattle.maid_model.specs.Views.{NodeView, DiagramView}
 use Rattle.maid_app.specs.Stages.{text_fault}
-use Rattle.maid_app.specs.Tasks.{Task}
+use Rattle.maid_app.specs.Tasks.{Task, text_task}
 
 -- the decisions on which d relies, in text order
 pub record IsReliedOn (nodes : List NodeView) (d : ℕ) (list : List ℕ) : Type 0 where
@@ -37,4 +37,4 @@ pub record IsGraphText (d : DiagramView) (names : NamesView) (printed : List ℕ
 
 -- the text's fault, and else the lines of the relevance graph
 abbrev pub graphing : Task
-graphing = record { stages = text_fault ∷ []; IsTextOf = IsGraphText }
+graphing = text_task (text_fault ∷ []) IsGraphText

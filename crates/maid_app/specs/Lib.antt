@@ -1,4 +1,5 @@
 pub mod Answers
+pub mod Check
 pub mod Demo
 pub mod Diagrams
 pub mod Faults
@@ -15,6 +16,7 @@ pub mod Request
 pub mod Solve
 pub mod Stages
 pub mod Status
+pub mod Steps
 pub mod Tasks
 pub mod Told
 pub mod Trim

@@ -1,5 +1,5 @@
 -- The lines of `err`.
-use Rattle.std.specs.Prelude.{ℕ, List, ◌∷◌, ◌++◌, codes, decimal}
+use Rattle.std.specs.Prelude.{ℕ, List, ◌∷◌, ◌++◌, Option, None, Some, codes, decimal}
 use Rattle.maid_model.specs.Names.{NamesView, name_of}
 use Rattle.maid_model.specs.Reports.{line, names_line}
 use Rattle.app_lines.specs.Places.{line_at, column_at}
@@ -30,14 +30,19 @@ no_memory_line = line (codes "no memory")
 abbrev pub cycle_line : NamesView → List ℕ → List ℕ
 cycle_line names cycle = names_line (codes "relevance cycle:") names cycle
 
--- the node at which the weight bound is passed
-abbrev pub bound_node_line : NamesView → ℕ → List ℕ
-bound_node_line names v = line (codes "weight bound: node " ++ name_of names v)
-
--- the utilities pass it
-abbrev pub bound_utilities_line : List ℕ
-bound_utilities_line = line (codes "weight bound: utilities")
+-- the node at which the weight bound is passed, or that the utilities pass it
+abbrev pub bound_line : NamesView → Option ℕ → List ℕ
+bound_line names (Some v) = line (codes "weight bound: node " ++ name_of names v)
+bound_line names None = line (codes "weight bound: utilities")
 
 -- the most cells of a plan of the run, and the work of all its plans
 abbrev pub too_large_line : ℕ → ℕ → List ℕ
 too_large_line cells work = line (codes "too large: cells " ++ decimal cells ++ codes " work " ++ decimal work)
+
+-- how many leaves a diagram has whose report is not looked at
+abbrev pub leaves_line : ℕ → List ℕ
+leaves_line leaves = line (codes "too large: leaves " ++ decimal leaves)
+
+-- the file of a report, and the first of its lines with which no report begins
+abbrev pub bad_line_line : List ℕ → ℕ → List ℕ
+bad_line_line name at = line (name ++ 58 ∷ decimal at ++ codes ": bad line")

@@ -5,7 +5,7 @@ use Rattle.maid_model.specs.Views.{DiagramView}
 use Rattle.net_print.specs.Printed.{printed}
 use Rattle.maid_app.specs.Diagrams.{IsDiagramOf}
 use Rattle.maid_app.specs.Stages.{text_fault}
-use Rattle.maid_app.specs.Tasks.{Task}
+use Rattle.maid_app.specs.Tasks.{Task, text_task}
 
 -- the text of the diagram, which stands for the very same diagram and names
 pub record HasPrint (d : DiagramView) (names : NamesView) (told : List ℕ) : Type 0 where
@@ -14,4 +14,4 @@ pub record HasPrint (d : DiagramView) (names : NamesView) (told : List ℕ) : Ty
 
 -- the text's fault, and else the printed diagram
 abbrev pub printing : Task
-printing = record { stages = text_fault ∷ []; IsTextOf = HasPrint }
+printing = text_task (text_fault ∷ []) HasPrint

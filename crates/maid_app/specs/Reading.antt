@@ -3,17 +3,20 @@ use Rattle.std.specs.Prelude.{◌≡◌, ℕ, List, Err}
 use Rattle.first_fault.specs.Answers.{IsFaultOrNoMemory}
 use Rattle.first_fault.specs.Outcomes.{Outcomes, refusals}
 use Rattle.first_fault.specs.Passes.{always, each}
-use Rattle.maid_model.specs.Names.{NamesView}
+use Rattle.maid_model.specs.Names.{NamesView, NamesFit}
 use Rattle.maid_model.specs.Views.{DiagramView, SolvedView}
+use Rattle.report_text.specs.Reading.{AreTold}
+use Rattle.maid_app.specs.Check.{CanBeChecked, examining, judging}
 use Rattle.maid_app.specs.Diagrams.{IsDiagramOf}
 use Rattle.maid_app.specs.Lines.{no_memory_line}
-use Rattle.maid_app.specs.Outcome.{Refused, refused}
+use Rattle.maid_app.specs.Outcome.{Written, Refused, refused}
 use Rattle.maid_app.specs.Refusal.{refused_as}
 use Rattle.maid_app.specs.Solve.{IsSolution, IsSolvable, solving_stages}
 use Rattle.maid_app.specs.Stages.{Finds, text_fault}
+use Rattle.maid_app.specs.Tasks.{comes_of}
 use Rattle.maid_app.specs.declared.refusal.Refusal.{Refusal}
 use Rattle.maid_app.specs.declared.status.Status.{Status}
-use Rattle.maid_app.specs.declared.status.Status.TheVariants.{Done, Usage, Absent, ReadFault, TextTooLong, WriteFault, NoMemory}
+use Rattle.maid_app.specs.declared.status.Status.TheVariants.{Done, Usage, Absent, ReadFault, TextTooLong, WriteFault, NoMemory, Rejected}
 
 -- that status and that line, or that memory ran out
 abbrev pub Tells : Status → List ℕ → Refusal → Type 0
@@ -35,11 +38,28 @@ pub record IsSolved (bytes : List ℕ) (d : DiagramView) (names : NamesView) (so
   pub solvable : IsSolvable d
   pub solution : IsSolution d solved
 
+-- the bytes stand for that diagram, which a check can look at, and its names are told apart
+pub record IsExamined (bytes : List ℕ) (d : DiagramView) (names : NamesView) : Type 0 where
+  pub is : IsDiagramOf bytes d names
+  pub fit : NamesFit d names
+  pub told : AreTold names
+  pub can : CanBeChecked d
+
+-- what comes of the first step of a check on any file whose bytes stand for that diagram
+abbrev pub Examines : DiagramView → NamesView → Outcomes Written Refused
+Examines d names outcome =
+    (name bytes : List ℕ) → IsDiagramOf bytes d names → comes_of examining name bytes outcome
+
+-- what comes of the second step on that file, whatever text stands for the diagram
+abbrev pub Judges : DiagramView → NamesView → List ℕ → List ℕ → Outcomes Written Refused
+Judges d names name bytes outcome =
+    (text : List ℕ) → IsDiagramOf text d names → comes_of (judging text) name bytes outcome
+
 -- what the stages find, or that memory ran out
-abbrev pub TellsOf : Outcomes (List ℕ) Refused → Refusal → Type 0
+abbrev pub TellsOf : Outcomes Written Refused → Refusal → Type 0
 TellsOf Comes refusal = IsFaultOrNoMemory refused_as (refusals Comes) refusal
 
--- a status that is not of the words, of reading or of writing
+-- a status that is not of the words, of reading, of writing or of a verdict
 abbrev pub IsOfBytes : Status → Type 0
 IsOfBytes Done = ⊥
 IsOfBytes Usage = ⊥
@@ -47,9 +67,18 @@ IsOfBytes Absent = ⊥
 IsOfBytes ReadFault = ⊥
 IsOfBytes TextTooLong = ⊥
 IsOfBytes WriteFault = ⊥
+IsOfBytes Rejected = ⊥
 IsOfBytes status = Unit {0}
 
+-- a status with which a run is refused before its output is made
+abbrev pub IsOfOutput : Status → Type 0
+IsOfOutput Done = ⊥
+IsOfOutput Usage = ⊥
+IsOfOutput WriteFault = ⊥
+IsOfOutput Rejected = ⊥
+IsOfOutput status = Unit {0}
+
 -- the status is of the bytes, and it and the line come of them, or memory ran out
-abbrev pub RefusesAs : Outcomes (List ℕ) Refused → Status → List ℕ → Type 0
+abbrev pub RefusesAs : Outcomes Written Refused → Status → List ℕ → Type 0
 RefusesAs Comes NoMemory told = told ≡ no_memory_line
 RefusesAs Comes status told = IsOfBytes status × Comes (Err (refused status told))

@@ -4,9 +4,13 @@ use Rattle.std.specs.List.{range_with_len}
 use Rattle.std.specs.Option.{option_map}
 use Rattle.std.specs.Str.{bytes_eq}
 
--- a request, with the names in it as bytes
+-- A request, with the names in it as bytes. A report is checked in two steps: `check` looks at the
+-- file of its diagram, and where nothing is found there, `judge` looks at the report's, with the
+-- diagram's text at hand. No words ask for `judge` itself.
 pub data Request : Type 0 where
   solve : (file : List ℕ) → Request
+  check : (file report : List ℕ) → Request
+  judge : (text report : List ℕ) → Request
   graph : (file : List ℕ) → Request
   print : (file : List ℕ) → Request
   trim : (file : List ℕ) → Request
@@ -15,6 +19,8 @@ pub data Request : Type 0 where
 -- the name that lines tell for the request's text: its file's, or `demo` for a generated text
 abbrev pub file_name : Request → List ℕ
 file_name (solve file) = file
+file_name (check file report) = file
+file_name (judge text report) = report
 file_name (graph file) = file
 file_name (print file) = file
 file_name (trim file) = file
@@ -22,11 +28,8 @@ file_name (demo k) = codes "demo"
 
 -- the request names a file
 abbrev pub IsOfFile : Request → Type 0
-IsOfFile (solve file) = Unit {0}
-IsOfFile (graph file) = Unit {0}
-IsOfFile (print file) = Unit {0}
-IsOfFile (trim file) = Unit {0}
 IsOfFile (demo k) = ⊥
+IsOfFile request = Unit {0}
 
 -- the number of stages that a word is: the one from 1 to 60 whose digits it is
 unfoldable pub stages_of : List ℕ → Option ℕ
@@ -36,12 +39,18 @@ stages_of word = find (λ k. bytes_eq word (decimal k)) (range_with_len 1 60)
 abbrev pub request_by_word : List ℕ → List ℕ → Option Request
 request_by_word word next = if bytes_eq word (codes "solve") then Some (solve next) else (if bytes_eq word (codes "graph") then Some (graph next) else (if bytes_eq word (codes "print") then Some (print next) else (if bytes_eq word (codes "trim") then Some (trim next) else (if bytes_eq word (codes "demo") then option_map demo (stages_of next) else None))))
 
+-- a form of three words: `check`, and then the names of its two files
+abbrev pub request_by_words : List ℕ → List ℕ → List ℕ → Option Request
+request_by_words word next last =
+    if bytes_eq word (codes "check") then Some (check next last) else None
+
 -- the request of the words, where they are of a form
 abbrev pub request_of : List (List ℕ) → Option Request
 request_of [] = None
 request_of (word ∷ []) = None
 request_of (word ∷ next ∷ []) = request_by_word word next
-request_of (word ∷ next ∷ other ∷ words) = None
+request_of (word ∷ next ∷ last ∷ []) = request_by_words word next last
+request_of (word ∷ next ∷ last ∷ other ∷ words) = None
 
 module _ {Z : Type 0} where
   -- the request of the words of the code

@@ -10,7 +10,7 @@ use Rattle.maid_model.specs.Values.{PrintsOptima}
 use Rattle.maid_model.specs.Views.{DiagramView, SolvedView}
 use Rattle.rule_solver.specs.Faults.{IsSmallEnough}
 use Rattle.maid_app.specs.Stages.{Stage, text_fault, relevance_cycle, weight_bound, too_large}
-use Rattle.maid_app.specs.Tasks.{Task}
+use Rattle.maid_app.specs.Tasks.{Task, text_task}
 
 -- The answer of the diagram, by definition and by what holds of it: its profile is subgame-perfect;
 -- for an agent that owns all decisions no profile is worth more, and its printed fraction is the
@@ -41,4 +41,4 @@ solving_stages = text_fault ∷ relevance_cycle ∷ weight_bound ∷ too_large �
 
 -- the first of them that applies, and else the report
 abbrev pub solving : Task
-solving = record { stages = solving_stages; IsTextOf = HasReport }
+solving = text_task solving_stages HasReport

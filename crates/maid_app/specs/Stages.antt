@@ -1,17 +1,20 @@
 -- The stages that may refuse a request for what its file holds. A form of words has some of them,
 -- in an order of its own.
-use Rattle.std.specs.Prelude.{◌≡◌, ℕ, List, None, Some}
+use Rattle.std.specs.Prelude.{◌≡◌, ◌<◌, ◌≤◌, ℕ, List, None, Some}
 use Rattle.first_fault.specs.Passes.{Pass}
 use Rattle.maid_io.specs.Device.{File}
+use Rattle.maid_model.specs.Bounds.{world_count, stopped}
 use Rattle.maid_model.specs.Names.{NamesView}
 use Rattle.maid_model.specs.Placing.{HasRelianceOrder, IsRelianceCycle}
 use Rattle.maid_model.specs.Scopes.{KeepsScopedBounds}
-use Rattle.maid_model.specs.Views.{DiagramView}
+use Rattle.maid_model.specs.Views.{DiagramView, SolvedView}
+use Rattle.maid_model.specs.declared.limits.TheConstants.{MOST_LEAVES}
+use Rattle.report_text.specs.Reading.{IsReadAs, IsBadLine}
 use Rattle.rule_solver.specs.Faults.{IsSmallEnough, IsTooLarge}
 use Rattle.weight_scale.specs.Bound.{IsPassedAt, IsPassedByUtilities}
 use Rattle.maid_app.specs.Diagrams.{NamedDiagram, IsDiagramOf, of_diagram}
 use Rattle.maid_app.specs.Faults.{TellsFault}
-use Rattle.maid_app.specs.Lines.{cycle_line, bound_node_line, bound_utilities_line, too_large_line}
+use Rattle.maid_app.specs.Lines.{cycle_line, bound_line, too_large_line, leaves_line, bad_line_line}
 use Rattle.maid_app.specs.Outcome.{Refused}
 use Rattle.maid_app.specs.declared.status.Status.{Status}
 use Rattle.maid_app.specs.declared.status.Status.TheVariants.{TextFault, Cycle, WeightBound, TooLarge}
@@ -21,6 +24,8 @@ pub data Stage : Type 0 where
   relevance_cycle : Stage
   weight_bound : Stage
   too_large : Stage
+  too_many_leaves : Stage
+  bad_line : (text : List ℕ) → Stage
 
 -- the text stands for a diagram
 abbrev pub IsText : List ℕ → Type 0
@@ -36,8 +41,8 @@ pub record TellsCycle (d : DiagramView) (names : NamesView) (told : List ℕ) : 
 -- the first scope that fails passes the weight bound, and it is told where: at the first node in
 -- text, or by the utilities
 pub data TellsBound (d : DiagramView) (names : NamesView) (told : List ℕ) : Type 0 where
-  AtNode : (v : ℕ) → IsPassedAt d v → told ≡ bound_node_line names v → TellsBound d names told
-  AtUtilities : IsPassedByUtilities d → told ≡ bound_utilities_line → TellsBound d names told
+  AtNode : (v : ℕ) → IsPassedAt d v → told ≡ bound_line names (Some v) → TellsBound d names told
+  AtUtilities : IsPassedByUtilities d → told ≡ bound_line names None → TellsBound d names told
 
 -- the run passes a limit of cells or of work, and both its counts are told
 pub record TellsTooLarge (d : DiagramView) (names : NamesView) (told : List ℕ) : Type 0 where
@@ -45,6 +50,25 @@ pub record TellsTooLarge (d : DiagramView) (names : NamesView) (told : List ℕ)
   pub work : ℕ
   pub is_size : IsTooLarge d cells work
   pub says : told ≡ too_large_line cells work
+
+-- the diagram has so few worlds that a report of it is looked at
+abbrev pub HasFewLeaves : DiagramView → Type 0
+HasFewLeaves d = world_count d.nodes ≤ MOST_LEAVES
+
+-- it has more, and their count is told
+pub record TellsLeaves (d : DiagramView) (names : NamesView) (told : List ℕ) : Type 0 where
+  pub many : MOST_LEAVES < world_count d.nodes
+  pub says : told ≡ leaves_line (stopped (world_count d.nodes))
+
+-- the bytes are the report of a solved value
+abbrev pub IsReport : DiagramView → NamesView → List ℕ → Type 0
+IsReport d names bytes = (solved : SolvedView) × IsReadAs d names bytes solved
+
+-- the first line with which no report of the diagram begins is told
+pub record TellsBadLine (file : File) (d : DiagramView) (names : NamesView) (told : List ℕ) : Type 0 where
+  pub at : ℕ
+  pub is_bad : IsBadLine d names file.1 at
+  pub says : told ≡ bad_line_line file.0 at
 
 -- a stage finds nothing where it is clear, and else refuses with its status and a line that says why
 abbrev pub stage : Status → Type 0 → (List ℕ → Type 0) → Pass Refused
@@ -60,3 +84,7 @@ Finds weight_bound file =
     of_diagram file.1 (λ d names. stage WeightBound (KeepsScopedBounds d) (TellsBound d names))
 Finds too_large file =
     of_diagram file.1 (λ d names. stage TooLarge (IsSmallEnough d) (TellsTooLarge d names))
+Finds too_many_leaves file =
+    of_diagram file.1 (λ d names. stage TooLarge (HasFewLeaves d) (TellsLeaves d names))
+Finds (bad_line text) file =
+    of_diagram text (λ d names. stage TextFault (IsReport d names file.1) (TellsBadLine file d names))

@@ -7,7 +7,7 @@ use Rattle.net_print.specs.Printed.{printed}
 use Rattle.requisite_trim.specs.Trims.{IsTrimming}
 use Rattle.maid_app.specs.Diagrams.{IsDiagramOf}
 use Rattle.maid_app.specs.Stages.{text_fault}
-use Rattle.maid_app.specs.Tasks.{Task}
+use Rattle.maid_app.specs.Tasks.{Task, text_task}
 
 -- A line for each arc that is not requisite, in order of removal, and then the text of the diagram
 -- without these arcs. The lines are comments: the whole text stands for the trimmed diagram, which
@@ -21,4 +21,4 @@ pub record HasTrim (d : DiagramView) (names : NamesView) (told : List ℕ) : Typ
 
 -- the text's fault, and else the removed arcs and the trimmed diagram
 abbrev pub trimming : Task
-trimming = record { stages = text_fault ∷ []; IsTextOf = HasTrim }
+trimming = text_task (text_fault ∷ []) HasTrim

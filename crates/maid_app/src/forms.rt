@@ -4,10 +4,12 @@ ghost use Rattle.std.specs.Prelude.{◌≡◌, ◌<◌, Ok, IfOk, IfErr, decimal
 ghost use Rattle.std.specs.Option.{option_map};
 ghost use Rattle.std.specs.Str.{bytes_eq};
 ghost use Rattle.maid_app.specs.Answers.{Answers};
+ghost use Rattle.maid_app.specs.Outcome.{done_with};
 ghost use Rattle.maid_app.specs.Reading.{TellsOf};
-ghost use Rattle.maid_app.specs.Request.{request_by_word, requested, stages_of};
-ghost use Rattle.maid_app.specs.Form.{request_by};
+ghost use Rattle.maid_app.specs.Request.{request_by_word, request_by_words, requested, stages_of};
+ghost use Rattle.maid_app.specs.Form.{request_by, text_request_by};
 
+pub mod check;
 mod demo;
 mod graph;
 mod print;
@@ -18,9 +20,9 @@ use crate::reading::Source;
 use crate::refusal::Refusal;
 use std::alloc::Global;
 
-/// What the words ask for.
+/// A form of words whose text is one file's, or is generated.
 #[derive(Clone, Copy)]
-pub enum Form<'a> {
+pub enum TextForm<'a> {
     /// `solve F`: the report of the diagram in the file F.
     Solve {
         /// The file's name.
@@ -48,7 +50,21 @@ pub enum Form<'a> {
     },
 }
 
-impl<'a> Form<'a> {
+/// What the words ask for.
+#[derive(Clone, Copy)]
+pub enum Form<'a> {
+    /// One text of one file, or of a generated one.
+    Text(TextForm<'a>),
+    /// `check F R`: the verdict on the report in the file R of the diagram in the file F.
+    Check {
+        /// The name of the diagram's file.
+        file: &'a str,
+        /// The name of the report's file.
+        report: &'a str,
+    },
+}
+
+impl<'a> TextForm<'a> {
     /// The form's text for `out` from the bytes of its file, or of the generated text.
     ///
     /// # Errors
@@ -56,15 +72,15 @@ impl<'a> Form<'a> {
     /// What the form's stages find first, or want of memory.
     #[tactic(auto, unfolding(crate::specs::Answers::Answers))]
     pub fn text(self, alloc: Global, bytes: &[u8]) -> Result<Vec<u8>, Refusal>
-        ensures ok { IfOk result (λ printed. Answers (request_by self.entry) bytes.now (Ok printed.items)) }
-        ensures err { IfErr result (TellsOf (Answers (request_by self.entry) bytes.now)) }
+        ensures ok { IfOk result (λ printed. Answers (text_request_by self.entry) bytes.now (Ok (done_with printed.items))) }
+        ensures err { IfErr result (TellsOf (Answers (text_request_by self.entry) bytes.now)) }
     {
         match self {
-            Form::Solve { file } => solve::answer(alloc, Source { name: file, bytes }),
-            Form::Graph { file } => graph::answer(alloc, Source { name: file, bytes }),
-            Form::Print { file } => print::answer(alloc, Source { name: file, bytes }),
-            Form::Trim { file } => trim::answer(alloc, Source { name: file, bytes }),
-            Form::Demo { k } => demo::answer(alloc, k, bytes),
+            TextForm::Solve { file } => solve::answer(alloc, Source { name: file, bytes }),
+            TextForm::Graph { file } => graph::answer(alloc, Source { name: file, bytes }),
+            TextForm::Print { file } => print::answer(alloc, Source { name: file, bytes }),
+            TextForm::Trim { file } => trim::answer(alloc, Source { name: file, bytes }),
+            TextForm::Demo { k } => demo::answer(alloc, k, bytes),
         }
     }
 }
@@ -95,15 +111,28 @@ fn stages_of(word: &[u8]) -> Option<usize>
 }
 
 // The form of a word and what comes behind it.
-fn form_by_word<'a>(word: &str, next: &'a str) -> Option<Form<'a>>
-    ensures { option_map request_by result ≡ request_by_word word.now next.now }
+fn form_by_word<'a>(word: &str, next: &'a str) -> Option<TextForm<'a>>
+    ensures { option_map text_request_by result ≡ request_by_word word.now next.now }
 {
     match word {
-        "solve" => Some(Form::Solve { file: next }),
-        "graph" => Some(Form::Graph { file: next }),
-        "print" => Some(Form::Print { file: next }),
-        "trim" => Some(Form::Trim { file: next }),
-        "demo" => stages_of(next.as_bytes()).map(|k| Form::Demo { k }),
+        "solve" => Some(TextForm::Solve { file: next }),
+        "graph" => Some(TextForm::Graph { file: next }),
+        "print" => Some(TextForm::Print { file: next }),
+        "trim" => Some(TextForm::Trim { file: next }),
+        "demo" => stages_of(next.as_bytes()).map(|k| TextForm::Demo { k }),
+        _ => None,
+    }
+}
+
+// The form of a word and the two that come behind it.
+fn form_by_words<'a>(word: &str, next: &'a str, last: &'a str) -> Option<Form<'a>>
+    ensures { option_map request_by result ≡ request_by_words word.now next.now last.now }
+{
+    match word {
+        "check" => Some(Form::Check {
+            file: next,
+            report: last,
+        }),
         _ => None,
     }
 }
@@ -113,7 +142,8 @@ pub fn form_of(words: &[String]) -> Option<Form<'_>>
     ensures { option_map request_by result ≡ requested words.now }
 {
     match words {
-        [word, next] => form_by_word(word.as_str(), next.as_str()),
+        [word, next] => form_by_word(word.as_str(), next.as_str()).map(Form::Text),
+        [word, next, last] => form_by_words(word.as_str(), next.as_str(), last.as_str()),
         _ => None,
     }
 }

@@ -5,6 +5,8 @@ ghost use Rattle.maid_app.specs.Laws.{OneStatus, ClearOrRefused, TextOrFault};
 use net_build::{a_tree_has_a_fault_or_none, a_tree_stands_for_one_diagram};
 use net_lexer::every_text_reads_one_way;
 use net_parser::tokens_read_one_way;
+use report_text::reports_read_one_way;
+use tree_checker::verdicts_are_one;
 
 /// A request's bytes come to one status, and they are refused only where a stage finds something.
 pub fn one_status()
@@ -15,6 +17,8 @@ pub fn one_status()
     tokens_read_one_way();
     a_tree_has_a_fault_or_none();
     a_tree_stands_for_one_diagram();
+    reports_read_one_way();
+    verdicts_are_one();
 }
 
 /// The bytes of a file stand for a diagram, or have a fault that is told.

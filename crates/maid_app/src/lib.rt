@@ -11,6 +11,7 @@ mod fault_words;
 mod forms;
 mod laws;
 pub mod lines;
+mod output;
 mod reading;
 mod refusal;
 mod running;

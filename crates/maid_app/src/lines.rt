@@ -1,11 +1,12 @@
 //! The lines that go to `err`.
 
-ghost use Rattle.std.specs.Prelude.{◌≡◌, ◌++◌, IfOk};
+ghost use Rattle.std.specs.Prelude.{◌≡◌, ◌++◌, ◌<◌, IfOk, IfSome, length};
 ghost use Rattle.maid_model.specs.Reports.{line};
-ghost use Rattle.maid_app.specs.Lines.{fault_line, too_large_line};
+ghost use Rattle.maid_app.specs.Lines.{fault_line, too_large_line, leaves_line, bad_line_line, bound_line};
 
 use app_lines::place;
 use line_pieces::push_number;
+use maid_model::Names;
 use std::alloc::{AllocError, Global};
 
 /// The line for words that are of no form.
@@ -37,6 +38,42 @@ pub fn too_large(alloc: Global, cells: u128, work: u128) -> Result<Vec<u8>, Allo
     text.extend_from_slice(b" work ")?;
     push_number(&mut text, work)?;
     text.push(b'\n')?;
+    Ok(text)
+}
+
+/// The line of a diagram of so many leaves that no report of it is looked at.
+pub fn too_many_leaves(alloc: Global, leaves: u128) -> Result<Vec<u8>, AllocError>
+    ensures { IfOk result (λ text. text.items ≡ leaves_line leaves) }
+{
+    let mut text = Vec::from_slice(alloc, b"too large: leaves ")?;
+    push_number(&mut text, leaves)?;
+    text.push(b'\n')?;
+    Ok(text)
+}
+
+/// The line of a diagram that passes the weight bound: the node at which it does, or that its utilities do.
+pub fn weight_bound(
+    alloc: Global,
+    names: &Names,
+    node: Option<usize>,
+) -> Result<Vec<u8>, AllocError>
+    requires { IfSome node (λ v. v < length names.now.nodes) }
+    ensures { IfOk result (λ text. text.items ≡ bound_line names.now node) }
+{
+    match node {
+        Some(v) => told(alloc, b"weight bound: node ", names.name(v)),
+        None => told(alloc, b"weight bound: utilities", b""),
+    }
+}
+
+/// The line of a report's first bad line, which is counted from 1.
+pub fn bad_line(alloc: Global, name: &[u8], at: usize) -> Result<Vec<u8>, AllocError>
+    ensures { IfOk result (λ text. text.items ≡ bad_line_line name.now at) }
+{
+    let mut text = Vec::from_slice(alloc, name)?;
+    text.push(b':')?;
+    push_number(&mut text, at as u128)?;
+    text.extend_from_slice(b": bad line\n")?;
     Ok(text)
 }
 

@@ -1,6 +1,7 @@
 //! Why a run does not write the whole text of its form.
 
-ghost use Rattle.std.specs.Prelude.{◌≡◌};
+ghost use Rattle.std.specs.Prelude.{◌≡◌, MatchResult};
+ghost use Rattle.maid_app.specs.Reading.{Tells};
 ghost use Rattle.maid_app.specs.Refusal.{status_of, line_of};
 
 use crate::{Status, lines};
@@ -47,6 +48,16 @@ impl Refusal {
             Refusal::WriteFault => lines::WRITE_FAULT.as_bytes(),
             Refusal::NoMemory => lines::NO_MEMORY.as_bytes(),
         }
+    }
+}
+
+/// The refusal of that status, if memory suffices for its line.
+pub fn told(status: Status, line: Result<Vec<u8>, AllocError>) -> Refusal
+    ensures { MatchResult line (λ made. Tells status made.items result) (λ _. result ≡ Refusal.NoMemory) }
+{
+    match line {
+        Ok(line) => Refusal::Told { status, line },
+        Err(AllocError) => Refusal::NoMemory,
     }
 }
 

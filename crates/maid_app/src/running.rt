@@ -1,25 +1,27 @@
 //! The shell: words, devices, the order of refusals, and one line to `err`.
 
-ghost use Rattle.std.specs.Prelude.{◌≡◌, ◌≢◌, ◌++◌, ◌<◌, ◌≤◌, ◌↔◌, List, ℕ, length, None, Some, Ok, Err, IfSome, IsSomeAnd, IfOk, IfErr, OnOk};
+ghost use Rattle.std.specs.Prelude.{◌≡◌, ◌≢◌, ◌++◌, ◌<◌, ◌≤◌, ◌↔◌, List, ℕ, length, None, Some, Ok, Err, IfOk, IfErr, OnOk};
 ghost use Rattle.std.specs.Io.KnownBytes.{Appends};
 ghost use Rattle.app_lines.specs.Demo.{demo_text};
 ghost use Rattle.maid_io.specs.Count.{Rose};
 ghost use Rattle.maid_io.specs.Whole.{AppendsPart};
-ghost use Rattle.maid_app.specs.Request.{Request, demo, requested, IsOfFile};
-ghost use Rattle.maid_app.specs.Form.{request_by};
+ghost use Rattle.maid_app.specs.Request.{Request, check, demo, requested, IsOfFile};
+ghost use Rattle.maid_app.specs.Form.{request_by, text_request_by};
 ghost use Rattle.maid_app.specs.Answers.{Answers, FindsNothing, CanAnswer};
 ghost use Rattle.maid_app.specs.Diagrams.{IsDiagramOf};
-ghost use Rattle.maid_app.specs.Outcome.{Refused};
+ghost use Rattle.maid_app.specs.Outcome.{Written, Refused, done_with};
 ghost use Rattle.maid_app.specs.Laws.{OneStatus};
 ghost use Rattle.maid_app.specs.Reading.{Tells, RefusesAs};
 ghost use Rattle.maid_app.specs.Refusal.{status_of, line_of};
 ghost use Rattle.maid_model.specs.Names.{NamesView};
 ghost use Rattle.maid_model.specs.Reports.{line};
 ghost use Rattle.maid_model.specs.Views.{DiagramView};
-ghost use Rattle.maid_app.specs.Told.{limit, IsFileText, IsTextFor, IsUnread, HasNoBytes, KeepsLimit, WritesText, Says, TakesLine, HasFile, LacksFile, IsBeforeWriting, IsOfReading, IsOneOf};
+ghost use Rattle.maid_app.specs.Steps.{HasNoText, LeadsToText, LeadsToRefusal};
+ghost use Rattle.maid_app.specs.Told.{limit_of, IsFileText, IsTextFor, IsUnread, KeepsLimit, KeepsLimits, WritesText, Says, TakesLine, HasFile, LacksFile, IsAfterWriting, IsBeforeWriting, IsOfReading, IsOneOf, EndsWell};
 
-use crate::forms::{Form, form_of};
+use crate::forms::{Form, TextForm, check, form_of};
 use crate::laws::one_status;
+use crate::output::Output;
 use crate::refusal::Refusal;
 use crate::{Status, lines};
 use app_lines::demo_text;
@@ -28,6 +30,9 @@ use std::alloc::Global;
 
 // The most bytes of a diagram's text.
 pub const LIMIT: usize = 4_194_304;
+
+// The most bytes of a report's text.
+pub const REPORT_LIMIT: usize = 67_108_864;
 
 // The refusal that tells the line of these two pieces. The line takes memory, which may run out.
 fn told(alloc: Global, status: Status, head: &[u8], name: &str) -> Refusal
@@ -40,12 +45,18 @@ fn told(alloc: Global, status: Status, head: &[u8], name: &str) -> Refusal
 }
 
 // The bytes of the file of that name.
-fn read_file<H: Shelf>(alloc: Global, shelf: &mut H, name: &str) -> Result<Vec<u8>, Refusal>
+fn read_file<H: Shelf>(
+    alloc: Global,
+    shelf: &mut H,
+    name: &str,
+    limit: usize,
+) -> Result<Vec<u8>, Refusal>
+    requires { limit ≤ REPORT_LIMIT }
     ensures ok { IfOk result (λ bytes.
-        IsFileText (H.list shelf.old) name.now (H.given shelf.new) bytes.items) }
+        IsFileText (H.list shelf.old) name.now limit (H.given shelf.new) bytes.items) }
     ensures err { IfErr result (λ refusal.
-        IsUnread (H.list shelf.old) name.now (H.given shelf.new) (status_of refusal) (line_of refusal)) }
-    ensures bounded { IfErr result (λ refusal. KeepsLimit (status_of refusal) (H.given shelf.new)) }
+        IsUnread (H.list shelf.old) name.now limit (H.given shelf.new) (status_of refusal) (line_of refusal)) }
+    ensures bounded { IfErr result (λ refusal. KeepsLimit limit (status_of refusal) (H.given shelf.new)) }
     ensures absent_cause { IfErr result (λ refusal.
         status_of refusal ≡ Status.Absent → Rose (H.absences shelf.old) (H.absences shelf.new)) }
     ensures read_cause { IfErr result (λ refusal.
@@ -60,7 +71,7 @@ fn read_file<H: Shelf>(alloc: Global, shelf: &mut H, name: &str) -> Result<Vec<u
         Opened::Failed => return Err(told(alloc, Status::ReadFault, b"read fault: ", name)),
         Opened::NoMemory => return Err(Refusal::NoMemory),
     }
-    match read_all(alloc, shelf, LIMIT) {
+    match read_all(alloc, shelf, limit) {
         Ok(bytes) => Ok(bytes),
         Err(ReadAllFault::ReadFault) => {
             Err(told(alloc, Status::ReadFault, b"read fault: ", name))
@@ -72,14 +83,94 @@ fn read_file<H: Shelf>(alloc: Global, shelf: &mut H, name: &str) -> Result<Vec<u
     }
 }
 
-// The bytes that the form is asked of: those of its file, or the generated text.
-fn bytes_for<H: Shelf>(alloc: Global, shelf: &mut H, form: Form<'_>) -> Result<Vec<u8>, Refusal>
+// The bytes that a form with one text is asked of: those of its file, or the generated text.
+fn bytes_for<H: Shelf>(alloc: Global, shelf: &mut H, form: TextForm<'_>) -> Result<Vec<u8>, Refusal>
     ensures ok { IfOk result (λ bytes.
-        IsTextFor (H.list shelf.old) (request_by form.entry) (H.given shelf.new) bytes.items) }
+        IsTextFor (H.list shelf.old) (text_request_by form.entry) (H.given shelf.new) bytes.items) }
+    ensures err { IfErr result (λ refusal. HasNoText (H.list shelf.old) (text_request_by form.entry)
+        (H.given shelf.new) (status_of refusal) (line_of refusal)) }
+    ensures bounded { IfErr result (λ refusal. IsOfFile (text_request_by form.entry)
+        → KeepsLimit (limit_of (text_request_by form.entry)) (status_of refusal) (H.given shelf.new)) }
+    ensures own { (k : ℕ) → text_request_by form.entry ≡ demo k → shelf.new ≡ shelf.old }
+    ensures absent_cause { IfErr result (λ refusal.
+        status_of refusal ≡ Status.Absent → Rose (H.absences shelf.old) (H.absences shelf.new)) }
+    ensures read_cause { IfErr result (λ refusal.
+        status_of refusal ≡ Status.ReadFault → Rose (H.faults shelf.old) (H.faults shelf.new)) }
+    ensures faults { H.faults shelf.old ≤ H.faults shelf.new }
+    ensures absences { H.absences shelf.old ≤ H.absences shelf.new }
+    ensures list { H.list shelf.new ≡ H.list shelf.old }
+{
+    match form {
+        TextForm::Solve { file }
+        | TextForm::Graph { file }
+        | TextForm::Print { file }
+        | TextForm::Trim { file } => read_file(alloc, shelf, file, LIMIT),
+        TextForm::Demo { k } => Ok(demo_text(alloc, k)?),
+    }
+}
+
+// What a form with one text makes of its bytes. It refuses with no status of the run's own.
+fn text_of(alloc: Global, form: TextForm<'_>, bytes: &[u8]) -> Result<Vec<u8>, Refusal>
+    ensures ok { IfOk result (λ printed.
+        Answers (text_request_by form.entry) bytes.now (Ok (done_with printed.items))) }
     ensures err { IfErr result (λ refusal.
-        HasNoBytes (H.list shelf.old) (request_by form.entry) (H.given shelf.new) (status_of refusal) (line_of refusal)) }
-    ensures bounded { IfErr result (λ refusal.
-        IsOfFile (request_by form.entry) → KeepsLimit (status_of refusal) (H.given shelf.new)) }
+        RefusesAs (Answers (text_request_by form.entry) bytes.now) (status_of refusal) (line_of refusal)) }
+{
+    form.text(alloc, bytes)
+}
+
+// What a form with one text writes.
+fn text_output<H: Shelf>(
+    alloc: Global,
+    shelf: &mut H,
+    form: TextForm<'_>,
+) -> Result<Output, Refusal>
+    ensures ok { IfOk result (LeadsToText (H.list shelf.old) (text_request_by form.entry) (H.given shelf.new)) }
+    ensures err { IfErr result (LeadsToRefusal (H.list shelf.old) (text_request_by form.entry) (H.given shelf.new)) }
+    ensures own { (k : ℕ) → text_request_by form.entry ≡ demo k → shelf.new ≡ shelf.old }
+    ensures absent_cause { IfErr result (λ refusal.
+        status_of refusal ≡ Status.Absent → Rose (H.absences shelf.old) (H.absences shelf.new)) }
+    ensures read_cause { IfErr result (λ refusal.
+        status_of refusal ≡ Status.ReadFault → Rose (H.faults shelf.old) (H.faults shelf.new)) }
+    ensures faults { H.faults shelf.old ≤ H.faults shelf.new }
+    ensures absences { H.absences shelf.old ≤ H.absences shelf.new }
+    ensures list { H.list shelf.new ≡ H.list shelf.old }
+{
+    let bytes = bytes_for(alloc, shelf, form)?;
+    let text = text_of(alloc, form, &bytes)?;
+    Ok(Output {
+        status: Status::Done,
+        text,
+    })
+}
+
+// What a check writes: the verdict. The report's file is started once nothing is found in the diagram's.
+fn check_output<H: Shelf>(
+    alloc: Global,
+    shelf: &mut H,
+    file: &str,
+    report: &str,
+) -> Result<Output, Refusal>
+    ensures ok { IfOk result (LeadsToText (H.list shelf.old) (check file.now report.now) (H.given shelf.new)) }
+    ensures err { IfErr result (LeadsToRefusal (H.list shelf.old) (check file.now report.now) (H.given shelf.new)) }
+    ensures absent_cause { IfErr result (λ refusal.
+        status_of refusal ≡ Status.Absent → Rose (H.absences shelf.old) (H.absences shelf.new)) }
+    ensures read_cause { IfErr result (λ refusal.
+        status_of refusal ≡ Status.ReadFault → Rose (H.faults shelf.old) (H.faults shelf.new)) }
+    ensures faults { H.faults shelf.old ≤ H.faults shelf.new }
+    ensures absences { H.absences shelf.old ≤ H.absences shelf.new }
+    ensures list { H.list shelf.new ≡ H.list shelf.old }
+{
+    let text = read_file(alloc, shelf, file, LIMIT)?;
+    let (diagram, names) = check::examine(alloc, file, &text)?;
+    let bytes = read_file(alloc, shelf, report, REPORT_LIMIT)?;
+    check::judge(alloc, &diagram, &names, report, &bytes)
+}
+
+// What the words' form writes, made whole.
+fn output_of<H: Shelf>(alloc: Global, shelf: &mut H, form: Form<'_>) -> Result<Output, Refusal>
+    ensures ok { IfOk result (LeadsToText (H.list shelf.old) (request_by form.entry) (H.given shelf.new)) }
+    ensures err { IfErr result (LeadsToRefusal (H.list shelf.old) (request_by form.entry) (H.given shelf.new)) }
     ensures own { (k : ℕ) → request_by form.entry ≡ demo k → shelf.new ≡ shelf.old }
     ensures absent_cause { IfErr result (λ refusal.
         status_of refusal ≡ Status.Absent → Rose (H.absences shelf.old) (H.absences shelf.new)) }
@@ -90,20 +181,9 @@ fn bytes_for<H: Shelf>(alloc: Global, shelf: &mut H, form: Form<'_>) -> Result<V
     ensures list { H.list shelf.new ≡ H.list shelf.old }
 {
     match form {
-        Form::Solve { file } | Form::Graph { file } | Form::Print { file } | Form::Trim { file } =>
-            read_file(alloc, shelf, file),
-        Form::Demo { k } => Ok(demo_text(alloc, k)?),
+        Form::Text(form) => text_output(alloc, shelf, form),
+        Form::Check { file, report } => check_output(alloc, shelf, file, report),
     }
-}
-
-// What the form makes of its bytes, before any byte of it is written. It refuses with no status of
-// the run's own.
-fn text_of(alloc: Global, form: Form<'_>, bytes: &[u8]) -> Result<Vec<u8>, Refusal>
-    ensures ok { IfOk result (λ printed. Answers (request_by form.entry) bytes.now (Ok printed.items)) }
-    ensures err { IfErr result (λ refusal.
-        RefusesAs (Answers (request_by form.entry) bytes.now) (status_of refusal) (line_of refusal)) }
-{
-    form.text(alloc, bytes)
 }
 
 // Writes the whole text of the words' form, or refuses.
@@ -112,24 +192,25 @@ fn serve<H: Shelf, O: Sink>(
     words: &[String],
     shelf: &mut H,
     out: &mut O,
-) -> Result<(), Refusal>
-    ensures ok { OnOk result (WritesText (H.list shelf.old) (requested words.now) (H.given shelf.new)
+) -> Result<Status, Refusal>
+    ensures ok { IfOk result (WritesText (H.list shelf.old) (requested words.now) (H.given shelf.new)
         (Appends (O.taken out.old) (O.taken out.new))) }
+    ensures after { IfOk result IsAfterWriting }
     ensures ok_words { OnOk result (requested words.now ≢ None) }
     ensures err { IfErr result (λ refusal.
         Says (H.list shelf.old) (requested words.now) (H.given shelf.new) (status_of refusal) (line_of refusal)) }
-    ensures bounded_done { OnOk result (IsSomeAnd (requested words.now) IsOfFile
-        → KeepsLimit Status.Done (H.given shelf.new)) }
+    ensures bounded_done { IfOk result (λ status.
+        KeepsLimits (H.list shelf.old) (requested words.now) status (H.given shelf.new)) }
     ensures bounded { IfErr result (λ refusal.
-        IsSomeAnd (requested words.now) IsOfFile → KeepsLimit (status_of refusal) (H.given shelf.new)) }
+        KeepsLimits (H.list shelf.old) (requested words.now) (status_of refusal) (H.given shelf.new)) }
     ensures demo_reads_nothing { (k : ℕ) → requested words.now ≡ Some (demo k) → shelf.new ≡ shelf.old }
     ensures usage { IfErr result (λ refusal.
         (status_of refusal ≡ Status.Usage) ↔ (requested words.now ≡ None)) }
     ensures untouched_shelf { IfErr result (λ refusal.
         status_of refusal ≡ Status.Usage → shelf.new ≡ shelf.old) }
-    ensures part { IfErr result (λ refusal. status_of refusal ≡ Status.WriteFault
-        → WritesText (H.list shelf.old) (requested words.now) (H.given shelf.new)
-        (AppendsPart (O.taken out.old) (O.taken out.new))) }
+    ensures part { IfErr result (λ refusal. status_of refusal ≡ Status.WriteFault → (status : Status)
+        × WritesText (H.list shelf.old) (requested words.now) (H.given shelf.new)
+        (AppendsPart (O.taken out.old) (O.taken out.new)) status) }
     ensures absent_cause { IfErr result (λ refusal.
         status_of refusal ≡ Status.Absent → Rose (H.absences shelf.old) (H.absences shelf.new)) }
     ensures read_cause { IfErr result (λ refusal.
@@ -138,7 +219,7 @@ fn serve<H: Shelf, O: Sink>(
         status_of refusal ≡ Status.WriteFault → Rose (O.faults out.old) (O.faults out.new)) }
     ensures untouched { IfErr result (λ refusal.
         status_of refusal ≢ Status.WriteFault → out.new ≡ out.old) }
-    ensures not_done { IfErr result (λ refusal. status_of refusal ≢ Status.Done) }
+    ensures not_after { IfErr result (λ refusal. ¬ IsAfterWriting (status_of refusal)) }
     ensures out_faults { O.faults out.old ≤ O.faults out.new }
     ensures faults { H.faults shelf.old ≤ H.faults shelf.new }
     ensures absences { H.absences shelf.old ≤ H.absences shelf.new }
@@ -147,24 +228,29 @@ fn serve<H: Shelf, O: Sink>(
     let Some(form) = form_of(words) else {
         return Err(Refusal::Usage);
     };
-    let bytes = bytes_for(alloc, shelf, form)?;
-    let text = text_of(alloc, form, &bytes)?;
-    write_all(out, &text).map_err(|_| Refusal::WriteFault)
+    let output = output_of(alloc, shelf, form)?;
+    match write_all(out, &output.text) {
+        Ok(()) => Ok(output.status),
+        Err(_) => Err(Refusal::WriteFault),
+    }
 }
 
 /// Runs the program on the words after its name, and answers how it ended.
 ///
 /// The words are those of one form, which names a file F of the shelf: `solve F` writes the report
 /// of its diagram to `out`, `graph F` who relies on whom, `print F` the diagram, and `trim F` the
-/// diagram without the arcs that its decisions do not need. `demo K` has no file: it writes a
+/// diagram without the arcs that its decisions do not need. `check F R` names a second file too, and
+/// writes the verdict on the report in R of the diagram in F. `demo K` has no file: it writes a
 /// summary of the solved diagram of a generated text of K stages, 1 to 60. The whole text is made
-/// before its first byte is written, and writing takes no memory. After a status other than [`Status::Done`] `err`
-/// takes one line that says why.
+/// before its first byte is written, and writing takes no memory. After [`Status::Done`], and after
+/// [`Status::Rejected`], which a verdict may end with, `err` takes nothing, and else one line that says why.
 ///
 /// The order of refusals is [`Status::Usage`] where the words are of no form, [`Status::Absent`],
 /// [`Status::ReadFault`] and [`Status::TextTooLong`] for a file, [`Status::TextFault`] for its
 /// bytes, for `solve` and `demo` then [`Status::Cycle`], [`Status::WeightBound`] and [`Status::TooLarge`] for
-/// its diagram, and last [`Status::WriteFault`]. [`Status::NoMemory`] may come at any point after
+/// its diagram, and last [`Status::WriteFault`]. For `check` [`Status::WeightBound`] and
+/// [`Status::TooLarge`] come for the diagram, then those of a file for the report's, with
+/// [`Status::TextFault`] for bytes that are no report. [`Status::NoMemory`] may come at any point after
 /// the words and before the first write. A fault of `err` changes nothing else.
 pub fn run<H: Shelf, O: Sink, E: Sink>(
     alloc: Global,
@@ -178,24 +264,24 @@ pub fn run<H: Shelf, O: Sink, E: Sink>(
     ensures usage_reads_nothing { result ≡ Status.Usage → shelf.new ≡ shelf.old }
 
     // What was read of the file that the words name, however the run ended.
-    ensures bounded { IsSomeAnd (requested words.now) IsOfFile → KeepsLimit result (H.given shelf.new) }
+    ensures bounded { KeepsLimits (H.list shelf.old) (requested words.now) result (H.given shelf.new) }
 
     // `demo` reads no file.
     ensures demo_reads_nothing { (k : ℕ) → requested words.now ≡ Some (demo k) → shelf.new ≡ shelf.old }
     ensures demo_status { (k : ℕ) → requested words.now ≡ Some (demo k) → ¬ IsOfReading result }
 
     // What `out` took: the whole text, a proper front of it, or nothing.
-    ensures done { result ≡ Status.Done
+    ensures done { IsAfterWriting result
         → WritesText (H.list shelf.old) (requested words.now) (H.given shelf.new)
-        (Appends (O.taken out.old) (O.taken out.new)) }
-    ensures part { result ≡ Status.WriteFault
-        → WritesText (H.list shelf.old) (requested words.now) (H.given shelf.new)
-        (AppendsPart (O.taken out.old) (O.taken out.new)) }
+        (Appends (O.taken out.old) (O.taken out.new)) result }
+    ensures part { result ≡ Status.WriteFault → (status : Status)
+        × WritesText (H.list shelf.old) (requested words.now) (H.given shelf.new)
+        (AppendsPart (O.taken out.old) (O.taken out.new)) status }
     ensures untouched { IsBeforeWriting result → out.new ≡ out.old }
 
     // What `err` took: nothing, or the line that says why.
-    ensures silent { result ≡ Status.Done → err.new ≡ err.old }
-    ensures told { result ≢ Status.Done → (line : List ℕ)
+    ensures silent { IsAfterWriting result → err.new ≡ err.old }
+    ensures told { ¬ IsAfterWriting result → (line : List ℕ)
         × Says (H.list shelf.old) (requested words.now) (H.given shelf.new) result line
         × TakesLine (E.taken err.old) (E.taken err.new) (E.faults err.old) (E.faults err.new) line }
 
@@ -208,22 +294,27 @@ pub fn run<H: Shelf, O: Sink, E: Sink>(
     ensures always_absent { LacksFile (H.list shelf.old) (requested words.now)
         → ¬ Rose (H.faults shelf.old) (H.faults shelf.new) → IsOneOf result Status.Absent }
     ensures always_too_long { (request : Request) (bytes : List ℕ)
-        → HasFile (H.list shelf.old) (requested words.now) request bytes → limit < length bytes
+        → HasFile (H.list shelf.old) (requested words.now) request bytes → limit_of request < length bytes
         → ¬ Rose (H.faults shelf.old) (H.faults shelf.new) → IsOneOf result Status.TextTooLong }
     ensures always_refused { (request : Request) (bytes : List ℕ)
-        → HasFile (H.list shelf.old) (requested words.now) request bytes → length bytes ≤ limit
+        → HasFile (H.list shelf.old) (requested words.now) request bytes → length bytes ≤ limit_of request
         → (refusal : Refused) → Answers request bytes (Err refusal)
         → ¬ Rose (H.faults shelf.old) (H.faults shelf.new) → IsOneOf result refusal.status }
     ensures always_done { (request : Request) (bytes : List ℕ)
-        → HasFile (H.list shelf.old) (requested words.now) request bytes → length bytes ≤ limit
+        → HasFile (H.list shelf.old) (requested words.now) request bytes → length bytes ≤ limit_of request
         → FindsNothing request bytes
         → ¬ Rose (H.faults shelf.old) (H.faults shelf.new)
-        → ¬ Rose (O.faults out.old) (O.faults out.new) → IsOneOf result Status.Done }
+        → ¬ Rose (O.faults out.old) (O.faults out.new) → EndsWell request result }
     ensures always_answers { (request : Request) (bytes : List ℕ)
-        → HasFile (H.list shelf.old) (requested words.now) request bytes → length bytes ≤ limit
+        → HasFile (H.list shelf.old) (requested words.now) request bytes → length bytes ≤ limit_of request
         → (d : DiagramView) (names : NamesView) → IsDiagramOf bytes d names → CanAnswer request d
         → ¬ Rose (H.faults shelf.old) (H.faults shelf.new)
-        → ¬ Rose (O.faults out.old) (O.faults out.new) → IsOneOf result Status.Done }
+        → ¬ Rose (O.faults out.old) (O.faults out.new) → EndsWell request result }
+    ensures always_written { (request : Request) (bytes : List ℕ)
+        → HasFile (H.list shelf.old) (requested words.now) request bytes → length bytes ≤ limit_of request
+        → (output : Written) → Answers request bytes (Ok output)
+        → ¬ Rose (H.faults shelf.old) (H.faults shelf.new)
+        → ¬ Rose (O.faults out.old) (O.faults out.new) → IsOneOf result output.status }
 
     ensures always_demo_refused { (k : ℕ) → requested words.now ≡ Some (demo k)
         → (refusal : Refused) → Answers (demo k) (demo_text k) (Err refusal)
@@ -242,7 +333,7 @@ pub fn run<H: Shelf, O: Sink, E: Sink>(
     // Bytes come to one status.
     one_status();
     match serve(alloc, words, shelf, out) {
-        Ok(()) => Status::Done,
+        Ok(status) => status,
         Err(refusal) => {
             let _ = write_all(err, refusal.line());
             refusal.status()

@@ -22,6 +22,15 @@ row 2: \"q\" -> 2 \"r\" = 1
 agent \"agent\" = 2
 ";
 
+// He steers to the wrong side where it bends to q.
+const WORSE_REPORT: &str = "maidsolve report 1
+order: D
+decision D by \"agent\" sees X
+row 1: \"p\" -> 1 \"l\" = 3
+row 2: \"q\" -> 1 \"l\" = 0
+agent \"agent\" = 3/2
+";
+
 // The same where the road never bends to p.
 const NEVER: &str = "node X { states = (\"p\" \"q\"); }
 decision D { states = (\"l\" \"r\"); }
@@ -134,6 +143,8 @@ fn files(alloc: Global) -> Result<Vec<(String, Vec<u8>)>, Fail> {
         ("zero.net", ZERO),
         ("ring.net", RING),
         ("open.net", "net {\n a = \"b"),
+        ("steer.rep", REPORT),
+        ("worse.rep", WORSE_REPORT),
     ] {
         files.push((name.to_string(alloc)?, text.as_bytes().to_vec(alloc)?))?;
     }
@@ -198,6 +209,60 @@ fn runs_end_as_they_must(rt: HostRuntime) -> Result<(), Fail> {
             6,
             "",
             "relevance cycle: P Q\n",
+        ),
+        (
+            "check steer.net steer.rep",
+            0,
+            400,
+            Status::Done,
+            0,
+            "accepted\n",
+            "",
+        ),
+        (
+            "check steer.net worse.rep",
+            0,
+            400,
+            Status::Rejected,
+            11,
+            "rejected line 5: choice\n",
+            "",
+        ),
+        (
+            "check never.net steer.rep",
+            0,
+            400,
+            Status::Rejected,
+            11,
+            "rejected line 4: never\n",
+            "",
+        ),
+        (
+            "check arcs.net steer.rep",
+            0,
+            400,
+            Status::TextFault,
+            5,
+            "",
+            "steer.rep:2: bad line\n",
+        ),
+        (
+            "check steer.net gone.rep",
+            0,
+            400,
+            Status::Absent,
+            2,
+            "",
+            "absent: gone.rep\n",
+        ),
+        (
+            "check steer.net",
+            0,
+            400,
+            Status::Usage,
+            1,
+            "",
+            lines::USAGE,
         ),
         ("demo 1", 1, 400, Status::Done, 0, DEMO_1, ""),
         ("demo 2", 1, 400, Status::Done, 0, DEMO_2, ""),
@@ -301,6 +366,27 @@ fn each_call_of_the_shelf_fails_in_turn(rt: HostRuntime) -> Result<(), Fail> {
     let (status, out, _) = ended(rt.alloc(), "solve steer.net", [7, 0, 0], 400)?;
     assert_eq!(rt; status, Status::Done);
     assert_eq!(rt; out.as_slice(), REPORT.as_bytes());
+    Ok(())
+}
+
+// Behind the six calls for the diagram a start, three reads of the report and one that gives nothing.
+#[test]
+fn each_call_of_a_check_fails_in_turn(rt: HostRuntime) -> Result<(), Fail> {
+    let words = "check steer.net steer.rep";
+    for call in 1..12u64 {
+        let (status, out, err) = ended(rt.alloc(), words, [call, 0, 0], 400)?;
+        let told = if call < 7 {
+            "read fault: steer.net\n"
+        } else {
+            "read fault: steer.rep\n"
+        };
+        assert_eq!(rt; status, Status::ReadFault, "{call}");
+        assert_eq!(rt; out.len(), 0, "{call}");
+        assert_eq!(rt; err.as_slice(), told.as_bytes(), "{call}");
+    }
+    let (status, out, _) = ended(rt.alloc(), words, [12, 0, 0], 400)?;
+    assert_eq!(rt; status, Status::Done);
+    assert_eq!(rt; out.as_slice(), "accepted\n".as_bytes());
     Ok(())
 }
 

@@ -2,6 +2,7 @@
 
 ghost use Rattle.std.specs.Prelude.{◌≡◌, Ok, IfOk, IfErr, codes, length};
 ghost use Rattle.maid_app.specs.Demo.{summary, summing};
+ghost use Rattle.maid_app.specs.Outcome.{done_with};
 ghost use Rattle.maid_app.specs.Reading.{TellsOf};
 ghost use Rattle.maid_app.specs.Tasks.{comes_of};
 
@@ -40,7 +41,7 @@ fn summary(
 ///
 /// Those of `solve`, with `demo` as the text's name.
 pub fn answer(alloc: Global, k: usize, bytes: &[u8]) -> Result<Vec<u8>, Refusal>
-    ensures ok { IfOk result (λ printed. comes_of (summing k) (codes "demo") bytes.now (Ok printed.items)) }
+    ensures ok { IfOk result (λ printed. comes_of (summing k) (codes "demo") bytes.now (Ok (done_with printed.items))) }
     ensures err { IfErr result (TellsOf (comes_of (summing k) (codes "demo") bytes.now)) }
 {
     let (diagram, names, answer) = solved(

@@ -8,6 +8,7 @@ ghost use Rattle.relevance_graph.specs.Relevant.{IsRelevance};
 ghost use Rattle.relevance_graph.specs.Views.{relied_on_by};
 ghost use Rattle.maid_app.specs.Graph.{graphing, IsGraphText, IsLastLine, relies_line};
 ghost use Rattle.maid_app.specs.GraphLines.{relies_line_of};
+ghost use Rattle.maid_app.specs.Outcome.{done_with};
 ghost use Rattle.maid_app.specs.Reading.{TellsOf};
 ghost use Rattle.maid_app.specs.Tasks.{comes_of};
 
@@ -114,7 +115,7 @@ fn graph_text(
 ///
 /// The fault of the bytes, or want of memory.
 pub fn answer(alloc: Global, source: Source<'_>) -> Result<Vec<u8>, Refusal>
-    ensures ok { IfOk result (λ printed. comes_of graphing source.entry.name.now source.entry.bytes.now (Ok printed.items)) }
+    ensures ok { IfOk result (λ printed. comes_of graphing source.entry.name.now source.entry.bytes.now (Ok (done_with printed.items))) }
     ensures err { IfErr result (TellsOf (comes_of graphing source.entry.name.now source.entry.bytes.now)) }
 {
     let (diagram, names) = source.diagram(alloc)?;

@@ -2,6 +2,7 @@
 
 ghost use Rattle.std.specs.Prelude.{Ok, IfOk, IfErr};
 ghost use Rattle.maid_app.specs.Print.{printing};
+ghost use Rattle.maid_app.specs.Outcome.{done_with};
 ghost use Rattle.maid_app.specs.Reading.{TellsOf};
 ghost use Rattle.maid_app.specs.Tasks.{comes_of};
 
@@ -16,7 +17,7 @@ use std::alloc::Global;
 ///
 /// The fault of the bytes, or want of memory.
 pub fn answer(alloc: Global, source: Source<'_>) -> Result<Vec<u8>, Refusal>
-    ensures ok { IfOk result (λ told. comes_of printing source.entry.name.now source.entry.bytes.now (Ok told.items)) }
+    ensures ok { IfOk result (λ told. comes_of printing source.entry.name.now source.entry.bytes.now (Ok (done_with told.items))) }
     ensures err { IfErr result (TellsOf (comes_of printing source.entry.name.now source.entry.bytes.now)) }
 {
     let (diagram, names) = source.diagram(alloc)?;

@@ -1,50 +1,23 @@
 //! `solve F`: the report.
 
-ghost use Rattle.std.specs.Prelude.{◌≡◌, ℕ, List, Ok, IfOk, IfErr, MatchResult};
+ghost use Rattle.std.specs.Prelude.{ℕ, List, Ok, IfOk, IfErr};
 ghost use Rattle.first_fault.specs.Answers.{IsFaultOrNoMemory};
 ghost use Rattle.maid_model.specs.Names.{NamesFit};
 ghost use Rattle.maid_app.specs.Diagrams.{IsDiagramOf};
-ghost use Rattle.maid_app.specs.Reading.{IsSolved, Tells, TellsOf, TellsUnsolved};
+ghost use Rattle.maid_app.specs.Outcome.{done_with};
+ghost use Rattle.maid_app.specs.Reading.{IsSolved, TellsOf, TellsUnsolved};
 ghost use Rattle.maid_app.specs.Tasks.{comes_of};
 ghost use Rattle.maid_app.specs.Solve.{solving};
 ghost use Rattle.rule_solver.specs.Faults.{solve_fault, solve_pass};
 
 use crate::reading::Source;
-use crate::refusal::Refusal;
+use crate::refusal::{Refusal, told};
 use crate::{Status, lines};
 use app_lines::list_line;
 use maid_model::{Diagram, Names, Solved};
 use report_text::print_report;
 use rule_solver::{SolveFault, solve};
-use std::alloc::{AllocError, Global};
-
-// The refusal of that status, if memory suffices for its line.
-fn told(status: Status, line: Result<Vec<u8>, AllocError>) -> Refusal
-    ensures { MatchResult line (λ made. Tells status made.items result) (λ _. result ≡ Refusal.NoMemory) }
-{
-    match line {
-        Ok(line) => Refusal::Told { status, line },
-        Err(AllocError) => Refusal::NoMemory,
-    }
-}
-
-// The refusal of a diagram that passes the weight bound at that node, or by its utilities.
-fn bound_refusal(alloc: Global, diagram: &Diagram, names: &Names, node: Option<usize>) -> Refusal
-    requires fit { NamesFit diagram.now names.now }
-    requires fault { IsFaultOrNoMemory solve_fault (solve_pass diagram.now) (SolveFault.WeightBound node) }
-    ensures { (name bytes : List ℕ) → IsDiagramOf bytes diagram.now names.now → TellsUnsolved name bytes result }
-{
-    match node {
-        Some(v) => told(
-            Status::WeightBound,
-            lines::told(alloc, b"weight bound: node ", names.name(v)),
-        ),
-        None => told(
-            Status::WeightBound,
-            lines::told(alloc, b"weight bound: utilities", b""),
-        ),
-    }
-}
+use std::alloc::Global;
 
 // The refusal of a diagram that isn't solved.
 fn refusal(alloc: Global, diagram: &Diagram, names: &Names, fault: &SolveFault) -> Refusal
@@ -57,7 +30,10 @@ fn refusal(alloc: Global, diagram: &Diagram, names: &Names, fault: &SolveFault) 
             Status::Cycle,
             list_line(alloc, names, b"relevance cycle:", list),
         ),
-        SolveFault::WeightBound { node } => bound_refusal(alloc, diagram, names, *node),
+        SolveFault::WeightBound { node } => told(
+            Status::WeightBound,
+            lines::weight_bound(alloc, names, *node),
+        ),
         SolveFault::TooLarge { cells, work } => told(
             Status::TooLarge,
             lines::too_large(alloc, *cells, *work),
@@ -90,7 +66,7 @@ pub fn solved(alloc: Global, source: Source<'_>) -> Result<(Diagram, Names, Solv
 ///
 /// Those of [`solved`].
 pub fn answer(alloc: Global, source: Source<'_>) -> Result<Vec<u8>, Refusal>
-    ensures ok { IfOk result (λ printed. comes_of solving source.entry.name.now source.entry.bytes.now (Ok printed.items)) }
+    ensures ok { IfOk result (λ printed. comes_of solving source.entry.name.now source.entry.bytes.now (Ok (done_with printed.items))) }
     ensures err { IfErr result (TellsOf (comes_of solving source.entry.name.now source.entry.bytes.now)) }
 {
     let (diagram, names, answer) = solved(alloc, source)?;

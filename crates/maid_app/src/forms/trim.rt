@@ -4,6 +4,7 @@ ghost use Rattle.std.specs.Prelude.{◌≡◌, ◌++◌, Ok, IfOk, IfErr};
 ghost use Rattle.app_lines.specs.Removed.{AreNamed, removed_lines};
 ghost use Rattle.maid_model.specs.Names.{NamesFit};
 ghost use Rattle.net_print.specs.Printed.{printed};
+ghost use Rattle.maid_app.specs.Outcome.{done_with};
 ghost use Rattle.maid_app.specs.Reading.{TellsOf};
 ghost use Rattle.maid_app.specs.Tasks.{comes_of};
 ghost use Rattle.maid_app.specs.Trim.{trimming};
@@ -39,7 +40,7 @@ fn trimmed_text(
 ///
 /// The fault of the bytes, or want of memory.
 pub fn answer(alloc: Global, source: Source<'_>) -> Result<Vec<u8>, Refusal>
-    ensures ok { IfOk result (λ told. comes_of trimming source.entry.name.now source.entry.bytes.now (Ok told.items)) }
+    ensures ok { IfOk result (λ told. comes_of trimming source.entry.name.now source.entry.bytes.now (Ok (done_with told.items))) }
     ensures err { IfErr result (TellsOf (comes_of trimming source.entry.name.now source.entry.bytes.now)) }
 {
     let (diagram, names) = source.diagram(alloc)?;

@@ -9,7 +9,11 @@ returns-clause-one c = one_status (record {
   tree_or_fault = c.tokens_read_one_way.ensures.exclusive;
   one_tree = c.tokens_read_one_way.ensures.one_tree;
   diagram_or_fault = c.a_tree_has_a_fault_or_none.ensures.exclusive;
+  some_diagram = c.a_tree_stands_for_one_diagram.ensures.some_diagram;
   one_diagram = c.a_tree_stands_for_one_diagram.ensures.one_diagram;
+  report_or_fault = c.reports_read_one_way.ensures.exclusive;
+  one_value = c.reports_read_one_way.ensures.one_value;
+  one_verdict = c.verdicts_are_one.ensures;
 })
 
 pub returns-clause-clear : goal.returns-clause-clear
@@ -19,5 +23,9 @@ returns-clause-clear c = not_refused (record {
   tree_or_fault = c.tokens_read_one_way.ensures.exclusive;
   one_tree = c.tokens_read_one_way.ensures.one_tree;
   diagram_or_fault = c.a_tree_has_a_fault_or_none.ensures.exclusive;
+  some_diagram = c.a_tree_stands_for_one_diagram.ensures.some_diagram;
   one_diagram = c.a_tree_stands_for_one_diagram.ensures.one_diagram;
+  report_or_fault = c.reports_read_one_way.ensures.exclusive;
+  one_value = c.reports_read_one_way.ensures.one_value;
+  one_verdict = c.verdicts_are_one.ensures;
 })

@@ -1,4 +1,4 @@
-use Rattle.std.proofs.Common.{rules, []}
+use Rattle.std.proofs.Common.{rules, refl, []}
 use Rattle.maid_app.specs.Graph.{IsGraphText, graphing}
 use Rattle.maid_app.specs.Reading.{TellsTextFault, TellsOf}
 use Rattle.maid_app.specs.Tasks.{comes_of}
@@ -14,5 +14,5 @@ returns-clause-ok c =
 pub returns-in_err-diagram-clause-err : goal.returns-in_err-diagram-clause-err
 returns-in_err-diagram-clause-err c =
     if_err_then c.from_residual.result (TellsTextFault c.args.source.name.now c.args.source.bytes.now) (TellsOf (comes_of graphing c.args.source.name.now c.args.source.bytes.now))
-    (text_refused [] IsGraphText c.args.source.name.now c.args.source.bytes.now)
+    (λ refusal. text_refused graphing [] c.args.source.name.now c.args.source.bytes.now refusal refl)
     (search rules)

@@ -1,4 +1,4 @@
-use Rattle.std.proofs.Common.{◌≡◌, ℕ, List, rules, [], sym, subst}
+use Rattle.std.proofs.Common.{◌≡◌, ℕ, List, rules, refl, [], sym, subst}
 use Rattle.maid_model.specs.Names.{NamesView}
 use Rattle.maid_model.specs.Views.{DiagramView}
 use Rattle.net_print.specs.Printed.{printed}
@@ -29,5 +29,5 @@ returns-clause-ok c =
 pub returns-in_err-diagram-clause-err : goal.returns-in_err-diagram-clause-err
 returns-in_err-diagram-clause-err c =
     if_err_then c.from_residual.result (TellsTextFault c.args.source.name.now c.args.source.bytes.now) (TellsOf (comes_of printing c.args.source.name.now c.args.source.bytes.now))
-    (text_refused [] HasPrint c.args.source.name.now c.args.source.bytes.now)
+    (λ refusal. text_refused printing [] c.args.source.name.now c.args.source.bytes.now refusal refl)
     (search rules)

@@ -1,13 +1,13 @@
 use Rattle.std.proofs.Common.{◌≡◌, ◌∙◌, ◌<◌, ℕ, All, Some, length, sym, subst, ap}
 use Rattle.first_fault.specs.Answers.{IsFaultOrNoMemory}
 use Rattle.rule_solver.specs.Faults.{solve_fault, solve_pass}
-use Rattle.maid_app.specs.Lines.{cycle_line, too_large_line}
+use Rattle.maid_app.specs.Lines.{bound_line, cycle_line, too_large_line}
 use Rattle.maid_app.specs.Outcome.{refused}
-use Rattle.maid_app.specs.declared.status.Status.TheVariants.{Cycle, TooLarge}
+use Rattle.maid_app.specs.declared.status.Status.TheVariants.{Cycle, WeightBound, TooLarge}
 use Rattle.maid_app.proofs.Nodes.{cycle_within}
 use Rattle.maid_app.proofs.Refusals.{told_gives, if_ok_then}
-use Rattle.maid_app.proofs.SolveRefusals.{cycle_of, size_of}
-use Rattle.maid_app.proofs.Solving.{found_in, cycle_found, size_found}
+use Rattle.maid_app.proofs.SolveRefusals.{bound_of, bound_told, cycle_of, place_known, size_of}
+use Rattle.maid_app.proofs.Solving.{found_in, bound_found, cycle_found, size_found}
 use Rattle.maid_app.proofs.forms.solve.refusal.Goals as goal
 
 -- the decisions of the relevance cycle are nodes, which have names
@@ -28,6 +28,24 @@ returns-in-Cycle c name bytes is =
     (λ t e. cycle_found name bytes d names t.items c.in-Cycle.list.items is found.0 found.1 (e ∙ ap (cycle_line names) c.deref.ensures.value))
     c.list_line.ensures)
     c.told.ensures
+
+-- the place at which the weight bound is passed is a node, which has a name
+pub weight_bound-requires : goal.weight_bound-requires
+weight_bound-requires c =
+    let d = c.args.diagram.now in
+    place_known d c.args.names.now c.in-WeightBound.node c.requires.fit (subst (IsFaultOrNoMemory solve_fault (solve_pass d)) c.in-WeightBound.is c.requires.fault)
+
+-- the line tells it
+pub returns-in-WeightBound : goal.returns-in-WeightBound
+returns-in-WeightBound c name bytes is =
+    let d = c.args.diagram.now in
+    let names = c.args.names.now in
+    let found = bound_of d c.in-WeightBound.node (subst (IsFaultOrNoMemory solve_fault (solve_pass d)) c.in-WeightBound.is c.requires.fault) in
+    told_gives (found_in name bytes) WeightBound c.weight_bound.result c.told-in-WeightBound.result
+    (if_ok_then c.weight_bound.result (λ t. t.items ≡ bound_line names c.in-WeightBound.node) (λ t. found_in name bytes (Some (refused WeightBound t.items)))
+    (λ t e. bound_found name bytes d names t.items is found.0 (bound_told d names c.in-WeightBound.node t.items found.1 e))
+    c.weight_bound.ensures)
+    c.told-in-WeightBound.ensures
 
 -- or it tells the cells and the work of too large a run
 pub returns-in-TooLarge : goal.returns-in-TooLarge

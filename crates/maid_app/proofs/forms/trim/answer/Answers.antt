@@ -1,4 +1,4 @@
-use Rattle.std.proofs.Common.{rules, [], ◌∙◌, ◌++◌, subst, sym, ap}
+use Rattle.std.proofs.Common.{rules, refl, [], ◌∙◌, ◌++◌, subst, sym, ap}
 use Rattle.app_lines.specs.Removed.{AreNamed, removed_lines}
 use Rattle.net_print.specs.Printed.{printed}
 use Rattle.maid_app.specs.Reading.{TellsTextFault, TellsOf}
@@ -35,5 +35,5 @@ returns-clause-ok c =
 pub returns-in_err-diagram-clause-err : goal.returns-in_err-diagram-clause-err
 returns-in_err-diagram-clause-err c =
     if_err_then c.from_residual.result (TellsTextFault c.args.source.name.now c.args.source.bytes.now) (TellsOf (comes_of trimming c.args.source.name.now c.args.source.bytes.now))
-    (text_refused [] HasTrim c.args.source.name.now c.args.source.bytes.now)
+    (λ refusal. text_refused trimming [] c.args.source.name.now c.args.source.bytes.now refusal refl)
     (search rules)

@@ -1,0 +1,65 @@
+-- What the stages of a check find, and what it gives where they find nothing.
+use Rattle.std.proofs.Common.{◌≡◌, ◌<◌, ◌≤◌, ◌⊎◌, inl, inr, ℕ, List, Ok, Err, refl, arith}
+use Rattle.std.proofs.lemmas.Bool.{cases_lt}
+use Rattle.std.proofs.Math.Nat.{min-le_left, min-eq_left, min-eq_right, le_of_lt}
+use Rattle.first_fault.specs.Outcomes.{refusals as refusals_of}
+use Rattle.maid_model.specs.Bounds.{stopped}
+use Rattle.maid_model.specs.declared.limits.TheConstants.{COUNT_END, MOST_LEAVES}
+use Rattle.maid_model.specs.Names.{NamesView}
+use Rattle.maid_model.specs.Scopes.{KeepsScopedBounds}
+use Rattle.maid_model.specs.Views.{DiagramView}
+use Rattle.maid_app.specs.Answers.{FindsNothing}
+use Rattle.maid_app.specs.Check.{HasVerdict, examining}
+use Rattle.maid_app.specs.Diagrams.{NamedDiagram, IsDiagramOf}
+use Rattle.maid_app.specs.Outcome.{Written, refused}
+use Rattle.maid_app.specs.Reading.{Examines, Judges, IsExamined, TellsOf}
+use Rattle.maid_app.specs.Refusal.{refused_as}
+use Rattle.maid_app.specs.Request.{check}
+use Rattle.maid_app.specs.Stages.{TellsBound, TellsLeaves, TellsBadLine}
+use Rattle.maid_app.specs.Tasks.{comes_of}
+use Rattle.maid_app.specs.declared.refusal.Refusal.{Refusal}
+use Rattle.maid_app.specs.declared.status.Status.TheVariants.{TextFault, WeightBound, TooLarge}
+use Rattle.maid_app.proofs.Refusals.{found_too}
+
+-- a stopped count that passes the limit is of more leaves than that
+pub many_leaves : (count told : ℕ) → told ≡ stopped count → MOST_LEAVES < told → MOST_LEAVES < count
+many_leaves count told e more = let less = min-le_left count COUNT_END in omega (arith, e, more, less)
+
+-- and one within the limit is the count
+pub few_leaves : (count told : ℕ) → told ≡ stopped count → told ≤ MOST_LEAVES → count ≤ MOST_LEAVES
+few_leaves count told e few = by (cases_lt COUNT_END count) where
+  by : (COUNT_END < count) ⊎ (count ≤ COUNT_END) → count ≤ MOST_LEAVES
+  by (inr h) = let same = min-eq_left h in omega (arith, e, few, same)
+  by (inl h) = let same = min-eq_right {n = COUNT_END} {m = count} (le_of_lt h) in absurd (omega (arith, e, few, same))
+
+-- what any file of the diagram comes to, this one does
+pub examines_here : (d : DiagramView) (names : NamesView) (name bytes : List ℕ) (refusal : Refusal) → IsDiagramOf bytes d names → TellsOf (Examines d names) refusal → TellsOf (comes_of examining name bytes) refusal
+examines_here d names name bytes refusal is h = found_too (refusals_of (Examines d names)) (refusals_of (comes_of examining name bytes)) (λ f found. found name bytes is) (refused_as refusal) h
+
+module _ (d : DiagramView) (names : NamesView) (told : List ℕ) where
+  -- the diagram passes the weight bound
+  pub bound_examined : TellsBound d names told → Examines d names (Err (refused WeightBound told))
+  unfolding comes_of
+  bound_examined tells = λ name bytes is. let x : NamedDiagram = record { d = d; names = names } in inl (inr ((x, is), inl (x, is, (refl, tells))))
+
+  -- it has too many leaves
+  pub leaves_examined : (name bytes : List ℕ) → IsDiagramOf bytes d names → KeepsScopedBounds d → TellsLeaves d names told → comes_of examining name bytes (Err (refused TooLarge told))
+  unfolding comes_of
+  leaves_examined name bytes is keeps tells =
+      let x : NamedDiagram = record { d = d; names = names } in inl (inr ((x, is), inr ((x, is, keeps), inl (x, is, (refl, tells)))))
+
+  -- a line of the report is bad
+  pub line_judged : (name bytes : List ℕ) → TellsBadLine (name, bytes) d names told → Judges d names name bytes (Err (refused TextFault told))
+  unfolding comes_of
+  line_judged name bytes tells = λ text is. let x : NamedDiagram = record { d = d; names = names } in inl (inl (x, is, (refl, tells)))
+
+-- the verdict is given
+pub verdict_judged : (d : DiagramView) (names : NamesView) (name bytes : List ℕ) (output : Written) → HasVerdict d names bytes output → Judges d names name bytes (Ok output)
+unfolding comes_of
+verdict_judged d names name bytes output has = λ text is.
+    let x : NamedDiagram = record { d = d; names = names } in ((((x, is, (has.solved, has.is_report)), tt)), (x, is, has))
+
+-- nothing is found in the file of a diagram that can be checked
+pub examined : (file report bytes : List ℕ) (d : DiagramView) (names : NamesView) → IsExamined bytes d names → FindsNothing (check file report) bytes
+examined file report bytes d names e =
+    let x : NamedDiagram = record { d = d; names = names } in ((x, e.is), ((x, e.is, e.can.bound), ((x, e.is, e.can.few), tt)))
