@@ -1,0 +1,59 @@
+-- The diagram in which the agent decides at a chance node too, and what is found where the first reasons don't apply.
+use Rattle.std.proofs.Common.{◌≡◌, ◌∙◌, ◌↔◌, ℕ, ◌<◌, Bool, true, false, List, length, refl, sym, ap, subst, inl, inr}
+use Rattle.std.proofs.Math.Decide.{ℕ_discrete}
+use Rattle.std.specs.declared.alloc.AllocError.{AllocError}
+use Rattle.std.specs.Prelude.{None, Some, Result, Ok, Err, IfOk}
+use Rattle.arc_laws.proofs.Alone.{LeavesTo, leaves}
+use Rattle.arc_laws.proofs.ControlLaws.{chance_within}
+use Rattle.arc_laws.proofs.InControl as control
+use Rattle.arc_laws.proofs.InControl.{controls}
+use Rattle.first_fault.specs.Outcomes.{◌▸▸◌, gives}
+use Rattle.first_fault.specs.Passes.{Pass, ◌▸◌}
+use Rattle.maid_laws.proofs.Rearranged.{numbered}
+use Rattle.finite_sums.proofs.Lists.{among_filter}
+use Rattle.finite_sums.specs.Members.{Among}
+use Rattle.maid_model.specs.declared.answers.Ratio.{Ratio}
+use Rattle.maid_model.specs.declared.diagrams.Kind.{Kind}
+use Rattle.maid_model.specs.declared.diagrams.Kind.TheVariants.{Chance, Decision, Utility}
+use Rattle.maid_model.specs.Edits.{as_decision, one_agent}
+use Rattle.maid_model.specs.Nodes.{is_chance, node_at, numbers_of}
+use Rattle.maid_model.specs.Subgames.{OwnsAll}
+use Rattle.maid_model.specs.Views.{NodeView, AnswerView}
+use Rattle.optimum_gap.specs.declared.found.Found.{Found}
+use Rattle.optimum_gap.specs.Found.{Reason, found_of, unless}
+use Rattle.control_incentive.specs.Lines.{chance_nodes}
+
+pub owns_made : (nodes : List NodeView) (agent x : ℕ) → (node_at nodes x).kind ≡ Chance → OwnsAll nodes agent → OwnsAll (as_decision nodes agent x) agent
+owns_made nodes agent x k owns = control.owns_there nodes (as_decision nodes agent x) agent x (controls nodes agent x (chance_within nodes x k)) k owns
+
+-- a chance node stays one where only the agent decides
+pub chance_there : (nodes : List NodeView) (agent : ℕ) (answers : List AnswerView) (x : ℕ) → (node_at nodes x).kind ≡ Chance → (node_at (one_agent nodes agent answers) x).kind ≡ Chance
+chance_there nodes agent answers x k = ap (λ m. m.kind) ((leaves nodes agent answers).own x (λ e. absurd (no_decision (sym k ∙ e)))) ∙ k
+  where
+    no_decision : Chance ≡ Decision → ⊥
+    no_decision e = cc
+
+pub listed_chance : (nodes : List NodeView) (x : ℕ) → Among x (chance_nodes nodes) → (x < length nodes) × ((node_at nodes x).kind ≡ Chance)
+listed_chance nodes x m = let r = among_filter (λ v. is_chance (node_at nodes v).kind) x (numbers_of nodes) m in (numbered nodes x r.0, kind (node_at nodes x).kind r.1)
+  where
+    kind : (k : Kind) → is_chance k ≡ true → k ≡ Chance
+    kind Chance e = refl
+    kind Decision e = cc
+    kind Utility e = cc
+
+-- behind a pass that finds nothing
+pub behind : (P Q : Pass Reason) (R : Ratio → Type 0) (r : Result Found AllocError) → P None → IfOk r (λ f. (Q ▸▸ gives R) (found_of f)) → IfOk r (λ f. ((P ▸ Q) ▸▸ gives R) (found_of f))
+behind P Q R (Ok f) p h = go (found_of f) h
+  where
+    go : (x : Result Ratio Reason) → (Q ▸▸ gives R) x → ((P ▸ Q) ▸▸ gives R) x
+    go (Ok v) k = ((p, k.0), k.1)
+    go (Err reason) (inl k) = inl (inr (p, k))
+    go (Err reason) (inr k) = absurd k.1
+behind P Q R (Err e) p h = tt
+
+-- the same need in other words
+pub needed : (A B : Type 0) (reason : Reason) (P : Pass Reason) (Q R : Ratio → Type 0) (x : Result Ratio Reason) → A ↔ B → ((r : Ratio) → Q r → R r) → ((unless A reason ▸ P) ▸▸ gives Q) x → ((unless B reason ▸ P) ▸▸ gives R) x
+needed A B reason P Q R (Ok r) same f h = ((same.0 h.0.0, h.0.1), f r h.1)
+needed A B reason P Q R (Err e) same f (inl (inl h)) = inl (inl ((λ b. h.0 (same.1 b)), h.1))
+needed A B reason P Q R (Err e) same f (inl (inr h)) = inl (inr (same.0 h.0, h.1))
+needed A B reason P Q R (Err e) same f (inr h) = absurd h.1

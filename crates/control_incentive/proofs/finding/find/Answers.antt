@@ -1,0 +1,37 @@
+use Rattle.std.proofs.Common.{rules, ◌≡◌, ◌<◌, true, inl, sym, subst}
+use Rattle.std.specs.Prelude.{Ok, Err, IfOk, IsTrue}
+use Rattle.first_fault.specs.Passes.{◌▸◌, rule}
+use Rattle.maid_model.specs.declared.limits.TheConstants.{MOST_RULE_CELLS}
+use Rattle.maid_model.specs.Edits.{as_decision}
+use Rattle.maid_model.specs.Values.{IsDifferenceOfOptima}
+use Rattle.maid_model.specs.Views.{DiagramView}
+use Rattle.diagram_graph.specs.Room.{rule_cells}
+use Rattle.optimum_gap.specs.Baselines.{HaveNearScopes}
+use Rattle.optimum_gap.specs.Found.{IsGain, TooLarge, Worthless, solving, unless}
+use Rattle.control_incentive.specs.Lines.{controlling}
+use Rattle.control_incentive.proofs.Deciding.{behind}
+use Rattle.control_incentive.proofs.finding.find.Goals as goal
+
+no_error : {A E : Type 0} {x : A} {e : E} → Ok x ≡ Err e → ⊥
+no_error p = cc
+
+pub gain-requires-clause-near : goal.gain-requires-clause-near
+gain-requires-clause-near c =
+    let d = c.args.baseline.now.diagram.now in
+    let agent = c.args.baseline.now.agent in
+    let is = c.count-count.ensures.diagram in
+    subst (λ (e : DiagramView). HaveNearScopes d e agent) (sym c.in-Ok.ensures.made) (inl (c.edits_keep_scopes.ensures.control d c.args.node agent is.graph is.tables c.requires.chance))
+
+-- the node matters and can be a decision, and the rest is the solver's
+pub returns-in-Ok : goal.returns-in-Ok
+returns-in-Ok c =
+    let d = c.args.baseline.now.diagram.now in
+    let agent = c.args.baseline.now.agent in
+    let x = c.args.node in
+    let made = controlling d agent x in
+    let holds : IsTrue c.args.matters = search rules in
+    let large = MOST_RULE_CELLS < rule_cells (as_decision d.nodes agent x) in
+    let room : MOST_RULE_CELLS < rule_cells (as_decision d.nodes agent x) → ⊥ = λ t. no_error (c.in-Ok.ensures.too_large.1 t) in
+    behind (unless (IsTrue c.args.matters) Worthless) (rule large TooLarge ▸ solving made) (IsDifferenceOfOptima made.nodes d.nodes d.decimals agent) c.gain.result holds
+    (behind (rule large TooLarge) (solving made) (IsDifferenceOfOptima made.nodes d.nodes d.decimals agent) c.gain.result room
+    (subst (λ e. IfOk c.gain.result (IsGain d e agent)) c.in-Ok.ensures.made c.gain.ensures))

@@ -1,0 +1,4 @@
+pub mod Paths
+pub mod Lines
+pub mod Steps
+pub mod Example

@@ -1,0 +1,30 @@
+-- What the steps promise one another, in the diagram in which one agent decides alone. Only private functions cite it.
+use Rattle.std.specs.Prelude.{◌≡◌, ◌↔◌, ℕ, Bool, List, IsTrue}
+use Rattle.maid_model.specs.declared.diagrams.Kind.TheVariants.{Decision, Utility}
+use Rattle.maid_model.specs.Values.{IsDifferenceOfOptima}
+use Rattle.maid_model.specs.Views.{NodeView, DiagramView}
+use Rattle.node_sets.specs.Sets.{IsIn, holds}
+use Rattle.first_fault.specs.Outcomes.{◌▸▸◌, gives}
+use Rattle.optimum_gap.specs.declared.found.Found.{Found}
+use Rattle.optimum_gap.specs.Found.{found_of}
+use Rattle.control_incentive.specs.declared.lines.ControlLine.{ControlLine}
+use Rattle.control_incentive.specs.declared.paths.Paths.{Paths}
+use Rattle.control_incentive.specs.Lines.{controlling, of_control}
+use Rattle.control_incentive.specs.Paths.{IsInstrumental, LeadsTo}
+
+-- the sets have the nodes that the paths make
+pub record HasPaths (nodes trimmed : List NodeView) (agent : ℕ) (paths : Paths) : Type 0 where
+  pub respond : (v : ℕ) → IsIn paths.respond v ↔ LeadsTo trimmed Decision agent v
+  pub matter : (v : ℕ) → IsIn paths.matter v ↔ LeadsTo trimmed Utility agent v
+  pub instruments : (v : ℕ) → IsIn paths.instruments v ↔ IsInstrumental nodes agent v
+
+-- the first reason that applies where the node matters or not, or the difference of the two optima
+abbrev pub IsFoundAlone : DiagramView → ℕ → ℕ → Bool → Found → Type 0
+IsFoundAlone d agent x matters found =
+    (of_control d agent x (IsTrue matters) ▸▸ gives (IsDifferenceOfOptima (controlling d agent x).nodes d.nodes d.decimals agent)) (found_of found)
+
+-- a line, by the sets of nodes
+pub record IsLineAlone (d : DiagramView) (agent : ℕ) (paths : Paths) (line : ControlLine) : Type 0 where
+  pub response : line.response ≡ holds paths.respond line.node
+  pub instrumental : line.instrumental ≡ holds paths.instruments line.node
+  pub found : IsFoundAlone d agent line.node (holds paths.matter line.node) line.found

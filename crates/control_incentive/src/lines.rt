@@ -1,0 +1,142 @@
+//! A line for each chance node.
+
+ghost use Rattle.std.specs.Prelude.{◌≡◌, ◌<◌, All, IfOk, List, length, map};
+ghost use Rattle.maid_model.specs.declared.diagrams.Kind.TheVariants.{Chance};
+ghost use Rattle.maid_model.specs.Answers.{IsAnswer};
+ghost use Rattle.maid_model.specs.Nodes.{is_chance, node_at};
+ghost use Rattle.maid_model.specs.Scopes.{KeepsScopedBounds};
+ghost use Rattle.maid_model.specs.Views.{NodeView};
+ghost use Rattle.optimum_gap.specs.Baselines.{IsBaseline};
+ghost use Rattle.control_incentive.specs.Lines.{IsControlLine, IsTrimmedAlone, TellsControl, chance_nodes, node_of};
+ghost use Rattle.control_incentive.specs.Steps.{IsLineAlone};
+
+use crate::finding::find;
+use crate::paths::Paths;
+use diagram_graph::fix_others;
+use maid_model::{Diagram, Kind, Solved};
+use optimum_gap::{Baseline, Found, answers_are_baselines};
+use requisite_trim::trim;
+use std::alloc::{AllocError, Global};
+
+/// What control of the chance node is worth to the agent, and which incentives it has there.
+#[derive(Debug, Drop)]
+pub struct ControlLine {
+    pub node: usize,
+    /// Whether in the trimmed diagram a path leads from the node to a decision of the agent.
+    pub response: bool,
+    /// Whether a path leads from a decision of the agent through the node to a utility of the agent.
+    pub instrumental: bool,
+    pub found: Found,
+}
+
+/// Whether the node is a chance node.
+fn is_chance(diagram: &Diagram, v: usize) -> bool
+    requires { v < length diagram.now.nodes }
+    ensures { result ≡ is_chance (node_at diagram.now.nodes v).kind }
+{
+    match diagram.kind(v) {
+        Kind::Chance => true,
+        Kind::Decision => false,
+        Kind::Utility => false,
+    }
+}
+
+/// The chance nodes, in text order.
+fn chance_nodes(alloc: Global, diagram: &Diagram) -> Result<Vec<usize>, AllocError>
+    ensures { IfOk result (λ nodes. nodes.items ≡ chance_nodes diagram.now.nodes) }
+{
+    let mut nodes = Vec::new(alloc);
+    for v in 0..diagram.count() {
+        if is_chance(diagram, v) {
+            nodes.push(v)?;
+        }
+    }
+    Ok(nodes)
+}
+
+/// The line of a chance node.
+fn control_line(
+    alloc: Global,
+    baseline: &Baseline,
+    paths: &Paths,
+    node: usize,
+) -> Result<ControlLine, AllocError>
+    requires baseline { IsBaseline baseline.now.diagram.now baseline.now.agent baseline.now.optimum }
+    requires chance { (node_at baseline.now.diagram.now.nodes node).kind ≡ Chance }
+    requires within { node < length baseline.now.diagram.now.nodes }
+    ensures node { IfOk result (λ line. line.node ≡ node) }
+    ensures line { IfOk result (IsLineAlone baseline.now.diagram.now baseline.now.agent paths.now) }
+{
+    let _count = baseline.diagram.count();
+    let response = paths.respond.holds(node);
+    let instrumental = paths.instruments.holds(node);
+    let found = find(alloc, baseline, paths.matter.holds(node), node)?;
+    Ok(ControlLine {
+        node,
+        response,
+        instrumental,
+        found,
+    })
+}
+
+/// A line for each of the chance nodes.
+fn control_lines(
+    alloc: Global,
+    baseline: &Baseline,
+    paths: &Paths,
+    nodes: &[usize],
+) -> Result<Vec<ControlLine>, AllocError>
+    requires baseline { IsBaseline baseline.now.diagram.now baseline.now.agent baseline.now.optimum }
+    requires chance { All (λ v. (node_at baseline.now.diagram.now.nodes v).kind ≡ Chance) nodes.now }
+    requires within { All (λ v. v < length baseline.now.diagram.now.nodes) nodes.now }
+    ensures nodes { IfOk result (λ lines. map node_of lines.items ≡ nodes.now) }
+    ensures lines { IfOk result (λ lines. All (IsLineAlone baseline.now.diagram.now baseline.now.agent paths.now) lines.items) }
+{
+    let mut lines = Vec::with_capacity(alloc, nodes.len())?;
+    for node in nodes {
+        lines.push(control_line(alloc, baseline, paths, *node)?)?;
+    }
+    Ok(lines)
+}
+
+/// What control is worth to the agent: a line for each chance node of the diagram, in text order.
+///
+/// Everything is asked in the diagram in which only this agent decides and the others take the answered choices. A line
+/// says the first of these that applies: `Worthless` where in the trimmed diagram no path leads from the node to a utility
+/// of the agent; `TooLarge` where as a decision the node makes too much of the rules; `Cycle`, `Bound` or `TooLarge` where
+/// the solver refuses the diagram in which the agent decides at the node; and else `Value`, the optimum of that diagram
+/// less the optimum before. The two flags are facts of the graph, and no value is claimed from them.
+///
+/// The optimum before is the answer's own gain. It trims the diagram and searches it a few times, and each line costs at
+/// most one edit and one run of the solver.
+///
+/// # Errors
+///
+/// Only where memory runs out.
+pub fn control(
+    alloc: Global,
+    diagram: &Diagram,
+    solved: &Solved,
+    agent: usize,
+) -> Result<Vec<ControlLine>, AllocError>
+    // The solver answers this of the diagram.
+    requires answer { IsAnswer diagram.now solved.now }
+    requires bound { KeepsScopedBounds diagram.now }
+    requires agent { agent < diagram.now.agents }
+    ensures nodes { IfOk result (λ lines. map node_of lines.items ≡ chance_nodes diagram.now.nodes) }
+    ensures lines { IfOk result (λ lines. (trimmed : List NodeView) × IsTrimmedAlone diagram.now solved.now.answers agent trimmed × All (IsControlLine diagram.now solved.now.answers agent trimmed) lines.items) }
+    ensures worths { IfOk result (λ lines. All (TellsControl diagram.now solved.now.answers agent) lines.items) }
+{
+    answers_are_baselines();
+    let _count = diagram.count();
+    let alone = fix_others(alloc, diagram, agent, solved)?;
+    let trimmed = trim(alloc, &alone)?;
+    let paths = Paths::find(&alone, &trimmed.diagram, agent);
+    let baseline = Baseline {
+        diagram: &alone,
+        agent,
+        optimum: solved.gains[agent],
+    };
+    let nodes = chance_nodes(alloc, diagram)?;
+    control_lines(alloc, &baseline, &paths, &nodes)
+}

@@ -1,0 +1,38 @@
+-- Edits in a diagram in which one agent decides alone, and what is found where the first reasons don't apply.
+use Rattle.std.proofs.Common.{◌∙◌, ℕ, List, sym, inl, inr}
+use Rattle.std.specs.declared.alloc.AllocError.{AllocError}
+use Rattle.std.specs.Prelude.{None, Result, Ok, Err, IfOk}
+use Rattle.arc_laws.proofs.LostArc as lost
+use Rattle.arc_laws.proofs.LostArc.{loses, loses_added}
+use Rattle.first_fault.specs.Outcomes.{◌▸▸◌, gives}
+use Rattle.first_fault.specs.Passes.{Pass, ◌▸◌}
+use Rattle.maid_laws.proofs.Members.{arc_of}
+use Rattle.maid_model.specs.declared.answers.Ratio.{Ratio}
+use Rattle.maid_model.specs.Edits.{with_arc, without_arc}
+use Rattle.maid_model.specs.Graph.{Arc, IsGraph}
+use Rattle.maid_model.specs.Nodes.{IsDecision}
+use Rattle.maid_model.specs.Subgames.{OwnsAll}
+use Rattle.maid_model.specs.Views.{NodeView}
+use Rattle.optimum_gap.specs.declared.found.Found.{Found}
+use Rattle.optimum_gap.specs.Found.{Reason, found_of}
+
+pub owns_without : (nodes : List NodeView) (x d agent : ℕ) → IsDecision nodes d → OwnsAll nodes agent → OwnsAll (without_arc nodes x d) agent
+owns_without nodes x d agent k owns = lost.owns_there nodes (without_arc nodes x d) x d (loses nodes x d k.within) agent owns
+
+pub owns_with : (nodes : List NodeView) (x d agent : ℕ) → IsDecision nodes d → IsGraph (with_arc nodes x d) → OwnsAll nodes agent → OwnsAll (with_arc nodes x d) agent
+owns_with nodes x d agent k g owns v is =
+    let l = loses_added nodes x d k.within g in
+    sym (lost.owner_same (with_arc nodes x d) nodes x d l v) ∙ owns v (lost.decision_there (with_arc nodes x d) nodes x d l v is)
+
+pub arc_added : (nodes : List NodeView) (x d : ℕ) → IsDecision nodes d → Arc (with_arc nodes x d) x d
+arc_added nodes x d k = arc_of (with_arc nodes x d) x d (lost.added_parent nodes x d k.within)
+
+-- behind a pass that finds nothing
+pub behind : (P Q : Pass Reason) (R : Ratio → Type 0) (r : Result Found AllocError) → P None → IfOk r (λ f. (Q ▸▸ gives R) (found_of f)) → IfOk r (λ f. ((P ▸ Q) ▸▸ gives R) (found_of f))
+behind P Q R (Ok f) p h = go (found_of f) h
+  where
+    go : (x : Result Ratio Reason) → (Q ▸▸ gives R) x → ((P ▸ Q) ▸▸ gives R) x
+    go (Ok v) k = ((p, k.0), k.1)
+    go (Err reason) (inl k) = inl (inr (p, k))
+    go (Err reason) (inr k) = absurd k.1
+behind P Q R (Err e) p h = tt

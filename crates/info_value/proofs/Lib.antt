@@ -1,0 +1,5 @@
+pub mod Ranges
+pub mod Sights
+pub mod Added
+pub mod Asked
+pub mod Told

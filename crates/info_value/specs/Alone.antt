@@ -1,0 +1,45 @@
+-- What the steps promise one another of an arc, in the diagram in which one agent decides alone. Only private functions cite it.
+use Rattle.std.specs.Prelude.{◌≢◌, ◌↔◌, ℕ, ◌<◌, Bool, true, false, List, length, IsTrue, IsFalse, IsSome}
+use Rattle.maid_model.specs.declared.diagrams.Kind.TheVariants.{Utility}
+use Rattle.maid_model.specs.Edits.{with_arc, without_arc}
+use Rattle.maid_model.specs.Graph.{Arc, IsGraph, IsPath}
+use Rattle.maid_model.specs.Nodes.{IsDecision, node_at}
+use Rattle.maid_model.specs.Values.{IsDifferenceOfOptima}
+use Rattle.maid_model.specs.Views.{NodeView, DiagramView}
+use Rattle.first_fault.specs.Outcomes.{◌▸▸◌, gives}
+use Rattle.optimum_gap.specs.declared.found.Found.{Found}
+use Rattle.optimum_gap.specs.Found.{found_of, worth_of}
+use Rattle.info_value.specs.declared.lines.InfoLine.{InfoLine}
+use Rattle.info_value.specs.Finding.{of_seen, of_unseen}
+
+-- an arc into a decision, from another node that is no utility and does not descend from it
+pub record CanAsk (nodes : List NodeView) (arc : ℕ × ℕ) : Type 0 where
+  pub decision : IsDecision nodes arc.1
+  pub within : arc.0 < length nodes
+  pub no_utility : (node_at nodes arc.0).kind ≢ Utility
+  pub above : IsPath (Arc nodes) arc.1 arc.0 → ⊥
+
+-- the first reason that applies, or the difference of the two optima: of an arc that is there,
+abbrev pub IsFoundOfSeen : DiagramView → ℕ → ℕ → ℕ → Found → Type 0
+IsFoundOfSeen d agent x to found =
+    (of_seen d x to ▸▸ gives (IsDifferenceOfOptima d.nodes (without_arc d.nodes x to) d.decimals agent)) (found_of found)
+
+-- and of one that is not
+abbrev pub IsFoundOfUnseen : DiagramView → ℕ → ℕ → ℕ → Found → Type 0
+IsFoundOfUnseen d agent x to found =
+    (of_unseen d x to ▸▸ gives (IsDifferenceOfOptima (with_arc d.nodes x to) d.nodes d.decimals agent)) (found_of found)
+
+abbrev pub IsFoundAlone : DiagramView → ℕ → ℕ → ℕ → Bool → Found → Type 0
+IsFoundAlone d agent x to true found = IsFoundOfSeen d agent x to found
+IsFoundAlone d agent x to false found = IsFoundOfUnseen d agent x to found
+
+-- where something is told of its worth, the diagram with the arc is one
+abbrev pub HasRoomFor : DiagramView → ℕ → ℕ → Found → Type 0
+HasRoomFor d x to found = IsSome (worth_of found) → IsGraph (with_arc d.nodes x to)
+
+-- a line of an arc
+pub record IsLineAlone (d : DiagramView) (agent : ℕ) (line : InfoLine) : Type 0 where
+  pub decision : IsDecision d.nodes line.to
+  pub has : IsTrue line.has ↔ Arc d.nodes line.from line.to
+  pub found : IsFoundAlone d agent line.from line.to line.has line.found
+  pub graph : IsFalse line.has → HasRoomFor d line.from line.to line.found

@@ -1,0 +1,30 @@
+-- Why an arc into a decision has no information value: the first reason that applies, in the diagram in which only one agent decides.
+use Rattle.std.specs.Prelude.{◌≡◌, ℕ}
+use Rattle.maid_model.specs.Edits.{with_arc, without_arc}
+use Rattle.maid_model.specs.Relevance.{IsRequisite}
+use Rattle.maid_model.specs.Views.{DiagramView}
+use Rattle.diagram_graph.specs.Edited.{with_nodes}
+use Rattle.diagram_graph.specs.Room.{IsTooLarge}
+use Rattle.first_fault.specs.Passes.{Pass, ◌▸◌, rule}
+use Rattle.optimum_gap.specs.Found.{Reason, TooLarge, Worthless, solving, unless}
+
+-- the diagram with the arc, and without it
+abbrev pub seeing : DiagramView → ℕ → ℕ → DiagramView
+seeing d x to = with_nodes d (with_arc d.nodes x to)
+
+abbrev pub missing : DiagramView → ℕ → ℕ → DiagramView
+missing d x to = with_nodes d (without_arc d.nodes x to)
+
+-- an arc that is there: worthless unless it is requisite, or the diagram without it is refused by the solver
+abbrev pub of_seen : DiagramView → ℕ → ℕ → Pass Reason
+of_seen d x to = unless (IsRequisite d.nodes to x) Worthless ▸ solving (missing d x to)
+
+-- an arc that is not there: it makes too much of the rules, is worthless unless it would be requisite, or the diagram with it is refused by the solver
+abbrev pub of_unseen : DiagramView → ℕ → ℕ → Pass Reason
+of_unseen d x to =
+    rule (IsTooLarge d.nodes x to) TooLarge ▸ unless (IsRequisite (with_arc d.nodes x to) to x) Worthless ▸ solving (seeing d x to)
+
+-- the diagram with the arc, which keeps the limits on rules
+pub record IsAdded (d : DiagramView) (x to : ℕ) (more : DiagramView) : Type 0 where
+  pub room : IsTooLarge d.nodes x to → ⊥
+  pub is : more ≡ seeing d x to

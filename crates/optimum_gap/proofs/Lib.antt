@@ -1,0 +1,4 @@
+pub mod Denominators
+pub mod Counting
+pub mod Edits
+pub mod Optima

@@ -1,0 +1,4 @@
+pub mod Fractions
+pub mod Baselines
+pub mod Found
+pub mod Laws

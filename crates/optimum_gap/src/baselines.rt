@@ -1,0 +1,90 @@
+//! Optima of edited diagrams against the optimum before.
+
+ghost use Rattle.std.specs.Prelude.{◌<◌, IfOk};
+ghost use Rattle.first_fault.specs.Answers.{IsFaultOrNoMemory, Passes};
+ghost use Rattle.maid_model.specs.Subgames.{OwnsAll};
+ghost use Rattle.maid_model.specs.Values.{IsOptimum};
+ghost use Rattle.maid_model.specs.Views.{DiagramView};
+ghost use Rattle.rule_solver.specs.Faults.{solve_fault, solve_pass};
+ghost use Rattle.optimum_gap.specs.Baselines.{HaveNearScopes, IsBaseline};
+ghost use Rattle.optimum_gap.specs.Found.{IsGain, IsLoss, TellsReason, solving};
+
+use crate::differences::difference;
+use crate::found::Found;
+use maid_model::{Diagram, Ratio};
+use rule_solver::{SolveFault, solve};
+use std::alloc::{AllocError, Global};
+
+/// The agent's optimum in a diagram in which it decides alone.
+fn optimum(alloc: Global, diagram: &Diagram, agent: usize) -> Result<Ratio, SolveFault>
+    requires alone { OwnsAll diagram.now.nodes agent }
+    requires within { agent < diagram.now.agents }
+    ensures rows { Passes solve_fault (solve_pass diagram.now) result }
+    ensures optimum { IfOk result (IsOptimum diagram.now.nodes diagram.now.decimals agent) }
+{
+    let solved = solve(alloc, diagram)?;
+    Ok(solved.gains[agent])
+}
+
+/// Why a diagram that the solver refuses has no value.
+fn refused(fault: SolveFault) -> Result<Found, AllocError>
+    ensures { (d : DiagramView) → IsFaultOrNoMemory solve_fault (solve_pass d) fault → IfOk result (TellsReason (solving d)) }
+{
+    match fault {
+        SolveFault::Cycle { list } => Ok(Found::Cycle(list)),
+        SolveFault::WeightBound { .. } => Ok(Found::Bound),
+        SolveFault::TooLarge { .. } => Ok(Found::TooLarge),
+        SolveFault::NoMemory => Err(AllocError),
+    }
+}
+
+/// A diagram in which one agent decides alone, and its optimum there. Edits of the diagram are compared with it.
+#[derive(Drop)]
+pub struct Baseline<'a> {
+    pub diagram: &'a Diagram,
+    pub agent: usize,
+    pub optimum: Ratio,
+}
+
+impl<'a> Baseline<'a> {
+    /// What the agent gains by the edit: its optimum in the edited diagram less the optimum before. The edited diagram
+    /// is solved once; the reason is the solver's where it is refused.
+    ///
+    /// # Errors
+    ///
+    /// Only where memory runs out.
+    pub fn gain(&self, alloc: Global, edited: &Diagram) -> Result<Found, AllocError>
+        requires baseline { IsBaseline self.now.diagram.now self.now.agent self.now.optimum }
+        requires alone { OwnsAll edited.now.nodes self.now.agent }
+        requires within { self.now.agent < edited.now.agents }
+        requires near { HaveNearScopes self.now.diagram.now edited.now self.now.agent }
+        ensures { IfOk result (IsGain self.now.diagram.now edited.now self.now.agent) }
+    {
+        let _before = self.diagram.count();
+        let _after = edited.count();
+        match optimum(alloc, edited, self.agent) {
+            Ok(more) => Ok(Found::Value(difference(more, self.optimum))),
+            Err(fault) => refused(fault),
+        }
+    }
+
+    /// What the agent loses by the edit: the optimum before less that in the edited diagram, which is solved once.
+    ///
+    /// # Errors
+    ///
+    /// Only where memory runs out.
+    pub fn loss(&self, alloc: Global, edited: &Diagram) -> Result<Found, AllocError>
+        requires baseline { IsBaseline self.now.diagram.now self.now.agent self.now.optimum }
+        requires alone { OwnsAll edited.now.nodes self.now.agent }
+        requires within { self.now.agent < edited.now.agents }
+        requires near { HaveNearScopes self.now.diagram.now edited.now self.now.agent }
+        ensures { IfOk result (IsLoss self.now.diagram.now edited.now self.now.agent) }
+    {
+        let _before = self.diagram.count();
+        let _after = edited.count();
+        match optimum(alloc, edited, self.agent) {
+            Ok(less) => Ok(Found::Value(difference(self.optimum, less))),
+            Err(fault) => refused(fault),
+        }
+    }
+}
