@@ -1,6 +1,7 @@
 //! Each call once, at the ends of its range.
 
 use super::*;
+use std::cmp::Ordering;
 
 #[test]
 fn by_hand(rt: HostRuntime) {
@@ -13,4 +14,14 @@ fn by_hand(rt: HostRuntime) {
     assert_eq!(rt; lcm_within(4, 6, 11), None);
     assert_eq!(rt; add_within(1, 2, 3), Some(3));
     assert_eq!(rt; mul_within(3, 4, 11), None);
+    // 2^127 - 2 over 2^128 - 5 is a little more than a half, and the next below a little less.
+    let (near, whole) = (
+        170141183460469231731687303715884105726,
+        340282366920938463463374607431768211451,
+    );
+    assert_eq!(rt; compare_parts(near, whole, 1, 2), Ordering::Greater);
+    assert_eq!(rt; compare_parts(near - 1, whole, 1, 2), Ordering::Less);
+    assert_eq!(rt; compare_parts(1, 2, near, whole), Ordering::Less);
+    assert_eq!(rt; compare_parts(6, 4, 3, 2), Ordering::Equal);
+    assert_eq!(rt; compare_parts(0, 7, 0, 1), Ordering::Equal);
 }
