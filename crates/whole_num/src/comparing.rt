@@ -13,7 +13,7 @@ pub fn compare_parts(a: u128, b: u128, c: u128, d: u128) -> Ordering
     ensures { result ≡ fraction_order a b c d }
 {
     let (mut a, mut b, mut c, mut d) = (a, b, c, d);
-    loop {
+    'parts: loop {
         let (whole, other) = (a / b, c / d);
         if whole != other {
             return whole.cmp(&other);
