@@ -1,3 +1,4 @@
+pub mod Choices
 pub mod Demo
 pub mod Places
 pub mod Removed

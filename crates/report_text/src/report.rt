@@ -88,7 +88,7 @@ fn push_worth(out: &mut Vec<u8>, worth: &Option<Ratio>) -> Result<(), AllocError
 }
 
 /// Appends the chosen state, by its number from 1 and its label.
-pub(crate) fn push_state(
+pub fn push_state(
     out: &mut Vec<u8>,
     diagram: &Diagram,
     names: &Names,
@@ -106,7 +106,7 @@ pub(crate) fn push_state(
 
 /// Appends the line of one row up to its choice. Rows are numbered from 0 here and from 1 in the text.
 #[tactic(auto, using(std::proofs::Common::append_assoc))]
-pub(crate) fn push_row_front(
+pub fn push_row_front(
     out: &mut Vec<u8>,
     diagram: &Diagram,
     names: &Names,
@@ -222,9 +222,9 @@ pub(crate) fn push_decision_words(
     push_names(out, names, parents_of(diagram, decision))
 }
 
-// Appends that line.
+/// Appends the line that names a decision, whose it is and what it sees.
 #[tactic(auto, using(std::proofs::Common::append_assoc))]
-fn push_head(
+pub fn push_head(
     out: &mut Vec<u8>,
     diagram: &Diagram,
     names: &Names,
