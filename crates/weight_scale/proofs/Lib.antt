@@ -2,6 +2,7 @@ pub mod Bounding
 pub mod BoundPlaces
 pub mod Decided
 pub mod Divisors
+pub mod GivenMembers
 pub mod Greatest
 pub mod Lists
 pub mod Pivots

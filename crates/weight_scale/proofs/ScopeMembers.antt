@@ -44,7 +44,7 @@ module _ (nodes : List NodeView) (agent : ℕ) where
       let b = and_both (is_utility (node_at nodes u).kind) (owns nodes agent u) t in
       record { within = l; kind = kind_of_utility (node_at nodes u).kind b.0; owner = (any_is agent (owners_of nodes u)).0 b.1 }
 
-  test_of_utility : (u : ℕ) → IsUtilityFor nodes agent u → is_utility_of nodes agent u ≡ true
+  pub test_of_utility : (u : ℕ) → IsUtilityFor nodes agent u → is_utility_of nodes agent u ≡ true
   test_of_utility u h = λ i. ap is_utility h.kind i && (any_is agent (owners_of nodes u)).1 h.owner i
 
   module _ (set : NodeSet) (is : (u : ℕ) → IsIn set u ↔ IsUtilityFor nodes agent u) where

@@ -1,7 +1,8 @@
 //! The numbers of a text made exact: `numeral` gives a numeral's value as a whole number and its
 //! decimals, `scale_rows` takes the rows of a chance table in proportion, and `bound` says whether
 //! the sums over the worlds that matter to a decision or an agent have room. `decision_scope` and
-//! `agent_scope` give the nodes that matter to them.
+//! `agent_scope` give the nodes that matter to them, and `scope_given` those that matter to an agent
+//! where a node's state is given.
 #![tactic(auto)]
 
 mod decimal;
@@ -21,7 +22,7 @@ pub use laws::{
 };
 pub use numerals::numeral;
 pub use scaling::{ScaleFault, Scaled, scale_rows};
-pub use scopes::{agent_scope, decision_scope};
+pub use scopes::{agent_scope, decision_scope, place_given, scope_given};
 pub use weight_bound::{BoundPlace, bound};
 
 #[cfg(test)]

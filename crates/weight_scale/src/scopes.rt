@@ -7,11 +7,13 @@ ghost use Rattle.maid_model.specs.Diagrams.{IsDiagram, greatest_number};
 ghost use Rattle.maid_model.specs.Gains.{greatest_abs};
 ghost use Rattle.maid_model.specs.Nodes.{IsDecision};
 ghost use Rattle.maid_model.specs.Scopes.{scope_for, scope_of};
+ghost use Rattle.weight_scale.specs.Given.{IsPlaceGiven, scope_given};
 ghost use Rattle.weight_scale.specs.ScopePlaces.{factor_in, greatest_in, greatest_sum, IsUtilityFor, IsScopeOf, IsScopeFor, IsPlaceIn};
 
 use crate::weight_bound::BoundPlace;
 use maid_model::{Diagram, GREATEST_NUMBER, Kind, goals_of};
 use node_sets::{NodeSet, ancestors};
+use part_laws::parts_are_diagrams;
 use whole_num::{add_within, mul_within};
 
 /// Which nodes of a scope count in its product: in an agent's the chance nodes, in a decision's the decisions too.
@@ -73,6 +75,18 @@ pub fn agent_scope(diagram: &Diagram, agent: usize) -> NodeSet
     ensures { (v : ℕ) → IsIn result v ↔ Contains (scope_for diagram.now.nodes agent) v }
 {
     ancestors(diagram, utilities_of(diagram, agent))
+}
+
+/// The scope of an agent where a node's state is given: the nodes from which a path of nought or more arcs leads to the
+/// node or to one of the agent's utilities. It takes no memory, and goes over all arcs a few times.
+pub fn scope_given(diagram: &Diagram, node: usize, agent: usize) -> NodeSet
+    requires { node < length diagram.now.nodes }
+    ensures { (v : ℕ) → IsIn result v ↔ Contains (scope_given diagram.now.nodes node agent) v }
+{
+    parts_are_diagrams();
+    let mut ends = utilities_of(diagram, agent);
+    ends.insert(node);
+    ancestors(diagram, ends)
 }
 
 /// The scope of the node, if it is a decision: what leads to it, or to a utility of its agent that descends from it.
@@ -182,4 +196,17 @@ impl Scope {
             BoundPlace::Utilities
         }
     }
+}
+
+/// Where the weight bound of an agent's scope fails where a node's state is given. It takes no memory; it goes over all
+/// arcs a few times, and once over the cells of the agent's utilities and the first row of the scope's chance tables.
+pub fn place_given(diagram: &Diagram, node: usize, agent: usize) -> BoundPlace
+    requires { node < length diagram.now.nodes }
+    ensures { IsPlaceGiven diagram.now node agent result }
+{
+    let scope = Scope {
+        nodes: scope_given(diagram, node, agent),
+        ..scope_for(diagram, agent)
+    };
+    scope.place(diagram)
 }
