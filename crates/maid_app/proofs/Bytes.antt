@@ -1,7 +1,6 @@
 -- Bytes come to one status: they stand for one diagram or have a fault, and each stage is clear or refuses with its status, never both.
-use Rattle.std.proofs.Common.{◌≡◌, inl, inr, ℕ, List, None, Some, refl, ap, subst, sym, ◌∙◌, arith, Err}
+use Rattle.std.proofs.Common.{◌≡◌, inl, inr, ℕ, List, None, Some, ap, subst, sym, ◌∙◌, arith, Err}
 use Rattle.first_fault.specs.Passes.{each}
-use Rattle.first_fault.specs.Properties.{EndsAlike}
 use Rattle.first_fault.proofs.Ends.{staged_alike}
 use Rattle.first_fault.proofs.Kept.{IsOneBy, over_one, each_one, each_only}
 use Rattle.maid_io.specs.Device.{File}
@@ -28,12 +27,12 @@ use Rattle.maid_app.specs.Diagrams.{NamedDiagram, IsTreeOf, IsDiagramOf, of_diag
 use Rattle.maid_app.specs.Faults.{TellsFault, IsTextFault}
 use Rattle.maid_app.specs.Laws.{OneStatus}
 use Rattle.maid_app.specs.Outcome.{Written, Refused, status_with}
-use Rattle.maid_app.specs.Request.{Request, solve, check, judge, graph, print, trim, demo, file_name}
-use Rattle.maid_app.specs.Stages.{Stage, text_fault, relevance_cycle, weight_bound, too_large, too_many_leaves, bad_line, Finds, IsText, IsReport, HasFewLeaves, stage, TellsCycle, TellsBound, AtNode, AtUtilities, TellsTooLarge, TellsLeaves, TellsBadLine}
+use Rattle.maid_app.specs.Request.{Request, solve, check, judge, graph, print, trim, info, control, demo, file_name}
+use Rattle.maid_app.specs.Stages.{Stage, text_fault, unknown_agent, relevance_cycle, weight_bound, too_large, too_many_leaves, bad_line, Finds, IsText, IsAgent, IsReport, HasFewLeaves, stage, TellsUnknownAgent, TellsCycle, TellsBound, AtNode, AtUtilities, TellsTooLarge, TellsLeaves, TellsBadLine}
 use Rattle.maid_app.specs.Tasks.{Task, comes_of}
 use Rattle.maid_app.proofs.TellApart.{told_apart}
 use Rattle.maid_app.specs.declared.status.Status.{Status}
-use Rattle.maid_app.specs.declared.status.Status.TheVariants.{TextFault, Cycle, WeightBound, TooLarge}
+use Rattle.maid_app.specs.declared.status.Status.TheVariants.{TextFault, UnknownAgent, Cycle, WeightBound, TooLarge}
 
 -- the laws of the layers below
 pub record Laws : Type 0 where
@@ -111,6 +110,7 @@ module _ (laws : Laws) where
   -- each stage is clear or refuses, never both, and refuses with one status
   finds_one : (s : Stage) (file : File) → IsOneBy Status1 (Finds s file)
   finds_one text_fault file = stage_one TextFault (IsText file.1) (TellsFault file.0 file.1) (λ told clear fault. no_fault laws file.1 clear.0.d clear.0.names fault.at fault.words clear.1 fault.is_fault)
+  finds_one (unknown_agent agent) file = of_diagram_one file.1 UnknownAgent (λ d names. IsAgent names agent) (λ d names. TellsUnknownAgent names agent) (λ d names told is tells. tells.unknown is)
   finds_one relevance_cycle file = of_diagram_one file.1 Cycle (λ d names. HasRelianceOrder d.nodes) TellsCycle (λ d names told order tells. tells.no_order order)
   finds_one weight_bound file = of_diagram_one file.1 WeightBound (λ d names. KeepsScopedBounds d) TellsBound (λ d names told keeps tells. not_kept d names told keeps tells)
   finds_one too_large file = of_diagram_one file.1 TooLarge (λ d names. IsSmallEnough d) TellsTooLarge (λ d names told small tells. tells.is_size.1 (small _ tells.is_size.0))
@@ -141,6 +141,8 @@ module _ (laws : Laws) where
   gives_one (graph file) bytes x y h k = h.0 ∙ sym k.0
   gives_one (print file) bytes x y h k = h.0 ∙ sym k.0
   gives_one (trim file) bytes x y h k = h.0 ∙ sym k.0
+  gives_one (info file agent) bytes x y h k = h.0 ∙ sym k.0
+  gives_one (control file agent) bytes x y h k = h.0 ∙ sym k.0
   gives_one (demo n) bytes x y h k = h.0 ∙ sym k.0
 
   pub one_status : OneStatus
@@ -162,6 +164,7 @@ module _ (laws : Laws) where
 -- the status of each stage
 abbrev pub status_by : Stage → Status
 status_by text_fault = TextFault
+status_by (unknown_agent agent) = UnknownAgent
 status_by relevance_cycle = Cycle
 status_by weight_bound = WeightBound
 status_by too_large = TooLarge
@@ -173,6 +176,7 @@ HasStatusOfStage refusal = (s : Stage) × (refusal.status ≡ status_by s)
 
 finds_status : (s : Stage) (file : File) (refusal : Refused) → Finds s file (Some refusal) → refusal.status ≡ status_by s
 finds_status text_fault file refusal h = h.0
+finds_status (unknown_agent agent) file refusal h = h.2.0
 finds_status relevance_cycle file refusal h = h.2.0
 finds_status weight_bound file refusal h = h.2.0
 finds_status too_large file refusal h = h.2.0

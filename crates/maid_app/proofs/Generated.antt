@@ -1,13 +1,13 @@
 -- How the end of a run on words that ask for a generated text follows from that text.
-use Rattle.std.proofs.Common.{◌≡◌, inl, inr, ℕ, List, Option, Some, Ok, Err, refl, sym, subst, ◌∙◌}
+use Rattle.std.proofs.Common.{◌≡◌, inl, inr, ℕ, List, Option, Some, Ok, Err, refl, subst}
 use Rattle.app_lines.specs.Demo.{demo_text}
 use Rattle.maid_io.specs.Device.{File}
 use Rattle.maid_app.specs.Answers.{Answers, FindsNothing}
 use Rattle.maid_app.specs.Laws.{OneStatus, ClearOrRefused}
 use Rattle.maid_app.specs.Outcome.{Refused, written, refused}
-use Rattle.maid_app.specs.Request.{Request, check, demo}
-use Rattle.maid_app.specs.Stages.{Stage, text_fault, relevance_cycle, weight_bound, too_large, too_many_leaves, bad_line}
-use Rattle.maid_app.specs.Told.{LeadsTo, OfRequest, HasNoBytes, HasText, WritesText, Refuses, Says, IsOfReading, IsOneOf}
+use Rattle.maid_app.specs.Request.{Request, demo}
+use Rattle.maid_app.specs.Stages.{Stage, text_fault, unknown_agent, relevance_cycle, weight_bound, too_large, too_many_leaves, bad_line}
+use Rattle.maid_app.specs.Told.{OfRequest, HasNoBytes, HasText, WritesText, Refuses, Says, IsOfReading, IsOneOf}
 use Rattle.maid_app.specs.declared.status.Status.{Status}
 use Rattle.maid_app.specs.declared.status.Status.TheVariants.{Done, Usage, Absent, ReadFault, TextTooLong, TextFault, Cycle, WeightBound, TooLarge, WriteFault, NoMemory, Rejected, UnknownAgent}
 use Rattle.maid_app.proofs.Bytes.{status_by, status_of_a_stage}
@@ -62,6 +62,7 @@ module _ (list : Option (List File)) (requested : Option Request) (given : ℕ) 
   own_not_reading s t says = not_reading s (told_why s t says) where
     stage_not_reading : (s : Stage) → IsOfReading (status_by s) → ⊥
     stage_not_reading text_fault h = h
+    stage_not_reading (unknown_agent agent) h = h
     stage_not_reading relevance_cycle h = h
     stage_not_reading weight_bound h = h
     stage_not_reading too_large h = h

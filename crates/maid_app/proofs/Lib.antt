@@ -3,6 +3,7 @@ pub mod Checks
 pub mod Digits
 pub mod Generated
 pub mod Judging
+pub mod Known
 pub mod Leading
 pub mod Nodes
 pub mod Outcomes

@@ -1,19 +1,21 @@
 -- How the end of a run follows from what it read.
 use Rattle.std.proofs.Common.{◌≡◌, ◌<◌, ◌≤◌, inl, inr, ◌⊎◌, ℕ, List, length, Option, None, Some, IsSomeAnd, IfErr, Result, Ok, Err, refl, sym, subst, ap, ◌∙◌, arith}
+use Rattle.first_fault.specs.Passes.{each}
 use Rattle.maid_io.specs.Device.{File, file_of}
 use Rattle.maid_model.specs.Names.{NamesView}
 use Rattle.maid_model.specs.Views.{DiagramView}
 use Rattle.maid_app.specs.Answers.{Answers, FindsNothing, CanAnswer}
+use Rattle.maid_app.specs.Asking.{CanBeAsked, asking_stages}
 use Rattle.maid_app.specs.Check.{status_after}
 use Rattle.maid_app.specs.Diagrams.{NamedDiagram, IsDiagramOf}
 use Rattle.maid_app.specs.Laws.{OneStatus, ClearOrRefused}
-use Rattle.maid_app.specs.Outcome.{Written, Refused, written, refused, status_with}
+use Rattle.maid_app.specs.Outcome.{Written, Refused, written, refused}
 use Rattle.maid_app.specs.Reading.{TellsOf, RefusesAs}
 use Rattle.maid_app.specs.Refusal.{status_of, line_of}
-use Rattle.maid_app.specs.Request.{Request, solve, check, judge, graph, print, trim, demo, file_name, IsOfFile}
-use Rattle.maid_app.specs.Stages.{Stage, text_fault, relevance_cycle, weight_bound, too_large, too_many_leaves, bad_line}
+use Rattle.maid_app.specs.Request.{Request, solve, check, judge, graph, print, trim, info, control, demo, file_name}
+use Rattle.maid_app.specs.Stages.{Stage, text_fault, unknown_agent, relevance_cycle, weight_bound, too_large, too_many_leaves, bad_line, Finds}
 use Rattle.maid_app.specs.Tasks.{comes_of}
-use Rattle.maid_app.specs.Told.{limit_of, IsFileText, IsTextFor, LeadsTo, IsTooLong, IsAbsent, HasNoBytes, HasText, WritesText, Refuses, Says, HasFile, LacksFile, IsAfterWriting, IsOneOf, EndsWell}
+use Rattle.maid_app.specs.Told.{limit_of, IsTextFor, LeadsTo, IsTooLong, HasNoBytes, HasText, WritesText, Refuses, Says, HasFile, LacksFile, IsAfterWriting, IsOneOf, EndsWell}
 use Rattle.maid_app.specs.declared.refusal.Refusal.{Refusal}
 use Rattle.maid_app.specs.declared.refusal.Refusal.TheVariants as refusals
 use Rattle.maid_app.specs.declared.status.Status.{Status}
@@ -26,6 +28,7 @@ use Rattle.maid_app.proofs.Leading.{IsPassed, file_text, of_request, passed_not_
 -- what a stage refuses has a status of bytes
 as_of_stage : (Comes : Result Written Refused → Type 0) (s : Stage) (told : List ℕ) → Comes (Err (refused (status_by s) told)) → RefusesAs Comes (status_by s) told
 as_of_stage Comes text_fault told h = (tt, h)
+as_of_stage Comes (unknown_agent agent) told h = (tt, h)
 as_of_stage Comes relevance_cycle told h = (tt, h)
 as_of_stage Comes weight_bound told h = (tt, h)
 as_of_stage Comes too_large told h = (tt, h)
@@ -52,6 +55,7 @@ refuses_if_err request bytes (Err refusal) h = refuses_as request bytes refusal 
 -- no stage refuses with a status of what is written
 not_written : (s : Stage) → IsAfterWriting (status_by s) → ⊥
 not_written text_fault h = h
+not_written (unknown_agent agent) h = h
 not_written relevance_cycle h = h
 not_written weight_bound h = h
 not_written too_large h = h
@@ -74,6 +78,8 @@ gives_after (judge text report) bytes output h = after_verdict output.status h.1
 gives_after (graph file) bytes output h = after_done output.status h.1.0
 gives_after (print file) bytes output h = after_done output.status h.1.0
 gives_after (trim file) bytes output h = after_done output.status h.1.0
+gives_after (info file agent) bytes output h = after_done output.status h.1.0
+gives_after (control file agent) bytes output h = after_done output.status h.1.0
 gives_after (demo k) bytes output h = after_done output.status h.1.0
 
 -- so what is refused is not written
@@ -95,6 +101,8 @@ gives_well (judge text report) bytes output h = verdict_ends output.status h.1.2
 gives_well (graph file) bytes output h = inl h.1.0
 gives_well (print file) bytes output h = inl h.1.0
 gives_well (trim file) bytes output h = inl h.1.0
+gives_well (info file agent) bytes output h = inl h.1.0
+gives_well (control file agent) bytes output h = inl h.1.0
 gives_well (demo k) bytes output h = inl h.1.0
 
 -- and so does want of memory
@@ -105,6 +113,8 @@ memory_ends (judge text report) = inl (inr refl)
 memory_ends (graph file) = inr refl
 memory_ends (print file) = inr refl
 memory_ends (trim file) = inr refl
+memory_ends (info file agent) = inr refl
+memory_ends (control file agent) = inr refl
 memory_ends (demo k) = inr refl
 
 passed_ends : (files : List File) (request : Request) (s : Status) → IsPassed files request → EndsWell request s
@@ -299,8 +309,14 @@ module _ (law : ClearOrRefused) (list : Option (List File)) (requested : Option 
         by (inl text) = inl (one request bytes (Ok (written status text.0)) (Ok output) (at_bytes status text) is)
         by (inr p) = absurd (passed_gives_nothing has.files request p bytes output is)
 
+-- nor where an agent is asked about that a node has
+asked_clear : (agent bytes : List ℕ) (d : DiagramView) (names : NamesView) (name : List ℕ) → IsDiagramOf bytes d names → CanBeAsked agent d names → each (λ s. Finds s (name, bytes)) (asking_stages agent) None
+asked_clear agent bytes d names name is can =
+    let x : NamedDiagram = record { d = d; names = names } in
+    let solvable = can.solvable in ((x, is), ((x, is, can.is_agent), ((x, is, solvable.order), ((x, is, solvable.bound), ((x, is, solvable.small), tt)))))
+
 -- where the bytes stand for a diagram that can be answered, no stage finds anything
-pub nothing_found : (request : Request) (bytes : List ℕ) (d : DiagramView) (names : NamesView) → IsDiagramOf bytes d names → CanAnswer request d → FindsNothing request bytes
+pub nothing_found : (request : Request) (bytes : List ℕ) (d : DiagramView) (names : NamesView) → IsDiagramOf bytes d names → CanAnswer request d names → FindsNothing request bytes
 nothing_found (solve name) bytes d names is can =
     let x : NamedDiagram = record { d = d; names = names } in ((x, is), ((x, is, can.order), ((x, is, can.bound), ((x, is, can.small), tt))))
 nothing_found (check name report) bytes d names is can =
@@ -309,5 +325,7 @@ nothing_found (judge text report) bytes d names is can = absurd can
 nothing_found (graph name) bytes d names is can = ((record { d = d; names = names }, is), tt)
 nothing_found (print name) bytes d names is can = ((record { d = d; names = names }, is), tt)
 nothing_found (trim name) bytes d names is can = ((record { d = d; names = names }, is), tt)
+nothing_found (info name agent) bytes d names is can = asked_clear agent bytes d names name is can
+nothing_found (control name agent) bytes d names is can = asked_clear agent bytes d names name is can
 nothing_found (demo k) bytes d names is can =
     let x : NamedDiagram = record { d = d; names = names } in ((x, is), ((x, is, can.order), ((x, is, can.bound), ((x, is, can.small), tt))))

@@ -1,13 +1,12 @@
 -- A refusal tells what was wanted, or that memory ran out.
-use Rattle.std.proofs.Common.{◌≡◌, ℕ, List, [], ◌∷◌, inl, IfOk, IfErr, Vec, Global, Option, None, Some, Result, Ok, Err, MatchResult, refl, sym, subst}
+use Rattle.std.proofs.Common.{◌≡◌, ℕ, List, [], ◌∷◌, ◌++◌, inl, inr, IfOk, IfErr, Vec, Global, Option, None, Some, Result, Ok, Err, MatchResult, refl, sym, subst}
 use Rattle.first_fault.specs.Answers.{IsFoundIfAny}
 use Rattle.first_fault.specs.Outcomes.{refusals as refusals_of}
 use Rattle.first_fault.specs.Passes.{Pass, always, each}
 use Rattle.maid_app.specs.Diagrams.{NamedDiagram, IsDiagramOf}
 use Rattle.maid_app.specs.Outcome.{Refused, refused, done_with}
-use Rattle.maid_app.specs.Reading.{Tells, TellsTextFault, TellsUnsolved, TellsOf}
+use Rattle.maid_app.specs.Reading.{Tells, TellsTextFault, TellsStages, TellsOf, found_by}
 use Rattle.maid_app.specs.Refusal.{refused_as}
-use Rattle.maid_app.specs.Solve.{solving_stages}
 use Rattle.maid_app.specs.Stages.{Stage, Finds, text_fault}
 use Rattle.maid_app.specs.Tasks.{Task, text_task, comes_of}
 use Rattle.maid_app.specs.declared.refusal.Refusal.{Refusal}
@@ -51,10 +50,22 @@ unfolding comes_of
 stages_refuse task name bytes refusal h =
     found_too (each (λ s. Finds s (name, bytes)) task.stages) (refusals_of (comes_of task name bytes)) (λ f found. inl found) (refused_as refusal) h
 
--- a text's fault is the first thing that the stages of solving find
-pub text_unsolved : (name bytes : List ℕ) (refusal : Refusal) → TellsTextFault name bytes refusal → TellsUnsolved name bytes refusal
-text_unsolved name bytes refusal h =
-    found_too (Finds text_fault (name, bytes)) (each (λ s. Finds s (name, bytes)) solving_stages) (λ f found. inl found) (refused_as refusal) h
+-- a text's fault is the first thing that stages find which look for it first
+pub text_first : (stages : List Stage) (name bytes : List ℕ) (refusal : Refusal) → TellsTextFault name bytes refusal → TellsStages (text_fault ∷ stages) name bytes refusal
+text_first stages name bytes refusal h =
+    found_too (Finds text_fault (name, bytes)) (each (λ s. Finds s (name, bytes)) (text_fault ∷ stages)) (λ f found. inl found) (refused_as refusal) h
+
+-- what a later stage finds counts where those before it find nothing
+found_behind : (name bytes : List ℕ) (front back : List Stage) (f : Refused) → each (λ s. Finds s (name, bytes)) front None → each (λ s. Finds s (name, bytes)) back (Some f)
+    → each (λ s. Finds s (name, bytes)) (front ++ back) (Some f)
+found_behind name bytes [] back f clear found = found
+found_behind name bytes (s ∷ front) back f clear found = inr (clear.0, found_behind name bytes front back f clear.1 found)
+
+-- so what stages find in a diagram, they find behind others that find nothing in its bytes
+pub behind : (front back : List Stage) (name bytes : List ℕ) (d : DiagramView) (names : NamesView) (refusal : Refusal) → IsDiagramOf bytes d names → each (λ s. Finds s (name, bytes)) front None
+    → IsFoundIfAny (found_by d names back) (refused_as refusal) → TellsStages (front ++ back) name bytes refusal
+behind front back name bytes d names refusal is clear h =
+    found_too (found_by d names back) (each (λ s. Finds s (name, bytes)) (front ++ back)) (λ f found. found_behind name bytes front back f clear (found name bytes is)) (refused_as refusal) h
 
 -- a task that looks for the text's fault first refuses with it
 pub text_refused : (task : Task) (stages : List Stage) (name bytes : List ℕ) (refusal : Refusal) → task.stages ≡ text_fault ∷ stages

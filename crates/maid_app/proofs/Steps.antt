@@ -1,14 +1,13 @@
 -- The steps of a run: what they come to is what the words lead to.
-use Rattle.std.proofs.Common.{◌≡◌, ◌≤◌, inl, inr, ℕ, List, length, Option, None, Some, Ok, Err, IsSomeAnd, refl, sym, subst, ap, ◌∙◌, arith}
+use Rattle.std.proofs.Common.{◌≡◌, ℕ, List, Option, Some, Ok, Err, sym, subst, arith}
 use Rattle.maid_io.specs.Device.{File}
 use Rattle.maid_app.specs.Answers.{Answers}
-use Rattle.maid_app.specs.Lines.{no_memory_line}
 use Rattle.maid_app.specs.Outcome.{written, refused}
 use Rattle.maid_app.specs.Reading.{IsOfOutput, RefusesAs}
 use Rattle.maid_app.specs.Refusal.{status_of, line_of}
 use Rattle.maid_app.specs.Request.{Request, file_name, IsOfFile}
 use Rattle.maid_app.specs.Steps.{HasNoText, LeadsToText, LeadsToRefusal}
-use Rattle.maid_app.specs.Told.{limit_of, IsFileText, IsTextFor, IsUnread, HasNoBytes, HasText, KeepsLimit, KeepsLimits, LeadsTo, OfRequest, Refuses, Says, WritesText, IsOfReading}
+use Rattle.maid_app.specs.Told.{limit_of, IsFileText, IsTextFor, IsUnread, KeepsLimit, KeepsLimits, LeadsTo, OfRequest, Refuses, Says, WritesText, IsOfReading}
 use Rattle.maid_app.specs.declared.output.Output.{Output}
 use Rattle.maid_app.specs.declared.refusal.Refusal.{Refusal}
 use Rattle.maid_app.specs.declared.status.Status.{Status}

@@ -2,13 +2,17 @@
 use Rattle.std.specs.Prelude.{ℕ, List, None}
 use Rattle.first_fault.specs.Outcomes.{Outcomes}
 use Rattle.first_fault.specs.Passes.{each}
+use Rattle.maid_model.specs.Names.{NamesView}
 use Rattle.maid_model.specs.Views.{DiagramView}
+use Rattle.maid_app.specs.Asking.{CanBeAsked}
 use Rattle.maid_app.specs.Check.{CanBeChecked, examining, judging}
+use Rattle.maid_app.specs.Control.{weighing_control}
 use Rattle.maid_app.specs.Demo.{summing}
 use Rattle.maid_app.specs.Graph.{graphing}
+use Rattle.maid_app.specs.Info.{weighing_information}
 use Rattle.maid_app.specs.Outcome.{Written, Refused}
 use Rattle.maid_app.specs.Print.{printing}
-use Rattle.maid_app.specs.Request.{Request, solve, check, judge, graph, print, trim, demo, file_name}
+use Rattle.maid_app.specs.Request.{Request, solve, check, judge, graph, print, trim, info, control, demo, file_name}
 use Rattle.maid_app.specs.Solve.{IsSolvable, solving}
 use Rattle.maid_app.specs.Stages.{Finds}
 use Rattle.maid_app.specs.Tasks.{Task, comes_of}
@@ -22,6 +26,8 @@ task_of (judge text report) = judging text
 task_of (graph file) = graphing
 task_of (print file) = printing
 task_of (trim file) = trimming
+task_of (info file agent) = weighing_information agent
+task_of (control file agent) = weighing_control agent
 task_of (demo k) = summing k
 
 -- no stage of the request finds anything in its text's bytes
@@ -29,17 +35,20 @@ abbrev pub FindsNothing : Request → List ℕ → Type 0
 FindsNothing request bytes =
     each (λ s. Finds s (file_name request, bytes)) (task_of request).stages None
 
--- What a diagram must keep so that its text comes: `solve` and `demo` ask for an order of solving,
--- the weight bound and a run within the limits, `check` asks for the weight bound and few leaves,
--- and the others ask for nothing. What is judged is no diagram.
-abbrev pub CanAnswer : Request → DiagramView → Type 0
-CanAnswer (solve file) d = IsSolvable d
-CanAnswer (check file report) d = CanBeChecked d
-CanAnswer (judge text report) d = ⊥
-CanAnswer (graph file) d = Unit {0}
-CanAnswer (print file) d = Unit {0}
-CanAnswer (trim file) d = Unit {0}
-CanAnswer (demo k) d = IsSolvable d
+-- What a diagram and its names must keep so that its text comes: `solve` and `demo` ask for an order
+-- of solving, the weight bound and a run within the limits, `info` and `control` ask for the agent
+-- too, `check` asks for the weight bound and few leaves, and the others ask for nothing. What is
+-- judged is no diagram.
+abbrev pub CanAnswer : Request → DiagramView → NamesView → Type 0
+CanAnswer (solve file) d names = IsSolvable d
+CanAnswer (check file report) d names = CanBeChecked d
+CanAnswer (judge text report) d names = ⊥
+CanAnswer (graph file) d names = Unit {0}
+CanAnswer (print file) d names = Unit {0}
+CanAnswer (trim file) d names = Unit {0}
+CanAnswer (info file agent) d names = CanBeAsked agent d names
+CanAnswer (control file agent) d names = CanBeAsked agent d names
+CanAnswer (demo k) d names = IsSolvable d
 
 unfoldable pub Answers : Request → List ℕ → Outcomes Written Refused
 Answers request bytes = comes_of (task_of request) (file_name request) bytes

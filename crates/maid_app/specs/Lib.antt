@@ -1,11 +1,15 @@
 pub mod Answers
+pub mod Asking
 pub mod Check
+pub mod Control
 pub mod Demo
 pub mod Diagrams
 pub mod Faults
 pub mod Form
+pub mod Found
 pub mod Graph
 pub mod GraphLines
+pub mod Info
 pub mod Laws
 pub mod Lines
 pub mod Outcome

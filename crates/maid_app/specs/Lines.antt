@@ -26,6 +26,10 @@ write_fault_line = line (codes "write fault")
 abbrev pub no_memory_line : List ℕ
 no_memory_line = line (codes "no memory")
 
+-- an agent that no node has
+abbrev pub unknown_agent_line : List ℕ → List ℕ
+unknown_agent_line agent = line (codes "unknown agent: " ++ agent)
+
 -- the relevance cycle, each decision relying on the next
 abbrev pub cycle_line : NamesView → List ℕ → List ℕ
 cycle_line names cycle = names_line (codes "relevance cycle:") names cycle

@@ -2,8 +2,8 @@
 use Rattle.std.specs.Prelude.{◌≡◌, ℕ, List, Err}
 use Rattle.first_fault.specs.Answers.{IsFaultOrNoMemory}
 use Rattle.first_fault.specs.Outcomes.{Outcomes, refusals}
-use Rattle.first_fault.specs.Passes.{always, each}
-use Rattle.maid_model.specs.Names.{NamesView, NamesFit}
+use Rattle.first_fault.specs.Passes.{Pass, always, each}
+use Rattle.maid_model.specs.Names.{NamesView, NamesFit, IsFirstPlace}
 use Rattle.maid_model.specs.Views.{DiagramView, SolvedView}
 use Rattle.report_text.specs.Reading.{AreTold}
 use Rattle.maid_app.specs.Check.{CanBeChecked, examining, judging}
@@ -11,8 +11,8 @@ use Rattle.maid_app.specs.Diagrams.{IsDiagramOf}
 use Rattle.maid_app.specs.Lines.{no_memory_line}
 use Rattle.maid_app.specs.Outcome.{Written, Refused, refused}
 use Rattle.maid_app.specs.Refusal.{refused_as}
-use Rattle.maid_app.specs.Solve.{IsSolution, IsSolvable, solving_stages}
-use Rattle.maid_app.specs.Stages.{Finds, text_fault}
+use Rattle.maid_app.specs.Solve.{IsSolution, IsSolvable}
+use Rattle.maid_app.specs.Stages.{Stage, Finds, text_fault}
 use Rattle.maid_app.specs.Tasks.{comes_of}
 use Rattle.maid_app.specs.declared.refusal.Refusal.{Refusal}
 use Rattle.maid_app.specs.declared.status.Status.{Status}
@@ -27,16 +27,27 @@ abbrev pub TellsTextFault : List ℕ → List ℕ → Refusal → Type 0
 TellsTextFault name bytes refusal =
     IsFaultOrNoMemory refused_as (Finds text_fault (name, bytes)) refusal
 
--- what the stages of solving find, or that memory ran out
-abbrev pub TellsUnsolved : List ℕ → List ℕ → Refusal → Type 0
-TellsUnsolved name bytes refusal =
-    IsFaultOrNoMemory refused_as (each (λ s. Finds s (name, bytes)) solving_stages) refusal
+-- what the stages find in the bytes, or that memory ran out
+abbrev pub TellsStages : List Stage → List ℕ → List ℕ → Refusal → Type 0
+TellsStages stages name bytes refusal =
+    IsFaultOrNoMemory refused_as (each (λ s. Finds s (name, bytes)) stages) refusal
+
+-- what the stages find in any bytes that stand for the diagram
+abbrev pub found_by : DiagramView → NamesView → List Stage → Pass Refused
+found_by d names stages found =
+    (name bytes : List ℕ) → IsDiagramOf bytes d names → each (λ s. Finds s (name, bytes)) stages found
 
 -- the bytes stand for that diagram, which no stage of solving refuses, and this is its answer
 pub record IsSolved (bytes : List ℕ) (d : DiagramView) (names : NamesView) (solved : SolvedView) : Type 0 where
   pub is : IsDiagramOf bytes d names
   pub solvable : IsSolvable d
   pub solution : IsSolution d solved
+
+-- the bytes stand for that diagram, which the solver answers so, and the agent has that number in it
+pub record IsAsked (agent bytes : List ℕ) (d : DiagramView) (names : NamesView) (solved : SolvedView) (number : ℕ) : Type 0 where
+  pub solved_as : IsSolved bytes d names solved
+  pub fit : NamesFit d names
+  pub is_agent : IsFirstPlace names.agents agent number
 
 -- the bytes stand for that diagram, which a check can look at, and its names are told apart
 pub record IsExamined (bytes : List ℕ) (d : DiagramView) (names : NamesView) : Type 0 where

@@ -14,6 +14,8 @@ pub data Request : Type 0 where
   graph : (file : List ℕ) → Request
   print : (file : List ℕ) → Request
   trim : (file : List ℕ) → Request
+  info : (file agent : List ℕ) → Request
+  control : (file agent : List ℕ) → Request
   demo : (k : ℕ) → Request
 
 -- the name that lines tell for the request's text: its file's, or `demo` for a generated text
@@ -24,6 +26,8 @@ file_name (judge text report) = report
 file_name (graph file) = file
 file_name (print file) = file
 file_name (trim file) = file
+file_name (info file agent) = file
+file_name (control file agent) = file
 file_name (demo k) = codes "demo"
 
 -- the request names a file
@@ -39,10 +43,12 @@ stages_of word = find (λ k. bytes_eq word (decimal k)) (range_with_len 1 60)
 abbrev pub request_by_word : List ℕ → List ℕ → Option Request
 request_by_word word next = if bytes_eq word (codes "solve") then Some (solve next) else (if bytes_eq word (codes "graph") then Some (graph next) else (if bytes_eq word (codes "print") then Some (print next) else (if bytes_eq word (codes "trim") then Some (trim next) else (if bytes_eq word (codes "demo") then option_map demo (stages_of next) else None))))
 
--- a form of three words: `check`, and then the names of its two files
+-- a form of three words: its word, a file's name, and then that of a report's file or of an agent
 abbrev pub request_by_words : List ℕ → List ℕ → List ℕ → Option Request
 request_by_words word next last =
-    if bytes_eq word (codes "check") then Some (check next last) else None
+    if bytes_eq word (codes "check") then Some (check next last)
+    else (if bytes_eq word (codes "info") then Some (info next last)
+    else (if bytes_eq word (codes "control") then Some (control next last) else None))
 
 -- the request of the words, where they are of a form
 abbrev pub request_of : List (List ℕ) → Option Request

@@ -35,9 +35,13 @@ pub record IsSolvable (d : DiagramView) : Type 0 where
   pub bound : KeepsScopedBounds d
   pub small : IsSmallEnough d
 
--- the text's fault, the relevance cycle, the weight bound and too large a run
+-- why the solver refuses a diagram: its relevance cycle, the weight bound or too large a run
+abbrev pub solver_stages : List Stage
+solver_stages = relevance_cycle ∷ weight_bound ∷ too_large ∷ []
+
+-- the text's fault, and then the solver's
 abbrev pub solving_stages : List Stage
-solving_stages = text_fault ∷ relevance_cycle ∷ weight_bound ∷ too_large ∷ []
+solving_stages = text_fault ∷ solver_stages
 
 -- the first of them that applies, and else the report
 abbrev pub solving : Task

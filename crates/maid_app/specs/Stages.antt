@@ -1,6 +1,6 @@
 -- The stages that may refuse a request for what its file holds. A form of words has some of them,
 -- in an order of its own.
-use Rattle.std.specs.Prelude.{◌≡◌, ◌<◌, ◌≤◌, ℕ, List, None, Some}
+use Rattle.std.specs.Prelude.{◌≡◌, ◌<◌, ◌≤◌, ℕ, List, Contains, None, Some}
 use Rattle.first_fault.specs.Passes.{Pass}
 use Rattle.maid_io.specs.Device.{File}
 use Rattle.maid_model.specs.Bounds.{world_count, stopped}
@@ -14,13 +14,14 @@ use Rattle.rule_solver.specs.Faults.{IsSmallEnough, IsTooLarge}
 use Rattle.weight_scale.specs.Bound.{IsPassedAt, IsPassedByUtilities}
 use Rattle.maid_app.specs.Diagrams.{NamedDiagram, IsDiagramOf, of_diagram}
 use Rattle.maid_app.specs.Faults.{TellsFault}
-use Rattle.maid_app.specs.Lines.{cycle_line, bound_line, too_large_line, leaves_line, bad_line_line}
+use Rattle.maid_app.specs.Lines.{unknown_agent_line, cycle_line, bound_line, too_large_line, leaves_line, bad_line_line}
 use Rattle.maid_app.specs.Outcome.{Refused}
 use Rattle.maid_app.specs.declared.status.Status.{Status}
-use Rattle.maid_app.specs.declared.status.Status.TheVariants.{TextFault, Cycle, WeightBound, TooLarge}
+use Rattle.maid_app.specs.declared.status.Status.TheVariants.{TextFault, UnknownAgent, Cycle, WeightBound, TooLarge}
 
 pub data Stage : Type 0 where
   text_fault : Stage
+  unknown_agent : (agent : List ℕ) → Stage
   relevance_cycle : Stage
   weight_bound : Stage
   too_large : Stage
@@ -30,6 +31,15 @@ pub data Stage : Type 0 where
 -- the text stands for a diagram
 abbrev pub IsText : List ℕ → Type 0
 IsText bytes = (x : NamedDiagram) × IsDiagramOf bytes x.d x.names
+
+-- a node has the agent of that name
+abbrev pub IsAgent : NamesView → List ℕ → Type 0
+IsAgent names agent = Contains names.agents agent
+
+-- no node has it, which is told
+pub record TellsUnknownAgent (names : NamesView) (agent told : List ℕ) : Type 0 where
+  pub unknown : IsAgent names agent → ⊥
+  pub says : told ≡ unknown_agent_line agent
 
 -- the relevance graph has a cycle, which is told
 pub record TellsCycle (d : DiagramView) (names : NamesView) (told : List ℕ) : Type 0 where
@@ -75,9 +85,14 @@ abbrev pub stage : Status → Type 0 → (List ℕ → Type 0) → Pass Refused
 stage status IsClear Tells None = IsClear
 stage status IsClear Tells (Some refusal) = (refusal.status ≡ status) × Tells refusal.told
 
+-- whether the names have the agent
+abbrev pub agent_pass : NamesView → List ℕ → Pass Refused
+agent_pass names agent = stage UnknownAgent (IsAgent names agent) (TellsUnknownAgent names agent)
+
 -- what each stage finds in a file, which is a name and bytes
 abbrev pub Finds : Stage → File → Pass Refused
 Finds text_fault file = stage TextFault (IsText file.1) (TellsFault file.0 file.1)
+Finds (unknown_agent agent) file = of_diagram file.1 (λ d names. agent_pass names agent)
 Finds relevance_cycle file =
     of_diagram file.1 (λ d names. stage Cycle (HasRelianceOrder d.nodes) (TellsCycle d names))
 Finds weight_bound file =

@@ -9,9 +9,12 @@ ghost use Rattle.maid_app.specs.Reading.{TellsOf};
 ghost use Rattle.maid_app.specs.Request.{request_by_word, request_by_words, requested, stages_of};
 ghost use Rattle.maid_app.specs.Form.{request_by, text_request_by};
 
+mod asking;
 pub mod check;
+mod control;
 mod demo;
 mod graph;
+mod info;
 mod print;
 mod solve;
 mod trim;
@@ -42,6 +45,20 @@ pub enum TextForm<'a> {
     Trim {
         /// The file's name.
         file: &'a str,
+    },
+    /// `info F A`: what information is worth to an agent.
+    Info {
+        /// The file's name.
+        file: &'a str,
+        /// The agent's name.
+        agent: &'a str,
+    },
+    /// `control F A`: what control of chance nodes is worth to an agent.
+    Control {
+        /// The file's name.
+        file: &'a str,
+        /// The agent's name.
+        agent: &'a str,
     },
     /// `demo K`: a summary of the solved diagram of a generated text.
     Demo {
@@ -80,6 +97,12 @@ impl<'a> TextForm<'a> {
             TextForm::Graph { file } => graph::answer(alloc, Source { name: file, bytes }),
             TextForm::Print { file } => print::answer(alloc, Source { name: file, bytes }),
             TextForm::Trim { file } => trim::answer(alloc, Source { name: file, bytes }),
+            TextForm::Info { file, agent } => {
+                info::answer(alloc, Source { name: file, bytes }, agent)
+            }
+            TextForm::Control { file, agent } => {
+                control::answer(alloc, Source { name: file, bytes }, agent)
+            }
             TextForm::Demo { k } => demo::answer(alloc, k, bytes),
         }
     }
@@ -133,6 +156,14 @@ fn form_by_words<'a>(word: &str, next: &'a str, last: &'a str) -> Option<Form<'a
             file: next,
             report: last,
         }),
+        "info" => Some(Form::Text(TextForm::Info {
+            file: next,
+            agent: last,
+        })),
+        "control" => Some(Form::Text(TextForm::Control {
+            file: next,
+            agent: last,
+        })),
         _ => None,
     }
 }

@@ -104,7 +104,9 @@ fn bytes_for<H: Shelf>(alloc: Global, shelf: &mut H, form: TextForm<'_>) -> Resu
         TextForm::Solve { file }
         | TextForm::Graph { file }
         | TextForm::Print { file }
-        | TextForm::Trim { file } => read_file(alloc, shelf, file, LIMIT),
+        | TextForm::Trim { file }
+        | TextForm::Info { file, .. }
+        | TextForm::Control { file, .. } => read_file(alloc, shelf, file, LIMIT),
         TextForm::Demo { k } => Ok(demo_text(alloc, k)?),
     }
 }
@@ -239,16 +241,17 @@ fn serve<H: Shelf, O: Sink>(
 ///
 /// The words are those of one form, which names a file F of the shelf: `solve F` writes the report
 /// of its diagram to `out`, `graph F` who relies on whom, `print F` the diagram, and `trim F` the
-/// diagram without the arcs that its decisions do not need. `check F R` names a second file too, and
-/// writes the verdict on the report in R of the diagram in F. `demo K` has no file: it writes a
-/// summary of the solved diagram of a generated text of K stages, 1 to 60. The whole text is made
+/// diagram without the arcs that its decisions do not need. `info F A` writes what information is worth
+/// to the agent A, and `control F A` what control of chance nodes is. `check F R` names a second file
+/// too, and writes the verdict on the report in R of the diagram in F. `demo K` has no file: it writes
+/// a summary of the solved diagram of a generated text of K stages, 1 to 60. The whole text is made
 /// before its first byte is written, and writing takes no memory. After [`Status::Done`], and after
 /// [`Status::Rejected`], which a verdict may end with, `err` takes nothing, and else one line that says why.
 ///
 /// The order of refusals is [`Status::Usage`] where the words are of no form, [`Status::Absent`],
 /// [`Status::ReadFault`] and [`Status::TextTooLong`] for a file, [`Status::TextFault`] for its
-/// bytes, for `solve` and `demo` then [`Status::Cycle`], [`Status::WeightBound`] and [`Status::TooLarge`] for
-/// its diagram, and last [`Status::WriteFault`]. For `check` [`Status::WeightBound`] and
+/// bytes, for `info` and `control` then [`Status::UnknownAgent`], for these, `solve` and `demo` then
+/// [`Status::Cycle`], [`Status::WeightBound`] and [`Status::TooLarge`] for its diagram, and last [`Status::WriteFault`]. For `check` [`Status::WeightBound`] and
 /// [`Status::TooLarge`] come for the diagram, then those of a file for the report's, with
 /// [`Status::TextFault`] for bytes that are no report. [`Status::NoMemory`] may come at any point after
 /// the words and before the first write. A fault of `err` changes nothing else.
@@ -307,7 +310,7 @@ pub fn run<H: Shelf, O: Sink, E: Sink>(
         → ¬ Rose (O.faults out.old) (O.faults out.new) → EndsWell request result }
     ensures always_answers { (request : Request) (bytes : List ℕ)
         → HasFile (H.list shelf.old) (requested words.now) request bytes → length bytes ≤ limit_of request
-        → (d : DiagramView) (names : NamesView) → IsDiagramOf bytes d names → CanAnswer request d
+        → (d : DiagramView) (names : NamesView) → IsDiagramOf bytes d names → CanAnswer request d names
         → ¬ Rose (H.faults shelf.old) (H.faults shelf.new)
         → ¬ Rose (O.faults out.old) (O.faults out.new) → EndsWell request result }
     ensures always_written { (request : Request) (bytes : List ℕ)

@@ -1,13 +1,13 @@
 //! `solve F`: the report.
 
-ghost use Rattle.std.specs.Prelude.{ℕ, List, Ok, IfOk, IfErr};
+ghost use Rattle.std.specs.Prelude.{Ok, IfOk, IfErr, OnOk};
 ghost use Rattle.first_fault.specs.Answers.{IsFaultOrNoMemory};
 ghost use Rattle.maid_model.specs.Names.{NamesFit};
-ghost use Rattle.maid_app.specs.Diagrams.{IsDiagramOf};
 ghost use Rattle.maid_app.specs.Outcome.{done_with};
-ghost use Rattle.maid_app.specs.Reading.{IsSolved, TellsOf, TellsUnsolved};
+ghost use Rattle.maid_app.specs.Reading.{IsSolved, TellsOf, TellsStages, found_by};
+ghost use Rattle.maid_app.specs.Refusal.{refused_as};
 ghost use Rattle.maid_app.specs.Tasks.{comes_of};
-ghost use Rattle.maid_app.specs.Solve.{solving};
+ghost use Rattle.maid_app.specs.Solve.{IsSolution, IsSolvable, solver_stages, solving, solving_stages};
 ghost use Rattle.rule_solver.specs.Faults.{solve_fault, solve_pass};
 
 use crate::reading::Source;
@@ -23,7 +23,7 @@ use std::alloc::Global;
 fn refusal(alloc: Global, diagram: &Diagram, names: &Names, fault: &SolveFault) -> Refusal
     requires fit { NamesFit diagram.now names.now }
     requires fault { IsFaultOrNoMemory solve_fault (solve_pass diagram.now) fault.now }
-    ensures { (name bytes : List ℕ) → IsDiagramOf bytes diagram.now names.now → TellsUnsolved name bytes result }
+    ensures { IsFaultOrNoMemory refused_as (found_by diagram.now names.now solver_stages) result }
 {
     match fault {
         SolveFault::Cycle { list } => told(
@@ -42,22 +42,37 @@ fn refusal(alloc: Global, diagram: &Diagram, names: &Names, fault: &SolveFault) 
     }
 }
 
+/// The answer of a diagram.
+///
+/// # Errors
+///
+/// The relevance cycle, the place at which the weight bound is passed, the cells and the work of a run that passes a
+/// limit, or want of memory.
+pub fn solve_diagram(alloc: Global, diagram: &Diagram, names: &Names) -> Result<Solved, Refusal>
+    requires { NamesFit diagram.now names.now }
+    ensures solvable { OnOk result (IsSolvable diagram.now) }
+    ensures ok { IfOk result (IsSolution diagram.now) }
+    ensures err { IfErr result (IsFaultOrNoMemory refused_as (found_by diagram.now names.now solver_stages)) }
+{
+    match solve(alloc, diagram) {
+        Ok(solved) => Ok(solved),
+        Err(fault) => Err(refusal(alloc, diagram, names, &fault)),
+    }
+}
+
 /// The diagram that a text's bytes stand for, the names in it, and its answer.
 ///
 /// # Errors
 ///
-/// The fault of the bytes, the relevance cycle, the place at which the weight bound is passed, the cells and the work of
-/// a run that passes a limit, or want of memory.
+/// The fault of the bytes, or those of [`solve_diagram`].
 pub fn solved(alloc: Global, source: Source<'_>) -> Result<(Diagram, Names, Solved), Refusal>
     ensures ok { IfOk result (λ made. IsSolved source.entry.bytes.now made.0 made.1 made.2) }
     ensures fit { IfOk result (λ made. NamesFit made.0 made.1) }
-    ensures err { IfErr result (TellsUnsolved source.entry.name.now source.entry.bytes.now) }
+    ensures err { IfErr result (TellsStages solving_stages source.entry.name.now source.entry.bytes.now) }
 {
     let (diagram, names) = source.diagram(alloc)?;
-    match solve(alloc, &diagram) {
-        Ok(solved) => Ok((diagram, names, solved)),
-        Err(fault) => Err(refusal(alloc, &diagram, &names, &fault)),
-    }
+    let solved = solve_diagram(alloc, &diagram, &names)?;
+    Ok((diagram, names, solved))
 }
 
 /// The report of the answer of the diagram that a file's bytes stand for.

@@ -1,0 +1,20 @@
+-- What is asked of one agent: `info` and `control`.
+use Rattle.std.specs.Prelude.{ℕ, List, ◌∷◌, ◌++◌}
+use Rattle.maid_model.specs.Names.{NamesView}
+use Rattle.maid_model.specs.Reports.{line, quoted}
+use Rattle.maid_model.specs.Views.{DiagramView}
+use Rattle.maid_app.specs.Solve.{IsSolvable, solver_stages}
+use Rattle.maid_app.specs.Stages.{Stage, IsAgent, text_fault, unknown_agent}
+
+-- the diagram has the agent, and the solver answers it
+pub record CanBeAsked (agent : List ℕ) (d : DiagramView) (names : NamesView) : Type 0 where
+  pub is_agent : IsAgent names agent
+  pub solvable : IsSolvable d
+
+-- the text's fault, an agent that no node has, and then the solver's
+abbrev pub asking_stages : List ℕ → List Stage
+asking_stages agent = text_fault ∷ unknown_agent agent ∷ solver_stages
+
+-- the first line: what is asked, and of which agent
+abbrev pub asked_line : List ℕ → List ℕ → List ℕ
+asked_line word agent = line (word ++ 32 ∷ quoted agent)

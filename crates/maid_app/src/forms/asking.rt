@@ -1,0 +1,104 @@
+//! What `info` and `control` share: the agent that is asked about, the first line, and what an edit is worth in words.
+
+ghost use Rattle.std.specs.Prelude.{◌≡◌, ◌++◌, IfOk, IfErr, OnOk, length};
+ghost use Rattle.first_fault.specs.Answers.{IsFaultOrNoMemory};
+ghost use Rattle.maid_model.specs.Names.{IsFirstPlace};
+ghost use Rattle.maid_app.specs.Asking.{asked_line, asking_stages};
+ghost use Rattle.maid_app.specs.Found.{AreKnown, cycle_told, found_words};
+ghost use Rattle.maid_app.specs.Reading.{IsAsked, TellsStages};
+ghost use Rattle.maid_app.specs.Refusal.{refused_as};
+ghost use Rattle.maid_app.specs.Stages.{agent_pass};
+
+use super::solve::solve_diagram;
+use crate::reading::Source;
+use crate::refusal::{Refusal, told};
+use crate::{Status, lines};
+use line_pieces::{push_names, push_quoted};
+use maid_model::{Diagram, Names, Solved};
+use optimum_gap::Found;
+use report_text::print_ratio;
+use std::alloc::{AllocError, Global};
+
+/// What is asked of one agent of a solved diagram.
+#[derive(Drop)]
+pub struct Asked {
+    /// The diagram.
+    pub diagram: Diagram,
+    /// The names in its text.
+    pub names: Names,
+    /// Its answer.
+    pub solved: Solved,
+    /// The agent's number.
+    pub agent: usize,
+}
+
+// The number of the agent of that name.
+fn number_of(alloc: Global, names: &Names, agent: &str) -> Result<usize, Refusal>
+    ensures ok { IfOk result (IsFirstPlace names.now.agents agent.now) }
+    ensures err { IfErr result (IsFaultOrNoMemory refused_as (agent_pass names.now agent.now)) }
+{
+    match names.find_agent(agent.as_bytes()) {
+        Some(number) => Ok(number),
+        None => Err(told(
+            Status::UnknownAgent,
+            lines::told(alloc, b"unknown agent: ", agent.as_bytes()),
+        )),
+    }
+}
+
+/// The diagram that a text's bytes stand for, its answer, and the number of the agent of that name in it.
+///
+/// # Errors
+///
+/// The fault of the bytes, an agent that no node has, or those of [`solve_diagram`].
+pub fn ask(alloc: Global, source: Source<'_>, agent: &str) -> Result<Asked, Refusal>
+    ensures ok { IfOk result (λ made.
+        IsAsked agent.now source.entry.bytes.now made.diagram made.names made.solved made.agent) }
+    ensures err { IfErr result (TellsStages (asking_stages agent.now) source.entry.name.now source.entry.bytes.now) }
+{
+    let (diagram, names) = source.diagram(alloc)?;
+    let number = number_of(alloc, &names, agent)?;
+    let solved = solve_diagram(alloc, &diagram, &names)?;
+    Ok(Asked {
+        diagram,
+        names,
+        solved,
+        agent: number,
+    })
+}
+
+/// The first line: what is asked, and of which agent.
+pub fn asked_line(alloc: Global, word: &[u8], agent: &[u8]) -> Result<Vec<u8>, AllocError>
+    ensures { IfOk result (λ text. text.items ≡ asked_line word.now agent.now) }
+{
+    let mut text = Vec::from_slice(alloc, word)?;
+    text.push(b' ')?;
+    push_quoted(&mut text, agent)?;
+    text.push(b'\n')?;
+    Ok(text)
+}
+
+/// Appends what an edit is worth, or why no value stands there.
+pub fn push_found(
+    alloc: Global,
+    out: &mut Vec<u8>,
+    names: &Names,
+    found: &Found,
+) -> Result<(), AllocError>
+    requires { AreKnown (length names.now.nodes) (cycle_told found.now) }
+    ensures { OnOk result (out.new.items ≡ out.old.items ++ found_words names.now found.now) }
+{
+    match found {
+        Found::Value(worth) => {
+            out.extend_from_slice(b"value ")?;
+            out.extend_from_slice(&print_ratio(alloc, worth)?)
+        }
+        Found::Worthless => out.extend_from_slice(b"worthless"),
+        Found::Cycle(list) => {
+            out.extend_from_slice(b"cycle")?;
+            push_names(out, names, list)
+        }
+        Found::Bound => out.extend_from_slice(b"bound"),
+        Found::TooLarge => out.extend_from_slice(b"too large"),
+    }
+}

@@ -1,0 +1,75 @@
+//! `control F A`: what control of chance nodes is worth to an agent, and its incentives there.
+
+ghost use Rattle.std.specs.Prelude.{◌≡◌, [], ◌++◌, All, Ok, IfOk, IfErr, OnOk, if◌then◌else◌, length};
+ghost use Rattle.maid_app.specs.Control.{control_line, control_nodes, control_text, weighing_control};
+ghost use Rattle.maid_app.specs.Found.{AreKnown};
+ghost use Rattle.maid_app.specs.Outcome.{done_with};
+ghost use Rattle.maid_app.specs.Reading.{TellsOf};
+ghost use Rattle.maid_app.specs.Tasks.{comes_of};
+
+use super::asking::{ask, asked_line, push_found};
+use crate::reading::Source;
+use crate::refusal::Refusal;
+use control_incentive::{ControlLine, control};
+use maid_model::Names;
+use std::alloc::{AllocError, Global};
+
+// The words of a flag where it holds, and nothing else.
+fn flag(holds: bool, words: &[u8]) -> &[u8]
+    ensures { result.now ≡ (if holds then words.now else []) }
+{
+    if holds { words } else { b"" }
+}
+
+// Appends the line of a chance node.
+fn push_line(
+    alloc: Global,
+    out: &mut Vec<u8>,
+    names: &Names,
+    line: &ControlLine,
+) -> Result<(), AllocError>
+    requires { AreKnown (length names.now.nodes) (control_nodes line.now) }
+    ensures { OnOk result (out.new.items ≡ out.old.items ++ control_line names.now line.now) }
+{
+    out.extend_from_slice(names.name(line.node))?;
+    out.extend_from_slice(flag(line.response, b" response"))?;
+    out.extend_from_slice(flag(line.instrumental, b" instrumental"))?;
+    out.extend_from_slice(b": ")?;
+    push_found(alloc, out, names, &line.found)?;
+    out.push(b'\n')?;
+    Ok(())
+}
+
+// The first line, and then one for each chance node.
+fn control_text(
+    alloc: Global,
+    names: &Names,
+    agent: &[u8],
+    lines: &[ControlLine],
+) -> Result<Vec<u8>, AllocError>
+    requires { All (λ line. AreKnown (length names.now.nodes) (control_nodes line)) lines.now }
+    ensures { IfOk result (λ text. text.items ≡ control_text agent.now names.now lines.now) }
+{
+    let mut text = asked_line(alloc, b"control", agent)?;
+    for line in lines {
+        push_line(alloc, &mut text, names, line)?;
+    }
+    Ok(text)
+}
+
+/// What control is worth to the agent of that name in the diagram that a file's bytes stand for, and which incentives it
+/// has: a line for each chance node.
+///
+/// # Errors
+///
+/// The fault of the bytes, an agent that no node has, what the solver refuses the diagram for, or want of memory.
+pub fn answer(alloc: Global, source: Source<'_>, agent: &str) -> Result<Vec<u8>, Refusal>
+    ensures ok { IfOk result (λ printed. comes_of (weighing_control agent.now) source.entry.name.now
+        source.entry.bytes.now (Ok (done_with printed.items))) }
+    ensures err { IfErr result (TellsOf (comes_of (weighing_control agent.now) source.entry.name.now
+        source.entry.bytes.now)) }
+{
+    let asked = ask(alloc, source, agent)?;
+    let lines = control(alloc, &asked.diagram, &asked.solved, asked.agent)?;
+    Ok(control_text(alloc, &asked.names, agent.as_bytes(), &lines)?)
+}

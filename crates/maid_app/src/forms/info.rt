@@ -1,0 +1,69 @@
+//! `info F A`: what information is worth to an agent.
+
+ghost use Rattle.std.specs.Prelude.{◌≡◌, ◌++◌, All, Ok, IfOk, IfErr, OnOk, length};
+ghost use Rattle.maid_app.specs.Found.{AreKnown};
+ghost use Rattle.maid_app.specs.Info.{info_line, info_nodes, info_text, weighing_information};
+ghost use Rattle.maid_app.specs.Outcome.{done_with};
+ghost use Rattle.maid_app.specs.Reading.{TellsOf};
+ghost use Rattle.maid_app.specs.Tasks.{comes_of};
+
+use super::asking::{ask, asked_line, push_found};
+use crate::reading::Source;
+use crate::refusal::Refusal;
+use info_value::{InfoLine, info};
+use maid_model::Names;
+use std::alloc::{AllocError, Global};
+
+// Appends the line of an arc.
+fn push_line(
+    alloc: Global,
+    out: &mut Vec<u8>,
+    names: &Names,
+    line: &InfoLine,
+) -> Result<(), AllocError>
+    requires { AreKnown (length names.now.nodes) (info_nodes line.now) }
+    ensures { OnOk result (out.new.items ≡ out.old.items ++ info_line names.now line.now) }
+{
+    out.extend_from_slice(if line.has { b"has " } else { b"new " })?;
+    out.extend_from_slice(names.name(line.from))?;
+    out.extend_from_slice(b" -> ")?;
+    out.extend_from_slice(names.name(line.to))?;
+    out.extend_from_slice(b": ")?;
+    push_found(alloc, out, names, &line.found)?;
+    out.push(b'\n')?;
+    Ok(())
+}
+
+// The first line, and then one for each arc.
+fn info_text(
+    alloc: Global,
+    names: &Names,
+    agent: &[u8],
+    lines: &[InfoLine],
+) -> Result<Vec<u8>, AllocError>
+    requires { All (λ line. AreKnown (length names.now.nodes) (info_nodes line)) lines.now }
+    ensures { IfOk result (λ text. text.items ≡ info_text agent.now names.now lines.now) }
+{
+    let mut text = asked_line(alloc, b"info", agent)?;
+    for line in lines {
+        push_line(alloc, &mut text, names, line)?;
+    }
+    Ok(text)
+}
+
+/// What information is worth to the agent of that name in the diagram that a file's bytes stand for: a line for each of
+/// its decisions and each other node that the decision sees or might see.
+///
+/// # Errors
+///
+/// The fault of the bytes, an agent that no node has, what the solver refuses the diagram for, or want of memory.
+pub fn answer(alloc: Global, source: Source<'_>, agent: &str) -> Result<Vec<u8>, Refusal>
+    ensures ok { IfOk result (λ printed. comes_of (weighing_information agent.now) source.entry.name.now
+        source.entry.bytes.now (Ok (done_with printed.items))) }
+    ensures err { IfErr result (TellsOf (comes_of (weighing_information agent.now) source.entry.name.now
+        source.entry.bytes.now)) }
+{
+    let asked = ask(alloc, source, agent)?;
+    let lines = info(alloc, &asked.diagram, &asked.solved, asked.agent)?;
+    Ok(info_text(alloc, &asked.names, agent.as_bytes(), &lines)?)
+}
