@@ -28,7 +28,11 @@ fn is_utility_of(diagram: &Diagram, agent: usize, v: usize) -> bool
 }
 
 /// The utilities of the agent, in text order.
-fn utilities_of(alloc: Global, diagram: &Diagram, agent: usize) -> Result<Vec<usize>, AllocError>
+pub fn utilities_of(
+    alloc: Global,
+    diagram: &Diagram,
+    agent: usize,
+) -> Result<Vec<usize>, AllocError>
     ensures { IfOk result (λ list. list.items ≡ utilities_for diagram.now.nodes agent) }
 {
     let mut list = Vec::new(alloc);
@@ -56,7 +60,7 @@ fn total_of(diagram: &Diagram, profile: &Profile, v: usize) -> u128
 }
 
 /// The mass of the profile: the product of all tables' and rules' totals.
-fn mass_of(diagram: &Diagram, profile: &Profile) -> u128
+pub fn mass_of(diagram: &Diagram, profile: &Profile) -> u128
     requires profile { IsProfile diagram.now.nodes profile.now }
     requires fits { mass diagram.now.nodes profile.now ≤ greatest_number }
     ensures { result ≡ mass diagram.now.nodes profile.now }

@@ -18,7 +18,7 @@ pub(crate) struct Stage {
 }
 
 /// The profile's rules at the decisions among the kept nodes, each with its number among them.
-fn rules_in_part(
+pub fn rules_in_part(
     alloc: Global,
     diagram: &Diagram,
     profile: &Profile,

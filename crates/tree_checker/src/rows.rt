@@ -30,7 +30,7 @@ pub(crate) struct RowFault {
 }
 
 /// By what the utilities are scaled: ten to the power of the diagram's decimals.
-pub(crate) fn scale_of(diagram: &Diagram) -> u128
+pub fn scale_of(diagram: &Diagram) -> u128
     ensures scale { result ≡ 10 ^ diagram.now.decimals }
     ensures some { 0 < result }
 {

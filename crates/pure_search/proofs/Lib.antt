@@ -1,0 +1,11 @@
+mod Chosen
+mod OthersKeys
+mod Steps
+mod Entries
+mod Answered
+mod Compared
+mod Marking
+mod Tabled
+mod Counted
+mod Agents
+mod Finding

@@ -1,0 +1,4 @@
+pub mod Example
+pub mod Faults
+pub mod Found
+pub mod Games

@@ -1,0 +1,132 @@
+//! The table of what all lists of choices give an agent.
+
+ghost use Rattle.std.specs.Prelude.{◌≡◌, ◌<◌, ◌+◌, IfOk, OnOk, length, map, All};
+ghost use Rattle.maid_model.specs.Nodes.{decisions_of};
+ghost use Rattle.maid_model.specs.Parts.{part_diagram};
+ghost use Rattle.maid_model.specs.Profiles.{IsProfile};
+ghost use Rattle.maid_model.specs.Scopes.{scope_for};
+ghost use Rattle.maid_model.specs.Worlds.{IsWorld, first_world, worlds_from};
+ghost use Rattle.pure_search.specs.Games.{IsGame, IsSearched, IsTable, MarksBest, MarksStable, choice_lists, counts_for, key_of, owners_for, part_gain};
+
+use crate::answering::profile_of;
+use crate::games::Game;
+use crate::keys::key_of;
+use crate::marks::keep_greatest;
+use crate::odometer::{first_choices, next_choices};
+use diagram_graph::{SubDiagram, part};
+use maid_model::{Diagram, World, leaf_sum};
+use std::alloc::{AllocError, Global};
+use tree_checker::{rules_in_part, utilities_of};
+
+/// For each list of choices, in their order, the number of the others' choices, and what it gives the agent.
+#[derive(Drop)]
+struct Table {
+    keys: Vec<usize>,
+    gains: Vec<i128>,
+}
+
+/// The part of the diagram that the agent's utilities and their ancestors make.
+pub(crate) fn part_for(
+    alloc: Global,
+    diagram: &Diagram,
+    agent: usize,
+) -> Result<SubDiagram, AllocError>
+    ensures diagram { IfOk result (λ part. part.diagram ≡ part_diagram diagram.now (scope_for diagram.now.nodes agent)) }
+    ensures nodes { IfOk result (λ part. part.nodes.items ≡ scope_for diagram.now.nodes agent) }
+{
+    let _count = diagram.count();
+    let utilities = utilities_of(alloc, diagram, agent)?;
+    part(alloc, diagram, &utilities)
+}
+
+/// What the choices give the agent, by the worlds of its part, which it goes through once.
+fn gain_under(
+    alloc: Global,
+    diagram: &Diagram,
+    game: &Game,
+    agent: usize,
+    part: &SubDiagram,
+    world: &mut World,
+    choices: &[usize],
+) -> Result<i128, AllocError>
+    requires decisions { game.now.decisions.items ≡ decisions_of diagram.now.nodes }
+    requires agent { agent < diagram.now.agents }
+    requires bound { IsSearched diagram.now }
+    requires part { part.now.diagram ≡ part_diagram diagram.now (scope_for diagram.now.nodes agent) }
+    requires nodes { part.now.nodes.items ≡ scope_for diagram.now.nodes agent }
+    requires first { world.old ≡ first_world (length part.now.diagram.nodes) }
+    requires choices { IsWorld (counts_for diagram.now.nodes) choices.now }
+    ensures gain { IfOk result (λ gain. gain ≡ part_gain diagram.now.nodes agent choices.now) }
+    ensures again { IfOk result (λ gain. world.new ≡ world.old) }
+{
+    let _count = diagram.count();
+    let profile = profile_of(alloc, diagram, &game.decisions, choices)?;
+    let rules = rules_in_part(alloc, diagram, &profile, &part.nodes)?;
+    Ok(leaf_sum(&part.diagram, &rules, agent, world))
+}
+
+/// The table of the agent.
+fn table_for(
+    alloc: Global,
+    diagram: &Diagram,
+    game: &Game,
+    agent: usize,
+) -> Result<Table, AllocError>
+    requires game { IsGame diagram.now.nodes game.now.decisions.items game.now.counts.items game.now.owners.items }
+    requires agent { agent < diagram.now.agents }
+    requires bound { IsSearched diagram.now }
+    ensures { IfOk result (λ table. IsTable diagram.now.nodes agent table.keys.items table.gains.items) }
+{
+    let _count = diagram.count();
+    let part = part_for(alloc, diagram, agent)?;
+    let mut world = World::first(alloc, &part.diagram)?;
+    let mut choices = first_choices(alloc, &game.counts)?;
+    let mut keys = Vec::new(alloc);
+    let mut gains = Vec::new(alloc);
+    'profiles: loop {
+        gains.push(gain_under(alloc, diagram, game, agent, &part, &mut world, &choices)?)?;
+        keys.push(key_of(agent, &game.counts, &game.owners, &choices))?;
+        if !next_choices(&game.counts, &mut choices) {
+            return Ok(Table { keys, gains });
+        }
+    }
+}
+
+/// Takes the marks from the lists of choices that are not best for the agent.
+fn keep_best(
+    alloc: Global,
+    diagram: &Diagram,
+    game: &Game,
+    agent: usize,
+    marks: &mut [bool],
+) -> Result<(), AllocError>
+    requires game { IsGame diagram.now.nodes game.now.decisions.items game.now.counts.items game.now.owners.items }
+    requires agent { agent < diagram.now.agents }
+    requires bound { IsSearched diagram.now }
+    requires marks { MarksBest diagram.now.nodes agent marks.old }
+    ensures { OnOk result (MarksBest diagram.now.nodes (agent + 1) marks.new) }
+{
+    let table = table_for(alloc, diagram, game, agent)?;
+    keep_greatest(alloc, &table.keys, &table.gains, marks)?;
+    Ok(())
+}
+
+/// Marks the lists of choices from which no agent gains.
+pub(crate) fn stable_marks(
+    alloc: Global,
+    diagram: &Diagram,
+    game: &Game,
+    profiles: usize,
+) -> Result<Vec<bool>, AllocError>
+    requires game { IsGame diagram.now.nodes game.now.decisions.items game.now.counts.items game.now.owners.items }
+    requires bound { IsSearched diagram.now }
+    requires profiles { profiles ≡ length (choice_lists diagram.now.nodes) }
+    ensures { IfOk result (λ marks. MarksStable diagram.now.nodes marks.items) }
+{
+    let _count = diagram.count();
+    let mut marks = vec![in alloc; true; profiles]?;
+    for agent in 0..diagram.agents() {
+        keep_best(alloc, diagram, game, agent, &mut marks)?;
+    }
+    Ok(marks)
+}

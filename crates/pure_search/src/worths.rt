@@ -1,0 +1,65 @@
+//! What a profile is worth to each agent.
+
+ghost use Rattle.std.specs.Prelude.{◌≡◌, ◌<◌, ◌≤◌, ◌^◌, IfOk, length, nat_abs};
+ghost use Rattle.maid_model.specs.Answers.{IsExpectedUtility, IsFraction, IsGains};
+ghost use Rattle.maid_model.specs.Diagrams.{greatest_number};
+ghost use Rattle.maid_model.specs.Profiles.{IsProfile};
+ghost use Rattle.maid_model.specs.Scopes.{KeepsScopedBounds};
+ghost use Rattle.part_laws.specs.ScopeLaws.{HasUnitRules};
+
+use crate::tables::part_for;
+use maid_model::{Diagram, Profile, Ratio, World, leaf_sum};
+use std::alloc::{AllocError, Global};
+use tree_checker::{mass_of, rules_in_part, scale_of};
+use whole_num::reduce;
+
+/// The fraction in lowest terms.
+fn fraction(num: i128, den: u128) -> Ratio
+    requires den { 0 < den }
+    requires num { nat_abs num ≤ greatest_number }
+    ensures { IsFraction result num den }
+{
+    let (num, den) = reduce(num, den);
+    Ratio { num, den }
+}
+
+/// What the rules are worth to the agent, by the worlds of its part.
+fn worth(
+    alloc: Global,
+    diagram: &Diagram,
+    chosen: &Profile,
+    agent: usize,
+) -> Result<Ratio, AllocError>
+    requires agent { agent < diagram.now.agents }
+    requires chosen { IsProfile diagram.now.nodes chosen.now }
+    requires pure { HasUnitRules diagram.now.nodes chosen.now }
+    requires bound { KeepsScopedBounds diagram.now }
+    ensures { IfOk result (IsExpectedUtility diagram.now.nodes (10 ^ diagram.now.decimals) chosen.now agent) }
+{
+    let _count = diagram.count();
+    let part = part_for(alloc, diagram, agent)?;
+    let rules = rules_in_part(alloc, diagram, chosen, &part.nodes)?;
+    let mut world = World::first(alloc, &part.diagram)?;
+    let sum = leaf_sum(&part.diagram, &rules, agent, &mut world);
+    let mass = mass_of(&part.diagram, &rules);
+    Ok(fraction(sum, mass * scale_of(diagram)))
+}
+
+/// What the rules are worth to each agent.
+pub(crate) fn worths(
+    alloc: Global,
+    diagram: &Diagram,
+    chosen: &Profile,
+) -> Result<Vec<Ratio>, AllocError>
+    requires chosen { IsProfile diagram.now.nodes chosen.now }
+    requires pure { HasUnitRules diagram.now.nodes chosen.now }
+    requires bound { KeepsScopedBounds diagram.now }
+    ensures count { IfOk result (λ gains. length gains.items ≡ diagram.now.agents) }
+    ensures gains { IfOk result (λ gains. IsGains diagram.now chosen.now gains.items) }
+{
+    let mut gains = Vec::new(alloc);
+    for agent in 0..diagram.agents() {
+        gains.push(worth(alloc, diagram, chosen, agent)?)?;
+    }
+    Ok(gains)
+}
