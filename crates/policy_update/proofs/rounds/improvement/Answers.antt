@@ -1,0 +1,33 @@
+-- The part of the scope decides as the whole does.
+use Rattle.std.proofs.Common.{◌≡◌, ◌∙◌, ℕ, ℤ, List, IfOk, sym, ap, subst}
+use Rattle.std.proofs.lemmas.Result.{IfOk-weaker}
+use Rattle.maid_model.specs.declared.answers.Row.{Row}
+use Rattle.maid_model.specs.Nodes.{states_of}
+use Rattle.maid_model.specs.Scopes.{scope_of}
+use Rattle.maid_model.specs.Views.{AnswerView}
+use Rattle.part_laws.specs.PartLaws.{DecidesAlike}
+use Rattle.rule_solver.specs.Rows.{gain_in}
+use Rattle.rule_solver.specs.Sums.{IsRowSums}
+use Rattle.policy_update.specs.Steps.{AreImproved, gains_in}
+use Rattle.policy_update.proofs.Scopes.{in_whole}
+use Rattle.policy_update.proofs.rounds.improvement.Goals as goal
+
+pub returns : goal.returns
+returns c =
+    let nodes = c.args.diagram.now.nodes in
+    let p = c.args.profile.now in
+    let d = c.args.answer.now.decision in
+    let same : c.answer.inside.decision ≡ d = ap (λ (a : AnswerView). a.decision) c.answer.view_is in
+    let rows : c.deref-2.result.now ≡ c.args.answer.now.rows = c.deref-2.ensures.value ∙ ap (λ (a : AnswerView). a.rows) c.answer.view_is in
+    let states : c.states-states.result ≡ states_of nodes d = c.states-states.ensures.states ∙ ap (states_of nodes) same in
+    let is = c.states-states.ensures.diagram in
+    let scope = c.scopes_are_parts.ensures.decisions nodes d is.graph c.requires.fits.decision in
+    let alike : (row : ℕ) → DecidesAlike nodes p (scope_of nodes d) d row =
+    (λ row. c.parts_decide.ensures.choices nodes p (scope_of nodes d) d row is.graph is.tables c.requires.pure.profile scope.0 c.requires.fits.decision scope.2 scope.3) in
+    let gains = c.deref.result.now in
+    let sums : IsRowSums nodes p d gains c.in_ok-sums.sums.masses.items =
+    subst (λ (g : List ℤ). IsRowSums nodes p d g c.in_ok-sums.sums.masses.items) (sym c.deref.ensures.value) (subst (λ e. IsRowSums nodes p e c.in_ok-sums.sums.gains.items c.in_ok-sums.sums.masses.items) same c.in_ok-sums.ensures) in
+    IfOk-weaker c.improved_rows.result (λ v. AreImproved (gain_in gains (states_of nodes d)) (states_of nodes d) c.args.answer.now.rows v.items) (λ v. AreImproved (gains_in nodes p d) (states_of nodes d) c.args.answer.now.rows v.items)
+    (λ v h. in_whole nodes p d alike gains c.in_ok-sums.sums.masses.items sums c.args.answer.now.rows v.items c.requires.fits.rows h)
+    (subst (λ n. IfOk c.improved_rows.result (λ v. AreImproved (gain_in gains n) n c.args.answer.now.rows v.items)) states
+    (subst (λ (r : List Row). IfOk c.improved_rows.result (λ v. AreImproved (gain_in gains c.states-states.result) c.states-states.result r v.items)) rows c.improved_rows.ensures))

@@ -1,0 +1,7 @@
+use Rattle.reach_laws.specs.Updates.{IsReachedAfter}
+use Rattle.policy_update.specs.Steps.{IsPlan}
+use Rattle.policy_update.proofs.rounds.settle.Given as goal
+
+-- all rounds so far raised
+abbrev pub invariant-loop-raised : goal.invariant-loop-raised
+invariant-loop-raised l = IsPlan l.diagram.nodes l.answers l.profile × IsReachedAfter l.diagram.nodes l.raised l.profile

@@ -1,0 +1,4 @@
+pub mod Faults
+pub mod Updated
+pub mod Steps
+pub mod Example

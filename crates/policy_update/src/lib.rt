@@ -1,0 +1,15 @@
+//! Single policy updating (Lauritzen and Nilsson 2001): the decisions of one agent are improved one by one, round after
+//! round, until a round changes nothing. It needs no order of solving, and ends at a local optimum.
+#![tactic(auto)]
+
+mod faults;
+mod limits;
+mod rounds;
+mod rows;
+mod starting;
+#[cfg(test)]
+mod tests;
+mod updating;
+
+pub use faults::UpdateFault;
+pub use updating::{Updated, update};

@@ -1,0 +1,74 @@
+//! What a diagram must keep to be updated.
+
+ghost use Rattle.std.specs.Prelude.{◌≡◌, ◌↔◌, IsTrue, IfOk};
+ghost use Rattle.first_fault.specs.Answers.{Passes};
+ghost use Rattle.maid_model.specs.declared.limits.TheConstants.{MOST_PLAN_CELLS};
+ghost use Rattle.maid_model.specs.Diagrams.{IsDiagram};
+ghost use Rattle.maid_model.specs.Nodes.{decisions_of};
+ghost use Rattle.maid_model.specs.Scopes.{KeepsScopedBounds};
+ghost use Rattle.maid_model.specs.Subgames.{OwnsAll};
+ghost use Rattle.rule_solver.specs.Faults.{KeepsSizes};
+ghost use Rattle.rule_solver.specs.Rooms.{HasRoom};
+ghost use Rattle.policy_update.specs.Faults.{bound_pass, owners_pass, size_pass, update_fault};
+
+use crate::UpdateFault;
+use maid_model::{Diagram, MOST_PLAN_CELLS, MOST_WORK, descent_is_tested};
+use size_precheck::{Size, greedy_orders, measure, sizes_of_plans};
+use std::alloc::Global;
+use weight_scale::{BoundPlace, bound};
+
+/// Refuses a diagram in which two of the decisions have different owners.
+pub(crate) fn keep_one_owner(diagram: &Diagram, decisions: &[usize]) -> Result<(), UpdateFault>
+    requires { decisions.now ≡ decisions_of diagram.now.nodes }
+    ensures { Passes update_fault (owners_pass diagram.now) result }
+{
+    for decision in decisions {
+        if diagram.agent_of(*decision) != diagram.agent_of(decisions[0]) {
+            return Err(UpdateFault::NotOneAgent);
+        }
+    }
+    Ok(())
+}
+
+/// Refuses a diagram that doesn't keep the weight bound.
+pub(crate) fn keep_bound(diagram: &Diagram) -> Result<(), UpdateFault>
+    ensures rows { Passes update_fault (bound_pass diagram.now) result }
+    ensures bound { IfOk result (λ _. KeepsScopedBounds diagram.now) }
+{
+    match bound(diagram) {
+        BoundPlace::Within => Ok(()),
+        BoundPlace::Node(v) => Err(UpdateFault::WeightBound { node: Some(v) }),
+        BoundPlace::Utilities => Err(UpdateFault::WeightBound { node: None }),
+    }
+}
+
+/// Whether a size is within both limits.
+fn is_small(size: &Size) -> bool
+    ensures { IsTrue result ↔ KeepsSizes size.now }
+{
+    size.cells <= MOST_PLAN_CELLS as u128 && size.work <= MOST_WORK
+}
+
+/// Refuses a diagram in which a plan of a run over the decisions needs too many cells, or all plans together too much
+/// work.
+pub(crate) fn keep_sizes(
+    alloc: Global,
+    diagram: &Diagram,
+    decisions: &[usize],
+) -> Result<(), UpdateFault>
+    requires { decisions.now ≡ decisions_of diagram.now.nodes }
+    ensures rows { Passes update_fault (size_pass diagram.now) result }
+    ensures room { IfOk result (λ _. HasRoom diagram.now.nodes MOST_PLAN_CELLS) }
+{
+    sizes_of_plans();
+    greedy_orders();
+    descent_is_tested();
+    let size = measure(alloc, diagram, decisions)?;
+    if !is_small(&size) {
+        return Err(UpdateFault::TooLarge {
+            cells: size.cells,
+            work: size.work,
+        });
+    }
+    Ok(())
+}

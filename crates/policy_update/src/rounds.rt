@@ -1,0 +1,122 @@
+//! Rounds: the decisions are improved one by one.
+
+ghost use Rattle.std.specs.Prelude.{◌≡◌, ◌<◌, ℕ, IfOk, OnOk, MatchOption, length, slice_index_or};
+ghost use Rattle.maid_model.specs.declared.limits.TheConstants.{MOST_PLAN_CELLS};
+ghost use Rattle.maid_laws.specs.Optimum.{IsPure};
+ghost use Rattle.maid_model.specs.Answers.{FitsAnswer};
+ghost use Rattle.maid_model.specs.Nodes.{decisions_of, states_of};
+ghost use Rattle.maid_model.specs.Scopes.{KeepsScopedBounds};
+ghost use Rattle.maid_model.specs.Subgames.{OwnsAll};
+ghost use Rattle.reach_laws.specs.Updates.{IsReachedAfter, IsStep, IsUpdateRound, start_profile};
+ghost use Rattle.rule_solver.specs.Rooms.{HasRoom};
+ghost use Rattle.policy_update.specs.Steps.{AreImproved, IsPlan, IsSettled, Tells, gains_in};
+
+use crate::rows::{are_same_choices, improved_rows};
+use maid_model::{Answer, Diagram, Profile, Row, Rule, profile_has_rules};
+use part_laws::{parts_decide, scopes_are_parts};
+use reach_laws::pure_profiles_listed;
+use rule_solver::row_sums;
+use std::alloc::{AllocError, Global};
+
+/// The rows of an answer, each improved with all other rules as they stand.
+fn improvement(
+    alloc: Global,
+    diagram: &Diagram,
+    profile: &Profile,
+    answer: &Answer,
+) -> Result<Vec<Row>, AllocError>
+    requires bound { KeepsScopedBounds diagram.now }
+    requires room { HasRoom diagram.now.nodes MOST_PLAN_CELLS }
+    requires pure { IsPure diagram.now.nodes profile.now }
+    requires fits { FitsAnswer diagram.now.nodes answer.now }
+    ensures { IfOk result (λ rows. AreImproved (gains_in diagram.now.nodes profile.now answer.now.decision) (states_of diagram.now.nodes answer.now.decision) answer.now.rows rows.items) }
+{
+    // The part of the decision's scope has the whole's best states.
+    scopes_are_parts();
+    parts_decide();
+    let states = diagram.states(answer.decision);
+    let sums = row_sums(alloc, diagram, profile, answer.decision)?;
+    improved_rows(alloc, &sums.gains, states, &answer.rows)
+}
+
+/// Improves the decision at a place in text order, with all other rules as they stand, and tells whether a row's choice
+/// changed.
+fn improve(
+    alloc: Global,
+    diagram: &Diagram,
+    profile: &mut Profile,
+    answers: &mut [Answer],
+    place: usize,
+) -> Result<bool, AllocError>
+    requires bound { KeepsScopedBounds diagram.now }
+    requires room { HasRoom diagram.now.nodes MOST_PLAN_CELLS }
+    requires plan { IsPlan diagram.now.nodes answers.old profile.old }
+    requires place { place < length answers.old }
+    ensures plan { OnOk result (IsPlan diagram.now.nodes answers.new profile.new) }
+    ensures step { OnOk result (IsStep diagram.now.nodes profile.old (slice_index_or (decisions_of diagram.now.nodes) place 0) profile.new) }
+    ensures changed { IfOk result (λ changed. Tells changed profile.old profile.new) }
+{
+    // Choices make pure rules, and a profile has a rule for each decision.
+    pure_profiles_listed();
+    profile_has_rules();
+    let answer = &answers[place];
+    let decision = answer.decision;
+    let rows = improvement(alloc, diagram, profile, answer)?;
+    if are_same_choices(&rows, &answer.rows) {
+        return Ok(false);
+    }
+    profile.put(Rule::pure(alloc, diagram, decision, &rows)?);
+    answers[place] = Answer { decision, rows };
+    Ok(true)
+}
+
+/// Goes through the decisions once, and tells whether the round raised.
+fn go_round(
+    alloc: Global,
+    diagram: &Diagram,
+    profile: &mut Profile,
+    answers: &mut [Answer],
+) -> Result<bool, AllocError>
+    requires bound { KeepsScopedBounds diagram.now }
+    requires room { HasRoom diagram.now.nodes MOST_PLAN_CELLS }
+    requires owner { (agent : ℕ) × OwnsAll diagram.now.nodes agent }
+    requires plan { IsPlan diagram.now.nodes answers.old profile.old }
+    ensures plan { OnOk result (IsPlan diagram.now.nodes answers.new profile.new) }
+    ensures round { OnOk result (IsUpdateRound diagram.now.nodes profile.old profile.new) }
+    ensures raised { IfOk result (λ raised. Tells raised profile.old profile.new) }
+{
+    pure_profiles_listed();
+    let _count = diagram.count();
+    let mut raised = false;
+    for place in 0..answers.len() {
+        let changed = improve(alloc, diagram, profile, answers, place)?;
+        if changed {
+            raised = true;
+        }
+    }
+    Ok(raised)
+}
+
+/// Goes through so many rounds, or to the first that does not raise, and tells how many raised before that one.
+pub(crate) fn settle(
+    alloc: Global,
+    diagram: &Diagram,
+    profile: &mut Profile,
+    answers: &mut [Answer],
+    rounds: u64,
+) -> Result<Option<u64>, AllocError>
+    requires bound { KeepsScopedBounds diagram.now }
+    requires room { HasRoom diagram.now.nodes MOST_PLAN_CELLS }
+    requires owner { (agent : ℕ) × OwnsAll diagram.now.nodes agent }
+    requires plan { IsPlan diagram.now.nodes answers.old profile.old }
+    requires start { profile.old ≡ start_profile diagram.now.nodes }
+    ensures plan { OnOk result (IsPlan diagram.now.nodes answers.new profile.new) }
+    ensures settled { IfOk result (λ settled. MatchOption settled (IsReachedAfter diagram.now.nodes rounds profile.new) (IsSettled diagram.now.nodes rounds profile.new)) }
+{
+    for raised in 0..rounds {
+        if !go_round(alloc, diagram, profile, answers)? {
+            return Ok(Some(raised));
+        }
+    }
+    Ok(None)
+}

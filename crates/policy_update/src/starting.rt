@@ -1,0 +1,56 @@
+//! The decisions, and the first states of all.
+
+ghost use Rattle.std.specs.Prelude.{◌≡◌, ◌<◌, IfOk, length};
+ghost use Rattle.maid_model.specs.Nodes.{decisions_of, is_decision, node_at};
+ghost use Rattle.policy_update.specs.Steps.{first_choices};
+
+use maid_model::{Answer, Diagram, Kind, Row};
+use std::alloc::{AllocError, Global};
+
+/// Whether the node is a decision.
+fn is_decision(diagram: &Diagram, v: usize) -> bool
+    requires { v < length diagram.now.nodes }
+    ensures { result ≡ is_decision (node_at diagram.now.nodes v).kind }
+{
+    match diagram.kind(v) {
+        Kind::Decision => true,
+        Kind::Chance | Kind::Utility => false,
+    }
+}
+
+/// The decisions, in text order.
+pub(crate) fn list_decisions(alloc: Global, diagram: &Diagram) -> Result<Vec<usize>, AllocError>
+    ensures { IfOk result (λ decisions. decisions.items ≡ decisions_of diagram.now.nodes) }
+{
+    let mut decisions = Vec::new(alloc);
+    for v in 0..diagram.count() {
+        if is_decision(diagram, v) {
+            decisions.push(v)?;
+        }
+    }
+    Ok(decisions)
+}
+
+/// The first state in each row of each decision, without worths.
+pub(crate) fn first_choices(
+    alloc: Global,
+    diagram: &Diagram,
+    decisions: &[usize],
+) -> Result<Vec<Answer>, AllocError>
+    requires { decisions.now ≡ decisions_of diagram.now.nodes }
+    ensures { IfOk result (λ answers. answers.items ≡ first_choices diagram.now.nodes) }
+{
+    let mut answers = Vec::with_capacity(alloc, decisions.len())?;
+    for decision in decisions {
+        let first = Row {
+            choice: 0,
+            worth: None,
+        };
+        let rows = vec![in alloc; first; diagram.rows(*decision)]?;
+        answers.push(Answer {
+            decision: *decision,
+            rows,
+        })?;
+    }
+    Ok(answers)
+}

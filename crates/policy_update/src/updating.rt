@@ -1,0 +1,122 @@
+//! A whole diagram, updated round by round.
+
+ghost use Rattle.std.specs.Prelude.{◌≡◌, ◌<◌, ℕ, IfOk, length, slice_index};
+ghost use Rattle.first_fault.specs.Answers.{Passes};
+ghost use Rattle.maid_model.specs.declared.limits.TheConstants.{MOST_PLAN_CELLS};
+ghost use Rattle.maid_model.specs.Answers.{pure_profile};
+ghost use Rattle.maid_model.specs.Nodes.{agent_of, decisions_of};
+ghost use Rattle.maid_model.specs.Scopes.{KeepsScopedBounds};
+ghost use Rattle.maid_model.specs.Subgames.{OwnsAll};
+ghost use Rattle.rule_solver.specs.Rooms.{HasRoom};
+ghost use Rattle.policy_update.specs.Faults.{HasTwoOwners, rounds_pass, update_fault, update_pass};
+ghost use Rattle.policy_update.specs.Updated.{IsLocalOptimum, IsUpdateOf, RoundsRaise};
+
+use crate::UpdateFault;
+use crate::limits::{keep_bound, keep_one_owner, keep_sizes};
+use crate::rounds::settle;
+use crate::starting::{first_choices, list_decisions};
+use maid_model::{Answer, Diagram, Profile, Ratio};
+use reach_laws::{local_optimum, pure_profiles_listed, round_raises};
+use rule_solver::expected;
+use std::alloc::{AllocError, Global};
+use std::marker::Model;
+
+/// An updated diagram: how many rounds raised, an answer for each decision in text order, each row with its choice and
+/// without a worth, and each agent's expected utility under these choices.
+#[derive(Debug, Drop)]
+pub struct Updated {
+    pub rounds: u64,
+    pub answers: Vec<Answer>,
+    pub gains: Vec<Ratio>,
+}
+
+impl Model for Updated {
+    ghost use Rattle.policy_update.specs.Updated.{UpdatedView};
+
+    ghost Value = { UpdatedView };
+
+    ghost view = { λ u. record { rounds = u.rounds; answers = u.answers.items; gains = u.gains.items } };
+}
+
+/// Who owns the first decision.
+fn owner(diagram: &Diagram, decisions: &[usize]) -> usize
+    requires decisions { decisions.now ≡ decisions_of diagram.now.nodes }
+    requires some { 0 < length decisions.now }
+    ensures owner { result ≡ agent_of diagram.now.nodes (slice_index decisions.now 0) }
+    ensures within { result < diagram.now.agents }
+{
+    diagram.agent_of(decisions[0])
+}
+
+/// The result of updating from the first states of all, or the expected utility after so many rounds, each of which
+/// raised.
+fn update_within(
+    alloc: Global,
+    diagram: &Diagram,
+    decisions: &[usize],
+    rounds: u64,
+) -> Result<Updated, UpdateFault>
+    requires decisions { decisions.now ≡ decisions_of diagram.now.nodes }
+    requires owner { (agent : ℕ) × OwnsAll diagram.now.nodes agent }
+    requires bound { KeepsScopedBounds diagram.now }
+    requires room { HasRoom diagram.now.nodes MOST_PLAN_CELLS }
+    requires some { 0 < rounds }
+    ensures rows { Passes update_fault (rounds_pass diagram.now rounds) result }
+    ensures ok { IfOk result (IsUpdateOf diagram.now) }
+{
+    pure_profiles_listed();
+    round_raises();
+    let _count = diagram.count();
+    let mut answers = first_choices(alloc, diagram, decisions)?;
+    let mut profile = Profile::pure(alloc, diagram, &answers)?;
+    let settled = settle(alloc, diagram, &mut profile, &mut answers, rounds)?;
+    let gains = expected(alloc, diagram, &profile)?;
+    match settled {
+        Some(raised) => Ok(Updated {
+            rounds: raised,
+            answers,
+            gains,
+        }),
+        None => Err(UpdateFault::RoundsSpent {
+            rounds,
+            gain: gains[owner(diagram, decisions)],
+        }),
+    }
+}
+
+/// The result of single policy updating (Lauritzen and Nilsson 2001), for an agent that owns all decisions, whether or not
+/// they rely on one another in a cycle.
+///
+/// It starts from the first state everywhere. A round goes through the decisions in text order: against all other choices
+/// as they stand, each row of a decision keeps its choice where no state has a greater gain, and else takes the first
+/// state of greatest gain. A round raises where it changes a choice; the result is what stands before the first round that
+/// does not. No other rule of any one decision is worth more to the agent.
+///
+/// A round asks `rule_solver::row_sums` once for each decision, which makes and runs the decision's plans; at the end
+/// `rule_solver::expected` runs one plan for each utility.
+///
+/// # Errors
+///
+/// The first of these that holds: `NotOneAgent` where two decisions have different owners, `WeightBound` where a scope
+/// passes the weight bound, `TooLarge` where a plan has more than 4,194,304 cells, or all plans together have more than
+/// 134,217,728 steps of work, each decision's counted once, and `RoundsSpent` where each of the first `rounds` rounds
+/// raises. `NoMemory` may come at any point.
+pub fn update(alloc: Global, diagram: &Diagram, rounds: u64) -> Result<Updated, UpdateFault>
+    requires { 0 < rounds }
+    // A result where nothing refuses the diagram, and else the first refusal that applies.
+    ensures rows { Passes update_fault (update_pass diagram.now rounds) result }
+    ensures ok { IfOk result (IsUpdateOf diagram.now) }
+    // No other rule of any one decision, pure or not, is worth more to its agent.
+    ensures local { IfOk result (λ updated. IsLocalOptimum diagram.now.nodes (pure_profile diagram.now.nodes updated.answers)) }
+    // Each round that raises makes the agent's expected utility greater.
+    ensures rises { (HasTwoOwners diagram.now.nodes → ⊥) → RoundsRaise diagram.now.nodes }
+{
+    round_raises();
+    local_optimum();
+    let _count = diagram.count();
+    let decisions = list_decisions(alloc, diagram)?;
+    keep_one_owner(diagram, &decisions)?;
+    keep_bound(diagram)?;
+    keep_sizes(alloc, diagram, &decisions)?;
+    update_within(alloc, diagram, &decisions, rounds)
+}
