@@ -1,26 +1,38 @@
 -- What the steps of a round promise one another. Only private functions cite it.
-use Rattle.std.specs.Prelude.{◌≡◌, ◌≢◌, ◌<◌, ℕ, ℤ, Bool, true, false, List, All, length, map, replicate, slice_index_or, None}
+use Rattle.std.specs.Prelude.{◌≡◌, ◌≢◌, ◌<◌, ℕ, ℤ, Bool, true, false, List, All, Option, None, Some, length, map, replicate, slice_index_or}
 use Rattle.maid_model.specs.declared.answers.Row.{Row}
 use Rattle.maid_model.specs.Answers.{no_row, pure_profile}
 use Rattle.maid_model.specs.Gains.{gain_at}
-use Rattle.maid_model.specs.Nodes.{decisions_of, rows_of}
+use Rattle.maid_model.specs.Nodes.{decisions_of, rows_of, states_of}
 use Rattle.maid_model.specs.Views.{NodeView, RuleView, AnswerView}
-use Rattle.reach_laws.specs.Updates.{IsImproved, IsUpdated}
+use Rattle.reach_laws.specs.Updates.{IsImproved, IsReachedAfter, IsStep, IsUpdated}
 use Rattle.policy_update.specs.Updated.{AreChoices}
+
+-- the choice in a row
+abbrev pub choice_in : List Row → ℕ → ℕ
+choice_in rows row = (slice_index_or rows row no_row).choice
 
 -- as many rows as before, each improved by its own gains, and without worths
 pub record AreImproved (gain : ℕ → ℕ → ℤ) (states : ℕ) (before after : List Row) : Type 0 where
   pub count : length after ≡ length before
-  pub each : (row : ℕ) → row < length before → IsImproved (gain row) states (slice_index_or before row no_row).choice (slice_index_or after row no_row).choice
+  pub each : (row : ℕ) → row < length before → IsImproved (gain row) states (choice_in before row) (choice_in after row)
   pub worthless : All (λ (r : Row). r.worth ≡ None) after
 
 -- row by row the choices are the same
 abbrev pub AreSameChoices : List Row → List Row → Type 0
-AreSameChoices rows others = (row : ℕ) → row < length others → (slice_index_or rows row no_row).choice ≡ (slice_index_or others row no_row).choice
+AreSameChoices rows others = (row : ℕ) → row < length others → choice_in rows row ≡ choice_in others row
 
 -- what each state of the decision gains in a row against the profile
 abbrev pub gains_in : List NodeView → List RuleView → ℕ → ℕ → ℕ → ℤ
 gains_in nodes p d row state = gain_at nodes p d state row
+
+-- these rows improve those of the answer, with all other rules as they stand
+abbrev pub Improves : List NodeView → List RuleView → AnswerView → List Row → Type 0
+Improves nodes p a rows = AreImproved (gains_in nodes p a.decision) (states_of nodes a.decision) a.rows rows
+
+-- the decision at the place in text order is improved
+abbrev pub IsStepAt : List NodeView → ℕ → List RuleView → List RuleView → Type 0
+IsStepAt nodes place p q = IsStep nodes p (slice_index_or (decisions_of nodes) place 0) q
 
 -- the first state in each row of each decision
 abbrev pub first_choices : List NodeView → List AnswerView
@@ -40,3 +52,8 @@ Tells false p q = p ≡ q
 pub record IsSettled (nodes : List NodeView) (rounds : ℕ) (p : List RuleView) (n : ℕ) : Type 0 where
   pub before : n < rounds
   pub updated : IsUpdated nodes n p
+
+-- all of so many rounds raise and lead to p, or p stands before the first that does not
+abbrev pub EndsAt : List NodeView → ℕ → List RuleView → Option ℕ → Type 0
+EndsAt nodes rounds p None = IsReachedAfter nodes rounds p
+EndsAt nodes rounds p (Some n) = IsSettled nodes rounds p n

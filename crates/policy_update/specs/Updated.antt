@@ -40,6 +40,10 @@ IsLocalOptimum nodes p =
     → ((v : ℕ) → IsDecision nodes v → v ≢ d → SameRule t p v)
     → IsNoBetter nodes (agent_of nodes d) p t
 
+-- so it is with the choices of the result
+abbrev pub IsLocallyOptimal : DiagramView → UpdatedView → Type 0
+IsLocallyOptimal d updated = IsLocalOptimum d.nodes (pure_profile d.nodes updated.answers)
+
 -- q gives the agent a greater expected utility than p: fractions are compared by cross products
 abbrev pub IsBetter : List NodeView → ℕ → List RuleView → List RuleView → Type 0
 IsBetter nodes agent p q = (gain_of nodes p agent *ℤ pos (mass nodes q)) <ℤ (gain_of nodes q agent *ℤ pos (mass nodes p))

@@ -1,15 +1,14 @@
 //! Rounds: the decisions are improved one by one.
 
-ghost use Rattle.std.specs.Prelude.{◌≡◌, ◌<◌, ℕ, IfOk, OnOk, MatchOption, length, slice_index_or};
+ghost use Rattle.std.specs.Prelude.{◌≡◌, ◌<◌, ℕ, IfOk, OnOk, length};
 ghost use Rattle.maid_model.specs.declared.limits.TheConstants.{MOST_PLAN_CELLS};
 ghost use Rattle.maid_laws.specs.Optimum.{IsPure};
 ghost use Rattle.maid_model.specs.Answers.{FitsAnswer};
-ghost use Rattle.maid_model.specs.Nodes.{decisions_of, states_of};
 ghost use Rattle.maid_model.specs.Scopes.{KeepsScopedBounds};
 ghost use Rattle.maid_model.specs.Subgames.{OwnsAll};
-ghost use Rattle.reach_laws.specs.Updates.{IsReachedAfter, IsStep, IsUpdateRound, start_profile};
+ghost use Rattle.reach_laws.specs.Updates.{IsUpdateRound, start_profile};
 ghost use Rattle.rule_solver.specs.Rooms.{HasRoom};
-ghost use Rattle.policy_update.specs.Steps.{AreImproved, IsPlan, IsSettled, Tells, gains_in};
+ghost use Rattle.policy_update.specs.Steps.{EndsAt, Improves, IsPlan, IsStepAt, Tells};
 
 use crate::rows::{are_same_choices, improved_rows};
 use maid_model::{Answer, Diagram, Profile, Row, Rule, profile_has_rules};
@@ -29,7 +28,7 @@ fn improvement(
     requires room { HasRoom diagram.now.nodes MOST_PLAN_CELLS }
     requires pure { IsPure diagram.now.nodes profile.now }
     requires fits { FitsAnswer diagram.now.nodes answer.now }
-    ensures { IfOk result (λ rows. AreImproved (gains_in diagram.now.nodes profile.now answer.now.decision) (states_of diagram.now.nodes answer.now.decision) answer.now.rows rows.items) }
+    ensures { IfOk result (λ rows. Improves diagram.now.nodes profile.now answer.now rows.items) }
 {
     // The part of the decision's scope has the whole's best states.
     scopes_are_parts();
@@ -53,7 +52,7 @@ fn improve(
     requires plan { IsPlan diagram.now.nodes answers.old profile.old }
     requires place { place < length answers.old }
     ensures plan { OnOk result (IsPlan diagram.now.nodes answers.new profile.new) }
-    ensures step { OnOk result (IsStep diagram.now.nodes profile.old (slice_index_or (decisions_of diagram.now.nodes) place 0) profile.new) }
+    ensures step { OnOk result (IsStepAt diagram.now.nodes place profile.old profile.new) }
     ensures changed { IfOk result (λ changed. Tells changed profile.old profile.new) }
 {
     // Choices make pure rules, and a profile has a rule for each decision.
@@ -111,7 +110,7 @@ pub(crate) fn settle(
     requires plan { IsPlan diagram.now.nodes answers.old profile.old }
     requires start { profile.old ≡ start_profile diagram.now.nodes }
     ensures plan { OnOk result (IsPlan diagram.now.nodes answers.new profile.new) }
-    ensures settled { IfOk result (λ settled. MatchOption settled (IsReachedAfter diagram.now.nodes rounds profile.new) (IsSettled diagram.now.nodes rounds profile.new)) }
+    ensures settled { IfOk result (EndsAt diagram.now.nodes rounds profile.new) }
 {
     for raised in 0..rounds {
         if !go_round(alloc, diagram, profile, answers)? {

@@ -3,13 +3,12 @@
 ghost use Rattle.std.specs.Prelude.{◌≡◌, ◌<◌, ℕ, IfOk, length, slice_index};
 ghost use Rattle.first_fault.specs.Answers.{Passes};
 ghost use Rattle.maid_model.specs.declared.limits.TheConstants.{MOST_PLAN_CELLS};
-ghost use Rattle.maid_model.specs.Answers.{pure_profile};
 ghost use Rattle.maid_model.specs.Nodes.{agent_of, decisions_of};
 ghost use Rattle.maid_model.specs.Scopes.{KeepsScopedBounds};
 ghost use Rattle.maid_model.specs.Subgames.{OwnsAll};
 ghost use Rattle.rule_solver.specs.Rooms.{HasRoom};
 ghost use Rattle.policy_update.specs.Faults.{HasTwoOwners, rounds_pass, update_fault, update_pass};
-ghost use Rattle.policy_update.specs.Updated.{IsLocalOptimum, IsUpdateOf, RoundsRaise};
+ghost use Rattle.policy_update.specs.Updated.{IsLocallyOptimal, IsUpdateOf, RoundsRaise};
 
 use crate::UpdateFault;
 use crate::limits::{keep_bound, keep_one_owner, keep_sizes};
@@ -107,7 +106,7 @@ pub fn update(alloc: Global, diagram: &Diagram, rounds: u64) -> Result<Updated, 
     ensures rows { Passes update_fault (update_pass diagram.now rounds) result }
     ensures ok { IfOk result (IsUpdateOf diagram.now) }
     // No other rule of any one decision, pure or not, is worth more to its agent.
-    ensures local { IfOk result (λ updated. IsLocalOptimum diagram.now.nodes (pure_profile diagram.now.nodes updated.answers)) }
+    ensures local { IfOk result (IsLocallyOptimal diagram.now) }
     // Each round that raises makes the agent's expected utility greater.
     ensures rises { (HasTwoOwners diagram.now.nodes → ⊥) → RoundsRaise diagram.now.nodes }
 {

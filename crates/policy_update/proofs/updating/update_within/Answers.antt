@@ -1,9 +1,8 @@
 use Rattle.std.proofs.Common.{◌∙◌, ◌<◌, ◌^◌, length, refl, sym, ap, subst, slice_index}
-use Rattle.std.specs.Prelude.{MatchOption}
 use Rattle.maid_model.specs.Answers.{IsExpectedUtility, pure_profile}
 use Rattle.maid_model.specs.Subgames.{OwnsAll}
 use Rattle.reach_laws.specs.Updates.{IsReachedAfter}
-use Rattle.policy_update.specs.Steps.{IsSettled}
+use Rattle.policy_update.specs.Steps.{EndsAt, IsSettled}
 use Rattle.policy_update.proofs.Owners.{decision_at, owns_like}
 use Rattle.policy_update.proofs.Plans.{first_plan, first_start, plan_pure}
 use Rattle.policy_update.proofs.Rising.{some_decision}
@@ -28,21 +27,21 @@ expected-requires-clause-pure c = (plan_pure c.args.diagram.now.nodes c.pure_pro
 pub returns-in-Some-clause-rows : goal.returns-in-Some-clause-rows
 returns-in-Some-clause-rows c p reached =
     let nodes = c.args.diagram.now.nodes in
-    let settled : IsSettled nodes c.args.rounds c.settle.new.profile c.in-Some.raised = subst (λ o. MatchOption o (IsReachedAfter nodes c.args.rounds c.settle.new.profile) (IsSettled nodes c.args.rounds c.settle.new.profile)) c.in-Some.is c.in_ok-settled.ensures.settled in
+    let settled : IsSettled nodes c.args.rounds c.settle.new.profile c.in-Some.raised = subst (EndsAt nodes c.args.rounds c.settle.new.profile) c.in-Some.is c.in_ok-settled.ensures.settled in
     let is = c.count-count.ensures.diagram in
     never_reached nodes is.graph is.tables c.requires.owner.0 c.requires.owner.1 c.round_raises.ensures.exists c.in-Some.raised c.args.rounds c.settle.new.profile p settled.updated settled.before reached
 
 pub owner-requires-clause-some : goal.owner-requires-clause-some
 owner-requires-clause-some c =
     let nodes = c.args.diagram.now.nodes in
-    let reached : IsReachedAfter nodes c.args.rounds c.settle.new.profile = subst (λ o. MatchOption o (IsReachedAfter nodes c.args.rounds c.settle.new.profile) (IsSettled nodes c.args.rounds c.settle.new.profile)) c.in-None.is c.in_ok-settled.ensures.settled in
+    let reached : IsReachedAfter nodes c.args.rounds c.settle.new.profile = subst (EndsAt nodes c.args.rounds c.settle.new.profile) c.in-None.is c.in_ok-settled.ensures.settled in
     subst (λ ds. 0 < length ds) (sym c.requires.decisions) (some_decision nodes c.args.rounds c.settle.new.profile c.requires.some reached)
 
 -- the owner's expected utility after the last round
 pub returns-in-None-clause-rows : goal.returns-in-None-clause-rows
 returns-in-None-clause-rows c =
     let d = c.args.diagram.now in
-    let reached : IsReachedAfter d.nodes c.args.rounds c.settle.new.profile = subst (λ o. MatchOption o (IsReachedAfter d.nodes c.args.rounds c.settle.new.profile) (IsSettled d.nodes c.args.rounds c.settle.new.profile)) c.in-None.is c.in_ok-settled.ensures.settled in
+    let reached : IsReachedAfter d.nodes c.args.rounds c.settle.new.profile = subst (EndsAt d.nodes c.args.rounds c.settle.new.profile) c.in-None.is c.in_ok-settled.ensures.settled in
     let some : 0 < length c.args.decisions.now = subst (λ ds. 0 < length ds) (sym c.requires.decisions) (some_decision d.nodes c.args.rounds c.settle.new.profile c.requires.some reached) in
     let first = decision_at d.nodes c.args.decisions.now 0 c.requires.decisions some in (
       refl,
