@@ -11,6 +11,9 @@ use Rattle.maid_model.specs.Views.{DiagramView}
 use Rattle.net_build.specs.Building.{StandsFor}
 use Rattle.net_build.specs.Laws as building
 use Rattle.net_build.specs.Table.{all_passes}
+use Rattle.policy_update.specs.Faults.{HasTwoOwners}
+use Rattle.policy_update.specs.Faults as updating
+use Rattle.pure_search.specs.Faults as search
 use Rattle.report_text.specs.Laws as reading
 use Rattle.tree_checker.specs.Laws as checking
 use Rattle.tree_checker.specs.Verdicts.{IsVerdict}
@@ -27,12 +30,12 @@ use Rattle.maid_app.specs.Diagrams.{NamedDiagram, IsTreeOf, IsDiagramOf, of_diag
 use Rattle.maid_app.specs.Faults.{TellsFault, IsTextFault}
 use Rattle.maid_app.specs.Laws.{OneStatus}
 use Rattle.maid_app.specs.Outcome.{Written, Refused, status_with}
-use Rattle.maid_app.specs.Request.{Request, solve, check, judge, graph, print, trim, info, control, demo, file_name}
-use Rattle.maid_app.specs.Stages.{Stage, text_fault, unknown_agent, relevance_cycle, weight_bound, too_large, too_many_leaves, bad_line, Finds, IsText, IsAgent, IsReport, HasFewLeaves, stage, TellsUnknownAgent, TellsCycle, TellsBound, AtNode, AtUtilities, TellsTooLarge, TellsLeaves, TellsBadLine}
+use Rattle.maid_app.specs.Request.{Request, solve, check, judge, graph, print, trim, pure, update, info, control, demo, file_name}
+use Rattle.maid_app.specs.Stages.{Stage, text_fault, unknown_agent, relevance_cycle, weight_bound, too_large, too_many_profiles, no_equilibrium, several_owners, update_too_large, rounds_spent, too_many_leaves, bad_line, Finds, IsText, IsAgent, IsReport, HasFewLeaves, HasPureEquilibrium, AllRoundsRaise, stage, TellsUnknownAgent, TellsProfiles, TellsNoEquilibrium, TellsOwners, TellsUpdateTooLarge, TellsRounds, TellsCycle, TellsBound, AtNode, AtUtilities, TellsTooLarge, TellsLeaves, TellsBadLine}
 use Rattle.maid_app.specs.Tasks.{Task, comes_of}
 use Rattle.maid_app.proofs.TellApart.{told_apart}
 use Rattle.maid_app.specs.declared.status.Status.{Status}
-use Rattle.maid_app.specs.declared.status.Status.TheVariants.{TextFault, UnknownAgent, Cycle, WeightBound, TooLarge}
+use Rattle.maid_app.specs.declared.status.Status.TheVariants.{TextFault, UnknownAgent, Cycle, WeightBound, TooLarge, NoPure, NotOneAgent, RoundsSpent}
 
 -- the laws of the layers below
 pub record Laws : Type 0 where
@@ -114,6 +117,11 @@ module _ (laws : Laws) where
   finds_one relevance_cycle file = of_diagram_one file.1 Cycle (λ d names. HasRelianceOrder d.nodes) TellsCycle (λ d names told order tells. tells.no_order order)
   finds_one weight_bound file = of_diagram_one file.1 WeightBound (λ d names. KeepsScopedBounds d) TellsBound (λ d names told keeps tells. not_kept d names told keeps tells)
   finds_one too_large file = of_diagram_one file.1 TooLarge (λ d names. IsSmallEnough d) TellsTooLarge (λ d names told small tells. tells.is_size.1 (small _ tells.is_size.0))
+  finds_one too_many_profiles file = of_diagram_one file.1 TooLarge (λ d names. search.IsSmall d) TellsProfiles (λ d names told small tells. tells.is_size.passes small)
+  finds_one no_equilibrium file = of_diagram_one file.1 NoPure (λ d names. HasPureEquilibrium d) TellsNoEquilibrium (λ d names told some tells. tells.none some)
+  finds_one several_owners file = of_diagram_one file.1 NotOneAgent (λ d names. HasTwoOwners d.nodes → ⊥) TellsOwners (λ d names told one tells. one tells.two)
+  finds_one update_too_large file = of_diagram_one file.1 TooLarge (λ d names. updating.IsSmallEnough d) TellsUpdateTooLarge (λ d names told small tells. tells.is_size.1 (small _ tells.is_size.0))
+  finds_one rounds_spent file = of_diagram_one file.1 RoundsSpent (λ d names. AllRoundsRaise d → ⊥) TellsRounds (λ d names told settles tells. settles tells.all_raise)
   finds_one too_many_leaves file = of_diagram_one file.1 TooLarge (λ d names. HasFewLeaves d) TellsLeaves (λ d names told few tells. omega (arith, few, tells.many))
   finds_one (bad_line text) file = of_diagram_one text TextFault (λ d names. IsReport d names file.1) (TellsBadLine file) (λ d names told is tells. laws.report_or_fault d names file.1 tells.at is tells.is_bad)
 
@@ -141,6 +149,8 @@ module _ (laws : Laws) where
   gives_one (graph file) bytes x y h k = h.0 ∙ sym k.0
   gives_one (print file) bytes x y h k = h.0 ∙ sym k.0
   gives_one (trim file) bytes x y h k = h.0 ∙ sym k.0
+  gives_one (pure file) bytes x y h k = h.0 ∙ sym k.0
+  gives_one (update file) bytes x y h k = h.0 ∙ sym k.0
   gives_one (info file agent) bytes x y h k = h.0 ∙ sym k.0
   gives_one (control file agent) bytes x y h k = h.0 ∙ sym k.0
   gives_one (demo n) bytes x y h k = h.0 ∙ sym k.0
@@ -168,6 +178,11 @@ status_by (unknown_agent agent) = UnknownAgent
 status_by relevance_cycle = Cycle
 status_by weight_bound = WeightBound
 status_by too_large = TooLarge
+status_by too_many_profiles = TooLarge
+status_by no_equilibrium = NoPure
+status_by several_owners = NotOneAgent
+status_by update_too_large = TooLarge
+status_by rounds_spent = RoundsSpent
 status_by too_many_leaves = TooLarge
 status_by (bad_line text) = TextFault
 
@@ -180,6 +195,11 @@ finds_status (unknown_agent agent) file refusal h = h.2.0
 finds_status relevance_cycle file refusal h = h.2.0
 finds_status weight_bound file refusal h = h.2.0
 finds_status too_large file refusal h = h.2.0
+finds_status too_many_profiles file refusal h = h.2.0
+finds_status no_equilibrium file refusal h = h.2.0
+finds_status several_owners file refusal h = h.2.0
+finds_status update_too_large file refusal h = h.2.0
+finds_status rounds_spent file refusal h = h.2.0
 finds_status too_many_leaves file refusal h = h.2.0
 finds_status (bad_line text) file refusal h = h.2.0
 

@@ -6,10 +6,10 @@ use Rattle.maid_app.specs.Answers.{Answers, FindsNothing}
 use Rattle.maid_app.specs.Laws.{OneStatus, ClearOrRefused}
 use Rattle.maid_app.specs.Outcome.{Refused, written, refused}
 use Rattle.maid_app.specs.Request.{Request, demo}
-use Rattle.maid_app.specs.Stages.{Stage, text_fault, unknown_agent, relevance_cycle, weight_bound, too_large, too_many_leaves, bad_line}
+use Rattle.maid_app.specs.Stages.{Stage, text_fault, unknown_agent, relevance_cycle, weight_bound, too_large, too_many_profiles, no_equilibrium, several_owners, update_too_large, rounds_spent, too_many_leaves, bad_line}
 use Rattle.maid_app.specs.Told.{OfRequest, HasNoBytes, HasText, WritesText, Refuses, Says, IsOfReading, IsOneOf}
 use Rattle.maid_app.specs.declared.status.Status.{Status}
-use Rattle.maid_app.specs.declared.status.Status.TheVariants.{Done, Usage, Absent, ReadFault, TextTooLong, TextFault, Cycle, WeightBound, TooLarge, WriteFault, NoMemory, Rejected, UnknownAgent}
+use Rattle.maid_app.specs.declared.status.Status.TheVariants.{Done, Usage, Absent, ReadFault, TextTooLong, TextFault, Cycle, WeightBound, TooLarge, WriteFault, NoMemory, Rejected, UnknownAgent, NoPure, NotOneAgent, RoundsSpent}
 use Rattle.maid_app.proofs.Bytes.{status_by, status_of_a_stage}
 use Rattle.maid_app.proofs.Outcomes.{apart, gives_well}
 
@@ -45,6 +45,9 @@ module _ (list : Option (List File)) (k given : ℕ) where
   why TooLarge t h = refused_here TooLarge t h
   why Rejected t h = refused_here Rejected t h
   why UnknownAgent t h = refused_here UnknownAgent t h
+  why NoPure t h = refused_here NoPure t h
+  why NotOneAgent t h = refused_here NotOneAgent t h
+  why RoundsSpent t h = refused_here RoundsSpent t h
 
 -- A run on words that ask for a generated text.
 module _ (list : Option (List File)) (requested : Option Request) (given : ℕ) (k : ℕ) (asks : requested ≡ Some (demo k)) where
@@ -66,6 +69,11 @@ module _ (list : Option (List File)) (requested : Option Request) (given : ℕ) 
     stage_not_reading relevance_cycle h = h
     stage_not_reading weight_bound h = h
     stage_not_reading too_large h = h
+    stage_not_reading too_many_profiles h = h
+    stage_not_reading no_equilibrium h = h
+    stage_not_reading several_owners h = h
+    stage_not_reading update_too_large h = h
+    stage_not_reading rounds_spent h = h
     stage_not_reading too_many_leaves h = h
     stage_not_reading (bad_line text) h = h
 

@@ -8,6 +8,7 @@ pub mod Leading
 pub mod Nodes
 pub mod Outcomes
 pub mod Refusals
+pub mod Searches
 pub mod SolveRefusals
 pub mod Solving
 pub mod Steps

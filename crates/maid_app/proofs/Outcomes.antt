@@ -12,14 +12,14 @@ use Rattle.maid_app.specs.Laws.{OneStatus, ClearOrRefused}
 use Rattle.maid_app.specs.Outcome.{Written, Refused, written, refused}
 use Rattle.maid_app.specs.Reading.{TellsOf, RefusesAs}
 use Rattle.maid_app.specs.Refusal.{status_of, line_of}
-use Rattle.maid_app.specs.Request.{Request, solve, check, judge, graph, print, trim, info, control, demo, file_name}
-use Rattle.maid_app.specs.Stages.{Stage, text_fault, unknown_agent, relevance_cycle, weight_bound, too_large, too_many_leaves, bad_line, Finds}
+use Rattle.maid_app.specs.Request.{Request, solve, check, judge, graph, print, trim, pure, update, info, control, demo, file_name}
+use Rattle.maid_app.specs.Stages.{Stage, text_fault, unknown_agent, relevance_cycle, weight_bound, too_large, too_many_profiles, no_equilibrium, several_owners, update_too_large, rounds_spent, too_many_leaves, bad_line, Finds}
 use Rattle.maid_app.specs.Tasks.{comes_of}
 use Rattle.maid_app.specs.Told.{limit_of, IsTextFor, LeadsTo, IsTooLong, HasNoBytes, HasText, WritesText, Refuses, Says, HasFile, LacksFile, IsAfterWriting, IsOneOf, EndsWell}
 use Rattle.maid_app.specs.declared.refusal.Refusal.{Refusal}
 use Rattle.maid_app.specs.declared.refusal.Refusal.TheVariants as refusals
 use Rattle.maid_app.specs.declared.status.Status.{Status}
-use Rattle.maid_app.specs.declared.status.Status.TheVariants.{Done, Usage, Absent, ReadFault, TextTooLong, TextFault, Cycle, WeightBound, TooLarge, WriteFault, NoMemory, Rejected, UnknownAgent}
+use Rattle.maid_app.specs.declared.status.Status.TheVariants.{Done, Usage, Absent, ReadFault, TextTooLong, TextFault, Cycle, WeightBound, TooLarge, WriteFault, NoMemory, Rejected, UnknownAgent, NoPure, NotOneAgent, RoundsSpent}
 use Rattle.tree_checker.specs.declared.verdicts.Verdict.{Verdict}
 use Rattle.tree_checker.specs.declared.verdicts.Verdict.TheVariants as verdicts
 use Rattle.maid_app.proofs.Bytes.{status_by, status_of_a_stage}
@@ -32,6 +32,11 @@ as_of_stage Comes (unknown_agent agent) told h = (tt, h)
 as_of_stage Comes relevance_cycle told h = (tt, h)
 as_of_stage Comes weight_bound told h = (tt, h)
 as_of_stage Comes too_large told h = (tt, h)
+as_of_stage Comes too_many_profiles told h = (tt, h)
+as_of_stage Comes no_equilibrium told h = (tt, h)
+as_of_stage Comes several_owners told h = (tt, h)
+as_of_stage Comes update_too_large told h = (tt, h)
+as_of_stage Comes rounds_spent told h = (tt, h)
 as_of_stage Comes too_many_leaves told h = (tt, h)
 as_of_stage Comes (bad_line text) told h = (tt, h)
 
@@ -59,6 +64,11 @@ not_written (unknown_agent agent) h = h
 not_written relevance_cycle h = h
 not_written weight_bound h = h
 not_written too_large h = h
+not_written too_many_profiles h = h
+not_written no_equilibrium h = h
+not_written several_owners h = h
+not_written update_too_large h = h
+not_written rounds_spent h = h
 not_written too_many_leaves h = h
 not_written (bad_line text) h = h
 
@@ -78,6 +88,8 @@ gives_after (judge text report) bytes output h = after_verdict output.status h.1
 gives_after (graph file) bytes output h = after_done output.status h.1.0
 gives_after (print file) bytes output h = after_done output.status h.1.0
 gives_after (trim file) bytes output h = after_done output.status h.1.0
+gives_after (pure file) bytes output h = after_done output.status h.1.0
+gives_after (update file) bytes output h = after_done output.status h.1.0
 gives_after (info file agent) bytes output h = after_done output.status h.1.0
 gives_after (control file agent) bytes output h = after_done output.status h.1.0
 gives_after (demo k) bytes output h = after_done output.status h.1.0
@@ -101,6 +113,8 @@ gives_well (judge text report) bytes output h = verdict_ends output.status h.1.2
 gives_well (graph file) bytes output h = inl h.1.0
 gives_well (print file) bytes output h = inl h.1.0
 gives_well (trim file) bytes output h = inl h.1.0
+gives_well (pure file) bytes output h = inl h.1.0
+gives_well (update file) bytes output h = inl h.1.0
 gives_well (info file agent) bytes output h = inl h.1.0
 gives_well (control file agent) bytes output h = inl h.1.0
 gives_well (demo k) bytes output h = inl h.1.0
@@ -113,6 +127,8 @@ memory_ends (judge text report) = inl (inr refl)
 memory_ends (graph file) = inr refl
 memory_ends (print file) = inr refl
 memory_ends (trim file) = inr refl
+memory_ends (pure file) = inr refl
+memory_ends (update file) = inr refl
 memory_ends (info file agent) = inr refl
 memory_ends (control file agent) = inr refl
 memory_ends (demo k) = inr refl
@@ -160,6 +176,9 @@ module _ (law : ClearOrRefused) (files : List File) (asked request : Request) (l
   why TooLarge t h = refused_here TooLarge t h
   why Rejected t h = refused_here Rejected t h
   why UnknownAgent t h = refused_here UnknownAgent t h
+  why NoPure t h = refused_here NoPure t h
+  why NotOneAgent t h = refused_here NotOneAgent t h
+  why RoundsSpent t h = refused_here RoundsSpent t h
 
   -- what it wrote, of that request
   wrote : (A : List ℕ → Type 0) (status : Status) → WritesText (Some files) (Some asked) given A status → Wrote files request given status ⊎ IsPassed files request
@@ -325,6 +344,10 @@ nothing_found (judge text report) bytes d names is can = absurd can
 nothing_found (graph name) bytes d names is can = ((record { d = d; names = names }, is), tt)
 nothing_found (print name) bytes d names is can = ((record { d = d; names = names }, is), tt)
 nothing_found (trim name) bytes d names is can = ((record { d = d; names = names }, is), tt)
+nothing_found (pure name) bytes d names is can =
+    let x : NamedDiagram = record { d = d; names = names } in ((x, is), ((x, is, can.bound), ((x, is, can.small), ((x, is, can.some), tt))))
+nothing_found (update name) bytes d names is can =
+    let x : NamedDiagram = record { d = d; names = names } in ((x, is), ((x, is, can.one_owner), ((x, is, can.bound), ((x, is, can.small), ((x, is, can.settles), tt)))))
 nothing_found (info name agent) bytes d names is can = asked_clear agent bytes d names name is can
 nothing_found (control name agent) bytes d names is can = asked_clear agent bytes d names name is can
 nothing_found (demo k) bytes d names is can =

@@ -74,8 +74,13 @@ unfolding comes_of
 text_refused task stages name bytes refusal e h =
     found_too (Finds text_fault (name, bytes)) (refusals_of (comes_of task name bytes)) (λ f found. inl (subst (λ list. each (λ s. Finds s (name, bytes)) list (Some f)) (sym e) (inl found))) (refused_as refusal) h
 
--- a task without other stages gives its text
+-- a task whose stages find nothing gives its text
+pub stages_give : (stages : List Stage) (IsTextOf : DiagramView → NamesView → List ℕ → Type 0) (name bytes : List ℕ) (d : DiagramView) (names : NamesView) (printed : List ℕ) → IsDiagramOf bytes d names
+    → each (λ s. Finds s (name, bytes)) stages None → IsTextOf d names printed → comes_of (text_task stages IsTextOf) name bytes (Ok (done_with printed))
+unfolding comes_of
+stages_give stages IsTextOf name bytes d names printed is clear text = let x : NamedDiagram = record { d = d; names = names } in (clear, (refl, (x, is, text)))
+
+-- and so does one without other stages than the text's fault
 pub text_given : (IsTextOf : DiagramView → NamesView → List ℕ → Type 0) (name bytes : List ℕ) (d : DiagramView) (names : NamesView) (printed : List ℕ) → IsDiagramOf bytes d names → IsTextOf d names printed
     → comes_of (text_task (text_fault ∷ []) IsTextOf) name bytes (Ok (done_with printed))
-unfolding comes_of
-text_given IsTextOf name bytes d names printed is text = let x : NamedDiagram = record { d = d; names = names } in (((x, is), tt), (refl, (x, is, text)))
+text_given IsTextOf name bytes d names printed is text = let x : NamedDiagram = record { d = d; names = names } in stages_give (text_fault ∷ []) IsTextOf name bytes d names printed is ((x, is), tt) text

@@ -9,7 +9,7 @@ use Rattle.maid_model.specs.Views.{NodeView, DiagramView}
 use Rattle.finite_sums.proofs.Lists.{among_filter}
 use Rattle.maid_laws.proofs.Members.{among_of}
 use Rattle.maid_laws.proofs.Rearranged.{numbered}
-use Rattle.weight_scale.specs.Bound.{IsPassedAt}
+use Rattle.weight_scale.specs.Bound.{IsPassedAt, IsPassedByUtilities}
 use Rattle.maid_model.specs.Names.{NamesView, NamesFit}
 use Rattle.maid_app.specs.Lines.{bound_line}
 use Rattle.maid_app.specs.Stages.{TellsBound, AtNode, AtUtilities}
@@ -39,12 +39,27 @@ pub place_within : (d : DiagramView) (v : ℕ) → IsPassedAt d v → v < length
 place_within d v (inl (e, fails, passes)) = place_in_scope d.nodes (e ∷ goals_of d.nodes e) (bound_factor d.nodes) v passes
 place_within d v (inr (agent, fails, passes)) = place_in_scope d.nodes (utilities_for d.nodes agent) (chance_factor d.nodes) v passes
 
--- and has a name
+-- a place at which the bound is passed: a node, or the utilities
+abbrev pub IsPassed : DiagramView → Option ℕ → Type 0
+IsPassed d None = IsPassedByUtilities d
+IsPassed d (Some v) = IsPassedAt d v
+
+passed_of : (d : DiagramView) (at : Option ℕ) → bound_pass d (Some (WeightBound at)) → IsPassed d at
+passed_of d None h = h
+passed_of d (Some v) h = h
+
+-- a node has a name
+pub place_named : (d : DiagramView) (names : NamesView) (at : Option ℕ) → NamesFit d names → IsPassed d at → IfSome at (λ v. v < length names.nodes)
+place_named d names None fit h = tt
+place_named d names (Some v) fit h = subst (λ n. v < n) (sym fit.nodes) (place_within d v h)
+
 pub place_known : (d : DiagramView) (names : NamesView) (at : Option ℕ) → NamesFit d names → solve_pass d (Some (WeightBound at)) → IfSome at (λ v. v < length names.nodes)
-place_known d names None fit h = tt
-place_known d names (Some v) fit h = subst (λ n. v < n) (sym fit.nodes) (place_within d v (bound_of d (Some v) h).1)
+place_known d names at fit h = place_named d names at fit (passed_of d at (bound_of d at h).1)
 
 -- the line tells the place
+pub passed_told : (d : DiagramView) (names : NamesView) (at : Option ℕ) (told : List ℕ) → IsPassed d at → told ≡ bound_line names at → TellsBound d names told
+passed_told d names None told h e = AtUtilities h e
+passed_told d names (Some v) told h e = AtNode v h e
+
 pub bound_told : (d : DiagramView) (names : NamesView) (at : Option ℕ) (told : List ℕ) → bound_pass d (Some (WeightBound at)) → told ≡ bound_line names at → TellsBound d names told
-bound_told d names None told h e = AtUtilities h e
-bound_told d names (Some v) told h e = AtNode v h e
+bound_told d names at told h e = passed_told d names at told (passed_of d at h) e

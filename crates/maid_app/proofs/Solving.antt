@@ -13,6 +13,7 @@ use Rattle.maid_app.specs.Reading.{found_by}
 use Rattle.maid_app.specs.Solve.{IsSolvable, solver_stages}
 use Rattle.maid_app.specs.Stages.{Stage, Finds, TellsBound}
 use Rattle.maid_app.specs.Tasks.{text_task, comes_of}
+use Rattle.maid_app.proofs.Refusals.{stages_give}
 use Rattle.maid_app.specs.declared.status.Status.TheVariants.{Cycle, WeightBound, TooLarge}
 
 -- what the solver's stages find in a diagram of these bytes
@@ -47,7 +48,5 @@ clear_behind name bytes (s ∷ front) back clear rest = (clear.0, clear_behind n
 -- so a task of these stages, behind others that find nothing, gives its text
 pub solved_given : (front : List Stage) (IsTextOf : DiagramView → NamesView → List ℕ → Type 0) (name bytes : List ℕ) (d : DiagramView) (names : NamesView) (told : List ℕ) → IsDiagramOf bytes d names
     → each (λ s. Finds s (name, bytes)) front None → IsSolvable d → IsTextOf d names told → comes_of (text_task (front ++ solver_stages) IsTextOf) name bytes (Ok (done_with told))
-unfolding comes_of
 solved_given front IsTextOf name bytes d names told is clear can text =
-    let x : NamedDiagram = record { d = d; names = names } in
-    (clear_behind name bytes front solver_stages clear (none_found name bytes d names is can), (refl, (x, is, text)))
+    stages_give (front ++ solver_stages) IsTextOf name bytes d names told is (clear_behind name bytes front solver_stages clear (none_found name bytes d names is can)) text

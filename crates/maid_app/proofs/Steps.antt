@@ -11,7 +11,7 @@ use Rattle.maid_app.specs.Told.{limit_of, IsFileText, IsTextFor, IsUnread, Keeps
 use Rattle.maid_app.specs.declared.output.Output.{Output}
 use Rattle.maid_app.specs.declared.refusal.Refusal.{Refusal}
 use Rattle.maid_app.specs.declared.status.Status.{Status}
-use Rattle.maid_app.specs.declared.status.Status.TheVariants.{Done, Usage, Absent, ReadFault, TextTooLong, TextFault, Cycle, WeightBound, TooLarge, WriteFault, NoMemory, Rejected, UnknownAgent}
+use Rattle.maid_app.specs.declared.status.Status.TheVariants.{Done, Usage, Absent, ReadFault, TextTooLong, TextFault, Cycle, WeightBound, TooLarge, WriteFault, NoMemory, Rejected, UnknownAgent, NoPure, NotOneAgent, RoundsSpent}
 use Rattle.maid_app.proofs.Leading.{file_text}
 use Rattle.maid_app.proofs.Outcomes.{gives_after}
 
@@ -55,6 +55,9 @@ module _ (list : Option (List File)) (asked own : Request) (given : ℕ) (leads 
     says_bytes WeightBound told h = refuses WeightBound told h.1
     says_bytes TooLarge told h = refuses TooLarge told h.1
     says_bytes UnknownAgent told h = refuses UnknownAgent told h.1
+    says_bytes NoPure told h = refuses NoPure told h.1
+    says_bytes NotOneAgent told h = refuses NotOneAgent told h.1
+    says_bytes RoundsSpent told h = refuses RoundsSpent told h.1
 
     of_bytes : (status : Status) (told : List ℕ) → RefusesAs (Answers own bytes) status told → IsOfOutput status × (IsOfReading status → ⊥)
     of_bytes Done told h = absurd h.0
@@ -70,6 +73,9 @@ module _ (list : Option (List File)) (asked own : Request) (given : ℕ) (leads 
     of_bytes WeightBound told h = (tt, λ r. r)
     of_bytes TooLarge told h = (tt, λ r. r)
     of_bytes UnknownAgent told h = (tt, λ r. r)
+    of_bytes NoPure told h = (tt, λ r. r)
+    of_bytes NotOneAgent told h = (tt, λ r. r)
+    of_bytes RoundsSpent told h = (tt, λ r. r)
 
     -- and never with a status of reading
     pub not_reading : (refusal : Refusal) → RefusesAs (Answers own bytes) (status_of refusal) (line_of refusal) → IsOfReading (status_of refusal) → ⊥
@@ -95,6 +101,9 @@ module _ (list : Option (List File)) (asked own : Request) (given : ℕ) (leads 
   says_unread WeightBound told h = absurd h.1
   says_unread TooLarge told h = absurd h.1
   says_unread UnknownAgent told h = absurd h.1
+  says_unread NoPure told h = absurd h.1
+  says_unread NotOneAgent told h = absurd h.1
+  says_unread RoundsSpent told h = absurd h.1
 
   of_unread : (status : Status) (told : List ℕ) → HasNoText list own given status told → IsOfOutput status
   of_unread Absent told h = tt
@@ -110,6 +119,9 @@ module _ (list : Option (List File)) (asked own : Request) (given : ℕ) (leads 
   of_unread WeightBound told h = absurd h.1
   of_unread TooLarge told h = absurd h.1
   of_unread UnknownAgent told h = absurd h.1
+  of_unread NoPure told h = absurd h.1
+  of_unread NotOneAgent told h = absurd h.1
+  of_unread RoundsSpent told h = absurd h.1
 
   -- what refuses the request before its bytes are had
   pub file_refused : (refusal : Refusal) → HasNoText list own given (status_of refusal) (line_of refusal) → (IsOfFile own → KeepsLimit (limit_of own) (status_of refusal) given) → LeadsToRefusal list asked given refusal
@@ -134,6 +146,9 @@ no_text list own given Cycle told of h = absurd h
 no_text list own given WeightBound told of h = absurd h
 no_text list own given TooLarge told of h = absurd h
 no_text list own given UnknownAgent told of h = absurd h
+no_text list own given NoPure told of h = absurd h
+no_text list own given NotOneAgent told of h = absurd h
+no_text list own given RoundsSpent told of h = absurd h
 
 -- The words ask for this.
 module _ (list : Option (List File)) (requested : Option Request) (asked : Request) (given : ℕ) (asks : Some asked ≡ requested) where

@@ -12,11 +12,13 @@ use Rattle.maid_app.specs.Graph.{graphing}
 use Rattle.maid_app.specs.Info.{weighing_information}
 use Rattle.maid_app.specs.Outcome.{Written, Refused}
 use Rattle.maid_app.specs.Print.{printing}
-use Rattle.maid_app.specs.Request.{Request, solve, check, judge, graph, print, trim, info, control, demo, file_name}
+use Rattle.maid_app.specs.Pure.{HasFirstPure, searching}
+use Rattle.maid_app.specs.Request.{Request, solve, check, judge, graph, print, trim, pure, update, info, control, demo, file_name}
 use Rattle.maid_app.specs.Solve.{IsSolvable, solving}
 use Rattle.maid_app.specs.Stages.{Finds}
 use Rattle.maid_app.specs.Tasks.{Task, comes_of}
 use Rattle.maid_app.specs.Trim.{trimming}
+use Rattle.maid_app.specs.Update.{CanBeUpdated, updating}
 
 -- the task of each form of words
 abbrev pub task_of : Request → Task
@@ -26,6 +28,8 @@ task_of (judge text report) = judging text
 task_of (graph file) = graphing
 task_of (print file) = printing
 task_of (trim file) = trimming
+task_of (pure file) = searching
+task_of (update file) = updating
 task_of (info file agent) = weighing_information agent
 task_of (control file agent) = weighing_control agent
 task_of (demo k) = summing k
@@ -37,8 +41,8 @@ FindsNothing request bytes =
 
 -- What a diagram and its names must keep so that its text comes: `solve` and `demo` ask for an order
 -- of solving, the weight bound and a run within the limits, `info` and `control` ask for the agent
--- too, `check` asks for the weight bound and few leaves, and the others ask for nothing. What is
--- judged is no diagram.
+-- too, `pure` and `update` for what their own stages look for, `check` for the weight bound and few
+-- leaves, and the others for nothing. What is judged is no diagram.
 abbrev pub CanAnswer : Request → DiagramView → NamesView → Type 0
 CanAnswer (solve file) d names = IsSolvable d
 CanAnswer (check file report) d names = CanBeChecked d
@@ -46,6 +50,8 @@ CanAnswer (judge text report) d names = ⊥
 CanAnswer (graph file) d names = Unit {0}
 CanAnswer (print file) d names = Unit {0}
 CanAnswer (trim file) d names = Unit {0}
+CanAnswer (pure file) d names = HasFirstPure d
+CanAnswer (update file) d names = CanBeUpdated d
 CanAnswer (info file agent) d names = CanBeAsked agent d names
 CanAnswer (control file agent) d names = CanBeAsked agent d names
 CanAnswer (demo k) d names = IsSolvable d

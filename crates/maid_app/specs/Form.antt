@@ -1,9 +1,9 @@
 -- The forms of the code.
-use Rattle.maid_app.specs.Request.{Request, solve, check, graph, print, trim, info, control, demo}
+use Rattle.maid_app.specs.Request.{Request, solve, check, graph, print, trim, pure, update, info, control, demo}
 use Rattle.maid_app.specs.declared.forms.Form.{Form}
 use Rattle.maid_app.specs.declared.forms.Form.TheVariants.{Text, Check}
 use Rattle.maid_app.specs.declared.forms.TextForm.{TextForm}
-use Rattle.maid_app.specs.declared.forms.TextForm.TheVariants.{Solve, Graph, Print, Trim, Info, Control, Demo}
+use Rattle.maid_app.specs.declared.forms.TextForm.TheVariants.{Solve, Graph, Print, Trim, Pure, Update, Info, Control, Demo}
 
 -- the request that a form with one text stands for
 abbrev pub text_request_by : TextForm → Request
@@ -11,6 +11,8 @@ text_request_by (Solve file) = solve file.now
 text_request_by (Graph file) = graph file.now
 text_request_by (Print file) = print file.now
 text_request_by (Trim file) = trim file.now
+text_request_by (Pure file) = pure file.now
+text_request_by (Update file) = update file.now
 text_request_by (Info file agent) = info file.now agent.now
 text_request_by (Control file agent) = control file.now agent.now
 text_request_by (Demo k) = demo k

@@ -14,6 +14,7 @@ pub mod Laws
 pub mod Lines
 pub mod Outcome
 pub mod Print
+pub mod Pure
 pub mod Reading
 pub mod Refusal
 pub mod Request
@@ -24,4 +25,5 @@ pub mod Steps
 pub mod Tasks
 pub mod Told
 pub mod Trim
+pub mod Update
 pub mod Words

@@ -5,7 +5,7 @@ use Rattle.maid_model.specs.Reports.{line, names_line}
 use Rattle.app_lines.specs.Places.{line_at, column_at}
 
 abbrev pub usage_line : List ℕ
-usage_line = line (codes "usage: maidsolve solve F | check F R | graph F | print F | trim F | info F A | control F A | demo K")
+usage_line = line (codes "usage: maidsolve solve F | check F R | graph F | print F | trim F | info F A | control F A | demo K | pure F | update F")
 
 abbrev pub absent_line : List ℕ → List ℕ
 absent_line name = line (codes "absent: " ++ name)
@@ -42,6 +42,21 @@ bound_line names None = line (codes "weight bound: utilities")
 -- the most cells of a plan of the run, and the work of all its plans
 abbrev pub too_large_line : ℕ → ℕ → List ℕ
 too_large_line cells work = line (codes "too large: cells " ++ decimal cells ++ codes " work " ++ decimal work)
+
+-- the pure profiles and the worlds of a diagram whose equilibria are not looked for
+abbrev pub profiles_line : ℕ → ℕ → List ℕ
+profiles_line profiles leaves = line (codes "too large: profiles " ++ decimal profiles ++ codes " leaves " ++ decimal leaves)
+
+-- how many pure profiles are no equilibrium
+abbrev pub no_equilibrium_line : ℕ → List ℕ
+no_equilibrium_line profiles = line (codes "no pure equilibrium: " ++ decimal profiles ++ codes " profiles")
+
+abbrev pub not_one_agent_line : List ℕ
+not_one_agent_line = line (codes "not one agent")
+
+-- how many rounds of updating all raised
+abbrev pub rounds_line : ℕ → List ℕ
+rounds_line rounds = line (codes "rounds spent: " ++ decimal rounds)
 
 -- how many leaves a diagram has whose report is not looked at
 abbrev pub leaves_line : ℕ → List ℕ

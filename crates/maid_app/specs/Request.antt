@@ -14,6 +14,8 @@ pub data Request : Type 0 where
   graph : (file : List ℕ) → Request
   print : (file : List ℕ) → Request
   trim : (file : List ℕ) → Request
+  pure : (file : List ℕ) → Request
+  update : (file : List ℕ) → Request
   info : (file agent : List ℕ) → Request
   control : (file agent : List ℕ) → Request
   demo : (k : ℕ) → Request
@@ -26,6 +28,8 @@ file_name (judge text report) = report
 file_name (graph file) = file
 file_name (print file) = file
 file_name (trim file) = file
+file_name (pure file) = file
+file_name (update file) = file
 file_name (info file agent) = file
 file_name (control file agent) = file
 file_name (demo k) = codes "demo"
@@ -41,7 +45,14 @@ stages_of word = find (λ k. bytes_eq word (decimal k)) (range_with_len 1 60)
 
 -- a form of two words: its word, and then the file's name or the number of stages
 abbrev pub request_by_word : List ℕ → List ℕ → Option Request
-request_by_word word next = if bytes_eq word (codes "solve") then Some (solve next) else (if bytes_eq word (codes "graph") then Some (graph next) else (if bytes_eq word (codes "print") then Some (print next) else (if bytes_eq word (codes "trim") then Some (trim next) else (if bytes_eq word (codes "demo") then option_map demo (stages_of next) else None))))
+request_by_word word next =
+    if bytes_eq word (codes "solve") then Some (solve next)
+    else (if bytes_eq word (codes "graph") then Some (graph next)
+    else (if bytes_eq word (codes "print") then Some (print next)
+    else (if bytes_eq word (codes "trim") then Some (trim next)
+    else (if bytes_eq word (codes "pure") then Some (pure next)
+    else (if bytes_eq word (codes "update") then Some (update next)
+    else (if bytes_eq word (codes "demo") then option_map demo (stages_of next) else None))))))
 
 -- a form of three words: its word, a file's name, and then that of a report's file or of an agent
 abbrev pub request_by_words : List ℕ → List ℕ → List ℕ → Option Request

@@ -7,17 +7,24 @@ use Rattle.maid_model.specs.Bounds.{world_count, stopped}
 use Rattle.maid_model.specs.Names.{NamesView}
 use Rattle.maid_model.specs.Placing.{HasRelianceOrder, IsRelianceCycle}
 use Rattle.maid_model.specs.Scopes.{KeepsScopedBounds}
-use Rattle.maid_model.specs.Views.{DiagramView, SolvedView}
+use Rattle.maid_model.specs.Views.{DiagramView, RuleView, SolvedView}
 use Rattle.maid_model.specs.declared.limits.TheConstants.{MOST_LEAVES}
+use Rattle.policy_update.specs.Faults.{HasTwoOwners}
+use Rattle.policy_update.specs.Faults as updating
+use Rattle.pure_search.specs.Faults.{profile_count}
+use Rattle.pure_search.specs.Faults as search
+use Rattle.reach_laws.specs.Equilibria.{IsPureEquilibrium}
+use Rattle.reach_laws.specs.Updates.{IsReachedAfter}
 use Rattle.report_text.specs.Reading.{IsReadAs, IsBadLine}
 use Rattle.rule_solver.specs.Faults.{IsSmallEnough, IsTooLarge}
 use Rattle.weight_scale.specs.Bound.{IsPassedAt, IsPassedByUtilities}
 use Rattle.maid_app.specs.Diagrams.{NamedDiagram, IsDiagramOf, of_diagram}
 use Rattle.maid_app.specs.Faults.{TellsFault}
-use Rattle.maid_app.specs.Lines.{unknown_agent_line, cycle_line, bound_line, too_large_line, leaves_line, bad_line_line}
+use Rattle.maid_app.specs.Lines.{unknown_agent_line, cycle_line, bound_line, profiles_line, no_equilibrium_line, not_one_agent_line, rounds_line, too_large_line, leaves_line, bad_line_line}
 use Rattle.maid_app.specs.Outcome.{Refused}
+use Rattle.maid_app.specs.declared.forms.update.TheConstants.{MOST_ROUNDS}
 use Rattle.maid_app.specs.declared.status.Status.{Status}
-use Rattle.maid_app.specs.declared.status.Status.TheVariants.{TextFault, UnknownAgent, Cycle, WeightBound, TooLarge}
+use Rattle.maid_app.specs.declared.status.Status.TheVariants.{TextFault, UnknownAgent, Cycle, WeightBound, TooLarge, NoPure, NotOneAgent, RoundsSpent}
 
 pub data Stage : Type 0 where
   text_fault : Stage
@@ -25,6 +32,11 @@ pub data Stage : Type 0 where
   relevance_cycle : Stage
   weight_bound : Stage
   too_large : Stage
+  too_many_profiles : Stage
+  no_equilibrium : Stage
+  several_owners : Stage
+  update_too_large : Stage
+  rounds_spent : Stage
   too_many_leaves : Stage
   bad_line : (text : List ℕ) → Stage
 
@@ -40,6 +52,14 @@ IsAgent names agent = Contains names.agents agent
 pub record TellsUnknownAgent (names : NamesView) (agent told : List ℕ) : Type 0 where
   pub unknown : IsAgent names agent → ⊥
   pub says : told ≡ unknown_agent_line agent
+
+-- a pure profile is an equilibrium
+abbrev pub HasPureEquilibrium : DiagramView → Type 0
+HasPureEquilibrium d = (s : List RuleView) × IsPureEquilibrium d.nodes s
+
+-- each of the rounds that a run of updating may take raises
+abbrev pub AllRoundsRaise : DiagramView → Type 0
+AllRoundsRaise d = (p : List RuleView) × IsReachedAfter d.nodes MOST_ROUNDS p
 
 -- the relevance graph has a cycle, which is told
 pub record TellsCycle (d : DiagramView) (names : NamesView) (told : List ℕ) : Type 0 where
@@ -60,6 +80,35 @@ pub record TellsTooLarge (d : DiagramView) (names : NamesView) (told : List ℕ)
   pub work : ℕ
   pub is_size : IsTooLarge d cells work
   pub says : told ≡ too_large_line cells work
+
+-- the pure profiles or the worlds are too many to be listed, and their counts are told
+pub record TellsProfiles (d : DiagramView) (names : NamesView) (told : List ℕ) : Type 0 where
+  pub profiles : ℕ
+  pub leaves : ℕ
+  pub is_size : search.IsTooLarge d profiles leaves
+  pub says : told ≡ profiles_line profiles leaves
+
+-- no pure profile is an equilibrium, and how many there are is told
+pub record TellsNoEquilibrium (d : DiagramView) (names : NamesView) (told : List ℕ) : Type 0 where
+  pub none : HasPureEquilibrium d → ⊥
+  pub says : told ≡ no_equilibrium_line (profile_count d.nodes)
+
+-- two decisions have different owners
+pub record TellsOwners (d : DiagramView) (names : NamesView) (told : List ℕ) : Type 0 where
+  pub two : HasTwoOwners d.nodes
+  pub says : told ≡ not_one_agent_line
+
+-- updating in text order passes a limit of cells or of work, and both its counts are told
+pub record TellsUpdateTooLarge (d : DiagramView) (names : NamesView) (told : List ℕ) : Type 0 where
+  pub cells : ℕ
+  pub work : ℕ
+  pub is_size : updating.IsTooLarge d cells work
+  pub says : told ≡ too_large_line cells work
+
+-- each of the rounds raises, and how many they are is told
+pub record TellsRounds (d : DiagramView) (names : NamesView) (told : List ℕ) : Type 0 where
+  pub all_raise : AllRoundsRaise d
+  pub says : told ≡ rounds_line MOST_ROUNDS
 
 -- the diagram has so few worlds that a report of it is looked at
 abbrev pub HasFewLeaves : DiagramView → Type 0
@@ -99,6 +148,16 @@ Finds weight_bound file =
     of_diagram file.1 (λ d names. stage WeightBound (KeepsScopedBounds d) (TellsBound d names))
 Finds too_large file =
     of_diagram file.1 (λ d names. stage TooLarge (IsSmallEnough d) (TellsTooLarge d names))
+Finds too_many_profiles file =
+    of_diagram file.1 (λ d names. stage TooLarge (search.IsSmall d) (TellsProfiles d names))
+Finds no_equilibrium file =
+    of_diagram file.1 (λ d names. stage NoPure (HasPureEquilibrium d) (TellsNoEquilibrium d names))
+Finds several_owners file =
+    of_diagram file.1 (λ d names. stage NotOneAgent (HasTwoOwners d.nodes → ⊥) (TellsOwners d names))
+Finds update_too_large file =
+    of_diagram file.1 (λ d names. stage TooLarge (updating.IsSmallEnough d) (TellsUpdateTooLarge d names))
+Finds rounds_spent file =
+    of_diagram file.1 (λ d names. stage RoundsSpent (AllRoundsRaise d → ⊥) (TellsRounds d names))
 Finds too_many_leaves file =
     of_diagram file.1 (λ d names. stage TooLarge (HasFewLeaves d) (TellsLeaves d names))
 Finds (bad_line text) file =

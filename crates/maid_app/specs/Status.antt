@@ -1,7 +1,7 @@
 -- How a run ends.
 use Rattle.std.specs.Prelude.{ℕ}
 use Rattle.maid_app.specs.declared.status.Status.{Status}
-use Rattle.maid_app.specs.declared.status.Status.TheVariants.{Done, Usage, Absent, ReadFault, TextTooLong, TextFault, Cycle, WeightBound, TooLarge, WriteFault, NoMemory, Rejected, UnknownAgent}
+use Rattle.maid_app.specs.declared.status.Status.TheVariants.{Done, Usage, Absent, ReadFault, TextTooLong, TextFault, Cycle, WeightBound, TooLarge, WriteFault, NoMemory, Rejected, UnknownAgent, NoPure, NotOneAgent, RoundsSpent}
 
 -- the code of each status
 abbrev pub code_of : Status → ℕ
@@ -18,3 +18,6 @@ code_of WriteFault = 9
 code_of NoMemory = 10
 code_of Rejected = 11
 code_of UnknownAgent = 12
+code_of NoPure = 14
+code_of NotOneAgent = 15
+code_of RoundsSpent = 16

@@ -16,8 +16,10 @@ mod demo;
 mod graph;
 mod info;
 mod print;
+mod pure;
 mod solve;
 mod trim;
+mod update;
 
 use crate::reading::Source;
 use crate::refusal::Refusal;
@@ -43,6 +45,16 @@ pub enum TextForm<'a> {
     },
     /// `trim F`: the arcs that decisions do not need, and the text of the diagram without them.
     Trim {
+        /// The file's name.
+        file: &'a str,
+    },
+    /// `pure F`: the first pure equilibrium.
+    Pure {
+        /// The file's name.
+        file: &'a str,
+    },
+    /// `update F`: the choices that no round of updating changes.
+    Update {
         /// The file's name.
         file: &'a str,
     },
@@ -97,6 +109,8 @@ impl<'a> TextForm<'a> {
             TextForm::Graph { file } => graph::answer(alloc, Source { name: file, bytes }),
             TextForm::Print { file } => print::answer(alloc, Source { name: file, bytes }),
             TextForm::Trim { file } => trim::answer(alloc, Source { name: file, bytes }),
+            TextForm::Pure { file } => pure::answer(alloc, Source { name: file, bytes }),
+            TextForm::Update { file } => update::answer(alloc, Source { name: file, bytes }),
             TextForm::Info { file, agent } => {
                 info::answer(alloc, Source { name: file, bytes }, agent)
             }
@@ -142,6 +156,8 @@ fn form_by_word<'a>(word: &str, next: &'a str) -> Option<TextForm<'a>>
         "graph" => Some(TextForm::Graph { file: next }),
         "print" => Some(TextForm::Print { file: next }),
         "trim" => Some(TextForm::Trim { file: next }),
+        "pure" => Some(TextForm::Pure { file: next }),
+        "update" => Some(TextForm::Update { file: next }),
         "demo" => stages_of(next.as_bytes()).map(|k| TextForm::Demo { k }),
         _ => None,
     }

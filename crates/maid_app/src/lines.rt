@@ -2,7 +2,7 @@
 
 ghost use Rattle.std.specs.Prelude.{◌≡◌, ◌++◌, ◌<◌, IfOk, IfSome, length};
 ghost use Rattle.maid_model.specs.Reports.{line};
-ghost use Rattle.maid_app.specs.Lines.{fault_line, too_large_line, leaves_line, bad_line_line, bound_line};
+ghost use Rattle.maid_app.specs.Lines.{fault_line, too_large_line, profiles_line, no_equilibrium_line, rounds_line, leaves_line, bad_line_line, bound_line};
 
 use app_lines::place;
 use line_pieces::push_number;
@@ -11,7 +11,7 @@ use std::alloc::{AllocError, Global};
 
 /// The line for words that are of no form.
 pub const USAGE: &str =
-    "usage: maidsolve solve F | check F R | graph F | print F | trim F | info F A | control F A | demo K\n";
+    "usage: maidsolve solve F | check F R | graph F | print F | trim F | info F A | control F A | demo K | pure F | update F\n";
 
 /// The line where `out` couldn't be written.
 pub const WRITE_FAULT: &str = "write fault\n";
@@ -37,6 +37,38 @@ pub fn too_large(alloc: Global, cells: u128, work: u128) -> Result<Vec<u8>, Allo
     push_number(&mut text, cells)?;
     text.extend_from_slice(b" work ")?;
     push_number(&mut text, work)?;
+    text.push(b'\n')?;
+    Ok(text)
+}
+
+/// The line of a diagram of so many pure profiles and leaves that no equilibrium is looked for.
+pub fn too_many_profiles(alloc: Global, profiles: u128, leaves: u128) -> Result<Vec<u8>, AllocError>
+    ensures { IfOk result (λ text. text.items ≡ profiles_line profiles leaves) }
+{
+    let mut text = Vec::from_slice(alloc, b"too large: profiles ")?;
+    push_number(&mut text, profiles)?;
+    text.extend_from_slice(b" leaves ")?;
+    push_number(&mut text, leaves)?;
+    text.push(b'\n')?;
+    Ok(text)
+}
+
+/// The line of a diagram whose pure profiles are so many, and none an equilibrium.
+pub fn no_equilibrium(alloc: Global, profiles: u128) -> Result<Vec<u8>, AllocError>
+    ensures { IfOk result (λ text. text.items ≡ no_equilibrium_line profiles) }
+{
+    let mut text = Vec::from_slice(alloc, b"no pure equilibrium: ")?;
+    push_number(&mut text, profiles)?;
+    text.extend_from_slice(b" profiles\n")?;
+    Ok(text)
+}
+
+/// The line of an update of which so many rounds raised.
+pub fn rounds_spent(alloc: Global, rounds: u64) -> Result<Vec<u8>, AllocError>
+    ensures { IfOk result (λ text. text.items ≡ rounds_line rounds) }
+{
+    let mut text = Vec::from_slice(alloc, b"rounds spent: ")?;
+    push_number(&mut text, rounds as u128)?;
     text.push(b'\n')?;
     Ok(text)
 }

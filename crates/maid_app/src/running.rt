@@ -105,6 +105,8 @@ fn bytes_for<H: Shelf>(alloc: Global, shelf: &mut H, form: TextForm<'_>) -> Resu
         | TextForm::Graph { file }
         | TextForm::Print { file }
         | TextForm::Trim { file }
+        | TextForm::Pure { file }
+        | TextForm::Update { file }
         | TextForm::Info { file, .. }
         | TextForm::Control { file, .. } => read_file(alloc, shelf, file, LIMIT),
         TextForm::Demo { k } => Ok(demo_text(alloc, k)?),
@@ -242,7 +244,8 @@ fn serve<H: Shelf, O: Sink>(
 /// The words are those of one form, which names a file F of the shelf: `solve F` writes the report
 /// of its diagram to `out`, `graph F` who relies on whom, `print F` the diagram, and `trim F` the
 /// diagram without the arcs that its decisions do not need. `info F A` writes what information is worth
-/// to the agent A, and `control F A` what control of chance nodes is. `check F R` names a second file
+/// to the agent A, and `control F A` what control of chance nodes is. `pure F` writes the first pure
+/// equilibrium, and `update F` the choices that no round of updating changes. `check F R` names a second file
 /// too, and writes the verdict on the report in R of the diagram in F. `demo K` has no file: it writes
 /// a summary of the solved diagram of a generated text of K stages, 1 to 60. The whole text is made
 /// before its first byte is written, and writing takes no memory. After [`Status::Done`], and after
@@ -251,7 +254,9 @@ fn serve<H: Shelf, O: Sink>(
 /// The order of refusals is [`Status::Usage`] where the words are of no form, [`Status::Absent`],
 /// [`Status::ReadFault`] and [`Status::TextTooLong`] for a file, [`Status::TextFault`] for its
 /// bytes, for `info` and `control` then [`Status::UnknownAgent`], for these, `solve` and `demo` then
-/// [`Status::Cycle`], [`Status::WeightBound`] and [`Status::TooLarge`] for its diagram, and last [`Status::WriteFault`]. For `check` [`Status::WeightBound`] and
+/// [`Status::Cycle`], [`Status::WeightBound`] and [`Status::TooLarge`] for its diagram, for `pure`
+/// [`Status::WeightBound`], [`Status::TooLarge`] and [`Status::NoPure`], for `update`
+/// [`Status::NotOneAgent`], [`Status::WeightBound`], [`Status::TooLarge`] and [`Status::RoundsSpent`], and last [`Status::WriteFault`]. For `check` [`Status::WeightBound`] and
 /// [`Status::TooLarge`] come for the diagram, then those of a file for the report's, with
 /// [`Status::TextFault`] for bytes that are no report. [`Status::NoMemory`] may come at any point after
 /// the words and before the first write. A fault of `err` changes nothing else.

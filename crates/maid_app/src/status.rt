@@ -32,10 +32,16 @@ pub enum Status {
     Rejected,
     /// No node has that agent.
     UnknownAgent,
+    /// From each pure profile some agent gains by other rules of its own.
+    NoPure = 14,
+    /// Two decisions have different owners.
+    NotOneAgent,
+    /// Each round of updating raised.
+    RoundsSpent,
 }
 
 impl Status {
-    /// The code that the program ends with: 0 to 12 in the order of the variants.
+    /// The code that the program ends with: 0 to 12 and 14 to 16 in the order of the variants.
     pub fn code(self) -> u8
         ensures { result ≡ code_of self }
     {

@@ -1,0 +1,79 @@
+//! `pure F`: the first pure equilibrium.
+
+ghost use Rattle.std.specs.Prelude.{◌≡◌, All, Ok, IfOk, IfErr, length};
+ghost use Rattle.app_lines.specs.Choices.{HasChoices};
+ghost use Rattle.first_fault.specs.Answers.{IsFaultOrNoMemory};
+ghost use Rattle.maid_model.specs.Names.{NamesFit};
+ghost use Rattle.pure_search.specs.Faults.{pure_fault, pure_pass};
+ghost use Rattle.maid_app.specs.Outcome.{done_with};
+ghost use Rattle.maid_app.specs.Pure.{pure_text, search_stages, searching};
+ghost use Rattle.maid_app.specs.Reading.{TellsOf, found_by};
+ghost use Rattle.maid_app.specs.Refusal.{refused_as};
+ghost use Rattle.maid_app.specs.Tasks.{comes_of};
+
+use crate::reading::Source;
+use crate::refusal::{Refusal, told};
+use crate::{Status, lines};
+use app_lines::{choice_lines, gain_lines};
+use maid_model::{Diagram, Names};
+use pure_search::{Pure, PureFault, first_pure};
+use std::alloc::{AllocError, Global};
+
+// The refusal of a diagram in which no equilibrium is found.
+fn refusal(alloc: Global, diagram: &Diagram, names: &Names, fault: PureFault) -> Refusal
+    requires fit { NamesFit diagram.now names.now }
+    requires fault { IsFaultOrNoMemory pure_fault (pure_pass diagram.now) fault }
+    ensures { IsFaultOrNoMemory refused_as (found_by diagram.now names.now search_stages) result }
+{
+    let _count = diagram.count();
+    match fault {
+        PureFault::WeightBound { node } => told(
+            Status::WeightBound,
+            lines::weight_bound(alloc, names, node),
+        ),
+        PureFault::TooLarge { profiles, leaves } => told(
+            Status::TooLarge,
+            lines::too_many_profiles(alloc, profiles, leaves),
+        ),
+        PureFault::NoPure { profiles } => {
+            told(Status::NoPure, lines::no_equilibrium(alloc, profiles))
+        }
+        PureFault::NoMemory => Refusal::NoMemory,
+    }
+}
+
+// The choices, and what they are worth to each agent.
+fn pure_text(
+    alloc: Global,
+    diagram: &Diagram,
+    names: &Names,
+    found: &Pure,
+) -> Result<Vec<u8>, AllocError>
+    requires fit { NamesFit diagram.now names.now }
+    requires choices { All (HasChoices diagram.now.nodes) found.now.answers }
+    requires gains { length found.now.gains ≡ diagram.now.agents }
+    ensures { IfOk result (λ text. text.items ≡ pure_text diagram.now names.now found.now) }
+{
+    let mut text = Vec::from_slice(alloc, b"maidsolve pure 1\n")?;
+    text.extend_from_slice(&choice_lines(alloc, diagram, names, &found.answers)?)?;
+    text.extend_from_slice(&gain_lines(alloc, names, &found.gains)?)?;
+    Ok(text)
+}
+
+/// The first pure equilibrium of the diagram that a file's bytes stand for, and what it is worth to each agent.
+///
+/// # Errors
+///
+/// The fault of the bytes, the place at which the weight bound is passed, the counts of profiles and leaves where they
+/// are too many, how many pure profiles there are where none is an equilibrium, or want of memory.
+pub fn answer(alloc: Global, source: Source<'_>) -> Result<Vec<u8>, Refusal>
+    ensures ok { IfOk result (λ printed. comes_of searching source.entry.name.now source.entry.bytes.now
+        (Ok (done_with printed.items))) }
+    ensures err { IfErr result (TellsOf (comes_of searching source.entry.name.now source.entry.bytes.now)) }
+{
+    let (diagram, names) = source.diagram(alloc)?;
+    match first_pure(alloc, &diagram) {
+        Ok(found) => Ok(pure_text(alloc, &diagram, &names, &found)?),
+        Err(fault) => Err(refusal(alloc, &diagram, &names, fault)),
+    }
+}
