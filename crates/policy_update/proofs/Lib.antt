@@ -6,3 +6,4 @@ mod Plans
 mod Rising
 mod Owners
 mod Spent
+mod OneOutcome

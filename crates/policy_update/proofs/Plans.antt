@@ -185,7 +185,7 @@ module _ (nodes : List NodeView) (law : ChoicesOfAnswers) where
   }
 
 -- ---- the decision at a place, improved
-decided_get : (answers : List AnswerView) (i : ℕ) (e : AnswerView) → i < length answers → get_or (decided_by answers) i 0 ≡ (get_or answers i e).decision
+pub decided_get : (answers : List AnswerView) (i : ℕ) (e : AnswerView) → i < length answers → get_or (decided_by answers) i 0 ≡ (get_or answers i e).decision
 decided_get [] i e l = absurd (omega arith)
 decided_get (a ∷ answers) zero e l = refl
 decided_get (a ∷ answers) (suc i) e l = decided_get answers i e (omega arith)

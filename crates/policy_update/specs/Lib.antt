@@ -1,4 +1,5 @@
 pub mod Faults
 pub mod Updated
+pub mod Laws
 pub mod Steps
 pub mod Example

@@ -3,6 +3,7 @@
 #![tactic(auto)]
 
 mod faults;
+mod laws;
 mod limits;
 mod rounds;
 mod rows;
@@ -12,4 +13,5 @@ mod tests;
 mod updating;
 
 pub use faults::UpdateFault;
+pub use laws::updates_have_one_outcome;
 pub use updating::{Updated, update};

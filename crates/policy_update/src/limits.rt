@@ -3,10 +3,8 @@
 ghost use Rattle.std.specs.Prelude.{◌≡◌, ◌↔◌, IsTrue, IfOk};
 ghost use Rattle.first_fault.specs.Answers.{Passes};
 ghost use Rattle.maid_model.specs.declared.limits.TheConstants.{MOST_PLAN_CELLS};
-ghost use Rattle.maid_model.specs.Diagrams.{IsDiagram};
 ghost use Rattle.maid_model.specs.Nodes.{decisions_of};
 ghost use Rattle.maid_model.specs.Scopes.{KeepsScopedBounds};
-ghost use Rattle.maid_model.specs.Subgames.{OwnsAll};
 ghost use Rattle.rule_solver.specs.Faults.{KeepsSizes};
 ghost use Rattle.rule_solver.specs.Rooms.{HasRoom};
 ghost use Rattle.policy_update.specs.Faults.{bound_pass, owners_pass, size_pass, update_fault};

@@ -17,7 +17,7 @@ use crate::starting::{first_choices, list_decisions};
 use maid_model::{Answer, Diagram, Profile, Ratio};
 use reach_laws::{local_optimum, pure_profiles_listed, round_raises};
 use rule_solver::expected;
-use std::alloc::{AllocError, Global};
+use std::alloc::Global;
 use std::marker::Model;
 
 /// An updated diagram: how many rounds raised, an answer for each decision in text order, each row with its choice and

@@ -1,6 +1,7 @@
 -- The marks that stay for each agent, and those that stay for all: they are at the equilibria.
 use Rattle.std.proofs.Common.{◌≡◌, ◌≢◌, ◌↔◌, ◌∙◌, ℕ, zero, suc, ◌+◌, ◌<◌, Bool, true, false, List, [], ◌∷◌, length, replicate, slice_index, slice_index_or, refl, sym, ap, subst, arith, ℤ, pos, ◌≤ℤ◌, length-append}
-use Rattle.std.proofs.lemmas.List.{length-map, get_or-map, get_or_default}
+use Rattle.std.proofs.lemmas.Int.{ints}
+use Rattle.std.proofs.lemmas.List.{length-map, get_or-map, get_or_default, ext_get_or}
 use Rattle.std.proofs.lemmas.List.Elements.{Contains-get_or}
 use Rattle.std.proofs.Math.Decide.{ℕ_discrete}
 use Rattle.std.specs.Prelude.{Contains}
@@ -96,6 +97,38 @@ module _ (nodes : List NodeView) (agent : ℕ) (keys : List ℕ) (gains : List �
           by_agent : IsGreatest keys gains k → ((a : ℕ) → a < agent → IsBestFor nodes a k) → (a : ℕ) → a < agent + 1 → Dec (a ≡ agent) → IsBestFor nodes a k
           by_agent g rest a i (yes e) = subst (λ b. IsBestFor nodes b k) (sym e) ((greatest_is_best k inside).0 g)
           by_agent g rest a i (no n) = rest a (upto a i n)
+
+-- ---- an agent without a choice
+module _ (nodes : List NodeView) (agent : ℕ) (idle : (i : ℕ) → i < length (owners_for nodes) → slice_index (owners_for nodes) i ≢ agent) where
+  -- lists of choices that agree for the others are one
+  same_list : (xs ys : List ℕ) → IsWorld (counts_for nodes) xs → IsWorld (counts_for nodes) ys → AgreeForOthers nodes agent xs ys → xs ≡ ys
+  same_list xs ys wx wy a =
+      ext_get_or 0 xs ys (wx.len ∙ sym wy.len)
+      (λ i l. sym (a i l (idle i (subst (λ n. i < n) (wx.len ∙ sym (owners_counted nodes (decisions_of nodes))) l))))
+
+  equal_le : (a b : ℤ) → a ≡ b → a ≤ℤ b
+  equal_le a b e = omega (arith, ints)
+
+  all_best : (k : ℕ) → k < length (choice_lists nodes) → IsBestFor nodes agent k
+  all_best k l j m a =
+      equal_le (part_gain nodes agent (choices_at nodes j)) (part_gain nodes agent (choices_at nodes k))
+      (ap (part_gain nodes agent) (sym (same_list (choices_at nodes k) (choices_at nodes j) (listed nodes k l) (listed nodes j m) a)))
+
+  pub none_fewer : (marks : List Bool) → MarksBest nodes agent marks → MarksBest nodes (agent + 1) marks
+  none_fewer marks so = record { len = so.len; each = λ k l. each k l (subst (λ n. k < n) so.len l) }
+    where
+      upto : (a : ℕ) → a < agent + 1 → a ≢ agent → a < agent
+      upto a l n = omega arith
+
+      below : (a : ℕ) → a < agent → a < agent + 1
+      below a l = omega arith
+
+      by_agent : (k : ℕ) → k < length (choice_lists nodes) → ((a : ℕ) → a < agent → IsBestFor nodes a k) → (a : ℕ) → a < agent + 1 → Dec (a ≡ agent) → IsBestFor nodes a k
+      by_agent k l rest a i (yes e) = subst (λ b. IsBestFor nodes b k) (sym e) (all_best k l)
+      by_agent k l rest a i (no n) = rest a (upto a i n)
+
+      each : (k : ℕ) → k < length marks → k < length (choice_lists nodes) → (slice_index_or marks k false ≡ true) ↔ ((a : ℕ) → a < agent + 1 → IsBestFor nodes a k)
+      each k l m = ((λ t a i. by_agent k m ((so.each k l).0 t) a i (ℕ_discrete a agent)), (λ all. (so.each k l).1 (λ a i. all a (below a i))))
 
 -- ---- all agents
 all_marked : (n k : ℕ) → k < n → slice_index_or (replicate n true) k false ≡ true

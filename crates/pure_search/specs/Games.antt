@@ -7,6 +7,7 @@ use Rattle.maid_model.specs.Nodes.{decisions_of, rows_of}
 use Rattle.maid_model.specs.Gains.{gain_of}
 use Rattle.maid_model.specs.Scopes.{KeepsScopedBounds, rules_in_scope_for, scope_part_for}
 use Rattle.maid_model.specs.Worlds.{worlds}
+use Rattle.pure_search.specs.declared.games.Game.{Game}
 use Rattle.reach_laws.specs.Equilibria.{AgreeForOthers, IsEquilibrium, choice_counts, choice_owners, profile_of}
 
 -- how many choices each row has, decisions in text order
@@ -57,6 +58,10 @@ pub record IsGame (nodes : List NodeView) (decisions counts owners : List ℕ) :
   pub decisions_are : decisions ≡ decisions_of nodes
   pub counts_are : counts ≡ counts_for nodes
   pub owners_are : owners ≡ owners_for nodes
+
+-- the game that the code holds is that of the nodes
+abbrev pub IsGameOf : List NodeView → Game → Type 0
+IsGameOf nodes game = IsGame nodes game.decisions.items game.counts.items game.owners.items
 
 -- for each list of choices the number of the others' choices, and the agent's gain
 pub record IsTable (nodes : List NodeView) (agent : ℕ) (keys : List ℕ) (gains : List ℤ) : Type 0 where

@@ -7,7 +7,7 @@ ghost use Rattle.maid_model.specs.Worlds.{IsWorld, worlds};
 ghost use Rattle.reach_laws.specs.Equilibria.{IsFirstPure};
 ghost use Rattle.pure_search.specs.Faults.{pure_fault, pure_pass, search_pass, stable_pass};
 ghost use Rattle.pure_search.specs.Found.{IsFound, IsStable};
-ghost use Rattle.pure_search.specs.Games.{IsGame, IsSearched, choice_lists};
+ghost use Rattle.pure_search.specs.Games.{IsGameOf, IsSearched, choice_lists};
 
 use crate::answering::{answers_of, profile_of};
 use crate::counting::{keep_bound, keep_counts};
@@ -36,7 +36,7 @@ fn choices_at(alloc: Global, counts: &[usize], place: usize) -> Result<Vec<usize
 
 /// What is found where the list of choices at this place is the first from which no agent gains.
 fn found_at(alloc: Global, diagram: &Diagram, game: &Game, place: usize) -> Result<Pure, AllocError>
-    requires game { IsGame diagram.now.nodes game.now.decisions.items game.now.counts.items game.now.owners.items }
+    requires game { IsGameOf diagram.now.nodes game.now }
     requires bound { IsSearched diagram.now }
     requires first { IsFirstPure diagram.now.nodes place }
     ensures { IfOk result (IsFound diagram.now) }
@@ -51,7 +51,7 @@ fn found_at(alloc: Global, diagram: &Diagram, game: &Game, place: usize) -> Resu
 
 /// The first pure equilibrium of a diagram within the limits, or that none of its pure profiles is one.
 fn search(alloc: Global, diagram: &Diagram, game: &Game, profiles: u128) -> Result<Pure, PureFault>
-    requires game { IsGame diagram.now.nodes game.now.decisions.items game.now.counts.items game.now.owners.items }
+    requires game { IsGameOf diagram.now.nodes game.now }
     requires bound { IsSearched diagram.now }
     requires profiles { profiles ≡ length (choice_lists diagram.now.nodes) }
     ensures rows { Passes pure_fault (stable_pass diagram.now) result }

@@ -6,7 +6,7 @@ ghost use Rattle.maid_model.specs.Parts.{part_diagram};
 ghost use Rattle.maid_model.specs.Profiles.{IsProfile};
 ghost use Rattle.maid_model.specs.Scopes.{scope_for};
 ghost use Rattle.maid_model.specs.Worlds.{IsWorld, first_world, worlds_from};
-ghost use Rattle.pure_search.specs.Games.{IsGame, IsSearched, IsTable, MarksBest, MarksStable, choice_lists, counts_for, key_of, owners_for, part_gain};
+ghost use Rattle.pure_search.specs.Games.{IsGameOf, IsSearched, IsTable, MarksBest, MarksStable, choice_lists, counts_for, key_of, owners_for, part_gain};
 
 use crate::answering::profile_of;
 use crate::games::Game;
@@ -72,7 +72,7 @@ fn table_for(
     game: &Game,
     agent: usize,
 ) -> Result<Table, AllocError>
-    requires game { IsGame diagram.now.nodes game.now.decisions.items game.now.counts.items game.now.owners.items }
+    requires game { IsGameOf diagram.now.nodes game.now }
     requires agent { agent < diagram.now.agents }
     requires bound { IsSearched diagram.now }
     ensures { IfOk result (λ table. IsTable diagram.now.nodes agent table.keys.items table.gains.items) }
@@ -92,7 +92,7 @@ fn table_for(
     }
 }
 
-/// Takes the marks from the lists of choices that are not best for the agent.
+/// Takes the marks from the lists of choices that are not best for the agent. All are best for one that has no choice.
 fn keep_best(
     alloc: Global,
     diagram: &Diagram,
@@ -100,12 +100,15 @@ fn keep_best(
     agent: usize,
     marks: &mut [bool],
 ) -> Result<(), AllocError>
-    requires game { IsGame diagram.now.nodes game.now.decisions.items game.now.counts.items game.now.owners.items }
+    requires game { IsGameOf diagram.now.nodes game.now }
     requires agent { agent < diagram.now.agents }
     requires bound { IsSearched diagram.now }
     requires marks { MarksBest diagram.now.nodes agent marks.old }
     ensures { OnOk result (MarksBest diagram.now.nodes (agent + 1) marks.new) }
 {
+    if !game.owners.contains(&agent) {
+        return Ok(());
+    }
     let table = table_for(alloc, diagram, game, agent)?;
     keep_greatest(alloc, &table.keys, &table.gains, marks)?;
     Ok(())
@@ -118,7 +121,7 @@ pub(crate) fn stable_marks(
     game: &Game,
     profiles: usize,
 ) -> Result<Vec<bool>, AllocError>
-    requires game { IsGame diagram.now.nodes game.now.decisions.items game.now.counts.items game.now.owners.items }
+    requires game { IsGameOf diagram.now.nodes game.now }
     requires bound { IsSearched diagram.now }
     requires profiles { profiles ≡ length (choice_lists diagram.now.nodes) }
     ensures { IfOk result (λ marks. MarksStable diagram.now.nodes marks.items) }

@@ -1,0 +1,14 @@
+mod Below
+mod Conditional
+mod Left
+mod Measured
+mod Orders
+mod PlanCells
+mod Planned
+mod Products
+mod Promises
+mod Refused
+mod Seen
+mod StakeLemmas
+mod Summed
+mod Within

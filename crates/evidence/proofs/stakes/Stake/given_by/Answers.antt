@@ -1,0 +1,8 @@
+use Rattle.std.proofs.Common.{◌≡◌, ◌∙◌, sym, true, false}
+use Rattle.evidence.proofs.StakeLemmas.{gives_none}
+use Rattle.evidence.proofs.stakes.Stake.given_by.Goals as goal
+
+pub returns-in_default : goal.returns-in_default
+returns-in_default c =
+    let s = c.args.self.now in
+    gives_none s.diagram.now s.node s.agent s.mass s.worths.now s.scope c.requires.stake c.args.v c.requires.within (λ owned. let e : false ≡ true = sym c.if-owned.false ∙ c.owns-owned.ensures.1 owned in cc)

@@ -1,0 +1,24 @@
+use Rattle.std.proofs.Common.{◌≡◌, ◌∙◌, ◌++◌, ◌∷◌, [], pos, refl, sym, subst}
+use Rattle.maid_model.specs.declared.diagrams.Kind.TheVariants.{Chance, Decision, Utility}
+use Rattle.maid_model.specs.Diagrams.{IsDiagram}
+use Rattle.maid_model.specs.Views.{NodeView}
+use Rattle.evidence.specs.Example.{bet, node_of}
+use Rattle.evidence.proofs.tests.bet.Goals as goal
+
+abbrev choice : NodeView
+choice = node_of Decision 2 [] []
+
+abbrev repeated : NodeView
+repeated = node_of Chance 2 (1 ∷ []) (pos 1 ∷ pos 0 ∷ pos 0 ∷ pos 1 ∷ [])
+
+abbrev pay : NodeView
+pay = node_of Utility 1 (0 ∷ 1 ∷ []) (pos 4 ∷ pos 0 ∷ pos 1 ∷ pos 2 ∷ [])
+
+pub from_nodes-requires : goal.from_nodes-requires
+from_nodes-requires c =
+    let items : c.push-4.new.self.items ≡ bet.nodes =
+    c.in_ok-push-4.ensures.items ∙ (λ i. c.in_ok-push-3.ensures.items i ++ c.in_ok-node-4.ensures i ∷ [])
+    ∙ (λ i. (c.in_ok-push-2.ensures.items i ++ c.in_ok-node-3.ensures i ∷ []) ++ pay ∷ [])
+    ∙ (λ i. ((c.in_ok-push.ensures.items i ++ c.in_ok-node-2.ensures i ∷ []) ++ repeated ∷ []) ++ pay ∷ [])
+    ∙ (λ i. (((c.new-nodes.ensures.items i ++ c.in_ok-node.ensures i ∷ []) ++ choice ∷ []) ++ repeated ∷ []) ++ pay ∷ []) in
+    subst (λ l. IsDiagram (record { nodes = l; agents = 1; decimals = 0 })) (sym items) (c.literals_are_tested.ensures.diagram bet refl)

@@ -1,0 +1,10 @@
+pub mod Bounds
+pub mod Conditional
+pub mod Example
+pub mod Faults
+pub mod Measures
+pub mod Rules
+pub mod Sights
+pub mod Sizes
+pub mod Stakes
+pub mod Unsolved

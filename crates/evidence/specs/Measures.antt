@@ -1,0 +1,35 @@
+-- What the steps of measuring promise one another. Only private functions cite it.
+use Rattle.std.specs.Prelude.{◌≡◌, ◌≢◌, ℕ, ◌≤◌, ◌+◌, max, List, Some}
+use Rattle.maid_model.specs.declared.limits.TheConstants.{COUNT_END}
+use Rattle.maid_model.specs.declared.diagrams.Kind.TheVariants.{Utility}
+use Rattle.maid_model.specs.Bounds.{stopped}
+use Rattle.maid_model.specs.Nodes.{node_at}
+use Rattle.maid_model.specs.Views.{NodeView}
+use Rattle.plan_sums.specs.Plans.{PlanView}
+use Rattle.size_precheck.specs.declared.sizes.Size.{Size}
+use Rattle.size_precheck.specs.Sizes.{HasSize, IsSizeOfRun}
+use Rattle.evidence.specs.Sizes.{plan_given}
+
+-- the size with one plan more
+pub record AddsPlan (nodes : List NodeView) (plan : PlanView) (before after : Size) : Type 0 where
+  pub size : Size
+  pub has_size : HasSize nodes plan size
+  pub cells : after.cells ≡ max before.cells size.cells
+  pub work : after.work ≡ stopped (before.work + size.work)
+
+-- the size with the plan that keeps x and has the utility v more, where v is one
+pub record AddsUtility (nodes : List NodeView) (x v : ℕ) (before after : Size) : Type 0 where
+  pub utility : (node_at nodes v).kind ≡ Utility → AddsPlan nodes (plan_given x (Some v)) before after
+  pub other : (node_at nodes v).kind ≢ Utility → after ≡ before
+
+-- neither the cells nor the work fall, and the work is one that stops
+pub record Grows (before after : Size) : Type 0 where
+  pub cells : before.cells ≤ after.cells
+  pub work : before.work ≤ after.work
+  pub few : after.work ≤ COUNT_END
+
+-- the run alone has no greater size
+pub record HasRun (nodes : List NodeView) (order : List ℕ) (size : Size) : Type 0 where
+  pub run : Size
+  pub is_size : IsSizeOfRun nodes order run
+  pub grows : Grows run size

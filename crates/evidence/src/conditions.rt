@@ -1,0 +1,109 @@
+//! A diagram under evidence, answered.
+
+ghost use Rattle.std.specs.Prelude.{◌≡◌, ◌<◌, IfOk, length};
+ghost use Rattle.first_fault.specs.Answers.{Passes};
+ghost use Rattle.maid_model.specs.declared.diagrams.Kind.TheVariants.{Chance};
+ghost use Rattle.maid_model.specs.Answers.{IsAnswer};
+ghost use Rattle.maid_model.specs.Diagrams.{IsDiagram};
+ghost use Rattle.maid_model.specs.Nodes.{node_at, states_of};
+ghost use Rattle.reach_laws.specs.Evidence.{IsEvidence, all_seeing_diagram};
+ghost use Rattle.evidence.specs.Conditional.{IsBestGiven, IsPerfectSeeing, IsWorthGiven, IsWorthIn};
+ghost use Rattle.evidence.specs.Faults.{answer_pass, given_fault, given_pass};
+
+use crate::faults::GivenFault;
+use crate::limits::answer;
+use crate::sights::see;
+use crate::sums::gains_given;
+use maid_laws::answers_are_subgame_perfect;
+use maid_model::{Diagram, Profile, Ratio, Solved};
+use part_laws::scoped_sums_fit;
+use reach_laws::{best_given, seen_everywhere};
+use std::alloc::Global;
+
+/// A diagram under evidence.
+#[derive(Debug, Drop)]
+pub struct Conditioned {
+    /// The diagram in which every decision sees the node.
+    pub diagram: Diagram,
+    /// Its answer.
+    pub solved: Solved,
+    /// What the answer is worth to each agent where the node has the state, in lowest terms.
+    pub gains: Vec<Ratio>,
+}
+
+/// The answer of a diagram in which every decision sees the node, and what it is worth where the
+/// node has the state.
+fn condition(
+    alloc: Global,
+    seen: Diagram,
+    node: usize,
+    state: usize,
+) -> Result<Conditioned, GivenFault>
+    requires within { node < length seen.nodes }
+    requires evidence { IsEvidence seen.nodes node }
+    requires state { state < states_of seen.nodes node }
+    ensures rows { Passes given_fault (answer_pass seen node state) result }
+    ensures diagram { IfOk result (λ c. c.diagram ≡ seen) }
+    ensures is_diagram { IfOk result (λ c. IsDiagram seen) }
+    ensures ok { IfOk result (λ c. IsAnswer seen c.solved) }
+    ensures gains { IfOk result (λ c. IsWorthIn seen node state c.solved c.gains.items) }
+{
+    scoped_sums_fit();
+    let answered = answer(alloc, &seen, node)?;
+    let profile = Profile::pure(alloc, &seen, &answered.solved.answers)?;
+    let gains = gains_given(alloc, &seen, &profile, node, state, answered.cells)?;
+    Ok(Conditioned {
+        diagram: seen,
+        solved: answered.solved,
+        gains,
+    })
+}
+
+/// The diagram under evidence: every decision sees the chance node, as its last parent where it
+/// didn't see it, and the node is known to have the state. The answer is that of this diagram,
+/// and each agent's expected utility is conditional: its gain over the worlds in which the node
+/// has the state, over their weight.
+///
+/// It makes a copy of the diagram and finds its relevance graph; measures and solves it as
+/// `rule_solver::solve` does, which finds and measures the same again; and makes, measures and
+/// runs one plan more that keeps the node, and one for each utility. It reserves one workspace of
+/// each kind with the most cells of a plan.
+///
+/// # Errors
+///
+/// The first of these that holds: `BelowDecision` where the node descends from a decision;
+/// `RulesTooLarge` where a decision would have more than 16 parents, its rule more than 65,536
+/// cells, or all rules together more than 262,144; then of the diagram in which every decision
+/// sees the node `Cycle` where its relevance graph has one, `WeightBound` where a scope passes
+/// the weight bound, and after all others a further scope, of an agent where the node is given;
+/// and `TooLarge` where a plan has more than 4,194,304 cells, or all plans together have more
+/// than 134,217,728 steps of work; and `Impossible` where the worlds in which the node has the
+/// state weigh nought. `NoMemory` may come at any point.
+pub fn given(
+    alloc: Global,
+    diagram: &Diagram,
+    node: usize,
+    state: usize,
+) -> Result<Conditioned, GivenFault>
+    requires within { node < length diagram.now.nodes }
+    requires kind { (node_at diagram.now.nodes node).kind ≡ Chance }
+    requires state { state < states_of diagram.now.nodes node }
+    // An answer where nothing refuses the evidence, and else the first refusal that applies.
+    ensures rows { Passes given_fault (given_pass diagram.now node state) result }
+    // The diagram in which every decision sees the node.
+    ensures diagram { IfOk result (λ c. c.diagram ≡ all_seeing_diagram diagram.now node) }
+    // Its answer.
+    ensures ok { IfOk result (λ c. IsAnswer (all_seeing_diagram diagram.now node) c.solved) }
+    // What the answer is worth, as sums over the worlds in which the node has the state.
+    ensures gains { IfOk result (λ c. IsWorthGiven diagram.now node state c.solved c.gains.items) }
+    // From no subgame start does an agent gain by other rules of its own.
+    ensures subgame_perfect { IfOk result (λ c. IsPerfectSeeing diagram.now node c.solved) }
+    // No profile is worth more, where the node has the state, to an agent that owns all decisions.
+    ensures best { IfOk result (λ c. IsBestGiven diagram.now node state c.solved) }
+{
+    seen_everywhere();
+    best_given();
+    answers_are_subgame_perfect();
+    let seen = see(alloc, diagram, node)?;
+    condition(alloc, seen, node, state)
+}

@@ -1,0 +1,17 @@
+//! A diagram under evidence: a chance node that descends from no decision is known to have one of
+//! its states, and every decision sees it. The answer is that of the diagram in which every
+//! decision sees the node, and each agent's expected utility is conditional on the state.
+#![tactic(auto)]
+
+mod conditions;
+mod faults;
+mod limits;
+mod measures;
+mod sights;
+mod stakes;
+mod sums;
+#[cfg(test)]
+mod tests;
+
+pub use conditions::{Conditioned, given};
+pub use faults::GivenFault;

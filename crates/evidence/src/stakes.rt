@@ -1,0 +1,137 @@
+//! What the sums of plans give to an agent where a node's state is given.
+
+ghost use Rattle.std.specs.Prelude.{◌≡◌, ◌<◌, ◌≤◌, ◌^◌, true, if◌then◌else◌, length, nat_abs};
+ghost use Rattle.maid_model.specs.Answers.{IsFraction};
+ghost use Rattle.maid_model.specs.Diagrams.{greatest_number};
+ghost use Rattle.maid_model.specs.Nodes.{is_utility_of};
+ghost use Rattle.maid_model.specs.Scopes.{chance_factor};
+ghost use Rattle.node_sets.specs.Sets.{holds};
+ghost use Rattle.evidence.specs.Stakes.{IsScopeFraction, IsStake, chances_in, gain_from, scope_gain, scope_mass};
+
+use maid_model::{Diagram, Kind, Ratio, descent_is_tested};
+use node_sets::{NodeSet, ancestors};
+use whole_num::reduce;
+
+/// The total of a chance node of a set, and 1 at another node.
+fn chance_factor(diagram: &Diagram, set: &NodeSet, v: usize) -> u128
+    requires { v < length diagram.now.nodes }
+    ensures { result ≡ (if holds set.now v then chance_factor diagram.now.nodes v else 1) }
+{
+    let kind = diagram.kind(v);
+    if !set.holds(v) {
+        return 1;
+    }
+    match kind {
+        Kind::Chance => diagram.weight_total(v),
+        Kind::Decision | Kind::Utility => 1,
+    }
+}
+
+/// The product of the totals of a set's chance nodes.
+fn chance_product(diagram: &Diagram, set: &NodeSet) -> u128
+    requires { chances_in diagram.now.nodes set.now ≤ greatest_number }
+    ensures { result ≡ chances_in diagram.now.nodes set.now }
+{
+    let mut product = 1;
+    for v in 0..diagram.count() {
+        product *= chance_factor(diagram, set, v);
+    }
+    product
+}
+
+/// By what the utilities are scaled: ten to the power of the diagram's decimals.
+fn scale(diagram: &Diagram) -> u128
+    ensures scale { result ≡ 10 ^ diagram.now.decimals }
+    ensures some { 0 < result }
+{
+    10u128.pow(diagram.decimals())
+}
+
+/// The fraction in lowest terms.
+fn fraction(num: i128, den: u128) -> Ratio
+    requires den { 0 < den }
+    requires num { nat_abs num ≤ greatest_number }
+    ensures { IsFraction result num den }
+{
+    let (num, den) = reduce(num, den);
+    Ratio { num, den }
+}
+
+/// An agent where a node's state is given, and what its conditional expected utility is made of.
+#[derive(Drop)]
+pub(crate) struct Stake<'a> {
+    pub diagram: &'a Diagram,
+    pub node: usize,
+    pub agent: usize,
+    /// What the plan that keeps the node sums to at the state.
+    pub mass: u128,
+    /// What it sums to with each utility.
+    pub worths: &'a [i128],
+    /// The nodes from which a path leads to the node or to one of the agent's utilities.
+    pub scope: NodeSet,
+}
+
+impl<'a> Stake<'a> {
+    /// The weight of the worlds with the state in the agent's scope.
+    fn mass(&self) -> u128
+        requires stake { IsStake self.now.diagram.now self.now.node self.now.agent self.now.mass self.now.worths.now self.now.scope }
+        ensures { result ≡ scope_mass self.now.diagram.now.nodes self.now.node self.now.agent self.now.mass }
+    {
+        descent_is_tested();
+        let planned = ancestors(self.diagram, NodeSet::of(self.node));
+        let left = self.scope.difference(&planned);
+        self.mass * chance_product(self.diagram, &left)
+    }
+
+    /// What a utility gives to the agent's gain: its worth times the totals of the scope's nodes
+    /// that its plan lacks.
+    fn given(&self, utility: usize) -> i128
+        requires stake { IsStake self.now.diagram.now self.now.node self.now.agent self.now.mass self.now.worths.now self.now.scope }
+        requires within { utility < length self.now.diagram.now.nodes }
+        requires owned { is_utility_of self.now.diagram.now.nodes self.now.agent utility ≡ true }
+        ensures { result ≡ gain_from self.now.diagram.now.nodes self.now.node self.now.agent self.now.worths.now utility }
+    {
+        descent_is_tested();
+        let mut ends = NodeSet::of(self.node);
+        ends.insert(utility);
+        let mut planned = ancestors(self.diagram, ends);
+        planned.remove(utility);
+        let left = self.scope.difference(&planned);
+        self.worths[utility] * chance_product(self.diagram, &left) as i128
+    }
+
+    /// The same of any node: 0 where it is none of the agent's utilities.
+    fn given_by(&self, v: usize) -> i128
+        requires stake { IsStake self.now.diagram.now self.now.node self.now.agent self.now.mass self.now.worths.now self.now.scope }
+        requires within { v < length self.now.diagram.now.nodes }
+        ensures { result ≡ gain_from self.now.diagram.now.nodes self.now.node self.now.agent self.now.worths.now v }
+    {
+        let owned = self.diagram.owns(self.agent, v);
+        match self.diagram.kind(v) {
+            Kind::Utility if owned => self.given(v),
+            _ => 0,
+        }
+    }
+
+    /// The agent's gain over the worlds with the state in the agent's scope.
+    fn gain(&self) -> i128
+        requires stake { IsStake self.now.diagram.now self.now.node self.now.agent self.now.mass self.now.worths.now self.now.scope }
+        ensures gain { result ≡ scope_gain self.now.diagram.now.nodes self.now.node self.now.agent self.now.worths.now }
+        ensures small { nat_abs result ≤ greatest_number }
+    {
+        let mut gain = 0;
+        for v in 0..self.diagram.count() {
+            gain += self.given_by(v);
+        }
+        gain
+    }
+
+    /// What the profile is worth to the agent where the state is given.
+    pub(crate) fn expected(&self) -> Ratio
+        requires stake { IsStake self.now.diagram.now self.now.node self.now.agent self.now.mass self.now.worths.now self.now.scope }
+        ensures { IsScopeFraction self.now.diagram.now self.now.node self.now.agent self.now.mass self.now.worths.now result }
+    {
+        let mass = self.mass();
+        fraction(self.gain(), mass * scale(self.diagram))
+    }
+}

@@ -1,0 +1,11 @@
+pub mod Narrowing
+pub mod Alike
+pub mod Plans
+pub mod Tables
+pub mod Moves
+pub mod Ending
+pub mod SameTotals
+pub mod Comparing
+pub mod Holding
+pub mod Ready
+pub mod Assembling

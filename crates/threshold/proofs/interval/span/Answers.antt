@@ -1,0 +1,69 @@
+use Rattle.std.proofs.Common.{subst, pos}
+use Rattle.maid_model.specs.Answers.{IsFraction, answered}
+use Rattle.maid_model.specs.Tables.{chance_total}
+use Rattle.threshold.specs.declared.weights.Place.{Place}
+use Rattle.threshold.specs.Weights.{IsCell}
+use Rattle.threshold.proofs.Assembling.{somewhere, span_is}
+use Rattle.threshold.proofs.Plans.{small_has_room}
+use Rattle.threshold.proofs.Tables.{is_place}
+use Rattle.threshold.proofs.interval.span.Goals as goal
+
+pub hold_answers-requires : goal.hold_answers-requires
+hold_answers-requires c =
+    let d = c.args.diagram.now in
+    let solved = c.args.solved.now in
+    let is = c.in_ok-ends.ensures.diagram in
+    let place : Place = record { node = c.args.node; row = c.args.row; state = c.args.state } in
+    let cell : IsCell d.nodes place = record { kind = c.requires.chance; row = c.requires.row; state = c.requires.state } in
+    let at = is_place d.nodes place is.tables cell c.in_ok-ends.ensures.ends.some in
+    let law = c.stays_best.ensures.answer d solved c.args.node c.args.row c.args.state is.graph is.tables c.requires.answer at in
+    record {
+      is_diagram = is;
+      answer = c.requires.answer;
+      cell = cell;
+      ends = c.in_ok-ends.ensures.ends;
+      room = small_has_room d solved.order c.greedy_orders.ensures.some c.greedy_orders.ensures.orders c.measured_plans_have_room.ensures c.requires.answer.order c.requires.solves.1.1;
+      somewhere = somewhere d.nodes (answered d solved) place is.graph is.tables at law.0 law.1 law.2;
+    }
+
+-- the present probability
+pub returns-clause-now : goal.returns-clause-now
+returns-clause-now c =
+    subst (λ z. IsFraction c.fraction.result z (chance_total c.args.diagram.now.nodes c.args.node)) c.weight_there.ensures.weight
+    (subst (λ n. IsFraction c.fraction.result (pos c.weight_there.result) n) c.weight_total.ensures c.fraction.ensures)
+
+pub returns-clause-span : goal.returns-clause-span
+returns-clause-span c =
+    let d = c.args.diagram.now in
+    let solved = c.args.solved.now in
+    let is = c.in_ok-ends.ensures.diagram in
+    let place : Place = record { node = c.args.node; row = c.args.row; state = c.args.state } in
+    let cell : IsCell d.nodes place = record { kind = c.requires.chance; row = c.requires.row; state = c.requires.state } in
+    let at = is_place d.nodes place is.tables cell c.in_ok-ends.ensures.ends.some in
+    let law = c.stays_best.ensures.answer d solved c.args.node c.args.row c.args.state is.graph is.tables c.requires.answer at in
+    let span = span_is d.nodes (answered d solved) place is.graph is.tables at law.0 law.1 law.2 c.in_ok-held.held c.in_ok-held.ensures.range c.in_ok-held.ensures.held c.fraction-2.result c.fraction-3.result c.fraction-2.ensures c.fraction-3.ensures in
+    span
+
+pub returns-clause-only : goal.returns-clause-only
+returns-clause-only c low high other =
+    let d = c.args.diagram.now in
+    let solved = c.args.solved.now in
+    let is = c.in_ok-ends.ensures.diagram in
+    let place : Place = record { node = c.args.node; row = c.args.row; state = c.args.state } in
+    let cell : IsCell d.nodes place = record { kind = c.requires.chance; row = c.requires.row; state = c.requires.state } in
+    let at = is_place d.nodes place is.tables cell c.in_ok-ends.ensures.ends.some in
+    let law = c.stays_best.ensures.answer d solved c.args.node c.args.row c.args.state is.graph is.tables c.requires.answer at in
+    let span = span_is d.nodes (answered d solved) place is.graph is.tables at law.0 law.1 law.2 c.in_ok-held.held c.in_ok-held.ensures.range c.in_ok-held.ensures.held c.fraction-2.result c.fraction-3.result c.fraction-2.ensures c.fraction-3.ensures in
+    c.stays_best.ensures.one d.nodes (answered d solved) c.args.node c.args.row c.args.state low high c.fraction-2.result c.fraction-3.result is.graph is.tables at other span
+
+pub returns-clause-perfect : goal.returns-clause-perfect
+returns-clause-perfect c num den moved p q m l h =
+    let d = c.args.diagram.now in
+    let solved = c.args.solved.now in
+    let is = c.in_ok-ends.ensures.diagram in
+    let place : Place = record { node = c.args.node; row = c.args.row; state = c.args.state } in
+    let cell : IsCell d.nodes place = record { kind = c.requires.chance; row = c.requires.row; state = c.requires.state } in
+    let at = is_place d.nodes place is.tables cell c.in_ok-ends.ensures.ends.some in
+    let law = c.stays_best.ensures.answer d solved c.args.node c.args.row c.args.state is.graph is.tables c.requires.answer at in
+    let span = span_is d.nodes (answered d solved) place is.graph is.tables at law.0 law.1 law.2 c.in_ok-held.held c.in_ok-held.ensures.range c.in_ok-held.ensures.held c.fraction-2.result c.fraction-3.result c.fraction-2.ensures c.fraction-3.ensures in
+    c.held_is_perfect.ensures.law d.nodes (answered d solved) c.args.node c.args.row c.args.state num den moved is.graph (c.answers_are_best.ensures.answers d solved is.graph is.tables c.requires.answer) at m (λ v k. span.holds num den moved p q m l h v k)

@@ -1,0 +1,33 @@
+use Rattle.std.proofs.Common.{◌≡◌, ◌∙◌, ℕ, ◌+◌, ◌*◌, ◌<◌, ap, subst, pos, arith, to_z}
+use Rattle.std.specs.Int.{w128}
+use Rattle.std.proofs.lemmas.Int.{to_z_pos}
+use Rattle.maid_model.specs.Nodes.{states_of}
+use Rattle.threshold.specs.Weights.{new_cells}
+use Rattle.threshold.proofs.Tables.{cells_more}
+use Rattle.threshold.proofs.weights.new_table.Goals as goal
+
+next_row : (r n s : ℕ) → s ≡ n → r * n + s ≡ (r + 1) * n
+next_row r n s e = omega arith
+
+pub loop-state-preserved : goal.loop-state-preserved
+loop-state-preserved c =
+    let n = states_of c.args.diagram.now.nodes c.args.place.node in
+    let small = c.new_weight.ensures.small in
+    let cell : to_z w128 c.new_weight.result ≡ pos c.new_weight.result = to_z_pos w128 c.new_weight.result (omega arith) in
+    c.in_ok-push.ensures.items
+    ∙ cells_more c.args.diagram.now.nodes c.args.place c.args.scales c.loop-row.row c.loop-state.state c.loop-state.cells.items (to_z w128 c.new_weight.result) (subst (λ k. c.loop-state.state < k) c.states-states.ensures.states c.loop-state-test.true) c.loop-state.invariant (cell ∙ ap pos c.new_weight.ensures.weight)
+    ∙ ap (new_cells c.args.diagram.now.nodes c.args.place c.args.scales) (omega arith)
+
+pub loop-row-preserved : goal.loop-row-preserved
+loop-row-preserved c =
+    let l = c.loop-state-test.false in
+    let m = c.loop-state.auto.state-end in
+    let e = c.states-states.ensures.states in
+    c.loop-state.invariant ∙ ap (new_cells c.args.diagram.now.nodes c.args.place c.args.scales) (next_row c.loop-row.row (states_of c.args.diagram.now.nodes c.args.place.node) c.loop-state.state (omega arith))
+
+pub returns : goal.returns
+returns c =
+    let l = c.loop-row-test.false in
+    let m = c.loop-row.auto.row-end in
+    let e = c.rows-rows.ensures in
+    c.loop-row.invariant ∙ ap (λ r. new_cells c.args.diagram.now.nodes c.args.place c.args.scales (r * states_of c.args.diagram.now.nodes c.args.place.node)) (omega arith)

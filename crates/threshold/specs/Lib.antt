@@ -1,0 +1,7 @@
+pub mod Faults
+pub mod Intervals
+pub mod Weights
+pub mod Held
+pub mod Ends
+pub mod Answers
+pub mod Example

@@ -1,0 +1,25 @@
+//! How far one probability of a diagram may move while the printed rules hold: a state's
+//! probability in one row of a chance node's table goes to any fraction, the other states of the
+//! row share the rest in the proportion of their weights, and the rules hold where in no row of any
+//! decision a state has a greater gain than the answer's choice.
+//!
+//! ```rust
+//! use rule_solver::solve;
+//! use threshold::span;
+//!
+//! let solved = solve(alloc, &diagram)?;
+//! let interval = span(alloc, &diagram, &solved, node, row, state)?;
+//! ```
+#![tactic(auto)]
+
+mod answers;
+mod ends;
+mod faults;
+mod held;
+mod interval;
+#[cfg(test)]
+mod tests;
+mod weights;
+
+pub use faults::SpanFault;
+pub use interval::{Interval, span};

@@ -1,0 +1,141 @@
+//! Small diagrams, with ample memory.
+
+ghost use Rattle.std.specs.Prelude.{◌≡◌, [], IfOk};
+ghost use Rattle.threshold.specs.Example.{bet, node_of, oil, steer, weights_of};
+
+use crate::{Interval, SpanFault, span};
+use maid_model::{Diagram, Kind, Node, Ratio, literals_are_tested};
+use rule_solver::solve;
+use smallvec::SmallVec;
+use std::alloc::{AllocError, Global};
+use std::test::Fail;
+
+fn node(
+    alloc: Global,
+    kind: Kind,
+    states: usize,
+    parents: &[usize],
+    cells: &[i128],
+) -> Result<Node, AllocError>
+    ensures { IfOk result (λ n. n ≡ node_of kind states parents.now cells.now) }
+{
+    Ok(Node {
+        kind,
+        owner: 0,
+        more: SmallVec::new(alloc),
+        states,
+        parents: SmallVec::from_slice(alloc, parents)?,
+        cells: Vec::from_slice(alloc, cells)?,
+    })
+}
+
+/// Whether to test a well, the oil, what the test shows, whether to drill after it, the cost of the
+/// test, and the pay.
+fn oil(alloc: Global) -> Result<Diagram, AllocError>
+    ensures { IfOk result (λ d. d ≡ oil) }
+{
+    literals_are_tested();
+    let shown = [
+        18, 9, 3, 10, 10, 10, 9, 12, 9, 10, 10, 10, 3, 12, 15, 10, 10, 10,
+    ];
+    let mut nodes = Vec::new(alloc);
+    nodes.push(node(alloc, Kind::Decision, 2, &[], &[])?)?;
+    nodes.push(node(alloc, Kind::Chance, 3, &[], &[5, 3, 2])?)?;
+    nodes.push(node(alloc, Kind::Chance, 3, &[1, 0], &shown)?)?;
+    nodes.push(node(alloc, Kind::Decision, 2, &[0, 2], &[])?)?;
+    nodes.push(node(alloc, Kind::Utility, 1, &[0], &[-10, 0])?)?;
+    nodes.push(node(alloc, Kind::Utility, 1, &[1, 3], &[-70, 0, 50, 0, 200, 0])?)?;
+    Ok(Diagram::from_nodes(nodes, 1, 0))
+}
+
+fn weights_of(even: bool) -> &'static [i128]
+    ensures { result.now ≡ weights_of even }
+{
+    if even { &[1, 1] } else { &[0, 1] }
+}
+
+/// A decision that sees a signal: 3 for the first state in the one case, 1 for the second in the
+/// other.
+fn steer(alloc: Global, even: bool) -> Result<Diagram, AllocError>
+    ensures { IfOk result (λ d. d ≡ steer even) }
+{
+    literals_are_tested();
+    let mut nodes = Vec::new(alloc);
+    nodes.push(node(alloc, Kind::Chance, 2, &[], weights_of(even))?)?;
+    nodes.push(node(alloc, Kind::Decision, 2, &[0], &[])?)?;
+    nodes.push(node(alloc, Kind::Utility, 1, &[0, 1], &[3, 0, 0, 1])?)?;
+    Ok(Diagram::from_nodes(nodes, 1, 0))
+}
+
+/// A decision that sees nothing: 1 for sure, or 2 in the one case or the other.
+fn bet(alloc: Global) -> Result<Diagram, AllocError>
+    ensures { IfOk result (λ d. d ≡ bet) }
+{
+    literals_are_tested();
+    let mut nodes = Vec::new(alloc);
+    nodes.push(node(alloc, Kind::Chance, 2, &[], &[1, 1])?)?;
+    nodes.push(node(alloc, Kind::Decision, 3, &[], &[])?)?;
+    nodes.push(node(alloc, Kind::Utility, 1, &[0, 1], &[1, 2, 0, 1, 0, 2])?)?;
+    Ok(Diagram::from_nodes(nodes, 1, 0))
+}
+
+fn interval(now: (i128, u128), low: (i128, u128), high: (i128, u128)) -> Interval {
+    Interval {
+        now: Ratio {
+            num: now.0,
+            den: now.1,
+        },
+        low: Ratio {
+            num: low.0,
+            den: low.1,
+        },
+        high: Ratio {
+            num: high.0,
+            den: high.1,
+        },
+    }
+}
+
+// Below 27/59 not testing is better, since testing is worth 83 - 121q and not testing 110 - 180q;
+// above 11/18 drilling without a test is worth less than nought.
+#[test]
+fn a_well_may_be_dry(rt: HostRuntime) -> Result<(), Fail> {
+    let alloc = rt.alloc();
+    let diagram = oil(alloc)?;
+    let solved = solve(alloc, &diagram)?;
+    let dry = span(alloc, &diagram, &solved, 1, 0, 0)?;
+    assert_eq!(rt; dry, interval((1, 2), (27, 59), (11, 18)));
+    Ok(())
+}
+
+// Where the decision sees the signal its choices hold at any probability, also where a row is never
+// reached.
+#[test]
+fn a_signal_may_move_freely(rt: HostRuntime) -> Result<(), Fail> {
+    let alloc = rt.alloc();
+    for (even, now) in [(true, (1, 2)), (false, (0, 1))] {
+        let diagram = steer(alloc, even)?;
+        let solved = solve(alloc, &diagram)?;
+        let first = span(alloc, &diagram, &solved, 0, 0, 0)?;
+        assert_eq!(rt; first, interval(now, (0, 1), (1, 1)));
+        let second = span(alloc, &diagram, &solved, 0, 0, 1);
+        if even {
+            assert_eq!(rt; second, Ok(interval((1, 2), (0, 1), (1, 1))));
+        } else {
+            // The first state has no weight with which to share.
+            assert_eq!(rt; second, Err(SpanFault::NoOthers));
+        }
+    }
+    Ok(())
+}
+
+// The sure state is best only where the two others are worth the same.
+#[test]
+fn a_bet_may_not_move(rt: HostRuntime) -> Result<(), Fail> {
+    let alloc = rt.alloc();
+    let diagram = bet(alloc)?;
+    let solved = solve(alloc, &diagram)?;
+    let first = span(alloc, &diagram, &solved, 0, 0, 0)?;
+    assert_eq!(rt; first, interval((1, 2), (1, 2), (1, 2)));
+    Ok(())
+}
