@@ -134,9 +134,9 @@ pub fn push_row_front(
     out.extend_from_slice(b" -> ")
 }
 
-// Appends the line of one row.
+/// Appends the line of one row. Rows are numbered from 0 here and from 1 in the text.
 #[tactic(auto, using(std::proofs::Common::append_assoc))]
-fn push_row(
+pub fn push_row(
     out: &mut Vec<u8>,
     diagram: &Diagram,
     names: &Names,
