@@ -14,7 +14,7 @@ use std::alloc::{AllocError, Global};
 
 /// The base of a decision that relies on answered decisions alone: their answered rules where it relies on them, and
 /// uniform rules at all other decisions.
-pub(crate) fn base_of(
+pub fn base_of(
     alloc: Global,
     diagram: &Diagram,
     relevance: &Relevance,

@@ -31,6 +31,7 @@ mod tests;
 mod totals;
 mod worths;
 
+pub use bases::base_of;
 pub use decision_sums::{RowSums, row_sums};
 pub use faults::SolveFault;
 pub use laws::measured_plans_have_room;
