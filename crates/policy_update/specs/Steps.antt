@@ -1,12 +1,21 @@
 -- What the steps of a round promise one another. Only private functions cite it.
-use Rattle.std.specs.Prelude.{◌≡◌, ◌≢◌, ◌<◌, ℕ, ℤ, Bool, true, false, List, All, Option, None, Some, length, map, replicate, slice_index_or}
+use Rattle.std.specs.Prelude.{◌≡◌, ◌≢◌, ◌<◌, ℕ, ℤ, Bool, true, false, List, All, Option, None, Some, length, map, pos, replicate, slice_index_or}
 use Rattle.maid_model.specs.declared.answers.Row.{Row}
 use Rattle.maid_model.specs.Answers.{no_row, pure_profile}
 use Rattle.maid_model.specs.Gains.{gain_at}
 use Rattle.maid_model.specs.Nodes.{decisions_of, rows_of, states_of}
 use Rattle.maid_model.specs.Views.{NodeView, RuleView, AnswerView}
 use Rattle.reach_laws.specs.Updates.{IsImproved, IsReachedAfter, IsStep, IsUpdated}
+use Rattle.rule_solver.specs.Rows.{gain_in}
 use Rattle.policy_update.specs.Updated.{AreChoices}
+
+-- what a state gains in a row
+abbrev pub state_gain : List ℤ → ℕ → ℤ
+state_gain gains s = slice_index_or gains s (pos 0)
+
+-- these are the gains of one row, in a list with a number for each row and state, the state fastest
+abbrev pub AreGainsOfRow : List ℤ → ℕ → ℕ → List ℤ → Type 0
+AreGainsOfRow gains states row own = (s : ℕ) → s < states → state_gain own s ≡ gain_in gains states row s
 
 -- the choice in a row
 abbrev pub choice_in : List Row → ℕ → ℕ
@@ -17,6 +26,10 @@ pub record AreImproved (gain : ℕ → ℕ → ℤ) (states : ℕ) (before after
   pub count : length after ≡ length before
   pub each : (row : ℕ) → row < length before → IsImproved (gain row) states (choice_in before row) (choice_in after row)
   pub worthless : All (λ (r : Row). r.worth ≡ None) after
+
+-- so they are by the gains of such a list
+abbrev pub AreImprovedBy : List ℤ → ℕ → List Row → List Row → Type 0
+AreImprovedBy gains states before after = AreImproved (gain_in gains states) states before after
 
 -- row by row the choices are the same
 abbrev pub AreSameChoices : List Row → List Row → Type 0

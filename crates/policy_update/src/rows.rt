@@ -1,9 +1,8 @@
 //! The rows of one decision, improved.
 
-ghost use Rattle.std.specs.Prelude.{◌≡◌, ◌<◌, ◌*◌, ◌↔◌, ℕ, All, IfOk, IsTrue, length, pos, slice_index_or};
+ghost use Rattle.std.specs.Prelude.{◌≡◌, ◌<◌, ◌*◌, ◌↔◌, All, IfOk, IsTrue, length};
 ghost use Rattle.reach_laws.specs.Updates.{IsImproved};
-ghost use Rattle.rule_solver.specs.Rows.{gain_in};
-ghost use Rattle.policy_update.specs.Steps.{AreImproved, AreSameChoices};
+ghost use Rattle.policy_update.specs.Steps.{AreGainsOfRow, AreImprovedBy, AreSameChoices, state_gain};
 
 use maid_model::Row;
 use std::alloc::{AllocError, Global};
@@ -11,7 +10,7 @@ use std::alloc::{AllocError, Global};
 /// The choice where no state has a greater gain, and else the first state of greatest gain.
 fn improved(gains: &[i128], choice: usize) -> usize
     requires { choice < length gains.now }
-    ensures { IsImproved (λ s. slice_index_or gains.now s (pos 0)) (length gains.now) choice result }
+    ensures { IsImproved (state_gain gains.now) (length gains.now) choice result }
 {
     let mut best = choice;
     for (state, gain) in gains.iter().enumerate() {
@@ -27,7 +26,7 @@ fn row_gains(gains: &[i128], rows: usize, states: usize, row: usize) -> &[i128]
     requires all { length gains.now ≡ rows * states }
     requires row { row < rows }
     ensures count { length result.now ≡ states }
-    ensures gains { (s : ℕ) → s < states → slice_index_or result.now s (pos 0) ≡ gain_in gains.now states row s }
+    ensures gains { AreGainsOfRow gains.now states row result.now }
 {
     let start = row * states;
     &gains[start..start + states]
@@ -42,7 +41,7 @@ pub(crate) fn improved_rows(
 ) -> Result<Vec<Row>, AllocError>
     requires all { length gains.now ≡ length rows.now * states }
     requires choices { All (λ r. r.choice < states) rows.now }
-    ensures { IfOk result (λ after. AreImproved (gain_in gains.now states) states rows.now after.items) }
+    ensures { IfOk result (λ after. AreImprovedBy gains.now states rows.now after.items) }
 {
     let mut after = Vec::with_capacity(alloc, rows.len())?;
     for (row, before) in rows.iter().enumerate() {

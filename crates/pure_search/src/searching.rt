@@ -79,8 +79,8 @@ fn search_within(alloc: Global, diagram: &Diagram) -> Result<Pure, PureFault>
 /// text order and the last row of the last decision fastest, from which no agent gains by other rules of its own, pure or
 /// mixed; and each agent's expected utility under it.
 ///
-/// For each agent it goes once through all pure profiles, and in each through the worlds of the part that matters to the
-/// agent; the agent's gains and the numbers of the others' choices, one a profile, are all that it keeps.
+/// For each agent that decides it goes once through all pure profiles, and in each through the worlds of the part that
+/// matters to the agent, and in each of these through all arcs of that part. It keeps two numbers and a mark a profile.
 ///
 /// # Errors
 ///

@@ -1,0 +1,56 @@
+-- What `threshold` writes: how far one probability may move.
+use Rattle.std.specs.Prelude.{◌≡◌, ℕ, ◌-◌, List, [], ◌∷◌, ◌++◌, codes, decimal}
+use Rattle.maid_model.specs.Names.{NamesView, label_of, name_of}
+use Rattle.maid_model.specs.Reports.{line, quoted, ratio_text}
+use Rattle.maid_model.specs.Views.{DiagramView, SolvedView}
+use Rattle.threshold.specs.Faults.{OthersWeighNought}
+use Rattle.threshold.specs.Intervals.{TellsNow, TellsSpan, IsOnlySpan, StaysPerfect}
+use Rattle.threshold.specs.declared.interval.Interval.{Interval}
+use Rattle.maid_app.specs.Chances.{IsStatePlace}
+use Rattle.maid_app.specs.declared.forms.chances.StatePlace.{StatePlace}
+use Rattle.maid_app.specs.Moved.{HasRow, KeepsMovedBound}
+use Rattle.maid_app.specs.Solve.{IsSolution, IsSolvable, solver_stages}
+use Rattle.maid_app.specs.Stages.{Stage, name_stages, text_fault, unknown_row, no_others, moved_bound}
+use Rattle.maid_app.specs.Tasks.{Task, text_task}
+
+-- the node, the row's number from 1, the state, its probability there, and the ends of the interval
+abbrev pub threshold_text : NamesView → ℕ → ℕ → ℕ → Interval → List ℕ
+threshold_text names x row state interval =
+    line (codes "maidsolve threshold 1")
+    ++ line (name_of names x ++ codes " row " ++ decimal row ++ codes ": " ++ quoted (label_of names x state)
+    ++ codes " = " ++ ratio_text interval.now ++ codes " from " ++ ratio_text interval.low
+    ++ codes " to " ++ ratio_text interval.high)
+
+-- The exact closed interval in which the answer's rules hold; inside they are subgame-perfect in the
+-- changed diagram.
+pub record HasThreshold (node : List ℕ) (row : ℕ) (state : List ℕ) (d : DiagramView) (names : NamesView) (printed : List ℕ) : Type 0 where
+  pub place : StatePlace
+  pub is_place : IsStatePlace d names node state place
+  pub solved : SolvedView
+  pub solution : IsSolution d solved
+  pub interval : Interval
+  pub now : TellsNow d.nodes place.node (row - 1) place.state interval
+  pub span : TellsSpan d solved place.node (row - 1) place.state interval
+  pub only : IsOnlySpan d solved place.node (row - 1) place.state interval
+  pub subgame_perfect : StaysPerfect d solved place.node (row - 1) place.state interval
+  pub is : printed ≡ threshold_text names place.node row place.state interval
+
+-- the diagram has the state and the row with another state of weight, the solver answers it, and the
+-- changed diagrams keep the weight bound
+pub record CanBeMoved (node : List ℕ) (row : ℕ) (state : List ℕ) (d : DiagramView) (names : NamesView) : Type 0 where
+  pub place : StatePlace
+  pub is_place : IsStatePlace d names node state place
+  pub has_row : HasRow d place.node row
+  pub others : OthersWeighNought d.nodes place.node (row - 1) place.state → ⊥
+  pub solvable : IsSolvable d
+  pub bound : KeepsMovedBound d place.node row place.state
+
+-- the text's fault, an unknown node, state or row, and a row without other states
+abbrev pub place_stages : List ℕ → ℕ → List ℕ → List Stage
+place_stages node row state =
+    text_fault ∷ name_stages node state ++ unknown_row node row state ∷ no_others node row state ∷ []
+
+-- these, then the solver's stages, then the weight bound of the changed diagrams, and else the interval
+abbrev pub moving : List ℕ → ℕ → List ℕ → Task
+moving node row state =
+    text_task (place_stages node row state ++ solver_stages ++ moved_bound node row state ∷ []) (HasThreshold node row state)
