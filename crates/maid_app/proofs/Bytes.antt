@@ -1,5 +1,5 @@
 -- Bytes come to one status: they stand for one diagram or have a fault, and each stage is clear or refuses with its status, never both.
-use Rattle.std.proofs.Common.{◌≡◌, inl, inr, ℕ, List, None, Some, ap, subst, sym, ◌∙◌, arith, Err}
+use Rattle.std.proofs.Common.{◌≡◌, inl, inr, ℕ, ◌-◌, List, None, Some, ap, subst, sym, ◌∙◌, arith, Err}
 use Rattle.first_fault.specs.Passes.{each}
 use Rattle.first_fault.proofs.Ends.{staged_alike}
 use Rattle.first_fault.proofs.Kept.{IsOneBy, over_one, each_one, each_only}
@@ -11,10 +11,15 @@ use Rattle.maid_model.specs.Views.{DiagramView}
 use Rattle.net_build.specs.Building.{StandsFor}
 use Rattle.net_build.specs.Laws as building
 use Rattle.net_build.specs.Table.{all_passes}
+use Rattle.evidence.specs.Conditional.{IsImpossible}
+use Rattle.evidence.specs.Rules.{IsBelowDecision, KeepsRules}
+use Rattle.evidence.specs.Sizes.{IsSmallEnoughGiven}
 use Rattle.policy_update.specs.Faults.{HasTwoOwners}
 use Rattle.policy_update.specs.Faults as updating
 use Rattle.pure_search.specs.Faults as search
+use Rattle.reach_laws.specs.Evidence.{all_seeing, all_seeing_diagram}
 use Rattle.report_text.specs.Laws as reading
+use Rattle.threshold.specs.Faults.{OthersWeighNought}
 use Rattle.tree_checker.specs.Laws as checking
 use Rattle.tree_checker.specs.Verdicts.{IsVerdict}
 use Rattle.net_lexer.specs.Laws as lexer
@@ -25,17 +30,21 @@ use Rattle.net_parser.specs.Lexemes.{lexemes}
 use Rattle.net_parser.specs.Trees.{BlockTree}
 use Rattle.rule_solver.specs.Faults.{IsSmallEnough}
 use Rattle.maid_app.specs.Answers.{Answers, FindsNothing, task_of}
+use Rattle.maid_app.specs.Chances.{HasChanceNode, HasState, IsStatePlace, at_state}
 use Rattle.maid_app.specs.Check.{HasVerdict, status_after}
 use Rattle.maid_app.specs.Diagrams.{NamedDiagram, IsTreeOf, IsDiagramOf, of_diagram}
+use Rattle.maid_app.specs.Evidence.{KeepsAllBounds, TellsBelow, TellsBoundGiven, TellsImpossible, TellsRules, TellsTooLargeGiven}
 use Rattle.maid_app.specs.Faults.{TellsFault, IsTextFault}
 use Rattle.maid_app.specs.Laws.{OneStatus}
+use Rattle.maid_app.specs.Moved.{HasRow, KeepsMovedBound, TellsMovedBound, TellsNoOthers, TellsUnknownRow}
 use Rattle.maid_app.specs.Outcome.{Written, Refused, status_with}
-use Rattle.maid_app.specs.Request.{Request, solve, check, judge, graph, print, trim, pure, update, info, control, demo, file_name}
-use Rattle.maid_app.specs.Stages.{Stage, text_fault, unknown_agent, relevance_cycle, weight_bound, too_large, too_many_profiles, no_equilibrium, several_owners, update_too_large, rounds_spent, too_many_leaves, bad_line, Finds, IsText, IsAgent, IsReport, HasFewLeaves, HasPureEquilibrium, AllRoundsRaise, stage, TellsUnknownAgent, TellsProfiles, TellsNoEquilibrium, TellsOwners, TellsUpdateTooLarge, TellsRounds, TellsCycle, TellsBound, AtNode, AtUtilities, TellsTooLarge, TellsLeaves, TellsBadLine}
+use Rattle.maid_app.specs.Request.{Request, solve, check, judge, graph, print, trim, pure, update, info, control, given, threshold, demo, file_name}
+use Rattle.maid_app.specs.Stages.{Stage, text_fault, unknown_agent, relevance_cycle, weight_bound, too_large, too_many_profiles, no_equilibrium, several_owners, update_too_large, rounds_spent, unknown_node, unknown_state, below_decision, rules_given, cycle_given, bound_given, size_given, impossible, unknown_row, no_others, moved_bound, too_many_leaves, bad_line, Finds, IsText, IsAgent, IsReport, HasFewLeaves, HasPureEquilibrium, AllRoundsRaise, stage, TellsUnknownNode, TellsUnknownState, TellsUnknownAgent, TellsProfiles, TellsNoEquilibrium, TellsOwners, TellsUpdateTooLarge, TellsRounds, TellsCycle, TellsBound, AtNode, AtUtilities, TellsTooLarge, TellsLeaves, TellsBadLine}
 use Rattle.maid_app.specs.Tasks.{Task, comes_of}
+use Rattle.maid_app.proofs.OnePlace.{not_kept, same_state, not_kept_given, not_moved}
 use Rattle.maid_app.proofs.TellApart.{told_apart}
 use Rattle.maid_app.specs.declared.status.Status.{Status}
-use Rattle.maid_app.specs.declared.status.Status.TheVariants.{TextFault, UnknownAgent, Cycle, WeightBound, TooLarge, NoPure, NotOneAgent, RoundsSpent}
+use Rattle.maid_app.specs.declared.status.Status.TheVariants.{TextFault, UnknownAgent, Cycle, WeightBound, TooLarge, NoPure, NotOneAgent, RoundsSpent, UnknownNode, UnknownState, BelowDecision, Impossible, UnknownRow, NoOthers}
 
 -- the laws of the layers below
 pub record Laws : Type 0 where
@@ -88,20 +97,6 @@ stage_one status IsClear Tells apart = record {
   one = λ f g h k. h.0 ∙ sym k.0;
 }
 
--- the bound of a decision's scope fails, or that of an agent's, so not all hold
-decision_fails : (d : DiagramView) (e : ℕ) → KeepsScopedBounds d → FailsFirst d e → ⊥
-decision_fails d e keeps fails = omega (arith, keeps.decisions e fails.decision, fails.fails)
-
-agent_fails : (d : DiagramView) (agent : ℕ) → KeepsScopedBounds d → FailsFirstFor d agent → ⊥
-agent_fails d agent keeps fails = omega (arith, keeps.agents agent fails.within, fails.fails)
-
--- so a bound that is told as passed is not kept
-not_kept : (d : DiagramView) (names : NamesView) (told : List ℕ) → KeepsScopedBounds d → TellsBound d names told → ⊥
-not_kept d names told keeps (AtNode v (inl (e, fails, there)) says) = decision_fails d e keeps fails
-not_kept d names told keeps (AtNode v (inr (agent, fails, there)) says) = agent_fails d agent keeps fails
-not_kept d names told keeps (AtUtilities (inl (e, fails, there)) says) = decision_fails d e keeps fails
-not_kept d names told keeps (AtUtilities (inr (agent, fails, there)) says) = agent_fails d agent keeps fails
-
 module _ (laws : Laws) where
   -- and one over the diagram of the bytes
   of_diagram_one : (bytes : List ℕ) (status : Status) (IsClear : DiagramView → NamesView → Type 0) (Tells : DiagramView → NamesView → List ℕ → Type 0)
@@ -109,6 +104,15 @@ module _ (laws : Laws) where
   of_diagram_one bytes status IsClear Tells apart =
       over_one (λ (x : NamedDiagram). IsDiagramOf bytes x.d x.names) (λ x. stage status (IsClear x.d x.names) (Tells x.d x.names)) (same_diagram laws bytes)
       (λ x is. stage_one status (IsClear x.d x.names) (Tells x.d x.names) (apart x.d x.names))
+
+  -- and one over a state of a chance node in it
+  at_state_one : (node state bytes : List ℕ) (status : Status) (IsClear : DiagramView → NamesView → ℕ → ℕ → Type 0) (Tells : DiagramView → NamesView → ℕ → ℕ → List ℕ → Type 0)
+      → ((d : DiagramView) (names : NamesView) (x s : ℕ) (told : List ℕ) → IsClear d names x s → Tells d names x s told → ⊥)
+      → IsOneBy Status1 (of_diagram bytes (λ d names. at_state d names node state (λ x s. stage status (IsClear d names x s) (Tells d names x s))))
+  at_state_one node state bytes status IsClear Tells apart =
+      over_one (λ (y : NamedDiagram). IsDiagramOf bytes y.d y.names) (λ y. at_state y.d y.names node state (λ x s. stage status (IsClear y.d y.names x s) (Tells y.d y.names x s))) (same_diagram laws bytes)
+      (λ y is. over_one (IsStatePlace y.d y.names node state) (λ place. stage status (IsClear y.d y.names place.node place.state) (Tells y.d y.names place.node place.state)) (same_state y.d y.names node state)
+      (λ place at. stage_one status (IsClear y.d y.names place.node place.state) (Tells y.d y.names place.node place.state) (apart y.d y.names place.node place.state)))
 
   -- each stage is clear or refuses, never both, and refuses with one status
   finds_one : (s : Stage) (file : File) → IsOneBy Status1 (Finds s file)
@@ -122,6 +126,17 @@ module _ (laws : Laws) where
   finds_one several_owners file = of_diagram_one file.1 NotOneAgent (λ d names. HasTwoOwners d.nodes → ⊥) TellsOwners (λ d names told one tells. one tells.two)
   finds_one update_too_large file = of_diagram_one file.1 TooLarge (λ d names. updating.IsSmallEnough d) TellsUpdateTooLarge (λ d names told small tells. tells.is_size.1 (small _ tells.is_size.0))
   finds_one rounds_spent file = of_diagram_one file.1 RoundsSpent (λ d names. AllRoundsRaise d → ⊥) TellsRounds (λ d names told settles tells. settles tells.all_raise)
+  finds_one (unknown_node node) file = of_diagram_one file.1 UnknownNode (λ d names. HasChanceNode d names node) (λ d names. TellsUnknownNode d names node) (λ d names told has tells. tells.unknown has)
+  finds_one (unknown_state node state) file = of_diagram_one file.1 UnknownState (λ d names. HasState d names node state) (λ d names. TellsUnknownState d names node state) (λ d names told has tells. tells.unknown has)
+  finds_one (below_decision node state) file = at_state_one node state file.1 BelowDecision (λ d names x s. IsBelowDecision d.nodes x → ⊥) (λ d names x s. TellsBelow d x node) (λ d names x s told clear tells. clear tells.below)
+  finds_one (rules_given node state) file = at_state_one node state file.1 TooLarge (λ d names x s. KeepsRules (all_seeing d.nodes x)) (λ d names x s. TellsRules (all_seeing d.nodes x)) (λ d names x s told keeps tells. tells.passes keeps)
+  finds_one (cycle_given node state) file = at_state_one node state file.1 Cycle (λ d names x s. HasRelianceOrder (all_seeing d.nodes x)) (λ d names x s. TellsCycle (all_seeing_diagram d x) names) (λ d names x s told order tells. tells.no_order order)
+  finds_one (bound_given node state) file = at_state_one node state file.1 WeightBound (λ d names x s. KeepsAllBounds (all_seeing_diagram d x) x) (λ d names x s. TellsBoundGiven (all_seeing_diagram d x) x names) (λ d names x s told keeps tells. not_kept_given (all_seeing_diagram d x) x names told keeps tells)
+  finds_one (size_given node state) file = at_state_one node state file.1 TooLarge (λ d names x s. IsSmallEnoughGiven (all_seeing_diagram d x) x) (λ d names x s. TellsTooLargeGiven (all_seeing_diagram d x) x) (λ d names x s told small tells. tells.is_size.1 (small _ tells.is_size.0))
+  finds_one (impossible node state) file = at_state_one node state file.1 Impossible (λ d names x s. IsImpossible (all_seeing d.nodes x) x s → ⊥) (λ d names x s. TellsImpossible (all_seeing d.nodes x) x s node state) (λ d names x s told possible tells. possible tells.impossible)
+  finds_one (unknown_row node row state) file = at_state_one node state file.1 UnknownRow (λ d names x s. HasRow d x row) (λ d names x s. TellsUnknownRow d x row) (λ d names x s told has tells. tells.unknown has)
+  finds_one (no_others node row state) file = at_state_one node state file.1 NoOthers (λ d names x s. OthersWeighNought d.nodes x (row - 1) s → ⊥) (λ d names x s. TellsNoOthers d x row s node) (λ d names x s told others tells. others tells.nought)
+  finds_one (moved_bound node row state) file = at_state_one node state file.1 WeightBound (λ d names x s. KeepsMovedBound d x row s) (λ d names x s. TellsMovedBound d x row s names) (λ d names x s told keeps tells. not_moved d x row s names told keeps tells)
   finds_one too_many_leaves file = of_diagram_one file.1 TooLarge (λ d names. HasFewLeaves d) TellsLeaves (λ d names told few tells. omega (arith, few, tells.many))
   finds_one (bad_line text) file = of_diagram_one text TextFault (λ d names. IsReport d names file.1) (TellsBadLine file) (λ d names told is tells. laws.report_or_fault d names file.1 tells.at is tells.is_bad)
 
@@ -149,6 +164,8 @@ module _ (laws : Laws) where
   gives_one (graph file) bytes x y h k = h.0 ∙ sym k.0
   gives_one (print file) bytes x y h k = h.0 ∙ sym k.0
   gives_one (trim file) bytes x y h k = h.0 ∙ sym k.0
+  gives_one (given file node state) bytes x y h k = h.0 ∙ sym k.0
+  gives_one (threshold file node row state) bytes x y h k = h.0 ∙ sym k.0
   gives_one (pure file) bytes x y h k = h.0 ∙ sym k.0
   gives_one (update file) bytes x y h k = h.0 ∙ sym k.0
   gives_one (info file agent) bytes x y h k = h.0 ∙ sym k.0
@@ -183,6 +200,17 @@ status_by no_equilibrium = NoPure
 status_by several_owners = NotOneAgent
 status_by update_too_large = TooLarge
 status_by rounds_spent = RoundsSpent
+status_by (unknown_node node) = UnknownNode
+status_by (unknown_state node state) = UnknownState
+status_by (below_decision node state) = BelowDecision
+status_by (rules_given node state) = TooLarge
+status_by (cycle_given node state) = Cycle
+status_by (bound_given node state) = WeightBound
+status_by (size_given node state) = TooLarge
+status_by (impossible node state) = Impossible
+status_by (unknown_row node row state) = UnknownRow
+status_by (no_others node row state) = NoOthers
+status_by (moved_bound node row state) = WeightBound
 status_by too_many_leaves = TooLarge
 status_by (bad_line text) = TextFault
 
@@ -200,6 +228,17 @@ finds_status no_equilibrium file refusal h = h.2.0
 finds_status several_owners file refusal h = h.2.0
 finds_status update_too_large file refusal h = h.2.0
 finds_status rounds_spent file refusal h = h.2.0
+finds_status (unknown_node node) file refusal h = h.2.0
+finds_status (unknown_state node state) file refusal h = h.2.0
+finds_status (below_decision node state) file refusal h = h.2.2.0
+finds_status (rules_given node state) file refusal h = h.2.2.0
+finds_status (cycle_given node state) file refusal h = h.2.2.0
+finds_status (bound_given node state) file refusal h = h.2.2.0
+finds_status (size_given node state) file refusal h = h.2.2.0
+finds_status (impossible node state) file refusal h = h.2.2.0
+finds_status (unknown_row node row state) file refusal h = h.2.2.0
+finds_status (no_others node row state) file refusal h = h.2.2.0
+finds_status (moved_bound node row state) file refusal h = h.2.2.0
 finds_status too_many_leaves file refusal h = h.2.0
 finds_status (bad_line text) file refusal h = h.2.0
 

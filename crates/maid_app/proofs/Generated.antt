@@ -6,10 +6,10 @@ use Rattle.maid_app.specs.Answers.{Answers, FindsNothing}
 use Rattle.maid_app.specs.Laws.{OneStatus, ClearOrRefused}
 use Rattle.maid_app.specs.Outcome.{Refused, written, refused}
 use Rattle.maid_app.specs.Request.{Request, demo}
-use Rattle.maid_app.specs.Stages.{Stage, text_fault, unknown_agent, relevance_cycle, weight_bound, too_large, too_many_profiles, no_equilibrium, several_owners, update_too_large, rounds_spent, too_many_leaves, bad_line}
+use Rattle.maid_app.specs.Stages.{Stage, text_fault, unknown_agent, relevance_cycle, weight_bound, too_large, too_many_profiles, no_equilibrium, several_owners, update_too_large, rounds_spent, unknown_node, unknown_state, below_decision, rules_given, cycle_given, bound_given, size_given, impossible, unknown_row, no_others, moved_bound, too_many_leaves, bad_line}
 use Rattle.maid_app.specs.Told.{OfRequest, HasNoBytes, HasText, WritesText, Refuses, Says, IsOfReading, IsOneOf}
 use Rattle.maid_app.specs.declared.status.Status.{Status}
-use Rattle.maid_app.specs.declared.status.Status.TheVariants.{Done, Usage, Absent, ReadFault, TextTooLong, TextFault, Cycle, WeightBound, TooLarge, WriteFault, NoMemory, Rejected, UnknownAgent, NoPure, NotOneAgent, RoundsSpent}
+use Rattle.maid_app.specs.declared.status.Status.TheVariants.{Done, Usage, Absent, ReadFault, TextTooLong, TextFault, Cycle, WeightBound, TooLarge, WriteFault, NoMemory, Rejected, UnknownAgent, NoPure, NotOneAgent, RoundsSpent, UnknownNode, UnknownState, BelowDecision, Impossible, UnknownRow, NoOthers}
 use Rattle.maid_app.proofs.Bytes.{status_by, status_of_a_stage}
 use Rattle.maid_app.proofs.Outcomes.{apart, gives_well}
 
@@ -48,6 +48,12 @@ module _ (list : Option (List File)) (k given : ℕ) where
   why NoPure t h = refused_here NoPure t h
   why NotOneAgent t h = refused_here NotOneAgent t h
   why RoundsSpent t h = refused_here RoundsSpent t h
+  why UnknownNode t h = refused_here UnknownNode t h
+  why UnknownState t h = refused_here UnknownState t h
+  why BelowDecision t h = refused_here BelowDecision t h
+  why Impossible t h = refused_here Impossible t h
+  why UnknownRow t h = refused_here UnknownRow t h
+  why NoOthers t h = refused_here NoOthers t h
 
 -- A run on words that ask for a generated text.
 module _ (list : Option (List File)) (requested : Option Request) (given : ℕ) (k : ℕ) (asks : requested ≡ Some (demo k)) where
@@ -74,6 +80,17 @@ module _ (list : Option (List File)) (requested : Option Request) (given : ℕ) 
     stage_not_reading several_owners h = h
     stage_not_reading update_too_large h = h
     stage_not_reading rounds_spent h = h
+    stage_not_reading (unknown_node node) h = h
+    stage_not_reading (unknown_state node state) h = h
+    stage_not_reading (below_decision node state) h = h
+    stage_not_reading (rules_given node state) h = h
+    stage_not_reading (cycle_given node state) h = h
+    stage_not_reading (bound_given node state) h = h
+    stage_not_reading (size_given node state) h = h
+    stage_not_reading (impossible node state) h = h
+    stage_not_reading (unknown_row node row state) h = h
+    stage_not_reading (no_others node row state) h = h
+    stage_not_reading (moved_bound node row state) h = h
     stage_not_reading too_many_leaves h = h
     stage_not_reading (bad_line text) h = h
 

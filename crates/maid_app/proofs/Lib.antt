@@ -6,6 +6,7 @@ pub mod Judging
 pub mod Known
 pub mod Leading
 pub mod Nodes
+pub mod OnePlace
 pub mod Outcomes
 pub mod Refusals
 pub mod Searches

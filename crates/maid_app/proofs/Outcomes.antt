@@ -12,14 +12,14 @@ use Rattle.maid_app.specs.Laws.{OneStatus, ClearOrRefused}
 use Rattle.maid_app.specs.Outcome.{Written, Refused, written, refused}
 use Rattle.maid_app.specs.Reading.{TellsOf, RefusesAs}
 use Rattle.maid_app.specs.Refusal.{status_of, line_of}
-use Rattle.maid_app.specs.Request.{Request, solve, check, judge, graph, print, trim, pure, update, info, control, demo, file_name}
-use Rattle.maid_app.specs.Stages.{Stage, text_fault, unknown_agent, relevance_cycle, weight_bound, too_large, too_many_profiles, no_equilibrium, several_owners, update_too_large, rounds_spent, too_many_leaves, bad_line, Finds}
+use Rattle.maid_app.specs.Request.{Request, solve, check, judge, graph, print, trim, pure, update, info, control, given, threshold, demo, file_name}
+use Rattle.maid_app.specs.Stages.{Stage, text_fault, unknown_agent, relevance_cycle, weight_bound, too_large, too_many_profiles, no_equilibrium, several_owners, update_too_large, rounds_spent, unknown_node, unknown_state, below_decision, rules_given, cycle_given, bound_given, size_given, impossible, unknown_row, no_others, moved_bound, too_many_leaves, bad_line, Finds}
 use Rattle.maid_app.specs.Tasks.{comes_of}
 use Rattle.maid_app.specs.Told.{limit_of, IsTextFor, LeadsTo, IsTooLong, HasNoBytes, HasText, WritesText, Refuses, Says, HasFile, LacksFile, IsAfterWriting, IsOneOf, EndsWell}
 use Rattle.maid_app.specs.declared.refusal.Refusal.{Refusal}
 use Rattle.maid_app.specs.declared.refusal.Refusal.TheVariants as refusals
 use Rattle.maid_app.specs.declared.status.Status.{Status}
-use Rattle.maid_app.specs.declared.status.Status.TheVariants.{Done, Usage, Absent, ReadFault, TextTooLong, TextFault, Cycle, WeightBound, TooLarge, WriteFault, NoMemory, Rejected, UnknownAgent, NoPure, NotOneAgent, RoundsSpent}
+use Rattle.maid_app.specs.declared.status.Status.TheVariants.{Done, Usage, Absent, ReadFault, TextTooLong, TextFault, Cycle, WeightBound, TooLarge, WriteFault, NoMemory, Rejected, UnknownAgent, NoPure, NotOneAgent, RoundsSpent, UnknownNode, UnknownState, BelowDecision, Impossible, UnknownRow, NoOthers}
 use Rattle.tree_checker.specs.declared.verdicts.Verdict.{Verdict}
 use Rattle.tree_checker.specs.declared.verdicts.Verdict.TheVariants as verdicts
 use Rattle.maid_app.proofs.Bytes.{status_by, status_of_a_stage}
@@ -37,6 +37,17 @@ as_of_stage Comes no_equilibrium told h = (tt, h)
 as_of_stage Comes several_owners told h = (tt, h)
 as_of_stage Comes update_too_large told h = (tt, h)
 as_of_stage Comes rounds_spent told h = (tt, h)
+as_of_stage Comes (unknown_node node) told h = (tt, h)
+as_of_stage Comes (unknown_state node state) told h = (tt, h)
+as_of_stage Comes (below_decision node state) told h = (tt, h)
+as_of_stage Comes (rules_given node state) told h = (tt, h)
+as_of_stage Comes (cycle_given node state) told h = (tt, h)
+as_of_stage Comes (bound_given node state) told h = (tt, h)
+as_of_stage Comes (size_given node state) told h = (tt, h)
+as_of_stage Comes (impossible node state) told h = (tt, h)
+as_of_stage Comes (unknown_row node row state) told h = (tt, h)
+as_of_stage Comes (no_others node row state) told h = (tt, h)
+as_of_stage Comes (moved_bound node row state) told h = (tt, h)
 as_of_stage Comes too_many_leaves told h = (tt, h)
 as_of_stage Comes (bad_line text) told h = (tt, h)
 
@@ -69,6 +80,17 @@ not_written no_equilibrium h = h
 not_written several_owners h = h
 not_written update_too_large h = h
 not_written rounds_spent h = h
+not_written (unknown_node node) h = h
+not_written (unknown_state node state) h = h
+not_written (below_decision node state) h = h
+not_written (rules_given node state) h = h
+not_written (cycle_given node state) h = h
+not_written (bound_given node state) h = h
+not_written (size_given node state) h = h
+not_written (impossible node state) h = h
+not_written (unknown_row node row state) h = h
+not_written (no_others node row state) h = h
+not_written (moved_bound node row state) h = h
 not_written too_many_leaves h = h
 not_written (bad_line text) h = h
 
@@ -88,6 +110,8 @@ gives_after (judge text report) bytes output h = after_verdict output.status h.1
 gives_after (graph file) bytes output h = after_done output.status h.1.0
 gives_after (print file) bytes output h = after_done output.status h.1.0
 gives_after (trim file) bytes output h = after_done output.status h.1.0
+gives_after (given file node state) bytes output h = after_done output.status h.1.0
+gives_after (threshold file node row state) bytes output h = after_done output.status h.1.0
 gives_after (pure file) bytes output h = after_done output.status h.1.0
 gives_after (update file) bytes output h = after_done output.status h.1.0
 gives_after (info file agent) bytes output h = after_done output.status h.1.0
@@ -113,6 +137,8 @@ gives_well (judge text report) bytes output h = verdict_ends output.status h.1.2
 gives_well (graph file) bytes output h = inl h.1.0
 gives_well (print file) bytes output h = inl h.1.0
 gives_well (trim file) bytes output h = inl h.1.0
+gives_well (given file node state) bytes output h = inl h.1.0
+gives_well (threshold file node row state) bytes output h = inl h.1.0
 gives_well (pure file) bytes output h = inl h.1.0
 gives_well (update file) bytes output h = inl h.1.0
 gives_well (info file agent) bytes output h = inl h.1.0
@@ -127,6 +153,8 @@ memory_ends (judge text report) = inl (inr refl)
 memory_ends (graph file) = inr refl
 memory_ends (print file) = inr refl
 memory_ends (trim file) = inr refl
+memory_ends (given file node state) = inr refl
+memory_ends (threshold file node row state) = inr refl
 memory_ends (pure file) = inr refl
 memory_ends (update file) = inr refl
 memory_ends (info file agent) = inr refl
@@ -179,6 +207,12 @@ module _ (law : ClearOrRefused) (files : List File) (asked request : Request) (l
   why NoPure t h = refused_here NoPure t h
   why NotOneAgent t h = refused_here NotOneAgent t h
   why RoundsSpent t h = refused_here RoundsSpent t h
+  why UnknownNode t h = refused_here UnknownNode t h
+  why UnknownState t h = refused_here UnknownState t h
+  why BelowDecision t h = refused_here BelowDecision t h
+  why Impossible t h = refused_here Impossible t h
+  why UnknownRow t h = refused_here UnknownRow t h
+  why NoOthers t h = refused_here NoOthers t h
 
   -- what it wrote, of that request
   wrote : (A : List ℕ → Type 0) (status : Status) → WritesText (Some files) (Some asked) given A status → Wrote files request given status ⊎ IsPassed files request
@@ -350,5 +384,45 @@ nothing_found (update name) bytes d names is can =
     let x : NamedDiagram = record { d = d; names = names } in ((x, is), ((x, is, can.one_owner), ((x, is, can.bound), ((x, is, can.small), ((x, is, can.settles), tt)))))
 nothing_found (info name agent) bytes d names is can = asked_clear agent bytes d names name is can
 nothing_found (control name agent) bytes d names is can = asked_clear agent bytes d names name is can
+nothing_found (given name node state) bytes d names is can =
+    let x : NamedDiagram = record { d = d; names = names } in
+    let at = can.is_place in (
+      (x, is),
+      (
+        (x, is, (can.place.node, at.node)),
+        (
+          (x, is, (can.place, at)),
+          (
+            (x, is, (can.place, at, can.not_below)),
+            (
+              (x, is, (can.place, at, can.rules)),
+              (
+                (x, is, (can.place, at, can.order)),
+                ((x, is, (can.place, at, can.bounds)), ((x, is, (can.place, at, can.small)), ((x, is, (can.place, at, can.possible)), tt))),
+              ),
+            ),
+          ),
+        ),
+      ),
+    )
+nothing_found (threshold name node row state) bytes d names is can =
+    let x : NamedDiagram = record { d = d; names = names } in
+    let at = can.is_place in
+    let solvable = can.solvable in (
+      (x, is),
+      (
+        (x, is, (can.place.node, at.node)),
+        (
+          (x, is, (can.place, at)),
+          (
+            (x, is, (can.place, at, can.has_row)),
+            (
+              (x, is, (can.place, at, can.others)),
+              ((x, is, solvable.order), ((x, is, solvable.bound), ((x, is, solvable.small), ((x, is, (can.place, at, can.bound)), tt)))),
+            ),
+          ),
+        ),
+      ),
+    )
 nothing_found (demo k) bytes d names is can =
     let x : NamedDiagram = record { d = d; names = names } in ((x, is), ((x, is, can.order), ((x, is, can.bound), ((x, is, can.small), tt))))

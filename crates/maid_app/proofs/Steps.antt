@@ -11,7 +11,7 @@ use Rattle.maid_app.specs.Told.{limit_of, IsFileText, IsTextFor, IsUnread, Keeps
 use Rattle.maid_app.specs.declared.output.Output.{Output}
 use Rattle.maid_app.specs.declared.refusal.Refusal.{Refusal}
 use Rattle.maid_app.specs.declared.status.Status.{Status}
-use Rattle.maid_app.specs.declared.status.Status.TheVariants.{Done, Usage, Absent, ReadFault, TextTooLong, TextFault, Cycle, WeightBound, TooLarge, WriteFault, NoMemory, Rejected, UnknownAgent, NoPure, NotOneAgent, RoundsSpent}
+use Rattle.maid_app.specs.declared.status.Status.TheVariants.{Done, Usage, Absent, ReadFault, TextTooLong, TextFault, Cycle, WeightBound, TooLarge, WriteFault, NoMemory, Rejected, UnknownAgent, NoPure, NotOneAgent, RoundsSpent, UnknownNode, UnknownState, BelowDecision, Impossible, UnknownRow, NoOthers}
 use Rattle.maid_app.proofs.Leading.{file_text}
 use Rattle.maid_app.proofs.Outcomes.{gives_after}
 
@@ -58,6 +58,12 @@ module _ (list : Option (List File)) (asked own : Request) (given : ℕ) (leads 
     says_bytes NoPure told h = refuses NoPure told h.1
     says_bytes NotOneAgent told h = refuses NotOneAgent told h.1
     says_bytes RoundsSpent told h = refuses RoundsSpent told h.1
+    says_bytes UnknownNode told h = refuses UnknownNode told h.1
+    says_bytes UnknownState told h = refuses UnknownState told h.1
+    says_bytes BelowDecision told h = refuses BelowDecision told h.1
+    says_bytes Impossible told h = refuses Impossible told h.1
+    says_bytes UnknownRow told h = refuses UnknownRow told h.1
+    says_bytes NoOthers told h = refuses NoOthers told h.1
 
     of_bytes : (status : Status) (told : List ℕ) → RefusesAs (Answers own bytes) status told → IsOfOutput status × (IsOfReading status → ⊥)
     of_bytes Done told h = absurd h.0
@@ -76,6 +82,12 @@ module _ (list : Option (List File)) (asked own : Request) (given : ℕ) (leads 
     of_bytes NoPure told h = (tt, λ r. r)
     of_bytes NotOneAgent told h = (tt, λ r. r)
     of_bytes RoundsSpent told h = (tt, λ r. r)
+    of_bytes UnknownNode told h = (tt, λ r. r)
+    of_bytes UnknownState told h = (tt, λ r. r)
+    of_bytes BelowDecision told h = (tt, λ r. r)
+    of_bytes Impossible told h = (tt, λ r. r)
+    of_bytes UnknownRow told h = (tt, λ r. r)
+    of_bytes NoOthers told h = (tt, λ r. r)
 
     -- and never with a status of reading
     pub not_reading : (refusal : Refusal) → RefusesAs (Answers own bytes) (status_of refusal) (line_of refusal) → IsOfReading (status_of refusal) → ⊥
@@ -104,6 +116,12 @@ module _ (list : Option (List File)) (asked own : Request) (given : ℕ) (leads 
   says_unread NoPure told h = absurd h.1
   says_unread NotOneAgent told h = absurd h.1
   says_unread RoundsSpent told h = absurd h.1
+  says_unread UnknownNode told h = absurd h.1
+  says_unread UnknownState told h = absurd h.1
+  says_unread BelowDecision told h = absurd h.1
+  says_unread Impossible told h = absurd h.1
+  says_unread UnknownRow told h = absurd h.1
+  says_unread NoOthers told h = absurd h.1
 
   of_unread : (status : Status) (told : List ℕ) → HasNoText list own given status told → IsOfOutput status
   of_unread Absent told h = tt
@@ -122,6 +140,12 @@ module _ (list : Option (List File)) (asked own : Request) (given : ℕ) (leads 
   of_unread NoPure told h = absurd h.1
   of_unread NotOneAgent told h = absurd h.1
   of_unread RoundsSpent told h = absurd h.1
+  of_unread UnknownNode told h = absurd h.1
+  of_unread UnknownState told h = absurd h.1
+  of_unread BelowDecision told h = absurd h.1
+  of_unread Impossible told h = absurd h.1
+  of_unread UnknownRow told h = absurd h.1
+  of_unread NoOthers told h = absurd h.1
 
   -- what refuses the request before its bytes are had
   pub file_refused : (refusal : Refusal) → HasNoText list own given (status_of refusal) (line_of refusal) → (IsOfFile own → KeepsLimit (limit_of own) (status_of refusal) given) → LeadsToRefusal list asked given refusal
@@ -149,6 +173,12 @@ no_text list own given UnknownAgent told of h = absurd h
 no_text list own given NoPure told of h = absurd h
 no_text list own given NotOneAgent told of h = absurd h
 no_text list own given RoundsSpent told of h = absurd h
+no_text list own given UnknownNode told of h = absurd h
+no_text list own given UnknownState told of h = absurd h
+no_text list own given BelowDecision told of h = absurd h
+no_text list own given Impossible told of h = absurd h
+no_text list own given UnknownRow told of h = absurd h
+no_text list own given NoOthers told of h = absurd h
 
 -- The words ask for this.
 module _ (list : Option (List File)) (requested : Option Request) (asked : Request) (given : ℕ) (asks : Some asked ≡ requested) where

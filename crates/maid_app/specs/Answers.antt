@@ -8,15 +8,17 @@ use Rattle.maid_app.specs.Asking.{CanBeAsked}
 use Rattle.maid_app.specs.Check.{CanBeChecked, examining, judging}
 use Rattle.maid_app.specs.Control.{weighing_control}
 use Rattle.maid_app.specs.Demo.{summing}
+use Rattle.maid_app.specs.Given.{CanBeGiven, conditioning}
 use Rattle.maid_app.specs.Graph.{graphing}
 use Rattle.maid_app.specs.Info.{weighing_information}
 use Rattle.maid_app.specs.Outcome.{Written, Refused}
 use Rattle.maid_app.specs.Print.{printing}
 use Rattle.maid_app.specs.Pure.{HasFirstPure, searching}
-use Rattle.maid_app.specs.Request.{Request, solve, check, judge, graph, print, trim, pure, update, info, control, demo, file_name}
+use Rattle.maid_app.specs.Request.{Request, solve, check, judge, graph, print, trim, pure, update, info, control, given, threshold, demo, file_name}
 use Rattle.maid_app.specs.Solve.{IsSolvable, solving}
 use Rattle.maid_app.specs.Stages.{Finds}
 use Rattle.maid_app.specs.Tasks.{Task, comes_of}
+use Rattle.maid_app.specs.Threshold.{CanBeMoved, moving}
 use Rattle.maid_app.specs.Trim.{trimming}
 use Rattle.maid_app.specs.Update.{CanBeUpdated, updating}
 
@@ -32,6 +34,8 @@ task_of (pure file) = searching
 task_of (update file) = updating
 task_of (info file agent) = weighing_information agent
 task_of (control file agent) = weighing_control agent
+task_of (given file node state) = conditioning node state
+task_of (threshold file node row state) = moving node row state
 task_of (demo k) = summing k
 
 -- no stage of the request finds anything in its text's bytes
@@ -41,7 +45,7 @@ FindsNothing request bytes =
 
 -- What a diagram and its names must keep so that its text comes: `solve` and `demo` ask for an order
 -- of solving, the weight bound and a run within the limits, `info` and `control` ask for the agent
--- too, `pure` and `update` for what their own stages look for, `check` for the weight bound and few
+-- too, `pure`, `update`, `given` and `threshold` for what their own stages look for, `check` for the weight bound and few
 -- leaves, and the others for nothing. What is judged is no diagram.
 abbrev pub CanAnswer : Request → DiagramView → NamesView → Type 0
 CanAnswer (solve file) d names = IsSolvable d
@@ -54,6 +58,8 @@ CanAnswer (pure file) d names = HasFirstPure d
 CanAnswer (update file) d names = CanBeUpdated d
 CanAnswer (info file agent) d names = CanBeAsked agent d names
 CanAnswer (control file agent) d names = CanBeAsked agent d names
+CanAnswer (given file node state) d names = CanBeGiven node state d names
+CanAnswer (threshold file node row state) d names = CanBeMoved node row state d names
 CanAnswer (demo k) d names = IsSolvable d
 
 unfoldable pub Answers : Request → List ℕ → Outcomes Written Refused

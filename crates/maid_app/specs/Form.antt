@@ -1,9 +1,9 @@
 -- The forms of the code.
-use Rattle.maid_app.specs.Request.{Request, solve, check, graph, print, trim, pure, update, info, control, demo}
+use Rattle.maid_app.specs.Request.{Request, solve, check, graph, print, trim, pure, update, info, control, given, threshold, demo}
 use Rattle.maid_app.specs.declared.forms.Form.{Form}
 use Rattle.maid_app.specs.declared.forms.Form.TheVariants.{Text, Check}
 use Rattle.maid_app.specs.declared.forms.TextForm.{TextForm}
-use Rattle.maid_app.specs.declared.forms.TextForm.TheVariants.{Solve, Graph, Print, Trim, Pure, Update, Info, Control, Demo}
+use Rattle.maid_app.specs.declared.forms.TextForm.TheVariants.{Solve, Graph, Print, Trim, Pure, Update, Info, Control, Given, Threshold, Demo}
 
 -- the request that a form with one text stands for
 abbrev pub text_request_by : TextForm → Request
@@ -15,6 +15,8 @@ text_request_by (Pure file) = pure file.now
 text_request_by (Update file) = update file.now
 text_request_by (Info file agent) = info file.now agent.now
 text_request_by (Control file agent) = control file.now agent.now
+text_request_by (Given file node state) = given file.now node.now state.now
+text_request_by (Threshold file node row state) = threshold file.now node.now row state.now
 text_request_by (Demo k) = demo k
 
 -- the request that a form stands for

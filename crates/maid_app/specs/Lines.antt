@@ -5,7 +5,7 @@ use Rattle.maid_model.specs.Reports.{line, names_line}
 use Rattle.app_lines.specs.Places.{line_at, column_at}
 
 abbrev pub usage_line : List ℕ
-usage_line = line (codes "usage: maidsolve solve F | check F R | graph F | print F | trim F | info F A | control F A | demo K | pure F | update F")
+usage_line = line (codes "usage: maidsolve solve F | check F R | graph F | print F | trim F | info F A | control F A | demo K | pure F | update F | given F X S | threshold F X ROW STATE")
 
 abbrev pub absent_line : List ℕ → List ℕ
 absent_line name = line (codes "absent: " ++ name)
@@ -29,6 +29,33 @@ no_memory_line = line (codes "no memory")
 -- an agent that no node has
 abbrev pub unknown_agent_line : List ℕ → List ℕ
 unknown_agent_line agent = line (codes "unknown agent: " ++ agent)
+
+-- a name that no chance node has, and a label that none of its states has
+abbrev pub unknown_node_line : List ℕ → List ℕ
+unknown_node_line node = line (codes "unknown chance node: " ++ node)
+
+abbrev pub unknown_state_line : List ℕ → List ℕ
+unknown_state_line state = line (codes "unknown state: " ++ state)
+
+-- evidence that descends from a decision
+abbrev pub below_decision_line : List ℕ → List ℕ
+below_decision_line node = line (codes "below a decision: " ++ node)
+
+-- too large rules, where every decision sees the evidence
+abbrev pub rules_line : List ℕ
+rules_line = line (codes "too large: rules")
+
+-- evidence without weight
+abbrev pub impossible_line : List ℕ → List ℕ → List ℕ
+impossible_line node state = line (codes "impossible: " ++ node ++ 32 ∷ state)
+
+-- a row that a table has not
+abbrev pub unknown_row_line : ℕ → List ℕ
+unknown_row_line row = line (codes "unknown row: " ++ decimal row)
+
+-- a node whose row gives no other state any weight
+abbrev pub no_other_state_line : List ℕ → List ℕ
+no_other_state_line node = line (codes "no other state: " ++ node)
 
 -- the relevance cycle, each decision relying on the next
 abbrev pub cycle_line : NamesView → List ℕ → List ℕ

@@ -1,6 +1,7 @@
 -- What the words of a command line ask for.
-use Rattle.std.specs.Prelude.{ℕ, List, [], ◌∷◌, Option, None, Some, String, string_bytes, codes, decimal, find, map, if◌then◌else◌}
-use Rattle.std.specs.List.{range_with_len}
+use Rattle.std.specs.Prelude.{ℕ, ◌+◌, ◌-◌, ◌*◌, ◌==◌, ◌&&◌, ◌||◌, not, nat_lt, Bool, List, [], ◌∷◌, Option, None, Some, String, string_bytes, codes, decimal, find, fold, length, map, slice_index, if◌then◌else◌}
+use Rattle.net_lexer.specs.Bytes.{is_digit}
+use Rattle.std.specs.List.{list_all, range_with_len}
 use Rattle.std.specs.Option.{option_map}
 use Rattle.std.specs.Str.{bytes_eq}
 
@@ -18,6 +19,8 @@ pub data Request : Type 0 where
   update : (file : List ℕ) → Request
   info : (file agent : List ℕ) → Request
   control : (file agent : List ℕ) → Request
+  given : (file node state : List ℕ) → Request
+  threshold : (file node : List ℕ) → (row : ℕ) → (state : List ℕ) → Request
   demo : (k : ℕ) → Request
 
 -- the name that lines tell for the request's text: its file's, or `demo` for a generated text
@@ -32,6 +35,8 @@ file_name (pure file) = file
 file_name (update file) = file
 file_name (info file agent) = file
 file_name (control file agent) = file
+file_name (given file node state) = file
+file_name (threshold file node row state) = file
 file_name (demo k) = codes "demo"
 
 -- the request names a file
@@ -61,13 +66,37 @@ request_by_words word next last =
     else (if bytes_eq word (codes "info") then Some (info next last)
     else (if bytes_eq word (codes "control") then Some (control next last) else None))
 
+-- The number that a row's word is: one to five digits, of which the first is 0 only where it stands
+-- alone.
+abbrev pub is_row_word : List ℕ → Bool
+is_row_word word = list_all is_digit word && (nat_lt 0 (length word) && (nat_lt (length word) 6 && ((length word == 1) || not (slice_index word 0 == 48))))
+
+abbrev pub number_of : List ℕ → ℕ
+number_of word = fold (λ n digit. n * 10 + (digit - 48)) 0 word
+
+abbrev pub row_of : List ℕ → Option ℕ
+row_of word = if is_row_word word then Some (number_of word) else None
+
+-- a form of four words: `given`, a file's name, a node's, and a state's label
+abbrev pub request_by_evidence : List ℕ → List ℕ → List ℕ → List ℕ → Option Request
+request_by_evidence word file node state =
+    if bytes_eq word (codes "given") then Some (given file node state) else None
+
+-- a form of five words: `threshold`, a file's name, a node's, the number of one of its rows, and a
+-- state's label
+abbrev pub request_by_row : List ℕ → List ℕ → List ℕ → List ℕ → List ℕ → Option Request
+request_by_row word file node row state =
+    if bytes_eq word (codes "threshold") then option_map (λ number. threshold file node number state) (row_of row) else None
+
 -- the request of the words, where they are of a form
 abbrev pub request_of : List (List ℕ) → Option Request
 request_of [] = None
 request_of (word ∷ []) = None
 request_of (word ∷ next ∷ []) = request_by_word word next
 request_of (word ∷ next ∷ last ∷ []) = request_by_words word next last
-request_of (word ∷ next ∷ last ∷ other ∷ words) = None
+request_of (word ∷ next ∷ last ∷ fourth ∷ []) = request_by_evidence word next last fourth
+request_of (word ∷ next ∷ last ∷ fourth ∷ fifth ∷ []) = request_by_row word next last fourth fifth
+request_of (word ∷ next ∷ last ∷ fourth ∷ fifth ∷ other ∷ words) = None
 
 module _ {Z : Type 0} where
   -- the request of the words of the code

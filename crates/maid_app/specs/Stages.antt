@@ -1,6 +1,6 @@
 -- The stages that may refuse a request for what its file holds. A form of words has some of them,
 -- in an order of its own.
-use Rattle.std.specs.Prelude.{◌≡◌, ◌<◌, ◌≤◌, ℕ, List, Contains, None, Some}
+use Rattle.std.specs.Prelude.{◌≡◌, ◌<◌, ◌≤◌, ℕ, ◌-◌, List, [], ◌∷◌, Contains, None, Some}
 use Rattle.first_fault.specs.Passes.{Pass}
 use Rattle.maid_io.specs.Device.{File}
 use Rattle.maid_model.specs.Bounds.{world_count, stopped}
@@ -9,22 +9,30 @@ use Rattle.maid_model.specs.Placing.{HasRelianceOrder, IsRelianceCycle}
 use Rattle.maid_model.specs.Scopes.{KeepsScopedBounds}
 use Rattle.maid_model.specs.Views.{DiagramView, RuleView, SolvedView}
 use Rattle.maid_model.specs.declared.limits.TheConstants.{MOST_LEAVES}
+use Rattle.evidence.specs.Conditional.{IsImpossible}
+use Rattle.evidence.specs.Rules.{IsBelowDecision, KeepsRules}
+use Rattle.evidence.specs.Sizes.{IsSmallEnoughGiven}
 use Rattle.policy_update.specs.Faults.{HasTwoOwners}
 use Rattle.policy_update.specs.Faults as updating
 use Rattle.pure_search.specs.Faults.{profile_count}
 use Rattle.pure_search.specs.Faults as search
 use Rattle.reach_laws.specs.Equilibria.{IsPureEquilibrium}
+use Rattle.reach_laws.specs.Evidence.{all_seeing, all_seeing_diagram}
 use Rattle.reach_laws.specs.Updates.{IsReachedAfter}
 use Rattle.report_text.specs.Reading.{IsReadAs, IsBadLine}
 use Rattle.rule_solver.specs.Faults.{IsSmallEnough, IsTooLarge}
+use Rattle.threshold.specs.Faults.{OthersWeighNought}
 use Rattle.weight_scale.specs.Bound.{IsPassedAt, IsPassedByUtilities}
+use Rattle.maid_app.specs.Chances.{HasChanceNode, HasState, at_state}
 use Rattle.maid_app.specs.Diagrams.{NamedDiagram, IsDiagramOf, of_diagram}
+use Rattle.maid_app.specs.Evidence.{KeepsAllBounds, TellsBelow, TellsBoundGiven, TellsImpossible, TellsRules, TellsTooLargeGiven}
 use Rattle.maid_app.specs.Faults.{TellsFault}
-use Rattle.maid_app.specs.Lines.{unknown_agent_line, cycle_line, bound_line, profiles_line, no_equilibrium_line, not_one_agent_line, rounds_line, too_large_line, leaves_line, bad_line_line}
+use Rattle.maid_app.specs.Lines.{unknown_agent_line, unknown_node_line, unknown_state_line, cycle_line, bound_line, profiles_line, no_equilibrium_line, not_one_agent_line, rounds_line, too_large_line, leaves_line, bad_line_line}
+use Rattle.maid_app.specs.Moved.{HasRow, KeepsMovedBound, TellsMovedBound, TellsNoOthers, TellsUnknownRow}
 use Rattle.maid_app.specs.Outcome.{Refused}
 use Rattle.maid_app.specs.declared.forms.update.TheConstants.{MOST_ROUNDS}
 use Rattle.maid_app.specs.declared.status.Status.{Status}
-use Rattle.maid_app.specs.declared.status.Status.TheVariants.{TextFault, UnknownAgent, Cycle, WeightBound, TooLarge, NoPure, NotOneAgent, RoundsSpent}
+use Rattle.maid_app.specs.declared.status.Status.TheVariants.{TextFault, UnknownAgent, Cycle, WeightBound, TooLarge, NoPure, NotOneAgent, RoundsSpent, UnknownNode, UnknownState, BelowDecision, Impossible, UnknownRow, NoOthers}
 
 pub data Stage : Type 0 where
   text_fault : Stage
@@ -37,6 +45,17 @@ pub data Stage : Type 0 where
   several_owners : Stage
   update_too_large : Stage
   rounds_spent : Stage
+  unknown_node : (node : List ℕ) → Stage
+  unknown_state : (node state : List ℕ) → Stage
+  below_decision : (node state : List ℕ) → Stage
+  rules_given : (node state : List ℕ) → Stage
+  cycle_given : (node state : List ℕ) → Stage
+  bound_given : (node state : List ℕ) → Stage
+  size_given : (node state : List ℕ) → Stage
+  impossible : (node state : List ℕ) → Stage
+  unknown_row : (node : List ℕ) → (row : ℕ) → (state : List ℕ) → Stage
+  no_others : (node : List ℕ) → (row : ℕ) → (state : List ℕ) → Stage
+  moved_bound : (node : List ℕ) → (row : ℕ) → (state : List ℕ) → Stage
   too_many_leaves : Stage
   bad_line : (text : List ℕ) → Stage
 
@@ -110,6 +129,16 @@ pub record TellsRounds (d : DiagramView) (names : NamesView) (told : List ℕ) :
   pub all_raise : AllRoundsRaise d
   pub says : told ≡ rounds_line MOST_ROUNDS
 
+-- no chance node has the name, which is told
+pub record TellsUnknownNode (d : DiagramView) (names : NamesView) (node told : List ℕ) : Type 0 where
+  pub unknown : HasChanceNode d names node → ⊥
+  pub says : told ≡ unknown_node_line node
+
+-- it has no state with the label, which is told
+pub record TellsUnknownState (d : DiagramView) (names : NamesView) (node state told : List ℕ) : Type 0 where
+  pub unknown : HasState d names node state → ⊥
+  pub says : told ≡ unknown_state_line state
+
 -- the diagram has so few worlds that a report of it is looked at
 abbrev pub HasFewLeaves : DiagramView → Type 0
 HasFewLeaves d = world_count d.nodes ≤ MOST_LEAVES
@@ -158,7 +187,43 @@ Finds update_too_large file =
     of_diagram file.1 (λ d names. stage TooLarge (updating.IsSmallEnough d) (TellsUpdateTooLarge d names))
 Finds rounds_spent file =
     of_diagram file.1 (λ d names. stage RoundsSpent (AllRoundsRaise d → ⊥) (TellsRounds d names))
+Finds (unknown_node node) file =
+    of_diagram file.1 (λ d names. stage UnknownNode (HasChanceNode d names node) (TellsUnknownNode d names node))
+Finds (unknown_state node state) file =
+    of_diagram file.1 (λ d names. stage UnknownState (HasState d names node state) (TellsUnknownState d names node state))
+Finds (below_decision node state) file =
+    of_diagram file.1 (λ d names. at_state d names node state (λ x s.
+    stage BelowDecision (IsBelowDecision d.nodes x → ⊥) (TellsBelow d x node)))
+Finds (rules_given node state) file =
+    of_diagram file.1 (λ d names. at_state d names node state (λ x s.
+    stage TooLarge (KeepsRules (all_seeing d.nodes x)) (TellsRules (all_seeing d.nodes x))))
+Finds (cycle_given node state) file =
+    of_diagram file.1 (λ d names. at_state d names node state (λ x s.
+    stage Cycle (HasRelianceOrder (all_seeing d.nodes x)) (TellsCycle (all_seeing_diagram d x) names)))
+Finds (bound_given node state) file =
+    of_diagram file.1 (λ d names. at_state d names node state (λ x s.
+    stage WeightBound (KeepsAllBounds (all_seeing_diagram d x) x) (TellsBoundGiven (all_seeing_diagram d x) x names)))
+Finds (size_given node state) file =
+    of_diagram file.1 (λ d names. at_state d names node state (λ x s.
+    stage TooLarge (IsSmallEnoughGiven (all_seeing_diagram d x) x) (TellsTooLargeGiven (all_seeing_diagram d x) x)))
+Finds (impossible node state) file =
+    of_diagram file.1 (λ d names. at_state d names node state (λ x s.
+    stage Impossible (IsImpossible (all_seeing d.nodes x) x s → ⊥)
+    (TellsImpossible (all_seeing d.nodes x) x s node state)))
+Finds (unknown_row node row state) file =
+    of_diagram file.1 (λ d names. at_state d names node state (λ x s.
+    stage UnknownRow (HasRow d x row) (TellsUnknownRow d x row)))
+Finds (no_others node row state) file =
+    of_diagram file.1 (λ d names. at_state d names node state (λ x s.
+    stage NoOthers (OthersWeighNought d.nodes x (row - 1) s → ⊥) (TellsNoOthers d x row s node)))
+Finds (moved_bound node row state) file =
+    of_diagram file.1 (λ d names. at_state d names node state (λ x s.
+    stage WeightBound (KeepsMovedBound d x row s) (TellsMovedBound d x row s names)))
 Finds too_many_leaves file =
     of_diagram file.1 (λ d names. stage TooLarge (HasFewLeaves d) (TellsLeaves d names))
 Finds (bad_line text) file =
     of_diagram text (λ d names. stage TextFault (IsReport d names file.1) (TellsBadLine file d names))
+
+-- a node or a state that is not there
+abbrev pub name_stages : List ℕ → List ℕ → List Stage
+name_stages node state = unknown_node node ∷ unknown_state node state ∷ []

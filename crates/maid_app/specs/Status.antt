@@ -1,7 +1,7 @@
 -- How a run ends.
 use Rattle.std.specs.Prelude.{ℕ}
 use Rattle.maid_app.specs.declared.status.Status.{Status}
-use Rattle.maid_app.specs.declared.status.Status.TheVariants.{Done, Usage, Absent, ReadFault, TextTooLong, TextFault, Cycle, WeightBound, TooLarge, WriteFault, NoMemory, Rejected, UnknownAgent, NoPure, NotOneAgent, RoundsSpent}
+use Rattle.maid_app.specs.declared.status.Status.TheVariants.{Done, Usage, Absent, ReadFault, TextTooLong, TextFault, Cycle, WeightBound, TooLarge, WriteFault, NoMemory, Rejected, UnknownAgent, NoPure, NotOneAgent, RoundsSpent, UnknownNode, UnknownState, BelowDecision, Impossible, UnknownRow, NoOthers}
 
 -- the code of each status
 abbrev pub code_of : Status → ℕ
@@ -21,3 +21,9 @@ code_of UnknownAgent = 12
 code_of NoPure = 14
 code_of NotOneAgent = 15
 code_of RoundsSpent = 16
+code_of UnknownNode = 17
+code_of UnknownState = 18
+code_of BelowDecision = 19
+code_of Impossible = 20
+code_of UnknownRow = 21
+code_of NoOthers = 22

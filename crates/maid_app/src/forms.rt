@@ -6,18 +6,21 @@ ghost use Rattle.std.specs.Str.{bytes_eq};
 ghost use Rattle.maid_app.specs.Answers.{Answers};
 ghost use Rattle.maid_app.specs.Outcome.{done_with};
 ghost use Rattle.maid_app.specs.Reading.{TellsOf};
-ghost use Rattle.maid_app.specs.Request.{request_by_word, request_by_words, requested, stages_of};
+ghost use Rattle.maid_app.specs.Request.{is_row_word, request_by_evidence, request_by_row, request_by_word, request_by_words, requested, row_of, stages_of};
 ghost use Rattle.maid_app.specs.Form.{request_by, text_request_by};
 
 mod asking;
+mod chances;
 pub mod check;
 mod control;
 mod demo;
+mod given;
 mod graph;
 mod info;
 mod print;
 mod pure;
 mod solve;
+mod threshold;
 mod trim;
 mod update;
 
@@ -72,6 +75,26 @@ pub enum TextForm<'a> {
         /// The agent's name.
         agent: &'a str,
     },
+    /// `given F X S`: the answer where a chance node is known to have a state.
+    Given {
+        /// The file's name.
+        file: &'a str,
+        /// The node's name.
+        node: &'a str,
+        /// The state's label.
+        state: &'a str,
+    },
+    /// `threshold F X ROW STATE`: how far one probability may move.
+    Threshold {
+        /// The file's name.
+        file: &'a str,
+        /// The node's name.
+        node: &'a str,
+        /// The number of one of its rows, from 1.
+        row: usize,
+        /// The state's label.
+        state: &'a str,
+    },
     /// `demo K`: a summary of the solved diagram of a generated text.
     Demo {
         /// How many stages the diagram has: 1 to 60.
@@ -117,6 +140,15 @@ impl<'a> TextForm<'a> {
             TextForm::Control { file, agent } => {
                 control::answer(alloc, Source { name: file, bytes }, agent)
             }
+            TextForm::Given { file, node, state } => {
+                given::answer(alloc, Source { name: file, bytes }, node, state)
+            }
+            TextForm::Threshold {
+                file,
+                node,
+                row,
+                state,
+            } => threshold::answer(alloc, Source { name: file, bytes }, node, row, state),
             TextForm::Demo { k } => demo::answer(alloc, k, bytes),
         }
     }
@@ -184,6 +216,68 @@ fn form_by_words<'a>(word: &str, next: &'a str, last: &'a str) -> Option<Form<'a
     }
 }
 
+// Tells whether the word has one to five digits, of which the first is 0 only where it stands alone.
+fn is_row_word(word: &[u8]) -> bool
+    ensures { result ≡ is_row_word word.now }
+{
+    word.iter().all(|byte| byte.is_ascii_digit())
+        && !word.is_empty()
+        && word.len() < 6
+        && (word.len() == 1 || word[0] != b'0')
+}
+
+// The number of a row that the word is.
+fn row_of(word: &[u8]) -> Option<usize>
+    ensures { result ≡ row_of word.now }
+{
+    if !is_row_word(word) {
+        return None;
+    }
+    let mut row = 0;
+    for byte in word {
+        row = row * 10 + (*byte - b'0') as usize;
+    }
+    Some(row)
+}
+
+// The form of a word and the three that come behind it.
+fn form_by_evidence<'a>(
+    word: &str,
+    file: &'a str,
+    node: &'a str,
+    state: &'a str,
+) -> Option<Form<'a>>
+    ensures { option_map request_by result ≡ request_by_evidence word.now file.now node.now state.now }
+{
+    match word {
+        "given" => Some(Form::Text(TextForm::Given { file, node, state })),
+        _ => None,
+    }
+}
+
+// The form of a word and the four that come behind it.
+fn form_by_row<'a>(
+    word: &str,
+    file: &'a str,
+    node: &'a str,
+    row: &str,
+    state: &'a str,
+) -> Option<Form<'a>>
+    ensures { option_map request_by result ≡ request_by_row word.now file.now node.now row.now state.now }
+{
+    match word {
+        "threshold" => row_of(row.as_bytes()).map(|number| {
+            Form::Text(TextForm::Threshold {
+                file,
+                node,
+                row: number,
+                state,
+            })
+        }),
+        _ => None,
+    }
+}
+
 /// The form that the words are of.
 pub fn form_of(words: &[String]) -> Option<Form<'_>>
     ensures { option_map request_by result ≡ requested words.now }
@@ -191,6 +285,16 @@ pub fn form_of(words: &[String]) -> Option<Form<'_>>
     match words {
         [word, next] => form_by_word(word.as_str(), next.as_str()).map(Form::Text),
         [word, next, last] => form_by_words(word.as_str(), next.as_str(), last.as_str()),
+        [word, file, node, state] => {
+            form_by_evidence(word.as_str(), file.as_str(), node.as_str(), state.as_str())
+        }
+        [word, file, node, row, state] => form_by_row(
+            word.as_str(),
+            file.as_str(),
+            node.as_str(),
+            row.as_str(),
+            state.as_str(),
+        ),
         _ => None,
     }
 }

@@ -2,7 +2,7 @@
 
 ghost use Rattle.std.specs.Prelude.{◌≡◌, ◌++◌, ◌<◌, IfOk, IfSome, length};
 ghost use Rattle.maid_model.specs.Reports.{line};
-ghost use Rattle.maid_app.specs.Lines.{fault_line, too_large_line, profiles_line, no_equilibrium_line, rounds_line, leaves_line, bad_line_line, bound_line};
+ghost use Rattle.maid_app.specs.Lines.{fault_line, too_large_line, unknown_row_line, impossible_line, profiles_line, no_equilibrium_line, rounds_line, leaves_line, bad_line_line, bound_line};
 
 use app_lines::place;
 use line_pieces::push_number;
@@ -11,7 +11,7 @@ use std::alloc::{AllocError, Global};
 
 /// The line for words that are of no form.
 pub const USAGE: &str =
-    "usage: maidsolve solve F | check F R | graph F | print F | trim F | info F A | control F A | demo K | pure F | update F\n";
+    "usage: maidsolve solve F | check F R | graph F | print F | trim F | info F A | control F A | demo K | pure F | update F | given F X S | threshold F X ROW STATE\n";
 
 /// The line where `out` couldn't be written.
 pub const WRITE_FAULT: &str = "write fault\n";
@@ -37,6 +37,28 @@ pub fn too_large(alloc: Global, cells: u128, work: u128) -> Result<Vec<u8>, Allo
     push_number(&mut text, cells)?;
     text.extend_from_slice(b" work ")?;
     push_number(&mut text, work)?;
+    text.push(b'\n')?;
+    Ok(text)
+}
+
+/// The line of a row that a table has not, counted from 1.
+pub fn unknown_row(alloc: Global, row: usize) -> Result<Vec<u8>, AllocError>
+    ensures { IfOk result (λ text. text.items ≡ unknown_row_line row) }
+{
+    let mut text = Vec::from_slice(alloc, b"unknown row: ")?;
+    push_number(&mut text, row as u128)?;
+    text.push(b'\n')?;
+    Ok(text)
+}
+
+/// The line of evidence without weight: the node's name, and the state's label.
+pub fn impossible(alloc: Global, node: &[u8], state: &[u8]) -> Result<Vec<u8>, AllocError>
+    ensures { IfOk result (λ text. text.items ≡ impossible_line node.now state.now) }
+{
+    let mut text = Vec::from_slice(alloc, b"impossible: ")?;
+    text.extend_from_slice(node)?;
+    text.push(b' ')?;
+    text.extend_from_slice(state)?;
     text.push(b'\n')?;
     Ok(text)
 }

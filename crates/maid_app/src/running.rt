@@ -108,7 +108,9 @@ fn bytes_for<H: Shelf>(alloc: Global, shelf: &mut H, form: TextForm<'_>) -> Resu
         | TextForm::Pure { file }
         | TextForm::Update { file }
         | TextForm::Info { file, .. }
-        | TextForm::Control { file, .. } => read_file(alloc, shelf, file, LIMIT),
+        | TextForm::Control { file, .. }
+        | TextForm::Given { file, .. }
+        | TextForm::Threshold { file, .. } => read_file(alloc, shelf, file, LIMIT),
         TextForm::Demo { k } => Ok(demo_text(alloc, k)?),
     }
 }

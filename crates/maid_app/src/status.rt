@@ -38,10 +38,22 @@ pub enum Status {
     NotOneAgent,
     /// Each round of updating raised.
     RoundsSpent,
+    /// No chance node has that name.
+    UnknownNode,
+    /// The node has no state with that label.
+    UnknownState,
+    /// The node descends from a decision.
+    BelowDecision,
+    /// The node never has that state.
+    Impossible,
+    /// The node's table has no such row.
+    UnknownRow,
+    /// The row gives no other state any weight.
+    NoOthers,
 }
 
 impl Status {
-    /// The code that the program ends with: 0 to 12 and 14 to 16 in the order of the variants.
+    /// The code that the program ends with: 0 to 12 and 14 to 22 in the order of the variants.
     pub fn code(self) -> u8
         ensures { result ≡ code_of self }
     {

@@ -27,7 +27,7 @@ returns-in-NotOneAgent c =
     let found = subst (IsFaultOrNoMemory update_fault (update_pass d MOST_ROUNDS)) c.in-NotOneAgent.is c.requires.fault in
     told_gives (found_by d names update_stages) NotOneAgent c.told.result c.told-in-NotOneAgent.result
     (if_ok_then c.told.result (λ t. t.items ≡ not_one_agent_line) (λ t. found_by d names update_stages (Some (refused NotOneAgent t.items)))
-    (λ t e. update_owners d names t.items  found e)
+    (λ t e. update_owners d names t.items found e)
     c.told.ensures)
     c.told-in-NotOneAgent.ensures
 
