@@ -1,5 +1,6 @@
 pub mod Bytes
 pub mod Checks
+pub mod Conditions
 pub mod Digits
 pub mod Generated
 pub mod Judging
@@ -10,6 +11,7 @@ pub mod OnePlace
 pub mod Outcomes
 pub mod Refusals
 pub mod Searches
+pub mod Sights
 pub mod SolveRefusals
 pub mod Solving
 pub mod Steps

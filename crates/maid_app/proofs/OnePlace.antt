@@ -3,6 +3,7 @@ use Rattle.std.proofs.Common.{◌≡◌, ◌≢◌, ◌∙◌, ◌⊎◌, inl, i
 use Rattle.std.specs.Prelude.{slice_index_or}
 use Rattle.std.specs.Int.{◌∣◌}
 use Rattle.std.proofs.lemmas.Nat.Gcd.{dvd_antisymm}
+use Rattle.std.proofs.Math.Decide.{dec_lt}
 use Rattle.first_fault.specs.Passes.{over}
 use Rattle.maid_model.specs.Diagrams.{greatest_number}
 use Rattle.maid_model.specs.Names.{NamesView, IsFirstPlace, labels_of}
@@ -10,38 +11,58 @@ use Rattle.maid_model.specs.Scopes.{KeepsScopedBounds, FailsFirst, FailsFirstFor
 use Rattle.maid_model.specs.Views.{DiagramView}
 use Rattle.threshold.specs.Faults.{FaultView, IsCommonMultiple, WeightBound, total_pass, with_total}
 use Rattle.weight_scale.specs.Bound.{IsPassedAt, IsPassedByUtilities}
-use Rattle.maid_app.specs.Chances.{IsStatePlace}
+use Rattle.maid_app.specs.Chances.{HasChanceNode, IsChanceNode, IsStatePlace}
+use Rattle.maid_app.specs.Diagrams.{NamedDiagram}
 use Rattle.maid_app.specs.declared.forms.chances.StatePlace.{StatePlace}
 use Rattle.maid_app.specs.Evidence.{KeepsAllBounds, TellsBoundGiven}
 use Rattle.maid_app.specs.Evidence as evidence
-use Rattle.maid_app.specs.Lines.{bound_line}
+use Rattle.maid_app.specs.Lines.{bound_line, unknown_node_line, unknown_state_line}
 use Rattle.maid_app.specs.Moved.{KeepsMovedBound, TellsMovedBound}
-use Rattle.maid_app.specs.Stages.{TellsBound, AtNode, AtUtilities}
+use Rattle.maid_app.specs.Outcome.{refused}
+use Rattle.maid_app.specs.Reading.{found_by}
+use Rattle.maid_app.specs.Stages.{TellsBound, AtNode, AtUtilities, name_stages}
+use Rattle.maid_app.specs.declared.status.Status.TheVariants.{UnknownNode, UnknownState}
 
 -- ---- one place
-one_place : (names : List (List ℕ)) (name : List ℕ) (a b : ℕ) → IsFirstPlace names name a → IsFirstPlace names name b → (a ≢ b → ⊥) → a ≡ b
-one_place names name a b is other same = omega (arith, same)
+not_before : (names : List (List ℕ)) (name : List ℕ) (a b : ℕ) → IsFirstPlace names name a → IsFirstPlace names name b → a < b → ⊥
+not_before names name a b is other less = other.first a less is.here
 
-first_is_one : (names : List (List ℕ)) (name : List ℕ) (a b : ℕ) → IsFirstPlace names name a → IsFirstPlace names name b → a ≡ b
-first_is_one names name a b is other = one_place names name a b is other (λ differ. apart differ)
+pub first_is_one : (names : List (List ℕ)) (name : List ℕ) (a b : ℕ) → IsFirstPlace names name a → IsFirstPlace names name b → a ≡ b
+first_is_one names name a b is other =
+    let up = not_before names name a b is other in
+    let down = not_before names name b a other is in
+    by (dec_lt a b) (dec_lt b a) up down
   where
-    less : a < b → ⊥
-    less l = other.first a l is.here
-
-    more : b < a → ⊥
-    more l = is.first b l other.here
-
-    apart : a ≢ b → ⊥
-    apart differ = let no = less in let nor = more in omega (arith, no, nor, differ)
+    by : Dec (a < b) → Dec (b < a) → (a < b → ⊥) → (b < a → ⊥) → a ≡ b
+    by (yes l) c up down = absurd (up l)
+    by (no n) (yes l) up down = absurd (down l)
+    by (no n) (no m) up down = omega (arith, n, m)
 
 state_place : ℕ → ℕ → StatePlace
 state_place node state = record { node = node; state = state }
 
 pub same_state : (d : DiagramView) (names : NamesView) (node state : List ℕ) (p q : StatePlace) → IsStatePlace d names node state p → IsStatePlace d names node state q → p ≡ q
+unfolding state_place
 same_state d names node state p q is other =
     let x : p.node ≡ q.node = first_is_one names.nodes node p.node q.node is.node.first other.node.first in
     let s : p.state ≡ q.state = first_is_one (labels_of names q.node) state p.state q.state (subst (λ v. IsFirstPlace (labels_of names v) state p.state) x is.state) other.state in
     ap (λ v. state_place v p.state) x ∙ ap (state_place q.node) s
+
+-- a name that no chance node has is an unknown one, and so is a label of no state of the node
+module _ (d : DiagramView) (names : NamesView) (node state told : List ℕ) where
+  pub unknown_node_found : (HasChanceNode d names node → ⊥) → told ≡ unknown_node_line node → found_by d names (name_stages node state) (Some (refused UnknownNode told))
+  unknown_node_found unknown says name bytes is = let x : NamedDiagram = record { d = d; names = names } in inl (x, is, (refl, record { unknown = unknown; says = says }))
+
+  pub unknown_state_found : (x : ℕ) → IsChanceNode d names node x → ((s : ℕ) → IsFirstPlace (labels_of names x) state s → ⊥) → told ≡ unknown_state_line state
+      → found_by d names (name_stages node state) (Some (refused UnknownState told))
+  unknown_state_found x at none says name bytes is =
+      let y : NamedDiagram = record { d = d; names = names } in
+      inr ((y, is, (x, at)), inl (y, is, (refl, record { unknown = λ has. elsewhere has.0 has.1; says = says })))
+    where
+      elsewhere : (p : StatePlace) → IsStatePlace d names node state p → ⊥
+      elsewhere p there =
+          let same : p.node ≡ x = first_is_one names.nodes node p.node x there.node.first at.first in
+          none p.state (subst (λ v. IsFirstPlace (labels_of names v) state p.state) same there.state)
 
 -- ---- bounds
 -- the bound of a decision's scope fails, or that of an agent's, so not all hold

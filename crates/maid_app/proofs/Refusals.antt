@@ -61,6 +61,16 @@ found_behind : (name bytes : List ℕ) (front back : List Stage) (f : Refused) �
 found_behind name bytes [] back f clear found = found
 found_behind name bytes (s ∷ front) back f clear found = inr (clear.0, found_behind name bytes front back f clear.1 found)
 
+-- and what an earlier one finds counts in any case
+found_before : (name bytes : List ℕ) (front back : List Stage) (f : Refused) → each (λ s. Finds s (name, bytes)) front (Some f) → each (λ s. Finds s (name, bytes)) (front ++ back) (Some f)
+found_before name bytes [] back f found = absurd found
+found_before name bytes (s ∷ front) back f (inl found) = inl found
+found_before name bytes (s ∷ front) back f (inr found) = inr (found.0, found_before name bytes front back f found.1)
+
+pub before : (front back : List Stage) (name bytes : List ℕ) (refusal : Refusal) → TellsStages front name bytes refusal → TellsStages (front ++ back) name bytes refusal
+before front back name bytes refusal h =
+    found_too (each (λ s. Finds s (name, bytes)) front) (each (λ s. Finds s (name, bytes)) (front ++ back)) (λ f found. found_before name bytes front back f found) (refused_as refusal) h
+
 -- so what stages find in a diagram, they find behind others that find nothing in its bytes
 pub behind : (front back : List Stage) (name bytes : List ℕ) (d : DiagramView) (names : NamesView) (refusal : Refusal) → IsDiagramOf bytes d names → each (λ s. Finds s (name, bytes)) front None
     → IsFoundIfAny (found_by d names back) (refused_as refusal) → TellsStages (front ++ back) name bytes refusal

@@ -31,7 +31,7 @@ size_of d cells work (inr (order, inl h)) = absurd h
 size_of d cells work (inr (order, inr (bound, h))) = (order, bound, h)
 
 -- a scope lists nodes alone
-place_in_scope : (nodes : List NodeView) (of : List ℕ) (factor : ℕ → ℕ) (v : ℕ) → PassesInScope factor (with_ancestors nodes of) v → v < length nodes
+pub place_in_scope : (nodes : List NodeView) (of : List ℕ) (factor : ℕ → ℕ) (v : ℕ) → PassesInScope factor (with_ancestors nodes of) v → v < length nodes
 place_in_scope nodes of factor v passes = numbered nodes v (among_filter (leads_to nodes of) v (numbers_of nodes) (among_of v (with_ancestors nodes of) passes.listed)).0
 
 -- so the place at which the weight bound is passed is a node

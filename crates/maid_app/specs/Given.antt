@@ -25,25 +25,34 @@ shows count [] row x state = false
 shows count (u ∷ us) row x state =
     if u == x then row / rows_under count us == state else shows count us (row % rows_under count us) x state
 
--- the rows from that number on in which the decision sees x with the state
+-- a row's line where the decision sees x with the state in it
+abbrev pub row_given : List NodeView → NamesView → ℕ → ℕ → ℕ → ℕ → Row → List ℕ
+row_given nodes names x state d number row =
+    if shows (states_of nodes) (parents_of nodes d) number x state then row_line nodes names d number row else []
+
+-- these lines from that number on
 abbrev pub rows_given : List NodeView → NamesView → ℕ → ℕ → ℕ → ℕ → List Row → List ℕ
 rows_given nodes names x state d number [] = []
 rows_given nodes names x state d number (row ∷ rows) =
-    (if shows (states_of nodes) (parents_of nodes d) number x state then row_line nodes names d number row else [])
-    ++ rows_given nodes names x state d (number + 1) rows
+    row_given nodes names x state d number row ++ rows_given nodes names x state d (number + 1) rows
 
 -- a decision's line, and then these rows
 abbrev pub decision_given : List NodeView → NamesView → ℕ → ℕ → AnswerView → List ℕ
 decision_given nodes names x state answer =
     decision_head nodes names answer.decision ++ rows_given nodes names x state answer.decision 0 answer.rows
 
--- the evidence, the order of solving, each decision with the rows in which it sees the evidence, and
--- each agent's conditional expected utility
-abbrev pub given_text : DiagramView → NamesView → ℕ → ℕ → SolvedView → List Ratio → List ℕ
-given_text d names x state solved gains =
+-- the evidence and the order of solving
+abbrev pub given_front : NamesView → ℕ → ℕ → List ℕ → List ℕ
+given_front names x state order =
     line (codes "maidsolve given 1")
     ++ line (codes "given " ++ name_of names x ++ codes " = " ++ quoted (label_of names x state))
-    ++ names_line (codes "order:") names solved.order
+    ++ names_line (codes "order:") names order
+
+-- these, each decision with the rows in which it sees the evidence, and each agent's conditional expected
+-- utility
+abbrev pub given_text : DiagramView → NamesView → ℕ → ℕ → SolvedView → List Ratio → List ℕ
+given_text d names x state solved gains =
+    given_front names x state solved.order
     ++ flat_map (decision_given d.nodes names x state) solved.answers
     ++ gain_lines names 0 gains
 

@@ -1,6 +1,6 @@
 -- What the words of a command line ask for.
-use Rattle.std.specs.Prelude.{ℕ, ◌+◌, ◌-◌, ◌*◌, ◌==◌, ◌&&◌, ◌||◌, not, nat_lt, Bool, List, [], ◌∷◌, Option, None, Some, String, string_bytes, codes, decimal, find, fold, length, map, slice_index, if◌then◌else◌}
-use Rattle.net_lexer.specs.Bytes.{is_digit}
+use Rattle.std.specs.Prelude.{ℕ, ◌+◌, ◌-◌, ◌*◌, ◌==◌, ◌&&◌, ◌||◌, not, nat_le, nat_lt, Bool, List, [], ◌∷◌, Option, None, Some, String, string_bytes, codes, decimal, find, fold, length, map, slice_index, if◌then◌else◌}
+use Rattle.std.specs.Char.{is_ascii_digit}
 use Rattle.std.specs.List.{list_all, range_with_len}
 use Rattle.std.specs.Option.{option_map}
 use Rattle.std.specs.Str.{bytes_eq}
@@ -66,10 +66,13 @@ request_by_words word next last =
     else (if bytes_eq word (codes "info") then Some (info next last)
     else (if bytes_eq word (codes "control") then Some (control next last) else None))
 
--- The number that a row's word is: one to five digits, of which the first is 0 only where it stands
--- alone.
+-- one to five bytes, of which the first is the digit 0 only where it stands alone
+abbrev pub is_row_size : List ℕ → Bool
+is_row_size word = nat_lt 0 (length word) && (nat_le (length word) 5 && ((length word == 1) || not (slice_index word 0 == 48)))
+
+-- the number of a row in decimal digits
 abbrev pub is_row_word : List ℕ → Bool
-is_row_word word = list_all is_digit word && (nat_lt 0 (length word) && (nat_lt (length word) 6 && ((length word == 1) || not (slice_index word 0 == 48))))
+is_row_word word = is_row_size word && list_all is_ascii_digit word
 
 abbrev pub number_of : List ℕ → ℕ
 number_of word = fold (λ n digit. n * 10 + (digit - 48)) 0 word

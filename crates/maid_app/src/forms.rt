@@ -1,12 +1,14 @@
 //! The forms of words, each with a module that makes its text.
 
 ghost use Rattle.std.specs.Prelude.{◌≡◌, ◌<◌, Ok, IfOk, IfErr, decimal};
+ghost use Rattle.std.specs.Char.{is_ascii_digit};
+ghost use Rattle.std.specs.List.{list_all};
 ghost use Rattle.std.specs.Option.{option_map};
 ghost use Rattle.std.specs.Str.{bytes_eq};
 ghost use Rattle.maid_app.specs.Answers.{Answers};
 ghost use Rattle.maid_app.specs.Outcome.{done_with};
 ghost use Rattle.maid_app.specs.Reading.{TellsOf};
-ghost use Rattle.maid_app.specs.Request.{is_row_word, request_by_evidence, request_by_row, request_by_word, request_by_words, requested, row_of, stages_of};
+ghost use Rattle.maid_app.specs.Request.{is_row_size, is_row_word, request_by_evidence, request_by_row, request_by_word, request_by_words, requested, row_of, stages_of};
 ghost use Rattle.maid_app.specs.Form.{request_by, text_request_by};
 
 mod asking;
@@ -216,14 +218,28 @@ fn form_by_words<'a>(word: &str, next: &'a str, last: &'a str) -> Option<Form<'a
     }
 }
 
-// Tells whether the word has one to five digits, of which the first is 0 only where it stands alone.
+// Tells whether the word has one to five bytes, of which the first is 0 only where it stands alone.
+fn is_row_size(word: &[u8]) -> bool
+    ensures { result ≡ is_row_size word.now }
+{
+    if word.is_empty() || word.len() > 5 {
+        return false;
+    }
+    word.len() == 1 || word[0] != b'0'
+}
+
+// Tells whether all bytes are decimal digits.
+fn are_digits(word: &[u8]) -> bool
+    ensures { result ≡ list_all is_ascii_digit word.now }
+{
+    word.iter().all(|byte| byte.is_ascii_digit())
+}
+
+// Tells whether the word is the number of a row in decimal digits.
 fn is_row_word(word: &[u8]) -> bool
     ensures { result ≡ is_row_word word.now }
 {
-    word.iter().all(|byte| byte.is_ascii_digit())
-        && !word.is_empty()
-        && word.len() < 6
-        && (word.len() == 1 || word[0] != b'0')
+    is_row_size(word) && are_digits(word)
 }
 
 // The number of a row that the word is.
@@ -266,14 +282,15 @@ fn form_by_row<'a>(
     ensures { option_map request_by result ≡ request_by_row word.now file.now node.now row.now state.now }
 {
     match word {
-        "threshold" => row_of(row.as_bytes()).map(|number| {
-            Form::Text(TextForm::Threshold {
+        "threshold" => match row_of(row.as_bytes()) {
+            Some(row) => Some(Form::Text(TextForm::Threshold {
                 file,
                 node,
-                row: number,
+                row,
                 state,
-            })
-        }),
+            })),
+            None => None,
+        },
         _ => None,
     }
 }

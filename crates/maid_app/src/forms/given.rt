@@ -1,14 +1,14 @@
 //! `given F X S`: the answer of a diagram under evidence.
 
-ghost use Rattle.std.specs.Prelude.{◌≡◌, ◌≢◌, ◌<◌, ◌++◌, Bool, All, Ok, IfOk, IfErr, OnOk, length};
+ghost use Rattle.std.specs.Prelude.{◌≡◌, ◌<◌, ◌++◌, All, Ok, IfOk, IfErr, OnOk, length};
+ghost use Rattle.std.specs.List.{flat_map};
 ghost use Rattle.evidence.specs.Faults.{given_fault, given_pass};
 ghost use Rattle.first_fault.specs.Answers.{IsFaultOrNoMemory};
-ghost use Rattle.maid_model.specs.declared.diagrams.Kind.TheVariants.{Utility};
 ghost use Rattle.maid_model.specs.Answers.{FitsAnswer, FitsDiagram};
-ghost use Rattle.maid_model.specs.Names.{NamesFit};
-ghost use Rattle.maid_model.specs.Nodes.{IsDecision, node_at, parents_of, rows_of, states_of};
+ghost use Rattle.maid_model.specs.Names.{NamesFit, labels_of};
+ghost use Rattle.maid_model.specs.Nodes.{IsDecision, rows_of, rows_under, states_of};
 ghost use Rattle.maid_app.specs.Chances.{IsStatePlace};
-ghost use Rattle.maid_app.specs.Given.{conditioning, decision_given, evidence_stages, given_text, shows};
+ghost use Rattle.maid_app.specs.Given.{conditioning, decision_given, evidence_stages, given_front, given_text, row_given, shows};
 ghost use Rattle.maid_app.specs.Outcome.{done_with};
 ghost use Rattle.maid_app.specs.Reading.{TellsOf, found_by};
 ghost use Rattle.maid_app.specs.Refusal.{refused_as};
@@ -21,7 +21,7 @@ use crate::{Status, lines};
 use app_lines::{gain_lines, list_line};
 use evidence::{Conditioned, GivenFault, given};
 use line_pieces::push_quoted;
-use maid_model::{Answer, Diagram, Names};
+use maid_model::{Answer, Diagram, Names, Row};
 use report_text::{push_head, push_row};
 use std::alloc::{AllocError, Global};
 
@@ -70,23 +70,63 @@ fn refusal(
     }
 }
 
-// Whether the decision sees the node with the state in the row of that number.
-fn shows(diagram: &Diagram, place: StatePlace, decision: usize, number: usize) -> bool
-    requires decision { IsDecision diagram.now.nodes decision }
-    requires number { number < rows_of diagram.now.nodes decision }
-    ensures { result ≡ shows (states_of diagram.now.nodes) (parents_of diagram.now.nodes decision) number
-        place.node place.state }
+// How many states the node has, at least one.
+fn states_of(diagram: &Diagram, node: usize) -> usize
+    requires { node < length diagram.now.nodes }
+    ensures states { result ≡ states_of diagram.now.nodes node }
+    ensures some { 0 < result }
 {
-    let mut cells = diagram.rows(decision);
+    diagram.node(node).states
+}
+
+// Whether under these parents the node is one, and in its state, in the row of that number. `rows` counts the rows.
+fn shows(
+    diagram: &Diagram,
+    parents: &[usize],
+    rows: usize,
+    number: usize,
+    place: StatePlace,
+) -> bool
+    requires parents { All (λ u. u < length diagram.now.nodes) parents.now }
+    requires rows { rows ≡ rows_under (states_of diagram.now.nodes) parents.now }
+    requires number { number < rows }
+    ensures { result ≡ shows (states_of diagram.now.nodes) parents.now number place.node place.state }
+{
+    let mut below = rows;
     let mut rest = number;
-    for u in diagram.parents(decision) {
-        cells /= diagram.states(*u);
-        if *u == place.node {
-            return rest / cells == place.state;
+    for parent in parents {
+        below /= states_of(diagram, *parent);
+        if *parent == place.node {
+            return rest / below == place.state;
         }
-        rest %= cells;
+        rest %= below;
     }
     false
+}
+
+// Appends the line of a row where the decision sees the evidence in it.
+fn push_row_given(
+    out: &mut Vec<u8>,
+    diagram: &Diagram,
+    names: &Names,
+    place: StatePlace,
+    decision: usize,
+    number: usize,
+    row: &Row,
+) -> Result<(), AllocError>
+    requires fit { NamesFit diagram.now names.now }
+    requires decision { IsDecision diagram.now.nodes decision }
+    requires number { number < rows_of diagram.now.nodes decision }
+    requires choice { row.now.choice < states_of diagram.now.nodes decision }
+    ensures { OnOk result (out.new.items ≡ out.old.items
+        ++ row_given diagram.now.nodes names.now place.node place.state decision number row.now) }
+{
+    let parents = diagram.parents(decision);
+    let rows = diagram.rows(decision);
+    if !shows(diagram, parents, rows, number, place) {
+        return Ok(());
+    }
+    push_row(out, diagram, names, decision, rows, number, row)
 }
 
 // Appends the line of a decision, and those of its rows in which it sees the evidence.
@@ -102,18 +142,55 @@ fn push_decision(
     ensures { OnOk result (out.new.items ≡ out.old.items
         ++ decision_given diagram.now.nodes names.now place.node place.state answer.now) }
 {
-    let decision = answer.decision;
-    let rows = answer.rows.len();
-    push_head(out, diagram, names, decision)?;
+    push_head(out, diagram, names, answer.decision)?;
     for (number, row) in answer.rows.iter().enumerate() {
-        if shows(diagram, place, decision, number) {
-            push_row(out, diagram, names, decision, rows, number, row)?;
-        }
+        push_row_given(out, diagram, names, place, answer.decision, number, row)?;
     }
     Ok(())
 }
 
-// The evidence, the order of solving, the decisions with what they see of it, and the agents' lines.
+// Appends these lines of each answered decision.
+fn push_decisions(
+    out: &mut Vec<u8>,
+    diagram: &Diagram,
+    names: &Names,
+    place: StatePlace,
+    answers: &[Answer],
+) -> Result<(), AllocError>
+    requires fit { NamesFit diagram.now names.now }
+    requires answers { All (FitsAnswer diagram.now.nodes) answers.now }
+    ensures { OnOk result (out.new.items ≡ out.old.items
+        ++ flat_map (decision_given diagram.now.nodes names.now place.node place.state) answers.now) }
+{
+    for answer in answers {
+        push_decision(out, diagram, names, place, answer)?;
+    }
+    Ok(())
+}
+
+// The evidence and the order of solving.
+fn given_front(
+    alloc: Global,
+    names: &Names,
+    place: StatePlace,
+    order: &[usize],
+) -> Result<Vec<u8>, AllocError>
+    requires node { place.node < length names.now.nodes }
+    requires labels { place.node < length names.now.labels }
+    requires state { place.state < length (labels_of names.now place.node) }
+    requires order { All (λ v. v < length names.now.nodes) order.now }
+    ensures { IfOk result (λ text. text.items ≡ given_front names.now place.node place.state order.now) }
+{
+    let mut text = Vec::from_slice(alloc, b"maidsolve given 1\ngiven ")?;
+    text.extend_from_slice(names.name(place.node))?;
+    text.extend_from_slice(b" = ")?;
+    push_quoted(&mut text, names.label(place.node, place.state))?;
+    text.push(b'\n')?;
+    text.extend_from_slice(&list_line(alloc, names, b"order:", order)?)?;
+    Ok(text)
+}
+
+// These, the decisions with what they see of the evidence, and the agents' lines.
 fn given_text(
     alloc: Global,
     names: &Names,
@@ -121,23 +198,23 @@ fn given_text(
     conditioned: &Conditioned,
 ) -> Result<Vec<u8>, AllocError>
     requires fit { NamesFit conditioned.now.diagram names.now }
-    requires node { place.node < length conditioned.now.diagram.nodes }
-    requires kind { (node_at conditioned.now.diagram.nodes place.node).kind ≢ Utility }
-    requires state { place.state < states_of conditioned.now.diagram.nodes place.node }
+    requires node { place.node < length names.now.nodes }
+    requires labels { place.node < length names.now.labels }
+    requires state { place.state < length (labels_of names.now place.node) }
     requires answers { FitsDiagram conditioned.now.diagram conditioned.now.solved }
-    requires gains { length conditioned.now.gains ≡ conditioned.now.diagram.agents }
+    requires gains { length conditioned.now.gains.items ≡ conditioned.now.diagram.agents }
     ensures { IfOk result (λ text. text.items ≡ given_text conditioned.now.diagram names.now place.node place.state
-        conditioned.now.solved conditioned.now.gains) }
+        conditioned.now.solved conditioned.now.gains.items) }
 {
-    let mut text = Vec::from_slice(alloc, b"maidsolve given 1\ngiven ")?;
-    text.extend_from_slice(names.name(place.node))?;
-    text.extend_from_slice(b" = ")?;
-    push_quoted(&mut text, names.label(place.node, place.state))?;
-    text.push(b'\n')?;
-    text.extend_from_slice(&list_line(alloc, names, b"order:", &conditioned.solved.order)?)?;
-    for answer in &conditioned.solved.answers {
-        push_decision(&mut text, &conditioned.diagram, names, place, answer)?;
-    }
+    let solved = &conditioned.solved;
+    let mut text = given_front(alloc, names, place, &solved.order)?;
+    push_decisions(
+        &mut text,
+        &conditioned.diagram,
+        names,
+        place,
+        &solved.answers,
+    )?;
     text.extend_from_slice(&gain_lines(alloc, names, &conditioned.gains)?)?;
     Ok(text)
 }

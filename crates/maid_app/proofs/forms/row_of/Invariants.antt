@@ -1,0 +1,7 @@
+use Rattle.std.proofs.Common.{◌≡◌, ◌<◌, ◌^◌, take}
+use Rattle.maid_app.specs.Request.{number_of}
+use Rattle.maid_app.proofs.forms.row_of.Given as goal
+
+-- the number of the digits so far
+abbrev pub invariant-loop-byte : goal.invariant-loop-byte
+invariant-loop-byte l = (l.row ≡ number_of (take l.byte-index l.word)) × (l.row < 10 ^ l.byte-index)
