@@ -22,7 +22,10 @@ import os
 import sys
 
 # The first words of the forms that `maid_app::run` has.
-FORMS = ["solve", "check", "graph", "print", "trim", "info", "control", "demo"]
+FORMS = [
+    "solve", "graph", "print", "check", "trim", "info", "control", "demo", "pure", "update", "given",
+    "threshold",
+]
 
 # The first words of all forms, those to come too. A row of other words must end with the usage line.
 ALL_FORMS = [

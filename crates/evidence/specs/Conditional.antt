@@ -17,6 +17,10 @@ pub record HasGainsGiven (d : DiagramView) (p : List RuleView) (x state n : ℕ)
   pub each : (agent : ℕ) (r : Ratio) → agent < n → IsExpectedGiven d.nodes (10 ^ d.decimals) p agent x state (slice_index_or gains agent r)
   pub reduced : All IsReduced gains
 
+-- and to all agents
+abbrev pub HasAllGains : DiagramView → List RuleView → ℕ → ℕ → List Ratio → Type 0
+HasAllGains d p x state gains = HasGainsGiven d p x state d.agents gains
+
 -- the worlds with this state at x weigh nought under every profile
 pub record IsImpossible (nodes : List NodeView) (x state : ℕ) : Type 0 where
   pub each : (p : List RuleView) → IsProfile nodes p → mass_given nodes p x state ≡ pos 0
@@ -28,7 +32,7 @@ profile_seeing d x solved = answered (all_seeing_diagram d x) solved
 
 -- what an answer of the diagram is worth to each agent, given this state of x
 abbrev pub IsWorthIn : DiagramView → ℕ → ℕ → SolvedView → List Ratio → Type 0
-IsWorthIn d x state solved gains = HasGainsGiven d (answered d solved) x state d.agents gains
+IsWorthIn d x state solved gains = HasAllGains d (answered d solved) x state gains
 
 -- the same, where every decision sees x
 abbrev pub IsWorthGiven : DiagramView → ℕ → ℕ → SolvedView → List Ratio → Type 0

@@ -10,6 +10,10 @@ use Rattle.size_precheck.specs.declared.sizes.Size.{Size}
 use Rattle.size_precheck.specs.Sizes.{HasSize, IsSizeOfRun}
 use Rattle.evidence.specs.Sizes.{plan_given}
 
+-- the greater cells of two sizes, and their work together, which stops
+abbrev pub joined_size : Size → Size → Size
+joined_size size other = record { cells = max size.cells other.cells; work = stopped (size.work + other.work) }
+
 -- the size with one plan more
 pub record AddsPlan (nodes : List NodeView) (plan : PlanView) (before after : Size) : Type 0 where
   pub size : Size

@@ -1,5 +1,5 @@
 -- Which decisions don't see x, and the limits of one decision's rule. Only private functions cite it.
-use Rattle.std.specs.Prelude.{◌≡◌, ℕ, ◌≤◌, Bool, ◌&&◌, not, ◌==◌, List, length, Option, MatchOption}
+use Rattle.std.specs.Prelude.{◌≡◌, ℕ, ◌≤◌, Bool, ◌&&◌, not, ◌==◌, if◌then◌else◌, List, [], ◌∷◌, ◌++◌, length, Option, MatchOption}
 use Rattle.std.specs.List.{list_any}
 use Rattle.maid_model.specs.declared.limits.TheConstants.{MOST_CELLS, MOST_PARENTS}
 use Rattle.maid_model.specs.Nodes.{IsDecision, is_decision, node_at, parents_of}
@@ -9,6 +9,10 @@ use Rattle.diagram_graph.specs.Room.{cells_at, rule_cells_at}
 -- v is a decision that doesn't see x
 abbrev pub adds : List NodeView → ℕ → ℕ → Bool
 adds nodes x v = is_decision (node_at nodes v).kind && not (list_any (λ u. u == x) (node_at nodes v).parents)
+
+-- the parents, and x behind them where it is added
+abbrev pub parents_with : Bool → List ℕ → ℕ → List ℕ
+parents_with added parents x = if added then parents ++ x ∷ [] else parents
 
 -- if v is a decision, its parents and the cells of its rule are not too many
 pub record KeepsOwnRule (nodes : List NodeView) (v : ℕ) : Type 0 where

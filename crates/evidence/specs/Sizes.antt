@@ -4,11 +4,12 @@ use Rattle.maid_model.specs.declared.diagrams.Kind.TheVariants.{Utility}
 use Rattle.maid_model.specs.Nodes.{node_at}
 use Rattle.maid_model.specs.Placing.{IsRelianceOrder}
 use Rattle.maid_model.specs.Views.{NodeView, DiagramView}
+use Rattle.factor_core.specs.Slots.{WorkspaceView}
 use Rattle.plan_sums.specs.Plans.{PlanView}
 use Rattle.size_precheck.specs.declared.sizes.Size.{Size}
 use Rattle.size_precheck.specs.Sizes.{IsSizeOfAll, run_plans, utility_list}
 use Rattle.rule_solver.specs.Faults.{KeepsSizes}
-use Rattle.rule_solver.specs.Rooms.{HasAtMost}
+use Rattle.rule_solver.specs.Rooms.{HasAtMost, IsReady}
 
 -- the plan that keeps x, perhaps with a utility: without one it sums to the weight of the worlds with a state at x
 abbrev pub plan_given : ℕ → Option ℕ → PlanView
@@ -22,11 +23,15 @@ further_plans nodes x = plan_given x None ∷ map (λ u. plan_given x (Some u)) 
 abbrev pub plans_given : List NodeView → List ℕ → ℕ → List PlanView
 plans_given nodes order x = run_plans nodes order ++ further_plans nodes x
 
+-- this is the size of all plans in this order
+abbrev pub IsSizeOfPlans : List NodeView → List ℕ → ℕ → Size → Type 0
+IsSizeOfPlans nodes order x size = IsSizeOfAll nodes (plans_given nodes order x) size
+
 -- this is the size of all plans, where x is given
 pub record IsSizeGiven (d : DiagramView) (x : ℕ) (size : Size) : Type 0 where
   pub order : List ℕ
   pub is_order : IsRelianceOrder d.nodes order
-  pub is_size : IsSizeOfAll d.nodes (plans_given d.nodes order x) size
+  pub is_size : IsSizeOfPlans d.nodes order x size
 
 -- no plan has too many cells, and all of them together have not too much work
 abbrev pub IsSmallEnoughGiven : DiagramView → ℕ → Type 0
@@ -40,3 +45,10 @@ IsTooLargeGiven d x cells work = IsSizeGiven d x (record { cells = cells; work =
 pub record HasRoomGiven (nodes : List NodeView) (x cells : ℕ) : Type 0 where
   pub alone : HasAtMost nodes (plan_given x None) cells
   pub utilities : (u : ℕ) → u < length nodes → (node_at nodes u).kind ≡ Utility → HasAtMost nodes (plan_given x (Some u)) cells
+
+-- the workspace has no table, and room for the plan, or for each of the further plans
+abbrev pub HasSpaceFor : {C : Type 0} → List NodeView → PlanView → WorkspaceView C → Type 0
+HasSpaceFor nodes plan work = (cells : ℕ) × IsReady cells work × HasAtMost nodes plan cells
+
+abbrev pub HasSpace : {C : Type 0} → List NodeView → ℕ → WorkspaceView C → Type 0
+HasSpace nodes x work = (cells : ℕ) × IsReady cells work × HasRoomGiven nodes x cells

@@ -6,15 +6,28 @@ use Rattle.maid_model.specs.Answers.{IsFraction}
 use Rattle.maid_model.specs.Diagrams.{IsDiagram, greatest_number}
 use Rattle.maid_model.specs.Gains.{greatest_abs}
 use Rattle.maid_model.specs.Nodes.{is_utility_of, node_at, numbers_of, states_of}
+use Rattle.maid_model.specs.Profiles.{IsProfile}
 use Rattle.maid_model.specs.Scopes.{chance_factor}
 use Rattle.maid_model.specs.Views.{NodeView, DiagramView, RuleView}
 use Rattle.node_sets.specs.declared.sets.NodeSet.{NodeSet}
 use Rattle.node_sets.specs.Sets.{holds, IsIn}
 use Rattle.finite_sums.specs.Sums.{World, InRange, nat_product_over, sum_each}
+use Rattle.part_laws.specs.ScopeLaws.{HasUnitRules}
 use Rattle.plan_sums.specs.Plans.{gain_cells, mass_cells, plan_sum}
 use Rattle.scope_sums.specs.Missing.{lacking_in}
 use Rattle.weight_scale.specs.Given.{bound_given, product_given, scope_given}
+use Rattle.evidence.specs.declared.stakes.Stake.{Stake}
+use Rattle.evidence.specs.Bounds.{KeepsBoundsGiven}
 use Rattle.evidence.specs.Sizes.{plan_given}
+
+-- a chance node or decision x with this state, and a profile of pure rules, within the bounds of the further scopes
+pub record IsSetting (d : DiagramView) (p : List RuleView) (x state : ℕ) : Type 0 where
+  pub within : x < length d.nodes
+  pub kind : (node_at d.nodes x).kind ≢ Utility
+  pub has_state : state < states_of d.nodes x
+  pub profile : IsProfile d.nodes p
+  pub rules : HasUnitRules d.nodes p
+  pub bounds : KeepsBoundsGiven d x
 
 -- ---- what plans sum to
 -- the weight is what the plan without a utility sums to at this state of x
@@ -24,6 +37,10 @@ IsMassAt nodes p x state mass = (q : World) → InRange (states_of nodes) q → 
 -- the worth is what the utility's plan sums to there
 abbrev pub IsWorthAt : List NodeView → List RuleView → ℕ → ℕ → ℕ → ℤ → Type 0
 IsWorthAt nodes p x state u worth = (q : World) → InRange (states_of nodes) q → q x ≡ state → worth ≡ plan_sum gain_cells nodes p (plan_given x (Some u)) q
+
+-- the same if u is a utility
+abbrev pub IsWorthIf : List NodeView → List RuleView → ℕ → ℕ → ℕ → ℤ → Type 0
+IsWorthIf nodes p x state u worth = (node_at nodes u).kind ≡ Utility → IsWorthAt nodes p x state u worth
 
 -- the list has the worth of each utility
 pub record HasWorthsAt (nodes : List NodeView) (p : List RuleView) (x state : ℕ) (worths : List ℤ) : Type 0 where
@@ -65,3 +82,21 @@ pub record IsStake (d : DiagramView) (x agent mass : ℕ) (worths : List ℤ) (s
 -- the agent's gain over the weight, in the agent's scope, in lowest terms
 abbrev pub IsScopeFraction : DiagramView → ℕ → ℕ → ℕ → List ℤ → Ratio → Type 0
 IsScopeFraction d x agent mass worths r = IsFraction r (scope_gain d.nodes x agent worths) (scope_mass d.nodes x agent mass * 10 ^ d.decimals)
+
+-- ---- of a stake as the program has it
+abbrev pub HoldsStake : Stake → Type 0
+HoldsStake s = IsStake s.diagram.now s.node s.agent s.mass s.worths.now s.scope
+
+-- what a node gives to its agent's gain
+abbrev pub gives_to : Stake → ℕ → ℤ
+gives_to s v = gain_from s.diagram.now.nodes s.node s.agent s.worths.now v
+
+-- its agent's gain, the weight of the worlds, and the fraction of the two
+abbrev pub gain_to : Stake → ℤ
+gain_to s = scope_gain s.diagram.now.nodes s.node s.agent s.worths.now
+
+abbrev pub mass_to : Stake → ℕ
+mass_to s = scope_mass s.diagram.now.nodes s.node s.agent s.mass
+
+abbrev pub IsFractionTo : Stake → Ratio → Type 0
+IsFractionTo s r = IsScopeFraction s.diagram.now s.node s.agent s.mass s.worths.now r

@@ -64,21 +64,23 @@ fn condition(
 /// and each agent's expected utility is conditional: its gain over the worlds in which the node
 /// has the state, over their weight.
 ///
-/// It makes a copy of the diagram and finds its relevance graph; measures and solves it as
-/// `rule_solver::solve` does, which finds and measures the same again; and makes, measures and
-/// runs one plan more that keeps the node, and one for each utility. It reserves one workspace of
-/// each kind with the most cells of a plan.
+/// It copies the diagram and finds its relevance graph, and solves the copy as `rule_solver::solve`
+/// does, which finds the graph and measures the run again. Beside the plans of the run there is one
+/// that keeps the node, and one that keeps it with each utility: each is made twice, once for its
+/// size and once to run it. After the solver's two workspaces it reserves two more, with the most
+/// cells of a plan.
 ///
 /// # Errors
 ///
 /// The first of these that holds: `BelowDecision` where the node descends from a decision;
-/// `RulesTooLarge` where a decision would have more than 16 parents, its rule more than 65,536
-/// cells, or all rules together more than 262,144; then of the diagram in which every decision
-/// sees the node `Cycle` where its relevance graph has one, `WeightBound` where a scope passes
-/// the weight bound, and after all others a further scope, of an agent where the node is given;
-/// and `TooLarge` where a plan has more than 4,194,304 cells, or all plans together have more
-/// than 134,217,728 steps of work; and `Impossible` where the worlds in which the node has the
-/// state weigh nought. `NoMemory` may come at any point.
+/// `RulesTooLarge` where, with the node as a parent more, a decision has more than 16 parents, its
+/// rule more than 65,536 cells, or all rules together more than 262,144; then, of the diagram in
+/// which every decision sees the node, `Cycle` where its relevance graph has one; `WeightBound`
+/// where a scope of a run passes the weight bound, or else a further one, of what leads to the node
+/// or to an agent's utilities: one for each agent, and one where there is none; `TooLarge` where a
+/// plan has more than 4,194,304 cells, or all plans together more than 134,217,728 steps of work;
+/// and `Impossible` where the worlds in which the node has the state weigh nought. `NoMemory` may
+/// come at any point.
 pub fn given(
     alloc: Global,
     diagram: &Diagram,

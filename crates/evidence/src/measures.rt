@@ -1,14 +1,13 @@
 //! The sizes of the plans of a diagram under evidence.
 
-ghost use Rattle.std.specs.Prelude.{◌≡◌, ◌≢◌, ◌≤◌, ◌<◌, ◌+◌, max, length, IfOk};
+ghost use Rattle.std.specs.Prelude.{◌≡◌, ◌≢◌, ◌≤◌, ◌<◌, length, IfOk};
 ghost use Rattle.maid_model.specs.declared.diagrams.Kind.TheVariants.{Utility};
 ghost use Rattle.maid_model.specs.declared.limits.TheConstants.{COUNT_END};
-ghost use Rattle.maid_model.specs.Bounds.{stopped};
 ghost use Rattle.maid_model.specs.Nodes.{node_at};
 ghost use Rattle.maid_model.specs.Placing.{IsRelianceOrder};
-ghost use Rattle.size_precheck.specs.Sizes.{CanBePlanned, IsSizeOfAll};
-ghost use Rattle.evidence.specs.Measures.{AddsPlan, AddsUtility, HasRun};
-ghost use Rattle.evidence.specs.Sizes.{plan_given, plans_given};
+ghost use Rattle.size_precheck.specs.Sizes.{CanBePlanned};
+ghost use Rattle.evidence.specs.Measures.{AddsPlan, AddsUtility, HasRun, joined_size};
+ghost use Rattle.evidence.specs.Sizes.{IsSizeOfPlans, plan_given};
 
 use maid_model::{COUNT_END, Diagram, Kind};
 use size_precheck::{Size, make_plan, measure};
@@ -18,7 +17,7 @@ use std::alloc::{AllocError, Global};
 fn join_sizes(size: Size, other: Size) -> Size
     requires size { size.work ≤ COUNT_END }
     requires other { other.work ≤ COUNT_END }
-    ensures { result ≡ record { cells = max size.cells other.cells; work = stopped (size.work + other.work) } }
+    ensures { result ≡ joined_size size other }
 {
     Size {
         cells: size.cells.max(other.cells),
@@ -73,7 +72,7 @@ pub(crate) fn measure_given(
     requires order { IsRelianceOrder diagram.now.nodes order.now }
     requires within { node < length diagram.now.nodes }
     requires kind { (node_at diagram.now.nodes node).kind ≢ Utility }
-    ensures size { IfOk result (IsSizeOfAll diagram.now.nodes (plans_given diagram.now.nodes order.now node)) }
+    ensures size { IfOk result (IsSizeOfPlans diagram.now.nodes order.now node) }
     ensures run { IfOk result (HasRun diagram.now.nodes order.now) }
 {
     let run = measure(alloc, diagram, order)?;

@@ -1,6 +1,6 @@
 //! The diagram in which every decision sees one chance node.
 
-ghost use Rattle.std.specs.Prelude.{◌≡◌, ◌<◌, ◌↔◌, ◌++◌, [], ◌∷◌, true, length, IsTrue, IfOk, if◌then◌else◌};
+ghost use Rattle.std.specs.Prelude.{◌≡◌, ◌<◌, ◌↔◌, true, length, IsTrue, IfOk};
 ghost use Rattle.first_fault.specs.Answers.{Passes};
 ghost use Rattle.maid_model.specs.declared.diagrams.Kind.TheVariants.{Chance};
 ghost use Rattle.maid_model.specs.Diagrams.{IsDiagram};
@@ -8,7 +8,7 @@ ghost use Rattle.maid_model.specs.Nodes.{IsDecision, node_at};
 ghost use Rattle.reach_laws.specs.Evidence.{IsEvidence, all_seeing, all_seeing_diagram, seeing};
 ghost use Rattle.evidence.specs.Faults.{given_fault, sight_pass};
 ghost use Rattle.evidence.specs.Rules.{IsBelowDecision, KeepsRules};
-ghost use Rattle.evidence.specs.Sights.{TellsOwnCells, adds};
+ghost use Rattle.evidence.specs.Sights.{TellsOwnCells, adds, parents_with};
 
 use crate::faults::GivenFault;
 use maid_model::{Diagram, Kind, MOST_CELLS, MOST_PARENTS, MOST_RULE_CELLS, Node};
@@ -104,7 +104,7 @@ fn parents_seeing(
     node: usize,
     added: bool,
 ) -> Result<SmallVec<usize, 4, Global>, AllocError>
-    ensures { IfOk result (λ more. more.items ≡ (if added then parents.now ++ node ∷ [] else parents.now)) }
+    ensures { IfOk result (λ more. more.items ≡ parents_with added parents.now node) }
 {
     let mut more = SmallVec::from_slice(alloc, parents)?;
     if added {

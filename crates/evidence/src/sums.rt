@@ -1,20 +1,17 @@
 //! Conditional expected utilities by plans of elimination.
 
-ghost use Rattle.std.specs.Prelude.{◌≡◌, ◌≢◌, ◌<◌, ◌≤◌, ◌*◌, ◌^◌, ℕ, IfOk, OnOk, None, Some, length};
+ghost use Rattle.std.specs.Prelude.{◌≡◌, ◌<◌, ◌≤◌, IfOk, OnOk, None, Some, length};
 ghost use Rattle.first_fault.specs.Answers.{Passes};
 ghost use Rattle.maid_model.specs.declared.diagrams.Kind.TheVariants.{Utility};
 ghost use Rattle.maid_model.specs.declared.limits.TheConstants.{MOST_PLAN_CELLS};
 ghost use Rattle.maid_model.specs.Diagrams.{IsDiagram};
-ghost use Rattle.maid_model.specs.Nodes.{node_at, states_of};
-ghost use Rattle.maid_model.specs.Profiles.{IsProfile};
-ghost use Rattle.part_laws.specs.ScopeLaws.{HasUnitRules};
+ghost use Rattle.maid_model.specs.Nodes.{node_at};
 ghost use Rattle.reach_laws.specs.Evidence.{IsEvidence};
-ghost use Rattle.rule_solver.specs.Rooms.{HasAtMost, IsReady};
-ghost use Rattle.evidence.specs.Bounds.{KeepsBoundsGiven};
-ghost use Rattle.evidence.specs.Conditional.{HasGainsGiven};
+ghost use Rattle.rule_solver.specs.Rooms.{HasAtMost};
+ghost use Rattle.evidence.specs.Conditional.{HasAllGains};
 ghost use Rattle.evidence.specs.Faults.{given_fault, impossible_pass};
-ghost use Rattle.evidence.specs.Sizes.{HasRoomGiven, plan_given};
-ghost use Rattle.evidence.specs.Stakes.{HasWorthsAt, IsMassAt, IsWorthAt};
+ghost use Rattle.evidence.specs.Sizes.{HasRoomGiven, HasSpace, HasSpaceFor, plan_given};
+ghost use Rattle.evidence.specs.Stakes.{HasWorthsAt, IsMassAt, IsSetting, IsWorthAt, IsWorthIf};
 
 use crate::faults::GivenFault;
 use crate::stakes::Stake;
@@ -38,12 +35,7 @@ fn mass_at(
     state: usize,
     cells: usize,
 ) -> Result<u128, AllocError>
-    requires within { node < length diagram.now.nodes }
-    requires kind { (node_at diagram.now.nodes node).kind ≢ Utility }
-    requires state { state < states_of diagram.now.nodes node }
-    requires profile { IsProfile diagram.now.nodes profile.now }
-    requires rules { HasUnitRules diagram.now.nodes profile.now }
-    requires bounds { KeepsBoundsGiven diagram.now node }
+    requires setting { IsSetting diagram.now profile.now node state }
     requires room { HasAtMost diagram.now.nodes (plan_given node None) cells }
     requires limit { cells ≤ MOST_PLAN_CELLS }
     ensures mass { IfOk result (IsMassAt diagram.now.nodes profile.now node state) }
@@ -67,15 +59,10 @@ fn worth_at(
     work: &mut Workspace<Gain>,
 ) -> Result<i128, AllocError>
     requires diagram { IsDiagram diagram.now }
-    requires within { node < length diagram.now.nodes }
-    requires kind { (node_at diagram.now.nodes node).kind ≢ Utility }
-    requires state { state < states_of diagram.now.nodes node }
+    requires setting { IsSetting diagram.now profile.now node state }
     requires utility_within { utility < length diagram.now.nodes }
     requires utility_kind { (node_at diagram.now.nodes utility).kind ≡ Utility }
-    requires profile { IsProfile diagram.now.nodes profile.now }
-    requires rules { HasUnitRules diagram.now.nodes profile.now }
-    requires bounds { KeepsBoundsGiven diagram.now node }
-    requires ready { (cells : ℕ) × IsReady cells work.old × HasAtMost diagram.now.nodes (plan_given node (Some utility)) cells }
+    requires ready { HasSpaceFor diagram.now.nodes (plan_given node (Some utility)) work.old }
     ensures worth { IfOk result (IsWorthAt diagram.now.nodes profile.now node state utility) }
     ensures again { OnOk result (work.new ≡ work.old) }
 {
@@ -96,15 +83,10 @@ fn worth_or_none(
     v: usize,
     work: &mut Workspace<Gain>,
 ) -> Result<i128, AllocError>
-    requires within { node < length diagram.now.nodes }
-    requires kind { (node_at diagram.now.nodes node).kind ≢ Utility }
-    requires state { state < states_of diagram.now.nodes node }
+    requires setting { IsSetting diagram.now profile.now node state }
     requires v_within { v < length diagram.now.nodes }
-    requires profile { IsProfile diagram.now.nodes profile.now }
-    requires rules { HasUnitRules diagram.now.nodes profile.now }
-    requires bounds { KeepsBoundsGiven diagram.now node }
-    requires ready { (cells : ℕ) × IsReady cells work.old × HasRoomGiven diagram.now.nodes node cells }
-    ensures worth { IfOk result (λ worth. (node_at diagram.now.nodes v).kind ≡ Utility → IsWorthAt diagram.now.nodes profile.now node state v worth) }
+    requires ready { HasSpace diagram.now.nodes node work.old }
+    ensures worth { IfOk result (IsWorthIf diagram.now.nodes profile.now node state v) }
     ensures again { OnOk result (work.new ≡ work.old) }
 {
     match diagram.kind(v) {
@@ -122,15 +104,10 @@ fn list_worths(
     state: usize,
     cells: usize,
 ) -> Result<Vec<i128>, AllocError>
-    requires within { node < length diagram.now.nodes }
-    requires kind { (node_at diagram.now.nodes node).kind ≢ Utility }
-    requires state { state < states_of diagram.now.nodes node }
-    requires profile { IsProfile diagram.now.nodes profile.now }
-    requires rules { HasUnitRules diagram.now.nodes profile.now }
-    requires bounds { KeepsBoundsGiven diagram.now node }
+    requires setting { IsSetting diagram.now profile.now node state }
     requires room { HasRoomGiven diagram.now.nodes node cells }
     requires limit { cells ≤ MOST_PLAN_CELLS }
-    ensures worths { IfOk result (λ worths. HasWorthsAt diagram.now.nodes profile.now node state worths.items) }
+    ensures { IfOk result (λ v. HasWorthsAt diagram.now.nodes profile.now node state v.items) }
 {
     let mut work = Workspace::reserve(alloc, cells)?;
     let mut worths = Vec::with_capacity(alloc, diagram.count())?;
@@ -151,17 +128,12 @@ fn list_gains(
     mass: u128,
     cells: usize,
 ) -> Result<Vec<Ratio>, AllocError>
-    requires within { node < length diagram.now.nodes }
-    requires kind { (node_at diagram.now.nodes node).kind ≢ Utility }
-    requires state { state < states_of diagram.now.nodes node }
-    requires profile { IsProfile diagram.now.nodes profile.now }
-    requires rules { HasUnitRules diagram.now.nodes profile.now }
-    requires bounds { KeepsBoundsGiven diagram.now node }
+    requires setting { IsSetting diagram.now profile.now node state }
     requires room { HasRoomGiven diagram.now.nodes node cells }
     requires limit { cells ≤ MOST_PLAN_CELLS }
     requires mass { IsMassAt diagram.now.nodes profile.now node state mass }
     requires positive { 0 < mass }
-    ensures gains { IfOk result (λ v. HasGainsGiven diagram.now profile.now node state diagram.now.agents v.items) }
+    ensures gains { IfOk result (λ v. HasAllGains diagram.now profile.now node state v.items) }
 {
     scopes_of_evidence();
     let worths = list_worths(alloc, diagram, profile, node, state, cells)?;
@@ -191,16 +163,12 @@ pub(crate) fn gains_given(
     state: usize,
     cells: usize,
 ) -> Result<Vec<Ratio>, GivenFault>
-    requires within { node < length diagram.now.nodes }
+    requires setting { IsSetting diagram.now profile.now node state }
     requires evidence { IsEvidence diagram.now.nodes node }
-    requires state { state < states_of diagram.now.nodes node }
-    requires profile { IsProfile diagram.now.nodes profile.now }
-    requires rules { HasUnitRules diagram.now.nodes profile.now }
-    requires bounds { KeepsBoundsGiven diagram.now node }
     requires room { HasRoomGiven diagram.now.nodes node cells }
     requires limit { cells ≤ MOST_PLAN_CELLS }
     ensures rows { Passes given_fault (impossible_pass diagram.now node state) result }
-    ensures gains { IfOk result (λ v. HasGainsGiven diagram.now profile.now node state diagram.now.agents v.items) }
+    ensures gains { IfOk result (λ v. HasAllGains diagram.now profile.now node state v.items) }
 {
     best_given();
     let mass = mass_at(alloc, diagram, profile, node, state, cells)?;

@@ -1,5 +1,5 @@
 -- The small diagrams that the tests run: a well with a test of it, a signal that a decision sees or not, and what the pairs pay.
-use Rattle.std.specs.Prelude.{ℕ, ℤ, Bool, true, false, List, [], ◌∷◌, pos, negsuc}
+use Rattle.std.specs.Prelude.{ℕ, ℤ, Bool, true, false, List, [], ◌∷◌, ◌++◌, pos, negsuc}
 use Rattle.maid_model.specs.declared.diagrams.Kind.{Kind}
 use Rattle.maid_model.specs.declared.diagrams.Kind.TheVariants.{Chance, Decision, Utility}
 use Rattle.maid_model.specs.Views.{NodeView, DiagramView}
@@ -53,6 +53,10 @@ weights_of false = pos 0 ∷ pos 1 ∷ []
 abbrev pub steer : Bool → DiagramView
 steer even = record { nodes = signal_nodes (weights_of even) (0 ∷ []) 2 (pos 3 ∷ pos 0 ∷ pos 0 ∷ pos 1 ∷ []); agents = 1; decimals = 0 }
 
+-- an echo of the signal, to which nobody listens
+abbrev pub echo : NodeView
+echo = node_of Chance 2 (0 ∷ []) (pos 1 ∷ pos 2 ∷ pos 2 ∷ pos 1 ∷ [])
+
 -- the decision sees nothing: 1 for sure, or 2 in the one case or the other
 abbrev pub bet : DiagramView
-bet = record { nodes = signal_nodes (weights_of true) [] 3 (pos 1 ∷ pos 2 ∷ pos 0 ∷ pos 1 ∷ pos 0 ∷ pos 2 ∷ []); agents = 1; decimals = 0 }
+bet = record { nodes = signal_nodes (weights_of true) [] 3 (pos 1 ∷ pos 2 ∷ pos 0 ∷ pos 1 ∷ pos 0 ∷ pos 2 ∷ []) ++ echo ∷ []; agents = 1; decimals = 0 }

@@ -67,7 +67,8 @@ fn steer(alloc: Global, even: bool) -> Result<Diagram, AllocError>
     Ok(Diagram::from_nodes(nodes, 1, 0))
 }
 
-/// A decision that sees nothing: 1 for sure, or 2 in the one case or the other.
+/// A decision that sees nothing: 1 for sure, or 2 in the one case or the other. To an echo of the
+/// signal nobody listens.
 fn bet(alloc: Global) -> Result<Diagram, AllocError>
     ensures { IfOk result (λ d. d ≡ bet) }
 {
@@ -76,6 +77,7 @@ fn bet(alloc: Global) -> Result<Diagram, AllocError>
     nodes.push(node(alloc, Kind::Chance, 2, &[], &[1, 1])?)?;
     nodes.push(node(alloc, Kind::Decision, 3, &[], &[])?)?;
     nodes.push(node(alloc, Kind::Utility, 1, &[0, 1], &[1, 2, 0, 1, 0, 2])?)?;
+    nodes.push(node(alloc, Kind::Chance, 2, &[0], &[1, 2, 2, 1])?)?;
     Ok(Diagram::from_nodes(nodes, 1, 0))
 }
 
@@ -129,7 +131,8 @@ fn a_signal_may_move_freely(rt: HostRuntime) -> Result<(), Fail> {
     Ok(())
 }
 
-// The sure state is best only where the two others are worth the same.
+// The sure state is best only where the two others are worth the same. What nobody looks at may be
+// anything.
 #[test]
 fn a_bet_may_not_move(rt: HostRuntime) -> Result<(), Fail> {
     let alloc = rt.alloc();
@@ -137,5 +140,7 @@ fn a_bet_may_not_move(rt: HostRuntime) -> Result<(), Fail> {
     let solved = solve(alloc, &diagram)?;
     let first = span(alloc, &diagram, &solved, 0, 0, 0)?;
     assert_eq!(rt; first, interval((1, 2), (1, 2), (1, 2)));
+    let echo = span(alloc, &diagram, &solved, 3, 1, 1)?;
+    assert_eq!(rt; echo, interval((1, 3), (0, 1), (1, 1)));
     Ok(())
 }

@@ -1,10 +1,18 @@
-use Rattle.std.proofs.Common.{◌∙◌, sym, ap, subst}
+use Rattle.std.proofs.Common.{◌≡◌, ◌∙◌, sym, ap, subst}
+use Rattle.maid_model.specs.declared.diagrams.Kind.TheVariants.{Chance, Utility}
 use Rattle.maid_model.specs.Answers.{FitsAnswers}
 use Rattle.maid_laws.proofs.AnswerLaws.{answers_fit}
+use Rattle.part_laws.specs.ScopeLaws.{HasUnitRules}
 use Rattle.evidence.proofs.conditions.condition.Goals as goal
 
-pub gains_given-requires-clause-profile : goal.gains_given-requires-clause-profile
-gains_given-requires-clause-profile c =
-    c.in_ok-profile.ensures.profile
-    (subst (FitsAnswers c.args.seen.nodes) (sym (c.deref.ensures.value ∙ ap (λ a. a.solved.answers) c.answered.view_is))
-    (answers_fit c.args.seen c.in_ok-answered.answered.solved c.in_ok-answered.ensures.diagram.graph c.in_ok-answered.ensures.diagram.tables c.in_ok-answered.ensures.ok.fits))
+pub gains_given-requires-clause-setting : goal.gains_given-requires-clause-setting
+gains_given-requires-clause-setting c = record {
+  within = c.requires.within;
+  kind = λ e. let f : Chance ≡ Utility = sym c.requires.evidence.kind ∙ e in cc;
+  has_state = c.requires.state;
+  profile = c.in_ok-profile.ensures.profile
+      (subst (FitsAnswers c.args.seen.nodes) (sym (c.deref.ensures.value ∙ ap (λ a. a.solved.answers) c.answered.view_is))
+      (answers_fit c.args.seen c.in_ok-answered.answered.solved c.in_ok-answered.ensures.diagram.graph c.in_ok-answered.ensures.diagram.tables c.in_ok-answered.ensures.ok.fits));
+  rules = subst (HasUnitRules c.args.seen.nodes) (sym c.in_ok-profile.ensures.rules) (c.scoped_sums_fit.ensures.answers c.args.seen.nodes _);
+  bounds = c.in_ok-answered.ensures.bounds;
+}

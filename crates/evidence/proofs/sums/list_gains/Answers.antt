@@ -11,9 +11,9 @@ expected-requires c =
     let p = c.args.profile.now in
     let within : c.loop-agent.agent < d.agents = subst (λ n. c.loop-agent.agent < n) c.agents-agent-end.ensures.agents c.loop-agent-test.true in
     record {
-      stake = stake d p c.args.node c.args.state c.agents.ensures.diagram c.requires.within c.requires.profile c.requires.rules c.requires.state c.args.mass c.requires.mass c.deref.result.now
-          (subst (HasWorthsAt d.nodes p c.args.node c.args.state) (sym c.deref.ensures.value) c.in_ok-worths.ensures.worths)
-          c.requires.kind c.requires.bounds c.requires.positive c.loop-agent.agent within c.scope_given.result c.scope_given.ensures;
+      stake = stake d p c.args.node c.args.state c.agents.ensures.diagram c.requires.setting.within c.requires.setting.profile c.requires.setting.rules c.requires.setting.has_state c.args.mass c.requires.mass c.deref.result.now
+          (subst (HasWorthsAt d.nodes p c.args.node c.args.state) (sym c.deref.ensures.value) c.in_ok-worths.ensures)
+          c.requires.setting.kind c.requires.setting.bounds c.requires.positive c.loop-agent.agent within c.scope_given.result c.scope_given.ensures;
     }
 
 pub loop-agent-preserved : goal.loop-agent-preserved
@@ -22,6 +22,6 @@ loop-agent-preserved c =
     let p = c.args.profile.now in
     subst (HasGainsGiven d p c.args.node c.args.state (c.loop-agent.agent + 1)) (sym c.in_ok-push.ensures.items)
     (gains_push d p c.args.node c.args.state c.loop-agent.agent c.loop-agent.gains.items c.expected.result c.loop-agent.invariant
-    (expected_is d p c.args.node c.args.state c.agents.ensures.diagram c.requires.within c.requires.profile c.requires.rules c.requires.state c.args.mass c.requires.mass c.deref.result.now
-    (subst (HasWorthsAt d.nodes p c.args.node c.args.state) (sym c.deref.ensures.value) c.in_ok-worths.ensures.worths)
+    (expected_is d p c.args.node c.args.state c.agents.ensures.diagram c.requires.setting.within c.requires.setting.profile c.requires.setting.rules c.requires.setting.has_state c.args.mass c.requires.mass c.deref.result.now
+    (subst (HasWorthsAt d.nodes p c.args.node c.args.state) (sym c.deref.ensures.value) c.in_ok-worths.ensures)
     c.scopes_of_evidence.ensures.utilities c.requires.positive c.loop-agent.agent c.expected.result c.expected.ensures (scale_some d.decimals)))
