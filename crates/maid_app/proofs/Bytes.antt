@@ -6,7 +6,7 @@ use Rattle.first_fault.proofs.Kept.{IsOneBy, over_one, each_one, each_only}
 use Rattle.maid_io.specs.Device.{File}
 use Rattle.maid_model.specs.Names.{NamesView}
 use Rattle.maid_model.specs.Placing.{HasRelianceOrder}
-use Rattle.maid_model.specs.Scopes.{KeepsScopedBounds, FailsFirst, FailsFirstFor}
+use Rattle.maid_model.specs.Scopes.{KeepsScopedBounds}
 use Rattle.maid_model.specs.Views.{DiagramView}
 use Rattle.net_build.specs.Building.{StandsFor}
 use Rattle.net_build.specs.Laws as building
@@ -38,8 +38,8 @@ use Rattle.maid_app.specs.Faults.{TellsFault, IsTextFault}
 use Rattle.maid_app.specs.Laws.{OneStatus}
 use Rattle.maid_app.specs.Moved.{HasRow, KeepsMovedBound, TellsMovedBound, TellsNoOthers, TellsUnknownRow}
 use Rattle.maid_app.specs.Outcome.{Written, Refused, status_with}
-use Rattle.maid_app.specs.Request.{Request, solve, check, judge, graph, print, trim, pure, update, info, control, given, threshold, demo, file_name}
-use Rattle.maid_app.specs.Stages.{Stage, text_fault, unknown_agent, relevance_cycle, weight_bound, too_large, too_many_profiles, no_equilibrium, several_owners, update_too_large, rounds_spent, unknown_node, unknown_state, below_decision, rules_given, cycle_given, bound_given, size_given, impossible, unknown_row, no_others, moved_bound, too_many_leaves, bad_line, Finds, IsText, IsAgent, IsReport, HasFewLeaves, HasPureEquilibrium, AllRoundsRaise, stage, TellsUnknownNode, TellsUnknownState, TellsUnknownAgent, TellsProfiles, TellsNoEquilibrium, TellsOwners, TellsUpdateTooLarge, TellsRounds, TellsCycle, TellsBound, AtNode, AtUtilities, TellsTooLarge, TellsLeaves, TellsBadLine}
+use Rattle.maid_app.specs.Request.{Request, solve, check, judge, graph, print, trim, pure, update, info, control, evidence, threshold, demo, file_name}
+use Rattle.maid_app.specs.Stages.{Stage, text_fault, unknown_agent, relevance_cycle, weight_bound, too_large, too_many_profiles, no_equilibrium, several_owners, update_too_large, rounds_spent, unknown_node, unknown_state, below_decision, rules_given, cycle_given, bound_given, size_given, impossible, unknown_row, no_others, moved_bound, too_many_leaves, bad_line, Finds, IsText, IsAgent, IsReport, HasFewLeaves, HasPureEquilibrium, AllRoundsRaise, stage, TellsUnknownNode, TellsUnknownState, TellsUnknownAgent, TellsProfiles, TellsNoEquilibrium, TellsOwners, TellsUpdateTooLarge, TellsRounds, TellsCycle, TellsBound, TellsTooLarge, TellsLeaves, TellsBadLine}
 use Rattle.maid_app.specs.Tasks.{Task, comes_of}
 use Rattle.maid_app.proofs.OnePlace.{not_kept, same_state, not_kept_given, not_moved}
 use Rattle.maid_app.proofs.TellApart.{told_apart}
@@ -164,7 +164,7 @@ module _ (laws : Laws) where
   gives_one (graph file) bytes x y h k = h.0 ∙ sym k.0
   gives_one (print file) bytes x y h k = h.0 ∙ sym k.0
   gives_one (trim file) bytes x y h k = h.0 ∙ sym k.0
-  gives_one (given file node state) bytes x y h k = h.0 ∙ sym k.0
+  gives_one (evidence file node state) bytes x y h k = h.0 ∙ sym k.0
   gives_one (threshold file node row state) bytes x y h k = h.0 ∙ sym k.0
   gives_one (pure file) bytes x y h k = h.0 ∙ sym k.0
   gives_one (update file) bytes x y h k = h.0 ∙ sym k.0

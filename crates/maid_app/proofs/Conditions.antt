@@ -1,5 +1,5 @@
 -- The stages of a diagram under evidence, one behind another.
-use Rattle.std.proofs.Common.{◌≡◌, ◌∙◌, ℕ, ◌<◌, List, ◌∷◌, inl, inr, refl, subst, sym, ap, All, length, Option, None, Some, IfSome}
+use Rattle.std.proofs.Common.{◌≡◌, ℕ, ◌<◌, List, ◌∷◌, inl, inr, refl, subst, sym, All, length, Option, None, Some, IfSome}
 use Rattle.std.proofs.lemmas.List.{length-map}
 use Rattle.evidence.specs.Bounds.{IsPassedAtGiven}
 use Rattle.evidence.specs.Faults.{BelowDecision, Impossible, RulesTooLarge, Unsolved, further_pass, given_pass}

@@ -4,7 +4,7 @@ use Rattle.maid_io.specs.Device.{File, file_of}
 use Rattle.maid_app.specs.Answers.{Answers, FindsNothing}
 use Rattle.maid_app.specs.Laws.{ClearOrRefused}
 use Rattle.maid_app.specs.Outcome.{Written, refused}
-use Rattle.maid_app.specs.Request.{Request, solve, check, judge, graph, print, trim, pure, update, info, control, given, threshold, demo, file_name, IsOfFile}
+use Rattle.maid_app.specs.Request.{Request, solve, check, judge, graph, print, trim, pure, update, info, control, evidence, threshold, demo, file_name, IsOfFile}
 use Rattle.maid_app.specs.Tasks.{comes_of}
 use Rattle.maid_app.specs.Told.{limit_of, IsFileText, IsTextFor, IsJudging, LeadsTo, OfRequest, IsTooLong, Refuses}
 use Rattle.maid_app.specs.declared.status.Status.{Status}
@@ -18,7 +18,7 @@ file_text list (judge text report) given bytes of h = h
 file_text list (graph file) given bytes of h = h
 file_text list (print file) given bytes of h = h
 file_text list (trim file) given bytes of h = h
-file_text list (given file node state) given bytes of h = h
+file_text list (evidence file node state) given bytes of h = h
 file_text list (threshold file node row state) given bytes of h = h
 file_text list (pure file) given bytes of h = h
 file_text list (update file) given bytes of h = h

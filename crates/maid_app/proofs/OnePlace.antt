@@ -1,15 +1,12 @@
 -- Words name one state of one chance node, and a bound is not both kept and passed.
-use Rattle.std.proofs.Common.{◌≡◌, ◌≢◌, ◌∙◌, ◌⊎◌, inl, inr, ℕ, ◌-◌, ◌<◌, List, [], Option, None, Some, refl, sym, ap, subst, arith}
-use Rattle.std.specs.Prelude.{slice_index_or}
+use Rattle.std.proofs.Common.{◌≡◌, ◌∙◌, inl, inr, ℕ, ◌<◌, List, Option, None, Some, refl, ap, subst, arith}
 use Rattle.std.specs.Int.{◌∣◌}
 use Rattle.std.proofs.lemmas.Nat.Gcd.{dvd_antisymm}
 use Rattle.std.proofs.Math.Decide.{dec_lt}
-use Rattle.first_fault.specs.Passes.{over}
-use Rattle.maid_model.specs.Diagrams.{greatest_number}
 use Rattle.maid_model.specs.Names.{NamesView, IsFirstPlace, labels_of}
 use Rattle.maid_model.specs.Scopes.{KeepsScopedBounds, FailsFirst, FailsFirstFor}
 use Rattle.maid_model.specs.Views.{DiagramView}
-use Rattle.threshold.specs.Faults.{FaultView, IsCommonMultiple, WeightBound, total_pass, with_total}
+use Rattle.threshold.specs.Faults.{WeightBound, total_pass, with_total}
 use Rattle.weight_scale.specs.Bound.{IsPassedAt, IsPassedByUtilities}
 use Rattle.maid_app.specs.Chances.{HasChanceNode, IsChanceNode, IsStatePlace}
 use Rattle.maid_app.specs.Diagrams.{NamedDiagram}

@@ -12,7 +12,7 @@ use Rattle.maid_app.specs.Laws.{OneStatus, ClearOrRefused}
 use Rattle.maid_app.specs.Outcome.{Written, Refused, written, refused}
 use Rattle.maid_app.specs.Reading.{TellsOf, RefusesAs}
 use Rattle.maid_app.specs.Refusal.{status_of, line_of}
-use Rattle.maid_app.specs.Request.{Request, solve, check, judge, graph, print, trim, pure, update, info, control, given, threshold, demo, file_name}
+use Rattle.maid_app.specs.Request.{Request, solve, check, judge, graph, print, trim, pure, update, info, control, evidence, threshold, demo, file_name}
 use Rattle.maid_app.specs.Stages.{Stage, text_fault, unknown_agent, relevance_cycle, weight_bound, too_large, too_many_profiles, no_equilibrium, several_owners, update_too_large, rounds_spent, unknown_node, unknown_state, below_decision, rules_given, cycle_given, bound_given, size_given, impossible, unknown_row, no_others, moved_bound, too_many_leaves, bad_line, Finds}
 use Rattle.maid_app.specs.Tasks.{comes_of}
 use Rattle.maid_app.specs.Told.{limit_of, IsTextFor, LeadsTo, IsTooLong, HasNoBytes, HasText, WritesText, Refuses, Says, HasFile, LacksFile, IsAfterWriting, IsOneOf, EndsWell}
@@ -110,7 +110,7 @@ gives_after (judge text report) bytes output h = after_verdict output.status h.1
 gives_after (graph file) bytes output h = after_done output.status h.1.0
 gives_after (print file) bytes output h = after_done output.status h.1.0
 gives_after (trim file) bytes output h = after_done output.status h.1.0
-gives_after (given file node state) bytes output h = after_done output.status h.1.0
+gives_after (evidence file node state) bytes output h = after_done output.status h.1.0
 gives_after (threshold file node row state) bytes output h = after_done output.status h.1.0
 gives_after (pure file) bytes output h = after_done output.status h.1.0
 gives_after (update file) bytes output h = after_done output.status h.1.0
@@ -137,7 +137,7 @@ gives_well (judge text report) bytes output h = verdict_ends output.status h.1.2
 gives_well (graph file) bytes output h = inl h.1.0
 gives_well (print file) bytes output h = inl h.1.0
 gives_well (trim file) bytes output h = inl h.1.0
-gives_well (given file node state) bytes output h = inl h.1.0
+gives_well (evidence file node state) bytes output h = inl h.1.0
 gives_well (threshold file node row state) bytes output h = inl h.1.0
 gives_well (pure file) bytes output h = inl h.1.0
 gives_well (update file) bytes output h = inl h.1.0
@@ -153,7 +153,7 @@ memory_ends (judge text report) = inl (inr refl)
 memory_ends (graph file) = inr refl
 memory_ends (print file) = inr refl
 memory_ends (trim file) = inr refl
-memory_ends (given file node state) = inr refl
+memory_ends (evidence file node state) = inr refl
 memory_ends (threshold file node row state) = inr refl
 memory_ends (pure file) = inr refl
 memory_ends (update file) = inr refl
@@ -384,7 +384,7 @@ nothing_found (update name) bytes d names is can =
     let x : NamedDiagram = record { d = d; names = names } in ((x, is), ((x, is, can.one_owner), ((x, is, can.bound), ((x, is, can.small), ((x, is, can.settles), tt)))))
 nothing_found (info name agent) bytes d names is can = asked_clear agent bytes d names name is can
 nothing_found (control name agent) bytes d names is can = asked_clear agent bytes d names name is can
-nothing_found (given name node state) bytes d names is can =
+nothing_found (evidence name node state) bytes d names is can =
     let x : NamedDiagram = record { d = d; names = names } in
     let at = can.is_place in (
       (x, is),

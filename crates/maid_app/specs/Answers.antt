@@ -14,7 +14,7 @@ use Rattle.maid_app.specs.Info.{weighing_information}
 use Rattle.maid_app.specs.Outcome.{Written, Refused}
 use Rattle.maid_app.specs.Print.{printing}
 use Rattle.maid_app.specs.Pure.{HasFirstPure, searching}
-use Rattle.maid_app.specs.Request.{Request, solve, check, judge, graph, print, trim, pure, update, info, control, given, threshold, demo, file_name}
+use Rattle.maid_app.specs.Request.{Request, solve, check, judge, graph, print, trim, pure, update, info, control, evidence, threshold, demo, file_name}
 use Rattle.maid_app.specs.Solve.{IsSolvable, solving}
 use Rattle.maid_app.specs.Stages.{Finds}
 use Rattle.maid_app.specs.Tasks.{Task, comes_of}
@@ -34,7 +34,7 @@ task_of (pure file) = searching
 task_of (update file) = updating
 task_of (info file agent) = weighing_information agent
 task_of (control file agent) = weighing_control agent
-task_of (given file node state) = conditioning node state
+task_of (evidence file node state) = conditioning node state
 task_of (threshold file node row state) = moving node row state
 task_of (demo k) = summing k
 
@@ -58,7 +58,7 @@ CanAnswer (pure file) d names = HasFirstPure d
 CanAnswer (update file) d names = CanBeUpdated d
 CanAnswer (info file agent) d names = CanBeAsked agent d names
 CanAnswer (control file agent) d names = CanBeAsked agent d names
-CanAnswer (given file node state) d names = CanBeGiven node state d names
+CanAnswer (evidence file node state) d names = CanBeGiven node state d names
 CanAnswer (threshold file node row state) d names = CanBeMoved node row state d names
 CanAnswer (demo k) d names = IsSolvable d
 

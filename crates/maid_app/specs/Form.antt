@@ -1,5 +1,5 @@
 -- The forms of the code.
-use Rattle.maid_app.specs.Request.{Request, solve, check, graph, print, trim, pure, update, info, control, given, threshold, demo}
+use Rattle.maid_app.specs.Request.{Request, solve, check, graph, print, trim, pure, update, info, control, evidence, threshold, demo}
 use Rattle.maid_app.specs.declared.forms.Form.{Form}
 use Rattle.maid_app.specs.declared.forms.Form.TheVariants.{Text, Check}
 use Rattle.maid_app.specs.declared.forms.TextForm.{TextForm}
@@ -15,7 +15,7 @@ text_request_by (Pure file) = pure file.now
 text_request_by (Update file) = update file.now
 text_request_by (Info file agent) = info file.now agent.now
 text_request_by (Control file agent) = control file.now agent.now
-text_request_by (Given file node state) = given file.now node.now state.now
+text_request_by (Given file node state) = evidence file.now node.now state.now
 text_request_by (Threshold file node row state) = threshold file.now node.now row state.now
 text_request_by (Demo k) = demo k
 

@@ -19,7 +19,7 @@ pub data Request : Type 0 where
   update : (file : List ℕ) → Request
   info : (file agent : List ℕ) → Request
   control : (file agent : List ℕ) → Request
-  given : (file node state : List ℕ) → Request
+  evidence : (file node state : List ℕ) → Request
   threshold : (file node : List ℕ) → (row : ℕ) → (state : List ℕ) → Request
   demo : (k : ℕ) → Request
 
@@ -35,7 +35,7 @@ file_name (pure file) = file
 file_name (update file) = file
 file_name (info file agent) = file
 file_name (control file agent) = file
-file_name (given file node state) = file
+file_name (evidence file node state) = file
 file_name (threshold file node row state) = file
 file_name (demo k) = codes "demo"
 
@@ -83,7 +83,7 @@ row_of word = if is_row_word word then Some (number_of word) else None
 -- a form of four words: `given`, a file's name, a node's, and a state's label
 abbrev pub request_by_evidence : List ℕ → List ℕ → List ℕ → List ℕ → Option Request
 request_by_evidence word file node state =
-    if bytes_eq word (codes "given") then Some (given file node state) else None
+    if bytes_eq word (codes "given") then Some (evidence file node state) else None
 
 -- a form of five words: `threshold`, a file's name, a node's, the number of one of its rows, and a
 -- state's label

@@ -1,4 +1,4 @@
-use Rattle.std.proofs.Common.{◌≡◌, ◌∙◌, ◌<◌, ◌++◌, ℕ, All, Some, codes, length, sym, subst, ap}
+use Rattle.std.proofs.Common.{◌≡◌, ◌∙◌, ◌<◌, ◌++◌, All, Some, codes, length, sym, subst, ap}
 use Rattle.first_fault.specs.Answers.{IsFaultOrNoMemory}
 use Rattle.evidence.specs.Faults.{given_fault, given_pass}
 use Rattle.maid_model.specs.Reports.{line}

@@ -1,4 +1,4 @@
-use Rattle.std.proofs.Common.{◌≡◌, ◌∙◌, ◌+◌, ◌/◌, ◌%◌, ◌<◌, ℕ, ◌==◌, drop, slice_index_or, sym, ap, subst}
+use Rattle.std.proofs.Common.{◌∙◌, ◌+◌, ◌/◌, ◌%◌, ◌<◌, ◌==◌, drop, slice_index_or, sym, ap, subst}
 use Rattle.maid_model.specs.Nodes.{rows_under, states_of}
 use Rattle.maid_app.specs.Given.{shows}
 use Rattle.maid_app.proofs.Sights.{front, under, rest_under, shown, passed}
