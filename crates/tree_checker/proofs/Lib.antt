@@ -13,3 +13,10 @@ mod FirstLines
 mod AgentParts
 mod SoundLaws
 mod ExampleReports
+pub mod Walking
+pub mod WalkTables
+pub mod WalkSteps
+pub mod WalkOpened
+pub mod WalkOrders
+pub mod WalkTotals
+pub mod WalkCells

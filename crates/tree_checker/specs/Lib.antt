@@ -1,4 +1,5 @@
 pub mod Verdicts
+pub mod Walks
 pub mod Sound
 pub mod Laws
 pub mod Judged

@@ -1,16 +1,17 @@
 //! The gains and masses of a decision, listed.
 
-ghost use Rattle.std.specs.Prelude.{◌≡◌, ◌∷◌, ◌*◌, ◌^◌, ◌≤◌, max, IfOk};
+ghost use Rattle.std.specs.Prelude.{◌≡◌, ◌∷◌, ◌*◌, ◌^◌, ◌<◌, ◌≤◌, ℕ, max, length, slice_index, IfOk};
 ghost use Rattle.maid_model.specs.Diagrams.{greatest_number};
 ghost use Rattle.maid_model.specs.Gains.{base_mass, greatest_utility};
-ghost use Rattle.maid_model.specs.Nodes.{IsDecision};
+ghost use Rattle.maid_model.specs.Nodes.{IsDecision, rows_of, states_of};
 ghost use Rattle.maid_model.specs.Profiles.{IsProfile};
 ghost use Rattle.maid_model.specs.Scopes.{KeepsScopedBounds, goals_of};
 ghost use Rattle.part_laws.specs.ScopeLaws.{HasSmallRules};
 ghost use Rattle.tree_checker.specs.Judged.{ListsScopeSums, ListsSums};
 
 use crate::parts::{place_of, stage_of};
-use maid_model::{Diagram, Profile, World, base_sums, descent_is_tested, goals_of};
+use crate::walks::cells_over;
+use maid_model::{Diagram, Profile, descent_is_tested, goals_of};
 use part_laws::{parts_are_diagrams, scoped_sums_fit, scopes_are_parts};
 use std::alloc::{AllocError, Global};
 
@@ -41,7 +42,27 @@ fn ends_of(alloc: Global, diagram: &Diagram, decision: usize) -> Result<Vec<usiz
     Ok(ends)
 }
 
-/// The gains and masses of the decision against the profile, over all worlds of the diagram. It goes through them once.
+/// The masses of the rows: of the cells, one for each row and state, those at the first state.
+fn row_masses(
+    alloc: Global,
+    diagram: &Diagram,
+    decision: usize,
+    cells: &[u128],
+) -> Result<Vec<u128>, AllocError>
+    requires decision { decision < length diagram.now.nodes }
+    requires cells { length cells.now ≡ rows_of diagram.now.nodes decision * states_of diagram.now.nodes decision }
+    ensures count { IfOk result (λ masses. length masses.items ≡ rows_of diagram.now.nodes decision) }
+    ensures masses { IfOk result (λ masses. (row : ℕ) → row < rows_of diagram.now.nodes decision → slice_index masses.items row ≡ slice_index cells.now (row * states_of diagram.now.nodes decision)) }
+{
+    let states = diagram.states(decision);
+    let mut masses = Vec::new(alloc);
+    for row in 0..diagram.rows(decision) {
+        masses.push(cells[row * states])?;
+    }
+    Ok(masses)
+}
+
+/// The gains and masses of the decision against the profile, over all worlds of the diagram, by one walk.
 fn sums_over(
     alloc: Global,
     diagram: &Diagram,
@@ -53,19 +74,14 @@ fn sums_over(
     requires fits { base_mass diagram.now.nodes profile.now decision * max (10 ^ diagram.now.decimals) (greatest_utility diagram.now.nodes) ≤ greatest_number }
     ensures { IfOk result (λ sums. ListsSums diagram.now profile.now decision sums.gains.items sums.masses.items) }
 {
-    let rows = diagram.rows(decision);
-    let mut gains = vec![in alloc; 0; rows * diagram.states(decision)]?;
-    let mut masses = vec![in alloc; 0; rows]?;
-    let mut world = World::first(alloc, diagram)?;
-    base_sums(
-        diagram,
-        profile,
-        decision,
-        &mut world,
-        &mut gains,
-        &mut masses,
-    );
-    Ok(RowSums { gains, masses })
+    let _count = diagram.count();
+    let goals = goals_of(diagram, decision);
+    let sums = cells_over(alloc, diagram, profile, &goals, decision)?;
+    let masses = row_masses(alloc, diagram, decision, &sums.masses)?;
+    Ok(RowSums {
+        gains: sums.gains,
+        masses,
+    })
 }
 
 /// The gains and masses of the decision against the base, over the worlds of the part that the decision's scope makes.

@@ -1,19 +1,23 @@
 //! What a report prints for each agent.
 
-ghost use Rattle.std.specs.Prelude.{◌≡◌, ◌<◌, ◌≤◌, ◌↔◌, ◌^◌, ◌*◌, ℕ, All, IfOk, IsTrue, length};
+ghost use Rattle.std.specs.Prelude.{◌≡◌, ◌<◌, ◌≤◌, ◌↔◌, ◌^◌, ◌*◌, ℕ, All, IfOk, IsTrue, length, max, nat_abs};
 ghost use Rattle.maid_model.specs.Answers.{IsExpectedUtility, IsReduced};
 ghost use Rattle.maid_model.specs.Diagrams.{greatest_number};
-ghost use Rattle.maid_model.specs.Gains.{mass};
+ghost use Rattle.maid_model.specs.Gains.{gain_of, greatest_utility, mass};
 ghost use Rattle.maid_model.specs.Nodes.{is_utility_of};
+ghost use Rattle.maid_model.specs.Private.{MarksUtilities};
 ghost use Rattle.maid_model.specs.Profiles.{IsProfile};
 ghost use Rattle.maid_model.specs.Scopes.{KeepsScopedBounds, utilities_for};
 ghost use Rattle.maid_model.specs.Tables.{weight_total};
 ghost use Rattle.part_laws.specs.ScopeLaws.{HasUnitRules};
+ghost use Rattle.node_sets.specs.Sets.{holds};
 ghost use Rattle.tree_checker.specs.Judged.{JudgesGains};
 
 use crate::parts::stage_of;
 use crate::rows::{is_fraction, scale_of};
-use maid_model::{Diagram, Kind, Profile, Ratio, World, leaf_sum, profile_has_rules};
+use crate::walks::cells_over;
+use maid_model::{Diagram, Kind, Profile, Ratio, profile_has_rules};
+use node_sets::NodeSet;
 use std::alloc::{AllocError, Global};
 
 /// Whether the node is a utility of the agent.
@@ -72,8 +76,40 @@ pub fn mass_of(diagram: &Diagram, profile: &Profile) -> u128
     mass
 }
 
+/// The set of the agent's utilities.
+fn marks_of(diagram: &Diagram, agent: usize) -> NodeSet
+    ensures utilities { MarksUtilities diagram.now.nodes result }
+    ensures marks { (v : ℕ) → v < length diagram.now.nodes → holds result v ≡ is_utility_of diagram.now.nodes agent v }
+{
+    let mut marks = NodeSet::empty();
+    for v in 0..diagram.count() {
+        if is_utility_of(diagram, agent, v) {
+            marks.insert(v);
+        }
+    }
+    marks
+}
+
+/// The sum, over all worlds of the diagram, of the world's weight under the profile times the agent's utilities, by one
+/// walk.
+fn gain_over(
+    alloc: Global,
+    diagram: &Diagram,
+    profile: &Profile,
+    agent: usize,
+) -> Result<i128, AllocError>
+    requires profile { IsProfile diagram.now.nodes profile.now }
+    requires fits { mass diagram.now.nodes profile.now * max (10 ^ diagram.now.decimals) (greatest_utility diagram.now.nodes) ≤ greatest_number }
+    ensures sum { IfOk result (λ sum. sum ≡ gain_of diagram.now.nodes profile.now agent) }
+    ensures small { IfOk result (λ sum. nat_abs sum ≤ greatest_number) }
+{
+    let marks = marks_of(diagram, agent);
+    let sums = cells_over(alloc, diagram, profile, &marks, diagram.count())?;
+    Ok(sums.gains[0])
+}
+
 /// Whether the fraction is what the chosen rules are worth to the agent, by the worlds of the part that the agent's
-/// utilities and their ancestors make. It goes through them once.
+/// utilities and their ancestors make, by one walk.
 fn is_gain(
     alloc: Global,
     diagram: &Diagram,
@@ -91,8 +127,7 @@ fn is_gain(
     let _count = diagram.count();
     let utilities = utilities_of(alloc, diagram, agent)?;
     let stage = stage_of(alloc, diagram, chosen, &utilities)?;
-    let mut world = World::first(alloc, &stage.part.diagram)?;
-    let sum = leaf_sum(&stage.part.diagram, &stage.rules, agent, &mut world);
+    let sum = gain_over(alloc, &stage.part.diagram, &stage.rules, agent)?;
     let mass = mass_of(&stage.part.diagram, &stage.rules);
     Ok(is_fraction(*gain, sum, mass * scale_of(diagram)))
 }

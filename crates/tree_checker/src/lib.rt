@@ -1,5 +1,5 @@
 //! The check of a finished report: whether its order, its choices, its marks and its numbers are right, by sums over
-//! lists of worlds. It shares nothing with the solver but the relevance graph and the sums of `maid_model`.
+//! worlds, each by one walk down the nodes. It shares nothing with the solver but the relevance graph.
 #![tactic(auto)]
 
 mod bases;
@@ -14,6 +14,7 @@ mod rows;
 #[cfg(test)]
 mod tests;
 mod verdicts;
+mod walks;
 
 pub use checking::check;
 pub use counting::leaves;

@@ -13,6 +13,7 @@ use Rattle.maid_laws.proofs.Members.{among_of}
 use Rattle.part_laws.specs.ScopeLaws.{HasUnitRules}
 use Rattle.part_laws.proofs.ScopeLaws.{utilities_inside}
 use Rattle.tree_checker.proofs.AgentParts.{IsPlayed, IsStageFor, can_weigh, mass_fits, scaled_fits, scaled_positive, same_worth}
+use Rattle.tree_checker.proofs.WalkOpened.{small_fits}
 use Rattle.tree_checker.proofs.gains.is_gain.Goals as goal
 
 played : (d : DiagramView) (p : List RuleView) (agent : ℕ) → IsDiagram d → KeepsScopedBounds d → IsProfile d.nodes p → HasUnitRules d.nodes p → agent < d.agents → IsPlayed d p agent
@@ -25,13 +26,13 @@ pub stage_of-requires-clause-of : goal.stage_of-requires-clause-of
 stage_of-requires-clause-of c v m =
     utilities_inside c.args.diagram.now.nodes c.count-count.ensures.diagram.graph c.args.agent v (among_of v (utilities_for c.args.diagram.now.nodes c.args.agent) (subst (λ l. Contains l v) (c.deref.ensures.value ∙ c.in_ok-utilities.ensures) m))
 
-pub leaf_sum-sum-requires-clause-profile : goal.leaf_sum-sum-requires-clause-profile
-leaf_sum-sum-requires-clause-profile c =
+pub gain_over-requires-clause-profile : goal.gain_over-requires-clause-profile
+gain_over-requires-clause-profile c =
     (can_weigh c.args.diagram.now c.args.chosen.now c.args.agent (played c.args.diagram.now c.args.chosen.now c.args.agent c.count-count.ensures.diagram c.requires.bound c.requires.chosen c.requires.pure c.requires.agent) c.in_ok-stage.stage.part.diagram c.in_ok-stage.stage.rules
     (stage c.args.diagram.now c.args.chosen.now c.args.agent c.deref.result.now c.in_ok-stage.stage.part.diagram c.in_ok-stage.stage.rules (c.deref.ensures.value ∙ c.in_ok-utilities.ensures) c.in_ok-stage.ensures.diagram c.in_ok-stage.ensures.rules)).profile
 
-pub leaf_sum-sum-requires-clause-fits : goal.leaf_sum-sum-requires-clause-fits
-leaf_sum-sum-requires-clause-fits c =
+pub gain_over-requires-clause-fits : goal.gain_over-requires-clause-fits
+gain_over-requires-clause-fits c =
     (can_weigh c.args.diagram.now c.args.chosen.now c.args.agent (played c.args.diagram.now c.args.chosen.now c.args.agent c.count-count.ensures.diagram c.requires.bound c.requires.chosen c.requires.pure c.requires.agent) c.in_ok-stage.stage.part.diagram c.in_ok-stage.stage.rules
     (stage c.args.diagram.now c.args.chosen.now c.args.agent c.deref.result.now c.in_ok-stage.stage.part.diagram c.in_ok-stage.stage.rules (c.deref.ensures.value ∙ c.in_ok-utilities.ensures) c.in_ok-stage.ensures.diagram c.in_ok-stage.ensures.rules)).fits
 
@@ -63,8 +64,8 @@ returns c =
     let told = same_worth c.args.diagram.now c.args.chosen.now c.args.agent (played c.args.diagram.now c.args.chosen.now c.args.agent c.count-count.ensures.diagram c.requires.bound c.requires.chosen c.requires.pure c.requires.agent) c.in_ok-stage.stage.part.diagram c.in_ok-stage.stage.rules
     (stage c.args.diagram.now c.args.chosen.now c.args.agent c.deref.result.now c.in_ok-stage.stage.part.diagram c.in_ok-stage.stage.rules (c.deref.ensures.value ∙ c.in_ok-utilities.ensures) c.in_ok-stage.ensures.diagram c.in_ok-stage.ensures.rules) c.args.gain.now in
     let same : c.mass_of-mass.result * c.scale_of.result ≡ mass c.in_ok-stage.stage.part.diagram.nodes c.in_ok-stage.stage.rules * 10 ^ c.args.diagram.now.decimals = (λ i. c.mass_of-mass.ensures i * c.scale_of.ensures.scale i) in
-    let fits : FitsSigned w128 c.leaf_sum-sum.result = search rules in
-    let sum : to_z w128 (of_z w128 c.leaf_sum-sum.result) ≡ gain_of c.in_ok-stage.stage.part.diagram.nodes c.in_ok-stage.stage.rules c.args.agent = to_z-of_z w128 c.leaf_sum-sum.result fits ∙ c.leaf_sum-sum.ensures.sum in (
+    let fits : FitsSigned w128 c.in_ok-sum.sum = small_fits c.in_ok-sum.sum c.in_ok-sum.ensures.small in
+    let sum : to_z w128 (of_z w128 c.in_ok-sum.sum) ≡ gain_of c.in_ok-stage.stage.part.diagram.nodes c.in_ok-stage.stage.rules c.args.agent = to_z-of_z w128 c.in_ok-sum.sum fits ∙ c.in_ok-sum.ensures.sum in (
       λ t. told.0 (subst (IsFraction c.args.gain.now (gain_of c.in_ok-stage.stage.part.diagram.nodes c.in_ok-stage.stage.rules c.args.agent)) same (subst (λ n. IsFraction c.args.gain.now n (c.mass_of-mass.result * c.scale_of.result)) sum (c.is_fraction.ensures.0 t))),
       λ e. c.is_fraction.ensures.1 (subst (λ n. IsFraction c.args.gain.now n (c.mass_of-mass.result * c.scale_of.result)) (sym sum) (subst (IsFraction c.args.gain.now (gain_of c.in_ok-stage.stage.part.diagram.nodes c.in_ok-stage.stage.rules c.args.agent)) (sym same) (told.1 e))),
     )

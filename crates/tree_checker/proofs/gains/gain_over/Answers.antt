@@ -1,0 +1,24 @@
+use Rattle.std.proofs.Common.{◌∙◌, ◌*◌, ◌^◌, ◌≤◌, ap, max, nat_abs, sym, subst}
+use Rattle.std.proofs.lemmas.Int.{to_z-of_z}
+use Rattle.std.specs.Int.{w128}
+use Rattle.maid_model.specs.Diagrams.{greatest_number}
+use Rattle.maid_model.specs.Gains.{base_mass, greatest_utility}
+use Rattle.maid_model.proofs.Leaves.{whole_mass}
+use Rattle.tree_checker.proofs.WalkCells.{first_gain}
+use Rattle.tree_checker.proofs.WalkOpened.{small_fits}
+use Rattle.tree_checker.proofs.gains.gain_over.Goals as goal
+
+pub cells_over-requires-clause-fits : goal.cells_over-requires-clause-fits
+cells_over-requires-clause-fits c =
+    subst (λ n. n * max (10 ^ c.args.diagram.now.decimals) (greatest_utility c.args.diagram.now.nodes) ≤ greatest_number)
+    (sym (ap (base_mass c.args.diagram.now.nodes c.args.profile.now) c.count.ensures.count ∙ whole_mass c.args.diagram.now.nodes c.args.profile.now)) c.requires.fits
+
+pub returns-clause-sum : goal.returns-clause-sum
+returns-clause-sum c =
+    let g = first_gain c.args.diagram.now c.count.ensures.diagram c.args.profile.now c.args.agent c.marks_of-marks.result c.in_ok-sums.sums.gains.items c.in_ok-sums.sums.masses.items c.marks_of-marks.ensures.marks c.count.result c.count.ensures.count c.in_ok-sums.ensures c.index.result.now c.index.ensures in
+    to_z-of_z w128 c.index.result.now (small_fits c.index.result.now g.1) ∙ g.0
+
+pub returns-clause-small : goal.returns-clause-small
+returns-clause-small c =
+    let g = first_gain c.args.diagram.now c.count.ensures.diagram c.args.profile.now c.args.agent c.marks_of-marks.result c.in_ok-sums.sums.gains.items c.in_ok-sums.sums.masses.items c.marks_of-marks.ensures.marks c.count.result c.count.ensures.count c.in_ok-sums.ensures c.index.result.now c.index.ensures in
+    subst (λ z. nat_abs z ≤ greatest_number) (sym (to_z-of_z w128 c.index.result.now (small_fits c.index.result.now g.1))) g.1

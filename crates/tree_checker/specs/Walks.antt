@@ -1,0 +1,73 @@
+-- What a walk down a list of nodes adds up: over all ways to give states to the nodes of the list.
+use Rattle.std.specs.Prelude.{◌≡◌, ◌≢◌, ℕ, ◌+◌, ◌*◌, ◌^◌, ◌<◌, ◌≤◌, List, [], ◌∷◌, length, slice_index, slice_index_or, ℤ, pos, ◌+ℤ◌, ◌*ℤ◌, nat_abs, ◌==◌, if◌then◌else◌}
+use Rattle.finite_sums.specs.Members.{Among}
+use Rattle.finite_sums.specs.Sums.{World, nat_product_over, nat_sum_over, product_over, sum_each, sum_over}
+use Rattle.maid_model.specs.Diagrams.{greatest_number}
+use Rattle.maid_model.specs.Gains.{base_total, greatest_abs, greatest_utility, sum_worlds, table_without, weight_without}
+use Rattle.maid_model.specs.Nodes.{is_utility, node_at, parents_of, rows_of, states_of}
+use Rattle.maid_model.specs.Private.{marked_utility, marked_value}
+use Rattle.maid_model.specs.Tables.{cell_of, table_by, weights_of}
+use Rattle.maid_model.specs.Views.{DiagramView, NodeView, RuleView}
+use Rattle.node_sets.specs.declared.sets.NodeSet.{NodeSet}
+use Rattle.node_sets.specs.Sets.{holds}
+
+-- nodes none of which stands again later, or has a later one as a parent
+abbrev pub IsDownward : List NodeView → List ℕ → Type 0
+IsDownward nodes [] = Unit {0}
+IsDownward nodes (v ∷ vs) = (v < length nodes) × ((u : ℕ) → Among u vs → (v ≢ u) × (Among u (parents_of nodes v) → ⊥)) × IsDownward nodes vs
+
+-- v's factor where the cell is picked, but 1 at the decision d
+abbrev pub factor_at : List NodeView → List RuleView → ℕ → ℕ → ℕ → ℤ
+factor_at nodes p d v cell = if v == d then pos 1 else table_by (node_at nodes v).kind (node_at nodes v).cells (weights_of p v) cell
+
+-- the cell of the row in v, if v is marked
+abbrev pub value_at : List NodeView → NodeSet → ℕ → ℕ → ℤ
+value_at nodes marks v row = if holds marks v then slice_index_or (node_at nodes v).cells row (pos 0) else pos 0
+
+-- the product so far times the factors of the listed nodes, without the rule of the decision d
+abbrev pub weight_with : List NodeView → List RuleView → ℕ → List ℕ → ℕ → World → ℤ
+weight_with nodes p d vs product w = pos product *ℤ product_over (λ v. table_without nodes p d v w) vs
+
+-- the utilities so far and the marked ones among the listed nodes
+abbrev pub utility_with : List NodeView → NodeSet → List ℕ → ℤ → World → ℤ
+utility_with nodes marks vs utility w = utility +ℤ sum_each (λ v. marked_value nodes marks v w) vs
+
+-- the sum of weight times utilities over the states of the listed nodes, in the worlds that pick the cell c of d
+abbrev pub gain_with : List NodeView → List RuleView → ℕ → NodeSet → List ℕ → ℕ → ℤ → ℕ → World → ℤ
+gain_with nodes p d marks vs product utility c w =
+    sum_over (states_of nodes) vs (λ w. if cell_of nodes d w == c then weight_with nodes p d vs product w *ℤ utility_with nodes marks vs utility w else pos 0) w
+
+-- the sum of the weights of those worlds
+abbrev pub mass_with : List NodeView → List RuleView → ℕ → List ℕ → ℕ → ℕ → World → ℤ
+mass_with nodes p d vs product c w = sum_over (states_of nodes) vs (λ w. if cell_of nodes d w == c then weight_with nodes p d vs product w else pos 0) w
+
+-- the same sums over all worlds of the diagram
+abbrev pub cell_gain : List NodeView → List RuleView → ℕ → NodeSet → ℕ → ℤ
+cell_gain nodes p d marks c = sum_worlds nodes (λ w. if cell_of nodes d w == c then weight_without nodes p d w *ℤ marked_utility nodes marks w else pos 0)
+
+abbrev pub cell_mass : List NodeView → List RuleView → ℕ → ℕ → ℤ
+cell_mass nodes p d c = sum_worlds nodes (λ w. if cell_of nodes d w == c then weight_without nodes p d w else pos 0)
+
+-- the gain and the mass of each cell, each with room
+pub record ListsCells (d : DiagramView) (p : List RuleView) (v : ℕ) (marks : NodeSet) (gains : List ℤ) (masses : List ℕ) : Type 0 where
+  pub gain_count : length gains ≡ rows_of d.nodes v * states_of d.nodes v
+  pub mass_count : length masses ≡ rows_of d.nodes v * states_of d.nodes v
+  pub gain : (c : ℕ) → slice_index_or gains c (pos 0) ≡ cell_gain d.nodes p v marks c
+  pub mass : (c : ℕ) → pos (slice_index masses c) ≡ cell_mass d.nodes p v c
+  pub gain_small : (c : ℕ) → nat_abs (slice_index_or gains c (pos 0)) ≤ greatest_number
+  pub mass_small : (c : ℕ) → slice_index masses c * 10 ^ d.decimals ≤ greatest_number
+
+-- the greatest absolute value of a utility, and 0 elsewhere
+abbrev pub greatest_at : List NodeView → ℕ → ℕ
+greatest_at nodes v = if is_utility (node_at nodes v).kind then greatest_abs (node_at nodes v).cells else 0
+
+-- the product so far times the totals of the listed nodes
+abbrev pub mass_left : List NodeView → List RuleView → ℕ → List ℕ → ℕ → ℕ
+mass_left nodes p d vs product = product * nat_product_over (base_total nodes p d) vs
+
+-- what the listed nodes can still add fits
+pub record HasRoom (nodes : List NodeView) (p : List RuleView) (d : ℕ) (vs : List ℕ) (product : ℕ) (sum : ℤ) (gains : List ℤ) (masses : List ℕ) : Type 0 where
+  pub gain : (c : ℕ) → nat_abs (slice_index_or gains c (pos 0)) + mass_left nodes p d vs product * greatest_utility nodes ≤ greatest_number
+  pub mass : (c : ℕ) → slice_index masses c + mass_left nodes p d vs product ≤ greatest_number
+  pub utility : nat_abs sum + nat_sum_over (greatest_at nodes) vs ≤ greatest_utility nodes
+  pub most : greatest_utility nodes ≤ greatest_number
