@@ -10,4 +10,5 @@ pub mod Putting
 pub mod Planning
 pub mod Orders
 pub mod Measuring
+pub mod Kept
 pub mod Samples

@@ -56,6 +56,11 @@ pub record IsMade (nodes : List NodeView) (asked : PlanView) (made : SizedPlan) 
   pub cells : made.size.cells ≡ plan_cells nodes asked made.steps
   pub work : made.size.work ≡ plan_work nodes asked made.steps
 
+-- the plan may be asked for, and this is what is made of it
+pub record IsPlanned (nodes : List NodeView) (plan : PlanView) (result : SizedPlan) : Type 0 where
+  pub asked : CanBePlanned nodes plan
+  pub made : IsMade nodes plan result
+
 -- ---- a run
 -- the utilities of the decision's agent that descend from it
 abbrev pub is_goal : List NodeView → ℕ → ℕ → Bool
@@ -63,6 +68,11 @@ is_goal nodes d u = descends nodes d u && is_utility_of nodes (agent_of nodes d)
 
 abbrev pub goal_list : List NodeView → ℕ → List ℕ
 goal_list nodes d = filter (λ u. is_goal nodes d u) (numbers_of nodes)
+
+-- the plans of a decision: that of its rows, and those of its states, one for each of its goals in text order
+pub record ArePlansOf (nodes : List NodeView) (d : ℕ) (rows : SizedPlan) (goals : List SizedPlan) : Type 0 where
+  pub of_rows : IsPlanned nodes (row_plan nodes d) rows
+  pub of_goals : AllZip (IsPlanned nodes) (map (λ u. gain_plan nodes d u) (goal_list nodes d)) goals
 
 abbrev pub utility_list : List NodeView → List ℕ
 utility_list nodes = filter (λ u. is_utility (node_at nodes u).kind) (numbers_of nodes)

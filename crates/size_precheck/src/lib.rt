@@ -3,6 +3,7 @@
 #![tactic(auto)]
 
 mod counts;
+mod decisions;
 mod joints;
 mod kinds;
 mod laws;
@@ -14,8 +15,9 @@ mod starts;
 #[cfg(test)]
 mod tests;
 
+pub use decisions::{DecisionPlans, plan_decision};
 pub use kinds::{plan_gain, plan_rows, plan_worth};
 pub use laws::{greedy_orders, sizes_of_plans};
 pub use plans::{Plan, make_plan};
-pub use runs::measure;
+pub use runs::{RunPlans, measure, plan_run};
 pub use sizes::Size;

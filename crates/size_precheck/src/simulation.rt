@@ -48,7 +48,7 @@ pub struct Run {
 }
 
 /// The members of the set, in text order.
-fn list_members(alloc: Global, set: &NodeSet) -> Result<Vec<usize>, AllocError>
+pub fn list_members(alloc: Global, set: &NodeSet) -> Result<Vec<usize>, AllocError>
     ensures { IfOk result (λ list. IsListOf set.now list.items) }
 {
     let mut list = Vec::with_capacity(alloc, count_members(set))?;

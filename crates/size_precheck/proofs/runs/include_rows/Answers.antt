@@ -1,13 +1,17 @@
-use Rattle.std.proofs.Common.{ℕ, refl}
-use Rattle.std.proofs.lemmas.List.Elements.{Contains-get_or}
+use Rattle.std.proofs.Common.{arith, map, subst}
 use Rattle.plan_sums.specs.Plans.{row_plan}
-use Rattle.size_precheck.proofs.Measuring.{include_made, include_row}
+use Rattle.size_precheck.specs.Runs.{Includes}
+use Rattle.size_precheck.specs.Sizes.{ArePlansOf}
+use Rattle.size_precheck.proofs.Kept.{include_rows_of, take_whole, zip_long}
 use Rattle.size_precheck.proofs.runs.include_rows.Goals as goal
 
-pub plan_rows-requires : goal.plan_rows-requires
-plan_rows-requires c = (c.requires.decisions.all _).0 (Contains-get_or _ _ 0 c.loop-d-test.true)
+pub loop-decision-preserved : goal.loop-decision-preserved
+loop-decision-preserved c nodes order z =
+    include_rows_of nodes order c.args.plans.now c.loop-decision.decision-index c.decision-item.result c.args.size c.loop-decision.sum c.size.result c.join_sizes-sum.result z c.loop-decision-test.true c.decision-item.is c.size.ensures c.join_sizes-sum.ensures
+    (c.loop-decision.invariant nodes order z)
 
-pub loop-d-preserved : goal.loop-d-preserved
-loop-d-preserved c =
-    include_row c.args.diagram.now.nodes (λ (d : ℕ). row_plan c.args.diagram.now.nodes d) c.args.order.now c.loop-d.d-index _ c.args.size c.loop-d.sum _ c.loop-d-test.true refl c.loop-d.invariant
-    (include_made c.args.diagram.now.nodes _ c.in_ok-plan.plan c.loop-d.sum c.size.result c.join_sizes-sum.result c.in_ok-plan.ensures.made c.size.ensures c.join_sizes-sum.ensures)
+pub returns : goal.returns
+returns c nodes order z =
+    let out = c.loop-decision-test.false in
+    let long = zip_long (λ d p. ArePlansOf nodes d p.rows p.goals.items) order c.args.plans.now z in
+    subst (λ l. Includes nodes (map (λ d. row_plan nodes d) l) c.args.size c.loop-decision.sum) (take_whole order c.loop-decision.decision-index (omega (arith, out, long))) (c.loop-decision.invariant nodes order z)

@@ -1,0 +1,68 @@
+//! The plans of decisions, made once and kept.
+
+ghost use Rattle.std.specs.Prelude.{ℕ, map, IfOk};
+ghost use Rattle.std.specs.List.{AllZip};
+ghost use Rattle.maid_model.specs.Nodes.{IsDecision};
+ghost use Rattle.plan_sums.specs.Plans.{gain_plan};
+ghost use Rattle.size_precheck.specs.Decisions.{ArePlans};
+ghost use Rattle.size_precheck.specs.Sizes.{ArePlansOf, IsPlanned, ListsDecisions, goal_list};
+
+use crate::kinds::{plan_gain, plan_rows};
+use crate::plans::Plan;
+use crate::simulation::list_members;
+use maid_model::{Diagram, descent_is_tested, goals_of};
+use std::alloc::{AllocError, Global};
+
+/// The plans of one decision.
+#[derive(Debug, Drop)]
+pub struct DecisionPlans {
+    /// That of its rows.
+    pub rows: Plan,
+    /// Those of its states, one for each of its goals in text order.
+    pub goals: Vec<Plan>,
+}
+
+/// The plans of a decision's states, one for each of its goals in text order.
+fn plan_goals(alloc: Global, diagram: &Diagram, decision: usize) -> Result<Vec<Plan>, AllocError>
+    requires { IsDecision diagram.now.nodes decision }
+    ensures { IfOk result (λ plans. AllZip (IsPlanned diagram.now.nodes) (map (λ u. gain_plan diagram.now.nodes decision u) (goal_list diagram.now.nodes decision)) plans.items) }
+{
+    descent_is_tested();
+    let goals = list_members(alloc, &goals_of(diagram, decision))?;
+    let mut plans = Vec::with_capacity(alloc, goals.len())?;
+    for goal in &goals {
+        plans.push(plan_gain(alloc, diagram, decision, *goal)?)?;
+    }
+    Ok(plans)
+}
+
+/// The plans of a decision: that of its rows, and one for each utility of its agent that descends from it. `make_plan`
+/// tells what each of them costs.
+pub fn plan_decision(
+    alloc: Global,
+    diagram: &Diagram,
+    decision: usize,
+) -> Result<DecisionPlans, AllocError>
+    requires { IsDecision diagram.now.nodes decision }
+    ensures { IfOk result (λ plans. ArePlansOf diagram.now.nodes decision plans.rows plans.goals.items) }
+{
+    let rows = plan_rows(alloc, diagram, decision)?;
+    let goals = plan_goals(alloc, diagram, decision)?;
+    Ok(DecisionPlans { rows, goals })
+}
+
+/// The plans of each decision of the order.
+pub(crate) fn plan_decisions(
+    alloc: Global,
+    diagram: &Diagram,
+    order: &[usize],
+) -> Result<Vec<DecisionPlans>, AllocError>
+    requires { ListsDecisions diagram.now.nodes order.now }
+    ensures { IfOk result (λ plans. ArePlans diagram.now.nodes order.now plans.items) }
+{
+    let mut plans = Vec::with_capacity(alloc, order.len())?;
+    for decision in order {
+        plans.push(plan_decision(alloc, diagram, *decision)?)?;
+    }
+    Ok(plans)
+}
