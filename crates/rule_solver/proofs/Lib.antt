@@ -22,3 +22,4 @@ mod AnsweredRules
 mod BaseLemmas
 mod AnswerLemmas
 mod Promises
+mod GoalPlans

@@ -116,3 +116,13 @@ within_bound product scale all m h bound = chain _ _ (mul-le-mul h (left scale a
 
     chain : (a b : ℕ) → a ≤ b → b ≤ greatest_number → a ≤ greatest_number
     chain a b h k = omega (arith, h, k)
+
+-- so is a number within P and the greatest values
+pub values_bound : (product scale all m : ℕ) → m ≤ product * all → product * max scale all ≤ greatest_number → m ≤ greatest_number
+values_bound product scale all m h bound = chain _ _ _ h (mul-le-mul_left product (right scale all)) bound
+  where
+    right : (a b : ℕ) → b ≤ max a b
+    right a b = omega arith
+
+    chain : (a b c : ℕ) → a ≤ b → b ≤ c → c ≤ greatest_number → a ≤ greatest_number
+    chain a b c h k l = omega (arith, h, k, l)

@@ -7,6 +7,8 @@ ghost use Rattle.maid_model.specs.Profiles.{IsProfile};
 ghost use Rattle.maid_model.specs.Scopes.{KeepsScopedBounds};
 ghost use Rattle.part_laws.specs.ScopeLaws.{HasSmallRules};
 ghost use Rattle.relevance_graph.specs.Relevant.{IsRelevance};
+ghost use Rattle.size_precheck.specs.Decisions.{ArePlans};
+ghost use Rattle.size_precheck.specs.Sizes.{ArePlansOf};
 ghost use Rattle.rule_solver.specs.Answered.{AnswersAll, IsAnsweredBy};
 ghost use Rattle.rule_solver.specs.Rooms.{HasRoomAt, IsReady};
 
@@ -20,15 +22,17 @@ use factor_core::Workspace;
 use maid_model::{Answer, Diagram, Profile, Row};
 use part_laws::{parts_decide, scopes_are_parts};
 use relevance_graph::Relevance;
+use size_precheck::DecisionPlans;
 use std::alloc::{AllocError, Global};
 use weight_scale::decision_scope;
 
-/// What is answered at the decision against the base, by the plan of its rows and one plan for each of its goals.
+/// What is answered at the decision against the base, by its plans.
 fn answer_decision(
     alloc: Global,
     diagram: &Diagram,
     base: &Profile,
     decision: usize,
+    plans: &DecisionPlans,
     masses: &mut Workspace<Mass>,
     gains: &mut Workspace<Gain>,
 ) -> Result<Vec<Row>, AllocError>
@@ -36,6 +40,7 @@ fn answer_decision(
     requires profile { IsProfile diagram.now.nodes base.now }
     requires rules { HasSmallRules diagram.now.nodes base.now decision }
     requires bound { KeepsScopedBounds diagram.now }
+    requires planned { ArePlansOf diagram.now.nodes decision plans.now.rows plans.now.goals.items }
     requires ready { (cells : ℕ) × IsReady cells masses.old × IsReady cells gains.old × HasRoomAt diagram.now.nodes decision cells }
     ensures rows { IfOk result (λ v. IsAnsweredBy diagram.now.nodes diagram.now.decimals base.now decision v.items) }
     ensures again { OnOk result ((masses.new ≡ masses.old) × (gains.new ≡ gains.old)) }
@@ -52,30 +57,34 @@ fn answer_decision(
         totals: &totals,
         scope: decision_scope(diagram, decision),
     };
-    let sums = setting.row_sums(alloc, masses, gains)?;
+    let sums = setting.row_sums(alloc, plans, masses, gains)?;
     answer_rows(alloc, &sums.gains, &sums.masses, states, scale(diagram))
 }
 
-/// What is answered at each decision of the order of solving, each against its base in the rules answered before it.
+/// What is answered at each decision of the order of solving, each against its base in the rules answered before it,
+/// by its plans.
 pub(crate) fn answer_all(
     alloc: Global,
     diagram: &Diagram,
     relevance: &Relevance,
     order: &[usize],
+    plans: &[DecisionPlans],
     masses: &mut Workspace<Mass>,
     gains: &mut Workspace<Gain>,
 ) -> Result<Vec<Answer>, AllocError>
     requires bound { KeepsScopedBounds diagram.now }
     requires relevance { IsRelevance diagram.now.nodes relevance.now }
     requires order { IsRelianceOrder diagram.now.nodes order.now }
+    requires planned { ArePlans diagram.now.nodes order.now plans.now }
     requires ready { (cells : ℕ) × IsReady cells masses.old × IsReady cells gains.old × ((d : ℕ) → IsDecision diagram.now.nodes d → HasRoomAt diagram.now.nodes d cells) }
     ensures answers { IfOk result (λ v. AnswersAll diagram.now.nodes diagram.now.decimals order.now v.items) }
     ensures again { OnOk result ((masses.new ≡ masses.old) × (gains.new ≡ gains.old)) }
 {
     let mut answers = Vec::with_capacity(alloc, order.len())?;
-    for decision in order {
+    for (place, decision) in order.iter().enumerate() {
         let base = base_of(alloc, diagram, relevance, &answers, *decision)?;
-        let rows = answer_decision(alloc, diagram, &base, *decision, masses, gains)?;
+        let plans = &plans[place];
+        let rows = answer_decision(alloc, diagram, &base, *decision, plans, masses, gains)?;
         answers.push(Answer {
             decision: *decision,
             rows,

@@ -1,6 +1,7 @@
 //! The gains and masses of one decision, by plans of elimination in the part of its scope.
 
-ghost use Rattle.std.specs.Prelude.{◌≡◌, ◌+◌, ◌*◌, ℕ, ◌≤◌, IfOk, OnOk, length};
+ghost use Rattle.std.specs.Prelude.{◌≡◌, ◌+◌, ◌*◌, ℕ, ◌≤◌, IfOk, OnOk, length, map};
+ghost use Rattle.std.specs.List.{AllZip};
 ghost use Rattle.maid_model.specs.declared.limits.TheConstants.{MOST_PLAN_CELLS};
 ghost use Rattle.maid_model.specs.Diagrams.{IsDiagram};
 ghost use Rattle.maid_model.specs.Nodes.{IsDecision};
@@ -9,6 +10,7 @@ ghost use Rattle.maid_model.specs.Relevance.{IsGoal};
 ghost use Rattle.maid_model.specs.Scopes.{KeepsScopedBounds, goals_of};
 ghost use Rattle.part_laws.specs.ScopeLaws.{HasSmallRules};
 ghost use Rattle.plan_sums.specs.Plans.{gain_plan, row_plan};
+ghost use Rattle.size_precheck.specs.Sizes.{ArePlansOf, IsPlanned, goal_list};
 ghost use Rattle.rule_solver.specs.Rooms.{HasAtMost, HasRoomAt, IsReady};
 ghost use Rattle.rule_solver.specs.Sums.{AddsGoal, HasGoals, HasMasses, HasRoomFor, IsRowSums, IsSetting, KeepsRoom};
 
@@ -20,7 +22,7 @@ use factor_core::Workspace;
 use maid_model::{Diagram, Profile, goals_of};
 use node_sets::NodeSet;
 use scope_sums::{plans_keep_scopes, plans_sum_scopes};
-use size_precheck::{greedy_orders, plan_gain, plan_rows};
+use size_precheck::{DecisionPlans, Plan, greedy_orders, plan_decision, plan_gain, plan_rows};
 use std::alloc::{AllocError, Global};
 use weight_scale::decision_scope;
 
@@ -48,8 +50,14 @@ pub(crate) struct Setting<'a> {
 impl<'a> Setting<'a> {
     /// The masses of the decision's rows in the part of its scope: what the plan of its rows sums to, times the totals
     /// of the scope's other nodes that the plan lacks.
-    fn masses(&self, alloc: Global, work: &mut Workspace<Mass>) -> Result<Vec<u128>, AllocError>
+    fn masses(
+        &self,
+        alloc: Global,
+        plan: &Plan,
+        work: &mut Workspace<Mass>,
+    ) -> Result<Vec<u128>, AllocError>
         requires setting { IsSetting self.now.diagram.now self.now.base.now self.now.decision self.now.totals.now self.now.scope }
+        requires planned { IsPlanned self.now.diagram.now.nodes (row_plan self.now.diagram.now.nodes self.now.decision) plan.now }
         requires ready { (cells : ℕ) × IsReady cells work.old × HasAtMost self.now.diagram.now.nodes (row_plan self.now.diagram.now.nodes self.now.decision) cells }
         ensures masses { IfOk result (λ masses. HasMasses self.now.diagram.now self.now.base.now self.now.decision masses.items) }
         ensures again { OnOk result (work.new ≡ work.old) }
@@ -57,11 +65,10 @@ impl<'a> Setting<'a> {
         plans_sum_scopes();
         plans_keep_scopes();
         let mut masses = vec![in alloc; 0; self.diagram.rows(self.decision)]?;
-        let plan = plan_rows(alloc, self.diagram, self.decision)?;
         let mut left = self.scope.difference(&plan.nodes(self.diagram));
         left.remove(self.decision);
         let factor = product_in(self.totals, &left);
-        let slot = run_plan(work, &plan, self.diagram, self.base);
+        let slot = run_plan(work, plan, self.diagram, self.base);
         put_masses(
             alloc,
             self.diagram,
@@ -81,11 +88,13 @@ impl<'a> Setting<'a> {
         &self,
         alloc: Global,
         goal: usize,
+        plan: &Plan,
         work: &mut Workspace<Gain>,
         gains: &mut [i128],
     ) -> Result<(), AllocError>
         requires setting { IsSetting self.now.diagram.now self.now.base.now self.now.decision self.now.totals.now self.now.scope }
         requires goal { IsGoal self.now.diagram.now.nodes self.now.decision goal }
+        requires planned { IsPlanned self.now.diagram.now.nodes (gain_plan self.now.diagram.now.nodes self.now.decision goal) plan.now }
         requires ready { (cells : ℕ) × IsReady cells work.old × HasAtMost self.now.diagram.now.nodes (gain_plan self.now.diagram.now.nodes self.now.decision goal) cells }
         requires room { HasRoomFor self.now.diagram.now self.now.decision goal gains.old }
         ensures adds { OnOk result (AddsGoal self.now.diagram.now.nodes self.now.base.now self.now.decision goal gains.old gains.new) }
@@ -93,10 +102,9 @@ impl<'a> Setting<'a> {
         ensures len { length gains.new ≡ length gains.old }
     {
         plans_keep_scopes();
-        let plan = plan_gain(alloc, self.diagram, self.decision, goal)?;
         let left = self.scope.difference(&plan.nodes(self.diagram));
         let factor = product_in(self.totals, &left);
-        let slot = run_plan(work, &plan, self.diagram, self.base);
+        let slot = run_plan(work, plan, self.diagram, self.base);
         add_gains(
             alloc,
             self.diagram,
@@ -111,8 +119,14 @@ impl<'a> Setting<'a> {
     }
 
     /// The gains of the decision's states in the part of its scope: what its goals give, added up.
-    fn gains(&self, alloc: Global, work: &mut Workspace<Gain>) -> Result<Vec<i128>, AllocError>
+    fn gains(
+        &self,
+        alloc: Global,
+        plans: &[Plan],
+        work: &mut Workspace<Gain>,
+    ) -> Result<Vec<i128>, AllocError>
         requires setting { IsSetting self.now.diagram.now self.now.base.now self.now.decision self.now.totals.now self.now.scope }
+        requires planned { AllZip (IsPlanned self.now.diagram.now.nodes) (map (λ u. gain_plan self.now.diagram.now.nodes self.now.decision u) (goal_list self.now.diagram.now.nodes self.now.decision)) plans.now }
         requires ready { (cells : ℕ) × IsReady cells work.old × ((u : ℕ) → IsGoal self.now.diagram.now.nodes self.now.decision u → HasAtMost self.now.diagram.now.nodes (gain_plan self.now.diagram.now.nodes self.now.decision u) cells) }
         ensures gains { IfOk result (λ gains. HasGoals self.now.diagram.now.nodes self.now.base.now self.now.decision (goals_of self.now.diagram.now.nodes self.now.decision) gains.items) }
         ensures again { OnOk result (work.new ≡ work.old) }
@@ -121,8 +135,8 @@ impl<'a> Setting<'a> {
         let rows = self.diagram.rows(self.decision);
         let mut gains = vec![in alloc; 0; rows * self.diagram.states(self.decision)]?;
         let goals = list_scope(alloc, self.diagram, &goals_of(self.diagram, self.decision))?;
-        for goal in &goals {
-            self.add_goal(alloc, *goal, work, &mut gains)?;
+        for (place, goal) in goals.iter().enumerate() {
+            self.add_goal(alloc, *goal, &plans[place], work, &mut gains)?;
         }
         Ok(gains)
     }
@@ -131,18 +145,20 @@ impl<'a> Setting<'a> {
     pub(crate) fn row_sums(
         &self,
         alloc: Global,
+        plans: &DecisionPlans,
         masses: &mut Workspace<Mass>,
         gains: &mut Workspace<Gain>,
     ) -> Result<RowSums, AllocError>
         requires setting { IsSetting self.now.diagram.now self.now.base.now self.now.decision self.now.totals.now self.now.scope }
+        requires planned { ArePlansOf self.now.diagram.now.nodes self.now.decision plans.now.rows plans.now.goals.items }
         requires ready { (cells : ℕ) × IsReady cells masses.old × IsReady cells gains.old × HasRoomAt self.now.diagram.now.nodes self.now.decision cells }
         ensures sums { IfOk result (λ sums. IsRowSums self.now.diagram.now.nodes self.now.base.now self.now.decision sums.gains.items sums.masses.items) }
         ensures room { IfOk result (λ sums. KeepsRoom self.now.diagram.now.nodes self.now.decision sums.gains.items sums.masses.items) }
         ensures again { OnOk result ((masses.new ≡ masses.old) × (gains.new ≡ gains.old)) }
     {
         plans_sum_scopes();
-        let gains = self.gains(alloc, gains)?;
-        let masses = self.masses(alloc, masses)?;
+        let gains = self.gains(alloc, &plans.goals, gains)?;
+        let masses = self.masses(alloc, &plans.rows, masses)?;
         Ok(RowSums { gains, masses })
     }
 }
@@ -193,6 +209,7 @@ pub fn row_sums(
 {
     let totals = list_totals(alloc, diagram, profile)?;
     let cells = most_cells(alloc, diagram, decision)?;
+    let plans = plan_decision(alloc, diagram, decision)?;
     let mut masses = Workspace::reserve(alloc, cells)?;
     let mut gains = Workspace::reserve(alloc, cells)?;
     let setting = Setting {
@@ -202,5 +219,5 @@ pub fn row_sums(
         totals: &totals,
         scope: decision_scope(diagram, decision),
     };
-    setting.row_sums(alloc, &mut masses, &mut gains)
+    setting.row_sums(alloc, &plans, &mut masses, &mut gains)
 }

@@ -5,12 +5,13 @@ ghost use Rattle.first_fault.specs.Answers.{Passes};
 ghost use Rattle.maid_model.specs.Diagrams.{IsDiagram};
 ghost use Rattle.maid_model.specs.Placing.{IsRelianceOrder};
 ghost use Rattle.maid_model.specs.Scopes.{KeepsScopedBounds};
+ghost use Rattle.size_precheck.specs.Decisions.{ArePlans};
 ghost use Rattle.rule_solver.specs.Faults.{KeepsSizes, bound_pass, size_pass, solve_fault};
 ghost use Rattle.rule_solver.specs.Rooms.{HasRoom};
 
 use crate::SolveFault;
 use maid_model::{Diagram, MOST_PLAN_CELLS, MOST_WORK, descent_is_tested};
-use size_precheck::{Size, greedy_orders, measure, sizes_of_plans};
+use size_precheck::{RunPlans, Size, greedy_orders, plan_run, sizes_of_plans};
 use std::alloc::Global;
 use weight_scale::{BoundPlace, bound};
 
@@ -33,27 +34,27 @@ fn is_small(size: &Size) -> bool
     size.cells <= MOST_PLAN_CELLS as u128 && size.work <= MOST_WORK
 }
 
-/// How many cells the plans of the run that solves the decisions in this order need at most. Refuses one that is too
-/// large.
+/// The plans of the run that solves the decisions in this order, and its size. Refuses one that is too large.
 pub(crate) fn keep_sizes(
     alloc: Global,
     diagram: &Diagram,
     order: &[usize],
-) -> Result<usize, SolveFault>
+) -> Result<RunPlans, SolveFault>
     requires { IsRelianceOrder diagram.now.nodes order.now }
     ensures rows { Passes solve_fault (size_pass diagram.now) result }
-    ensures room { IfOk result (λ cells. HasRoom diagram.now.nodes cells) }
-    ensures limit { IfOk result (λ cells. cells ≤ MOST_PLAN_CELLS) }
+    ensures plans { IfOk result (λ run. ArePlans diagram.now.nodes order.now run.decisions.items) }
+    ensures room { IfOk result (λ run. HasRoom diagram.now.nodes run.size.cells) }
+    ensures limit { IfOk result (λ run. run.size.cells ≤ MOST_PLAN_CELLS) }
 {
     sizes_of_plans();
     greedy_orders();
     descent_is_tested();
-    let size = measure(alloc, diagram, order)?;
-    if !is_small(&size) {
+    let plans = plan_run(alloc, diagram, order)?;
+    if !is_small(&plans.size) {
         return Err(SolveFault::TooLarge {
-            cells: size.cells,
-            work: size.work,
+            cells: plans.size.cells,
+            work: plans.size.work,
         });
     }
-    Ok(size.cells as usize)
+    Ok(plans)
 }

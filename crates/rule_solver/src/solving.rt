@@ -10,6 +10,7 @@ ghost use Rattle.maid_model.specs.Scopes.{KeepsScopedBounds};
 ghost use Rattle.maid_model.specs.Subgames.{IsOptimal, IsSubgamePerfect, OwnsAll};
 ghost use Rattle.maid_model.specs.Values.{PrintsOptima};
 ghost use Rattle.relevance_graph.specs.Relevant.{IsRelevance};
+ghost use Rattle.size_precheck.specs.Decisions.{ArePlans};
 ghost use Rattle.rule_solver.specs.Faults.{solve_fault, solve_pass};
 ghost use Rattle.rule_solver.specs.Rooms.{HasRoom};
 
@@ -24,25 +25,28 @@ use maid_laws::{
 use maid_model::{Diagram, Profile, Solved};
 use part_laws::scoped_sums_fit;
 use relevance_graph::{Relevance, find_relevance};
+use size_precheck::RunPlans;
 use std::alloc::{AllocError, Global};
 
-/// The answer of a diagram whose decisions have this order of solving, by plans that need no more cells than these. The
-/// workspaces are reserved once.
+/// The answer of a diagram whose decisions have this order of solving, by the plans of its run. The workspaces are
+/// reserved once.
 fn solve_along(
     alloc: Global,
     diagram: &Diagram,
     relevance: &Relevance,
     order: &[usize],
-    cells: usize,
+    run: &RunPlans,
 ) -> Result<Solved, AllocError>
     requires bound { KeepsScopedBounds diagram.now }
     requires relevance { IsRelevance diagram.now.nodes relevance.now }
     requires order { IsRelianceOrder diagram.now.nodes order.now }
-    requires room { HasRoom diagram.now.nodes cells }
-    requires limit { cells ≤ MOST_PLAN_CELLS }
+    requires plans { ArePlans diagram.now.nodes order.now run.now.decisions.items }
+    requires room { HasRoom diagram.now.nodes run.now.size.cells }
+    requires limit { run.now.size.cells ≤ MOST_PLAN_CELLS }
     ensures { IfOk result (IsAnswer diagram.now) }
 {
     scoped_sums_fit();
+    let cells = run.size.cells as usize;
     let mut mass_space = Workspace::reserve(alloc, cells)?;
     let mut gain_space = Workspace::reserve(alloc, cells)?;
     let answers = answer_all(
@@ -50,6 +54,7 @@ fn solve_along(
         diagram,
         relevance,
         order,
+        &run.decisions,
         &mut mass_space,
         &mut gain_space,
     )?;
@@ -76,8 +81,8 @@ fn solve_ordered(
     ensures diagram { IfOk result (λ solved. IsDiagram diagram.now) }
 {
     keep_bound(diagram)?;
-    let cells = keep_sizes(alloc, diagram, order)?;
-    Ok(solve_along(alloc, diagram, relevance, order, cells)?)
+    let run = keep_sizes(alloc, diagram, order)?;
+    Ok(solve_along(alloc, diagram, relevance, order, &run)?)
 }
 
 /// The answer of a diagram: the order of solving, at each decision the first best state in each row against the
@@ -85,7 +90,8 @@ fn solve_ordered(
 ///
 /// It takes the relevance graph, and sums by variable elimination: one plan for each decision's rows, one for each
 /// decision and each utility of its agent that descends from it, and one for each utility. Their work is what
-/// `size_precheck::measure` counts; two workspaces are reserved once, with the most cells of a plan.
+/// `size_precheck::measure` counts. The plans of the decisions are made once, and kept until they are run; two workspaces
+/// are reserved once, with the most cells of a plan.
 ///
 /// # Errors
 ///

@@ -1,4 +1,4 @@
-use Rattle.std.proofs.Common.{◌∙◌, ◌+◌, Contains, sym, subst, take, slice_index}
+use Rattle.std.proofs.Common.{rules, arith, ◌<◌, length, ◌∙◌, ◌+◌, Contains, sym, subst, take, slice_index}
 use Rattle.cell_rings.specs.declared.gains.Gain.{Gain}
 use Rattle.cell_rings.specs.declared.masses.Mass.{Mass}
 use Rattle.factor_core.specs.Slots.{WorkspaceView}
@@ -6,6 +6,9 @@ use Rattle.maid_model.specs.Answers.{IsBase, pure_profile}
 use Rattle.maid_model.specs.Graph.{AllDifferent}
 use Rattle.rule_solver.specs.Answered.{AnswersAll}
 use Rattle.rule_solver.specs.Rooms.{IsReady}
+use Rattle.std.proofs.lemmas.Slice.Zip.{AllZip-long}
+use Rattle.size_precheck.specs.Sizes.{ArePlansOf}
+use Rattle.rule_solver.proofs.GoalPlans.{zip_at}
 use Rattle.rule_solver.proofs.AnswerLemmas.{answers-push-all}
 use Rattle.rule_solver.proofs.Orders.{first_differ, placed_decision, relied_before}
 use Rattle.rule_solver.proofs.answering.answer_all.Goals as goal
@@ -15,13 +18,13 @@ pub base_of-requires : goal.base_of-requires
 base_of-requires c =
     let nodes = c.args.diagram.now.nodes in
     let order = c.args.order.now in
-    let so : AnswersAll nodes c.args.diagram.now.decimals (take c.loop-decision.decision-index order) c.deref.result.now = subst (AnswersAll nodes c.args.diagram.now.decimals (take c.loop-decision.decision-index order)) (sym c.deref.ensures.value) c.loop-decision.invariant.0 in
+    let so : AnswersAll nodes c.args.diagram.now.decimals (take c.loop-place.place order) c.deref.result.now = subst (AnswersAll nodes c.args.diagram.now.decimals (take c.loop-place.place order)) (sym c.deref.ensures.value) c.loop-place.invariant.0 in
     record {
-      decision = placed_decision nodes order c.requires.order c.loop-decision.decision-index c.loop-decision-test.true;
+      decision = placed_decision nodes order c.requires.order c.loop-place.place c.loop-place-test.true;
       relevance = c.requires.relevance;
       fits = so.fits;
-      once = subst AllDifferent (sym so.follow) (first_differ nodes order c.requires.order c.loop-decision.decision-index);
-      relied = λ e r. subst (λ l. Contains l e) (sym so.follow) (relied_before nodes order c.requires.order c.loop-decision.decision-index c.loop-decision-test.true e r);
+      once = subst AllDifferent (sym so.follow) (first_differ nodes order c.requires.order c.loop-place.place);
+      relied = λ e r. subst (λ l. Contains l e) (sym so.follow) (relied_before nodes order c.requires.order c.loop-place.place c.loop-place-test.true e r);
     }
 
 pub answer_decision-requires-clause-rules : goal.answer_decision-requires-clause-rules
@@ -30,17 +33,36 @@ answer_decision-requires-clause-rules c e is apart = c.in_ok-base.ensures.room e
 pub answer_decision-requires-clause-ready : goal.answer_decision-requires-clause-ready
 answer_decision-requires-clause-ready c = (
   c.requires.ready.0,
-  subst (λ (w : WorkspaceView Mass). IsReady c.requires.ready.0 w) (sym c.loop-decision.invariant.1) c.requires.ready.1,
-  subst (λ (w : WorkspaceView Gain). IsReady c.requires.ready.0 w) (sym c.loop-decision.invariant.2) c.requires.ready.2,
-  c.requires.ready.3 (slice_index c.args.order.now c.loop-decision.decision-index) (placed_decision c.args.diagram.now.nodes c.args.order.now c.requires.order c.loop-decision.decision-index c.loop-decision-test.true),
+  subst (λ (w : WorkspaceView Mass). IsReady c.requires.ready.0 w) (sym c.loop-place.invariant.1) c.requires.ready.1,
+  subst (λ (w : WorkspaceView Gain). IsReady c.requires.ready.0 w) (sym c.loop-place.invariant.2) c.requires.ready.2,
+  c.requires.ready.3 (slice_index c.args.order.now c.loop-place.place) (placed_decision c.args.diagram.now.nodes c.args.order.now c.requires.order c.loop-place.place c.loop-place-test.true),
 )
 
-pub loop-decision-preserved : goal.loop-decision-preserved
-loop-decision-preserved c = (
-  subst (AnswersAll c.args.diagram.now.nodes c.args.diagram.now.decimals (take (c.loop-decision.decision-index + 1) c.args.order.now)) (sym c.in_ok-push.ensures.items)
-      (answers-push-all c.args.diagram.now.nodes c.args.diagram.now.decimals c.args.order.now c.loop-decision.decision-index c.loop-decision.answers.items c.in_ok-base.base c.in_ok-rows.rows.items c.requires.order c.loop-decision-test.true c.loop-decision.invariant.0
-      (subst (λ l. IsBase c.args.diagram.now.nodes (pure_profile c.args.diagram.now.nodes l) (slice_index c.args.order.now c.loop-decision.decision-index) c.in_ok-base.base) c.deref.ensures.value c.in_ok-base.ensures.base)
+pub loop-place-preserved : goal.loop-place-preserved
+loop-place-preserved c = (
+  subst (AnswersAll c.args.diagram.now.nodes c.args.diagram.now.decimals (take (c.loop-place.place + 1) c.args.order.now)) (sym c.in_ok-push.ensures.items)
+      (answers-push-all c.args.diagram.now.nodes c.args.diagram.now.decimals c.args.order.now c.loop-place.place c.loop-place.answers.items c.in_ok-base.base c.in_ok-rows.rows.items c.requires.order c.loop-place-test.true c.loop-place.invariant.0
+      (subst (λ l. IsBase c.args.diagram.now.nodes (pure_profile c.args.diagram.now.nodes l) (slice_index c.args.order.now c.loop-place.place) c.in_ok-base.base) c.deref.ensures.value c.in_ok-base.ensures.base)
       c.in_ok-rows.ensures.rows),
-  c.in_ok-rows.ensures.again.0 ∙ c.loop-decision.invariant.1,
-  c.in_ok-rows.ensures.again.1 ∙ c.loop-decision.invariant.2,
+  c.in_ok-rows.ensures.again.0 ∙ c.loop-place.invariant.1,
+  c.in_ok-rows.ensures.again.1 ∙ c.loop-place.invariant.2,
 )
+
+pub bounds-plans-place : goal.bounds-plans-place
+bounds-plans-place c =
+    let here = c.loop-place-test.true in
+    let long = AllZip-long (λ d p. ArePlansOf c.args.diagram.now.nodes d p.rows p.goals.items) c.args.order.now c.args.plans.now c.requires.planned in
+    omega (arith, here, long)
+
+pub offset_bounds-plans-place : goal.offset_bounds-plans-place
+offset_bounds-plans-place c = let here : c.loop-place.place < length c.args.plans.now = bounds-plans-place c in search (rules, here)
+
+pub answer_decision-requires-clause-planned : goal.answer_decision-requires-clause-planned
+answer_decision-requires-clause-planned c =
+    let nodes = c.args.diagram.now.nodes in
+    let order = c.args.order.now in
+    let plans = c.args.plans.now in
+    let long = AllZip-long (λ d p. ArePlansOf nodes d p.rows p.goals.items) order plans c.requires.planned in
+    let here = c.loop-place-test.true in
+    subst (λ p. ArePlansOf nodes (slice_index order c.loop-place.place) p.rows p.goals.items) (sym c.index-plans-place.is)
+    (zip_at (λ d p. ArePlansOf nodes d p.rows p.goals.items) order plans c.loop-place.place 0 c.index-plans-place.result c.requires.planned (omega (arith, here, long)))

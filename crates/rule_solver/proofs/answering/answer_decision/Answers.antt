@@ -1,13 +1,15 @@
 -- The part of the scope decides as the whole does.
-use Rattle.std.proofs.Common.{◌^◌, ℕ, ℤ, List, length, slice_index, subst, sym, IfOk}
+use Rattle.std.proofs.Common.{◌≡◌, ◌*◌, ◌<◌, ◌≤◌, nat_abs, pos, slice_index_or, ◌^◌, ℕ, ℤ, List, length, slice_index, subst, sym, IfOk}
 use Rattle.std.proofs.lemmas.Result.{IfOk-weaker}
 use Rattle.maid_model.specs.Nodes.{states_of}
-use Rattle.maid_model.specs.Scopes.{scope_of}
+use Rattle.maid_model.specs.Diagrams.{greatest_number}
+use Rattle.maid_model.specs.Scopes.{goals_of, greatest_of, scope_of, scope_product}
 use Rattle.part_laws.specs.PartLaws.{DecidesAlike}
 use Rattle.rule_solver.specs.Answered.{IsAnsweredBy}
 use Rattle.rule_solver.specs.Rows.{AnswersRows, gain_in}
 use Rattle.rule_solver.specs.Sums.{IsRowSums}
 use Rattle.rule_solver.proofs.DecisionLemmas.{answered_by}
+use Rattle.rule_solver.proofs.PlanLemmas.{values_bound, within_bound}
 use Rattle.rule_solver.proofs.answering.answer_decision.Goals as goal
 
 pub returns-clause-rows : goal.returns-clause-rows
@@ -28,3 +30,22 @@ returns-clause-rows c =
     (λ v h. answered_by nodes c.args.diagram.now.decimals base c.args.decision gains masses v.items alike sums h)
     (subst (λ n. IfOk c.answer_rows.result (λ v. AnswersRows (gain_in gains n) (slice_index masses) n (10 ^ c.args.diagram.now.decimals) (length masses) v.items)) c.states-states.ensures.states
     (subst (λ k. IfOk c.answer_rows.result (λ v. AnswersRows (gain_in gains c.states-states.result) (slice_index masses) c.states-states.result k (length masses) v.items)) c.scale.ensures.scale c.answer_rows.ensures.rows))
+
+-- masses and gains keep the bound
+pub answer_rows-requires-clause-room : goal.answer_rows-requires-clause-room
+answer_rows-requires-clause-room c row h =
+    let d = c.args.diagram.now in
+    let masses : c.deref-3.result.now ≡ c.in_ok-sums.sums.masses.items = c.deref-3.ensures.value in
+    let within : slice_index c.in_ok-sums.sums.masses.items row * (10 ^ d.decimals) ≤ greatest_number =
+    within_bound (scope_product d.nodes c.args.decision) (10 ^ d.decimals) (greatest_of d.nodes (goals_of d.nodes c.args.decision)) (slice_index c.in_ok-sums.sums.masses.items row)
+    (c.in_ok-sums.ensures.room.mass_there row (subst (λ (l : List ℕ). row < length l) masses h)) (c.requires.bound.decisions c.args.decision c.requires.decision) in
+    subst (λ n. slice_index c.deref-3.result.now row * n ≤ greatest_number) (sym c.scale.ensures.scale) (subst (λ (l : List ℕ). slice_index l row * (10 ^ d.decimals) ≤ greatest_number) (sym masses) within)
+
+pub answer_rows-requires-clause-small : goal.answer_rows-requires-clause-small
+answer_rows-requires-clause-small c i h =
+    let d = c.args.diagram.now in
+    let gains : c.deref-2.result.now ≡ c.in_ok-sums.sums.gains.items = c.deref-2.ensures.value in
+    let within : nat_abs (slice_index_or c.in_ok-sums.sums.gains.items i (pos 0)) ≤ greatest_number =
+    values_bound (scope_product d.nodes c.args.decision) (10 ^ d.decimals) (greatest_of d.nodes (goals_of d.nodes c.args.decision)) (nat_abs (slice_index_or c.in_ok-sums.sums.gains.items i (pos 0)))
+    (c.in_ok-sums.ensures.room.gain i (subst (λ (l : List ℤ). i < length l) gains h)) (c.requires.bound.decisions c.args.decision c.requires.decision) in
+    subst (λ (l : List ℤ). nat_abs (slice_index_or l i (pos 0)) ≤ greatest_number) (sym gains) within

@@ -4,5 +4,5 @@ use Rattle.rule_solver.specs.Sums.{HasGoals}
 use Rattle.rule_solver.proofs.decision_sums.Setting.gains.Given as goal
 
 -- the gains are what the goals so far give; the workspace is as it was
-abbrev pub invariant-loop-goal : goal.invariant-loop-goal
-invariant-loop-goal l = HasGoals l.self.diagram.now.nodes l.self.base.now l.self.decision (take l.goal-index (goals_of l.self.diagram.now.nodes l.self.decision)) l.gains.items × (l.work ≡ l.fn.work)
+abbrev pub invariant-loop-place : goal.invariant-loop-place
+invariant-loop-place l = HasGoals l.self.diagram.now.nodes l.self.base.now l.self.decision (take l.place (goals_of l.self.diagram.now.nodes l.self.decision)) l.gains.items × (l.work ≡ l.fn.work)

@@ -17,32 +17,32 @@ product_in-factor-requires-clause-fits c =
     let d = c.args.self.now.diagram.now in
     let p = c.args.self.now.base.now in
     subst (λ n. n ≤ greatest_number)
-    (sym (rows_missing d p c.args.self.now.decision c.args.self.now.totals.now c.args.self.now.scope c.requires.setting c.plans_keep_scopes.ensures.decisions c.plans_keep_scopes.ensures.positive c.in_ok-plan.plan.plan c.in_ok-plan.ensures.made.plan c.nodes.result c.difference-left.result c.remove.new.self c.nodes.ensures c.difference-left.ensures c.remove.ensures))
-    (rows_missing_small d p c.args.self.now.decision c.args.self.now.totals.now c.args.self.now.scope c.requires.setting c.plans_keep_scopes.ensures.decisions c.plans_keep_scopes.ensures.positive c.in_ok-plan.plan.plan c.in_ok-plan.ensures.made.plan)
+    (sym (rows_missing d p c.args.self.now.decision c.args.self.now.totals.now c.args.self.now.scope c.requires.setting c.plans_keep_scopes.ensures.decisions c.plans_keep_scopes.ensures.positive c.args.plan.now.plan c.requires.planned.made.plan c.nodes.result c.difference-left.result c.remove.new.self c.nodes.ensures c.difference-left.ensures c.remove.ensures))
+    (rows_missing_small d p c.args.self.now.decision c.args.self.now.totals.now c.args.self.now.scope c.requires.setting c.plans_keep_scopes.ensures.decisions c.plans_keep_scopes.ensures.positive c.args.plan.now.plan c.requires.planned.made.plan)
 
 pub run_plan-slot-requires-clause-fits : goal.run_plan-slot-requires-clause-fits
 run_plan-slot-requires-clause-fits c =
-    rows_total c.args.self.now.diagram.now c.args.self.now.base.now c.args.self.now.decision c.args.self.now.totals.now c.args.self.now.scope c.requires.setting c.plans_keep_scopes.ensures.decisions c.plans_keep_scopes.ensures.positive c.in_ok-plan.plan.plan c.in_ok-plan.ensures.made.plan
+    rows_total c.args.self.now.diagram.now c.args.self.now.base.now c.args.self.now.decision c.args.self.now.totals.now c.args.self.now.scope c.requires.setting c.plans_keep_scopes.ensures.decisions c.plans_keep_scopes.ensures.positive c.args.plan.now.plan c.requires.planned.made.plan
 
 pub put_masses-requires-clause-scope : goal.put_masses-requires-clause-scope
 put_masses-requires-clause-scope c v =
-    subst (λ (x : PlanView). IsIn c.run_plan-slot.result.scope v ↔ Contains x.keep v) c.in_ok-plan.ensures.made.plan (c.run_plan-slot.ensures.scope v)
+    subst (λ (x : PlanView). IsIn c.run_plan-slot.result.scope v ↔ Contains x.keep v) c.requires.planned.made.plan (c.run_plan-slot.ensures.scope v)
 
 pub put_masses-requires-clause-room : goal.put_masses-requires-clause-room
 put_masses-requires-clause-room c =
     let d = c.args.self.now.diagram.now in
     let p = c.args.self.now.base.now in
-    rows_room d p c.args.self.now.decision c.args.self.now.totals.now c.args.self.now.scope c.requires.setting c.plans_keep_scopes.ensures.decisions c.plans_keep_scopes.ensures.positive c.in_ok-plan.plan.plan c.in_ok-plan.ensures.made.plan
+    rows_room d p c.args.self.now.decision c.args.self.now.totals.now c.args.self.now.scope c.requires.setting c.plans_keep_scopes.ensures.decisions c.plans_keep_scopes.ensures.positive c.args.plan.now.plan c.requires.planned.made.plan
     (table_of mass_kind d.nodes c.run_plan-slot.new.work.cells c.run_plan-slot.result) c.run_plan-slot.ensures.cell c.product_in-factor.result
-    (c.product_in-factor.ensures ∙ rows_missing d p c.args.self.now.decision c.args.self.now.totals.now c.args.self.now.scope c.requires.setting c.plans_keep_scopes.ensures.decisions c.plans_keep_scopes.ensures.positive c.in_ok-plan.plan.plan c.in_ok-plan.ensures.made.plan c.nodes.result c.difference-left.result c.remove.new.self c.nodes.ensures c.difference-left.ensures c.remove.ensures)
+    (c.product_in-factor.ensures ∙ rows_missing d p c.args.self.now.decision c.args.self.now.totals.now c.args.self.now.scope c.requires.setting c.plans_keep_scopes.ensures.decisions c.plans_keep_scopes.ensures.positive c.args.plan.now.plan c.requires.planned.made.plan c.nodes.result c.difference-left.result c.remove.new.self c.nodes.ensures c.difference-left.ensures c.remove.ensures)
 
 pub returns-clause-masses : goal.returns-clause-masses
 returns-clause-masses c =
     let d = c.args.self.now.diagram.now in
     let p = c.args.self.now.base.now in
-    let both = rows_masses d p c.args.self.now.decision c.args.self.now.totals.now c.args.self.now.scope c.requires.setting c.plans_keep_scopes.ensures.decisions c.plans_keep_scopes.ensures.positive c.in_ok-plan.plan.plan c.in_ok-plan.ensures.made.plan
+    let both = rows_masses d p c.args.self.now.decision c.args.self.now.totals.now c.args.self.now.scope c.requires.setting c.plans_keep_scopes.ensures.decisions c.plans_keep_scopes.ensures.positive c.args.plan.now.plan c.requires.planned.made.plan
     (table_of mass_kind d.nodes c.run_plan-slot.new.work.cells c.run_plan-slot.result) c.run_plan-slot.ensures.cell c.product_in-factor.result
-    (c.product_in-factor.ensures ∙ rows_missing d p c.args.self.now.decision c.args.self.now.totals.now c.args.self.now.scope c.requires.setting c.plans_keep_scopes.ensures.decisions c.plans_keep_scopes.ensures.positive c.in_ok-plan.plan.plan c.in_ok-plan.ensures.made.plan c.nodes.result c.difference-left.result c.remove.new.self c.nodes.ensures c.difference-left.ensures c.remove.ensures)
+    (c.product_in-factor.ensures ∙ rows_missing d p c.args.self.now.decision c.args.self.now.totals.now c.args.self.now.scope c.requires.setting c.plans_keep_scopes.ensures.decisions c.plans_keep_scopes.ensures.positive c.args.plan.now.plan c.requires.planned.made.plan c.nodes.result c.difference-left.result c.remove.new.self c.nodes.ensures c.difference-left.ensures c.remove.ensures)
     c.plans_sum_scopes.ensures.sums c.put_masses.new.masses c.in_ok-put_masses.ensures.puts in
     let made : c.in_ok-masses.masses.items ≡ replicate c.rows.result 0 = c.in_ok-masses.ensures.items_if_clones_equal (λ y e. e) in
     let before : length c.deref_mut.result.now ≡ length c.in_ok-masses.masses.items = ap (λ (xs : List ℕ). length xs) c.deref_mut.ensures.value in
