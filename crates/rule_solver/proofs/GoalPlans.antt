@@ -1,13 +1,21 @@
 -- The kept plans of a decision's goals, place by place.
-use Rattle.std.proofs.Common.{◌≡◌, ◌∙◌, ℕ, zero, suc, ◌<◌, Bool, true, false, ◌&&◌, List, [], ◌∷◌, map, length, get_or, slice_index, refl, sym, ap, subst, arith}
+use Rattle.std.proofs.Common.{◌≡◌, ◌∙◌, ◌⊎◌, ◌↔◌, inl, inr, ℕ, zero, suc, ◌<◌, ◌≤◌, Bool, true, false, not, ◌&&◌, ◌||◌, filter, Contains, List, [], ◌∷◌, map, length, get_or, slice_index, refl, sym, ap, subst, arith}
 use Rattle.std.specs.List.{AllZip}
 use Rattle.std.proofs.lemmas.List.Elements.{filter_agree}
 use Rattle.std.proofs.lemmas.Slice.Zip.{AllZip-long}
+use Rattle.finite_sums.proofs.Counts.{true_or_false}
+use Rattle.finite_sums.proofs.Lists.{among_filter}
+use Rattle.finite_sums.proofs.Members.{among_from_contains, contains_from_among, filter_has, range_within}
+use Rattle.maid_laws.proofs.Rearranged.{number}
+use Rattle.maid_laws.proofs.Tied.{kind_within}
 use Rattle.maid_model.specs.Graph.{descends}
 use Rattle.maid_model.specs.Nodes.{agent_of, is_utility_of, numbers_of}
 use Rattle.maid_model.specs.Scopes.{goals_of}
 use Rattle.maid_model.specs.Views.{NodeView}
-use Rattle.plan_sums.specs.Plans.{PlanView, gain_plan}
+use Rattle.node_sets.specs.declared.sets.NodeSet.{NodeSet}
+use Rattle.node_sets.specs.Sets.{IsIn}
+use Rattle.plan_sums.specs.Plans.{PlanView, gain_plan, has, in_plan, plan_nodes}
+use Rattle.plan_sums.proofs.Filters.{has_member, has_yes}
 use Rattle.size_precheck.specs.Sizes.{SizedPlan, IsPlanned, goal_list}
 
 -- by place
@@ -49,3 +57,49 @@ module _ (nodes : List NodeView) (d : ℕ) where
         let here : IsPlanned nodes (get_or (map (λ u. gain_plan nodes d u) (goal_list nodes d)) k (gain_plan nodes d 0)) (get_or plans k plan) = zip_at (IsPlanned nodes) (map (λ u. gain_plan nodes d u) (goal_list nodes d)) plans k (gain_plan nodes d 0) plan kept within in
         subst (λ (l : List ℕ). IsPlanned nodes (gain_plan nodes d (slice_index l k)) plan) same_goals
         (subst (λ x. IsPlanned nodes x plan) (map_at (λ u. gain_plan nodes d u) (goal_list nodes d) k inside) (subst (IsPlanned nodes (get_or (map (λ u. gain_plan nodes d u) (goal_list nodes d)) k (gain_plan nodes d 0))) (sym at) here))
+
+-- ---- the nodes of a plan are those that it keeps and those that it eliminates
+has_contains : (xs : List ℕ) (v : ℕ) → (has xs v ≡ true) ↔ Contains xs v
+has_contains xs v = ((λ e. contains_from_among xs v (has_member v xs e)), (λ m. has_yes v xs (among_from_contains xs v m)))
+
+in_filter : (p : ℕ → Bool) (xs : List ℕ) (v : ℕ) → Contains (filter p xs) v ↔ (Contains xs v × (p v ≡ true))
+in_filter p xs v = (
+  (λ m. let a = among_filter p v xs (among_from_contains (filter p xs) v m) in (contains_from_among xs v a.0, a.1)),
+  (λ h. contains_from_among (filter p xs) v (filter_has p v xs (among_from_contains xs v h.0) h.1)),
+)
+
+module _ (nodes : List NodeView) (asked : PlanView) (made : SizedPlan) (planned : IsPlanned nodes asked made) where
+  -- a kept node is one of the plan, and so is one that is eliminated
+  kept_in : (v : ℕ) → Contains asked.keep v → Contains (plan_nodes nodes asked) v
+  kept_in v m =
+      let within : v < length nodes = kind_within nodes v (planned.asked.is_plan.kept v m) in
+      (in_filter (in_plan nodes asked) (numbers_of nodes) v).1 (contains_from_among (numbers_of nodes) v (number nodes v within), either (has asked.keep v) _ ((has_contains asked.keep v).1 m))
+    where
+      either : (a b : Bool) → a ≡ true → (a || b) ≡ true
+      either true b e = refl
+      either false b e = absurd (cc)
+
+  step_in : (v : ℕ) → Contains made.steps v → Contains (plan_nodes nodes asked) v
+  step_in v m = ((in_filter (λ x. not (has asked.keep x)) (plan_nodes nodes asked) v).0 ((planned.made.order.all v).0 m)).0
+
+  member_in : (v : ℕ) → (Contains asked.keep v ⊎ Contains made.steps v) → Contains (plan_nodes nodes asked) v
+  member_in v (inl k) = kept_in v k
+  member_in v (inr s) = step_in v s
+
+  in_member : (v : ℕ) → Contains (plan_nodes nodes asked) v → Contains asked.keep v ⊎ Contains made.steps v
+  in_member v m = elim (true_or_false (has asked.keep v)) as (λ _. Contains asked.keep v ⊎ Contains made.steps v) [
+    | inl h ↦ inl ((has_contains asked.keep v).0 h)
+    | inr h ↦ inr ((planned.made.order.all v).1 ((in_filter (λ x. not (has asked.keep x)) (plan_nodes nodes asked) v).1 (m, ap not h)))
+  ]
+
+  pub members_small : length nodes ≤ 256 → (v : ℕ) → (Contains made.plan.keep v ⊎ Contains made.steps v) → v < 256
+  members_small few v m =
+      let here : Contains asked.keep v ⊎ Contains made.steps v = subst (λ (x : PlanView). Contains x.keep v ⊎ Contains made.steps v) planned.made.plan m in
+      let among = among_filter (in_plan nodes asked) v (numbers_of nodes) (among_from_contains (plan_nodes nodes asked) v (member_in v here)) in
+      let within = (range_within 0 (length nodes) v among.0).1 in
+      omega (arith, few, within)
+
+  pub members_are : (set : NodeSet) → ((v : ℕ) → IsIn set v ↔ (Contains made.plan.keep v ⊎ Contains made.steps v)) → (v : ℕ) → IsIn set v ↔ Contains (plan_nodes nodes made.plan) v
+  members_are set is v =
+      let here : IsIn set v ↔ (Contains asked.keep v ⊎ Contains made.steps v) = subst (λ (x : PlanView). IsIn set v ↔ (Contains x.keep v ⊎ Contains made.steps v)) planned.made.plan (is v) in
+      subst (λ (x : PlanView). IsIn set v ↔ Contains (plan_nodes nodes x) v) (sym planned.made.plan) ((λ m. member_in v (here.0 m)), (λ m. here.1 (in_member v m)))

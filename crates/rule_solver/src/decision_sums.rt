@@ -65,7 +65,7 @@ impl<'a> Setting<'a> {
         plans_sum_scopes();
         plans_keep_scopes();
         let mut masses = vec![in alloc; 0; self.diagram.rows(self.decision)]?;
-        let mut left = self.scope.difference(&plan.nodes(self.diagram));
+        let mut left = self.scope.difference(&plan.members());
         left.remove(self.decision);
         let factor = product_in(self.totals, &left);
         let slot = run_plan(work, plan, self.diagram, self.base);
@@ -102,7 +102,7 @@ impl<'a> Setting<'a> {
         ensures len { length gains.new ≡ length gains.old }
     {
         plans_keep_scopes();
-        let left = self.scope.difference(&plan.nodes(self.diagram));
+        let left = self.scope.difference(&plan.members());
         let factor = product_in(self.totals, &left);
         let slot = run_plan(work, plan, self.diagram, self.base);
         add_gains(

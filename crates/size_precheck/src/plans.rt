@@ -1,9 +1,8 @@
 //! Plans of elimination.
 
-ghost use Rattle.std.specs.Prelude.{◌≡◌, ◌↔◌, ℕ, Contains, IfOk};
-ghost use Rattle.maid_model.specs.Diagrams.{IsDiagram};
+ghost use Rattle.std.specs.Prelude.{◌≡◌, ◌⊎◌, ◌↔◌, ◌<◌, ℕ, Contains, IfOk};
+ghost use Rattle.node_sets.specs.declared.sets.TheConstants.{MOST_NODES};
 ghost use Rattle.node_sets.specs.Sets.{IsIn};
-ghost use Rattle.plan_sums.specs.Plans.{plan_nodes};
 ghost use Rattle.size_precheck.specs.Sizes.{CanBePlanned, IsMade};
 
 use crate::counts::{add, count_cells, multiply};
@@ -63,14 +62,14 @@ impl Plan {
         &self.steps
     }
 
-    /// The nodes of the plan: the kept ones, and all from which a path of arcs leads to one of them or to the utility. It takes
-    /// no memory, and goes along the arcs again.
-    pub fn nodes(&self, diagram: &Diagram) -> NodeSet
-        requires diagram { IsDiagram diagram.now }
-        requires asked { CanBePlanned diagram.now.nodes self.now.plan }
-        ensures { (v : ℕ) → IsIn result v ↔ Contains (plan_nodes diagram.now.nodes self.now.plan) v }
+    /// The nodes of the plan: those that it keeps, and those that it eliminates. It takes no memory.
+    pub fn members(&self) -> NodeSet
+        requires { (v : ℕ) → (Contains self.now.plan.keep v ⊎ Contains self.now.steps v) → v < MOST_NODES }
+        ensures { (v : ℕ) → IsIn result v ↔ (Contains self.now.plan.keep v ⊎ Contains self.now.steps v) }
     {
-        plan_nodes(diagram, &self.keep, self.utility)
+        let mut nodes = set_of(self.keep());
+        nodes.insert_all(self.steps());
+        nodes
     }
 
     /// How many cells its tables have together, and its work. It takes no memory.
