@@ -83,9 +83,12 @@ fn find_fewest(waiting: &[usize], cells: &[u64]) -> usize
     ensures { IsFewestAt waiting.now cells.now result }
 {
     let mut place = 0;
+    let mut fewest = cells[waiting[0]];
     'places: for i in 1..waiting.len() {
-        if cells[waiting[i]] < cells[waiting[place]] {
+        let count = cells[waiting[i]];
+        if count < fewest {
             place = i;
+            fewest = count;
         }
     }
     place

@@ -1,4 +1,4 @@
-use Rattle.std.proofs.Common.{◌<◌, ◌≤◌, ℕ, length}
+use Rattle.std.proofs.Common.{◌≡◌, ◌<◌, ◌≤◌, ℕ, length}
 use Rattle.std.specs.Prelude.{slice_index}
 use Rattle.size_precheck.proofs.simulation.find_fewest.Given as goal
 
@@ -7,6 +7,7 @@ abbrev pub invariant-places : goal.invariant-places
 invariant-places l = record {
   within : l.place < l.i;
   end : l.i ≤ length l.waiting;
-  fewest : (k : ℕ) → k < l.i → slice_index l.cells (slice_index l.waiting l.place) ≤ slice_index l.cells (slice_index l.waiting k);
+  best : l.fewest ≡ slice_index l.cells (slice_index l.waiting l.place);
+  least : (k : ℕ) → k < l.i → slice_index l.cells (slice_index l.waiting l.place) ≤ slice_index l.cells (slice_index l.waiting k);
   first : (k : ℕ) → k < l.place → slice_index l.cells (slice_index l.waiting l.place) < slice_index l.cells (slice_index l.waiting k);
 }
