@@ -1,6 +1,8 @@
 -- The kept plans of a decision's goals, place by place.
-use Rattle.std.proofs.Common.{◌≡◌, ◌∙◌, ◌⊎◌, ◌↔◌, inl, inr, ℕ, zero, suc, ◌<◌, ◌≤◌, Bool, true, false, not, ◌&&◌, ◌||◌, filter, Contains, List, [], ◌∷◌, map, length, get_or, slice_index, refl, sym, ap, subst, arith}
+use Rattle.std.proofs.Common.{All, ◌+◌, max, ◌≡◌, ◌∙◌, ◌⊎◌, ◌↔◌, inl, inr, ℕ, zero, suc, ◌<◌, ◌≤◌, Bool, true, false, not, ◌&&◌, ◌||◌, filter, Contains, List, [], ◌∷◌, map, length, get_or, slice_index, refl, sym, ap, subst, arith}
 use Rattle.std.specs.List.{AllZip}
+use Rattle.std.proofs.Math.Decide.{ℕ_discrete}
+use Rattle.std.proofs.lemmas.List.{get_or_default}
 use Rattle.std.proofs.lemmas.List.Elements.{filter_agree}
 use Rattle.std.proofs.lemmas.Slice.Zip.{AllZip-long}
 use Rattle.finite_sums.proofs.Counts.{true_or_false}
@@ -8,15 +10,19 @@ use Rattle.finite_sums.proofs.Lists.{among_filter}
 use Rattle.finite_sums.proofs.Members.{among_from_contains, contains_from_among, filter_has, range_within}
 use Rattle.maid_laws.proofs.Rearranged.{number}
 use Rattle.maid_laws.proofs.Tied.{kind_within}
-use Rattle.maid_model.specs.Graph.{descends}
-use Rattle.maid_model.specs.Nodes.{agent_of, is_utility_of, numbers_of}
+use Rattle.maid_model.specs.Graph.{IsGraph, descends}
+use Rattle.maid_model.specs.Nodes.{IsDecision, agent_of, is_utility_of, numbers_of}
 use Rattle.maid_model.specs.Scopes.{goals_of}
 use Rattle.maid_model.specs.Views.{NodeView}
 use Rattle.node_sets.specs.declared.sets.NodeSet.{NodeSet}
 use Rattle.node_sets.specs.Sets.{IsIn}
-use Rattle.plan_sums.specs.Plans.{PlanView, gain_plan, has, in_plan, plan_nodes}
+use Rattle.plan_sums.specs.Plans.{PlanView, gain_plan, row_plan, has, in_plan, plan_nodes}
 use Rattle.plan_sums.proofs.Filters.{has_member, has_yes}
-use Rattle.size_precheck.specs.Sizes.{SizedPlan, IsPlanned, goal_list}
+use Rattle.size_precheck.specs.Laws.{OneGreedyOrder}
+use Rattle.size_precheck.specs.Sizes.{ArePlansOf, SizedPlan, IsPlanned, goal_list}
+use Rattle.rule_solver.specs.Rooms.{HasAtMost, HasRoomAt}
+use Rattle.rule_solver.proofs.MadeRooms.{made_room, more_room}
+use Rattle.rule_solver.proofs.SettingLemmas.{goal_at, index_of_goal}
 
 -- by place
 pub zip_at : {A B : Type 0} (R : A → B → Type 0) (xs : List A) (ys : List B) (k : ℕ) (d : A) (e : B) → AllZip R xs ys → k < length ys → R (get_or xs k d) (get_or ys k e)
@@ -103,3 +109,69 @@ module _ (nodes : List NodeView) (asked : PlanView) (made : SizedPlan) (planned 
   members_are set is v =
       let here : IsIn set v ↔ (Contains asked.keep v ⊎ Contains made.steps v) = subst (λ (x : PlanView). IsIn set v ↔ (Contains x.keep v ⊎ Contains made.steps v)) planned.made.plan (is v) in
       subst (λ (x : PlanView). IsIn set v ↔ Contains (plan_nodes nodes x) v) (sym planned.made.plan) ((λ m. member_in v (here.0 m)), (λ m. here.1 (in_member v m)))
+
+-- ---- room for the plans of a decision
+module _ (nodes : List NodeView) (graph : IsGraph nodes) (d : ℕ) (is : IsDecision nodes d) (rows : SizedPlan) (goals : List SizedPlan) (kept : ArePlansOf nodes d rows goals) where
+  -- where the kept plans have at most so many cells, each plan has
+  pub kept_room : OneGreedyOrder → (cells : ℕ) → rows.size.cells ≤ cells → All (λ (plan : SizedPlan). plan.size.cells ≤ cells) goals → HasRoomAt nodes d cells
+  kept_room one cells first all = record {
+    rows = more_room nodes (row_plan nodes d) rows.size.cells cells first (made_room nodes (row_plan nodes d) rows one kept.of_rows.made);
+    goals = λ u goal.
+        let place = index_of_goal nodes graph d is u goal in
+        let plan : SizedPlan = get_or goals place.0 rows in
+        let long = goal_plans_long nodes d goals kept.of_goals in
+        let within : place.0 < length goals = let l = place.1 in omega (arith, long, l) in
+        let at : plan ≡ get_or goals place.0 plan = same_at goals place.0 rows plan within in
+        let made = (goal_plan_at nodes d goals kept.of_goals place.0 plan place.1 at).made in
+        subst (λ x. HasAtMost nodes (gain_plan nodes d x) cells) (get_or_default (goals_of nodes d) place.0 0 u place.1 ∙ place.2)
+        (more_room nodes (gain_plan nodes d (slice_index (goals_of nodes d) place.0)) plan.size.cells cells (all place.0 rows within) (made_room nodes (gain_plan nodes d (slice_index (goals_of nodes d) place.0)) plan one made));
+  }
+    where
+      same_at : (xs : List SizedPlan) (k : ℕ) (a b : SizedPlan) → k < length xs → get_or xs k a ≡ get_or xs k b
+      same_at xs k a b h = get_or_default xs k a b h
+
+  -- and where each plan has at most so many, the kept ones have
+  pub room_kept : (n : ℕ) → HasRoomAt nodes d n → (rows.size.cells ≤ n) × All (λ (plan : SizedPlan). plan.size.cells ≤ n) goals
+  room_kept n room = (
+    room.rows rows kept.of_rows.made,
+    (λ k e h.
+        let long = goal_plans_long nodes d goals kept.of_goals in
+        let inside : k < length (goals_of nodes d) = omega (arith, long, h) in
+        let plan : SizedPlan = get_or goals k e in
+        room.goals (slice_index (goals_of nodes d) k) (goal_at nodes graph d is k inside) plan (goal_plan_at nodes d goals kept.of_goals k plan inside (get_or_default goals k e plan h)).made),
+  )
+
+-- one plan more
+pub more_cells : (goals items : List SizedPlan) (i most cells both : ℕ) (plan : SizedPlan) → items ≡ goals → i < length items → plan ≡ get_or items i plan → cells ≡ plan.size.cells → both ≡ max most cells
+    → ((k : ℕ) (e : SizedPlan) → k < i → (get_or goals k e).size.cells ≤ most) → (k : ℕ) (e : SizedPlan) → k < i + 1 → (get_or goals k e).size.cells ≤ both
+more_cells goals items i most cells both plan is within at counted greater so k e h = go (ℕ_discrete k i)
+  where
+    here : (get_or goals i e).size.cells ≡ cells
+    here = ap (λ (l : List SizedPlan). (get_or l i e).size.cells) (sym is) ∙ ap (λ (x : SizedPlan). x.size.cells) (get_or_default items i e plan within ∙ sym at) ∙ sym counted
+
+    left : (a b c : ℕ) → c ≡ max a b → a ≤ c
+    left a b c e = omega (arith, e)
+
+    right : (x a b c : ℕ) → x ≡ b → c ≡ max a b → x ≤ c
+    right x a b c f e = omega (arith, f, e)
+
+    chain : (a b c : ℕ) → a ≤ b → b ≤ c → a ≤ c
+    chain a b c f g = omega (arith, f, g)
+
+    less : (k n : ℕ) → k < n + 1 → (k ≡ n → ⊥) → k < n
+    less k n h m = omega (arith, h)
+
+    go : Dec (k ≡ i) → (get_or goals k e).size.cells ≤ both
+    go (yes f) = subst (λ x. (get_or goals x e).size.cells ≤ both) (sym f) (right (get_or goals i e).size.cells most cells both here greater)
+    go (no m) = chain (get_or goals k e).size.cells most both (so k e (less k i h m)) (left most cells both greater)
+
+-- and a number that all have at most is not passed
+pub least_cells : (goals items : List SizedPlan) (i most cells both n : ℕ) (plan : SizedPlan) → items ≡ goals → i < length items → plan ≡ get_or items i plan → cells ≡ plan.size.cells → both ≡ max most cells
+    → most ≤ n → All (λ (x : SizedPlan). x.size.cells ≤ n) goals → both ≤ n
+least_cells goals items i most cells both n plan is within at counted greater few all =
+    let there : (get_or goals i plan).size.cells ≤ n = all i plan (subst (λ (l : List SizedPlan). i < length l) is within) in
+    let same : (get_or goals i plan).size.cells ≡ cells = ap (λ (l : List SizedPlan). (get_or l i plan).size.cells) (sym is) ∙ ap (λ (x : SizedPlan). x.size.cells) (sym at) ∙ sym counted in
+    join (get_or goals i plan).size.cells cells most both n there same greater few
+  where
+    join : (x c m b n : ℕ) → x ≤ n → x ≡ c → b ≡ max m c → m ≤ n → b ≤ n
+    join x c m b n h e f g = omega (arith, h, e, f, g)

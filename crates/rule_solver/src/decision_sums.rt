@@ -1,9 +1,8 @@
 //! The gains and masses of one decision, by plans of elimination in the part of its scope.
 
-ghost use Rattle.std.specs.Prelude.{◌≡◌, ◌+◌, ◌*◌, ℕ, ◌≤◌, IfOk, OnOk, length, map};
+ghost use Rattle.std.specs.Prelude.{◌≡◌, ◌+◌, ◌*◌, ℕ, ◌≤◌, All, IfOk, OnOk, length, map};
 ghost use Rattle.std.specs.List.{AllZip};
 ghost use Rattle.maid_model.specs.declared.limits.TheConstants.{MOST_PLAN_CELLS};
-ghost use Rattle.maid_model.specs.Diagrams.{IsDiagram};
 ghost use Rattle.maid_model.specs.Nodes.{IsDecision};
 ghost use Rattle.maid_model.specs.Profiles.{IsProfile};
 ghost use Rattle.maid_model.specs.Relevance.{IsGoal};
@@ -22,7 +21,7 @@ use factor_core::Workspace;
 use maid_model::{Diagram, Profile, goals_of};
 use node_sets::NodeSet;
 use scope_sums::{plans_keep_scopes, plans_sum_scopes};
-use size_precheck::{DecisionPlans, Plan, greedy_orders, plan_decision, plan_gain, plan_rows};
+use size_precheck::{DecisionPlans, Plan, greedy_orders, plan_decision};
 use std::alloc::{AllocError, Global};
 use weight_scale::decision_scope;
 
@@ -163,33 +162,26 @@ impl<'a> Setting<'a> {
     }
 }
 
-/// How many cells the largest of the decision's plans has.
-fn most_cells(alloc: Global, diagram: &Diagram, decision: usize) -> Result<usize, AllocError>
-    requires diagram { IsDiagram diagram.now }
-    requires decision { IsDecision diagram.now.nodes decision }
-    requires room { HasRoomAt diagram.now.nodes decision MOST_PLAN_CELLS }
-    ensures room { IfOk result (HasRoomAt diagram.now.nodes decision) }
-    ensures limit { IfOk result (λ cells. cells ≤ MOST_PLAN_CELLS) }
+/// How many cells the largest of a decision's plans has.
+fn most_cells(plans: &DecisionPlans) -> u128
+    ensures rows { plans.now.rows.size.cells ≤ result }
+    ensures goals { All (λ plan. plan.size.cells ≤ result) plans.now.goals.items }
+    ensures least { (n : ℕ) → plans.now.rows.size.cells ≤ n → All (λ plan. plan.size.cells ≤ n) plans.now.goals.items → result ≤ n }
 {
-    // A plan that is made again has as many cells.
-    greedy_orders();
-    let goals = list_scope(alloc, diagram, &goals_of(diagram, decision))?;
-    let plan = plan_rows(alloc, diagram, decision)?;
-    let mut most = plan.size().cells as usize;
-    for goal in &goals {
-        let plan = plan_gain(alloc, diagram, decision, *goal)?;
-        most = most.max(plan.size().cells as usize);
+    let mut most = plans.rows.size().cells;
+    for plan in &plans.goals {
+        most = most.max(plan.size().cells);
     }
-    Ok(most)
+    most
 }
 
 /// What the states of a decision gain in each row, and the rows' masses, with the profile as base: the sums over the
 /// worlds of the part that the decision's scope makes. A decision's own rule counts in neither.
 ///
 /// It sums by variable elimination: one plan for the rows, and one for each utility of the decision's agent that descends
-/// from the decision. It makes each plan twice, once for its size and once to run it, and reserves two workspaces of as
-/// many cells as the largest of them has. It may be asked where no such plan has more than 4,194,304 cells, each scope
-/// keeps the weight bound, and no other rule adds up to more than its decision has states, as pure and uniform ones do.
+/// from the decision. It makes all of them before it runs the first, and reserves two workspaces of as many cells as the
+/// largest has. It may be asked where no such plan has more than 4,194,304 cells, each scope keeps the weight bound, and no
+/// other rule adds up to more than its decision has states, as pure and uniform ones do.
 ///
 /// # Errors
 ///
@@ -207,9 +199,11 @@ pub fn row_sums(
     requires room { HasRoomAt diagram.now.nodes decision MOST_PLAN_CELLS }
     ensures { IfOk result (λ sums. IsRowSums diagram.now.nodes profile.now decision sums.gains.items sums.masses.items) }
 {
+    // A plan that is made again has as many cells.
+    greedy_orders();
     let totals = list_totals(alloc, diagram, profile)?;
-    let cells = most_cells(alloc, diagram, decision)?;
     let plans = plan_decision(alloc, diagram, decision)?;
+    let cells = most_cells(&plans) as usize;
     let mut masses = Workspace::reserve(alloc, cells)?;
     let mut gains = Workspace::reserve(alloc, cells)?;
     let setting = Setting {

@@ -1,13 +1,10 @@
-use Rattle.std.proofs.Common.{ℕ, ◌<◌, ◌≤◌, slice_index}
-use Rattle.maid_model.specs.declared.limits.TheConstants.{MOST_PLAN_CELLS}
-use Rattle.maid_model.specs.Scopes.{goals_of}
-use Rattle.plan_sums.specs.Plans.{gain_plan, row_plan}
-use Rattle.rule_solver.specs.Rooms.{HasAtMost}
+use Rattle.std.proofs.Common.{ℕ, ◌<◌, ◌≤◌, All, get_or}
+use Rattle.size_precheck.specs.Sizes.{SizedPlan}
 use Rattle.rule_solver.proofs.decision_sums.most_cells.Given as goal
 
--- room for the rows' plan and those of the goals so far, within the limit
-abbrev pub invariant-loop-goal : goal.invariant-loop-goal
-invariant-loop-goal l =
-    HasAtMost l.diagram.nodes (row_plan l.diagram.nodes l.decision) l.most
-    × ((k : ℕ) → k < l.goal-index → HasAtMost l.diagram.nodes (gain_plan l.diagram.nodes l.decision (slice_index (goals_of l.diagram.nodes l.decision) k)) l.most)
-    × (l.most ≤ MOST_PLAN_CELLS)
+-- as many as the plans so far, and no more than any number that all have at most
+abbrev pub invariant-loop-plan : goal.invariant-loop-plan
+invariant-loop-plan l =
+    (l.plans.rows.size.cells ≤ l.most)
+    × ((k : ℕ) (d : SizedPlan) → k < l.plan-index → (get_or l.plans.goals.items k d).size.cells ≤ l.most)
+    × ((n : ℕ) → l.plans.rows.size.cells ≤ n → All (λ (plan : SizedPlan). plan.size.cells ≤ n) l.plans.goals.items → l.most ≤ n)
