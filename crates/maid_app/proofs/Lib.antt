@@ -6,6 +6,7 @@ pub mod Generated
 pub mod Judging
 pub mod Known
 pub mod Leading
+pub mod Moving
 pub mod Nodes
 pub mod OnePlace
 pub mod Outcomes

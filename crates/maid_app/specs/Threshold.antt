@@ -1,6 +1,9 @@
 -- What `threshold` writes: how far one probability may move.
-use Rattle.std.specs.Prelude.{◌≡◌, ℕ, ◌-◌, List, [], ◌∷◌, ◌++◌, codes, decimal}
+use Rattle.std.specs.Prelude.{◌≡◌, ℕ, ◌-◌, ◌<◌, List, [], ◌∷◌, ◌++◌, codes, decimal}
+use Rattle.first_fault.specs.Passes.{Pass, ◌▸◌}
+use Rattle.maid_model.specs.declared.diagrams.Kind.TheVariants.{Chance}
 use Rattle.maid_model.specs.Names.{NamesView, label_of, name_of}
+use Rattle.maid_model.specs.Nodes.{node_at, states_of}
 use Rattle.maid_model.specs.Reports.{line, quoted, ratio_text}
 use Rattle.maid_model.specs.Views.{DiagramView, SolvedView}
 use Rattle.threshold.specs.Faults.{OthersWeighNought}
@@ -8,10 +11,12 @@ use Rattle.threshold.specs.Intervals.{TellsNow, TellsSpan, IsOnlySpan, StaysPerf
 use Rattle.threshold.specs.declared.interval.Interval.{Interval}
 use Rattle.maid_app.specs.Chances.{IsStatePlace}
 use Rattle.maid_app.specs.declared.forms.chances.StatePlace.{StatePlace}
-use Rattle.maid_app.specs.Moved.{HasRow, KeepsMovedBound}
+use Rattle.maid_app.specs.Moved.{HasRow, KeepsMovedBound, TellsMovedBound, TellsNoOthers, TellsUnknownRow}
+use Rattle.maid_app.specs.Outcome.{Refused}
 use Rattle.maid_app.specs.Solve.{IsSolution, IsSolvable, solver_stages}
-use Rattle.maid_app.specs.Stages.{Stage, name_stages, text_fault, unknown_row, no_others, moved_bound}
+use Rattle.maid_app.specs.Stages.{Stage, stage, name_stages, text_fault, unknown_row, no_others, moved_bound}
 use Rattle.maid_app.specs.Tasks.{Task, text_task}
+use Rattle.maid_app.specs.declared.status.Status.TheVariants.{UnknownRow, NoOthers, WeightBound}
 
 -- the node, the row's number from 1, the state, its probability there, and the ends of the interval
 abbrev pub threshold_text : NamesView → ℕ → ℕ → ℕ → Interval → List ℕ
@@ -54,3 +59,23 @@ place_stages node row state =
 abbrev pub moving : List ℕ → ℕ → List ℕ → Task
 moving node row state =
     text_task (place_stages node row state ++ solver_stages ++ moved_bound node row state ∷ []) (HasThreshold node row state)
+
+-- a chance node, one of its states and one of its rows, in which another state has weight
+pub record IsCellPlace (d : DiagramView) (place : StatePlace) (row : ℕ) : Type 0 where
+  pub kind : (node_at d.nodes place.node).kind ≡ Chance
+  pub state : place.state < states_of d.nodes place.node
+  pub has_row : HasRow d place.node row
+  pub others : OthersWeighNought d.nodes place.node (row - 1) place.state → ⊥
+
+-- what the stages of the row find there
+abbrev pub row_pass : DiagramView → StatePlace → ℕ → List ℕ → Pass Refused
+row_pass d place row name =
+    stage UnknownRow (HasRow d place.node row) (TellsUnknownRow d place.node row)
+    ▸ stage NoOthers (OthersWeighNought d.nodes place.node (row - 1) place.state → ⊥)
+    (TellsNoOthers d place.node row place.state name)
+
+-- and what that of the changed diagrams finds
+abbrev pub moved_pass : DiagramView → NamesView → StatePlace → ℕ → Pass Refused
+moved_pass d names place row =
+    stage WeightBound (KeepsMovedBound d place.node row place.state)
+    (TellsMovedBound d place.node row place.state names)

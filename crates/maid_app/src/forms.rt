@@ -19,10 +19,10 @@ mod demo;
 mod given;
 mod graph;
 mod info;
+mod moved;
 mod print;
 mod pure;
 mod solve;
-mod threshold;
 mod trim;
 mod update;
 
@@ -150,7 +150,7 @@ impl<'a> TextForm<'a> {
                 node,
                 row,
                 state,
-            } => threshold::answer(alloc, Source { name: file, bytes }, node, row, state),
+            } => moved::answer(alloc, Source { name: file, bytes }, node, row, state),
             TextForm::Demo { k } => demo::answer(alloc, k, bytes),
         }
     }

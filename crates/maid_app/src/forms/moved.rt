@@ -1,0 +1,165 @@
+//! `threshold F X ROW STATE`: how far one probability may move.
+
+ghost use Rattle.std.specs.Prelude.{◌≡◌, ◌-◌, ◌<◌, ◌↔◌, Ok, IfOk, IfErr, IsTrue, None, OnOk, length};
+ghost use Rattle.first_fault.specs.Answers.{IsFaultOrNoMemory};
+ghost use Rattle.maid_model.specs.declared.diagrams.Kind.TheVariants.{Chance};
+ghost use Rattle.maid_model.specs.Answers.{IsAnswer};
+ghost use Rattle.maid_model.specs.Names.{NamesFit, labels_of};
+ghost use Rattle.maid_model.specs.Nodes.{node_at, rows_of, states_of};
+ghost use Rattle.threshold.specs.Faults.{OthersWeighNought};
+ghost use Rattle.threshold.specs.Intervals.{IsOnlySpan, StaysPerfect, TellsNow, TellsSpan};
+ghost use Rattle.maid_app.specs.Moved.{HasRow, KeepsMovedBound};
+ghost use Rattle.maid_app.specs.Outcome.{done_with};
+ghost use Rattle.maid_app.specs.Reading.{TellsOf};
+ghost use Rattle.maid_app.specs.Refusal.{refused_as};
+ghost use Rattle.maid_app.specs.Solve.{IsSolvable};
+ghost use Rattle.maid_app.specs.Tasks.{comes_of};
+ghost use Rattle.maid_app.specs.Threshold.{IsCellPlace, moved_pass, moving, row_pass, threshold_text};
+
+use super::chances::{StatePlace, find_state};
+use super::solve::solve_diagram;
+use crate::reading::Source;
+use crate::refusal::{Refusal, told};
+use crate::{Status, lines};
+use line_pieces::{push_number, push_quoted};
+use maid_model::{Diagram, Names, Solved};
+use report_text::print_ratio;
+use std::alloc::{AllocError, Global};
+use threshold::{Interval, SpanFault, span};
+
+// Whether all other states of the row weigh nought. The row counts from 0.
+fn others_weigh_nought(diagram: &Diagram, place: StatePlace, row: usize) -> bool
+    requires kind { (node_at diagram.now.nodes place.node).kind ≡ Chance }
+    requires row { row < rows_of diagram.now.nodes place.node }
+    ensures { IsTrue result ↔ OthersWeighNought diagram.now.nodes place.node row place.state }
+{
+    let states = diagram.states(place.node);
+    let cells = diagram.cells(place.node);
+    for state in 0..states {
+        if state != place.state && cells[row * states + state] != 0 {
+            return false;
+        }
+    }
+    true
+}
+
+// Refuses a row that the table has not, and one that gives no other state any weight. The row
+// counts from 1.
+fn keep_row(
+    alloc: Global,
+    diagram: &Diagram,
+    place: StatePlace,
+    row: usize,
+    node: &str,
+) -> Result<(), Refusal>
+    requires { (node_at diagram.now.nodes place.node).kind ≡ Chance }
+    ensures ok { OnOk result (row_pass diagram.now place row node.now None) }
+    ensures err { IfErr result (IsFaultOrNoMemory refused_as
+        (row_pass diagram.now place row node.now)) }
+{
+    if row == 0 || row > diagram.rows(place.node) {
+        return Err(told(Status::UnknownRow, lines::unknown_row(alloc, row)));
+    }
+    if others_weigh_nought(diagram, place, row - 1) {
+        return Err(told(
+            Status::NoOthers,
+            lines::told(alloc, b"no other state: ", node.as_bytes()),
+        ));
+    }
+    Ok(())
+}
+
+// How far the probability of the state in the row may move, if the changed diagrams keep the weight
+// bound. The row counts from 1.
+fn find_interval(
+    alloc: Global,
+    diagram: &Diagram,
+    names: &Names,
+    solved: &Solved,
+    place: StatePlace,
+    row: usize,
+) -> Result<Interval, Refusal>
+    requires fit { NamesFit diagram.now names.now }
+    requires solvable { IsSolvable diagram.now }
+    requires answer { IsAnswer diagram.now solved.now }
+    requires place { IsCellPlace diagram.now place row }
+    ensures bound { OnOk result (moved_pass diagram.now names.now place row None) }
+    ensures err { IfErr result (IsFaultOrNoMemory refused_as
+        (moved_pass diagram.now names.now place row)) }
+    ensures now { IfOk result (TellsNow diagram.now.nodes place.node (row - 1) place.state) }
+    ensures span { IfOk result
+        (TellsSpan diagram.now solved.now place.node (row - 1) place.state) }
+    ensures only { IfOk result
+        (IsOnlySpan diagram.now solved.now place.node (row - 1) place.state) }
+    ensures perfect { IfOk result
+        (StaysPerfect diagram.now solved.now place.node (row - 1) place.state) }
+{
+    match span(alloc, diagram, solved, place.node, row - 1, place.state) {
+        Ok(interval) => Ok(interval),
+        Err(SpanFault::NoOthers) => unreachable!(),
+        Err(SpanFault::WeightBound { node }) => Err(told(
+            Status::WeightBound,
+            lines::weight_bound(alloc, names, node),
+        )),
+        Err(SpanFault::NoMemory) => Err(Refusal::NoMemory),
+    }
+}
+
+// The node, the row, the state and its probability, and the ends of the interval.
+fn threshold_text(
+    alloc: Global,
+    names: &Names,
+    place: StatePlace,
+    row: usize,
+    interval: Interval,
+) -> Result<Vec<u8>, AllocError>
+    requires node { place.node < length names.now.nodes }
+    requires labels { place.node < length names.now.labels }
+    requires state { place.state < length (labels_of names.now place.node) }
+    ensures { IfOk result (λ text. text.items ≡
+        threshold_text names.now place.node row place.state interval) }
+{
+    let mut text = Vec::from_slice(alloc, b"maidsolve threshold 1\n")?;
+    text.extend_from_slice(names.name(place.node))?;
+    text.extend_from_slice(b" row ")?;
+    push_number(&mut text, row as u128)?;
+    text.extend_from_slice(b": ")?;
+    push_quoted(&mut text, names.label(place.node, place.state))?;
+    text.extend_from_slice(b" = ")?;
+    text.extend_from_slice(&print_ratio(alloc, &interval.now)?)?;
+    text.extend_from_slice(b" from ")?;
+    text.extend_from_slice(&print_ratio(alloc, &interval.low)?)?;
+    text.extend_from_slice(b" to ")?;
+    text.extend_from_slice(&print_ratio(alloc, &interval.high)?)?;
+    text.push(b'\n')?;
+    Ok(text)
+}
+
+/// How far the probability of the state with that label may move in that row of the chance node of
+/// that name, counted from 1, while the answered rules of the diagram that a file's bytes stand for
+/// stay best. It solves the diagram, and then takes the time of [`span`].
+///
+/// # Errors
+///
+/// The fault of the bytes, an unknown node, state or row, a row that gives no other state any
+/// weight, what the solver refuses the diagram for, the place at which the changed diagrams pass
+/// the weight bound, or want of memory.
+pub fn answer(
+    alloc: Global,
+    source: Source<'_>,
+    node: &str,
+    row: usize,
+    state: &str,
+) -> Result<Vec<u8>, Refusal>
+    ensures ok { IfOk result (λ printed. comes_of (moving node.now row state.now)
+        source.entry.name.now source.entry.bytes.now (Ok (done_with printed.items))) }
+    ensures err { IfErr result (TellsOf (comes_of (moving node.now row state.now)
+        source.entry.name.now source.entry.bytes.now)) }
+{
+    let (diagram, names) = source.diagram(alloc)?;
+    let place = find_state(alloc, &diagram, &names, node, state)?;
+    keep_row(alloc, &diagram, place, row, node)?;
+    let solved = solve_diagram(alloc, &diagram, &names)?;
+    let interval = find_interval(alloc, &diagram, &names, &solved, place, row)?;
+    Ok(threshold_text(alloc, &names, place, row, interval)?)
+}
