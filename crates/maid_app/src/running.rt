@@ -243,25 +243,32 @@ fn serve<H: Shelf, O: Sink>(
 
 /// Runs the program on the words after its name, and answers how it ended.
 ///
-/// The words are those of one form, which names a file F of the shelf: `solve F` writes the report
-/// of its diagram to `out`, `graph F` who relies on whom, `print F` the diagram, and `trim F` the
-/// diagram without the arcs that its decisions do not need. `info F A` writes what information is worth
-/// to the agent A, and `control F A` what control of chance nodes is. `pure F` writes the first pure
-/// equilibrium, and `update F` the choices that no round of updating changes. `check F R` names a second file
-/// too, and writes the verdict on the report in R of the diagram in F. `demo K` has no file: it writes
-/// a summary of the solved diagram of a generated text of K stages, 1 to 60. The whole text is made
-/// before its first byte is written, and writing takes no memory. After [`Status::Done`], and after
-/// [`Status::Rejected`], which a verdict may end with, `err` takes nothing, and else one line that says why.
+/// The words are those of one form. Each but `demo` names a file F of the shelf, which has a diagram:
+///
+/// | Words | What `out` takes |
+/// |---|---|
+/// | `solve F` | the report of its answer |
+/// | `check F R` | the verdict on the report in the file R |
+/// | `graph F` | who relies on whom |
+/// | `print F` | the diagram |
+/// | `trim F` | the diagram without the arcs that its decisions do not need |
+/// | `info F A`, `control F A` | what information, or control, is worth to the agent A |
+/// | `pure F` | the first pure equilibrium |
+/// | `update F` | the choices that no round of updating changes |
+/// | `given F X S` | the answer where the chance node X has the state S |
+/// | `threshold F X ROW STATE` | how far the state's probability may move in that row of X |
+/// | `demo K` | a summary of the solved diagram of a generated text of K stages, 1 to 60 |
+///
+/// The whole text is made before its first byte is written, and writing takes no memory. After
+/// [`Status::Done`], and after [`Status::Rejected`], which a verdict may end with, `err` takes
+/// nothing, and else one line that says why.
 ///
 /// The order of refusals is [`Status::Usage`] where the words are of no form, [`Status::Absent`],
-/// [`Status::ReadFault`] and [`Status::TextTooLong`] for a file, [`Status::TextFault`] for its
-/// bytes, for `info` and `control` then [`Status::UnknownAgent`], for these, `solve` and `demo` then
-/// [`Status::Cycle`], [`Status::WeightBound`] and [`Status::TooLarge`] for its diagram, for `pure`
-/// [`Status::WeightBound`], [`Status::TooLarge`] and [`Status::NoPure`], for `update`
-/// [`Status::NotOneAgent`], [`Status::WeightBound`], [`Status::TooLarge`] and [`Status::RoundsSpent`], and last [`Status::WriteFault`]. For `check` [`Status::WeightBound`] and
-/// [`Status::TooLarge`] come for the diagram, then those of a file for the report's, with
-/// [`Status::TextFault`] for bytes that are no report. [`Status::NoMemory`] may come at any point after
-/// the words and before the first write. A fault of `err` changes nothing else.
+/// [`Status::ReadFault`] and [`Status::TextTooLong`] for a file, [`Status::TextFault`] for its bytes,
+/// those of the form's own stages in their order (`Task`), and last [`Status::WriteFault`]. For
+/// `check` those of a file come again for the report's, with [`Status::TextFault`] for bytes that are
+/// no report. [`Status::NoMemory`] may come at any point after the words and before the first write.
+/// A fault of `err` changes nothing else.
 pub fn run<H: Shelf, O: Sink, E: Sink>(
     alloc: Global,
     words: &[String],
