@@ -46,8 +46,8 @@ DIAGRAM, REPORT = "t.net", "r.txt"
 # After these statuses the run has written its text.
 WRITTEN = {0, 11}
 
-# The statuses that each form may end with, beside 0 and those of ANY.
-ANY = {1, 2, 3, 4, 5, 9, 10}
+# The statuses that each form may end with, beside those of ANY, and of READING where it reads a file.
+ANY, READING = {0, 1, 5, 9, 10}, {2, 3, 4}
 STATUSES = {
     "solve": {6, 7, 8},
     "check": {7, 8, 11},
@@ -198,7 +198,7 @@ def fault_of(form, words, end, seconds):
         return "signal"
     if seconds > LIMIT:
         return f"{seconds:.1f} seconds"
-    if status not in STATUSES.get(form, set()) | ANY | {0}:
+    if status not in ANY | STATUSES[form] | (set() if form == "demo" else READING):
         return "status"
     if status in WRITTEN:
         return "standard error is not empty" if err else None

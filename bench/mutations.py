@@ -27,7 +27,8 @@ PIECES = [
 NUMBER = re.compile(rb"(?<![\w.])[-+]?\d[\d.]*(?:[eE][-+]?\d+)?")
 NAME = re.compile(rb"[A-Za-z_]\w*")
 STRING = re.compile(rb'"((?:[^"\\\n\r\x00-\x1f]|\\["\\])*)"')
-WHOLE = re.compile(rb"[^\n{}]*\{[^{}]*\}")
+WHOLE = re.compile(rb"(?:^|(?<=\}))[^\n{}]*\{[^{}]*\}", re.M)
+LINE = re.compile(rb"^[^\n]*\n", re.M)
 CHOICE = re.compile(rb"-> .*$", re.M)
 
 
@@ -91,11 +92,11 @@ def exchange_blocks(chance, text, _):
 
 
 def exchange_lines(chance, text, _):
-    return exchanged(chance, text, re.compile(rb"[^\n]+"))
+    return exchanged(chance, text, LINE)
 
 
 def remove_block(chance, text, _):
-    return replaced(chance, text, chance.choice([WHOLE, re.compile(rb"[^\n]*\n")]), lambda _: b"")
+    return replaced(chance, text, chance.choice([WHOLE, LINE]), lambda _: b"")
 
 
 def remove_lines(chance, text, _):
@@ -105,7 +106,7 @@ def remove_lines(chance, text, _):
 
 
 def double_line(chance, text, _):
-    return replaced(chance, text, re.compile(rb"[^\n]*\n"), lambda line: line * chance.choice([2, 2, 3, 300]))
+    return replaced(chance, text, LINE, lambda line: line * chance.choice([2, 2, 3, 300]))
 
 
 def huge_number(chance, text, _):
