@@ -29,6 +29,9 @@ import subprocess
 import sys
 import tempfile
 
+# No folder of compiled modules is to stand in bench/.
+sys.dont_write_bytecode = True
+
 from mutations import DIAGRAMS, NAME, REPORTS, STRING, mutated
 
 BENCH = pathlib.Path(__file__).resolve().parent
