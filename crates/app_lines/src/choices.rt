@@ -25,7 +25,8 @@ fn push_choice(
     requires rows { rows ≡ rows_of diagram.now.nodes decision }
     requires number { number < rows }
     requires choice { choice < states_of diagram.now.nodes decision }
-    ensures { OnOk result (out.new.items ≡ out.old.items ++ choice_line diagram.now.nodes names.now decision number choice) }
+    ensures { OnOk result (out.new.items
+        ≡ out.old.items ++ choice_line diagram.now.nodes names.now decision number choice) }
 {
     push_row_front(out, diagram, names, decision, rows, number)?;
     push_state(out, diagram, names, decision, choice)?;
@@ -42,7 +43,8 @@ fn push_choices(
 ) -> Result<(), AllocError>
     requires fit { NamesFit diagram.now names.now }
     requires answer { HasChoices diagram.now.nodes answer.now }
-    ensures { OnOk result (out.new.items ≡ out.old.items ++ decision_choices diagram.now.nodes names.now answer.now) }
+    ensures { OnOk result (out.new.items
+        ≡ out.old.items ++ decision_choices diagram.now.nodes names.now answer.now) }
 {
     let decision = answer.decision;
     let rows = answer.rows.len();
@@ -64,7 +66,8 @@ pub fn choice_lines(
 ) -> Result<Vec<u8>, AllocError>
     requires names { NamesFit diagram.now names.now }
     requires answers { All (HasChoices diagram.now.nodes) answers.now }
-    ensures { IfOk result (λ text. text.items ≡ choice_lines diagram.now.nodes names.now answers.now) }
+    ensures { IfOk result (λ text.
+        text.items ≡ choice_lines diagram.now.nodes names.now answers.now) }
 {
     let mut text = Vec::new(alloc);
     for answer in answers {

@@ -24,7 +24,8 @@ fn push_one(
     number: usize,
     behind: &[u8],
 ) -> Result<(), AllocError>
-    ensures { OnOk result (out.new.items ≡ out.old.items ++ (before.now ++ decimal number ++ behind.now)) }
+    ensures { OnOk result (out.new.items
+        ≡ out.old.items ++ (before.now ++ decimal number ++ behind.now)) }
 {
     push_numbered(out, before, number)?;
     out.extend_from_slice(behind)
@@ -40,7 +41,9 @@ fn push_two(
     second: usize,
     behind: &[u8],
 ) -> Result<(), AllocError>
-    ensures { OnOk result (out.new.items ≡ out.old.items ++ (before.now ++ decimal first ++ between.now ++ decimal second ++ behind.now)) }
+    ensures { OnOk result (out.new.items
+        ≡ out.old.items
+        ++ (before.now ++ decimal first ++ between.now ++ decimal second ++ behind.now)) }
 {
     push_numbered(out, before, first)?;
     push_one(out, between, second, behind)
@@ -128,7 +131,8 @@ fn push_stage_potentials(out: &mut Vec<u8>, stage: usize) -> Result<(), AllocErr
 }
 
 fn push_blocks(out: &mut Vec<u8>, stages: usize) -> Result<(), AllocError>
-    ensures { OnOk result (out.new.items ≡ out.old.items ++ flat_map stage_blocks (range_with_len 0 stages)) }
+    ensures { OnOk result (out.new.items
+        ≡ out.old.items ++ flat_map stage_blocks (range_with_len 0 stages)) }
 {
     for stage in 0..stages {
         push_stage_blocks(out, stage)?;
@@ -137,7 +141,8 @@ fn push_blocks(out: &mut Vec<u8>, stages: usize) -> Result<(), AllocError>
 }
 
 fn push_potentials(out: &mut Vec<u8>, stages: usize) -> Result<(), AllocError>
-    ensures { OnOk result (out.new.items ≡ out.old.items ++ flat_map stage_potentials (range_with_len 0 stages)) }
+    ensures { OnOk result (out.new.items
+        ≡ out.old.items ++ flat_map stage_potentials (range_with_len 0 stages)) }
 {
     for stage in 0..stages {
         push_stage_potentials(out, stage)?;

@@ -76,7 +76,15 @@ fn node(
     parents: &[usize],
     cells: &[i128],
 ) -> Result<Node, AllocError>
-    ensures { IfOk result (λ n. n ≡ record { kind = kind; owner = 0; more = []; states = states; parents = parents.now; cells = cells.now }) }
+    ensures { IfOk result (λ n.
+        n ≡ record {
+          kind = kind;
+          owner = 0;
+          more = [];
+          states = states;
+          parents = parents.now;
+          cells = cells.now;
+        }) }
 {
     Ok(Node {
         kind,

@@ -18,7 +18,8 @@ impl Marks {
     /// The marks of a search in which walks arrive down arcs at the one set of nodes, and up arcs at the other.
     pub(crate) fn of(given: &NodeSet, down: &NodeSet, up: &NodeSet) -> Marks
         ensures reached { (v : ℕ) → IsIn result.reached v ↔ (IsIn down.now v ⊎ IsIn up.now v) }
-        ensures parents { (v : ℕ) → IsIn result.parents_reached v ↔ LeadsUp given.now down.now up.now v }
+        ensures parents { (v : ℕ) → IsIn result.parents_reached v
+            ↔ LeadsUp given.now down.now up.now v }
     {
         Marks {
             reached: down.union(up),

@@ -42,8 +42,12 @@ fn begin(start: Start) -> (NodeSet, NodeSet)
 pub fn reach(diagram: &Diagram, start: Start, given: &NodeSet) -> Marks
     requires given { (v : ℕ) → IsIn given.now v → v < length diagram.now.nodes }
     requires start { CanStart diagram.now.nodes given.now start }
-    ensures reached { (v : ℕ) → v < length diagram.now.nodes → IsIn result.reached v ↔ IsReachedBy diagram.now.nodes given.now start v }
-    ensures parents { (u v : ℕ) → start ≡ Start.Node u → v < length diagram.now.nodes → IsIn result.parents_reached v ↔ IsReachedFromParent (Arc diagram.now.nodes) (IsLive diagram.now.nodes) (IsIn given.now) (length diagram.now.nodes) v u }
+    ensures reached { (v : ℕ) → v < length diagram.now.nodes
+        → IsIn result.reached v ↔ IsReachedBy diagram.now.nodes given.now start v }
+    ensures parents { (u v : ℕ) → start ≡ Start.Node u → v < length diagram.now.nodes
+        → IsIn result.parents_reached v
+        ↔ IsReachedFromParent (Arc diagram.now.nodes) (IsLive diagram.now.nodes)
+        (IsIn given.now) (length diagram.now.nodes) v u }
 {
     let _count = diagram.count();
     let (mut down, mut up) = begin(start);
@@ -55,9 +59,18 @@ pub fn reach(diagram: &Diagram, start: Start, given: &NodeSet) -> Marks
 /// which nodes an extra parent has an active walk to some of the starts. Memory and cost are those of one `reach`.
 pub fn reach_from_any(diagram: &Diagram, starts: &NodeSet, given: &NodeSet) -> Marks
     requires given { (v : ℕ) → IsIn given.now v → v < length diagram.now.nodes }
-    requires starts { (u : ℕ) → IsIn starts.now u → CanStart diagram.now.nodes given.now (Start.Node u) }
-    ensures reached { (v : ℕ) → v < length diagram.now.nodes → IsIn result.reached v ↔ ((u : ℕ) × IsIn starts.now u × IsReached (Arc diagram.now.nodes) (IsLive diagram.now.nodes) (IsIn given.now) u v) }
-    ensures parents { (v : ℕ) → v < length diagram.now.nodes → IsIn result.parents_reached v ↔ ((u : ℕ) × IsIn starts.now u × IsReachedFromParent (Arc diagram.now.nodes) (IsLive diagram.now.nodes) (IsIn given.now) (length diagram.now.nodes) v u) }
+    requires starts { (u : ℕ) → IsIn starts.now u
+        → CanStart diagram.now.nodes given.now (Start.Node u) }
+    ensures reached { (v : ℕ) → v < length diagram.now.nodes
+        → IsIn result.reached v
+        ↔ ((u : ℕ) × IsIn starts.now u
+        × IsReached (Arc diagram.now.nodes) (IsLive diagram.now.nodes) (IsIn given.now) u
+        v) }
+    ensures parents { (v : ℕ) → v < length diagram.now.nodes
+        → IsIn result.parents_reached v
+        ↔ ((u : ℕ) × IsIn starts.now u
+        × IsReachedFromParent (Arc diagram.now.nodes) (IsLive diagram.now.nodes)
+        (IsIn given.now) (length diagram.now.nodes) v u) }
 {
     let _count = diagram.count();
     let mut down = NodeSet::empty();

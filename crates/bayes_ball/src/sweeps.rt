@@ -44,7 +44,8 @@ fn mark_live(diagram: &Diagram, v: usize, marks: &mut NodeSet) -> bool
 /// Whether walks arrive at the live node from a parent.
 fn hears_parent(diagram: &Diagram, v: usize, given: &NodeSet, down: &NodeSet, up: &NodeSet) -> bool
     requires live { IsLive diagram.now.nodes v }
-    ensures { IsTrue result ↔ ((p : ℕ) × LiveArc diagram.now.nodes p v × LeadsDown given.now down.now up.now p) }
+    ensures { IsTrue result
+        ↔ ((p : ℕ) × LiveArc diagram.now.nodes p v × LeadsDown given.now down.now up.now p) }
 {
     for p in diagram.parents(v) {
         if leads_down(*p, given, down, up) && is_live(diagram, *p) {
@@ -58,7 +59,8 @@ fn hears_parent(diagram: &Diagram, v: usize, given: &NodeSet, down: &NodeSet, up
 fn hear(diagram: &Diagram, v: usize, given: &NodeSet, down: &mut NodeSet, up: &NodeSet) -> bool
     requires small { v < MOST_NODES }
     requires live { IsLive diagram.now.nodes v }
-    ensures { IsSpread (LiveArc diagram.now.nodes) (IsIn given.now) (HearsAll diagram.now.nodes given.now v) down.old up.now down.new up.now result }
+    ensures { IsSpread (LiveArc diagram.now.nodes) (IsIn given.now)
+        (HearsAll diagram.now.nodes given.now v) down.old up.now down.new up.now result }
 {
     if down.holds(v) {
         return false;
@@ -82,7 +84,8 @@ fn mark_parents(diagram: &Diagram, v: usize, up: &mut NodeSet) -> bool
 fn tell(diagram: &Diagram, v: usize, given: &NodeSet, down: &NodeSet, up: &mut NodeSet) -> bool
     requires small { v < MOST_NODES }
     requires live { IsLive diagram.now.nodes v }
-    ensures { IsSpread (LiveArc diagram.now.nodes) (IsIn given.now) (TellsAll diagram.now.nodes given.now v) down.now up.old down.now up.new result }
+    ensures { IsSpread (LiveArc diagram.now.nodes) (IsIn given.now)
+        (TellsAll diagram.now.nodes given.now v) down.now up.old down.now up.new result }
 {
     leads_up(v, given, down, up) && mark_parents(diagram, v, up)
 }
@@ -91,7 +94,9 @@ fn tell(diagram: &Diagram, v: usize, given: &NodeSet, down: &NodeSet, up: &mut N
 fn visit(diagram: &Diagram, v: usize, given: &NodeSet, down: &mut NodeSet, up: &mut NodeSet) -> bool
     requires small { v < MOST_NODES }
     requires within { v < length diagram.now.nodes }
-    ensures { IsSpread (LiveArc diagram.now.nodes) (IsIn given.now) (ClosedInto diagram.now.nodes given.now (λ x. x ≡ v)) down.old up.old down.new up.new result }
+    ensures { IsSpread (LiveArc diagram.now.nodes) (IsIn given.now)
+        (ClosedInto diagram.now.nodes given.now (λ x. x ≡ v)) down.old up.old down.new up.new
+        result }
 {
     if !is_live(diagram, v) {
         return false;
@@ -103,7 +108,9 @@ fn visit(diagram: &Diagram, v: usize, given: &NodeSet, down: &mut NodeSet, up: &
 
 /// Follows every arc once, nodes from first to last.
 fn sweep_on(diagram: &Diagram, given: &NodeSet, down: &mut NodeSet, up: &mut NodeSet) -> bool
-    ensures { IsSpread (LiveArc diagram.now.nodes) (IsIn given.now) (ClosedInto diagram.now.nodes given.now (λ x. x < length diagram.now.nodes)) down.old up.old down.new up.new result }
+    ensures { IsSpread (LiveArc diagram.now.nodes) (IsIn given.now)
+        (ClosedInto diagram.now.nodes given.now (λ x. x < length diagram.now.nodes)) down.old up.old
+        down.new up.new result }
 {
     let mut changed = false;
     for v in 0..diagram.count() {
@@ -114,7 +121,9 @@ fn sweep_on(diagram: &Diagram, given: &NodeSet, down: &mut NodeSet, up: &mut Nod
 
 /// Follows every arc once, nodes from last to first.
 fn sweep_back(diagram: &Diagram, given: &NodeSet, down: &mut NodeSet, up: &mut NodeSet) -> bool
-    ensures { IsSpread (LiveArc diagram.now.nodes) (IsIn given.now) (ClosedInto diagram.now.nodes given.now (λ x. x < length diagram.now.nodes)) down.old up.old down.new up.new result }
+    ensures { IsSpread (LiveArc diagram.now.nodes) (IsIn given.now)
+        (ClosedInto diagram.now.nodes given.now (λ x. x < length diagram.now.nodes)) down.old up.old
+        down.new up.new result }
 {
     let mut changed = false;
     for v in (0..diagram.count()).rev() {
@@ -126,9 +135,11 @@ fn sweep_back(diagram: &Diagram, given: &NodeSet, down: &mut NodeSet, up: &mut N
 /// Sweeps back and on. It says whether there can be more to follow.
 fn sweep_twice(diagram: &Diagram, given: &NodeSet, down: &mut NodeSet, up: &mut NodeSet) -> bool
     ensures kept { (w : Way) (v : ℕ) → IsMarked down.old up.old w v → IsMarked down.new up.new w v }
-    ensures sound { (w : Way) (v : ℕ) → IsMarked down.new up.new w v → Flows (LiveArc diagram.now.nodes) (IsIn given.now) (IsMarked down.old up.old) w v }
+    ensures sound { (w : Way) (v : ℕ) → IsMarked down.new up.new w v
+        → Flows (LiveArc diagram.now.nodes) (IsIn given.now) (IsMarked down.old up.old) w v }
     ensures fewer { IsTrue result → room down.new + room up.new < room down.old + room up.old }
-    ensures closed { IsFalse result → IsClosed (LiveArc diagram.now.nodes) (IsIn given.now) (IsMarked down.new up.new) }
+    ensures closed { IsFalse result
+        → IsClosed (LiveArc diagram.now.nodes) (IsIn given.now) (IsMarked down.new up.new) }
 {
     sweep_back(diagram, given, down, up) && sweep_on(diagram, given, down, up)
 }
@@ -136,8 +147,10 @@ fn sweep_twice(diagram: &Diagram, given: &NodeSet, down: &mut NodeSet, up: &mut 
 /// Adds the marks to which walks go on from those that are there.
 pub fn close(diagram: &Diagram, given: &NodeSet, down: &mut NodeSet, up: &mut NodeSet)
     ensures kept { (w : Way) (v : ℕ) → IsMarked down.old up.old w v → IsMarked down.new up.new w v }
-    ensures sound { (w : Way) (v : ℕ) → IsMarked down.new up.new w v → Flows (LiveArc diagram.now.nodes) (IsIn given.now) (IsMarked down.old up.old) w v }
-    ensures closed { IsClosed (LiveArc diagram.now.nodes) (IsIn given.now) (IsMarked down.new up.new) }
+    ensures sound { (w : Way) (v : ℕ) → IsMarked down.new up.new w v
+        → Flows (LiveArc diagram.now.nodes) (IsIn given.now) (IsMarked down.old up.old) w v }
+    ensures closed { IsClosed (LiveArc diagram.now.nodes) (IsIn given.now)
+        (IsMarked down.new up.new) }
 {
     'sweeps: while sweep_twice(diagram, given, down, up) {}
 }

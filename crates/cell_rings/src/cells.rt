@@ -45,8 +45,11 @@ pub trait Cell: Copy {
     fn add_scaled(out: &mut [Self], at: usize, n: usize, factor: Self, cells: &[Self], from: usize)
         requires out { at + n ≤ length out.old }
         requires cells { from + n ≤ length cells.now }
-        requires room { HasRoom ring out.old (run_sum mass_ring n at (λ i. ring.size factor * ring.size (cell_at ring cells.now (from + i)))) }
-        ensures { Adds ring (run_sum ring n at (λ i. ring.times factor (cell_at ring cells.now (from + i)))) out.old out.new }
+        requires room { HasRoom ring out.old (run_sum mass_ring n at (λ i.
+            ring.size factor * ring.size (cell_at ring cells.now (from + i)))) }
+        ensures { Adds ring
+            (run_sum ring n at (λ i. ring.times factor (cell_at ring cells.now (from + i)))) out.old
+            out.new }
     {
         for i in 0..n {
             out[at + i] = out[at + i].add(factor.mul(cells[from + i]));
@@ -67,8 +70,14 @@ pub trait Cell: Copy {
     )
         requires out { at + n ≤ length out.old }
         requires cells { (from + n ≤ length cells.now) × (beside + n ≤ length cells.now) }
-        requires room { HasRoom ring out.old (run_sum mass_ring n at (λ i. ring.size first * ring.size (cell_at ring cells.now (from + i)) + ring.size second * ring.size (cell_at ring cells.now (beside + i)))) }
-        ensures { Adds ring (run_sum ring n at (λ i. ring.plus (ring.times first (cell_at ring cells.now (from + i))) (ring.times second (cell_at ring cells.now (beside + i))))) out.old out.new }
+        requires room { HasRoom ring out.old (run_sum mass_ring n at (λ i.
+            ring.size first * ring.size (cell_at ring cells.now (from + i))
+            + ring.size second * ring.size (cell_at ring cells.now (beside + i)))) }
+        ensures { Adds ring
+            (run_sum ring n at (λ i.
+            ring.plus (ring.times first (cell_at ring cells.now (from + i)))
+            (ring.times second (cell_at ring cells.now (beside + i)))))
+            out.old out.new }
     {
         for i in 0..n {
             let both = first
@@ -81,9 +90,14 @@ pub trait Cell: Copy {
     /// The sum of the products of the factor and the cells of two runs of n cells, from `from` on and from `beside` on.
     fn dot(n: usize, factor: Self, cells: &[Self], from: usize, beside: usize) -> Self
         requires cells { (from + n ≤ length cells.now) × (beside + n ≤ length cells.now) }
-        requires first { (i : ℕ) → i < n → ring.size factor * ring.size (cell_at ring cells.now (from + i)) ≤ ring.most }
-        requires room { ring_sum mass_ring n (λ i. ring.size factor * ring.size (cell_at ring cells.now (from + i)) * ring.size (cell_at ring cells.now (beside + i))) ≤ ring.most }
-        ensures { result ≡ ring_sum ring n (λ i. ring.times (ring.times factor (cell_at ring cells.now (from + i))) (cell_at ring cells.now (beside + i))) }
+        requires first { (i : ℕ) → i < n
+            → ring.size factor * ring.size (cell_at ring cells.now (from + i)) ≤ ring.most }
+        requires room { ring_sum mass_ring n (λ i.
+            ring.size factor * ring.size (cell_at ring cells.now (from + i))
+            * ring.size (cell_at ring cells.now (beside + i))) ≤ ring.most }
+        ensures { result ≡ ring_sum ring n (λ i.
+            ring.times (ring.times factor (cell_at ring cells.now (from + i)))
+            (cell_at ring cells.now (beside + i))) }
     {
         let mut sum = Self::zero();
         for i in 0..n {

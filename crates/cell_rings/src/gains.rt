@@ -100,8 +100,14 @@ fn add_two_long(
 )
     requires out { at + n ≤ length out.old }
     requires cells { (from + n ≤ length cells.now) × (beside + n ≤ length cells.now) }
-    requires room { HasRoom gain_kind out.old (run_sum mass_ring n at (λ i. gain_kind.size first * gain_kind.size (cell_at gain_kind cells.now (from + i)) + gain_kind.size second * gain_kind.size (cell_at gain_kind cells.now (beside + i)))) }
-    ensures { Adds gain_kind (run_sum gain_kind n at (λ i. gain_kind.plus (gain_kind.times first (cell_at gain_kind cells.now (from + i))) (gain_kind.times second (cell_at gain_kind cells.now (beside + i))))) out.old out.new }
+    requires room { HasRoom gain_kind out.old (run_sum mass_ring n at (λ i.
+        gain_kind.size first * gain_kind.size (cell_at gain_kind cells.now (from + i))
+        + gain_kind.size second * gain_kind.size (cell_at gain_kind cells.now (beside + i)))) }
+    ensures { Adds gain_kind
+        (run_sum gain_kind n at (λ i.
+        gain_kind.plus (gain_kind.times first (cell_at gain_kind cells.now (from + i)))
+        (gain_kind.times second (cell_at gain_kind cells.now (beside + i)))))
+        out.old out.new }
 {
     for i in 0..n {
         let both = first
@@ -125,8 +131,15 @@ fn add_two_short(
 )
     requires out { at + n ≤ length out.old }
     requires cells { (from + n ≤ length cells.now) × (beside + n ≤ length cells.now) }
-    requires room { HasRoom gain_kind out.old (run_sum mass_ring n at (λ i. first * gain_kind.size (cell_at gain_kind cells.now (from + i)) + second * gain_kind.size (cell_at gain_kind cells.now (beside + i)))) }
-    ensures { Adds gain_kind (run_sum gain_kind n at (λ i. gain_kind.plus (gain_kind.times (gain_of (pos first)) (cell_at gain_kind cells.now (from + i))) (gain_kind.times (gain_of (pos second)) (cell_at gain_kind cells.now (beside + i))))) out.old out.new }
+    requires room { HasRoom gain_kind out.old (run_sum mass_ring n at (λ i.
+        first * gain_kind.size (cell_at gain_kind cells.now (from + i))
+        + second * gain_kind.size (cell_at gain_kind cells.now (beside + i)))) }
+    ensures { Adds gain_kind
+        (run_sum gain_kind n at (λ i.
+        gain_kind.plus
+        (gain_kind.times (gain_of (pos first)) (cell_at gain_kind cells.now (from + i)))
+        (gain_kind.times (gain_of (pos second))
+        (cell_at gain_kind cells.now (beside + i))))) out.old out.new }
 {
     for i in 0..n {
         let both = short_product(first, cells[from + i]).add(short_product(

@@ -93,8 +93,14 @@ fn add_two_long(
 )
     requires out { at + n ≤ length out.old }
     requires cells { (from + n ≤ length cells.now) × (beside + n ≤ length cells.now) }
-    requires room { HasRoom mass_kind out.old (run_sum mass_ring n at (λ i. mass_kind.size first * mass_kind.size (cell_at mass_kind cells.now (from + i)) + mass_kind.size second * mass_kind.size (cell_at mass_kind cells.now (beside + i)))) }
-    ensures { Adds mass_kind (run_sum mass_kind n at (λ i. mass_kind.plus (mass_kind.times first (cell_at mass_kind cells.now (from + i))) (mass_kind.times second (cell_at mass_kind cells.now (beside + i))))) out.old out.new }
+    requires room { HasRoom mass_kind out.old (run_sum mass_ring n at (λ i.
+        mass_kind.size first * mass_kind.size (cell_at mass_kind cells.now (from + i))
+        + mass_kind.size second * mass_kind.size (cell_at mass_kind cells.now (beside + i)))) }
+    ensures { Adds mass_kind
+        (run_sum mass_kind n at (λ i.
+        mass_kind.plus (mass_kind.times first (cell_at mass_kind cells.now (from + i)))
+        (mass_kind.times second (cell_at mass_kind cells.now (beside + i)))))
+        out.old out.new }
 {
     for i in 0..n {
         let both = first
@@ -118,8 +124,15 @@ fn add_two_short(
 )
     requires out { at + n ≤ length out.old }
     requires cells { (from + n ≤ length cells.now) × (beside + n ≤ length cells.now) }
-    requires room { HasRoom mass_kind out.old (run_sum mass_ring n at (λ i. first * mass_kind.size (cell_at mass_kind cells.now (from + i)) + second * mass_kind.size (cell_at mass_kind cells.now (beside + i)))) }
-    ensures { Adds mass_kind (run_sum mass_kind n at (λ i. mass_kind.plus (mass_kind.times (mass_of first) (cell_at mass_kind cells.now (from + i))) (mass_kind.times (mass_of second) (cell_at mass_kind cells.now (beside + i))))) out.old out.new }
+    requires room { HasRoom mass_kind out.old (run_sum mass_ring n at (λ i.
+        first * mass_kind.size (cell_at mass_kind cells.now (from + i))
+        + second * mass_kind.size (cell_at mass_kind cells.now (beside + i)))) }
+    ensures { Adds mass_kind
+        (run_sum mass_kind n at (λ i.
+        mass_kind.plus
+        (mass_kind.times (mass_of first) (cell_at mass_kind cells.now (from + i)))
+        (mass_kind.times (mass_of second) (cell_at mass_kind cells.now (beside + i)))))
+        out.old out.new }
 {
     for i in 0..n {
         let both = short_product(first, cells[from + i]).add(short_product(

@@ -18,7 +18,8 @@ pub(crate) fn find(
     matters: bool,
     node: usize,
 ) -> Result<Found, AllocError>
-    requires baseline { IsBaseline baseline.now.diagram.now baseline.now.agent baseline.now.optimum }
+    requires baseline { IsBaseline baseline.now.diagram.now baseline.now.agent
+        baseline.now.optimum }
     requires chance { (node_at baseline.now.diagram.now.nodes node).kind ≡ Chance }
     ensures { IfOk result (IsFoundAlone baseline.now.diagram.now baseline.now.agent node matters) }
 {

@@ -61,7 +61,8 @@ fn control_line(
     paths: &Paths,
     node: usize,
 ) -> Result<ControlLine, AllocError>
-    requires baseline { IsBaseline baseline.now.diagram.now baseline.now.agent baseline.now.optimum }
+    requires baseline { IsBaseline baseline.now.diagram.now baseline.now.agent
+        baseline.now.optimum }
     requires chance { (node_at baseline.now.diagram.now.nodes node).kind ≡ Chance }
     requires within { node < length baseline.now.diagram.now.nodes }
     ensures node { IfOk result (λ line. line.node ≡ node) }
@@ -86,11 +87,14 @@ fn control_lines(
     paths: &Paths,
     nodes: &[usize],
 ) -> Result<Vec<ControlLine>, AllocError>
-    requires baseline { IsBaseline baseline.now.diagram.now baseline.now.agent baseline.now.optimum }
-    requires chance { All (λ v. (node_at baseline.now.diagram.now.nodes v).kind ≡ Chance) nodes.now }
+    requires baseline { IsBaseline baseline.now.diagram.now baseline.now.agent
+        baseline.now.optimum }
+    requires chance { All (λ v. (node_at baseline.now.diagram.now.nodes v).kind ≡ Chance)
+        nodes.now }
     requires within { All (λ v. v < length baseline.now.diagram.now.nodes) nodes.now }
     ensures nodes { IfOk result (λ lines. map node_of lines.items ≡ nodes.now) }
-    ensures lines { IfOk result (λ lines. All (IsLineAlone baseline.now.diagram.now baseline.now.agent paths.now) lines.items) }
+    ensures lines { IfOk result (λ lines.
+        All (IsLineAlone baseline.now.diagram.now baseline.now.agent paths.now) lines.items) }
 {
     let mut lines = Vec::with_capacity(alloc, nodes.len())?;
     for node in nodes {
@@ -123,9 +127,13 @@ pub fn control(
     requires answer { IsAnswer diagram.now solved.now }
     requires bound { KeepsScopedBounds diagram.now }
     requires agent { agent < diagram.now.agents }
-    ensures nodes { IfOk result (λ lines. map node_of lines.items ≡ chance_nodes diagram.now.nodes) }
-    ensures lines { IfOk result (λ lines. (trimmed : List NodeView) × IsTrimmedAlone diagram.now solved.now.answers agent trimmed × All (IsControlLine diagram.now solved.now.answers agent trimmed) lines.items) }
-    ensures worths { IfOk result (λ lines. All (TellsControl diagram.now solved.now.answers agent) lines.items) }
+    ensures nodes { IfOk result (λ lines.
+        map node_of lines.items ≡ chance_nodes diagram.now.nodes) }
+    ensures lines { IfOk result (λ lines.
+        (trimmed : List NodeView) × IsTrimmedAlone diagram.now solved.now.answers agent trimmed
+        × All (IsControlLine diagram.now solved.now.answers agent trimmed) lines.items) }
+    ensures worths { IfOk result (λ lines.
+        All (TellsControl diagram.now solved.now.answers agent) lines.items) }
 {
     answers_are_baselines();
     let _count = diagram.count();

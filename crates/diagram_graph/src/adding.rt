@@ -107,9 +107,11 @@ pub fn add_arc(
     requires decision { IsDecision diagram.now.nodes to }
     requires from { from < length diagram.now.nodes }
     requires no_utility { (node_at diagram.now.nodes from).kind ≢ Utility }
-    ensures more { IfOk result (λ more. more ≡ with_nodes diagram.now (with_arc diagram.now.nodes from to)) }
+    ensures more { IfOk result (λ more.
+        more ≡ with_nodes diagram.now (with_arc diagram.now.nodes from to)) }
     ensures present { IsErrOf result AddFault.Present ↔ Arc diagram.now.nodes from to }
-    ensures would_cycle { IsErrOf result AddFault.WouldCycle ↔ IsPath (Arc diagram.now.nodes) to from }
+    ensures would_cycle { IsErrOf result AddFault.WouldCycle
+        ↔ IsPath (Arc diagram.now.nodes) to from }
     ensures too_large { IsErrOf result AddFault.TooLarge ↔ IsTooLarge diagram.now.nodes from to }
 {
     if diagram.parents(to).contains(&from) {

@@ -65,8 +65,10 @@ pub fn remove_arc(
     to: usize,
 ) -> Result<Diagram, RemoveFault>
     requires { IsDecision diagram.now.nodes to }
-    ensures less { IfOk result (λ less. less ≡ with_nodes diagram.now (without_arc diagram.now.nodes from to)) }
-    ensures not_present { IsErrOf result RemoveFault.NotPresent ↔ (Arc diagram.now.nodes from to → ⊥) }
+    ensures less { IfOk result (λ less.
+        less ≡ with_nodes diagram.now (without_arc diagram.now.nodes from to)) }
+    ensures not_present { IsErrOf result RemoveFault.NotPresent
+        ↔ (Arc diagram.now.nodes from to → ⊥) }
 {
     arc_removed();
     if !diagram.parents(to).contains(&from) {

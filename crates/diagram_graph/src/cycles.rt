@@ -14,7 +14,9 @@ use std::alloc::{AllocError, Global};
 /// All nodes in an order with parents first: each time the first node in text whose parents all stand before it. It
 /// goes over all nodes once for each node, which is a few tens of thousands of looks for the greatest diagram.
 pub fn topological(alloc: Global, diagram: &Diagram) -> Result<Vec<usize>, AllocError>
-    ensures { IfOk result (λ order. IsOrder (λ v. v < length diagram.now.nodes) (λ v p. Arc diagram.now.nodes p v) order.items) }
+    ensures { IfOk result (λ order.
+        IsOrder (λ v. v < length diagram.now.nodes) (λ v p. Arc diagram.now.nodes p v)
+        order.items) }
 {
     let nodes = vec![in alloc; true; diagram.count()]?;
     match place_all(alloc, diagram, &nodes)? {
@@ -29,8 +31,11 @@ pub fn topological(alloc: Global, diagram: &Diagram) -> Result<Vec<usize>, Alloc
 /// twice. It goes over all nodes once for each node.
 pub fn first_cycle(alloc: Global, parents: &[Vec<usize>]) -> Result<Option<Vec<usize>>, AllocError>
     requires { (u v : ℕ) → ListedArc (lists_in parents.now) u v → u < length parents.now }
-    ensures cycle { IfOk result (λ found. MatchOption found (IsAcyclic (ListedArc (lists_in parents.now))) (λ cycle. IsParentCycle (lists_in parents.now) cycle.items)) }
-    ensures ring { IfOk result (λ found. IfSome found (λ cycle. IsRingOfNeeds (NeedsItem (lists_in parents.now)) cycle.items)) }
+    ensures cycle { IfOk result (λ found.
+        MatchOption found (IsAcyclic (ListedArc (lists_in parents.now))) (λ cycle.
+        IsParentCycle (lists_in parents.now) cycle.items)) }
+    ensures ring { IfOk result (λ found.
+        IfSome found (λ cycle. IsRingOfNeeds (NeedsItem (lists_in parents.now)) cycle.items)) }
 {
     let nodes = vec![in alloc; true; parents.len()]?;
     match place_all(alloc, &parents, &nodes)? {

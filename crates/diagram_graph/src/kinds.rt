@@ -48,7 +48,15 @@ fn decision_node(
     agent: usize,
 ) -> Result<Node, AllocError>
     requires { v < length diagram.now.nodes }
-    ensures { IfOk result (λ made. made ≡ record { kind = Decision; owner = agent; more = []; states = states_of diagram.now.nodes v; parents = parents_of diagram.now.nodes v; cells = [] }) }
+    ensures { IfOk result (λ made.
+        made ≡ record {
+          kind = Decision;
+          owner = agent;
+          more = [];
+          states = states_of diagram.now.nodes v;
+          parents = parents_of diagram.now.nodes v;
+          cells = [];
+        }) }
 {
     Ok(Node {
         kind: Kind::Decision,
@@ -79,8 +87,10 @@ pub fn make_decision(
 ) -> Result<Diagram, MakeFault>
     requires chance { (node_at diagram.now.nodes node).kind ≡ Chance }
     requires agent { agent < diagram.now.agents }
-    ensures made { IfOk result (λ made. made ≡ with_nodes diagram.now (as_decision diagram.now.nodes agent node)) }
-    ensures too_large { IsErrOf result MakeFault.TooLarge ↔ MOST_RULE_CELLS < rule_cells (as_decision diagram.now.nodes agent node) }
+    ensures made { IfOk result (λ made.
+        made ≡ with_nodes diagram.now (as_decision diagram.now.nodes agent node)) }
+    ensures too_large { IsErrOf result MakeFault.TooLarge
+        ↔ MOST_RULE_CELLS < rule_cells (as_decision diagram.now.nodes agent node) }
 {
     controlled();
     let _count = diagram.count();
@@ -119,7 +129,8 @@ fn push_row(cells: &mut Vec<i128>, states: usize, choice: usize) -> Result<(), A
 /// In each row weight 1 at its choice and 0 at the other states.
 fn pure_cells(alloc: Global, rows: &[Row], states: usize) -> Result<Vec<i128>, AllocError>
     requires { length rows.now * states ≤ MOST_CELLS }
-    ensures { IfOk result (λ cells. cells.items ≡ map pos (flat_map (pure_row states) (map (λ row. row.choice) rows.now))) }
+    ensures { IfOk result (λ cells.
+        cells.items ≡ map pos (flat_map (pure_row states) (map (λ row. row.choice) rows.now))) }
 {
     let mut cells = Vec::with_capacity(alloc, rows.len() * states)?;
     for row in rows {
@@ -152,7 +163,8 @@ fn chance_node(
 /// Whether the node is a decision of another agent.
 fn is_others(diagram: &Diagram, agent: usize, v: usize) -> bool
     requires { v < length diagram.now.nodes }
-    ensures { IsTrue result ↔ (IsDecision diagram.now.nodes v × (agent_of diagram.now.nodes v ≢ agent)) }
+    ensures { IsTrue result
+        ↔ (IsDecision diagram.now.nodes v × (agent_of diagram.now.nodes v ≢ agent)) }
 {
     diagram.kind(v) == Kind::Decision && diagram.agent_of(v) != agent
 }
@@ -167,7 +179,8 @@ fn fixed_node(
 ) -> Result<Node, AllocError>
     requires within { v < length diagram.now.nodes }
     requires fits { FitsAnswers diagram.now.nodes answers.now }
-    ensures { IfOk result (λ node. node ≡ fixed_by (node_at diagram.now.nodes v).kind diagram.now.nodes agent answers.now v) }
+    ensures { IfOk result (λ node.
+        node ≡ fixed_by (node_at diagram.now.nodes v).kind diagram.now.nodes agent answers.now v) }
 {
     if is_others(diagram, agent, v) {
         chance_node(alloc, diagram, answers, v)
@@ -186,7 +199,8 @@ pub fn fix_others(
     solved: &Solved,
 ) -> Result<Diagram, AllocError>
     requires { FitsAnswers diagram.now.nodes solved.now.answers }
-    ensures { IfOk result (λ alone. alone ≡ with_nodes diagram.now (one_agent diagram.now.nodes agent solved.now.answers)) }
+    ensures { IfOk result (λ alone.
+        alone ≡ with_nodes diagram.now (one_agent diagram.now.nodes agent solved.now.answers)) }
 {
     answer_is_optimum();
     let mut nodes = Vec::with_capacity(alloc, diagram.count())?;

@@ -37,7 +37,8 @@ fn kept_set(diagram: &Diagram, of: &[usize]) -> NodeSet
 
 /// The nodes of the set, in text order.
 fn listed(alloc: Global, diagram: &Diagram, set: &NodeSet) -> Result<Vec<usize>, AllocError>
-    ensures { IfOk result (λ list. list.items ≡ filter (holds set.now) (numbers_of diagram.now.nodes)) }
+    ensures { IfOk result (λ list.
+        list.items ≡ filter (holds set.now) (numbers_of diagram.now.nodes)) }
 {
     let mut list = Vec::new(alloc);
     for v in 0..diagram.count() {
@@ -89,7 +90,8 @@ fn new_parents(
 /// A copy of the node with its parents' new numbers.
 fn renumber(alloc: Global, node: &Node, places: &[usize; MOST_NODES]) -> Result<Node, AllocError>
     requires { (u : ℕ) → Contains node.now.parents u → u < MOST_NODES }
-    ensures { IfOk result (λ new. new ≡ with_parents node.now (map (slice_index places.now) node.now.parents)) }
+    ensures { IfOk result (λ new.
+        new ≡ with_parents node.now (map (slice_index places.now) node.now.parents)) }
 {
     Ok(Node {
         kind: node.kind,
@@ -123,8 +125,10 @@ fn part_nodes(alloc: Global, diagram: &Diagram, kept: &[usize]) -> Result<Vec<No
 /// It goes over all arcs a few times, and takes the time and the memory of a copy of the kept cells.
 pub fn part(alloc: Global, diagram: &Diagram, of: &[usize]) -> Result<SubDiagram, AllocError>
     requires { (v : ℕ) → Contains of.now v → v < length diagram.now.nodes }
-    ensures nodes { IfOk result (λ part. part.nodes.items ≡ with_ancestors diagram.now.nodes of.now) }
-    ensures diagram { IfOk result (λ part. part.diagram ≡ part_diagram diagram.now (with_ancestors diagram.now.nodes of.now)) }
+    ensures nodes { IfOk result (λ part.
+        part.nodes.items ≡ with_ancestors diagram.now.nodes of.now) }
+    ensures diagram { IfOk result (λ part.
+        part.diagram ≡ part_diagram diagram.now (with_ancestors diagram.now.nodes of.now)) }
 {
     parts_are_diagrams();
     let _count = diagram.count();

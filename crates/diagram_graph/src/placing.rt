@@ -53,7 +53,8 @@ fn first_ready<N: Needs>(needs: &N, items: &[bool], placed: &[bool]) -> Option<u
     requires items_len { length items.now ≡ length (N.lists needs.now) }
     requires placed_len { length placed.now ≡ length (N.lists needs.now) }
     requires needs { NeedsWithin (N.lists needs.now) }
-    ensures { MatchOption result ((v : ℕ) → IsReady (N.lists needs.now) items.now placed.now v → ⊥) (λ v. IsLeast (IsReady (N.lists needs.now) items.now placed.now) v) }
+    ensures { MatchOption result ((v : ℕ) → IsReady (N.lists needs.now) items.now placed.now v → ⊥)
+        (λ v. IsLeast (IsReady (N.lists needs.now) items.now placed.now) v) }
 {
     for v in 0..needs.count() {
         if is_ready(needs, items, placed, v) {
@@ -65,7 +66,8 @@ fn first_ready<N: Needs>(needs: &N, items: &[bool], placed: &[bool]) -> Option<u
 
 fn first_free(items: &[bool], placed: &[bool]) -> Option<usize>
     requires { length placed.now ≡ length items.now }
-    ensures { MatchOption result ((v : ℕ) → IsFree items.now placed.now v → ⊥) (λ v. IsLeast (IsFree items.now placed.now) v) }
+    ensures { MatchOption result ((v : ℕ) → IsFree items.now placed.now v → ⊥) (λ v.
+        IsLeast (IsFree items.now placed.now) v) }
 {
     for v in 0..items.len() {
         if is_free(items, placed, v) {
@@ -87,7 +89,8 @@ fn place<N: Needs>(
     requires none { (v : ℕ) → IsIn placed.old v → ⊥ }
     requires needs { NeedsWithin (N.lists needs.now) }
     ensures marks { IfOk result (λ order. (v : ℕ) → IsIn placed.new v ↔ Contains order.items v) }
-    ensures placing { IfOk result (λ order. IsPlacing (IsIn items.now) (NeedsItem (N.lists needs.now)) order.items) }
+    ensures placing { IfOk result (λ order.
+        IsPlacing (IsIn items.now) (NeedsItem (N.lists needs.now)) order.items) }
     ensures stuck { OnOk result ((v : ℕ) → IsReady (N.lists needs.now) items.now placed.new v → ⊥) }
 {
     let mut order = Vec::new(alloc);

@@ -14,7 +14,8 @@ use std::alloc::{AllocError, Global};
 fn first_in(list: &[usize], items: &[bool], placed: &[bool]) -> Option<usize>
     requires same_len { length placed.now ≡ length items.now }
     requires within { (e : ℕ) → Contains list.now e → e < length items.now }
-    ensures { MatchOption result ((e : ℕ) → Contains list.now e → IsFree items.now placed.now e → ⊥) (λ e. IsFirstLeft (IsFree items.now placed.now) list.now e) }
+    ensures { MatchOption result ((e : ℕ) → Contains list.now e → IsFree items.now placed.now e → ⊥)
+        (λ e. IsFirstLeft (IsFree items.now placed.now) list.now e) }
 {
     for e in list {
         if is_free(items, placed, *e) {
@@ -67,7 +68,8 @@ pub fn find_round<N: Needs>(
     requires needs { NeedsItems (N.lists needs.now) items.now }
     requires start { IsLeast (IsFree items.now placed.now) start }
     requires stuck { (x : ℕ) → IsReady (N.lists needs.now) items.now placed.now x → ⊥ }
-    ensures { IfOk result (λ cycle. IsListedRound (IsFree items.now placed.now) (N.lists needs.now) cycle.items) }
+    ensures { IfOk result (λ cycle.
+        IsListedRound (IsFree items.now placed.now) (N.lists needs.now) cycle.items) }
 {
     let mut trail: Vec<usize> = Vec::new(alloc);
     let mut seen = vec![in alloc; false; needs.count()]?;

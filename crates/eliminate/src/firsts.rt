@@ -23,7 +23,9 @@ fn ruled_nodes(plan: &Plan) -> NodeSet
     requires keep { (v : ℕ) → Contains plan.now.plan.keep v → v < MOST_NODES }
     requires steps { (v : ℕ) → Contains plan.now.steps v → v < MOST_NODES }
     requires without { (d : ℕ) → plan.now.plan.without ≡ Some d → d < MOST_NODES }
-    ensures { (v : ℕ) → IsIn result v ↔ ((Contains plan.now.plan.keep v ⊎ Contains plan.now.steps v) × (plan.now.plan.without ≡ Some v → ⊥)) }
+    ensures { (v : ℕ) → IsIn result v
+        ↔ ((Contains plan.now.plan.keep v ⊎ Contains plan.now.steps v)
+        × (plan.now.plan.without ≡ Some v → ⊥)) }
 {
     let mut ruled = NodeSet::empty();
     ruled.insert_all(plan.keep());
@@ -49,9 +51,12 @@ fn put_table<C: Cell>(
     requires count { count < length live.old }
     requires node { node < length diagram.now.nodes }
     requires fit { NumbersFit C.ring.most diagram.now.nodes profile.now node }
-    requires room { first_cells (cells_by C.ring C.of_weight C.of_value) diagram.now.nodes profile.now node ≤ work.old.spare }
+    requires room { first_cells (cells_by C.ring C.of_weight C.of_value) diagram.now.nodes
+        profile.now node ≤ work.old.spare }
     ensures count { result ≡ count + 1 }
-    ensures puts { PutsTable C.ring diagram.now.nodes work.old work.new (take count live.old) (take result live.new) (first_table (cells_by C.ring C.of_weight C.of_value) diagram.now.nodes profile.now node) }
+    ensures puts { PutsTable C.ring diagram.now.nodes work.old work.new (take count live.old)
+        (take result live.new)
+        (first_table (cells_by C.ring C.of_weight C.of_value) diagram.now.nodes profile.now node) }
 {
     live[count] = work.table(diagram, counts, profile, node);
     count + 1
@@ -72,11 +77,14 @@ pub fn first_tables<C: Cell>(
     requires counts { counts.now ≡ counts_of diagram.now.nodes }
     requires profile { IsProfile diagram.now.nodes profile.now }
     requires fits { 2 * plan_total diagram.now.nodes profile.now plan.now.plan ≤ C.ring.most }
-    requires room { sum_by (first_cells (cells_by C.ring C.of_weight C.of_value) diagram.now.nodes profile.now) (first_nodes diagram.now.nodes plan.now.plan) ≤ work.old.spare }
+    requires room { sum_by
+        (first_cells (cells_by C.ring C.of_weight C.of_value) diagram.now.nodes profile.now)
+        (first_nodes diagram.now.nodes plan.now.plan) ≤ work.old.spare }
     requires len { length live.old ≡ MOST_NODES }
     ensures diagram { IsDiagram diagram.now }
     ensures few { result ≤ MOST_NODES }
-    ensures lists { Lists (cells_by C.ring C.of_weight C.of_value) diagram.now.nodes profile.now work.old work.new (take result live.new) [] (first_nodes diagram.now.nodes plan.now.plan) }
+    ensures lists { Lists (cells_by C.ring C.of_weight C.of_value) diagram.now.nodes profile.now
+        work.old work.new (take result live.new) [] (first_nodes diagram.now.nodes plan.now.plan) }
 {
     let nodes = diagram.count();
     let ruled = ruled_nodes(plan);

@@ -45,7 +45,8 @@ fn push_asked(list: &mut [Slot], n: usize, slot: &Slot, asked: bool) -> usize
 fn move_asked(list: &mut [Slot], n: usize, place: usize, asked: bool) -> usize
     requires n { n ≤ place }
     requires place { place < length list.old }
-    ensures list { (none : Slot) → take result list.new ≡ take n list.old ++ (if asked then slice_index_or list.old place none ∷ [] else []) }
+    ensures list { (none : Slot) → take result list.new
+        ≡ take n list.old ++ (if asked then slice_index_or list.old place none ∷ [] else []) }
     ensures rest { drop (n + 1) list.new ≡ drop (n + 1) list.old }
     ensures few { result ≤ n + 1 }
 {

@@ -44,7 +44,8 @@ fn eliminate<C: Cell>(
     requires node { node < MOST_NODES }
     requires join { CanJoinOut C.ring diagram.now.nodes work.old (take count live.old) node }
     ensures few { result ≤ count }
-    ensures step { GiveWay C.ring diagram.now.nodes work.old work.new (take count live.old) (take result live.new) node }
+    ensures step { GiveWay C.ring diagram.now.nodes work.old work.new (take count live.old)
+        (take result live.new) node }
 {
     let parted = part_holding(live, count, node, joined);
     let left = parted.left;
@@ -69,7 +70,8 @@ pub fn run_plan<C: Cell>(
     requires room { plan.now.size.cells ≤ work.old.spare }
     requires profile { IsProfile diagram.now.nodes profile.now }
     requires fits { 2 * plan_total diagram.now.nodes profile.now plan.now.plan ≤ C.ring.most }
-    ensures { SumsPlan (cells_by C.ring C.of_weight C.of_value) diagram.now.nodes profile.now plan.now work.old work.new result }
+    ensures { SumsPlan (cells_by C.ring C.of_weight C.of_value) diagram.now.nodes profile.now
+        plan.now work.old work.new result }
 {
     let counts = StateCounts::of(diagram);
     // A plan has one table at most for each node, and no step leaves more than it found.

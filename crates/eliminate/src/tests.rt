@@ -26,7 +26,8 @@ fn with_node(
     parents: &[usize],
     cells: &[i128],
 ) -> Result<Vec<Node>, AllocError>
-    ensures { IfOk result (λ more. more.items ≡ nodes.items ++ node_of kind states parents.now cells.now ∷ []) }
+    ensures { IfOk result (λ more.
+        more.items ≡ nodes.items ++ node_of kind states parents.now cells.now ∷ []) }
 {
     let mut nodes = nodes;
     let node = Node {
@@ -69,8 +70,15 @@ fn run_twice<C: Cell>(
     utility: Option<usize>,
     cells: usize,
 ) -> Result<Vec<C>, AllocError>
-    requires asked { CanBePlanned example_nodes (record { keep = keep.now; without = without; utility = utility }) }
-    requires fits { 2 * plan_total example_nodes (uniform_profile example_nodes) (record { keep = keep.now; without = without; utility = utility }) ≤ C.ring.most }
+    requires asked { CanBePlanned example_nodes (record {
+      keep = keep.now;
+      without = without;
+      utility = utility;
+    }) }
+    requires fits { 2
+        * plan_total example_nodes (uniform_profile example_nodes)
+        (record { keep = keep.now; without = without; utility = utility })
+        ≤ C.ring.most }
     requires few { cells ≤ MOST_PLAN_CELLS }
 {
     let diagram = make_example(alloc)?;

@@ -33,11 +33,17 @@ pub fn join_behind<C: Cell>(
     requires some { 0 < length slots.now }
     requires live { All (IsLive diagram.now.nodes (space all.old used).cells) slots.now }
     requires hold { All (λ s. IsIn s.scope node) slots.now }
-    requires fits { JoinFits C.ring.size (states_of diagram.now.nodes) C.ring.most node (tables_of C.ring diagram.now.nodes (space all.old used).cells slots.now) }
-    requires room { cells_over diagram.now.nodes (sum_out C.ring (states_of diagram.now.nodes) node (tables_of C.ring diagram.now.nodes (space all.old used).cells slots.now)).holds ≤ (space all.old used).spare }
+    requires fits { JoinFits C.ring.size (states_of diagram.now.nodes) C.ring.most node
+        (tables_of C.ring diagram.now.nodes (space all.old used).cells slots.now) }
+    requires room { cells_over diagram.now.nodes (sum_out C.ring (states_of diagram.now.nodes) node
+        (tables_of C.ring diagram.now.nodes (space all.old used).cells slots.now)).holds
+        ≤ (space all.old used).spare }
     ensures start { result.start ≡ used }
     ensures len { used + result.len ≤ length all.new }
-    ensures table { AppendsTable C.ring diagram.now.nodes (space all.old used) (space all.new (used + result.len)) result (sum_out C.ring (states_of diagram.now.nodes) node (tables_of C.ring diagram.now.nodes (space all.old used).cells slots.now)) }
+    ensures table { AppendsTable C.ring diagram.now.nodes (space all.old used)
+        (space all.new (used + result.len)) result
+        (sum_out C.ring (states_of diagram.now.nodes) node (tables_of C.ring diagram.now.nodes
+        (space all.old used).cells slots.now)) }
 {
     let scope = joined_scope(slots, node);
     let len = table_size(counts, &scope);
@@ -63,11 +69,17 @@ pub fn product_behind<C: Cell>(
     requires short { length all.old ≤ MOST_PLAN_CELLS }
     requires few { length slots.now ≤ 256 }
     requires live { All (IsLive diagram.now.nodes (space all.old used).cells) slots.now }
-    requires fits { ProductsFit C.ring.size (states_of diagram.now.nodes) C.ring.most (tables_of C.ring diagram.now.nodes (space all.old used).cells slots.now) }
-    requires room { cells_over diagram.now.nodes (product_table C.ring (tables_of C.ring diagram.now.nodes (space all.old used).cells slots.now)).holds ≤ (space all.old used).spare }
+    requires fits { ProductsFit C.ring.size (states_of diagram.now.nodes) C.ring.most
+        (tables_of C.ring diagram.now.nodes (space all.old used).cells slots.now) }
+    requires room { cells_over diagram.now.nodes (product_table C.ring (tables_of C.ring
+        diagram.now.nodes (space all.old used).cells slots.now)).holds
+        ≤ (space all.old used).spare }
     ensures start { result.start ≡ used }
     ensures len { used + result.len ≤ length all.new }
-    ensures table { AppendsTable C.ring diagram.now.nodes (space all.old used) (space all.new (used + result.len)) result (product_table C.ring (tables_of C.ring diagram.now.nodes (space all.old used).cells slots.now)) }
+    ensures table { AppendsTable C.ring diagram.now.nodes (space all.old used)
+        (space all.new (used + result.len)) result
+        (product_table C.ring (tables_of C.ring diagram.now.nodes (space all.old used).cells
+        slots.now)) }
 {
     let scope = united_scope(slots);
     let len = table_size(counts, &scope);

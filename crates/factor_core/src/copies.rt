@@ -23,9 +23,11 @@ fn copy_run<C: Cell, S: Source<C>>(
     out: &mut [C],
     at: usize,
 ) -> usize
-    requires { CanCopy (S.is_fit source.now) (length (S.cells source.now)) (step ∷ []) from (length out.old) at }
+    requires { CanCopy (S.is_fit source.now) (length (S.cells source.now)) (step ∷ []) from
+        (length out.old) at }
     ensures next { result ≡ at + step.states }
-    ensures cells { take result out.new ≡ take at out.old ++ gathered C.ring (S.cells source.now) (step ∷ []) from }
+    ensures cells { take result out.new
+        ≡ take at out.old ++ gathered C.ring (S.cells source.now) (step ∷ []) from }
 {
     let mut place = at;
     let mut here = from;
@@ -45,9 +47,11 @@ pub fn copy_walk<C: Cell, S: Source<C>>(
     out: &mut [C],
     at: usize,
 ) -> usize
-    requires { CanCopy (S.is_fit source.now) (length (S.cells source.now)) steps.now from (length out.old) at }
+    requires { CanCopy (S.is_fit source.now) (length (S.cells source.now)) steps.now from
+        (length out.old) at }
     ensures next { result ≡ at + count_of_steps steps.now }
-    ensures cells { take result out.new ≡ take at out.old ++ gathered C.ring (S.cells source.now) steps.now from }
+    ensures cells { take result out.new
+        ≡ take at out.old ++ gathered C.ring (S.cells source.now) steps.now from }
 {
     if steps.is_empty() {
         out[at] = source.read(from);
@@ -71,7 +75,8 @@ pub fn copy_walk<C: Cell, S: Source<C>>(
 pub fn copy_at<C: Cell>(steps: &[Step], from: usize, all: &mut [C], start: usize)
     requires start { start ≤ length all.old }
     requires can { CanCopy (Unit {0}) start steps.now from (length all.old - start) 0 }
-    ensures { take (start + count_of_steps steps.now) all.new ≡ take start all.old ++ gathered C.ring (take start all.old) steps.now from }
+    ensures { take (start + count_of_steps steps.now) all.new
+        ≡ take start all.old ++ gathered C.ring (take start all.old) steps.now from }
 {
     let (cells, out) = all.split_at_mut(start);
     copy_walk(steps, &Stored { cells }, from, out, 0);
@@ -80,8 +85,10 @@ pub fn copy_at<C: Cell>(steps: &[Step], from: usize, all: &mut [C], start: usize
 /// Copies cells of a source to the places from `start` on.
 pub fn copy_from<C: Cell, S: Source<C>>(steps: &[Step], source: &S, all: &mut [C], start: usize)
     requires start { start ≤ length all.old }
-    requires can { CanCopy (S.is_fit source.now) (length (S.cells source.now)) steps.now 0 (length all.old - start) 0 }
-    ensures { take (start + count_of_steps steps.now) all.new ≡ take start all.old ++ gathered C.ring (S.cells source.now) steps.now 0 }
+    requires can { CanCopy (S.is_fit source.now) (length (S.cells source.now)) steps.now 0
+        (length all.old - start) 0 }
+    ensures { take (start + count_of_steps steps.now) all.new
+        ≡ take start all.old ++ gathered C.ring (S.cells source.now) steps.now 0 }
 {
     let (_, out) = all.split_at_mut(start);
     copy_walk(steps, source, 0, out, 0);

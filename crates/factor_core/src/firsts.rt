@@ -54,10 +54,14 @@ fn chance_table<C: Cell>(
     requires node { v < length diagram.now.nodes }
     requires kind { (node_at diagram.now.nodes v).kind ≡ Kind.Chance }
     requires fit { All (λ z. 2 * nat_abs z ≤ C.ring.most) (node_at diagram.now.nodes v).cells }
-    requires room { cells_over diagram.now.nodes (node_table (cells_by C.ring C.of_weight C.of_value) diagram.now.nodes [] v).holds ≤ (space all.old used).spare }
+    requires room { cells_over diagram.now.nodes (node_table
+        (cells_by C.ring C.of_weight C.of_value) diagram.now.nodes [] v).holds
+        ≤ (space all.old used).spare }
     ensures start { result.start ≡ used }
     ensures len { used + result.len ≤ length all.new }
-    ensures table { (p : List RuleView) → AppendsTable C.ring diagram.now.nodes (space all.old used) (space all.new (used + result.len)) result (node_table (cells_by C.ring C.of_weight C.of_value) diagram.now.nodes p v) }
+    ensures table { (p : List RuleView) → AppendsTable C.ring diagram.now.nodes (space all.old used)
+        (space all.new (used + result.len)) result
+        (node_table (cells_by C.ring C.of_weight C.of_value) diagram.now.nodes p v) }
 {
     let mut list = [0; MOST_PARENTS + 1];
     let n = list_family(&mut list, diagram.parents(v), true, v);
@@ -82,10 +86,14 @@ fn rule_table<C: Cell>(
     requires profile { IsProfile diagram.now.nodes profile.now }
     requires node { IsDecision diagram.now.nodes v }
     requires fit { All (λ w. 2 * w ≤ C.ring.most) (weights_of profile.now v) }
-    requires room { cells_over diagram.now.nodes (node_table (cells_by C.ring C.of_weight C.of_value) diagram.now.nodes profile.now v).holds ≤ (space all.old used).spare }
+    requires room { cells_over diagram.now.nodes (node_table
+        (cells_by C.ring C.of_weight C.of_value) diagram.now.nodes profile.now v).holds
+        ≤ (space all.old used).spare }
     ensures start { result.start ≡ used }
     ensures len { used + result.len ≤ length all.new }
-    ensures table { AppendsTable C.ring diagram.now.nodes (space all.old used) (space all.new (used + result.len)) result (node_table (cells_by C.ring C.of_weight C.of_value) diagram.now.nodes profile.now v) }
+    ensures table { AppendsTable C.ring diagram.now.nodes (space all.old used)
+        (space all.new (used + result.len)) result
+        (node_table (cells_by C.ring C.of_weight C.of_value) diagram.now.nodes profile.now v) }
 {
     let mut list = [0; MOST_PARENTS + 1];
     let n = list_family(&mut list, diagram.parents(v), true, v);
@@ -109,10 +117,14 @@ fn value_table<C: Cell>(
     requires node { v < length diagram.now.nodes }
     requires kind { (node_at diagram.now.nodes v).kind ≡ Kind.Utility }
     requires fit { All (λ z. 2 * nat_abs z ≤ C.ring.most) (node_at diagram.now.nodes v).cells }
-    requires room { cells_over diagram.now.nodes (utility_table (cells_by C.ring C.of_weight C.of_value) diagram.now.nodes v).holds ≤ (space all.old used).spare }
+    requires room { cells_over diagram.now.nodes (utility_table
+        (cells_by C.ring C.of_weight C.of_value) diagram.now.nodes v).holds
+        ≤ (space all.old used).spare }
     ensures start { result.start ≡ used }
     ensures len { used + result.len ≤ length all.new }
-    ensures table { AppendsTable C.ring diagram.now.nodes (space all.old used) (space all.new (used + result.len)) result (utility_table (cells_by C.ring C.of_weight C.of_value) diagram.now.nodes v) }
+    ensures table { AppendsTable C.ring diagram.now.nodes (space all.old used)
+        (space all.new (used + result.len)) result
+        (utility_table (cells_by C.ring C.of_weight C.of_value) diagram.now.nodes v) }
 {
     let source = ValueCells {
         cells: diagram.cells(v),
@@ -135,10 +147,14 @@ pub fn table_behind<C: Cell>(
     requires profile { IsProfile diagram.now.nodes profile.now }
     requires node { v < length diagram.now.nodes }
     requires fit { NumbersFit C.ring.most diagram.now.nodes profile.now v }
-    requires room { cells_over diagram.now.nodes (first_table (cells_by C.ring C.of_weight C.of_value) diagram.now.nodes profile.now v).holds ≤ (space all.old used).spare }
+    requires room { cells_over diagram.now.nodes (first_table
+        (cells_by C.ring C.of_weight C.of_value) diagram.now.nodes profile.now v).holds
+        ≤ (space all.old used).spare }
     ensures start { result.start ≡ used }
     ensures len { used + result.len ≤ length all.new }
-    ensures table { AppendsTable C.ring diagram.now.nodes (space all.old used) (space all.new (used + result.len)) result (first_table (cells_by C.ring C.of_weight C.of_value) diagram.now.nodes profile.now v) }
+    ensures table { AppendsTable C.ring diagram.now.nodes (space all.old used)
+        (space all.new (used + result.len)) result
+        (first_table (cells_by C.ring C.of_weight C.of_value) diagram.now.nodes profile.now v) }
 {
     match diagram.kind(v) {
         Kind::Chance => chance_table(diagram, counts, v, all, used),

@@ -28,10 +28,13 @@ fn join_in<C: Cell>(
 )
     requires order { length (listed (holds scope.now) 0 (length counts.now)) < length order.old }
     requires axes { length (listed (holds scope.now) 0 (length counts.now)) < length axes.old }
-    requires strides { (length (listed (holds scope.now) 0 (length counts.now)) + 1) * length slots.now ≤ length strides.old }
+    requires strides { (length (listed (holds scope.now) 0 (length counts.now)) + 1)
+        * length slots.now ≤ length strides.old }
     requires places { length slots.now ≤ length places.old }
     requires can { CanJoin C.ring cells.now counts.now slots.now node scope.now out.old }
-    ensures { (w : ℕ → ℕ) → InRange (states_in counts.now) w → cell_at C.ring out.new (place_of counts.now scope.now w) ≡ join_cell C.ring cells.now counts.now slots.now node w }
+    ensures { (w : ℕ → ℕ) → InRange (states_in counts.now) w
+        → cell_at C.ring out.new (place_of counts.now scope.now w)
+        ≡ join_cell C.ring cells.now counts.now slots.now node w }
 {
     let kept = list_nodes(order, counts.len(), scope);
     let at = summed_place(order, kept, slots, node);
@@ -58,9 +61,12 @@ fn join_small<C: Cell>(
 )
     requires nodes { length (listed (holds scope.now) 0 (length counts.now)) < 16 }
     requires slots { length slots.now ≤ 8 }
-    requires strides { (length (listed (holds scope.now) 0 (length counts.now)) + 1) * length slots.now ≤ 64 }
+    requires strides { (length (listed (holds scope.now) 0 (length counts.now)) + 1)
+        * length slots.now ≤ 64 }
     requires can { CanJoin C.ring cells.now counts.now slots.now node scope.now out.old }
-    ensures { (w : ℕ → ℕ) → InRange (states_in counts.now) w → cell_at C.ring out.new (place_of counts.now scope.now w) ≡ join_cell C.ring cells.now counts.now slots.now node w }
+    ensures { (w : ℕ → ℕ) → InRange (states_in counts.now) w
+        → cell_at C.ring out.new (place_of counts.now scope.now w)
+        ≡ join_cell C.ring cells.now counts.now slots.now node w }
 {
     let mut order = [0; 16];
     let mut axes = [Axis { states: 1, out: 0 }; 16];
@@ -92,9 +98,12 @@ fn join_some<C: Cell>(
 )
     requires nodes { length (listed (holds scope.now) 0 (length counts.now)) < 257 }
     requires slots { length slots.now ≤ 256 }
-    requires strides { (length (listed (holds scope.now) 0 (length counts.now)) + 1) * length slots.now ≤ 1028 }
+    requires strides { (length (listed (holds scope.now) 0 (length counts.now)) + 1)
+        * length slots.now ≤ 1028 }
     requires can { CanJoin C.ring cells.now counts.now slots.now node scope.now out.old }
-    ensures { (w : ℕ → ℕ) → InRange (states_in counts.now) w → cell_at C.ring out.new (place_of counts.now scope.now w) ≡ join_cell C.ring cells.now counts.now slots.now node w }
+    ensures { (w : ℕ → ℕ) → InRange (states_in counts.now) w
+        → cell_at C.ring out.new (place_of counts.now scope.now w)
+        ≡ join_cell C.ring cells.now counts.now slots.now node w }
 {
     let mut order = [0; 257];
     let mut axes = [Axis { states: 1, out: 0 }; 257];
@@ -126,9 +135,12 @@ fn join_many<C: Cell>(
 )
     requires nodes { length (listed (holds scope.now) 0 (length counts.now)) < 257 }
     requires slots { length slots.now ≤ 256 }
-    requires strides { (length (listed (holds scope.now) 0 (length counts.now)) + 1) * length slots.now ≤ 65792 }
+    requires strides { (length (listed (holds scope.now) 0 (length counts.now)) + 1)
+        * length slots.now ≤ 65792 }
     requires can { CanJoin C.ring cells.now counts.now slots.now node scope.now out.old }
-    ensures { (w : ℕ → ℕ) → InRange (states_in counts.now) w → cell_at C.ring out.new (place_of counts.now scope.now w) ≡ join_cell C.ring cells.now counts.now slots.now node w }
+    ensures { (w : ℕ → ℕ) → InRange (states_in counts.now) w
+        → cell_at C.ring out.new (place_of counts.now scope.now w)
+        ≡ join_cell C.ring cells.now counts.now slots.now node w }
 {
     let mut order = [0; 257];
     let mut axes = [Axis { states: 1, out: 0 }; 257];
@@ -160,7 +172,9 @@ pub fn join_into<C: Cell>(
 )
     requires few { length slots.now ≤ 256 }
     requires can { CanJoin C.ring cells.now counts.now slots.now node scope.now out.old }
-    ensures { (w : ℕ → ℕ) → InRange (states_in counts.now) w → cell_at C.ring out.new (place_of counts.now scope.now w) ≡ join_cell C.ring cells.now counts.now slots.now node w }
+    ensures { (w : ℕ → ℕ) → InRange (states_in counts.now) w
+        → cell_at C.ring out.new (place_of counts.now scope.now w)
+        ≡ join_cell C.ring cells.now counts.now slots.now node w }
 {
     let n = count_nodes(counts.len(), scope);
     let size = (n + 1) * slots.len();

@@ -43,7 +43,8 @@ pub fn counted(n: usize, held: bool) -> usize
 /// The first node of the scope from one number on and below another.
 pub fn first_between(scope: &NodeSet, from: usize, end: usize) -> Option<usize>
     requires { from ≤ MOST_NODES }
-    ensures { MatchOption result ((v : ℕ) → from ≤ v → v < end → IsIn scope.now v → ⊥) (λ v. IsFirstFrom scope.now from v × (v < end)) }
+    ensures { MatchOption result ((v : ℕ) → from ≤ v → v < end → IsIn scope.now v → ⊥)
+        (λ v. IsFirstFrom scope.now from v × (v < end)) }
 {
     match scope.first_from(from) {
         Some(v) if v < end => Some(v),

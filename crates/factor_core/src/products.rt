@@ -27,10 +27,13 @@ fn multiply_in<C: Cell>(
 )
     requires order { length (listed (holds scope.now) 0 (length counts.now)) < length order.old }
     requires axes { length (listed (holds scope.now) 0 (length counts.now)) < length axes.old }
-    requires strides { (length (listed (holds scope.now) 0 (length counts.now)) + 1) * length slots.now ≤ length strides.old }
+    requires strides { (length (listed (holds scope.now) 0 (length counts.now)) + 1)
+        * length slots.now ≤ length strides.old }
     requires places { length slots.now ≤ length places.old }
     requires can { CanMultiply C.ring cells.now counts.now slots.now scope.now out.old }
-    ensures { (w : ℕ → ℕ) → InRange (states_in counts.now) w → cell_at C.ring out.new (place_of counts.now scope.now w) ≡ product_cell C.ring cells.now counts.now slots.now w }
+    ensures { (w : ℕ → ℕ) → InRange (states_in counts.now) w
+        → cell_at C.ring out.new (place_of counts.now scope.now w)
+        ≡ product_cell C.ring cells.now counts.now slots.now w }
 {
     let n = list_nodes(order, counts.len(), scope);
     let order = before(order, n);
@@ -53,9 +56,12 @@ fn multiply_small<C: Cell>(
 )
     requires nodes { length (listed (holds scope.now) 0 (length counts.now)) < 16 }
     requires slots { length slots.now ≤ 8 }
-    requires strides { (length (listed (holds scope.now) 0 (length counts.now)) + 1) * length slots.now ≤ 64 }
+    requires strides { (length (listed (holds scope.now) 0 (length counts.now)) + 1)
+        * length slots.now ≤ 64 }
     requires can { CanMultiply C.ring cells.now counts.now slots.now scope.now out.old }
-    ensures { (w : ℕ → ℕ) → InRange (states_in counts.now) w → cell_at C.ring out.new (place_of counts.now scope.now w) ≡ product_cell C.ring cells.now counts.now slots.now w }
+    ensures { (w : ℕ → ℕ) → InRange (states_in counts.now) w
+        → cell_at C.ring out.new (place_of counts.now scope.now w)
+        ≡ product_cell C.ring cells.now counts.now slots.now w }
 {
     let mut order = [0; 16];
     let mut axes = [Axis { states: 1, out: 0 }; 16];
@@ -85,9 +91,12 @@ fn multiply_some<C: Cell>(
 )
     requires nodes { length (listed (holds scope.now) 0 (length counts.now)) < 257 }
     requires slots { length slots.now ≤ 256 }
-    requires strides { (length (listed (holds scope.now) 0 (length counts.now)) + 1) * length slots.now ≤ 1028 }
+    requires strides { (length (listed (holds scope.now) 0 (length counts.now)) + 1)
+        * length slots.now ≤ 1028 }
     requires can { CanMultiply C.ring cells.now counts.now slots.now scope.now out.old }
-    ensures { (w : ℕ → ℕ) → InRange (states_in counts.now) w → cell_at C.ring out.new (place_of counts.now scope.now w) ≡ product_cell C.ring cells.now counts.now slots.now w }
+    ensures { (w : ℕ → ℕ) → InRange (states_in counts.now) w
+        → cell_at C.ring out.new (place_of counts.now scope.now w)
+        ≡ product_cell C.ring cells.now counts.now slots.now w }
 {
     let mut order = [0; 257];
     let mut axes = [Axis { states: 1, out: 0 }; 257];
@@ -117,9 +126,12 @@ fn multiply_many<C: Cell>(
 )
     requires nodes { length (listed (holds scope.now) 0 (length counts.now)) < 257 }
     requires slots { length slots.now ≤ 256 }
-    requires strides { (length (listed (holds scope.now) 0 (length counts.now)) + 1) * length slots.now ≤ 65792 }
+    requires strides { (length (listed (holds scope.now) 0 (length counts.now)) + 1)
+        * length slots.now ≤ 65792 }
     requires can { CanMultiply C.ring cells.now counts.now slots.now scope.now out.old }
-    ensures { (w : ℕ → ℕ) → InRange (states_in counts.now) w → cell_at C.ring out.new (place_of counts.now scope.now w) ≡ product_cell C.ring cells.now counts.now slots.now w }
+    ensures { (w : ℕ → ℕ) → InRange (states_in counts.now) w
+        → cell_at C.ring out.new (place_of counts.now scope.now w)
+        ≡ product_cell C.ring cells.now counts.now slots.now w }
 {
     let mut order = [0; 257];
     let mut axes = [Axis { states: 1, out: 0 }; 257];
@@ -149,7 +161,9 @@ pub fn multiply_into<C: Cell>(
 )
     requires few { length slots.now ≤ 256 }
     requires can { CanMultiply C.ring cells.now counts.now slots.now scope.now out.old }
-    ensures { (w : ℕ → ℕ) → InRange (states_in counts.now) w → cell_at C.ring out.new (place_of counts.now scope.now w) ≡ product_cell C.ring cells.now counts.now slots.now w }
+    ensures { (w : ℕ → ℕ) → InRange (states_in counts.now) w
+        → cell_at C.ring out.new (place_of counts.now scope.now w)
+        ≡ product_cell C.ring cells.now counts.now slots.now w }
 {
     let n = count_nodes(counts.len(), scope);
     let size = (n + 1) * slots.len();

@@ -37,7 +37,8 @@ pub fn place_for(counts: &[usize], scope: &NodeSet, states: &[usize]) -> usize
     requires fits { size_of counts.now scope.now ≤ 2 ^ 32 }
     requires states { AreStates counts.now scope.now states.now }
     ensures within { result < size_of counts.now scope.now }
-    ensures place { (w : ℕ → ℕ) → Gives counts.now scope.now w states.now → result ≡ place_of counts.now scope.now w }
+    ensures place { (w : ℕ → ℕ) → Gives counts.now scope.now w states.now
+        → result ≡ place_of counts.now scope.now w }
 {
     let mut place = 0;
     let mut i = 0;
@@ -60,8 +61,10 @@ pub fn read_cell<C: Cell>(
     requires used { used ≤ length all.now }
     requires short { length all.now ≤ MOST_PLAN_CELLS }
     requires live { IsLive diagram.now.nodes (take used all.now) slot.now }
-    requires states { AllZip (λ v s. s < states_of diagram.now.nodes v) (nodes_in diagram.now.nodes (holds slot.now.scope)) states.now }
-    ensures { (w : World) → map w (nodes_in diagram.now.nodes (holds slot.now.scope)) ≡ states.now → result ≡ (table_of C.ring diagram.now.nodes (take used all.now) slot.now).cell w }
+    requires states { AllZip (λ v s. s < states_of diagram.now.nodes v)
+        (nodes_in diagram.now.nodes (holds slot.now.scope)) states.now }
+    ensures { (w : World) → map w (nodes_in diagram.now.nodes (holds slot.now.scope)) ≡ states.now
+        → result ≡ (table_of C.ring diagram.now.nodes (take used all.now) slot.now).cell w }
 {
     let mut counts = [1; MOST_NODES];
     list_states(&mut counts, diagram);

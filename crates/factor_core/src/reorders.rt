@@ -30,8 +30,12 @@ fn first_of_state(counts: &[usize], slot: &Slot, node: usize, state: usize) -> u
     requires state { state < 256 }
     requires start { slot.now.start ≤ 2 ^ 32 }
     requires fits { size_of counts.now slot.now.scope ≤ 2 ^ 32 }
-    requires near { stride_of (states_in counts.now) (length counts.now) (holds slot.now.scope) node ≤ 2 ^ 32 }
-    ensures { result ≡ slot.now.start + state * stride_of (states_in counts.now) (length counts.now) (holds slot.now.scope) node }
+    requires near { stride_of (states_in counts.now) (length counts.now) (holds slot.now.scope) node
+        ≤ 2 ^ 32 }
+    ensures { result
+        ≡ slot.now.start
+        + state
+        * stride_of (states_in counts.now) (length counts.now) (holds slot.now.scope) node }
 {
     slot.start + state * stride(counts, &slot.scope, node)
 }
@@ -60,10 +64,15 @@ pub fn restrict_behind<C: Cell>(
     requires live { IsLive diagram.now.nodes (space all.old used).cells slot.now }
     requires hold { IsIn slot.now.scope node }
     requires state { state < states_of diagram.now.nodes node }
-    requires room { cells_over diagram.now.nodes (restricted node state (table_of C.ring diagram.now.nodes (space all.old used).cells slot.now)).holds ≤ (space all.old used).spare }
+    requires room { cells_over diagram.now.nodes (restricted node state (table_of C.ring
+        diagram.now.nodes (space all.old used).cells slot.now)).holds
+        ≤ (space all.old used).spare }
     ensures start { result.start ≡ used }
     ensures len { used + result.len ≤ length all.new }
-    ensures table { AppendsTable C.ring diagram.now.nodes (space all.old used) (space all.new (used + result.len)) result (restricted node state (table_of C.ring diagram.now.nodes (space all.old used).cells slot.now)) }
+    ensures table { AppendsTable C.ring diagram.now.nodes (space all.old used)
+        (space all.new (used + result.len)) result
+        (restricted node state (table_of C.ring diagram.now.nodes (space all.old used).cells
+        slot.now)) }
 {
     let mut counts = [1; MOST_NODES];
     list_states(&mut counts, diagram);
@@ -104,9 +113,14 @@ pub fn reorder_behind<C: Cell>(
     ensures start { result.start ≡ used }
     ensures len { used + result.len ≤ length all.new }
     ensures same { result.len ≡ slot.now.len }
-    ensures appends { Appends (space all.old used) (space all.new (used + result.len)) result.start result.len }
-    ensures cells { HasCells C.ring diagram.now.nodes nodes.now (part (space all.new (used + result.len)).cells result.start result.len) (table_of C.ring diagram.now.nodes (space all.old used).cells slot.now) }
-    ensures stays { (s : Slot) → IsLive diagram.now.nodes (space all.old used).cells s → StaysLive C.ring diagram.now.nodes (space all.old used).cells (space all.new (used + result.len)).cells s }
+    ensures appends { Appends (space all.old used) (space all.new (used + result.len)) result.start
+        result.len }
+    ensures cells { HasCells C.ring diagram.now.nodes nodes.now
+        (part (space all.new (used + result.len)).cells result.start result.len)
+        (table_of C.ring diagram.now.nodes (space all.old used).cells slot.now) }
+    ensures stays { (s : Slot) → IsLive diagram.now.nodes (space all.old used).cells s
+        → StaysLive C.ring diagram.now.nodes (space all.old used).cells
+        (space all.new (used + result.len)).cells s }
 {
     let mut counts = [1; MOST_NODES];
     list_states(&mut counts, diagram);

@@ -17,7 +17,9 @@ pub fn set_axes(axes: &mut [Axis], counts: &[usize], scope: &NodeSet, order: &[u
     requires order { All (λ v. v < length counts.now) order.now }
     requires room { length order.now ≤ length axes.old }
     requires fits { size_of counts.now scope.now ≤ 2 ^ 32 }
-    ensures { take (length order.now) axes.new ≡ axes_of (states_in counts.now) (stride_of (states_in counts.now) (length counts.now) (holds scope.now)) order.now }
+    ensures { take (length order.now) axes.new
+        ≡ axes_of (states_in counts.now)
+        (stride_of (states_in counts.now) (length counts.now) (holds scope.now)) order.now }
 {
     for i in 0..order.len() {
         axes[i] = Axis {
@@ -33,7 +35,8 @@ fn set_row(strides: &mut [usize], from: usize, counts: &[usize], slots: &[Slot],
     requires node { node < length counts.now }
     requires room { from + length slots.now ≤ length strides.old }
     requires fits { All (λ s. size_of counts.now s.scope ≤ 2 ^ 32) slots.now }
-    ensures { take (from + length slots.now) strides.new ≡ take from strides.old ++ row_of counts.now slots.now node }
+    ensures { take (from + length slots.now) strides.new
+        ≡ take from strides.old ++ row_of counts.now slots.now node }
 {
     for j in 0..slots.len() {
         strides[from + j] = stride(counts, &slots[j].scope, node);
@@ -46,7 +49,8 @@ pub fn set_strides(strides: &mut [usize], counts: &[usize], slots: &[Slot], orde
     requires order { All (λ v. v < length counts.now) order.now }
     requires room { length order.now * length slots.now ≤ length strides.old }
     requires fits { All (λ s. size_of counts.now s.scope ≤ 2 ^ 32) slots.now }
-    ensures { take (length order.now * length slots.now) strides.new ≡ rows_of (row_of counts.now slots.now) order.now }
+    ensures { take (length order.now * length slots.now) strides.new
+        ≡ rows_of (row_of counts.now slots.now) order.now }
 {
     let mut from = 0;
     for node in order {
@@ -71,7 +75,9 @@ pub fn set_steps(steps: &mut [Step], counts: &[usize], scope: &NodeSet, order: &
     requires order { All (λ v. v < length counts.now) order.now }
     requires room { length order.now ≤ length steps.old }
     requires fits { size_of counts.now scope.now ≤ 2 ^ 32 }
-    ensures { take (length order.now) steps.new ≡ steps_of (states_in counts.now) (stride_of (states_in counts.now) (length counts.now) (holds scope.now)) order.now }
+    ensures { take (length order.now) steps.new
+        ≡ steps_of (states_in counts.now)
+        (stride_of (states_in counts.now) (length counts.now) (holds scope.now)) order.now }
 {
     for i in 0..order.len() {
         steps[i] = Step {

@@ -11,8 +11,10 @@ use node_sets::NodeSet;
 pub fn size_after(counts: &[usize], scope: &NodeSet, from: usize) -> usize
     requires counts { AreCounts counts.now }
     requires from { from ≤ length counts.now }
-    requires fits { size_from (states_in counts.now) (holds scope.now) from (length counts.now - from) ≤ 2 ^ 32 }
-    ensures { result ≡ size_from (states_in counts.now) (holds scope.now) from (length counts.now - from) }
+    requires fits { size_from (states_in counts.now) (holds scope.now) from
+        (length counts.now - from) ≤ 2 ^ 32 }
+    ensures { result
+        ≡ size_from (states_in counts.now) (holds scope.now) from (length counts.now - from) }
 {
     let mut size = 1;
     let mut next = from;
@@ -36,7 +38,8 @@ pub fn table_size(counts: &[usize], scope: &NodeSet) -> usize
 pub fn stride(counts: &[usize], scope: &NodeSet, node: usize) -> usize
     requires counts { AreCounts counts.now }
     requires node { node < length counts.now }
-    requires fits { size_from (states_in counts.now) (holds scope.now) 0 (length counts.now) ≤ 2 ^ 32 }
+    requires fits { size_from (states_in counts.now) (holds scope.now) 0 (length counts.now)
+        ≤ 2 ^ 32 }
     ensures { result ≡ stride_of (states_in counts.now) (length counts.now) (holds scope.now) node }
 {
     if scope.holds(node) {

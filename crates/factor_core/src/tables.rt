@@ -61,7 +61,8 @@ fn set_list_steps(steps: &mut [Step], counts: &[usize], list: &[usize], order: &
     requires order { All (λ v. v < length counts.now) order.now }
     requires room { length order.now ≤ length steps.old }
     requires fits { rows_under (states_in counts.now) list.now ≤ 2 ^ 32 }
-    ensures { take (length order.now) steps.new ≡ steps_of (states_in counts.now) (list_stride (states_in counts.now) list.now) order.now }
+    ensures { take (length order.now) steps.new
+        ≡ steps_of (states_in counts.now) (list_stride (states_in counts.now) list.now) order.now }
 {
     for i in 0..order.len() {
         steps[i] = Step {
@@ -99,11 +100,14 @@ pub fn write_table<C: Cell, S: Source<C>>(
     requires once { AllDifferent list.now }
     requires known { (v : ℕ) → Contains list.now v → v < length diagram.now.nodes }
     requires fit { S.is_fit source.now }
-    requires cells { length (S.cells source.now) ≡ rows_under (states_of diagram.now.nodes) list.now }
+    requires cells { length (S.cells source.now)
+        ≡ rows_under (states_of diagram.now.nodes) list.now }
     requires room { rows_under (states_of diagram.now.nodes) list.now ≤ (space all.old used).spare }
     ensures start { result.start ≡ used }
     ensures len { used + result.len ≤ length all.new }
-    ensures table { AppendsTable C.ring diagram.now.nodes (space all.old used) (space all.new (used + result.len)) result (list_table C.ring diagram.now.nodes list.now (S.cells source.now)) }
+    ensures table { AppendsTable C.ring diagram.now.nodes (space all.old used)
+        (space all.new (used + result.len)) result
+        (list_table C.ring diagram.now.nodes list.now (S.cells source.now)) }
 {
     let scope = scope_of(list);
     let len = table_size(counts, &scope);

@@ -17,7 +17,15 @@ use std::test::Fail;
 
 /// A chance node of two states.
 fn coin(alloc: Global, cells: &[i128]) -> Result<Node, AllocError>
-    ensures { IfOk result (λ n. n ≡ record { kind = Kind.Chance; owner = 0; more = []; states = 2; parents = []; cells = cells.now }) }
+    ensures { IfOk result (λ n.
+        n ≡ record {
+          kind = Kind.Chance;
+          owner = 0;
+          more = [];
+          states = 2;
+          parents = [];
+          cells = cells.now;
+        }) }
 {
     Ok(Node {
         kind: Kind::Chance,
@@ -124,7 +132,8 @@ fn turn<C: Cell>(work: &mut Workspace<C>, diagram: &Diagram, slot: &Slot) -> Slo
     requires room { 4 ≤ work.old.spare }
     ensures within { result.start + result.len ≤ length work.new.cells }
     ensures spare { work.old.spare ≤ work.new.spare + 4 }
-    ensures stays { (s : Slot) (b : ℕ) → IsSmall C.ring work.old.cells s b → IsSmall C.ring work.new.cells s b }
+    ensures stays { (s : Slot) (b : ℕ) → IsSmall C.ring work.old.cells s b
+        → IsSmall C.ring work.new.cells s b }
 {
     let strip = work.reorder(diagram, slot, &[1, 0]);
     Slot {

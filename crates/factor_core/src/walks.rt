@@ -26,8 +26,10 @@ pub fn after<T>(list: &[T], n: usize) -> &[T]
 /// Moves each place by its stride, the strides of this axis standing first.
 fn advance(places: &mut [usize], strides: &[usize])
     requires strides { length places.old ≤ length strides.now }
-    requires fits { (i : ℕ) → i < length places.old → slice_index places.old i + slice_index strides.now i < 2 ^ 64 }
-    ensures { (i : ℕ) → i < length places.old → slice_index places.new i ≡ slice_index places.old i + slice_index strides.now i }
+    requires fits { (i : ℕ) → i < length places.old
+        → slice_index places.old i + slice_index strides.now i < 2 ^ 64 }
+    ensures { (i : ℕ) → i < length places.old
+        → slice_index places.new i ≡ slice_index places.old i + slice_index strides.now i }
 {
     for i in 0..places.len() {
         places[i] += strides[i];
@@ -37,8 +39,10 @@ fn advance(places: &mut [usize], strides: &[usize])
 /// Moves each place back by as many strides as there are states.
 fn retreat(places: &mut [usize], strides: &[usize], states: usize)
     requires strides { length places.old ≤ length strides.now }
-    requires fits { (i : ℕ) → i < length places.old → states * slice_index strides.now i ≤ slice_index places.old i }
-    ensures { (i : ℕ) → i < length places.old → slice_index places.new i + states * slice_index strides.now i ≡ slice_index places.old i }
+    requires fits { (i : ℕ) → i < length places.old
+        → states * slice_index strides.now i ≤ slice_index places.old i }
+    ensures { (i : ℕ) → i < length places.old
+        → slice_index places.new i + states * slice_index strides.now i ≡ slice_index places.old i }
 {
     for i in 0..places.len() {
         places[i] -= states * strides[i];
@@ -50,7 +54,8 @@ fn product<C: Cell>(cells: &[C], places: &[usize]) -> C
     requires within { All (λ p. p < length cells.now) places.now }
     requires fits { ProductFits C.ring cells.now 1 places.now }
     ensures product { result ≡ product_at C.ring cells.now places.now }
-    ensures size { C.ring.size result ≤ product_at mass_ring (sizes_of C.ring cells.now) places.now }
+    ensures size { C.ring.size result
+        ≤ product_at mass_ring (sizes_of C.ring cells.now) places.now }
 {
     let mut product = C::one();
     for place in places {
@@ -104,7 +109,8 @@ fn add_run<C: Cell>(
 )
     requires run { IsRun axis strides.now (length places.now) }
     requires can { CanWalk C.ring cells.now (axis ∷ []) strides.now places.now out.old at }
-    ensures { Adds C.ring (total C.ring cells.now (axis ∷ []) strides.now places.now at) out.old out.new }
+    ensures { Adds C.ring (total C.ring cells.now (axis ∷ []) strides.now places.now at) out.old
+        out.new }
 {
     let last = places.len() - 1;
     let factor = product(cells, before(places, last));
@@ -130,7 +136,8 @@ fn add_turned<C: Cell>(
 )
     requires turned { IsTurned axis strides.now (length places.now) }
     requires can { CanWalk C.ring cells.now (axis ∷ []) strides.now places.now out.old at }
-    ensures { Adds C.ring (total C.ring cells.now (axis ∷ []) strides.now places.now at) out.old out.new }
+    ensures { Adds C.ring (total C.ring cells.now (axis ∷ []) strides.now places.now at) out.old
+        out.new }
 {
     let factor = cells[places[1]];
     C::add_scaled(out, at, axis.states, factor, cells, places[0]);
@@ -147,7 +154,13 @@ fn add_two_runs<C: Cell>(
 )
     requires run { IsRun axis (drop (length places.old) strides.now) (length places.old) }
     requires can { CanAddTwo C.ring cells.now axis strides.now places.old out.old at }
-    ensures adds { Adds C.ring (λ p. C.ring.plus (total C.ring cells.now (axis ∷ []) (drop (length places.old) strides.now) places.old at p) (total C.ring cells.now (axis ∷ []) (drop (length places.old) strides.now) (shifted 1 strides.now places.old) at p)) out.old out.new }
+    ensures adds { Adds C.ring
+        (λ p.
+        C.ring.plus
+        (total C.ring cells.now (axis ∷ []) (drop (length places.old) strides.now)
+        places.old at p)
+        (total C.ring cells.now (axis ∷ []) (drop (length places.old) strides.now)
+        (shifted 1 strides.now places.old) at p)) out.old out.new }
     ensures places { places.new ≡ shifted 2 strides.now places.old }
 {
     let last = places.len() - 1;
@@ -173,7 +186,8 @@ fn add_runs<C: Cell>(
     requires sum { sum.out ≡ 0 }
     requires run { IsRun axis (drop (length places.old) strides.now) (length places.old) }
     requires can { CanWalk C.ring cells.now (sum ∷ (axis ∷ [])) strides.now places.old out.old at }
-    ensures adds { Adds C.ring (total C.ring cells.now (sum ∷ (axis ∷ [])) strides.now places.old at) out.old out.new }
+    ensures adds { Adds C.ring
+        (total C.ring cells.now (sum ∷ (axis ∷ [])) strides.now places.old at) out.old out.new }
     ensures places { places.new ≡ places.old }
 {
     let below = after(strides, places.len());
@@ -239,9 +253,13 @@ fn product_along<C: Cell>(cells: &[C], factor: C, places: &[usize], s: usize) ->
 /// The sum, over n cells from each place on, of the products of a factor and those cells.
 fn dot<C: Cell>(n: usize, cells: &[C], factor: C, places: &[usize]) -> C
     requires within { All (λ p. p + n ≤ length cells.now) places.now }
-    requires fits { (s : ℕ) → s < n → ProductFits C.ring cells.now (C.ring.size factor) (further s places.now) }
-    requires room { ring_sum mass_ring n (λ s. product_from mass_ring (sizes_of C.ring cells.now) (C.ring.size factor) (further s places.now)) ≤ C.ring.most }
-    ensures { result ≡ ring_sum C.ring n (λ s. product_from C.ring cells.now factor (further s places.now)) }
+    requires fits { (s : ℕ) → s < n
+        → ProductFits C.ring cells.now (C.ring.size factor) (further s places.now) }
+    requires room { ring_sum mass_ring n (λ s.
+        product_from mass_ring (sizes_of C.ring cells.now) (C.ring.size factor)
+        (further s places.now)) ≤ C.ring.most }
+    ensures { result
+        ≡ ring_sum C.ring n (λ s. product_from C.ring cells.now factor (further s places.now)) }
 {
     if places.len() == 2 {
         return C::dot(n, factor, cells, places[0], places[1]);
@@ -266,7 +284,8 @@ fn add_dot<C: Cell>(
 )
     requires dot { IsDot axis strides.now stand (length places.now) }
     requires can { CanWalk C.ring cells.now (axis ∷ []) strides.now places.now out.old at }
-    ensures { Adds C.ring (total C.ring cells.now (axis ∷ []) strides.now places.now at) out.old out.new }
+    ensures { Adds C.ring (total C.ring cells.now (axis ∷ []) strides.now places.now at) out.old
+        out.new }
 {
     let front = before(places, stand);
     let moving = after(places, stand);
@@ -285,7 +304,8 @@ fn add_line<C: Cell>(
     at: usize,
 )
     requires { CanWalk C.ring cells.now (axis ∷ []) strides.now places.old out.old at }
-    ensures adds { Adds C.ring (total C.ring cells.now (axis ∷ []) strides.now places.old at) out.old out.new }
+    ensures adds { Adds C.ring (total C.ring cells.now (axis ∷ []) strides.now places.old at)
+        out.old out.new }
     ensures places { places.new ≡ places.old }
 {
     let mut place = at;
@@ -307,7 +327,8 @@ fn add_axis<C: Cell>(
     at: usize,
 )
     requires { CanWalk C.ring cells.now (axis ∷ []) strides.now places.old out.old at }
-    ensures adds { Adds C.ring (total C.ring cells.now (axis ∷ []) strides.now places.old at) out.old out.new }
+    ensures adds { Adds C.ring (total C.ring cells.now (axis ∷ []) strides.now places.old at)
+        out.old out.new }
     ensures places { places.new ≡ places.old }
 {
     if is_run(axis, strides, places.len()) {
@@ -336,7 +357,8 @@ pub fn walk<C: Cell>(
     at: usize,
 )
     requires { CanWalk C.ring cells.now axes.now strides.now places.old out.old at }
-    ensures adds { Adds C.ring (total C.ring cells.now axes.now strides.now places.old at) out.old out.new }
+    ensures adds { Adds C.ring (total C.ring cells.now axes.now strides.now places.old at) out.old
+        out.new }
     ensures places { places.new ≡ places.old }
 {
     if axes.is_empty() {

@@ -81,8 +81,12 @@ impl<C: Cell> Workspace<C> {
         requires profile { IsProfile diagram.now.nodes profile.now }
         requires node { node < length diagram.now.nodes }
         requires fit { NumbersFit C.ring.most diagram.now.nodes profile.now node }
-        requires room { cells_over diagram.now.nodes (first_table (cells_by C.ring C.of_weight C.of_value) diagram.now.nodes profile.now node).holds ≤ self.old.spare }
-        ensures { AppendsTable C.ring diagram.now.nodes self.old self.new result (first_table (cells_by C.ring C.of_weight C.of_value) diagram.now.nodes profile.now node) }
+        requires room { cells_over diagram.now.nodes (first_table
+            (cells_by C.ring C.of_weight C.of_value) diagram.now.nodes profile.now node).holds
+            ≤ self.old.spare }
+        ensures { AppendsTable C.ring diagram.now.nodes self.old self.new result
+            (first_table (cells_by C.ring C.of_weight C.of_value) diagram.now.nodes profile.now
+            node) }
     {
         let slot = table_behind(
             diagram,
@@ -112,9 +116,14 @@ impl<C: Cell> Workspace<C> {
         requires some { 0 < length slots.now }
         requires live { All (IsLive diagram.now.nodes self.old.cells) slots.now }
         requires hold { All (λ s. IsIn s.scope node) slots.now }
-        requires fits { JoinFits C.ring.size (states_of diagram.now.nodes) C.ring.most node (tables_of C.ring diagram.now.nodes self.old.cells slots.now) }
-        requires room { cells_over diagram.now.nodes (sum_out C.ring (states_of diagram.now.nodes) node (tables_of C.ring diagram.now.nodes self.old.cells slots.now)).holds ≤ self.old.spare }
-        ensures { AppendsTable C.ring diagram.now.nodes self.old self.new result (sum_out C.ring (states_of diagram.now.nodes) node (tables_of C.ring diagram.now.nodes self.old.cells slots.now)) }
+        requires fits { JoinFits C.ring.size (states_of diagram.now.nodes) C.ring.most node
+            (tables_of C.ring diagram.now.nodes self.old.cells slots.now) }
+        requires room { cells_over diagram.now.nodes (sum_out C.ring (states_of diagram.now.nodes)
+            node (tables_of C.ring diagram.now.nodes self.old.cells slots.now)).holds
+            ≤ self.old.spare }
+        ensures { AppendsTable C.ring diagram.now.nodes self.old self.new result
+            (sum_out C.ring (states_of diagram.now.nodes) node
+            (tables_of C.ring diagram.now.nodes self.old.cells slots.now)) }
     {
         let slot = join_behind(
             diagram,
@@ -135,9 +144,13 @@ impl<C: Cell> Workspace<C> {
         requires counts { counts.now ≡ counts_of diagram.now.nodes }
         requires few { length slots.now ≤ 256 }
         requires live { All (IsLive diagram.now.nodes self.old.cells) slots.now }
-        requires fits { ProductsFit C.ring.size (states_of diagram.now.nodes) C.ring.most (tables_of C.ring diagram.now.nodes self.old.cells slots.now) }
-        requires room { cells_over diagram.now.nodes (product_table C.ring (tables_of C.ring diagram.now.nodes self.old.cells slots.now)).holds ≤ self.old.spare }
-        ensures { AppendsTable C.ring diagram.now.nodes self.old self.new result (product_table C.ring (tables_of C.ring diagram.now.nodes self.old.cells slots.now)) }
+        requires fits { ProductsFit C.ring.size (states_of diagram.now.nodes) C.ring.most
+            (tables_of C.ring diagram.now.nodes self.old.cells slots.now) }
+        requires room { cells_over diagram.now.nodes (product_table C.ring (tables_of C.ring
+            diagram.now.nodes self.old.cells slots.now)).holds
+            ≤ self.old.spare }
+        ensures { AppendsTable C.ring diagram.now.nodes self.old self.new result
+            (product_table C.ring (tables_of C.ring diagram.now.nodes self.old.cells slots.now)) }
     {
         let slot = product_behind(
             diagram,
@@ -163,9 +176,14 @@ impl<C: Cell> Workspace<C> {
         requires counts { counts.now ≡ counts_of diagram.now.nodes }
         requires live { IsLive diagram.now.nodes self.old.cells slot.now }
         requires hold { IsIn slot.now.scope node }
-        requires fits { SumFits C.ring (states_of diagram.now.nodes) node (table_of C.ring diagram.now.nodes self.old.cells slot.now) }
-        requires room { cells_over diagram.now.nodes (sum_out C.ring (states_of diagram.now.nodes) node (table_of C.ring diagram.now.nodes self.old.cells slot.now ∷ [])).holds ≤ self.old.spare }
-        ensures { AppendsTable C.ring diagram.now.nodes self.old self.new result (sum_out C.ring (states_of diagram.now.nodes) node (table_of C.ring diagram.now.nodes self.old.cells slot.now ∷ [])) }
+        requires fits { SumFits C.ring (states_of diagram.now.nodes) node
+            (table_of C.ring diagram.now.nodes self.old.cells slot.now) }
+        requires room { cells_over diagram.now.nodes (sum_out C.ring (states_of diagram.now.nodes)
+            node (table_of C.ring diagram.now.nodes self.old.cells slot.now ∷ [])).holds
+            ≤ self.old.spare }
+        ensures { AppendsTable C.ring diagram.now.nodes self.old self.new result
+            (sum_out C.ring (states_of diagram.now.nodes) node
+            (table_of C.ring diagram.now.nodes self.old.cells slot.now ∷ [])) }
     {
         self.join_out(diagram, counts, &[*slot], node)
     }
@@ -175,8 +193,10 @@ impl<C: Cell> Workspace<C> {
         requires live { IsLive diagram.now.nodes self.old.cells slot.now }
         requires hold { IsIn slot.now.scope node }
         requires state { state < states_of diagram.now.nodes node }
-        requires room { cells_over diagram.now.nodes (restricted node state (table_of C.ring diagram.now.nodes self.old.cells slot.now)).holds ≤ self.old.spare }
-        ensures { AppendsTable C.ring diagram.now.nodes self.old self.new result (restricted node state (table_of C.ring diagram.now.nodes self.old.cells slot.now)) }
+        requires room { cells_over diagram.now.nodes (restricted node state (table_of C.ring
+            diagram.now.nodes self.old.cells slot.now)).holds ≤ self.old.spare }
+        ensures { AppendsTable C.ring diagram.now.nodes self.old self.new result
+            (restricted node state (table_of C.ring diagram.now.nodes self.old.cells slot.now)) }
     {
         let slot = restrict_behind(
             diagram,
@@ -198,8 +218,11 @@ impl<C: Cell> Workspace<C> {
         requires room { slot.now.len ≤ self.old.spare }
         ensures len { result.len ≡ slot.now.len }
         ensures appends { Appends self.old self.new result.start result.len }
-        ensures cells { HasCells C.ring diagram.now.nodes nodes.now (part self.new.cells result.start result.len) (table_of C.ring diagram.now.nodes self.old.cells slot.now) }
-        ensures stays { (s : Slot) → IsLive diagram.now.nodes self.old.cells s → StaysLive C.ring diagram.now.nodes self.old.cells self.new.cells s }
+        ensures cells { HasCells C.ring diagram.now.nodes nodes.now
+            (part self.new.cells result.start result.len)
+            (table_of C.ring diagram.now.nodes self.old.cells slot.now) }
+        ensures stays { (s : Slot) → IsLive diagram.now.nodes self.old.cells s
+            → StaysLive C.ring diagram.now.nodes self.old.cells self.new.cells s }
     {
         let strip = reorder_behind(diagram, slot, nodes, self.cells.as_mut_slice(), self.used);
         self.used += strip.len;
@@ -209,8 +232,11 @@ impl<C: Cell> Workspace<C> {
     /// The slot's cell at these states of its nodes, the lowest node first.
     pub fn at(&self, diagram: &Diagram, slot: &Slot, states: &[usize]) -> C
         requires live { IsLive diagram.now.nodes self.now.cells slot.now }
-        requires states { AllZip (λ v s. s < states_of diagram.now.nodes v) (nodes_in diagram.now.nodes (holds slot.now.scope)) states.now }
-        ensures { (w : World) → map w (nodes_in diagram.now.nodes (holds slot.now.scope)) ≡ states.now → result ≡ (table_of C.ring diagram.now.nodes self.now.cells slot.now).cell w }
+        requires states { AllZip (λ v s. s < states_of diagram.now.nodes v)
+            (nodes_in diagram.now.nodes (holds slot.now.scope)) states.now }
+        ensures { (w : World) → map w (nodes_in diagram.now.nodes (holds slot.now.scope))
+            ≡ states.now
+            → result ≡ (table_of C.ring diagram.now.nodes self.now.cells slot.now).cell w }
     {
         read_cell(diagram, slot, states, self.cells.as_slice(), self.used)
     }

@@ -38,7 +38,9 @@ pub fn join_at<C: Cell>(
     requires scope { IsJoined counts.now slots.now node scope.now }
     requires can { CanJoinIn C.ring (take start all.old) counts.now slots.now node }
     ensures kept { take start all.new ≡ take start all.old }
-    ensures cells { (w : ℕ → ℕ) → InRange (states_in counts.now) w → cell_at C.ring all.new (start + place_of counts.now scope.now w) ≡ join_cell C.ring (take start all.old) counts.now slots.now node w }
+    ensures cells { (w : ℕ → ℕ) → InRange (states_in counts.now) w
+        → cell_at C.ring all.new (start + place_of counts.now scope.now w)
+        ≡ join_cell C.ring (take start all.old) counts.now slots.now node w }
 {
     let (cells, rest) = all.split_at_mut(start);
     let (out, _) = rest.split_at_mut(len);
@@ -62,7 +64,9 @@ pub fn multiply_at<C: Cell>(
     requires scope { IsUnion counts.now slots.now scope.now }
     requires can { CanMultiplyIn C.ring (take start all.old) counts.now slots.now }
     ensures kept { take start all.new ≡ take start all.old }
-    ensures cells { (w : ℕ → ℕ) → InRange (states_in counts.now) w → cell_at C.ring all.new (start + place_of counts.now scope.now w) ≡ product_cell C.ring (take start all.old) counts.now slots.now w }
+    ensures cells { (w : ℕ → ℕ) → InRange (states_in counts.now) w
+        → cell_at C.ring all.new (start + place_of counts.now scope.now w)
+        ≡ product_cell C.ring (take start all.old) counts.now slots.now w }
 {
     let (cells, rest) = all.split_at_mut(start);
     let (out, _) = rest.split_at_mut(len);

@@ -49,7 +49,8 @@ fn push_arcs_into(
     decision: usize,
 ) -> Result<(), AllocError>
     requires { decision < length diagram.now.nodes }
-    ensures { OnOk result (arcs.new.items ≡ arcs.old.items ++ arcs_into diagram.now.nodes decision) }
+    ensures { OnOk result (arcs.new.items
+        ≡ arcs.old.items ++ arcs_into diagram.now.nodes decision) }
 {
     let below = below(diagram, decision);
     for v in 0..diagram.count() {

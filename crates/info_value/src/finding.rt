@@ -21,7 +21,8 @@ use std::alloc::{AllocError, Global};
 fn without(alloc: Global, diagram: &Diagram, from: usize, to: usize) -> Result<Diagram, AllocError>
     requires decision { IsDecision diagram.now.nodes to }
     requires arc { Arc diagram.now.nodes from to }
-    ensures { IfOk result (λ less. less ≡ with_nodes diagram.now (without_arc diagram.now.nodes from to)) }
+    ensures { IfOk result (λ less.
+        less ≡ with_nodes diagram.now (without_arc diagram.now.nodes from to)) }
 {
     match remove_arc(alloc, diagram, from, to) {
         Ok(less) => Ok(less),
@@ -39,7 +40,8 @@ fn with(
 ) -> Result<Option<Diagram>, AllocError>
     requires asked { CanAsk diagram.now.nodes (from, to) }
     requires absent { Arc diagram.now.nodes from to → ⊥ }
-    ensures { IfOk result (λ more. MatchOption more (IsTooLarge diagram.now.nodes from to) (IsAdded diagram.now from to)) }
+    ensures { IfOk result (λ more.
+        MatchOption more (IsTooLarge diagram.now.nodes from to) (IsAdded diagram.now from to)) }
 {
     match add_arc(alloc, diagram, from, to) {
         Ok(more) => Ok(Some(more)),
@@ -57,7 +59,8 @@ pub(crate) fn find_seen(
     from: usize,
     to: usize,
 ) -> Result<Found, AllocError>
-    requires baseline { IsBaseline baseline.now.diagram.now baseline.now.agent baseline.now.optimum }
+    requires baseline { IsBaseline baseline.now.diagram.now baseline.now.agent
+        baseline.now.optimum }
     requires decision { IsDecision baseline.now.diagram.now.nodes to }
     requires arc { Arc baseline.now.diagram.now.nodes from to }
     ensures { IfOk result (IsFoundOfSeen baseline.now.diagram.now baseline.now.agent from to) }
@@ -80,10 +83,12 @@ pub(crate) fn find_unseen(
     from: usize,
     to: usize,
 ) -> Result<Found, AllocError>
-    requires baseline { IsBaseline baseline.now.diagram.now baseline.now.agent baseline.now.optimum }
+    requires baseline { IsBaseline baseline.now.diagram.now baseline.now.agent
+        baseline.now.optimum }
     requires asked { CanAsk baseline.now.diagram.now.nodes (from, to) }
     requires absent { Arc baseline.now.diagram.now.nodes from to → ⊥ }
-    ensures found { IfOk result (IsFoundOfUnseen baseline.now.diagram.now baseline.now.agent from to) }
+    ensures found { IfOk result (IsFoundOfUnseen baseline.now.diagram.now baseline.now.agent from
+        to) }
     ensures graph { IfOk result (HasRoomFor baseline.now.diagram.now from to) }
 {
     edits_keep_scopes();

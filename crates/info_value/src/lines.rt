@@ -31,7 +31,8 @@ fn info_line(
     from: usize,
     to: usize,
 ) -> Result<InfoLine, AllocError>
-    requires baseline { IsBaseline baseline.now.diagram.now baseline.now.agent baseline.now.optimum }
+    requires baseline { IsBaseline baseline.now.diagram.now baseline.now.agent
+        baseline.now.optimum }
     requires asked { CanAsk baseline.now.diagram.now.nodes (from, to) }
     ensures tail { IfOk result (λ line. line.from ≡ from) }
     ensures head { IfOk result (λ line. line.to ≡ to) }
@@ -62,10 +63,12 @@ fn info_lines(
     baseline: &Baseline,
     arcs: &[(usize, usize)],
 ) -> Result<Vec<InfoLine>, AllocError>
-    requires baseline { IsBaseline baseline.now.diagram.now baseline.now.agent baseline.now.optimum }
+    requires baseline { IsBaseline baseline.now.diagram.now baseline.now.agent
+        baseline.now.optimum }
     requires asked { All (CanAsk baseline.now.diagram.now.nodes) arcs.now }
     ensures arcs { IfOk result (λ lines. map arc_of lines.items ≡ arcs.now) }
-    ensures lines { IfOk result (λ lines. All (IsLineAlone baseline.now.diagram.now baseline.now.agent) lines.items) }
+    ensures lines { IfOk result (λ lines.
+        All (IsLineAlone baseline.now.diagram.now baseline.now.agent) lines.items) }
 {
     let mut lines = Vec::with_capacity(alloc, arcs.len())?;
     for (from, to) in arcs {
@@ -98,9 +101,12 @@ pub fn info(
     requires answer { IsAnswer diagram.now solved.now }
     requires bound { KeepsScopedBounds diagram.now }
     requires agent { agent < diagram.now.agents }
-    ensures asked { IfOk result (λ lines. map arc_of lines.items ≡ asked_arcs diagram.now.nodes agent) }
-    ensures lines { IfOk result (λ lines. All (IsInfoLine diagram.now solved.now.answers agent) lines.items) }
-    ensures worths { IfOk result (λ lines. All (TellsWorth diagram.now solved.now.answers agent) lines.items) }
+    ensures asked { IfOk result (λ lines.
+        map arc_of lines.items ≡ asked_arcs diagram.now.nodes agent) }
+    ensures lines { IfOk result (λ lines.
+        All (IsInfoLine diagram.now solved.now.answers agent) lines.items) }
+    ensures worths { IfOk result (λ lines.
+        All (TellsWorth diagram.now solved.now.answers agent) lines.items) }
 {
     answers_are_baselines();
     descent_is_tested();

@@ -10,7 +10,8 @@ use std::alloc::AllocError;
 /// Appends each node's name after one space.
 pub fn push_names(out: &mut Vec<u8>, names: &Names, list: &[usize]) -> Result<(), AllocError>
     requires { All (λ v. v < length names.now.nodes) list.now }
-    ensures { OnOk result (out.new.items ≡ out.old.items ++ spaced (map (name_of names.now) list.now)) }
+    ensures { OnOk result (out.new.items
+        ≡ out.old.items ++ spaced (map (name_of names.now) list.now)) }
 {
     for node in list {
         out.push(b' ')?;

@@ -46,7 +46,8 @@ fn push_title(text: &[u8], names: &mut Vec<Token>, block: &Block) -> Result<(), 
 fn node_names(alloc: Global, text: &[u8], blocks: &[Block]) -> Result<Vec<Token>, AllocError>
     requires { All (IsBlockOf text.now) blocks.now }
     ensures own { IfOk result (λ names. All (IsTokenOf text.now) names.items) }
-    ensures names { IfOk result (λ names. map (token_bytes text.now) names.items ≡ names_of text.now (node_blocks blocks.now)) }
+    ensures names { IfOk result (λ names.
+        map (token_bytes text.now) names.items ≡ names_of text.now (node_blocks blocks.now)) }
 {
     let mut names = Vec::new(alloc);
     for block in blocks {
@@ -75,7 +76,8 @@ fn push_cycle(
     cycle: &[usize],
 ) -> Result<(), AllocError>
     requires { All (IsTokenOf text.now) names.now }
-    ensures { OnOk result (out.new.items ≡ out.old.items ++ cycle_names (map (token_bytes text.now) names.now) cycle.now) }
+    ensures { OnOk result (out.new.items
+        ≡ out.old.items ++ cycle_names (map (token_bytes text.now) names.now) cycle.now) }
 {
     for v in cycle {
         out.push(b' ')?;
@@ -92,7 +94,10 @@ fn cycle_words(
     cycle: &[usize],
 ) -> Result<Vec<u8>, AllocError>
     requires { All (IsBlockOf text.now) blocks.now }
-    ensures { IfOk result (λ words. words.items ≡ codes "graph cycle:" ++ cycle_names (names_of text.now (node_blocks blocks.now)) cycle.now) }
+    ensures { IfOk result (λ words.
+        words.items
+        ≡ codes "graph cycle:"
+        ++ cycle_names (names_of text.now (node_blocks blocks.now)) cycle.now) }
 {
     let names = node_names(alloc, text, blocks)?;
     let mut words = Vec::from_slice(alloc, b"graph cycle:")?;
@@ -102,7 +107,8 @@ fn cycle_words(
 
 // The words of a table of another count of numbers.
 fn count_words(alloc: Global, want: usize, got: usize) -> Result<Vec<u8>, AllocError>
-    ensures { IfOk result (λ words. words.items ≡ codes "wrong count: want " ++ decimal want ++ codes " got " ++ decimal got) }
+    ensures { IfOk result (λ words.
+        words.items ≡ codes "wrong count: want " ++ decimal want ++ codes " got " ++ decimal got) }
 {
     let mut words = Vec::from_slice(alloc, b"wrong count: want ")?;
     push_number(&mut words, want as u128)?;
@@ -113,7 +119,8 @@ fn count_words(alloc: Global, want: usize, got: usize) -> Result<Vec<u8>, AllocE
 
 // The words of a limit that is passed.
 fn passed_words(alloc: Global, which: Limit, got: u128) -> Result<Vec<u8>, AllocError>
-    ensures { IfOk result (λ words. words.items ≡ codes "limit passed: " ++ limit_words which ++ decimal got) }
+    ensures { IfOk result (λ words.
+        words.items ≡ codes "limit passed: " ++ limit_words which ++ decimal got) }
 {
     let mut words = Vec::from_slice(alloc, b"limit passed: ")?;
     words.extend_from_slice(limit_words(which))?;
@@ -129,7 +136,8 @@ pub fn kind_words(
     kind: &BuildKind,
 ) -> Result<Vec<u8>, AllocError>
     requires { All (IsBlockOf text.now) tree.now }
-    ensures { IfOk result (λ words. words.items ≡ kind_words (names_of text.now (node_blocks tree.now)) (kind_view kind.now)) }
+    ensures { IfOk result (λ words.
+        words.items ≡ kind_words (names_of text.now (node_blocks tree.now)) (kind_view kind.now)) }
 {
     let words: &[u8] = match kind {
         BuildKind::GraphCycle { list } => return cycle_words(alloc, text, &tree.blocks, list),

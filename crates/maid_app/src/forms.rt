@@ -126,7 +126,8 @@ impl<'a> TextForm<'a> {
     /// What the form's stages find first, or want of memory.
     #[tactic(auto, unfolding(crate::specs::Answers::Answers))]
     pub fn text(self, alloc: Global, bytes: &[u8]) -> Result<Vec<u8>, Refusal>
-        ensures ok { IfOk result (λ printed. Answers (text_request_by self.entry) bytes.now (Ok (done_with printed.items))) }
+        ensures ok { IfOk result (λ printed.
+            Answers (text_request_by self.entry) bytes.now (Ok (done_with printed.items))) }
         ensures err { IfErr result (TellsOf (Answers (text_request_by self.entry) bytes.now)) }
     {
         match self {
@@ -263,7 +264,8 @@ fn form_by_evidence<'a>(
     node: &'a str,
     state: &'a str,
 ) -> Option<Form<'a>>
-    ensures { option_map request_by result ≡ request_by_evidence word.now file.now node.now state.now }
+    ensures { option_map request_by result
+        ≡ request_by_evidence word.now file.now node.now state.now }
 {
     match word {
         "given" => Some(Form::Text(TextForm::Given { file, node, state })),
@@ -279,7 +281,8 @@ fn form_by_row<'a>(
     row: &str,
     state: &'a str,
 ) -> Option<Form<'a>>
-    ensures { option_map request_by result ≡ request_by_row word.now file.now node.now row.now state.now }
+    ensures { option_map request_by result
+        ≡ request_by_row word.now file.now node.now row.now state.now }
 {
     match word {
         "threshold" => match row_of(row.as_bytes()) {

@@ -34,7 +34,8 @@ pub struct Source<'a> {
 impl Source<'_> {
     // The refusal that tells the fault at that place. Its line takes memory, which may run out.
     fn fault(self, alloc: Global, at: usize, words: &[u8]) -> Refusal
-        ensures { Tells Status.TextFault (fault_line self.entry.name.now self.entry.bytes.now at words.now) result }
+        ensures { Tells Status.TextFault
+            (fault_line self.entry.name.now self.entry.bytes.now at words.now) result }
     {
         match lines::fault(alloc, self.name.as_bytes(), self.bytes, at, words) {
             Ok(line) => Refusal::Told {
@@ -61,7 +62,8 @@ impl Source<'_> {
     // The refusal of tokens that spell no tree.
     fn grammar_refusal(self, alloc: Global, tokens: &Tokens, fault: ParseFault) -> Refusal
         requires tokens { IsTokens self.bytes.now tokens.now }
-        requires refuses { IsFaultOrNoMemory parse_fault (tree_pass self.bytes.now tokens.now) fault }
+        requires refuses { IsFaultOrNoMemory parse_fault (tree_pass self.bytes.now tokens.now)
+            fault }
         ensures { TellsTextFault self.entry.name.now self.entry.bytes.now result }
     {
         match fault {
@@ -86,7 +88,8 @@ impl Source<'_> {
     // The tree that the tokens of the bytes spell.
     fn tree(self, alloc: Global, tokens: &Tokens) -> Result<Syntax, Refusal>
         requires { IsTokens self.bytes.now tokens.now }
-        ensures spells { IfOk result (λ tree. Spells tree (lexemes self.entry.bytes.now tokens.now)) }
+        ensures spells { IfOk result (λ tree.
+            Spells tree (lexemes self.entry.bytes.now tokens.now)) }
         ensures blocks { IfOk result (λ tree. All (IsBlockOf self.entry.bytes.now) tree) }
         ensures err { IfErr result (TellsTextFault self.entry.name.now self.entry.bytes.now) }
     {
@@ -128,7 +131,8 @@ impl Source<'_> {
         requires tokens { IsTokens self.bytes.now tokens.now }
         requires spells { Spells tree.now (lexemes self.bytes.now tokens.now) }
         requires blocks { All (IsBlockOf self.bytes.now) tree.now }
-        requires refuses { IsFaultOrNoMemory build_fault (all_passes self.bytes.now tree.now) fault.now }
+        requires refuses { IsFaultOrNoMemory build_fault (all_passes self.bytes.now tree.now)
+            fault.now }
         ensures { TellsTextFault self.entry.name.now self.entry.bytes.now result }
     {
         match fault {

@@ -53,7 +53,8 @@ impl Refusal {
 
 /// The refusal of that status, if memory suffices for its line.
 pub fn told(status: Status, line: Result<Vec<u8>, AllocError>) -> Refusal
-    ensures { MatchResult line (λ made. Tells status made.items result) (λ _. result ≡ Refusal.NoMemory) }
+    ensures { MatchResult line (λ made. Tells status made.items result) (λ _.
+        result ≡ Refusal.NoMemory) }
 {
     match line {
         Ok(line) => Refusal::Told { status, line },

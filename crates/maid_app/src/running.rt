@@ -55,8 +55,10 @@ fn read_file<H: Shelf>(
     ensures ok { IfOk result (λ bytes.
         IsFileText (H.list shelf.old) name.now limit (H.given shelf.new) bytes.items) }
     ensures err { IfErr result (λ refusal.
-        IsUnread (H.list shelf.old) name.now limit (H.given shelf.new) (status_of refusal) (line_of refusal)) }
-    ensures bounded { IfErr result (λ refusal. KeepsLimit limit (status_of refusal) (H.given shelf.new)) }
+        IsUnread (H.list shelf.old) name.now limit (H.given shelf.new) (status_of refusal)
+        (line_of refusal)) }
+    ensures bounded { IfErr result (λ refusal.
+        KeepsLimit limit (status_of refusal) (H.given shelf.new)) }
     ensures absent_cause { IfErr result (λ refusal.
         status_of refusal ≡ Status.Absent → Rose (H.absences shelf.old) (H.absences shelf.new)) }
     ensures read_cause { IfErr result (λ refusal.
@@ -89,8 +91,10 @@ fn bytes_for<H: Shelf>(alloc: Global, shelf: &mut H, form: TextForm<'_>) -> Resu
         IsTextFor (H.list shelf.old) (text_request_by form.entry) (H.given shelf.new) bytes.items) }
     ensures err { IfErr result (λ refusal. HasNoText (H.list shelf.old) (text_request_by form.entry)
         (H.given shelf.new) (status_of refusal) (line_of refusal)) }
-    ensures bounded { IfErr result (λ refusal. IsOfFile (text_request_by form.entry)
-        → KeepsLimit (limit_of (text_request_by form.entry)) (status_of refusal) (H.given shelf.new)) }
+    ensures bounded { IfErr result (λ refusal.
+        IsOfFile (text_request_by form.entry)
+        → KeepsLimit (limit_of (text_request_by form.entry)) (status_of refusal)
+        (H.given shelf.new)) }
     ensures own { (k : ℕ) → text_request_by form.entry ≡ demo k → shelf.new ≡ shelf.old }
     ensures absent_cause { IfErr result (λ refusal.
         status_of refusal ≡ Status.Absent → Rose (H.absences shelf.old) (H.absences shelf.new)) }
@@ -120,7 +124,8 @@ fn text_of(alloc: Global, form: TextForm<'_>, bytes: &[u8]) -> Result<Vec<u8>, R
     ensures ok { IfOk result (λ printed.
         Answers (text_request_by form.entry) bytes.now (Ok (done_with printed.items))) }
     ensures err { IfErr result (λ refusal.
-        RefusesAs (Answers (text_request_by form.entry) bytes.now) (status_of refusal) (line_of refusal)) }
+        RefusesAs (Answers (text_request_by form.entry) bytes.now) (status_of refusal)
+        (line_of refusal)) }
 {
     form.text(alloc, bytes)
 }
@@ -131,8 +136,10 @@ fn text_output<H: Shelf>(
     shelf: &mut H,
     form: TextForm<'_>,
 ) -> Result<Output, Refusal>
-    ensures ok { IfOk result (LeadsToText (H.list shelf.old) (text_request_by form.entry) (H.given shelf.new)) }
-    ensures err { IfErr result (LeadsToRefusal (H.list shelf.old) (text_request_by form.entry) (H.given shelf.new)) }
+    ensures ok { IfOk result (LeadsToText (H.list shelf.old) (text_request_by form.entry)
+        (H.given shelf.new)) }
+    ensures err { IfErr result (LeadsToRefusal (H.list shelf.old) (text_request_by form.entry)
+        (H.given shelf.new)) }
     ensures own { (k : ℕ) → text_request_by form.entry ≡ demo k → shelf.new ≡ shelf.old }
     ensures absent_cause { IfErr result (λ refusal.
         status_of refusal ≡ Status.Absent → Rose (H.absences shelf.old) (H.absences shelf.new)) }
@@ -157,8 +164,10 @@ fn check_output<H: Shelf>(
     file: &str,
     report: &str,
 ) -> Result<Output, Refusal>
-    ensures ok { IfOk result (LeadsToText (H.list shelf.old) (check file.now report.now) (H.given shelf.new)) }
-    ensures err { IfErr result (LeadsToRefusal (H.list shelf.old) (check file.now report.now) (H.given shelf.new)) }
+    ensures ok { IfOk result (LeadsToText (H.list shelf.old) (check file.now report.now)
+        (H.given shelf.new)) }
+    ensures err { IfErr result (LeadsToRefusal (H.list shelf.old) (check file.now report.now)
+        (H.given shelf.new)) }
     ensures absent_cause { IfErr result (λ refusal.
         status_of refusal ≡ Status.Absent → Rose (H.absences shelf.old) (H.absences shelf.new)) }
     ensures read_cause { IfErr result (λ refusal.
@@ -175,8 +184,10 @@ fn check_output<H: Shelf>(
 
 // What the words' form writes, made whole.
 fn output_of<H: Shelf>(alloc: Global, shelf: &mut H, form: Form<'_>) -> Result<Output, Refusal>
-    ensures ok { IfOk result (LeadsToText (H.list shelf.old) (request_by form.entry) (H.given shelf.new)) }
-    ensures err { IfErr result (LeadsToRefusal (H.list shelf.old) (request_by form.entry) (H.given shelf.new)) }
+    ensures ok { IfOk result (LeadsToText (H.list shelf.old) (request_by form.entry)
+        (H.given shelf.new)) }
+    ensures err { IfErr result (LeadsToRefusal (H.list shelf.old) (request_by form.entry)
+        (H.given shelf.new)) }
     ensures own { (k : ℕ) → request_by form.entry ≡ demo k → shelf.new ≡ shelf.old }
     ensures absent_cause { IfErr result (λ refusal.
         status_of refusal ≡ Status.Absent → Rose (H.absences shelf.old) (H.absences shelf.new)) }
@@ -199,24 +210,28 @@ fn serve<H: Shelf, O: Sink>(
     shelf: &mut H,
     out: &mut O,
 ) -> Result<Status, Refusal>
-    ensures ok { IfOk result (WritesText (H.list shelf.old) (requested words.now) (H.given shelf.new)
-        (Appends (O.taken out.old) (O.taken out.new))) }
+    ensures ok { IfOk result (WritesText (H.list shelf.old) (requested words.now)
+        (H.given shelf.new) (Appends (O.taken out.old) (O.taken out.new))) }
     ensures after { IfOk result IsAfterWriting }
     ensures ok_words { OnOk result (requested words.now ≢ None) }
     ensures err { IfErr result (λ refusal.
-        Says (H.list shelf.old) (requested words.now) (H.given shelf.new) (status_of refusal) (line_of refusal)) }
+        Says (H.list shelf.old) (requested words.now) (H.given shelf.new) (status_of refusal)
+        (line_of refusal)) }
     ensures bounded_done { IfOk result (λ status.
         KeepsLimits (H.list shelf.old) (requested words.now) status (H.given shelf.new)) }
     ensures bounded { IfErr result (λ refusal.
-        KeepsLimits (H.list shelf.old) (requested words.now) (status_of refusal) (H.given shelf.new)) }
-    ensures demo_reads_nothing { (k : ℕ) → requested words.now ≡ Some (demo k) → shelf.new ≡ shelf.old }
+        KeepsLimits (H.list shelf.old) (requested words.now) (status_of refusal)
+        (H.given shelf.new)) }
+    ensures demo_reads_nothing { (k : ℕ) → requested words.now ≡ Some (demo k)
+        → shelf.new ≡ shelf.old }
     ensures usage { IfErr result (λ refusal.
         (status_of refusal ≡ Status.Usage) ↔ (requested words.now ≡ None)) }
     ensures untouched_shelf { IfErr result (λ refusal.
         status_of refusal ≡ Status.Usage → shelf.new ≡ shelf.old) }
-    ensures part { IfErr result (λ refusal. status_of refusal ≡ Status.WriteFault → (status : Status)
-        × WritesText (H.list shelf.old) (requested words.now) (H.given shelf.new)
-        (AppendsPart (O.taken out.old) (O.taken out.new)) status) }
+    ensures part { IfErr result (λ refusal.
+        status_of refusal ≡ Status.WriteFault
+        → (status : Status) × WritesText (H.list shelf.old) (requested words.now)
+        (H.given shelf.new) (AppendsPart (O.taken out.old) (O.taken out.new)) status) }
     ensures absent_cause { IfErr result (λ refusal.
         status_of refusal ≡ Status.Absent → Rose (H.absences shelf.old) (H.absences shelf.new)) }
     ensures read_cause { IfErr result (λ refusal.
@@ -281,10 +296,12 @@ pub fn run<H: Shelf, O: Sink, E: Sink>(
     ensures usage_reads_nothing { result ≡ Status.Usage → shelf.new ≡ shelf.old }
 
     // What was read of the file that the words name, however the run ended.
-    ensures bounded { KeepsLimits (H.list shelf.old) (requested words.now) result (H.given shelf.new) }
+    ensures bounded { KeepsLimits (H.list shelf.old) (requested words.now) result
+        (H.given shelf.new) }
 
     // `demo` reads no file.
-    ensures demo_reads_nothing { (k : ℕ) → requested words.now ≡ Some (demo k) → shelf.new ≡ shelf.old }
+    ensures demo_reads_nothing { (k : ℕ) → requested words.now ≡ Some (demo k)
+        → shelf.new ≡ shelf.old }
     ensures demo_status { (k : ℕ) → requested words.now ≡ Some (demo k) → ¬ IsOfReading result }
 
     // What `out` took: the whole text, a proper front of it, or nothing.
@@ -303,33 +320,38 @@ pub fn run<H: Shelf, O: Sink, E: Sink>(
         × TakesLine (E.taken err.old) (E.taken err.new) (E.faults err.old) (E.faults err.new) line }
 
     // Where the devices tell nothing, they counted a cause.
-    ensures absent_cause { result ≡ Status.Absent → Rose (H.absences shelf.old) (H.absences shelf.new) }
-    ensures read_cause { result ≡ Status.ReadFault → Rose (H.faults shelf.old) (H.faults shelf.new) }
+    ensures absent_cause { result ≡ Status.Absent
+        → Rose (H.absences shelf.old) (H.absences shelf.new) }
+    ensures read_cause { result ≡ Status.ReadFault
+        → Rose (H.faults shelf.old) (H.faults shelf.new) }
     ensures write_cause { result ≡ Status.WriteFault → Rose (O.faults out.old) (O.faults out.new) }
 
     // Nothing else keeps it from an answer but want of memory.
     ensures always_absent { LacksFile (H.list shelf.old) (requested words.now)
         → ¬ Rose (H.faults shelf.old) (H.faults shelf.new) → IsOneOf result Status.Absent }
     ensures always_too_long { (request : Request) (bytes : List ℕ)
-        → HasFile (H.list shelf.old) (requested words.now) request bytes → limit_of request < length bytes
-        → ¬ Rose (H.faults shelf.old) (H.faults shelf.new) → IsOneOf result Status.TextTooLong }
+        → HasFile (H.list shelf.old) (requested words.now) request bytes
+        → limit_of request < length bytes → ¬ Rose (H.faults shelf.old) (H.faults shelf.new)
+        → IsOneOf result Status.TextTooLong }
     ensures always_refused { (request : Request) (bytes : List ℕ)
-        → HasFile (H.list shelf.old) (requested words.now) request bytes → length bytes ≤ limit_of request
-        → (refusal : Refused) → Answers request bytes (Err refusal)
-        → ¬ Rose (H.faults shelf.old) (H.faults shelf.new) → IsOneOf result refusal.status }
+        → HasFile (H.list shelf.old) (requested words.now) request bytes
+        → length bytes ≤ limit_of request → (refusal : Refused)
+        → Answers request bytes (Err refusal) → ¬ Rose (H.faults shelf.old) (H.faults shelf.new)
+        → IsOneOf result refusal.status }
     ensures always_done { (request : Request) (bytes : List ℕ)
-        → HasFile (H.list shelf.old) (requested words.now) request bytes → length bytes ≤ limit_of request
-        → FindsNothing request bytes
+        → HasFile (H.list shelf.old) (requested words.now) request bytes
+        → length bytes ≤ limit_of request → FindsNothing request bytes
         → ¬ Rose (H.faults shelf.old) (H.faults shelf.new)
         → ¬ Rose (O.faults out.old) (O.faults out.new) → EndsWell request result }
     ensures always_answers { (request : Request) (bytes : List ℕ)
-        → HasFile (H.list shelf.old) (requested words.now) request bytes → length bytes ≤ limit_of request
-        → (d : DiagramView) (names : NamesView) → IsDiagramOf bytes d names → CanAnswer request d names
+        → HasFile (H.list shelf.old) (requested words.now) request bytes
+        → length bytes ≤ limit_of request → (d : DiagramView) (names : NamesView)
+        → IsDiagramOf bytes d names → CanAnswer request d names
         → ¬ Rose (H.faults shelf.old) (H.faults shelf.new)
         → ¬ Rose (O.faults out.old) (O.faults out.new) → EndsWell request result }
     ensures always_written { (request : Request) (bytes : List ℕ)
-        → HasFile (H.list shelf.old) (requested words.now) request bytes → length bytes ≤ limit_of request
-        → (output : Written) → Answers request bytes (Ok output)
+        → HasFile (H.list shelf.old) (requested words.now) request bytes
+        → length bytes ≤ limit_of request → (output : Written) → Answers request bytes (Ok output)
         → ¬ Rose (H.faults shelf.old) (H.faults shelf.new)
         → ¬ Rose (O.faults out.old) (O.faults out.new) → IsOneOf result output.status }
 

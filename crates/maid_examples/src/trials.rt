@@ -23,7 +23,15 @@ use std::marker::Model;
 
 /// A decision of two states.
 fn decision(alloc: Global, owner: usize, parents: &[usize]) -> Result<Node, AllocError>
-    ensures { IfOk result (λ n. n ≡ record { kind = Kind.Decision; owner = owner; more = []; states = 2; parents = parents.now; cells = [] }) }
+    ensures { IfOk result (λ n.
+        n ≡ record {
+          kind = Kind.Decision;
+          owner = owner;
+          more = [];
+          states = 2;
+          parents = parents.now;
+          cells = [];
+        }) }
 {
     Ok(Node {
         kind: Kind::Decision,
@@ -37,7 +45,15 @@ fn decision(alloc: Global, owner: usize, parents: &[usize]) -> Result<Node, Allo
 
 /// A chance node below node 0.
 fn chance(alloc: Global, states: usize, cells: &[i128]) -> Result<Node, AllocError>
-    ensures { IfOk result (λ n. n ≡ record { kind = Kind.Chance; owner = 0; more = []; states = states; parents = 0 ∷ []; cells = cells.now }) }
+    ensures { IfOk result (λ n.
+        n ≡ record {
+          kind = Kind.Chance;
+          owner = 0;
+          more = [];
+          states = states;
+          parents = 0 ∷ [];
+          cells = cells.now;
+        }) }
 {
     Ok(Node {
         kind: Kind::Chance,
@@ -55,7 +71,15 @@ fn utility(
     parents: &[usize],
     cells: &[i128],
 ) -> Result<Node, AllocError>
-    ensures { IfOk result (λ n. n ≡ record { kind = Kind.Utility; owner = owner; more = []; states = 1; parents = parents.now; cells = cells.now }) }
+    ensures { IfOk result (λ n.
+        n ≡ record {
+          kind = Kind.Utility;
+          owner = owner;
+          more = [];
+          states = 1;
+          parents = parents.now;
+          cells = cells.now;
+        }) }
 {
     Ok(Node {
         kind: Kind::Utility,
@@ -69,7 +93,15 @@ fn utility(
 
 /// A utility of the agents 0 and 1.
 fn shared_utility(alloc: Global, parents: &[usize], cells: &[i128]) -> Result<Node, AllocError>
-    ensures { IfOk result (λ n. n ≡ record { kind = Kind.Utility; owner = 0; more = 1 ∷ []; states = 1; parents = parents.now; cells = cells.now }) }
+    ensures { IfOk result (λ n.
+        n ≡ record {
+          kind = Kind.Utility;
+          owner = 0;
+          more = 1 ∷ [];
+          states = 1;
+          parents = parents.now;
+          cells = cells.now;
+        }) }
 {
     Ok(Node {
         kind: Kind::Utility,
@@ -206,7 +238,8 @@ pub(crate) fn team(alloc: Global) -> Result<Diagram, AllocError>
 }
 
 fn rule(alloc: Global, decision: usize, total: u128, weights: &[u128]) -> Result<Rule, AllocError>
-    ensures { IfOk result (λ r. r ≡ record { decision = decision; total = total; weights = weights.now }) }
+    ensures { IfOk result (λ r.
+        r ≡ record { decision = decision; total = total; weights = weights.now }) }
 {
     Ok(Rule {
         decision,

@@ -44,7 +44,8 @@ impl Model for MemShelf {
 
 // The place of the first file with that name.
 fn find(files: &[(String, Vec<u8>)], name: &str) -> Option<usize>
-    ensures bytes { option_map (λ i. bytes_at (map file files.now) i) result ≡ file_of (map file files.now) name.now }
+    ensures bytes { option_map (λ i. bytes_at (map file files.now) i) result
+        ≡ file_of (map file files.now) name.now }
     ensures within { IfSome result (λ i. i < length files.now) }
 {
     for (i, entry) in files.iter().enumerate() {
@@ -85,7 +86,14 @@ impl MemShelf {
     /// in `fails`. One read gives at most `piece` bytes.
     pub fn new(files: Vec<(String, Vec<u8>)>, fails: Vec<u64>, piece: usize) -> MemShelf
         requires { 1 ≤ piece }
-        ensures { result ≡ record { files = map file files.items; left = []; fails = fails.items; piece = piece; calls = 0; counts = record { faults = 0; absences = 0; given = 0 } } }
+        ensures { result ≡ record {
+          files = map file files.items;
+          left = [];
+          fails = fails.items;
+          piece = piece;
+          calls = 0;
+          counts = record { faults = 0; absences = 0; given = 0 };
+        } }
     {
         MemShelf {
             files,
@@ -114,13 +122,18 @@ impl Shelf for MemShelf {
     fn start(&mut self, name: &str) -> Opened
         ensures opened { Opens result (Some self.old.files) name.now (Some self.new.left) }
         ensures given { self.new.counts.given ≡ 0 }
-        ensures cause { StartHasCause self.old.counts.faults self.new.counts.faults self.old.counts.absences self.new.counts.absences result }
+        ensures cause { StartHasCause self.old.counts.faults self.new.counts.faults
+            self.old.counts.absences self.new.counts.absences result }
         ensures list { Some self.new.files ≡ Some self.old.files }
 
         // Exactly when it fails.
         ensures fails { (result ≡ Opened.Failed) ↔ CallFails self.old }
         ensures memory { result ≢ Opened.NoMemory }
-        ensures rest { self.new ≡ record self.old { left = self.new.left; calls = saturating_sum self.old.calls 1; counts = counts_after_start result self.old.counts } }
+        ensures rest { self.new ≡ record self.old {
+          left = self.new.left;
+          calls = saturating_sum self.old.calls 1;
+          counts = counts_after_start result self.old.counts;
+        } }
     {
         self.calls = self.calls.saturating_add(1);
         self.started = None;
@@ -147,8 +160,13 @@ impl Shelf for MemShelf {
 
         // Exactly when it fails, and how many bytes it gives otherwise.
         ensures fails { IsErr result ↔ CallFails self.old }
-        ensures count { IfOk result (λ n. n ≡ min (length self.old.left) (min (length buf.old) self.old.piece)) }
-        ensures rest { self.new ≡ record self.old { left = self.new.left; calls = saturating_sum self.old.calls 1; counts = counts_after_read result self.old.counts } }
+        ensures count { IfOk result (λ n.
+            n ≡ min (length self.old.left) (min (length buf.old) self.old.piece)) }
+        ensures rest { self.new ≡ record self.old {
+          left = self.new.left;
+          calls = saturating_sum self.old.calls 1;
+          counts = counts_after_read result self.old.counts;
+        } }
     {
         self.calls = self.calls.saturating_add(1);
         if self.fails.contains(&self.calls) {

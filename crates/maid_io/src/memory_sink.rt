@@ -28,7 +28,15 @@ impl Model for MemSink {
 
     ghost Value = { SinkState };
 
-    ghost view = { λ s. record { taken = s.taken.items; room = s.room; fails = s.fails.items; piece = s.piece; calls = s.calls; faults = s.faults } };
+    ghost view = { λ s.
+        record {
+          taken = s.taken.items;
+          room = s.room;
+          fails = s.fails.items;
+          piece = s.piece;
+          calls = s.calls;
+          faults = s.faults;
+        } };
 
     ghost invariant = { λ s. (1 ≤ s.piece) × (vec_len s.taken + s.room ≤ vec_capacity s.taken) };
 }
@@ -45,7 +53,15 @@ impl MemSink {
         piece: usize,
     ) -> Result<MemSink, AllocError>
         requires { 1 ≤ piece }
-        ensures { IfOk result (λ s. s ≡ record { taken = []; room = room; fails = fails.items; piece = piece; calls = 0; faults = 0 }) }
+        ensures { IfOk result (λ s.
+            s ≡ record {
+              taken = [];
+              room = room;
+              fails = fails.items;
+              piece = piece;
+              calls = 0;
+              faults = 0;
+            }) }
     {
         Ok(MemSink {
             taken: Vec::with_capacity(alloc, room)?,
@@ -78,9 +94,16 @@ impl Sink for MemSink {
 
         // Exactly when it fails, and how many bytes it takes otherwise.
         ensures fails { IsErr result ↔ WriteFails self.old piece.now }
-        ensures count { IfOk result (λ n. n ≡ min (length piece.now) (min self.old.piece self.old.room)) }
-        ensures room { MatchResult result (λ n. self.new.room + n ≡ self.old.room) (λ _. self.new.room ≡ self.old.room) }
-        ensures rest { self.new ≡ record self.old { taken = self.new.taken; room = self.new.room; calls = saturating_sum self.old.calls 1; faults = faults_after_write result self.old.faults } }
+        ensures count { IfOk result (λ n.
+            n ≡ min (length piece.now) (min self.old.piece self.old.room)) }
+        ensures room { MatchResult result (λ n. self.new.room + n ≡ self.old.room)
+            (λ _. self.new.room ≡ self.old.room) }
+        ensures rest { self.new ≡ record self.old {
+          taken = self.new.taken;
+          room = self.new.room;
+          calls = saturating_sum self.old.calls 1;
+          faults = faults_after_write result self.old.faults;
+        } }
     {
         self.calls = self.calls.saturating_add(1);
         let full = !piece.is_empty() && self.room == 0;

@@ -84,7 +84,8 @@ impl<R: Files> Shelf for DirShelf<'_, R> {
     fn start(&mut self, name: &str) -> Opened
         ensures opened { Opens result None name.now None }
         ensures given { self.new.given ≡ 0 }
-        ensures cause { StartHasCause self.old.faults self.new.faults self.old.absences self.new.absences result }
+        ensures cause { StartHasCause self.old.faults self.new.faults self.old.absences
+            self.new.absences result }
         ensures counts { self.new ≡ counts_after_start result self.old }
     {
         self.started = None;

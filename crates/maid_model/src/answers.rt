@@ -46,5 +46,6 @@ impl Model for Solved {
 
     ghost Value = { SolvedView };
 
-    ghost view = { λ s. record { order = s.order.items; answers = s.answers.items; gains = s.gains.items } };
+    ghost view = { λ s.
+        record { order = s.order.items; answers = s.answers.items; gains = s.gains.items } };
 }

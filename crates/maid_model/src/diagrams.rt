@@ -36,7 +36,15 @@ impl Model for Node {
 
     ghost Value = { NodeView };
 
-    ghost view = { λ n. record { kind = n.kind; owner = n.owner; more = n.more.items; states = n.states; parents = n.parents.items; cells = n.cells.items } };
+    ghost view = { λ n.
+        record {
+          kind = n.kind;
+          owner = n.owner;
+          more = n.more.items;
+          states = n.states;
+          parents = n.parents.items;
+          cells = n.cells.items;
+        } };
 }
 
 /// An influence diagram. Its nodes are numbered from 0 in text order, its agents from 0 in order of first sight, and
@@ -54,15 +62,21 @@ impl Model for Diagram {
 
     ghost Value = { DiagramView };
 
-    ghost view = { λ d. record { nodes = d.nodes.items; agents = d.agents; decimals = d.decimals } };
+    ghost view = { λ d.
+        record { nodes = d.nodes.items; agents = d.agents; decimals = d.decimals } };
 
-    ghost invariant = { λ d. IsDiagram (record { nodes = d.nodes.items; agents = d.agents; decimals = d.decimals }) };
+    ghost invariant = { λ d.
+        IsDiagram (record { nodes = d.nodes.items; agents = d.agents; decimals = d.decimals }) };
 }
 
 impl Diagram {
     /// The diagram of these nodes. It takes no memory.
     pub fn from_nodes(nodes: Vec<Node>, agents: usize, decimals: u32) -> Diagram
-        requires { IsDiagram (record { nodes = nodes.items; agents = agents; decimals = decimals }) }
+        requires { IsDiagram (record {
+          nodes = nodes.items;
+          agents = agents;
+          decimals = decimals;
+        }) }
         ensures { result ≡ record { nodes = nodes.items; agents = agents; decimals = decimals } }
     {
         Diagram {

@@ -23,5 +23,6 @@ impl Graph for Diagram {
         Diagram::parents(self, v)
     }
 
-    ghost none_past = { λ d v past. ap (λ (n : NodeView). n.parents) (get_or_past d.nodes v no_node past) };
+    ghost none_past = { λ d v past.
+        ap (λ (n : NodeView). n.parents) (get_or_past d.nodes v no_node past) };
 }

@@ -18,7 +18,12 @@ impl Model for Names {
 
     ghost Value = { NamesView };
 
-    ghost view = { λ n. record { nodes = list_of n.nodes.items; labels = lists_of n.labels.items; agents = list_of n.agents.items } };
+    ghost view = { λ n.
+        record {
+          nodes = list_of n.nodes.items;
+          labels = lists_of n.labels.items;
+          agents = list_of n.agents.items;
+        } };
 }
 
 /// The first place of the name in the list. It compares the name with each before it.
@@ -39,7 +44,11 @@ impl Names {
 
     /// These names. It takes no memory.
     pub fn from_lists(nodes: Vec<Vec<u8>>, labels: Vec<Vec<Vec<u8>>>, agents: Vec<Vec<u8>>) -> Names
-        ensures { result ≡ record { nodes = list_of nodes.items; labels = lists_of labels.items; agents = list_of agents.items } }
+        ensures { result ≡ record {
+          nodes = list_of nodes.items;
+          labels = lists_of labels.items;
+          agents = list_of agents.items;
+        } }
     {
         Names {
             nodes,

@@ -25,7 +25,8 @@ impl Model for Rule {
 
     ghost Value = { RuleView };
 
-    ghost view = { λ r. record { decision = r.decision; total = r.total; weights = r.weights.items } };
+    ghost view = { λ r.
+        record { decision = r.decision; total = r.total; weights = r.weights.items } };
 }
 
 impl Rule {
@@ -70,7 +71,9 @@ impl Profile {
     /// The profile that gives every state of every decision the weight 1.
     pub fn uniform(alloc: Global, diagram: &Diagram) -> Result<Profile, AllocError>
         ensures rules { IfOk result (λ p. p ≡ uniform_profile diagram.now.nodes) }
-        ensures total { IfOk result (λ p. (v : ℕ) → IsDecision diagram.now.nodes v → rule_total p v ≡ states_of diagram.now.nodes v) }
+        ensures total { IfOk result (λ p.
+            (v : ℕ) → IsDecision diagram.now.nodes v
+            → rule_total p v ≡ states_of diagram.now.nodes v) }
         ensures profile { IfOk result (IsProfile diagram.now.nodes) }
     {
         let mut rules = Vec::new(alloc);
@@ -113,7 +116,8 @@ impl Profile {
     pub fn put(&mut self, rule: Rule)
         requires { HasRule self.old rule.decision }
         ensures replaced { Replaces self.old self.new rule }
-        ensures profile { (nodes : List NodeView) → IsProfile nodes self.old → IsRule nodes rule → IsProfile nodes self.new }
+        ensures profile { (nodes : List NodeView) → IsProfile nodes self.old → IsRule nodes rule
+            → IsProfile nodes self.new }
     {
         let place = place_of(&self.rules, rule.decision);
         self.rules[place] = rule;

@@ -42,9 +42,12 @@ impl Rule {
         rows: &[Row],
     ) -> Result<Rule, AllocError>
         requires { decision < length diagram.now.nodes }
-        ensures choices { IfOk result (λ r. r ≡ pure_rule diagram.now.nodes decision (map (λ row. row.choice) rows.now)) }
+        ensures choices { IfOk result (λ r.
+            r ≡ pure_rule diagram.now.nodes decision (map (λ row. row.choice) rows.now)) }
         // It is a rule of the decision where there is a choice in range for each row of the parents' states.
-        ensures rule { length rows.now ≡ rows_of diagram.now.nodes decision → All (λ row. row.choice < states_of diagram.now.nodes decision) rows.now → IfOk result (IsRule diagram.now.nodes) }
+        ensures rule { length rows.now ≡ rows_of diagram.now.nodes decision
+            → All (λ row. row.choice < states_of diagram.now.nodes decision) rows.now
+            → IfOk result (IsRule diagram.now.nodes) }
     {
         let states = diagram.states(decision);
         let mut weights = Vec::new(alloc);
@@ -63,8 +66,10 @@ impl Profile {
     /// The profile of the answered choices: at each decision the rule of total 1 that takes them.
     pub fn pure(alloc: Global, diagram: &Diagram, answers: &[Answer]) -> Result<Profile, AllocError>
         ensures rules { IfOk result (λ p. p ≡ pure_profile diagram.now.nodes answers.now) }
-        ensures total { IfOk result (λ p. (v : ℕ) → IsDecision diagram.now.nodes v → rule_total p v ≡ 1) }
-        ensures profile { FitsAnswers diagram.now.nodes answers.now → IfOk result (IsProfile diagram.now.nodes) }
+        ensures total { IfOk result (λ p.
+            (v : ℕ) → IsDecision diagram.now.nodes v → rule_total p v ≡ 1) }
+        ensures profile { FitsAnswers diagram.now.nodes answers.now
+            → IfOk result (IsProfile diagram.now.nodes) }
     {
         let mut rules = Vec::new(alloc);
         for v in 0..diagram.count() {

@@ -24,7 +24,8 @@ fn is_utility_of(diagram: &Diagram, agent: usize, v: usize) -> bool
 pub(crate) fn utilities_of(diagram: &Diagram, agent: usize) -> NodeSet
     ensures utilities { MarksUtilities diagram.now.nodes result }
     ensures known { (v : ℕ) → IsIn result v → v < length diagram.now.nodes }
-    ensures marks { (v : ℕ) → v < length diagram.now.nodes → holds result v ≡ is_utility_of diagram.now.nodes agent v }
+    ensures marks { (v : ℕ) → v < length diagram.now.nodes
+        → holds result v ≡ is_utility_of diagram.now.nodes agent v }
 {
     let mut utilities = NodeSet::empty();
     for v in 0..diagram.count() {

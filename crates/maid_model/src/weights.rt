@@ -41,7 +41,8 @@ fn factor(
     requires profile { IsProfile diagram.now.nodes profile.now }
     requires places { HasPlaces diagram.now.nodes profile.now places.now }
     requires world { IsWorld (counts_of diagram.now.nodes) world.now }
-    ensures factor { pos result ≡ table_without diagram.now.nodes profile.now left_out v (world_of world.now) }
+    ensures factor { pos result
+        ≡ table_without diagram.now.nodes profile.now left_out v (world_of world.now) }
     ensures within { result ≤ base_total diagram.now.nodes profile.now left_out v }
 {
     let kind = diagram.kind(v);
@@ -67,7 +68,8 @@ pub(crate) fn world_weight(
     requires places { HasPlaces diagram.now.nodes profile.now places.now }
     requires world { IsWorld (counts_of diagram.now.nodes) world.now }
     requires fits { base_mass diagram.now.nodes profile.now left_out ≤ greatest_number }
-    ensures weight { pos result ≡ weight_without diagram.now.nodes profile.now left_out (world_of world.now) }
+    ensures weight { pos result
+        ≡ weight_without diagram.now.nodes profile.now left_out (world_of world.now) }
     ensures within { result ≤ base_mass diagram.now.nodes profile.now left_out }
 {
     let mut weight: u128 = 1;

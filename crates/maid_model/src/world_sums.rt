@@ -21,7 +21,9 @@ use node_sets::NodeSet;
 pub fn leaf_sum(diagram: &Diagram, profile: &Profile, agent: usize, world: &mut World) -> i128
     requires profile { IsProfile diagram.now.nodes profile.now }
     requires first { world.old ≡ first_world (length diagram.now.nodes) }
-    requires fits { mass diagram.now.nodes profile.now * max (10 ^ diagram.now.decimals) (greatest_utility diagram.now.nodes) ≤ greatest_number }
+    requires fits { mass diagram.now.nodes profile.now
+        * max (10 ^ diagram.now.decimals) (greatest_utility diagram.now.nodes)
+        ≤ greatest_number }
     ensures sum { result ≡ gain_of diagram.now.nodes profile.now agent }
     ensures small { nat_abs result ≤ greatest_number }
     ensures again { world.new ≡ world.old }
@@ -53,15 +55,24 @@ pub fn base_sums(
     requires decision { IsDecision diagram.now.nodes decision }
     requires profile { IsProfile diagram.now.nodes profile.now }
     requires first { world.old ≡ first_world (length diagram.now.nodes) }
-    requires gains { length gains.old ≡ rows_of diagram.now.nodes decision * states_of diagram.now.nodes decision }
+    requires gains { length gains.old
+        ≡ rows_of diagram.now.nodes decision * states_of diagram.now.nodes decision }
     requires masses { length masses.old ≡ rows_of diagram.now.nodes decision }
-    requires fits { base_mass diagram.now.nodes profile.now decision * max (10 ^ diagram.now.decimals) (greatest_utility diagram.now.nodes) ≤ greatest_number }
-    ensures gains { (row s : ℕ) → row < rows_of diagram.now.nodes decision → s < states_of diagram.now.nodes decision → slice_index_or gains.new (row * states_of diagram.now.nodes decision + s) (pos 0) ≡ gain_at diagram.now.nodes profile.now decision s row }
-    ensures masses { (row : ℕ) → row < rows_of diagram.now.nodes decision → pos (slice_index masses.new row) ≡ mass_at diagram.now.nodes profile.now decision row }
+    requires fits { base_mass diagram.now.nodes profile.now decision
+        * max (10 ^ diagram.now.decimals) (greatest_utility diagram.now.nodes)
+        ≤ greatest_number }
+    ensures gains { (row s : ℕ) → row < rows_of diagram.now.nodes decision
+        → s < states_of diagram.now.nodes decision
+        → slice_index_or gains.new (row * states_of diagram.now.nodes decision + s) (pos 0)
+        ≡ gain_at diagram.now.nodes profile.now decision s row }
+    ensures masses { (row : ℕ) → row < rows_of diagram.now.nodes decision
+        → pos (slice_index masses.new row) ≡ mass_at diagram.now.nodes profile.now decision row }
 
     // The room that the bound leaves in them.
     ensures gains_small { (i : ℕ) → nat_abs (slice_index_or gains.new i (pos 0)) ≤ greatest_number }
-    ensures masses_small { (row : ℕ) → slice_index masses.new row * max (10 ^ diagram.now.decimals) (greatest_utility diagram.now.nodes) ≤ greatest_number }
+    ensures masses_small { (row : ℕ) → slice_index masses.new row
+        * max (10 ^ diagram.now.decimals) (greatest_utility diagram.now.nodes)
+        ≤ greatest_number }
     ensures again { world.new ≡ world.old }
 {
     let places = rule_places(diagram, profile);
@@ -107,7 +118,8 @@ fn world_gain(diagram: &Diagram, marks: &NodeSet, weight: u128, world: &World) -
     requires utility { greatest_utility diagram.now.nodes ≤ greatest_number }
     requires weight { weight ≤ greatest_number }
     requires fits { weight * greatest_utility diagram.now.nodes ≤ greatest_number }
-    ensures { result ≡ pos weight *ℤ marked_utility diagram.now.nodes marks.now (world_of world.now) }
+    ensures { result
+        ≡ pos weight *ℤ marked_utility diagram.now.nodes marks.now (world_of world.now) }
 {
     if weight == 0 {
         return 0;
@@ -128,7 +140,9 @@ fn add_gain(gains: &mut [i128], cell: usize, gain: i128)
 fn add_mass(masses: &mut [u128], row: usize, state: usize, weight: u128)
     requires row { row < length masses.old }
     requires fits { slice_index masses.old row + weight ≤ greatest_number }
-    ensures { masses.new ≡ slice_set masses.old row (if state == 0 then slice_index masses.old row + weight else slice_index masses.old row) }
+    ensures { masses.new ≡ slice_set masses.old row (if state == 0
+        then slice_index masses.old row + weight
+        else slice_index masses.old row) }
 {
     if state == 0 {
         masses[row] += weight;

@@ -61,8 +61,11 @@ impl World {
     pub fn next(&mut self, diagram: &Diagram) -> bool
         requires { IsWorld (counts_of diagram.now.nodes) self.old }
         ensures world { IsWorld (counts_of diagram.now.nodes) self.new }
-        ensures more { IsTrue result → worlds_from (counts_of diagram.now.nodes) self.old ≡ self.old ∷ worlds_from (counts_of diagram.now.nodes) self.new }
-        ensures last { IsFalse result → worlds_from (counts_of diagram.now.nodes) self.old ≡ self.old ∷ [] }
+        ensures more { IsTrue result
+            → worlds_from (counts_of diagram.now.nodes) self.old
+            ≡ self.old ∷ worlds_from (counts_of diagram.now.nodes) self.new }
+        ensures last { IsFalse result
+            → worlds_from (counts_of diagram.now.nodes) self.old ≡ self.old ∷ [] }
         ensures again { IsFalse result → self.new ≡ first_world (length diagram.now.nodes) }
     {
         let mut v = self.states.len();

@@ -36,7 +36,9 @@ pub fn first_named<'a>(
     word: &[u8],
 ) -> Option<&'a Attribute>
     requires { All (IsAttributeOf text.now) attributes.now }
-    ensures first { MatchOption result (named text.now word.now attributes.now ≡ []) (λ a. (rest : List AttributeTree) × (named text.now word.now attributes.now ≡ a.now ∷ rest)) }
+    ensures first { MatchOption result (named text.now word.now attributes.now ≡ [])
+        (λ a.
+        (rest : List AttributeTree) × (named text.now word.now attributes.now ≡ a.now ∷ rest)) }
     ensures own { IfSome result (λ a. IsAttributeOf text.now a.now) }
 {
     for attribute in attributes {
@@ -86,7 +88,9 @@ fn topic_of<'a>(text: &'a [u8], attribute: &Attribute) -> &'a [u8]
 // The attribute counts and is about that topic.
 fn counts_for(text: &[u8], kind: BlockKind, attribute: &Attribute, topic: &[u8]) -> bool
     requires { IsAttributeOf text.now attribute.now }
-    ensures { result ≡ (is_counted kind (word_of text.now attribute.now) && bytes_eq (topic_of text.now attribute.now) topic.now) }
+    ensures { result
+        ≡ (is_counted kind (word_of text.now attribute.now)
+        && bytes_eq (topic_of text.now attribute.now) topic.now) }
 {
     counts(kind, word_of(text, attribute)) && topic_of(text, attribute) == topic
 }
@@ -94,7 +98,10 @@ fn counts_for(text: &[u8], kind: BlockKind, attribute: &Attribute, topic: &[u8])
 // One of the attributes counts and is about that topic.
 fn has_counted(text: &[u8], kind: BlockKind, attributes: &[Attribute], topic: &[u8]) -> bool
     requires { All (IsAttributeOf text.now) attributes.now }
-    ensures { result ≡ list_any (λ a. is_counted kind (word_of text.now a) && bytes_eq (topic_of text.now a) topic.now) attributes.now }
+    ensures { result
+        ≡ list_any
+        (λ a. is_counted kind (word_of text.now a) && bytes_eq (topic_of text.now a) topic.now)
+        attributes.now }
 {
     attributes
         .iter()
@@ -105,7 +112,13 @@ fn has_counted(text: &[u8], kind: BlockKind, attributes: &[Attribute], topic: &[
 fn is_repeated(text: &[u8], kind: BlockKind, before: &[Attribute], attribute: &Attribute) -> bool
     requires before { All (IsAttributeOf text.now) before.now }
     requires own { IsAttributeOf text.now attribute.now }
-    ensures { result ≡ (is_counted kind (word_of text.now attribute.now) && list_any (λ a. is_counted kind (word_of text.now a) && bytes_eq (topic_of text.now a) (topic_of text.now attribute.now)) before.now) }
+    ensures { result
+        ≡ (is_counted kind (word_of text.now attribute.now)
+        && list_any
+        (λ a.
+        is_counted kind (word_of text.now a)
+        && bytes_eq (topic_of text.now a) (topic_of text.now attribute.now))
+        before.now) }
 {
     // Of two topics at most does one attribute count, so that few are compared with those before them.
     counts(kind, word_of(text, attribute))
@@ -115,7 +128,9 @@ fn is_repeated(text: &[u8], kind: BlockKind, before: &[Attribute], attribute: &A
 // No attribute that counts stands a second time.
 fn check_counted(text: &[u8], kind: BlockKind, attributes: &[Attribute]) -> Result<(), BuildFault>
     requires { All (IsAttributeOf text.now) attributes.now }
-    ensures { Passes build_fault (each_after (repeated_row text.now) [] (filter (λ a. is_counted kind (word_of text.now a)) attributes.now)) result }
+    ensures { Passes build_fault
+        (each_after (repeated_row text.now) [] (filter (λ a. is_counted kind (word_of text.now a))
+        attributes.now)) result }
 {
     for (place, attribute) in attributes.iter().enumerate() {
         if is_repeated(text, kind, &attributes[..place], attribute) {

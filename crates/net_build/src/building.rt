@@ -57,7 +57,9 @@ fn make_nodes(
     requires more { length more.now ≡ length heads.now }
     requires parents { length parents.now ≡ length heads.now }
     requires tables { length tables.old ≡ length heads.now }
-    ensures { IfOk result (λ nodes. nodes.items ≡ made_nodes heads.now (numbers_of_lists more.now) (numbers_of_lists parents.now) (cells_of_lists tables.old)) }
+    ensures { IfOk result (λ nodes.
+        nodes.items ≡ made_nodes heads.now (numbers_of_lists more.now)
+        (numbers_of_lists parents.now) (cells_of_lists tables.old)) }
 {
     let mut nodes = Vec::with_capacity(alloc, heads.len())?;
     for (v, head) in heads.iter().enumerate() {
@@ -79,7 +81,8 @@ fn assemble(
     requires tables { length tables.cells ≡ length nodes.heads }
     requires diagram { IsDiagram (made_diagram nodes links.now tables) }
     ensures diagram { IfOk result (λ built. built.0 ≡ made_diagram nodes links.now tables) }
-    ensures names { IfOk result (λ built. built.1 ≡ record { nodes = nodes.names; labels = nodes.labels; agents = nodes.agents }) }
+    ensures names { IfOk result (λ built.
+        built.1 ≡ record { nodes = nodes.names; labels = nodes.labels; agents = nodes.agents }) }
 {
     let mut cells = tables.cells;
     let list = make_nodes(alloc, &nodes.heads, &nodes.more, &links.parents, &mut cells)?;

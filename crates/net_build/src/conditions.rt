@@ -70,7 +70,8 @@ fn read_condition(
     requires earlier { All (IsTokenOf text.now) earlier.now }
     requires name { IsTokenOf text.now name.now }
     requires heads { length heads.now ≡ length names.now }
-    ensures rows { Passes build_fault (condition_steps text.now names.now heads.now earlier.now name.now) result }
+    ensures rows { Passes build_fault
+        (condition_steps text.now names.now heads.now earlier.now name.now) result }
     ensures node { IfOk result (λ node. node ≡ node_named text.now names.now name.now) }
 {
     let node = read_name(text, names, name)?;
@@ -89,8 +90,10 @@ pub fn read_conditions(
 ) -> Result<Vec<usize>, BuildFault>
     requires conditions { All (IsTokenOf text.now) conditions.now }
     requires heads { length heads.now ≡ length names.now }
-    ensures rows { Passes build_fault (conditions_steps text.now names.now heads.now conditions.now) result }
-    ensures nodes { IfOk result (λ list. list.items ≡ map (node_named text.now names.now) conditions.now) }
+    ensures rows { Passes build_fault (conditions_steps text.now names.now heads.now conditions.now)
+        result }
+    ensures nodes { IfOk result (λ list.
+        list.items ≡ map (node_named text.now names.now) conditions.now) }
 {
     // A name that stands twice is refused there, so that each is compared with no more than there are nodes.
     let mut list = Vec::new(alloc);

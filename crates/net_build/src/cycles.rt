@@ -16,7 +16,8 @@ use std::alloc::Global;
 fn cycle_fault(heads: &[Head], cycle: Vec<usize>) -> BuildFault
     requires some { 0 < length cycle.items }
     requires within { slice_index cycle.items 0 < length heads.now }
-    ensures { result ≡ BuildFault.Fault (head_at heads.now (slice_index cycle.items 0)).at (BuildKind.GraphCycle cycle) }
+    ensures { result ≡ BuildFault.Fault (head_at heads.now (slice_index cycle.items 0)).at
+        (BuildKind.GraphCycle cycle) }
 {
     let at = heads[cycle[0]].at;
     BuildKind::GraphCycle { list: cycle }.at(at)

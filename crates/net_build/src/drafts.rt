@@ -42,8 +42,10 @@ fn read_data(
     requires kind { head.now.kind ≢ Decision }
     requires states { 0 < head.now.states }
     requires small { rows * head.now.states ≤ MOST_CELLS }
-    ensures rows { Passes build_fault (data_part text.now head.now.kind rows head.now.states table.now) result }
-    ensures draft { IfOk result (IsDraftOf head.now.kind rows head.now.states (map (token_bytes text.now) (leaves table.now.value))) }
+    ensures rows { Passes build_fault
+        (data_part text.now head.now.kind rows head.now.states table.now) result }
+    ensures draft { IfOk result (IsDraftOf head.now.kind rows head.now.states
+        (map (token_bytes text.now) (leaves table.now.value))) }
 {
     let numbers = read_numbers(alloc, text, table, rows * head.states)?;
     match head.kind {
@@ -68,8 +70,10 @@ fn read_table(
     requires kind { head.now.kind ≢ Decision }
     requires states { 0 < head.now.states }
     requires small { rows * head.now.states ≤ MOST_CELLS }
-    ensures rows { Passes build_fault (table_part text.now head.now.kind rows head.now.states potential.now) result }
-    ensures draft { IfOk result (IsDraftOf head.now.kind rows head.now.states (map (token_bytes text.now) (leaves_of (data_of text.now potential.now)))) }
+    ensures rows { Passes build_fault
+        (table_part text.now head.now.kind rows head.now.states potential.now) result }
+    ensures draft { IfOk result (IsDraftOf head.now.kind rows head.now.states (map
+        (token_bytes text.now) (leaves_of (data_of text.now potential.now)))) }
 {
     check_repeats(text, potential)?;
     match first_named(text, &potential.attributes, b"data") {
@@ -86,12 +90,16 @@ pub fn read_draft(
     rows: usize,
     potential: Option<&Block>,
 ) -> Result<Draft, BuildFault>
-    requires own { IfSome potential (λ p. IsBlockOf text.now p.now × (is_potential p.now.kind ≡ true)) }
+    requires own { IfSome potential (λ p.
+        IsBlockOf text.now p.now × (is_potential p.now.kind ≡ true)) }
     requires there { head.now.kind ≢ Decision → IsSome potential }
     requires states { 0 < head.now.states }
     requires small { rows * head.now.states ≤ MOST_CELLS }
-    ensures rows { Passes build_fault (node_part text.now head.now.kind rows head.now.states (option_map (λ p. p.now) potential.entry)) result }
-    ensures draft { IfOk result (IsDraftOf head.now.kind rows head.now.states (numerals_in text.now (option_map (λ p. p.now) potential.entry))) }
+    ensures rows { Passes build_fault
+        (node_part text.now head.now.kind rows head.now.states
+        (option_map (λ p. p.now) potential.entry)) result }
+    ensures draft { IfOk result (IsDraftOf head.now.kind rows head.now.states (numerals_in text.now
+        (option_map (λ p. p.now) potential.entry))) }
 {
     match (head.kind, potential) {
         (Kind::Decision, _) => Ok(Draft::Cells(Vec::new(alloc))),

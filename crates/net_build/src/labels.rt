@@ -66,9 +66,12 @@ fn are_strings(values: &[Value]) -> bool
 
 /// The values in a list of one or more strings.
 pub fn strings(value: &Value) -> Option<&[Value]>
-    ensures list { MatchOption result (is_string_list (value_tree value.now) ≡ false) (λ values. is_string_list (value_tree value.now) ≡ true) }
-    ensures strings { IfSome result (λ values. list_all (λ v. is_string (value_tree v)) values.now ≡ true) }
-    ensures leaves { IfSome result (λ values. leaves (value_tree value.now) ≡ leaves_in values.now) }
+    ensures list { MatchOption result (is_string_list (value_tree value.now) ≡ false)
+        (λ values. is_string_list (value_tree value.now) ≡ true) }
+    ensures strings { IfSome result (λ values.
+        list_all (λ v. is_string (value_tree v)) values.now ≡ true) }
+    ensures leaves { IfSome result (λ values.
+        leaves (value_tree value.now) ≡ leaves_in values.now) }
 {
     match value {
         Value::Leaf(_) => None,
@@ -86,8 +89,10 @@ pub fn strings(value: &Value) -> Option<&[Value]>
 fn label(alloc: Global, text: &[u8], value: &Value) -> Result<Vec<u8>, BuildFault>
     requires string { is_string (value_tree value.now) ≡ true }
     requires own { All (IsLeafOf text.now) (leaves (value_tree value.now)) }
-    ensures rows { Passes build_fault (each (label_row text.now) (leaves (value_tree value.now))) result }
-    ensures label { IfOk result (λ label. map (text_value text.now) (leaves (value_tree value.now)) ≡ label.items ∷ []) }
+    ensures rows { Passes build_fault (each (label_row text.now) (leaves (value_tree value.now)))
+        result }
+    ensures label { IfOk result (λ label.
+        map (text_value text.now) (leaves (value_tree value.now)) ≡ label.items ∷ []) }
 {
     let Value::Leaf(token) = value else {
         unreachable!()
@@ -104,7 +109,8 @@ pub fn labels(alloc: Global, text: &[u8], values: &[Value]) -> Result<Vec<Vec<u8
     requires strings { list_all (λ v. is_string (value_tree v)) values.now ≡ true }
     requires own { All (IsLeafOf text.now) (leaves_in values.now) }
     ensures rows { Passes build_fault (each (label_row text.now) (leaves_in values.now)) result }
-    ensures labels { IfOk result (λ labels. list_of labels.items ≡ map (text_value text.now) (leaves_in values.now)) }
+    ensures labels { IfOk result (λ labels.
+        list_of labels.items ≡ map (text_value text.now) (leaves_in values.now)) }
 {
     let mut labels = Vec::new(alloc);
     for value in values {
@@ -117,7 +123,8 @@ pub fn labels(alloc: Global, text: &[u8], values: &[Value]) -> Result<Vec<Vec<u8
 fn state_labels(alloc: Global, text: &[u8], states: &Attribute) -> Result<Vec<Vec<u8>>, BuildFault>
     requires { IsAttributeOf text.now states.now }
     ensures rows { Passes build_fault (label_rows text.now states.now) result }
-    ensures labels { IfOk result (λ labels. list_of labels.items ≡ map (text_value text.now) (leaves states.now.value)) }
+    ensures labels { IfOk result (λ labels.
+        list_of labels.items ≡ map (text_value text.now) (leaves states.now.value)) }
 {
     let at = states.name.start;
     let Some(values) = strings(&states.value) else {
@@ -137,8 +144,11 @@ fn state_labels(alloc: Global, text: &[u8], states: &Attribute) -> Result<Vec<Ve
 pub fn read_labels(alloc: Global, text: &[u8], block: &Block) -> Result<Vec<Vec<u8>>, BuildFault>
     requires own { IsBlockOf text.now block.now }
     requires kind { has_states block.now.kind ≡ true }
-    ensures rows { Passes build_fault (states_rows text.now block.now (named text.now (codes "states") block.now.attributes)) result }
-    ensures labels { IfOk result (λ labels. list_of labels.items ≡ block_labels text.now block.now) }
+    ensures rows { Passes build_fault
+        (states_rows text.now block.now (named text.now (codes "states") block.now.attributes))
+        result }
+    ensures labels { IfOk result (λ labels.
+        list_of labels.items ≡ block_labels text.now block.now) }
 {
     match first_named(text, &block.attributes, b"states") {
         Some(states) => state_labels(alloc, text, states),

@@ -38,7 +38,11 @@ impl<'a> Model for Links<'a> {
 
     ghost coded = { link_code };
 
-    ghost view = { λ l. record { parents = numbers_of_lists l.parents.items; potentials = map (option_map (λ p. p.now)) l.potentials.items } };
+    ghost view = { λ l.
+        record {
+          parents = numbers_of_lists l.parents.items;
+          potentials = map (option_map (λ p. p.now)) l.potentials.items;
+        } };
 }
 
 // The nodes of these heads with these parents and potentials: no table is missing, there is no cycle, and tables and
@@ -52,7 +56,10 @@ fn check_links(
     requires parents { length parents.now ≡ length heads.now }
     requires potentials { length potentials.now ≡ length heads.now }
     requires fit { All (AreParents heads.now) (numbers_of_lists parents.now) }
-    ensures rows { Passes build_fault (missing_steps heads.now (borrowed_trees potentials.now) ▸ graph_steps heads.now (numbers_of_lists parents.now) ▸ size_steps heads.now (numbers_of_lists parents.now)) result }
+    ensures rows { Passes build_fault
+        (missing_steps heads.now (borrowed_trees potentials.now) ▸ graph_steps heads.now
+        (numbers_of_lists parents.now) ▸ size_steps heads.now (numbers_of_lists parents.now))
+        result }
     ensures fit { OnOk result (AreLinks heads.now (numbers_of_lists parents.now)) }
 {
     check_tables(heads, potentials)?;
@@ -73,7 +80,9 @@ pub fn read_links<'a>(
     requires blocks { All (IsBlockOf text.now) syntax.now }
     requires nodes { nodes.now ≡ node_lists text.now (node_blocks syntax.now) }
     requires rows { node_pass text.now syntax.now None }
-    ensures rows { Passes build_fault (potential_pass text.now syntax.now ▸ missing_pass text.now syntax.now ▸ graph_pass text.now syntax.now ▸ size_pass text.now syntax.now) result }
+    ensures rows { Passes build_fault
+        (potential_pass text.now syntax.now ▸ missing_pass text.now syntax.now ▸ graph_pass text.now
+        syntax.now ▸ size_pass text.now syntax.now) result }
     ensures links { IfOk result (λ links. links ≡ link_lists text.now syntax.now) }
     ensures fit { IfOk result (λ links. AreLinks nodes.now.heads links.parents) }
 {

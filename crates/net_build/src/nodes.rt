@@ -48,7 +48,14 @@ impl Model for Nodes {
 
     ghost Value = { NodeLists };
 
-    ghost view = { λ n. record { names = n.names; labels = lists_of n.labels.items; agents = list_of n.agents.items; heads = n.heads.items; more = numbers_of_lists n.more.items } };
+    ghost view = { λ n.
+        record {
+          names = n.names;
+          labels = lists_of n.labels.items;
+          agents = list_of n.agents.items;
+          heads = n.heads.items;
+          more = numbers_of_lists n.more.items;
+        } };
 }
 
 // What one node block says.
@@ -117,8 +124,11 @@ fn read_name<'a>(text: &'a [u8], block: &Block, names: &NodeNames) -> Result<&'a
 // The labels of a node; a utility has none.
 fn node_labels(alloc: Global, text: &[u8], block: &Block) -> Result<Vec<Vec<u8>>, BuildFault>
     requires { IsBlockOf text.now block.now }
-    ensures rows { Passes build_fault (only (has_states block.now.kind) (states_rows text.now block.now (named text.now (codes "states") block.now.attributes))) result }
-    ensures labels { IfOk result (λ labels. list_of labels.items ≡ block_labels text.now block.now) }
+    ensures rows { Passes build_fault
+        (only (has_states block.now.kind) (states_rows text.now block.now (named text.now
+        (codes "states") block.now.attributes))) result }
+    ensures labels { IfOk result (λ labels.
+        list_of labels.items ≡ block_labels text.now block.now) }
 {
     if has_states(block.kind) {
         read_labels(alloc, text, block)
@@ -149,14 +159,21 @@ fn read_entry(
 ) -> Result<Entry, BuildFault>
     requires own { IsBlockOf text.now block.now }
     requires named { 0 < length block.now.names }
-    ensures rows { Passes build_fault (node_rows text.now names.now (list_of agents.old.items) block.now) result }
-    ensures agents { OnOk result (list_of agents.new.items ≡ with_owners text.now (list_of agents.old.items) block.now) }
+    ensures rows { Passes build_fault
+        (node_rows text.now names.now (list_of agents.old.items) block.now) result }
+    ensures agents { OnOk result (list_of agents.new.items
+        ≡ with_owners text.now (list_of agents.old.items) block.now) }
     ensures name { IfOk result (λ entry. entry.name.items ≡ block_name text.now block.now) }
-    ensures labels { IfOk result (λ entry. list_of entry.labels.items ≡ block_labels text.now block.now) }
+    ensures labels { IfOk result (λ entry.
+        list_of entry.labels.items ≡ block_labels text.now block.now) }
     ensures at { IfOk result (λ entry. entry.head.at ≡ title_at block.now) }
     ensures kind { IfOk result (λ entry. entry.head.kind ≡ kind_of block.now.kind) }
     ensures states { IfOk result (λ entry. entry.head.states ≡ block_states text.now block.now) }
-    ensures owners { IfOk result (λ entry. entry.head.owner ∷ entry.more.items ≡ (if has_agent block.now.kind then map (place_among (list_of agents.new.items)) (owner_names text.now block.now) else 0 ∷ [])) }
+    ensures owners { IfOk result (λ entry.
+        entry.head.owner ∷ entry.more.items
+        ≡ (if has_agent block.now.kind
+        then map (place_among (list_of agents.new.items)) (owner_names text.now block.now)
+        else 0 ∷ [])) }
 {
     let name = read_name(text, block, names)?;
     check_repeats(text, block)?;

@@ -54,7 +54,9 @@ fn decimal(text: &[u8], token: &Token) -> Result<Decimal, BuildFault>
     requires own { IsTokenOf text.now token.now }
     requires number { is_number token.now.kind ≡ true }
     ensures row { Passes build_fault (length_row text.now token.now) result }
-    ensures decimal { IfOk result (λ d. IsLeastDecimalOf (numerator (token_bytes text.now token.now)) (denominator (token_bytes text.now token.now)) d) }
+    ensures decimal { IfOk result (λ d.
+        IsLeastDecimalOf (numerator (token_bytes text.now token.now))
+        (denominator (token_bytes text.now token.now)) d) }
 {
     match numeral(token.bytes(text)) {
         Some(decimal) => Ok(decimal),
@@ -67,7 +69,8 @@ pub fn decimals(alloc: Global, text: &[u8], tokens: &[Token]) -> Result<Vec<Deci
     requires own { All (IsTokenOf text.now) tokens.now }
     requires numbers { All (λ t. is_number t.kind ≡ true) tokens.now }
     ensures rows { Passes build_fault (each (length_row text.now) tokens.now) result }
-    ensures decimals { IfOk result (λ ds. AreDecimals (map (token_bytes text.now) tokens.now) ds.items) }
+    ensures decimals { IfOk result (λ ds.
+        AreDecimals (map (token_bytes text.now) tokens.now) ds.items) }
 {
     let mut decimals = Vec::with_capacity(alloc, tokens.len())?;
     for token in tokens {
@@ -86,7 +89,8 @@ pub fn read_numbers(
     requires { IsAttributeOf text.now table.now }
     ensures rows { Passes build_fault (number_rows text.now want table.now) result }
     ensures tokens { IfOk result (λ n. n.tokens.items ≡ leaves table.now.value) }
-    ensures decimals { IfOk result (λ n. AreDecimals (map (token_bytes text.now) (leaves table.now.value)) n.decimals.items) }
+    ensures decimals { IfOk result (λ n.
+        AreDecimals (map (token_bytes text.now) (leaves table.now.value)) n.decimals.items) }
 {
     let tokens = leaves(alloc, &table.value)?;
     check_numbers(&tokens)?;

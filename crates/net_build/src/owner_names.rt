@@ -29,7 +29,11 @@ fn first_telling<'a>(
     attributes: &'a [Attribute],
 ) -> Option<&'a Attribute>
     requires { All (IsAttributeOf text.now) attributes.now }
-    ensures first { MatchOption result (filter (λ a. names_owners kind (word_of text.now a)) attributes.now ≡ []) (λ a. (rest : List AttributeTree) × (filter (λ a. names_owners kind (word_of text.now a)) attributes.now ≡ a.now ∷ rest)) }
+    ensures first { MatchOption result
+        (filter (λ a. names_owners kind (word_of text.now a)) attributes.now ≡ [])
+        (λ a.
+        (rest : List AttributeTree) × (filter (λ a. names_owners kind (word_of text.now a))
+        attributes.now ≡ a.now ∷ rest)) }
     ensures own { IfSome result (λ a. IsAttributeOf text.now a.now) }
 {
     for attribute in attributes {
@@ -42,7 +46,8 @@ fn first_telling<'a>(
 
 // The token of a string.
 fn string_token(value: &Value) -> Option<&Token>
-    ensures tree { MatchOption result (is_string (value_tree value.now) ≡ false) (λ token. value_tree value.now ≡ leaf token.now) }
+    ensures tree { MatchOption result (is_string (value_tree value.now) ≡ false)
+        (λ token. value_tree value.now ≡ leaf token.now) }
     ensures string { IfSome result (λ token. token.now.kind ≡ Text) }
 {
     match value {
@@ -61,8 +66,11 @@ fn string_token(value: &Value) -> Option<&Token>
 fn one_name(alloc: Global, text: &[u8], agent: &Attribute) -> Result<Vec<Vec<u8>>, BuildFault>
     requires own { IsAttributeOf text.now agent.now }
     requires one { bytes_eq (word_of text.now agent.now) (codes "agents") ≡ false }
-    ensures rows { Passes build_fault (rule (tells_owners text.now agent.now ≡ false) (found agent.now.name.start BadAgent)) result }
-    ensures names { IfOk result (λ names. list_of names.items ≡ map (text_value text.now) (leaves agent.now.value)) }
+    ensures rows { Passes build_fault
+        (rule (tells_owners text.now agent.now ≡ false) (found agent.now.name.start BadAgent))
+        result }
+    ensures names { IfOk result (λ names.
+        list_of names.items ≡ map (text_value text.now) (leaves agent.now.value)) }
 {
     let at = agent.name.start;
     let Some(token) = string_token(&agent.value) else {
@@ -81,8 +89,11 @@ fn one_name(alloc: Global, text: &[u8], agent: &Attribute) -> Result<Vec<Vec<u8>
 fn listed_names(alloc: Global, text: &[u8], agents: &Attribute) -> Result<Vec<Vec<u8>>, BuildFault>
     requires own { IsAttributeOf text.now agents.now }
     requires list { bytes_eq (word_of text.now agents.now) (codes "agents") ≡ true }
-    ensures rows { Passes build_fault (rule (tells_owners text.now agents.now ≡ false) (found agents.now.name.start BadAgent)) result }
-    ensures names { IfOk result (λ names. list_of names.items ≡ map (text_value text.now) (leaves agents.now.value)) }
+    ensures rows { Passes build_fault
+        (rule (tells_owners text.now agents.now ≡ false) (found agents.now.name.start BadAgent))
+        result }
+    ensures names { IfOk result (λ names.
+        list_of names.items ≡ map (text_value text.now) (leaves agents.now.value)) }
 {
     let at = agents.name.start;
     let Some(values) = strings(&agents.value) else {
@@ -98,8 +109,11 @@ fn listed_names(alloc: Global, text: &[u8], agents: &Attribute) -> Result<Vec<Ve
 // The owners that the attribute tells, whatever stands twice.
 fn agent_names(alloc: Global, text: &[u8], agents: &Attribute) -> Result<Vec<Vec<u8>>, BuildFault>
     requires { IsAttributeOf text.now agents.now }
-    ensures rows { Passes build_fault (rule (tells_owners text.now agents.now ≡ false) (found agents.now.name.start BadAgent)) result }
-    ensures names { IfOk result (λ names. list_of names.items ≡ map (text_value text.now) (leaves agents.now.value)) }
+    ensures rows { Passes build_fault
+        (rule (tells_owners text.now agents.now ≡ false) (found agents.now.name.start BadAgent))
+        result }
+    ensures names { IfOk result (λ names.
+        list_of names.items ≡ map (text_value text.now) (leaves agents.now.value)) }
 {
     if is_named(text, agents, b"agents") {
         listed_names(alloc, text, agents)
@@ -134,7 +148,8 @@ fn check_distinct(
 fn told_names(alloc: Global, text: &[u8], agents: &Attribute) -> Result<Vec<Vec<u8>>, BuildFault>
     requires { IsAttributeOf text.now agents.now }
     ensures rows { Passes build_fault (agent_rows text.now (agents.now ∷ [])) result }
-    ensures names { IfOk result (λ names. list_of names.items ≡ texts_or_agent text.now (leaves agents.now.value)) }
+    ensures names { IfOk result (λ names.
+        list_of names.items ≡ texts_or_agent text.now (leaves agents.now.value)) }
 {
     let names = agent_names(alloc, text, agents)?;
     let tokens = leaves(alloc, &agents.value)?;
@@ -145,7 +160,8 @@ fn told_names(alloc: Global, text: &[u8], agents: &Attribute) -> Result<Vec<Vec<
 /// The names of the owners of a decision or a utility, in written order.
 pub fn read_names(alloc: Global, text: &[u8], block: &Block) -> Result<Vec<Vec<u8>>, BuildFault>
     requires { IsBlockOf text.now block.now }
-    ensures rows { Passes build_fault (agent_rows text.now (owner_attributes text.now block.now)) result }
+    ensures rows { Passes build_fault (agent_rows text.now (owner_attributes text.now block.now))
+        result }
     ensures names { IfOk result (λ names. list_of names.items ≡ owner_names text.now block.now) }
 {
     match first_telling(text, block.kind, &block.attributes) {

@@ -34,9 +34,13 @@ fn number_agent(
     agent: &[u8],
     at: usize,
 ) -> Result<usize, BuildFault>
-    ensures rows { Passes build_fault (rule (IsAgentTooMany (list_of agents.old.items) agent.now) (found at (LimitPassed Agents (MOST_AGENTS + 1)))) result }
-    ensures agents { OnOk result (list_of agents.new.items ≡ with_sight (list_of agents.old.items) agent.now) }
-    ensures place { IfOk result (λ place. place ≡ place_among (list_of agents.new.items) agent.now) }
+    ensures rows { Passes build_fault
+        (rule (IsAgentTooMany (list_of agents.old.items) agent.now)
+        (found at (LimitPassed Agents (MOST_AGENTS + 1)))) result }
+    ensures agents { OnOk result (list_of agents.new.items
+        ≡ with_sight (list_of agents.old.items) agent.now) }
+    ensures place { IfOk result (λ place.
+        place ≡ place_among (list_of agents.new.items) agent.now) }
 {
     if let Some(place) = place_of(agents, agent) {
         return Ok(place);
@@ -60,9 +64,12 @@ fn number_owners(
     names: &[Vec<u8>],
     at: usize,
 ) -> Result<Vec<usize>, BuildFault>
-    ensures rows { Passes build_fault (each_after (sight_row (list_of agents.old.items) at) [] (list_of names.now)) result }
-    ensures agents { OnOk result (list_of agents.new.items ≡ with_sights (list_of agents.old.items) (list_of names.now)) }
-    ensures numbers { IfOk result (λ numbers. numbers.items ≡ map (place_among (list_of agents.new.items)) (list_of names.now)) }
+    ensures rows { Passes build_fault
+        (each_after (sight_row (list_of agents.old.items) at) [] (list_of names.now)) result }
+    ensures agents { OnOk result (list_of agents.new.items
+        ≡ with_sights (list_of agents.old.items) (list_of names.now)) }
+    ensures numbers { IfOk result (λ numbers.
+        numbers.items ≡ map (place_among (list_of agents.new.items)) (list_of names.now)) }
 {
     let mut numbers = Vec::new(alloc);
     for name in names {
@@ -80,9 +87,13 @@ fn agent_owners(
 ) -> Result<Owners, BuildFault>
     requires own { IsBlockOf text.now block.now }
     requires named { 0 < length block.now.names }
-    ensures rows { Passes build_fault (owner_rows text.now (list_of agents.old.items) block.now) result }
-    ensures agents { OnOk result (list_of agents.new.items ≡ with_sights (list_of agents.old.items) (owner_names text.now block.now)) }
-    ensures owners { IfOk result (λ owners. owners.first ∷ owners.more.items ≡ map (place_among (list_of agents.new.items)) (owner_names text.now block.now)) }
+    ensures rows { Passes build_fault (owner_rows text.now (list_of agents.old.items) block.now)
+        result }
+    ensures agents { OnOk result (list_of agents.new.items
+        ≡ with_sights (list_of agents.old.items) (owner_names text.now block.now)) }
+    ensures owners { IfOk result (λ owners.
+        owners.first ∷ owners.more.items
+        ≡ map (place_among (list_of agents.new.items)) (owner_names text.now block.now)) }
 {
     let names = read_names(alloc, text, block)?;
     let numbers = number_owners(alloc, agents, &names, title(block).start)?;
@@ -108,9 +119,16 @@ pub fn read_owners(
 ) -> Result<Owners, BuildFault>
     requires own { IsBlockOf text.now block.now }
     requires named { 0 < length block.now.names }
-    ensures rows { Passes build_fault (only (has_agent block.now.kind) (owner_rows text.now (list_of agents.old.items) block.now)) result }
-    ensures agents { OnOk result (list_of agents.new.items ≡ with_owners text.now (list_of agents.old.items) block.now) }
-    ensures owners { IfOk result (λ owners. owners.first ∷ owners.more.items ≡ (if has_agent block.now.kind then map (place_among (list_of agents.new.items)) (owner_names text.now block.now) else 0 ∷ [])) }
+    ensures rows { Passes build_fault
+        (only (has_agent block.now.kind) (owner_rows text.now (list_of agents.old.items) block.now))
+        result }
+    ensures agents { OnOk result (list_of agents.new.items
+        ≡ with_owners text.now (list_of agents.old.items) block.now) }
+    ensures owners { IfOk result (λ owners.
+        owners.first ∷ owners.more.items
+        ≡ (if has_agent block.now.kind
+        then map (place_among (list_of agents.new.items)) (owner_names text.now block.now)
+        else 0 ∷ [])) }
 {
     if has_agent(block.kind) {
         agent_owners(alloc, text, block, agents)

@@ -9,7 +9,8 @@ use maid_model::first_place;
 
 /// The first place of the name in the list, if it stands there. It compares the name with each.
 pub fn place_of(names: &[Vec<u8>], name: &[u8]) -> Option<usize>
-    ensures { SomeIff result (Contains (list_of names.now) name.now) (place_among (list_of names.now) name.now) }
+    ensures { SomeIff result (Contains (list_of names.now) name.now)
+        (place_among (list_of names.now) name.now) }
 {
     first_place(names, name)
 }

@@ -60,10 +60,13 @@ fn read_potential(
     requires conditions { All (IsTokenOf text.now) conditions.now }
     requires heads { length heads.now ≡ length names.now }
     requires potentials { length potentials.now ≡ length names.now }
-    ensures rows { Passes build_fault (potential_steps text.now names.now heads.now (borrowed_trees potentials.now) head.now conditions.now) result }
+    ensures rows { Passes build_fault
+        (potential_steps text.now names.now heads.now (borrowed_trees potentials.now) head.now
+        conditions.now) result }
     ensures node { IfOk result (λ read. read.0 ≡ node_named text.now names.now head.now) }
     ensures within { IfOk result (λ read. read.0 < length names.now) }
-    ensures parents { IfOk result (λ read. read.1.items ≡ map (node_named text.now names.now) conditions.now) }
+    ensures parents { IfOk result (λ read.
+        read.1.items ≡ map (node_named text.now names.now) conditions.now) }
     ensures fit { IfOk result (λ read. AreParents heads.now read.1.items) }
 {
     let node = read_name(text, names, head)?;
@@ -100,10 +103,13 @@ fn read_block(
     requires potential { is_potential block.now.kind ≡ true }
     requires heads { length heads.now ≡ length names.now }
     requires potentials { length potentials.now ≡ length names.now }
-    ensures rows { Passes build_fault (potential_steps text.now names.now heads.now (borrowed_trees potentials.now) (title block.now) (conditions block.now)) result }
+    ensures rows { Passes build_fault
+        (potential_steps text.now names.now heads.now (borrowed_trees potentials.now)
+        (title block.now) (conditions block.now)) result }
     ensures node { IfOk result (λ read. read.0 ≡ node_named text.now names.now (title block.now)) }
     ensures within { IfOk result (λ read. read.0 < length names.now) }
-    ensures parents { IfOk result (λ read. read.1.items ≡ map (node_named text.now names.now) (conditions block.now)) }
+    ensures parents { IfOk result (λ read.
+        read.1.items ≡ map (node_named text.now names.now) (conditions block.now)) }
     ensures fit { IfOk result (λ read. AreParents heads.now read.1.items) }
 {
     let tokens = block.names.as_slice();
@@ -144,8 +150,10 @@ fn enter<'a>(
 )
     requires parents { node < length parents.old.items }
     requires potentials { node < length potentials.old.items }
-    ensures parents { numbers_of_lists parents.new.items ≡ slice_set (numbers_of_lists parents.old.items) node list.items }
-    ensures potentials { borrowed_trees potentials.new.items ≡ slice_set (borrowed_trees potentials.old.items) node (Some block.now) }
+    ensures parents { numbers_of_lists parents.new.items
+        ≡ slice_set (numbers_of_lists parents.old.items) node list.items }
+    ensures potentials { borrowed_trees potentials.new.items
+        ≡ slice_set (borrowed_trees potentials.old.items) node (Some block.now) }
 {
     parents[node] = list;
     potentials[node] = Some(block);
@@ -162,9 +170,12 @@ pub fn read_potentials<'a>(
     requires blocks { All (IsBlockOf text.now) syntax.now }
     requires heads { length heads.now ≡ length names.now }
     requires names { AllPairs (λ name later. name ≢ later) names.now }
-    ensures rows { Passes build_fault (potentials_steps text.now names.now heads.now syntax.now) result }
-    ensures potentials { IfOk result (λ links. links.potentials ≡ potentials_among text.now names.now (potentials syntax.now)) }
-    ensures parents { IfOk result (λ links. links.parents ≡ parents_in text.now names.now links.potentials) }
+    ensures rows { Passes build_fault (potentials_steps text.now names.now heads.now syntax.now)
+        result }
+    ensures potentials { IfOk result (λ links.
+        links.potentials ≡ potentials_among text.now names.now (potentials syntax.now)) }
+    ensures parents { IfOk result (λ links.
+        links.parents ≡ parents_in text.now names.now links.potentials) }
     ensures fit { IfOk result (λ links. All (AreParents heads.now) links.parents) }
 {
     let mut parents = no_parents(alloc, names.len())?;
@@ -189,7 +200,8 @@ fn check_present(
 ) -> Result<(), BuildFault>
     requires within { node < length heads.now }
     requires len { length potentials.now ≡ length heads.now }
-    ensures { Passes build_fault (absent_row (head_at heads.now node) (borrowed_trees potentials.now) node) result }
+    ensures { Passes build_fault
+        (absent_row (head_at heads.now node) (borrowed_trees potentials.now) node) result }
 {
     match potentials[node] {
         Some(_) => Ok(()),
@@ -201,7 +213,8 @@ fn check_present(
 fn check_table(heads: &[Head], potentials: &[Option<&Block>], node: usize) -> Result<(), BuildFault>
     requires within { node < length heads.now }
     requires len { length potentials.now ≡ length heads.now }
-    ensures { Passes build_fault (missing_at heads.now (borrowed_trees potentials.now) node) result }
+    ensures { Passes build_fault (missing_at heads.now (borrowed_trees potentials.now) node)
+        result }
 {
     match heads[node].kind {
         Kind::Chance | Kind::Utility => check_present(heads, potentials, node),

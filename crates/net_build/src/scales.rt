@@ -24,7 +24,8 @@ use whole_num::mul_within;
 /// The most decimals that one of the numbers has.
 pub fn most_decimals(decimals: &[Decimal]) -> u32
     ensures most { All (λ d. d.k ≤ result) decimals.now }
-    ensures reached { 0 < result → (i : ℕ) × (i < length decimals.now) × ((decimal_at decimals.now i).k ≡ result) }
+    ensures reached { 0 < result
+        → (i : ℕ) × (i < length decimals.now) × ((decimal_at decimals.now i).k ≡ result) }
     ensures few { result ≤ 30 }
 {
     let mut most = 0;
@@ -73,7 +74,8 @@ fn check_wide(tokens: &[Token], decimals: &[Decimal], scale: u32) -> Result<(), 
     requires len { length decimals.now ≡ length tokens.now }
     requires enough { All (λ d. d.k ≤ scale) decimals.now }
     requires few { scale ≤ 30 }
-    ensures { (text : List ℕ) → AreDecimals (map (token_bytes text) tokens.now) decimals.now → Passes build_fault (each (wide_row text scale) tokens.now) result }
+    ensures { (text : List ℕ) → AreDecimals (map (token_bytes text) tokens.now) decimals.now
+        → Passes build_fault (each (wide_row text scale) tokens.now) result }
 {
     for (place, token) in tokens.iter().enumerate() {
         if scaled(decimals[place], scale).is_none() {

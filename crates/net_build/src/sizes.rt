@@ -77,7 +77,11 @@ fn check_size(
     requires parents { All (λ u. u < length heads.now) parents.now }
     requires rules { rules ≤ MOST_RULE_CELLS }
     ensures rows { Passes build_fault (size_rows_over heads.now parents.now node rules) result }
-    ensures sum { IfOk result (λ sum. sum ≡ rules + cond (is_decision (head_at heads.now node).kind) (cells_over heads.now parents.now node) 0) }
+    ensures sum { IfOk result (λ sum.
+        sum
+        ≡ rules
+        + cond (is_decision (head_at heads.now node).kind)
+        (cells_over heads.now parents.now node) 0) }
     ensures few { IfOk result (λ sum. sum ≤ MOST_RULE_CELLS) }
     ensures cells { OnOk result (cells_over heads.now parents.now node ≤ MOST_CELLS) }
 {
@@ -96,8 +100,10 @@ pub fn check_sizes(heads: &[Head], parents: &[Vec<usize>]) -> Result<(), BuildFa
     requires len { length parents.now ≡ length heads.now }
     requires parents { All (All (λ u. u < length heads.now)) (numbers_of_lists parents.now) }
     ensures rows { Passes build_fault (size_steps heads.now (numbers_of_lists parents.now)) result }
-    ensures cells { OnOk result ((v : ℕ) → v < length heads.now → cells_at heads.now (numbers_of_lists parents.now) v ≤ MOST_CELLS) }
-    ensures rules { OnOk result (rules_before heads.now (numbers_of_lists parents.now) (length heads.now) ≤ MOST_RULE_CELLS) }
+    ensures cells { OnOk result ((v : ℕ) → v < length heads.now
+        → cells_at heads.now (numbers_of_lists parents.now) v ≤ MOST_CELLS) }
+    ensures rules { OnOk result (rules_before heads.now (numbers_of_lists parents.now)
+        (length heads.now) ≤ MOST_RULE_CELLS) }
 {
     let mut rules = 0;
     for node in 0..heads.len() {

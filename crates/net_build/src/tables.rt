@@ -37,7 +37,8 @@ impl Model for Tables {
 
     ghost Value = { TableLists };
 
-    ghost view = { λ t. record { cells = map (λ row. row.items) t.cells.items; decimals = t.decimals } };
+    ghost view = { λ t.
+        record { cells = map (λ row. row.items) t.cells.items; decimals = t.decimals } };
 }
 
 // How many rows a table over these parents has.
@@ -64,7 +65,8 @@ fn read_node(
 ) -> Result<Draft, BuildFault>
     requires read { CanRead text.now nodes.now.heads links.now }
     requires within { node < length nodes.now.heads }
-    ensures rows { Passes build_fault (node_rows_at text.now nodes.now.heads links.now node) result }
+    ensures rows { Passes build_fault (node_rows_at text.now nodes.now.heads links.now node)
+        result }
     ensures draft { IfOk result (IsDraftAt text.now nodes.now.heads links.now node) }
 {
     let rows = row_count(&nodes.heads, &links.parents[node]);
@@ -86,7 +88,8 @@ fn read_drafts(
 ) -> Result<Vec<Draft>, BuildFault>
     requires { CanRead text.now nodes.now.heads links.now }
     ensures rows { Passes build_fault (drafts_pass text.now nodes.now.heads links.now) result }
-    ensures drafts { IfOk result (λ drafts. AreDrafts text.now nodes.now.heads links.now drafts.items) }
+    ensures drafts { IfOk result (λ drafts.
+        AreDrafts text.now nodes.now.heads links.now drafts.items) }
 {
     let mut drafts = Vec::with_capacity(alloc, nodes.heads.len())?;
     for node in 0..nodes.heads.len() {
@@ -98,7 +101,8 @@ fn read_drafts(
 // The most decimals that one of the values has.
 fn most_of(drafts: &[Draft]) -> u32
     ensures most { All (HasAtMost result) drafts.now }
-    ensures reached { 0 < result → (draft : Draft) × Contains drafts.now draft × Reaches result draft }
+    ensures reached { 0 < result
+        → (draft : Draft) × Contains drafts.now draft × Reaches result draft }
     ensures few { result ≤ 30 }
 {
     let mut most = 0;
@@ -138,11 +142,16 @@ fn utility_scale(
     requires nodes { nodes.now ≡ node_lists text.now (node_blocks syntax.now) }
     requires node_rows { node_pass text.now syntax.now None }
     requires potential_rows { potential_pass text.now syntax.now None }
-    requires table_rows { drafts_pass text.now nodes.now.heads (link_lists text.now syntax.now) None }
-    requires drafts { AreDrafts text.now nodes.now.heads (link_lists text.now syntax.now) drafts.now }
-    ensures rows { Passes build_fault (scaled_pass text.now (values_in text.now nodes.now syntax.now)) result }
-    ensures scale { IfOk result (λ scale. IsScaleOf text.now (values_in text.now nodes.now syntax.now) scale) }
-    ensures narrow { IfOk result (λ scale. each (wide_row text.now scale) (values_in text.now nodes.now syntax.now) None) }
+    requires table_rows { drafts_pass text.now nodes.now.heads (link_lists text.now syntax.now)
+        None }
+    requires drafts { AreDrafts text.now nodes.now.heads (link_lists text.now syntax.now)
+        drafts.now }
+    ensures rows { Passes build_fault
+        (scaled_pass text.now (values_in text.now nodes.now syntax.now)) result }
+    ensures scale { IfOk result (λ scale.
+        IsScaleOf text.now (values_in text.now nodes.now syntax.now) scale) }
+    ensures narrow { IfOk result (λ scale.
+        each (wide_row text.now scale) (values_in text.now nodes.now syntax.now) None) }
     ensures few { IfOk result (λ scale. scale ≤ 30) }
 {
     let most = most_of(drafts);
@@ -157,7 +166,8 @@ fn utility_scale(
 fn finish(alloc: Global, drafts: Vec<Draft>, scale: u32) -> Result<Vec<Vec<i128>>, AllocError>
     requires few { scale ≤ 30 }
     requires fits { All (FitsDraft scale) drafts.items }
-    ensures { IfOk result (λ cells. cells_of_lists cells.items ≡ map (finished scale) drafts.items) }
+    ensures { IfOk result (λ cells.
+        cells_of_lists cells.items ≡ map (finished scale) drafts.items) }
 {
     let mut cells = Vec::with_capacity(alloc, drafts.len())?;
     for draft in drafts {
@@ -184,9 +194,11 @@ pub fn read_tables(
     requires node_rows { node_pass text.now syntax.now None }
     requires potential_rows { potential_pass text.now syntax.now None }
     requires missing_rows { missing_pass text.now syntax.now None }
-    ensures rows { Passes build_fault (table_pass text.now syntax.now ▸ wide_pass text.now syntax.now) result }
+    ensures rows { Passes build_fault
+        (table_pass text.now syntax.now ▸ wide_pass text.now syntax.now) result }
     ensures scale { IfOk result (λ tables. IsUtilityScale text.now syntax.now tables.decimals) }
-    ensures cells { IfOk result (λ tables. AreTables text.now syntax.now tables.decimals tables.cells) }
+    ensures cells { IfOk result (λ tables.
+        AreTables text.now syntax.now tables.decimals tables.cells) }
     ensures few { IfOk result (λ tables. tables.decimals ≤ 30) }
     ensures fit { IfOk result (λ tables. TablesFit nodes.now.heads links.now.parents tables.cells) }
 {

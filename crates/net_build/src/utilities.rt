@@ -41,7 +41,8 @@ fn has_values(text: &[u8], nodes: &Nodes, block: &Block) -> bool
 // The leaves of the potential's `data`, behind those that are there.
 fn push_data(tokens: &mut Vec<Token>, text: &[u8], potential: &Block) -> Result<(), AllocError>
     requires { IsBlockOf text.now potential.now }
-    ensures { OnOk result (tokens.new.items ≡ tokens.old.items ++ leaves_of (data_of text.now potential.now)) }
+    ensures { OnOk result (tokens.new.items
+        ≡ tokens.old.items ++ leaves_of (data_of text.now potential.now)) }
 {
     if let Some(table) = first_named(text, &potential.attributes, b"data") {
         push_leaves(tokens, &table.value)?;

@@ -27,8 +27,11 @@ pub fn weights(
     requires states { 0 < states }
     requires whole { states ∣ length numbers.now.decimals.items }
     requires len { length numbers.now.decimals.items ≡ length numbers.now.tokens.items }
-    ensures rows { (text : List ℕ) (rows : ℕ) → length numbers.now.tokens.items ≡ rows * states → AreDecimals (map (token_bytes text) numbers.now.tokens.items) numbers.now.decimals.items → Passes build_fault (weight_part text states rows at numbers.now.tokens.items) result }
-    ensures weighed { IfOk result (λ cells. IsWeighed numbers.now.decimals.items states cells.items) }
+    ensures rows { (text : List ℕ) (rows : ℕ) → length numbers.now.tokens.items ≡ rows * states
+        → AreDecimals (map (token_bytes text) numbers.now.tokens.items) numbers.now.decimals.items
+        → Passes build_fault (weight_part text states rows at numbers.now.tokens.items) result }
+    ensures weighed { IfOk result (λ cells.
+        IsWeighed numbers.now.decimals.items states cells.items) }
 {
     match scale_rows(alloc, &numbers.decimals, states) {
         Ok(scaled) => Ok(scaled.weights),

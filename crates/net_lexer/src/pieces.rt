@@ -92,7 +92,11 @@ fn comment_len(bytes: &[u8]) -> usize
 fn name_len(bytes: &[u8]) -> usize
     requires some { 0 < length bytes.now }
     requires begins { IsTrue (is_word_start (slice_index bytes.now 0)) }
-    ensures { IsPieceOf bytes.now (record { kind = PieceKind.Token TokenKind.Word; start = 0; end = result }) }
+    ensures { IsPieceOf bytes.now (record {
+      kind = PieceKind.Token TokenKind.Word;
+      start = 0;
+      end = result;
+    }) }
 {
     word_len(bytes)
 }
@@ -100,7 +104,12 @@ fn name_len(bytes: &[u8]) -> usize
 fn string_len(bytes: &[u8]) -> Option<usize>
     requires some { 0 < length bytes.now }
     requires begins { IsTrue (is_quote (slice_index bytes.now 0)) }
-    ensures some { IfSome result (λ len. IsPieceOf bytes.now (record { kind = PieceKind.Token TokenKind.Text; start = 0; end = len })) }
+    ensures some { IfSome result (λ len.
+        IsPieceOf bytes.now (record {
+          kind = PieceKind.Token TokenKind.Text;
+          start = 0;
+          end = len;
+        })) }
     ensures none { IfNone result (IsTrue (is_open_string bytes.now)) }
 {
     match behind_quote(behind(bytes, 1)) {
@@ -113,7 +122,8 @@ fn string_len(bytes: &[u8]) -> Option<usize>
 fn run(bytes: &[u8]) -> Option<(TokenKind, usize)>
     requires some { 0 < length bytes.now }
     requires begins { IsTrue (is_run_start (slice_index bytes.now 0)) }
-    ensures some { IfSome result (λ p. IsPieceOf bytes.now (record { kind = PieceKind.Token p.0; start = 0; end = p.1 })) }
+    ensures some { IfSome result (λ p.
+        IsPieceOf bytes.now (record { kind = PieceKind.Token p.0; start = 0; end = p.1 })) }
     ensures none { IfNone result (IsTrue (is_bad_numeral bytes.now)) }
 {
     let len = run_len(bytes);
@@ -129,7 +139,8 @@ fn run(bytes: &[u8]) -> Option<(TokenKind, usize)>
 
 fn punctuation(bytes: &[u8]) -> Option<TokenKind>
     requires { 0 < length bytes.now }
-    ensures some { IfSome result (λ kind. IsPieceOf bytes.now (record { kind = PieceKind.Token kind; start = 0; end = 1 })) }
+    ensures some { IfSome result (λ kind.
+        IsPieceOf bytes.now (record { kind = PieceKind.Token kind; start = 0; end = 1 })) }
     ensures none { IfNone result (is_punctuation (slice_index bytes.now 0) ≡ false) }
 {
     match bytes[0] {
@@ -147,7 +158,8 @@ fn punctuation(bytes: &[u8]) -> Option<TokenKind>
 // The kind and length of the piece at the front of the bytes, which stand at that place.
 fn front(bytes: &[u8], at: usize) -> Result<(PieceKind, usize), LexFault>
     requires { 0 < length bytes.now }
-    ensures ok { IfOk result (λ p. IsPieceOf bytes.now (record { kind = p.0; start = 0; end = p.1 })) }
+    ensures ok { IfOk result (λ p.
+        IsPieceOf bytes.now (record { kind = p.0; start = 0; end = p.1 })) }
     ensures err { IfErr result (λ fault. IsFaultAt at bytes.now fault) }
 {
     match bytes[0] {

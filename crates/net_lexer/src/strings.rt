@@ -26,7 +26,8 @@ pub fn behind_quote(bytes: &[u8]) -> Option<&[u8]>
 
 // The first byte that the bytes mean, and what stands behind it or its escape.
 fn first_meant(bytes: &[u8]) -> Option<(u8, &[u8])>
-    ensures meant { MatchOption result (bytes.now ≡ []) (λ p. unescaped bytes.now ≡ p.0 ∷ unescaped p.1.now) }
+    ensures meant { MatchOption result (bytes.now ≡ []) (λ p.
+        unescaped bytes.now ≡ p.0 ∷ unescaped p.1.now) }
     ensures shorter { MatchOption result (bytes.now ≡ []) (λ p. length p.1.now < length bytes.now) }
 {
     match bytes {

@@ -19,9 +19,11 @@ const NESTING: u8 = 32;
 impl Reader<'_> {
     /// Reads `NAME = VALUE ;`.
     fn attribute(&mut self, alloc: Global, potential: bool) -> Result<Attribute, Stop>
-        ensures rule { IfOk result (λ attribute. grammar.Attribute potential attribute self.old self.new) }
-        ensures follows { Follows (attribute_name potential ∷ mark Equals ∷ value 32 ∷ mark Semicolon ∷ [])
-            result self.old self.new }
+        ensures rule { IfOk result (λ attribute.
+            grammar.Attribute potential attribute self.old self.new) }
+        ensures follows { Follows
+            (attribute_name potential ∷ mark Equals ∷ value 32 ∷ mark Semicolon ∷ []) result
+            self.old self.new }
         ensures shorter { OnOk result (length self.new < length self.old) }
     {
         let name = self.attribute_name(potential)?;
@@ -34,7 +36,8 @@ impl Reader<'_> {
     /// Reads `{`, attributes and `}`.
     fn body(&mut self, alloc: Global, potential: bool) -> Result<Vec<Attribute>, Stop>
         ensures rule { IfOk result (λ all. grammar.Body potential all.items self.old self.new) }
-        ensures follows { Follows (mark BraceOpen ∷ attributes potential ∷ []) result self.old self.new }
+        ensures follows { Follows (mark BraceOpen ∷ attributes potential ∷ []) result self.old
+            self.new }
         ensures shorter { OnOk result (length self.new < length self.old) }
     {
         self.expect(TokenKind::BraceOpen)?;
@@ -49,8 +52,9 @@ impl Reader<'_> {
     /// Reads what stands behind a potential's first name, up to `)`: nothing, or a bar and names.
     /// They are added to the names.
     fn given_names(&mut self, mut names: Vec<Token>) -> Result<Vec<Token>, Stop>
-        ensures rule { IfOk result (λ all. (given : List Token)
-            × (all.items ≡ names.items ++ given) × (Given given ▹ Mark ParenClose) self.old self.new) }
+        ensures rule { IfOk result (λ all.
+            (given : List Token) × (all.items ≡ names.items ++ given)
+            × (Given given ▹ Mark ParenClose) self.old self.new) }
         ensures follows { Follows (given ∷ []) result self.old self.new }
         ensures shorter { OnOk result (length self.new < length self.old) }
     {
@@ -92,7 +96,9 @@ impl Reader<'_> {
         requires { 0 < length self.old }
         ensures rule { IfOk result (λ head. Head first head.0 head.1.items self.old self.new) }
         ensures follows { IsReading result (stop (block_place first) self.old)
-            (λ head. stop (within (mark BraceOpen ∷ attributes (is_potential head.0) ∷ [])) self.new) self.new }
+            (λ head.
+            stop (within (mark BraceOpen ∷ attributes (is_potential head.0) ∷ [])) self.new)
+            self.new }
         ensures shorter { OnOk result (length self.new < length self.old) }
     {
         match self.first_word(first)? {

@@ -73,7 +73,8 @@ impl Model for Block {
 
     ghost coded = { block_code };
 
-    ghost view = { λ b. record { kind = b.kind; names = b.names.items; attributes = b.attributes.items } };
+    ghost view = { λ b.
+        record { kind = b.kind; names = b.names.items; attributes = b.attributes.items } };
 }
 
 /// The tree of a text: its blocks in order.

@@ -16,7 +16,8 @@ impl Reader<'_> {
     /// Reads a value in which so many lists may stand in one another.
     #[cycle(value)]
     pub fn value(&mut self, alloc: Global, depth: u8) -> Result<Value, Stop>
-        ensures rule { IfOk result (λ value. grammar.Value depth (value_tree value) self.old self.new) }
+        ensures rule { IfOk result (λ value.
+            grammar.Value depth (value_tree value) self.old self.new) }
         ensures follows { Follows (value depth ∷ []) result self.old self.new }
         ensures shorter { OnOk result (length self.new < length self.old) }
     {
@@ -42,7 +43,8 @@ impl Reader<'_> {
     #[cycle(value)]
     fn values(&mut self, alloc: Global, depth: u8) -> Result<Vec<Value>, Stop>
         ensures rule { IfOk result (λ all.
-            (grammar.Values depth (trees_of (map value_tree all.items)) ▹ Mark ParenClose) self.old self.new) }
+            (grammar.Values depth (trees_of (map value_tree all.items)) ▹ Mark ParenClose) self.old
+            self.new) }
         ensures follows { Follows (values depth ∷ []) result self.old self.new }
         ensures shorter { OnOk result (length self.new < length self.old) }
     {

@@ -34,7 +34,8 @@ fn push_labels(
     requires fit { NamesFit diagram.now names.now }
     requires node { node < length diagram.now.nodes }
     requires kind { (node_at diagram.now.nodes node).kind ≢ Utility }
-    ensures { OnOk result (out.new.items ≡ out.old.items ++ parted quoted (labels_of names.now node)) }
+    ensures { OnOk result (out.new.items
+        ≡ out.old.items ++ parted quoted (labels_of names.now node)) }
 {
     for state in 0..diagram.states(node) {
         push_gap(out, state)?;
@@ -54,7 +55,8 @@ fn push_states(
     requires fit { NamesFit diagram.now names.now }
     requires node { node < length diagram.now.nodes }
     requires kind { (node_at diagram.now.nodes node).kind ≢ Utility }
-    ensures { OnOk result (out.new.items ≡ out.old.items ++ states_text (labels_of names.now node)) }
+    ensures { OnOk result (out.new.items
+        ≡ out.old.items ++ states_text (labels_of names.now node)) }
 {
     out.extend_from_slice(b"states = (")?;
     push_labels(out, diagram, names, node)?;
@@ -74,7 +76,8 @@ fn push_agent(out: &mut Vec<u8>, agent: &[u8]) -> Result<(), AllocError>
 // Appends the agents of these numbers, each behind a space.
 fn push_others(out: &mut Vec<u8>, names: &Names, agents: &[usize]) -> Result<(), AllocError>
     requires { All (λ a. a < length names.now.agents) agents.now }
-    ensures { OnOk result (out.new.items ≡ out.old.items ++ flat_map (λ a. 32 ∷ quoted (agent_name names.now a)) agents.now) }
+    ensures { OnOk result (out.new.items
+        ≡ out.old.items ++ flat_map (λ a. 32 ∷ quoted (agent_name names.now a)) agents.now) }
 {
     for agent in agents {
         out.push(b' ')?;
@@ -92,7 +95,12 @@ fn push_agents(
     others: &[usize],
 ) -> Result<(), AllocError>
     requires { All (λ a. a < length names.now.agents) others.now }
-    ensures { OnOk result (out.new.items ≡ out.old.items ++ (codes "agents = (" ++ (quoted first.now ++ flat_map (λ a. 32 ∷ quoted (agent_name names.now a)) others.now) ++ codes "); ")) }
+    ensures { OnOk result (out.new.items
+        ≡ out.old.items
+        ++ (codes "agents = ("
+        ++ (quoted first.now
+        ++ flat_map (λ a. 32 ∷ quoted (agent_name names.now a)) others.now)
+        ++ codes "); ")) }
 {
     out.extend_from_slice(b"agents = (")?;
     push_quoted(out, first)?;
@@ -110,7 +118,8 @@ fn push_owners(
     requires fit { NamesFit diagram.now names.now }
     requires node { node < length diagram.now.nodes }
     requires kind { (node_at diagram.now.nodes node).kind ≢ Chance }
-    ensures { OnOk result (out.new.items ≡ out.old.items ++ owners_text (owner_names diagram.now.nodes names.now node)) }
+    ensures { OnOk result (out.new.items
+        ≡ out.old.items ++ owners_text (owner_names diagram.now.nodes names.now node)) }
 {
     let node = diagram.node(node);
     let first = names.agent(node.owner);
@@ -132,7 +141,10 @@ fn push_attributes(
 ) -> Result<(), AllocError>
     requires fit { NamesFit diagram.now names.now }
     requires node { node < length diagram.now.nodes }
-    ensures { OnOk result (out.new.items ≡ out.old.items ++ attributes_text (node_at diagram.now.nodes node).kind (labels_of names.now node) (owner_names diagram.now.nodes names.now node)) }
+    ensures { OnOk result (out.new.items
+        ≡ out.old.items
+        ++ attributes_text (node_at diagram.now.nodes node).kind (labels_of names.now node)
+        (owner_names diagram.now.nodes names.now node)) }
 {
     match diagram.kind(node) {
         Kind::Chance => push_states(out, diagram, names, node),
@@ -154,7 +166,8 @@ fn push_block(
 ) -> Result<(), AllocError>
     requires fit { NamesFit diagram.now names.now }
     requires node { node < length diagram.now.nodes }
-    ensures { OnOk result (out.new.items ≡ out.old.items ++ node_line diagram.now.nodes names.now node) }
+    ensures { OnOk result (out.new.items
+        ≡ out.old.items ++ node_line diagram.now.nodes names.now node) }
 {
     out.extend_from_slice(kind_word(diagram.kind(node)))?;
     out.push(b' ')?;
@@ -167,7 +180,9 @@ fn push_block(
 /// Appends a line for each node's block.
 pub fn push_blocks(out: &mut Vec<u8>, diagram: &Diagram, names: &Names) -> Result<(), AllocError>
     requires { NamesFit diagram.now names.now }
-    ensures { OnOk result (out.new.items ≡ out.old.items ++ flat_map (node_line diagram.now.nodes names.now) (numbers_of diagram.now.nodes)) }
+    ensures { OnOk result (out.new.items
+        ≡ out.old.items
+        ++ flat_map (node_line diagram.now.nodes names.now) (numbers_of diagram.now.nodes)) }
 {
     for node in 0..diagram.count() {
         push_block(out, diagram, names, node)?;

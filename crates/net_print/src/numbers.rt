@@ -111,7 +111,8 @@ fn row_divisor(row: &[i128]) -> u128
 pub fn push_reduced_row(out: &mut Vec<u8>, row: &[i128], before: usize) -> Result<(), AllocError>
     requires some { 0 < row_divisor (map unsigned_abs row.now) }
     requires room { before + length row.now < 2 ^ 64 }
-    ensures { OnOk result (out.new.items ≡ out.old.items ++ parted_behind decimal before (reduced_row (map unsigned_abs row.now))) }
+    ensures { OnOk result (out.new.items
+        ≡ out.old.items ++ parted_behind decimal before (reduced_row (map unsigned_abs row.now))) }
 {
     let divisor = row_divisor(row);
     for (place, weight) in row.iter().enumerate() {

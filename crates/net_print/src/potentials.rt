@@ -35,7 +35,8 @@ fn push_given(
 ) -> Result<(), AllocError>
     requires fit { NamesFit diagram.now names.now }
     requires node { node < length diagram.now.nodes }
-    ensures { OnOk result (out.new.items ≡ out.old.items ++ given_text names.now (parents_of diagram.now.nodes node)) }
+    ensures { OnOk result (out.new.items
+        ≡ out.old.items ++ given_text names.now (parents_of diagram.now.nodes node)) }
 {
     let parents = diagram.parents(node);
     if parents.is_empty() {
@@ -49,7 +50,10 @@ fn push_given(
 fn push_rows(out: &mut Vec<u8>, diagram: &Diagram, node: usize) -> Result<(), AllocError>
     requires node { node < length diagram.now.nodes }
     requires kind { (node_at diagram.now.nodes node).kind ≡ Chance }
-    ensures { OnOk result (out.new.items ≡ out.old.items ++ parted decimal (reduced_rows (states_of diagram.now.nodes node) (rows_of diagram.now.nodes node) (node_at diagram.now.nodes node).cells)) }
+    ensures { OnOk result (out.new.items
+        ≡ out.old.items
+        ++ parted decimal (reduced_rows (states_of diagram.now.nodes node)
+        (rows_of diagram.now.nodes node) (node_at diagram.now.nodes node).cells)) }
 {
     let cells = diagram.cells(node);
     let states = diagram.states(node);
@@ -63,7 +67,8 @@ fn push_rows(out: &mut Vec<u8>, diagram: &Diagram, node: usize) -> Result<(), Al
 // Appends the values of a utility.
 fn push_values(out: &mut Vec<u8>, cells: &[i128], decimals: u32) -> Result<(), AllocError>
     requires { decimals ≤ 30 }
-    ensures { OnOk result (out.new.items ≡ out.old.items ++ parted (value_text decimals) cells.now) }
+    ensures { OnOk result (out.new.items
+        ≡ out.old.items ++ parted (value_text decimals) cells.now) }
 {
     for (place, cell) in cells.iter().enumerate() {
         push_gap(out, place)?;
@@ -75,7 +80,11 @@ fn push_values(out: &mut Vec<u8>, cells: &[i128], decimals: u32) -> Result<(), A
 // Appends the numbers of a chance node or a utility.
 fn push_numbers(out: &mut Vec<u8>, diagram: &Diagram, node: usize) -> Result<(), AllocError>
     requires node { node < length diagram.now.nodes }
-    ensures { OnOk result (out.new.items ≡ out.old.items ++ numbers_text (node_at diagram.now.nodes node).kind diagram.now.decimals (states_of diagram.now.nodes node) (rows_of diagram.now.nodes node) (node_at diagram.now.nodes node).cells) }
+    ensures { OnOk result (out.new.items
+        ≡ out.old.items
+        ++ numbers_text (node_at diagram.now.nodes node).kind diagram.now.decimals
+        (states_of diagram.now.nodes node) (rows_of diagram.now.nodes node)
+        (node_at diagram.now.nodes node).cells) }
 {
     match diagram.kind(node) {
         Kind::Chance => push_rows(out, diagram, node),
@@ -88,7 +97,11 @@ fn push_numbers(out: &mut Vec<u8>, diagram: &Diagram, node: usize) -> Result<(),
 #[tactic(auto, using(std::proofs::Common::append_assoc))]
 fn push_table(out: &mut Vec<u8>, diagram: &Diagram, node: usize) -> Result<(), AllocError>
     requires { node < length diagram.now.nodes }
-    ensures { OnOk result (out.new.items ≡ out.old.items ++ table_text (node_at diagram.now.nodes node).kind diagram.now.decimals (states_of diagram.now.nodes node) (rows_of diagram.now.nodes node) (node_at diagram.now.nodes node).cells) }
+    ensures { OnOk result (out.new.items
+        ≡ out.old.items
+        ++ table_text (node_at diagram.now.nodes node).kind diagram.now.decimals
+        (states_of diagram.now.nodes node) (rows_of diagram.now.nodes node)
+        (node_at diagram.now.nodes node).cells) }
 {
     if diagram.kind(node) == Kind::Decision {
         return Ok(());
@@ -108,7 +121,8 @@ fn push_head(
 ) -> Result<(), AllocError>
     requires fit { NamesFit diagram.now names.now }
     requires node { node < length diagram.now.nodes }
-    ensures { OnOk result (out.new.items ≡ out.old.items ++ head_text names.now node (parents_of diagram.now.nodes node)) }
+    ensures { OnOk result (out.new.items
+        ≡ out.old.items ++ head_text names.now node (parents_of diagram.now.nodes node)) }
 {
     out.extend_from_slice(b"potential (")?;
     out.extend_from_slice(names.name(node))?;
@@ -127,7 +141,8 @@ fn push_potential(
 ) -> Result<(), AllocError>
     requires fit { NamesFit diagram.now names.now }
     requires node { node < length diagram.now.nodes }
-    ensures { OnOk result (out.new.items ≡ out.old.items ++ potential_line diagram.now names.now node) }
+    ensures { OnOk result (out.new.items
+        ≡ out.old.items ++ potential_line diagram.now names.now node) }
 {
     push_head(out, diagram, names, node)?;
     out.extend_from_slice(b" { ")?;
@@ -142,7 +157,9 @@ pub fn push_potentials(
     names: &Names,
 ) -> Result<(), AllocError>
     requires { NamesFit diagram.now names.now }
-    ensures { OnOk result (out.new.items ≡ out.old.items ++ flat_map (potential_line diagram.now names.now) (numbers_of diagram.now.nodes)) }
+    ensures { OnOk result (out.new.items
+        ≡ out.old.items
+        ++ flat_map (potential_line diagram.now names.now) (numbers_of diagram.now.nodes)) }
 {
     for node in 0..diagram.count() {
         push_potential(out, diagram, names, node)?;

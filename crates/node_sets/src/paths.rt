@@ -32,7 +32,8 @@ fn has_parent_in<G: Graph>(graph: &G, v: usize, set: &NodeSet) -> bool
 fn follow_down<G: Graph>(graph: &G, v: usize, set: &mut NodeSet) -> bool
     requires within { v < G.size_of graph.now }
     requires small { v < MOST_NODES }
-    ensures { IsFollowed (Step (G.parents_of graph.now) Way.Down) (ClosedAt (G.parents_of graph.now) Way.Down v) set.old set.new result }
+    ensures { IsFollowed (Step (G.parents_of graph.now) Way.Down)
+        (ClosedAt (G.parents_of graph.now) Way.Down v) set.old set.new result }
 {
     if set.holds(v) {
         return false;
@@ -44,7 +45,8 @@ fn follow_down<G: Graph>(graph: &G, v: usize, set: &mut NodeSet) -> bool
 fn follow_up<G: Graph>(graph: &G, v: usize, set: &mut NodeSet) -> bool
     requires within { v < G.size_of graph.now }
     requires small { v < MOST_NODES }
-    ensures { IsFollowed (Step (G.parents_of graph.now) Way.Up) (ClosedAt (G.parents_of graph.now) Way.Up v) set.old set.new result }
+    ensures { IsFollowed (Step (G.parents_of graph.now) Way.Up)
+        (ClosedAt (G.parents_of graph.now) Way.Up v) set.old set.new result }
 {
     set.holds(v) && set.insert_all(graph.parents(v))
 }
@@ -52,7 +54,8 @@ fn follow_up<G: Graph>(graph: &G, v: usize, set: &mut NodeSet) -> bool
 fn visit<G: Graph>(graph: &G, way: Way, v: usize, set: &mut NodeSet) -> bool
     requires within { v < G.size_of graph.now }
     requires small { v < MOST_NODES }
-    ensures { IsFollowed (Step (G.parents_of graph.now) way) (ClosedAt (G.parents_of graph.now) way v) set.old set.new result }
+    ensures { IsFollowed (Step (G.parents_of graph.now) way)
+        (ClosedAt (G.parents_of graph.now) way v) set.old set.new result }
 {
     match way {
         Way::Down => follow_down(graph, v, set),
@@ -62,7 +65,9 @@ fn visit<G: Graph>(graph: &G, way: Way, v: usize, set: &mut NodeSet) -> bool
 
 /// Follows every arc once, nodes from first to last.
 fn sweep_on<G: Graph>(graph: &G, way: Way, set: &mut NodeSet) -> bool
-    ensures { IsFollowed (Step (G.parents_of graph.now) way) (ClosedInto (G.parents_of graph.now) way (λ x. x < G.size_of graph.now)) set.old set.new result }
+    ensures { IsFollowed (Step (G.parents_of graph.now) way)
+        (ClosedInto (G.parents_of graph.now) way (λ x. x < G.size_of graph.now)) set.old set.new
+        result }
 {
     let mut changed = false;
     for v in 0..graph.count() {
@@ -73,7 +78,9 @@ fn sweep_on<G: Graph>(graph: &G, way: Way, set: &mut NodeSet) -> bool
 
 /// Follows every arc once, nodes from last to first.
 fn sweep_back<G: Graph>(graph: &G, way: Way, set: &mut NodeSet) -> bool
-    ensures { IsFollowed (Step (G.parents_of graph.now) way) (ClosedInto (G.parents_of graph.now) way (λ x. x < G.size_of graph.now)) set.old set.new result }
+    ensures { IsFollowed (Step (G.parents_of graph.now) way)
+        (ClosedInto (G.parents_of graph.now) way (λ x. x < G.size_of graph.now)) set.old set.new
+        result }
 {
     let mut changed = false;
     for v in (0..graph.count()).rev() {
@@ -85,9 +92,11 @@ fn sweep_back<G: Graph>(graph: &G, way: Way, set: &mut NodeSet) -> bool
 /// Sweeps on and back, the way of the arcs first. It says whether there can be more to follow.
 fn sweep_twice<G: Graph>(graph: &G, way: Way, set: &mut NodeSet) -> bool
     ensures kept { (v : ℕ) → IsIn set.old v → IsIn set.new v }
-    ensures sound { (v : ℕ) → IsIn set.new v → LeadsFrom (Step (G.parents_of graph.now) way) (IsIn set.old) v }
+    ensures sound { (v : ℕ) → IsIn set.new v
+        → LeadsFrom (Step (G.parents_of graph.now) way) (IsIn set.old) v }
     ensures fewer { IsTrue result → room set.new < room set.old }
-    ensures closed { IsFalse result → ClosedInto (G.parents_of graph.now) way (λ x. x < G.size_of graph.now) set.new }
+    ensures closed { IsFalse result
+        → ClosedInto (G.parents_of graph.now) way (λ x. x < G.size_of graph.now) set.new }
 {
     match way {
         Way::Down => sweep_on(graph, way, set) && sweep_back(graph, way, set),
@@ -97,7 +106,8 @@ fn sweep_twice<G: Graph>(graph: &G, way: Way, set: &mut NodeSet) -> bool
 
 /// Adds the nodes to which steps lead from those in the set.
 fn follow<G: Graph>(graph: &G, way: Way, set: &mut NodeSet)
-    ensures { (v : ℕ) → IsIn set.new v ↔ LeadsFrom (Step (G.parents_of graph.now) way) (IsIn set.old) v }
+    ensures { (v : ℕ) → IsIn set.new v
+        ↔ LeadsFrom (Step (G.parents_of graph.now) way) (IsIn set.old) v }
 {
     'sweeps: while sweep_twice(graph, way, set) {}
 }
@@ -115,7 +125,8 @@ pub fn descendants<G: Graph>(graph: &G, of: NodeSet) -> NodeSet
 /// These nodes, and all from which a path of arcs leads to one of them. It goes over all arcs a few times; where parents
 /// stand before their children, twice.
 pub fn ancestors<G: Graph>(graph: &G, of: NodeSet) -> NodeSet
-    ensures { (v : ℕ) → IsIn result v ↔ ((to : ℕ) × IsIn of to × IsPath (ParentArc (G.parents_of graph.now)) v to) }
+    ensures { (v : ℕ) → IsIn result v
+        ↔ ((to : ℕ) × IsIn of to × IsPath (ParentArc (G.parents_of graph.now)) v to) }
 {
     let mut set = of;
     follow(graph, Way::Up, &mut set);

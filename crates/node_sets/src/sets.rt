@@ -45,7 +45,8 @@ impl NodeSet {
     /// whole set takes about as long as it has nodes.
     pub fn first_from(&self, from: usize) -> Option<usize>
         requires { from ≤ MOST_NODES }
-        ensures { MatchOption result ((v : ℕ) → from ≤ v → IsIn self.now v → ⊥) (IsFirstFrom self.now from) }
+        ensures { MatchOption result ((v : ℕ) → from ≤ v → IsIn self.now v → ⊥)
+            (IsFirstFrom self.now from) }
     {
         let first = from / 64;
         if first == self.words.len() {

@@ -28,7 +28,8 @@ fn optimum(alloc: Global, diagram: &Diagram, agent: usize) -> Result<Ratio, Solv
 
 /// Why a diagram that the solver refuses has no value.
 fn refused(fault: SolveFault) -> Result<Found, AllocError>
-    ensures { (d : DiagramView) → IsFaultOrNoMemory solve_fault (solve_pass d) fault → IfOk result (TellsReason (solving d)) }
+    ensures { (d : DiagramView) → IsFaultOrNoMemory solve_fault (solve_pass d) fault
+        → IfOk result (TellsReason (solving d)) }
 {
     match fault {
         SolveFault::Cycle { list } => Ok(Found::Cycle(list)),

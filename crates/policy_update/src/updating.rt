@@ -34,7 +34,8 @@ impl Model for Updated {
 
     ghost Value = { UpdatedView };
 
-    ghost view = { λ u. record { rounds = u.rounds; answers = u.answers.items; gains = u.gains.items } };
+    ghost view = { λ u.
+        record { rounds = u.rounds; answers = u.answers.items; gains = u.gains.items } };
 }
 
 /// Who owns the first decision.

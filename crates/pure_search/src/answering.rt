@@ -34,7 +34,8 @@ pub(crate) fn answers_of(
 ) -> Result<Vec<Answer>, AllocError>
     requires decisions { All (λ v. v < length diagram.now.nodes) decisions.now }
     requires len { length choices.now ≡ length (choice_counts diagram.now.nodes decisions.now) }
-    ensures { IfOk result (λ answers. answers.items ≡ answers_of diagram.now.nodes decisions.now choices.now) }
+    ensures { IfOk result (λ answers.
+        answers.items ≡ answers_of diagram.now.nodes decisions.now choices.now) }
 {
     let mut answers = Vec::new(alloc);
     let mut start = 0;

@@ -50,7 +50,8 @@ fn is_small(profiles: u128, leaves: u128) -> bool
 pub(crate) fn keep_counts(diagram: &Diagram, counts: &[usize]) -> Result<u128, PureFault>
     requires { counts.now ≡ counts_for diagram.now.nodes }
     ensures rows { Passes pure_fault (count_pass diagram.now) result }
-    ensures profiles { IfOk result (λ profiles. profiles ≡ length (choice_lists diagram.now.nodes)) }
+    ensures profiles { IfOk result (λ profiles.
+        profiles ≡ length (choice_lists diagram.now.nodes)) }
     ensures few { IfOk result (λ profiles. profiles ≤ MOST_PROFILES) }
 {
     let profiles = profiles(counts);

@@ -77,7 +77,8 @@ fn choice_owners(
 
 /// The rows of all decisions of the diagram.
 pub(crate) fn game_of(alloc: Global, diagram: &Diagram) -> Result<Game, AllocError>
-    ensures decisions { IfOk result (λ game. game.decisions.items ≡ decisions_of diagram.now.nodes) }
+    ensures decisions { IfOk result (λ game.
+        game.decisions.items ≡ decisions_of diagram.now.nodes) }
     ensures counts { IfOk result (λ game. game.counts.items ≡ counts_for diagram.now.nodes) }
     ensures owners { IfOk result (λ game. game.owners.items ≡ owners_for diagram.now.nodes) }
 {

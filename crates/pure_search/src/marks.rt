@@ -45,7 +45,8 @@ pub(crate) fn keep_greatest(
 /// The first place with a mark.
 pub(crate) fn first_mark(marks: &[bool]) -> Option<usize>
     ensures some { IfSome result (IsFirstMark marks.now) }
-    ensures none { IfNone result ((k : ℕ) → k < length marks.now → slice_index_or marks.now k false ≡ false) }
+    ensures none { IfNone result ((k : ℕ) → k < length marks.now
+        → slice_index_or marks.now k false ≡ false) }
 {
     for (place, mark) in marks.iter().enumerate() {
         if *mark {

@@ -9,7 +9,8 @@ use std::alloc::{AllocError, Global};
 pub(crate) fn first_choices(alloc: Global, counts: &[usize]) -> Result<Vec<usize>, AllocError>
     requires { All (λ n. 0 < n) counts.now }
     ensures world { IfOk result (λ choices. IsWorld counts.now choices.items) }
-    ensures all { IfOk result (λ choices. worlds_from counts.now choices.items ≡ worlds counts.now) }
+    ensures all { IfOk result (λ choices.
+        worlds_from counts.now choices.items ≡ worlds counts.now) }
 {
     let choices = vec![in alloc; 0; counts.len()]?;
     Ok(choices)
@@ -19,7 +20,8 @@ pub(crate) fn first_choices(alloc: Global, counts: &[usize]) -> Result<Vec<usize
 pub(crate) fn next_choices(counts: &[usize], choices: &mut [usize]) -> bool
     requires { IsWorld counts.now choices.old }
     ensures world { IsWorld counts.now choices.new }
-    ensures more { IsTrue result → worlds_from counts.now choices.old ≡ choices.old ∷ worlds_from counts.now choices.new }
+    ensures more { IsTrue result
+        → worlds_from counts.now choices.old ≡ choices.old ∷ worlds_from counts.now choices.new }
     ensures last { IsFalse result → worlds_from counts.now choices.old ≡ choices.old ∷ [] }
 {
     let mut place = choices.len();

@@ -24,7 +24,8 @@ use std::alloc::{AllocError, Global};
 fn choices_at(alloc: Global, counts: &[usize], place: usize) -> Result<Vec<usize>, AllocError>
     requires counts { All (λ n. 0 < n) counts.now }
     requires place { place < length (worlds counts.now) }
-    ensures choices { IfOk result (λ choices. choices.items ≡ slice_index_or (worlds counts.now) place []) }
+    ensures choices { IfOk result (λ choices.
+        choices.items ≡ slice_index_or (worlds counts.now) place []) }
     ensures world { IfOk result (λ choices. IsWorld counts.now choices.items) }
 {
     let mut choices = first_choices(alloc, counts)?;

@@ -31,7 +31,8 @@ pub(crate) fn part_for(
     diagram: &Diagram,
     agent: usize,
 ) -> Result<SubDiagram, AllocError>
-    ensures diagram { IfOk result (λ part. part.diagram ≡ part_diagram diagram.now (scope_for diagram.now.nodes agent)) }
+    ensures diagram { IfOk result (λ part.
+        part.diagram ≡ part_diagram diagram.now (scope_for diagram.now.nodes agent)) }
     ensures nodes { IfOk result (λ part. part.nodes.items ≡ scope_for diagram.now.nodes agent) }
 {
     let _count = diagram.count();
@@ -52,7 +53,8 @@ fn gain_under(
     requires decisions { game.now.decisions.items ≡ decisions_of diagram.now.nodes }
     requires agent { agent < diagram.now.agents }
     requires bound { IsSearched diagram.now }
-    requires part { part.now.diagram ≡ part_diagram diagram.now (scope_for diagram.now.nodes agent) }
+    requires part { part.now.diagram
+        ≡ part_diagram diagram.now (scope_for diagram.now.nodes agent) }
     requires nodes { part.now.nodes.items ≡ scope_for diagram.now.nodes agent }
     requires first { world.old ≡ first_world (length part.now.diagram.nodes) }
     requires choices { IsWorld (counts_for diagram.now.nodes) choices.now }
@@ -75,7 +77,8 @@ fn table_for(
     requires game { IsGameOf diagram.now.nodes game.now }
     requires agent { agent < diagram.now.agents }
     requires bound { IsSearched diagram.now }
-    ensures { IfOk result (λ table. IsTable diagram.now.nodes agent table.keys.items table.gains.items) }
+    ensures { IfOk result (λ table.
+        IsTable diagram.now.nodes agent table.keys.items table.gains.items) }
 {
     let _count = diagram.count();
     let part = part_for(alloc, diagram, agent)?;

@@ -17,7 +17,15 @@ fn node(
     parents: &[usize],
     cells: &[i128],
 ) -> Result<Node, AllocError>
-    ensures { IfOk result (λ n. n ≡ record { kind = kind; owner = owner; more = []; states = states; parents = parents.now; cells = cells.now }) }
+    ensures { IfOk result (λ n.
+        n ≡ record {
+          kind = kind;
+          owner = owner;
+          more = [];
+          states = states;
+          parents = parents.now;
+          cells = cells.now;
+        }) }
 {
     Ok(Node {
         kind,

@@ -34,7 +34,8 @@ fn worth(
     requires chosen { IsProfile diagram.now.nodes chosen.now }
     requires pure { HasUnitRules diagram.now.nodes chosen.now }
     requires bound { KeepsScopedBounds diagram.now }
-    ensures { IfOk result (IsExpectedUtility diagram.now.nodes (10 ^ diagram.now.decimals) chosen.now agent) }
+    ensures { IfOk result (IsExpectedUtility diagram.now.nodes (10 ^ diagram.now.decimals)
+        chosen.now agent) }
 {
     let _count = diagram.count();
     let part = part_for(alloc, diagram, agent)?;

@@ -22,7 +22,8 @@ fn is_decision(diagram: &Diagram, v: usize) -> bool
 /// Whether it is a decision, for each node.
 fn mark_decisions(alloc: Global, diagram: &Diagram) -> Result<Vec<bool>, AllocError>
     ensures count { IfOk result (λ marks. length marks.items ≡ length diagram.now.nodes) }
-    ensures decisions { IfOk result (λ marks. (v : ℕ) → IsIn marks.items v ↔ IsDecision diagram.now.nodes v) }
+    ensures decisions { IfOk result (λ marks.
+        (v : ℕ) → IsIn marks.items v ↔ IsDecision diagram.now.nodes v) }
 {
     let mut marks = vec![in alloc; false; diagram.count()]?;
     for v in 0..diagram.count() {

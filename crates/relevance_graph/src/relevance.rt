@@ -28,7 +28,8 @@ impl Model for Relevance {
 
     ghost Value = { RelevanceView };
 
-    ghost view = { λ r. record { relied_on = lists_in r.relied_on.items; outcome = outcome_of r.placing } };
+    ghost view = { λ r.
+        record { relied_on = lists_in r.relied_on.items; outcome = outcome_of r.placing } };
 
     ghost invariant = { λ r. (d : ℕ) → IsRising (needs_of (lists_in r.relied_on.items) d) };
 }
@@ -56,7 +57,8 @@ impl Relevance {
     /// be placed it goes each time to the first such decision on which the last one relies, until one comes twice, and
     /// it is the list from the first visit of that one. It takes no memory.
     pub fn order(&self) -> Result<&[usize], &[usize]>
-        ensures { MatchResult result (λ order. self.now.outcome ≡ Ok order.now) (λ cycle. self.now.outcome ≡ Err cycle.now) }
+        ensures { MatchResult result (λ order. self.now.outcome ≡ Ok order.now)
+            (λ cycle. self.now.outcome ≡ Err cycle.now) }
     {
         match &self.placing {
             Placing::Order(order) => Ok(order),

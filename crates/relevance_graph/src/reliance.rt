@@ -44,7 +44,8 @@ fn list_relied_on(
 ) -> Result<Vec<usize>, AllocError>
     requires decision { IsLiveDecision diagram.now.nodes decision }
     requires marks { IsSearchedFor diagram.now.nodes decision marks.now }
-    ensures { IfOk result (λ list. ListsBelow (ReliesOn diagram.now.nodes decision) (length diagram.now.nodes) list.items) }
+    ensures { IfOk result (λ list.
+        ListsBelow (ReliesOn diagram.now.nodes decision) (length diagram.now.nodes) list.items) }
 {
     let mut list = Vec::new(alloc);
     for on in 0..diagram.count() {
@@ -58,7 +59,8 @@ fn list_relied_on(
 /// What the node relies on, by one search where it is a decision of two states or more.
 fn relied_on_by(alloc: Global, diagram: &Diagram, v: usize) -> Result<Vec<usize>, AllocError>
     requires { v < length diagram.now.nodes }
-    ensures { IfOk result (λ list. ListsBelow (ReliesOn diagram.now.nodes v) (length diagram.now.nodes) list.items) }
+    ensures { IfOk result (λ list.
+        ListsBelow (ReliesOn diagram.now.nodes v) (length diagram.now.nodes) list.items) }
 {
     if !is_live_decision(diagram, v) {
         return Ok(Vec::new(alloc));
@@ -69,7 +71,8 @@ fn relied_on_by(alloc: Global, diagram: &Diagram, v: usize) -> Result<Vec<usize>
 
 /// What each node relies on, in text order.
 pub(crate) fn list_reliance(alloc: Global, diagram: &Diagram) -> Result<Vec<Vec<usize>>, AllocError>
-    ensures { IfOk result (λ lists. TellsReliance diagram.now.nodes (length diagram.now.nodes) (lists_in lists.items)) }
+    ensures { IfOk result (λ lists.
+        TellsReliance diagram.now.nodes (length diagram.now.nodes) (lists_in lists.items)) }
 {
     let mut lists = Vec::with_capacity(alloc, diagram.count())?;
     for v in 0..diagram.count() {

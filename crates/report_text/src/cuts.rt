@@ -21,7 +21,8 @@ pub(crate) fn front(bytes: &[u8], byte: u8) -> (&[u8], &[u8])
 
 /// What stands behind the front, if the bytes have it.
 pub(crate) fn behind<'a>(bytes: &'a [u8], front: &[u8]) -> Option<&'a [u8]>
-    ensures { MatchOption result ((rest : List ℕ) → bytes.now ≢ front.now ++ rest) (λ rest. bytes.now ≡ front.now ++ rest.now) }
+    ensures { MatchOption result ((rest : List ℕ) → bytes.now ≢ front.now ++ rest)
+        (λ rest. bytes.now ≡ front.now ++ rest.now) }
 {
     bytes.strip_prefix(front)
 }

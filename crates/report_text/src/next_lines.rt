@@ -20,7 +20,9 @@ use std::alloc::Global;
 /// Reads the line of these words.
 pub(crate) fn pass_words(lines: &mut LineReader, words: &[u8]) -> Result<(), ReportFault>
     ensures ok { OnOk result (IsTaken words.now lines.old lines.new) }
-    ensures err { IfErr result (λ fault. (nodes : List NodeView) (names : NamesView) → IsStuck nodes names (Told (line words.now) ∷ []) lines.old fault) }
+    ensures err { IfErr result (λ fault.
+        (nodes : List NodeView) (names : NamesView)
+        → IsStuck nodes names (Told (line words.now) ∷ []) lines.old fault) }
 {
     let line = lines.take_line()?;
     if line == words {
@@ -33,7 +35,9 @@ pub(crate) fn pass_words(lines: &mut LineReader, words: &[u8]) -> Result<(), Rep
 /// Reads the text's end.
 pub(crate) fn pass_end(lines: &LineReader) -> Result<(), ReportFault>
     ensures ok { OnOk result (lines.now.rest ≡ []) }
-    ensures err { IfErr result (λ fault. (nodes : List NodeView) (names : NamesView) → IsStuck nodes names (End ∷ []) lines.now fault) }
+    ensures err { IfErr result (λ fault.
+        (nodes : List NodeView) (names : NamesView)
+        → IsStuck nodes names (End ∷ []) lines.now fault) }
 {
     if lines.is_at_end() {
         Ok(())
@@ -52,7 +56,8 @@ pub(crate) fn next_order(
     requires fit { NamesFit diagram.now names.now }
     requires told { AreTold names.now }
     ensures order { IfOk result (λ order. IsOrder diagram.now.nodes order.items) }
-    ensures taken { IfOk result (λ order. IsTaken (order_words names.now order.items) lines.old lines.new) }
+    ensures taken { IfOk result (λ order.
+        IsTaken (order_words names.now order.items) lines.old lines.new) }
     ensures err { IfErr result (IsOrderless diagram.now.nodes names.now lines.old) }
 {
     let line = lines.take_line()?;
@@ -76,8 +81,12 @@ fn next_row(
     requires decision { IsDecision diagram.now.nodes decision }
     requires rows { rows ≡ rows_of diagram.now.nodes decision }
     requires number { number < rows }
-    ensures ok { IfOk result (λ row. IsRow diagram.now.nodes decision row × IsTaken (row_words diagram.now.nodes names.now decision number row) lines.old lines.new) }
-    ensures err { IfErr result (IsStuck diagram.now.nodes names.now (OfRow decision number ∷ []) lines.old) }
+    ensures ok { IfOk result (λ row.
+        IsRow diagram.now.nodes decision row
+        × IsTaken (row_words diagram.now.nodes names.now decision number row) lines.old
+        lines.new) }
+    ensures err { IfErr result (IsStuck diagram.now.nodes names.now (OfRow decision number ∷ [])
+        lines.old) }
 {
     let line = lines.take_line()?;
     match read_row(scratch, diagram, names, decision, rows, number, line)? {
@@ -97,8 +106,11 @@ fn next_rows(
 ) -> Result<Vec<Row>, ReportFault>
     requires fit { NamesFit diagram.now names.now }
     requires decision { IsDecision diagram.now.nodes decision }
-    ensures ok { IfOk result (λ rows. ReadsRows diagram.now.nodes names.now decision (rows_of diagram.now.nodes decision) rows.items lines.old lines.new) }
-    ensures err { IfErr result (IsStuck diagram.now.nodes names.now (row_slots decision 0 (rows_of diagram.now.nodes decision)) lines.old) }
+    ensures ok { IfOk result (λ rows.
+        ReadsRows diagram.now.nodes names.now decision (rows_of diagram.now.nodes decision)
+        rows.items lines.old lines.new) }
+    ensures err { IfErr result (IsStuck diagram.now.nodes names.now
+        (row_slots decision 0 (rows_of diagram.now.nodes decision)) lines.old) }
 {
     let count = diagram.rows(decision);
     let mut rows = Vec::new(alloc);
@@ -120,8 +132,10 @@ fn next_answer(
 ) -> Result<Answer, ReportFault>
     requires fit { NamesFit diagram.now names.now }
     requires decision { IsDecision diagram.now.nodes decision }
-    ensures ok { IfOk result (λ answer. ReadsAnswer diagram.now.nodes names.now decision answer lines.old lines.new) }
-    ensures err { IfErr result (IsStuck diagram.now.nodes names.now (answer_slots diagram.now.nodes names.now decision) lines.old) }
+    ensures ok { IfOk result (λ answer.
+        ReadsAnswer diagram.now.nodes names.now decision answer lines.old lines.new) }
+    ensures err { IfErr result (IsStuck diagram.now.nodes names.now
+        (answer_slots diagram.now.nodes names.now decision) lines.old) }
 {
     scratch.clear();
     push_decision_words(scratch, diagram, names, decision)?;
@@ -141,8 +155,10 @@ pub(crate) fn next_answers(
 ) -> Result<Vec<Answer>, ReportFault>
     requires fit { NamesFit diagram.now names.now }
     requires order { All (IsDecision diagram.now.nodes) order.now }
-    ensures ok { IfOk result (λ answers. ReadsAnswers diagram.now.nodes names.now order.now answers.items lines.old lines.new) }
-    ensures err { IfErr result (IsStuck diagram.now.nodes names.now (flat_map (answer_slots diagram.now.nodes names.now) order.now) lines.old) }
+    ensures ok { IfOk result (λ answers.
+        ReadsAnswers diagram.now.nodes names.now order.now answers.items lines.old lines.new) }
+    ensures err { IfErr result (IsStuck diagram.now.nodes names.now
+        (flat_map (answer_slots diagram.now.nodes names.now) order.now) lines.old) }
 {
     let mut answers = Vec::new(alloc);
     for decision in order {
@@ -160,8 +176,10 @@ fn next_gain(
     agent: usize,
 ) -> Result<Ratio, ReportFault>
     requires { agent < length names.now.agents }
-    ensures ok { IfOk result (λ gain. FitsRatio gain × IsTaken (gain_words names.now agent gain) lines.old lines.new) }
-    ensures err { IfErr result (λ fault. (nodes : List NodeView) → IsStuck nodes names.now (OfGain agent ∷ []) lines.old fault) }
+    ensures ok { IfOk result (λ gain.
+        FitsRatio gain × IsTaken (gain_words names.now agent gain) lines.old lines.new) }
+    ensures err { IfErr result (λ fault.
+        (nodes : List NodeView) → IsStuck nodes names.now (OfGain agent ∷ []) lines.old fault) }
 {
     let line = lines.take_line()?;
     match read_gain(scratch, names, agent, line)? {
@@ -179,8 +197,11 @@ pub(crate) fn next_gains(
     agents: usize,
 ) -> Result<Vec<Ratio>, ReportFault>
     requires { agents ≡ length names.now.agents }
-    ensures ok { IfOk result (λ gains. (nodes : List NodeView) → ReadsGains nodes names.now agents gains.items lines.old lines.new) }
-    ensures err { IfErr result (λ fault. (nodes : List NodeView) → IsStuck nodes names.now (gain_slots 0 agents) lines.old fault) }
+    ensures ok { IfOk result (λ gains.
+        (nodes : List NodeView) → ReadsGains nodes names.now agents gains.items lines.old
+        lines.new) }
+    ensures err { IfErr result (λ fault.
+        (nodes : List NodeView) → IsStuck nodes names.now (gain_slots 0 agents) lines.old fault) }
 {
     let mut gains = Vec::new(alloc);
     for agent in 0..agents {

@@ -15,8 +15,10 @@ use std::alloc::{AllocError, Global};
 // The decision of that name, if there is one.
 fn decision_of(diagram: &Diagram, names: &Names, name: &[u8]) -> Option<usize>
     requires { NamesFit diagram.now names.now }
-    ensures some { IfSome result (λ v. IsDecision diagram.now.nodes v × (name_of names.now v ≡ name.now)) }
-    ensures none { IfNone result ((v : ℕ) → IsDecision diagram.now.nodes v → name_of names.now v ≢ name.now) }
+    ensures some { IfSome result (λ v.
+        IsDecision diagram.now.nodes v × (name_of names.now v ≡ name.now)) }
+    ensures none { IfNone result ((v : ℕ) → IsDecision diagram.now.nodes v
+        → name_of names.now v ≢ name.now) }
 {
     for node in 0..diagram.count() {
         if diagram.kind(node) == Kind::Decision && names.name(node) == name {
@@ -47,9 +49,13 @@ pub(crate) fn read_order(
 ) -> Result<Option<Vec<usize>>, AllocError>
     requires fit { NamesFit diagram.now names.now }
     requires told { AreTold names.now }
-    ensures { IfOk result (λ found. MatchOption found
-        ((order : List ℕ) → IsOrder diagram.now.nodes order → line.now ≢ order_words names.now order)
-        (λ order. IsOrder diagram.now.nodes order.items × (line.now ≡ order_words names.now order.items))) }
+    ensures { IfOk result (λ found.
+        MatchOption found
+        ((order : List ℕ) → IsOrder diagram.now.nodes order
+        → line.now ≢ order_words names.now order)
+        (λ order.
+        IsOrder diagram.now.nodes order.items
+        × (line.now ≡ order_words names.now order.items))) }
 {
     let mut order = Vec::new(alloc);
     let Some(mut rest) = behind(line, b"order:") else {

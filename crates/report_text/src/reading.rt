@@ -58,8 +58,10 @@ fn read_behind(
     requires order { IsOrder diagram.now.nodes order.items }
     ensures value { IfOk result (CanStand diagram.now) }
     ensures order { IfOk result (λ solved. solved.order ≡ order.items) }
-    ensures bytes { IfOk result (λ solved. lines.old.rest ≡ lines_behind diagram.now.nodes names.now solved) }
-    ensures err { IfErr result (IsStuck diagram.now.nodes names.now (slots_of diagram.now names.now order.items) lines.old) }
+    ensures bytes { IfOk result (λ solved.
+        lines.old.rest ≡ lines_behind diagram.now.nodes names.now solved) }
+    ensures err { IfErr result (IsStuck diagram.now.nodes names.now
+        (slots_of diagram.now names.now order.items) lines.old) }
 {
     let mut scratch = Vec::new(alloc);
     let answers = next_answers(alloc, lines, &mut scratch, diagram, names, &order)?;
@@ -91,7 +93,8 @@ pub fn read_report(
     requires fit { NamesFit diagram.now names.now }
     requires told { AreTold names.now }
     ensures ok { IfOk result (IsReadAs diagram.now names.now text.now) }
-    ensures err { IfErr result (IsFaultOrNoMemory bad_line (report_pass diagram.now names.now text.now)) }
+    ensures err { IfErr result (IsFaultOrNoMemory bad_line (report_pass diagram.now names.now
+        text.now)) }
 {
     let agents = diagram.agents();
     let mut lines = LineReader::new(text);

@@ -18,7 +18,9 @@ use std::alloc::{AllocError, Global};
 fn parents_of(diagram: &Diagram, node: usize) -> &[usize]
     requires { node < length diagram.now.nodes }
     ensures parents { result.now ≡ parents_of diagram.now.nodes node }
-    ensures known { All (λ u. (u < length diagram.now.nodes) × ((node_at diagram.now.nodes u).kind ≢ Utility)) result.now }
+    ensures known { All
+        (λ u. (u < length diagram.now.nodes) × ((node_at diagram.now.nodes u).kind ≢ Utility))
+        result.now }
 {
     diagram.node(node).parents.as_slice()
 }
@@ -44,7 +46,8 @@ fn push_label(
     requires node { node < length diagram.now.nodes }
     requires kind { (node_at diagram.now.nodes node).kind ≢ Utility }
     requires state { state < states_of diagram.now.nodes node }
-    ensures { OnOk result (out.new.items ≡ out.old.items ++ 32 ∷ quoted (label_of names.now node state)) }
+    ensures { OnOk result (out.new.items
+        ≡ out.old.items ++ 32 ∷ quoted (label_of names.now node state)) }
 {
     out.push(b' ')?;
     push_quoted(out, names.label(node, state))
@@ -60,10 +63,15 @@ fn push_states(
     row: usize,
 ) -> Result<(), AllocError>
     requires fit { NamesFit diagram.now names.now }
-    requires parents { All (λ u. (u < length diagram.now.nodes) × ((node_at diagram.now.nodes u).kind ≢ Utility)) parents.now }
+    requires parents { All
+        (λ u. (u < length diagram.now.nodes) × ((node_at diagram.now.nodes u).kind ≢ Utility))
+        parents.now }
     requires rows { rows ≡ rows_under (states_of diagram.now.nodes) parents.now }
     requires row { row < rows }
-    ensures { OnOk result (out.new.items ≡ out.old.items ++ state_labels names.now parents.now (parent_states (states_of diagram.now.nodes) parents.now row)) }
+    ensures { OnOk result (out.new.items
+        ≡ out.old.items
+        ++ state_labels names.now parents.now (parent_states (states_of diagram.now.nodes)
+        parents.now row)) }
 {
     let mut below = rows;
     let mut rest = row;
@@ -118,7 +126,8 @@ pub fn push_row_front(
     requires decision { IsDecision diagram.now.nodes decision }
     requires rows { rows ≡ rows_of diagram.now.nodes decision }
     requires number { number < rows }
-    ensures { OnOk result (out.new.items ≡ out.old.items ++ row_front diagram.now.nodes names.now decision number) }
+    ensures { OnOk result (out.new.items
+        ≡ out.old.items ++ row_front diagram.now.nodes names.now decision number) }
 {
     out.extend_from_slice(b"row ")?;
     push_number(out, number as u128 + 1)?;
@@ -150,7 +159,8 @@ pub fn push_row(
     requires rows { rows ≡ rows_of diagram.now.nodes decision }
     requires number { number < rows }
     requires choice { row.now.choice < states_of diagram.now.nodes decision }
-    ensures { OnOk result (out.new.items ≡ out.old.items ++ row_line diagram.now.nodes names.now decision number row.now) }
+    ensures { OnOk result (out.new.items
+        ≡ out.old.items ++ row_line diagram.now.nodes names.now decision number row.now) }
 {
     push_row_front(out, diagram, names, decision, rows, number)?;
     push_state(out, diagram, names, decision, row.choice)?;
@@ -168,7 +178,8 @@ fn push_decision(
 ) -> Result<(), AllocError>
     requires fit { NamesFit diagram.now names.now }
     requires answer { FitsAnswer diagram.now.nodes answer.now }
-    ensures { OnOk result (out.new.items ≡ out.old.items ++ decision_lines diagram.now.nodes names.now answer.now) }
+    ensures { OnOk result (out.new.items
+        ≡ out.old.items ++ decision_lines diagram.now.nodes names.now answer.now) }
 {
     push_head(out, diagram, names, answer.decision)?;
     for (number, row) in answer.rows.iter().enumerate() {
@@ -194,7 +205,8 @@ fn push_decisions(
 ) -> Result<(), AllocError>
     requires fit { NamesFit diagram.now names.now }
     requires answers { All (FitsAnswer diagram.now.nodes) answers.now }
-    ensures { OnOk result (out.new.items ≡ out.old.items ++ flat_map (decision_lines diagram.now.nodes names.now) answers.now) }
+    ensures { OnOk result (out.new.items
+        ≡ out.old.items ++ flat_map (decision_lines diagram.now.nodes names.now) answers.now) }
 {
     for answer in answers {
         push_decision(out, diagram, names, answer)?;
@@ -212,7 +224,8 @@ pub(crate) fn push_decision_words(
 ) -> Result<(), AllocError>
     requires fit { NamesFit diagram.now names.now }
     requires decision { IsDecision diagram.now.nodes decision }
-    ensures { OnOk result (out.new.items ≡ out.old.items ++ decision_words diagram.now.nodes names.now decision) }
+    ensures { OnOk result (out.new.items
+        ≡ out.old.items ++ decision_words diagram.now.nodes names.now decision) }
 {
     out.extend_from_slice(b"decision ")?;
     out.extend_from_slice(names.name(decision))?;
@@ -232,7 +245,8 @@ pub fn push_head(
 ) -> Result<(), AllocError>
     requires fit { NamesFit diagram.now names.now }
     requires decision { IsDecision diagram.now.nodes decision }
-    ensures { OnOk result (out.new.items ≡ out.old.items ++ decision_head diagram.now.nodes names.now decision) }
+    ensures { OnOk result (out.new.items
+        ≡ out.old.items ++ decision_head diagram.now.nodes names.now decision) }
 {
     push_decision_words(out, diagram, names, decision)?;
     out.push(b'\n')?;
@@ -281,7 +295,8 @@ pub fn push_gains(out: &mut Vec<u8>, names: &Names, gains: &[Ratio]) -> Result<(
 #[tactic(auto, using(std::proofs::Common::append_assoc))]
 fn push_order(out: &mut Vec<u8>, names: &Names, order: &[usize]) -> Result<(), AllocError>
     requires { All (λ v. v < length names.now.nodes) order.now }
-    ensures { OnOk result (out.new.items ≡ out.old.items ++ names_line (codes "order:") names.now order.now) }
+    ensures { OnOk result (out.new.items
+        ≡ out.old.items ++ names_line (codes "order:") names.now order.now) }
 {
     out.extend_from_slice(b"order:")?;
     push_names(out, names, order)?;

@@ -18,8 +18,10 @@ use std::alloc::AllocError;
 
 // What a row is worth, by the text behind its choice.
 fn read_worth(bytes: &[u8]) -> Option<Option<Ratio>>
-    ensures some { IfSome result (λ worth. IfSome worth FitsRatio × (bytes.now ≡ worth_text worth)) }
-    ensures none { IfNone result ((worth : Option Ratio) → IfSome worth FitsRatio → bytes.now ≢ worth_text worth) }
+    ensures some { IfSome result (λ worth.
+        IfSome worth FitsRatio × (bytes.now ≡ worth_text worth)) }
+    ensures none { IfNone result ((worth : Option Ratio) → IfSome worth FitsRatio
+        → bytes.now ≢ worth_text worth) }
 {
     if bytes == b" never".as_slice() {
         return Some(None);
@@ -36,8 +38,11 @@ fn read_worth(bytes: &[u8]) -> Option<Option<Ratio>>
 // The state whose number, from 1, stands before the first space.
 fn read_state(bytes: &[u8], states: usize) -> Option<usize>
     ensures some { IfSome result (λ choice. choice < states) }
-    ensures none { IfNone result ((choice : ℕ) (rest : List ℕ) → choice < states → bytes.now ≢ decimal (choice + 1) ++ 32 ∷ rest) }
-    ensures value { IfSome result (λ choice. (other : ℕ) (rest : List ℕ) → other < states → bytes.now ≡ decimal (other + 1) ++ 32 ∷ rest → choice ≡ other) }
+    ensures none { IfNone result ((choice : ℕ) (rest : List ℕ) → choice < states
+        → bytes.now ≢ decimal (choice + 1) ++ 32 ∷ rest) }
+    ensures value { IfSome result (λ choice.
+        (other : ℕ) (rest : List ℕ) → other < states → bytes.now ≡ decimal (other + 1) ++ 32 ∷ rest
+        → choice ≡ other) }
 {
     let (digits, _) = front(bytes, b' ');
     match whole(digits) {
@@ -60,9 +65,13 @@ pub(crate) fn read_row(
     requires decision { IsDecision diagram.now.nodes decision }
     requires rows { rows ≡ rows_of diagram.now.nodes decision }
     requires number { number < rows }
-    ensures { IfOk result (λ found. MatchOption found
-        ((row : Row) → IsRow diagram.now.nodes decision row → line.now ≢ row_words diagram.now.nodes names.now decision number row)
-        (λ row. IsRow diagram.now.nodes decision row × (line.now ≡ row_words diagram.now.nodes names.now decision number row))) }
+    ensures { IfOk result (λ found.
+        MatchOption found
+        ((row : Row) → IsRow diagram.now.nodes decision row
+        → line.now ≢ row_words diagram.now.nodes names.now decision number row)
+        (λ row.
+        IsRow diagram.now.nodes decision row
+        × (line.now ≡ row_words diagram.now.nodes names.now decision number row))) }
 {
     scratch.clear();
     push_row_front(scratch, diagram, names, decision, rows, number)?;

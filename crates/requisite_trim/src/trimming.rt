@@ -25,7 +25,8 @@ pub struct Trimmed {
 fn without(alloc: Global, diagram: &Diagram, from: usize, to: usize) -> Result<Diagram, AllocError>
     requires decision { IsDecision diagram.now.nodes to }
     requires arc { Arc diagram.now.nodes from to }
-    ensures { IfOk result (λ less. less ≡ with_nodes diagram.now (without_arc diagram.now.nodes from to)) }
+    ensures { IfOk result (λ less.
+        less ≡ with_nodes diagram.now (without_arc diagram.now.nodes from to)) }
 {
     match remove_arc(alloc, diagram, from, to) {
         Ok(less) => Ok(less),

@@ -41,8 +41,10 @@ fn answer_decision(
     requires rules { HasSmallRules diagram.now.nodes base.now decision }
     requires bound { KeepsScopedBounds diagram.now }
     requires planned { ArePlansOf diagram.now.nodes decision plans.now.rows plans.now.goals.items }
-    requires ready { (cells : ℕ) × IsReady cells masses.old × IsReady cells gains.old × HasRoomAt diagram.now.nodes decision cells }
-    ensures rows { IfOk result (λ v. IsAnsweredBy diagram.now.nodes diagram.now.decimals base.now decision v.items) }
+    requires ready { (cells : ℕ) × IsReady cells masses.old × IsReady cells gains.old
+        × HasRoomAt diagram.now.nodes decision cells }
+    ensures rows { IfOk result (λ v.
+        IsAnsweredBy diagram.now.nodes diagram.now.decimals base.now decision v.items) }
     ensures again { OnOk result ((masses.new ≡ masses.old) × (gains.new ≡ gains.old)) }
 {
     // The part of the scope has the whole's best states, rows without mass and fractions.
@@ -76,8 +78,10 @@ pub(crate) fn answer_all(
     requires relevance { IsRelevance diagram.now.nodes relevance.now }
     requires order { IsRelianceOrder diagram.now.nodes order.now }
     requires planned { ArePlans diagram.now.nodes order.now plans.now }
-    requires ready { (cells : ℕ) × IsReady cells masses.old × IsReady cells gains.old × ((d : ℕ) → IsDecision diagram.now.nodes d → HasRoomAt diagram.now.nodes d cells) }
-    ensures answers { IfOk result (λ v. AnswersAll diagram.now.nodes diagram.now.decimals order.now v.items) }
+    requires ready { (cells : ℕ) × IsReady cells masses.old × IsReady cells gains.old
+        × ((d : ℕ) → IsDecision diagram.now.nodes d → HasRoomAt diagram.now.nodes d cells) }
+    ensures answers { IfOk result (λ v.
+        AnswersAll diagram.now.nodes diagram.now.decimals order.now v.items) }
     ensures again { OnOk result ((masses.new ≡ masses.old) × (gains.new ≡ gains.old)) }
 {
     let mut answers = Vec::with_capacity(alloc, order.len())?;

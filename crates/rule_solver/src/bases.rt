@@ -25,8 +25,10 @@ pub fn base_of(
     requires relevance { IsRelevance diagram.now.nodes relevance.now }
     requires fits { All (FitsAnswer diagram.now.nodes) answers.now }
     requires once { AllDifferent (map (λ a. a.decision) answers.now) }
-    requires relied { (e : ℕ) → ReliesOn diagram.now.nodes decision e → Contains (map (λ a. a.decision) answers.now) e }
-    ensures base { IfOk result (IsBase diagram.now.nodes (pure_profile diagram.now.nodes answers.now) decision) }
+    requires relied { (e : ℕ) → ReliesOn diagram.now.nodes decision e
+        → Contains (map (λ a. a.decision) answers.now) e }
+    ensures base { IfOk result (IsBase diagram.now.nodes
+        (pure_profile diagram.now.nodes answers.now) decision) }
     ensures room { IfOk result (KeepsStates diagram.now.nodes) }
 {
     // A profile has a rule for each decision.

@@ -55,10 +55,15 @@ impl<'a> Setting<'a> {
         plan: &Plan,
         work: &mut Workspace<Mass>,
     ) -> Result<Vec<u128>, AllocError>
-        requires setting { IsSetting self.now.diagram.now self.now.base.now self.now.decision self.now.totals.now self.now.scope }
-        requires planned { IsPlanned self.now.diagram.now.nodes (row_plan self.now.diagram.now.nodes self.now.decision) plan.now }
-        requires ready { (cells : ℕ) × IsReady cells work.old × HasAtMost self.now.diagram.now.nodes (row_plan self.now.diagram.now.nodes self.now.decision) cells }
-        ensures masses { IfOk result (λ masses. HasMasses self.now.diagram.now self.now.base.now self.now.decision masses.items) }
+        requires setting { IsSetting self.now.diagram.now self.now.base.now self.now.decision
+            self.now.totals.now self.now.scope }
+        requires planned { IsPlanned self.now.diagram.now.nodes
+            (row_plan self.now.diagram.now.nodes self.now.decision) plan.now }
+        requires ready { (cells : ℕ) × IsReady cells work.old
+            × HasAtMost self.now.diagram.now.nodes
+            (row_plan self.now.diagram.now.nodes self.now.decision) cells }
+        ensures masses { IfOk result (λ masses.
+            HasMasses self.now.diagram.now self.now.base.now self.now.decision masses.items) }
         ensures again { OnOk result (work.new ≡ work.old) }
     {
         plans_sum_scopes();
@@ -91,12 +96,17 @@ impl<'a> Setting<'a> {
         work: &mut Workspace<Gain>,
         gains: &mut [i128],
     ) -> Result<(), AllocError>
-        requires setting { IsSetting self.now.diagram.now self.now.base.now self.now.decision self.now.totals.now self.now.scope }
+        requires setting { IsSetting self.now.diagram.now self.now.base.now self.now.decision
+            self.now.totals.now self.now.scope }
         requires goal { IsGoal self.now.diagram.now.nodes self.now.decision goal }
-        requires planned { IsPlanned self.now.diagram.now.nodes (gain_plan self.now.diagram.now.nodes self.now.decision goal) plan.now }
-        requires ready { (cells : ℕ) × IsReady cells work.old × HasAtMost self.now.diagram.now.nodes (gain_plan self.now.diagram.now.nodes self.now.decision goal) cells }
+        requires planned { IsPlanned self.now.diagram.now.nodes
+            (gain_plan self.now.diagram.now.nodes self.now.decision goal) plan.now }
+        requires ready { (cells : ℕ) × IsReady cells work.old
+            × HasAtMost self.now.diagram.now.nodes
+            (gain_plan self.now.diagram.now.nodes self.now.decision goal) cells }
         requires room { HasRoomFor self.now.diagram.now self.now.decision goal gains.old }
-        ensures adds { OnOk result (AddsGoal self.now.diagram.now.nodes self.now.base.now self.now.decision goal gains.old gains.new) }
+        ensures adds { OnOk result (AddsGoal self.now.diagram.now.nodes self.now.base.now
+            self.now.decision goal gains.old gains.new) }
         ensures again { OnOk result (work.new ≡ work.old) }
         ensures len { length gains.new ≡ length gains.old }
     {
@@ -124,10 +134,19 @@ impl<'a> Setting<'a> {
         plans: &[Plan],
         work: &mut Workspace<Gain>,
     ) -> Result<Vec<i128>, AllocError>
-        requires setting { IsSetting self.now.diagram.now self.now.base.now self.now.decision self.now.totals.now self.now.scope }
-        requires planned { AllZip (IsPlanned self.now.diagram.now.nodes) (map (λ u. gain_plan self.now.diagram.now.nodes self.now.decision u) (goal_list self.now.diagram.now.nodes self.now.decision)) plans.now }
-        requires ready { (cells : ℕ) × IsReady cells work.old × ((u : ℕ) → IsGoal self.now.diagram.now.nodes self.now.decision u → HasAtMost self.now.diagram.now.nodes (gain_plan self.now.diagram.now.nodes self.now.decision u) cells) }
-        ensures gains { IfOk result (λ gains. HasGoals self.now.diagram.now.nodes self.now.base.now self.now.decision (goals_of self.now.diagram.now.nodes self.now.decision) gains.items) }
+        requires setting { IsSetting self.now.diagram.now self.now.base.now self.now.decision
+            self.now.totals.now self.now.scope }
+        requires planned { AllZip (IsPlanned self.now.diagram.now.nodes)
+            (map (λ u. gain_plan self.now.diagram.now.nodes self.now.decision u)
+            (goal_list self.now.diagram.now.nodes self.now.decision))
+            plans.now }
+        requires ready { (cells : ℕ) × IsReady cells work.old
+            × ((u : ℕ) → IsGoal self.now.diagram.now.nodes self.now.decision u
+            → HasAtMost self.now.diagram.now.nodes
+            (gain_plan self.now.diagram.now.nodes self.now.decision u) cells) }
+        ensures gains { IfOk result (λ gains.
+            HasGoals self.now.diagram.now.nodes self.now.base.now self.now.decision
+            (goals_of self.now.diagram.now.nodes self.now.decision) gains.items) }
         ensures again { OnOk result (work.new ≡ work.old) }
     {
         plans_keep_scopes();
@@ -148,11 +167,18 @@ impl<'a> Setting<'a> {
         masses: &mut Workspace<Mass>,
         gains: &mut Workspace<Gain>,
     ) -> Result<RowSums, AllocError>
-        requires setting { IsSetting self.now.diagram.now self.now.base.now self.now.decision self.now.totals.now self.now.scope }
-        requires planned { ArePlansOf self.now.diagram.now.nodes self.now.decision plans.now.rows plans.now.goals.items }
-        requires ready { (cells : ℕ) × IsReady cells masses.old × IsReady cells gains.old × HasRoomAt self.now.diagram.now.nodes self.now.decision cells }
-        ensures sums { IfOk result (λ sums. IsRowSums self.now.diagram.now.nodes self.now.base.now self.now.decision sums.gains.items sums.masses.items) }
-        ensures room { IfOk result (λ sums. KeepsRoom self.now.diagram.now.nodes self.now.decision sums.gains.items sums.masses.items) }
+        requires setting { IsSetting self.now.diagram.now self.now.base.now self.now.decision
+            self.now.totals.now self.now.scope }
+        requires planned { ArePlansOf self.now.diagram.now.nodes self.now.decision plans.now.rows
+            plans.now.goals.items }
+        requires ready { (cells : ℕ) × IsReady cells masses.old × IsReady cells gains.old
+            × HasRoomAt self.now.diagram.now.nodes self.now.decision cells }
+        ensures sums { IfOk result (λ sums.
+            IsRowSums self.now.diagram.now.nodes self.now.base.now self.now.decision
+            sums.gains.items sums.masses.items) }
+        ensures room { IfOk result (λ sums.
+            KeepsRoom self.now.diagram.now.nodes self.now.decision sums.gains.items
+            sums.masses.items) }
         ensures again { OnOk result ((masses.new ≡ masses.old) × (gains.new ≡ gains.old)) }
     {
         plans_sum_scopes();
@@ -166,7 +192,8 @@ impl<'a> Setting<'a> {
 fn most_cells(plans: &DecisionPlans) -> u128
     ensures rows { plans.now.rows.size.cells ≤ result }
     ensures goals { All (λ plan. plan.size.cells ≤ result) plans.now.goals.items }
-    ensures least { (n : ℕ) → plans.now.rows.size.cells ≤ n → All (λ plan. plan.size.cells ≤ n) plans.now.goals.items → result ≤ n }
+    ensures least { (n : ℕ) → plans.now.rows.size.cells ≤ n
+        → All (λ plan. plan.size.cells ≤ n) plans.now.goals.items → result ≤ n }
 {
     let mut most = plans.rows.size().cells;
     for plan in &plans.goals {
@@ -197,7 +224,8 @@ pub fn row_sums(
     requires rules { HasSmallRules diagram.now.nodes profile.now decision }
     requires bound { KeepsScopedBounds diagram.now }
     requires room { HasRoomAt diagram.now.nodes decision MOST_PLAN_CELLS }
-    ensures { IfOk result (λ sums. IsRowSums diagram.now.nodes profile.now decision sums.gains.items sums.masses.items) }
+    ensures { IfOk result (λ sums.
+        IsRowSums diagram.now.nodes profile.now decision sums.gains.items sums.masses.items) }
 {
     // A plan that is made again has as many cells.
     greedy_orders();

@@ -15,8 +15,11 @@ pub(crate) fn next_over(world: &mut World, diagram: &Diagram, nodes: &[usize])
     requires once { AllDifferent nodes.now }
     requires known { (v : ℕ) → Contains nodes.now v → v < length diagram.now.nodes }
     ensures world { IsWorld (counts_of diagram.now.nodes) world.new }
-    ensures row { row_from (states_of diagram.now.nodes) (world_of world.new) 0 nodes.now ≡ (row_from (states_of diagram.now.nodes) (world_of world.old) 0 nodes.now + 1) % rows_under (states_of diagram.now.nodes) nodes.now }
-    ensures others { (v : ℕ) → (Contains nodes.now v → ⊥) → slice_index world.new v ≡ slice_index world.old v }
+    ensures row { row_from (states_of diagram.now.nodes) (world_of world.new) 0 nodes.now
+        ≡ (row_from (states_of diagram.now.nodes) (world_of world.old) 0 nodes.now + 1)
+        % rows_under (states_of diagram.now.nodes) nodes.now }
+    ensures others { (v : ℕ) → (Contains nodes.now v → ⊥)
+        → slice_index world.new v ≡ slice_index world.old v }
 {
     let mut i = nodes.len();
     while i > 0 {

@@ -37,8 +37,10 @@ pub(crate) fn list_scope(
 fn add_cell(gains: &mut [i128], at: usize, cell: Gain, factor: u128)
     requires at { at < length gains.old }
     requires factor { factor ≤ greatest_number }
-    requires room { nat_abs (slice_index_or gains.old at (pos 0)) + nat_abs (cell.0 *ℤ pos factor) ≤ greatest_number }
-    ensures { gains.new ≡ slice_set gains.old at (slice_index_or gains.old at (pos 0) +ℤ (cell.0 *ℤ pos factor)) }
+    requires room { nat_abs (slice_index_or gains.old at (pos 0)) + nat_abs (cell.0 *ℤ pos factor)
+        ≤ greatest_number }
+    ensures { gains.new
+        ≡ slice_set gains.old at (slice_index_or gains.old at (pos 0) +ℤ (cell.0 *ℤ pos factor)) }
 {
     gains[at] += cell.0 * factor as i128;
 }
@@ -60,11 +62,17 @@ pub(crate) fn add_gains(
 ) -> Result<(), AllocError>
     requires decision { IsDecision diagram.now.nodes decision }
     requires live { IsLive diagram.now.nodes work.now.cells slot.now }
-    requires scope { (v : ℕ) → IsIn slot.now.scope v ↔ Contains (decision ∷ parents_of diagram.now.nodes decision) v }
-    requires gains { length gains.old ≡ rows_of diagram.now.nodes decision * states_of diagram.now.nodes decision }
+    requires scope { (v : ℕ) → IsIn slot.now.scope v
+        ↔ Contains (decision ∷ parents_of diagram.now.nodes decision) v }
+    requires gains { length gains.old
+        ≡ rows_of diagram.now.nodes decision * states_of diagram.now.nodes decision }
     requires factor { factor ≤ greatest_number }
-    requires room { (q : ℕ → ℕ) → InRange (states_of diagram.now.nodes) q → nat_abs (gain_there gains.old diagram.now.nodes decision q) + nat_abs (((table_of gain_kind diagram.now.nodes work.now.cells slot.now).cell q).0 *ℤ pos factor) ≤ greatest_number }
-    ensures adds { OnOk result (AddsTable diagram.now.nodes decision (table_of gain_kind diagram.now.nodes work.now.cells slot.now) factor gains.old gains.new) }
+    requires room { (q : ℕ → ℕ) → InRange (states_of diagram.now.nodes) q
+        → nat_abs (gain_there gains.old diagram.now.nodes decision q)
+        + nat_abs (((table_of gain_kind diagram.now.nodes work.now.cells slot.now).cell q).0
+        *ℤ pos factor) ≤ greatest_number }
+    ensures adds { OnOk result (AddsTable diagram.now.nodes decision
+        (table_of gain_kind diagram.now.nodes work.now.cells slot.now) factor gains.old gains.new) }
     ensures stays { OnErr result (gains.new ≡ gains.old) }
     ensures len { length gains.new ≡ length gains.old }
 {
@@ -98,10 +106,14 @@ pub(crate) fn put_masses(
 ) -> Result<(), AllocError>
     requires decision { IsDecision diagram.now.nodes decision }
     requires live { IsLive diagram.now.nodes work.now.cells slot.now }
-    requires scope { (v : ℕ) → IsIn slot.now.scope v ↔ Contains (parents_of diagram.now.nodes decision) v }
+    requires scope { (v : ℕ) → IsIn slot.now.scope v
+        ↔ Contains (parents_of diagram.now.nodes decision) v }
     requires masses { length masses.old ≡ rows_of diagram.now.nodes decision }
-    requires room { (q : ℕ → ℕ) → InRange (states_of diagram.now.nodes) q → ((table_of mass_kind diagram.now.nodes work.now.cells slot.now).cell q).0 * factor ≤ greatest_number }
-    ensures puts { OnOk result (PutsTable diagram.now.nodes decision (table_of mass_kind diagram.now.nodes work.now.cells slot.now) factor masses.new) }
+    requires room { (q : ℕ → ℕ) → InRange (states_of diagram.now.nodes) q
+        → ((table_of mass_kind diagram.now.nodes work.now.cells slot.now).cell q).0 * factor
+        ≤ greatest_number }
+    ensures puts { OnOk result (PutsTable diagram.now.nodes decision
+        (table_of mass_kind diagram.now.nodes work.now.cells slot.now) factor masses.new) }
     ensures stays { OnErr result (masses.new ≡ masses.old) }
     ensures len { length masses.new ≡ length masses.old }
 {

@@ -39,7 +39,8 @@ fn answer_row(gains: &[i128], mass: u128, scale: u128) -> Row
     requires scale { 0 < scale }
     requires room { mass * scale ≤ greatest_number }
     requires small { All (λ gain. nat_abs gain ≤ greatest_number) gains.now }
-    ensures row { AnswersRow (λ s. slice_index_or gains.now s (pos 0)) (length gains.now) mass scale result }
+    ensures row { AnswersRow (λ s. slice_index_or gains.now s (pos 0)) (length gains.now) mass scale
+        result }
     ensures choice { result.choice < length gains.now }
     ensures reduced { IfSome result.worth IsReduced }
 {
@@ -60,9 +61,11 @@ fn answer_row(gains: &[i128], mass: u128, scale: u128) -> Row
 fn row_gains(gains: &[i128], rows: usize, states: usize, row: usize) -> &[i128]
     requires all { length gains.now ≡ rows * states }
     requires row { row < rows }
-    requires small { (i : ℕ) → i < length gains.now → nat_abs (slice_index_or gains.now i (pos 0)) ≤ greatest_number }
+    requires small { (i : ℕ) → i < length gains.now
+        → nat_abs (slice_index_or gains.now i (pos 0)) ≤ greatest_number }
     ensures count { length result.now ≡ states }
-    ensures gains { (s : ℕ) → s < states → slice_index_or result.now s (pos 0) ≡ gain_in gains.now states row s }
+    ensures gains { (s : ℕ) → s < states
+        → slice_index_or result.now s (pos 0) ≡ gain_in gains.now states row s }
     ensures small { All (λ gain. nat_abs gain ≤ greatest_number) result.now }
 {
     let start = row * states;
@@ -76,8 +79,10 @@ fn answer_at(gains: &[i128], masses: &[u128], states: usize, scale: u128, row: u
     requires scale { 0 < scale }
     requires row { row < length masses.now }
     requires room { slice_index masses.now row * scale ≤ greatest_number }
-    requires small { (i : ℕ) → i < length gains.now → nat_abs (slice_index_or gains.now i (pos 0)) ≤ greatest_number }
-    ensures row { AnswersRow (gain_in gains.now states row) states (slice_index masses.now row) scale result }
+    requires small { (i : ℕ) → i < length gains.now
+        → nat_abs (slice_index_or gains.now i (pos 0)) ≤ greatest_number }
+    ensures row { AnswersRow (gain_in gains.now states row) states (slice_index masses.now row)
+        scale result }
     ensures choice { result.choice < states }
     ensures reduced { IfSome result.worth IsReduced }
 {
@@ -100,9 +105,13 @@ pub(crate) fn answer_rows(
     requires all { length gains.now ≡ length masses.now * states }
     requires some { 0 < states }
     requires scale { 0 < scale }
-    requires room { (row : ℕ) → row < length masses.now → slice_index masses.now row * scale ≤ greatest_number }
-    requires small { (i : ℕ) → i < length gains.now → nat_abs (slice_index_or gains.now i (pos 0)) ≤ greatest_number }
-    ensures rows { IfOk result (λ v. AnswersRows (gain_in gains.now states) (slice_index masses.now) states scale (length masses.now) v.items) }
+    requires room { (row : ℕ) → row < length masses.now
+        → slice_index masses.now row * scale ≤ greatest_number }
+    requires small { (i : ℕ) → i < length gains.now
+        → nat_abs (slice_index_or gains.now i (pos 0)) ≤ greatest_number }
+    ensures rows { IfOk result (λ v.
+        AnswersRows (gain_in gains.now states) (slice_index masses.now) states scale
+        (length masses.now) v.items) }
 {
     let mut rows = Vec::with_capacity(alloc, masses.len())?;
     for row in 0..masses.len() {

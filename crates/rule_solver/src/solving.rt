@@ -103,9 +103,12 @@ pub fn solve(alloc: Global, diagram: &Diagram) -> Result<Solved, SolveFault>
     ensures rows { Passes solve_fault (solve_pass diagram.now) result }
     ensures ok { IfOk result (IsAnswer diagram.now) }
     // From no subgame start does an agent gain by other rules of its own.
-    ensures subgame_perfect { IfOk result (λ solved. IsSubgamePerfect diagram.now.nodes (answered diagram.now solved)) }
+    ensures subgame_perfect { IfOk result (λ solved.
+        IsSubgamePerfect diagram.now.nodes (answered diagram.now solved)) }
     // No profile is worth more to an agent that owns all decisions.
-    ensures optimal { IfOk result (λ solved. (agent : ℕ) → OwnsAll diagram.now.nodes agent → IsOptimal diagram.now.nodes (answered diagram.now solved) agent) }
+    ensures optimal { IfOk result (λ solved.
+        (agent : ℕ) → OwnsAll diagram.now.nodes agent
+        → IsOptimal diagram.now.nodes (answered diagram.now solved) agent) }
     // So what is printed for such an agent is the optimum of the diagram.
     ensures optimum { IfOk result (PrintsOptima diagram.now) }
     // In a row that the answered profile reaches, the printed worth is also that under the profile itself.

@@ -49,7 +49,8 @@ fn worth(
     requires profile { IsProfile diagram.now.nodes profile.now }
     requires rules { HasUnitRules diagram.now.nodes profile.now }
     requires bound { KeepsScopedBounds diagram.now }
-    requires ready { (cells : ℕ) × IsReady cells work.old × HasAtMost diagram.now.nodes (worth_plan utility) cells }
+    requires ready { (cells : ℕ) × IsReady cells work.old
+        × HasAtMost diagram.now.nodes (worth_plan utility) cells }
     ensures worth { IfOk result (IsWorth diagram.now.nodes profile.now utility) }
     ensures again { OnOk result (work.new ≡ work.old) }
 {
@@ -73,8 +74,11 @@ fn worth_or_none(
     requires profile { IsProfile diagram.now.nodes profile.now }
     requires rules { HasUnitRules diagram.now.nodes profile.now }
     requires bound { KeepsScopedBounds diagram.now }
-    requires ready { (cells : ℕ) × IsReady cells work.old × HasRoomForWorths diagram.now.nodes cells }
-    ensures worth { IfOk result (λ worth. (node_at diagram.now.nodes v).kind ≡ Utility → IsWorth diagram.now.nodes profile.now v worth) }
+    requires ready { (cells : ℕ) × IsReady cells work.old
+        × HasRoomForWorths diagram.now.nodes cells }
+    ensures worth { IfOk result (λ worth.
+        (node_at diagram.now.nodes v).kind ≡ Utility
+        → IsWorth diagram.now.nodes profile.now v worth) }
     ensures again { OnOk result (work.new ≡ work.old) }
 {
     match diagram.kind(v) {
@@ -93,7 +97,8 @@ fn list_worths(
     requires profile { IsProfile diagram.now.nodes profile.now }
     requires rules { HasUnitRules diagram.now.nodes profile.now }
     requires bound { KeepsScopedBounds diagram.now }
-    requires ready { (cells : ℕ) × IsReady cells work.old × HasRoomForWorths diagram.now.nodes cells }
+    requires ready { (cells : ℕ) × IsReady cells work.old
+        × HasRoomForWorths diagram.now.nodes cells }
     ensures worths { IfOk result (λ worths. HasWorths diagram.now.nodes profile.now worths.items) }
     ensures again { OnOk result (work.new ≡ work.old) }
 {
@@ -121,10 +126,13 @@ struct Stake<'a> {
 impl<'a> Stake<'a> {
     /// What the utility gives to the agent's gain: its worth times the totals of the scope's nodes that its plan lacks.
     fn given(&self, utility: usize) -> i128
-        requires stake { IsStake self.now.diagram.now self.now.profile.now self.now.agent self.now.totals.now self.now.worths.now self.now.scope }
+        requires stake { IsStake self.now.diagram.now self.now.profile.now self.now.agent
+            self.now.totals.now self.now.worths.now self.now.scope }
         requires within { utility < length self.now.diagram.now.nodes }
         requires owned { is_utility_of self.now.diagram.now.nodes self.now.agent utility ≡ true }
-        ensures { result ≡ gain_given self.now.diagram.now.nodes self.now.profile.now self.now.agent self.now.worths.now utility }
+        ensures { result
+            ≡ gain_given self.now.diagram.now.nodes self.now.profile.now self.now.agent
+            self.now.worths.now utility }
     {
         descent_is_tested();
         plans_keep_scopes();
@@ -136,9 +144,12 @@ impl<'a> Stake<'a> {
 
     /// The same of any node: 0 where it is none of the agent's utilities.
     fn given_by(&self, v: usize) -> i128
-        requires stake { IsStake self.now.diagram.now self.now.profile.now self.now.agent self.now.totals.now self.now.worths.now self.now.scope }
+        requires stake { IsStake self.now.diagram.now self.now.profile.now self.now.agent
+            self.now.totals.now self.now.worths.now self.now.scope }
         requires within { v < length self.now.diagram.now.nodes }
-        ensures { result ≡ gain_given self.now.diagram.now.nodes self.now.profile.now self.now.agent self.now.worths.now v }
+        ensures { result
+            ≡ gain_given self.now.diagram.now.nodes self.now.profile.now self.now.agent
+            self.now.worths.now v }
     {
         let owned = self.diagram.owns(self.agent, v);
         match self.diagram.kind(v) {
@@ -149,8 +160,10 @@ impl<'a> Stake<'a> {
 
     /// The agent's gain in the part of its scope.
     fn gain(&self) -> i128
-        requires stake { IsStake self.now.diagram.now self.now.profile.now self.now.agent self.now.totals.now self.now.worths.now self.now.scope }
-        ensures gain { result ≡ scope_gain_for self.now.diagram.now.nodes self.now.profile.now self.now.agent }
+        requires stake { IsStake self.now.diagram.now self.now.profile.now self.now.agent
+            self.now.totals.now self.now.worths.now self.now.scope }
+        ensures gain { result
+            ≡ scope_gain_for self.now.diagram.now.nodes self.now.profile.now self.now.agent }
         ensures small { nat_abs result ≤ greatest_number }
     {
         plans_sum_scopes();
@@ -164,8 +177,10 @@ impl<'a> Stake<'a> {
 
     /// What the profile is worth to the agent.
     fn expected(&self) -> Ratio
-        requires stake { IsStake self.now.diagram.now self.now.profile.now self.now.agent self.now.totals.now self.now.worths.now self.now.scope }
-        ensures { IsExpectedUtility self.now.diagram.now.nodes (10 ^ self.now.diagram.now.decimals) self.now.profile.now self.now.agent result }
+        requires stake { IsStake self.now.diagram.now self.now.profile.now self.now.agent
+            self.now.totals.now self.now.worths.now self.now.scope }
+        ensures { IsExpectedUtility self.now.diagram.now.nodes (10 ^ self.now.diagram.now.decimals)
+            self.now.profile.now self.now.agent result }
     {
         // The part of the scope has the whole's fraction, and its mass is the product of the scope's totals.
         scopes_are_parts();
@@ -186,7 +201,8 @@ pub(crate) fn expected_in(
     requires bound { KeepsScopedBounds diagram.now }
     requires profile { IsProfile diagram.now.nodes profile.now }
     requires pure { HasUnitRules diagram.now.nodes profile.now }
-    requires ready { (cells : ℕ) × IsReady cells work.old × HasRoomForWorths diagram.now.nodes cells }
+    requires ready { (cells : ℕ) × IsReady cells work.old
+        × HasRoomForWorths diagram.now.nodes cells }
     ensures gains { IfOk result (λ v. HasGains diagram.now profile.now diagram.now.agents v.items) }
 {
     let totals = list_totals(alloc, diagram, profile)?;
@@ -210,8 +226,11 @@ pub(crate) fn expected_in(
 fn worth_cells(alloc: Global, diagram: &Diagram, v: usize) -> Result<usize, AllocError>
     requires within { v < length diagram.now.nodes }
     requires room { HasRoomForWorths diagram.now.nodes MOST_PLAN_CELLS }
-    ensures room { IfOk result (λ cells. (node_at diagram.now.nodes v).kind ≡ Utility → HasAtMost diagram.now.nodes (worth_plan v) cells) }
-    ensures least { IfOk result (λ cells. (fewer : ℕ) → HasRoomForWorths diagram.now.nodes fewer → cells ≤ fewer) }
+    ensures room { IfOk result (λ cells.
+        (node_at diagram.now.nodes v).kind ≡ Utility
+        → HasAtMost diagram.now.nodes (worth_plan v) cells) }
+    ensures least { IfOk result (λ cells.
+        (fewer : ℕ) → HasRoomForWorths diagram.now.nodes fewer → cells ≤ fewer) }
 {
     greedy_orders();
     match diagram.kind(v) {

@@ -25,7 +25,10 @@ pub struct DecisionPlans {
 /// The plans of a decision's states, one for each of its goals in text order.
 fn plan_goals(alloc: Global, diagram: &Diagram, decision: usize) -> Result<Vec<Plan>, AllocError>
     requires { IsDecision diagram.now.nodes decision }
-    ensures { IfOk result (λ plans. AllZip (IsPlanned diagram.now.nodes) (map (λ u. gain_plan diagram.now.nodes decision u) (goal_list diagram.now.nodes decision)) plans.items) }
+    ensures { IfOk result (λ plans.
+        AllZip (IsPlanned diagram.now.nodes)
+        (map (λ u. gain_plan diagram.now.nodes decision u)
+        (goal_list diagram.now.nodes decision)) plans.items) }
 {
     descent_is_tested();
     let goals = list_members(alloc, &goals_of(diagram, decision))?;
@@ -44,7 +47,8 @@ pub fn plan_decision(
     decision: usize,
 ) -> Result<DecisionPlans, AllocError>
     requires { IsDecision diagram.now.nodes decision }
-    ensures { IfOk result (λ plans. ArePlansOf diagram.now.nodes decision plans.rows plans.goals.items) }
+    ensures { IfOk result (λ plans.
+        ArePlansOf diagram.now.nodes decision plans.rows plans.goals.items) }
 {
     let rows = plan_rows(alloc, diagram, decision)?;
     let goals = plan_goals(alloc, diagram, decision)?;

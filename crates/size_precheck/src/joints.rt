@@ -54,7 +54,9 @@ pub fn put_table(joints: &mut [Joint], at: &NodeSet, table: &Table, gone: &NodeS
     requires tag { table.now.tag < MOST_NODES }
     requires within { (y : ℕ) → IsIn at.now y → y < length joints.old }
     ensures len { length joints.new ≡ length joints.old }
-    ensures put { (y : ℕ) → IsIn at.now y → IsPut table.now (IsIn gone.now) (IsIn out.now) (joint_at joints.old y) (joint_at joints.new y) }
+    ensures put { (y : ℕ) → IsIn at.now y
+        → IsPut table.now (IsIn gone.now) (IsIn out.now) (joint_at joints.old y)
+        (joint_at joints.new y) }
     ensures same { (y : ℕ) → (IsIn at.now y → ⊥) → joint_at joints.new y ≡ joint_at joints.old y }
 {
     let mut from = 0;

@@ -14,7 +14,8 @@ use std::alloc::{AllocError, Global};
 /// The plan of a decision's rows: its parents are kept. What it sums to is the mass of each row.
 pub fn plan_rows(alloc: Global, diagram: &Diagram, decision: usize) -> Result<Plan, AllocError>
     requires { IsDecision diagram.now.nodes decision }
-    ensures asked { OnOk result (CanBePlanned diagram.now.nodes (row_plan diagram.now.nodes decision)) }
+    ensures asked { OnOk result (CanBePlanned diagram.now.nodes
+        (row_plan diagram.now.nodes decision)) }
     ensures made { IfOk result (IsMade diagram.now.nodes (row_plan diagram.now.nodes decision)) }
 {
     let parents = diagram.parents(decision);
@@ -31,8 +32,10 @@ pub fn plan_gain(
 ) -> Result<Plan, AllocError>
     requires decision { IsDecision diagram.now.nodes decision }
     requires goal { IsGoal diagram.now.nodes decision goal }
-    ensures asked { OnOk result (CanBePlanned diagram.now.nodes (gain_plan diagram.now.nodes decision goal)) }
-    ensures made { IfOk result (IsMade diagram.now.nodes (gain_plan diagram.now.nodes decision goal)) }
+    ensures asked { OnOk result (CanBePlanned diagram.now.nodes (gain_plan diagram.now.nodes
+        decision goal)) }
+    ensures made { IfOk result (IsMade diagram.now.nodes (gain_plan diagram.now.nodes decision
+        goal)) }
 {
     let parents = diagram.parents(decision);
     let mut keep = Vec::with_capacity(alloc, MOST_PARENTS + 1)?;

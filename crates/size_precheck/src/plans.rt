@@ -30,7 +30,12 @@ impl Model for Plan {
 
     ghost Value = { SizedPlan };
 
-    ghost view = { λ p. record { plan = record { keep = p.keep.items; without = p.without; utility = p.utility }; steps = p.steps.items; size = p.size } };
+    ghost view = { λ p.
+        record {
+          plan = record { keep = p.keep.items; without = p.without; utility = p.utility };
+          steps = p.steps.items;
+          size = p.size;
+        } };
 }
 
 impl Plan {
@@ -64,8 +69,10 @@ impl Plan {
 
     /// The nodes of the plan: those that it keeps, and those that it eliminates. It takes no memory.
     pub fn members(&self) -> NodeSet
-        requires { (v : ℕ) → (Contains self.now.plan.keep v ⊎ Contains self.now.steps v) → v < MOST_NODES }
-        ensures { (v : ℕ) → IsIn result v ↔ (Contains self.now.plan.keep v ⊎ Contains self.now.steps v) }
+        requires { (v : ℕ) → (Contains self.now.plan.keep v ⊎ Contains self.now.steps v)
+            → v < MOST_NODES }
+        ensures { (v : ℕ) → IsIn result v
+            ↔ (Contains self.now.plan.keep v ⊎ Contains self.now.steps v) }
     {
         let mut nodes = set_of(self.keep());
         nodes.insert_all(self.steps());
@@ -95,8 +102,16 @@ pub fn make_plan(
     without: Option<usize>,
     utility: Option<usize>,
 ) -> Result<Plan, AllocError>
-    requires { CanBePlanned diagram.now.nodes (record { keep = keep.now; without = without; utility = utility }) }
-    ensures { IfOk result (IsMade diagram.now.nodes (record { keep = keep.now; without = without; utility = utility })) }
+    requires { CanBePlanned diagram.now.nodes (record {
+      keep = keep.now;
+      without = without;
+      utility = utility;
+    }) }
+    ensures { IfOk result (IsMade diagram.now.nodes (record {
+      keep = keep.now;
+      without = without;
+      utility = utility;
+    })) }
 {
     let counts = list_states(alloc, diagram)?;
     let states = counts.as_slice();

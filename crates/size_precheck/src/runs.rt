@@ -20,7 +20,10 @@ use std::alloc::{AllocError, Global};
 
 /// The greater cells of two sizes, and their work together.
 fn join_sizes(size: Size, other: Size) -> Size
-    ensures { result ≡ record { cells = max size.cells other.cells; work = stopped (size.work + other.work) } }
+    ensures { result ≡ record {
+      cells = max size.cells other.cells;
+      work = stopped (size.work + other.work);
+    } }
 {
     Size {
         cells: size.cells.max(other.cells),
@@ -31,7 +34,8 @@ fn join_sizes(size: Size, other: Size) -> Size
 /// Counts the plans of the decisions' rows in.
 fn include_rows(plans: &[DecisionPlans], size: Size) -> Size
     requires { size.work ≤ COUNT_END }
-    ensures { (nodes : List NodeView) (order : List ℕ) → ArePlans nodes order plans.now → Includes nodes (map (λ d. row_plan nodes d) order) size result }
+    ensures { (nodes : List NodeView) (order : List ℕ) → ArePlans nodes order plans.now
+        → Includes nodes (map (λ d. row_plan nodes d) order) size result }
 {
     let mut sum = size;
     for decision in plans {
@@ -44,7 +48,8 @@ fn include_rows(plans: &[DecisionPlans], size: Size) -> Size
 fn include_goals(plans: &[Plan], size: Size) -> Size
     requires { size.work ≤ COUNT_END }
     ensures few { result.work ≤ COUNT_END }
-    ensures counted { (nodes : List NodeView) (asked : List PlanView) → AllZip (IsPlanned nodes) asked plans.now → Includes nodes asked size result }
+    ensures counted { (nodes : List NodeView) (asked : List PlanView)
+        → AllZip (IsPlanned nodes) asked plans.now → Includes nodes asked size result }
 {
     let mut sum = size;
     for plan in plans {
@@ -56,7 +61,9 @@ fn include_goals(plans: &[Plan], size: Size) -> Size
 /// Counts the plans of all decisions' states in.
 fn include_all_goals(plans: &[DecisionPlans], size: Size) -> Size
     requires { size.work ≤ COUNT_END }
-    ensures { (nodes : List NodeView) (order : List ℕ) → ArePlans nodes order plans.now → Includes nodes (flat_map (λ d. map (λ u. gain_plan nodes d u) (goal_list nodes d)) order) size result }
+    ensures { (nodes : List NodeView) (order : List ℕ) → ArePlans nodes order plans.now
+        → Includes nodes (flat_map (λ d. map (λ u. gain_plan nodes d u) (goal_list nodes d)) order)
+        size result }
 {
     let mut sum = size;
     for decision in plans {
@@ -69,7 +76,10 @@ fn include_all_goals(plans: &[DecisionPlans], size: Size) -> Size
 fn include_worth(alloc: Global, diagram: &Diagram, u: usize, size: Size) -> Result<Size, AllocError>
     requires within { u < length diagram.now.nodes }
     requires few { size.work ≤ COUNT_END }
-    ensures { IfOk result (λ after. Includes diagram.now.nodes (map (λ x. worth_plan x) (filter (λ x. is_utility (node_at diagram.now.nodes x).kind) (u ∷ []))) size after) }
+    ensures { IfOk result (λ after.
+        Includes diagram.now.nodes
+        (map (λ x. worth_plan x) (filter (λ x. is_utility (node_at diagram.now.nodes x).kind)
+        (u ∷ []))) size after) }
 {
     match diagram.kind(u) {
         Kind::Utility => {
@@ -83,7 +93,9 @@ fn include_worth(alloc: Global, diagram: &Diagram, u: usize, size: Size) -> Resu
 /// Counts the plans of the utilities' worths in.
 fn include_worths(alloc: Global, diagram: &Diagram, size: Size) -> Result<Size, AllocError>
     requires { size.work ≤ COUNT_END }
-    ensures { IfOk result (λ after. Includes diagram.now.nodes (map (λ u. worth_plan u) (utility_list diagram.now.nodes)) size after) }
+    ensures { IfOk result (λ after.
+        Includes diagram.now.nodes (map (λ u. worth_plan u) (utility_list diagram.now.nodes)) size
+        after) }
 {
     let mut sum = size;
     for u in 0..diagram.count() {

@@ -66,8 +66,10 @@ fn count_sets(states: &[u64], joints: &[Joint], cells: &mut [u64], nodes: &NodeS
     requires len { length cells.old ≡ length joints.now }
     requires within { (y : ℕ) → IsIn nodes.now y → y < length joints.now }
     ensures len { length cells.new ≡ length cells.old }
-    ensures counted { (y : ℕ) → IsIn nodes.now y → slice_index cells.new y ≡ counted_over states.now (holds (joint_at joints.now y).set) }
-    ensures same { (y : ℕ) → (IsIn nodes.now y → ⊥) → slice_index cells.new y ≡ slice_index cells.old y }
+    ensures counted { (y : ℕ) → IsIn nodes.now y
+        → slice_index cells.new y ≡ counted_over states.now (holds (joint_at joints.now y).set) }
+    ensures same { (y : ℕ) → (IsIn nodes.now y → ⊥)
+        → slice_index cells.new y ≡ slice_index cells.old y }
 {
     let mut from = 0;
     'nodes: while let Some(y) = nodes.first_from(from) {
@@ -112,7 +114,9 @@ fn eliminate(
     ensures cells_len { length cells.new ≡ length cells.old }
     ensures few { result.cells ≤ COUNT_END }
     ensures little { result.work ≤ COUNT_END }
-    ensures step { (nodes : List NodeView) (live : List Table) → AreStates nodes states.now → Stands states.now (λ y. IsIn waiting.now y ⊎ (y ≡ v)) live joints.old cells.old → IsStep nodes states.now (IsIn waiting.now) v live joints.new cells.new result }
+    ensures step { (nodes : List NodeView) (live : List Table) → AreStates nodes states.now
+        → Stands states.now (λ y. IsIn waiting.now y ⊎ (y ≡ v)) live joints.old cells.old
+        → IsStep nodes states.now (IsIn waiting.now) v live joints.new cells.new result }
 {
     let joint = joint_of(joints, v);
     let mut scope = joint.set;
@@ -143,10 +147,15 @@ pub fn eliminate_all(
     waiting: NodeSet,
 ) -> Result<Run, AllocError>
     requires states { length states.now ≡ MOST_NODES }
-    requires within { (y : ℕ) → IsIn waiting y → (y < length start.joints.items) × (y < MOST_NODES) }
+    requires within { (y : ℕ) → IsIn waiting y
+        → (y < length start.joints.items) × (y < MOST_NODES) }
     requires few { start.live ≤ MOST_NODES + 1 }
-    requires started { (nodes : List NodeView) × (scopes : List (ℕ → Bool)) × IsStarted nodes states.now (IsIn waiting) scopes start }
-    ensures run { IfOk result (λ run. (nodes : List NodeView) (scopes : List (ℕ → Bool)) → IsStarted nodes states.now (IsIn waiting) scopes start → IsRun nodes (IsIn waiting) scopes run) }
+    requires started { (nodes : List NodeView) × (scopes : List (ℕ → Bool))
+        × IsStarted nodes states.now (IsIn waiting) scopes start }
+    ensures run { IfOk result (λ run.
+        (nodes : List NodeView) (scopes : List (ℕ → Bool))
+        → IsStarted nodes states.now (IsIn waiting) scopes start
+        → IsRun nodes (IsIn waiting) scopes run) }
     ensures few { IfOk result (λ run. run.cells ≤ COUNT_END) }
     ensures little { IfOk result (λ run. run.work ≤ COUNT_END) }
 {

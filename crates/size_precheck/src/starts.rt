@@ -45,9 +45,19 @@ pub fn set_of(list: &[usize]) -> NodeSet
 /// The nodes of a plan: those that are kept, and those from which a path of arcs leads to one of them or to the utility.
 pub fn plan_nodes(diagram: &Diagram, keep: &[usize], utility: Option<usize>) -> NodeSet
     requires diagram { IsDiagram diagram.now }
-    requires plan { IsPlan diagram.now.nodes (record { keep = keep.now; without = None; utility = utility }) }
+    requires plan { IsPlan diagram.now.nodes (record {
+      keep = keep.now;
+      without = None;
+      utility = utility;
+    }) }
     requires known { (u : ℕ) → utility ≡ Some u → u < length diagram.now.nodes }
-    ensures { (v : ℕ) → IsIn result v ↔ Contains (plan_nodes diagram.now.nodes (record { keep = keep.now; without = None; utility = utility })) v }
+    ensures { (v : ℕ) → IsIn result v
+        ↔ Contains
+        (plan_nodes diagram.now.nodes (record {
+          keep = keep.now;
+          without = None;
+          utility = utility;
+        })) v }
 {
     plan_scopes();
     let mut ends = set_of(keep);
@@ -80,7 +90,9 @@ fn put_first(states: &[u64], joints: &mut [Joint], waiting: &NodeSet, table: &Ta
     requires tag { table.now.tag < MOST_NODES }
     requires within { (y : ℕ) → IsIn waiting.now y → y < length joints.old }
     ensures len { length joints.new ≡ length joints.old }
-    ensures tells { (live : List Table) (y : ℕ) → IsIn waiting.now y → Tells live y (joint_at joints.old y) → Tells (live ++ table.now ∷ []) y (joint_at joints.new y) }
+    ensures tells { (live : List Table) (y : ℕ) → IsIn waiting.now y
+        → Tells live y (joint_at joints.old y)
+        → Tells (live ++ table.now ∷ []) y (joint_at joints.new y) }
     ensures cells { result ≡ counted_over states.now (holds table.now.scope) }
     ensures few { result ≤ COUNT_END }
 {
@@ -94,7 +106,8 @@ fn put_first(states: &[u64], joints: &mut [Joint], waiting: &NodeSet, table: &Ta
 fn node_table(diagram: &Diagram, v: usize) -> Table
     requires { v < length diagram.now.nodes }
     ensures tag { result.tag ≡ v }
-    ensures scope { (u : ℕ) → IsIn result.scope u ↔ ((u ≡ v) ⊎ Contains (parents_of diagram.now.nodes v) u) }
+    ensures scope { (u : ℕ) → IsIn result.scope u
+        ↔ ((u ≡ v) ⊎ Contains (parents_of diagram.now.nodes v) u) }
 {
     let parents = diagram.parents(v);
     let mut scope = NodeSet::of(v);
@@ -133,7 +146,12 @@ pub fn put_all_first(
     requires kept { (u : ℕ) → utility ≡ Some u → IsIn waiting.now u → ⊥ }
     ensures len { IfOk result (λ start. length start.joints.items ≡ length diagram.now.nodes) }
     ensures few { IfOk result (λ start. start.live ≤ MOST_NODES + 1) }
-    ensures started { IfOk result (λ start. (list : List ℕ) → IsListOf ruled.now list → IsStarted diagram.now.nodes states.now (IsIn waiting.now) (map (family_test diagram.now.nodes) list ++ map (parents_test diagram.now.nodes) (option_to_list utility)) start) }
+    ensures started { IfOk result (λ start.
+        (list : List ℕ) → IsListOf ruled.now list
+        → IsStarted diagram.now.nodes states.now (IsIn waiting.now)
+        (map (family_test diagram.now.nodes) list
+        ++ map (parents_test diagram.now.nodes) (option_to_list utility))
+        start) }
 {
     let mut joints = vec![in alloc; Joint::empty(); diagram.count()]?;
     let mut live = 0;

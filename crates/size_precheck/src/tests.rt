@@ -18,7 +18,8 @@ fn with_node(
     parents: &[usize],
     cells: &[i128],
 ) -> Result<Vec<Node>, AllocError>
-    ensures { IfOk result (λ more. more.items ≡ nodes.items ++ node_of kind states parents.now cells.now ∷ []) }
+    ensures { IfOk result (λ more.
+        more.items ≡ nodes.items ++ node_of kind states parents.now cells.now ∷ []) }
 {
     let mut nodes = nodes;
     let node = Node {

@@ -12,7 +12,8 @@ use std::alloc::{AllocError, Global};
 
 /// A copy of the rule, as that of a decision with this number.
 pub(crate) fn copy_rule(alloc: Global, rule: &Rule, decision: usize) -> Result<Rule, AllocError>
-    ensures { IfOk result (λ r. r ≡ record { decision = decision; total = rule.now.total; weights = rule.now.weights }) }
+    ensures { IfOk result (λ r.
+        r ≡ record { decision = decision; total = rule.now.total; weights = rule.now.weights }) }
 {
     Ok(Rule {
         decision,

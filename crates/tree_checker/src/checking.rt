@@ -77,7 +77,8 @@ pub fn check(alloc: Global, diagram: &Diagram, solved: &Solved) -> Result<Verdic
     requires leaves { world_count diagram.now.nodes ≤ MOST_LEAVES }
     ensures verdict { IfOk result (IsVerdict diagram.now solved.now) }
     // Whatever is accepted is subgame-perfect.
-    ensures sound { IfOk result (λ verdict. verdict ≡ Verdict.Accepted → IsSound diagram.now solved.now) }
+    ensures sound { IfOk result (λ verdict.
+        verdict ≡ Verdict.Accepted → IsSound diagram.now solved.now) }
 {
     accepted_reports_are_sound();
     let _count = diagram.count();

@@ -50,9 +50,14 @@ fn row_masses(
     cells: &[u128],
 ) -> Result<Vec<u128>, AllocError>
     requires decision { decision < length diagram.now.nodes }
-    requires cells { length cells.now ≡ rows_of diagram.now.nodes decision * states_of diagram.now.nodes decision }
-    ensures count { IfOk result (λ masses. length masses.items ≡ rows_of diagram.now.nodes decision) }
-    ensures masses { IfOk result (λ masses. (row : ℕ) → row < rows_of diagram.now.nodes decision → slice_index masses.items row ≡ slice_index cells.now (row * states_of diagram.now.nodes decision)) }
+    requires cells { length cells.now
+        ≡ rows_of diagram.now.nodes decision * states_of diagram.now.nodes decision }
+    ensures count { IfOk result (λ masses.
+        length masses.items ≡ rows_of diagram.now.nodes decision) }
+    ensures masses { IfOk result (λ masses.
+        (row : ℕ) → row < rows_of diagram.now.nodes decision
+        → slice_index masses.items row
+        ≡ slice_index cells.now (row * states_of diagram.now.nodes decision)) }
 {
     let states = diagram.states(decision);
     let mut masses = Vec::new(alloc);
@@ -71,8 +76,11 @@ fn sums_over(
 ) -> Result<RowSums, AllocError>
     requires decision { IsDecision diagram.now.nodes decision }
     requires profile { IsProfile diagram.now.nodes profile.now }
-    requires fits { base_mass diagram.now.nodes profile.now decision * max (10 ^ diagram.now.decimals) (greatest_utility diagram.now.nodes) ≤ greatest_number }
-    ensures { IfOk result (λ sums. ListsSums diagram.now profile.now decision sums.gains.items sums.masses.items) }
+    requires fits { base_mass diagram.now.nodes profile.now decision
+        * max (10 ^ diagram.now.decimals) (greatest_utility diagram.now.nodes)
+        ≤ greatest_number }
+    ensures { IfOk result (λ sums.
+        ListsSums diagram.now profile.now decision sums.gains.items sums.masses.items) }
 {
     let _count = diagram.count();
     let goals = goals_of(diagram, decision);
@@ -95,7 +103,8 @@ pub(crate) fn scope_sums(
     requires base { IsProfile diagram.now.nodes base.now }
     requires rules { HasSmallRules diagram.now.nodes base.now decision }
     requires bound { KeepsScopedBounds diagram.now }
-    ensures { IfOk result (λ sums. ListsScopeSums diagram.now base.now decision sums.gains.items sums.masses.items) }
+    ensures { IfOk result (λ sums.
+        ListsScopeSums diagram.now base.now decision sums.gains.items sums.masses.items) }
 {
     // The part is a diagram with the decision in it, and its sums have room.
     parts_are_diagrams();

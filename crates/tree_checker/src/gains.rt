@@ -79,7 +79,8 @@ pub fn mass_of(diagram: &Diagram, profile: &Profile) -> u128
 /// The set of the agent's utilities.
 fn marks_of(diagram: &Diagram, agent: usize) -> NodeSet
     ensures utilities { MarksUtilities diagram.now.nodes result }
-    ensures marks { (v : ℕ) → v < length diagram.now.nodes → holds result v ≡ is_utility_of diagram.now.nodes agent v }
+    ensures marks { (v : ℕ) → v < length diagram.now.nodes
+        → holds result v ≡ is_utility_of diagram.now.nodes agent v }
 {
     let mut marks = NodeSet::empty();
     for v in 0..diagram.count() {
@@ -99,7 +100,9 @@ fn gain_over(
     agent: usize,
 ) -> Result<i128, AllocError>
     requires profile { IsProfile diagram.now.nodes profile.now }
-    requires fits { mass diagram.now.nodes profile.now * max (10 ^ diagram.now.decimals) (greatest_utility diagram.now.nodes) ≤ greatest_number }
+    requires fits { mass diagram.now.nodes profile.now
+        * max (10 ^ diagram.now.decimals) (greatest_utility diagram.now.nodes)
+        ≤ greatest_number }
     ensures sum { IfOk result (λ sum. sum ≡ gain_of diagram.now.nodes profile.now agent) }
     ensures small { IfOk result (λ sum. nat_abs sum ≤ greatest_number) }
 {
@@ -122,7 +125,10 @@ fn is_gain(
     requires pure { HasUnitRules diagram.now.nodes chosen.now }
     requires bound { KeepsScopedBounds diagram.now }
     requires reduced { IsReduced gain.now }
-    ensures { IfOk result (λ is. IsTrue is ↔ IsExpectedUtility diagram.now.nodes (10 ^ diagram.now.decimals) chosen.now agent gain.now) }
+    ensures { IfOk result (λ is.
+        IsTrue is
+        ↔ IsExpectedUtility diagram.now.nodes (10 ^ diagram.now.decimals) chosen.now agent
+        gain.now) }
 {
     let _count = diagram.count();
     let utilities = utilities_of(alloc, diagram, agent)?;

@@ -48,9 +48,13 @@ pub(crate) fn stage_of(
 ) -> Result<Stage, AllocError>
     requires of { (v : ℕ) → Contains of.now v → v < length diagram.now.nodes }
     requires profile { IsProfile diagram.now.nodes profile.now }
-    ensures nodes { IfOk result (λ stage. stage.part.nodes.items ≡ with_ancestors diagram.now.nodes of.now) }
-    ensures diagram { IfOk result (λ stage. stage.part.diagram ≡ part_diagram diagram.now (with_ancestors diagram.now.nodes of.now)) }
-    ensures rules { IfOk result (λ stage. stage.rules ≡ rules_in diagram.now.nodes profile.now (with_ancestors diagram.now.nodes of.now)) }
+    ensures nodes { IfOk result (λ stage.
+        stage.part.nodes.items ≡ with_ancestors diagram.now.nodes of.now) }
+    ensures diagram { IfOk result (λ stage.
+        stage.part.diagram ≡ part_diagram diagram.now (with_ancestors diagram.now.nodes of.now)) }
+    ensures rules { IfOk result (λ stage.
+        stage.rules
+        ≡ rules_in diagram.now.nodes profile.now (with_ancestors diagram.now.nodes of.now)) }
 {
     // Nodes and all their ancestors have with each node its parents.
     parts_are_diagrams();

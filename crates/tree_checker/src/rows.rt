@@ -51,7 +51,8 @@ pub(crate) fn is_fraction(ratio: Ratio, num: i128, den: u128) -> bool
 /// Whether some state has a greater gain than the choice.
 fn has_better(gains: &[i128], choice: usize) -> bool
     requires { choice < length gains.now }
-    ensures { IsTrue result ↔ HasBetter (λ s. slice_index_or gains.now s (pos 0)) (length gains.now) choice }
+    ensures { IsTrue result
+        ↔ HasBetter (λ s. slice_index_or gains.now s (pos 0)) (length gains.now) choice }
 {
     let chosen = gains[choice];
     for gain in gains {
@@ -69,7 +70,8 @@ fn row_fault(row: &Row, gains: &[i128], mass: u128, scale: u128) -> Option<Cause
     requires scale { 0 < scale }
     requires room { mass * scale ≤ greatest_number }
     requires small { All (λ gain. nat_abs gain ≤ greatest_number) gains.now }
-    ensures { JudgesRow (λ s. slice_index_or gains.now s (pos 0)) (length gains.now) (pos mass) scale row.now result }
+    ensures { JudgesRow (λ s. slice_index_or gains.now s (pos 0)) (length gains.now) (pos mass)
+        scale row.now result }
 {
     let Some(worth) = row.worth else {
         return if mass == 0 { None } else { Some(Cause::Never) };
@@ -91,7 +93,9 @@ fn row_gains(gains: &[i128], rows: usize, states: usize, row: usize) -> &[i128]
     requires row { row < rows }
     requires small { (i : ℕ) → nat_abs (slice_index_or gains.now i (pos 0)) ≤ greatest_number }
     ensures count { length result.now ≡ states }
-    ensures gains { (s : ℕ) → s < states → slice_index_or result.now s (pos 0) ≡ slice_index_or gains.now (row * states + s) (pos 0) }
+    ensures gains { (s : ℕ) → s < states
+        → slice_index_or result.now s (pos 0)
+        ≡ slice_index_or gains.now (row * states + s) (pos 0) }
     ensures small { All (λ gain. nat_abs gain ≤ greatest_number) result.now }
 {
     let start = row * states;
@@ -106,8 +110,10 @@ fn first_fault(rows: &[Row], sums: &RowSums, states: usize, scale: u128) -> Opti
     requires reduced { All (λ row. IfSome row.worth IsReduced) rows.now }
     requires scale { 0 < scale }
     requires room { (row : ℕ) → slice_index sums.now.masses.items row * scale ≤ greatest_number }
-    requires small { (i : ℕ) → nat_abs (slice_index_or sums.now.gains.items i (pos 0)) ≤ greatest_number }
-    ensures { JudgesRows (PassesListed sums.now.gains.items sums.now.masses.items states scale) (FailsListed sums.now.gains.items sums.now.masses.items states scale) rows.now result }
+    requires small { (i : ℕ) → nat_abs (slice_index_or sums.now.gains.items i (pos 0))
+        ≤ greatest_number }
+    ensures { JudgesRows (PassesListed sums.now.gains.items sums.now.masses.items states scale)
+        (FailsListed sums.now.gains.items sums.now.masses.items states scale) rows.now result }
 {
     for (place, row) in rows.iter().enumerate() {
         let gains = row_gains(&sums.gains, rows.len(), states, place);

@@ -63,7 +63,8 @@ fn place(diagram: &Diagram, left_out: usize, world: &World) -> usize
     requires decision { left_out ≤ length diagram.now.nodes }
     requires world { IsWorld (counts_of diagram.now.nodes) world.now }
     ensures place { result ≡ cell_of diagram.now.nodes left_out (world_of world.now) }
-    ensures within { result < rows_of diagram.now.nodes left_out * states_of diagram.now.nodes left_out }
+    ensures within { result
+        < rows_of diagram.now.nodes left_out * states_of diagram.now.nodes left_out }
 {
     if left_out == diagram.count() {
         return 0;
@@ -75,10 +76,13 @@ fn place(diagram: &Diagram, left_out: usize, world: &World) -> usize
 fn add_world(cell: usize, product: u128, utility: i128, gains: &mut [i128], masses: &mut [u128])
     requires gains { cell < length gains.old }
     requires masses { cell < length masses.old }
-    requires gain { nat_abs (slice_index_or gains.old cell (pos 0)) + product * nat_abs utility ≤ greatest_number }
+    requires gain { nat_abs (slice_index_or gains.old cell (pos 0)) + product * nat_abs utility
+        ≤ greatest_number }
     requires mass { slice_index masses.old cell + product ≤ greatest_number }
-    ensures gains { gains.new ≡ slice_set gains.old cell (slice_index_or gains.old cell (pos 0) +ℤ (pos product *ℤ utility)) }
-    ensures masses { masses.new ≡ slice_set masses.old cell (slice_index masses.old cell + product) }
+    ensures gains { gains.new ≡ slice_set gains.old cell (slice_index_or gains.old cell (pos 0) +ℤ
+        (pos product *ℤ utility)) }
+    ensures masses { masses.new
+        ≡ slice_set masses.old cell (slice_index masses.old cell + product) }
 {
     gains[cell] += product as i128 * utility;
     masses[cell] += product;
@@ -105,12 +109,19 @@ fn walk(
     requires decision { left_out ≤ length diagram.now.nodes }
     requires order { IsDownward diagram.now.nodes order.now }
     requires world { IsWorld (counts_of diagram.now.nodes) world.old }
-    requires gains { length gains.old ≡ rows_of diagram.now.nodes left_out * states_of diagram.now.nodes left_out }
-    requires masses { length masses.old ≡ rows_of diagram.now.nodes left_out * states_of diagram.now.nodes left_out }
-    requires room { HasRoom diagram.now.nodes profile.now left_out order.now product utility gains.old masses.old }
+    requires gains { length gains.old
+        ≡ rows_of diagram.now.nodes left_out * states_of diagram.now.nodes left_out }
+    requires masses { length masses.old
+        ≡ rows_of diagram.now.nodes left_out * states_of diagram.now.nodes left_out }
+    requires room { HasRoom diagram.now.nodes profile.now left_out order.now product utility
+        gains.old masses.old }
     ensures again { world.new ≡ world.old }
-    ensures gains { (c : ℕ) → slice_index_or gains.new c (pos 0) ≡ slice_index_or gains.old c (pos 0) +ℤ gain_with diagram.now.nodes profile.now left_out marks.now order.now product utility c (world_of world.old) }
-    ensures masses { (c : ℕ) → pos (slice_index masses.new c) ≡ pos (slice_index masses.old c) +ℤ mass_with diagram.now.nodes profile.now left_out order.now product c (world_of world.old) }
+    ensures gains { (c : ℕ) → slice_index_or gains.new c (pos 0)
+        ≡ slice_index_or gains.old c (pos 0) +ℤ gain_with diagram.now.nodes profile.now left_out
+        marks.now order.now product utility c (world_of world.old) }
+    ensures masses { (c : ℕ) → pos (slice_index masses.new c)
+        ≡ pos (slice_index masses.old c) +ℤ mass_with diagram.now.nodes profile.now left_out
+        order.now product c (world_of world.old) }
     ensures gain_count { length gains.new ≡ length gains.old }
     ensures mass_count { length masses.new ≡ length masses.old }
 {
@@ -157,7 +168,8 @@ pub(crate) struct CellSums {
 /// How many cells the decision has that is left out; 1 where none is.
 fn cell_count(diagram: &Diagram, left_out: usize) -> usize
     requires { left_out ≤ length diagram.now.nodes }
-    ensures cells { result ≡ rows_of diagram.now.nodes left_out * states_of diagram.now.nodes left_out }
+    ensures cells { result
+        ≡ rows_of diagram.now.nodes left_out * states_of diagram.now.nodes left_out }
     ensures diagram { IsDiagram diagram.now }
 {
     if left_out == diagram.count() {
@@ -179,8 +191,11 @@ pub(crate) fn cells_over(
     requires profile { IsProfile diagram.now.nodes profile.now }
     requires marks { MarksUtilities diagram.now.nodes marks.now }
     requires decision { left_out ≤ length diagram.now.nodes }
-    requires fits { base_mass diagram.now.nodes profile.now left_out * max (10 ^ diagram.now.decimals) (greatest_utility diagram.now.nodes) ≤ greatest_number }
-    ensures { IfOk result (λ sums. ListsCells diagram.now profile.now left_out marks.now sums.gains.items sums.masses.items) }
+    requires fits { base_mass diagram.now.nodes profile.now left_out
+        * max (10 ^ diagram.now.decimals) (greatest_utility diagram.now.nodes)
+        ≤ greatest_number }
+    ensures { IfOk result (λ sums.
+        ListsCells diagram.now profile.now left_out marks.now sums.gains.items sums.masses.items) }
 {
     let count = cell_count(diagram, left_out);
     let mut gains = vec![in alloc; 0; count]?;

@@ -83,7 +83,8 @@ fn append_digit(number: u128, digit: u8) -> Option<u128>
 pub(crate) fn append_digits(number: u128, digits: &[u8]) -> Option<u128>
     requires are_digits { list_all is_digit digits.now ≡ true }
     requires small { number < 2 ^ 126 }
-    ensures { SomeIff result (number_behind number digits.now < 2 ^ 126) (number_behind number digits.now) }
+    ensures { SomeIff result (number_behind number digits.now < 2 ^ 126)
+        (number_behind number digits.now) }
 {
     let mut longer = number;
     for digit in digits {

@@ -33,9 +33,13 @@ struct Scientific {
 fn significand(whole: &[u8], decimals: &[u8]) -> Option<Scientific>
     requires whole_digits { list_all is_digit whole.now ≡ true }
     requires decimal_digits { list_all is_digit decimals.now ≡ true }
-    ensures some { IfSome result (λ s. IsSignificand (number_of (whole.now ++ decimals.now)) (length decimals.now) s.size s.above s.below) }
-    ensures small { IfSome result (λ s. (s.size < 2 ^ 126) × (s.above < 2 ^ 64) × (s.below < 2 ^ 64)) }
-    ensures none { IfNone result (HasTooManyDigits (number_of (whole.now ++ decimals.now)) (length decimals.now)) }
+    ensures some { IfSome result (λ s.
+        IsSignificand (number_of (whole.now ++ decimals.now)) (length decimals.now) s.size s.above
+        s.below) }
+    ensures small { IfSome result (λ s.
+        (s.size < 2 ^ 126) × (s.above < 2 ^ 64) × (s.below < 2 ^ 64)) }
+    ensures none { IfNone result (HasTooManyDigits (number_of (whole.now ++ decimals.now))
+        (length decimals.now)) }
 {
     let kept = without_trailing_noughts(decimals);
     if kept.is_empty() {
@@ -67,7 +71,8 @@ fn signed(minus: bool, size: u128) -> i128
 fn with_tens(minus: bool, size: u128, tens: u128) -> Option<Decimal>
     requires { 0 < size }
     ensures some { IfSome result (λ d. IsLeastDecimalOf (signed minus (size * 10 ^ tens)) 1 d) }
-    ensures none { IfNone result ((d : Decimal) → IsDecimalOf (signed minus (size * 10 ^ tens)) 1 d → ⊥) }
+    ensures none { IfNone result ((d : Decimal) → IsDecimalOf (signed minus (size * 10 ^ tens)) 1 d
+        → ⊥) }
 {
     if tens > MOST_TENS {
         return None;
@@ -84,7 +89,8 @@ fn with_decimals(minus: bool, size: u128, decimals: u128) -> Option<Decimal>
     requires last { 0 < size % 10 }
     requires small { size < 2 ^ 126 }
     ensures some { IfSome result (λ d. IsLeastDecimalOf (signed minus size) (10 ^ decimals) d) }
-    ensures none { IfNone result ((d : Decimal) → IsDecimalOf (signed minus size) (10 ^ decimals) d → ⊥) }
+    ensures none { IfNone result ((d : Decimal) → IsDecimalOf (signed minus size) (10 ^ decimals) d
+        → ⊥) }
 {
     if decimals > MOST_DECIMALS {
         return None;
@@ -121,8 +127,11 @@ impl Scientific {
     fn decimal(self, minus: bool) -> Option<Decimal>
         requires last { 0 < self.size % 10 }
         requires small { self.size < 2 ^ 126 }
-        ensures some { IfSome result (λ d. IsLeastDecimalOf (signed minus (self.size * 10 ^ self.above)) (10 ^ self.below) d) }
-        ensures none { IfNone result ((d : Decimal) → IsDecimalOf (signed minus (self.size * 10 ^ self.above)) (10 ^ self.below) d → ⊥) }
+        ensures some { IfSome result (λ d.
+            IsLeastDecimalOf (signed minus (self.size * 10 ^ self.above)) (10 ^ self.below) d) }
+        ensures none { IfNone result ((d : Decimal) → IsDecimalOf
+            (signed minus (self.size * 10 ^ self.above)) (10 ^ self.below) d
+            → ⊥) }
     {
         if self.above >= self.below {
             with_tens(minus, self.size, self.above - self.below)
@@ -137,8 +146,10 @@ impl Scientific {
 /// One pass over the text; noughts at either end and the length of the exponent don't matter.
 pub fn numeral(text: &[u8]) -> Option<Decimal>
     requires { is_numeral text.now ≡ true }
-    ensures some { IfSome result (λ d. IsLeastDecimalOf (numerator text.now) (denominator text.now) d) }
-    ensures none { IfNone result ((d : Decimal) → IsDecimalOf (numerator text.now) (denominator text.now) d → ⊥) }
+    ensures some { IfSome result (λ d.
+        IsLeastDecimalOf (numerator text.now) (denominator text.now) d) }
+    ensures none { IfNone result ((d : Decimal) → IsDecimalOf (numerator text.now)
+        (denominator text.now) d → ⊥) }
 {
     let parts = split_numeral(text);
     let significand = significand(parts.whole, parts.decimals)?;

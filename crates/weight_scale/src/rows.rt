@@ -84,8 +84,10 @@ fn push_shares(
     requires decimals { decimals ≤ 30 }
     requires positive { 0 < divisor }
     requires divides { All (λ d. divisor ∣ whole_number decimals d) row.now }
-    ensures ok { IfOk result (AppendsShares reduced.old.items reduced.new.items (shares decimals divisor row.now)) }
-    ensures err { IfErr result (λ fault. OnWide fault (greatest_number < sum (shares decimals divisor row.now))) }
+    ensures ok { IfOk result (AppendsShares reduced.old.items reduced.new.items
+        (shares decimals divisor row.now)) }
+    ensures err { IfErr result (λ fault.
+        OnWide fault (greatest_number < sum (shares decimals divisor row.now))) }
 {
     let mut total = 0;
     for number in row {
@@ -105,7 +107,8 @@ fn push_shares(
 // Appends the reduced row, and gives its total.
 pub(crate) fn push_reduced(reduced: &mut Vec<u128>, row: &[Decimal]) -> Result<u128, ScaleFault>
     requires { 0 < sum (map (whole_number 30) row.now) }
-    ensures ok { IfOk result (AppendsReduced (map (whole_number 30) row.now) reduced.old.items reduced.new.items) }
+    ensures ok { IfOk result (AppendsReduced (map (whole_number 30) row.now) reduced.old.items
+        reduced.new.items) }
     ensures err { IfErr result (λ fault. OnWide fault (IsWideRow (map (whole_number 30) row.now))) }
 {
     let finest = finest(row);
@@ -127,7 +130,8 @@ pub(crate) fn push_weights(
     factor: u128,
 ) -> Result<(), AllocError>
     requires { sum row.now * factor ≤ greatest_number }
-    ensures { OnOk result (weights.new.items ≡ weights.old.items ++ map (λ x. pos (x * factor)) row.now) }
+    ensures { OnOk result (weights.new.items
+        ≡ weights.old.items ++ map (λ x. pos (x * factor)) row.now) }
 {
     for number in row {
         weights.push((*number * factor) as i128)?;

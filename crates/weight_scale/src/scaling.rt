@@ -104,7 +104,9 @@ fn reduce_rows(alloc: Global, rows: &[Decimal], states: usize) -> Result<Reduced
     requires states { 0 < states }
     requires positive { NoZeroRow rows.now states (length rows.now / states) }
     requires whole { states ∣ length rows.now }
-    ensures ok { IfOk result (λ reduced. ReducesRows rows.now states (length rows.now / states) reduced.numbers.items reduced.total) }
+    ensures ok { IfOk result (λ reduced.
+        ReducesRows rows.now states (length rows.now / states) reduced.numbers.items
+        reduced.total) }
     ensures small { IfOk result (λ reduced. reduced.total ≤ greatest_number) }
     ensures err { IfErr result (λ fault. OnWide fault (IsTooWide rows.now states)) }
 {
@@ -130,9 +132,12 @@ fn weigh_rows(
     requires states { 0 < states }
     requires some { 0 < total }
     requires small { total ≤ greatest_number }
-    requires positive { (r : ℕ) → r < length reduced.now / states → 0 < sum (row_at states reduced.now r) }
-    requires multiple { (r : ℕ) → r < length reduced.now / states → sum (row_at states reduced.now r) ∣ total }
-    ensures { IfOk result (λ weights. WeighsRows reduced.now states total (length reduced.now / states) weights.items) }
+    requires positive { (r : ℕ) → r < length reduced.now / states
+        → 0 < sum (row_at states reduced.now r) }
+    requires multiple { (r : ℕ) → r < length reduced.now / states
+        → sum (row_at states reduced.now r) ∣ total }
+    ensures { IfOk result (λ weights.
+        WeighsRows reduced.now states total (length reduced.now / states) weights.items) }
 {
     let mut weights = Vec::with_capacity(alloc, reduced.len())?;
     for r in 0..reduced.len() / states {
@@ -155,7 +160,8 @@ pub fn scale_rows(alloc: Global, rows: &[Decimal], states: usize) -> Result<Scal
     requires whole { states ∣ length rows.now }
     ensures ok { IfOk result (IsScaled rows.now states) }
     ensures table { IfOk result (λ s. IsTable s.weights (length rows.now / states) states s.total) }
-    ensures faultless { IfOk result (λ _. NoneNegative rows.now × NoZeroRow rows.now states (length rows.now / states)) }
+    ensures faultless { IfOk result (λ _.
+        NoneNegative rows.now × NoZeroRow rows.now states (length rows.now / states)) }
     ensures err { IfErr result (IsScaleFault rows.now states) }
 {
     if let Some(place) = first_negative(rows) {

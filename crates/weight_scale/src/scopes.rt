@@ -92,7 +92,8 @@ pub fn scope_given(diagram: &Diagram, node: usize, agent: usize) -> NodeSet
 /// The scope of the node, if it is a decision: what leads to it, or to a utility of its agent that descends from it.
 pub(crate) fn scope_of(diagram: &Diagram, v: usize) -> Option<Scope>
     requires { v < length diagram.now.nodes }
-    ensures { MatchOption result (IsDecision diagram.now.nodes v → ⊥) (IsScopeOf diagram.now.nodes v) }
+    ensures { MatchOption result (IsDecision diagram.now.nodes v → ⊥)
+        (IsScopeOf diagram.now.nodes v) }
 {
     match diagram.kind(v) {
         Kind::Decision => Some(Scope {
@@ -158,7 +159,8 @@ impl Scope {
 
     // The greatest absolute values of the scope's utilities added up, if the sum isn't too great.
     fn greatest(&self, diagram: &Diagram) -> Option<u128>
-        ensures { SomeIff result (greatest_sum diagram.now.nodes self.now ≤ greatest_number) (greatest_sum diagram.now.nodes self.now) }
+        ensures { SomeIff result (greatest_sum diagram.now.nodes self.now ≤ greatest_number)
+            (greatest_sum diagram.now.nodes self.now) }
     {
         let mut sum = 0;
         for v in 0..diagram.count() {
@@ -170,7 +172,9 @@ impl Scope {
     // Whether the scope's product keeps the bound with its utilities, too.
     fn has_room(&self, diagram: &Diagram, product: u128) -> bool
         requires { 0 < product }
-        ensures { IsTrue result ↔ (product * max (10 ^ diagram.now.decimals) (greatest_sum diagram.now.nodes self.now) ≤ greatest_number) }
+        ensures { IsTrue result
+            ↔ (product * max (10 ^ diagram.now.decimals) (greatest_sum diagram.now.nodes self.now)
+            ≤ greatest_number) }
     {
         let scale = 10u128.pow(diagram.decimals());
         match self.greatest(diagram) {

@@ -46,7 +46,8 @@ fn place_of_decisions(diagram: &Diagram) -> BoundPlace
 
 // Where the bound of the first agent that fails does so.
 fn place_of_agents(diagram: &Diagram) -> BoundPlace
-    requires { (v : ℕ) → IsDecision diagram.now.nodes v → scope_bound diagram.now v ≤ greatest_number }
+    requires { (v : ℕ) → IsDecision diagram.now.nodes v
+        → scope_bound diagram.now v ≤ greatest_number }
     ensures { IsBoundPlace diagram.now result }
 {
     for agent in 0..diagram.agents() {

@@ -54,7 +54,8 @@ fn number_of(alloc: Global, names: &Names, agent: &str) -> Result<usize, Refusal
 pub fn ask(alloc: Global, source: Source<'_>, agent: &str) -> Result<Asked, Refusal>
     ensures ok { IfOk result (λ made.
         IsAsked agent.now source.entry.bytes.now made.diagram made.names made.solved made.agent) }
-    ensures err { IfErr result (TellsStages (asking_stages agent.now) source.entry.name.now source.entry.bytes.now) }
+    ensures err { IfErr result (TellsStages (asking_stages agent.now) source.entry.name.now
+        source.entry.bytes.now) }
 {
     let (diagram, names) = source.diagram(alloc)?;
     let number = number_of(alloc, &names, agent)?;

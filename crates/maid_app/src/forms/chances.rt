@@ -48,7 +48,8 @@ fn first_state(diagram: &Diagram, names: &Names, node: usize, label: &[u8]) -> O
     requires node { node < length diagram.now.nodes }
     requires kind { (node_at diagram.now.nodes node).kind ≢ Utility }
     ensures some { IfSome result (IsFirstPlace (labels_of names.now node) label.now) }
-    ensures none { IfNone result ((s : ℕ) → IsFirstPlace (labels_of names.now node) label.now s → ⊥) }
+    ensures none { IfNone result ((s : ℕ) → IsFirstPlace (labels_of names.now node) label.now s
+        → ⊥) }
 {
     for state in 0..diagram.states(node) {
         if names.label(node, state) == label {

@@ -41,7 +41,8 @@ fn summary(
 ///
 /// Those of `solve`, with `demo` as the text's name.
 pub fn answer(alloc: Global, k: usize, bytes: &[u8]) -> Result<Vec<u8>, Refusal>
-    ensures ok { IfOk result (λ printed. comes_of (summing k) (codes "demo") bytes.now (Ok (done_with printed.items))) }
+    ensures ok { IfOk result (λ printed.
+        comes_of (summing k) (codes "demo") bytes.now (Ok (done_with printed.items))) }
     ensures err { IfErr result (TellsOf (comes_of (summing k) (codes "demo") bytes.now)) }
 {
     let (diagram, names, answer) = solved(

@@ -37,7 +37,8 @@ fn refusal(
 ) -> Refusal
     requires fit { NamesFit diagram.now names.now }
     requires place { IsStatePlace diagram.now names.now node.now state.now place }
-    requires fault { IsFaultOrNoMemory given_fault (given_pass diagram.now place.node place.state) fault.now }
+    requires fault { IsFaultOrNoMemory given_fault (given_pass diagram.now place.node place.state)
+        fault.now }
     ensures { IsFaultOrNoMemory refused_as
         (found_by diagram.now names.now (evidence_stages node.now state.now)) result }
 {
@@ -90,7 +91,8 @@ fn shows(
     requires parents { All (λ u. u < length diagram.now.nodes) parents.now }
     requires rows { rows ≡ rows_under (states_of diagram.now.nodes) parents.now }
     requires number { number < rows }
-    ensures { result ≡ shows (states_of diagram.now.nodes) parents.now number place.node place.state }
+    ensures { result
+        ≡ shows (states_of diagram.now.nodes) parents.now number place.node place.state }
 {
     let mut below = rows;
     let mut rest = number;
@@ -159,8 +161,10 @@ fn push_decisions(
 ) -> Result<(), AllocError>
     requires fit { NamesFit diagram.now names.now }
     requires answers { All (FitsAnswer diagram.now.nodes) answers.now }
-    ensures { OnOk result (out.new.items ≡ out.old.items
-        ++ flat_map (decision_given diagram.now.nodes names.now place.node place.state) answers.now) }
+    ensures { OnOk result (out.new.items
+        ≡ out.old.items
+        ++ flat_map (decision_given diagram.now.nodes names.now place.node place.state)
+        answers.now) }
 {
     for answer in answers {
         push_decision(out, diagram, names, place, answer)?;
@@ -179,7 +183,8 @@ fn given_front(
     requires labels { place.node < length names.now.labels }
     requires state { place.state < length (labels_of names.now place.node) }
     requires order { All (λ v. v < length names.now.nodes) order.now }
-    ensures { IfOk result (λ text. text.items ≡ given_front names.now place.node place.state order.now) }
+    ensures { IfOk result (λ text.
+        text.items ≡ given_front names.now place.node place.state order.now) }
 {
     let mut text = Vec::from_slice(alloc, b"maidsolve given 1\ngiven ")?;
     text.extend_from_slice(names.name(place.node))?;
@@ -203,7 +208,9 @@ fn given_text(
     requires state { place.state < length (labels_of names.now place.node) }
     requires answers { FitsDiagram conditioned.now.diagram conditioned.now.solved }
     requires gains { length conditioned.now.gains.items ≡ conditioned.now.diagram.agents }
-    ensures { IfOk result (λ text. text.items ≡ given_text conditioned.now.diagram names.now place.node place.state
+    ensures { IfOk result (λ text.
+        text.items
+        ≡ given_text conditioned.now.diagram names.now place.node place.state
         conditioned.now.solved conditioned.now.gains.items) }
 {
     let solved = &conditioned.solved;
@@ -234,10 +241,11 @@ pub fn answer(
     node: &str,
     state: &str,
 ) -> Result<Vec<u8>, Refusal>
-    ensures ok { IfOk result (λ printed. comes_of (conditioning node.now state.now) source.entry.name.now
-        source.entry.bytes.now (Ok (done_with printed.items))) }
-    ensures err { IfErr result (TellsOf (comes_of (conditioning node.now state.now) source.entry.name.now
-        source.entry.bytes.now)) }
+    ensures ok { IfOk result (λ printed.
+        comes_of (conditioning node.now state.now) source.entry.name.now source.entry.bytes.now
+        (Ok (done_with printed.items))) }
+    ensures err { IfErr result (TellsOf (comes_of (conditioning node.now state.now)
+        source.entry.name.now source.entry.bytes.now)) }
 {
     let (diagram, names) = source.diagram(alloc)?;
     let place = find_state(alloc, &diagram, &names, node, state)?;

@@ -29,7 +29,8 @@ fn push_decision(
 ) -> Result<(), AllocError>
     requires decision { decision < length names.now.nodes }
     requires relied_on { All (λ v. v < length names.now.nodes) relied_on.now }
-    ensures { OnOk result (out.new.items ≡ out.old.items ++ relies_line names.now decision relied_on.now) }
+    ensures { OnOk result (out.new.items
+        ≡ out.old.items ++ relies_line names.now decision relied_on.now) }
 {
     let mut head = Vec::from_slice(alloc, b"relies ")?;
     head.extend_from_slice(names.name(decision))?;
@@ -49,7 +50,8 @@ fn push_node(
     requires within { v < length diagram.now.nodes }
     requires names { NamesFit diagram.now names.now }
     requires relevance { IsRelevance diagram.now.nodes relevance.now }
-    ensures { OnOk result (out.new.items ≡ out.old.items ++ relies_line_of diagram.now.nodes names.now relevance.now v) }
+    ensures { OnOk result (out.new.items
+        ≡ out.old.items ++ relies_line_of diagram.now.nodes names.now relevance.now v) }
 {
     match diagram.kind(v) {
         Kind::Decision => push_decision(alloc, out, names, v, relevance.relied_on(v)),
@@ -67,7 +69,10 @@ fn push_decisions(
 ) -> Result<(), AllocError>
     requires names { NamesFit diagram.now names.now }
     requires relevance { IsRelevance diagram.now.nodes relevance.now }
-    ensures { OnOk result (out.new.items ≡ out.old.items ++ flat_map (λ v. relies_line names.now v (relied_on_by relevance.now v)) (decisions_of diagram.now.nodes)) }
+    ensures { OnOk result (out.new.items
+        ≡ out.old.items
+        ++ flat_map (λ v. relies_line names.now v (relied_on_by relevance.now v))
+        (decisions_of diagram.now.nodes)) }
 {
     for v in 0..diagram.count() {
         push_node(alloc, out, diagram, names, relevance, v)?;
@@ -115,8 +120,11 @@ fn graph_text(
 ///
 /// The fault of the bytes, or want of memory.
 pub fn answer(alloc: Global, source: Source<'_>) -> Result<Vec<u8>, Refusal>
-    ensures ok { IfOk result (λ printed. comes_of graphing source.entry.name.now source.entry.bytes.now (Ok (done_with printed.items))) }
-    ensures err { IfErr result (TellsOf (comes_of graphing source.entry.name.now source.entry.bytes.now)) }
+    ensures ok { IfOk result (λ printed.
+        comes_of graphing source.entry.name.now source.entry.bytes.now
+        (Ok (done_with printed.items))) }
+    ensures err { IfErr result (TellsOf (comes_of graphing source.entry.name.now
+        source.entry.bytes.now)) }
 {
     let (diagram, names) = source.diagram(alloc)?;
     let relevance = find_relevance(alloc, &diagram)?;

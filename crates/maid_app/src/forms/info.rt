@@ -58,10 +58,11 @@ fn info_text(
 ///
 /// The fault of the bytes, an agent that no node has, what the solver refuses the diagram for, or want of memory.
 pub fn answer(alloc: Global, source: Source<'_>, agent: &str) -> Result<Vec<u8>, Refusal>
-    ensures ok { IfOk result (λ printed. comes_of (weighing_information agent.now) source.entry.name.now
-        source.entry.bytes.now (Ok (done_with printed.items))) }
-    ensures err { IfErr result (TellsOf (comes_of (weighing_information agent.now) source.entry.name.now
-        source.entry.bytes.now)) }
+    ensures ok { IfOk result (λ printed.
+        comes_of (weighing_information agent.now) source.entry.name.now source.entry.bytes.now
+        (Ok (done_with printed.items))) }
+    ensures err { IfErr result (TellsOf (comes_of (weighing_information agent.now)
+        source.entry.name.now source.entry.bytes.now)) }
 {
     let asked = ask(alloc, source, agent)?;
     let lines = info(alloc, &asked.diagram, &asked.solved, asked.agent)?;

@@ -17,8 +17,11 @@ use std::alloc::Global;
 ///
 /// The fault of the bytes, or want of memory.
 pub fn answer(alloc: Global, source: Source<'_>) -> Result<Vec<u8>, Refusal>
-    ensures ok { IfOk result (λ told. comes_of printing source.entry.name.now source.entry.bytes.now (Ok (done_with told.items))) }
-    ensures err { IfErr result (TellsOf (comes_of printing source.entry.name.now source.entry.bytes.now)) }
+    ensures ok { IfOk result (λ told.
+        comes_of printing source.entry.name.now source.entry.bytes.now
+        (Ok (done_with told.items))) }
+    ensures err { IfErr result (TellsOf (comes_of printing source.entry.name.now
+        source.entry.bytes.now)) }
 {
     let (diagram, names) = source.diagram(alloc)?;
     printed_texts_read_back();

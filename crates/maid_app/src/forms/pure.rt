@@ -67,9 +67,11 @@ fn pure_text(
 /// The fault of the bytes, the place at which the weight bound is passed, the counts of profiles and leaves where they
 /// are too many, how many pure profiles there are where none is an equilibrium, or want of memory.
 pub fn answer(alloc: Global, source: Source<'_>) -> Result<Vec<u8>, Refusal>
-    ensures ok { IfOk result (λ printed. comes_of searching source.entry.name.now source.entry.bytes.now
+    ensures ok { IfOk result (λ printed.
+        comes_of searching source.entry.name.now source.entry.bytes.now
         (Ok (done_with printed.items))) }
-    ensures err { IfErr result (TellsOf (comes_of searching source.entry.name.now source.entry.bytes.now)) }
+    ensures err { IfErr result (TellsOf (comes_of searching source.entry.name.now
+        source.entry.bytes.now)) }
 {
     let (diagram, names) = source.diagram(alloc)?;
     match first_pure(alloc, &diagram) {

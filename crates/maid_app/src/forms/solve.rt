@@ -52,7 +52,8 @@ pub fn solve_diagram(alloc: Global, diagram: &Diagram, names: &Names) -> Result<
     requires { NamesFit diagram.now names.now }
     ensures solvable { OnOk result (IsSolvable diagram.now) }
     ensures ok { IfOk result (IsSolution diagram.now) }
-    ensures err { IfErr result (IsFaultOrNoMemory refused_as (found_by diagram.now names.now solver_stages)) }
+    ensures err { IfErr result (IsFaultOrNoMemory refused_as (found_by diagram.now names.now
+        solver_stages)) }
 {
     match solve(alloc, diagram) {
         Ok(solved) => Ok(solved),
@@ -68,7 +69,8 @@ pub fn solve_diagram(alloc: Global, diagram: &Diagram, names: &Names) -> Result<
 pub fn solved(alloc: Global, source: Source<'_>) -> Result<(Diagram, Names, Solved), Refusal>
     ensures ok { IfOk result (λ made. IsSolved source.entry.bytes.now made.0 made.1 made.2) }
     ensures fit { IfOk result (λ made. NamesFit made.0 made.1) }
-    ensures err { IfErr result (TellsStages solving_stages source.entry.name.now source.entry.bytes.now) }
+    ensures err { IfErr result (TellsStages solving_stages source.entry.name.now
+        source.entry.bytes.now) }
 {
     let (diagram, names) = source.diagram(alloc)?;
     let solved = solve_diagram(alloc, &diagram, &names)?;
@@ -81,8 +83,11 @@ pub fn solved(alloc: Global, source: Source<'_>) -> Result<(Diagram, Names, Solv
 ///
 /// Those of [`solved`].
 pub fn answer(alloc: Global, source: Source<'_>) -> Result<Vec<u8>, Refusal>
-    ensures ok { IfOk result (λ printed. comes_of solving source.entry.name.now source.entry.bytes.now (Ok (done_with printed.items))) }
-    ensures err { IfErr result (TellsOf (comes_of solving source.entry.name.now source.entry.bytes.now)) }
+    ensures ok { IfOk result (λ printed.
+        comes_of solving source.entry.name.now source.entry.bytes.now
+        (Ok (done_with printed.items))) }
+    ensures err { IfErr result (TellsOf (comes_of solving source.entry.name.now
+        source.entry.bytes.now)) }
 {
     let (diagram, names, answer) = solved(alloc, source)?;
     Ok(print_report(alloc, &diagram, &names, &answer)?)

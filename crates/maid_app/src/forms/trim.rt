@@ -26,7 +26,8 @@ fn trimmed_text(
 ) -> Result<Vec<u8>, AllocError>
     requires fit { NamesFit trimmed.now names.now }
     requires named { AreNamed names.now removed.now }
-    ensures { IfOk result (λ text. text.items ≡ removed_lines names.now removed.now ++ printed trimmed.now names.now) }
+    ensures { IfOk result (λ text.
+        text.items ≡ removed_lines names.now removed.now ++ printed trimmed.now names.now) }
 {
     let mut text = removed_lines(alloc, names, removed)?;
     text.extend_from_slice(&print(alloc, trimmed, names)?)?;
@@ -40,8 +41,11 @@ fn trimmed_text(
 ///
 /// The fault of the bytes, or want of memory.
 pub fn answer(alloc: Global, source: Source<'_>) -> Result<Vec<u8>, Refusal>
-    ensures ok { IfOk result (λ told. comes_of trimming source.entry.name.now source.entry.bytes.now (Ok (done_with told.items))) }
-    ensures err { IfErr result (TellsOf (comes_of trimming source.entry.name.now source.entry.bytes.now)) }
+    ensures ok { IfOk result (λ told.
+        comes_of trimming source.entry.name.now source.entry.bytes.now
+        (Ok (done_with told.items))) }
+    ensures err { IfErr result (TellsOf (comes_of trimming source.entry.name.now
+        source.entry.bytes.now)) }
 {
     let (diagram, names) = source.diagram(alloc)?;
     commented_texts_read_back();

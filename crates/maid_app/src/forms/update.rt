@@ -26,7 +26,8 @@ pub const MOST_ROUNDS: u64 = 10_000;
 // The refusal of a diagram that is not updated.
 fn refusal(alloc: Global, diagram: &Diagram, names: &Names, fault: &UpdateFault) -> Refusal
     requires fit { NamesFit diagram.now names.now }
-    requires fault { IsFaultOrNoMemory update_fault (update_pass diagram.now MOST_ROUNDS) fault.now }
+    requires fault { IsFaultOrNoMemory update_fault (update_pass diagram.now MOST_ROUNDS)
+        fault.now }
     ensures { IsFaultOrNoMemory refused_as (found_by diagram.now names.now update_stages) result }
 {
     match fault {
@@ -77,9 +78,11 @@ fn update_text(
 /// The fault of the bytes, two owners of decisions, the place at which the weight bound is passed, the cells and the work
 /// of a run that passes a limit, rounds that all raise, or want of memory.
 pub fn answer(alloc: Global, source: Source<'_>) -> Result<Vec<u8>, Refusal>
-    ensures ok { IfOk result (λ printed. comes_of updating source.entry.name.now source.entry.bytes.now
+    ensures ok { IfOk result (λ printed.
+        comes_of updating source.entry.name.now source.entry.bytes.now
         (Ok (done_with printed.items))) }
-    ensures err { IfErr result (TellsOf (comes_of updating source.entry.name.now source.entry.bytes.now)) }
+    ensures err { IfErr result (TellsOf (comes_of updating source.entry.name.now
+        source.entry.bytes.now)) }
 {
     let (diagram, names) = source.diagram(alloc)?;
     match update(alloc, &diagram, MOST_ROUNDS) {
