@@ -16,16 +16,19 @@ pub record HasChoices (nodes : List NodeView) (answer : AnswerView) : Type 0 whe
 
 -- a row of a report up to the label of its choice
 abbrev pub choice_line : List NodeView → NamesView → ℕ → ℕ → ℕ → List ℕ
-choice_line nodes names d number choice = line (row_front nodes names d number ++ state_text names d choice)
+choice_line nodes names d number choice =
+    line (row_front nodes names d number ++ state_text names d choice)
 
 -- the rows from that number on
 abbrev pub choice_rows : List NodeView → NamesView → ℕ → ℕ → List Row → List ℕ
 choice_rows nodes names d number [] = []
-choice_rows nodes names d number (row ∷ rows) = choice_line nodes names d number row.choice ++ choice_rows nodes names d (number + 1) rows
+choice_rows nodes names d number (row ∷ rows) =
+    choice_line nodes names d number row.choice ++ choice_rows nodes names d (number + 1) rows
 
 -- a decision's line, and then its rows
 abbrev pub decision_choices : List NodeView → NamesView → AnswerView → List ℕ
-decision_choices nodes names answer = decision_head nodes names answer.decision ++ choice_rows nodes names answer.decision 0 answer.rows
+decision_choices nodes names answer = decision_head nodes names answer.decision
+    ++ choice_rows nodes names answer.decision 0 answer.rows
 
 -- decision by decision
 abbrev pub choice_lines : List NodeView → NamesView → List AnswerView → List ℕ

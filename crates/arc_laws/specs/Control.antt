@@ -15,26 +15,28 @@ use Rattle.arc_laws.specs.Arcs.{CanGet, IsNotAbove, HasSameOptimum}
 
 -- Where no utility of the agent descends from a decision, the decision's rule does not matter to the agent.
 abbrev pub UnreachedRule : Type 0
-UnreachedRule =
-    (nodes : List NodeView) (p q : List RuleView) (d agent : ℕ) → IsGraph nodes → HasChanceTables nodes → IsProfile nodes p → IsProfile nodes q → IsDecision nodes d
+UnreachedRule = (nodes : List NodeView) (p q : List RuleView) (d agent : ℕ) → IsGraph nodes
+    → HasChanceTables nodes → IsProfile nodes p → IsProfile nodes q → IsDecision nodes d
     → ((v : ℕ) → IsDecision nodes v → v ≢ d → SameRule p q v) → IsUnreached nodes agent d
     → gain_of nodes p agent *ℤ pos (mass nodes q) ≡ gain_of nodes q agent *ℤ pos (mass nodes p)
 
 -- The diagram in which a chance node is a decision is a diagram.
 abbrev pub KeptAsDecision : Type 0
-KeptAsDecision =
-    (nodes : List NodeView) (agent x : ℕ) → IsGraph nodes → HasChanceTables nodes → (node_at nodes x).kind ≡ Chance
+KeptAsDecision = (nodes : List NodeView) (agent x : ℕ) → IsGraph nodes → HasChanceTables nodes
+    → (node_at nodes x).kind ≡ Chance
     → IsGraph (as_decision nodes agent x) × HasChanceTables (as_decision nodes agent x)
 
 -- With a chance node as a decision each agent can get as much, as its table is a rule.
 abbrev pub MoreWithControl : Type 0
-MoreWithControl =
-    (nodes : List NodeView) (agent x other : ℕ) → IsGraph nodes → HasChanceTables nodes → (node_at nodes x).kind ≡ Chance
-    → CanGet nodes (as_decision nodes agent x) other × IsNotAbove nodes (as_decision nodes agent x) other
+MoreWithControl = (nodes : List NodeView) (agent x other : ℕ) → IsGraph nodes
+    → HasChanceTables nodes → (node_at nodes x).kind ≡ Chance
+    → CanGet nodes (as_decision nodes agent x) other
+    × IsNotAbove nodes (as_decision nodes agent x) other
 
--- Where one agent owns all decisions and no utility of the agent descends from x in the trimmed diagram, control of x leaves the optimum as it is.
+-- Where one agent owns all decisions and no utility of the agent descends from x in the trimmed diagram, control of x
+-- leaves the optimum as it is.
 abbrev pub SameWithControl : Type 0
-SameWithControl =
-    (nodes trimmed : List NodeView) (removed : List (ℕ × ℕ)) (agent x : ℕ) → IsGraph nodes → HasChanceTables nodes → OwnsAll nodes agent → (node_at nodes x).kind ≡ Chance
+SameWithControl = (nodes trimmed : List NodeView) (removed : List (ℕ × ℕ)) (agent x : ℕ)
+    → IsGraph nodes → HasChanceTables nodes → OwnsAll nodes agent → (node_at nodes x).kind ≡ Chance
     → IsTrimmed nodes removed trimmed → IsUnreached trimmed agent x
     → HasSameOptimum nodes (as_decision nodes agent x) agent

@@ -17,4 +17,5 @@ CanStart nodes given (ParentOf x) = IsLive nodes x
 -- an active walk leads to v from the start; an extra parent has the first number that no node has
 abbrev pub IsReachedBy : List NodeView → NodeSet → Start → ℕ → Type 0
 IsReachedBy nodes given (Node x) v = IsReached (Arc nodes) (IsLive nodes) (IsIn given) x v
-IsReachedBy nodes given (ParentOf x) v = IsReachedFromParent (Arc nodes) (IsLive nodes) (IsIn given) (length nodes) x v
+IsReachedBy nodes given (ParentOf x) v =
+    IsReachedFromParent (Arc nodes) (IsLive nodes) (IsIn given) (length nodes) x v

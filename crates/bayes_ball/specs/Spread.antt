@@ -26,17 +26,21 @@ LeadsUp given down up v = (IsIn given v × IsIn down v) ⊎ ((IsIn given v → �
 
 -- the node is marked where walks arrive from a parent, and its parents are where walks go on up from it
 abbrev pub HearsAll : List NodeView → NodeSet → ℕ → NodeSet → NodeSet → Type 0
-HearsAll nodes given v down up = (p : ℕ) → LiveArc nodes p v → LeadsDown given down up p → IsIn down v
+HearsAll nodes given v down up =
+    (p : ℕ) → LiveArc nodes p v → LeadsDown given down up p → IsIn down v
 
 abbrev pub TellsAll : List NodeView → NodeSet → ℕ → NodeSet → NodeSet → Type 0
 TellsAll nodes given v down up = (p : ℕ) → LiveArc nodes p v → LeadsUp given down up v → IsIn up p
 
 -- both hold of each node of a set
 abbrev pub ClosedInto : List NodeView → NodeSet → (ℕ → Type 0) → NodeSet → NodeSet → Type 0
-ClosedInto nodes given Set down up = (v : ℕ) → Set v → HearsAll nodes given v down up × TellsAll nodes given v down up
+ClosedInto nodes given Set down up =
+    (v : ℕ) → Set v → HearsAll nodes given v down up × TellsAll nodes given v down up
 
 -- one step: marks grow by the rules alone, and where nothing changes they have the property Done
-pub record IsSpread (Arc : ℕ → ℕ → Type 0) (Given : ℕ → Type 0) (Done : NodeSet → NodeSet → Type 0) (down up down' up' : NodeSet) (changed : Bool) : Type 0 where
+pub record IsSpread
+    (Arc : ℕ → ℕ → Type 0) (Given : ℕ → Type 0) (Done : NodeSet → NodeSet → Type 0)
+    (down up down' up' : NodeSet) (changed : Bool) : Type 0 where
   pub kept : (w : Way) (v : ℕ) → IsMarked down up w v → IsMarked down' up' w v
   pub sound : (w : Way) (v : ℕ) → IsMarked down' up' w v → Flows Arc Given (IsMarked down up) w v
   pub steady : changed ≡ false → (down' ≡ down) × (up' ≡ up) × Done down up

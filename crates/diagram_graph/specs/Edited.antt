@@ -8,7 +8,14 @@ with_nodes d nodes = record { nodes = nodes; agents = d.agents; decimals = d.dec
 
 -- the node with these parents
 abbrev pub with_parents : NodeView → List ℕ → NodeView
-with_parents node parents = record { kind = node.kind; owner = node.owner; more = node.more; states = node.states; parents = parents; cells = node.cells }
+with_parents node parents = record {
+  kind = node.kind;
+  owner = node.owner;
+  more = node.more;
+  states = node.states;
+  parents = parents;
+  cells = node.cells;
+}
 
 -- the node without that parent
 abbrev pub without_parent : NodeView → ℕ → NodeView

@@ -16,4 +16,5 @@ IsFree items placed v = IsIn items v × (IsIn placed v → ⊥)
 
 -- an item that is not placed, and all that it needs is
 abbrev pub IsReady : List (List ℕ) → List Bool → List Bool → ℕ → Type 0
-IsReady lists items placed v = IsFree items placed v × ((e : ℕ) → NeedsItem lists v e → IsIn placed e)
+IsReady lists items placed v =
+    IsFree items placed v × ((e : ℕ) → NeedsItem lists v e → IsIn placed e)

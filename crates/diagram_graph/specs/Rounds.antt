@@ -5,14 +5,16 @@ use Rattle.diagram_graph.specs.Needs.{needs_of, NeedsItem}
 
 -- e is the first of the list that is left
 abbrev pub IsFirstLeft : (ℕ → Type 0) → List ℕ → ℕ → Type 0
-IsFirstLeft Left list e =
-    (place : ℕ) × (place < length list) × (slice_index list place ≡ e) × Left e × ((k : ℕ) → k < place → Left (slice_index list k) → ⊥)
+IsFirstLeft Left list e = (place : ℕ) × (place < length list) × (slice_index list place ≡ e)
+    × Left e × ((k : ℕ) → k < place → Left (slice_index list k) → ⊥)
 
 -- from the first item that is left, each time to the first of the last one's needs that is left
 pub record IsListedTrail (Left : ℕ → Type 0) (lists : List (List ℕ)) (trail : List ℕ) : Type 0 where
   pub first : 0 < length trail → IsLeast Left (slice_index trail 0)
-  pub next : (k : ℕ) → k + 1 < length trail → IsFirstLeft Left (needs_of lists (slice_index trail k)) (slice_index trail (k + 1))
-  pub distinct : (i j : ℕ) → i < j → j < length trail → slice_index trail i ≡ slice_index trail j → ⊥
+  pub next : (k : ℕ) → k + 1 < length trail
+      → IsFirstLeft Left (needs_of lists (slice_index trail k)) (slice_index trail (k + 1))
+  pub distinct :
+      (i j : ℕ) → i < j → j < length trail → slice_index trail i ≡ slice_index trail j → ⊥
 
 -- the trail comes back to its place `back`, and the cycle is its rest from there
 pub record IsListedRound (Left : ℕ → Type 0) (lists : List (List ℕ)) (cycle : List ℕ) : Type 0 where
@@ -20,7 +22,8 @@ pub record IsListedRound (Left : ℕ → Type 0) (lists : List (List ℕ)) (cycl
   pub back : ℕ
   pub is_trail : IsListedTrail Left lists trail
   pub within : back < length trail
-  pub closes : IsFirstLeft Left (needs_of lists (slice_index trail (length trail - 1))) (slice_index trail back)
+  pub closes : IsFirstLeft Left (needs_of lists (slice_index trail (length trail - 1)))
+      (slice_index trail back)
   pub is : cycle ≡ drop back trail
 
 -- items are placed as long as one can be, some remain, and a round among those that remain is the cycle

@@ -12,9 +12,8 @@ ShuffledSums =
 
 -- A sum over two lists of two factors, neither of which looks at the other's list, is a product of two sums.
 abbrev pub SumsMultiply : Type 0
-SumsMultiply =
-    (count : ℕ → ℕ) (us vs : List ℕ) (f g : World → ℤ) → IgnoresAll count f vs → IgnoresAll count g us
-    → (w : World) → InRange count w
+SumsMultiply = (count : ℕ → ℕ) (us vs : List ℕ) (f g : World → ℤ) → IgnoresAll count f vs
+    → IgnoresAll count g us → (w : World) → InRange count w
     → sum_over count (us ++ vs) (λ x. f x *ℤ g x) w ≡ sum_over count us f w *ℤ sum_over count vs g w
 
 -- Tables none of which looks at a later node of the list, summed over the list, leave their totals.

@@ -18,13 +18,16 @@ IgnoresLater count table (v ∷ vs) = IgnoresAll count (table v) vs × IgnoresLa
 
 -- whatever the other nodes' states, v's table sums to the total
 pub record HasTotal (count : ℕ → ℕ) (table : ℕ → World → ℤ) (total : ℕ → ℤ) (v : ℕ) : Type 0 where
-  pub sums : (w : World) → InRange count w → sum_below (count v) (λ s. table v (with_state w v s)) ≡ total v
+  pub sums : (w : World) → InRange count w
+      → sum_below (count v) (λ s. table v (with_state w v s)) ≡ total v
 
 abbrev pub HaveTotals : (ℕ → ℕ) → (ℕ → World → ℤ) → (ℕ → ℤ) → List ℕ → Type 0
 HaveTotals count table total [] = Unit {0}
-HaveTotals count table total (v ∷ vs) = HasTotal count table total v × HaveTotals count table total vs
+HaveTotals count table total (v ∷ vs) =
+    HasTotal count table total v × HaveTotals count table total vs
 
 -- the tables of vs look at none of us
 abbrev pub EachIgnoresAll : (ℕ → ℕ) → (ℕ → World → ℤ) → List ℕ → List ℕ → Type 0
 EachIgnoresAll count table [] us = Unit {0}
-EachIgnoresAll count table (v ∷ vs) us = IgnoresAll count (table v) us × EachIgnoresAll count table vs us
+EachIgnoresAll count table (v ∷ vs) us =
+    IgnoresAll count (table v) us × EachIgnoresAll count table vs us

@@ -9,7 +9,8 @@ Among x (y ∷ ys) = (x ≡ y) ⊎ Among x ys
 -- the lists have the same members, each as often
 pub data Shuffled : List ℕ → List ℕ → Type 0 where
   none : Shuffled [] []
-  put : {x : ℕ} {xs : List ℕ} (front back : List ℕ) → Shuffled xs (front ++ back) → Shuffled (x ∷ xs) (front ++ x ∷ back)
+  put : {x : ℕ} {xs : List ℕ} (front back : List ℕ) → Shuffled xs (front ++ back)
+      → Shuffled (x ∷ xs) (front ++ x ∷ back)
 
 -- u is not in the list
 abbrev pub Avoids : ℕ → List ℕ → Type 0

@@ -18,6 +18,7 @@ Passes view P (Ok x) = P None
 Passes view P (Err error) = IsFaultOrNoMemory view P error
 
 -- a result is what comes of the task, or tells that memory ran out
-abbrev pub ComesOf : {A E Fault : Type 0} → (E → Option Fault) → Outcomes A Fault → Result A E → Type 0
+abbrev pub ComesOf :
+    {A E Fault : Type 0} → (E → Option Fault) → Outcomes A Fault → Result A E → Type 0
 ComesOf view C (Ok x) = C (Ok x)
 ComesOf view C (Err error) = IsFaultOrNoMemory view (refusals C) error

@@ -1,4 +1,5 @@
--- What comes of a task that has stages: the first fault of its stages, one behind another, or what it gives where they find nothing.
+-- What comes of a task that has stages: the first fault of its stages, one behind another, or what it gives where
+-- they find nothing.
 use Rattle.std.specs.Prelude.{◌⊎◌, List, None, Some, Result, Ok, Err}
 use Rattle.first_fault.specs.Passes.{Pass, each}
 
@@ -18,7 +19,8 @@ abbrev pub ◌▸▸◌ : {A Fault : Type 0} → Pass Fault → Outcomes A Fault
 (P ▸▸ C) (Err f) = P (Some f) ⊎ (P None × C (Err f))
 
 -- these stages over a value, one behind another, and then what is such of the value
-abbrev pub staged : {S D A Fault : Type 0} → (S → D → Pass Fault) → List S → (D → A → Type 0) → D → Outcomes A Fault
+abbrev pub staged :
+    {S D A Fault : Type 0} → (S → D → Pass Fault) → List S → (D → A → Type 0) → D → Outcomes A Fault
 staged Finds stages IsOf d = each (λ s. Finds s d) stages ▸▸ gives (IsOf d)
 
 -- the pass that a task is: nothing is found where it gives something

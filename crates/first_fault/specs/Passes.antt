@@ -36,7 +36,8 @@ each P [] = clear
 each P (x ∷ xs) = P x ▸ each P xs
 
 -- the same where each item sees those before it
-abbrev pub each_after : {A Fault : Type 0} → (List A → A → Pass Fault) → List A → List A → Pass Fault
+abbrev pub each_after :
+    {A Fault : Type 0} → (List A → A → Pass Fault) → List A → List A → Pass Fault
 each_after P earlier [] = clear
 each_after P earlier (x ∷ xs) = P earlier x ▸ each_after P (earlier ++ x ∷ []) xs
 

@@ -21,7 +21,8 @@ first_fault rows = option_map (λ row. row.fault) (find (λ row. row.test) rows)
 
 -- a table finds that and nothing else
 abbrev pub FindsTheFirst : Type 0
-FindsTheFirst = (rows : List Row) (outcome : Option ℕ) → table rows outcome ↔ (outcome ≡ first_fault rows)
+FindsTheFirst =
+    (rows : List Row) (outcome : Option ℕ) → table rows outcome ↔ (outcome ≡ first_fault rows)
 
 -- a number that stands among those before it
 abbrev pub repeats : List ℕ → Pass ℕ
@@ -44,11 +45,14 @@ FindsTheRepeat = (numbers : List ℕ) (n : ℕ) → repeats numbers (Some n) ↔
 
 -- a row that counts where a test holds is a row of both tests
 abbrev pub CountsWhere : Type 0
-CountsWhere = (counts test : Bool) (fault : ℕ) (outcome : Option ℕ) → only counts (rule (IsTrue test) fault) outcome ↔ rule (IsTrue (counts && test)) fault outcome
+CountsWhere = (counts test : Bool) (fault : ℕ) (outcome : Option ℕ)
+    → only counts (rule (IsTrue test) fault) outcome ↔ rule (IsTrue (counts && test)) fault outcome
 
 -- a row over the one value is that row of the value
 abbrev pub LooksAtTheValue : Type 0
-LooksAtTheValue = (test : ℕ → Bool) (value : ℕ) (outcome : Option ℕ) → over (λ n. n ≡ value) (λ n. rule (IsTrue (test n)) n) outcome ↔ rule (IsTrue (test value)) value outcome
+LooksAtTheValue = (test : ℕ → Bool) (value : ℕ) (outcome : Option ℕ)
+    → over (λ n. n ≡ value) (λ n. rule (IsTrue (test n)) n) outcome
+    ↔ rule (IsTrue (test value)) value outcome
 
 -- what is always found is found
 abbrev pub FindsAlways : Type 0
@@ -56,11 +60,13 @@ FindsAlways = (fault : ℕ) (outcome : Option ℕ) → always fault outcome ↔ 
 
 -- an error tells want of memory, or the first fault
 abbrev pub TellsTheFirst : Type 0
-TellsTheFirst = (rows : List Row) (told : Option ℕ) → IsFaultOrNoMemory (λ t. t) (table rows) told ↔ ((told ≡ None) ⊎ (told ≡ first_fault rows))
+TellsTheFirst = (rows : List Row) (told : Option ℕ)
+    → IsFaultOrNoMemory (λ t. t) (table rows) told ↔ ((told ≡ None) ⊎ (told ≡ first_fault rows))
 
 -- an answer tells that no test holds
 abbrev pub AnswersWithoutFault : Type 0
-AnswersWithoutFault = (rows : List Row) (answer : ℕ) → Passes (λ (t : Option ℕ). t) (table rows) (Ok answer) ↔ (first_fault rows ≡ None)
+AnswersWithoutFault = (rows : List Row) (answer : ℕ)
+    → Passes (λ (t : Option ℕ). t) (table rows) (Ok answer) ↔ (first_fault rows ≡ None)
 
 -- the refusal, or else the value
 abbrev pub outcome_of : Option ℕ → ℕ → Result ℕ ℕ
@@ -81,15 +87,18 @@ first_passed bounds value = find (λ bound. nat_lt bound value) bounds
 
 -- the first bound that is passed comes of it, or else the value
 abbrev pub StagesInTurn : Type 0
-StagesInTurn = (bounds : List ℕ) (value : ℕ) (outcome : Result ℕ ℕ) → bounded bounds value outcome ↔ (outcome ≡ outcome_of (first_passed bounds value) value)
+StagesInTurn = (bounds : List ℕ) (value : ℕ) (outcome : Result ℕ ℕ)
+    → bounded bounds value outcome ↔ (outcome ≡ outcome_of (first_passed bounds value) value)
 
 -- a result tells the value where no bound is passed, and else the first that is or want of memory
 abbrev pub IsTold : List ℕ → ℕ → Result ℕ (Option ℕ) → Type 0
 IsTold bounds value (Ok given) = (given ≡ value) × (first_passed bounds value ≡ None)
-IsTold bounds value (Err told) = (told ≡ None) ⊎ ((told ≡ first_passed bounds value) × (first_passed bounds value ≢ None))
+IsTold bounds value (Err told) =
+    (told ≡ None) ⊎ ((told ≡ first_passed bounds value) × (first_passed bounds value ≢ None))
 
 abbrev pub ResultsTell : Type 0
-ResultsTell = (bounds : List ℕ) (value : ℕ) (result : Result ℕ (Option ℕ)) → ComesOf (λ told. told) (bounded bounds value) result ↔ IsTold bounds value result
+ResultsTell = (bounds : List ℕ) (value : ℕ) (result : Result ℕ (Option ℕ))
+    → ComesOf (λ told. told) (bounded bounds value) result ↔ IsTold bounds value result
 
 -- a table finds nothing or a fault, never both, and one fault at most
 abbrev pub TablesAreCovered : Type 0
@@ -103,4 +112,5 @@ TablesHaveOneFault = (rows : List Row) → HasOneFault (table rows)
 
 -- only one thing comes of bounds in turn
 abbrev pub StagesEndAlike : Type 0
-StagesEndAlike = (bounds : List ℕ) (value : ℕ) → EndsAlike (λ outcome. outcome) (bounded bounds value)
+StagesEndAlike =
+    (bounds : List ℕ) (value : ℕ) → EndsAlike (λ outcome. outcome) (bounded bounds value)

@@ -16,20 +16,22 @@ pub record Overlooks (count : ℕ → ℕ) (f : World → ℤ) (v : ℕ) : Type 
 abbrev pub OverlooksAll : (ℕ → ℕ) → (World → ℤ) → List ℕ → Type 0
 OverlooksAll count f vs = (v : ℕ) → Contains vs v → Overlooks count f v
 
--- The law of totals: summed over any nodes, the product of their tables and rules is the product of their totals, and a factor that looks at none of them comes out of the sum.
+-- The law of totals: summed over any nodes, the product of their tables and rules is the product of their totals, and
+-- a factor that looks at none of them comes out of the sum.
 abbrev pub LawOfTotals : Type 0
-LawOfTotals =
-    (nodes : List NodeView) (p : List RuleView) (vs : List ℕ) (f : World → ℤ) (w : World)
-    → IsGraph nodes → HasChanceTables nodes → IsProfile nodes p → AllDifferent vs → OverlooksAll (states_of nodes) f vs → InRange (states_of nodes) w
-    → sum_over (states_of nodes) vs (λ x. f x *ℤ product_over (λ v. table nodes p v x) vs) w ≡ f w *ℤ pos (nat_product_over (weight_total nodes p) vs)
+LawOfTotals = (nodes : List NodeView) (p : List RuleView) (vs : List ℕ) (f : World → ℤ) (w : World)
+    → IsGraph nodes → HasChanceTables nodes → IsProfile nodes p → AllDifferent vs
+    → OverlooksAll (states_of nodes) f vs → InRange (states_of nodes) w
+    → sum_over (states_of nodes) vs (λ x. f x *ℤ product_over (λ v. table nodes p v x) vs) w
+    ≡ f w *ℤ pos (nat_product_over (weight_total nodes p) vs)
 
 -- The weights of all worlds add up to the mass of the profile.
 abbrev pub WeightsAddUp : Type 0
-WeightsAddUp =
-    (nodes : List NodeView) (p : List RuleView) → IsGraph nodes → HasChanceTables nodes → IsProfile nodes p
-    → sum_worlds nodes (weight nodes p) ≡ pos (mass nodes p)
+WeightsAddUp = (nodes : List NodeView) (p : List RuleView) → IsGraph nodes → HasChanceTables nodes
+    → IsProfile nodes p → sum_worlds nodes (weight nodes p) ≡ pos (mass nodes p)
 
--- The law of products: a sum over two lists of nodes of two factors, neither of which looks at the other's list, is a product of two sums.
+-- The law of products: a sum over two lists of nodes of two factors, neither of which looks at the other's list, is a
+-- product of two sums.
 abbrev pub LawOfProducts : Type 0
 LawOfProducts =
     (count : ℕ → ℕ) (us vs : List ℕ) (f g : World → ℤ) (w : World)

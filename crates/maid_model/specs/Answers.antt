@@ -21,7 +21,8 @@ pub record IsFraction (r : Ratio) (num : ℤ) (den : ℕ) : Type 0 where
   pub reduced : IsReduced r
   pub same : r.num *ℤ pos den ≡ num *ℤ pos r.den
 
--- what a state of d is worth in a row against the profile: the state's gain over the row's mass, where utilities are whole numbers of one part in `scale`
+-- what a state of d is worth in a row against the profile: the state's gain over the row's mass, where utilities are
+-- whole numbers of one part in `scale`
 abbrev pub IsWorthAt : List NodeView → ℕ → List RuleView → ℕ → ℕ → ℕ → Ratio → Type 0
 IsWorthAt nodes scale p d state row w =
     IsFraction w (gain_at nodes p d state row) (nat_abs (mass_at nodes p d row) * scale)
@@ -31,9 +32,11 @@ abbrev pub HasWorth : List NodeView → ℕ → List RuleView → ℕ → ℕ �
 HasWorth nodes decimals p d row r =
     (w : Ratio) × (r.worth ≡ Some w) × IsWorthAt nodes (10 ^ decimals) p d r.choice row w
 
--- the agent's expected utility under the profile: its gain over the mass, where utilities are whole numbers of one part in `scale`
+-- the agent's expected utility under the profile: its gain over the mass, where utilities are whole numbers of one
+-- part in `scale`
 abbrev pub IsExpectedUtility : List NodeView → ℕ → List RuleView → ℕ → Ratio → Type 0
-IsExpectedUtility nodes scale p agent r = IsFraction r (gain_of nodes p agent) (mass nodes p * scale)
+IsExpectedUtility nodes scale p agent r =
+    IsFraction r (gain_of nodes p agent) (mass nodes p * scale)
 
 -- what stands for a row that there is not
 abbrev pub no_row : Row
@@ -46,7 +49,8 @@ rows_at (a ∷ answers) v = if a.decision == v then a.rows else rows_at answers 
 
 -- the profile of the answered choices: at each decision its pure rule
 abbrev pub pure_profile : List NodeView → List AnswerView → List RuleView
-pure_profile nodes answers = map (λ v. pure_rule nodes v (map (λ r. r.choice) (rows_at answers v))) (decisions_of nodes)
+pure_profile nodes answers =
+    map (λ v. pure_rule nodes v (map (λ r. r.choice) (rows_at answers v))) (decisions_of nodes)
 
 -- the profile of the answered choices of a diagram
 abbrev pub answered : DiagramView → SolvedView → List RuleView
@@ -64,10 +68,12 @@ KeepsWorth d solved =
     → HasWorth d.nodes d.decimals (answered d solved) v row (answer_at solved v row)
 
 -- The base of d in s: the rules of s at the decisions that d relies on, and uniform rules at all others.
-pub record IsBase (nodes : List NodeView) (s : List RuleView) (d : ℕ) (base : List RuleView) : Type 0 where
+pub record IsBase
+    (nodes : List NodeView) (s : List RuleView) (d : ℕ) (base : List RuleView) : Type 0 where
   pub profile : IsProfile nodes base
   pub relied : (e : ℕ) → ReliesOn nodes d e → SameRule base s e
-  pub others : (e : ℕ) → IsDecision nodes e → (ReliesOn nodes d e → ⊥) → SameRule base (uniform_profile nodes) e
+  pub others : (e : ℕ) → IsDecision nodes e → (ReliesOn nodes d e → ⊥)
+      → SameRule base (uniform_profile nodes) e
 
 -- the state is the first of those with the greatest gain
 pub record IsFirstBest (gain : ℕ → ℤ) (states choice : ℕ) : Type 0 where
@@ -75,21 +81,29 @@ pub record IsFirstBest (gain : ℕ → ℤ) (states choice : ℕ) : Type 0 where
   pub greatest : (s : ℕ) → s < states → gain s ≤ℤ gain choice
   pub first : (s : ℕ) → s < choice → gain s <ℤ gain choice
 
--- A row with mass takes the first best state against the base and is worth its gain over the mass. A row without mass takes the first state and is marked as never reached, which is None.
-pub record IsAnswerRow (nodes : List NodeView) (decimals : ℕ) (base : List RuleView) (d row : ℕ) (r : Row) : Type 0 where
-  pub best : pos 0 <ℤ mass_at nodes base d row → IsFirstBest (λ s. gain_at nodes base d s row) (states_of nodes d) r.choice
-  pub worth : pos 0 <ℤ mass_at nodes base d row → HasWorth nodes decimals base d row r
-  pub never : mass_at nodes base d row ≡ pos 0 → (r.choice ≡ 0) × (r.worth ≡ None)
+-- A row with mass takes the first best state against the base and is worth its gain over the mass. A row without mass
+-- takes the first state and is marked as never reached, which is None.
+pub record IsAnswerRow
+    (nodes : List NodeView) (decimals : ℕ) (base : List RuleView) (d row : ℕ) (r : Row) : Type 0
+  where
+    pub best : pos 0 <ℤ mass_at nodes base d row
+        → IsFirstBest (λ s. gain_at nodes base d s row) (states_of nodes d) r.choice
+    pub worth : pos 0 <ℤ mass_at nodes base d row → HasWorth nodes decimals base d row r
+    pub never : mass_at nodes base d row ≡ pos 0 → (r.choice ≡ 0) × (r.worth ≡ None)
 
 -- the rows answered at d, with the base of d in s
-pub record IsAnswerAt (nodes : List NodeView) (decimals : ℕ) (s : List RuleView) (d : ℕ) (rows : List Row) : Type 0 where
-  pub base : List RuleView
-  pub is_base : IsBase nodes s d base
-  pub each : (row : ℕ) → row < rows_of nodes d → IsAnswerRow nodes decimals base d row (slice_index_or rows row no_row)
+pub record IsAnswerAt
+    (nodes : List NodeView) (decimals : ℕ) (s : List RuleView) (d : ℕ) (rows : List Row) : Type 0
+  where
+    pub base : List RuleView
+    pub is_base : IsBase nodes s d base
+    pub each : (row : ℕ) → row < rows_of nodes d
+        → IsAnswerRow nodes decimals base d row (slice_index_or rows row no_row)
 
 -- what the profile is worth to each agent
 pub record IsGains (d : DiagramView) (s : List RuleView) (gains : List Ratio) : Type 0 where
-  pub each : (agent : ℕ) (r : Ratio) → agent < d.agents → IsExpectedUtility d.nodes (10 ^ d.decimals) s agent (slice_index_or gains agent r)
+  pub each : (agent : ℕ) (r : Ratio) → agent < d.agents
+      → IsExpectedUtility d.nodes (10 ^ d.decimals) s agent (slice_index_or gains agent r)
 
 -- an answer of a decision, with a row for each choice of its parents' states, choices in range and reduced fractions
 pub record FitsAnswer (nodes : List NodeView) (answer : AnswerView) : Type 0 where
@@ -100,9 +114,12 @@ pub record FitsAnswer (nodes : List NodeView) (answer : AnswerView) : Type 0 whe
 
 -- each decision has an answered row for each choice of its parents' states, with choices in range
 abbrev pub FitsAnswers : List NodeView → List AnswerView → Type 0
-FitsAnswers nodes answers = (v : ℕ) → IsDecision nodes v → (length (rows_at answers v) ≡ rows_of nodes v) × All (λ r. r.choice < states_of nodes v) (rows_at answers v)
+FitsAnswers nodes answers = (v : ℕ) → IsDecision nodes v
+    → (length (rows_at answers v) ≡ rows_of nodes v)
+    × All (λ r. r.choice < states_of nodes v) (rows_at answers v)
 
--- A value that a report can show: answers in the order given, each decision once, and a reduced fraction for each agent.
+-- A value that a report can show: answers in the order given, each decision once, and a reduced fraction for each
+-- agent.
 pub record FitsDiagram (d : DiagramView) (solved : SolvedView) : Type 0 where
   pub follow : map (λ a. a.decision) solved.answers ≡ solved.order
   pub answers : All (FitsAnswer d.nodes) solved.answers
@@ -111,9 +128,12 @@ pub record FitsDiagram (d : DiagramView) (solved : SolvedView) : Type 0 where
   pub gains : length solved.gains ≡ d.agents
   pub reduced : All IsReduced solved.gains
 
--- The answer of a diagram: decisions in the order of solving, each row best against the decision's base in the answered rules, and each agent's expected utility under them.
+-- The answer of a diagram: decisions in the order of solving, each row best against the decision's base in the
+-- answered rules, and each agent's expected utility under them.
 pub record IsAnswer (d : DiagramView) (solved : SolvedView) : Type 0 where
   pub fits : FitsDiagram d solved
   pub order : IsRelianceOrder d.nodes solved.order
-  pub answers : (v : ℕ) → IsDecision d.nodes v → IsAnswerAt d.nodes d.decimals (pure_profile d.nodes solved.answers) v (rows_at solved.answers v)
+  pub answers : (v : ℕ) → IsDecision d.nodes v
+      → IsAnswerAt d.nodes d.decimals (pure_profile d.nodes solved.answers) v
+      (rows_at solved.answers v)
   pub gains : IsGains d (pure_profile d.nodes solved.answers) solved.gains

@@ -25,9 +25,11 @@ bound_product nodes = nat_product_over (bound_factor nodes) (numbers_of nodes)
 
 -- the product over all nodes, times the greatest of the utilities' scale and their summed greatest values
 abbrev pub KeepsBound : DiagramView → Type 0
-KeepsBound d = bound_product d.nodes * max (10 ^ d.decimals) (greatest_utility d.nodes) ≤ greatest_number
+KeepsBound d =
+    bound_product d.nodes * max (10 ^ d.decimals) (greatest_utility d.nodes) ≤ greatest_number
 
--- how many worlds there are: the product of the state counts of all chance nodes and decisions, since a utility has one state
+-- how many worlds there are: the product of the state counts of all chance nodes and decisions, since a utility has
+-- one state
 abbrev pub world_count : List NodeView → ℕ
 world_count nodes = nat_product_over (states_of nodes) (numbers_of nodes)
 

@@ -1,4 +1,5 @@
--- Diagrams that differ in one place: an arc more or less, a chance node under an agent's control, decisions of others as chance nodes.
+-- Diagrams that differ in one place: an arc more or less, a chance node under an agent's control, decisions of others
+-- as chance nodes.
 use Rattle.std.specs.Prelude.{ℕ, List, [], ◌∷◌, ◌++◌, map, filter, ◌==◌, not, pos, if◌then◌else◌, slice_set}
 use Rattle.maid_model.specs.declared.diagrams.Kind.{Kind}
 use Rattle.maid_model.specs.declared.diagrams.Kind.TheVariants.{Chance, Decision, Utility}
@@ -9,15 +10,42 @@ use Rattle.maid_model.specs.Answers.{rows_at}
 
 -- d sees x no more; its other parents keep their order
 abbrev pub without_arc : List NodeView → ℕ → ℕ → List NodeView
-without_arc nodes x d = let node = node_at nodes d in slice_set nodes d (record { kind = node.kind; owner = node.owner; more = node.more; states = node.states; parents = filter (λ u. not (u == x)) node.parents; cells = node.cells })
+without_arc nodes x d =
+    let node = node_at nodes d in
+    slice_set nodes d (record {
+      kind = node.kind;
+      owner = node.owner;
+      more = node.more;
+      states = node.states;
+      parents = filter (λ u. not (u == x)) node.parents;
+      cells = node.cells;
+    })
 
 -- d sees x too, as its last parent
 abbrev pub with_arc : List NodeView → ℕ → ℕ → List NodeView
-with_arc nodes x d = let node = node_at nodes d in slice_set nodes d (record { kind = node.kind; owner = node.owner; more = node.more; states = node.states; parents = node.parents ++ x ∷ []; cells = node.cells })
+with_arc nodes x d =
+    let node = node_at nodes d in
+    slice_set nodes d (record {
+      kind = node.kind;
+      owner = node.owner;
+      more = node.more;
+      states = node.states;
+      parents = node.parents ++ x ∷ [];
+      cells = node.cells;
+    })
 
 -- the chance node x is a decision of the agent over its own parents
 abbrev pub as_decision : List NodeView → ℕ → ℕ → List NodeView
-as_decision nodes agent x = let node = node_at nodes x in slice_set nodes x (record { kind = Decision; owner = agent; more = []; states = node.states; parents = node.parents; cells = [] })
+as_decision nodes agent x =
+    let node = node_at nodes x in
+    slice_set nodes x (record {
+      kind = Decision;
+      owner = agent;
+      more = [];
+      states = node.states;
+      parents = node.parents;
+      cells = [];
+    })
 
 -- a decision that has become a chance node: in each row weight 1 on the answered choice
 abbrev pub as_chance : List NodeView → List AnswerView → ℕ → NodeView
@@ -31,10 +59,13 @@ as_chance nodes answers v = record {
 }
 
 abbrev pub fixed_by : Kind → List NodeView → ℕ → List AnswerView → ℕ → NodeView
-fixed_by Decision nodes agent answers v = if agent_of nodes v == agent then node_at nodes v else as_chance nodes answers v
+fixed_by Decision nodes agent answers v =
+    if agent_of nodes v == agent then node_at nodes v else as_chance nodes answers v
 fixed_by Chance nodes agent answers v = node_at nodes v
 fixed_by Utility nodes agent answers v = node_at nodes v
 
--- the diagram in which only the agent decides: the other agents' decisions are chance nodes that take the answered choices
+-- the diagram in which only the agent decides: the other agents' decisions are chance nodes that take the answered
+-- choices
 abbrev pub one_agent : List NodeView → ℕ → List AnswerView → List NodeView
-one_agent nodes agent answers = map (λ v. fixed_by (node_at nodes v).kind nodes agent answers v) (numbers_of nodes)
+one_agent nodes agent answers =
+    map (λ v. fixed_by (node_at nodes v).kind nodes agent answers v) (numbers_of nodes)

@@ -20,7 +20,9 @@ mass nodes p = nat_product_over (weight_total nodes p) (numbers_of nodes)
 
 -- the cell that the world picks in the utility v, if v is a utility of the agent
 abbrev pub value_for : List NodeView → ℕ → ℕ → World → ℤ
-value_for nodes agent v w = if is_utility_of nodes agent v then slice_index_or (node_at nodes v).cells (row_of nodes v w) (pos 0) else pos 0
+value_for nodes agent v w = if is_utility_of nodes agent v
+    then slice_index_or (node_at nodes v).cells (row_of nodes v w) (pos 0)
+    else pos 0
 
 -- the summed utilities of an agent in a world
 abbrev pub utility : List NodeView → ℕ → World → ℤ
@@ -40,7 +42,8 @@ weight_without nodes p d w = product_over (λ v. table_without nodes p d v w) (n
 
 -- the cell that the world picks in v, if v is a utility of the decision's agent that descends from the decision
 abbrev pub value_below : List NodeView → ℕ → ℕ → World → ℤ
-value_below nodes d v w = if descends nodes d v then value_for nodes (agent_of nodes d) v w else pos 0
+value_below nodes d v w =
+    if descends nodes d v then value_for nodes (agent_of nodes d) v w else pos 0
 
 -- the summed utilities of the decision's agent that descend from the decision
 abbrev pub utility_below : List NodeView → ℕ → World → ℤ
@@ -50,13 +53,18 @@ utility_below nodes d w = sum_each (λ v. value_below nodes d v w) (numbers_of n
 abbrev pub is_at : List NodeView → ℕ → ℕ → ℕ → World → Bool
 is_at nodes d state row w = (w d == state) && (row_of nodes d w == row)
 
--- G: the sum, over the worlds in which d has this state and its parents have the states of this row, of the weight without d's rule times the utilities below d
+-- G: the sum, over the worlds in which d has this state and its parents have the states of this row, of the weight
+-- without d's rule times the utilities below d
 abbrev pub gain_at : List NodeView → List RuleView → ℕ → ℕ → ℕ → ℤ
-gain_at nodes p d state row = sum_worlds nodes (λ w. if is_at nodes d state row w then weight_without nodes p d w *ℤ utility_below nodes d w else pos 0)
+gain_at nodes p d state row = sum_worlds nodes (λ w.
+    if is_at nodes d state row w
+    then weight_without nodes p d w *ℤ utility_below nodes d w
+    else pos 0)
 
 -- R: that sum at the first state, without the utilities
 abbrev pub mass_at : List NodeView → List RuleView → ℕ → ℕ → ℤ
-mass_at nodes p d row = sum_worlds nodes (λ w. if is_at nodes d 0 row w then weight_without nodes p d w else pos 0)
+mass_at nodes p d row =
+    sum_worlds nodes (λ w. if is_at nodes d 0 row w then weight_without nodes p d w else pos 0)
 
 -- the greatest absolute value of a list
 abbrev pub greatest_abs : List ℤ → ℕ
@@ -65,7 +73,9 @@ greatest_abs (x ∷ xs) = max (nat_abs x) (greatest_abs xs)
 
 -- S: the greatest absolute value of each utility, added up
 abbrev pub greatest_utility : List NodeView → ℕ
-greatest_utility nodes = nat_sum_over (λ v. if is_utility (node_at nodes v).kind then greatest_abs (node_at nodes v).cells else 0) (numbers_of nodes)
+greatest_utility nodes = nat_sum_over
+    (λ v. if is_utility (node_at nodes v).kind then greatest_abs (node_at nodes v).cells else 0)
+    (numbers_of nodes)
 
 -- v's total, but at the decision d the count of its states
 abbrev pub base_total : List NodeView → List RuleView → ℕ → ℕ → ℕ

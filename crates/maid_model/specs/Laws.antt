@@ -11,18 +11,21 @@ use Rattle.maid_model.specs.Worlds.{IsWorld, worlds, worlds_from}
 
 -- the test of descent says where a path leads
 abbrev pub TestsDescent : Type 0
-TestsDescent = (nodes : List NodeView) (u v : ℕ) → (descends nodes u v ≡ true) ↔ Descends (Arc nodes) u v
+TestsDescent =
+    (nodes : List NodeView) (u v : ℕ) → (descends nodes u v ≡ true) ↔ Descends (Arc nodes) u v
 
 -- a list of all nodes, each once, in which each stands after its parents
 pub record IsParentsFirst (nodes : List NodeView) (order : List ℕ) : Type 0 where
   pub all : (v : ℕ) → v < length nodes → Contains order v
   pub within : (v : ℕ) → Contains order v → v < length nodes
   pub once : AllDifferent order
-  pub parents_first : (i u : ℕ) → i < length order → Arc nodes u (slice_index order i) → Contains (take i order) u
+  pub parents_first :
+      (i u : ℕ) → i < length order → Arc nodes u (slice_index order i) → Contains (take i order) u
 
 -- every graph has such a list
 abbrev pub GraphsHaveOrders : Type 0
-GraphsHaveOrders = (nodes : List NodeView) → IsGraph nodes → (order : List ℕ) × IsParentsFirst nodes order
+GraphsHaveOrders =
+    (nodes : List NodeView) → IsGraph nodes → (order : List ℕ) × IsParentsFirst nodes order
 
 -- the list of all worlds has each world once
 pub record ListsWorlds : Type 0 where
@@ -31,11 +34,13 @@ pub record ListsWorlds : Type 0 where
 
 -- the worlds from xs on are the end of the list of all worlds
 abbrev pub EndsWithWorldsFrom : Type 0
-EndsWithWorldsFrom = (counts xs : List ℕ) → IsWorld counts xs → (front : List (List ℕ)) × (worlds counts ≡ front ++ worlds_from counts xs)
+EndsWithWorldsFrom = (counts xs : List ℕ) → IsWorld counts xs
+    → (front : List (List ℕ)) × (worlds counts ≡ front ++ worlds_from counts xs)
 
 -- a profile has a rule for each decision
 abbrev pub HasRules : Type 0
-HasRules = (nodes : List NodeView) (p : List RuleView) (v : ℕ) → IsProfile nodes p → IsDecision nodes v → HasRule p v
+HasRules = (nodes : List NodeView) (p : List RuleView) (v : ℕ) → IsProfile nodes p
+    → IsDecision nodes v → HasRule p v
 
 -- what passes the tests of a diagram is one
 abbrev pub TestsDiagrams : Type 0
@@ -43,8 +48,12 @@ TestsDiagrams = (d : DiagramView) → all_true (diagram_tests d) ≡ true → Is
 
 -- what passes the tests of a rule is one
 abbrev pub TestsRules : Type 0
-TestsRules = (nodes : List NodeView) (r : RuleView) → all_true (rule_tests nodes r) ≡ true → IsRule nodes r
+TestsRules =
+    (nodes : List NodeView) (r : RuleView) → all_true (rule_tests nodes r) ≡ true → IsRule nodes r
 
 -- rules of all decisions in text order, which pass, are a profile
 abbrev pub TestsProfiles : Type 0
-TestsProfiles = (nodes : List NodeView) (p : List RuleView) → map (λ r. r.decision) p ≡ decisions_of nodes → list_all (λ v. all_true (rule_tests nodes (rule_at p v))) (decisions_of nodes) ≡ true → IsProfile nodes p
+TestsProfiles = (nodes : List NodeView) (p : List RuleView)
+    → map (λ r. r.decision) p ≡ decisions_of nodes
+    → list_all (λ v. all_true (rule_tests nodes (rule_at p v))) (decisions_of nodes) ≡ true
+    → IsProfile nodes p

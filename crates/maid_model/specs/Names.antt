@@ -27,7 +27,8 @@ agent_name names agent = slice_index_or names.agents agent []
 pub record NamesFit (d : DiagramView) (names : NamesView) : Type 0 where
   pub nodes : length names.nodes ≡ length d.nodes
   pub labels : length names.labels ≡ length d.nodes
-  pub states : (v : ℕ) → v < length d.nodes → (node_at d.nodes v).kind ≢ Utility → length (labels_of names v) ≡ states_of d.nodes v
+  pub states : (v : ℕ) → v < length d.nodes → (node_at d.nodes v).kind ≢ Utility
+      → length (labels_of names v) ≡ states_of d.nodes v
   pub agents : length names.agents ≡ d.agents
 
 -- the first place at which the list of names has the name

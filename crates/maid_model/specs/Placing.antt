@@ -18,7 +18,8 @@ CanPlace Item Needs placed v = Remains Item placed v × ((e : ℕ) → Needs v e
 
 -- each time the first item that can be placed is placed
 abbrev pub IsPlacing : (ℕ → Type 0) → (ℕ → ℕ → Type 0) → List ℕ → Type 0
-IsPlacing Item Needs order = (k : ℕ) → k < length order → IsLeast (CanPlace Item Needs (take k order)) (slice_index order k)
+IsPlacing Item Needs order =
+    (k : ℕ) → k < length order → IsLeast (CanPlace Item Needs (take k order)) (slice_index order k)
 
 -- all items are placed
 pub record IsOrder (Item : ℕ → Type 0) (Needs : ℕ → ℕ → Type 0) (order : List ℕ) : Type 0 where
@@ -28,8 +29,10 @@ pub record IsOrder (Item : ℕ → Type 0) (Needs : ℕ → ℕ → Type 0) (ord
 -- from the first that is left, each time to the first that is left of those that the last one needs
 pub record IsTrail (Left : ℕ → Type 0) (Needs : ℕ → ℕ → Type 0) (trail : List ℕ) : Type 0 where
   pub first : 0 < length trail → IsLeast Left (slice_index trail 0)
-  pub next : (k : ℕ) → k + 1 < length trail → IsLeast (λ e. Needs (slice_index trail k) e × Left e) (slice_index trail (k + 1))
-  pub distinct : (i j : ℕ) → i < j → j < length trail → slice_index trail i ≡ slice_index trail j → ⊥
+  pub next : (k : ℕ) → k + 1 < length trail
+      → IsLeast (λ e. Needs (slice_index trail k) e × Left e) (slice_index trail (k + 1))
+  pub distinct :
+      (i j : ℕ) → i < j → j < length trail → slice_index trail i ≡ slice_index trail j → ⊥
 
 -- the trail comes back to its place `back`, and the cycle is its rest from there
 pub record IsRound (Left : ℕ → Type 0) (Needs : ℕ → ℕ → Type 0) (cycle : List ℕ) : Type 0 where
@@ -37,7 +40,8 @@ pub record IsRound (Left : ℕ → Type 0) (Needs : ℕ → ℕ → Type 0) (cyc
   pub back : ℕ
   pub is_trail : IsTrail Left Needs trail
   pub within : back < length trail
-  pub closes : IsLeast (λ e. Needs (slice_index trail (length trail - 1)) e × Left e) (slice_index trail back)
+  pub closes : IsLeast (λ e. Needs (slice_index trail (length trail - 1)) e × Left e)
+      (slice_index trail back)
   pub is : cycle ≡ drop back trail
 
 -- items are placed as long as one can be, some remain, and a round among those that remain is the cycle

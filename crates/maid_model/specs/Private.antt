@@ -22,7 +22,9 @@ pub record HasPlaces (nodes : List NodeView) (p : List RuleView) (places : List 
 
 -- the cell that the world picks in v, if v is marked
 abbrev pub marked_value : List NodeView → NodeSet → ℕ → World → ℤ
-marked_value nodes marks v w = if holds marks v then slice_index_or (node_at nodes v).cells (row_of nodes v w) (pos 0) else pos 0
+marked_value nodes marks v w = if holds marks v
+    then slice_index_or (node_at nodes v).cells (row_of nodes v w) (pos 0)
+    else pos 0
 
 -- the sum of the marked cells
 abbrev pub marked_utility : List NodeView → NodeSet → World → ℤ
@@ -30,4 +32,5 @@ marked_utility nodes marks w = sum_each (λ v. marked_value nodes marks v w) (nu
 
 -- only utilities are marked
 abbrev pub MarksUtilities : List NodeView → NodeSet → Type 0
-MarksUtilities nodes marks = (v : ℕ) → v < length nodes → IsIn marks v → (node_at nodes v).kind ≡ Utility
+MarksUtilities nodes marks =
+    (v : ℕ) → v < length nodes → IsIn marks v → (node_at nodes v).kind ≡ Utility

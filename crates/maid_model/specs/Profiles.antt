@@ -8,16 +8,22 @@ use Rattle.maid_model.specs.Tables.{IsTable, weights_of, rule_total}
 -- a rule of the decision: one weight for each row and state, and one positive total for every row
 pub record IsRule (nodes : List NodeView) (r : RuleView) : Type 0 where
   pub positive : 0 < r.total
-  pub table : IsTable (map pos r.weights) (rows_of nodes r.decision) (states_of nodes r.decision) r.total
+  pub table :
+      IsTable (map pos r.weights) (rows_of nodes r.decision) (states_of nodes r.decision) r.total
 
 -- a profile: one rule for each decision, in text order
 pub record IsProfile (nodes : List NodeView) (p : List RuleView) : Type 0 where
   pub decisions : map (λ r. r.decision) p ≡ decisions_of nodes
-  pub rule : (v : ℕ) → IsDecision nodes v → IsRule nodes (record { decision = v; total = rule_total p v; weights = weights_of p v })
+  pub rule : (v : ℕ) → IsDecision nodes v
+      → IsRule nodes (record { decision = v; total = rule_total p v; weights = weights_of p v })
 
 -- the rule that gives every state the weight 1
 abbrev pub uniform_rule : List NodeView → ℕ → RuleView
-uniform_rule nodes v = record { decision = v; total = states_of nodes v; weights = replicate (rows_of nodes v * states_of nodes v) 1 }
+uniform_rule nodes v = record {
+  decision = v;
+  total = states_of nodes v;
+  weights = replicate (rows_of nodes v * states_of nodes v) 1;
+}
 
 -- a rule of uniform weights at every decision
 abbrev pub uniform_profile : List NodeView → List RuleView
@@ -29,7 +35,8 @@ pure_row states choice = map (λ s. if s == choice then 1 else 0) (range_with_le
 
 -- the rule of total 1 that takes in each row the chosen state
 abbrev pub pure_rule : List NodeView → ℕ → List ℕ → RuleView
-pure_rule nodes v choices = record { decision = v; total = 1; weights = flat_map (pure_row (states_of nodes v)) choices }
+pure_rule nodes v choices =
+    record { decision = v; total = 1; weights = flat_map (pure_row (states_of nodes v)) choices }
 
 -- the two profiles have the same rule at the decision
 pub record SameRule (p q : List RuleView) (v : ℕ) : Type 0 where

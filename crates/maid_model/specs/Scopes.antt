@@ -15,13 +15,15 @@ use Rattle.maid_model.specs.Parts.{with_ancestors, place_in, part_of, rules_in}
 
 -- the utilities of d's agent that descend from d
 abbrev pub goals_of : List NodeView → ℕ → List ℕ
-goals_of nodes d = filter (λ u. is_utility_of nodes (agent_of nodes d) u && descends nodes d u) (numbers_of nodes)
+goals_of nodes d =
+    filter (λ u. is_utility_of nodes (agent_of nodes d) u && descends nodes d u) (numbers_of nodes)
 
 -- the utilities of the agent
 abbrev pub utilities_for : List NodeView → ℕ → List ℕ
 utilities_for nodes agent = filter (is_utility_of nodes agent) (numbers_of nodes)
 
--- the scope of a decision: the nodes from which a path of nought or more arcs leads to it, or to a utility of its agent that descends from it
+-- the scope of a decision: the nodes from which a path of nought or more arcs leads to it, or to a utility of its
+-- agent that descends from it
 abbrev pub scope_of : List NodeView → ℕ → List ℕ
 scope_of nodes d = with_ancestors nodes (d ∷ goals_of nodes d)
 
@@ -75,11 +77,13 @@ pub record IsInScope (nodes : List NodeView) (d v : ℕ) : Type 0 where
 
 -- a decision's P, times the greatest of the utilities' scale and S
 abbrev pub scope_bound : DiagramView → ℕ → ℕ
-scope_bound d v = scope_product d.nodes v * max (10 ^ d.decimals) (greatest_of d.nodes (goals_of d.nodes v))
+scope_bound d v =
+    scope_product d.nodes v * max (10 ^ d.decimals) (greatest_of d.nodes (goals_of d.nodes v))
 
 -- the same of an agent
 abbrev pub scope_bound_for : DiagramView → ℕ → ℕ
-scope_bound_for d agent = scope_product_for d.nodes agent * max (10 ^ d.decimals) (greatest_of d.nodes (utilities_for d.nodes agent))
+scope_bound_for d agent = scope_product_for d.nodes agent
+    * max (10 ^ d.decimals) (greatest_of d.nodes (utilities_for d.nodes agent))
 
 -- the weight bound holds in the scope of each decision and of each agent
 pub record KeepsScopedBounds (d : DiagramView) : Type 0 where

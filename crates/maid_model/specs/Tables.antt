@@ -36,11 +36,13 @@ table_by Utility cells weights c = pos 1
 
 -- the chance cell or rule weight that the world picks at v; a utility's factor is 1
 abbrev pub table : List NodeView → List RuleView → ℕ → World → ℤ
-table nodes p v w = table_by (node_at nodes v).kind (node_at nodes v).cells (weights_of p v) (cell_of nodes v w)
+table nodes p v w =
+    table_by (node_at nodes v).kind (node_at nodes v).cells (weights_of p v) (cell_of nodes v w)
 
 -- W(v): what each row of a chance table adds up to, read off its first row
 abbrev pub chance_total : List NodeView → ℕ → ℕ
-chance_total nodes v = nat_abs (sum_below (states_of nodes v) (λ s. slice_index_or (node_at nodes v).cells s (pos 0)))
+chance_total nodes v =
+    nat_abs (sum_below (states_of nodes v) (λ s. slice_index_or (node_at nodes v).cells s (pos 0)))
 
 abbrev pub total_by : Kind → ℕ → ℕ → ℕ
 total_by Chance chance rule = chance
@@ -55,9 +57,11 @@ weight_total nodes p v = total_by (node_at nodes v).kind (chance_total nodes v) 
 pub record IsTable (cells : List ℤ) (rows states total : ℕ) : Type 0 where
   pub len : length cells ≡ rows * states
   pub not_negative : (i : ℕ) → pos 0 ≤ℤ slice_index_or cells i (pos 0)
-  pub row : (r : ℕ) → r < rows → sum_below states (λ s. slice_index_or cells (r * states + s) (pos 0)) ≡ pos total
+  pub row : (r : ℕ) → r < rows
+      → sum_below states (λ s. slice_index_or cells (r * states + s) (pos 0)) ≡ pos total
 
 -- each chance table has one positive total
 pub record HasChanceTables (nodes : List NodeView) : Type 0 where
   pub positive : (v : ℕ) → (node_at nodes v).kind ≡ Chance → 0 < chance_total nodes v
-  pub table : (v : ℕ) → (node_at nodes v).kind ≡ Chance → IsTable (node_at nodes v).cells (rows_of nodes v) (states_of nodes v) (chance_total nodes v)
+  pub table : (v : ℕ) → (node_at nodes v).kind ≡ Chance
+      → IsTable (node_at nodes v).cells (rows_of nodes v) (states_of nodes v) (chance_total nodes v)

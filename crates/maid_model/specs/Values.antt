@@ -25,10 +25,12 @@ PrintsOptima d solved =
 -- the reduced fraction that is a less b
 pub record IsDifference (r a b : Ratio) : Type 0 where
   pub reduced : IsReduced r
-  pub same : (r.num *ℤ pos (a.den * b.den)) +ℤ (b.num *ℤ pos (a.den * r.den)) ≡ a.num *ℤ pos (r.den * b.den)
+  pub same : (r.num *ℤ pos (a.den * b.den)) +ℤ (b.num *ℤ pos (a.den * r.den))
+      ≡ a.num *ℤ pos (r.den * b.den)
 
 -- the agent's optimum in the one diagram, less its optimum in the other
-pub record IsDifferenceOfOptima (nodes others : List NodeView) (decimals agent : ℕ) (r : Ratio) : Type 0 where
+pub record IsDifferenceOfOptima
+    (nodes others : List NodeView) (decimals agent : ℕ) (r : Ratio) : Type 0 where
   pub more : Ratio
   pub is_more : IsOptimum nodes decimals agent more
   pub less : Ratio
@@ -40,24 +42,36 @@ pub record IsDecisionOf (nodes : List NodeView) (d agent : ℕ) : Type 0 where
   pub decision : IsDecision nodes d
   pub owner : agent_of nodes d ≡ agent
 
--- Information value of an arc that is there, from x into a decision d of the agent: in the diagram in which only the agent decides, the optimum with the arc less the optimum without it.
-pub record IsValueOfSeen (nodes : List NodeView) (decimals : ℕ) (answers : List AnswerView) (agent x d : ℕ) (r : Ratio) : Type 0 where
+-- Information value of an arc that is there, from x into a decision d of the agent: in the diagram in which only the
+-- agent decides, the optimum with the arc less the optimum without it.
+pub record IsValueOfSeen
+    (nodes : List NodeView) (decimals : ℕ) (answers : List AnswerView) (agent x d : ℕ) (r : Ratio) :
+    Type 0 where
   pub own : IsDecisionOf nodes d agent
   pub seen : Arc nodes x d
-  pub value : IsDifferenceOfOptima (one_agent nodes agent answers) (without_arc (one_agent nodes agent answers) x d) decimals agent r
+  pub value : IsDifferenceOfOptima (one_agent nodes agent answers)
+      (without_arc (one_agent nodes agent answers) x d) decimals agent r
 
 -- Information value of an arc that is not there and can be added: the diagram with the arc less the one without it.
-pub record IsValueOfUnseen (nodes : List NodeView) (decimals : ℕ) (answers : List AnswerView) (agent x d : ℕ) (r : Ratio) : Type 0 where
+pub record IsValueOfUnseen
+    (nodes : List NodeView) (decimals : ℕ) (answers : List AnswerView) (agent x d : ℕ) (r : Ratio) :
+    Type 0 where
   pub own : IsDecisionOf nodes d agent
   pub unseen : Arc nodes x d → ⊥
   pub can_see : IsGraph (with_arc nodes x d)
-  pub value : IsDifferenceOfOptima (with_arc (one_agent nodes agent answers) x d) (one_agent nodes agent answers) decimals agent r
+  pub value : IsDifferenceOfOptima (with_arc (one_agent nodes agent answers) x d)
+      (one_agent nodes agent answers) decimals agent r
 
--- Control value: the optimum where the chance node x is a decision of the agent over its own parents, less the optimum before.
-pub record IsValueOfControl (nodes : List NodeView) (decimals : ℕ) (answers : List AnswerView) (agent x : ℕ) (r : Ratio) : Type 0 where
+-- Control value: the optimum where the chance node x is a decision of the agent over its own parents, less the
+-- optimum before.
+pub record IsValueOfControl
+    (nodes : List NodeView) (decimals : ℕ) (answers : List AnswerView) (agent x : ℕ) (r : Ratio) :
+    Type 0 where
   pub chance : (node_at nodes x).kind ≡ Chance
-  pub value : IsDifferenceOfOptima (as_decision (one_agent nodes agent answers) agent x) (one_agent nodes agent answers) decimals agent r
+  pub value : IsDifferenceOfOptima (as_decision (one_agent nodes agent answers) agent x)
+      (one_agent nodes agent answers) decimals agent r
 
 -- no utility of the agent descends from x
 abbrev pub IsUnreached : List NodeView → ℕ → ℕ → Type 0
-IsUnreached nodes agent x = (u : ℕ) → u < length nodes → (node_at nodes u).kind ≡ Utility → Owns nodes agent u → Descends (Arc nodes) x u → ⊥
+IsUnreached nodes agent x = (u : ℕ) → u < length nodes → (node_at nodes u).kind ≡ Utility
+    → Owns nodes agent u → Descends (Arc nodes) x u → ⊥

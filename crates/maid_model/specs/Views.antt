@@ -4,7 +4,8 @@ use Rattle.maid_model.specs.declared.diagrams.Kind.{Kind}
 use Rattle.maid_model.specs.declared.answers.Row.{Row}
 use Rattle.maid_model.specs.declared.answers.Ratio.{Ratio}
 
--- a node's kind, the number of its first owner, its further owners in written order, the count of its states, its parents in order and its table
+-- a node's kind, the number of its first owner, its further owners in written order, the count of its states, its
+-- parents in order and its table
 pub record NodeView : Type 0 where
   pub kind : Kind
   pub owner : ℕ

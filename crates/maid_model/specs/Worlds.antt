@@ -27,7 +27,8 @@ pub record IsWorld (counts xs : List ℕ) : Type 0 where
 abbrev pub worlds_from : List ℕ → List ℕ → List (List ℕ)
 worlds_from [] xs = [] ∷ []
 worlds_from (c ∷ cs) [] = []
-worlds_from (c ∷ cs) (x ∷ xs) = map (λ ys. x ∷ ys) (worlds_from cs xs) ++ flat_map (λ s. map (λ ys. s ∷ ys) (worlds cs)) (range_with_len (x + 1) (c - (x + 1)))
+worlds_from (c ∷ cs) (x ∷ xs) = map (λ ys. x ∷ ys) (worlds_from cs xs)
+    ++ flat_map (λ s. map (λ ys. s ∷ ys) (worlds cs)) (range_with_len (x + 1) (c - (x + 1)))
 
 -- the first world of n nodes
 abbrev pub first_world : ℕ → List ℕ

@@ -20,7 +20,9 @@ abbrev pub ClosedInto : (ℕ → List ℕ) → Way → (ℕ → Type 0) → Node
 ClosedInto parents way Into set = (v : ℕ) → Into v → ClosedAt parents way v set
 
 -- one step: the set grows along steps alone, and where nothing changes it has the property Done
-pub record IsFollowed (Step : ℕ → ℕ → Type 0) (Done : NodeSet → Type 0) (before after : NodeSet) (changed : Bool) : Type 0 where
+pub record IsFollowed
+    (Step : ℕ → ℕ → Type 0) (Done : NodeSet → Type 0) (before after : NodeSet) (changed : Bool) :
+    Type 0 where
   pub kept : (v : ℕ) → IsIn before v → IsIn after v
   pub sound : (v : ℕ) → IsIn after v → LeadsFrom Step (IsIn before) v
   pub steady : changed ≡ false → (after ≡ before) × Done before

@@ -17,7 +17,8 @@ abbrev pub IsOutcome : List NodeView → Result (List ℕ) (List ℕ) → Type 0
 IsOutcome nodes (Ok order) = IsRelianceOrder nodes order
 IsOutcome nodes (Err cycle) = IsBlockedBy nodes cycle
 
--- the relevance graph of a diagram: it tells of each pair of numbers whether the one relies on the other, and lists those on which a decision relies in text order
+-- the relevance graph of a diagram: it tells of each pair of numbers whether the one relies on the other, and lists
+-- those on which a decision relies in text order
 pub record IsRelevance (nodes : List NodeView) (view : RelevanceView) : Type 0 where
   pub count : length view.relied_on ≡ length nodes
   pub pairs : (d e : ℕ) → ReliesTo view d e ↔ ReliesOn nodes d e

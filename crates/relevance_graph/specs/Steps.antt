@@ -1,4 +1,5 @@
--- What the steps of finding a relevance graph promise one another. Only private functions and the invariant of private fields cite this file.
+-- What the steps of finding a relevance graph promise one another. Only private functions and the invariant of
+-- private fields cite this file.
 use Rattle.std.specs.Prelude.{◌≡◌, ◌↔◌, ◌<◌, ℕ, List, length, Contains}
 use Rattle.maid_model.specs.Views.{NodeView}
 use Rattle.maid_model.specs.Nodes.{IsDecision}
@@ -16,12 +17,14 @@ IsLiveDecision nodes v = IsDecision nodes v × IsLive nodes v
 
 -- given d and its parents an active walk leads from an extra parent of e to a goal of d
 abbrev pub LeadsToGoal : List NodeView → ℕ → ℕ → Type 0
-LeadsToGoal nodes d e =
-    (goal : ℕ) × IsGoal nodes d goal × IsReachedFromParent (Arc nodes) (IsLive nodes) (IsInFamily (Arc nodes) d) (length nodes) e goal
+LeadsToGoal nodes d e = (goal : ℕ) × IsGoal nodes d goal
+    × IsReachedFromParent (Arc nodes) (IsLive nodes) (IsInFamily (Arc nodes) d) (length nodes) e
+    goal
 
 -- the marks tell from which nodes' extra parents an active walk leads to a goal of d
 abbrev pub IsSearchedFor : List NodeView → ℕ → Marks → Type 0
-IsSearchedFor nodes d marks = (e : ℕ) → e < length nodes → IsIn marks.parents_reached e ↔ LeadsToGoal nodes d e
+IsSearchedFor nodes d marks =
+    (e : ℕ) → e < length nodes → IsIn marks.parents_reached e ↔ LeadsToGoal nodes d e
 
 -- the numbers below n with the property P, in rising order
 pub record ListsBelow (P : ℕ → Type 0) (n : ℕ) (list : List ℕ) : Type 0 where

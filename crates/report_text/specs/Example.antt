@@ -5,10 +5,18 @@ use Rattle.maid_model.specs.Views.{NodeView, DiagramView}
 use Rattle.maid_model.specs.Names.{NamesView}
 
 abbrev pub tie_decision : NodeView
-tie_decision = record { kind = Decision; owner = 0; more = []; states = 2; parents = []; cells = [] }
+tie_decision =
+    record { kind = Decision; owner = 0; more = []; states = 2; parents = []; cells = [] }
 
 abbrev pub tie_utility : NodeView
-tie_utility = record { kind = Utility; owner = 0; more = []; states = 1; parents = 0 ∷ []; cells = pos 5 ∷ pos 5 ∷ [] }
+tie_utility = record {
+  kind = Utility;
+  owner = 0;
+  more = [];
+  states = 1;
+  parents = 0 ∷ [];
+  cells = pos 5 ∷ pos 5 ∷ [];
+}
 
 abbrev pub tie_diagram : DiagramView
 tie_diagram = record { nodes = tie_decision ∷ tie_utility ∷ []; agents = 1; decimals = 0 }

@@ -15,16 +15,20 @@ pub record IsTold (d : DiagramView) (names : NamesView) : Type 0 where
 
 -- a text is read as one value at most
 abbrev pub OneValue : Type 0
-OneValue = (d : DiagramView) (names : NamesView) (text : List ℕ) (solved other : SolvedView) → IsTold d names → IsReadAs d names text solved → IsReadAs d names text other → solved ≡ other
+OneValue = (d : DiagramView) (names : NamesView) (text : List ℕ) (solved other : SolvedView)
+    → IsTold d names → IsReadAs d names text solved → IsReadAs d names text other → solved ≡ other
 
 -- what is printed of a value is read as that value and as no other
 abbrev pub ReadsBack : Type 0
-ReadsBack = (d : DiagramView) (names : NamesView) (solved other : SolvedView) → IsTold d names → CanStand d solved → IsReadAs d names (report d names solved) other ↔ (other ≡ solved)
+ReadsBack = (d : DiagramView) (names : NamesView) (solved other : SolvedView) → IsTold d names
+    → CanStand d solved → IsReadAs d names (report d names solved) other ↔ (other ≡ solved)
 
 -- a text that is a report has no bad line
 abbrev pub Exclusive : Type 0
-Exclusive = (d : DiagramView) (names : NamesView) (text : List ℕ) → IsExclusive (report_pass d names text)
+Exclusive =
+    (d : DiagramView) (names : NamesView) (text : List ℕ) → IsExclusive (report_pass d names text)
 
 -- a text has one bad line at most
 abbrev pub OneBadLine : Type 0
-OneBadLine = (d : DiagramView) (names : NamesView) (text : List ℕ) → HasOneFault (report_pass d names text)
+OneBadLine =
+    (d : DiagramView) (names : NamesView) (text : List ℕ) → HasOneFault (report_pass d names text)

@@ -44,21 +44,24 @@ pub record CanStand (d : DiagramView) (solved : SolvedView) : Type 0 where
   pub gains : All FitsRatio solved.gains
 
 -- the value stands, and the text is its report
-pub record IsReadAs (d : DiagramView) (names : NamesView) (text : List ℕ) (solved : SolvedView) : Type 0 where
+pub record IsReadAs
+    (d : DiagramView) (names : NamesView) (text : List ℕ) (solved : SolvedView) : Type 0 where
   pub value : CanStand d solved
   pub is : text ≡ report d names solved
 
 -- the lines of a text, each up to and with its LF; a last piece without LF is a line too
 abbrev pub lines_of : List ℕ → List (List ℕ)
 lines_of [] = []
-lines_of (byte ∷ bytes) = if byte == 10 then (10 ∷ []) ∷ lines_of bytes else onto_first byte (lines_of bytes)
+lines_of (byte ∷ bytes) =
+    if byte == 10 then (10 ∷ []) ∷ lines_of bytes else onto_first byte (lines_of bytes)
 
 -- some report of the diagram has the text's first n lines, and no further one among its first n where the text has none
 abbrev pub BeginsReport : DiagramView → NamesView → List ℕ → ℕ → Type 0
-BeginsReport d names text n =
-    (solved : SolvedView) × CanStand d solved × (take n (lines_of text) ≡ take n (lines_of (report d names solved)))
+BeginsReport d names text n = (solved : SolvedView) × CanStand d solved
+    × (take n (lines_of text) ≡ take n (lines_of (report d names solved)))
 
--- the least line, counted from 1, up to and with which no report has the text's lines; behind the last line where the text ends too early
+-- the least line, counted from 1, up to and with which no report has the text's lines; behind the last line where the
+-- text ends too early
 pub record IsBadLine (d : DiagramView) (names : NamesView) (text : List ℕ) (line : ℕ) : Type 0 where
   pub before : BeginsReport d names text (line - 1)
   pub none : BeginsReport d names text line → ⊥

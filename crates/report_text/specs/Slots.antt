@@ -1,4 +1,5 @@
--- What each line of a report may show, and at which line a text stops to be one: the words of the reading, line by line.
+-- What each line of a report may show, and at which line a text stops to be one: the words of the reading, line by
+-- line.
 use Rattle.std.specs.Prelude.{◌≡◌, ◌≢◌, ◌⊎◌, ℕ, zero, suc, ◌+◌, ◌<◌, List, [], ◌∷◌, ◌++◌, map, length, codes, decimal, ◌==◌, if◌then◌else◌, Bool, true, not, All, Contains}
 use Rattle.std.specs.List.{flat_map, list_all}
 use Rattle.maid_model.specs.declared.answers.Ratio.{Ratio}
@@ -33,8 +34,9 @@ den_text den = if den == 1 then [] else 47 ∷ decimal den
 
 -- a decision's line without its end
 abbrev pub decision_words : List NodeView → NamesView → ℕ → List ℕ
-decision_words nodes names d =
-    codes "decision " ++ name_of names d ++ codes " by " ++ quoted (agent_name names (agent_of nodes d)) ++ codes " sees" ++ spaced (map (name_of names) (parents_of nodes d))
+decision_words nodes names d = codes "decision " ++ name_of names d ++ codes " by "
+    ++ quoted (agent_name names (agent_of nodes d)) ++ codes " sees"
+    ++ spaced (map (name_of names) (parents_of nodes d))
 
 -- the line of the order without its end
 abbrev pub order_words : NamesView → List ℕ → List ℕ
@@ -42,8 +44,9 @@ order_words names order = codes "order:" ++ spaced (map (name_of names) order)
 
 -- a row's line up to its choice
 abbrev pub row_front : List NodeView → NamesView → ℕ → ℕ → List ℕ
-row_front nodes names d number =
-    codes "row " ++ decimal (number + 1) ++ codes ":" ++ state_labels names (parents_of nodes d) (parent_states (states_of nodes) (parents_of nodes d) number) ++ codes " -> "
+row_front nodes names d number = codes "row " ++ decimal (number + 1) ++ codes ":"
+    ++ state_labels names (parents_of nodes d) (parent_states (states_of nodes) (parents_of nodes d)
+    number) ++ codes " -> "
 
 -- the chosen state, by its number from 1 and its label
 abbrev pub state_text : NamesView → ℕ → ℕ → List ℕ
@@ -55,7 +58,8 @@ gain_front names agent = codes "agent " ++ quoted (agent_name names agent) ++ co
 
 -- the lines of a row and of a gain without their ends
 abbrev pub row_words : List NodeView → NamesView → ℕ → ℕ → Row → List ℕ
-row_words nodes names d number row = row_front nodes names d number ++ (state_text names d row.choice ++ worth_text row.worth)
+row_words nodes names d number row =
+    row_front nodes names d number ++ (state_text names d row.choice ++ worth_text row.worth)
 
 abbrev pub gain_words : NamesView → ℕ → Ratio → List ℕ
 gain_words names agent gain = gain_front names agent ++ ratio_text gain
@@ -81,8 +85,10 @@ pub data Slot : Type 0 where
 -- the line may stand there
 abbrev pub Shows : List NodeView → NamesView → Slot → List ℕ → Type 0
 Shows nodes names (Told told) line = line ≡ told
-Shows nodes names (OfRow d number) line = (row : Row) × IsRow nodes d row × (line ≡ row_line nodes names d number row)
-Shows nodes names (OfGain agent) line = (gain : Ratio) × FitsRatio gain × (line ≡ gain_line names agent gain)
+Shows nodes names (OfRow d number) line =
+    (row : Row) × IsRow nodes d row × (line ≡ row_line nodes names d number row)
+Shows nodes names (OfGain agent) line =
+    (gain : Ratio) × FitsRatio gain × (line ≡ gain_line names agent gain)
 Shows nodes names End line = line ≡ []
 
 -- the rows of a decision from that number on
@@ -100,18 +106,22 @@ gain_slots agent (suc count) = OfGain agent ∷ gain_slots (agent + 1) count
 
 -- what follows the line of the order
 abbrev pub slots_of : DiagramView → NamesView → List ℕ → List Slot
-slots_of d names order = flat_map (answer_slots d.nodes names) order ++ gain_slots 0 d.agents ++ End ∷ []
+slots_of d names order =
+    flat_map (answer_slots d.nodes names) order ++ gain_slots 0 d.agents ++ End ∷ []
 
 -- the text behind the line of the order
 abbrev pub lines_behind : List NodeView → NamesView → SolvedView → List ℕ
-lines_behind nodes names solved = flat_map (decision_lines nodes names) solved.answers ++ gain_lines names 0 solved.gains
+lines_behind nodes names solved =
+    flat_map (decision_lines nodes names) solved.answers ++ gain_lines names 0 solved.gains
 
 -- the line of that number, where so many were read before, is the first that may not stand at its place
 abbrev pub StopsIn : List NodeView → NamesView → List Slot → List (List ℕ) → ℕ → ℕ → Type 0
 StopsIn nodes names [] lines read number = ⊥
-StopsIn nodes names (slot ∷ slots) [] read number = (Shows nodes names slot [] → ⊥) × (number ≡ read + 1)
-StopsIn nodes names (slot ∷ slots) (line ∷ lines) read number =
-    ((Shows nodes names slot line → ⊥) × (number ≡ read + 1)) ⊎ (Shows nodes names slot line × StopsIn nodes names slots lines (read + 1) number)
+StopsIn nodes names (slot ∷ slots) [] read number =
+    (Shows nodes names slot [] → ⊥) × (number ≡ read + 1)
+StopsIn nodes names (slot ∷ slots) (line ∷ lines) read number = ((Shows nodes names slot line → ⊥)
+    × (number ≡ read + 1))
+    ⊎ (Shows nodes names slot line × StopsIn nodes names slots lines (read + 1) number)
 
 -- the bytes that are still to be read, and how many lines were read
 pub record LinesView : Type 0 where
@@ -121,12 +131,14 @@ pub record LinesView : Type 0 where
 -- the fault tells the first line that may not stand at its place, or that memory ran out
 abbrev pub IsStuck : List NodeView → NamesView → List Slot → LinesView → ReportFault → Type 0
 IsStuck nodes names slots lines NoMemory = Unit {0}
-IsStuck nodes names slots lines (BadLine number) = StopsIn nodes names slots (lines_of lines.rest) lines.read number
+IsStuck nodes names slots lines (BadLine number) =
+    StopsIn nodes names slots (lines_of lines.rest) lines.read number
 
 -- Lines at these places were read: where the others stop, so do all.
 abbrev pub Passes : List NodeView → NamesView → List Slot → LinesView → LinesView → Type 0
-Passes nodes names slots old new =
-    (others : List Slot) (number : ℕ) → StopsIn nodes names others (lines_of new.rest) new.read number → StopsIn nodes names (slots ++ others) (lines_of old.rest) old.read number
+Passes nodes names slots old new = (others : List Slot) (number : ℕ)
+    → StopsIn nodes names others (lines_of new.rest) new.read number
+    → StopsIn nodes names (slots ++ others) (lines_of old.rest) old.read number
 
 -- one line was read, which ended with LF
 pub record IsTaken (line : List ℕ) (old new : LinesView) : Type 0 where
@@ -137,18 +149,23 @@ pub record IsTaken (line : List ℕ) (old new : LinesView) : Type 0 where
 -- the line of the order shows no order, or memory ran out
 abbrev pub IsOrderless : List NodeView → NamesView → LinesView → ReportFault → Type 0
 IsOrderless nodes names lines NoMemory = Unit {0}
-IsOrderless nodes names lines (BadLine number) =
-    (number ≡ lines.read + 1) × ((order : List ℕ) (others : List (List ℕ)) → IsOrder nodes order → lines_of lines.rest ≢ line (order_words names order) ∷ others)
+IsOrderless nodes names lines (BadLine number) = (number ≡ lines.read + 1)
+    × ((order : List ℕ) (others : List (List ℕ)) → IsOrder nodes order
+    → lines_of lines.rest ≢ line (order_words names order) ∷ others)
 
 -- the rows of a decision were read
-pub record ReadsRows (nodes : List NodeView) (names : NamesView) (d number : ℕ) (list : List Row) (old new : LinesView) : Type 0 where
+pub record ReadsRows
+    (nodes : List NodeView) (names : NamesView) (d number : ℕ) (list : List Row)
+    (old new : LinesView) : Type 0 where
   pub count : length list ≡ number
   pub rows : All (IsRow nodes d) list
   pub bytes : old.rest ≡ row_lines nodes names d 0 list ++ new.rest
   pub passes : Passes nodes names (row_slots d 0 number) old new
 
 -- a decision was read
-pub record ReadsAnswer (nodes : List NodeView) (names : NamesView) (d : ℕ) (answer : AnswerView) (old new : LinesView) : Type 0 where
+pub record ReadsAnswer
+    (nodes : List NodeView) (names : NamesView) (d : ℕ) (answer : AnswerView) (old new : LinesView)
+    : Type 0 where
   pub decision : answer.decision ≡ d
   pub count : length answer.rows ≡ rows_of nodes d
   pub rows : All (IsRow nodes d) answer.rows
@@ -161,14 +178,18 @@ pub record IsRead (nodes : List NodeView) (answer : AnswerView) : Type 0 where
   pub rows : All (IsRow nodes answer.decision) answer.rows
 
 -- the decisions of an order were read
-pub record ReadsAnswers (nodes : List NodeView) (names : NamesView) (order : List ℕ) (answers : List AnswerView) (old new : LinesView) : Type 0 where
+pub record ReadsAnswers
+    (nodes : List NodeView) (names : NamesView) (order : List ℕ) (answers : List AnswerView)
+    (old new : LinesView) : Type 0 where
   pub follow : map (λ (a : AnswerView). a.decision) answers ≡ order
   pub each : All (IsRead nodes) answers
   pub bytes : old.rest ≡ flat_map (decision_lines nodes names) answers ++ new.rest
   pub passes : Passes nodes names (flat_map (answer_slots nodes names) order) old new
 
 -- so many agents were read
-pub record ReadsGains (nodes : List NodeView) (names : NamesView) (agents : ℕ) (list : List Ratio) (old new : LinesView) : Type 0 where
+pub record ReadsGains
+    (nodes : List NodeView) (names : NamesView) (agents : ℕ) (list : List Ratio)
+    (old new : LinesView) : Type 0 where
   pub count : length list ≡ agents
   pub gains : All FitsRatio list
   pub bytes : old.rest ≡ gain_lines names 0 list ++ new.rest

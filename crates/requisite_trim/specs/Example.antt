@@ -1,4 +1,5 @@
--- The small diagrams that the test runs: a chance node that two decisions see, the second of which sees the first too, and a utility over both decisions.
+-- The small diagrams that the test runs: a chance node that two decisions see, the second of which sees the first
+-- too, and a utility over both decisions.
 use Rattle.std.specs.Prelude.{ℕ, Bool, true, false, List, [], ◌∷◌, ℤ, pos}
 use Rattle.maid_model.specs.declared.diagrams.Kind.TheVariants.{Chance, Decision, Utility}
 use Rattle.maid_model.specs.Views.{NodeView, DiagramView}
@@ -21,17 +22,43 @@ agent_if true = 1
 agent_if false = 0
 
 abbrev pub chance : Bool → NodeView
-chance sure = record { kind = Chance; owner = 0; more = []; states = states_if sure; parents = []; cells = weights_if sure }
+chance sure = record {
+  kind = Chance;
+  owner = 0;
+  more = [];
+  states = states_if sure;
+  parents = [];
+  cells = weights_if sure;
+}
 
 abbrev pub first : NodeView
 first = record { kind = Decision; owner = 0; more = []; states = 2; parents = 0 ∷ []; cells = [] }
 
 abbrev pub second : Bool → Bool → NodeView
-second forced rival = record { kind = Decision; owner = agent_if rival; more = []; states = states_if forced; parents = 0 ∷ 1 ∷ []; cells = [] }
+second forced rival = record {
+  kind = Decision;
+  owner = agent_if rival;
+  more = [];
+  states = states_if forced;
+  parents = 0 ∷ 1 ∷ [];
+  cells = [];
+}
 
 abbrev pub pay : Bool → NodeView
-pay forced = record { kind = Utility; owner = 0; more = []; states = 1; parents = 1 ∷ 2 ∷ []; cells = values_if forced }
+pay forced = record {
+  kind = Utility;
+  owner = 0;
+  more = [];
+  states = 1;
+  parents = 1 ∷ 2 ∷ [];
+  cells = values_if forced;
+}
 
--- The chance node may be sure, the second decision may be forced, and it may be a rival's, to whom the utility is nothing.
+-- The chance node may be sure, the second decision may be forced, and it may be a rival's, to whom the utility is
+-- nothing.
 abbrev pub example : Bool → Bool → Bool → DiagramView
-example sure forced rival = record { nodes = chance sure ∷ first ∷ second forced rival ∷ pay forced ∷ []; agents = 2; decimals = 0 }
+example sure forced rival = record {
+  nodes = chance sure ∷ first ∷ second forced rival ∷ pay forced ∷ [];
+  agents = 2;
+  decimals = 0;
+}

@@ -8,7 +8,8 @@ use Rattle.bayes_ball.specs.declared.marks.Marks.{Marks}
 
 -- the marks tell which nodes would be requisite parents of d
 abbrev pub TellsRequisites : List NodeView → ℕ → Marks → Type 0
-TellsRequisites nodes d marks = (x : ℕ) → x < length nodes → IsIn marks.reached x ↔ IsRequisite nodes d x
+TellsRequisites nodes d marks =
+    (x : ℕ) → x < length nodes → IsIn marks.reached x ↔ IsRequisite nodes d x
 
 -- x is the first parent of d that is not requisite
 pub record IsFirstUnneeded (nodes : List NodeView) (d x : ℕ) : Type 0 where
