@@ -31,7 +31,8 @@ report leads follows leader follower = record {
   gains = whole leader ∷ whole follower ∷ [];
 }
 
--- The leader takes the first state, worth 1. Against that the copy shows the first state alone: there the follower takes the first state too, worth 1. The row of the second is never reached and takes the first state. Each gets 1.
+-- The leader takes the first state, worth 1. Against that the copy shows the first state alone: there the follower
+-- takes the first state too, worth 1. The row of the second is never reached and takes the first state. Each gets 1.
 abbrev pub answer : SolvedView
 answer = report (reached 0 1 ∷ []) (reached 0 1 ∷ never 0 ∷ []) (pos 1) (pos 1)
 

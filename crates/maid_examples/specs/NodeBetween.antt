@@ -9,7 +9,14 @@ use Rattle.maid_examples.specs.Samples.{leader, copy, follower, leader_pay, foll
 
 -- node 1 with one state
 abbrev pub narrow : NodeView
-narrow = record { kind = Chance; owner = 0; more = []; states = 1; parents = 0 ∷ []; cells = pos 1 ∷ pos 1 ∷ [] }
+narrow = record {
+  kind = Chance;
+  owner = 0;
+  more = [];
+  states = 1;
+  parents = 0 ∷ [];
+  cells = pos 1 ∷ pos 1 ∷ [];
+}
 
 -- node 4, agent 1, over the one state: 3 taken and 1 left
 abbrev pub narrow_pay : NodeView
@@ -58,7 +65,8 @@ pub record HasPartedSums : Type 0 where
   pub much_asked : HasRow parted asks_much 2 0 (pos 3) (pos 1) (pos 1)
   pub little_asked : HasRow parted asks_little 2 0 (pos 3) (pos 1) (pos 1)
 
--- The leader relies on the follower in both, by the walk new -> 2 -> 3. The follower relies on the leader by the walk new -> 0 -> 1 -> 4 alone, which is none where node 1 has one state and so isn't live.
+-- The leader relies on the follower in both, by the walk new -> 2 -> 3. The follower relies on the leader by the walk
+-- new -> 0 -> 1 -> 4 alone, which is none where node 1 has one state and so isn't live.
 pub record HasReliance : Type 0 where
   pub live : IsLive joined 1
   pub on_follower : ReliesOn joined 0 2

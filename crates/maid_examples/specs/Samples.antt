@@ -9,11 +9,19 @@ use Rattle.maid_model.specs.Gains.{gain_of, mass, gain_at, mass_at}
 
 -- a decision of two states, of the agent, that sees the parents
 abbrev pub decision : ℕ → List ℕ → NodeView
-decision owner parents = record { kind = Decision; owner = owner; more = []; states = 2; parents = parents; cells = [] }
+decision owner parents =
+    record { kind = Decision; owner = owner; more = []; states = 2; parents = parents; cells = [] }
 
 -- what the agent gets for the parents' states
 abbrev pub pay : ℕ → List ℕ → List ℤ → NodeView
-pay owner parents cells = record { kind = Utility; owner = owner; more = []; states = 1; parents = parents; cells = cells }
+pay owner parents cells = record {
+  kind = Utility;
+  owner = owner;
+  more = [];
+  states = 1;
+  parents = parents;
+  cells = cells;
+}
 
 -- node 0, of agent 0: to ask much or little
 abbrev pub leader : NodeView
@@ -21,7 +29,14 @@ leader = decision 0 []
 
 -- what node 0 chose, copied without fail
 abbrev pub copy : NodeView
-copy = record { kind = Chance; owner = 0; more = []; states = 2; parents = 0 ∷ []; cells = pos 1 ∷ pos 0 ∷ pos 0 ∷ pos 1 ∷ [] }
+copy = record {
+  kind = Chance;
+  owner = 0;
+  more = [];
+  states = 2;
+  parents = 0 ∷ [];
+  cells = pos 1 ∷ pos 0 ∷ pos 0 ∷ pos 1 ∷ [];
+}
 
 -- of agent 1: to take or to leave, seeing the parents
 abbrev pub follower : List ℕ → NodeView
@@ -52,13 +67,15 @@ abbrev pub never : ℕ → Row
 never choice = record { choice = choice; worth = None }
 
 -- against the profile, what the first and the second state of d gain in the row, and the row's mass
-pub record HasRow (nodes : List NodeView) (p : List RuleView) (d row : ℕ) (first second mass : ℤ) : Type 0 where
+pub record HasRow
+    (nodes : List NodeView) (p : List RuleView) (d row : ℕ) (first second mass : ℤ) : Type 0 where
   pub of_first : gain_at nodes p d 0 row ≡ first
   pub of_second : gain_at nodes p d 1 row ≡ second
   pub of_row : mass_at nodes p d row ≡ mass
 
 -- what the profile gives to the leader and to the follower, and its mass
-pub record HasGains (nodes : List NodeView) (p : List RuleView) (leader follower : ℤ) (product : ℕ) : Type 0 where
+pub record HasGains
+    (nodes : List NodeView) (p : List RuleView) (leader follower : ℤ) (product : ℕ) : Type 0 where
   pub to_leader : gain_of nodes p 0 ≡ leader
   pub to_follower : gain_of nodes p 1 ≡ follower
   pub of_profile : mass nodes p ≡ product
@@ -68,11 +85,13 @@ abbrev pub plan : ℕ → List RuleView
 plan follower = rule 0 1 (0 ∷ 1 ∷ []) ∷ rule follower 1 (0 ∷ 1 ∷ 1 ∷ 0 ∷ []) ∷ []
 
 -- The sums of a leader and a follower who sees what is asked.
--- Four worlds: much taken, much left, little taken, little left. With uniform rules each has weight 1, and the mass is 2 * 2.
+-- Four worlds: much taken, much left, little taken, little left. With uniform rules each has weight 1, and the mass
+-- is 2 * 2.
 --   leader: 5 - 1 + 3 + 0 = 7; follower: -2 + 1 + 5 + 0 = 4
 -- Under the plan little taken has weight 1, the other worlds 0, and the mass is 1 * 1.
 --   leader: 3; follower: 5
--- At the follower in a row one world is left for each state: its value is the state's gain, and the leader's weight the mass.
+-- At the follower in a row one world is left for each state: its value is the state's gain, and the leader's weight
+-- the mass.
 --   much: take -2, leave 1; little: take 5, leave 0; mass 1 in both with uniform rules, 0 and 1 under the plan
 -- At the leader two worlds are left for each state, each with the follower's weight.
 --   uniform: much 5 - 1 = 4, little 3 + 0 = 3, mass 1 + 1; under the plan: much -1, little 3, mass 0 + 1

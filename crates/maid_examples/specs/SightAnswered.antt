@@ -34,7 +34,8 @@ pub record HasNoReliance : Type 0 where
   pub not_on_follower : ReliesOn trail 0 1 → ⊥
   pub not_on_leader : ReliesOn trail 1 0 → ⊥
 
--- The follower's base has the leader's uniform rule, so both of its rows have mass: it takes the leader's state in both, worth 1. A mark at the second row, as where the follower sees a copy, is no answer and not accepted.
+-- The follower's base has the leader's uniform rule, so both of its rows have mass: it takes the leader's state in
+-- both, worth 1. A mark at the second row, as where the follower sees a copy, is no answer and not accepted.
 pub record HasAnswer : Type 0 where
   pub answered : IsAnswer trail_diagram (report (reached 0 1 ∷ reached 1 1 ∷ []))
   pub not_marked : IsAnswer trail_diagram (report (reached 0 1 ∷ never 0 ∷ [])) → ⊥

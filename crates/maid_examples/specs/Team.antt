@@ -29,7 +29,8 @@ wish = pay 1 (1 ∷ []) (pos 0 ∷ pos 2 ∷ [])
 
 -- two agents, of whom the second sees the first one's choice, and behind these decisions a result and the wish
 abbrev pub with_result : NodeView → NodeView → DiagramView
-with_result first result = record { nodes = first ∷ follower (0 ∷ []) ∷ result ∷ wish ∷ []; agents = 2; decimals = 0 }
+with_result first result =
+    record { nodes = first ∷ follower (0 ∷ []) ∷ result ∷ wish ∷ []; agents = 2; decimals = 0 }
 
 -- the result is the leader's and the follower's
 abbrev pub team_diagram : DiagramView
@@ -50,15 +51,18 @@ pub record IsSound : Type 0 where
 
 -- a decision of both agents
 abbrev pub both_decide : NodeView
-both_decide = record { kind = Decision; owner = 0; more = 1 ∷ []; states = 2; parents = []; cells = [] }
+both_decide =
+    record { kind = Decision; owner = 0; more = 1 ∷ []; states = 2; parents = []; cells = [] }
 
--- A utility that names an agent twice makes no diagram, nor one that names an agent that there is not, nor a decision of two agents.
+-- A utility that names an agent twice makes no diagram, nor one that names an agent that there is not, nor a decision
+-- of two agents.
 pub record AreNone : Type 0 where
   pub named_twice : IsDiagram (with_result leader (result 0 (0 ∷ []))) → ⊥
   pub unknown_owner : IsDiagram (with_result leader (result 0 (2 ∷ []))) → ⊥
   pub shared_decision : IsDiagram (with_result both_decide (result 0 (1 ∷ []))) → ⊥
 
--- The result is the leader's and the follower's and nobody else's, and so a goal of both decisions. The wish is a goal of the follower's decision alone, though it descends from both.
+-- The result is the leader's and the follower's and nobody else's, and so a goal of both decisions. The wish is a
+-- goal of the follower's decision alone, though it descends from both.
 pub record IsShared : Type 0 where
   pub of_leader : IsOwnedBy team 2 0
   pub of_follower : IsOwnedBy team 2 1
@@ -69,8 +73,10 @@ pub record IsShared : Type 0 where
   pub wish_below_leader : Descends (Arc team) 0 3
   pub wish_not_of_leader : IsGoal team 0 3 → ⊥
 
--- The result counts in full for each. With uniform rules each of the four worlds has weight 1: 3 + 2 = 5 for the leader, and 2 + 2 more for the follower, of mass 4. Under the plan each gets 3.
--- At the follower, in sight of the first state, 3 and the wish's 2, in sight of the second 0 and 2 + 2, of mass 1 each. At the leader, against the plan, 3 and 2.
+-- The result counts in full for each. With uniform rules each of the four worlds has weight 1: 3 + 2 = 5 for the
+-- leader, and 2 + 2 more for the follower, of mass 4. Under the plan each gets 3.
+-- At the follower, in sight of the first state, 3 and the wish's 2, in sight of the second 0 and 2 + 2, of mass 1
+-- each. At the leader, against the plan, 3 and 2.
 pub record HasSums : Type 0 where
   pub uniform : HasGains team (uniform_profile team) (pos 5) (pos 9) 4
   pub planned : HasGains team plan (pos 3) (pos 3) 1

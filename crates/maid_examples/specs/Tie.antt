@@ -47,7 +47,8 @@ pub record AreSound : Type 0 where
   pub first : IsProfile uneven (taking 1 0)
   pub second : IsProfile uneven (taking 0 1)
 
--- Of two states of worth 5 the first is the answer. The second is accepted too, if its worth and the gain are right; no answer without a row is.
+-- Of two states of worth 5 the first is the answer. The second is accepted too, if its worth and the gain are right;
+-- no answer without a row is.
 pub record HasTie : Type 0 where
   pub answer : IsAnswer tie_diagram (report (reached 0 5) (pos 5))
   pub second_is_none : IsAnswer tie_diagram (report (reached 1 5) (pos 5)) → ⊥
@@ -68,7 +69,8 @@ pub record HasBest : Type 0 where
   pub perfect : IsSubgamePerfect uneven (taking 1 0)
   pub not_perfect : IsSubgamePerfect uneven (taking 0 1) → ⊥
 
--- An empty list of rules is no profile of a diagram with a decision, and so neither subgame-perfect nor optimal nor best in its bases.
+-- An empty list of rules is no profile of a diagram with a decision, and so neither subgame-perfect nor optimal nor
+-- best in its bases.
 pub record LacksRules : Type 0 where
   pub no_profile : IsProfile uneven [] → ⊥
   pub not_perfect : IsSubgamePerfect uneven [] → ⊥

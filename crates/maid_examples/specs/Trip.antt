@@ -17,7 +17,14 @@ use Rattle.maid_examples.specs.Samples.{decision, pay, rule, whole, reached, Has
 
 -- node 0: one part rain, three parts sun
 abbrev pub weather : NodeView
-weather = record { kind = Chance; owner = 0; more = []; states = 2; parents = []; cells = pos 1 ∷ pos 3 ∷ [] }
+weather = record {
+  kind = Chance;
+  owner = 0;
+  more = [];
+  states = 2;
+  parents = [];
+  cells = pos 1 ∷ pos 3 ∷ [];
+}
 
 -- rain is worth 5 at home and 0 outside, sun -1 at home and 7 outside
 abbrev pub joy : ℕ → ℕ → NodeView
@@ -45,7 +52,8 @@ pub record IsSound : Type 0 where
   pub of_plan : IsProfile trip plan
   pub of_stay : IsProfile trip stay
 
--- Under the plan rain has weight 1 and sun 3: 1 * 5 + 3 * 7 = 26, of mass 4. With uniform rules 5 + 0 + 3 * (-1) + 3 * 7 = 23, of mass 8. To stay gives 5 - 3 = 2, of mass 4. In a row the weather's weight is the mass.
+-- Under the plan rain has weight 1 and sun 3: 1 * 5 + 3 * 7 = 26, of mass 4. With uniform rules 5 + 0 + 3 * (-1) + 3
+-- * 7 = 23, of mass 8. To stay gives 5 - 3 = 2, of mass 4. In a row the weather's weight is the mass.
 pub record HasSums : Type 0 where
   pub plan_gain : gain_of trip plan 0 ≡ pos 26
   pub plan_mass : mass trip plan ≡ 4
@@ -71,7 +79,8 @@ answer = record {
   gains = record { num = pos 13; den = 2 } ∷ [];
 }
 
--- The plan is the answer, and so best in its bases, subgame-perfect and optimal: the optimum is 13/2. To stay is none of these.
+-- The plan is the answer, and so best in its bases, subgame-perfect and optimal: the optimum is 13/2. To stay is none
+-- of these.
 pub record IsSolved : Type 0 where
   pub answered : IsAnswer trip_diagram answer
   pub optimum : IsOptimum trip 0 0 (record { num = pos 13; den = 2 })
@@ -89,7 +98,14 @@ pub record HasControl : Type 0 where
 
 -- a coin with a third side
 abbrev pub coin : NodeView
-coin = record { kind = Chance; owner = 0; more = []; states = 3; parents = []; cells = pos 2 ∷ pos 2 ∷ pos 1 ∷ [] }
+coin = record {
+  kind = Chance;
+  owner = 0;
+  more = [];
+  states = 3;
+  parents = [];
+  cells = pos 2 ∷ pos 2 ∷ pos 1 ∷ [];
+}
 
 -- what agent 1 has bet on the coin
 abbrev pub bet : NodeView
@@ -106,7 +122,8 @@ tossed_diagram = record { nodes = tossed; agents = 2; decimals = 0 }
 abbrev pub tossed_plan : List RuleView
 tossed_plan = rule 3 1 (1 ∷ 0 ∷ 0 ∷ 1 ∷ []) ∷ []
 
--- the scope of the decision makes the trip, with its plan and a fifth of its sums; and the coin no longer counts in its bound
+-- the scope of the decision makes the trip, with its plan and a fifth of its sums; and the coin no longer counts in
+-- its bound
 pub record HasAPart : Type 0 where
   pub diagram : IsDiagram tossed_diagram
   pub profile : IsProfile tossed tossed_plan

@@ -1,4 +1,5 @@
--- What refuses a diagram: the first that applies of the weight bound, too many profiles or worlds, and no pure equilibrium.
+-- What refuses a diagram: the first that applies of the weight bound, too many profiles or worlds, and no pure
+-- equilibrium.
 use Rattle.std.specs.Prelude.{◌≡◌, ℕ, ◌*◌, ◌≤◌, List, length, Option, Some, None}
 use Rattle.first_fault.specs.Passes.{Pass, ◌▸◌}
 use Rattle.maid_model.specs.declared.limits.TheConstants.{MOST_PROFILES, MOST_LEAVES, MOST_LISTED}
@@ -53,7 +54,8 @@ count_pass d (Some fault) = ⊥
 -- there is a pure equilibrium, or none of so many pure profiles is one
 abbrev pub stable_pass : DiagramView → Pass PureFault
 stable_pass d None = (s : List RuleView) × IsPureEquilibrium d.nodes s
-stable_pass d (Some (NoPure profiles)) = ((s : List RuleView) → IsPureEquilibrium d.nodes s → ⊥) × (profiles ≡ profile_count d.nodes)
+stable_pass d (Some (NoPure profiles)) =
+    ((s : List RuleView) → IsPureEquilibrium d.nodes s → ⊥) × (profiles ≡ profile_count d.nodes)
 stable_pass d (Some fault) = ⊥
 
 -- the counts, and then the search

@@ -26,7 +26,8 @@ pub record IsFirstStable (nodes : List NodeView) (s : List RuleView) : Type 0 wh
 abbrev pub HasNoWorths : AnswerView → Type 0
 HasNoWorths answer = All (λ (r : Row). r.worth ≡ None) answer.rows
 
--- Each decision in text order with a choice in each row, and no worths; together the choices are the first pure equilibrium, and the gains are its expected utilities, one for each agent.
+-- Each decision in text order with a choice in each row, and no worths; together the choices are the first pure
+-- equilibrium, and the gains are its expected utilities, one for each agent.
 pub record IsFound (d : DiagramView) (found : PureView) : Type 0 where
   pub follow : map (λ (a : AnswerView). a.decision) found.answers ≡ decisions_of d.nodes
   pub answers : All (FitsAnswer d.nodes) found.answers

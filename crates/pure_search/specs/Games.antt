@@ -33,7 +33,11 @@ unpriced choice = record { choice = choice; worth = None }
 -- the answers of a list of choices, which has the first decision's rows first
 abbrev pub answers_of : List NodeView → List ℕ → List ℕ → List AnswerView
 answers_of nodes [] choices = []
-answers_of nodes (v ∷ vs) choices = record { decision = v; rows = map unpriced (take (rows_of nodes v) choices) } ∷ answers_of nodes vs (drop (rows_of nodes v) choices)
+answers_of nodes (v ∷ vs) choices = record {
+  decision = v;
+  rows = map unpriced (take (rows_of nodes v) choices);
+}
+    ∷ answers_of nodes vs (drop (rows_of nodes v) choices)
 
 -- a choice, or the first one where it is the agent's own
 abbrev pub unless_own : ℕ → ℕ → ℕ → ℕ
@@ -44,14 +48,16 @@ abbrev pub key_from : ℕ → ℕ → List ℕ → List ℕ → List ℕ → ℕ
 key_from agent key [] owners choices = key
 key_from agent key (n ∷ counts) [] choices = key
 key_from agent key (n ∷ counts) (owner ∷ owners) [] = key
-key_from agent key (n ∷ counts) (owner ∷ owners) (choice ∷ choices) = key_from agent (key * n + unless_own agent owner choice) counts owners choices
+key_from agent key (n ∷ counts) (owner ∷ owners) (choice ∷ choices) =
+    key_from agent (key * n + unless_own agent owner choice) counts owners choices
 
 abbrev pub key_of : List NodeView → ℕ → List ℕ → ℕ
 key_of nodes agent choices = key_from agent 0 (counts_for nodes) (owners_for nodes) choices
 
 -- the agent's gain in the part of its scope
 abbrev pub part_gain : List NodeView → ℕ → List ℕ → ℤ
-part_gain nodes agent choices = gain_of (scope_part_for nodes agent) (rules_in_scope_for nodes (profile_of nodes choices) agent) agent
+part_gain nodes agent choices = gain_of (scope_part_for nodes agent)
+    (rules_in_scope_for nodes (profile_of nodes choices) agent) agent
 
 -- the decisions, the choices of each of their rows, and their owners
 pub record IsGame (nodes : List NodeView) (decisions counts owners : List ℕ) : Type 0 where
@@ -64,7 +70,8 @@ abbrev pub IsGameOf : List NodeView → Game → Type 0
 IsGameOf nodes game = IsGame nodes game.decisions.items game.counts.items game.owners.items
 
 -- for each list of choices the number of the others' choices, and the agent's gain
-pub record IsTable (nodes : List NodeView) (agent : ℕ) (keys : List ℕ) (gains : List ℤ) : Type 0 where
+pub record IsTable
+    (nodes : List NodeView) (agent : ℕ) (keys : List ℕ) (gains : List ℤ) : Type 0 where
   pub keys_are : keys ≡ map (key_of nodes agent) (choice_lists nodes)
   pub gains_are : gains ≡ map (part_gain nodes agent) (choice_lists nodes)
   pub within : All (λ key. key < length (choice_lists nodes)) keys
@@ -76,8 +83,9 @@ pub record IsSearched (d : DiagramView) : Type 0 where
 
 -- the list at one place gives the agent the greatest gain of all that agree with it on the others' choices
 abbrev pub IsBestFor : List NodeView → ℕ → ℕ → Type 0
-IsBestFor nodes agent place =
-    (j : ℕ) → j < length (choice_lists nodes) → AgreeForOthers nodes agent (choices_at nodes place) (choices_at nodes j) → part_gain nodes agent (choices_at nodes j) ≤ℤ part_gain nodes agent (choices_at nodes place)
+IsBestFor nodes agent place = (j : ℕ) → j < length (choice_lists nodes)
+    → AgreeForOthers nodes agent (choices_at nodes place) (choices_at nodes j)
+    → part_gain nodes agent (choices_at nodes j) ≤ℤ part_gain nodes agent (choices_at nodes place)
 
 -- the least whole number of 128 bits
 abbrev pub least_signed : ℤ
@@ -85,29 +93,38 @@ least_signed = negsuc (2 ^ 127 - 1)
 
 -- the entry is the greatest of those with its key
 abbrev pub IsGreatest : List ℕ → List ℤ → ℕ → Type 0
-IsGreatest keys gains k = (j : ℕ) → j < length gains → slice_index keys j ≡ slice_index keys k → slice_index_or gains j (pos 0) ≤ℤ slice_index_or gains k (pos 0)
+IsGreatest keys gains k = (j : ℕ) → j < length gains → slice_index keys j ≡ slice_index keys k
+    → slice_index_or gains j (pos 0) ≤ℤ slice_index_or gains k (pos 0)
 
 -- for each key the greatest of the first n entries that have it, or the least number of 128 bits where none has
 pub record AreGreatest (keys : List ℕ) (gains : List ℤ) (n : ℕ) (best : List ℤ) : Type 0 where
   pub len : length best ≡ length gains
-  pub upper : (j : ℕ) → j < n → slice_index_or gains j (pos 0) ≤ℤ slice_index_or best (slice_index keys j) (pos 0)
+  pub upper : (j : ℕ) → j < n
+      → slice_index_or gains j (pos 0) ≤ℤ slice_index_or best (slice_index keys j) (pos 0)
   pub least : (key : ℕ) (z : ℤ) → key < length gains → least_signed ≤ℤ z
-      → ((j : ℕ) → j < n → slice_index keys j ≡ key → slice_index_or gains j (pos 0) ≤ℤ z) → slice_index_or best key (pos 0) ≤ℤ z
+      → ((j : ℕ) → j < n → slice_index keys j ≡ key → slice_index_or gains j (pos 0) ≤ℤ z)
+      → slice_index_or best key (pos 0) ≤ℤ z
 
 -- those marks stay whose entry is the greatest of its key
 pub record KeepsGreatest (keys : List ℕ) (gains : List ℤ) (old new : List Bool) : Type 0 where
   pub len : length new ≡ length old
-  pub each : (k : ℕ) → k < length old → (slice_index_or new k false ≡ true) ↔ ((slice_index_or old k false ≡ true) × IsGreatest keys gains k)
+  pub each : (k : ℕ) → k < length old
+      → (slice_index_or new k false ≡ true)
+      ↔ ((slice_index_or old k false ≡ true) × IsGreatest keys gains k)
 
 -- the marks of the lists that are best for each agent below a number
 pub record MarksBest (nodes : List NodeView) (agents : ℕ) (marks : List Bool) : Type 0 where
   pub len : length marks ≡ length (choice_lists nodes)
-  pub each : (k : ℕ) → k < length marks → (slice_index_or marks k false ≡ true) ↔ ((agent : ℕ) → agent < agents → IsBestFor nodes agent k)
+  pub each : (k : ℕ) → k < length marks
+      → (slice_index_or marks k false ≡ true)
+      ↔ ((agent : ℕ) → agent < agents → IsBestFor nodes agent k)
 
 -- the marks of the equilibria
 pub record MarksStable (nodes : List NodeView) (marks : List Bool) : Type 0 where
   pub len : length marks ≡ length (choice_lists nodes)
-  pub each : (k : ℕ) → k < length marks → (slice_index_or marks k false ≡ true) ↔ IsEquilibrium nodes (profile_of nodes (choices_at nodes k))
+  pub each : (k : ℕ) → k < length marks
+      → (slice_index_or marks k false ≡ true)
+      ↔ IsEquilibrium nodes (profile_of nodes (choices_at nodes k))
 
 -- the first place with a mark
 pub record IsFirstMark (marks : List Bool) (place : ℕ) : Type 0 where

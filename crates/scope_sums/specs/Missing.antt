@@ -15,4 +15,5 @@ missing_in nodes p kept plan = nat_product_over (weight_total nodes p) (lacking_
 
 -- the same without the decision's own
 abbrev pub missing_in_without : List NodeView → List RuleView → ℕ → List ℕ → PlanView → ℕ
-missing_in_without nodes p d kept plan = nat_product_over (λ v. if v == d then 1 else weight_total nodes p v) (lacking_in nodes kept plan)
+missing_in_without nodes p d kept plan = nat_product_over
+    (λ v. if v == d then 1 else weight_total nodes p v) (lacking_in nodes kept plan)
