@@ -1,4 +1,5 @@
--- What control of chance nodes is worth to an agent, and which incentives it has there: a line for each (Everitt et al. 2021).
+-- What control of chance nodes is worth to an agent, and which incentives it has there: a line for each (Everitt et
+-- al. 2021).
 use Rattle.std.specs.Prelude.{◌↔◌, ◌<◌, ℕ, List, filter, pos, ◌≤ℤ◌, IsTrue, IfSome}
 use Rattle.maid_model.specs.declared.answers.Ratio.{Ratio}
 use Rattle.maid_model.specs.declared.diagrams.Kind.TheVariants.{Decision, Utility}
@@ -25,28 +26,40 @@ chance_nodes nodes = filter (λ v. is_chance (node_at nodes v).kind) (numbers_of
 abbrev pub controlling : DiagramView → ℕ → ℕ → DiagramView
 controlling d agent x = with_nodes d (as_decision d.nodes agent x)
 
--- why control has no value: it is worthless unless that holds, it makes too much of the rules, or the solver refuses the diagram with it
+-- why control has no value: it is worthless unless that holds, it makes too much of the rules, or the solver refuses
+-- the diagram with it
 abbrev pub of_control : DiagramView → ℕ → ℕ → Type 0 → Pass Reason
-of_control d agent x Matters =
-    unless Matters Worthless ▸ rule (MOST_RULE_CELLS < rule_cells (as_decision d.nodes agent x)) TooLarge ▸ solving (controlling d agent x)
+of_control d agent x Matters = unless Matters Worthless
+    ▸ rule (MOST_RULE_CELLS < rule_cells (as_decision d.nodes agent x)) TooLarge
+    ▸ solving (controlling d agent x)
 
 -- a line's node
 abbrev pub node_of : ControlLine → ℕ
 node_of line = line.node
 
--- A line says whether in the trimmed diagram a path leads from the node to a decision of the agent, whether one leads from such a decision through the node to a utility of the agent, and what is found of its control:
--- the first reason that applies, which is that no path leads from it to a utility of the agent in the trimmed diagram, or a limit, or the solver's; or else the control value.
-pub record IsControlLine (d : DiagramView) (answers : List AnswerView) (agent : ℕ) (trimmed : List NodeView) (line : ControlLine) : Type 0 where
+-- A line says whether in the trimmed diagram a path leads from the node to a decision of the agent, whether one leads
+-- from such a decision through the node to a utility of the agent, and what is found of its control:
+-- the first reason that applies, which is that no path leads from it to a utility of the agent in the trimmed
+-- diagram, or a limit, or the solver's; or else the control value.
+pub record IsControlLine
+    (d : DiagramView) (answers : List AnswerView) (agent : ℕ) (trimmed : List NodeView)
+    (line : ControlLine) : Type 0 where
   pub response : IsTrue line.response ↔ LeadsTo trimmed Decision agent line.node
-  pub instrumental : IsTrue line.instrumental ↔ IsInstrumental (one_agent d.nodes agent answers) agent line.node
-  pub found : (of_control (alone d answers agent) agent line.node (LeadsTo trimmed Utility agent line.node) ▸▸ gives (IsValueOfControl d.nodes d.decimals answers agent line.node)) (found_of line.found)
+  pub instrumental :
+      IsTrue line.instrumental ↔ IsInstrumental (one_agent d.nodes agent answers) agent line.node
+  pub found : (of_control (alone d answers agent) agent line.node
+      (LeadsTo trimmed Utility agent line.node)
+      ▸▸ gives (IsValueOfControl d.nodes d.decimals answers agent line.node))
+      (found_of line.found)
 
 -- the trimmed diagram in which only the agent decides
-pub record IsTrimmedAlone (d : DiagramView) (answers : List AnswerView) (agent : ℕ) (trimmed : List NodeView) : Type 0 where
-  pub removed : List (ℕ × ℕ)
-  pub is : IsTrimmed (one_agent d.nodes agent answers) removed trimmed
+pub record IsTrimmedAlone
+    (d : DiagramView) (answers : List AnswerView) (agent : ℕ) (trimmed : List NodeView) : Type 0
+  where
+    pub removed : List (ℕ × ℕ)
+    pub is : IsTrimmed (one_agent d.nodes agent answers) removed trimmed
 
 -- the worth that a line tells is the control value, and not below nought; a worthless line tells of two equal optima
 abbrev pub TellsControl : DiagramView → List AnswerView → ℕ → ControlLine → Type 0
-TellsControl d answers agent line =
-    IfSome (worth_of line.found) (λ r. IsValueOfControl d.nodes d.decimals answers agent line.node r × (pos 0 ≤ℤ r.num))
+TellsControl d answers agent line = IfSome (worth_of line.found) (λ r.
+    IsValueOfControl d.nodes d.decimals answers agent line.node r × (pos 0 ≤ℤ r.num))

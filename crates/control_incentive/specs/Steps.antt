@@ -20,11 +20,13 @@ pub record HasPaths (nodes trimmed : List NodeView) (agent : ℕ) (paths : Paths
 
 -- the first reason that applies where the node matters or not, or the difference of the two optima
 abbrev pub IsFoundAlone : DiagramView → ℕ → ℕ → Bool → Found → Type 0
-IsFoundAlone d agent x matters found =
-    (of_control d agent x (IsTrue matters) ▸▸ gives (IsDifferenceOfOptima (controlling d agent x).nodes d.nodes d.decimals agent)) (found_of found)
+IsFoundAlone d agent x matters found = (of_control d agent x (IsTrue matters)
+    ▸▸ gives (IsDifferenceOfOptima (controlling d agent x).nodes d.nodes d.decimals agent))
+    (found_of found)
 
 -- a line, by the sets of nodes
-pub record IsLineAlone (d : DiagramView) (agent : ℕ) (paths : Paths) (line : ControlLine) : Type 0 where
+pub record IsLineAlone
+    (d : DiagramView) (agent : ℕ) (paths : Paths) (line : ControlLine) : Type 0 where
   pub response : line.response ≡ holds paths.respond line.node
   pub instrumental : line.instrumental ≡ holds paths.instruments line.node
   pub found : IsFoundAlone d agent line.node (holds paths.matter line.node) line.found

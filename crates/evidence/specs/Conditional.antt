@@ -7,14 +7,18 @@ use Rattle.maid_model.specs.Subgames.{IsSubgamePerfect, OwnsAll}
 use Rattle.maid_model.specs.Views.{NodeView, DiagramView, RuleView, SolvedView}
 use Rattle.reach_laws.specs.Evidence.{IsNoBetterGiven, all_seeing, all_seeing_diagram, gain_given, mass_given}
 
--- the agent's conditional expected utility under the profile: its gain over the worlds with this state at x, over their weight, where utilities are whole numbers of one part in `scale`
+-- the agent's conditional expected utility under the profile: its gain over the worlds with this state at x, over
+-- their weight, where utilities are whole numbers of one part in `scale`
 abbrev pub IsExpectedGiven : List NodeView → ℕ → List RuleView → ℕ → ℕ → ℕ → Ratio → Type 0
-IsExpectedGiven nodes scale p agent x state r = IsFraction r (gain_given nodes p agent x state) (nat_abs (mass_given nodes p x state) * scale)
+IsExpectedGiven nodes scale p agent x state r =
+    IsFraction r (gain_given nodes p agent x state) (nat_abs (mass_given nodes p x state) * scale)
 
 -- what the profile is worth to each of the first n agents, given this state of x
-pub record HasGainsGiven (d : DiagramView) (p : List RuleView) (x state n : ℕ) (gains : List Ratio) : Type 0 where
+pub record HasGainsGiven
+    (d : DiagramView) (p : List RuleView) (x state n : ℕ) (gains : List Ratio) : Type 0 where
   pub count : length gains ≡ n
-  pub each : (agent : ℕ) (r : Ratio) → agent < n → IsExpectedGiven d.nodes (10 ^ d.decimals) p agent x state (slice_index_or gains agent r)
+  pub each : (agent : ℕ) (r : Ratio) → agent < n
+      → IsExpectedGiven d.nodes (10 ^ d.decimals) p agent x state (slice_index_or gains agent r)
   pub reduced : All IsReduced gains
 
 -- and to all agents
@@ -44,5 +48,6 @@ IsPerfectSeeing d x solved = IsSubgamePerfect (all_seeing d.nodes x) (profile_se
 
 -- no profile is worth more, given this state of x, to an agent that owns all decisions
 pub record IsBestGiven (d : DiagramView) (x state : ℕ) (solved : SolvedView) : Type 0 where
-  pub greatest : (agent : ℕ) (t : List RuleView) → OwnsAll d.nodes agent → IsProfile (all_seeing d.nodes x) t
+  pub greatest : (agent : ℕ) (t : List RuleView) → OwnsAll d.nodes agent
+      → IsProfile (all_seeing d.nodes x) t
       → IsNoBetterGiven (all_seeing d.nodes x) x state agent (profile_seeing d x solved) t

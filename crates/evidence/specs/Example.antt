@@ -5,7 +5,8 @@ use Rattle.maid_model.specs.declared.diagrams.Kind.TheVariants.{Chance, Decision
 use Rattle.maid_model.specs.Views.{NodeView, DiagramView}
 
 abbrev pub node_of : Kind → ℕ → List ℕ → List ℤ → NodeView
-node_of kind states parents cells = record { kind = kind; owner = 0; more = []; states = states; parents = parents; cells = cells }
+node_of kind states parents cells =
+    record { kind = kind; owner = 0; more = []; states = states; parents = parents; cells = cells }
 
 -- a coin whose sides are worth 1/2 and -5/4
 abbrev pub coin : DiagramView
@@ -19,7 +20,8 @@ coin = record {
 abbrev pub certain : DiagramView
 certain = record { nodes = node_of Chance 2 [] (pos 1 ∷ pos 0 ∷ []) ∷ []; agents = 0; decimals = 0 }
 
--- a coin of weights 1 and 3, a bet on it that doesn't see it, a node that repeats the bet, and what the pairs pay: 4, 0, 1 and 2
+-- a coin of weights 1 and 3, a bet on it that doesn't see it, a node that repeats the bet, and what the pairs pay: 4,
+-- 0, 1 and 2
 abbrev pub bet : DiagramView
 bet = record {
   nodes =

@@ -1,4 +1,5 @@
--- What refuses a diagram under evidence: the first that applies of evidence below a decision, too large rules, the relevance cycle, the weight bound, too large plans, and evidence that is impossible.
+-- What refuses a diagram under evidence: the first that applies of evidence below a decision, too large rules, the
+-- relevance cycle, the weight bound, too large plans, and evidence that is impossible.
 use Rattle.std.specs.Prelude.{ℕ, Option, Some, None}
 use Rattle.first_fault.specs.Passes.{Pass, rule, ◌▸◌}
 use Rattle.maid_model.specs.Views.{DiagramView}

@@ -12,7 +12,8 @@ use Rattle.evidence.specs.Sizes.{plan_given}
 
 -- the greater cells of two sizes, and their work together, which stops
 abbrev pub joined_size : Size → Size → Size
-joined_size size other = record { cells = max size.cells other.cells; work = stopped (size.work + other.work) }
+joined_size size other =
+    record { cells = max size.cells other.cells; work = stopped (size.work + other.work) }
 
 -- the size with one plan more
 pub record AddsPlan (nodes : List NodeView) (plan : PlanView) (before after : Size) : Type 0 where
@@ -23,7 +24,8 @@ pub record AddsPlan (nodes : List NodeView) (plan : PlanView) (before after : Si
 
 -- the size with the plan that keeps x and has the utility v more, where v is one
 pub record AddsUtility (nodes : List NodeView) (x v : ℕ) (before after : Size) : Type 0 where
-  pub utility : (node_at nodes v).kind ≡ Utility → AddsPlan nodes (plan_given x (Some v)) before after
+  pub utility :
+      (node_at nodes v).kind ≡ Utility → AddsPlan nodes (plan_given x (Some v)) before after
   pub other : (node_at nodes v).kind ≢ Utility → after ≡ before
 
 -- neither the cells nor the work fall, and the work is one that stops

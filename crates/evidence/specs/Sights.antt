@@ -8,7 +8,8 @@ use Rattle.diagram_graph.specs.Room.{cells_at, rule_cells_at}
 
 -- v is a decision that doesn't see x
 abbrev pub adds : List NodeView → ℕ → ℕ → Bool
-adds nodes x v = is_decision (node_at nodes v).kind && not (list_any (λ u. u == x) (node_at nodes v).parents)
+adds nodes x v =
+    is_decision (node_at nodes v).kind && not (list_any (λ u. u == x) (node_at nodes v).parents)
 
 -- the parents, and x behind them where it is added
 abbrev pub parents_with : Bool → List ℕ → ℕ → List ℕ

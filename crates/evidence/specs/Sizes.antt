@@ -39,12 +39,14 @@ IsSmallEnoughGiven d x = (size : Size) → IsSizeGiven d x size → KeepsSizes s
 
 -- the plans have these cells and this work, which pass a limit
 abbrev pub IsTooLargeGiven : DiagramView → ℕ → ℕ → ℕ → Type 0
-IsTooLargeGiven d x cells work = IsSizeGiven d x (record { cells = cells; work = work }) × (KeepsSizes (record { cells = cells; work = work }) → ⊥)
+IsTooLargeGiven d x cells work = IsSizeGiven d x (record { cells = cells; work = work })
+    × (KeepsSizes (record { cells = cells; work = work }) → ⊥)
 
 -- so many cells are room for the further plans
 pub record HasRoomGiven (nodes : List NodeView) (x cells : ℕ) : Type 0 where
   pub alone : HasAtMost nodes (plan_given x None) cells
-  pub utilities : (u : ℕ) → u < length nodes → (node_at nodes u).kind ≡ Utility → HasAtMost nodes (plan_given x (Some u)) cells
+  pub utilities : (u : ℕ) → u < length nodes → (node_at nodes u).kind ≡ Utility
+      → HasAtMost nodes (plan_given x (Some u)) cells
 
 -- the workspace has no table, and room for the plan, or for each of the further plans
 abbrev pub HasSpaceFor : {C : Type 0} → List NodeView → PlanView → WorkspaceView C → Type 0

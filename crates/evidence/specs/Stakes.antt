@@ -32,33 +32,42 @@ pub record IsSetting (d : DiagramView) (p : List RuleView) (x state : ℕ) : Typ
 -- ---- what plans sum to
 -- the weight is what the plan without a utility sums to at this state of x
 abbrev pub IsMassAt : List NodeView → List RuleView → ℕ → ℕ → ℕ → Type 0
-IsMassAt nodes p x state mass = (q : World) → InRange (states_of nodes) q → q x ≡ state → mass ≡ plan_sum mass_cells nodes p (plan_given x None) q
+IsMassAt nodes p x state mass = (q : World) → InRange (states_of nodes) q → q x ≡ state
+    → mass ≡ plan_sum mass_cells nodes p (plan_given x None) q
 
 -- the worth is what the utility's plan sums to there
 abbrev pub IsWorthAt : List NodeView → List RuleView → ℕ → ℕ → ℕ → ℤ → Type 0
-IsWorthAt nodes p x state u worth = (q : World) → InRange (states_of nodes) q → q x ≡ state → worth ≡ plan_sum gain_cells nodes p (plan_given x (Some u)) q
+IsWorthAt nodes p x state u worth = (q : World) → InRange (states_of nodes) q → q x ≡ state
+    → worth ≡ plan_sum gain_cells nodes p (plan_given x (Some u)) q
 
 -- the same if u is a utility
 abbrev pub IsWorthIf : List NodeView → List RuleView → ℕ → ℕ → ℕ → ℤ → Type 0
-IsWorthIf nodes p x state u worth = (node_at nodes u).kind ≡ Utility → IsWorthAt nodes p x state u worth
+IsWorthIf nodes p x state u worth =
+    (node_at nodes u).kind ≡ Utility → IsWorthAt nodes p x state u worth
 
 -- the list has the worth of each utility
-pub record HasWorthsAt (nodes : List NodeView) (p : List RuleView) (x state : ℕ) (worths : List ℤ) : Type 0 where
+pub record HasWorthsAt
+    (nodes : List NodeView) (p : List RuleView) (x state : ℕ) (worths : List ℤ) : Type 0 where
   pub count : length worths ≡ length nodes
-  pub each : (u : ℕ) → u < length nodes → (node_at nodes u).kind ≡ Utility → IsWorthAt nodes p x state u (slice_index_or worths u (pos 0))
+  pub each : (u : ℕ) → u < length nodes → (node_at nodes u).kind ≡ Utility
+      → IsWorthAt nodes p x state u (slice_index_or worths u (pos 0))
 
 -- ---- what they give
 -- the product of the chance totals of a set's nodes
 abbrev pub chances_in : List NodeView → NodeSet → ℕ
-chances_in nodes set = nat_product_over (λ v. if holds set v then chance_factor nodes v else 1) (numbers_of nodes)
+chances_in nodes set =
+    nat_product_over (λ v. if holds set v then chance_factor nodes v else 1) (numbers_of nodes)
 
 -- the product of the chance totals of those nodes of the agent's scope that the plan lacks
 abbrev pub chances_lacking : List NodeView → ℕ → ℕ → Option ℕ → ℕ
-chances_lacking nodes x agent utility = nat_product_over (chance_factor nodes) (lacking_in nodes (scope_given nodes x agent) (plan_given x utility))
+chances_lacking nodes x agent utility = nat_product_over (chance_factor nodes) (lacking_in nodes
+    (scope_given nodes x agent) (plan_given x utility))
 
 -- what a node gives to an agent's gain: a utility of the agent its worth times the totals that its plan lacks
 abbrev pub gain_from : List NodeView → ℕ → ℕ → List ℤ → ℕ → ℤ
-gain_from nodes x agent worths v = if is_utility_of nodes agent v then slice_index_or worths v (pos 0) *ℤ pos (chances_lacking nodes x agent (Some v)) else pos 0
+gain_from nodes x agent worths v = if is_utility_of nodes agent v
+    then slice_index_or worths v (pos 0) *ℤ pos (chances_lacking nodes x agent (Some v))
+    else pos 0
 
 -- the agent's gain, and the weight of the worlds, in the agent's scope
 abbrev pub scope_gain : List NodeView → ℕ → ℕ → List ℤ → ℤ
@@ -68,7 +77,8 @@ abbrev pub scope_mass : List NodeView → ℕ → ℕ → ℕ → ℕ
 scope_mass nodes x agent mass = mass * chances_lacking nodes x agent None
 
 -- an agent within its bound, with its scope, and a positive weight and worths that keep the scope's P
-pub record IsStake (d : DiagramView) (x agent mass : ℕ) (worths : List ℤ) (scope : NodeSet) : Type 0 where
+pub record IsStake
+    (d : DiagramView) (x agent mass : ℕ) (worths : List ℤ) (scope : NodeSet) : Type 0 where
   pub is_diagram : IsDiagram d
   pub within : x < length d.nodes
   pub plain : (node_at d.nodes x).kind ≢ Utility
@@ -77,11 +87,14 @@ pub record IsStake (d : DiagramView) (x agent mass : ℕ) (worths : List ℤ) (s
   pub is_scope : (v : ℕ) → IsIn scope v ↔ Contains (scope_given d.nodes x agent) v
   pub positive : 0 < mass
   pub mass_fits : scope_mass d.nodes x agent mass ≤ product_given d.nodes x agent
-  pub worth_fits : (u : ℕ) → u < length d.nodes → is_utility_of d.nodes agent u ≡ true → nat_abs (slice_index_or worths u (pos 0) *ℤ pos (chances_lacking d.nodes x agent (Some u))) ≤ product_given d.nodes x agent * greatest_abs (node_at d.nodes u).cells
+  pub worth_fits : (u : ℕ) → u < length d.nodes → is_utility_of d.nodes agent u ≡ true
+      → nat_abs (slice_index_or worths u (pos 0) *ℤ pos (chances_lacking d.nodes x agent (Some u)))
+      ≤ product_given d.nodes x agent * greatest_abs (node_at d.nodes u).cells
 
 -- the agent's gain over the weight, in the agent's scope, in lowest terms
 abbrev pub IsScopeFraction : DiagramView → ℕ → ℕ → ℕ → List ℤ → Ratio → Type 0
-IsScopeFraction d x agent mass worths r = IsFraction r (scope_gain d.nodes x agent worths) (scope_mass d.nodes x agent mass * 10 ^ d.decimals)
+IsScopeFraction d x agent mass worths r = IsFraction r (scope_gain d.nodes x agent worths)
+    (scope_mass d.nodes x agent mass * 10 ^ d.decimals)
 
 -- ---- of a stake as the program has it
 abbrev pub HoldsStake : Stake → Type 0

@@ -1,4 +1,5 @@
--- What the steps promise one another of an arc, in the diagram in which one agent decides alone. Only private functions cite it.
+-- What the steps promise one another of an arc, in the diagram in which one agent decides alone. Only private
+-- functions cite it.
 use Rattle.std.specs.Prelude.{◌≢◌, ◌↔◌, ℕ, ◌<◌, Bool, true, false, List, length, IsTrue, IsFalse, IsSome}
 use Rattle.maid_model.specs.declared.diagrams.Kind.TheVariants.{Utility}
 use Rattle.maid_model.specs.Edits.{with_arc, without_arc}
@@ -21,13 +22,15 @@ pub record CanAsk (nodes : List NodeView) (arc : ℕ × ℕ) : Type 0 where
 
 -- the first reason that applies, or the difference of the two optima: of an arc that is there,
 abbrev pub IsFoundOfSeen : DiagramView → ℕ → ℕ → ℕ → Found → Type 0
-IsFoundOfSeen d agent x to found =
-    (of_seen d x to ▸▸ gives (IsDifferenceOfOptima d.nodes (without_arc d.nodes x to) d.decimals agent)) (found_of found)
+IsFoundOfSeen d agent x to found = (of_seen d x to
+    ▸▸ gives (IsDifferenceOfOptima d.nodes (without_arc d.nodes x to) d.decimals agent))
+    (found_of found)
 
 -- and of one that is not
 abbrev pub IsFoundOfUnseen : DiagramView → ℕ → ℕ → ℕ → Found → Type 0
-IsFoundOfUnseen d agent x to found =
-    (of_unseen d x to ▸▸ gives (IsDifferenceOfOptima (with_arc d.nodes x to) d.nodes d.decimals agent)) (found_of found)
+IsFoundOfUnseen d agent x to found = (of_unseen d x to
+    ▸▸ gives (IsDifferenceOfOptima (with_arc d.nodes x to) d.nodes d.decimals agent))
+    (found_of found)
 
 abbrev pub IsFoundAlone : DiagramView → ℕ → ℕ → ℕ → Bool → Found → Type 0
 IsFoundAlone d agent x to true found = IsFoundOfSeen d agent x to found

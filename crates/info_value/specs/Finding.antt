@@ -1,4 +1,5 @@
--- Why an arc into a decision has no information value: the first reason that applies, in the diagram in which only one agent decides.
+-- Why an arc into a decision has no information value: the first reason that applies, in the diagram in which only
+-- one agent decides.
 use Rattle.std.specs.Prelude.{◌≡◌, ℕ}
 use Rattle.maid_model.specs.Edits.{with_arc, without_arc}
 use Rattle.maid_model.specs.Relevance.{IsRequisite}
@@ -19,10 +20,11 @@ missing d x to = with_nodes d (without_arc d.nodes x to)
 abbrev pub of_seen : DiagramView → ℕ → ℕ → Pass Reason
 of_seen d x to = unless (IsRequisite d.nodes to x) Worthless ▸ solving (missing d x to)
 
--- an arc that is not there: it makes too much of the rules, is worthless unless it would be requisite, or the diagram with it is refused by the solver
+-- an arc that is not there: it makes too much of the rules, is worthless unless it would be requisite, or the diagram
+-- with it is refused by the solver
 abbrev pub of_unseen : DiagramView → ℕ → ℕ → Pass Reason
-of_unseen d x to =
-    rule (IsTooLarge d.nodes x to) TooLarge ▸ unless (IsRequisite (with_arc d.nodes x to) to x) Worthless ▸ solving (seeing d x to)
+of_unseen d x to = rule (IsTooLarge d.nodes x to) TooLarge
+    ▸ unless (IsRequisite (with_arc d.nodes x to) to x) Worthless ▸ solving (seeing d x to)
 
 -- the diagram with the arc, which keeps the limits on rules
 pub record IsAdded (d : DiagramView) (x to : ℕ) (more : DiagramView) : Type 0 where

@@ -13,7 +13,8 @@ pub record IsChanceNode (d : DiagramView) (names : NamesView) (name : List ℕ) 
   pub kind : (node_at d.nodes x).kind ≡ Chance
 
 -- the chance node of that name, and the first of its states with that label
-pub record IsStatePlace (d : DiagramView) (names : NamesView) (name label : List ℕ) (place : StatePlace) : Type 0 where
+pub record IsStatePlace
+    (d : DiagramView) (names : NamesView) (name label : List ℕ) (place : StatePlace) : Type 0 where
   pub node : IsChanceNode d names name place.node
   pub state : IsFirstPlace (labels_of names place.node) label place.state
 
@@ -26,5 +27,7 @@ abbrev pub HasState : DiagramView → NamesView → List ℕ → List ℕ → Ty
 HasState d names name label = (place : StatePlace) × IsStatePlace d names name label place
 
 -- of the node and the state that is so
-abbrev pub at_state : {O : Type 0} → DiagramView → NamesView → List ℕ → List ℕ → (ℕ → ℕ → O → Type 0) → O → Type 0
-at_state d names name label P = over (IsStatePlace d names name label) (λ place. P place.node place.state)
+abbrev pub at_state :
+    {O : Type 0} → DiagramView → NamesView → List ℕ → List ℕ → (ℕ → ℕ → O → Type 0) → O → Type 0
+at_state d names name label P =
+    over (IsStatePlace d names name label) (λ place. P place.node place.state)

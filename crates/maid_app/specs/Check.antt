@@ -37,7 +37,8 @@ status_after verdicts.Accepted = statuses.Done
 status_after (verdicts.Rejected at cause) = statuses.Rejected
 
 -- The verdict on the report that the bytes are, by definition, and what holds of an accepted one.
-pub record HasVerdict (d : DiagramView) (names : NamesView) (bytes : List ℕ) (output : Written) : Type 0 where
+pub record HasVerdict
+    (d : DiagramView) (names : NamesView) (bytes : List ℕ) (output : Written) : Type 0 where
   pub solved : SolvedView
   pub is_report : IsReadAs d names bytes solved
   pub verdict : Verdict

@@ -24,11 +24,13 @@ control_nodes told = told.node ∷ cycle_told told.found
 
 -- the first line, and then one for each chance node
 abbrev pub control_text : List ℕ → NamesView → List ControlLine → List ℕ
-control_text agent names lines = asked_line (codes "control") agent ++ flat_map (control_line names) lines
+control_text agent names lines =
+    asked_line (codes "control") agent ++ flat_map (control_line names) lines
 
 -- A line for each chance node: the two flags by paths, and the first reason why its control has no
 -- value, or the control value, which is not below nought, against the answer of the diagram.
-pub record HasControl (agent : List ℕ) (d : DiagramView) (names : NamesView) (printed : List ℕ) : Type 0 where
+pub record HasControl
+    (agent : List ℕ) (d : DiagramView) (names : NamesView) (printed : List ℕ) : Type 0 where
   pub solved : SolvedView
   pub solution : IsSolution d solved
   pub number : ℕ

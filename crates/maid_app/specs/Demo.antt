@@ -8,11 +8,12 @@ use Rattle.maid_app.specs.Tasks.{Task, text_task}
 
 -- the number of stages, the number of nodes, and each agent's expected utility
 abbrev pub summary : ℕ → DiagramView → NamesView → SolvedView → List ℕ
-summary k d names solved =
-    line (codes "demo " ++ decimal k) ++ line (codes "nodes " ++ decimal (length d.nodes)) ++ gain_lines names 0 solved.gains
+summary k d names solved = line (codes "demo " ++ decimal k)
+    ++ line (codes "nodes " ++ decimal (length d.nodes)) ++ gain_lines names 0 solved.gains
 
 -- the summary of the diagram's answer
-pub record HasSummary (k : ℕ) (d : DiagramView) (names : NamesView) (printed : List ℕ) : Type 0 where
+pub record HasSummary
+    (k : ℕ) (d : DiagramView) (names : NamesView) (printed : List ℕ) : Type 0 where
   pub solved : SolvedView
   pub solution : IsSolution d solved
   pub is_summary : printed ≡ summary k d names solved

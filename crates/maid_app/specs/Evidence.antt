@@ -27,13 +27,16 @@ pub record KeepsAllBounds (d : DiagramView) (x : ℕ) : Type 0 where
 
 -- the first scope that fails passes the weight bound, the further ones behind all others, and it is
 -- told where
-pub data TellsBoundGiven (d : DiagramView) (x : ℕ) (names : NamesView) (told : List ℕ) : Type 0 where
-  AtNode : (v : ℕ) → IsPassedAt d v → told ≡ bound_line names (Some v) → TellsBoundGiven d x names told
-  AtUtilities : IsPassedByUtilities d → told ≡ bound_line names None → TellsBoundGiven d x names told
-  AtFurtherNode : (v : ℕ) → KeepsScopedBounds d → IsPassedAtGiven d x v → told ≡ bound_line names (Some v)
-      → TellsBoundGiven d x names told
-  AtFurtherUtilities : KeepsScopedBounds d → IsPassedByUtilitiesGiven d x → told ≡ bound_line names None
-      → TellsBoundGiven d x names told
+pub data TellsBoundGiven
+    (d : DiagramView) (x : ℕ) (names : NamesView) (told : List ℕ) : Type 0 where
+  AtNode :
+      (v : ℕ) → IsPassedAt d v → told ≡ bound_line names (Some v) → TellsBoundGiven d x names told
+  AtUtilities :
+      IsPassedByUtilities d → told ≡ bound_line names None → TellsBoundGiven d x names told
+  AtFurtherNode : (v : ℕ) → KeepsScopedBounds d → IsPassedAtGiven d x v
+      → told ≡ bound_line names (Some v) → TellsBoundGiven d x names told
+  AtFurtherUtilities : KeepsScopedBounds d → IsPassedByUtilitiesGiven d x
+      → told ≡ bound_line names None → TellsBoundGiven d x names told
 
 -- the run and the further plans pass a limit, and both counts are told
 pub record TellsTooLargeGiven (d : DiagramView) (x : ℕ) (told : List ℕ) : Type 0 where
@@ -43,6 +46,7 @@ pub record TellsTooLargeGiven (d : DiagramView) (x : ℕ) (told : List ℕ) : Ty
   pub says : told ≡ too_large_line cells work
 
 -- the node never has the state, which is told
-pub record TellsImpossible (nodes : List NodeView) (x state : ℕ) (name label told : List ℕ) : Type 0 where
+pub record TellsImpossible
+    (nodes : List NodeView) (x state : ℕ) (name label told : List ℕ) : Type 0 where
   pub impossible : IsImpossible nodes x state
   pub says : told ≡ impossible_line name label

@@ -88,13 +88,15 @@ kind_words names passes.UtilityParent = codes "utility parent"
 kind_words names passes.MissingTable = codes "missing table"
 kind_words names (passes.GraphCycle cycle) = codes "graph cycle:" ++ cycle_names names cycle
 kind_words names passes.NotANumber = codes "not a number"
-kind_words names (passes.WrongCount want got) = codes "wrong count: want " ++ decimal want ++ codes " got " ++ decimal got
+kind_words names (passes.WrongCount want got) =
+    codes "wrong count: want " ++ decimal want ++ codes " got " ++ decimal got
 kind_words names passes.NumberTooLong = codes "number too long"
 kind_words names passes.Negative = codes "negative"
 kind_words names passes.ZeroRow = codes "zero row"
 kind_words names passes.WideWeight = codes "wide weight"
 kind_words names passes.WideValue = codes "wide value"
-kind_words names (passes.LimitPassed which got) = codes "limit passed: " ++ limit_words which ++ decimal got
+kind_words names (passes.LimitPassed which got) =
+    codes "limit passed: " ++ limit_words which ++ decimal got
 
 -- no diagram stands for their tree: the first fault of the passes
 pub record IsBuildFault (bytes : List ℕ) (at : ℕ) (words : List ℕ) : Type 0 where
@@ -107,7 +109,8 @@ pub record IsBuildFault (bytes : List ℕ) (at : ℕ) (words : List ℕ) : Type 
 
 -- the fault of the bytes
 abbrev pub IsTextFault : List ℕ → ℕ → List ℕ → Type 0
-IsTextFault bytes at words = IsTokenFault bytes at words ⊎ IsGrammarFault bytes at words ⊎ IsBuildFault bytes at words
+IsTextFault bytes at words =
+    IsTokenFault bytes at words ⊎ IsGrammarFault bytes at words ⊎ IsBuildFault bytes at words
 
 -- the line tells the fault of the file's bytes
 pub record TellsFault (name bytes told : List ℕ) : Type 0 where

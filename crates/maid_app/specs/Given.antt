@@ -22,13 +22,16 @@ use Rattle.maid_app.specs.Tasks.{Task, text_task}
 -- in the row of that number, under these parents, the parent x has the state
 abbrev pub shows : (ℕ → ℕ) → List ℕ → ℕ → ℕ → ℕ → Bool
 shows count [] row x state = false
-shows count (u ∷ us) row x state =
-    if u == x then row / rows_under count us == state else shows count us (row % rows_under count us) x state
+shows count (u ∷ us) row x state = if u == x
+    then row / rows_under count us == state
+    else shows count us (row % rows_under count us) x state
 
 -- a row's line where the decision sees x with the state in it
 abbrev pub row_given : List NodeView → NamesView → ℕ → ℕ → ℕ → ℕ → Row → List ℕ
 row_given nodes names x state d number row =
-    if shows (states_of nodes) (parents_of nodes d) number x state then row_line nodes names d number row else []
+    if shows (states_of nodes) (parents_of nodes d) number x state
+    then row_line nodes names d number row
+    else []
 
 -- these lines from that number on
 abbrev pub rows_given : List NodeView → NamesView → ℕ → ℕ → ℕ → ℕ → List Row → List ℕ
@@ -38,8 +41,8 @@ rows_given nodes names x state d number (row ∷ rows) =
 
 -- a decision's line, and then these rows
 abbrev pub decision_given : List NodeView → NamesView → ℕ → ℕ → AnswerView → List ℕ
-decision_given nodes names x state answer =
-    decision_head nodes names answer.decision ++ rows_given nodes names x state answer.decision 0 answer.rows
+decision_given nodes names x state answer = decision_head nodes names answer.decision
+    ++ rows_given nodes names x state answer.decision 0 answer.rows
 
 -- the evidence and the order of solving
 abbrev pub given_front : NamesView → ℕ → ℕ → List ℕ → List ℕ
@@ -59,7 +62,8 @@ given_text d names x state solved gains =
 -- The answer of the diagram in which every decision sees the node, and what it is worth where the node
 -- has the state. The profile is subgame-perfect, and none is worth more, where the node has the state,
 -- to an agent that owns all decisions.
-pub record HasGiven (node state : List ℕ) (d : DiagramView) (names : NamesView) (printed : List ℕ) : Type 0 where
+pub record HasGiven
+    (node state : List ℕ) (d : DiagramView) (names : NamesView) (printed : List ℕ) : Type 0 where
   pub place : StatePlace
   pub is_place : IsStatePlace d names node state place
   pub solved : SolvedView
@@ -68,7 +72,8 @@ pub record HasGiven (node state : List ℕ) (d : DiagramView) (names : NamesView
   pub worth : IsWorthGiven d place.node place.state solved gains
   pub subgame_perfect : IsPerfectSeeing d place.node solved
   pub best : IsBestGiven d place.node place.state solved
-  pub is : printed ≡ given_text (all_seeing_diagram d place.node) names place.node place.state solved gains
+  pub is : printed
+      ≡ given_text (all_seeing_diagram d place.node) names place.node place.state solved gains
 
 -- the diagram has the evidence, can be answered under it, and it is possible
 pub record CanBeGiven (node state : List ℕ) (d : DiagramView) (names : NamesView) : Type 0 where
@@ -83,11 +88,11 @@ pub record CanBeGiven (node state : List ℕ) (d : DiagramView) (names : NamesVi
 
 -- the stages behind the names of the words
 abbrev pub evidence_stages : List ℕ → List ℕ → List Stage
-evidence_stages node state =
-    below_decision node state ∷ rules_given node state ∷ cycle_given node state ∷ bound_given node state
-    ∷ size_given node state ∷ impossible node state ∷ []
+evidence_stages node state = below_decision node state ∷ rules_given node state
+    ∷ cycle_given node state ∷ bound_given node state ∷ size_given node state
+    ∷ impossible node state ∷ []
 
 -- the text's fault, an unknown node or state, these stages, and else the answer
 abbrev pub conditioning : List ℕ → List ℕ → Task
-conditioning node state =
-    text_task (text_fault ∷ name_stages node state ++ evidence_stages node state) (HasGiven node state)
+conditioning node state = text_task
+    (text_fault ∷ name_stages node state ++ evidence_stages node state) (HasGiven node state)

@@ -33,7 +33,8 @@ pub record IsGraphText (d : DiagramView) (names : NamesView) (printed : List ℕ
   pub lists : (v : ℕ) → IsDecision d.nodes v → IsReliedOn d.nodes v (relied_on v)
   pub last : List ℕ
   pub is_last : IsLastLine d.nodes names last
-  pub is : printed ≡ flat_map (λ v. relies_line names v (relied_on v)) (decisions_of d.nodes) ++ last
+  pub is :
+      printed ≡ flat_map (λ v. relies_line names v (relied_on v)) (decisions_of d.nodes) ++ last
 
 -- the text's fault, and else the lines of the relevance graph
 abbrev pub graphing : Task

@@ -8,4 +8,5 @@ use Rattle.maid_app.specs.Graph.{relies_line}
 
 -- the line of a decision, and nothing of another node
 abbrev pub relies_line_of : List NodeView → NamesView → RelevanceView → ℕ → List ℕ
-relies_line_of nodes names view v = if is_decision (node_at nodes v).kind then relies_line names v (relied_on_by view v) else []
+relies_line_of nodes names view v =
+    if is_decision (node_at nodes v).kind then relies_line names v (relied_on_by view v) else []

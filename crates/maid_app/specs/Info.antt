@@ -27,7 +27,8 @@ info_text agent names lines = asked_line (codes "info") agent ++ flat_map (info_
 
 -- A line for each arc that is asked about: the first reason why it has no value, or its information
 -- value, which is not below nought, against the answer of the diagram.
-pub record HasInfo (agent : List ℕ) (d : DiagramView) (names : NamesView) (printed : List ℕ) : Type 0 where
+pub record HasInfo
+    (agent : List ℕ) (d : DiagramView) (names : NamesView) (printed : List ℕ) : Type 0 where
   pub solved : SolvedView
   pub solution : IsSolution d solved
   pub number : ℕ

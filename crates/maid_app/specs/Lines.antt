@@ -5,7 +5,8 @@ use Rattle.maid_model.specs.Reports.{line, names_line}
 use Rattle.app_lines.specs.Places.{line_at, column_at}
 
 abbrev pub usage_line : List ℕ
-usage_line = line (codes "usage: maidsolve solve F | check F R | graph F | print F | trim F | info F A | control F A | demo K | pure F | update F | given F X S | threshold F X ROW STATE")
+usage_line = line (codes
+    "usage: maidsolve solve F | check F R | graph F | print F | trim F | info F A | control F A | demo K | pure F | update F | given F X S | threshold F X ROW STATE")
 
 abbrev pub absent_line : List ℕ → List ℕ
 absent_line name = line (codes "absent: " ++ name)
@@ -18,7 +19,8 @@ too_long_line name = line (codes "text too long: " ++ name)
 
 -- the file, the line and the column of the place, and what is wrong there
 abbrev pub fault_line : List ℕ → List ℕ → ℕ → List ℕ → List ℕ
-fault_line name text at words = line (name ++ 58 ∷ decimal (line_at text at) ++ 58 ∷ decimal (column_at text at) ++ 58 ∷ 32 ∷ words)
+fault_line name text at words = line (name ++ 58 ∷ decimal (line_at text at) ++ 58
+    ∷ decimal (column_at text at) ++ 58 ∷ 32 ∷ words)
 
 abbrev pub write_fault_line : List ℕ
 write_fault_line = line (codes "write fault")
@@ -68,15 +70,18 @@ bound_line names None = line (codes "weight bound: utilities")
 
 -- the most cells of a plan of the run, and the work of all its plans
 abbrev pub too_large_line : ℕ → ℕ → List ℕ
-too_large_line cells work = line (codes "too large: cells " ++ decimal cells ++ codes " work " ++ decimal work)
+too_large_line cells work =
+    line (codes "too large: cells " ++ decimal cells ++ codes " work " ++ decimal work)
 
 -- the pure profiles and the worlds of a diagram whose equilibria are not looked for
 abbrev pub profiles_line : ℕ → ℕ → List ℕ
-profiles_line profiles leaves = line (codes "too large: profiles " ++ decimal profiles ++ codes " leaves " ++ decimal leaves)
+profiles_line profiles leaves =
+    line (codes "too large: profiles " ++ decimal profiles ++ codes " leaves " ++ decimal leaves)
 
 -- how many pure profiles are no equilibrium
 abbrev pub no_equilibrium_line : ℕ → List ℕ
-no_equilibrium_line profiles = line (codes "no pure equilibrium: " ++ decimal profiles ++ codes " profiles")
+no_equilibrium_line profiles =
+    line (codes "no pure equilibrium: " ++ decimal profiles ++ codes " profiles")
 
 abbrev pub not_one_agent_line : List ℕ
 not_one_agent_line = line (codes "not one agent")

@@ -24,10 +24,13 @@ pub record TellsNoOthers (d : DiagramView) (x row state : ℕ) (name told : List
 
 -- with the common multiple in the place of x's total the weight bound is kept
 abbrev pub KeepsMovedBound : DiagramView → ℕ → ℕ → ℕ → Type 0
-KeepsMovedBound d x row state = over (IsCommonMultiple d.nodes x (row - 1) state) (total_pass d x) None
+KeepsMovedBound d x row state =
+    over (IsCommonMultiple d.nodes x (row - 1) state) (total_pass d x) None
 
 -- the common multiple is out of range, or the weight bound is passed, and it is told where
-pub record TellsMovedBound (d : DiagramView) (x row state : ℕ) (names : NamesView) (told : List ℕ) : Type 0 where
+pub record TellsMovedBound
+    (d : DiagramView) (x row state : ℕ) (names : NamesView) (told : List ℕ) : Type 0 where
   pub at : Option ℕ
-  pub passes : over (IsCommonMultiple d.nodes x (row - 1) state) (total_pass d x) (Some (WeightBound at))
+  pub passes :
+      over (IsCommonMultiple d.nodes x (row - 1) state) (total_pass d x) (Some (WeightBound at))
   pub says : told ≡ bound_line names at

@@ -12,8 +12,8 @@ use Rattle.maid_app.specs.Tasks.{Task, text_task}
 
 -- the choices decision by decision, and what they are worth to each agent
 abbrev pub pure_text : DiagramView → NamesView → PureView → List ℕ
-pure_text d names found =
-    line (codes "maidsolve pure 1") ++ choice_lines d.nodes names found.answers ++ gain_lines names 0 found.gains
+pure_text d names found = line (codes "maidsolve pure 1")
+    ++ choice_lines d.nodes names found.answers ++ gain_lines names 0 found.gains
 
 -- the first pure equilibrium in text order, from which no agent gains by its own rules, pure or mixed
 pub record HasPure (d : DiagramView) (names : NamesView) (printed : List ℕ) : Type 0 where
@@ -22,7 +22,8 @@ pub record HasPure (d : DiagramView) (names : NamesView) (printed : List ℕ) : 
   pub stable : IsStable d found
   pub is : printed ≡ pure_text d names found
 
--- the diagram keeps the weight bound in each scope, its profiles and worlds can be listed, and one of the profiles is an
+-- the diagram keeps the weight bound in each scope, its profiles and worlds can be listed, and one of the profiles is
+-- an
 -- equilibrium
 pub record HasFirstPure (d : DiagramView) : Type 0 where
   pub bound : KeepsScopedBounds d

@@ -34,17 +34,20 @@ TellsStages stages name bytes refusal =
 
 -- what the stages find in any bytes that stand for the diagram
 abbrev pub found_by : DiagramView → NamesView → List Stage → Pass Refused
-found_by d names stages found =
-    (name bytes : List ℕ) → IsDiagramOf bytes d names → each (λ s. Finds s (name, bytes)) stages found
+found_by d names stages found = (name bytes : List ℕ) → IsDiagramOf bytes d names
+    → each (λ s. Finds s (name, bytes)) stages found
 
 -- the bytes stand for that diagram, which no stage of solving refuses, and this is its answer
-pub record IsSolved (bytes : List ℕ) (d : DiagramView) (names : NamesView) (solved : SolvedView) : Type 0 where
+pub record IsSolved
+    (bytes : List ℕ) (d : DiagramView) (names : NamesView) (solved : SolvedView) : Type 0 where
   pub is : IsDiagramOf bytes d names
   pub solvable : IsSolvable d
   pub solution : IsSolution d solved
 
 -- the bytes stand for that diagram, which the solver answers so, and the agent has that number in it
-pub record IsAsked (agent bytes : List ℕ) (d : DiagramView) (names : NamesView) (solved : SolvedView) (number : ℕ) : Type 0 where
+pub record IsAsked
+    (agent bytes : List ℕ) (d : DiagramView) (names : NamesView) (solved : SolvedView) (number : ℕ)
+    : Type 0 where
   pub solved_as : IsSolved bytes d names solved
   pub fit : NamesFit d names
   pub is_agent : IsFirstPlace names.agents agent number

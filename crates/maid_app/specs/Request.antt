@@ -68,7 +68,8 @@ request_by_words word next last =
 
 -- one to five bytes, of which the first is the digit 0 only where it stands alone
 abbrev pub is_row_size : List ℕ → Bool
-is_row_size word = nat_lt 0 (length word) && (nat_le (length word) 5 && ((length word == 1) || not (slice_index word 0 == 48)))
+is_row_size word = nat_lt 0 (length word)
+    && (nat_le (length word) 5 && ((length word == 1) || not (slice_index word 0 == 48)))
 
 -- the number of a row in decimal digits
 abbrev pub is_row_word : List ℕ → Bool
@@ -88,8 +89,9 @@ request_by_evidence word file node state =
 -- a form of five words: `threshold`, a file's name, a node's, the number of one of its rows, and a
 -- state's label
 abbrev pub request_by_row : List ℕ → List ℕ → List ℕ → List ℕ → List ℕ → Option Request
-request_by_row word file node row state =
-    if bytes_eq word (codes "threshold") then option_map (λ number. threshold file node number state) (row_of row) else None
+request_by_row word file node row state = if bytes_eq word (codes "threshold")
+    then option_map (λ number. threshold file node number state) (row_of row)
+    else None
 
 -- the request of the words, where they are of a form
 abbrev pub request_of : List (List ℕ) → Option Request

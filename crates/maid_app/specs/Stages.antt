@@ -130,12 +130,14 @@ pub record TellsRounds (d : DiagramView) (names : NamesView) (told : List ℕ) :
   pub says : told ≡ rounds_line MOST_ROUNDS
 
 -- no chance node has the name, which is told
-pub record TellsUnknownNode (d : DiagramView) (names : NamesView) (node told : List ℕ) : Type 0 where
+pub record TellsUnknownNode
+    (d : DiagramView) (names : NamesView) (node told : List ℕ) : Type 0 where
   pub unknown : HasChanceNode d names node → ⊥
   pub says : told ≡ unknown_node_line node
 
 -- it has no state with the label, which is told
-pub record TellsUnknownState (d : DiagramView) (names : NamesView) (node state told : List ℕ) : Type 0 where
+pub record TellsUnknownState
+    (d : DiagramView) (names : NamesView) (node state told : List ℕ) : Type 0 where
   pub unknown : HasState d names node state → ⊥
   pub says : told ≡ unknown_state_line state
 
@@ -153,7 +155,8 @@ abbrev pub IsReport : DiagramView → NamesView → List ℕ → Type 0
 IsReport d names bytes = (solved : SolvedView) × IsReadAs d names bytes solved
 
 -- the first line with which no report of the diagram begins is told
-pub record TellsBadLine (file : File) (d : DiagramView) (names : NamesView) (told : List ℕ) : Type 0 where
+pub record TellsBadLine
+    (file : File) (d : DiagramView) (names : NamesView) (told : List ℕ) : Type 0 where
   pub at : ℕ
   pub is_bad : IsBadLine d names file.1 at
   pub says : told ≡ bad_line_line file.0 at
@@ -181,31 +184,34 @@ Finds too_many_profiles file =
     of_diagram file.1 (λ d names. stage TooLarge (search.IsSmall d) (TellsProfiles d names))
 Finds no_equilibrium file =
     of_diagram file.1 (λ d names. stage NoPure (HasPureEquilibrium d) (TellsNoEquilibrium d names))
-Finds several_owners file =
-    of_diagram file.1 (λ d names. stage NotOneAgent (HasTwoOwners d.nodes → ⊥) (TellsOwners d names))
-Finds update_too_large file =
-    of_diagram file.1 (λ d names. stage TooLarge (updating.IsSmallEnough d) (TellsUpdateTooLarge d names))
+Finds several_owners file = of_diagram file.1 (λ d names.
+    stage NotOneAgent (HasTwoOwners d.nodes → ⊥) (TellsOwners d names))
+Finds update_too_large file = of_diagram file.1 (λ d names.
+    stage TooLarge (updating.IsSmallEnough d) (TellsUpdateTooLarge d names))
 Finds rounds_spent file =
     of_diagram file.1 (λ d names. stage RoundsSpent (AllRoundsRaise d → ⊥) (TellsRounds d names))
-Finds (unknown_node node) file =
-    of_diagram file.1 (λ d names. stage UnknownNode (HasChanceNode d names node) (TellsUnknownNode d names node))
-Finds (unknown_state node state) file =
-    of_diagram file.1 (λ d names. stage UnknownState (HasState d names node state) (TellsUnknownState d names node state))
+Finds (unknown_node node) file = of_diagram file.1 (λ d names.
+    stage UnknownNode (HasChanceNode d names node) (TellsUnknownNode d names node))
+Finds (unknown_state node state) file = of_diagram file.1 (λ d names.
+    stage UnknownState (HasState d names node state) (TellsUnknownState d names node state))
 Finds (below_decision node state) file =
     of_diagram file.1 (λ d names. at_state d names node state (λ x s.
     stage BelowDecision (IsBelowDecision d.nodes x → ⊥) (TellsBelow d x node)))
 Finds (rules_given node state) file =
     of_diagram file.1 (λ d names. at_state d names node state (λ x s.
     stage TooLarge (KeepsRules (all_seeing d.nodes x)) (TellsRules (all_seeing d.nodes x))))
-Finds (cycle_given node state) file =
-    of_diagram file.1 (λ d names. at_state d names node state (λ x s.
-    stage Cycle (HasRelianceOrder (all_seeing d.nodes x)) (TellsCycle (all_seeing_diagram d x) names)))
-Finds (bound_given node state) file =
-    of_diagram file.1 (λ d names. at_state d names node state (λ x s.
-    stage WeightBound (KeepsAllBounds (all_seeing_diagram d x) x) (TellsBoundGiven (all_seeing_diagram d x) x names)))
-Finds (size_given node state) file =
-    of_diagram file.1 (λ d names. at_state d names node state (λ x s.
-    stage TooLarge (IsSmallEnoughGiven (all_seeing_diagram d x) x) (TellsTooLargeGiven (all_seeing_diagram d x) x)))
+Finds (cycle_given node state) file = of_diagram file.1 (λ d names.
+    at_state d names node state (λ x s.
+    stage Cycle (HasRelianceOrder (all_seeing d.nodes x))
+    (TellsCycle (all_seeing_diagram d x) names)))
+Finds (bound_given node state) file = of_diagram file.1 (λ d names.
+    at_state d names node state (λ x s.
+    stage WeightBound (KeepsAllBounds (all_seeing_diagram d x) x)
+    (TellsBoundGiven (all_seeing_diagram d x) x names)))
+Finds (size_given node state) file = of_diagram file.1 (λ d names.
+    at_state d names node state (λ x s.
+    stage TooLarge (IsSmallEnoughGiven (all_seeing_diagram d x) x)
+    (TellsTooLargeGiven (all_seeing_diagram d x) x)))
 Finds (impossible node state) file =
     of_diagram file.1 (λ d names. at_state d names node state (λ x s.
     stage Impossible (IsImpossible (all_seeing d.nodes x) x s → ⊥)
@@ -221,8 +227,8 @@ Finds (moved_bound node row state) file =
     stage WeightBound (KeepsMovedBound d x row s) (TellsMovedBound d x row s names)))
 Finds too_many_leaves file =
     of_diagram file.1 (λ d names. stage TooLarge (HasFewLeaves d) (TellsLeaves d names))
-Finds (bad_line text) file =
-    of_diagram text (λ d names. stage TextFault (IsReport d names file.1) (TellsBadLine file d names))
+Finds (bad_line text) file = of_diagram text (λ d names.
+    stage TextFault (IsReport d names file.1) (TellsBadLine file d names))
 
 -- a node or a state that is not there
 abbrev pub name_stages : List ℕ → List ℕ → List Stage

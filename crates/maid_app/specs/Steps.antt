@@ -18,15 +18,18 @@ HasNoText list request given status told = HasNoBytes list request given status 
 
 -- what was asked leads to a request whose text this is, and the files keep their limits, whatever the
 -- run ends with
-pub record LeadsToText (list : Option (List File)) (asked : Request) (given : ℕ) (output : Output) : Type 0 where
+pub record LeadsToText
+    (list : Option (List File)) (asked : Request) (given : ℕ) (output : Output) : Type 0 where
   pub request : Request
   pub leads : LeadsTo list asked request
   pub text : HasText list request given output.status output.text.items
   pub after : IsAfterWriting output.status
-  pub bounded : (status : Status) → (status ≡ Absent → ⊥) → KeepsLimits list (Some asked) status given
+  pub bounded :
+      (status : Status) → (status ≡ Absent → ⊥) → KeepsLimits list (Some asked) status given
 
 -- the refusal says why there is no such text, and the files keep their limits
-pub record LeadsToRefusal (list : Option (List File)) (asked : Request) (given : ℕ) (refusal : Refusal) : Type 0 where
+pub record LeadsToRefusal
+    (list : Option (List File)) (asked : Request) (given : ℕ) (refusal : Refusal) : Type 0 where
   pub says : Says list (Some asked) given (status_of refusal) (line_of refusal)
   pub before : IsOfOutput (status_of refusal)
   pub bounded : KeepsLimits list (Some asked) (status_of refusal) given

@@ -20,15 +20,16 @@ use Rattle.maid_app.specs.declared.status.Status.TheVariants.{UnknownRow, NoOthe
 
 -- the node, the row's number from 1, the state, its probability there, and the ends of the interval
 abbrev pub threshold_text : NamesView → ℕ → ℕ → ℕ → Interval → List ℕ
-threshold_text names x row state interval =
-    line (codes "maidsolve threshold 1")
-    ++ line (name_of names x ++ codes " row " ++ decimal row ++ codes ": " ++ quoted (label_of names x state)
-    ++ codes " = " ++ ratio_text interval.now ++ codes " from " ++ ratio_text interval.low
-    ++ codes " to " ++ ratio_text interval.high)
+threshold_text names x row state interval = line (codes "maidsolve threshold 1")
+    ++ line (name_of names x ++ codes " row " ++ decimal row ++ codes ": "
+    ++ quoted (label_of names x state) ++ codes " = " ++ ratio_text interval.now
+    ++ codes " from " ++ ratio_text interval.low ++ codes " to " ++ ratio_text interval.high)
 
 -- The exact closed interval in which the answer's rules hold; inside they are subgame-perfect in the
 -- changed diagram.
-pub record HasThreshold (node : List ℕ) (row : ℕ) (state : List ℕ) (d : DiagramView) (names : NamesView) (printed : List ℕ) : Type 0 where
+pub record HasThreshold
+    (node : List ℕ) (row : ℕ) (state : List ℕ) (d : DiagramView) (names : NamesView)
+    (printed : List ℕ) : Type 0 where
   pub place : StatePlace
   pub is_place : IsStatePlace d names node state place
   pub solved : SolvedView
@@ -42,7 +43,8 @@ pub record HasThreshold (node : List ℕ) (row : ℕ) (state : List ℕ) (d : Di
 
 -- the diagram has the state and the row with another state of weight, the solver answers it, and the
 -- changed diagrams keep the weight bound
-pub record CanBeMoved (node : List ℕ) (row : ℕ) (state : List ℕ) (d : DiagramView) (names : NamesView) : Type 0 where
+pub record CanBeMoved
+    (node : List ℕ) (row : ℕ) (state : List ℕ) (d : DiagramView) (names : NamesView) : Type 0 where
   pub place : StatePlace
   pub is_place : IsStatePlace d names node state place
   pub has_row : HasRow d place.node row
@@ -52,13 +54,14 @@ pub record CanBeMoved (node : List ℕ) (row : ℕ) (state : List ℕ) (d : Diag
 
 -- the text's fault, an unknown node, state or row, and a row without other states
 abbrev pub place_stages : List ℕ → ℕ → List ℕ → List Stage
-place_stages node row state =
-    text_fault ∷ name_stages node state ++ unknown_row node row state ∷ no_others node row state ∷ []
+place_stages node row state = text_fault ∷ name_stages node state ++ unknown_row node row state
+    ∷ no_others node row state ∷ []
 
 -- these, then the solver's stages, then the weight bound of the changed diagrams, and else the interval
 abbrev pub moving : List ℕ → ℕ → List ℕ → Task
-moving node row state =
-    text_task (place_stages node row state ++ solver_stages ++ moved_bound node row state ∷ []) (HasThreshold node row state)
+moving node row state = text_task
+    (place_stages node row state ++ solver_stages ++ moved_bound node row state ∷ [])
+    (HasThreshold node row state)
 
 -- a chance node, one of its states and one of its rows, in which another state has weight
 pub record IsCellPlace (d : DiagramView) (place : StatePlace) (row : ℕ) : Type 0 where

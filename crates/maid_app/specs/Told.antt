@@ -20,7 +20,8 @@ limit_of request = LIMIT
 
 -- These bytes were read of the file and keep its limit. The shelf counted them, and where its list
 -- is told they are the file's.
-pub record IsFileText (list : Option (List File)) (name : List ℕ) (limit given : ℕ) (bytes : List ℕ) : Type 0 where
+pub record IsFileText
+    (list : Option (List File)) (name : List ℕ) (limit given : ℕ) (bytes : List ℕ) : Type 0 where
   pub told : IfSome list (λ files. file_of files name ≡ Some bytes)
   pub counted : given ≡ length bytes
   pub fits : length bytes ≤ limit
@@ -72,25 +73,31 @@ pub record KeepsLimit (limit : ℕ) (status : Status) (given : ℕ) : Type 0 whe
 -- and so of the file that was started last, where the words name one
 abbrev pub KeepsLimits : Option (List File) → Option Request → Status → ℕ → Type 0
 KeepsLimits list requested status given = IfSome requested (λ asked.
-    (request : Request) × LeadsTo list asked request × (IsOfFile request → KeepsLimit (limit_of request) status given))
+    (request : Request) × LeadsTo list asked request
+    × (IsOfFile request → KeepsLimit (limit_of request) status given))
 
 -- where the list is told it lacks the name
 abbrev pub IsAbsent : Option (List File) → List ℕ → Type 0
 IsAbsent list name = IfSome list (λ files. file_of files name ≡ None)
 
 -- with that status the text is what comes of the request on its own text
-pub record HasText (list : Option (List File)) (request : Request) (given : ℕ) (status : Status) (printed : List ℕ) : Type 0 where
+pub record HasText
+    (list : Option (List File)) (request : Request) (given : ℕ) (status : Status) (printed : List ℕ)
+    : Type 0 where
   pub bytes : List ℕ
   pub is_text : IsTextFor list request given bytes
   pub answers : Answers request bytes (Ok (written status printed))
 
 -- the text that the words lead to was taken so, and the run is to end with that status
-abbrev pub WritesText : Option (List File) → Option Request → ℕ → (List ℕ → Type 0) → Status → Type 0
+abbrev pub WritesText :
+    Option (List File) → Option Request → ℕ → (List ℕ → Type 0) → Status → Type 0
 WritesText list requested given IsTaken status = OfRequest list requested (λ request.
     (printed : List ℕ) × HasText list request given status printed × IsTaken printed)
 
 -- the request comes to nothing on its text's bytes, with that status and that line
-pub record Refuses (list : Option (List File)) (request : Request) (given : ℕ) (status : Status) (told : List ℕ) : Type 0 where
+pub record Refuses
+    (list : Option (List File)) (request : Request) (given : ℕ) (status : Status) (told : List ℕ) :
+    Type 0 where
   pub bytes : List ℕ
   pub is_text : IsTextFor list request given bytes
   pub answers : Answers request bytes (Err (refused status told))
@@ -126,10 +133,13 @@ Says list requested given status told =
 
 -- the whole line was taken, or where a write failed a proper front of it
 abbrev pub TakesLine : Option (List ℕ) → Option (List ℕ) → ℕ → ℕ → List ℕ → Type 0
-TakesLine old new before now told = Appends old new told ⊎ (Rose before now × AppendsPart old new told)
+TakesLine old new before now told =
+    Appends old new told ⊎ (Rose before now × AppendsPart old new told)
 
 -- the words lead to this, which names a file, and the shelf tells that this file has these bytes
-pub record HasFile (list : Option (List File)) (requested : Option Request) (request : Request) (bytes : List ℕ) : Type 0 where
+pub record HasFile
+    (list : Option (List File)) (requested : Option Request) (request : Request) (bytes : List ℕ) :
+    Type 0 where
   pub asked : Request
   pub asks : requested ≡ Some asked
   pub leads : LeadsTo list asked request

@@ -19,10 +19,12 @@ pub record IsBaseline (d : DiagramView) (agent : ℕ) (optimum : Ratio) : Type 0
   pub is_optimum : IsOptimum d.nodes d.decimals agent optimum
   pub bound : scope_bound_for d agent ≤ greatest_number
 
--- in the agent's scope of the one diagram counts all that does in the other: P is a multiple, S is no less, and the scale is the same
+-- in the agent's scope of the one diagram counts all that does in the other: P is a multiple, S is no less, and the
+-- scale is the same
 pub record CoversScope (wide narrow : DiagramView) (agent : ℕ) : Type 0 where
   pub product : scope_product_for narrow.nodes agent ∣ scope_product_for wide.nodes agent
-  pub utilities : greatest_of narrow.nodes (utilities_for narrow.nodes agent) ≤ greatest_of wide.nodes (utilities_for wide.nodes agent)
+  pub utilities : greatest_of narrow.nodes (utilities_for narrow.nodes agent)
+      ≤ greatest_of wide.nodes (utilities_for wide.nodes agent)
   pub decimals : narrow.decimals ≡ wide.decimals
 
 -- the agent's scope of one of the two counts all that counts in the other

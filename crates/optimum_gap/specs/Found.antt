@@ -57,8 +57,10 @@ TellsReason P found = refused_by P (found_of found)
 
 -- the edited diagram is refused for a reason, or its optimum less that of the diagram is found
 abbrev pub IsGain : DiagramView → DiagramView → ℕ → Found → Type 0
-IsGain d edited agent found = (solving edited ▸▸ gives (IsDifferenceOfOptima edited.nodes d.nodes d.decimals agent)) (found_of found)
+IsGain d edited agent found = (solving edited
+    ▸▸ gives (IsDifferenceOfOptima edited.nodes d.nodes d.decimals agent)) (found_of found)
 
 -- the same the other way round: what the diagram's optimum is above that of the edited one
 abbrev pub IsLoss : DiagramView → DiagramView → ℕ → Found → Type 0
-IsLoss d edited agent found = (solving edited ▸▸ gives (IsDifferenceOfOptima d.nodes edited.nodes d.decimals agent)) (found_of found)
+IsLoss d edited agent found = (solving edited
+    ▸▸ gives (IsDifferenceOfOptima d.nodes edited.nodes d.decimals agent)) (found_of found)

@@ -16,24 +16,31 @@ use Rattle.threshold.specs.Weights.{IsCell}
 
 -- at the fraction the rules s stay best at the decision
 abbrev pub HoldsAtFraction : List NodeView → List RuleView → Place → ℕ → ℕ → ℕ → Type 0
-HoldsAtFraction nodes s place d num den = (moved : List NodeView) → IsMoved nodes place.node place.row place.state num den moved → HoldsAt nodes s moved d
+HoldsAtFraction nodes s place d num den = (moved : List NodeView) → IsMoved nodes place.node
+    place.row place.state num den moved → HoldsAt nodes s moved d
 
 -- at all decisions
 abbrev pub HoldsAtAll : List NodeView → List RuleView → Place → ℕ → ℕ → Type 0
-HoldsAtAll nodes s place num den = (d : ℕ) → IsDecision nodes d → HoldsAtFraction nodes s place d num den
+HoldsAtAll nodes s place num den =
+    (d : ℕ) → IsDecision nodes d → HoldsAtFraction nodes s place d num den
 
--- a diagram with its answer, the diagrams in which the probability is 0 and 1, and room for their plans; somewhere the answer holds
-pub record IsSetting (d : DiagramView) (solved : SolvedView) (place : Place) (nought one : DiagramView) : Type 0 where
-  pub is_diagram : IsDiagram d
-  pub answer : IsAnswer d solved
-  pub cell : IsCell d.nodes place
-  pub ends : AreEnds d place nought one
-  pub room : HasRoom d.nodes MOST_PLAN_CELLS
-  pub somewhere : HoldsSomewhere (HoldsAtAll d.nodes (answered d solved) place)
+-- a diagram with its answer, the diagrams in which the probability is 0 and 1, and room for their plans; somewhere
+-- the answer holds
+pub record IsSetting
+    (d : DiagramView) (solved : SolvedView) (place : Place) (nought one : DiagramView) : Type 0
+  where
+    pub is_diagram : IsDiagram d
+    pub answer : IsAnswer d solved
+    pub cell : IsCell d.nodes place
+    pub ends : AreEnds d place nought one
+    pub room : HasRoom d.nodes MOST_PLAN_CELLS
+    pub somewhere : HoldsSomewhere (HoldsAtAll d.nodes (answered d solved) place)
 
 -- the interval has the fractions from 0 to 1 at which the rules s hold
-pub record IsHeld (nodes : List NodeView) (s : List RuleView) (place : Place) (held : Held) : Type 0 where
-  pub within : (num den : ℕ) → 0 < den → num ≤ den → IsWithin held num den ↔ HoldsAtAll nodes s place num den
+pub record IsHeld
+    (nodes : List NodeView) (s : List RuleView) (place : Place) (held : Held) : Type 0 where
+  pub within :
+      (num den : ℕ) → 0 < den → num ≤ den → IsWithin held num den ↔ HoldsAtAll nodes s place num den
 
 -- the decision of the answer i
 abbrev pub decided : List AnswerView → ℕ → ℕ
@@ -41,7 +48,8 @@ decided answers i = slice_index (map (λ a. a.decision) answers) i
 
 -- the answer stands among those of the report
 abbrev pub IsAnswerOf : SolvedView → AnswerView → Type 0
-IsAnswerOf solved answer = (i : ℕ) × (i < length solved.answers) × (answer ≡ slice_index_or solved.answers i answer)
+IsAnswerOf solved answer =
+    (i : ℕ) × (i < length solved.answers) × (answer ≡ slice_index_or solved.answers i answer)
 
 -- ---- in the names of the code
 -- what is asked may be answered
@@ -50,8 +58,10 @@ IsAsked q = IsSetting q.diagram.now q.solved.now q.place q.nought.now q.one.now
 
 -- the answer holds at the fraction
 abbrev pub HoldsAnswer : Question → AnswerView → ℕ → ℕ → Type 0
-HoldsAnswer q answer num den = HoldsAtFraction q.diagram.now.nodes (answered q.diagram.now q.solved.now) q.place answer.decision num den
+HoldsAnswer q answer num den = HoldsAtFraction q.diagram.now.nodes
+    (answered q.diagram.now q.solved.now) q.place answer.decision num den
 
 -- the interval has the fractions at which all answers hold
 abbrev pub HoldsAllAnswers : Question → Held → Type 0
-HoldsAllAnswers q held = IsHeld q.diagram.now.nodes (answered q.diagram.now q.solved.now) q.place held
+HoldsAllAnswers q held =
+    IsHeld q.diagram.now.nodes (answered q.diagram.now q.solved.now) q.place held

@@ -14,7 +14,8 @@ use Rattle.threshold.specs.declared.weights.Place.{Place}
 abbrev pub place_pass : DiagramView → Place → Pass FaultView
 place_pass d place = span_pass d place.node place.row place.state
 
--- the table's total, what the other states of the row weigh, which is above nought, and their least common multiple, within the range of totals
+-- the table's total, what the other states of the row weigh, which is above nought, and their least common multiple,
+-- within the range of totals
 pub record AreTotals (nodes : List NodeView) (place : Place) (totals : Totals) : Type 0 where
   pub table : totals.table ≡ chance_total nodes place.node
   pub others : pos totals.others ≡ others_weight nodes place.node place.row place.state
@@ -24,7 +25,8 @@ pub record AreTotals (nodes : List NodeView) (place : Place) (totals : Totals) :
   pub small : totals.common ≤ greatest_number
 
 -- the diagram in which the probability is 0 or 1, with that total
-pub record IsEnd (d : DiagramView) (place : Place) (num whole : ℕ) (end : DiagramView) : Type 0 where
+pub record IsEnd
+    (d : DiagramView) (place : Place) (num whole : ℕ) (end : DiagramView) : Type 0 where
   pub moved : IsMoved d.nodes place.node place.row place.state num 1 end.nodes
   pub total : chance_total end.nodes place.node ≡ whole
   pub agents : end.agents ≡ d.agents

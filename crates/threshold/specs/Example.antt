@@ -1,11 +1,13 @@
--- The small diagrams that the tests run: a well with a test of it, a signal that a decision sees or not, and what the pairs pay.
+-- The small diagrams that the tests run: a well with a test of it, a signal that a decision sees or not, and what the
+-- pairs pay.
 use Rattle.std.specs.Prelude.{ℕ, ℤ, Bool, true, false, List, [], ◌∷◌, ◌++◌, pos, negsuc}
 use Rattle.maid_model.specs.declared.diagrams.Kind.{Kind}
 use Rattle.maid_model.specs.declared.diagrams.Kind.TheVariants.{Chance, Decision, Utility}
 use Rattle.maid_model.specs.Views.{NodeView, DiagramView}
 
 abbrev pub node_of : Kind → ℕ → List ℕ → List ℤ → NodeView
-node_of kind states parents cells = record { kind = kind; owner = 0; more = []; states = states; parents = parents; cells = cells }
+node_of kind states parents cells =
+    record { kind = kind; owner = 0; more = []; states = states; parents = parents; cells = cells }
 
 -- whether to test
 abbrev pub test : NodeView
@@ -42,7 +44,8 @@ oil = record { nodes = oil_nodes; agents = 1; decimals = 0 }
 
 -- a signal of two states with these weights, a decision of so many states that sees these nodes, and what the pairs pay
 abbrev pub signal_nodes : List ℤ → List ℕ → ℕ → List ℤ → List NodeView
-signal_nodes weights seen states pays = node_of Chance 2 [] weights ∷ node_of Decision states seen [] ∷ node_of Utility 1 (0 ∷ 1 ∷ []) pays ∷ []
+signal_nodes weights seen states pays = node_of Chance 2 [] weights
+    ∷ node_of Decision states seen [] ∷ node_of Utility 1 (0 ∷ 1 ∷ []) pays ∷ []
 
 -- the first state may have no weight
 abbrev pub weights_of : Bool → List ℤ
@@ -51,7 +54,11 @@ weights_of false = pos 0 ∷ pos 1 ∷ []
 
 -- the decision sees the signal: 3 for the first state in the one case, 1 for the second in the other
 abbrev pub steer : Bool → DiagramView
-steer even = record { nodes = signal_nodes (weights_of even) (0 ∷ []) 2 (pos 3 ∷ pos 0 ∷ pos 0 ∷ pos 1 ∷ []); agents = 1; decimals = 0 }
+steer even = record {
+  nodes = signal_nodes (weights_of even) (0 ∷ []) 2 (pos 3 ∷ pos 0 ∷ pos 0 ∷ pos 1 ∷ []);
+  agents = 1;
+  decimals = 0;
+}
 
 -- an echo of the signal, to which nobody listens
 abbrev pub echo : NodeView
@@ -59,4 +66,8 @@ echo = node_of Chance 2 (0 ∷ []) (pos 1 ∷ pos 2 ∷ pos 2 ∷ pos 1 ∷ [])
 
 -- the decision sees nothing: 1 for sure, or 2 in the one case or the other
 abbrev pub bet : DiagramView
-bet = record { nodes = signal_nodes (weights_of true) [] 3 (pos 1 ∷ pos 2 ∷ pos 0 ∷ pos 1 ∷ pos 0 ∷ pos 2 ∷ []) ++ echo ∷ []; agents = 1; decimals = 0 }
+bet = record {
+  nodes = signal_nodes (weights_of true) [] 3 (pos 1 ∷ pos 2 ∷ pos 0 ∷ pos 1 ∷ pos 0 ∷ pos 2 ∷ []) ++ echo ∷ [];
+  agents = 1;
+  decimals = 0;
+}

@@ -1,4 +1,5 @@
--- What refuses the question how far a probability may move: no other state of the row has weight, or the numbers of the changed diagrams don't surely fit.
+-- What refuses the question how far a probability may move: no other state of the row has weight, or the numbers of
+-- the changed diagrams don't surely fit.
 use Rattle.std.specs.Prelude.{◌≡◌, ◌≢◌, ℕ, ◌<◌, ◌/◌, ℤ, List, map, slice_set, Option, Some, None, pos, ◌*ℤ◌, nat_abs}
 use Rattle.diagram_graph.specs.Edited.{with_nodes}
 use Rattle.first_fault.specs.Passes.{Pass, ◌▸◌, over, rule}
@@ -26,15 +27,24 @@ span_fault faults.NoMemory = None
 
 -- all other states of the row weigh nought
 abbrev pub OthersWeighNought : List NodeView → ℕ → ℕ → ℕ → Type 0
-OthersWeighNought nodes x row state = (s : ℕ) → s < states_of nodes x → s ≢ state → cell_at nodes x row s ≡ pos 0
+OthersWeighNought nodes x row state =
+    (s : ℕ) → s < states_of nodes x → s ≢ state → cell_at nodes x row s ≡ pos 0
 
 -- the least common multiple of the table's total and of what the other states of the row weigh
 abbrev pub IsCommonMultiple : List NodeView → ℕ → ℕ → ℕ → ℕ → Type 0
-IsCommonMultiple nodes x row state total = IsLcm (chance_total nodes x) (nat_abs (others_weight nodes x row state)) total
+IsCommonMultiple nodes x row state total =
+    IsLcm (chance_total nodes x) (nat_abs (others_weight nodes x row state)) total
 
 -- the node with other cells
 abbrev pub node_with : NodeView → List ℤ → NodeView
-node_with node cells = record { kind = node.kind; owner = node.owner; more = node.more; states = node.states; parents = node.parents; cells = cells }
+node_with node cells = record {
+  kind = node.kind;
+  owner = node.owner;
+  more = node.more;
+  states = node.states;
+  parents = node.parents;
+  cells = cells;
+}
 
 -- other cells in x's table
 abbrev pub with_cells : List NodeView → ℕ → List ℤ → List NodeView
@@ -42,7 +52,8 @@ with_cells nodes x cells = slice_set nodes x (node_with (node_at nodes x) cells)
 
 -- the same diagram, the weights of x's table written over this multiple of its total
 abbrev pub with_total : DiagramView → ℕ → ℕ → DiagramView
-with_total d x total = with_nodes d (with_cells d.nodes x (map (λ w. w *ℤ pos (total / chance_total d.nodes x)) (node_at d.nodes x).cells))
+with_total d x total = with_nodes d (with_cells d.nodes x (map
+    (λ w. w *ℤ pos (total / chance_total d.nodes x)) (node_at d.nodes x).cells))
 
 -- the weight bound is kept in each scope, or the place of the first that fails is found
 abbrev pub scoped_pass : DiagramView → Pass FaultView
@@ -52,8 +63,10 @@ scoped_pass d (Some NoOthers) = ⊥
 
 -- the multiple is within the range of totals, and with it in the place of x's total the weight bound is kept
 abbrev pub total_pass : DiagramView → ℕ → ℕ → Pass FaultView
-total_pass d x total = rule (greatest_number < total) (WeightBound (Some x)) ▸ scoped_pass (with_total d x total)
+total_pass d x total =
+    rule (greatest_number < total) (WeightBound (Some x)) ▸ scoped_pass (with_total d x total)
 
 -- the refusals, one behind another
 abbrev pub span_pass : DiagramView → ℕ → ℕ → ℕ → Pass FaultView
-span_pass d x row state = rule (OthersWeighNought d.nodes x row state) NoOthers ▸ over (IsCommonMultiple d.nodes x row state) (total_pass d x)
+span_pass d x row state = rule (OthersWeighNought d.nodes x row state) NoOthers
+    ▸ over (IsCommonMultiple d.nodes x row state) (total_pass d x)

@@ -48,7 +48,8 @@ pub record HoldsSomewhere (P : ℕ → ℕ → Type 0) : Type 0 where
 -- of the fractions of the one interval, the other has those at which the condition holds
 pub record Narrows (P : ℕ → ℕ → Type 0) (before after : Held) : Type 0 where
   pub range : IsRange after
-  pub within : (num den : ℕ) → 0 < den → num ≤ den → IsWithin after num den ↔ (IsWithin before num den × P num den)
+  pub within : (num den : ℕ) → 0 < den → num ≤ den
+      → IsWithin after num den ↔ (IsWithin before num den × P num den)
 
 -- den times the number at num / den that is affine between these numbers at 0 and 1
 abbrev pub between : ℤ → ℤ → ℕ → ℕ → ℤ
@@ -68,7 +69,8 @@ lead_in gains states line choice s = gain_in gains states line choice -ℤ gain_
 
 -- at the fraction no state gains more in the row than the choice
 abbrev pub IsBestIn : List ℤ → List ℤ → ℕ → ℕ → ℕ → ℕ → ℕ → Type 0
-IsBestIn nought one states line choice num den = (s : ℕ) → s < states → IsNotBelow (lead_in nought states line choice s) (lead_in one states line choice s) num den
+IsBestIn nought one states line choice num den = (s : ℕ) → s < states
+    → IsNotBelow (lead_in nought states line choice s) (lead_in one states line choice s) num den
 
 -- the choice of a row
 abbrev pub choice_at : List Row → ℕ → ℕ
@@ -76,7 +78,8 @@ choice_at rows line = (slice_index_or rows line no_row).choice
 
 -- nor in any of the first n rows
 abbrev pub AreBestIn : List ℤ → List ℤ → ℕ → List Row → ℕ → ℕ → ℕ → Type 0
-AreBestIn nought one states rows n num den = (line : ℕ) → line < n → IsBestIn nought one states line (choice_at rows line) num den
+AreBestIn nought one states rows n num den =
+    (line : ℕ) → line < n → IsBestIn nought one states line (choice_at rows line) num den
 
 -- nor in any row
 abbrev pub AllBestIn : List ℤ → List ℤ → ℕ → List Row → ℕ → ℕ → Type 0

@@ -17,21 +17,29 @@ pub record IsCell (nodes : List NodeView) (place : Place) : Type 0 where
   pub row : place.row < rows_of nodes place.node
   pub state : place.state < states_of nodes place.node
 
--- in other rows a weight is so many times as much; in the row the state weighs what is given, and each other state so many times as much
+-- in other rows a weight is so many times as much; in the row the state weighs what is given, and each other state so
+-- many times as much
 abbrev pub scaled : Scales → Bool → Bool → ℕ → ℕ
-scaled scales in_row is_state weight = if in_row then (if is_state then scales.given else scales.each * weight) else weight * scales.times
+scaled scales in_row is_state weight = if in_row
+    then (if is_state then scales.given else scales.each * weight)
+    else weight * scales.times
 
 -- the new weight of a state in a row
 abbrev pub new_weight : List NodeView → Place → Scales → ℕ → ℕ → ℕ
-new_weight nodes place scales r s = scaled scales (r == place.row) (s == place.state) (nat_abs (cell_at nodes place.node r s))
+new_weight nodes place scales r s =
+    scaled scales (r == place.row) (s == place.state) (nat_abs (cell_at nodes place.node r s))
 
 -- the first n cells of the new table
 abbrev pub new_cells : List NodeView → Place → Scales → ℕ → List ℤ
-new_cells nodes place scales n = map pos (map (λ c. new_weight nodes place scales (c / states_of nodes place.node) (c % states_of nodes place.node)) (range_with_len 0 n))
+new_cells nodes place scales n = map pos (map
+    (λ c.
+    new_weight nodes place scales (c / states_of nodes place.node)
+    (c % states_of nodes place.node)) (range_with_len 0 n))
 
 -- all of them
 abbrev pub new_table : List NodeView → Place → Scales → List ℤ
-new_table nodes place scales = new_cells nodes place scales (rows_of nodes place.node * states_of nodes place.node)
+new_table nodes place scales =
+    new_cells nodes place scales (rows_of nodes place.node * states_of nodes place.node)
 
 -- the diagram with the new table
 abbrev pub rewritten : List NodeView → Place → Scales → List NodeView
@@ -42,4 +50,5 @@ rewritten_diagram d place scales = with_nodes d (rewritten d.nodes place scales)
 
 -- no new weight is too great
 abbrev pub KeepsRange : List NodeView → Place → Scales → Type 0
-KeepsRange nodes place scales = (r s : ℕ) → r < rows_of nodes place.node → s < states_of nodes place.node → new_weight nodes place scales r s ≤ greatest_number
+KeepsRange nodes place scales = (r s : ℕ) → r < rows_of nodes place.node
+    → s < states_of nodes place.node → new_weight nodes place scales r s ≤ greatest_number
