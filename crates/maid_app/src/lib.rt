@@ -22,4 +22,6 @@ pub use running::run;
 pub use status::Status;
 
 #[cfg(test)]
+mod device_tests;
+#[cfg(test)]
 mod tests;

@@ -14,7 +14,7 @@ potential (D | X) { }
 potential (U | X D) { data = (3 0 0 1); }
 ";
 
-const REPORT: &str = "maidsolve report 1
+pub const REPORT: &str = "maidsolve report 1
 order: D
 decision D by \"agent\" sees X
 row 1: \"p\" -> 1 \"l\" = 3
@@ -154,7 +154,7 @@ fn files(alloc: Global) -> Result<Vec<(String, Vec<u8>)>, Fail> {
 // Runs the words over a shelf of these files that gives 50 bytes a read at most, an `out` with so much room
 // that takes ten a write, and an `err` that takes seven. Of each the call of that number fails. It gives the
 // status and what `out` and `err` took.
-fn ended(
+pub fn ended(
     alloc: Global,
     words: &str,
     [shelf_call, out_call, err_call]: [u64; 3],
@@ -347,78 +347,6 @@ fn runs_end_as_they_must(rt: HostRuntime) -> Result<(), Fail> {
         assert_eq!(rt; bytes.as_slice(), took.as_bytes(), "{words} {call} {room}");
         assert_eq!(rt; line.as_slice(), told.as_bytes(), "{words} {call} {room}");
     }
-    Ok(())
-}
-
-// A start, four reads of the text and one that gives nothing.
-#[test]
-fn each_call_of_the_shelf_fails_in_turn(rt: HostRuntime) -> Result<(), Fail> {
-    for call in 1..7u64 {
-        let (status, out, err) = ended(rt.alloc(), "solve steer.net", [call, 0, 0], 400)?;
-        assert_eq!(rt; status, Status::ReadFault, "{call}");
-        assert_eq!(rt; out.len(), 0, "{call}");
-        assert_eq!(rt;
-            err.as_slice(),
-            "read fault: steer.net\n".as_bytes(),
-            "{call}"
-        );
-    }
-    let (status, out, _) = ended(rt.alloc(), "solve steer.net", [7, 0, 0], 400)?;
-    assert_eq!(rt; status, Status::Done);
-    assert_eq!(rt; out.as_slice(), REPORT.as_bytes());
-    Ok(())
-}
-
-// Behind the six calls for the diagram a start, three reads of the report and one that gives nothing.
-#[test]
-fn each_call_of_a_check_fails_in_turn(rt: HostRuntime) -> Result<(), Fail> {
-    let words = "check steer.net steer.rep";
-    for call in 1..12u64 {
-        let (status, out, err) = ended(rt.alloc(), words, [call, 0, 0], 400)?;
-        let told = if call < 7 {
-            "read fault: steer.net\n"
-        } else {
-            "read fault: steer.rep\n"
-        };
-        assert_eq!(rt; status, Status::ReadFault, "{call}");
-        assert_eq!(rt; out.len(), 0, "{call}");
-        assert_eq!(rt; err.as_slice(), told.as_bytes(), "{call}");
-    }
-    let (status, out, _) = ended(rt.alloc(), words, [12, 0, 0], 400)?;
-    assert_eq!(rt; status, Status::Done);
-    assert_eq!(rt; out.as_slice(), "accepted\n".as_bytes());
-    Ok(())
-}
-
-// Ten bytes a write.
-#[test]
-fn each_write_of_the_text_fails_in_turn(rt: HostRuntime) -> Result<(), Fail> {
-    for call in 1..14u64 {
-        let (status, out, err) = ended(rt.alloc(), "solve steer.net", [0, call, 0], 400)?;
-        assert_eq!(rt; status, Status::WriteFault, "{call}");
-        assert_eq!(rt; out.len() as u64, 10 * (call - 1), "{call}");
-        assert!(rt; REPORT.as_bytes().starts_with(&out), "{call}");
-        assert_eq!(rt; err.as_slice(), "write fault\n".as_bytes(), "{call}");
-    }
-    let (status, out, _) = ended(rt.alloc(), "solve steer.net", [0, 14, 0], 400)?;
-    assert_eq!(rt; status, Status::Done);
-    assert_eq!(rt; out.as_slice(), REPORT.as_bytes());
-    Ok(())
-}
-
-// Seven bytes a write. The status stays what it is.
-#[test]
-fn each_write_of_the_line_fails_in_turn(rt: HostRuntime) -> Result<(), Fail> {
-    for call in 1..4u64 {
-        let (status, out, err) = ended(rt.alloc(), "solve gone.net", [0, 0, call], 400)?;
-        assert_eq!(rt; status, Status::Absent, "{call}");
-        assert_eq!(rt; out.len(), 0, "{call}");
-        assert_eq!(rt; err.len() as u64, 7 * (call - 1), "{call}");
-        assert!(rt; "absent: gone.net\n".as_bytes().starts_with(&err), "{call}");
-    }
-    let (status, _, err) = ended(rt.alloc(), "solve gone.net", [0, 0, 4], 400)?;
-    assert_eq!(rt; status, Status::Absent);
-    assert_eq!(rt; err.as_slice(), "absent: gone.net\n".as_bytes());
     Ok(())
 }
 
