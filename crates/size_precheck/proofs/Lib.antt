@@ -12,3 +12,4 @@ pub mod Orders
 pub mod Measuring
 pub mod Kept
 pub mod Samples
+mod Dividing

@@ -10,7 +10,7 @@ use Rattle.size_precheck.specs.declared.joints.Table.{Table}
 use Rattle.maid_model.specs.Bounds.{stopped}
 use Rattle.size_precheck.specs.Counts.{counted_cells}
 use Rattle.size_precheck.specs.Greedy.{holding, joined_set}
-use Rattle.size_precheck.specs.Joints.{joint_at, member_count, counted_over, AreStates, IsPut, SomeOf, Tells, Stands, IsStep, tests_of}
+use Rattle.size_precheck.specs.Joints.{joint_at, member_count, counted_over, AreStates, IsCounted, IsPut, SomeOf, Tells, Stands, IsStep, tests_of}
 use Rattle.size_precheck.proofs.Live.{after_step, step_put, step_same, step_live}
 use Rattle.size_precheck.proofs.Scoped.{tables_counted, holding_counted, set_told, made_told, step_scopes, cells_counted}
 
@@ -39,7 +39,7 @@ module _ (nodes : List NodeView) (states : List ℕ) (waiting : NodeSet) (v : �
     pub out_is : (x : ℕ) → IsIn out x ↔ (x ≡ v)
     pub put : (y : ℕ) → IsIn at y → IsPut made (IsIn joint.tables) (IsIn out) (joint_at joints y) (joint_at joints' y)
     pub same : (y : ℕ) → (IsIn at y → ⊥) → joint_at joints' y ≡ joint_at joints y
-    pub counted : (y : ℕ) → IsIn at y → slice_index counts' y ≡ counted_over states (holds (joint_at joints' y).set)
+    pub counted : (y : ℕ) → IsIn at y → IsCounted states joints counts y → IsCounted states joints' counts' y
     pub kept : (y : ℕ) → (IsIn at y → ⊥) → slice_index counts' y ≡ slice_index counts y
 
   pub step_right : (k work cells : ℕ) → AreStates nodes states → Calls → Stands states Before live joints counts
@@ -56,7 +56,7 @@ module _ (nodes : List NodeView) (states : List ℕ) (waiting : NodeSet) (v : �
             (step_same live made v scope_told y (other y m) (joint_at joints y) (λ s. lacks y e ((calls.at_is y).1 (s, m))) (stands.tells y (inl m)))
       ];
       counted = λ y m. elim (true_or_false (holds at y)) as (λ _. slice_index counts' y ≡ counted_over states (holds (joint_at joints' y).set)) [
-        | inl e ↦ calls.counted y e
+        | inl e ↦ calls.counted y e (stands.counted y (inl m))
         | inr e ↦ calls.kept y (lacks y e) ∙ stands.counted y (inl m) ∙ ap (λ (j : Joint). counted_over states (holds j.set)) (sym (calls.same y (lacks y e)))
       ];
     };

@@ -5,10 +5,10 @@ ghost use Rattle.maid_model.specs.declared.limits.TheConstants.{COUNT_END};
 ghost use Rattle.maid_model.specs.Views.{NodeView};
 ghost use Rattle.node_sets.specs.declared.sets.TheConstants.{MOST_NODES};
 ghost use Rattle.node_sets.specs.Sets.{holds, IsIn};
-ghost use Rattle.size_precheck.specs.Joints.{counted_over, joint_at, AreStates, Stands, IsStep, IsStarted, IsRun, IsListOf, IsFewestAt};
+ghost use Rattle.size_precheck.specs.Joints.{counted_over, joint_at, AreStates, IsCounted, IsPut, Stands, IsStep, IsStarted, IsRun, IsListOf, IsFewestAt};
 
-use crate::counts::{add, count_cells, count_members, multiply};
-use crate::joints::{Joint, Table, joint_of, put_table};
+use crate::counts::{add, count_after, count_cells, count_members, multiply};
+use crate::joints::{Joint, Table, joint_of};
 use node_sets::NodeSet;
 use std::alloc::{AllocError, Global};
 
@@ -96,6 +96,43 @@ fn find_fewest(waiting: &[usize], cells: &[u64]) -> usize
     place
 }
 
+/// Puts the table that v's step makes to each of these nodes, after the tables `gone` and the nodes `out` have left, and
+/// counts the cells of their joined sets anew.
+fn put_made(
+    states: &[u64],
+    joints: &mut [Joint],
+    cells: &mut [u64],
+    at: &NodeSet,
+    table: &Table,
+    gone: &NodeSet,
+    out: &NodeSet,
+)
+    requires states { length states.now ≡ MOST_NODES }
+    requires tag { table.now.tag < MOST_NODES }
+    requires len { length cells.old ≡ length joints.old }
+    requires within { (y : ℕ) → IsIn at.now y → y < length joints.old }
+    ensures joints_len { length joints.new ≡ length joints.old }
+    ensures cells_len { length cells.new ≡ length cells.old }
+    ensures put { (y : ℕ) → IsIn at.now y
+        → IsPut table.now (IsIn gone.now) (IsIn out.now) (joint_at joints.old y)
+        (joint_at joints.new y) }
+    ensures counted { (y : ℕ) → IsIn at.now y
+        → IsCounted states.now joints.old cells.old y → IsCounted states.now joints.new cells.new y }
+    ensures same { (y : ℕ) → (IsIn at.now y → ⊥)
+        → joint_at joints.new y ≡ joint_at joints.old y }
+    ensures kept { (y : ℕ) → (IsIn at.now y → ⊥)
+        → slice_index cells.new y ≡ slice_index cells.old y }
+{
+    let mut from = 0;
+    'nodes: while let Some(y) = at.first_from(from) {
+        let before = joint_of(joints, y);
+        let after = before.with_table(table, gone, out);
+        cells[y] = count_after(states, &before.set, &after.set, table.tag, cells[y]);
+        joints[y] = after;
+        from = y + 1;
+    }
+}
+
 /// Joins the tables that hold v, which waits no more, and puts the table over their joined set without v in their place.
 fn eliminate(
     states: &[u64],
@@ -122,19 +159,20 @@ fn eliminate(
     let mut scope = joint.set;
     scope.remove(v);
     let at = scope.intersection(waiting);
-    put_table(
+    let tables = count_members(&joint.tables);
+    let joined = cells[v];
+    put_made(
+        states,
         joints,
+        cells,
         &at,
         &Table { tag: v, scope },
         &joint.tables,
         &NodeSet::of(v),
     );
-    let tables = count_members(&joint.tables);
-    let work = multiply(cells[v], tables as u64);
-    count_sets(states, joints, cells, &at);
     Made {
-        cells: count_cells(states, &scope),
-        work,
+        cells: count_after(states, &joint.set, &scope, v, joined),
+        work: multiply(joined, tables as u64),
         tables,
     }
 }
