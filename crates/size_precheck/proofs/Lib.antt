@@ -13,3 +13,4 @@ pub mod Measuring
 pub mod Kept
 pub mod Samples
 mod Dividing
+mod Above
