@@ -12,6 +12,7 @@ invariant-nodes l = record {
   cells_len : length l.cells ≡ length l.initial.cells;
   put : (y : ℕ) → y < l.from → IsIn l.at y → IsPut l.table (IsIn l.gone) (IsIn l.out) (joint_at l.initial.joints y) (joint_at l.joints y);
   counted : (y : ℕ) → y < l.from → IsIn l.at y → IsCounted l.states l.initial.joints l.initial.cells y → IsCounted l.states l.joints l.cells y;
+  fewest : (y : ℕ) → y < l.from → IsIn l.at y → l.fewest ≤ slice_index l.cells y;
   same : (y : ℕ) → (l.from ≤ y) ⊎ (IsIn l.at y → ⊥) → joint_at l.joints y ≡ joint_at l.initial.joints y;
   kept : (y : ℕ) → (l.from ≤ y) ⊎ (IsIn l.at y → ⊥) → slice_index l.cells y ≡ slice_index l.initial.cells y;
 }
