@@ -141,7 +141,8 @@ pub fn plan_by(
 ///
 /// A step looks at the counts of all nodes that wait, and joins and counts the sets of the node's neighbours anew: at most
 /// as many looks as the square of the number of nodes, and as many steps of counting as the joined sets have pairs of
-/// nodes. It takes memory for a few lists of as many entries as there are nodes.
+/// nodes. It takes memory for a few lists of as many entries as there are nodes. First it makes what all plans of a diagram
+/// share, which `plan_decision` and `plan_run` make once for all of theirs.
 pub fn make_plan(
     alloc: Global,
     diagram: &Diagram,
