@@ -12,3 +12,5 @@ pub mod Orders
 pub mod Measuring
 pub mod Kept
 pub mod Samples
+mod Dividing
+mod Above

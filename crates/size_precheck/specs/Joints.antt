@@ -82,6 +82,10 @@ pub record AreLive (Waiting : ℕ → Type 0) (live : List Table) : Type 0 where
   pub differ : TagsDiffer live
   pub own : Each (λ t. Waiting t.tag → IsIn t.scope t.tag) live
 
+-- the cells counted at y are those of its joined set
+abbrev pub IsCounted : List ℕ → List Joint → List ℕ → ℕ → Type 0
+IsCounted states joints cells y = slice_index cells y ≡ counted_over states (holds (joint_at joints y).set)
+
 -- the scopes of these tables
 abbrev pub tests_of : List Table → List (ℕ → Bool)
 tests_of live = map (λ t. holds t.scope) live
@@ -90,7 +94,7 @@ tests_of live = map (λ t. holds t.scope) live
 pub record Stands (states : List ℕ) (Waiting : ℕ → Type 0) (tables : List Table) (joints : List Joint) (cells : List ℕ) : Type 0 where
   pub live : AreLive Waiting tables
   pub tells : (y : ℕ) → Waiting y → Tells tables y (joint_at joints y)
-  pub counted : (y : ℕ) → Waiting y → slice_index cells y ≡ counted_over states (holds (joint_at joints y).set)
+  pub counted : (y : ℕ) → Waiting y → IsCounted states joints cells y
 
 -- what a step at v makes of these live tables, after which v waits no more
 pub record IsStep (nodes : List NodeView) (states : List ℕ) (Waiting : ℕ → Type 0) (v : ℕ) (before : List Table) (joints : List Joint) (counts : List ℕ) (made : Made) : Type 0 where

@@ -6,3 +6,4 @@ pub mod Laws
 pub mod Joints
 pub mod Runs
 pub mod Example
+pub mod Families

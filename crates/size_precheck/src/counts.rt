@@ -1,6 +1,6 @@
 //! Counts that stop at 10^18, and the cells of sets of nodes.
 
-ghost use Rattle.std.specs.Prelude.{◌≡◌, ◌+◌, ◌*◌, ◌≤◌, length};
+ghost use Rattle.std.specs.Prelude.{◌≡◌, ◌<◌, ◌+◌, ◌*◌, ◌≤◌, IsTrue, length};
 ghost use Rattle.maid_model.specs.declared.limits.TheConstants.{COUNT_END};
 ghost use Rattle.node_sets.specs.declared.sets.TheConstants.{MOST_NODES};
 ghost use Rattle.node_sets.specs.Sets.{holds};
@@ -54,4 +54,30 @@ pub fn count_cells(states: &[u64], set: &NodeSet) -> u64
         from = v + 1;
     }
     cells
+}
+
+/// Whether the two sets are one.
+fn are_same(set: &NodeSet, other: &NodeSet) -> bool
+    ensures { IsTrue result → set.now ≡ other.now }
+{
+    *set == *other
+}
+
+/// The cells of the set `after`, where `before` has `cells`. Where only v has left, its states are divided out.
+pub fn count_after(states: &[u64], before: &NodeSet, after: &NodeSet, v: usize, cells: u64) -> u64
+    requires len { length states.now ≡ MOST_NODES }
+    requires small { v < MOST_NODES }
+    ensures few { result ≤ COUNT_END }
+    ensures counted { cells ≡ counted_over states.now (holds before.now)
+        → result ≡ counted_over states.now (holds after.now) }
+{
+    let mut rest = *before;
+    rest.remove(v);
+    let factor = states[v];
+    // A count that has stopped says nothing of what is left.
+    if are_same(&rest, after) && before.holds(v) && 0 < factor && cells < END {
+        cells / factor
+    } else {
+        count_cells(states, after)
+    }
 }

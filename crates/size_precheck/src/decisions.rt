@@ -5,9 +5,11 @@ ghost use Rattle.std.specs.List.{AllZip};
 ghost use Rattle.maid_model.specs.Nodes.{IsDecision};
 ghost use Rattle.plan_sums.specs.Plans.{gain_plan};
 ghost use Rattle.size_precheck.specs.Decisions.{ArePlans};
+ghost use Rattle.size_precheck.specs.Families.{IsPlanner};
 ghost use Rattle.size_precheck.specs.Sizes.{ArePlansOf, IsPlanned, ListsDecisions, goal_list};
 
-use crate::kinds::{plan_gain, plan_rows};
+use crate::kinds::{gain_by, rows_by};
+use crate::planners::Planner;
 use crate::plans::Plan;
 use crate::simulation::list_members;
 use maid_model::{Diagram, descent_is_tested, goals_of};
@@ -23,8 +25,14 @@ pub struct DecisionPlans {
 }
 
 /// The plans of a decision's states, one for each of its goals in text order.
-fn plan_goals(alloc: Global, diagram: &Diagram, decision: usize) -> Result<Vec<Plan>, AllocError>
-    requires { IsDecision diagram.now.nodes decision }
+fn plan_goals(
+    alloc: Global,
+    diagram: &Diagram,
+    planner: &Planner,
+    decision: usize,
+) -> Result<Vec<Plan>, AllocError>
+    requires decision { IsDecision diagram.now.nodes decision }
+    requires planner { IsPlanner diagram.now.nodes planner.now }
     ensures { IfOk result (λ plans.
         AllZip (IsPlanned diagram.now.nodes)
         (map (λ u. gain_plan diagram.now.nodes decision u)
@@ -34,9 +42,26 @@ fn plan_goals(alloc: Global, diagram: &Diagram, decision: usize) -> Result<Vec<P
     let goals = list_members(alloc, &goals_of(diagram, decision))?;
     let mut plans = Vec::with_capacity(alloc, goals.len())?;
     for goal in &goals {
-        plans.push(plan_gain(alloc, diagram, decision, *goal)?)?;
+        plans.push(gain_by(alloc, diagram, planner, decision, *goal)?)?;
     }
     Ok(plans)
+}
+
+/// The plans of a decision, by what is known of the diagram.
+fn decision_by(
+    alloc: Global,
+    diagram: &Diagram,
+    planner: &Planner,
+    decision: usize,
+) -> Result<DecisionPlans, AllocError>
+    requires decision { IsDecision diagram.now.nodes decision }
+    requires planner { IsPlanner diagram.now.nodes planner.now }
+    ensures { IfOk result (λ plans.
+        ArePlansOf diagram.now.nodes decision plans.rows plans.goals.items) }
+{
+    let rows = rows_by(alloc, diagram, planner, decision)?;
+    let goals = plan_goals(alloc, diagram, planner, decision)?;
+    Ok(DecisionPlans { rows, goals })
 }
 
 /// The plans of a decision: that of its rows, and one for each utility of its agent that descends from it. `make_plan`
@@ -50,23 +75,24 @@ pub fn plan_decision(
     ensures { IfOk result (λ plans.
         ArePlansOf diagram.now.nodes decision plans.rows plans.goals.items) }
 {
-    let rows = plan_rows(alloc, diagram, decision)?;
-    let goals = plan_goals(alloc, diagram, decision)?;
-    Ok(DecisionPlans { rows, goals })
+    let planner = Planner::new(alloc, diagram)?;
+    decision_by(alloc, diagram, &planner, decision)
 }
 
 /// The plans of each decision of the order.
 pub(crate) fn plan_decisions(
     alloc: Global,
     diagram: &Diagram,
+    planner: &Planner,
     order: &[usize],
 ) -> Result<Vec<DecisionPlans>, AllocError>
-    requires { ListsDecisions diagram.now.nodes order.now }
+    requires order { ListsDecisions diagram.now.nodes order.now }
+    requires planner { IsPlanner diagram.now.nodes planner.now }
     ensures { IfOk result (λ plans. ArePlans diagram.now.nodes order.now plans.items) }
 {
     let mut plans = Vec::with_capacity(alloc, order.len())?;
     for decision in order {
-        plans.push(plan_decision(alloc, diagram, *decision)?)?;
+        plans.push(decision_by(alloc, diagram, planner, *decision)?)?;
     }
     Ok(plans)
 }

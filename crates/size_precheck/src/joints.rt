@@ -36,7 +36,7 @@ impl Joint {
     }
 
     /// The same with one table more, after the tables `gone` and the nodes `out` have left.
-    fn with_table(&self, table: &Table, gone: &NodeSet, out: &NodeSet) -> Joint
+    pub fn with_table(&self, table: &Table, gone: &NodeSet, out: &NodeSet) -> Joint
         requires { table.now.tag < MOST_NODES }
         ensures { IsPut table.now (IsIn gone.now) (IsIn out.now) self.now result }
     {

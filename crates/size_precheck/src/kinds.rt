@@ -2,14 +2,74 @@
 
 ghost use Rattle.std.specs.Prelude.{◌≡◌, ◌<◌, ℕ, length, IfOk, OnOk};
 ghost use Rattle.maid_model.specs.declared.diagrams.Kind.TheVariants.{Utility};
+ghost use Rattle.maid_model.specs.Diagrams.{IsDiagram};
 ghost use Rattle.maid_model.specs.Nodes.{IsDecision, node_at};
 ghost use Rattle.maid_model.specs.Relevance.{IsGoal};
 ghost use Rattle.plan_sums.specs.Plans.{row_plan, gain_plan, worth_plan};
+ghost use Rattle.size_precheck.specs.Families.{IsPlanner};
 ghost use Rattle.size_precheck.specs.Sizes.{CanBePlanned, IsMade};
 
-use crate::plans::{Plan, make_plan};
+use crate::planners::Planner;
+use crate::plans::{Plan, plan_by};
 use maid_model::{Diagram, MOST_PARENTS};
 use std::alloc::{AllocError, Global};
+
+/// The plan of a decision's rows, by what is known of the diagram.
+pub fn rows_by(
+    alloc: Global,
+    diagram: &Diagram,
+    planner: &Planner,
+    decision: usize,
+) -> Result<Plan, AllocError>
+    requires decision { IsDecision diagram.now.nodes decision }
+    requires planner { IsPlanner diagram.now.nodes planner.now }
+    ensures asked { OnOk result (CanBePlanned diagram.now.nodes
+        (row_plan diagram.now.nodes decision)) }
+    ensures made { IfOk result (IsMade diagram.now.nodes (row_plan diagram.now.nodes decision)) }
+{
+    let parents = diagram.parents(decision);
+    plan_by(alloc, diagram, planner, parents, None, None)
+}
+
+/// The plan of a decision's states for one of its goals, by what is known of the diagram.
+pub fn gain_by(
+    alloc: Global,
+    diagram: &Diagram,
+    planner: &Planner,
+    decision: usize,
+    goal: usize,
+) -> Result<Plan, AllocError>
+    requires decision { IsDecision diagram.now.nodes decision }
+    requires goal { IsGoal diagram.now.nodes decision goal }
+    requires planner { IsPlanner diagram.now.nodes planner.now }
+    ensures asked { OnOk result (CanBePlanned diagram.now.nodes (gain_plan diagram.now.nodes
+        decision goal)) }
+    ensures made { IfOk result (IsMade diagram.now.nodes (gain_plan diagram.now.nodes decision
+        goal)) }
+{
+    let parents = diagram.parents(decision);
+    let mut keep = Vec::with_capacity(alloc, MOST_PARENTS + 1)?;
+    keep.push(decision)?;
+    keep.extend_from_slice(parents)?;
+    plan_by(alloc, diagram, planner, &keep, Some(decision), Some(goal))
+}
+
+/// The plan of a utility's worth, by what is known of the diagram.
+pub fn worth_by(
+    alloc: Global,
+    diagram: &Diagram,
+    planner: &Planner,
+    utility: usize,
+) -> Result<Plan, AllocError>
+    requires within { utility < length diagram.now.nodes }
+    requires kind { (node_at diagram.now.nodes utility).kind ≡ Utility }
+    requires planner { IsPlanner diagram.now.nodes planner.now }
+    ensures asked { OnOk result (CanBePlanned diagram.now.nodes (worth_plan utility)) }
+    ensures made { IfOk result (IsMade diagram.now.nodes (worth_plan utility)) }
+{
+    let _count = diagram.count();
+    plan_by(alloc, diagram, planner, &[], None, Some(utility))
+}
 
 /// The plan of a decision's rows: its parents are kept. What it sums to is the mass of each row.
 pub fn plan_rows(alloc: Global, diagram: &Diagram, decision: usize) -> Result<Plan, AllocError>
@@ -18,8 +78,8 @@ pub fn plan_rows(alloc: Global, diagram: &Diagram, decision: usize) -> Result<Pl
         (row_plan diagram.now.nodes decision)) }
     ensures made { IfOk result (IsMade diagram.now.nodes (row_plan diagram.now.nodes decision)) }
 {
-    let parents = diagram.parents(decision);
-    make_plan(alloc, diagram, parents, None, None)
+    let planner = Planner::new(alloc, diagram)?;
+    rows_by(alloc, diagram, &planner, decision)
 }
 
 /// The plan of a decision's states for one of its goals: the decision and its parents are kept, and its own rule is left
@@ -37,11 +97,8 @@ pub fn plan_gain(
     ensures made { IfOk result (IsMade diagram.now.nodes (gain_plan diagram.now.nodes decision
         goal)) }
 {
-    let parents = diagram.parents(decision);
-    let mut keep = Vec::with_capacity(alloc, MOST_PARENTS + 1)?;
-    keep.push(decision)?;
-    keep.extend_from_slice(parents)?;
-    make_plan(alloc, diagram, &keep, Some(decision), Some(goal))
+    let planner = Planner::new(alloc, diagram)?;
+    gain_by(alloc, diagram, &planner, decision, goal)
 }
 
 /// The plan of a utility's worth: nothing is kept. What it sums to is the utility's part of an expected utility.
@@ -51,5 +108,6 @@ pub fn plan_worth(alloc: Global, diagram: &Diagram, utility: usize) -> Result<Pl
     ensures asked { OnOk result (CanBePlanned diagram.now.nodes (worth_plan utility)) }
     ensures made { IfOk result (IsMade diagram.now.nodes (worth_plan utility)) }
 {
-    make_plan(alloc, diagram, &[], None, Some(utility))
+    let planner = Planner::new(alloc, diagram)?;
+    worth_by(alloc, diagram, &planner, utility)
 }

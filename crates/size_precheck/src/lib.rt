@@ -7,6 +7,7 @@ mod decisions;
 mod joints;
 mod kinds;
 mod laws;
+mod planners;
 mod plans;
 mod runs;
 mod simulation;

@@ -1,14 +1,17 @@
 //! Plans of elimination.
 
 ghost use Rattle.std.specs.Prelude.{◌≡◌, ◌⊎◌, ◌↔◌, ◌<◌, ℕ, Contains, IfOk};
+ghost use Rattle.maid_model.specs.Diagrams.{IsDiagram};
 ghost use Rattle.node_sets.specs.declared.sets.TheConstants.{MOST_NODES};
 ghost use Rattle.node_sets.specs.Sets.{IsIn};
+ghost use Rattle.size_precheck.specs.Families.{IsPlanner};
 ghost use Rattle.size_precheck.specs.Sizes.{CanBePlanned, IsMade};
 
 use crate::counts::{add, count_cells, multiply};
+use crate::planners::Planner;
 use crate::simulation::eliminate_all;
 use crate::sizes::Size;
-use crate::starts::{list_states, plan_nodes, put_all_first, ruled_nodes, set_of};
+use crate::starts::{plan_nodes, put_all_first, ruled_nodes, set_of};
 use maid_model::Diagram;
 use node_sets::NodeSet;
 use std::alloc::{AllocError, Global};
@@ -87,6 +90,50 @@ impl Plan {
     }
 }
 
+/// The plan of what is asked, by what is known of the diagram.
+pub fn plan_by(
+    alloc: Global,
+    diagram: &Diagram,
+    planner: &Planner,
+    keep: &[usize],
+    without: Option<usize>,
+    utility: Option<usize>,
+) -> Result<Plan, AllocError>
+    requires diagram { IsDiagram diagram.now }
+    requires planner { IsPlanner diagram.now.nodes planner.now }
+    requires asked { CanBePlanned diagram.now.nodes (record {
+      keep = keep.now;
+      without = without;
+      utility = utility;
+    }) }
+    ensures { IfOk result (IsMade diagram.now.nodes (record {
+      keep = keep.now;
+      without = without;
+      utility = utility;
+    })) }
+{
+    let states = planner.states.as_slice();
+    let nodes = plan_nodes(diagram, &planner.families, keep, utility);
+    let kept = set_of(keep);
+    let waiting = nodes.difference(&kept);
+    let ruled = ruled_nodes(&nodes, without);
+    let start = put_all_first(alloc, diagram, planner, &ruled, utility, &waiting)?;
+    let run = eliminate_all(alloc, states, start, waiting)?;
+    let last = count_cells(states, &kept);
+    let cells = add(run.cells, last);
+    let work = add(run.work, multiply(last, run.live as u64));
+    Ok(Plan {
+        keep: Vec::from_slice(alloc, keep)?,
+        without,
+        utility,
+        steps: run.steps,
+        size: Size {
+            cells: cells as u128,
+            work: work as u128,
+        },
+    })
+}
+
 /// The plan that keeps these nodes, leaves the rule of `without` out, and has that utility. Its nodes are the kept ones and
 /// all from which a path of arcs leads to one of them or to the utility; its tables are those of its nodes and of the
 /// utility. Each time that node is eliminated whose joined set, all nodes of the tables that hold it, has fewest cells, and
@@ -94,7 +141,8 @@ impl Plan {
 ///
 /// A step looks at the counts of all nodes that wait, and joins and counts the sets of the node's neighbours anew: at most
 /// as many looks as the square of the number of nodes, and as many steps of counting as the joined sets have pairs of
-/// nodes. It takes memory for a few lists of as many entries as there are nodes.
+/// nodes. It takes memory for a few lists of as many entries as there are nodes. First it makes what all plans of a diagram
+/// share, which `plan_decision` and `plan_run` make once for all of theirs.
 pub fn make_plan(
     alloc: Global,
     diagram: &Diagram,
@@ -113,25 +161,6 @@ pub fn make_plan(
       utility = utility;
     })) }
 {
-    let counts = list_states(alloc, diagram)?;
-    let states = counts.as_slice();
-    let nodes = plan_nodes(diagram, keep, utility);
-    let kept = set_of(keep);
-    let waiting = nodes.difference(&kept);
-    let ruled = ruled_nodes(&nodes, without);
-    let start = put_all_first(alloc, diagram, states, &ruled, utility, &waiting)?;
-    let run = eliminate_all(alloc, states, start, waiting)?;
-    let last = count_cells(states, &kept);
-    let cells = add(run.cells, last);
-    let work = add(run.work, multiply(last, run.live as u64));
-    Ok(Plan {
-        keep: Vec::from_slice(alloc, keep)?,
-        without,
-        utility,
-        steps: run.steps,
-        size: Size {
-            cells: cells as u128,
-            work: work as u128,
-        },
-    })
+    let planner = Planner::new(alloc, diagram)?;
+    plan_by(alloc, diagram, &planner, keep, without, utility)
 }

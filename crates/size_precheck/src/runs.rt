@@ -8,11 +8,13 @@ ghost use Rattle.maid_model.specs.Nodes.{node_at, is_utility};
 ghost use Rattle.maid_model.specs.Views.{NodeView};
 ghost use Rattle.plan_sums.specs.Plans.{PlanView, row_plan, gain_plan, worth_plan};
 ghost use Rattle.size_precheck.specs.Decisions.{ArePlans};
+ghost use Rattle.size_precheck.specs.Families.{IsPlanner};
 ghost use Rattle.size_precheck.specs.Runs.{Includes};
 ghost use Rattle.size_precheck.specs.Sizes.{IsPlanned, ListsDecisions, IsSizeOfRun, goal_list, utility_list};
 
 use crate::decisions::{DecisionPlans, plan_decisions};
-use crate::kinds::plan_worth;
+use crate::kinds::worth_by;
+use crate::planners::Planner;
 use crate::plans::Plan;
 use crate::sizes::Size;
 use maid_model::{COUNT_END, Diagram, Kind};
@@ -73,7 +75,14 @@ fn include_all_goals(plans: &[DecisionPlans], size: Size) -> Size
 }
 
 /// Counts the plan of the node's worth in, if it is a utility.
-fn include_worth(alloc: Global, diagram: &Diagram, u: usize, size: Size) -> Result<Size, AllocError>
+fn include_worth(
+    alloc: Global,
+    diagram: &Diagram,
+    planner: &Planner,
+    u: usize,
+    size: Size,
+) -> Result<Size, AllocError>
+    requires planner { IsPlanner diagram.now.nodes planner.now }
     requires within { u < length diagram.now.nodes }
     requires few { size.work ≤ COUNT_END }
     ensures { IfOk result (λ after.
@@ -83,7 +92,7 @@ fn include_worth(alloc: Global, diagram: &Diagram, u: usize, size: Size) -> Resu
 {
     match diagram.kind(u) {
         Kind::Utility => {
-            let plan = plan_worth(alloc, diagram, u)?;
+            let plan = worth_by(alloc, diagram, planner, u)?;
             Ok(join_sizes(size, plan.size()))
         }
         Kind::Chance | Kind::Decision => Ok(size),
@@ -91,15 +100,21 @@ fn include_worth(alloc: Global, diagram: &Diagram, u: usize, size: Size) -> Resu
 }
 
 /// Counts the plans of the utilities' worths in.
-fn include_worths(alloc: Global, diagram: &Diagram, size: Size) -> Result<Size, AllocError>
-    requires { size.work ≤ COUNT_END }
+fn include_worths(
+    alloc: Global,
+    diagram: &Diagram,
+    planner: &Planner,
+    size: Size,
+) -> Result<Size, AllocError>
+    requires planner { IsPlanner diagram.now.nodes planner.now }
+    requires few { size.work ≤ COUNT_END }
     ensures { IfOk result (λ after.
         Includes diagram.now.nodes (map (λ u. worth_plan u) (utility_list diagram.now.nodes)) size
         after) }
 {
     let mut sum = size;
     for u in 0..diagram.count() {
-        sum = include_worth(alloc, diagram, u, sum)?;
+        sum = include_worth(alloc, diagram, planner, u, sum)?;
     }
     Ok(sum)
 }
@@ -125,10 +140,11 @@ pub fn plan_run(alloc: Global, diagram: &Diagram, order: &[usize]) -> Result<Run
     ensures size { IfOk result (λ run. IsSizeOfRun diagram.now.nodes order.now run.size) }
 {
     let none = Size { cells: 0, work: 0 };
-    let decisions = plan_decisions(alloc, diagram, order)?;
+    let planner = Planner::new(alloc, diagram)?;
+    let decisions = plan_decisions(alloc, diagram, &planner, order)?;
     let rows = include_rows(&decisions, none);
     let gains = include_all_goals(&decisions, rows);
-    let size = include_worths(alloc, diagram, gains)?;
+    let size = include_worths(alloc, diagram, &planner, gains)?;
     Ok(RunPlans { decisions, size })
 }
 

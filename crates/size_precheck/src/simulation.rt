@@ -5,10 +5,10 @@ ghost use Rattle.maid_model.specs.declared.limits.TheConstants.{COUNT_END};
 ghost use Rattle.maid_model.specs.Views.{NodeView};
 ghost use Rattle.node_sets.specs.declared.sets.TheConstants.{MOST_NODES};
 ghost use Rattle.node_sets.specs.Sets.{holds, IsIn};
-ghost use Rattle.size_precheck.specs.Joints.{counted_over, joint_at, AreStates, Stands, IsStep, IsStarted, IsRun, IsListOf, IsFewestAt};
+ghost use Rattle.size_precheck.specs.Joints.{counted_over, joint_at, AreStates, IsCounted, IsPut, Stands, IsStep, IsStarted, IsRun, IsListOf, IsFewestAt};
 
-use crate::counts::{add, count_cells, count_members, multiply};
-use crate::joints::{Joint, Table, joint_of, put_table};
+use crate::counts::{add, count_after, count_cells, count_members, multiply};
+use crate::joints::{Joint, Table, joint_of};
 use node_sets::NodeSet;
 use std::alloc::{AllocError, Global};
 
@@ -32,6 +32,8 @@ struct Made {
     work: u64,
     /// How many tables are joined.
     tables: usize,
+    /// No more cells than any joined set has afterwards, where none had fewer than the one joined.
+    floor: u64,
 }
 
 /// What is known after the last step.
@@ -78,22 +80,68 @@ fn count_sets(states: &[u64], joints: &[Joint], cells: &mut [u64], nodes: &NodeS
     }
 }
 
-/// The place, among the waiting nodes, of the first whose joined set has fewest cells.
-fn find_fewest(waiting: &[usize], cells: &[u64]) -> usize
+/// The place, among the waiting nodes, of the first whose joined set has fewest cells. The search ends at one with no more
+/// than `floor`, since none has less.
+fn find_fewest(waiting: &[usize], cells: &[u64], floor: u64) -> usize
     requires some { 0 < length waiting.now }
+    requires floor { All (λ v. floor ≤ slice_index cells.now v) waiting.now }
     requires within { All (λ v. v < length cells.now) waiting.now }
     ensures { IsFewestAt waiting.now cells.now result }
 {
     let mut place = 0;
     let mut fewest = cells[waiting[0]];
-    'places: for i in 1..waiting.len() {
+    let mut i = 1;
+    'places: while i < waiting.len() && floor < fewest {
         let count = cells[waiting[i]];
         if count < fewest {
             place = i;
             fewest = count;
         }
+        i += 1;
     }
     place
+}
+
+/// Puts the table that v's step makes to each of these nodes, after the tables `gone` and the nodes `out` have left, and
+/// counts the cells of their joined sets anew. It answers no more than the fewest of them.
+fn put_made(
+    states: &[u64],
+    joints: &mut [Joint],
+    cells: &mut [u64],
+    at: &NodeSet,
+    table: &Table,
+    gone: &NodeSet,
+    out: &NodeSet,
+) -> u64
+    requires states { length states.now ≡ MOST_NODES }
+    requires tag { table.now.tag < MOST_NODES }
+    requires len { length cells.old ≡ length joints.old }
+    requires within { (y : ℕ) → IsIn at.now y → y < length joints.old }
+    ensures joints_len { length joints.new ≡ length joints.old }
+    ensures cells_len { length cells.new ≡ length cells.old }
+    ensures put { (y : ℕ) → IsIn at.now y
+        → IsPut table.now (IsIn gone.now) (IsIn out.now) (joint_at joints.old y)
+        (joint_at joints.new y) }
+    ensures counted { (y : ℕ) → IsIn at.now y
+        → IsCounted states.now joints.old cells.old y → IsCounted states.now joints.new cells.new y }
+    ensures fewest { (y : ℕ) → IsIn at.now y → result ≤ slice_index cells.new y }
+    ensures same { (y : ℕ) → (IsIn at.now y → ⊥)
+        → joint_at joints.new y ≡ joint_at joints.old y }
+    ensures kept { (y : ℕ) → (IsIn at.now y → ⊥)
+        → slice_index cells.new y ≡ slice_index cells.old y }
+{
+    let mut fewest = u64::MAX;
+    let mut from = 0;
+    'nodes: while let Some(y) = at.first_from(from) {
+        let before = joint_of(joints, y);
+        let after = before.with_table(table, gone, out);
+        let count = count_after(states, &before.set, &after.set, table.tag, cells[y]);
+        cells[y] = count;
+        joints[y] = after;
+        fewest = fewest.min(count);
+        from = y + 1;
+    }
+    fewest
 }
 
 /// Joins the tables that hold v, which waits no more, and puts the table over their joined set without v in their place.
@@ -114,6 +162,9 @@ fn eliminate(
     ensures cells_len { length cells.new ≡ length cells.old }
     ensures few { result.cells ≤ COUNT_END }
     ensures little { result.work ≤ COUNT_END }
+    ensures floor { ((y : ℕ) → IsIn waiting.now y
+        → slice_index cells.old v ≤ slice_index cells.old y) → (y : ℕ) → IsIn waiting.now y
+        → result.floor ≤ slice_index cells.new y }
     ensures step { (nodes : List NodeView) (live : List Table) → AreStates nodes states.now
         → Stands states.now (λ y. IsIn waiting.now y ⊎ (y ≡ v)) live joints.old cells.old
         → IsStep nodes states.now (IsIn waiting.now) v live joints.new cells.new result }
@@ -122,20 +173,22 @@ fn eliminate(
     let mut scope = joint.set;
     scope.remove(v);
     let at = scope.intersection(waiting);
-    put_table(
+    let tables = count_members(&joint.tables);
+    let joined = cells[v];
+    let fewest = put_made(
+        states,
         joints,
+        cells,
         &at,
         &Table { tag: v, scope },
         &joint.tables,
         &NodeSet::of(v),
     );
-    let tables = count_members(&joint.tables);
-    let work = multiply(cells[v], tables as u64);
-    count_sets(states, joints, cells, &at);
     Made {
-        cells: count_cells(states, &scope),
-        work,
+        cells: count_after(states, &joint.set, &scope, v, joined),
+        work: multiply(joined, tables as u64),
         tables,
+        floor: joined.min(fewest),
     }
 }
 
@@ -172,14 +225,16 @@ pub fn eliminate_all(
     let counts: &mut [u64] = &mut counts;
     count_sets(states, joints, counts, &rest);
     let mut work = 0;
+    let mut floor = 0;
     'steps: while !list.is_empty() {
-        let v = list.remove(find_fewest(&list, counts));
+        let v = list.remove(find_fewest(&list, counts, floor));
         rest.remove(v);
         steps.push(v)?;
         let made = eliminate(states, joints, counts, &rest, v);
         live = live + 1 - made.tables;
         cells = add(cells, made.cells);
         work = add(work, made.work);
+        floor = made.floor;
     }
     Ok(Run {
         steps,

@@ -9,13 +9,15 @@ ghost use Rattle.node_sets.specs.Sets.{holds, IsIn};
 ghost use Rattle.plan_sums.specs.Plans.{plan_nodes};
 ghost use Rattle.plan_sums.specs.Sizes.{IsPlan};
 ghost use Rattle.size_precheck.specs.declared.joints.Table.{Table};
-ghost use Rattle.size_precheck.specs.Joints.{counted_over, joint_at, AreStates, Tells, IsListOf, IsStarted, family_test, parents_test};
+ghost use Rattle.size_precheck.specs.Families.{family_at, AreAbove, IsPlanner};
+ghost use Rattle.size_precheck.specs.Joints.{joint_at, AreStates, Tells, IsListOf, IsStarted, family_test, parents_test};
 
 use crate::counts::{add, count_cells};
 use crate::joints::{Joint, Table, put_table};
+use crate::planners::{Family, Planner};
 use crate::simulation::Start;
 use maid_model::{Diagram, MOST_NODES};
-use node_sets::{NodeSet, ancestors};
+use node_sets::NodeSet;
 use plan_sums::plan_scopes;
 use std::alloc::{AllocError, Global};
 
@@ -42,9 +44,31 @@ pub fn set_of(list: &[usize]) -> NodeSet
     set
 }
 
+/// These nodes, and all from which a path of arcs leads to one of them.
+fn nodes_above_all(families: &[Family], ends: &NodeSet) -> NodeSet
+    requires { (t : ℕ) → IsIn ends.now t → t < length families.now }
+    ensures { (v : ℕ) → IsIn result v
+        ↔ ((to : ℕ) × IsIn ends.now to × IsIn (family_at families.now to).above v) }
+{
+    let mut nodes = NodeSet::empty();
+    let mut from = 0;
+    'ends: while let Some(to) = ends.first_from(from) {
+        nodes = nodes.union(&families[to].above);
+        from = to + 1;
+    }
+    nodes
+}
+
 /// The nodes of a plan: those that are kept, and those from which a path of arcs leads to one of them or to the utility.
-pub fn plan_nodes(diagram: &Diagram, keep: &[usize], utility: Option<usize>) -> NodeSet
+pub fn plan_nodes(
+    diagram: &Diagram,
+    families: &[Family],
+    keep: &[usize],
+    utility: Option<usize>,
+) -> NodeSet
     requires diagram { IsDiagram diagram.now }
+    requires all { length families.now ≡ length diagram.now.nodes }
+    requires above { AreAbove diagram.now.nodes families.now }
     requires plan { IsPlan diagram.now.nodes (record {
       keep = keep.now;
       without = None;
@@ -64,11 +88,11 @@ pub fn plan_nodes(diagram: &Diagram, keep: &[usize], utility: Option<usize>) -> 
     match utility {
         Some(u) => {
             ends.insert(u);
-            let mut nodes = ancestors(diagram, ends);
+            let mut nodes = nodes_above_all(families, &ends);
             nodes.remove(u);
             nodes
         }
-        None => ancestors(diagram, ends),
+        None => nodes_above_all(families, &ends),
     }
 }
 
@@ -84,26 +108,22 @@ pub fn ruled_nodes(nodes: &NodeSet, without: Option<usize>) -> NodeSet
     ruled
 }
 
-/// Puts a first table, and gives its cells.
-fn put_first(states: &[u64], joints: &mut [Joint], waiting: &NodeSet, table: &Table) -> u64
-    requires states { length states.now ≡ MOST_NODES }
+/// Puts a first table.
+fn put_first(joints: &mut [Joint], waiting: &NodeSet, table: &Table)
     requires tag { table.now.tag < MOST_NODES }
     requires within { (y : ℕ) → IsIn waiting.now y → y < length joints.old }
     ensures len { length joints.new ≡ length joints.old }
     ensures tells { (live : List Table) (y : ℕ) → IsIn waiting.now y
         → Tells live y (joint_at joints.old y)
         → Tells (live ++ table.now ∷ []) y (joint_at joints.new y) }
-    ensures cells { result ≡ counted_over states.now (holds table.now.scope) }
-    ensures few { result ≤ COUNT_END }
 {
     let none = NodeSet::empty();
     let at = table.scope.intersection(waiting);
     put_table(joints, &at, table, &none, &none);
-    count_cells(states, &table.scope)
 }
 
 /// The table of a chance or decision node: over the node and its parents.
-fn node_table(diagram: &Diagram, v: usize) -> Table
+pub fn node_table(diagram: &Diagram, v: usize) -> Table
     requires { v < length diagram.now.nodes }
     ensures tag { result.tag ≡ v }
     ensures scope { (u : ℕ) → IsIn result.scope u
@@ -132,13 +152,12 @@ fn utility_table(diagram: &Diagram, u: usize) -> Table
 pub fn put_all_first(
     alloc: Global,
     diagram: &Diagram,
-    states: &[u64],
+    planner: &Planner,
     ruled: &NodeSet,
     utility: Option<usize>,
     waiting: &NodeSet,
 ) -> Result<Start, AllocError>
-    requires len { length states.now ≡ MOST_NODES }
-    requires states { AreStates diagram.now.nodes states.now }
+    requires planner { IsPlanner diagram.now.nodes planner.now }
     requires ruled { (v : ℕ) → IsIn ruled.now v → v < length diagram.now.nodes }
     requires waiting { (v : ℕ) → IsIn waiting.now v → v < length diagram.now.nodes }
     requires known { (u : ℕ) → utility ≡ Some u → u < length diagram.now.nodes }
@@ -148,24 +167,28 @@ pub fn put_all_first(
     ensures few { IfOk result (λ start. start.live ≤ MOST_NODES + 1) }
     ensures started { IfOk result (λ start.
         (list : List ℕ) → IsListOf ruled.now list
-        → IsStarted diagram.now.nodes states.now (IsIn waiting.now)
+        → IsStarted diagram.now.nodes planner.now.states.items (IsIn waiting.now)
         (map (family_test diagram.now.nodes) list
         ++ map (parents_test diagram.now.nodes) (option_to_list utility))
         start) }
 {
+    let states = planner.states.as_slice();
+    let families = planner.families.as_slice();
     let mut joints = vec![in alloc; Joint::empty(); diagram.count()]?;
     let mut live = 0;
     let mut cells = 0;
     let mut from = 0;
     'tables: while let Some(v) = ruled.first_from(from) {
-        let table = node_table(diagram, v);
-        cells = add(cells, put_first(states, &mut joints, waiting, &table));
+        let family = families[v];
+        put_first(&mut joints, waiting, &family.table);
+        cells = add(cells, family.cells);
         live += 1;
         from = v + 1;
     }
     if let Some(u) = utility {
         let table = utility_table(diagram, u);
-        cells = add(cells, put_first(states, &mut joints, waiting, &table));
+        put_first(&mut joints, waiting, &table);
+        cells = add(cells, count_cells(states, &table.scope));
         live += 1;
     }
     Ok(Start {

@@ -4,10 +4,10 @@ use Rattle.size_precheck.specs.Decisions.{ArePlans}
 use Rattle.size_precheck.proofs.Kept.{plans_next}
 use Rattle.size_precheck.proofs.decisions.plan_decisions.Goals as goal
 
-pub plan_decision-requires : goal.plan_decision-requires
-plan_decision-requires c = (c.requires.all _).0 (Contains-get_or _ _ 0 c.loop-decision-test.true)
+pub decision_by-requires-clause-decision : goal.decision_by-requires-clause-decision
+decision_by-requires-clause-decision c = (c.requires.order.all _).0 (Contains-get_or _ _ 0 c.loop-decision-test.true)
 
 pub loop-decision-preserved : goal.loop-decision-preserved
 loop-decision-preserved c =
     subst (ArePlans c.args.diagram.now.nodes (take (c.loop-decision.decision-index + 1) c.args.order.now)) (sym c.in_ok-push.ensures.items)
-    (plans_next c.args.diagram.now.nodes c.args.order.now c.loop-decision.plans.items c.loop-decision.decision-index c.in_ok-plan_decision.field-0 c.loop-decision-test.true c.loop-decision.invariant c.in_ok-plan_decision.ensures)
+    (plans_next c.args.diagram.now.nodes c.args.order.now c.loop-decision.plans.items c.loop-decision.decision-index c.in_ok-decision_by.field-0 c.loop-decision-test.true c.loop-decision.invariant c.in_ok-decision_by.ensures)

@@ -10,8 +10,8 @@ loop-goal-preserved c =
     let nodes = c.args.diagram.now.nodes in
     let goals = c.deref-goal-items.result.now in
     subst (AllZip (IsPlanned nodes) (map (λ u. gain_plan nodes c.args.decision u) (take (c.loop-goal.goal-index + 1) goals))) (sym c.in_ok-push.ensures.items)
-    (zip_next (IsPlanned nodes) (λ (u : ℕ). gain_plan nodes c.args.decision u) goals c.loop-goal.plans.items c.loop-goal.goal-index 0 c.in_ok-plan_gain.field-0 c.loop-goal-test.true c.loop-goal.invariant
-    (record { asked = c.in_ok-plan_gain.ensures.asked; made = c.in_ok-plan_gain.ensures.made }))
+    (zip_next (IsPlanned nodes) (λ (u : ℕ). gain_plan nodes c.args.decision u) goals c.loop-goal.plans.items c.loop-goal.goal-index 0 c.in_ok-gain_by.field-0 c.loop-goal-test.true c.loop-goal.invariant
+    (record { asked = c.in_ok-gain_by.ensures.asked; made = c.in_ok-gain_by.ensures.made }))
 
 pub returns : goal.returns
 returns c =

@@ -1,4 +1,5 @@
 use Rattle.std.proofs.Common.{◌≡◌, ◌⊎◌, ◌↔◌, ◌∙◌, ℕ, ◌+◌, ◌≤◌, ◌^◌, ◌-◌, Bool, List, length, get_or, refl, subst, sym, ap, inl, inr, arith, vec_len}
+use Rattle.std.specs.Prelude.{slice_index}
 use Rattle.std.proofs.lemmas.List.{get_or_default, length_push}
 use Rattle.maid_model.specs.Placing.{Remains}
 use Rattle.maid_model.specs.Views.{NodeView}
@@ -53,6 +54,13 @@ steps-preserved c =
       live = let a = ap length c.in_ok-push.ensures.items ∙ length_push c.steps.steps.items v in let b = inv.live in omega arith;
       few = subst (λ (n : ℕ). n ≤ 10 ^ 18) (sym c.add-cells.ensures) (stopped_few _);
       little = subst (λ (n : ℕ). n ≤ 10 ^ 18) (sym c.add-work.ensures) (stopped_few _);
+      floor = c.eliminate-made.ensures.floor (λ y m.
+          let old : IsIn c.steps.rest y = ((c.remove.ensures y).0 m).0 in
+          let a = some_at y list (inv.list.all y old) in
+          let l = best.fewest a.0 a.1 in
+          let e : slice_index c.steps.counts (get_or list a.0 0) ≡ slice_index c.steps.counts y = ap (λ x. slice_index c.steps.counts x) a.2 in
+          let f : slice_index c.steps.counts v ≡ slice_index c.steps.counts (get_or list i 0) = ap (λ x. slice_index c.steps.counts x) v_is in
+          omega arith);
       at = λ (nodes : List NodeView) (scopes : List (ℕ → Bool)) (started : IsStarted nodes states waiting scopes c.args.start).
           let now = inv.at nodes scopes started in
           let before : Stands states (λ y. IsIn c.remove.new.self y ⊎ (y ≡ v)) now.tables c.steps.joints c.steps.counts =

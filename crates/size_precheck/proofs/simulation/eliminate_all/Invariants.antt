@@ -1,4 +1,5 @@
 use Rattle.std.proofs.Common.{◌≡◌, ◌+◌, ◌↔◌, ◌^◌, ◌≤◌, ℕ, Bool, List, length}
+use Rattle.std.specs.Prelude.{slice_index}
 use Rattle.maid_model.specs.Placing.{Remains}
 use Rattle.maid_model.specs.Views.{NodeView}
 use Rattle.node_sets.specs.Sets.{IsIn}
@@ -16,6 +17,7 @@ invariant-steps l = record {
   live : l.live ≤ 257 + length l.steps.items;
   few : l.cells ≤ 10 ^ 18;
   little : l.work ≤ 10 ^ 18;
+  floor : (y : ℕ) → IsIn l.rest y → l.floor ≤ slice_index l.counts y;
   at : (nodes : List NodeView) (scopes : List (ℕ → Bool)) → IsStarted nodes l.states (IsIn l.fn.waiting) scopes l.fn.start
       → At nodes l.states (IsIn l.fn.waiting) (IsIn l.rest) scopes l.steps.items l.joints l.counts l.live l.cells l.work;
 }

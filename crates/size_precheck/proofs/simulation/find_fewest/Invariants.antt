@@ -1,4 +1,4 @@
-use Rattle.std.proofs.Common.{◌≡◌, ◌<◌, ◌≤◌, ℕ, length}
+use Rattle.std.proofs.Common.{◌≡◌, ◌-◌, ◌<◌, ◌≤◌, ℕ, length}
 use Rattle.std.specs.Prelude.{slice_index}
 use Rattle.size_precheck.proofs.simulation.find_fewest.Given as goal
 
@@ -11,3 +11,6 @@ invariant-places l = record {
   least : (k : ℕ) → k < l.i → slice_index l.cells (slice_index l.waiting l.place) ≤ slice_index l.cells (slice_index l.waiting k);
   first : (k : ℕ) → k < l.place → slice_index l.cells (slice_index l.waiting l.place) < slice_index l.cells (slice_index l.waiting k);
 }
+
+abbrev pub decreases-places : goal.decreases-places
+decreases-places l = length l.waiting - l.i

@@ -2,14 +2,14 @@ use Rattle.std.proofs.Common.{◌≡◌, ◌∙◌, ℕ, List, [], ◌∷◌, �
 use Rattle.maid_model.specs.Nodes.{parents_of}
 use Rattle.size_precheck.specs.Sizes.{CanBePlanned}
 use Rattle.size_precheck.proofs.Measuring.{gain_planned, on_ok}
-use Rattle.size_precheck.proofs.kinds.plan_gain.Goals as goal
+use Rattle.size_precheck.proofs.kinds.gain_by.Goals as goal
 
-pub make_plan-requires : goal.make_plan-requires
-make_plan-requires c =
+pub plan_by-requires-clause-asked : goal.plan_by-requires-clause-asked
+plan_by-requires-clause-asked c =
     let nodes = c.args.diagram.now.nodes in
     let keep : c.deref.result.now ≡ c.args.decision ∷ parents_of nodes c.args.decision = c.deref.ensures.value ∙ c.in_ok-extend_from_slice.ensures.items ∙ ap (λ (xs : List ℕ). xs ++ c.parents-parents.result.now) (c.in_ok-push.ensures.items ∙ ap (λ (xs : List ℕ). xs ++ c.args.decision ∷ []) c.in_ok-keep.ensures.items) ∙ ap (λ (xs : List ℕ). c.args.decision ∷ xs) c.parents-parents.ensures.parents in
     subst (λ (xs : List ℕ). CanBePlanned nodes (record { keep = xs; without = Some c.args.decision; utility = Some c.args.goal })) (sym keep)
     (gain_planned nodes c.args.decision c.args.goal c.parents-parents.ensures.diagram.graph c.requires.decision c.requires.goal)
 
 pub returns-clause-asked : goal.returns-clause-asked
-returns-clause-asked c = on_ok c.make_plan.result (gain_planned c.args.diagram.now.nodes c.args.decision c.args.goal c.parents-parents.ensures.diagram.graph c.requires.decision c.requires.goal)
+returns-clause-asked c = on_ok c.plan_by.result (gain_planned c.args.diagram.now.nodes c.args.decision c.args.goal c.parents-parents.ensures.diagram.graph c.requires.decision c.requires.goal)

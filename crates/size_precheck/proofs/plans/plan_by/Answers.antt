@@ -9,13 +9,13 @@ use Rattle.size_precheck.proofs.Counting.{counted_few}
 use Rattle.size_precheck.proofs.Orders.{greedy_same, order_of_greedy}
 use Rattle.size_precheck.proofs.Planning.{all_known, all_plain, in_waiting, ruled_listed, scopes_listed, kept_counted, last_cells, last_work}
 use Rattle.size_precheck.proofs.Starting.{kept_known}
-use Rattle.size_precheck.proofs.plans.make_plan.Goals as goal
+use Rattle.size_precheck.proofs.plans.plan_by.Goals as goal
 
 pub set_of-kept-requires : goal.set_of-kept-requires
-set_of-kept-requires c v m = let a = kept_known c.args.diagram.now.nodes _ c.requires.is_plan v m in let b = c.in_ok-counts.ensures.diagram.limits.nodes in omega arith
+set_of-kept-requires c v m = let a = kept_known c.args.diagram.now.nodes _ c.requires.asked.is_plan v m in let b = c.requires.diagram.limits.nodes in omega arith
 
 pub ruled_nodes-ruled-requires : goal.ruled_nodes-ruled-requires
-ruled_nodes-ruled-requires c d e = let a = (c.requires.decision d e).within in let b = c.in_ok-counts.ensures.diagram.limits.nodes in omega arith
+ruled_nodes-ruled-requires c d e = let a = (c.requires.asked.decision d e).within in let b = c.requires.diagram.limits.nodes in omega arith
 
 pub put_all_first-requires-clause-ruled : goal.put_all_first-requires-clause-ruled
 put_all_first-requires-clause-ruled c v m =
@@ -30,18 +30,18 @@ put_all_first-requires-clause-waiting c v m =
 pub put_all_first-requires-clause-unruled : goal.put_all_first-requires-clause-unruled
 put_all_first-requires-clause-unruled c u some m =
     let plan : PlanView = record { keep = c.args.keep.now; without = c.args.without; utility = c.args.utility } in
-    all_plain c.args.diagram.now.nodes plan c.plan_nodes-nodes.result c.plan_nodes-nodes.ensures c.requires.is_plan u some ((c.ruled_nodes-ruled.ensures u).0 m).0
+    all_plain c.args.diagram.now.nodes plan c.plan_nodes-nodes.result c.plan_nodes-nodes.ensures c.requires.asked.is_plan u some ((c.ruled_nodes-ruled.ensures u).0 m).0
 
 pub put_all_first-requires-clause-kept : goal.put_all_first-requires-clause-kept
 put_all_first-requires-clause-kept c u some m =
     let plan : PlanView = record { keep = c.args.keep.now; without = c.args.without; utility = c.args.utility } in
-    all_plain c.args.diagram.now.nodes plan c.plan_nodes-nodes.result c.plan_nodes-nodes.ensures c.requires.is_plan u some ((c.difference-waiting.ensures u).0 m).0
+    all_plain c.args.diagram.now.nodes plan c.plan_nodes-nodes.result c.plan_nodes-nodes.ensures c.requires.asked.is_plan u some ((c.difference-waiting.ensures u).0 m).0
 
 pub eliminate_all-requires-clause-within : goal.eliminate_all-requires-clause-within
 eliminate_all-requires-clause-within c y m =
     let plan : PlanView = record { keep = c.args.keep.now; without = c.args.without; utility = c.args.utility } in
     let a = all_known c.args.diagram.now.nodes plan c.plan_nodes-nodes.result c.plan_nodes-nodes.ensures y ((c.difference-waiting.ensures y).0 m).0 in
-    let b = c.in_ok-counts.ensures.diagram.limits.nodes in
+    let b = c.requires.diagram.limits.nodes in
     (omega (arith, c.in_ok-start.ensures.len), omega arith)
 
 pub eliminate_all-requires-clause-started : goal.eliminate_all-requires-clause-started
@@ -50,7 +50,8 @@ eliminate_all-requires-clause-started c =
     let plan : PlanView = record { keep = c.args.keep.now; without = c.args.without; utility = c.args.utility } in (
       nodes,
       map (family_test nodes) (ruled_nodes nodes plan) ++ map (parents_test nodes) (option_to_list plan.utility),
-      c.in_ok-start.ensures.started (ruled_nodes nodes plan) (ruled_listed nodes plan c.plan_nodes-nodes.result c.plan_nodes-nodes.ensures c.ruled_nodes-ruled.result c.ruled_nodes-ruled.ensures),
+      subst (λ (xs : List ℕ). IsStarted nodes xs (IsIn c.difference-waiting.result) (map (family_test nodes) (ruled_nodes nodes plan) ++ map (parents_test nodes) (option_to_list plan.utility)) c.in_ok-start.start) (sym c.as_slice-states.ensures.value)
+          (c.in_ok-start.ensures.started (ruled_nodes nodes plan) (ruled_listed nodes plan c.plan_nodes-nodes.result c.plan_nodes-nodes.ensures c.ruled_nodes-ruled.result c.ruled_nodes-ruled.ensures)),
     )
 
 pub add-cells-requires-clause-b : goal.add-cells-requires-clause-b
@@ -61,10 +62,11 @@ returns c =
     let nodes : List NodeView = c.args.diagram.now.nodes in
     let plan : PlanView = record { keep = c.args.keep.now; without = c.args.without; utility = c.args.utility } in
     let states = c.as_slice-states.result.now in
-    let are : AreStates nodes states = subst (λ (xs : List ℕ). AreStates nodes xs) (sym c.as_slice-states.ensures.value) c.in_ok-counts.ensures.states in
+    let are : AreStates nodes states = subst (λ (xs : List ℕ). AreStates nodes xs) (sym c.as_slice-states.ensures.value) c.requires.planner.states in
     let listed = ruled_listed nodes plan c.plan_nodes-nodes.result c.plan_nodes-nodes.ensures c.ruled_nodes-ruled.result c.ruled_nodes-ruled.ensures in
     let started : IsStarted nodes states (IsIn c.difference-waiting.result) (first_scopes nodes plan) c.in_ok-start.start =
-    subst (λ (ss : List (ℕ → Bool)). IsStarted nodes states (IsIn c.difference-waiting.result) ss c.in_ok-start.start) (sym (scopes_listed mass_cells nodes [] plan)) (c.in_ok-start.ensures.started (ruled_nodes nodes plan) listed) in
+    subst (λ (xs : List ℕ). IsStarted nodes xs (IsIn c.difference-waiting.result) (first_scopes nodes plan) c.in_ok-start.start) (sym c.as_slice-states.ensures.value)
+    (subst (λ (ss : List (ℕ → Bool)). IsStarted nodes c.args.planner.now.states.items (IsIn c.difference-waiting.result) ss c.in_ok-start.start) (sym (scopes_listed mass_cells nodes [] plan)) (c.in_ok-start.ensures.started (ruled_nodes nodes plan) listed)) in
     let run : IsRun nodes (IsIn c.difference-waiting.result) (first_scopes nodes plan) c.in_ok-run.run' = c.in_ok-run.ensures.run nodes (first_scopes nodes plan) started in
     let greedy : IsGreedyOrder nodes plan c.in_ok-run.run'.steps.items =
     greedy_same nodes (IsIn c.difference-waiting.result) (Contains (eliminated_nodes nodes plan)) (first_scopes nodes plan) c.in_ok-run.run'.steps.items

@@ -1,0 +1,8 @@
+use Rattle.size_precheck.proofs.Measuring.{worth_planned, on_ok}
+use Rattle.size_precheck.proofs.kinds.worth_by.Goals as goal
+
+pub plan_by-requires-clause-asked : goal.plan_by-requires-clause-asked
+plan_by-requires-clause-asked c = worth_planned c.args.diagram.now.nodes c.args.utility c.requires.within c.requires.kind
+
+pub returns-clause-asked : goal.returns-clause-asked
+returns-clause-asked c = on_ok c.plan_by.result (worth_planned c.args.diagram.now.nodes c.args.utility c.requires.within c.requires.kind)

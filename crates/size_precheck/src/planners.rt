@@ -1,0 +1,99 @@
+//! What all plans of a diagram share.
+
+ghost use Rattle.std.specs.Prelude.{◌≡◌, ◌<◌, ◌↔◌, ℕ, length, IfOk, OnOk};
+ghost use Rattle.maid_model.specs.Diagrams.{IsDiagram};
+ghost use Rattle.maid_model.specs.Graph.{Arc, IsPath};
+ghost use Rattle.node_sets.specs.declared.sets.TheConstants.{MOST_NODES};
+ghost use Rattle.node_sets.specs.Sets.{IsIn};
+ghost use Rattle.size_precheck.specs.Families.{family_at, AreAbove, AreFamilies, IsFamily, IsPlanner};
+ghost use Rattle.size_precheck.specs.Joints.{AreStates};
+
+use crate::counts::count_cells;
+use crate::joints::Table;
+use crate::starts::{list_states, node_table};
+use maid_model::Diagram;
+use node_sets::{NodeSet, ancestors};
+use std::alloc::{AllocError, Global};
+
+/// What is known of a node, whatever the plan.
+#[derive(Clone, Copy, Debug)]
+pub struct Family {
+    /// The table over the node and its parents.
+    pub table: Table,
+    /// The cells of that table.
+    pub cells: u64,
+    /// The node, and all from which a path of arcs leads to it.
+    pub above: NodeSet,
+}
+
+/// What is known of a diagram, whatever the plan.
+#[derive(Drop)]
+pub struct Planner {
+    /// The counts of states of all numbers, 1 where there is no node.
+    pub states: Vec<u64>,
+    /// One for each node.
+    pub families: Vec<Family>,
+}
+
+/// The node, and all from which a path of arcs leads to it. Where its parents stand before it, their sets are joined.
+fn nodes_above(diagram: &Diagram, families: &[Family], v: usize) -> NodeSet
+    requires within { v < length diagram.now.nodes }
+    requires earlier { AreAbove diagram.now.nodes families.now }
+    ensures { (u : ℕ) → IsIn result u ↔ IsPath (Arc diagram.now.nodes) u v }
+{
+    let parents = diagram.parents(v);
+    let mut above = NodeSet::of(v);
+    for parent in parents {
+        if *parent >= families.len() {
+            return ancestors(diagram, NodeSet::of(v));
+        }
+        above = above.union(&families[*parent].above);
+    }
+    above
+}
+
+/// What is known of the node, by what is known of those before it.
+fn family_of(diagram: &Diagram, states: &[u64], families: &[Family], v: usize) -> Family
+    requires within { v < length diagram.now.nodes }
+    requires states { length states.now ≡ MOST_NODES }
+    requires earlier { AreFamilies diagram.now.nodes states.now families.now }
+    ensures { IsFamily diagram.now.nodes states.now v result }
+{
+    let table = node_table(diagram, v);
+    Family {
+        table,
+        cells: count_cells(states, &table.scope),
+        above: nodes_above(diagram, families, v),
+    }
+}
+
+/// What is known of each node.
+fn list_families(
+    alloc: Global,
+    diagram: &Diagram,
+    states: &[u64],
+) -> Result<Vec<Family>, AllocError>
+    requires { length states.now ≡ MOST_NODES }
+    ensures len { IfOk result (λ families. length families.items ≡ length diagram.now.nodes) }
+    ensures families { IfOk result (λ families.
+        AreFamilies diagram.now.nodes states.now families.items) }
+{
+    let mut families = Vec::with_capacity(alloc, diagram.count())?;
+    for v in 0..diagram.count() {
+        let family = family_of(diagram, states, &families, v);
+        families.push(family)?;
+    }
+    Ok(families)
+}
+
+impl Planner {
+    /// What is known of the diagram. It goes over the arcs a few times.
+    pub fn new(alloc: Global, diagram: &Diagram) -> Result<Planner, AllocError>
+        ensures planner { IfOk result (IsPlanner diagram.now.nodes) }
+        ensures diagram { OnOk result (IsDiagram diagram.now) }
+    {
+        let states = list_states(alloc, diagram)?;
+        let families = list_families(alloc, diagram, &states)?;
+        Ok(Planner { states, families })
+    }
+}
