@@ -10,7 +10,7 @@ use Rattle.factor_core.specs.Walks.{shifted, total, IsMet, CanWalk}
 use Rattle.factor_core.specs.declared.walks.Axis.{Axis}
 use Rattle.factor_core.proofs.Dots.{sum_if}
 use Rattle.factor_core.proofs.RunLemmas.{ring_sum_cong}
-use Rattle.factor_core.proofs.Shifts.{first_choice}
+use Rattle.factor_core.proofs.Shifts.{first_choice, shifted_none}
 
 -- what the walk adds
 pub total_sum : {C : Type 0} (r : Ring C) → IsRing r → (cells : List C) (a : Axis) (ds places : List ℕ) (at p : ℕ) → a.out ≡ 0 → total r cells (a ∷ []) ds places at p ≡ cond (p == at) (ring_sum r a.states (λ s. product_at r cells (shifted s ds places))) r.nought
@@ -57,3 +57,22 @@ module _ {C : Type 0} {r : Ring C} (laws : IsRing r) (sizes : IsSize r r.size) (
         ∙ ap (λ x. r.plus (cell_at r out p) (cond (p == at) x r.nought)) e
         ∙ ap (r.plus (cell_at r out p)) (sym (total_sum r laws cells a ds places at p stands));
   }
+
+  -- where the axis has two states
+  pub pair_first : IsMet r cells (length out) places at
+  pair_first = first_choice (IsMet r cells (length out)) (a ∷ []) ds places at can.are_axes can.met
+
+  pub pair_second : (there : List ℕ) → a.states ≡ 2 → there ≡ shifted 1 ds places → IsMet r cells (length out) there (at + 1 * a.out)
+  pair_second there two e = subst (λ ps. IsMet r cells (length out) ps (at + 1 * a.out)) (sym e) (can.met 1 (omega (arith, two)))
+
+  pub one_term : (first : C) → first ≡ product_at r cells places → first ≡ ring_sum r 1 term
+  one_term first e =
+      e
+      ∙ ap (product_at r cells) (sym (shifted_none ds places))
+      ∙ sym (laws.plus_comm r.nought (term 0) ∙ laws.plus_nought (term 0))
+
+  pub pair_sum : (first second sum : C) (there : List ℕ) → a.states ≡ 2 → there ≡ shifted 1 ds places → first ≡ product_at r cells places → second ≡ product_at r cells there → sum ≡ r.plus first second → sum ≡ ring_sum r a.states term
+  pair_sum first second sum there two e is after plus =
+      let more = sum_more 1 first second sum (one_term first is) (after ∙ ap (product_at r cells) e) plus in
+      let all : 1 + 1 ≡ a.states = omega (arith, two) in
+      subst (λ k. sum ≡ ring_sum r k term) all more

@@ -1,8 +1,8 @@
 //! The walk of joins and products of few operands along short axes: cell by cell, the operands counted by the compiler.
 
-ghost use Rattle.std.specs.Prelude.{◌≡◌, ◌+◌, ◌*◌, ◌<◌, ◌≤◌, ℕ, length, drop, [], ◌∷◌};
+ghost use Rattle.std.specs.Prelude.{◌≡◌, ◌+◌, ◌*◌, ◌<◌, ◌≤◌, ℕ, length, drop, [], ◌∷◌, IsTrue};
 ghost use Rattle.cell_rings.specs.Sums.{Adds};
-ghost use Rattle.factor_core.specs.Walks.{total, CanWalk};
+ghost use Rattle.factor_core.specs.Walks.{total, CanWalk, IsPair};
 
 use crate::walks::{Axis, add_at, advance, after, product, walk};
 use cell_rings::Cell;
@@ -110,6 +110,89 @@ fn add_lines<C: Cell, const N: usize>(
     }
 }
 
+/// The walk over one axis of two states along which the result stands.
+fn add_pair<C: Cell, const N: usize>(
+    axis: Axis,
+    strides: &[usize],
+    cells: &[C],
+    places: &[usize; N],
+    out: &mut [C],
+    at: usize,
+)
+    requires pair { IsPair axis }
+    requires can { CanWalk C.ring cells.now (axis ∷ []) strides.now places.now out.old at }
+    ensures { Adds C.ring (total C.ring cells.now (axis ∷ []) strides.now places.now at) out.old
+        out.new }
+{
+    prove!(axis.states == 2);
+    let mut there = *places;
+    let first = product(cells, &there);
+    advance(&mut there, strides);
+    let second = product(cells, &there);
+    add_at(out, at, first.add(second));
+}
+
+/// The walk over an axis and a pair.
+fn add_pairs<C: Cell, const N: usize>(
+    axis: Axis,
+    inner: Axis,
+    strides: &[usize],
+    cells: &[C],
+    places: &[usize; N],
+    out: &mut [C],
+    at: usize,
+)
+    requires pair { IsPair inner }
+    requires can { CanWalk C.ring cells.now (axis ∷ (inner ∷ [])) strides.now places.now out.old
+        at }
+    ensures { Adds C.ring (total C.ring cells.now (axis ∷ (inner ∷ [])) strides.now places.now at)
+        out.old out.new }
+{
+    let below = rows_below(strides, places);
+    let mut here = *places;
+    let mut place = at;
+    for _ in 0..axis.states {
+        add_pair(inner, below, cells, &here, out, place);
+        place += axis.out;
+        advance(&mut here, strides);
+    }
+}
+
+/// The walk over two axes and a pair.
+fn add_planes<C: Cell, const N: usize>(
+    outer: Axis,
+    axis: Axis,
+    inner: Axis,
+    strides: &[usize],
+    cells: &[C],
+    places: &[usize; N],
+    out: &mut [C],
+    at: usize,
+)
+    requires pair { IsPair inner }
+    requires can { CanWalk C.ring cells.now (outer ∷ (axis ∷ (inner ∷ []))) strides.now places.now
+        out.old at }
+    ensures { Adds C.ring
+        (total C.ring cells.now (outer ∷ (axis ∷ (inner ∷ []))) strides.now places.now at) out.old
+        out.new }
+{
+    let below = rows_below(strides, places);
+    let mut here = *places;
+    let mut place = at;
+    for _ in 0..outer.states {
+        add_pairs(axis, inner, below, cells, &here, out, place);
+        place += outer.out;
+        advance(&mut here, strides);
+    }
+}
+
+/// Whether the axis has two states, along which the result stands.
+fn is_pair(axis: Axis) -> bool
+    ensures { IsTrue result → IsPair axis }
+{
+    axis.states == 2 && axis.out == 0
+}
+
 /// Adds to each cell of the result what the walk over the axes leads there.
 fn walk_cells<C: Cell, const N: usize>(
     axes: &[Axis],
@@ -132,8 +215,16 @@ fn walk_cells<C: Cell, const N: usize>(
         add_line(axis, strides, cells, places, out, at);
         return;
     }
+    if axes.len() == 2 && is_pair(axes[1]) {
+        add_pairs(axis, axes[1], strides, cells, places, out, at);
+        return;
+    }
     if axes.len() == 2 {
         add_lines(axis, axes[1], strides, cells, places, out, at);
+        return;
+    }
+    if axes.len() == 3 && is_pair(axes[2]) {
+        add_planes(axis, axes[1], axes[2], strides, cells, places, out, at);
         return;
     }
     let rest = after(axes, 1);

@@ -3,8 +3,13 @@ use Rattle.std.proofs.lemmas.List.{length-drop}
 use Rattle.cell_rings.specs.Sums.{Adds}
 use Rattle.factor_core.specs.Walks.{shifted, total}
 use Rattle.factor_core.proofs.Shifts.{shifted_none, length-shifted}
-use Rattle.factor_core.proofs.Walking.{first_of, can_walk, split, one_row, strides_enough, place_fits, advance_fits, advanced, can_next, adds_first, adds_next, adds_all, retreat_fits, retreated}
+use Rattle.factor_core.proofs.Walking.{first_of, three_axes, can_walk, split, one_row, strides_enough, place_fits, advance_fits, advanced, can_next, adds_first, adds_next, adds_all, retreat_fits, retreated}
 use Rattle.factor_core.proofs.short_walks.+walk_cells.Goals as goal
+
+pub returns-then-is_pair-2 : goal.returns-then-is_pair-2
+returns-then-is_pair-2 g t c =
+    let three : length c.args.axes.now ≡ 3 = omega (arith, c.if-axes-eq3.true) in
+    subst (λ l. Adds g.C.Cell.ring (total g.C.Cell.ring c.args.cells.now l c.args.strides.now c.args.places.now c.args.at) c.args.out.now c.add_planes.new.out) (sym (three_axes c.args.axes.now (record { states = 0; out = 0 }) three)) c.add_planes.ensures
 
 pub rows_below-below-requires : goal.rows_below-below-requires
 rows_below-below-requires g t c =
