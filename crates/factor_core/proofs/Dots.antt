@@ -38,7 +38,7 @@ sum_none : {C : Type 0} (r : Ring C) → IsRing r → (n : ℕ) → ring_sum r n
 sum_none r laws zero = refl
 sum_none r laws (suc n) = laws.plus_nought (ring_sum r n (λ s. r.nought)) ∙ sum_none r laws n
 
-sum_if : {C : Type 0} (r : Ring C) → IsRing r → (n : ℕ) (b : Bool) (f : ℕ → C) → ring_sum r n (λ s. cond b (f s) r.nought) ≡ cond b (ring_sum r n f) r.nought
+pub sum_if : {C : Type 0} (r : Ring C) → IsRing r → (n : ℕ) (b : Bool) (f : ℕ → C) → ring_sum r n (λ s. cond b (f s) r.nought) ≡ cond b (ring_sum r n f) r.nought
 sum_if r laws n true f = refl
 sum_if r laws n false f = sum_none r laws n
 

@@ -4,6 +4,7 @@ pub mod Walking
 pub mod RunLemmas
 pub mod Turned
 pub mod Dots
+pub mod Sums
 pub mod TwoRuns
 pub mod Collapse
 pub mod SizeLemmas

@@ -1,5 +1,5 @@
 -- One level of a walk: the states of the first axis one after another, each with the walk over the axes below.
-use Rattle.std.proofs.Common.{◌≡◌, ℕ, zero, suc, ◌+◌, ◌*◌, ◌^◌, ◌<◌, ◌≤◌, List, ◌∷◌, drop, length, sym, ap, subst, ◌∙◌, arith, get_or}
+use Rattle.std.proofs.Common.{◌≡◌, ℕ, zero, suc, ◌+◌, ◌*◌, ◌^◌, ◌<◌, ◌≤◌, List, [], ◌∷◌, drop, length, refl, sym, ap, subst, ◌∙◌, arith, get_or}
 use Rattle.std.specs.Prelude.{All}
 use Rattle.std.proofs.lemmas.List.{ext_get_or, drop_more, length-drop, get_or-drop}
 use Rattle.cell_rings.specs.Rings.{Ring, IsRing, IsSize, mass_ring}
@@ -18,6 +18,13 @@ one_row (suc n) k m h e = omega arith
 -- a list that is not empty is its first item and the rest
 pub split : (axes : List Axis) (d : Axis) → 0 < length axes → axes ≡ get_or axes 0 d ∷ drop 1 axes
 split axes d h = drop_more axes 0 d h
+
+pub three_axes : (axes : List Axis) (d : Axis) → length axes ≡ 3 → axes ≡ get_or axes 0 d ∷ (get_or axes 1 d ∷ (get_or axes 2 d ∷ []))
+three_axes [] d h = absurd (omega arith)
+three_axes (a ∷ []) d h = absurd (omega arith)
+three_axes (a ∷ b ∷ []) d h = absurd (omega arith)
+three_axes (a ∷ b ∷ c ∷ []) d h = refl
+three_axes (a ∷ b ∷ c ∷ e ∷ axes) d h = absurd (omega arith)
 
 module _ {C : Type 0} {r : Ring C} (laws : IsRing r) (sizes : IsSize r r.size) (cells : List C) (a : Axis) (rest : List Axis) (strides below places : List ℕ) (out : List C) (at : ℕ) (b : below ≡ drop (length places) strides) (can : CanWalk r cells (a ∷ rest) strides places out at) where
   abbrev part : ℕ → ℕ → C

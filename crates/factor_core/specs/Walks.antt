@@ -61,6 +61,11 @@ pub record IsTurned (a : Axis) (strides : List ℕ) (count : ℕ) : Type 0 where
   pub first : slice_index strides 0 ≡ 1
   pub second : slice_index strides 1 ≡ 0
 
+-- the axis has two states, along which the result stands
+pub record IsPair (a : Axis) : Type 0 where
+  pub two : a.states ≡ 2
+  pub out : a.out ≡ 0
+
 -- along the axis the result stands, the operands from one on move cell by cell, and those before them stand
 pub record IsDot (a : Axis) (strides : List ℕ) (stand count : ℕ) : Type 0 where
   pub within : stand ≤ count

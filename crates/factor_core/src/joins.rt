@@ -8,8 +8,9 @@ ghost use Rattle.factor_core.specs.Tables.{listed, CanJoin, states_in, place_of,
 
 use crate::orders::{count_nodes, insert_node, list_nodes, summed_place};
 use crate::setting::{set_axes, set_places, set_strides};
+use crate::short_walks::walk_over;
 use crate::slots::Slot;
-use crate::walks::{Axis, before, walk};
+use crate::walks::{Axis, before};
 use cell_rings::Cell;
 use node_sets::NodeSet;
 
@@ -37,7 +38,7 @@ fn join_in<C: Cell>(
         ≡ join_cell C.ring cells.now counts.now slots.now node w }
 {
     let kept = list_nodes(order, counts.len(), scope);
-    let at = summed_place(order, kept, slots, node);
+    let at = summed_place(counts, order, kept, slots, node);
     insert_node(order, kept, at, node);
     let n = kept + 1;
     let order = before(order, n);
@@ -46,7 +47,7 @@ fn join_in<C: Cell>(
     set_places(places, slots);
     let axes = before(axes, n);
     let strides = before(strides, n * slots.len());
-    walk(axes, strides, cells, &mut places[..slots.len()], out, 0);
+    walk_over(axes, strides, cells, &mut places[..slots.len()], out, 0);
 }
 
 /// A join of few slots over few nodes.

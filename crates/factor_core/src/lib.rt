@@ -11,6 +11,7 @@ mod products;
 mod reading;
 mod reorders;
 mod setting;
+mod short_walks;
 mod sizes;
 mod slots;
 mod sources;

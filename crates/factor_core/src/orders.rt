@@ -5,6 +5,7 @@ ghost use Rattle.node_sets.specs.declared.sets.TheConstants.{MOST_NODES};
 ghost use Rattle.node_sets.specs.Sets.{holds, IsIn, IsFirstFrom};
 ghost use Rattle.factor_core.specs.Tables.{listed, with_extra};
 
+use crate::short_walks::{FEW, LONG};
 use crate::slots::Slot;
 use node_sets::NodeSet;
 
@@ -84,9 +85,24 @@ pub fn list_nodes(order: &mut [usize], count: usize, scope: &NodeSet) -> usize
     n
 }
 
-/// Where the summed node stands among the n nodes of the result: behind them all where it is the highest and the last
-/// slot holds it, so that all slots that hold it move cell by cell along it, and otherwise before the last.
-pub fn summed_place(order: &[usize], n: usize, slots: &[Slot], node: usize) -> usize
+/// Whether the node has few states, so that a run along it is not worth its set-up.
+fn is_short(counts: &[usize], node: usize) -> bool {
+    match counts.get(node) {
+        Some(count) => *count < LONG,
+        None => false,
+    }
+}
+
+/// Where the summed node stands among the n nodes of the result. Behind them all where the walk goes cell by cell, so
+/// that each sum is written once, and where it is the highest and the last slot holds it, so that all slots that hold
+/// it move cell by cell along it; otherwise before the last.
+pub fn summed_place(
+    counts: &[usize],
+    order: &[usize],
+    n: usize,
+    slots: &[Slot],
+    node: usize,
+) -> usize
     requires few { n ≤ length order.now }
     requires node { node < 256 }
     ensures { (result ≤ n) × (n ≤ result + 1) }
@@ -95,6 +111,9 @@ pub fn summed_place(order: &[usize], n: usize, slots: &[Slot], node: usize) -> u
         return 0;
     }
     let last = n - 1;
+    if slots.len() <= FEW && is_short(counts, node) && is_short(counts, order[last]) {
+        return n;
+    }
     if order[last] > node || slots.is_empty() {
         return last;
     }

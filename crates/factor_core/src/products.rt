@@ -8,8 +8,9 @@ ghost use Rattle.factor_core.specs.Tables.{listed, CanMultiply, states_in, place
 
 use crate::orders::{count_nodes, list_nodes};
 use crate::setting::{set_axes, set_places, set_strides};
+use crate::short_walks::walk_over;
 use crate::slots::Slot;
-use crate::walks::{Axis, before, walk};
+use crate::walks::{Axis, before};
 use cell_rings::Cell;
 use node_sets::NodeSet;
 
@@ -42,7 +43,7 @@ fn multiply_in<C: Cell>(
     set_places(places, slots);
     let axes = before(axes, n);
     let strides = before(strides, n * slots.len());
-    walk(axes, strides, cells, &mut places[..slots.len()], out, 0);
+    walk_over(axes, strides, cells, &mut places[..slots.len()], out, 0);
 }
 
 /// A product of few slots over few nodes.

@@ -24,7 +24,7 @@ pub fn after<T>(list: &[T], n: usize) -> &[T]
 }
 
 /// Moves each place by its stride, the strides of this axis standing first.
-fn advance(places: &mut [usize], strides: &[usize])
+pub fn advance(places: &mut [usize], strides: &[usize])
     requires strides { length places.old ≤ length strides.now }
     requires fits { (i : ℕ) → i < length places.old
         → slice_index places.old i + slice_index strides.now i < 2 ^ 64 }
@@ -50,7 +50,7 @@ fn retreat(places: &mut [usize], strides: &[usize], states: usize)
 }
 
 /// The product of the cells at these places.
-fn product<C: Cell>(cells: &[C], places: &[usize]) -> C
+pub fn product<C: Cell>(cells: &[C], places: &[usize]) -> C
     requires within { All (λ p. p < length cells.now) places.now }
     requires fits { ProductFits C.ring cells.now 1 places.now }
     ensures product { result ≡ product_at C.ring cells.now places.now }
@@ -65,7 +65,7 @@ fn product<C: Cell>(cells: &[C], places: &[usize]) -> C
 }
 
 /// Adds the cell to the result's cell at a place.
-fn add_at<C: Cell>(out: &mut [C], at: usize, cell: C)
+pub fn add_at<C: Cell>(out: &mut [C], at: usize, cell: C)
     requires at { at < length out.old }
     requires fits { C.ring.size (cell_at C.ring out.old at) + C.ring.size cell ≤ C.ring.most }
     ensures { Adds C.ring (λ p. if p == at then cell else C.ring.nought) out.old out.new }

@@ -20,8 +20,8 @@ set_strides-requires-clause-order g c =
     let is : c.before-order.result.now ≡ order m.laws m.sizes c.args.cells.now c.args.counts.now c.args.slots.now c.args.node c.args.scope.now c.args.out.now c.requires.can c.summed_place-at.result = c.before-order.ensures ∙ c.insert_node.ensures ∙ ap (with_extra c.summed_place-at.result c.args.node) c.list_nodes-kept.ensures.list in
     subst (All (λ v. v < length c.args.counts.now)) (sym is) (order_below m.laws m.sizes c.args.cells.now c.args.counts.now c.args.slots.now c.args.node c.args.scope.now c.args.out.now c.requires.can c.summed_place-at.result)
 
-pub walk-requires : goal.walk-requires
-walk-requires g c =
+pub walk_over-requires : goal.walk_over-requires
+walk_over-requires g c =
     let m = g.met.C.Cell in
     let is : c.before-order.result.now ≡ order m.laws m.sizes c.args.cells.now c.args.counts.now c.args.slots.now c.args.node c.args.scope.now c.args.out.now c.requires.can c.summed_place-at.result = c.before-order.ensures ∙ c.insert_node.ensures ∙ ap (with_extra c.summed_place-at.result c.args.node) c.list_nodes-kept.ensures.list in
     let counts = c.args.counts.now in
@@ -51,7 +51,7 @@ returns g c =
     c.before-strides.ensures ∙ ap (λ k. take (k * length slots) c.set_strides.new.strides) (sym len) ∙ c.set_strides.ensures ∙ ap (rows_of (row_of counts slots)) is in
     let r = g.C.Cell.ring in
     let cells = c.args.cells.now in
-    joined_is m.laws m.sizes c.args.cells.now c.args.counts.now c.args.slots.now c.args.node c.args.scope.now c.args.out.now c.requires.can c.summed_place-at.result c.walk.new.out
-    (subst (λ l. Adds r (total r cells (axes_of (states_in counts) out (order m.laws m.sizes c.args.cells.now c.args.counts.now c.args.slots.now c.args.node c.args.scope.now c.args.out.now c.requires.can c.summed_place-at.result)) (rows_of (row_of counts slots) (order m.laws m.sizes c.args.cells.now c.args.counts.now c.args.slots.now c.args.node c.args.scope.now c.args.out.now c.requires.can c.summed_place-at.result)) l 0) c.args.out.now c.walk.new.out) c.set_places.ensures
-    (subst (λ l. Adds r (total r cells (axes_of (states_in counts) out (order m.laws m.sizes c.args.cells.now c.args.counts.now c.args.slots.now c.args.node c.args.scope.now c.args.out.now c.requires.can c.summed_place-at.result)) l (take (length slots) c.set_places.new.places) 0) c.args.out.now c.walk.new.out) strides
-    (subst (λ l. Adds r (total r cells l c.before-strides.result.now (take (length slots) c.set_places.new.places) 0) c.args.out.now c.walk.new.out) axes c.walk.ensures.adds)))
+    joined_is m.laws m.sizes c.args.cells.now c.args.counts.now c.args.slots.now c.args.node c.args.scope.now c.args.out.now c.requires.can c.summed_place-at.result c.walk_over.new.out
+    (subst (λ l. Adds r (total r cells (axes_of (states_in counts) out (order m.laws m.sizes c.args.cells.now c.args.counts.now c.args.slots.now c.args.node c.args.scope.now c.args.out.now c.requires.can c.summed_place-at.result)) (rows_of (row_of counts slots) (order m.laws m.sizes c.args.cells.now c.args.counts.now c.args.slots.now c.args.node c.args.scope.now c.args.out.now c.requires.can c.summed_place-at.result)) l 0) c.args.out.now c.walk_over.new.out) c.set_places.ensures
+    (subst (λ l. Adds r (total r cells (axes_of (states_in counts) out (order m.laws m.sizes c.args.cells.now c.args.counts.now c.args.slots.now c.args.node c.args.scope.now c.args.out.now c.requires.can c.summed_place-at.result)) l (take (length slots) c.set_places.new.places) 0) c.args.out.now c.walk_over.new.out) strides
+    (subst (λ l. Adds r (total r cells l c.before-strides.result.now (take (length slots) c.set_places.new.places) 0) c.args.out.now c.walk_over.new.out) axes c.walk_over.ensures)))
