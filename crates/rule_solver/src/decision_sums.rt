@@ -51,8 +51,8 @@ pub(crate) struct Setting<'a> {
 }
 
 impl<'a> Setting<'a> {
-    /// Runs the plan of the decision's rows in cells that hold all of its numbers, and writes what it sums to, times the
-    /// factor, as the masses.
+    /// Runs the plan of the decision's rows in cells that hold all of its numbers, and writes what it sums to, times
+    /// the factor, as the masses.
     fn run_rows<C: Number>(
         &self,
         alloc: Global,
@@ -96,8 +96,8 @@ impl<'a> Setting<'a> {
         Ok(())
     }
 
-    /// Writes the masses of the decision's rows in the part of its scope: what the plan of its rows sums to, in the
-    /// smaller cells where they surely hold its numbers, times the totals of the scope's other nodes that the plan lacks.
+    /// Writes the masses of the decision's rows in the part of its scope: what the plan of its rows sums to, in small
+    /// cells where they surely hold its numbers, times the totals of the scope's other nodes that the plan lacks.
     fn put_rows(
         &self,
         alloc: Global,
@@ -200,8 +200,8 @@ impl<'a> Setting<'a> {
         Ok(())
     }
 
-    /// Adds what one goal gives to each gain: what the goal's plan sums to, in the smaller cells where they surely hold
-    /// its numbers, times the totals of the scope's nodes that the plan lacks.
+    /// Adds what one goal gives to each gain: what the goal's plan sums to, in small cells where they surely hold its
+    /// numbers, times the totals of the scope's nodes that the plan lacks.
     fn add_goal(
         &self,
         alloc: Global,
@@ -314,10 +314,11 @@ fn most_cells(plans: &DecisionPlans) -> u128
 /// What the states of a decision gain in each row, and the rows' masses, with the profile as base: the sums over the
 /// worlds of the part that the decision's scope makes. A decision's own rule counts in neither.
 ///
-/// It sums by variable elimination: one plan for the rows, and one for each utility of the decision's agent that descends
-/// from the decision. It makes all of them before it runs the first, and reserves two workspaces of as many cells as the
-/// largest has. It may be asked where no such plan has more than 4,194,304 cells, each scope keeps the weight bound, and no
-/// other rule adds up to more than its decision has states, as pure and uniform ones do.
+/// It sums by variable elimination: one plan for the rows, and one for each utility of the decision's agent that
+/// descends from the decision. It makes all of them before it runs the first, and reserves two workspaces, of small and
+/// of wide cells, of as many cells as the largest has. It may be asked where no such plan has more than 4,194,304 cells,
+/// each scope keeps the weight bound, and no other rule adds up to more than its decision has states, as pure and
+/// uniform ones do.
 ///
 /// # Errors
 ///

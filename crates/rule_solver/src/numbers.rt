@@ -16,13 +16,13 @@ pub(crate) trait Number: Cell {
     fn number(self) -> i128
         ensures { result ≡ number self };
 
-    ghost numbers: { IsCellMap (cells_by Self.ring Self.of_weight Self.of_value) gain_cells number };
+    ghost is_map: { IsCellMap (cells_by Self.ring Self.of_weight Self.of_value) gain_cells number };
 }
 
 impl Number for Gain {
     ghost number = { λ a. a.0 };
 
-    ghost numbers = { gain_numbers };
+    ghost is_map = { gain_numbers };
 
     fn number(self) -> i128 {
         self.0
@@ -32,7 +32,7 @@ impl Number for Gain {
 impl Number for SmallGain {
     ghost number = { λ a. a.0 };
 
-    ghost numbers = { small_gain_numbers };
+    ghost is_map = { small_gain_numbers };
 
     fn number(self) -> i128 {
         self.0 as i128

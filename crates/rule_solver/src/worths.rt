@@ -299,9 +299,9 @@ fn most_worth_cells(alloc: Global, diagram: &Diagram) -> Result<usize, AllocErro
 /// what its utilities' plans give, each times the totals of those nodes of the agent's scope that the plan lacks; its
 /// expected utility is the gain over the product of the scope's totals and ten to the power of the decimals.
 ///
-/// It makes each utility's plan twice, once for its size and once to run it, and reserves two workspaces, of small and of
-/// wide cells, of as many cells as the largest of them has. It may be asked where each scope keeps the weight bound, and where no such plan has more than
-/// 4,194,304 cells.
+/// It makes each utility's plan twice, once for its size and once to run it, and reserves two workspaces, of small and
+/// of wide cells, of as many cells as the largest of them has. It may be asked where each scope keeps the weight bound,
+/// and where no such plan has more than 4,194,304 cells.
 ///
 /// # Errors
 ///

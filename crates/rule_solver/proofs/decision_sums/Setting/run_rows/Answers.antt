@@ -17,7 +17,7 @@ put_masses-requires-clause-room g c =
     rows_room c.args.self.now.diagram.now c.args.self.now.base.now c.args.self.now.decision c.args.self.now.totals.now c.args.self.now.scope c.requires.setting c.plans_keep_scopes.ensures.decisions c.plans_keep_scopes.ensures.positive c.args.plan.now.plan c.requires.planned.made.plan
     (λ q. g.C.Number.number ((table_of g.C.Cell.ring c.args.self.now.diagram.now.nodes c.run_plan-slot.new.work.cells c.run_plan-slot.result).cell q))
     (λ q i. ap g.C.Number.number (c.run_plan-slot.ensures.cell q i)
-    ∙ number_sum (cells_by g.C.Cell.ring g.C.Cell.of_weight g.C.Cell.of_value) g.C.Number.number g.met.C.Cell.laws g.met.C.Number.numbers c.args.self.now.diagram.now.nodes c.args.self.now.base.now c.args.plan.now.plan q)
+    ∙ number_sum (cells_by g.C.Cell.ring g.C.Cell.of_weight g.C.Cell.of_value) g.C.Number.number g.met.C.Cell.laws g.met.C.Number.is_map c.args.self.now.diagram.now.nodes c.args.self.now.base.now c.args.plan.now.plan q)
     c.args.factor c.requires.factor
 
 pub returns-clause-masses : goal.returns-clause-masses
@@ -25,5 +25,5 @@ returns-clause-masses g c =
     rows_masses c.args.self.now.diagram.now c.args.self.now.base.now c.args.self.now.decision c.args.self.now.totals.now c.args.self.now.scope c.requires.setting c.plans_keep_scopes.ensures.decisions c.plans_keep_scopes.ensures.positive c.args.plan.now.plan c.requires.planned.made.plan
     (λ q. g.C.Number.number ((table_of g.C.Cell.ring c.args.self.now.diagram.now.nodes c.run_plan-slot.new.work.cells c.run_plan-slot.result).cell q))
     (λ q i. ap g.C.Number.number (c.run_plan-slot.ensures.cell q i)
-    ∙ number_sum (cells_by g.C.Cell.ring g.C.Cell.of_weight g.C.Cell.of_value) g.C.Number.number g.met.C.Cell.laws g.met.C.Number.numbers c.args.self.now.diagram.now.nodes c.args.self.now.base.now c.args.plan.now.plan q)
+    ∙ number_sum (cells_by g.C.Cell.ring g.C.Cell.of_weight g.C.Cell.of_value) g.C.Number.number g.met.C.Cell.laws g.met.C.Number.is_map c.args.self.now.diagram.now.nodes c.args.self.now.base.now c.args.plan.now.plan q)
     c.args.factor c.requires.factor c.plans_sum_scopes.ensures.sums c.put_masses.new.masses (c.put_masses.ensures.len ∙ c.requires.count) c.in_ok-put_masses.ensures.puts
