@@ -110,6 +110,10 @@ module _ (nodes : List NodeView) (asked : PlanView) (made : SizedPlan) (planned 
       let here : IsIn set v ↔ (Contains asked.keep v ⊎ Contains made.steps v) = subst (λ (x : PlanView). IsIn set v ↔ (Contains x.keep v ⊎ Contains made.steps v)) planned.made.plan (is v) in
       subst (λ (x : PlanView). IsIn set v ↔ Contains (plan_nodes nodes x) v) (sym planned.made.plan) ((λ m. member_in v (here.0 m)), (λ m. here.1 (in_member v m)))
 
+  pub plan_members : (v : ℕ) → (Contains made.plan.keep v ⊎ Contains made.steps v) ↔ Contains (plan_nodes nodes made.plan) v
+  plan_members v =
+      subst (λ (x : PlanView). (Contains x.keep v ⊎ Contains made.steps v) ↔ Contains (plan_nodes nodes x) v) (sym planned.made.plan) (member_in v, in_member v)
+
 -- ---- room for the plans of a decision
 module _ (nodes : List NodeView) (graph : IsGraph nodes) (d : ℕ) (is : IsDecision nodes d) (rows : SizedPlan) (goals : List SizedPlan) (kept : ArePlansOf nodes d rows goals) where
   -- where the kept plans have at most so many cells, each plan has

@@ -14,6 +14,7 @@ mod RowLemmas
 mod DecisionLemmas
 mod PlanLemmas
 mod WorthLemmas
+mod TotalLemmas
 mod MadeRooms
 mod StakeLemmas
 mod SumLemmas

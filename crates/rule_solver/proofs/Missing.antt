@@ -1,6 +1,7 @@
 -- Totals multiplied over sets: those that a plan lacks of a scope's nodes, and those of a whole scope.
 use Rattle.std.proofs.Common.{◌≡◌, ◌∙◌, ◌↔◌, ℕ, ◌*◌, ◌<◌, Bool, true, false, not, cond, eqb, filter, List, [], ◌∷◌, Contains, length, slice_index, refl, sym, ap, subst, arith}
 use Rattle.std.specs.List.{range_with_len}
+use Rattle.std.specs.Prelude.{option_to_list}
 use Rattle.finite_sums.specs.Sums.{nat_product_over}
 use Rattle.finite_sums.proofs.Lists.{among_filter}
 use Rattle.finite_sums.proofs.Members.{among_from_contains, contains_from_among, filter_has}
@@ -19,7 +20,7 @@ use Rattle.maid_laws.proofs.Tied.{decision_of, tables_of}
 use Rattle.node_sets.specs.declared.sets.NodeSet.{NodeSet}
 use Rattle.node_sets.specs.Sets.{holds, IsIn}
 use Rattle.part_laws.specs.ScopeLaws.{HasUnitRules}
-use Rattle.plan_sums.specs.Plans.{PlanView, in_plan, plan_nodes}
+use Rattle.plan_sums.specs.Plans.{PlanView, has, in_plan, plan_nodes, ruled_nodes}
 use Rattle.scope_sums.specs.Missing.{missing_in, missing_in_without}
 use Rattle.rule_solver.specs.Totals.{HasTotals, product_in}
 use Rattle.rule_solver.proofs.ProductLemmas.{factor_in, same_products}
@@ -35,6 +36,13 @@ tested_product f q (v ∷ vs) = go (q v) (tested_product f q vs)
     go : (b : Bool) → nat_product_over f (filter q vs) ≡ nat_product_over (λ u. cond (q u) (f u) 1) vs → nat_product_over f (cond b (v ∷ filter q vs) (filter q vs)) ≡ cond b (f v) 1 * nat_product_over (λ u. cond (q u) (f u) 1) vs
     go true h = ap (λ n. f v * n) h
     go false h = h ∙ one_times (nat_product_over (λ u. cond (q u) (f u) 1) vs)
+
+-- the nodes that pass a test are those that are listed
+tested : (nodes : List NodeView) (q : ℕ → Bool) (v : ℕ) → v < length nodes → Contains (filter q (numbers_of nodes)) v ↔ (q v ≡ true)
+tested nodes q v l = (
+  (λ t. (among_filter q v (numbers_of nodes) (among_from_contains (filter q (numbers_of nodes)) v t)).1),
+  (λ t. contains_from_among (filter q (numbers_of nodes)) v (filter_has q v (numbers_of nodes) (number nodes v l) t)),
+)
 
 -- a set of the members of a list of nodes that pass a test marks them
 marked : (nodes : List NodeView) (q : ℕ → Bool) (set : NodeSet) → ((v : ℕ) → IsIn set v ↔ Contains (filter q (numbers_of nodes)) v) → (v : ℕ) → v < length nodes → IsIn set v ↔ (q v ≡ true)
@@ -98,6 +106,23 @@ module _ (nodes : List NodeView) (p : List RuleView) (totals : List ℕ) (are : 
       -- the same where it is taken out of the set of those
       pub missing_product_after : (d : ℕ) (all : NodeSet) → ((v : ℕ) → IsIn all v ↔ (IsIn scope v × (IsIn planned v → ⊥))) → ((v : ℕ) → IsIn left v ↔ (IsIn all v × (v ≡ d → ⊥))) → product_in totals left ≡ missing_in_without nodes p d (filter keep (numbers_of nodes)) plan
       missing_product_after d all alls lefts = missing_product_without d (λ v. ((λ t. let r = (lefts v).0 t in ((alls v).0 r.0, r.1)), (λ r. (lefts v).1 ((alls v).1 r.0, r.1))))
+
+  -- ---- what a plan's own tables add up to
+  pub ruled_product : (plan : PlanView) (ruled : NodeSet) → ((v : ℕ) → IsIn ruled v ↔ (Contains (plan_nodes nodes plan) v × (has (option_to_list plan.without) v ≡ true → ⊥)))
+      → product_in totals ruled ≡ nat_product_over (weight_total nodes p) (ruled_nodes nodes plan)
+  ruled_product plan ruled are_ruled =
+      by_factors (λ v. in_plan nodes plan v) (λ v. not (has (option_to_list plan.without) v)) (weight_total nodes p) ruled (λ v l. go (holds ruled v) (in_plan nodes plan v) (has (option_to_list plan.without) v) (weight_total nodes p v) (
+        (λ t. let r = (are_ruled v).0 t in ((tested nodes (in_plan nodes plan) v l).0 r.0, r.1)),
+        (λ r. (are_ruled v).1 ((tested nodes (in_plan nodes plan) v l).1 r.0, r.1)),
+      ))
+    where
+      go : (a b c : Bool) (n : ℕ) → (a ≡ true) ↔ ((b ≡ true) × (c ≡ true → ⊥)) → cond a n 1 ≡ cond b (cond (not c) n 1) 1
+      go true true true n h = absurd ((h.0 refl).1 refl)
+      go true true false n h = refl
+      go true false c n h = absurd (let e = (h.0 refl).0 in cc)
+      go false true true n h = refl
+      go false true false n h = absurd (let e = h.1 (refl, λ k. cc) in cc)
+      go false false c n h = refl
 
   -- ---- all of a scope
   -- where rules add up to 1, the totals of an agent's scope multiply to its P

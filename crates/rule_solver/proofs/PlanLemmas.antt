@@ -1,13 +1,8 @@
 -- The plans of a decision and of a utility: their numbers fit, and their cells are numbers.
-use Rattle.std.proofs.Common.{◌≡◌, inl, inr, ℕ, ◌+◌, ◌*◌, ◌^◌, ◌<◌, ◌≤◌, max, List, [], ◌∷◌, refl, subst, pos, arith}
+use Rattle.std.proofs.Common.{◌≡◌, inl, inr, ℕ, ◌+◌, ◌*◌, ◌^◌, ◌<◌, ◌≤◌, max, List, [], ◌∷◌, refl, sym, subst, ℤ, pos, arith}
 use Rattle.std.proofs.Math.Nat.{mul-le-mul, mul-le-mul_left, one-le-pow}
-use Rattle.cell_rings.specs.declared.gains.Gain.{Gain}
-use Rattle.cell_rings.specs.declared.masses.Mass.{Mass}
-use Rattle.cell_rings.specs.Kinds.{gain_kind, gain_of, mass_kind, mass_of}
-use Rattle.cell_rings.specs.KindLaws.{gain_laws, gain_map, mass_laws, mass_map}
-use Rattle.cell_rings.specs.RingLaws.{gain_is_ring, mass_is_ring}
-use Rattle.cell_rings.specs.Rings.{most_size}
-use Rattle.factor_core.specs.Operations.{cells_by}
+use Rattle.cell_rings.specs.RingLaws.{gain_is_ring, mass_is_ring, mass_to_gain}
+use Rattle.cell_rings.specs.Rings.{IsRing, gain_ring, most_size}
 use Rattle.finite_sums.specs.Members.{Among}
 use Rattle.finite_sums.specs.Sums.{World, nat_product_over}
 use Rattle.maid_model.specs.Diagrams.{greatest_number}
@@ -22,25 +17,18 @@ use Rattle.plan_sums.proofs.Products.{maps_plans}
 use Rattle.eliminate.specs.Results.{plan_total}
 
 -- ---- cells as numbers
--- the cells of a run, as plans see them
-abbrev pub gain_run : Cells Gain
-gain_run = cells_by gain_kind (λ w. gain_of (pos w)) gain_of
+-- what a plan sums to in cells that are numbers is what it sums to in numbers
+pub number_sum : {C : Type 0} (c : Cells C) (number : C → ℤ) → IsRing c.ring → IsCellMap c gain_cells number
+    → (nodes : List NodeView) (p : List RuleView) (plan : PlanView) (q : World) → number (plan_sum c nodes p plan q) ≡ plan_sum gain_cells nodes p plan q
+number_sum c number laws are nodes p plan q = maps_plans c gain_cells laws gain_is_ring number are nodes p plan q
 
-abbrev pub mass_run : Cells Mass
-mass_run = cells_by mass_kind mass_of (λ v. mass_of 1)
+-- masses as numbers with a sign, where no value counts
+abbrev pub signed_masses : Cells ℤ
+signed_masses = record { ring = gain_ring; weight = λ w. pos w; value = λ v. pos 1 }
 
-gain_numbers : IsCellMap gain_run gain_cells (λ a. a.0)
-gain_numbers = record { ring = gain_map; weight = λ w. refl; value = λ v. refl }
-
-mass_numbers : IsCellMap mass_run mass_cells (λ a. a.0)
-mass_numbers = record { ring = mass_map; weight = λ w. refl; value = λ v. refl }
-
--- what a plan sums to in cells is what it sums to in numbers
-pub gain_sum : (nodes : List NodeView) (p : List RuleView) (plan : PlanView) (q : World) → (plan_sum gain_run nodes p plan q).0 ≡ plan_sum gain_cells nodes p plan q
-gain_sum nodes p plan q = maps_plans gain_run gain_cells gain_laws gain_is_ring (λ a. a.0) gain_numbers nodes p plan q
-
-pub mass_sum : (nodes : List NodeView) (p : List RuleView) (plan : PlanView) (q : World) → (plan_sum mass_run nodes p plan q).0 ≡ plan_sum mass_cells nodes p plan q
-mass_sum nodes p plan q = maps_plans mass_run mass_cells mass_laws mass_is_ring (λ a. a.0) mass_numbers nodes p plan q
+-- the plan of a decision's rows has no utility, so it sums to a mass
+pub rows_number : (nodes : List NodeView) (p : List RuleView) (d : ℕ) (q : World) → plan_sum gain_cells nodes p (row_plan nodes d) q ≡ pos (plan_sum mass_cells nodes p (row_plan nodes d) q)
+rows_number nodes p d q = sym (maps_plans mass_cells signed_masses mass_is_ring gain_is_ring pos (record { ring = mass_to_gain; weight = λ w. refl; value = λ v. refl }) nodes p (row_plan nodes d) q)
 
 -- ---- numbers that fit
 -- a utility of the list is no greater than all of them together

@@ -1,8 +1,6 @@
 -- A decision in its setting: what its plans give, and that all of it has room.
 use Rattle.std.proofs.Common.{◌≡◌, ◌∙◌, ◌↔◌, inl, inr, ℕ, ◌+◌, ◌*◌, ◌^◌, ◌<◌, ◌≤◌, max, Bool, true, false, cond, ◌&&◌, filter, List, [], ◌∷◌, Contains, length, slice_index, refl, sym, ap, subst, ℤ, pos, ◌+ℤ◌, ◌*ℤ◌, nat_abs, arith}
 use Rattle.std.proofs.Math.Nat.{mul-le-mul_left, one-le-pow}
-use Rattle.cell_rings.specs.declared.gains.Gain.{Gain}
-use Rattle.cell_rings.specs.declared.masses.Mass.{Mass}
 use Rattle.std.proofs.lemmas.List.{get_or_default}
 use Rattle.factor_core.specs.Slots.{nodes_in}
 use Rattle.finite_sums.specs.Members.{Among}
@@ -12,11 +10,10 @@ use Rattle.finite_sums.proofs.Members.{among_from_contains, contains_from_among,
 use Rattle.maid_model.specs.Diagrams.{greatest_number}
 use Rattle.maid_model.specs.Gains.{greatest_abs}
 use Rattle.maid_model.specs.Graph.{IsGraph, descends}
-use Rattle.maid_model.specs.Nodes.{IsDecision, agent_of, is_utility_of, node_at, numbers_of, states_of}
+use Rattle.maid_model.specs.Nodes.{IsDecision, agent_of, is_utility_of, node_at, numbers_of, rows_of, states_of}
 use Rattle.maid_model.specs.Parts.{leads_to}
 use Rattle.maid_model.specs.Relevance.{IsGoal}
 use Rattle.maid_model.specs.Scopes.{goals_of, greatest_of, scope_of, scope_product}
-use Rattle.maid_model.specs.Tables.{row_of}
 use Rattle.maid_model.specs.Views.{NodeView, DiagramView, RuleView}
 use Rattle.node_sets.specs.declared.sets.NodeSet.{NodeSet}
 use Rattle.node_sets.specs.Sets.{IsIn, holds}
@@ -24,15 +21,14 @@ use Rattle.part_laws.proofs.ScopeLaws.{goal_listed}
 use Rattle.plan_sums.specs.Plans.{PlanView, gain_cells, mass_cells, gain_plan, plan_nodes, plan_sum, row_plan}
 use Rattle.cell_rings.specs.Rings.{most_size}
 use Rattle.eliminate.specs.Results.{plan_total}
-use Rattle.ring_sums.specs.Tables.{Table}
 use Rattle.scope_sums.specs.Laws.{MissingIsPositive, PlansFitScope, ScopesFitPlans, SumsOfScopes}
 use Rattle.scope_sums.specs.Missing.{missing_in, missing_in_without}
 use Rattle.scope_sums.proofs.Summed.{goal_of}
 use Rattle.rule_solver.specs.Reading.{AddsTable, PutsTable, gain_there}
-use Rattle.rule_solver.specs.Sums.{AddsGoal, HasRoomFor, IsSetting, goal_part, scope_mass}
+use Rattle.rule_solver.specs.Sums.{AddsGoal, HasMasses, HasRoomFor, IsSetting, goal_part}
 use Rattle.rule_solver.specs.Totals.{product_in}
 use Rattle.rule_solver.proofs.Missing.{missing_product, missing_product_after}
-use Rattle.rule_solver.proofs.PlanLemmas.{gain_run, mass_run, gain_sum, mass_sum, goal_fits, rows_fit}
+use Rattle.rule_solver.proofs.PlanLemmas.{rows_number, goal_fits, rows_fit}
 
 -- ---- the list of goals
 bool_same : (a b : Bool) → (a ≡ true → b ≡ true) → (b ≡ true → a ≡ true) → a ≡ b
@@ -101,27 +97,26 @@ module _ (d : DiagramView) (p : List RuleView) (decision : ℕ) (totals : List �
       pub rows_missing_small : missing_in_without d.nodes p decision (scope_of d.nodes decision) (row_plan d.nodes decision) ≤ greatest_number
       rows_missing_small = in_room _ fit.missing_row
 
-      module _ (table : Table Mass) (cell : (q : World) → InRange (states_of d.nodes) q → table.cell q ≡ plan_sum mass_run d.nodes p plan q) where
-        rows_cell : (q : World) → InRange (states_of d.nodes) q → (table.cell q).0 ≡ plan_sum mass_cells d.nodes p (row_plan d.nodes decision) q
-        rows_cell q i = ap (λ (m : Mass). m.0) (cell q i) ∙ mass_sum d.nodes p plan q ∙ ap (λ x. plan_sum mass_cells d.nodes p x q) is
+      module _ (number : World → ℤ) (is_sum : (q : World) → InRange (states_of d.nodes) q → number q ≡ plan_sum gain_cells d.nodes p plan q) where
+        rows_mass : (q : World) → InRange (states_of d.nodes) q → nat_abs (number q) ≡ plan_sum mass_cells d.nodes p (row_plan d.nodes decision) q
+        rows_mass q i = ap nat_abs (is_sum q i ∙ ap (λ x. plan_sum gain_cells d.nodes p x q) is ∙ rows_number d.nodes p decision q)
 
         module _ (factor : ℕ) (factor_is : factor ≡ missing_in_without d.nodes p decision (scope_of d.nodes decision) (row_plan d.nodes decision)) where
-          rows_part : (q : World) → InRange (states_of d.nodes) q → (table.cell q).0 * factor ≡ plan_sum mass_cells d.nodes p (row_plan d.nodes decision) q * missing_in_without d.nodes p decision (scope_of d.nodes decision) (row_plan d.nodes decision)
-          rows_part q i = λ t. rows_cell q i t * factor_is t
+          rows_part : (q : World) → InRange (states_of d.nodes) q → nat_abs (number q) * factor ≡ plan_sum mass_cells d.nodes p (row_plan d.nodes decision) q * missing_in_without d.nodes p decision (scope_of d.nodes decision) (row_plan d.nodes decision)
+          rows_part q i = λ t. rows_mass q i t * factor_is t
 
-          within : (q : World) → InRange (states_of d.nodes) q → (table.cell q).0 * factor ≤ scope_product d.nodes decision
+          within : (q : World) → InRange (states_of d.nodes) q → nat_abs (number q) * factor ≤ scope_product d.nodes decision
           within q i = subst (λ n. n ≤ scope_product d.nodes decision) (sym (rows_part q i)) (fit.row q i)
 
-          pub rows_room : (q : World) → InRange (states_of d.nodes) q → (table.cell q).0 * factor ≤ greatest_number
+          pub rows_room : (q : World) → InRange (states_of d.nodes) q → nat_abs (number q) * factor ≤ greatest_number
           rows_room q i = in_room _ (within q i)
 
-          pub rows_masses : SumsOfScopes → (masses : List ℕ) → PutsTable d.nodes decision table factor masses
-              → ((q : World) → InRange (states_of d.nodes) q → pos (slice_index masses (row_of d.nodes decision q)) ≡ scope_mass d.nodes p decision (row_of d.nodes decision q))
-              × ((q : World) → InRange (states_of d.nodes) q → slice_index masses (row_of d.nodes decision q) ≤ scope_product d.nodes decision)
-          rows_masses sums masses puts = (
-            (λ q i. ap pos (puts.each q i ∙ rows_part q i) ∙ sym ((sums d.nodes p decision s.is_diagram.graph s.is_diagram.tables s.profile s.is_decision).mass_there q i)),
-            (λ q i. subst (λ n. n ≤ scope_product d.nodes decision) (sym (puts.each q i)) (within q i)),
-          )
+          pub rows_masses : SumsOfScopes → (masses : List ℕ) → length masses ≡ rows_of d.nodes decision → PutsTable d.nodes decision number factor masses → HasMasses d p decision masses
+          rows_masses sums masses count puts = record {
+            count = count;
+            each = λ q i. ap pos (puts.each q i ∙ rows_part q i) ∙ sym ((sums d.nodes p decision s.is_diagram.graph s.is_diagram.tables s.profile s.is_decision).mass_there q i);
+            small = λ q i. subst (λ n. n ≤ scope_product d.nodes decision) (sym (puts.each q i)) (within q i);
+          }
 
     -- ---- the plan of a goal
     module _ (goal : ℕ) (is_goal : IsGoal d.nodes decision goal) (plan : PlanView) (is : plan ≡ gain_plan d.nodes decision goal) where
@@ -141,23 +136,23 @@ module _ (d : DiagramView) (p : List RuleView) (decision : ℕ) (totals : List �
           (some d.nodes p (scope_of d.nodes decision) (gain_plan d.nodes decision goal) s.is_diagram.graph s.is_diagram.tables s.profile).0
           (goal_listed d.nodes s.is_diagram.graph decision s.is_decision goal is_goal) s.bound (fit.gain_tables goal is_goal))
 
-      module _ (table : Table Gain) (cell : (q : World) → InRange (states_of d.nodes) q → table.cell q ≡ plan_sum gain_run d.nodes p plan q) (factor : ℕ)
+      module _ (number : World → ℤ) (is_sum : (q : World) → InRange (states_of d.nodes) q → number q ≡ plan_sum gain_cells d.nodes p plan q) (factor : ℕ)
           (factor_is : factor ≡ missing_in d.nodes p (scope_of d.nodes decision) (gain_plan d.nodes decision goal))
         where
-          goal_cell : (q : World) → InRange (states_of d.nodes) q → (table.cell q).0 ≡ plan_sum gain_cells d.nodes p (gain_plan d.nodes decision goal) q
-          goal_cell q i = ap (λ (g : Gain). g.0) (cell q i) ∙ gain_sum d.nodes p plan q ∙ ap (λ x. plan_sum gain_cells d.nodes p x q) is
+          goal_number : (q : World) → InRange (states_of d.nodes) q → number q ≡ plan_sum gain_cells d.nodes p (gain_plan d.nodes decision goal) q
+          goal_number q i = is_sum q i ∙ ap (λ x. plan_sum gain_cells d.nodes p x q) is
 
-          part : (q : World) → InRange (states_of d.nodes) q → (table.cell q).0 *ℤ pos factor ≡ goal_part d.nodes p decision goal q
-          part q i = λ t. goal_cell q i t *ℤ pos (factor_is t)
+          part : (q : World) → InRange (states_of d.nodes) q → number q *ℤ pos factor ≡ goal_part d.nodes p decision goal q
+          part q i = λ t. goal_number q i t *ℤ pos (factor_is t)
 
-          pub goal_room : (gains : List ℤ) → HasRoomFor d decision goal gains → (q : World) → InRange (states_of d.nodes) q → nat_abs (gain_there gains d.nodes decision q) + nat_abs ((table.cell q).0 *ℤ pos factor) ≤ greatest_number
+          pub goal_room : (gains : List ℤ) → HasRoomFor d decision goal gains → (q : World) → InRange (states_of d.nodes) q → nat_abs (gain_there gains d.nodes decision q) + nat_abs (number q *ℤ pos factor) ≤ greatest_number
           goal_room gains room q i =
               sum _ _ _ (subst (λ z. nat_abs z ≤ scope_product d.nodes decision * greatest_abs (node_at d.nodes goal).cells) (sym (part q i)) (fit.gain goal q is_goal i)) (room.room q i)
             where
               sum : (a b c : ℕ) → b ≤ c → a + c ≤ greatest_number → a + b ≤ greatest_number
               sum a b c h k = omega (arith, h, k)
 
-          pub goal_added : (before after : List ℤ) → AddsTable d.nodes decision table factor before after → AddsGoal d.nodes p decision goal before after
+          pub goal_added : (before after : List ℤ) → AddsTable d.nodes decision number factor before after → AddsGoal d.nodes p decision goal before after
           goal_added before after adds = record { count = adds.len; each = λ q i. adds.each q i ∙ ap (λ z. gain_there before d.nodes decision q +ℤ z) (part q i) }
 
     -- what a goal gives is within P and its greatest value

@@ -1,9 +1,6 @@
 -- The cells of a plan's last table as a decision's gains and masses. Only private functions cite it.
-use Rattle.std.specs.Prelude.{◌≡◌, ℕ, ◌*◌, List, length, slice_index, slice_index_or, ℤ, pos, ◌+ℤ◌, ◌*ℤ◌}
+use Rattle.std.specs.Prelude.{◌≡◌, ℕ, ◌*◌, List, length, slice_index, slice_index_or, ℤ, pos, ◌+ℤ◌, ◌*ℤ◌, nat_abs}
 use Rattle.finite_sums.specs.Sums.{World, InRange}
-use Rattle.cell_rings.specs.declared.gains.Gain.{Gain}
-use Rattle.cell_rings.specs.declared.masses.Mass.{Mass}
-use Rattle.ring_sums.specs.Tables.{Table}
 use Rattle.maid_model.specs.Nodes.{states_of}
 use Rattle.maid_model.specs.Tables.{cell_of, row_of}
 use Rattle.maid_model.specs.Views.{NodeView}
@@ -12,11 +9,11 @@ use Rattle.maid_model.specs.Views.{NodeView}
 abbrev pub gain_there : List ℤ → List NodeView → ℕ → World → ℤ
 gain_there gains nodes d q = slice_index_or gains (cell_of nodes d q) (pos 0)
 
--- each gain is greater by the table's cell times the factor
-pub record AddsTable (nodes : List NodeView) (d : ℕ) (table : Table Gain) (factor : ℕ) (before after : List ℤ) : Type 0 where
+-- each gain is greater by the table's number times the factor
+pub record AddsTable (nodes : List NodeView) (d : ℕ) (number : World → ℤ) (factor : ℕ) (before after : List ℤ) : Type 0 where
   pub len : length after ≡ length before
-  pub each : (q : World) → InRange (states_of nodes) q → gain_there after nodes d q ≡ gain_there before nodes d q +ℤ ((table.cell q).0 *ℤ pos factor)
+  pub each : (q : World) → InRange (states_of nodes) q → gain_there after nodes d q ≡ gain_there before nodes d q +ℤ (number q *ℤ pos factor)
 
--- each mass is the table's cell times the factor
-pub record PutsTable (nodes : List NodeView) (d : ℕ) (table : Table Mass) (factor : ℕ) (after : List ℕ) : Type 0 where
-  pub each : (q : World) → InRange (states_of nodes) q → slice_index after (row_of nodes d q) ≡ (table.cell q).0 * factor
+-- each mass is the table's number, of which none is below nought, times the factor
+pub record PutsTable (nodes : List NodeView) (d : ℕ) (number : World → ℤ) (factor : ℕ) (after : List ℕ) : Type 0 where
+  pub each : (q : World) → InRange (states_of nodes) q → slice_index after (row_of nodes d q) ≡ nat_abs (number q) * factor

@@ -17,7 +17,7 @@ use crate::decision_sums::Setting;
 use crate::rows::answer_rows;
 use crate::totals::list_totals;
 use crate::worths::scale;
-use cell_rings::{Gain, Mass};
+use cell_rings::{Gain, SmallGain};
 use factor_core::Workspace;
 use maid_model::{Answer, Diagram, Profile, Row};
 use part_laws::{parts_decide, scopes_are_parts};
@@ -33,19 +33,19 @@ fn answer_decision(
     base: &Profile,
     decision: usize,
     plans: &DecisionPlans,
-    masses: &mut Workspace<Mass>,
-    gains: &mut Workspace<Gain>,
+    small: &mut Workspace<SmallGain>,
+    wide: &mut Workspace<Gain>,
 ) -> Result<Vec<Row>, AllocError>
     requires decision { IsDecision diagram.now.nodes decision }
     requires profile { IsProfile diagram.now.nodes base.now }
     requires rules { HasSmallRules diagram.now.nodes base.now decision }
     requires bound { KeepsScopedBounds diagram.now }
     requires planned { ArePlansOf diagram.now.nodes decision plans.now.rows plans.now.goals.items }
-    requires ready { (cells : ℕ) × IsReady cells masses.old × IsReady cells gains.old
+    requires ready { (cells : ℕ) × IsReady cells small.old × IsReady cells wide.old
         × HasRoomAt diagram.now.nodes decision cells }
     ensures rows { IfOk result (λ v.
         IsAnsweredBy diagram.now.nodes diagram.now.decimals base.now decision v.items) }
-    ensures again { OnOk result ((masses.new ≡ masses.old) × (gains.new ≡ gains.old)) }
+    ensures again { OnOk result ((small.new ≡ small.old) × (wide.new ≡ wide.old)) }
 {
     // The part of the scope has the whole's best states, rows without mass and fractions.
     scopes_are_parts();
@@ -59,7 +59,7 @@ fn answer_decision(
         totals: &totals,
         scope: decision_scope(diagram, decision),
     };
-    let sums = setting.row_sums(alloc, plans, masses, gains)?;
+    let sums = setting.row_sums(alloc, plans, small, wide)?;
     answer_rows(alloc, &sums.gains, &sums.masses, states, scale(diagram))
 }
 
@@ -71,24 +71,24 @@ pub(crate) fn answer_all(
     relevance: &Relevance,
     order: &[usize],
     plans: &[DecisionPlans],
-    masses: &mut Workspace<Mass>,
-    gains: &mut Workspace<Gain>,
+    small: &mut Workspace<SmallGain>,
+    wide: &mut Workspace<Gain>,
 ) -> Result<Vec<Answer>, AllocError>
     requires bound { KeepsScopedBounds diagram.now }
     requires relevance { IsRelevance diagram.now.nodes relevance.now }
     requires order { IsRelianceOrder diagram.now.nodes order.now }
     requires planned { ArePlans diagram.now.nodes order.now plans.now }
-    requires ready { (cells : ℕ) × IsReady cells masses.old × IsReady cells gains.old
+    requires ready { (cells : ℕ) × IsReady cells small.old × IsReady cells wide.old
         × ((d : ℕ) → IsDecision diagram.now.nodes d → HasRoomAt diagram.now.nodes d cells) }
     ensures answers { IfOk result (λ v.
         AnswersAll diagram.now.nodes diagram.now.decimals order.now v.items) }
-    ensures again { OnOk result ((masses.new ≡ masses.old) × (gains.new ≡ gains.old)) }
+    ensures again { OnOk result ((small.new ≡ small.old) × (wide.new ≡ wide.old)) }
 {
     let mut answers = Vec::with_capacity(alloc, order.len())?;
     for (place, decision) in order.iter().enumerate() {
         let base = base_of(alloc, diagram, relevance, &answers, *decision)?;
         let plans = &plans[place];
-        let rows = answer_decision(alloc, diagram, &base, *decision, plans, masses, gains)?;
+        let rows = answer_decision(alloc, diagram, &base, *decision, plans, small, wide)?;
         answers.push(Answer {
             decision: *decision,
             rows,

@@ -2,20 +2,24 @@
 
 ghost use Rattle.std.specs.Prelude.{◌≡◌, ◌+◌, ◌*◌, ℕ, ◌≤◌, All, IfOk, OnOk, length, map};
 ghost use Rattle.std.specs.List.{AllZip};
+ghost use Rattle.eliminate.specs.Results.{plan_total};
 ghost use Rattle.maid_model.specs.declared.limits.TheConstants.{MOST_PLAN_CELLS};
-ghost use Rattle.maid_model.specs.Nodes.{IsDecision};
+ghost use Rattle.maid_model.specs.Nodes.{IsDecision, rows_of};
 ghost use Rattle.maid_model.specs.Profiles.{IsProfile};
 ghost use Rattle.maid_model.specs.Relevance.{IsGoal};
-ghost use Rattle.maid_model.specs.Scopes.{KeepsScopedBounds, goals_of};
+ghost use Rattle.maid_model.specs.Scopes.{KeepsScopedBounds, goals_of, scope_of};
 ghost use Rattle.part_laws.specs.ScopeLaws.{HasSmallRules};
 ghost use Rattle.plan_sums.specs.Plans.{gain_plan, row_plan};
+ghost use Rattle.scope_sums.specs.Missing.{missing_in, missing_in_without};
 ghost use Rattle.size_precheck.specs.Sizes.{ArePlansOf, IsPlanned, goal_list};
 ghost use Rattle.rule_solver.specs.Rooms.{HasAtMost, HasRoomAt, IsReady};
 ghost use Rattle.rule_solver.specs.Sums.{AddsGoal, HasGoals, HasMasses, HasRoomFor, IsRowSums, IsSetting, KeepsRoom};
 
+use crate::numbers::Number;
 use crate::reading::{add_gains, list_scope, put_masses};
 use crate::totals::{list_totals, product_in};
-use cell_rings::{Gain, Mass};
+use crate::widths::fits_small;
+use cell_rings::{Gain, SmallGain};
 use eliminate::{release, run_plan};
 use factor_core::Workspace;
 use maid_model::{Diagram, Profile, goals_of};
@@ -47,31 +51,37 @@ pub(crate) struct Setting<'a> {
 }
 
 impl<'a> Setting<'a> {
-    /// The masses of the decision's rows in the part of its scope: what the plan of its rows sums to, times the totals
-    /// of the scope's other nodes that the plan lacks.
-    fn masses(
+    /// Runs the plan of the decision's rows in cells that hold all of its numbers, and writes what it sums to, times
+    /// the factor, as the masses.
+    fn run_rows<C: Number>(
         &self,
         alloc: Global,
         plan: &Plan,
-        work: &mut Workspace<Mass>,
-    ) -> Result<Vec<u128>, AllocError>
+        factor: u128,
+        work: &mut Workspace<C>,
+        masses: &mut [u128],
+    ) -> Result<(), AllocError>
         requires setting { IsSetting self.now.diagram.now self.now.base.now self.now.decision
             self.now.totals.now self.now.scope }
         requires planned { IsPlanned self.now.diagram.now.nodes
             (row_plan self.now.diagram.now.nodes self.now.decision) plan.now }
+        requires factor { factor ≡ missing_in_without self.now.diagram.now.nodes self.now.base.now
+            self.now.decision (scope_of self.now.diagram.now.nodes self.now.decision)
+            (row_plan self.now.diagram.now.nodes self.now.decision) }
         requires ready { (cells : ℕ) × IsReady cells work.old
             × HasAtMost self.now.diagram.now.nodes
             (row_plan self.now.diagram.now.nodes self.now.decision) cells }
-        ensures masses { IfOk result (λ masses.
-            HasMasses self.now.diagram.now self.now.base.now self.now.decision masses.items) }
+        requires fits { 2 * plan_total self.now.diagram.now.nodes self.now.base.now plan.now.plan
+            ≤ C.ring.most }
+        requires count { length masses.old
+            ≡ rows_of self.now.diagram.now.nodes self.now.decision }
+        ensures masses { OnOk result (HasMasses self.now.diagram.now self.now.base.now
+            self.now.decision masses.new) }
         ensures again { OnOk result (work.new ≡ work.old) }
+        ensures len { length masses.new ≡ length masses.old }
     {
         plans_sum_scopes();
         plans_keep_scopes();
-        let mut masses = vec![in alloc; 0; self.diagram.rows(self.decision)]?;
-        let mut left = self.scope.difference(&plan.members());
-        left.remove(self.decision);
-        let factor = product_in(self.totals, &left);
         let slot = run_plan(work, plan, self.diagram, self.base);
         put_masses(
             alloc,
@@ -80,20 +90,80 @@ impl<'a> Setting<'a> {
             work,
             &slot,
             factor,
-            &mut masses,
+            masses,
         )?;
         release(work);
+        Ok(())
+    }
+
+    /// Writes the masses of the decision's rows in the part of its scope: what the plan of its rows sums to, in small
+    /// cells where they surely hold its numbers, times the totals of the scope's other nodes that the plan lacks.
+    fn put_rows(
+        &self,
+        alloc: Global,
+        plan: &Plan,
+        small: &mut Workspace<SmallGain>,
+        wide: &mut Workspace<Gain>,
+        masses: &mut [u128],
+    ) -> Result<(), AllocError>
+        requires setting { IsSetting self.now.diagram.now self.now.base.now self.now.decision
+            self.now.totals.now self.now.scope }
+        requires planned { IsPlanned self.now.diagram.now.nodes
+            (row_plan self.now.diagram.now.nodes self.now.decision) plan.now }
+        requires ready { (cells : ℕ) × IsReady cells small.old × IsReady cells wide.old
+            × HasAtMost self.now.diagram.now.nodes
+            (row_plan self.now.diagram.now.nodes self.now.decision) cells }
+        requires count { length masses.old
+            ≡ rows_of self.now.diagram.now.nodes self.now.decision }
+        ensures masses { OnOk result (HasMasses self.now.diagram.now self.now.base.now
+            self.now.decision masses.new) }
+        ensures again { OnOk result ((small.new ≡ small.old) × (wide.new ≡ wide.old)) }
+        ensures len { length masses.new ≡ length masses.old }
+    {
+        plans_keep_scopes();
+        let mut left = self.scope.difference(&plan.members());
+        left.remove(self.decision);
+        let factor = product_in(self.totals, &left);
+        if fits_small(self.diagram, self.totals, plan) {
+            self.run_rows(alloc, plan, factor, small, masses)
+        } else {
+            self.run_rows(alloc, plan, factor, wide, masses)
+        }
+    }
+
+    /// The masses of the decision's rows in the part of its scope.
+    fn masses(
+        &self,
+        alloc: Global,
+        plan: &Plan,
+        small: &mut Workspace<SmallGain>,
+        wide: &mut Workspace<Gain>,
+    ) -> Result<Vec<u128>, AllocError>
+        requires setting { IsSetting self.now.diagram.now self.now.base.now self.now.decision
+            self.now.totals.now self.now.scope }
+        requires planned { IsPlanned self.now.diagram.now.nodes
+            (row_plan self.now.diagram.now.nodes self.now.decision) plan.now }
+        requires ready { (cells : ℕ) × IsReady cells small.old × IsReady cells wide.old
+            × HasAtMost self.now.diagram.now.nodes
+            (row_plan self.now.diagram.now.nodes self.now.decision) cells }
+        ensures masses { IfOk result (λ masses.
+            HasMasses self.now.diagram.now self.now.base.now self.now.decision masses.items) }
+        ensures again { OnOk result ((small.new ≡ small.old) × (wide.new ≡ wide.old)) }
+    {
+        let mut masses = vec![in alloc; 0; self.diagram.rows(self.decision)]?;
+        self.put_rows(alloc, plan, small, wide, &mut masses)?;
         Ok(masses)
     }
 
-    /// Adds what one goal gives to each gain: what the goal's plan sums to, times the totals of the scope's nodes that
-    /// the plan lacks.
-    fn add_goal(
+    /// Runs the goal's plan in cells that hold all of its numbers, and adds what it sums to, times the factor, to the
+    /// gains.
+    fn run_goal<C: Number>(
         &self,
         alloc: Global,
         goal: usize,
         plan: &Plan,
-        work: &mut Workspace<Gain>,
+        factor: u128,
+        work: &mut Workspace<C>,
         gains: &mut [i128],
     ) -> Result<(), AllocError>
         requires setting { IsSetting self.now.diagram.now self.now.base.now self.now.decision
@@ -101,9 +171,14 @@ impl<'a> Setting<'a> {
         requires goal { IsGoal self.now.diagram.now.nodes self.now.decision goal }
         requires planned { IsPlanned self.now.diagram.now.nodes
             (gain_plan self.now.diagram.now.nodes self.now.decision goal) plan.now }
+        requires factor { factor ≡ missing_in self.now.diagram.now.nodes self.now.base.now
+            (scope_of self.now.diagram.now.nodes self.now.decision)
+            (gain_plan self.now.diagram.now.nodes self.now.decision goal) }
         requires ready { (cells : ℕ) × IsReady cells work.old
             × HasAtMost self.now.diagram.now.nodes
             (gain_plan self.now.diagram.now.nodes self.now.decision goal) cells }
+        requires fits { 2 * plan_total self.now.diagram.now.nodes self.now.base.now plan.now.plan
+            ≤ C.ring.most }
         requires room { HasRoomFor self.now.diagram.now self.now.decision goal gains.old }
         ensures adds { OnOk result (AddsGoal self.now.diagram.now.nodes self.now.base.now
             self.now.decision goal gains.old gains.new) }
@@ -111,8 +186,6 @@ impl<'a> Setting<'a> {
         ensures len { length gains.new ≡ length gains.old }
     {
         plans_keep_scopes();
-        let left = self.scope.difference(&plan.members());
-        let factor = product_in(self.totals, &left);
         let slot = run_plan(work, plan, self.diagram, self.base);
         add_gains(
             alloc,
@@ -127,12 +200,48 @@ impl<'a> Setting<'a> {
         Ok(())
     }
 
+    /// Adds what one goal gives to each gain: what the goal's plan sums to, in small cells where they surely hold its
+    /// numbers, times the totals of the scope's nodes that the plan lacks.
+    fn add_goal(
+        &self,
+        alloc: Global,
+        goal: usize,
+        plan: &Plan,
+        small: &mut Workspace<SmallGain>,
+        wide: &mut Workspace<Gain>,
+        gains: &mut [i128],
+    ) -> Result<(), AllocError>
+        requires setting { IsSetting self.now.diagram.now self.now.base.now self.now.decision
+            self.now.totals.now self.now.scope }
+        requires goal { IsGoal self.now.diagram.now.nodes self.now.decision goal }
+        requires planned { IsPlanned self.now.diagram.now.nodes
+            (gain_plan self.now.diagram.now.nodes self.now.decision goal) plan.now }
+        requires ready { (cells : ℕ) × IsReady cells small.old × IsReady cells wide.old
+            × HasAtMost self.now.diagram.now.nodes
+            (gain_plan self.now.diagram.now.nodes self.now.decision goal) cells }
+        requires room { HasRoomFor self.now.diagram.now self.now.decision goal gains.old }
+        ensures adds { OnOk result (AddsGoal self.now.diagram.now.nodes self.now.base.now
+            self.now.decision goal gains.old gains.new) }
+        ensures again { OnOk result ((small.new ≡ small.old) × (wide.new ≡ wide.old)) }
+        ensures len { length gains.new ≡ length gains.old }
+    {
+        plans_keep_scopes();
+        let left = self.scope.difference(&plan.members());
+        let factor = product_in(self.totals, &left);
+        if fits_small(self.diagram, self.totals, plan) {
+            self.run_goal(alloc, goal, plan, factor, small, gains)
+        } else {
+            self.run_goal(alloc, goal, plan, factor, wide, gains)
+        }
+    }
+
     /// The gains of the decision's states in the part of its scope: what its goals give, added up.
     fn gains(
         &self,
         alloc: Global,
         plans: &[Plan],
-        work: &mut Workspace<Gain>,
+        small: &mut Workspace<SmallGain>,
+        wide: &mut Workspace<Gain>,
     ) -> Result<Vec<i128>, AllocError>
         requires setting { IsSetting self.now.diagram.now self.now.base.now self.now.decision
             self.now.totals.now self.now.scope }
@@ -140,21 +249,21 @@ impl<'a> Setting<'a> {
             (map (λ u. gain_plan self.now.diagram.now.nodes self.now.decision u)
             (goal_list self.now.diagram.now.nodes self.now.decision))
             plans.now }
-        requires ready { (cells : ℕ) × IsReady cells work.old
+        requires ready { (cells : ℕ) × IsReady cells small.old × IsReady cells wide.old
             × ((u : ℕ) → IsGoal self.now.diagram.now.nodes self.now.decision u
             → HasAtMost self.now.diagram.now.nodes
             (gain_plan self.now.diagram.now.nodes self.now.decision u) cells) }
         ensures gains { IfOk result (λ gains.
             HasGoals self.now.diagram.now.nodes self.now.base.now self.now.decision
             (goals_of self.now.diagram.now.nodes self.now.decision) gains.items) }
-        ensures again { OnOk result (work.new ≡ work.old) }
+        ensures again { OnOk result ((small.new ≡ small.old) × (wide.new ≡ wide.old)) }
     {
         plans_keep_scopes();
         let rows = self.diagram.rows(self.decision);
         let mut gains = vec![in alloc; 0; rows * self.diagram.states(self.decision)]?;
         let goals = list_scope(alloc, self.diagram, &goals_of(self.diagram, self.decision))?;
         for (place, goal) in goals.iter().enumerate() {
-            self.add_goal(alloc, *goal, &plans[place], work, &mut gains)?;
+            self.add_goal(alloc, *goal, &plans[place], small, wide, &mut gains)?;
         }
         Ok(gains)
     }
@@ -164,14 +273,14 @@ impl<'a> Setting<'a> {
         &self,
         alloc: Global,
         plans: &DecisionPlans,
-        masses: &mut Workspace<Mass>,
-        gains: &mut Workspace<Gain>,
+        small: &mut Workspace<SmallGain>,
+        wide: &mut Workspace<Gain>,
     ) -> Result<RowSums, AllocError>
         requires setting { IsSetting self.now.diagram.now self.now.base.now self.now.decision
             self.now.totals.now self.now.scope }
         requires planned { ArePlansOf self.now.diagram.now.nodes self.now.decision plans.now.rows
             plans.now.goals.items }
-        requires ready { (cells : ℕ) × IsReady cells masses.old × IsReady cells gains.old
+        requires ready { (cells : ℕ) × IsReady cells small.old × IsReady cells wide.old
             × HasRoomAt self.now.diagram.now.nodes self.now.decision cells }
         ensures sums { IfOk result (λ sums.
             IsRowSums self.now.diagram.now.nodes self.now.base.now self.now.decision
@@ -179,11 +288,11 @@ impl<'a> Setting<'a> {
         ensures room { IfOk result (λ sums.
             KeepsRoom self.now.diagram.now.nodes self.now.decision sums.gains.items
             sums.masses.items) }
-        ensures again { OnOk result ((masses.new ≡ masses.old) × (gains.new ≡ gains.old)) }
+        ensures again { OnOk result ((small.new ≡ small.old) × (wide.new ≡ wide.old)) }
     {
         plans_sum_scopes();
-        let gains = self.gains(alloc, &plans.goals, gains)?;
-        let masses = self.masses(alloc, &plans.rows, masses)?;
+        let gains = self.gains(alloc, &plans.goals, small, wide)?;
+        let masses = self.masses(alloc, &plans.rows, small, wide)?;
         Ok(RowSums { gains, masses })
     }
 }
@@ -205,10 +314,11 @@ fn most_cells(plans: &DecisionPlans) -> u128
 /// What the states of a decision gain in each row, and the rows' masses, with the profile as base: the sums over the
 /// worlds of the part that the decision's scope makes. A decision's own rule counts in neither.
 ///
-/// It sums by variable elimination: one plan for the rows, and one for each utility of the decision's agent that descends
-/// from the decision. It makes all of them before it runs the first, and reserves two workspaces of as many cells as the
-/// largest has. It may be asked where no such plan has more than 4,194,304 cells, each scope keeps the weight bound, and no
-/// other rule adds up to more than its decision has states, as pure and uniform ones do.
+/// It sums by variable elimination: one plan for the rows, and one for each utility of the decision's agent that
+/// descends from the decision. It makes all of them before it runs the first, and reserves two workspaces, of small and
+/// of wide cells, of as many cells as the largest has. It may be asked where no such plan has more than 4,194,304 cells,
+/// each scope keeps the weight bound, and no other rule adds up to more than its decision has states, as pure and
+/// uniform ones do.
 ///
 /// # Errors
 ///
@@ -232,8 +342,8 @@ pub fn row_sums(
     let totals = list_totals(alloc, diagram, profile)?;
     let plans = plan_decision(alloc, diagram, decision)?;
     let cells = most_cells(&plans) as usize;
-    let mut masses = Workspace::reserve(alloc, cells)?;
-    let mut gains = Workspace::reserve(alloc, cells)?;
+    let mut small = Workspace::reserve(alloc, cells)?;
+    let mut wide = Workspace::reserve(alloc, cells)?;
     let setting = Setting {
         diagram,
         base: profile,
@@ -241,5 +351,5 @@ pub fn row_sums(
         totals: &totals,
         scope: decision_scope(diagram, decision),
     };
-    setting.row_sums(alloc, &plans, &mut masses, &mut gains)
+    setting.row_sums(alloc, &plans, &mut small, &mut wide)
 }

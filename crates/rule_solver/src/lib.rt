@@ -22,6 +22,7 @@ mod decision_sums;
 mod faults;
 mod laws;
 mod limits;
+mod numbers;
 mod odometer;
 mod reading;
 mod rows;
@@ -29,6 +30,7 @@ mod solving;
 #[cfg(test)]
 mod tests;
 mod totals;
+mod widths;
 mod worths;
 
 pub use bases::base_of;

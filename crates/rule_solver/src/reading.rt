@@ -1,7 +1,6 @@
 //! The last table of a plan, read into a decision's gains and masses.
 
 ghost use Rattle.std.specs.Prelude.{◌≡◌, ◌<◌, ◌≤◌, ◌+◌, ◌*◌, ◌*ℤ◌, ◌+ℤ◌, ◌↔◌, ◌∷◌, ℕ, IfOk, OnErr, OnOk, Contains, length, nat_abs, pos, slice_index_or, slice_set};
-ghost use Rattle.cell_rings.specs.Kinds.{gain_kind, mass_kind};
 ghost use Rattle.factor_core.specs.Slots.{IsLive, nodes_in, table_of};
 ghost use Rattle.finite_sums.specs.Sums.{InRange};
 ghost use Rattle.maid_model.specs.Diagrams.{greatest_number};
@@ -9,8 +8,8 @@ ghost use Rattle.maid_model.specs.Nodes.{IsDecision, parents_of, rows_of, states
 ghost use Rattle.node_sets.specs.Sets.{holds, IsIn};
 ghost use Rattle.rule_solver.specs.Reading.{AddsTable, PutsTable, gain_there};
 
+use crate::numbers::Number;
 use crate::odometer::next_over;
-use cell_rings::{Gain, Mass};
 use factor_core::{Slot, Strip, Workspace};
 use maid_model::{Diagram, World};
 use node_sets::NodeSet;
@@ -33,16 +32,16 @@ pub(crate) fn list_scope(
     Ok(nodes)
 }
 
-/// Adds the cell times the factor to the gain at that place.
-fn add_cell(gains: &mut [i128], at: usize, cell: Gain, factor: u128)
+/// Adds the number times the factor to the gain at that place.
+fn add_number(gains: &mut [i128], at: usize, number: i128, factor: u128)
     requires at { at < length gains.old }
     requires factor { factor ≤ greatest_number }
-    requires room { nat_abs (slice_index_or gains.old at (pos 0)) + nat_abs (cell.0 *ℤ pos factor)
+    requires room { nat_abs (slice_index_or gains.old at (pos 0)) + nat_abs (number *ℤ pos factor)
         ≤ greatest_number }
     ensures { gains.new
-        ≡ slice_set gains.old at (slice_index_or gains.old at (pos 0) +ℤ (cell.0 *ℤ pos factor)) }
+        ≡ slice_set gains.old at (slice_index_or gains.old at (pos 0) +ℤ (number *ℤ pos factor)) }
 {
-    gains[at] += cell.0 * factor as i128;
+    gains[at] += number * factor as i128;
 }
 
 /// Adds the cells of a table over the decision and its parents, times the factor, to the decision's gains: one for each
@@ -51,11 +50,11 @@ fn add_cell(gains: &mut [i128], at: usize, cell: Gain, factor: u128)
 /// # Errors
 ///
 /// Where memory ran out the gains are as they were.
-pub(crate) fn add_gains(
+pub(crate) fn add_gains<C: Number>(
     alloc: Global,
     diagram: &Diagram,
     decision: usize,
-    work: &Workspace<Gain>,
+    work: &Workspace<C>,
     slot: &Slot,
     factor: u128,
     gains: &mut [i128],
@@ -69,10 +68,11 @@ pub(crate) fn add_gains(
     requires factor { factor ≤ greatest_number }
     requires room { (q : ℕ → ℕ) → InRange (states_of diagram.now.nodes) q
         → nat_abs (gain_there gains.old diagram.now.nodes decision q)
-        + nat_abs (((table_of gain_kind diagram.now.nodes work.now.cells slot.now).cell q).0
+        + nat_abs (C.number ((table_of C.ring diagram.now.nodes work.now.cells slot.now).cell q)
         *ℤ pos factor) ≤ greatest_number }
     ensures adds { OnOk result (AddsTable diagram.now.nodes decision
-        (table_of gain_kind diagram.now.nodes work.now.cells slot.now) factor gains.old gains.new) }
+        (λ q. C.number ((table_of C.ring diagram.now.nodes work.now.cells slot.now).cell q)) factor
+        gains.old gains.new) }
     ensures stays { OnErr result (gains.new ≡ gains.old) }
     ensures len { length gains.new ≡ length gains.old }
 {
@@ -83,23 +83,32 @@ pub(crate) fn add_gains(
         len: slot.len,
     };
     for cell in work.strip(&strip) {
-        add_cell(gains, world.cell(diagram, decision), *cell, factor);
+        let at = world.cell(diagram, decision);
+        add_number(gains, at, cell.number(), factor);
         next_over(&mut world, diagram, scope.as_slice());
     }
     Ok(())
 }
 
-/// Writes the cells of a table over the decision's parents, times the factor, as the decision's masses, one for each
-/// row. It goes over the cells once, in the order in which they stand.
+/// The mass that a number from 0 on makes: the number times the factor.
+fn mass_of(number: i128, factor: u128) -> u128
+    requires { nat_abs number * factor ≤ greatest_number }
+    ensures { result ≡ nat_abs number * factor }
+{
+    number.unsigned_abs() * factor
+}
+
+/// Writes the cells of a table over the decision's parents, none of them below 0, times the factor, as the decision's
+/// masses, one for each row. It goes over the cells once, in the order in which they stand.
 ///
 /// # Errors
 ///
 /// Where memory ran out the masses are as they were.
-pub(crate) fn put_masses(
+pub(crate) fn put_masses<C: Number>(
     alloc: Global,
     diagram: &Diagram,
     decision: usize,
-    work: &Workspace<Mass>,
+    work: &Workspace<C>,
     slot: &Slot,
     factor: u128,
     masses: &mut [u128],
@@ -110,10 +119,11 @@ pub(crate) fn put_masses(
         ↔ Contains (parents_of diagram.now.nodes decision) v }
     requires masses { length masses.old ≡ rows_of diagram.now.nodes decision }
     requires room { (q : ℕ → ℕ) → InRange (states_of diagram.now.nodes) q
-        → ((table_of mass_kind diagram.now.nodes work.now.cells slot.now).cell q).0 * factor
-        ≤ greatest_number }
+        → nat_abs (C.number ((table_of C.ring diagram.now.nodes work.now.cells slot.now).cell q))
+        * factor ≤ greatest_number }
     ensures puts { OnOk result (PutsTable diagram.now.nodes decision
-        (table_of mass_kind diagram.now.nodes work.now.cells slot.now) factor masses.new) }
+        (λ q. C.number ((table_of C.ring diagram.now.nodes work.now.cells slot.now).cell q)) factor
+        masses.new) }
     ensures stays { OnErr result (masses.new ≡ masses.old) }
     ensures len { length masses.new ≡ length masses.old }
 {
@@ -124,7 +134,8 @@ pub(crate) fn put_masses(
         len: slot.len,
     };
     for cell in work.strip(&strip) {
-        masses[world.row(diagram, decision)] = cell.0 * factor;
+        let mass = mass_of(cell.number(), factor);
+        masses[world.row(diagram, decision)] = mass;
         next_over(&mut world, diagram, scope.as_slice());
     }
     Ok(())

@@ -47,19 +47,19 @@ fn solve_along(
 {
     scoped_sums_fit();
     let cells = run.size.cells as usize;
-    let mut mass_space = Workspace::reserve(alloc, cells)?;
-    let mut gain_space = Workspace::reserve(alloc, cells)?;
+    let mut small = Workspace::reserve(alloc, cells)?;
+    let mut wide = Workspace::reserve(alloc, cells)?;
     let answers = answer_all(
         alloc,
         diagram,
         relevance,
         order,
         &run.decisions,
-        &mut mass_space,
-        &mut gain_space,
+        &mut small,
+        &mut wide,
     )?;
     let profile = Profile::pure(alloc, diagram, &answers)?;
-    let gains = expected_in(alloc, diagram, &profile, &mut gain_space)?;
+    let gains = expected_in(alloc, diagram, &profile, &mut small, &mut wide)?;
     Ok(Solved {
         order: Vec::from_slice(alloc, order)?,
         answers,
@@ -91,7 +91,7 @@ fn solve_ordered(
 /// It takes the relevance graph, and sums by variable elimination: one plan for each decision's rows, one for each
 /// decision and each utility of its agent that descends from it, and one for each utility. Their work is what
 /// `size_precheck::measure` counts. The plans of the decisions are made once, and kept until they are run; two workspaces
-/// are reserved once, with the most cells of a plan.
+/// are reserved once, of small and of wide cells, with the most cells of a plan.
 ///
 /// # Errors
 ///

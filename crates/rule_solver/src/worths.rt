@@ -1,6 +1,7 @@
 //! What a plan is worth to each agent, as reduced fractions.
 
-ghost use Rattle.std.specs.Prelude.{◌≡◌, ◌<◌, ◌≤◌, ◌^◌, ℕ, true, IfOk, OnOk, length, nat_abs};
+ghost use Rattle.std.specs.Prelude.{◌≡◌, ◌<◌, ◌≤◌, ◌*◌, ◌^◌, ℕ, true, IfOk, OnOk, length, nat_abs};
+ghost use Rattle.eliminate.specs.Results.{plan_total};
 ghost use Rattle.maid_model.specs.declared.limits.TheConstants.{MOST_PLAN_CELLS};
 ghost use Rattle.maid_model.specs.declared.diagrams.Kind.TheVariants.{Utility};
 ghost use Rattle.maid_model.specs.Answers.{IsExpectedUtility};
@@ -10,20 +11,24 @@ ghost use Rattle.maid_model.specs.Profiles.{IsProfile};
 ghost use Rattle.maid_model.specs.Scopes.{KeepsScopedBounds};
 ghost use Rattle.part_laws.specs.ScopeLaws.{HasUnitRules};
 ghost use Rattle.plan_sums.specs.Plans.{worth_plan};
+ghost use Rattle.size_precheck.specs.Sizes.{IsPlanned};
 ghost use Rattle.rule_solver.specs.Masses.{HasGains};
 ghost use Rattle.rule_solver.specs.Rooms.{HasAtMost, HasRoomForWorths, IsReady};
+ghost use Rattle.rule_solver.specs.Totals.{HasTotals};
 ghost use Rattle.rule_solver.specs.Worths.{HasWorths, IsLeastRoom, IsStake, IsWorth, gain_given, scope_gain_for};
 
+use crate::numbers::Number;
 use crate::rows::fraction;
 use crate::totals::{list_totals, product_in};
-use cell_rings::Gain;
+use crate::widths::fits_small;
+use cell_rings::{Gain, SmallGain};
 use eliminate::{release, run_plan};
 use factor_core::Workspace;
 use maid_model::{Diagram, Kind, Profile, Ratio, descent_is_tested};
 use node_sets::{NodeSet, ancestors};
 use part_laws::{parts_decide, scopes_are_parts};
 use scope_sums::{plans_keep_scopes, plans_sum_scopes};
-use size_precheck::{greedy_orders, plan_worth};
+use size_precheck::{Plan, greedy_orders, plan_worth};
 use std::alloc::{AllocError, Global};
 use weight_scale::agent_scope;
 
@@ -35,13 +40,37 @@ pub(crate) fn scale(diagram: &Diagram) -> u128
     10u128.pow(diagram.decimals())
 }
 
-/// What the utility's plan sums to.
+/// Runs a plan that keeps no node, in cells that hold all of its numbers, and gives what it sums to.
+fn run_worth<C: Number>(
+    diagram: &Diagram,
+    profile: &Profile,
+    utility: usize,
+    plan: &Plan,
+    work: &mut Workspace<C>,
+) -> i128
+    requires profile { IsProfile diagram.now.nodes profile.now }
+    requires planned { IsPlanned diagram.now.nodes (worth_plan utility) plan.now }
+    requires ready { (cells : ℕ) × IsReady cells work.old
+        × HasAtMost diagram.now.nodes (worth_plan utility) cells }
+    requires fits { 2 * plan_total diagram.now.nodes profile.now plan.now.plan ≤ C.ring.most }
+    ensures worth { IsWorth diagram.now.nodes profile.now utility result }
+    ensures again { work.new ≡ work.old }
+{
+    let slot = run_plan(work, plan, diagram, profile);
+    let worth = work.at(diagram, &slot, &[]);
+    release(work);
+    worth.number()
+}
+
+/// What the utility's plan sums to, in the smaller cells where they surely hold its numbers.
 fn worth(
     alloc: Global,
     diagram: &Diagram,
     profile: &Profile,
+    totals: &[u128],
     utility: usize,
-    work: &mut Workspace<Gain>,
+    small: &mut Workspace<SmallGain>,
+    wide: &mut Workspace<Gain>,
 ) -> Result<i128, AllocError>
     requires diagram { IsDiagram diagram.now }
     requires within { utility < length diagram.now.nodes }
@@ -49,17 +78,19 @@ fn worth(
     requires profile { IsProfile diagram.now.nodes profile.now }
     requires rules { HasUnitRules diagram.now.nodes profile.now }
     requires bound { KeepsScopedBounds diagram.now }
-    requires ready { (cells : ℕ) × IsReady cells work.old
+    requires totals { HasTotals diagram.now.nodes profile.now totals.now }
+    requires ready { (cells : ℕ) × IsReady cells small.old × IsReady cells wide.old
         × HasAtMost diagram.now.nodes (worth_plan utility) cells }
     ensures worth { IfOk result (IsWorth diagram.now.nodes profile.now utility) }
-    ensures again { OnOk result (work.new ≡ work.old) }
+    ensures again { OnOk result ((small.new ≡ small.old) × (wide.new ≡ wide.old)) }
 {
     plans_keep_scopes();
     let plan = plan_worth(alloc, diagram, utility)?;
-    let slot = run_plan(work, &plan, diagram, profile);
-    let worth = work.at(diagram, &slot, &[]);
-    release(work);
-    Ok(worth.0)
+    if fits_small(diagram, totals, &plan) {
+        Ok(run_worth(diagram, profile, utility, &plan, small))
+    } else {
+        Ok(run_worth(diagram, profile, utility, &plan, wide))
+    }
 }
 
 /// The worth of a utility, and 0 at another node.
@@ -67,22 +98,25 @@ fn worth_or_none(
     alloc: Global,
     diagram: &Diagram,
     profile: &Profile,
+    totals: &[u128],
     v: usize,
-    work: &mut Workspace<Gain>,
+    small: &mut Workspace<SmallGain>,
+    wide: &mut Workspace<Gain>,
 ) -> Result<i128, AllocError>
     requires within { v < length diagram.now.nodes }
     requires profile { IsProfile diagram.now.nodes profile.now }
     requires rules { HasUnitRules diagram.now.nodes profile.now }
     requires bound { KeepsScopedBounds diagram.now }
-    requires ready { (cells : ℕ) × IsReady cells work.old
+    requires totals { HasTotals diagram.now.nodes profile.now totals.now }
+    requires ready { (cells : ℕ) × IsReady cells small.old × IsReady cells wide.old
         × HasRoomForWorths diagram.now.nodes cells }
     ensures worth { IfOk result (λ worth.
         (node_at diagram.now.nodes v).kind ≡ Utility
         → IsWorth diagram.now.nodes profile.now v worth) }
-    ensures again { OnOk result (work.new ≡ work.old) }
+    ensures again { OnOk result ((small.new ≡ small.old) × (wide.new ≡ wide.old)) }
 {
     match diagram.kind(v) {
-        Kind::Utility => worth(alloc, diagram, profile, v, work),
+        Kind::Utility => worth(alloc, diagram, profile, totals, v, small, wide),
         Kind::Chance | Kind::Decision => Ok(0),
     }
 }
@@ -92,19 +126,23 @@ fn list_worths(
     alloc: Global,
     diagram: &Diagram,
     profile: &Profile,
-    work: &mut Workspace<Gain>,
+    totals: &[u128],
+    small: &mut Workspace<SmallGain>,
+    wide: &mut Workspace<Gain>,
 ) -> Result<Vec<i128>, AllocError>
     requires profile { IsProfile diagram.now.nodes profile.now }
     requires rules { HasUnitRules diagram.now.nodes profile.now }
     requires bound { KeepsScopedBounds diagram.now }
-    requires ready { (cells : ℕ) × IsReady cells work.old
+    requires totals { HasTotals diagram.now.nodes profile.now totals.now }
+    requires ready { (cells : ℕ) × IsReady cells small.old × IsReady cells wide.old
         × HasRoomForWorths diagram.now.nodes cells }
     ensures worths { IfOk result (λ worths. HasWorths diagram.now.nodes profile.now worths.items) }
-    ensures again { OnOk result (work.new ≡ work.old) }
+    ensures again { OnOk result ((small.new ≡ small.old) × (wide.new ≡ wide.old)) }
 {
     let mut worths = Vec::with_capacity(alloc, diagram.count())?;
     for v in 0..diagram.count() {
-        worths.push(worth_or_none(alloc, diagram, profile, v, work)?)?;
+        let worth = worth_or_none(alloc, diagram, profile, totals, v, small, wide)?;
+        worths.push(worth)?;
     }
     Ok(worths)
 }
@@ -196,17 +234,18 @@ pub(crate) fn expected_in(
     alloc: Global,
     diagram: &Diagram,
     profile: &Profile,
-    work: &mut Workspace<Gain>,
+    small: &mut Workspace<SmallGain>,
+    wide: &mut Workspace<Gain>,
 ) -> Result<Vec<Ratio>, AllocError>
     requires bound { KeepsScopedBounds diagram.now }
     requires profile { IsProfile diagram.now.nodes profile.now }
     requires pure { HasUnitRules diagram.now.nodes profile.now }
-    requires ready { (cells : ℕ) × IsReady cells work.old
+    requires ready { (cells : ℕ) × IsReady cells small.old × IsReady cells wide.old
         × HasRoomForWorths diagram.now.nodes cells }
     ensures gains { IfOk result (λ v. HasGains diagram.now profile.now diagram.now.agents v.items) }
 {
     let totals = list_totals(alloc, diagram, profile)?;
-    let worths = list_worths(alloc, diagram, profile, work)?;
+    let worths = list_worths(alloc, diagram, profile, &totals, small, wide)?;
     let mut gains = Vec::with_capacity(alloc, diagram.agents())?;
     for agent in 0..diagram.agents() {
         let stake = Stake {
@@ -260,9 +299,9 @@ fn most_worth_cells(alloc: Global, diagram: &Diagram) -> Result<usize, AllocErro
 /// what its utilities' plans give, each times the totals of those nodes of the agent's scope that the plan lacks; its
 /// expected utility is the gain over the product of the scope's totals and ten to the power of the decimals.
 ///
-/// It makes each utility's plan twice, once for its size and once to run it, and reserves a workspace of as many cells as
-/// the largest of them has. It may be asked where each scope keeps the weight bound, and where no such plan has more than
-/// 4,194,304 cells.
+/// It makes each utility's plan twice, once for its size and once to run it, and reserves two workspaces, of small and
+/// of wide cells, of as many cells as the largest of them has. It may be asked where each scope keeps the weight bound,
+/// and where no such plan has more than 4,194,304 cells.
 ///
 /// # Errors
 ///
@@ -279,6 +318,7 @@ pub fn expected(
     ensures gains { IfOk result (λ v. HasGains diagram.now profile.now diagram.now.agents v.items) }
 {
     let cells = most_worth_cells(alloc, diagram)?;
-    let mut work = Workspace::reserve(alloc, cells)?;
-    expected_in(alloc, diagram, profile, &mut work)
+    let mut small = Workspace::reserve(alloc, cells)?;
+    let mut wide = Workspace::reserve(alloc, cells)?;
+    expected_in(alloc, diagram, profile, &mut small, &mut wide)
 }

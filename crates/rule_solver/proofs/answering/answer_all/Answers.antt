@@ -1,6 +1,6 @@
 use Rattle.std.proofs.Common.{rules, arith, ◌<◌, length, ◌∙◌, ◌+◌, Contains, sym, subst, take, slice_index}
 use Rattle.cell_rings.specs.declared.gains.Gain.{Gain}
-use Rattle.cell_rings.specs.declared.masses.Mass.{Mass}
+use Rattle.cell_rings.specs.declared.small_gains.SmallGain.{SmallGain}
 use Rattle.factor_core.specs.Slots.{WorkspaceView}
 use Rattle.maid_model.specs.Answers.{IsBase, pure_profile}
 use Rattle.maid_model.specs.Graph.{AllDifferent}
@@ -33,7 +33,7 @@ answer_decision-requires-clause-rules c e is apart = c.in_ok-base.ensures.room e
 pub answer_decision-requires-clause-ready : goal.answer_decision-requires-clause-ready
 answer_decision-requires-clause-ready c = (
   c.requires.ready.0,
-  subst (λ (w : WorkspaceView Mass). IsReady c.requires.ready.0 w) (sym c.loop-place.invariant.1) c.requires.ready.1,
+  subst (λ (w : WorkspaceView SmallGain). IsReady c.requires.ready.0 w) (sym c.loop-place.invariant.1) c.requires.ready.1,
   subst (λ (w : WorkspaceView Gain). IsReady c.requires.ready.0 w) (sym c.loop-place.invariant.2) c.requires.ready.2,
   c.requires.ready.3 (slice_index c.args.order.now c.loop-place.place) (placed_decision c.args.diagram.now.nodes c.args.order.now c.requires.order c.loop-place.place c.loop-place-test.true),
 )

@@ -1,7 +1,7 @@
 use Rattle.std.proofs.Common.{◌≤◌, ap, arith, subst, sym}
 use Rattle.rule_solver.specs.Totals.{HasTotals}
 use Rattle.cell_rings.specs.declared.gains.Gain.{Gain}
-use Rattle.cell_rings.specs.declared.masses.Mass.{Mass}
+use Rattle.cell_rings.specs.declared.small_gains.SmallGain.{SmallGain}
 use Rattle.factor_core.specs.Slots.{WorkspaceView}
 use Rattle.maid_model.specs.declared.limits.TheConstants.{MOST_PLAN_CELLS}
 use Rattle.rule_solver.proofs.GoalPlans.{kept_room, room_kept}
@@ -39,7 +39,7 @@ row_sums-requires-clause-ready c =
     let both = room_kept nodes graph c.args.decision c.requires.decision plans.rows plans.goals.items c.in_ok-plans.ensures MOST_PLAN_CELLS c.requires.room in
     let few : c.most_cells-cells.result ≤ MOST_PLAN_CELLS = c.most_cells-cells.ensures.least MOST_PLAN_CELLS both.0 both.1 in (
       c.most_cells-cells.result,
-      record { empty = ap (λ (w : WorkspaceView Mass). w.cells) c.in_ok-masses.ensures; spare = ap (λ (w : WorkspaceView Mass). w.spare) c.in_ok-masses.ensures; limit = few },
-      record { empty = ap (λ (w : WorkspaceView Gain). w.cells) c.in_ok-gains.ensures; spare = ap (λ (w : WorkspaceView Gain). w.spare) c.in_ok-gains.ensures; limit = few },
+      record { empty = ap (λ (w : WorkspaceView SmallGain). w.cells) c.in_ok-small.ensures; spare = ap (λ (w : WorkspaceView SmallGain). w.spare) c.in_ok-small.ensures; limit = few },
+      record { empty = ap (λ (w : WorkspaceView Gain). w.cells) c.in_ok-wide.ensures; spare = ap (λ (w : WorkspaceView Gain). w.spare) c.in_ok-wide.ensures; limit = few },
       kept_room nodes graph c.args.decision c.requires.decision plans.rows plans.goals.items c.in_ok-plans.ensures c.greedy_orders.ensures.one c.most_cells-cells.result c.most_cells-cells.ensures.rows c.most_cells-cells.ensures.goals,
     )

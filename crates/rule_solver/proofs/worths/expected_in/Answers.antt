@@ -16,8 +16,8 @@ expected-requires c =
         profile = c.requires.profile;
         rules = c.requires.pure;
         bound = c.requires.bound.agents c.loop-agent.agent within;
-        has_totals = subst (HasTotals d.nodes c.args.profile.now) (sym c.deref.ensures.value) c.in_ok-totals.ensures.totals;
-        has_worths = subst (HasWorths d.nodes c.args.profile.now) (sym c.deref-in-loop-agent.ensures.value) c.in_ok-worths.ensures.worths;
+        has_totals = subst (HasTotals d.nodes c.args.profile.now) (sym c.deref-in-loop-agent.ensures.value) c.in_ok-totals.ensures.totals;
+        has_worths = subst (HasWorths d.nodes c.args.profile.now) (sym c.deref-in-loop-agent-2.ensures.value) c.in_ok-worths.ensures.worths;
         is_scope = c.agent_scope.ensures;
       };
     }

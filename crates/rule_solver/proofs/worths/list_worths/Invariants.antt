@@ -4,9 +4,10 @@ use Rattle.maid_model.specs.Nodes.{node_at}
 use Rattle.rule_solver.specs.Worths.{IsWorth}
 use Rattle.rule_solver.proofs.worths.list_worths.Given as goal
 
--- the worths so far; the workspace is empty again
+-- the worths so far; the workspaces are empty again
 abbrev pub invariant-loop-v : goal.invariant-loop-v
 invariant-loop-v l =
     (length l.worths.items ≡ l.v)
     × ((u : ℕ) → u < l.v → (node_at l.diagram.nodes u).kind ≡ Utility → IsWorth l.diagram.nodes l.profile u (slice_index_or l.worths.items u (pos 0)))
-    × (l.work ≡ l.fn.work)
+    × (l.small ≡ l.fn.small)
+    × (l.wide ≡ l.fn.wide)

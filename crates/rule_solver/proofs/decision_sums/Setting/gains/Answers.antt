@@ -1,6 +1,7 @@
 -- Goal after goal gives its part of the gains.
 use Rattle.std.proofs.Common.{rules, ◌≡◌, ◌∙◌, ℕ, ◌+◌, ◌<◌, List, length, take, slice_index, sym, ap, subst, arith, ℤ}
 use Rattle.cell_rings.specs.declared.gains.Gain.{Gain}
+use Rattle.cell_rings.specs.declared.small_gains.SmallGain.{SmallGain}
 use Rattle.factor_core.specs.Slots.{WorkspaceView}
 use Rattle.maid_model.specs.Relevance.{IsGoal}
 use Rattle.maid_model.specs.Scopes.{goals_of}
@@ -29,9 +30,10 @@ add_goal-requires-clause-ready c =
     let list : c.deref-goal-items.result.now ≡ goals_of nodes c.args.self.now.decision = c.deref-goal-items.ensures.value ∙ c.in_ok-goals.ensures ∙ goals_listed nodes s.is_diagram.graph c.args.self.now.decision s.is_decision c.goals_of.result c.goals_of.ensures in
     let inside : c.loop-place.place < length (goals_of nodes c.args.self.now.decision) = subst (λ (l : List ℕ). c.loop-place.place < length l) list c.loop-place-test.true in (
       c.requires.ready.0,
-      subst (λ (w : WorkspaceView Gain). IsReady c.requires.ready.0 w) (sym c.loop-place.invariant.1) c.requires.ready.1,
+      subst (λ (w : WorkspaceView SmallGain). IsReady c.requires.ready.0 w) (sym c.loop-place.invariant.1) c.requires.ready.1,
+      subst (λ (w : WorkspaceView Gain). IsReady c.requires.ready.0 w) (sym c.loop-place.invariant.2) c.requires.ready.2,
       subst (λ (l : List ℕ). HasAtMost nodes (gain_plan nodes c.args.self.now.decision (slice_index l c.loop-place.place)) c.requires.ready.0) (sym list)
-          (c.requires.ready.2 (slice_index (goals_of nodes c.args.self.now.decision) c.loop-place.place) (goal_at nodes s.is_diagram.graph c.args.self.now.decision s.is_decision c.loop-place.place inside)),
+          (c.requires.ready.3 (slice_index (goals_of nodes c.args.self.now.decision) c.loop-place.place) (goal_at nodes s.is_diagram.graph c.args.self.now.decision s.is_decision c.loop-place.place inside)),
     )
 
 pub add_goal-requires-clause-room : goal.add_goal-requires-clause-room
@@ -62,7 +64,8 @@ loop-place-preserved c =
           (goal_more d.nodes p c.args.self.now.decision c.loop-place.place c.loop-place.gains.items c.add_goal.new.gains inside
           (part_small d p c.args.self.now.decision c.args.self.now.totals.now c.args.self.now.scope s c.plans_keep_scopes.ensures.decisions c.plans_keep_scopes.ensures.positive (slice_index (goals_of d.nodes c.args.self.now.decision) c.loop-place.place) (goal_at d.nodes s.is_diagram.graph c.args.self.now.decision s.is_decision c.loop-place.place inside))
           c.loop-place.invariant.0 adds),
-      c.in_ok-add_goal.ensures.again ∙ c.loop-place.invariant.1,
+      c.in_ok-add_goal.ensures.again.0 ∙ c.loop-place.invariant.1,
+      c.in_ok-add_goal.ensures.again.1 ∙ c.loop-place.invariant.2,
     )
 
 pub returns-clause-gains : goal.returns-clause-gains
