@@ -6,6 +6,7 @@ mod bases;
 mod checking;
 mod counting;
 mod decisions;
+mod endings;
 mod gains;
 mod laws;
 mod orders;
