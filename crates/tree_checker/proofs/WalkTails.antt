@@ -1,23 +1,25 @@
 -- The utilities at the end of a walk: what one world adds with them.
 use Rattle.std.proofs.Common.{◌≡◌, ◌∙◌, ℕ, zero, suc, ◌+◌, ◌*◌, ◌<◌, ◌≤◌, cond, eqb, List, [], ◌∷◌, ◌++◌, length, drop, refl, sym, ap, subst, arith, ℤ, pos, ◌+ℤ◌, ◌*ℤ◌, nat_abs, slice_index, slice_index_or}
-use Rattle.std.proofs.lemmas.List.{drop_more}
+use Rattle.std.specs.Prelude.{Vec}
+use Rattle.std.specs.declared.alloc.Global.{Global}
+use Rattle.diagram_graph.specs.Cycles.{lists_in}
+use Rattle.std.proofs.lemmas.List.{drop_more, length-map}
 use Rattle.std.proofs.Math.IntN.{+ℤ_assoc}
 use Rattle.std.proofs.Math.Nat.{mul-le-mul_left, mul-le-mul_right}
 use Rattle.finite_sums.proofs.Ints.{mul_one}
 use Rattle.finite_sums.specs.Sums.{nat_product_over, sum_each}
-use Rattle.maid_model.specs.declared.diagrams.Kind.{Kind}
-use Rattle.maid_model.specs.declared.diagrams.Kind.TheVariants.{Chance, Decision, Utility}
+use Rattle.maid_model.specs.declared.diagrams.Kind.TheVariants.{Utility}
 use Rattle.maid_model.specs.Diagrams.{IsDiagram, greatest_number}
 use Rattle.maid_model.specs.Gains.{base_total, greatest_utility}
-use Rattle.maid_model.specs.Nodes.{counts_of, node_at}
+use Rattle.maid_model.specs.Nodes.{counts_of, node_at, rows_of, states_of}
 use Rattle.maid_model.specs.Private.{MarksUtilities, marked_value}
 use Rattle.maid_model.specs.Profiles.{IsProfile}
-use Rattle.maid_model.specs.Tables.{cell_of, table_by, weights_of}
+use Rattle.maid_model.specs.Tables.{cell_of}
 use Rattle.maid_model.specs.Views.{DiagramView, NodeView, RuleView}
 use Rattle.maid_model.specs.Worlds.{IsWorld, world_of}
 use Rattle.maid_model.proofs.Weighing.{base_positive, product_positive}
 use Rattle.node_sets.specs.declared.sets.NodeSet.{NodeSet}
-use Rattle.tree_checker.specs.Walks.{AreUtilities, HasRoom, HasRoomAt, IsDownward, factor_at, factor_by, gain_with, mass_with, world_gain, world_mass}
+use Rattle.tree_checker.specs.Walks.{AreUtilities, HasRoom, HasRoomAt, HoldsFactors, IsDownward, factor_at, gain_with, mass_with, world_gain, world_mass}
 use Rattle.tree_checker.proofs.WalkSteps.{utility_gain, utility_mass, utility_room}
 
 -- ---- where the tail begins
@@ -45,14 +47,16 @@ pub down_after : (nodes : List NodeView) (order tail : List ℕ) → IsDownward 
 down_after nodes [] tail h = h
 down_after nodes (v ∷ vs) tail h = down_after nodes vs tail h.2
 
--- ---- a node's factor, by the weights of its rule
-pub factor_told : (nodes : List NodeView) (p : List RuleView) (weights : List ℕ) (out v cell : ℕ) → ((node_at nodes v).kind ≡ Decision → weights ≡ weights_of p v) → factor_by nodes weights out v cell ≡ factor_at nodes p out v cell
-factor_told nodes p weights out v cell h = ap (λ z. cond (eqb v out) (pos 1) z) (go (node_at nodes v).kind h)
-  where
-    go : (k : Kind) → (k ≡ Decision → weights ≡ weights_of p v) → table_by k (node_at nodes v).cells weights cell ≡ table_by k (node_at nodes v).cells (weights_of p v) cell
-    go Chance h = refl
-    go Decision h = ap (λ ws. pos (slice_index ws cell)) (h refl)
-    go Utility h = refl
+-- ---- the listed factors
+module _ (nodes : List NodeView) (p : List RuleView) (out : ℕ) (factors : List (Vec ℕ Global)) (h : HoldsFactors nodes p out (lists_in factors)) (v : ℕ) (inside : v < length nodes) where
+  pub factors_node : v < length factors
+  factors_node = subst (λ n. v < n) (sym h.count ∙ length-map factors (λ (row : Vec ℕ Global). row.items)) inside
+
+  pub factors_cell : (cell : ℕ) → cell < rows_of nodes v * states_of nodes v → cell < length (slice_index_or (lists_in factors) v [])
+  factors_cell cell l = subst (λ n. cell < n) (sym (h.lists_each v inside).count) l
+
+  pub factor_held : (cell : ℕ) → cell < rows_of nodes v * states_of nodes v → (t : ℕ) → t ≡ slice_index (slice_index_or (lists_in factors) v []) cell → pos t ≡ factor_at nodes p out v cell
+  factor_held cell l t e = ap pos e ∙ (h.lists_each v inside).factor cell l
 
 -- ---- what one world adds
 module _ (d : DiagramView) (is : IsDiagram d) (p : List RuleView) (prof : IsProfile d.nodes p) (out : ℕ) (marks : NodeSet) (utilities : MarksUtilities d.nodes marks) where

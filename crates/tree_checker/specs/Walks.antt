@@ -25,6 +25,16 @@ factor_at nodes p d v cell = if v == d then pos 1 else table_by (node_at nodes v
 abbrev pub factor_by : List NodeView → List ℕ → ℕ → ℕ → ℕ → ℤ
 factor_by nodes weights d v cell = if v == d then pos 1 else table_by (node_at nodes v).kind (node_at nodes v).cells weights cell
 
+-- v's factor at each of its cells
+pub record ListsFactors (nodes : List NodeView) (p : List RuleView) (d v : ℕ) (list : List ℕ) : Type 0 where
+  pub count : length list ≡ rows_of nodes v * states_of nodes v
+  pub factor : (c : ℕ) → c < rows_of nodes v * states_of nodes v → pos (slice_index list c) ≡ factor_at nodes p d v c
+
+-- the factors of each node
+pub record HoldsFactors (nodes : List NodeView) (p : List RuleView) (d : ℕ) (lists : List (List ℕ)) : Type 0 where
+  pub count : length lists ≡ length nodes
+  pub lists_each : (v : ℕ) → v < length nodes → ListsFactors nodes p d v (slice_index_or lists v [])
+
 -- the cell of the row in v, if v is marked
 abbrev pub value_at : List NodeView → NodeSet → ℕ → ℕ → ℤ
 value_at nodes marks v row = if holds marks v then slice_index_or (node_at nodes v).cells row (pos 0) else pos 0

@@ -7,6 +7,7 @@ mod checking;
 mod counting;
 mod decisions;
 mod endings;
+mod factors;
 mod gains;
 mod laws;
 mod orders;

@@ -1,19 +1,19 @@
 //! Sums over worlds by a walk down the nodes, parents first: products and sums are carried from node to node.
 
 ghost use Rattle.std.specs.Prelude.{◌≡◌, ℕ, ◌*◌, ◌^◌, ◌<◌, ◌≤◌, ◌++◌, drop, max, IfOk, length, pos, ◌+ℤ◌, slice_index, slice_index_or, slice_set};
-ghost use Rattle.maid_model.specs.declared.diagrams.Kind.TheVariants.{Decision};
+ghost use Rattle.diagram_graph.specs.Cycles.{lists_in};
 ghost use Rattle.maid_model.specs.Diagrams.{IsDiagram, greatest_number};
 ghost use Rattle.maid_model.specs.Gains.{base_mass, greatest_utility};
-ghost use Rattle.maid_model.specs.Nodes.{counts_of, node_at, rows_of, states_of};
+ghost use Rattle.maid_model.specs.Nodes.{counts_of, rows_of, states_of};
 ghost use Rattle.maid_model.specs.Private.{MarksUtilities};
 ghost use Rattle.maid_model.specs.Profiles.{IsProfile};
-ghost use Rattle.maid_model.specs.Tables.{weights_of};
 ghost use Rattle.maid_model.specs.Worlds.{IsWorld, world_of};
-ghost use Rattle.tree_checker.specs.Walks.{AreUtilities, HasRoom, IsDownward, ListsCells, factor_by, gain_with, mass_with};
+ghost use Rattle.tree_checker.specs.Walks.{AreUtilities, HasRoom, HoldsFactors, IsDownward, ListsCells, gain_with, mass_with};
 
 use crate::endings::{add_world, value};
+use crate::factors::{all_factors, factor};
 use diagram_graph::topological;
-use maid_model::{Diagram, Kind, Profile, World, profile_has_rules};
+use maid_model::{Diagram, Kind, Profile, World};
 use node_sets::NodeSet;
 use std::alloc::{AllocError, Global};
 
@@ -25,43 +25,6 @@ fn set_state(world: &mut World, v: usize, state: usize)
     world.states[v] = state;
 }
 
-/// The weights of the decision's rule; none at other nodes.
-fn weights_at<'a>(diagram: &Diagram, profile: &'a Profile, v: usize) -> &'a [u128]
-    requires node { v < length diagram.now.nodes }
-    requires profile { IsProfile diagram.now.nodes profile.now }
-    ensures weights { (node_at diagram.now.nodes v).kind ≡ Decision
-        → result.now ≡ weights_of profile.now v }
-    ensures count { (node_at diagram.now.nodes v).kind ≡ Decision
-        → length result.now ≡ rows_of diagram.now.nodes v * states_of diagram.now.nodes v }
-{
-    // A profile has a rule for each decision.
-    profile_has_rules();
-    match diagram.kind(v) {
-        Kind::Decision => &profile.rule(v).weights,
-        Kind::Chance | Kind::Utility => &[],
-    }
-}
-
-/// The node's factor in the weight of the worlds that pick this cell: the chance cell or the rule's weight, and 1 at a
-/// utility and at the decision that is left out.
-fn factor(diagram: &Diagram, weights: &[u128], left_out: usize, v: usize, cell: usize) -> u128
-    requires node { v < length diagram.now.nodes }
-    requires cell { cell < rows_of diagram.now.nodes v * states_of diagram.now.nodes v }
-    requires weights { (node_at diagram.now.nodes v).kind ≡ Decision
-        → length weights.now ≡ rows_of diagram.now.nodes v * states_of diagram.now.nodes v }
-    ensures { pos result ≡ factor_by diagram.now.nodes weights.now left_out v cell }
-{
-    let kind = diagram.kind(v);
-    if v == left_out {
-        return 1;
-    }
-    match kind {
-        Kind::Utility => 1,
-        Kind::Chance => diagram.cells(v)[cell] as u128,
-        Kind::Decision => weights[cell],
-    }
-}
-
 /// Adds to each cell what the worlds with other states of the listed nodes have there: to `gains` the weights times
 /// the marked utilities, and to `masses` the weights. After the nodes of the order come the utilities of the tail. It
 /// goes once through the states of a node of the order for each choice of states of those before that has some weight,
@@ -69,6 +32,7 @@ fn factor(diagram: &Diagram, weights: &[u128], left_out: usize, v: usize, cell: 
 fn walk(
     diagram: &Diagram,
     profile: &Profile,
+    factors: &[Vec<u128>],
     marks: &NodeSet,
     left_out: usize,
     order: &[usize],
@@ -81,6 +45,8 @@ fn walk(
 )
     requires diagram { IsDiagram diagram.now }
     requires profile { IsProfile diagram.now.nodes profile.now }
+    requires factors { HoldsFactors diagram.now.nodes profile.now left_out
+        (lists_in factors.now) }
     requires marks { MarksUtilities diagram.now.nodes marks.now }
     requires decision { left_out ≤ length diagram.now.nodes }
     requires order { IsDownward diagram.now.nodes (order.now ++ tail.now) }
@@ -112,16 +78,15 @@ fn walk(
             let sum = utility + value(diagram, marks, *v, row);
             if let Kind::Utility = diagram.kind(*v) {
                 walk(
-                    diagram, profile, marks, left_out, rest, tail, world, product, sum, gains,
-                    masses,
+                    diagram, profile, factors, marks, left_out, rest, tail, world, product, sum,
+                    gains, masses,
                 );
                 return;
             }
-            let weights = weights_at(diagram, profile, *v);
             let before = world.states[*v];
             let first = row * states;
             for s in 0..states {
-                let more = product * factor(diagram, weights, left_out, *v, first + s);
+                let more = product * factor(factors, *v, first + s);
                 if more > 0 {
                     set_state(world, *v, s);
                     if rest.is_empty() {
@@ -130,8 +95,8 @@ fn walk(
                         );
                     } else {
                         walk(
-                            diagram, profile, marks, left_out, rest, tail, world, more, sum, gains,
-                            masses,
+                            diagram, profile, factors, marks, left_out, rest, tail, world, more,
+                            sum, gains, masses,
                         );
                     }
                 }
@@ -202,11 +167,13 @@ pub(crate) fn cells_over(
     let mut gains = vec![in alloc; 0; count]?;
     let mut masses = vec![in alloc; 0; count]?;
     let mut world = World::first(alloc, diagram)?;
+    let factors = all_factors(alloc, diagram, profile, left_out)?;
     let nodes = topological(alloc, diagram)?;
     let (order, tail) = nodes.split_at(weighed(diagram, &nodes));
     walk(
         diagram,
         profile,
+        &factors,
         marks,
         left_out,
         order,

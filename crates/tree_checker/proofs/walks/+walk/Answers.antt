@@ -7,7 +7,7 @@ use Rattle.maid_model.proofs.Picked.{cell_times_fits}
 use Rattle.tree_checker.specs.Walks.{HasRoom, factor_at, gain_with, mass_with, value_at}
 use Rattle.tree_checker.proofs.WalkOpened.{down_with, none_before, room_with, whole_opened, shorter, small_fits, room_same, gains_same, moved, nought}
 use Rattle.tree_checker.proofs.WalkSteps.{WalkSoFar, row_within, utility_gain, utility_mass, utility_room, cell_within, cell_small, walk_start, within, walk_gains, walk_masses, next_world, product_fits, walk_skip, sum_fits, next_room, walk_step}
-use Rattle.tree_checker.proofs.WalkTails.{down_after, ended_gain, ended_mass, factor_told, tail_room}
+use Rattle.tree_checker.proofs.WalkTails.{down_after, ended_gain, ended_mass, factor_held, factors_cell, factors_node, tail_room}
 use Rattle.tree_checker.proofs.walks.+walk.Goals as goal
 use Rattle.tree_checker.proofs.walks.+walk.Goals.{then-more-gt0+then-is_empty, then-more-gt0+else-is_empty, else-more-gt0}
 
@@ -28,9 +28,8 @@ factor-requires t c =
     let some : 0 < length c.args.order.now = c.in-len1-up.len_at_least in
     let same_sum : to_z w128 (of_z w128 c.args.utility) ≡ c.args.utility = to_z-of_z w128 c.args.utility (search rules) in
     record {
-      node = (down_with c.args.diagram.now.nodes c.args.order.now c.args.tail.now some c.requires.order).0;
-      cell = subst (λ k. k < rows_of c.args.diagram.now.nodes (slice_index_or c.args.order.now 0 0) * states_of c.args.diagram.now.nodes (slice_index_or c.args.order.now 0 0)) (sym (λ i. c.row-row.ensures i * c.states-states.ensures.states i + c.loop-s.s)) (cell_within c.args.diagram.now c.requires.diagram c.args.profile.now c.requires.profile c.args.left_out c.args.marks.now c.requires.marks (slice_index_or c.args.order.now 0 0) (take (length c.args.order.now - 1) (drop 1 c.args.order.now) ++ c.args.tail.now) (down_with c.args.diagram.now.nodes c.args.order.now c.args.tail.now some c.requires.order) c.args.product (to_z w128 (of_z w128 c.args.utility)) c.index-before.result.now c.args.world.now c.requires.world c.args.gains.now c.args.masses.now (room_with c.args.diagram.now.nodes c.args.profile.now c.args.left_out c.args.order.now c.args.tail.now some c.args.product (to_z w128 (of_z w128 c.args.utility)) c.args.utility same_sum c.args.gains.now c.args.masses.now c.requires.room) c.loop-s.s (subst (λ k. c.loop-s.s < k) c.states-states.ensures.states c.loop-s-test.true));
-      weights = c.weights_at-weights.ensures.count;
+      node = factors_node c.args.diagram.now.nodes c.args.profile.now c.args.left_out c.args.factors.now c.requires.factors (slice_index_or c.args.order.now 0 0) ((down_with c.args.diagram.now.nodes c.args.order.now c.args.tail.now some c.requires.order).0);
+      cell = factors_cell c.args.diagram.now.nodes c.args.profile.now c.args.left_out c.args.factors.now c.requires.factors (slice_index_or c.args.order.now 0 0) ((down_with c.args.diagram.now.nodes c.args.order.now c.args.tail.now some c.requires.order).0) (c.row-row.result * c.states-states.result + c.loop-s.s) (subst (λ k. k < rows_of c.args.diagram.now.nodes (slice_index_or c.args.order.now 0 0) * states_of c.args.diagram.now.nodes (slice_index_or c.args.order.now 0 0)) (sym (λ i. c.row-row.ensures i * c.states-states.ensures.states i + c.loop-s.s)) (cell_within c.args.diagram.now c.requires.diagram c.args.profile.now c.requires.profile c.args.left_out c.args.marks.now c.requires.marks (slice_index_or c.args.order.now 0 0) (take (length c.args.order.now - 1) (drop 1 c.args.order.now) ++ c.args.tail.now) (down_with c.args.diagram.now.nodes c.args.order.now c.args.tail.now some c.requires.order) c.args.product (to_z w128 (of_z w128 c.args.utility)) c.index-before.result.now c.args.world.now c.requires.world c.args.gains.now c.args.masses.now (room_with c.args.diagram.now.nodes c.args.profile.now c.args.left_out c.args.order.now c.args.tail.now some c.args.product (to_z w128 (of_z w128 c.args.utility)) c.args.utility same_sum c.args.gains.now c.args.masses.now c.requires.room) c.loop-s.s (subst (λ k. c.loop-s.s < k) c.states-states.ensures.states c.loop-s-test.true)));
     }
 
 pub value-requires-clause-row : goal.value-requires-clause-row
@@ -56,7 +55,7 @@ pub overflow_mul-more : goal.overflow_mul-more
 overflow_mul-more t c =
     let some : 0 < length c.args.order.now = c.in-len1-up.len_at_least in
     let same_sum : to_z w128 (of_z w128 c.args.utility) ≡ c.args.utility = to_z-of_z w128 c.args.utility (search rules) in
-    omega (arith, product_fits c.args.diagram.now c.requires.diagram c.args.profile.now c.requires.profile c.args.left_out c.args.marks.now c.requires.marks (slice_index_or c.args.order.now 0 0) (take (length c.args.order.now - 1) (drop 1 c.args.order.now) ++ c.args.tail.now) (down_with c.args.diagram.now.nodes c.args.order.now c.args.tail.now some c.requires.order) c.args.product (to_z w128 (of_z w128 c.args.utility)) c.index-before.result.now c.args.world.now c.requires.world c.args.gains.now c.args.masses.now (room_with c.args.diagram.now.nodes c.args.profile.now c.args.left_out c.args.order.now c.args.tail.now some c.args.product (to_z w128 (of_z w128 c.args.utility)) c.args.utility same_sum c.args.gains.now c.args.masses.now c.requires.room) c.loop-s.world c.loop-s.gains c.loop-s.masses c.loop-s.s c.loop-s.invariant (subst (λ k. c.loop-s.s < k) c.states-states.ensures.states c.loop-s-test.true) c.factor.result (c.factor.ensures ∙ factor_told c.args.diagram.now.nodes c.args.profile.now c.weights_at-weights.result.now c.args.left_out (slice_index_or c.args.order.now 0 0) (c.row-row.result * c.states-states.result + c.loop-s.s) c.weights_at-weights.ensures.weights ∙ ap (factor_at c.args.diagram.now.nodes c.args.profile.now c.args.left_out (slice_index_or c.args.order.now 0 0)) (λ i. c.row-row.ensures i * c.states-states.ensures.states i + c.loop-s.s)))
+    omega (arith, product_fits c.args.diagram.now c.requires.diagram c.args.profile.now c.requires.profile c.args.left_out c.args.marks.now c.requires.marks (slice_index_or c.args.order.now 0 0) (take (length c.args.order.now - 1) (drop 1 c.args.order.now) ++ c.args.tail.now) (down_with c.args.diagram.now.nodes c.args.order.now c.args.tail.now some c.requires.order) c.args.product (to_z w128 (of_z w128 c.args.utility)) c.index-before.result.now c.args.world.now c.requires.world c.args.gains.now c.args.masses.now (room_with c.args.diagram.now.nodes c.args.profile.now c.args.left_out c.args.order.now c.args.tail.now some c.args.product (to_z w128 (of_z w128 c.args.utility)) c.args.utility same_sum c.args.gains.now c.args.masses.now c.requires.room) c.loop-s.world c.loop-s.gains c.loop-s.masses c.loop-s.s c.loop-s.invariant (subst (λ k. c.loop-s.s < k) c.states-states.ensures.states c.loop-s-test.true) c.factor.result (factor_held c.args.diagram.now.nodes c.args.profile.now c.args.left_out c.args.factors.now c.requires.factors (slice_index_or c.args.order.now 0 0) ((down_with c.args.diagram.now.nodes c.args.order.now c.args.tail.now some c.requires.order).0) (c.row-row.result * c.states-states.result + c.loop-s.s) (subst (λ k. k < rows_of c.args.diagram.now.nodes (slice_index_or c.args.order.now 0 0) * states_of c.args.diagram.now.nodes (slice_index_or c.args.order.now 0 0)) (sym (λ i. c.row-row.ensures i * c.states-states.ensures.states i + c.loop-s.s)) (cell_within c.args.diagram.now c.requires.diagram c.args.profile.now c.requires.profile c.args.left_out c.args.marks.now c.requires.marks (slice_index_or c.args.order.now 0 0) (take (length c.args.order.now - 1) (drop 1 c.args.order.now) ++ c.args.tail.now) (down_with c.args.diagram.now.nodes c.args.order.now c.args.tail.now some c.requires.order) c.args.product (to_z w128 (of_z w128 c.args.utility)) c.index-before.result.now c.args.world.now c.requires.world c.args.gains.now c.args.masses.now (room_with c.args.diagram.now.nodes c.args.profile.now c.args.left_out c.args.order.now c.args.tail.now some c.args.product (to_z w128 (of_z w128 c.args.utility)) c.args.utility same_sum c.args.gains.now c.args.masses.now c.requires.room) c.loop-s.s (subst (λ k. c.loop-s.s < k) c.states-states.ensures.states c.loop-s-test.true))) c.factor.result c.factor.ensures ∙ ap (factor_at c.args.diagram.now.nodes c.args.profile.now c.args.left_out (slice_index_or c.args.order.now 0 0)) (λ i. c.row-row.ensures i * c.states-states.ensures.states i + c.loop-s.s)))
 
 pub overflow_add-sum : goal.overflow_add-sum
 overflow_add-sum t c =
@@ -76,21 +75,24 @@ walk-requires-else-is_empty t c =
         (
           c.requires.profile,
           (
-            c.requires.marks,
+            c.requires.factors,
             (
-              c.requires.decision,
+              c.requires.marks,
               (
-                (down_with c.args.diagram.now.nodes c.args.order.now c.args.tail.now some c.requires.order).2,
+                c.requires.decision,
                 (
-                  c.requires.tail,
+                  (down_with c.args.diagram.now.nodes c.args.order.now c.args.tail.now some c.requires.order).2,
                   (
-                    next_world c.args.diagram.now c.requires.diagram c.args.profile.now c.requires.profile c.args.left_out c.args.marks.now c.requires.marks (slice_index_or c.args.order.now 0 0) (take (length c.args.order.now - 1) (drop 1 c.args.order.now) ++ c.args.tail.now) (down_with c.args.diagram.now.nodes c.args.order.now c.args.tail.now some c.requires.order) c.args.product (to_z w128 (of_z w128 c.args.utility)) c.index-before.result.now c.args.world.now c.requires.world c.args.gains.now c.args.masses.now (room_with c.args.diagram.now.nodes c.args.profile.now c.args.left_out c.args.order.now c.args.tail.now some c.args.product (to_z w128 (of_z w128 c.args.utility)) c.args.utility same_sum c.args.gains.now c.args.masses.now c.requires.room) c.loop-s.world c.loop-s.gains c.loop-s.masses c.loop-s.s c.loop-s.invariant (subst (λ k. c.loop-s.s < k) c.states-states.ensures.states c.loop-s-test.true) c.factor.result (c.factor.ensures ∙ factor_told c.args.diagram.now.nodes c.args.profile.now c.weights_at-weights.result.now c.args.left_out (slice_index_or c.args.order.now 0 0) (c.row-row.result * c.states-states.result + c.loop-s.s) c.weights_at-weights.ensures.weights ∙ ap (factor_at c.args.diagram.now.nodes c.args.profile.now c.args.left_out (slice_index_or c.args.order.now 0 0)) (λ i. c.row-row.ensures i * c.states-states.ensures.states i + c.loop-s.s)) (to_z w128 (of_z w128 c.value.result)) (to_z-of_z w128 c.value.result (search rules) ∙ c.value.ensures ∙ ap (value_at c.args.diagram.now.nodes c.args.marks.now (slice_index_or c.args.order.now 0 0)) c.row-row.ensures) c.set_state.new.world c.set_state.ensures,
+                    c.requires.tail,
                     (
-                      c.loop-s.invariant.gain_count ∙ c.requires.gains,
+                      next_world c.args.diagram.now c.requires.diagram c.args.profile.now c.requires.profile c.args.left_out c.args.marks.now c.requires.marks (slice_index_or c.args.order.now 0 0) (take (length c.args.order.now - 1) (drop 1 c.args.order.now) ++ c.args.tail.now) (down_with c.args.diagram.now.nodes c.args.order.now c.args.tail.now some c.requires.order) c.args.product (to_z w128 (of_z w128 c.args.utility)) c.index-before.result.now c.args.world.now c.requires.world c.args.gains.now c.args.masses.now (room_with c.args.diagram.now.nodes c.args.profile.now c.args.left_out c.args.order.now c.args.tail.now some c.args.product (to_z w128 (of_z w128 c.args.utility)) c.args.utility same_sum c.args.gains.now c.args.masses.now c.requires.room) c.loop-s.world c.loop-s.gains c.loop-s.masses c.loop-s.s c.loop-s.invariant (subst (λ k. c.loop-s.s < k) c.states-states.ensures.states c.loop-s-test.true) c.factor.result (factor_held c.args.diagram.now.nodes c.args.profile.now c.args.left_out c.args.factors.now c.requires.factors (slice_index_or c.args.order.now 0 0) ((down_with c.args.diagram.now.nodes c.args.order.now c.args.tail.now some c.requires.order).0) (c.row-row.result * c.states-states.result + c.loop-s.s) (subst (λ k. k < rows_of c.args.diagram.now.nodes (slice_index_or c.args.order.now 0 0) * states_of c.args.diagram.now.nodes (slice_index_or c.args.order.now 0 0)) (sym (λ i. c.row-row.ensures i * c.states-states.ensures.states i + c.loop-s.s)) (cell_within c.args.diagram.now c.requires.diagram c.args.profile.now c.requires.profile c.args.left_out c.args.marks.now c.requires.marks (slice_index_or c.args.order.now 0 0) (take (length c.args.order.now - 1) (drop 1 c.args.order.now) ++ c.args.tail.now) (down_with c.args.diagram.now.nodes c.args.order.now c.args.tail.now some c.requires.order) c.args.product (to_z w128 (of_z w128 c.args.utility)) c.index-before.result.now c.args.world.now c.requires.world c.args.gains.now c.args.masses.now (room_with c.args.diagram.now.nodes c.args.profile.now c.args.left_out c.args.order.now c.args.tail.now some c.args.product (to_z w128 (of_z w128 c.args.utility)) c.args.utility same_sum c.args.gains.now c.args.masses.now c.requires.room) c.loop-s.s (subst (λ k. c.loop-s.s < k) c.states-states.ensures.states c.loop-s-test.true))) c.factor.result c.factor.ensures ∙ ap (factor_at c.args.diagram.now.nodes c.args.profile.now c.args.left_out (slice_index_or c.args.order.now 0 0)) (λ i. c.row-row.ensures i * c.states-states.ensures.states i + c.loop-s.s)) (to_z w128 (of_z w128 c.value.result)) (to_z-of_z w128 c.value.result (search rules) ∙ c.value.ensures ∙ ap (value_at c.args.diagram.now.nodes c.args.marks.now (slice_index_or c.args.order.now 0 0)) c.row-row.ensures) c.set_state.new.world c.set_state.ensures,
                       (
-                        c.loop-s.invariant.mass_count ∙ c.requires.masses,
-                        room_same c.args.diagram.now.nodes c.args.profile.now c.args.left_out (take (length c.args.order.now - 1) (drop 1 c.args.order.now) ++ c.args.tail.now) (c.args.product * c.factor.result) c.loop-s.gains c.loop-s.masses (to_z-of_z w128 (to_z w128 (of_z w128 c.args.utility) +ℤ to_z w128 (of_z w128 c.value.result)) sum_small)
-                            (next_room c.args.diagram.now c.requires.diagram c.args.profile.now c.requires.profile c.args.left_out c.args.marks.now c.requires.marks (slice_index_or c.args.order.now 0 0) (take (length c.args.order.now - 1) (drop 1 c.args.order.now) ++ c.args.tail.now) (down_with c.args.diagram.now.nodes c.args.order.now c.args.tail.now some c.requires.order) c.args.product (to_z w128 (of_z w128 c.args.utility)) c.index-before.result.now c.args.world.now c.requires.world c.args.gains.now c.args.masses.now (room_with c.args.diagram.now.nodes c.args.profile.now c.args.left_out c.args.order.now c.args.tail.now some c.args.product (to_z w128 (of_z w128 c.args.utility)) c.args.utility same_sum c.args.gains.now c.args.masses.now c.requires.room) c.loop-s.world c.loop-s.gains c.loop-s.masses c.loop-s.s c.loop-s.invariant (subst (λ k. c.loop-s.s < k) c.states-states.ensures.states c.loop-s-test.true) c.factor.result (c.factor.ensures ∙ factor_told c.args.diagram.now.nodes c.args.profile.now c.weights_at-weights.result.now c.args.left_out (slice_index_or c.args.order.now 0 0) (c.row-row.result * c.states-states.result + c.loop-s.s) c.weights_at-weights.ensures.weights ∙ ap (factor_at c.args.diagram.now.nodes c.args.profile.now c.args.left_out (slice_index_or c.args.order.now 0 0)) (λ i. c.row-row.ensures i * c.states-states.ensures.states i + c.loop-s.s)) (to_z w128 (of_z w128 c.value.result)) (to_z-of_z w128 c.value.result (search rules) ∙ c.value.ensures ∙ ap (value_at c.args.diagram.now.nodes c.args.marks.now (slice_index_or c.args.order.now 0 0)) c.row-row.ensures) c.set_state.new.world c.set_state.ensures),
+                        c.loop-s.invariant.gain_count ∙ c.requires.gains,
+                        (
+                          c.loop-s.invariant.mass_count ∙ c.requires.masses,
+                          room_same c.args.diagram.now.nodes c.args.profile.now c.args.left_out (take (length c.args.order.now - 1) (drop 1 c.args.order.now) ++ c.args.tail.now) (c.args.product * c.factor.result) c.loop-s.gains c.loop-s.masses (to_z-of_z w128 (to_z w128 (of_z w128 c.args.utility) +ℤ to_z w128 (of_z w128 c.value.result)) sum_small)
+                              (next_room c.args.diagram.now c.requires.diagram c.args.profile.now c.requires.profile c.args.left_out c.args.marks.now c.requires.marks (slice_index_or c.args.order.now 0 0) (take (length c.args.order.now - 1) (drop 1 c.args.order.now) ++ c.args.tail.now) (down_with c.args.diagram.now.nodes c.args.order.now c.args.tail.now some c.requires.order) c.args.product (to_z w128 (of_z w128 c.args.utility)) c.index-before.result.now c.args.world.now c.requires.world c.args.gains.now c.args.masses.now (room_with c.args.diagram.now.nodes c.args.profile.now c.args.left_out c.args.order.now c.args.tail.now some c.args.product (to_z w128 (of_z w128 c.args.utility)) c.args.utility same_sum c.args.gains.now c.args.masses.now c.requires.room) c.loop-s.world c.loop-s.gains c.loop-s.masses c.loop-s.s c.loop-s.invariant (subst (λ k. c.loop-s.s < k) c.states-states.ensures.states c.loop-s-test.true) c.factor.result (factor_held c.args.diagram.now.nodes c.args.profile.now c.args.left_out c.args.factors.now c.requires.factors (slice_index_or c.args.order.now 0 0) ((down_with c.args.diagram.now.nodes c.args.order.now c.args.tail.now some c.requires.order).0) (c.row-row.result * c.states-states.result + c.loop-s.s) (subst (λ k. k < rows_of c.args.diagram.now.nodes (slice_index_or c.args.order.now 0 0) * states_of c.args.diagram.now.nodes (slice_index_or c.args.order.now 0 0)) (sym (λ i. c.row-row.ensures i * c.states-states.ensures.states i + c.loop-s.s)) (cell_within c.args.diagram.now c.requires.diagram c.args.profile.now c.requires.profile c.args.left_out c.args.marks.now c.requires.marks (slice_index_or c.args.order.now 0 0) (take (length c.args.order.now - 1) (drop 1 c.args.order.now) ++ c.args.tail.now) (down_with c.args.diagram.now.nodes c.args.order.now c.args.tail.now some c.requires.order) c.args.product (to_z w128 (of_z w128 c.args.utility)) c.index-before.result.now c.args.world.now c.requires.world c.args.gains.now c.args.masses.now (room_with c.args.diagram.now.nodes c.args.profile.now c.args.left_out c.args.order.now c.args.tail.now some c.args.product (to_z w128 (of_z w128 c.args.utility)) c.args.utility same_sum c.args.gains.now c.args.masses.now c.requires.room) c.loop-s.s (subst (λ k. c.loop-s.s < k) c.states-states.ensures.states c.loop-s-test.true))) c.factor.result c.factor.ensures ∙ ap (factor_at c.args.diagram.now.nodes c.args.profile.now c.args.left_out (slice_index_or c.args.order.now 0 0)) (λ i. c.row-row.ensures i * c.states-states.ensures.states i + c.loop-s.s)) (to_z w128 (of_z w128 c.value.result)) (to_z-of_z w128 c.value.result (search rules) ∙ c.value.ensures ∙ ap (value_at c.args.diagram.now.nodes c.args.marks.now (slice_index_or c.args.order.now 0 0)) c.row-row.ensures) c.set_state.new.world c.set_state.ensures),
+                        ),
                       ),
                     ),
                   ),
@@ -114,21 +116,24 @@ walk-requires t c =
         (
           c.requires.profile,
           (
-            c.requires.marks,
+            c.requires.factors,
             (
-              c.requires.decision,
+              c.requires.marks,
               (
-                (down_with c.args.diagram.now.nodes c.args.order.now c.args.tail.now some c.requires.order).2,
+                c.requires.decision,
                 (
-                  c.requires.tail,
+                  (down_with c.args.diagram.now.nodes c.args.order.now c.args.tail.now some c.requires.order).2,
                   (
-                    c.requires.world,
+                    c.requires.tail,
                     (
-                      c.requires.gains,
+                      c.requires.world,
                       (
-                        c.requires.masses,
-                        room_same c.args.diagram.now.nodes c.args.profile.now c.args.left_out (take (length c.args.order.now - 1) (drop 1 c.args.order.now) ++ c.args.tail.now) c.args.product c.args.gains.now c.args.masses.now (to_z-of_z w128 (to_z w128 (of_z w128 c.args.utility) +ℤ to_z w128 (of_z w128 c.value.result)) sum_small)
-                            (utility_room c.args.diagram.now c.requires.diagram c.args.profile.now c.requires.profile c.args.left_out c.args.marks.now c.requires.marks (slice_index_or c.args.order.now 0 0) (take (length c.args.order.now - 1) (drop 1 c.args.order.now) ++ c.args.tail.now) (down_with c.args.diagram.now.nodes c.args.order.now c.args.tail.now some c.requires.order) c.args.product (to_z w128 (of_z w128 c.args.utility)) 0 c.args.world.now c.requires.world c.args.gains.now c.args.masses.now (room_with c.args.diagram.now.nodes c.args.profile.now c.args.left_out c.args.order.now c.args.tail.now some c.args.product (to_z w128 (of_z w128 c.args.utility)) c.args.utility same_sum c.args.gains.now c.args.masses.now c.requires.room) (sym c.in-Utility.ensures.kind) (to_z w128 (of_z w128 c.value.result)) (to_z-of_z w128 c.value.result (search rules) ∙ c.value.ensures ∙ ap (value_at c.args.diagram.now.nodes c.args.marks.now (slice_index_or c.args.order.now 0 0)) c.row-row.ensures)),
+                        c.requires.gains,
+                        (
+                          c.requires.masses,
+                          room_same c.args.diagram.now.nodes c.args.profile.now c.args.left_out (take (length c.args.order.now - 1) (drop 1 c.args.order.now) ++ c.args.tail.now) c.args.product c.args.gains.now c.args.masses.now (to_z-of_z w128 (to_z w128 (of_z w128 c.args.utility) +ℤ to_z w128 (of_z w128 c.value.result)) sum_small)
+                              (utility_room c.args.diagram.now c.requires.diagram c.args.profile.now c.requires.profile c.args.left_out c.args.marks.now c.requires.marks (slice_index_or c.args.order.now 0 0) (take (length c.args.order.now - 1) (drop 1 c.args.order.now) ++ c.args.tail.now) (down_with c.args.diagram.now.nodes c.args.order.now c.args.tail.now some c.requires.order) c.args.product (to_z w128 (of_z w128 c.args.utility)) 0 c.args.world.now c.requires.world c.args.gains.now c.args.masses.now (room_with c.args.diagram.now.nodes c.args.profile.now c.args.left_out c.args.order.now c.args.tail.now some c.args.product (to_z w128 (of_z w128 c.args.utility)) c.args.utility same_sum c.args.gains.now c.args.masses.now c.requires.room) (sym c.in-Utility.ensures.kind) (to_z w128 (of_z w128 c.value.result)) (to_z-of_z w128 c.value.result (search rules) ∙ c.value.ensures ∙ ap (value_at c.args.diagram.now.nodes c.args.marks.now (slice_index_or c.args.order.now 0 0)) c.row-row.ensures)),
+                        ),
                       ),
                     ),
                   ),
@@ -165,22 +170,22 @@ loop-s-preserved t c =
       | then-more-gt0+then-is_empty w ↦
           let sum_small : FitsSigned w128 (to_z w128 (of_z w128 c.args.utility) +ℤ to_z w128 (of_z w128 c.value.result)) = small_fits (to_z w128 (of_z w128 c.args.utility) +ℤ to_z w128 (of_z w128 c.value.result)) (sum_fits c.args.diagram.now c.requires.diagram c.args.profile.now c.requires.profile c.args.left_out c.args.marks.now c.requires.marks (slice_index_or c.args.order.now 0 0) (take (length c.args.order.now - 1) (drop 1 c.args.order.now) ++ c.args.tail.now) (down_with c.args.diagram.now.nodes c.args.order.now c.args.tail.now some c.requires.order) c.args.product (to_z w128 (of_z w128 c.args.utility)) 0 c.args.world.now c.requires.world c.args.gains.now c.args.masses.now (room_with c.args.diagram.now.nodes c.args.profile.now c.args.left_out c.args.order.now c.args.tail.now some c.args.product (to_z w128 (of_z w128 c.args.utility)) c.args.utility same_sum c.args.gains.now c.args.masses.now c.requires.room) (to_z w128 (of_z w128 c.value.result)) (to_z-of_z w128 c.value.result (search rules) ∙ c.value.ensures ∙ ap (value_at c.args.diagram.now.nodes c.args.marks.now (slice_index_or c.args.order.now 0 0)) c.row-row.ensures)) in
           let none : take (length c.args.order.now - 1) (drop 1 c.args.order.now) ++ c.args.tail.now ≡ c.args.tail.now = none_before (take (length c.args.order.now - 1) (drop 1 c.args.order.now)) c.args.tail.now (search rules) in
-          let world : IsWorld (counts_of c.args.diagram.now.nodes) w.set_state.new.world = next_world c.args.diagram.now c.requires.diagram c.args.profile.now c.requires.profile c.args.left_out c.args.marks.now c.requires.marks (slice_index_or c.args.order.now 0 0) (take (length c.args.order.now - 1) (drop 1 c.args.order.now) ++ c.args.tail.now) (down_with c.args.diagram.now.nodes c.args.order.now c.args.tail.now some c.requires.order) c.args.product (to_z w128 (of_z w128 c.args.utility)) c.index-before.result.now c.args.world.now c.requires.world c.args.gains.now c.args.masses.now (room_with c.args.diagram.now.nodes c.args.profile.now c.args.left_out c.args.order.now c.args.tail.now some c.args.product (to_z w128 (of_z w128 c.args.utility)) c.args.utility same_sum c.args.gains.now c.args.masses.now c.requires.room) c.loop-s.world c.loop-s.gains c.loop-s.masses c.loop-s.s c.loop-s.invariant (subst (λ k. c.loop-s.s < k) c.states-states.ensures.states c.loop-s-test.true) c.factor.result (c.factor.ensures ∙ factor_told c.args.diagram.now.nodes c.args.profile.now c.weights_at-weights.result.now c.args.left_out (slice_index_or c.args.order.now 0 0) (c.row-row.result * c.states-states.result + c.loop-s.s) c.weights_at-weights.ensures.weights ∙ ap (factor_at c.args.diagram.now.nodes c.args.profile.now c.args.left_out (slice_index_or c.args.order.now 0 0)) (λ i. c.row-row.ensures i * c.states-states.ensures.states i + c.loop-s.s)) (to_z w128 (of_z w128 c.value.result)) (to_z-of_z w128 c.value.result (search rules) ∙ c.value.ensures ∙ ap (value_at c.args.diagram.now.nodes c.args.marks.now (slice_index_or c.args.order.now 0 0)) c.row-row.ensures) w.set_state.new.world w.set_state.ensures in
-          let room : HasRoom c.args.diagram.now.nodes c.args.profile.now c.args.left_out (take (length c.args.order.now - 1) (drop 1 c.args.order.now) ++ c.args.tail.now) (c.args.product * c.factor.result) (to_z w128 (of_z w128 c.args.utility) +ℤ to_z w128 (of_z w128 c.value.result)) c.loop-s.gains c.loop-s.masses = next_room c.args.diagram.now c.requires.diagram c.args.profile.now c.requires.profile c.args.left_out c.args.marks.now c.requires.marks (slice_index_or c.args.order.now 0 0) (take (length c.args.order.now - 1) (drop 1 c.args.order.now) ++ c.args.tail.now) (down_with c.args.diagram.now.nodes c.args.order.now c.args.tail.now some c.requires.order) c.args.product (to_z w128 (of_z w128 c.args.utility)) c.index-before.result.now c.args.world.now c.requires.world c.args.gains.now c.args.masses.now (room_with c.args.diagram.now.nodes c.args.profile.now c.args.left_out c.args.order.now c.args.tail.now some c.args.product (to_z w128 (of_z w128 c.args.utility)) c.args.utility same_sum c.args.gains.now c.args.masses.now c.requires.room) c.loop-s.world c.loop-s.gains c.loop-s.masses c.loop-s.s c.loop-s.invariant (subst (λ k. c.loop-s.s < k) c.states-states.ensures.states c.loop-s-test.true) c.factor.result (c.factor.ensures ∙ factor_told c.args.diagram.now.nodes c.args.profile.now c.weights_at-weights.result.now c.args.left_out (slice_index_or c.args.order.now 0 0) (c.row-row.result * c.states-states.result + c.loop-s.s) c.weights_at-weights.ensures.weights ∙ ap (factor_at c.args.diagram.now.nodes c.args.profile.now c.args.left_out (slice_index_or c.args.order.now 0 0)) (λ i. c.row-row.ensures i * c.states-states.ensures.states i + c.loop-s.s)) (to_z w128 (of_z w128 c.value.result)) (to_z-of_z w128 c.value.result (search rules) ∙ c.value.ensures ∙ ap (value_at c.args.diagram.now.nodes c.args.marks.now (slice_index_or c.args.order.now 0 0)) c.row-row.ensures) w.set_state.new.world w.set_state.ensures in
+          let world : IsWorld (counts_of c.args.diagram.now.nodes) w.set_state.new.world = next_world c.args.diagram.now c.requires.diagram c.args.profile.now c.requires.profile c.args.left_out c.args.marks.now c.requires.marks (slice_index_or c.args.order.now 0 0) (take (length c.args.order.now - 1) (drop 1 c.args.order.now) ++ c.args.tail.now) (down_with c.args.diagram.now.nodes c.args.order.now c.args.tail.now some c.requires.order) c.args.product (to_z w128 (of_z w128 c.args.utility)) c.index-before.result.now c.args.world.now c.requires.world c.args.gains.now c.args.masses.now (room_with c.args.diagram.now.nodes c.args.profile.now c.args.left_out c.args.order.now c.args.tail.now some c.args.product (to_z w128 (of_z w128 c.args.utility)) c.args.utility same_sum c.args.gains.now c.args.masses.now c.requires.room) c.loop-s.world c.loop-s.gains c.loop-s.masses c.loop-s.s c.loop-s.invariant (subst (λ k. c.loop-s.s < k) c.states-states.ensures.states c.loop-s-test.true) c.factor.result (factor_held c.args.diagram.now.nodes c.args.profile.now c.args.left_out c.args.factors.now c.requires.factors (slice_index_or c.args.order.now 0 0) ((down_with c.args.diagram.now.nodes c.args.order.now c.args.tail.now some c.requires.order).0) (c.row-row.result * c.states-states.result + c.loop-s.s) (subst (λ k. k < rows_of c.args.diagram.now.nodes (slice_index_or c.args.order.now 0 0) * states_of c.args.diagram.now.nodes (slice_index_or c.args.order.now 0 0)) (sym (λ i. c.row-row.ensures i * c.states-states.ensures.states i + c.loop-s.s)) (cell_within c.args.diagram.now c.requires.diagram c.args.profile.now c.requires.profile c.args.left_out c.args.marks.now c.requires.marks (slice_index_or c.args.order.now 0 0) (take (length c.args.order.now - 1) (drop 1 c.args.order.now) ++ c.args.tail.now) (down_with c.args.diagram.now.nodes c.args.order.now c.args.tail.now some c.requires.order) c.args.product (to_z w128 (of_z w128 c.args.utility)) c.index-before.result.now c.args.world.now c.requires.world c.args.gains.now c.args.masses.now (room_with c.args.diagram.now.nodes c.args.profile.now c.args.left_out c.args.order.now c.args.tail.now some c.args.product (to_z w128 (of_z w128 c.args.utility)) c.args.utility same_sum c.args.gains.now c.args.masses.now c.requires.room) c.loop-s.s (subst (λ k. c.loop-s.s < k) c.states-states.ensures.states c.loop-s-test.true))) c.factor.result c.factor.ensures ∙ ap (factor_at c.args.diagram.now.nodes c.args.profile.now c.args.left_out (slice_index_or c.args.order.now 0 0)) (λ i. c.row-row.ensures i * c.states-states.ensures.states i + c.loop-s.s)) (to_z w128 (of_z w128 c.value.result)) (to_z-of_z w128 c.value.result (search rules) ∙ c.value.ensures ∙ ap (value_at c.args.diagram.now.nodes c.args.marks.now (slice_index_or c.args.order.now 0 0)) c.row-row.ensures) w.set_state.new.world w.set_state.ensures in
+          let room : HasRoom c.args.diagram.now.nodes c.args.profile.now c.args.left_out (take (length c.args.order.now - 1) (drop 1 c.args.order.now) ++ c.args.tail.now) (c.args.product * c.factor.result) (to_z w128 (of_z w128 c.args.utility) +ℤ to_z w128 (of_z w128 c.value.result)) c.loop-s.gains c.loop-s.masses = next_room c.args.diagram.now c.requires.diagram c.args.profile.now c.requires.profile c.args.left_out c.args.marks.now c.requires.marks (slice_index_or c.args.order.now 0 0) (take (length c.args.order.now - 1) (drop 1 c.args.order.now) ++ c.args.tail.now) (down_with c.args.diagram.now.nodes c.args.order.now c.args.tail.now some c.requires.order) c.args.product (to_z w128 (of_z w128 c.args.utility)) c.index-before.result.now c.args.world.now c.requires.world c.args.gains.now c.args.masses.now (room_with c.args.diagram.now.nodes c.args.profile.now c.args.left_out c.args.order.now c.args.tail.now some c.args.product (to_z w128 (of_z w128 c.args.utility)) c.args.utility same_sum c.args.gains.now c.args.masses.now c.requires.room) c.loop-s.world c.loop-s.gains c.loop-s.masses c.loop-s.s c.loop-s.invariant (subst (λ k. c.loop-s.s < k) c.states-states.ensures.states c.loop-s-test.true) c.factor.result (factor_held c.args.diagram.now.nodes c.args.profile.now c.args.left_out c.args.factors.now c.requires.factors (slice_index_or c.args.order.now 0 0) ((down_with c.args.diagram.now.nodes c.args.order.now c.args.tail.now some c.requires.order).0) (c.row-row.result * c.states-states.result + c.loop-s.s) (subst (λ k. k < rows_of c.args.diagram.now.nodes (slice_index_or c.args.order.now 0 0) * states_of c.args.diagram.now.nodes (slice_index_or c.args.order.now 0 0)) (sym (λ i. c.row-row.ensures i * c.states-states.ensures.states i + c.loop-s.s)) (cell_within c.args.diagram.now c.requires.diagram c.args.profile.now c.requires.profile c.args.left_out c.args.marks.now c.requires.marks (slice_index_or c.args.order.now 0 0) (take (length c.args.order.now - 1) (drop 1 c.args.order.now) ++ c.args.tail.now) (down_with c.args.diagram.now.nodes c.args.order.now c.args.tail.now some c.requires.order) c.args.product (to_z w128 (of_z w128 c.args.utility)) c.index-before.result.now c.args.world.now c.requires.world c.args.gains.now c.args.masses.now (room_with c.args.diagram.now.nodes c.args.profile.now c.args.left_out c.args.order.now c.args.tail.now some c.args.product (to_z w128 (of_z w128 c.args.utility)) c.args.utility same_sum c.args.gains.now c.args.masses.now c.requires.room) c.loop-s.s (subst (λ k. c.loop-s.s < k) c.states-states.ensures.states c.loop-s-test.true))) c.factor.result c.factor.ensures ∙ ap (factor_at c.args.diagram.now.nodes c.args.profile.now c.args.left_out (slice_index_or c.args.order.now 0 0)) (λ i. c.row-row.ensures i * c.states-states.ensures.states i + c.loop-s.s)) (to_z w128 (of_z w128 c.value.result)) (to_z-of_z w128 c.value.result (search rules) ∙ c.value.ensures ∙ ap (value_at c.args.diagram.now.nodes c.args.marks.now (slice_index_or c.args.order.now 0 0)) c.row-row.ensures) w.set_state.new.world w.set_state.ensures in
           moved (λ xs gains masses. WalkSoFar c.args.diagram.now.nodes c.args.profile.now c.args.left_out c.args.marks.now (slice_index_or c.args.order.now 0 0) (take (length c.args.order.now - 1) (drop 1 c.args.order.now) ++ c.args.tail.now) c.args.product (to_z w128 (of_z w128 c.args.utility)) c.index-before.result.now c.args.world.now c.args.gains.now c.args.masses.now xs gains masses (c.loop-s.s + 1)) w.world-is w.gains-is w.masses-is
-          (walk_step c.args.diagram.now c.requires.diagram c.args.profile.now c.requires.profile c.args.left_out c.args.marks.now c.requires.marks (slice_index_or c.args.order.now 0 0) (take (length c.args.order.now - 1) (drop 1 c.args.order.now) ++ c.args.tail.now) (down_with c.args.diagram.now.nodes c.args.order.now c.args.tail.now some c.requires.order) c.args.product (to_z w128 (of_z w128 c.args.utility)) c.index-before.result.now c.args.world.now c.requires.world c.args.gains.now c.args.masses.now (room_with c.args.diagram.now.nodes c.args.profile.now c.args.left_out c.args.order.now c.args.tail.now some c.args.product (to_z w128 (of_z w128 c.args.utility)) c.args.utility same_sum c.args.gains.now c.args.masses.now c.requires.room) c.loop-s.world c.loop-s.gains c.loop-s.masses c.loop-s.s c.loop-s.invariant (subst (λ k. c.loop-s.s < k) c.states-states.ensures.states c.loop-s-test.true) c.factor.result (c.factor.ensures ∙ factor_told c.args.diagram.now.nodes c.args.profile.now c.weights_at-weights.result.now c.args.left_out (slice_index_or c.args.order.now 0 0) (c.row-row.result * c.states-states.result + c.loop-s.s) c.weights_at-weights.ensures.weights ∙ ap (factor_at c.args.diagram.now.nodes c.args.profile.now c.args.left_out (slice_index_or c.args.order.now 0 0)) (λ i. c.row-row.ensures i * c.states-states.ensures.states i + c.loop-s.s)) (to_z w128 (of_z w128 c.value.result)) (to_z-of_z w128 c.value.result (search rules) ∙ c.value.ensures ∙ ap (value_at c.args.diagram.now.nodes c.args.marks.now (slice_index_or c.args.order.now 0 0)) c.row-row.ensures) w.set_state.new.world w.set_state.ensures w.set_state.new.world w.add_world-then-is_empty.new.gains w.add_world-then-is_empty.new.masses (λ i. w.set_state.new.world)
+          (walk_step c.args.diagram.now c.requires.diagram c.args.profile.now c.requires.profile c.args.left_out c.args.marks.now c.requires.marks (slice_index_or c.args.order.now 0 0) (take (length c.args.order.now - 1) (drop 1 c.args.order.now) ++ c.args.tail.now) (down_with c.args.diagram.now.nodes c.args.order.now c.args.tail.now some c.requires.order) c.args.product (to_z w128 (of_z w128 c.args.utility)) c.index-before.result.now c.args.world.now c.requires.world c.args.gains.now c.args.masses.now (room_with c.args.diagram.now.nodes c.args.profile.now c.args.left_out c.args.order.now c.args.tail.now some c.args.product (to_z w128 (of_z w128 c.args.utility)) c.args.utility same_sum c.args.gains.now c.args.masses.now c.requires.room) c.loop-s.world c.loop-s.gains c.loop-s.masses c.loop-s.s c.loop-s.invariant (subst (λ k. c.loop-s.s < k) c.states-states.ensures.states c.loop-s-test.true) c.factor.result (factor_held c.args.diagram.now.nodes c.args.profile.now c.args.left_out c.args.factors.now c.requires.factors (slice_index_or c.args.order.now 0 0) ((down_with c.args.diagram.now.nodes c.args.order.now c.args.tail.now some c.requires.order).0) (c.row-row.result * c.states-states.result + c.loop-s.s) (subst (λ k. k < rows_of c.args.diagram.now.nodes (slice_index_or c.args.order.now 0 0) * states_of c.args.diagram.now.nodes (slice_index_or c.args.order.now 0 0)) (sym (λ i. c.row-row.ensures i * c.states-states.ensures.states i + c.loop-s.s)) (cell_within c.args.diagram.now c.requires.diagram c.args.profile.now c.requires.profile c.args.left_out c.args.marks.now c.requires.marks (slice_index_or c.args.order.now 0 0) (take (length c.args.order.now - 1) (drop 1 c.args.order.now) ++ c.args.tail.now) (down_with c.args.diagram.now.nodes c.args.order.now c.args.tail.now some c.requires.order) c.args.product (to_z w128 (of_z w128 c.args.utility)) c.index-before.result.now c.args.world.now c.requires.world c.args.gains.now c.args.masses.now (room_with c.args.diagram.now.nodes c.args.profile.now c.args.left_out c.args.order.now c.args.tail.now some c.args.product (to_z w128 (of_z w128 c.args.utility)) c.args.utility same_sum c.args.gains.now c.args.masses.now c.requires.room) c.loop-s.s (subst (λ k. c.loop-s.s < k) c.states-states.ensures.states c.loop-s-test.true))) c.factor.result c.factor.ensures ∙ ap (factor_at c.args.diagram.now.nodes c.args.profile.now c.args.left_out (slice_index_or c.args.order.now 0 0)) (λ i. c.row-row.ensures i * c.states-states.ensures.states i + c.loop-s.s)) (to_z w128 (of_z w128 c.value.result)) (to_z-of_z w128 c.value.result (search rules) ∙ c.value.ensures ∙ ap (value_at c.args.diagram.now.nodes c.args.marks.now (slice_index_or c.args.order.now 0 0)) c.row-row.ensures) w.set_state.new.world w.set_state.ensures w.set_state.new.world w.add_world-then-is_empty.new.gains w.add_world-then-is_empty.new.masses (λ i. w.set_state.new.world)
           (λ cell. w.add_world-then-is_empty.ensures.gains cell ∙ ap (λ z. slice_index_or c.loop-s.gains cell (pos 0) +ℤ z) (ended_gain c.args.diagram.now c.requires.diagram c.args.profile.now c.requires.profile c.args.left_out c.args.marks.now c.requires.marks (take (length c.args.order.now - 1) (drop 1 c.args.order.now)) c.args.tail.now none c.requires.tail (down_with c.args.diagram.now.nodes c.args.order.now c.args.tail.now some c.requires.order).2 (c.args.product * c.factor.result) (to_z w128 (of_z w128 c.args.utility) +ℤ to_z w128 (of_z w128 c.value.result)) (to_z w128 (of_z w128 (to_z w128 (of_z w128 c.args.utility) +ℤ to_z w128 (of_z w128 c.value.result)))) (to_z-of_z w128 (to_z w128 (of_z w128 c.args.utility) +ℤ to_z w128 (of_z w128 c.value.result)) sum_small) w.set_state.new.world world c.loop-s.gains c.loop-s.masses room cell))
           (λ cell. w.add_world-then-is_empty.ensures.masses cell ∙ ap (λ z. pos (slice_index c.loop-s.masses cell) +ℤ z) (ended_mass c.args.diagram.now c.requires.diagram c.args.profile.now c.requires.profile c.args.left_out c.args.marks.now c.requires.marks (take (length c.args.order.now - 1) (drop 1 c.args.order.now)) c.args.tail.now none c.requires.tail (down_with c.args.diagram.now.nodes c.args.order.now c.args.tail.now some c.requires.order).2 (c.args.product * c.factor.result) (to_z w128 (of_z w128 c.args.utility) +ℤ to_z w128 (of_z w128 c.value.result)) w.set_state.new.world world c.loop-s.gains c.loop-s.masses room cell))
           w.add_world-then-is_empty.ensures.gain_count w.add_world-then-is_empty.ensures.mass_count)
       | then-more-gt0+else-is_empty w ↦
           let sum_small : FitsSigned w128 (to_z w128 (of_z w128 c.args.utility) +ℤ to_z w128 (of_z w128 c.value.result)) = small_fits (to_z w128 (of_z w128 c.args.utility) +ℤ to_z w128 (of_z w128 c.value.result)) (sum_fits c.args.diagram.now c.requires.diagram c.args.profile.now c.requires.profile c.args.left_out c.args.marks.now c.requires.marks (slice_index_or c.args.order.now 0 0) (take (length c.args.order.now - 1) (drop 1 c.args.order.now) ++ c.args.tail.now) (down_with c.args.diagram.now.nodes c.args.order.now c.args.tail.now some c.requires.order) c.args.product (to_z w128 (of_z w128 c.args.utility)) 0 c.args.world.now c.requires.world c.args.gains.now c.args.masses.now (room_with c.args.diagram.now.nodes c.args.profile.now c.args.left_out c.args.order.now c.args.tail.now some c.args.product (to_z w128 (of_z w128 c.args.utility)) c.args.utility same_sum c.args.gains.now c.args.masses.now c.requires.room) (to_z w128 (of_z w128 c.value.result)) (to_z-of_z w128 c.value.result (search rules) ∙ c.value.ensures ∙ ap (value_at c.args.diagram.now.nodes c.args.marks.now (slice_index_or c.args.order.now 0 0)) c.row-row.ensures)) in
           moved (λ xs gains masses. WalkSoFar c.args.diagram.now.nodes c.args.profile.now c.args.left_out c.args.marks.now (slice_index_or c.args.order.now 0 0) (take (length c.args.order.now - 1) (drop 1 c.args.order.now) ++ c.args.tail.now) c.args.product (to_z w128 (of_z w128 c.args.utility)) c.index-before.result.now c.args.world.now c.args.gains.now c.args.masses.now xs gains masses (c.loop-s.s + 1)) w.world-is w.gains-is w.masses-is
-          (walk_step c.args.diagram.now c.requires.diagram c.args.profile.now c.requires.profile c.args.left_out c.args.marks.now c.requires.marks (slice_index_or c.args.order.now 0 0) (take (length c.args.order.now - 1) (drop 1 c.args.order.now) ++ c.args.tail.now) (down_with c.args.diagram.now.nodes c.args.order.now c.args.tail.now some c.requires.order) c.args.product (to_z w128 (of_z w128 c.args.utility)) c.index-before.result.now c.args.world.now c.requires.world c.args.gains.now c.args.masses.now (room_with c.args.diagram.now.nodes c.args.profile.now c.args.left_out c.args.order.now c.args.tail.now some c.args.product (to_z w128 (of_z w128 c.args.utility)) c.args.utility same_sum c.args.gains.now c.args.masses.now c.requires.room) c.loop-s.world c.loop-s.gains c.loop-s.masses c.loop-s.s c.loop-s.invariant (subst (λ k. c.loop-s.s < k) c.states-states.ensures.states c.loop-s-test.true) c.factor.result (c.factor.ensures ∙ factor_told c.args.diagram.now.nodes c.args.profile.now c.weights_at-weights.result.now c.args.left_out (slice_index_or c.args.order.now 0 0) (c.row-row.result * c.states-states.result + c.loop-s.s) c.weights_at-weights.ensures.weights ∙ ap (factor_at c.args.diagram.now.nodes c.args.profile.now c.args.left_out (slice_index_or c.args.order.now 0 0)) (λ i. c.row-row.ensures i * c.states-states.ensures.states i + c.loop-s.s)) (to_z w128 (of_z w128 c.value.result)) (to_z-of_z w128 c.value.result (search rules) ∙ c.value.ensures ∙ ap (value_at c.args.diagram.now.nodes c.args.marks.now (slice_index_or c.args.order.now 0 0)) c.row-row.ensures) w.set_state.new.world w.set_state.ensures w.walk-else-is_empty.new.world w.walk-else-is_empty.new.gains w.walk-else-is_empty.new.masses w.walk-else-is_empty.ensures.again
+          (walk_step c.args.diagram.now c.requires.diagram c.args.profile.now c.requires.profile c.args.left_out c.args.marks.now c.requires.marks (slice_index_or c.args.order.now 0 0) (take (length c.args.order.now - 1) (drop 1 c.args.order.now) ++ c.args.tail.now) (down_with c.args.diagram.now.nodes c.args.order.now c.args.tail.now some c.requires.order) c.args.product (to_z w128 (of_z w128 c.args.utility)) c.index-before.result.now c.args.world.now c.requires.world c.args.gains.now c.args.masses.now (room_with c.args.diagram.now.nodes c.args.profile.now c.args.left_out c.args.order.now c.args.tail.now some c.args.product (to_z w128 (of_z w128 c.args.utility)) c.args.utility same_sum c.args.gains.now c.args.masses.now c.requires.room) c.loop-s.world c.loop-s.gains c.loop-s.masses c.loop-s.s c.loop-s.invariant (subst (λ k. c.loop-s.s < k) c.states-states.ensures.states c.loop-s-test.true) c.factor.result (factor_held c.args.diagram.now.nodes c.args.profile.now c.args.left_out c.args.factors.now c.requires.factors (slice_index_or c.args.order.now 0 0) ((down_with c.args.diagram.now.nodes c.args.order.now c.args.tail.now some c.requires.order).0) (c.row-row.result * c.states-states.result + c.loop-s.s) (subst (λ k. k < rows_of c.args.diagram.now.nodes (slice_index_or c.args.order.now 0 0) * states_of c.args.diagram.now.nodes (slice_index_or c.args.order.now 0 0)) (sym (λ i. c.row-row.ensures i * c.states-states.ensures.states i + c.loop-s.s)) (cell_within c.args.diagram.now c.requires.diagram c.args.profile.now c.requires.profile c.args.left_out c.args.marks.now c.requires.marks (slice_index_or c.args.order.now 0 0) (take (length c.args.order.now - 1) (drop 1 c.args.order.now) ++ c.args.tail.now) (down_with c.args.diagram.now.nodes c.args.order.now c.args.tail.now some c.requires.order) c.args.product (to_z w128 (of_z w128 c.args.utility)) c.index-before.result.now c.args.world.now c.requires.world c.args.gains.now c.args.masses.now (room_with c.args.diagram.now.nodes c.args.profile.now c.args.left_out c.args.order.now c.args.tail.now some c.args.product (to_z w128 (of_z w128 c.args.utility)) c.args.utility same_sum c.args.gains.now c.args.masses.now c.requires.room) c.loop-s.s (subst (λ k. c.loop-s.s < k) c.states-states.ensures.states c.loop-s-test.true))) c.factor.result c.factor.ensures ∙ ap (factor_at c.args.diagram.now.nodes c.args.profile.now c.args.left_out (slice_index_or c.args.order.now 0 0)) (λ i. c.row-row.ensures i * c.states-states.ensures.states i + c.loop-s.s)) (to_z w128 (of_z w128 c.value.result)) (to_z-of_z w128 c.value.result (search rules) ∙ c.value.ensures ∙ ap (value_at c.args.diagram.now.nodes c.args.marks.now (slice_index_or c.args.order.now 0 0)) c.row-row.ensures) w.set_state.new.world w.set_state.ensures w.walk-else-is_empty.new.world w.walk-else-is_empty.new.gains w.walk-else-is_empty.new.masses w.walk-else-is_empty.ensures.again
           (gains_same c.args.diagram.now.nodes c.args.profile.now c.args.left_out c.args.marks.now (take (length c.args.order.now - 1) (drop 1 c.args.order.now) ++ c.args.tail.now) (c.args.product * c.factor.result) w.set_state.new.world c.loop-s.gains w.walk-else-is_empty.new.gains (to_z-of_z w128 (to_z w128 (of_z w128 c.args.utility) +ℤ to_z w128 (of_z w128 c.value.result)) sum_small) w.walk-else-is_empty.ensures.gains)
           w.walk-else-is_empty.ensures.masses w.walk-else-is_empty.ensures.gain_count w.walk-else-is_empty.ensures.mass_count)
       | else-more-gt0 w ↦
           moved (λ xs gains masses. WalkSoFar c.args.diagram.now.nodes c.args.profile.now c.args.left_out c.args.marks.now (slice_index_or c.args.order.now 0 0) (take (length c.args.order.now - 1) (drop 1 c.args.order.now) ++ c.args.tail.now) c.args.product (to_z w128 (of_z w128 c.args.utility)) c.index-before.result.now c.args.world.now c.args.gains.now c.args.masses.now xs gains masses (c.loop-s.s + 1)) w.world-is w.gains-is w.masses-is
-          (walk_skip c.args.diagram.now c.requires.diagram c.args.profile.now c.requires.profile c.args.left_out c.args.marks.now c.requires.marks (slice_index_or c.args.order.now 0 0) (take (length c.args.order.now - 1) (drop 1 c.args.order.now) ++ c.args.tail.now) (down_with c.args.diagram.now.nodes c.args.order.now c.args.tail.now some c.requires.order) c.args.product (to_z w128 (of_z w128 c.args.utility)) c.index-before.result.now c.args.world.now c.requires.world c.args.gains.now c.args.masses.now (room_with c.args.diagram.now.nodes c.args.profile.now c.args.left_out c.args.order.now c.args.tail.now some c.args.product (to_z w128 (of_z w128 c.args.utility)) c.args.utility same_sum c.args.gains.now c.args.masses.now c.requires.room) c.loop-s.world c.loop-s.gains c.loop-s.masses c.loop-s.s c.loop-s.invariant (subst (λ k. c.loop-s.s < k) c.states-states.ensures.states c.loop-s-test.true) c.factor.result (c.factor.ensures ∙ factor_told c.args.diagram.now.nodes c.args.profile.now c.weights_at-weights.result.now c.args.left_out (slice_index_or c.args.order.now 0 0) (c.row-row.result * c.states-states.result + c.loop-s.s) c.weights_at-weights.ensures.weights ∙ ap (factor_at c.args.diagram.now.nodes c.args.profile.now c.args.left_out (slice_index_or c.args.order.now 0 0)) (λ i. c.row-row.ensures i * c.states-states.ensures.states i + c.loop-s.s)) (nought (c.args.product * c.factor.result) w.if-more-gt0.false))
+          (walk_skip c.args.diagram.now c.requires.diagram c.args.profile.now c.requires.profile c.args.left_out c.args.marks.now c.requires.marks (slice_index_or c.args.order.now 0 0) (take (length c.args.order.now - 1) (drop 1 c.args.order.now) ++ c.args.tail.now) (down_with c.args.diagram.now.nodes c.args.order.now c.args.tail.now some c.requires.order) c.args.product (to_z w128 (of_z w128 c.args.utility)) c.index-before.result.now c.args.world.now c.requires.world c.args.gains.now c.args.masses.now (room_with c.args.diagram.now.nodes c.args.profile.now c.args.left_out c.args.order.now c.args.tail.now some c.args.product (to_z w128 (of_z w128 c.args.utility)) c.args.utility same_sum c.args.gains.now c.args.masses.now c.requires.room) c.loop-s.world c.loop-s.gains c.loop-s.masses c.loop-s.s c.loop-s.invariant (subst (λ k. c.loop-s.s < k) c.states-states.ensures.states c.loop-s-test.true) c.factor.result (factor_held c.args.diagram.now.nodes c.args.profile.now c.args.left_out c.args.factors.now c.requires.factors (slice_index_or c.args.order.now 0 0) ((down_with c.args.diagram.now.nodes c.args.order.now c.args.tail.now some c.requires.order).0) (c.row-row.result * c.states-states.result + c.loop-s.s) (subst (λ k. k < rows_of c.args.diagram.now.nodes (slice_index_or c.args.order.now 0 0) * states_of c.args.diagram.now.nodes (slice_index_or c.args.order.now 0 0)) (sym (λ i. c.row-row.ensures i * c.states-states.ensures.states i + c.loop-s.s)) (cell_within c.args.diagram.now c.requires.diagram c.args.profile.now c.requires.profile c.args.left_out c.args.marks.now c.requires.marks (slice_index_or c.args.order.now 0 0) (take (length c.args.order.now - 1) (drop 1 c.args.order.now) ++ c.args.tail.now) (down_with c.args.diagram.now.nodes c.args.order.now c.args.tail.now some c.requires.order) c.args.product (to_z w128 (of_z w128 c.args.utility)) c.index-before.result.now c.args.world.now c.requires.world c.args.gains.now c.args.masses.now (room_with c.args.diagram.now.nodes c.args.profile.now c.args.left_out c.args.order.now c.args.tail.now some c.args.product (to_z w128 (of_z w128 c.args.utility)) c.args.utility same_sum c.args.gains.now c.args.masses.now c.requires.room) c.loop-s.s (subst (λ k. c.loop-s.s < k) c.states-states.ensures.states c.loop-s-test.true))) c.factor.result c.factor.ensures ∙ ap (factor_at c.args.diagram.now.nodes c.args.profile.now c.args.left_out (slice_index_or c.args.order.now 0 0)) (λ i. c.row-row.ensures i * c.states-states.ensures.states i + c.loop-s.s)) (nought (c.args.product * c.factor.result) w.if-more-gt0.false))
     ]
 
 pub set_state-requires-in-len1-up : goal.set_state-requires-in-len1-up
@@ -225,12 +230,12 @@ add_world-requires-then-is_empty t c =
       marks = c.requires.marks;
       decision = c.requires.decision;
       tail = down_after c.args.diagram.now.nodes c.args.order.now c.args.tail.now c.requires.order;
-      world = next_world c.args.diagram.now c.requires.diagram c.args.profile.now c.requires.profile c.args.left_out c.args.marks.now c.requires.marks (slice_index_or c.args.order.now 0 0) (take (length c.args.order.now - 1) (drop 1 c.args.order.now) ++ c.args.tail.now) (down_with c.args.diagram.now.nodes c.args.order.now c.args.tail.now some c.requires.order) c.args.product (to_z w128 (of_z w128 c.args.utility)) c.index-before.result.now c.args.world.now c.requires.world c.args.gains.now c.args.masses.now (room_with c.args.diagram.now.nodes c.args.profile.now c.args.left_out c.args.order.now c.args.tail.now some c.args.product (to_z w128 (of_z w128 c.args.utility)) c.args.utility same_sum c.args.gains.now c.args.masses.now c.requires.room) c.loop-s.world c.loop-s.gains c.loop-s.masses c.loop-s.s c.loop-s.invariant (subst (λ k. c.loop-s.s < k) c.states-states.ensures.states c.loop-s-test.true) c.factor.result (c.factor.ensures ∙ factor_told c.args.diagram.now.nodes c.args.profile.now c.weights_at-weights.result.now c.args.left_out (slice_index_or c.args.order.now 0 0) (c.row-row.result * c.states-states.result + c.loop-s.s) c.weights_at-weights.ensures.weights ∙ ap (factor_at c.args.diagram.now.nodes c.args.profile.now c.args.left_out (slice_index_or c.args.order.now 0 0)) (λ i. c.row-row.ensures i * c.states-states.ensures.states i + c.loop-s.s)) (to_z w128 (of_z w128 c.value.result)) (to_z-of_z w128 c.value.result (search rules) ∙ c.value.ensures ∙ ap (value_at c.args.diagram.now.nodes c.args.marks.now (slice_index_or c.args.order.now 0 0)) c.row-row.ensures) c.set_state.new.world c.set_state.ensures;
+      world = next_world c.args.diagram.now c.requires.diagram c.args.profile.now c.requires.profile c.args.left_out c.args.marks.now c.requires.marks (slice_index_or c.args.order.now 0 0) (take (length c.args.order.now - 1) (drop 1 c.args.order.now) ++ c.args.tail.now) (down_with c.args.diagram.now.nodes c.args.order.now c.args.tail.now some c.requires.order) c.args.product (to_z w128 (of_z w128 c.args.utility)) c.index-before.result.now c.args.world.now c.requires.world c.args.gains.now c.args.masses.now (room_with c.args.diagram.now.nodes c.args.profile.now c.args.left_out c.args.order.now c.args.tail.now some c.args.product (to_z w128 (of_z w128 c.args.utility)) c.args.utility same_sum c.args.gains.now c.args.masses.now c.requires.room) c.loop-s.world c.loop-s.gains c.loop-s.masses c.loop-s.s c.loop-s.invariant (subst (λ k. c.loop-s.s < k) c.states-states.ensures.states c.loop-s-test.true) c.factor.result (factor_held c.args.diagram.now.nodes c.args.profile.now c.args.left_out c.args.factors.now c.requires.factors (slice_index_or c.args.order.now 0 0) ((down_with c.args.diagram.now.nodes c.args.order.now c.args.tail.now some c.requires.order).0) (c.row-row.result * c.states-states.result + c.loop-s.s) (subst (λ k. k < rows_of c.args.diagram.now.nodes (slice_index_or c.args.order.now 0 0) * states_of c.args.diagram.now.nodes (slice_index_or c.args.order.now 0 0)) (sym (λ i. c.row-row.ensures i * c.states-states.ensures.states i + c.loop-s.s)) (cell_within c.args.diagram.now c.requires.diagram c.args.profile.now c.requires.profile c.args.left_out c.args.marks.now c.requires.marks (slice_index_or c.args.order.now 0 0) (take (length c.args.order.now - 1) (drop 1 c.args.order.now) ++ c.args.tail.now) (down_with c.args.diagram.now.nodes c.args.order.now c.args.tail.now some c.requires.order) c.args.product (to_z w128 (of_z w128 c.args.utility)) c.index-before.result.now c.args.world.now c.requires.world c.args.gains.now c.args.masses.now (room_with c.args.diagram.now.nodes c.args.profile.now c.args.left_out c.args.order.now c.args.tail.now some c.args.product (to_z w128 (of_z w128 c.args.utility)) c.args.utility same_sum c.args.gains.now c.args.masses.now c.requires.room) c.loop-s.s (subst (λ k. c.loop-s.s < k) c.states-states.ensures.states c.loop-s-test.true))) c.factor.result c.factor.ensures ∙ ap (factor_at c.args.diagram.now.nodes c.args.profile.now c.args.left_out (slice_index_or c.args.order.now 0 0)) (λ i. c.row-row.ensures i * c.states-states.ensures.states i + c.loop-s.s)) (to_z w128 (of_z w128 c.value.result)) (to_z-of_z w128 c.value.result (search rules) ∙ c.value.ensures ∙ ap (value_at c.args.diagram.now.nodes c.args.marks.now (slice_index_or c.args.order.now 0 0)) c.row-row.ensures) c.set_state.new.world c.set_state.ensures;
       gains = c.loop-s.invariant.gain_count ∙ c.requires.gains;
       masses = c.loop-s.invariant.mass_count ∙ c.requires.masses;
       room = tail_room c.args.diagram.now c.requires.diagram c.args.profile.now c.requires.profile c.args.left_out c.args.marks.now c.requires.marks c.args.tail.now (c.args.product * c.factor.result) (to_z w128 (of_z w128 (to_z w128 (of_z w128 c.args.utility) +ℤ to_z w128 (of_z w128 c.value.result)))) c.loop-s.gains c.loop-s.masses
           (room_same c.args.diagram.now.nodes c.args.profile.now c.args.left_out c.args.tail.now (c.args.product * c.factor.result) c.loop-s.gains c.loop-s.masses (to_z-of_z w128 (to_z w128 (of_z w128 c.args.utility) +ℤ to_z w128 (of_z w128 c.value.result)) sum_small)
-          (subst (λ vs. HasRoom c.args.diagram.now.nodes c.args.profile.now c.args.left_out vs (c.args.product * c.factor.result) (to_z w128 (of_z w128 c.args.utility) +ℤ to_z w128 (of_z w128 c.value.result)) c.loop-s.gains c.loop-s.masses) none (next_room c.args.diagram.now c.requires.diagram c.args.profile.now c.requires.profile c.args.left_out c.args.marks.now c.requires.marks (slice_index_or c.args.order.now 0 0) (take (length c.args.order.now - 1) (drop 1 c.args.order.now) ++ c.args.tail.now) (down_with c.args.diagram.now.nodes c.args.order.now c.args.tail.now some c.requires.order) c.args.product (to_z w128 (of_z w128 c.args.utility)) c.index-before.result.now c.args.world.now c.requires.world c.args.gains.now c.args.masses.now (room_with c.args.diagram.now.nodes c.args.profile.now c.args.left_out c.args.order.now c.args.tail.now some c.args.product (to_z w128 (of_z w128 c.args.utility)) c.args.utility same_sum c.args.gains.now c.args.masses.now c.requires.room) c.loop-s.world c.loop-s.gains c.loop-s.masses c.loop-s.s c.loop-s.invariant (subst (λ k. c.loop-s.s < k) c.states-states.ensures.states c.loop-s-test.true) c.factor.result (c.factor.ensures ∙ factor_told c.args.diagram.now.nodes c.args.profile.now c.weights_at-weights.result.now c.args.left_out (slice_index_or c.args.order.now 0 0) (c.row-row.result * c.states-states.result + c.loop-s.s) c.weights_at-weights.ensures.weights ∙ ap (factor_at c.args.diagram.now.nodes c.args.profile.now c.args.left_out (slice_index_or c.args.order.now 0 0)) (λ i. c.row-row.ensures i * c.states-states.ensures.states i + c.loop-s.s)) (to_z w128 (of_z w128 c.value.result)) (to_z-of_z w128 c.value.result (search rules) ∙ c.value.ensures ∙ ap (value_at c.args.diagram.now.nodes c.args.marks.now (slice_index_or c.args.order.now 0 0)) c.row-row.ensures) c.set_state.new.world c.set_state.ensures)));
+          (subst (λ vs. HasRoom c.args.diagram.now.nodes c.args.profile.now c.args.left_out vs (c.args.product * c.factor.result) (to_z w128 (of_z w128 c.args.utility) +ℤ to_z w128 (of_z w128 c.value.result)) c.loop-s.gains c.loop-s.masses) none (next_room c.args.diagram.now c.requires.diagram c.args.profile.now c.requires.profile c.args.left_out c.args.marks.now c.requires.marks (slice_index_or c.args.order.now 0 0) (take (length c.args.order.now - 1) (drop 1 c.args.order.now) ++ c.args.tail.now) (down_with c.args.diagram.now.nodes c.args.order.now c.args.tail.now some c.requires.order) c.args.product (to_z w128 (of_z w128 c.args.utility)) c.index-before.result.now c.args.world.now c.requires.world c.args.gains.now c.args.masses.now (room_with c.args.diagram.now.nodes c.args.profile.now c.args.left_out c.args.order.now c.args.tail.now some c.args.product (to_z w128 (of_z w128 c.args.utility)) c.args.utility same_sum c.args.gains.now c.args.masses.now c.requires.room) c.loop-s.world c.loop-s.gains c.loop-s.masses c.loop-s.s c.loop-s.invariant (subst (λ k. c.loop-s.s < k) c.states-states.ensures.states c.loop-s-test.true) c.factor.result (factor_held c.args.diagram.now.nodes c.args.profile.now c.args.left_out c.args.factors.now c.requires.factors (slice_index_or c.args.order.now 0 0) ((down_with c.args.diagram.now.nodes c.args.order.now c.args.tail.now some c.requires.order).0) (c.row-row.result * c.states-states.result + c.loop-s.s) (subst (λ k. k < rows_of c.args.diagram.now.nodes (slice_index_or c.args.order.now 0 0) * states_of c.args.diagram.now.nodes (slice_index_or c.args.order.now 0 0)) (sym (λ i. c.row-row.ensures i * c.states-states.ensures.states i + c.loop-s.s)) (cell_within c.args.diagram.now c.requires.diagram c.args.profile.now c.requires.profile c.args.left_out c.args.marks.now c.requires.marks (slice_index_or c.args.order.now 0 0) (take (length c.args.order.now - 1) (drop 1 c.args.order.now) ++ c.args.tail.now) (down_with c.args.diagram.now.nodes c.args.order.now c.args.tail.now some c.requires.order) c.args.product (to_z w128 (of_z w128 c.args.utility)) c.index-before.result.now c.args.world.now c.requires.world c.args.gains.now c.args.masses.now (room_with c.args.diagram.now.nodes c.args.profile.now c.args.left_out c.args.order.now c.args.tail.now some c.args.product (to_z w128 (of_z w128 c.args.utility)) c.args.utility same_sum c.args.gains.now c.args.masses.now c.requires.room) c.loop-s.s (subst (λ k. c.loop-s.s < k) c.states-states.ensures.states c.loop-s-test.true))) c.factor.result c.factor.ensures ∙ ap (factor_at c.args.diagram.now.nodes c.args.profile.now c.args.left_out (slice_index_or c.args.order.now 0 0)) (λ i. c.row-row.ensures i * c.states-states.ensures.states i + c.loop-s.s)) (to_z w128 (of_z w128 c.value.result)) (to_z-of_z w128 c.value.result (search rules) ∙ c.value.ensures ∙ ap (value_at c.args.diagram.now.nodes c.args.marks.now (slice_index_or c.args.order.now 0 0)) c.row-row.ensures) c.set_state.new.world c.set_state.ensures)));
     }
 
 pub returns-in-empty-clause-gains : goal.returns-in-empty-clause-gains
