@@ -16,6 +16,8 @@ mod ExampleReports
 pub mod Walking
 pub mod WalkTables
 pub mod WalkSteps
+pub mod WalkTails
+pub mod WalkEndings
 pub mod WalkOpened
 pub mod WalkOrders
 pub mod WalkTotals

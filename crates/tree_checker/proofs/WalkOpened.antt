@@ -22,10 +22,22 @@ shorter order l = subst (λ (xs : List ℕ). length (take (length order - 1) (dr
 pub down_opened : (nodes : List NodeView) (order : List ℕ) → 0 < length order → IsDownward nodes order → IsDownward nodes (slice_index_or order 0 0 ∷ take (length order - 1) (drop 1 order))
 down_opened nodes order l h = subst (IsDownward nodes) (order_opened order l) h
 
-pub room_opened : (nodes : List NodeView) (p : List RuleView) (out : ℕ) (order : List ℕ) → 0 < length order → (m : ℕ) (q r : ℤ) → q ≡ r → (gains : List ℤ) (masses : List ℕ)
-    → HasRoom nodes p out order m r gains masses → HasRoom nodes p out (slice_index_or order 0 0 ∷ take (length order - 1) (drop 1 order)) m q gains masses
-room_opened nodes p out order l m q r e gains masses h =
-    subst (λ z. HasRoom nodes p out (slice_index_or order 0 0 ∷ take (length order - 1) (drop 1 order)) m z gains masses) (sym e) (subst (λ vs. HasRoom nodes p out vs m r gains masses) (order_opened order l) h)
+-- the same with nodes that stand after those of the order
+pub whole_opened : (order tail : List ℕ) → 0 < length order → order ++ tail ≡ slice_index_or order 0 0 ∷ (take (length order - 1) (drop 1 order) ++ tail)
+whole_opened order tail l = ap (λ l. l ++ tail) (order_opened order l)
+
+pub down_with : (nodes : List NodeView) (order tail : List ℕ) → 0 < length order → IsDownward nodes (order ++ tail) → IsDownward nodes (slice_index_or order 0 0 ∷ (take (length order - 1) (drop 1 order) ++ tail))
+down_with nodes order tail l h = subst (IsDownward nodes) (whole_opened order tail l) h
+
+pub room_with : (nodes : List NodeView) (p : List RuleView) (out : ℕ) (order tail : List ℕ) → 0 < length order → (m : ℕ) (q r : ℤ) → q ≡ r → (gains : List ℤ) (masses : List ℕ)
+    → HasRoom nodes p out (order ++ tail) m r gains masses → HasRoom nodes p out (slice_index_or order 0 0 ∷ (take (length order - 1) (drop 1 order) ++ tail)) m q gains masses
+room_with nodes p out order tail l m q r e gains masses h =
+    subst (λ z. HasRoom nodes p out (slice_index_or order 0 0 ∷ (take (length order - 1) (drop 1 order) ++ tail)) m z gains masses) (sym e) (subst (λ vs. HasRoom nodes p out vs m r gains masses) (whole_opened order tail l) h)
+
+-- nothing stands before the tail
+pub none_before : (order tail : List ℕ) → length order < 1 → order ++ tail ≡ tail
+none_before [] tail h = refl
+none_before (v ∷ vs) tail h = absurd (omega arith)
 
 pub small_fits : (z : ℤ) → nat_abs z ≤ greatest_number → FitsSigned w128 z
 small_fits z h = fits_signed_from_abs w128 z (less (nat_abs z) h)

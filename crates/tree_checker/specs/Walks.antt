@@ -2,6 +2,7 @@
 use Rattle.std.specs.Prelude.{◌≡◌, ◌≢◌, ℕ, ◌+◌, ◌*◌, ◌^◌, ◌<◌, ◌≤◌, List, [], ◌∷◌, length, slice_index, slice_index_or, ℤ, pos, ◌+ℤ◌, ◌*ℤ◌, nat_abs, ◌==◌, if◌then◌else◌}
 use Rattle.finite_sums.specs.Members.{Among}
 use Rattle.finite_sums.specs.Sums.{World, nat_product_over, nat_sum_over, product_over, sum_each, sum_over}
+use Rattle.maid_model.specs.declared.diagrams.Kind.TheVariants.{Utility}
 use Rattle.maid_model.specs.Diagrams.{greatest_number}
 use Rattle.maid_model.specs.Gains.{base_total, greatest_abs, greatest_utility, sum_worlds, table_without, weight_without}
 use Rattle.maid_model.specs.Nodes.{is_utility, node_at, parents_of, rows_of, states_of}
@@ -19,6 +20,20 @@ IsDownward nodes (v ∷ vs) = (v < length nodes) × ((u : ℕ) → Among u vs �
 -- v's factor where the cell is picked, but 1 at the decision d
 abbrev pub factor_at : List NodeView → List RuleView → ℕ → ℕ → ℕ → ℤ
 factor_at nodes p d v cell = if v == d then pos 1 else table_by (node_at nodes v).kind (node_at nodes v).cells (weights_of p v) cell
+
+-- the same by the weights of v's rule
+abbrev pub factor_by : List NodeView → List ℕ → ℕ → ℕ → ℕ → ℤ
+factor_by nodes weights d v cell = if v == d then pos 1 else table_by (node_at nodes v).kind (node_at nodes v).cells weights cell
+
+-- v's factor at each of its cells
+pub record ListsFactors (nodes : List NodeView) (p : List RuleView) (d v : ℕ) (list : List ℕ) : Type 0 where
+  pub count : length list ≡ rows_of nodes v * states_of nodes v
+  pub factor : (c : ℕ) → c < rows_of nodes v * states_of nodes v → pos (slice_index list c) ≡ factor_at nodes p d v c
+
+-- the factors of each node
+pub record HoldsFactors (nodes : List NodeView) (p : List RuleView) (d : ℕ) (lists : List (List ℕ)) : Type 0 where
+  pub count : length lists ≡ length nodes
+  pub lists_each : (v : ℕ) → v < length nodes → ListsFactors nodes p d v (slice_index_or lists v [])
 
 -- the cell of the row in v, if v is marked
 abbrev pub value_at : List NodeView → NodeSet → ℕ → ℕ → ℤ
@@ -40,6 +55,17 @@ gain_with nodes p d marks vs product utility c w =
 -- the sum of the weights of those worlds
 abbrev pub mass_with : List NodeView → List RuleView → ℕ → List ℕ → ℕ → ℕ → World → ℤ
 mass_with nodes p d vs product c w = sum_over (states_of nodes) vs (λ w. if cell_of nodes d w == c then weight_with nodes p d vs product w else pos 0) w
+
+-- what one world with this weight adds to the cell c of d, with the marked utilities among the listed nodes
+abbrev pub world_gain : List NodeView → ℕ → NodeSet → List ℕ → ℕ → ℤ → ℕ → World → ℤ
+world_gain nodes d marks vs product utility c w = if cell_of nodes d w == c then pos product *ℤ utility_with nodes marks vs utility w else pos 0
+
+abbrev pub world_mass : List NodeView → ℕ → ℕ → ℕ → World → ℤ
+world_mass nodes d product c w = if cell_of nodes d w == c then pos product else pos 0
+
+-- each of the nodes is a utility
+abbrev pub AreUtilities : List NodeView → List ℕ → Type 0
+AreUtilities nodes vs = (k : ℕ) → k < length vs → (node_at nodes (slice_index vs k)).kind ≡ Utility
 
 -- the same sums over all worlds of the diagram
 abbrev pub cell_gain : List NodeView → List RuleView → ℕ → NodeSet → ℕ → ℤ
@@ -69,5 +95,12 @@ mass_left nodes p d vs product = product * nat_product_over (base_total nodes p 
 pub record HasRoom (nodes : List NodeView) (p : List RuleView) (d : ℕ) (vs : List ℕ) (product : ℕ) (sum : ℤ) (gains : List ℤ) (masses : List ℕ) : Type 0 where
   pub gain : (c : ℕ) → nat_abs (slice_index_or gains c (pos 0)) + mass_left nodes p d vs product * greatest_utility nodes ≤ greatest_number
   pub mass : (c : ℕ) → slice_index masses c + mass_left nodes p d vs product ≤ greatest_number
+  pub utility : nat_abs sum + nat_sum_over (greatest_at nodes) vs ≤ greatest_utility nodes
+  pub most : greatest_utility nodes ≤ greatest_number
+
+-- one world can be added with this weight and the utilities of the listed nodes
+pub record HasRoomAt (nodes : List NodeView) (vs : List ℕ) (product : ℕ) (sum : ℤ) (gains : List ℤ) (masses : List ℕ) : Type 0 where
+  pub gain : (c : ℕ) → nat_abs (slice_index_or gains c (pos 0)) + product * greatest_utility nodes ≤ greatest_number
+  pub mass : (c : ℕ) → slice_index masses c + product ≤ greatest_number
   pub utility : nat_abs sum + nat_sum_over (greatest_at nodes) vs ≤ greatest_utility nodes
   pub most : greatest_utility nodes ≤ greatest_number

@@ -6,6 +6,8 @@ mod bases;
 mod checking;
 mod counting;
 mod decisions;
+mod endings;
+mod factors;
 mod gains;
 mod laws;
 mod orders;

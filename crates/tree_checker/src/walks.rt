@@ -1,17 +1,19 @@
 //! Sums over worlds by a walk down the nodes, parents first: products and sums are carried from node to node.
 
-ghost use Rattle.std.specs.Prelude.{◌≡◌, ℕ, ◌+◌, ◌*◌, ◌^◌, ◌<◌, ◌≤◌, max, IfOk, length, pos, ◌+ℤ◌, ◌*ℤ◌, nat_abs, slice_index, slice_index_or, slice_set};
+ghost use Rattle.std.specs.Prelude.{◌≡◌, ℕ, ◌*◌, ◌^◌, ◌<◌, ◌≤◌, ◌++◌, drop, max, IfOk, length, pos, ◌+ℤ◌, slice_index, slice_index_or, slice_set};
+ghost use Rattle.diagram_graph.specs.Cycles.{lists_in};
 ghost use Rattle.maid_model.specs.Diagrams.{IsDiagram, greatest_number};
 ghost use Rattle.maid_model.specs.Gains.{base_mass, greatest_utility};
 ghost use Rattle.maid_model.specs.Nodes.{counts_of, rows_of, states_of};
 ghost use Rattle.maid_model.specs.Private.{MarksUtilities};
 ghost use Rattle.maid_model.specs.Profiles.{IsProfile};
-ghost use Rattle.maid_model.specs.Tables.{cell_of};
 ghost use Rattle.maid_model.specs.Worlds.{IsWorld, world_of};
-ghost use Rattle.tree_checker.specs.Walks.{HasRoom, IsDownward, ListsCells, factor_at, gain_with, mass_with, value_at};
+ghost use Rattle.tree_checker.specs.Walks.{AreUtilities, HasRoom, HoldsFactors, IsDownward, ListsCells, gain_with, mass_with};
 
+use crate::endings::{add_world, value};
+use crate::factors::{all_factors, factor};
 use diagram_graph::topological;
-use maid_model::{Diagram, Kind, Profile, World, profile_has_rules};
+use maid_model::{Diagram, Kind, Profile, World};
 use node_sets::NodeSet;
 use std::alloc::{AllocError, Global};
 
@@ -23,132 +25,80 @@ fn set_state(world: &mut World, v: usize, state: usize)
     world.states[v] = state;
 }
 
-/// The node's factor in the weight of the worlds that pick this cell: the chance cell or rule weight, and 1 at a utility
-/// and at the decision that is left out.
-fn factor(diagram: &Diagram, profile: &Profile, left_out: usize, v: usize, cell: usize) -> u128
-    requires node { v < length diagram.now.nodes }
-    requires profile { IsProfile diagram.now.nodes profile.now }
-    requires cell { cell < rows_of diagram.now.nodes v * states_of diagram.now.nodes v }
-    ensures { pos result ≡ factor_at diagram.now.nodes profile.now left_out v cell }
-{
-    // A profile has a rule for each decision.
-    profile_has_rules();
-    let kind = diagram.kind(v);
-    if v == left_out {
-        return 1;
-    }
-    match kind {
-        Kind::Utility => 1,
-        Kind::Chance => diagram.cells(v)[cell] as u128,
-        Kind::Decision => profile.rule(v).weights[cell],
-    }
-}
-
-/// The cell of that row, if the node is marked; 0 elsewhere.
-fn value(diagram: &Diagram, marks: &NodeSet, v: usize, row: usize) -> i128
-    requires node { v < length diagram.now.nodes }
-    requires marks { MarksUtilities diagram.now.nodes marks.now }
-    requires row { row < rows_of diagram.now.nodes v }
-    ensures { result ≡ value_at diagram.now.nodes marks.now v row }
-{
-    let cells = diagram.cells(v);
-    if !marks.holds(v) {
-        return 0;
-    }
-    cells[row]
-}
-
-/// The cell that the world picks in the decision that is left out; 0 where none is.
-fn place(diagram: &Diagram, left_out: usize, world: &World) -> usize
-    requires decision { left_out ≤ length diagram.now.nodes }
-    requires world { IsWorld (counts_of diagram.now.nodes) world.now }
-    ensures place { result ≡ cell_of diagram.now.nodes left_out (world_of world.now) }
-    ensures within { result
-        < rows_of diagram.now.nodes left_out * states_of diagram.now.nodes left_out }
-{
-    if left_out == diagram.count() {
-        return 0;
-    }
-    world.cell(diagram, left_out)
-}
-
-/// Adds a world's weight and gain to its cell.
-fn add_world(cell: usize, product: u128, utility: i128, gains: &mut [i128], masses: &mut [u128])
-    requires gains { cell < length gains.old }
-    requires masses { cell < length masses.old }
-    requires gain { nat_abs (slice_index_or gains.old cell (pos 0)) + product * nat_abs utility
-        ≤ greatest_number }
-    requires mass { slice_index masses.old cell + product ≤ greatest_number }
-    ensures gains { gains.new ≡ slice_set gains.old cell (slice_index_or gains.old cell (pos 0) +ℤ
-        (pos product *ℤ utility)) }
-    ensures masses { masses.new
-        ≡ slice_set masses.old cell (slice_index masses.old cell + product) }
-{
-    gains[cell] += product as i128 * utility;
-    masses[cell] += product;
-}
-
 /// Adds to each cell what the worlds with other states of the listed nodes have there: to `gains` the weights times
-/// the marked utilities, and to `masses` the weights. It goes once through the states of a node for each choice of
-/// states of those before that has some weight, and calls itself once for each node of the list at most. It takes no
-/// memory.
+/// the marked utilities, and to `masses` the weights. After the nodes of the order come the utilities of the tail. It
+/// goes once through the states of a node of the order for each choice of states of those before that has some weight,
+/// and calls itself once for each node of the order at most. It takes no memory.
 fn walk(
     diagram: &Diagram,
     profile: &Profile,
+    factors: &[Vec<u128>],
     marks: &NodeSet,
     left_out: usize,
     order: &[usize],
+    tail: &[usize],
     world: &mut World,
     product: u128,
     utility: i128,
     gains: &mut [i128],
     masses: &mut [u128],
 )
+    requires diagram { IsDiagram diagram.now }
     requires profile { IsProfile diagram.now.nodes profile.now }
+    requires factors { HoldsFactors diagram.now.nodes profile.now left_out
+        (lists_in factors.now) }
     requires marks { MarksUtilities diagram.now.nodes marks.now }
     requires decision { left_out ≤ length diagram.now.nodes }
-    requires order { IsDownward diagram.now.nodes order.now }
+    requires order { IsDownward diagram.now.nodes (order.now ++ tail.now) }
+    requires tail { AreUtilities diagram.now.nodes tail.now }
     requires world { IsWorld (counts_of diagram.now.nodes) world.old }
     requires gains { length gains.old
         ≡ rows_of diagram.now.nodes left_out * states_of diagram.now.nodes left_out }
     requires masses { length masses.old
         ≡ rows_of diagram.now.nodes left_out * states_of diagram.now.nodes left_out }
-    requires room { HasRoom diagram.now.nodes profile.now left_out order.now product utility
-        gains.old masses.old }
+    requires room { HasRoom diagram.now.nodes profile.now left_out (order.now ++ tail.now) product
+        utility gains.old masses.old }
     ensures again { world.new ≡ world.old }
     ensures gains { (c : ℕ) → slice_index_or gains.new c (pos 0)
         ≡ slice_index_or gains.old c (pos 0) +ℤ gain_with diagram.now.nodes profile.now left_out
-        marks.now order.now product utility c (world_of world.old) }
+        marks.now (order.now ++ tail.now) product utility c (world_of world.old) }
     ensures masses { (c : ℕ) → pos (slice_index masses.new c)
         ≡ pos (slice_index masses.old c) +ℤ mass_with diagram.now.nodes profile.now left_out
-        order.now product c (world_of world.old) }
+        (order.now ++ tail.now) product c (world_of world.old) }
     ensures gain_count { length gains.new ≡ length gains.old }
     ensures mass_count { length masses.new ≡ length masses.old }
 {
     match order {
-        [] => {
-            let cell = place(diagram, left_out, world);
-            add_world(cell, product, utility, gains, masses);
-        }
+        [] => add_world(
+            diagram, marks, left_out, tail, world, product, utility, gains, masses,
+        ),
         [v, rest @ ..] => {
             let states = diagram.states(*v);
             let row = world.row(diagram, *v);
             let sum = utility + value(diagram, marks, *v, row);
             if let Kind::Utility = diagram.kind(*v) {
                 walk(
-                    diagram, profile, marks, left_out, rest, world, product, sum, gains, masses,
+                    diagram, profile, factors, marks, left_out, rest, tail, world, product, sum,
+                    gains, masses,
                 );
                 return;
             }
             let before = world.states[*v];
             let first = row * states;
             for s in 0..states {
-                let more = product * factor(diagram, profile, left_out, *v, first + s);
+                let more = product * factor(factors, *v, first + s);
                 if more > 0 {
                     set_state(world, *v, s);
-                    walk(
-                        diagram, profile, marks, left_out, rest, world, more, sum, gains, masses,
-                    );
+                    if rest.is_empty() {
+                        add_world(
+                            diagram, marks, left_out, tail, world, more, sum, gains, masses,
+                        );
+                    } else {
+                        walk(
+                            diagram, profile, factors, marks, left_out, rest, tail, world, more,
+                            sum, gains, masses,
+                        );
+                    }
                 }
             }
             set_state(world, *v, before);
@@ -178,6 +128,22 @@ fn cell_count(diagram: &Diagram, left_out: usize) -> usize
     diagram.rows(left_out) * diagram.states(left_out)
 }
 
+/// How many nodes of the order stand before its tail of utilities.
+fn weighed(diagram: &Diagram, order: &[usize]) -> usize
+    requires { IsDownward diagram.now.nodes order.now }
+    ensures within { result ≤ length order.now }
+    ensures tail { AreUtilities diagram.now.nodes (drop result order.now) }
+{
+    let mut end = order.len();
+    while end > 0 {
+        match diagram.kind(order[end - 1]) {
+            Kind::Utility => end -= 1,
+            Kind::Chance | Kind::Decision => return end,
+        }
+    }
+    end
+}
+
 /// The gains and masses of the cells of the decision that is left out, over all worlds of the diagram; where none is
 /// left out, the one cell has all worlds. It goes down the nodes once for each choice of states of those before, but
 /// for what has no weight.
@@ -201,13 +167,17 @@ pub(crate) fn cells_over(
     let mut gains = vec![in alloc; 0; count]?;
     let mut masses = vec![in alloc; 0; count]?;
     let mut world = World::first(alloc, diagram)?;
-    let order = topological(alloc, diagram)?;
+    let factors = all_factors(alloc, diagram, profile, left_out)?;
+    let nodes = topological(alloc, diagram)?;
+    let (order, tail) = nodes.split_at(weighed(diagram, &nodes));
     walk(
         diagram,
         profile,
+        &factors,
         marks,
         left_out,
-        &order,
+        order,
+        tail,
         &mut world,
         1,
         0,

@@ -1,7 +1,7 @@
 use Rattle.std.proofs.Common.{◌∙◌, ◌*◌, ◌<◌, ◌≤◌, ℕ, ap, arith, length, subst, sym}
 use Rattle.std.proofs.Math.Nat.{mul-le-mul_left}
 use Rattle.maid_model.specs.Nodes.{rows_of, states_of}
-use Rattle.tree_checker.proofs.walks.value.Goals as goal
+use Rattle.tree_checker.proofs.endings.value.Goals as goal
 
 pub holds-requires : goal.holds-requires
 holds-requires c = omega (arith, c.requires.node, c.cells-cells.ensures.diagram.limits.nodes)

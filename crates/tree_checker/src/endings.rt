@@ -1,0 +1,119 @@
+//! What one world adds to a sum over worlds.
+
+ghost use Rattle.std.specs.Prelude.{◌≡◌, ℕ, ◌+◌, ◌*◌, ◌<◌, ◌≤◌, length, pos, ◌+ℤ◌, ◌*ℤ◌, nat_abs, slice_index, slice_index_or, slice_set};
+ghost use Rattle.maid_model.specs.Diagrams.{IsDiagram, greatest_number};
+ghost use Rattle.maid_model.specs.Nodes.{counts_of, rows_of, states_of};
+ghost use Rattle.maid_model.specs.Private.{MarksUtilities};
+ghost use Rattle.maid_model.specs.Tables.{cell_of};
+ghost use Rattle.maid_model.specs.Worlds.{IsWorld, world_of};
+ghost use Rattle.finite_sums.specs.Sums.{nat_sum_over};
+ghost use Rattle.tree_checker.specs.Walks.{HasRoomAt, IsDownward, greatest_at, utility_with, value_at, world_gain, world_mass};
+
+use maid_model::{Diagram, World};
+use node_sets::NodeSet;
+
+/// The cell of that row, if the node is marked; 0 elsewhere.
+pub(crate) fn value(diagram: &Diagram, marks: &NodeSet, v: usize, row: usize) -> i128
+    requires node { v < length diagram.now.nodes }
+    requires marks { MarksUtilities diagram.now.nodes marks.now }
+    requires row { row < rows_of diagram.now.nodes v }
+    ensures { result ≡ value_at diagram.now.nodes marks.now v row }
+{
+    let cells = diagram.cells(v);
+    if !marks.holds(v) {
+        return 0;
+    }
+    cells[row]
+}
+
+/// The cell that the world picks in the decision that is left out; 0 where none is.
+fn place(diagram: &Diagram, left_out: usize, world: &World) -> usize
+    requires decision { left_out ≤ length diagram.now.nodes }
+    requires world { IsWorld (counts_of diagram.now.nodes) world.now }
+    ensures place { result ≡ cell_of diagram.now.nodes left_out (world_of world.now) }
+    ensures within { result
+        < rows_of diagram.now.nodes left_out * states_of diagram.now.nodes left_out }
+{
+    if left_out == diagram.count() {
+        return 0;
+    }
+    world.cell(diagram, left_out)
+}
+
+/// The utility so far and the marked cells that the world picks in the listed nodes.
+fn utility_in(
+    diagram: &Diagram,
+    marks: &NodeSet,
+    list: &[usize],
+    world: &World,
+    utility: i128,
+) -> i128
+    requires diagram { IsDiagram diagram.now }
+    requires marks { MarksUtilities diagram.now.nodes marks.now }
+    requires list { IsDownward diagram.now.nodes list.now }
+    requires world { IsWorld (counts_of diagram.now.nodes) world.now }
+    requires room { nat_abs utility + nat_sum_over (greatest_at diagram.now.nodes) list.now
+        ≤ greatest_number }
+    ensures { result
+        ≡ utility_with diagram.now.nodes marks.now list.now utility (world_of world.now) }
+{
+    match list {
+        [] => utility,
+        [v, rest @ ..] => {
+            let more = value(diagram, marks, *v, world.row(diagram, *v));
+            utility_in(diagram, marks, rest, world, utility + more)
+        }
+    }
+}
+
+/// Adds the weight and gain to the cell.
+fn add_to_cell(cell: usize, product: u128, utility: i128, gains: &mut [i128], masses: &mut [u128])
+    requires gains { cell < length gains.old }
+    requires masses { cell < length masses.old }
+    requires gain { nat_abs (slice_index_or gains.old cell (pos 0)) + product * nat_abs utility
+        ≤ greatest_number }
+    requires mass { slice_index masses.old cell + product ≤ greatest_number }
+    ensures gains { gains.new ≡ slice_set gains.old cell (slice_index_or gains.old cell (pos 0) +ℤ
+        (pos product *ℤ utility)) }
+    ensures masses { masses.new
+        ≡ slice_set masses.old cell (slice_index masses.old cell + product) }
+{
+    gains[cell] += product as i128 * utility;
+    masses[cell] += product;
+}
+
+/// Adds what one world has to the cell that it picks, with the marked utilities of the tail.
+pub(crate) fn add_world(
+    diagram: &Diagram,
+    marks: &NodeSet,
+    left_out: usize,
+    tail: &[usize],
+    world: &World,
+    product: u128,
+    utility: i128,
+    gains: &mut [i128],
+    masses: &mut [u128],
+)
+    requires diagram { IsDiagram diagram.now }
+    requires marks { MarksUtilities diagram.now.nodes marks.now }
+    requires decision { left_out ≤ length diagram.now.nodes }
+    requires tail { IsDownward diagram.now.nodes tail.now }
+    requires world { IsWorld (counts_of diagram.now.nodes) world.now }
+    requires gains { length gains.old
+        ≡ rows_of diagram.now.nodes left_out * states_of diagram.now.nodes left_out }
+    requires masses { length masses.old
+        ≡ rows_of diagram.now.nodes left_out * states_of diagram.now.nodes left_out }
+    requires room { HasRoomAt diagram.now.nodes tail.now product utility gains.old masses.old }
+    ensures gains { (c : ℕ) → slice_index_or gains.new c (pos 0)
+        ≡ slice_index_or gains.old c (pos 0) +ℤ world_gain diagram.now.nodes left_out marks.now
+        tail.now product utility c (world_of world.now) }
+    ensures masses { (c : ℕ) → pos (slice_index masses.new c)
+        ≡ pos (slice_index masses.old c)
+        +ℤ world_mass diagram.now.nodes left_out product c (world_of world.now) }
+    ensures gain_count { length gains.new ≡ length gains.old }
+    ensures mass_count { length masses.new ≡ length masses.old }
+{
+    let sum = utility_in(diagram, marks, tail, world, utility);
+    let cell = place(diagram, left_out, world);
+    add_to_cell(cell, product, sum, gains, masses);
+}
