@@ -1,6 +1,6 @@
 -- A text's tree has a fault or none: it can be told of each row of the table whether it applies, the graph has a cycle or none, and the utilities have a scale.
 use Rattle.std.proofs.Common.{◌≡◌, ◌⊎◌, ◌<◌, ◌≤◌, ◌+◌, ◌-◌, ◌*◌, ◌^◌, ℕ, zero, suc, ℤ, pos, ◌*ℤ◌, Bool, true, false, cond, inl, inr, List, [], ◌∷◌, length, map, All, Option, None, Some, refl, sym, subst, arith}
-use Rattle.std.specs.Prelude.{slice_index, slice_index_or, nat_abs, unsigned_abs, ◌≢◌}
+use Rattle.std.specs.Prelude.{slice_index, nat_abs, unsigned_abs, ◌≢◌}
 use Rattle.std.specs.Int.{◌∣◌}
 use Rattle.std.proofs.Math.Decide.{ℕ_discrete, dec_dvd, dec_le, dec_lt, map_dec}
 use Rattle.std.proofs.Math.IntN.{ℤ_discrete}
@@ -26,16 +26,18 @@ use Rattle.weight_scale.specs.Laws.{DecimalOrNone, ScaledOrTooWide}
 use Rattle.weight_scale.specs.Numeral.{numerator, denominator, is_minus, exponent_of, exponent_size, decimal_digits}
 use Rattle.net_build.specs.Passes.{found, GraphCycle, WrongCount, WideWeight, ZeroRow}
 use Rattle.net_build.specs.Scaling.{IsWholeBy}
-use Rattle.net_build.specs.Blocks.{kind_of, block_states, row_count, cell_count, node_blocks, block_name, block_parents, parent_lists, title_at}
-use Rattle.net_build.specs.Stages.{head_of}
-use Rattle.net_build.specs.Table.{repeated_row, repeats, label_row, label_rows, states_rows, repeated_agent_row, agent_rows, sight_row, name_rows, owner_rows, node_rows, node_pass, condition_rows, potential_rows, potential_pass, missing_row, missing_pass, no_block, graph_pass, size_rows, size_pass, number_row, length_row, sign_row, total_row, rows_by, IsWideTotal, weight_rows, data_rows, table_rows, table_pass, utility_numbers, IsUtilityScale, wide_row, wide_pass, all_passes}
+use Rattle.net_build.specs.Blocks.{kind_of, block_states, row_count, cell_count, node_blocks, block_name, block_parents, parent_lists, potential_list}
+use Rattle.net_build.specs.Linking.{condition_steps, behind_rows, missing_at, size_steps_at}
+use Rattle.net_build.specs.Stages.{head_of, heads_of, head_at}
+use Rattle.net_build.specs.declared.nodes.Head.{Head}
+use Rattle.net_build.specs.Table.{repeated_row, repeats, label_row, label_rows, states_rows, repeated_agent_row, agent_rows, sight_row, name_rows, owner_rows, node_rows, node_pass, potential_pass, missing_pass, graph_pass, size_pass, number_row, length_row, sign_row, total_row, rows_by, IsWideTotal, weight_rows, data_rows, table_rows, table_pass, utility_numbers, IsUtilityScale, wide_row, wide_pass, all_passes}
 use Rattle.net_build.proofs.FitLemmas.{known_arcs}
 use Rattle.net_build.proofs.LinksMade.{parents_fit}
 use Rattle.net_build.proofs.PlainTables.{whole_part}
 use Rattle.net_build.proofs.ScaledOrWide.{decimals_exist, dec_too_long, dec_negative, dec_wide}
 use Rattle.net_build.proofs.ScaleLemmas.{one_more, sizes, tens_split, whole_by}
 use Rattle.net_build.proofs.WholeRows.{stable}
-use Rattle.net_build.proofs.Telling.{dec_false, dec_utility, dec_not, dec_both, dec_all, dec_contains}
+use Rattle.net_build.proofs.Telling.{dec_false, dec_utility, dec_some, dec_none, dec_not, dec_both, dec_all, dec_contains}
 
 -- The rows of the table, in its order.
 repeats_whole : (text : List ℕ) (block : BlockTree) → IsWhole (repeats text block)
@@ -74,30 +76,24 @@ node_pass_whole : (text : List ℕ) (blocks : List BlockTree) → IsWhole (node_
 unfolding node_pass
 node_pass_whole text blocks = each_after_whole (λ earlier b. node_rows_whole text _ _ b) [] (node_blocks blocks)
 
-condition_rows_whole : (text : List ℕ) (nodes : List BlockTree) (earlier : List Token) (name : Token) → IsWhole (condition_rows text nodes earlier name)
-unfolding condition_rows
-condition_rows_whole text nodes earlier name = then_whole (rule_whole _ _ (dec_not (dec_contains _ _))) (then_whole (rule_whole _ _ (dec_contains _ _)) (rule_whole _ _ (dec_utility _)))
+condition_steps_whole : (text : List ℕ) (names : List (List ℕ)) (heads : List Head) (earlier : List Token) (name : Token) → IsWhole (condition_steps text names heads earlier name)
+condition_steps_whole text names heads earlier name = then_whole (rule_whole _ _ (dec_not (dec_contains _ _))) (then_whole (rule_whole _ _ (dec_contains _ _)) (rule_whole _ _ (dec_utility _)))
 
-potential_rows_whole : (text : List ℕ) (nodes earlier : List BlockTree) (potential : BlockTree) → IsWhole (potential_rows text nodes earlier potential)
-unfolding potential_rows
-potential_rows_whole text nodes earlier potential =
-    then_whole (rule_whole _ _ (dec_not (dec_contains _ _))) (then_whole (rule_whole _ _ (dec_contains _ _)) (then_whole (each_after_whole (condition_rows_whole text nodes) [] _) (rule_whole _ _ (dec_lt _ _))))
+behind_rows_whole : (text : List ℕ) (names : List (List ℕ)) (heads : List Head) (earlier : List BlockTree) (potential : BlockTree) → IsWhole (behind_rows text names heads earlier potential)
+behind_rows_whole text names heads earlier potential =
+    then_whole (rule_whole _ _ (dec_not (dec_contains _ _))) (then_whole (rule_whole _ _ (dec_some _)) (then_whole (each_after_whole (condition_steps_whole text names heads) [] _) (rule_whole _ _ (dec_lt _ _))))
 
 potential_pass_whole : (text : List ℕ) (blocks : List BlockTree) → IsWhole (potential_pass text blocks)
 unfolding potential_pass
-potential_pass_whole text blocks = each_after_whole (potential_rows_whole text (node_blocks blocks)) [] _
+potential_pass_whole text blocks = each_after_whole (behind_rows_whole text _ _) [] _
 
 missing_pass_whole : (text : List ℕ) (blocks : List BlockTree) → IsWhole (missing_pass text blocks)
 unfolding missing_pass
-missing_pass_whole text blocks = each_whole {P = missing_row text blocks} (λ block. rule_whole _ _ (dec_not (dec_contains _ _))) _
-
-size_rows_whole : (text : List ℕ) (blocks earlier : List BlockTree) (block : BlockTree) → IsWhole (size_rows text blocks earlier block)
-unfolding size_rows
-size_rows_whole text blocks earlier block = then_whole (rule_whole _ _ (dec_lt _ _)) (only_whole _ (rule_whole _ _ (dec_lt _ _)))
+missing_pass_whole text blocks = each_whole {P = missing_at (heads_of text (node_blocks blocks)) (potential_list text blocks)} (λ v. only_whole _ (rule_whole _ _ (dec_none _))) _
 
 size_pass_whole : (text : List ℕ) (blocks : List BlockTree) → IsWhole (size_pass text blocks)
 unfolding size_pass
-size_pass_whole text blocks = each_after_whole (size_rows_whole text blocks) [] _
+size_pass_whole text blocks = each_whole {P = size_steps_at (heads_of text (node_blocks blocks)) (parent_lists text blocks)} (λ v. then_whole (rule_whole _ _ (dec_lt _ _)) (only_whole _ (rule_whole _ _ (dec_lt _ _)))) _
 
 total_row_whole : (text : List ℕ) (numbers : List Token) → IsWhole (total_row text numbers)
 total_row_whole text [] = clear_whole
@@ -152,7 +148,7 @@ unfolding graph_pass
 graph_pass_covered cycle_or_none text blocks nothing = by_cycle (cycle_or_none (parent_lists text blocks) (known text blocks nothing)) where
   by_cycle : IsAcyclic (ListedArc (parent_lists text blocks)) ⊎ ((cycle : List ℕ) × IsParentCycle (parent_lists text blocks) cycle) → IsCovered (graph_pass text blocks)
   by_cycle (inl acyclic) = inl acyclic
-  by_cycle (inr is) = inr (found (title_at (slice_index_or (node_blocks blocks) (slice_index is.0 0) no_block)) (GraphCycle is.0), (is.0, is.1, refl))
+  by_cycle (inr is) = inr (found (head_at (heads_of text (node_blocks blocks)) (slice_index is.0 0)).at (GraphCycle is.0), (is.0, is.1, refl))
 
 -- A numeral's value times a great power of ten is whole, so that the utilities have a scale.
 below_is_tens : (down : Bool) (a e : ℕ) → (s : ℕ) × (10 ^ a * cond down (10 ^ e) 1 ≡ 10 ^ s)

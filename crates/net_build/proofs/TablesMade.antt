@@ -1,5 +1,5 @@
 -- Where the passes find nothing, each node has a table: a chance node its rows in proportion, and a utility its values to scale.
-use Rattle.std.proofs.Common.{◌≡◌, ◌⊎◌, inl, inr, ◌<◌, ◌≤◌, ◌*◌, ℕ, zero, suc, ℤ, true, List, [], ◌∷◌, All, Contains, length, get_or, map, Option, None, Some, refl, sym, ap, subst, ◌∙◌, arith}
+use Rattle.std.proofs.Common.{◌≡◌, ◌⊎◌, inl, inr, ◌<◌, ◌≤◌, ◌*◌, ℕ, zero, suc, ℤ, true, List, [], ◌∷◌, All, length, get_or, map, Option, None, Some, refl, sym, ap, subst, ◌∙◌, arith}
 use Rattle.std.specs.Option.{IsSome, option_map_or}
 use Rattle.std.proofs.lemmas.Bool.{false≢true, cases_lt}
 use Rattle.std.proofs.lemmas.List.{length-map}
@@ -14,21 +14,19 @@ use Rattle.net_parser.specs.Trees.{AttributeTree, BlockTree}
 use Rattle.net_parser.specs.Owned.{leaves, IsBlockOf}
 use Rattle.weight_scale.specs.Laws.{DecimalOrNone, ScaledOrTooWide, ScaledIsTable}
 use Rattle.first_fault.specs.Passes.{each}
-use Rattle.net_build.specs.Blocks.{is_node, node_blocks, potentials, kind_of, has_table, block_states, row_count, cell_count, block_name, names_of, potential_of, parent_lists, data_of, leaves_of, block_numbers}
+use Rattle.net_build.specs.Blocks.{is_node, node_blocks, kind_of, has_table, block_states, row_count, cell_count, block_name, potential_of, parent_lists, data_of, leaves_of, block_numbers}
 use Rattle.net_build.specs.Building.{AreTables, IsTableFrom, AreChanceCells, AreUtilityCells}
 use Rattle.net_build.specs.Scaling.{IsWholeBy}
 use Rattle.net_build.specs.Stages.{FitsTable, TablesFit, head_of, node_lists}
-use Rattle.net_build.specs.Table.{length_row, wide_row, weight_rows, data_rows, table_rows, table_pass, missing_row, missing_pass, node_pass, potential_pass, no_block, utility_numbers, IsUtilityScale, IsWideValue}
+use Rattle.net_build.specs.Table.{length_row, wide_row, weight_rows, data_rows, table_rows, table_pass, missing_pass, node_pass, potential_pass, no_block, utility_numbers, IsUtilityScale, IsWideValue}
 use Rattle.net_build.specs.TableParts.{value_at_scale, values_in}
 use Rattle.net_build.proofs.BlockLemmas.{each_filter_at}
-use Rattle.net_build.proofs.LinkPasses.{there_is_found}
 use Rattle.net_build.proofs.NodeFacts.{each_all, only_on}
 use Rattle.net_build.proofs.ScaledOrWide.{decimal_exists, decimals_exist, chance_cells}
 use Rattle.net_build.proofs.ScaleLemmas.{cells_found, raised_is}
 use Rattle.net_build.proofs.TableEnd.{all_small, one_state, values_at, values_fit}
-use Rattle.net_build.proofs.TableFacts.{states_at, values_are_numbers, values_of_nodes}
+use Rattle.net_build.proofs.TableFacts.{there, states_at, values_are_numbers, values_of_nodes}
 use Rattle.net_build.proofs.TablePasses.{head_here, nodes_are, rows_here}
-use Rattle.net_build.proofs.Telling.{dec_contains}
 use Rattle.net_build.proofs.WholeRows.{stable}
 
 -- a list of what there is at each number
@@ -46,6 +44,14 @@ choose P d (suc n) some =
 -- a good number: whole to the scale, and not wide
 abbrev IsGood : List ℕ → ℕ → Token → Type 0
 IsGood text scale t = IsWholeBy scale (token_bytes text t) × (IsWideValue scale (token_bytes text t) → ⊥)
+
+-- a node with a table is no decision
+no_decision : (k : BlockKind) → has_table k ≡ true → kind_of k ≡ model.Decision → ⊥
+no_decision Node e d = cc
+no_decision Utility e d = cc
+no_decision Decision e d = false≢true e
+no_decision Net e d = false≢true e
+no_decision Potential e d = false≢true e
 
 module _ (decides : DecimalOrNone) (text : List ℕ) (blocks : List BlockTree) where
   -- ---- a table by its numbers
@@ -97,18 +103,10 @@ module _ (decides : DecimalOrNone) (text : List ℕ) (blocks : List BlockTree) w
     unfolding table_pass
     rows_at v h kept = each_filter_at (λ b. table_rows text blocks b (potential_of text blocks (block_name text b))) (λ b. has_table b.kind) nodes no_block v table_none h kept
 
-    missing_at : (v : ℕ) → v < length nodes → has_table (block_at v).kind ≡ true → missing_row text blocks (block_at v) None
-    unfolding missing_pass
-    missing_at v h kept = each_filter_at (missing_row text blocks) (λ b. has_table b.kind) nodes no_block v missing_none h kept
-
     -- the potential is there, and what its data says
     data_at : (v : ℕ) → v < length nodes → has_table (block_at v).kind ≡ true → (p : BlockTree) × (potential_at v ≡ Some p) × data_rows text blocks (block_at v) p (data_of text p) None
     unfolding table_rows
-    data_at v h kept = by_option (potential_at v) refl (there (dec_contains _ _)) (rows_at v h kept) where
-      there : Dec (Contains (names_of text (potentials blocks)) (block_name text (block_at v))) → IsSome (potential_at v)
-      there (yes c) = there_is_found (block_name text) (block_name text (block_at v)) (potentials blocks) c
-      there (no n) = absurd (missing_at v h kept n)
-
+    data_at v h kept = by_option (potential_at v) refl (there text blocks own node_none potential_none missing_none v h (no_decision (block_at v).kind kept)) (rows_at v h kept) where
       by_option : (o : Option BlockTree) → potential_at v ≡ o → IsSome (potential_at v) → table_rows text blocks (block_at v) (potential_at v) None → (p : BlockTree) × (potential_at v ≡ Some p) × data_rows text blocks (block_at v) p (data_of text p) None
       by_option None e some rows = absurd (false≢true (subst IsSome e some))
       by_option (Some p) e some rows = (p, e, (subst (λ o. table_rows text blocks (block_at v) o None) e rows).1)
