@@ -1,8 +1,6 @@
 -- The lists that the steps have are those of the blocks.
-use Rattle.std.proofs.Common.{◌≡◌, ◌≢◌, ◌⊎◌, inl, inr, ℕ, ◌<◌, ◌≤◌, Bool, true, false, ◌||◌, cond, List, [], ◌∷◌, length, get_or, map, find, Contains, Option, None, Some, refl, ap, sym, subst, ◌∙◌, arith}
-use Rattle.std.proofs.lemmas.Bool.{false≢true, cases_lt}
+use Rattle.std.proofs.Common.{◌≡◌, ◌≢◌, ℕ, ◌<◌, Bool, true, false, ◌||◌, cond, List, [], ◌∷◌, length, get_or, map, find, Contains, Option, None, Some, refl, ap, sym, subst, ◌∙◌}
 use Rattle.std.proofs.lemmas.List.{length-map}
-use Rattle.std.proofs.Math.ListN.{get_or-eq_default}
 use Rattle.std.specs.List.{AllPairs, list_any}
 use Rattle.std.specs.Option.{IsSome, is_some, option_map_or}
 use Rattle.std.specs.Str.{bytes_eq}
@@ -16,7 +14,7 @@ use Rattle.net_build.specs.Passes.{Found}
 use Rattle.net_build.specs.Stages.{heads_of, head_of, LinkLists, link_lists}
 use Rattle.net_build.specs.Table.{node_pass, potential_pass, missing_pass, graph_pass, size_pass}
 use Rattle.net_build.proofs.FitLemmas.{within_names}
-use Rattle.net_build.proofs.LinkLemmas.{any_is_there, there_is_any}
+use Rattle.net_build.proofs.LinkLemmas.{there_is_any}
 use Rattle.net_build.proofs.PotentialLemmas.{place_holds, among_at}
 use Rattle.net_build.proofs.NodeFacts.{nodes_are_good}
 
@@ -33,21 +31,10 @@ found_is_any f w (x ∷ xs) = by_test (bytes_eq (f x) w) (found_is_any f w xs) w
   by_test true rec = refl
   by_test false rec = rec
 
-pub found_is_there : {X : Type 0} (f : X → List ℕ) (w : List ℕ) (xs : List X) → IsSome (find (λ x. bytes_eq (f x) w) xs) → Contains (map f xs) w
-found_is_there f w xs some = any_is_there f w xs (sym (found_is_any f w xs) ∙ some)
-
-pub there_is_found : {X : Type 0} (f : X → List ℕ) (w : List ℕ) (xs : List X) → Contains (map f xs) w → IsSome (find (λ x. bytes_eq (f x) w) xs)
+there_is_found : {X : Type 0} (f : X → List ℕ) (w : List ℕ) (xs : List X) → Contains (map f xs) w → IsSome (find (λ x. bytes_eq (f x) w) xs)
 there_is_found f w xs there = found_is_any f w xs ∙ there_is_any f w xs there
 
--- a potential before it
-pub taken_to : (text : List ℕ) (names : List (List ℕ)) (earlier : List BlockTree) (p : BlockTree) → IsSome (get_or (potentials_among text names earlier) (node_named text names (title p)) None) → Contains (names_of text earlier) (block_name text p)
-taken_to text names earlier p some = by_order (cases_lt (node_named text names (title p)) (length names)) where
-  by_order : (node_named text names (title p) < length names) ⊎ (length names ≤ node_named text names (title p)) → Contains (names_of text earlier) (block_name text p)
-  by_order (inl h) = found_is_there (block_name text) (block_name text p) earlier
-      (subst (λ (w : List ℕ). IsSome (find (λ q. bytes_eq (block_name text q) w) earlier)) (place_holds names (block_name text p) h)
-      (subst IsSome (among_at text names earlier (node_named text names (title p)) None h) some))
-  by_order (inr h) = absurd (false≢true (subst (λ (o : Option BlockTree). IsSome o) (get_or-eq_default (potentials_among text names earlier) None (let l : length (potentials_among text names earlier) ≡ length names = length-map names (λ name. find (λ q. bytes_eq (block_name text q) name) earlier) in omega arith)) some))
-
+-- a name that stands among the potentials before it is taken
 pub taken_from : (text : List ℕ) (names : List (List ℕ)) (earlier : List BlockTree) (p : BlockTree) → unknown_row text names (title p) None → Contains (names_of text earlier) (block_name text p) → IsSome (get_or (potentials_among text names earlier) (node_named text names (title p)) None)
 taken_from text names earlier p known there =
     let h : node_named text names (title p) < length names = within_names text names (title p) known in

@@ -16,7 +16,7 @@ use Rattle.net_lexer.specs.declared.tokens.Token.{Token}
 use Rattle.net_parser.specs.Trees.{BlockTree}
 use Rattle.net_parser.specs.Owned.{IsBlockOf}
 use Rattle.net_build.specs.declared.nodes.Head.{Head}
-use Rattle.net_build.specs.Blocks.{is_potential, node_blocks, potentials, kind_of, block_states, block_name, names_of, place_among, potential_of, potential_list, parent_lists, data_of, leaves_of, word_of, named}
+use Rattle.net_build.specs.Blocks.{is_potential, node_blocks, potentials, kind_of, block_states, block_name, names_of, place_among, potential_of, potential_list, parent_lists, data_of, leaves_of}
 use Rattle.net_build.specs.Linking.{behind_rows, missing_at, absent_row}
 use Rattle.net_build.specs.Stages.{AreLinks, NodeLists, head_of, heads_of, head_at, node_lists, link_lists, no_head}
 use Rattle.net_build.specs.Table.{name_rows, node_rows, node_pass, potential_pass, missing_pass, no_block, utility_numbers}

@@ -1,7 +1,7 @@
 -- Passes that find nothing in the tree of a printed text.
-use Rattle.std.proofs.Common.{◌≡◌, ◌∙◌, ℕ, zero, suc, ◌<◌, not, true, List, [], ◌∷◌, length, map, get_or, All, Contains, Option, None, Some, refl, sym, ap, subst, arith}
+use Rattle.std.proofs.Common.{◌≡◌, ◌∙◌, ℕ, zero, suc, ◌<◌, not, List, [], ◌∷◌, length, map, get_or, All, Contains, None, Some, refl, sym, subst, arith}
 use Rattle.std.specs.List.{flat_map, range_with_len}
-use Rattle.std.proofs.lemmas.List.{get_or-map, length-map}
+use Rattle.std.proofs.lemmas.List.{length-map}
 use Rattle.std.proofs.lemmas.List.Elements.{All-head, All-tail, All-nil, All-cons}
 use Rattle.diagram_graph.specs.Cycles.{ListedArc}
 use Rattle.maid_model.specs.Graph.{Arc, IsAcyclic}
@@ -14,14 +14,15 @@ use Rattle.first_fault.specs.Passes.{Pass, each}
 use Rattle.net_build.specs.Linking.{absent_row, missing_at}
 use Rattle.net_build.specs.Passes.{Found}
 use Rattle.net_build.specs.Stages.{head_at, head_of, heads_of}
-use Rattle.net_build.specs.Table.{graph_pass, missing_pass, no_block}
+use Rattle.net_build.specs.Table.{graph_pass, missing_pass}
 use Rattle.net_parser.specs.Trees.{BlockTree}
 use Rattle.net_print.proofs.ClearPasses.{only_clear}
 use Rattle.net_print.proofs.Comments.{IsPrintableBehind, text_of, place_of}
-use Rattle.net_print.proofs.Given.{parents_told, potential_found}
+use Rattle.net_print.proofs.CountsTold.{listed_potential}
+use Rattle.net_print.proofs.Given.{parents_told}
 use Rattle.net_print.proofs.Look.{node_blocks_are, at_nodes, potential_lines}
 use Rattle.net_print.proofs.Spelling.{trees_at}
-use Rattle.net_print.proofs.TablesTold.{block_at, block_name, blocks_count}
+use Rattle.net_print.proofs.TablesTold.{blocks_count}
 use Rattle.net_print.proofs.Texts.{numbers_below}
 use Rattle.net_print.proofs.Tree.{node_tree, tree_of}
 use Rattle.net_print.proofs.Words.{node_words}
@@ -72,10 +73,8 @@ module _ (d : DiagramView) (names : NamesView) (is : IsPrintableBehind d names) 
   pub missing_clear : missing_pass Text Blocks None
   unfolding missing_pass
   missing_clear = each_clear (missing_at Heads (look.potential_list Text Blocks)) (range_with_len 0 (length Heads)) (λ k e h. one (get_or (range_with_len 0 (length Heads)) k e) (omega (arith, numbers_below (length Heads) k e h, length-map (look.node_blocks Blocks) (head_of Text (look.node_blocks Blocks)), blocks_count d names is))) where
-    one : (v : ℕ) → v < length d.nodes → missing_at Heads (look.potential_list Text Blocks) v None
-    one v l = only_clear (not (is_decision (head_at Heads v).kind)) (absent_row (head_at Heads v) (look.potential_list Text Blocks) v) (λ counts none. found_and_not (sym (listed ∙ ap (look.potential_of Text Blocks) (block_name d names is v l) ∙ (potential_found d names is v l).3) ∙ none)) where
-      listed : get_or (look.potential_list Text Blocks) v None ≡ look.potential_of Text Blocks (look.block_name Text (block_at d names is v))
-      listed = get_or-map (λ b. look.potential_of Text Blocks (look.block_name Text b)) (look.node_blocks Blocks) v no_block None (subst (λ n. v < n) (sym (blocks_count d names is)) l)
+    found_and_not : {X : Type 0} {x : X} → Some x ≡ None → ⊥
+    found_and_not e = cc
 
-      found_and_not : {X : Type 0} {x : X} → Some x ≡ None → ⊥
-      found_and_not e = cc
+    one : (v : ℕ) → v < length d.nodes → missing_at Heads (look.potential_list Text Blocks) v None
+    one v l = only_clear (not (is_decision (head_at Heads v).kind)) (absent_row (head_at Heads v) (look.potential_list Text Blocks) v) (λ counts none. found_and_not (sym (listed_potential d names is v l) ∙ none))
