@@ -12,7 +12,7 @@ use Rattle.net_lexer.specs.declared.tokens.Token.{Token}
 use Rattle.net_parser.specs.Trees.{ValueTree, leaf, list, none, more, AttributeTree, BlockTree}
 use Rattle.net_parser.specs.Owned.{leaves}
 use Rattle.net_build.specs.Blocks.{leaves_of, has_states, is_string_list, named, block_states, place_among}
-use Rattle.first_fault.specs.Passes.{Pass, each, each_after, only}
+use Rattle.first_fault.specs.Passes.{Pass, each_after, only}
 use Rattle.net_build.specs.Passes.{Found}
 use Rattle.net_build.specs.Table.{node_rows, states_rows, label_rows}
 use Rattle.net_build.proofs.PlaceLemmas.{first_place_is}
@@ -22,14 +22,6 @@ pub each_after_at : {X : Type 0} (P : List X → X → Pass Found) (earlier xs :
 each_after_at P earlier [] d v h within = absurd (omega arith)
 each_after_at P earlier (x ∷ xs) d zero h within = rw (append-nil earlier) h.0
 each_after_at P earlier (x ∷ xs) d (suc v) h within = rw (append_assoc earlier (x ∷ []) (take v xs)) at (each_after_at P (earlier ++ x ∷ []) xs d v h.1 (omega arith))
-
-pub each_filter_at : {X : Type 0} (P : X → Pass Found) (q : X → Bool) (xs : List X) (d : X) (v : ℕ) → each P (filter q xs) None → v < length xs → q (get_or xs v d) ≡ true → P (get_or xs v d) None
-each_filter_at P q [] d v h within kept = absurd (omega arith)
-each_filter_at P q (x ∷ xs) d zero h within kept = (subst (λ b. each P (cond b (x ∷ filter q xs) (filter q xs)) None) kept h).0
-each_filter_at P q (x ∷ xs) d (suc v) h within kept = by_test (q x) refl (λ g. each_filter_at P q xs d v g (omega arith) kept) where
-  by_test : (b : Bool) → q x ≡ b → (each P (filter q xs) None → P (get_or xs v d) None) → P (get_or xs v d) None
-  by_test true e rec = rec (subst (λ b. each P (cond b (x ∷ filter q xs) (filter q xs)) None) e h).1
-  by_test false e rec = rec (subst (λ b. each P (cond b (x ∷ filter q xs) (filter q xs)) None) e h)
 
 pub all_filter : {X : Type 0} (P : X → Type 0) (q : X → Bool) (xs : List X) → All P xs → All (λ x. P x × (q x ≡ true)) (filter q xs)
 all_filter P q [] all = λ k d within. absurd (omega arith)
@@ -59,13 +51,6 @@ found_in q P (y ∷ ys) x e all = by_test (q y) refl (λ g. found_in q P ys x g 
   by_test : (b : Bool) → q y ≡ b → (find q ys ≡ Some x → P x × (q x ≡ true)) → P x × (q x ≡ true)
   by_test true t rec = let s : y ≡ x = (let h : Some y ≡ Some x = subst (λ b. cond b (Some y) (find q ys) ≡ Some x) t e in cc) in subst (λ z. P z × (q z ≡ true)) s (all 0 y (omega arith), t)
   by_test false t rec = rec (subst (λ b. cond b (Some y) (find q ys) ≡ Some x) t e)
-
-pub not_found : {X : Type 0} (q : X → Bool) (xs : List X) → find q xs ≡ None → All (λ x. q x ≡ false) xs
-not_found q [] e = λ k d within. absurd (omega arith)
-not_found q (y ∷ ys) e = by_test (q y) refl (not_found q ys) where
-  by_test : (b : Bool) → q y ≡ b → (find q ys ≡ None → All (λ x. q x ≡ false) ys) → All (λ x. q x ≡ false) (y ∷ ys)
-  by_test true t rec = let h : Some y ≡ None = subst (λ b. cond b (Some y) (find q ys) ≡ None) t e in absurd (cc)
-  by_test false t rec = All-cons (λ x. q x ≡ false) y ys t (rec (subst (λ b. cond b (Some y) (find q ys) ≡ None) t e))
 
 pub finds : {X : Type 0} (q : X → Bool) (xs : List X) (d : X) (j : ℕ) → j < length xs → ((k : ℕ) → k < j → q (get_or xs k d) ≡ false) → q (get_or xs j d) ≡ true → find q xs ≡ Some (get_or xs j d)
 finds q [] d j within before here = absurd (omega arith)

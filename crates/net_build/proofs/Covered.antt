@@ -1,6 +1,6 @@
 -- A text's tree has a fault or none: it can be told of each row of the table whether it applies, the graph has a cycle or none, and the utilities have a scale.
 use Rattle.std.proofs.Common.{◌≡◌, ◌⊎◌, ◌<◌, ◌≤◌, ◌+◌, ◌-◌, ◌*◌, ◌^◌, ℕ, zero, suc, ℤ, pos, ◌*ℤ◌, Bool, true, false, cond, inl, inr, List, [], ◌∷◌, length, map, All, Option, None, Some, refl, sym, subst, arith}
-use Rattle.std.specs.Prelude.{slice_index, slice_index_or, nat_abs, unsigned_abs, ◌≢◌}
+use Rattle.std.specs.Prelude.{slice_index, nat_abs, unsigned_abs}
 use Rattle.std.specs.Int.{◌∣◌}
 use Rattle.std.proofs.Math.Decide.{ℕ_discrete, dec_dvd, dec_le, dec_lt, map_dec}
 use Rattle.std.proofs.Math.IntN.{ℤ_discrete}
@@ -17,6 +17,8 @@ use Rattle.first_fault.specs.Passes.{rule, only, ◌▸◌, each}
 use Rattle.first_fault.specs.Properties.{IsCovered}
 use Rattle.first_fault.proofs.Kept.{IsWhole, covered_whole, clear_whole, rule_whole, only_whole, then_whole, behind_whole, each_whole, each_after_whole, over_whole}
 use Rattle.maid_model.specs.Nodes.{is_chance}
+use Rattle.maid_model.specs.declared.diagrams.Kind.{Kind}
+use Rattle.maid_model.specs.declared.diagrams.Kind.TheVariants.{Chance, Decision, Utility}
 use Rattle.maid_model.specs.Placing.{IsLeast}
 use Rattle.net_lexer.specs.Token.{token_bytes}
 use Rattle.net_lexer.specs.declared.tokens.Token.{Token}
@@ -24,18 +26,20 @@ use Rattle.net_parser.specs.Owned.{leaves}
 use Rattle.net_parser.specs.Trees.{AttributeTree, BlockTree}
 use Rattle.weight_scale.specs.Laws.{DecimalOrNone, ScaledOrTooWide}
 use Rattle.weight_scale.specs.Numeral.{numerator, denominator, is_minus, exponent_of, exponent_size, decimal_digits}
-use Rattle.net_build.specs.Passes.{found, GraphCycle, WrongCount, WideWeight, ZeroRow}
+use Rattle.net_build.specs.Passes.{found, GraphCycle, WideWeight, ZeroRow}
 use Rattle.net_build.specs.Scaling.{IsWholeBy}
-use Rattle.net_build.specs.Blocks.{kind_of, block_states, row_count, cell_count, node_blocks, block_name, block_parents, parent_lists, title_at}
-use Rattle.net_build.specs.Stages.{head_of}
-use Rattle.net_build.specs.Table.{repeated_row, repeats, label_row, label_rows, states_rows, repeated_agent_row, agent_rows, sight_row, name_rows, owner_rows, node_rows, node_pass, condition_rows, potential_rows, potential_pass, missing_row, missing_pass, no_block, graph_pass, size_rows, size_pass, number_row, length_row, sign_row, total_row, rows_by, IsWideTotal, weight_rows, data_rows, table_rows, table_pass, utility_numbers, IsUtilityScale, wide_row, wide_pass, all_passes}
+use Rattle.net_build.specs.Blocks.{node_blocks, block_name, block_parents, parent_lists, potential_list}
+use Rattle.net_build.specs.Linking.{condition_steps, behind_rows, missing_at, size_steps_at}
+use Rattle.net_build.specs.Stages.{head_of, heads_of, head_at, link_lists}
+use Rattle.net_build.specs.declared.nodes.Head.{Head}
+use Rattle.net_build.specs.Table.{repeated_row, repeats, label_row, label_rows, states_rows, repeated_agent_row, agent_rows, sight_row, name_rows, owner_rows, node_rows, node_pass, potential_pass, missing_pass, graph_pass, size_pass, number_row, length_row, sign_row, total_row, rows_by, IsWideTotal, number_rows, weight_part, data_parts, draft_part, node_part, node_rows_at, table_pass, utility_numbers, IsUtilityScale, wide_row, wide_pass, all_passes}
 use Rattle.net_build.proofs.FitLemmas.{known_arcs}
 use Rattle.net_build.proofs.LinksMade.{parents_fit}
 use Rattle.net_build.proofs.PlainTables.{whole_part}
 use Rattle.net_build.proofs.ScaledOrWide.{decimals_exist, dec_too_long, dec_negative, dec_wide}
 use Rattle.net_build.proofs.ScaleLemmas.{one_more, sizes, tens_split, whole_by}
 use Rattle.net_build.proofs.WholeRows.{stable}
-use Rattle.net_build.proofs.Telling.{dec_false, dec_utility, dec_not, dec_both, dec_all, dec_contains}
+use Rattle.net_build.proofs.Telling.{dec_false, dec_utility, dec_some, dec_none, dec_not, dec_both, dec_all, dec_contains}
 
 -- The rows of the table, in its order.
 repeats_whole : (text : List ℕ) (block : BlockTree) → IsWhole (repeats text block)
@@ -74,30 +78,24 @@ node_pass_whole : (text : List ℕ) (blocks : List BlockTree) → IsWhole (node_
 unfolding node_pass
 node_pass_whole text blocks = each_after_whole (λ earlier b. node_rows_whole text _ _ b) [] (node_blocks blocks)
 
-condition_rows_whole : (text : List ℕ) (nodes : List BlockTree) (earlier : List Token) (name : Token) → IsWhole (condition_rows text nodes earlier name)
-unfolding condition_rows
-condition_rows_whole text nodes earlier name = then_whole (rule_whole _ _ (dec_not (dec_contains _ _))) (then_whole (rule_whole _ _ (dec_contains _ _)) (rule_whole _ _ (dec_utility _)))
+condition_steps_whole : (text : List ℕ) (names : List (List ℕ)) (heads : List Head) (earlier : List Token) (name : Token) → IsWhole (condition_steps text names heads earlier name)
+condition_steps_whole text names heads earlier name = then_whole (rule_whole _ _ (dec_not (dec_contains _ _))) (then_whole (rule_whole _ _ (dec_contains _ _)) (rule_whole _ _ (dec_utility _)))
 
-potential_rows_whole : (text : List ℕ) (nodes earlier : List BlockTree) (potential : BlockTree) → IsWhole (potential_rows text nodes earlier potential)
-unfolding potential_rows
-potential_rows_whole text nodes earlier potential =
-    then_whole (rule_whole _ _ (dec_not (dec_contains _ _))) (then_whole (rule_whole _ _ (dec_contains _ _)) (then_whole (each_after_whole (condition_rows_whole text nodes) [] _) (rule_whole _ _ (dec_lt _ _))))
+behind_rows_whole : (text : List ℕ) (names : List (List ℕ)) (heads : List Head) (earlier : List BlockTree) (potential : BlockTree) → IsWhole (behind_rows text names heads earlier potential)
+behind_rows_whole text names heads earlier potential =
+    then_whole (rule_whole _ _ (dec_not (dec_contains _ _))) (then_whole (rule_whole _ _ (dec_some _)) (then_whole (each_after_whole (condition_steps_whole text names heads) [] _) (rule_whole _ _ (dec_lt _ _))))
 
 potential_pass_whole : (text : List ℕ) (blocks : List BlockTree) → IsWhole (potential_pass text blocks)
 unfolding potential_pass
-potential_pass_whole text blocks = each_after_whole (potential_rows_whole text (node_blocks blocks)) [] _
+potential_pass_whole text blocks = each_after_whole (behind_rows_whole text _ _) [] _
 
 missing_pass_whole : (text : List ℕ) (blocks : List BlockTree) → IsWhole (missing_pass text blocks)
 unfolding missing_pass
-missing_pass_whole text blocks = each_whole {P = missing_row text blocks} (λ block. rule_whole _ _ (dec_not (dec_contains _ _))) _
-
-size_rows_whole : (text : List ℕ) (blocks earlier : List BlockTree) (block : BlockTree) → IsWhole (size_rows text blocks earlier block)
-unfolding size_rows
-size_rows_whole text blocks earlier block = then_whole (rule_whole _ _ (dec_lt _ _)) (only_whole _ (rule_whole _ _ (dec_lt _ _)))
+missing_pass_whole text blocks = each_whole {P = missing_at (heads_of text (node_blocks blocks)) (potential_list text blocks)} (λ v. only_whole _ (rule_whole _ _ (dec_none _))) _
 
 size_pass_whole : (text : List ℕ) (blocks : List BlockTree) → IsWhole (size_pass text blocks)
 unfolding size_pass
-size_pass_whole text blocks = each_after_whole (size_rows_whole text blocks) [] _
+size_pass_whole text blocks = each_whole {P = size_steps_at (heads_of text (node_blocks blocks)) (parent_lists text blocks)} (λ v. then_whole (rule_whole _ _ (dec_lt _ _)) (only_whole _ (rule_whole _ _ (dec_lt _ _)))) _
 
 total_row_whole : (text : List ℕ) (numbers : List Token) → IsWhole (total_row text numbers)
 total_row_whole text [] = clear_whole
@@ -108,36 +106,34 @@ module _ (decides : DecimalOrNone) (scales : ScaledOrTooWide) (text : List ℕ) 
   length_row_whole : (number : Token) → IsWhole (length_row text number)
   length_row_whole number = rule_whole _ _ (dec_too_long decides (token_bytes text number))
 
-  weight_rows_whole : (states rows : ℕ) (table : AttributeTree) → length (leaves table.value) ≡ rows * states → each (length_row text) (leaves table.value) None → IsWhole (weight_rows text states rows table)
-  unfolding weight_rows
-  weight_rows_whole states rows table count short =
-      let signs = each (sign_row text) (leaves table.value) in
-      let totals = each (total_row text) (rows_by states (leaves table.value) rows) in
-      let wide = rule (IsWideTotal text states (leaves table.value)) (found table.name.start WideWeight) in
+  weight_part_whole : (states rows at : ℕ) (numbers : List Token) → length numbers ≡ rows * states → each (length_row text) numbers None → IsWhole (weight_part text states rows at numbers)
+  weight_part_whole states rows at numbers count short =
+      let signs = each (sign_row text) numbers in
+      let totals = each (total_row text) (rows_by states numbers rows) in
+      let wide = rule (IsWideTotal text states numbers) (found at WideWeight) in
       behind_whole signs (totals ▸ wide) (each_whole {P = sign_row text} (λ number. rule_whole _ _ (dec_negative _)) _)
       (λ no_sign. behind_whole totals wide (each_whole {P = total_row text} (total_row_whole text) _)
-      (λ no_total. let ds = decimals_exist decides text (leaves table.value) short in rule_whole _ _ (dec_wide scales text states rows (leaves table.value) ds.0 count ds.1 no_sign no_total)))
+      (λ no_total. let ds = decimals_exist decides text numbers short in rule_whole _ _ (dec_wide scales text states rows numbers ds.0 count ds.1 no_sign no_total)))
 
-  data_rows_whole : (blocks : List BlockTree) (block potential : BlockTree) (tables : List AttributeTree) → IsWhole (data_rows text blocks block potential tables)
-  unfolding data_rows
-  data_rows_whole blocks block potential [] = rule_whole _ _ (yes tt)
-  data_rows_whole blocks block potential (table ∷ more) =
-      let count = rule (length (leaves table.value) ≢ cell_count text blocks block) (found table.name.start (WrongCount (cell_count text blocks block) (length (leaves table.value)))) in
-      let lengths = each (length_row text) (leaves table.value) in
-      let weights = only (is_chance (kind_of block.kind)) (weight_rows text (block_states text block) (row_count text blocks block) table) in
-      then_whole (each_whole {P = number_row} (λ leaf. rule_whole _ _ (dec_false _)) _)
-      (behind_whole count (lengths ▸ weights) (rule_whole _ _ (dec_not (ℕ_discrete _ _)))
-      (λ same. behind_whole lengths weights (each_whole {P = length_row text} length_row_whole _)
-      (λ short. only_whole _ (weight_rows_whole (block_states text block) (row_count text blocks block) table (stable _ _ same) short))))
+  data_parts_whole : (kind : Kind) (rows states : ℕ) (potential : BlockTree) (tables : List AttributeTree) → IsWhole (data_parts text kind rows states potential tables)
+  data_parts_whole kind rows states potential [] = rule_whole _ _ (yes tt)
+  data_parts_whole kind rows states potential (table ∷ more) =
+      behind_whole (number_rows text (rows * states) table) (only (is_chance kind) (weight_part text states rows table.name.start (leaves table.value)))
+      (then_whole (each_whole {P = number_row} (λ leaf. rule_whole _ _ (dec_false _)) _) (then_whole (rule_whole _ _ (dec_not (ℕ_discrete _ _))) (each_whole {P = length_row text} length_row_whole _)))
+      (λ clear. only_whole _ (weight_part_whole states rows table.name.start (leaves table.value) (stable _ _ clear.1.0) clear.1.1))
 
-  table_rows_whole : (blocks : List BlockTree) (block : BlockTree) (potential : Option BlockTree) → IsWhole (table_rows text blocks block potential)
-  unfolding table_rows
-  table_rows_whole blocks block None = clear_whole
-  table_rows_whole blocks block (Some potential) = then_whole (repeats_whole text potential) (data_rows_whole blocks block potential _)
+  draft_part_whole : (kind : Kind) (rows states : ℕ) (potential : Option BlockTree) → IsWhole (draft_part text kind rows states potential)
+  draft_part_whole kind rows states None = clear_whole
+  draft_part_whole kind rows states (Some potential) = then_whole (repeats_whole text potential) (data_parts_whole kind rows states potential _)
+
+  node_part_whole : (kind : Kind) (rows states : ℕ) (potential : Option BlockTree) → IsWhole (node_part text kind rows states potential)
+  node_part_whole Chance rows states potential = draft_part_whole Chance rows states potential
+  node_part_whole Decision rows states potential = clear_whole
+  node_part_whole Utility rows states potential = draft_part_whole Utility rows states potential
 
   table_pass_whole : (blocks : List BlockTree) → IsWhole (table_pass text blocks)
   unfolding table_pass
-  table_pass_whole blocks = each_whole (λ b. table_rows_whole blocks b _) _
+  table_pass_whole blocks = each_whole {P = node_rows_at text (heads_of text (node_blocks blocks)) (link_lists text blocks)} (λ v. node_part_whole _ _ _ _) _
 
 -- the parents are nodes
 known : (text : List ℕ) (blocks : List BlockTree) → potential_pass text blocks None → (u v : ℕ) → ListedArc (parent_lists text blocks) u v → u < length (parent_lists text blocks)
@@ -152,7 +148,7 @@ unfolding graph_pass
 graph_pass_covered cycle_or_none text blocks nothing = by_cycle (cycle_or_none (parent_lists text blocks) (known text blocks nothing)) where
   by_cycle : IsAcyclic (ListedArc (parent_lists text blocks)) ⊎ ((cycle : List ℕ) × IsParentCycle (parent_lists text blocks) cycle) → IsCovered (graph_pass text blocks)
   by_cycle (inl acyclic) = inl acyclic
-  by_cycle (inr is) = inr (found (title_at (slice_index_or (node_blocks blocks) (slice_index is.0 0) no_block)) (GraphCycle is.0), (is.0, is.1, refl))
+  by_cycle (inr is) = inr (found (head_at (heads_of text (node_blocks blocks)) (slice_index is.0 0)).at (GraphCycle is.0), (is.0, is.1, refl))
 
 -- A numeral's value times a great power of ten is whole, so that the utilities have a scale.
 below_is_tens : (down : Bool) (a e : ℕ) → (s : ℕ) × (10 ^ a * cond down (10 ^ e) 1 ≡ 10 ^ s)

@@ -111,3 +111,12 @@ range_refused P W i n fault h lead here = leads_refused (P i ▸ each P (range_w
 
 pub range_end : (P : ℕ → Pass Found) (W : Pass Found) (i n : ℕ) → n ≤ i → Leads (each P (range_with_len i (n - i))) W → W None
 range_end P W i n h lead = leads_end W (λ outcome nothing. lead outcome (rw (range_done i n h) nothing))
+
+range_at : (P : ℕ → Pass Found) (s n v : ℕ) → each P (range_with_len s n) None → v < n → P (s + v) None
+range_at P s zero v nothing h = absurd (omega arith)
+range_at P s (suc n) zero nothing h = subst (λ (k : ℕ). P k None) (let e : s ≡ s + 0 = omega arith in e) nothing.0
+range_at P s (suc n) (suc v) nothing h = subst (λ (k : ℕ). P k None) (let e : s + 1 + v ≡ s + suc v = omega arith in e) (range_at P (s + 1) n v nothing.1 (omega arith))
+
+-- numbered rows that find nothing find nothing at each number
+pub number_at : (P : ℕ → Pass Found) (n v : ℕ) → each P (range_with_len 0 n) None → v < n → P v None
+number_at P n v nothing h = subst (λ (k : ℕ). P k None) (let e : 0 + v ≡ v = omega arith in e) (range_at P 0 n v nothing h)

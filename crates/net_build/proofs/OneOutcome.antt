@@ -1,8 +1,10 @@
 -- A pass finds nothing or a fault, never both, and one fault at most: each row does, and so do rows in turn.
 use Rattle.std.proofs.Common.{◌≡◌, ℕ, inl, inr, List, [], ◌∷◌, Option, None, Some, sym, ◌∙◌, ap, arith}
-use Rattle.std.specs.Prelude.{slice_index, slice_index_or, All}
+use Rattle.std.specs.Prelude.{slice_index, All}
 use Rattle.std.proofs.lemmas.Bool.{cases_lt}
 use Rattle.diagram_graph.specs.Laws.{CycleLeadsBack, OneCycle}
+use Rattle.maid_model.specs.declared.diagrams.Kind.{Kind}
+use Rattle.maid_model.specs.declared.diagrams.Kind.TheVariants.{Chance, Decision, Utility}
 use Rattle.maid_model.specs.Placing.{IsLeast}
 use Rattle.net_lexer.specs.Token.{token_bytes}
 use Rattle.net_lexer.specs.declared.tokens.Token.{Token}
@@ -10,9 +12,12 @@ use Rattle.net_parser.specs.Trees.{AttributeTree, BlockTree}
 use Rattle.first_fault.specs.Passes.{each}
 use Rattle.first_fault.proofs.Kept.{IsOne, clear_one, rule_one, only_one, then_one, each_one, each_after_one, over_one}
 use Rattle.net_build.specs.Passes.{found, GraphCycle}
-use Rattle.net_build.specs.Blocks.{node_blocks, title_at, parent_lists}
+use Rattle.net_build.specs.Blocks.{node_blocks, parent_lists, potential_list}
+use Rattle.net_build.specs.Linking.{condition_steps, behind_rows, missing_at, size_steps_at}
+use Rattle.net_build.specs.Stages.{heads_of, head_at, link_lists}
+use Rattle.net_build.specs.declared.nodes.Head.{Head}
 use Rattle.net_build.specs.Scaling.{IsWholeBy}
-use Rattle.net_build.specs.Table.{repeated_row, repeats, label_row, label_rows, states_rows, repeated_agent_row, agent_rows, sight_row, name_rows, owner_rows, node_rows, node_pass, condition_rows, potential_rows, potential_pass, missing_row, missing_pass, no_block, graph_pass, size_rows, size_pass, number_row, length_row, sign_row, total_row, weight_rows, data_rows, table_rows, table_pass, utility_numbers, IsUtilityScale, wide_row, wide_pass, all_passes}
+use Rattle.net_build.specs.Table.{repeated_row, repeats, label_row, label_rows, states_rows, repeated_agent_row, agent_rows, sight_row, name_rows, owner_rows, node_rows, node_pass, potential_pass, missing_pass, graph_pass, size_pass, number_row, length_row, sign_row, total_row, data_parts, draft_part, node_part, node_rows_at, table_pass, utility_numbers, IsUtilityScale, wide_row, wide_pass, all_passes}
 
 pub least_once : (P : ℕ → Type 0) (v w : ℕ) → IsLeast P v → IsLeast P w → v ≡ w
 least_once P v w h k = elim (cases_lt v w) as (λ _. v ≡ w) [
@@ -59,62 +64,54 @@ node_pass_one : (text : List ℕ) (blocks : List BlockTree) → IsOne (node_pass
 unfolding node_pass
 node_pass_one text blocks = each_after_one (λ earlier b. node_rows_one text _ _ b) [] (node_blocks blocks)
 
-condition_rows_one : (text : List ℕ) (nodes : List BlockTree) (earlier : List Token) (name : Token) → IsOne (condition_rows text nodes earlier name)
-unfolding condition_rows
-condition_rows_one text nodes earlier name = then_one (rule_one _ _) (then_one (rule_one _ _) (rule_one _ _))
+condition_steps_one : (text : List ℕ) (names : List (List ℕ)) (heads : List Head) (earlier : List Token) (name : Token) → IsOne (condition_steps text names heads earlier name)
+condition_steps_one text names heads earlier name = then_one (rule_one _ _) (then_one (rule_one _ _) (rule_one _ _))
 
-potential_rows_one : (text : List ℕ) (nodes earlier : List BlockTree) (potential : BlockTree) → IsOne (potential_rows text nodes earlier potential)
-unfolding potential_rows
-potential_rows_one text nodes earlier potential =
-    then_one (rule_one _ _) (then_one (rule_one _ _) (then_one (each_after_one (condition_rows_one text nodes) [] _) (rule_one _ _)))
+behind_rows_one : (text : List ℕ) (names : List (List ℕ)) (heads : List Head) (earlier : List BlockTree) (potential : BlockTree) → IsOne (behind_rows text names heads earlier potential)
+behind_rows_one text names heads earlier potential =
+    then_one (rule_one _ _) (then_one (rule_one _ _) (then_one (each_after_one (condition_steps_one text names heads) [] _) (rule_one _ _)))
 
 potential_pass_one : (text : List ℕ) (blocks : List BlockTree) → IsOne (potential_pass text blocks)
 unfolding potential_pass
-potential_pass_one text blocks = each_after_one (potential_rows_one text (node_blocks blocks)) [] _
+potential_pass_one text blocks = each_after_one (behind_rows_one text _ _) [] _
 
 missing_pass_one : (text : List ℕ) (blocks : List BlockTree) → IsOne (missing_pass text blocks)
 unfolding missing_pass
-missing_pass_one text blocks = each_one {P = missing_row text blocks} (λ block. rule_one _ _) _
+missing_pass_one text blocks = each_one {P = missing_at (heads_of text (node_blocks blocks)) (potential_list text blocks)} (λ v. only_one _ (rule_one _ _)) _
 
 graph_pass_one : CycleLeadsBack → OneCycle → (text : List ℕ) (blocks : List BlockTree) → IsOne (graph_pass text blocks)
 unfolding graph_pass
 graph_pass_one leads_back one_cycle text blocks = record {
   exclusive = λ f none some. leads_back (parent_lists text blocks) some.0 some.1 none;
-  one = λ f g h k. h.2 ∙ ap (λ (cycle : List ℕ). found (title_at (slice_index_or (node_blocks blocks) (slice_index cycle 0) no_block)) (GraphCycle cycle)) (one_cycle (parent_lists text blocks) h.0 k.0 h.1 k.1) ∙ sym k.2;
+  one = λ f g h k. h.2 ∙ ap (λ (cycle : List ℕ). found (head_at (heads_of text (node_blocks blocks)) (slice_index cycle 0)).at (GraphCycle cycle)) (one_cycle (parent_lists text blocks) h.0 k.0 h.1 k.1) ∙ sym k.2;
 }
-
-size_rows_one : (text : List ℕ) (blocks earlier : List BlockTree) (block : BlockTree) → IsOne (size_rows text blocks earlier block)
-unfolding size_rows
-size_rows_one text blocks earlier block = then_one (rule_one _ _) (only_one _ (rule_one _ _))
 
 size_pass_one : (text : List ℕ) (blocks : List BlockTree) → IsOne (size_pass text blocks)
 unfolding size_pass
-size_pass_one text blocks = each_after_one (size_rows_one text blocks) [] _
+size_pass_one text blocks = each_one {P = size_steps_at (heads_of text (node_blocks blocks)) (parent_lists text blocks)} (λ v. then_one (rule_one _ _) (only_one _ (rule_one _ _))) _
 
 total_row_one : (text : List ℕ) (numbers : List Token) → IsOne (total_row text numbers)
 total_row_one text [] = clear_one
 total_row_one text (number ∷ numbers) = rule_one _ _
 
-weight_rows_one : (text : List ℕ) (states rows : ℕ) (table : AttributeTree) → IsOne (weight_rows text states rows table)
-unfolding weight_rows
-weight_rows_one text states rows table =
-    then_one (each_one {P = sign_row text} (λ number. rule_one _ _) _) (then_one (each_one (total_row_one text) _) (rule_one _ _))
+data_parts_one : (text : List ℕ) (kind : Kind) (rows states : ℕ) (potential : BlockTree) (tables : List AttributeTree) → IsOne (data_parts text kind rows states potential tables)
+data_parts_one text kind rows states potential [] = rule_one _ _
+data_parts_one text kind rows states potential (table ∷ more) =
+    then_one (then_one (each_one {P = number_row} (λ leaf. rule_one _ _) _) (then_one (rule_one _ _) (each_one {P = length_row text} (λ number. rule_one _ _) _)))
+    (only_one _ (then_one (each_one {P = sign_row text} (λ number. rule_one _ _) _) (then_one (each_one (total_row_one text) _) (rule_one _ _))))
 
-data_rows_one : (text : List ℕ) (blocks : List BlockTree) (block potential : BlockTree) (tables : List AttributeTree) → IsOne (data_rows text blocks block potential tables)
-unfolding data_rows
-data_rows_one text blocks block potential [] = rule_one _ _
-data_rows_one text blocks block potential (table ∷ more) =
-    then_one (each_one {P = number_row} (λ leaf. rule_one _ _) _) (then_one (rule_one _ _)
-    (then_one (each_one {P = length_row text} (λ number. rule_one _ _) _) (only_one _ (weight_rows_one text _ _ table))))
+draft_part_one : (text : List ℕ) (kind : Kind) (rows states : ℕ) (potential : Option BlockTree) → IsOne (draft_part text kind rows states potential)
+draft_part_one text kind rows states None = clear_one
+draft_part_one text kind rows states (Some potential) = then_one (repeats_one text potential) (data_parts_one text kind rows states potential _)
 
-table_rows_one : (text : List ℕ) (blocks : List BlockTree) (block : BlockTree) (potential : Option BlockTree) → IsOne (table_rows text blocks block potential)
-unfolding table_rows
-table_rows_one text blocks block None = clear_one
-table_rows_one text blocks block (Some potential) = then_one (repeats_one text potential) (data_rows_one text blocks block potential _)
+node_part_one : (text : List ℕ) (kind : Kind) (rows states : ℕ) (potential : Option BlockTree) → IsOne (node_part text kind rows states potential)
+node_part_one text Chance rows states potential = draft_part_one text Chance rows states potential
+node_part_one text Decision rows states potential = clear_one
+node_part_one text Utility rows states potential = draft_part_one text Utility rows states potential
 
 table_pass_one : (text : List ℕ) (blocks : List BlockTree) → IsOne (table_pass text blocks)
 unfolding table_pass
-table_pass_one text blocks = each_one (λ b. table_rows_one text blocks b _) _
+table_pass_one text blocks = each_one {P = node_rows_at text (heads_of text (node_blocks blocks)) (link_lists text blocks)} (λ v. node_part_one text _ _ _ _) _
 
 wide_pass_one : (text : List ℕ) (blocks : List BlockTree) → IsOne (wide_pass text blocks)
 unfolding wide_pass

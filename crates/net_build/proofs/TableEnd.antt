@@ -1,10 +1,8 @@
 -- The utilities' numbers to their scale, and what the finished tables are.
-use Rattle.std.proofs.Common.{◌≡◌, ◌⊎◌, inl, inr, ◌<◌, ◌≤◌, ◌+◌, ◌-◌, ◌*◌, ◌/◌, ◌^◌, ℕ, zero, suc, pos, unsigned_abs, true, List, [], ◌∷◌, All, length, get_or, map, Option, None, Some, refl, sym, ap, subst, ◌∙◌, arith}
-use Rattle.std.specs.List.{range_with_len}
+use Rattle.std.proofs.Common.{◌≡◌, ◌⊎◌, inl, inr, ◌<◌, ◌≤◌, ◌-◌, ◌*◌, ◌/◌, ◌^◌, ℕ, zero, suc, pos, unsigned_abs, true, List, [], ◌∷◌, All, length, get_or, map, Option, None, Some, refl, sym, ap, subst, ◌∙◌, arith}
 use Rattle.std.specs.Option.{option_map_or}
 use Rattle.std.proofs.lemmas.Int.{unsigned_abs-mul}
 use Rattle.std.proofs.lemmas.List.{get_or-map, get_or_default, length-map}
-use Rattle.std.proofs.lemmas.List.FromFn.{length-range_with_len, get_or-range_with_len}
 use Rattle.maid_model.specs.declared.diagrams.Kind.{Kind}
 use Rattle.maid_model.specs.declared.diagrams.Kind.TheVariants as model
 use Rattle.maid_model.specs.Diagrams.{greatest_number}
@@ -24,8 +22,8 @@ use Rattle.first_fault.specs.Passes.{Pass, each}
 use Rattle.net_build.specs.Passes.{Found}
 use Rattle.net_build.specs.Scaling.{AreDecimals, decimal_at, IsWholeBy}
 use Rattle.net_build.specs.Stages.{AreLinks, NodeLists, LinkLists, TablesFit, FitsTable, head_of, head_at, node_lists, link_lists, no_head, head_rows}
-use Rattle.net_build.specs.Table.{length_row, wide_row, IsWideValue, node_pass, potential_pass, missing_pass, no_block}
-use Rattle.net_build.specs.TableParts.{AreDrafts, CanRead, FitsDraft, Fits, IsDraftOf, IsDraftAt, IsScaleOf, data_parts, drafts_pass, finished, node_part, node_rows_at, numerals_in, potential_at, value_at_scale, values_in}
+use Rattle.net_build.specs.Table.{length_row, wide_row, IsWideValue, node_pass, potential_pass, missing_pass, table_pass, no_block}
+use Rattle.net_build.specs.TableParts.{AreDrafts, CanRead, FitsDraft, Fits, IsDraftOf, IsDraftAt, IsScaleOf, data_parts, finished, node_part, numerals_in, potential_at, value_at_scale, values_in}
 use Rattle.net_build.specs.Zero.{nought}
 use Rattle.net_build.proofs.BlockLemmas.{all_filter, found_in}
 use Rattle.net_build.proofs.WeightPasses.{rows_are}
@@ -36,7 +34,7 @@ use Rattle.net_parser.specs.declared.trees.BlockKind.TheVariants.{Net, Node, Dec
 use Rattle.net_build.proofs.NumberLemmas.{all_numbers}
 use Rattle.net_build.proofs.ScaleLemmas.{decimal_of, cells_found, not_whole, unfit_wide}
 use Rattle.net_build.proofs.TableFacts.{value_of_node, values_of_nodes, can_read}
-use Rattle.net_build.proofs.TablePasses.{head_here, potential_here, rows_here, part_here, nodes_are}
+use Rattle.net_build.proofs.TablePasses.{head_here, potential_here, rows_here, part_none, nodes_are}
 
 -- some item of a list with a place
 pub item_of : {X : Type 0} (xs : List X) (v : ℕ) → v < length xs → X
@@ -171,19 +169,11 @@ module _ (text : List ℕ) (blocks : List BlockTree) (own : All (IsBlockOf text)
   heads_len : length heads ≡ length nodes
   heads_len = length-map nodes (head_of text nodes)
 
-  part_none : (v : ℕ) → drafts_pass text heads links None → v < length nodes → node_part text (kind_of (block_at v).kind) (row_count text blocks (block_at v)) (block_states text (block_at v)) (potential_of text blocks (block_name text (block_at v))) None
-  part_none v h near = subst (λ (P : Pass Found). P None) (part_here text blocks v near)
-      (subst (λ n. node_rows_at text heads links n None) (get_or-range_with_len 0 (length heads) v 0 (omega (arith, near, heads_len)) ∙ plain v)
-      (each_at (node_rows_at text heads links) (range_with_len 0 (length heads)) v 0 h (omega (arith, near, heads_len, length-range_with_len 0 (length heads)))))
-    where
-      plain : (n : ℕ) → 0 + n ≡ n
-      plain n = omega arith
-
   -- each of the utilities' numbers is read
-  pub values_read : drafts_pass text heads links None → All (IsRead text) numbers
+  pub values_read : table_pass text blocks None → All (IsRead text) numbers
   values_read h = values_of_nodes text blocks own node_rows_none potential_rows_none (IsRead text) (λ v p near kind is.
       let found = found_in (λ b. bytes_eq (block_name text b) (block_name text (block_at v))) (IsBlockOf text) (potentials blocks) p is (λ k d w. (all_filter (IsBlockOf text) (λ b. is_potential b.kind) blocks own k d w).0) in
-      let part : node_part text model.Utility (row_count text blocks (block_at v)) (block_states text (block_at v)) (Some p) None = subst (λ o. node_part text model.Utility (row_count text blocks (block_at v)) (block_states text (block_at v)) o None) is (subst (λ (k : Kind). node_part text k (row_count text blocks (block_at v)) (block_states text (block_at v)) (potential_of text blocks (block_name text (block_at v))) None) kind (part_none v h near)) in
+      let part : node_part text model.Utility (row_count text blocks (block_at v)) (block_states text (block_at v)) (Some p) None = subst (λ o. node_part text model.Utility (row_count text blocks (block_at v)) (block_states text (block_at v)) o None) is (subst (λ (k : Kind). node_part text k (row_count text blocks (block_at v)) (block_states text (block_at v)) (potential_of text blocks (block_name text (block_at v))) None) kind (part_none text blocks h v near)) in
       read_numbers_of text model.Utility (row_count text blocks (block_at v)) (block_states text (block_at v)) p (data_of text p)
       (own_values text (data_of text p) (λ k d w. (all_filter (IsAttributeOf text) (λ a. bytes_eq (word_of text a) (codes "data")) p.attributes found.0.attributes k d w).0)) part.1)
 

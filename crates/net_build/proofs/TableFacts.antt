@@ -1,5 +1,5 @@
 -- Nodes and their potentials where the passes before the tables find nothing: what reading the tables needs, and which numbers are the utilities'.
-use Rattle.std.proofs.Common.{◌≡◌, ◌≢◌, ◌⊎◌, inl, inr, ◌<◌, ◌≤◌, ◌+◌, ℕ, Bool, true, false, ◌&&◌, cond, List, [], ◌∷◌, ◌++◌, All, Contains, length, get_or, map, filter, take, Option, None, Some, IfSome, refl, sym, ap, subst, ◌∙◌, arith, length-append}
+use Rattle.std.proofs.Common.{◌≡◌, ◌≢◌, ◌⊎◌, inl, inr, ◌<◌, ◌≤◌, ◌+◌, ℕ, Bool, true, false, not, ◌&&◌, cond, List, [], ◌∷◌, ◌++◌, All, Contains, length, get_or, map, filter, take, Option, None, Some, IfSome, refl, sym, ap, subst, ◌∙◌, arith, length-append}
 use Rattle.std.specs.List.{flat_map}
 use Rattle.std.specs.Option.{IsSome}
 use Rattle.std.specs.Str.{bytes_eq}
@@ -11,20 +11,22 @@ use Rattle.std.proofs.lemmas.Simd.{map-map}
 use Rattle.std.proofs.lemmas.Slice.Eq.{bytes_eq-Decides}
 use Rattle.maid_model.specs.declared.diagrams.Kind.{Kind}
 use Rattle.maid_model.specs.declared.diagrams.Kind.TheVariants as model
-use Rattle.maid_model.specs.Nodes.{is_utility}
+use Rattle.maid_model.specs.Nodes.{is_decision, is_utility}
 use Rattle.net_lexer.specs.declared.tokens.Token.{Token}
-use Rattle.net_parser.specs.declared.trees.BlockKind.{BlockKind}
-use Rattle.net_parser.specs.declared.trees.BlockKind.TheVariants.{Net, Node, Decision, Utility, Potential}
 use Rattle.net_parser.specs.Trees.{BlockTree}
 use Rattle.net_parser.specs.Owned.{IsBlockOf}
 use Rattle.net_build.specs.declared.nodes.Head.{Head}
-use Rattle.net_build.specs.Blocks.{is_node, is_potential, is_number, node_blocks, potentials, kind_of, has_table, block_states, block_name, names_of, place_among, potential_of, parent_lists, data_of, leaves_of, word_of, named}
-use Rattle.net_build.specs.Stages.{AreLinks, NodeLists, head_of, node_lists, link_lists, no_head}
-use Rattle.net_build.specs.Table.{name_rows, node_rows, node_pass, potential_rows, potential_pass, missing_row, missing_pass, no_block, utility_numbers}
+use Rattle.net_build.specs.Blocks.{is_potential, node_blocks, potentials, kind_of, block_states, block_name, names_of, place_among, potential_of, potential_list, parent_lists, data_of, leaves_of}
+use Rattle.net_build.specs.Linking.{behind_rows, missing_at, absent_row}
+use Rattle.net_build.specs.Stages.{AreLinks, NodeLists, head_of, heads_of, head_at, node_lists, link_lists, no_head}
+use Rattle.net_build.specs.Table.{name_rows, node_rows, node_pass, potential_pass, missing_pass, no_block, utility_numbers}
 use Rattle.net_build.specs.TableParts.{CanRead, kind_in, has_values, values_in}
-use Rattle.net_build.proofs.BlockLemmas.{each_after_at, each_filter_at, all_filter, filter_filter, all_flat, found_in, not_found, finds, take_at, contains_map, place_at, place_here, states_some}
+use Rattle.net_build.proofs.BlockLemmas.{each_after_at, all_filter, filter_filter, all_flat, found_in, finds, take_at, contains_map, place_at, place_here, states_some}
+use Rattle.net_build.proofs.LinkLemmas.{number_at}
+use Rattle.net_build.proofs.LinkPasses.{taken_from}
+use Rattle.net_build.proofs.NodeFacts.{only_on}
 use Rattle.net_build.proofs.PlaceLemmas.{bytes_same}
-use Rattle.net_build.proofs.TablePasses.{head_here, potential_here, nodes_are}
+use Rattle.net_build.proofs.TablePasses.{head_here, potential_here}
 
 if_some_by : {X : Type 0} (Q : X → Type 0) (o : Option X) → ((x : X) → o ≡ Some x → Q x) → IfSome o Q
 if_some_by Q None f = tt
@@ -53,12 +55,10 @@ is_utility_true model.Chance e = absurd (false≢true e)
 is_utility_true model.Decision e = absurd (false≢true e)
 is_utility_true model.Utility e = refl
 
-table_kind : (k : BlockKind) → is_node k ≡ true → kind_of k ≢ model.Decision → has_table k ≡ true
-table_kind Node e h = refl
-table_kind Utility e h = refl
-table_kind Decision e h = absurd (h refl)
-table_kind Net e h = absurd (false≢true e)
-table_kind Potential e h = absurd (false≢true e)
+not_decision : (k : Kind) → k ≢ model.Decision → not (is_decision k) ≡ true
+not_decision model.Chance h = refl
+not_decision model.Utility h = refl
+not_decision model.Decision h = absurd (h refl)
 
 and_true : (a b : Bool) → a ≡ true → b ≡ true → (a && b) ≡ true
 and_true true true e f = refl
@@ -101,8 +101,10 @@ module _ (text : List ℕ) (blocks : List BlockTree) (own : All (IsBlockOf text)
   its_at j = get_or its j no_block
 
   potential_names_differ : (k j : ℕ) → k < j → j < length its → block_name text (its_at k) ≡ block_name text (its_at j) → ⊥
-  unfolding potential_pass potential_rows
-  potential_names_differ k j l h same = (each_after_at (potential_rows text nodes) [] its no_block j potential_rows_none h).1.0 (subst (Contains (names_of text (take j its))) same (contains_map (block_name text) (take j its) (its_at k) (take_at its no_block k j l h)))
+  unfolding potential_pass
+  potential_names_differ k j l h same =
+      let rows = each_after_at (behind_rows text (names_of text nodes) (heads_of text nodes)) [] its no_block j potential_rows_none h in
+      rows.1.0 (taken_from text (names_of text nodes) (take j its) (its_at j) rows.0 (subst (Contains (names_of text (take j its))) same (contains_map (block_name text) (take j its) (its_at k) (take_at its no_block k j l h))))
 
   differ_test : (xs ys : List ℕ) → (xs ≡ ys → ⊥) → bytes_eq xs ys ≡ false
   differ_test xs ys h = Rattle.net_build.proofs.PlaceLemmas.bytes_differ xs ys h
@@ -160,9 +162,14 @@ module _ (text : List ℕ) (blocks : List BlockTree) (own : All (IsBlockOf text)
   pub values_are_numbers : values_in text listed blocks ≡ utility_numbers text blocks
   values_are_numbers = values_are ∙ ap (λ kinds. flat_map (λ p. leaves_of (data_of text p)) (filter (λ p. is_utility (get_or kinds (place_among (names_of text nodes) (block_name text p)) model.Chance)) its)) (map-map (λ (g : Head). g.kind) (head_of text nodes) nodes)
 
-  row_at : (v : ℕ) → missing_pass text blocks None → v < length nodes → has_table (block_at v).kind ≡ true → missing_row text blocks (block_at v) None
+  -- a node that is no decision has a potential
+  pub there : missing_pass text blocks None → (v : ℕ) → v < length nodes → kind_of (block_at v).kind ≢ model.Decision → IsSome (potential_of text blocks (block_name text (block_at v)))
   unfolding missing_pass
-  row_at v missing h kept = each_filter_at (missing_row text blocks) (λ b. has_table b.kind) nodes no_block v missing h kept
+  there missing v h kind =
+      let heads = heads_of text nodes in
+      let row = number_at (missing_at heads (potential_list text blocks)) (length heads) v missing (omega (arith, h, length-map nodes (head_of text nodes))) in
+      is_some_by (potential_of text blocks (block_name text (block_at v)))
+      (λ e. only_on (not (is_decision (head_at heads v).kind)) (absent_row (head_at heads v) (potential_list text blocks) v) (not_decision (head_at heads v).kind (subst (λ (g : Head). g.kind ≢ model.Decision) (sym (head_here text blocks v h)) kind)) row (potential_here text blocks v h ∙ e))
 
   -- what reading the tables needs
   pub can_read : missing_pass text blocks None → AreLinks (map (head_of text nodes) nodes) (parent_lists text blocks) → CanRead text (map (head_of text nodes) nodes) (link_lists text blocks)
@@ -173,10 +180,5 @@ module _ (text : List ℕ) (blocks : List BlockTree) (own : All (IsBlockOf text)
     fit = fit;
     own = λ v h. let near : v < length nodes = omega (arith, h, length-map nodes (head_of text nodes)) in subst (λ o. IfSome o (λ p. IsBlockOf text p × (is_potential p.kind ≡ true))) (sym (potential_here text blocks v near))
         (if_some_by (λ p. IsBlockOf text p × (is_potential p.kind ≡ true)) (potential_of text blocks (block_name text (block_at v))) (λ p e. (found_in (λ b. bytes_eq (block_name text b) (block_name text (block_at v))) (λ b. IsBlockOf text b × (is_potential b.kind ≡ true)) its p e (all_filter (IsBlockOf text) (λ b. is_potential b.kind) blocks own)).0));
-    there = λ v h kind. let near : v < length nodes = omega (arith, h, length-map nodes (head_of text nodes)) in subst IsSome (sym (potential_here text blocks v near)) (there v near (subst (λ (g : Head). g.kind ≢ model.Decision) (head_here text blocks v near) kind));
+    there = λ v h kind. let near : v < length nodes = omega (arith, h, length-map nodes (head_of text nodes)) in subst IsSome (sym (potential_here text blocks v near)) (there missing v near (subst (λ (g : Head). g.kind ≢ model.Decision) (head_here text blocks v near) kind));
   }
-    where
-      there : (v : ℕ) → v < length nodes → kind_of (block_at v).kind ≢ model.Decision → IsSome (potential_of text blocks (block_name text (block_at v)))
-      there v h kind = is_some_by (potential_of text blocks (block_name text (block_at v))) (λ e. row_at v missing h (table_kind (block_at v).kind (nodes_are text blocks v h) kind) (λ (k, within, here).
-          let near : k < length its = omega (arith, within, length-map its (block_name text)) in
-          false≢true (sym (not_found (λ b. bytes_eq (block_name text b) (block_name text (block_at v))) its e k no_block near) ∙ (bytes_eq-Decides _ _).1 (sym (get_or-map (block_name text) its k no_block (block_name text (block_at v)) near) ∙ here))))

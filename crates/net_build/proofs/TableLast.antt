@@ -9,15 +9,15 @@ use Rattle.net_build.specs.declared.faults.BuildFault.{BuildFault}
 use Rattle.net_build.specs.declared.faults.BuildFault.TheVariants.{Fault, NoMemory}
 use Rattle.net_build.specs.Blocks.{is_number, node_blocks}
 use Rattle.net_build.specs.Building.{AreTables}
-use Rattle.first_fault.specs.Passes.{◌▸◌, each}
+use Rattle.first_fault.specs.Passes.{Pass, ◌▸◌, each}
 use Rattle.first_fault.specs.Answers.{IsFaultOrNoMemory}
 use Rattle.net_build.specs.Passes.{Found, build_fault}
 use Rattle.net_build.specs.Stages.{NodeLists, LinkLists, TablesFit, node_lists, link_lists}
 use Rattle.net_build.specs.Table.{IsUtilityScale, length_row, wide_row, node_pass, potential_pass, table_pass, wide_pass, utility_numbers}
 use Rattle.net_build.specs.TableParts.{AreDrafts, CanRead, FitsDraft, IsScaleOf, scaled_pass, drafts_pass, finished, values_in}
-use Rattle.first_fault.proofs.Leading.{leads_refused, refused_first, refused_later}
+use Rattle.first_fault.proofs.Leading.{refused_first, refused_later}
 use Rattle.first_fault.proofs.Items.{each_all}
-use Rattle.net_build.proofs.TablePasses.{drafts_lead}
+use Rattle.net_build.proofs.LinkPasses.{same_refused}
 use Rattle.net_build.proofs.TableFacts.{values_are_numbers}
 use Rattle.net_build.proofs.TableEnd.{IsRead, values_read, all_fit, tables_are, tables_fit}
 
@@ -40,16 +40,16 @@ module _ (text : List ℕ) (blocks : List BlockTree) where
   wide_from (Fault at kind) h = wide_is (Some _) h
 
   module _ (own : All (IsBlockOf text) blocks) (node_none : node_pass text blocks None) (potential_none : potential_pass text blocks None) (nodes : NodeLists) (links : LinkLists) (n : nodes ≡ node_lists text (node_blocks blocks)) (l : links ≡ link_lists text blocks) where
-    to_own : drafts_pass text nodes.heads links None → drafts_pass text (node_lists text (node_blocks blocks)).heads (link_lists text blocks) None
-    to_own h = subst (λ (m : LinkLists). drafts_pass text (node_lists text (node_blocks blocks)).heads m None) l (subst (λ (m : NodeLists). drafts_pass text m.heads links None) n h)
+    pass_is : drafts_pass text nodes.heads links ≡ table_pass text blocks
+    unfolding table_pass
+    pass_is = λ i. drafts_pass text (n i).heads (l i)
 
     -- the nodes find nothing
     pub table_clear : drafts_pass text nodes.heads links None → table_pass text blocks None
-    table_clear h = drafts_lead text blocks None (to_own h)
+    table_clear h = subst (λ (P : Pass Found). P None) pass_is h
 
     pub table_refused : (fault : BuildFault) → IsFaultOrNoMemory build_fault (drafts_pass text nodes.heads links) fault → IsFaultOrNoMemory build_fault (table_pass text blocks ▸ wide_pass text blocks) fault
-    table_refused fault h = refused_first (table_pass text blocks) (wide_pass text blocks) (build_fault fault) (leads_refused (drafts_pass text (node_lists text (node_blocks blocks)).heads (link_lists text blocks)) (table_pass text blocks) (build_fault fault) (drafts_lead text blocks)
-        (subst (λ (m : LinkLists). IsFaultOrNoMemory build_fault (drafts_pass text (node_lists text (node_blocks blocks)).heads m) fault) l (subst (λ (m : NodeLists). IsFaultOrNoMemory build_fault (drafts_pass text m.heads links) fault) n h)))
+    table_refused fault h = refused_first (table_pass text blocks) (wide_pass text blocks) (build_fault fault) (same_refused (drafts_pass text nodes.heads links) (table_pass text blocks) (build_fault fault) pass_is h)
 
     module _ (tokens : List Token) (is : tokens ≡ values_in text nodes blocks) (clear : drafts_pass text nodes.heads links None) where
       tokens_are : tokens ≡ values_in text (node_lists text (node_blocks blocks)) blocks
@@ -60,7 +60,7 @@ module _ (text : List ℕ) (blocks : List BlockTree) where
 
       -- the utilities' numbers are read
       pub tokens_read : All (IsRead text) tokens
-      tokens_read = subst (All (IsRead text)) (sym tokens_are) (values_read text blocks own node_none potential_none (to_own clear))
+      tokens_read = subst (All (IsRead text)) (sym tokens_are) (values_read text blocks own node_none potential_none (table_clear clear))
 
       pub wide_refused : (fault : BuildFault) → IsFaultOrNoMemory build_fault (scaled_pass text tokens) fault → IsFaultOrNoMemory build_fault (table_pass text blocks ▸ wide_pass text blocks) fault
       wide_refused fault h = refused_later (table_pass text blocks) (wide_pass text blocks) (build_fault fault) (table_clear clear) (wide_from fault (subst (λ ts. IsFaultOrNoMemory build_fault (scaled_pass text ts) fault) tokens_numbers h))

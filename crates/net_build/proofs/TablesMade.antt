@@ -1,5 +1,5 @@
 -- Where the passes find nothing, each node has a table: a chance node its rows in proportion, and a utility its values to scale.
-use Rattle.std.proofs.Common.{◌≡◌, ◌⊎◌, inl, inr, ◌<◌, ◌≤◌, ◌*◌, ℕ, zero, suc, ℤ, true, List, [], ◌∷◌, All, Contains, length, get_or, map, Option, None, Some, refl, sym, ap, subst, ◌∙◌, arith}
+use Rattle.std.proofs.Common.{◌≡◌, ◌⊎◌, inl, inr, ◌<◌, ◌≤◌, ◌*◌, ℕ, zero, suc, ℤ, true, List, [], ◌∷◌, All, length, get_or, map, Option, None, Some, refl, sym, ap, subst, ◌∙◌, arith}
 use Rattle.std.specs.Option.{IsSome, option_map_or}
 use Rattle.std.proofs.lemmas.Bool.{false≢true, cases_lt}
 use Rattle.std.proofs.lemmas.List.{length-map}
@@ -8,27 +8,22 @@ use Rattle.maid_model.specs.declared.diagrams.Kind.TheVariants as model
 use Rattle.maid_model.specs.Nodes.{is_chance}
 use Rattle.net_lexer.specs.Token.{token_bytes}
 use Rattle.net_lexer.specs.declared.tokens.Token.{Token}
-use Rattle.net_parser.specs.declared.trees.BlockKind.{BlockKind}
-use Rattle.net_parser.specs.declared.trees.BlockKind.TheVariants.{Net, Node, Decision, Utility, Potential}
 use Rattle.net_parser.specs.Trees.{AttributeTree, BlockTree}
 use Rattle.net_parser.specs.Owned.{leaves, IsBlockOf}
 use Rattle.weight_scale.specs.Laws.{DecimalOrNone, ScaledOrTooWide, ScaledIsTable}
 use Rattle.first_fault.specs.Passes.{each}
-use Rattle.net_build.specs.Blocks.{is_node, node_blocks, potentials, kind_of, has_table, block_states, row_count, cell_count, block_name, names_of, potential_of, parent_lists, data_of, leaves_of, block_numbers}
+use Rattle.net_build.specs.Blocks.{is_node, node_blocks, kind_of, block_states, row_count, cell_count, block_name, potential_of, parent_lists, data_of, leaves_of, block_numbers}
 use Rattle.net_build.specs.Building.{AreTables, IsTableFrom, AreChanceCells, AreUtilityCells}
 use Rattle.net_build.specs.Scaling.{IsWholeBy}
 use Rattle.net_build.specs.Stages.{FitsTable, TablesFit, head_of, node_lists}
-use Rattle.net_build.specs.Table.{length_row, wide_row, weight_rows, data_rows, table_rows, table_pass, missing_row, missing_pass, node_pass, potential_pass, no_block, utility_numbers, IsUtilityScale, IsWideValue}
+use Rattle.net_build.specs.Table.{length_row, wide_row, weight_part, data_parts, draft_part, node_part, table_pass, missing_pass, node_pass, potential_pass, no_block, utility_numbers, IsUtilityScale, IsWideValue}
 use Rattle.net_build.specs.TableParts.{value_at_scale, values_in}
-use Rattle.net_build.proofs.BlockLemmas.{each_filter_at}
-use Rattle.net_build.proofs.LinkPasses.{there_is_found}
 use Rattle.net_build.proofs.NodeFacts.{each_all, only_on}
 use Rattle.net_build.proofs.ScaledOrWide.{decimal_exists, decimals_exist, chance_cells}
 use Rattle.net_build.proofs.ScaleLemmas.{cells_found, raised_is}
 use Rattle.net_build.proofs.TableEnd.{all_small, one_state, values_at, values_fit}
-use Rattle.net_build.proofs.TableFacts.{states_at, values_are_numbers, values_of_nodes}
-use Rattle.net_build.proofs.TablePasses.{head_here, nodes_are, rows_here}
-use Rattle.net_build.proofs.Telling.{dec_contains}
+use Rattle.net_build.proofs.TableFacts.{there, states_at, values_are_numbers, values_of_nodes}
+use Rattle.net_build.proofs.TablePasses.{head_here, nodes_are, part_none, rows_here}
 use Rattle.net_build.proofs.WholeRows.{stable}
 
 -- a list of what there is at each number
@@ -49,35 +44,32 @@ IsGood text scale t = IsWholeBy scale (token_bytes text t) × (IsWideValue scale
 
 module _ (decides : DecimalOrNone) (text : List ℕ) (blocks : List BlockTree) where
   -- ---- a table by its numbers
-  chance_made : ScaledOrTooWide → ScaledIsTable → (b p : BlockTree) (tables : List AttributeTree) → 0 < block_states text b → kind_of b.kind ≡ model.Chance → data_rows text blocks b p tables None
+  chance_made : ScaledOrTooWide → ScaledIsTable → (b p : BlockTree) (tables : List AttributeTree) → 0 < block_states text b → kind_of b.kind ≡ model.Chance → data_parts text (kind_of b.kind) (row_count text blocks b) (block_states text b) p tables None
       → (cells : List ℤ) × AreChanceCells (block_states text b) (map (token_bytes text) (leaves_of tables)) cells × FitsTable model.Chance (row_count text blocks b) (block_states text b) cells
-  unfolding data_rows weight_rows
   chance_made scales table b p [] some kind h = absurd (h tt)
   chance_made scales table b p (a ∷ more) some kind h =
-      let weights = only_on (is_chance (kind_of b.kind)) (weight_rows text (block_states text b) (row_count text blocks b) a) (ap is_chance kind) h.1.1.1 in
-      let count = stable (length (leaves a.value)) (cell_count text blocks b) h.1.0 in
-      let ds = decimals_exist decides text (leaves a.value) h.1.1.0 in
+      let weights = only_on (is_chance (kind_of b.kind)) (weight_part text (block_states text b) (row_count text blocks b) a.name.start (leaves a.value)) (ap is_chance kind) h.1 in
+      let count = stable (length (leaves a.value)) (cell_count text blocks b) h.0.1.0 in
+      let ds = decimals_exist decides text (leaves a.value) h.0.1.1 in
       chance_cells text (block_states text b) (row_count text blocks b) (leaves a.value) ds.0 some count ds.1 weights.0 weights.1.0 scales table weights.1.1
 
   times_one : (rows states : ℕ) → states ≡ 1 → rows * states ≡ rows
   times_one rows states one = rw one (omega arith)
 
-  utility_made : (scale : ℕ) (b p : BlockTree) (tables : List AttributeTree) → block_states text b ≡ 1 → All (IsGood text scale) (leaves_of tables) → data_rows text blocks b p tables None
+  utility_made : (scale : ℕ) (b p : BlockTree) (tables : List AttributeTree) → block_states text b ≡ 1 → All (IsGood text scale) (leaves_of tables) → data_parts text (kind_of b.kind) (row_count text blocks b) (block_states text b) p tables None
       → (cells : List ℤ) × AreUtilityCells scale (map (token_bytes text) (leaves_of tables)) cells × FitsTable model.Utility (row_count text blocks b) (block_states text b) cells
-  unfolding data_rows
   utility_made scale b p [] one good h = absurd (h tt)
   utility_made scale b p (a ∷ more) one good h =
-      let count = stable (length (leaves a.value)) (cell_count text blocks b) h.1.0 in
-      let ds = decimals_exist decides text (leaves a.value) h.1.1.0 in
+      let count = stable (length (leaves a.value)) (cell_count text blocks b) h.0.1.0 in
+      let ds = decimals_exist decides text (leaves a.value) h.0.1.1 in
       let fit = values_fit text (leaves a.value) ds.0 scale ds.1 good in
       let len = length-map ds.0 (value_at_scale scale) ∙ ds.1.len ∙ length-map (leaves a.value) (token_bytes text) ∙ count ∙ times_one (row_count text blocks b) (block_states text b) one in
       (map (value_at_scale scale) ds.0, cells_found (map (token_bytes text) (leaves a.value)) ds.0 scale ds.1 fit.0, (len, all_small ds.0 scale fit.1))
 
   -- the numbers are short
-  shorts : (b p : BlockTree) (tables : List AttributeTree) → data_rows text blocks b p tables None → All (λ t. length_row text t None) (leaves_of tables)
-  unfolding data_rows
+  shorts : (b p : BlockTree) (tables : List AttributeTree) → data_parts text (kind_of b.kind) (row_count text blocks b) (block_states text b) p tables None → All (λ t. length_row text t None) (leaves_of tables)
   shorts b p [] h = absurd (h tt)
-  shorts b p (a ∷ more) h = each_all (length_row text) (leaves a.value) h.1.1.0
+  shorts b p (a ∷ more) h = each_all (length_row text) (leaves a.value) h.0.1.1
 
   -- ---- node by node
   module _ (own : All (IsBlockOf text) blocks) (node_none : node_pass text blocks None) (potential_none : potential_pass text blocks None) (missing_none : missing_pass text blocks None) (table_none : table_pass text blocks None) where
@@ -93,40 +85,25 @@ module _ (decides : DecimalOrNone) (text : List ℕ) (blocks : List BlockTree) w
     abbrev numbers : List Token
     numbers = values_in text (node_lists text nodes) blocks
 
-    rows_at : (v : ℕ) → v < length nodes → has_table (block_at v).kind ≡ true → table_rows text blocks (block_at v) (potential_at v) None
-    unfolding table_pass
-    rows_at v h kept = each_filter_at (λ b. table_rows text blocks b (potential_of text blocks (block_name text b))) (λ b. has_table b.kind) nodes no_block v table_none h kept
-
-    missing_at : (v : ℕ) → v < length nodes → has_table (block_at v).kind ≡ true → missing_row text blocks (block_at v) None
-    unfolding missing_pass
-    missing_at v h kept = each_filter_at (missing_row text blocks) (λ b. has_table b.kind) nodes no_block v missing_none h kept
-
     -- the potential is there, and what its data says
-    data_at : (v : ℕ) → v < length nodes → has_table (block_at v).kind ≡ true → (p : BlockTree) × (potential_at v ≡ Some p) × data_rows text blocks (block_at v) p (data_of text p) None
-    unfolding table_rows
-    data_at v h kept = by_option (potential_at v) refl (there (dec_contains _ _)) (rows_at v h kept) where
-      there : Dec (Contains (names_of text (potentials blocks)) (block_name text (block_at v))) → IsSome (potential_at v)
-      there (yes c) = there_is_found (block_name text) (block_name text (block_at v)) (potentials blocks) c
-      there (no n) = absurd (missing_at v h kept n)
+    data_at : (v : ℕ) → v < length nodes → (kind_of (block_at v).kind ≡ model.Decision → ⊥) → (p : BlockTree) × (potential_at v ≡ Some p) × data_parts text (kind_of (block_at v).kind) (row_count text blocks (block_at v)) (block_states text (block_at v)) p (data_of text p) None
+    data_at v h kind = by_option (potential_at v) refl (there text blocks own node_none potential_none missing_none v h kind) (drafted (kind_of (block_at v).kind) (row_count text blocks (block_at v)) (block_states text (block_at v)) (potential_at v) kind (part_none text blocks table_none v h)) where
+      drafted : (k : Kind) (rows states : ℕ) (o : Option BlockTree) → (k ≡ model.Decision → ⊥) → node_part text k rows states o None → draft_part text k rows states o None
+      drafted model.Chance rows states o other part = part
+      drafted model.Utility rows states o other part = part
+      drafted model.Decision rows states o other part = absurd (other refl)
 
-      by_option : (o : Option BlockTree) → potential_at v ≡ o → IsSome (potential_at v) → table_rows text blocks (block_at v) (potential_at v) None → (p : BlockTree) × (potential_at v ≡ Some p) × data_rows text blocks (block_at v) p (data_of text p) None
-      by_option None e some rows = absurd (false≢true (subst IsSome e some))
-      by_option (Some p) e some rows = (p, e, (subst (λ o. table_rows text blocks (block_at v) o None) e rows).1)
-
-    utility_table : (k : BlockKind) → kind_of k ≡ model.Utility → is_node k ≡ true → has_table k ≡ true
-    utility_table Utility e n = refl
-    utility_table Node e n = refl
-    utility_table Decision e n = absurd (other e) where
-      other : model.Decision ≡ model.Utility → ⊥
-      other e = cc
-    utility_table Net e n = absurd (false≢true n)
-    utility_table Potential e n = absurd (false≢true n)
+      by_option : (o : Option BlockTree) → potential_at v ≡ o → IsSome o → draft_part text (kind_of (block_at v).kind) (row_count text blocks (block_at v)) (block_states text (block_at v)) o None → (p : BlockTree) × (potential_at v ≡ Some p) × data_parts text (kind_of (block_at v).kind) (row_count text blocks (block_at v)) (block_states text (block_at v)) p (data_of text p) None
+      by_option None e some rows = absurd (false≢true some)
+      by_option (Some p) e some rows = (p, e, rows.1)
 
     -- the utilities' numbers are short
     all_short : All (λ t. length_row text t None) numbers
     all_short = values_of_nodes text blocks own node_none potential_none (λ t. length_row text t None) (λ v p h kind is.
-        let here = data_at v h (utility_table (block_at v).kind kind (nodes_are text blocks v h)) in
-        subst (λ (o : Option BlockTree). All (λ t. length_row text t None) (option_map_or (λ q. leaves_of (data_of text q)) o [])) (sym here.1 ∙ is) (shorts (block_at v) here.0 (data_of text here.0) here.2))
+        let here = data_at v h (λ decides. clash (sym kind ∙ decides)) in
+        subst (λ (o : Option BlockTree). All (λ t. length_row text t None) (option_map_or (λ q. leaves_of (data_of text q)) o [])) (sym here.1 ∙ is) (shorts (block_at v) here.0 (data_of text here.0) here.2)) where
+          clash : model.Utility ≡ model.Decision → ⊥
+          clash d = cc
 
     numbers_are : numbers ≡ utility_numbers text blocks
     numbers_are = values_are_numbers text blocks own node_none potential_none
@@ -154,13 +131,6 @@ module _ (decides : DecimalOrNone) (text : List ℕ) (blocks : List BlockTree) w
           kept : is_node (block_at v).kind ≡ true
           kept = nodes_are text blocks v h
 
-          table_kept : (k : BlockKind) → is_node k ≡ true → (kind_of k ≡ model.Decision → ⊥) → has_table k ≡ true
-          table_kept Node n other = refl
-          table_kept Utility n other = refl
-          table_kept Decision n other = absurd (other refl)
-          table_kept Net n other = absurd (false≢true n)
-          table_kept Potential n other = absurd (false≢true n)
-
           -- from the potential's numbers to the block's
           from : (k : Kind) → kind_of (block_at v).kind ≡ k → (p : BlockTree) → potential_at v ≡ Some p → (cells : List ℤ) → IsTableFrom k scale (block_states text (block_at v)) (map (token_bytes text) (leaves_of (data_of text p))) cells → FitsTable k (row_count text blocks (block_at v)) (block_states text (block_at v)) cells → (found : List ℤ) × IsCells (block_at v) found
           from k e p there cells is fits = (
@@ -175,13 +145,13 @@ module _ (decides : DecimalOrNone) (text : List ℕ) (blocks : List BlockTree) w
           by_kind : (k : Kind) → kind_of (block_at v).kind ≡ k → (cells : List ℤ) × IsCells (block_at v) cells
           by_kind model.Decision e = ([], (subst (λ (j : Kind). IsTableFrom j scale (block_states text (block_at v)) (map (token_bytes text) (block_numbers text blocks (block_at v))) []) (sym e) refl, subst (λ (j : Kind). FitsTable j (row_count text blocks (block_at v)) (block_states text (block_at v)) []) (sym e) refl))
           by_kind model.Chance e =
-              let here = data_at v h (table_kept (block_at v).kind kept (λ d. clash (sym e ∙ d))) in
+              let here = data_at v h (λ d. clash (sym e ∙ d)) in
               let made = chance_made scales table (block_at v) here.0 (data_of text here.0) (states_at text blocks own node_none potential_none v h) e here.2 in
               from model.Chance e here.0 here.1 made.0 made.1 made.2 where
                 clash : model.Chance ≡ model.Decision → ⊥
                 clash d = cc
           by_kind model.Utility e =
-              let here = data_at v h (table_kept (block_at v).kind kept (λ d. clash (sym e ∙ d))) in
+              let here = data_at v h (λ d. clash (sym e ∙ d)) in
               let good = subst (λ (o : Option BlockTree). All (IsGood text scale) (option_map_or (λ q. leaves_of (data_of text q)) o [])) here.1 (values_at text blocks own node_none potential_none (IsGood text scale) v all_good h e) in
               let made = utility_made scale (block_at v) here.0 (data_of text here.0) (one_state text (block_at v) kept e) good here.2 in
               from model.Utility e here.0 here.1 made.0 made.1 made.2 where

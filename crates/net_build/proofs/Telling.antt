@@ -1,9 +1,10 @@
 -- Which conditions of rows can be told: that words stand in a list, that something holds of all items, and the like.
-use Rattle.std.proofs.Common.{◌≡◌, ◌⊎◌, inl, inr, ℕ, Bool, true, false, List, [], ◌∷◌, All, Contains, refl, sym, arith}
+use Rattle.std.proofs.Common.{◌≡◌, ◌⊎◌, inl, inr, ℕ, Bool, true, false, List, [], ◌∷◌, All, Contains, Option, None, Some, refl, sym, arith}
 use Rattle.std.proofs.lemmas.Bool.{false≢true}
 use Rattle.std.proofs.lemmas.List.Elements.{All-nil, All-cons, All-head, All-tail}
 use Rattle.std.proofs.lemmas.Slice.Eq.{bytes_eq-Decides}
 use Rattle.std.specs.Bool.{Decides}
+use Rattle.std.specs.Option.{IsSome}
 use Rattle.std.specs.Str.{bytes_eq}
 use Rattle.maid_model.specs.declared.diagrams.Kind.{Kind}
 use Rattle.maid_model.specs.declared.diagrams.Kind.TheVariants.{Chance, Decision, Utility}
@@ -17,6 +18,14 @@ pub dec_utility : (k : Kind) → Dec (k ≡ Utility)
 dec_utility Chance = no (λ e. cc)
 dec_utility Decision = no (λ e. cc)
 dec_utility Utility = yes refl
+
+pub dec_some : {X : Type 0} (o : Option X) → Dec (IsSome o)
+dec_some None = no false≢true
+dec_some (Some x) = yes refl
+
+pub dec_none : {X : Type 0} (o : Option X) → Dec (o ≡ None)
+dec_none None = yes refl
+dec_none (Some x) = no (λ e. cc)
 
 pub dec_not : {A : Type 0} → Dec A → Dec (A → ⊥)
 dec_not (yes a) = no (λ n. n a)

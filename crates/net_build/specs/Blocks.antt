@@ -187,6 +187,10 @@ owners_of text nodes block = if has_agent block.kind then map (place_among (agen
 abbrev pub potential_of : List ℕ → List BlockTree → List ℕ → Option BlockTree
 potential_of text blocks name = find (λ p. bytes_eq (block_name text p) name) (potentials blocks)
 
+-- that of each node, where it has one
+abbrev pub potential_list : List ℕ → List BlockTree → List (Option BlockTree)
+potential_list text blocks = map (λ b. potential_of text blocks (block_name text b)) (node_blocks blocks)
+
 -- the numbers of the nodes behind its bar
 abbrev pub condition_places : List ℕ → List BlockTree → BlockTree → List ℕ
 condition_places text nodes potential = map (λ t. place_among (names_of text nodes) (token_bytes text t)) (conditions potential)

@@ -1,4 +1,4 @@
--- The passes over potentials, the graph and the sizes, told of plain lists of nodes and links as the steps have them. No public contract needs it.
+-- The rows of the passes over potentials, the graph and the sizes: they speak of the names and heads of the nodes, their parents and their potentials, as lists.
 use Rattle.std.specs.Prelude.{◌≡◌, ◌≢◌, ◌<◌, ◌≤◌, ◌+◌, ◌*◌, min, not, ℕ, List, [], Option, None, Some, map, filter, find, length, sum, All, Contains, slice_index, slice_index_or, bytes_eq}
 use Rattle.std.specs.List.{range_with_len}
 use Rattle.std.specs.Borrow.{Bor}

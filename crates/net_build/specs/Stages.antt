@@ -1,4 +1,4 @@
--- What the steps of building hand to one another, as plain lists. No public contract needs it.
+-- What the steps of building hand to one another, as plain lists.
 use Rattle.std.specs.Prelude.{◌≡◌, ◌≢◌, ◌<◌, ◌≤◌, ◌*◌, ℕ, ℤ, Bool, false, List, [], ◌∷◌, if◌then◌else◌, map, length, filter, drop, flat_map, sum, All, Option, nat_abs, slice_index_or}
 use Rattle.std.specs.List.{range_with_len, list_all}
 use Rattle.maid_model.specs.declared.limits.TheConstants.{MOST_CELLS, MOST_PARENTS, MOST_RULE_CELLS}
@@ -16,7 +16,7 @@ use Rattle.net_parser.specs.Trees.{BlockTree}
 use Rattle.net_parser.specs.Views.{value_tree}
 use Rattle.net_parser.specs.declared.trees.Value.{Value}
 use Rattle.net_build.specs.declared.nodes.Head.{Head}
-use Rattle.net_build.specs.Blocks.{is_string, node_blocks, kind_of, title_at, block_name, names_of, block_labels, has_agent, block_states, owner_names, agents_of, with_sights, owners_of, potential_of, parent_lists}
+use Rattle.net_build.specs.Blocks.{is_string, kind_of, title_at, names_of, block_labels, has_agent, block_states, owner_names, agents_of, with_sights, owners_of, potential_list, parent_lists}
 
 -- the leaves of these values, from left to right
 abbrev pub leaves_in : List Value → List Token
@@ -46,12 +46,16 @@ more_owners text nodes block = drop 1 (owners_of text nodes block)
 abbrev pub head_of : List ℕ → List BlockTree → BlockTree → Head
 head_of text nodes block = record { at = title_at block; kind = kind_of block.kind; owner = first_owner text nodes block; states = block_states text block }
 
+-- the heads of these nodes
+abbrev pub heads_of : List ℕ → List BlockTree → List Head
+heads_of text nodes = map (head_of text nodes) nodes
+
 abbrev pub node_lists : List ℕ → List BlockTree → NodeLists
 node_lists text nodes = record {
   names = names_of text nodes;
   labels = map (block_labels text) nodes;
   agents = agents_of text nodes;
-  heads = map (head_of text nodes) nodes;
+  heads = heads_of text nodes;
   more = map (more_owners text nodes) nodes;
 }
 
@@ -67,7 +71,7 @@ pub record LinkLists : Type 0 where
 abbrev pub link_lists : List ℕ → List BlockTree → LinkLists
 link_lists text blocks = record {
   parents = parent_lists text blocks;
-  potentials = map (λ b. potential_of text blocks (block_name text b)) (node_blocks blocks);
+  potentials = potential_list text blocks;
 }
 
 abbrev pub no_head : Head

@@ -1,14 +1,13 @@
 -- The table of passes, row by row. A text's first fault is the first that applies, by pass, then by item, then by row.
-use Rattle.std.specs.Prelude.{◌+◌, ◌≡◌, ◌≢◌, ◌<◌, ◌≤◌, ◌*◌, ◌^◌, min, ℕ, pos, ◌<ℤ◌, nat_abs, false, List, [], ◌∷◌, ◌++◌, Option, None, Some, map, filter, length, sum, flat_map, All, Contains, slice_index, slice_index_or, codes}
+use Rattle.std.specs.Prelude.{◌+◌, ◌≡◌, ◌≢◌, ◌<◌, ◌≤◌, ◌*◌, ◌^◌, ℕ, pos, ◌<ℤ◌, nat_abs, false, List, [], ◌∷◌, Option, None, Some, map, filter, length, flat_map, All, Contains, slice_index_or, codes}
 use Rattle.std.specs.List.{range_with_len}
 use Rattle.node_sets.specs.declared.sets.TheConstants.{MOST_NODES}
-use Rattle.maid_model.specs.declared.limits.TheConstants.{COUNT_END, MOST_AGENTS, MOST_CELLS, MOST_NAME_BYTES, MOST_PARENTS, MOST_RULE_CELLS, MOST_STATES}
-use Rattle.diagram_graph.specs.Cycles.{ListedArc, IsParentCycle}
+use Rattle.maid_model.specs.declared.limits.TheConstants.{MOST_AGENTS, MOST_NAME_BYTES, MOST_STATES}
 use Rattle.maid_model.specs.declared.diagrams.Kind.{Kind}
 use Rattle.maid_model.specs.declared.diagrams.Kind.TheVariants as model
+use Rattle.maid_model.specs.declared.diagrams.Kind.TheVariants.{Decision}
 use Rattle.maid_model.specs.Diagrams.{greatest_number}
-use Rattle.maid_model.specs.Graph.{IsAcyclic}
-use Rattle.maid_model.specs.Nodes.{is_chance, is_decision, is_utility}
+use Rattle.maid_model.specs.Nodes.{is_chance, is_utility}
 use Rattle.maid_model.specs.Placing.{IsLeast}
 use Rattle.net_lexer.specs.Token.{token_bytes, text_value}
 use Rattle.net_lexer.specs.declared.tokens.Token.{Token}
@@ -17,11 +16,14 @@ use Rattle.net_parser.specs.declared.trees.BlockKind.TheVariants.{Net}
 use Rattle.net_parser.specs.Owned.{leaves}
 use Rattle.weight_scale.specs.Numeral.{numerator, denominator, IsDecimalOf}
 use Rattle.weight_scale.specs.declared.decimal.Decimal.{Decimal}
-use Rattle.net_build.specs.declared.faults.Limit.TheVariants.{Nodes, NameBytes, States, Agents, Parents, Cells, Rules}
+use Rattle.net_build.specs.declared.faults.Limit.TheVariants.{Nodes, NameBytes, States, Agents}
 use Rattle.first_fault.specs.Passes.{Pass, clear, rule, always, only, ◌▸◌, each, each_after, over}
-use Rattle.net_build.specs.Passes.{found, DoubleName, DoubleAttribute, MissingStates, BadStates, BadLabel, BadAgent, RepeatedAgent, UnknownName, DoublePotential, RepeatedParent, UtilityParent, MissingTable, GraphCycle, NotANumber, WrongCount, NumberTooLong, Negative, ZeroRow, WideWeight, WideValue, LimitPassed, Found}
-use Rattle.net_build.specs.Blocks.{node_blocks, potentials, kind_of, title_at, block_name, names_of, conditions, topic_of, named, owner_attributes, has_states, has_agent, has_table, counted, is_number, is_string_list, is_plain, tells_owners, block_states, owner_names, agents_of, with_sights, place_among, potential_of, parent_lists, row_count, cell_count, data_of, leaves_of}
+use Rattle.net_build.specs.Passes.{found, DoubleName, DoubleAttribute, MissingStates, BadStates, BadLabel, BadAgent, RepeatedAgent, MissingTable, NotANumber, WrongCount, NumberTooLong, Negative, ZeroRow, WideWeight, WideValue, LimitPassed, Found}
+use Rattle.net_build.specs.Blocks.{node_blocks, potentials, kind_of, title_at, block_name, names_of, topic_of, named, owner_attributes, has_states, has_agent, counted, is_number, is_string_list, is_plain, tells_owners, owner_names, agents_of, with_sights, place_among, potential_list, parent_lists, data_of, leaves_of}
+use Rattle.net_build.specs.Linking.{potentials_steps, missing_steps, graph_steps, size_steps}
 use Rattle.net_build.specs.Scaling.{AreDecimals, IsWholeBy}
+use Rattle.net_build.specs.Stages.{LinkLists, heads_of, head_at, head_rows, link_lists}
+use Rattle.net_build.specs.declared.nodes.Head.{Head}
 use Rattle.weight_scale.specs.Scaling.{row_at, IsTooWide}
 
 -- an attribute about what one before it is about
@@ -95,58 +97,25 @@ node_pass text blocks = each_after (λ earlier b. node_rows text (names_of text 
 abbrev pub kind_named : List ℕ → List BlockTree → List ℕ → Kind
 kind_named text nodes name = slice_index_or (map (λ b. kind_of b.kind) nodes) (place_among (names_of text nodes) name) model.Chance
 
--- a name behind the bar, and behind those earlier
-unfoldable pub condition_rows : List ℕ → List BlockTree → List Token → Token → Pass Found
-condition_rows text nodes earlier name =
-    rule (Contains (names_of text nodes) (token_bytes text name) → ⊥) (found name.start UnknownName)
-    ▸ rule (Contains (map (token_bytes text) earlier) (token_bytes text name)) (found name.start RepeatedParent)
-    ▸ rule (kind_named text nodes (token_bytes text name) ≡ model.Utility) (found name.start UtilityParent)
-
--- a potential behind those earlier
-unfoldable pub potential_rows : List ℕ → List BlockTree → List BlockTree → BlockTree → Pass Found
-potential_rows text nodes earlier potential =
-    rule (Contains (names_of text nodes) (block_name text potential) → ⊥) (found (title_at potential) UnknownName)
-    ▸ rule (Contains (names_of text earlier) (block_name text potential)) (found (title_at potential) DoublePotential)
-    ▸ each_after (condition_rows text nodes) [] (conditions potential)
-    ▸ rule (MOST_PARENTS < length (conditions potential)) (found (title_at potential) (LimitPassed Parents (length (conditions potential))))
-
--- potentials in text order
+-- potentials in text order, over the names and the heads of the nodes
 unfoldable pub potential_pass : List ℕ → List BlockTree → Pass Found
-potential_pass text blocks = each_after (potential_rows text (node_blocks blocks)) [] (potentials blocks)
+potential_pass text blocks = potentials_steps text (names_of text (node_blocks blocks)) (heads_of text (node_blocks blocks)) blocks
 
--- the chance and utility nodes, in text order
-abbrev pub table_nodes : List BlockTree → List BlockTree
-table_nodes blocks = filter (λ b. has_table b.kind) (node_blocks blocks)
-
-abbrev pub missing_row : List ℕ → List BlockTree → BlockTree → Pass Found
-missing_row text blocks block = rule (Contains (names_of text (potentials blocks)) (block_name text block) → ⊥) (found (title_at block) MissingTable)
-
--- chance and utility nodes in text order
+-- nodes in text order: each chance node and utility has a potential
 unfoldable pub missing_pass : List ℕ → List BlockTree → Pass Found
-missing_pass text blocks = each (missing_row text blocks) (table_nodes blocks)
+missing_pass text blocks = missing_steps (heads_of text (node_blocks blocks)) (potential_list text blocks)
+
+-- the graph: no cycle, or the first one
+unfoldable pub graph_pass : List ℕ → List BlockTree → Pass Found
+graph_pass text blocks = graph_steps (heads_of text (node_blocks blocks)) (parent_lists text blocks)
+
+-- all nodes in text order
+unfoldable pub size_pass : List ℕ → List BlockTree → Pass Found
+size_pass text blocks = size_steps (heads_of text (node_blocks blocks)) (parent_lists text blocks)
 
 -- what stands for a block that isn't there
 abbrev pub no_block : BlockTree
 no_block = record { kind = Net; names = []; attributes = [] }
-
--- the graph: no cycle, or the first one
-unfoldable pub graph_pass : List ℕ → List BlockTree → Pass Found
-graph_pass text blocks None = IsAcyclic (ListedArc (parent_lists text blocks))
-graph_pass text blocks (Some f) = (cycle : List ℕ) × IsParentCycle (parent_lists text blocks) cycle × (f ≡ found (title_at (slice_index_or (node_blocks blocks) (slice_index cycle 0) no_block)) (GraphCycle cycle))
-
--- the cells of the rules of the decisions among these nodes, added up
-abbrev pub rule_cells : List ℕ → List BlockTree → List BlockTree → ℕ
-rule_cells text blocks nodes = sum (map (cell_count text blocks) (filter (λ b. is_decision (kind_of b.kind)) nodes))
-
--- a node behind those earlier; the count of cells is named up to 10^18
-unfoldable pub size_rows : List ℕ → List BlockTree → List BlockTree → BlockTree → Pass Found
-size_rows text blocks earlier block =
-    rule (MOST_CELLS < cell_count text blocks block) (found (title_at block) (LimitPassed Cells (min (cell_count text blocks block) COUNT_END)))
-    ▸ only (is_decision (kind_of block.kind)) (rule (MOST_RULE_CELLS < rule_cells text blocks (earlier ++ block ∷ [])) (found (title_at block) (LimitPassed Rules (rule_cells text blocks (earlier ++ block ∷ [])))))
-
--- all nodes in text order
-unfoldable pub size_pass : List ℕ → List BlockTree → Pass Found
-size_pass text blocks = each_after (size_rows text blocks) [] (node_blocks blocks)
 
 abbrev pub number_row : Token → Pass Found
 number_row leaf = rule (is_number leaf.kind ≡ false) (found leaf.start NotANumber)
@@ -174,30 +143,63 @@ rows_by states numbers rows = map (λ r. row_at states numbers r) (range_with_le
 abbrev pub IsWideTotal : List ℕ → ℕ → List Token → Type 0
 IsWideTotal text states numbers = (decimals : List Decimal) × AreDecimals (map (token_bytes text) numbers) decimals × IsTooWide decimals states
 
--- the numbers of a chance table of so many rows
-unfoldable pub weight_rows : List ℕ → ℕ → ℕ → AttributeTree → Pass Found
-weight_rows text states rows table =
-    each (sign_row text) (leaves table.value)
-    ▸ each (total_row text) (rows_by states (leaves table.value) rows)
-    ▸ rule (IsWideTotal text states (leaves table.value)) (found table.name.start WideWeight)
+-- another count of numbers than the table has cells
+abbrev pub count_row : ℕ → ℕ → ℕ → Pass Found
+count_row at want got = rule (got ≢ want) (found at (WrongCount want got))
 
--- the table of a chance or utility node, given the attributes `data` of its potential
-unfoldable pub data_rows : List ℕ → List BlockTree → BlockTree → BlockTree → List AttributeTree → Pass Found
-data_rows text blocks block potential [] = always (found (title_at potential) MissingTable)
-data_rows text blocks block potential (table ∷ more) =
+-- the leaves of `data`, whatever the table
+abbrev pub number_rows : List ℕ → ℕ → AttributeTree → Pass Found
+number_rows text want table =
     each number_row (leaves table.value)
-    ▸ rule (length (leaves table.value) ≢ cell_count text blocks block) (found table.name.start (WrongCount (cell_count text blocks block) (length (leaves table.value))))
+    ▸ count_row table.name.start want (length (leaves table.value))
     ▸ each (length_row text) (leaves table.value)
-    ▸ only (is_chance (kind_of block.kind)) (weight_rows text (block_states text block) (row_count text blocks block) table)
 
--- the table of a node, given its potential
-unfoldable pub table_rows : List ℕ → List BlockTree → BlockTree → Option BlockTree → Pass Found
-table_rows text blocks block None = clear
-table_rows text blocks block (Some potential) = repeats text potential ▸ data_rows text blocks block potential (data_of text potential)
+-- these numbers as those of a chance table whose `data` stands at a place
+abbrev pub weight_part : List ℕ → ℕ → ℕ → ℕ → List Token → Pass Found
+weight_part text states rows at numbers =
+    each (sign_row text) numbers
+    ▸ each (total_row text) (rows_by states numbers rows)
+    ▸ rule (IsWideTotal text states numbers) (found at WideWeight)
+
+-- the `data` of a node of that kind, with so many rows and states
+abbrev pub data_part : List ℕ → Kind → ℕ → ℕ → AttributeTree → Pass Found
+data_part text kind rows states table =
+    number_rows text (rows * states) table
+    ▸ only (is_chance kind) (weight_part text states rows table.name.start (leaves table.value))
+
+-- the first of these attributes as its `data`
+abbrev pub data_parts : List ℕ → Kind → ℕ → ℕ → BlockTree → List AttributeTree → Pass Found
+data_parts text kind rows states potential [] = always (found (title_at potential) MissingTable)
+data_parts text kind rows states potential (table ∷ more) = data_part text kind rows states table
+
+-- its potential
+abbrev pub table_part : List ℕ → Kind → ℕ → ℕ → BlockTree → Pass Found
+table_part text kind rows states potential = repeats text potential ▸ data_parts text kind rows states potential (data_of text potential)
+
+-- its potential, where it has one
+abbrev pub draft_part : List ℕ → Kind → ℕ → ℕ → Option BlockTree → Pass Found
+draft_part text kind rows states None = clear
+draft_part text kind rows states (Some potential) = table_part text kind rows states potential
+
+-- a decision has no table
+abbrev pub node_part : List ℕ → Kind → ℕ → ℕ → Option BlockTree → Pass Found
+node_part text Decision rows states potential = clear
+node_part text kind rows states potential = draft_part text kind rows states potential
+
+abbrev pub potential_at : LinkLists → ℕ → Option BlockTree
+potential_at links v = slice_index_or links.potentials v None
+
+-- node v by its head, its rows and its potential
+abbrev pub node_rows_at : List ℕ → List Head → LinkLists → ℕ → Pass Found
+node_rows_at text heads links v = node_part text (head_at heads v).kind (head_rows heads links.parents v) (head_at heads v).states (potential_at links v)
+
+-- the nodes in order
+abbrev pub drafts_pass : List ℕ → List Head → LinkLists → Pass Found
+drafts_pass text heads links = each (node_rows_at text heads links) (range_with_len 0 (length heads))
 
 -- chance and utility nodes in text order
 unfoldable pub table_pass : List ℕ → List BlockTree → Pass Found
-table_pass text blocks = each (λ b. table_rows text blocks b (potential_of text blocks (block_name text b))) (table_nodes blocks)
+table_pass text blocks = drafts_pass text (heads_of text (node_blocks blocks)) (link_lists text blocks)
 
 -- the numbers of all utilities, as they stand in the text
 abbrev pub utility_numbers : List ℕ → List BlockTree → List Token

@@ -82,7 +82,7 @@ agents_apart names differ (a ∷ places) apart known =
     apart.0 (k, within, get_or_default places k a 0 within ∙ sym (sym (place_here names differ a (known a (0, omega arith, refl))) ∙ ap (look.place_among names) there ∙ place_here names differ b (known b (suc k, omega arith, get_or_default places k b 0 within)))))
     (agents_apart names differ places apart.1 (λ b c. known b (suc c.0, omega (arith, c.1), c.2)))
 
-pub state_case : (kind : Kind) (x y : ℕ) → (kind ≢ Utility → x ≡ y) → (kind ≡ Utility → y ≡ 1) → cond (look.has_states (block_kind kind)) x 1 ≡ y
+state_case : (kind : Kind) (x y : ℕ) → (kind ≢ Utility → x ≡ y) → (kind ≡ Utility → y ≡ 1) → cond (look.has_states (block_kind kind)) x 1 ≡ y
 state_case Chance x y h one = h (λ e. cc)
 state_case Decision x y h one = h (λ e. cc)
 state_case Utility x y h one = sym (one refl)

@@ -1,25 +1,31 @@
 -- Passes that find nothing in the tree of a printed text.
-use Rattle.std.proofs.Common.{◌≡◌, ◌∙◌, ℕ, zero, suc, ◌<◌, List, [], ◌∷◌, length, map, get_or, All, Contains, None, refl, sym, ap, subst}
-use Rattle.std.specs.List.{flat_map}
-use Rattle.std.proofs.lemmas.List.Elements.{All-head, All-tail, All-nil, All-cons, All-filter, Contains-get_or}
+use Rattle.std.proofs.Common.{◌≡◌, ◌∙◌, ℕ, zero, suc, ◌<◌, not, List, [], ◌∷◌, length, map, get_or, All, Contains, None, Some, refl, sym, subst, arith}
+use Rattle.std.specs.List.{flat_map, range_with_len}
+use Rattle.std.proofs.lemmas.List.{length-map}
+use Rattle.std.proofs.lemmas.List.Elements.{All-head, All-tail, All-nil, All-cons}
 use Rattle.diagram_graph.specs.Cycles.{ListedArc}
 use Rattle.maid_model.specs.Graph.{Arc, IsAcyclic}
-use Rattle.maid_model.specs.Names.{NamesView, name_of}
-use Rattle.maid_model.specs.Nodes.{node_at, numbers_of}
+use Rattle.maid_model.specs.Names.{NamesView}
+use Rattle.maid_model.specs.Nodes.{node_at, numbers_of, is_decision}
 use Rattle.maid_model.specs.Views.{NodeView, DiagramView}
 use Rattle.net_build.specs.Blocks as look
+use Rattle.net_build.specs.declared.nodes.Head.{Head}
 use Rattle.first_fault.specs.Passes.{Pass, each}
+use Rattle.net_build.specs.Linking.{absent_row, missing_at}
 use Rattle.net_build.specs.Passes.{Found}
-use Rattle.net_build.specs.Table.{graph_pass, missing_pass, missing_row, table_nodes}
+use Rattle.net_build.specs.Stages.{head_at, head_of, heads_of}
+use Rattle.net_build.specs.Table.{graph_pass, missing_pass}
 use Rattle.net_parser.specs.Trees.{BlockTree}
+use Rattle.net_print.proofs.ClearPasses.{only_clear}
 use Rattle.net_print.proofs.Comments.{IsPrintableBehind, text_of, place_of}
-use Rattle.net_print.proofs.Given.{parents_told, potential_title}
-use Rattle.net_print.proofs.Look.{node_blocks_are, potentials_are, at_nodes, at_potentials, node_lines, potential_lines, node_name_told, each_place}
+use Rattle.net_print.proofs.CountsTold.{listed_potential}
+use Rattle.net_print.proofs.Given.{parents_told}
+use Rattle.net_print.proofs.Look.{node_blocks_are, at_nodes, potential_lines}
 use Rattle.net_print.proofs.Spelling.{trees_at}
+use Rattle.net_print.proofs.TablesTold.{blocks_count}
 use Rattle.net_print.proofs.Texts.{numbers_below}
-use Rattle.net_print.proofs.Told.{trees_tell}
-use Rattle.net_print.proofs.Tree.{node_tree, potential_tree, tree_of}
-use Rattle.net_print.proofs.Words.{node_words, potential_words}
+use Rattle.net_print.proofs.Tree.{node_tree, tree_of}
+use Rattle.net_print.proofs.Words.{node_words}
 use Rattle.net_print.proofs.Written.{Written, At, at_end, end_at, text_onto, text_onto-append}
 
 -- where nothing is found at each, nothing is found
@@ -50,25 +56,25 @@ module _ (d : DiagramView) (names : NamesView) (is : IsPrintableBehind d names) 
   abbrev Blocks : List BlockTree
   Blocks = tree_of d names is
 
+  abbrev Heads : List Head
+  Heads = heads_of (text_of d names is) (look.node_blocks (tree_of d names is))
+
   pub graph_clear : graph_pass Text Blocks None
   unfolding graph_pass
   graph_clear =
       let arcs : Arc d.nodes ≡ ListedArc (map (λ n. n.parents) d.nodes) = λ j u v. Contains (sym (parents_at d.nodes v) j) u in
       subst (λ lists. IsAcyclic (ListedArc lists)) (parents_told d names is) (subst IsAcyclic arcs is.diagram.graph.acyclic)
 
-  -- the heads of the potentials are all names
-  pub heads_told : look.names_of Text (look.potentials Blocks) ≡ names.nodes
-  heads_told =
-      ap (map (look.block_name Text)) (potentials_are d names is)
-      ∙ trees_tell Text (look.block_name Text) (name_of names) (potential_tree d names) (potential_words d names) (end_at (place_of d names is) (node_lines d names is)) (numbers_of d.nodes) [] (at_potentials d names is) (λ k e h p more at. potential_title d names is (get_or (numbers_of d.nodes) k e) p more at)
-      ∙ each_place names.nodes (length d.nodes) [] is.fit.nodes
-
   -- what holds of each node's block
   pub nodes_hold : (Q : BlockTree → Type 0) → ((v p : ℕ) (more : List ℕ) → v < length d.nodes → At Text p (text_onto (node_words d.nodes names v) more) → Q (node_tree d.nodes names p v)) → All Q (look.node_blocks Blocks)
   nodes_hold Q one = subst (All Q) (sym (node_blocks_are d names is)) (trees_hold Text Q (node_tree d.nodes names) (node_words d.nodes names) (place_of d names is) (numbers_of d.nodes) (text_onto (potential_lines d names is) []) (at_nodes d names is) (λ k e h p more at. one (get_or (numbers_of d.nodes) k e) p more (numbers_below (length d.nodes) k e h) at))
 
+  -- each node has its potential
   pub missing_clear : missing_pass Text Blocks None
   unfolding missing_pass
-  missing_clear = each_clear (missing_row Text Blocks) (table_nodes Blocks) (All-filter (λ b. look.has_table b.kind) (λ b. missing_row Text Blocks b None) (look.node_blocks Blocks) (nodes_hold (λ b. missing_row Text Blocks b None) one)) where
-    one : (v p : ℕ) (more : List ℕ) → v < length d.nodes → At Text p (text_onto (node_words d.nodes names v) more) → missing_row Text Blocks (node_tree d.nodes names p v) None
-    one v p more l at none = none (subst (λ list. Contains list (look.block_name Text (node_tree d.nodes names p v))) (sym heads_told) (subst (Contains names.nodes) (sym (node_name_told Text d.nodes names v p more at)) (Contains-get_or names.nodes v [] (subst (λ n. v < n) (sym is.fit.nodes) l))))
+  missing_clear = each_clear (missing_at Heads (look.potential_list Text Blocks)) (range_with_len 0 (length Heads)) (λ k e h. one (get_or (range_with_len 0 (length Heads)) k e) (omega (arith, numbers_below (length Heads) k e h, length-map (look.node_blocks Blocks) (head_of Text (look.node_blocks Blocks)), blocks_count d names is))) where
+    found_and_not : {X : Type 0} {x : X} → Some x ≡ None → ⊥
+    found_and_not e = cc
+
+    one : (v : ℕ) → v < length d.nodes → missing_at Heads (look.potential_list Text Blocks) v None
+    one v l = only_clear (not (is_decision (head_at Heads v).kind)) (absent_row (head_at Heads v) (look.potential_list Text Blocks) v) (λ counts none. found_and_not (sym (listed_potential d names is v l) ∙ none))

@@ -1,18 +1,20 @@
 -- The pass over tables finds nothing in the tree of a printed text, and the tables that it tells are the nodes' cells.
-use Rattle.std.proofs.Common.{◌≡◌, ◌∙◌, ◌≢◌, ℕ, ◌*◌, ◌<◌, ◌≤◌, ℤ, nat_abs, true, List, [], length, map, get_or, decimal, codes, None, refl, sym, ap, subst, arith}
-use Rattle.std.proofs.lemmas.Bool.{false≢true}
+use Rattle.std.proofs.Common.{◌≡◌, ◌∙◌, ◌≢◌, ℕ, ◌*◌, ◌<◌, ◌≤◌, ℤ, nat_abs, List, [], length, map, get_or, decimal, codes, None, Some, refl, sym, ap, subst, arith}
+use Rattle.std.specs.List.{range_with_len}
 use Rattle.std.proofs.lemmas.List.{get_or-map, length-map}
-use Rattle.std.proofs.lemmas.List.Elements.{All-filter, filter_passes}
 use Rattle.maid_model.specs.declared.diagrams.Kind.{Kind}
 use Rattle.maid_model.specs.declared.diagrams.Kind.TheVariants.{Chance, Decision, Utility}
 use Rattle.maid_model.specs.Names.{NamesView}
-use Rattle.maid_model.specs.Nodes.{node_at, no_node, states_of, rows_of, is_chance}
+use Rattle.maid_model.specs.Nodes.{node_at, no_node, states_of, rows_of}
 use Rattle.maid_model.specs.Tables.{chance_total}
 use Rattle.maid_model.specs.Views.{NodeView, DiagramView}
 use Rattle.net_build.specs.Blocks as look
 use Rattle.net_build.specs.Building.{AreTables, IsTableFrom}
-use Rattle.first_fault.specs.Passes.{each, only}
-use Rattle.net_build.specs.Table.{table_pass, table_rows, data_rows, weight_rows, length_row, table_nodes}
+use Rattle.first_fault.specs.Passes.{Pass, each}
+use Rattle.net_build.specs.Passes.{Found}
+use Rattle.net_build.specs.Stages.{head_of, heads_of, link_lists}
+use Rattle.net_build.specs.declared.nodes.Head.{Head}
+use Rattle.net_build.specs.Table.{table_pass, node_rows_at, node_part, draft_part, data_parts, weight_part, length_row}
 use Rattle.net_lexer.specs.Token.{token_bytes}
 use Rattle.net_lexer.specs.declared.tokens.Token.{Token}
 use Rattle.net_lexer.specs.declared.tokens.TokenKind.TheVariants.{Number}
@@ -21,45 +23,35 @@ use Rattle.net_parser.specs.Trees.{AttributeTree, BlockTree}
 use Rattle.net_build.specs.Plain.{reduced_rows}
 use Rattle.net_print.specs.Printed.{value_text}
 use Rattle.net_print.proofs.Comments.{IsPrintableBehind, text_of}
-use Rattle.net_print.proofs.CountsTold.{block_states_told, row_count_told, cell_count_told}
-use Rattle.net_print.proofs.Faultless.{each_clear, nodes_hold}
+use Rattle.net_print.proofs.CountsTold.{head_kinds, head_states, rows_told, listed_potential}
+use Rattle.net_print.proofs.Faultless.{each_clear}
 use Rattle.net_print.proofs.Given.{potential_found}
-use Rattle.net_print.proofs.Look.{kind_is, node_name_told}
 use Rattle.net_print.proofs.Rows.{length-rows}
 use Rattle.net_print.proofs.TablesTold.{number_texts, table_numbers, potential_data, potential_numbers, potential_repeats, texts_of, blocks_count, block_at, block_kind, block_states, block_numbers}
-use Rattle.net_print.proofs.Tree.{block_kind as tree_kind, list_tree, table_trees, node_tree, potential_tree, tree_of}
+use Rattle.net_print.proofs.Tree.{list_tree, table_trees, potential_tree, tree_of}
+use Rattle.net_print.proofs.Texts.{numbers_below}
 use Rattle.net_print.proofs.ValueLimits.{small_enough, lengths_clear}
 use Rattle.net_print.proofs.ValueScale.{values_scaled}
 use Rattle.net_print.proofs.WeightPass.{chance_lengths_clear, weights_clear}
 use Rattle.net_print.proofs.WeightScale.{chance_cells}
-use Rattle.net_print.proofs.Words.{brace_open, head_words, node_words}
-use Rattle.net_print.proofs.Written.{At, behind, end_at, text_onto}
-
--- a node with a table is no decision
-no_decision : (kind : Kind) → look.has_table (tree_kind kind) ≡ true → kind ≢ Decision
-no_decision kind has e = false≢true (sym (ap (λ k. look.has_table (tree_kind k)) e) ∙ has)
+use Rattle.net_print.proofs.Words.{brace_open, head_words}
+use Rattle.net_print.proofs.Written.{behind, end_at}
 
 -- A table of printed numbers has no fault, by its kind.
-data_clear : (text : List ℕ) (blocks : List BlockTree) (block potential : BlockTree) (from : ℕ) (kind : Kind) (decimals states rows : ℕ) (cells : List ℤ) → look.kind_of block.kind ≡ kind → kind ≢ Decision → look.block_states text block ≡ states → look.row_count text blocks block ≡ rows → length (number_texts kind decimals states rows cells) ≡ look.cell_count text blocks block → map (token_bytes text) (look.leaves_of (table_trees from kind decimals states rows cells)) ≡ number_texts kind decimals states rows cells → each (length_row text) (look.leaves_of (table_trees from kind decimals states rows cells)) None → (kind ≡ Chance → (table : AttributeTree) → map (token_bytes text) (leaves table.value) ≡ map decimal (reduced_rows states rows cells) → weight_rows text states rows table None) → data_rows text blocks block potential (table_trees from kind decimals states rows cells) None
-unfolding data_rows
-data_clear text blocks block potential from Chance decimals states rows cells is some has_states has_rows count told short fair =
+data_clear : (text : List ℕ) (potential : BlockTree) (from : ℕ) (kind : Kind) (decimals states rows : ℕ) (cells : List ℤ) → kind ≢ Decision → length (number_texts kind decimals states rows cells) ≡ rows * states → map (token_bytes text) (look.leaves_of (table_trees from kind decimals states rows cells)) ≡ number_texts kind decimals states rows cells → each (length_row text) (look.leaves_of (table_trees from kind decimals states rows cells)) None → (kind ≡ Chance → (table : AttributeTree) → map (token_bytes text) (leaves table.value) ≡ map decimal (reduced_rows states rows cells) → weight_part text states rows table.name.start (leaves table.value) None) → data_parts text kind rows states potential (table_trees from kind decimals states rows cells) None
+data_clear text potential from Chance decimals states rows cells some count told short fair =
     let table = list_tree from (codes "data") Number decimal (reduced_rows states rows cells) in
-    let weights = subst (λ r. weight_rows text (look.block_states text block) r table None) (sym has_rows) (subst (λ n. weight_rows text n rows table None) (sym has_states) (fair refl table told)) in (
-      table_numbers from Chance decimals states rows cells,
-      (
-        λ other. other (sym (length-map (leaves table.value) (token_bytes text)) ∙ ap length told ∙ count),
-        (short, subst (λ k. only (is_chance k) (weight_rows text (look.block_states text block) (look.row_count text blocks block) table) None) (sym is) weights),
-      ),
-    )
-data_clear text blocks block potential from Decision decimals states rows cells is some has_states has_rows count told short fair = absurd (some refl)
-data_clear text blocks block potential from Utility decimals states rows cells is some has_states has_rows count told short fair =
-    let table = list_tree from (codes "data") Number (value_text decimals) cells in (
-      table_numbers from Utility decimals states rows cells,
-      (
-        λ other. other (sym (length-map (leaves table.value) (token_bytes text)) ∙ ap length told ∙ count),
-        (short, subst (λ k. only (is_chance k) (weight_rows text (look.block_states text block) (look.row_count text blocks block) table) None) (sym is) tt),
-      ),
-    )
+    ((table_numbers from Chance decimals states rows cells, (λ other. other (sym (length-map (leaves table.value) (token_bytes text)) ∙ ap length told ∙ count), short)), fair refl table told)
+data_clear text potential from Decision decimals states rows cells some count told short fair = absurd (some refl)
+data_clear text potential from Utility decimals states rows cells some count told short fair =
+    let table = list_tree from (codes "data") Number (value_text decimals) cells in
+    ((table_numbers from Utility decimals states rows cells, (λ other. other (sym (length-map (leaves table.value) (token_bytes text)) ∙ ap length told ∙ count), short)), tt)
+
+-- a node whose potential has no fault
+node_clear : (text : List ℕ) (kind : Kind) (rows states : ℕ) (potential : BlockTree) → (kind ≢ Decision → draft_part text kind rows states (Some potential) None) → node_part text kind rows states (Some potential) None
+node_clear text Chance rows states potential clear = clear (λ e. cc)
+node_clear text Decision rows states potential clear = tt
+node_clear text Utility rows states potential clear = clear (λ e. cc)
 
 module _ (d : DiagramView) (names : NamesView) (is : IsPrintableBehind d names) where
   abbrev Text : List ℕ
@@ -67,6 +59,9 @@ module _ (d : DiagramView) (names : NamesView) (is : IsPrintableBehind d names) 
 
   abbrev Blocks : List BlockTree
   Blocks = tree_of d names is
+
+  abbrev Heads : List Head
+  Heads = heads_of (text_of d names is) (look.node_blocks (tree_of d names is))
 
   -- as many numbers are printed as the table has cells
   texts_count : (v : ℕ) → v < length d.nodes → (kind : Kind) → (node_at d.nodes v).kind ≡ kind → kind ≢ Decision → length (number_texts kind d.decimals (states_of d.nodes v) (rows_of d.nodes v) (node_at d.nodes v).cells) ≡ rows_of d.nodes v * states_of d.nodes v
@@ -87,36 +82,29 @@ module _ (d : DiagramView) (names : NamesView) (is : IsPrintableBehind d names) 
   texts_short v l Utility kind some tokens told = lengths_clear Text tokens d.decimals (node_at d.nodes v).cells is.diagram.limits.decimals told (is.diagram.limits.values v kind)
 
   -- the weights have no fault
-  weights_fair : (v : ℕ) → (node_at d.nodes v).kind ≡ Chance → (table : AttributeTree) → map (token_bytes Text) (leaves table.value) ≡ map decimal (reduced_rows (states_of d.nodes v) (rows_of d.nodes v) (node_at d.nodes v).cells) → weight_rows Text (states_of d.nodes v) (rows_of d.nodes v) table None
+  weights_fair : (v : ℕ) → (node_at d.nodes v).kind ≡ Chance → (table : AttributeTree) → map (token_bytes Text) (leaves table.value) ≡ map decimal (reduced_rows (states_of d.nodes v) (rows_of d.nodes v) (node_at d.nodes v).cells) → weight_part Text (states_of d.nodes v) (rows_of d.nodes v) table.name.start (leaves table.value) None
   weights_fair v kind table told = weights_clear (node_at d.nodes v).cells (rows_of d.nodes v) (states_of d.nodes v) (chance_total d.nodes v) (is.diagram.tables.table v kind) (is.diagram.tables.positive v kind) (is.diagram.limits.totals v kind) (is.diagram.graph.has_state v) Text (leaves table.value) told table refl
 
-  table_clear : (v p : ℕ) (more : List ℕ) → v < length d.nodes → At Text p (text_onto (node_words d.nodes names v) more) → look.has_table (node_tree d.nodes names p v).kind ≡ true → table_rows Text Blocks (node_tree d.nodes names p v) (look.potential_of Text Blocks (look.block_name Text (node_tree d.nodes names p v))) None
-  unfolding table_rows
-  table_clear v p more l at has =
+  table_clear : (v : ℕ) (l : v < length d.nodes) → (node_at d.nodes v).kind ≢ Decision → draft_part Text (node_at d.nodes v).kind (rows_of d.nodes v) (states_of d.nodes v) (Some (potential_tree d names (potential_found d names is v l).0 v)) None
+  table_clear v l some =
       let node = node_at d.nodes v in
-      let block = node_tree d.nodes names p v in
       let found = potential_found d names is v l in
       let potential = potential_tree d names found.0 v in
-      let some = no_decision node.kind has in
       let told = potential_numbers d names is v found.0 found.1 found.2 in
       let from = behind (end_at found.0 (head_words names v node.parents)) brace_open in
-      let clear = data_clear Text Blocks block potential from node.kind d.decimals node.states (rows_of d.nodes v) node.cells (kind_is node.kind) some
-      (block_states_told d names is v p more l at) (row_count_told d names is v p more l at)
-      (texts_count v l node.kind refl some ∙ sym (cell_count_told d names is v p more l at))
-      told (texts_short v l node.kind refl some (look.leaves_of potential.attributes) told) (weights_fair v) in
-      subst (λ o. table_rows Text Blocks block o None) (sym (ap (look.potential_of Text Blocks) (node_name_told Text d.nodes names v p more at) ∙ found.3)) (
+      let clear = data_clear Text potential from node.kind d.decimals node.states (rows_of d.nodes v) node.cells some (texts_count v l node.kind refl some) told (texts_short v l node.kind refl some (look.leaves_of potential.attributes) told) (weights_fair v) in (
         potential_repeats d names is v found.0,
-        subst (λ attributes. data_rows Text Blocks block potential attributes None) (sym (potential_data d names is v found.0 found.1 found.2)) clear,
+        subst (λ attributes. data_parts Text node.kind (rows_of d.nodes v) node.states potential attributes None) (sym (potential_data d names is v found.0 found.1 found.2)) clear,
       )
+
+  rows_clear : (v : ℕ) → v < length d.nodes → node_rows_at Text Heads (link_lists Text Blocks) v None
+  rows_clear v l = subst (λ (P : Pass Found). P None) (λ i. node_part Text (sym (head_kinds d names is v) i) (sym (rows_told d names is) i v) (sym (head_states d names is v) i) (sym (listed_potential d names is v l) i))
+      (node_clear Text (node_at d.nodes v).kind (rows_of d.nodes v) (states_of d.nodes v) (potential_tree d names (potential_found d names is v l).0 v) (table_clear v l))
 
   -- No table has a fault.
   pub tables_clear : table_pass Text Blocks None
   unfolding table_pass
-  tables_clear =
-      let has = λ (b : BlockTree). look.has_table b.kind in
-      let row = λ (b : BlockTree). table_rows Text Blocks b (look.potential_of Text Blocks (look.block_name Text b)) in
-      let nodes = look.node_blocks Blocks in
-      each_clear row (table_nodes Blocks) (λ k e h. All-filter has (λ b. has b ≡ true → row b None) nodes (nodes_hold d names is (λ b. has b ≡ true → row b None) table_clear) k e h (filter_passes has nodes k e h))
+  tables_clear = each_clear (node_rows_at Text Heads (link_lists Text Blocks)) (range_with_len 0 (length Heads)) (λ k e h. rows_clear (get_or (range_with_len 0 (length Heads)) k e) (omega (arith, numbers_below (length Heads) k e h, length-map (look.node_blocks Blocks) (head_of Text (look.node_blocks Blocks)), blocks_count d names is)))
 
   table_is : (v : ℕ) → v < length d.nodes → (kind : Kind) → (node_at d.nodes v).kind ≡ kind → IsTableFrom kind d.decimals (states_of d.nodes v) (number_texts kind d.decimals (states_of d.nodes v) (rows_of d.nodes v) (node_at d.nodes v).cells) (node_at d.nodes v).cells
   table_is v l Chance kind = chance_cells (node_at d.nodes v).cells (rows_of d.nodes v) (states_of d.nodes v) (chance_total d.nodes v) (is.diagram.tables.table v kind) (is.diagram.tables.positive v kind) (is.diagram.limits.totals v kind) (is.diagram.graph.has_state v) (is.plain.weights v kind)

@@ -19,7 +19,7 @@ use Rattle.weight_scale.specs.declared.decimal.Decimal.{Decimal}
 use Rattle.net_build.specs.Blocks.{no_token}
 use Rattle.first_fault.specs.Passes.{each}
 use Rattle.net_build.specs.Scaling.{AreDecimals}
-use Rattle.net_build.specs.Table.{length_row, sign_row, total_row, rows_by, IsNumberTooLong, IsWideTotal, weight_rows}
+use Rattle.net_build.specs.Table.{length_row, sign_row, total_row, rows_by, IsNumberTooLong, IsWideTotal, weight_part}
 use Rattle.net_build.specs.Plain.{reduced_rows}
 use Rattle.net_print.proofs.DigitValues.{decimal_read}
 use Rattle.net_print.proofs.Faultless.{each_clear}
@@ -118,8 +118,7 @@ module _ (cells : List ℤ) (rows states total : ℕ) (table : IsTable cells row
               subst (λ xs. sum xs ∣ total) (sym one) (row_sum_divides cells rows states total table positive r here)
 
   -- The printed weights have no fault.
-  pub weights_clear : (attribute : AttributeTree) → leaves attribute.value ≡ tokens → weight_rows text states rows attribute None
-  unfolding weight_rows
+  pub weights_clear : (attribute : AttributeTree) → leaves attribute.value ≡ tokens → weight_part text states rows attribute.name.start (leaves attribute.value) None
   weights_clear attribute e = (
     subst (λ xs. each (sign_row text) xs None) (sym e) chance_signs_clear,
     (

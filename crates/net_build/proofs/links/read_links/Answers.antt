@@ -3,14 +3,15 @@ use Rattle.std.proofs.Common.{◌≡◌, length, map, None, AllPairs, ◌≢◌,
 use Rattle.std.proofs.lemmas.List.{length-map}
 use Rattle.std.specs.Option.{option_map}
 use Rattle.net_build.specs.Blocks.{node_blocks, names_of, potentials}
-use Rattle.net_build.specs.Linking.{borrowed_trees, parents_in, potentials_steps, missing_steps, graph_steps, size_steps}
+use Rattle.net_build.specs.Linking.{borrowed_trees, parents_in}
 use Rattle.net_build.specs.Lists.{numbers_of_lists}
-use Rattle.first_fault.specs.Passes.{◌▸◌}
+use Rattle.first_fault.specs.Passes.{Pass, ◌▸◌}
+use Rattle.net_build.specs.Passes.{Found}
 use Rattle.net_build.specs.Stages.{NodeLists, LinkLists, head_of}
 use Rattle.net_build.specs.Table.{potential_pass, missing_pass, graph_pass, size_pass}
 use Rattle.net_build.proofs.LinkLemmas.{hands_on}
-use Rattle.net_build.proofs.LinkPasses.{potentials_into, rest_into, links_are, length_among, length_in, length_heads, names_differ}
-use Rattle.first_fault.proofs.Leading.{leads_refused, refused_first, refused_later}
+use Rattle.net_build.proofs.LinkPasses.{same_refused, potentials_into, rest_into, links_are, length_among, length_in, length_heads, names_differ}
+use Rattle.first_fault.proofs.Leading.{refused_first, refused_later}
 use Rattle.net_build.proofs.links.read_links.Goals as goal
 
 pub read_potentials-requires-clause-names : goal.read_potentials-requires-clause-names
@@ -23,7 +24,7 @@ returns-in_err-links-clause-rows c =
     let names : c.nodes.inside.names ≡ names_of c.args.text.now (node_blocks c.args.syntax.now) = ap (λ (n : NodeLists). n.names) c.nodes.view_is ∙ ap (λ (n : NodeLists). n.names) c.requires.nodes in
     let heads : c.as_slice-heads.result.now ≡ map (head_of c.args.text.now (node_blocks c.args.syntax.now)) (node_blocks c.args.syntax.now) = c.as_slice-heads.ensures.value ∙ ap (λ (n : NodeLists). n.heads) c.nodes.view_is ∙ ap (λ (n : NodeLists). n.heads) c.requires.nodes in
     hands_on (potential_pass c.args.text.now c.args.syntax.now ▸ missing_pass c.args.text.now c.args.syntax.now ▸ graph_pass c.args.text.now c.args.syntax.now ▸ size_pass c.args.text.now c.args.syntax.now) _ _ c.from_residual.ensures
-    (refused_first (potential_pass c.args.text.now c.args.syntax.now) (missing_pass c.args.text.now c.args.syntax.now ▸ graph_pass c.args.text.now c.args.syntax.now ▸ size_pass c.args.text.now c.args.syntax.now) _ (leads_refused (potentials_steps c.args.text.now c.nodes.inside.names c.as_slice-heads.result.now c.args.syntax.now) (potential_pass c.args.text.now c.args.syntax.now) _ (potentials_into c.args.text.now c.args.syntax.now c.nodes.inside.names c.as_slice-heads.result.now names heads) c.in_err-links.ensures.rows))
+    (refused_first (potential_pass c.args.text.now c.args.syntax.now) (missing_pass c.args.text.now c.args.syntax.now ▸ graph_pass c.args.text.now c.args.syntax.now ▸ size_pass c.args.text.now c.args.syntax.now) _ (same_refused _ _ _ (potentials_into c.args.text.now c.args.syntax.now c.nodes.inside.names c.as_slice-heads.result.now names heads) c.in_err-links.ensures.rows))
 
 pub check_links-requires-clause-parents : goal.check_links-requires-clause-parents
 check_links-requires-clause-parents c =
@@ -51,7 +52,7 @@ returns-in_err-check_links-clause-rows c =
     let found : borrowed_trees c.deref-2.result.now ≡ c.in_ok-links.links.potentials = ap borrowed_trees c.deref-2.ensures.value ∙ ap (λ (l : LinkLists). l.potentials) c.links.view_is in
     let rows : numbers_of_lists c.deref.result.now ≡ c.in_ok-links.links.parents = ap numbers_of_lists c.deref.ensures.value ∙ ap (λ (l : LinkLists). l.parents) c.links.view_is in
     hands_on (potential_pass c.args.text.now c.args.syntax.now ▸ missing_pass c.args.text.now c.args.syntax.now ▸ graph_pass c.args.text.now c.args.syntax.now ▸ size_pass c.args.text.now c.args.syntax.now) _ _ c.from_residual-in_err-check_links.ensures
-    (refused_later (potential_pass c.args.text.now c.args.syntax.now) (missing_pass c.args.text.now c.args.syntax.now ▸ graph_pass c.args.text.now c.args.syntax.now ▸ size_pass c.args.text.now c.args.syntax.now) _ (potentials_into c.args.text.now c.args.syntax.now c.nodes.inside.names c.as_slice-heads.result.now names heads None c.in_ok-links.ensures.rows) (leads_refused (missing_steps c.as_slice-heads.result.now (borrowed_trees c.deref-2.result.now) ▸ graph_steps c.as_slice-heads.result.now (numbers_of_lists c.deref.result.now) ▸ size_steps c.as_slice-heads.result.now (numbers_of_lists c.deref.result.now)) (missing_pass c.args.text.now c.args.syntax.now ▸ graph_pass c.args.text.now c.args.syntax.now ▸ size_pass c.args.text.now c.args.syntax.now) _ (rest_into c.args.text.now c.args.syntax.now c.nodes.inside.names c.as_slice-heads.result.now (borrowed_trees c.deref-2.result.now) (numbers_of_lists c.deref.result.now) names heads (found ∙ c.in_ok-links.ensures.potentials) (rows ∙ c.in_ok-links.ensures.parents ∙ ap (parents_in c.args.text.now c.nodes.inside.names) (sym found))) c.in_err-check_links.ensures.rows))
+    (refused_later (potential_pass c.args.text.now c.args.syntax.now) (missing_pass c.args.text.now c.args.syntax.now ▸ graph_pass c.args.text.now c.args.syntax.now ▸ size_pass c.args.text.now c.args.syntax.now) _ (subst (λ (P : Pass Found). P None) (potentials_into c.args.text.now c.args.syntax.now c.nodes.inside.names c.as_slice-heads.result.now names heads) c.in_ok-links.ensures.rows) (same_refused _ _ _ (rest_into c.args.text.now c.args.syntax.now c.nodes.inside.names c.as_slice-heads.result.now (borrowed_trees c.deref-2.result.now) (numbers_of_lists c.deref.result.now) names heads (found ∙ c.in_ok-links.ensures.potentials) (rows ∙ c.in_ok-links.ensures.parents ∙ ap (parents_in c.args.text.now c.nodes.inside.names) (sym found))) c.in_err-check_links.ensures.rows))
 
 pub returns-clause-rows : goal.returns-clause-rows
 returns-clause-rows c =
@@ -59,7 +60,7 @@ returns-clause-rows c =
     let heads : c.as_slice-heads.result.now ≡ map (head_of c.args.text.now (node_blocks c.args.syntax.now)) (node_blocks c.args.syntax.now) = c.as_slice-heads.ensures.value ∙ ap (λ (n : NodeLists). n.heads) c.nodes.view_is ∙ ap (λ (n : NodeLists). n.heads) c.requires.nodes in
     let found : borrowed_trees c.deref-2.result.now ≡ c.in_ok-links.links.potentials = ap borrowed_trees c.deref-2.ensures.value ∙ ap (λ (l : LinkLists). l.potentials) c.links.view_is in
     let rows : numbers_of_lists c.deref.result.now ≡ c.in_ok-links.links.parents = ap numbers_of_lists c.deref.ensures.value ∙ ap (λ (l : LinkLists). l.parents) c.links.view_is in
-    (potentials_into c.args.text.now c.args.syntax.now c.nodes.inside.names c.as_slice-heads.result.now names heads None c.in_ok-links.ensures.rows, rest_into c.args.text.now c.args.syntax.now c.nodes.inside.names c.as_slice-heads.result.now (borrowed_trees c.deref-2.result.now) (numbers_of_lists c.deref.result.now) names heads (found ∙ c.in_ok-links.ensures.potentials) (rows ∙ c.in_ok-links.ensures.parents ∙ ap (parents_in c.args.text.now c.nodes.inside.names) (sym found)) None c.in_ok-check_links.ensures.rows)
+    (subst (λ (P : Pass Found). P None) (potentials_into c.args.text.now c.args.syntax.now c.nodes.inside.names c.as_slice-heads.result.now names heads) c.in_ok-links.ensures.rows, subst (λ (P : Pass Found). P None) (rest_into c.args.text.now c.args.syntax.now c.nodes.inside.names c.as_slice-heads.result.now (borrowed_trees c.deref-2.result.now) (numbers_of_lists c.deref.result.now) names heads (found ∙ c.in_ok-links.ensures.potentials) (rows ∙ c.in_ok-links.ensures.parents ∙ ap (parents_in c.args.text.now c.nodes.inside.names) (sym found))) c.in_ok-check_links.ensures.rows)
 
 pub returns-clause-links : goal.returns-clause-links
 returns-clause-links c =
