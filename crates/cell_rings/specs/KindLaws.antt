@@ -1,4 +1,5 @@
--- Proofs that the kinds of cell keep the laws of the numbers in them. They stand here since their ghost members cite them.
+-- Proofs that the kinds of cell keep the laws of the numbers in them. They stand here since their ghost members cite
+-- them.
 use Rattle.std.proofs.Common.{refl, ap}
 use Rattle.cell_rings.specs.Rings.{Pair, IsRing, IsSize, IsMap, mass_ring, gain_ring, can_ring, both_ring}
 use Rattle.cell_rings.specs.Kinds.{mass_of, mass_kind, gain_of, gain_kind, can_of, can_kind, both_of, both_kind, pair_in, small_mass_of, small_mass_kind, small_gain_of, small_gain_kind}
@@ -18,7 +19,12 @@ mass_laws = record {
 }
 
 pub mass_sizes : IsSize mass_kind mass_kind.size
-mass_sizes = record { nought = refl; unit = refl; plus = λ a b. mass_sized.plus a.0 b.0; times = λ a b. mass_sized.times a.0 b.0 }
+mass_sizes = record {
+  nought = refl;
+  unit = refl;
+  plus = λ a b. mass_sized.plus a.0 b.0;
+  times = λ a b. mass_sized.times a.0 b.0;
+}
 
 pub mass_map : IsMap mass_kind mass_ring (λ a. a.0)
 mass_map = record { nought = refl; unit = refl; plus = λ a b. refl; times = λ a b. refl }
@@ -35,7 +41,12 @@ gain_laws = record {
 }
 
 pub gain_sizes : IsSize gain_kind gain_kind.size
-gain_sizes = record { nought = refl; unit = refl; plus = λ a b. gain_sized.plus a.0 b.0; times = λ a b. gain_sized.times a.0 b.0 }
+gain_sizes = record {
+  nought = refl;
+  unit = refl;
+  plus = λ a b. gain_sized.plus a.0 b.0;
+  times = λ a b. gain_sized.times a.0 b.0;
+}
 
 pub gain_map : IsMap gain_kind gain_ring (λ a. a.0)
 gain_map = record { nought = refl; unit = refl; plus = λ a b. refl; times = λ a b. refl }
@@ -52,7 +63,12 @@ can_laws = record {
 }
 
 pub can_sizes : IsSize can_kind can_kind.size
-can_sizes = record { nought = refl; unit = refl; plus = λ a b. can_sized.plus a.0 b.0; times = λ a b. can_sized.times a.0 b.0 }
+can_sizes = record {
+  nought = refl;
+  unit = refl;
+  plus = λ a b. can_sized.plus a.0 b.0;
+  times = λ a b. can_sized.times a.0 b.0;
+}
 
 pub can_map : IsMap can_kind can_ring (λ a. a.0)
 can_map = record { nought = refl; unit = refl; plus = λ a b. refl; times = λ a b. refl }
@@ -73,7 +89,12 @@ both_laws = record {
 }
 
 pub both_sizes : IsSize both_kind both_kind.size
-both_sizes = record { nought = refl; unit = refl; plus = λ a b. both_sized.plus (pair_in a) (pair_in b); times = λ a b. both_sized.times (pair_in a) (pair_in b) }
+both_sizes = record {
+  nought = refl;
+  unit = refl;
+  plus = λ a b. both_sized.plus (pair_in a) (pair_in b);
+  times = λ a b. both_sized.times (pair_in a) (pair_in b);
+}
 
 pub both_map : IsMap both_kind both_ring pair_in
 both_map = record { nought = refl; unit = refl; plus = λ a b. refl; times = λ a b. refl }
@@ -90,7 +111,12 @@ small_mass_laws = record {
 }
 
 pub small_mass_sizes : IsSize small_mass_kind small_mass_kind.size
-small_mass_sizes = record { nought = refl; unit = refl; plus = λ a b. mass_sized.plus a.0 b.0; times = λ a b. mass_sized.times a.0 b.0 }
+small_mass_sizes = record {
+  nought = refl;
+  unit = refl;
+  plus = λ a b. mass_sized.plus a.0 b.0;
+  times = λ a b. mass_sized.times a.0 b.0;
+}
 
 pub small_gain_laws : IsRing small_gain_kind
 small_gain_laws = record {
@@ -104,4 +130,9 @@ small_gain_laws = record {
 }
 
 pub small_gain_sizes : IsSize small_gain_kind small_gain_kind.size
-small_gain_sizes = record { nought = refl; unit = refl; plus = λ a b. gain_sized.plus a.0 b.0; times = λ a b. gain_sized.times a.0 b.0 }
+small_gain_sizes = record {
+  nought = refl;
+  unit = refl;
+  plus = λ a b. gain_sized.plus a.0 b.0;
+  times = λ a b. gain_sized.times a.0 b.0;
+}

@@ -27,7 +27,8 @@ sizes_of r cells = map r.size cells
 -- each product of the first factors fits, if what stands before them has that size
 abbrev pub ProductFits : {C : Type 0} → Ring C → List C → ℕ → List ℕ → Type 0
 ProductFits r cells before [] = Unit {0}
-ProductFits r cells before (p ∷ ps) = (before * r.size (cell_at r cells p) ≤ r.most) × ProductFits r cells (before * r.size (cell_at r cells p)) ps
+ProductFits r cells before (p ∷ ps) = (before * r.size (cell_at r cells p) ≤ r.most)
+    × ProductFits r cells (before * r.size (cell_at r cells p)) ps
 
 -- the sum of those f i for which p is the i-th place from `at` on, so nought elsewhere
 abbrev pub run_sum : {C : Type 0} → Ring C → ℕ → ℕ → (ℕ → C) → ℕ → C

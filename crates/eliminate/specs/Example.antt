@@ -6,9 +6,11 @@ use Rattle.maid_model.specs.Views.{NodeView, DiagramView}
 use Rattle.plan_sums.specs.Plans.{PlanView}
 
 abbrev pub node_of : Kind → ℕ → List ℕ → List ℤ → NodeView
-node_of kind states parents cells = record { kind = kind; owner = 0; more = []; states = states; parents = parents; cells = cells }
+node_of kind states parents cells =
+    record { kind = kind; owner = 0; more = []; states = states; parents = parents; cells = cells }
 
--- a hidden node of weights 1 and 2, a signal of it, a decision that sees the signal, and a utility of the hidden node and the decision
+-- a hidden node of weights 1 and 2, a signal of it, a decision that sees the signal, and a utility of the hidden node
+-- and the decision
 abbrev pub example_nodes : List NodeView
 example_nodes =
     node_of Chance 2 [] (pos 1 ∷ pos 2 ∷ [])

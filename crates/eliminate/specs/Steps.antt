@@ -21,25 +21,34 @@ abbrev pub slots_without : ℕ → List Slot → List Slot
 slots_without v slots = filter (λ s. not (holds s.scope v)) slots
 
 -- a table was appended, and its slot put behind the others
-pub record PutsTable {C : Type 0} (r : Ring C) (nodes : List NodeView) (before after : WorkspaceView C) (old new : List Slot) (t : Table C) : Type 0 where
+pub record PutsTable {C : Type 0}
+    (r : Ring C) (nodes : List NodeView) (before after : WorkspaceView C) (old new : List Slot)
+    (t : Table C) : Type 0 where
   pub slot : Slot
   pub appends : AppendsTable r nodes before after slot t
   pub slots : new ≡ old ++ slot ∷ []
 
 -- the slots that hold the node gave way to their join with the node summed out
-abbrev pub GiveWay : {C : Type 0} → Ring C → List NodeView → WorkspaceView C → WorkspaceView C → List Slot → List Slot → ℕ → Type 0
-GiveWay r nodes before after old new v =
-    PutsTable r nodes before after (slots_without v old) new (sum_out r (states_of nodes) v (tables_of r nodes before.cells (slots_with v old)))
+abbrev pub GiveWay : {C : Type 0} → Ring C → List NodeView → WorkspaceView C → WorkspaceView C
+    → List Slot → List Slot → ℕ → Type 0
+GiveWay r nodes before after old new v = PutsTable r nodes before after (slots_without v old) new
+    (sum_out r (states_of nodes) v (tables_of r nodes before.cells (slots_with v old)))
 
 -- what that asks
-pub record CanJoinOut {C : Type 0} (r : Ring C) (nodes : List NodeView) (work : WorkspaceView C) (slots : List Slot) (v : ℕ) : Type 0 where
+pub record CanJoinOut {C : Type 0}
+    (r : Ring C) (nodes : List NodeView) (work : WorkspaceView C) (slots : List Slot) (v : ℕ) : Type
+    0 where
   pub live : All (IsLive nodes work.cells) slots
   pub some : 0 < length (slots_with v slots)
-  pub fits : JoinFits r.size (states_of nodes) r.most v (tables_of r nodes work.cells (slots_with v slots))
-  pub room : cells_over nodes (sum_out r (states_of nodes) v (tables_of r nodes work.cells (slots_with v slots))).holds ≤ work.spare
+  pub fits :
+      JoinFits r.size (states_of nodes) r.most v (tables_of r nodes work.cells (slots_with v slots))
+  pub room : cells_over nodes (sum_out r (states_of nodes) v (tables_of r nodes work.cells
+      (slots_with v slots))).holds ≤ work.spare
 
 -- since the run began so many cells were appended, and the slots are those of these tables
-pub record Stand {C : Type 0} (r : Ring C) (nodes : List NodeView) (before now : WorkspaceView C) (spent : ℕ) (slots : List Slot) (tables : List (Table C)) : Type 0 where
+pub record Stand {C : Type 0}
+    (r : Ring C) (nodes : List NodeView) (before now : WorkspaceView C) (spent : ℕ)
+    (slots : List Slot) (tables : List (Table C)) : Type 0 where
   pub appends : Appends before now (length before.cells) spent
   pub stays : (s : Slot) → IsLive nodes before.cells s → StaysLive r nodes before.cells now.cells s
   pub live : All (IsLive nodes now.cells) slots
@@ -54,15 +63,20 @@ abbrev pub first_cells : {C : Type 0} → Cells C → List NodeView → List Rul
 first_cells c nodes p v = cells_over nodes (first_table c nodes p v).holds
 
 -- among the first tables: those that stand, and those of the nodes to come, are those of all
-pub record Lists {C : Type 0} (c : Cells C) (nodes : List NodeView) (p : List RuleView) (before now : WorkspaceView C) (slots : List Slot) (rest all : List ℕ) : Type 0 where
+pub record Lists {C : Type 0}
+    (c : Cells C) (nodes : List NodeView) (p : List RuleView) (before now : WorkspaceView C)
+    (slots : List Slot) (rest all : List ℕ) : Type 0 where
   pub tables : List (Table C)
   pub spent : ℕ
   pub stand : Stand c.ring nodes before now spent slots tables
   pub leads : tables ++ map (first_table c nodes p) rest ≡ map (first_table c nodes p) all
   pub room : spent + sum_by (first_cells c nodes p) rest ≡ sum_by (first_cells c nodes p) all
 
--- between steps: the steps to come lead from the tables that stand to what all steps make of the first ones, their sums fit, each finds a table that holds its node, and what they make has room
-pub record Between {C : Type 0} (r : Ring C) (nodes : List NodeView) (before now : WorkspaceView C) (slots : List Slot) (rest steps : List ℕ) (first : List (Table C)) (cells : ℕ) : Type 0 where
+-- between steps: the steps to come lead from the tables that stand to what all steps make of the first ones, their
+-- sums fit, each finds a table that holds its node, and what they make has room
+pub record Between {C : Type 0}
+    (r : Ring C) (nodes : List NodeView) (before now : WorkspaceView C) (slots : List Slot)
+    (rest steps : List ℕ) (first : List (Table C)) (cells : ℕ) : Type 0 where
   pub tables : List (Table C)
   pub spent : ℕ
   pub stand : Stand r nodes before now spent slots tables

@@ -17,7 +17,8 @@ one_by_one (suc n) f = one_by_one n f ++ f n
 -- the cells that the walk reads, the first step slowest
 abbrev pub gathered : {C : Type 0} → Ring C → List C → List Step → ℕ → List C
 gathered r cells [] from = cell_at r cells from ∷ []
-gathered r cells (a ∷ rest) from = one_by_one a.states (λ s. gathered r cells rest (from + s * a.stride))
+gathered r cells (a ∷ rest) from =
+    one_by_one a.states (λ s. gathered r cells rest (from + s * a.stride))
 
 -- how many they are
 abbrev pub count_of_steps : List Step → ℕ

@@ -17,15 +17,18 @@ product_table r ts = record { holds = joined ts; cell = product_of r ts }
 
 -- the table at one state of a node, over its other nodes
 abbrev pub restricted : {C : Type 0} → ℕ → ℕ → Table C → Table C
-restricted v s t = record { holds = λ u. t.holds u && not (u == v); cell = λ w. t.cell (with_state w v s) }
+restricted v s t =
+    record { holds = λ u. t.holds u && not (u == v); cell = λ w. t.cell (with_state w v s) }
 
 -- the sum of the sizes over the node's states fits
 pub record SumFits {C : Type 0} (r : Ring C) (count : ℕ → ℕ) (v : ℕ) (t : Table C) : Type 0 where
-  pub sum : (w : World) → InRange count w → ring_sum mass_ring (count v) (λ s. r.size (t.cell (with_state w v s))) ≤ r.most
+  pub sum : (w : World) → InRange count w
+      → ring_sum mass_ring (count v) (λ s. r.size (t.cell (with_state w v s))) ≤ r.most
 
 -- the first table of a node: a chance node's or decision's over itself and its parents, a utility's over its parents
 abbrev pub first_table : {C : Type 0} → Cells C → List NodeView → List RuleView → ℕ → Table C
-first_table c nodes p v = if is_utility (node_at nodes v).kind then utility_table c nodes v else node_table c nodes p v
+first_table c nodes p v =
+    if is_utility (node_at nodes v).kind then utility_table c nodes v else node_table c nodes p v
 
 -- its numbers: a decision's are the weights of its rule
 abbrev pub numbers_by : Kind → List ℤ → List ℕ → List ℤ

@@ -52,7 +52,8 @@ abbrev pub tables_of : {C : Type 0} → Ring C → List NodeView → List C → 
 tables_of r nodes cells slots = map (table_of r nodes cells) slots
 
 -- the cells of a table with the first of these nodes slowest
-pub record HasCells {C : Type 0} (r : Ring C) (nodes : List NodeView) (vs : List ℕ) (cells : List C) (t : Table C) : Type 0 where
+pub record HasCells {C : Type 0}
+    (r : Ring C) (nodes : List NodeView) (vs : List ℕ) (cells : List C) (t : Table C) : Type 0 where
   pub cell : (w : World) → InRange (states_of nodes) w → picked r nodes vs cells w ≡ t.cell w
 
 -- cells were appended: earlier ones stay, and what is spare is less by as many
@@ -63,13 +64,17 @@ pub record Appends {C : Type 0} (before after : WorkspaceView C) (first len : �
   pub less : before.spare ≡ after.spare + len
 
 -- the slots that were live are, with the tables that they had
-pub record StaysLive {C : Type 0} (r : Ring C) (nodes : List NodeView) (before after : List C) (slot : Slot) : Type 0 where
+pub record StaysLive {C : Type 0}
+    (r : Ring C) (nodes : List NodeView) (before after : List C) (slot : Slot) : Type 0 where
   pub live : IsLive nodes after slot
   pub table : table_of r nodes after slot ≡ table_of r nodes before slot
 
 -- a table was appended, and the slot is its
-pub record AppendsTable {C : Type 0} (r : Ring C) (nodes : List NodeView) (before after : WorkspaceView C) (slot : Slot) (t : Table C) : Type 0 where
+pub record AppendsTable {C : Type 0}
+    (r : Ring C) (nodes : List NodeView) (before after : WorkspaceView C) (slot : Slot)
+    (t : Table C) : Type 0 where
   pub appends : Appends before after slot.start slot.len
   pub live : IsLive nodes after.cells slot
   pub table : IsSame (states_of nodes) (table_of r nodes after.cells slot) t
-  pub stays : (s : Slot) → IsLive nodes before.cells s → StaysLive r nodes before.cells after.cells s
+  pub stays :
+      (s : Slot) → IsLive nodes before.cells s → StaysLive r nodes before.cells after.cells s

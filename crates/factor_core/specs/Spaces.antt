@@ -5,7 +5,8 @@ use Rattle.factor_core.specs.declared.slots.Slot.{Slot}
 use Rattle.factor_core.specs.Tables.{AreCounts, LiesIn, RoomToJoin, RoomToMultiply, size_of}
 
 -- what a join of these slots over the cells so far requires
-pub record CanJoinIn {C : Type 0} (r : Ring C) (cells : List C) (counts : List ℕ) (slots : List Slot) (x : ℕ) : Type 0 where
+pub record CanJoinIn {C : Type 0}
+    (r : Ring C) (cells : List C) (counts : List ℕ) (slots : List Slot) (x : ℕ) : Type 0 where
   pub are_counts : AreCounts counts
   pub node : x < length counts
   pub live : All (LiesIn counts (length cells)) slots
@@ -13,7 +14,8 @@ pub record CanJoinIn {C : Type 0} (r : Ring C) (cells : List C) (counts : List �
   pub fits : RoomToJoin r cells counts slots x
 
 -- what a product of these slots over the cells so far requires
-pub record CanMultiplyIn {C : Type 0} (r : Ring C) (cells : List C) (counts : List ℕ) (slots : List Slot) : Type 0 where
+pub record CanMultiplyIn {C : Type 0}
+    (r : Ring C) (cells : List C) (counts : List ℕ) (slots : List Slot) : Type 0 where
   pub are_counts : AreCounts counts
   pub live : All (LiesIn counts (length cells)) slots
   pub small : All (λ s. size_of counts s.scope ≤ 2 ^ 32) slots

@@ -18,7 +18,8 @@ size_from count h v (suc k) = (if h v then count v else 1) * size_from count h (
 -- the place of the world's cell in such a table, the first node slowest
 abbrev pub place_from : (ℕ → ℕ) → (ℕ → Bool) → World → ℕ → ℕ → ℕ
 place_from count h w v zero = 0
-place_from count h w v (suc k) = (if h v then w v * size_from count h (suc v) k else 0) + place_from count h w (suc v) k
+place_from count h w v (suc k) =
+    (if h v then w v * size_from count h (suc v) k else 0) + place_from count h w (suc v) k
 
 -- how far apart the cells of neighbouring states of v stand in a table over n nodes, and 0 where the scope lacks v
 abbrev pub stride_of : (ℕ → ℕ) → ℕ → (ℕ → Bool) → ℕ → ℕ
@@ -69,7 +70,8 @@ with_extra k x vs = take k vs ++ x ∷ drop k vs
 
 -- the strides of the slots at the node
 abbrev pub row_of : List ℕ → List Slot → ℕ → List ℕ
-row_of counts slots v = map (λ s. stride_of (states_in counts) (length counts) (holds s.scope) v) slots
+row_of counts slots v =
+    map (λ s. stride_of (states_in counts) (length counts) (holds s.scope) v) slots
 
 -- where the slots start
 abbrev pub starts_of : List Slot → List ℕ
@@ -89,11 +91,13 @@ places_in counts slots w = map (λ s. s.start + place_of counts s.scope w) slots
 
 -- a cell of a join: the sum over the states of x of the product of the slots' cells
 abbrev pub join_cell : {C : Type 0} → Ring C → List C → List ℕ → List Slot → ℕ → World → C
-join_cell r cells counts slots x w = ring_sum r (states_in counts x) (λ s. product_at r cells (places_in counts slots (with_state w x s)))
+join_cell r cells counts slots x w = ring_sum r (states_in counts x) (λ s.
+    product_at r cells (places_in counts slots (with_state w x s)))
 
 -- a cell of a slot with x summed out: the sum of its cells over the states of x
 abbrev pub sum_cell : {C : Type 0} → Ring C → List C → List ℕ → Slot → ℕ → World → C
-sum_cell r cells counts slot x w = ring_sum r (states_in counts x) (λ s. cell_at r cells (slot.start + place_of counts slot.scope (with_state w x s)))
+sum_cell r cells counts slot x w = ring_sum r (states_in counts x) (λ s.
+    cell_at r cells (slot.start + place_of counts slot.scope (with_state w x s)))
 
 -- a cell of a product: the product of the slots' cells
 abbrev pub product_cell : {C : Type 0} → Ring C → List C → List ℕ → List Slot → World → C
@@ -106,16 +110,21 @@ pub record LiesIn (counts : List ℕ) (len : ℕ) (s : Slot) : Type 0 where
   pub within : s.start + s.len ≤ len
 
 -- each product of the first factors fits, and each sum of the sizes of the products
-pub record RoomToJoin {C : Type 0} (r : Ring C) (cells : List C) (counts : List ℕ) (slots : List Slot) (x : ℕ) : Type 0 where
-  pub products : (w : World) → InRange (states_in counts) w → ProductFits r cells 1 (places_in counts slots w)
-  pub sums : (w : World) → InRange (states_in counts) w → join_cell mass_ring (sizes_of r cells) counts slots x w ≤ r.most
+pub record RoomToJoin {C : Type 0}
+    (r : Ring C) (cells : List C) (counts : List ℕ) (slots : List Slot) (x : ℕ) : Type 0 where
+  pub products :
+      (w : World) → InRange (states_in counts) w → ProductFits r cells 1 (places_in counts slots w)
+  pub sums : (w : World) → InRange (states_in counts) w
+      → join_cell mass_ring (sizes_of r cells) counts slots x w ≤ r.most
 
 -- the scope of a join: below the count of nodes it holds those of the slots but x
 pub record IsJoined (counts : List ℕ) (slots : List Slot) (x : ℕ) (scope : NodeSet) : Type 0 where
   pub within : (v : ℕ) → v < length counts → holds scope v ≡ united_but slots x v
 
 -- what a join requires
-pub record CanJoin {C : Type 0} (r : Ring C) (cells : List C) (counts : List ℕ) (slots : List Slot) (x : ℕ) (scope : NodeSet) (out : List C) : Type 0 where
+pub record CanJoin {C : Type 0}
+    (r : Ring C) (cells : List C) (counts : List ℕ) (slots : List Slot) (x : ℕ) (scope : NodeSet)
+    (out : List C) : Type 0 where
   pub are_counts : AreCounts counts
   pub node : x < length counts
   pub live : All (LiesIn counts (length cells)) slots
@@ -128,9 +137,12 @@ pub record CanJoin {C : Type 0} (r : Ring C) (cells : List C) (counts : List ℕ
   pub fits : RoomToJoin r cells counts slots x
 
 -- each product of the first factors fits, and the whole product
-pub record RoomToMultiply {C : Type 0} (r : Ring C) (cells : List C) (counts : List ℕ) (slots : List Slot) : Type 0 where
-  pub products : (w : World) → InRange (states_in counts) w → ProductFits r cells 1 (places_in counts slots w)
-  pub whole : (w : World) → InRange (states_in counts) w → product_cell mass_ring (sizes_of r cells) counts slots w ≤ r.most
+pub record RoomToMultiply {C : Type 0}
+    (r : Ring C) (cells : List C) (counts : List ℕ) (slots : List Slot) : Type 0 where
+  pub products :
+      (w : World) → InRange (states_in counts) w → ProductFits r cells 1 (places_in counts slots w)
+  pub whole : (w : World) → InRange (states_in counts) w
+      → product_cell mass_ring (sizes_of r cells) counts slots w ≤ r.most
 
 -- the scope of a product: it holds the nodes of the slots, and no number beyond the count of nodes
 pub record IsUnion (counts : List ℕ) (slots : List Slot) (scope : NodeSet) : Type 0 where
@@ -138,7 +150,9 @@ pub record IsUnion (counts : List ℕ) (slots : List Slot) (scope : NodeSet) : T
   pub beyond : holds scope (length counts) ≡ false
 
 -- what a product requires
-pub record CanMultiply {C : Type 0} (r : Ring C) (cells : List C) (counts : List ℕ) (slots : List Slot) (scope : NodeSet) (out : List C) : Type 0 where
+pub record CanMultiply {C : Type 0}
+    (r : Ring C) (cells : List C) (counts : List ℕ) (slots : List Slot) (scope : NodeSet)
+    (out : List C) : Type 0 where
   pub are_counts : AreCounts counts
   pub live : All (LiesIn counts (length cells)) slots
   pub small : All (λ s. size_of counts s.scope ≤ 2 ^ 32) slots
@@ -151,9 +165,12 @@ pub record CanMultiply {C : Type 0} (r : Ring C) (cells : List C) (counts : List
 
 -- the states are those that the world gives to the scope's nodes, the lowest node first
 pub record Gives (counts : List ℕ) (scope : NodeSet) (w : World) (states : List ℕ) : Type 0 where
-  pub state : (i : ℕ) → i < length (listed (holds scope) 0 (length counts)) → w (slice_index (listed (holds scope) 0 (length counts)) i) ≡ slice_index states i
+  pub state : (i : ℕ) → i < length (listed (holds scope) 0 (length counts))
+      → w (slice_index (listed (holds scope) 0 (length counts)) i) ≡ slice_index states i
 
 -- one state in range for each node of the scope
 pub record AreStates (counts : List ℕ) (scope : NodeSet) (states : List ℕ) : Type 0 where
   pub count : length states ≡ length (listed (holds scope) 0 (length counts))
-  pub within : (i : ℕ) → i < length states → slice_index states i < states_in counts (slice_index (listed (holds scope) 0 (length counts)) i)
+  pub within : (i : ℕ) → i < length states
+      → slice_index states i
+      < states_in counts (slice_index (listed (holds scope) 0 (length counts)) i)

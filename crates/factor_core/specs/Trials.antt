@@ -10,7 +10,14 @@ use Rattle.factor_core.specs.Slots.{WorkspaceView, IsLive, table_of}
 
 -- a chance node of two states without a parent
 abbrev pub coin_of : ℕ → ℕ → NodeView
-coin_of a b = record { kind = Chance; owner = 0; more = []; states = 2; parents = []; cells = pos a ∷ pos b ∷ [] }
+coin_of a b = record {
+  kind = Chance;
+  owner = 0;
+  more = [];
+  states = 2;
+  parents = [];
+  cells = pos a ∷ pos b ∷ [];
+}
 
 abbrev pub two_coins : List NodeView
 two_coins = coin_of 2 3 ∷ coin_of 5 7 ∷ []
@@ -19,12 +26,15 @@ abbrev pub coins_diagram : DiagramView
 coins_diagram = record { nodes = two_coins; agents = 1; decimals = 0 }
 
 -- a live slot of cells of at most that size
-pub record IsSmall {C : Type 0} (r : Ring C) (cells : List C) (slot : Slot) (most : ℕ) : Type 0 where
+pub record IsSmall {C : Type 0}
+    (r : Ring C) (cells : List C) (slot : Slot) (most : ℕ) : Type 0 where
   pub live : IsLive two_coins cells slot
-  pub sizes : (w : World) → InRange (states_of two_coins) w → r.size ((table_of r two_coins cells slot).cell w) ≤ most
+  pub sizes : (w : World) → InRange (states_of two_coins) w
+      → r.size ((table_of r two_coins cells slot).cell w) ≤ most
 
 -- a table of such cells was made, four at most, and slots that were small still are
-pub record Grows {C : Type 0} (r : Ring C) (before after : WorkspaceView C) (slot : Slot) (most : ℕ) : Type 0 where
+pub record Grows {C : Type 0}
+    (r : Ring C) (before after : WorkspaceView C) (slot : Slot) (most : ℕ) : Type 0 where
   pub small : IsSmall r after.cells slot most
   pub spare : before.spare ≤ after.spare + 4
   pub stays : (s : Slot) (b : ℕ) → IsSmall r before.cells s b → IsSmall r after.cells s b

@@ -1,4 +1,5 @@
--- A walk over several axes: at each choice of a state for each axis the product of the operands' cells is added to a cell of the result.
+-- A walk over several axes: at each choice of a state for each axis the product of the operands' cells is added to a
+-- cell of the result.
 -- Only private contracts cite this file.
 use Rattle.std.specs.Prelude.{◌≡◌, ℕ, ◌+◌, ◌*◌, ◌^◌, ◌<◌, ◌≤◌, ◌==◌, if◌then◌else◌, List, [], ◌∷◌, ◌-◌, length, drop, All, slice_index}
 use Rattle.cell_rings.specs.Rings.{Ring, mass_ring}
@@ -11,10 +12,12 @@ shifted s strides [] = []
 shifted s [] (p ∷ ps) = p ∷ ps
 shifted s (d ∷ ds) (p ∷ ps) = (p + s * d) ∷ shifted s ds ps
 
--- what the walk adds to the cell p of the result: the sum, over all choices of states that lead to p, of the products of the operands' cells
+-- what the walk adds to the cell p of the result: the sum, over all choices of states that lead to p, of the products
+-- of the operands' cells
 abbrev pub total : {C : Type 0} → Ring C → List C → List Axis → List ℕ → List ℕ → ℕ → ℕ → C
 total r cells [] strides places at p = if p == at then product_at r cells places else r.nought
-total r cells (a ∷ rest) strides places at p = ring_sum r a.states (λ s. total r cells rest (drop (length places) strides) (shifted s strides places) (at + s * a.out) p)
+total r cells (a ∷ rest) strides places at p = ring_sum r a.states (λ s.
+    total r cells rest (drop (length places) strides) (shifted s strides places) (at + s * a.out) p)
 
 -- the same of sizes
 abbrev pub load : {C : Type 0} → Ring C → List C → List Axis → List ℕ → List ℕ → ℕ → ℕ → ℕ
@@ -23,10 +26,13 @@ load r cells axes strides places at p = total mass_ring (sizes_of r cells) axes 
 -- a fact that holds of the operands' places and the result's place at each choice of states
 abbrev pub AtEach : (List ℕ → ℕ → Type 0) → List Axis → List ℕ → List ℕ → ℕ → Type 0
 AtEach P [] strides places at = P places at
-AtEach P (a ∷ rest) strides places at = (s : ℕ) → s < a.states → AtEach P rest (drop (length places) strides) (shifted s strides places) (at + s * a.out)
+AtEach P (a ∷ rest) strides places at = (s : ℕ) → s < a.states
+    → AtEach P rest (drop (length places) strides) (shifted s strides places) (at + s * a.out)
 
--- one choice of states: the places lie in the cells, the result's in the result, and each product of the first factors fits
-pub record IsMet {C : Type 0} (r : Ring C) (cells : List C) (len : ℕ) (places : List ℕ) (at : ℕ) : Type 0 where
+-- one choice of states: the places lie in the cells, the result's in the result, and each product of the first
+-- factors fits
+pub record IsMet {C : Type 0}
+    (r : Ring C) (cells : List C) (len : ℕ) (places : List ℕ) (at : ℕ) : Type 0 where
   pub within : All (λ p. p < length cells) places
   pub out : at < len
   pub fits : ProductFits r cells 1 places
@@ -37,8 +43,11 @@ pub record IsAxis (a : Axis) : Type 0 where
   pub few : a.states ≤ 2 ^ 16
   pub near : a.out ≤ 2 ^ 32
 
--- what a walk requires: a row of strides for each axis, all places in range at each choice of states, and room for what is added
-pub record CanWalk {C : Type 0} (r : Ring C) (cells : List C) (axes : List Axis) (strides places : List ℕ) (out : List C) (at : ℕ) : Type 0 where
+-- what a walk requires: a row of strides for each axis, all places in range at each choice of states, and room for
+-- what is added
+pub record CanWalk {C : Type 0}
+    (r : Ring C) (cells : List C) (axes : List Axis) (strides places : List ℕ) (out : List C)
+    (at : ℕ) : Type 0 where
   pub are_axes : All IsAxis axes
   pub count : length strides ≡ length axes * length places
   pub near : All (λ d. d ≤ 2 ^ 32) strides
@@ -79,9 +88,14 @@ further s [] = []
 further s (p ∷ ps) = (p + s) ∷ further s ps
 
 -- there is room for two runs, of which the second starts one step of an axis further
-pub record CanAddTwo {C : Type 0} (r : Ring C) (cells : List C) (a : Axis) (strides places : List ℕ) (out : List C) (at : ℕ) : Type 0 where
+pub record CanAddTwo {C : Type 0}
+    (r : Ring C) (cells : List C) (a : Axis) (strides places : List ℕ) (out : List C) (at : ℕ) :
+    Type 0 where
   pub enough : length places ≤ length strides
   pub near : All (λ d. d ≤ 2 ^ 32) strides
   pub first : CanWalk r cells (a ∷ []) (drop (length places) strides) places out at
-  pub second : CanWalk r cells (a ∷ []) (drop (length places) strides) (shifted 1 strides places) out at
-  pub both : HasRoom r out (λ p. load r cells (a ∷ []) (drop (length places) strides) places at p + load r cells (a ∷ []) (drop (length places) strides) (shifted 1 strides places) at p)
+  pub second :
+      CanWalk r cells (a ∷ []) (drop (length places) strides) (shifted 1 strides places) out at
+  pub both : HasRoom r out (λ p.
+      load r cells (a ∷ []) (drop (length places) strides) places at p
+      + load r cells (a ∷ []) (drop (length places) strides) (shifted 1 strides places) at p)

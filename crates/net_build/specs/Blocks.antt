@@ -1,4 +1,5 @@
--- Looking up what the blocks of a text say. Each look-up has an answer for every tree; it is the one that is meant where the passes before it find nothing.
+-- Looking up what the blocks of a text say. Each look-up has an answer for every tree; it is the one that is meant
+-- where the passes before it find nothing.
 use Rattle.std.specs.Prelude.{◌*◌, ℕ, Bool, true, false, not, ◌&&◌, ◌||◌, List, [], ◌∷◌, Option, map, filter, find, length, drop, nat_le, bytes_eq, codes, slice_index_or, if◌then◌else◌}
 use Rattle.std.specs.List.{flat_map, list_all, position_or_len}
 use Rattle.std.specs.Option.{option_map_or}
@@ -95,11 +96,13 @@ may_share kind = false
 
 -- the name of an attribute that tells the owners of such a node: `agent`, and for a utility `agents` too
 abbrev pub names_owners : BlockKind → List ℕ → Bool
-names_owners kind word = (has_agent kind && bytes_eq word (codes "agent")) || (may_share kind && bytes_eq word (codes "agents"))
+names_owners kind word = (has_agent kind && bytes_eq word (codes "agent"))
+    || (may_share kind && bytes_eq word (codes "agents"))
 
 -- the name of an attribute that counts in a block: `states`, `agent`, `agents` or `data`
 abbrev pub is_counted : BlockKind → List ℕ → Bool
-is_counted kind word = (has_states kind && bytes_eq word (codes "states")) || names_owners kind word || (is_potential kind && bytes_eq word (codes "data"))
+is_counted kind word = (has_states kind && bytes_eq word (codes "states")) || names_owners kind word
+    || (is_potential kind && bytes_eq word (codes "data"))
 
 -- the attributes that count in a block
 abbrev pub counted : List ℕ → BlockTree → List AttributeTree
@@ -107,11 +110,14 @@ counted text block = filter (λ a. is_counted block.kind (word_of text a)) block
 
 -- what an attribute is about: `agents` is about the owners, as `agent` is
 abbrev pub topic_of : List ℕ → AttributeTree → List ℕ
-topic_of text attribute = if bytes_eq (word_of text attribute) (codes "agents") then codes "agent" else word_of text attribute
+topic_of text attribute = if bytes_eq (word_of text attribute) (codes "agents")
+    then codes "agent"
+    else word_of text attribute
 
 -- the attributes that tell the owners
 abbrev pub owner_attributes : List ℕ → BlockTree → List AttributeTree
-owner_attributes text block = filter (λ a. names_owners block.kind (word_of text a)) block.attributes
+owner_attributes text block =
+    filter (λ a. names_owners block.kind (word_of text a)) block.attributes
 
 abbrev pub is_text : TokenKind → Bool
 is_text tokens.Text = true
@@ -144,7 +150,10 @@ is_plain bytes = nat_le (length bytes) MOST_NAME_BYTES && list_all (λ b. nat_le
 
 -- plain strings: one as the value of `agent`, a list of one or more as that of `agents`
 abbrev pub tells_owners : List ℕ → AttributeTree → Bool
-tells_owners text a = (if bytes_eq (word_of text a) (codes "agents") then is_string_list a.value else is_string a.value) && list_all (λ t. is_plain (text_value text t)) (leaves a.value)
+tells_owners text a = (if bytes_eq (word_of text a) (codes "agents")
+    then is_string_list a.value
+    else is_string a.value)
+    && list_all (λ t. is_plain (text_value text t)) (leaves a.value)
 
 -- the leaves of the first of these attributes, from left to right
 abbrev pub leaves_of : List AttributeTree → List Token
@@ -153,7 +162,8 @@ leaves_of (a ∷ attributes) = leaves a.value
 
 -- a node's labels as they stand in its block
 abbrev pub label_tokens : List ℕ → BlockTree → List Token
-label_tokens text block = if has_states block.kind then leaves_of (named text (codes "states") block.attributes) else []
+label_tokens text block =
+    if has_states block.kind then leaves_of (named text (codes "states") block.attributes) else []
 
 -- a node's labels, with escapes undone; a utility has none
 abbrev pub block_labels : List ℕ → BlockTree → List (List ℕ)
@@ -173,7 +183,8 @@ owner_names text block = texts_or_agent text (leaves_of (owner_attributes text b
 
 -- the agents in order of first sight, and within a node's owners from left to right
 abbrev pub agents_of : List ℕ → List BlockTree → List (List ℕ)
-agents_of text nodes = first_sights (flat_map (owner_names text) (filter (λ b. has_agent b.kind) nodes))
+agents_of text nodes =
+    first_sights (flat_map (owner_names text) (filter (λ b. has_agent b.kind) nodes))
 
 -- how many names stand before the first that is this one
 abbrev pub place_among : List (List ℕ) → List ℕ → ℕ
@@ -181,7 +192,9 @@ place_among names name = position_or_len (λ other. bytes_eq other name) names
 
 -- the numbers of a node's owners in written order; a chance node has 0
 abbrev pub owners_of : List ℕ → List BlockTree → BlockTree → List ℕ
-owners_of text nodes block = if has_agent block.kind then map (place_among (agents_of text nodes)) (owner_names text block) else 0 ∷ []
+owners_of text nodes block = if has_agent block.kind
+    then map (place_among (agents_of text nodes)) (owner_names text block)
+    else 0 ∷ []
 
 -- the potential with that head
 abbrev pub potential_of : List ℕ → List BlockTree → List ℕ → Option BlockTree
@@ -189,18 +202,22 @@ potential_of text blocks name = find (λ p. bytes_eq (block_name text p) name) (
 
 -- that of each node, where it has one
 abbrev pub potential_list : List ℕ → List BlockTree → List (Option BlockTree)
-potential_list text blocks = map (λ b. potential_of text blocks (block_name text b)) (node_blocks blocks)
+potential_list text blocks =
+    map (λ b. potential_of text blocks (block_name text b)) (node_blocks blocks)
 
 -- the numbers of the nodes behind its bar
 abbrev pub condition_places : List ℕ → List BlockTree → BlockTree → List ℕ
-condition_places text nodes potential = map (λ t. place_among (names_of text nodes) (token_bytes text t)) (conditions potential)
+condition_places text nodes potential =
+    map (λ t. place_among (names_of text nodes) (token_bytes text t)) (conditions potential)
 
 -- the parents of the node of that name; none where it has no potential
 abbrev pub block_parents : List ℕ → List BlockTree → List ℕ → List ℕ
-block_parents text blocks name = option_map_or (condition_places text (node_blocks blocks)) (potential_of text blocks name) []
+block_parents text blocks name =
+    option_map_or (condition_places text (node_blocks blocks)) (potential_of text blocks name) []
 
 abbrev pub parent_lists : List ℕ → List BlockTree → List (List ℕ)
-parent_lists text blocks = map (λ b. block_parents text blocks (block_name text b)) (node_blocks blocks)
+parent_lists text blocks =
+    map (λ b. block_parents text blocks (block_name text b)) (node_blocks blocks)
 
 -- the count of states of each node
 abbrev pub state_counts : List ℕ → List BlockTree → List ℕ
@@ -208,7 +225,9 @@ state_counts text nodes = map (block_states text) nodes
 
 -- how many rows a table or a rule has: the product of the parents' counts of states
 abbrev pub row_count : List ℕ → List BlockTree → BlockTree → ℕ
-row_count text blocks block = rows_under (λ v. slice_index_or (state_counts text (node_blocks blocks)) v 1) (block_parents text blocks (block_name text block))
+row_count text blocks block = rows_under
+    (λ v. slice_index_or (state_counts text (node_blocks blocks)) v 1)
+    (block_parents text blocks (block_name text block))
 
 -- how many cells: one for each row and state
 abbrev pub cell_count : List ℕ → List BlockTree → BlockTree → ℕ
@@ -220,4 +239,5 @@ data_of text potential = named text (codes "data") potential.attributes
 
 -- the numbers of a node's table as they stand in the text
 abbrev pub block_numbers : List ℕ → List BlockTree → BlockTree → List Token
-block_numbers text blocks block = option_map_or (λ p. leaves_of (data_of text p)) (potential_of text blocks (block_name text block)) []
+block_numbers text blocks block = option_map_or (λ p. leaves_of (data_of text p))
+    (potential_of text blocks (block_name text block)) []

@@ -23,12 +23,14 @@ names_view text blocks = record {
 
 -- chance cells: the numerals' rows taken in proportion
 abbrev pub AreChanceCells : ℕ → List (List ℕ) → List ℤ → Type 0
-AreChanceCells states numerals cells = (decimals : List Decimal) × (scaled : ScaledView) × AreDecimals numerals decimals × IsScaled decimals states scaled × (cells ≡ scaled.weights)
+AreChanceCells states numerals cells = (decimals : List Decimal) × (scaled : ScaledView)
+    × AreDecimals numerals decimals × IsScaled decimals states scaled × (cells ≡ scaled.weights)
 
 -- utility cells: each value times 10^scale
 pub record AreUtilityCells (scale : ℕ) (numerals : List (List ℕ)) (cells : List ℤ) : Type 0 where
   pub len : length cells ≡ length numerals
-  pub each : (i : ℕ) → i < length cells → IsScaledBy scale (slice_index_or numerals i []) (slice_index_or cells i (pos 0))
+  pub each : (i : ℕ) → i < length cells
+      → IsScaledBy scale (slice_index_or numerals i []) (slice_index_or cells i (pos 0))
 
 -- the table of a node of that kind and with so many states, from its numerals; a decision has none
 abbrev pub IsTableFrom : Kind → ℕ → ℕ → List (List ℕ) → List ℤ → Type 0
@@ -37,16 +39,22 @@ IsTableFrom Decision scale states numerals cells = cells ≡ []
 IsTableFrom Utility scale states numerals cells = AreUtilityCells scale numerals cells
 
 -- the tables of all nodes, in order
-pub record AreTables (text : List ℕ) (blocks : List BlockTree) (scale : ℕ) (tables : List (List ℤ)) : Type 0 where
+pub record AreTables
+    (text : List ℕ) (blocks : List BlockTree) (scale : ℕ) (tables : List (List ℤ)) : Type 0 where
   pub len : length tables ≡ length (node_blocks blocks)
-  pub each : (v : ℕ) → v < length tables → let block = slice_index_or (node_blocks blocks) v no_block in IsTableFrom (kind_of block.kind) scale (block_states text block) (map (token_bytes text) (block_numbers text blocks block)) (slice_index_or tables v [])
+  pub each : (v : ℕ) → v < length tables
+      → let block = slice_index_or (node_blocks blocks) v no_block in
+      IsTableFrom (kind_of block.kind) scale (block_states text block)
+      (map (token_bytes text) (block_numbers text blocks block)) (slice_index_or tables v [])
 
 -- The diagram and the names that a tree stands for: one node for each node block in text order.
-pub record StandsFor (text : List ℕ) (blocks : List BlockTree) (d : DiagramView) (names : NamesView) : Type 0 where
+pub record StandsFor
+    (text : List ℕ) (blocks : List BlockTree) (d : DiagramView) (names : NamesView) : Type 0 where
   pub names_are : names ≡ names_view text blocks
   pub agents : d.agents ≡ length (agents_of text (node_blocks blocks))
   pub kinds : map (λ n. n.kind) d.nodes ≡ map (λ b. kind_of b.kind) (node_blocks blocks)
-  pub owners : map (λ n. n.owner ∷ n.more) d.nodes ≡ map (owners_of text (node_blocks blocks)) (node_blocks blocks)
+  pub owners : map (λ n. n.owner ∷ n.more) d.nodes
+      ≡ map (owners_of text (node_blocks blocks)) (node_blocks blocks)
   pub states : map (λ n. n.states) d.nodes ≡ state_counts text (node_blocks blocks)
   pub parents : map (λ n. n.parents) d.nodes ≡ parent_lists text blocks
   pub scale : IsUtilityScale text blocks d.decimals

@@ -26,7 +26,8 @@ Exclusive = (text : List ℕ) (blocks : List BlockTree) → IsExclusive (all_pas
 abbrev pub OneFault : Type 0
 OneFault = (text : List ℕ) (blocks : List BlockTree) → HasOneFault (all_passes text blocks)
 
--- the tree stands for a diagram within the limits, which is plain, and whose names fit it and have the form of names in a text
+-- the tree stands for a diagram within the limits, which is plain, and whose names fit it and have the form of names
+-- in a text
 pub record HasDiagram (text : List ℕ) (blocks : List BlockTree) : Type 0 where
   pub diagram : DiagramView
   pub names : NamesView
@@ -38,8 +39,12 @@ pub record HasDiagram (text : List ℕ) (blocks : List BlockTree) : Type 0 where
 
 -- a tree that a text's tokens spell, and in which the passes find nothing, stands for a diagram
 abbrev pub SomeDiagram : Type 0
-SomeDiagram = (text : List ℕ) (tokens : List Token) (blocks : List BlockTree) → IsTokens text tokens → Spells blocks (lexemes text tokens) → all_passes text blocks None → HasDiagram text blocks
+SomeDiagram = (text : List ℕ) (tokens : List Token) (blocks : List BlockTree) → IsTokens text tokens
+    → Spells blocks (lexemes text tokens) → all_passes text blocks None → HasDiagram text blocks
 
 -- a tree in which the passes find nothing stands for one diagram at most, with one list of names
 abbrev pub OneDiagram : Type 0
-OneDiagram = (text : List ℕ) (blocks : List BlockTree) (d other : DiagramView) (names others : NamesView) → all_passes text blocks None → StandsFor text blocks d names → StandsFor text blocks other others → (d ≡ other) × (names ≡ others)
+OneDiagram = (text : List ℕ) (blocks : List BlockTree) (d other : DiagramView)
+    (names others : NamesView) → all_passes text blocks None
+    → StandsFor text blocks d names → StandsFor text blocks other others
+    → (d ≡ other) × (names ≡ others)

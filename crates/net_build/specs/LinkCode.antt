@@ -6,4 +6,6 @@ use Rattle.net_parser.specs.TreeCode.{block_code}
 use Rattle.net_build.specs.Stages.{LinkLists}
 
 abbrev pub link_code : Coded LinkLists
-link_code = code_by (List (List ℕ) × List (Option BlockTree)) (coded× (coded_list (coded_list coded_ℕ)) (coded_list (coded_option block_code))) (λ l. (l.parents, l.potentials)) (λ p. record { parents = p.0; potentials = p.1 }) (λ _. refl)
+link_code = code_by (List (List ℕ) × List (Option BlockTree))
+    (coded× (coded_list (coded_list coded_ℕ)) (coded_list (coded_option block_code)))
+    (λ l. (l.parents, l.potentials)) (λ p. record { parents = p.0; potentials = p.1 }) (λ _. refl)

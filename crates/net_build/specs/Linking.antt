@@ -1,4 +1,5 @@
--- The rows of the passes over potentials, the graph and the sizes: they speak of the names and heads of the nodes, their parents and their potentials, as lists.
+-- The rows of the passes over potentials, the graph and the sizes: they speak of the names and heads of the nodes,
+-- their parents and their potentials, as lists.
 use Rattle.std.specs.Prelude.{◌≡◌, ◌≢◌, ◌<◌, ◌≤◌, ◌+◌, ◌*◌, min, not, ℕ, List, [], Option, None, Some, map, filter, find, length, sum, All, Contains, slice_index, slice_index_or, bytes_eq}
 use Rattle.std.specs.List.{range_with_len}
 use Rattle.std.specs.Borrow.{Bor}
@@ -29,11 +30,14 @@ kind_at heads v = slice_index_or (map (λ h. h.kind) heads) v Chance
 
 -- no node has the name
 abbrev pub unknown_row : List ℕ → List (List ℕ) → Token → Pass Found
-unknown_row text names name = rule (Contains names (token_bytes text name) → ⊥) (found name.start UnknownName)
+unknown_row text names name =
+    rule (Contains names (token_bytes text name) → ⊥) (found name.start UnknownName)
 
 -- it stands among those earlier
 abbrev pub repeat_row : List ℕ → List Token → Token → Pass Found
-repeat_row text earlier name = rule (Contains (map (token_bytes text) earlier) (token_bytes text name)) (found name.start RepeatedParent)
+repeat_row text earlier name = rule
+    (Contains (map (token_bytes text) earlier) (token_bytes text name))
+    (found name.start RepeatedParent)
 
 -- it is a utility's
 abbrev pub utility_row : Kind → Token → Pass Found
@@ -41,11 +45,13 @@ utility_row kind name = rule (kind ≡ Utility) (found name.start UtilityParent)
 
 -- a name behind the bar, and behind those earlier
 abbrev pub condition_steps : List ℕ → List (List ℕ) → List Head → List Token → Token → Pass Found
-condition_steps text names heads earlier name = unknown_row text names name ▸ repeat_row text earlier name ▸ utility_row (kind_at heads (node_named text names name)) name
+condition_steps text names heads earlier name = unknown_row text names name
+    ▸ repeat_row text earlier name ▸ utility_row (kind_at heads (node_named text names name)) name
 
 -- the names behind a potential's bar, from the left
 abbrev pub conditions_steps : List ℕ → List (List ℕ) → List Head → List Token → Pass Found
-conditions_steps text names heads conditions = each_after (condition_steps text names heads) [] conditions
+conditions_steps text names heads conditions =
+    each_after (condition_steps text names heads) [] conditions
 
 -- borrowed potentials as trees
 abbrev pub borrowed_trees : List (Option (Bor BlockTree)) → List (Option BlockTree)
@@ -53,14 +59,17 @@ borrowed_trees potentials = map (option_map (λ p. p.now)) potentials
 
 -- the node has a potential already
 abbrev pub taken_row : List (Option BlockTree) → ℕ → Token → Pass Found
-taken_row potentials v head = rule (IsSome (slice_index_or potentials v None)) (found head.start DoublePotential)
+taken_row potentials v head =
+    rule (IsSome (slice_index_or potentials v None)) (found head.start DoublePotential)
 
 -- there are too many names behind the bar
 abbrev pub many_row : Token → List Token → Pass Found
-many_row head conditions = rule (MOST_PARENTS < length conditions) (found head.start (LimitPassed Parents (length conditions)))
+many_row head conditions = rule (MOST_PARENTS < length conditions) (found head.start
+    (LimitPassed Parents (length conditions)))
 
 -- a potential's head and the names behind its bar, where those nodes have potentials
-abbrev pub potential_steps : List ℕ → List (List ℕ) → List Head → List (Option BlockTree) → Token → List Token → Pass Found
+abbrev pub potential_steps :
+    List ℕ → List (List ℕ) → List Head → List (Option BlockTree) → Token → List Token → Pass Found
 potential_steps text names heads potentials head conditions =
     unknown_row text names head
     ▸ taken_row potentials (node_named text names head) head
@@ -69,19 +78,24 @@ potential_steps text names heads potentials head conditions =
 
 -- the potential of each node among these blocks
 abbrev pub potentials_among : List ℕ → List (List ℕ) → List BlockTree → List (Option BlockTree)
-potentials_among text names blocks = map (λ name. find (λ p. bytes_eq (block_name text p) name) blocks) names
+potentials_among text names blocks =
+    map (λ name. find (λ p. bytes_eq (block_name text p) name) blocks) names
 
 -- the parents in them
 abbrev pub parents_in : List ℕ → List (List ℕ) → List (Option BlockTree) → List (List ℕ)
-parents_in text names potentials = map (λ o. option_map_or (λ p. map (node_named text names) (conditions p)) o []) potentials
+parents_in text names potentials =
+    map (λ o. option_map_or (λ p. map (node_named text names) (conditions p)) o []) potentials
 
 -- a potential behind those earlier
-abbrev pub behind_rows : List ℕ → List (List ℕ) → List Head → List BlockTree → BlockTree → Pass Found
-behind_rows text names heads earlier p = potential_steps text names heads (potentials_among text names earlier) (title p) (conditions p)
+abbrev pub behind_rows :
+    List ℕ → List (List ℕ) → List Head → List BlockTree → BlockTree → Pass Found
+behind_rows text names heads earlier p =
+    potential_steps text names heads (potentials_among text names earlier) (title p) (conditions p)
 
 -- the potentials in text order
 abbrev pub potentials_steps : List ℕ → List (List ℕ) → List Head → List BlockTree → Pass Found
-potentials_steps text names heads blocks = each_after (behind_rows text names heads) [] (potentials blocks)
+potentials_steps text names heads blocks =
+    each_after (behind_rows text names heads) [] (potentials blocks)
 
 -- parents that a node may have
 pub record AreParents (heads : List Head) (parents : List ℕ) : Type 0 where
@@ -92,20 +106,24 @@ pub record AreParents (heads : List Head) (parents : List ℕ) : Type 0 where
 
 -- the node has no potential
 abbrev pub absent_row : Head → List (Option BlockTree) → ℕ → Pass Found
-absent_row head potentials v = rule (slice_index_or potentials v None ≡ None) (found head.at MissingTable)
+absent_row head potentials v =
+    rule (slice_index_or potentials v None ≡ None) (found head.at MissingTable)
 
 -- a chance or utility node
 abbrev pub missing_at : List Head → List (Option BlockTree) → ℕ → Pass Found
-missing_at heads potentials v = only (not (is_decision (head_at heads v).kind)) (absent_row (head_at heads v) potentials v)
+missing_at heads potentials v =
+    only (not (is_decision (head_at heads v).kind)) (absent_row (head_at heads v) potentials v)
 
 -- the nodes in order
 abbrev pub missing_steps : List Head → List (Option BlockTree) → Pass Found
-missing_steps heads potentials = each (missing_at heads potentials) (range_with_len 0 (length heads))
+missing_steps heads potentials =
+    each (missing_at heads potentials) (range_with_len 0 (length heads))
 
 -- no cycle, or the first one
 abbrev pub graph_steps : List Head → List (List ℕ) → Pass Found
 graph_steps heads parents None = IsAcyclic (ListedArc parents)
-graph_steps heads parents (Some f) = (cycle : List ℕ) × IsParentCycle parents cycle × (f ≡ found (head_at heads (slice_index cycle 0)).at (GraphCycle cycle))
+graph_steps heads parents (Some f) = (cycle : List ℕ) × IsParentCycle parents cycle
+    × (f ≡ found (head_at heads (slice_index cycle 0)).at (GraphCycle cycle))
 
 -- the rows of node v over these parents
 abbrev pub rows_over : List Head → List ℕ → ℕ
@@ -117,7 +135,8 @@ cells_over heads parents v = rows_over heads parents * (head_at heads v).states
 
 -- they are too many; the count is named up to 10^18
 abbrev pub cells_row : List Head → List ℕ → ℕ → Pass Found
-cells_row heads parents v = rule (MOST_CELLS < cells_over heads parents v) (found (head_at heads v).at (LimitPassed Cells (min (cells_over heads parents v) COUNT_END)))
+cells_row heads parents v = rule (MOST_CELLS < cells_over heads parents v) (found
+    (head_at heads v).at (LimitPassed Cells (min (cells_over heads parents v) COUNT_END)))
 
 -- the rules' cells up to a node are too many
 abbrev pub rules_row : Head → ℕ → Pass Found
@@ -125,14 +144,18 @@ rules_row head rules = rule (MOST_RULE_CELLS < rules) (found head.at (LimitPasse
 
 -- a node over these parents, behind rules of so many cells
 abbrev pub size_rows_over : List Head → List ℕ → ℕ → ℕ → Pass Found
-size_rows_over heads parents v rules = cells_row heads parents v ▸ only (is_decision (head_at heads v).kind) (rules_row (head_at heads v) (rules + cells_over heads parents v))
+size_rows_over heads parents v rules = cells_row heads parents v
+    ▸ only (is_decision (head_at heads v).kind) (rules_row (head_at heads v)
+    (rules + cells_over heads parents v))
 
 -- the cells of the rules of the first n nodes
 abbrev pub rules_before : List Head → List (List ℕ) → ℕ → ℕ
-rules_before heads parents n = sum (map (cells_at heads parents) (filter (λ v. is_decision (head_at heads v).kind) (range_with_len 0 n)))
+rules_before heads parents n = sum (map (cells_at heads parents) (filter
+    (λ v. is_decision (head_at heads v).kind) (range_with_len 0 n)))
 
 abbrev pub size_steps_at : List Head → List (List ℕ) → ℕ → Pass Found
-size_steps_at heads parents v = size_rows_over heads (slice_index_or parents v []) v (rules_before heads parents v)
+size_steps_at heads parents v =
+    size_rows_over heads (slice_index_or parents v []) v (rules_before heads parents v)
 
 -- the nodes in order
 abbrev pub size_steps : List Head → List (List ℕ) → Pass Found

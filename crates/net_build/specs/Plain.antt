@@ -12,7 +12,8 @@ use Rattle.weight_scale.specs.Scaling.{row_at, IsCommonTotal}
 -- the greatest number up to n that divides each
 unfoldable pub greatest_divisor : ℕ → List ℕ → ℕ
 greatest_divisor zero row = 0
-greatest_divisor (suc n) row = if list_all (λ x. x % suc n == 0) row then suc n else greatest_divisor n row
+greatest_divisor (suc n) row =
+    if list_all (λ x. x % suc n == 0) row then suc n else greatest_divisor n row
 
 -- the greatest common divisor of a row's weights, which isn't greater than their sum
 abbrev pub row_divisor : List ℕ → ℕ
@@ -24,13 +25,19 @@ reduced_row row = map (λ x. x / row_divisor row) row
 
 -- the reduced rows of a table of so many rows, one after the other
 abbrev pub reduced_rows : ℕ → ℕ → List ℤ → List ℕ
-reduced_rows states rows cells = flat_map (λ r. reduced_row (map unsigned_abs (row_at states cells r))) (range_with_len 0 rows)
+reduced_rows states rows cells =
+    flat_map (λ r. reduced_row (map unsigned_abs (row_at states cells r))) (range_with_len 0 rows)
 
 -- so many decimals are enough for all values of utilities: cell / 10^decimals * 10^k is whole
 abbrev pub AreEnough : DiagramView → ℕ → Type 0
-AreEnough d k = (v : ℕ) → (node_at d.nodes v).kind ≡ Utility → All (λ x. (10 ^ d.decimals) ∣ nat_abs x * 10 ^ k) (node_at d.nodes v).cells
+AreEnough d k = (v : ℕ) → (node_at d.nodes v).kind ≡ Utility
+    → All (λ x. (10 ^ d.decimals) ∣ nat_abs x * 10 ^ k) (node_at d.nodes v).cells
 
--- W(v) is the least common multiple of the reduced rows' totals, and the decimals are the least that all values of utilities need
+-- W(v) is the least common multiple of the reduced rows' totals, and the decimals are the least that all values of
+-- utilities need
 pub record IsPlain (d : DiagramView) : Type 0 where
-  pub weights : (v : ℕ) → (node_at d.nodes v).kind ≡ Chance → IsCommonTotal (reduced_rows (states_of d.nodes v) (rows_of d.nodes v) (node_at d.nodes v).cells) (states_of d.nodes v) (rows_of d.nodes v) (chance_total d.nodes v)
+  pub weights : (v : ℕ) → (node_at d.nodes v).kind ≡ Chance
+      → IsCommonTotal
+      (reduced_rows (states_of d.nodes v) (rows_of d.nodes v) (node_at d.nodes v).cells)
+      (states_of d.nodes v) (rows_of d.nodes v) (chance_total d.nodes v)
   pub decimals : IsLeast (AreEnough d) d.decimals

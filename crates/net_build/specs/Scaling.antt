@@ -1,4 +1,5 @@
--- Numbers to scale: the decimals that are written in the text, and values times a power of ten. The rows of chance tables are scaled by `weight_scale`, whose own definitions say how.
+-- Numbers to scale: the decimals that are written in the text, and values times a power of ten. The rows of chance
+-- tables are scaled by `weight_scale`, whose own definitions say how.
 use Rattle.std.specs.Prelude.{◌≡◌, ◌<◌, ◌^◌, ℕ, ℤ, pos, ◌*ℤ◌, List, [], length, slice_index_or}
 use Rattle.weight_scale.specs.Numeral.{numerator, denominator, IsLeastDecimalOf}
 use Rattle.weight_scale.specs.declared.decimal.Decimal.{Decimal}
@@ -11,11 +12,14 @@ decimal_at decimals i = slice_index_or decimals i nought
 -- the decimals of these numerals, one for each
 pub record AreDecimals (numerals : List (List ℕ)) (decimals : List Decimal) : Type 0 where
   pub len : length decimals ≡ length numerals
-  pub each : (i : ℕ) → i < length numerals → let numeral = slice_index_or numerals i [] in IsLeastDecimalOf (numerator numeral) (denominator numeral) (decimal_at decimals i)
+  pub each : (i : ℕ) → i < length numerals
+      → let numeral = slice_index_or numerals i [] in
+      IsLeastDecimalOf (numerator numeral) (denominator numeral) (decimal_at decimals i)
 
 -- the whole number is the numeral's value times 10^k
 abbrev pub IsScaledBy : ℕ → List ℕ → ℤ → Type 0
-IsScaledBy k numeral x = IsSameFraction x 1 (numerator numeral *ℤ pos (10 ^ k)) (denominator numeral)
+IsScaledBy k numeral x =
+    IsSameFraction x 1 (numerator numeral *ℤ pos (10 ^ k)) (denominator numeral)
 
 -- the numeral's value times 10^k is whole
 abbrev pub IsWholeBy : ℕ → List ℕ → Type 0

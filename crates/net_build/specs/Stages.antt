@@ -27,7 +27,8 @@ abbrev pub are_string_values : List Value → Bool
 are_string_values [] = false
 are_string_values (v ∷ vs) = list_all (λ w. is_string (value_tree w)) (v ∷ vs)
 
--- what the node blocks say: names, labels and agents, and for each node where its name stands, its kind, the number of its first owner and the count of its states; and the numbers of its further owners
+-- what the node blocks say: names, labels and agents, and for each node where its name stands, its kind, the number
+-- of its first owner and the count of its states; and the numbers of its further owners
 pub record NodeLists : Type 0 where
   pub names : List (List ℕ)
   pub labels : List (List (List ℕ))
@@ -44,7 +45,12 @@ abbrev pub more_owners : List ℕ → List BlockTree → BlockTree → List ℕ
 more_owners text nodes block = drop 1 (owners_of text nodes block)
 
 abbrev pub head_of : List ℕ → List BlockTree → BlockTree → Head
-head_of text nodes block = record { at = title_at block; kind = kind_of block.kind; owner = first_owner text nodes block; states = block_states text block }
+head_of text nodes block = record {
+  at = title_at block;
+  kind = kind_of block.kind;
+  owner = first_owner text nodes block;
+  states = block_states text block;
+}
 
 -- the heads of these nodes
 abbrev pub heads_of : List ℕ → List BlockTree → List Head
@@ -61,7 +67,8 @@ node_lists text nodes = record {
 
 -- the agents and the block's, where it has some
 abbrev pub with_owners : List ℕ → List (List ℕ) → BlockTree → List (List ℕ)
-with_owners text agents block = if has_agent block.kind then with_sights agents (owner_names text block) else agents
+with_owners text agents block =
+    if has_agent block.kind then with_sights agents (owner_names text block) else agents
 
 -- what the potentials say: for each node its parents and its potential
 pub record LinkLists : Type 0 where
@@ -96,7 +103,8 @@ pub record AreLinks (heads : List Head) (parents : List (List ℕ)) : Type 0 whe
   pub acyclic : IsAcyclic (ListedArc parents)
   pub few : (v : ℕ) → length (slice_index_or parents v []) ≤ MOST_PARENTS
   pub cells : (v : ℕ) → v < length heads → cells_at heads parents v ≤ MOST_CELLS
-  pub rules : sum (map (cells_at heads parents) (filter (λ v. is_decision (head_at heads v).kind) (range_with_len 0 (length heads)))) ≤ MOST_RULE_CELLS
+  pub rules : sum (map (cells_at heads parents) (filter (λ v. is_decision (head_at heads v).kind)
+      (range_with_len 0 (length heads)))) ≤ MOST_RULE_CELLS
 
 -- what the tables hold: the cells of each node, and by how many decimals utilities are scaled
 pub record TableLists : Type 0 where
@@ -105,25 +113,42 @@ pub record TableLists : Type 0 where
 
 -- the cells make a table within the limits
 abbrev pub FitsTable : Kind → ℕ → ℕ → List ℤ → Type 0
-FitsTable Chance rows states cells = (total : ℕ) × (0 < total) × (total ≤ greatest_number) × IsTable cells rows states total
+FitsTable Chance rows states cells =
+    (total : ℕ) × (0 < total) × (total ≤ greatest_number) × IsTable cells rows states total
 FitsTable Decision rows states cells = cells ≡ []
-FitsTable Utility rows states cells = (length cells ≡ rows) × All (λ x. nat_abs x ≤ greatest_number) cells
+FitsTable Utility rows states cells =
+    (length cells ≡ rows) × All (λ x. nat_abs x ≤ greatest_number) cells
 
 -- each node's cells do
 abbrev pub TablesFit : List Head → List (List ℕ) → List (List ℤ) → Type 0
-TablesFit heads parents cells = (v : ℕ) → v < length heads → FitsTable (head_at heads v).kind (head_rows heads parents v) (head_at heads v).states (slice_index_or cells v [])
+TablesFit heads parents cells = (v : ℕ) → v < length heads
+    → FitsTable (head_at heads v).kind (head_rows heads parents v) (head_at heads v).states
+    (slice_index_or cells v [])
 
 -- a node from what its block, its potential and its table say
 abbrev pub made_node : Head → List ℕ → List ℕ → List ℤ → NodeView
-made_node head more parents cells = record { kind = head.kind; owner = head.owner; more = more; states = head.states; parents = parents; cells = cells }
+made_node head more parents cells = record {
+  kind = head.kind;
+  owner = head.owner;
+  more = more;
+  states = head.states;
+  parents = parents;
+  cells = cells;
+}
 
 -- node number v of these lists
 abbrev pub made_at : List Head → List (List ℕ) → List (List ℕ) → List (List ℤ) → ℕ → NodeView
-made_at heads more parents cells v = made_node (head_at heads v) (slice_index_or more v []) (slice_index_or parents v []) (slice_index_or cells v [])
+made_at heads more parents cells v = made_node (head_at heads v) (slice_index_or more v [])
+    (slice_index_or parents v []) (slice_index_or cells v [])
 
 abbrev pub made_nodes : List Head → List (List ℕ) → List (List ℕ) → List (List ℤ) → List NodeView
-made_nodes heads more parents cells = map (made_at heads more parents cells) (range_with_len 0 (length heads))
+made_nodes heads more parents cells =
+    map (made_at heads more parents cells) (range_with_len 0 (length heads))
 
 -- the diagram of these lists
 abbrev pub made_diagram : NodeLists → LinkLists → TableLists → DiagramView
-made_diagram nodes links tables = record { nodes = made_nodes nodes.heads nodes.more links.parents tables.cells; agents = length nodes.agents; decimals = tables.decimals }
+made_diagram nodes links tables = record {
+  nodes = made_nodes nodes.heads nodes.more links.parents tables.cells;
+  agents = length nodes.agents;
+  decimals = tables.decimals;
+}

@@ -28,7 +28,8 @@ use Rattle.weight_scale.specs.Scaling.{row_at, IsTooWide}
 
 -- an attribute about what one before it is about
 abbrev pub repeated_row : List ℕ → List AttributeTree → AttributeTree → Pass Found
-repeated_row text earlier a = rule (Contains (map (topic_of text) earlier) (topic_of text a)) (found a.name.start DoubleAttribute)
+repeated_row text earlier a = rule (Contains (map (topic_of text) earlier) (topic_of text a))
+    (found a.name.start DoubleAttribute)
 
 -- the attributes that count in a block
 unfoldable pub repeats : List ℕ → BlockTree → Pass Found
@@ -39,9 +40,10 @@ label_row text label = rule (is_plain (text_value text label) ≡ false) (found 
 
 -- the value of `states`
 unfoldable pub label_rows : List ℕ → AttributeTree → Pass Found
-label_rows text states =
-    rule (is_string_list states.value ≡ false) (found states.name.start BadStates)
-    ▸ rule (MOST_STATES < length (leaves states.value)) (found states.name.start (LimitPassed States (length (leaves states.value))))
+label_rows text states = rule (is_string_list states.value ≡ false)
+    (found states.name.start BadStates)
+    ▸ rule (MOST_STATES < length (leaves states.value)) (found states.name.start
+    (LimitPassed States (length (leaves states.value))))
     ▸ each (label_row text) (leaves states.value)
 
 -- the states of a chance node or a decision, given its attributes of that name
@@ -51,7 +53,9 @@ states_rows text block (states ∷ more) = label_rows text states
 
 -- an agent that stands among those before it
 abbrev pub repeated_agent_row : List ℕ → List Token → Token → Pass Found
-repeated_agent_row text earlier agent = rule (Contains (map (text_value text) earlier) (text_value text agent)) (found agent.start RepeatedAgent)
+repeated_agent_row text earlier agent = rule
+    (Contains (map (text_value text) earlier) (text_value text agent))
+    (found agent.start RepeatedAgent)
 
 -- the owners of a decision or a utility, given the attributes that tell them
 unfoldable pub agent_rows : List ℕ → List AttributeTree → Pass Found
@@ -66,13 +70,15 @@ IsAgentTooMany agents agent = (MOST_AGENTS ≤ length agents) × (Contains agent
 
 -- an owner of the node that is named there, behind these agents and the node's owners before it
 abbrev pub sight_row : List (List ℕ) → ℕ → List (List ℕ) → List ℕ → Pass Found
-sight_row agents at earlier agent = rule (IsAgentTooMany (with_sights agents earlier) agent) (found at (LimitPassed Agents (MOST_AGENTS + 1)))
+sight_row agents at earlier agent = rule (IsAgentTooMany (with_sights agents earlier) agent)
+    (found at (LimitPassed Agents (MOST_AGENTS + 1)))
 
 -- the name of a node block behind those with these names
 unfoldable pub name_rows : List ℕ → List (List ℕ) → BlockTree → Pass Found
-name_rows text names block =
-    rule (MOST_NODES ≤ length names) (found (title_at block) (LimitPassed Nodes (MOST_NODES + 1)))
-    ▸ rule (MOST_NAME_BYTES < length (block_name text block)) (found (title_at block) (LimitPassed NameBytes (length (block_name text block))))
+name_rows text names block = rule (MOST_NODES ≤ length names) (found (title_at block)
+    (LimitPassed Nodes (MOST_NODES + 1)))
+    ▸ rule (MOST_NAME_BYTES < length (block_name text block)) (found (title_at block)
+    (LimitPassed NameBytes (length (block_name text block))))
     ▸ rule (Contains names (block_name text block)) (found (title_at block) DoubleName)
 
 -- the owners of a decision or a utility behind those of these agents
@@ -83,27 +89,30 @@ owner_rows text agents block =
 
 -- a node block behind those with these names and agents
 unfoldable pub node_rows : List ℕ → List (List ℕ) → List (List ℕ) → BlockTree → Pass Found
-node_rows text names agents block =
-    name_rows text names block
-    ▸ repeats text block
-    ▸ only (has_states block.kind) (states_rows text block (named text (codes "states") block.attributes))
-    ▸ only (has_agent block.kind) (owner_rows text agents block)
+node_rows text names agents block = name_rows text names block ▸ repeats text block
+    ▸ only (has_states block.kind) (states_rows text block (named text (codes "states")
+    block.attributes)) ▸ only (has_agent block.kind) (owner_rows text agents block)
 
 -- node blocks in text order
 unfoldable pub node_pass : List ℕ → List BlockTree → Pass Found
-node_pass text blocks = each_after (λ earlier b. node_rows text (names_of text earlier) (agents_of text earlier) b) [] (node_blocks blocks)
+node_pass text blocks = each_after
+    (λ earlier b. node_rows text (names_of text earlier) (agents_of text earlier) b) []
+    (node_blocks blocks)
 
 -- the kind of the node of that name
 abbrev pub kind_named : List ℕ → List BlockTree → List ℕ → Kind
-kind_named text nodes name = slice_index_or (map (λ b. kind_of b.kind) nodes) (place_among (names_of text nodes) name) model.Chance
+kind_named text nodes name = slice_index_or (map (λ b. kind_of b.kind) nodes)
+    (place_among (names_of text nodes) name) model.Chance
 
 -- potentials in text order, over the names and the heads of the nodes
 unfoldable pub potential_pass : List ℕ → List BlockTree → Pass Found
-potential_pass text blocks = potentials_steps text (names_of text (node_blocks blocks)) (heads_of text (node_blocks blocks)) blocks
+potential_pass text blocks = potentials_steps text (names_of text (node_blocks blocks))
+    (heads_of text (node_blocks blocks)) blocks
 
 -- nodes in text order: each chance node and utility has a potential
 unfoldable pub missing_pass : List ℕ → List BlockTree → Pass Found
-missing_pass text blocks = missing_steps (heads_of text (node_blocks blocks)) (potential_list text blocks)
+missing_pass text blocks =
+    missing_steps (heads_of text (node_blocks blocks)) (potential_list text blocks)
 
 -- the graph: no cycle, or the first one
 unfoldable pub graph_pass : List ℕ → List BlockTree → Pass Found
@@ -122,18 +131,23 @@ number_row leaf = rule (is_number leaf.kind ≡ false) (found leaf.start NotANum
 
 -- no decimal within the limits is the number
 abbrev pub IsNumberTooLong : List ℕ → Type 0
-IsNumberTooLong numeral = (d : Decimal) → IsDecimalOf (numerator numeral) (denominator numeral) d → ⊥
+IsNumberTooLong numeral =
+    (d : Decimal) → IsDecimalOf (numerator numeral) (denominator numeral) d → ⊥
 
 abbrev pub length_row : List ℕ → Token → Pass Found
-length_row text number = rule (IsNumberTooLong (token_bytes text number)) (found number.start NumberTooLong)
+length_row text number =
+    rule (IsNumberTooLong (token_bytes text number)) (found number.start NumberTooLong)
 
 abbrev pub sign_row : List ℕ → Token → Pass Found
-sign_row text number = rule (numerator (token_bytes text number) <ℤ pos 0) (found number.start Negative)
+sign_row text number =
+    rule (numerator (token_bytes text number) <ℤ pos 0) (found number.start Negative)
 
 -- a row of total nought: no number is below nought, so that each is nought
 abbrev pub total_row : List ℕ → List Token → Pass Found
 total_row text [] = clear
-total_row text (number ∷ numbers) = rule (All (λ t. numerator (token_bytes text t) ≡ pos 0) (number ∷ numbers)) (found number.start ZeroRow)
+total_row text (number ∷ numbers) = rule
+    (All (λ t. numerator (token_bytes text t) ≡ pos 0) (number ∷ numbers))
+    (found number.start ZeroRow)
 
 -- the rows of a table, one after the other
 abbrev pub rows_by : ℕ → List Token → ℕ → List (List Token)
@@ -141,7 +155,8 @@ rows_by states numbers rows = map (λ r. row_at states numbers r) (range_with_le
 
 -- the common total of the rows is too great
 abbrev pub IsWideTotal : List ℕ → ℕ → List Token → Type 0
-IsWideTotal text states numbers = (decimals : List Decimal) × AreDecimals (map (token_bytes text) numbers) decimals × IsTooWide decimals states
+IsWideTotal text states numbers = (decimals : List Decimal) × AreDecimals
+    (map (token_bytes text) numbers) decimals × IsTooWide decimals states
 
 -- another count of numbers than the table has cells
 abbrev pub count_row : ℕ → ℕ → ℕ → Pass Found
@@ -174,7 +189,8 @@ data_parts text kind rows states potential (table ∷ more) = data_part text kin
 
 -- its potential
 abbrev pub table_part : List ℕ → Kind → ℕ → ℕ → BlockTree → Pass Found
-table_part text kind rows states potential = repeats text potential ▸ data_parts text kind rows states potential (data_of text potential)
+table_part text kind rows states potential =
+    repeats text potential ▸ data_parts text kind rows states potential (data_of text potential)
 
 -- its potential, where it has one
 abbrev pub draft_part : List ℕ → Kind → ℕ → ℕ → Option BlockTree → Pass Found
@@ -191,34 +207,43 @@ potential_at links v = slice_index_or links.potentials v None
 
 -- node v by its head, its rows and its potential
 abbrev pub node_rows_at : List ℕ → List Head → LinkLists → ℕ → Pass Found
-node_rows_at text heads links v = node_part text (head_at heads v).kind (head_rows heads links.parents v) (head_at heads v).states (potential_at links v)
+node_rows_at text heads links v = node_part text (head_at heads v).kind
+    (head_rows heads links.parents v) (head_at heads v).states (potential_at links v)
 
 -- the nodes in order
 abbrev pub drafts_pass : List ℕ → List Head → LinkLists → Pass Found
-drafts_pass text heads links = each (node_rows_at text heads links) (range_with_len 0 (length heads))
+drafts_pass text heads links =
+    each (node_rows_at text heads links) (range_with_len 0 (length heads))
 
 -- chance and utility nodes in text order
 unfoldable pub table_pass : List ℕ → List BlockTree → Pass Found
-table_pass text blocks = drafts_pass text (heads_of text (node_blocks blocks)) (link_lists text blocks)
+table_pass text blocks =
+    drafts_pass text (heads_of text (node_blocks blocks)) (link_lists text blocks)
 
 -- the numbers of all utilities, as they stand in the text
 abbrev pub utility_numbers : List ℕ → List BlockTree → List Token
-utility_numbers text blocks = flat_map (λ p. leaves_of (data_of text p)) (filter (λ p. is_utility (kind_named text (node_blocks blocks) (block_name text p))) (potentials blocks))
+utility_numbers text blocks = flat_map (λ p. leaves_of (data_of text p)) (filter
+    (λ p. is_utility (kind_named text (node_blocks blocks) (block_name text p)))
+    (potentials blocks))
 
 -- K: the least number for which every utility value times 10^K is whole
 abbrev pub IsUtilityScale : List ℕ → List BlockTree → ℕ → Type 0
-IsUtilityScale text blocks scale = IsLeast (λ k. All (λ t. IsWholeBy k (token_bytes text t)) (utility_numbers text blocks)) scale
+IsUtilityScale text blocks scale =
+    IsLeast (λ k. All (λ t. IsWholeBy k (token_bytes text t)) (utility_numbers text blocks)) scale
 
 -- the value times 10^scale is greater than the greatest number, or less than the least
 abbrev pub IsWideValue : ℕ → List ℕ → Type 0
-IsWideValue scale numeral = greatest_number * denominator numeral < nat_abs (numerator numeral) * 10 ^ scale
+IsWideValue scale numeral =
+    greatest_number * denominator numeral < nat_abs (numerator numeral) * 10 ^ scale
 
 abbrev pub wide_row : List ℕ → ℕ → Token → Pass Found
-wide_row text scale number = rule (IsWideValue scale (token_bytes text number)) (found number.start WideValue)
+wide_row text scale number =
+    rule (IsWideValue scale (token_bytes text number)) (found number.start WideValue)
 
 -- utility values in text order, to scale
 unfoldable pub wide_pass : List ℕ → List BlockTree → Pass Found
-wide_pass text blocks = over (IsUtilityScale text blocks) (λ scale. each (wide_row text scale) (utility_numbers text blocks))
+wide_pass text blocks = over (IsUtilityScale text blocks) (λ scale.
+    each (wide_row text scale) (utility_numbers text blocks))
 
 -- all passes, one after the other
 unfoldable pub all_passes : List ℕ → List BlockTree → Pass Found

@@ -1,4 +1,5 @@
--- What the functions that read tables say beside the rows of the table of passes: of drafts, of scales, and of what reading needs. No public contract needs it.
+-- What the functions that read tables say beside the rows of the table of passes: of drafts, of scales, and of what
+-- reading needs. No public contract needs it.
 use Rattle.std.specs.Prelude.{◌≡◌, ◌≢◌, ◌<◌, ◌≤◌, ◌-◌, ◌*◌, ◌/◌, ◌*ℤ◌, ◌^◌, ℕ, ℤ, pos, nat_abs, Bool, ◌&&◌, List, [], All, length, map, filter, flat_map, Option, IfSome, IsSome, true, slice_index_or}
 use Rattle.std.specs.Option.{option_map_or}
 use Rattle.maid_model.specs.declared.diagrams.Kind.{Kind}
@@ -27,11 +28,13 @@ use Rattle.net_build.specs.Table.{wide_row}
 
 -- the least number of decimals for which each of the numbers times ten to that power is whole
 abbrev pub IsScaleOf : List ℕ → List Token → ℕ → Type 0
-IsScaleOf text numbers scale = IsLeast (λ k. All (λ t. IsWholeBy k (token_bytes text t)) numbers) scale
+IsScaleOf text numbers scale =
+    IsLeast (λ k. All (λ t. IsWholeBy k (token_bytes text t)) numbers) scale
 
 -- these numbers to their scale
 abbrev pub scaled_pass : List ℕ → List Token → Pass Found
-scaled_pass text numbers = over (IsScaleOf text numbers) (λ scale. each (wide_row text scale) numbers)
+scaled_pass text numbers =
+    over (IsScaleOf text numbers) (λ scale. each (wide_row text scale) numbers)
 
 -- the decimal times 10^scale, where it has no more decimals than that
 abbrev pub value_at_scale : ℕ → Decimal → ℤ
@@ -50,13 +53,17 @@ pub record IsWeighed (decimals : List Decimal) (states : ℕ) (cells : List ℤ)
 
 -- the numerals of its potential's `data`
 abbrev pub numerals_in : List ℕ → Option BlockTree → List (List ℕ)
-numerals_in text potential = map (token_bytes text) (option_map_or (λ p. leaves_of (data_of text p)) potential [])
+numerals_in text potential =
+    map (token_bytes text) (option_map_or (λ p. leaves_of (data_of text p)) potential [])
 
 -- what is known of a node's table before the scale of utilities is: a chance node's weights, and a utility's values
 abbrev pub IsDraftOf : Kind → ℕ → ℕ → List (List ℕ) → Draft → Type 0
-IsDraftOf Chance rows states numerals (Cells cells) = (decimals : List Decimal) × AreDecimals numerals decimals × IsWeighed decimals states cells.items × (length decimals ≡ rows * states)
+IsDraftOf Chance rows states numerals (Cells cells) = (decimals : List Decimal)
+    × AreDecimals numerals decimals × IsWeighed decimals states cells.items
+    × (length decimals ≡ rows * states)
 IsDraftOf Decision rows states numerals (Cells cells) = cells.items ≡ []
-IsDraftOf Utility rows states numerals (Values decimals) = AreDecimals numerals decimals.items × (length decimals.items ≡ rows * states)
+IsDraftOf Utility rows states numerals (Values decimals) =
+    AreDecimals numerals decimals.items × (length decimals.items ≡ rows * states)
 IsDraftOf kind rows states numerals draft = ⊥
 
 -- the values that are still to be scaled
@@ -70,12 +77,14 @@ HasAtMost most draft = All (λ d. d.k ≤ most) (values_of draft)
 
 -- one of them has so many
 abbrev pub Reaches : ℕ → Draft → Type 0
-Reaches most draft = (i : ℕ) × (i < length (values_of draft)) × ((decimal_at (values_of draft) i).k ≡ most)
+Reaches most draft =
+    (i : ℕ) × (i < length (values_of draft)) × ((decimal_at (values_of draft) i).k ≡ most)
 
 -- a utility's values are whole to that scale, and within the limits
 abbrev pub FitsDraft : ℕ → Draft → Type 0
 FitsDraft scale (Cells cells) = Unit {0}
-FitsDraft scale (Values decimals) = All (λ d. d.k ≤ scale) decimals.items × All (Fits scale) decimals.items
+FitsDraft scale (Values decimals) =
+    All (λ d. d.k ≤ scale) decimals.items × All (Fits scale) decimals.items
 
 -- the cells to that scale
 abbrev pub finished : ℕ → Draft → List ℤ
@@ -84,15 +93,18 @@ finished scale (Values decimals) = map (value_at_scale scale) decimals.items
 
 -- the kind of the node of that name, a chance node's where there is none
 abbrev pub kind_in : NodeLists → List ℕ → Kind
-kind_in nodes name = slice_index_or (map (λ h. h.kind) nodes.heads) (place_among nodes.names name) Chance
+kind_in nodes name =
+    slice_index_or (map (λ h. h.kind) nodes.heads) (place_among nodes.names name) Chance
 
 -- a utility's potential
 abbrev pub has_values : List ℕ → NodeLists → BlockTree → Bool
-has_values text nodes block = is_potential block.kind && is_utility (kind_in nodes (block_name text block))
+has_values text nodes block =
+    is_potential block.kind && is_utility (kind_in nodes (block_name text block))
 
 -- the numbers of the utilities' potentials, in text order
 abbrev pub values_in : List ℕ → NodeLists → List BlockTree → List Token
-values_in text nodes blocks = flat_map (λ p. leaves_of (data_of text p)) (filter (has_values text nodes) blocks)
+values_in text nodes blocks =
+    flat_map (λ p. leaves_of (data_of text p)) (filter (has_values text nodes) blocks)
 
 -- what reading the tables needs: each node has states, and each chance node and utility its potential
 pub record CanRead (text : List ℕ) (heads : List Head) (links : LinkLists) : Type 0 where
@@ -100,14 +112,20 @@ pub record CanRead (text : List ℕ) (heads : List Head) (links : LinkLists) : T
   pub parents_len : length links.parents ≡ length heads
   pub potentials_len : length links.potentials ≡ length heads
   pub fit : AreLinks heads links.parents
-  pub own : (v : ℕ) → v < length heads → IfSome (potential_at links v) (λ p. IsBlockOf text p × (is_potential p.kind ≡ true))
-  pub there : (v : ℕ) → v < length heads → (head_at heads v).kind ≢ Decision → IsSome (potential_at links v)
+  pub own : (v : ℕ) → v < length heads
+      → IfSome (potential_at links v) (λ p. IsBlockOf text p × (is_potential p.kind ≡ true))
+  pub there :
+      (v : ℕ) → v < length heads → (head_at heads v).kind ≢ Decision → IsSome (potential_at links v)
 
 -- the draft of node v
 abbrev pub IsDraftAt : List ℕ → List Head → LinkLists → ℕ → Draft → Type 0
-IsDraftAt text heads links v draft = IsDraftOf (head_at heads v).kind (head_rows heads links.parents v) (head_at heads v).states (numerals_in text (potential_at links v)) draft
+IsDraftAt text heads links v draft = IsDraftOf (head_at heads v).kind
+    (head_rows heads links.parents v) (head_at heads v).states
+    (numerals_in text (potential_at links v)) draft
 
 -- the draft of each node
-pub record AreDrafts (text : List ℕ) (heads : List Head) (links : LinkLists) (drafts : List Draft) : Type 0 where
+pub record AreDrafts
+    (text : List ℕ) (heads : List Head) (links : LinkLists) (drafts : List Draft) : Type 0 where
   pub len : length drafts ≡ length heads
-  pub each : (v : ℕ) (d : Draft) → v < length drafts → IsDraftAt text heads links v (slice_index_or drafts v d)
+  pub each : (v : ℕ) (d : Draft) → v < length drafts
+      → IsDraftAt text heads links v (slice_index_or drafts v d)

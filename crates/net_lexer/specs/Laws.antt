@@ -15,7 +15,8 @@ Exclusive = (text : List ℕ) → IsExclusive (token_pass text)
 
 -- a text's token list is the only one
 abbrev pub OneList : Type 0
-OneList = (text : List ℕ) (tokens others : List Token) → IsTokens text tokens → IsTokens text others → tokens ≡ others
+OneList = (text : List ℕ) (tokens others : List Token) → IsTokens text tokens → IsTokens text others
+    → tokens ≡ others
 
 -- a text's fault is the only one
 abbrev pub OneFault : Type 0
@@ -23,8 +24,10 @@ OneFault = (text : List ℕ) → HasOneFault (token_pass text)
 
 -- each token of a text's list is a token of the text
 abbrev pub EachToken : Type 0
-EachToken = (text : List ℕ) (tokens : List Token) → IsTokens text tokens → All (IsTokenOf text) tokens
+EachToken =
+    (text : List ℕ) (tokens : List Token) → IsTokens text tokens → All (IsTokenOf text) tokens
 
 -- each token of a text's list ends before every later one begins
 abbrev pub InOrder : Type 0
-InOrder = (text : List ℕ) (tokens : List Token) → IsTokens text tokens → AllPairs (λ token later. token.end ≤ later.start) tokens
+InOrder = (text : List ℕ) (tokens : List Token) → IsTokens text tokens
+    → AllPairs (λ token later. token.end ≤ later.start) tokens

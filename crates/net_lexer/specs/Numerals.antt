@@ -14,7 +14,8 @@ is_point b = is_one_of (codes ".") b
 
 -- digits, at least one, with at most one point among, before or behind them
 abbrev pub is_decimal : List ℕ → Bool
-is_decimal bytes = list_all (λ b. is_digit b || is_point b) bytes && list_any is_digit bytes && nat_le (count_by is_point bytes) 1
+is_decimal bytes = list_all (λ b. is_digit b || is_point b) bytes && list_any is_digit bytes
+    && nat_le (count_by is_point bytes) 1
 
 -- digits, at least one
 abbrev pub are_digits : List ℕ → Bool
@@ -29,7 +30,8 @@ abbrev pub is_scaled : List ℕ → Bool
 is_scaled bytes = by_mark (position is_exponent_mark bytes) where
   by_mark : Option ℕ → Bool
   by_mark None = is_decimal bytes
-  by_mark (Some mark) = is_decimal (take mark bytes) && are_digits (without_sign (drop (mark + 1) bytes))
+  by_mark (Some mark) =
+      is_decimal (take mark bytes) && are_digits (without_sign (drop (mark + 1) bytes))
 
 -- A numeral: a sign or none, a decimal, and then nothing, or an e or E, a sign or none and digits.
 abbrev pub is_numeral : List ℕ → Bool

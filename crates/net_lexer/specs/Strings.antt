@@ -10,7 +10,9 @@ is_escape b c = is_backslash b && (is_quote c || is_backslash c)
 abbrev pub behind_quote : List ℕ → Option (List ℕ)
 behind_quote [] = None
 behind_quote (b ∷ []) = if is_quote b then Some [] else None
-behind_quote (b ∷ c ∷ bytes) = if is_quote b then Some (c ∷ bytes) else (if is_escape b c then behind_quote bytes else behind_quote (c ∷ bytes))
+behind_quote (b ∷ c ∷ bytes) = if is_quote b
+    then Some (c ∷ bytes)
+    else (if is_escape b c then behind_quote bytes else behind_quote (c ∷ bytes))
 
 -- a quote, and nothing behind the next quote that isn't escaped
 abbrev pub is_string : List ℕ → Bool
@@ -26,7 +28,8 @@ abbrev pub is_open_string : List ℕ → Bool
 is_open_string [] = false
 is_open_string (b ∷ bytes) = is_quote b && is_none (behind_quote bytes)
 
--- the bytes with escapes undone: a backslash and a following quote or backslash mean the second of them, and any other byte means itself
+-- the bytes with escapes undone: a backslash and a following quote or backslash mean the second of them, and any
+-- other byte means itself
 abbrev pub unescaped : List ℕ → List ℕ
 unescaped [] = []
 unescaped (b ∷ []) = b ∷ []

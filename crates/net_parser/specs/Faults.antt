@@ -26,7 +26,8 @@ abbrev pub IsWrong : List Lexeme → List Lexeme → Type 0
 IsWrong before [] = IsSentence before → ⊥
 IsWrong before (l ∷ after) = IsPossible (before ++ l ∷ []) → ⊥
 
--- Behind the tokens before, which are possible, the rest begins with the first impossible token, or is empty where the text ends too early.
+-- Behind the tokens before, which are possible, the rest begins with the first impossible token, or is empty where
+-- the text ends too early.
 pub record Stops (tokens before rest : List Lexeme) : Type 0 where
   pub all : tokens ≡ before ++ rest
   pub possible : IsPossible before
@@ -34,7 +35,8 @@ pub record Stops (tokens before rest : List Lexeme) : Type 0 where
 
 -- words that begin blocks of other profiles
 pub record IsForeignWord (l : Lexeme) : Type 0 where
-  pub is : IsWord (codes "continuous") l ⊎ IsWord (codes "function") l ⊎ IsWord (codes "class") l ⊎ IsWord (codes "instance") l
+  pub is : IsWord (codes "continuous") l ⊎ IsWord (codes "function") l ⊎ IsWord (codes "class") l
+      ⊎ IsWord (codes "instance") l
 
 -- such a word in the place of a block's first word, where the tokens before are a text
 pub record IsForeignBlock (before : List Lexeme) (l : Lexeme) : Type 0 where
@@ -48,13 +50,15 @@ pub record IsFunction (before : List Lexeme) (l : Lexeme) : Type 0 where
 
 -- model_nodes or model_data in the place of any other name
 pub record IsModelAttribute (before : List Lexeme) (l : Lexeme) : Type 0 where
-  pub place : (name : Lexeme) → IsName name → (IsModelName name → ⊥) → IsPossible (before ++ name ∷ [])
+  pub place :
+      (name : Lexeme) → IsName name → (IsModelName name → ⊥) → IsPossible (before ++ name ∷ [])
   pub word : IsModelName l
 
 -- what the impossible token is, behind those before
 abbrev pub IsUnsupported : List Lexeme → List Lexeme → Type 0
 IsUnsupported before [] = ⊥
-IsUnsupported before (l ∷ after) = IsForeignBlock before l ⊎ IsFunction before l ⊎ IsModelAttribute before l
+IsUnsupported before (l ∷ after) =
+    IsForeignBlock before l ⊎ IsFunction before l ⊎ IsModelAttribute before l
 
 -- a parenthesis in the place of a value
 pub record IsDeepList (before : List Lexeme) (l : Lexeme) : Type 0 where
@@ -77,7 +81,8 @@ rest_place end (l ∷ after) = l.token.start
 
 -- the tokens stop at that place, and the impossible token is such
 abbrev pub StopsAt : List ℕ → List Token → ℕ → (List Lexeme → List Lexeme → Type 0) → Type 0
-StopsAt text tokens at Is = (before rest : List Lexeme) × Stops (lexemes text tokens) before rest × (at ≡ rest_place (length text) rest) × Is before rest
+StopsAt text tokens at Is = (before rest : List Lexeme) × Stops (lexemes text tokens) before rest
+    × (at ≡ rest_place (length text) rest) × Is before rest
 
 -- The fault of a text's tokens.
 abbrev pub IsFault : List ℕ → List Token → ParseFault → Type 0

@@ -51,7 +51,8 @@ Name token = One (λ l. IsName l × (l.token ≡ token))
 abbrev mutual
   pub Value : ℕ → ValueTree → Rule
   Value depth (leaf token) = One (λ l. (is_leaf l.token.kind ≡ true) × (l.token ≡ token))
-  Value depth (list values) = λ from to. (0 < depth) × (Mark ParenOpen ▹ Values (depth - 1) values ▹ Mark ParenClose) from to
+  Value depth (list values) = λ from to.
+      (0 < depth) × (Mark ParenOpen ▹ Values (depth - 1) values ▹ Mark ParenClose) from to
 
   pub Values : ℕ → ValueTrees → Rule
   Values depth none = Empty
@@ -67,7 +68,8 @@ AttributeName true token = One (λ l. IsName l × (l.token ≡ token) × (IsMode
 
 -- Attribute = Name '=' Value ';'
 abbrev pub Attribute : Bool → AttributeTree → Rule
-Attribute potential a = AttributeName potential a.name ▹ Mark Equals ▹ Value 32 a.value ▹ Mark Semicolon
+Attribute potential a =
+    AttributeName potential a.name ▹ Mark Equals ▹ Value 32 a.value ▹ Mark Semicolon
 
 -- Body = '{' Attribute* '}'
 abbrev pub Body : Bool → List AttributeTree → Rule
@@ -86,7 +88,8 @@ Given names = Either (Absent names) (Mark Bar ▹ Each Name names) where
 
 -- PotentialHead = 'potential' '(' Name Given ')'
 abbrev pub PotentialHead : Token → List Token → Rule
-PotentialHead name given = Word (codes "potential") ▹ Mark ParenOpen ▹ Name name ▹ Given given ▹ Mark ParenClose
+PotentialHead name given =
+    Word (codes "potential") ▹ Mark ParenOpen ▹ Name name ▹ Given given ▹ Mark ParenClose
 
 -- what stands before the body; 'net' may stand before the first block's alone
 abbrev pub Head : Bool → BlockKind → List Token → Rule
@@ -103,7 +106,8 @@ is_potential kind = false
 
 -- Block = Head Body
 abbrev pub Block : Bool → BlockTree → Rule
-Block first block = Head first block.kind block.names ▹ Body (is_potential block.kind) block.attributes
+Block first block =
+    Head first block.kind block.names ▹ Body (is_potential block.kind) block.attributes
 
 -- Text = [ 'net' Body ] Block*
 abbrev pub Text : List BlockTree → Rule

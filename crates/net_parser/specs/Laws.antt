@@ -11,7 +11,8 @@ use Rattle.net_parser.specs.Owned.{IsBlockOf}
 
 -- tokens spell one tree at most
 abbrev pub OneTree : Type 0
-OneTree = (tokens : List Lexeme) (tree other : List BlockTree) → Spells tree tokens → Spells other tokens → tree ≡ other
+OneTree = (tokens : List Lexeme) (tree other : List BlockTree) → Spells tree tokens
+    → Spells other tokens → tree ≡ other
 
 -- tokens have a tree or a fault
 abbrev pub Covered : Type 0
@@ -27,4 +28,5 @@ OneFault = (text : List ℕ) (tokens : List Token) → HasOneFault (tree_pass te
 
 -- the blocks that the tokens of a text spell are made of these tokens
 abbrev pub OwnBlocks : Type 0
-OwnBlocks = (text : List ℕ) (tokens : List Token) (tree : List BlockTree) → IsTokens text tokens → Spells tree (lexemes text tokens) → All (IsBlockOf text) tree
+OwnBlocks = (text : List ℕ) (tokens : List Token) (tree : List BlockTree) → IsTokens text tokens
+    → Spells tree (lexemes text tokens) → All (IsBlockOf text) tree

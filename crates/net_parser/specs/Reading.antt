@@ -31,10 +31,15 @@ pub data Symbol : Type 0 where
 
 -- the kind of node block that a word begins
 abbrev pub node_kind : List ℕ → Option BlockKind
-node_kind word = if bytes_eq word (codes "node") then Some Node else (if bytes_eq word (codes "decision") then Some Decision else (if bytes_eq word (codes "utility") then Some Utility else None))
+node_kind word = if bytes_eq word (codes "node")
+    then Some Node
+    else (if bytes_eq word (codes "decision")
+    then Some Decision
+    else (if bytes_eq word (codes "utility") then Some Utility else None))
 
 abbrev pub is_foreign : List ℕ → Bool
-is_foreign word = bytes_eq word (codes "continuous") || bytes_eq word (codes "function") || bytes_eq word (codes "class") || bytes_eq word (codes "instance")
+is_foreign word = bytes_eq word (codes "continuous") || bytes_eq word (codes "function")
+    || bytes_eq word (codes "class") || bytes_eq word (codes "instance")
 
 abbrev pub is_model_name : List ℕ → Bool
 is_model_name word = bytes_eq word (codes "model_nodes") || bytes_eq word (codes "model_data")
@@ -81,18 +86,23 @@ abbrev pub next : Symbol → TokenKind → List ℕ → Option (List Symbol)
 next (mark kind) seen bytes = if same_kind kind seen then Some [] else None
 next name kinds.Word bytes = if is_name bytes then Some [] else None
 next node_word kinds.Word bytes = if is_some (node_kind bytes) then Some [] else None
-next (attribute_name potential) kinds.Word bytes = if may_name potential bytes then Some [] else None
+next (attribute_name potential) kinds.Word bytes =
+    if may_name potential bytes then Some [] else None
 next (attributes potential) kinds.BraceClose bytes = Some []
-next (attributes potential) kinds.Word bytes = if may_name potential bytes then Some (mark kinds.Equals ∷ value 32 ∷ mark kinds.Semicolon ∷ attributes potential ∷ []) else None
+next (attributes potential) kinds.Word bytes = if may_name potential bytes
+    then Some (mark kinds.Equals ∷ value 32 ∷ mark kinds.Semicolon ∷ attributes potential ∷ [])
+    else None
 next (value depth) kinds.Word bytes = Some []
 next (value depth) kinds.Text bytes = Some []
 next (value depth) kinds.Number bytes = Some []
-next (value depth) kinds.ParenOpen bytes = if nat_lt 0 depth then Some (values (depth - 1) ∷ []) else None
+next (value depth) kinds.ParenOpen bytes =
+    if nat_lt 0 depth then Some (values (depth - 1) ∷ []) else None
 next (values depth) kinds.ParenClose bytes = Some []
 next (values depth) kinds.Word bytes = Some (values depth ∷ [])
 next (values depth) kinds.Text bytes = Some (values depth ∷ [])
 next (values depth) kinds.Number bytes = Some (values depth ∷ [])
-next (values depth) kinds.ParenOpen bytes = if nat_lt 0 depth then Some (values (depth - 1) ∷ values depth ∷ []) else None
+next (values depth) kinds.ParenOpen bytes =
+    if nat_lt 0 depth then Some (values (depth - 1) ∷ values depth ∷ []) else None
 next given kinds.ParenClose bytes = Some []
 next given kinds.Bar bytes = Some (names ∷ [])
 next names kinds.ParenClose bytes = Some []
@@ -107,7 +117,8 @@ pub data Place : Type 0 where
 abbrev pub step : Place → Lexeme → Option (List Symbol)
 step start l = block_token true l.token.kind l.bytes
 step (within []) l = block_token false l.token.kind l.bytes
-step (within (symbol ∷ after)) l = option_map (λ symbols. symbols ++ after) (next symbol l.token.kind l.bytes)
+step (within (symbol ∷ after)) l =
+    option_map (λ symbols. symbols ++ after) (next symbol l.token.kind l.bytes)
 
 -- why a token may not stand in a place
 abbrev pub block_refusal : TokenKind → List ℕ → Stop
@@ -115,9 +126,12 @@ block_refusal kinds.Word bytes = if is_foreign bytes then Unsupported else Unexp
 block_refusal kind bytes = Unexpected
 
 abbrev pub refusal_at : Symbol → TokenKind → List ℕ → Stop
-refusal_at node_word kinds.Word bytes = if bytes_eq bytes (codes "function") then Unsupported else Unexpected
-refusal_at (attribute_name true) kinds.Word bytes = if is_model_name bytes then Unsupported else Unexpected
-refusal_at (attributes true) kinds.Word bytes = if is_model_name bytes then Unsupported else Unexpected
+refusal_at node_word kinds.Word bytes =
+    if bytes_eq bytes (codes "function") then Unsupported else Unexpected
+refusal_at (attribute_name true) kinds.Word bytes =
+    if is_model_name bytes then Unsupported else Unexpected
+refusal_at (attributes true) kinds.Word bytes =
+    if is_model_name bytes then Unsupported else Unexpected
 refusal_at (value depth) kinds.ParenOpen bytes = TooDeep
 refusal_at (values depth) kinds.ParenOpen bytes = TooDeep
 refusal_at symbol kind bytes = Unexpected
@@ -136,7 +150,8 @@ stop_at_end (within (symbol ∷ after)) = Some (Unexpected, [])
 -- the first token that may not stand where it does, with all behind it, and why
 abbrev pub stop : Place → List Lexeme → Option (Stop × List Lexeme)
 stop place [] = stop_at_end place
-stop place (l ∷ ls) = option_map_or (λ symbols. stop (within symbols) ls) (step place l) (Some (refusal place l, l ∷ ls))
+stop place (l ∷ ls) = option_map_or (λ symbols. stop (within symbols) ls) (step place l)
+    (Some (refusal place l, l ∷ ls))
 
 -- a stop that reading finds where the tokens are new
 abbrev pub IsStop : Stop → Option (Stop × List Lexeme) → List Lexeme → Type 0
@@ -144,7 +159,8 @@ IsStop NoMemory found new = Unit {0}
 IsStop why found new = found ≡ Some (why, new)
 
 -- What is read stops where what follows it stops, or there.
-abbrev pub IsReading : {A : Type 0} → Result A Stop → Option (Stop × List Lexeme) → (A → Option (Stop × List Lexeme)) → List Lexeme → Type 0
+abbrev pub IsReading : {A : Type 0} → Result A Stop → Option (Stop × List Lexeme)
+    → (A → Option (Stop × List Lexeme)) → List Lexeme → Type 0
 IsReading (Ok x) whole rest new = whole ≡ rest x
 IsReading (Err why) whole rest new = IsStop why whole new
 
@@ -155,7 +171,8 @@ is_next kind (l ∷ ls) = same_kind kind l.token.kind
 
 -- Reading of these symbols: what comes behind them is met behind what is read.
 abbrev pub Follows : {A : Type 0} → List Symbol → Result A Stop → List Lexeme → List Lexeme → Type 0
-Follows symbols result old new = (after : List Symbol) → IsReading result (stop (within (symbols ++ after)) old) (λ x. stop (within after) new) new
+Follows symbols result old new = (after : List Symbol) → IsReading result
+    (stop (within (symbols ++ after)) old) (λ x. stop (within after) new) new
 
 -- a word that begins a node block of that kind
 abbrev pub NodeWord : BlockKind → Rule

@@ -49,7 +49,8 @@ mutual
   read-marks (leaf t) after = refl
   read-marks (list values) after = rw (read-all_marks values (inl false ∷ after), append_none values) refl
 
-  read-all_marks : (values : ValueTrees) (after : List Mark) → read (all_marks values after) ≡ (append values (read after).0, (read after).1)
+  read-all_marks : (values : ValueTrees) (after : List Mark)
+      → read (all_marks values after) ≡ (append values (read after).0, (read after).1)
   read-all_marks none after = refl
   read-all_marks (more value values) after = rw (read-marks value (all_marks values after), read-all_marks values after) refl
 
@@ -61,10 +62,15 @@ pub back : (value : ValueTree) → first (read (marks value [])).0 ≡ value
 back value = rw (read-marks value []) refl
 
 abbrev pub value_code : Coded ValueTree
-value_code = code_by (List Mark) (coded_list (coded⊎ coded_bool token.the_row.coded)) (λ v. marks v []) (λ ms. first (read ms).0) back
+value_code = code_by (List Mark) (coded_list (coded⊎ coded_bool token.the_row.coded))
+    (λ v. marks v []) (λ ms. first (read ms).0) back
 
 abbrev pub attribute_code : Coded AttributeTree
-attribute_code = code_by (Token × ValueTree) (coded× token.the_row.coded value_code) (λ a. (a.name, a.value)) (λ p. record { name = p.0; value = p.1 }) (λ _. refl)
+attribute_code = code_by (Token × ValueTree) (coded× token.the_row.coded value_code)
+    (λ a. (a.name, a.value)) (λ p. record { name = p.0; value = p.1 }) (λ _. refl)
 
 abbrev pub block_code : Coded BlockTree
-block_code = code_by (BlockKind × (List Token × List AttributeTree)) (coded× kind.the_row.coded (coded× (coded_list token.the_row.coded) (coded_list attribute_code))) (λ b. (b.kind, (b.names, b.attributes))) (λ p. record { kind = p.0; names = p.1.0; attributes = p.1.1 }) (λ _. refl)
+block_code = code_by (BlockKind × (List Token × List AttributeTree))
+    (coded× kind.the_row.coded (coded× (coded_list token.the_row.coded)
+    (coded_list attribute_code))) (λ b. (b.kind, (b.names, b.attributes)))
+    (λ p. record { kind = p.0; names = p.1.0; attributes = p.1.1 }) (λ _. refl)

@@ -1,4 +1,5 @@
--- The text of a diagram: a line for each node block, and then a line for each potential, both in the order of the nodes.
+-- The text of a diagram: a line for each node block, and then a line for each potential, both in the order of the
+-- nodes.
 use Rattle.std.specs.Prelude.{ℕ, zero, suc, ◌-◌, ◌/◌, ◌%◌, ◌^◌, ◌==◌, ℤ, pos, negsuc, unsigned_abs, List, [], ◌∷◌, ◌++◌, length, map, replicate, codes, decimal, if◌then◌else◌}
 use Rattle.std.specs.List.{flat_map}
 use Rattle.maid_model.specs.declared.diagrams.Kind.{Kind}
@@ -30,7 +31,8 @@ agent_text agent = codes "agent = " ++ quoted agent ++ codes "; "
 abbrev pub owners_text : List (List ℕ) → List ℕ
 owners_text [] = codes "agents = (" ++ codes "); "
 owners_text (agent ∷ []) = agent_text agent
-owners_text (agent ∷ other ∷ more) = codes "agents = (" ++ parted quoted (agent ∷ other ∷ more) ++ codes "); "
+owners_text (agent ∷ other ∷ more) =
+    codes "agents = (" ++ parted quoted (agent ∷ other ∷ more) ++ codes "); "
 
 -- a chance node and a decision have states, and a decision and a utility have owners
 abbrev pub attributes_text : Kind → List (List ℕ) → List (List ℕ) → List ℕ
@@ -48,7 +50,10 @@ owner_names nodes names v = map (agent_name names) (owners_of nodes v)
 
 -- a node's block
 abbrev pub node_line : List NodeView → NamesView → ℕ → List ℕ
-node_line nodes names v = let node = node_at nodes v in line (kind_word node.kind ++ 32 ∷ name_of names v ++ body_text (attributes_text node.kind (labels_of names v) (owner_names nodes names v)))
+node_line nodes names v =
+    let node = node_at nodes v in
+    line (kind_word node.kind ++ 32 ∷ name_of names v
+    ++ body_text (attributes_text node.kind (labels_of names v) (owner_names nodes names v)))
 
 -- the names of the parents behind a bar; without parents there is no bar
 abbrev pub given_text : NamesView → List ℕ → List ℕ
@@ -62,7 +67,9 @@ padded width number = replicate (width - length (decimal number)) 48 ++ decimal 
 -- size / 10^k with the least number of decimals: while there are decimals, a nought at the end is dropped
 abbrev pub size_text : ℕ → ℕ → List ℕ
 size_text zero size = decimal size
-size_text (suc k) size = if size % 10 == 0 then size_text k (size / 10) else decimal (size / 10 ^ suc k) ++ 46 ∷ padded (suc k) (size % 10 ^ suc k)
+size_text (suc k) size = if size % 10 == 0
+    then size_text k (size / 10)
+    else decimal (size / 10 ^ suc k) ++ 46 ∷ padded (suc k) (size % 10 ^ suc k)
 
 -- a minus where the number is below nought
 abbrev pub sign_text : ℤ → List ℕ
@@ -81,18 +88,25 @@ numbers_text Utility decimals states rows cells = parted (value_text decimals) c
 
 -- the numbers of a chance node or a utility; a decision has no table
 abbrev pub table_text : Kind → ℕ → ℕ → ℕ → List ℤ → List ℕ
-table_text Chance decimals states rows cells = codes "data = (" ++ numbers_text Chance decimals states rows cells ++ codes "); "
+table_text Chance decimals states rows cells =
+    codes "data = (" ++ numbers_text Chance decimals states rows cells ++ codes "); "
 table_text Decision decimals states rows cells = []
-table_text Utility decimals states rows cells = codes "data = (" ++ numbers_text Utility decimals states rows cells ++ codes "); "
+table_text Utility decimals states rows cells =
+    codes "data = (" ++ numbers_text Utility decimals states rows cells ++ codes "); "
 
 -- a potential's head
 abbrev pub head_text : NamesView → ℕ → List ℕ → List ℕ
-head_text names v parents = codes "potential (" ++ name_of names v ++ given_text names parents ++ codes ")"
+head_text names v parents =
+    codes "potential (" ++ name_of names v ++ given_text names parents ++ codes ")"
 
 -- a node's potential
 abbrev pub potential_line : DiagramView → NamesView → ℕ → List ℕ
-potential_line d names v = let node = node_at d.nodes v in line (head_text names v node.parents ++ body_text (table_text node.kind d.decimals node.states (rows_of d.nodes v) node.cells))
+potential_line d names v =
+    let node = node_at d.nodes v in
+    line (head_text names v node.parents
+    ++ body_text (table_text node.kind d.decimals node.states (rows_of d.nodes v) node.cells))
 
 -- the text of a diagram
 unfoldable pub printed : DiagramView → NamesView → List ℕ
-printed d names = flat_map (node_line d.nodes names) (numbers_of d.nodes) ++ flat_map (potential_line d names) (numbers_of d.nodes)
+printed d names = flat_map (node_line d.nodes names) (numbers_of d.nodes)
+    ++ flat_map (potential_line d names) (numbers_of d.nodes)

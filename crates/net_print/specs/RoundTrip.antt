@@ -26,7 +26,8 @@ pub record IsPrintable (d : DiagramView) (names : NamesView) : Type 0 where
 
 -- the text has tokens, they spell a tree, and without a fault it stands for the diagram and the names
 abbrev pub ReadsAs : List ℕ → DiagramView → NamesView → Type 0
-ReadsAs text d names = (tokens : List Token) × (tree : List BlockTree) × IsTokens text tokens × Spells tree (lexemes text tokens) × all_passes text tree None × StandsFor text tree d names
+ReadsAs text d names = (tokens : List Token) × (tree : List BlockTree) × IsTokens text tokens
+    × Spells tree (lexemes text tokens) × all_passes text tree None × StandsFor text tree d names
 
 -- the printed text does
 abbrev pub ReadsBack : DiagramView → NamesView → Type 0
@@ -46,4 +47,6 @@ comment_lines comments = flat_map (λ words. line (37 ∷ words)) comments
 
 -- The round trip of a text behind such lines, which are read over.
 abbrev pub CommentedRoundTrip : Type 0
-CommentedRoundTrip = (comments : List (List ℕ)) → All IsOneLine comments → (d : DiagramView) (names : NamesView) → IsPrintable d names → ReadsAs (comment_lines comments ++ printed d names) d names
+CommentedRoundTrip = (comments : List (List ℕ)) → All IsOneLine comments
+    → (d : DiagramView) (names : NamesView) → IsPrintable d names
+    → ReadsAs (comment_lines comments ++ printed d names) d names

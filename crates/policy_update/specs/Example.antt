@@ -5,15 +5,30 @@ use Rattle.maid_model.specs.Views.{NodeView, DiagramView}
 
 -- a coin whose two sides are as likely
 abbrev pub coin : NodeView
-coin = record { kind = Chance; owner = 0; more = []; states = 2; parents = []; cells = pos 1 ∷ pos 1 ∷ [] }
+coin = record {
+  kind = Chance;
+  owner = 0;
+  more = [];
+  states = 2;
+  parents = [];
+  cells = pos 1 ∷ pos 1 ∷ [];
+}
 
 -- a decision of two states that sees these
 abbrev pub choice : ℕ → List ℕ → NodeView
-choice owner parents = record { kind = Decision; owner = owner; more = []; states = 2; parents = parents; cells = [] }
+choice owner parents =
+    record { kind = Decision; owner = owner; more = []; states = 2; parents = parents; cells = [] }
 
 -- what the first two nodes' states pay to an agent
 abbrev pub pay : ℕ → List ℤ → NodeView
-pay owner cells = record { kind = Utility; owner = owner; more = []; states = 1; parents = 0 ∷ 1 ∷ []; cells = cells }
+pay owner cells = record {
+  kind = Utility;
+  owner = owner;
+  more = [];
+  states = 1;
+  parents = 0 ∷ 1 ∷ [];
+  cells = cells;
+}
 
 -- an agent that takes both decisions is paid for being alike, or for the second state of the second decision
 abbrev pub paid : Bool → List ℤ
@@ -38,7 +53,11 @@ pennies = record {
 
 -- a right guess at a coin that is seen pays 1
 abbrev pub guessing : DiagramView
-guessing = record { nodes = coin ∷ choice 0 (0 ∷ []) ∷ pay 0 (pos 1 ∷ pos 0 ∷ pos 0 ∷ pos 1 ∷ []) ∷ []; agents = 1; decimals = 0 }
+guessing = record {
+  nodes = coin ∷ choice 0 (0 ∷ []) ∷ pay 0 (pos 1 ∷ pos 0 ∷ pos 0 ∷ pos 1 ∷ []) ∷ [];
+  agents = 1;
+  decimals = 0;
+}
 
 -- nothing is decided
 abbrev pub nothing : DiagramView

@@ -1,4 +1,5 @@
--- What refuses a diagram: the first that applies of a second owner of decisions, the weight bound, too large a run, and rounds that all raise.
+-- What refuses a diagram: the first that applies of a second owner of decisions, the weight bound, too large a run,
+-- and rounds that all raise.
 use Rattle.std.specs.Prelude.{◌≡◌, ◌≢◌, ◌^◌, ℕ, List, Option, Some, None}
 use Rattle.first_fault.specs.Passes.{Pass, ◌▸◌, rule}
 use Rattle.maid_model.specs.declared.answers.Ratio.{Ratio}
@@ -59,7 +60,8 @@ IsSmallEnough d = (size : Size) → IsTextSize d size → KeepsSizes size
 
 -- the run has these cells and this work, which pass a limit
 abbrev pub IsTooLarge : DiagramView → ℕ → ℕ → Type 0
-IsTooLarge d cells work = IsTextSize d (record { cells = cells; work = work }) × (KeepsSizes (record { cells = cells; work = work }) → ⊥)
+IsTooLarge d cells work = IsTextSize d (record { cells = cells; work = work })
+    × (KeepsSizes (record { cells = cells; work = work }) → ⊥)
 
 -- the run is small enough, or its size is found
 abbrev pub size_pass : DiagramView → Pass FaultView

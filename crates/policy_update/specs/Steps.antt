@@ -15,7 +15,8 @@ state_gain gains s = slice_index_or gains s (pos 0)
 
 -- these are the gains of one row, in a list with a number for each row and state, the state fastest
 abbrev pub AreGainsOfRow : List ℤ → ℕ → ℕ → List ℤ → Type 0
-AreGainsOfRow gains states row own = (s : ℕ) → s < states → state_gain own s ≡ gain_in gains states row s
+AreGainsOfRow gains states row own =
+    (s : ℕ) → s < states → state_gain own s ≡ gain_in gains states row s
 
 -- the choice in a row
 abbrev pub choice_in : List Row → ℕ → ℕ
@@ -24,7 +25,8 @@ choice_in rows row = (slice_index_or rows row no_row).choice
 -- as many rows as before, each improved by its own gains, and without worths
 pub record AreImproved (gain : ℕ → ℕ → ℤ) (states : ℕ) (before after : List Row) : Type 0 where
   pub count : length after ≡ length before
-  pub each : (row : ℕ) → row < length before → IsImproved (gain row) states (choice_in before row) (choice_in after row)
+  pub each : (row : ℕ) → row < length before
+      → IsImproved (gain row) states (choice_in before row) (choice_in after row)
   pub worthless : All (λ (r : Row). r.worth ≡ None) after
 
 -- so they are by the gains of such a list
@@ -33,7 +35,8 @@ AreImprovedBy gains states before after = AreImproved (gain_in gains states) sta
 
 -- row by row the choices are the same
 abbrev pub AreSameChoices : List Row → List Row → Type 0
-AreSameChoices rows others = (row : ℕ) → row < length others → choice_in rows row ≡ choice_in others row
+AreSameChoices rows others =
+    (row : ℕ) → row < length others → choice_in rows row ≡ choice_in others row
 
 -- what each state of the decision gains in a row against the profile
 abbrev pub gains_in : List NodeView → List RuleView → ℕ → ℕ → ℕ → ℤ
@@ -41,7 +44,8 @@ gains_in nodes p d row state = gain_at nodes p d state row
 
 -- these rows improve those of the answer, with all other rules as they stand
 abbrev pub Improves : List NodeView → List RuleView → AnswerView → List Row → Type 0
-Improves nodes p a rows = AreImproved (gains_in nodes p a.decision) (states_of nodes a.decision) a.rows rows
+Improves nodes p a rows =
+    AreImproved (gains_in nodes p a.decision) (states_of nodes a.decision) a.rows rows
 
 -- the decision at the place in text order is improved
 abbrev pub IsStepAt : List NodeView → ℕ → List RuleView → List RuleView → Type 0
@@ -49,10 +53,12 @@ IsStepAt nodes place p q = IsStep nodes p (slice_index_or (decisions_of nodes) p
 
 -- the first state in each row of each decision
 abbrev pub first_choices : List NodeView → List AnswerView
-first_choices nodes = map (λ v. record { decision = v; rows = replicate (rows_of nodes v) no_row }) (decisions_of nodes)
+first_choices nodes = map (λ v. record { decision = v; rows = replicate (rows_of nodes v) no_row })
+    (decisions_of nodes)
 
 -- the profile is that of these choices
-pub record IsPlan (nodes : List NodeView) (answers : List AnswerView) (p : List RuleView) : Type 0 where
+pub record IsPlan
+    (nodes : List NodeView) (answers : List AnswerView) (p : List RuleView) : Type 0 where
   pub choices : AreChoices nodes answers
   pub rules : p ≡ pure_profile nodes answers
 

@@ -27,7 +27,8 @@ pub record AreChoices (nodes : List NodeView) (answers : List AnswerView) : Type
   pub fits : All (FitsAnswer nodes) answers
   pub worthless : All TellsNoWorth answers
 
--- the choices before the first round that does not raise, how many rounds came before, and what the choices are worth to each agent
+-- the choices before the first round that does not raise, how many rounds came before, and what the choices are worth
+-- to each agent
 pub record IsUpdateOf (d : DiagramView) (updated : UpdatedView) : Type 0 where
   pub choices : AreChoices d.nodes updated.answers
   pub result : IsUpdated d.nodes updated.rounds (pure_profile d.nodes updated.answers)
@@ -46,10 +47,11 @@ IsLocallyOptimal d updated = IsLocalOptimum d.nodes (pure_profile d.nodes update
 
 -- q gives the agent a greater expected utility than p: fractions are compared by cross products
 abbrev pub IsBetter : List NodeView → ℕ → List RuleView → List RuleView → Type 0
-IsBetter nodes agent p q = (gain_of nodes p agent *ℤ pos (mass nodes q)) <ℤ (gain_of nodes q agent *ℤ pos (mass nodes p))
+IsBetter nodes agent p q =
+    (gain_of nodes p agent *ℤ pos (mass nodes q)) <ℤ (gain_of nodes q agent *ℤ pos (mass nodes p))
 
 -- each round that raises makes the expected utility of the decisions' agent greater
 abbrev pub RoundsRaise : List NodeView → Type 0
-RoundsRaise nodes =
-    (rounds d : ℕ) (p q : List RuleView) → IsDecision nodes d → IsReachedAfter nodes rounds p → IsReachedAfter nodes (suc rounds) q
+RoundsRaise nodes = (rounds d : ℕ) (p q : List RuleView) → IsDecision nodes d
+    → IsReachedAfter nodes rounds p → IsReachedAfter nodes (suc rounds) q
     → IsBetter nodes (agent_of nodes d) p q

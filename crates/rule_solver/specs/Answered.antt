@@ -5,15 +5,22 @@ use Rattle.maid_model.specs.Views.{NodeView, RuleView, AnswerView}
 use Rattle.maid_model.specs.Nodes.{states_of, rows_of}
 use Rattle.maid_model.specs.Answers.{FitsAnswer, IsAnswerAt, IsAnswerRow, IsReduced, no_row, pure_profile}
 
--- a row for each choice of the parents' states, each answered against the base, with choices in range and worths in lowest terms
-pub record IsAnsweredBy (nodes : List NodeView) (decimals : ℕ) (base : List RuleView) (d : ℕ) (rows : List Row) : Type 0 where
-  pub count : length rows ≡ rows_of nodes d
-  pub each : (row : ℕ) → row < rows_of nodes d → IsAnswerRow nodes decimals base d row (slice_index_or rows row no_row)
-  pub choices : All (λ r. r.choice < states_of nodes d) rows
-  pub worths : All (λ r. IfSome r.worth IsReduced) rows
+-- a row for each choice of the parents' states, each answered against the base, with choices in range and worths in
+-- lowest terms
+pub record IsAnsweredBy
+    (nodes : List NodeView) (decimals : ℕ) (base : List RuleView) (d : ℕ) (rows : List Row) : Type 0
+  where
+    pub count : length rows ≡ rows_of nodes d
+    pub each : (row : ℕ) → row < rows_of nodes d
+        → IsAnswerRow nodes decimals base d row (slice_index_or rows row no_row)
+    pub choices : All (λ r. r.choice < states_of nodes d) rows
+    pub worths : All (λ r. IfSome r.worth IsReduced) rows
 
 -- the decisions of the list are answered in its order, each against its base in the answered rules
-pub record AnswersAll (nodes : List NodeView) (decimals : ℕ) (placed : List ℕ) (answers : List AnswerView) : Type 0 where
-  pub follow : map (λ a. a.decision) answers ≡ placed
-  pub fits : All (FitsAnswer nodes) answers
-  pub each : All (λ a. IsAnswerAt nodes decimals (pure_profile nodes answers) a.decision a.rows) answers
+pub record AnswersAll
+    (nodes : List NodeView) (decimals : ℕ) (placed : List ℕ) (answers : List AnswerView) : Type 0
+  where
+    pub follow : map (λ a. a.decision) answers ≡ placed
+    pub fits : All (FitsAnswer nodes) answers
+    pub each :
+        All (λ a. IsAnswerAt nodes decimals (pure_profile nodes answers) a.decision a.rows) answers

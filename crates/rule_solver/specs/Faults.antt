@@ -54,7 +54,8 @@ IsSmallEnough d = (size : Size) → IsRunSize d size → KeepsSizes size
 
 -- the run has these cells and this work, which pass a limit
 abbrev pub IsTooLarge : DiagramView → ℕ → ℕ → Type 0
-IsTooLarge d cells work = IsRunSize d (record { cells = cells; work = work }) × (KeepsSizes (record { cells = cells; work = work }) → ⊥)
+IsTooLarge d cells work = IsRunSize d (record { cells = cells; work = work })
+    × (KeepsSizes (record { cells = cells; work = work }) → ⊥)
 
 -- the run is small enough, or its size is found
 abbrev pub size_pass : DiagramView → Pass FaultView

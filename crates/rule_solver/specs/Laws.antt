@@ -9,4 +9,6 @@ use Rattle.rule_solver.specs.Rooms.{HasRoom}
 
 -- where a run's greatest cells keep the limit, the plans of each decision and of each utility do
 abbrev pub MeasuredPlansHaveRoom : Type 0
-MeasuredPlansHaveRoom = (nodes : List NodeView) (order : List ℕ) (size : Size) → IsRelianceOrder nodes order → IsSizeOfRun nodes order size → size.cells ≤ MOST_PLAN_CELLS → HasRoom nodes MOST_PLAN_CELLS
+MeasuredPlansHaveRoom = (nodes : List NodeView) (order : List ℕ) (size : Size)
+    → IsRelianceOrder nodes order → IsSizeOfRun nodes order size → size.cells ≤ MOST_PLAN_CELLS
+    → HasRoom nodes MOST_PLAN_CELLS

@@ -6,14 +6,16 @@ use Rattle.factor_core.specs.Operations.{cells_by}
 use Rattle.plan_sums.specs.Laws.{IsCellMap}
 use Rattle.plan_sums.specs.Plans.{gain_cells}
 
-pub gain_numbers : IsCellMap (cells_by gain_kind (λ w. gain_of (pos w)) gain_of) gain_cells (λ a. a.0)
+pub gain_numbers :
+    IsCellMap (cells_by gain_kind (λ w. gain_of (pos w)) gain_of) gain_cells (λ a. a.0)
 gain_numbers = record {
   ring = record { nought = refl; unit = refl; plus = λ a b. refl; times = λ a b. refl };
   weight = λ w. refl;
   value = λ v. refl;
 }
 
-pub small_gain_numbers : IsCellMap (cells_by small_gain_kind (λ w. small_gain_of (pos w)) small_gain_of) gain_cells (λ a. a.0)
+pub small_gain_numbers : IsCellMap
+    (cells_by small_gain_kind (λ w. small_gain_of (pos w)) small_gain_of) gain_cells (λ a. a.0)
 small_gain_numbers = record {
   ring = record { nought = refl; unit = refl; plus = λ a b. refl; times = λ a b. refl };
   weight = λ w. refl;

@@ -10,10 +10,16 @@ abbrev pub gain_there : List ℤ → List NodeView → ℕ → World → ℤ
 gain_there gains nodes d q = slice_index_or gains (cell_of nodes d q) (pos 0)
 
 -- each gain is greater by the table's number times the factor
-pub record AddsTable (nodes : List NodeView) (d : ℕ) (number : World → ℤ) (factor : ℕ) (before after : List ℤ) : Type 0 where
+pub record AddsTable
+    (nodes : List NodeView) (d : ℕ) (number : World → ℤ) (factor : ℕ) (before after : List ℤ) : Type
+    0 where
   pub len : length after ≡ length before
-  pub each : (q : World) → InRange (states_of nodes) q → gain_there after nodes d q ≡ gain_there before nodes d q +ℤ (number q *ℤ pos factor)
+  pub each : (q : World) → InRange (states_of nodes) q
+      → gain_there after nodes d q ≡ gain_there before nodes d q +ℤ (number q *ℤ pos factor)
 
 -- each mass is the table's number, of which none is below nought, times the factor
-pub record PutsTable (nodes : List NodeView) (d : ℕ) (number : World → ℤ) (factor : ℕ) (after : List ℕ) : Type 0 where
-  pub each : (q : World) → InRange (states_of nodes) q → slice_index after (row_of nodes d q) ≡ nat_abs (number q) * factor
+pub record PutsTable
+    (nodes : List NodeView) (d : ℕ) (number : World → ℤ) (factor : ℕ) (after : List ℕ) : Type 0
+  where
+    pub each : (q : World) → InRange (states_of nodes) q
+        → slice_index after (row_of nodes d q) ≡ nat_abs (number q) * factor

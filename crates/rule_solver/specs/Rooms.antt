@@ -20,7 +20,8 @@ pub record HasRoomAt (nodes : List NodeView) (d cells : ℕ) : Type 0 where
 
 -- and those of all utilities' worths
 abbrev pub HasRoomForWorths : List NodeView → ℕ → Type 0
-HasRoomForWorths nodes cells = (u : ℕ) → u < length nodes → (node_at nodes u).kind ≡ Utility → HasAtMost nodes (worth_plan u) cells
+HasRoomForWorths nodes cells = (u : ℕ) → u < length nodes → (node_at nodes u).kind ≡ Utility
+    → HasAtMost nodes (worth_plan u) cells
 
 -- so do all plans of a run
 pub record HasRoom (nodes : List NodeView) (cells : ℕ) : Type 0 where

@@ -19,26 +19,38 @@ use Rattle.rule_solver.specs.Totals.{HasTotals}
 
 -- what a state gains in a row, and the row's mass, in the part of the decision's scope
 abbrev pub scope_gain : List NodeView → List RuleView → ℕ → ℕ → ℕ → ℤ
-scope_gain nodes p d state row = gain_at (scope_part nodes d) (rules_in_scope nodes p d) (place_in_scope nodes d) state row
+scope_gain nodes p d state row =
+    gain_at (scope_part nodes d) (rules_in_scope nodes p d) (place_in_scope nodes d) state row
 
 abbrev pub scope_mass : List NodeView → List RuleView → ℕ → ℕ → ℤ
-scope_mass nodes p d row = mass_at (scope_part nodes d) (rules_in_scope nodes p d) (place_in_scope nodes d) row
+scope_mass nodes p d row =
+    mass_at (scope_part nodes d) (rules_in_scope nodes p d) (place_in_scope nodes d) row
 
 -- a gain for each row and state, the state fastest, and a mass for each row: those in the part of the decision's scope
-pub record IsRowSums (nodes : List NodeView) (p : List RuleView) (d : ℕ) (gains : List ℤ) (masses : List ℕ) : Type 0 where
-  pub gain_count : length gains ≡ rows_of nodes d * states_of nodes d
-  pub mass_count : length masses ≡ rows_of nodes d
-  pub gain : (state row : ℕ) → state < states_of nodes d → row < rows_of nodes d → gain_in gains (states_of nodes d) row state ≡ scope_gain nodes p d state row
-  pub mass_there : (row : ℕ) → row < rows_of nodes d → pos (slice_index masses row) ≡ scope_mass nodes p d row
+pub record IsRowSums
+    (nodes : List NodeView) (p : List RuleView) (d : ℕ) (gains : List ℤ) (masses : List ℕ) : Type 0
+  where
+    pub gain_count : length gains ≡ rows_of nodes d * states_of nodes d
+    pub mass_count : length masses ≡ rows_of nodes d
+    pub gain : (state row : ℕ) → state < states_of nodes d → row < rows_of nodes d
+        → gain_in gains (states_of nodes d) row state ≡ scope_gain nodes p d state row
+    pub mass_there :
+        (row : ℕ) → row < rows_of nodes d → pos (slice_index masses row) ≡ scope_mass nodes p d row
 
 -- the gains keep the weight bound, and the masses the P of the scope
-pub record KeepsRoom (nodes : List NodeView) (d : ℕ) (gains : List ℤ) (masses : List ℕ) : Type 0 where
-  pub gain : (i : ℕ) → i < length gains → nat_abs (slice_index_or gains i (pos 0)) ≤ scope_product nodes d * greatest_of nodes (goals_of nodes d)
+pub record KeepsRoom
+    (nodes : List NodeView) (d : ℕ) (gains : List ℤ) (masses : List ℕ) : Type 0 where
+  pub gain : (i : ℕ) → i < length gains
+      → nat_abs (slice_index_or gains i (pos 0))
+      ≤ scope_product nodes d * greatest_of nodes (goals_of nodes d)
   pub mass_there : (row : ℕ) → row < length masses → slice_index masses row ≤ scope_product nodes d
 
 -- ---- on the way; only private functions cite the rest
--- a decision and a profile whose other rules are small, within the bound, with the totals of all nodes and the decision's scope
-pub record IsSetting (d : DiagramView) (p : List RuleView) (decision : ℕ) (totals : List ℕ) (scope : NodeSet) : Type 0 where
+-- a decision and a profile whose other rules are small, within the bound, with the totals of all nodes and the
+-- decision's scope
+pub record IsSetting
+    (d : DiagramView) (p : List RuleView) (decision : ℕ) (totals : List ℕ) (scope : NodeSet) : Type
+    0 where
   pub is_diagram : IsDiagram d
   pub is_decision : IsDecision d.nodes decision
   pub profile : IsProfile d.nodes p
@@ -48,27 +60,41 @@ pub record IsSetting (d : DiagramView) (p : List RuleView) (decision : ℕ) (tot
   pub is_scope : (v : ℕ) → IsIn scope v ↔ Contains (scope_of d.nodes decision) v
 
 -- a mass for each row
-pub record HasMasses (d : DiagramView) (p : List RuleView) (decision : ℕ) (masses : List ℕ) : Type 0 where
+pub record HasMasses
+    (d : DiagramView) (p : List RuleView) (decision : ℕ) (masses : List ℕ) : Type 0 where
   pub count : length masses ≡ rows_of d.nodes decision
-  pub each : (q : World) → InRange (states_of d.nodes) q → pos (slice_index masses (row_of d.nodes decision q)) ≡ scope_mass d.nodes p decision (row_of d.nodes decision q)
-  pub small : (q : World) → InRange (states_of d.nodes) q → slice_index masses (row_of d.nodes decision q) ≤ scope_product d.nodes decision
+  pub each : (q : World) → InRange (states_of d.nodes) q
+      → pos (slice_index masses (row_of d.nodes decision q))
+      ≡ scope_mass d.nodes p decision (row_of d.nodes decision q)
+  pub small : (q : World) → InRange (states_of d.nodes) q
+      → slice_index masses (row_of d.nodes decision q) ≤ scope_product d.nodes decision
 
 -- what one goal gives to a gain: the sum of its plan, times the totals of the scope's nodes that the plan lacks
 abbrev pub goal_part : List NodeView → List RuleView → ℕ → ℕ → World → ℤ
-goal_part nodes p d u q = plan_sum gain_cells nodes p (gain_plan nodes d u) q *ℤ pos (missing_in nodes p (scope_of nodes d) (gain_plan nodes d u))
+goal_part nodes p d u q = plan_sum gain_cells nodes p (gain_plan nodes d u) q
+    *ℤ pos (missing_in nodes p (scope_of nodes d) (gain_plan nodes d u))
 
 -- each gain is what these goals give
-pub record HasGoals (nodes : List NodeView) (p : List RuleView) (d : ℕ) (goals : List ℕ) (gains : List ℤ) : Type 0 where
-  pub count : length gains ≡ rows_of nodes d * states_of nodes d
-  pub each : (q : World) → InRange (states_of nodes) q → gain_there gains nodes d q ≡ sum_each (λ u. goal_part nodes p d u q) goals
-  pub small : (q : World) → InRange (states_of nodes) q → nat_abs (gain_there gains nodes d q) ≤ scope_product nodes d * greatest_of nodes goals
+pub record HasGoals
+    (nodes : List NodeView) (p : List RuleView) (d : ℕ) (goals : List ℕ) (gains : List ℤ) : Type 0
+  where
+    pub count : length gains ≡ rows_of nodes d * states_of nodes d
+    pub each : (q : World) → InRange (states_of nodes) q
+        → gain_there gains nodes d q ≡ sum_each (λ u. goal_part nodes p d u q) goals
+    pub small : (q : World) → InRange (states_of nodes) q
+        → nat_abs (gain_there gains nodes d q) ≤ scope_product nodes d * greatest_of nodes goals
 
 -- a gain for each row and state, with room for what this goal gives
 pub record HasRoomFor (d : DiagramView) (decision goal : ℕ) (gains : List ℤ) : Type 0 where
   pub count : length gains ≡ rows_of d.nodes decision * states_of d.nodes decision
-  pub room : (q : World) → InRange (states_of d.nodes) q → nat_abs (gain_there gains d.nodes decision q) + scope_product d.nodes decision * greatest_abs (node_at d.nodes goal).cells ≤ greatest_number
+  pub room : (q : World) → InRange (states_of d.nodes) q
+      → nat_abs (gain_there gains d.nodes decision q)
+      + scope_product d.nodes decision * greatest_abs (node_at d.nodes goal).cells
+      ≤ greatest_number
 
 -- each gain is greater by what the goal gives
-pub record AddsGoal (nodes : List NodeView) (p : List RuleView) (d goal : ℕ) (before after : List ℤ) : Type 0 where
+pub record AddsGoal
+    (nodes : List NodeView) (p : List RuleView) (d goal : ℕ) (before after : List ℤ) : Type 0 where
   pub count : length after ≡ length before
-  pub each : (q : World) → InRange (states_of nodes) q → gain_there after nodes d q ≡ gain_there before nodes d q +ℤ goal_part nodes p d goal q
+  pub each : (q : World) → InRange (states_of nodes) q
+      → gain_there after nodes d q ≡ gain_there before nodes d q +ℤ goal_part nodes p d goal q

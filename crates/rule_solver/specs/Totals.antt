@@ -14,4 +14,5 @@ pub record HasTotals (nodes : List NodeView) (p : List RuleView) (totals : List 
 
 -- the product of the listed totals of the set's members
 abbrev pub product_in : List ℕ → NodeSet → ℕ
-product_in totals set = nat_product_over (λ v. if holds set v then slice_index totals v else 1) (range_with_len 0 (length totals))
+product_in totals set = nat_product_over (λ v. if holds set v then slice_index totals v else 1)
+    (range_with_len 0 (length totals))

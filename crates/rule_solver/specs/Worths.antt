@@ -18,19 +18,28 @@ use Rattle.rule_solver.specs.Totals.{HasTotals}
 
 -- the worth is what the utility's plan sums to
 abbrev pub IsWorth : List NodeView → List RuleView → ℕ → ℤ → Type 0
-IsWorth nodes p u worth = (q : World) → InRange (states_of nodes) q → worth ≡ plan_sum gain_cells nodes p (worth_plan u) q
+IsWorth nodes p u worth =
+    (q : World) → InRange (states_of nodes) q → worth ≡ plan_sum gain_cells nodes p (worth_plan u) q
 
 -- the list has the worth of each utility
 pub record HasWorths (nodes : List NodeView) (p : List RuleView) (worths : List ℤ) : Type 0 where
   pub count : length worths ≡ length nodes
-  pub each : (u : ℕ) → u < length nodes → (node_at nodes u).kind ≡ Utility → IsWorth nodes p u (slice_index_or worths u (pos 0))
+  pub each : (u : ℕ) → u < length nodes → (node_at nodes u).kind ≡ Utility
+      → IsWorth nodes p u (slice_index_or worths u (pos 0))
 
--- what a node gives to an agent's gain: a utility of the agent its worth times the totals of the scope's nodes that its plan lacks
+-- what a node gives to an agent's gain: a utility of the agent its worth times the totals of the scope's nodes that
+-- its plan lacks
 abbrev pub gain_given : List NodeView → List RuleView → ℕ → List ℤ → ℕ → ℤ
-gain_given nodes p agent worths v = if is_utility_of nodes agent v then slice_index_or worths v (pos 0) *ℤ pos (missing_in nodes p (scope_for nodes agent) (worth_plan v)) else pos 0
+gain_given nodes p agent worths v = if is_utility_of nodes agent v
+    then slice_index_or worths v (pos 0)
+    *ℤ pos (missing_in nodes p (scope_for nodes agent) (worth_plan v))
+    else pos 0
 
--- an agent and a profile of pure rules, within the bound, with the totals of all nodes, the utilities' worths and the agent's scope
-pub record IsStake (d : DiagramView) (p : List RuleView) (agent : ℕ) (totals : List ℕ) (worths : List ℤ) (scope : NodeSet) : Type 0 where
+-- an agent and a profile of pure rules, within the bound, with the totals of all nodes, the utilities' worths and the
+-- agent's scope
+pub record IsStake
+    (d : DiagramView) (p : List RuleView) (agent : ℕ) (totals : List ℕ) (worths : List ℤ)
+    (scope : NodeSet) : Type 0 where
   pub is_diagram : IsDiagram d
   pub within : agent < d.agents
   pub profile : IsProfile d.nodes p
@@ -42,7 +51,8 @@ pub record IsStake (d : DiagramView) (p : List RuleView) (agent : ℕ) (totals :
 
 -- the agent's gain in the part of its scope
 abbrev pub scope_gain_for : List NodeView → List RuleView → ℕ → ℤ
-scope_gain_for nodes p agent = gain_of (scope_part_for nodes agent) (rules_in_scope_for nodes p agent) agent
+scope_gain_for nodes p agent =
+    gain_of (scope_part_for nodes agent) (rules_in_scope_for nodes p agent) agent
 
 -- so many cells are room for the plans of all utilities' worths, and no fewer are
 pub record IsLeastRoom (nodes : List NodeView) (cells : ℕ) : Type 0 where

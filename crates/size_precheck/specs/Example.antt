@@ -5,7 +5,8 @@ use Rattle.maid_model.specs.declared.diagrams.Kind.TheVariants.{Chance, Decision
 use Rattle.maid_model.specs.Views.{NodeView, DiagramView}
 
 abbrev pub node_of : Kind → ℕ → List ℕ → List ℤ → NodeView
-node_of kind states parents cells = record { kind = kind; owner = 0; more = []; states = states; parents = parents; cells = cells }
+node_of kind states parents cells =
+    record { kind = kind; owner = 0; more = []; states = states; parents = parents; cells = cells }
 
 -- four cells of one
 abbrev pub ones : List ℤ
@@ -22,7 +23,11 @@ square_nodes =
     ∷ []
 
 abbrev pub square_diagram : Bool → DiagramView
-square_diagram twice = record { nodes = square_nodes ++ (if twice then node_of Utility 1 (2 ∷ 3 ∷ []) ones ∷ [] else []); agents = 1; decimals = 0 }
+square_diagram twice = record {
+  nodes = square_nodes ++ (if twice then node_of Utility 1 (2 ∷ 3 ∷ []) ones ∷ [] else []);
+  agents = 1;
+  decimals = 0;
+}
 
 -- a chance node, a decision that sees it, and a utility over both
 abbrev pub sighted_diagram : DiagramView
@@ -34,4 +39,8 @@ sighted_diagram = record {
 
 -- a decision of 16 states that 15 others see
 abbrev pub star_diagram : DiagramView
-star_diagram = record { nodes = node_of Decision 16 [] [] ∷ replicate 15 (node_of Decision 16 (0 ∷ []) []); agents = 1; decimals = 0 }
+star_diagram = record {
+  nodes = node_of Decision 16 [] [] ∷ replicate 15 (node_of Decision 16 (0 ∷ []) []);
+  agents = 1;
+  decimals = 0;
+}

@@ -55,7 +55,8 @@ joint_at joints y = slice_index_or joints y no_joint
 -- a table more, after some tables and some nodes have left
 pub record IsPut (table : Table) (Gone Out : ℕ → Type 0) (before after : Joint) : Type 0 where
   pub set : (u : ℕ) → IsIn after.set u ↔ ((IsIn before.set u ⊎ IsIn table.scope u) × (Out u → ⊥))
-  pub tables : (x : ℕ) → IsIn after.tables x ↔ ((IsIn before.tables x × (Gone x → ⊥)) ⊎ (x ≡ table.tag))
+  pub tables :
+      (x : ℕ) → IsIn after.tables x ↔ ((IsIn before.tables x × (Gone x → ⊥)) ⊎ (x ≡ table.tag))
 
 -- P holds of each element, or of some
 abbrev pub Each : {X : Type 0} → (X → Type 0) → List X → Type 0
@@ -84,29 +85,37 @@ pub record AreLive (Waiting : ℕ → Type 0) (live : List Table) : Type 0 where
 
 -- the cells counted at y are those of its joined set
 abbrev pub IsCounted : List ℕ → List Joint → List ℕ → ℕ → Type 0
-IsCounted states joints cells y = slice_index cells y ≡ counted_over states (holds (joint_at joints y).set)
+IsCounted states joints cells y =
+    slice_index cells y ≡ counted_over states (holds (joint_at joints y).set)
 
 -- the scopes of these tables
 abbrev pub tests_of : List Table → List (ℕ → Bool)
 tests_of live = map (λ t. holds t.scope) live
 
 -- what is known of the nodes that wait is right for these live tables
-pub record Stands (states : List ℕ) (Waiting : ℕ → Type 0) (tables : List Table) (joints : List Joint) (cells : List ℕ) : Type 0 where
+pub record Stands
+    (states : List ℕ) (Waiting : ℕ → Type 0) (tables : List Table) (joints : List Joint)
+    (cells : List ℕ) : Type 0 where
   pub live : AreLive Waiting tables
   pub tells : (y : ℕ) → Waiting y → Tells tables y (joint_at joints y)
   pub counted : (y : ℕ) → Waiting y → IsCounted states joints cells y
 
 -- what a step at v makes of these live tables, after which v waits no more
-pub record IsStep (nodes : List NodeView) (states : List ℕ) (Waiting : ℕ → Type 0) (v : ℕ) (before : List Table) (joints : List Joint) (counts : List ℕ) (made : Made) : Type 0 where
+pub record IsStep
+    (nodes : List NodeView) (states : List ℕ) (Waiting : ℕ → Type 0) (v : ℕ) (before : List Table)
+    (joints : List Joint) (counts : List ℕ) (made : Made) : Type 0 where
   pub after : List Table
   pub stands : Stands states Waiting after joints counts
   pub scopes : tests_of after ≡ scopes_one v (tests_of before)
   pub cells : made.cells ≡ counted_cells nodes (joined_without v (holding v (tests_of before)))
-  pub work : made.work ≡ stopped (counted_cells nodes (joined_set v (tests_of before)) * length (holding v (tests_of before)))
+  pub work : made.work ≡ stopped (counted_cells nodes (joined_set v (tests_of before))
+      * length (holding v (tests_of before)))
   pub joined : made.tables ≡ length (holding v (tests_of before))
 
 -- before the first step: the joints are right for tables of these scopes, which are counted
-pub record IsStarted (nodes : List NodeView) (states : List ℕ) (Waiting : ℕ → Type 0) (scopes : List (ℕ → Bool)) (start : Start) : Type 0 where
+pub record IsStarted
+    (nodes : List NodeView) (states : List ℕ) (Waiting : ℕ → Type 0) (scopes : List (ℕ → Bool))
+    (start : Start) : Type 0 where
   pub are_states : AreStates nodes states
   pub tables : List Table
   pub are_live : AreLive Waiting tables
@@ -116,11 +125,14 @@ pub record IsStarted (nodes : List NodeView) (states : List ℕ) (Waiting : ℕ 
   pub cells : start.cells ≡ stopped (sum_by (λ s. counted_cells nodes s) scopes)
 
 -- after the last step: the steps are greedy, and what they made is counted
-pub record IsRun (nodes : List NodeView) (Item : ℕ → Type 0) (scopes : List (ℕ → Bool)) (run : Run) : Type 0 where
-  pub greedy : IsGreedy nodes Item scopes run.steps.items
-  pub live : run.live ≡ length (scopes_after run.steps.items scopes)
-  pub cells : run.cells ≡ stopped (sum_by (λ s. counted_cells nodes s) scopes + made_cells nodes run.steps.items scopes)
-  pub work : run.work ≡ stopped (steps_work nodes run.steps.items scopes)
+pub record IsRun
+    (nodes : List NodeView) (Item : ℕ → Type 0) (scopes : List (ℕ → Bool)) (run : Run) : Type 0
+  where
+    pub greedy : IsGreedy nodes Item scopes run.steps.items
+    pub live : run.live ≡ length (scopes_after run.steps.items scopes)
+    pub cells : run.cells ≡ stopped (sum_by (λ s. counted_cells nodes s) scopes
+        + made_cells nodes run.steps.items scopes)
+    pub work : run.work ≡ stopped (steps_work nodes run.steps.items scopes)
 
 -- ---- lists of what waits
 -- each number is less than those after it
@@ -137,8 +149,10 @@ pub record IsListOf (set : NodeSet) (list : List ℕ) : Type 0 where
 -- the place of the first of the list with fewest cells
 pub record IsFewestAt (list : List ℕ) (cells : List ℕ) (place : ℕ) : Type 0 where
   pub within : place < length list
-  pub fewest : (k : ℕ) → k < length list → slice_index cells (slice_index list place) ≤ slice_index cells (slice_index list k)
-  pub first : (k : ℕ) → k < place → slice_index cells (slice_index list place) < slice_index cells (slice_index list k)
+  pub fewest : (k : ℕ) → k < length list
+      → slice_index cells (slice_index list place) ≤ slice_index cells (slice_index list k)
+  pub first : (k : ℕ) → k < place
+      → slice_index cells (slice_index list place) < slice_index cells (slice_index list k)
 
 -- ---- first tables
 -- the scope of a chance or decision node's table, as `plan_sums` has it: the node and its parents

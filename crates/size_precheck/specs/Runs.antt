@@ -8,7 +8,8 @@ use Rattle.maid_model.specs.Bounds.{stopped}
 use Rattle.size_precheck.specs.Sizes.{HasSize, greatest}
 
 -- the size after these plans are counted with those before
-pub record Includes (nodes : List NodeView) (plans : List PlanView) (before after : Size) : Type 0 where
+pub record Includes
+    (nodes : List NodeView) (plans : List PlanView) (before after : Size) : Type 0 where
   pub sizes : List Size
   pub each : AllZip (HasSize nodes) plans sizes
   pub cells : after.cells ≡ max before.cells (greatest (map (λ s. s.cells) sizes))

@@ -16,31 +16,39 @@ use Rattle.size_precheck.specs.Greedy.{first_scopes, holding, joined_set, IsGree
 -- the cells of the tables that the steps make: each time those of the joined set without the node
 abbrev pub made_cells : List NodeView → List ℕ → List (ℕ → Bool) → ℕ
 made_cells nodes [] scopes = 0
-made_cells nodes (v ∷ vs) scopes = counted_cells nodes (joined_without v (holding v scopes)) + made_cells nodes vs (scopes_one v scopes)
+made_cells nodes (v ∷ vs) scopes = counted_cells nodes (joined_without v (holding v scopes))
+    + made_cells nodes vs (scopes_one v scopes)
 
 -- the work of the steps: each time the cells of the joined set times the number of tables joined
 abbrev pub steps_work : List NodeView → List ℕ → List (ℕ → Bool) → ℕ
 steps_work nodes [] scopes = 0
-steps_work nodes (v ∷ vs) scopes = counted_cells nodes (joined_set v scopes) * length (holding v scopes) + steps_work nodes vs (scopes_one v scopes)
+steps_work nodes (v ∷ vs) scopes = counted_cells nodes (joined_set v scopes)
+    * length (holding v scopes) + steps_work nodes vs (scopes_one v scopes)
 
--- the cells of a plan with these steps: of all first tables, of each table that a step makes, and of the last table over the kept nodes
+-- the cells of a plan with these steps: of all first tables, of each table that a step makes, and of the last table
+-- over the kept nodes
 abbrev pub plan_cells : List NodeView → PlanView → List ℕ → ℕ
 plan_cells nodes plan steps =
     let scopes = first_scopes nodes plan in
-    stopped (sum_by (λ s. counted_cells nodes s) scopes + made_cells nodes steps scopes + counted_cells nodes (has plan.keep))
+    stopped (sum_by (λ s. counted_cells nodes s) scopes + made_cells nodes steps scopes
+    + counted_cells nodes (has plan.keep))
 
--- the work of a plan with these steps: that of the steps, and at the end the cells of the kept nodes times the number of live tables
+-- the work of a plan with these steps: that of the steps, and at the end the cells of the kept nodes times the number
+-- of live tables
 abbrev pub plan_work : List NodeView → PlanView → List ℕ → ℕ
 plan_work nodes plan steps =
     let scopes = first_scopes nodes plan in
-    stopped (steps_work nodes steps scopes + counted_cells nodes (has plan.keep) * length (scopes_after steps scopes))
+    stopped (steps_work nodes steps scopes
+    + counted_cells nodes (has plan.keep) * length (scopes_after steps scopes))
 
--- a plan that may be asked for: different chance or decision nodes are kept, the utility is one, and the rule that is left out is that of a kept decision from which a path of arcs leads to the utility or to another kept node
+-- a plan that may be asked for: different chance or decision nodes are kept, the utility is one, and the rule that is
+-- left out is that of a kept decision from which a path of arcs leads to the utility or to another kept node
 pub record CanBePlanned (nodes : List NodeView) (plan : PlanView) : Type 0 where
   pub is_plan : IsPlan nodes plan
   pub known : (u : ℕ) → plan.utility ≡ Some u → u < length nodes
   pub decision : (d : ℕ) → plan.without ≡ Some d → IsDecision nodes d
-  pub leads : (d : ℕ) → plan.without ≡ Some d → (t : ℕ) × ((plan.utility ≡ Some t) ⊎ Contains plan.keep t) × Descends (Arc nodes) d t
+  pub leads : (d : ℕ) → plan.without ≡ Some d
+      → (t : ℕ) × ((plan.utility ≡ Some t) ⊎ Contains plan.keep t) × Descends (Arc nodes) d t
 
 -- what a plan is seen as: what is kept, left out and summed, the nodes that it eliminates in their order, and its size
 pub record SizedPlan : Type 0 where
@@ -70,14 +78,16 @@ abbrev pub goal_list : List NodeView → ℕ → List ℕ
 goal_list nodes d = filter (λ u. is_goal nodes d u) (numbers_of nodes)
 
 -- the plans of a decision: that of its rows, and those of its states, one for each of its goals in text order
-pub record ArePlansOf (nodes : List NodeView) (d : ℕ) (rows : SizedPlan) (goals : List SizedPlan) : Type 0 where
+pub record ArePlansOf
+    (nodes : List NodeView) (d : ℕ) (rows : SizedPlan) (goals : List SizedPlan) : Type 0 where
   pub of_rows : IsPlanned nodes (row_plan nodes d) rows
   pub of_goals : AllZip (IsPlanned nodes) (map (λ u. gain_plan nodes d u) (goal_list nodes d)) goals
 
 abbrev pub utility_list : List NodeView → List ℕ
 utility_list nodes = filter (λ u. is_utility (node_at nodes u).kind) (numbers_of nodes)
 
--- the plans of a run: for each decision in the order that of its rows, for each and each of its goals that of its states, and for each utility that of its worth
+-- the plans of a run: for each decision in the order that of its rows, for each and each of its goals that of its
+-- states, and for each utility that of its worth
 abbrev pub run_plans : List NodeView → List ℕ → List PlanView
 run_plans nodes order =
     map (λ d. row_plan nodes d) order
@@ -86,7 +96,8 @@ run_plans nodes order =
 
 -- the size of the plan
 abbrev pub HasSize : List NodeView → PlanView → Size → Type 0
-HasSize nodes plan size = (steps : List ℕ) × IsMade nodes plan (record { plan = plan; steps = steps; size = size })
+HasSize nodes plan size =
+    (steps : List ℕ) × IsMade nodes plan (record { plan = plan; steps = steps; size = size })
 
 -- the greatest number of a list, 0 where it is empty
 abbrev pub greatest : List ℕ → ℕ

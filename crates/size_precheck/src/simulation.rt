@@ -122,8 +122,8 @@ fn put_made(
     ensures put { (y : ℕ) → IsIn at.now y
         → IsPut table.now (IsIn gone.now) (IsIn out.now) (joint_at joints.old y)
         (joint_at joints.new y) }
-    ensures counted { (y : ℕ) → IsIn at.now y
-        → IsCounted states.now joints.old cells.old y → IsCounted states.now joints.new cells.new y }
+    ensures counted { (y : ℕ) → IsIn at.now y → IsCounted states.now joints.old cells.old y
+        → IsCounted states.now joints.new cells.new y }
     ensures fewest { (y : ℕ) → IsIn at.now y → result ≤ slice_index cells.new y }
     ensures same { (y : ℕ) → (IsIn at.now y → ⊥)
         → joint_at joints.new y ≡ joint_at joints.old y }

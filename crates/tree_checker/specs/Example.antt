@@ -7,7 +7,8 @@ use Rattle.maid_model.specs.Views.{NodeView, DiagramView, SolvedView}
 
 -- a decision of two states that sees these
 abbrev pub choice_over : List ℕ → NodeView
-choice_over parents = record { kind = Decision; owner = 0; more = []; states = 2; parents = parents; cells = [] }
+choice_over parents =
+    record { kind = Decision; owner = 0; more = []; states = 2; parents = parents; cells = [] }
 
 -- a plan, a reply that sees it, and what the pairs pay: 1, 4, 3 and 2
 abbrev pub reply_diagram : DiagramView

@@ -14,23 +14,30 @@ use Rattle.tree_checker.specs.declared.verdicts.Cause.{Cause}
 use Rattle.tree_checker.specs.declared.rows.RowFault.{RowFault}
 use Rattle.tree_checker.specs.Verdicts.{FailsIn, FailsRow, no_gain}
 
--- a gain for each row and state, the state fastest, and a mass for each row: the sums over the worlds of the diagram, each with room
-pub record ListsSums (d : DiagramView) (p : List RuleView) (v : ℕ) (gains : List ℤ) (masses : List ℕ) : Type 0 where
+-- a gain for each row and state, the state fastest, and a mass for each row: the sums over the worlds of the diagram,
+-- each with room
+pub record ListsSums
+    (d : DiagramView) (p : List RuleView) (v : ℕ) (gains : List ℤ) (masses : List ℕ) : Type 0 where
   pub gain_count : length gains ≡ rows_of d.nodes v * states_of d.nodes v
   pub mass_count : length masses ≡ rows_of d.nodes v
-  pub gain : (row s : ℕ) → row < rows_of d.nodes v → s < states_of d.nodes v → slice_index_or gains (row * states_of d.nodes v + s) (pos 0) ≡ gain_at d.nodes p v s row
-  pub mass_there : (row : ℕ) → row < rows_of d.nodes v → pos (slice_index masses row) ≡ mass_at d.nodes p v row
+  pub gain : (row s : ℕ) → row < rows_of d.nodes v → s < states_of d.nodes v
+      → slice_index_or gains (row * states_of d.nodes v + s) (pos 0) ≡ gain_at d.nodes p v s row
+  pub mass_there :
+      (row : ℕ) → row < rows_of d.nodes v → pos (slice_index masses row) ≡ mass_at d.nodes p v row
   pub gain_small : (i : ℕ) → nat_abs (slice_index_or gains i (pos 0)) ≤ greatest_number
   pub mass_small : (row : ℕ) → slice_index masses row * 10 ^ d.decimals ≤ greatest_number
 
 -- the sums in the part of the decision's scope
 abbrev pub ListsScopeSums : DiagramView → List RuleView → ℕ → List ℤ → List ℕ → Type 0
-ListsScopeSums d p v gains masses = ListsSums (part_diagram d (scope_of d.nodes v)) (rules_in_scope d.nodes p v) (place_in_scope d.nodes v) gains masses
+ListsScopeSums d p v gains masses = ListsSums (part_diagram d (scope_of d.nodes v))
+    (rules_in_scope d.nodes p v) (place_in_scope d.nodes v) gains masses
 
--- a row passes whose states have these gains: with mass its choice is best and it is worth that, and without mass it is marked
+-- a row passes whose states have these gains: with mass its choice is best and it is worth that, and without mass it
+-- is marked
 pub record PassesIn (gain : ℕ → ℤ) (states : ℕ) (mass : ℤ) (scale : ℕ) (r : Row) : Type 0 where
   pub best : pos 0 <ℤ mass → (s : ℕ) → s < states → gain s ≤ℤ gain r.choice
-  pub worth : pos 0 <ℤ mass → (w : Ratio) × (r.worth ≡ Some w) × IsFraction w (gain r.choice) (nat_abs mass * scale)
+  pub worth : pos 0 <ℤ mass
+      → (w : Ratio) × (r.worth ≡ Some w) × IsFraction w (gain r.choice) (nat_abs mass * scale)
   pub never : mass ≡ pos 0 → r.worth ≡ None
 
 -- the row passes, or fails for the cause
@@ -44,34 +51,45 @@ gain_in gains states row s = slice_index_or gains (row * states + s) (pos 0)
 
 -- the row passes, or fails for the cause, by listed gains and masses
 abbrev pub PassesListed : List ℤ → List ℕ → ℕ → ℕ → ℕ → Row → Type 0
-PassesListed gains masses states scale row r = PassesIn (gain_in gains states row) states (pos (slice_index masses row)) scale r
+PassesListed gains masses states scale row r =
+    PassesIn (gain_in gains states row) states (pos (slice_index masses row)) scale r
 
 abbrev pub FailsListed : List ℤ → List ℕ → ℕ → ℕ → ℕ → Row → Cause → Type 0
-FailsListed gains masses states scale row r cause = FailsIn (gain_in gains states row) states (pos (slice_index masses row)) scale r cause
+FailsListed gains masses states scale row r cause =
+    FailsIn (gain_in gains states row) states (pos (slice_index masses row)) scale r cause
 
 -- the fault is that of the first row that doesn't pass
-pub record IsFirstFault (Passes : ℕ → Row → Type 0) (Fails : ℕ → Row → Cause → Type 0) (rows : List Row) (fault : RowFault) : Type 0 where
+pub record IsFirstFault
+    (Passes : ℕ → Row → Type 0) (Fails : ℕ → Row → Cause → Type 0) (rows : List Row)
+    (fault : RowFault) : Type 0 where
   pub within : fault.row < length rows
   pub fails : Fails fault.row (slice_index_or rows fault.row no_row) fault.cause
   pub before : (row : ℕ) → row < fault.row → Passes row (slice_index_or rows row no_row)
 
 -- each row passes, or the fault is that of the first that doesn't
-abbrev pub JudgesRows : (ℕ → Row → Type 0) → (ℕ → Row → Cause → Type 0) → List Row → Option RowFault → Type 0
-JudgesRows Passes Fails rows None = (row : ℕ) → row < length rows → Passes row (slice_index_or rows row no_row)
+abbrev pub JudgesRows :
+    (ℕ → Row → Type 0) → (ℕ → Row → Cause → Type 0) → List Row → Option RowFault → Type 0
+JudgesRows Passes Fails rows None =
+    (row : ℕ) → row < length rows → Passes row (slice_index_or rows row no_row)
 JudgesRows Passes Fails rows (Some fault) = IsFirstFault Passes Fails rows fault
 
 -- the rows of the decision v, judged against its base in s
-pub record JudgesAnswer (d : DiagramView) (s : List RuleView) (v : ℕ) (rows : List Row) (fault : Option RowFault) : Type 0 where
+pub record JudgesAnswer
+    (d : DiagramView) (s : List RuleView) (v : ℕ) (rows : List Row) (fault : Option RowFault) : Type
+    0 where
   pub base : List RuleView
   pub is_base : IsBase d.nodes s v base
-  pub judged : JudgesRows (IsAcceptedRow d.nodes d.decimals base v) (FailsRow d.nodes d.decimals base v) rows fault
+  pub judged : JudgesRows (IsAcceptedRow d.nodes d.decimals base v)
+      (FailsRow d.nodes d.decimals base v) rows fault
 
 -- what is printed for the agent is what the rules are worth to it
 abbrev pub PrintsGain : DiagramView → List RuleView → List Ratio → ℕ → Type 0
-PrintsGain d s gains agent = IsExpectedUtility d.nodes (10 ^ d.decimals) s agent (slice_index_or gains agent no_gain)
+PrintsGain d s gains agent =
+    IsExpectedUtility d.nodes (10 ^ d.decimals) s agent (slice_index_or gains agent no_gain)
 
 -- the agent is the first for which something else is printed
-pub record IsFirstWrong (d : DiagramView) (s : List RuleView) (gains : List Ratio) (agent : ℕ) : Type 0 where
+pub record IsFirstWrong
+    (d : DiagramView) (s : List RuleView) (gains : List Ratio) (agent : ℕ) : Type 0 where
   pub within : agent < d.agents
   pub wrong : PrintsGain d s gains agent → ⊥
   pub before : (other : ℕ) → other < agent → PrintsGain d s gains other

@@ -17,4 +17,5 @@ OneVerdict =
 
 -- Whatever is accepted is subgame-perfect.
 abbrev pub AcceptedIsSound : Type 0
-AcceptedIsSound = (d : DiagramView) (solved : SolvedView) → IsGraph d.nodes → HasChanceTables d.nodes → IsAccepted d solved → IsSound d solved
+AcceptedIsSound = (d : DiagramView) (solved : SolvedView) → IsGraph d.nodes
+    → HasChanceTables d.nodes → IsAccepted d solved → IsSound d solved

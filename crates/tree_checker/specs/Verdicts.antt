@@ -32,10 +32,14 @@ gain_line solved agent = 3 + sum_by lines_of solved.answers + agent
 abbrev pub HasBetter : (ℕ → ℤ) → ℕ → ℕ → Type 0
 HasBetter gain states choice = (s : ℕ) × (s < states) × (gain choice <ℤ gain s)
 
--- Why a row fails whose states have these gains. Never: it has mass and is marked, or has none and isn't. Else Choice: it has mass, and some state has a greater gain. Else Worth: it isn't worth its choice's gain over the mass and the scale.
+-- Why a row fails whose states have these gains. Never: it has mass and is marked, or has none and isn't. Else
+-- Choice: it has mass, and some state has a greater gain. Else Worth: it isn't worth its choice's gain over the mass
+-- and the scale.
 abbrev pub FailsIn : (ℕ → ℤ) → ℕ → ℤ → ℕ → Row → Cause → Type 0
-FailsIn gain states mass scale r Never = ((pos 0 <ℤ mass) × (r.worth ≡ None)) ⊎ ((mass ≡ pos 0) × IsSome r.worth)
-FailsIn gain states mass scale r Choice = (pos 0 <ℤ mass) × IsSome r.worth × HasBetter gain states r.choice
+FailsIn gain states mass scale r Never =
+    ((pos 0 <ℤ mass) × (r.worth ≡ None)) ⊎ ((mass ≡ pos 0) × IsSome r.worth)
+FailsIn gain states mass scale r Choice =
+    (pos 0 <ℤ mass) × IsSome r.worth × HasBetter gain states r.choice
 FailsIn gain states mass scale r Worth =
     (pos 0 <ℤ mass) × (HasBetter gain states r.choice → ⊥)
     × ((w : Ratio) × (r.worth ≡ Some w) × (IsFraction w (gain r.choice) (nat_abs mass * scale) → ⊥))
@@ -44,16 +48,18 @@ FailsIn gain states mass scale r Gain = ⊥
 
 -- the row of d fails against the base
 abbrev pub FailsRow : List NodeView → ℕ → List RuleView → ℕ → ℕ → Row → Cause → Type 0
-FailsRow nodes decimals base d row r cause =
-    FailsIn (λ s. gain_at nodes base d s row) (states_of nodes d) (mass_at nodes base d row) (10 ^ decimals) r cause
+FailsRow nodes decimals base d row r cause = FailsIn (λ s. gain_at nodes base d s row)
+    (states_of nodes d) (mass_at nodes base d row) (10 ^ decimals) r cause
 
 -- the row fails of the decision at that place of the order, against the decision's base in the answered rules
-pub record FailsAtRow (d : DiagramView) (solved : SolvedView) (place row : ℕ) (cause : Cause) : Type 0 where
+pub record FailsAtRow
+    (d : DiagramView) (solved : SolvedView) (place row : ℕ) (cause : Cause) : Type 0 where
   pub place_within : place < length solved.order
   pub row_within : row < rows_of d.nodes (slice_index solved.order place)
   pub base : List RuleView
   pub is_base : IsBase d.nodes (answered d solved) (slice_index solved.order place) base
-  pub fails : FailsRow d.nodes d.decimals base (slice_index solved.order place) row (answer_at solved (slice_index solved.order place) row) cause
+  pub fails : FailsRow d.nodes d.decimals base (slice_index solved.order place) row
+      (answer_at solved (slice_index solved.order place) row) cause
 
 -- what stands for a gain that there is not
 abbrev pub no_gain : Ratio
@@ -62,22 +68,27 @@ no_gain = record { num = pos 0; den = 1 }
 -- what is printed for the agent isn't what the answered rules are worth to it
 pub record FailsAtAgent (d : DiagramView) (solved : SolvedView) (agent : ℕ) : Type 0 where
   pub within : agent < d.agents
-  pub fails : IsExpectedUtility d.nodes (10 ^ d.decimals) (answered d solved) agent (slice_index_or solved.gains agent no_gain) → ⊥
+  pub fails : IsExpectedUtility d.nodes (10 ^ d.decimals) (answered d solved) agent
+      (slice_index_or solved.gains agent no_gain) → ⊥
 
 -- the line is that of a row which fails for the cause
 abbrev pub FailsInRows : DiagramView → SolvedView → ℕ → Cause → Type 0
-FailsInRows d solved line cause = (place : ℕ) × (row : ℕ) × (line ≡ row_line solved place row) × FailsAtRow d solved place row cause
+FailsInRows d solved line cause = (place : ℕ) × (row : ℕ) × (line ≡ row_line solved place row)
+    × FailsAtRow d solved place row cause
 
--- The line fails for the cause: the second for the order, a row's for its choice, worth or mark, an agent's for its gain.
+-- The line fails for the cause: the second for the order, a row's for its choice, worth or mark, an agent's for its
+-- gain.
 abbrev pub FailsLine : DiagramView → SolvedView → ℕ → Cause → Type 0
 FailsLine d solved line Order = (line ≡ 2) × (IsReliedFirst d.nodes solved.order → ⊥)
 FailsLine d solved line Choice = FailsInRows d solved line Choice
 FailsLine d solved line Worth = FailsInRows d solved line Worth
 FailsLine d solved line Never = FailsInRows d solved line Never
-FailsLine d solved line Gain = (agent : ℕ) × (line ≡ gain_line solved agent) × FailsAtAgent d solved agent
+FailsLine d solved line Gain =
+    (agent : ℕ) × (line ≡ gain_line solved agent) × FailsAtAgent d solved agent
 
 -- the line fails for the cause, and no line before it fails
-pub record FailsFirst (d : DiagramView) (solved : SolvedView) (line : ℕ) (cause : Cause) : Type 0 where
+pub record FailsFirst
+    (d : DiagramView) (solved : SolvedView) (line : ℕ) (cause : Cause) : Type 0 where
   pub fails : FailsLine d solved line cause
   pub first : (other : ℕ) (why : Cause) → FailsLine d solved other why → line ≤ other
 

@@ -15,33 +15,42 @@ use Rattle.node_sets.specs.Sets.{holds}
 -- nodes none of which stands again later, or has a later one as a parent
 abbrev pub IsDownward : List NodeView → List ℕ → Type 0
 IsDownward nodes [] = Unit {0}
-IsDownward nodes (v ∷ vs) = (v < length nodes) × ((u : ℕ) → Among u vs → (v ≢ u) × (Among u (parents_of nodes v) → ⊥)) × IsDownward nodes vs
+IsDownward nodes (v ∷ vs) = (v < length nodes)
+    × ((u : ℕ) → Among u vs → (v ≢ u) × (Among u (parents_of nodes v) → ⊥)) × IsDownward nodes vs
 
 -- v's factor where the cell is picked, but 1 at the decision d
 abbrev pub factor_at : List NodeView → List RuleView → ℕ → ℕ → ℕ → ℤ
-factor_at nodes p d v cell = if v == d then pos 1 else table_by (node_at nodes v).kind (node_at nodes v).cells (weights_of p v) cell
+factor_at nodes p d v cell = if v == d
+    then pos 1
+    else table_by (node_at nodes v).kind (node_at nodes v).cells (weights_of p v) cell
 
 -- the same by the weights of v's rule
 abbrev pub factor_by : List NodeView → List ℕ → ℕ → ℕ → ℕ → ℤ
-factor_by nodes weights d v cell = if v == d then pos 1 else table_by (node_at nodes v).kind (node_at nodes v).cells weights cell
+factor_by nodes weights d v cell =
+    if v == d then pos 1 else table_by (node_at nodes v).kind (node_at nodes v).cells weights cell
 
 -- v's factor at each of its cells
-pub record ListsFactors (nodes : List NodeView) (p : List RuleView) (d v : ℕ) (list : List ℕ) : Type 0 where
+pub record ListsFactors
+    (nodes : List NodeView) (p : List RuleView) (d v : ℕ) (list : List ℕ) : Type 0 where
   pub count : length list ≡ rows_of nodes v * states_of nodes v
-  pub factor : (c : ℕ) → c < rows_of nodes v * states_of nodes v → pos (slice_index list c) ≡ factor_at nodes p d v c
+  pub factor : (c : ℕ) → c < rows_of nodes v * states_of nodes v
+      → pos (slice_index list c) ≡ factor_at nodes p d v c
 
 -- the factors of each node
-pub record HoldsFactors (nodes : List NodeView) (p : List RuleView) (d : ℕ) (lists : List (List ℕ)) : Type 0 where
+pub record HoldsFactors
+    (nodes : List NodeView) (p : List RuleView) (d : ℕ) (lists : List (List ℕ)) : Type 0 where
   pub count : length lists ≡ length nodes
   pub lists_each : (v : ℕ) → v < length nodes → ListsFactors nodes p d v (slice_index_or lists v [])
 
 -- the cell of the row in v, if v is marked
 abbrev pub value_at : List NodeView → NodeSet → ℕ → ℕ → ℤ
-value_at nodes marks v row = if holds marks v then slice_index_or (node_at nodes v).cells row (pos 0) else pos 0
+value_at nodes marks v row =
+    if holds marks v then slice_index_or (node_at nodes v).cells row (pos 0) else pos 0
 
 -- the product so far times the factors of the listed nodes, without the rule of the decision d
 abbrev pub weight_with : List NodeView → List RuleView → ℕ → List ℕ → ℕ → World → ℤ
-weight_with nodes p d vs product w = pos product *ℤ product_over (λ v. table_without nodes p d v w) vs
+weight_with nodes p d vs product w =
+    pos product *ℤ product_over (λ v. table_without nodes p d v w) vs
 
 -- the utilities so far and the marked ones among the listed nodes
 abbrev pub utility_with : List NodeView → NodeSet → List ℕ → ℤ → World → ℤ
@@ -49,16 +58,21 @@ utility_with nodes marks vs utility w = utility +ℤ sum_each (λ v. marked_valu
 
 -- the sum of weight times utilities over the states of the listed nodes, in the worlds that pick the cell c of d
 abbrev pub gain_with : List NodeView → List RuleView → ℕ → NodeSet → List ℕ → ℕ → ℤ → ℕ → World → ℤ
-gain_with nodes p d marks vs product utility c w =
-    sum_over (states_of nodes) vs (λ w. if cell_of nodes d w == c then weight_with nodes p d vs product w *ℤ utility_with nodes marks vs utility w else pos 0) w
+gain_with nodes p d marks vs product utility c w = sum_over (states_of nodes) vs
+    (λ w.
+    if cell_of nodes d w == c
+    then weight_with nodes p d vs product w *ℤ utility_with nodes marks vs utility w
+    else pos 0) w
 
 -- the sum of the weights of those worlds
 abbrev pub mass_with : List NodeView → List RuleView → ℕ → List ℕ → ℕ → ℕ → World → ℤ
-mass_with nodes p d vs product c w = sum_over (states_of nodes) vs (λ w. if cell_of nodes d w == c then weight_with nodes p d vs product w else pos 0) w
+mass_with nodes p d vs product c w = sum_over (states_of nodes) vs
+    (λ w. if cell_of nodes d w == c then weight_with nodes p d vs product w else pos 0) w
 
 -- what one world with this weight adds to the cell c of d, with the marked utilities among the listed nodes
 abbrev pub world_gain : List NodeView → ℕ → NodeSet → List ℕ → ℕ → ℤ → ℕ → World → ℤ
-world_gain nodes d marks vs product utility c w = if cell_of nodes d w == c then pos product *ℤ utility_with nodes marks vs utility w else pos 0
+world_gain nodes d marks vs product utility c w =
+    if cell_of nodes d w == c then pos product *ℤ utility_with nodes marks vs utility w else pos 0
 
 abbrev pub world_mass : List NodeView → ℕ → ℕ → ℕ → World → ℤ
 world_mass nodes d product c w = if cell_of nodes d w == c then pos product else pos 0
@@ -69,13 +83,19 @@ AreUtilities nodes vs = (k : ℕ) → k < length vs → (node_at nodes (slice_in
 
 -- the same sums over all worlds of the diagram
 abbrev pub cell_gain : List NodeView → List RuleView → ℕ → NodeSet → ℕ → ℤ
-cell_gain nodes p d marks c = sum_worlds nodes (λ w. if cell_of nodes d w == c then weight_without nodes p d w *ℤ marked_utility nodes marks w else pos 0)
+cell_gain nodes p d marks c = sum_worlds nodes (λ w.
+    if cell_of nodes d w == c
+    then weight_without nodes p d w *ℤ marked_utility nodes marks w
+    else pos 0)
 
 abbrev pub cell_mass : List NodeView → List RuleView → ℕ → ℕ → ℤ
-cell_mass nodes p d c = sum_worlds nodes (λ w. if cell_of nodes d w == c then weight_without nodes p d w else pos 0)
+cell_mass nodes p d c =
+    sum_worlds nodes (λ w. if cell_of nodes d w == c then weight_without nodes p d w else pos 0)
 
 -- the gain and the mass of each cell, each with room
-pub record ListsCells (d : DiagramView) (p : List RuleView) (v : ℕ) (marks : NodeSet) (gains : List ℤ) (masses : List ℕ) : Type 0 where
+pub record ListsCells
+    (d : DiagramView) (p : List RuleView) (v : ℕ) (marks : NodeSet) (gains : List ℤ)
+    (masses : List ℕ) : Type 0 where
   pub gain_count : length gains ≡ rows_of d.nodes v * states_of d.nodes v
   pub mass_count : length masses ≡ rows_of d.nodes v * states_of d.nodes v
   pub gain : (c : ℕ) → slice_index_or gains c (pos 0) ≡ cell_gain d.nodes p v marks c
@@ -85,22 +105,29 @@ pub record ListsCells (d : DiagramView) (p : List RuleView) (v : ℕ) (marks : N
 
 -- the greatest absolute value of a utility, and 0 elsewhere
 abbrev pub greatest_at : List NodeView → ℕ → ℕ
-greatest_at nodes v = if is_utility (node_at nodes v).kind then greatest_abs (node_at nodes v).cells else 0
+greatest_at nodes v =
+    if is_utility (node_at nodes v).kind then greatest_abs (node_at nodes v).cells else 0
 
 -- the product so far times the totals of the listed nodes
 abbrev pub mass_left : List NodeView → List RuleView → ℕ → List ℕ → ℕ → ℕ
 mass_left nodes p d vs product = product * nat_product_over (base_total nodes p d) vs
 
 -- what the listed nodes can still add fits
-pub record HasRoom (nodes : List NodeView) (p : List RuleView) (d : ℕ) (vs : List ℕ) (product : ℕ) (sum : ℤ) (gains : List ℤ) (masses : List ℕ) : Type 0 where
-  pub gain : (c : ℕ) → nat_abs (slice_index_or gains c (pos 0)) + mass_left nodes p d vs product * greatest_utility nodes ≤ greatest_number
+pub record HasRoom
+    (nodes : List NodeView) (p : List RuleView) (d : ℕ) (vs : List ℕ) (product : ℕ) (sum : ℤ)
+    (gains : List ℤ) (masses : List ℕ) : Type 0 where
+  pub gain : (c : ℕ) → nat_abs (slice_index_or gains c (pos 0))
+      + mass_left nodes p d vs product * greatest_utility nodes ≤ greatest_number
   pub mass : (c : ℕ) → slice_index masses c + mass_left nodes p d vs product ≤ greatest_number
   pub utility : nat_abs sum + nat_sum_over (greatest_at nodes) vs ≤ greatest_utility nodes
   pub most : greatest_utility nodes ≤ greatest_number
 
 -- one world can be added with this weight and the utilities of the listed nodes
-pub record HasRoomAt (nodes : List NodeView) (vs : List ℕ) (product : ℕ) (sum : ℤ) (gains : List ℤ) (masses : List ℕ) : Type 0 where
-  pub gain : (c : ℕ) → nat_abs (slice_index_or gains c (pos 0)) + product * greatest_utility nodes ≤ greatest_number
+pub record HasRoomAt
+    (nodes : List NodeView) (vs : List ℕ) (product : ℕ) (sum : ℤ) (gains : List ℤ) (masses : List ℕ)
+    : Type 0 where
+  pub gain : (c : ℕ) → nat_abs (slice_index_or gains c (pos 0)) + product * greatest_utility nodes
+      ≤ greatest_number
   pub mass : (c : ℕ) → slice_index masses c + product ≤ greatest_number
   pub utility : nat_abs sum + nat_sum_over (greatest_at nodes) vs ≤ greatest_utility nodes
   pub most : greatest_utility nodes ≤ greatest_number

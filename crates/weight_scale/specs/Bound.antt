@@ -9,9 +9,10 @@ use Rattle.weight_scale.specs.declared.weight_bound.BoundPlace.TheVariants.{With
 
 -- v is the first node in the text at which the product of the first scope that fails passes
 abbrev pub IsPassedAt : DiagramView → ℕ → Type 0
-IsPassedAt d v =
-    ((e : ℕ) × FailsFirst d e × PassesInScope (bound_factor d.nodes) (scope_of d.nodes e) v)
-    ⊎ ((agent : ℕ) × FailsFirstFor d agent × PassesInScope (chance_factor d.nodes) (scope_for d.nodes agent) v)
+IsPassedAt d v = ((e : ℕ) × FailsFirst d e
+    × PassesInScope (bound_factor d.nodes) (scope_of d.nodes e) v)
+    ⊎ ((agent : ℕ) × FailsFirstFor d agent
+    × PassesInScope (chance_factor d.nodes) (scope_for d.nodes agent) v)
 
 -- the first scope that fails has its product within the range: only its utilities pass
 abbrev pub IsPassedByUtilities : DiagramView → Type 0
@@ -19,7 +20,8 @@ IsPassedByUtilities d =
     ((e : ℕ) × FailsFirst d e × (scope_product d.nodes e ≤ greatest_number))
     ⊎ ((agent : ℕ) × FailsFirstFor d agent × (scope_product_for d.nodes agent ≤ greatest_number))
 
--- Within: the bounds of all scopes hold. Node: the first that fails passes there. Utilities: it passes by its utilities alone.
+-- Within: the bounds of all scopes hold. Node: the first that fails passes there. Utilities: it passes by its
+-- utilities alone.
 abbrev pub IsBoundPlace : DiagramView → BoundPlace → Type 0
 IsBoundPlace d Within = KeepsScopedBounds d
 IsBoundPlace d (Node v) = IsPassedAt d v

@@ -5,14 +5,22 @@ use Rattle.maid_model.specs.Views.{NodeView, DiagramView}
 
 -- a chance node of one state
 abbrev pub chance_of : List ℤ → NodeView
-chance_of cells = record { kind = Chance; owner = 0; more = []; states = 1; parents = []; cells = cells }
+chance_of cells =
+    record { kind = Chance; owner = 0; more = []; states = 1; parents = []; cells = cells }
 
 -- a decision of two states, of the first agent
 abbrev pub choice : NodeView
 choice = record { kind = Decision; owner = 0; more = []; states = 2; parents = []; cells = [] }
 
 abbrev pub utility_of : ℕ → List ℕ → List ℕ → List ℤ → NodeView
-utility_of owner more parents cells = record { kind = Utility; owner = owner; more = more; states = 1; parents = parents; cells = cells }
+utility_of owner more parents cells = record {
+  kind = Utility;
+  owner = owner;
+  more = more;
+  states = 1;
+  parents = parents;
+  cells = cells;
+}
 
 -- 2^125 or 2^100
 abbrev pub weights_if : Bool → List ℤ
@@ -28,7 +36,8 @@ abbrev pub others_if : Bool → List ℕ
 others_if true = 1 ∷ []
 others_if false = []
 
--- a choice, a chance node and a utility over both, which the second agent may share; and beside them a chance node and a utility of the second agent over it
+-- a choice, a chance node and a utility over both, which the second agent may share; and beside them a chance node
+-- and a utility of the second agent over it
 abbrev pub two_parts : Bool → Bool → Bool → DiagramView
 two_parts wide dear shared = record {
   nodes =

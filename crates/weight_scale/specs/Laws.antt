@@ -12,23 +12,31 @@ use Rattle.weight_scale.specs.Scaling.{NoneNegative, NoZeroRow, IsScaled, IsTooW
 
 -- each numeral has a decimal, with fewest decimals, or none at all
 abbrev pub DecimalOrNone : Type 0
-DecimalOrNone = (numeral : List ℕ) → ((d : Decimal) × IsLeastDecimalOf (numerator numeral) (denominator numeral) d) ⊎ ((d : Decimal) → IsDecimalOf (numerator numeral) (denominator numeral) d → ⊥)
+DecimalOrNone = (numeral : List ℕ) → ((d : Decimal) × IsLeastDecimalOf (numerator numeral)
+    (denominator numeral) d)
+    ⊎ ((d : Decimal) → IsDecimalOf (numerator numeral) (denominator numeral) d → ⊥)
 
 -- rows without numbers below nought and of totals above nought have a scaling, or too great a common total
 abbrev pub ScaledOrTooWide : Type 0
-ScaledOrTooWide = (rows : List Decimal) (states : ℕ) → 0 < states → states ∣ length rows → NoneNegative rows → NoZeroRow rows states (length rows / states) → ((scaled : ScaledView) × IsScaled rows states scaled) ⊎ IsTooWide rows states
+ScaledOrTooWide = (rows : List Decimal) (states : ℕ) → 0 < states → states ∣ length rows
+    → NoneNegative rows → NoZeroRow rows states (length rows / states)
+    → ((scaled : ScaledView) × IsScaled rows states scaled) ⊎ IsTooWide rows states
 
 -- and never both
 abbrev pub NeverScaledAndTooWide : Type 0
-NeverScaledAndTooWide = (rows : List Decimal) (states : ℕ) (scaled : ScaledView) → IsScaled rows states scaled → IsTooWide rows states → ⊥
+NeverScaledAndTooWide = (rows : List Decimal) (states : ℕ) (scaled : ScaledView)
+    → IsScaled rows states scaled → IsTooWide rows states → ⊥
 
 -- scaled rows are a table
 abbrev pub ScaledIsTable : Type 0
-ScaledIsTable = (rows : List Decimal) (states : ℕ) (scaled : ScaledView) → 0 < states → states ∣ length rows → IsScaled rows states scaled → IsTable scaled.weights (length rows / states) states scaled.total
+ScaledIsTable = (rows : List Decimal) (states : ℕ) (scaled : ScaledView) → 0 < states
+    → states ∣ length rows → IsScaled rows states scaled
+    → IsTable scaled.weights (length rows / states) states scaled.total
 
 -- two scalings of the same rows are equal
 abbrev pub ScalesInOneWay : Type 0
-ScalesInOneWay = (rows : List Decimal) (states : ℕ) (a b : ScaledView) → 0 < states → states ∣ length rows → IsScaled rows states a → IsScaled rows states b → a ≡ b
+ScalesInOneWay = (rows : List Decimal) (states : ℕ) (a b : ScaledView) → 0 < states
+    → states ∣ length rows → IsScaled rows states a → IsScaled rows states b → a ≡ b
 
 -- the bounds of all scopes hold, or the first that fails has a place
 abbrev pub HasBoundPlace : Type 0

@@ -58,13 +58,20 @@ abbrev pub signed : Bool → ℕ → ℤ
 signed true size = neg_ℤ (pos size)
 signed false size = pos size
 
--- The value is the numerator over the denominator. Above stands the number that all digits write, with the numeral's sign, and the tens of an exponent.
+-- The value is the numerator over the denominator. Above stands the number that all digits write, with the numeral's
+-- sign, and the tens of an exponent.
 abbrev pub numerator : List ℕ → ℤ
-numerator text = let exponent = exponent_of text in signed (is_minus text) (number_of (whole_digits text ++ decimal_digits text) * (if is_minus exponent then 1 else 10 ^ exponent_size exponent))
+numerator text =
+    let exponent = exponent_of text in
+    signed (is_minus text) (number_of (whole_digits text ++ decimal_digits text)
+    * (if is_minus exponent then 1 else 10 ^ exponent_size exponent))
 
 -- Below stands a ten for each digit behind the point, and the tens of an exponent below nought.
 abbrev pub denominator : List ℕ → ℕ
-denominator text = let exponent = exponent_of text in 10 ^ length (decimal_digits text) * (if is_minus exponent then 10 ^ exponent_size exponent else 1)
+denominator text =
+    let exponent = exponent_of text in
+    10 ^ length (decimal_digits text)
+    * (if is_minus exponent then 10 ^ exponent_size exponent else 1)
 
 -- the decimal is the fraction
 abbrev pub IsDecimalOf : ℤ → ℕ → Decimal → Type 0

@@ -7,18 +7,21 @@ use Rattle.weight_scale.specs.declared.decimal.Decimal.{Decimal}
 use Rattle.weight_scale.specs.declared.scaling.ScaleFault.{ScaleFault}
 use Rattle.weight_scale.specs.declared.scaling.ScaleFault.TheVariants.{Negative, ZeroRow, WideWeight, NoMemory}
 
--- The size and the decimals of one of the numbers: no other but noughts has more decimals, what divides all numbers, raised by these, divides the size, and the size is nought only where all are.
+-- The size and the decimals of one of the numbers: no other but noughts has more decimals, what divides all numbers,
+-- raised by these, divides the size, and the size is nought only where all are.
 pub record IsFinest (row : List Decimal) (size decimals : ℕ) : Type 0 where
   pub few : decimals ≤ 30
   pub most : All (λ d. (unsigned_abs d.m ≡ 0) ⊎ (d.k ≤ decimals)) row
   pub divided : (g : ℕ) → All (λ d. g ∣ whole_number decimals d) row → g ∣ size
   pub nought : size ≡ 0 → All (λ d. unsigned_abs d.m ≡ 0) row
 
--- the number takes the place of the finest so far where it isn't nought and has more decimals, or is the first that isn't nought
+-- the number takes the place of the finest so far where it isn't nought and has more decimals, or is the first that
+-- isn't nought
 abbrev pub IsFiner : ℕ → ℕ → Decimal → ℕ → ℕ → Type 0
-IsFiner size decimals d size' decimals' =
-    ((size' ≡ size) × (decimals' ≡ decimals) × ((unsigned_abs d.m ≡ 0) ⊎ ((0 < size) × (d.k ≤ decimals))))
-    ⊎ ((size' ≡ unsigned_abs d.m) × (decimals' ≡ d.k) × (0 < unsigned_abs d.m) × ((size ≡ 0) ⊎ (decimals < d.k)))
+IsFiner size decimals d size' decimals' = ((size' ≡ size) × (decimals' ≡ decimals)
+    × ((unsigned_abs d.m ≡ 0) ⊎ ((0 < size) × (d.k ≤ decimals))))
+    ⊎ ((size' ≡ unsigned_abs d.m) × (decimals' ≡ d.k) × (0 < unsigned_abs d.m)
+    × ((size ≡ 0) ⊎ (decimals < d.k)))
 
 -- the row's numbers, raised, over the divisor
 abbrev pub shares : ℕ → ℕ → List Decimal → List ℕ
@@ -47,7 +50,8 @@ abbrev pub IsWideRow : List ℕ → Type 0
 IsWideRow row = (reduced : List ℕ) → IsReducedRow row reduced → greatest_number < sum reduced
 
 -- the first rows reduced, and the least common multiple of their totals
-pub record ReducesRows (rows : List Decimal) (states count : ℕ) (reduced : List ℕ) (total : ℕ) : Type 0 where
+pub record ReducesRows
+    (rows : List Decimal) (states count : ℕ) (reduced : List ℕ) (total : ℕ) : Type 0 where
   pub len : length reduced ≡ count * states
   pub row : (r : ℕ) → r < count → IsReducedRow (raised_row states rows r) (row_at states reduced r)
   pub common : IsCommonTotal reduced states count total
@@ -55,4 +59,5 @@ pub record ReducesRows (rows : List Decimal) (states count : ℕ) (reduced : Lis
 -- the first rows of weights
 pub record WeighsRows (reduced : List ℕ) (states total count : ℕ) (weights : List ℤ) : Type 0 where
   pub len : length weights ≡ count * states
-  pub row : (r : ℕ) → r < count → row_at states weights r ≡ multiplied_row total (row_at states reduced r)
+  pub row :
+      (r : ℕ) → r < count → row_at states weights r ≡ multiplied_row total (row_at states reduced r)

@@ -33,7 +33,8 @@ pub record IsReducedRow (row reduced : List ℕ) : Type 0 where
 -- the reduced rows, one after another
 pub record AreReducedRows (rows : List Decimal) (states : ℕ) (reduced : List ℕ) : Type 0 where
   pub len : length reduced ≡ length rows
-  pub row : (r : ℕ) → r < length rows / states → IsReducedRow (raised_row states rows r) (row_at states reduced r)
+  pub row : (r : ℕ) → r < length rows / states
+      → IsReducedRow (raised_row states rows r) (row_at states reduced r)
 
 -- W: the least common multiple of the totals of the first `count` rows
 pub record IsCommonTotal (reduced : List ℕ) (states count total : ℕ) : Type 0 where
@@ -57,7 +58,8 @@ NoneNegative rows = (i : ℕ) → i < length rows → pos 0 ≤ℤ number_at row
 abbrev pub NoZeroRow : List Decimal → ℕ → ℕ → Type 0
 NoZeroRow rows states count = (r : ℕ) → r < count → 0 < sum (raised_row states rows r)
 
--- the weights: no number is below nought, and each reduced row is multiplied so that its total is the least common multiple of all totals
+-- the weights: no number is below nought, and each reduced row is multiplied so that its total is the least common
+-- multiple of all totals
 pub record IsScaled (rows : List Decimal) (states : ℕ) (scaled : ScaledView) : Type 0 where
   pub none_negative : NoneNegative rows
   pub reduced : List ℕ
@@ -65,7 +67,8 @@ pub record IsScaled (rows : List Decimal) (states : ℕ) (scaled : ScaledView) :
   pub common : IsCommonTotal reduced states (length rows / states) scaled.total
   pub small : scaled.total ≤ greatest_number
   pub len : length scaled.weights ≡ length rows
-  pub row : (r : ℕ) → r < length rows / states → row_at states scaled.weights r ≡ multiplied_row scaled.total (row_at states reduced r)
+  pub row : (r : ℕ) → r < length rows / states
+      → row_at states scaled.weights r ≡ multiplied_row scaled.total (row_at states reduced r)
 
 -- the place of the first number below nought
 pub record IsFirstNegative (rows : List Decimal) (place : ℕ) : Type 0 where
@@ -91,5 +94,6 @@ pub record IsTooWide (rows : List Decimal) (states : ℕ) : Type 0 where
 abbrev pub IsScaleFault : List Decimal → ℕ → ScaleFault → Type 0
 IsScaleFault rows states (Negative place) = IsFirstNegative rows place
 IsScaleFault rows states (ZeroRow row) = NoneNegative rows × IsFirstZeroRow rows states row
-IsScaleFault rows states WideWeight = NoneNegative rows × NoZeroRow rows states (length rows / states) × IsTooWide rows states
+IsScaleFault rows states WideWeight =
+    NoneNegative rows × NoZeroRow rows states (length rows / states) × IsTooWide rows states
 IsScaleFault rows states NoMemory = Unit {0}

@@ -37,46 +37,63 @@ factor_in nodes scope v = if holds scope.nodes v then factor_by scope.counted no
 
 -- the greatest absolute value of the node's cells, and 0 where it is none of the scope's utilities
 abbrev pub greatest_in : List NodeView → Scope → ℕ → ℕ
-greatest_in nodes scope v = if holds scope.utilities v then greatest_abs (node_at nodes v).cells else 0
+greatest_in nodes scope v =
+    if holds scope.utilities v then greatest_abs (node_at nodes v).cells else 0
 
 -- S: the greatest absolute value of each of the scope's utilities, added up
 abbrev pub greatest_sum : List NodeView → Scope → ℕ
 greatest_sum nodes scope = greatest_of nodes (members_of nodes scope.utilities)
 
 -- the scope has these nodes and these utilities, and counts so
-pub record IsScope (nodes : List NodeView) (counted : Counted) (members utilities : List ℕ) (scope : Scope) : Type 0 where
+pub record IsScope
+    (nodes : List NodeView) (counted : Counted) (members utilities : List ℕ) (scope : Scope) : Type
+    0 where
   pub counts : scope.counted ≡ counted
   pub members_are : members_of nodes scope.nodes ≡ members
   pub utilities_are : members_of nodes scope.utilities ≡ utilities
 
 -- it is the scope of the decision
 abbrev pub IsScopeOf : List NodeView → ℕ → Scope → Type 0
-IsScopeOf nodes d scope = IsDecision nodes d × IsScope nodes ChanceAndDecisions (scope_of nodes d) (goals_of nodes d) scope
+IsScopeOf nodes d scope = IsDecision nodes d
+    × IsScope nodes ChanceAndDecisions (scope_of nodes d) (goals_of nodes d) scope
 
 -- it is the scope of the agent
 abbrev pub IsScopeFor : List NodeView → ℕ → Scope → Type 0
-IsScopeFor nodes agent scope = IsScope nodes ChanceAlone (scope_for nodes agent) (utilities_for nodes agent) scope
+IsScopeFor nodes agent scope =
+    IsScope nodes ChanceAlone (scope_for nodes agent) (utilities_for nodes agent) scope
 
--- a scope's product by these factors, times the greatest of the utilities' scale and the sum of the greatest values of these utilities
+-- a scope's product by these factors, times the greatest of the utilities' scale and the sum of the greatest values
+-- of these utilities
 abbrev pub bound_in : DiagramView → (ℕ → ℕ) → List ℕ → List ℕ → ℕ
-bound_in d factor members utilities = nat_product_over factor members * max (10 ^ d.decimals) (greatest_of d.nodes utilities)
+bound_in d factor members utilities =
+    nat_product_over factor members * max (10 ^ d.decimals) (greatest_of d.nodes utilities)
 
--- of one scope. Within: its bound holds. Node: it fails, and its product passes there. Utilities: it fails, and its product is within the range.
+-- of one scope. Within: its bound holds. Node: it fails, and its product passes there. Utilities: it fails, and its
+-- product is within the range.
 abbrev pub IsPlaceInScope : DiagramView → (ℕ → ℕ) → List ℕ → List ℕ → BoundPlace → Type 0
-IsPlaceInScope d factor members utilities Within = bound_in d factor members utilities ≤ greatest_number
-IsPlaceInScope d factor members utilities (Node v) = (greatest_number < bound_in d factor members utilities) × PassesInScope factor members v
-IsPlaceInScope d factor members utilities Utilities = (greatest_number < bound_in d factor members utilities) × (nat_product_over factor members ≤ greatest_number)
+IsPlaceInScope d factor members utilities Within =
+    bound_in d factor members utilities ≤ greatest_number
+IsPlaceInScope d factor members utilities (Node v) =
+    (greatest_number < bound_in d factor members utilities) × PassesInScope factor members v
+IsPlaceInScope d factor members utilities Utilities = (greatest_number
+    < bound_in d factor members utilities)
+    × (nat_product_over factor members ≤ greatest_number)
 
 -- of this scope
 abbrev pub IsPlaceIn : DiagramView → Scope → BoundPlace → Type 0
-IsPlaceIn d scope place = IsPlaceInScope d (factor_by scope.counted d.nodes) (members_of d.nodes scope.nodes) (members_of d.nodes scope.utilities) place
+IsPlaceIn d scope place = IsPlaceInScope d (factor_by scope.counted d.nodes)
+    (members_of d.nodes scope.nodes) (members_of d.nodes scope.utilities) place
 
 -- of the scope of a decision
 abbrev pub IsPlaceOf : DiagramView → ℕ → BoundPlace → Type 0
-IsPlaceOf d v place = IsPlaceInScope d (bound_factor d.nodes) (scope_of d.nodes v) (goals_of d.nodes v) place
+IsPlaceOf d v place =
+    IsPlaceInScope d (bound_factor d.nodes) (scope_of d.nodes v) (goals_of d.nodes v) place
 
--- of the decisions. Within: their bounds hold. Node: the first that fails passes there. Utilities: it passes by its utilities alone.
+-- of the decisions. Within: their bounds hold. Node: the first that fails passes there. Utilities: it passes by its
+-- utilities alone.
 abbrev pub IsPlaceOfDecisions : DiagramView → BoundPlace → Type 0
 IsPlaceOfDecisions d Within = (v : ℕ) → IsDecision d.nodes v → scope_bound d v ≤ greatest_number
-IsPlaceOfDecisions d (Node v) = (e : ℕ) × FailsFirst d e × PassesInScope (bound_factor d.nodes) (scope_of d.nodes e) v
-IsPlaceOfDecisions d Utilities = (e : ℕ) × FailsFirst d e × (scope_product d.nodes e ≤ greatest_number)
+IsPlaceOfDecisions d (Node v) =
+    (e : ℕ) × FailsFirst d e × PassesInScope (bound_factor d.nodes) (scope_of d.nodes e) v
+IsPlaceOfDecisions d Utilities =
+    (e : ℕ) × FailsFirst d e × (scope_product d.nodes e ≤ greatest_number)

@@ -8,4 +8,5 @@ pub record IsSignificand (number decimals size above below : ℕ) : Type 0 where
 
 -- the number over 10^decimals has too many digits, not counting noughts at the end
 abbrev pub HasTooManyDigits : ℕ → ℕ → Type 0
-HasTooManyDigits number decimals = (size above below : ℕ) × IsSignificand number decimals size above below × (2 ^ 126 ≤ size)
+HasTooManyDigits number decimals =
+    (size above below : ℕ) × IsSignificand number decimals size above below × (2 ^ 126 ≤ size)
