@@ -8,6 +8,7 @@ use Rattle.maid_model.specs.Views.{NodeView}
 use Rattle.plan_sums.specs.Plans.{PlanView, row_plan, gain_plan, worth_plan}
 use Rattle.factor_core.specs.Slots.{WorkspaceView}
 use Rattle.size_precheck.specs.Sizes.{SizedPlan, IsMade}
+use Rattle.rule_solver.specs.declared.spaces.Workspaces.{Workspaces}
 
 -- the plan has at most so many cells
 abbrev pub HasAtMost : List NodeView → PlanView → ℕ → Type 0
@@ -33,3 +34,8 @@ pub record IsReady {C : Type 0} (cells : ℕ) (work : WorkspaceView C) : Type 0 
   pub empty : work.cells ≡ []
   pub spare : work.spare ≡ cells
   pub limit : cells ≤ MOST_PLAN_CELLS
+
+-- so are both of two workspaces
+pub record AreReady (cells : ℕ) (spaces : Workspaces) : Type 0 where
+  pub small : IsReady cells spaces.small
+  pub wide : IsReady cells spaces.wide

@@ -12,11 +12,12 @@ ghost use Rattle.part_laws.specs.ScopeLaws.{HasSmallRules};
 ghost use Rattle.plan_sums.specs.Plans.{gain_plan, row_plan};
 ghost use Rattle.scope_sums.specs.Missing.{missing_in, missing_in_without};
 ghost use Rattle.size_precheck.specs.Sizes.{ArePlansOf, IsPlanned, goal_list};
-ghost use Rattle.rule_solver.specs.Rooms.{HasAtMost, HasRoomAt, IsReady};
+ghost use Rattle.rule_solver.specs.Rooms.{AreReady, HasAtMost, HasRoomAt, IsReady};
 ghost use Rattle.rule_solver.specs.Sums.{AddsGoal, HasGoals, HasMasses, HasRoomFor, IsRowSums, IsSetting, KeepsRoom};
 
 use crate::numbers::Number;
 use crate::reading::{add_gains, list_scope, put_masses};
+use crate::spaces::Workspaces;
 use crate::totals::{list_totals, product_in};
 use crate::widths::fits_small;
 use cell_rings::{Gain, SmallGain};
@@ -311,6 +312,45 @@ fn most_cells(plans: &DecisionPlans) -> u128
     most
 }
 
+/// What `row_sums` tells of a decision, by plans that are made already, in workspaces with room for the largest of them.
+///
+/// The plans, as `size_precheck::plan_decision` makes them, do not depend on the profile: who asks for a decision's sums
+/// again and again keeps both. The workspaces are left as they were found. It may be asked where each scope keeps the
+/// weight bound, and no other rule adds up to more than its decision has states, as pure and uniform ones do.
+///
+/// # Errors
+///
+/// Only where memory runs out.
+pub fn row_sums_by(
+    alloc: Global,
+    diagram: &Diagram,
+    profile: &Profile,
+    decision: usize,
+    plans: &DecisionPlans,
+    spaces: &mut Workspaces,
+) -> Result<RowSums, AllocError>
+    requires decision { IsDecision diagram.now.nodes decision }
+    requires profile { IsProfile diagram.now.nodes profile.now }
+    requires rules { HasSmallRules diagram.now.nodes profile.now decision }
+    requires bound { KeepsScopedBounds diagram.now }
+    requires planned { ArePlansOf diagram.now.nodes decision plans.now.rows plans.now.goals.items }
+    requires ready { (cells : ℕ) × AreReady cells spaces.old
+        × HasRoomAt diagram.now.nodes decision cells }
+    ensures sums { IfOk result (λ sums.
+        IsRowSums diagram.now.nodes profile.now decision sums.gains.items sums.masses.items) }
+    ensures again { OnOk result (spaces.new ≡ spaces.old) }
+{
+    let totals = list_totals(alloc, diagram, profile)?;
+    let setting = Setting {
+        diagram,
+        base: profile,
+        decision,
+        totals: &totals,
+        scope: decision_scope(diagram, decision),
+    };
+    setting.row_sums(alloc, plans, &mut spaces.small, &mut spaces.wide)
+}
+
 /// What the states of a decision gain in each row, and the rows' masses, with the profile as base: the sums over the
 /// worlds of the part that the decision's scope makes. A decision's own rule counts in neither.
 ///
@@ -339,17 +379,9 @@ pub fn row_sums(
 {
     // A plan that is made again has as many cells.
     greedy_orders();
-    let totals = list_totals(alloc, diagram, profile)?;
+    let _count = diagram.count();
     let plans = plan_decision(alloc, diagram, decision)?;
     let cells = most_cells(&plans) as usize;
-    let mut small = Workspace::reserve(alloc, cells)?;
-    let mut wide = Workspace::reserve(alloc, cells)?;
-    let setting = Setting {
-        diagram,
-        base: profile,
-        decision,
-        totals: &totals,
-        scope: decision_scope(diagram, decision),
-    };
-    setting.row_sums(alloc, &plans, &mut small, &mut wide)
+    let mut spaces = Workspaces::reserve(alloc, cells)?;
+    row_sums_by(alloc, diagram, profile, decision, &plans, &mut spaces)
 }

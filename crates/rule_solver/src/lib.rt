@@ -27,6 +27,7 @@ mod odometer;
 mod reading;
 mod rows;
 mod solving;
+mod spaces;
 #[cfg(test)]
 mod tests;
 mod totals;
@@ -34,8 +35,9 @@ mod widths;
 mod worths;
 
 pub use bases::base_of;
-pub use decision_sums::{RowSums, row_sums};
+pub use decision_sums::{RowSums, row_sums, row_sums_by};
 pub use faults::SolveFault;
 pub use laws::measured_plans_have_room;
 pub use solving::solve;
+pub use spaces::Workspaces;
 pub use worths::expected;

@@ -17,8 +17,8 @@ ghost use Rattle.rule_solver.specs.Rooms.{HasRoom};
 use crate::SolveFault;
 use crate::answering::answer_all;
 use crate::limits::{keep_bound, keep_sizes};
-use crate::worths::expected_in;
-use factor_core::Workspace;
+use crate::spaces::Workspaces;
+use crate::worths::expected_by;
 use maid_laws::{
     answers_are_optimal, answers_are_subgame_perfect, gains_are_optima, worth_under_the_profile,
 };
@@ -47,19 +47,18 @@ fn solve_along(
 {
     scoped_sums_fit();
     let cells = run.size.cells as usize;
-    let mut small = Workspace::reserve(alloc, cells)?;
-    let mut wide = Workspace::reserve(alloc, cells)?;
+    let mut spaces = Workspaces::reserve(alloc, cells)?;
     let answers = answer_all(
         alloc,
         diagram,
         relevance,
         order,
         &run.decisions,
-        &mut small,
-        &mut wide,
+        &mut spaces.small,
+        &mut spaces.wide,
     )?;
     let profile = Profile::pure(alloc, diagram, &answers)?;
-    let gains = expected_in(alloc, diagram, &profile, &mut small, &mut wide)?;
+    let gains = expected_by(alloc, diagram, &profile, &mut spaces)?;
     Ok(Solved {
         order: Vec::from_slice(alloc, order)?,
         answers,

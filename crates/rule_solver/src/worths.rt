@@ -13,12 +13,13 @@ ghost use Rattle.part_laws.specs.ScopeLaws.{HasUnitRules};
 ghost use Rattle.plan_sums.specs.Plans.{worth_plan};
 ghost use Rattle.size_precheck.specs.Sizes.{IsPlanned};
 ghost use Rattle.rule_solver.specs.Masses.{HasGains};
-ghost use Rattle.rule_solver.specs.Rooms.{HasAtMost, HasRoomForWorths, IsReady};
+ghost use Rattle.rule_solver.specs.Rooms.{AreReady, HasAtMost, HasRoomForWorths, IsReady};
 ghost use Rattle.rule_solver.specs.Totals.{HasTotals};
 ghost use Rattle.rule_solver.specs.Worths.{HasWorths, IsLeastRoom, IsStake, IsWorth, gain_given, scope_gain_for};
 
 use crate::numbers::Number;
 use crate::rows::fraction;
+use crate::spaces::Workspaces;
 use crate::totals::{list_totals, product_in};
 use crate::widths::fits_small;
 use cell_rings::{Gain, SmallGain};
@@ -229,23 +230,34 @@ impl<'a> Stake<'a> {
     }
 }
 
-/// What the profile, whose rules are pure, is worth to each agent. It runs one plan for each utility.
-pub(crate) fn expected_in(
+/// What `expected` tells, in workspaces with room for each utility's plan. It makes each of these plans once, and runs it.
+///
+/// # Errors
+///
+/// Only where memory runs out.
+pub fn expected_by(
     alloc: Global,
     diagram: &Diagram,
     profile: &Profile,
-    small: &mut Workspace<SmallGain>,
-    wide: &mut Workspace<Gain>,
+    spaces: &mut Workspaces,
 ) -> Result<Vec<Ratio>, AllocError>
     requires bound { KeepsScopedBounds diagram.now }
     requires profile { IsProfile diagram.now.nodes profile.now }
     requires pure { HasUnitRules diagram.now.nodes profile.now }
-    requires ready { (cells : ℕ) × IsReady cells small.old × IsReady cells wide.old
+    requires ready { (cells : ℕ) × AreReady cells spaces.old
         × HasRoomForWorths diagram.now.nodes cells }
     ensures gains { IfOk result (λ v. HasGains diagram.now profile.now diagram.now.agents v.items) }
+    ensures again { OnOk result (spaces.new ≡ spaces.old) }
 {
     let totals = list_totals(alloc, diagram, profile)?;
-    let worths = list_worths(alloc, diagram, profile, &totals, small, wide)?;
+    let worths = list_worths(
+        alloc,
+        diagram,
+        profile,
+        &totals,
+        &mut spaces.small,
+        &mut spaces.wide,
+    )?;
     let mut gains = Vec::with_capacity(alloc, diagram.agents())?;
     for agent in 0..diagram.agents() {
         let stake = Stake {
@@ -318,7 +330,6 @@ pub fn expected(
     ensures gains { IfOk result (λ v. HasGains diagram.now profile.now diagram.now.agents v.items) }
 {
     let cells = most_worth_cells(alloc, diagram)?;
-    let mut small = Workspace::reserve(alloc, cells)?;
-    let mut wide = Workspace::reserve(alloc, cells)?;
-    expected_in(alloc, diagram, profile, &mut small, &mut wide)
+    let mut spaces = Workspaces::reserve(alloc, cells)?;
+    expected_by(alloc, diagram, profile, &mut spaces)
 }

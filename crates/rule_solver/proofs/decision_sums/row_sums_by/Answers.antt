@@ -1,0 +1,17 @@
+use Rattle.std.proofs.Common.{subst, sym}
+use Rattle.rule_solver.specs.Totals.{HasTotals}
+use Rattle.rule_solver.proofs.decision_sums.row_sums_by.Goals as goal
+
+pub row_sums-requires-clause-setting : goal.row_sums-requires-clause-setting
+row_sums-requires-clause-setting c = record {
+  is_diagram = c.in_ok-totals.ensures.diagram;
+  is_decision = c.requires.decision;
+  profile = c.requires.profile;
+  rules = c.requires.rules;
+  bound = c.requires.bound.decisions c.args.decision c.requires.decision;
+  has_totals = subst (HasTotals c.args.diagram.now.nodes c.args.profile.now) (sym c.deref.ensures.value) c.in_ok-totals.ensures.totals;
+  is_scope = c.decision_scope.ensures;
+}
+
+pub row_sums-requires-clause-ready : goal.row_sums-requires-clause-ready
+row_sums-requires-clause-ready c = (c.requires.ready.0, c.requires.ready.1.small, c.requires.ready.1.wide, c.requires.ready.2)
