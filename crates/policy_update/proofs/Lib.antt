@@ -7,3 +7,4 @@ mod Rising
 mod Owners
 mod Spent
 mod OneOutcome
+mod Kept

@@ -4,7 +4,6 @@ use Rattle.std.specs.Prelude.{flat_map}
 use Rattle.std.specs.List.{AllZip}
 use Rattle.finite_sums.specs.Members.{Among}
 use Rattle.finite_sums.proofs.Members.{among_from_contains, any_is, contains_from_among, filter_has}
-use Rattle.maid_model.specs.declared.limits.TheConstants.{MOST_PLAN_CELLS}
 use Rattle.maid_model.specs.Laws.{TestsDescent}
 use Rattle.maid_model.specs.Nodes.{agent_of, decisions_of, node_at, numbers_of, owners_of, is_utility}
 use Rattle.maid_model.specs.Relevance.{IsGoal}
@@ -76,14 +75,9 @@ module _ (nodes : List NodeView) (one : OneGreedyOrder) where
       later : (a b c : ℕ) → a ≤ c → a ≤ max b c
       later a b c h = omega arith
 
-  module _ (size : Size) (tested : TestsDescent) (sized : IsSizeOfRun nodes (decisions_of nodes) size) (few : size.cells ≤ MOST_PLAN_CELLS) where
-    run_fits : (plan : PlanView) → IsListed plan (run_plans nodes (decisions_of nodes)) → HasAtMost nodes plan MOST_PLAN_CELLS
-    run_fits plan m made is =
-        let least = subst (HasAtMost nodes plan) (sym sized.cells) (plan_fits (run_plans nodes (decisions_of nodes)) sized.sizes sized.each plan m) made is in
-        within made.size.cells size.cells MOST_PLAN_CELLS least few
-      where
-        within : (a b c : ℕ) → a ≤ b → b ≤ c → a ≤ c
-        within a b c h k = omega arith
+  module _ (size : Size) (tested : TestsDescent) (sized : IsSizeOfRun nodes (decisions_of nodes) size) where
+    run_fits : (plan : PlanView) → IsListed plan (run_plans nodes (decisions_of nodes)) → HasAtMost nodes plan size.cells
+    run_fits plan m = subst (HasAtMost nodes plan) (sym sized.cells) (plan_fits (run_plans nodes (decisions_of nodes)) sized.sizes sized.each plan m)
 
     goal_listed : (d u : ℕ) → IsGoal nodes d u → Among u (goal_list nodes d)
     goal_listed d u goal = filter_has (λ x. is_goal nodes d x) u (numbers_of nodes) (number nodes u goal.within) (λ i. (tested nodes d u).1 goal.below i && (ap is_utility goal.kind i && (any_is (agent_of nodes d) (owners_of nodes u)).1 goal.owner i))
@@ -98,16 +92,16 @@ module _ (nodes : List NodeView) (one : OneGreedyOrder) where
     worths = map (λ u. worth_plan u) (utility_list nodes)
 
     -- the plans of a run are those of rows, then those of states, then those of worths
-    of_rows : (plan : PlanView) → IsListed plan rows → HasAtMost nodes plan MOST_PLAN_CELLS
+    of_rows : (plan : PlanView) → IsListed plan rows → HasAtMost nodes plan size.cells
     of_rows plan m = run_fits plan (listed_left plan (rows ++ gains) worths (listed_left plan rows gains m))
 
-    of_gains : (plan : PlanView) → IsListed plan gains → HasAtMost nodes plan MOST_PLAN_CELLS
+    of_gains : (plan : PlanView) → IsListed plan gains → HasAtMost nodes plan size.cells
     of_gains plan m = run_fits plan (listed_left plan (rows ++ gains) worths (listed_right plan rows gains m))
 
-    of_worths : (plan : PlanView) → IsListed plan worths → HasAtMost nodes plan MOST_PLAN_CELLS
+    of_worths : (plan : PlanView) → IsListed plan worths → HasAtMost nodes plan size.cells
     of_worths plan m = run_fits plan (listed_right plan (rows ++ gains) worths m)
 
-    pub has_room : HasRoom nodes MOST_PLAN_CELLS
+    pub has_room : HasRoom nodes size.cells
     has_room = record {
       decisions = λ d k. record {
         rows = of_rows (row_plan nodes d) (listed_map (λ e. row_plan nodes e) d (decisions_of nodes) (among_decisions nodes d k));

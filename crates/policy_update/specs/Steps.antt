@@ -1,12 +1,18 @@
 -- What the steps of a round promise one another. Only private functions cite it.
-use Rattle.std.specs.Prelude.{◌≡◌, ◌≢◌, ◌<◌, ℕ, ℤ, Bool, true, false, List, All, Option, None, Some, length, map, pos, replicate, slice_index_or}
+use Rattle.std.specs.Prelude.{◌≡◌, ◌≢◌, ◌<◌, ◌≤◌, ℕ, ℤ, Bool, true, false, List, All, Option, None, Some, length, map, pos, replicate, slice_index_or}
 use Rattle.maid_model.specs.declared.answers.Row.{Row}
+use Rattle.maid_model.specs.declared.limits.TheConstants.{MOST_PLAN_CELLS}
 use Rattle.maid_model.specs.Answers.{no_row, pure_profile}
 use Rattle.maid_model.specs.Gains.{gain_at}
 use Rattle.maid_model.specs.Nodes.{decisions_of, rows_of, states_of}
 use Rattle.maid_model.specs.Views.{NodeView, RuleView, AnswerView}
 use Rattle.reach_laws.specs.Updates.{IsImproved, IsReachedAfter, IsStep, IsUpdated}
+use Rattle.rule_solver.specs.declared.spaces.Workspaces.{Workspaces}
+use Rattle.rule_solver.specs.Rooms.{AreReady, HasRoom}
 use Rattle.rule_solver.specs.Rows.{gain_in}
+use Rattle.size_precheck.specs.declared.decisions.DecisionPlans.{DecisionPlans}
+use Rattle.size_precheck.specs.declared.runs.RunPlans.{RunPlans}
+use Rattle.size_precheck.specs.Decisions.{ArePlans}
 use Rattle.policy_update.specs.Updated.{AreChoices}
 
 -- what a state gains in a row
@@ -76,3 +82,17 @@ pub record IsSettled (nodes : List NodeView) (rounds : ℕ) (p : List RuleView) 
 abbrev pub EndsAt : List NodeView → ℕ → List RuleView → Option ℕ → Type 0
 EndsAt nodes rounds p None = IsReachedAfter nodes rounds p
 EndsAt nodes rounds p (Some n) = IsSettled nodes rounds p n
+
+-- the plans of the decisions in text order, and room for each plan of their run within the limit
+pub record IsRun (nodes : List NodeView) (run : RunPlans) : Type 0 where
+  pub plans : ArePlans nodes (decisions_of nodes) run.decisions.items
+  pub room : HasRoom nodes run.size.cells
+  pub limit : run.size.cells ≤ MOST_PLAN_CELLS
+
+-- the plans of the decisions in text order, and workspaces with room for them
+pub record AreKept
+    (nodes : List NodeView) (plans : List DecisionPlans) (spaces : Workspaces) : Type 0 where
+  pub planned : ArePlans nodes (decisions_of nodes) plans
+  pub cells : ℕ
+  pub ready : AreReady cells spaces
+  pub room : HasRoom nodes cells

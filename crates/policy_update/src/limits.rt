@@ -2,16 +2,15 @@
 
 ghost use Rattle.std.specs.Prelude.{◌≡◌, ◌↔◌, IsTrue, IfOk};
 ghost use Rattle.first_fault.specs.Answers.{Passes};
-ghost use Rattle.maid_model.specs.declared.limits.TheConstants.{MOST_PLAN_CELLS};
 ghost use Rattle.maid_model.specs.Nodes.{decisions_of};
 ghost use Rattle.maid_model.specs.Scopes.{KeepsScopedBounds};
 ghost use Rattle.rule_solver.specs.Faults.{KeepsSizes};
-ghost use Rattle.rule_solver.specs.Rooms.{HasRoom};
 ghost use Rattle.policy_update.specs.Faults.{bound_pass, owners_pass, size_pass, update_fault};
+ghost use Rattle.policy_update.specs.Steps.{IsRun};
 
 use crate::UpdateFault;
 use maid_model::{Diagram, MOST_PLAN_CELLS, MOST_WORK, descent_is_tested};
-use size_precheck::{Size, greedy_orders, measure, sizes_of_plans};
+use size_precheck::{RunPlans, Size, greedy_orders, plan_run, sizes_of_plans};
 use std::alloc::Global;
 use weight_scale::{BoundPlace, bound};
 
@@ -47,26 +46,26 @@ fn is_small(size: &Size) -> bool
     size.cells <= MOST_PLAN_CELLS as u128 && size.work <= MOST_WORK
 }
 
-/// Refuses a diagram in which a plan of a run over the decisions needs too many cells, or all plans together too much
-/// work.
+/// The plans of the run over the decisions, and its size. Refuses a diagram in which one of the plans needs too many
+/// cells, or all of them together too much work.
 pub(crate) fn keep_sizes(
     alloc: Global,
     diagram: &Diagram,
     decisions: &[usize],
-) -> Result<(), UpdateFault>
+) -> Result<RunPlans, UpdateFault>
     requires { decisions.now ≡ decisions_of diagram.now.nodes }
     ensures rows { Passes update_fault (size_pass diagram.now) result }
-    ensures room { IfOk result (λ _. HasRoom diagram.now.nodes MOST_PLAN_CELLS) }
+    ensures run { IfOk result (IsRun diagram.now.nodes) }
 {
     sizes_of_plans();
     greedy_orders();
     descent_is_tested();
-    let size = measure(alloc, diagram, decisions)?;
-    if !is_small(&size) {
+    let plans = plan_run(alloc, diagram, decisions)?;
+    if !is_small(&plans.size) {
         return Err(UpdateFault::TooLarge {
-            cells: size.cells,
-            work: size.work,
+            cells: plans.size.cells,
+            work: plans.size.work,
         });
     }
-    Ok(())
+    Ok(plans)
 }

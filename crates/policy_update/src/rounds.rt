@@ -1,40 +1,48 @@
 //! Rounds: the decisions are improved one by one.
 
 ghost use Rattle.std.specs.Prelude.{◌≡◌, ◌<◌, ℕ, IfOk, OnOk, length};
-ghost use Rattle.maid_model.specs.declared.limits.TheConstants.{MOST_PLAN_CELLS};
 ghost use Rattle.maid_laws.specs.Optimum.{IsPure};
 ghost use Rattle.maid_model.specs.Answers.{FitsAnswer};
 ghost use Rattle.maid_model.specs.Scopes.{KeepsScopedBounds};
 ghost use Rattle.maid_model.specs.Subgames.{OwnsAll};
 ghost use Rattle.reach_laws.specs.Updates.{IsUpdateRound, start_profile};
-ghost use Rattle.rule_solver.specs.Rooms.{HasRoom};
-ghost use Rattle.policy_update.specs.Steps.{EndsAt, Improves, IsPlan, IsStepAt, Tells};
+ghost use Rattle.rule_solver.specs.Rooms.{AreReady, HasRoomAt};
+ghost use Rattle.size_precheck.specs.Sizes.{ArePlansOf};
+ghost use Rattle.policy_update.specs.Steps.{AreKept, EndsAt, Improves, IsPlan, IsStepAt, Tells};
 
 use crate::rows::{are_same_choices, improved_rows};
 use maid_model::{Answer, Diagram, Profile, Row, Rule, profile_has_rules};
 use part_laws::{parts_decide, scopes_are_parts};
 use reach_laws::pure_profiles_listed;
-use rule_solver::row_sums;
+use rule_solver::{Workspaces, row_sums_by};
+use size_precheck::DecisionPlans;
 use std::alloc::{AllocError, Global};
 
-/// The rows of an answer, each improved with all other rules as they stand.
+/// The rows of an answer, each improved with all other rules as they stand, by its decision's plans.
 fn improvement(
     alloc: Global,
     diagram: &Diagram,
     profile: &Profile,
     answer: &Answer,
+    plans: &DecisionPlans,
+    spaces: &mut Workspaces,
 ) -> Result<Vec<Row>, AllocError>
     requires bound { KeepsScopedBounds diagram.now }
-    requires room { HasRoom diagram.now.nodes MOST_PLAN_CELLS }
+    requires planned { ArePlansOf diagram.now.nodes answer.now.decision plans.now.rows
+        plans.now.goals.items }
+    requires ready { (cells : ℕ) × AreReady cells spaces.old
+        × HasRoomAt diagram.now.nodes answer.now.decision cells }
     requires pure { IsPure diagram.now.nodes profile.now }
     requires fits { FitsAnswer diagram.now.nodes answer.now }
-    ensures { IfOk result (λ rows. Improves diagram.now.nodes profile.now answer.now rows.items) }
+    ensures rows { IfOk result (λ rows.
+        Improves diagram.now.nodes profile.now answer.now rows.items) }
+    ensures again { OnOk result (spaces.new ≡ spaces.old) }
 {
     // The part of the decision's scope has the whole's best states.
     scopes_are_parts();
     parts_decide();
     let states = diagram.states(answer.decision);
-    let sums = row_sums(alloc, diagram, profile, answer.decision)?;
+    let sums = row_sums_by(alloc, diagram, profile, answer.decision, plans, spaces)?;
     improved_rows(alloc, &sums.gains, states, &answer.rows)
 }
 
@@ -46,12 +54,15 @@ fn improve(
     profile: &mut Profile,
     answers: &mut [Answer],
     place: usize,
+    plans: &[DecisionPlans],
+    spaces: &mut Workspaces,
 ) -> Result<bool, AllocError>
     requires bound { KeepsScopedBounds diagram.now }
-    requires room { HasRoom diagram.now.nodes MOST_PLAN_CELLS }
+    requires kept { AreKept diagram.now.nodes plans.now spaces.old }
     requires plan { IsPlan diagram.now.nodes answers.old profile.old }
     requires place { place < length answers.old }
     ensures plan { OnOk result (IsPlan diagram.now.nodes answers.new profile.new) }
+    ensures again { OnOk result (spaces.new ≡ spaces.old) }
     ensures step { OnOk result (IsStepAt diagram.now.nodes place profile.old profile.new) }
     ensures changed { IfOk result (λ changed. Tells changed profile.old profile.new) }
 {
@@ -60,7 +71,7 @@ fn improve(
     profile_has_rules();
     let answer = &answers[place];
     let decision = answer.decision;
-    let rows = improvement(alloc, diagram, profile, answer)?;
+    let rows = improvement(alloc, diagram, profile, answer, &plans[place], spaces)?;
     if are_same_choices(&rows, &answer.rows) {
         return Ok(false);
     }
@@ -75,12 +86,15 @@ fn go_round(
     diagram: &Diagram,
     profile: &mut Profile,
     answers: &mut [Answer],
+    plans: &[DecisionPlans],
+    spaces: &mut Workspaces,
 ) -> Result<bool, AllocError>
     requires bound { KeepsScopedBounds diagram.now }
-    requires room { HasRoom diagram.now.nodes MOST_PLAN_CELLS }
+    requires kept { AreKept diagram.now.nodes plans.now spaces.old }
     requires owner { (agent : ℕ) × OwnsAll diagram.now.nodes agent }
     requires plan { IsPlan diagram.now.nodes answers.old profile.old }
     ensures plan { OnOk result (IsPlan diagram.now.nodes answers.new profile.new) }
+    ensures again { OnOk result (spaces.new ≡ spaces.old) }
     ensures round { OnOk result (IsUpdateRound diagram.now.nodes profile.old profile.new) }
     ensures raised { IfOk result (λ raised. Tells raised profile.old profile.new) }
 {
@@ -88,7 +102,7 @@ fn go_round(
     let _count = diagram.count();
     let mut raised = false;
     for place in 0..answers.len() {
-        let changed = improve(alloc, diagram, profile, answers, place)?;
+        let changed = improve(alloc, diagram, profile, answers, place, plans, spaces)?;
         if changed {
             raised = true;
         }
@@ -103,17 +117,20 @@ pub(crate) fn settle(
     profile: &mut Profile,
     answers: &mut [Answer],
     rounds: u64,
+    plans: &[DecisionPlans],
+    spaces: &mut Workspaces,
 ) -> Result<Option<u64>, AllocError>
     requires bound { KeepsScopedBounds diagram.now }
-    requires room { HasRoom diagram.now.nodes MOST_PLAN_CELLS }
+    requires kept { AreKept diagram.now.nodes plans.now spaces.old }
     requires owner { (agent : ℕ) × OwnsAll diagram.now.nodes agent }
     requires plan { IsPlan diagram.now.nodes answers.old profile.old }
     requires start { profile.old ≡ start_profile diagram.now.nodes }
     ensures plan { OnOk result (IsPlan diagram.now.nodes answers.new profile.new) }
+    ensures again { OnOk result (spaces.new ≡ spaces.old) }
     ensures settled { IfOk result (EndsAt diagram.now.nodes rounds profile.new) }
 {
     for raised in 0..rounds {
-        if !go_round(alloc, diagram, profile, answers)? {
+        if !go_round(alloc, diagram, profile, answers, plans, spaces)? {
             return Ok(Some(raised));
         }
     }

@@ -2,12 +2,11 @@
 
 ghost use Rattle.std.specs.Prelude.{◌≡◌, ◌<◌, ℕ, IfOk, length, slice_index};
 ghost use Rattle.first_fault.specs.Answers.{Passes};
-ghost use Rattle.maid_model.specs.declared.limits.TheConstants.{MOST_PLAN_CELLS};
 ghost use Rattle.maid_model.specs.Nodes.{agent_of, decisions_of};
 ghost use Rattle.maid_model.specs.Scopes.{KeepsScopedBounds};
 ghost use Rattle.maid_model.specs.Subgames.{OwnsAll};
-ghost use Rattle.rule_solver.specs.Rooms.{HasRoom};
 ghost use Rattle.policy_update.specs.Faults.{HasTwoOwners, rounds_pass, update_fault, update_pass};
+ghost use Rattle.policy_update.specs.Steps.{IsRun};
 ghost use Rattle.policy_update.specs.Updated.{IsLocallyOptimal, IsUpdateOf, RoundsRaise};
 
 use crate::UpdateFault;
@@ -16,7 +15,8 @@ use crate::rounds::settle;
 use crate::starting::{first_choices, list_decisions};
 use maid_model::{Answer, Diagram, Profile, Ratio};
 use reach_laws::{local_optimum, pure_profiles_listed, round_raises};
-use rule_solver::expected;
+use rule_solver::{Workspaces, expected_by};
+use size_precheck::RunPlans;
 use std::alloc::Global;
 use std::marker::Model;
 
@@ -48,18 +48,19 @@ fn owner(diagram: &Diagram, decisions: &[usize]) -> usize
     diagram.agent_of(decisions[0])
 }
 
-/// The result of updating from the first states of all, or the expected utility after so many rounds, each of which
-/// raised.
+/// The result of updating from the first states of all by the plans of the run, or the expected utility after so many
+/// rounds, each of which raised.
 fn update_within(
     alloc: Global,
     diagram: &Diagram,
     decisions: &[usize],
+    run: &RunPlans,
     rounds: u64,
 ) -> Result<Updated, UpdateFault>
     requires decisions { decisions.now ≡ decisions_of diagram.now.nodes }
     requires owner { (agent : ℕ) × OwnsAll diagram.now.nodes agent }
     requires bound { KeepsScopedBounds diagram.now }
-    requires room { HasRoom diagram.now.nodes MOST_PLAN_CELLS }
+    requires run { IsRun diagram.now.nodes run.now }
     requires some { 0 < rounds }
     ensures rows { Passes update_fault (rounds_pass diagram.now rounds) result }
     ensures ok { IfOk result (IsUpdateOf diagram.now) }
@@ -69,8 +70,17 @@ fn update_within(
     let _count = diagram.count();
     let mut answers = first_choices(alloc, diagram, decisions)?;
     let mut profile = Profile::pure(alloc, diagram, &answers)?;
-    let settled = settle(alloc, diagram, &mut profile, &mut answers, rounds)?;
-    let gains = expected(alloc, diagram, &profile)?;
+    let mut spaces = Workspaces::reserve(alloc, run.size.cells as usize)?;
+    let settled = settle(
+        alloc,
+        diagram,
+        &mut profile,
+        &mut answers,
+        rounds,
+        &run.decisions,
+        &mut spaces,
+    )?;
+    let gains = expected_by(alloc, diagram, &profile, &mut spaces)?;
     match settled {
         Some(raised) => Ok(Updated {
             rounds: raised,
@@ -92,8 +102,9 @@ fn update_within(
 /// state of greatest gain. A round raises where it changes a choice; the result is what stands before the first round that
 /// does not. No other rule of any one decision is worth more to the agent.
 ///
-/// A round asks `rule_solver::row_sums` once for each decision, which makes and runs the decision's plans; at the end
-/// `rule_solver::expected` runs one plan for each utility.
+/// The decisions' plans are made once and kept, and two workspaces are reserved once, of small and of wide cells, with
+/// the most cells of a plan. A round asks `rule_solver::row_sums_by` once for each decision, which runs the decision's
+/// plans; at the end `rule_solver::expected_by` makes and runs one plan for each utility.
 ///
 /// # Errors
 ///
@@ -117,6 +128,6 @@ pub fn update(alloc: Global, diagram: &Diagram, rounds: u64) -> Result<Updated, 
     let decisions = list_decisions(alloc, diagram)?;
     keep_one_owner(diagram, &decisions)?;
     keep_bound(diagram)?;
-    keep_sizes(alloc, diagram, &decisions)?;
-    update_within(alloc, diagram, &decisions, rounds)
+    let run = keep_sizes(alloc, diagram, &decisions)?;
+    update_within(alloc, diagram, &decisions, &run, rounds)
 }

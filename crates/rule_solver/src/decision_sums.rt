@@ -312,11 +312,13 @@ fn most_cells(plans: &DecisionPlans) -> u128
     most
 }
 
-/// What `row_sums` tells of a decision, by plans that are made already, in workspaces with room for the largest of them.
+/// What `row_sums` tells of a decision, by plans that are made already, in workspaces with room for the largest of
+/// them.
 ///
-/// The plans, as `size_precheck::plan_decision` makes them, do not depend on the profile: who asks for a decision's sums
-/// again and again keeps both. The workspaces are left as they were found. It may be asked where each scope keeps the
-/// weight bound, and no other rule adds up to more than its decision has states, as pure and uniform ones do.
+/// The plans, as `size_precheck::plan_decision` makes them, do not depend on the profile, so a caller that asks for a
+/// decision's sums again and again keeps them. The workspaces are left as they were found. It may be asked where each
+/// scope keeps the weight bound, and no other rule adds up to more than its decision has states, as pure and uniform
+/// ones do.
 ///
 /// # Errors
 ///

@@ -40,4 +40,4 @@ pub use faults::SolveFault;
 pub use laws::measured_plans_have_room;
 pub use solving::solve;
 pub use spaces::Workspaces;
-pub use worths::expected;
+pub use worths::{expected, expected_by};

@@ -8,8 +8,8 @@ use cell_rings::{Gain, SmallGain};
 use factor_core::Workspace;
 use std::alloc::{AllocError, Global};
 
-/// Two workspaces, one for the plans whose numbers surely fit cells of 64 bits and one for all others. Reserved once, they
-/// serve any number of plans, one after another.
+/// Two workspaces: one for the plans whose numbers surely fit cells of 64 bits, and one for all others. Reserved once,
+/// they serve any number of plans, one after another.
 #[derive(Drop)]
 pub struct Workspaces {
     pub small: Workspace<SmallGain>,

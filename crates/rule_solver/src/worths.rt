@@ -230,7 +230,8 @@ impl<'a> Stake<'a> {
     }
 }
 
-/// What `expected` tells, in workspaces with room for each utility's plan. It makes each of these plans once, and runs it.
+/// What `expected` tells, in workspaces with room for each utility's plan. It makes each of these plans once, and runs
+/// it. The workspaces are left as they were found.
 ///
 /// # Errors
 ///

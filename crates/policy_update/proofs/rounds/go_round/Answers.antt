@@ -7,7 +7,7 @@ use Rattle.maid_model.specs.Views.{AnswerView}
 use Rattle.maid_laws.specs.Optimum.{IsPure}
 use Rattle.reach_laws.specs.Updates.{IsPass, Over}
 use Rattle.reach_laws.proofs.Steps.{step_cases}
-use Rattle.policy_update.specs.Steps.{IsPlan}
+use Rattle.policy_update.specs.Steps.{AreKept, IsPlan}
 use Rattle.policy_update.proofs.Owners.{decision_at}
 use Rattle.policy_update.proofs.Plans.{plan_pure}
 use Rattle.policy_update.proofs.Rising.{pass_more, rises_more, rises_tell}
@@ -15,7 +15,10 @@ use Rattle.policy_update.proofs.rounds.go_round.Goals as goal
 use Rattle.policy_update.proofs.rounds.go_round.Goals.{then-changed, else-changed}
 
 pub loop-place-init : goal.loop-place-init
-loop-place-init c = (c.requires.plan, Over, λ agent owns. refl)
+loop-place-init c = (c.requires.plan, Over, (λ agent owns. refl), refl)
+
+pub improve-requires-clause-kept : goal.improve-requires-clause-kept
+improve-requires-clause-kept c = subst (AreKept c.args.diagram.now.nodes c.args.plans.now) (sym c.loop-place.invariant.3) c.requires.kept
 
 -- one step more
 pub loop-place-preserved : goal.loop-place-preserved
@@ -38,6 +41,7 @@ loop-place-preserved c =
         | then-changed w ↦ (λ agent owns. rises_more nodes agent c.loop-place.raised c.in_ok-changed.changed c.if-changed.raised c.args.profile.now p q (λ e. w.raised-is) (λ e. w.raised-is ∙ sym w.if-changed.true) (c.loop-place.invariant.2 agent owns) c.in_ok-changed.ensures.changed (rises agent owns))
         | else-changed w ↦ (λ agent owns. rises_more nodes agent c.loop-place.raised c.in_ok-changed.changed c.if-changed.raised c.args.profile.now p q (λ e. w.raised-is ∙ e) (λ e. w.raised-is ∙ e ∙ sym w.if-changed.false) (c.loop-place.invariant.2 agent owns) c.in_ok-changed.ensures.changed (rises agent owns))
       ],
+      c.in_ok-changed.ensures.again ∙ c.loop-place.invariant.3,
     )
 
 pub returns-clause-raised : goal.returns-clause-raised

@@ -1,21 +1,44 @@
-use Rattle.std.proofs.Common.{◌≡◌, ◌∙◌, ◌<◌, false, true, List, All, length, map, sym, ap, subst}
+use Rattle.std.proofs.Common.{◌≡◌, ◌∙◌, ◌<◌, false, true, List, All, get_or, length, map, sym, ap, subst, rules}
 use Rattle.maid_model.specs.declared.answers.Row.{Row}
 use Rattle.maid_model.specs.Nodes.{states_of}
 use Rattle.maid_model.specs.Profiles.{HasRule, IsRule, Replaces, pure_rule}
 use Rattle.maid_model.specs.Views.{AnswerView, RuleView}
 use Rattle.maid_laws.specs.Optimum.{IsPure}
+use Rattle.size_precheck.specs.Sizes.{ArePlansOf}
 use Rattle.policy_update.specs.Steps.{AreSameChoices}
+use Rattle.policy_update.proofs.Kept.{plans_at, plans_long, room_at}
 use Rattle.policy_update.proofs.Plans.{IsImprovement, IsPut, changed_new, choices_new, count_new, fits_here, improvement_is, plan_new, plan_pure, step_new, step_same}
 use Rattle.policy_update.proofs.rounds.improve.Goals as goal
 
 pub improvement-requires-clause-pure : goal.improvement-requires-clause-pure
 improvement-requires-clause-pure c = plan_pure c.args.diagram.now.nodes c.pure_profiles_listed.ensures.choices c.args.answers.now c.args.profile.now c.requires.plan
 
--- the choices stay
+-- ---- the decision's plans
+pub bounds-plans-place : goal.bounds-plans-place
+bounds-plans-place c = subst (λ n. c.args.place < n) (sym (plans_long c.args.diagram.now.nodes c.args.answers.now c.args.profile.now c.args.plans.now c.args.spaces.now c.requires.plan c.requires.kept)) c.requires.place
+
+pub offset_bounds-plans-place : goal.offset_bounds-plans-place
+offset_bounds-plans-place c = let here : c.args.place < length c.args.plans.now = bounds-plans-place c in search (rules, here)
+
+pub improvement-requires-clause-planned : goal.improvement-requires-clause-planned
+improvement-requires-clause-planned c =
+    let nodes = c.args.diagram.now.nodes in
+    let e = c.index-answers-place.result in
+    subst (λ own. ArePlansOf nodes (get_or c.args.answers.now c.args.place e).decision own.rows own.goals.items) (sym c.index-plans-place.is)
+    (plans_at nodes c.args.answers.now c.args.profile.now c.args.plans.now c.args.spaces.now c.requires.plan c.requires.kept c.args.place e c.requires.place c.index-plans-place.result)
+
+pub improvement-requires-clause-ready : goal.improvement-requires-clause-ready
+improvement-requires-clause-ready c = (
+  c.requires.kept.cells,
+  c.requires.kept.ready,
+  room_at c.args.diagram.now.nodes c.args.answers.now c.args.profile.now c.args.plans.now c.args.spaces.now c.requires.plan c.requires.kept c.args.place c.index-answers-place.result c.requires.place,
+)
+
+-- ---- the choices stay
 pub returns-then-are_same_choices-clause-step : goal.returns-then-are_same_choices-clause-step
 returns-then-are_same_choices-clause-step c =
     let a : AnswerView = record { decision = c.answer.inside.decision; rows = c.answer.inside.rows.items } in
-    let h = improvement_is c.args.diagram.now.nodes c.args.answers.now c.args.profile.now c.args.place a c.index-answers-place.result c.in_ok-rows.rows.items c.requires.plan c.requires.place c.answer.view_is c.in_ok-rows.ensures in
+    let h = improvement_is c.args.diagram.now.nodes c.args.answers.now c.args.profile.now c.args.place a c.index-answers-place.result c.in_ok-rows.rows.items c.requires.plan c.requires.place c.answer.view_is c.in_ok-rows.ensures.rows in
     step_same c.args.diagram.now.nodes c.pure_profiles_listed.ensures.choices c.args.answers.now c.args.profile.now c.args.place a c.in_ok-rows.rows.items h
     (subst (λ (x : List Row). AreSameChoices x a.rows) c.deref.ensures.value (subst (AreSameChoices c.deref.result.now) c.deref-2.ensures.value (c.are_same_choices.ensures.0 c.if-are_same_choices.true)))
 
@@ -23,7 +46,7 @@ pub put-requires : goal.put-requires
 put-requires c =
     let nodes = c.args.diagram.now.nodes in
     let a : AnswerView = record { decision = c.answer.inside.decision; rows = c.answer.inside.rows.items } in
-    let h = improvement_is nodes c.args.answers.now c.args.profile.now c.args.place a c.index-answers-place.result c.in_ok-rows.rows.items c.requires.plan c.requires.place c.answer.view_is c.in_ok-rows.ensures in
+    let h = improvement_is nodes c.args.answers.now c.args.profile.now c.args.place a c.index-answers-place.result c.in_ok-rows.rows.items c.requires.plan c.requires.place c.answer.view_is c.in_ok-rows.ensures.rows in
     let law = c.pure_profiles_listed.ensures.choices in
     let pure : IsPure nodes c.args.profile.now = plan_pure nodes law c.args.answers.now c.args.profile.now c.requires.plan in
     subst (HasRule c.args.profile.now) (sym (ap (λ (r : RuleView). r.decision) c.in_ok-pure.ensures.choices))
@@ -35,7 +58,7 @@ before c = record { decision = c.answer.inside.decision; rows = c.answer.inside.
 
 improved : (c : goal.After-drop-answers) → IsImprovement c.args.diagram.now.nodes c.args.answers.now c.args.profile.now c.args.place (before c) c.in_ok-rows.rows.items
 improved c =
-    improvement_is c.args.diagram.now.nodes c.args.answers.now c.args.profile.now c.args.place (before c) c.index-answers-place.result c.in_ok-rows.rows.items c.requires.plan c.requires.place c.answer.view_is c.in_ok-rows.ensures
+    improvement_is c.args.diagram.now.nodes c.args.answers.now c.args.profile.now c.args.place (before c) c.index-answers-place.result c.in_ok-rows.rows.items c.requires.plan c.requires.place c.answer.view_is c.in_ok-rows.ensures.rows
 
 -- the new rule is put in the place of the old one
 put : (c : goal.After-drop-answers) → IsPut c.args.diagram.now.nodes c.args.profile.now c.put.new.self (before c) c.in_ok-rows.rows.items

@@ -12,8 +12,8 @@ use Rattle.policy_update.specs.Steps.{AreImproved, gains_in}
 use Rattle.policy_update.proofs.Scopes.{in_whole}
 use Rattle.policy_update.proofs.rounds.improvement.Goals as goal
 
-pub returns : goal.returns
-returns c =
+pub returns-clause-rows : goal.returns-clause-rows
+returns-clause-rows c =
     let nodes = c.args.diagram.now.nodes in
     let p = c.args.profile.now in
     let d = c.args.answer.now.decision in
@@ -26,7 +26,7 @@ returns c =
     (λ row. c.parts_decide.ensures.choices nodes p (scope_of nodes d) d row is.graph is.tables c.requires.pure.profile scope.0 c.requires.fits.decision scope.2 scope.3) in
     let gains = c.deref.result.now in
     let sums : IsRowSums nodes p d gains c.in_ok-sums.sums.masses.items =
-    subst (λ (g : List ℤ). IsRowSums nodes p d g c.in_ok-sums.sums.masses.items) (sym c.deref.ensures.value) (subst (λ e. IsRowSums nodes p e c.in_ok-sums.sums.gains.items c.in_ok-sums.sums.masses.items) same c.in_ok-sums.ensures) in
+    subst (λ (g : List ℤ). IsRowSums nodes p d g c.in_ok-sums.sums.masses.items) (sym c.deref.ensures.value) (subst (λ e. IsRowSums nodes p e c.in_ok-sums.sums.gains.items c.in_ok-sums.sums.masses.items) same c.in_ok-sums.ensures.sums) in
     IfOk-weaker c.improved_rows.result (λ v. AreImproved (gain_in gains (states_of nodes d)) (states_of nodes d) c.args.answer.now.rows v.items) (λ v. AreImproved (gains_in nodes p d) (states_of nodes d) c.args.answer.now.rows v.items)
     (λ v h. in_whole nodes p d alike gains c.in_ok-sums.sums.masses.items sums c.args.answer.now.rows v.items c.requires.fits.rows h)
     (subst (λ n. IfOk c.improved_rows.result (λ v. AreImproved (gain_in gains n) n c.args.answer.now.rows v.items)) states

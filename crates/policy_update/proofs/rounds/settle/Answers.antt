@@ -1,10 +1,13 @@
-use Rattle.std.proofs.Common.{◌≢◌, sym, subst, add-one}
+use Rattle.std.proofs.Common.{◌≢◌, ◌∙◌, refl, sym, subst, add-one}
 use Rattle.reach_laws.specs.Updates.{IsReachedAfter, Raised, Start}
-use Rattle.policy_update.specs.Steps.{Tells}
+use Rattle.policy_update.specs.Steps.{AreKept, Tells}
 use Rattle.policy_update.proofs.rounds.settle.Goals as goal
 
 pub loop-raised-init : goal.loop-raised-init
-loop-raised-init c = (c.requires.plan, subst (IsReachedAfter c.args.diagram.now.nodes 0) (sym c.requires.start) Start)
+loop-raised-init c = (c.requires.plan, subst (IsReachedAfter c.args.diagram.now.nodes 0) (sym c.requires.start) Start, refl)
+
+pub go_round-requires-clause-kept : goal.go_round-requires-clause-kept
+go_round-requires-clause-kept c = subst (AreKept c.args.diagram.now.nodes c.args.plans.now) (sym c.loop-raised.invariant.2) c.requires.kept
 
 -- the round raised
 pub loop-raised-preserved : goal.loop-raised-preserved
@@ -12,4 +15,5 @@ loop-raised-preserved c =
     let differ : c.loop-raised.profile ≢ c.go_round.new.profile = subst (λ b. Tells b c.loop-raised.profile c.go_round.new.profile) c.if-not-branch.false c.in_ok-go_round.ensures.raised in (
       c.in_ok-go_round.ensures.plan,
       subst (λ n. IsReachedAfter c.args.diagram.now.nodes n c.go_round.new.profile) (sym (add-one c.loop-raised.raised)) (Raised c.loop-raised.invariant.1 c.in_ok-go_round.ensures.round differ),
+      c.in_ok-go_round.ensures.again ∙ c.loop-raised.invariant.2,
     )

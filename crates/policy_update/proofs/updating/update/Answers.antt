@@ -34,5 +34,5 @@ returns-in_err-keep_one_owner-clause-rises c none = rounds_raise c.args.diagram.
 pub returns-in_err-keep_bound-clause-rises : goal.returns-in_err-keep_bound-clause-rises
 returns-in_err-keep_bound-clause-rises c none = rounds_raise c.args.diagram.now.nodes c.count-count.ensures.diagram.graph c.count-count.ensures.diagram.tables c.round_raises.ensures.raises none
 
-pub returns-in_err-keep_sizes-clause-rises : goal.returns-in_err-keep_sizes-clause-rises
-returns-in_err-keep_sizes-clause-rises c none = rounds_raise c.args.diagram.now.nodes c.count-count.ensures.diagram.graph c.count-count.ensures.diagram.tables c.round_raises.ensures.raises none
+pub returns-in_err-run-clause-rises : goal.returns-in_err-run-clause-rises
+returns-in_err-run-clause-rises c none = rounds_raise c.args.diagram.now.nodes c.count-count.ensures.diagram.graph c.count-count.ensures.diagram.tables c.round_raises.ensures.raises none

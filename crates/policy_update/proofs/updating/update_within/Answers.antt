@@ -1,6 +1,9 @@
 use Rattle.std.proofs.Common.{◌∙◌, ◌<◌, ◌^◌, length, refl, sym, ap, subst, slice_index}
 use Rattle.maid_model.specs.Answers.{IsExpectedUtility, pure_profile}
 use Rattle.maid_model.specs.Subgames.{OwnsAll}
+use Rattle.maid_model.specs.Nodes.{decisions_of}
+use Rattle.rule_solver.specs.Rooms.{AreReady}
+use Rattle.size_precheck.specs.Decisions.{ArePlans}
 use Rattle.reach_laws.specs.Updates.{IsReachedAfter}
 use Rattle.policy_update.specs.Steps.{EndsAt, IsSettled}
 use Rattle.policy_update.proofs.Owners.{decision_at, owns_like}
@@ -18,11 +21,29 @@ pub settle-requires-clause-start : goal.settle-requires-clause-start
 settle-requires-clause-start c =
     c.in_ok-profile.ensures.rules ∙ ap (pure_profile c.args.diagram.now.nodes) (c.deref.ensures.value ∙ c.in_ok-answers.ensures) ∙ first_start c.args.diagram.now.nodes c.count-count.ensures.diagram.graph
 
-pub expected-requires-clause-profile : goal.expected-requires-clause-profile
-expected-requires-clause-profile c = (plan_pure c.args.diagram.now.nodes c.pure_profiles_listed.ensures.choices c.settle.new.answers c.settle.new.profile c.in_ok-settled.ensures.plan).profile
+pub reserve-requires : goal.reserve-requires
+reserve-requires c = c.requires.run.limit
 
-pub expected-requires-clause-pure : goal.expected-requires-clause-pure
-expected-requires-clause-pure c = (plan_pure c.args.diagram.now.nodes c.pure_profiles_listed.ensures.choices c.settle.new.answers c.settle.new.profile c.in_ok-settled.ensures.plan).total
+pub settle-requires-clause-kept : goal.settle-requires-clause-kept
+settle-requires-clause-kept c = record {
+  planned = subst (ArePlans c.args.diagram.now.nodes (decisions_of c.args.diagram.now.nodes)) (sym c.deref-2.ensures.value) c.requires.run.plans;
+  cells = c.args.run.now.size.cells;
+  ready = c.in_ok-spaces.ensures;
+  room = c.requires.run.room;
+}
+
+pub expected_by-requires-clause-ready : goal.expected_by-requires-clause-ready
+expected_by-requires-clause-ready c = (
+  c.args.run.now.size.cells,
+  subst (AreReady c.args.run.now.size.cells) (sym c.in_ok-settled.ensures.again) c.in_ok-spaces.ensures,
+  c.requires.run.room.worths,
+)
+
+pub expected_by-requires-clause-profile : goal.expected_by-requires-clause-profile
+expected_by-requires-clause-profile c = (plan_pure c.args.diagram.now.nodes c.pure_profiles_listed.ensures.choices c.settle.new.answers c.settle.new.profile c.in_ok-settled.ensures.plan).profile
+
+pub expected_by-requires-clause-pure : goal.expected_by-requires-clause-pure
+expected_by-requires-clause-pure c = (plan_pure c.args.diagram.now.nodes c.pure_profiles_listed.ensures.choices c.settle.new.answers c.settle.new.profile c.in_ok-settled.ensures.plan).total
 
 pub returns-in-Some-clause-rows : goal.returns-in-Some-clause-rows
 returns-in-Some-clause-rows c p reached =
