@@ -12,6 +12,7 @@ use Rattle.maid_laws.proofs.Basis.{LooksAtParents, have_totals}
 use Rattle.maid_laws.proofs.Signs.{table_not_negative}
 use Rattle.maid_laws.proofs.Summed.{later_all}
 use Rattle.maid_laws.proofs.TotalLaws.{has_total}
+use Rattle.maid_model.specs.declared.diagrams.Kind.TheVariants.{Utility}
 use Rattle.maid_model.specs.Diagrams.{IsDiagram}
 use Rattle.maid_model.specs.Gains.{base_total, table_without}
 use Rattle.maid_model.specs.Nodes.{node_at, no_node, states_of, parents_of}
@@ -56,6 +57,14 @@ values_later nodes marks vs h = later_all nodes (λ v w. marked_value nodes mark
 
 pub factors_later : (nodes : List NodeView) (p : List RuleView) (out : ℕ) (vs : List ℕ) → IsDownward nodes vs → IgnoresLater (states_of nodes) (λ v w. table_without nodes p out v w) vs
 factors_later nodes p out vs h = later_all nodes (λ v w. table_without nodes p out v w) (factors_look nodes p out) vs (parents_first nodes vs h)
+
+-- only a utility has a value
+pub no_value : (nodes : List NodeView) (marks : NodeSet) → MarksUtilities nodes marks → (v : ℕ) → v < length nodes → ¬ ((node_at nodes v).kind ≡ Utility) → (w : World) → pos 0 ≡ marked_value nodes marks v w
+no_value nodes marks m v l not w = go (true_or_false (holds marks v))
+  where
+    go : (holds marks v ≡ true) ⊎ (holds marks v ≡ false) → pos 0 ≡ marked_value nodes marks v w
+    go (inl e) = absurd (not (m v l e))
+    go (inr e) = ap (λ b. cond b (slice_index_or (node_at nodes v).cells (row_of nodes v w) (pos 0)) (pos 0)) (sym e)
 
 -- no value exceeds the greatest of its node
 pub values_small : (nodes : List NodeView) (marks : NodeSet) → MarksUtilities nodes marks → (v : ℕ) (w : World) → nat_abs (marked_value nodes marks v w) ≤ greatest_at nodes v

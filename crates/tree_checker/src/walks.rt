@@ -75,8 +75,8 @@ fn walk(
         [v, rest @ ..] => {
             let states = diagram.states(*v);
             let row = world.row(diagram, *v);
-            let sum = utility + value(diagram, marks, *v, row);
             if let Kind::Utility = diagram.kind(*v) {
+                let sum = utility + value(diagram, marks, *v, row);
                 walk(
                     diagram, profile, factors, marks, left_out, rest, tail, world, product, sum,
                     gains, masses,
@@ -91,12 +91,12 @@ fn walk(
                     set_state(world, *v, s);
                     if rest.is_empty() {
                         add_world(
-                            diagram, marks, left_out, tail, world, more, sum, gains, masses,
+                            diagram, marks, left_out, tail, world, more, utility, gains, masses,
                         );
                     } else {
                         walk(
                             diagram, profile, factors, marks, left_out, rest, tail, world, more,
-                            sum, gains, masses,
+                            utility, gains, masses,
                         );
                     }
                 }

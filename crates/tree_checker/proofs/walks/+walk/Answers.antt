@@ -1,10 +1,13 @@
 use Rattle.std.proofs.Common.{rules, ◌≡◌, ◌∙◌, ◌+◌, ◌-◌, ◌*◌, ◌<◌, ◌≤◌, ◌++◌, length, take, drop, sym, ap, subst, arith, slice_index, slice_index_or, pos, ◌+ℤ◌, FitsSigned, to_z, of_z}
 use Rattle.std.proofs.lemmas.Int.{to_z-of_z}
+use Rattle.std.proofs.Math.IntN.{+ℤ_idr}
 use Rattle.std.specs.Int.{w128}
 use Rattle.maid_model.specs.Worlds.{IsWorld, world_of}
 use Rattle.maid_model.specs.Nodes.{counts_of, rows_of, states_of}
+use Rattle.maid_model.specs.Private.{marked_value}
 use Rattle.maid_model.proofs.Picked.{cell_times_fits}
 use Rattle.tree_checker.specs.Walks.{HasRoom, factor_at, gain_with, mass_with, value_at}
+use Rattle.tree_checker.proofs.WalkTables.{no_value}
 use Rattle.tree_checker.proofs.WalkOpened.{down_with, none_before, room_with, whole_opened, shorter, small_fits, room_same, gains_same, moved, nought}
 use Rattle.tree_checker.proofs.WalkSteps.{WalkSoFar, row_within, utility_gain, utility_mass, utility_room, cell_within, cell_small, walk_start, within, walk_gains, walk_masses, next_world, product_fits, walk_skip, sum_fits, next_room, walk_step}
 use Rattle.tree_checker.proofs.WalkTails.{down_after, ended_gain, ended_mass, factor_held, factors_cell, factors_node, tail_room}
@@ -67,7 +70,7 @@ pub walk-requires-else-is_empty : goal.walk-requires-else-is_empty
 walk-requires-else-is_empty t c =
     let some : 0 < length c.args.order.now = c.in-len1-up.len_at_least in
     let same_sum : to_z w128 (of_z w128 c.args.utility) ≡ c.args.utility = to_z-of_z w128 c.args.utility (search rules) in
-    let sum_small : FitsSigned w128 (to_z w128 (of_z w128 c.args.utility) +ℤ to_z w128 (of_z w128 c.value.result)) = small_fits (to_z w128 (of_z w128 c.args.utility) +ℤ to_z w128 (of_z w128 c.value.result)) (sum_fits c.args.diagram.now c.requires.diagram c.args.profile.now c.requires.profile c.args.left_out c.args.marks.now c.requires.marks (slice_index_or c.args.order.now 0 0) (take (length c.args.order.now - 1) (drop 1 c.args.order.now) ++ c.args.tail.now) (down_with c.args.diagram.now.nodes c.args.order.now c.args.tail.now some c.requires.order) c.args.product (to_z w128 (of_z w128 c.args.utility)) 0 c.args.world.now c.requires.world c.args.gains.now c.args.masses.now (room_with c.args.diagram.now.nodes c.args.profile.now c.args.left_out c.args.order.now c.args.tail.now some c.args.product (to_z w128 (of_z w128 c.args.utility)) c.args.utility same_sum c.args.gains.now c.args.masses.now c.requires.room) (to_z w128 (of_z w128 c.value.result)) (to_z-of_z w128 c.value.result (search rules) ∙ c.value.ensures ∙ ap (value_at c.args.diagram.now.nodes c.args.marks.now (slice_index_or c.args.order.now 0 0)) c.row-row.ensures)) in
+    let zero_is : pos 0 ≡ marked_value c.args.diagram.now.nodes c.args.marks.now (slice_index_or c.args.order.now 0 0) (world_of c.args.world.now) = no_value c.args.diagram.now.nodes c.args.marks.now c.requires.marks (slice_index_or c.args.order.now 0 0) ((down_with c.args.diagram.now.nodes c.args.order.now c.args.tail.now some c.requires.order).0) (λ e. c.in_default.not-Utility (c.kind.ensures.kind ∙ e)) (world_of c.args.world.now) in
     let less : length (take (length c.args.order.now - 1) (drop 1 c.args.order.now)) < length c.args.order.now = shorter c.args.order.now some in (
       search rules,
       (
@@ -85,13 +88,13 @@ walk-requires-else-is_empty t c =
                   (
                     c.requires.tail,
                     (
-                      next_world c.args.diagram.now c.requires.diagram c.args.profile.now c.requires.profile c.args.left_out c.args.marks.now c.requires.marks (slice_index_or c.args.order.now 0 0) (take (length c.args.order.now - 1) (drop 1 c.args.order.now) ++ c.args.tail.now) (down_with c.args.diagram.now.nodes c.args.order.now c.args.tail.now some c.requires.order) c.args.product (to_z w128 (of_z w128 c.args.utility)) c.index-before.result.now c.args.world.now c.requires.world c.args.gains.now c.args.masses.now (room_with c.args.diagram.now.nodes c.args.profile.now c.args.left_out c.args.order.now c.args.tail.now some c.args.product (to_z w128 (of_z w128 c.args.utility)) c.args.utility same_sum c.args.gains.now c.args.masses.now c.requires.room) c.loop-s.world c.loop-s.gains c.loop-s.masses c.loop-s.s c.loop-s.invariant (subst (λ k. c.loop-s.s < k) c.states-states.ensures.states c.loop-s-test.true) c.factor.result (factor_held c.args.diagram.now.nodes c.args.profile.now c.args.left_out c.args.factors.now c.requires.factors (slice_index_or c.args.order.now 0 0) ((down_with c.args.diagram.now.nodes c.args.order.now c.args.tail.now some c.requires.order).0) (c.row-row.result * c.states-states.result + c.loop-s.s) (subst (λ k. k < rows_of c.args.diagram.now.nodes (slice_index_or c.args.order.now 0 0) * states_of c.args.diagram.now.nodes (slice_index_or c.args.order.now 0 0)) (sym (λ i. c.row-row.ensures i * c.states-states.ensures.states i + c.loop-s.s)) (cell_within c.args.diagram.now c.requires.diagram c.args.profile.now c.requires.profile c.args.left_out c.args.marks.now c.requires.marks (slice_index_or c.args.order.now 0 0) (take (length c.args.order.now - 1) (drop 1 c.args.order.now) ++ c.args.tail.now) (down_with c.args.diagram.now.nodes c.args.order.now c.args.tail.now some c.requires.order) c.args.product (to_z w128 (of_z w128 c.args.utility)) c.index-before.result.now c.args.world.now c.requires.world c.args.gains.now c.args.masses.now (room_with c.args.diagram.now.nodes c.args.profile.now c.args.left_out c.args.order.now c.args.tail.now some c.args.product (to_z w128 (of_z w128 c.args.utility)) c.args.utility same_sum c.args.gains.now c.args.masses.now c.requires.room) c.loop-s.s (subst (λ k. c.loop-s.s < k) c.states-states.ensures.states c.loop-s-test.true))) c.factor.result c.factor.ensures ∙ ap (factor_at c.args.diagram.now.nodes c.args.profile.now c.args.left_out (slice_index_or c.args.order.now 0 0)) (λ i. c.row-row.ensures i * c.states-states.ensures.states i + c.loop-s.s)) (to_z w128 (of_z w128 c.value.result)) (to_z-of_z w128 c.value.result (search rules) ∙ c.value.ensures ∙ ap (value_at c.args.diagram.now.nodes c.args.marks.now (slice_index_or c.args.order.now 0 0)) c.row-row.ensures) c.set_state.new.world c.set_state.ensures,
+                      next_world c.args.diagram.now c.requires.diagram c.args.profile.now c.requires.profile c.args.left_out c.args.marks.now c.requires.marks (slice_index_or c.args.order.now 0 0) (take (length c.args.order.now - 1) (drop 1 c.args.order.now) ++ c.args.tail.now) (down_with c.args.diagram.now.nodes c.args.order.now c.args.tail.now some c.requires.order) c.args.product (to_z w128 (of_z w128 c.args.utility)) c.index-before.result.now c.args.world.now c.requires.world c.args.gains.now c.args.masses.now (room_with c.args.diagram.now.nodes c.args.profile.now c.args.left_out c.args.order.now c.args.tail.now some c.args.product (to_z w128 (of_z w128 c.args.utility)) c.args.utility same_sum c.args.gains.now c.args.masses.now c.requires.room) c.loop-s.world c.loop-s.gains c.loop-s.masses c.loop-s.s c.loop-s.invariant (subst (λ k. c.loop-s.s < k) c.states-states.ensures.states c.loop-s-test.true) c.factor.result (factor_held c.args.diagram.now.nodes c.args.profile.now c.args.left_out c.args.factors.now c.requires.factors (slice_index_or c.args.order.now 0 0) ((down_with c.args.diagram.now.nodes c.args.order.now c.args.tail.now some c.requires.order).0) (c.row-row.result * c.states-states.result + c.loop-s.s) (subst (λ k. k < rows_of c.args.diagram.now.nodes (slice_index_or c.args.order.now 0 0) * states_of c.args.diagram.now.nodes (slice_index_or c.args.order.now 0 0)) (sym (λ i. c.row-row.ensures i * c.states-states.ensures.states i + c.loop-s.s)) (cell_within c.args.diagram.now c.requires.diagram c.args.profile.now c.requires.profile c.args.left_out c.args.marks.now c.requires.marks (slice_index_or c.args.order.now 0 0) (take (length c.args.order.now - 1) (drop 1 c.args.order.now) ++ c.args.tail.now) (down_with c.args.diagram.now.nodes c.args.order.now c.args.tail.now some c.requires.order) c.args.product (to_z w128 (of_z w128 c.args.utility)) c.index-before.result.now c.args.world.now c.requires.world c.args.gains.now c.args.masses.now (room_with c.args.diagram.now.nodes c.args.profile.now c.args.left_out c.args.order.now c.args.tail.now some c.args.product (to_z w128 (of_z w128 c.args.utility)) c.args.utility same_sum c.args.gains.now c.args.masses.now c.requires.room) c.loop-s.s (subst (λ k. c.loop-s.s < k) c.states-states.ensures.states c.loop-s-test.true))) c.factor.result c.factor.ensures ∙ ap (factor_at c.args.diagram.now.nodes c.args.profile.now c.args.left_out (slice_index_or c.args.order.now 0 0)) (λ i. c.row-row.ensures i * c.states-states.ensures.states i + c.loop-s.s)) (pos 0) zero_is c.set_state.new.world c.set_state.ensures,
                       (
                         c.loop-s.invariant.gain_count ∙ c.requires.gains,
                         (
                           c.loop-s.invariant.mass_count ∙ c.requires.masses,
-                          room_same c.args.diagram.now.nodes c.args.profile.now c.args.left_out (take (length c.args.order.now - 1) (drop 1 c.args.order.now) ++ c.args.tail.now) (c.args.product * c.factor.result) c.loop-s.gains c.loop-s.masses (to_z-of_z w128 (to_z w128 (of_z w128 c.args.utility) +ℤ to_z w128 (of_z w128 c.value.result)) sum_small)
-                              (next_room c.args.diagram.now c.requires.diagram c.args.profile.now c.requires.profile c.args.left_out c.args.marks.now c.requires.marks (slice_index_or c.args.order.now 0 0) (take (length c.args.order.now - 1) (drop 1 c.args.order.now) ++ c.args.tail.now) (down_with c.args.diagram.now.nodes c.args.order.now c.args.tail.now some c.requires.order) c.args.product (to_z w128 (of_z w128 c.args.utility)) c.index-before.result.now c.args.world.now c.requires.world c.args.gains.now c.args.masses.now (room_with c.args.diagram.now.nodes c.args.profile.now c.args.left_out c.args.order.now c.args.tail.now some c.args.product (to_z w128 (of_z w128 c.args.utility)) c.args.utility same_sum c.args.gains.now c.args.masses.now c.requires.room) c.loop-s.world c.loop-s.gains c.loop-s.masses c.loop-s.s c.loop-s.invariant (subst (λ k. c.loop-s.s < k) c.states-states.ensures.states c.loop-s-test.true) c.factor.result (factor_held c.args.diagram.now.nodes c.args.profile.now c.args.left_out c.args.factors.now c.requires.factors (slice_index_or c.args.order.now 0 0) ((down_with c.args.diagram.now.nodes c.args.order.now c.args.tail.now some c.requires.order).0) (c.row-row.result * c.states-states.result + c.loop-s.s) (subst (λ k. k < rows_of c.args.diagram.now.nodes (slice_index_or c.args.order.now 0 0) * states_of c.args.diagram.now.nodes (slice_index_or c.args.order.now 0 0)) (sym (λ i. c.row-row.ensures i * c.states-states.ensures.states i + c.loop-s.s)) (cell_within c.args.diagram.now c.requires.diagram c.args.profile.now c.requires.profile c.args.left_out c.args.marks.now c.requires.marks (slice_index_or c.args.order.now 0 0) (take (length c.args.order.now - 1) (drop 1 c.args.order.now) ++ c.args.tail.now) (down_with c.args.diagram.now.nodes c.args.order.now c.args.tail.now some c.requires.order) c.args.product (to_z w128 (of_z w128 c.args.utility)) c.index-before.result.now c.args.world.now c.requires.world c.args.gains.now c.args.masses.now (room_with c.args.diagram.now.nodes c.args.profile.now c.args.left_out c.args.order.now c.args.tail.now some c.args.product (to_z w128 (of_z w128 c.args.utility)) c.args.utility same_sum c.args.gains.now c.args.masses.now c.requires.room) c.loop-s.s (subst (λ k. c.loop-s.s < k) c.states-states.ensures.states c.loop-s-test.true))) c.factor.result c.factor.ensures ∙ ap (factor_at c.args.diagram.now.nodes c.args.profile.now c.args.left_out (slice_index_or c.args.order.now 0 0)) (λ i. c.row-row.ensures i * c.states-states.ensures.states i + c.loop-s.s)) (to_z w128 (of_z w128 c.value.result)) (to_z-of_z w128 c.value.result (search rules) ∙ c.value.ensures ∙ ap (value_at c.args.diagram.now.nodes c.args.marks.now (slice_index_or c.args.order.now 0 0)) c.row-row.ensures) c.set_state.new.world c.set_state.ensures),
+                          room_same c.args.diagram.now.nodes c.args.profile.now c.args.left_out (take (length c.args.order.now - 1) (drop 1 c.args.order.now) ++ c.args.tail.now) (c.args.product * c.factor.result) c.loop-s.gains c.loop-s.masses (sym (+ℤ_idr (to_z w128 (of_z w128 c.args.utility))))
+                              (next_room c.args.diagram.now c.requires.diagram c.args.profile.now c.requires.profile c.args.left_out c.args.marks.now c.requires.marks (slice_index_or c.args.order.now 0 0) (take (length c.args.order.now - 1) (drop 1 c.args.order.now) ++ c.args.tail.now) (down_with c.args.diagram.now.nodes c.args.order.now c.args.tail.now some c.requires.order) c.args.product (to_z w128 (of_z w128 c.args.utility)) c.index-before.result.now c.args.world.now c.requires.world c.args.gains.now c.args.masses.now (room_with c.args.diagram.now.nodes c.args.profile.now c.args.left_out c.args.order.now c.args.tail.now some c.args.product (to_z w128 (of_z w128 c.args.utility)) c.args.utility same_sum c.args.gains.now c.args.masses.now c.requires.room) c.loop-s.world c.loop-s.gains c.loop-s.masses c.loop-s.s c.loop-s.invariant (subst (λ k. c.loop-s.s < k) c.states-states.ensures.states c.loop-s-test.true) c.factor.result (factor_held c.args.diagram.now.nodes c.args.profile.now c.args.left_out c.args.factors.now c.requires.factors (slice_index_or c.args.order.now 0 0) ((down_with c.args.diagram.now.nodes c.args.order.now c.args.tail.now some c.requires.order).0) (c.row-row.result * c.states-states.result + c.loop-s.s) (subst (λ k. k < rows_of c.args.diagram.now.nodes (slice_index_or c.args.order.now 0 0) * states_of c.args.diagram.now.nodes (slice_index_or c.args.order.now 0 0)) (sym (λ i. c.row-row.ensures i * c.states-states.ensures.states i + c.loop-s.s)) (cell_within c.args.diagram.now c.requires.diagram c.args.profile.now c.requires.profile c.args.left_out c.args.marks.now c.requires.marks (slice_index_or c.args.order.now 0 0) (take (length c.args.order.now - 1) (drop 1 c.args.order.now) ++ c.args.tail.now) (down_with c.args.diagram.now.nodes c.args.order.now c.args.tail.now some c.requires.order) c.args.product (to_z w128 (of_z w128 c.args.utility)) c.index-before.result.now c.args.world.now c.requires.world c.args.gains.now c.args.masses.now (room_with c.args.diagram.now.nodes c.args.profile.now c.args.left_out c.args.order.now c.args.tail.now some c.args.product (to_z w128 (of_z w128 c.args.utility)) c.args.utility same_sum c.args.gains.now c.args.masses.now c.requires.room) c.loop-s.s (subst (λ k. c.loop-s.s < k) c.states-states.ensures.states c.loop-s-test.true))) c.factor.result c.factor.ensures ∙ ap (factor_at c.args.diagram.now.nodes c.args.profile.now c.args.left_out (slice_index_or c.args.order.now 0 0)) (λ i. c.row-row.ensures i * c.states-states.ensures.states i + c.loop-s.s)) (pos 0) zero_is c.set_state.new.world c.set_state.ensures),
                         ),
                       ),
                     ),
@@ -166,22 +169,21 @@ pub loop-s-preserved : goal.loop-s-preserved
 loop-s-preserved t c =
     let some : 0 < length c.args.order.now = c.in-len1-up.len_at_least in
     let same_sum : to_z w128 (of_z w128 c.args.utility) ≡ c.args.utility = to_z-of_z w128 c.args.utility (search rules) in
+    let zero_is : pos 0 ≡ marked_value c.args.diagram.now.nodes c.args.marks.now (slice_index_or c.args.order.now 0 0) (world_of c.args.world.now) = no_value c.args.diagram.now.nodes c.args.marks.now c.requires.marks (slice_index_or c.args.order.now 0 0) ((down_with c.args.diagram.now.nodes c.args.order.now c.args.tail.now some c.requires.order).0) (λ e. c.in_default.not-Utility (c.kind.ensures.kind ∙ e)) (world_of c.args.world.now) in
     elim c.if-more-gt0.branch [
       | then-more-gt0+then-is_empty w ↦
-          let sum_small : FitsSigned w128 (to_z w128 (of_z w128 c.args.utility) +ℤ to_z w128 (of_z w128 c.value.result)) = small_fits (to_z w128 (of_z w128 c.args.utility) +ℤ to_z w128 (of_z w128 c.value.result)) (sum_fits c.args.diagram.now c.requires.diagram c.args.profile.now c.requires.profile c.args.left_out c.args.marks.now c.requires.marks (slice_index_or c.args.order.now 0 0) (take (length c.args.order.now - 1) (drop 1 c.args.order.now) ++ c.args.tail.now) (down_with c.args.diagram.now.nodes c.args.order.now c.args.tail.now some c.requires.order) c.args.product (to_z w128 (of_z w128 c.args.utility)) 0 c.args.world.now c.requires.world c.args.gains.now c.args.masses.now (room_with c.args.diagram.now.nodes c.args.profile.now c.args.left_out c.args.order.now c.args.tail.now some c.args.product (to_z w128 (of_z w128 c.args.utility)) c.args.utility same_sum c.args.gains.now c.args.masses.now c.requires.room) (to_z w128 (of_z w128 c.value.result)) (to_z-of_z w128 c.value.result (search rules) ∙ c.value.ensures ∙ ap (value_at c.args.diagram.now.nodes c.args.marks.now (slice_index_or c.args.order.now 0 0)) c.row-row.ensures)) in
           let none : take (length c.args.order.now - 1) (drop 1 c.args.order.now) ++ c.args.tail.now ≡ c.args.tail.now = none_before (take (length c.args.order.now - 1) (drop 1 c.args.order.now)) c.args.tail.now (search rules) in
-          let world : IsWorld (counts_of c.args.diagram.now.nodes) w.set_state.new.world = next_world c.args.diagram.now c.requires.diagram c.args.profile.now c.requires.profile c.args.left_out c.args.marks.now c.requires.marks (slice_index_or c.args.order.now 0 0) (take (length c.args.order.now - 1) (drop 1 c.args.order.now) ++ c.args.tail.now) (down_with c.args.diagram.now.nodes c.args.order.now c.args.tail.now some c.requires.order) c.args.product (to_z w128 (of_z w128 c.args.utility)) c.index-before.result.now c.args.world.now c.requires.world c.args.gains.now c.args.masses.now (room_with c.args.diagram.now.nodes c.args.profile.now c.args.left_out c.args.order.now c.args.tail.now some c.args.product (to_z w128 (of_z w128 c.args.utility)) c.args.utility same_sum c.args.gains.now c.args.masses.now c.requires.room) c.loop-s.world c.loop-s.gains c.loop-s.masses c.loop-s.s c.loop-s.invariant (subst (λ k. c.loop-s.s < k) c.states-states.ensures.states c.loop-s-test.true) c.factor.result (factor_held c.args.diagram.now.nodes c.args.profile.now c.args.left_out c.args.factors.now c.requires.factors (slice_index_or c.args.order.now 0 0) ((down_with c.args.diagram.now.nodes c.args.order.now c.args.tail.now some c.requires.order).0) (c.row-row.result * c.states-states.result + c.loop-s.s) (subst (λ k. k < rows_of c.args.diagram.now.nodes (slice_index_or c.args.order.now 0 0) * states_of c.args.diagram.now.nodes (slice_index_or c.args.order.now 0 0)) (sym (λ i. c.row-row.ensures i * c.states-states.ensures.states i + c.loop-s.s)) (cell_within c.args.diagram.now c.requires.diagram c.args.profile.now c.requires.profile c.args.left_out c.args.marks.now c.requires.marks (slice_index_or c.args.order.now 0 0) (take (length c.args.order.now - 1) (drop 1 c.args.order.now) ++ c.args.tail.now) (down_with c.args.diagram.now.nodes c.args.order.now c.args.tail.now some c.requires.order) c.args.product (to_z w128 (of_z w128 c.args.utility)) c.index-before.result.now c.args.world.now c.requires.world c.args.gains.now c.args.masses.now (room_with c.args.diagram.now.nodes c.args.profile.now c.args.left_out c.args.order.now c.args.tail.now some c.args.product (to_z w128 (of_z w128 c.args.utility)) c.args.utility same_sum c.args.gains.now c.args.masses.now c.requires.room) c.loop-s.s (subst (λ k. c.loop-s.s < k) c.states-states.ensures.states c.loop-s-test.true))) c.factor.result c.factor.ensures ∙ ap (factor_at c.args.diagram.now.nodes c.args.profile.now c.args.left_out (slice_index_or c.args.order.now 0 0)) (λ i. c.row-row.ensures i * c.states-states.ensures.states i + c.loop-s.s)) (to_z w128 (of_z w128 c.value.result)) (to_z-of_z w128 c.value.result (search rules) ∙ c.value.ensures ∙ ap (value_at c.args.diagram.now.nodes c.args.marks.now (slice_index_or c.args.order.now 0 0)) c.row-row.ensures) w.set_state.new.world w.set_state.ensures in
-          let room : HasRoom c.args.diagram.now.nodes c.args.profile.now c.args.left_out (take (length c.args.order.now - 1) (drop 1 c.args.order.now) ++ c.args.tail.now) (c.args.product * c.factor.result) (to_z w128 (of_z w128 c.args.utility) +ℤ to_z w128 (of_z w128 c.value.result)) c.loop-s.gains c.loop-s.masses = next_room c.args.diagram.now c.requires.diagram c.args.profile.now c.requires.profile c.args.left_out c.args.marks.now c.requires.marks (slice_index_or c.args.order.now 0 0) (take (length c.args.order.now - 1) (drop 1 c.args.order.now) ++ c.args.tail.now) (down_with c.args.diagram.now.nodes c.args.order.now c.args.tail.now some c.requires.order) c.args.product (to_z w128 (of_z w128 c.args.utility)) c.index-before.result.now c.args.world.now c.requires.world c.args.gains.now c.args.masses.now (room_with c.args.diagram.now.nodes c.args.profile.now c.args.left_out c.args.order.now c.args.tail.now some c.args.product (to_z w128 (of_z w128 c.args.utility)) c.args.utility same_sum c.args.gains.now c.args.masses.now c.requires.room) c.loop-s.world c.loop-s.gains c.loop-s.masses c.loop-s.s c.loop-s.invariant (subst (λ k. c.loop-s.s < k) c.states-states.ensures.states c.loop-s-test.true) c.factor.result (factor_held c.args.diagram.now.nodes c.args.profile.now c.args.left_out c.args.factors.now c.requires.factors (slice_index_or c.args.order.now 0 0) ((down_with c.args.diagram.now.nodes c.args.order.now c.args.tail.now some c.requires.order).0) (c.row-row.result * c.states-states.result + c.loop-s.s) (subst (λ k. k < rows_of c.args.diagram.now.nodes (slice_index_or c.args.order.now 0 0) * states_of c.args.diagram.now.nodes (slice_index_or c.args.order.now 0 0)) (sym (λ i. c.row-row.ensures i * c.states-states.ensures.states i + c.loop-s.s)) (cell_within c.args.diagram.now c.requires.diagram c.args.profile.now c.requires.profile c.args.left_out c.args.marks.now c.requires.marks (slice_index_or c.args.order.now 0 0) (take (length c.args.order.now - 1) (drop 1 c.args.order.now) ++ c.args.tail.now) (down_with c.args.diagram.now.nodes c.args.order.now c.args.tail.now some c.requires.order) c.args.product (to_z w128 (of_z w128 c.args.utility)) c.index-before.result.now c.args.world.now c.requires.world c.args.gains.now c.args.masses.now (room_with c.args.diagram.now.nodes c.args.profile.now c.args.left_out c.args.order.now c.args.tail.now some c.args.product (to_z w128 (of_z w128 c.args.utility)) c.args.utility same_sum c.args.gains.now c.args.masses.now c.requires.room) c.loop-s.s (subst (λ k. c.loop-s.s < k) c.states-states.ensures.states c.loop-s-test.true))) c.factor.result c.factor.ensures ∙ ap (factor_at c.args.diagram.now.nodes c.args.profile.now c.args.left_out (slice_index_or c.args.order.now 0 0)) (λ i. c.row-row.ensures i * c.states-states.ensures.states i + c.loop-s.s)) (to_z w128 (of_z w128 c.value.result)) (to_z-of_z w128 c.value.result (search rules) ∙ c.value.ensures ∙ ap (value_at c.args.diagram.now.nodes c.args.marks.now (slice_index_or c.args.order.now 0 0)) c.row-row.ensures) w.set_state.new.world w.set_state.ensures in
+          let world : IsWorld (counts_of c.args.diagram.now.nodes) w.set_state.new.world = next_world c.args.diagram.now c.requires.diagram c.args.profile.now c.requires.profile c.args.left_out c.args.marks.now c.requires.marks (slice_index_or c.args.order.now 0 0) (take (length c.args.order.now - 1) (drop 1 c.args.order.now) ++ c.args.tail.now) (down_with c.args.diagram.now.nodes c.args.order.now c.args.tail.now some c.requires.order) c.args.product (to_z w128 (of_z w128 c.args.utility)) c.index-before.result.now c.args.world.now c.requires.world c.args.gains.now c.args.masses.now (room_with c.args.diagram.now.nodes c.args.profile.now c.args.left_out c.args.order.now c.args.tail.now some c.args.product (to_z w128 (of_z w128 c.args.utility)) c.args.utility same_sum c.args.gains.now c.args.masses.now c.requires.room) c.loop-s.world c.loop-s.gains c.loop-s.masses c.loop-s.s c.loop-s.invariant (subst (λ k. c.loop-s.s < k) c.states-states.ensures.states c.loop-s-test.true) c.factor.result (factor_held c.args.diagram.now.nodes c.args.profile.now c.args.left_out c.args.factors.now c.requires.factors (slice_index_or c.args.order.now 0 0) ((down_with c.args.diagram.now.nodes c.args.order.now c.args.tail.now some c.requires.order).0) (c.row-row.result * c.states-states.result + c.loop-s.s) (subst (λ k. k < rows_of c.args.diagram.now.nodes (slice_index_or c.args.order.now 0 0) * states_of c.args.diagram.now.nodes (slice_index_or c.args.order.now 0 0)) (sym (λ i. c.row-row.ensures i * c.states-states.ensures.states i + c.loop-s.s)) (cell_within c.args.diagram.now c.requires.diagram c.args.profile.now c.requires.profile c.args.left_out c.args.marks.now c.requires.marks (slice_index_or c.args.order.now 0 0) (take (length c.args.order.now - 1) (drop 1 c.args.order.now) ++ c.args.tail.now) (down_with c.args.diagram.now.nodes c.args.order.now c.args.tail.now some c.requires.order) c.args.product (to_z w128 (of_z w128 c.args.utility)) c.index-before.result.now c.args.world.now c.requires.world c.args.gains.now c.args.masses.now (room_with c.args.diagram.now.nodes c.args.profile.now c.args.left_out c.args.order.now c.args.tail.now some c.args.product (to_z w128 (of_z w128 c.args.utility)) c.args.utility same_sum c.args.gains.now c.args.masses.now c.requires.room) c.loop-s.s (subst (λ k. c.loop-s.s < k) c.states-states.ensures.states c.loop-s-test.true))) c.factor.result c.factor.ensures ∙ ap (factor_at c.args.diagram.now.nodes c.args.profile.now c.args.left_out (slice_index_or c.args.order.now 0 0)) (λ i. c.row-row.ensures i * c.states-states.ensures.states i + c.loop-s.s)) (pos 0) zero_is w.set_state.new.world w.set_state.ensures in
+          let room : HasRoom c.args.diagram.now.nodes c.args.profile.now c.args.left_out (take (length c.args.order.now - 1) (drop 1 c.args.order.now) ++ c.args.tail.now) (c.args.product * c.factor.result) (to_z w128 (of_z w128 c.args.utility) +ℤ pos 0) c.loop-s.gains c.loop-s.masses = next_room c.args.diagram.now c.requires.diagram c.args.profile.now c.requires.profile c.args.left_out c.args.marks.now c.requires.marks (slice_index_or c.args.order.now 0 0) (take (length c.args.order.now - 1) (drop 1 c.args.order.now) ++ c.args.tail.now) (down_with c.args.diagram.now.nodes c.args.order.now c.args.tail.now some c.requires.order) c.args.product (to_z w128 (of_z w128 c.args.utility)) c.index-before.result.now c.args.world.now c.requires.world c.args.gains.now c.args.masses.now (room_with c.args.diagram.now.nodes c.args.profile.now c.args.left_out c.args.order.now c.args.tail.now some c.args.product (to_z w128 (of_z w128 c.args.utility)) c.args.utility same_sum c.args.gains.now c.args.masses.now c.requires.room) c.loop-s.world c.loop-s.gains c.loop-s.masses c.loop-s.s c.loop-s.invariant (subst (λ k. c.loop-s.s < k) c.states-states.ensures.states c.loop-s-test.true) c.factor.result (factor_held c.args.diagram.now.nodes c.args.profile.now c.args.left_out c.args.factors.now c.requires.factors (slice_index_or c.args.order.now 0 0) ((down_with c.args.diagram.now.nodes c.args.order.now c.args.tail.now some c.requires.order).0) (c.row-row.result * c.states-states.result + c.loop-s.s) (subst (λ k. k < rows_of c.args.diagram.now.nodes (slice_index_or c.args.order.now 0 0) * states_of c.args.diagram.now.nodes (slice_index_or c.args.order.now 0 0)) (sym (λ i. c.row-row.ensures i * c.states-states.ensures.states i + c.loop-s.s)) (cell_within c.args.diagram.now c.requires.diagram c.args.profile.now c.requires.profile c.args.left_out c.args.marks.now c.requires.marks (slice_index_or c.args.order.now 0 0) (take (length c.args.order.now - 1) (drop 1 c.args.order.now) ++ c.args.tail.now) (down_with c.args.diagram.now.nodes c.args.order.now c.args.tail.now some c.requires.order) c.args.product (to_z w128 (of_z w128 c.args.utility)) c.index-before.result.now c.args.world.now c.requires.world c.args.gains.now c.args.masses.now (room_with c.args.diagram.now.nodes c.args.profile.now c.args.left_out c.args.order.now c.args.tail.now some c.args.product (to_z w128 (of_z w128 c.args.utility)) c.args.utility same_sum c.args.gains.now c.args.masses.now c.requires.room) c.loop-s.s (subst (λ k. c.loop-s.s < k) c.states-states.ensures.states c.loop-s-test.true))) c.factor.result c.factor.ensures ∙ ap (factor_at c.args.diagram.now.nodes c.args.profile.now c.args.left_out (slice_index_or c.args.order.now 0 0)) (λ i. c.row-row.ensures i * c.states-states.ensures.states i + c.loop-s.s)) (pos 0) zero_is w.set_state.new.world w.set_state.ensures in
           moved (λ xs gains masses. WalkSoFar c.args.diagram.now.nodes c.args.profile.now c.args.left_out c.args.marks.now (slice_index_or c.args.order.now 0 0) (take (length c.args.order.now - 1) (drop 1 c.args.order.now) ++ c.args.tail.now) c.args.product (to_z w128 (of_z w128 c.args.utility)) c.index-before.result.now c.args.world.now c.args.gains.now c.args.masses.now xs gains masses (c.loop-s.s + 1)) w.world-is w.gains-is w.masses-is
-          (walk_step c.args.diagram.now c.requires.diagram c.args.profile.now c.requires.profile c.args.left_out c.args.marks.now c.requires.marks (slice_index_or c.args.order.now 0 0) (take (length c.args.order.now - 1) (drop 1 c.args.order.now) ++ c.args.tail.now) (down_with c.args.diagram.now.nodes c.args.order.now c.args.tail.now some c.requires.order) c.args.product (to_z w128 (of_z w128 c.args.utility)) c.index-before.result.now c.args.world.now c.requires.world c.args.gains.now c.args.masses.now (room_with c.args.diagram.now.nodes c.args.profile.now c.args.left_out c.args.order.now c.args.tail.now some c.args.product (to_z w128 (of_z w128 c.args.utility)) c.args.utility same_sum c.args.gains.now c.args.masses.now c.requires.room) c.loop-s.world c.loop-s.gains c.loop-s.masses c.loop-s.s c.loop-s.invariant (subst (λ k. c.loop-s.s < k) c.states-states.ensures.states c.loop-s-test.true) c.factor.result (factor_held c.args.diagram.now.nodes c.args.profile.now c.args.left_out c.args.factors.now c.requires.factors (slice_index_or c.args.order.now 0 0) ((down_with c.args.diagram.now.nodes c.args.order.now c.args.tail.now some c.requires.order).0) (c.row-row.result * c.states-states.result + c.loop-s.s) (subst (λ k. k < rows_of c.args.diagram.now.nodes (slice_index_or c.args.order.now 0 0) * states_of c.args.diagram.now.nodes (slice_index_or c.args.order.now 0 0)) (sym (λ i. c.row-row.ensures i * c.states-states.ensures.states i + c.loop-s.s)) (cell_within c.args.diagram.now c.requires.diagram c.args.profile.now c.requires.profile c.args.left_out c.args.marks.now c.requires.marks (slice_index_or c.args.order.now 0 0) (take (length c.args.order.now - 1) (drop 1 c.args.order.now) ++ c.args.tail.now) (down_with c.args.diagram.now.nodes c.args.order.now c.args.tail.now some c.requires.order) c.args.product (to_z w128 (of_z w128 c.args.utility)) c.index-before.result.now c.args.world.now c.requires.world c.args.gains.now c.args.masses.now (room_with c.args.diagram.now.nodes c.args.profile.now c.args.left_out c.args.order.now c.args.tail.now some c.args.product (to_z w128 (of_z w128 c.args.utility)) c.args.utility same_sum c.args.gains.now c.args.masses.now c.requires.room) c.loop-s.s (subst (λ k. c.loop-s.s < k) c.states-states.ensures.states c.loop-s-test.true))) c.factor.result c.factor.ensures ∙ ap (factor_at c.args.diagram.now.nodes c.args.profile.now c.args.left_out (slice_index_or c.args.order.now 0 0)) (λ i. c.row-row.ensures i * c.states-states.ensures.states i + c.loop-s.s)) (to_z w128 (of_z w128 c.value.result)) (to_z-of_z w128 c.value.result (search rules) ∙ c.value.ensures ∙ ap (value_at c.args.diagram.now.nodes c.args.marks.now (slice_index_or c.args.order.now 0 0)) c.row-row.ensures) w.set_state.new.world w.set_state.ensures w.set_state.new.world w.add_world-then-is_empty.new.gains w.add_world-then-is_empty.new.masses (λ i. w.set_state.new.world)
-          (λ cell. w.add_world-then-is_empty.ensures.gains cell ∙ ap (λ z. slice_index_or c.loop-s.gains cell (pos 0) +ℤ z) (ended_gain c.args.diagram.now c.requires.diagram c.args.profile.now c.requires.profile c.args.left_out c.args.marks.now c.requires.marks (take (length c.args.order.now - 1) (drop 1 c.args.order.now)) c.args.tail.now none c.requires.tail (down_with c.args.diagram.now.nodes c.args.order.now c.args.tail.now some c.requires.order).2 (c.args.product * c.factor.result) (to_z w128 (of_z w128 c.args.utility) +ℤ to_z w128 (of_z w128 c.value.result)) (to_z w128 (of_z w128 (to_z w128 (of_z w128 c.args.utility) +ℤ to_z w128 (of_z w128 c.value.result)))) (to_z-of_z w128 (to_z w128 (of_z w128 c.args.utility) +ℤ to_z w128 (of_z w128 c.value.result)) sum_small) w.set_state.new.world world c.loop-s.gains c.loop-s.masses room cell))
-          (λ cell. w.add_world-then-is_empty.ensures.masses cell ∙ ap (λ z. pos (slice_index c.loop-s.masses cell) +ℤ z) (ended_mass c.args.diagram.now c.requires.diagram c.args.profile.now c.requires.profile c.args.left_out c.args.marks.now c.requires.marks (take (length c.args.order.now - 1) (drop 1 c.args.order.now)) c.args.tail.now none c.requires.tail (down_with c.args.diagram.now.nodes c.args.order.now c.args.tail.now some c.requires.order).2 (c.args.product * c.factor.result) (to_z w128 (of_z w128 c.args.utility) +ℤ to_z w128 (of_z w128 c.value.result)) w.set_state.new.world world c.loop-s.gains c.loop-s.masses room cell))
+          (walk_step c.args.diagram.now c.requires.diagram c.args.profile.now c.requires.profile c.args.left_out c.args.marks.now c.requires.marks (slice_index_or c.args.order.now 0 0) (take (length c.args.order.now - 1) (drop 1 c.args.order.now) ++ c.args.tail.now) (down_with c.args.diagram.now.nodes c.args.order.now c.args.tail.now some c.requires.order) c.args.product (to_z w128 (of_z w128 c.args.utility)) c.index-before.result.now c.args.world.now c.requires.world c.args.gains.now c.args.masses.now (room_with c.args.diagram.now.nodes c.args.profile.now c.args.left_out c.args.order.now c.args.tail.now some c.args.product (to_z w128 (of_z w128 c.args.utility)) c.args.utility same_sum c.args.gains.now c.args.masses.now c.requires.room) c.loop-s.world c.loop-s.gains c.loop-s.masses c.loop-s.s c.loop-s.invariant (subst (λ k. c.loop-s.s < k) c.states-states.ensures.states c.loop-s-test.true) c.factor.result (factor_held c.args.diagram.now.nodes c.args.profile.now c.args.left_out c.args.factors.now c.requires.factors (slice_index_or c.args.order.now 0 0) ((down_with c.args.diagram.now.nodes c.args.order.now c.args.tail.now some c.requires.order).0) (c.row-row.result * c.states-states.result + c.loop-s.s) (subst (λ k. k < rows_of c.args.diagram.now.nodes (slice_index_or c.args.order.now 0 0) * states_of c.args.diagram.now.nodes (slice_index_or c.args.order.now 0 0)) (sym (λ i. c.row-row.ensures i * c.states-states.ensures.states i + c.loop-s.s)) (cell_within c.args.diagram.now c.requires.diagram c.args.profile.now c.requires.profile c.args.left_out c.args.marks.now c.requires.marks (slice_index_or c.args.order.now 0 0) (take (length c.args.order.now - 1) (drop 1 c.args.order.now) ++ c.args.tail.now) (down_with c.args.diagram.now.nodes c.args.order.now c.args.tail.now some c.requires.order) c.args.product (to_z w128 (of_z w128 c.args.utility)) c.index-before.result.now c.args.world.now c.requires.world c.args.gains.now c.args.masses.now (room_with c.args.diagram.now.nodes c.args.profile.now c.args.left_out c.args.order.now c.args.tail.now some c.args.product (to_z w128 (of_z w128 c.args.utility)) c.args.utility same_sum c.args.gains.now c.args.masses.now c.requires.room) c.loop-s.s (subst (λ k. c.loop-s.s < k) c.states-states.ensures.states c.loop-s-test.true))) c.factor.result c.factor.ensures ∙ ap (factor_at c.args.diagram.now.nodes c.args.profile.now c.args.left_out (slice_index_or c.args.order.now 0 0)) (λ i. c.row-row.ensures i * c.states-states.ensures.states i + c.loop-s.s)) (pos 0) zero_is w.set_state.new.world w.set_state.ensures w.set_state.new.world w.add_world-then-is_empty.new.gains w.add_world-then-is_empty.new.masses (λ i. w.set_state.new.world)
+          (λ cell. w.add_world-then-is_empty.ensures.gains cell ∙ ap (λ z. slice_index_or c.loop-s.gains cell (pos 0) +ℤ z) (ended_gain c.args.diagram.now c.requires.diagram c.args.profile.now c.requires.profile c.args.left_out c.args.marks.now c.requires.marks (take (length c.args.order.now - 1) (drop 1 c.args.order.now)) c.args.tail.now none c.requires.tail (down_with c.args.diagram.now.nodes c.args.order.now c.args.tail.now some c.requires.order).2 (c.args.product * c.factor.result) (to_z w128 (of_z w128 c.args.utility) +ℤ pos 0) (to_z w128 (of_z w128 c.args.utility)) (sym (+ℤ_idr (to_z w128 (of_z w128 c.args.utility)))) w.set_state.new.world world c.loop-s.gains c.loop-s.masses room cell))
+          (λ cell. w.add_world-then-is_empty.ensures.masses cell ∙ ap (λ z. pos (slice_index c.loop-s.masses cell) +ℤ z) (ended_mass c.args.diagram.now c.requires.diagram c.args.profile.now c.requires.profile c.args.left_out c.args.marks.now c.requires.marks (take (length c.args.order.now - 1) (drop 1 c.args.order.now)) c.args.tail.now none c.requires.tail (down_with c.args.diagram.now.nodes c.args.order.now c.args.tail.now some c.requires.order).2 (c.args.product * c.factor.result) (to_z w128 (of_z w128 c.args.utility) +ℤ pos 0) w.set_state.new.world world c.loop-s.gains c.loop-s.masses room cell))
           w.add_world-then-is_empty.ensures.gain_count w.add_world-then-is_empty.ensures.mass_count)
       | then-more-gt0+else-is_empty w ↦
-          let sum_small : FitsSigned w128 (to_z w128 (of_z w128 c.args.utility) +ℤ to_z w128 (of_z w128 c.value.result)) = small_fits (to_z w128 (of_z w128 c.args.utility) +ℤ to_z w128 (of_z w128 c.value.result)) (sum_fits c.args.diagram.now c.requires.diagram c.args.profile.now c.requires.profile c.args.left_out c.args.marks.now c.requires.marks (slice_index_or c.args.order.now 0 0) (take (length c.args.order.now - 1) (drop 1 c.args.order.now) ++ c.args.tail.now) (down_with c.args.diagram.now.nodes c.args.order.now c.args.tail.now some c.requires.order) c.args.product (to_z w128 (of_z w128 c.args.utility)) 0 c.args.world.now c.requires.world c.args.gains.now c.args.masses.now (room_with c.args.diagram.now.nodes c.args.profile.now c.args.left_out c.args.order.now c.args.tail.now some c.args.product (to_z w128 (of_z w128 c.args.utility)) c.args.utility same_sum c.args.gains.now c.args.masses.now c.requires.room) (to_z w128 (of_z w128 c.value.result)) (to_z-of_z w128 c.value.result (search rules) ∙ c.value.ensures ∙ ap (value_at c.args.diagram.now.nodes c.args.marks.now (slice_index_or c.args.order.now 0 0)) c.row-row.ensures)) in
           moved (λ xs gains masses. WalkSoFar c.args.diagram.now.nodes c.args.profile.now c.args.left_out c.args.marks.now (slice_index_or c.args.order.now 0 0) (take (length c.args.order.now - 1) (drop 1 c.args.order.now) ++ c.args.tail.now) c.args.product (to_z w128 (of_z w128 c.args.utility)) c.index-before.result.now c.args.world.now c.args.gains.now c.args.masses.now xs gains masses (c.loop-s.s + 1)) w.world-is w.gains-is w.masses-is
-          (walk_step c.args.diagram.now c.requires.diagram c.args.profile.now c.requires.profile c.args.left_out c.args.marks.now c.requires.marks (slice_index_or c.args.order.now 0 0) (take (length c.args.order.now - 1) (drop 1 c.args.order.now) ++ c.args.tail.now) (down_with c.args.diagram.now.nodes c.args.order.now c.args.tail.now some c.requires.order) c.args.product (to_z w128 (of_z w128 c.args.utility)) c.index-before.result.now c.args.world.now c.requires.world c.args.gains.now c.args.masses.now (room_with c.args.diagram.now.nodes c.args.profile.now c.args.left_out c.args.order.now c.args.tail.now some c.args.product (to_z w128 (of_z w128 c.args.utility)) c.args.utility same_sum c.args.gains.now c.args.masses.now c.requires.room) c.loop-s.world c.loop-s.gains c.loop-s.masses c.loop-s.s c.loop-s.invariant (subst (λ k. c.loop-s.s < k) c.states-states.ensures.states c.loop-s-test.true) c.factor.result (factor_held c.args.diagram.now.nodes c.args.profile.now c.args.left_out c.args.factors.now c.requires.factors (slice_index_or c.args.order.now 0 0) ((down_with c.args.diagram.now.nodes c.args.order.now c.args.tail.now some c.requires.order).0) (c.row-row.result * c.states-states.result + c.loop-s.s) (subst (λ k. k < rows_of c.args.diagram.now.nodes (slice_index_or c.args.order.now 0 0) * states_of c.args.diagram.now.nodes (slice_index_or c.args.order.now 0 0)) (sym (λ i. c.row-row.ensures i * c.states-states.ensures.states i + c.loop-s.s)) (cell_within c.args.diagram.now c.requires.diagram c.args.profile.now c.requires.profile c.args.left_out c.args.marks.now c.requires.marks (slice_index_or c.args.order.now 0 0) (take (length c.args.order.now - 1) (drop 1 c.args.order.now) ++ c.args.tail.now) (down_with c.args.diagram.now.nodes c.args.order.now c.args.tail.now some c.requires.order) c.args.product (to_z w128 (of_z w128 c.args.utility)) c.index-before.result.now c.args.world.now c.requires.world c.args.gains.now c.args.masses.now (room_with c.args.diagram.now.nodes c.args.profile.now c.args.left_out c.args.order.now c.args.tail.now some c.args.product (to_z w128 (of_z w128 c.args.utility)) c.args.utility same_sum c.args.gains.now c.args.masses.now c.requires.room) c.loop-s.s (subst (λ k. c.loop-s.s < k) c.states-states.ensures.states c.loop-s-test.true))) c.factor.result c.factor.ensures ∙ ap (factor_at c.args.diagram.now.nodes c.args.profile.now c.args.left_out (slice_index_or c.args.order.now 0 0)) (λ i. c.row-row.ensures i * c.states-states.ensures.states i + c.loop-s.s)) (to_z w128 (of_z w128 c.value.result)) (to_z-of_z w128 c.value.result (search rules) ∙ c.value.ensures ∙ ap (value_at c.args.diagram.now.nodes c.args.marks.now (slice_index_or c.args.order.now 0 0)) c.row-row.ensures) w.set_state.new.world w.set_state.ensures w.walk-else-is_empty.new.world w.walk-else-is_empty.new.gains w.walk-else-is_empty.new.masses w.walk-else-is_empty.ensures.again
-          (gains_same c.args.diagram.now.nodes c.args.profile.now c.args.left_out c.args.marks.now (take (length c.args.order.now - 1) (drop 1 c.args.order.now) ++ c.args.tail.now) (c.args.product * c.factor.result) w.set_state.new.world c.loop-s.gains w.walk-else-is_empty.new.gains (to_z-of_z w128 (to_z w128 (of_z w128 c.args.utility) +ℤ to_z w128 (of_z w128 c.value.result)) sum_small) w.walk-else-is_empty.ensures.gains)
+          (walk_step c.args.diagram.now c.requires.diagram c.args.profile.now c.requires.profile c.args.left_out c.args.marks.now c.requires.marks (slice_index_or c.args.order.now 0 0) (take (length c.args.order.now - 1) (drop 1 c.args.order.now) ++ c.args.tail.now) (down_with c.args.diagram.now.nodes c.args.order.now c.args.tail.now some c.requires.order) c.args.product (to_z w128 (of_z w128 c.args.utility)) c.index-before.result.now c.args.world.now c.requires.world c.args.gains.now c.args.masses.now (room_with c.args.diagram.now.nodes c.args.profile.now c.args.left_out c.args.order.now c.args.tail.now some c.args.product (to_z w128 (of_z w128 c.args.utility)) c.args.utility same_sum c.args.gains.now c.args.masses.now c.requires.room) c.loop-s.world c.loop-s.gains c.loop-s.masses c.loop-s.s c.loop-s.invariant (subst (λ k. c.loop-s.s < k) c.states-states.ensures.states c.loop-s-test.true) c.factor.result (factor_held c.args.diagram.now.nodes c.args.profile.now c.args.left_out c.args.factors.now c.requires.factors (slice_index_or c.args.order.now 0 0) ((down_with c.args.diagram.now.nodes c.args.order.now c.args.tail.now some c.requires.order).0) (c.row-row.result * c.states-states.result + c.loop-s.s) (subst (λ k. k < rows_of c.args.diagram.now.nodes (slice_index_or c.args.order.now 0 0) * states_of c.args.diagram.now.nodes (slice_index_or c.args.order.now 0 0)) (sym (λ i. c.row-row.ensures i * c.states-states.ensures.states i + c.loop-s.s)) (cell_within c.args.diagram.now c.requires.diagram c.args.profile.now c.requires.profile c.args.left_out c.args.marks.now c.requires.marks (slice_index_or c.args.order.now 0 0) (take (length c.args.order.now - 1) (drop 1 c.args.order.now) ++ c.args.tail.now) (down_with c.args.diagram.now.nodes c.args.order.now c.args.tail.now some c.requires.order) c.args.product (to_z w128 (of_z w128 c.args.utility)) c.index-before.result.now c.args.world.now c.requires.world c.args.gains.now c.args.masses.now (room_with c.args.diagram.now.nodes c.args.profile.now c.args.left_out c.args.order.now c.args.tail.now some c.args.product (to_z w128 (of_z w128 c.args.utility)) c.args.utility same_sum c.args.gains.now c.args.masses.now c.requires.room) c.loop-s.s (subst (λ k. c.loop-s.s < k) c.states-states.ensures.states c.loop-s-test.true))) c.factor.result c.factor.ensures ∙ ap (factor_at c.args.diagram.now.nodes c.args.profile.now c.args.left_out (slice_index_or c.args.order.now 0 0)) (λ i. c.row-row.ensures i * c.states-states.ensures.states i + c.loop-s.s)) (pos 0) zero_is w.set_state.new.world w.set_state.ensures w.walk-else-is_empty.new.world w.walk-else-is_empty.new.gains w.walk-else-is_empty.new.masses w.walk-else-is_empty.ensures.again
+          (gains_same c.args.diagram.now.nodes c.args.profile.now c.args.left_out c.args.marks.now (take (length c.args.order.now - 1) (drop 1 c.args.order.now) ++ c.args.tail.now) (c.args.product * c.factor.result) w.set_state.new.world c.loop-s.gains w.walk-else-is_empty.new.gains (sym (+ℤ_idr (to_z w128 (of_z w128 c.args.utility)))) w.walk-else-is_empty.ensures.gains)
           w.walk-else-is_empty.ensures.masses w.walk-else-is_empty.ensures.gain_count w.walk-else-is_empty.ensures.mass_count)
       | else-more-gt0 w ↦
           moved (λ xs gains masses. WalkSoFar c.args.diagram.now.nodes c.args.profile.now c.args.left_out c.args.marks.now (slice_index_or c.args.order.now 0 0) (take (length c.args.order.now - 1) (drop 1 c.args.order.now) ++ c.args.tail.now) c.args.product (to_z w128 (of_z w128 c.args.utility)) c.index-before.result.now c.args.world.now c.args.gains.now c.args.masses.now xs gains masses (c.loop-s.s + 1)) w.world-is w.gains-is w.masses-is
@@ -223,19 +225,19 @@ pub add_world-requires-then-is_empty : goal.add_world-requires-then-is_empty
 add_world-requires-then-is_empty t c =
     let some : 0 < length c.args.order.now = c.in-len1-up.len_at_least in
     let same_sum : to_z w128 (of_z w128 c.args.utility) ≡ c.args.utility = to_z-of_z w128 c.args.utility (search rules) in
-    let sum_small : FitsSigned w128 (to_z w128 (of_z w128 c.args.utility) +ℤ to_z w128 (of_z w128 c.value.result)) = small_fits (to_z w128 (of_z w128 c.args.utility) +ℤ to_z w128 (of_z w128 c.value.result)) (sum_fits c.args.diagram.now c.requires.diagram c.args.profile.now c.requires.profile c.args.left_out c.args.marks.now c.requires.marks (slice_index_or c.args.order.now 0 0) (take (length c.args.order.now - 1) (drop 1 c.args.order.now) ++ c.args.tail.now) (down_with c.args.diagram.now.nodes c.args.order.now c.args.tail.now some c.requires.order) c.args.product (to_z w128 (of_z w128 c.args.utility)) 0 c.args.world.now c.requires.world c.args.gains.now c.args.masses.now (room_with c.args.diagram.now.nodes c.args.profile.now c.args.left_out c.args.order.now c.args.tail.now some c.args.product (to_z w128 (of_z w128 c.args.utility)) c.args.utility same_sum c.args.gains.now c.args.masses.now c.requires.room) (to_z w128 (of_z w128 c.value.result)) (to_z-of_z w128 c.value.result (search rules) ∙ c.value.ensures ∙ ap (value_at c.args.diagram.now.nodes c.args.marks.now (slice_index_or c.args.order.now 0 0)) c.row-row.ensures)) in
+    let zero_is : pos 0 ≡ marked_value c.args.diagram.now.nodes c.args.marks.now (slice_index_or c.args.order.now 0 0) (world_of c.args.world.now) = no_value c.args.diagram.now.nodes c.args.marks.now c.requires.marks (slice_index_or c.args.order.now 0 0) ((down_with c.args.diagram.now.nodes c.args.order.now c.args.tail.now some c.requires.order).0) (λ e. c.in_default.not-Utility (c.kind.ensures.kind ∙ e)) (world_of c.args.world.now) in
     let none : take (length c.args.order.now - 1) (drop 1 c.args.order.now) ++ c.args.tail.now ≡ c.args.tail.now = none_before (take (length c.args.order.now - 1) (drop 1 c.args.order.now)) c.args.tail.now (search rules) in
     record {
       diagram = c.requires.diagram;
       marks = c.requires.marks;
       decision = c.requires.decision;
       tail = down_after c.args.diagram.now.nodes c.args.order.now c.args.tail.now c.requires.order;
-      world = next_world c.args.diagram.now c.requires.diagram c.args.profile.now c.requires.profile c.args.left_out c.args.marks.now c.requires.marks (slice_index_or c.args.order.now 0 0) (take (length c.args.order.now - 1) (drop 1 c.args.order.now) ++ c.args.tail.now) (down_with c.args.diagram.now.nodes c.args.order.now c.args.tail.now some c.requires.order) c.args.product (to_z w128 (of_z w128 c.args.utility)) c.index-before.result.now c.args.world.now c.requires.world c.args.gains.now c.args.masses.now (room_with c.args.diagram.now.nodes c.args.profile.now c.args.left_out c.args.order.now c.args.tail.now some c.args.product (to_z w128 (of_z w128 c.args.utility)) c.args.utility same_sum c.args.gains.now c.args.masses.now c.requires.room) c.loop-s.world c.loop-s.gains c.loop-s.masses c.loop-s.s c.loop-s.invariant (subst (λ k. c.loop-s.s < k) c.states-states.ensures.states c.loop-s-test.true) c.factor.result (factor_held c.args.diagram.now.nodes c.args.profile.now c.args.left_out c.args.factors.now c.requires.factors (slice_index_or c.args.order.now 0 0) ((down_with c.args.diagram.now.nodes c.args.order.now c.args.tail.now some c.requires.order).0) (c.row-row.result * c.states-states.result + c.loop-s.s) (subst (λ k. k < rows_of c.args.diagram.now.nodes (slice_index_or c.args.order.now 0 0) * states_of c.args.diagram.now.nodes (slice_index_or c.args.order.now 0 0)) (sym (λ i. c.row-row.ensures i * c.states-states.ensures.states i + c.loop-s.s)) (cell_within c.args.diagram.now c.requires.diagram c.args.profile.now c.requires.profile c.args.left_out c.args.marks.now c.requires.marks (slice_index_or c.args.order.now 0 0) (take (length c.args.order.now - 1) (drop 1 c.args.order.now) ++ c.args.tail.now) (down_with c.args.diagram.now.nodes c.args.order.now c.args.tail.now some c.requires.order) c.args.product (to_z w128 (of_z w128 c.args.utility)) c.index-before.result.now c.args.world.now c.requires.world c.args.gains.now c.args.masses.now (room_with c.args.diagram.now.nodes c.args.profile.now c.args.left_out c.args.order.now c.args.tail.now some c.args.product (to_z w128 (of_z w128 c.args.utility)) c.args.utility same_sum c.args.gains.now c.args.masses.now c.requires.room) c.loop-s.s (subst (λ k. c.loop-s.s < k) c.states-states.ensures.states c.loop-s-test.true))) c.factor.result c.factor.ensures ∙ ap (factor_at c.args.diagram.now.nodes c.args.profile.now c.args.left_out (slice_index_or c.args.order.now 0 0)) (λ i. c.row-row.ensures i * c.states-states.ensures.states i + c.loop-s.s)) (to_z w128 (of_z w128 c.value.result)) (to_z-of_z w128 c.value.result (search rules) ∙ c.value.ensures ∙ ap (value_at c.args.diagram.now.nodes c.args.marks.now (slice_index_or c.args.order.now 0 0)) c.row-row.ensures) c.set_state.new.world c.set_state.ensures;
+      world = next_world c.args.diagram.now c.requires.diagram c.args.profile.now c.requires.profile c.args.left_out c.args.marks.now c.requires.marks (slice_index_or c.args.order.now 0 0) (take (length c.args.order.now - 1) (drop 1 c.args.order.now) ++ c.args.tail.now) (down_with c.args.diagram.now.nodes c.args.order.now c.args.tail.now some c.requires.order) c.args.product (to_z w128 (of_z w128 c.args.utility)) c.index-before.result.now c.args.world.now c.requires.world c.args.gains.now c.args.masses.now (room_with c.args.diagram.now.nodes c.args.profile.now c.args.left_out c.args.order.now c.args.tail.now some c.args.product (to_z w128 (of_z w128 c.args.utility)) c.args.utility same_sum c.args.gains.now c.args.masses.now c.requires.room) c.loop-s.world c.loop-s.gains c.loop-s.masses c.loop-s.s c.loop-s.invariant (subst (λ k. c.loop-s.s < k) c.states-states.ensures.states c.loop-s-test.true) c.factor.result (factor_held c.args.diagram.now.nodes c.args.profile.now c.args.left_out c.args.factors.now c.requires.factors (slice_index_or c.args.order.now 0 0) ((down_with c.args.diagram.now.nodes c.args.order.now c.args.tail.now some c.requires.order).0) (c.row-row.result * c.states-states.result + c.loop-s.s) (subst (λ k. k < rows_of c.args.diagram.now.nodes (slice_index_or c.args.order.now 0 0) * states_of c.args.diagram.now.nodes (slice_index_or c.args.order.now 0 0)) (sym (λ i. c.row-row.ensures i * c.states-states.ensures.states i + c.loop-s.s)) (cell_within c.args.diagram.now c.requires.diagram c.args.profile.now c.requires.profile c.args.left_out c.args.marks.now c.requires.marks (slice_index_or c.args.order.now 0 0) (take (length c.args.order.now - 1) (drop 1 c.args.order.now) ++ c.args.tail.now) (down_with c.args.diagram.now.nodes c.args.order.now c.args.tail.now some c.requires.order) c.args.product (to_z w128 (of_z w128 c.args.utility)) c.index-before.result.now c.args.world.now c.requires.world c.args.gains.now c.args.masses.now (room_with c.args.diagram.now.nodes c.args.profile.now c.args.left_out c.args.order.now c.args.tail.now some c.args.product (to_z w128 (of_z w128 c.args.utility)) c.args.utility same_sum c.args.gains.now c.args.masses.now c.requires.room) c.loop-s.s (subst (λ k. c.loop-s.s < k) c.states-states.ensures.states c.loop-s-test.true))) c.factor.result c.factor.ensures ∙ ap (factor_at c.args.diagram.now.nodes c.args.profile.now c.args.left_out (slice_index_or c.args.order.now 0 0)) (λ i. c.row-row.ensures i * c.states-states.ensures.states i + c.loop-s.s)) (pos 0) zero_is c.set_state.new.world c.set_state.ensures;
       gains = c.loop-s.invariant.gain_count ∙ c.requires.gains;
       masses = c.loop-s.invariant.mass_count ∙ c.requires.masses;
-      room = tail_room c.args.diagram.now c.requires.diagram c.args.profile.now c.requires.profile c.args.left_out c.args.marks.now c.requires.marks c.args.tail.now (c.args.product * c.factor.result) (to_z w128 (of_z w128 (to_z w128 (of_z w128 c.args.utility) +ℤ to_z w128 (of_z w128 c.value.result)))) c.loop-s.gains c.loop-s.masses
-          (room_same c.args.diagram.now.nodes c.args.profile.now c.args.left_out c.args.tail.now (c.args.product * c.factor.result) c.loop-s.gains c.loop-s.masses (to_z-of_z w128 (to_z w128 (of_z w128 c.args.utility) +ℤ to_z w128 (of_z w128 c.value.result)) sum_small)
-          (subst (λ vs. HasRoom c.args.diagram.now.nodes c.args.profile.now c.args.left_out vs (c.args.product * c.factor.result) (to_z w128 (of_z w128 c.args.utility) +ℤ to_z w128 (of_z w128 c.value.result)) c.loop-s.gains c.loop-s.masses) none (next_room c.args.diagram.now c.requires.diagram c.args.profile.now c.requires.profile c.args.left_out c.args.marks.now c.requires.marks (slice_index_or c.args.order.now 0 0) (take (length c.args.order.now - 1) (drop 1 c.args.order.now) ++ c.args.tail.now) (down_with c.args.diagram.now.nodes c.args.order.now c.args.tail.now some c.requires.order) c.args.product (to_z w128 (of_z w128 c.args.utility)) c.index-before.result.now c.args.world.now c.requires.world c.args.gains.now c.args.masses.now (room_with c.args.diagram.now.nodes c.args.profile.now c.args.left_out c.args.order.now c.args.tail.now some c.args.product (to_z w128 (of_z w128 c.args.utility)) c.args.utility same_sum c.args.gains.now c.args.masses.now c.requires.room) c.loop-s.world c.loop-s.gains c.loop-s.masses c.loop-s.s c.loop-s.invariant (subst (λ k. c.loop-s.s < k) c.states-states.ensures.states c.loop-s-test.true) c.factor.result (factor_held c.args.diagram.now.nodes c.args.profile.now c.args.left_out c.args.factors.now c.requires.factors (slice_index_or c.args.order.now 0 0) ((down_with c.args.diagram.now.nodes c.args.order.now c.args.tail.now some c.requires.order).0) (c.row-row.result * c.states-states.result + c.loop-s.s) (subst (λ k. k < rows_of c.args.diagram.now.nodes (slice_index_or c.args.order.now 0 0) * states_of c.args.diagram.now.nodes (slice_index_or c.args.order.now 0 0)) (sym (λ i. c.row-row.ensures i * c.states-states.ensures.states i + c.loop-s.s)) (cell_within c.args.diagram.now c.requires.diagram c.args.profile.now c.requires.profile c.args.left_out c.args.marks.now c.requires.marks (slice_index_or c.args.order.now 0 0) (take (length c.args.order.now - 1) (drop 1 c.args.order.now) ++ c.args.tail.now) (down_with c.args.diagram.now.nodes c.args.order.now c.args.tail.now some c.requires.order) c.args.product (to_z w128 (of_z w128 c.args.utility)) c.index-before.result.now c.args.world.now c.requires.world c.args.gains.now c.args.masses.now (room_with c.args.diagram.now.nodes c.args.profile.now c.args.left_out c.args.order.now c.args.tail.now some c.args.product (to_z w128 (of_z w128 c.args.utility)) c.args.utility same_sum c.args.gains.now c.args.masses.now c.requires.room) c.loop-s.s (subst (λ k. c.loop-s.s < k) c.states-states.ensures.states c.loop-s-test.true))) c.factor.result c.factor.ensures ∙ ap (factor_at c.args.diagram.now.nodes c.args.profile.now c.args.left_out (slice_index_or c.args.order.now 0 0)) (λ i. c.row-row.ensures i * c.states-states.ensures.states i + c.loop-s.s)) (to_z w128 (of_z w128 c.value.result)) (to_z-of_z w128 c.value.result (search rules) ∙ c.value.ensures ∙ ap (value_at c.args.diagram.now.nodes c.args.marks.now (slice_index_or c.args.order.now 0 0)) c.row-row.ensures) c.set_state.new.world c.set_state.ensures)));
+      room = tail_room c.args.diagram.now c.requires.diagram c.args.profile.now c.requires.profile c.args.left_out c.args.marks.now c.requires.marks c.args.tail.now (c.args.product * c.factor.result) (to_z w128 (of_z w128 c.args.utility)) c.loop-s.gains c.loop-s.masses
+          (room_same c.args.diagram.now.nodes c.args.profile.now c.args.left_out c.args.tail.now (c.args.product * c.factor.result) c.loop-s.gains c.loop-s.masses (sym (+ℤ_idr (to_z w128 (of_z w128 c.args.utility))))
+          (subst (λ vs. HasRoom c.args.diagram.now.nodes c.args.profile.now c.args.left_out vs (c.args.product * c.factor.result) (to_z w128 (of_z w128 c.args.utility) +ℤ pos 0) c.loop-s.gains c.loop-s.masses) none (next_room c.args.diagram.now c.requires.diagram c.args.profile.now c.requires.profile c.args.left_out c.args.marks.now c.requires.marks (slice_index_or c.args.order.now 0 0) (take (length c.args.order.now - 1) (drop 1 c.args.order.now) ++ c.args.tail.now) (down_with c.args.diagram.now.nodes c.args.order.now c.args.tail.now some c.requires.order) c.args.product (to_z w128 (of_z w128 c.args.utility)) c.index-before.result.now c.args.world.now c.requires.world c.args.gains.now c.args.masses.now (room_with c.args.diagram.now.nodes c.args.profile.now c.args.left_out c.args.order.now c.args.tail.now some c.args.product (to_z w128 (of_z w128 c.args.utility)) c.args.utility same_sum c.args.gains.now c.args.masses.now c.requires.room) c.loop-s.world c.loop-s.gains c.loop-s.masses c.loop-s.s c.loop-s.invariant (subst (λ k. c.loop-s.s < k) c.states-states.ensures.states c.loop-s-test.true) c.factor.result (factor_held c.args.diagram.now.nodes c.args.profile.now c.args.left_out c.args.factors.now c.requires.factors (slice_index_or c.args.order.now 0 0) ((down_with c.args.diagram.now.nodes c.args.order.now c.args.tail.now some c.requires.order).0) (c.row-row.result * c.states-states.result + c.loop-s.s) (subst (λ k. k < rows_of c.args.diagram.now.nodes (slice_index_or c.args.order.now 0 0) * states_of c.args.diagram.now.nodes (slice_index_or c.args.order.now 0 0)) (sym (λ i. c.row-row.ensures i * c.states-states.ensures.states i + c.loop-s.s)) (cell_within c.args.diagram.now c.requires.diagram c.args.profile.now c.requires.profile c.args.left_out c.args.marks.now c.requires.marks (slice_index_or c.args.order.now 0 0) (take (length c.args.order.now - 1) (drop 1 c.args.order.now) ++ c.args.tail.now) (down_with c.args.diagram.now.nodes c.args.order.now c.args.tail.now some c.requires.order) c.args.product (to_z w128 (of_z w128 c.args.utility)) c.index-before.result.now c.args.world.now c.requires.world c.args.gains.now c.args.masses.now (room_with c.args.diagram.now.nodes c.args.profile.now c.args.left_out c.args.order.now c.args.tail.now some c.args.product (to_z w128 (of_z w128 c.args.utility)) c.args.utility same_sum c.args.gains.now c.args.masses.now c.requires.room) c.loop-s.s (subst (λ k. c.loop-s.s < k) c.states-states.ensures.states c.loop-s-test.true))) c.factor.result c.factor.ensures ∙ ap (factor_at c.args.diagram.now.nodes c.args.profile.now c.args.left_out (slice_index_or c.args.order.now 0 0)) (λ i. c.row-row.ensures i * c.states-states.ensures.states i + c.loop-s.s)) (pos 0) zero_is c.set_state.new.world c.set_state.ensures)));
     }
 
 pub returns-in-empty-clause-gains : goal.returns-in-empty-clause-gains
