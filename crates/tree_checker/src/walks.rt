@@ -132,8 +132,8 @@ fn weighed(diagram: &Diagram, order: &[usize]) -> usize
 }
 
 /// The gains and masses of the cells of the decision that is left out, over all worlds of the diagram; where none is
-/// left out, the one cell has all worlds. It goes down the nodes once for each choice of states of those before, but
-/// for what has no weight.
+/// left out, the one cell has all worlds. It lists the factors of each node, in as much memory as the tables and the
+/// rules take, and goes down the nodes once for each choice of states of those before, but for what has no weight.
 pub(crate) fn cells_over(
     alloc: Global,
     diagram: &Diagram,

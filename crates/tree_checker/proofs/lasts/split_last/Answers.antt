@@ -1,5 +1,4 @@
-use Rattle.std.proofs.Common.{◌<◌, length}
-use Rattle.tree_checker.proofs.LastSplit.{last_inside, last_whole, tail_inside}
+use Rattle.tree_checker.proofs.LastSplit.{last_inside, tail_inside}
 use Rattle.tree_checker.proofs.lasts.split_last.Goals as goal
 
 pub kind-requires : goal.kind-requires

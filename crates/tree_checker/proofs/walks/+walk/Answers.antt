@@ -2,8 +2,8 @@ use Rattle.std.proofs.Common.{rules, ◌≡◌, ◌∙◌, ◌+◌, ◌-◌, ◌
 use Rattle.std.proofs.lemmas.Int.{to_z-of_z}
 use Rattle.std.proofs.Math.IntN.{+ℤ_idr}
 use Rattle.std.specs.Int.{w128}
-use Rattle.maid_model.specs.Worlds.{IsWorld, world_of}
-use Rattle.maid_model.specs.Nodes.{counts_of, rows_of, states_of}
+use Rattle.maid_model.specs.Worlds.{world_of}
+use Rattle.maid_model.specs.Nodes.{rows_of, states_of}
 use Rattle.maid_model.specs.Private.{marked_value}
 use Rattle.maid_model.proofs.Picked.{cell_times_fits}
 use Rattle.tree_checker.specs.Walks.{HasRoom, IsDownward, ending, factor_at, gain_with, mass_with, value_at}
