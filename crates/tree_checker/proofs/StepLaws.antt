@@ -103,15 +103,6 @@ module _ (d : DiagramView) (is : IsDiagram d) (node : ℕ) (inside : node < leng
         go : (a x y z r k : ℕ) → a + x ≤ y → y ≡ z → z ≤ r → 0 < k → r * k ≤ 65536 → a ≤ 65536
         go a x y z r k h e j l m = omega (arith, mul-le-mul_left r l)
 
-    pub step_at : get_or us i 0 ≡ v → RowSoFar d.nodes node (one_at v) (step * c + 1) us (i + 1)
-    step_at e = record { parents = s.parents; rest = ap (λ t. row_from (states_of d.nodes) (one_at v) (step * c + cond t 1 0) (drop (i + 1) us)) (sym (eqb_yes (get_or us i 0) v e)) ∙ next }
-
-    pub step_past : get_or us i 0 ≢ v → RowSoFar d.nodes node (one_at v) (step * c) us (i + 1)
-    step_past n = record { parents = s.parents; rest = ap (λ a. row_from (states_of d.nodes) (one_at v) a (drop (i + 1) us)) (none (step * c)) ∙ ap (λ t. row_from (states_of d.nodes) (one_at v) (step * c + cond t 1 0) (drop (i + 1) us)) (sym (eqb_no (get_or us i 0) v n)) ∙ next }
-      where
-        none : (a : ℕ) → a ≡ a + 0
-        none a = omega arith
-
   drop_past : (us : List ℕ) (i : ℕ) → length us ≤ i → drop i us ≡ []
   drop_past [] zero h = refl
   drop_past [] (suc i) h = refl
@@ -121,10 +112,3 @@ module _ (d : DiagramView) (is : IsDiagram d) (node : ℕ) (inside : node < leng
   -- after the last parent
   pub step_whole : (step i : ℕ) (us : List ℕ) → RowSoFar d.nodes node (one_at v) step us i → length us ≤ i → step ≤ rows_of d.nodes node
   step_whole step i us s h = subst (λ k. k ≤ rows_of d.nodes node) (sym (ap (row_from (states_of d.nodes) (one_at v) step) (sym (drop_past us i h)) ∙ s.rest)) step_within
-
-  -- the step of cells fits too
-  pub across_fits : (r n : ℕ) → r ≤ rows_of d.nodes node → n ≡ states_of d.nodes node → r * n ≤ 65536
-  across_fits r n h e = go (states_of d.nodes node) (rows_of d.nodes node) h e (is.limits.cells node inside)
-    where
-      go : (k q : ℕ) → r ≤ q → n ≡ k → q * k ≤ 65536 → r * n ≤ 65536
-      go k q h e l = rw e (omega (arith, mul-le-mul_right k h))
