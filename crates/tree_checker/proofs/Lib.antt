@@ -22,3 +22,6 @@ pub mod WalkOpened
 pub mod WalkOrders
 pub mod WalkTotals
 pub mod WalkCells
+pub mod StepLaws
+pub mod WalkLasts
+pub mod LastSplit

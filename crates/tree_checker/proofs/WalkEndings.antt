@@ -1,5 +1,5 @@
 -- What one world adds: the marked cells that it picks, one node after another, and its cell's new sums.
-use Rattle.std.proofs.Common.{◌≡◌, ◌∙◌, ℕ, ◌+◌, ◌-◌, ◌*◌, ◌<◌, ◌≤◌, cond, eqb, List, [], ◌∷◌, length, set, take, drop, sym, ap, subst, arith, ℤ, pos, ◌+ℤ◌, nat_abs, slice_index_or, get_or-set_same, get_or-set_other}
+use Rattle.std.proofs.Common.{◌≡◌, ◌∙◌, ℕ, ◌+◌, ◌-◌, ◌*◌, ◌<◌, ◌≤◌, cond, eqb, List, [], ◌∷◌, length, set, take, drop, sym, ap, subst, arith, ℤ, pos, ◌+ℤ◌, nat_abs, slice_index, slice_index_or, get_or-set_same, get_or-set_other}
 use Rattle.std.proofs.Math.Decide.{ℕ_discrete}
 use Rattle.std.proofs.Math.IntN.{+ℤ_assoc, +ℤ_idr}
 use Rattle.std.proofs.Math.Nat.{mul-le-mul_left}
@@ -16,9 +16,9 @@ use Rattle.maid_model.proofs.Picked.{world_in_range}
 use Rattle.maid_model.proofs.Summing.{abs_add}
 use Rattle.maid_model.proofs.Tables.{row_of-below}
 use Rattle.node_sets.specs.declared.sets.NodeSet.{NodeSet}
-use Rattle.tree_checker.specs.Walks.{greatest_at, utility_with}
+use Rattle.tree_checker.specs.Walks.{HasRoomAt, greatest_at, utility_with, value_at}
 use Rattle.tree_checker.proofs.WalkOpened.{order_opened}
-use Rattle.tree_checker.proofs.WalkTables.{values_small}
+use Rattle.tree_checker.proofs.WalkTables.{cells_small, values_small}
 
 -- the row that a world picks is one of the node's
 pub row_in : (d : DiagramView) → IsDiagram d → (xs : List ℕ) → IsWorld (counts_of d.nodes) xs → (v row : ℕ) → row ≡ row_of d.nodes v (world_of xs) → row < rows_of d.nodes v
@@ -81,3 +81,35 @@ cell_added gains cell picked z y l e f c = go (ℕ_discrete c cell)
         get_or-set_other gains cell c (slice_index_or gains cell (pos 0) +ℤ z) (pos 0) n
         ∙ sym (+ℤ_idr (slice_index_or gains c (pos 0)))
         ∙ ap (λ b. slice_index_or gains c (pos 0) +ℤ cond b y (pos 0)) (sym (eqb_no picked c (λ h. n (sym h ∙ sym e))))
+
+-- the same of masses
+pub mass_added : (masses : List ℕ) (cell t : ℕ) → cell < length masses → (c : ℕ)
+    → pos (slice_index (set masses cell (slice_index masses cell + t)) c) ≡ pos (slice_index masses c) +ℤ cond (eqb cell c) (pos t) (pos 0)
+mass_added masses cell t l c = go (ℕ_discrete c cell)
+  where
+    go : Dec (c ≡ cell) → pos (slice_index (set masses cell (slice_index masses cell + t)) c) ≡ pos (slice_index masses c) +ℤ cond (eqb cell c) (pos t) (pos 0)
+    go (yes h) =
+        ap (λ k. pos (slice_index (set masses cell (slice_index masses cell + t)) k)) h ∙ ap pos (get_or-set_same masses cell (slice_index masses cell + t) 0 l)
+        ∙ ap (λ k. pos (slice_index masses k) +ℤ pos t) (sym h)
+        ∙ ap (λ b. pos (slice_index masses c) +ℤ cond b (pos t) (pos 0)) (sym (eqb_yes cell c (sym h)))
+    go (no n) =
+        ap pos (get_or-set_other masses cell c (slice_index masses cell + t) 0 n)
+        ∙ sym (+ℤ_idr (pos (slice_index masses c)))
+        ∙ ap (λ b. pos (slice_index masses c) +ℤ cond b (pos t) (pos 0)) (sym (eqb_no cell c (λ e. n (sym e))))
+
+-- the one utility after a node: its value fits, and its product with the weight beside what the cell has
+module _ (nodes : List NodeView) (marks : NodeSet) (utilities : MarksUtilities nodes marks) (u : ℕ) (inside : u < length nodes) (row m : ℕ) (q : ℤ) (gains : List ℤ) (masses : List ℕ) (room : HasRoomAt nodes (u ∷ []) m q gains masses) where
+  pub more_le : nat_abs (q +ℤ value_at nodes marks u row) ≤ greatest_utility nodes
+  more_le = go (nat_abs (q +ℤ value_at nodes marks u row)) (nat_abs q) (nat_abs (value_at nodes marks u row)) (greatest_at nodes u) (abs_add q (value_at nodes marks u row)) (cells_small nodes marks utilities u inside row) room.utility
+    where
+      go : (y a b g : ℕ) → y ≤ a + b → b ≤ g → a + (g + 0) ≤ greatest_utility nodes → y ≤ greatest_utility nodes
+      go y a b g h i j = omega arith
+
+  pub more_fits : nat_abs (q +ℤ value_at nodes marks u row) ≤ greatest_number
+  more_fits = omega (arith, more_le, room.most)
+
+  pub picked_fits : (c : ℕ) (z : ℤ) → z ≡ q +ℤ value_at nodes marks u row → nat_abs (slice_index_or gains c (pos 0)) + m * nat_abs z ≤ greatest_number
+  picked_fits c z e = go (m * nat_abs z) (m * greatest_utility nodes) (nat_abs (slice_index_or gains c (pos 0))) (mul-le-mul_left m (subst (λ x. nat_abs x ≤ greatest_utility nodes) (sym e) more_le)) (room.gain c)
+    where
+      go : (a b g : ℕ) → a ≤ b → g + b ≤ greatest_number → g + a ≤ greatest_number
+      go a b g h k = omega arith

@@ -1,5 +1,5 @@
 -- What a walk uses of a diagram: at which nodes its factors and values look, what they add up to, and how large they get.
-use Rattle.std.proofs.Common.{◌≡◌, ◌∙◌, ◌⊎◌, ℕ, ◌<◌, ◌≤◌, Bool, true, false, cond, eqb, List, [], ◌∷◌, length, refl, sym, ap, subst, inl, inr, arith, pos, ◌≤ℤ◌, nat_abs, slice_index_or}
+use Rattle.std.proofs.Common.{◌≡◌, ◌∙◌, ◌⊎◌, ℕ, zero, suc, ℤ, ◌<◌, ◌≤◌, Bool, true, false, cond, eqb, List, [], ◌∷◌, length, refl, sym, ap, subst, inl, inr, arith, pos, ◌≤ℤ◌, nat_abs, slice_index_or}
 use Rattle.std.proofs.lemmas.Int.{ints}
 use Rattle.std.proofs.lemmas.List.{get_or_past}
 use Rattle.std.proofs.Math.Decide.{ℕ_discrete, dec_lt}
@@ -12,9 +12,10 @@ use Rattle.maid_laws.proofs.Basis.{LooksAtParents, have_totals}
 use Rattle.maid_laws.proofs.Signs.{table_not_negative}
 use Rattle.maid_laws.proofs.Summed.{later_all}
 use Rattle.maid_laws.proofs.TotalLaws.{has_total}
+use Rattle.maid_model.specs.declared.diagrams.Kind.TheVariants.{Utility}
 use Rattle.maid_model.specs.Diagrams.{IsDiagram}
-use Rattle.maid_model.specs.Gains.{base_total, table_without}
-use Rattle.maid_model.specs.Nodes.{node_at, no_node, states_of, parents_of}
+use Rattle.maid_model.specs.Gains.{base_total, greatest_abs, table_without}
+use Rattle.maid_model.specs.Nodes.{is_utility, node_at, no_node, states_of, parents_of}
 use Rattle.maid_model.specs.Private.{MarksUtilities, marked_value}
 use Rattle.maid_model.specs.Profiles.{IsProfile}
 use Rattle.maid_model.specs.Tables.{row_of, table, weight_total}
@@ -27,7 +28,7 @@ use Rattle.maid_model.proofs.Uniform.{sum_ones}
 use Rattle.maid_model.proofs.Weighing.{tables_of}
 use Rattle.node_sets.specs.declared.sets.NodeSet.{NodeSet}
 use Rattle.node_sets.specs.Sets.{holds}
-use Rattle.tree_checker.specs.Walks.{IsDownward, greatest_at}
+use Rattle.tree_checker.specs.Walks.{IsDownward, greatest_at, value_at}
 
 pub parents_first : (nodes : List NodeView) (vs : List ℕ) → IsDownward nodes vs → ParentsFirst nodes vs
 parents_first nodes [] h = tt
@@ -57,6 +58,14 @@ values_later nodes marks vs h = later_all nodes (λ v w. marked_value nodes mark
 pub factors_later : (nodes : List NodeView) (p : List RuleView) (out : ℕ) (vs : List ℕ) → IsDownward nodes vs → IgnoresLater (states_of nodes) (λ v w. table_without nodes p out v w) vs
 factors_later nodes p out vs h = later_all nodes (λ v w. table_without nodes p out v w) (factors_look nodes p out) vs (parents_first nodes vs h)
 
+-- only a utility has a value
+pub no_value : (nodes : List NodeView) (marks : NodeSet) → MarksUtilities nodes marks → (v : ℕ) → v < length nodes → ¬ ((node_at nodes v).kind ≡ Utility) → (w : World) → pos 0 ≡ marked_value nodes marks v w
+no_value nodes marks m v l not w = go (true_or_false (holds marks v))
+  where
+    go : (holds marks v ≡ true) ⊎ (holds marks v ≡ false) → pos 0 ≡ marked_value nodes marks v w
+    go (inl e) = absurd (not (m v l e))
+    go (inr e) = ap (λ b. cond b (slice_index_or (node_at nodes v).cells (row_of nodes v w) (pos 0)) (pos 0)) (sym e)
+
 -- no value exceeds the greatest of its node
 pub values_small : (nodes : List NodeView) (marks : NodeSet) → MarksUtilities nodes marks → (v : ℕ) (w : World) → nat_abs (marked_value nodes marks v w) ≤ greatest_at nodes v
 values_small nodes marks m v w = go (dec_lt v (length nodes)) (true_or_false (holds marks v))
@@ -72,6 +81,21 @@ values_small nodes marks m v w = go (dec_lt v (length nodes)) (true_or_false (ho
     go (yes l) (inl e) = value_le nodes marks w v m l e
     go d (inr e) = subst (λ b. nat_abs (cond b (slice_index_or (node_at nodes v).cells (row_of nodes v w) (pos 0)) (pos 0)) ≤ greatest_at nodes v) (sym e) (omega arith)
     go (no n) (inl e) = subst (λ (x : NodeView). nat_abs (cond (holds marks v) (slice_index_or x.cells (row_of nodes v w) (pos 0)) (pos 0)) ≤ greatest_at nodes v) (sym (get_or_past nodes v no_node (past n))) (unmarked (holds marks v))
+
+cell_abs : (cells : List ℤ) (i : ℕ) → nat_abs (slice_index_or cells i (pos 0)) ≤ greatest_abs cells
+cell_abs [] i = omega arith
+cell_abs (x ∷ xs) zero = omega arith
+cell_abs (x ∷ xs) (suc i) = omega (arith, cell_abs xs i)
+
+-- the same of any row
+pub cells_small : (nodes : List NodeView) (marks : NodeSet) → MarksUtilities nodes marks → (v : ℕ) → v < length nodes → (row : ℕ) → nat_abs (value_at nodes marks v row) ≤ greatest_at nodes v
+cells_small nodes marks m v l row = go (true_or_false (holds marks v))
+  where
+    go : (holds marks v ≡ true) ⊎ (holds marks v ≡ false) → nat_abs (value_at nodes marks v row) ≤ greatest_at nodes v
+    go (inl e) =
+        subst (λ b. nat_abs (cond b (slice_index_or (node_at nodes v).cells row (pos 0)) (pos 0)) ≤ greatest_at nodes v) (sym e)
+        (subst (λ k. nat_abs (slice_index_or (node_at nodes v).cells row (pos 0)) ≤ cond (is_utility k) (greatest_abs (node_at nodes v).cells) 0) (sym (m v l e)) (cell_abs (node_at nodes v).cells row))
+    go (inr e) = subst (λ b. nat_abs (cond b (slice_index_or (node_at nodes v).cells row (pos 0)) (pos 0)) ≤ greatest_at nodes v) (sym e) (omega arith)
 
 module _ (d : DiagramView) (is : IsDiagram d) (p : List RuleView) (prof : IsProfile d.nodes p) (out : ℕ) where
   pub factors_positive : (v : ℕ) (w : World) → pos 0 ≤ℤ table_without d.nodes p out v w

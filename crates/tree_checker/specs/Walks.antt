@@ -1,16 +1,18 @@
 -- What a walk down a list of nodes adds up: over all ways to give states to the nodes of the list.
-use Rattle.std.specs.Prelude.{◌≡◌, ◌≢◌, ℕ, ◌+◌, ◌*◌, ◌^◌, ◌<◌, ◌≤◌, List, [], ◌∷◌, length, slice_index, slice_index_or, ℤ, pos, ◌+ℤ◌, ◌*ℤ◌, nat_abs, ◌==◌, if◌then◌else◌}
+use Rattle.std.specs.Prelude.{◌≡◌, ◌≢◌, ℕ, ◌+◌, ◌*◌, ◌^◌, ◌<◌, ◌≤◌, List, [], ◌∷◌, length, slice_index, slice_index_or, ℤ, pos, ◌+ℤ◌, ◌*ℤ◌, nat_abs, Option, None, Some, ◌==◌, if◌then◌else◌}
 use Rattle.finite_sums.specs.Members.{Among}
 use Rattle.finite_sums.specs.Sums.{World, nat_product_over, nat_sum_over, product_over, sum_each, sum_over}
 use Rattle.maid_model.specs.declared.diagrams.Kind.TheVariants.{Utility}
-use Rattle.maid_model.specs.Diagrams.{greatest_number}
+use Rattle.maid_model.specs.Diagrams.{IsDiagram, greatest_number}
 use Rattle.maid_model.specs.Gains.{base_total, greatest_abs, greatest_utility, sum_worlds, table_without, weight_without}
 use Rattle.maid_model.specs.Nodes.{is_utility, node_at, parents_of, rows_of, states_of}
-use Rattle.maid_model.specs.Private.{marked_utility, marked_value}
-use Rattle.maid_model.specs.Tables.{cell_of, table_by, weights_of}
+use Rattle.maid_model.specs.Private.{MarksUtilities, marked_utility, marked_value}
+use Rattle.maid_model.specs.Profiles.{IsProfile}
+use Rattle.maid_model.specs.Tables.{cell_of, row_from, table_by, weights_of}
 use Rattle.maid_model.specs.Views.{DiagramView, NodeView, RuleView}
 use Rattle.node_sets.specs.declared.sets.NodeSet.{NodeSet}
 use Rattle.node_sets.specs.Sets.{holds}
+use Rattle.tree_checker.specs.declared.settings.Last.{Last}
 
 -- nodes none of which stands again later, or has a later one as a parent
 abbrev pub IsDownward : List NodeView → List ℕ → Type 0
@@ -47,6 +49,15 @@ abbrev pub value_at : List NodeView → NodeSet → ℕ → ℕ → ℤ
 value_at nodes marks v row =
     if holds marks v then slice_index_or (node_at nodes v).cells row (pos 0) else pos 0
 
+-- how many rows further u's row is for each further state of v
+abbrev pub row_step : List NodeView → ℕ → ℕ → ℕ
+row_step nodes u v =
+    row_from (states_of nodes) (λ x. if x == v then 1 else 0) 0 (parents_of nodes u)
+
+-- how many cells further u's cell is
+abbrev pub cell_step : List NodeView → ℕ → ℕ → ℕ
+cell_step nodes u v = row_step nodes u v * states_of nodes u + (if u == v then 1 else 0)
+
 -- the product so far times the factors of the listed nodes, without the rule of the decision d
 abbrev pub weight_with : List NodeView → List RuleView → ℕ → List ℕ → ℕ → World → ℤ
 weight_with nodes p d vs product w =
@@ -80,6 +91,32 @@ world_mass nodes d product c w = if cell_of nodes d w == c then pos product else
 -- each of the nodes is a utility
 abbrev pub AreUtilities : List NodeView → List ℕ → Type 0
 AreUtilities nodes vs = (k : ℕ) → k < length vs → (node_at nodes (slice_index vs k)).kind ≡ Utility
+
+-- what a walk looks at is right
+pub record IsSetting
+    (d : DiagramView) (p : List RuleView) (lists : List (List ℕ)) (marks : NodeSet) (out : ℕ)
+    : Type 0 where
+  pub diagram : IsDiagram d
+  pub profile : IsProfile d.nodes p
+  pub factors : HoldsFactors d.nodes p out lists
+  pub marked : MarksUtilities d.nodes marks
+  pub decision : out ≤ length d.nodes
+
+-- a node that weighs something, with a utility after it
+pub record IsLast (nodes : List NodeView) (out : ℕ) (last : Last) : Type 0 where
+  pub weighs : (node_at nodes last.node).kind ≢ Utility
+  pub utility : (node_at nodes last.utility).kind ≡ Utility
+  pub row : last.row_step ≡ row_step nodes last.utility last.node
+  pub cell : last.cell_step ≡ cell_step nodes out last.node
+
+-- the nodes with which a walk ends
+abbrev pub ending : Option Last → List ℕ → List ℕ
+ending None tail = tail
+ending (Some last) tail = last.node ∷ last.utility ∷ []
+
+abbrev pub IsEnding : List NodeView → ℕ → Option Last → List ℕ → Type 0
+IsEnding nodes out None tail = AreUtilities nodes tail
+IsEnding nodes out (Some last) tail = IsLast nodes out last
 
 -- the same sums over all worlds of the diagram
 abbrev pub cell_gain : List NodeView → List RuleView → ℕ → NodeSet → ℕ → ℤ

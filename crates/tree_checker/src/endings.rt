@@ -27,7 +27,7 @@ pub(crate) fn value(diagram: &Diagram, marks: &NodeSet, v: usize, row: usize) ->
 }
 
 /// The cell that the world picks in the decision that is left out; 0 where none is.
-fn place(diagram: &Diagram, left_out: usize, world: &World) -> usize
+pub(crate) fn place(diagram: &Diagram, left_out: usize, world: &World) -> usize
     requires decision { left_out ≤ length diagram.now.nodes }
     requires world { IsWorld (counts_of diagram.now.nodes) world.now }
     ensures place { result ≡ cell_of diagram.now.nodes left_out (world_of world.now) }
@@ -67,7 +67,13 @@ fn utility_in(
 }
 
 /// Adds the weight and gain to the cell.
-fn add_to_cell(cell: usize, product: u128, utility: i128, gains: &mut [i128], masses: &mut [u128])
+pub(crate) fn add_to_cell(
+    cell: usize,
+    product: u128,
+    utility: i128,
+    gains: &mut [i128],
+    masses: &mut [u128],
+)
     requires gains { cell < length gains.old }
     requires masses { cell < length masses.old }
     requires gain { nat_abs (slice_index_or gains.old cell (pos 0)) + product * nat_abs utility

@@ -9,10 +9,13 @@ mod decisions;
 mod endings;
 mod factors;
 mod gains;
+mod lasts;
 mod laws;
 mod orders;
 mod parts;
 mod rows;
+mod settings;
+mod strides;
 #[cfg(test)]
 mod tests;
 mod verdicts;

@@ -8,10 +8,12 @@ ghost use Rattle.maid_model.specs.Nodes.{counts_of, rows_of, states_of};
 ghost use Rattle.maid_model.specs.Private.{MarksUtilities};
 ghost use Rattle.maid_model.specs.Profiles.{IsProfile};
 ghost use Rattle.maid_model.specs.Worlds.{IsWorld, world_of};
-ghost use Rattle.tree_checker.specs.Walks.{AreUtilities, HasRoom, HoldsFactors, IsDownward, ListsCells, gain_with, mass_with};
+ghost use Rattle.tree_checker.specs.Walks.{AreUtilities, HasRoom, IsDownward, IsEnding, IsSetting, ListsCells, ending, gain_with, mass_with};
 
-use crate::endings::{add_world, value};
+use crate::endings::value;
 use crate::factors::{all_factors, factor};
+use crate::lasts::{add_ending, split_last};
+use crate::settings::Setting;
 use diagram_graph::topological;
 use maid_model::{Diagram, Kind, Profile, World};
 use node_sets::NodeSet;
@@ -25,80 +27,65 @@ fn set_state(world: &mut World, v: usize, state: usize)
     world.states[v] = state;
 }
 
-/// Adds to each cell what the worlds with other states of the listed nodes have there: to `gains` the weights times
-/// the marked utilities, and to `masses` the weights. After the nodes of the order come the utilities of the tail. It
-/// goes once through the states of a node of the order for each choice of states of those before that has some weight,
-/// and calls itself once for each node of the order at most. It takes no memory.
+/// Adds to each cell what the worlds with other states of the listed nodes and of those of the ending have there: to
+/// `gains` the weights times the marked utilities, and to `masses` the weights. It goes once through the states of a
+/// node for each choice of states of those before that has some weight, and calls itself once for each node of the
+/// order at most. It takes no memory.
 fn walk(
-    diagram: &Diagram,
-    profile: &Profile,
-    factors: &[Vec<u128>],
-    marks: &NodeSet,
-    left_out: usize,
+    setting: &Setting,
     order: &[usize],
-    tail: &[usize],
     world: &mut World,
     product: u128,
     utility: i128,
     gains: &mut [i128],
     masses: &mut [u128],
 )
-    requires diagram { IsDiagram diagram.now }
-    requires profile { IsProfile diagram.now.nodes profile.now }
-    requires factors { HoldsFactors diagram.now.nodes profile.now left_out
-        (lists_in factors.now) }
-    requires marks { MarksUtilities diagram.now.nodes marks.now }
-    requires decision { left_out ≤ length diagram.now.nodes }
-    requires order { IsDownward diagram.now.nodes (order.now ++ tail.now) }
-    requires tail { AreUtilities diagram.now.nodes tail.now }
-    requires world { IsWorld (counts_of diagram.now.nodes) world.old }
-    requires gains { length gains.old
-        ≡ rows_of diagram.now.nodes left_out * states_of diagram.now.nodes left_out }
-    requires masses { length masses.old
-        ≡ rows_of diagram.now.nodes left_out * states_of diagram.now.nodes left_out }
-    requires room { HasRoom diagram.now.nodes profile.now left_out (order.now ++ tail.now) product
+    requires setting { IsSetting setting.now.diagram.now setting.now.profile.now
+        (lists_in setting.now.factors.now) setting.now.marks.now setting.now.left_out }
+    requires ending { IsEnding setting.now.diagram.now.nodes setting.now.left_out setting.now.last
+        setting.now.tail.now }
+    requires order { IsDownward setting.now.diagram.now.nodes
+        (order.now ++ ending setting.now.last setting.now.tail.now) }
+    requires world { IsWorld (counts_of setting.now.diagram.now.nodes) world.old }
+    requires gains { length gains.old ≡ rows_of setting.now.diagram.now.nodes setting.now.left_out
+        * states_of setting.now.diagram.now.nodes setting.now.left_out }
+    requires masses { length masses.old ≡ rows_of setting.now.diagram.now.nodes setting.now.left_out
+        * states_of setting.now.diagram.now.nodes setting.now.left_out }
+    requires room { HasRoom setting.now.diagram.now.nodes setting.now.profile.now
+        setting.now.left_out (order.now ++ ending setting.now.last setting.now.tail.now) product
         utility gains.old masses.old }
     ensures again { world.new ≡ world.old }
     ensures gains { (c : ℕ) → slice_index_or gains.new c (pos 0)
-        ≡ slice_index_or gains.old c (pos 0) +ℤ gain_with diagram.now.nodes profile.now left_out
-        marks.now (order.now ++ tail.now) product utility c (world_of world.old) }
+        ≡ slice_index_or gains.old c (pos 0) +ℤ gain_with setting.now.diagram.now.nodes
+        setting.now.profile.now setting.now.left_out setting.now.marks.now
+        (order.now ++ ending setting.now.last setting.now.tail.now) product utility c
+        (world_of world.old) }
     ensures masses { (c : ℕ) → pos (slice_index masses.new c)
-        ≡ pos (slice_index masses.old c) +ℤ mass_with diagram.now.nodes profile.now left_out
-        (order.now ++ tail.now) product c (world_of world.old) }
+        ≡ pos (slice_index masses.old c) +ℤ mass_with setting.now.diagram.now.nodes
+        setting.now.profile.now setting.now.left_out
+        (order.now ++ ending setting.now.last setting.now.tail.now) product c
+        (world_of world.old) }
     ensures gain_count { length gains.new ≡ length gains.old }
     ensures mass_count { length masses.new ≡ length masses.old }
 {
     match order {
-        [] => add_world(
-            diagram, marks, left_out, tail, world, product, utility, gains, masses,
-        ),
+        [] => add_ending(setting, world, product, utility, gains, masses),
         [v, rest @ ..] => {
+            let diagram = setting.diagram;
             let states = diagram.states(*v);
             let row = world.row(diagram, *v);
-            let sum = utility + value(diagram, marks, *v, row);
             if let Kind::Utility = diagram.kind(*v) {
-                walk(
-                    diagram, profile, factors, marks, left_out, rest, tail, world, product, sum,
-                    gains, masses,
-                );
+                let sum = utility + value(diagram, setting.marks, *v, row);
+                walk(setting, rest, world, product, sum, gains, masses);
                 return;
             }
             let before = world.states[*v];
             let first = row * states;
             for s in 0..states {
-                let more = product * factor(factors, *v, first + s);
+                let more = product * factor(setting.factors, *v, first + s);
                 if more > 0 {
                     set_state(world, *v, s);
-                    if rest.is_empty() {
-                        add_world(
-                            diagram, marks, left_out, tail, world, more, sum, gains, masses,
-                        );
-                    } else {
-                        walk(
-                            diagram, profile, factors, marks, left_out, rest, tail, world, more,
-                            sum, gains, masses,
-                        );
-                    }
+                    walk(setting, rest, world, more, utility, gains, masses);
                 }
             }
             set_state(world, *v, before);
@@ -145,8 +132,8 @@ fn weighed(diagram: &Diagram, order: &[usize]) -> usize
 }
 
 /// The gains and masses of the cells of the decision that is left out, over all worlds of the diagram; where none is
-/// left out, the one cell has all worlds. It goes down the nodes once for each choice of states of those before, but
-/// for what has no weight.
+/// left out, the one cell has all worlds. It lists the factors of each node, in as much memory as the tables and the
+/// rules take, and goes down the nodes once for each choice of states of those before, but for what has no weight.
 pub(crate) fn cells_over(
     alloc: Global,
     diagram: &Diagram,
@@ -170,19 +157,16 @@ pub(crate) fn cells_over(
     let factors = all_factors(alloc, diagram, profile, left_out)?;
     let nodes = topological(alloc, diagram)?;
     let (order, tail) = nodes.split_at(weighed(diagram, &nodes));
-    walk(
+    let (front, last) = split_last(diagram, left_out, order, tail);
+    let setting = Setting {
         diagram,
         profile,
-        &factors,
+        factors: &factors,
         marks,
         left_out,
-        order,
         tail,
-        &mut world,
-        1,
-        0,
-        &mut gains,
-        &mut masses,
-    );
+        last,
+    };
+    walk(&setting, front, &mut world, 1, 0, &mut gains, &mut masses);
     Ok(CellSums { gains, masses })
 }

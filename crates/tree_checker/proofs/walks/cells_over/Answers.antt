@@ -2,7 +2,7 @@ use Rattle.std.proofs.Common.{◌≡◌, ◌∙◌, ◌++◌, ◌+ℤ◌, ap, sy
 use Rattle.std.proofs.lemmas.List.{take-append-drop}
 use Rattle.std.proofs.Math.ListN.{length-replicate}
 use Rattle.maid_model.specs.Worlds.{world_of}
-use Rattle.tree_checker.specs.Walks.{AreUtilities, HasRoom, IsDownward, ListsCells, gain_with, mass_with}
+use Rattle.tree_checker.specs.Walks.{AreUtilities, HasRoom, IsDownward, ListsCells, ending, gain_with, mass_with}
 use Rattle.tree_checker.proofs.WalkOpened.{moved, written}
 use Rattle.tree_checker.proofs.WalkTotals.{down, first_room, cells_listed}
 use Rattle.tree_checker.proofs.walks.cells_over.Goals as goal
@@ -12,21 +12,28 @@ weighed-requires c =
     subst (λ l. IsDownward c.args.diagram.now.nodes l) (sym c.deref-2.ensures.value)
     (down c.args.diagram.now c.cell_count-count.ensures.diagram c.args.profile.now c.requires.profile c.args.left_out c.args.marks.now c.requires.marks c.requires.fits c.in_ok-nodes.nodes.items c.in_ok-nodes.ensures)
 
-pub walk-requires-clause-tail : goal.walk-requires-clause-tail
-walk-requires-clause-tail c =
+pub split_last-last-requires-clause-tail : goal.split_last-last-requires-clause-tail
+split_last-last-requires-clause-tail c =
     subst (AreUtilities c.args.diagram.now.nodes) (sym (c.split_at.ensures.back ∙ ap (drop c.weighed.result) (c.deref.ensures.value ∙ sym c.deref-2.ensures.value))) c.weighed.ensures.tail
 
-pub walk-requires-clause-order : goal.walk-requires-clause-order
-walk-requires-clause-order c =
+pub split_last-last-requires-clause-order : goal.split_last-last-requires-clause-order
+split_last-last-requires-clause-order c =
     let whole : c.split_at.result.0.now ++ c.split_at.result.1.now ≡ c.in_ok-nodes.nodes.items =
     (λ i. c.split_at.ensures.front i ++ c.split_at.ensures.back i) ∙ take-append-drop c.weighed.result c.deref.result.now ∙ c.deref.ensures.value in
     subst (λ l. IsDownward c.args.diagram.now.nodes l) (sym whole)
     (down c.args.diagram.now c.cell_count-count.ensures.diagram c.args.profile.now c.requires.profile c.args.left_out c.args.marks.now c.requires.marks c.requires.fits c.in_ok-nodes.nodes.items c.in_ok-nodes.ensures)
 
+pub walk-requires-clause-order : goal.walk-requires-clause-order
+walk-requires-clause-order c =
+    let whole : c.split_last-last.result.0.now ++ ending c.split_last-last.result.1 c.split_at.result.1.now ≡ c.in_ok-nodes.nodes.items =
+    c.split_last-last.ensures.whole ∙ (λ i. c.split_at.ensures.front i ++ c.split_at.ensures.back i) ∙ take-append-drop c.weighed.result c.deref.result.now ∙ c.deref.ensures.value in
+    subst (λ l. IsDownward c.args.diagram.now.nodes l) (sym whole)
+    (down c.args.diagram.now c.cell_count-count.ensures.diagram c.args.profile.now c.requires.profile c.args.left_out c.args.marks.now c.requires.marks c.requires.fits c.in_ok-nodes.nodes.items c.in_ok-nodes.ensures)
+
 pub walk-requires-clause-room : goal.walk-requires-clause-room
 walk-requires-clause-room c =
-    let whole : c.split_at.result.0.now ++ c.split_at.result.1.now ≡ c.in_ok-nodes.nodes.items =
-    (λ i. c.split_at.ensures.front i ++ c.split_at.ensures.back i) ∙ take-append-drop c.weighed.result c.deref.result.now ∙ c.deref.ensures.value in
+    let whole : c.split_last-last.result.0.now ++ ending c.split_last-last.result.1 c.split_at.result.1.now ≡ c.in_ok-nodes.nodes.items =
+    c.split_last-last.ensures.whole ∙ (λ i. c.split_at.ensures.front i ++ c.split_at.ensures.back i) ∙ take-append-drop c.weighed.result c.deref.result.now ∙ c.deref.ensures.value in
     moved (λ vs gains masses. HasRoom c.args.diagram.now.nodes c.args.profile.now c.args.left_out vs 1 (pos 0) gains masses)
     whole
     (c.deref_mut.ensures.value ∙ c.in_ok-gains.ensures.items_if_clones_equal (λ y e. e))
@@ -35,8 +42,8 @@ walk-requires-clause-room c =
 
 pub returns : goal.returns
 returns c =
-    let whole : c.split_at.result.0.now ++ c.split_at.result.1.now ≡ c.in_ok-nodes.nodes.items =
-    (λ i. c.split_at.ensures.front i ++ c.split_at.ensures.back i) ∙ take-append-drop c.weighed.result c.deref.result.now ∙ c.deref.ensures.value in
+    let whole : c.split_last-last.result.0.now ++ ending c.split_last-last.result.1 c.split_at.result.1.now ≡ c.in_ok-nodes.nodes.items =
+    c.split_last-last.ensures.whole ∙ (λ i. c.split_at.ensures.front i ++ c.split_at.ensures.back i) ∙ take-append-drop c.weighed.result c.deref.result.now ∙ c.deref.ensures.value in
     let gains_were : c.deref_mut.result.now ≡ replicate c.cell_count-count.result (pos 0) = c.deref_mut.ensures.value ∙ c.in_ok-gains.ensures.items_if_clones_equal (λ y e. e) in
     let masses_were : c.deref_mut-2.result.now ≡ replicate c.cell_count-count.result 0 = c.deref_mut-2.ensures.value ∙ c.in_ok-masses.ensures.items_if_clones_equal (λ y e. e) in
     subst (λ l. ListsCells c.args.diagram.now c.args.profile.now c.args.left_out c.args.marks.now l (take c.in_ok-masses.masses.len (c.walk.new.masses ++ drop (length c.walk.new.masses) c.in_ok-masses.masses.items)))
