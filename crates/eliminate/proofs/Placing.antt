@@ -62,7 +62,7 @@ from_more p n place xs d a l h t =
     ∙ ap (λ k. slots_from p 0 (take place xs) ++ slots_from p k (get_or xs place d ∷ [])) here
     ∙ ap (λ b. slots_from p 0 (take place xs) ++ (cond b (get_or xs place d ∷ []) [] ++ [])) t
     ∙ ap (λ ys. ys ++ get_or xs place d ∷ [])
-        (from_front p n (take place xs) (omega (arith, a, long)) (λ k b c. h k b (omega (arith, c, long))) ∙ ap (slots_from p 0) (take-take n place xs a))
+    (from_front p n (take place xs) (omega (arith, a, long)) (λ k b c. h k b (omega (arith, c, long))) ∙ ap (slots_from p 0) (take-take n place xs a))
 
 -- those that pass another test too
 pub from_filter : (p h : ℕ → Bool) (v i : ℕ) (f : Bool → Bool) (xs : List Slot) → ((k : ℕ) → k < length xs → h (i + k) ≡ slot_holds xs v k)
@@ -100,6 +100,7 @@ holds_append (x ∷ xs) s v (suc k) = let h = holds_append xs s v k in ((λ t. o
     on : ((slot_holds xs v k ≡ true) ⊎ ((k ≡ length xs) × (holds s.scope v ≡ true))) → ((slot_holds xs v k ≡ true) ⊎ ((suc k ≡ suc (length xs)) × (holds s.scope v ≡ true)))
     on (inl h) = inl h
     on (inr e) = inr (ap suc e.0, e.1)
+
     off : ((slot_holds xs v k ≡ true) ⊎ ((suc k ≡ suc (length xs)) × (holds s.scope v ≡ true))) → ((slot_holds xs v k ≡ true) ⊎ ((k ≡ length xs) × (holds s.scope v ≡ true)))
     off (inl h) = inl h
     off (inr e) = inr (omega (arith, e.0), e.1)
@@ -123,6 +124,7 @@ noted_more at new xs s place is h e v k none l =
     forth : (IsIn (slice_index_or at v none) k ⊎ ((k ≡ place) × IsIn s.scope v)) → ((slot_holds xs v k ≡ true) ⊎ ((k ≡ length xs) × (holds s.scope v ≡ true)))
     forth (inl m) = inl (sym (h v k none l) ∙ m)
     forth (inr m) = inr (m.0 ∙ sym is, m.1)
+
     back : ((slot_holds xs v k ≡ true) ⊎ ((k ≡ length xs) × (holds s.scope v ≡ true))) → (IsIn (slice_index_or at v none) k ⊎ ((k ≡ place) × IsIn s.scope v))
     back (inl m) = inl (h v k none l ∙ m)
     back (inr m) = inr (m.0 ∙ is, m.1)
@@ -157,7 +159,7 @@ live_more live new made slots s l e =
     ∙ ap (λ k. slots_from (holds new) 0 (take made slots) ++ slots_from (holds new) k (s ∷ [])) here
     ∙ ap (λ b. slots_from (holds new) 0 (take made slots) ++ (cond b (s ∷ []) [] ++ [])) ((e made).1 (inr refl))
     ∙ ap (λ ys. ys ++ s ∷ []) (from_same (holds new) (holds live) 0 (take made slots)
-        (λ k a b. one_test (holds new k) (holds live k) (λ t. old k (omega (arith, b, long)) ((e k).0 t)) (λ t. (e k).1 (inl t))))
+    (λ k a b. one_test (holds new k) (holds live k) (λ t. old k (omega (arith, b, long)) ((e k).0 t)) (λ t. (e k).1 (inl t))))
   where
     old : (k : ℕ) → k < made → (IsIn live k ⊎ (k ≡ made)) → holds live k ≡ true
     old k a (inl m) = m
@@ -205,14 +207,14 @@ module _ (at : List NodeSet) (live held : NodeSet) (made node : ℕ) (slots : Li
   pub held_slots : slots_from (holds held) 0 (take made slots) ≡ slots_with node (live_slots live made slots)
   held_slots =
       from_same (holds held) (λ k. holds live k && here k) 0 (take made slots) (λ k a b. one_test (holds held k) (holds live k && here k)
-          (λ t. both_pass (holds live k) (here k) ((is k live).0 t).0 ((is k live).0 t).1)
-          (λ t. (is k live).1 (first_passes (holds live k) (here k) t, second_passes (holds live k) (here k) t)))
+      (λ t. both_pass (holds live k) (here k) ((is k live).0 t).0 ((is k live).0 t).1)
+      (λ t. (is k live).1 (first_passes (holds live k) (here k) t, second_passes (holds live k) (here k) t)))
       ∙ sym (from_filter (holds live) here node 0 (λ b. b) (take made slots) (λ k l. ap here (from_nought k) ∙ noted node k live small))
 
   -- and the others
   pub left_slots : (left : NodeSet) → ((k : ℕ) → IsIn left k ↔ (IsIn live k × (IsIn held k → ⊥))) → live_slots left made slots ≡ slots_without node (live_slots live made slots)
   left_slots left e =
       from_same (holds left) (λ k. holds live k && not (here k)) 0 (take made slots) (λ k a b. one_test (holds left k) (holds live k && not (here k))
-          (λ t. both_pass (holds live k) (not (here k)) ((e k).0 t).0 (not_passes (here k) (λ h. ((e k).0 t).1 ((is k live).1 (((e k).0 t).0, h)))))
-          (λ t. (e k).1 (first_passes (holds live k) (not (here k)) t, λ h. passes_not (here k) (second_passes (holds live k) (not (here k)) t) ((is k live).0 h).1)))
+      (λ t. both_pass (holds live k) (not (here k)) ((e k).0 t).0 (not_passes (here k) (λ h. ((e k).0 t).1 ((is k live).1 (((e k).0 t).0, h)))))
+      (λ t. (e k).1 (first_passes (holds live k) (not (here k)) t, λ h. passes_not (here k) (second_passes (holds live k) (not (here k)) t) ((is k live).0 h).1)))
       ∙ sym (from_filter (holds live) here node 0 not (take made slots) (λ k l. ap here (from_nought k) ∙ noted node k live small))
