@@ -1,3 +1,4 @@
 pub mod Results
 pub mod Steps
+pub mod Places
 pub mod Example

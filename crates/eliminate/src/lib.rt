@@ -3,6 +3,7 @@
 
 mod firsts;
 mod lists;
+mod places;
 mod runs;
 #[cfg(test)]
 mod tests;

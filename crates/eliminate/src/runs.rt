@@ -9,13 +9,16 @@ ghost use Rattle.node_sets.specs.declared.sets.TheConstants.{MOST_NODES};
 ghost use Rattle.factor_core.specs.Operations.{cells_by};
 ghost use Rattle.size_precheck.specs.Sizes.{CanBePlanned, IsMade};
 ghost use Rattle.eliminate.specs.Results.{plan_total, SumsPlan};
+ghost use Rattle.eliminate.specs.Places.{live_slots, IsBoard};
 ghost use Rattle.eliminate.specs.Steps.{CanJoinOut, GiveWay};
 
 use crate::firsts::first_tables;
-use crate::lists::{before, blank_slot, part_holding};
+use crate::lists::{before, blank_slot};
+use crate::places::{Places, all_live, gather, places_of, put_slot};
 use cell_rings::Cell;
 use factor_core::{Slot, StateCounts, Workspace};
-use maid_model::{Diagram, MOST_NODES, Profile};
+use maid_model::{Diagram, Profile};
+use node_sets::{MOST_NODES, NodeSet};
 use size_precheck::Plan;
 
 /// Ends all tables of the workspace: no cell is left, and there is as much room as after `reserve`. It takes no memory.
@@ -25,32 +28,41 @@ pub fn release<C: Cell>(work: &mut Workspace<C>)
     work.clear();
 }
 
-/// A step: the first `count` slots that hold the node give way to their join with the node summed out. Gives how many
-/// slots are listed then.
+/// A step: the live slots that hold the node give way to their join with the node summed out.
 fn eliminate<C: Cell>(
     work: &mut Workspace<C>,
     diagram: &Diagram,
     counts: &StateCounts,
-    live: &mut [Slot],
-    count: usize,
+    slots: &mut [Slot],
+    at: &mut [NodeSet],
     joined: &mut [Slot],
+    places: Places,
     node: usize,
-) -> usize
+) -> Places
     requires diagram { IsDiagram diagram.now }
     requires counts { counts.now ≡ counts_of diagram.now.nodes }
-    requires count { count ≤ MOST_NODES }
-    requires live { length live.old ≡ MOST_NODES }
+    requires board { IsBoard at.old slots.old places.live places.made }
+    requires made { places.made ≤ MOST_NODES }
+    requires slots { length slots.old ≡ MOST_NODES }
+    requires at { length at.old ≡ MOST_NODES }
     requires joined { length joined.old ≡ MOST_NODES }
     requires node { node < MOST_NODES }
-    requires join { CanJoinOut C.ring diagram.now.nodes work.old (take count live.old) node }
-    ensures few { result ≤ count }
-    ensures step { GiveWay C.ring diagram.now.nodes work.old work.new (take count live.old)
-        (take result live.new) node }
+    requires join { CanJoinOut C.ring diagram.now.nodes work.old
+        (live_slots places.live places.made slots.old) node }
+    ensures board { IsBoard at.new slots.new result.live result.made }
+    ensures made { result.made ≤ MOST_NODES }
+    ensures step { GiveWay C.ring diagram.now.nodes work.old work.new
+        (live_slots places.live places.made slots.old)
+        (live_slots result.live result.made slots.new) node }
 {
-    let parted = part_holding(live, count, node, joined);
-    let left = parted.left;
-    live[left] = work.join_out(diagram, counts, before(joined, parted.held), node);
-    left + 1
+    let held = places_of(at, &places, node);
+    let count = gather(before(slots, places.made), &held, joined);
+    let slot = work.join_out(diagram, counts, before(joined, count), node);
+    let left = Places {
+        live: places.live.difference(&held),
+        made: places.made,
+    };
+    put_slot(slots, at, left, joined, &slot)
 }
 
 /// Runs the plan: makes its first tables, eliminates its nodes in their order, and multiplies the tables that are left
@@ -75,11 +87,23 @@ pub fn run_plan<C: Cell>(
 {
     let counts = StateCounts::of(diagram);
     // A plan has one table at most for each node, and no step leaves more than it found.
-    let mut live = [blank_slot(); MOST_NODES];
+    let mut slots = [blank_slot(); MOST_NODES];
     let mut joined = [blank_slot(); MOST_NODES];
-    let mut count = first_tables(work, plan, diagram, &counts, profile, &mut live);
+    let mut at = [NodeSet::empty(); MOST_NODES];
+    let count = first_tables(work, plan, diagram, &counts, profile, &mut slots);
+    let mut places = all_live(&slots, &mut at, count);
     for node in plan.steps() {
-        count = eliminate(work, diagram, &counts, &mut live, count, &mut joined, *node);
+        places = eliminate(
+            work,
+            diagram,
+            &counts,
+            &mut slots,
+            &mut at,
+            &mut joined,
+            places,
+            *node,
+        );
     }
-    work.product(diagram, &counts, before(&live, count))
+    let count = gather(before(&slots, places.made), &places.live, &mut joined);
+    work.product(diagram, &counts, before(&joined, count))
 }

@@ -1,14 +1,17 @@
-use Rattle.std.proofs.Common.{◌≡◌, ◌≤◌, take, drop, length}
+use Rattle.std.proofs.Common.{◌≡◌, ◌≤◌, drop, length}
 use Rattle.factor_core.specs.Operations.{cells_by}
 use Rattle.plan_sums.specs.Plans.{first_tables}
+use Rattle.eliminate.specs.Places.{live_slots, IsBoard}
 use Rattle.eliminate.specs.Steps.{Between}
 use Rattle.eliminate.proofs.Whole.{so_many}
 use Rattle.eliminate.proofs.runs.run_plan.Given as goal
 
 abbrev pub invariant-loop-node : goal.invariant-loop-node
 invariant-loop-node g l =
-    Between g.C.Cell.ring l.diagram.nodes l.fn.work l.work (take l.count l.live) (drop l.node-index l.plan.steps) l.plan.steps
+    Between g.C.Cell.ring l.diagram.nodes l.fn.work l.work (live_slots l.places.live l.places.made l.slots) (drop l.node-index l.plan.steps) l.plan.steps
     (first_tables (cells_by g.C.Cell.ring g.C.Cell.of_weight g.C.Cell.of_value) l.diagram.nodes l.profile l.plan.plan) (so_many l.diagram.nodes l.plan)
-    × (l.count ≤ 256)
-    × (length l.live ≡ 256)
+    × IsBoard l.at l.slots l.places.live l.places.made
+    × (l.places.made ≤ 256)
+    × (length l.slots ≡ 256)
+    × (length l.at ≡ 256)
     × (length l.joined ≡ 256)

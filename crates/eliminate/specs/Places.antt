@@ -1,0 +1,31 @@
+-- Slots at places, of which a set tells the live ones. Only private contracts cite this file.
+use Rattle.std.specs.Prelude.{◌≡◌, ℕ, zero, suc, ◌<◌, ◌++◌, Bool, false, List, [], ◌∷◌, take, slice_index_or, if◌then◌else◌}
+use Rattle.node_sets.specs.declared.sets.NodeSet.{NodeSet}
+use Rattle.node_sets.specs.declared.sets.TheConstants.{MOST_NODES}
+use Rattle.node_sets.specs.Sets.{holds, IsIn}
+use Rattle.factor_core.specs.declared.slots.Slot.{Slot}
+
+-- the slots of the list at the places that pass; its first one stands at place i
+abbrev pub slots_from : (ℕ → Bool) → ℕ → List Slot → List Slot
+slots_from p i [] = []
+slots_from p i (s ∷ ss) = (if p i then s ∷ [] else []) ++ slots_from p (suc i) ss
+
+-- those of the first `made` slots whose places are in the set
+abbrev pub live_slots : NodeSet → ℕ → List Slot → List Slot
+live_slots live made slots = slots_from (holds live) 0 (take made slots)
+
+-- whether the slot at the place holds the node
+abbrev pub slot_holds : List Slot → ℕ → ℕ → Bool
+slot_holds [] v k = false
+slot_holds (s ∷ ss) v zero = holds s.scope v
+slot_holds (s ∷ ss) v (suc k) = slot_holds ss v k
+
+-- for each node the places of the slots that hold it
+abbrev pub Noted : List NodeSet → List Slot → Type 0
+Noted at slots = (v k : ℕ) (none : NodeSet) → v < MOST_NODES
+    → holds (slice_index_or at v none) k ≡ slot_holds slots v k
+
+-- the first `made` slots are noted, and live ones are among them
+pub record IsBoard (at : List NodeSet) (slots : List Slot) (live : NodeSet) (made : ℕ) : Type 0 where
+  pub noted : Noted at (take made slots)
+  pub within : (k : ℕ) → IsIn live k → k < made

@@ -1,0 +1,170 @@
+//! Slots at places, and for each node the places of those that hold it, so that a step looks at no other slot.
+
+ghost use Rattle.std.specs.Prelude.{◌≡◌, ◌+◌, ◌<◌, ◌≤◌, ◌⊎◌, ◌↔◌, ℕ, [], ◌∷◌, ◌++◌, length, slice_index_or, take};
+ghost use Rattle.node_sets.specs.declared.sets.NodeSet.{NodeSet};
+ghost use Rattle.node_sets.specs.declared.sets.TheConstants.{MOST_NODES};
+ghost use Rattle.node_sets.specs.Sets.{holds, IsIn};
+ghost use Rattle.eliminate.specs.Places.{slots_from, live_slots, Noted, IsBoard};
+
+use crate::lists::before;
+use factor_core::Slot;
+use node_sets::{MOST_NODES, NodeSet};
+
+/// Which places have live slots, and how many have had one: new slots go behind all of these.
+#[derive(Clone, Copy)]
+pub struct Places {
+    pub live: NodeSet,
+    pub made: usize,
+}
+
+/// Lists the slots at the places of the set, in the order of the places. Gives how many there are.
+pub fn gather(slots: &[Slot], places: &NodeSet, found: &mut [Slot]) -> usize
+    requires within { (k : ℕ) → IsIn places.now k → k < length slots.now }
+    requires few { length slots.now ≤ MOST_NODES }
+    requires room { length slots.now ≤ length found.old }
+    ensures list { take result found.new ≡ slots_from (holds places.now) 0 slots.now }
+    ensures few { result ≤ length slots.now }
+{
+    let mut n = 0;
+    let mut next = 0;
+    'places: while let Some(place) = places.first_from(next) {
+        found[n] = slots[place];
+        n += 1;
+        next = place + 1;
+    }
+    n
+}
+
+/// Adds the place to those of each node of the scope.
+fn note_place(at: &mut [NodeSet], scope: &NodeSet, place: usize)
+    requires at { length at.old ≡ MOST_NODES }
+    requires place { place < MOST_NODES }
+    ensures { (v k : ℕ) (none : NodeSet) → v < MOST_NODES
+        → IsIn (slice_index_or at.new v none) k
+        ↔ (IsIn (slice_index_or at.old v none) k ⊎ ((k ≡ place) × IsIn scope.now v)) }
+{
+    let mut next = 0;
+    'nodes: while let Some(v) = scope.first_from(next) {
+        at[v].insert(place);
+        next = v + 1;
+    }
+}
+
+/// Notes these slots, and no others.
+fn note_slots(at: &mut [NodeSet], slots: &[Slot])
+    requires at { length at.old ≡ MOST_NODES }
+    requires slots { length slots.now ≤ MOST_NODES }
+    ensures { Noted at.new slots.now }
+{
+    for v in 0..at.len() {
+        at[v] = NodeSet::empty();
+    }
+    for place in 0..slots.len() {
+        note_place(at, &slots[place].scope, place);
+    }
+}
+
+/// The numbers below the count.
+fn numbers_below(count: usize) -> NodeSet
+    requires { count ≤ MOST_NODES }
+    ensures { (k : ℕ) → IsIn result k ↔ k < count }
+{
+    let mut set = NodeSet::empty();
+    for k in 0..count {
+        set.insert(k);
+    }
+    set
+}
+
+/// The first `made` slots as live ones.
+pub fn all_live(slots: &[Slot], at: &mut [NodeSet], made: usize) -> Places
+    requires made { made ≤ length slots.now }
+    requires few { made ≤ MOST_NODES }
+    requires at { length at.old ≡ MOST_NODES }
+    ensures made { result.made ≡ made }
+    ensures board { IsBoard at.new slots.now result.live result.made }
+    ensures live { live_slots result.live result.made slots.now ≡ take made slots.now }
+{
+    note_slots(at, before(slots, made));
+    Places {
+        live: numbers_below(made),
+        made,
+    }
+}
+
+/// Moves the live slots to the first places. It goes over another list.
+fn pack(slots: &mut [Slot], at: &mut [NodeSet], places: Places, spare: &mut [Slot]) -> Places
+    requires board { IsBoard at.old slots.old places.live places.made }
+    requires made { places.made ≤ MOST_NODES }
+    requires slots { length slots.old ≡ MOST_NODES }
+    requires at { length at.old ≡ MOST_NODES }
+    requires spare { length spare.old ≡ MOST_NODES }
+    ensures board { IsBoard at.new slots.new result.live result.made }
+    ensures made { result.made ≡ length (live_slots places.live places.made slots.old) }
+    ensures live { live_slots result.live result.made slots.new
+        ≡ live_slots places.live places.made slots.old }
+{
+    let count = gather(before(slots, places.made), &places.live, spare);
+    for i in 0..count {
+        slots[i] = spare[i];
+    }
+    all_live(slots, at, count)
+}
+
+/// Puts the slot behind the live ones. Where no place is left, the live ones are moved to the first places before.
+pub fn put_slot(
+    slots: &mut [Slot],
+    at: &mut [NodeSet],
+    places: Places,
+    spare: &mut [Slot],
+    slot: &Slot,
+) -> Places
+    requires board { IsBoard at.old slots.old places.live places.made }
+    requires made { places.made ≤ MOST_NODES }
+    requires few { length (live_slots places.live places.made slots.old) < MOST_NODES }
+    requires slots { length slots.old ≡ MOST_NODES }
+    requires at { length at.old ≡ MOST_NODES }
+    requires spare { length spare.old ≡ MOST_NODES }
+    ensures board { IsBoard at.new slots.new result.live result.made }
+    ensures made { result.made ≤ MOST_NODES }
+    ensures live { live_slots result.live result.made slots.new
+        ≡ live_slots places.live places.made slots.old ++ slot.now ∷ [] }
+{
+    if places.made == MOST_NODES {
+        let packed = pack(slots, at, places, spare);
+        put_behind(slots, at, packed, slot)
+    } else {
+        put_behind(slots, at, places, slot)
+    }
+}
+
+/// Puts the slot behind the live ones, at the next place.
+fn put_behind(slots: &mut [Slot], at: &mut [NodeSet], places: Places, slot: &Slot) -> Places
+    requires board { IsBoard at.old slots.old places.live places.made }
+    requires made { places.made < MOST_NODES }
+    requires slots { length slots.old ≡ MOST_NODES }
+    requires at { length at.old ≡ MOST_NODES }
+    ensures board { IsBoard at.new slots.new result.live result.made }
+    ensures made { result.made ≡ places.made + 1 }
+    ensures live { live_slots result.live result.made slots.new
+        ≡ live_slots places.live places.made slots.old ++ slot.now ∷ [] }
+{
+    slots[places.made] = *slot;
+    note_place(at, &slot.scope, places.made);
+    let mut live = places.live;
+    live.insert(places.made);
+    Places {
+        live,
+        made: places.made + 1,
+    }
+}
+
+/// The live slots that hold the node, as places.
+pub fn places_of(at: &[NodeSet], places: &Places, node: usize) -> NodeSet
+    requires at { length at.now ≡ MOST_NODES }
+    requires node { node < MOST_NODES }
+    ensures { (k : ℕ) (none : NodeSet) → IsIn result k
+        ↔ (IsIn places.now.live k × IsIn (slice_index_or at.now node none) k) }
+{
+    places.live.intersection(&at[node])
+}
