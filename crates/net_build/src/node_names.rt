@@ -62,7 +62,11 @@ impl NodeNames {
     pub fn into_list(self, alloc: Global) -> Result<Vec<Vec<u8>>, AllocError>
         ensures { IfOk result (λ list. list_of list.items ≡ self) }
     {
-        let list = Vec::from_iter(alloc, self.names)?;
+        // One allocation, whose refusal is the answer: collecting would ask again for less.
+        let mut list = Vec::with_capacity(alloc, self.names.len())?;
+        for name in self.names {
+            list.push(name)?;
+        }
         Ok(list)
     }
 }

@@ -1,7 +1,8 @@
-pub mod Bounding
 pub mod BoundPlaces
+pub mod Bounding
 pub mod Decided
 pub mod Divisors
+pub mod Few
 pub mod GivenMembers
 pub mod Greatest
 pub mod Lists

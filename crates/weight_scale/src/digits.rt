@@ -1,11 +1,11 @@
 //! Digits, exponents and signs of numerals.
 
-ghost use Rattle.std.specs.Prelude.{◌≡◌, ◌<◌, ◌≤◌, ◌+◌, ◌-◌, ◌*◌, ◌^◌, ◌++◌, ◌≢◌, drop, length, replicate, slice_index, true};
+ghost use Rattle.std.specs.Prelude.{◌≡◌, ◌<◌, ◌≤◌, ◌+◌, ◌-◌, ◌*◌, ◌^◌, ◌++◌, ◌≢◌, drop, length, replicate, slice_index, true, IfSome};
 ghost use Rattle.std.specs.Option.{SomeIff};
 ghost use Rattle.std.specs.List.{prefix_len, list_all};
 ghost use Rattle.net_lexer.specs.Bytes.{is_digit};
 ghost use Rattle.net_lexer.specs.Numerals.{without_sign};
-ghost use Rattle.weight_scale.specs.Numeral.{front_digits, behind_digits, point_digits, behind_point, is_minus, number_behind, whole_digits, decimal_digits, exponent_of, exponent_size};
+ghost use Rattle.weight_scale.specs.Numeral.{front_digits, behind_digits, point_digits, behind_point, is_minus, number_behind, number_of, whole_digits, decimal_digits, exponent_of, exponent_size};
 
 use maid_model::GREATEST_NUMBER;
 
@@ -91,6 +91,27 @@ pub(crate) fn append_digits(number: u128, digits: &[u8]) -> Option<u128>
         longer = append_digit(longer, *digit)?;
     }
     Some(longer)
+}
+
+// The most digits that a number surely has room for in 64 bits.
+const FEW: usize = 18;
+
+// The number that the bytes write, where they are digits alone and few. It takes no step of 128 bits.
+pub(crate) fn few_digits(bytes: &[u8]) -> Option<u64>
+    ensures { IfSome result (λ number.
+        (list_all is_digit bytes.now ≡ true) × (number ≡ number_of bytes.now)) }
+{
+    if bytes.len() > FEW {
+        return None;
+    }
+    let mut number: u64 = 0;
+    for byte in bytes {
+        if !byte.is_ascii_digit() {
+            return None;
+        }
+        number = number * 10 + u64::from(byte - b'0');
+    }
+    Some(number)
 }
 
 pub(crate) fn without_trailing_noughts(digits: &[u8]) -> &[u8]

@@ -10,7 +10,7 @@ ghost use Rattle.weight_scale.specs.declared.decimal.Decimal.{Decimal};
 
 use crate::Decimal;
 use crate::digits::{
-    append_digits, exponent_size, is_minus, split_numeral, without_trailing_noughts,
+    append_digits, exponent_size, few_digits, is_minus, split_numeral, without_trailing_noughts,
 };
 use maid_model::GREATEST_NUMBER;
 use whole_num::mul_within;
@@ -151,6 +151,13 @@ pub fn numeral(text: &[u8]) -> Option<Decimal>
     ensures none { IfNone result ((d : Decimal) → IsDecimalOf (numerator text.now)
         (denominator text.now) d → ⊥) }
 {
+    // Most numerals are a few digits alone.
+    if let Some(size) = few_digits(text) {
+        return Some(Decimal {
+            m: i128::from(size),
+            k: 0,
+        });
+    }
     let parts = split_numeral(text);
     let significand = significand(parts.whole, parts.decimals)?;
     if significand.size == 0 {

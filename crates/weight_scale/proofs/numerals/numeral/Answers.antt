@@ -1,4 +1,7 @@
-use Rattle.std.proofs.Common.{arith, refl}
+use Rattle.std.proofs.Common.{arith, refl, rules, FitsSigned}
+use Rattle.std.specs.Int.{w128}
+use Rattle.std.proofs.lemmas.Int.{to_z-of_z}
+use Rattle.weight_scale.proofs.Few.{whole_decimal}
 use Rattle.weight_scale.proofs.Value.{too_long, is_nought, too_far, some_of_significand, none_of_significand}
 use Rattle.weight_scale.proofs.numerals.numeral.Goals as goal
 
@@ -35,3 +38,8 @@ returns-clause-none c =
     let is = rw (parts.whole, parts.decimals) at c.in_ok-significand.ensures.some in
     let none = rw (c.shifted.ensures.size, c.shifted.ensures.above, c.shifted.ensures.below, c.is_minus.ensures, c.is_minus-2.ensures, c.in_ok-tens.ensures.1, parts.exponent) at c.decimal.ensures.none in
     none_of_significand _ _ _ _ _ _ _ _ is c.decimal.result none
+
+pub returns-in-Some-clause-some : goal.returns-in-Some-clause-some
+returns-in-Some-clause-some c =
+    let fits : FitsSigned w128 c.from.result = search rules in
+    whole_decimal c.args.text.now c.in-Some.ensures.0 c.in-Some.size c.in-Some.ensures.1 _ (simp to_z-of_z c.from.ensures) refl
