@@ -4,14 +4,19 @@
 //! it answers, and on `Err` it stands before the first impossible token. `terminals` has the rules
 //! of one token, `values` and `blocks` those made of others.
 
-ghost use Rattle.std.specs.Prelude.{◌≡◌, ◌<◌, [], ◌∷◌, length, drop, All, IfSome, IfNone, IsTrue};
+ghost use Rattle.std.specs.Prelude.{◌≡◌, ◌<◌, ℕ, List, [], ◌∷◌, length, drop, map, All, IfSome, IfNone, IsTrue};
+ghost use Rattle.std.specs.List.{prefix_len};
 ghost use Rattle.net_lexer.specs.Token.{IsTokenOf, is_token};
-ghost use Rattle.net_parser.specs.Lexemes.{lexemes};
+ghost use Rattle.net_lexer.specs.declared.tokens.TokenKind.TheVariants.{ParenClose};
+ghost use Rattle.net_parser.specs.Lexemes.{lexemes, is_leaf};
 ghost use Rattle.net_parser.specs.Faults.{rest_place};
-ghost use Rattle.net_parser.specs.Reading.{fault_at};
+ghost use Rattle.net_parser.specs.Grammar.{◌▹◌, Mark, Values};
+ghost use Rattle.net_parser.specs.Reading.{Symbol, values, within, stop, fault_at, IsFlat};
+ghost use Rattle.net_parser.specs.Trees.{leaf};
+ghost use Rattle.net_parser.specs.Views.{trees_of};
 
 use crate::ParseFault;
-use net_lexer::Token;
+use net_lexer::{Token, TokenKind};
 use std::alloc::{AllocError, AllocFailed};
 use std::marker::Model;
 
@@ -55,6 +60,36 @@ impl From<AllocError> for Stop {
 
     fn from(_error: AllocError) -> Stop {
         Stop::NoMemory
+    }
+}
+
+fn is_leaf(kind: TokenKind) -> bool
+    ensures { result ≡ is_leaf kind }
+{
+    matches!(kind, TokenKind::Text | TokenKind::Number | TokenKind::Word)
+}
+
+// How many leaves stand at the front.
+fn count_leaves(tokens: &[Token]) -> usize
+    ensures { result ≡ prefix_len (λ t. is_leaf t.kind) tokens.now }
+{
+    tokens
+        .iter()
+        .take_while(|token| is_leaf(token.kind))
+        .count()
+}
+
+// The leaves at the front, and what stands behind the parenthesis that closes their list.
+fn split_leaves(tokens: &[Token]) -> Option<(&[Token], &[Token])>
+    ensures { IfSome result (λ split. IsFlat tokens.now split.0.now split.1.now) }
+{
+    let (leaves, rest) = tokens.split_at(count_leaves(tokens));
+    let [close, behind @ ..] = rest else {
+        return None;
+    };
+    match close.kind {
+        TokenKind::ParenClose => Some((leaves, behind)),
+        _ => None,
     }
 }
 
@@ -104,6 +139,22 @@ impl<'a> Reader<'a> {
         ensures { self.new ≡ drop 1 self.old }
     {
         self.rest = &self.rest[1..];
+    }
+
+    /// Goes past leaves and the parenthesis that closes their list, if no list stands among them.
+    pub fn leaves(&mut self) -> Option<&'a [Token]>
+        ensures rule { IfSome result (λ leaves.
+            (depth : ℕ) → (Values depth (trees_of (map leaf leaves.now)) ▹ Mark ParenClose) self.old
+            self.new) }
+        ensures follows { IfSome result (λ leaves.
+            (depth : ℕ) (after : List Symbol) → stop (within (values depth ∷ after)) self.old
+            ≡ stop (within after) self.new) }
+        ensures shorter { IfSome result (λ leaves. length self.new < length self.old) }
+        ensures unread { IfNone result (self.new ≡ self.old) }
+    {
+        let (leaves, behind) = split_leaves(self.rest)?;
+        self.rest = behind;
+        Some(leaves)
     }
 
     /// Where the next token begins, or the text's end where there is none.
