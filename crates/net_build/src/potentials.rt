@@ -133,15 +133,10 @@ fn no_parents(alloc: Global, count: usize) -> Result<Vec<Vec<usize>>, AllocError
     Ok(lists)
 }
 
-// No potential for each of so many nodes. They are to be potentials of this tree.
-fn no_potentials<'a, 't>(
-    alloc: Global,
-    syntax: &'a Syntax<'t>,
-    count: usize,
-) -> Result<Vec<Option<&'a Block<'t>>>, AllocError>
-    ensures { IfOk result (λ found. borrowed_trees found.items ≡ replicate count None) }
+// Nothing for each of so many nodes.
+fn nothing_each<P: Drop>(alloc: Global, count: usize) -> Result<Vec<Option<P>>, AllocError>
+    ensures { IfOk result (λ found. found.items ≡ replicate count None) }
 {
-    let _ = syntax;
     let mut found = Vec::with_capacity(alloc, count)?;
     for _node in 0..count {
         found.push(None)?;
@@ -150,22 +145,22 @@ fn no_potentials<'a, 't>(
 }
 
 // The node has these parents, and this potential.
-fn enter<'a, 't>(
+fn enter<P: Drop>(
     parents: &mut Vec<Vec<usize>>,
-    potentials: &mut Vec<Option<&'a Block<'t>>>,
+    potentials: &mut Vec<Option<P>>,
     node: usize,
     list: Vec<usize>,
-    block: &'a Block<'t>,
+    potential: P,
 )
     requires parents { node < length parents.old.items }
     requires potentials { node < length potentials.old.items }
     ensures parents { numbers_of_lists parents.new.items
         ≡ slice_set (numbers_of_lists parents.old.items) node list.items }
-    ensures potentials { borrowed_trees potentials.new.items
-        ≡ slice_set (borrowed_trees potentials.old.items) node (Some block.now) }
+    ensures potentials { potentials.new.items
+        ≡ slice_set potentials.old.items node (Some potential) }
 {
     parents[node] = list;
-    potentials[node] = Some(block);
+    potentials[node] = Some(potential);
 }
 
 /// The parents and the potential of each node.
@@ -188,7 +183,7 @@ pub fn read_potentials<'a, 't>(
     ensures fit { IfOk result (λ links. All (AreParents heads.now) links.parents) }
 {
     let mut parents = no_parents(alloc, names.len())?;
-    let mut potentials = no_potentials(alloc, syntax, names.len())?;
+    let mut potentials = nothing_each(alloc, names.len())?;
     for block in &syntax.blocks {
         if is_potential(block) {
             let (node, list) = read_block(alloc, text, names, heads, &potentials, block)?;

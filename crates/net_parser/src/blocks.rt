@@ -16,7 +16,7 @@ use std::alloc::Global;
 /// How many lists of a value may stand in one another.
 const NESTING: u8 = 32;
 
-impl<'a> Reader<'a> {
+impl<'a> Reader<'_, 'a> {
     /// Reads `NAME = VALUE ;`.
     fn attribute(&mut self, alloc: Global, potential: bool) -> Result<Attribute<'a>, Stop>
         ensures rule { IfOk result (λ attribute.

@@ -35,11 +35,7 @@ pub enum ParseFault {
 
 /// The tree that the tokens of the text spell, or their first impossible token. Reading is linear
 /// in the tokens, and takes memory for the tree alone: none for the tokens in a list that holds no list.
-pub fn parse<'a>(
-    alloc: Global,
-    text: &'a [u8],
-    tokens: &'a Tokens,
-) -> Result<Syntax<'a>, ParseFault>
+pub fn parse<'a>(alloc: Global, text: &[u8], tokens: &'a Tokens) -> Result<Syntax<'a>, ParseFault>
     requires { IsTokens text.now tokens.now }
     // The tree is spelled by the tokens, each of them.
     ensures tree { IfOk result (λ syntax. Spells syntax (lexemes text.now tokens.now)) }

@@ -95,12 +95,12 @@ fn split_leaves(tokens: &[Token]) -> Option<(&[Token], &[Token])>
 
 /// The tokens that are still to be read, all of one text.
 #[derive(Drop)]
-pub struct Reader<'a> {
-    text: &'a [u8],
+pub struct Reader<'t, 'a> {
+    text: &'t [u8],
     rest: &'a [Token],
 }
 
-impl<'a> Model for Reader<'a> {
+impl<'t, 'a> Model for Reader<'t, 'a> {
     ghost use Rattle.std.specs.Prelude.{List, All};
     ghost use Rattle.net_lexer.specs.Token.{IsTokenOf};
     ghost use Rattle.net_parser.specs.Lexemes.{Lexeme, lexemes};
@@ -112,8 +112,8 @@ impl<'a> Model for Reader<'a> {
     ghost invariant = { λ r. All (IsTokenOf r.text.now) r.rest.now };
 }
 
-impl<'a> Reader<'a> {
-    pub fn new(text: &'a [u8], tokens: &'a [Token]) -> Reader<'a>
+impl<'t, 'a> Reader<'t, 'a> {
+    pub fn new(text: &'t [u8], tokens: &'a [Token]) -> Reader<'t, 'a>
         requires { All (IsTokenOf text.now) tokens.now }
         ensures { result ≡ lexemes text.now tokens.now }
     {
@@ -121,7 +121,7 @@ impl<'a> Reader<'a> {
     }
 
     /// The next token and its bytes.
-    pub fn peek(&self) -> Option<(Token, &'a [u8])>
+    pub fn peek(&self) -> Option<(Token, &'t [u8])>
         ensures some { IfSome result (λ p.
             self.now ≡ record { token = p.0; bytes = p.1.now } ∷ drop 1 self.now) }
         ensures none { IfNone result (self.now ≡ []) }

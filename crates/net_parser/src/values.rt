@@ -12,7 +12,7 @@ use crate::reader::{Reader, Stop};
 use net_lexer::TokenKind;
 use std::alloc::Global;
 
-impl<'a> Reader<'a> {
+impl<'a> Reader<'_, 'a> {
     /// Reads a value in which so many lists may stand in one another.
     #[cycle(value)]
     pub fn value(&mut self, alloc: Global, depth: u8) -> Result<Value<'a>, Stop>
