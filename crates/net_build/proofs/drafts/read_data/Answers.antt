@@ -1,1 +1,15 @@
+-- Leaves that no list stands among are those of the value.
+use Rattle.std.proofs.Common.{◌≡◌, map, ap, sym, ◌∙◌, rules}
+use Rattle.net_lexer.specs.Token.{token_bytes}
+use Rattle.net_parser.specs.Owned.{leaves}
+use Rattle.net_parser.specs.Trees.{AttributeTree}
+use Rattle.net_build.proofs.LeafLemmas.{leaves_of_flat}
 use Rattle.net_build.proofs.drafts.read_data.Goals as goal
+
+pub read_cells-requires-clause-numerals : goal.read_cells-requires-clause-numerals
+read_cells-requires-clause-numerals c = sym (leaves_of_flat c.table.inside.value c.in-Leaves.tokens c.in-Leaves.is) ∙ ap (λ (a : AttributeTree). leaves a.value) c.table.view_is
+
+pub returns-in-Leaves-clause-draft : goal.returns-in-Leaves-clause-draft
+returns-in-Leaves-clause-draft c =
+    let same : c.in-Leaves.tokens.now ≡ leaves c.args.table.now.value = sym (leaves_of_flat c.table.inside.value c.in-Leaves.tokens c.in-Leaves.is) ∙ ap (λ (a : AttributeTree). leaves a.value) c.table.view_is in
+    rw same at c.read_cells.ensures.draft

@@ -14,13 +14,13 @@ pub returns-in-Err-Negative-clause-rows : goal.returns-in-Err-Negative-clause-ro
 returns-in-Err-Negative-clause-rows c = λ text rows len are.
     let err = c.in-Err-Negative.ensures.err in
     let first = subst (IsScaleFault c.args.decimals.now c.args.states) c.in-Err-Negative.field-0-is err in
-    weight_negative text c.args.states rows c.args.at c.args.tokens.now c.args.decimals.now c.requires.states len (rows_are rows c.args.states _ _ c.requires.states len c.requires.len) are c.in-Err-Negative.place c.index.result.now c.at.result first c.index.ensures c.at.ensures
+    weight_negative text c.args.states rows c.args.at c.args.tokens.now c.args.decimals.now c.requires.states len (rows_are rows c.args.states _ _ c.requires.states len c.requires.len) are c.in-Err-Negative.place c.at.result first c.at.ensures
 
 pub returns-in-Err-ZeroRow-clause-rows : goal.returns-in-Err-ZeroRow-clause-rows
 returns-in-Err-ZeroRow-clause-rows c = λ text rows len are.
     let err = c.in-Err-ZeroRow.ensures.err in
     let first = subst (IsScaleFault c.args.decimals.now c.args.states) c.in-Err-ZeroRow.field-0-is err in
-    weight_zero text c.args.states rows c.args.at c.args.tokens.now c.args.decimals.now c.requires.states len (rows_are rows c.args.states _ _ c.requires.states len c.requires.len) are c.in-Err-ZeroRow.row c.index-in-Err-ZeroRow.result.now c.at-in-Err-ZeroRow.result first.0 first.1 c.index-in-Err-ZeroRow.ensures c.at-in-Err-ZeroRow.ensures
+    weight_zero text c.args.states rows c.args.at c.args.tokens.now c.args.decimals.now c.requires.states len (rows_are rows c.args.states _ _ c.requires.states len c.requires.len) are c.in-Err-ZeroRow.row c.at-in-Err-ZeroRow.result first.0 first.1 c.at-in-Err-ZeroRow.ensures
 
 pub returns-in-Err-WideWeight-clause-rows : goal.returns-in-Err-WideWeight-clause-rows
 returns-in-Err-WideWeight-clause-rows c = λ text rows len are.
