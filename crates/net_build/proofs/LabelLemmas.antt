@@ -1,5 +1,5 @@
 -- Strings among values, and their leaves.
-use Rattle.std.proofs.Common.{rules, ◌≡◌, ℕ, suc, ◌+◌, ◌<◌, ◌≤◌, Bool, true, false, ◌&&◌, List, [], ◌∷◌, ◌++◌, length, get_or, take, map, All, Bor, Result, Ok, Err, None, inl, inr, nat_le, refl, ap, sym, ◌∙◌, arith}
+use Rattle.std.proofs.Common.{rules, ◌≡◌, ℕ, ◌+◌, ◌<◌, ◌≤◌, Bool, true, false, ◌&&◌, List, [], ◌∷◌, ◌++◌, length, get_or, take, map, All, Bor, Result, Ok, Err, inl, inr, nat_le, refl, ap, sym, ◌∙◌, arith}
 use Rattle.std.specs.Prelude.{◌==◌}
 use Rattle.std.specs.List.{list_all}
 use Rattle.std.proofs.lemmas.Bool.{false≢true}
@@ -13,9 +13,9 @@ use Rattle.net_build.specs.declared.faults.BuildFault.TheVariants.{Fault, NoMemo
 use Rattle.net_build.specs.declared.faults.BuildKind.TheVariants as kinds
 use Rattle.net_build.specs.declared.faults.Limit.TheVariants as limits
 use Rattle.maid_model.specs.Names.{list_of}
-use Rattle.first_fault.specs.Passes.{Pass, each}
+use Rattle.first_fault.specs.Passes.{each}
 use Rattle.first_fault.specs.Answers.{IsFaultOrNoMemory, Passes}
-use Rattle.net_build.specs.Passes.{Found, build_fault}
+use Rattle.net_build.specs.Passes.{build_fault}
 use Rattle.net_build.specs.Stages.{leaves_in, are_string_values, are_text_tokens}
 use Rattle.net_build.specs.Table.{label_row, label_rows, states_rows}
 use Rattle.net_build.proofs.AttributeLemmas.{and_left, and_right}
@@ -69,11 +69,6 @@ text_list_is (t ∷ ts) = ap (λ b. is_text t.kind && b) (texts_are_all ts)
 
 pub text_list_tree : (value : Value) (ts : Bor (List Token)) (r : Bool) → value ≡ values.Leaves ts → r ≡ are_text_tokens ts.now → is_string_list (value_tree value) ≡ r
 text_list_tree value ts r is e = ap (λ v. is_string_list (value_tree v)) is ∙ ap is_string_list (tree_of_flat ts) ∙ text_list_is ts.now ∙ sym e
-
--- tokens that are some, and all strings
-pub some_texts : (ts : List Token) (r : Bool) → (length ts == 0) ≡ false → r ≡ list_all (λ t. is_text t.kind) ts → r ≡ are_text_tokens ts
-some_texts [] r some all = absurd (false≢true (sym some))
-some_texts (t ∷ ts) r some all = all
 
 abbrev IsText : Token → Type 0
 IsText t = t.kind ≡ tokens.Text

@@ -1,6 +1,5 @@
 -- Leaves that no list stands among are those of the value.
-use Rattle.std.proofs.Common.{◌≡◌, map, ap, sym, ◌∙◌, rules}
-use Rattle.net_lexer.specs.Token.{token_bytes}
+use Rattle.std.proofs.Common.{◌≡◌, ap, sym, ◌∙◌}
 use Rattle.net_parser.specs.Owned.{leaves}
 use Rattle.net_parser.specs.Trees.{AttributeTree}
 use Rattle.net_build.proofs.LeafLemmas.{leaves_of_flat}

@@ -1,5 +1,4 @@
 -- One more string has its label.
-use Rattle.std.proofs.Common.{get_or}
 use Rattle.first_fault.proofs.Items.{each_step_at}
 use Rattle.net_build.specs.Blocks.{no_token}
 use Rattle.net_build.specs.Table.{label_row}

@@ -17,11 +17,11 @@ returns-then-not-is_string_list-clause-rows c = bad_states c.args.text.now c.arg
     (c.at.ensures ∙ ap (λ (a : AttributeTree). Fault a.name.start kinds.BadStates) c.states.view_is)
 
 pub returns-then-len-gt-MOST_STATES-clause-rows : goal.returns-then-len-gt-MOST_STATES-clause-rows
-returns-then-len-gt-MOST_STATES-clause-rows c = many_states c.args.text.now c.args.states.now _ c.len.result
+returns-then-len-gt-MOST_STATES-clause-rows c = many_states c.args.text.now c.args.states.now _ c.len-then-len-gt-MOST_STATES.result
     (ap (λ (a : AttributeTree). is_string_list a.value) (sym c.states.view_is) ∙ sym c.is_string_list.ensures ∙ c.if-not-is_string_list.false)
-    (c.len.ensures ∙ c.in_ok-strings.strings.ok.0 ∙ ap length c.in_ok-strings.ensures ∙ ap (λ (a : AttributeTree). length (leaves a.value)) c.states.view_is)
-    c.if-len-gt-MOST_STATES.true
-    (c.at-then-len-gt-MOST_STATES.ensures ∙ ap (λ (a : AttributeTree). Fault a.name.start (kinds.LimitPassed limits.States c.len.result)) c.states.view_is)
+    (c.len-then-len-gt-MOST_STATES.ensures ∙ c.in_ok-strings.strings.ok.0 ∙ ap length c.in_ok-strings.ensures ∙ ap (λ (a : AttributeTree). length (leaves a.value)) c.states.view_is)
+    (rw (c.len-then-len-gt-MOST_STATES.ensures ∙ sym c.len.ensures) c.if-len-gt-MOST_STATES.true)
+    (c.at-then-len-gt-MOST_STATES.ensures ∙ ap (λ (a : AttributeTree). Fault a.name.start (kinds.LimitPassed limits.States c.len-then-len-gt-MOST_STATES.result)) c.states.view_is)
 
 pub labels-requires-clause-own : goal.labels-requires-clause-own
 labels-requires-clause-own c = own_leaves c.args.text.now _ _ (c.deref.ensures.value ∙ c.in_ok-strings.ensures ∙ ap (λ (a : AttributeTree). leaves a.value) c.states.view_is) c.requires.value
