@@ -29,7 +29,7 @@ fn limit_words(limit: Limit) -> &'static [u8]
 }
 
 // Appends the name of a node block.
-fn push_title(text: &[u8], names: &mut Vec<Token>, block: &Block) -> Result<(), AllocError>
+fn push_title(text: &[u8], names: &mut Vec<Token>, block: &Block<'_>) -> Result<(), AllocError>
     requires { IsBlockOf text.now block.now }
     ensures { OnOk result (names.new.items ≡ names.old.items ++ node_titles block.now) }
 {
@@ -43,7 +43,7 @@ fn push_title(text: &[u8], names: &mut Vec<Token>, block: &Block) -> Result<(), 
 }
 
 // The names of the node blocks, in text order.
-fn node_names(alloc: Global, text: &[u8], blocks: &[Block]) -> Result<Vec<Token>, AllocError>
+fn node_names(alloc: Global, text: &[u8], blocks: &[Block<'_>]) -> Result<Vec<Token>, AllocError>
     requires { All (IsBlockOf text.now) blocks.now }
     ensures own { IfOk result (λ names. All (IsTokenOf text.now) names.items) }
     ensures names { IfOk result (λ names.
@@ -90,7 +90,7 @@ fn push_cycle(
 fn cycle_words(
     alloc: Global,
     text: &[u8],
-    blocks: &[Block],
+    blocks: &[Block<'_>],
     cycle: &[usize],
 ) -> Result<Vec<u8>, AllocError>
     requires { All (IsBlockOf text.now) blocks.now }
@@ -132,7 +132,7 @@ fn passed_words(alloc: Global, which: Limit, got: u128) -> Result<Vec<u8>, Alloc
 pub fn kind_words(
     alloc: Global,
     text: &[u8],
-    tree: &Syntax,
+    tree: &Syntax<'_>,
     kind: &BuildKind,
 ) -> Result<Vec<u8>, AllocError>
     requires { All (IsBlockOf text.now) tree.now }

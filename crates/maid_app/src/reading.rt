@@ -86,7 +86,7 @@ impl Source<'_> {
     }
 
     // The tree that the tokens of the bytes spell.
-    fn tree(self, alloc: Global, tokens: &Tokens) -> Result<Syntax, Refusal>
+    fn tree<'t>(self, alloc: Global, tokens: &'t Tokens) -> Result<Syntax<'t>, Refusal>
         requires { IsTokens self.bytes.now tokens.now }
         ensures spells { IfOk result (λ tree.
             Spells tree (lexemes self.entry.bytes.now tokens.now)) }
@@ -104,7 +104,7 @@ impl Source<'_> {
         self,
         alloc: Global,
         tokens: &Tokens,
-        tree: &Syntax,
+        tree: &Syntax<'_>,
         at: usize,
         kind: &BuildKind,
     ) -> Refusal
@@ -125,7 +125,7 @@ impl Source<'_> {
         self,
         alloc: Global,
         tokens: &Tokens,
-        tree: &Syntax,
+        tree: &Syntax<'_>,
         fault: &BuildFault,
     ) -> Refusal
         requires tokens { IsTokens self.bytes.now tokens.now }

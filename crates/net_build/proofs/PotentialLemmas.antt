@@ -16,7 +16,7 @@ use Rattle.maid_model.specs.Nodes.{is_decision}
 use Rattle.net_build.specs.declared.faults.BuildFault.{BuildFault}
 use Rattle.net_build.specs.declared.nodes.Head.{Head}
 use Rattle.net_build.specs.Blocks.{is_potential, title, block_name, conditions, place_among}
-use Rattle.net_build.specs.Linking.{node_named, potentials_among, parents_in, taken_row, absent_row, missing_at}
+use Rattle.net_build.specs.Linking.{borrowed_trees, node_named, potentials_among, parents_in, taken_row, absent_row, missing_at}
 use Rattle.first_fault.specs.Passes.{only}
 use Rattle.first_fault.specs.Answers.{Passes}
 use Rattle.net_build.specs.Passes.{build_fault}
@@ -103,6 +103,10 @@ present_passes heads potentials v r h kind passes =
     subst (λ (b : Bool). Passes build_fault (only b (absent_row (head_at heads v) potentials v)) r) (sym (no_decision (head_at heads v).kind (subst (λ (x : Head). (x.kind ≡ Chance) ⊎ (x.kind ≡ Utility)) (get_or_default heads v record { at = 0; kind = Chance; owner = 0; states = 0 } no_head h) kind))) passes
 
 -- at first no node has a potential, or parents
+pub no_trees : (n : ℕ) → borrowed_trees (replicate n None) ≡ replicate n None
+no_trees zero = refl
+no_trees (suc n) = ap (λ os. None ∷ os) (no_trees n)
+
 pub none_among : (text : List ℕ) (names : List (List ℕ)) → replicate (length names) None ≡ potentials_among text names []
 none_among text [] = refl
 none_among text (name ∷ names) = ap (λ os. None ∷ os) (none_among text names)

@@ -1,20 +1,17 @@
 -- Agents in order of first sight, one more agent on.
 use Rattle.std.proofs.Common.{◌≡◌, ℕ, suc, ◌+◌, Bool, true, false, not, ◌||◌, cond, List, [], ◌∷◌, ◌++◌, map, filter, All, refl, ap, sym, subst, ◌∙◌, arith}
 use Rattle.std.proofs.lemmas.Bool.{false≢true}
-use Rattle.std.proofs.lemmas.List.{append-nil, append_assoc}
+use Rattle.std.proofs.lemmas.List.{append-nil}
 use Rattle.std.proofs.lemmas.Grind.{flat_map-append}
 use Rattle.std.proofs.lemmas.List.Concat.{flat_map-cons}
-use Rattle.std.proofs.lemmas.List.Elements.{All-nil, All-cons, filter-append}
-use Rattle.std.proofs.lemmas.Slice.Eq.{bytes_eq-Decides}
-use Rattle.std.specs.List.{flat_map, list_any}
+use Rattle.std.proofs.lemmas.List.Elements.{filter-append}
+use Rattle.std.specs.List.{flat_map}
 use Rattle.std.specs.Prelude.{if◌then◌else◌}
 use Rattle.std.specs.Str.{bytes_eq}
-use Rattle.net_build.specs.Blocks.{first_sights, place_among, has_agent, owner_names, agents_of, owners_of, with_sight, with_sights}
+use Rattle.net_build.specs.Blocks.{first_sights, place_among, has_agent, owner_names, agents_of, owners_of, with_sights}
 pub use Rattle.finite_sums.proofs.Sights.{has, others, has_others, has-append, has-before, has_sight, has_sights, first_sights_all, sights_grow, sight_adds, sights_add}
 use Rattle.net_build.specs.Stages.{with_owners}
 use Rattle.net_parser.specs.Trees.{BlockTree}
-use Rattle.net_build.proofs.AttributeLemmas.{or_true}
-use Rattle.net_build.proofs.PlaceLemmas.{bytes_same, bytes_differ}
 
 -- the owners of the decisions and utilities among nodes
 abbrev pub agents_among : List ℕ → List BlockTree → List (List ℕ)

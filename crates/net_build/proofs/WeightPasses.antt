@@ -2,7 +2,7 @@
 use Rattle.std.proofs.Common.{◌≡◌, ◌<◌, ◌≤◌, ◌+◌, ◌*◌, ◌/◌, ℕ, suc, pos, ◌<ℤ◌, ◌≤ℤ◌, List, [], ◌∷◌, inl, inr, All, length, get_or, map, drop, sum, None, Some, refl, sym, ap, subst, ◌∙◌, arith, length-drop}
 use Rattle.std.specs.List.{range_with_len}
 use Rattle.std.proofs.Math.Nat.{mul-le-mul_right, mul-div_cancel}
-use Rattle.std.proofs.lemmas.List.{get_or-map, get_or-take, get_or-drop, length-map, length-take-le, get_or_default}
+use Rattle.std.proofs.lemmas.List.{get_or-map, get_or-take, get_or-drop, length-map, length-take-le}
 use Rattle.std.proofs.lemmas.List.FromFn.{get_or-range_with_len, length-range_with_len}
 use Rattle.net_lexer.specs.Token.{token_bytes}
 use Rattle.net_lexer.specs.declared.tokens.Token.{Token}
@@ -32,10 +32,6 @@ total_clear text (t ∷ ts) h = h
 total_found : (text : List ℕ) (row : List Token) (t : Token) → 0 < length row → get_or row 0 no_token ≡ t → All (λ u. numerator (token_bytes text u) ≡ pos 0) row → total_row text row (Some (found t.start ZeroRow))
 total_found text [] t some same all = absurd (omega arith)
 total_found text (x ∷ xs) t some same all = (all, ap (λ (u : Token). found u.start ZeroRow) (sym same))
-
--- what stands at a place
-here : (ts : List Token) (i : ℕ) (t : Token) → i < length ts → t ≡ get_or ts i t → get_or ts i no_token ≡ t
-here ts i t h is = get_or_default ts i no_token t h ∙ sym is
 
 no_total : (n : ℕ) → 0 < n → n ≡ 0 → ⊥
 no_total n h e = omega arith
@@ -96,11 +92,11 @@ module _ (text : List ℕ) (states rows at : ℕ) (ts : List Token) (ds : List D
       (row_of_noughts text (row_at states ts row) (row_at states ds row) (written_row text states row ts ds (written text ts ds are)) h.zero_row)))
 
   -- the scaling's faults are those of the rows
-  pub weight_negative : (place : ℕ) (t : Token) (fault : BuildFault) → IsFirstNegative ds place → t ≡ get_or ts place t → fault ≡ Fault t.start kinds.Negative → IsFaultOrNoMemory build_fault (weight_part text states rows at ts) fault
-  weight_negative place t fault h is what = rw (what, ← here ts place t (omega (arith, same_len, h.within)) is) (inl (signs_found place h))
+  pub weight_negative : (place : ℕ) (fault : BuildFault) → IsFirstNegative ds place → fault ≡ Fault (get_or ts place no_token).start kinds.Negative → IsFaultOrNoMemory build_fault (weight_part text states rows at ts) fault
+  weight_negative place fault h what = rw what (inl (signs_found place h))
 
-  pub weight_zero : (row : ℕ) (t : Token) (fault : BuildFault) → NoneNegative ds → IsFirstZeroRow ds states row → t ≡ get_or ts (row * states) t → fault ≡ Fault t.start kinds.ZeroRow → IsFaultOrNoMemory build_fault (weight_part text states rows at ts) fault
-  weight_zero row t fault signs h is what = rw (what, ← here ts (row * states) t (let l = end_of row (omega (arith, count, h.within)) in omega arith) is) (inr (signs_clear signs, inl (totals_found row h)))
+  pub weight_zero : (row : ℕ) (fault : BuildFault) → NoneNegative ds → IsFirstZeroRow ds states row → fault ≡ Fault (get_or ts (row * states) no_token).start kinds.ZeroRow → IsFaultOrNoMemory build_fault (weight_part text states rows at ts) fault
+  weight_zero row fault signs h what = rw what (inr (signs_clear signs, inl (totals_found row h)))
 
   pub weight_wide : (fault : BuildFault) → NoneNegative ds → NoZeroRow ds states (length ds / states) → IsTooWide ds states → fault ≡ Fault at kinds.WideWeight → IsFaultOrNoMemory build_fault (weight_part text states rows at ts) fault
   weight_wide fault signs totals wide what = rw what (inr (signs_clear signs, inr (totals_clear totals, ((ds, are, wide), refl))))

@@ -1,6 +1,6 @@
 -- Looking up what the blocks of a text say. Each look-up has an answer for every tree; it is the one that is meant
 -- where the passes before it find nothing.
-use Rattle.std.specs.Prelude.{◌*◌, ℕ, Bool, true, false, not, ◌&&◌, ◌||◌, List, [], ◌∷◌, Option, map, filter, find, length, drop, nat_le, bytes_eq, codes, slice_index_or, if◌then◌else◌}
+use Rattle.std.specs.Prelude.{◌*◌, ℕ, Bool, true, false, ◌&&◌, ◌||◌, List, [], ◌∷◌, Option, map, filter, find, length, drop, nat_le, bytes_eq, codes, slice_index_or, if◌then◌else◌}
 use Rattle.std.specs.List.{flat_map, list_all, position_or_len}
 use Rattle.std.specs.Option.{option_map_or}
 pub use Rattle.finite_sums.specs.Sights.{first_sights, with_sight, with_sights}

@@ -16,7 +16,7 @@ use Rattle.net_parser.specs.Trees.{BlockTree}
 use Rattle.net_parser.specs.Views.{value_tree}
 use Rattle.net_parser.specs.declared.trees.Value.{Value}
 use Rattle.net_build.specs.declared.nodes.Head.{Head}
-use Rattle.net_build.specs.Blocks.{is_string, kind_of, title_at, names_of, block_labels, has_agent, block_states, owner_names, agents_of, with_sights, owners_of, potential_list, parent_lists}
+use Rattle.net_build.specs.Blocks.{is_string, is_text, kind_of, title_at, names_of, block_labels, has_agent, block_states, owner_names, agents_of, with_sights, owners_of, potential_list, parent_lists}
 
 -- the leaves of these values, from left to right
 abbrev pub leaves_in : List Value → List Token
@@ -26,6 +26,10 @@ leaves_in values = flat_map (λ v. leaves (value_tree v)) values
 abbrev pub are_string_values : List Value → Bool
 are_string_values [] = false
 are_string_values (v ∷ vs) = list_all (λ w. is_string (value_tree w)) (v ∷ vs)
+
+abbrev pub are_text_tokens : List Token → Bool
+are_text_tokens [] = false
+are_text_tokens (t ∷ ts) = list_all (λ u. is_text u.kind) (t ∷ ts)
 
 -- what the node blocks say: names, labels and agents, and for each node where its name stands, its kind, the number
 -- of its first owner and the count of its states; and the numbers of its further owners

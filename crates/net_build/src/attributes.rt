@@ -14,7 +14,7 @@ use crate::faults::{BuildFault, BuildKind};
 use net_parser::{Attribute, Block, BlockKind};
 
 /// The attribute's bytes of its name.
-pub fn word_of<'a>(text: &'a [u8], attribute: &Attribute) -> &'a [u8]
+pub fn word_of<'a>(text: &'a [u8], attribute: &Attribute<'_>) -> &'a [u8]
     requires { IsAttributeOf text.now attribute.now }
     ensures { result.now ≡ word_of text.now attribute.now }
 {
@@ -22,7 +22,7 @@ pub fn word_of<'a>(text: &'a [u8], attribute: &Attribute) -> &'a [u8]
 }
 
 /// The attribute has that name.
-pub fn is_named(text: &[u8], attribute: &Attribute, word: &[u8]) -> bool
+pub fn is_named(text: &[u8], attribute: &Attribute<'_>, word: &[u8]) -> bool
     requires { IsAttributeOf text.now attribute.now }
     ensures { result ≡ bytes_eq (word_of text.now attribute.now) word.now }
 {
@@ -30,11 +30,11 @@ pub fn is_named(text: &[u8], attribute: &Attribute, word: &[u8]) -> bool
 }
 
 /// The first attribute of that name.
-pub fn first_named<'a>(
+pub fn first_named<'a, 't>(
     text: &[u8],
-    attributes: &'a [Attribute],
+    attributes: &'a [Attribute<'t>],
     word: &[u8],
-) -> Option<&'a Attribute>
+) -> Option<&'a Attribute<'t>>
     requires { All (IsAttributeOf text.now) attributes.now }
     ensures first { MatchOption result (named text.now word.now attributes.now ≡ [])
         (λ a.
@@ -74,7 +74,7 @@ fn counts(kind: BlockKind, word: &[u8]) -> bool
 }
 
 // What the attribute is about.
-fn topic_of<'a>(text: &'a [u8], attribute: &Attribute) -> &'a [u8]
+fn topic_of<'a>(text: &'a [u8], attribute: &Attribute<'_>) -> &'a [u8]
     requires { IsAttributeOf text.now attribute.now }
     ensures { result.now ≡ topic_of text.now attribute.now }
 {
@@ -86,7 +86,7 @@ fn topic_of<'a>(text: &'a [u8], attribute: &Attribute) -> &'a [u8]
 }
 
 // The attribute counts and is about that topic.
-fn counts_for(text: &[u8], kind: BlockKind, attribute: &Attribute, topic: &[u8]) -> bool
+fn counts_for(text: &[u8], kind: BlockKind, attribute: &Attribute<'_>, topic: &[u8]) -> bool
     requires { IsAttributeOf text.now attribute.now }
     ensures { result
         ≡ (is_counted kind (word_of text.now attribute.now)
@@ -96,7 +96,7 @@ fn counts_for(text: &[u8], kind: BlockKind, attribute: &Attribute, topic: &[u8])
 }
 
 // One of the attributes counts and is about that topic.
-fn has_counted(text: &[u8], kind: BlockKind, attributes: &[Attribute], topic: &[u8]) -> bool
+fn has_counted(text: &[u8], kind: BlockKind, attributes: &[Attribute<'_>], topic: &[u8]) -> bool
     requires { All (IsAttributeOf text.now) attributes.now }
     ensures { result
         ≡ list_any
@@ -109,7 +109,12 @@ fn has_counted(text: &[u8], kind: BlockKind, attributes: &[Attribute], topic: &[
 }
 
 // The attribute counts, and one that counts before it is about the same.
-fn is_repeated(text: &[u8], kind: BlockKind, before: &[Attribute], attribute: &Attribute) -> bool
+fn is_repeated(
+    text: &[u8],
+    kind: BlockKind,
+    before: &[Attribute<'_>],
+    attribute: &Attribute<'_>,
+) -> bool
     requires before { All (IsAttributeOf text.now) before.now }
     requires own { IsAttributeOf text.now attribute.now }
     ensures { result
@@ -126,7 +131,11 @@ fn is_repeated(text: &[u8], kind: BlockKind, before: &[Attribute], attribute: &A
 }
 
 // No attribute that counts stands a second time.
-fn check_counted(text: &[u8], kind: BlockKind, attributes: &[Attribute]) -> Result<(), BuildFault>
+fn check_counted(
+    text: &[u8],
+    kind: BlockKind,
+    attributes: &[Attribute<'_>],
+) -> Result<(), BuildFault>
     requires { All (IsAttributeOf text.now) attributes.now }
     ensures { Passes build_fault
         (each_after (repeated_row text.now) [] (filter (λ a. is_counted kind (word_of text.now a))
@@ -141,7 +150,7 @@ fn check_counted(text: &[u8], kind: BlockKind, attributes: &[Attribute]) -> Resu
 }
 
 /// No attribute that counts in the block stands a second time.
-pub fn check_repeats(text: &[u8], block: &Block) -> Result<(), BuildFault>
+pub fn check_repeats(text: &[u8], block: &Block<'_>) -> Result<(), BuildFault>
     requires { IsBlockOf text.now block.now }
     ensures { Passes build_fault (repeats text.now block.now) result }
 {

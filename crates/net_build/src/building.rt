@@ -73,7 +73,7 @@ fn make_nodes(
 fn assemble(
     alloc: Global,
     nodes: Nodes,
-    links: &Links<'_>,
+    links: &Links<'_, '_>,
     tables: Tables,
 ) -> Result<(Diagram, Names), AllocError>
     requires more { length nodes.more ≡ length nodes.heads }
@@ -98,7 +98,7 @@ pub fn build(
     alloc: Global,
     text: &[u8],
     tokens: &Tokens,
-    syntax: &Syntax,
+    syntax: &Syntax<'_>,
 ) -> Result<(Diagram, Names), BuildFault>
     requires tokens { IsTokens text.now tokens.now }
     requires tree { Spells syntax.now (lexemes text.now tokens.now) }

@@ -14,12 +14,14 @@ ghost use Rattle.net_parser.specs.Owned.{IsAttributeOf, IsBlockOf, leaves};
 use crate::attributes::{check_repeats, first_named};
 use crate::faults::{BuildFault, BuildKind};
 use crate::labels::title;
+use crate::leaves::leaves;
 use crate::nodes::Head;
 use crate::numbers::read_numbers;
 use crate::scales::scaled_cells;
 use crate::weights::weights;
 use maid_model::Kind;
-use net_parser::{Attribute, Block};
+use net_lexer::Token;
+use net_parser::{Attribute, Block, Value};
 use std::alloc::{AllocError, Global};
 use weight_scale::Decimal;
 
@@ -30,13 +32,42 @@ pub enum Draft {
     Values(Vec<Decimal>),
 }
 
-// The table in the value of `data`.
+// The table in the value of `data`, whose leaves these are.
+fn read_cells(
+    alloc: Global,
+    text: &[u8],
+    head: &Head,
+    rows: usize,
+    table: &Attribute<'_>,
+    numerals: &[Token],
+) -> Result<Draft, BuildFault>
+    requires own { IsAttributeOf text.now table.now }
+    requires numerals { numerals.now ≡ leaves table.now.value }
+    requires kind { head.now.kind ≢ Decision }
+    requires states { 0 < head.now.states }
+    requires small { rows * head.now.states ≤ MOST_CELLS }
+    ensures rows { Passes build_fault
+        (data_part text.now head.now.kind rows head.now.states table.now) result }
+    ensures draft { IfOk result (IsDraftOf head.now.kind rows head.now.states
+        (map (token_bytes text.now) numerals.now)) }
+{
+    let decimals = read_numbers(alloc, text, table, numerals, rows * head.states)?;
+    match head.kind {
+        Kind::Chance => {
+            let cells = weights(alloc, table.name.start, numerals, &decimals, head.states)?;
+            Ok(Draft::Cells(cells))
+        }
+        _ => Ok(Draft::Values(decimals)),
+    }
+}
+
+// The table in the value of `data`. Only where lists stand in one another are its leaves listed anew.
 fn read_data(
     alloc: Global,
     text: &[u8],
     head: &Head,
     rows: usize,
-    table: &Attribute,
+    table: &Attribute<'_>,
 ) -> Result<Draft, BuildFault>
     requires own { IsAttributeOf text.now table.now }
     requires kind { head.now.kind ≢ Decision }
@@ -47,14 +78,11 @@ fn read_data(
     ensures draft { IfOk result (IsDraftOf head.now.kind rows head.now.states
         (map (token_bytes text.now) (leaves table.now.value))) }
 {
-    let numbers = read_numbers(alloc, text, table, rows * head.states)?;
-    match head.kind {
-        Kind::Chance => {
-            let cells = weights(alloc, table.name.start, &numbers, head.states)?;
-            Ok(Draft::Cells(cells))
-        }
-        _ => Ok(Draft::Values(numbers.decimals)),
+    if let Value::Leaves(tokens) = &table.value {
+        return read_cells(alloc, text, head, rows, table, tokens);
     }
+    let tokens = leaves(alloc, &table.value)?;
+    read_cells(alloc, text, head, rows, table, &tokens)
 }
 
 // The table in the potential.
@@ -63,7 +91,7 @@ fn read_table(
     text: &[u8],
     head: &Head,
     rows: usize,
-    potential: &Block,
+    potential: &Block<'_>,
 ) -> Result<Draft, BuildFault>
     requires own { IsBlockOf text.now potential.now }
     requires potential { is_potential potential.now.kind ≡ true }
@@ -88,7 +116,7 @@ pub fn read_draft(
     text: &[u8],
     head: &Head,
     rows: usize,
-    potential: Option<&Block>,
+    potential: Option<&Block<'_>>,
 ) -> Result<Draft, BuildFault>
     requires own { IfSome potential (λ p.
         IsBlockOf text.now p.now × (is_potential p.now.kind ≡ true)) }

@@ -22,12 +22,12 @@ use std::marker::Model;
 
 /// What the potentials say, node by node: the numbers of its parents in order, and its potential where it has one.
 #[derive(Drop)]
-pub struct Links<'a> {
+pub struct Links<'a, 't> {
     pub parents: Vec<Vec<usize>>,
-    pub potentials: Vec<Option<&'a Block>>,
+    pub potentials: Vec<Option<&'a Block<'t>>>,
 }
 
-impl<'a> Model for Links<'a> {
+impl<'a, 't> Model for Links<'a, 't> {
     ghost use Rattle.std.specs.Prelude.{map};
     ghost use Rattle.std.specs.Option.{option_map};
     ghost use Rattle.net_build.specs.Lists.{numbers_of_lists};
@@ -51,7 +51,7 @@ fn check_links(
     alloc: Global,
     heads: &[Head],
     parents: &[Vec<usize>],
-    potentials: &[Option<&Block>],
+    potentials: &[Option<&Block<'_>>],
 ) -> Result<(), BuildFault>
     requires parents { length parents.now ≡ length heads.now }
     requires potentials { length potentials.now ≡ length heads.now }
@@ -71,12 +71,12 @@ fn check_links(
 /// What the potentials say. The passes are tried one after the other: the potentials, a potential for each chance and
 /// utility node, no cycle, and the sizes of tables and rules. It goes over the text once, and looks up each name in a
 /// potential among the names of the nodes.
-pub fn read_links<'a>(
+pub fn read_links<'a, 't>(
     alloc: Global,
     text: &[u8],
-    syntax: &'a Syntax,
+    syntax: &'a Syntax<'t>,
     nodes: &Nodes,
-) -> Result<Links<'a>, BuildFault>
+) -> Result<Links<'a, 't>, BuildFault>
     requires blocks { All (IsBlockOf text.now) syntax.now }
     requires nodes { nodes.now ≡ node_lists text.now (node_blocks syntax.now) }
     requires rows { node_pass text.now syntax.now None }

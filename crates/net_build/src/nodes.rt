@@ -93,7 +93,11 @@ fn kind_of(kind: BlockKind) -> Kind
 }
 
 // The name of a node behind those of these names.
-fn read_name<'a>(text: &'a [u8], block: &Block, names: &NodeNames) -> Result<&'a [u8], BuildFault>
+fn read_name<'a>(
+    text: &'a [u8],
+    block: &Block<'_>,
+    names: &NodeNames,
+) -> Result<&'a [u8], BuildFault>
     requires own { IsBlockOf text.now block.now }
     requires named { 0 < length block.now.names }
     ensures rows { Passes build_fault (name_rows text.now names.now block.now) result }
@@ -122,7 +126,7 @@ fn read_name<'a>(text: &'a [u8], block: &Block, names: &NodeNames) -> Result<&'a
 }
 
 // The labels of a node; a utility has none.
-fn node_labels(alloc: Global, text: &[u8], block: &Block) -> Result<Vec<Vec<u8>>, BuildFault>
+fn node_labels(alloc: Global, text: &[u8], block: &Block<'_>) -> Result<Vec<Vec<u8>>, BuildFault>
     requires { IsBlockOf text.now block.now }
     ensures rows { Passes build_fault
         (only (has_states block.now.kind) (states_rows text.now block.now (named text.now
@@ -138,7 +142,7 @@ fn node_labels(alloc: Global, text: &[u8], block: &Block) -> Result<Vec<Vec<u8>>
 }
 
 // How many states a node with these labels has.
-fn state_count(text: &[u8], block: &Block, labels: &[Vec<u8>]) -> usize
+fn state_count(text: &[u8], block: &Block<'_>, labels: &[Vec<u8>]) -> usize
     requires { list_of labels.now ≡ block_labels text.now block.now }
     ensures { result ≡ block_states text.now block.now }
 {
@@ -153,7 +157,7 @@ fn state_count(text: &[u8], block: &Block, labels: &[Vec<u8>]) -> usize
 fn read_entry(
     alloc: Global,
     text: &[u8],
-    block: &Block,
+    block: &Block<'_>,
     names: &NodeNames,
     agents: &mut Vec<Vec<u8>>,
 ) -> Result<Entry, BuildFault>
@@ -194,7 +198,7 @@ fn read_entry(
 }
 
 // What the node blocks among these say.
-fn read_blocks(alloc: Global, text: &[u8], blocks: &[Block]) -> Result<Nodes, BuildFault>
+fn read_blocks(alloc: Global, text: &[u8], blocks: &[Block<'_>]) -> Result<Nodes, BuildFault>
     requires { All (IsBlockOf text.now) blocks.now }
     ensures rows { Passes build_fault (node_pass text.now blocks.now) result }
     ensures nodes { IfOk result (λ nodes. nodes ≡ node_lists text.now (node_blocks blocks.now)) }
@@ -223,7 +227,7 @@ fn read_blocks(alloc: Global, text: &[u8], blocks: &[Block]) -> Result<Nodes, Bu
 }
 
 /// What the node blocks of a text say, or the first fault among them. It goes over the blocks once.
-pub fn read_nodes(alloc: Global, text: &[u8], syntax: &Syntax) -> Result<Nodes, BuildFault>
+pub fn read_nodes(alloc: Global, text: &[u8], syntax: &Syntax<'_>) -> Result<Nodes, BuildFault>
     requires { All (IsBlockOf text.now) syntax.now }
     ensures rows { Passes build_fault (node_pass text.now syntax.now) result }
     ensures nodes { IfOk result (λ nodes. nodes ≡ node_lists text.now (node_blocks syntax.now)) }

@@ -13,18 +13,10 @@ ghost use Rattle.net_parser.specs.Owned.{IsAttributeOf, leaves};
 ghost use Rattle.weight_scale.specs.Numeral.{numerator, denominator, IsLeastDecimalOf};
 
 use crate::faults::{BuildFault, BuildKind};
-use crate::leaves::leaves;
 use net_lexer::{Token, TokenKind};
 use net_parser::Attribute;
 use std::alloc::Global;
 use weight_scale::{Decimal, numeral};
-
-/// The numbers of a table: where they stand in the text, and what they are.
-#[derive(Debug, Drop)]
-pub struct Numbers {
-    pub tokens: Vec<Token>,
-    pub decimals: Vec<Decimal>,
-}
 
 // Each leaf is a number.
 fn check_numbers(tokens: &[Token]) -> Result<(), BuildFault>
@@ -79,22 +71,21 @@ pub fn decimals(alloc: Global, text: &[u8], tokens: &[Token]) -> Result<Vec<Deci
     Ok(decimals)
 }
 
-/// The numbers of the value of `data`, as many as the table has cells.
+/// The numbers of the value of `data`, whose leaves these are: as many as the table has cells.
 pub fn read_numbers(
     alloc: Global,
     text: &[u8],
-    table: &Attribute,
+    table: &Attribute<'_>,
+    numerals: &[Token],
     want: usize,
-) -> Result<Numbers, BuildFault>
-    requires { IsAttributeOf text.now table.now }
+) -> Result<Vec<Decimal>, BuildFault>
+    requires own { IsAttributeOf text.now table.now }
+    requires numerals { numerals.now ≡ leaves table.now.value }
     ensures rows { Passes build_fault (number_rows text.now want table.now) result }
-    ensures tokens { IfOk result (λ n. n.tokens.items ≡ leaves table.now.value) }
-    ensures decimals { IfOk result (λ n.
-        AreDecimals (map (token_bytes text.now) (leaves table.now.value)) n.decimals.items) }
+    ensures decimals { IfOk result (λ decimals.
+        AreDecimals (map (token_bytes text.now) numerals.now) decimals.items) }
 {
-    let tokens = leaves(alloc, &table.value)?;
-    check_numbers(&tokens)?;
-    check_count(table.name.start, want, tokens.len())?;
-    let decimals = decimals(alloc, text, &tokens)?;
-    Ok(Numbers { tokens, decimals })
+    check_numbers(numerals)?;
+    check_count(table.name.start, want, numerals.len())?;
+    decimals(alloc, text, numerals)
 }

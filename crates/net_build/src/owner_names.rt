@@ -15,7 +15,7 @@ ghost use Rattle.net_parser.specs.Views.{value_tree};
 
 use crate::attributes::{is_named, names_owners, word_of};
 use crate::faults::{BuildFault, BuildKind};
-use crate::labels::{is_plain, labels, strings};
+use crate::labels::{is_plain, is_string_list, labels};
 use crate::leaves::leaves;
 use crate::node_names::NodeNames;
 use net_lexer::{Token, TokenKind, text_value};
@@ -23,11 +23,11 @@ use net_parser::{Attribute, Block, BlockKind, Value};
 use std::alloc::Global;
 
 // The first of the attributes that tell the owners of such a node.
-fn first_telling<'a>(
+fn first_telling<'a, 't>(
     text: &[u8],
     kind: BlockKind,
-    attributes: &'a [Attribute],
-) -> Option<&'a Attribute>
+    attributes: &'a [Attribute<'t>],
+) -> Option<&'a Attribute<'t>>
     requires { All (IsAttributeOf text.now) attributes.now }
     ensures first { MatchOption result
         (filter (λ a. names_owners kind (word_of text.now a)) attributes.now ≡ [])
@@ -45,7 +45,7 @@ fn first_telling<'a>(
 }
 
 // The token of a string.
-fn string_token(value: &Value) -> Option<&Token>
+fn string_token<'a>(value: &'a Value<'_>) -> Option<&'a Token>
     ensures tree { MatchOption result (is_string (value_tree value.now) ≡ false)
         (λ token. value_tree value.now ≡ leaf token.now) }
     ensures string { IfSome result (λ token. token.now.kind ≡ Text) }
@@ -58,12 +58,12 @@ fn string_token(value: &Value) -> Option<&Token>
                 None
             }
         }
-        Value::List(_) => None,
+        Value::Leaves(_) | Value::List(_) => None,
     }
 }
 
 // The one owner that an `agent` tells.
-fn one_name(alloc: Global, text: &[u8], agent: &Attribute) -> Result<Vec<Vec<u8>>, BuildFault>
+fn one_name(alloc: Global, text: &[u8], agent: &Attribute<'_>) -> Result<Vec<Vec<u8>>, BuildFault>
     requires own { IsAttributeOf text.now agent.now }
     requires one { bytes_eq (word_of text.now agent.now) (codes "agents") ≡ false }
     ensures rows { Passes build_fault
@@ -86,7 +86,11 @@ fn one_name(alloc: Global, text: &[u8], agent: &Attribute) -> Result<Vec<Vec<u8>
 }
 
 // The owners that an `agents` tells. An agent's name has the form of a label.
-fn listed_names(alloc: Global, text: &[u8], agents: &Attribute) -> Result<Vec<Vec<u8>>, BuildFault>
+fn listed_names(
+    alloc: Global,
+    text: &[u8],
+    agents: &Attribute<'_>,
+) -> Result<Vec<Vec<u8>>, BuildFault>
     requires own { IsAttributeOf text.now agents.now }
     requires list { bytes_eq (word_of text.now agents.now) (codes "agents") ≡ true }
     ensures rows { Passes build_fault
@@ -96,10 +100,11 @@ fn listed_names(alloc: Global, text: &[u8], agents: &Attribute) -> Result<Vec<Ve
         list_of names.items ≡ map (text_value text.now) (leaves agents.now.value)) }
 {
     let at = agents.name.start;
-    let Some(values) = strings(&agents.value) else {
+    if !is_string_list(&agents.value) {
         return Err(BuildKind::BadAgent.at(at));
-    };
-    match labels(alloc, text, values) {
+    }
+    let strings = leaves(alloc, &agents.value)?;
+    match labels(alloc, text, &strings) {
         Ok(names) => Ok(names),
         Err(BuildFault::Fault { .. }) => Err(BuildKind::BadAgent.at(at)),
         Err(BuildFault::NoMemory) => Err(BuildFault::NoMemory),
@@ -107,7 +112,11 @@ fn listed_names(alloc: Global, text: &[u8], agents: &Attribute) -> Result<Vec<Ve
 }
 
 // The owners that the attribute tells, whatever stands twice.
-fn agent_names(alloc: Global, text: &[u8], agents: &Attribute) -> Result<Vec<Vec<u8>>, BuildFault>
+fn agent_names(
+    alloc: Global,
+    text: &[u8],
+    agents: &Attribute<'_>,
+) -> Result<Vec<Vec<u8>>, BuildFault>
     requires { IsAttributeOf text.now agents.now }
     ensures rows { Passes build_fault
         (rule (tells_owners text.now agents.now ≡ false) (found agents.now.name.start BadAgent))
@@ -145,7 +154,11 @@ fn check_distinct(
 }
 
 // The owners that the attribute tells.
-fn told_names(alloc: Global, text: &[u8], agents: &Attribute) -> Result<Vec<Vec<u8>>, BuildFault>
+fn told_names(
+    alloc: Global,
+    text: &[u8],
+    agents: &Attribute<'_>,
+) -> Result<Vec<Vec<u8>>, BuildFault>
     requires { IsAttributeOf text.now agents.now }
     ensures rows { Passes build_fault (agent_rows text.now (agents.now ∷ [])) result }
     ensures names { IfOk result (λ names.
@@ -158,7 +171,7 @@ fn told_names(alloc: Global, text: &[u8], agents: &Attribute) -> Result<Vec<Vec<
 }
 
 /// The names of the owners of a decision or a utility, in written order.
-pub fn read_names(alloc: Global, text: &[u8], block: &Block) -> Result<Vec<Vec<u8>>, BuildFault>
+pub fn read_names(alloc: Global, text: &[u8], block: &Block<'_>) -> Result<Vec<Vec<u8>>, BuildFault>
     requires { IsBlockOf text.now block.now }
     ensures rows { Passes build_fault (agent_rows text.now (owner_attributes text.now block.now))
         result }

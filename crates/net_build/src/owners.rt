@@ -82,7 +82,7 @@ fn number_owners(
 fn agent_owners(
     alloc: Global,
     text: &[u8],
-    block: &Block,
+    block: &Block<'_>,
     agents: &mut Vec<Vec<u8>>,
 ) -> Result<Owners, BuildFault>
     requires own { IsBlockOf text.now block.now }
@@ -114,7 +114,7 @@ fn has_agent(kind: BlockKind) -> bool
 pub fn read_owners(
     alloc: Global,
     text: &[u8],
-    block: &Block,
+    block: &Block<'_>,
     agents: &mut Vec<Vec<u8>>,
 ) -> Result<Owners, BuildFault>
     requires own { IsBlockOf text.now block.now }

@@ -21,7 +21,11 @@ use net_parser::{Block, BlockKind, Syntax};
 use std::alloc::{AllocError, Global};
 
 // The node has no potential yet.
-fn check_single(potentials: &[Option<&Block>], node: usize, head: &Token) -> Result<(), BuildFault>
+fn check_single(
+    potentials: &[Option<&Block<'_>>],
+    node: usize,
+    head: &Token,
+) -> Result<(), BuildFault>
     requires { node < length potentials.now }
     ensures { Passes build_fault (taken_row (borrowed_trees potentials.now) node head.now) result }
 {
@@ -52,7 +56,7 @@ fn read_potential(
     text: &[u8],
     names: &NodeNames,
     heads: &[Head],
-    potentials: &[Option<&Block>],
+    potentials: &[Option<&Block<'_>>],
     head: &Token,
     conditions: &[Token],
 ) -> Result<(usize, Vec<usize>), BuildFault>
@@ -76,7 +80,7 @@ fn read_potential(
     Ok((node, parents))
 }
 
-fn is_potential(block: &Block) -> bool
+fn is_potential(block: &Block<'_>) -> bool
     ensures { result ≡ is_potential block.now.kind }
 {
     matches!(block.kind, BlockKind::Potential)
@@ -96,8 +100,8 @@ fn read_block(
     text: &[u8],
     names: &NodeNames,
     heads: &[Head],
-    potentials: &[Option<&Block>],
-    block: &Block,
+    potentials: &[Option<&Block<'_>>],
+    block: &Block<'_>,
 ) -> Result<(usize, Vec<usize>), BuildFault>
     requires block { IsBlockOf text.now block.now }
     requires potential { is_potential block.now.kind ≡ true }
@@ -129,9 +133,9 @@ fn no_parents(alloc: Global, count: usize) -> Result<Vec<Vec<usize>>, AllocError
     Ok(lists)
 }
 
-// No potential for each of so many nodes.
-fn no_potentials<'a>(alloc: Global, count: usize) -> Result<Vec<Option<&'a Block>>, AllocError>
-    ensures { IfOk result (λ found. borrowed_trees found.items ≡ replicate count None) }
+// Nothing for each of so many nodes.
+fn nothing_each<P: Drop>(alloc: Global, count: usize) -> Result<Vec<Option<P>>, AllocError>
+    ensures { IfOk result (λ found. found.items ≡ replicate count None) }
 {
     let mut found = Vec::with_capacity(alloc, count)?;
     for _node in 0..count {
@@ -141,32 +145,32 @@ fn no_potentials<'a>(alloc: Global, count: usize) -> Result<Vec<Option<&'a Block
 }
 
 // The node has these parents, and this potential.
-fn enter<'a>(
+fn enter<P: Drop>(
     parents: &mut Vec<Vec<usize>>,
-    potentials: &mut Vec<Option<&'a Block>>,
+    potentials: &mut Vec<Option<P>>,
     node: usize,
     list: Vec<usize>,
-    block: &'a Block,
+    potential: P,
 )
     requires parents { node < length parents.old.items }
     requires potentials { node < length potentials.old.items }
     ensures parents { numbers_of_lists parents.new.items
         ≡ slice_set (numbers_of_lists parents.old.items) node list.items }
-    ensures potentials { borrowed_trees potentials.new.items
-        ≡ slice_set (borrowed_trees potentials.old.items) node (Some block.now) }
+    ensures potentials { potentials.new.items
+        ≡ slice_set potentials.old.items node (Some potential) }
 {
     parents[node] = list;
-    potentials[node] = Some(block);
+    potentials[node] = Some(potential);
 }
 
 /// The parents and the potential of each node.
-pub fn read_potentials<'a>(
+pub fn read_potentials<'a, 't>(
     alloc: Global,
     text: &[u8],
-    syntax: &'a Syntax,
+    syntax: &'a Syntax<'t>,
     names: &NodeNames,
     heads: &[Head],
-) -> Result<Links<'a>, BuildFault>
+) -> Result<Links<'a, 't>, BuildFault>
     requires blocks { All (IsBlockOf text.now) syntax.now }
     requires heads { length heads.now ≡ length names.now }
     requires names { AllPairs (λ name later. name ≢ later) names.now }
@@ -179,7 +183,7 @@ pub fn read_potentials<'a>(
     ensures fit { IfOk result (λ links. All (AreParents heads.now) links.parents) }
 {
     let mut parents = no_parents(alloc, names.len())?;
-    let mut potentials = no_potentials(alloc, names.len())?;
+    let mut potentials = nothing_each(alloc, names.len())?;
     for block in &syntax.blocks {
         if is_potential(block) {
             let (node, list) = read_block(alloc, text, names, heads, &potentials, block)?;
@@ -195,7 +199,7 @@ pub fn read_potentials<'a>(
 // The node has a potential.
 fn check_present(
     heads: &[Head],
-    potentials: &[Option<&Block>],
+    potentials: &[Option<&Block<'_>>],
     node: usize,
 ) -> Result<(), BuildFault>
     requires within { node < length heads.now }
@@ -210,7 +214,11 @@ fn check_present(
 }
 
 // The node has a potential if it is no decision.
-fn check_table(heads: &[Head], potentials: &[Option<&Block>], node: usize) -> Result<(), BuildFault>
+fn check_table(
+    heads: &[Head],
+    potentials: &[Option<&Block<'_>>],
+    node: usize,
+) -> Result<(), BuildFault>
     requires within { node < length heads.now }
     requires len { length potentials.now ≡ length heads.now }
     ensures { Passes build_fault (missing_at heads.now (borrowed_trees potentials.now) node)
@@ -223,7 +231,7 @@ fn check_table(heads: &[Head], potentials: &[Option<&Block>], node: usize) -> Re
 }
 
 /// Each chance and utility node has a potential.
-pub fn check_tables(heads: &[Head], potentials: &[Option<&Block>]) -> Result<(), BuildFault>
+pub fn check_tables(heads: &[Head], potentials: &[Option<&Block<'_>>]) -> Result<(), BuildFault>
     requires { length potentials.now ≡ length heads.now }
     ensures { Passes build_fault (missing_steps heads.now (borrowed_trees potentials.now)) result }
 {

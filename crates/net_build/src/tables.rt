@@ -60,7 +60,7 @@ fn read_node(
     alloc: Global,
     text: &[u8],
     nodes: &Nodes,
-    links: &Links<'_>,
+    links: &Links<'_, '_>,
     node: usize,
 ) -> Result<Draft, BuildFault>
     requires read { CanRead text.now nodes.now.heads links.now }
@@ -84,7 +84,7 @@ fn read_drafts(
     alloc: Global,
     text: &[u8],
     nodes: &Nodes,
-    links: &Links<'_>,
+    links: &Links<'_, '_>,
 ) -> Result<Vec<Draft>, BuildFault>
     requires { CanRead text.now nodes.now.heads links.now }
     ensures rows { Passes build_fault (drafts_pass text.now nodes.now.heads links.now) result }
@@ -134,7 +134,7 @@ fn drafts_fit(drafts: &[Draft], scale: u32) -> bool
 fn utility_scale(
     alloc: Global,
     text: &[u8],
-    syntax: &Syntax,
+    syntax: &Syntax<'_>,
     nodes: &Nodes,
     drafts: &[Draft],
 ) -> Result<u32, BuildFault>
@@ -183,9 +183,9 @@ fn finish(alloc: Global, drafts: Vec<Draft>, scale: u32) -> Result<Vec<Vec<i128>
 pub fn read_tables(
     alloc: Global,
     text: &[u8],
-    syntax: &Syntax,
+    syntax: &Syntax<'_>,
     nodes: &Nodes,
-    links: &Links<'_>,
+    links: &Links<'_, '_>,
 ) -> Result<Tables, BuildFault>
     requires blocks { All (IsBlockOf text.now) syntax.now }
     requires nodes { nodes.now ≡ node_lists text.now (node_blocks syntax.now) }

@@ -27,7 +27,7 @@ fn is_utility_named(nodes: &Nodes, name: &[u8]) -> bool
 }
 
 // The block is the potential of a utility.
-fn has_values(text: &[u8], nodes: &Nodes, block: &Block) -> bool
+fn has_values(text: &[u8], nodes: &Nodes, block: &Block<'_>) -> bool
     requires own { IsBlockOf text.now block.now }
     requires len { length nodes.now.names ≡ length nodes.now.heads }
     ensures { result ≡ has_values text.now nodes.now block.now }
@@ -39,7 +39,7 @@ fn has_values(text: &[u8], nodes: &Nodes, block: &Block) -> bool
 }
 
 // The leaves of the potential's `data`, behind those that are there.
-fn push_data(tokens: &mut Vec<Token>, text: &[u8], potential: &Block) -> Result<(), AllocError>
+fn push_data(tokens: &mut Vec<Token>, text: &[u8], potential: &Block<'_>) -> Result<(), AllocError>
     requires { IsBlockOf text.now potential.now }
     ensures { OnOk result (tokens.new.items
         ≡ tokens.old.items ++ leaves_of (data_of text.now potential.now)) }
@@ -54,7 +54,7 @@ fn push_data(tokens: &mut Vec<Token>, text: &[u8], potential: &Block) -> Result<
 pub fn utility_numbers(
     alloc: Global,
     text: &[u8],
-    syntax: &Syntax,
+    syntax: &Syntax<'_>,
     nodes: &Nodes,
 ) -> Result<Vec<Token>, AllocError>
     requires blocks { All (IsBlockOf text.now) syntax.now }

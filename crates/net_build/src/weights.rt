@@ -11,35 +11,34 @@ ghost use Rattle.net_build.specs.TableParts.{weight_part, IsWeighed};
 ghost use Rattle.net_lexer.specs.Token.{token_bytes};
 
 use crate::faults::{BuildFault, BuildKind};
-use crate::numbers::Numbers;
+use net_lexer::Token;
 use std::alloc::Global;
-use weight_scale::{ScaleFault, scale_rows};
+use weight_scale::{Decimal, ScaleFault, scale_rows};
 
-/// The weights of a chance table: its rows taken in proportion, and brought to one total. The word `data` stands at
-/// `at`. Refused are, in this order, the first number below nought, the first row of total nought, and a common total
-/// that is too great.
+/// The weights of a chance table of these numbers, which stand at these tokens: its rows taken in proportion, and brought
+/// to one total. The word `data` stands at `at`. Refused are, in this order, the first number below nought, the first row
+/// of total nought, and a common total that is too great.
 pub fn weights(
     alloc: Global,
     at: usize,
-    numbers: &Numbers,
+    tokens: &[Token],
+    decimals: &[Decimal],
     states: usize,
 ) -> Result<Vec<i128>, BuildFault>
     requires states { 0 < states }
-    requires whole { states ∣ length numbers.now.decimals.items }
-    requires len { length numbers.now.decimals.items ≡ length numbers.now.tokens.items }
-    ensures rows { (text : List ℕ) (rows : ℕ) → length numbers.now.tokens.items ≡ rows * states
-        → AreDecimals (map (token_bytes text) numbers.now.tokens.items) numbers.now.decimals.items
-        → Passes build_fault (weight_part text states rows at numbers.now.tokens.items) result }
+    requires whole { states ∣ length decimals.now }
+    requires len { length decimals.now ≡ length tokens.now }
+    ensures rows { (text : List ℕ) (rows : ℕ) → length tokens.now ≡ rows * states
+        → AreDecimals (map (token_bytes text) tokens.now) decimals.now
+        → Passes build_fault (weight_part text states rows at tokens.now) result }
     ensures weighed { IfOk result (λ cells.
-        IsWeighed numbers.now.decimals.items states cells.items) }
+        IsWeighed decimals.now states cells.items) }
 {
-    match scale_rows(alloc, &numbers.decimals, states) {
+    match scale_rows(alloc, decimals, states) {
         Ok(scaled) => Ok(scaled.weights),
-        Err(ScaleFault::Negative { place }) => {
-            Err(BuildKind::Negative.at(numbers.tokens[place].start))
-        }
+        Err(ScaleFault::Negative { place }) => { Err(BuildKind::Negative.at(tokens[place].start)) }
         Err(ScaleFault::ZeroRow { row }) => {
-            Err(BuildKind::ZeroRow.at(numbers.tokens[row * states].start))
+            Err(BuildKind::ZeroRow.at(tokens[row * states].start))
         }
         Err(ScaleFault::WideWeight) => Err(BuildKind::WideWeight.at(at)),
         Err(ScaleFault::NoMemory) => Err(BuildFault::NoMemory),

@@ -6,3 +6,4 @@ pub mod Stopping
 pub mod Once
 pub mod Turns
 pub mod Owning
+pub mod Flat

@@ -1,5 +1,6 @@
 -- Reading from left to right, for the contracts of private functions. No public contract needs it.
 use Rattle.std.specs.Prelude.{◌≡◌, ◌-◌, ℕ, Bool, true, false, not, ◌&&◌, ◌||◌, List, [], ◌∷◌, ◌++◌, Option, None, Some, is_some, nat_lt, bytes_eq, if◌then◌else◌, codes, Result, Ok, Err}
+use Rattle.std.specs.List.{list_all}
 use Rattle.std.specs.Option.{option_map, option_map_or}
 use Rattle.net_lexer.specs.Token.{is_name}
 use Rattle.net_lexer.specs.declared.tokens.Token.{Token}
@@ -14,7 +15,7 @@ use Rattle.net_parser.specs.declared.parsing.ParseFault.TheVariants as faults
 use Rattle.net_parser.specs.declared.words.BlockWord.{BlockWord}
 use Rattle.net_parser.specs.declared.words.BlockWord.TheVariants as words
 use Rattle.net_parser.specs.Trees.{BlockTree}
-use Rattle.net_parser.specs.Lexemes.{Lexeme}
+use Rattle.net_parser.specs.Lexemes.{Lexeme, is_leaf}
 use Rattle.net_parser.specs.Grammar.{Rule, Never, ◌▹◌, Mark, Word, Name, Given}
 
 -- what may come next; attributes, values, given and names go up to the closing token
@@ -173,6 +174,10 @@ is_next kind (l ∷ ls) = same_kind kind l.token.kind
 abbrev pub Follows : {A : Type 0} → List Symbol → Result A Stop → List Lexeme → List Lexeme → Type 0
 Follows symbols result old new = (after : List Symbol) → IsReading result
     (stop (within (symbols ++ after)) old) (λ x. stop (within after) new) new
+
+-- leaves alone, and behind them the parenthesis that closes their list
+abbrev pub IsFlat : List Token → List Token → List Token → Type 0
+IsFlat tokens leaves behind = (close : Token) × (tokens ≡ leaves ++ close ∷ behind) × (close.kind ≡ kinds.ParenClose) × (list_all (λ t. is_leaf t.kind) leaves ≡ true)
 
 -- a word that begins a node block of that kind
 abbrev pub NodeWord : BlockKind → Rule

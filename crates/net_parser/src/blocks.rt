@@ -16,9 +16,9 @@ use std::alloc::Global;
 /// How many lists of a value may stand in one another.
 const NESTING: u8 = 32;
 
-impl Reader<'_> {
+impl<'a> Reader<'_, 'a> {
     /// Reads `NAME = VALUE ;`.
-    fn attribute(&mut self, alloc: Global, potential: bool) -> Result<Attribute, Stop>
+    fn attribute(&mut self, alloc: Global, potential: bool) -> Result<Attribute<'a>, Stop>
         ensures rule { IfOk result (λ attribute.
             grammar.Attribute potential attribute self.old self.new) }
         ensures follows { Follows
@@ -34,7 +34,7 @@ impl Reader<'_> {
     }
 
     /// Reads `{`, attributes and `}`.
-    fn body(&mut self, alloc: Global, potential: bool) -> Result<Vec<Attribute>, Stop>
+    fn body(&mut self, alloc: Global, potential: bool) -> Result<Vec<Attribute<'a>>, Stop>
         ensures rule { IfOk result (λ all. grammar.Body potential all.items self.old self.new) }
         ensures follows { Follows (mark BraceOpen ∷ attributes potential ∷ []) result self.old
             self.new }
@@ -120,7 +120,7 @@ impl Reader<'_> {
     }
 
     /// Reads a block, which may be the text's first.
-    fn block(&mut self, alloc: Global, first: bool) -> Result<Block, Stop>
+    fn block(&mut self, alloc: Global, first: bool) -> Result<Block<'a>, Stop>
         requires { 0 < length self.old }
         ensures rule { IfOk result (λ block. grammar.Block first block self.old self.new) }
         ensures follows { IsReading result (stop (block_place first) self.old)
@@ -137,7 +137,7 @@ impl Reader<'_> {
     }
 
     /// Reads all blocks up to the last token.
-    pub fn text(&mut self, alloc: Global) -> Result<Vec<Block>, Stop>
+    pub fn text(&mut self, alloc: Global) -> Result<Vec<Block<'a>>, Stop>
         ensures rule { IfOk result (λ blocks. Spells blocks.items self.old) }
         ensures follows { IsReading result (stop start self.old) (λ blocks. None) self.new }
     {

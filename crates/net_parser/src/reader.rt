@@ -4,14 +4,19 @@
 //! it answers, and on `Err` it stands before the first impossible token. `terminals` has the rules
 //! of one token, `values` and `blocks` those made of others.
 
-ghost use Rattle.std.specs.Prelude.{◌≡◌, ◌<◌, [], ◌∷◌, length, drop, All, IfSome, IfNone, IsTrue};
+ghost use Rattle.std.specs.Prelude.{◌≡◌, ◌<◌, ℕ, List, [], ◌∷◌, length, drop, map, All, IfSome, IfNone, IsTrue};
+ghost use Rattle.std.specs.List.{prefix_len};
 ghost use Rattle.net_lexer.specs.Token.{IsTokenOf, is_token};
-ghost use Rattle.net_parser.specs.Lexemes.{lexemes};
+ghost use Rattle.net_lexer.specs.declared.tokens.TokenKind.TheVariants.{ParenClose};
+ghost use Rattle.net_parser.specs.Lexemes.{lexemes, is_leaf};
 ghost use Rattle.net_parser.specs.Faults.{rest_place};
-ghost use Rattle.net_parser.specs.Reading.{fault_at};
+ghost use Rattle.net_parser.specs.Grammar.{◌▹◌, Mark, Values};
+ghost use Rattle.net_parser.specs.Reading.{Symbol, values, within, stop, fault_at, IsFlat};
+ghost use Rattle.net_parser.specs.Trees.{leaf};
+ghost use Rattle.net_parser.specs.Views.{trees_of};
 
 use crate::ParseFault;
-use net_lexer::Token;
+use net_lexer::{Token, TokenKind};
 use std::alloc::{AllocError, AllocFailed};
 use std::marker::Model;
 
@@ -58,14 +63,44 @@ impl From<AllocError> for Stop {
     }
 }
 
+fn is_leaf(kind: TokenKind) -> bool
+    ensures { result ≡ is_leaf kind }
+{
+    matches!(kind, TokenKind::Text | TokenKind::Number | TokenKind::Word)
+}
+
+// How many leaves stand at the front.
+fn count_leaves(tokens: &[Token]) -> usize
+    ensures { result ≡ prefix_len (λ t. is_leaf t.kind) tokens.now }
+{
+    tokens
+        .iter()
+        .take_while(|token| is_leaf(token.kind))
+        .count()
+}
+
+// The leaves at the front, and what stands behind the parenthesis that closes their list.
+fn split_leaves(tokens: &[Token]) -> Option<(&[Token], &[Token])>
+    ensures { IfSome result (λ split. IsFlat tokens.now split.0.now split.1.now) }
+{
+    let (leaves, rest) = tokens.split_at(count_leaves(tokens));
+    let [close, behind @ ..] = rest else {
+        return None;
+    };
+    match close.kind {
+        TokenKind::ParenClose => Some((leaves, behind)),
+        _ => None,
+    }
+}
+
 /// The tokens that are still to be read, all of one text.
 #[derive(Drop)]
-pub struct Reader<'a> {
-    text: &'a [u8],
+pub struct Reader<'t, 'a> {
+    text: &'t [u8],
     rest: &'a [Token],
 }
 
-impl<'a> Model for Reader<'a> {
+impl<'t, 'a> Model for Reader<'t, 'a> {
     ghost use Rattle.std.specs.Prelude.{List, All};
     ghost use Rattle.net_lexer.specs.Token.{IsTokenOf};
     ghost use Rattle.net_parser.specs.Lexemes.{Lexeme, lexemes};
@@ -77,8 +112,8 @@ impl<'a> Model for Reader<'a> {
     ghost invariant = { λ r. All (IsTokenOf r.text.now) r.rest.now };
 }
 
-impl<'a> Reader<'a> {
-    pub fn new(text: &'a [u8], tokens: &'a [Token]) -> Reader<'a>
+impl<'t, 'a> Reader<'t, 'a> {
+    pub fn new(text: &'t [u8], tokens: &'a [Token]) -> Reader<'t, 'a>
         requires { All (IsTokenOf text.now) tokens.now }
         ensures { result ≡ lexemes text.now tokens.now }
     {
@@ -86,7 +121,7 @@ impl<'a> Reader<'a> {
     }
 
     /// The next token and its bytes.
-    pub fn peek(&self) -> Option<(Token, &'a [u8])>
+    pub fn peek(&self) -> Option<(Token, &'t [u8])>
         ensures some { IfSome result (λ p.
             self.now ≡ record { token = p.0; bytes = p.1.now } ∷ drop 1 self.now) }
         ensures none { IfNone result (self.now ≡ []) }
@@ -104,6 +139,22 @@ impl<'a> Reader<'a> {
         ensures { self.new ≡ drop 1 self.old }
     {
         self.rest = &self.rest[1..];
+    }
+
+    /// Goes past leaves and the parenthesis that closes their list, if no list stands among them.
+    pub fn leaves(&mut self) -> Option<&'a [Token]>
+        ensures rule { IfSome result (λ leaves.
+            (depth : ℕ) → (Values depth (trees_of (map leaf leaves.now)) ▹ Mark ParenClose) self.old
+            self.new) }
+        ensures follows { IfSome result (λ leaves.
+            (depth : ℕ) (after : List Symbol) → stop (within (values depth ∷ after)) self.old
+            ≡ stop (within after) self.new) }
+        ensures shorter { IfSome result (λ leaves. length self.new < length self.old) }
+        ensures unread { IfNone result (self.new ≡ self.old) }
+    {
+        let (leaves, behind) = split_leaves(self.rest)?;
+        self.rest = behind;
+        Some(leaves)
     }
 
     /// Where the next token begins, or the text's end where there is none.

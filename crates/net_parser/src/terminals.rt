@@ -10,7 +10,7 @@ use crate::reader::{Reader, Stop};
 use crate::words::{BlockWord, block_word, is_foreign, is_model_name, is_name, node_kind};
 use net_lexer::{Token, TokenKind};
 
-impl Reader<'_> {
+impl Reader<'_, '_> {
     /// Goes past the next token if it is of that kind.
     pub fn accept(&mut self, kind: TokenKind) -> bool
         ensures test { result ≡ is_next kind self.old }

@@ -30,21 +30,23 @@ impl BlockKind {
     }
 }
 
-/// An attribute's value: a string, a numeral or a word, or a list of values in parentheses.
+/// An attribute's value: a string, a numeral or a word, or a list of values in parentheses. A list in which no list
+/// stands is lent from the tokens, so that a table takes no memory in the tree.
 #[derive(Debug, Drop)]
-pub enum Value {
+pub enum Value<'a> {
     Leaf(Token),
-    List(Vec<Value>),
+    Leaves(&'a [Token]),
+    List(Vec<Value<'a>>),
 }
 
 /// An attribute of a block, with the token of its name.
 #[derive(Debug, Drop)]
-pub struct Attribute {
+pub struct Attribute<'a> {
     pub name: Token,
-    pub value: Value,
+    pub value: Value<'a>,
 }
 
-impl Model for Attribute {
+impl<'a> Model for Attribute<'a> {
     ghost use Rattle.net_parser.specs.Trees.{AttributeTree};
     ghost use Rattle.net_parser.specs.TreeCode.{attribute_code};
 
@@ -59,13 +61,13 @@ impl Model for Attribute {
 
 /// A block, with the tokens of its names.
 #[derive(Debug, Drop)]
-pub struct Block {
+pub struct Block<'a> {
     pub kind: BlockKind,
     pub names: Vec<Token>,
-    pub attributes: Vec<Attribute>,
+    pub attributes: Vec<Attribute<'a>>,
 }
 
-impl Model for Block {
+impl<'a> Model for Block<'a> {
     ghost use Rattle.net_parser.specs.Trees.{BlockTree};
     ghost use Rattle.net_parser.specs.TreeCode.{block_code};
 
@@ -77,13 +79,13 @@ impl Model for Block {
         record { kind = b.kind; names = b.names.items; attributes = b.attributes.items } };
 }
 
-/// The tree of a text: its blocks in order.
+/// The tree of a text: its blocks in order. It borrows from the text's tokens.
 #[derive(Debug, Drop)]
-pub struct Syntax {
-    pub blocks: Vec<Block>,
+pub struct Syntax<'a> {
+    pub blocks: Vec<Block<'a>>,
 }
 
-impl Model for Syntax {
+impl<'a> Model for Syntax<'a> {
     ghost use Rattle.std.specs.Prelude.{List};
     ghost use Rattle.std.specs.Coded.{coded_list};
     ghost use Rattle.net_parser.specs.Trees.{BlockTree};

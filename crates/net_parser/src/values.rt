@@ -12,10 +12,10 @@ use crate::reader::{Reader, Stop};
 use net_lexer::TokenKind;
 use std::alloc::Global;
 
-impl Reader<'_> {
+impl<'a> Reader<'_, 'a> {
     /// Reads a value in which so many lists may stand in one another.
     #[cycle(value)]
-    pub fn value(&mut self, alloc: Global, depth: u8) -> Result<Value, Stop>
+    pub fn value(&mut self, alloc: Global, depth: u8) -> Result<Value<'a>, Stop>
         ensures rule { IfOk result (λ value.
             grammar.Value depth (value_tree value) self.old self.new) }
         ensures follows { Follows (value depth ∷ []) result self.old self.new }
@@ -32,6 +32,9 @@ impl Reader<'_> {
             TokenKind::ParenOpen if depth == 0 => Err(Stop::TooDeep),
             TokenKind::ParenOpen => {
                 self.advance();
+                if let Some(leaves) = self.leaves() {
+                    return Ok(Value::Leaves(leaves));
+                }
                 let values = self.values(alloc, depth - 1)?;
                 Ok(Value::List(values))
             }
@@ -41,7 +44,7 @@ impl Reader<'_> {
 
     /// Reads the values of a list, and the parenthesis that closes it.
     #[cycle(value)]
-    fn values(&mut self, alloc: Global, depth: u8) -> Result<Vec<Value>, Stop>
+    fn values(&mut self, alloc: Global, depth: u8) -> Result<Vec<Value<'a>>, Stop>
         ensures rule { IfOk result (λ all.
             (grammar.Values depth (trees_of (map value_tree all.items)) ▹ Mark ParenClose) self.old
             self.new) }

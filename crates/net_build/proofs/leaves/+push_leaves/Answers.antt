@@ -2,7 +2,7 @@ use Rattle.std.proofs.Common.{◌++◌, ap, sym, ◌∙◌}
 use Rattle.std.proofs.lemmas.List.{take_all}
 use Rattle.net_parser.specs.Owned.{leaves}
 use Rattle.net_parser.specs.Views.{value_tree}
-use Rattle.net_build.proofs.LeafLemmas.{leaves_of_values}
+use Rattle.net_build.proofs.LeafLemmas.{leaves_of_values, leaves_of_flat}
 use Rattle.net_build.specs.Stages.{leaves_in}
 use Rattle.net_build.proofs.leaves.+push_leaves.Goals as goal
 
@@ -13,3 +13,6 @@ returns-after-loop-inner t c =
     ∙ ap (λ vs. c.args.tokens.now.items ++ leaves_in vs) c.deref-inner-items.ensures.value
     ∙ ap (λ ls. c.args.tokens.now.items ++ ls) (sym (leaves_of_values c.in-List.values))
     ∙ ap (λ v. c.args.tokens.now.items ++ leaves (value_tree v)) (sym c.in-List.is)
+
+pub returns-in_ok-extend_from_slice-in-Leaves : goal.returns-in_ok-extend_from_slice-in-Leaves
+returns-in_ok-extend_from_slice-in-Leaves t c = c.in_ok-extend_from_slice-in-Leaves.ensures.items ∙ ap (λ ls. c.args.tokens.now.items ++ ls) (sym (leaves_of_flat c.args.value.now c.in-Leaves.leaves c.in-Leaves.is))

@@ -1,8 +1,9 @@
 -- A potential's rows are the first of those still to come, and it is entered where its head's name stands.
 use Rattle.std.proofs.Common.{◌≡◌, ℕ, ◌<◌, ◌≤◌, true, false, List, [], length, get_or, All, Option, None, replicate, take, filter, sym, ap, subst, ◌∙◌}
-use Rattle.std.proofs.lemmas.List.{take_all}
+use Rattle.std.proofs.lemmas.List.{take_all, map-set}
 use Rattle.std.proofs.lemmas.List.Elements.{All-set}
 use Rattle.std.specs.Global.{Vec}
+use Rattle.std.specs.Option.{option_map}
 use Rattle.net_build.proofs.FitLemmas.{none_fit_all}
 use Rattle.net_parser.specs.Trees.{BlockTree}
 use Rattle.net_build.specs.Blocks.{is_potential}
@@ -10,15 +11,16 @@ use Rattle.net_build.specs.Linking.{borrowed_trees, behind_rows, potentials_step
 use Rattle.net_build.specs.Lists.{numbers_of_lists}
 use Rattle.net_build.proofs.LinkLemmas.{hands_on}
 use Rattle.first_fault.proofs.Leading.{after_refused, after_skip, after_step, leads_all, filter_front_no}
-use Rattle.net_build.proofs.PotentialLemmas.{none_among, none_in, entered_from, parents_from}
+use Rattle.net_build.proofs.PotentialLemmas.{no_trees, none_among, none_in, entered_from, parents_from}
 use Rattle.net_build.proofs.potentials.read_potentials.Goals as goal
 use Rattle.net_build.proofs.potentials.read_potentials.Goals.{then-is_potential+in_ok-node, else-is_potential}
 
 pub loop-block-init : goal.loop-block-init
 loop-block-init c =
+    let none : borrowed_trees c.in_ok-potentials.potentials.items ≡ replicate c.len-2.result None = ap borrowed_trees c.in_ok-potentials.ensures ∙ no_trees c.len-2.result in
     record {
-      potentials = c.in_ok-potentials.ensures ∙ ap (λ n. replicate n None) c.len-2.ensures ∙ none_among c.args.text.now c.args.names.now;
-      parents = c.in_ok-parents.ensures ∙ ap (λ n. replicate n []) c.len.ensures ∙ none_in c.args.text.now c.args.names.now (length c.args.names.now) ∙ ap (λ n. parents_in c.args.text.now c.args.names.now (replicate n None)) (sym c.len-2.ensures) ∙ ap (parents_in c.args.text.now c.args.names.now) (sym c.in_ok-potentials.ensures);
+      potentials = none ∙ ap (λ n. replicate n None) c.len-2.ensures ∙ none_among c.args.text.now c.args.names.now;
+      parents = c.in_ok-parents.ensures ∙ ap (λ n. replicate n []) c.len.ensures ∙ none_in c.args.text.now c.args.names.now (length c.args.names.now) ∙ ap (λ n. parents_in c.args.text.now c.args.names.now (replicate n None)) (sym c.len-2.ensures) ∙ ap (parents_in c.args.text.now c.args.names.now) (sym none);
       fit = subst (All (AreParents c.args.heads.now)) (sym c.in_ok-parents.ensures) (none_fit_all c.args.heads.now c.len.result);
       lead = leads_all _;
     }
@@ -45,10 +47,11 @@ loop-block-preserved c =
           let trees : borrowed_trees w.deref.result.now ≡ potentials_among c.args.text.now c.args.names.now (filter (λ b. is_potential b.kind) (take c.loop-block.block-index c.args.syntax.now)) = ap borrowed_trees w.deref.ensures.value ∙ c.loop-block.invariant.potentials in
           let rows : behind_rows c.args.text.now c.args.names.now c.args.heads.now (filter (λ b. is_potential b.kind) (take c.loop-block.block-index c.args.syntax.now)) c.block-item.result None = rw (← trees) w.in_ok-node.ensures.rows in
           let now : borrowed_trees c.if-is_potential.potentials.items ≡ borrowed_trees w.enter.new.potentials.items = ap (λ (v : Vec (Option _)). borrowed_trees v.items) w.potentials-is in
+          let made = now ∙ ap borrowed_trees w.enter.ensures.potentials ∙ map-set (option_map (λ p. p.now)) _ w.in_ok-node.node _ in
           let new : numbers_of_lists c.if-is_potential.parents.items ≡ numbers_of_lists w.enter.new.parents.items = ap (λ (v : Vec (Vec ℕ)). numbers_of_lists v.items) w.parents-is in
           record {
-            potentials = entered_from c.args.text.now c.args.names.now c.args.syntax.now c.loop-block.block-index c.block-item.result w.in_ok-node.node _ _ within is kept c.requires.names w.in_ok-node.ensures.within w.in_ok-node.ensures.node rows.1.0 c.loop-block.invariant.potentials (now ∙ w.enter.ensures.potentials);
-            parents = parents_from c.args.text.now c.args.names.now w.in_ok-node.node c.block-item.result _ _ _ _ _ w.in_ok-node.ensures.parents c.loop-block.invariant.parents (now ∙ w.enter.ensures.potentials) (new ∙ w.enter.ensures.parents);
+            potentials = entered_from c.args.text.now c.args.names.now c.args.syntax.now c.loop-block.block-index c.block-item.result w.in_ok-node.node _ _ within is kept c.requires.names w.in_ok-node.ensures.within w.in_ok-node.ensures.node rows.1.0 c.loop-block.invariant.potentials made;
+            parents = parents_from c.args.text.now c.args.names.now w.in_ok-node.node c.block-item.result _ _ _ _ _ w.in_ok-node.ensures.parents c.loop-block.invariant.parents made (new ∙ w.enter.ensures.parents);
             fit = subst (All (AreParents c.args.heads.now)) (sym (new ∙ w.enter.ensures.parents)) (All-set (AreParents c.args.heads.now) _ w.in_ok-node.node _ w.in_ok-node.ensures.fit c.loop-block.invariant.fit);
             lead = after_step (behind_rows c.args.text.now c.args.names.now c.args.heads.now) (λ b. is_potential b.kind) c.args.syntax.now _ c.loop-block.block-index c.block-item.result within is kept c.loop-block.invariant.lead rows;
           }

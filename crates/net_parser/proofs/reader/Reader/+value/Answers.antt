@@ -1,10 +1,14 @@
-use Rattle.std.proofs.Common.{◌∷◌, sym, map, ◌∙◌, ap, length, arith}
+use Rattle.std.proofs.Common.{◌∷◌, ◌-◌, sym, subst, map, ◌∙◌, ap, length, arith}
 use Rattle.std.proofs.lemmas.List.{map-append}
 use Rattle.std.proofs.lemmas.Result.{err_from_is_err_and}
+use Rattle.net_lexer.specs.declared.tokens.TokenKind.TheVariants.{ParenOpen}
 use Rattle.net_parser.specs.Grammar as grammar
-use Rattle.net_parser.specs.Views.{value_tree}
+use Rattle.net_parser.specs.Grammar.{Mark}
+use Rattle.net_parser.specs.Trees.{leaf}
+use Rattle.net_parser.specs.Views.{value_tree, trees_of}
 use Rattle.net_parser.specs.Reading.{values}
 use Rattle.net_parser.proofs.Moves.{begun}
+use Rattle.net_parser.proofs.Flat.{listed, tree_of_flat}
 use Rattle.net_parser.proofs.Turns.{values_turn, values-push}
 use Rattle.net_parser.proofs.reader.Reader.+value.Goals as goal
 
@@ -23,3 +27,9 @@ values-loop-alloc-preserved t c =
       follows = λ after. values_turn c.args.depth after c.args.self.now c.loop-alloc.self c.accept.new.self (c.loop-alloc.invariant.follows after) same is_open ∙ c.in_ok-value.ensures.follows (values c.args.depth ∷ after);
       shorter = omega (arith, c.in_ok-value.ensures.shorter, c.loop-alloc.invariant.shorter, ap length same);
     }
+
+pub value-returns-in-Some-leaves-clause-rule : goal.value-returns-in-Some-leaves-clause-rule
+value-returns-in-Some-leaves-clause-rule t c =
+    let opens = begun (Mark ParenOpen) c.in-Some.ensures.some (c.in-ParenOpen-2.is, sym c.advance-in-ParenOpen-2.ensures) in
+    subst (λ v. grammar.Value c.args.depth v c.args.self.now c.leaves.new.self) (sym (tree_of_flat c.in-Some-leaves.leaves))
+    (listed c.args.depth (trees_of (map leaf c.in-Some-leaves.leaves.now)) c.args.self.now c.advance-in-ParenOpen-2.new.self c.leaves.new.self (omega (arith, c.if-depth-eq0.false)) opens (c.in-Some-leaves.ensures.rule (c.args.depth - 1)))
