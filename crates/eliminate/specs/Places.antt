@@ -26,6 +26,7 @@ Noted at slots = (v k : ℕ) (none : NodeSet) → v < MOST_NODES
     → holds (slice_index_or at v none) k ≡ slot_holds slots v k
 
 -- the first `made` slots are noted, and live ones are among them
-pub record IsBoard (at : List NodeSet) (slots : List Slot) (live : NodeSet) (made : ℕ) : Type 0 where
+pub record IsBoard
+    (at : List NodeSet) (slots : List Slot) (live : NodeSet) (made : ℕ) : Type 0 where
   pub noted : Noted at (take made slots)
   pub within : (k : ℕ) → IsIn live k → k < made

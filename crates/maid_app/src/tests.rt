@@ -154,9 +154,10 @@ fn files(alloc: Global) -> Result<Vec<(String, Vec<u8>)>, Fail> {
 // Runs the words over a shelf of these files that gives 50 bytes a read at most, an `out` with so much room
 // that takes ten a write, and an `err` that takes seven. Of each the call of that number fails. It gives the
 // status and what `out` and `err` took.
-pub fn ended(
+fn ended_over(
     alloc: Global,
     words: &str,
+    files: Vec<(String, Vec<u8>)>,
     [shelf_call, out_call, err_call]: [u64; 3],
     room: usize,
 ) -> Result<(Status, Vec<u8>, Vec<u8>), Fail> {
@@ -164,7 +165,7 @@ pub fn ended(
     for word in words.split_whitespace() {
         list.push(word.to_string(alloc)?)?;
     }
-    let mut shelf = MemShelf::new(files(alloc)?, vec![in alloc; shelf_call]?, 50);
+    let mut shelf = MemShelf::new(files, vec![in alloc; shelf_call]?, 50);
     let mut out = MemSink::new(alloc, room, vec![in alloc; out_call]?, 10)?;
     let mut err = MemSink::new(alloc, 200, vec![in alloc; err_call]?, 7)?;
     let status = run(alloc, &list, &mut shelf, &mut out, &mut err);
@@ -173,6 +174,16 @@ pub fn ended(
         out.bytes().to_vec(alloc)?,
         err.bytes().to_vec(alloc)?,
     ))
+}
+
+// The same over the files above.
+pub fn ended(
+    alloc: Global,
+    words: &str,
+    calls: [u64; 3],
+    room: usize,
+) -> Result<(Status, Vec<u8>, Vec<u8>), Fail> {
+    ended_over(alloc, words, files(alloc)?, calls, room)
 }
 
 #[test]
@@ -346,6 +357,25 @@ fn runs_end_as_they_must(rt: HostRuntime) -> Result<(), Fail> {
         assert_eq!(rt; ended.code(), code, "{words} {call} {room}");
         assert_eq!(rt; bytes.as_slice(), took.as_bytes(), "{words} {call} {room}");
         assert_eq!(rt; line.as_slice(), told.as_bytes(), "{words} {call} {room}");
+    }
+    Ok(())
+}
+
+// A text that is cut short anywhere is refused: it ends within a block, or a node has no table yet.
+#[test]
+fn each_beginning_of_a_text_is_refused(rt: HostRuntime) -> Result<(), Fail> {
+    let alloc = rt.alloc();
+    let text = STEER.trim_end().as_bytes();
+    for length in 1..text.len() {
+        let mut files = Vec::new(alloc);
+        files.push(("cut.net".to_string(alloc)?, text[..length].to_vec(alloc)?))?;
+        let (status, out, err) = ended_over(alloc, "solve cut.net", files, [0, 0, 0], 400)?;
+        assert_eq!(rt; status, Status::TextFault, "{length}");
+        assert_eq!(rt; out.len(), 0, "{length}");
+        assert!(rt;
+            err.as_slice().starts_with("cut.net:".as_bytes()),
+            "{length}"
+        );
     }
     Ok(())
 }

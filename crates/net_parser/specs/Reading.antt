@@ -177,7 +177,8 @@ Follows symbols result old new = (after : List Symbol) → IsReading result
 
 -- leaves alone, and behind them the parenthesis that closes their list
 abbrev pub IsFlat : List Token → List Token → List Token → Type 0
-IsFlat tokens leaves behind = (close : Token) × (tokens ≡ leaves ++ close ∷ behind) × (close.kind ≡ kinds.ParenClose) × (list_all (λ t. is_leaf t.kind) leaves ≡ true)
+IsFlat tokens leaves behind = (close : Token) × (tokens ≡ leaves ++ close ∷ behind)
+    × (close.kind ≡ kinds.ParenClose) × (list_all (λ t. is_leaf t.kind) leaves ≡ true)
 
 -- a word that begins a node block of that kind
 abbrev pub NodeWord : BlockKind → Rule
