@@ -1,16 +1,13 @@
 #!/usr/bin/env python3
 """Refuses each allocation of a run in turn, for each form of words.
 
-    bench/refuse_memory.py PROGRAM [--asks-again] [FORM..]
+    bench/refuse_memory.py PROGRAM [FORM..]
 
 A run is repeated with its first call for memory refused, then with its second, and so on, until a run
 makes no call of that number; and all this once more with each call refused that comes behind. A run
 that was refused memory must end with status 10, with nothing on standard output and the one line
 `no memory` on standard error. Any other end is a fault. The script prints the first faults of each form
 and a line a form, and ends with 1 where there was a fault.
-
-A program may ask a second time, for less, where it was refused once. With --asks-again it is no fault
-that a run which was refused one call alone ends just as it does with ample memory.
 
 It needs Python 3.9 or later, a C compiler (`cc`) and glibc: the calls are refused by a small library
 that stands before the system's `malloc` and its kin. It counts from its own constructor on, which the
@@ -205,28 +202,20 @@ def refuse_in_turn(words, library, later):
                 return ample, call - 1, faults
 
 
-def try_form(program, form, runs, library, asks_again):
+def try_form(program, form, runs, library):
     """Tries these runs of a form, and prints what came: whether all was right."""
-    statuses, refusals, again, faults = set(), 0, 0, []
+    statuses, refusals, faults = set(), 0, []
     for words in runs:
         for later in (0, 1):
             ample, count, wrong = refuse_in_turn([*program, form, *words], library, later)
             statuses.add(ample[0])
             refusals += count
-            for call, end in wrong:
-                asked_again = end == ample and not later
-                again += asked_again
-                if not (asked_again and asks_again):
-                    faults.append((words, later, call, end))
+            faults += [(words, later, call, end) for call, end in wrong]
     for words, later, call, (status, out, err) in faults[:SHOWN]:
         behind = " and all behind it" if later else ""
         print(f"{form} {' '.join(words)}: call {call}{behind} refused, status {status}, {out!r}, {err!r}")
     known = " ".join(map(str, sorted(statuses)))
-    print(
-        f"{form}: {len(runs)} runs (status {known}), {refusals:,} refusals, "
-        f"{again:,} after which the run ended as with ample memory, {len(faults):,} faults",
-        flush=True,
-    )
+    print(f"{form}: {len(runs)} runs (status {known}), {refusals:,} refusals, {len(faults):,} faults", flush=True)
     if refusals == 0:
         print(f"{form}: no call was refused: the program asks for its memory in another way")
     return refusals > 0 and not faults
@@ -235,7 +224,6 @@ def try_form(program, form, runs, library, asks_again):
 def main():
     parser = argparse.ArgumentParser(description=__doc__.splitlines()[0])
     parser.add_argument("program", metavar="PROGRAM", help="the built program, and words before the form if need be")
-    parser.add_argument("--asks-again", action="store_true", help="a run that ends as with ample memory is no fault")
     parser.add_argument("form", metavar="FORM", nargs="*", help="the forms to try, all if none is named")
     asked = parser.parse_intermixed_args()
     first, *before = asked.program.split()
@@ -249,7 +237,7 @@ def main():
         library = build_library(folder)
         write_reports(program, folder)
         chosen = asked.form or all_forms
-        good = [try_form(program, form, all_forms[form], library, asked.asks_again) for form in chosen]
+        good = [try_form(program, form, all_forms[form], library) for form in chosen]
     return 0 if all(good) else 1
 
 
