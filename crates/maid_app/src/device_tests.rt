@@ -1,4 +1,5 @@
-//! Devices that fail at one call, for each form of words: nothing is half told, and a later call changes nothing.
+//! Devices that fail at one call, for each form of words: what was taken before it stands, and a later call changes
+//! nothing.
 
 use super::tests::{REPORT, ended};
 use super::*;
