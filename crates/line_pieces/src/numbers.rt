@@ -1,14 +1,27 @@
 //! Whole numbers.
 
-ghost use Rattle.std.specs.Prelude.{◌≡◌, ◌++◌, OnOk, decimal};
+ghost use Rattle.std.specs.Prelude.{◌≡◌, ◌<◌, ◌++◌, OnOk, decimal};
 
 use itoa::Buffer;
 use std::alloc::AllocError;
+
+// Appends a number of one digit.
+fn push_digit(out: &mut Vec<u8>, digit: u128) -> Result<(), AllocError>
+    requires { digit < 10 }
+    ensures { OnOk result (out.new.items ≡ out.old.items ++ decimal digit) }
+{
+    out.push(b'0' + digit as u8)?;
+    Ok(())
+}
 
 /// Appends a whole number from nought, in decimal digits.
 pub fn push_number(out: &mut Vec<u8>, number: u128) -> Result<(), AllocError>
     ensures { OnOk result (out.new.items ≡ out.old.items ++ decimal number) }
 {
+    // Most numbers of large tables are one digit, which takes no division.
+    if number < 10 {
+        return push_digit(out, number);
+    }
     let mut buffer = Buffer::new();
     out.extend_from_slice(buffer.format(number).as_bytes())
 }

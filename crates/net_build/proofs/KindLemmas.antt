@@ -14,7 +14,7 @@ use denote.Enum.Bare.{sameb}
 use Rattle.net_build.specs.declared.nodes.Head.{Head}
 use Rattle.net_build.specs.Blocks.{place_among}
 use Rattle.net_build.specs.Stages.{NodeLists}
-use Rattle.net_build.specs.TableParts.{kind_in}
+use Rattle.net_build.specs.Table.{kind_in}
 use Rattle.net_build.proofs.BlockLemmas.{place_here}
 
 pub same_utility : (k : Kind) → sameb the_type k model.Utility ≡ is_utility k

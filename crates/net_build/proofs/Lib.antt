@@ -3,6 +3,7 @@ pub mod AttributeLemmas
 pub mod LeafLemmas
 pub mod DecimalLemmas
 pub mod NumberLemmas
+pub mod PlainParts
 pub mod ScaleLemmas
 pub mod LabelLemmas
 pub mod WeightLemmas

@@ -34,7 +34,7 @@ use Rattle.net_build.specs.Table.{node_pass, potential_pass, utility_numbers, no
 use Rattle.net_build.proofs.MadeDiagram.{rows_positive}
 use Rattle.net_build.proofs.RowDivisors.{reduced_again}
 use Rattle.net_build.proofs.ScaleLemmas.{tens_positive}
-use Rattle.net_build.proofs.TableFacts.{values_of_nodes, values_are_numbers}
+use Rattle.net_build.proofs.TableFacts.{values_of_nodes}
 
 -- ---- chance totals
 map_map : {X Y Z : Type 0} (g : Y → Z) (f : X → Y) (xs : List X) → map g (map f xs) ≡ map (λ x. g (f x)) xs
@@ -188,12 +188,11 @@ module _ (text : List ℕ) (blocks : List BlockTree) (own : All (IsBlockOf text)
       whole_by_less (token_bytes text (get_or tokens i t)) (get_or cells i (pos 0)) d.decimals w (subst (λ n. IsScaledBy d.decimals n (get_or cells i (pos 0))) (get_or-map (token_bytes text) tokens i t [] l) (are.each i within)) (enough i (pos 0) within)
 
   all_whole : (w : ℕ) → AreEnough d w → All (λ t. IsWholeBy w (token_bytes text t)) (utility_numbers text blocks)
-  all_whole w enough = subst (All (λ t. IsWholeBy w (token_bytes text t))) (values_are_numbers text blocks own node_none potential_none)
-      (values_of_nodes text blocks own node_none potential_none (λ t. IsWholeBy w (token_bytes text t)) (λ v p h kind found.
+  all_whole w enough = values_of_nodes text blocks own node_none potential_none (λ t. IsWholeBy w (token_bytes text t)) (λ v p h kind found.
       let its = kind_here v h ∙ kind in
       let table = subst (λ (k : Kind). IsTableFrom k d.decimals (states_of d.nodes v) (numerals_at v) (node_at d.nodes v).cells) its (table_here v h) in
       let here = subst (λ o. AreUtilityCells d.decimals (map (token_bytes text) (option_map_or (λ q. leaves_of (data_of text q)) o [])) (node_at d.nodes v).cells) found table in
-      cells_whole w (leaves_of (data_of text p)) (node_at d.nodes v).cells here (enough v its)))
+      cells_whole w (leaves_of (data_of text p)) (node_at d.nodes v).cells here (enough v its))
 
   -- the least decimals of all utilities are the scale, and the reduced rows are those of the scaling
   pub stands_plain : IsDiagram d → IsPlain d

@@ -1,5 +1,5 @@
 -- Nodes and their potentials where the passes before the tables find nothing: what reading the tables needs, and which numbers are the utilities'.
-use Rattle.std.proofs.Common.{◌≡◌, ◌≢◌, ◌⊎◌, inl, inr, ◌<◌, ◌≤◌, ◌+◌, ℕ, Bool, true, false, not, ◌&&◌, cond, List, [], ◌∷◌, ◌++◌, All, Contains, length, get_or, map, filter, take, Option, None, Some, IfSome, refl, sym, ap, subst, ◌∙◌, arith, length-append}
+use Rattle.std.proofs.Common.{◌≡◌, ◌≢◌, ◌⊎◌, inl, inr, ◌<◌, ◌≤◌, ◌+◌, ℕ, Bool, true, false, not, cond, List, [], ◌∷◌, ◌++◌, All, Contains, length, get_or, map, filter, take, Option, None, Some, IfSome, refl, sym, ap, subst, ◌∙◌, arith, length-append}
 use Rattle.std.specs.List.{flat_map}
 use Rattle.std.specs.Option.{IsSome}
 use Rattle.std.specs.Str.{bytes_eq}
@@ -7,7 +7,6 @@ use Rattle.std.proofs.lemmas.Bool.{false≢true}
 use Rattle.std.proofs.lemmas.List.{get_or-map, get_or_default, length-map, get_or_append_left, get_or-append-add}
 use Rattle.std.proofs.Math.ListN.{get_or-eq_default}
 use Rattle.std.proofs.lemmas.List.Elements.{All-cons}
-use Rattle.std.proofs.lemmas.Simd.{map-map}
 use Rattle.std.proofs.lemmas.Slice.Eq.{bytes_eq-Decides}
 use Rattle.maid_model.specs.declared.diagrams.Kind.{Kind}
 use Rattle.maid_model.specs.declared.diagrams.Kind.TheVariants as model
@@ -19,9 +18,9 @@ use Rattle.net_build.specs.declared.nodes.Head.{Head}
 use Rattle.net_build.specs.Blocks.{is_potential, node_blocks, potentials, kind_of, block_states, block_name, names_of, place_among, potential_of, potential_list, parent_lists, data_of, leaves_of}
 use Rattle.net_build.specs.Linking.{behind_rows, missing_at, absent_row}
 use Rattle.net_build.specs.Stages.{AreLinks, NodeLists, head_of, heads_of, head_at, node_lists, link_lists, no_head}
-use Rattle.net_build.specs.Table.{name_rows, node_rows, node_pass, potential_pass, missing_pass, no_block, utility_numbers}
-use Rattle.net_build.specs.TableParts.{CanRead, kind_in, has_values, values_in}
-use Rattle.net_build.proofs.BlockLemmas.{each_after_at, all_filter, filter_filter, all_flat, found_in, finds, take_at, contains_map, place_at, place_here, states_some}
+use Rattle.net_build.specs.Table.{kind_in, name_rows, node_rows, node_pass, potential_pass, missing_pass, no_block}
+use Rattle.net_build.specs.TableParts.{CanRead, values_in}
+use Rattle.net_build.proofs.BlockLemmas.{each_after_at, all_filter, all_flat, found_in, finds, take_at, contains_map, place_at, place_here, states_some}
 use Rattle.net_build.proofs.LinkLemmas.{number_at}
 use Rattle.net_build.proofs.LinkPasses.{taken_from}
 use Rattle.net_build.proofs.NodeFacts.{only_on}
@@ -59,11 +58,6 @@ not_decision : (k : Kind) → k ≢ model.Decision → not (is_decision k) ≡ t
 not_decision model.Chance h = refl
 not_decision model.Utility h = refl
 not_decision model.Decision h = absurd (h refl)
-
-and_true : (a b : Bool) → a ≡ true → b ≡ true → (a && b) ≡ true
-and_true true true e f = refl
-and_true true false e f = f
-and_true false b e f = e
 
 module _ (text : List ℕ) (blocks : List BlockTree) (own : All (IsBlockOf text) blocks) (node_rows_none : node_pass text blocks None) (potential_rows_none : potential_pass text blocks None) where
   abbrev nodes : List BlockTree
@@ -118,16 +112,15 @@ module _ (text : List ℕ) (blocks : List BlockTree) (own : All (IsBlockOf text)
   kind_here v h = get_or-map (λ (g : Head). g.kind) (map (head_of text nodes) nodes) v no_head model.Chance (omega (arith, h, length-map nodes (head_of text nodes))) ∙ ap (λ (g : Head). g.kind) (head_here text blocks v h)
 
   -- the potential of a utility has numbers that count
-  pub value_potential : (v : ℕ) (p : BlockTree) → v < length nodes → kind_of (block_at v).kind ≡ model.Utility → is_potential p.kind ≡ true → block_name text p ≡ block_name text (block_at v) → has_values text listed p ≡ true
-  value_potential v p h kind potential same = and_true _ _ potential (ap (λ name. is_utility (kind_in listed name)) same ∙ ap (λ n. is_utility (get_or (map (λ (g : Head). g.kind) listed.heads) n model.Chance)) (node_place v h) ∙ ap is_utility (kind_here v h ∙ kind))
+  pub value_potential : (v : ℕ) (p : BlockTree) → v < length nodes → kind_of (block_at v).kind ≡ model.Utility → block_name text p ≡ block_name text (block_at v) → is_utility (kind_in listed (block_name text p)) ≡ true
+  value_potential v p h kind same = ap (λ name. is_utility (kind_in listed name)) same ∙ ap (λ n. is_utility (get_or (map (λ (g : Head). g.kind) listed.heads) n model.Chance)) (node_place v h) ∙ ap is_utility (kind_here v h ∙ kind)
 
   -- what holds of all utilities' numbers holds of each one's
   pub value_of_node : (P : Token → Type 0) (v : ℕ) (p : BlockTree) → All P (values_in text listed blocks) → v < length nodes → kind_of (block_at v).kind ≡ model.Utility → potential_of text blocks (block_name text (block_at v)) ≡ Some p → All P (leaves_of (data_of text p))
   value_of_node P v p all h kind is =
-      let f : BlockTree → List Token = λ b. leaves_of (data_of text b) in
-      let found = found_in (λ b. bytes_eq (block_name text b) (block_name text (block_at v))) (λ b. (has_values text listed b ≡ true → All P (leaves_of (data_of text b))) × (is_potential b.kind ≡ true)) its p is
-      (all_filter (λ b. has_values text listed b ≡ true → All P (leaves_of (data_of text b))) (λ b. is_potential b.kind) blocks (flat_all P (λ b. leaves_of (data_of text b)) (has_values text listed) blocks all)) in
-      found.0.0 (value_potential v p h kind found.0.1 ((bytes_eq-Decides _ _).0 found.1))
+      let found = found_in (λ b. bytes_eq (block_name text b) (block_name text (block_at v))) (λ b. is_utility (kind_in listed (block_name text b)) ≡ true → All P (leaves_of (data_of text b))) its p is
+      (flat_all P (λ b. leaves_of (data_of text b)) (λ b. is_utility (kind_in listed (block_name text b))) its all) in
+      found.0 (value_potential v p h kind ((bytes_eq-Decides _ _).0 found.1))
 
   within_kinds : (v : ℕ) → is_utility (get_or (map (λ (g : Head). g.kind) (map (head_of text nodes) nodes)) v model.Chance) ≡ true → v < length nodes
   within_kinds v e = by_order (order v (length nodes)) where
@@ -138,12 +131,9 @@ module _ (text : List ℕ) (blocks : List BlockTree) (own : All (IsBlockOf text)
     by_order (inl h) = h
     by_order (inr h) = absurd (false≢true (sym (ap is_utility (get_or-eq_default (map (λ (g : Head). g.kind) (map (head_of text nodes) nodes)) model.Chance {n = v} (omega (arith, h, length-map nodes (head_of text nodes), length-map (map (head_of text nodes) nodes) (λ (g : Head). g.kind))))) ∙ e))
 
-  values_are : values_in text listed blocks ≡ flat_map (λ p. leaves_of (data_of text p)) (filter (λ p. is_utility (kind_in listed (block_name text p))) its)
-  values_are = ap (flat_map (λ p. leaves_of (data_of text p))) (sym (filter_filter (λ p. is_potential p.kind) (λ p. is_utility (kind_in listed (block_name text p))) blocks))
-
   -- what holds of each utility's numbers holds of all
   pub values_of_nodes : (P : Token → Type 0) → ((v : ℕ) (p : BlockTree) → v < length nodes → kind_of (block_at v).kind ≡ model.Utility → potential_of text blocks (block_name text (block_at v)) ≡ Some p → All P (leaves_of (data_of text p))) → All P (values_in text listed blocks)
-  values_of_nodes P each_node = subst (All P) (sym values_are) (all_flat P (λ p. leaves_of (data_of text p)) (filter utility its) (λ k d within. let here = all_filter (λ p. utility p ≡ true → All P (leaves_of (data_of text p))) utility its by_place k d within in here.0 here.1))
+  values_of_nodes P each_node = all_flat P (λ p. leaves_of (data_of text p)) (filter utility its) (λ k d within. let here = all_filter (λ p. utility p ≡ true → All P (leaves_of (data_of text p))) utility its by_place k d within in here.0 here.1)
     where
       utility : BlockTree → Bool
       utility p = is_utility (kind_in listed (block_name text p))
@@ -157,10 +147,6 @@ module _ (text : List ℕ) (blocks : List BlockTree) (own : All (IsBlockOf text)
               let near : v < length nodes = within_kinds v chosen in
               let named_here : block_name text (block_at v) ≡ block_name text (its_at j) = sym (name_here v near) ∙ ap (λ n. get_or (names_of text nodes) n []) (sym e) ∙ place_here (names_of text nodes) (block_name text (its_at j)) (subst (λ n. n < length (names_of text nodes)) (sym e) (omega (arith, near, length-map nodes (block_name text)))) in
               each_node v (its_at j) near (is_utility_true (kind_of (block_at v).kind) (ap is_utility (sym (kind_here v near)) ∙ chosen)) (ap (potential_of text blocks) named_here ∙ potential_found j h)
-
-  -- the words of the table of passes say the same
-  pub values_are_numbers : values_in text listed blocks ≡ utility_numbers text blocks
-  values_are_numbers = values_are ∙ ap (λ kinds. flat_map (λ p. leaves_of (data_of text p)) (filter (λ p. is_utility (get_or kinds (place_among (names_of text nodes) (block_name text p)) model.Chance)) its)) (map-map (λ (g : Head). g.kind) (head_of text nodes) nodes)
 
   -- a node that is no decision has a potential
   pub there : missing_pass text blocks None → (v : ℕ) → v < length nodes → kind_of (block_at v).kind ≢ model.Decision → IsSome (potential_of text blocks (block_name text (block_at v)))

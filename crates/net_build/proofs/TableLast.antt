@@ -18,7 +18,6 @@ use Rattle.net_build.specs.TableParts.{AreDrafts, CanRead, FitsDraft, IsScaleOf,
 use Rattle.first_fault.proofs.Leading.{refused_first, refused_later}
 use Rattle.first_fault.proofs.Items.{each_all}
 use Rattle.net_build.proofs.LinkPasses.{same_refused}
-use Rattle.net_build.proofs.TableFacts.{values_are_numbers}
 use Rattle.net_build.proofs.TableEnd.{IsRead, values_read, all_fit, tables_are, tables_fit}
 
 pub all_own : (text : List ℕ) (tokens : List Token) → All (IsRead text) tokens → All (IsTokenOf text) tokens
@@ -52,30 +51,27 @@ module _ (text : List ℕ) (blocks : List BlockTree) where
     table_refused fault h = refused_first (table_pass text blocks) (wide_pass text blocks) (build_fault fault) (same_refused (drafts_pass text nodes.heads links) (table_pass text blocks) (build_fault fault) pass_is h)
 
     module _ (tokens : List Token) (is : tokens ≡ values_in text nodes blocks) (clear : drafts_pass text nodes.heads links None) where
-      tokens_are : tokens ≡ values_in text (node_lists text (node_blocks blocks)) blocks
+      tokens_are : tokens ≡ utility_numbers text blocks
       tokens_are = is ∙ ap (λ m. values_in text m blocks) n
-
-      tokens_numbers : tokens ≡ utility_numbers text blocks
-      tokens_numbers = tokens_are ∙ values_are_numbers text blocks own node_none potential_none
 
       -- the utilities' numbers are read
       pub tokens_read : All (IsRead text) tokens
       tokens_read = subst (All (IsRead text)) (sym tokens_are) (values_read text blocks own node_none potential_none (table_clear clear))
 
       pub wide_refused : (fault : BuildFault) → IsFaultOrNoMemory build_fault (scaled_pass text tokens) fault → IsFaultOrNoMemory build_fault (table_pass text blocks ▸ wide_pass text blocks) fault
-      wide_refused fault h = refused_later (table_pass text blocks) (wide_pass text blocks) (build_fault fault) (table_clear clear) (wide_from fault (subst (λ ts. IsFaultOrNoMemory build_fault (scaled_pass text ts) fault) tokens_numbers h))
+      wide_refused fault h = refused_later (table_pass text blocks) (wide_pass text blocks) (build_fault fault) (table_clear clear) (wide_from fault (subst (λ ts. IsFaultOrNoMemory build_fault (scaled_pass text ts) fault) tokens_are h))
 
       pub both_clear : scaled_pass text tokens None → (table_pass text blocks ▸ wide_pass text blocks) None
-      both_clear h = (table_clear clear, wide_is None (subst (λ ts. scaled_pass text ts None) tokens_numbers h))
+      both_clear h = (table_clear clear, wide_is None (subst (λ ts. scaled_pass text ts None) tokens_are h))
 
       pub scale_is : (scale : ℕ) → IsScaleOf text tokens scale → IsUtilityScale text blocks scale
-      scale_is scale h = subst (λ ts. IsScaleOf text ts scale) tokens_numbers h
+      scale_is scale h = subst (λ ts. IsScaleOf text ts scale) tokens_are h
 
       module _ (scale : ℕ) (scaled : IsScaleOf text tokens scale) (narrow : each (wide_row text scale) tokens None) (drafts : List Draft) (are : AreDrafts text nodes.heads links drafts) where
-        own_scaled : IsScaleOf text (values_in text (node_lists text (node_blocks blocks)) blocks) scale
+        own_scaled : IsScaleOf text (utility_numbers text blocks) scale
         own_scaled = subst (λ ts. IsScaleOf text ts scale) tokens_are scaled
 
-        own_narrow : each (wide_row text scale) (values_in text (node_lists text (node_blocks blocks)) blocks) None
+        own_narrow : each (wide_row text scale) (utility_numbers text blocks) None
         own_narrow = subst (λ ts. each (wide_row text scale) ts None) tokens_are narrow
 
         own_are : AreDrafts text (node_lists text (node_blocks blocks)).heads (link_lists text blocks) drafts

@@ -15,14 +15,14 @@ use Rattle.first_fault.specs.Passes.{each}
 use Rattle.net_build.specs.Blocks.{is_node, node_blocks, kind_of, block_states, row_count, cell_count, block_name, potential_of, parent_lists, data_of, leaves_of, block_numbers}
 use Rattle.net_build.specs.Building.{AreTables, IsTableFrom, AreChanceCells, AreUtilityCells}
 use Rattle.net_build.specs.Scaling.{IsWholeBy}
-use Rattle.net_build.specs.Stages.{FitsTable, TablesFit, head_of, node_lists}
+use Rattle.net_build.specs.Stages.{FitsTable, TablesFit, head_of}
 use Rattle.net_build.specs.Table.{length_row, wide_row, weight_part, data_parts, draft_part, node_part, table_pass, missing_pass, node_pass, potential_pass, no_block, utility_numbers, IsUtilityScale, IsWideValue}
-use Rattle.net_build.specs.TableParts.{value_at_scale, values_in}
+use Rattle.net_build.specs.TableParts.{value_at_scale}
 use Rattle.net_build.proofs.NodeFacts.{each_all, only_on}
 use Rattle.net_build.proofs.ScaledOrWide.{decimal_exists, decimals_exist, chance_cells}
 use Rattle.net_build.proofs.ScaleLemmas.{cells_found, raised_is}
 use Rattle.net_build.proofs.TableEnd.{all_small, one_state, values_at, values_fit}
-use Rattle.net_build.proofs.TableFacts.{there, states_at, values_are_numbers, values_of_nodes}
+use Rattle.net_build.proofs.TableFacts.{there, states_at, values_of_nodes}
 use Rattle.net_build.proofs.TablePasses.{head_here, nodes_are, part_none, rows_here}
 use Rattle.net_build.proofs.WholeRows.{stable}
 
@@ -83,7 +83,7 @@ module _ (decides : DecimalOrNone) (text : List ℕ) (blocks : List BlockTree) w
     potential_at v = potential_of text blocks (block_name text (block_at v))
 
     abbrev numbers : List Token
-    numbers = values_in text (node_lists text nodes) blocks
+    numbers = utility_numbers text blocks
 
     -- the potential is there, and what its data says
     data_at : (v : ℕ) → v < length nodes → (kind_of (block_at v).kind ≡ model.Decision → ⊥) → (p : BlockTree) × (potential_at v ≡ Some p) × data_parts text (kind_of (block_at v).kind) (row_count text blocks (block_at v)) (block_states text (block_at v)) p (data_of text p) None
@@ -105,9 +105,6 @@ module _ (decides : DecimalOrNone) (text : List ℕ) (blocks : List BlockTree) w
           clash : model.Utility ≡ model.Decision → ⊥
           clash d = cc
 
-    numbers_are : numbers ≡ utility_numbers text blocks
-    numbers_are = values_are_numbers text blocks own node_none potential_none
-
     module _ (scale : ℕ) (is : IsUtilityScale text blocks scale) where
       -- 30 decimals are enough for all of them
       pub few_decimals : scale ≤ 30
@@ -116,12 +113,12 @@ module _ (decides : DecimalOrNone) (text : List ℕ) (blocks : List BlockTree) w
         whole t short = let d = decimal_exists decides (token_bytes text t) short in (value_at_scale 30 d.0, raised_is (token_bytes text t) d.0 30 d.1 d.0.few)
 
         go : (30 < scale) ⊎ (scale ≤ 30) → scale ≤ 30
-        go (inl more) = absurd (is.1 30 more (subst (All (λ t. IsWholeBy 30 (token_bytes text t))) numbers_are (λ k d h. whole (get_or numbers k d) (all_short k d h))))
+        go (inl more) = absurd (is.1 30 more (λ k d h. whole (get_or numbers k d) (all_short k d h)))
         go (inr few) = few
 
-      module _ (narrow : each (wide_row text scale) (utility_numbers text blocks) None) (scales : ScaledOrTooWide) (table : ScaledIsTable) where
+      module _ (narrow : each (wide_row text scale) numbers None) (scales : ScaledOrTooWide) (table : ScaledIsTable) where
         all_good : All (IsGood text scale) numbers
-        all_good = subst (All (IsGood text scale)) (sym numbers_are) (λ k d h. (is.0 k d h, each_all (wide_row text scale) (utility_numbers text blocks) narrow k d h))
+        all_good k d h = (is.0 k d h, each_all (wide_row text scale) numbers narrow k d h)
 
         abbrev IsCells : BlockTree → List ℤ → Type 0
         IsCells b cells = IsTableFrom (kind_of b.kind) scale (block_states text b) (map (token_bytes text) (block_numbers text blocks b)) cells × FitsTable (kind_of b.kind) (row_count text blocks b) (block_states text b) cells

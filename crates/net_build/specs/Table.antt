@@ -19,10 +19,10 @@ use Rattle.weight_scale.specs.declared.decimal.Decimal.{Decimal}
 use Rattle.net_build.specs.declared.faults.Limit.TheVariants.{Nodes, NameBytes, States, Agents}
 use Rattle.first_fault.specs.Passes.{Pass, clear, rule, always, only, ◌▸◌, each, each_after, over}
 use Rattle.net_build.specs.Passes.{found, DoubleName, DoubleAttribute, MissingStates, BadStates, BadLabel, BadAgent, RepeatedAgent, MissingTable, NotANumber, WrongCount, NumberTooLong, Negative, ZeroRow, WideWeight, WideValue, LimitPassed, Found}
-use Rattle.net_build.specs.Blocks.{node_blocks, potentials, kind_of, title_at, block_name, names_of, topic_of, named, owner_attributes, has_states, has_agent, counted, is_number, is_string_list, is_plain, tells_owners, owner_names, agents_of, with_sights, place_among, potential_list, parent_lists, data_of, leaves_of}
+use Rattle.net_build.specs.Blocks.{node_blocks, potentials, title_at, block_name, names_of, topic_of, named, owner_attributes, has_states, has_agent, counted, is_number, is_string_list, is_plain, tells_owners, owner_names, agents_of, with_sights, place_among, potential_list, parent_lists, data_of, leaves_of}
 use Rattle.net_build.specs.Linking.{potentials_steps, missing_steps, graph_steps, size_steps}
 use Rattle.net_build.specs.Scaling.{AreDecimals, IsWholeBy}
-use Rattle.net_build.specs.Stages.{LinkLists, heads_of, head_at, head_rows, link_lists}
+use Rattle.net_build.specs.Stages.{NodeLists, LinkLists, heads_of, head_at, head_rows, node_lists, link_lists}
 use Rattle.net_build.specs.declared.nodes.Head.{Head}
 use Rattle.weight_scale.specs.Scaling.{row_at, IsTooWide}
 
@@ -98,11 +98,6 @@ unfoldable pub node_pass : List ℕ → List BlockTree → Pass Found
 node_pass text blocks = each_after
     (λ earlier b. node_rows text (names_of text earlier) (agents_of text earlier) b) []
     (node_blocks blocks)
-
--- the kind of the node of that name
-abbrev pub kind_named : List ℕ → List BlockTree → List ℕ → Kind
-kind_named text nodes name = slice_index_or (map (λ b. kind_of b.kind) nodes)
-    (place_among (names_of text nodes) name) model.Chance
 
 -- potentials in text order, over the names and the heads of the nodes
 unfoldable pub potential_pass : List ℕ → List BlockTree → Pass Found
@@ -220,16 +215,28 @@ unfoldable pub table_pass : List ℕ → List BlockTree → Pass Found
 table_pass text blocks =
     drafts_pass text (heads_of text (node_blocks blocks)) (link_lists text blocks)
 
--- the numbers of all utilities, as they stand in the text
-abbrev pub utility_numbers : List ℕ → List BlockTree → List Token
-utility_numbers text blocks = flat_map (λ p. leaves_of (data_of text p)) (filter
-    (λ p. is_utility (kind_named text (node_blocks blocks) (block_name text p)))
-    (potentials blocks))
+-- the kind of the node of that name, a chance node's where there is none
+abbrev pub kind_in : NodeLists → List ℕ → Kind
+kind_in nodes name =
+    slice_index_or (map (λ h. h.kind) nodes.heads) (place_among nodes.names name) model.Chance
 
--- K: the least number for which every utility value times 10^K is whole
+-- the numbers of the utilities' potentials, in text order
+abbrev pub values_in : List ℕ → NodeLists → List BlockTree → List Token
+values_in text nodes blocks = flat_map (λ p. leaves_of (data_of text p))
+    (filter (λ p. is_utility (kind_in nodes (block_name text p))) (potentials blocks))
+
+-- the numbers of all utilities
+abbrev pub utility_numbers : List ℕ → List BlockTree → List Token
+utility_numbers text blocks = values_in text (node_lists text (node_blocks blocks)) blocks
+
+-- K: the least number for which each of these values times 10^K is whole
+abbrev pub IsScaleOf : List ℕ → List Token → ℕ → Type 0
+IsScaleOf text numbers scale =
+    IsLeast (λ k. All (λ t. IsWholeBy k (token_bytes text t)) numbers) scale
+
+-- that of all utilities
 abbrev pub IsUtilityScale : List ℕ → List BlockTree → ℕ → Type 0
-IsUtilityScale text blocks scale =
-    IsLeast (λ k. All (λ t. IsWholeBy k (token_bytes text t)) (utility_numbers text blocks)) scale
+IsUtilityScale text blocks scale = IsScaleOf text (utility_numbers text blocks) scale
 
 -- the value times 10^scale is greater than the greatest number, or less than the least
 abbrev pub IsWideValue : ℕ → List ℕ → Type 0
@@ -240,10 +247,14 @@ abbrev pub wide_row : List ℕ → ℕ → Token → Pass Found
 wide_row text scale number =
     rule (IsWideValue scale (token_bytes text number)) (found number.start WideValue)
 
--- utility values in text order, to scale
+-- these values to their scale
+abbrev pub scaled_pass : List ℕ → List Token → Pass Found
+scaled_pass text numbers =
+    over (IsScaleOf text numbers) (λ scale. each (wide_row text scale) numbers)
+
+-- utility values in text order
 unfoldable pub wide_pass : List ℕ → List BlockTree → Pass Found
-wide_pass text blocks = over (IsUtilityScale text blocks) (λ scale.
-    each (wide_row text scale) (utility_numbers text blocks))
+wide_pass text blocks = scaled_pass text (utility_numbers text blocks)
 
 -- all passes, one after the other
 unfoldable pub all_passes : List ℕ → List BlockTree → Pass Found

@@ -6,35 +6,23 @@ use Rattle.maid_model.specs.declared.diagrams.Kind.{Kind}
 use Rattle.maid_model.specs.declared.diagrams.Kind.TheVariants.{Chance, Decision, Utility}
 use Rattle.maid_model.specs.Diagrams.{greatest_number}
 use Rattle.maid_model.specs.Nodes.{is_utility}
-use Rattle.maid_model.specs.Placing.{IsLeast}
 use Rattle.maid_model.specs.Tables.{IsTable}
 use Rattle.net_lexer.specs.Token.{token_bytes}
 use Rattle.net_lexer.specs.declared.tokens.Token.{Token}
 use Rattle.net_parser.specs.Trees.{BlockTree}
 use Rattle.net_parser.specs.Owned.{IsBlockOf}
-use Rattle.weight_scale.specs.Scaling.{IsScaled}
+use Rattle.weight_scale.specs.Plain.{AreWhole}
+use Rattle.weight_scale.specs.Scaling.{IsScaled, NoneNegative, NoZeroRow}
 use Rattle.weight_scale.specs.Views.{ScaledView}
 use Rattle.weight_scale.specs.declared.decimal.Decimal.{Decimal}
 use Rattle.net_build.specs.declared.drafts.Draft.{Draft}
 use Rattle.net_build.specs.declared.drafts.Draft.TheVariants.{Cells, Values}
-use Rattle.first_fault.specs.Passes.{Pass, each, over}
-use Rattle.net_build.specs.Passes.{Found}
-use Rattle.net_build.specs.Blocks.{block_name, data_of, leaves_of, place_among, is_potential}
-use Rattle.net_build.specs.Scaling.{AreDecimals, IsWholeBy, decimal_at}
+use Rattle.net_build.specs.Blocks.{block_name, data_of, leaves_of, is_number, is_potential, no_token}
+use Rattle.net_build.specs.Scaling.{AreDecimals, decimal_at}
 use Rattle.net_build.specs.Stages.{NodeLists, LinkLists, head_at, head_rows, AreLinks}
 use Rattle.net_build.specs.declared.nodes.Head.{Head}
-pub use Rattle.net_build.specs.Table.{count_row, number_rows, weight_part, data_part, data_parts, table_part, draft_part, node_part, potential_at, node_rows_at, drafts_pass}
-use Rattle.net_build.specs.Table.{wide_row}
-
--- the least number of decimals for which each of the numbers times ten to that power is whole
-abbrev pub IsScaleOf : List ℕ → List Token → ℕ → Type 0
-IsScaleOf text numbers scale =
-    IsLeast (λ k. All (λ t. IsWholeBy k (token_bytes text t)) numbers) scale
-
--- these numbers to their scale
-abbrev pub scaled_pass : List ℕ → List Token → Pass Found
-scaled_pass text numbers =
-    over (IsScaleOf text numbers) (λ scale. each (wide_row text scale) numbers)
+use Rattle.net_build.specs.Table.{kind_in}
+pub use Rattle.net_build.specs.Table.{count_row, number_rows, weight_part, data_part, data_parts, table_part, draft_part, node_part, potential_at, node_rows_at, drafts_pass, values_in, IsScaleOf, scaled_pass}
 
 -- the decimal times 10^scale, where it has no more decimals than that
 abbrev pub value_at_scale : ℕ → Decimal → ℤ
@@ -50,6 +38,23 @@ pub record IsWeighed (decimals : List Decimal) (states : ℕ) (cells : List ℤ)
   pub is : IsScaled decimals states scaled
   pub cells_are : cells ≡ scaled.weights
   pub table : IsTable cells (length decimals / states) states scaled.total
+
+-- these numerals are whole numbers
+abbrev pub AreWholeNumbers : List (List ℕ) → List ℤ → Type 0
+AreWholeNumbers numerals cells =
+    (decimals : List Decimal) × AreDecimals numerals decimals × AreWhole decimals cells
+
+-- a chance table of so many cells whose numbers are its weights as they stand
+pub record IsPlainTable
+    (text : List ℕ) (states want : ℕ) (numerals : List Token) (cells : List ℤ) : Type 0 where
+  pub count : length numerals ≡ want
+  pub kinds : (k : ℕ) → k < length numerals
+      → is_number (slice_index_or numerals k no_token).kind ≡ true
+  pub decimals : List Decimal
+  pub are : AreDecimals (map (token_bytes text) numerals) decimals
+  pub weighed : IsWeighed decimals states cells
+  pub signs : NoneNegative decimals
+  pub totals : NoZeroRow decimals states (length decimals / states)
 
 -- the numerals of its potential's `data`
 abbrev pub numerals_in : List ℕ → Option BlockTree → List (List ℕ)
@@ -91,19 +96,14 @@ abbrev pub finished : ℕ → Draft → List ℤ
 finished scale (Cells cells) = cells.items
 finished scale (Values decimals) = map (value_at_scale scale) decimals.items
 
--- the kind of the node of that name, a chance node's where there is none
-abbrev pub kind_in : NodeLists → List ℕ → Kind
-kind_in nodes name =
-    slice_index_or (map (λ h. h.kind) nodes.heads) (place_among nodes.names name) Chance
-
--- a utility's potential
+-- the potential of a utility
 abbrev pub has_values : List ℕ → NodeLists → BlockTree → Bool
 has_values text nodes block =
     is_potential block.kind && is_utility (kind_in nodes (block_name text block))
 
--- the numbers of the utilities' potentials, in text order
-abbrev pub values_in : List ℕ → NodeLists → List BlockTree → List Token
-values_in text nodes blocks =
+-- the numbers of these blocks that are such potentials, one block after the other
+abbrev pub block_values : List ℕ → NodeLists → List BlockTree → List Token
+block_values text nodes blocks =
     flat_map (λ p. leaves_of (data_of text p)) (filter (has_values text nodes) blocks)
 
 -- what reading the tables needs: each node has states, and each chance node and utility its potential

@@ -17,6 +17,7 @@ use crate::labels::title;
 use crate::leaves::leaves;
 use crate::nodes::Head;
 use crate::numbers::read_numbers;
+use crate::plain_tables::plain_draft;
 use crate::scales::scaled_cells;
 use crate::weights::weights;
 use maid_model::Kind;
@@ -61,6 +62,31 @@ fn read_cells(
     }
 }
 
+// The table in the value of `data`, whose leaves these are. Most chance tables are read in one pass.
+fn read_leaves(
+    alloc: Global,
+    text: &[u8],
+    head: &Head,
+    rows: usize,
+    table: &Attribute<'_>,
+    numerals: &[Token],
+) -> Result<Draft, BuildFault>
+    requires own { IsAttributeOf text.now table.now }
+    requires numerals { numerals.now ≡ leaves table.now.value }
+    requires kind { head.now.kind ≢ Decision }
+    requires states { 0 < head.now.states }
+    requires small { rows * head.now.states ≤ MOST_CELLS }
+    ensures rows { Passes build_fault
+        (data_part text.now head.now.kind rows head.now.states table.now) result }
+    ensures draft { IfOk result (IsDraftOf head.now.kind rows head.now.states
+        (map (token_bytes text.now) numerals.now)) }
+{
+    if let Some(draft) = plain_draft(alloc, text, head, rows, table, numerals)? {
+        return Ok(draft);
+    }
+    read_cells(alloc, text, head, rows, table, numerals)
+}
+
 // The table in the value of `data`. Only where lists stand in one another are its leaves listed anew.
 fn read_data(
     alloc: Global,
@@ -79,10 +105,10 @@ fn read_data(
         (map (token_bytes text.now) (leaves table.now.value))) }
 {
     if let Value::Leaves(tokens) = &table.value {
-        return read_cells(alloc, text, head, rows, table, tokens);
+        return read_leaves(alloc, text, head, rows, table, tokens);
     }
     let tokens = leaves(alloc, &table.value)?;
-    read_cells(alloc, text, head, rows, table, &tokens)
+    read_leaves(alloc, text, head, rows, table, &tokens)
 }
 
 // The table in the potential.

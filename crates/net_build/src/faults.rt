@@ -96,12 +96,12 @@ pub enum BuildKind {
 impl BuildKind {
     ghost use Rattle.std.specs.Prelude.{◌≡◌};
 
-    /// The fault of this kind at the place.
-    pub(crate) fn at(self, place: usize) -> BuildFault
+    /// The fault of this kind at a token's place.
+    pub(crate) fn at(self, place: u32) -> BuildFault
         ensures { result ≡ BuildFault.Fault place self }
     {
         BuildFault::Fault {
-            at: place,
+            at: place as usize,
             kind: self,
         }
     }

@@ -22,6 +22,7 @@ mod numbers;
 mod owner_names;
 mod owners;
 mod places;
+mod plain_tables;
 mod potentials;
 mod scales;
 mod sizes;

@@ -24,7 +24,7 @@ use std::marker::Model;
 /// a chance node) and the count of its states.
 #[derive(Clone, Copy, Debug)]
 pub struct Head {
-    pub at: usize,
+    pub at: u32,
     pub kind: Kind,
     pub owner: usize,
     pub states: usize,

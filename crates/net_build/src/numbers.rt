@@ -1,12 +1,12 @@
 //! The numbers of a table.
 
-ghost use Rattle.std.specs.Prelude.{◌≡◌, ◌≢◌, All, map, length, true, false, IfOk};
+ghost use Rattle.std.specs.Prelude.{◌≡◌, ◌≢◌, All, map, length, true, false, None, IfOk, IfSome, IfNone};
 ghost use Rattle.net_build.specs.Blocks.{is_number};
 ghost use Rattle.first_fault.specs.Passes.{each, rule};
 ghost use Rattle.first_fault.specs.Answers.{Passes};
 ghost use Rattle.net_build.specs.Passes.{found, WrongCount, build_fault};
 ghost use Rattle.net_build.specs.Scaling.{AreDecimals};
-ghost use Rattle.net_build.specs.Table.{number_row, length_row};
+ghost use Rattle.net_build.specs.Table.{IsNumberTooLong, number_row, length_row};
 ghost use Rattle.net_build.specs.TableParts.{count_row, number_rows};
 ghost use Rattle.net_lexer.specs.Token.{IsTokenOf, token_bytes};
 ghost use Rattle.net_parser.specs.Owned.{IsAttributeOf, leaves};
@@ -31,7 +31,7 @@ fn check_numbers(tokens: &[Token]) -> Result<(), BuildFault>
 }
 
 // There are as many numbers as the table has cells.
-fn check_count(at: usize, want: usize, got: usize) -> Result<(), BuildFault>
+fn check_count(at: u32, want: usize, got: usize) -> Result<(), BuildFault>
     ensures { Passes build_fault (count_row at want got) result }
 {
     if got == want {
@@ -41,19 +41,17 @@ fn check_count(at: usize, want: usize, got: usize) -> Result<(), BuildFault>
     }
 }
 
-// The number as a decimal.
-fn decimal(text: &[u8], token: &Token) -> Result<Decimal, BuildFault>
+// The number as a decimal, if it has one.
+fn decimal(text: &[u8], token: &Token) -> Option<Decimal>
     requires own { IsTokenOf text.now token.now }
     requires number { is_number token.now.kind ≡ true }
-    ensures row { Passes build_fault (length_row text.now token.now) result }
-    ensures decimal { IfOk result (λ d.
+    ensures row { IfSome result (λ _. length_row text.now token.now None) }
+    ensures decimal { IfSome result (λ d.
         IsLeastDecimalOf (numerator (token_bytes text.now token.now))
         (denominator (token_bytes text.now token.now)) d) }
+    ensures none { IfNone result (IsNumberTooLong (token_bytes text.now token.now)) }
 {
-    match numeral(token.bytes(text)) {
-        Some(decimal) => Ok(decimal),
-        None => Err(BuildKind::NumberTooLong.at(token.start)),
-    }
+    numeral(token.bytes(text))
 }
 
 /// The numbers as decimals.
@@ -66,7 +64,10 @@ pub fn decimals(alloc: Global, text: &[u8], tokens: &[Token]) -> Result<Vec<Deci
 {
     let mut decimals = Vec::with_capacity(alloc, tokens.len())?;
     for token in tokens {
-        decimals.push(decimal(text, token)?)?;
+        let Some(number) = decimal(text, token) else {
+            return Err(BuildKind::NumberTooLong.at(token.start));
+        };
+        decimals.push(number)?;
     }
     Ok(decimals)
 }

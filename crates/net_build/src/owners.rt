@@ -32,7 +32,7 @@ fn number_agent(
     alloc: Global,
     agents: &mut Vec<Vec<u8>>,
     agent: &[u8],
-    at: usize,
+    at: u32,
 ) -> Result<usize, BuildFault>
     ensures rows { Passes build_fault
         (rule (IsAgentTooMany (list_of agents.old.items) agent.now)
@@ -62,7 +62,7 @@ fn number_owners(
     alloc: Global,
     agents: &mut Vec<Vec<u8>>,
     names: &[Vec<u8>],
-    at: usize,
+    at: u32,
 ) -> Result<Vec<usize>, BuildFault>
     ensures rows { Passes build_fault
         (each_after (sight_row (list_of agents.old.items) at) [] (list_of names.now)) result }

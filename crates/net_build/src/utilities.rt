@@ -3,7 +3,8 @@
 ghost use Rattle.std.specs.Prelude.{◌≡◌, ◌++◌, ◌&&◌, All, length, true, OnOk, IfOk};
 ghost use Rattle.maid_model.specs.Nodes.{is_utility};
 ghost use Rattle.net_build.specs.Blocks.{data_of, leaves_of};
-ghost use Rattle.net_build.specs.TableParts.{kind_in, has_values, values_in};
+ghost use Rattle.net_build.specs.Table.{kind_in, values_in};
+ghost use Rattle.net_build.specs.TableParts.{has_values};
 ghost use Rattle.net_parser.specs.Owned.{IsBlockOf};
 
 use crate::attributes::first_named;

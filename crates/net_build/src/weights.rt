@@ -20,7 +20,7 @@ use weight_scale::{Decimal, ScaleFault, scale_rows};
 /// of total nought, and a common total that is too great.
 pub fn weights(
     alloc: Global,
-    at: usize,
+    at: u32,
     tokens: &[Token],
     decimals: &[Decimal],
     states: usize,

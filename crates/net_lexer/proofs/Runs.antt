@@ -23,7 +23,7 @@ pub word_runs : (b : ℕ) → is_word_byte b ≡ true → is_run_byte b ≡ true
 word_runs b e = or_left (is_word_byte b) _ e
 
 -- a byte of a decimal
-abbrev is_decimal_byte : ℕ → Bool
+abbrev pub is_decimal_byte : ℕ → Bool
 is_decimal_byte b = is_digit b || is_point b
 
 -- a digit or a point begins a run
@@ -31,7 +31,7 @@ decimal_starts : (b : ℕ) → is_decimal_byte b ≡ true → is_run_start b ≡
 decimal_starts b e = grind (arith, tests)
 
 -- and a run may go on with it
-decimal_runs : (b : ℕ) → is_decimal_byte b ≡ true → is_run_byte b ≡ true
+pub decimal_runs : (b : ℕ) → is_decimal_byte b ≡ true → is_run_byte b ≡ true
 decimal_runs b e = run_starts b (decimal_starts b e)
 
 -- a run may go on with a digit

@@ -1,13 +1,16 @@
 //! The pieces of a text: white space, comments and tokens.
 
-ghost use Rattle.std.specs.Prelude.{◌≡◌, ◌<◌, ◌≤◌, length, drop, slice_index, true, false, IsTrue, IfOk, IfErr, IfSome, IfNone};
+ghost use Rattle.std.specs.Prelude.{◌≡◌, ◌<◌, ◌≤◌, ◌^◌, ◌∷◌, length, take, drop, slice_index, true, false, IsTrue, IfOk, IfErr, IfSome, IfNone};
 ghost use Rattle.std.specs.List.{list_all, prefix_len};
-ghost use Rattle.net_lexer.specs.Bytes.{is_percent, is_line_byte, is_quote, is_word_start, is_word_byte, is_run_start, is_run_byte, is_punctuation};
+ghost use Rattle.net_lexer.specs.Bytes.{is_digit, is_percent, is_line_byte, is_quote, is_word_start, is_word_byte, is_run_start, is_run_byte, is_punctuation};
+ghost use Rattle.net_lexer.specs.Numerals.{is_numeral};
 ghost use Rattle.net_lexer.specs.Strings.{is_open_string};
 ghost use Rattle.net_lexer.specs.Token.{is_name, is_signed};
-ghost use Rattle.net_lexer.specs.Pieces.{IsPieceOf, IsFaultAt, is_bad_numeral, token_of};
+ghost use Rattle.net_lexer.specs.Pieces.{IsPieceOf, IsFaultAt, begins, is_bad_numeral, token_of};
 
-use crate::bytes::{is_run_byte, is_run_start, is_sign, is_white, is_word_byte, is_word_start};
+use crate::bytes::{
+    is_digit, is_run_byte, is_run_start, is_sign, is_white, is_word_byte, is_word_start,
+};
 use crate::numerals::is_numeral;
 use crate::strings::behind_quote;
 use crate::{LexFault, Token, TokenKind};
@@ -55,6 +58,66 @@ fn run_len(bytes: &[u8]) -> usize
     ensures { result ≡ prefix_len is_run_byte bytes.now }
 {
     bytes.iter().take_while(|b| is_run_byte(**b)).count()
+}
+
+// The longest front of digits.
+fn digits_len(bytes: &[u8]) -> usize
+    ensures { result ≡ prefix_len is_digit bytes.now }
+{
+    bytes.iter().take_while(|b| is_digit(**b)).count()
+}
+
+// The bytes go on with a run. Behind most runs stands a blank, below each byte of a run.
+fn run_goes_on(bytes: &[u8]) -> bool
+    ensures { result ≡ begins is_run_byte bytes.now }
+{
+    match bytes {
+        [first, ..] => *first > b' ' && is_run_byte(*first),
+        [] => false,
+    }
+}
+
+// The longest front of digits, where no run goes on behind it.
+fn last_digits_len(bytes: &[u8]) -> Option<usize>
+    ensures len { IfSome result (λ len. len ≡ prefix_len is_digit bytes.now) }
+    ensures ends { IfSome result (λ len. begins is_run_byte (drop len bytes.now) ≡ false) }
+{
+    let len = digits_len(bytes);
+    if run_goes_on(behind(bytes, len)) {
+        return None;
+    }
+    Some(len)
+}
+
+// What stands behind a point at the front.
+fn behind_point(bytes: &[u8]) -> Option<&[u8]>
+    ensures { IfSome result (λ rest. bytes.now ≡ 46 ∷ rest.now) }
+{
+    match bytes {
+        [b'.', rest @ ..] => Some(rest),
+        _ => None,
+    }
+}
+
+// The longest front of bytes that go on with a run, where it is written as most numerals are:
+// digits, and perhaps a point and digits behind them. It looks at each byte once.
+fn plain_len(bytes: &[u8]) -> Option<usize>
+    ensures len { IfSome result (λ len. len ≡ prefix_len is_run_byte bytes.now) }
+    ensures numeral { IfSome result (λ len. is_numeral (take len bytes.now) ≡ true) }
+{
+    let whole = digits_len(bytes);
+    if whole == 0 {
+        return None;
+    }
+    let rest = behind(bytes, whole);
+    match behind_point(rest) {
+        Some(decimals) => match last_digits_len(decimals) {
+            Some(len) => Some(whole + 1 + len),
+            None => None,
+        },
+        None if run_goes_on(rest) => None,
+        None => Some(whole),
+    }
 }
 
 fn is_all_word_bytes(bytes: &[u8]) -> bool
@@ -126,6 +189,9 @@ fn run(bytes: &[u8]) -> Option<(TokenKind, usize)>
         IsPieceOf bytes.now (record { kind = PieceKind.Token p.0; start = 0; end = p.1 })) }
     ensures none { IfNone result (IsTrue (is_bad_numeral bytes.now)) }
 {
+    if let Some(len) = plain_len(bytes) {
+        return Some((TokenKind::Number, len));
+    }
     let len = run_len(bytes);
     let run = &bytes[..len];
     if is_numeral(run) {
@@ -164,16 +230,16 @@ fn front(bytes: &[u8], at: usize) -> Result<(PieceKind, usize), LexFault>
 {
     match bytes[0] {
         first if is_white(first) => Ok((PieceKind::Blank, 1)),
+        first if is_run_start(first) => match run(bytes) {
+            Some((kind, len)) => Ok((PieceKind::Token(kind), len)),
+            None => Err(LexFault::BadNumeral { at }),
+        },
         b'%' => Ok((PieceKind::Comment, comment_len(bytes))),
         b'"' => match string_len(bytes) {
             Some(len) => Ok((PieceKind::Token(TokenKind::Text), len)),
             None => Err(LexFault::OpenString { at }),
         },
         first if is_word_start(first) => Ok((PieceKind::Token(TokenKind::Word), name_len(bytes))),
-        first if is_run_start(first) => match run(bytes) {
-            Some((kind, len)) => Ok((PieceKind::Token(kind), len)),
-            None => Err(LexFault::BadNumeral { at }),
-        },
         _ => match punctuation(bytes) {
             Some(kind) => Ok((PieceKind::Token(kind), 1)),
             None => Err(LexFault::BadByte { at }),
@@ -199,13 +265,15 @@ impl Piece {
 
     /// The token that the piece is, if it is one.
     pub fn token(self) -> Option<Token>
+        requires start { self.start < 2 ^ 32 }
+        requires end { self.end < 2 ^ 32 }
         ensures { result ≡ token_of self }
     {
         match self.kind {
             PieceKind::Token(kind) => Some(Token {
                 kind,
-                start: self.start,
-                end: self.end,
+                start: self.start as u32,
+                end: self.end as u32,
             }),
             PieceKind::Blank | PieceKind::Comment => None,
         }

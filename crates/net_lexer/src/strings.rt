@@ -57,5 +57,8 @@ pub fn text_value(alloc: Global, text: &[u8], token: &Token) -> Result<Vec<u8>, 
     requires string { token.now.kind ≡ Text }
     ensures { IfOk result (λ value. value.items ≡ text_value text.now token.now) }
 {
-    unescaped(alloc, &text[token.start + 1..token.end - 1])
+    unescaped(
+        alloc,
+        &text[token.start as usize + 1..token.end as usize - 1],
+    )
 }

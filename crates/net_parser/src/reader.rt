@@ -162,7 +162,7 @@ impl<'t, 'a> Reader<'t, 'a> {
         ensures { result ≡ rest_place end self.now }
     {
         match self.rest {
-            [token, ..] => token.start,
+            [token, ..] => token.start as usize,
             [] => end,
         }
     }

@@ -18,8 +18,8 @@ use Rattle.net_build.specs.Blocks as look
 use Rattle.first_fault.specs.Passes.{each_after}
 use Rattle.net_build.specs.declared.nodes.Head.{Head}
 use Rattle.net_build.specs.Linking.{condition_steps, potentials_among, behind_rows}
-use Rattle.net_build.specs.Stages.{head_of, heads_of}
-use Rattle.net_build.specs.Table.{potential_pass, kind_named}
+use Rattle.net_build.specs.Stages.{head_of, heads_of, node_lists}
+use Rattle.net_build.specs.Table.{potential_pass, kind_in}
 use Rattle.net_lexer.specs.Token.{token_bytes}
 use Rattle.net_lexer.specs.declared.tokens.Token.{Token}
 use Rattle.net_parser.specs.Trees.{BlockTree}
@@ -61,23 +61,19 @@ module _ (d : DiagramView) (names : NamesView) (is : IsPrintableBehind d names) 
       let same : name_of names (get_or us k v) ≡ name_of names v = sym (get_or-map (name_of names) us k v (name_of names v) within) ∙ e in
       (k, within, one_node (get_or us k v) v (all k v within) l same)
 
-  pub kind_told : (u : ℕ) → u < length d.nodes → kind_named Text Nodes (name_of names u) ≡ (node_at d.nodes u).kind
+  pub kind_told : (u : ℕ) → u < length d.nodes → kind_in (node_lists Text Nodes) (name_of names u) ≡ (node_at d.nodes u).kind
   kind_told u l =
       let place : look.place_among (look.names_of Text Nodes) (name_of names u) ≡ u = ap (λ list. look.place_among list (name_of names u)) (names_told d names is) ∙ place_told d names is u l in
-      ap (λ kinds. get_or kinds (look.place_among (look.names_of Text Nodes) (name_of names u)) Chance) (sym (kinds_told d names is))
+      ap (λ kinds. get_or kinds (look.place_among (look.names_of Text Nodes) (name_of names u)) Chance) (map-map (λ (h : Head). h.kind) (head_of Text Nodes) Nodes ∙ sym (kinds_told d names is))
       ∙ ap (λ n. get_or (map (λ m. m.kind) d.nodes) n Chance) place
       ∙ get_or-map (λ (m : NodeView). m.kind) d.nodes u no_node Chance l
-
-  -- the kind of a name's node among the heads
-  head_kind : (name : List ℕ) → get_or (map (λ (h : Head). h.kind) Heads) (look.place_among (look.names_of Text Nodes) name) Chance ≡ kind_named Text Nodes name
-  head_kind name = ap (λ kinds. get_or kinds (look.place_among (look.names_of Text Nodes) name) Chance) (map-map (λ (h : Head). h.kind) (head_of Text Nodes) Nodes)
 
   condition_clear : (earlier : List Token) (t : Token) (before : List ℕ) (u : ℕ) → map (token_bytes Text) earlier ≡ map (name_of names) before → token_bytes Text t ≡ name_of names u → All (λ w. w < length d.nodes) before → u < length d.nodes → (Contains before u → ⊥) → (node_at d.nodes u).kind ≢ Utility → condition_steps Text (look.names_of Text Nodes) Heads earlier t None
   condition_clear earlier t before u told name below l new kind = (
     λ none. none (subst (Contains (look.names_of Text Nodes)) (sym name) (has_name u l)),
     (
       λ has. new (of_one before u below l (subst (λ list. Contains list (name_of names u)) told (subst (Contains (map (token_bytes Text) earlier)) name has))),
-      λ utility. kind (sym (kind_told u l) ∙ ap (kind_named Text Nodes) (sym name) ∙ sym (head_kind (token_bytes Text t)) ∙ utility),
+      λ utility. kind (sym (kind_told u l) ∙ ap (kind_in (node_lists Text Nodes)) (sym name) ∙ utility),
     ),
   )
 

@@ -12,7 +12,8 @@ use Rattle.maid_model.specs.Nodes.{node_at, no_node, rows_of, numbers_of, is_uti
 use Rattle.maid_model.specs.Views.{NodeView, DiagramView}
 use Rattle.net_build.specs.Blocks as look
 use Rattle.first_fault.specs.Passes.{each}
-use Rattle.net_build.specs.Table.{repeats, number_row, kind_named, utility_numbers, no_block}
+use Rattle.net_build.specs.Stages.{node_lists}
+use Rattle.net_build.specs.Table.{repeats, number_row, kind_in, utility_numbers, no_block}
 use Rattle.net_lexer.specs.Token.{token_bytes}
 use Rattle.net_lexer.specs.declared.tokens.Token.{Token}
 use Rattle.net_lexer.specs.declared.tokens.TokenKind.{TokenKind}
@@ -193,7 +194,7 @@ module _ (d : DiagramView) (names : NamesView) (is : IsPrintableBehind d names) 
 
   -- what is told of a potential that is a utility's
   abbrev told_piece : BlockTree → List (List ℕ)
-  told_piece b = cond (is_utility (kind_named Text Nodes (look.block_name Text b))) (map (token_bytes Text) (look.leaves_of (look.data_of Text b))) []
+  told_piece b = cond (is_utility (kind_in (node_lists Text Nodes) (look.block_name Text b))) (map (token_bytes Text) (look.leaves_of (look.data_of Text b))) []
 
   abbrev cells_piece : ℕ → List (List ℕ)
   cells_piece v = cond (is_utility (node_at d.nodes v).kind) (map (value_text d.decimals) (node_at d.nodes v).cells) []
@@ -202,14 +203,14 @@ module _ (d : DiagramView) (names : NamesView) (is : IsPrintableBehind d names) 
   piece_told v p more l at =
       let node = node_at d.nodes v in
       let tree = potential_tree d names p v in
-      ap (λ kind. cond (is_utility kind) (map (token_bytes Text) (look.leaves_of (look.data_of Text tree))) []) (ap (kind_named Text Nodes) (potential_title d names is v p more at) ∙ kind_told d names is v l)
+      ap (λ kind. cond (is_utility kind) (map (token_bytes Text) (look.leaves_of (look.data_of Text tree))) []) (ap (kind_in (node_lists Text Nodes)) (potential_title d names is v p more at) ∙ kind_told d names is v l)
       ∙ ap (λ numbers. cond (is_utility node.kind) numbers []) (ap (λ attributes. map (token_bytes Text) (look.leaves_of attributes)) (potential_data v p more at) ∙ potential_numbers v p more at)
       ∙ utility_piece node.kind d.decimals node.states (rows_of d.nodes v) node.cells
 
   -- The numbers of all utilities are their values, one after the other.
   pub utilities_told : map (token_bytes Text) (utility_numbers Text Blocks) ≡ map (value_text d.decimals) (utility_cells d.nodes)
   utilities_told =
-      kept_flat (token_bytes Text) (λ (p : BlockTree). look.leaves_of (look.data_of Text p)) (λ p. is_utility (kind_named Text Nodes (look.block_name Text p))) (look.potentials Blocks)
+      kept_flat (token_bytes Text) (λ (p : BlockTree). look.leaves_of (look.data_of Text p)) (λ p. is_utility (kind_in (node_lists Text Nodes) (look.block_name Text p))) (look.potentials Blocks)
       ∙ ap (flat_map (λ ys. ys)) (
       ap (map told_piece) (potentials_are d names is)
       ∙ trees_tell Text told_piece cells_piece (potential_tree d names) (potential_words d names) (end_at (place_of d names is) (node_lines d names is)) (numbers_of d.nodes) [] (at_potentials d names is)

@@ -1,7 +1,7 @@
 -- Laws of divisors: of products, of lists, and that greatest and least ones exist.
 use Rattle.std.proofs.Common.{mul-pos, ◌≡◌, ◌<◌, ◌≤◌, ◌+◌, ◌*◌, ◌/◌, ◌%◌, ℕ, zero, suc, refl, sym, ap, ◌∙◌, arith, subst, List, [], ◌∷◌, All, map, length, get_or}
 use Rattle.std.specs.Int.{IsGcd, ◌∣◌}
-use Rattle.std.proofs.Math.Nat.{div-mul_cancel, mul-div_cancel, mul-div_cancel', mul-dvd-mul, mul-dvd-mul_left, mul-dvd-mul_right, dvd_of_mul-dvd-mul_left, dvd_of_mul-dvd-mul_right, dvd-mul_left, dvd-mul_right, dvd-mul_right_of_dvd, dvd-add_iff_right, dvd-mod_iff, pos_of_dvd_of_pos, mul_comm, mul_assoc}
+use Rattle.std.proofs.Math.Nat.{one-dvd, div-mul_cancel, mul-div_cancel, mul-div_cancel', mul-dvd-mul, mul-dvd-mul_left, mul-dvd-mul_right, dvd_of_mul-dvd-mul_left, dvd_of_mul-dvd-mul_right, dvd-mul_left, dvd-mul_right, dvd-mul_right_of_dvd, dvd-add_iff_right, dvd-mod_iff, pos_of_dvd_of_pos, mul_comm, mul_assoc}
 use Rattle.std.proofs.lemmas.Nat.Gcd.{IsGcd-from_zero, IsGcd-from_mod, same_from_IsGcd, dvd_refl, dvd_trans, dvd-zero, dvd_antisymm, le_of_dvd}
 use Rattle.std.proofs.lemmas.List.{get_or-map, length-map}
 use Rattle.std.proofs.lemmas.List.Elements.{All-nil, All-cons, All-head, All-tail, All-weaker, All-map}
@@ -121,6 +121,13 @@ pub greatest_one : (a : ℕ) → IsGreatestDivisor (a ∷ []) a
 greatest_one a = record {
   divides = All-cons (λ y. a ∣ y) a [] (dvd_refl a) (All-nil (λ y. a ∣ y));
   greatest = λ d all. All-head (λ y. d ∣ y) a [] all;
+}
+
+-- 1 is the greatest where 1 is among the numbers
+pub greatest_of_one : (a : ℕ) (xs : List ℕ) → a ≡ 1 → IsGreatestDivisor (a ∷ xs) 1
+greatest_of_one a xs one = record {
+  divides = λ k d l. one-dvd (get_or (a ∷ xs) k d);
+  greatest = λ d all. subst (λ n. d ∣ n) one (All-head (λ y. d ∣ y) a xs all);
 }
 
 -- the numbers times p

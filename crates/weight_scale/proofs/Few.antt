@@ -12,7 +12,7 @@ use Rattle.weight_scale.specs.Numeral.{signed, numerator, denominator, number_of
 use Rattle.weight_scale.specs.declared.decimal.Decimal.{Decimal}
 use Rattle.weight_scale.proofs.Signs.{fraction_from_sizes}
 
-all_front : (bytes : List ℕ) → list_all is_digit bytes ≡ true → prefix_len is_digit bytes ≡ length bytes
+pub all_front : (bytes : List ℕ) → list_all is_digit bytes ≡ true → prefix_len is_digit bytes ≡ length bytes
 all_front [] all = refl
 all_front (b ∷ bytes) all =
     let parts = and_parts (is_digit b) _ all in

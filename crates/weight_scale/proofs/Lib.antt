@@ -3,10 +3,12 @@ pub mod Bounding
 pub mod Decided
 pub mod Divisors
 pub mod Few
+pub mod Pointed
 pub mod GivenMembers
 pub mod Greatest
 pub mod Lists
 pub mod Pivots
+pub mod PlainRows
 pub mod Results
 pub mod RowParts
 pub mod ScopeMembers

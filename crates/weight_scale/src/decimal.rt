@@ -18,6 +18,10 @@ impl Decimal {
         requires { decimals ≤ MOST_DECIMALS }
         ensures { result ≡ 10 ^ (decimals - self.k) }
     {
-        10u128.pow(decimals.saturating_sub(self.k))
+        // Most numbers of a row have as many decimals as its finest one has.
+        if decimals <= self.k {
+            return 1;
+        }
+        10u128.pow(decimals - self.k)
     }
 }

@@ -1,6 +1,6 @@
 //! Digits, exponents and signs of numerals.
 
-ghost use Rattle.std.specs.Prelude.{◌≡◌, ◌<◌, ◌≤◌, ◌+◌, ◌-◌, ◌*◌, ◌^◌, ◌++◌, ◌≢◌, drop, length, replicate, slice_index, true, IfSome};
+ghost use Rattle.std.specs.Prelude.{◌≡◌, ◌<◌, ◌≤◌, ◌+◌, ◌-◌, ◌*◌, ◌^◌, ◌∷◌, ◌++◌, ◌≢◌, drop, length, replicate, slice_index, true, IfSome};
 ghost use Rattle.std.specs.Option.{SomeIff};
 ghost use Rattle.std.specs.List.{prefix_len, list_all};
 ghost use Rattle.net_lexer.specs.Bytes.{is_digit};
@@ -23,7 +23,7 @@ fn count_digits(bytes: &[u8]) -> usize
 }
 
 // The digits at the front, and what stands behind them.
-fn split_digits(bytes: &[u8]) -> (&[u8], &[u8])
+pub(crate) fn split_digits(bytes: &[u8]) -> (&[u8], &[u8])
     ensures digits { result.0.now ≡ front_digits bytes.now }
     ensures rest { result.1.now ≡ behind_digits bytes.now }
     ensures are_digits { list_all is_digit result.0.now ≡ true }
@@ -58,6 +58,23 @@ fn split_point(bytes: &[u8]) -> (&[u8], &[u8])
     }
 }
 
+fn is_all_digits(bytes: &[u8]) -> bool
+    ensures { result ≡ list_all is_digit bytes.now }
+{
+    bytes.iter().all(|b| b.is_ascii_digit())
+}
+
+// The digits behind a point, where nothing stands behind them.
+pub(crate) fn last_decimals(bytes: &[u8]) -> Option<&[u8]>
+    ensures point { IfSome result (λ decimals. bytes.now ≡ 46 ∷ decimals.now) }
+    ensures are_digits { IfSome result (λ decimals. list_all is_digit decimals.now ≡ true) }
+{
+    match bytes {
+        [b'.', decimals @ ..] if is_all_digits(decimals) => Some(decimals),
+        _ => None,
+    }
+}
+
 // The exponent's sign and digits, which stand behind the e or E.
 fn behind_mark(bytes: &[u8]) -> &[u8]
     ensures { result.now ≡ drop 1 bytes.now }
@@ -79,6 +96,36 @@ fn append_digit(number: u128, digit: u8) -> Option<u128>
     Some(number * 10 + u128::from(digit - b'0')).filter(|longer| *longer <= GREATEST_NUMBER)
 }
 
+// What a digit stands for.
+fn digit_value(digit: u8) -> u64
+    requires { is_digit digit ≡ true }
+    ensures value { result ≡ digit - 48 }
+    ensures small { result < 10 }
+{
+    u64::from(digit - b'0')
+}
+
+// A number below ten to this power surely has room in 64 bits for as many digits behind it.
+const HALF_FEW: usize = 9;
+
+// Ten to that power.
+const HALF_FEW_END: u128 = 1_000_000_000;
+
+// The number with more digits behind it, where it and they are few. It takes no step of 128 bits.
+pub(crate) fn append_few(number: u128, digits: &[u8]) -> Option<u64>
+    requires { list_all is_digit digits.now ≡ true }
+    ensures { IfSome result (λ longer. longer ≡ number_behind number digits.now) }
+{
+    if number >= HALF_FEW_END || digits.len() > HALF_FEW {
+        return None;
+    }
+    let mut longer = number as u64;
+    for digit in digits {
+        longer = longer * 10 + digit_value(*digit);
+    }
+    Some(longer)
+}
+
 // The number with more digits behind it, if it isn't too great.
 pub(crate) fn append_digits(number: u128, digits: &[u8]) -> Option<u128>
     requires are_digits { list_all is_digit digits.now ≡ true }
@@ -86,6 +133,9 @@ pub(crate) fn append_digits(number: u128, digits: &[u8]) -> Option<u128>
     ensures { SomeIff result (number_behind number digits.now < 2 ^ 126)
         (number_behind number digits.now) }
 {
+    if let Some(longer) = append_few(number, digits) {
+        return Some(u128::from(longer));
+    }
     let mut longer = number;
     for digit in digits {
         longer = append_digit(longer, *digit)?;

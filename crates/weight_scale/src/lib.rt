@@ -9,6 +9,7 @@ mod decimal;
 mod digits;
 mod laws;
 mod numerals;
+mod plain;
 mod products;
 mod rows;
 mod scaling;
@@ -20,7 +21,8 @@ pub use laws::{
     a_numeral_has_a_decimal_or_none, bound_has_one_place, rows_are_scaled_or_too_wide,
     rows_scale_in_one_way,
 };
-pub use numerals::numeral;
+pub use numerals::{numeral, whole_numeral};
+pub use plain::plain_total;
 pub use scaling::{ScaleFault, Scaled, scale_rows};
 pub use scopes::{agent_scope, decision_scope, place_given, scope_given};
 pub use weight_bound::{BoundPlace, bound};

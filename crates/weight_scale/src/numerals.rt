@@ -1,6 +1,6 @@
 //! The decimal of a numeral.
 
-ghost use Rattle.std.specs.Prelude.{◌≡◌, ◌<◌, ◌≤◌, ◌+◌, ◌*◌, ◌%◌, ◌^◌, ◌++◌, length, true, IfSome, IfNone, pos, if◌then◌else◌};
+ghost use Rattle.std.specs.Prelude.{◌≡◌, ◌<◌, ◌≤◌, ◌≤ℤ◌, ◌+◌, ◌*◌, ◌%◌, ◌^◌, ◌++◌, length, true, IfSome, IfNone, pos, if◌then◌else◌};
 ghost use Rattle.std.specs.List.{list_all};
 ghost use Rattle.net_lexer.specs.Bytes.{is_digit};
 ghost use Rattle.net_lexer.specs.Numerals.{is_numeral};
@@ -10,7 +10,8 @@ ghost use Rattle.weight_scale.specs.declared.decimal.Decimal.{Decimal};
 
 use crate::Decimal;
 use crate::digits::{
-    append_digits, exponent_size, few_digits, is_minus, split_numeral, without_trailing_noughts,
+    append_digits, append_few, exponent_size, few_digits, is_minus, last_decimals, split_digits,
+    split_numeral, without_trailing_noughts,
 };
 use maid_model::GREATEST_NUMBER;
 use whole_num::mul_within;
@@ -158,6 +159,49 @@ pub fn numeral(text: &[u8]) -> Option<Decimal>
             k: 0,
         });
     }
+    if let Some(decimal) = few_decimals(text) {
+        return Some(decimal);
+    }
+    other_numeral(text)
+}
+
+/// The whole number that a numeral of digits alone is, where they are few: any other numeral has `None`. It takes no step
+/// of 128 bits.
+pub fn whole_numeral(text: &[u8]) -> Option<i128>
+    ensures decimal { IfSome result (λ number.
+        (d : Decimal) × IsLeastDecimalOf (numerator text.now) (denominator text.now) d
+        × (d.m ≡ number) × (d.k ≡ 0)) }
+    ensures above { IfSome result (λ number. pos 0 ≤ℤ number) }
+{
+    let number = few_digits(text)?;
+    Some(i128::from(number))
+}
+
+// The decimal of a numeral that is few digits, a point and few digits, of which the last aren't noughts alone.
+#[inline(never)]
+fn few_decimals(text: &[u8]) -> Option<Decimal>
+    ensures { IfSome result (λ d. IsLeastDecimalOf (numerator text.now) (denominator text.now) d) }
+{
+    let (whole, rest) = split_digits(text);
+    let decimals = last_decimals(rest)?;
+    let kept = without_trailing_noughts(decimals);
+    if kept.is_empty() {
+        return None;
+    }
+    let number = append_few(0, whole)?;
+    let size = append_few(u128::from(number), kept)?;
+    with_decimals(false, u128::from(size), kept.len() as u128)
+}
+
+// The exact value of a numeral that may have a sign, a point and an exponent.
+#[inline(never)]
+fn other_numeral(text: &[u8]) -> Option<Decimal>
+    requires { is_numeral text.now ≡ true }
+    ensures some { IfSome result (λ d.
+        IsLeastDecimalOf (numerator text.now) (denominator text.now) d) }
+    ensures none { IfNone result ((d : Decimal) → IsDecimalOf (numerator text.now)
+        (denominator text.now) d → ⊥) }
+{
     let parts = split_numeral(text);
     let significand = significand(parts.whole, parts.decimals)?;
     if significand.size == 0 {

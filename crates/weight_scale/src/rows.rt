@@ -12,7 +12,7 @@ use crate::products::{divided_product, gcd_with_product};
 use crate::scaling::ScaleFault;
 use maid_model::GREATEST_NUMBER;
 use std::alloc::AllocError;
-use whole_num::add_within;
+use whole_num::{add_within, mul_within};
 
 // Row r of a table that stands row by row.
 pub(crate) fn row_at<T>(cells: &[T], states: usize, r: usize) -> &[T]
@@ -48,12 +48,11 @@ pub(crate) fn finest(row: &[Decimal]) -> Pivot
 fn finer(finest: Pivot, number: Decimal) -> Pivot
     ensures { IsFiner finest.size finest.decimals number result.size result.decimals }
 {
-    let size = number.m.unsigned_abs();
-    if size == 0 || (finest.size != 0 && number.k <= finest.decimals) {
+    if number.m == 0 || (finest.size != 0 && number.k <= finest.decimals) {
         return finest;
     }
     Pivot {
-        size,
+        size: number.m.unsigned_abs(),
         decimals: number.k,
     }
 }
@@ -68,6 +67,10 @@ fn common_divisor(row: &[Decimal], finest: Pivot) -> u128
 {
     let mut divisor = finest.size;
     for number in row {
+        // 1 has no divisor but itself.
+        if divisor == 1 {
+            return 1;
+        }
         let tens = number.tens(finest.decimals);
         divisor = gcd_with_product(divisor, number.m.unsigned_abs(), tens);
     }
@@ -104,6 +107,63 @@ fn push_shares(
     Ok(total)
 }
 
+// The number's size, raised by 10^decimals, if it isn't too great. Most numbers have as many decimals, and take no tens.
+fn raised(number: Decimal, decimals: u32) -> Option<u128>
+    requires { decimals ≤ 30 }
+    ensures { SomeIff result (whole_number decimals number ≤ greatest_number)
+        (whole_number decimals number) }
+{
+    let size = number.m.unsigned_abs();
+    if decimals <= number.k {
+        return Some(size);
+    }
+    mul_within(size, number.tens(decimals), GREATEST_NUMBER)
+}
+
+// Appends the row's numbers, raised, and gives their total: no number is divided, as in most rows.
+#[inline(never)]
+fn push_raised(reduced: &mut Vec<u128>, row: &[Decimal], decimals: u32) -> Result<u128, ScaleFault>
+    requires { decimals ≤ 30 }
+    ensures ok { IfOk result (AppendsShares reduced.old.items reduced.new.items
+        (shares decimals 1 row.now)) }
+    ensures err { IfErr result (λ fault.
+        OnWide fault (greatest_number < sum (shares decimals 1 row.now))) }
+{
+    let mut total = 0;
+    for number in row {
+        let Some(share) = raised(*number, decimals) else {
+            return Err(ScaleFault::WideWeight);
+        };
+        let Some(longer) = add_within(total, share, GREATEST_NUMBER) else {
+            return Err(ScaleFault::WideWeight);
+        };
+        total = longer;
+        reduced.push(share)?;
+    }
+    Ok(total)
+}
+
+// Appends the row's numbers, raised and divided, and gives their total.
+fn push_row(
+    reduced: &mut Vec<u128>,
+    row: &[Decimal],
+    decimals: u32,
+    divisor: u128,
+) -> Result<u128, ScaleFault>
+    requires decimals { decimals ≤ 30 }
+    requires positive { 0 < divisor }
+    requires divides { All (λ d. divisor ∣ whole_number decimals d) row.now }
+    ensures ok { IfOk result (AppendsShares reduced.old.items reduced.new.items
+        (shares decimals divisor row.now)) }
+    ensures err { IfErr result (λ fault.
+        OnWide fault (greatest_number < sum (shares decimals divisor row.now))) }
+{
+    if divisor == 1 {
+        return push_raised(reduced, row, decimals);
+    }
+    push_shares(reduced, row, decimals, divisor)
+}
+
 // Appends the reduced row, and gives its total.
 pub(crate) fn push_reduced(reduced: &mut Vec<u128>, row: &[Decimal]) -> Result<u128, ScaleFault>
     requires { 0 < sum (map (whole_number 30) row.now) }
@@ -113,7 +173,7 @@ pub(crate) fn push_reduced(reduced: &mut Vec<u128>, row: &[Decimal]) -> Result<u
 {
     let finest = finest(row);
     let divisor = common_divisor(row, finest);
-    push_shares(reduced, row, finest.decimals, divisor)
+    push_row(reduced, row, finest.decimals, divisor)
 }
 
 pub(crate) fn row_total(row: &[u128]) -> u128
@@ -121,6 +181,18 @@ pub(crate) fn row_total(row: &[u128]) -> u128
     ensures { result ≡ sum row.now }
 {
     row.iter().sum()
+}
+
+// Appends the numbers.
+fn push_whole(weights: &mut Vec<i128>, row: &[u128]) -> Result<(), AllocError>
+    requires { sum row.now ≤ greatest_number }
+    ensures { OnOk result (weights.new.items
+        ≡ weights.old.items ++ map (λ x. pos x) row.now) }
+{
+    for number in row {
+        weights.push(*number as i128)?;
+    }
+    Ok(())
 }
 
 // Appends the reduced row's numbers, multiplied.
@@ -133,6 +205,10 @@ pub(crate) fn push_weights(
     ensures { OnOk result (weights.new.items
         ≡ weights.old.items ++ map (λ x. pos (x * factor)) row.now) }
 {
+    // In most tables all reduced rows have one total, and no number is multiplied.
+    if factor == 1 {
+        return push_whole(weights, row);
+    }
     for number in row {
         weights.push((*number * factor) as i128)?;
     }

@@ -7,6 +7,6 @@ use Rattle.net_build.proofs.numbers.decimals.Goals as goal
 
 pub loop-token-preserved : goal.loop-token-preserved
 loop-token-preserved c = record {
-  lead = each_step_at (length_row c.args.text.now) c.args.tokens.now _ c.loop-token.token-index no_token c.loop-token-test.true c.loop-token.invariant.lead c.in_ok-decimal.ensures.row;
-  are = decimals_step c.args.text.now c.args.tokens.now c.loop-token.decimals.items c.push.new.self.items c.loop-token.token-index c.in_ok-decimal.field-0 c.loop-token-test.true c.loop-token.invariant.are c.in_ok-decimal.ensures.decimal c.in_ok-push.ensures.items;
+  lead = each_step_at (length_row c.args.text.now) c.args.tokens.now _ c.loop-token.token-index no_token c.loop-token-test.true c.loop-token.invariant.lead c.in-Some.ensures.row;
+  are = decimals_step c.args.text.now c.args.tokens.now c.loop-token.decimals.items c.push.new.self.items c.loop-token.token-index c.in-Some.number c.loop-token-test.true c.loop-token.invariant.are c.in-Some.ensures.decimal c.in_ok-push.ensures.items;
 }

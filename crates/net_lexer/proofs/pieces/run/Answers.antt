@@ -2,6 +2,9 @@ use Rattle.std.proofs.Common.{sym, ◌∙◌}
 use Rattle.net_lexer.proofs.Fronts.{number_piece, signed_piece, bad_run}
 use Rattle.net_lexer.proofs.pieces.run.Goals as goal
 
+pub returns-in-Some-clause-some : goal.returns-in-Some-clause-some
+returns-in-Some-clause-some c = number_piece _ _ c.requires.some c.requires.begins c.in-Some.ensures.len c.in-Some.ensures.numeral
+
 pub returns-then-is_numeral-clause-some : goal.returns-then-is_numeral-clause-some
 returns-then-is_numeral-clause-some c = number_piece _ _ c.requires.some c.requires.begins c.run_len-len.ensures (sym c.is_numeral.ensures ∙ c.if-is_numeral.true)
 

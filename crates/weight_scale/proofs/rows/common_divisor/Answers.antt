@@ -1,10 +1,10 @@
-use Rattle.std.proofs.Common.{rules, sym, ap, subst, List, ◌∷◌, map, ℕ, FitsSigned}
+use Rattle.std.proofs.Common.{rules, sym, ap, subst, List, ◌∷◌, map, drop, ℕ, FitsSigned}
 use Rattle.std.specs.Int.{w128}
 use Rattle.std.proofs.lemmas.Int.{to_z-of_z}
 use Rattle.std.proofs.lemmas.List.{drop_all}
 use Rattle.weight_scale.specs.Scaling.{whole_number, IsGreatestDivisor}
 use Rattle.weight_scale.proofs.Pivots.{divisor_step, divisor_end}
-use Rattle.weight_scale.proofs.Divisors.{greatest_one}
+use Rattle.weight_scale.proofs.Divisors.{greatest_one, greatest_of_one}
 use Rattle.weight_scale.proofs.rows.common_divisor.Goals as goal
 
 pub loop-number-preserved : goal.loop-number-preserved
@@ -22,3 +22,8 @@ returns-clause-greatest c =
     divisor_end c.args.row.now c.args.finest.size c.args.finest.decimals c.loop-number.divisor c.requires.finest
     (c.loop-number.invariant.whole c.loop-number.divisor
     (subst (λ (rest : List ℕ). IsGreatestDivisor (c.loop-number.divisor ∷ rest) c.loop-number.divisor) (sym (ap (map (whole_number c.args.finest.decimals)) (drop_all c.loop-number.number-index c.args.row.now c.loop-number-test.false))) (greatest_one c.loop-number.divisor)))
+
+pub returns-then-divisor-eq1-clause-greatest : goal.returns-then-divisor-eq1-clause-greatest
+returns-then-divisor-eq1-clause-greatest c =
+    divisor_end c.args.row.now c.args.finest.size c.args.finest.decimals 1 c.requires.finest
+    (c.loop-number.invariant.whole 1 (greatest_of_one c.loop-number.divisor (map (whole_number c.args.finest.decimals) (drop c.loop-number.number-index c.args.row.now)) c.if-divisor-eq1.true))

@@ -1,5 +1,5 @@
 use Rattle.std.proofs.Common.{subst}
-use Rattle.maid_model.specs.Scopes.{chance_factor, utilities_for}
+use Rattle.maid_model.specs.Scopes.{utilities_for}
 use Rattle.weight_scale.specs.Given.{scope_given}
 use Rattle.weight_scale.specs.ScopePlaces.{IsPlaceInScope, factor_by, members_of}
 use Rattle.weight_scale.proofs.ScopeMembers.{members_are}

@@ -1,0 +1,67 @@
+-- A table of numbers that are its weights as they stand passes each row, and has them as its cells.
+use Rattle.std.proofs.Common.{◌≡◌, ◌≢◌, ◌<◌, ◌+◌, ◌*◌, ℕ, ℤ, Bool, true, false, List, [], ◌∷◌, ◌++◌, None, length, get_or, map, take, refl, sym, ap, subst, ◌∙◌, arith}
+use Rattle.std.proofs.lemmas.List.{length-map, map-append}
+use Rattle.std.proofs.lemmas.List.Elements.{All-push}
+use Rattle.std.specs.Global.{Vec}
+use Rattle.maid_model.specs.declared.diagrams.Kind.{Kind}
+use Rattle.maid_model.specs.declared.diagrams.Kind.TheVariants as model
+use Rattle.net_lexer.specs.Token.{token_bytes}
+use Rattle.net_lexer.specs.declared.tokens.Token.{Token}
+use Rattle.net_parser.specs.Owned.{leaves}
+use Rattle.net_parser.specs.Trees.{AttributeTree}
+use Rattle.weight_scale.specs.Numeral.{numerator, denominator, IsLeastDecimalOf}
+use Rattle.weight_scale.specs.declared.decimal.Decimal.{Decimal}
+use Rattle.first_fault.specs.Passes.{each}
+use Rattle.first_fault.proofs.Items.{each_all}
+use Rattle.net_build.specs.Blocks.{is_number, no_token}
+use Rattle.net_build.specs.Scaling.{decimal_at}
+use Rattle.net_build.specs.Table.{number_row, length_row}
+use Rattle.net_build.specs.TableParts.{AreWholeNumbers, IsDraftOf, IsPlainTable, number_rows, data_part}
+use Rattle.net_build.specs.declared.drafts.Draft.TheVariants.{Cells}
+use Rattle.net_build.proofs.DecimalLemmas.{are_none, decimals_step}
+use Rattle.net_build.proofs.DraftLemmas.{chance_clear}
+use Rattle.net_build.proofs.ScaleLemmas.{decimal_of}
+use Rattle.net_build.proofs.WeightPasses.{weight_clear, rows_are}
+
+pub whole_start : AreWholeNumbers [] []
+whole_start = ([], are_none, (refl, λ k d l. absurd (omega arith)))
+
+-- one more whole number
+pub whole_step : (text : List ℕ) (tokens : List Token) (cells new : List ℤ) (i : ℕ) (x : ℤ) → i < length tokens → AreWholeNumbers (map (token_bytes text) (take i tokens)) cells
+    → (d : Decimal) × IsLeastDecimalOf (numerator (token_bytes text (get_or tokens i no_token))) (denominator (token_bytes text (get_or tokens i no_token))) d × (d.m ≡ x) × (d.k ≡ 0)
+    → new ≡ cells ++ x ∷ [] → AreWholeNumbers (map (token_bytes text) (take (i + 1) tokens)) new
+whole_step text tokens cells new i x l so_far this is = (
+  so_far.0 ++ this.0 ∷ [],
+  decimals_step text tokens so_far.0 (so_far.0 ++ this.0 ∷ []) i this.0 l so_far.1 this.1 refl,
+  (
+    map-append (λ (d : Decimal). d.m) so_far.0 (this.0 ∷ []) ∙ ap (λ xs. xs ++ this.0.m ∷ []) so_far.2.0 ∙ ap (λ y. cells ++ y ∷ []) this.2 ∙ sym is,
+    All-push (λ (d : Decimal). d.k ≡ 0) so_far.0 this.0 so_far.2.1 this.3,
+  ),
+)
+
+-- as many cells as tokens
+pub whole_len : (text : List ℕ) (tokens : List Token) (cells : List ℤ) → AreWholeNumbers (map (token_bytes text) tokens) cells → length cells ≡ length tokens
+whole_len text tokens cells whole = sym (ap length whole.2.0) ∙ length-map whole.0 (λ (d : Decimal). d.m) ∙ whole.1.len ∙ length-map tokens (token_bytes text)
+
+module _ (text : List ℕ) (kind : Kind) (rows states : ℕ) (table : AttributeTree) (tokens : List Token) (cells : Vec ℤ) (is : kind ≡ model.Chance) (some : 0 < states) (same : tokens ≡ leaves table.value) (plain : IsPlainTable text states (rows * states) tokens cells.items) where
+  same_len : length plain.decimals ≡ length tokens
+  same_len = plain.are.len ∙ length-map tokens (token_bytes text)
+
+  not_both : (b : Bool) → b ≡ true → b ≡ false → ⊥
+  not_both b t f = absurd (let e : true ≡ false = sym t ∙ f in cc)
+
+  numbers : number_rows text (rows * states) table None
+  numbers = subst (λ ts. each number_row ts None × ((◌≢◌ (length ts) (rows * states) → ⊥) × each (length_row text) ts None)) same (
+    each_all number_row tokens no_token (λ k l. not_both (is_number (get_or tokens k no_token).kind) (plain.kinds k l)),
+    (
+      λ differ. differ plain.count,
+      each_all (length_row text) tokens no_token (λ k l long. long (decimal_at plain.decimals k) (decimal_of text tokens plain.decimals k no_token plain.are l).value),
+    ),
+  )
+
+  pub plain_clear : data_part text kind rows states table None
+  plain_clear = chance_clear text kind rows states table.name.start table is numbers refl tokens same
+      (weight_clear text states rows table.name.start tokens plain.decimals some plain.count (rows_are rows states (length plain.decimals) (length tokens) some plain.count same_len) plain.are plain.weighed.scaled plain.signs plain.totals plain.weighed.is)
+
+  pub plain_drafted : IsDraftOf kind rows states (map (token_bytes text) tokens) (Cells cells)
+  plain_drafted = subst (λ k. IsDraftOf k rows states (map (token_bytes text) tokens) (Cells cells)) (sym is) (plain.decimals, plain.are, plain.weighed, same_len ∙ plain.count)

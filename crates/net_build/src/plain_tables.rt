@@ -1,0 +1,117 @@
+//! Chance tables whose numbers are their weights as they stand, as those of most are.
+
+ghost use Rattle.std.specs.Prelude.{◌≡◌, ◌<◌, ◌≤◌, ◌≤ℤ◌, ◌*◌, ℕ, List, All, map, length, pos, true, None, slice_index_or, IfOk, IfSome};
+ghost use Rattle.std.specs.Int.{◌∣◌};
+ghost use Rattle.maid_model.specs.declared.limits.TheConstants.{MOST_CELLS};
+ghost use Rattle.net_build.specs.Blocks.{is_number, no_token};
+ghost use Rattle.net_build.specs.TableParts.{AreWholeNumbers, IsDraftOf, IsPlainTable, data_part};
+ghost use Rattle.net_lexer.specs.Token.{IsTokenOf, token_bytes};
+ghost use Rattle.net_parser.specs.Owned.{IsAttributeOf, leaves};
+ghost use Rattle.weight_scale.specs.Numeral.{numerator, denominator, IsLeastDecimalOf};
+ghost use Rattle.weight_scale.specs.declared.decimal.Decimal.{Decimal};
+
+use crate::drafts::Draft;
+use crate::nodes::Head;
+use maid_model::Kind;
+use net_lexer::{Token, TokenKind};
+use net_parser::Attribute;
+use std::alloc::{AllocError, Global};
+use weight_scale::{plain_total, whole_numeral};
+
+// The number, where it is few digits alone.
+fn whole_number(text: &[u8], token: &Token) -> Option<i128>
+    requires { IsTokenOf text.now token.now }
+    ensures kind { IfSome result (λ _. is_number token.now.kind ≡ true) }
+    ensures decimal { IfSome result (λ number.
+        (d : Decimal) × IsLeastDecimalOf (numerator (token_bytes text.now token.now))
+        (denominator (token_bytes text.now token.now)) d × (d.m ≡ number) × (d.k ≡ 0)) }
+    ensures above { IfSome result (λ number. pos 0 ≤ℤ number) }
+{
+    if token.kind != TokenKind::Number {
+        return None;
+    }
+    whole_numeral(token.bytes(text))
+}
+
+// The numbers, where each is few digits alone.
+fn whole_numbers(
+    alloc: Global,
+    text: &[u8],
+    tokens: &[Token],
+) -> Result<Option<Vec<i128>>, AllocError>
+    requires { All (IsTokenOf text.now) tokens.now }
+    ensures kinds { IfOk result (λ found.
+        IfSome found (λ _.
+        (k : ℕ) → k < length tokens.now
+        → is_number (slice_index_or tokens.now k no_token).kind ≡ true)) }
+    ensures whole { IfOk result (λ found.
+        IfSome found (λ numbers.
+        AreWholeNumbers (map (token_bytes text.now) tokens.now) numbers.items)) }
+    ensures above { IfOk result (λ found.
+        IfSome found (λ numbers. All (λ x. pos 0 ≤ℤ x) numbers.items)) }
+{
+    let mut numbers = Vec::with_capacity(alloc, tokens.len())?;
+    for token in tokens {
+        let Some(number) = whole_number(text, token) else {
+            return Ok(None);
+        };
+        numbers.push(number)?;
+    }
+    Ok(Some(numbers))
+}
+
+// The cells of a chance table of so many, where its numbers are its weights as they stand.
+fn plain_cells(
+    alloc: Global,
+    text: &[u8],
+    numerals: &[Token],
+    want: usize,
+    states: usize,
+) -> Result<Option<Vec<i128>>, AllocError>
+    requires own { All (IsTokenOf text.now) numerals.now }
+    requires states { 0 < states }
+    requires whole { states ∣ want }
+    ensures { IfOk result (λ found.
+        IfSome found (λ cells. IsPlainTable text.now states want numerals.now cells.items)) }
+{
+    if numerals.len() != want {
+        return Ok(None);
+    }
+    let Some(cells) = whole_numbers(alloc, text, numerals)? else {
+        return Ok(None);
+    };
+    if plain_total(&cells, states).is_none() {
+        return Ok(None);
+    }
+    Ok(Some(cells))
+}
+
+/// The draft of a chance table whose numbers are its weights as they stand: it takes no memory but the cells. Any other
+/// table has none here, and one that has a fault neither.
+pub fn plain_draft(
+    alloc: Global,
+    text: &[u8],
+    head: &Head,
+    rows: usize,
+    table: &Attribute<'_>,
+    numerals: &[Token],
+) -> Result<Option<Draft>, AllocError>
+    requires own { IsAttributeOf text.now table.now }
+    requires numerals { numerals.now ≡ leaves table.now.value }
+    requires states { 0 < head.now.states }
+    requires small { rows * head.now.states ≤ MOST_CELLS }
+    ensures rows { IfOk result (λ found.
+        IfSome found (λ _.
+        data_part text.now head.now.kind rows head.now.states table.now None)) }
+    ensures draft { IfOk result (λ found.
+        IfSome found (IsDraftOf head.now.kind rows head.now.states
+        (map (token_bytes text.now) numerals.now))) }
+{
+    let Kind::Chance = head.kind else {
+        return Ok(None);
+    };
+    match plain_cells(alloc, text, numerals, rows * head.states, head.states)? {
+        Some(cells) => Ok(Some(Draft::Cells(cells))),
+        None => Ok(None),
+    }
+}

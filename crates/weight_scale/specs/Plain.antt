@@ -1,0 +1,22 @@
+-- Rows of whole numbers that are weights as they stand.
+use Rattle.std.specs.Prelude.{◌≡◌, ◌≤◌, ℕ, ℤ, unsigned_abs, List, All, map, sum}
+use Rattle.std.specs.Int.{◌∣◌}
+use Rattle.maid_model.specs.Diagrams.{greatest_number}
+use Rattle.weight_scale.specs.declared.decimal.Decimal.{Decimal}
+
+-- these decimals are whole numbers
+abbrev pub AreWhole : List Decimal → List ℤ → Type 0
+AreWhole rows cells = (map (λ d. d.m) rows ≡ cells) × All (λ d. d.k ≡ 0) rows
+
+-- 1 alone divides all numbers
+abbrev pub ShareNone : List ℤ → Type 0
+ShareNone row = (d : ℕ) → All (λ x. d ∣ unsigned_abs x) row → d ∣ 1
+
+-- the numbers add up to the total, which is within the limits
+abbrev pub HasTotal : List ℤ → ℕ → Type 0
+HasTotal row total = (sum (map unsigned_abs row) ≡ total) × (total ≤ greatest_number)
+
+-- a row that is its own reduced row
+pub record IsPlainRow (row : List ℤ) (total : ℕ) : Type 0 where
+  pub alone : ShareNone row
+  pub totals : HasTotal row total

@@ -1,0 +1,84 @@
+//! Rows of whole numbers that are weights as they stand, as those of most tables.
+
+ghost use Rattle.std.specs.Prelude.{◌≡◌, ◌<◌, ◌≤◌, ◌≤ℤ◌, ◌/◌, ℕ, List, All, IfSome, length, pos, unsigned_abs};
+ghost use Rattle.std.specs.Bool.{OnTrue};
+ghost use Rattle.std.specs.Int.{◌∣◌};
+ghost use Rattle.maid_model.specs.Tables.{IsTable};
+ghost use Rattle.weight_scale.specs.Plain.{AreWhole, ShareNone, HasTotal, IsPlainRow};
+ghost use Rattle.weight_scale.specs.Scaling.{NoneNegative, NoZeroRow, IsScaled};
+ghost use Rattle.weight_scale.specs.declared.decimal.Decimal.{Decimal};
+
+use crate::rows::row_at;
+use maid_model::GREATEST_NUMBER;
+use whole_num::{add_within, gcd};
+
+// The number without its sign.
+fn size(number: i128) -> u128
+    ensures { result ≡ unsigned_abs number }
+{
+    number.unsigned_abs()
+}
+
+// No number but 1 divides all of the row's.
+fn share_none(row: &[i128]) -> bool
+    ensures { OnTrue result (ShareNone row.now) }
+{
+    let mut divisor = 0;
+    for number in row {
+        divisor = gcd(divisor, size(*number));
+        if divisor == 1 {
+            return true;
+        }
+    }
+    false
+}
+
+// What the row's numbers add up to, if it isn't too great.
+fn total_within(row: &[i128]) -> Option<u128>
+    ensures { IfSome result (HasTotal row.now) }
+{
+    let mut total = 0;
+    for number in row {
+        total = add_within(total, size(*number), GREATEST_NUMBER)?;
+    }
+    Some(total)
+}
+
+// The row's total, where it is its own reduced row.
+fn plain_row(row: &[i128]) -> Option<u128>
+    ensures { IfSome result (IsPlainRow row.now) }
+{
+    if !share_none(row) {
+        return None;
+    }
+    total_within(row)
+}
+
+/// The common total of a chance table's rows, where its numbers are whole and are the table's weights as they stand: in
+/// each row they share no divisor but 1, and all rows have one total. Any other rows have `None`, though some of them
+/// are their own weights. It stops at the first row that has another total or a divisor.
+pub fn plain_total(cells: &[i128], states: usize) -> Option<u128>
+    requires states { 0 < states }
+    requires whole { states ∣ length cells.now }
+    requires above { All (λ x. pos 0 ≤ℤ x) cells.now }
+    ensures scaled { IfSome result (λ total.
+        (rows : List Decimal) → AreWhole rows cells.now
+        → IsScaled rows states (record { weights = cells.now; total = total })) }
+    ensures table { IfSome result (λ total.
+        (rows : List Decimal) → AreWhole rows cells.now
+        → IsTable cells.now (length rows / states) states total) }
+    ensures faultless { IfSome result (λ _.
+        (rows : List Decimal) → AreWhole rows cells.now
+        → NoneNegative rows × NoZeroRow rows states (length rows / states)) }
+{
+    if cells.len() < states {
+        return None;
+    }
+    let total = plain_row(row_at(cells, states, 0))?;
+    for r in 0..cells.len() / states {
+        if plain_row(row_at(cells, states, r))? != total {
+            return None;
+        }
+    }
+    Some(total)
+}
