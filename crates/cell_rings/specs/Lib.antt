@@ -3,3 +3,4 @@ pub mod RingLaws
 pub mod Sums
 pub mod Kinds
 pub mod KindLaws
+pub mod Words

@@ -20,6 +20,10 @@ impl Cell for Both {
 
     ghost of_value = { λ v. both_of 1 v };
 
+    ghost bits = { λ _. 0 };
+
+    ghost narrow = { 0 };
+
     ghost laws = { both_laws };
 
     ghost sizes = { both_sizes };

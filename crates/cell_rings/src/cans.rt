@@ -17,6 +17,10 @@ impl Cell for Can {
 
     ghost of_value = { λ _. can_of true };
 
+    ghost bits = { λ _. 0 };
+
+    ghost narrow = { 0 };
+
     ghost laws = { can_laws };
 
     ghost sizes = { can_sizes };

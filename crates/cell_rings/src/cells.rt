@@ -1,17 +1,22 @@
 //! What a cell is.
 
-ghost use Rattle.std.specs.Prelude.{◌≡◌, ℕ, ℤ, ◌+◌, ◌*◌, ◌<◌, ◌≤◌, max, nat_abs, length};
+ghost use Rattle.std.specs.Prelude.{◌≡◌, ℕ, ℤ, ◌+◌, ◌*◌, ◌<◌, ◌≤◌, max, nat_abs, length, IsTrue};
 ghost use Rattle.cell_rings.specs.Sums.{ring_sum, cell_at, run_sum, Adds, HasRoom};
 ghost use Rattle.cell_rings.specs.Rings.{Ring, IsRing, IsSize, mass_ring};
 
 /// A cell of a table. `ring` has its two operations and its sizes; a result fits where its size is at most `ring.most`.
-/// The laws, of the operations and of the sizes, are all that the layers above know.
+/// The laws, of the operations and of the sizes, are all that the layers above know. A cell is narrow where its `bits` are
+/// below `narrow`: runs of such cells are multiplied faster.
 pub trait Cell: Copy {
     ghost ring: { Ring Self };
 
     ghost of_weight: { ℕ → Self };
 
     ghost of_value: { ℤ → Self };
+
+    ghost bits: { Self → ℕ };
+
+    ghost narrow: { ℕ };
 
     /// The cell that adds nothing.
     fn zero() -> Self
@@ -85,6 +90,45 @@ pub trait Cell: Copy {
                 .add(second.mul(cells[beside + i]));
             out[at + i] = out[at + i].add(both);
         }
+    }
+
+    /// Whether n cells from one on are narrow. It may say no of any, and looks at each of them otherwise.
+    fn are_narrow(cells: &[Self], from: usize, n: usize) -> bool
+        requires { from + n ≤ length cells.now }
+        ensures { IsTrue result → (i : ℕ) → i < n
+            → bits (cell_at ring cells.now (from + i)) < narrow }
+    {
+        let _ = cells;
+        let _ = from;
+        let _ = n;
+        false
+    }
+
+    /// The same as `add_two_scaled`, where the cells of both runs are narrow.
+    fn add_two_narrow(
+        out: &mut [Self],
+        at: usize,
+        n: usize,
+        first: Self,
+        second: Self,
+        cells: &[Self],
+        from: usize,
+        beside: usize,
+    )
+        requires out { at + n ≤ length out.old }
+        requires cells { (from + n ≤ length cells.now) × (beside + n ≤ length cells.now) }
+        requires first { (i : ℕ) → i < n → bits (cell_at ring cells.now (from + i)) < narrow }
+        requires second { (i : ℕ) → i < n → bits (cell_at ring cells.now (beside + i)) < narrow }
+        requires room { HasRoom ring out.old (run_sum mass_ring n at (λ i.
+            ring.size first * ring.size (cell_at ring cells.now (from + i))
+            + ring.size second * ring.size (cell_at ring cells.now (beside + i)))) }
+        ensures { Adds ring
+            (run_sum ring n at (λ i.
+            ring.plus (ring.times first (cell_at ring cells.now (from + i)))
+            (ring.times second (cell_at ring cells.now (beside + i)))))
+            out.old out.new }
+    {
+        Self::add_two_scaled(out, at, n, first, second, cells, from, beside)
     }
 
     /// The sum of the products of the factor and the cells of two runs of n cells, from `from` on and from `beside` on.

@@ -19,6 +19,10 @@ impl Cell for Mass {
 
     ghost of_value = { λ _. mass_of 1 };
 
+    ghost bits = { λ _. 0 };
+
+    ghost narrow = { 0 };
+
     ghost laws = { mass_laws };
 
     ghost sizes = { mass_sizes };

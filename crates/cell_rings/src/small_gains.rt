@@ -1,6 +1,10 @@
 //! Whole numbers with a sign, in 64 bits.
 
-ghost use Rattle.std.specs.Prelude.{ℤ, pos, nat_abs};
+ghost use Rattle.std.specs.Prelude.{◌≡◌, ◌+◌, ◌-◌, ◌*◌, ◌^◌, ◌<◌, ◌≤◌, ℤ, pos, nat_abs, length, IsTrue};
+ghost use Rattle.std.specs.Int.{w64, cast_unsigned};
+ghost use Rattle.cell_rings.specs.Rings.{mass_ring};
+ghost use Rattle.cell_rings.specs.Sums.{cell_at, run_sum, Adds, HasRoom};
+ghost use Rattle.cell_rings.specs.Words.{AreHalves};
 ghost use Rattle.cell_rings.specs.KindLaws.{small_has_room, small_gain_laws, small_gain_sizes, at_most_itself, value_at_most};
 ghost use Rattle.cell_rings.specs.Kinds.{small_gain_kind, small_gain_of};
 
@@ -16,6 +20,10 @@ impl Cell for SmallGain {
     ghost of_weight = { λ w. small_gain_of (pos w) };
 
     ghost of_value = { small_gain_of };
+
+    ghost bits = { λ a. cast_unsigned w64 a.0 };
+
+    ghost narrow = { 2 ^ 32 };
 
     ghost laws = { small_gain_laws };
 
@@ -50,4 +58,140 @@ impl Cell for SmallGain {
     fn mul(self, other: SmallGain) -> SmallGain {
         SmallGain(self.0 * other.0)
     }
+
+    fn are_narrow(cells: &[SmallGain], from: usize, n: usize) -> bool {
+        are_halves(cells, from, n)
+    }
+
+    fn add_two_narrow(
+        out: &mut [SmallGain],
+        at: usize,
+        n: usize,
+        first: SmallGain,
+        second: SmallGain,
+        cells: &[SmallGain],
+        from: usize,
+        beside: usize,
+    ) {
+        if is_half(bits_of(first)) && is_half(bits_of(second)) {
+            add_two_halves(out, at, n, first, second, cells, from, beside)
+        } else {
+            add_two_long(out, at, n, first, second, cells, from, beside)
+        }
+    }
+}
+
+/// Both products and their sum added to each cell of the run.
+fn add_two_long(
+    out: &mut [SmallGain],
+    at: usize,
+    n: usize,
+    first: SmallGain,
+    second: SmallGain,
+    cells: &[SmallGain],
+    from: usize,
+    beside: usize,
+)
+    requires out { at + n ≤ length out.old }
+    requires cells { (from + n ≤ length cells.now) × (beside + n ≤ length cells.now) }
+    requires room { HasRoom small_gain_kind out.old (run_sum mass_ring n at (λ i.
+        small_gain_kind.size first
+        * small_gain_kind.size (cell_at small_gain_kind cells.now (from + i))
+        + small_gain_kind.size second
+        * small_gain_kind.size (cell_at small_gain_kind cells.now (beside + i)))) }
+    ensures { Adds small_gain_kind
+        (run_sum small_gain_kind n at (λ i.
+        small_gain_kind.plus
+        (small_gain_kind.times first (cell_at small_gain_kind cells.now (from + i)))
+        (small_gain_kind.times second (cell_at small_gain_kind cells.now (beside + i)))))
+        out.old out.new }
+{
+    for i in 0..n {
+        let both = first
+            .mul(cells[from + i])
+            .add(second.mul(cells[beside + i]));
+        out[at + i] = out[at + i].add(both);
+    }
+}
+
+/// The same where all factors are from 0 and below 2^32: the compiler has one instruction for two such products.
+#[inline(never)]
+fn add_two_halves(
+    out: &mut [SmallGain],
+    at: usize,
+    n: usize,
+    first: SmallGain,
+    second: SmallGain,
+    cells: &[SmallGain],
+    from: usize,
+    beside: usize,
+)
+    requires out { at + n ≤ length out.old }
+    requires cells { (from + n ≤ length cells.now) × (beside + n ≤ length cells.now) }
+    requires first { cast_unsigned w64 first.0 < 2 ^ 32 }
+    requires second { cast_unsigned w64 second.0 < 2 ^ 32 }
+    requires halves { AreHalves cells.now from n }
+    requires beside { AreHalves cells.now beside n }
+    requires room { HasRoom small_gain_kind out.old (run_sum mass_ring n at (λ i.
+        small_gain_kind.size first
+        * small_gain_kind.size (cell_at small_gain_kind cells.now (from + i))
+        + small_gain_kind.size second
+        * small_gain_kind.size (cell_at small_gain_kind cells.now (beside + i)))) }
+    ensures { Adds small_gain_kind
+        (run_sum small_gain_kind n at (λ i.
+        small_gain_kind.plus
+        (small_gain_kind.times first (cell_at small_gain_kind cells.now (from + i)))
+        (small_gain_kind.times second (cell_at small_gain_kind cells.now (beside + i)))))
+        out.old out.new }
+{
+    for i in 0..n {
+        let both = half_product(first, cells[from + i]).add(half_product(
+            second,
+            cells[beside + i],
+        ));
+        out[at + i] = out[at + i].add(both);
+    }
+}
+
+/// The bits of the number.
+fn bits_of(a: SmallGain) -> u64
+    ensures { result ≡ cast_unsigned w64 a.0 }
+{
+    a.0.cast_unsigned()
+}
+
+/// Whether the bits are those of a number from 0 and below 2^32.
+fn is_half(bits: u64) -> bool
+    ensures { IsTrue result → bits < 2 ^ 32 }
+{
+    bits < 0x1_0000_0000
+}
+
+/// Whether n cells from one on are from 0 and below 2^32. It looks at the bits of all of them together.
+fn are_halves(cells: &[SmallGain], from: usize, n: usize) -> bool
+    requires { from + n ≤ length cells.now }
+    ensures { IsTrue result → AreHalves cells.now from n }
+{
+    let mut bits = 0u64;
+    for i in 0..n {
+        bits |= bits_of(cells[from + i]);
+    }
+    is_half(bits)
+}
+
+/// The product of two numbers from 0 and below 2^32.
+fn half_product(a: SmallGain, b: SmallGain) -> SmallGain
+    requires { (cast_unsigned w64 a.0 < 2 ^ 32) × (cast_unsigned w64 b.0 < 2 ^ 32)
+        × (nat_abs a.0 * nat_abs b.0 ≤ 2 ^ 63 - 1) }
+    ensures { result ≡ small_gain_kind.times a b }
+{
+    SmallGain(half_times(bits_of(a), bits_of(b)).cast_signed())
+}
+
+/// The product of two halves of words.
+fn half_times(a: u64, b: u64) -> u64
+    requires { (a < 2 ^ 32) × (b < 2 ^ 32) }
+    ensures { result ≡ a * b }
+{
+    (a as u32 as u64) * (b as u32 as u64)
 }

@@ -16,6 +16,10 @@ impl Cell for SmallMass {
 
     ghost of_value = { λ _. small_mass_of 1 };
 
+    ghost bits = { λ _. 0 };
+
+    ghost narrow = { 0 };
+
     ghost laws = { small_mass_laws };
 
     ghost sizes = { small_mass_sizes };

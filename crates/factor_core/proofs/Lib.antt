@@ -26,3 +26,4 @@ pub mod Reordering
 pub mod ListTables
 pub mod FirstTables
 pub mod SmallTables
+pub mod Straight

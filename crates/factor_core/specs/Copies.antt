@@ -7,6 +7,7 @@ use Rattle.ring_sums.specs.Tables.{Table}
 use Rattle.cell_rings.specs.Rings.{Ring}
 use Rattle.cell_rings.specs.Sums.{cell_at}
 use Rattle.factor_core.specs.Slots.{picked}
+use Rattle.factor_core.specs.Tables.{states_in}
 use Rattle.factor_core.specs.declared.copies.Step.{Step}
 
 -- f 0, f 1, .., f (n - 1) one after another
@@ -51,6 +52,10 @@ pub record CanCopy (Fit : Type 0) (n : ℕ) (steps : List Step) (from len at : �
 abbrev pub list_stride : (ℕ → ℕ) → List ℕ → ℕ → ℕ
 list_stride count [] u = 0
 list_stride count (x ∷ xs) u = if x == u then rows_under count xs else list_stride count xs u
+
+-- the steps of a copy of such cells to places that stand with the first node of the order slowest
+abbrev pub steps_in : List ℕ → List ℕ → List ℕ → List Step
+steps_in counts list order = steps_of (states_in counts) (list_stride (states_in counts) list) order
 
 -- the table whose cells stand in that order
 abbrev pub list_table : {C : Type 0} → Ring C → List NodeView → List ℕ → List C → Table C

@@ -6,3 +6,4 @@ pub mod Scopes
 pub mod Tables
 pub mod Spaces
 pub mod Trials
+pub mod Narrow

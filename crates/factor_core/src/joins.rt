@@ -6,6 +6,7 @@ ghost use Rattle.node_sets.specs.Sets.{holds};
 ghost use Rattle.finite_sums.specs.Sums.{InRange};
 ghost use Rattle.factor_core.specs.Tables.{listed, CanJoin, states_in, place_of, join_cell};
 
+use crate::narrow::find_narrow;
 use crate::orders::{count_nodes, insert_node, list_nodes, summed_place};
 use crate::setting::{set_axes, set_places, set_strides};
 use crate::short_walks::walk_over;
@@ -47,7 +48,10 @@ fn join_in<C: Cell>(
     set_places(places, slots);
     let axes = before(axes, n);
     let strides = before(strides, n * slots.len());
-    walk_over(axes, strides, cells, &mut places[..slots.len()], out, 0);
+    let joined = out.len().saturating_mul(counts[node]);
+    let narrow = find_narrow(slots, joined, cells);
+    let places = &mut places[..slots.len()];
+    walk_over(narrow, axes, strides, cells, places, out, 0);
 }
 
 /// A join of few slots over few nodes.

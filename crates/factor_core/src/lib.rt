@@ -6,6 +6,7 @@ mod appending;
 mod copies;
 mod firsts;
 mod joins;
+mod narrow;
 mod orders;
 mod products;
 mod reading;

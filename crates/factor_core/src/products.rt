@@ -6,6 +6,7 @@ ghost use Rattle.node_sets.specs.Sets.{holds};
 ghost use Rattle.finite_sums.specs.Sums.{InRange};
 ghost use Rattle.factor_core.specs.Tables.{listed, CanMultiply, states_in, place_of, product_cell};
 
+use crate::narrow::Narrow;
 use crate::orders::{count_nodes, list_nodes};
 use crate::setting::{set_axes, set_places, set_strides};
 use crate::short_walks::walk_over;
@@ -43,7 +44,8 @@ fn multiply_in<C: Cell>(
     set_places(places, slots);
     let axes = before(axes, n);
     let strides = before(strides, n * slots.len());
-    walk_over(axes, strides, cells, &mut places[..slots.len()], out, 0);
+    let places = &mut places[..slots.len()];
+    walk_over(Narrow::none(), axes, strides, cells, places, out, 0);
 }
 
 /// A product of few slots over few nodes.

@@ -2,8 +2,10 @@
 
 ghost use Rattle.std.specs.Prelude.{◌≡◌, ◌+◌, ◌*◌, ◌<◌, ◌≤◌, ℕ, length, drop, [], ◌∷◌, IsTrue};
 ghost use Rattle.cell_rings.specs.Sums.{Adds};
+ghost use Rattle.factor_core.specs.Narrow.{AreNarrow};
 ghost use Rattle.factor_core.specs.Walks.{total, CanWalk, IsPair};
 
+use crate::narrow::Narrow;
 use crate::walks::{Axis, add_at, advance, after, product, walk};
 use cell_rings::Cell;
 
@@ -11,7 +13,7 @@ use cell_rings::Cell;
 pub const LONG: usize = 8;
 
 /// The most operands that are counted by the compiler.
-pub const FEW: usize = 4;
+pub const FEW: usize = 12;
 
 /// The strides below the first row, which has one for each place.
 fn rows_below<'a>(strides: &'a [usize], places: &[usize]) -> &'a [usize]
@@ -243,8 +245,9 @@ fn is_short(axes: &[Axis], behind: usize) -> bool {
     axes.len() <= behind || axes[axes.len() - 1 - behind].states < LONG
 }
 
-/// The walk over the axes, cell by cell where there are few operands and the last axes are short.
-pub fn walk_over<C: Cell>(
+/// The walk over the axes, cell by cell where there are N operands.
+fn walk_counted<C: Cell, const N: usize>(
+    narrow: Narrow,
     axes: &[Axis],
     strides: &[usize],
     cells: &[C],
@@ -252,18 +255,68 @@ pub fn walk_over<C: Cell>(
     out: &mut [C],
     at: usize,
 )
-    requires { CanWalk C.ring cells.now axes.now strides.now places.old out.old at }
+    requires few { N ≤ 12 }
+    requires narrow { AreNarrow C.ring C.bits C.narrow cells.now narrow }
+    requires can { CanWalk C.ring cells.now axes.now strides.now places.old out.old at }
+    ensures { Adds C.ring (total C.ring cells.now axes.now strides.now places.old at) out.old
+        out.new }
+{
+    match places.as_array::<N>() {
+        Some(places) => walk_cells(axes, strides, cells, places, out, at),
+        None => walk(narrow, axes, strides, cells, places, out, at),
+    }
+}
+
+/// The walk over the axes, cell by cell where there are few operands.
+fn walk_few<C: Cell>(
+    narrow: Narrow,
+    axes: &[Axis],
+    strides: &[usize],
+    cells: &[C],
+    places: &mut [usize],
+    out: &mut [C],
+    at: usize,
+)
+    requires narrow { AreNarrow C.ring C.bits C.narrow cells.now narrow }
+    requires can { CanWalk C.ring cells.now axes.now strides.now places.old out.old at }
+    ensures { Adds C.ring (total C.ring cells.now axes.now strides.now places.old at) out.old
+        out.new }
+{
+    match places.len() {
+        1 => walk_counted::<C, 1>(narrow, axes, strides, cells, places, out, at),
+        2 => walk_counted::<C, 2>(narrow, axes, strides, cells, places, out, at),
+        3 => walk_counted::<C, 3>(narrow, axes, strides, cells, places, out, at),
+        4 => walk_counted::<C, 4>(narrow, axes, strides, cells, places, out, at),
+        5 => walk_counted::<C, 5>(narrow, axes, strides, cells, places, out, at),
+        6 => walk_counted::<C, 6>(narrow, axes, strides, cells, places, out, at),
+        7 => walk_counted::<C, 7>(narrow, axes, strides, cells, places, out, at),
+        8 => walk_counted::<C, 8>(narrow, axes, strides, cells, places, out, at),
+        9 => walk_counted::<C, 9>(narrow, axes, strides, cells, places, out, at),
+        10 => walk_counted::<C, 10>(narrow, axes, strides, cells, places, out, at),
+        11 => walk_counted::<C, 11>(narrow, axes, strides, cells, places, out, at),
+        12 => walk_counted::<C, 12>(narrow, axes, strides, cells, places, out, at),
+        _ => walk(narrow, axes, strides, cells, places, out, at),
+    }
+}
+
+/// The walk over the axes, cell by cell where there are few operands and the last axes are short.
+pub fn walk_over<C: Cell>(
+    narrow: Narrow,
+    axes: &[Axis],
+    strides: &[usize],
+    cells: &[C],
+    places: &mut [usize],
+    out: &mut [C],
+    at: usize,
+)
+    requires narrow { AreNarrow C.ring C.bits C.narrow cells.now narrow }
+    requires can { CanWalk C.ring cells.now axes.now strides.now places.old out.old at }
     ensures { Adds C.ring (total C.ring cells.now axes.now strides.now places.old at) out.old
         out.new }
 {
     if is_short(axes, 0) && is_short(axes, 1) {
-        match *places {
-            [a] => return walk_cells(axes, strides, cells, &[a], out, at),
-            [a, b] => return walk_cells(axes, strides, cells, &[a, b], out, at),
-            [a, b, c] => return walk_cells(axes, strides, cells, &[a, b, c], out, at),
-            [a, b, c, d] => return walk_cells(axes, strides, cells, &[a, b, c, d], out, at),
-            _ => {}
-        }
+        walk_few(narrow, axes, strides, cells, places, out, at);
+        return;
     }
-    walk(axes, strides, cells, places, out, at);
+    walk(narrow, axes, strides, cells, places, out, at);
 }

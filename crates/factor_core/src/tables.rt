@@ -1,6 +1,6 @@
 //! First tables of nodes, behind the first cells of a list.
 
-ghost use Rattle.std.specs.Prelude.{◌≡◌, ◌+◌, ◌^◌, ◌<◌, ◌≤◌, ℕ, All, Contains, ◌++◌, [], ◌∷◌, drop, if◌then◌else◌, length, take};
+ghost use Rattle.std.specs.Prelude.{◌≡◌, ◌+◌, ◌-◌, ◌^◌, IsTrue, ◌<◌, ◌≤◌, ℕ, All, Contains, ◌++◌, [], ◌∷◌, drop, if◌then◌else◌, length, take};
 ghost use Rattle.maid_model.specs.declared.limits.TheConstants.{MOST_PARENTS, MOST_PLAN_CELLS};
 ghost use Rattle.node_sets.specs.declared.sets.TheConstants.{MOST_NODES};
 ghost use Rattle.node_sets.specs.Sets.{holds};
@@ -8,7 +8,7 @@ ghost use Rattle.maid_model.specs.Graph.{AllDifferent};
 ghost use Rattle.maid_model.specs.Diagrams.{IsDiagram};
 ghost use Rattle.maid_model.specs.Nodes.{counts_of, states_of, rows_under};
 ghost use Rattle.plan_sums.specs.Plans.{has};
-ghost use Rattle.factor_core.specs.Copies.{steps_of, list_stride, list_table};
+ghost use Rattle.factor_core.specs.Copies.{steps_of, steps_in, list_stride, list_table, gathered, count_of_steps, CanCopy};
 ghost use Rattle.factor_core.specs.Slots.{space, AppendsTable};
 ghost use Rattle.factor_core.specs.Tables.{AreCounts, states_in};
 
@@ -72,6 +72,78 @@ fn set_list_steps(steps: &mut [Step], counts: &[usize], list: &[usize], order: &
     }
 }
 
+/// Whether the lists are the same.
+fn is_same(one: &[usize], other: &[usize]) -> bool
+    ensures { IsTrue result → one.now ≡ other.now }
+{
+    one == other
+}
+
+/// Copies the cells of a source to the places from `start` on, in the order in which they stand.
+fn copy_straight<C: Cell, S: Source<C>>(
+    counts: &[usize],
+    list: &[usize],
+    source: &S,
+    all: &mut [C],
+    start: usize,
+)
+    requires counts { AreCounts counts.now }
+    requires list { All (λ v. v < length counts.now) list.now }
+    requires once { AllDifferent list.now }
+    requires fits { rows_under (states_in counts.now) list.now ≤ 2 ^ 32 }
+    requires start { start ≤ length all.old }
+    requires fit { S.is_fit source.now }
+    requires cells { length (S.cells source.now) ≡ rows_under (states_in counts.now) list.now }
+    requires room { rows_under (states_in counts.now) list.now ≤ length all.old - start }
+    ensures { take (start + count_of_steps (steps_in counts.now list.now list.now)) all.new
+        ≡ take start all.old
+        ++ gathered C.ring (S.cells source.now) (steps_in counts.now list.now list.now) 0 }
+{
+    let run = [Step {
+        states: rows_after(counts, list, 0),
+        stride: 1,
+    }];
+    copy_from(&run, source, all, start);
+}
+
+/// Copies the cells of a source, which has them with the first node of the list slowest, to the places from `start` on,
+/// there with the first node of the order slowest.
+fn copy_listed<C: Cell, S: Source<C>>(
+    counts: &[usize],
+    list: &[usize],
+    order: &[usize],
+    source: &S,
+    all: &mut [C],
+    start: usize,
+)
+    requires counts { AreCounts counts.now }
+    requires list { All (λ v. v < length counts.now) list.now }
+    requires order { All (λ v. v < length counts.now) order.now }
+    requires few { length order.now ≤ MOST_PARENTS + 2 }
+    requires once { AllDifferent list.now }
+    requires fits { rows_under (states_in counts.now) list.now ≤ 2 ^ 32 }
+    requires start { start ≤ length all.old }
+    requires fit { S.is_fit source.now }
+    requires cells { length (S.cells source.now) ≡ rows_under (states_in counts.now) list.now }
+    requires room { rows_under (states_in counts.now) list.now ≤ length all.old - start }
+    requires can { CanCopy (S.is_fit source.now) (length (S.cells source.now))
+        (steps_in counts.now list.now order.now) 0 (length all.old - start) 0 }
+    ensures { take (start + count_of_steps (steps_in counts.now list.now order.now)) all.new
+        ≡ take start all.old
+        ++ gathered C.ring (S.cells source.now) (steps_in counts.now list.now order.now) 0 }
+{
+    if is_same(list, order) {
+        copy_straight(counts, list, source, all, start);
+        return;
+    }
+    let mut steps = [Step {
+        states: 1,
+        stride: 0,
+    }; MOST_PARENTS + 2];
+    set_list_steps(&mut steps, counts, list, order);
+    copy_from(before(&steps, order.len()), source, all, start);
+}
+
 /// The nodes of the list.
 fn scope_of(list: &[usize]) -> NodeSet
     requires { (v : ℕ) → Contains list.now v → v < MOST_NODES }
@@ -114,12 +186,7 @@ pub fn write_table<C: Cell, S: Source<C>>(
     let mut order = [0; MOST_PARENTS + 2];
     let n = list_nodes(&mut order, counts.len(), &scope);
     let order = before(&order, n);
-    let mut steps = [Step {
-        states: 1,
-        stride: 0,
-    }; MOST_PARENTS + 2];
-    set_list_steps(&mut steps, counts, list, order);
-    copy_from(before(&steps, n), source, all, used);
+    copy_listed(counts, list, order, source, all, used);
     Slot {
         start: used,
         len,

@@ -2,9 +2,11 @@
 
 ghost use Rattle.std.specs.Prelude.{◌≡◌, ◌==◌, if◌then◌else◌, ℕ, ◌+◌, ◌*◌, ◌^◌, ◌<◌, ◌≤◌, length, take, drop, [], ◌∷◌, All, IsTrue, slice_index};
 ghost use Rattle.cell_rings.specs.Rings.{mass_ring};
-ghost use Rattle.cell_rings.specs.Sums.{ring_sum, cell_at, product_from, product_at, sizes_of, ProductFits, Adds, HasRoom};
+ghost use Rattle.cell_rings.specs.Sums.{ring_sum, run_sum, cell_at, product_from, product_at, sizes_of, ProductFits, Adds, HasRoom};
 ghost use Rattle.factor_core.specs.Walks.{shifted, total, CanWalk, IsRun, IsTurned, IsDot, further, CanAddTwo};
+ghost use Rattle.factor_core.specs.Narrow.{AreNarrow};
 
+use crate::narrow::Narrow;
 use cell_rings::Cell;
 
 /// One axis of a walk: how many states its node has, and how far the result's place moves from one state to the next,
@@ -143,8 +145,40 @@ fn add_turned<C: Cell>(
     C::add_scaled(out, at, axis.states, factor, cells, places[0]);
 }
 
+/// Adds both runs of n cells, each times its factor, the faster way where all of them are narrow.
+fn add_two<C: Cell>(
+    narrow: Narrow,
+    out: &mut [C],
+    at: usize,
+    n: usize,
+    first: C,
+    second: C,
+    cells: &[C],
+    from: usize,
+    beside: usize,
+)
+    requires narrow { AreNarrow C.ring C.bits C.narrow cells.now narrow }
+    requires out { at + n ≤ length out.old }
+    requires cells { (from + n ≤ length cells.now) × (beside + n ≤ length cells.now) }
+    requires room { HasRoom C.ring out.old (run_sum mass_ring n at (λ i.
+        C.ring.size first * C.ring.size (cell_at C.ring cells.now (from + i))
+        + C.ring.size second * C.ring.size (cell_at C.ring cells.now (beside + i)))) }
+    ensures { Adds C.ring
+        (run_sum C.ring n at (λ i.
+        C.ring.plus (C.ring.times first (cell_at C.ring cells.now (from + i)))
+        (C.ring.times second (cell_at C.ring cells.now (beside + i)))))
+        out.old out.new }
+{
+    if narrow.has(from, n) && narrow.has(beside, n) {
+        C::add_two_narrow(out, at, n, first, second, cells, from, beside)
+    } else {
+        C::add_two_scaled(out, at, n, first, second, cells, from, beside)
+    }
+}
+
 /// The walks over a run at two states of the axis above it, whose strides stand first.
 fn add_two_runs<C: Cell>(
+    narrow: Narrow,
     axis: Axis,
     strides: &[usize],
     cells: &[C],
@@ -152,6 +186,7 @@ fn add_two_runs<C: Cell>(
     out: &mut [C],
     at: usize,
 )
+    requires narrow { AreNarrow C.ring C.bits C.narrow cells.now narrow }
     requires run { IsRun axis (drop (length places.old) strides.now) (length places.old) }
     requires can { CanAddTwo C.ring cells.now axis strides.now places.old out.old at }
     ensures adds { Adds C.ring
@@ -169,12 +204,23 @@ fn add_two_runs<C: Cell>(
     advance(places, strides);
     let second = product(cells, before(places, last));
     let beside = places[last];
-    C::add_two_scaled(out, at, axis.states, first, second, cells, from, beside);
+    add_two(
+        narrow,
+        out,
+        at,
+        axis.states,
+        first,
+        second,
+        cells,
+        from,
+        beside,
+    );
     advance(places, strides);
 }
 
 /// The walk over the summed axis and a run, two states at a time.
 fn add_runs<C: Cell>(
+    narrow: Narrow,
     sum: Axis,
     axis: Axis,
     strides: &[usize],
@@ -183,6 +229,7 @@ fn add_runs<C: Cell>(
     out: &mut [C],
     at: usize,
 )
+    requires narrow { AreNarrow C.ring C.bits C.narrow cells.now narrow }
     requires sum { sum.out ≡ 0 }
     requires run { IsRun axis (drop (length places.old) strides.now) (length places.old) }
     requires can { CanWalk C.ring cells.now (sum ∷ (axis ∷ [])) strides.now places.old out.old at }
@@ -193,7 +240,7 @@ fn add_runs<C: Cell>(
     let below = after(strides, places.len());
     let mut s = 0;
     while s + 1 < sum.states {
-        add_two_runs(axis, strides, cells, places, out, at);
+        add_two_runs(narrow, axis, strides, cells, places, out, at);
         s += 2;
     }
     if s == sum.states {
@@ -349,6 +396,7 @@ fn add_axis<C: Cell>(
 
 /// Adds to each cell of the result what the walk over the axes leads there.
 pub fn walk<C: Cell>(
+    narrow: Narrow,
     axes: &[Axis],
     strides: &[usize],
     cells: &[C],
@@ -356,7 +404,8 @@ pub fn walk<C: Cell>(
     out: &mut [C],
     at: usize,
 )
-    requires { CanWalk C.ring cells.now axes.now strides.now places.old out.old at }
+    requires narrow { AreNarrow C.ring C.bits C.narrow cells.now narrow }
+    requires can { CanWalk C.ring cells.now axes.now strides.now places.old out.old at }
     ensures adds { Adds C.ring (total C.ring cells.now axes.now strides.now places.old at) out.old
         out.new }
     ensures places { places.new ≡ places.old }
@@ -373,12 +422,12 @@ pub fn walk<C: Cell>(
     let rest = after(axes, 1);
     let below = after(strides, places.len());
     if axes.len() == 2 && axis.out == 0 && is_run(axes[1], below, places.len()) {
-        add_runs(axis, axes[1], strides, cells, places, out, at);
+        add_runs(narrow, axis, axes[1], strides, cells, places, out, at);
         return;
     }
     let mut place = at;
     for _ in 0..axis.states {
-        walk(rest, below, cells, places, out, place);
+        walk(narrow, rest, below, cells, places, out, place);
         place += axis.out;
         advance(places, strides);
     }

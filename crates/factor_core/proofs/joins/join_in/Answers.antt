@@ -20,8 +20,8 @@ set_strides-requires-clause-order g c =
     let is : c.before-order.result.now ≡ order m.laws m.sizes c.args.cells.now c.args.counts.now c.args.slots.now c.args.node c.args.scope.now c.args.out.now c.requires.can c.summed_place-at.result = c.before-order.ensures ∙ c.insert_node.ensures ∙ ap (with_extra c.summed_place-at.result c.args.node) c.list_nodes-kept.ensures.list in
     subst (All (λ v. v < length c.args.counts.now)) (sym is) (order_below m.laws m.sizes c.args.cells.now c.args.counts.now c.args.slots.now c.args.node c.args.scope.now c.args.out.now c.requires.can c.summed_place-at.result)
 
-pub walk_over-requires : goal.walk_over-requires
-walk_over-requires g c =
+pub walk_over-requires-clause-can : goal.walk_over-requires-clause-can
+walk_over-requires-clause-can g c =
     let m = g.met.C.Cell in
     let is : c.before-order.result.now ≡ order m.laws m.sizes c.args.cells.now c.args.counts.now c.args.slots.now c.args.node c.args.scope.now c.args.out.now c.requires.can c.summed_place-at.result = c.before-order.ensures ∙ c.insert_node.ensures ∙ ap (with_extra c.summed_place-at.result c.args.node) c.list_nodes-kept.ensures.list in
     let counts = c.args.counts.now in

@@ -3,7 +3,7 @@ use Rattle.std.proofs.lemmas.List.{length-drop}
 use Rattle.cell_rings.specs.Sums.{Adds}
 use Rattle.factor_core.specs.Walks.{shifted, total}
 use Rattle.factor_core.proofs.Shifts.{shifted_none, length-shifted}
-use Rattle.factor_core.proofs.Walking.{first_of, three_axes, can_walk, split, one_row, strides_enough, place_fits, advance_fits, advanced, can_next, adds_first, adds_next, adds_all, retreat_fits, retreated}
+use Rattle.factor_core.proofs.Walking.{first_of, three_axes, can_walk, split, one_row, strides_enough, place_fits, advance_fits, advanced, can_next, adds_first, adds_next, adds_all}
 use Rattle.factor_core.proofs.short_walks.+walk_cells.Goals as goal
 
 pub returns-then-is_pair-2 : goal.returns-then-is_pair-2

@@ -4,7 +4,7 @@ use Rattle.cell_rings.specs.Sums.{product_at, sizes_of, Adds}
 use Rattle.cell_rings.proofs.Runs.{chosen}
 use Rattle.factor_core.specs.Walks.{shifted}
 use Rattle.factor_core.proofs.Shifts.{shifted_none, length-shifted}
-use Rattle.factor_core.proofs.Walking.{strides_enough, place_fits, advance_fits, advanced, can_next, adds_first, adds_next, adds_all, retreat_fits, retreated}
+use Rattle.factor_core.proofs.Walking.{strides_enough, place_fits, advance_fits, advanced, can_next, adds_first, adds_next, adds_all}
 use Rattle.factor_core.proofs.short_walks.add_each.Goals as goal
 
 pub loop-init : goal.loop-init

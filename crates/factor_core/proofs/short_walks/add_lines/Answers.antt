@@ -1,9 +1,6 @@
-use Rattle.std.proofs.Common.{rules, ◌≡◌, ◌<◌, length, ◌∷◌, [], arith, refl, sym, ap, subst, ◌∙◌}
-use Rattle.std.proofs.lemmas.List.{length-drop}
-use Rattle.cell_rings.specs.Sums.{Adds}
-use Rattle.factor_core.specs.Walks.{shifted, total}
+use Rattle.std.proofs.Common.{rules, ◌≡◌, length, ◌∷◌, [], arith, refl, sym, ap}
 use Rattle.factor_core.proofs.Shifts.{shifted_none, length-shifted}
-use Rattle.factor_core.proofs.Walking.{first_of, can_walk, split, one_row, strides_enough, place_fits, advance_fits, advanced, can_next, adds_first, adds_next, adds_all, retreat_fits, retreated}
+use Rattle.factor_core.proofs.Walking.{strides_enough, place_fits, advance_fits, advanced, can_next, adds_first, adds_next, adds_all}
 use Rattle.factor_core.proofs.short_walks.add_lines.Goals as goal
 
 pub loop-init : goal.loop-init

@@ -1,4 +1,4 @@
-use Rattle.std.proofs.Common.{rules, ◌≡◌, ◌≤◌, ◌<◌, drop, length, [], refl, sym, subst, arith}
+use Rattle.std.proofs.Common.{rules, ◌≡◌, ◌≤◌, drop, length, [], refl, sym, subst, arith}
 use Rattle.cell_rings.specs.Rings.{mass_ring}
 use Rattle.cell_rings.specs.Sums.{product_at, sizes_of}
 use Rattle.factor_core.specs.Walks.{shifted}

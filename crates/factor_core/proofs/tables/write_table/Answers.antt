@@ -1,14 +1,13 @@
 -- The cells of the source stand along the steps over the nodes in ascending order, with the strides of the list.
 use Rattle.std.proofs.Common.{rules, ◌≡◌, ◌∙◌, ◌+◌, ◌-◌, ◌<◌, ◌≤◌, ◌++◌, length, take, sym, ap, subst, arith, All}
 use Rattle.std.proofs.Math.Path.{fun_ext}
-use Rattle.std.proofs.lemmas.List.{length-take-le}
 use Rattle.finite_sums.specs.Sums.{InRange}
 use Rattle.maid_model.specs.Nodes.{states_of, counts_of, rows_under}
 use Rattle.maid_model.specs.Tables.{row_from}
 use Rattle.node_sets.specs.Sets.{holds}
 use Rattle.plan_sums.specs.Plans.{has}
 use Rattle.cell_rings.specs.Sums.{cell_at}
-use Rattle.factor_core.specs.Copies.{gathered, count_of_steps, steps_of, CanCopy, list_stride, list_table}
+use Rattle.factor_core.specs.Copies.{gathered, count_of_steps, steps_of, steps_in, CanCopy, list_stride, list_table}
 use Rattle.factor_core.specs.Slots.{nodes_in, cells_over}
 use Rattle.factor_core.specs.Tables.{AreCounts, listed, states_in, size_of, place_of, out_place}
 use Rattle.factor_core.proofs.Behind.{ends_within, size_small}
@@ -52,34 +51,46 @@ list_nodes-n-requires-clause-room g c =
     let order_is : listed (holds c.scope_of-scope.result) 0 (length counts) ≡ nodes_in d.nodes (has list) = ap (λ h. listed h 0 (length counts)) (fun_ext c.scope_of-scope.ensures) ∙ ap (λ cs. listed (has list) 0 (length cs)) is ∙ nodes_are d.nodes (has list) in
     omega (arith, ap length order_is, length_shuffled mixed, c.requires.few)
 
-pub set_list_steps-requires-clause-counts : goal.set_list_steps-requires-clause-counts
-set_list_steps-requires-clause-counts g c =
+pub copy_listed-requires-clause-counts : goal.copy_listed-requires-clause-counts
+copy_listed-requires-clause-counts g c =
     let d = c.args.diagram.now in
     let counts = c.args.counts.now in
     let is : c.args.counts.now ≡ counts_of d.nodes = c.requires.counts in
     subst AreCounts (sym is) (are_counts d c.requires.diagram)
 
-pub set_list_steps-requires-clause-list : goal.set_list_steps-requires-clause-list
-set_list_steps-requires-clause-list g c =
+pub copy_listed-requires-clause-list : goal.copy_listed-requires-clause-list
+copy_listed-requires-clause-list g c =
     let d = c.args.diagram.now in
     let counts = c.args.counts.now in
     let is : c.args.counts.now ≡ counts_of d.nodes = c.requires.counts in
     below_of (length counts) c.args.list.now (λ v m. let k = c.requires.known v m in omega (arith, k, ap length is, counts_length d.nodes))
 
-pub set_list_steps-requires-clause-order : goal.set_list_steps-requires-clause-order
-set_list_steps-requires-clause-order g c =
+pub copy_listed-requires-clause-order : goal.copy_listed-requires-clause-order
+copy_listed-requires-clause-order g c =
     let n = length c.args.counts.now in
     subst (All (λ v. v < n)) (sym (c.before-order.ensures ∙ c.list_nodes-n.ensures.list)) (listed_below (holds c.scope_of-scope.result) n n 0 (omega arith))
 
-pub set_list_steps-requires-clause-fits : goal.set_list_steps-requires-clause-fits
-set_list_steps-requires-clause-fits g c =
+pub copy_listed-requires-clause-fits : goal.copy_listed-requires-clause-fits
+copy_listed-requires-clause-fits g c =
     let d = c.args.diagram.now in
     let counts = c.args.counts.now in
     let is : c.args.counts.now ≡ counts_of d.nodes = c.requires.counts in
     omega (arith, ap (λ f. rows_under f c.args.list.now) (ap states_in is ∙ states_is d.nodes), c.requires.room, c.requires.short)
 
-pub copy_from-requires-clause-can : goal.copy_from-requires-clause-can
-copy_from-requires-clause-can g c =
+pub copy_listed-requires-clause-cells : goal.copy_listed-requires-clause-cells
+copy_listed-requires-clause-cells g c =
+    let d = c.args.diagram.now in
+    let is : c.args.counts.now ≡ counts_of d.nodes = c.requires.counts in
+    c.requires.cells ∙ sym (ap (λ f. rows_under f c.args.list.now) (ap states_in is ∙ states_is d.nodes))
+
+pub copy_listed-requires-clause-room : goal.copy_listed-requires-clause-room
+copy_listed-requires-clause-room g c =
+    let d = c.args.diagram.now in
+    let is : c.args.counts.now ≡ counts_of d.nodes = c.requires.counts in
+    omega (arith, ap (λ f. rows_under f c.args.list.now) (ap states_in is ∙ states_is d.nodes), c.requires.room)
+
+pub copy_listed-requires-clause-can : goal.copy_listed-requires-clause-can
+copy_listed-requires-clause-can g c =
     let d = c.args.diagram.now in
     let counts = c.args.counts.now in
     let is : c.args.counts.now ≡ counts_of d.nodes = c.requires.counts in
@@ -95,8 +106,7 @@ copy_from-requires-clause-can g c =
     let mixed = shuffled_nodes d.nodes (has list) list c.requires.once (has_is list) (λ v t. c.requires.known v ((has_is list v).1 t)) in
     let order_is : order ≡ nodes_in d.nodes (has list) = ap (λ h. listed h 0 (length counts)) (fun_ext c.scope_of-scope.ensures) ∙ ap (λ cs. listed (has list) 0 (length cs)) is ∙ nodes_are d.nodes (has list) in
     let listed_is : c.before-order.result.now ≡ order = c.before-order.ensures ∙ c.list_nodes-n.ensures.list in
-    let len : length c.before-order.result.now ≡ c.list_nodes-n.result = ap length c.before-order.ensures ∙ length-take-le c.list_nodes-n.result c.list_nodes-n.new.order (search rules) in
-    let steps : c.before-2.result.now ≡ steps_of (states_in counts) stride order = c.before-2.ensures ∙ ap (λ k. take k c.set_list_steps.new.steps) (sym len) ∙ c.set_list_steps.ensures ∙ ap (steps_of (states_in counts) stride) listed_is in
+    let steps : steps_in counts list c.before-order.result.now ≡ steps_of (states_in counts) stride order = ap (steps_of (states_in counts) stride) listed_is in
     let rows : count_of_steps (steps_of (states_in counts) stride order) ≡ rows_under (states_of d.nodes) list =
     count_is r (states_in counts) stride order ∙ ap (rows_under (states_in counts)) order_is ∙ ap (λ f. rows_under f (nodes_in d.nodes (has list))) counts_are ∙ sym (rows_shuffled (states_of d.nodes) mixed) in
     let cells = g.S.Source.cells c.args.source.now in
@@ -118,7 +128,7 @@ returns-clause-len g c =
     let list = c.args.list.now in
     let mixed = shuffled_nodes d.nodes (has list) list c.requires.once (has_is list) (λ v t. c.requires.known v ((has_is list v).1 t)) in
     let room : cells_over d.nodes (has list) ≤ length c.args.all.now - c.args.used = omega (arith, rows_shuffled (states_of d.nodes) mixed, c.requires.room) in
-    let same : length c.copy_from.new.all ≡ length c.args.all.now = search rules in
+    let same : length c.copy_listed.new.all ≡ length c.args.all.now = search rules in
     omega (arith, same, c.table_size-len.ensures, ends_within d.nodes counts is c.scope_of-scope.result (has list) c.scope_of-scope.ensures c.args.all.now c.args.used c.requires.used room)
 
 pub returns-clause-table : goal.returns-clause-table
@@ -129,7 +139,7 @@ returns-clause-table g c =
     let r = g.C.Cell.ring in
     let used = c.args.used in
     let all = c.args.all.now in
-    let new = c.copy_from.new.all in
+    let new = c.copy_listed.new.all in
     let list = c.args.list.now in
     let scope = c.scope_of-scope.result in
     let order = listed (holds scope) 0 (length counts) in
@@ -140,14 +150,13 @@ returns-clause-table g c =
     let ends = ends_within d.nodes counts is scope (has list) c.scope_of-scope.ensures all used c.requires.used room in
     let order_is : order ≡ nodes_in d.nodes (has list) = ap (λ h. listed h 0 (length counts)) (fun_ext c.scope_of-scope.ensures) ∙ ap (λ cs. listed (has list) 0 (length cs)) is ∙ nodes_are d.nodes (has list) in
     let listed_is : c.before-order.result.now ≡ order = c.before-order.ensures ∙ c.list_nodes-n.ensures.list in
-    let len : length c.before-order.result.now ≡ c.list_nodes-n.result = ap length c.before-order.ensures ∙ length-take-le c.list_nodes-n.result c.list_nodes-n.new.order (search rules) in
-    let steps : c.before-2.result.now ≡ steps_of (states_in counts) stride order = c.before-2.ensures ∙ ap (λ k. take k c.set_list_steps.new.steps) (sym len) ∙ c.set_list_steps.ensures ∙ ap (steps_of (states_in counts) stride) listed_is in
+    let steps : steps_in counts list c.before-order.result.now ≡ steps_of (states_in counts) stride order = ap (steps_of (states_in counts) stride) listed_is in
     let size : count_of_steps (steps_of (states_in counts) stride order) ≡ size_of counts scope = count_is r (states_in counts) stride order ∙ sym (size_is (states_in counts) (holds scope) (length counts) 0) in
     let cells = g.S.Source.cells c.args.source.now in
     let copied = gathered r cells (steps_of (states_in counts) stride order) 0 in
     let long : length copied ≡ c.table_size-len.result = length-gathered r cells (steps_of (states_in counts) stride order) 0 ∙ size ∙ sym c.table_size-len.ensures in
     let written : take (used + c.table_size-len.result) new ≡ take used all ++ copied =
-    ap (λ k. take (used + k) new) (c.table_size-len.ensures ∙ sym size ∙ ap count_of_steps (sym steps)) ∙ c.copy_from.ensures ∙ ap (λ l. take used all ++ gathered r cells l 0) steps in
+    ap (λ k. take (used + k) new) (c.table_size-len.ensures ∙ sym size ∙ ap count_of_steps (sym steps)) ∙ c.copy_listed.ensures ∙ ap (λ l. take used all ++ gathered r cells l 0) steps in
     let same : length new ≡ length all = search rules in
     appends_table r d.nodes all new used c.table_size-len.result same
     (omega (arith, c.table_size-len.ensures, ends))

@@ -39,13 +39,13 @@ product-second-requires-clause-fits g c =
     let front_next : c.before-3.result.now ≡ take (length (shifted 1 c.args.strides.now c.args.places.now) - 1) (shifted 1 c.args.strides.now c.args.places.now) = front ∙ ap (λ n. take (n - 1) (shifted 1 c.args.strides.now c.args.places.now)) (sym same) in
     subst (ProductFits g.C.Cell.ring c.args.cells.now 1) (sym front_next) (run_fits m.laws m.sizes c.args.cells.now c.args.axis (drop (length c.args.places.now) c.args.strides.now) (shifted 1 c.args.strides.now c.args.places.now) c.args.out.now c.args.at (run_next m.laws m.sizes c.args.cells.now c.args.axis c.args.strides.now c.args.places.now c.args.out.now c.args.at c.requires.run c.requires.can) c.requires.can.second)
 
-pub add_two_scaled-requires-clause-out : goal.add_two_scaled-requires-clause-out
-add_two_scaled-requires-clause-out g c =
+pub add_two-requires-clause-out : goal.add_two-requires-clause-out
+add_two-requires-clause-out g c =
     let m = g.met.C.Cell in
     run_in_out m.laws m.sizes c.args.cells.now c.args.axis (drop (length c.args.places.now) c.args.strides.now) c.args.places.now c.args.out.now c.args.at c.requires.run c.requires.can.first
 
-pub add_two_scaled-requires-clause-cells : goal.add_two_scaled-requires-clause-cells
-add_two_scaled-requires-clause-cells g c =
+pub add_two-requires-clause-cells : goal.add_two-requires-clause-cells
+add_two-requires-clause-cells g c =
     let m = g.met.C.Cell in
     let moved : c.advance.new.places ≡ shifted 1 c.args.strides.now c.args.places.now = once m.laws m.sizes c.args.cells.now c.args.axis c.args.strides.now c.args.places.now c.args.out.now c.args.at c.requires.run c.requires.can c.advance.new.places (search rules) c.advance.ensures in
     let same : length (shifted 1 c.args.strides.now c.args.places.now) ≡ length c.args.places.now = length_next m.laws m.sizes c.args.cells.now c.args.axis c.args.strides.now c.args.places.now c.args.out.now c.args.at c.requires.run c.requires.can in
@@ -53,8 +53,8 @@ add_two_scaled-requires-clause-cells g c =
     let there : get_or c.advance.new.places (length c.args.places.now - 1) 0 ≡ get_or (shifted 1 c.args.strides.now c.args.places.now) (length (shifted 1 c.args.strides.now c.args.places.now) - 1) 0 = ap (λ ps. get_or ps (length c.args.places.now - 1) 0) moved ∙ ap (λ n. get_or (shifted 1 c.args.strides.now c.args.places.now) (n - 1) 0) (sym same) in
     (run_in_cells m.laws m.sizes c.args.cells.now c.args.axis (drop (length c.args.places.now) c.args.strides.now) c.args.places.now c.args.out.now c.args.at c.requires.run c.requires.can.first, omega (arith, second, there))
 
-pub add_two_scaled-requires-clause-room : goal.add_two_scaled-requires-clause-room
-add_two_scaled-requires-clause-room g c =
+pub add_two-requires-clause-room : goal.add_two-requires-clause-room
+add_two-requires-clause-room g c =
     let r = g.C.Cell.ring in
     let m = g.met.C.Cell in
     let moved : c.advance.new.places ≡ shifted 1 c.args.strides.now c.args.places.now = once m.laws m.sizes c.args.cells.now c.args.axis c.args.strides.now c.args.places.now c.args.out.now c.args.at c.requires.run c.requires.can c.advance.new.places (search rules) c.advance.ensures in
@@ -78,7 +78,7 @@ returns-clause-adds g c =
     let moved : c.advance.new.places ≡ shifted 1 c.args.strides.now c.args.places.now = once m.laws m.sizes c.args.cells.now c.args.axis c.args.strides.now c.args.places.now c.args.out.now c.args.at c.requires.run c.requires.can c.advance.new.places (search rules) c.advance.ensures in
     let same : length (shifted 1 c.args.strides.now c.args.places.now) ≡ length c.args.places.now = length_next m.laws m.sizes c.args.cells.now c.args.axis c.args.strides.now c.args.places.now c.args.out.now c.args.at c.requires.run c.requires.can in
     let front : c.before-3.result.now ≡ take (length c.args.places.now - 1) (shifted 1 c.args.strides.now c.args.places.now) = c.before-3.ensures ∙ ap (take (length c.args.places.now - 1)) moved in
-    adds_both m.laws m.sizes c.args.cells.now c.args.axis c.args.strides.now c.args.places.now c.args.out.now c.args.at c.requires.run c.requires.can c.product-first.result c.product-second.result (get_or c.args.places.now (length c.args.places.now - 1) 0) (get_or c.advance.new.places (length c.args.places.now - 1) 0) refl (ap (λ ps. get_or ps (length c.args.places.now - 1) 0) moved) (c.product-first.ensures.product ∙ ap (product_at r c.args.cells.now) c.before-2.ensures) (c.product-second.ensures.product ∙ ap (product_at r c.args.cells.now) front) c.add_two_scaled.new.out c.add_two_scaled.ensures
+    adds_both m.laws m.sizes c.args.cells.now c.args.axis c.args.strides.now c.args.places.now c.args.out.now c.args.at c.requires.run c.requires.can c.product-first.result c.product-second.result (get_or c.args.places.now (length c.args.places.now - 1) 0) (get_or c.advance.new.places (length c.args.places.now - 1) 0) refl (ap (λ ps. get_or ps (length c.args.places.now - 1) 0) moved) (c.product-first.ensures.product ∙ ap (product_at r c.args.cells.now) c.before-2.ensures) (c.product-second.ensures.product ∙ ap (product_at r c.args.cells.now) front) c.add_two.new.out c.add_two.ensures
 
 pub returns-clause-places : goal.returns-clause-places
 returns-clause-places g c =

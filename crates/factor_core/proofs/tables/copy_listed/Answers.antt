@@ -1,0 +1,11 @@
+use Rattle.std.proofs.Common.{rules, ◌≡◌, ◌+◌, ◌++◌, take, subst}
+use Rattle.factor_core.specs.Copies.{gathered, count_of_steps, steps_in}
+use Rattle.factor_core.proofs.tables.copy_listed.Goals as goal
+
+pub returns-then-is_same : goal.returns-then-is_same
+returns-then-is_same g c =
+    let counts = c.args.counts.now in
+    let list = c.args.list.now in
+    let r = g.C.Cell.ring in
+    let cells = g.S.Source.cells c.args.source.now in
+    subst (λ order. take (c.args.start + count_of_steps (steps_in counts list order)) c.copy_straight.new.all ≡ take c.args.start c.args.all.now ++ gathered r cells (steps_in counts list order) 0) (c.is_same.ensures (search rules)) c.copy_straight.ensures

@@ -1,0 +1,63 @@
+//! Stretches of narrow cells, which are multiplied faster.
+
+ghost use Rattle.std.specs.Prelude.{◌≡◌, ◌+◌, ◌≤◌, IsTrue};
+ghost use Rattle.factor_core.specs.Narrow.{AreNarrow};
+
+use crate::slots::Slot;
+use cell_rings::Cell;
+
+/// How many cells a join has to have before it looks whether those of its last slot are narrow.
+const MANY: usize = 4096;
+
+/// How often it has to use each of these.
+const OFTEN: usize = 4;
+
+/// The places of cells that are narrow, from one on and below another.
+#[derive(Clone, Copy)]
+pub struct Narrow {
+    pub from: usize,
+    pub end: usize,
+}
+
+impl Narrow {
+    /// No place.
+    pub fn none() -> Narrow
+        ensures { result.end ≡ 0 }
+    {
+        Narrow { from: 0, end: 0 }
+    }
+
+    /// Whether the n places from one on are among them.
+    pub fn has(self, from: usize, n: usize) -> bool
+        ensures { IsTrue result → (self.from ≤ from) × (from + n ≤ self.end) }
+    {
+        self.from <= from && from <= self.end && n <= self.end - from
+    }
+}
+
+/// Where the slot's cells are narrow, their places.
+fn narrow_slot<C: Cell>(slot: &Slot, cells: &[C]) -> Narrow
+    ensures { AreNarrow C.ring C.bits C.narrow cells.now result }
+{
+    match slot.start.checked_add(slot.len) {
+        Some(end) if end <= cells.len() && C::are_narrow(cells, slot.start, slot.len) => Narrow {
+            from: slot.start,
+            end,
+        },
+        _ => Narrow::none(),
+    }
+}
+
+/// Where a join of many cells uses each cell of its last slot often, and these are narrow, their places.
+pub fn find_narrow<C: Cell>(slots: &[Slot], joined: usize, cells: &[C]) -> Narrow
+    ensures { AreNarrow C.ring C.bits C.narrow cells.now result }
+{
+    if joined < MANY || slots.is_empty() {
+        return Narrow::none();
+    }
+    let slot = &slots[slots.len() - 1];
+    if joined / OFTEN < slot.len {
+        return Narrow::none();
+    }
+    narrow_slot(slot, cells)
+}
