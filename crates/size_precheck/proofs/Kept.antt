@@ -1,7 +1,7 @@
 -- Plans that were made and kept, place by place.
-use Rattle.std.proofs.Common.{◌≡◌, ◌∙◌, ◌↔◌, ℕ, zero, suc, ◌+◌, ◌<◌, ◌≤◌, ◌^◌, max, List, [], ◌∷◌, ◌++◌, map, length, take, get_or, refl, sym, ap, subst, arith}
+use Rattle.std.proofs.Common.{◌≡◌, ◌∙◌, ◌↔◌, ℕ, zero, suc, ◌+◌, ◌<◌, ◌≤◌, ◌^◌, max, Bool, true, false, cond, filter, List, [], ◌∷◌, ◌++◌, map, length, take, get_or, refl, sym, ap, subst, arith}
 use Rattle.std.specs.Prelude.{flat_map}
-use Rattle.std.specs.List.{AllZip}
+use Rattle.std.specs.List.{AllZip, range_with_len}
 use Rattle.std.proofs.lemmas.List.{take_more}
 use Rattle.ring_sums.proofs.Same.{map_append}
 use Rattle.ring_sums.proofs.Each.{zip_append}
@@ -19,7 +19,7 @@ use Rattle.size_precheck.specs.Joints.{SomeOf, IsListOf}
 use Rattle.size_precheck.specs.Runs.{Includes}
 use Rattle.size_precheck.specs.Sizes.{SizedPlan, IsPlanned, ArePlansOf, goal_list, is_goal}
 use Rattle.size_precheck.proofs.Lists.{each_at, some_at}
-use Rattle.size_precheck.proofs.Measuring.{goal_tested, include_made, include_none, include_row, include_list, include_then}
+use Rattle.size_precheck.proofs.Measuring.{filter_more, goal_tested, include_made, include_none, include_row, include_list, include_then}
 use Rattle.size_precheck.proofs.Planning.{rising_filter, rising_range}
 use Rattle.size_precheck.proofs.Putting.{contains_some, rising_same, some_contains}
 use Rattle.size_precheck.proofs.Starting.{in_numbers}
@@ -41,6 +41,20 @@ zip_at R (x ∷ xs) (y ∷ ys) (suc k) d e z h = zip_at R xs ys k d e z.1 (omega
 pub zip_next : {A B C : Type 0} (R : C → B → Type 0) (f : A → C) (xs : List A) (ys : List B) (k : ℕ) (d : A) (y : B) → k < length xs → AllZip R (map f (take k xs)) ys → R (f (get_or xs k d)) y → AllZip R (map f (take (k + 1) xs)) (ys ++ y ∷ [])
 zip_next R f xs ys k d y h z r =
     subst (λ l. AllZip R l (ys ++ y ∷ [])) (sym (ap (λ l. map f l) (take_more xs k d h) ∙ map_append f (take k xs) (get_or xs k d ∷ []))) (zip_append R (map f (take k xs)) (f (get_or xs k d) ∷ []) ys (y ∷ []) z (r, tt))
+
+-- one number more, where it passes the test and where it does not
+pub zip_passed : {B C : Type 0} (R : C → B → Type 0) (p : ℕ → Bool) (f : ℕ → C) (n : ℕ) (ys : List B) (y : B) → p n ≡ true → AllZip R (map f (filter p (range_with_len 0 n))) ys → R (f n) y → AllZip R (map f (filter p (range_with_len 0 (n + 1)))) (ys ++ y ∷ [])
+zip_passed R p f n ys y e z r =
+    subst (λ l. AllZip R l (ys ++ y ∷ [])) (sym (filter_more p f n))
+    (zip_append R (map f (filter p (range_with_len 0 n))) (map f (filter p (n ∷ []))) ys (y ∷ []) z (subst (λ (b : Bool). AllZip R (map f (cond b (n ∷ []) [])) (y ∷ [])) (sym e) (r, tt)))
+
+pub zip_failed : {B C : Type 0} (R : C → B → Type 0) (p : ℕ → Bool) (f : ℕ → C) (n : ℕ) (ys : List B) → p n ≡ false → AllZip R (map f (filter p (range_with_len 0 n))) ys → AllZip R (map f (filter p (range_with_len 0 (n + 1)))) ys
+zip_failed {C = C} R p f n ys e z =
+    subst (λ l. AllZip R l ys) (sym (filter_more p f n ∙ ap (λ (b : Bool). map f (filter p (range_with_len 0 n)) ++ map f (cond b (n ∷ []) [])) e ∙ append_none (map f (filter p (range_with_len 0 n))))) z
+  where
+    append_none : (l : List C) → l ++ [] ≡ l
+    append_none [] = refl
+    append_none (x ∷ xs) = ap (λ (l : List C). x ∷ l) (append_none xs)
 
 pub take_none : {X : Type 0} (xs : List X) → take 0 xs ≡ []
 take_none [] = refl

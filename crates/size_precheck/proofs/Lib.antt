@@ -12,5 +12,8 @@ pub mod Orders
 pub mod Measuring
 pub mod Kept
 pub mod Samples
+mod Agreeing
 mod Dividing
 mod Above
+pub mod Joining
+pub mod Classing

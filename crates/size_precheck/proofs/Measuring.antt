@@ -98,8 +98,8 @@ size_of_all nodes plans after h = record {
     none_more n = omega arith
 
 -- ---- one number more of a filter
-pub filter_more : {Y : Type 0} (p : ℕ → Bool) (f : ℕ → Y) (n : ℕ) → map f (filter p (range_with_len 0 (n + 1))) ≡ map f (filter p (range_with_len 0 n)) ++ map f (filter p (n ∷ []))
-filter_more p f n = ap (λ (xs : List ℕ). map f (filter p xs)) (range_more 0 n ∙ ap (λ (x : ℕ). range_with_len 0 n ++ x ∷ []) (omega arith)) ∙ ap (λ (xs : List ℕ). map f xs) (filter_append (range_with_len 0 n) (n ∷ [])) ∙ map_append f (filter p (range_with_len 0 n)) (filter p (n ∷ []))
+pub passed_more : (p : ℕ → Bool) (n : ℕ) → filter p (range_with_len 0 (n + 1)) ≡ filter p (range_with_len 0 n) ++ filter p (n ∷ [])
+passed_more p n = ap (filter p) (range_more 0 n ∙ ap (λ (x : ℕ). range_with_len 0 n ++ x ∷ []) (omega arith)) ∙ filter_append (range_with_len 0 n) (n ∷ [])
   where
     range_more : (k n : ℕ) → range_with_len k (n + 1) ≡ range_with_len k n ++ (k + n) ∷ []
     range_more k n = go k n (n + 1) (omega arith)
@@ -115,6 +115,9 @@ filter_more p f n = ap (λ (xs : List ℕ). map f (filter p xs)) (range_more 0 n
         pick : (b : Bool) → filter p (xs ++ ys) ≡ filter p xs ++ filter p ys → cond b (x ∷ filter p (xs ++ ys)) (filter p (xs ++ ys)) ≡ cond b (x ∷ filter p xs) (filter p xs) ++ filter p ys
         pick true e = ap (λ (zs : List ℕ). x ∷ zs) e
         pick false e = e
+
+pub filter_more : {Y : Type 0} (p : ℕ → Bool) (f : ℕ → Y) (n : ℕ) → map f (filter p (range_with_len 0 (n + 1))) ≡ map f (filter p (range_with_len 0 n)) ++ map f (filter p (n ∷ []))
+filter_more p f n = ap (λ (xs : List ℕ). map f xs) (passed_more p n) ∙ map_append f (filter p (range_with_len 0 n)) (filter p (n ∷ []))
 
 -- ---- the plans may be asked for
 pub row_planned : (nodes : List NodeView) (d : ℕ) → IsGraph nodes → CanBePlanned nodes (row_plan nodes d)

@@ -1,5 +1,5 @@
 -- The nodes, scopes and steps of a plan by the sets and counts of `make_plan`.
-use Rattle.std.proofs.Common.{◌≡◌, ◌∙◌, ◌↔◌, ℕ, zero, suc, ◌+◌, ◌*◌, ◌<◌, Bool, true, false, cond, not, ◌&&◌, ◌||◌, filter, map, List, [], ◌∷◌, ◌++◌, length, refl, sym, ap, subst, inl, inr, arith, Option, Some, None}
+use Rattle.std.proofs.Common.{◌≡◌, ◌≢◌, ◌∙◌, ◌↔◌, ℕ, zero, suc, ◌+◌, ◌*◌, ◌<◌, Bool, true, false, cond, not, ◌&&◌, ◌||◌, filter, map, List, [], ◌∷◌, ◌++◌, length, refl, sym, ap, subst, inl, inr, arith, Option, Some, None}
 use Rattle.std.specs.Prelude.{Contains, option_to_list}
 use Rattle.std.specs.List.{range_with_len}
 use Rattle.finite_sums.proofs.Lists.{among_filter}
@@ -69,16 +69,16 @@ module _ (nodes : List NodeView) (plan : PlanView) (all : NodeSet) (all_are : (v
   all_known v m = ((in_numbers (in_plan nodes plan) (length nodes) v).0 ((all_are v).0 m)).0
 
   -- none of them is a utility
-  pub all_plain : IsPlan nodes plan → (u : ℕ) → plan.utility ≡ Some u → IsIn all u → ⊥
-  all_plain asked u some m = absurd_in u (asked.utility u some) (λ k. asked.kept u ((has_contains plan.keep u).0 k) (asked.utility u some)) ((in_numbers (in_plan nodes plan) (length nodes) u).0 ((all_are u).0 m)).1
+  pub all_ruled : IsPlan nodes plan → (v : ℕ) → IsIn all v → (node_at nodes v).kind ≢ Utility
+  all_ruled asked v m kind = neither (has plan.keep v) _ _ (λ k. asked.kept v ((has_contains plan.keep v).0 k) kind) (ap (λ k. not (is_utility k)) kind) ((in_numbers (in_plan nodes plan) (length nodes) v).0 ((all_are v).0 m)).1
     where
-      absurd_in : (v : ℕ) → (node_at nodes v).kind ≡ Utility → (has plan.keep v ≡ true → ⊥) → in_plan nodes plan v ≡ true → ⊥
-      absurd_in v kind unkept h = neither (has plan.keep v) _ _ unkept (ap (λ k. not (is_utility k)) kind) h
-        where
-          neither : (a b d : Bool) → (a ≡ true → ⊥) → b ≡ false → (a || (b && d)) ≡ true → ⊥
-          neither true b d n e f = n refl
-          neither false true d n e f = absurd (cc)
-          neither false false d n e f = absurd (cc)
+      neither : (a b d : Bool) → (a ≡ true → ⊥) → b ≡ false → (a || (b && d)) ≡ true → ⊥
+      neither true b d n e f = n refl
+      neither false true d n e f = absurd (cc)
+      neither false false d n e f = absurd (cc)
+
+  pub all_plain : IsPlan nodes plan → (u : ℕ) → plan.utility ≡ Some u → IsIn all u → ⊥
+  all_plain asked u some m = all_ruled asked u m (asked.utility u some)
 
   pub in_waiting : (kept waiting : NodeSet) → ((v : ℕ) → IsIn kept v ↔ Contains plan.keep v) → ((v : ℕ) → IsIn waiting v ↔ (IsIn all v × (IsIn kept v → ⊥)))
       → (v : ℕ) → IsIn waiting v ↔ Contains (eliminated_nodes nodes plan) v

@@ -1,7 +1,8 @@
 -- First tables, as they are put one after the other.
-use Rattle.std.proofs.Common.{◌≡◌, ◌∙◌, ◌⊎◌, ◌↔◌, ℕ, zero, suc, ◌+◌, ◌<◌, ◌≤◌, Bool, true, false, ◌||◌, eqb, map, List, [], ◌∷◌, ◌++◌, length, take, drop, get_or, refl, sym, ap, subst, inl, inr, arith}
-use Rattle.std.specs.Prelude.{Contains, sum_by, replicate}
+use Rattle.std.proofs.Common.{◌≡◌, ◌∙◌, ◌⊎◌, ◌↔◌, ℕ, suc, ◌+◌, ◌<◌, ◌≤◌, Bool, true, false, ◌||◌, eqb, map, List, [], ◌∷◌, ◌++◌, length, take, drop, refl, sym, ap, subst, inl, inr, arith}
+use Rattle.std.specs.Prelude.{Contains, sum_by}
 use Rattle.std.proofs.Math.Path.{fun_ext}
+use Rattle.std.proofs.lemmas.Bool.{cases_lt}
 use Rattle.std.proofs.lemmas.Bool.Decides.{nat_tests}
 use Rattle.std.proofs.lemmas.List.{length_push, take-append-le, take_all}
 use Rattle.std.proofs.lemmas.List.Sums.{sum_by_push}
@@ -19,12 +20,13 @@ use Rattle.size_precheck.specs.declared.joints.Table.{Table}
 use Rattle.size_precheck.specs.declared.simulation.Start.{Start}
 use Rattle.maid_model.specs.Bounds.{stopped}
 use Rattle.size_precheck.specs.Counts.{counted_cells}
-use Rattle.size_precheck.specs.Joints.{joint_at, counted_over, AreStates, SomeOf, Each, TagsDiffer, Tells, AreLive, tests_of, Rising, IsListOf, IsStarted, family_test, parents_test}
+use Rattle.size_precheck.specs.Families.{IsJoined, IsOfFamily}
+use Rattle.size_precheck.specs.Joints.{joint_at, counted_over, AreStates, IsCounted, SomeOf, Each, TagsDiffer, Tells, AreLive, tests_of, Rising, IsListOf, IsStarted, family_test, parents_test}
 use Rattle.size_precheck.proofs.Counting.{stop_part}
 use Rattle.size_precheck.proofs.Lists.{IsListTo, list_more, list_done}
 use Rattle.size_precheck.proofs.Live.{differ_push}
 use Rattle.size_precheck.proofs.Scoped.{cells_counted}
-use Rattle.size_precheck.proofs.Somewhere.{some_map, any_some, some_any, each_some, each_push, each_map, same_test, some_never}
+use Rattle.size_precheck.proofs.Somewhere.{some_map, some_mapped, any_some, some_any, each_some, each_push, each_map, same_test, some_never}
 
 -- ---- scopes as tests
 some_among : (v : ℕ) (list : List ℕ) → SomeOf (λ x. x ≡ v) list → Among v list
@@ -118,43 +120,30 @@ differ_rising (t ∷ ts) r = (
 )
 
 -- what a slice of a vector writes back
-pub back_written : (len : ℕ) (xs ys : List Joint) → length xs ≡ length ys → len ≡ length ys → take len (xs ++ drop (length xs) ys) ≡ xs
+pub back_written : {X : Type 0} (len : ℕ) (xs ys : List X) → length xs ≡ length ys → len ≡ length ys → take len (xs ++ drop (length xs) ys) ≡ xs
 back_written len xs ys same is =
     let whole : len ≡ length xs = omega arith in
     ap (λ n. take n (xs ++ drop (length xs) ys)) whole ∙ take-append-le (length xs) xs (drop (length xs) ys) (omega arith) ∙ take_all (length xs) xs (omega arith)
 
 -- ---- the tables so far
-pub record Put (nodes : List NodeView) (ruled waiting : NodeSet) (from : ℕ) (joints : List Joint) (live cells : ℕ) : Type 0 where
+pub record Put (nodes : List NodeView) (ruled : NodeSet) (from live cells : ℕ) : Type 0 where
   pub list : List ℕ
   pub listed : IsListTo ruled from list
   pub tables : List Table
   pub tags : tags_of tables ≡ list
   pub scopes : tests_of tables ≡ map (family_test nodes) list
-  pub own : Each (λ t. IsIn t.scope t.tag) tables
-  pub tells : (y : ℕ) → IsIn waiting y → Tells tables y (joint_at joints y)
+  pub of_family : Each (λ t. (u : ℕ) → IsIn t.scope u ↔ IsOfFamily nodes t.tag u) tables
   pub live_is : live ≡ length tables
   pub cells_are : cells ≡ stopped (sum_by (λ s. counted_cells nodes s) (tests_of tables))
 
-pub replicate_long : (n : ℕ) (none : Joint) → length (replicate n none) ≡ n
-replicate_long zero none = refl
-replicate_long (suc n) none = ap suc (replicate_long n none)
-
-empty_at : (n : ℕ) (none d : Joint) (y : ℕ) → y < n → get_or (replicate n none) y d ≡ none
-empty_at zero none d y l = absurd (omega arith)
-empty_at (suc n) none d zero l = refl
-empty_at (suc n) none d (suc y) l = empty_at n none d y (omega arith)
-
-pub put_none : (nodes : List NodeView) (ruled waiting : NodeSet) (joints : List Joint) (n : ℕ) (none : Joint) → joints ≡ replicate n none → ((u : ℕ) → IsIn none.set u → ⊥) → ((x : ℕ) → IsIn none.tables x → ⊥)
-    → ((y : ℕ) → IsIn waiting y → y < n) → Put nodes ruled waiting 0 joints 0 0
-put_none nodes ruled waiting joints n none is no_set no_table within = record {
+pub put_none : (nodes : List NodeView) (ruled : NodeSet) → Put nodes ruled 0 0 0
+put_none nodes ruled = record {
   list = [];
   listed = record { inside = tt; all = λ v l _. absurd (omega arith); rising = tt };
   tables = [];
   tags = refl;
   scopes = refl;
-  own = tt;
-  tells = λ y m. subst (λ (j : Joint). Tells [] y j) (sym (ap (λ (js : List Joint). joint_at js y) is ∙ empty_at n none _ y (within y m)))
-      (record { set = λ u. (no_set u, λ h. absurd h); tables = λ x. (no_table x, λ h. absurd h) });
+  of_family = tt;
   live_is = refl;
   cells_are = refl;
 }
@@ -170,12 +159,11 @@ sum_more nodes tables table before now cells is here next =
     ∙ ap (λ n. stopped (so_far + n)) here
     ∙ ap (λ n. stopped n) (sym (sum_by_push (λ s. counted_cells nodes s) (tests_of tables) (holds table.scope)) ∙ ap (λ (ss : List (ℕ → Bool)). sum_by (λ s. counted_cells nodes s) ss) (sym (map_append (λ (t : Table). holds t.scope) tables (table ∷ []))))
 
-pub put_more : (nodes : List NodeView) (states : List ℕ) (ruled waiting : NodeSet) (from v : ℕ) (joints joints' : List Joint) (live cells now counted : ℕ) (table : Table) → AreStates nodes states
-    → IsFirstFrom ruled from v → table.tag ≡ v → ((u : ℕ) → IsIn table.scope u ↔ ((u ≡ v) ⊎ Contains (parents_of nodes v) u))
-    → ((tables : List Table) (y : ℕ) → IsIn waiting y → Tells tables y (joint_at joints y) → Tells (tables ++ table ∷ []) y (joint_at joints' y))
+pub put_more : (nodes : List NodeView) (states : List ℕ) (ruled : NodeSet) (from v : ℕ) (live cells now counted : ℕ) (table : Table) → AreStates nodes states
+    → IsFirstFrom ruled from v → table.tag ≡ v → ((u : ℕ) → IsIn table.scope u ↔ IsOfFamily nodes v u)
     → counted ≡ counted_over states (holds table.scope) → now ≡ stopped (cells + counted)
-    → Put nodes ruled waiting from joints live cells → Put nodes ruled waiting (v + 1) joints' (live + 1) now
-put_more nodes states ruled waiting from v joints joints' live cells now counted table are first tag scope puts counted_is now_is h =
+    → Put nodes ruled from live cells → Put nodes ruled (v + 1) (live + 1) now
+put_more nodes states ruled from v live cells now counted table are first tag scope counted_is now_is h =
     let told = family_told nodes v table.scope scope in
     record {
       list = h.list ++ v ∷ [];
@@ -184,14 +172,19 @@ put_more nodes states ruled waiting from v joints joints' live cells now counted
       tags = map_append (λ (t : Table). t.tag) h.tables (table ∷ []) ∙ ap (λ (xs : List ℕ). xs ++ table.tag ∷ []) h.tags ∙ ap (λ x. h.list ++ x ∷ []) tag;
       scopes = map_append (λ (t : Table). holds t.scope) h.tables (table ∷ []) ∙ ap (λ (ss : List (ℕ → Bool)). ss ++ holds table.scope ∷ []) h.scopes
           ∙ ap (λ (s : ℕ → Bool). map (family_test nodes) h.list ++ s ∷ []) (fun_ext told) ∙ sym (map_append (family_test nodes) h.list (v ∷ []));
-      own = each_push (λ t. IsIn t.scope t.tag) h.tables table h.own ((scope table.tag).1 (inl tag));
-      tells = λ y m. puts h.tables y m (h.tells y m);
+      of_family = each_push (λ t. (u : ℕ) → IsIn t.scope u ↔ IsOfFamily nodes t.tag u) h.tables table h.of_family (subst (λ x. (u : ℕ) → IsIn table.scope u ↔ IsOfFamily nodes x u) (sym tag) scope);
       live_is = ap (λ n. n + 1) h.live_is ∙ sym (length_push h.tables table);
       cells_are = sum_more nodes h.tables table cells now counted h.cells_are (counted_is ∙ cells_counted nodes states table.scope (holds table.scope) are (λ u. refl)) now_is;
     }
 
+some_one : (P : Table → Type 0) (ts : List Table) → SomeOf P ts → (t : Table) × P t
+some_one P [] s = absurd s
+some_one P (t ∷ ts) (inl p) = (t, p)
+some_one P (t ∷ ts) (inr s) = some_one P ts s
+
 module _ (nodes : List NodeView) (states : List ℕ) (ruled waiting : NodeSet) (from : ℕ) (few : from ≤ 256) (none : (v : ℕ) → from ≤ v → IsIn ruled v → ⊥) (are : AreStates nodes states)
-    (joints : List Joint) (live cells : ℕ) (h : Put nodes ruled waiting from joints live cells) (other : List ℕ) (listed : IsListOf ruled other) where
+    (joints : List Joint) (counts : List ℕ) (joined : (y : ℕ) → IsIn waiting y → IsJoined nodes (IsIn ruled) y (joint_at joints y)) (counted_at : (y : ℕ) → IsIn waiting y → IsCounted states joints counts y)
+    (live cells : ℕ) (h : Put nodes ruled from live cells) (other : List ℕ) (listed : IsListOf ruled other) where
   one_list : h.list ≡ other
   one_list =
       let done = list_done ruled from h.list h.listed none in
@@ -211,25 +204,65 @@ module _ (nodes : List NodeView) (states : List ℕ) (ruled waiting : NodeSet) (
   are_live = record {
     small = each_map (λ t. IsIn ruled t.tag × (t.tag < from)) (λ t. t.tag < 256) (λ t k. small t.tag k.1) h.tables all_small;
     differ = differ_rising h.tables (subst Rising (sym h.tags) h.listed.rising);
-    own = each_map (λ t. IsIn t.scope t.tag) (λ t. IsIn waiting t.tag → IsIn t.scope t.tag) (λ t k _. k) h.tables h.own;
+    own = each_map (λ t. (u : ℕ) → IsIn t.scope u ↔ IsOfFamily nodes t.tag u) (λ t. IsIn waiting t.tag → IsIn t.scope t.tag) (λ t k _. (k t.tag).1 (inl refl)) h.tables h.of_family;
   }
     where
       small : (x : ℕ) → x < from → x < 256
       small x l = omega arith
 
+  abbrev Known : Table → Type 0
+  Known t = IsIn ruled t.tag × ((u : ℕ) → IsIn t.scope u ↔ IsOfFamily nodes t.tag u)
+
+  all_known : Each Known h.tables
+  all_known = both h.tables all_small h.of_family
+    where
+      both : (ts : List Table) → Each (λ t. IsIn ruled t.tag × (t.tag < from)) ts → Each (λ t. (u : ℕ) → IsIn t.scope u ↔ IsOfFamily nodes t.tag u) ts → Each Known ts
+      both [] a b = tt
+      both (t ∷ ts) a b = ((a.0.0, b.0), both ts a.1 b.1)
+
+  with_tag : (x : ℕ) → IsIn ruled x → SomeOf (λ t. Known t × (t.tag ≡ x)) h.tables
+  with_tag x m = each_some Known (λ t. t.tag ≡ x) h.tables all_known
+      (some_mapped (λ y. y ≡ x) (λ (t : Table). t.tag) h.tables (subst (λ (xs : List ℕ). SomeOf (λ y. y ≡ x) xs) (sym h.tags) (h.listed.all x (early x m) m)))
+    where
+      early : (x : ℕ) → IsIn ruled x → x < from
+      early x m = elim (cases_lt x from) as (λ _. x < from) [ inl l ↦ l | inr g ↦ absurd (none x g m) ]
+
+  told : (y : ℕ) → IsIn waiting y → Tells h.tables y (joint_at joints y)
+  told y waits = record {
+    set = λ u. (
+      (λ m.
+          let k = ((joined y waits).set u).0 m in
+          some_map (λ t. Known t × (t.tag ≡ k.0)) (λ t. IsIn t.scope y × IsIn t.scope u)
+          (λ t h. ((h.0.1 y).1 (subst (λ z. IsOfFamily nodes z y) (sym h.1) k.2), (h.0.1 u).1 (subst (λ z. IsOfFamily nodes z u) (sym h.1) k.3))) h.tables (with_tag k.0 k.1)),
+      (λ s.
+          let k = some_one (λ t. Known t × (IsIn t.scope y × IsIn t.scope u)) h.tables (each_some Known (λ t. IsIn t.scope y × IsIn t.scope u) h.tables all_known s) in
+          ((joined y waits).set u).1 (k.0.tag, k.1.0.0, (k.1.0.1 y).0 k.1.1.0, (k.1.0.1 u).0 k.1.1.1)),
+    );
+    tables = λ x. (
+      (λ m.
+          let k = ((joined y waits).tables x).0 m in
+          some_map (λ t. Known t × (t.tag ≡ x)) (λ t. (t.tag ≡ x) × IsIn t.scope y)
+          (λ t h. (h.1, (h.0.1 y).1 (subst (λ z. IsOfFamily nodes z y) (sym h.1) k.1))) h.tables (with_tag x k.0)),
+      (λ s.
+          let k = some_one (λ t. Known t × ((t.tag ≡ x) × IsIn t.scope y)) h.tables (each_some Known (λ t. (t.tag ≡ x) × IsIn t.scope y) h.tables all_known s) in
+          ((joined y waits).tables x).1 (subst (IsIn ruled) k.1.1.0 k.1.0.0, subst (λ z. IsOfFamily nodes z y) k.1.1.0 ((k.1.0.1 y).0 k.1.1.1))),
+    );
+  }
+
   tests_are : tests_of h.tables ≡ map (family_test nodes) other
   tests_are = h.scopes ∙ ap (λ (xs : List ℕ). map (family_test nodes) xs) one_list
 
   -- with no utility
-  pub started_without : (start : Start) → start.joints.items ≡ joints → start.live ≡ live → start.cells ≡ cells → IsStarted nodes states (IsIn waiting) (map (family_test nodes) other ++ []) start
-  started_without start joints_are live_are cells_are =
+  pub started_without : (start : Start) → start.joints.items ≡ joints → start.counts.items ≡ counts → start.live ≡ live → start.cells ≡ cells → IsStarted nodes states (IsIn waiting) (map (family_test nodes) other ++ []) start
+  started_without start joints_are counts_are live_are cells_are =
       let whole : map (family_test nodes) other ++ [] ≡ map (family_test nodes) other = append_none (map (family_test nodes) other) in
       let scopes_are : tests_of h.tables ≡ map (family_test nodes) other ++ [] = tests_are ∙ sym whole in
       record {
         are_states = are;
         tables = h.tables;
         are_live = are_live;
-        tells = λ y m. subst (λ (js : List Joint). Tells h.tables y (joint_at js y)) (sym joints_are) (h.tells y m);
+        tells = λ y m. subst (λ (js : List Joint). Tells h.tables y (joint_at js y)) (sym joints_are) (told y m);
+        counted = λ y m. subst (λ (js : List Joint). IsCounted states js start.counts.items y) (sym joints_are) (subst (λ (cs : List ℕ). IsCounted states joints cs y) (sym counts_are) (counted_at y m));
         scopes_are = scopes_are;
         live = live_are ∙ h.live_is ∙ sym (length_tests h.tables) ∙ ap (λ (ss : List (ℕ → Bool)). length ss) scopes_are;
         cells = cells_are ∙ h.cells_are ∙ ap (λ (ss : List (ℕ → Bool)). stopped (sum_by (λ s. counted_cells nodes s) ss)) scopes_are;
@@ -244,13 +277,14 @@ module _ (nodes : List NodeView) (states : List ℕ) (ruled waiting : NodeSet) (
       length_tests (t ∷ ts) = ap suc (length_tests ts)
 
   -- with one
-  pub started_with : (u : ℕ) (table : Table) (joints' : List Joint) (counted : ℕ) (start : Start) → u < 256 → (IsIn ruled u → ⊥) → (IsIn waiting u → ⊥)
+  pub started_with : (u : ℕ) (table : Table) (joints' : List Joint) (counts' : List ℕ) (counted : ℕ) (start : Start) → u < 256 → (IsIn ruled u → ⊥) → (IsIn waiting u → ⊥)
       → table.tag ≡ u → ((x : ℕ) → IsIn table.scope x ↔ Contains (parents_of nodes u) x)
       → ((tables : List Table) (y : ℕ) → IsIn waiting y → Tells tables y (joint_at joints y) → Tells (tables ++ table ∷ []) y (joint_at joints' y))
+      → ((y : ℕ) → IsIn waiting y → IsCounted states joints counts y → IsCounted states joints' counts' y)
       → counted ≡ counted_over states (holds table.scope)
-      → start.joints.items ≡ joints' → start.live ≡ live + 1 → start.cells ≡ stopped (cells + counted)
+      → start.joints.items ≡ joints' → start.counts.items ≡ counts' → start.live ≡ live + 1 → start.cells ≡ stopped (cells + counted)
       → IsStarted nodes states (IsIn waiting) (map (family_test nodes) other ++ parents_test nodes u ∷ []) start
-  started_with u table joints' counted start small unruled kept tag scope puts counted_is joints_are live_are cells_are =
+  started_with u table joints' counts' counted start small unruled kept tag scope puts recounted counted_is joints_are counts_are live_are cells_are =
       let all = h.tables ++ table ∷ [] in
       let scopes_are : tests_of all ≡ map (family_test nodes) other ++ parents_test nodes u ∷ [] =
       map_append (λ (t : Table). holds t.scope) h.tables (table ∷ [])
@@ -265,7 +299,8 @@ module _ (nodes : List NodeView) (states : List ℕ) (ruled waiting : NodeSet) (
               (λ s. some_never (λ t. (IsIn ruled t.tag × (t.tag < from)) × (t.tag ≡ table.tag)) h.tables (λ t k. unruled (subst (IsIn ruled) (k.1 ∙ tag) k.0.0)) (each_some (λ t. IsIn ruled t.tag × (t.tag < from)) (λ t. t.tag ≡ table.tag) h.tables all_small s));
           own = each_push (λ t. IsIn waiting t.tag → IsIn t.scope t.tag) h.tables table are_live.own (λ w. absurd (kept (subst (IsIn waiting) tag w)));
         };
-        tells = λ y m. subst (λ (js : List Joint). Tells all y (joint_at js y)) (sym joints_are) (puts h.tables y m (h.tells y m));
+        tells = λ y m. subst (λ (js : List Joint). Tells all y (joint_at js y)) (sym joints_are) (puts h.tables y m (told y m));
+        counted = λ y m. subst (λ (js : List Joint). IsCounted states js start.counts.items y) (sym joints_are) (subst (λ (cs : List ℕ). IsCounted states joints' cs y) (sym counts_are) (recounted y m (counted_at y m)));
         scopes_are = scopes_are;
         live = live_are ∙ ap (λ n. n + 1) h.live_is ∙ sym (length_push h.tables table) ∙ sym (length_tests all) ∙ ap (λ (ss : List (ℕ → Bool)). length ss) scopes_are;
         cells = sum_more nodes h.tables table cells start.cells counted h.cells_are (counted_is ∙ cells_counted nodes states table.scope (holds table.scope) are (λ u. refl)) cells_are

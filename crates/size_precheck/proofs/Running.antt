@@ -1,24 +1,24 @@
 -- Along the steps of a plan: what is known after each is what its scopes say.
-use Rattle.std.proofs.Common.{◌≡◌, ◌∙◌, ◌↔◌, ℕ, suc, ◌+◌, ◌-◌, ◌*◌, ◌<◌, ◌≤◌, Bool, true, false, cond, not, filter, List, [], ◌∷◌, ◌++◌, length, take, get_or, refl, sym, ap, subst, inl, inr, arith}
+use Rattle.std.proofs.Common.{◌≡◌, ◌∙◌, ◌↔◌, ℕ, suc, ◌+◌, ◌-◌, ◌*◌, ◌<◌, ◌≤◌, Bool, true, false, cond, not, filter, List, [], ◌∷◌, ◌++◌, length, take, refl, sym, ap, subst, inl, inr, arith}
 use Rattle.std.specs.Prelude.{Contains, slice_index, sum_by}
 use Rattle.std.proofs.lemmas.List.{length_push}
 use Rattle.std.proofs.lemmas.List.Elements.{Contains-push, Contains-push_cases, Contains-append_left}
 use Rattle.maid_model.specs.declared.limits.TheConstants.{COUNT_END}
 use Rattle.maid_model.specs.Placing.{Remains}
 use Rattle.maid_model.specs.Views.{NodeView}
-use Rattle.node_sets.specs.Sets.{IsIn}
+use Rattle.node_sets.specs.Sets.{holds, IsIn}
 use Rattle.node_sets.specs.declared.sets.NodeSet.{NodeSet}
 use Rattle.ring_sums.specs.Tables.{joined_without, scopes_one, scopes_after}
 use Rattle.size_precheck.specs.declared.joints.Joint.{Joint}
 use Rattle.size_precheck.specs.declared.joints.Table.{Table}
 use Rattle.size_precheck.specs.declared.simulation.Made.{Made}
 use Rattle.maid_model.specs.Bounds.{stopped}
+use Rattle.size_precheck.specs.Classes.{IsFewest}
 use Rattle.size_precheck.specs.Counts.{counted_cells}
 use Rattle.size_precheck.specs.Greedy.{holding, joined_set, joined_cells, IsNext}
-use Rattle.size_precheck.specs.Joints.{joint_at, AreStates, Each, Stands, IsStep, IsListOf, IsFewestAt, tests_of}
+use Rattle.size_precheck.specs.Joints.{joint_at, AreStates, Each, Stands, IsStep, tests_of}
 use Rattle.size_precheck.specs.Sizes.{made_cells, steps_work}
 use Rattle.size_precheck.proofs.Counting.{stop_part, stop_later}
-use Rattle.size_precheck.proofs.Lists.{some_at, rises}
 use Rattle.size_precheck.proofs.Orders.{next_more}
 use Rattle.size_precheck.proofs.Scoped.{set_told, cells_counted}
 
@@ -102,30 +102,23 @@ module _ (nodes : List NodeView) (states : List ℕ) (Item : ℕ → Type 0) (re
       ∙ cells_counted nodes states (joint_at joints w).set (joined_set w (tests_of now.tables)) are (set_told now.tables w (joint_at joints w) (now.stands.tells w m))
       ∙ ap (λ (ss : List (ℕ → Bool)). counted_cells nodes (joined_set w ss)) now.scopes_are
 
-  -- the first of the waiting list with fewest cells is next
-  pub is_next : (list : List ℕ) (place : ℕ) → IsListOf rest list → ((x : ℕ) → IsIn rest x ↔ Remains Item steps x) → IsFewestAt list counts place → IsIn rest (slice_index list place)
-      → IsNext nodes Item scopes steps (slice_index list place)
-  is_next list place listed remains best here = record {
-    remains = (remains v).0 here;
+  -- the first of those with fewest cells is next
+  pub is_next : (v : ℕ) → ((x : ℕ) → IsIn rest x ↔ Remains Item steps x) → IsFewest counts (holds rest) v → IsNext nodes Item scopes steps v
+  is_next v remains best = record {
+    remains = (remains v).0 best.waiting;
     fewest = λ w r.
         let m = (remains w).1 r in
-        let a = some_at w list (listed.all w m) in
-        let l = best.fewest a.0 a.1 in
-        let e : slice_index counts (slice_index list a.0) ≡ joined_cells nodes scopes steps w = ap (λ x. slice_index counts x) a.2 ∙ counted_at w m in
-        let f = counted_at v here in
+        let l = best.fewest w m in
+        let e = counted_at w m in
+        let f = counted_at v best.waiting in
         omega arith;
     first = λ w r before.
         let m = (remains w).1 r in
-        let a = some_at w list (listed.all w m) in
-        let less : get_or list a.0 0 < get_or list place 0 = subst (λ x. x < v) (sym a.2) before in
-        let l = best.first a.0 (rises list listed.rising place a.0 best.within a.1 less) in
-        let e : slice_index counts (slice_index list a.0) ≡ joined_cells nodes scopes steps w = ap (λ x. slice_index counts x) a.2 ∙ counted_at w m in
-        let f = counted_at v here in
+        let l = best.first w m before in
+        let e = counted_at w m in
+        let f = counted_at v best.waiting in
         omega arith;
   }
-    where
-      v : ℕ
-      v = slice_index list place
 
   pub joined_few : (v : ℕ) (Later : ℕ → Type 0) (joints' : List Joint) (counts' : List ℕ) (made : Made) → IsStep nodes states Later v now.tables joints' counts' made → made.tables ≤ live + 1
   joined_few v Later joints' counts' made step =

@@ -1,6 +1,6 @@
 -- The nodes of a plan, its first tables, and what is known before the first step.
 use Rattle.std.proofs.Common.{◌≡◌, ◌≢◌, ◌∙◌, ◌⊎◌, ◌↔◌, ℕ, zero, suc, ◌+◌, ◌<◌, ◌≤◌, Bool, true, false, filter, List, [], ◌∷◌, ◌++◌, length, get_or, refl, sym, ap, subst, inl, inr, arith, Option, Some, None}
-use Rattle.std.specs.Prelude.{Contains, slice_index_or, replicate, set}
+use Rattle.std.specs.Prelude.{Contains, slice_index, slice_index_or, replicate, set}
 use Rattle.std.specs.List.{range_with_len}
 use Rattle.std.proofs.lemmas.Bool.{cases_lt, cases_eq}
 use Rattle.std.proofs.lemmas.List.{get_or_past, get_or-set_same, get_or-set_other}
@@ -18,7 +18,7 @@ use Rattle.plan_sums.specs.Plans.{PlanView, in_plan, plan_nodes}
 use Rattle.plan_sums.specs.Sizes.{IsPlan}
 use Rattle.size_precheck.specs.declared.joints.Joint.{Joint}
 use Rattle.size_precheck.specs.declared.joints.Table.{Table}
-use Rattle.size_precheck.specs.Joints.{joint_at, AreStates, IsPut, Tells}
+use Rattle.size_precheck.specs.Joints.{joint_at, counted_over, AreStates, IsCounted, IsPut, Tells}
 use Rattle.size_precheck.proofs.Live.{first_put, first_same}
 
 -- ---- counts of states
@@ -65,6 +65,18 @@ pub first_right : (table : Table) (waiting at none : NodeSet) (joints joints' : 
 first_right table waiting at none joints joints' empty at_is put same live y m tells = elim (true_or_false (holds at y)) as (λ _. Tells (live ++ table ∷ []) y (joint_at joints' y)) [
   | inl e ↦ first_put live table y none none (joint_at joints y) (joint_at joints' y) empty empty ((at_is y).0 e).0 (put y e) tells
   | inr e ↦ subst (λ (j : Joint). Tells (live ++ table ∷ []) y j) (sym (same y (lacks e))) (first_same live table y (joint_at joints y) (λ s. lacks e ((at_is y).1 (s, m))) tells)
+]
+  where
+    lacks : holds at y ≡ false → IsIn at y → ⊥
+    lacks e m = let f : true ≡ false = sym m ∙ e in absurd (cc)
+
+-- a count is right again where the table was put, and still right elsewhere
+pub counted_right : (states : List ℕ) (at : NodeSet) (joints joints' : List Joint) (counts counts' : List ℕ) → ((y : ℕ) → IsIn at y → IsCounted states joints counts y → IsCounted states joints' counts' y)
+    → ((y : ℕ) → (IsIn at y → ⊥) → joint_at joints' y ≡ joint_at joints y) → ((y : ℕ) → (IsIn at y → ⊥) → slice_index counts' y ≡ slice_index counts y)
+    → (y : ℕ) → IsCounted states joints counts y → IsCounted states joints' counts' y
+counted_right states at joints joints' counts counts' new same kept y counted = elim (true_or_false (holds at y)) as (λ _. slice_index counts' y ≡ counted_over states (holds (joint_at joints' y).set)) [
+  | inl e ↦ new y e counted
+  | inr e ↦ kept y (lacks e) ∙ counted ∙ ap (λ (j : Joint). counted_over states (holds j.set)) (sym (same y (lacks e)))
 ]
   where
     lacks : holds at y ≡ false → IsIn at y → ⊥

@@ -1,5 +1,5 @@
 -- What a step of the simulation makes is what a step makes of the live scopes.
-use Rattle.std.proofs.Common.{◌≡◌, ◌∙◌, ◌⊎◌, ◌↔◌, ℕ, ◌*◌, ◌<◌, ◌≤◌, min, true, false, List, length, refl, sym, ap, subst, inl, inr, arith}
+use Rattle.std.proofs.Common.{◌≡◌, ◌∙◌, ◌⊎◌, ◌↔◌, ℕ, ◌*◌, ◌<◌, true, false, List, length, refl, sym, ap, subst, inl, inr}
 use Rattle.std.specs.Prelude.{slice_index}
 use Rattle.finite_sums.proofs.Counts.{true_or_false}
 use Rattle.maid_model.specs.Views.{NodeView}
@@ -42,10 +42,10 @@ module _ (nodes : List NodeView) (states : List ℕ) (waiting : NodeSet) (v : �
     pub counted : (y : ℕ) → IsIn at y → IsCounted states joints counts y → IsCounted states joints' counts' y
     pub kept : (y : ℕ) → (IsIn at y → ⊥) → slice_index counts' y ≡ slice_index counts y
 
-  pub step_right : (k work cells floor : ℕ) → AreStates nodes states → Calls → Stands states Before live joints counts
+  pub step_right : (k work cells : ℕ) → AreStates nodes states → Calls → Stands states Before live joints counts
       → k ≡ member_count joint.tables → work ≡ stopped (slice_index counts v * k) → cells ≡ counted_over states (holds scope)
-      → IsStep nodes states (IsIn waiting) v live joints' counts' (record { cells = cells; work = work; tables = k; floor = floor })
-  step_right k work cells floor are calls stands k_is work_is cells_is = record {
+      → IsStep nodes states (IsIn waiting) v live joints' counts' (record { cells = cells; work = work; tables = k })
+  step_right k work cells are calls stands k_is work_is cells_is = record {
     after = after_step live made v scope_told;
     stands = record {
       live = step_live live made v scope_told Before (IsIn waiting) (inr refl) calls.small refl (λ x m. (inl m, other x m)) stands.live;
@@ -86,18 +86,3 @@ module _ (nodes : List NodeView) (states : List ℕ) (waiting : NodeSet) (v : �
 
       v_counted : slice_index counts v ≡ counted_cells nodes (joined_set v (tests_of live))
       v_counted = stands.counted v (inr refl) ∙ ap (λ (j : Joint). counted_over states (holds j.set)) (sym calls.joint_is) ∙ cells_counted nodes states joint.set _ are (set_told live v joint told)
-
--- no count falls below the one joined and the new ones
-pub floor_kept : (waiting at scope : NodeSet) (counts counts' : List ℕ) (joined fewest : ℕ) → ((x : ℕ) → IsIn at x ↔ (IsIn scope x × IsIn waiting x)) → ((y : ℕ) → IsIn at y → fewest ≤ slice_index counts' y)
-    → ((y : ℕ) → (IsIn at y → ⊥) → slice_index counts' y ≡ slice_index counts y) → ((y : ℕ) → IsIn waiting y → joined ≤ slice_index counts y)
-    → (y : ℕ) → IsIn waiting y → min joined fewest ≤ slice_index counts' y
-floor_kept waiting at scope counts counts' joined fewest at_is new kept before y m = elim (true_or_false (holds at y)) as (λ _. min joined fewest ≤ slice_index counts' y) [
-  | inl e ↦ right joined fewest (slice_index counts' y) (new y e)
-  | inr e ↦ left joined fewest (slice_index counts y) (slice_index counts' y) (before y m) (kept y (λ i. let f : true ≡ false = sym i ∙ e in absurd (cc)))
-]
-  where
-    right : (a b n : ℕ) → b ≤ n → min a b ≤ n
-    right a b n l = omega arith
-
-    left : (a b n k : ℕ) → a ≤ n → k ≡ n → min a b ≤ k
-    left a b n k l e = omega arith

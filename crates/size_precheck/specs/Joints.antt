@@ -112,7 +112,7 @@ pub record IsStep
       * length (holding v (tests_of before)))
   pub joined : made.tables ≡ length (holding v (tests_of before))
 
--- before the first step: the joints are right for tables of these scopes, which are counted
+-- before the first step: what is known of the nodes that wait is right for tables of these scopes, which are counted
 pub record IsStarted
     (nodes : List NodeView) (states : List ℕ) (Waiting : ℕ → Type 0) (scopes : List (ℕ → Bool))
     (start : Start) : Type 0 where
@@ -120,6 +120,8 @@ pub record IsStarted
   pub tables : List Table
   pub are_live : AreLive Waiting tables
   pub tells : (y : ℕ) → Waiting y → Tells tables y (joint_at start.joints.items y)
+  pub counted :
+      (y : ℕ) → Waiting y → IsCounted states start.joints.items start.counts.items y
   pub scopes_are : tests_of tables ≡ scopes
   pub live : start.live ≡ length scopes
   pub cells : start.cells ≡ stopped (sum_by (λ s. counted_cells nodes s) scopes)
@@ -145,14 +147,6 @@ pub record IsListOf (set : NodeSet) (list : List ℕ) : Type 0 where
   pub inside : Each (λ v. IsIn set v) list
   pub all : (v : ℕ) → IsIn set v → SomeOf (λ x. x ≡ v) list
   pub rising : Rising list
-
--- the place of the first of the list with fewest cells
-pub record IsFewestAt (list : List ℕ) (cells : List ℕ) (place : ℕ) : Type 0 where
-  pub within : place < length list
-  pub fewest : (k : ℕ) → k < length list
-      → slice_index cells (slice_index list place) ≤ slice_index cells (slice_index list k)
-  pub first : (k : ℕ) → k < place
-      → slice_index cells (slice_index list place) < slice_index cells (slice_index list k)
 
 -- ---- first tables
 -- the scope of a chance or decision node's table, as `plan_sums` has it: the node and its parents

@@ -2,8 +2,10 @@ pub mod Counts
 pub mod Greedy
 pub mod Sizes
 pub mod Decisions
+pub mod Kept
 pub mod Laws
 pub mod Joints
 pub mod Runs
 pub mod Example
 pub mod Families
+pub mod Classes

@@ -1,9 +1,10 @@
 //! Counts that stop at 10^18, and the cells of sets of nodes.
 
-ghost use Rattle.std.specs.Prelude.{◌≡◌, ◌<◌, ◌+◌, ◌*◌, ◌≤◌, IsTrue, length};
+ghost use Rattle.std.specs.Prelude.{◌≡◌, ◌↔◌, ◌⊎◌, ◌<◌, ◌+◌, ◌*◌, ◌/◌, ◌≤◌, ℕ, IsTrue, length, slice_index};
 ghost use Rattle.maid_model.specs.declared.limits.TheConstants.{COUNT_END};
+ghost use Rattle.node_sets.specs.declared.sets.NodeSet.{NodeSet};
 ghost use Rattle.node_sets.specs.declared.sets.TheConstants.{MOST_NODES};
-ghost use Rattle.node_sets.specs.Sets.{holds};
+ghost use Rattle.node_sets.specs.Sets.{holds, IsIn};
 ghost use Rattle.maid_model.specs.Bounds.{stopped};
 ghost use Rattle.size_precheck.specs.Joints.{member_count, counted_over};
 
@@ -57,27 +58,77 @@ pub fn count_cells(states: &[u64], set: &NodeSet) -> u64
 }
 
 /// Whether the two sets are one.
-fn are_same(set: &NodeSet, other: &NodeSet) -> bool
+pub fn are_same(set: &NodeSet, other: &NodeSet) -> bool
     ensures { IsTrue result → set.now ≡ other.now }
 {
     *set == *other
 }
 
-/// The cells of the set `after`, where `before` has `cells`. Where only v has left, its states are divided out.
-pub fn count_after(states: &[u64], before: &NodeSet, after: &NodeSet, v: usize, cells: u64) -> u64
+/// The count divided by a node's count of states. Where that is one of the most common, the compiler has less to do than a
+/// division.
+fn divide(cells: u64, states: u64) -> u64
+    requires { 0 < states }
+    ensures { result ≡ cells / states }
+{
+    match states {
+        2 => cells / 2,
+        3 => cells / 3,
+        4 => cells / 4,
+        _ => cells / states,
+    }
+}
+
+/// Whether the states of v can be divided out of the cells of the set. A count that has stopped says nothing of what is
+/// left.
+fn can_divide(states: &[u64], set: &NodeSet, v: usize, cells: u64) -> bool
+    requires len { length states.now ≡ MOST_NODES }
+    requires small { v < MOST_NODES }
+    ensures { IsTrue result → (IsIn set.now v) × (0 < slice_index states.now v)
+        × (cells < COUNT_END) }
+{
+    set.holds(v) && 0 < states[v] && cells < END
+}
+
+/// The cells of the set `after`, which is `before` without v, where `before` has `cells`.
+pub fn count_less(states: &[u64], before: &NodeSet, after: &NodeSet, v: usize, cells: u64) -> u64
     requires len { length states.now ≡ MOST_NODES }
     requires small { v < MOST_NODES }
     ensures few { result ≤ COUNT_END }
-    ensures counted { cells ≡ counted_over states.now (holds before.now)
+    ensures counted { ((x : ℕ) → IsIn after.now x ↔ (IsIn before.now x × (x ≡ v → ⊥)))
+        → cells ≡ counted_over states.now (holds before.now)
         → result ≡ counted_over states.now (holds after.now) }
 {
-    let mut rest = *before;
-    rest.remove(v);
-    let factor = states[v];
-    // A count that has stopped says nothing of what is left.
-    if are_same(&rest, after) && before.holds(v) && 0 < factor && cells < END {
-        cells / factor
+    if can_divide(states, before, v, cells) {
+        divide(cells, states[v])
     } else {
         count_cells(states, after)
+    }
+}
+
+/// The cells of a joined set after a table's nodes have come and the node v, which `out` has, has left, where it had
+/// `cells` before. The states of v are divided out, and those of the nodes that came multiplied.
+pub fn count_put(
+    states: &[u64],
+    before: &NodeSet,
+    scope: &NodeSet,
+    out: &NodeSet,
+    v: usize,
+    cells: u64,
+) -> u64
+    requires len { length states.now ≡ MOST_NODES }
+    requires small { v < MOST_NODES }
+    requires out { (x : ℕ) → IsIn out.now x ↔ (x ≡ v) }
+    ensures { (after : NodeSet)
+        → ((u : ℕ) → IsIn after u
+        ↔ ((IsIn before.now u ⊎ IsIn scope.now u) × (IsIn out.now u → ⊥)))
+        → cells ≡ counted_over states.now (holds before.now)
+        → result ≡ counted_over states.now (holds after) }
+{
+    if can_divide(states, before, v, cells) {
+        let came = scope.difference(before);
+        multiply(divide(cells, states[v]), count_cells(states, &came))
+    } else {
+        let after = before.union(scope).difference(out);
+        count_cells(states, &after)
     }
 }

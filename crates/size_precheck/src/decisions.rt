@@ -1,12 +1,11 @@
-//! The plans of decisions, made once and kept.
+//! The plans of a decision.
 
-ghost use Rattle.std.specs.Prelude.{ℕ, map, IfOk};
+ghost use Rattle.std.specs.Prelude.{◌≡◌, ℕ, map, IfOk};
 ghost use Rattle.std.specs.List.{AllZip};
 ghost use Rattle.maid_model.specs.Nodes.{IsDecision};
 ghost use Rattle.plan_sums.specs.Plans.{gain_plan};
-ghost use Rattle.size_precheck.specs.Decisions.{ArePlans};
 ghost use Rattle.size_precheck.specs.Families.{IsPlanner};
-ghost use Rattle.size_precheck.specs.Sizes.{ArePlansOf, IsPlanned, ListsDecisions, goal_list};
+ghost use Rattle.size_precheck.specs.Sizes.{ArePlansOf, IsPlanned, goal_list};
 
 use crate::kinds::{gain_by, rows_by};
 use crate::planners::Planner;
@@ -22,6 +21,29 @@ pub struct DecisionPlans {
     pub rows: Plan,
     /// Those of its states, one for each of its goals in text order.
     pub goals: Vec<Plan>,
+}
+
+/// Copies of these plans.
+fn copy_plans(alloc: Global, plans: &[Plan]) -> Result<Vec<Plan>, AllocError>
+    ensures { IfOk result (λ copies. copies.items ≡ plans.now) }
+{
+    let mut copies = Vec::with_capacity(alloc, plans.len())?;
+    for plan in plans {
+        copies.push(plan.copy(alloc)?)?;
+    }
+    Ok(copies)
+}
+
+impl DecisionPlans {
+    /// A copy of the plans. It takes the memory of their lists.
+    pub(crate) fn copy(&self, alloc: Global) -> Result<DecisionPlans, AllocError>
+        ensures rows { IfOk result (λ copy. copy.rows ≡ self.now.rows) }
+        ensures goals { IfOk result (λ copy. copy.goals.items ≡ self.now.goals.items) }
+    {
+        let rows = self.rows.copy(alloc)?;
+        let goals = copy_plans(alloc, &self.goals)?;
+        Ok(DecisionPlans { rows, goals })
+    }
 }
 
 /// The plans of a decision's states, one for each of its goals in text order.
@@ -48,7 +70,7 @@ fn plan_goals(
 }
 
 /// The plans of a decision, by what is known of the diagram.
-fn decision_by(
+pub(crate) fn decision_by(
     alloc: Global,
     diagram: &Diagram,
     planner: &Planner,
@@ -77,22 +99,4 @@ pub fn plan_decision(
 {
     let planner = Planner::new(alloc, diagram)?;
     decision_by(alloc, diagram, &planner, decision)
-}
-
-/// The plans of each decision of the order.
-pub(crate) fn plan_decisions(
-    alloc: Global,
-    diagram: &Diagram,
-    planner: &Planner,
-    order: &[usize],
-) -> Result<Vec<DecisionPlans>, AllocError>
-    requires order { ListsDecisions diagram.now.nodes order.now }
-    requires planner { IsPlanner diagram.now.nodes planner.now }
-    ensures { IfOk result (λ plans. ArePlans diagram.now.nodes order.now plans.items) }
-{
-    let mut plans = Vec::with_capacity(alloc, order.len())?;
-    for decision in order {
-        plans.push(decision_by(alloc, diagram, planner, *decision)?)?;
-    }
-    Ok(plans)
 }

@@ -35,17 +35,15 @@ impl Joint {
         }
     }
 
-    /// The same with one table more, after the tables `gone` and the nodes `out` have left.
-    pub fn with_table(&self, table: &Table, gone: &NodeSet, out: &NodeSet) -> Joint
+    /// Puts a table to them, after the tables `gone` and the nodes `out` have left. The sets are changed where they stand:
+    /// a bit that is set in a copy has to be written before the copy can be read by whole words.
+    pub fn put(&mut self, table: &Table, gone: &NodeSet, out: &NodeSet)
         requires { table.now.tag < MOST_NODES }
-        ensures { IsPut table.now (IsIn gone.now) (IsIn out.now) self.now result }
+        ensures { IsPut table.now (IsIn gone.now) (IsIn out.now) self.old self.new }
     {
-        let mut tables = self.tables.difference(gone);
-        tables.insert(table.tag);
-        Joint {
-            set: self.set.union(&table.scope).difference(out),
-            tables,
-        }
+        self.set = self.set.union(&table.scope).difference(out);
+        self.tables = self.tables.difference(gone);
+        self.tables.insert(table.tag);
     }
 }
 
@@ -61,7 +59,7 @@ pub fn put_table(joints: &mut [Joint], at: &NodeSet, table: &Table, gone: &NodeS
 {
     let mut from = 0;
     'nodes: while let Some(y) = at.first_from(from) {
-        joints[y] = joints[y].with_table(table, gone, out);
+        joints[y].put(table, gone, out);
         from = y + 1;
     }
 }

@@ -2,9 +2,11 @@
 //! exact counts of its cells and of its work.
 #![tactic(auto)]
 
+mod classes;
 mod counts;
 mod decisions;
 mod joints;
+mod keeping;
 mod kinds;
 mod laws;
 mod planners;
@@ -15,10 +17,13 @@ mod sizes;
 mod starts;
 #[cfg(test)]
 mod tests;
+mod worths;
 
 pub use decisions::{DecisionPlans, plan_decision};
+pub use keeping::{KeptPlans, keep_plans};
 pub use kinds::{plan_gain, plan_rows, plan_worth};
-pub use laws::{greedy_orders, sizes_of_plans};
+pub use laws::{greedy_orders, kept_plans_stand, sizes_of_plans};
 pub use plans::{Plan, make_plan};
-pub use runs::{RunPlans, measure, plan_run};
+pub use runs::{RunPlans, measure, plan_run, plan_run_with};
 pub use sizes::Size;
+pub use worths::plan_worths;

@@ -1,17 +1,17 @@
 //! What all plans of a diagram share.
 
-ghost use Rattle.std.specs.Prelude.{◌≡◌, ◌<◌, ◌↔◌, ℕ, length, IfOk, OnOk};
+ghost use Rattle.std.specs.Prelude.{◌≡◌, ◌<◌, ◌+◌, ◌↔◌, ℕ, length, IfOk, OnOk};
 ghost use Rattle.maid_model.specs.Diagrams.{IsDiagram};
 ghost use Rattle.maid_model.specs.Graph.{Arc, IsPath};
 ghost use Rattle.node_sets.specs.declared.sets.TheConstants.{MOST_NODES};
 ghost use Rattle.node_sets.specs.Sets.{IsIn};
-ghost use Rattle.size_precheck.specs.Families.{family_at, AreAbove, AreFamilies, IsFamily, IsPlanner};
-ghost use Rattle.size_precheck.specs.Joints.{AreStates};
+ghost use Rattle.size_precheck.specs.Families.{family_at, AreAbove, AreFamilies, AreWhole, IsFamily, IsJoined, IsOfFamily, IsPlanner, IsRuledBelow};
+ghost use Rattle.size_precheck.specs.Joints.{joint_at, AreStates, IsCounted};
 
 use crate::counts::count_cells;
-use crate::joints::Table;
+use crate::joints::{Joint, Table, put_table};
 use crate::starts::{list_states, node_table};
-use maid_model::Diagram;
+use maid_model::{Diagram, Kind};
 use node_sets::{NodeSet, ancestors};
 use std::alloc::{AllocError, Global};
 
@@ -33,6 +33,10 @@ pub struct Planner {
     pub states: Vec<u64>,
     /// One for each node.
     pub families: Vec<Family>,
+    /// For each node the tables of chance and decision nodes that hold it.
+    pub joints: Vec<Joint>,
+    /// The cells of the joined sets of these.
+    pub counts: Vec<u64>,
 }
 
 /// The node, and all from which a path of arcs leads to it. Where its parents stand before it, their sets are joined.
@@ -86,6 +90,60 @@ fn list_families(
     Ok(families)
 }
 
+/// Puts the table over the node and its parents, unless the node is a utility.
+fn put_family(diagram: &Diagram, joints: &mut [Joint], table: &Table, v: usize)
+    requires within { v < length diagram.now.nodes }
+    requires len { length joints.old ≡ length diagram.now.nodes }
+    requires tag { table.now.tag ≡ v }
+    requires scope { (u : ℕ) → IsIn table.now.scope u ↔ IsOfFamily diagram.now.nodes v u }
+    ensures len { length joints.new ≡ length joints.old }
+    ensures joined { (y : ℕ) → IsJoined diagram.now.nodes (IsRuledBelow diagram.now.nodes v) y
+        (joint_at joints.old y)
+        → IsJoined diagram.now.nodes (IsRuledBelow diagram.now.nodes (v + 1)) y
+        (joint_at joints.new y) }
+{
+    match diagram.kind(v) {
+        Kind::Utility => {}
+        Kind::Chance | Kind::Decision => {
+            let none = NodeSet::empty();
+            put_table(joints, &table.scope, table, &none, &none);
+        }
+    }
+}
+
+/// For each node the tables of chance and decision nodes that hold it.
+fn list_joints(
+    alloc: Global,
+    diagram: &Diagram,
+    states: &[u64],
+    families: &[Family],
+) -> Result<Vec<Joint>, AllocError>
+    requires len { length families.now ≡ length diagram.now.nodes }
+    requires families { AreFamilies diagram.now.nodes states.now families.now }
+    ensures len { IfOk result (λ joints. length joints.items ≡ length diagram.now.nodes) }
+    ensures joints { IfOk result (λ joints. AreWhole diagram.now.nodes joints.items) }
+{
+    let mut joints = vec![in alloc; Joint::empty(); diagram.count()]?;
+    for v in 0..diagram.count() {
+        put_family(diagram, &mut joints, &families[v].table, v);
+    }
+    Ok(joints)
+}
+
+/// The cells of the joined sets, each at the place of its node.
+fn list_counts(alloc: Global, states: &[u64], joints: &[Joint]) -> Result<Vec<u64>, AllocError>
+    requires { length states.now ≡ MOST_NODES }
+    ensures len { IfOk result (λ counts. length counts.items ≡ length joints.now) }
+    ensures counted { IfOk result (λ counts.
+        (y : ℕ) → y < length joints.now → IsCounted states.now joints.now counts.items y) }
+{
+    let mut counts = Vec::with_capacity(alloc, joints.len())?;
+    for joint in joints {
+        counts.push(count_cells(states, &joint.set))?;
+    }
+    Ok(counts)
+}
+
 impl Planner {
     /// What is known of the diagram. It goes over the arcs a few times.
     pub fn new(alloc: Global, diagram: &Diagram) -> Result<Planner, AllocError>
@@ -94,6 +152,13 @@ impl Planner {
     {
         let states = list_states(alloc, diagram)?;
         let families = list_families(alloc, diagram, &states)?;
-        Ok(Planner { states, families })
+        let joints = list_joints(alloc, diagram, &states, &families)?;
+        let counts = list_counts(alloc, &states, &joints)?;
+        Ok(Planner {
+            states,
+            families,
+            joints,
+            counts,
+        })
     }
 }

@@ -88,6 +88,19 @@ impl Plan {
     {
         self.size
     }
+
+    /// A copy of the plan. It takes the memory of its two lists.
+    pub(crate) fn copy(&self, alloc: Global) -> Result<Plan, AllocError>
+        ensures { IfOk result (λ copy. copy ≡ self.now) }
+    {
+        Ok(Plan {
+            keep: Vec::from_slice(alloc, &self.keep)?,
+            without: self.without,
+            utility: self.utility,
+            steps: Vec::from_slice(alloc, &self.steps)?,
+            size: self.size,
+        })
+    }
 }
 
 /// The plan of what is asked, by what is known of the diagram.
@@ -139,9 +152,10 @@ pub fn plan_by(
 /// utility. Each time that node is eliminated whose joined set, all nodes of the tables that hold it, has fewest cells, and
 /// of several the first in text (greedy elimination by weight: Koller and Friedman 2009).
 ///
-/// A step looks at the counts of all nodes that wait, and joins and counts the sets of the node's neighbours anew: at most
-/// as many looks as the square of the number of nodes, and as many steps of counting as the joined sets have pairs of
-/// nodes. It takes memory for a few lists of as many entries as there are nodes. First it makes what all plans of a diagram
+/// The nodes that wait stand in classes of equal cells, and a step takes the first of the lowest. It joins and counts the
+/// sets of the node's neighbours anew, and moves those of other cells than before to the classes of these: at most as many
+/// steps of counting as the joined sets have pairs of nodes, and for each move a look at eight classes more than nodes wait
+/// at most. It takes memory for a few lists of as many entries as there are nodes. First it makes what all plans of a diagram
 /// share, which `plan_decision` and `plan_run` make once for all of theirs.
 pub fn make_plan(
     alloc: Global,

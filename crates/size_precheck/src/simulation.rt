@@ -1,13 +1,15 @@
 //! The steps of a plan, simulated on the scopes of its tables.
 
-ghost use Rattle.std.specs.Prelude.{◌≡◌, ◌⊎◌, ℕ, ◌<◌, ◌≤◌, ◌+◌, Bool, List, length, All, IfOk, slice_index};
+ghost use Rattle.std.specs.Prelude.{◌≡◌, ◌⊎◌, ◌↔◌, ℕ, ◌<◌, ◌≤◌, ◌+◌, Bool, true, List, length, IfOk, OnOk, slice_index};
 ghost use Rattle.maid_model.specs.declared.limits.TheConstants.{COUNT_END};
 ghost use Rattle.maid_model.specs.Views.{NodeView};
 ghost use Rattle.node_sets.specs.declared.sets.TheConstants.{MOST_NODES};
 ghost use Rattle.node_sets.specs.Sets.{holds, IsIn};
-ghost use Rattle.size_precheck.specs.Joints.{counted_over, joint_at, AreStates, IsCounted, IsPut, Stands, IsStep, IsStarted, IsRun, IsListOf, IsFewestAt};
+ghost use Rattle.size_precheck.specs.Classes.{AreClasses};
+ghost use Rattle.size_precheck.specs.Joints.{joint_at, AreStates, IsCounted, IsPut, Stands, IsStep, IsStarted, IsRun, IsListOf};
 
-use crate::counts::{add, count_after, count_cells, count_members, multiply};
+use crate::classes::{Class, find_next, list_classes, move_node, take_node};
+use crate::counts::{add, count_cells, count_less, count_members, count_put, multiply};
 use crate::joints::{Joint, Table, joint_of};
 use node_sets::NodeSet;
 use std::alloc::{AllocError, Global};
@@ -17,6 +19,8 @@ use std::alloc::{AllocError, Global};
 pub struct Start {
     /// For each node the live tables that hold it; only those of the nodes that wait count.
     pub joints: Vec<Joint>,
+    /// The cells of their joined sets.
+    pub counts: Vec<u64>,
     /// How many tables are live.
     pub live: usize,
     /// The cells of all first tables.
@@ -32,8 +36,6 @@ struct Made {
     work: u64,
     /// How many tables are joined.
     tables: usize,
-    /// No more cells than any joined set has afterwards, where none had fewer than the one joined.
-    floor: u64,
 }
 
 /// What is known after the last step.
@@ -62,57 +64,70 @@ pub fn list_members(alloc: Global, set: &NodeSet) -> Result<Vec<usize>, AllocErr
     Ok(list)
 }
 
-/// Counts the cells of these nodes' joined sets, each at the place of its node.
-fn count_sets(states: &[u64], joints: &[Joint], cells: &mut [u64], nodes: &NodeSet)
+/// Puts a first table to y, and counts the cells of its joined set.
+fn put_first_at(
+    states: &[u64],
+    joints: &mut [Joint],
+    cells: &mut [u64],
+    y: usize,
+    table: &Table,
+    none: &NodeSet,
+)
     requires states { length states.now ≡ MOST_NODES }
-    requires len { length cells.old ≡ length joints.now }
-    requires within { (y : ℕ) → IsIn nodes.now y → y < length joints.now }
-    ensures len { length cells.new ≡ length cells.old }
-    ensures counted { (y : ℕ) → IsIn nodes.now y
-        → slice_index cells.new y ≡ counted_over states.now (holds (joint_at joints.now y).set) }
-    ensures same { (y : ℕ) → (IsIn nodes.now y → ⊥)
-        → slice_index cells.new y ≡ slice_index cells.old y }
+    requires tag { table.now.tag < MOST_NODES }
+    requires len { length cells.old ≡ length joints.old }
+    requires here { y < length joints.old }
+    ensures joints_len { length joints.new ≡ length joints.old }
+    ensures cells_len { length cells.new ≡ length cells.old }
+    ensures put { IsPut table.now (IsIn none.now) (IsIn none.now) (joint_at joints.old y)
+        (joint_at joints.new y) }
+    ensures counted { IsCounted states.now joints.new cells.new y }
+    ensures same { (x : ℕ) → (x ≡ y → ⊥) → joint_at joints.new x ≡ joint_at joints.old x }
+    ensures kept { (x : ℕ) → (x ≡ y → ⊥) → slice_index cells.new x ≡ slice_index cells.old x }
 {
-    let mut from = 0;
-    'nodes: while let Some(y) = nodes.first_from(from) {
-        cells[y] = count_cells(states, &joints[y].set);
-        from = y + 1;
-    }
+    joints[y].put(table, none, none);
+    cells[y] = count_cells(states, &joints[y].set);
 }
 
-/// The place, among the waiting nodes, of the first whose joined set has fewest cells. The search ends at one with no more
-/// than `floor`, since none has less.
-fn find_fewest(waiting: &[usize], cells: &[u64], floor: u64) -> usize
-    requires some { 0 < length waiting.now }
-    requires floor { All (λ v. floor ≤ slice_index cells.now v) waiting.now }
-    requires within { All (λ v. v < length cells.now) waiting.now }
-    ensures { IsFewestAt waiting.now cells.now result }
+/// Puts the table to y, after the tables `gone` and the node of its tag, which `out` has, have left, and counts the cells
+/// of its joined set anew.
+fn put_at(
+    states: &[u64],
+    joints: &mut [Joint],
+    cells: &mut [u64],
+    y: usize,
+    table: &Table,
+    gone: &NodeSet,
+    out: &NodeSet,
+)
+    requires states { length states.now ≡ MOST_NODES }
+    requires tag { table.now.tag < MOST_NODES }
+    requires out { (x : ℕ) → IsIn out.now x ↔ (x ≡ table.now.tag) }
+    requires len { length cells.old ≡ length joints.old }
+    requires here { y < length joints.old }
+    ensures joints_len { length joints.new ≡ length joints.old }
+    ensures cells_len { length cells.new ≡ length cells.old }
+    ensures put { IsPut table.now (IsIn gone.now) (IsIn out.now) (joint_at joints.old y)
+        (joint_at joints.new y) }
+    ensures counted { IsCounted states.now joints.old cells.old y
+        → IsCounted states.now joints.new cells.new y }
+    ensures same { (x : ℕ) → (x ≡ y → ⊥) → joint_at joints.new x ≡ joint_at joints.old x }
+    ensures kept { (x : ℕ) → (x ≡ y → ⊥) → slice_index cells.new x ≡ slice_index cells.old x }
 {
-    let mut place = 0;
-    let mut fewest = cells[waiting[0]];
-    let mut i = 1;
-    'places: while i < waiting.len() && floor < fewest {
-        let count = cells[waiting[i]];
-        if count < fewest {
-            place = i;
-            fewest = count;
-        }
-        i += 1;
-    }
-    place
+    let before = cells[y];
+    cells[y] = count_put(states, &joints[y].set, &table.scope, out, table.tag, before);
+    joints[y].put(table, gone, out);
 }
 
-/// Puts the table that v's step makes to each of these nodes, after the tables `gone` and the nodes `out` have left, and
-/// counts the cells of their joined sets anew. It answers no more than the fewest of them.
-fn put_made(
+/// Puts a first table to each of these nodes.
+pub fn put_first(
     states: &[u64],
     joints: &mut [Joint],
     cells: &mut [u64],
     at: &NodeSet,
     table: &Table,
-    gone: &NodeSet,
-    out: &NodeSet,
-) -> u64
+    none: &NodeSet,
+)
     requires states { length states.now ≡ MOST_NODES }
     requires tag { table.now.tag < MOST_NODES }
     requires len { length cells.old ≡ length joints.old }
@@ -120,28 +135,61 @@ fn put_made(
     ensures joints_len { length joints.new ≡ length joints.old }
     ensures cells_len { length cells.new ≡ length cells.old }
     ensures put { (y : ℕ) → IsIn at.now y
-        → IsPut table.now (IsIn gone.now) (IsIn out.now) (joint_at joints.old y)
+        → IsPut table.now (IsIn none.now) (IsIn none.now) (joint_at joints.old y)
         (joint_at joints.new y) }
     ensures counted { (y : ℕ) → IsIn at.now y → IsCounted states.now joints.old cells.old y
         → IsCounted states.now joints.new cells.new y }
-    ensures fewest { (y : ℕ) → IsIn at.now y → result ≤ slice_index cells.new y }
+    ensures same { (y : ℕ) → (IsIn at.now y → ⊥) → joint_at joints.new y ≡ joint_at joints.old y }
+    ensures kept { (y : ℕ) → (IsIn at.now y → ⊥)
+        → slice_index cells.new y ≡ slice_index cells.old y }
+{
+    let mut from = 0;
+    'nodes: while let Some(y) = at.first_from(from) {
+        put_first_at(states, joints, cells, y, table, none);
+        from = y + 1;
+    }
+}
+
+/// Puts the table that v's step makes to each of these nodes, after the tables `gone` and the nodes `out` have left, and
+/// moves those of other cells than before to the classes of these.
+fn put_made(
+    states: &[u64],
+    joints: &mut [Joint],
+    cells: &mut [u64],
+    classes: &mut Vec<Class>,
+    at: &NodeSet,
+    table: &Table,
+    gone: &NodeSet,
+    out: &NodeSet,
+) -> Result<(), AllocError>
+    requires states { length states.now ≡ MOST_NODES }
+    requires tag { table.now.tag < MOST_NODES }
+    requires out { (x : ℕ) → IsIn out.now x ↔ (x ≡ table.now.tag) }
+    requires len { length cells.old ≡ length joints.old }
+    requires within { (y : ℕ) → IsIn at.now y → y < length joints.old }
+    ensures joints_len { length joints.new ≡ length joints.old }
+    ensures cells_len { length cells.new ≡ length cells.old }
+    ensures put { OnOk result ((y : ℕ) → IsIn at.now y
+        → IsPut table.now (IsIn gone.now) (IsIn out.now) (joint_at joints.old y)
+        (joint_at joints.new y)) }
+    ensures counted { OnOk result ((y : ℕ) → IsIn at.now y → IsCounted states.now joints.old cells.old y
+        → IsCounted states.now joints.new cells.new y) }
     ensures same { (y : ℕ) → (IsIn at.now y → ⊥)
         → joint_at joints.new y ≡ joint_at joints.old y }
     ensures kept { (y : ℕ) → (IsIn at.now y → ⊥)
         → slice_index cells.new y ≡ slice_index cells.old y }
+    ensures classes { OnOk result ((waits : ℕ → Bool) → ((y : ℕ) → IsIn at.now y → waits y ≡ true)
+        → AreClasses cells.old waits classes.old.items
+        → AreClasses cells.new waits classes.new.items) }
 {
-    let mut fewest = u64::MAX;
     let mut from = 0;
     'nodes: while let Some(y) = at.first_from(from) {
-        let before = joint_of(joints, y);
-        let after = before.with_table(table, gone, out);
-        let count = count_after(states, &before.set, &after.set, table.tag, cells[y]);
-        cells[y] = count;
-        joints[y] = after;
-        fewest = fewest.min(count);
+        let before = cells[y];
+        put_at(states, joints, cells, y, table, gone, out);
+        move_node(classes, y, before, cells[y])?;
         from = y + 1;
     }
-    fewest
+    Ok(())
 }
 
 /// Joins the tables that hold v, which waits no more, and puts the table over their joined set without v in their place.
@@ -149,9 +197,10 @@ fn eliminate(
     states: &[u64],
     joints: &mut [Joint],
     cells: &mut [u64],
+    classes: &mut Vec<Class>,
     waiting: &NodeSet,
     v: usize,
-) -> Made
+) -> Result<Made, AllocError>
     requires states { length states.now ≡ MOST_NODES }
     requires small { v < MOST_NODES }
     requires len { length cells.old ≡ length joints.old }
@@ -160,36 +209,36 @@ fn eliminate(
     requires apart { IsIn waiting.now v → ⊥ }
     ensures joints_len { length joints.new ≡ length joints.old }
     ensures cells_len { length cells.new ≡ length cells.old }
-    ensures few { result.cells ≤ COUNT_END }
-    ensures little { result.work ≤ COUNT_END }
-    ensures floor { ((y : ℕ) → IsIn waiting.now y
-        → slice_index cells.old v ≤ slice_index cells.old y) → (y : ℕ) → IsIn waiting.now y
-        → result.floor ≤ slice_index cells.new y }
-    ensures step { (nodes : List NodeView) (live : List Table) → AreStates nodes states.now
+    ensures few { IfOk result (λ made. made.cells ≤ COUNT_END) }
+    ensures little { IfOk result (λ made. made.work ≤ COUNT_END) }
+    ensures classes { OnOk result (AreClasses cells.old (holds waiting.now) classes.old.items
+        → AreClasses cells.new (holds waiting.now) classes.new.items) }
+    ensures step { IfOk result (λ made.
+        (nodes : List NodeView) (live : List Table) → AreStates nodes states.now
         → Stands states.now (λ y. IsIn waiting.now y ⊎ (y ≡ v)) live joints.old cells.old
-        → IsStep nodes states.now (IsIn waiting.now) v live joints.new cells.new result }
+        → IsStep nodes states.now (IsIn waiting.now) v live joints.new cells.new made) }
 {
     let joint = joint_of(joints, v);
-    let mut scope = joint.set;
-    scope.remove(v);
+    let own = NodeSet::of(v);
+    let scope = joint.set.difference(&own);
     let at = scope.intersection(waiting);
     let tables = count_members(&joint.tables);
     let joined = cells[v];
-    let fewest = put_made(
+    put_made(
         states,
         joints,
         cells,
+        classes,
         &at,
         &Table { tag: v, scope },
         &joint.tables,
-        &NodeSet::of(v),
-    );
-    Made {
-        cells: count_after(states, &joint.set, &scope, v, joined),
+        &own,
+    )?;
+    Ok(Made {
+        cells: count_less(states, &joint.set, &scope, v, joined),
         work: multiply(joined, tables as u64),
         tables,
-        floor: joined.min(fewest),
-    }
+    })
 }
 
 /// Eliminates the nodes that wait, each time the first whose joined set has fewest cells.
@@ -202,6 +251,7 @@ pub fn eliminate_all(
     requires states { length states.now ≡ MOST_NODES }
     requires within { (y : ℕ) → IsIn waiting y
         → (y < length start.joints.items) × (y < MOST_NODES) }
+    requires len { length start.counts.items ≡ length start.joints.items }
     requires few { start.live ≤ MOST_NODES + 1 }
     requires started { (nodes : List NodeView) × (scopes : List (ℕ → Bool))
         × IsStarted nodes states.now (IsIn waiting) scopes start }
@@ -213,28 +263,25 @@ pub fn eliminate_all(
     ensures little { IfOk result (λ run. run.work ≤ COUNT_END) }
 {
     let mut rest: NodeSet = waiting;
-    let mut list = list_members(alloc, &rest)?;
-    let mut steps = Vec::with_capacity(alloc, list.len())?;
+    let mut steps = Vec::with_capacity(alloc, count_members(&rest))?;
     let Start {
         mut joints,
+        mut counts,
         mut live,
         mut cells,
     } = start;
-    let mut counts = vec![in alloc; 0; joints.len()]?;
     let joints: &mut [Joint] = &mut joints;
     let counts: &mut [u64] = &mut counts;
-    count_sets(states, joints, counts, &rest);
+    let mut classes = list_classes(alloc, counts, &rest)?;
     let mut work = 0;
-    let mut floor = 0;
-    'steps: while !list.is_empty() {
-        let v = list.remove(find_fewest(&list, counts, floor));
+    'steps: while let Some(v) = find_next(&classes) {
+        take_node(&mut classes, v, counts[v]);
         rest.remove(v);
         steps.push(v)?;
-        let made = eliminate(states, joints, counts, &rest, v);
+        let made = eliminate(states, joints, counts, &mut classes, &rest, v)?;
         live = live + 1 - made.tables;
         cells = add(cells, made.cells);
         work = add(work, made.work);
-        floor = made.floor;
     }
     Ok(Run {
         steps,

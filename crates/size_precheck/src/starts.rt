@@ -1,6 +1,6 @@
 //! The nodes of a plan and its first tables.
 
-ghost use Rattle.std.specs.Prelude.{◌≡◌, ◌⊎◌, ◌↔◌, ℕ, ◌<◌, ◌≤◌, ◌+◌, List, [], ◌∷◌, ◌++◌, length, map, Contains, Some, None, IfOk, OnOk, option_to_list};
+ghost use Rattle.std.specs.Prelude.{◌≡◌, ◌⊎◌, ◌↔◌, ℕ, ◌<◌, ◌≤◌, ◌+◌, List, [], ◌∷◌, ◌++◌, length, map, slice_index, Contains, Some, None, IsTrue, IfOk, OnOk, option_to_list};
 ghost use Rattle.maid_model.specs.declared.limits.TheConstants.{COUNT_END};
 ghost use Rattle.maid_model.specs.Diagrams.{IsDiagram};
 ghost use Rattle.maid_model.specs.Nodes.{parents_of};
@@ -9,17 +9,25 @@ ghost use Rattle.node_sets.specs.Sets.{holds, IsIn};
 ghost use Rattle.plan_sums.specs.Plans.{plan_nodes};
 ghost use Rattle.plan_sums.specs.Sizes.{IsPlan};
 ghost use Rattle.size_precheck.specs.declared.joints.Table.{Table};
-ghost use Rattle.size_precheck.specs.Families.{family_at, AreAbove, IsPlanner};
-ghost use Rattle.size_precheck.specs.Joints.{joint_at, AreStates, Tells, IsListOf, IsStarted, family_test, parents_test};
+ghost use Rattle.size_precheck.specs.Families.{family_at, AreAbove, IsNarrowed, IsPlanner, IsRuledBelow};
+ghost use Rattle.size_precheck.specs.Joints.{joint_at, AreStates, IsCounted, Tells, IsListOf, IsStarted, family_test, parents_test};
 
-use crate::counts::{add, count_cells};
-use crate::joints::{Joint, Table, put_table};
+use crate::counts::{add, are_same, count_cells};
+use crate::joints::{Joint, Table, joint_of};
 use crate::planners::{Family, Planner};
-use crate::simulation::Start;
+use crate::simulation::{Start, put_first};
 use maid_model::{Diagram, MOST_NODES};
 use node_sets::NodeSet;
 use plan_sums::plan_scopes;
 use std::alloc::{AllocError, Global};
+
+/// What is known of each node where some tables are live.
+#[derive(Drop)]
+struct Narrowed {
+    joints: Vec<Joint>,
+    /// The cells of their joined sets.
+    counts: Vec<u64>,
+}
 
 /// The counts of states of all numbers, 1 where there is no node.
 pub fn list_states(alloc: Global, diagram: &Diagram) -> Result<Vec<u64>, AllocError>
@@ -108,18 +116,140 @@ pub fn ruled_nodes(nodes: &NodeSet, without: Option<usize>) -> NodeSet
     ruled
 }
 
-/// Puts a first table.
-fn put_first(joints: &mut [Joint], waiting: &NodeSet, table: &Table)
+/// The nodes of these tables.
+fn nodes_of_tables(families: &[Family], tables: &NodeSet) -> NodeSet
+    requires { (t : ℕ) → IsIn tables.now t → t < length families.now }
+    ensures { (u : ℕ) → IsIn result u
+        ↔ ((t : ℕ) × IsIn tables.now t × IsIn (family_at families.now t).table.scope u) }
+{
+    let mut nodes = NodeSet::empty();
+    let mut from = 0;
+    'tables: while let Some(t) = tables.first_from(from) {
+        nodes = nodes.union(&families[t].table.scope);
+        from = t + 1;
+    }
+    nodes
+}
+
+/// Whether all tables of the joint are among these.
+fn has_no_other(joint: &Joint, tables: &NodeSet) -> bool
+    ensures { IsTrue result → (x : ℕ) → IsIn joint.now.tables x → IsIn tables.now x }
+{
+    let shared = joint.tables.intersection(tables);
+    are_same(&shared, &joint.tables)
+}
+
+/// Leaves of y's tables those of these nodes alone.
+fn narrow(
+    states: &[u64],
+    families: &[Family],
+    joints: &mut [Joint],
+    counts: &mut [u64],
+    ruled: &NodeSet,
+    y: usize,
+)
+    requires states { length states.now ≡ MOST_NODES }
+    requires ruled { (v : ℕ) → IsIn ruled.now v → v < length families.now }
+    requires here { y < length joints.old }
+    requires len { length counts.old ≡ length joints.old }
+    ensures joints_len { length joints.new ≡ length joints.old }
+    ensures counts_len { length counts.new ≡ length counts.old }
+    ensures narrowed { IsNarrowed states.now families.now joints.old counts.old ruled.now y
+        joints.new counts.new }
+    ensures same { (x : ℕ) → (x ≡ y → ⊥) → joint_at joints.new x ≡ joint_at joints.old x }
+    ensures kept { (x : ℕ) → (x ≡ y → ⊥) → slice_index counts.new x ≡ slice_index counts.old x }
+{
+    let joint = joint_of(joints, y);
+    if has_no_other(&joint, ruled) {
+        return;
+    }
+    let tables = joint.tables.intersection(ruled);
+    let set = nodes_of_tables(families, &tables);
+    counts[y] = count_cells(states, &set);
+    joints[y] = Joint { set, tables };
+}
+
+/// Leaves of the tables of the nodes that wait those of these nodes alone.
+fn narrow_all(
+    states: &[u64],
+    families: &[Family],
+    joints: &mut [Joint],
+    counts: &mut [u64],
+    ruled: &NodeSet,
+    waiting: &NodeSet,
+)
+    requires states { length states.now ≡ MOST_NODES }
+    requires ruled { (v : ℕ) → IsIn ruled.now v → v < length families.now }
+    requires within { (y : ℕ) → IsIn waiting.now y → y < length joints.old }
+    requires len { length counts.old ≡ length joints.old }
+    ensures joints_len { length joints.new ≡ length joints.old }
+    ensures counts_len { length counts.new ≡ length counts.old }
+    ensures narrowed { (y : ℕ) → IsIn waiting.now y
+        → IsNarrowed states.now families.now joints.old counts.old ruled.now y joints.new
+        counts.new }
+{
+    let mut from = 0;
+    'nodes: while let Some(y) = waiting.first_from(from) {
+        narrow(states, families, joints, counts, ruled, y);
+        from = y + 1;
+    }
+}
+
+/// Copies of what is known of the nodes, in which those that wait have the tables of these nodes alone.
+fn list_narrowed(
+    alloc: Global,
+    planner: &Planner,
+    ruled: &NodeSet,
+    waiting: &NodeSet,
+) -> Result<Narrowed, AllocError>
+    requires states { length planner.now.states.items ≡ MOST_NODES }
+    requires len { length planner.now.counts.items ≡ length planner.now.joints.items }
+    requires ruled { (v : ℕ) → IsIn ruled.now v → v < length planner.now.families.items }
+    requires waiting { (v : ℕ) → IsIn waiting.now v → v < length planner.now.joints.items }
+    ensures joints_len { IfOk result (λ narrowed.
+        length narrowed.joints.items ≡ length planner.now.joints.items) }
+    ensures counts_len { IfOk result (λ narrowed.
+        length narrowed.counts.items ≡ length planner.now.joints.items) }
+    ensures narrowed { IfOk result (λ narrowed. (y : ℕ) → IsIn waiting.now y
+        → IsNarrowed planner.now.states.items planner.now.families.items planner.now.joints.items
+        planner.now.counts.items ruled.now y narrowed.joints.items narrowed.counts.items) }
+{
+    let mut joints = Vec::from_slice(alloc, &planner.joints)?;
+    let mut counts = Vec::from_slice(alloc, &planner.counts)?;
+    narrow_all(
+        &planner.states,
+        &planner.families,
+        &mut joints,
+        &mut counts,
+        ruled,
+        waiting,
+    );
+    Ok(Narrowed { joints, counts })
+}
+
+/// Puts the table of the utility.
+fn put_utility(
+    states: &[u64],
+    joints: &mut [Joint],
+    counts: &mut [u64],
+    waiting: &NodeSet,
+    table: &Table,
+)
+    requires states { length states.now ≡ MOST_NODES }
     requires tag { table.now.tag < MOST_NODES }
+    requires len { length counts.old ≡ length joints.old }
     requires within { (y : ℕ) → IsIn waiting.now y → y < length joints.old }
     ensures len { length joints.new ≡ length joints.old }
+    ensures counts_len { length counts.new ≡ length counts.old }
     ensures tells { (live : List Table) (y : ℕ) → IsIn waiting.now y
         → Tells live y (joint_at joints.old y)
         → Tells (live ++ table.now ∷ []) y (joint_at joints.new y) }
+    ensures counted { (y : ℕ) → IsIn waiting.now y → IsCounted states.now joints.old counts.old y
+        → IsCounted states.now joints.new counts.new y }
 {
     let none = NodeSet::empty();
     let at = table.scope.intersection(waiting);
-    put_table(joints, &at, table, &none, &none);
+    put_first(states, joints, counts, &at, table, &none);
 }
 
 /// The table of a chance or decision node: over the node and its parents.
@@ -158,12 +288,14 @@ pub fn put_all_first(
     waiting: &NodeSet,
 ) -> Result<Start, AllocError>
     requires planner { IsPlanner diagram.now.nodes planner.now }
-    requires ruled { (v : ℕ) → IsIn ruled.now v → v < length diagram.now.nodes }
+    requires ruled { (v : ℕ) → IsIn ruled.now v
+        → IsRuledBelow diagram.now.nodes (length diagram.now.nodes) v }
     requires waiting { (v : ℕ) → IsIn waiting.now v → v < length diagram.now.nodes }
     requires known { (u : ℕ) → utility ≡ Some u → u < length diagram.now.nodes }
     requires unruled { (u : ℕ) → utility ≡ Some u → IsIn ruled.now u → ⊥ }
     requires kept { (u : ℕ) → utility ≡ Some u → IsIn waiting.now u → ⊥ }
     ensures len { IfOk result (λ start. length start.joints.items ≡ length diagram.now.nodes) }
+    ensures counts { IfOk result (λ start. length start.counts.items ≡ length start.joints.items) }
     ensures few { IfOk result (λ start. start.live ≤ MOST_NODES + 1) }
     ensures started { IfOk result (λ start.
         (list : List ℕ) → IsListOf ruled.now list
@@ -174,25 +306,27 @@ pub fn put_all_first(
 {
     let states = planner.states.as_slice();
     let families = planner.families.as_slice();
-    let mut joints = vec![in alloc; Joint::empty(); diagram.count()]?;
+    let Narrowed {
+        mut joints,
+        mut counts,
+    } = list_narrowed(alloc, planner, ruled, waiting)?;
     let mut live = 0;
     let mut cells = 0;
     let mut from = 0;
     'tables: while let Some(v) = ruled.first_from(from) {
-        let family = families[v];
-        put_first(&mut joints, waiting, &family.table);
-        cells = add(cells, family.cells);
+        cells = add(cells, families[v].cells);
         live += 1;
         from = v + 1;
     }
     if let Some(u) = utility {
         let table = utility_table(diagram, u);
-        put_first(&mut joints, waiting, &table);
+        put_utility(states, &mut joints, &mut counts, waiting, &table);
         cells = add(cells, count_cells(states, &table.scope));
         live += 1;
     }
     Ok(Start {
         joints,
+        counts,
         live,
         cells,
     })

@@ -7,7 +7,7 @@ use Rattle.size_precheck.specs.Joints.{AreStates, IsStarted, IsRun, family_test,
 use Rattle.size_precheck.specs.Greedy.{first_scopes, IsGreedyOrder}
 use Rattle.size_precheck.proofs.Counting.{counted_few}
 use Rattle.size_precheck.proofs.Orders.{greedy_same, order_of_greedy}
-use Rattle.size_precheck.proofs.Planning.{all_known, all_plain, in_waiting, ruled_listed, scopes_listed, kept_counted, last_cells, last_work}
+use Rattle.size_precheck.proofs.Planning.{all_known, all_plain, all_ruled, in_waiting, ruled_listed, scopes_listed, kept_counted, last_cells, last_work}
 use Rattle.size_precheck.proofs.Starting.{kept_known}
 use Rattle.size_precheck.proofs.plans.plan_by.Goals as goal
 
@@ -20,7 +20,8 @@ ruled_nodes-ruled-requires c d e = let a = (c.requires.asked.decision d e).withi
 pub put_all_first-requires-clause-ruled : goal.put_all_first-requires-clause-ruled
 put_all_first-requires-clause-ruled c v m =
     let plan : PlanView = record { keep = c.args.keep.now; without = c.args.without; utility = c.args.utility } in
-    all_known c.args.diagram.now.nodes plan c.plan_nodes-nodes.result c.plan_nodes-nodes.ensures v ((c.ruled_nodes-ruled.ensures v).0 m).0
+    let inside = ((c.ruled_nodes-ruled.ensures v).0 m).0 in
+    (all_known c.args.diagram.now.nodes plan c.plan_nodes-nodes.result c.plan_nodes-nodes.ensures v inside, all_ruled c.args.diagram.now.nodes plan c.plan_nodes-nodes.result c.plan_nodes-nodes.ensures c.requires.asked.is_plan v inside)
 
 pub put_all_first-requires-clause-waiting : goal.put_all_first-requires-clause-waiting
 put_all_first-requires-clause-waiting c v m =

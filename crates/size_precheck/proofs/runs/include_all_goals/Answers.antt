@@ -9,9 +9,9 @@ use Rattle.size_precheck.proofs.runs.include_all_goals.Goals as goal
 
 pub loop-decision-preserved : goal.loop-decision-preserved
 loop-decision-preserved c = (
-  c.include_goals-sum.ensures.few,
-  λ nodes order z. include_goals_of nodes order c.args.plans.now c.loop-decision.decision-index c.decision-item.result c.args.size c.loop-decision.sum c.include_goals-sum.result z c.loop-decision-test.true c.decision-item.is
-      (λ asked kept. c.include_goals-sum.ensures.counted nodes asked (subst (λ l. AllZip (IsPlanned nodes) asked l) (sym c.deref.ensures.value) kept)) (c.loop-decision.invariant.1 nodes order z),
+  c.include_plans-sum.ensures.few,
+  λ nodes order z. include_goals_of nodes order c.args.plans.now c.loop-decision.decision-index c.decision-item.result c.args.size c.loop-decision.sum c.include_plans-sum.result z c.loop-decision-test.true c.decision-item.is
+      (λ asked kept. c.include_plans-sum.ensures.counted nodes asked (subst (λ l. AllZip (IsPlanned nodes) asked l) (sym c.deref.ensures.value) kept)) (c.loop-decision.invariant.1 nodes order z),
 )
 
 pub returns : goal.returns

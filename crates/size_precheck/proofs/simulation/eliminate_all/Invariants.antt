@@ -1,26 +1,25 @@
 use Rattle.std.proofs.Common.{◌≡◌, ◌+◌, ◌↔◌, ◌^◌, ◌≤◌, ℕ, Bool, List, length}
-use Rattle.std.specs.Prelude.{slice_index}
 use Rattle.maid_model.specs.Placing.{Remains}
 use Rattle.maid_model.specs.Views.{NodeView}
-use Rattle.node_sets.specs.Sets.{IsIn}
-use Rattle.size_precheck.specs.Joints.{IsListOf, IsStarted}
+use Rattle.node_sets.specs.Sets.{holds, IsIn}
+use Rattle.size_precheck.specs.Classes.{AreClasses}
+use Rattle.size_precheck.specs.Joints.{member_count, IsStarted}
 use Rattle.size_precheck.proofs.Running.{At}
 use Rattle.size_precheck.proofs.simulation.eliminate_all.Given as goal
 
--- the list has what remains, and what is known is right for the scopes after the steps so far
+-- the classes have what remains, and what is known is right for the scopes after the steps so far
 abbrev pub invariant-steps : goal.invariant-steps
 invariant-steps l = record {
-  list : IsListOf l.rest l.list.items;
+  classes : AreClasses l.counts (holds l.rest) l.classes.items;
   joints_len : length l.joints ≡ length l.fn.start.joints.items;
   counts_len : length l.counts ≡ length l.joints;
   remains : (v : ℕ) → IsIn l.rest v ↔ Remains (IsIn l.fn.waiting) l.steps.items v;
   live : l.live ≤ 257 + length l.steps.items;
   few : l.cells ≤ 10 ^ 18;
   little : l.work ≤ 10 ^ 18;
-  floor : (y : ℕ) → IsIn l.rest y → l.floor ≤ slice_index l.counts y;
   at : (nodes : List NodeView) (scopes : List (ℕ → Bool)) → IsStarted nodes l.states (IsIn l.fn.waiting) scopes l.fn.start
       → At nodes l.states (IsIn l.fn.waiting) (IsIn l.rest) scopes l.steps.items l.joints l.counts l.live l.cells l.work;
 }
 
 abbrev pub decreases-steps : goal.decreases-steps
-decreases-steps l = length l.list.items
+decreases-steps l = member_count l.rest

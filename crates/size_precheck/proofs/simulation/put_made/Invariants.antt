@@ -1,6 +1,7 @@
-use Rattle.std.proofs.Common.{◌≡◌, ◌-◌, ◌<◌, ◌≤◌, ◌⊎◌, ℕ, length}
+use Rattle.std.proofs.Common.{◌≡◌, ◌-◌, ◌<◌, ◌≤◌, ◌⊎◌, ℕ, Bool, true, length}
 use Rattle.std.specs.Prelude.{slice_index}
 use Rattle.node_sets.specs.Sets.{IsIn}
+use Rattle.size_precheck.specs.Classes.{AreClasses}
 use Rattle.size_precheck.specs.Joints.{joint_at, IsCounted, IsPut}
 use Rattle.size_precheck.proofs.simulation.put_made.Given as goal
 
@@ -12,7 +13,7 @@ invariant-nodes l = record {
   cells_len : length l.cells ≡ length l.initial.cells;
   put : (y : ℕ) → y < l.from → IsIn l.at y → IsPut l.table (IsIn l.gone) (IsIn l.out) (joint_at l.initial.joints y) (joint_at l.joints y);
   counted : (y : ℕ) → y < l.from → IsIn l.at y → IsCounted l.states l.initial.joints l.initial.cells y → IsCounted l.states l.joints l.cells y;
-  fewest : (y : ℕ) → y < l.from → IsIn l.at y → l.fewest ≤ slice_index l.cells y;
+  classes : (waits : ℕ → Bool) → ((y : ℕ) → IsIn l.at y → waits y ≡ true) → AreClasses l.initial.cells waits l.initial.classes.items → AreClasses l.cells waits l.classes.items;
   same : (y : ℕ) → (l.from ≤ y) ⊎ (IsIn l.at y → ⊥) → joint_at l.joints y ≡ joint_at l.initial.joints y;
   kept : (y : ℕ) → (l.from ≤ y) ⊎ (IsIn l.at y → ⊥) → slice_index l.cells y ≡ slice_index l.initial.cells y;
 }

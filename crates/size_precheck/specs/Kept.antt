@@ -1,0 +1,28 @@
+-- Plans of decisions that are kept for later runs, of other diagrams too.
+use Rattle.std.specs.Prelude.{◌≡◌, ℕ, List, length}
+use Rattle.maid_model.specs.Nodes.{IsDecision, agent_of, node_at, states_of, parents_of, is_utility, is_utility_of}
+use Rattle.maid_model.specs.Views.{NodeView}
+use Rattle.size_precheck.specs.declared.keeping.KeptPlans.{KeptPlans}
+use Rattle.size_precheck.specs.Sizes.{ArePlansOf}
+
+-- what is kept is of a decision among these nodes, with its plans
+pub record IsKept (nodes : List NodeView) (kept : KeptPlans) : Type 0 where
+  pub decision : IsDecision nodes kept.decision
+  pub plans : ArePlansOf nodes kept.decision kept.plans.rows kept.plans.goals.items
+
+-- the others keep all that plans of the nodes' decisions look at: the states and the parents of each node, the utilities
+-- of each agent, and the decisions with their agents; what else is a chance node or a decision does not matter
+pub record KeepsPlans (nodes others : List NodeView) : Type 0 where
+  pub count : length others ≡ length nodes
+  pub states : (v : ℕ) → states_of others v ≡ states_of nodes v
+  pub parents : (v : ℕ) → parents_of others v ≡ parents_of nodes v
+  pub utility :
+      (v : ℕ) → is_utility (node_at others v).kind ≡ is_utility (node_at nodes v).kind
+  pub owned : (agent v : ℕ) → is_utility_of others agent v ≡ is_utility_of nodes agent v
+  pub decision : (d : ℕ) → IsDecision nodes d → IsDecision others d
+  pub agent : (d : ℕ) → IsDecision nodes d → agent_of others d ≡ agent_of nodes d
+
+-- then the plans that are kept of a decision are also those of the others' decision
+abbrev pub KeptPlansStand : Type 0
+KeptPlansStand = (nodes others : List NodeView) (kept : KeptPlans) → KeepsPlans nodes others
+    → IsKept nodes kept → IsKept others kept

@@ -1,0 +1,111 @@
+//! Plans of decisions that are kept for later runs.
+
+ghost use Rattle.std.specs.Prelude.{◌≡◌, ◌<◌, ℕ, List, All, Some, length, map, IsTrue, IfOk};
+ghost use Rattle.maid_model.specs.Nodes.{IsDecision, decisions_of, is_decision, node_at};
+ghost use Rattle.maid_model.specs.Views.{NodeView};
+ghost use Rattle.size_precheck.specs.declared.decisions.DecisionPlans.{DecisionPlans};
+ghost use Rattle.size_precheck.specs.Decisions.{ArePlans};
+ghost use Rattle.size_precheck.specs.Families.{IsPlanner};
+ghost use Rattle.size_precheck.specs.Kept.{IsKept};
+ghost use Rattle.size_precheck.specs.Sizes.{ArePlansOf, ListsDecisions};
+
+use crate::decisions::{DecisionPlans, decision_by};
+use crate::planners::Planner;
+use maid_model::{Diagram, Kind};
+use std::alloc::{AllocError, Global};
+
+/// A decision with its plans. They are also those of a diagram in which other nodes have become decisions, as
+/// `kept_plans_stand` says.
+#[derive(Debug, Drop)]
+pub struct KeptPlans {
+    pub decision: usize,
+    pub plans: DecisionPlans,
+}
+
+/// Whether the node is a decision.
+fn is_decision(diagram: &Diagram, v: usize) -> bool
+    requires { v < length diagram.now.nodes }
+    ensures kind { result ≡ is_decision (node_at diagram.now.nodes v).kind }
+    ensures decision { IsTrue result → IsDecision diagram.now.nodes v }
+{
+    match diagram.kind(v) {
+        Kind::Decision => true,
+        Kind::Chance | Kind::Utility => false,
+    }
+}
+
+/// The plans of each decision of the diagram, in text order, to be kept for later runs. `make_plan` tells the cost of each;
+/// what is kept of one is the list of its kept nodes and that of its steps.
+pub fn keep_plans(alloc: Global, diagram: &Diagram) -> Result<Vec<KeptPlans>, AllocError>
+    ensures decisions { IfOk result (λ kept.
+        map (λ k. k.decision) kept.items ≡ decisions_of diagram.now.nodes) }
+    ensures kept { IfOk result (λ kept. All (IsKept diagram.now.nodes) kept.items) }
+{
+    let planner = Planner::new(alloc, diagram)?;
+    let mut kept = Vec::new(alloc);
+    for decision in 0..diagram.count() {
+        if is_decision(diagram, decision) {
+            let plans = decision_by(alloc, diagram, &planner, decision)?;
+            kept.push(KeptPlans { decision, plans })?;
+        }
+    }
+    Ok(kept)
+}
+
+/// A copy of the plans that are kept of the decision, where some are.
+fn copy_kept(
+    alloc: Global,
+    kept: &[KeptPlans],
+    decision: usize,
+) -> Result<Option<DecisionPlans>, AllocError>
+    ensures { IfOk result (λ found.
+        (nodes : List NodeView) (plans : DecisionPlans) → All (IsKept nodes) kept.now
+        → found ≡ Some plans → ArePlansOf nodes decision plans.rows plans.goals.items) }
+{
+    for known in kept {
+        if known.decision == decision {
+            return Ok(Some(known.plans.copy(alloc)?));
+        }
+    }
+    Ok(None)
+}
+
+/// The plans of a decision: those that are kept of it, or else made by what is known of the diagram.
+fn decision_with(
+    alloc: Global,
+    diagram: &Diagram,
+    planner: &Planner,
+    kept: &[KeptPlans],
+    decision: usize,
+) -> Result<DecisionPlans, AllocError>
+    requires decision { IsDecision diagram.now.nodes decision }
+    requires planner { IsPlanner diagram.now.nodes planner.now }
+    requires kept { All (IsKept diagram.now.nodes) kept.now }
+    ensures { IfOk result (λ plans.
+        ArePlansOf diagram.now.nodes decision plans.rows plans.goals.items) }
+{
+    match copy_kept(alloc, kept, decision)? {
+        Some(plans) => Ok(plans),
+        None => decision_by(alloc, diagram, planner, decision),
+    }
+}
+
+/// The plans of each decision of the order, those that are kept among them.
+pub(crate) fn plan_decisions(
+    alloc: Global,
+    diagram: &Diagram,
+    planner: &Planner,
+    kept: &[KeptPlans],
+    order: &[usize],
+) -> Result<Vec<DecisionPlans>, AllocError>
+    requires order { ListsDecisions diagram.now.nodes order.now }
+    requires planner { IsPlanner diagram.now.nodes planner.now }
+    requires kept { All (IsKept diagram.now.nodes) kept.now }
+    ensures { IfOk result (λ plans. ArePlans diagram.now.nodes order.now plans.items) }
+{
+    let mut plans = Vec::with_capacity(alloc, order.len())?;
+    for decision in order {
+        plans.push(decision_with(alloc, diagram, planner, kept, *decision)?)?;
+    }
+    Ok(plans)
+}

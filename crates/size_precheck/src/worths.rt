@@ -1,0 +1,45 @@
+//! The plans of the utilities' worths.
+
+ghost use Rattle.std.specs.Prelude.{map, IfOk};
+ghost use Rattle.std.specs.List.{AllZip};
+ghost use Rattle.plan_sums.specs.Plans.{worth_plan};
+ghost use Rattle.size_precheck.specs.Families.{IsPlanner};
+ghost use Rattle.size_precheck.specs.Sizes.{IsPlanned, utility_list};
+
+use crate::kinds::worth_by;
+use crate::planners::Planner;
+use crate::plans::Plan;
+use maid_model::{Diagram, Kind};
+use std::alloc::{AllocError, Global};
+
+/// The plans of the utilities' worths in text order, by what is known of the diagram.
+pub(crate) fn worths_by(
+    alloc: Global,
+    diagram: &Diagram,
+    planner: &Planner,
+) -> Result<Vec<Plan>, AllocError>
+    requires { IsPlanner diagram.now.nodes planner.now }
+    ensures { IfOk result (λ plans.
+        AllZip (IsPlanned diagram.now.nodes)
+        (map (λ u. worth_plan u) (utility_list diagram.now.nodes)) plans.items) }
+{
+    let mut plans = Vec::new(alloc);
+    for u in 0..diagram.count() {
+        match diagram.kind(u) {
+            Kind::Utility => plans.push(worth_by(alloc, diagram, planner, u)?)?,
+            Kind::Chance | Kind::Decision => {}
+        }
+    }
+    Ok(plans)
+}
+
+/// The plans of the worths of all utilities in text order. What they share is found once; `make_plan` tells what each of
+/// them costs.
+pub fn plan_worths(alloc: Global, diagram: &Diagram) -> Result<Vec<Plan>, AllocError>
+    ensures { IfOk result (λ plans.
+        AllZip (IsPlanned diagram.now.nodes)
+        (map (λ u. worth_plan u) (utility_list diagram.now.nodes)) plans.items) }
+{
+    let planner = Planner::new(alloc, diagram)?;
+    worths_by(alloc, diagram, &planner)
+}
