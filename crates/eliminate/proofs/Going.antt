@@ -13,15 +13,15 @@ use Rattle.ring_sums.proofs.Each.{zip_filter}
 use Rattle.ring_sums.proofs.Same.{map_filter, same_out, fits_same, holds_same, makes_scopes_at}
 use Rattle.factor_core.specs.declared.slots.Slot.{Slot}
 use Rattle.factor_core.specs.Slots.{WorkspaceView, cells_over, IsLive, table_of, tables_of}
-use Rattle.size_precheck.specs.Counts.{counted_cells}
 use Rattle.size_precheck.specs.Greedy.{holding}
 use Rattle.size_precheck.specs.Sizes.{made_cells}
+use Rattle.eliminate.specs.Limits.{step_cells}
 use Rattle.eliminate.specs.Steps.{slots_with, slots_without, PutsTable, CanJoinOut, Between}
 use Rattle.eliminate.proofs.Sizes.{cells_exact}
 use Rattle.eliminate.proofs.Standing.{map_length, more_stands}
 use Rattle.eliminate.proofs.Stepping.{all_filter}
 
-any_map : {X Y : Type 0} (p : Y → Bool) (f : X → Y) (xs : List X) → list_any p (map f xs) ≡ list_any (λ x. p (f x)) xs
+pub any_map : {X Y : Type 0} (p : Y → Bool) (f : X → Y) (xs : List X) → list_any p (map f xs) ≡ list_any (λ x. p (f x)) xs
 any_map p f [] = refl
 any_map p f (x ∷ xs) = ap (λ b. p (f x) || b) (any_map p f xs)
 
@@ -31,7 +31,7 @@ made_scope r count v ts = fun_ext (λ u. ap (λ b. b && not (eqb u v))
     (ap (λ ss. list_any (λ s. s u) ss) (sym (map_filter (λ (t : Table _). t.holds) (λ s. s v) ts)) ∙ any_map (λ s. s u) (λ (t : Table _). t.holds) (with_node v ts)))
 
 module _ {C : Type 0} (r : Ring C) (h : IsRing r) (nodes : List NodeView) (before now : WorkspaceView C) (slots : List Slot) (v : ℕ) (rest steps : List ℕ) (first : List (Table C)) (cells : ℕ)
-    (b : Between r nodes before now slots (v ∷ rest) steps first cells) (counted : cells < COUNT_END) (fits : cells ≤ before.spare) where
+    (b : Between r nodes before now slots (v ∷ rest) steps first cells) where
   abbrev stored : List (Table C)
   stored = tables_of r nodes now.cells slots
 
@@ -56,8 +56,8 @@ module _ {C : Type 0} (r : Ring C) (h : IsRing r) (nodes : List NodeView) (befor
       (zip_filter (IsSame (states_of nodes)) (λ t. not (t.holds v)) (λ t. not (t.holds v)) (λ t u e. ap not (e.holds v)) stored b.tables b.stand.same)
 
   -- the cells that the step makes, as the plan counts them
-  abbrev here : ℕ
-  here = counted_cells nodes (joined_without v (holding v (scopes_of b.tables)))
+  abbrev pub here : ℕ
+  here = step_cells nodes v (scopes_of b.tables)
 
   abbrev later : ℕ
   later = made_cells nodes rest (scopes_one v (scopes_of b.tables))
@@ -65,23 +65,23 @@ module _ {C : Type 0} (r : Ring C) (h : IsRing r) (nodes : List NodeView) (befor
   parts : b.spent + (here + later) ≡ cells
   parts = b.room
 
-  here_exact : here ≡ cells_over nodes told.holds
-  here_exact = cells_exact nodes (joined_without v (holding v (scopes_of b.tables))) (omega (arith, parts, counted)) ∙ ap (cells_over nodes) (made_scope r (states_of nodes) v b.tables)
+  pub here_exact : here < COUNT_END → here ≡ cells_over nodes told.holds
+  here_exact counted = cells_exact nodes (joined_without v (holding v (scopes_of b.tables))) counted ∙ ap (cells_over nodes) (made_scope r (states_of nodes) v b.tables)
 
-  pub can_join : CanJoinOut r nodes now slots v
-  can_join = record {
+  pub can_join_here : here < COUNT_END → here ≤ now.spare → CanJoinOut r nodes now slots v
+  can_join_here counted fits = record {
     live = b.stand.live;
     some = some_slots (slots_with v slots) (subst (λ ts. 0 < length ts) (sym with_is) (holds_same r h r.size (states_of nodes) r.most (v ∷ rest) stored b.tables b.stand.same b.holds).0);
     fits = subst (JoinFits r.size (states_of nodes) r.most v) (sym with_is) (fits_same r h r.size (states_of nodes) r.most (v ∷ rest) stored b.tables b.stand.same b.fits).0;
-    room = subst (λ n. n ≤ now.spare) (here_exact ∙ ap (cells_over nodes) (sym (fun_ext made_same.holds))) (omega (arith, parts, fits, b.stand.appends.less));
+    room = subst (λ n. n ≤ now.spare) (here_exact counted ∙ ap (cells_over nodes) (sym (fun_ext made_same.holds))) fits;
   }
     where
       some_slots : (ss : List Slot) → 0 < length (tables_of r nodes now.cells ss) → 0 < length ss
       some_slots ss l = omega (arith, l, map_length (table_of r nodes now.cells) ss)
 
   -- after it the rest leads on
-  pub goes_on : (after : WorkspaceView C) (new : List Slot) → PutsTable r nodes now after (slots_without v slots) new made → Between r nodes before after new rest steps first cells
-  goes_on after new puts = record {
+  pub goes_on_here : here < COUNT_END → (after : WorkspaceView C) (new : List Slot) → PutsTable r nodes now after (slots_without v slots) new made → Between r nodes before after new rest steps first cells
+  goes_on_here counted after new puts = record {
     tables = eliminate_one r (states_of nodes) v b.tables;
     spent = b.spent + cells_over nodes told.holds;
     stand = more_stands r nodes before now after b.spent slots (slots_without v slots) new b.tables (without_node v b.tables) made told b.stand
@@ -90,13 +90,34 @@ module _ {C : Type 0} (r : Ring C) (h : IsRing r) (nodes : List NodeView) (befor
     fits = b.fits.1;
     holds = b.holds.1;
     room = ap (λ ss. b.spent + cells_over nodes told.holds + made_cells nodes rest ss) (makes_scopes_at r (states_of nodes) (v ∷ []) b.tables)
-        ∙ ap (λ n. b.spent + n + later) (sym here_exact)
+        ∙ ap (λ n. b.spent + n + later) (sym (here_exact counted))
         ∙ same_sum b.spent here later
         ∙ parts;
   }
     where
       same_sum : (x y z : ℕ) → x + y + z ≡ x + (y + z)
       same_sum x y z = omega arith
+
+  -- so many cells more are spent, and these scopes are left
+  pub spent_here : (counted : here < COUNT_END) (after : WorkspaceView C) (new : List Slot) (puts : PutsTable r nodes now after (slots_without v slots) new made) → (goes_on_here counted after new puts).spent ≡ b.spent + here
+  unfolding goes_on_here
+  spent_here counted after new puts = ap (λ n. b.spent + n) (sym (here_exact counted))
+
+  pub scopes_here : (counted : here < COUNT_END) (after : WorkspaceView C) (new : List Slot) (puts : PutsTable r nodes now after (slots_without v slots) new made) → scopes_of (goes_on_here counted after new puts).tables ≡ scopes_one v (scopes_of b.tables)
+  unfolding goes_on_here
+  scopes_here counted after new puts = makes_scopes_at r (states_of nodes) (v ∷ []) b.tables
+
+-- where all cells are counted and have room, so have those of the step
+module _ {C : Type 0} (r : Ring C) (h : IsRing r) (nodes : List NodeView) (before now : WorkspaceView C) (slots : List Slot) (v : ℕ) (rest steps : List ℕ) (first : List (Table C)) (cells : ℕ)
+    (b : Between r nodes before now slots (v ∷ rest) steps first cells) (counted : cells < COUNT_END) (fits : cells ≤ before.spare) where
+  few : here r h nodes before now slots v rest steps first cells b < COUNT_END
+  few = omega (arith, b.room, counted)
+
+  pub can_join : CanJoinOut r nodes now slots v
+  can_join = can_join_here r h nodes before now slots v rest steps first cells b few (omega (arith, b.room, fits, b.stand.appends.less))
+
+  pub goes_on : (after : WorkspaceView C) (new : List Slot) → PutsTable r nodes now after (slots_without v slots) new (sum_out r (states_of nodes) v (tables_of r nodes now.cells (slots_with v slots))) → Between r nodes before after new rest steps first cells
+  goes_on = goes_on_here r h nodes before now slots v rest steps first cells b few
 
 -- the next step, by its place
 pub at_place : {C : Type 0} (r : Ring C) (nodes : List NodeView) (before now : WorkspaceView C) (slots : List Slot) (i : ℕ) (steps : List ℕ) (first : List (Table C)) (cells : ℕ)

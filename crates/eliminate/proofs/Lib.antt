@@ -6,6 +6,9 @@ pub mod Ruled
 pub mod Standing
 pub mod Starting
 pub mod Sizes
+pub mod Factors
 pub mod Going
 pub mod Whole
+pub mod Scoped
+pub mod Within
 pub mod Samples

@@ -81,6 +81,33 @@ value_some : (nodes : List NodeView) (o : Option ℕ) → 1 ≤ greatest_value n
 value_some nodes None = omega arith
 value_some nodes (Some u) = omega arith
 
+-- ---- the numbers of one node
+module _ (nodes : List NodeView) (p : List RuleView) (most : ℕ) where
+  -- where its total fits twice
+  pub node_numbers : HasChanceTables nodes → IsProfile nodes p → (v : ℕ) → 2 * weight_total nodes p v ≤ most → (node_at nodes v).kind ≢ Utility → NumbersFit most nodes p v
+  node_numbers chance profile v fits plain = by_kind (node_at nodes v).kind refl
+    where
+      by_kind : (k : Kind) → (node_at nodes v).kind ≡ k → NumbersFit most nodes p v
+      by_kind Chance e =
+          let total : weight_total nodes p v ≡ chance_total nodes v = ap (λ k. total_by k (chance_total nodes v) (rule_total p v)) e in
+          let cells = (node_at nodes v).cells in
+          subst (λ k. All (λ z. 2 * nat_abs z ≤ most) (numbers_by k cells (weights_of p v))) (sym e)
+          (all_at_most cells (chance_total nodes v) most (cell_at_most cells (rows_of nodes v) (states_of nodes v) (chance_total nodes v) (chance.table v e)) (subst (λ t. 2 * t ≤ most) total fits))
+      by_kind Decision e =
+          let total : weight_total nodes p v ≡ rule_total p v = ap (λ k. total_by k (chance_total nodes v) (rule_total p v)) e in
+          let cells = map pos (weights_of p v) in
+          subst (λ k. All (λ z. 2 * nat_abs z ≤ most) (numbers_by k (node_at nodes v).cells (weights_of p v))) (sym e)
+          (all_at_most cells (rule_total p v) most (cell_at_most cells (rows_of nodes v) (states_of nodes v) (rule_total p v) (profile.rule v (decision_of nodes v e)).table) (subst (λ t. 2 * t ≤ most) total fits))
+      by_kind Utility e = absurd (plain e)
+
+  -- where a utility's greatest value does
+  pub value_numbers : (u : ℕ) → 2 * greatest_abs (node_at nodes u).cells ≤ most → (node_at nodes u).kind ≡ Utility → NumbersFit most nodes p u
+  value_numbers u fits e =
+      let cells = (node_at nodes u).cells in
+      subst (λ k. All (λ z. 2 * nat_abs z ≤ most) (numbers_by k cells (weights_of p u))) (sym e)
+      (all_at_most cells (greatest_abs cells) most (λ k l. cell_le cells k) fits)
+
+-- ---- the numbers of a plan
 module _ (nodes : List NodeView) (p : List RuleView) (plan : PlanView) (most : ℕ) (graph : IsGraph nodes) (chance : HasChanceTables nodes) (profile : IsProfile nodes p) (fits : 2 * plan_total nodes p plan ≤ most) where
   positive : (v : ℕ) → 0 < weight_total nodes p v
   positive = (tables_of nodes p graph chance profile).positive
@@ -100,28 +127,13 @@ module _ (nodes : List NodeView) (p : List RuleView) (plan : PlanView) (most : �
 
   -- of a node with its own table
   pub ruled_fit : (v : ℕ) → Among v (ruled_nodes nodes plan) → (node_at nodes v).kind ≢ Utility → NumbersFit most nodes p v
-  ruled_fit v m plain = by_kind (node_at nodes v).kind refl
-    where
-      by_kind : (k : Kind) → (node_at nodes v).kind ≡ k → NumbersFit most nodes p v
-      by_kind Chance e =
-          let total : weight_total nodes p v ≡ chance_total nodes v = ap (λ k. total_by k (chance_total nodes v) (rule_total p v)) e in
-          let cells = (node_at nodes v).cells in
-          subst (λ k. All (λ z. 2 * nat_abs z ≤ most) (numbers_by k cells (weights_of p v))) (sym e)
-          (all_at_most cells (chance_total nodes v) most (cell_at_most cells (rows_of nodes v) (states_of nodes v) (chance_total nodes v) (chance.table v e)) (subst (λ t. 2 * t ≤ most) total (total_fits v m)))
-      by_kind Decision e =
-          let total : weight_total nodes p v ≡ rule_total p v = ap (λ k. total_by k (chance_total nodes v) (rule_total p v)) e in
-          let cells = map pos (weights_of p v) in
-          subst (λ k. All (λ z. 2 * nat_abs z ≤ most) (numbers_by k (node_at nodes v).cells (weights_of p v))) (sym e)
-          (all_at_most cells (rule_total p v) most (cell_at_most cells (rows_of nodes v) (states_of nodes v) (rule_total p v) (profile.rule v (decision_of nodes v e)).table) (subst (λ t. 2 * t ≤ most) total (total_fits v m)))
-      by_kind Utility e = absurd (plain e)
+  ruled_fit v m plain = node_numbers nodes p most chance profile v (total_fits v m) plain
 
   -- of the utility
   pub value_fit : (u : ℕ) → plan.utility ≡ Some u → (node_at nodes u).kind ≡ Utility → NumbersFit most nodes p u
   value_fit u some e =
-      let cells = (node_at nodes u).cells in
       let most_here : 2 * greatest_value nodes (Some u) ≤ most = subst (λ o. 2 * greatest_value nodes o ≤ most) some value_fits in
-      subst (λ k. All (λ z. 2 * nat_abs z ≤ most) (numbers_by k cells (weights_of p u))) (sym e)
-      (all_at_most cells (greatest_abs cells) most (λ k l. cell_le cells k) (omega (arith, most_here)))
+      value_numbers nodes p most u (omega (arith, most_here)) e
 
   -- the bound of all sums on the way
   pub bound_fits : plan_bound nodes p plan ≤ most

@@ -1,5 +1,5 @@
 -- Counts that did not stop are exact.
-use Rattle.std.proofs.Common.{◌≡◌, ◌∙◌, ℕ, ◌+◌, ◌*◌, ◌<◌, Bool, true, false, cond, filter, List, [], ◌∷◌, refl, sym, ap, arith}
+use Rattle.std.proofs.Common.{◌≡◌, ◌∙◌, ℕ, ◌+◌, ◌*◌, ◌<◌, ◌≤◌, Bool, true, false, cond, filter, List, [], ◌∷◌, refl, sym, ap, arith}
 use Rattle.std.specs.List.{sum_by}
 use Rattle.std.proofs.lemmas.List.Sums.{sum_by-cons}
 use Rattle.finite_sums.specs.Sums.{nat_product_over}
@@ -29,6 +29,9 @@ not_stopped n l = omega (arith, l)
 
 pub cells_exact : (nodes : List NodeView) (h : ℕ → Bool) → counted_cells nodes h < COUNT_END → counted_cells nodes h ≡ cells_over nodes h
 cells_exact nodes h l = not_stopped (nat_product_over (λ u. cond (h u) (states_of nodes u) 1) (numbers_of nodes)) l ∙ product_held (states_of nodes) h (numbers_of nodes)
+
+pub counted_below : (nodes : List NodeView) (h : ℕ → Bool) → counted_cells nodes h ≤ cells_over nodes h
+counted_below nodes h = omega (arith, product_held (states_of nodes) h (numbers_of nodes))
 
 pub sum_exact : (n : ℕ) → stopped n < COUNT_END → n ≡ stopped n
 sum_exact n l = sym (not_stopped n l)

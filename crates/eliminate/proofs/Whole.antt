@@ -6,7 +6,6 @@ use Rattle.std.proofs.lemmas.List.{append-nil}
 use Rattle.std.proofs.lemmas.List.Sums.{sum_by-cons}
 use Rattle.finite_sums.specs.Members.{Among}
 use Rattle.maid_model.specs.declared.limits.TheConstants.{COUNT_END}
-use Rattle.maid_model.specs.declared.diagrams.Kind.TheVariants.{Utility}
 use Rattle.maid_model.specs.Graph.{IsGraph}
 use Rattle.maid_model.specs.Nodes.{node_at, states_of, is_utility}
 use Rattle.maid_model.specs.Profiles.{IsProfile}
@@ -56,24 +55,31 @@ same_joined count (t ∷ ts) (u ∷ us) v m = (λ j. m.0.holds v j || same_joine
 
 -- ---- the first tables
 module _ {C : Type 0} (c : Cells C) (nodes : List NodeView) (p : List RuleView) where
-  first_node : (v : ℕ) → is_utility (node_at nodes v).kind ≡ false → first_table c nodes p v ≡ node_table c nodes p v
+  pub first_node : (v : ℕ) → is_utility (node_at nodes v).kind ≡ false → first_table c nodes p v ≡ node_table c nodes p v
   first_node v e = ap (λ b. cond b (utility_table c nodes v) (node_table c nodes p v)) e
 
-  first_value : (u : ℕ) → is_utility (node_at nodes u).kind ≡ true → first_table c nodes p u ≡ utility_table c nodes u
+  pub first_value : (u : ℕ) → is_utility (node_at nodes u).kind ≡ true → first_table c nodes p u ≡ utility_table c nodes u
   first_value u e = ap (λ b. cond b (utility_table c nodes u) (node_table c nodes p u)) e
 
-  firsts_are : (plan : PlanView) → IsPlan nodes plan → map (first_table c nodes p) (first_nodes nodes plan) ≡ first_tables c nodes p plan
+  -- those of nodes that are no utilities, and of utilities
+  pub firsts_split : (vs us : List ℕ) → ((v : ℕ) → Among v vs → is_utility (node_at nodes v).kind ≡ false) → ((u : ℕ) → Among u us → is_utility (node_at nodes u).kind ≡ true)
+      → map (first_table c nodes p) (vs ++ us) ≡ map (λ v. node_table c nodes p v) vs ++ map (λ u. utility_table c nodes u) us
+  firsts_split vs us plain values =
+      map_append (first_table c nodes p) vs us
+      ∙ (λ i. map_same (first_table c nodes p) (λ v. node_table c nodes p v) vs (λ v m. first_node v (plain v m)) i
+      ++ map_same (first_table c nodes p) (λ u. utility_table c nodes u) us (λ u m. first_value u (values u m)) i)
+
+  pub firsts_are : (plan : PlanView) → IsPlan nodes plan → map (first_table c nodes p) (first_nodes nodes plan) ≡ first_tables c nodes p plan
   firsts_are plan is =
-      map_append (first_table c nodes p) (ruled_nodes nodes plan) (option_to_list plan.utility)
-      ∙ (λ i. map_same (first_table c nodes p) (λ v. node_table c nodes p v) (ruled_nodes nodes plan) (λ v m. first_node v (in_plan_kind nodes plan is v (ruled_in nodes plan is v m))) i
-      ++ utilities plan.utility (λ u e. is.utility u e) i)
+      firsts_split (ruled_nodes nodes plan) (option_to_list plan.utility) (λ v m. in_plan_kind nodes plan is v (ruled_in nodes plan is v m)) (λ u m. ap is_utility (is.utility u (listed plan.utility u m)))
     where
-      utilities : (o : Option ℕ) → ((u : ℕ) → o ≡ Some u → (node_at nodes u).kind ≡ Utility) → map (first_table c nodes p) (option_to_list o) ≡ map (λ u. utility_table c nodes u) (option_to_list o)
-      utilities None k = refl
-      utilities (Some u) k = ap (λ t. t ∷ []) (first_value u (ap is_utility (k u refl)))
+      listed : (o : Option ℕ) (u : ℕ) → Among u (option_to_list o) → o ≡ Some u
+      listed None u m = absurd m
+      listed (Some x) u (inl e) = ap Some (sym e)
+      listed (Some x) u (inr m) = absurd m
 
 -- their scopes are the same for all cells and rules
-one_scope : {C D : Type 0} (c : Cells C) (e : Cells D) (nodes : List NodeView) (p q : List RuleView) (v : ℕ) → (first_table c nodes p v).holds ≡ (first_table e nodes q v).holds
+pub one_scope : {C D : Type 0} (c : Cells C) (e : Cells D) (nodes : List NodeView) (p q : List RuleView) (v : ℕ) → (first_table c nodes p v).holds ≡ (first_table e nodes q v).holds
 one_scope c e nodes p q v = go (is_utility (node_at nodes v).kind)
   where
     go : (b : Bool) → (cond b (utility_table c nodes v) (node_table c nodes p v)).holds ≡ (cond b (utility_table e nodes v) (node_table e nodes q v)).holds

@@ -1,4 +1,6 @@
 pub mod Results
 pub mod Steps
+pub mod Limits
+pub mod Laws
 pub mod Places
 pub mod Example

@@ -1,15 +1,21 @@
 -- What the run of a plan asks and gives.
-use Rattle.std.specs.Prelude.{◌≡◌, ◌↔◌, ℕ, ◌*◌, max, List, length, Contains, Option, Some, None}
+use Rattle.std.specs.Prelude.{◌≡◌, ◌↔◌, ◌⊎◌, ℕ, ◌+◌, ◌*◌, ◌<◌, max, List, map, sum_by, length, Contains, Option, Some, None}
 use Rattle.finite_sums.specs.Sums.{World, InRange, nat_product_over}
-use Rattle.node_sets.specs.Sets.{IsIn}
+use Rattle.node_sets.specs.Sets.{holds, IsIn}
 use Rattle.maid_model.specs.Gains.{greatest_abs}
 use Rattle.maid_model.specs.Nodes.{node_at, states_of}
 use Rattle.maid_model.specs.Tables.{weight_total}
 use Rattle.maid_model.specs.Views.{NodeView, RuleView}
+use Rattle.cell_rings.specs.Rings.{Ring}
+use Rattle.ring_sums.specs.Tables.{Table, eliminate, joined, product_of, scopes_of}
 use Rattle.plan_sums.specs.Plans.{Cells, PlanView, ruled_nodes, plan_sum}
 use Rattle.factor_core.specs.declared.slots.Slot.{Slot}
+use Rattle.factor_core.specs.Operations.{first_table}
 use Rattle.factor_core.specs.Slots.{WorkspaceView, IsLive, table_of, Appends, StaysLive}
-use Rattle.size_precheck.specs.Sizes.{SizedPlan}
+use Rattle.size_precheck.specs.Counts.{counted_cells}
+use Rattle.size_precheck.specs.Sizes.{SizedPlan, made_cells, steps_work}
+use Rattle.eliminate.specs.declared.counts.Limits.{Limits}
+use Rattle.eliminate.specs.Steps.{first_cells}
 
 -- the greater of 1 and the greatest absolute value of the utility; 1 without one
 abbrev pub greatest_value : List NodeView → Option ℕ → ℕ
@@ -33,3 +39,52 @@ pub record SumsPlan {C : Type 0}
       → (table_of c.ring nodes after.cells slot).cell w ≡ plan_sum c nodes p made.plan w
   pub stays :
       (s : Slot) → IsLive nodes before.cells s → StaysLive c.ring nodes before.cells after.cells s
+
+-- ---- sums of any tables of nodes
+-- the first tables of these nodes
+abbrev pub tables_at :
+    {C : Type 0} → Cells C → List NodeView → List RuleView → List ℕ → List (Table C)
+tables_at c nodes p vs = map (first_table c nodes p) vs
+
+-- what the steps leave of them
+abbrev pub tables_left :
+    {C : Type 0} → Cells C → List NodeView → List RuleView → List ℕ → List ℕ → List (Table C)
+tables_left c nodes p vs steps =
+    eliminate c.ring (states_of nodes) steps (tables_at c nodes p vs)
+
+-- the slot is that of the product of what the steps leave, over the nodes of these tables
+pub record SumsTables {C : Type 0}
+    (c : Cells C) (nodes : List NodeView) (p : List RuleView) (vs steps : List ℕ)
+    (after : WorkspaceView C) (slot : Slot) : Type 0 where
+  pub live : IsLive nodes after.cells slot
+  pub scope : (v : ℕ) → holds slot.scope v ≡ joined (tables_left c nodes p vs steps) v
+  pub cell : (w : World) → InRange (states_of nodes) w
+      → (table_of c.ring nodes after.cells slot).cell w
+      ≡ product_of c.ring (tables_left c nodes p vs steps) w
+
+-- cells were at most appended: there is as much space as before, and slots that were live are, with their tables
+pub record Grows {C : Type 0}
+    (r : Ring C) (nodes : List NodeView) (before after : WorkspaceView C) : Type 0 where
+  pub space : length after.cells + after.spare ≡ length before.cells + before.spare
+  pub stays :
+      (s : Slot) → IsLive nodes before.cells s → StaysLive r nodes before.cells after.cells s
+
+-- the cells of all tables that the steps ask for: of the first ones, of each that a step makes, and of the last product
+abbrev pub sum_cells :
+    {C : Type 0} → Cells C → List NodeView → List RuleView → List ℕ → List ℕ → ℕ
+sum_cells c nodes p vs steps = sum_by (first_cells c nodes p) vs
+    + made_cells nodes steps (scopes_of (tables_at c nodes p vs))
+    + counted_cells nodes (joined (tables_left c nodes p vs steps))
+
+-- and the work: that of the steps, and at the end the cells of the product times the number of tables left
+abbrev pub sum_work :
+    {C : Type 0} → Cells C → List NodeView → List RuleView → List ℕ → List ℕ → ℕ
+sum_work c nodes p vs steps = steps_work nodes steps (scopes_of (tables_at c nodes p vs))
+    + counted_cells nodes (joined (tables_left c nodes p vs steps))
+    * length (tables_left c nodes p vs steps)
+
+-- one of them passes its limit
+abbrev pub IsTooMuch : {C : Type 0} → Cells C → List NodeView → List RuleView → List ℕ → List ℕ
+    → Limits → Type 0
+IsTooMuch c nodes p vs steps limits = (limits.cells < sum_cells c nodes p vs steps)
+    ⊎ (limits.work < sum_work c nodes p vs steps)

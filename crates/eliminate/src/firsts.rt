@@ -37,7 +37,7 @@ fn ruled_nodes(plan: &Plan) -> NodeSet
 }
 
 /// Appends the first table of the node, and writes its slot behind the first `count`. Gives how many there are now.
-fn put_table<C: Cell>(
+pub fn put_table<C: Cell>(
     work: &mut Workspace<C>,
     diagram: &Diagram,
     counts: &StateCounts,

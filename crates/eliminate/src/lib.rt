@@ -1,11 +1,17 @@
-//! Plans of elimination, run over the tables of one workspace.
+//! Plans of elimination, and sums of any tables within limits, run over the tables of one workspace.
 #![tactic(auto)]
 
+mod counts;
 mod firsts;
+mod laws;
 mod lists;
 mod places;
 mod runs;
+mod sums;
 #[cfg(test)]
 mod tests;
 
+pub use counts::Limits;
+pub use laws::first_numbers_fit;
 pub use runs::{release, run_plan};
+pub use sums::sum_tables;

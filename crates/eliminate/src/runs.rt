@@ -29,7 +29,7 @@ pub fn release<C: Cell>(work: &mut Workspace<C>)
 }
 
 /// A step: the live slots that hold the node give way to their join with the node summed out.
-fn eliminate<C: Cell>(
+pub fn eliminate<C: Cell>(
     work: &mut Workspace<C>,
     diagram: &Diagram,
     counts: &StateCounts,

@@ -4,10 +4,10 @@ ghost use Rattle.std.specs.Prelude.{◌≡◌, ◌*◌, ◌≤◌, ◌∷◌, []
 ghost use Rattle.maid_model.specs.declared.limits.TheConstants.{MOST_PLAN_CELLS};
 ghost use Rattle.maid_model.specs.Profiles.{uniform_profile};
 ghost use Rattle.size_precheck.specs.Sizes.{CanBePlanned};
-ghost use Rattle.eliminate.specs.Example.{node_of, example_nodes, example};
+ghost use Rattle.eliminate.specs.Example.{node_of, example_nodes, example, states_plan};
 ghost use Rattle.eliminate.specs.Results.{plan_total};
 
-use crate::{release, run_plan};
+use crate::{Limits, release, run_plan, sum_tables};
 use cell_rings::{Both, Can, Cell, Gain, Mass, SmallGain, SmallMass};
 use factor_core::{Strip, Workspace};
 use maid_model::{Diagram, Kind, Node, Profile, literals_are_tested};
@@ -97,6 +97,29 @@ fn run_twice<C: Cell>(
     Vec::from_slice(alloc, work.strip(&strip))
 }
 
+/// What the tables of the hidden node, the signal and the utility give under uniform rules, with the hidden node summed
+/// out; nothing where that passes the limits.
+fn sum_of_all<C: Cell>(alloc: Global, cells: usize, work: u64) -> Result<Vec<C>, AllocError>
+    requires fits { 2 * plan_total example_nodes (uniform_profile example_nodes) states_plan
+        ≤ C.ring.most }
+    requires few { cells ≤ MOST_PLAN_CELLS }
+{
+    let diagram = make_example(alloc)?;
+    let profile = Profile::uniform(alloc, &diagram)?;
+    let mut space = Workspace::<C>::reserve(alloc, cells)?;
+    let limits = Limits { cells, work };
+    match sum_tables(&mut space, &diagram, &profile, &[0, 1, 3], &[0], limits) {
+        Some(slot) => {
+            let strip = Strip {
+                start: slot.start,
+                len: slot.len,
+            };
+            Vec::from_slice(alloc, space.strip(&strip))
+        }
+        None => Ok(Vec::new(alloc)),
+    }
+}
+
 // At the signal's first state 1 * 3 + 2 * 2, at its second 1 * 1 + 2 * 2.
 #[test]
 fn rows_of_a_decision(rt: HostRuntime) -> Result<(), Fail> {
@@ -136,5 +159,29 @@ fn worth_of_a_utility(rt: HostRuntime) -> Result<(), Fail> {
     assert_eq!(rt; both.as_slice(), [Both { m: 24, g: 48 }].as_slice());
     let none = run_twice::<Both>(&rt, alloc, &[], None, None, 1)?;
     assert_eq!(rt; none.as_slice(), [Both { m: 1, g: 0 }].as_slice());
+    Ok(())
+}
+
+// At the signal's first state the masses 1 * 3 and 2 * 2, with the values 4 and -1 or 0 and 5, at its second 1 * 1 and
+// 2 * 2. The tables have 2, 4 and 4 cells, the step makes 4 of a joined set of 8 and three tables, and the product of
+// one table has 4.
+#[test]
+fn masses_and_gains_of_a_decision(rt: HostRuntime) -> Result<(), Fail> {
+    let alloc = rt.alloc();
+    let both = sum_of_all::<Both>(alloc, 18, 28)?;
+    assert_eq!(rt;
+        both.as_slice(),
+        [
+            Both { m: 7, g: 8 },
+            Both { m: 7, g: 20 },
+            Both { m: 5, g: 0 },
+            Both { m: 5, g: 20 },
+        ]
+        .as_slice()
+    );
+    let few_cells = sum_of_all::<Both>(alloc, 17, 28)?;
+    assert_eq!(rt; few_cells.len(), 0);
+    let little_work = sum_of_all::<Both>(alloc, 18, 27)?;
+    assert_eq!(rt; little_work.len(), 0);
     Ok(())
 }

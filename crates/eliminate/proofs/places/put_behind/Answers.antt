@@ -1,4 +1,4 @@
-use Rattle.std.proofs.Common.{◌≡◌, ◌<◌, length, subst, sym, arith}
+use Rattle.std.proofs.Common.{◌<◌, length, arith}
 use Rattle.eliminate.proofs.Placing.{noted_behind, within_more, live_more}
 use Rattle.eliminate.proofs.places.put_behind.Goals as goal
 

@@ -1,0 +1,10 @@
+use Rattle.std.proofs.Common.{◌≡◌, drop, take, length}
+use Rattle.factor_core.specs.Operations.{cells_by}
+use Rattle.eliminate.specs.Limits.{ListsWithin}
+use Rattle.eliminate.proofs.sums.list_tables.Given as goal
+
+abbrev pub invariant-loop-node : goal.invariant-loop-node
+invariant-loop-node g l =
+    ListsWithin (cells_by g.C.Cell.ring g.C.Cell.of_weight g.C.Cell.of_value) l.diagram.nodes l.profile l.fn.work l.work (take l.count l.live) (drop l.node-index l.nodes) l.nodes l.fn.limits l.left
+    × (l.count ≡ l.node-index)
+    × (length l.live ≡ 256)

@@ -1,0 +1,48 @@
+-- Limits on cells and work, as private contracts see them. Only these cite this file.
+use Rattle.std.specs.Prelude.{◌≡◌, ℕ, ◌+◌, ◌-◌, ◌*◌, ◌≤◌, Bool, List, map, length, Option, SomeIff}
+use Rattle.node_sets.specs.Sets.{holds}
+use Rattle.maid_model.specs.Views.{NodeView, RuleView}
+use Rattle.cell_rings.specs.Rings.{Ring}
+use Rattle.ring_sums.specs.Tables.{Table, joined_without, scopes_of}
+use Rattle.plan_sums.specs.Plans.{Cells}
+use Rattle.factor_core.specs.declared.slots.Slot.{Slot}
+use Rattle.factor_core.specs.Slots.{WorkspaceView}
+use Rattle.size_precheck.specs.Counts.{counted_cells}
+use Rattle.size_precheck.specs.Greedy.{holding, joined_set}
+use Rattle.size_precheck.specs.Sizes.{steps_work}
+use Rattle.eliminate.specs.declared.counts.Limits.{Limits}
+use Rattle.eliminate.specs.Steps.{Lists, Between}
+
+-- so many cells and so much work are taken from what is left, where there is as much
+abbrev pub Spends : Limits → ℕ → ℕ → Option Limits → Type 0
+Spends left cells work result = SomeIff result ((cells ≤ left.cells) × (work ≤ left.work))
+    (record { cells = left.cells - cells; work = left.work - work })
+
+-- the scopes of slots
+abbrev pub scopes_at : List Slot → List (ℕ → Bool)
+scopes_at slots = map (λ s. holds s.scope) slots
+
+-- the cells that a step makes, and its work
+abbrev pub step_cells : List NodeView → ℕ → List (ℕ → Bool) → ℕ
+step_cells nodes v scopes = counted_cells nodes (joined_without v (holding v scopes))
+
+abbrev pub step_work : List NodeView → ℕ → List (ℕ → Bool) → ℕ
+step_work nodes v scopes = counted_cells nodes (joined_set v scopes) * length (holding v scopes)
+
+-- among the first tables: what was appended was taken from the limits
+pub record ListsWithin {C : Type 0}
+    (c : Cells C) (nodes : List NodeView) (p : List RuleView) (before now : WorkspaceView C)
+    (slots : List Slot) (rest all : List ℕ) (limits left : Limits) : Type 0 where
+  pub lists : Lists c nodes p before now slots rest all
+  pub cells : left.cells + lists.spent ≡ limits.cells
+  pub work : left.work ≡ limits.work
+
+-- between steps: so was the work of those so far
+pub record BetweenWithin {C : Type 0}
+    (r : Ring C) (nodes : List NodeView) (before now : WorkspaceView C) (slots : List Slot)
+    (rest steps : List ℕ) (first : List (Table C)) (all : ℕ) (limits left : Limits) : Type 0
+  where
+    pub between : Between r nodes before now slots rest steps first all
+    pub cells : left.cells + between.spent ≡ limits.cells
+    pub work : left.work + steps_work nodes steps (scopes_of first)
+        ≡ limits.work + steps_work nodes rest (scopes_of between.tables)

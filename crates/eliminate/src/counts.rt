@@ -1,0 +1,63 @@
+//! Limits on cells and work, and what is left of them.
+
+ghost use Rattle.std.specs.Prelude.{◌≡◌, ◌*◌, ℕ};
+ghost use Rattle.std.specs.List.{list_any};
+ghost use Rattle.maid_model.specs.Nodes.{counts_of};
+ghost use Rattle.node_sets.specs.Sets.{holds};
+ghost use Rattle.size_precheck.specs.Counts.{counted_cells};
+ghost use Rattle.eliminate.specs.Limits.{Spends};
+
+use factor_core::{Slot, StateCounts};
+use maid_model::{COUNT_END, Diagram};
+use node_sets::NodeSet;
+
+/// How many cells a call may append, and how much work it may do: at each step the cells of the joined set times the
+/// number of tables joined.
+#[derive(Clone, Copy, Debug, PartialEq, Eq)]
+pub struct Limits {
+    pub cells: usize,
+    pub work: u64,
+}
+
+/// Where counts stop.
+const END: usize = COUNT_END as usize;
+
+/// How many cells a table over the scope has. The count stops at its end, and goes over no node that the scope lacks.
+pub fn count_cells(diagram: &Diagram, counts: &StateCounts, scope: &NodeSet) -> usize
+    requires { counts.now ≡ counts_of diagram.now.nodes }
+    ensures { result ≡ counted_cells diagram.now.nodes (holds scope.now) }
+{
+    let counts = counts.as_slice();
+    let mut cells: usize = 1;
+    let mut next = 0;
+    'nodes: while let Some(v) = scope.first_from(next) {
+        if v >= counts.len() {
+            break;
+        }
+        cells = cells.saturating_mul(counts[v]).min(END);
+        next = v + 1;
+    }
+    cells
+}
+
+/// The nodes of the slots.
+pub fn united_scope(slots: &[Slot]) -> NodeSet
+    ensures { (v : ℕ) → holds result v ≡ list_any (λ s. holds s.scope v) slots.now }
+{
+    let mut scope = NodeSet::empty();
+    for slot in slots {
+        scope = scope.union(&slot.scope);
+    }
+    scope
+}
+
+/// What is left after a table of so many cells, for which a join of so many cells goes over so many tables.
+pub fn spend(left: Limits, cells: usize, joined: usize, tables: usize) -> Option<Limits>
+    ensures { Spends left cells (joined * tables) result }
+{
+    let work = (joined as u64).checked_mul(tables as u64)?;
+    Some(Limits {
+        cells: left.cells.checked_sub(cells)?,
+        work: left.work.checked_sub(work)?,
+    })
+}

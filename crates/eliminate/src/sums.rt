@@ -1,0 +1,183 @@
+//! Sums of tables of any nodes, within limits that the caller sets.
+
+ghost use Rattle.std.specs.Prelude.{◌≡◌, ◌↔◌, ℕ, ◌<◌, ◌≤◌, All, [], length, map, take, sum_by, MatchOption, IfSome, None};
+ghost use Rattle.maid_model.specs.declared.limits.TheConstants.{MOST_PLAN_CELLS};
+ghost use Rattle.maid_model.specs.Diagrams.{IsDiagram};
+ghost use Rattle.maid_model.specs.Nodes.{counts_of, states_of};
+ghost use Rattle.maid_model.specs.Profiles.{IsProfile};
+ghost use Rattle.node_sets.specs.declared.sets.TheConstants.{MOST_NODES};
+ghost use Rattle.node_sets.specs.Sets.{holds};
+ghost use Rattle.plan_sums.specs.Plans.{mass_cells};
+ghost use Rattle.ring_sums.specs.Groups.{StepsFit, StepsHold};
+ghost use Rattle.factor_core.specs.Operations.{cells_by, first_table, NumbersFit};
+ghost use Rattle.eliminate.specs.Limits.{Spends, ListsWithin, scopes_at, step_cells, step_work};
+ghost use Rattle.eliminate.specs.Places.{live_slots, IsBoard};
+ghost use Rattle.eliminate.specs.Results.{tables_at, SumsTables, Grows, IsTooMuch};
+ghost use Rattle.eliminate.specs.Steps.{first_cells};
+
+use crate::counts::{Limits, count_cells, spend, united_scope};
+use crate::firsts::put_table;
+use crate::lists::{before, blank_slot};
+use crate::places::{Places, all_live, gather, places_of};
+use crate::runs::eliminate;
+use cell_rings::Cell;
+use factor_core::{Slot, StateCounts, Workspace};
+use maid_model::{Diagram, Kind, Profile};
+use node_sets::{MOST_NODES, NodeSet};
+
+/// The nodes of the node's first table: its parents, and itself unless it is a utility.
+fn first_scope(diagram: &Diagram, node: usize) -> NodeSet
+    requires { node < length diagram.now.nodes }
+    ensures { (v : ℕ) → holds result v
+        ≡ (first_table mass_cells diagram.now.nodes [] node).holds v }
+{
+    let mut scope = NodeSet::empty();
+    scope.insert_all(diagram.parents(node));
+    match diagram.kind(node) {
+        Kind::Utility => {}
+        Kind::Chance | Kind::Decision => {
+            scope.insert(node);
+        }
+    }
+    scope
+}
+
+/// Appends the first tables of the nodes, and lists their slots. Gives what is left of the limits, where they are kept.
+fn list_tables<C: Cell>(
+    work: &mut Workspace<C>,
+    diagram: &Diagram,
+    counts: &StateCounts,
+    profile: &Profile,
+    nodes: &[usize],
+    live: &mut [Slot],
+    limits: Limits,
+) -> Option<Limits>
+    requires counts { counts.now ≡ counts_of diagram.now.nodes }
+    requires profile { IsProfile diagram.now.nodes profile.now }
+    requires known { All (λ v. v < length diagram.now.nodes) nodes.now }
+    requires few { length nodes.now ≤ MOST_NODES }
+    requires numbers { All (NumbersFit C.ring.most diagram.now.nodes profile.now) nodes.now }
+    requires small { limits.cells ≤ MOST_PLAN_CELLS }
+    requires room { limits.cells ≤ work.old.spare }
+    requires len { length live.old ≡ MOST_NODES }
+    ensures lists { MatchOption result
+        (limits.cells
+        < sum_by (first_cells (cells_by C.ring C.of_weight C.of_value) diagram.now.nodes
+        profile.now) nodes.now)
+        (ListsWithin (cells_by C.ring C.of_weight C.of_value) diagram.now.nodes profile.now work.old
+        work.new (take (length nodes.now) live.new) [] nodes.now limits) }
+    ensures grows { Grows C.ring diagram.now.nodes work.old work.new }
+{
+    let mut left = limits;
+    let mut count = 0;
+    for node in nodes {
+        let cells = count_cells(diagram, counts, &first_scope(diagram, *node));
+        left = spend(left, cells, 0, 0)?;
+        count = put_table(work, diagram, counts, profile, live, count, *node);
+    }
+    Some(left)
+}
+
+/// What is left of the limits after a step, which makes a table over the nodes of the live slots that hold the node.
+fn spend_on_step(
+    diagram: &Diagram,
+    counts: &StateCounts,
+    slots: &[Slot],
+    at: &[NodeSet],
+    joined: &mut [Slot],
+    places: &Places,
+    node: usize,
+    left: Limits,
+) -> Option<Limits>
+    requires counts { counts.now ≡ counts_of diagram.now.nodes }
+    requires board { IsBoard at.now slots.now places.now.live places.now.made }
+    requires made { places.now.made ≤ MOST_NODES }
+    requires slots { length slots.now ≡ MOST_NODES }
+    requires at { length at.now ≡ MOST_NODES }
+    requires joined { length joined.old ≡ MOST_NODES }
+    requires node { node < MOST_NODES }
+    ensures { Spends left
+        (step_cells diagram.now.nodes node
+        (scopes_at (live_slots places.now.live places.now.made slots.now)))
+        (step_work diagram.now.nodes node
+        (scopes_at (live_slots places.now.live places.now.made slots.now))) result }
+{
+    let held = places_of(at, places, node);
+    let count = gather(before(slots, places.made), &held, joined);
+    let scope = united_scope(before(joined, count));
+    let mut rest = scope;
+    rest.remove(node);
+    spend(
+        left,
+        count_cells(diagram, counts, &rest),
+        count_cells(diagram, counts, &scope),
+        count,
+    )
+}
+
+/// Sums tables, where that keeps the limits: makes the first tables of these nodes, eliminates the nodes of `steps` in
+/// their order, and multiplies the tables that are left. The slot is over the nodes of these, the lowest slowest, and
+/// in each world its cell is their product. `None` where the tables have more cells together than the limits allow, or
+/// ask for more work. It takes no memory, and goes over no joined set before it knows that the limits allow that.
+pub fn sum_tables<C: Cell>(
+    work: &mut Workspace<C>,
+    diagram: &Diagram,
+    profile: &Profile,
+    nodes: &[usize],
+    steps: &[usize],
+    limits: Limits,
+) -> Option<Slot>
+    requires profile { IsProfile diagram.now.nodes profile.now }
+    requires known { All (λ v. v < length diagram.now.nodes) nodes.now }
+    requires few { length nodes.now ≤ MOST_NODES }
+    requires numbers { All (NumbersFit C.ring.most diagram.now.nodes profile.now) nodes.now }
+    requires steps { All (λ v. v < length diagram.now.nodes) steps.now }
+    requires holds { StepsHold C.ring (states_of diagram.now.nodes) steps.now
+        (tables_at (cells_by C.ring C.of_weight C.of_value) diagram.now.nodes profile.now
+        nodes.now) }
+    requires fits { StepsFit C.ring C.ring.size (states_of diagram.now.nodes) C.ring.most steps.now
+        (tables_at (cells_by C.ring C.of_weight C.of_value) diagram.now.nodes profile.now
+        nodes.now) }
+    requires small { limits.cells ≤ MOST_PLAN_CELLS }
+    requires room { limits.cells ≤ work.old.spare }
+    ensures some { IfSome result (SumsTables (cells_by C.ring C.of_weight C.of_value)
+        diagram.now.nodes profile.now nodes.now steps.now work.new) }
+    ensures none { (result ≡ None)
+        ↔ IsTooMuch (cells_by C.ring C.of_weight C.of_value) diagram.now.nodes profile.now
+        nodes.now steps.now limits }
+    ensures grows { Grows C.ring diagram.now.nodes work.old work.new }
+{
+    let counts = StateCounts::of(diagram);
+    let mut slots = [blank_slot(); MOST_NODES];
+    let mut joined = [blank_slot(); MOST_NODES];
+    let mut at = [NodeSet::empty(); MOST_NODES];
+    let mut left = list_tables(work, diagram, &counts, profile, nodes, &mut slots, limits)?;
+    let mut places = all_live(&slots, &mut at, nodes.len());
+    for node in steps {
+        left = spend_on_step(
+            diagram,
+            &counts,
+            &slots,
+            &at,
+            &mut joined,
+            &places,
+            *node,
+            left,
+        )?;
+        places = eliminate(
+            work,
+            diagram,
+            &counts,
+            &mut slots,
+            &mut at,
+            &mut joined,
+            places,
+            *node,
+        );
+    }
+    let count = gather(before(&slots, places.made), &places.live, &mut joined);
+    let last = before(&joined, count);
+    let cells = count_cells(diagram, &counts, &united_scope(last));
+    spend(left, cells, cells, count)?;
+    Some(work.product(diagram, &counts, last))
+}
