@@ -65,7 +65,7 @@ module _ (nodes : List NodeView) (d : ℕ) where
         (subst (λ x. IsPlanned nodes x plan) (map_at (λ u. gain_plan nodes d u) (goal_list nodes d) k inside) (subst (IsPlanned nodes (get_or (map (λ u. gain_plan nodes d u) (goal_list nodes d)) k (gain_plan nodes d 0))) (sym at) here))
 
 -- ---- the nodes of a plan are those that it keeps and those that it eliminates
-has_contains : (xs : List ℕ) (v : ℕ) → (has xs v ≡ true) ↔ Contains xs v
+pub has_contains : (xs : List ℕ) (v : ℕ) → (has xs v ≡ true) ↔ Contains xs v
 has_contains xs v = ((λ e. contains_from_among xs v (has_member v xs e)), (λ m. has_yes v xs (among_from_contains xs v m)))
 
 in_filter : (p : ℕ → Bool) (xs : List ℕ) (v : ℕ) → Contains (filter p xs) v ↔ (Contains xs v × (p v ≡ true))

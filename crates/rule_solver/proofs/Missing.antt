@@ -26,7 +26,7 @@ use Rattle.rule_solver.specs.Totals.{HasTotals, product_in}
 use Rattle.rule_solver.proofs.ProductLemmas.{factor_in, same_products}
 
 -- a product over the members that pass a test
-tested_product : (f : ℕ → ℕ) (q : ℕ → Bool) (vs : List ℕ) → nat_product_over f (filter q vs) ≡ nat_product_over (λ v. cond (q v) (f v) 1) vs
+pub tested_product : (f : ℕ → ℕ) (q : ℕ → Bool) (vs : List ℕ) → nat_product_over f (filter q vs) ≡ nat_product_over (λ v. cond (q v) (f v) 1) vs
 tested_product f q [] = refl
 tested_product f q (v ∷ vs) = go (q v) (tested_product f q vs)
   where
@@ -53,7 +53,7 @@ marked nodes q set h v l = (
 
 module _ (nodes : List NodeView) (p : List RuleView) (totals : List ℕ) (are : HasTotals nodes p totals) where
   -- the listed totals of a set's members are those of the nodes
-  listed_product : (set : NodeSet) → product_in totals set ≡ nat_product_over (λ v. cond (holds set v) (weight_total nodes p v) 1) (numbers_of nodes)
+  pub listed_product : (set : NodeSet) → product_in totals set ≡ nat_product_over (λ v. cond (holds set v) (weight_total nodes p v) 1) (numbers_of nodes)
   listed_product set =
       (λ i. nat_product_over (factor_in totals set) (range_with_len 0 (are.count i)))
       ∙ same_products (factor_in totals set) (λ v. cond (holds set v) (weight_total nodes p v) 1) 0 (length nodes) (λ v l. ap (λ n. cond (holds set v) n 1) (are.each v (omega arith)))

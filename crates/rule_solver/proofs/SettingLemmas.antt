@@ -1,6 +1,7 @@
 -- A decision in its setting: what its plans give, and that all of it has room.
 use Rattle.std.proofs.Common.{◌≡◌, ◌∙◌, ◌↔◌, inl, inr, ℕ, ◌+◌, ◌*◌, ◌^◌, ◌<◌, ◌≤◌, max, Bool, true, false, cond, ◌&&◌, filter, List, [], ◌∷◌, Contains, length, slice_index, refl, sym, ap, subst, ℤ, pos, ◌+ℤ◌, ◌*ℤ◌, nat_abs, arith}
 use Rattle.std.proofs.Math.Nat.{mul-le-mul_left, one-le-pow}
+use Rattle.std.proofs.lemmas.Int.{ints}
 use Rattle.std.proofs.lemmas.List.{get_or_default}
 use Rattle.factor_core.specs.Slots.{nodes_in}
 use Rattle.finite_sums.specs.Members.{Among}
@@ -25,13 +26,13 @@ use Rattle.scope_sums.specs.Laws.{MissingIsPositive, PlansFitScope, ScopesFitPla
 use Rattle.scope_sums.specs.Missing.{missing_in, missing_in_without}
 use Rattle.scope_sums.proofs.Summed.{goal_of}
 use Rattle.rule_solver.specs.Reading.{AddsTable, PutsTable, gain_there}
-use Rattle.rule_solver.specs.Sums.{AddsGoal, HasMasses, HasRoomFor, IsSetting, goal_part}
+use Rattle.rule_solver.specs.Sums.{AddsGoals, HasMasses, HasRoomFor, IsSetting, goal_part}
 use Rattle.rule_solver.specs.Totals.{product_in}
 use Rattle.rule_solver.proofs.Missing.{missing_product, missing_product_after}
 use Rattle.rule_solver.proofs.PlanLemmas.{rows_number, goal_fits, rows_fit}
 
 -- ---- the list of goals
-bool_same : (a b : Bool) → (a ≡ true → b ≡ true) → (b ≡ true → a ≡ true) → a ≡ b
+pub bool_same : (a b : Bool) → (a ≡ true → b ≡ true) → (b ≡ true → a ≡ true) → a ≡ b
 bool_same true b h k = sym (h refl)
 bool_same false true h k = k refl
 bool_same false false h k = refl
@@ -145,15 +146,18 @@ module _ (d : DiagramView) (p : List RuleView) (decision : ℕ) (totals : List �
           part : (q : World) → InRange (states_of d.nodes) q → number q *ℤ pos factor ≡ goal_part d.nodes p decision goal q
           part q i = λ t. goal_number q i t *ℤ pos (factor_is t)
 
-          pub goal_room : (gains : List ℤ) → HasRoomFor d decision goal gains → (q : World) → InRange (states_of d.nodes) q → nat_abs (gain_there gains d.nodes decision q) + nat_abs (number q *ℤ pos factor) ≤ greatest_number
+          pub goal_room : (gains : List ℤ) → HasRoomFor d decision (goal ∷ []) gains → (q : World) → InRange (states_of d.nodes) q → nat_abs (gain_there gains d.nodes decision q) + nat_abs (number q *ℤ pos factor) ≤ greatest_number
           goal_room gains room q i =
-              sum _ _ _ (subst (λ z. nat_abs z ≤ scope_product d.nodes decision * greatest_abs (node_at d.nodes goal).cells) (sym (part q i)) (fit.gain goal q is_goal i)) (room.room q i)
+              sum _ _ _ _ (subst (λ z. nat_abs z ≤ scope_product d.nodes decision * greatest_abs (node_at d.nodes goal).cells) (sym (part q i)) (fit.gain goal q is_goal i)) (room.room q i)
             where
-              sum : (a b c : ℕ) → b ≤ c → a + c ≤ greatest_number → a + b ≤ greatest_number
-              sum a b c h k = omega (arith, h, k)
+              sum : (a b m x : ℕ) → b ≤ m * x → a + m * (x + 0) ≤ greatest_number → a + b ≤ greatest_number
+              sum a b m x h k = omega (arith, h, k)
 
-          pub goal_added : (before after : List ℤ) → AddsTable d.nodes decision number factor before after → AddsGoal d.nodes p decision goal before after
-          goal_added before after adds = record { count = adds.len; each = λ q i. adds.each q i ∙ ap (λ z. gain_there before d.nodes decision q +ℤ z) (part q i) }
+          pub goal_added : (before after : List ℤ) → AddsTable d.nodes decision number factor before after → AddsGoals d.nodes p decision (goal ∷ []) before after
+          goal_added before after adds = record { count = adds.len; each = λ q i. adds.each q i ∙ ap (λ z. gain_there before d.nodes decision q +ℤ z) (part q i ∙ alone (goal_part d.nodes p decision goal q)) }
+            where
+              alone : (x : ℤ) → x ≡ x +ℤ pos 0
+              alone x = omega (arith, ints)
 
     -- what a goal gives is within P and its greatest value
     pub part_small : (goal : ℕ) → IsGoal d.nodes decision goal → (q : World) → InRange (states_of d.nodes) q → nat_abs (goal_part d.nodes p decision goal q) ≤ scope_product d.nodes decision * greatest_abs (node_at d.nodes goal).cells

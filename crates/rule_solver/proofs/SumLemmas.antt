@@ -1,9 +1,11 @@
 -- The sums of a decision: what its goals' plans give, added up, are the gains of the part of its scope.
-use Rattle.std.proofs.Common.{◌≡◌, ◌∙◌, ℕ, zero, suc, ◌+◌, ◌*◌, ◌/◌, ◌%◌, ◌^◌, ◌<◌, ◌≤◌, max, List, [], ◌∷◌, ◌++◌, length, take, drop, get_or, slice_index, refl, sym, ap, subst, ℤ, pos, ◌+ℤ◌, nat_abs, arith, mul_comm}
+use Rattle.std.proofs.Common.{◌≡◌, ◌∙◌, ℕ, suc, ◌+◌, ◌*◌, ◌/◌, ◌%◌, ◌^◌, ◌<◌, ◌≤◌, max, inl, inr, List, [], ◌∷◌, ◌++◌, length, take, drop, get_or, slice_index, refl, sym, ap, subst, ℤ, pos, ◌+ℤ◌, nat_abs, arith, mul_comm}
 use Rattle.std.proofs.lemmas.Int.{ints}
-use Rattle.std.proofs.lemmas.List.{take_more, take-append-le, take_all}
+use Rattle.std.proofs.lemmas.List.{drop-take, take-append-drop, take-append-le, take-take, take_all}
 use Rattle.std.proofs.Math.Nat.{mul-add, mul-le-mul_left, mod-add-div, mod-lt, div-lt_iff_lt-mul}
+use Rattle.std.proofs.Math.Seq.{drop-cons}
 use Rattle.cell_rings.specs.RingLaws.{abs_add}
+use Rattle.finite_sums.specs.Members.{Among}
 use Rattle.finite_sums.specs.Sums.{World, InRange, sum_each}
 use Rattle.maid_model.specs.Diagrams.{greatest_number}
 use Rattle.maid_model.specs.Gains.{greatest_abs}
@@ -15,7 +17,7 @@ use Rattle.maid_model.specs.Views.{NodeView, DiagramView, RuleView}
 use Rattle.plan_sums.specs.Laws.{HasWorlds}
 use Rattle.scope_sums.specs.Laws.{IsSumOfPlans}
 use Rattle.rule_solver.specs.Reading.{gain_there}
-use Rattle.rule_solver.specs.Sums.{AddsGoal, HasGoals, HasRoomFor, IsRowSums, KeepsRoom, goal_part, scope_gain, scope_mass}
+use Rattle.rule_solver.specs.Sums.{AddsGoals, HasGoals, HasRoomFor, IsRowSums, KeepsRoom, goal_part, scope_gain, scope_mass}
 
 -- ---- lists
 -- a slice of a whole list, written back
@@ -25,110 +27,124 @@ back_written len xs ys same is =
     ap (λ n. take n (xs ++ drop (length xs) ys)) whole ∙ take-append-le (length xs) xs (drop (length xs) ys) (omega arith) ∙ take_all (length xs) xs (omega arith)
 
 -- ---- lists of goals
-sum_push : (f : ℕ → ℤ) (us : List ℕ) (u : ℕ) → sum_each f (us ++ u ∷ []) ≡ sum_each f us +ℤ f u
-sum_push f [] u = start (f u)
+sum_append : (f : ℕ → ℤ) (us vs : List ℕ) → sum_each f (us ++ vs) ≡ sum_each f us +ℤ sum_each f vs
+sum_append f [] vs = start (sum_each f vs)
   where
-    start : (x : ℤ) → x +ℤ pos 0 ≡ pos 0 +ℤ x
+    start : (x : ℤ) → x ≡ pos 0 +ℤ x
     start x = omega (arith, ints)
-sum_push f (v ∷ us) u = ap (λ x. f v +ℤ x) (sum_push f us u) ∙ later (f v) (sum_each f us) (f u)
+sum_append f (u ∷ us) vs = ap (λ x. f u +ℤ x) (sum_append f us vs) ∙ later (f u) (sum_each f us) (sum_each f vs)
   where
     later : (a b c : ℤ) → a +ℤ (b +ℤ c) ≡ (a +ℤ b) +ℤ c
     later a b c = omega (arith, ints)
 
-greatest_push : (nodes : List NodeView) (us : List ℕ) (u : ℕ) → greatest_of nodes (us ++ u ∷ []) ≡ greatest_of nodes us + greatest_abs (node_at nodes u).cells
-greatest_push nodes [] u = omega arith
-greatest_push nodes (v ∷ us) u = ap (λ x. greatest_abs (node_at nodes v).cells + x) (greatest_push nodes us u) ∙ later (greatest_abs (node_at nodes v).cells) (greatest_of nodes us) (greatest_abs (node_at nodes u).cells)
-  where
-    later : (a b c : ℕ) → a + (b + c) ≡ (a + b) + c
-    later a b c = omega arith
+greatest_append : (nodes : List NodeView) (us vs : List ℕ) → greatest_of nodes (us ++ vs) ≡ greatest_of nodes us + greatest_of nodes vs
+greatest_append nodes [] vs = omega arith
+greatest_append nodes (u ∷ us) vs = let rest = greatest_append nodes us vs in omega arith
 
--- the first goals' greatest values are no more than all goals'
-greatest_first : (nodes : List NodeView) (us : List ℕ) (k : ℕ) → greatest_of nodes (take k us) ≤ greatest_of nodes us
-greatest_first nodes us zero = none us
+-- the first goals' greatest values and the others' are all goals'
+greatest_split : (nodes : List NodeView) (k : ℕ) (us : List ℕ) → greatest_of nodes (take k us) + greatest_of nodes (drop k us) ≡ greatest_of nodes us
+greatest_split nodes k us = sym (greatest_append nodes (take k us) (drop k us)) ∙ ap (greatest_of nodes) (take-append-drop k us)
+
+-- the first ones and some of the others are the first ones again
+pub take_then : (k n : ℕ) (us : List ℕ) → take (k + n) us ≡ take k us ++ take n (drop k us)
+take_then k n us = sym (take-append-drop k (take (k + n) us)) ∙ (λ i. first i ++ drop-take k n us i)
   where
-    none : (us : List ℕ) → greatest_of nodes (take 0 us) ≤ greatest_of nodes us
-    none [] = omega arith
-    none (u ∷ us) = omega arith
-greatest_first nodes [] (suc k) = omega arith
-greatest_first nodes (u ∷ us) (suc k) = let rest = greatest_first nodes us k in omega arith
+    first : take k (take (k + n) us) ≡ take k us
+    first = take-take k (k + n) us (omega arith)
 
 -- at first no goal gave anything
-pub no_goals : (nodes : List NodeView) (p : List RuleView) (d : ℕ) (goals : List ℕ) (gains : List ℤ) → length gains ≡ rows_of nodes d * states_of nodes d → ((i : ℕ) → get_or gains i (pos 0) ≡ pos 0) → HasGoals nodes p d (take 0 goals) gains
-no_goals nodes p d goals gains len none = record {
+pub no_goals : (nodes : List NodeView) (p : List RuleView) (d : ℕ) (gains : List ℤ) → length gains ≡ rows_of nodes d * states_of nodes d → ((i : ℕ) → get_or gains i (pos 0) ≡ pos 0) → HasGoals nodes p d [] gains
+no_goals nodes p d gains len none = record {
   count = len;
-  each = λ q i. none (cell_of nodes d q) ∙ empty goals (λ u. goal_part nodes p d u q);
-  small = λ q i. subst (λ z. nat_abs z ≤ scope_product nodes d * greatest_of nodes (take 0 goals)) (sym (none (cell_of nodes d q))) (omega arith);
+  each = λ q i. none (cell_of nodes d q);
+  small = λ q i. subst (λ z. nat_abs z ≤ scope_product nodes d * 0) (sym (none (cell_of nodes d q))) (omega arith);
 }
-  where
-    empty : (goals : List ℕ) (f : ℕ → ℤ) → pos 0 ≡ sum_each f (take 0 goals)
-    empty [] f = refl
-    empty (g ∷ goals) f = refl
 
--- the next goal's part has room, if the scope keeps the bound
-pub room_for : (d : DiagramView) (p : List RuleView) (decision k : ℕ) (gains : List ℤ) → scope_bound d decision ≤ greatest_number → k < length (goals_of d.nodes decision) → HasGoals d.nodes p decision (take k (goals_of d.nodes decision)) gains
-    → HasRoomFor d decision (slice_index (goals_of d.nodes decision) k) gains
-room_for d p decision k gains bound inside so = record { count = so.count; room = room }
+-- the other goals' parts have room, if the scope keeps the bound
+pub room_for : (d : DiagramView) (p : List RuleView) (decision k : ℕ) (gains : List ℤ) → scope_bound d decision ≤ greatest_number → HasGoals d.nodes p decision (take k (goals_of d.nodes decision)) gains
+    → HasRoomFor d decision (drop k (goals_of d.nodes decision)) gains
+room_for d p decision k gains bound so = record { count = so.count; room = room }
   where
     goals : List ℕ
     goals = goals_of d.nodes decision
 
-    more : take (k + 1) goals ≡ take k goals ++ slice_index goals k ∷ []
-    more = take_more goals k 0 inside
+    right : (a b : ℕ) → b ≤ max a b
+    right a b = omega arith
 
-    left : (a b : ℕ) → b ≤ max a b
-    left a b = omega arith
-
-    split : (m a b : ℕ) → m * (a + b) ≡ m * a + m * b
-    split m a b = mul-add m a b
-
-    whole : scope_product d.nodes decision * greatest_of d.nodes (take k goals) + scope_product d.nodes decision * greatest_abs (node_at d.nodes (slice_index goals k)).cells ≤ greatest_number
+    whole : scope_product d.nodes decision * greatest_of d.nodes (take k goals) + scope_product d.nodes decision * greatest_of d.nodes (drop k goals) ≤ greatest_number
     whole =
-        let sum : greatest_of d.nodes (take (k + 1) goals) ≡ greatest_of d.nodes (take k goals) + greatest_abs (node_at d.nodes (slice_index goals k)).cells = ap (greatest_of d.nodes) more ∙ greatest_push d.nodes (take k goals) (slice_index goals k) in
-        let one : scope_product d.nodes decision * greatest_of d.nodes (take (k + 1) goals) ≤ scope_product d.nodes decision * greatest_of d.nodes goals = mul-le-mul_left (scope_product d.nodes decision) (greatest_first d.nodes goals (k + 1)) in
-        let two : scope_product d.nodes decision * greatest_of d.nodes goals ≤ scope_bound d decision = mul-le-mul_left (scope_product d.nodes decision) (left (10 ^ d.decimals) (greatest_of d.nodes goals)) in
-        let three = split (scope_product d.nodes decision) (greatest_of d.nodes (take k goals)) (greatest_abs (node_at d.nodes (slice_index goals k)).cells) in
-        let four : scope_product d.nodes decision * greatest_of d.nodes (take (k + 1) goals) ≡ scope_product d.nodes decision * greatest_of d.nodes (take k goals) + scope_product d.nodes decision * greatest_abs (node_at d.nodes (slice_index goals k)).cells = ap (λ n. scope_product d.nodes decision * n) sum ∙ three in
-        chain _ _ _ _ (sym four) one two bound
+        chain _ _ _ (sym (mul-add (scope_product d.nodes decision) (greatest_of d.nodes (take k goals)) (greatest_of d.nodes (drop k goals))) ∙ ap (λ n. scope_product d.nodes decision * n) (greatest_split d.nodes k goals))
+        (mul-le-mul_left (scope_product d.nodes decision) (right (10 ^ d.decimals) (greatest_of d.nodes goals))) bound
       where
-        chain : (a b c e : ℕ) → a ≡ b → b ≤ c → c ≤ e → e ≤ greatest_number → a ≤ greatest_number
-        chain a b c e h k l m = omega (arith, h, k, l, m)
+        chain : (a b c : ℕ) → a ≡ b → b ≤ c → c ≤ greatest_number → a ≤ greatest_number
+        chain a b c h k l = omega (arith, h, k, l)
 
-    room : (q : World) → InRange (states_of d.nodes) q → nat_abs (gain_there gains d.nodes decision q) + scope_product d.nodes decision * greatest_abs (node_at d.nodes (slice_index goals k)).cells ≤ greatest_number
+    room : (q : World) → InRange (states_of d.nodes) q → nat_abs (gain_there gains d.nodes decision q) + scope_product d.nodes decision * greatest_of d.nodes (drop k goals) ≤ greatest_number
     room q i = let small = so.small q i in sum _ _ _ small whole
       where
         sum : (a b c : ℕ) → a ≤ b → b + c ≤ greatest_number → a + c ≤ greatest_number
         sum a b c h k = omega (arith, h, k)
 
--- one more goal
-pub goal_more : (nodes : List NodeView) (p : List RuleView) (d k : ℕ) (before after : List ℤ) → k < length (goals_of nodes d)
-    → ((q : World) → InRange (states_of nodes) q → nat_abs (goal_part nodes p d (slice_index (goals_of nodes d) k) q) ≤ scope_product nodes d * greatest_abs (node_at nodes (slice_index (goals_of nodes d) k)).cells)
-    → HasGoals nodes p d (take k (goals_of nodes d)) before → AddsGoal nodes p d (slice_index (goals_of nodes d) k) before after → HasGoals nodes p d (take (k + 1) (goals_of nodes d)) after
-goal_more nodes p d k before after inside part so adds =
-    subst (λ us. HasGoals nodes p d us after) (sym (take_more goals k 0 inside)) (record {
-      count = adds.count ∙ so.count;
-      each = λ q i. adds.each q i ∙ ap (λ x. x +ℤ goal_part nodes p d goal q) (so.each q i) ∙ sym (sum_push (λ u. goal_part nodes p d u q) (take k goals) goal);
-      small = small;
-    })
+-- room for goals is room for the first ones of them
+pub room_first : (d : DiagramView) (decision n : ℕ) (goals : List ℕ) (gains : List ℤ) → HasRoomFor d decision goals gains → HasRoomFor d decision (take n goals) gains
+room_first d decision n goals gains room = record { count = room.count; room = λ q i. less _ _ _ (mul-le-mul_left (scope_product d.nodes decision) first) (room.room q i) }
   where
-    goals : List ℕ
-    goals = goals_of nodes d
+    first : greatest_of d.nodes (take n goals) ≤ greatest_of d.nodes goals
+    first = let e = greatest_split d.nodes n goals in omega (arith, e)
 
-    goal : ℕ
-    goal = slice_index goals k
+    less : (a b c : ℕ) → b ≤ c → a + c ≤ greatest_number → a + b ≤ greatest_number
+    less a b c h k = omega (arith, h, k)
 
-    split : (m a b : ℕ) → m * a + m * b ≡ m * (a + b)
-    split m a b = sym (mul-add m a b)
-
-    small : (q : World) → InRange (states_of nodes) q → nat_abs (gain_there after nodes d q) ≤ scope_product nodes d * greatest_of nodes (take k goals ++ goal ∷ [])
-    small q i =
-        let first = so.small q i in
-        let last = part q i in
-        let both = abs_add (gain_there before nodes d q) (goal_part nodes p d goal q) in
-        subst (λ n. nat_abs (gain_there after nodes d q) ≤ n) (split (scope_product nodes d) (greatest_of nodes (take k goals)) (greatest_abs (node_at nodes goal).cells) ∙ ap (λ n. scope_product nodes d * n) (sym (greatest_push nodes (take k goals) goal)))
-        (subst (λ z. nat_abs z ≤ scope_product nodes d * greatest_of nodes (take k goals) + scope_product nodes d * greatest_abs (node_at nodes goal).cells) (sym (adds.each q i)) (chain _ _ _ _ _ both first last))
+-- and for the next one
+pub room_next : (d : DiagramView) (decision k : ℕ) (goals : List ℕ) (gains : List ℤ) → k < length goals → HasRoomFor d decision (drop k goals) gains → HasRoomFor d decision (slice_index goals k ∷ []) gains
+room_next d decision k goals gains inside room =
+    alone (get_or goals k 0) (drop (suc k) goals) (subst (λ us. HasRoomFor d decision us gains) (drop-cons goals k 0 inside) room)
+  where
+    alone : (u : ℕ) (us : List ℕ) → HasRoomFor d decision (u ∷ us) gains → HasRoomFor d decision (u ∷ []) gains
+    alone u us more = record { count = more.count; room = λ q i. less _ _ _ (mul-le-mul_left (scope_product d.nodes decision) (first (greatest_abs (node_at d.nodes u).cells) (greatest_of d.nodes us))) (more.room q i) }
       where
-        chain : (s a b x y : ℕ) → s ≤ a + b → a ≤ x → b ≤ y → s ≤ x + y
-        chain s a b x y h k l = omega (arith, h, k, l)
+        first : (a b : ℕ) → a + 0 ≤ a + b
+        first a b = omega arith
+
+        less : (a b c : ℕ) → b ≤ c → a + c ≤ greatest_number → a + b ≤ greatest_number
+        less a b c h k = omega (arith, h, k)
+
+-- no goal's part leaves the gains as they are
+pub adds_none : (nodes : List NodeView) (p : List RuleView) (d : ℕ) (gains : List ℤ) → AddsGoals nodes p d [] gains gains
+adds_none nodes p d gains = record { count = refl; each = λ q i. same (gain_there gains nodes d q) }
+  where
+    same : (x : ℤ) → x ≡ x +ℤ pos 0
+    same x = omega (arith, ints)
+
+-- what goals give together is within P and their greatest values
+pub parts_small : (nodes : List NodeView) (p : List RuleView) (d : ℕ) (us : List ℕ) (q : World)
+    → ((u : ℕ) → Among u us → nat_abs (goal_part nodes p d u q) ≤ scope_product nodes d * greatest_abs (node_at nodes u).cells)
+    → nat_abs (sum_each (λ u. goal_part nodes p d u q) us) ≤ scope_product nodes d * greatest_of nodes us
+parts_small nodes p d [] q small = omega arith
+parts_small nodes p d (u ∷ us) q small =
+    both (scope_product nodes d) _ _ _ _ _ (abs_add (goal_part nodes p d u q) (sum_each (λ v. goal_part nodes p d v q) us)) (small u (inl refl)) (parts_small nodes p d us q (λ v m. small v (inr m)))
+  where
+    both : (m s a b x y : ℕ) → s ≤ a + b → a ≤ m * x → b ≤ m * y → s ≤ m * (x + y)
+    both m s a b x y h k l = omega (arith, h, k, l, mul-add m x y)
+
+-- more goals
+pub goals_more : (nodes : List NodeView) (p : List RuleView) (d : ℕ) (us vs : List ℕ) (before after : List ℤ)
+    → ((u : ℕ) → Among u vs → (q : World) → InRange (states_of nodes) q → nat_abs (goal_part nodes p d u q) ≤ scope_product nodes d * greatest_abs (node_at nodes u).cells)
+    → HasGoals nodes p d us before → AddsGoals nodes p d vs before after → HasGoals nodes p d (us ++ vs) after
+goals_more nodes p d us vs before after part so adds = record {
+  count = adds.count ∙ so.count;
+  each = λ q i. adds.each q i ∙ ap (λ x. x +ℤ sum_each (λ u. goal_part nodes p d u q) vs) (so.each q i) ∙ sym (sum_append (λ u. goal_part nodes p d u q) us vs);
+  small = small;
+}
+  where
+    small : (q : World) → InRange (states_of nodes) q → nat_abs (gain_there after nodes d q) ≤ scope_product nodes d * greatest_of nodes (us ++ vs)
+    small q i =
+        subst (λ n. nat_abs (gain_there after nodes d q) ≤ scope_product nodes d * n) (sym (greatest_append nodes us vs))
+        (subst (λ z. nat_abs z ≤ scope_product nodes d * (greatest_of nodes us + greatest_of nodes vs)) (sym (adds.each q i))
+        (both (scope_product nodes d) _ _ _ _ _ (abs_add (gain_there before nodes d q) (sum_each (λ u. goal_part nodes p d u q) vs)) (so.small q i) (parts_small nodes p d vs q (λ u m. part u m q i))))
+      where
+        both : (m s a b x y : ℕ) → s ≤ a + b → a ≤ m * x → b ≤ m * y → s ≤ m * (x + y)
+        both m s a b x y h k l = omega (arith, h, k, l, mul-add m x y)
 
 -- ---- the whole sums, row by row
 module _ (nodes : List NodeView) (p : List RuleView) (d : ℕ) (graph : IsGraph nodes) (worlds : HasWorlds) where

@@ -1,6 +1,6 @@
 -- The plan of a utility's worth: its nodes, and its numbers fit.
-use Rattle.std.proofs.Common.{◌≡◌, ◌≢◌, ◌∙◌, ◌↔◌, ◌&&◌, ℕ, ◌*◌, ◌<◌, ◌≤◌, Bool, true, false, not, cond, filter, List, [], ◌∷◌, Contains, length, refl, sym, ap, subst, inl}
-use Rattle.std.specs.List.{list_any, AllZip}
+use Rattle.std.proofs.Common.{◌≡◌, ◌≢◌, ◌∙◌, ◌↔◌, ◌&&◌, ℕ, zero, suc, ◌+◌, ◌*◌, ◌<◌, ◌≤◌, Bool, true, false, not, cond, filter, List, [], ◌∷◌, ◌++◌, Contains, map, length, get_or, arith, refl, sym, ap, subst, inl}
+use Rattle.std.specs.List.{list_any, AllZip, range_with_len}
 use Rattle.cell_rings.specs.Rings.{most_size}
 use Rattle.eliminate.specs.Results.{plan_total}
 use Rattle.finite_sums.specs.Members.{Among}
@@ -19,10 +19,13 @@ use Rattle.maid_laws.proofs.Rearranged.{number}
 use Rattle.node_sets.specs.declared.sets.NodeSet.{NodeSet}
 use Rattle.node_sets.specs.Sets.{holds, IsIn}
 use Rattle.part_laws.specs.ScopeLaws.{HasUnitRules}
-use Rattle.plan_sums.specs.Plans.{in_plan, plan_nodes, worth_plan}
+use Rattle.plan_sums.specs.Plans.{PlanView, in_plan, plan_nodes, worth_plan}
 use Rattle.factor_core.specs.Slots.{nodes_in}
 use Rattle.scope_sums.specs.Laws.{AgentsScopesFitPlans, MissingIsPositive}
 use Rattle.scope_sums.specs.Missing.{missing_in}
+use Rattle.size_precheck.specs.Sizes.{IsPlanned, SizedPlan}
+use Rattle.size_precheck.proofs.Measuring.{filter_more}
+use Rattle.rule_solver.specs.Worths.{ArePlansOfWorths}
 use Rattle.rule_solver.proofs.PlanLemmas.{worth_fits}
 
 -- ---- the nodes of the plan
@@ -99,3 +102,60 @@ worth_has_room d p is profile unit bounds fit positive u l k =
     (utility_among d.nodes agent u l (owned_utility d.nodes agent u k owner))
     (bounds.agents agent (is.owners.agent u agent l (λ e. let f : Utility ≡ Chance = sym k ∙ e in cc) owner))
     (fit d.nodes p agent u is.graph is.tables profile unit l k owner).tables
+
+-- ---- the plans of all worths, place by place
+-- what stands behind some of a list stands behind one more of it
+behind : {B C : Type 0} (R : C → B → Type 0) (f : ℕ → C) (a : ℕ) (x : C) (before all : List ℕ) (d : B)
+    → ((ys : List B) → AllZip R (map f all) ys → (length before < length ys) × R x (get_or ys (length before) d))
+    → (b : Bool) (ys : List B) → AllZip R (map f (cond b (a ∷ all) all)) ys
+    → (length (cond b (a ∷ before) before) < length ys) × R x (get_or ys (length (cond b (a ∷ before) before)) d)
+behind R f a x before all d rest false ys z = rest ys z
+behind R f a x before all d rest true [] z = absurd z
+behind R f a x before all d rest true (y ∷ ys) z = let r = rest ys z.1 in let l = r.0 in (omega (arith, l), r.1)
+
+-- that of a number that passes stands behind those of the numbers before it that pass
+passed_at : {B C : Type 0} (R : C → B → Type 0) (p : ℕ → Bool) (f : ℕ → C) (a k n v : ℕ) (ys : List B) (d : B) → k < n → a + k ≡ v → p v ≡ true → AllZip R (map f (filter p (range_with_len a n))) ys
+    → (length (filter p (range_with_len a k)) < length ys) × R (f v) (get_or ys (length (filter p (range_with_len a k))) d)
+passed_at R p f a k zero v ys d l e t z = absurd (omega (arith, l))
+passed_at {B = B} {C = C} R p f a zero (suc n) v ys d l e t z =
+    subst (λ (x : ℕ). (0 < length ys) × R (f x) (get_or ys 0 d)) same
+    (first ys (subst (λ (b : Bool). AllZip R (map f (cond b (a ∷ rest) rest)) ys) (subst (λ x. p x ≡ true) (sym same) t) z))
+  where
+    rest : List ℕ
+    rest = filter p (range_with_len (a + 1) n)
+
+    same : a ≡ v
+    same = omega (arith, e)
+
+    first : (ys : List B) → AllZip R (map f (a ∷ rest)) ys → (0 < length ys) × R (f a) (get_or ys 0 d)
+    first [] z = absurd z
+    first (y ∷ ys) z = (omega arith, z.0)
+passed_at R p f a (suc k) (suc n) v ys d l e t z =
+    behind R f a (f v) (filter p (range_with_len (a + 1) k)) (filter p (range_with_len (a + 1) n)) d
+    (λ zs w. passed_at R p f (a + 1) k n v zs d (omega (arith, l)) (omega (arith, e)) t w) (p a) ys z
+
+-- so it is of a utility: the place of its plan is the count of utilities before it
+pub worth_place : (nodes : List NodeView) (v : ℕ) (plans : List SizedPlan) (d : SizedPlan) → v < length nodes → (node_at nodes v).kind ≡ Utility → ArePlansOfWorths nodes plans
+    → (length (filter (λ u. is_utility (node_at nodes u).kind) (range_with_len 0 v)) < length plans) × IsPlanned nodes (worth_plan v) (get_or plans (length (filter (λ u. is_utility (node_at nodes u).kind) (range_with_len 0 v))) d)
+worth_place nodes v plans d l k z =
+    passed_at (IsPlanned nodes) (λ u. is_utility (node_at nodes u).kind) (λ u. worth_plan u) 0 v (length nodes) v plans d l (omega arith) (ap is_utility k) z
+
+long_map : (f : ℕ → PlanView) (xs : List ℕ) → length (map f xs) ≡ length xs
+long_map f [] = refl
+long_map f (x ∷ xs) = let e = long_map f xs in omega arith
+
+long_both : (xs ys : List PlanView) → length (xs ++ ys) ≡ length xs + length ys
+long_both [] ys = omega arith
+long_both (x ∷ xs) ys = let e = long_both xs ys in omega arith
+
+-- the count goes on at a utility, and stays at another node
+pub utilities_more : (nodes : List NodeView) (v : ℕ) (b : Bool) → is_utility (node_at nodes v).kind ≡ b
+    → length (filter (λ u. is_utility (node_at nodes u).kind) (range_with_len 0 (v + 1))) ≡ length (filter (λ u. is_utility (node_at nodes u).kind) (range_with_len 0 v)) + length (cond b (v ∷ []) [])
+utilities_more nodes v b e =
+    let p : ℕ → Bool = (λ u. is_utility (node_at nodes u).kind) in
+    let f : ℕ → PlanView = (λ u. worth_plan u) in
+    sym (long_map f (filter p (range_with_len 0 (v + 1))))
+    ∙ ap (λ (l : List PlanView). length l) (filter_more p f v)
+    ∙ long_both (map f (filter p (range_with_len 0 v))) (map f (filter p (v ∷ [])))
+    ∙ (λ i. long_map f (filter p (range_with_len 0 v)) i + long_map f (filter p (v ∷ [])) i)
+    ∙ ap (λ (b : Bool). length (filter p (range_with_len 0 v)) + length (cond b (v ∷ []) [])) e

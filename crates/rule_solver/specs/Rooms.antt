@@ -1,5 +1,5 @@
 -- What the plans of a run ask for: room for their cells.
-use Rattle.std.specs.Prelude.{◌≡◌, ℕ, ◌<◌, ◌≤◌, List, [], length}
+use Rattle.std.specs.Prelude.{◌≡◌, ℕ, ◌<◌, ◌≤◌, ◌*◌, min, List, [], length}
 use Rattle.maid_model.specs.declared.diagrams.Kind.TheVariants.{Utility}
 use Rattle.maid_model.specs.declared.limits.TheConstants.{MOST_PLAN_CELLS}
 use Rattle.maid_model.specs.Nodes.{IsDecision, node_at}
@@ -8,6 +8,7 @@ use Rattle.maid_model.specs.Views.{NodeView}
 use Rattle.plan_sums.specs.Plans.{PlanView, row_plan, gain_plan, worth_plan}
 use Rattle.factor_core.specs.Slots.{WorkspaceView}
 use Rattle.size_precheck.specs.Sizes.{SizedPlan, IsMade}
+use Rattle.rule_solver.specs.declared.spaces.TheConstants.{MOST_PAIR_CELLS}
 use Rattle.rule_solver.specs.declared.spaces.Workspaces.{Workspaces}
 
 -- the plan has at most so many cells
@@ -35,7 +36,9 @@ pub record IsReady {C : Type 0} (cells : ℕ) (work : WorkspaceView C) : Type 0 
   pub spare : work.spare ≡ cells
   pub limit : cells ≤ MOST_PLAN_CELLS
 
--- so are both of two workspaces
+-- so are two of three workspaces, and that of pairs with its own room
 pub record AreReady (cells : ℕ) (spaces : Workspaces) : Type 0 where
   pub small : IsReady cells spaces.small
   pub wide : IsReady cells spaces.wide
+  pub pairs : IsReady spaces.pair_cells spaces.pairs
+  pub pair_cells : spaces.pair_cells ≡ min (4 * cells) MOST_PAIR_CELLS

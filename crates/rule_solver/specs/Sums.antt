@@ -1,8 +1,8 @@
 -- The sums of a decision in the part of its scope, as plans give them.
 use Rattle.std.specs.Prelude.{◌≡◌, ◌↔◌, ℕ, ◌<◌, ◌≤◌, ◌+◌, ◌*◌, List, length, slice_index, slice_index_or, Contains, ℤ, pos, ◌+ℤ◌, ◌*ℤ◌, nat_abs}
 use Rattle.maid_model.specs.Diagrams.{IsDiagram, greatest_number}
-use Rattle.maid_model.specs.Gains.{gain_at, mass_at, greatest_abs}
-use Rattle.maid_model.specs.Nodes.{IsDecision, node_at, rows_of, states_of}
+use Rattle.maid_model.specs.Gains.{gain_at, mass_at}
+use Rattle.maid_model.specs.Nodes.{IsDecision, rows_of, states_of}
 use Rattle.maid_model.specs.Profiles.{IsProfile}
 use Rattle.maid_model.specs.Scopes.{goals_of, greatest_of, place_in_scope, rules_in_scope, scope_bound, scope_of, scope_part, scope_product}
 use Rattle.maid_model.specs.Tables.{row_of}
@@ -84,17 +84,20 @@ pub record HasGoals
     pub small : (q : World) → InRange (states_of nodes) q
         → nat_abs (gain_there gains nodes d q) ≤ scope_product nodes d * greatest_of nodes goals
 
--- a gain for each row and state, with room for what this goal gives
-pub record HasRoomFor (d : DiagramView) (decision goal : ℕ) (gains : List ℤ) : Type 0 where
+-- a gain for each row and state, with room for what these goals give
+pub record HasRoomFor
+    (d : DiagramView) (decision : ℕ) (goals : List ℕ) (gains : List ℤ) : Type 0 where
   pub count : length gains ≡ rows_of d.nodes decision * states_of d.nodes decision
   pub room : (q : World) → InRange (states_of d.nodes) q
       → nat_abs (gain_there gains d.nodes decision q)
-      + scope_product d.nodes decision * greatest_abs (node_at d.nodes goal).cells
+      + scope_product d.nodes decision * greatest_of d.nodes goals
       ≤ greatest_number
 
--- each gain is greater by what the goal gives
-pub record AddsGoal
-    (nodes : List NodeView) (p : List RuleView) (d goal : ℕ) (before after : List ℤ) : Type 0 where
+-- each gain is greater by what these goals give
+pub record AddsGoals
+    (nodes : List NodeView) (p : List RuleView) (d : ℕ) (goals : List ℕ) (before after : List ℤ) :
+    Type 0 where
   pub count : length after ≡ length before
   pub each : (q : World) → InRange (states_of nodes) q
-      → gain_there after nodes d q ≡ gain_there before nodes d q +ℤ goal_part nodes p d goal q
+      → gain_there after nodes d q
+      ≡ gain_there before nodes d q +ℤ sum_each (λ u. goal_part nodes p d u q) goals

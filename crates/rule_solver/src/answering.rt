@@ -10,15 +10,14 @@ ghost use Rattle.relevance_graph.specs.Relevant.{IsRelevance};
 ghost use Rattle.size_precheck.specs.Decisions.{ArePlans};
 ghost use Rattle.size_precheck.specs.Sizes.{ArePlansOf};
 ghost use Rattle.rule_solver.specs.Answered.{AnswersAll, IsAnsweredBy};
-ghost use Rattle.rule_solver.specs.Rooms.{HasRoomAt, IsReady};
+ghost use Rattle.rule_solver.specs.Rooms.{AreReady, HasRoomAt};
 
 use crate::bases::base_of;
 use crate::decision_sums::Setting;
 use crate::rows::answer_rows;
+use crate::spaces::Workspaces;
 use crate::totals::list_totals;
 use crate::worths::scale;
-use cell_rings::{Gain, SmallGain};
-use factor_core::Workspace;
 use maid_model::{Answer, Diagram, Profile, Row};
 use part_laws::{parts_decide, scopes_are_parts};
 use relevance_graph::Relevance;
@@ -33,19 +32,18 @@ fn answer_decision(
     base: &Profile,
     decision: usize,
     plans: &DecisionPlans,
-    small: &mut Workspace<SmallGain>,
-    wide: &mut Workspace<Gain>,
+    spaces: &mut Workspaces,
 ) -> Result<Vec<Row>, AllocError>
     requires decision { IsDecision diagram.now.nodes decision }
     requires profile { IsProfile diagram.now.nodes base.now }
     requires rules { HasSmallRules diagram.now.nodes base.now decision }
     requires bound { KeepsScopedBounds diagram.now }
     requires planned { ArePlansOf diagram.now.nodes decision plans.now.rows plans.now.goals.items }
-    requires ready { (cells : ℕ) × IsReady cells small.old × IsReady cells wide.old
+    requires ready { (cells : ℕ) × AreReady cells spaces.old
         × HasRoomAt diagram.now.nodes decision cells }
     ensures rows { IfOk result (λ v.
         IsAnsweredBy diagram.now.nodes diagram.now.decimals base.now decision v.items) }
-    ensures again { OnOk result ((small.new ≡ small.old) × (wide.new ≡ wide.old)) }
+    ensures again { OnOk result (spaces.new ≡ spaces.old) }
 {
     // The part of the scope has the whole's best states, rows without mass and fractions.
     scopes_are_parts();
@@ -59,7 +57,7 @@ fn answer_decision(
         totals: &totals,
         scope: decision_scope(diagram, decision),
     };
-    let sums = setting.row_sums(alloc, plans, small, wide)?;
+    let sums = setting.row_sums(alloc, plans, spaces)?;
     answer_rows(alloc, &sums.gains, &sums.masses, states, scale(diagram))
 }
 
@@ -71,24 +69,23 @@ pub(crate) fn answer_all(
     relevance: &Relevance,
     order: &[usize],
     plans: &[DecisionPlans],
-    small: &mut Workspace<SmallGain>,
-    wide: &mut Workspace<Gain>,
+    spaces: &mut Workspaces,
 ) -> Result<Vec<Answer>, AllocError>
     requires bound { KeepsScopedBounds diagram.now }
     requires relevance { IsRelevance diagram.now.nodes relevance.now }
     requires order { IsRelianceOrder diagram.now.nodes order.now }
     requires planned { ArePlans diagram.now.nodes order.now plans.now }
-    requires ready { (cells : ℕ) × IsReady cells small.old × IsReady cells wide.old
+    requires ready { (cells : ℕ) × AreReady cells spaces.old
         × ((d : ℕ) → IsDecision diagram.now.nodes d → HasRoomAt diagram.now.nodes d cells) }
     ensures answers { IfOk result (λ v.
         AnswersAll diagram.now.nodes diagram.now.decimals order.now v.items) }
-    ensures again { OnOk result ((small.new ≡ small.old) × (wide.new ≡ wide.old)) }
+    ensures again { OnOk result (spaces.new ≡ spaces.old) }
 {
     let mut answers = Vec::with_capacity(alloc, order.len())?;
     for (place, decision) in order.iter().enumerate() {
         let base = base_of(alloc, diagram, relevance, &answers, *decision)?;
         let plans = &plans[place];
-        let rows = answer_decision(alloc, diagram, &base, *decision, plans, small, wide)?;
+        let rows = answer_decision(alloc, diagram, &base, *decision, plans, spaces)?;
         answers.push(Answer {
             decision: *decision,
             rows,

@@ -1,6 +1,6 @@
 //! The gains and masses of one decision, by plans of elimination in the part of its scope.
 
-ghost use Rattle.std.specs.Prelude.{◌≡◌, ◌+◌, ◌*◌, ℕ, ◌≤◌, All, IfOk, OnOk, length, map};
+ghost use Rattle.std.specs.Prelude.{◌≡◌, ◌+◌, ◌*◌, ℕ, ◌≤◌, ◌∷◌, [], All, IfOk, OnOk, length, map};
 ghost use Rattle.std.specs.List.{AllZip};
 ghost use Rattle.eliminate.specs.Results.{plan_total};
 ghost use Rattle.maid_model.specs.declared.limits.TheConstants.{MOST_PLAN_CELLS};
@@ -13,8 +13,9 @@ ghost use Rattle.plan_sums.specs.Plans.{gain_plan, row_plan};
 ghost use Rattle.scope_sums.specs.Missing.{missing_in, missing_in_without};
 ghost use Rattle.size_precheck.specs.Sizes.{ArePlansOf, IsPlanned, goal_list};
 ghost use Rattle.rule_solver.specs.Rooms.{AreReady, HasAtMost, HasRoomAt, IsReady};
-ghost use Rattle.rule_solver.specs.Sums.{AddsGoal, HasGoals, HasMasses, HasRoomFor, IsRowSums, IsSetting, KeepsRoom};
+ghost use Rattle.rule_solver.specs.Sums.{AddsGoals, HasGoals, HasMasses, HasRoomFor, IsRowSums, IsSetting, KeepsRoom};
 
+use crate::joint_goals::add_together;
 use crate::numbers::Number;
 use crate::reading::{add_gains, list_scope, put_masses};
 use crate::spaces::Workspaces;
@@ -180,9 +181,9 @@ impl<'a> Setting<'a> {
             (gain_plan self.now.diagram.now.nodes self.now.decision goal) cells }
         requires fits { 2 * plan_total self.now.diagram.now.nodes self.now.base.now plan.now.plan
             ≤ C.ring.most }
-        requires room { HasRoomFor self.now.diagram.now self.now.decision goal gains.old }
-        ensures adds { OnOk result (AddsGoal self.now.diagram.now.nodes self.now.base.now
-            self.now.decision goal gains.old gains.new) }
+        requires room { HasRoomFor self.now.diagram.now self.now.decision (goal ∷ []) gains.old }
+        ensures adds { OnOk result (AddsGoals self.now.diagram.now.nodes self.now.base.now
+            self.now.decision (goal ∷ []) gains.old gains.new) }
         ensures again { OnOk result (work.new ≡ work.old) }
         ensures len { length gains.new ≡ length gains.old }
     {
@@ -220,9 +221,9 @@ impl<'a> Setting<'a> {
         requires ready { (cells : ℕ) × IsReady cells small.old × IsReady cells wide.old
             × HasAtMost self.now.diagram.now.nodes
             (gain_plan self.now.diagram.now.nodes self.now.decision goal) cells }
-        requires room { HasRoomFor self.now.diagram.now self.now.decision goal gains.old }
-        ensures adds { OnOk result (AddsGoal self.now.diagram.now.nodes self.now.base.now
-            self.now.decision goal gains.old gains.new) }
+        requires room { HasRoomFor self.now.diagram.now self.now.decision (goal ∷ []) gains.old }
+        ensures adds { OnOk result (AddsGoals self.now.diagram.now.nodes self.now.base.now
+            self.now.decision (goal ∷ []) gains.old gains.new) }
         ensures again { OnOk result ((small.new ≡ small.old) × (wide.new ≡ wide.old)) }
         ensures len { length gains.new ≡ length gains.old }
     {
@@ -236,13 +237,52 @@ impl<'a> Setting<'a> {
         }
     }
 
+    /// Adds what the decision's goals give to the gains: of several goals together, as far as that serves, and then of
+    /// one after the other.
+    fn add_goals(
+        &self,
+        alloc: Global,
+        goals: &[usize],
+        plans: &[Plan],
+        spaces: &mut Workspaces,
+        gains: &mut [i128],
+    ) -> Result<(), AllocError>
+        requires setting { IsSetting self.now.diagram.now self.now.base.now self.now.decision
+            self.now.totals.now self.now.scope }
+        requires goals { goals.now ≡ goals_of self.now.diagram.now.nodes self.now.decision }
+        requires planned { AllZip (IsPlanned self.now.diagram.now.nodes)
+            (map (λ u. gain_plan self.now.diagram.now.nodes self.now.decision u)
+            (goal_list self.now.diagram.now.nodes self.now.decision))
+            plans.now }
+        requires ready { (cells : ℕ) × AreReady cells spaces.old
+            × ((u : ℕ) → IsGoal self.now.diagram.now.nodes self.now.decision u
+            → HasAtMost self.now.diagram.now.nodes
+            (gain_plan self.now.diagram.now.nodes self.now.decision u) cells) }
+        requires none { HasGoals self.now.diagram.now.nodes self.now.base.now self.now.decision []
+            gains.old }
+        ensures gains { OnOk result (HasGoals self.now.diagram.now.nodes self.now.base.now
+            self.now.decision goals.now gains.new) }
+        ensures again { OnOk result (spaces.new ≡ spaces.old) }
+        ensures len { length gains.new ≡ length gains.old }
+    {
+        plans_keep_scopes();
+        let cells = spaces.pair_cells;
+        let pairs = &mut spaces.pairs;
+        let added = add_together(alloc, self, goals, plans, cells, pairs, gains)?;
+        for place in added..goals.len() {
+            let plan = &plans[place];
+            let (small, wide) = (&mut spaces.small, &mut spaces.wide);
+            self.add_goal(alloc, goals[place], plan, small, wide, gains)?;
+        }
+        Ok(())
+    }
+
     /// The gains of the decision's states in the part of its scope: what its goals give, added up.
     fn gains(
         &self,
         alloc: Global,
         plans: &[Plan],
-        small: &mut Workspace<SmallGain>,
-        wide: &mut Workspace<Gain>,
+        spaces: &mut Workspaces,
     ) -> Result<Vec<i128>, AllocError>
         requires setting { IsSetting self.now.diagram.now self.now.base.now self.now.decision
             self.now.totals.now self.now.scope }
@@ -250,22 +290,19 @@ impl<'a> Setting<'a> {
             (map (λ u. gain_plan self.now.diagram.now.nodes self.now.decision u)
             (goal_list self.now.diagram.now.nodes self.now.decision))
             plans.now }
-        requires ready { (cells : ℕ) × IsReady cells small.old × IsReady cells wide.old
+        requires ready { (cells : ℕ) × AreReady cells spaces.old
             × ((u : ℕ) → IsGoal self.now.diagram.now.nodes self.now.decision u
             → HasAtMost self.now.diagram.now.nodes
             (gain_plan self.now.diagram.now.nodes self.now.decision u) cells) }
         ensures gains { IfOk result (λ gains.
             HasGoals self.now.diagram.now.nodes self.now.base.now self.now.decision
             (goals_of self.now.diagram.now.nodes self.now.decision) gains.items) }
-        ensures again { OnOk result ((small.new ≡ small.old) × (wide.new ≡ wide.old)) }
+        ensures again { OnOk result (spaces.new ≡ spaces.old) }
     {
-        plans_keep_scopes();
         let rows = self.diagram.rows(self.decision);
         let mut gains = vec![in alloc; 0; rows * self.diagram.states(self.decision)]?;
         let goals = list_scope(alloc, self.diagram, &goals_of(self.diagram, self.decision))?;
-        for (place, goal) in goals.iter().enumerate() {
-            self.add_goal(alloc, *goal, &plans[place], small, wide, &mut gains)?;
-        }
+        self.add_goals(alloc, &goals, plans, spaces, &mut gains)?;
         Ok(gains)
     }
 
@@ -274,14 +311,13 @@ impl<'a> Setting<'a> {
         &self,
         alloc: Global,
         plans: &DecisionPlans,
-        small: &mut Workspace<SmallGain>,
-        wide: &mut Workspace<Gain>,
+        spaces: &mut Workspaces,
     ) -> Result<RowSums, AllocError>
         requires setting { IsSetting self.now.diagram.now self.now.base.now self.now.decision
             self.now.totals.now self.now.scope }
         requires planned { ArePlansOf self.now.diagram.now.nodes self.now.decision plans.now.rows
             plans.now.goals.items }
-        requires ready { (cells : ℕ) × IsReady cells small.old × IsReady cells wide.old
+        requires ready { (cells : ℕ) × AreReady cells spaces.old
             × HasRoomAt self.now.diagram.now.nodes self.now.decision cells }
         ensures sums { IfOk result (λ sums.
             IsRowSums self.now.diagram.now.nodes self.now.base.now self.now.decision
@@ -289,11 +325,11 @@ impl<'a> Setting<'a> {
         ensures room { IfOk result (λ sums.
             KeepsRoom self.now.diagram.now.nodes self.now.decision sums.gains.items
             sums.masses.items) }
-        ensures again { OnOk result ((small.new ≡ small.old) × (wide.new ≡ wide.old)) }
+        ensures again { OnOk result (spaces.new ≡ spaces.old) }
     {
         plans_sum_scopes();
-        let gains = self.gains(alloc, &plans.goals, small, wide)?;
-        let masses = self.masses(alloc, &plans.rows, small, wide)?;
+        let gains = self.gains(alloc, &plans.goals, spaces)?;
+        let masses = self.masses(alloc, &plans.rows, &mut spaces.small, &mut spaces.wide)?;
         Ok(RowSums { gains, masses })
     }
 }
@@ -350,7 +386,7 @@ pub fn row_sums_by(
         totals: &totals,
         scope: decision_scope(diagram, decision),
     };
-    setting.row_sums(alloc, plans, &mut spaces.small, &mut spaces.wide)
+    setting.row_sums(alloc, plans, spaces)
 }
 
 /// What the states of a decision gain in each row, and the rows' masses, with the profile as base: the sums over the
@@ -358,9 +394,9 @@ pub fn row_sums_by(
 ///
 /// It sums by variable elimination: one plan for the rows, and one for each utility of the decision's agent that
 /// descends from the decision. It makes all of them before it runs the first, and reserves two workspaces, of small and
-/// of wide cells, of as many cells as the largest has. It may be asked where no such plan has more than 4,194,304 cells,
-/// each scope keeps the weight bound, and no other rule adds up to more than its decision has states, as pure and
-/// uniform ones do.
+/// of wide cells, of as many cells as the largest has. In a third, of pairs, it sums several of the utilities together
+/// where that is less work. It may be asked where no such plan has more than 4,194,304 cells, each scope keeps the weight
+/// bound, and no other rule adds up to more than its decision has states, as pure and uniform ones do.
 ///
 /// # Errors
 ///

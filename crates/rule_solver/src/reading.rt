@@ -8,7 +8,7 @@ ghost use Rattle.maid_model.specs.Nodes.{IsDecision, parents_of, rows_of, states
 ghost use Rattle.node_sets.specs.Sets.{holds, IsIn};
 ghost use Rattle.rule_solver.specs.Reading.{AddsTable, PutsTable, gain_there};
 
-use crate::numbers::Number;
+use crate::numbers::{HasNumber, Number};
 use crate::odometer::next_over;
 use factor_core::{Slot, Strip, Workspace};
 use maid_model::{Diagram, World};
@@ -50,7 +50,7 @@ fn add_number(gains: &mut [i128], at: usize, number: i128, factor: u128)
 /// # Errors
 ///
 /// Where memory ran out the gains are as they were.
-pub(crate) fn add_gains<C: Number>(
+pub(crate) fn add_gains<C: HasNumber>(
     alloc: Global,
     diagram: &Diagram,
     decision: usize,

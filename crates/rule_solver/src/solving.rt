@@ -1,6 +1,6 @@
 //! A whole diagram, solved decision by decision.
 
-ghost use Rattle.std.specs.Prelude.{ℕ, ◌≤◌, IfOk};
+ghost use Rattle.std.specs.Prelude.{ℕ, ◌≤◌, All, IfOk};
 ghost use Rattle.first_fault.specs.Answers.{Passes};
 ghost use Rattle.maid_model.specs.Answers.{IsAnswer, KeepsWorth, answered};
 ghost use Rattle.maid_model.specs.Diagrams.{IsDiagram};
@@ -11,21 +11,23 @@ ghost use Rattle.maid_model.specs.Subgames.{IsOptimal, IsSubgamePerfect, OwnsAll
 ghost use Rattle.maid_model.specs.Values.{PrintsOptima};
 ghost use Rattle.relevance_graph.specs.Relevant.{IsRelevance};
 ghost use Rattle.size_precheck.specs.Decisions.{ArePlans};
+ghost use Rattle.size_precheck.specs.Kept.{IsKept};
 ghost use Rattle.rule_solver.specs.Faults.{solve_fault, solve_pass};
 ghost use Rattle.rule_solver.specs.Rooms.{HasRoom};
+ghost use Rattle.rule_solver.specs.Worths.{ArePlansOfWorths};
 
 use crate::SolveFault;
 use crate::answering::answer_all;
 use crate::limits::{keep_bound, keep_sizes};
 use crate::spaces::Workspaces;
-use crate::worths::expected_by;
+use crate::worths::expected_along;
 use maid_laws::{
     answers_are_optimal, answers_are_subgame_perfect, gains_are_optima, worth_under_the_profile,
 };
 use maid_model::{Diagram, Profile, Solved};
 use part_laws::scoped_sums_fit;
 use relevance_graph::{Relevance, find_relevance};
-use size_precheck::RunPlans;
+use size_precheck::{KeptPlans, RunPlans};
 use std::alloc::{AllocError, Global};
 
 /// The answer of a diagram whose decisions have this order of solving, by the plans of its run. The workspaces are
@@ -41,6 +43,7 @@ fn solve_along(
     requires relevance { IsRelevance diagram.now.nodes relevance.now }
     requires order { IsRelianceOrder diagram.now.nodes order.now }
     requires plans { ArePlans diagram.now.nodes order.now run.now.decisions.items }
+    requires worths { ArePlansOfWorths diagram.now.nodes run.now.worths.items }
     requires room { HasRoom diagram.now.nodes run.now.size.cells }
     requires limit { run.now.size.cells ≤ MOST_PLAN_CELLS }
     ensures { IfOk result (IsAnswer diagram.now) }
@@ -54,11 +57,10 @@ fn solve_along(
         relevance,
         order,
         &run.decisions,
-        &mut spaces.small,
-        &mut spaces.wide,
+        &mut spaces,
     )?;
     let profile = Profile::pure(alloc, diagram, &answers)?;
-    let gains = expected_by(alloc, diagram, &profile, &mut spaces)?;
+    let gains = expected_along(alloc, diagram, &profile, &run.worths, &mut spaces)?;
     Ok(Solved {
         order: Vec::from_slice(alloc, order)?,
         answers,
@@ -72,15 +74,17 @@ fn solve_ordered(
     diagram: &Diagram,
     relevance: &Relevance,
     order: &[usize],
+    kept: &[KeptPlans],
 ) -> Result<Solved, SolveFault>
     requires relevance { IsRelevance diagram.now.nodes relevance.now }
     requires order { IsRelianceOrder diagram.now.nodes order.now }
+    requires kept { All (IsKept diagram.now.nodes) kept.now }
     ensures rows { Passes solve_fault (solve_pass diagram.now) result }
     ensures ok { IfOk result (IsAnswer diagram.now) }
     ensures diagram { IfOk result (λ solved. IsDiagram diagram.now) }
 {
     keep_bound(diagram)?;
-    let run = keep_sizes(alloc, diagram, order)?;
+    let run = keep_sizes(alloc, diagram, order, kept)?;
     Ok(solve_along(alloc, diagram, relevance, order, &run)?)
 }
 
@@ -89,8 +93,9 @@ fn solve_ordered(
 ///
 /// It takes the relevance graph, and sums by variable elimination: one plan for each decision's rows, one for each
 /// decision and each utility of its agent that descends from it, and one for each utility. Their work is what
-/// `size_precheck::measure` counts. The plans of the decisions are made once, and kept until they are run; two workspaces
-/// are reserved once, of small and of wide cells, with the most cells of a plan.
+/// `size_precheck::measure` counts. The plans are made once, and kept until they are run; workspaces are reserved once:
+/// of small and of wide cells with the most cells of a plan, and of pairs, in which several goals of a decision are
+/// summed together where that is less work.
 ///
 /// # Errors
 ///
@@ -113,13 +118,44 @@ pub fn solve(alloc: Global, diagram: &Diagram) -> Result<Solved, SolveFault>
     // In a row that the answered profile reaches, the printed worth is also that under the profile itself.
     ensures worth { IfOk result (KeepsWorth diagram.now) }
 {
+    solve_with(alloc, diagram, &[])
+}
+
+/// The same where the plans of some decisions are kept: those are copied, and only the others are made. So it is for a
+/// diagram that was solved before some of its nodes became decisions.
+///
+/// # Errors
+///
+/// Those of `solve`.
+pub fn solve_with(
+    alloc: Global,
+    diagram: &Diagram,
+    kept: &[KeptPlans],
+) -> Result<Solved, SolveFault>
+    // What is kept are plans of the diagram's decisions.
+    requires { All (IsKept diagram.now.nodes) kept.now }
+    // An answer where nothing refuses the diagram, and else the first refusal that applies.
+    ensures rows { Passes solve_fault (solve_pass diagram.now) result }
+    ensures ok { IfOk result (IsAnswer diagram.now) }
+    // From no subgame start does an agent gain by other rules of its own.
+    ensures subgame_perfect { IfOk result (λ solved.
+        IsSubgamePerfect diagram.now.nodes (answered diagram.now solved)) }
+    // No profile is worth more to an agent that owns all decisions.
+    ensures optimal { IfOk result (λ solved.
+        (agent : ℕ) → OwnsAll diagram.now.nodes agent
+        → IsOptimal diagram.now.nodes (answered diagram.now solved) agent) }
+    // So what is printed for such an agent is the optimum of the diagram.
+    ensures optimum { IfOk result (PrintsOptima diagram.now) }
+    // In a row that the answered profile reaches, the printed worth is also that under the profile itself.
+    ensures worth { IfOk result (KeepsWorth diagram.now) }
+{
     answers_are_subgame_perfect();
     answers_are_optimal();
     gains_are_optima();
     worth_under_the_profile();
     let relevance = find_relevance(alloc, diagram)?;
     match relevance.order() {
-        Ok(order) => solve_ordered(alloc, diagram, &relevance, order),
+        Ok(order) => solve_ordered(alloc, diagram, &relevance, order, kept),
         Err(cycle) => Err(SolveFault::Cycle {
             list: Vec::from_slice(alloc, cycle)?,
         }),

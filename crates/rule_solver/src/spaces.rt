@@ -4,27 +4,39 @@ ghost use Rattle.std.specs.Prelude.{◌≤◌, IfOk};
 ghost use Rattle.maid_model.specs.declared.limits.TheConstants.{MOST_PLAN_CELLS};
 ghost use Rattle.rule_solver.specs.Rooms.{AreReady};
 
-use cell_rings::{Gain, SmallGain};
+use cell_rings::{Both, Gain, SmallGain};
 use factor_core::Workspace;
 use std::alloc::{AllocError, Global};
 
-/// Two workspaces: one for the plans whose numbers surely fit cells of 64 bits, and one for all others. Reserved once,
-/// they serve any number of plans, one after another.
+/// How many cells the workspace of pairs has room for at most. Goals whose joint sum asks for more are summed one by
+/// one, so more room would seldom be used.
+pub const MOST_PAIR_CELLS: usize = 65_536;
+
+/// Three workspaces: one for the plans whose numbers surely fit cells of 64 bits, one for all others, and one for goals
+/// that are summed together, in pairs of a mass and a gain. Reserved once, they serve any number of plans, one after
+/// another.
 #[derive(Drop)]
 pub struct Workspaces {
     pub small: Workspace<SmallGain>,
     pub wide: Workspace<Gain>,
+    pub pairs: Workspace<Both>,
+    /// How many cells `pairs` has room for.
+    pub pair_cells: usize,
 }
 
 impl Workspaces {
-    /// Two workspaces without a table, each with room for so many cells.
+    /// Workspaces without a table: two with room for so many cells each, and that of pairs with room for four times as
+    /// many, up to `MOST_PAIR_CELLS`.
     pub fn reserve(alloc: Global, cells: usize) -> Result<Workspaces, AllocError>
         requires { cells ≤ MOST_PLAN_CELLS }
         ensures { IfOk result (AreReady cells) }
     {
+        let pair_cells = (4 * cells).min(MOST_PAIR_CELLS);
         Ok(Workspaces {
             small: Workspace::reserve(alloc, cells)?,
             wide: Workspace::reserve(alloc, cells)?,
+            pairs: Workspace::reserve(alloc, pair_cells)?,
+            pair_cells,
         })
     }
 }

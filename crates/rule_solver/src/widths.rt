@@ -48,7 +48,7 @@ fn greatest_abs(cells: &[i128]) -> u128
 }
 
 /// The greater of 1 and the greatest absolute value of the utility; 1 without one.
-fn greatest_value(diagram: &Diagram, utility: Option<usize>) -> u128
+pub(crate) fn greatest_value(diagram: &Diagram, utility: Option<usize>) -> u128
     requires { (u : ℕ) → utility ≡ Some u → u < length diagram.now.nodes }
     ensures { result ≡ greatest_value diagram.now.nodes utility }
 {

@@ -15,7 +15,7 @@ ghost use Rattle.size_precheck.specs.Sizes.{IsPlanned};
 ghost use Rattle.rule_solver.specs.Masses.{HasGains};
 ghost use Rattle.rule_solver.specs.Rooms.{AreReady, HasAtMost, HasRoomForWorths, IsReady};
 ghost use Rattle.rule_solver.specs.Totals.{HasTotals};
-ghost use Rattle.rule_solver.specs.Worths.{HasWorths, IsLeastRoom, IsStake, IsWorth, gain_given, scope_gain_for};
+ghost use Rattle.rule_solver.specs.Worths.{ArePlansOfWorths, HasWorths, IsLeastRoom, IsStake, IsWorth, gain_given, scope_gain_for};
 
 use crate::numbers::Number;
 use crate::rows::fraction;
@@ -29,7 +29,7 @@ use maid_model::{Diagram, Kind, Profile, Ratio, descent_is_tested};
 use node_sets::{NodeSet, ancestors};
 use part_laws::{parts_decide, scopes_are_parts};
 use scope_sums::{plans_keep_scopes, plans_sum_scopes};
-use size_precheck::{Plan, greedy_orders, plan_worth};
+use size_precheck::{Plan, greedy_orders, plan_worth, plan_worths};
 use std::alloc::{AllocError, Global};
 use weight_scale::agent_scope;
 
@@ -65,14 +65,14 @@ fn run_worth<C: Number>(
 
 /// What the utility's plan sums to, in the smaller cells where they surely hold its numbers.
 fn worth(
-    alloc: Global,
     diagram: &Diagram,
     profile: &Profile,
     totals: &[u128],
     utility: usize,
+    plan: &Plan,
     small: &mut Workspace<SmallGain>,
     wide: &mut Workspace<Gain>,
-) -> Result<i128, AllocError>
+) -> i128
     requires diagram { IsDiagram diagram.now }
     requires within { utility < length diagram.now.nodes }
     requires kind { (node_at diagram.now.nodes utility).kind ≡ Utility }
@@ -80,54 +80,27 @@ fn worth(
     requires rules { HasUnitRules diagram.now.nodes profile.now }
     requires bound { KeepsScopedBounds diagram.now }
     requires totals { HasTotals diagram.now.nodes profile.now totals.now }
+    requires planned { IsPlanned diagram.now.nodes (worth_plan utility) plan.now }
     requires ready { (cells : ℕ) × IsReady cells small.old × IsReady cells wide.old
         × HasAtMost diagram.now.nodes (worth_plan utility) cells }
-    ensures worth { IfOk result (IsWorth diagram.now.nodes profile.now utility) }
-    ensures again { OnOk result ((small.new ≡ small.old) × (wide.new ≡ wide.old)) }
+    ensures worth { IsWorth diagram.now.nodes profile.now utility result }
+    ensures again { (small.new ≡ small.old) × (wide.new ≡ wide.old) }
 {
     plans_keep_scopes();
-    let plan = plan_worth(alloc, diagram, utility)?;
-    if fits_small(diagram, totals, &plan) {
-        Ok(run_worth(diagram, profile, utility, &plan, small))
+    if fits_small(diagram, totals, plan) {
+        run_worth(diagram, profile, utility, plan, small)
     } else {
-        Ok(run_worth(diagram, profile, utility, &plan, wide))
+        run_worth(diagram, profile, utility, plan, wide)
     }
 }
 
-/// The worth of a utility, and 0 at another node.
-fn worth_or_none(
-    alloc: Global,
-    diagram: &Diagram,
-    profile: &Profile,
-    totals: &[u128],
-    v: usize,
-    small: &mut Workspace<SmallGain>,
-    wide: &mut Workspace<Gain>,
-) -> Result<i128, AllocError>
-    requires within { v < length diagram.now.nodes }
-    requires profile { IsProfile diagram.now.nodes profile.now }
-    requires rules { HasUnitRules diagram.now.nodes profile.now }
-    requires bound { KeepsScopedBounds diagram.now }
-    requires totals { HasTotals diagram.now.nodes profile.now totals.now }
-    requires ready { (cells : ℕ) × IsReady cells small.old × IsReady cells wide.old
-        × HasRoomForWorths diagram.now.nodes cells }
-    ensures worth { IfOk result (λ worth.
-        (node_at diagram.now.nodes v).kind ≡ Utility
-        → IsWorth diagram.now.nodes profile.now v worth) }
-    ensures again { OnOk result ((small.new ≡ small.old) × (wide.new ≡ wide.old)) }
-{
-    match diagram.kind(v) {
-        Kind::Utility => worth(alloc, diagram, profile, totals, v, small, wide),
-        Kind::Chance | Kind::Decision => Ok(0),
-    }
-}
-
-/// The worth of each utility, and 0 at other nodes. It runs one plan for each utility.
+/// The worth of each utility, and 0 at other nodes. It runs the plan of each utility.
 fn list_worths(
     alloc: Global,
     diagram: &Diagram,
     profile: &Profile,
     totals: &[u128],
+    plans: &[Plan],
     small: &mut Workspace<SmallGain>,
     wide: &mut Workspace<Gain>,
 ) -> Result<Vec<i128>, AllocError>
@@ -135,15 +108,23 @@ fn list_worths(
     requires rules { HasUnitRules diagram.now.nodes profile.now }
     requires bound { KeepsScopedBounds diagram.now }
     requires totals { HasTotals diagram.now.nodes profile.now totals.now }
+    requires planned { ArePlansOfWorths diagram.now.nodes plans.now }
     requires ready { (cells : ℕ) × IsReady cells small.old × IsReady cells wide.old
         × HasRoomForWorths diagram.now.nodes cells }
     ensures worths { IfOk result (λ worths. HasWorths diagram.now.nodes profile.now worths.items) }
     ensures again { OnOk result ((small.new ≡ small.old) × (wide.new ≡ wide.old)) }
 {
     let mut worths = Vec::with_capacity(alloc, diagram.count())?;
+    let mut place = 0;
     for v in 0..diagram.count() {
-        let worth = worth_or_none(alloc, diagram, profile, totals, v, small, wide)?;
-        worths.push(worth)?;
+        match diagram.kind(v) {
+            Kind::Utility => {
+                let plan = &plans[place];
+                worths.push(worth(diagram, profile, totals, v, plan, small, wide))?;
+                place += 1;
+            }
+            Kind::Chance | Kind::Decision => worths.push(0)?,
+        }
     }
     Ok(worths)
 }
@@ -230,6 +211,49 @@ impl<'a> Stake<'a> {
     }
 }
 
+/// What `expected` tells, by the plans of the utilities' worths, in workspaces with room for each of them. It runs each
+/// plan once. The workspaces are left as they were found.
+pub(crate) fn expected_along(
+    alloc: Global,
+    diagram: &Diagram,
+    profile: &Profile,
+    plans: &[Plan],
+    spaces: &mut Workspaces,
+) -> Result<Vec<Ratio>, AllocError>
+    requires bound { KeepsScopedBounds diagram.now }
+    requires profile { IsProfile diagram.now.nodes profile.now }
+    requires pure { HasUnitRules diagram.now.nodes profile.now }
+    requires planned { ArePlansOfWorths diagram.now.nodes plans.now }
+    requires ready { (cells : ℕ) × AreReady cells spaces.old
+        × HasRoomForWorths diagram.now.nodes cells }
+    ensures gains { IfOk result (λ v. HasGains diagram.now profile.now diagram.now.agents v.items) }
+    ensures again { OnOk result (spaces.new ≡ spaces.old) }
+{
+    let totals = list_totals(alloc, diagram, profile)?;
+    let worths = list_worths(
+        alloc,
+        diagram,
+        profile,
+        &totals,
+        plans,
+        &mut spaces.small,
+        &mut spaces.wide,
+    )?;
+    let mut gains = Vec::with_capacity(alloc, diagram.agents())?;
+    for agent in 0..diagram.agents() {
+        let stake = Stake {
+            diagram,
+            profile,
+            agent,
+            totals: &totals,
+            worths: &worths,
+            scope: agent_scope(diagram, agent),
+        };
+        gains.push(stake.expected())?;
+    }
+    Ok(gains)
+}
+
 /// What `expected` tells, in workspaces with room for each utility's plan. It makes each of these plans once, and runs
 /// it. The workspaces are left as they were found.
 ///
@@ -250,28 +274,8 @@ pub fn expected_by(
     ensures gains { IfOk result (λ v. HasGains diagram.now profile.now diagram.now.agents v.items) }
     ensures again { OnOk result (spaces.new ≡ spaces.old) }
 {
-    let totals = list_totals(alloc, diagram, profile)?;
-    let worths = list_worths(
-        alloc,
-        diagram,
-        profile,
-        &totals,
-        &mut spaces.small,
-        &mut spaces.wide,
-    )?;
-    let mut gains = Vec::with_capacity(alloc, diagram.agents())?;
-    for agent in 0..diagram.agents() {
-        let stake = Stake {
-            diagram,
-            profile,
-            agent,
-            totals: &totals,
-            worths: &worths,
-            scope: agent_scope(diagram, agent),
-        };
-        gains.push(stake.expected())?;
-    }
-    Ok(gains)
+    let plans = plan_worths(alloc, diagram)?;
+    expected_along(alloc, diagram, profile, &plans, spaces)
 }
 
 /// How many cells the plan of a utility's worth has, and 0 at another node.

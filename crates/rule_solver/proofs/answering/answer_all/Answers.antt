@@ -1,11 +1,8 @@
 use Rattle.std.proofs.Common.{rules, arith, ◌<◌, length, ◌∙◌, ◌+◌, Contains, sym, subst, take, slice_index}
-use Rattle.cell_rings.specs.declared.gains.Gain.{Gain}
-use Rattle.cell_rings.specs.declared.small_gains.SmallGain.{SmallGain}
-use Rattle.factor_core.specs.Slots.{WorkspaceView}
 use Rattle.maid_model.specs.Answers.{IsBase, pure_profile}
 use Rattle.maid_model.specs.Graph.{AllDifferent}
 use Rattle.rule_solver.specs.Answered.{AnswersAll}
-use Rattle.rule_solver.specs.Rooms.{IsReady}
+use Rattle.rule_solver.specs.Rooms.{AreReady}
 use Rattle.std.proofs.lemmas.Slice.Zip.{AllZip-long}
 use Rattle.size_precheck.specs.Sizes.{ArePlansOf}
 use Rattle.rule_solver.proofs.GoalPlans.{zip_at}
@@ -33,9 +30,8 @@ answer_decision-requires-clause-rules c e is apart = c.in_ok-base.ensures.room e
 pub answer_decision-requires-clause-ready : goal.answer_decision-requires-clause-ready
 answer_decision-requires-clause-ready c = (
   c.requires.ready.0,
-  subst (λ (w : WorkspaceView SmallGain). IsReady c.requires.ready.0 w) (sym c.loop-place.invariant.1) c.requires.ready.1,
-  subst (λ (w : WorkspaceView Gain). IsReady c.requires.ready.0 w) (sym c.loop-place.invariant.2) c.requires.ready.2,
-  c.requires.ready.3 (slice_index c.args.order.now c.loop-place.place) (placed_decision c.args.diagram.now.nodes c.args.order.now c.requires.order c.loop-place.place c.loop-place-test.true),
+  subst (AreReady c.requires.ready.0) (sym c.loop-place.invariant.1) c.requires.ready.1,
+  c.requires.ready.2 (slice_index c.args.order.now c.loop-place.place) (placed_decision c.args.diagram.now.nodes c.args.order.now c.requires.order c.loop-place.place c.loop-place-test.true),
 )
 
 pub loop-place-preserved : goal.loop-place-preserved
@@ -44,8 +40,7 @@ loop-place-preserved c = (
       (answers-push-all c.args.diagram.now.nodes c.args.diagram.now.decimals c.args.order.now c.loop-place.place c.loop-place.answers.items c.in_ok-base.base c.in_ok-rows.rows.items c.requires.order c.loop-place-test.true c.loop-place.invariant.0
       (subst (λ l. IsBase c.args.diagram.now.nodes (pure_profile c.args.diagram.now.nodes l) (slice_index c.args.order.now c.loop-place.place) c.in_ok-base.base) c.deref.ensures.value c.in_ok-base.ensures.base)
       c.in_ok-rows.ensures.rows),
-  c.in_ok-rows.ensures.again.0 ∙ c.loop-place.invariant.1,
-  c.in_ok-rows.ensures.again.1 ∙ c.loop-place.invariant.2,
+  c.in_ok-rows.ensures.again ∙ c.loop-place.invariant.1,
 )
 
 pub bounds-plans-place : goal.bounds-plans-place

@@ -4,4 +4,4 @@ use Rattle.rule_solver.proofs.answering.answer_all.Given as goal
 
 -- the answers so far; the workspaces are as they were
 abbrev pub invariant-loop-place : goal.invariant-loop-place
-invariant-loop-place l = AnswersAll l.diagram.nodes l.diagram.decimals (take l.place l.order) l.answers.items × (l.small ≡ l.fn.small) × (l.wide ≡ l.fn.wide)
+invariant-loop-place l = AnswersAll l.diagram.nodes l.diagram.decimals (take l.place l.order) l.answers.items × (l.spaces ≡ l.fn.spaces)

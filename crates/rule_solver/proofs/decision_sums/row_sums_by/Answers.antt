@@ -12,6 +12,3 @@ row_sums-requires-clause-setting c = record {
   has_totals = subst (HasTotals c.args.diagram.now.nodes c.args.profile.now) (sym c.deref.ensures.value) c.in_ok-totals.ensures.totals;
   is_scope = c.decision_scope.ensures;
 }
-
-pub row_sums-requires-clause-ready : goal.row_sums-requires-clause-ready
-row_sums-requires-clause-ready c = (c.requires.ready.0, c.requires.ready.1.small, c.requires.ready.1.wide, c.requires.ready.2)

@@ -3,8 +3,8 @@ use Rattle.maid_model.specs.Answers.{FitsAnswers, IsAnswer, pure_profile}
 use Rattle.rule_solver.proofs.AnswerLemmas.{answers_fit, is_answer}
 use Rattle.rule_solver.proofs.solving.solve_along.Goals as goal
 
-pub expected_by-requires-clause-profile : goal.expected_by-requires-clause-profile
-expected_by-requires-clause-profile c =
+pub expected_along-requires-clause-profile : goal.expected_along-requires-clause-profile
+expected_along-requires-clause-profile c =
     let d = c.args.diagram.now in
     c.in_ok-profile.ensures.profile (subst (FitsAnswers d.nodes) (sym c.deref-2.ensures.value) (answers_fit d.nodes d.decimals c.args.order.now c.in_ok-answers.answers.items c.requires.order c.in_ok-answers.ensures.answers))
 

@@ -21,6 +21,6 @@ returns-clause-worth g c = λ q r.
     let fits : FitsSigned w128 c.number.result = search rules in
     to_z-of_z w128 c.number.result fits
     ∙ c.number.ensures
-    ∙ ap g.C.Number.number (c.at-worth.ensures q (ap (λ vs. map q vs) (no_states c.args.diagram.now.nodes c.run_plan-slot.result.scope c.args.plan.now.plan.keep (ap (λ (plan : PlanView). plan.keep) c.requires.planned.made.plan) c.run_plan-slot.ensures.scope)) ∙ c.run_plan-slot.ensures.cell q r)
-    ∙ number_sum (cells_by g.C.Cell.ring g.C.Cell.of_weight g.C.Cell.of_value) g.C.Number.number g.met.C.Cell.laws g.met.C.Number.is_map nodes p c.args.plan.now.plan q
+    ∙ ap g.C.HasNumber.number (c.at-worth.ensures q (ap (λ vs. map q vs) (no_states c.args.diagram.now.nodes c.run_plan-slot.result.scope c.args.plan.now.plan.keep (ap (λ (plan : PlanView). plan.keep) c.requires.planned.made.plan) c.run_plan-slot.ensures.scope)) ∙ c.run_plan-slot.ensures.cell q r)
+    ∙ number_sum (cells_by g.C.Cell.ring g.C.Cell.of_weight g.C.Cell.of_value) g.C.HasNumber.number g.met.C.Cell.laws g.met.C.Number.is_map nodes p c.args.plan.now.plan q
     ∙ ap (λ plan. plan_sum gain_cells nodes p plan q) c.requires.planned.made.plan

@@ -15,15 +15,15 @@ put_masses-requires-clause-scope g c v =
 pub put_masses-requires-clause-room : goal.put_masses-requires-clause-room
 put_masses-requires-clause-room g c =
     rows_room c.args.self.now.diagram.now c.args.self.now.base.now c.args.self.now.decision c.args.self.now.totals.now c.args.self.now.scope c.requires.setting c.plans_keep_scopes.ensures.decisions c.plans_keep_scopes.ensures.positive c.args.plan.now.plan c.requires.planned.made.plan
-    (λ q. g.C.Number.number ((table_of g.C.Cell.ring c.args.self.now.diagram.now.nodes c.run_plan-slot.new.work.cells c.run_plan-slot.result).cell q))
-    (λ q i. ap g.C.Number.number (c.run_plan-slot.ensures.cell q i)
-    ∙ number_sum (cells_by g.C.Cell.ring g.C.Cell.of_weight g.C.Cell.of_value) g.C.Number.number g.met.C.Cell.laws g.met.C.Number.is_map c.args.self.now.diagram.now.nodes c.args.self.now.base.now c.args.plan.now.plan q)
+    (λ q. g.C.HasNumber.number ((table_of g.C.Cell.ring c.args.self.now.diagram.now.nodes c.run_plan-slot.new.work.cells c.run_plan-slot.result).cell q))
+    (λ q i. ap g.C.HasNumber.number (c.run_plan-slot.ensures.cell q i)
+    ∙ number_sum (cells_by g.C.Cell.ring g.C.Cell.of_weight g.C.Cell.of_value) g.C.HasNumber.number g.met.C.Cell.laws g.met.C.Number.is_map c.args.self.now.diagram.now.nodes c.args.self.now.base.now c.args.plan.now.plan q)
     c.args.factor c.requires.factor
 
 pub returns-clause-masses : goal.returns-clause-masses
 returns-clause-masses g c =
     rows_masses c.args.self.now.diagram.now c.args.self.now.base.now c.args.self.now.decision c.args.self.now.totals.now c.args.self.now.scope c.requires.setting c.plans_keep_scopes.ensures.decisions c.plans_keep_scopes.ensures.positive c.args.plan.now.plan c.requires.planned.made.plan
-    (λ q. g.C.Number.number ((table_of g.C.Cell.ring c.args.self.now.diagram.now.nodes c.run_plan-slot.new.work.cells c.run_plan-slot.result).cell q))
-    (λ q i. ap g.C.Number.number (c.run_plan-slot.ensures.cell q i)
-    ∙ number_sum (cells_by g.C.Cell.ring g.C.Cell.of_weight g.C.Cell.of_value) g.C.Number.number g.met.C.Cell.laws g.met.C.Number.is_map c.args.self.now.diagram.now.nodes c.args.self.now.base.now c.args.plan.now.plan q)
+    (λ q. g.C.HasNumber.number ((table_of g.C.Cell.ring c.args.self.now.diagram.now.nodes c.run_plan-slot.new.work.cells c.run_plan-slot.result).cell q))
+    (λ q i. ap g.C.HasNumber.number (c.run_plan-slot.ensures.cell q i)
+    ∙ number_sum (cells_by g.C.Cell.ring g.C.Cell.of_weight g.C.Cell.of_value) g.C.HasNumber.number g.met.C.Cell.laws g.met.C.Number.is_map c.args.self.now.diagram.now.nodes c.args.self.now.base.now c.args.plan.now.plan q)
     c.args.factor c.requires.factor c.plans_sum_scopes.ensures.sums c.put_masses.new.masses (c.put_masses.ensures.len ∙ c.requires.count) c.in_ok-put_masses.ensures.puts

@@ -3,7 +3,7 @@ use Rattle.rule_solver.specs.Masses.{HasGains}
 use Rattle.rule_solver.specs.Totals.{HasTotals}
 use Rattle.rule_solver.specs.Worths.{HasWorths}
 use Rattle.rule_solver.proofs.GainLemmas.{gains-push}
-use Rattle.rule_solver.proofs.worths.expected_by.Goals as goal
+use Rattle.rule_solver.proofs.worths.expected_along.Goals as goal
 
 pub expected-requires : goal.expected-requires
 expected-requires c =

@@ -1,0 +1,44 @@
+-- Goals of a decision that are summed together. Only private functions cite this file.
+use Rattle.std.specs.Prelude.{◌≡◌, ◌↔◌, ◌⊎◌, ℕ, ◌*◌, ◌≤◌, List, Contains}
+use Rattle.cell_rings.specs.Rings.{most_size}
+use Rattle.finite_sums.specs.Sums.{nat_product_over}
+use Rattle.joint_sums.specs.Joint.{IsJointOrder, joint_ruled, value_bound}
+use Rattle.maid_model.specs.Graph.{AllDifferent}
+use Rattle.maid_model.specs.Relevance.{IsGoal}
+use Rattle.maid_model.specs.Tables.{weight_total}
+use Rattle.maid_model.specs.Views.{NodeView, RuleView}
+use Rattle.node_sets.specs.declared.sets.NodeSet.{NodeSet}
+use Rattle.node_sets.specs.Sets.{IsIn}
+use Rattle.size_precheck.specs.Sizes.{SizedPlan}
+use Rattle.rule_solver.specs.declared.joint_goals.Joint.{Joint}
+
+-- the list has the nodes of the set, each once
+pub record IsListed (set : NodeSet) (list : List ℕ) : Type 0 where
+  pub once : AllDifferent list
+  pub members : (v : ℕ) → IsIn set v ↔ Contains list v
+
+-- those of the nodes that were not listed are listed too
+pub record ListsMore (nodes before after : List ℕ) (set : NodeSet) : Type 0 where
+  pub listed : IsListed set after
+  pub all : (v : ℕ) → Contains after v ↔ (Contains before v ⊎ Contains nodes v)
+
+-- one of the plans eliminates the node
+abbrev pub IsStepOf : List SizedPlan → ℕ → Type 0
+IsStepOf plans v = (plan : SizedPlan) × Contains plans plan × Contains plan.steps v
+
+-- what the joint sums of a decision's goals share: the nodes with their own tables, an order of the other nodes, and
+-- the product of those tables' totals
+pub record IsJoint
+    (nodes : List NodeView) (p : List RuleView) (d : ℕ) (joint : Joint) : Type 0 where
+  pub ruled : joint.ruled.items ≡ joint_ruled nodes d
+  pub order : IsJointOrder nodes d joint.steps.items
+  pub total : joint.total ≡ nat_product_over (weight_total nodes p) (joint_ruled nodes d)
+
+-- different goals of the decision
+pub record AreOfGoals (nodes : List NodeView) (d : ℕ) (us : List ℕ) : Type 0 where
+  pub once : AllDifferent us
+  pub each : (u : ℕ) → Contains us u → IsGoal nodes d u
+
+-- cells of pairs surely hold the joint sum of these goals
+abbrev pub FitsPairs : List NodeView → ℕ → List ℕ → Type 0
+FitsPairs nodes total us = total * nat_product_over (value_bound nodes) us ≤ most_size

@@ -1,0 +1,329 @@
+//! Goals of a decision that are summed together.
+//!
+//! The plans of a decision's goals share nearly all of their nodes, and each plan eliminates these anew. Here one
+//! elimination sums several goals, over pairs of a mass and a gain: the pair of a utility's value has the mass 1, so the
+//! gain of a product is the product of the weights times the sum of the values. Where that has no room, takes too much
+//! work or might not fit, each goal's own plan is run instead.
+
+ghost use Rattle.std.specs.Prelude.{◌≡◌, ◌↔◌, ◌⊎◌, ◌+◌, ◌*◌, ◌<◌, ◌≤◌, ℕ, [], Contains, IfOk, IfSome, IsTrue, OnOk, drop, false, length, map, sum_by, take};
+ghost use Rattle.std.specs.List.{AllZip};
+ghost use Rattle.maid_model.specs.Graph.{AllDifferent};
+ghost use Rattle.maid_model.specs.Scopes.{goals_of};
+ghost use Rattle.joint_sums.specs.Joint.{value_bound};
+ghost use Rattle.cell_rings.specs.Rings.{most_size};
+ghost use Rattle.node_sets.specs.declared.sets.TheConstants.{MOST_NODES};
+ghost use Rattle.plan_sums.specs.Plans.{gain_plan};
+ghost use Rattle.size_precheck.specs.Sizes.{IsPlanned, goal_list};
+ghost use Rattle.rule_solver.specs.Rooms.{IsReady};
+ghost use Rattle.rule_solver.specs.Sums.{AddsGoals, HasGoals, HasRoomFor, IsSetting};
+ghost use Rattle.rule_solver.specs.Together.{AreOfGoals, FitsPairs, IsJoint, IsListed, IsStepOf, ListsMore};
+
+use crate::decision_sums::Setting;
+use crate::reading::{add_gains, list_scope};
+use crate::totals::product_in;
+use crate::widths::greatest_value;
+use cell_rings::Both;
+use eliminate::{Limits, first_numbers_fit, release, sum_tables};
+use factor_core::Workspace;
+use maid_model::Diagram;
+use node_sets::NodeSet;
+use scope_sums::plans_keep_scopes;
+use size_precheck::Plan;
+use std::alloc::{AllocError, Global};
+
+/// The greatest size of a pair that surely fits.
+const MOST_SIZE: u128 = i128::MAX as u128;
+
+/// What the joint sums of a decision's goals share.
+#[derive(Drop)]
+struct Joint {
+    /// The nodes whose own tables are multiplied: the chance and decision nodes of the scope, but the decision.
+    ruled: Vec<usize>,
+    /// Those of them that are summed out, in their order.
+    steps: Vec<usize>,
+    /// The product of the ruled nodes' totals.
+    total: u128,
+}
+
+/// The first n of the list.
+fn before<T>(list: &[T], n: usize) -> &[T]
+    requires { n ≤ length list.now }
+    ensures { result.now ≡ take n list.now }
+{
+    list.split_at(n).0
+}
+
+/// The list without its first n.
+fn behind<T>(list: &[T], n: usize) -> &[T]
+    requires { n ≤ length list.now }
+    ensures { result.now ≡ drop n list.now }
+{
+    list.split_at(n).1
+}
+
+/// Lists those of the nodes that are not listed yet.
+fn list_new(nodes: &[usize], listed: &mut NodeSet, list: &mut Vec<usize>) -> Result<(), AllocError>
+    requires known { (v : ℕ) → Contains nodes.now v → v < MOST_NODES }
+    requires listed { IsListed listed.old list.old.items }
+    ensures { OnOk result (ListsMore nodes.now list.old.items list.new.items listed.new) }
+{
+    for v in nodes {
+        if !listed.holds(*v) {
+            listed.insert(*v);
+            list.push(*v)?;
+        }
+    }
+    Ok(())
+}
+
+/// The place of the first plan with most steps.
+fn longest(plans: &[Plan]) -> usize
+    requires { 0 < length plans.now }
+    ensures { result < length plans.now }
+{
+    let mut best = 0;
+    for place in 1..plans.len() {
+        if plans[place].steps().len() > plans[best].steps().len() {
+            best = place;
+        }
+    }
+    best
+}
+
+/// The nodes that the plans eliminate, each once: those of the longest plan in its order, and then what each plan has
+/// besides.
+fn list_steps(alloc: Global, plans: &[Plan]) -> Result<Vec<usize>, AllocError>
+    requires some { 0 < length plans.now }
+    requires known { (v : ℕ) → IsStepOf plans.now v → v < MOST_NODES }
+    ensures once { IfOk result (λ steps. AllDifferent steps.items) }
+    ensures all { IfOk result (λ steps. (v : ℕ) → Contains steps.items v ↔ IsStepOf plans.now v) }
+{
+    let mut listed = NodeSet::empty();
+    let mut steps = Vec::new(alloc);
+    list_new(plans[longest(plans)].steps(), &mut listed, &mut steps)?;
+    for plan in plans {
+        list_new(plan.steps(), &mut listed, &mut steps)?;
+    }
+    Ok(steps)
+}
+
+/// The bound with one goal more, where it still fits.
+fn with_goal(diagram: &Diagram, bound: u128, goal: usize) -> Option<u128>
+    requires { goal < length diagram.now.nodes }
+    ensures { IfSome result (λ more.
+        (more ≡ bound * value_bound diagram.now.nodes goal) × (more ≤ most_size)) }
+{
+    let value = greatest_value(diagram, Some(goal)).checked_mul(2)?;
+    bound.checked_mul(value).filter(|more| *more <= MOST_SIZE)
+}
+
+/// How much work a joint sum may take in place of these plans: a quarter of theirs, since cells of pairs take longer.
+/// `None` where the largest of the plans alone takes more, since the joint sum, which has all of its nodes, mostly would
+/// too.
+fn most_work(plans: &[Plan]) -> Option<u64>
+    ensures { IfSome result (λ work. 4 * work ≤ sum_by (λ plan. plan.size.work) plans.now) }
+{
+    let mut all: u128 = 0;
+    let mut largest = 0;
+    for plan in plans {
+        let work = plan.size().work;
+        all = all.saturating_add(work);
+        largest = work.max(largest);
+    }
+    let most = u64::try_from(all / 4).unwrap_or(u64::MAX);
+    (largest <= most as u128).then_some(most)
+}
+
+impl Joint {
+    /// What the joint sums of these goals share, all goals of the decision, which have these plans.
+    fn new(
+        alloc: Global,
+        setting: &Setting,
+        goals: &[usize],
+        plans: &[Plan],
+    ) -> Result<Joint, AllocError>
+        requires setting { IsSetting setting.now.diagram.now setting.now.base.now
+            setting.now.decision setting.now.totals.now setting.now.scope }
+        requires goals { goals.now ≡ goals_of setting.now.diagram.now.nodes setting.now.decision }
+        requires some { 0 < length goals.now }
+        requires planned { AllZip (IsPlanned setting.now.diagram.now.nodes)
+            (map (λ u. gain_plan setting.now.diagram.now.nodes setting.now.decision u)
+            (goal_list setting.now.diagram.now.nodes setting.now.decision))
+            plans.now }
+        ensures { IfOk result (IsJoint setting.now.diagram.now.nodes setting.now.base.now
+            setting.now.decision) }
+    {
+        let mut left_out = NodeSet::of(setting.decision);
+        left_out.insert_all(goals);
+        let ruled = setting.scope.difference(&left_out);
+        Ok(Joint {
+            ruled: list_scope(alloc, setting.diagram, &ruled)?,
+            steps: list_steps(alloc, plans)?,
+            total: product_in(setting.totals, &ruled),
+        })
+    }
+
+    /// How many of the goals, the first ones, surely fit into one sum.
+    fn fitting(&self, diagram: &Diagram, goals: &[usize]) -> usize
+        requires { (u : ℕ) → Contains goals.now u → u < length diagram.now.nodes }
+        ensures few { result ≤ length goals.now }
+        ensures fits { 0 < result
+            → FitsPairs diagram.now.nodes self.now.total (take result goals.now) }
+    {
+        let mut bound = self.total;
+        for (count, goal) in goals.iter().enumerate() {
+            match with_goal(diagram, bound, *goal) {
+                Some(more) => bound = more,
+                None => return count,
+            }
+        }
+        goals.len()
+    }
+
+    /// Adds what these goals give to each gain, in one elimination within the limits. Its tables stay in the workspace.
+    /// Gives how many of the goals were added: all, or none where the limits are passed.
+    fn sum_goals(
+        &self,
+        alloc: Global,
+        setting: &Setting,
+        goals: &[usize],
+        limits: Limits,
+        work: &mut Workspace<Both>,
+        gains: &mut [i128],
+    ) -> Result<usize, AllocError>
+        requires setting { IsSetting setting.now.diagram.now setting.now.base.now
+            setting.now.decision setting.now.totals.now setting.now.scope }
+        requires joint { IsJoint setting.now.diagram.now.nodes setting.now.base.now
+            setting.now.decision self.now }
+        requires goals { AreOfGoals setting.now.diagram.now.nodes setting.now.decision goals.now }
+        requires some { 0 < length goals.now }
+        requires fits { FitsPairs setting.now.diagram.now.nodes self.now.total goals.now }
+        requires ready { IsReady limits.cells work.old }
+        requires room { HasRoomFor setting.now.diagram.now setting.now.decision goals.now
+            gains.old }
+        ensures few { IfOk result (λ n. n ≤ length goals.now) }
+        ensures adds { IfOk result (λ n.
+            AddsGoals setting.now.diagram.now.nodes setting.now.base.now setting.now.decision
+            (take n goals.now) gains.old gains.new) }
+        ensures space { OnOk result (length work.new.cells + work.new.spare ≡ limits.cells) }
+        ensures len { length gains.new ≡ length gains.old }
+    {
+        plans_keep_scopes();
+        first_numbers_fit();
+        let mut nodes = Vec::from_slice(alloc, &self.ruled)?;
+        nodes.extend_from_slice(goals)?;
+        let slot = sum_tables(
+            work,
+            setting.diagram,
+            setting.base,
+            &nodes,
+            &self.steps,
+            limits,
+        );
+        match slot {
+            Some(slot) => {
+                add_gains(
+                    alloc,
+                    setting.diagram,
+                    setting.decision,
+                    work,
+                    &slot,
+                    1,
+                    gains,
+                )?;
+                Ok(goals.len())
+            }
+            None => Ok(0),
+        }
+    }
+
+    /// Adds what the first of these goals give to each gain: as many as surely fit into one sum, where that has room and
+    /// takes little enough work. Gives how many they were.
+    fn add_first(
+        &self,
+        alloc: Global,
+        setting: &Setting,
+        goals: &[usize],
+        plans: &[Plan],
+        cells: usize,
+        work: &mut Workspace<Both>,
+        gains: &mut [i128],
+    ) -> Result<usize, AllocError>
+        requires setting { IsSetting setting.now.diagram.now setting.now.base.now
+            setting.now.decision setting.now.totals.now setting.now.scope }
+        requires joint { IsJoint setting.now.diagram.now.nodes setting.now.base.now
+            setting.now.decision self.now }
+        requires goals { AreOfGoals setting.now.diagram.now.nodes setting.now.decision goals.now }
+        requires plans { length plans.now ≡ length goals.now }
+        requires ready { IsReady cells work.old }
+        requires room { HasRoomFor setting.now.diagram.now setting.now.decision goals.now
+            gains.old }
+        ensures few { IfOk result (λ n. n ≤ length goals.now) }
+        ensures adds { IfOk result (λ n.
+            AddsGoals setting.now.diagram.now.nodes setting.now.base.now setting.now.decision
+            (take n goals.now) gains.old gains.new) }
+        ensures again { OnOk result (work.new ≡ work.old) }
+        ensures len { length gains.new ≡ length gains.old }
+    {
+        let count = self.fitting(setting.diagram, goals);
+        if count < 2 {
+            return Ok(0);
+        }
+        match most_work(before(plans, count)) {
+            Some(most) => {
+                let limits = Limits { cells, work: most };
+                let goals = before(goals, count);
+                let added = self.sum_goals(alloc, setting, goals, limits, work, gains)?;
+                release(work);
+                Ok(added)
+            }
+            None => Ok(0),
+        }
+    }
+}
+
+/// Adds what the decision's goals give to each gain, several of them together, for as long as that serves: up to the
+/// first that are better summed one by one. Gives how many goals were added, the first ones.
+pub(crate) fn add_together(
+    alloc: Global,
+    setting: &Setting,
+    goals: &[usize],
+    plans: &[Plan],
+    cells: usize,
+    work: &mut Workspace<Both>,
+    gains: &mut [i128],
+) -> Result<usize, AllocError>
+    requires setting { IsSetting setting.now.diagram.now setting.now.base.now setting.now.decision
+        setting.now.totals.now setting.now.scope }
+    requires goals { goals.now ≡ goals_of setting.now.diagram.now.nodes setting.now.decision }
+    requires planned { AllZip (IsPlanned setting.now.diagram.now.nodes)
+        (map (λ u. gain_plan setting.now.diagram.now.nodes setting.now.decision u)
+        (goal_list setting.now.diagram.now.nodes setting.now.decision))
+        plans.now }
+    requires ready { IsReady cells work.old }
+    requires none { HasGoals setting.now.diagram.now.nodes setting.now.base.now
+        setting.now.decision [] gains.old }
+    ensures few { IfOk result (λ n. n ≤ length goals.now) }
+    ensures gains { IfOk result (λ n.
+        HasGoals setting.now.diagram.now.nodes setting.now.base.now setting.now.decision
+        (take n goals.now) gains.new) }
+    ensures again { OnOk result (work.new ≡ work.old) }
+    ensures len { length gains.new ≡ length gains.old }
+{
+    plans_keep_scopes();
+    if goals.len() < 2 {
+        return Ok(0);
+    }
+    let joint = Joint::new(alloc, setting, goals, plans)?;
+    let mut done = 0;
+    'parts: while done < goals.len() {
+        let rest = behind(goals, done);
+        let plans = behind(plans, done);
+        let added = joint.add_first(alloc, setting, rest, plans, cells, work, gains)?;
+        if added == 0 {
+            break;
+        }
+        done += added;
+    }
+    Ok(done)
+}
