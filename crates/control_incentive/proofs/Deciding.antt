@@ -1,12 +1,13 @@
 -- The diagram in which the agent decides at a chance node too, and what is found where the first reasons don't apply.
-use Rattle.std.proofs.Common.{◌≡◌, ◌∙◌, ◌↔◌, ℕ, ◌<◌, Bool, true, false, List, length, refl, sym, ap, subst, inl, inr}
+use Rattle.std.proofs.Common.{◌≡◌, ◌∙◌, ◌↔◌, ℕ, ◌<◌, Bool, true, false, ◌&&◌, ◌==◌, List, ◌∷◌, length, refl, sym, ap, subst, inl, inr}
 use Rattle.std.proofs.Math.Decide.{ℕ_discrete}
 use Rattle.std.specs.declared.alloc.AllocError.{AllocError}
+use Rattle.std.specs.List.{list_any}
 use Rattle.std.specs.Prelude.{None, Some, Result, Ok, Err, IfOk}
 use Rattle.arc_laws.proofs.Alone.{LeavesTo, leaves}
 use Rattle.arc_laws.proofs.ControlLaws.{chance_within}
 use Rattle.arc_laws.proofs.InControl as control
-use Rattle.arc_laws.proofs.InControl.{controls}
+use Rattle.arc_laws.proofs.InControl.{Controls, controls}
 use Rattle.first_fault.specs.Outcomes.{◌▸▸◌, gives}
 use Rattle.first_fault.specs.Passes.{Pass, ◌▸◌}
 use Rattle.maid_laws.proofs.Rearranged.{numbered}
@@ -16,15 +17,42 @@ use Rattle.maid_model.specs.declared.answers.Ratio.{Ratio}
 use Rattle.maid_model.specs.declared.diagrams.Kind.{Kind}
 use Rattle.maid_model.specs.declared.diagrams.Kind.TheVariants.{Chance, Decision, Utility}
 use Rattle.maid_model.specs.Edits.{as_decision, one_agent}
-use Rattle.maid_model.specs.Nodes.{is_chance, node_at, numbers_of}
+use Rattle.maid_model.specs.Nodes.{is_chance, is_utility, node_at, numbers_of}
 use Rattle.maid_model.specs.Subgames.{OwnsAll}
 use Rattle.maid_model.specs.Views.{NodeView, AnswerView}
 use Rattle.optimum_gap.specs.declared.found.Found.{Found}
 use Rattle.optimum_gap.specs.Found.{Reason, found_of, unless}
+use Rattle.size_precheck.specs.Kept.{KeepsPlans}
 use Rattle.control_incentive.specs.Lines.{chance_nodes}
 
 pub owns_made : (nodes : List NodeView) (agent x : ℕ) → (node_at nodes x).kind ≡ Chance → OwnsAll nodes agent → OwnsAll (as_decision nodes agent x) agent
 owns_made nodes agent x k owns = control.owns_there nodes (as_decision nodes agent x) agent x (controls nodes agent x (chance_within nodes x k)) k owns
+
+-- all that plans look at stays
+pub plans_kept : (nodes : List NodeView) (agent x : ℕ) → (node_at nodes x).kind ≡ Chance → KeepsPlans nodes (as_decision nodes agent x)
+plans_kept nodes agent x k = record {
+  count = r.len;
+  states = λ v. control.states_at nodes made agent x r k v;
+  parents = λ v. control.parents_at nodes made agent x r k v;
+  utility = test_kept (λ n. is_utility n.kind) (ap (λ n. is_utility n.kind) r.at ∙ ap is_utility (sym k));
+  owned = λ other. test_kept (λ n. is_utility n.kind && list_any (λ a. a == other) (n.owner ∷ n.more))
+      (ap (λ n. is_utility n.kind && list_any (λ a. a == other) (n.owner ∷ n.more)) r.at ∙ (λ i. is_utility (sym k i) && list_any (λ a. a == other) ((node_at nodes x).owner ∷ (node_at nodes x).more)));
+  decision = λ d is. control.decision_there nodes made agent x r k d is;
+  agent = λ d is. ap (λ n. n.owner) (r.else d (control.decision_not_x nodes made agent x r k d is));
+}
+  where
+    made : List NodeView
+    made = as_decision nodes agent x
+
+    r : Controls nodes made agent x
+    r = controls nodes agent x (chance_within nodes x k)
+
+    test_kept : (f : NodeView → Bool) → f (node_at made x) ≡ f (node_at nodes x) → (v : ℕ) → f (node_at made v) ≡ f (node_at nodes v)
+    test_kept f same v = go (ℕ_discrete v x)
+      where
+        go : Dec (v ≡ x) → f (node_at made v) ≡ f (node_at nodes v)
+        go (yes e) = ap (λ u. f (node_at made u)) e ∙ same ∙ ap (λ u. f (node_at nodes u)) (sym e)
+        go (no n) = ap f (r.else v n)
 
 -- a chance node stays one where only the agent decides
 pub chance_there : (nodes : List NodeView) (agent : ℕ) (answers : List AnswerView) (x : ℕ) → (node_at nodes x).kind ≡ Chance → (node_at (one_agent nodes agent answers) x).kind ≡ Chance

@@ -7,6 +7,7 @@ ghost use Rattle.maid_model.specs.Nodes.{is_chance, node_at};
 ghost use Rattle.maid_model.specs.Scopes.{KeepsScopedBounds};
 ghost use Rattle.maid_model.specs.Views.{NodeView};
 ghost use Rattle.optimum_gap.specs.Baselines.{IsBaseline};
+ghost use Rattle.size_precheck.specs.Kept.{IsKept};
 ghost use Rattle.control_incentive.specs.Lines.{IsControlLine, IsTrimmedAlone, TellsControl, chance_nodes, node_of};
 ghost use Rattle.control_incentive.specs.Steps.{IsLineAlone};
 
@@ -14,8 +15,10 @@ use crate::finding::find;
 use crate::paths::Paths;
 use diagram_graph::fix_others;
 use maid_model::{Diagram, Kind, Solved};
+use node_sets::NodeSet;
 use optimum_gap::{Baseline, Found, answers_are_baselines};
 use requisite_trim::trim;
+use size_precheck::{KeptPlans, keep_plans};
 use std::alloc::{AllocError, Global};
 
 /// What control of the chance node is worth to the agent, and which incentives it has there.
@@ -54,15 +57,27 @@ fn chance_nodes(alloc: Global, diagram: &Diagram) -> Result<Vec<usize>, AllocErr
     Ok(nodes)
 }
 
+/// The plans of the diagram's decisions, if any node matters, and else none: then no edited diagram is solved.
+fn plans_for(alloc: Global, alone: &Diagram, matter: &NodeSet) -> Result<Vec<KeptPlans>, AllocError>
+    ensures { IfOk result (λ kept. All (IsKept alone.now.nodes) kept.items) }
+{
+    match matter.first_from(0) {
+        Some(_) => keep_plans(alloc, alone),
+        None => Ok(Vec::new(alloc)),
+    }
+}
+
 /// The line of a chance node.
 fn control_line(
     alloc: Global,
     baseline: &Baseline,
+    kept: &[KeptPlans],
     paths: &Paths,
     node: usize,
 ) -> Result<ControlLine, AllocError>
     requires baseline { IsBaseline baseline.now.diagram.now baseline.now.agent
         baseline.now.optimum }
+    requires kept { All (IsKept baseline.now.diagram.now.nodes) kept.now }
     requires chance { (node_at baseline.now.diagram.now.nodes node).kind ≡ Chance }
     requires within { node < length baseline.now.diagram.now.nodes }
     ensures node { IfOk result (λ line. line.node ≡ node) }
@@ -71,7 +86,7 @@ fn control_line(
     let _count = baseline.diagram.count();
     let response = paths.respond.holds(node);
     let instrumental = paths.instruments.holds(node);
-    let found = find(alloc, baseline, paths.matter.holds(node), node)?;
+    let found = find(alloc, baseline, kept, paths.matter.holds(node), node)?;
     Ok(ControlLine {
         node,
         response,
@@ -84,11 +99,13 @@ fn control_line(
 fn control_lines(
     alloc: Global,
     baseline: &Baseline,
+    kept: &[KeptPlans],
     paths: &Paths,
     nodes: &[usize],
 ) -> Result<Vec<ControlLine>, AllocError>
     requires baseline { IsBaseline baseline.now.diagram.now baseline.now.agent
         baseline.now.optimum }
+    requires kept { All (IsKept baseline.now.diagram.now.nodes) kept.now }
     requires chance { All (λ v. (node_at baseline.now.diagram.now.nodes v).kind ≡ Chance)
         nodes.now }
     requires within { All (λ v. v < length baseline.now.diagram.now.nodes) nodes.now }
@@ -98,7 +115,7 @@ fn control_lines(
 {
     let mut lines = Vec::with_capacity(alloc, nodes.len())?;
     for node in nodes {
-        lines.push(control_line(alloc, baseline, paths, *node)?)?;
+        lines.push(control_line(alloc, baseline, kept, paths, *node)?)?;
     }
     Ok(lines)
 }
@@ -112,7 +129,8 @@ fn control_lines(
 /// less the optimum before. The two flags are facts of the graph, and no value is claimed from them.
 ///
 /// The optimum before is the answer's own gain. It trims the diagram and searches it a few times, and each line costs at
-/// most one edit and one run of the solver.
+/// most one edit and one run of the solver. The plans of the agent's decisions are made once for all lines, and copied for
+/// each run, which makes only those of the node's decision.
 ///
 /// # Errors
 ///
@@ -146,5 +164,6 @@ pub fn control(
         optimum: solved.gains[agent],
     };
     let nodes = chance_nodes(alloc, diagram)?;
-    control_lines(alloc, &baseline, &paths, &nodes)
+    let kept = plans_for(alloc, &alone, &paths.matter)?;
+    control_lines(alloc, &baseline, &kept, &paths, &nodes)
 }

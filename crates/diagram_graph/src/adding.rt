@@ -92,6 +92,19 @@ fn has_room(diagram: &Diagram, from: usize, to: usize) -> bool
     rule_cells(diagram) + more <= MOST_RULE_CELLS + cells
 }
 
+/// Whether an arc into the decision, which is not there and would close no cycle, would make too much of the rules: the
+/// decision would have more than 16 parents, its rule more than 65,536 cells, or all rules together more than 262,144.
+/// It takes no memory, and goes over the parents of all decisions once.
+pub fn is_too_large(diagram: &Diagram, from: usize, to: usize) -> bool
+    requires decision { IsDecision diagram.now.nodes to }
+    requires from { from < length diagram.now.nodes }
+    requires absent { Arc diagram.now.nodes from to → ⊥ }
+    requires no_cycle { IsPath (Arc diagram.now.nodes) to from → ⊥ }
+    ensures { IsTrue result ↔ IsTooLarge diagram.now.nodes from to }
+{
+    !has_room(diagram, from, to)
+}
+
 /// The diagram with the arc into the decision, as its last parent. It goes over all arcs a few times, and takes the time
 /// and the memory of a copy of all cells.
 ///

@@ -19,7 +19,7 @@ mod rounds;
 #[cfg(test)]
 mod tests;
 
-pub use adding::{AddFault, add_arc};
+pub use adding::{AddFault, add_arc, is_too_large};
 pub use arcs::{RemoveFault, remove_arc};
 pub use copies::copy_diagram;
 pub use cycles::{first_cycle, topological};

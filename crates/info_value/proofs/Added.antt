@@ -6,15 +6,15 @@ use Rattle.arc_laws.proofs.LostArc as lost
 use Rattle.arc_laws.proofs.LostArc.{loses, loses_added}
 use Rattle.first_fault.specs.Outcomes.{◌▸▸◌, gives}
 use Rattle.first_fault.specs.Passes.{Pass, ◌▸◌}
-use Rattle.maid_laws.proofs.Members.{arc_of}
 use Rattle.maid_model.specs.declared.answers.Ratio.{Ratio}
 use Rattle.maid_model.specs.Edits.{with_arc, without_arc}
-use Rattle.maid_model.specs.Graph.{Arc, IsGraph}
+use Rattle.maid_model.specs.Graph.{IsGraph}
 use Rattle.maid_model.specs.Nodes.{IsDecision}
 use Rattle.maid_model.specs.Subgames.{OwnsAll}
-use Rattle.maid_model.specs.Views.{NodeView}
+use Rattle.maid_model.specs.Views.{NodeView, DiagramView}
 use Rattle.optimum_gap.specs.declared.found.Found.{Found}
 use Rattle.optimum_gap.specs.Found.{Reason, found_of}
+use Rattle.info_value.specs.Alone.{HasRoomFor}
 
 pub owns_without : (nodes : List NodeView) (x d agent : ℕ) → IsDecision nodes d → OwnsAll nodes agent → OwnsAll (without_arc nodes x d) agent
 owns_without nodes x d agent k owns = lost.owns_there nodes (without_arc nodes x d) x d (loses nodes x d k.within) agent owns
@@ -24,8 +24,10 @@ owns_with nodes x d agent k g owns v is =
     let l = loses_added nodes x d k.within g in
     sym (lost.owner_same (with_arc nodes x d) nodes x d l v) ∙ owns v (lost.decision_there (with_arc nodes x d) nodes x d l v is)
 
-pub arc_added : (nodes : List NodeView) (x d : ℕ) → IsDecision nodes d → Arc (with_arc nodes x d) x d
-arc_added nodes x d k = arc_of (with_arc nodes x d) x d (lost.added_parent nodes x d k.within)
+-- whatever is told of the arc, the diagram with it is one
+pub roomy : (d : DiagramView) (x to : ℕ) (r : Result Found AllocError) → IsGraph (with_arc d.nodes x to) → IfOk r (HasRoomFor d x to)
+roomy d x to (Ok f) g = λ told. g
+roomy d x to (Err e) g = tt
 
 -- behind a pass that finds nothing
 pub behind : (P Q : Pass Reason) (R : Ratio → Type 0) (r : Result Found AllocError) → P None → IfOk r (λ f. (Q ▸▸ gives R) (found_of f)) → IfOk r (λ f. ((P ▸ Q) ▸▸ gives R) (found_of f))

@@ -1,34 +1,22 @@
--- Each arc that is asked about may be asked about in the diagram in which only the agent decides.
-use Rattle.std.proofs.Common.{rules, ◌≡◌, ◌≢◌, ◌∙◌, ◌⊎◌, ℕ, ◌<◌, Bool, true, false, not, ◌&&◌, ◌==◌, List, [], ◌∷◌, All, map, filter, flat_map, refl, sym, ap, subst, inl, inr}
-use Rattle.std.proofs.lemmas.List.Elements.{All-append, All-cons, All-nil}
+-- Each arc that is asked about can be asked about in the diagram in which only the agent decides.
+use Rattle.std.proofs.Common.{rules, ◌≡◌, ◌≢◌, ◌∙◌, ◌⊎◌, ℕ, ◌<◌, Bool, true, false, not, ◌&&◌, ◌==◌, List, [], ◌∷◌, length, refl, sym, ap, subst, inl, inr}
 use Rattle.std.proofs.Math.Decide.{ℕ_discrete}
 use Rattle.arc_laws.proofs.Alone as others
 use Rattle.arc_laws.proofs.Alone.{IsLeft, LeavesTo, decision_there, leaves}
-use Rattle.finite_sums.proofs.Lists.{among_filter}
-use Rattle.finite_sums.specs.Members.{Among}
 use Rattle.maid_laws.proofs.Booleans.{eqb_yes}
-use Rattle.maid_laws.proofs.Rearranged.{numbered}
 use Rattle.maid_laws.proofs.Rules.{decision_kind}
 use Rattle.maid_model.specs.declared.diagrams.Kind.{Kind}
 use Rattle.maid_model.specs.declared.diagrams.Kind.TheVariants.{Chance, Decision, Utility}
 use Rattle.maid_model.specs.Edits.{one_agent}
 use Rattle.maid_model.specs.Graph.{Arc, Descends, IsPath, Here, Along, descends}
 use Rattle.maid_model.specs.Laws.{TestsDescent}
-use Rattle.maid_model.specs.Nodes.{agent_of, is_decision, is_utility, node_at, numbers_of, parents_of}
+use Rattle.maid_model.specs.Nodes.{IsDecision, agent_of, is_decision, is_utility, node_at, parents_of}
 use Rattle.maid_model.specs.Views.{NodeView, AnswerView}
 use Rattle.part_laws.proofs.PartSums.{and_both}
-use Rattle.std.specs.Prelude.{Contains}
-use Rattle.info_value.specs.Alone.{CanAsk}
-use Rattle.info_value.specs.Lines.{arcs_into, asked_arcs, decides, may_see}
+use Rattle.std.specs.Prelude.{Contains, IsTrue}
+use Rattle.info_value.specs.Alone.{CanAsk, CanAskAll}
+use Rattle.info_value.specs.Lines.{decides, may_see}
 use Rattle.info_value.proofs.Sights.{path_cases}
-
-all_mapped : {A : Type 0} (P : A → Type 0) (f : ℕ → A) (xs : List ℕ) → ((x : ℕ) → Among x xs → P (f x)) → All P (map f xs)
-all_mapped P f [] h = All-nil P
-all_mapped P f (x ∷ xs) h = All-cons P (f x) (map f xs) (h x (inl refl)) (all_mapped P f xs (λ y m. h y (inr m)))
-
-all_joined : {A : Type 0} (P : A → Type 0) (f : ℕ → List A) (xs : List ℕ) → ((x : ℕ) → Among x xs → All P (f x)) → All P (flat_map f xs)
-all_joined P f [] h = All-nil P
-all_joined P f (x ∷ xs) h = All-append P (f x) (flat_map f xs) (h x (inl refl)) (all_joined P f xs (λ y m. h y (inr m)))
 
 not_both : (b : Bool) → not b ≡ true → b ≡ true → ⊥
 not_both true h e = cc
@@ -76,24 +64,26 @@ module _ (nodes : List NodeView) (agent : ℕ) (answers : List AnswerView) (test
       go (inl e) = not_both (x == d) differ (eqb_yes x d e)
       go (inr q) = not_both (descends nodes d x) off ((tests nodes d x).1 q)
 
-  can_ask : (d x : ℕ) → Among d (filter (decides nodes agent) (numbers_of nodes)) → Among x (filter (may_see nodes d) (numbers_of nodes)) → CanAsk alone (x, d)
-  can_ask d x m n =
-      let own = among_filter (decides nodes agent) d (numbers_of nodes) m in
-      let both = and_both (is_decision (node_at nodes d).kind) (agent_of nodes d == agent) own.1 in
-      let seen = among_filter (may_see nodes d) x (numbers_of nodes) n in
-      let kind = and_both (not (is_utility (node_at nodes x).kind)) (not (x == d) && not (descends nodes d x)) seen.1 in
-      let off = and_both (not (x == d)) (not (descends nodes d x)) kind.1 in
-      record {
-        decision = decision_there nodes alone agent answers left d (record { within = numbered nodes d own.0; kind = decision_kind (node_at nodes d).kind both.0 }) (same (agent_of nodes d) agent both.1);
-        within = subst (λ k. x < k) (sym left.len) (numbered nodes x seen.0);
-        no_utility = no_utility x kind.0;
-        above = above d x off.0 off.1;
-      }
-    where
-      same : (a b : ℕ) → (a == b) ≡ true → a ≡ b
-      same a b e = search rules
+  same : (a b : ℕ) → (a == b) ≡ true → a ≡ b
+  same a b e = search rules
 
-  pub all_asked : All (CanAsk alone) (asked_arcs nodes agent)
-  all_asked =
-      all_joined (CanAsk alone) (arcs_into nodes) (filter (decides nodes agent) (numbers_of nodes))
-      (λ d m. all_mapped (CanAsk alone) (λ x. (x, d)) (filter (may_see nodes d) (numbers_of nodes)) (λ x n. can_ask d x m n))
+  module _ (d : ℕ) (within : d < length nodes) (own : IsTrue (decides nodes agent d)) where
+    both : (is_decision (node_at nodes d).kind ≡ true) × ((agent_of nodes d == agent) ≡ true)
+    both = and_both (is_decision (node_at nodes d).kind) (agent_of nodes d == agent) own
+
+    decision : IsDecision alone d
+    decision = decision_there nodes alone agent answers left d (record { within = within; kind = decision_kind (node_at nodes d).kind both.0 }) (same (agent_of nodes d) agent both.1)
+
+    can_ask : (x : ℕ) → x < length nodes → IsTrue (may_see nodes d x) → CanAsk alone (x, d)
+    can_ask x here seen =
+        let kind = and_both (not (is_utility (node_at nodes x).kind)) (not (x == d) && not (descends nodes d x)) seen in
+        let off = and_both (not (x == d)) (not (descends nodes d x)) kind.1 in
+        record {
+          decision = decision;
+          within = subst (λ k. x < k) (sym left.len) here;
+          no_utility = no_utility x kind.0;
+          above = above d x off.0 off.1;
+        }
+
+    pub all_asked : CanAskAll nodes alone d
+    all_asked = record { decision = decision; arcs = can_ask }

@@ -12,6 +12,7 @@ use Rattle.optimum_gap.specs.declared.found.Found.{Found}
 use Rattle.optimum_gap.specs.Found.{found_of, worth_of}
 use Rattle.info_value.specs.declared.lines.InfoLine.{InfoLine}
 use Rattle.info_value.specs.Finding.{of_seen, of_unseen}
+use Rattle.info_value.specs.Lines.{may_see}
 
 -- an arc into a decision, from another node that is no utility and does not descend from it
 pub record CanAsk (nodes : List NodeView) (arc : ℕ × ℕ) : Type 0 where
@@ -19,6 +20,12 @@ pub record CanAsk (nodes : List NodeView) (arc : ℕ × ℕ) : Type 0 where
   pub within : arc.0 < length nodes
   pub no_utility : (node_at nodes arc.0).kind ≢ Utility
   pub above : IsPath (Arc nodes) arc.1 arc.0 → ⊥
+
+-- d decides in the diagram in which one agent decides alone, and there each node that it may see can be asked about
+pub record CanAskAll (nodes alone : List NodeView) (d : ℕ) : Type 0 where
+  pub decision : IsDecision alone d
+  pub arcs :
+      (x : ℕ) → x < length nodes → IsTrue (may_see nodes d x) → CanAsk alone (x, d)
 
 -- the first reason that applies, or the difference of the two optima: of an arc that is there,
 abbrev pub IsFoundOfSeen : DiagramView → ℕ → ℕ → ℕ → Found → Type 0

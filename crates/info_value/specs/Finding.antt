@@ -1,6 +1,6 @@
 -- Why an arc into a decision has no information value: the first reason that applies, in the diagram in which only
 -- one agent decides.
-use Rattle.std.specs.Prelude.{◌≡◌, ℕ}
+use Rattle.std.specs.Prelude.{ℕ}
 use Rattle.maid_model.specs.Edits.{with_arc, without_arc}
 use Rattle.maid_model.specs.Relevance.{IsRequisite}
 use Rattle.maid_model.specs.Views.{DiagramView}
@@ -25,8 +25,3 @@ of_seen d x to = unless (IsRequisite d.nodes to x) Worthless ▸ solving (missin
 abbrev pub of_unseen : DiagramView → ℕ → ℕ → Pass Reason
 of_unseen d x to = rule (IsTooLarge d.nodes x to) TooLarge
     ▸ unless (IsRequisite (with_arc d.nodes x to) to x) Worthless ▸ solving (seeing d x to)
-
--- the diagram with the arc, which keeps the limits on rules
-pub record IsAdded (d : DiagramView) (x to : ℕ) (more : DiagramView) : Type 0 where
-  pub room : IsTooLarge d.nodes x to → ⊥
-  pub is : more ≡ seeing d x to

@@ -1,20 +1,19 @@
 //! What is found of one arc.
 
-ghost use Rattle.std.specs.Prelude.{◌≡◌, ◌≢◌, ◌<◌, ℕ, length, IfOk, MatchOption};
+ghost use Rattle.std.specs.Prelude.{◌≡◌, ◌↔◌, IsTrue, IfOk};
 ghost use Rattle.diagram_graph.specs.Edited.{with_nodes};
 ghost use Rattle.diagram_graph.specs.Room.{IsTooLarge};
 ghost use Rattle.maid_model.specs.Edits.{with_arc, without_arc};
 ghost use Rattle.maid_model.specs.Graph.{Arc};
 ghost use Rattle.maid_model.specs.Nodes.{IsDecision};
+ghost use Rattle.maid_model.specs.Relevance.{IsRequisite};
 ghost use Rattle.optimum_gap.specs.Baselines.{IsBaseline};
 ghost use Rattle.info_value.specs.Alone.{CanAsk, HasRoomFor, IsFoundOfSeen, IsFoundOfUnseen};
-ghost use Rattle.info_value.specs.Finding.{IsAdded};
 
 use arc_laws::arc_removed;
-use diagram_graph::{AddFault, RemoveFault, add_arc, remove_arc};
+use diagram_graph::{AddFault, RemoveFault, add_arc, is_too_large, remove_arc};
 use maid_model::Diagram;
 use optimum_gap::{Baseline, Found, edits_keep_scopes};
-use requisite_trim::requisite;
 use std::alloc::{AllocError, Global};
 
 /// The diagram without an arc that is there.
@@ -31,31 +30,27 @@ fn without(alloc: Global, diagram: &Diagram, from: usize, to: usize) -> Result<D
     }
 }
 
-/// The diagram with an arc that is not there, or `None` where the arc makes too much of the rules.
-fn with(
-    alloc: Global,
-    diagram: &Diagram,
-    from: usize,
-    to: usize,
-) -> Result<Option<Diagram>, AllocError>
+/// The diagram with an arc that is not there and keeps the limits on rules.
+fn with(alloc: Global, diagram: &Diagram, from: usize, to: usize) -> Result<Diagram, AllocError>
     requires asked { CanAsk diagram.now.nodes (from, to) }
     requires absent { Arc diagram.now.nodes from to → ⊥ }
+    requires room { IsTooLarge diagram.now.nodes from to → ⊥ }
     ensures { IfOk result (λ more.
-        MatchOption more (IsTooLarge diagram.now.nodes from to) (IsAdded diagram.now from to)) }
+        more ≡ with_nodes diagram.now (with_arc diagram.now.nodes from to)) }
 {
     match add_arc(alloc, diagram, from, to) {
-        Ok(more) => Ok(Some(more)),
-        Err(AddFault::TooLarge) => Ok(None),
+        Ok(more) => Ok(more),
         Err(AddFault::NoMemory) => Err(AllocError),
-        Err(AddFault::Present | AddFault::WouldCycle) => unreachable!(),
+        Err(AddFault::Present | AddFault::WouldCycle | AddFault::TooLarge) => unreachable!(),
     }
 }
 
-/// What is found of an arc that is there. It searches the graph once, and solves the diagram without the arc where the
-/// arc is requisite.
+/// What is found of an arc that is there, whose tail is needed or not. Where it is, the diagram without the arc is
+/// solved.
 pub(crate) fn find_seen(
     alloc: Global,
     baseline: &Baseline,
+    needed: bool,
     from: usize,
     to: usize,
 ) -> Result<Found, AllocError>
@@ -63,11 +58,12 @@ pub(crate) fn find_seen(
         baseline.now.optimum }
     requires decision { IsDecision baseline.now.diagram.now.nodes to }
     requires arc { Arc baseline.now.diagram.now.nodes from to }
+    requires needed { IsTrue needed ↔ IsRequisite baseline.now.diagram.now.nodes to from }
     ensures { IfOk result (IsFoundOfSeen baseline.now.diagram.now baseline.now.agent from to) }
 {
     arc_removed();
     edits_keep_scopes();
-    if !requisite(baseline.diagram, from, to) {
+    if !needed {
         return Ok(Found::Worthless);
     }
     let _count = baseline.diagram.count();
@@ -75,11 +71,12 @@ pub(crate) fn find_seen(
     baseline.loss(alloc, &less)
 }
 
-/// What is found of an arc that is not there. It copies the diagram, searches the graph once, and solves the diagram with
-/// the arc where the arc would be requisite.
+/// What is found of an arc that is not there, whose tail would be needed or not. Where it would, the diagram is copied
+/// with the arc and solved.
 pub(crate) fn find_unseen(
     alloc: Global,
     baseline: &Baseline,
+    would_need: bool,
     from: usize,
     to: usize,
 ) -> Result<Found, AllocError>
@@ -87,20 +84,20 @@ pub(crate) fn find_unseen(
         baseline.now.optimum }
     requires asked { CanAsk baseline.now.diagram.now.nodes (from, to) }
     requires absent { Arc baseline.now.diagram.now.nodes from to → ⊥ }
+    requires would_need { IsTrue would_need
+        ↔ IsRequisite (with_arc baseline.now.diagram.now.nodes from to) to from }
     ensures found { IfOk result (IsFoundOfUnseen baseline.now.diagram.now baseline.now.agent from
         to) }
     ensures graph { IfOk result (HasRoomFor baseline.now.diagram.now from to) }
 {
     edits_keep_scopes();
-    let _before = baseline.diagram.count();
-    match with(alloc, baseline.diagram, from, to)? {
-        Some(more) => {
-            let _after = more.count();
-            if !requisite(&more, from, to) {
-                return Ok(Found::Worthless);
-            }
-            baseline.gain(alloc, &more)
-        }
-        None => Ok(Found::TooLarge),
+    let _count = baseline.diagram.count();
+    if is_too_large(baseline.diagram, from, to) {
+        return Ok(Found::TooLarge);
     }
+    if !would_need {
+        return Ok(Found::Worthless);
+    }
+    let more = with(alloc, baseline.diagram, from, to)?;
+    baseline.gain(alloc, &more)
 }

@@ -1,17 +1,19 @@
 //! A line for each arc that is asked about.
 
-ghost use Rattle.std.specs.Prelude.{◌≡◌, ◌<◌, All, IfOk, map};
+ghost use Rattle.std.specs.Prelude.{◌≡◌, ◌++◌, ◌<◌, ℕ, All, IfOk, IsTrue, OnOk, length, map};
 ghost use Rattle.maid_model.specs.Answers.{IsAnswer};
 ghost use Rattle.maid_model.specs.Scopes.{KeepsScopedBounds};
 ghost use Rattle.optimum_gap.specs.Baselines.{IsBaseline};
-ghost use Rattle.info_value.specs.Alone.{CanAsk, IsLineAlone};
-ghost use Rattle.info_value.specs.Lines.{IsInfoLine, TellsWorth, arc_of, asked_arcs};
+ghost use Rattle.requisite_trim.specs.Needs.{TellsNeeds};
+ghost use Rattle.info_value.specs.Alone.{CanAsk, CanAskAll, IsLineAlone};
+ghost use Rattle.info_value.specs.Lines.{IsInfoLine, TellsWorth, arc_of, arcs_into, asked_arcs, decides};
 
-use crate::arcs::asked_arcs;
+use crate::arcs::{below, decides, may_see};
 use crate::finding::{find_seen, find_unseen};
 use diagram_graph::fix_others;
 use maid_model::{Diagram, Solved, descent_is_tested};
 use optimum_gap::{Baseline, Found, answers_are_baselines};
+use requisite_trim::RequisiteNodes;
 use std::alloc::{AllocError, Global};
 
 /// What it is worth to the agent of the decision `to` to see the node `from` before it decides.
@@ -24,22 +26,26 @@ pub struct InfoLine {
     pub found: Found,
 }
 
-/// The line of an arc.
+/// The line of an arc, where a search has told which nodes its head needs.
 fn info_line(
     alloc: Global,
     baseline: &Baseline,
+    requisites: &RequisiteNodes,
     from: usize,
     to: usize,
 ) -> Result<InfoLine, AllocError>
     requires baseline { IsBaseline baseline.now.diagram.now baseline.now.agent
         baseline.now.optimum }
     requires asked { CanAsk baseline.now.diagram.now.nodes (from, to) }
+    requires needs { TellsNeeds baseline.now.diagram.now.nodes to requisites.now }
     ensures tail { IfOk result (λ line. line.from ≡ from) }
     ensures head { IfOk result (λ line. line.to ≡ to) }
     ensures line { IfOk result (IsLineAlone baseline.now.diagram.now baseline.now.agent) }
 {
-    if baseline.diagram.parents(to).contains(&from) {
-        let found = find_seen(alloc, baseline, from, to)?;
+    let seen = baseline.diagram.parents(to);
+    let needed = requisites.has(from);
+    if seen.contains(&from) {
+        let found = find_seen(alloc, baseline, needed, from, to)?;
         Ok(InfoLine {
             from,
             to,
@@ -47,7 +53,7 @@ fn info_line(
             found,
         })
     } else {
-        let found = find_unseen(alloc, baseline, from, to)?;
+        let found = find_unseen(alloc, baseline, needed, from, to)?;
         Ok(InfoLine {
             from,
             to,
@@ -57,22 +63,55 @@ fn info_line(
     }
 }
 
-/// A line for each of the arcs.
+/// Appends a line for each arc into the decision that is asked about. One search tells what the decision needs.
+fn push_lines_into(
+    alloc: Global,
+    lines: &mut Vec<InfoLine>,
+    diagram: &Diagram,
+    baseline: &Baseline,
+    decision: usize,
+) -> Result<(), AllocError>
+    requires baseline { IsBaseline baseline.now.diagram.now baseline.now.agent
+        baseline.now.optimum }
+    requires within { decision < length diagram.now.nodes }
+    requires asked { CanAskAll diagram.now.nodes baseline.now.diagram.now.nodes decision }
+    ensures arcs { OnOk result (map arc_of lines.new.items
+        ≡ map arc_of lines.old.items ++ arcs_into diagram.now.nodes decision) }
+    ensures lines { OnOk result (
+        All (IsLineAlone baseline.now.diagram.now baseline.now.agent) lines.old.items
+        → All (IsLineAlone baseline.now.diagram.now baseline.now.agent) lines.new.items) }
+{
+    let below = below(diagram, decision);
+    let requisites = RequisiteNodes::of(baseline.diagram, decision);
+    for v in 0..diagram.count() {
+        if may_see(diagram, &below, decision, v) {
+            lines.push(info_line(alloc, baseline, &requisites, v, decision)?)?;
+        }
+    }
+    Ok(())
+}
+
+/// A line for each arc that is asked about.
 fn info_lines(
     alloc: Global,
+    diagram: &Diagram,
     baseline: &Baseline,
-    arcs: &[(usize, usize)],
 ) -> Result<Vec<InfoLine>, AllocError>
     requires baseline { IsBaseline baseline.now.diagram.now baseline.now.agent
         baseline.now.optimum }
-    requires asked { All (CanAsk baseline.now.diagram.now.nodes) arcs.now }
-    ensures arcs { IfOk result (λ lines. map arc_of lines.items ≡ arcs.now) }
+    requires asked { (d : ℕ) → d < length diagram.now.nodes
+        → IsTrue (decides diagram.now.nodes baseline.now.agent d)
+        → CanAskAll diagram.now.nodes baseline.now.diagram.now.nodes d }
+    ensures arcs { IfOk result (λ lines.
+        map arc_of lines.items ≡ asked_arcs diagram.now.nodes baseline.now.agent) }
     ensures lines { IfOk result (λ lines.
         All (IsLineAlone baseline.now.diagram.now baseline.now.agent) lines.items) }
 {
-    let mut lines = Vec::with_capacity(alloc, arcs.len())?;
-    for (from, to) in arcs {
-        lines.push(info_line(alloc, baseline, *from, *to)?)?;
+    let mut lines = Vec::new(alloc);
+    for v in 0..diagram.count() {
+        if decides(diagram, baseline.agent, v) {
+            push_lines_into(alloc, &mut lines, diagram, baseline, v)?;
+        }
     }
     Ok(lines)
 }
@@ -85,8 +124,9 @@ fn info_lines(
 /// rules; `Worthless` where the arc is not requisite, or would not be; `Cycle`, `Bound` or `TooLarge` where the solver
 /// refuses the diagram without the arc, or with it; and else `Value`, the optimum with the arc less that without it.
 ///
-/// The optimum of the diagram as it is is the answer's own gain. So each line costs at most one edit, one search of the
-/// graph and one run of the solver.
+/// The optimum of the diagram as it is is the answer's own gain, and one search of the graph tells of all arcs into a
+/// decision. So a line that says `Worthless`, or `TooLarge` for the limits on rules, costs neither a copy nor a search of
+/// its own. Each other line costs one copy of the diagram and one run of the solver.
 ///
 /// # Errors
 ///
@@ -117,6 +157,5 @@ pub fn info(
         agent,
         optimum: solved.gains[agent],
     };
-    let arcs = asked_arcs(alloc, diagram, agent)?;
-    info_lines(alloc, &baseline, &arcs)
+    info_lines(alloc, diagram, &baseline)
 }

@@ -1,28 +1,36 @@
 //! Optima of edited diagrams against the optimum before.
 
-ghost use Rattle.std.specs.Prelude.{◌<◌, IfOk};
+ghost use Rattle.std.specs.Prelude.{◌<◌, All, IfOk};
 ghost use Rattle.first_fault.specs.Answers.{IsFaultOrNoMemory, Passes};
 ghost use Rattle.maid_model.specs.Subgames.{OwnsAll};
 ghost use Rattle.maid_model.specs.Values.{IsOptimum};
 ghost use Rattle.maid_model.specs.Views.{DiagramView};
 ghost use Rattle.rule_solver.specs.Faults.{solve_fault, solve_pass};
+ghost use Rattle.size_precheck.specs.Kept.{IsKept};
 ghost use Rattle.optimum_gap.specs.Baselines.{HaveNearScopes, IsBaseline};
 ghost use Rattle.optimum_gap.specs.Found.{IsGain, IsLoss, TellsReason, solving};
 
 use crate::differences::difference;
 use crate::found::Found;
 use maid_model::{Diagram, Ratio};
-use rule_solver::{SolveFault, solve};
+use rule_solver::{SolveFault, solve_with};
+use size_precheck::KeptPlans;
 use std::alloc::{AllocError, Global};
 
-/// The agent's optimum in a diagram in which it decides alone.
-fn optimum(alloc: Global, diagram: &Diagram, agent: usize) -> Result<Ratio, SolveFault>
+/// The agent's optimum in a diagram in which it decides alone, by the plans that are kept of its decisions.
+fn optimum(
+    alloc: Global,
+    diagram: &Diagram,
+    agent: usize,
+    kept: &[KeptPlans],
+) -> Result<Ratio, SolveFault>
     requires alone { OwnsAll diagram.now.nodes agent }
     requires within { agent < diagram.now.agents }
+    requires kept { All (IsKept diagram.now.nodes) kept.now }
     ensures rows { Passes solve_fault (solve_pass diagram.now) result }
     ensures optimum { IfOk result (IsOptimum diagram.now.nodes diagram.now.decimals agent) }
 {
-    let solved = solve(alloc, diagram)?;
+    let solved = solve_with(alloc, diagram, kept)?;
     Ok(solved.gains[agent])
 }
 
@@ -61,9 +69,30 @@ impl<'a> Baseline<'a> {
         requires near { HaveNearScopes self.now.diagram.now edited.now self.now.agent }
         ensures { IfOk result (IsGain self.now.diagram.now edited.now self.now.agent) }
     {
+        self.gain_with(alloc, edited, &[])
+    }
+
+    /// The same where the plans of some decisions of the edited diagram are kept, and are not made again.
+    ///
+    /// # Errors
+    ///
+    /// Only where memory runs out.
+    pub fn gain_with(
+        &self,
+        alloc: Global,
+        edited: &Diagram,
+        kept: &[KeptPlans],
+    ) -> Result<Found, AllocError>
+        requires baseline { IsBaseline self.now.diagram.now self.now.agent self.now.optimum }
+        requires alone { OwnsAll edited.now.nodes self.now.agent }
+        requires within { self.now.agent < edited.now.agents }
+        requires near { HaveNearScopes self.now.diagram.now edited.now self.now.agent }
+        requires kept { All (IsKept edited.now.nodes) kept.now }
+        ensures { IfOk result (IsGain self.now.diagram.now edited.now self.now.agent) }
+    {
         let _before = self.diagram.count();
         let _after = edited.count();
-        match optimum(alloc, edited, self.agent) {
+        match optimum(alloc, edited, self.agent, kept) {
             Ok(more) => Ok(Found::Value(difference(more, self.optimum))),
             Err(fault) => refused(fault),
         }
@@ -83,7 +112,7 @@ impl<'a> Baseline<'a> {
     {
         let _before = self.diagram.count();
         let _after = edited.count();
-        match optimum(alloc, edited, self.agent) {
+        match optimum(alloc, edited, self.agent, &[]) {
             Ok(less) => Ok(Found::Value(difference(self.optimum, less))),
             Err(fault) => refused(fault),
         }

@@ -1,3 +1,4 @@
 pub mod Trims
 pub mod Steps
+pub mod Needs
 pub mod Example

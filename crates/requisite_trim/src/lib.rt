@@ -1,12 +1,14 @@
-//! Arcs that a decision does not need (Lauritzen and Nilsson 2001): which parents of a decision are requisite, and the
-//! diagram without the arcs from those that are not.
+//! Arcs that a decision does not need (Lauritzen and Nilsson 2001): which parents of a decision are requisite, which
+//! other nodes would be, and the diagram without the arcs from those that are not.
 #![tactic(auto)]
 
 mod looks;
+mod requisite_nodes;
 mod searches;
 #[cfg(test)]
 mod tests;
 mod trimming;
 
+pub use requisite_nodes::RequisiteNodes;
 pub use searches::requisite;
 pub use trimming::{Trimmed, trim};

@@ -1,4 +1,4 @@
-use Rattle.std.proofs.Common.{rules, ◌≡◌, ◌<◌, true, inl, sym, subst}
+use Rattle.std.proofs.Common.{rules, ◌≡◌, ◌<◌, All, get_or, true, inl, sym, subst}
 use Rattle.std.specs.Prelude.{Ok, Err, IfOk, IsTrue}
 use Rattle.first_fault.specs.Passes.{◌▸◌, rule}
 use Rattle.maid_model.specs.declared.limits.TheConstants.{MOST_RULE_CELLS}
@@ -9,18 +9,27 @@ use Rattle.diagram_graph.specs.Room.{rule_cells}
 use Rattle.optimum_gap.specs.Baselines.{HaveNearScopes}
 use Rattle.optimum_gap.specs.Found.{IsGain, TooLarge, Worthless, solving, unless}
 use Rattle.control_incentive.specs.Lines.{controlling}
-use Rattle.control_incentive.proofs.Deciding.{behind}
+use Rattle.size_precheck.specs.Kept.{IsKept}
+use Rattle.control_incentive.proofs.Deciding.{behind, plans_kept}
 use Rattle.control_incentive.proofs.finding.find.Goals as goal
 
 no_error : {A E : Type 0} {x : A} {e : E} → Ok x ≡ Err e → ⊥
 no_error p = cc
 
-pub gain-requires-clause-near : goal.gain-requires-clause-near
-gain-requires-clause-near c =
+pub gain_with-requires-clause-near : goal.gain_with-requires-clause-near
+gain_with-requires-clause-near c =
     let d = c.args.baseline.now.diagram.now in
     let agent = c.args.baseline.now.agent in
     let is = c.count-count.ensures.diagram in
     subst (λ (e : DiagramView). HaveNearScopes d e agent) (sym c.in-Ok.ensures.made) (inl (c.edits_keep_scopes.ensures.control d c.args.node agent is.graph is.tables c.requires.chance))
+
+-- the kept plans stand where the node is a decision
+pub gain_with-requires-clause-kept : goal.gain_with-requires-clause-kept
+gain_with-requires-clause-kept c =
+    let d = c.args.baseline.now.diagram.now in
+    let agent = c.args.baseline.now.agent in
+    let stand = plans_kept d.nodes agent c.args.node c.requires.chance in
+    subst (λ (e : DiagramView). All (IsKept e.nodes) c.args.kept.now) (sym c.in-Ok.ensures.made) (λ i e l. c.kept_plans_stand.ensures d.nodes (as_decision d.nodes agent c.args.node) (get_or c.args.kept.now i e) stand (c.requires.kept i e l))
 
 -- the node matters and can be a decision, and the rest is the solver's
 pub returns-in-Ok : goal.returns-in-Ok
@@ -32,6 +41,6 @@ returns-in-Ok c =
     let holds : IsTrue c.args.matters = search rules in
     let large = MOST_RULE_CELLS < rule_cells (as_decision d.nodes agent x) in
     let room : MOST_RULE_CELLS < rule_cells (as_decision d.nodes agent x) → ⊥ = λ t. no_error (c.in-Ok.ensures.too_large.1 t) in
-    behind (unless (IsTrue c.args.matters) Worthless) (rule large TooLarge ▸ solving made) (IsDifferenceOfOptima made.nodes d.nodes d.decimals agent) c.gain.result holds
-    (behind (rule large TooLarge) (solving made) (IsDifferenceOfOptima made.nodes d.nodes d.decimals agent) c.gain.result room
-    (subst (λ e. IfOk c.gain.result (IsGain d e agent)) c.in-Ok.ensures.made c.gain.ensures))
+    behind (unless (IsTrue c.args.matters) Worthless) (rule large TooLarge ▸ solving made) (IsDifferenceOfOptima made.nodes d.nodes d.decimals agent) c.gain_with.result holds
+    (behind (rule large TooLarge) (solving made) (IsDifferenceOfOptima made.nodes d.nodes d.decimals agent) c.gain_with.result room
+    (subst (λ e. IfOk c.gain_with.result (IsGain d e agent)) c.in-Ok.ensures.made c.gain_with.ensures))

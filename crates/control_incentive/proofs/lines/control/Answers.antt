@@ -8,6 +8,7 @@ use Rattle.maid_model.specs.Trimming.{IsTrimmed}
 use Rattle.maid_model.specs.Views.{DiagramView, SolvedView}
 use Rattle.optimum_gap.specs.Baselines.{IsBaseline}
 use Rattle.optimum_gap.specs.Baselines.{alone}
+use Rattle.size_precheck.specs.Kept.{IsKept}
 use Rattle.control_incentive.specs.Lines.{IsTrimmedAlone, chance_nodes, node_of}
 use Rattle.control_incentive.specs.Steps.{HasPaths, IsLineAlone}
 use Rattle.control_incentive.proofs.Deciding.{chance_there, listed_chance}
@@ -28,12 +29,15 @@ control_lines-requires-clause-baseline c =
     let base = c.answers_are_baselines.ensures d solved c.args.agent gain c.count-count.ensures.diagram c.requires.answer c.requires.bound c.requires.agent in
     subst (λ (e : DiagramView). IsBaseline e c.args.agent gain) (sym c.in_ok-alone.ensures) (subst (IsBaseline (alone d solved.answers c.args.agent) c.args.agent) read base)
 
+pub control_lines-requires-clause-kept : goal.control_lines-requires-clause-kept
+control_lines-requires-clause-kept c = subst (All (IsKept c.in_ok-alone.alone.nodes)) (sym c.deref.ensures.value) c.in_ok-kept.ensures
+
 -- the chance nodes are nodes, and stay chance nodes
 pub control_lines-requires-clause-chance : goal.control_lines-requires-clause-chance
 control_lines-requires-clause-chance c =
     let d = c.args.diagram.now in
     let answers = c.args.solved.now.answers in
-    subst (All (λ v. (node_at c.in_ok-alone.alone.nodes v).kind ≡ Chance)) (sym (c.deref.ensures.value ∙ c.in_ok-nodes.ensures))
+    subst (All (λ v. (node_at c.in_ok-alone.alone.nodes v).kind ≡ Chance)) (sym (c.deref-2.ensures.value ∙ c.in_ok-nodes.ensures))
     (subst (λ (e : DiagramView). All (λ v. (node_at e.nodes v).kind ≡ Chance) (chance_nodes d.nodes)) (sym c.in_ok-alone.ensures)
     (all_among (λ v. (node_at (alone d answers c.args.agent).nodes v).kind ≡ Chance) (chance_nodes d.nodes) (λ x m. chance_there d.nodes c.args.agent answers x (listed_chance d.nodes x m).1)))
 
@@ -41,7 +45,7 @@ pub control_lines-requires-clause-within : goal.control_lines-requires-clause-wi
 control_lines-requires-clause-within c =
     let d = c.args.diagram.now in
     let answers = c.args.solved.now.answers in
-    subst (All (λ v. v < length c.in_ok-alone.alone.nodes)) (sym (c.deref.ensures.value ∙ c.in_ok-nodes.ensures))
+    subst (All (λ v. v < length c.in_ok-alone.alone.nodes)) (sym (c.deref-2.ensures.value ∙ c.in_ok-nodes.ensures))
     (subst (λ (e : DiagramView). All (λ v. v < length e.nodes) (chance_nodes d.nodes)) (sym c.in_ok-alone.ensures)
     (all_among (λ v. v < length (alone d answers c.args.agent).nodes) (chance_nodes d.nodes) (λ x m. subst (λ n. x < n) (sym (leaves d.nodes c.args.agent answers).len) (listed_chance d.nodes x m).0)))
 
@@ -57,7 +61,7 @@ returns-clause-lines c =
     let cut : IsTrimmedAlone d solved.answers agent trimmed = record { removed = c.in_ok-trimmed.trimmed.removed.items; is = subst (λ (e : DiagramView). IsTrimmed e.nodes c.in_ok-trimmed.trimmed.removed.items trimmed) c.in_ok-alone.ensures c.in_ok-trimmed.ensures.trimmed } in
     let has = subst (λ (e : DiagramView). HasPaths e.nodes trimmed agent c.find-paths.result) c.in_ok-alone.ensures c.find-paths.ensures in
     lines_there d solved.answers agent is.graph is.tables fits trimmed cut c.find-paths.result has c.control_lines.result
-    (subst (λ nodes. IfOk c.control_lines.result (λ v. map node_of v.items ≡ nodes)) (c.deref.ensures.value ∙ c.in_ok-nodes.ensures) c.control_lines.ensures.nodes)
+    (subst (λ nodes. IfOk c.control_lines.result (λ v. map node_of v.items ≡ nodes)) (c.deref-2.ensures.value ∙ c.in_ok-nodes.ensures) c.control_lines.ensures.nodes)
     (subst (λ e. IfOk c.control_lines.result (λ lines. All (IsLineAlone e agent c.find-paths.result) lines.items)) c.in_ok-alone.ensures c.control_lines.ensures.lines)
 
 pub returns-clause-worths : goal.returns-clause-worths
@@ -71,5 +75,5 @@ returns-clause-worths c =
     let cut : IsTrimmedAlone d solved.answers agent trimmed = record { removed = c.in_ok-trimmed.trimmed.removed.items; is = subst (λ (e : DiagramView). IsTrimmed e.nodes c.in_ok-trimmed.trimmed.removed.items trimmed) c.in_ok-alone.ensures c.in_ok-trimmed.ensures.trimmed } in
     let has = subst (λ (e : DiagramView). HasPaths e.nodes trimmed agent c.find-paths.result) c.in_ok-alone.ensures c.find-paths.ensures in
     worths_there d solved.answers agent is.graph is.tables fits trimmed cut c.find-paths.result has c.control_lines.result
-    (subst (λ nodes. IfOk c.control_lines.result (λ v. map node_of v.items ≡ nodes)) (c.deref.ensures.value ∙ c.in_ok-nodes.ensures) c.control_lines.ensures.nodes)
+    (subst (λ nodes. IfOk c.control_lines.result (λ v. map node_of v.items ≡ nodes)) (c.deref-2.ensures.value ∙ c.in_ok-nodes.ensures) c.control_lines.ensures.nodes)
     (subst (λ e. IfOk c.control_lines.result (λ lines. All (IsLineAlone e agent c.find-paths.result) lines.items)) c.in_ok-alone.ensures c.control_lines.ensures.lines)

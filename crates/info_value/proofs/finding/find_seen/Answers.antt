@@ -27,6 +27,6 @@ returns c =
     let d = c.args.baseline.now.diagram.now in
     let agent = c.args.baseline.now.agent in
     let less = missing d c.args.from c.args.to in
-    let holds : c.requisite.result ≡ true = search rules in
-    behind (unless (IsRequisite d.nodes c.args.to c.args.from) Worthless) (solving less) (IsDifferenceOfOptima d.nodes less.nodes d.decimals agent) c.loss.result (c.requisite.ensures.0 holds)
+    let holds : c.args.needed ≡ true = search rules in
+    behind (unless (IsRequisite d.nodes c.args.to c.args.from) Worthless) (solving less) (IsDifferenceOfOptima d.nodes less.nodes d.decimals agent) c.loss.result (c.requires.needed.0 holds)
     (subst (λ e. IfOk c.loss.result (IsLoss d e agent)) c.in_ok-less.ensures c.loss.ensures)

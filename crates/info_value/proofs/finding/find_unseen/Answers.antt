@@ -1,32 +1,39 @@
 use Rattle.std.proofs.Common.{rules, ◌≡◌, true, inr, sym, subst}
-use Rattle.std.specs.Prelude.{IfOk, MatchOption}
-use Rattle.first_fault.specs.Passes.{◌▸◌, rule}
+use Rattle.std.specs.Prelude.{IfOk}
+use Rattle.diagram_graph.proofs.MoreArcs.{more_graph}
 use Rattle.diagram_graph.specs.Room.{IsTooLarge}
-use Rattle.maid_model.specs.Graph.{Arc, IsGraph}
+use Rattle.first_fault.specs.Passes.{◌▸◌, rule}
 use Rattle.maid_model.specs.Relevance.{IsRequisite}
 use Rattle.maid_model.specs.Values.{IsDifferenceOfOptima}
 use Rattle.maid_model.specs.Subgames.{OwnsAll}
 use Rattle.maid_model.specs.Views.{DiagramView}
 use Rattle.optimum_gap.specs.Baselines.{HaveNearScopes}
 use Rattle.optimum_gap.specs.Found.{IsGain, TooLarge, Worthless, solving, unless}
-use Rattle.info_value.specs.Finding.{IsAdded, seeing}
-use Rattle.info_value.proofs.Added.{arc_added, behind, owns_with}
+use Rattle.info_value.specs.Finding.{seeing}
+use Rattle.info_value.proofs.Added.{behind, owns_with, roomy}
 use Rattle.info_value.proofs.finding.find_unseen.Goals as goal
 
-pub requisite-requires-clause-arc : goal.requisite-requires-clause-arc
-requisite-requires-clause-arc c =
+-- the diagram with the arc is one
+pub returns-then-not-would_need-clause-graph : goal.returns-then-not-would_need-clause-graph
+returns-then-not-would_need-clause-graph c told =
     let d = c.args.baseline.now.diagram.now in
-    let added = subst (λ o. MatchOption o (IsTooLarge d.nodes c.args.from c.args.to) (IsAdded d c.args.from c.args.to)) c.in-Some.is c.in_ok-more.ensures in
-    subst (λ (e : DiagramView). Arc e.nodes c.args.from c.args.to) (sym added.is) (arc_added d.nodes c.args.from c.args.to c.requires.asked.decision)
+    let asked = c.requires.asked in
+    more_graph d.nodes c.args.from c.args.to asked.decision c.count-count.ensures.diagram.graph asked.within asked.no_utility c.requires.absent asked.above
+
+pub returns-clause-graph : goal.returns-clause-graph
+returns-clause-graph c =
+    let d = c.args.baseline.now.diagram.now in
+    let asked = c.requires.asked in
+    roomy d c.args.from c.args.to c.gain.result (more_graph d.nodes c.args.from c.args.to asked.decision c.count-count.ensures.diagram.graph asked.within asked.no_utility c.requires.absent asked.above)
 
 pub gain-requires-clause-alone : goal.gain-requires-clause-alone
 gain-requires-clause-alone c =
     let d = c.args.baseline.now.diagram.now in
     let x = c.args.from in
     let to = c.args.to in
-    let added = subst (λ o. MatchOption o (IsTooLarge d.nodes x to) (IsAdded d x to)) c.in-Some.is c.in_ok-more.ensures in
-    let graph = subst (λ (e : DiagramView). IsGraph e.nodes) added.is c.count-after.ensures.diagram.graph in
-    subst (λ (e : DiagramView). OwnsAll e.nodes c.args.baseline.now.agent) (sym added.is) (owns_with d.nodes x to c.args.baseline.now.agent c.requires.asked.decision graph c.requires.baseline.is_optimum.alone)
+    let asked = c.requires.asked in
+    let graph = more_graph d.nodes x to asked.decision c.count-count.ensures.diagram.graph asked.within asked.no_utility c.requires.absent asked.above in
+    subst (λ (e : DiagramView). OwnsAll e.nodes c.args.baseline.now.agent) (sym c.in_ok-more.ensures) (owns_with d.nodes x to c.args.baseline.now.agent asked.decision graph c.requires.baseline.is_optimum.alone)
 
 pub gain-requires-clause-near : goal.gain-requires-clause-near
 gain-requires-clause-near c =
@@ -34,21 +41,21 @@ gain-requires-clause-near c =
     let x = c.args.from in
     let to = c.args.to in
     let agent = c.args.baseline.now.agent in
-    let added = subst (λ o. MatchOption o (IsTooLarge d.nodes x to) (IsAdded d x to)) c.in-Some.is c.in_ok-more.ensures in
-    let graph = subst (λ (e : DiagramView). IsGraph e.nodes) added.is c.count-after.ensures.diagram.graph in
-    subst (λ (e : DiagramView). HaveNearScopes d e agent) (sym added.is) (inr (c.edits_keep_scopes.ensures.with d x to agent graph c.count-before.ensures.diagram.tables c.requires.asked.decision))
+    let asked = c.requires.asked in
+    let is = c.count-count.ensures.diagram in
+    let graph = more_graph d.nodes x to asked.decision is.graph asked.within asked.no_utility c.requires.absent asked.above in
+    subst (λ (e : DiagramView). HaveNearScopes d e agent) (sym c.in_ok-more.ensures) (inr (c.edits_keep_scopes.ensures.with d x to agent graph is.tables asked.decision))
 
 -- the arc can be added and would be requisite, and the rest is the solver's
-pub returns-else-not-requisite-clause-found : goal.returns-else-not-requisite-clause-found
-returns-else-not-requisite-clause-found c =
+pub returns-clause-found : goal.returns-clause-found
+returns-clause-found c =
     let d = c.args.baseline.now.diagram.now in
     let x = c.args.from in
     let to = c.args.to in
     let agent = c.args.baseline.now.agent in
     let more = seeing d x to in
-    let added = subst (λ o. MatchOption o (IsTooLarge d.nodes x to) (IsAdded d x to)) c.in-Some.is c.in_ok-more.ensures in
-    let holds : c.requisite.result ≡ true = search rules in
-    let needed = subst (λ (e : DiagramView). IsRequisite e.nodes to x) added.is (c.requisite.ensures.0 holds) in
-    behind (rule (IsTooLarge d.nodes x to) TooLarge) (unless (IsRequisite more.nodes to x) Worthless ▸ solving more) (IsDifferenceOfOptima more.nodes d.nodes d.decimals agent) c.gain.result added.room
-    (behind (unless (IsRequisite more.nodes to x) Worthless) (solving more) (IsDifferenceOfOptima more.nodes d.nodes d.decimals agent) c.gain.result needed
-    (subst (λ e. IfOk c.gain.result (IsGain d e agent)) added.is c.gain.ensures))
+    let room : IsTooLarge d.nodes x to → ⊥ = search rules in
+    let holds : c.args.would_need ≡ true = search rules in
+    behind (rule (IsTooLarge d.nodes x to) TooLarge) (unless (IsRequisite more.nodes to x) Worthless ▸ solving more) (IsDifferenceOfOptima more.nodes d.nodes d.decimals agent) c.gain.result room
+    (behind (unless (IsRequisite more.nodes to x) Worthless) (solving more) (IsDifferenceOfOptima more.nodes d.nodes d.decimals agent) c.gain.result (c.requires.would_need.0 holds)
+    (subst (λ e. IfOk c.gain.result (IsGain d e agent)) c.in_ok-more.ensures c.gain.ensures))

@@ -3,9 +3,9 @@ use Rattle.std.specs.Prelude.{IfOk}
 use Rattle.maid_laws.proofs.AnswerLaws.{answers_fit}
 use Rattle.maid_model.specs.Views.{DiagramView, SolvedView}
 use Rattle.optimum_gap.specs.Baselines.{IsBaseline}
-use Rattle.info_value.specs.Alone.{CanAsk, IsLineAlone}
+use Rattle.info_value.specs.Alone.{CanAskAll, IsLineAlone}
 use Rattle.optimum_gap.specs.Baselines.{alone}
-use Rattle.info_value.specs.Lines.{IsInfoLine, TellsWorth, asked_arcs}
+use Rattle.info_value.specs.Lines.{IsInfoLine, TellsWorth}
 use Rattle.info_value.proofs.Asked.{all_asked}
 use Rattle.info_value.proofs.Told.{line_there, ok_lines, worth_there}
 use Rattle.info_value.proofs.lines.info.Goals as goal
@@ -24,11 +24,10 @@ info_lines-requires-clause-baseline c =
     subst (λ (e : DiagramView). IsBaseline e c.args.agent gain) (sym c.in_ok-alone.ensures) (subst (IsBaseline (alone d solved.answers c.args.agent) c.args.agent) read base)
 
 pub info_lines-requires-clause-asked : goal.info_lines-requires-clause-asked
-info_lines-requires-clause-asked c =
+info_lines-requires-clause-asked c v within own =
     let d = c.args.diagram.now in
     let answers = c.args.solved.now.answers in
-    subst (All (CanAsk c.in_ok-alone.alone.nodes)) (sym (c.deref.ensures.value ∙ c.in_ok-arcs.ensures))
-    (subst (λ (e : DiagramView). All (CanAsk e.nodes) (asked_arcs d.nodes c.args.agent)) (sym c.in_ok-alone.ensures) (all_asked d.nodes c.args.agent answers c.descent_is_tested.ensures))
+    subst (λ (e : DiagramView). CanAskAll d.nodes e.nodes v) (sym c.in_ok-alone.ensures) (all_asked d.nodes c.args.agent answers c.descent_is_tested.ensures v within own)
 
 -- each line tells of the whole diagram
 pub returns-clause-lines : goal.returns-clause-lines

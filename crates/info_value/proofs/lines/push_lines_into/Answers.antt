@@ -1,0 +1,44 @@
+use Rattle.std.proofs.Common.{◌∙◌, ℕ, ◌++◌, [], ◌∷◌, cond, All, List, Vec, Global, map, filter, sym, ap, subst, append_assoc}
+use Rattle.std.proofs.lemmas.List.{append-nil, map-append}
+use Rattle.std.proofs.lemmas.List.Elements.{All-append, All-cons, All-nil}
+use Rattle.std.specs.List.{range_with_len}
+use Rattle.info_value.specs.declared.lines.InfoLine.{InfoLine}
+use Rattle.info_value.specs.Alone.{IsLineAlone}
+use Rattle.info_value.specs.Lines.{arc_of, may_see}
+use Rattle.info_value.proofs.Ranges.{pairs_more}
+use Rattle.info_value.proofs.lines.push_lines_into.Goals.{then-may_see+in_ok-info_line+in_ok-push, else-may_see}
+use Rattle.info_value.proofs.lines.push_lines_into.Goals as goal
+
+-- one more node, and the line of its arc where it may be seen
+pub loop-v-preserved : goal.loop-v-preserved
+loop-v-preserved c =
+    let v = c.loop-v.v in
+    let d = c.args.decision in
+    let test = may_see c.args.diagram.now.nodes d in
+    let IsLine = IsLineAlone c.args.baseline.now.diagram.now c.args.baseline.now.agent in
+    let so_far = map (λ (x : ℕ). (x, d)) (filter test (range_with_len 0 v)) in
+    let more = pairs_more test (λ (x : ℕ). (x, d)) v in
+    let front = map arc_of c.args.lines.now.items in
+    let lines = c.loop-v.lines.items in
+    elim c.if-may_see.branch [
+      | then-may_see+in_ok-info_line+in_ok-push w ↦
+          let is = sym c.may_see.ensures ∙ w.if-may_see.true in
+          let line = w.in_ok-info_line.field-0 in
+          let pushed = w.in_ok-push.ensures.items in
+          let tail = w.in_ok-info_line.ensures.tail in
+          let head = w.in_ok-info_line.ensures.head in
+          record {
+            arcs = ap (λ (l : Vec InfoLine Global). map arc_of l.items) w.lines-is ∙ ap (map arc_of) pushed ∙ map-append arc_of lines (line ∷ [])
+                ∙ (λ i. c.loop-v.invariant.arcs i ++ (tail i, head i) ∷ []) ∙ (λ i. (front ++ so_far) ++ cond (sym is i) ((v, d) ∷ []) [])
+                ∙ append_assoc front so_far (cond (test v) ((v, d) ∷ []) []) ∙ ap (λ ys. front ++ ys) (sym more);
+            lines = λ all. subst (λ (l : Vec InfoLine Global). All IsLine l.items) (sym w.lines-is)
+                (subst (All IsLine) (sym {A = List InfoLine} pushed) (All-append IsLine lines (line ∷ []) (c.loop-v.invariant.lines all) (All-cons IsLine line [] w.in_ok-info_line.ensures.line (All-nil IsLine))));
+          }
+      | else-may_see w ↦
+          let is = sym c.may_see.ensures ∙ w.if-may_see.false in
+          record {
+            arcs = ap (λ (l : Vec InfoLine Global). map arc_of l.items) w.lines-is ∙ sym (append-nil (map arc_of lines)) ∙ (λ i. c.loop-v.invariant.arcs i ++ cond (sym is i) ((v, d) ∷ []) [])
+                ∙ append_assoc front so_far (cond (test v) ((v, d) ∷ []) []) ∙ ap (λ ys. front ++ ys) (sym more);
+            lines = λ all. subst (λ (l : Vec InfoLine Global). All IsLine l.items) (sym w.lines-is) (c.loop-v.invariant.lines all);
+          }
+    ]
