@@ -15,7 +15,7 @@ use std::alloc::{AllocError, Global};
 fn rows_of(alloc: Global, choices: &[usize]) -> Result<Vec<Row>, AllocError>
     ensures { IfOk result (λ rows. rows.items ≡ map unpriced choices.now) }
 {
-    let mut rows = Vec::new(alloc);
+    let mut rows = Vec::with_capacity(alloc, choices.len())?;
     for choice in choices {
         rows.push(Row {
             choice: *choice,
@@ -37,7 +37,7 @@ pub(crate) fn answers_of(
     ensures { IfOk result (λ answers.
         answers.items ≡ answers_of diagram.now.nodes decisions.now choices.now) }
 {
-    let mut answers = Vec::new(alloc);
+    let mut answers = Vec::with_capacity(alloc, decisions.len())?;
     let mut start = 0;
     for decision in decisions {
         let end = start + diagram.rows(*decision);

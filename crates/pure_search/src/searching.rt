@@ -80,9 +80,9 @@ fn search_within(alloc: Global, diagram: &Diagram) -> Result<Pure, PureFault>
 /// text order and the last row of the last decision fastest, from which no agent gains by other rules of its own, pure or
 /// mixed; and each agent's expected utility under it.
 ///
-/// For each agent that decides it goes once through all pure profiles; in each through all rows of the decisions and the
-/// worlds of the part that matters to the agent, and in each world through all arcs of that part. It keeps two numbers
-/// and a mark a profile.
+/// For each agent that decides it goes once through all pure profiles; in each through all rows of the decisions, and by
+/// one walk through those worlds of the part that matters to the agent that have weight under the profile, for which it
+/// lists the part's tables and rules. It keeps two numbers and a mark a profile.
 ///
 /// # Errors
 ///

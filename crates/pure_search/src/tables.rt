@@ -5,7 +5,7 @@ ghost use Rattle.maid_model.specs.Nodes.{decisions_of};
 ghost use Rattle.maid_model.specs.Parts.{part_diagram};
 ghost use Rattle.maid_model.specs.Profiles.{IsProfile};
 ghost use Rattle.maid_model.specs.Scopes.{scope_for};
-ghost use Rattle.maid_model.specs.Worlds.{IsWorld, first_world, worlds_from};
+ghost use Rattle.maid_model.specs.Worlds.{IsWorld};
 ghost use Rattle.pure_search.specs.Games.{IsGameOf, IsSearched, IsTable, MarksBest, MarksStable, choice_lists, counts_for, key_of, owners_for, part_gain};
 
 use crate::answering::profile_of;
@@ -14,9 +14,9 @@ use crate::keys::key_of;
 use crate::marks::keep_greatest;
 use crate::odometer::{first_choices, next_choices};
 use diagram_graph::{SubDiagram, part};
-use maid_model::{Diagram, World, leaf_sum};
+use maid_model::Diagram;
 use std::alloc::{AllocError, Global};
-use tree_checker::{rules_in_part, utilities_of};
+use tree_checker::{gain_over, rules_in_part, utilities_of};
 
 /// For each list of choices, in their order, the number of the others' choices, and what it gives the agent.
 #[derive(Drop)]
@@ -40,14 +40,13 @@ pub(crate) fn part_for(
     part(alloc, diagram, &utilities)
 }
 
-/// What the choices give the agent, by the worlds of its part, which it goes through once.
+/// What the choices give the agent, by one walk through the worlds of its part that have weight under them.
 fn gain_under(
     alloc: Global,
     diagram: &Diagram,
     game: &Game,
     agent: usize,
     part: &SubDiagram,
-    world: &mut World,
     choices: &[usize],
 ) -> Result<i128, AllocError>
     requires decisions { game.now.decisions.items ≡ decisions_of diagram.now.nodes }
@@ -56,15 +55,13 @@ fn gain_under(
     requires part { part.now.diagram
         ≡ part_diagram diagram.now (scope_for diagram.now.nodes agent) }
     requires nodes { part.now.nodes.items ≡ scope_for diagram.now.nodes agent }
-    requires first { world.old ≡ first_world (length part.now.diagram.nodes) }
     requires choices { IsWorld (counts_for diagram.now.nodes) choices.now }
-    ensures gain { IfOk result (λ gain. gain ≡ part_gain diagram.now.nodes agent choices.now) }
-    ensures again { IfOk result (λ gain. world.new ≡ world.old) }
+    ensures { IfOk result (λ gain. gain ≡ part_gain diagram.now.nodes agent choices.now) }
 {
     let _count = diagram.count();
     let profile = profile_of(alloc, diagram, &game.decisions, choices)?;
     let rules = rules_in_part(alloc, diagram, &profile, &part.nodes)?;
-    Ok(leaf_sum(&part.diagram, &rules, agent, world))
+    gain_over(alloc, &part.diagram, &rules, agent)
 }
 
 /// The table of the agent.
@@ -82,12 +79,11 @@ fn table_for(
 {
     let _count = diagram.count();
     let part = part_for(alloc, diagram, agent)?;
-    let mut world = World::first(alloc, &part.diagram)?;
     let mut choices = first_choices(alloc, &game.counts)?;
     let mut keys = Vec::new(alloc);
     let mut gains = Vec::new(alloc);
     'profiles: loop {
-        gains.push(gain_under(alloc, diagram, game, agent, &part, &mut world, &choices)?)?;
+        gains.push(gain_under(alloc, diagram, game, agent, &part, &choices)?)?;
         keys.push(key_of(agent, &game.counts, &game.owners, &choices))?;
         if !next_choices(&game.counts, &mut choices) {
             return Ok(Table { keys, gains });

@@ -8,9 +8,9 @@ ghost use Rattle.maid_model.specs.Scopes.{KeepsScopedBounds};
 ghost use Rattle.part_laws.specs.ScopeLaws.{HasUnitRules};
 
 use crate::tables::part_for;
-use maid_model::{Diagram, Profile, Ratio, World, leaf_sum};
+use maid_model::{Diagram, Profile, Ratio};
 use std::alloc::{AllocError, Global};
-use tree_checker::{mass_of, rules_in_part, scale_of};
+use tree_checker::{gain_over, mass_of, rules_in_part, scale_of};
 use whole_num::reduce;
 
 /// The fraction in lowest terms.
@@ -40,8 +40,7 @@ fn worth(
     let _count = diagram.count();
     let part = part_for(alloc, diagram, agent)?;
     let rules = rules_in_part(alloc, diagram, chosen, &part.nodes)?;
-    let mut world = World::first(alloc, &part.diagram)?;
-    let sum = leaf_sum(&part.diagram, &rules, agent, &mut world);
+    let sum = gain_over(alloc, &part.diagram, &rules, agent)?;
     let mass = mass_of(&part.diagram, &rules);
     Ok(fraction(sum, mass * scale_of(diagram)))
 }

@@ -23,5 +23,7 @@ pub mod WalkOrders
 pub mod WalkTotals
 pub mod WalkCells
 pub mod StepLaws
+pub mod WalkPlaces
 pub mod WalkLasts
+pub mod WalkPairs
 pub mod LastSplit

@@ -344,7 +344,7 @@ module _ (d : DiagramView) (is : IsDiagram d) (p : List RuleView) (prof : IsProf
           from0 : xs1 ≡ set xs0 v n
           from0 = xs1_is ∙ sym (set-set xs v before n) ∙ ap (λ ys. set ys v n) s.back
 
-          world_is : world_of xs1 ≡ w1
+          pub world_is : world_of xs1 ≡ w1
           world_is = ap world_of from0 ∙ set_world xs0 v n inside
 
           pub next_world : IsWorld (counts_of d.nodes) xs1

@@ -1,18 +1,20 @@
 -- What a walk down a list of nodes adds up: over all ways to give states to the nodes of the list.
-use Rattle.std.specs.Prelude.{◌≡◌, ◌≢◌, ℕ, ◌+◌, ◌*◌, ◌^◌, ◌<◌, ◌≤◌, List, [], ◌∷◌, length, slice_index, slice_index_or, ℤ, pos, ◌+ℤ◌, ◌*ℤ◌, nat_abs, Option, None, Some, ◌==◌, if◌then◌else◌}
+use Rattle.std.specs.Prelude.{◌≡◌, ◌≢◌, true, ℕ, ◌+◌, ◌*◌, ◌^◌, ◌<◌, ◌≤◌, List, [], ◌∷◌, length, slice_index, slice_index_or, ℤ, pos, ◌+ℤ◌, ◌*ℤ◌, nat_abs, Option, None, Some, ◌==◌, if◌then◌else◌}
 use Rattle.finite_sums.specs.Members.{Among}
-use Rattle.finite_sums.specs.Sums.{World, nat_product_over, nat_sum_over, product_over, sum_each, sum_over}
+use Rattle.finite_sums.specs.Sums.{World, nat_product_over, nat_sum_over, product_over, sum_each, sum_over, with_state}
 use Rattle.maid_model.specs.declared.diagrams.Kind.TheVariants.{Utility}
 use Rattle.maid_model.specs.Diagrams.{IsDiagram, greatest_number}
 use Rattle.maid_model.specs.Gains.{base_total, greatest_abs, greatest_utility, sum_worlds, table_without, weight_without}
 use Rattle.maid_model.specs.Nodes.{is_utility, node_at, parents_of, rows_of, states_of}
 use Rattle.maid_model.specs.Private.{MarksUtilities, marked_utility, marked_value}
 use Rattle.maid_model.specs.Profiles.{IsProfile}
-use Rattle.maid_model.specs.Tables.{cell_of, row_from, table_by, weights_of}
+use Rattle.maid_model.specs.Tables.{cell_of, row_from, row_of, table_by, weights_of}
 use Rattle.maid_model.specs.Views.{DiagramView, NodeView, RuleView}
 use Rattle.node_sets.specs.declared.sets.NodeSet.{NodeSet}
 use Rattle.node_sets.specs.Sets.{holds}
+use Rattle.tree_checker.specs.declared.settings.Before.{Before}
 use Rattle.tree_checker.specs.declared.settings.Last.{Last}
+use Rattle.tree_checker.specs.declared.settings.Places.{Places}
 
 -- nodes none of which stands again later, or has a later one as a parent
 abbrev pub IsDownward : List NodeView → List ℕ → Type 0
@@ -102,21 +104,46 @@ pub record IsSetting
   pub marked : MarksUtilities d.nodes marks
   pub decision : out ≤ length d.nodes
 
--- a node that weighs something, with a utility after it
-pub record IsLast (nodes : List NodeView) (out : ℕ) (last : Last) : Type 0 where
+-- the places of a world in the factors of v, in the rows of u and in the cells of the decision `out`, with v in its first
+-- state
+pub record ArePlaces (nodes : List NodeView) (out v u : ℕ) (w : World) (places : Places) : Type 0
+  where
+    pub factor : places.factor ≡ cell_of nodes v (with_state w v 0)
+    pub row : places.row ≡ row_of nodes u (with_state w v 0)
+    pub cell : places.cell ≡ cell_of nodes out (with_state w v 0)
+
+-- a node that weighs something, and how far apart its states put those places
+pub record IsBefore (nodes : List NodeView) (out v u : ℕ) (before : Before) : Type 0 where
+  pub weighs : (node_at nodes before.node).kind ≢ Utility
+  pub factor : before.steps.factor ≡ cell_step nodes v before.node
+  pub row : before.steps.row ≡ row_step nodes u before.node
+  pub cell : before.steps.cell ≡ cell_step nodes out before.node
+
+abbrev pub MayBeBefore : List NodeView → ℕ → ℕ → ℕ → Option Before → Type 0
+MayBeBefore nodes out v u None = Unit {0}
+MayBeBefore nodes out v u (Some before) = IsBefore nodes out v u before
+
+-- a node that weighs something, with a marked utility after it
+pub record IsLast (nodes : List NodeView) (out : ℕ) (marks : NodeSet) (last : Last) : Type 0 where
   pub weighs : (node_at nodes last.node).kind ≢ Utility
   pub utility : (node_at nodes last.utility).kind ≡ Utility
+  pub marked : holds marks last.utility ≡ true
   pub row : last.row_step ≡ row_step nodes last.utility last.node
   pub cell : last.cell_step ≡ cell_step nodes out last.node
+  pub before : MayBeBefore nodes out last.node last.utility last.before
 
 -- the nodes with which a walk ends
+abbrev pub with_before : Option Before → List ℕ → List ℕ
+with_before None vs = vs
+with_before (Some before) vs = before.node ∷ vs
+
 abbrev pub ending : Option Last → List ℕ → List ℕ
 ending None tail = tail
-ending (Some last) tail = last.node ∷ last.utility ∷ []
+ending (Some last) tail = with_before last.before (last.node ∷ last.utility ∷ [])
 
-abbrev pub IsEnding : List NodeView → ℕ → Option Last → List ℕ → Type 0
-IsEnding nodes out None tail = AreUtilities nodes tail
-IsEnding nodes out (Some last) tail = IsLast nodes out last
+abbrev pub IsEnding : List NodeView → ℕ → NodeSet → Option Last → List ℕ → Type 0
+IsEnding nodes out marks None tail = AreUtilities nodes tail
+IsEnding nodes out marks (Some last) tail = IsLast nodes out marks last
 
 -- the same sums over all worlds of the diagram
 abbrev pub cell_gain : List NodeView → List RuleView → ℕ → NodeSet → ℕ → ℤ

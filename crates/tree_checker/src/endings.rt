@@ -12,6 +12,14 @@ ghost use Rattle.tree_checker.specs.Walks.{HasRoomAt, IsDownward, greatest_at, u
 use maid_model::{Diagram, World};
 use node_sets::NodeSet;
 
+/// Gives the node another state.
+pub(crate) fn set_state(world: &mut World, v: usize, state: usize)
+    requires { v < length world.old }
+    ensures { world.new ≡ slice_set world.old v state }
+{
+    world.states[v] = state;
+}
+
 /// The cell of that row, if the node is marked; 0 elsewhere.
 pub(crate) fn value(diagram: &Diagram, marks: &NodeSet, v: usize, row: usize) -> i128
     requires node { v < length diagram.now.nodes }

@@ -62,8 +62,9 @@ fn factors_of(
         ListsFactors diagram.now.nodes profile.now left_out v list.items) }
 {
     let weights = weights_at(diagram, profile, v);
-    let mut list = Vec::new(alloc);
-    for cell in 0..diagram.rows(v) * diagram.states(v) {
+    let cells = diagram.rows(v) * diagram.states(v);
+    let mut list = Vec::with_capacity(alloc, cells)?;
+    for cell in 0..cells {
         list.push(factor_of(diagram, weights, left_out, v, cell))?;
     }
     Ok(list)
@@ -80,7 +81,7 @@ pub(crate) fn all_factors(
     ensures { IfOk result (λ all.
         HoldsFactors diagram.now.nodes profile.now left_out (lists_in all.items)) }
 {
-    let mut all = Vec::new(alloc);
+    let mut all = Vec::with_capacity(alloc, diagram.count())?;
     for v in 0..diagram.count() {
         all.push(factors_of(alloc, diagram, profile, left_out, v)?)?;
     }

@@ -91,9 +91,14 @@ fn marks_of(diagram: &Diagram, agent: usize) -> NodeSet
     marks
 }
 
-/// The sum, over all worlds of the diagram, of the world's weight under the profile times the agent's utilities, by one
-/// walk.
-fn gain_over(
+/// The sum, over all worlds of the diagram, of the world's weight under the profile times the agent's utilities. It lists
+/// the factors of each node, in as much memory as the tables and the rules take, and goes down the nodes once for each
+/// choice of states of those before, but for what has no weight.
+///
+/// # Errors
+///
+/// Only where memory runs out.
+pub fn gain_over(
     alloc: Global,
     diagram: &Diagram,
     profile: &Profile,

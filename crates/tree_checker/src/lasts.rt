@@ -1,25 +1,62 @@
 //! What the last nodes of a walk add.
 
-ghost use Rattle.std.specs.Prelude.{◌≡◌, ℕ, ◌*◌, ◌<◌, ◌≤◌, ◌++◌, [], ◌∷◌, length, pos, ◌+ℤ◌, ◌*ℤ◌, slice_index, slice_index_or, ◌==◌, if◌then◌else◌};
+ghost use Rattle.std.specs.Prelude.{◌≡◌, ℕ, ◌+◌, ◌*◌, ◌<◌, ◌≤◌, ◌++◌, [], ◌∷◌, length, nat_abs, pos, ◌+ℤ◌, ◌*ℤ◌, slice_index, slice_index_or, ◌==◌, if◌then◌else◌};
 ghost use Rattle.diagram_graph.specs.Cycles.{lists_in};
 ghost use Rattle.maid_model.specs.Nodes.{counts_of, rows_of, states_of};
-ghost use Rattle.maid_model.specs.Diagrams.{IsDiagram};
+ghost use Rattle.maid_model.specs.Diagrams.{greatest_number};
 ghost use Rattle.maid_model.specs.Private.{MarksUtilities};
 ghost use Rattle.maid_model.specs.Worlds.{IsWorld, world_of};
-ghost use Rattle.tree_checker.specs.Walks.{AreUtilities, HasRoom, HasRoomAt, IsDownward, IsEnding, IsLast, IsSetting, ending, gain_with, mass_with, value_at};
+ghost use Rattle.tree_checker.specs.Walks.{ArePlaces, AreUtilities, HasRoom, IsBefore, IsDownward, IsEnding, IsLast, IsSetting, MayBeBefore, ending, gain_with, mass_with, with_before};
 
-use crate::endings::{add_to_cell, add_world, place, value};
+use crate::endings::{add_to_cell, add_world, place, set_state};
 use crate::factors::factor;
-use crate::settings::{Last, Setting};
+use crate::settings::{Before, Last, Places, Setting};
 use crate::strides::{cell_step, row_step};
 use maid_model::{Diagram, Kind, World};
 use node_sets::NodeSet;
 
+/// The places of the worlds that differ from this one by having the last weighing node in its first state.
+fn places_at(setting: &Setting, last: &Last, world: &World) -> Places
+    requires setting { IsSetting setting.now.diagram.now setting.now.profile.now
+        (lists_in setting.now.factors.now) setting.now.marks.now setting.now.left_out }
+    requires last { IsLast setting.now.diagram.now.nodes setting.now.left_out setting.now.marks.now
+        last.now }
+    requires node { last.now.node < length setting.now.diagram.now.nodes }
+    requires utility { last.now.utility < length setting.now.diagram.now.nodes }
+    requires world { IsWorld (counts_of setting.now.diagram.now.nodes) world.now }
+    ensures { ArePlaces setting.now.diagram.now.nodes setting.now.left_out last.now.node
+        last.now.utility (world_of world.now) result }
+{
+    let diagram = setting.diagram;
+    let state = world.states[last.node];
+    Places {
+        factor: world.row(diagram, last.node) * diagram.states(last.node),
+        row: world.row(diagram, last.utility) - state * last.row_step,
+        cell: place(diagram, setting.left_out, world) - state * last.cell_step,
+    }
+}
+
+/// The places some states of a node further on.
+fn further(places: Places, steps: Places, states: usize) -> Places
+    requires factor { places.factor + states * steps.factor ≤ 65536 }
+    requires row { places.row + states * steps.row ≤ 65536 }
+    requires cell { places.cell + states * steps.cell ≤ 65536 }
+    ensures { result ≡ record {
+      factor = places.factor + states * steps.factor;
+      row = places.row + states * steps.row;
+      cell = places.cell + states * steps.cell;
+    } }
+{
+    Places {
+        factor: places.factor + states * steps.factor,
+        row: places.row + states * steps.row,
+        cell: places.cell + states * steps.cell,
+    }
+}
+
 /// Adds a world to the cell, with the utility's value in the row.
 fn add_picked(
-    diagram: &Diagram,
-    marks: &NodeSet,
-    utility: usize,
+    values: &[i128],
     row: usize,
     cell: usize,
     product: u128,
@@ -27,31 +64,32 @@ fn add_picked(
     gains: &mut [i128],
     masses: &mut [u128],
 )
-    requires diagram { IsDiagram diagram.now }
-    requires marks { MarksUtilities diagram.now.nodes marks.now }
-    requires utility { utility < length diagram.now.nodes }
-    requires row { row < rows_of diagram.now.nodes utility }
+    requires row { row < length values.now }
     requires gains { cell < length gains.old }
     requires masses { cell < length masses.old }
-    requires room { HasRoomAt diagram.now.nodes (utility ∷ []) product sum gains.old masses.old }
+    requires sum { nat_abs (sum +ℤ slice_index_or values.now row (pos 0)) ≤ greatest_number }
+    requires gain { nat_abs (slice_index_or gains.old cell (pos 0))
+        + product * nat_abs (sum +ℤ slice_index_or values.now row (pos 0)) ≤ greatest_number }
+    requires mass { slice_index masses.old cell + product ≤ greatest_number }
     ensures gains { (c : ℕ) → slice_index_or gains.new c (pos 0)
         ≡ slice_index_or gains.old c (pos 0) +ℤ (if cell == c
-        then pos product *ℤ (sum +ℤ value_at diagram.now.nodes marks.now utility row)
+        then pos product *ℤ (sum +ℤ slice_index_or values.now row (pos 0))
         else pos 0) }
     ensures masses { (c : ℕ) → pos (slice_index masses.new c)
         ≡ pos (slice_index masses.old c) +ℤ (if cell == c then pos product else pos 0) }
     ensures gain_count { length gains.new ≡ length gains.old }
     ensures mass_count { length masses.new ≡ length masses.old }
 {
-    let more = sum + value(diagram, marks, utility, row);
+    let more = sum + values[row];
     add_to_cell(cell, product, more, gains, masses);
 }
 
-/// Adds what the worlds have that the states of the last weighing node make. From state to state the utility's row and
-/// the cell are as far apart as the steps say.
+/// Adds what the worlds have that the states of the last weighing node make in the world, which has these places. From
+/// state to state the row and the cell are as far apart as the steps say, so that only the clauses look at the world.
 fn add_states(
     setting: &Setting,
     last: &Last,
+    places: Places,
     world: &World,
     product: u128,
     utility: i128,
@@ -60,43 +98,41 @@ fn add_states(
 )
     requires setting { IsSetting setting.now.diagram.now setting.now.profile.now
         (lists_in setting.now.factors.now) setting.now.marks.now setting.now.left_out }
-    requires last { IsLast setting.now.diagram.now.nodes setting.now.left_out last.now }
+    requires last { IsLast setting.now.diagram.now.nodes setting.now.left_out setting.now.marks.now
+        last.now }
     requires order { IsDownward setting.now.diagram.now.nodes
         (last.now.node ∷ last.now.utility ∷ []) }
     requires world { IsWorld (counts_of setting.now.diagram.now.nodes) world.now }
+    requires places { ArePlaces setting.now.diagram.now.nodes setting.now.left_out last.now.node
+        last.now.utility (world_of world.now) places }
     requires gains { length gains.old ≡ rows_of setting.now.diagram.now.nodes setting.now.left_out
         * states_of setting.now.diagram.now.nodes setting.now.left_out }
     requires masses { length masses.old ≡ rows_of setting.now.diagram.now.nodes setting.now.left_out
         * states_of setting.now.diagram.now.nodes setting.now.left_out }
     requires room { HasRoom setting.now.diagram.now.nodes setting.now.profile.now
-        setting.now.left_out (last.now.node ∷ last.now.utility ∷ []) product utility gains.old
-        masses.old }
+        setting.now.left_out (last.now.node ∷ last.now.utility ∷ []) product
+        utility gains.old masses.old }
     ensures gains { (c : ℕ) → slice_index_or gains.new c (pos 0)
         ≡ slice_index_or gains.old c (pos 0) +ℤ gain_with setting.now.diagram.now.nodes
         setting.now.profile.now setting.now.left_out setting.now.marks.now
-        (last.now.node ∷ last.now.utility ∷ []) product utility c (world_of world.now) }
+        (last.now.node ∷ last.now.utility ∷ []) product utility c
+        (world_of world.now) }
     ensures masses { (c : ℕ) → pos (slice_index masses.new c)
         ≡ pos (slice_index masses.old c) +ℤ mass_with setting.now.diagram.now.nodes
-        setting.now.profile.now setting.now.left_out (last.now.node ∷ last.now.utility ∷ [])
-        product c (world_of world.now) }
+        setting.now.profile.now setting.now.left_out
+        (last.now.node ∷ last.now.utility ∷ []) product c (world_of world.now) }
     ensures gain_count { length gains.new ≡ length gains.old }
     ensures mass_count { length masses.new ≡ length masses.old }
 {
     let diagram = setting.diagram;
-    let states = diagram.states(last.node);
-    let first = world.row(diagram, last.node) * states;
-    let before = world.states[last.node];
-    let row = world.row(diagram, last.utility) - before * last.row_step;
-    let cell = place(diagram, setting.left_out, world) - before * last.cell_step;
-    for s in 0..states {
-        let more = product * factor(setting.factors, last.node, first + s);
+    let values = diagram.cells(last.utility);
+    for s in 0..diagram.states(last.node) {
+        let more = product * factor(setting.factors, last.node, places.factor + s);
         if more > 0 {
             add_picked(
-                diagram,
-                setting.marks,
-                last.utility,
-                row + s * last.row_step,
-                cell + s * last.cell_step,
+                values,
+                places.row + s * last.row_step,
+                places.cell + s * last.cell_step,
                 more,
                 utility,
                 gains,
@@ -106,10 +142,13 @@ fn add_states(
     }
 }
 
-/// Adds what the worlds have that end as the setting says.
-pub(crate) fn add_ending(
+/// Adds what the worlds have that the states of the last two weighing nodes make. Only at the first state of the node
+/// before the last are the places looked for; from there on they are as far apart as the steps say.
+fn add_pairs(
     setting: &Setting,
-    world: &World,
+    last: &Last,
+    before: &Before,
+    world: &mut World,
     product: u128,
     utility: i128,
     gains: &mut [i128],
@@ -117,11 +156,119 @@ pub(crate) fn add_ending(
 )
     requires setting { IsSetting setting.now.diagram.now setting.now.profile.now
         (lists_in setting.now.factors.now) setting.now.marks.now setting.now.left_out }
-    requires ending { IsEnding setting.now.diagram.now.nodes setting.now.left_out setting.now.last
-        setting.now.tail.now }
+    requires last { IsLast setting.now.diagram.now.nodes setting.now.left_out setting.now.marks.now
+        last.now }
+    requires before { IsBefore setting.now.diagram.now.nodes setting.now.left_out last.now.node
+        last.now.utility before.now }
+    requires order { IsDownward setting.now.diagram.now.nodes
+        (before.now.node ∷ last.now.node ∷ last.now.utility ∷ []) }
+    requires world { IsWorld (counts_of setting.now.diagram.now.nodes) world.old }
+    requires gains { length gains.old ≡ rows_of setting.now.diagram.now.nodes setting.now.left_out
+        * states_of setting.now.diagram.now.nodes setting.now.left_out }
+    requires masses { length masses.old ≡ rows_of setting.now.diagram.now.nodes setting.now.left_out
+        * states_of setting.now.diagram.now.nodes setting.now.left_out }
+    requires room { HasRoom setting.now.diagram.now.nodes setting.now.profile.now
+        setting.now.left_out (before.now.node ∷ last.now.node ∷ last.now.utility ∷ []) product
+        utility gains.old masses.old }
+    ensures again { world.new ≡ world.old }
+    ensures gains { (c : ℕ) → slice_index_or gains.new c (pos 0)
+        ≡ slice_index_or gains.old c (pos 0) +ℤ gain_with setting.now.diagram.now.nodes
+        setting.now.profile.now setting.now.left_out setting.now.marks.now
+        (before.now.node ∷ last.now.node ∷ last.now.utility ∷ []) product utility c
+        (world_of world.old) }
+    ensures masses { (c : ℕ) → pos (slice_index masses.new c)
+        ≡ pos (slice_index masses.old c) +ℤ mass_with setting.now.diagram.now.nodes
+        setting.now.profile.now setting.now.left_out
+        (before.now.node ∷ last.now.node ∷ last.now.utility ∷ []) product c (world_of world.old) }
+    ensures gain_count { length gains.new ≡ length gains.old }
+    ensures mass_count { length masses.new ≡ length masses.old }
+{
+    let diagram = setting.diagram;
+    let v = before.node;
+    let states = diagram.states(v);
+    let first = world.row(diagram, v) * states;
+    let state = world.states[v];
+    set_state(world, v, 0);
+    let places = places_at(setting, last, world);
+    for s in 0..states {
+        let more = product * factor(setting.factors, v, first + s);
+        if more > 0 {
+            set_state(world, v, s);
+            let there = further(places, before.steps, s);
+            add_states(setting, last, there, world, more, utility, gains, masses);
+        }
+    }
+    set_state(world, v, state);
+}
+
+/// Adds what the worlds have that the last weighing nodes make, one or two of them.
+fn add_last(
+    setting: &Setting,
+    last: &Last,
+    world: &mut World,
+    product: u128,
+    utility: i128,
+    gains: &mut [i128],
+    masses: &mut [u128],
+)
+    requires setting { IsSetting setting.now.diagram.now setting.now.profile.now
+        (lists_in setting.now.factors.now) setting.now.marks.now setting.now.left_out }
+    requires last { IsLast setting.now.diagram.now.nodes setting.now.left_out setting.now.marks.now
+        last.now }
+    requires order { IsDownward setting.now.diagram.now.nodes
+        (with_before last.now.before (last.now.node ∷ last.now.utility ∷ [])) }
+    requires world { IsWorld (counts_of setting.now.diagram.now.nodes) world.old }
+    requires gains { length gains.old ≡ rows_of setting.now.diagram.now.nodes setting.now.left_out
+        * states_of setting.now.diagram.now.nodes setting.now.left_out }
+    requires masses { length masses.old ≡ rows_of setting.now.diagram.now.nodes setting.now.left_out
+        * states_of setting.now.diagram.now.nodes setting.now.left_out }
+    requires room { HasRoom setting.now.diagram.now.nodes setting.now.profile.now
+        setting.now.left_out
+        (with_before last.now.before (last.now.node ∷ last.now.utility ∷ [])) product utility
+        gains.old masses.old }
+    ensures again { world.new ≡ world.old }
+    ensures gains { (c : ℕ) → slice_index_or gains.new c (pos 0)
+        ≡ slice_index_or gains.old c (pos 0) +ℤ gain_with setting.now.diagram.now.nodes
+        setting.now.profile.now setting.now.left_out setting.now.marks.now
+        (with_before last.now.before (last.now.node ∷ last.now.utility ∷ [])) product utility c
+        (world_of world.old) }
+    ensures masses { (c : ℕ) → pos (slice_index masses.new c)
+        ≡ pos (slice_index masses.old c) +ℤ mass_with setting.now.diagram.now.nodes
+        setting.now.profile.now setting.now.left_out
+        (with_before last.now.before (last.now.node ∷ last.now.utility ∷ [])) product c
+        (world_of world.old) }
+    ensures gain_count { length gains.new ≡ length gains.old }
+    ensures mass_count { length masses.new ≡ length masses.old }
+{
+    match &last.before {
+        Some(before) => add_pairs(
+            setting, last, before, world, product, utility, gains, masses,
+        ),
+        None => {
+            let places = places_at(setting, last, world);
+            add_states(
+                setting, last, places, world, product, utility, gains, masses,
+            );
+        }
+    }
+}
+
+/// Adds what the worlds have that end as the setting says.
+pub(crate) fn add_ending(
+    setting: &Setting,
+    world: &mut World,
+    product: u128,
+    utility: i128,
+    gains: &mut [i128],
+    masses: &mut [u128],
+)
+    requires setting { IsSetting setting.now.diagram.now setting.now.profile.now
+        (lists_in setting.now.factors.now) setting.now.marks.now setting.now.left_out }
+    requires ending { IsEnding setting.now.diagram.now.nodes setting.now.left_out
+        setting.now.marks.now setting.now.last setting.now.tail.now }
     requires order { IsDownward setting.now.diagram.now.nodes
         (ending setting.now.last setting.now.tail.now) }
-    requires world { IsWorld (counts_of setting.now.diagram.now.nodes) world.now }
+    requires world { IsWorld (counts_of setting.now.diagram.now.nodes) world.old }
     requires gains { length gains.old ≡ rows_of setting.now.diagram.now.nodes setting.now.left_out
         * states_of setting.now.diagram.now.nodes setting.now.left_out }
     requires masses { length masses.old ≡ rows_of setting.now.diagram.now.nodes setting.now.left_out
@@ -129,19 +276,20 @@ pub(crate) fn add_ending(
     requires room { HasRoom setting.now.diagram.now.nodes setting.now.profile.now
         setting.now.left_out (ending setting.now.last setting.now.tail.now) product utility
         gains.old masses.old }
+    ensures again { world.new ≡ world.old }
     ensures gains { (c : ℕ) → slice_index_or gains.new c (pos 0)
         ≡ slice_index_or gains.old c (pos 0) +ℤ gain_with setting.now.diagram.now.nodes
         setting.now.profile.now setting.now.left_out setting.now.marks.now
-        (ending setting.now.last setting.now.tail.now) product utility c (world_of world.now) }
+        (ending setting.now.last setting.now.tail.now) product utility c (world_of world.old) }
     ensures masses { (c : ℕ) → pos (slice_index masses.new c)
         ≡ pos (slice_index masses.old c) +ℤ mass_with setting.now.diagram.now.nodes
         setting.now.profile.now setting.now.left_out
-        (ending setting.now.last setting.now.tail.now) product c (world_of world.now) }
+        (ending setting.now.last setting.now.tail.now) product c (world_of world.old) }
     ensures gain_count { length gains.new ≡ length gains.old }
     ensures mass_count { length masses.new ≡ length masses.old }
 {
     match &setting.last {
-        Some(last) => add_states(setting, last, world, product, utility, gains, masses),
+        Some(last) => add_last(setting, last, world, product, utility, gains, masses),
         None => add_world(
             setting.diagram,
             setting.marks,
@@ -156,29 +304,69 @@ pub(crate) fn add_ending(
     }
 }
 
-/// The nodes of the order that a walk goes down, and, where the tail is one utility, the last weighing node with it.
+/// The nodes of the order but the last, where that weighs something.
+fn split_before<'a>(
+    diagram: &Diagram,
+    left_out: usize,
+    order: &'a [usize],
+    last: usize,
+    utility: usize,
+) -> (&'a [usize], Option<Before>)
+    requires decision { left_out ≤ length diagram.now.nodes }
+    requires last { last < length diagram.now.nodes }
+    requires utility { utility < length diagram.now.nodes }
+    requires order { (k : ℕ) → k < length order.now
+        → slice_index_or order.now k 0 < length diagram.now.nodes }
+    ensures whole { result.0.now ++ with_before result.1 [] ≡ order.now }
+    ensures before { MayBeBefore diagram.now.nodes left_out last utility result.1 }
+{
+    if let [front @ .., v] = order {
+        match diagram.kind(*v) {
+            Kind::Utility => return (order, None),
+            Kind::Chance | Kind::Decision => {
+                let steps = Places {
+                    factor: cell_step(diagram, last, *v),
+                    row: row_step(diagram, utility, *v),
+                    cell: cell_step(diagram, left_out, *v),
+                };
+                return (front, Some(Before { node: *v, steps }));
+            }
+        }
+    }
+    (order, None)
+}
+
+/// The nodes of the order that a walk goes down, and, where the tail is one marked utility, the last weighing nodes with
+/// it.
 pub(crate) fn split_last<'a>(
     diagram: &Diagram,
+    marks: &NodeSet,
     left_out: usize,
     order: &'a [usize],
     tail: &[usize],
 ) -> (&'a [usize], Option<Last>)
+    requires marks { MarksUtilities diagram.now.nodes marks.now }
     requires decision { left_out ≤ length diagram.now.nodes }
     requires order { IsDownward diagram.now.nodes (order.now ++ tail.now) }
     requires tail { AreUtilities diagram.now.nodes tail.now }
     ensures whole { result.0.now ++ ending result.1 tail.now ≡ order.now ++ tail.now }
-    ensures ending { IsEnding diagram.now.nodes left_out result.1 tail.now }
+    ensures ending { IsEnding diagram.now.nodes left_out marks.now result.1 tail.now }
 {
     if let [front @ .., v] = order {
         if let [u] = tail {
             match diagram.kind(*v) {
                 Kind::Utility => return (order, None),
                 Kind::Chance | Kind::Decision => {
+                    if !marks.holds(*u) {
+                        return (order, None);
+                    }
+                    let (front, before) = split_before(diagram, left_out, front, *v, *u);
                     let last = Last {
                         node: *v,
                         utility: *u,
                         row_step: row_step(diagram, *u, *v),
                         cell_step: cell_step(diagram, left_out, *v),
+                        before,
                     };
                     return (front, Some(last));
                 }

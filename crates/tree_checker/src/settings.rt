@@ -3,7 +3,26 @@
 use maid_model::{Diagram, Profile};
 use node_sets::NodeSet;
 
-/// A node that weighs something, with one utility after it, at the end of a walk.
+/// What the last steps of a walk look at in a world, or how much further that is for each further state of a node.
+#[derive(Clone, Copy, Drop)]
+pub(crate) struct Places {
+    /// The place among the factors of the last node that weighs something.
+    pub factor: usize,
+    /// The row of the utility after it.
+    pub row: usize,
+    /// The cell of the decision left out.
+    pub cell: usize,
+}
+
+/// A node that weighs something, right before the last one that does.
+#[derive(Clone, Copy, Drop)]
+pub(crate) struct Before {
+    pub node: usize,
+    /// How much further the last node's places are for each further state of this one.
+    pub steps: Places,
+}
+
+/// A node that weighs something, with one marked utility after it, at the end of a walk.
 #[derive(Clone, Copy, Drop)]
 pub(crate) struct Last {
     pub node: usize,
@@ -12,6 +31,8 @@ pub(crate) struct Last {
     pub row_step: usize,
     /// How many cells further the cell of the decision left out is.
     pub cell_step: usize,
+    /// The node before it, where that weighs something too.
+    pub before: Option<Before>,
 }
 
 /// A diagram under a profile, and what is summed over its worlds.
@@ -27,6 +48,6 @@ pub(crate) struct Setting<'a> {
     pub left_out: usize,
     /// The utilities that come last.
     pub tail: &'a [usize],
-    /// In place of the tail, where it is one utility: the node before it with that utility.
+    /// In place of the tail, where it is one marked utility: the nodes before it with that utility.
     pub last: Option<Last>,
 }

@@ -1,6 +1,6 @@
 //! Sums over worlds by a walk down the nodes, parents first: products and sums are carried from node to node.
 
-ghost use Rattle.std.specs.Prelude.{◌≡◌, ℕ, ◌*◌, ◌^◌, ◌<◌, ◌≤◌, ◌++◌, drop, max, IfOk, length, pos, ◌+ℤ◌, slice_index, slice_index_or, slice_set};
+ghost use Rattle.std.specs.Prelude.{◌≡◌, ℕ, ◌*◌, ◌^◌, ◌<◌, ◌≤◌, ◌++◌, drop, max, IfOk, length, pos, ◌+ℤ◌, slice_index, slice_index_or};
 ghost use Rattle.diagram_graph.specs.Cycles.{lists_in};
 ghost use Rattle.maid_model.specs.Diagrams.{IsDiagram, greatest_number};
 ghost use Rattle.maid_model.specs.Gains.{base_mass, greatest_utility};
@@ -10,7 +10,7 @@ ghost use Rattle.maid_model.specs.Profiles.{IsProfile};
 ghost use Rattle.maid_model.specs.Worlds.{IsWorld, world_of};
 ghost use Rattle.tree_checker.specs.Walks.{AreUtilities, HasRoom, IsDownward, IsEnding, IsSetting, ListsCells, ending, gain_with, mass_with};
 
-use crate::endings::value;
+use crate::endings::{set_state, value};
 use crate::factors::{all_factors, factor};
 use crate::lasts::{add_ending, split_last};
 use crate::settings::Setting;
@@ -18,14 +18,6 @@ use diagram_graph::topological;
 use maid_model::{Diagram, Kind, Profile, World};
 use node_sets::NodeSet;
 use std::alloc::{AllocError, Global};
-
-/// Gives the node another state.
-fn set_state(world: &mut World, v: usize, state: usize)
-    requires { v < length world.old }
-    ensures { world.new ≡ slice_set world.old v state }
-{
-    world.states[v] = state;
-}
 
 /// Adds to each cell what the worlds with other states of the listed nodes and of those of the ending have there: to
 /// `gains` the weights times the marked utilities, and to `masses` the weights. It goes once through the states of a
@@ -42,8 +34,8 @@ fn walk(
 )
     requires setting { IsSetting setting.now.diagram.now setting.now.profile.now
         (lists_in setting.now.factors.now) setting.now.marks.now setting.now.left_out }
-    requires ending { IsEnding setting.now.diagram.now.nodes setting.now.left_out setting.now.last
-        setting.now.tail.now }
+    requires ending { IsEnding setting.now.diagram.now.nodes setting.now.left_out
+        setting.now.marks.now setting.now.last setting.now.tail.now }
     requires order { IsDownward setting.now.diagram.now.nodes
         (order.now ++ ending setting.now.last setting.now.tail.now) }
     requires world { IsWorld (counts_of setting.now.diagram.now.nodes) world.old }
@@ -157,7 +149,7 @@ pub(crate) fn cells_over(
     let factors = all_factors(alloc, diagram, profile, left_out)?;
     let nodes = topological(alloc, diagram)?;
     let (order, tail) = nodes.split_at(weighed(diagram, &nodes));
-    let (front, last) = split_last(diagram, left_out, order, tail);
+    let (front, last) = split_last(diagram, marks, left_out, order, tail);
     let setting = Setting {
         diagram,
         profile,

@@ -26,10 +26,10 @@ returns-then-not-next_choices c =
     let within : c.key_of.result < length (choice_lists nodes) = subst (λ l. c.key_of.result < length (worlds l)) counts c.key_of.ensures.within in
     let fits : FitsSigned w128 c.in_ok-gain_under.field-0 = search rules in
     let gains = c.in_ok-push.ensures.items ∙ ap (λ z. c.profiles.gains.items ++ z ∷ []) (to_z-of_z w128 c.in_ok-gain_under.field-0 fits) in
-    let gain : c.in_ok-gain_under.field-0 ≡ part_gain nodes c.args.agent c.profiles.choices.items = c.in_ok-gain_under.ensures.gain ∙ ap (part_gain nodes c.args.agent) c.deref-in-profiles.ensures.value in
+    let gain : c.in_ok-gain_under.field-0 ≡ part_gain nodes c.args.agent c.profiles.choices.items = c.in_ok-gain_under.ensures ∙ ap (part_gain nodes c.args.agent) c.deref-in-profiles.ensures.value in
     let all : c.deref-in-profiles-5.result.now ≡ counts_for nodes = c.deref-in-profiles-5.ensures.value ∙ c.requires.game.counts_are in
     last_row nodes c.args.agent c.profiles.keys.items c.push-in-profiles.new.self.items c.profiles.gains.items c.push.new.self.items c.profiles.choices.items c.key_of.result c.in_ok-gain_under.field-0
-    c.profiles.invariant.0 c.in_ok-push-2.ensures.items gains key gain within
+    c.profiles.invariant c.in_ok-push-2.ensures.items gains key gain within
     (subst (λ xs. worlds_from (counts_for nodes) xs ≡ xs ∷ []) c.deref_mut.ensures.value (subst (λ l. worlds_from l c.deref_mut.result.now ≡ c.deref_mut.result.now ∷ []) all (c.if-not-next_choices.ensures.last refl)))
 
 pub profiles-preserved : goal.profiles-preserved
@@ -41,14 +41,12 @@ profiles-preserved c =
     let within : c.key_of.result < length (choice_lists nodes) = subst (λ l. c.key_of.result < length (worlds l)) counts c.key_of.ensures.within in
     let fits : FitsSigned w128 c.in_ok-gain_under.field-0 = search rules in
     let gains = c.in_ok-push.ensures.items ∙ ap (λ z. c.profiles.gains.items ++ z ∷ []) (to_z-of_z w128 c.in_ok-gain_under.field-0 fits) in
-    let gain : c.in_ok-gain_under.field-0 ≡ part_gain nodes c.args.agent c.profiles.choices.items = c.in_ok-gain_under.ensures.gain ∙ ap (part_gain nodes c.args.agent) c.deref-in-profiles.ensures.value in
+    let gain : c.in_ok-gain_under.field-0 ≡ part_gain nodes c.args.agent c.profiles.choices.items = c.in_ok-gain_under.ensures ∙ ap (part_gain nodes c.args.agent) c.deref-in-profiles.ensures.value in
     let all : c.deref-in-profiles-5.result.now ≡ counts_for nodes = c.deref-in-profiles-5.ensures.value ∙ c.requires.game.counts_are in
     let new = c.next_choices.new.choices in
     let world : IsWorld (counts_for nodes) new = subst (λ l. IsWorld l new) all c.if-not-next_choices.ensures.world in
-    let whole = written c.profiles.choices.len new c.profiles.choices.items (world.len ∙ sym c.profiles.invariant.0.world.len) (search rules) in (
-      subst (TableSoFar nodes c.args.agent c.push-in-profiles.new.self.items c.push.new.self.items) (sym whole)
-          (one_row nodes c.args.agent c.profiles.keys.items c.push-in-profiles.new.self.items c.profiles.gains.items c.push.new.self.items c.profiles.choices.items c.key_of.result c.in_ok-gain_under.field-0
-          c.profiles.invariant.0 c.in_ok-push-2.ensures.items gains key gain within new world
-          (subst (λ xs. worlds_from (counts_for nodes) xs ≡ xs ∷ worlds_from (counts_for nodes) new) c.deref_mut.ensures.value (subst (λ l. worlds_from l c.deref_mut.result.now ≡ c.deref_mut.result.now ∷ worlds_from l new) all (c.if-not-next_choices.ensures.more refl)))),
-      c.in_ok-gain_under.ensures.again ∙ c.profiles.invariant.1,
-    )
+    let whole = written c.profiles.choices.len new c.profiles.choices.items (world.len ∙ sym c.profiles.invariant.world.len) (search rules) in
+    subst (TableSoFar nodes c.args.agent c.push-in-profiles.new.self.items c.push.new.self.items) (sym whole)
+    (one_row nodes c.args.agent c.profiles.keys.items c.push-in-profiles.new.self.items c.profiles.gains.items c.push.new.self.items c.profiles.choices.items c.key_of.result c.in_ok-gain_under.field-0
+    c.profiles.invariant c.in_ok-push-2.ensures.items gains key gain within new world
+    (subst (λ xs. worlds_from (counts_for nodes) xs ≡ xs ∷ worlds_from (counts_for nodes) new) c.deref_mut.ensures.value (subst (λ l. worlds_from l c.deref_mut.result.now ≡ c.deref_mut.result.now ∷ worlds_from l new) all (c.if-not-next_choices.ensures.more refl))))

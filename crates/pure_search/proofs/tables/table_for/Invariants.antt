@@ -1,5 +1,5 @@
-use Rattle.std.proofs.Common.{◌≡◌, length}
-use Rattle.maid_model.specs.Worlds.{first_world, worlds_from}
+use Rattle.std.proofs.Common.{length}
+use Rattle.maid_model.specs.Worlds.{worlds_from}
 use Rattle.pure_search.specs.Games.{counts_for}
 use Rattle.pure_search.proofs.Tabled.{TableSoFar}
 use Rattle.pure_search.proofs.tables.table_for.Given as goal
@@ -8,7 +8,6 @@ use Rattle.pure_search.proofs.tables.table_for.Given as goal
 abbrev pub invariant-profiles : goal.invariant-profiles
 invariant-profiles l =
     TableSoFar l.diagram.nodes l.agent l.keys.items l.gains.items l.choices.items
-    × (l.world ≡ first_world (length l.part.diagram.nodes))
 
 -- each turn goes on in the list
 abbrev pub decreases-profiles : goal.decreases-profiles

@@ -9,13 +9,13 @@ use Rattle.pure_search.proofs.worths.worth.Goals as goal
 pub rules_in_part-requires-clause-kept : goal.rules_in_part-requires-clause-kept
 rules_in_part-requires-clause-kept c = scope_kept c.args.diagram.now.nodes c.args.agent c.deref.result.now c.count-count.ensures.diagram.graph (c.deref.ensures.value ∙ c.in_ok-part.ensures.nodes)
 
-pub leaf_sum-sum-requires-clause-profile : goal.leaf_sum-sum-requires-clause-profile
-leaf_sum-sum-requires-clause-profile c =
+pub gain_over-requires-clause-profile : goal.gain_over-requires-clause-profile
+gain_over-requires-clause-profile c =
     (weighed c.args.diagram.now c.args.chosen.now c.args.agent c.count-count.ensures.diagram c.requires.bound c.requires.chosen c.requires.pure c.requires.agent
     c.in_ok-part.part.diagram c.deref.result.now c.in_ok-rules.rules c.in_ok-part.ensures.diagram (c.deref.ensures.value ∙ c.in_ok-part.ensures.nodes) c.in_ok-rules.ensures).profile
 
-pub leaf_sum-sum-requires-clause-fits : goal.leaf_sum-sum-requires-clause-fits
-leaf_sum-sum-requires-clause-fits c =
+pub gain_over-requires-clause-fits : goal.gain_over-requires-clause-fits
+gain_over-requires-clause-fits c =
     (weighed c.args.diagram.now c.args.chosen.now c.args.agent c.count-count.ensures.diagram c.requires.bound c.requires.chosen c.requires.pure c.requires.agent
     c.in_ok-part.part.diagram c.deref.result.now c.in_ok-rules.rules c.in_ok-part.ensures.diagram (c.deref.ensures.value ∙ c.in_ok-part.ensures.nodes) c.in_ok-rules.ensures).fits
 
@@ -47,8 +47,8 @@ returns c =
     let told = (weighed c.args.diagram.now c.args.chosen.now c.args.agent c.count-count.ensures.diagram c.requires.bound c.requires.chosen c.requires.pure c.requires.agent
     c.in_ok-part.part.diagram c.deref.result.now c.in_ok-rules.rules c.in_ok-part.ensures.diagram (c.deref.ensures.value ∙ c.in_ok-part.ensures.nodes) c.in_ok-rules.ensures).worth in
     let same : c.mass_of-mass.result * c.scale_of.result ≡ mass c.in_ok-part.part.diagram.nodes c.in_ok-rules.rules * 10 ^ c.args.diagram.now.decimals = (λ i. c.mass_of-mass.ensures i * c.scale_of.ensures.scale i) in
-    let fits : FitsSigned w128 c.leaf_sum-sum.result = search rules in
-    let sum : to_z w128 (of_z w128 c.leaf_sum-sum.result) ≡ gain_of c.in_ok-part.part.diagram.nodes c.in_ok-rules.rules c.args.agent = to_z-of_z w128 c.leaf_sum-sum.result fits ∙ c.leaf_sum-sum.ensures.sum in
+    let fits : FitsSigned w128 c.in_ok-sum.sum = search rules in
+    let sum : to_z w128 (of_z w128 c.in_ok-sum.sum) ≡ gain_of c.in_ok-part.part.diagram.nodes c.in_ok-rules.rules c.args.agent = to_z-of_z w128 c.in_ok-sum.sum fits ∙ c.in_ok-sum.ensures.sum in
     told c.fraction.result
     (subst (IsFraction c.fraction.result (gain_of c.in_ok-part.part.diagram.nodes c.in_ok-rules.rules c.args.agent)) same
     (subst (λ n. IsFraction c.fraction.result n (c.mass_of-mass.result * c.scale_of.result)) sum c.fraction.ensures))

@@ -7,12 +7,12 @@ use Rattle.tree_checker.proofs.WalkOpened.{room_same}
 use Rattle.tree_checker.proofs.WalkTails.{ended_gain, ended_mass, tail_room}
 use Rattle.tree_checker.proofs.lasts.add_ending.Goals as goal
 
-pub add_states-requires : goal.add_states-requires
-add_states-requires c =
+pub add_last-requires : goal.add_last-requires
+add_last-requires c =
     let same_sum : to_z w128 (of_z w128 c.args.utility) ≡ c.args.utility = to_z-of_z w128 c.args.utility (search rules) in
     record {
       setting = c.requires.setting;
-      last = (subst (λ l. IsEnding c.args.setting.now.diagram.now.nodes c.args.setting.now.left_out l c.args.setting.now.tail.now) c.in-Some.is c.requires.ending);
+      last = (subst (λ l. IsEnding c.args.setting.now.diagram.now.nodes c.args.setting.now.left_out c.args.setting.now.marks.now l c.args.setting.now.tail.now) c.in-Some.is c.requires.ending);
       order = (subst (λ l. IsDownward c.args.setting.now.diagram.now.nodes (ending l c.args.setting.now.tail.now)) c.in-Some.is c.requires.order);
       world = c.requires.world;
       gains = c.requires.gains;
@@ -38,21 +38,23 @@ pub returns-in-Some : goal.returns-in-Some
 returns-in-Some c =
     let same_sum : to_z w128 (of_z w128 c.args.utility) ≡ c.args.utility = to_z-of_z w128 c.args.utility (search rules) in
     record {
-      gains = λ cell. c.add_states.ensures.gains cell ∙ (λ i. slice_index_or c.args.gains.now cell (pos 0) +ℤ gain_with c.args.setting.now.diagram.now.nodes c.args.setting.now.profile.now c.args.setting.now.left_out c.args.setting.now.marks.now (ending (sym c.in-Some.is i) c.args.setting.now.tail.now) c.args.product (same_sum i) cell (world_of c.args.world.now));
-      masses = λ cell. c.add_states.ensures.masses cell ∙ (λ i. pos (slice_index c.args.masses.now cell) +ℤ mass_with c.args.setting.now.diagram.now.nodes c.args.setting.now.profile.now c.args.setting.now.left_out (ending (sym c.in-Some.is i) c.args.setting.now.tail.now) c.args.product cell (world_of c.args.world.now));
-      gain_count = c.add_states.ensures.gain_count;
-      mass_count = c.add_states.ensures.mass_count;
+      again = c.add_last.ensures.again;
+      gains = λ cell. c.add_last.ensures.gains cell ∙ (λ i. slice_index_or c.args.gains.now cell (pos 0) +ℤ gain_with c.args.setting.now.diagram.now.nodes c.args.setting.now.profile.now c.args.setting.now.left_out c.args.setting.now.marks.now (ending (sym c.in-Some.is i) c.args.setting.now.tail.now) c.args.product (same_sum i) cell (world_of c.args.world.now));
+      masses = λ cell. c.add_last.ensures.masses cell ∙ (λ i. pos (slice_index c.args.masses.now cell) +ℤ mass_with c.args.setting.now.diagram.now.nodes c.args.setting.now.profile.now c.args.setting.now.left_out (ending (sym c.in-Some.is i) c.args.setting.now.tail.now) c.args.product cell (world_of c.args.world.now));
+      gain_count = c.add_last.ensures.gain_count;
+      mass_count = c.add_last.ensures.mass_count;
     }
 
 pub returns-in-None : goal.returns-in-None
 returns-in-None c =
     let same_sum : to_z w128 (of_z w128 c.args.utility) ≡ c.args.utility = to_z-of_z w128 c.args.utility (search rules) in
     record {
+      again = λ i. c.args.world.now;
       gains = λ cell. c.add_world.ensures.gains cell
-          ∙ ap (λ z. slice_index_or c.args.gains.now cell (pos 0) +ℤ z) (ended_gain c.args.setting.now.diagram.now c.requires.setting.diagram c.args.setting.now.profile.now c.requires.setting.profile c.args.setting.now.left_out c.args.setting.now.marks.now c.requires.setting.marked [] c.args.setting.now.tail.now refl (subst (λ l. IsEnding c.args.setting.now.diagram.now.nodes c.args.setting.now.left_out l c.args.setting.now.tail.now) c.in-None.is c.requires.ending) (subst (λ l. IsDownward c.args.setting.now.diagram.now.nodes (ending l c.args.setting.now.tail.now)) c.in-None.is c.requires.order) c.args.product c.args.utility (to_z w128 (of_z w128 c.args.utility)) same_sum c.args.world.now c.requires.world c.args.gains.now c.args.masses.now (subst (λ l. HasRoom c.args.setting.now.diagram.now.nodes c.args.setting.now.profile.now c.args.setting.now.left_out (ending l c.args.setting.now.tail.now) c.args.product c.args.utility c.args.gains.now c.args.masses.now) c.in-None.is c.requires.room) cell)
+          ∙ ap (λ z. slice_index_or c.args.gains.now cell (pos 0) +ℤ z) (ended_gain c.args.setting.now.diagram.now c.requires.setting.diagram c.args.setting.now.profile.now c.requires.setting.profile c.args.setting.now.left_out c.args.setting.now.marks.now c.requires.setting.marked [] c.args.setting.now.tail.now refl (subst (λ l. IsEnding c.args.setting.now.diagram.now.nodes c.args.setting.now.left_out c.args.setting.now.marks.now l c.args.setting.now.tail.now) c.in-None.is c.requires.ending) (subst (λ l. IsDownward c.args.setting.now.diagram.now.nodes (ending l c.args.setting.now.tail.now)) c.in-None.is c.requires.order) c.args.product c.args.utility (to_z w128 (of_z w128 c.args.utility)) same_sum c.args.world.now c.requires.world c.args.gains.now c.args.masses.now (subst (λ l. HasRoom c.args.setting.now.diagram.now.nodes c.args.setting.now.profile.now c.args.setting.now.left_out (ending l c.args.setting.now.tail.now) c.args.product c.args.utility c.args.gains.now c.args.masses.now) c.in-None.is c.requires.room) cell)
           ∙ (λ i. slice_index_or c.args.gains.now cell (pos 0) +ℤ gain_with c.args.setting.now.diagram.now.nodes c.args.setting.now.profile.now c.args.setting.now.left_out c.args.setting.now.marks.now (ending (sym c.in-None.is i) c.args.setting.now.tail.now) c.args.product c.args.utility cell (world_of c.args.world.now));
       masses = λ cell. c.add_world.ensures.masses cell
-          ∙ ap (λ z. pos (slice_index c.args.masses.now cell) +ℤ z) (ended_mass c.args.setting.now.diagram.now c.requires.setting.diagram c.args.setting.now.profile.now c.requires.setting.profile c.args.setting.now.left_out c.args.setting.now.marks.now c.requires.setting.marked [] c.args.setting.now.tail.now refl (subst (λ l. IsEnding c.args.setting.now.diagram.now.nodes c.args.setting.now.left_out l c.args.setting.now.tail.now) c.in-None.is c.requires.ending) (subst (λ l. IsDownward c.args.setting.now.diagram.now.nodes (ending l c.args.setting.now.tail.now)) c.in-None.is c.requires.order) c.args.product c.args.utility c.args.world.now c.requires.world c.args.gains.now c.args.masses.now (subst (λ l. HasRoom c.args.setting.now.diagram.now.nodes c.args.setting.now.profile.now c.args.setting.now.left_out (ending l c.args.setting.now.tail.now) c.args.product c.args.utility c.args.gains.now c.args.masses.now) c.in-None.is c.requires.room) cell)
+          ∙ ap (λ z. pos (slice_index c.args.masses.now cell) +ℤ z) (ended_mass c.args.setting.now.diagram.now c.requires.setting.diagram c.args.setting.now.profile.now c.requires.setting.profile c.args.setting.now.left_out c.args.setting.now.marks.now c.requires.setting.marked [] c.args.setting.now.tail.now refl (subst (λ l. IsEnding c.args.setting.now.diagram.now.nodes c.args.setting.now.left_out c.args.setting.now.marks.now l c.args.setting.now.tail.now) c.in-None.is c.requires.ending) (subst (λ l. IsDownward c.args.setting.now.diagram.now.nodes (ending l c.args.setting.now.tail.now)) c.in-None.is c.requires.order) c.args.product c.args.utility c.args.world.now c.requires.world c.args.gains.now c.args.masses.now (subst (λ l. HasRoom c.args.setting.now.diagram.now.nodes c.args.setting.now.profile.now c.args.setting.now.left_out (ending l c.args.setting.now.tail.now) c.args.product c.args.utility c.args.gains.now c.args.masses.now) c.in-None.is c.requires.room) cell)
           ∙ (λ i. pos (slice_index c.args.masses.now cell) +ℤ mass_with c.args.setting.now.diagram.now.nodes c.args.setting.now.profile.now c.args.setting.now.left_out (ending (sym c.in-None.is i) c.args.setting.now.tail.now) c.args.product cell (world_of c.args.world.now));
       gain_count = c.add_world.ensures.gain_count;
       mass_count = c.add_world.ensures.mass_count;
