@@ -1,12 +1,12 @@
 //! What the last nodes of a walk add.
 
 ghost use Rattle.std.specs.Prelude.{◌≡◌, ℕ, ◌+◌, ◌*◌, ◌<◌, ◌≤◌, ◌++◌, [], ◌∷◌, length, nat_abs, pos, ◌+ℤ◌, ◌*ℤ◌, slice_index, slice_index_or, ◌==◌, if◌then◌else◌};
-ghost use Rattle.diagram_graph.specs.Cycles.{lists_in};
-ghost use Rattle.maid_model.specs.Nodes.{counts_of, rows_of, states_of};
+ghost use Rattle.maid_model.specs.Nodes.{counts_of};
 ghost use Rattle.maid_model.specs.Diagrams.{greatest_number};
 ghost use Rattle.maid_model.specs.Private.{MarksUtilities};
 ghost use Rattle.maid_model.specs.Worlds.{IsWorld, world_of};
-ghost use Rattle.tree_checker.specs.Walks.{ArePlaces, AreUtilities, HasRoom, IsBefore, IsDownward, IsEnding, IsLast, IsSetting, MayBeBefore, ending, gain_with, mass_with, with_before};
+ghost use Rattle.tree_checker.specs.Settings.{AddsGains, AddsMasses, HasRoomIn, HoldsSetting, IsCellCount};
+ghost use Rattle.tree_checker.specs.Walks.{ArePlaces, AreUtilities, IsBefore, IsDownward, IsEnding, IsLast, MayBeBefore, ending, with_before};
 
 use crate::endings::{add_to_cell, add_world, place, set_state};
 use crate::factors::factor;
@@ -17,8 +17,7 @@ use node_sets::NodeSet;
 
 /// The places of the worlds that differ from this one by having the last weighing node in its first state.
 fn places_at(setting: &Setting, last: &Last, world: &World) -> Places
-    requires setting { IsSetting setting.now.diagram.now setting.now.profile.now
-        (lists_in setting.now.factors.now) setting.now.marks.now setting.now.left_out }
+    requires setting { HoldsSetting setting.now }
     requires last { IsLast setting.now.diagram.now.nodes setting.now.left_out setting.now.marks.now
         last.now }
     requires node { last.now.node < length setting.now.diagram.now.nodes }
@@ -96,8 +95,7 @@ fn add_states(
     gains: &mut [i128],
     masses: &mut [u128],
 )
-    requires setting { IsSetting setting.now.diagram.now setting.now.profile.now
-        (lists_in setting.now.factors.now) setting.now.marks.now setting.now.left_out }
+    requires setting { HoldsSetting setting.now }
     requires last { IsLast setting.now.diagram.now.nodes setting.now.left_out setting.now.marks.now
         last.now }
     requires order { IsDownward setting.now.diagram.now.nodes
@@ -105,22 +103,14 @@ fn add_states(
     requires world { IsWorld (counts_of setting.now.diagram.now.nodes) world.now }
     requires places { ArePlaces setting.now.diagram.now.nodes setting.now.left_out last.now.node
         last.now.utility (world_of world.now) places }
-    requires gains { length gains.old ≡ rows_of setting.now.diagram.now.nodes setting.now.left_out
-        * states_of setting.now.diagram.now.nodes setting.now.left_out }
-    requires masses { length masses.old ≡ rows_of setting.now.diagram.now.nodes setting.now.left_out
-        * states_of setting.now.diagram.now.nodes setting.now.left_out }
-    requires room { HasRoom setting.now.diagram.now.nodes setting.now.profile.now
-        setting.now.left_out (last.now.node ∷ last.now.utility ∷ []) product
-        utility gains.old masses.old }
-    ensures gains { (c : ℕ) → slice_index_or gains.new c (pos 0)
-        ≡ slice_index_or gains.old c (pos 0) +ℤ gain_with setting.now.diagram.now.nodes
-        setting.now.profile.now setting.now.left_out setting.now.marks.now
-        (last.now.node ∷ last.now.utility ∷ []) product utility c
-        (world_of world.now) }
-    ensures masses { (c : ℕ) → pos (slice_index masses.new c)
-        ≡ pos (slice_index masses.old c) +ℤ mass_with setting.now.diagram.now.nodes
-        setting.now.profile.now setting.now.left_out
-        (last.now.node ∷ last.now.utility ∷ []) product c (world_of world.now) }
+    requires gains { IsCellCount setting.now (length gains.old) }
+    requires masses { IsCellCount setting.now (length masses.old) }
+    requires room { HasRoomIn setting.now (last.now.node ∷ last.now.utility ∷ []) product utility
+        gains.old masses.old }
+    ensures gains { AddsGains setting.now (last.now.node ∷ last.now.utility ∷ []) product utility
+        (world_of world.now) gains.old gains.new }
+    ensures masses { AddsMasses setting.now (last.now.node ∷ last.now.utility ∷ []) product
+        (world_of world.now) masses.old masses.new }
     ensures gain_count { length gains.new ≡ length gains.old }
     ensures mass_count { length masses.new ≡ length masses.old }
 {
@@ -154,8 +144,7 @@ fn add_pairs(
     gains: &mut [i128],
     masses: &mut [u128],
 )
-    requires setting { IsSetting setting.now.diagram.now setting.now.profile.now
-        (lists_in setting.now.factors.now) setting.now.marks.now setting.now.left_out }
+    requires setting { HoldsSetting setting.now }
     requires last { IsLast setting.now.diagram.now.nodes setting.now.left_out setting.now.marks.now
         last.now }
     requires before { IsBefore setting.now.diagram.now.nodes setting.now.left_out last.now.node
@@ -163,23 +152,16 @@ fn add_pairs(
     requires order { IsDownward setting.now.diagram.now.nodes
         (before.now.node ∷ last.now.node ∷ last.now.utility ∷ []) }
     requires world { IsWorld (counts_of setting.now.diagram.now.nodes) world.old }
-    requires gains { length gains.old ≡ rows_of setting.now.diagram.now.nodes setting.now.left_out
-        * states_of setting.now.diagram.now.nodes setting.now.left_out }
-    requires masses { length masses.old ≡ rows_of setting.now.diagram.now.nodes setting.now.left_out
-        * states_of setting.now.diagram.now.nodes setting.now.left_out }
-    requires room { HasRoom setting.now.diagram.now.nodes setting.now.profile.now
-        setting.now.left_out (before.now.node ∷ last.now.node ∷ last.now.utility ∷ []) product
-        utility gains.old masses.old }
+    requires gains { IsCellCount setting.now (length gains.old) }
+    requires masses { IsCellCount setting.now (length masses.old) }
+    requires room { HasRoomIn setting.now (before.now.node ∷ last.now.node ∷ last.now.utility ∷ [])
+        product utility gains.old masses.old }
     ensures again { world.new ≡ world.old }
-    ensures gains { (c : ℕ) → slice_index_or gains.new c (pos 0)
-        ≡ slice_index_or gains.old c (pos 0) +ℤ gain_with setting.now.diagram.now.nodes
-        setting.now.profile.now setting.now.left_out setting.now.marks.now
-        (before.now.node ∷ last.now.node ∷ last.now.utility ∷ []) product utility c
-        (world_of world.old) }
-    ensures masses { (c : ℕ) → pos (slice_index masses.new c)
-        ≡ pos (slice_index masses.old c) +ℤ mass_with setting.now.diagram.now.nodes
-        setting.now.profile.now setting.now.left_out
-        (before.now.node ∷ last.now.node ∷ last.now.utility ∷ []) product c (world_of world.old) }
+    ensures gains { AddsGains setting.now (before.now.node ∷ last.now.node ∷ last.now.utility ∷ [])
+        product utility (world_of world.old) gains.old gains.new }
+    ensures masses { AddsMasses setting.now
+        (before.now.node ∷ last.now.node ∷ last.now.utility ∷ []) product (world_of world.old)
+        masses.old masses.new }
     ensures gain_count { length gains.new ≡ length gains.old }
     ensures mass_count { length masses.new ≡ length masses.old }
 {
@@ -211,32 +193,24 @@ fn add_last(
     gains: &mut [i128],
     masses: &mut [u128],
 )
-    requires setting { IsSetting setting.now.diagram.now setting.now.profile.now
-        (lists_in setting.now.factors.now) setting.now.marks.now setting.now.left_out }
+    requires setting { HoldsSetting setting.now }
     requires last { IsLast setting.now.diagram.now.nodes setting.now.left_out setting.now.marks.now
         last.now }
     requires order { IsDownward setting.now.diagram.now.nodes
         (with_before last.now.before (last.now.node ∷ last.now.utility ∷ [])) }
     requires world { IsWorld (counts_of setting.now.diagram.now.nodes) world.old }
-    requires gains { length gains.old ≡ rows_of setting.now.diagram.now.nodes setting.now.left_out
-        * states_of setting.now.diagram.now.nodes setting.now.left_out }
-    requires masses { length masses.old ≡ rows_of setting.now.diagram.now.nodes setting.now.left_out
-        * states_of setting.now.diagram.now.nodes setting.now.left_out }
-    requires room { HasRoom setting.now.diagram.now.nodes setting.now.profile.now
-        setting.now.left_out
+    requires gains { IsCellCount setting.now (length gains.old) }
+    requires masses { IsCellCount setting.now (length masses.old) }
+    requires room { HasRoomIn setting.now
         (with_before last.now.before (last.now.node ∷ last.now.utility ∷ [])) product utility
         gains.old masses.old }
     ensures again { world.new ≡ world.old }
-    ensures gains { (c : ℕ) → slice_index_or gains.new c (pos 0)
-        ≡ slice_index_or gains.old c (pos 0) +ℤ gain_with setting.now.diagram.now.nodes
-        setting.now.profile.now setting.now.left_out setting.now.marks.now
-        (with_before last.now.before (last.now.node ∷ last.now.utility ∷ [])) product utility c
-        (world_of world.old) }
-    ensures masses { (c : ℕ) → pos (slice_index masses.new c)
-        ≡ pos (slice_index masses.old c) +ℤ mass_with setting.now.diagram.now.nodes
-        setting.now.profile.now setting.now.left_out
-        (with_before last.now.before (last.now.node ∷ last.now.utility ∷ [])) product c
-        (world_of world.old) }
+    ensures gains { AddsGains setting.now
+        (with_before last.now.before (last.now.node ∷ last.now.utility ∷ [])) product utility
+        (world_of world.old) gains.old gains.new }
+    ensures masses { AddsMasses setting.now
+        (with_before last.now.before (last.now.node ∷ last.now.utility ∷ [])) product
+        (world_of world.old) masses.old masses.new }
     ensures gain_count { length gains.new ≡ length gains.old }
     ensures mass_count { length masses.new ≡ length masses.old }
 {
@@ -262,29 +236,21 @@ pub(crate) fn add_ending(
     gains: &mut [i128],
     masses: &mut [u128],
 )
-    requires setting { IsSetting setting.now.diagram.now setting.now.profile.now
-        (lists_in setting.now.factors.now) setting.now.marks.now setting.now.left_out }
+    requires setting { HoldsSetting setting.now }
     requires ending { IsEnding setting.now.diagram.now.nodes setting.now.left_out
         setting.now.marks.now setting.now.last setting.now.tail.now }
     requires order { IsDownward setting.now.diagram.now.nodes
         (ending setting.now.last setting.now.tail.now) }
     requires world { IsWorld (counts_of setting.now.diagram.now.nodes) world.old }
-    requires gains { length gains.old ≡ rows_of setting.now.diagram.now.nodes setting.now.left_out
-        * states_of setting.now.diagram.now.nodes setting.now.left_out }
-    requires masses { length masses.old ≡ rows_of setting.now.diagram.now.nodes setting.now.left_out
-        * states_of setting.now.diagram.now.nodes setting.now.left_out }
-    requires room { HasRoom setting.now.diagram.now.nodes setting.now.profile.now
-        setting.now.left_out (ending setting.now.last setting.now.tail.now) product utility
-        gains.old masses.old }
+    requires gains { IsCellCount setting.now (length gains.old) }
+    requires masses { IsCellCount setting.now (length masses.old) }
+    requires room { HasRoomIn setting.now (ending setting.now.last setting.now.tail.now) product
+        utility gains.old masses.old }
     ensures again { world.new ≡ world.old }
-    ensures gains { (c : ℕ) → slice_index_or gains.new c (pos 0)
-        ≡ slice_index_or gains.old c (pos 0) +ℤ gain_with setting.now.diagram.now.nodes
-        setting.now.profile.now setting.now.left_out setting.now.marks.now
-        (ending setting.now.last setting.now.tail.now) product utility c (world_of world.old) }
-    ensures masses { (c : ℕ) → pos (slice_index masses.new c)
-        ≡ pos (slice_index masses.old c) +ℤ mass_with setting.now.diagram.now.nodes
-        setting.now.profile.now setting.now.left_out
-        (ending setting.now.last setting.now.tail.now) product c (world_of world.old) }
+    ensures gains { AddsGains setting.now (ending setting.now.last setting.now.tail.now) product
+        utility (world_of world.old) gains.old gains.new }
+    ensures masses { AddsMasses setting.now (ending setting.now.last setting.now.tail.now) product
+        (world_of world.old) masses.old masses.new }
     ensures gain_count { length gains.new ≡ length gains.old }
     ensures mass_count { length masses.new ≡ length masses.old }
 {

@@ -1,14 +1,14 @@
 //! Sums over worlds by a walk down the nodes, parents first: products and sums are carried from node to node.
 
-ghost use Rattle.std.specs.Prelude.{◌≡◌, ℕ, ◌*◌, ◌^◌, ◌<◌, ◌≤◌, ◌++◌, drop, max, IfOk, length, pos, ◌+ℤ◌, slice_index, slice_index_or};
-ghost use Rattle.diagram_graph.specs.Cycles.{lists_in};
+ghost use Rattle.std.specs.Prelude.{◌≡◌, ◌*◌, ◌^◌, ◌<◌, ◌≤◌, ◌++◌, drop, max, IfOk, length};
 ghost use Rattle.maid_model.specs.Diagrams.{IsDiagram, greatest_number};
 ghost use Rattle.maid_model.specs.Gains.{base_mass, greatest_utility};
 ghost use Rattle.maid_model.specs.Nodes.{counts_of, rows_of, states_of};
 ghost use Rattle.maid_model.specs.Private.{MarksUtilities};
 ghost use Rattle.maid_model.specs.Profiles.{IsProfile};
 ghost use Rattle.maid_model.specs.Worlds.{IsWorld, world_of};
-ghost use Rattle.tree_checker.specs.Walks.{AreUtilities, HasRoom, IsDownward, IsEnding, IsSetting, ListsCells, ending, gain_with, mass_with};
+ghost use Rattle.tree_checker.specs.Settings.{AddsGains, AddsMasses, HasRoomIn, HoldsSetting, IsCellCount};
+ghost use Rattle.tree_checker.specs.Walks.{AreUtilities, IsDownward, IsEnding, ListsCells, ending};
 
 use crate::endings::{set_state, value};
 use crate::factors::{all_factors, factor};
@@ -32,31 +32,24 @@ fn walk(
     gains: &mut [i128],
     masses: &mut [u128],
 )
-    requires setting { IsSetting setting.now.diagram.now setting.now.profile.now
-        (lists_in setting.now.factors.now) setting.now.marks.now setting.now.left_out }
+    requires setting { HoldsSetting setting.now }
     requires ending { IsEnding setting.now.diagram.now.nodes setting.now.left_out
         setting.now.marks.now setting.now.last setting.now.tail.now }
     requires order { IsDownward setting.now.diagram.now.nodes
         (order.now ++ ending setting.now.last setting.now.tail.now) }
     requires world { IsWorld (counts_of setting.now.diagram.now.nodes) world.old }
-    requires gains { length gains.old ≡ rows_of setting.now.diagram.now.nodes setting.now.left_out
-        * states_of setting.now.diagram.now.nodes setting.now.left_out }
-    requires masses { length masses.old ≡ rows_of setting.now.diagram.now.nodes setting.now.left_out
-        * states_of setting.now.diagram.now.nodes setting.now.left_out }
-    requires room { HasRoom setting.now.diagram.now.nodes setting.now.profile.now
-        setting.now.left_out (order.now ++ ending setting.now.last setting.now.tail.now) product
-        utility gains.old masses.old }
+    requires gains { IsCellCount setting.now (length gains.old) }
+    requires masses { IsCellCount setting.now (length masses.old) }
+    requires room { HasRoomIn setting.now
+        (order.now ++ ending setting.now.last setting.now.tail.now) product utility gains.old
+        masses.old }
     ensures again { world.new ≡ world.old }
-    ensures gains { (c : ℕ) → slice_index_or gains.new c (pos 0)
-        ≡ slice_index_or gains.old c (pos 0) +ℤ gain_with setting.now.diagram.now.nodes
-        setting.now.profile.now setting.now.left_out setting.now.marks.now
-        (order.now ++ ending setting.now.last setting.now.tail.now) product utility c
-        (world_of world.old) }
-    ensures masses { (c : ℕ) → pos (slice_index masses.new c)
-        ≡ pos (slice_index masses.old c) +ℤ mass_with setting.now.diagram.now.nodes
-        setting.now.profile.now setting.now.left_out
-        (order.now ++ ending setting.now.last setting.now.tail.now) product c
-        (world_of world.old) }
+    ensures gains { AddsGains setting.now
+        (order.now ++ ending setting.now.last setting.now.tail.now) product utility
+        (world_of world.old) gains.old gains.new }
+    ensures masses { AddsMasses setting.now
+        (order.now ++ ending setting.now.last setting.now.tail.now) product (world_of world.old)
+        masses.old masses.new }
     ensures gain_count { length gains.new ≡ length gains.old }
     ensures mass_count { length masses.new ≡ length masses.old }
 {

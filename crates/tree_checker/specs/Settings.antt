@@ -1,0 +1,34 @@
+-- What a walk finds in its setting, and what it adds to the gains and masses of the cells.
+use Rattle.std.specs.Prelude.{◌≡◌, ℕ, ◌*◌, List, slice_index, slice_index_or, ℤ, pos, ◌+ℤ◌}
+use Rattle.diagram_graph.specs.Cycles.{lists_in}
+use Rattle.finite_sums.specs.Sums.{World}
+use Rattle.maid_model.specs.Nodes.{rows_of, states_of}
+use Rattle.tree_checker.specs.Walks.{HasRoom, IsSetting, gain_with, mass_with}
+use Rattle.tree_checker.specs.declared.settings.Setting.{Setting}
+
+-- what the setting has is right
+abbrev pub HoldsSetting : Setting → Type 0
+HoldsSetting s =
+    IsSetting s.diagram.now s.profile.now (lists_in s.factors.now) s.marks.now s.left_out
+
+-- so many are the cells of the decision left out
+abbrev pub IsCellCount : Setting → ℕ → Type 0
+IsCellCount s n =
+    n ≡ rows_of s.diagram.now.nodes s.left_out * states_of s.diagram.now.nodes s.left_out
+
+-- what the listed nodes can still add fits
+abbrev pub HasRoomIn : Setting → List ℕ → ℕ → ℤ → List ℤ → List ℕ → Type 0
+HasRoomIn s vs product sum gains masses =
+    HasRoom s.diagram.now.nodes s.profile.now s.left_out vs product sum gains masses
+
+-- each cell's gain rises by weight times utilities, summed over the states of the listed nodes
+abbrev pub AddsGains : Setting → List ℕ → ℕ → ℤ → World → List ℤ → List ℤ → Type 0
+AddsGains s vs product utility w before after = (c : ℕ) → slice_index_or after c (pos 0)
+    ≡ slice_index_or before c (pos 0)
+    +ℤ gain_with s.diagram.now.nodes s.profile.now s.left_out s.marks.now vs product utility c w
+
+-- and each cell's mass by their weights
+abbrev pub AddsMasses : Setting → List ℕ → ℕ → World → List ℕ → List ℕ → Type 0
+AddsMasses s vs product w before after = (c : ℕ) → pos (slice_index after c)
+    ≡ pos (slice_index before c)
+    +ℤ mass_with s.diagram.now.nodes s.profile.now s.left_out vs product c w
