@@ -4,7 +4,7 @@ ghost use Rattle.std.specs.Prelude.{◌≡◌, ◌+◌, ◌-◌, ◌*◌, ◌%�
 ghost use Rattle.std.specs.Int.{w128, cast_unsigned};
 ghost use Rattle.cell_rings.specs.Rings.{mass_ring};
 ghost use Rattle.cell_rings.specs.Sums.{cell_at, run_sum, Adds, HasRoom};
-ghost use Rattle.cell_rings.specs.Words.{AreWords};
+ghost use Rattle.cell_rings.specs.Words.{whole, AreWords};
 ghost use Rattle.cell_rings.specs.KindLaws.{most_has_room, gain_laws, gain_sizes, at_most_itself, value_at_most};
 ghost use Rattle.cell_rings.specs.Kinds.{gain_kind, gain_of};
 
@@ -21,9 +21,9 @@ impl Cell for Gain {
 
     ghost of_value = { gain_of };
 
-    ghost bits = { λ a. cast_unsigned w128 a.0 };
+    ghost bits = { λ a. nat_abs a.0 };
 
-    ghost narrow = { 2 ^ 64 };
+    ghost narrow = { 2 ^ 63 };
 
     ghost laws = { gain_laws };
 
@@ -99,19 +99,28 @@ impl Cell for Gain {
         from: usize,
         beside: usize,
     ) {
-        if is_short(first) && is_short(second) {
-            add_two_halves(
+        if is_narrow(first) && is_narrow(second) {
+            add_two_words(
                 out,
                 at,
                 n,
-                first.0 as u64,
-                second.0 as u64,
+                in_word(first),
+                in_word(second),
                 cells,
                 from,
                 beside,
             )
         } else {
-            add_two_long(out, at, n, first, second, cells, from, beside)
+            add_two_split(
+                out,
+                at,
+                n,
+                in_words(first),
+                in_words(second),
+                cells,
+                from,
+                beside,
+            )
         }
     }
 }
@@ -186,14 +195,14 @@ fn add_two_short(
     }
 }
 
-/// The same where all factors are from 0 and below 2^64, with one product of 64 bits.
+/// The same where all absolute values are below 2^63, with one product of 64 bits.
 #[inline(never)]
-fn add_two_halves(
+fn add_two_words(
     out: &mut [Gain],
     at: usize,
     n: usize,
-    first: u64,
-    second: u64,
+    first: Word,
+    second: Word,
     cells: &[Gain],
     from: usize,
     beside: usize,
@@ -203,17 +212,53 @@ fn add_two_halves(
     requires halves { AreWords cells.now from n }
     requires beside { AreWords cells.now beside n }
     requires room { HasRoom gain_kind out.old (run_sum mass_ring n at (λ i.
-        first * gain_kind.size (cell_at gain_kind cells.now (from + i))
-        + second * gain_kind.size (cell_at gain_kind cells.now (beside + i)))) }
+        nat_abs first.value * gain_kind.size (cell_at gain_kind cells.now (from + i))
+        + nat_abs second.value * gain_kind.size (cell_at gain_kind cells.now (beside + i)))) }
     ensures { Adds gain_kind
         (run_sum gain_kind n at (λ i.
         gain_kind.plus
-        (gain_kind.times (gain_of (pos first)) (cell_at gain_kind cells.now (from + i)))
-        (gain_kind.times (gain_of (pos second))
+        (gain_kind.times (gain_of first.value) (cell_at gain_kind cells.now (from + i)))
+        (gain_kind.times (gain_of second.value)
         (cell_at gain_kind cells.now (beside + i))))) out.old out.new }
 {
     for i in 0..n {
-        let both = half_product(first, cells[from + i]).add(half_product(
+        let both = word_product(first, cells[from + i]).add(word_product(
+            second,
+            cells[beside + i],
+        ));
+        out[at + i] = out[at + i].add(both);
+    }
+}
+
+/// The same where the cells' absolute values are below 2^63 and the factors are any, with two products of 64 bits in
+/// place of three.
+#[inline(never)]
+fn add_two_split(
+    out: &mut [Gain],
+    at: usize,
+    n: usize,
+    first: Split,
+    second: Split,
+    cells: &[Gain],
+    from: usize,
+    beside: usize,
+)
+    requires out { at + n ≤ length out.old }
+    requires cells { (from + n ≤ length cells.now) × (beside + n ≤ length cells.now) }
+    requires halves { AreWords cells.now from n }
+    requires beside { AreWords cells.now beside n }
+    requires room { HasRoom gain_kind out.old (run_sum mass_ring n at (λ i.
+        nat_abs (whole first) * gain_kind.size (cell_at gain_kind cells.now (from + i))
+        + nat_abs (whole second) * gain_kind.size (cell_at gain_kind cells.now (beside + i)))) }
+    ensures { Adds gain_kind
+        (run_sum gain_kind n at (λ i.
+        gain_kind.plus
+        (gain_kind.times (gain_of (whole first)) (cell_at gain_kind cells.now (from + i)))
+        (gain_kind.times (gain_of (whole second))
+        (cell_at gain_kind cells.now (beside + i))))) out.old out.new }
+{
+    for i in 0..n {
+        let both = split_product(first, cells[from + i]).add(split_product(
             second,
             cells[beside + i],
         ));
@@ -238,7 +283,7 @@ fn short_times(a: u64, b: u128) -> u128
     low.wrapping_add((high as u128) << 64)
 }
 
-/// Whether n cells from one on are from 0 and below 2^64. It looks at the upper words of all of them together.
+/// Whether the absolute values of n cells from one on are below 2^63. It looks at the bits of all of them together.
 fn are_halves(cells: &[Gain], from: usize, n: usize) -> bool
     requires { from + n ≤ length cells.now }
     ensures { IsTrue result → AreWords cells.now from n }
@@ -250,33 +295,78 @@ fn are_halves(cells: &[Gain], from: usize, n: usize) -> bool
     is_half(bits)
 }
 
-/// The bits of the number.
+/// The bits of the number's absolute value.
 fn bits_of(a: Gain) -> u128
-    ensures { result ≡ cast_unsigned w128 a.0 }
+    ensures { result ≡ nat_abs a.0 }
 {
-    a.0.cast_unsigned()
+    a.0.unsigned_abs()
 }
 
-/// Whether the bits are those of a number from 0 and below 2^64.
+/// Whether the bits are those of a number below 2^63.
 fn is_half(bits: u128) -> bool
-    ensures { IsTrue result → bits < 2 ^ 64 }
+    ensures { IsTrue result → bits < 2 ^ 63 }
 {
-    bits < 0x1_0000_0000_0000_0000
+    bits < 0x8000_0000_0000_0000
 }
 
-/// The product of a number below 2^64 with one from 0 and below 2^64.
-fn half_product(a: u64, b: Gain) -> Gain
-    requires half { cast_unsigned w128 b.0 < 2 ^ 64 }
-    requires room { a * nat_abs b.0 ≤ 2 ^ 127 - 1 }
-    ensures { result ≡ gain_of (pos a *ℤ b.0) }
+/// Whether the number's absolute value is below 2^63.
+fn is_narrow(a: Gain) -> bool
+    ensures { IsTrue result → nat_abs a.0 < 2 ^ 63 }
 {
-    Gain(half_times(a, bits_of(b)).cast_signed())
+    is_half(bits_of(a))
 }
 
-/// The product of two numbers below 2^64.
-fn half_times(a: u64, b: u128) -> u128
-    requires { b < 2 ^ 64 }
-    ensures { result ≡ a * b % 2 ^ 128 }
+/// A number whose absolute value is below 2^63, in one word.
+#[derive(Clone, Copy)]
+struct Word {
+    value: i64,
+}
+
+/// The number in one word.
+fn in_word(a: Gain) -> Word
+    requires { nat_abs a.0 < 2 ^ 63 }
+    ensures { result.value ≡ a.0 }
 {
-    a as u128 * (b & 0xffff_ffff_ffff_ffff)
+    Word { value: a.0 as i64 }
+}
+
+/// The product of a number in one word and one whose absolute value is below 2^63.
+fn word_product(a: Word, b: Gain) -> Gain
+    requires half { nat_abs b.0 < 2 ^ 63 }
+    requires room { nat_abs a.value * nat_abs b.0 ≤ 2 ^ 127 - 1 }
+    ensures { result ≡ gain_of (a.value *ℤ b.0) }
+{
+    Gain((a.value as i128).wrapping_mul(b.0 as i64 as i128))
+}
+
+/// A number in two words: the lower one, and how often 2^64 is added to that, each with a sign.
+#[derive(Clone, Copy)]
+struct Split {
+    low: i64,
+    high: i64,
+}
+
+/// The number in two words.
+fn in_words(a: Gain) -> Split
+    ensures { whole result ≡ a.0 }
+{
+    let bits = a.0.cast_unsigned();
+    let low = (bits & 0xffff_ffff_ffff_ffff) as u64;
+    let high = (bits >> 64) as u64;
+    Split {
+        low: low.cast_signed(),
+        high: high.wrapping_add(low >> 63).cast_signed(),
+    }
+}
+
+/// The product of a number and one whose absolute value is below 2^63. What passes 128 bits on the way falls away.
+fn split_product(a: Split, b: Gain) -> Gain
+    requires half { nat_abs b.0 < 2 ^ 63 }
+    requires room { nat_abs (whole a) * nat_abs b.0 ≤ 2 ^ 127 - 1 }
+    ensures { result ≡ gain_of (whole a *ℤ b.0) }
+{
+    let b = b.0 as i64 as i128;
+    let low = (a.low as i128).wrapping_mul(b);
+    let high = (a.high as i128).wrapping_mul(b);
+    Gain(low.wrapping_add(high.wrapping_mul(0x1_0000_0000_0000_0000)))
 }

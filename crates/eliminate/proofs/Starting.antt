@@ -84,8 +84,8 @@ pub utility_next : {C : Type 0} (c : Cells C) (nodes : List NodeView) (p : List 
     → utility ≡ Some u → Lists c nodes p before now slots (option_to_list utility) all → Lists c nodes p before now slots (u ∷ []) all
 utility_next c nodes p utility u all before now slots some lists = subst (λ o. Lists c nodes p before now slots (option_to_list o) all) some lists
 
--- there is a place for the next slot
+-- fewer are listed than there are in all
 pub next_place : {C : Type 0} (c : Cells C) (nodes : List NodeView) (p : List RuleView) (before now : WorkspaceView C) (live : List Slot) (count v : ℕ) (rest all : List ℕ)
-    → Lists c nodes p before now (take count live) (v ∷ rest) all → length all ≤ 256 → count ≤ 256 → length live ≡ 256 → count < length live
-next_place c nodes p before now live count v rest all lists few within long =
-    omega (arith, lists_count c nodes p before now (take count live) (v ∷ rest) all lists, length-take-le count live (omega (arith, within, long)))
+    → Lists c nodes p before now (take count live) (v ∷ rest) all → count ≤ length live → count < length all
+next_place c nodes p before now live count v rest all lists within =
+    omega (arith, lists_count c nodes p before now (take count live) (v ∷ rest) all lists, length-take-le count live within)

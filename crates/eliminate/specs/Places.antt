@@ -20,6 +20,11 @@ slot_holds [] v k = false
 slot_holds (s ∷ ss) v zero = holds s.scope v
 slot_holds (s ∷ ss) v (suc k) = slot_holds ss v k
 
+-- no node has a place
+abbrev pub IsBlank : List NodeSet → Type 0
+IsBlank at = (v k : ℕ) (none : NodeSet) → v < MOST_NODES
+    → holds (slice_index_or at v none) k ≡ false
+
 -- for each node the places of the slots that hold it
 abbrev pub Noted : List NodeSet → List Slot → Type 0
 Noted at slots = (v k : ℕ) (none : NodeSet) → v < MOST_NODES

@@ -4,7 +4,7 @@ ghost use Rattle.std.specs.Prelude.{◌≡◌, ◌+◌, ◌<◌, ◌≤◌, ◌�
 ghost use Rattle.node_sets.specs.declared.sets.NodeSet.{NodeSet};
 ghost use Rattle.node_sets.specs.declared.sets.TheConstants.{MOST_NODES};
 ghost use Rattle.node_sets.specs.Sets.{holds, IsIn};
-ghost use Rattle.eliminate.specs.Places.{slots_from, live_slots, Noted, IsBoard};
+ghost use Rattle.eliminate.specs.Places.{slots_from, live_slots, IsBlank, Noted, IsBoard};
 
 use crate::lists::before;
 use factor_core::Slot;
@@ -50,15 +50,30 @@ fn note_place(at: &mut [NodeSet], scope: &NodeSet, place: usize)
     }
 }
 
-/// Notes these slots, and no others.
-fn note_slots(at: &mut [NodeSet], slots: &[Slot])
+/// No place of any node.
+pub fn no_places() -> [NodeSet; MOST_NODES]
+    ensures { IsBlank result }
+{
+    [NodeSet::empty(); MOST_NODES]
+}
+
+/// Takes the places of all nodes away.
+fn clear(at: &mut [NodeSet])
     requires at { length at.old ≡ MOST_NODES }
-    requires slots { length slots.now ≤ MOST_NODES }
-    ensures { Noted at.new slots.now }
+    ensures { IsBlank at.new }
 {
     for v in 0..at.len() {
         at[v] = NodeSet::empty();
     }
+}
+
+/// Notes these slots, where none is noted.
+fn note_slots(at: &mut [NodeSet], slots: &[Slot])
+    requires at { length at.old ≡ MOST_NODES }
+    requires blank { IsBlank at.old }
+    requires slots { length slots.now ≤ MOST_NODES }
+    ensures { Noted at.new slots.now }
+{
     for place in 0..slots.len() {
         note_place(at, &slots[place].scope, place);
     }
@@ -76,11 +91,12 @@ fn numbers_below(count: usize) -> NodeSet
     set
 }
 
-/// The first `made` slots as live ones.
+/// The first `made` slots as live ones, where none is noted.
 pub fn all_live(slots: &[Slot], at: &mut [NodeSet], made: usize) -> Places
     requires made { made ≤ length slots.now }
     requires few { made ≤ MOST_NODES }
     requires at { length at.old ≡ MOST_NODES }
+    requires blank { IsBlank at.old }
     ensures made { result.made ≡ made }
     ensures board { IsBoard at.new slots.now result.live result.made }
     ensures live { live_slots result.live result.made slots.now ≡ take made slots.now }
@@ -95,10 +111,10 @@ pub fn all_live(slots: &[Slot], at: &mut [NodeSet], made: usize) -> Places
 /// Moves the live slots to the first places. It goes over another list.
 fn pack(slots: &mut [Slot], at: &mut [NodeSet], places: Places, spare: &mut [Slot]) -> Places
     requires board { IsBoard at.old slots.old places.live places.made }
-    requires made { places.made ≤ MOST_NODES }
-    requires slots { length slots.old ≡ MOST_NODES }
+    requires made { places.made ≤ length slots.old }
+    requires slots { length slots.old ≤ MOST_NODES }
     requires at { length at.old ≡ MOST_NODES }
-    requires spare { length spare.old ≡ MOST_NODES }
+    requires spare { length spare.old ≡ length slots.old }
     ensures board { IsBoard at.new slots.new result.live result.made }
     ensures made { result.made ≡ length (live_slots places.live places.made slots.old) }
     ensures live { live_slots result.live result.made slots.new
@@ -108,6 +124,7 @@ fn pack(slots: &mut [Slot], at: &mut [NodeSet], places: Places, spare: &mut [Slo
     for i in 0..count {
         slots[i] = spare[i];
     }
+    clear(at);
     all_live(slots, at, count)
 }
 
@@ -120,17 +137,17 @@ pub fn put_slot(
     slot: &Slot,
 ) -> Places
     requires board { IsBoard at.old slots.old places.live places.made }
-    requires made { places.made ≤ MOST_NODES }
-    requires few { length (live_slots places.live places.made slots.old) < MOST_NODES }
-    requires slots { length slots.old ≡ MOST_NODES }
+    requires made { places.made ≤ length slots.old }
+    requires few { length (live_slots places.live places.made slots.old) < length slots.old }
+    requires slots { length slots.old ≤ MOST_NODES }
     requires at { length at.old ≡ MOST_NODES }
-    requires spare { length spare.old ≡ MOST_NODES }
+    requires spare { length spare.old ≡ length slots.old }
     ensures board { IsBoard at.new slots.new result.live result.made }
-    ensures made { result.made ≤ MOST_NODES }
+    ensures made { result.made ≤ length slots.old }
     ensures live { live_slots result.live result.made slots.new
         ≡ live_slots places.live places.made slots.old ++ slot.now ∷ [] }
 {
-    if places.made == MOST_NODES {
+    if places.made == slots.len() {
         let packed = pack(slots, at, places, spare);
         put_behind(slots, at, packed, slot)
     } else {
@@ -141,8 +158,8 @@ pub fn put_slot(
 /// Puts the slot behind the live ones, at the next place.
 fn put_behind(slots: &mut [Slot], at: &mut [NodeSet], places: Places, slot: &Slot) -> Places
     requires board { IsBoard at.old slots.old places.live places.made }
-    requires made { places.made < MOST_NODES }
-    requires slots { length slots.old ≡ MOST_NODES }
+    requires made { places.made < length slots.old }
+    requires slots { length slots.old ≤ MOST_NODES }
     requires at { length at.old ≡ MOST_NODES }
     ensures board { IsBoard at.new slots.new result.live result.made }
     ensures made { result.made ≡ places.made + 1 }

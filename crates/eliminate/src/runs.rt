@@ -14,12 +14,15 @@ ghost use Rattle.eliminate.specs.Steps.{CanJoinOut, GiveWay};
 
 use crate::firsts::first_tables;
 use crate::lists::{before, blank_slot};
-use crate::places::{Places, all_live, gather, places_of, put_slot};
+use crate::places::{Places, all_live, gather, no_places, places_of, put_slot};
 use cell_rings::Cell;
 use factor_core::{Slot, StateCounts, Workspace};
 use maid_model::{Diagram, Profile};
 use node_sets::{MOST_NODES, NodeSet};
 use size_precheck::Plan;
+
+/// Up to how many nodes short lists of slots do, which are blanked sooner.
+const FEW: usize = 64;
 
 /// Ends all tables of the workspace: no cell is left, and there is as much room as after `reserve`. It takes no memory.
 pub fn release<C: Cell>(work: &mut Workspace<C>)
@@ -42,15 +45,15 @@ pub fn eliminate<C: Cell>(
     requires diagram { IsDiagram diagram.now }
     requires counts { counts.now ≡ counts_of diagram.now.nodes }
     requires board { IsBoard at.old slots.old places.live places.made }
-    requires made { places.made ≤ MOST_NODES }
-    requires slots { length slots.old ≡ MOST_NODES }
+    requires made { places.made ≤ length slots.old }
+    requires slots { length slots.old ≤ MOST_NODES }
     requires at { length at.old ≡ MOST_NODES }
-    requires joined { length joined.old ≡ MOST_NODES }
+    requires joined { length joined.old ≡ length slots.old }
     requires node { node < MOST_NODES }
     requires join { CanJoinOut C.ring diagram.now.nodes work.old
         (live_slots places.live places.made slots.old) node }
     ensures board { IsBoard at.new slots.new result.live result.made }
-    ensures made { result.made ≤ MOST_NODES }
+    ensures made { result.made ≤ length slots.old }
     ensures step { GiveWay C.ring diagram.now.nodes work.old work.new
         (live_slots places.live places.made slots.old)
         (live_slots result.live result.made slots.new) node }
@@ -63,6 +66,87 @@ pub fn eliminate<C: Cell>(
         made: places.made,
     };
     put_slot(slots, at, left, joined, &slot)
+}
+
+/// The run of the plan with these lists to write its slots into. A plan has one table at most for each node, and no step
+/// leaves more than it found.
+fn run_with<C: Cell>(
+    work: &mut Workspace<C>,
+    plan: &Plan,
+    diagram: &Diagram,
+    profile: &Profile,
+    slots: &mut [Slot],
+    joined: &mut [Slot],
+) -> Slot
+    requires nodes { length diagram.now.nodes ≤ length slots.old }
+    requires slots { length slots.old ≤ MOST_NODES }
+    requires joined { length joined.old ≡ length slots.old }
+    requires asked { CanBePlanned diagram.now.nodes plan.now.plan }
+    requires made { IsMade diagram.now.nodes plan.now.plan plan.now }
+    requires counted { plan.now.size.cells < COUNT_END }
+    requires room { plan.now.size.cells ≤ work.old.spare }
+    requires profile { IsProfile diagram.now.nodes profile.now }
+    requires fits { 2 * plan_total diagram.now.nodes profile.now plan.now.plan ≤ C.ring.most }
+    ensures { SumsPlan (cells_by C.ring C.of_weight C.of_value) diagram.now.nodes profile.now
+        plan.now work.old work.new result }
+{
+    let counts = StateCounts::of(diagram);
+    let mut at = no_places();
+    let count = first_tables(work, plan, diagram, &counts, profile, slots);
+    let mut places = all_live(slots, &mut at, count);
+    for node in plan.steps() {
+        places = eliminate(
+            work, diagram, &counts, slots, &mut at, joined, places, *node,
+        );
+    }
+    let count = gather(before(slots, places.made), &places.live, joined);
+    work.product(diagram, &counts, before(joined, count))
+}
+
+/// The run of a plan over few nodes, with short lists.
+#[inline(never)]
+fn run_few<C: Cell>(
+    work: &mut Workspace<C>,
+    plan: &Plan,
+    diagram: &Diagram,
+    profile: &Profile,
+) -> Slot
+    requires nodes { length diagram.now.nodes ≤ FEW }
+    requires asked { CanBePlanned diagram.now.nodes plan.now.plan }
+    requires made { IsMade diagram.now.nodes plan.now.plan plan.now }
+    requires counted { plan.now.size.cells < COUNT_END }
+    requires room { plan.now.size.cells ≤ work.old.spare }
+    requires profile { IsProfile diagram.now.nodes profile.now }
+    requires fits { 2 * plan_total diagram.now.nodes profile.now plan.now.plan ≤ C.ring.most }
+    ensures { SumsPlan (cells_by C.ring C.of_weight C.of_value) diagram.now.nodes profile.now
+        plan.now work.old work.new result }
+{
+    let mut slots = [blank_slot(); FEW];
+    let mut joined = [blank_slot(); FEW];
+    run_with(work, plan, diagram, profile, &mut slots, &mut joined)
+}
+
+/// The run of a plan over any nodes.
+#[inline(never)]
+fn run_many<C: Cell>(
+    work: &mut Workspace<C>,
+    plan: &Plan,
+    diagram: &Diagram,
+    profile: &Profile,
+) -> Slot
+    requires nodes { length diagram.now.nodes ≤ MOST_NODES }
+    requires asked { CanBePlanned diagram.now.nodes plan.now.plan }
+    requires made { IsMade diagram.now.nodes plan.now.plan plan.now }
+    requires counted { plan.now.size.cells < COUNT_END }
+    requires room { plan.now.size.cells ≤ work.old.spare }
+    requires profile { IsProfile diagram.now.nodes profile.now }
+    requires fits { 2 * plan_total diagram.now.nodes profile.now plan.now.plan ≤ C.ring.most }
+    ensures { SumsPlan (cells_by C.ring C.of_weight C.of_value) diagram.now.nodes profile.now
+        plan.now work.old work.new result }
+{
+    let mut slots = [blank_slot(); MOST_NODES];
+    let mut joined = [blank_slot(); MOST_NODES];
+    run_with(work, plan, diagram, profile, &mut slots, &mut joined)
 }
 
 /// Runs the plan: makes its first tables, eliminates its nodes in their order, and multiplies the tables that are left
@@ -85,25 +169,9 @@ pub fn run_plan<C: Cell>(
     ensures { SumsPlan (cells_by C.ring C.of_weight C.of_value) diagram.now.nodes profile.now
         plan.now work.old work.new result }
 {
-    let counts = StateCounts::of(diagram);
-    // A plan has one table at most for each node, and no step leaves more than it found.
-    let mut slots = [blank_slot(); MOST_NODES];
-    let mut joined = [blank_slot(); MOST_NODES];
-    let mut at = [NodeSet::empty(); MOST_NODES];
-    let count = first_tables(work, plan, diagram, &counts, profile, &mut slots);
-    let mut places = all_live(&slots, &mut at, count);
-    for node in plan.steps() {
-        places = eliminate(
-            work,
-            diagram,
-            &counts,
-            &mut slots,
-            &mut at,
-            &mut joined,
-            places,
-            *node,
-        );
+    if diagram.count() <= FEW {
+        run_few(work, plan, diagram, profile)
+    } else {
+        run_many(work, plan, diagram, profile)
     }
-    let count = gather(before(&slots, places.made), &places.live, &mut joined);
-    work.product(diagram, &counts, before(&joined, count))
 }

@@ -18,7 +18,7 @@ ghost use Rattle.eliminate.specs.Steps.{first_cells};
 use crate::counts::{Limits, count_cells, spend, united_scope};
 use crate::firsts::put_table;
 use crate::lists::{before, blank_slot};
-use crate::places::{Places, all_live, gather, places_of};
+use crate::places::{Places, all_live, gather, no_places, places_of};
 use crate::runs::eliminate;
 use cell_rings::Cell;
 use factor_core::{Slot, StateCounts, Workspace};
@@ -91,10 +91,10 @@ fn spend_on_step(
 ) -> Option<Limits>
     requires counts { counts.now ≡ counts_of diagram.now.nodes }
     requires board { IsBoard at.now slots.now places.now.live places.now.made }
-    requires made { places.now.made ≤ MOST_NODES }
-    requires slots { length slots.now ≡ MOST_NODES }
+    requires made { places.now.made ≤ length slots.now }
+    requires slots { length slots.now ≤ MOST_NODES }
     requires at { length at.now ≡ MOST_NODES }
-    requires joined { length joined.old ≡ MOST_NODES }
+    requires joined { length joined.old ≡ length slots.now }
     requires node { node < MOST_NODES }
     ensures { Spends left
         (step_cells diagram.now.nodes node
@@ -150,7 +150,7 @@ pub fn sum_tables<C: Cell>(
     let counts = StateCounts::of(diagram);
     let mut slots = [blank_slot(); MOST_NODES];
     let mut joined = [blank_slot(); MOST_NODES];
-    let mut at = [NodeSet::empty(); MOST_NODES];
+    let mut at = no_places();
     let mut left = list_tables(work, diagram, &counts, profile, nodes, &mut slots, limits)?;
     let mut places = all_live(&slots, &mut at, nodes.len());
     for node in steps {

@@ -6,6 +6,7 @@ pub mod Turned
 pub mod Dots
 pub mod Sums
 pub mod TwoRuns
+mod TwoTurned
 pub mod Collapse
 pub mod SizeLemmas
 pub mod Listing

@@ -52,7 +52,7 @@ module _ (a : Axis) (ds places : List ℕ) (turned : IsTurned a ds (length place
         ap (λ k. cond (p == k) (product_at r cells (shifted s ds places)) r.nought) there ∙ ap (λ x. cond (p == at + s) x r.nought) (turned_product s))
 
 module _ {C : Type 0} {r : Ring C} (laws : IsRing r) (sizes : IsSize r r.size) (cells : List C) (a : Axis) (ds places : List ℕ) (out : List C) (at : ℕ) (turned : IsTurned a ds (length places)) (can : CanWalk r cells (a ∷ []) ds places out at) where
-  first_met : IsMet r cells (length out) places at
+  pub first_met : IsMet r cells (length out) places at
   first_met = first_choice (IsMet r cells (length out)) (a ∷ []) ds places at can.are_axes can.met
 
   last_met : IsMet r cells (length out) (shifted (a.states - 1) ds places) (at + (a.states - 1) * a.out)
@@ -76,7 +76,7 @@ module _ {C : Type 0} {r : Ring C} (laws : IsRing r) (sizes : IsSize r r.size) (
       omega (arith, last_met.within 0 0 (omega (arith, len, turned.two)), moved, one, axis.some)
 
   -- the sizes of the run's products are the load
-  turned_sizes : (p : ℕ) → run_sum mass_ring a.states at (λ i. r.size (cell_at r cells (get_or places 1 0)) * r.size (cell_at r cells (get_or places 0 0 + i))) p ≤ load r cells (a ∷ []) ds places at p
+  pub turned_sizes : (p : ℕ) → run_sum mass_ring a.states at (λ i. r.size (cell_at r cells (get_or places 1 0)) * r.size (cell_at r cells (get_or places 0 0 + i))) p ≤ load r cells (a ∷ []) ds places at p
   turned_sizes p =
       let q = get_or places 1 0 in
       let from = get_or places 0 0 in

@@ -1,7 +1,7 @@
 -- A walk over several axes: at each choice of a state for each axis the product of the operands' cells is added to a
 -- cell of the result.
 -- Only private contracts cite this file.
-use Rattle.std.specs.Prelude.{◌≡◌, ℕ, ◌+◌, ◌*◌, ◌^◌, ◌<◌, ◌≤◌, ◌==◌, if◌then◌else◌, List, [], ◌∷◌, ◌-◌, length, drop, All, slice_index}
+use Rattle.std.specs.Prelude.{◌≡◌, ℕ, ◌+◌, ◌*◌, ◌^◌, ◌<◌, ◌≤◌, ◌==◌, if◌then◌else◌, Bool, true, false, List, [], ◌∷◌, ◌-◌, length, drop, All, slice_index}
 use Rattle.cell_rings.specs.Rings.{Ring, mass_ring}
 use Rattle.cell_rings.specs.Sums.{ring_sum, product_at, sizes_of, ProductFits, HasRoom}
 use Rattle.factor_core.specs.declared.walks.Axis.{Axis}
@@ -69,6 +69,11 @@ pub record IsTurned (a : Axis) (strides : List ℕ) (count : ℕ) : Type 0 where
   pub out : a.out ≡ 1
   pub first : slice_index strides 0 ≡ 1
   pub second : slice_index strides 1 ≡ 0
+
+-- along the axis the result and one operand move cell by cell: the first of two where it is turned, else the last
+abbrev pub IsMoved : Bool → Axis → List ℕ → ℕ → Type 0
+IsMoved false a strides count = IsRun a strides count
+IsMoved true a strides count = IsTurned a strides count
 
 -- the axis has two states, along which the result stands
 pub record IsPair (a : Axis) : Type 0 where

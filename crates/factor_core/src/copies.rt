@@ -39,6 +39,30 @@ fn copy_run<C: Cell, S: Source<C>>(
     place
 }
 
+/// Copies the cells of the last two steps. Gives the place behind them.
+fn copy_rows<C: Cell, S: Source<C>>(
+    step: Step,
+    inner: Step,
+    source: &S,
+    from: usize,
+    out: &mut [C],
+    at: usize,
+) -> usize
+    requires { CanCopy (S.is_fit source.now) (length (S.cells source.now)) (step ∷ (inner ∷ []))
+        from (length out.old) at }
+    ensures next { result ≡ at + count_of_steps (step ∷ (inner ∷ [])) }
+    ensures cells { take result out.new ≡ take at out.old
+        ++ gathered C.ring (S.cells source.now) (step ∷ (inner ∷ [])) from }
+{
+    let mut place = at;
+    let mut here = from;
+    for _ in 0..step.states {
+        place = copy_run(inner, source, here, out, place);
+        here += step.stride;
+    }
+    place
+}
+
 /// Copies the cells that the steps read, the first step slowest, to the places from `at` on. Gives the place behind them.
 pub fn copy_walk<C: Cell, S: Source<C>>(
     steps: &[Step],
@@ -60,6 +84,9 @@ pub fn copy_walk<C: Cell, S: Source<C>>(
     let step = steps[0];
     if steps.len() == 1 {
         return copy_run(step, source, from, out, at);
+    }
+    if steps.len() == 2 {
+        return copy_rows(step, steps[1], source, from, out, at);
     }
     let rest = after(steps, 1);
     let mut place = at;

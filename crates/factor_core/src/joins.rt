@@ -49,7 +49,7 @@ fn join_in<C: Cell>(
     let axes = before(axes, n);
     let strides = before(strides, n * slots.len());
     let joined = out.len().saturating_mul(counts[node]);
-    let narrow = find_narrow(slots, joined, cells);
+    let narrow = find_narrow(slots, order[kept], joined, cells);
     let places = &mut places[..slots.len()];
     walk_over(narrow, axes, strides, cells, places, out, 0);
 }

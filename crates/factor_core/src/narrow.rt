@@ -6,7 +6,7 @@ ghost use Rattle.factor_core.specs.Narrow.{AreNarrow};
 use crate::slots::Slot;
 use cell_rings::Cell;
 
-/// How many cells a join has to have before it looks whether those of its last slot are narrow.
+/// How many cells a join has to have before it looks whether those of the slot that it runs along are narrow.
 const MANY: usize = 4096;
 
 /// How often it has to use each of these.
@@ -48,16 +48,28 @@ fn narrow_slot<C: Cell>(slot: &Slot, cells: &[C]) -> Narrow
     }
 }
 
-/// Where a join of many cells uses each cell of its last slot often, and these are narrow, their places.
-pub fn find_narrow<C: Cell>(slots: &[Slot], joined: usize, cells: &[C]) -> Narrow
+/// Where a join of so many cells uses each of the slot's cells often, and these are narrow, their places.
+fn often_used<C: Cell>(slot: &Slot, joined: usize, cells: &[C]) -> Narrow
     ensures { AreNarrow C.ring C.bits C.narrow cells.now result }
 {
-    if joined < MANY || slots.is_empty() {
-        return Narrow::none();
-    }
-    let slot = &slots[slots.len() - 1];
     if joined / OFTEN < slot.len {
         return Narrow::none();
     }
     narrow_slot(slot, cells)
+}
+
+/// Where a join of many cells uses each cell of the last slot over this node often, and these are narrow, their places.
+pub fn find_narrow<C: Cell>(slots: &[Slot], node: usize, joined: usize, cells: &[C]) -> Narrow
+    ensures { AreNarrow C.ring C.bits C.narrow cells.now result }
+{
+    if joined < MANY {
+        return Narrow::none();
+    }
+    for i in 0..slots.len() {
+        let slot = &slots[slots.len() - 1 - i];
+        if slot.holds(node) {
+            return often_used(slot, joined, cells);
+        }
+    }
+    Narrow::none()
 }

@@ -3,7 +3,7 @@
 ghost use Rattle.std.specs.Prelude.{◌≡◌, ◌==◌, if◌then◌else◌, ℕ, ◌+◌, ◌*◌, ◌^◌, ◌<◌, ◌≤◌, length, take, drop, [], ◌∷◌, All, IsTrue, slice_index};
 ghost use Rattle.cell_rings.specs.Rings.{mass_ring};
 ghost use Rattle.cell_rings.specs.Sums.{ring_sum, run_sum, cell_at, product_from, product_at, sizes_of, ProductFits, Adds, HasRoom};
-ghost use Rattle.factor_core.specs.Walks.{shifted, total, CanWalk, IsRun, IsTurned, IsDot, further, CanAddTwo};
+ghost use Rattle.factor_core.specs.Walks.{shifted, total, CanWalk, IsRun, IsTurned, IsMoved, IsDot, further, CanAddTwo};
 ghost use Rattle.factor_core.specs.Narrow.{AreNarrow};
 
 use crate::narrow::Narrow;
@@ -218,9 +218,104 @@ fn add_two_runs<C: Cell>(
     advance(places, strides);
 }
 
+/// The walks over a run of the first of two operands at two states of the axis above it, whose strides stand first.
+fn add_two_turned<C: Cell>(
+    narrow: Narrow,
+    axis: Axis,
+    strides: &[usize],
+    cells: &[C],
+    places: &mut [usize],
+    out: &mut [C],
+    at: usize,
+)
+    requires narrow { AreNarrow C.ring C.bits C.narrow cells.now narrow }
+    requires turned { IsTurned axis (drop (length places.old) strides.now) (length places.old) }
+    requires can { CanAddTwo C.ring cells.now axis strides.now places.old out.old at }
+    ensures adds { Adds C.ring
+        (λ p.
+        C.ring.plus
+        (total C.ring cells.now (axis ∷ []) (drop (length places.old) strides.now)
+        places.old at p)
+        (total C.ring cells.now (axis ∷ []) (drop (length places.old) strides.now)
+        (shifted 1 strides.now places.old) at p)) out.old out.new }
+    ensures places { places.new ≡ shifted 2 strides.now places.old }
+{
+    let first = cells[places[1]];
+    let from = places[0];
+    advance(places, strides);
+    let second = cells[places[1]];
+    let beside = places[0];
+    add_two(
+        narrow,
+        out,
+        at,
+        axis.states,
+        first,
+        second,
+        cells,
+        from,
+        beside,
+    );
+    advance(places, strides);
+}
+
+/// The walks at two states of the axis above one along which one operand runs.
+fn add_two_moved<C: Cell>(
+    narrow: Narrow,
+    turned: bool,
+    axis: Axis,
+    strides: &[usize],
+    cells: &[C],
+    places: &mut [usize],
+    out: &mut [C],
+    at: usize,
+)
+    requires narrow { AreNarrow C.ring C.bits C.narrow cells.now narrow }
+    requires moved { IsMoved turned axis (drop (length places.old) strides.now)
+        (length places.old) }
+    requires can { CanAddTwo C.ring cells.now axis strides.now places.old out.old at }
+    ensures adds { Adds C.ring
+        (λ p.
+        C.ring.plus
+        (total C.ring cells.now (axis ∷ []) (drop (length places.old) strides.now)
+        places.old at p)
+        (total C.ring cells.now (axis ∷ []) (drop (length places.old) strides.now)
+        (shifted 1 strides.now places.old) at p)) out.old out.new }
+    ensures places { places.new ≡ shifted 2 strides.now places.old }
+{
+    if turned {
+        add_two_turned(narrow, axis, strides, cells, places, out, at)
+    } else {
+        add_two_runs(narrow, axis, strides, cells, places, out, at)
+    }
+}
+
+/// The walk over one axis along which one operand runs.
+fn add_moved<C: Cell>(
+    turned: bool,
+    axis: Axis,
+    strides: &[usize],
+    cells: &[C],
+    places: &[usize],
+    out: &mut [C],
+    at: usize,
+)
+    requires moved { IsMoved turned axis strides.now (length places.now) }
+    requires can { CanWalk C.ring cells.now (axis ∷ []) strides.now places.now out.old at }
+    ensures { Adds C.ring (total C.ring cells.now (axis ∷ []) strides.now places.now at) out.old
+        out.new }
+{
+    if turned {
+        add_turned(axis, strides, cells, places, out, at)
+    } else {
+        add_run(axis, strides, cells, places, out, at)
+    }
+}
+
 /// The walk over the summed axis and a run, two states at a time.
 fn add_runs<C: Cell>(
     narrow: Narrow,
+    turned: bool,
     sum: Axis,
     axis: Axis,
     strides: &[usize],
@@ -231,7 +326,8 @@ fn add_runs<C: Cell>(
 )
     requires narrow { AreNarrow C.ring C.bits C.narrow cells.now narrow }
     requires sum { sum.out ≡ 0 }
-    requires run { IsRun axis (drop (length places.old) strides.now) (length places.old) }
+    requires moved { IsMoved turned axis (drop (length places.old) strides.now)
+        (length places.old) }
     requires can { CanWalk C.ring cells.now (sum ∷ (axis ∷ [])) strides.now places.old out.old at }
     ensures adds { Adds C.ring
         (total C.ring cells.now (sum ∷ (axis ∷ [])) strides.now places.old at) out.old out.new }
@@ -240,14 +336,14 @@ fn add_runs<C: Cell>(
     let below = after(strides, places.len());
     let mut s = 0;
     while s + 1 < sum.states {
-        add_two_runs(narrow, axis, strides, cells, places, out, at);
+        add_two_moved(narrow, turned, axis, strides, cells, places, out, at);
         s += 2;
     }
     if s == sum.states {
         retreat(places, strides, sum.states);
         return;
     }
-    add_run(axis, below, cells, places, out, at);
+    add_moved(turned, axis, below, cells, places, out, at);
     advance(places, strides);
     retreat(places, strides, sum.states);
 }
@@ -422,7 +518,13 @@ pub fn walk<C: Cell>(
     let rest = after(axes, 1);
     let below = after(strides, places.len());
     if axes.len() == 2 && axis.out == 0 && is_run(axes[1], below, places.len()) {
-        add_runs(narrow, axis, axes[1], strides, cells, places, out, at);
+        add_runs(
+            narrow, false, axis, axes[1], strides, cells, places, out, at,
+        );
+        return;
+    }
+    if axes.len() == 2 && axis.out == 0 && is_turned(axes[1], below, places.len()) {
+        add_runs(narrow, true, axis, axes[1], strides, cells, places, out, at);
         return;
     }
     let mut place = at;

@@ -52,9 +52,7 @@ impl<C: Cell> Workspace<C> {
         ensures { IfOk result (λ w. w ≡ record { cells = []; spare = cells }) }
     {
         let mut room = Vec::with_capacity(alloc, cells)?;
-        for _ in 0..cells {
-            room.push(C::zero())?;
-        }
+        room.resize(cells, C::zero())?;
         Ok(Workspace {
             cells: room,
             used: 0,

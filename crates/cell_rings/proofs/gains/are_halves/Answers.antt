@@ -1,5 +1,4 @@
-use Rattle.std.proofs.Common.{◌≡◌, ◌+◌, ◌≤◌, arith, subst, inl, inr}
-use Rattle.std.specs.Int.{w128, cast_unsigned}
+use Rattle.std.proofs.Common.{◌≡◌, ◌+◌, ◌≤◌, nat_abs, arith, subst, inl, inr}
 use Rattle.std.specs.Int.Bits.{bit_or}
 use Rattle.std.proofs.lemmas.Bool.{cases_lt}
 use Rattle.std.proofs.lemmas.Nat.{le_or_l, le_or_r}
@@ -12,7 +11,7 @@ loop-i-preserved c = λ k l.
     elim (cases_lt k c.loop-i.i) [
       | inl less ↦ omega (arith, c.loop-i.invariant k less, le_or_l c.loop-i.bits c.bits_of-bits.result)
       | inr more ↦
-          subst (λ j. cast_unsigned w128 (cell_at gain_kind c.args.cells.now (c.args.from + j)).0 ≤ bit_or c.loop-i.bits c.bits_of-bits.result) (let same : c.loop-i.i ≡ k = omega arith in same)
+          subst (λ j. nat_abs (cell_at gain_kind c.args.cells.now (c.args.from + j)).0 ≤ bit_or c.loop-i.bits c.bits_of-bits.result) (let same : c.loop-i.i ≡ k = omega arith in same)
           (omega (arith, c.bits_of-bits.ensures, le_or_r c.loop-i.bits c.bits_of-bits.result))
     ]
 

@@ -42,10 +42,11 @@ put_table-count-requires-clause-count g c =
     let cells = cells_by g.C.Cell.ring g.C.Cell.of_weight g.C.Cell.of_value in
     let few = few_nodes nodes plan c.requires.asked.is_plan c.requires.asked.known in
     let limit = c.count-nodes.ensures.diagram.limits.nodes in
-    next_place cells nodes c.args.profile.now c.args.work.now c.loop-v.work c.loop-v.live c.loop-v.count c.loop-v.v _ (first_nodes nodes plan)
+    let l = next_place cells nodes c.args.profile.now c.args.work.now c.loop-v.work c.loop-v.live c.loop-v.count c.loop-v.v _ (first_nodes nodes plan)
     (held_next cells nodes c.args.profile.now (holds c.ruled_nodes-ruled.result) (option_to_list plan.utility) (first_nodes nodes plan) c.count-nodes.result
     c.args.work.now c.loop-v.work (take c.loop-v.count c.loop-v.live) c.loop-v.v c.loop-v-test.true (sym c.holds.ensures ∙ c.if-holds.true) c.loop-v.invariant.0)
-    (omega arith) c.loop-v.invariant.1 (c.loop-v.auto.live ∙ c.requires.len)
+    (omega (arith, c.loop-v.invariant.1, c.loop-v.auto.live, c.requires.len)) in
+    omega (arith, l, few, c.loop-v.auto.live, c.requires.len)
 
 pub put_table-count-requires-clause-fit : goal.put_table-count-requires-clause-fit
 put_table-count-requires-clause-fit g c =
@@ -81,8 +82,8 @@ loop-v-preserved g c =
         (let l = next_place cells nodes c.args.profile.now c.args.work.now c.loop-v.work c.loop-v.live c.loop-v.count c.loop-v.v _ (first_nodes nodes plan)
             (held_next cells nodes c.args.profile.now (holds c.ruled_nodes-ruled.result) (option_to_list plan.utility) (first_nodes nodes plan) c.count-nodes.result
             c.args.work.now c.loop-v.work (take c.loop-v.count c.loop-v.live) c.loop-v.v c.loop-v-test.true (sym c.holds.ensures ∙ w.if-holds.true) c.loop-v.invariant.0)
-            (omega arith) c.loop-v.invariant.1 (c.loop-v.auto.live ∙ c.requires.len) in
-            omega (arith, l, w.put_table-count.ensures.count, c.loop-v.auto.live, c.requires.len)),
+            (omega (arith, c.loop-v.invariant.1, c.loop-v.auto.live, c.requires.len)) in
+            omega (arith, l, few, w.put_table-count.ensures.count)),
       )
       | else-holds w ↦ rw (w.work-is, w.live-is, w.count-is) (
         other_next cells nodes c.args.profile.now (holds c.ruled_nodes-ruled.result) (option_to_list plan.utility) (first_nodes nodes plan) c.count-nodes.result
@@ -98,11 +99,12 @@ put_table-requires-clause-count g c =
     let cells = cells_by g.C.Cell.ring g.C.Cell.of_weight g.C.Cell.of_value in
     let few = few_nodes nodes plan c.requires.asked.is_plan c.requires.asked.known in
     let limit = c.count-nodes.ensures.diagram.limits.nodes in
-    next_place cells nodes c.args.profile.now c.args.work.now c.loop-v.work c.loop-v.live c.loop-v.count c.in-Some.u [] (first_nodes nodes plan)
+    let l = next_place cells nodes c.args.profile.now c.args.work.now c.loop-v.work c.loop-v.live c.loop-v.count c.in-Some.u [] (first_nodes nodes plan)
     (utility_next cells nodes c.args.profile.now plan.utility c.in-Some.u (first_nodes nodes plan) c.args.work.now c.loop-v.work (take c.loop-v.count c.loop-v.live) (sym c.utility.ensures ∙ c.in-Some.is)
     (last_next cells nodes c.args.profile.now (holds c.ruled_nodes-ruled.result) (option_to_list plan.utility) (first_nodes nodes plan) c.count-nodes.result
     c.args.work.now c.loop-v.work (take c.loop-v.count c.loop-v.live) c.loop-v.v c.loop-v-test.false c.loop-v.invariant.0))
-    (omega arith) c.loop-v.invariant.1 (c.loop-v.auto.live ∙ c.requires.len)
+    (omega (arith, c.loop-v.invariant.1, c.loop-v.auto.live, c.requires.len)) in
+    omega (arith, l, few, c.loop-v.auto.live, c.requires.len)
 
 pub put_table-requires-clause-fit : goal.put_table-requires-clause-fit
 put_table-requires-clause-fit g c =
@@ -121,3 +123,17 @@ returns-in-Some-clause-lists g c =
     (last_next cells nodes c.args.profile.now (holds c.ruled_nodes-ruled.result) (option_to_list plan.utility) (first_nodes nodes plan) c.count-nodes.result
     c.args.work.now c.loop-v.work (take c.loop-v.count c.loop-v.live) c.loop-v.v c.loop-v-test.false c.loop-v.invariant.0))
     c.put_table.ensures.puts
+
+pub returns-in-Some-clause-few : goal.returns-in-Some-clause-few
+returns-in-Some-clause-few g c =
+    let nodes = c.args.diagram.now.nodes in
+    let plan = c.args.plan.now.plan in
+    let cells = cells_by g.C.Cell.ring g.C.Cell.of_weight g.C.Cell.of_value in
+    let few = few_nodes nodes plan c.requires.asked.is_plan c.requires.asked.known in
+    let limit = c.count-nodes.ensures.diagram.limits.nodes in
+    let l = next_place cells nodes c.args.profile.now c.args.work.now c.loop-v.work c.loop-v.live c.loop-v.count c.in-Some.u [] (first_nodes nodes plan)
+    (utility_next cells nodes c.args.profile.now plan.utility c.in-Some.u (first_nodes nodes plan) c.args.work.now c.loop-v.work (take c.loop-v.count c.loop-v.live) (sym c.utility.ensures ∙ c.in-Some.is)
+    (last_next cells nodes c.args.profile.now (holds c.ruled_nodes-ruled.result) (option_to_list plan.utility) (first_nodes nodes plan) c.count-nodes.result
+    c.args.work.now c.loop-v.work (take c.loop-v.count c.loop-v.live) c.loop-v.v c.loop-v-test.false c.loop-v.invariant.0))
+    (omega (arith, c.loop-v.invariant.1, c.loop-v.auto.live, c.requires.len)) in
+    omega (arith, l, few, c.put_table.ensures.count)

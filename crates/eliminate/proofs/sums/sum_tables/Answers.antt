@@ -1,4 +1,4 @@
-use Rattle.std.proofs.Common.{◌≡◌, ◌∙◌, ℕ, ◌+◌, ◌*◌, ◌≤◌, List, [], drop, length, get_or, refl, sym, ap, subst, arith}
+use Rattle.std.proofs.Common.{rules, ◌≡◌, ◌∙◌, ℕ, ◌+◌, ◌*◌, ◌≤◌, List, [], drop, length, get_or, refl, sym, ap, subst, arith}
 use Rattle.std.specs.List.{list_any}
 use Rattle.std.proofs.lemmas.List.{drop_more, drop_all, length-take-le}
 use Rattle.node_sets.specs.Sets.{holds}
@@ -25,7 +25,7 @@ loop-node-init g c =
       c.all_live-places.ensures.board,
       omega (arith, c.all_live-places.ensures.made, c.requires.few),
       c.list_tables.auto.live,
-      c.all_live-places.auto.at,
+      c.all_live-places.auto.at ∙ (let long : length c.no_places-at.result ≡ 256 = search rules in long),
       refl,
     )
 
@@ -74,7 +74,7 @@ loop-node-preserved g c =
           c.eliminate-places.new.work (live_slots c.eliminate-places.result.live c.eliminate-places.result.made c.eliminate-places.new.slots) c.in_ok-left-2.left
           (ap (λ (l : Limits). l.cells) told.1) (ap (λ (l : Limits). l.work) told.1) c.eliminate-places.ensures.step,
       c.eliminate-places.ensures.board,
-      c.eliminate-places.ensures.made,
+      omega (arith, c.eliminate-places.ensures.made, c.loop-node.invariant.3),
       c.eliminate-places.auto.slots ∙ c.loop-node.invariant.3,
       c.eliminate-places.auto.at ∙ c.loop-node.invariant.4,
       c.eliminate-places.auto.joined ∙ c.spend_on_step.auto.joined ∙ c.loop-node.invariant.5,

@@ -1,4 +1,4 @@
-use Rattle.std.proofs.Common.{◌≡◌, ◌∙◌, ℕ, ◌+◌, ◌<◌, ◌≤◌, List, [], drop, length, refl, sym, ap, subst, arith}
+use Rattle.std.proofs.Common.{rules, ◌≡◌, ◌∙◌, ℕ, ◌+◌, ◌<◌, ◌≤◌, List, [], drop, length, refl, sym, ap, subst, arith}
 use Rattle.std.specs.Prelude.{slice_index}
 use Rattle.std.proofs.lemmas.List.{drop_all, get_or_default}
 use Rattle.node_sets.specs.Sets.{holds}
@@ -14,7 +14,7 @@ use Rattle.eliminate.specs.Steps.{first_nodes, CanJoinOut, GiveWay, Lists, Betwe
 use Rattle.eliminate.proofs.Going.{can_join, goes_on, at_place}
 use Rattle.eliminate.proofs.Ruled.{step_known}
 use Rattle.eliminate.proofs.Whole.{so_many, steps_counted, steps_room, firsts_room, started, last_fits, last_room, ended}
-use Rattle.eliminate.proofs.runs.run_plan.Goals as goal
+use Rattle.eliminate.proofs.runs.run_with.Goals as goal
 
 pub first_tables-count-requires-clause-room : goal.first_tables-count-requires-clause-room
 first_tables-count-requires-clause-room g c =
@@ -32,9 +32,9 @@ loop-node-init g c =
           (subst (λ (l : List Slot). Lists cells c.args.diagram.now.nodes c.args.profile.now c.args.work.now c.first_tables-count.new.work l [] (first_nodes c.args.diagram.now.nodes c.args.plan.now.plan))
           (sym c.all_live-places.ensures.live) c.first_tables-count.ensures.lists),
       c.all_live-places.ensures.board,
-      omega (arith, c.all_live-places.ensures.made, c.first_tables-count.ensures.few),
+      omega (arith, c.all_live-places.ensures.made, c.first_tables-count.ensures.few, c.first_tables-count.auto.live, c.requires.nodes),
       c.first_tables-count.auto.live,
-      c.all_live-places.auto.at,
+      c.all_live-places.auto.at ∙ (let long : length c.no_places-at.result ≡ 256 = search rules in long),
       refl,
     )
 
@@ -75,7 +75,7 @@ loop-node-preserved g c =
           (subst (λ (l : List ℕ). GiveWay g.C.Cell.ring nodes c.loop-node.work c.eliminate-places.new.work (live_slots c.loop-node.places.live c.loop-node.places.made c.loop-node.slots) (live_slots c.eliminate-places.result.live c.eliminate-places.result.made c.eliminate-places.new.slots) (slice_index l c.loop-node.node-index))
           c.steps-node-items.ensures c.eliminate-places.ensures.step),
       c.eliminate-places.ensures.board,
-      c.eliminate-places.ensures.made,
+      omega (arith, c.eliminate-places.ensures.made, c.eliminate-places.auto.slots),
       c.eliminate-places.auto.slots ∙ c.loop-node.invariant.3,
       c.eliminate-places.auto.at ∙ c.loop-node.invariant.4,
       c.eliminate-places.auto.joined ∙ c.loop-node.invariant.5,

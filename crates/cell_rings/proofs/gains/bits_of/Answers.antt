@@ -1,9 +1,0 @@
-use Rattle.std.proofs.Common.{rules, ap, ◌∙◌, FitsSigned, of_z}
-use Rattle.std.specs.Int.{w128}
-use Rattle.std.proofs.lemmas.Int.{to_z-of_z}
-use Rattle.cell_rings.proofs.gains.bits_of.Goals as goal
-
-pub returns : goal.returns
-returns c =
-    let fits : FitsSigned w128 c.args.a.0 = search rules in
-    c.cast_unsigned.ensures ∙ ap (of_z w128) (to_z-of_z w128 c.args.a.0 fits)
