@@ -39,7 +39,7 @@ module _ (nodes : List NodeView) (names : NamesView) (answer : AnswerView) where
   run_inner labels u us first s j (suc k) h =
       (λ i. labelled_line names answer.decision (texts i) (numbers i) (slice_index_or answer.rows (numbers i) no_row) ++ run_lines nodes names answer labels (u ∷ us) first (nexts i) k)
       ∙ ap (λ l. labelled_line names answer.decision (labels_there ++ state_labels names us (parent_states (states_of nodes) us j)) (first + s * below + j) (slice_index_or answer.rows (first + s * below + j) no_row) ++ l)
-        (run_inner labels u us first s (j + 1) k (omega (arith, h)))
+      (run_inner labels u us first s (j + 1) k (omega (arith, h)))
     where
       below : ℕ
       below = rows_under (states_of nodes) us
@@ -88,7 +88,7 @@ module _ (nodes : List NodeView) (names : NamesView) (answer : AnswerView) where
   run_whole at zero e = sym (ap (row_lines nodes names answer.decision at) (drop_all at answer.rows (omega (arith, e))))
   run_whole at (suc k) e =
       (λ i. labelled_line names answer.decision (state_labels names (parents_of nodes answer.decision) (parent_states (states_of nodes) (parents_of nodes answer.decision) at)) (none at i) (slice_index_or answer.rows (none at i) no_row)
-          ++ run_lines nodes names answer [] (parents_of nodes answer.decision) 0 (at + 1) k)
+      ++ run_lines nodes names answer [] (parents_of nodes answer.decision) 0 (at + 1) k)
       ∙ ap (λ l. row_line nodes names answer.decision at (slice_index_or answer.rows at no_row) ++ l) (run_whole (at + 1) k (omega (arith, e)))
       ∙ sym (ap (row_lines nodes names answer.decision at) (drop-cons answer.rows at no_row (omega (arith, e)) ∙ ap (λ n. slice_index_or answer.rows at no_row ∷ drop n answer.rows) (sym (add-one at))))
     where
