@@ -8,7 +8,7 @@ use Rattle.node_sets.specs.Sets.{holds}
 use Rattle.maid_model.specs.Graph.{AllDifferent}
 use Rattle.rule_solver.proofs.TableCells.{scope_once, scope_known}
 use Rattle.rule_solver.proofs.GainCells.{no_gains, all_gains, gain_fits, gains_step}
-use Rattle.rule_solver.proofs.reading.add_gains.Goals as goal
+use Rattle.rule_solver.proofs.reading.add_by_worlds.Goals as goal
 
 pub loop-cell-init : goal.loop-cell-init
 loop-cell-init g c = no_gains g.C.Cell.ring g.C.HasNumber.number c.args.diagram.now.nodes c.args.decision c.args.work.now.cells c.args.slot.now c.args.factor c.args.gains.now c.requires.live c.requires.scope c.in_ok-world.world c.in_ok-world.ensures.world c.in_ok-world.ensures.first

@@ -8,7 +8,7 @@ use Rattle.node_sets.specs.Sets.{holds}
 use Rattle.maid_model.specs.Graph.{AllDifferent}
 use Rattle.rule_solver.proofs.TableCells.{scope_once, scope_known}
 use Rattle.rule_solver.proofs.MassCells.{MassesSoFar, no_masses, all_masses, mass_fits, row_within, masses_step}
-use Rattle.rule_solver.proofs.reading.put_masses.Goals as goal
+use Rattle.rule_solver.proofs.reading.put_by_worlds.Goals as goal
 
 pub loop-cell-init : goal.loop-cell-init
 loop-cell-init g c = no_masses g.C.Cell.ring g.C.HasNumber.number c.args.diagram.now.nodes c.args.decision c.args.work.now.cells c.args.slot.now c.args.factor c.args.masses.now c.requires.live c.requires.scope c.in_ok-world.world c.in_ok-world.ensures.world c.in_ok-world.ensures.first
