@@ -15,3 +15,4 @@ pub mod Places
 pub mod OneText
 pub mod ReadingLaws
 pub mod BadLines
+pub mod RunLemmas

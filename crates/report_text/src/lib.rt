@@ -11,6 +11,7 @@ mod orders;
 mod pieces;
 mod reading;
 mod report;
+mod row_runs;
 mod value_lines;
 
 pub use laws::reports_read_one_way;

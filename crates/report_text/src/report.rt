@@ -10,12 +10,13 @@ ghost use Rattle.maid_model.specs.declared.diagrams.Kind.TheVariants.{Utility};
 ghost use Rattle.report_text.specs.Slots.{decision_words, gain_front, row_front, state_text};
 
 use crate::pieces::push_ratio;
+use crate::row_runs::push_rows;
 use line_pieces::{push_names, push_number, push_quoted};
 use maid_model::{Answer, Diagram, Names, Ratio, Row, Solved};
 use std::alloc::{AllocError, Global};
 
-// The parents of the node, none of which is a utility.
-fn parents_of(diagram: &Diagram, node: usize) -> &[usize]
+/// The parents of the node, none of which is a utility.
+pub(crate) fn parents_of(diagram: &Diagram, node: usize) -> &[usize]
     requires { node < length diagram.now.nodes }
     ensures parents { result.now ≡ parents_of diagram.now.nodes node }
     ensures known { All
@@ -25,8 +26,8 @@ fn parents_of(diagram: &Diagram, node: usize) -> &[usize]
     diagram.node(node).parents.as_slice()
 }
 
-// How many states the node has, at least one.
-fn states_of(diagram: &Diagram, node: usize) -> usize
+/// How many states the node has, at least one.
+pub(crate) fn states_of(diagram: &Diagram, node: usize) -> usize
     requires { node < length diagram.now.nodes }
     ensures states { result ≡ states_of diagram.now.nodes node }
     ensures some { 0 < result }
@@ -34,8 +35,8 @@ fn states_of(diagram: &Diagram, node: usize) -> usize
     diagram.node(node).states
 }
 
-// Appends the quoted label of a node's state after one space.
-fn push_label(
+/// Appends the quoted label of a node's state after one space.
+pub(crate) fn push_label(
     out: &mut Vec<u8>,
     diagram: &Diagram,
     names: &Names,
@@ -83,7 +84,8 @@ fn push_states(
     Ok(())
 }
 
-fn push_worth(out: &mut Vec<u8>, worth: &Option<Ratio>) -> Result<(), AllocError>
+/// Appends what a row is worth.
+pub(crate) fn push_worth(out: &mut Vec<u8>, worth: &Option<Ratio>) -> Result<(), AllocError>
     ensures { OnOk result (out.new.items ≡ out.old.items ++ worth_text worth.now) }
 {
     match worth {
@@ -172,6 +174,7 @@ pub fn push_row(
 // Appends the line of a decision, and a line for each row.
 fn push_decision(
     out: &mut Vec<u8>,
+    labels: &mut Vec<u8>,
     diagram: &Diagram,
     names: &Names,
     answer: &Answer,
@@ -182,22 +185,12 @@ fn push_decision(
         ≡ out.old.items ++ decision_lines diagram.now.nodes names.now answer.now) }
 {
     push_head(out, diagram, names, answer.decision)?;
-    for (number, row) in answer.rows.iter().enumerate() {
-        push_row(
-            out,
-            diagram,
-            names,
-            answer.decision,
-            answer.rows.len(),
-            number,
-            row,
-        )?;
-    }
-    Ok(())
+    push_rows(out, labels, diagram, names, answer)
 }
 
 // Appends the lines of each answered decision.
 fn push_decisions(
+    alloc: Global,
     out: &mut Vec<u8>,
     diagram: &Diagram,
     names: &Names,
@@ -208,8 +201,9 @@ fn push_decisions(
     ensures { OnOk result (out.new.items
         ≡ out.old.items ++ flat_map (decision_lines diagram.now.nodes names.now) answers.now) }
 {
+    let mut labels = Vec::new(alloc);
     for answer in answers {
-        push_decision(out, diagram, names, answer)?;
+        push_decision(out, &mut labels, diagram, names, answer)?;
     }
     Ok(())
 }
@@ -319,7 +313,7 @@ pub fn print_report(
 {
     let mut out = Vec::from_slice(alloc, b"maidsolve report 1\n")?;
     push_order(&mut out, names, &solved.order)?;
-    push_decisions(&mut out, diagram, names, &solved.answers)?;
+    push_decisions(alloc, &mut out, diagram, names, &solved.answers)?;
     push_gains(&mut out, names, &solved.gains)?;
     Ok(out)
 }

@@ -12,7 +12,7 @@ use Rattle.rule_solver.proofs.Equals.{yes_at, no_at}
 
 -- ---- the rule of a profile that is made for each decision of a list
 module _ (f : ℕ → RuleView) (own : (v : ℕ) → (f v).decision ≡ v) where
-  made_weights : (ds : List ℕ) (v : ℕ) → Contains ds v → weights_of (map f ds) v ≡ (f v).weights
+  pub made_weights : (ds : List ℕ) (v : ℕ) → Contains ds v → weights_of (map f ds) v ≡ (f v).weights
   made_weights [] v c = absurd (omega (arith, c.1))
   made_weights (d ∷ ds) v c = go (ℕ_discrete d v) (head_or_rest d ds v c) (made_weights ds v)
     where
@@ -21,7 +21,7 @@ module _ (f : ℕ → RuleView) (own : (v : ℕ) → (f v).decision ≡ v) where
       go (no n) (inl e) r = absurd (n e)
       go (no n) (inr m) r = ap (λ b. cond b (f d).weights (weights_of (map f ds) v)) (no_at (f d).decision v (λ e. n (sym (own d) ∙ e))) ∙ r m
 
-  made_total : (ds : List ℕ) (v : ℕ) → Contains ds v → rule_total (map f ds) v ≡ (f v).total
+  pub made_total : (ds : List ℕ) (v : ℕ) → Contains ds v → rule_total (map f ds) v ≡ (f v).total
   made_total [] v c = absurd (omega (arith, c.1))
   made_total (d ∷ ds) v c = go (ℕ_discrete d v) (head_or_rest d ds v c) (made_total ds v)
     where

@@ -1,6 +1,7 @@
 mod AnswerLemmas
 mod AnsweredRules
 mod BaseLemmas
+mod BaseTurns
 mod Carries
 mod DecisionLemmas
 mod Equals
@@ -12,7 +13,9 @@ mod JointNodes
 mod JointRuns
 mod Listing
 mod MadeRooms
+mod Halves
 mod MassCells
+mod OwnOrder
 mod Members
 mod Missing
 mod Orders

@@ -37,6 +37,13 @@ pub record IsRowSums
     pub mass_there :
         (row : ℕ) → row < rows_of nodes d → pos (slice_index masses row) ≡ scope_mass nodes p d row
 
+-- such gains alone
+pub record IsRowGains (nodes : List NodeView) (p : List RuleView) (d : ℕ) (gains : List ℤ) : Type 0
+  where
+    pub gain_count : length gains ≡ rows_of nodes d * states_of nodes d
+    pub gain : (state row : ℕ) → state < states_of nodes d → row < rows_of nodes d
+        → gain_in gains (states_of nodes d) row state ≡ scope_gain nodes p d state row
+
 -- the gains keep the weight bound, and the masses the P of the scope
 pub record KeepsRoom
     (nodes : List NodeView) (d : ℕ) (gains : List ℤ) (masses : List ℕ) : Type 0 where

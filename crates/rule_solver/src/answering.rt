@@ -12,13 +12,14 @@ ghost use Rattle.size_precheck.specs.Sizes.{ArePlansOf};
 ghost use Rattle.rule_solver.specs.Answered.{AnswersAll, IsAnsweredBy};
 ghost use Rattle.rule_solver.specs.Rooms.{AreReady, HasRoomAt};
 
-use crate::bases::base_of;
+use crate::bases::turn_base;
 use crate::decision_sums::Setting;
 use crate::rows::answer_rows;
 use crate::spaces::Workspaces;
 use crate::totals::list_totals;
 use crate::worths::scale;
 use maid_model::{Answer, Diagram, Profile, Row};
+use node_sets::NodeSet;
 use part_laws::{parts_decide, scopes_are_parts};
 use relevance_graph::Relevance;
 use size_precheck::DecisionPlans;
@@ -82,8 +83,12 @@ pub(crate) fn answer_all(
     ensures again { OnOk result (spaces.new ≡ spaces.old) }
 {
     let mut answers = Vec::with_capacity(alloc, order.len())?;
+    let mut base = Profile::uniform(alloc, diagram)?;
+    let mut held = NodeSet::empty();
     for (place, decision) in order.iter().enumerate() {
-        let base = base_of(alloc, diagram, relevance, &answers, *decision)?;
+        turn_base(
+            alloc, diagram, relevance, &answers, *decision, &mut base, &mut held,
+        )?;
         let plans = &plans[place];
         let rows = answer_decision(alloc, diagram, &base, *decision, plans, spaces)?;
         answers.push(Answer {

@@ -13,7 +13,7 @@ ghost use Rattle.plan_sums.specs.Plans.{gain_plan, row_plan};
 ghost use Rattle.scope_sums.specs.Missing.{missing_in, missing_in_without};
 ghost use Rattle.size_precheck.specs.Sizes.{ArePlansOf, IsPlanned, goal_list};
 ghost use Rattle.rule_solver.specs.Rooms.{AreReady, HasAtMost, HasRoomAt, IsReady};
-ghost use Rattle.rule_solver.specs.Sums.{AddsGoals, HasGoals, HasMasses, HasRoomFor, IsRowSums, IsSetting, KeepsRoom};
+ghost use Rattle.rule_solver.specs.Sums.{AddsGoals, HasGoals, HasMasses, HasRoomFor, IsRowGains, IsRowSums, IsSetting, KeepsRoom};
 
 use crate::joint_goals::add_together;
 use crate::numbers::Number;
@@ -387,6 +387,42 @@ pub fn row_sums_by(
         scope: decision_scope(diagram, decision),
     };
     setting.row_sums(alloc, plans, spaces)
+}
+
+/// The gains of which `row_sums_by` tells, without the masses: it runs the plans of the goals alone.
+///
+/// # Errors
+///
+/// Only where memory runs out.
+pub fn row_gains_by(
+    alloc: Global,
+    diagram: &Diagram,
+    profile: &Profile,
+    decision: usize,
+    plans: &DecisionPlans,
+    spaces: &mut Workspaces,
+) -> Result<Vec<i128>, AllocError>
+    requires decision { IsDecision diagram.now.nodes decision }
+    requires profile { IsProfile diagram.now.nodes profile.now }
+    requires rules { HasSmallRules diagram.now.nodes profile.now decision }
+    requires bound { KeepsScopedBounds diagram.now }
+    requires planned { ArePlansOf diagram.now.nodes decision plans.now.rows plans.now.goals.items }
+    requires ready { (cells : ℕ) × AreReady cells spaces.old
+        × HasRoomAt diagram.now.nodes decision cells }
+    ensures gains { IfOk result (λ gains.
+        IsRowGains diagram.now.nodes profile.now decision gains.items) }
+    ensures again { OnOk result (spaces.new ≡ spaces.old) }
+{
+    plans_sum_scopes();
+    let totals = list_totals(alloc, diagram, profile)?;
+    let setting = Setting {
+        diagram,
+        base: profile,
+        decision,
+        totals: &totals,
+        scope: decision_scope(diagram, decision),
+    };
+    setting.gains(alloc, &plans.goals, spaces)
 }
 
 /// What the states of a decision gain in each row, and the rows' masses, with the profile as base: the sums over the

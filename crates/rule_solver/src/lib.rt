@@ -20,6 +20,7 @@ mod answering;
 mod bases;
 mod decision_sums;
 mod faults;
+mod fractions;
 mod joint_goals;
 mod laws;
 mod limits;
@@ -36,7 +37,7 @@ mod widths;
 mod worths;
 
 pub use bases::base_of;
-pub use decision_sums::{RowSums, row_sums, row_sums_by};
+pub use decision_sums::{RowSums, row_gains_by, row_sums, row_sums_by};
 pub use faults::SolveFault;
 pub use laws::measured_plans_have_room;
 pub use solving::{solve, solve_with};

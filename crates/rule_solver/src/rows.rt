@@ -1,13 +1,13 @@
 //! The answer of one row.
 
 ghost use Rattle.std.specs.Prelude.{◌≡◌, ◌<◌, ◌≤◌, ◌+◌, ◌*◌, ◌^◌, ℕ, All, IfOk, IfSome, length, pos, nat_abs, slice_index, slice_index_or};
-ghost use Rattle.maid_model.specs.Answers.{IsFirstBest, IsFraction, IsReduced, no_row};
+ghost use Rattle.maid_model.specs.Answers.{IsFirstBest, IsReduced, no_row};
 ghost use Rattle.maid_model.specs.Diagrams.{greatest_number};
 ghost use Rattle.rule_solver.specs.Rows.{AnswersRow, AnswersRows, gain_in};
 
-use maid_model::{Ratio, Row};
+use crate::fractions::fraction;
+use maid_model::Row;
 use std::alloc::{AllocError, Global};
-use whole_num::reduce;
 
 /// The first place of the greatest number.
 fn first_best(gains: &[i128]) -> usize
@@ -21,16 +21,6 @@ fn first_best(gains: &[i128]) -> usize
         }
     }
     best
-}
-
-/// The fraction in lowest terms.
-pub(crate) fn fraction(num: i128, den: u128) -> Ratio
-    requires den { 0 < den }
-    requires num { nat_abs num ≤ greatest_number }
-    ensures { IsFraction result num den }
-{
-    let (num, den) = reduce(num, den);
-    Ratio { num, den }
 }
 
 /// What is answered in a row, whose states have these gains, against its mass.

@@ -17,8 +17,8 @@ ghost use Rattle.rule_solver.specs.Rooms.{AreReady, HasAtMost, HasRoomForWorths,
 ghost use Rattle.rule_solver.specs.Totals.{HasTotals};
 ghost use Rattle.rule_solver.specs.Worths.{ArePlansOfWorths, HasWorths, IsLeastRoom, IsStake, IsWorth, gain_given, scope_gain_for};
 
+use crate::fractions::fraction;
 use crate::numbers::Number;
-use crate::rows::fraction;
 use crate::spaces::Workspaces;
 use crate::totals::{list_totals, product_in};
 use crate::widths::fits_small;

@@ -1,42 +1,38 @@
-use Rattle.std.proofs.Common.{rules, FitsSigned, ◌<◌, ◌≤◌, ◌+◌, ◌+ℤ◌, ◌*ℤ◌, ℕ, pos, length, get_or, set, arith, sym, ap, subst, ◌∙◌}
-use Rattle.std.specs.Int.{w128}
-use Rattle.std.specs.Prelude.{Contains, nat_abs}
-use Rattle.std.proofs.lemmas.Int.{to_z-of_z}
-use Rattle.std.proofs.lemmas.List.{get_or_default}
-use Rattle.maid_model.specs.Diagrams.{greatest_number}
+use Rattle.std.proofs.Common.{◌≡◌, ◌∙◌, ◌<◌, ◌≤◌, ◌+◌, ◌*◌, ◌∷◌, ◌++◌, [], ◌+ℤ◌, ◌*ℤ◌, ℕ, List, length, get_or, pos, ap, sym, subst}
+use Rattle.std.specs.Prelude.{nat_abs}
+use Rattle.cell_rings.specs.Sums.{cell_at}
 use Rattle.node_sets.specs.Sets.{holds}
-use Rattle.maid_model.specs.Graph.{AllDifferent}
-use Rattle.rule_solver.proofs.TableCells.{scope_once, scope_known}
-use Rattle.rule_solver.proofs.GainCells.{no_gains, all_gains, gain_fits, gains_step}
+use Rattle.factor_core.specs.Slots.{nodes_in, part}
+use Rattle.maid_model.specs.Diagrams.{greatest_number}
+use Rattle.maid_model.specs.Nodes.{parents_of}
+use Rattle.rule_solver.proofs.OwnOrder.{own_gains, own_room, own_count}
 use Rattle.rule_solver.proofs.reading.add_gains.Goals as goal
 
-pub loop-cell-init : goal.loop-cell-init
-loop-cell-init g c = no_gains g.C.Cell.ring g.C.HasNumber.number c.args.diagram.now.nodes c.args.decision c.args.work.now.cells c.args.slot.now c.args.factor c.args.gains.now c.requires.live c.requires.scope c.in_ok-world.world c.in_ok-world.ensures.world c.in_ok-world.ensures.first
+pub add_cells-requires-clause-len : goal.add_cells-requires-clause-len
+add_cells-requires-clause-len g c =
+    let nodes = c.args.diagram.now.nodes in
+    let d = c.args.decision in
+    let slot = c.args.slot.now in
+    let own : nodes_in nodes (holds slot.scope) ≡ parents_of nodes d ++ d ∷ [] =
+    sym (c.as_slice.ensures.value ∙ c.in_ok-scope.ensures) ∙ c.is_own_order.ensures c.if-is_own_order.true ∙ ap (λ us. us ++ d ∷ []) c.parents.ensures.parents in
+    ap (λ cells. length cells) c.strip.ensures ∙ own_count g.C.Cell.ring g.C.HasNumber.number nodes d c.args.work.now.cells slot c.args.factor c.parents.ensures.diagram.graph c.requires.live own ∙ sym c.requires.gains
 
-pub add_number-requires-clause-room : goal.add_number-requires-clause-room
-add_number-requires-clause-room g c =
-    let fits : FitsSigned w128 c.number.result = search rules in
-    subst (λ z. nat_abs (get_or c.loop-cell.gains c.cell-at.result (pos 0)) + nat_abs (z *ℤ pos c.args.factor) ≤ greatest_number) (sym (to_z-of_z w128 c.number.result fits ∙ c.number.ensures ∙ ap g.C.HasNumber.number (c.cell-item.is ∙ get_or_default c.strip-cell-items.result.now c.loop-cell.cell-index c.cell-item.result g.C.Cell.ring.nought c.loop-cell-test.true)))
-    (gain_fits g.C.Cell.ring g.C.HasNumber.number c.args.diagram.now.nodes c.args.decision c.args.work.now.cells c.args.slot.now c.args.factor c.args.gains.now c.requires.live c.requires.scope c.loop-cell.gains c.loop-cell.world c.loop-cell.cell-index c.loop-cell.invariant
-    c.strip-cell-items.result.now c.strip-cell-items.ensures c.loop-cell-test.true c.cell-at.result c.cell-at.ensures.cell c.requires.room)
+pub add_cells-requires-clause-room : goal.add_cells-requires-clause-room
+add_cells-requires-clause-room g c i h =
+    let nodes = c.args.diagram.now.nodes in
+    let d = c.args.decision in
+    let slot = c.args.slot.now in
+    let own : nodes_in nodes (holds slot.scope) ≡ parents_of nodes d ++ d ∷ [] =
+    sym (c.as_slice.ensures.value ∙ c.in_ok-scope.ensures) ∙ c.is_own_order.ensures c.if-is_own_order.true ∙ ap (λ us. us ++ d ∷ []) c.parents.ensures.parents in
+    subst (λ cells. nat_abs (get_or c.args.gains.now i (pos 0)) + nat_abs (g.C.HasNumber.number (cell_at g.C.Cell.ring cells i) *ℤ pos c.args.factor) ≤ greatest_number) (sym c.strip.ensures)
+    (own_room g.C.Cell.ring g.C.HasNumber.number nodes d c.args.work.now.cells slot c.args.factor c.parents.ensures.diagram.graph c.requires.live own c.args.gains.now c.requires.room i (subst (λ n. i < n) c.requires.gains h))
 
-pub next_over-requires-clause-once : goal.next_over-requires-clause-once
-next_over-requires-clause-once g c = subst AllDifferent (sym (c.as_slice.ensures.value ∙ c.in_ok-scope.ensures)) (scope_once c.args.diagram.now.nodes (holds c.args.slot.now.scope))
-
-pub next_over-requires-clause-known : goal.next_over-requires-clause-known
-next_over-requires-clause-known g c =
-    subst (λ us. (v : ℕ) → Contains us v → v < length c.args.diagram.now.nodes) (sym (c.as_slice.ensures.value ∙ c.in_ok-scope.ensures)) (scope_known c.args.diagram.now.nodes (holds c.args.slot.now.scope))
-
-pub loop-cell-preserved : goal.loop-cell-preserved
-loop-cell-preserved g c =
-    let fits : FitsSigned w128 c.number.result = search rules in
-    gains_step g.C.Cell.ring g.C.HasNumber.number c.args.diagram.now.nodes c.args.decision c.args.work.now.cells c.args.slot.now c.args.factor c.args.gains.now c.requires.live c.requires.scope c.loop-cell.gains c.loop-cell.world c.loop-cell.cell-index c.loop-cell.invariant
-    c.strip-cell-items.result.now c.strip-cell-items.ensures c.loop-cell-test.true c.cell-at.result c.cell-at.ensures.cell
-    c.add_number.new.gains c.next_over.new.world c.as_slice.result.now (omega (arith, c.cell-at.ensures.within, c.requires.gains, c.loop-cell.invariant.done.len))
-    (c.add_number.ensures ∙ ap (λ z. set c.loop-cell.gains c.cell-at.result (get_or c.loop-cell.gains c.cell-at.result (pos 0) +ℤ (z *ℤ pos c.args.factor))) (to_z-of_z w128 c.number.result fits ∙ c.number.ensures ∙ ap g.C.HasNumber.number (c.cell-item.is ∙ get_or_default c.strip-cell-items.result.now c.loop-cell.cell-index c.cell-item.result g.C.Cell.ring.nought c.loop-cell-test.true)))
-    (c.as_slice.ensures.value ∙ c.in_ok-scope.ensures) c.next_over.ensures.world c.next_over.ensures.row
-
-pub returns-clause-adds : goal.returns-clause-adds
-returns-clause-adds g c =
-    all_gains g.C.Cell.ring g.C.HasNumber.number c.args.diagram.now.nodes c.args.decision c.args.work.now.cells c.args.slot.now c.args.factor c.args.gains.now c.requires.live c.requires.scope c.loop-cell.gains c.loop-cell.world c.loop-cell.cell-index
-    c.strip-cell-items.result.now c.loop-cell.invariant c.strip-cell-items.ensures c.loop-cell-test.false
+pub returns-then-is_own_order-clause-adds : goal.returns-then-is_own_order-clause-adds
+returns-then-is_own_order-clause-adds g c =
+    let nodes = c.args.diagram.now.nodes in
+    let d = c.args.decision in
+    let slot = c.args.slot.now in
+    let own : nodes_in nodes (holds slot.scope) ≡ parents_of nodes d ++ d ∷ [] =
+    sym (c.as_slice.ensures.value ∙ c.in_ok-scope.ensures) ∙ c.is_own_order.ensures c.if-is_own_order.true ∙ ap (λ us. us ++ d ∷ []) c.parents.ensures.parents in
+    own_gains g.C.Cell.ring g.C.HasNumber.number nodes d c.args.work.now.cells slot c.args.factor c.parents.ensures.diagram.graph c.requires.live own c.args.gains.now c.add_cells.new.gains c.requires.gains c.add_cells.ensures.len
+    (subst (λ cells. (i : ℕ) → i < length c.args.gains.now → get_or c.add_cells.new.gains i (pos 0) ≡ get_or c.args.gains.now i (pos 0) +ℤ (g.C.HasNumber.number (cell_at g.C.Cell.ring cells i) *ℤ pos c.args.factor)) c.strip.ensures c.add_cells.ensures.each)

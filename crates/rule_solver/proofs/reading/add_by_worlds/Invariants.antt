@@ -1,5 +1,5 @@
 use Rattle.rule_solver.proofs.GainCells.{GainsSoFar}
-use Rattle.rule_solver.proofs.reading.add_gains.Given as goal
+use Rattle.rule_solver.proofs.reading.add_by_worlds.Given as goal
 
 abbrev pub invariant-loop-cell : goal.invariant-loop-cell
 invariant-loop-cell g l = GainsSoFar g.C.Cell.ring g.C.HasNumber.number l.diagram.nodes l.decision l.work.cells l.slot l.factor l.fn.gains l.gains l.world l.cell-index

@@ -1,0 +1,24 @@
+-- The lines of rows under one choice of some parents' states. Only private functions cite it.
+use Rattle.std.specs.Prelude.{ℕ, zero, suc, ◌+◌, List, [], ◌++◌, codes, decimal, slice_index_or}
+use Rattle.maid_model.specs.declared.answers.Row.{Row}
+use Rattle.maid_model.specs.Views.{NodeView, AnswerView}
+use Rattle.maid_model.specs.Answers.{no_row}
+use Rattle.maid_model.specs.Names.{NamesView}
+use Rattle.maid_model.specs.Nodes.{states_of}
+use Rattle.maid_model.specs.Reports.{choice_text, line, parent_states, state_labels}
+
+-- the line of a row whose parents' states have these labels
+abbrev pub labelled_line : NamesView → ℕ → List ℕ → ℕ → Row → List ℕ
+labelled_line names d labels number row =
+    line (codes "row " ++ decimal (number + 1) ++ codes ":" ++ labels ++ choice_text names d row)
+
+-- so many rows from `at` on, of which the first of all has the number `first`: each has these labels, and then those
+-- of the other parents' states
+abbrev pub run_lines :
+    List NodeView → NamesView → AnswerView → List ℕ → List ℕ → ℕ → ℕ → ℕ → List ℕ
+run_lines nodes names answer labels others first at zero = []
+run_lines nodes names answer labels others first at (suc count) =
+    labelled_line names answer.decision
+    (labels ++ state_labels names others (parent_states (states_of nodes) others at)) (first + at)
+    (slice_index_or answer.rows (first + at) no_row)
+    ++ run_lines nodes names answer labels others first (at + 1) count

@@ -1,0 +1,116 @@
+//! The lines of a decision's rows, in one walk over the choices of its parents' states: the labels of the parents whose
+//! states stay from row to row are written once.
+
+ghost use Rattle.std.specs.Prelude.{◌≡◌, ◌≢◌, ◌+◌, ◌<◌, ◌≤◌, ◌++◌, All, IfOk, OnOk, drop, length};
+ghost use Rattle.maid_model.specs.Answers.{FitsAnswer};
+ghost use Rattle.maid_model.specs.Names.{NamesFit};
+ghost use Rattle.maid_model.specs.Nodes.{IsDecision, node_at, rows_under, states_of};
+ghost use Rattle.maid_model.specs.Reports.{row_lines};
+ghost use Rattle.maid_model.specs.declared.diagrams.Kind.TheVariants.{Utility};
+ghost use Rattle.report_text.specs.Runs.{labelled_line, run_lines};
+
+use crate::report::{parents_of, push_label, push_state, push_worth, states_of};
+use line_pieces::push_number;
+use maid_model::{Answer, Diagram, Names, Row};
+use std::alloc::AllocError;
+
+/// Appends the line of one row whose parents' states have these labels. Rows are numbered from 0 here and from 1 in the
+/// text.
+#[tactic(auto, using(std::proofs::Common::append_assoc))]
+fn push_labelled(
+    out: &mut Vec<u8>,
+    labels: &[u8],
+    diagram: &Diagram,
+    names: &Names,
+    decision: usize,
+    number: usize,
+    row: &Row,
+) -> Result<(), AllocError>
+    requires fit { NamesFit diagram.now names.now }
+    requires decision { IsDecision diagram.now.nodes decision }
+    requires choice { row.now.choice < states_of diagram.now.nodes decision }
+    ensures { OnOk result (out.new.items
+        ≡ out.old.items ++ labelled_line names.now decision labels.now number row.now) }
+{
+    out.extend_from_slice(b"row ")?;
+    push_number(out, number as u128 + 1)?;
+    out.push(b':')?;
+    out.extend_from_slice(labels)?;
+    out.extend_from_slice(b" -> ")?;
+    push_state(out, diagram, names, decision, row.choice)?;
+    push_worth(out, &row.worth)?;
+    out.push(b'\n')?;
+    Ok(())
+}
+
+/// The list without its first element.
+fn behind_first(list: &[usize]) -> &[usize]
+    requires { 0 < length list.now }
+    ensures { result.now ≡ drop 1 list.now }
+{
+    list.split_at(1).1
+}
+
+/// Appends the lines of the rows under one choice of the first parents' states, which have these labels: a line for
+/// each choice of the other parents' states, the first of these slowest. `first` is the number of the first row. Gives
+/// the number behind the last one. The labels are left as they were.
+fn push_run(
+    out: &mut Vec<u8>,
+    labels: &mut Vec<u8>,
+    diagram: &Diagram,
+    names: &Names,
+    answer: &Answer,
+    others: &[usize],
+    first: usize,
+) -> Result<usize, AllocError>
+    requires fit { NamesFit diagram.now names.now }
+    requires answer { FitsAnswer diagram.now.nodes answer.now }
+    requires others { All
+        (λ u. (u < length diagram.now.nodes) × ((node_at diagram.now.nodes u).kind ≢ Utility))
+        others.now }
+    requires rows { first + rows_under (states_of diagram.now.nodes) others.now
+        ≤ length answer.now.rows }
+    ensures lines { OnOk result (out.new.items
+        ≡ out.old.items
+        ++ run_lines diagram.now.nodes names.now answer.now labels.old.items others.now first 0
+        (rows_under (states_of diagram.now.nodes) others.now)) }
+    ensures next { IfOk result (λ next.
+        next ≡ first + rows_under (states_of diagram.now.nodes) others.now) }
+    ensures labels { OnOk result (labels.new.items ≡ labels.old.items) }
+{
+    if others.is_empty() {
+        let row = &answer.rows[first];
+        push_labelled(out, labels, diagram, names, answer.decision, first, row)?;
+        return Ok(first + 1);
+    }
+    let parent = others[0];
+    let rest = behind_first(others);
+    let chosen = labels.len();
+    let mut next = first;
+    for state in 0..states_of(diagram, parent) {
+        push_label(labels, diagram, names, parent, state)?;
+        next = push_run(out, labels, diagram, names, answer, rest, next)?;
+        labels.truncate(chosen);
+    }
+    Ok(next)
+}
+
+/// Appends a line for each row of an answered decision. It goes over another list of bytes.
+pub(crate) fn push_rows(
+    out: &mut Vec<u8>,
+    labels: &mut Vec<u8>,
+    diagram: &Diagram,
+    names: &Names,
+    answer: &Answer,
+) -> Result<(), AllocError>
+    requires fit { NamesFit diagram.now names.now }
+    requires answer { FitsAnswer diagram.now.nodes answer.now }
+    ensures { OnOk result (out.new.items
+        ≡ out.old.items
+        ++ row_lines diagram.now.nodes names.now answer.now.decision 0 answer.now.rows) }
+{
+    labels.clear();
+    let parents = parents_of(diagram, answer.decision);
+    push_run(out, labels, diagram, names, answer, parents, 0)?;
+    Ok(())
+}

@@ -1,0 +1,29 @@
+use Rattle.std.proofs.Common.{◌<◌, ◌/◌, subst}
+use Rattle.std.specs.Int.{IsGcd}
+use Rattle.rule_solver.proofs.Halves.{across, coprime, cross, divisor_positive, quotient_positive}
+use Rattle.rule_solver.proofs.fractions.reduce_small.Goals as goal
+
+pub returns-then-divisor-eq1-clause-coprime : goal.returns-then-divisor-eq1-clause-coprime
+returns-then-divisor-eq1-clause-coprime c = subst (λ g. IsGcd c.without_twos-num.result.0 c.without_twos-num.result.1 g) c.if-divisor-eq1.true c.common_divisor-divisor.ensures
+
+pub nonzero_div-result : goal.nonzero_div-result
+nonzero_div-result c = divisor_positive c.without_twos-num.result.0 c.without_twos-num.result.1 c.common_divisor-divisor.result c.without_twos-num.ensures.positive c.common_divisor-divisor.ensures
+
+pub nonzero_div-result-2 : goal.nonzero_div-result-2
+nonzero_div-result-2 c = divisor_positive c.without_twos-num.result.0 c.without_twos-num.result.1 c.common_divisor-divisor.result c.without_twos-num.ensures.positive c.common_divisor-divisor.ensures
+
+pub returns-clause-same : goal.returns-clause-same
+returns-clause-same c =
+    let num = c.without_twos-num.result.0 in
+    let den = c.without_twos-num.result.1 in
+    let g = c.common_divisor-divisor.result in
+    let is = c.common_divisor-divisor.ensures in
+    across c.args.num c.args.den num den (num / g) (den / g) c.without_twos-num.ensures.same (cross num den g is.0 is.1) c.without_twos-num.ensures.positive
+
+pub returns-clause-positive : goal.returns-clause-positive
+returns-clause-positive c = quotient_positive c.without_twos-num.result.1 c.common_divisor-divisor.result c.without_twos-num.ensures.positive c.common_divisor-divisor.ensures.1
+
+pub returns-clause-coprime : goal.returns-clause-coprime
+returns-clause-coprime c =
+    let positive : 0 < c.common_divisor-divisor.result = divisor_positive c.without_twos-num.result.0 c.without_twos-num.result.1 c.common_divisor-divisor.result c.without_twos-num.ensures.positive c.common_divisor-divisor.ensures in
+    coprime c.without_twos-num.result.0 c.without_twos-num.result.1 c.common_divisor-divisor.result positive c.common_divisor-divisor.ensures
