@@ -2,6 +2,7 @@ mod AnswerLemmas
 mod AnsweredRules
 mod BaseLemmas
 mod Carries
+mod ChoiceLemmas
 mod DecisionLemmas
 mod Equals
 mod GainCells

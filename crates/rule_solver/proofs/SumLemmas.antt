@@ -17,6 +17,7 @@ use Rattle.maid_model.specs.Views.{NodeView, DiagramView, RuleView}
 use Rattle.plan_sums.specs.Laws.{HasWorlds}
 use Rattle.scope_sums.specs.Laws.{IsSumOfPlans}
 use Rattle.rule_solver.specs.Reading.{gain_there}
+use Rattle.rule_solver.specs.Rows.{gain_in}
 use Rattle.rule_solver.specs.Sums.{AddsGoals, HasGoals, HasRoomFor, IsRowSums, KeepsRoom, goal_part, scope_gain, scope_mass}
 
 -- ---- lists
@@ -158,13 +159,17 @@ module _ (nodes : List NodeView) (p : List RuleView) (d : ℕ) (graph : IsGraph 
   first_state : 0 < states_of nodes d
   first_state = graph.has_state d
 
+  pub gains_are : (gains : List ℤ) → IsSumOfPlans nodes p d → HasGoals nodes p d (goals_of nodes d) gains → (state row : ℕ) → state < states_of nodes d → row < rows_of nodes d → gain_in gains (states_of nodes d) row state ≡ scope_gain nodes p d state row
+  gains_are gains plans so state row h k =
+      let w = there state row h k in
+      sym (ap (λ n. get_or gains n (pos 0)) (place state row w.0 w.2 w.3)) ∙ so.each w.0 w.1 ∙ sym (plans.gain w.0 w.1) ∙ (λ i. scope_gain nodes p d (w.2 i) (w.3 i))
+
   pub sums_are : (gains : List ℤ) (masses : List ℕ) → IsSumOfPlans nodes p d → HasGoals nodes p d (goals_of nodes d) gains → length masses ≡ rows_of nodes d
       → ((q : World) → InRange (states_of nodes) q → pos (slice_index masses (row_of nodes d q)) ≡ scope_mass nodes p d (row_of nodes d q)) → IsRowSums nodes p d gains masses
   sums_are gains masses plans so len each = record {
     gain_count = so.count;
     mass_count = len;
-    gain = λ state row h k. let w = there state row h k in
-        sym (ap (λ n. get_or gains n (pos 0)) (place state row w.0 w.2 w.3)) ∙ so.each w.0 w.1 ∙ sym (plans.gain w.0 w.1) ∙ (λ i. scope_gain nodes p d (w.2 i) (w.3 i));
+    gain = gains_are gains plans so;
     mass_there = λ row h. let w = there 0 row first_state h in subst (λ r. pos (slice_index masses r) ≡ scope_mass nodes p d r) w.3 (each w.0 w.1);
   }
 
