@@ -1,9 +1,8 @@
 //! Optima of edited diagrams against the optimum before.
 
 ghost use Rattle.std.specs.Prelude.{◌<◌, All, IfOk};
-ghost use Rattle.first_fault.specs.Answers.{IsFaultOrNoMemory, Passes};
+ghost use Rattle.first_fault.specs.Answers.{IsFaultOrNoMemory};
 ghost use Rattle.maid_model.specs.Subgames.{OwnsAll};
-ghost use Rattle.maid_model.specs.Values.{IsOptimum};
 ghost use Rattle.maid_model.specs.Views.{DiagramView};
 ghost use Rattle.rule_solver.specs.Faults.{solve_fault, solve_pass};
 ghost use Rattle.size_precheck.specs.Kept.{IsKept};
@@ -13,26 +12,9 @@ ghost use Rattle.optimum_gap.specs.Found.{IsGain, IsLoss, TellsReason, solving};
 use crate::differences::difference;
 use crate::found::Found;
 use maid_model::{Diagram, Ratio};
-use rule_solver::{SolveFault, solve_with};
+use rule_solver::{SolveFault, optimum_with};
 use size_precheck::KeptPlans;
 use std::alloc::{AllocError, Global};
-
-/// The agent's optimum in a diagram in which it decides alone, by the plans that are kept of its decisions.
-fn optimum(
-    alloc: Global,
-    diagram: &Diagram,
-    agent: usize,
-    kept: &[KeptPlans],
-) -> Result<Ratio, SolveFault>
-    requires alone { OwnsAll diagram.now.nodes agent }
-    requires within { agent < diagram.now.agents }
-    requires kept { All (IsKept diagram.now.nodes) kept.now }
-    ensures rows { Passes solve_fault (solve_pass diagram.now) result }
-    ensures optimum { IfOk result (IsOptimum diagram.now.nodes diagram.now.decimals agent) }
-{
-    let solved = solve_with(alloc, diagram, kept)?;
-    Ok(solved.gains[agent])
-}
 
 /// Why a diagram that the solver refuses has no value.
 fn refused(fault: SolveFault) -> Result<Found, AllocError>
@@ -92,7 +74,7 @@ impl<'a> Baseline<'a> {
     {
         let _before = self.diagram.count();
         let _after = edited.count();
-        match optimum(alloc, edited, self.agent, kept) {
+        match optimum_with(alloc, edited, self.agent, kept) {
             Ok(more) => Ok(Found::Value(difference(more, self.optimum))),
             Err(fault) => refused(fault),
         }
@@ -112,7 +94,7 @@ impl<'a> Baseline<'a> {
     {
         let _before = self.diagram.count();
         let _after = edited.count();
-        match optimum(alloc, edited, self.agent, &[]) {
+        match optimum_with(alloc, edited, self.agent, &[]) {
             Ok(less) => Ok(Found::Value(difference(self.optimum, less))),
             Err(fault) => refused(fault),
         }

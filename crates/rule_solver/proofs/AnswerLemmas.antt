@@ -20,7 +20,7 @@ use Rattle.rule_solver.proofs.Orders.{IsClosed, first_closed, relied_before, ord
 use Rattle.rule_solver.proofs.Equals.{yes_at, no_at}
 
 -- what holds of each answer holds of the rows found at a decision
-rows_found : (P : ℕ → List Row → Type 0) (answers : List AnswerView) → All (λ a. P a.decision a.rows) answers → (v : ℕ) → Contains (map (λ a. a.decision) answers) v → P v (rows_at answers v)
+pub rows_found : (P : ℕ → List Row → Type 0) (answers : List AnswerView) → All (λ a. P a.decision a.rows) answers → (v : ℕ) → Contains (map (λ a. a.decision) answers) v → P v (rows_at answers v)
 rows_found P [] all v c = absurd (omega (arith, c.1))
 rows_found P (a ∷ answers) all v c = go (ℕ_discrete a.decision v) (rows_found P answers (λ k e h. all (suc k) e (omega arith)) v)
   where
@@ -41,7 +41,7 @@ decision_at [] k e h = absurd (omega arith)
 decision_at (a ∷ answers) zero e h = refl
 decision_at (a ∷ answers) (suc k) e h = decision_at answers k e (omega arith)
 
-listed : (answers : List AnswerView) (k : ℕ) (e : AnswerView) → k < length answers → Contains (decided answers) (get_or answers k e).decision
+pub listed : (answers : List AnswerView) (k : ℕ) (e : AnswerView) → k < length answers → Contains (decided answers) (get_or answers k e).decision
 listed answers k e h =
     let inside : k < length (decided answers) = subst (λ n. k < n) (sym (length-map answers (λ (a : AnswerView). a.decision))) h in
     (k, inside, get_or_default (decided answers) k (get_or answers k e).decision 0 inside ∙ decision_at answers k e h)

@@ -3,6 +3,7 @@ mod AnsweredRules
 mod BaseLemmas
 mod BaseTurns
 mod Carries
+mod ChoiceLemmas
 mod DecisionLemmas
 mod Equals
 mod GainCells

@@ -18,7 +18,7 @@ use Rattle.maid_model.specs.Laws.{TestsDescent}
 use Rattle.maid_model.specs.Nodes.{IsOwnedBy, is_utility, is_utility_of, node_at, numbers_of, owners_of, owns, states_of}
 use Rattle.maid_model.specs.Parts.{leads_to}
 use Rattle.maid_model.specs.Scopes.{greatest_of, rules_in_scope_for, scope_for, scope_part_for, scope_product_for, utilities_for}
-use Rattle.maid_model.specs.Views.{DiagramView, RuleView}
+use Rattle.maid_model.specs.Views.{NodeView, DiagramView, RuleView}
 use Rattle.maid_laws.proofs.Proportions.{kind_of_utility, sum_each_cong}
 use Rattle.maid_laws.proofs.Rearranged.{among_range, numbered}
 use Rattle.node_sets.specs.declared.sets.NodeSet.{NodeSet}
@@ -30,7 +30,7 @@ use Rattle.plan_sums.specs.Plans.{gain_cells, plan_sum, worth_plan}
 use Rattle.scope_sums.specs.Laws.{AgentsScopesFitPlans, GainsOfAgentsScopes, MassOfAgentsScopes, PlanFitsAgentsScope}
 use Rattle.scope_sums.specs.Missing.{missing_in}
 use Rattle.rule_solver.specs.Totals.{product_in}
-use Rattle.rule_solver.specs.Worths.{IsStake, gain_given, scope_gain_for}
+use Rattle.rule_solver.specs.Worths.{HasWorths, HasWorthsFor, IsStake, gain_given, scope_gain_for}
 use Rattle.rule_solver.proofs.Missing.{missing_product, scope_mass_is, totals_positive}
 use Rattle.rule_solver.proofs.PlanLemmas.{one_of_greatest, within_bound}
 use Rattle.rule_solver.proofs.ProductLemmas.{factor_in}
@@ -124,6 +124,13 @@ sum_next f v sum term e fits h = (λ i. e i +ℤ (to_z-of_z w128 term fits ∙ h
 part_of : (a b m : ℕ) → 0 < b → a * b ≤ m → a ≤ m
 part_of a b m h k = omega (arith, mul-le-mul_left a h, k)
 
+-- the worths of all utilities are those of the agent's
+pub worths_for : (nodes : List NodeView) (p : List RuleView) (agent : ℕ) (worths : List ℤ) → HasWorths nodes p worths → HasWorthsFor nodes p agent worths
+worths_for nodes p agent worths h = record {
+  count = h.count;
+  each = λ u l k own. h.each u l k;
+}
+
 -- ---- an agent
 module _ (d : DiagramView) (p : List RuleView) (agent : ℕ) (totals : List ℕ) (worths : List ℤ) (scope : NodeSet) (is : IsStake d p agent totals worths scope) where
   -- a world
@@ -189,7 +196,10 @@ module _ (d : DiagramView) (p : List RuleView) (agent : ℕ) (totals : List ℕ)
         fit d.nodes p agent u is.is_diagram.graph is.is_diagram.tables is.profile is.rules l (kind_of_utility (node_at d.nodes u).kind t.0) ((any_is agent (owners_of d.nodes u)).0 t.1)
 
     worth_at : (u : ℕ) → u < length d.nodes → is_utility_of d.nodes agent u ≡ true → slice_index_or worths u (pos 0) ≡ plan_sum gain_cells d.nodes p (worth_plan u) first
-    worth_at u l e = is.has_worths.each u l (kind_of_utility (node_at d.nodes u).kind (and_both (is_utility (node_at d.nodes u).kind) (owns d.nodes agent u) e).0) first first_in
+    worth_at u l e =
+        let t = and_both (is_utility (node_at d.nodes u).kind) (owns d.nodes agent u) e in
+        let k = kind_of_utility (node_at d.nodes u).kind t.0 in
+        is.has_worths.each u l k (record { within = l; kind = inr k; owner = (any_is agent (owners_of d.nodes u)).0 t.1 }) first first_in
 
     -- what is missing of P is no more
     pub missing_small : (u : ℕ) → u < length d.nodes → is_utility_of d.nodes agent u ≡ true → missing_at u ≤ greatest_number

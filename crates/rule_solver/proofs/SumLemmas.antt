@@ -170,8 +170,7 @@ module _ (nodes : List NodeView) (p : List RuleView) (d : ℕ) (graph : IsGraph 
   sums_are gains masses plans so len each = record {
     gain_count = so.count;
     mass_count = len;
-    gain = λ state row h k. let w = there state row h k in
-        sym (ap (λ n. get_or gains n (pos 0)) (place state row w.0 w.2 w.3)) ∙ so.each w.0 w.1 ∙ sym (plans.gain w.0 w.1) ∙ (λ i. scope_gain nodes p d (w.2 i) (w.3 i));
+    gain = gains_are gains plans so;
     mass_there = λ row h. let w = there 0 row first_state h in subst (λ r. pos (slice_index masses r) ≡ scope_mass nodes p d r) w.3 (each w.0 w.1);
   }
 

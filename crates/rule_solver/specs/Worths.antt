@@ -4,7 +4,7 @@ use Rattle.std.specs.List.{AllZip}
 use Rattle.maid_model.specs.declared.diagrams.Kind.TheVariants.{Utility}
 use Rattle.maid_model.specs.Diagrams.{IsDiagram, greatest_number}
 use Rattle.maid_model.specs.Gains.{gain_of}
-use Rattle.maid_model.specs.Nodes.{is_utility_of, node_at, states_of}
+use Rattle.maid_model.specs.Nodes.{IsOwnedBy, is_utility_of, node_at, states_of}
 use Rattle.maid_model.specs.Profiles.{IsProfile}
 use Rattle.maid_model.specs.Scopes.{rules_in_scope_for, scope_bound_for, scope_for, scope_part_for}
 use Rattle.maid_model.specs.Views.{NodeView, DiagramView, RuleView}
@@ -34,6 +34,13 @@ pub record HasWorths (nodes : List NodeView) (p : List RuleView) (worths : List 
   pub each : (u : ℕ) → u < length nodes → (node_at nodes u).kind ≡ Utility
       → IsWorth nodes p u (slice_index_or worths u (pos 0))
 
+-- the list has the worth of each of the agent's utilities
+pub record HasWorthsFor
+    (nodes : List NodeView) (p : List RuleView) (agent : ℕ) (worths : List ℤ) : Type 0 where
+  pub count : length worths ≡ length nodes
+  pub each : (u : ℕ) → u < length nodes → (node_at nodes u).kind ≡ Utility
+      → IsOwnedBy nodes u agent → IsWorth nodes p u (slice_index_or worths u (pos 0))
+
 -- what a node gives to an agent's gain: a utility of the agent its worth times the totals of the scope's nodes that
 -- its plan lacks
 abbrev pub gain_given : List NodeView → List RuleView → ℕ → List ℤ → ℕ → ℤ
@@ -42,8 +49,8 @@ gain_given nodes p agent worths v = if is_utility_of nodes agent v
     *ℤ pos (missing_in nodes p (scope_for nodes agent) (worth_plan v))
     else pos 0
 
--- an agent and a profile of pure rules, within the bound, with the totals of all nodes, the utilities' worths and the
--- agent's scope
+-- an agent and a profile of pure rules, within the bound, with the totals of all nodes, the worths of the
+-- agent's utilities and its scope
 pub record IsStake
     (d : DiagramView) (p : List RuleView) (agent : ℕ) (totals : List ℕ) (worths : List ℤ)
     (scope : NodeSet) : Type 0 where
@@ -53,7 +60,7 @@ pub record IsStake
   pub rules : HasUnitRules d.nodes p
   pub bound : scope_bound_for d agent ≤ greatest_number
   pub has_totals : HasTotals d.nodes p totals
-  pub has_worths : HasWorths d.nodes p worths
+  pub has_worths : HasWorthsFor d.nodes p agent worths
   pub is_scope : (v : ℕ) → IsIn scope v ↔ Contains (scope_for d.nodes agent) v
 
 -- the agent's gain in the part of its scope

@@ -10,7 +10,7 @@ use maid_model::Row;
 use std::alloc::{AllocError, Global};
 
 /// The first place of the greatest number.
-fn first_best(gains: &[i128]) -> usize
+pub(crate) fn first_best(gains: &[i128]) -> usize
     requires { 0 < length gains.now }
     ensures { IsFirstBest (λ s. slice_index_or gains.now s (pos 0)) (length gains.now) result }
 {

@@ -64,7 +64,7 @@ fn run_worth<C: Number>(
 }
 
 /// What the utility's plan sums to, in the smaller cells where they surely hold its numbers.
-fn worth(
+pub(crate) fn worth(
     diagram: &Diagram,
     profile: &Profile,
     totals: &[u128],
@@ -131,16 +131,16 @@ fn list_worths(
 
 /// An agent, and what its expected utility is made of.
 #[derive(Drop)]
-struct Stake<'a> {
-    diagram: &'a Diagram,
-    profile: &'a Profile,
-    agent: usize,
+pub(crate) struct Stake<'a> {
+    pub diagram: &'a Diagram,
+    pub profile: &'a Profile,
+    pub agent: usize,
     /// The total of each node's table or rule.
-    totals: &'a [u128],
-    /// What each utility's plan sums to.
-    worths: &'a [i128],
+    pub totals: &'a [u128],
+    /// What the plan of each of the agent's utilities sums to.
+    pub worths: &'a [i128],
     /// The nodes from which a path leads to one of the agent's utilities.
-    scope: NodeSet,
+    pub scope: NodeSet,
 }
 
 impl<'a> Stake<'a> {
@@ -196,7 +196,7 @@ impl<'a> Stake<'a> {
     }
 
     /// What the profile is worth to the agent.
-    fn expected(&self) -> Ratio
+    pub(crate) fn expected(&self) -> Ratio
         requires stake { IsStake self.now.diagram.now self.now.profile.now self.now.agent
             self.now.totals.now self.now.worths.now self.now.scope }
         ensures { IsExpectedUtility self.now.diagram.now.nodes (10 ^ self.now.diagram.now.decimals)

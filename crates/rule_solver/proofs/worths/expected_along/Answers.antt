@@ -1,8 +1,9 @@
 use Rattle.std.proofs.Common.{◌<◌, ◌+◌, sym, subst}
 use Rattle.rule_solver.specs.Masses.{HasGains}
 use Rattle.rule_solver.specs.Totals.{HasTotals}
-use Rattle.rule_solver.specs.Worths.{HasWorths}
+use Rattle.rule_solver.specs.Worths.{HasWorthsFor}
 use Rattle.rule_solver.proofs.GainLemmas.{gains-push}
+use Rattle.rule_solver.proofs.StakeLemmas.{worths_for}
 use Rattle.rule_solver.proofs.worths.expected_along.Goals as goal
 
 pub expected-requires : goal.expected-requires
@@ -17,7 +18,7 @@ expected-requires c =
         rules = c.requires.pure;
         bound = c.requires.bound.agents c.loop-agent.agent within;
         has_totals = subst (HasTotals d.nodes c.args.profile.now) (sym c.deref-in-loop-agent.ensures.value) c.in_ok-totals.ensures.totals;
-        has_worths = subst (HasWorths d.nodes c.args.profile.now) (sym c.deref-in-loop-agent-2.ensures.value) c.in_ok-worths.ensures.worths;
+        has_worths = subst (HasWorthsFor d.nodes c.args.profile.now c.loop-agent.agent) (sym c.deref-in-loop-agent-2.ensures.value) (worths_for d.nodes c.args.profile.now c.loop-agent.agent c.in_ok-worths.worths.items c.in_ok-worths.ensures.worths);
         is_scope = c.agent_scope.ensures;
       };
     }

@@ -1,0 +1,11 @@
+use Rattle.std.proofs.Common.{◌≡◌, ◌+◌, ◌++◌, ◌∷◌, [], None, subst, sym, rules}
+use Rattle.rule_solver.specs.Optima.{ChoosesRows}
+use Rattle.rule_solver.specs.Rows.{gain_in}
+use Rattle.rule_solver.proofs.ChoiceLemmas.{chosen-push}
+use Rattle.rule_solver.proofs.optima.choose_rows.Goals as goal
+
+pub loop-row-preserved : goal.loop-row-preserved
+loop-row-preserved c =
+    let more : c.push.new.self.items ≡ c.loop-row.chosen.items ++ record { choice = c.choice_at-choice.result; worth = None } ∷ [] = search rules in
+    subst (λ rows. ChoosesRows (gain_in c.args.gains.now c.args.states) c.args.states (c.loop-row.row + 1) rows) (sym more)
+    (chosen-push (gain_in c.args.gains.now c.args.states) c.args.states c.loop-row.row c.loop-row.chosen.items (record { choice = c.choice_at-choice.result; worth = None }) c.loop-row.invariant c.choice_at-choice.ensures.best c.choice_at-choice.ensures.within tt)

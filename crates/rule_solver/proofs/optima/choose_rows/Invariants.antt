@@ -1,0 +1,7 @@
+use Rattle.rule_solver.specs.Optima.{ChoosesRows}
+use Rattle.rule_solver.specs.Rows.{gain_in}
+use Rattle.rule_solver.proofs.optima.choose_rows.Given as goal
+
+-- the rows so far
+abbrev pub invariant-loop-row : goal.invariant-loop-row
+invariant-loop-row l = ChoosesRows (gain_in l.gains l.states) l.states l.row l.chosen.items

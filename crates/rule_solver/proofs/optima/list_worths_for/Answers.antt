@@ -1,0 +1,62 @@
+use Rattle.std.proofs.Common.{◌≡◌, ◌⊎◌, ◌∙◌, ◌<◌, ◌+◌, ◌++◌, ◌∷◌, ℕ, ℤ, List, pos, rules, arith, ap, false, get_or, inl, inr, length, sym, subst, true, []}
+use Rattle.maid_model.specs.declared.diagrams.Kind.{Kind}
+use Rattle.maid_model.specs.declared.diagrams.Kind.TheVariants.{Chance, Decision, Utility}
+use Rattle.maid_model.specs.Nodes.{IsOwnedBy, is_utility, node_at}
+use Rattle.plan_sums.specs.Plans.{worth_plan}
+use Rattle.size_precheck.specs.Sizes.{IsPlanned}
+use Rattle.rule_solver.specs.Worths.{IsWorth}
+use Rattle.rule_solver.proofs.ChoiceLemmas.{worths-push}
+use Rattle.rule_solver.proofs.WorthLemmas.{utilities_more, worth_place}
+use Rattle.rule_solver.proofs.optima.list_worths_for.Goals as goal
+use Rattle.rule_solver.proofs.optima.list_worths_for.Goals.{In-Utility, in-Utility+in_ok-push-in-Utility, in-Chance+in_ok-push-in-Chance}
+
+-- the plan of this utility is there
+pub bounds-plans-place : goal.bounds-plans-place
+bounds-plans-place c =
+    let nodes = c.args.diagram.now.nodes in
+    let within : c.loop-v.v < length nodes = subst (λ n. c.loop-v.v < n) c.count-v-end.ensures.count c.loop-v-test.true in
+    subst (λ n. n < length c.args.plans.now) (sym c.loop-v.invariant.2) (worth_place nodes c.loop-v.v c.args.plans.now (record { plan = worth_plan 0; steps = []; size = record { cells = 0; work = 0 } }) within (sym c.kind.ensures.kind ∙ c.in-Utility.is) c.requires.planned).0
+
+pub offset_bounds-plans-place : goal.offset_bounds-plans-place
+offset_bounds-plans-place c = let l = bounds-plans-place c in search rules
+
+pub worth_for-worth-requires-clause-planned : goal.worth_for-worth-requires-clause-planned
+worth_for-worth-requires-clause-planned c =
+    let nodes = c.args.diagram.now.nodes in
+    let within : c.loop-v.v < length nodes = subst (λ n. c.loop-v.v < n) c.count-v-end.ensures.count c.loop-v-test.true in
+    let here = worth_place nodes c.loop-v.v c.args.plans.now c.index-plans-place.result within (sym c.kind.ensures.kind ∙ c.in-Utility.is) c.requires.planned in
+    subst (IsPlanned nodes (worth_plan c.loop-v.v)) (sym (c.index-plans-place.is ∙ ap (λ n. get_or c.args.plans.now n c.index-plans-place.result) c.loop-v.invariant.2)) here.1
+
+pub overflow_add-place : goal.overflow_add-place
+overflow_add-place c =
+    let nodes = c.args.diagram.now.nodes in
+    let within : c.loop-v.v < length nodes = subst (λ n. c.loop-v.v < n) c.count-v-end.ensures.count c.loop-v-test.true in
+    let l : c.loop-v.place < length c.args.plans.now = subst (λ n. n < length c.args.plans.now) (sym c.loop-v.invariant.2) (worth_place nodes c.loop-v.v c.args.plans.now c.index-plans-place.result within (sym c.kind.ensures.kind ∙ c.in-Utility.is) c.requires.planned).0 in
+    search rules
+
+no_utility : {k : Kind} → k ≡ Chance ⊎ k ≡ Decision → k ≡ Utility → ⊥
+no_utility (inl e) f = cc
+no_utility (inr e) f = cc
+
+pub loop-v-preserved : goal.loop-v-preserved
+loop-v-preserved c =
+    let nodes = c.args.diagram.now.nodes in
+    let P : ℕ → ℤ → Type 0 = (λ u z. (node_at nodes u).kind ≡ Utility → IsOwnedBy nodes u c.args.agent → IsWorth nodes c.args.profile.now u z) in
+    elim c.match-kind.branch [
+      | in-Utility+in_ok-push-in-Utility w ↦
+          let more : c.match-kind.worths.items ≡ c.loop-v.worths.items ++ w.worth_for-worth.result ∷ [] = search rules in (
+            search rules,
+            subst (λ (l : List ℤ). (u : ℕ) → u < c.loop-v.v + 1 → P u (get_or l u (pos 0))) (sym more) (worths-push P c.loop-v.v c.loop-v.worths.items w.worth_for-worth.result c.loop-v.invariant.0 c.loop-v.invariant.1 (λ k own. w.worth_for-worth.ensures.worth own)),
+            w.place-is ∙ ap (λ n. n + 1) c.loop-v.invariant.2 ∙ sym (utilities_more nodes c.loop-v.v true (ap is_utility (sym c.kind.ensures.kind ∙ w.in-Utility.is))),
+            search rules,
+            search rules,
+          )
+      | in-Chance+in_ok-push-in-Chance w ↦
+          let more : c.match-kind.worths.items ≡ c.loop-v.worths.items ++ pos 0 ∷ [] = search rules in (
+            search rules,
+            subst (λ (l : List ℤ). (u : ℕ) → u < c.loop-v.v + 1 → P u (get_or l u (pos 0))) (sym more) (worths-push P c.loop-v.v c.loop-v.worths.items (pos 0) c.loop-v.invariant.0 c.loop-v.invariant.1 (λ k own. absurd (no_utility w.in-Chance.is (c.kind.ensures.kind ∙ k)))),
+            w.place-is ∙ c.loop-v.invariant.2 ∙ sym (utilities_more nodes c.loop-v.v false (elim w.in-Chance.is [ inl e ↦ ap is_utility (sym c.kind.ensures.kind ∙ e) | inr e ↦ ap is_utility (sym c.kind.ensures.kind ∙ e) ]) ∙ omega arith),
+            search rules,
+            search rules,
+          )
+    ]

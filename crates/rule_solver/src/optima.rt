@@ -1,0 +1,351 @@
+//! The optimum of an agent that decides alone: choices of its decisions, and what they are worth to it. What a row or
+//! another agent gets is left out.
+
+ghost use Rattle.std.specs.Prelude.{◌≡◌, ◌<◌, ◌≤◌, ◌^◌, ◌*◌, ◌≤ℤ◌, ℕ, All, IfOk, OnOk, length, map};
+ghost use Rattle.std.specs.List.{AllZip};
+ghost use Rattle.first_fault.specs.Answers.{Passes};
+ghost use Rattle.maid_model.specs.declared.limits.TheConstants.{MOST_PLAN_CELLS};
+ghost use Rattle.maid_model.specs.declared.diagrams.Kind.TheVariants.{Utility};
+ghost use Rattle.maid_model.specs.Answers.{IsExpectedUtility};
+ghost use Rattle.maid_model.specs.Diagrams.{IsDiagram};
+ghost use Rattle.maid_model.specs.Nodes.{IsDecision, IsOwnedBy, node_at};
+ghost use Rattle.maid_model.specs.Placing.{IsRelianceOrder};
+ghost use Rattle.maid_model.specs.Profiles.{IsProfile};
+ghost use Rattle.maid_model.specs.Relevance.{IsGoal};
+ghost use Rattle.maid_model.specs.Scopes.{KeepsScopedBounds};
+ghost use Rattle.maid_model.specs.Subgames.{OwnsAll};
+ghost use Rattle.maid_model.specs.Values.{IsOptimum};
+ghost use Rattle.part_laws.specs.ScopeLaws.{HasSmallRules, HasUnitRules};
+ghost use Rattle.plan_sums.specs.Plans.{gain_plan, worth_plan};
+ghost use Rattle.relevance_graph.specs.Relevant.{IsRelevance};
+ghost use Rattle.size_precheck.specs.Decisions.{ArePlans};
+ghost use Rattle.size_precheck.specs.Kept.{IsKept};
+ghost use Rattle.size_precheck.specs.Sizes.{IsPlanned, goal_list};
+ghost use Rattle.rule_solver.specs.Faults.{solve_fault, solve_pass};
+ghost use Rattle.rule_solver.specs.Optima.{ChoosesAll, ChoosesRows, IsChosenBy};
+ghost use Rattle.rule_solver.specs.Rooms.{AreReady, HasAtMost, HasRoom, HasRoomAt, HasRoomForWorths, IsReady};
+ghost use Rattle.rule_solver.specs.Rows.{gain_in};
+ghost use Rattle.rule_solver.specs.Totals.{HasTotals};
+ghost use Rattle.rule_solver.specs.Worths.{ArePlansOfWorths, HasWorthsFor, IsWorth};
+
+use crate::SolveFault;
+use crate::bases::base_of;
+use crate::decision_sums::Setting;
+use crate::limits::{keep_bound, keep_sizes};
+use crate::rows::first_best;
+use crate::spaces::Workspaces;
+use crate::totals::list_totals;
+use crate::worths::{Stake, worth};
+use cell_rings::{Gain, SmallGain};
+use factor_core::Workspace;
+use maid_laws::{answers_are_best, exchange, one_agent};
+use maid_model::{Answer, Diagram, Kind, Profile, Ratio, Row};
+use part_laws::{parts_decide, scoped_sums_fit, scopes_are_parts};
+use relevance_graph::{Relevance, find_relevance};
+use scope_sums::plans_sum_scopes;
+use size_precheck::{DecisionPlans, KeptPlans, Plan, RunPlans};
+use std::alloc::{AllocError, Global};
+use weight_scale::{agent_scope, decision_scope};
+
+/// The first best state of a row, where `gains` has a number for each row and state, the state fastest.
+fn choice_at(gains: &[i128], rows: usize, states: usize, row: usize) -> usize
+    requires all { length gains.now ≡ rows * states }
+    requires some { 0 < states }
+    requires row { row < rows }
+    ensures within { result < states }
+    ensures best { (s : ℕ) → s < states
+        → gain_in gains.now states row s ≤ℤ gain_in gains.now states row result }
+{
+    let start = row * states;
+    first_best(&gains[start..start + states])
+}
+
+/// The first best state of each row, without what it is worth.
+fn choose_rows(
+    alloc: Global,
+    gains: &[i128],
+    rows: usize,
+    states: usize,
+) -> Result<Vec<Row>, AllocError>
+    requires all { length gains.now ≡ rows * states }
+    requires some { 0 < states }
+    ensures { IfOk result (λ v. ChoosesRows (gain_in gains.now states) states rows v.items) }
+{
+    let mut chosen = Vec::with_capacity(alloc, rows)?;
+    for row in 0..rows {
+        let choice = choice_at(gains, rows, states, row);
+        chosen.push(Row {
+            choice,
+            worth: None,
+        })?;
+    }
+    Ok(chosen)
+}
+
+/// What is chosen at the decision against the base, by the plans of its goals. The plan of its rows is not run: where a
+/// row has no mass no state gains anything, and any choice is best.
+fn choose(
+    alloc: Global,
+    diagram: &Diagram,
+    base: &Profile,
+    decision: usize,
+    goals: &[Plan],
+    spaces: &mut Workspaces,
+) -> Result<Vec<Row>, AllocError>
+    requires decision { IsDecision diagram.now.nodes decision }
+    requires profile { IsProfile diagram.now.nodes base.now }
+    requires rules { HasSmallRules diagram.now.nodes base.now decision }
+    requires bound { KeepsScopedBounds diagram.now }
+    requires planned { AllZip (IsPlanned diagram.now.nodes)
+        (map (λ u. gain_plan diagram.now.nodes decision u)
+        (goal_list diagram.now.nodes decision)) goals.now }
+    requires ready { (cells : ℕ) × AreReady cells spaces.old
+        × ((u : ℕ) → IsGoal diagram.now.nodes decision u
+        → HasAtMost diagram.now.nodes (gain_plan diagram.now.nodes decision u) cells) }
+    ensures rows { IfOk result (λ v. IsChosenBy diagram.now.nodes base.now decision v.items) }
+    ensures again { OnOk result (spaces.new ≡ spaces.old) }
+{
+    // The part of the scope has the whole's best states.
+    scopes_are_parts();
+    parts_decide();
+    plans_sum_scopes();
+    let states = diagram.states(decision);
+    let rows = diagram.rows(decision);
+    let totals = list_totals(alloc, diagram, base)?;
+    let setting = Setting {
+        diagram,
+        base,
+        decision,
+        totals: &totals,
+        scope: decision_scope(diagram, decision),
+    };
+    let gains = setting.gains(alloc, goals, spaces)?;
+    choose_rows(alloc, &gains, rows, states)
+}
+
+/// What is chosen at each decision of the order of solving, each against its base in the rules chosen before it, by its
+/// plans.
+fn choose_all(
+    alloc: Global,
+    diagram: &Diagram,
+    relevance: &Relevance,
+    order: &[usize],
+    plans: &[DecisionPlans],
+    spaces: &mut Workspaces,
+) -> Result<Vec<Answer>, AllocError>
+    requires bound { KeepsScopedBounds diagram.now }
+    requires relevance { IsRelevance diagram.now.nodes relevance.now }
+    requires order { IsRelianceOrder diagram.now.nodes order.now }
+    requires planned { ArePlans diagram.now.nodes order.now plans.now }
+    requires ready { (cells : ℕ) × AreReady cells spaces.old
+        × ((d : ℕ) → IsDecision diagram.now.nodes d → HasRoomAt diagram.now.nodes d cells) }
+    ensures answers { IfOk result (λ v. ChoosesAll diagram.now.nodes order.now v.items) }
+    ensures again { OnOk result (spaces.new ≡ spaces.old) }
+{
+    let mut answers = Vec::with_capacity(alloc, order.len())?;
+    for (place, decision) in order.iter().enumerate() {
+        let base = base_of(alloc, diagram, relevance, &answers, *decision)?;
+        let goals = &plans[place].goals;
+        let rows = choose(alloc, diagram, &base, *decision, goals, spaces)?;
+        answers.push(Answer {
+            decision: *decision,
+            rows,
+        })?;
+    }
+    Ok(answers)
+}
+
+/// What the utility's plan sums to where the agent owns it, and else 0, without a run of the plan.
+fn worth_for(
+    diagram: &Diagram,
+    profile: &Profile,
+    agent: usize,
+    totals: &[u128],
+    utility: usize,
+    plan: &Plan,
+    small: &mut Workspace<SmallGain>,
+    wide: &mut Workspace<Gain>,
+) -> i128
+    requires diagram { IsDiagram diagram.now }
+    requires within { utility < length diagram.now.nodes }
+    requires kind { (node_at diagram.now.nodes utility).kind ≡ Utility }
+    requires profile { IsProfile diagram.now.nodes profile.now }
+    requires rules { HasUnitRules diagram.now.nodes profile.now }
+    requires bound { KeepsScopedBounds diagram.now }
+    requires totals { HasTotals diagram.now.nodes profile.now totals.now }
+    requires planned { IsPlanned diagram.now.nodes (worth_plan utility) plan.now }
+    requires ready { (cells : ℕ) × IsReady cells small.old × IsReady cells wide.old
+        × HasAtMost diagram.now.nodes (worth_plan utility) cells }
+    ensures worth { IsOwnedBy diagram.now.nodes utility agent
+        → IsWorth diagram.now.nodes profile.now utility result }
+    ensures again { (small.new ≡ small.old) × (wide.new ≡ wide.old) }
+{
+    if diagram.owns(agent, utility) {
+        worth(diagram, profile, totals, utility, plan, small, wide)
+    } else {
+        0
+    }
+}
+
+/// The worth of each of the agent's utilities, and 0 at other nodes. It runs the plans of these utilities alone.
+fn list_worths_for(
+    alloc: Global,
+    diagram: &Diagram,
+    profile: &Profile,
+    agent: usize,
+    totals: &[u128],
+    plans: &[Plan],
+    small: &mut Workspace<SmallGain>,
+    wide: &mut Workspace<Gain>,
+) -> Result<Vec<i128>, AllocError>
+    requires profile { IsProfile diagram.now.nodes profile.now }
+    requires rules { HasUnitRules diagram.now.nodes profile.now }
+    requires bound { KeepsScopedBounds diagram.now }
+    requires totals { HasTotals diagram.now.nodes profile.now totals.now }
+    requires planned { ArePlansOfWorths diagram.now.nodes plans.now }
+    requires ready { (cells : ℕ) × IsReady cells small.old × IsReady cells wide.old
+        × HasRoomForWorths diagram.now.nodes cells }
+    ensures worths { IfOk result (λ worths.
+        HasWorthsFor diagram.now.nodes profile.now agent worths.items) }
+    ensures again { OnOk result ((small.new ≡ small.old) × (wide.new ≡ wide.old)) }
+{
+    let mut worths = Vec::with_capacity(alloc, diagram.count())?;
+    let mut place = 0;
+    for v in 0..diagram.count() {
+        match diagram.kind(v) {
+            Kind::Utility => {
+                let plan = &plans[place];
+                let worth = worth_for(diagram, profile, agent, totals, v, plan, small, wide);
+                worths.push(worth)?;
+                place += 1;
+            }
+            Kind::Chance | Kind::Decision => worths.push(0)?,
+        }
+    }
+    Ok(worths)
+}
+
+/// What the profile, whose rules are pure, is worth to the agent, by the plans of the utilities' worths.
+fn expected_for(
+    alloc: Global,
+    diagram: &Diagram,
+    profile: &Profile,
+    agent: usize,
+    plans: &[Plan],
+    spaces: &mut Workspaces,
+) -> Result<Ratio, AllocError>
+    requires agent { agent < diagram.now.agents }
+    requires bound { KeepsScopedBounds diagram.now }
+    requires profile { IsProfile diagram.now.nodes profile.now }
+    requires pure { HasUnitRules diagram.now.nodes profile.now }
+    requires planned { ArePlansOfWorths diagram.now.nodes plans.now }
+    requires ready { (cells : ℕ) × AreReady cells spaces.old
+        × HasRoomForWorths diagram.now.nodes cells }
+    ensures worth { IfOk result (IsExpectedUtility diagram.now.nodes (10 ^ diagram.now.decimals)
+        profile.now agent) }
+{
+    let _agents = diagram.agents();
+    let totals = list_totals(alloc, diagram, profile)?;
+    let (small, wide) = (&mut spaces.small, &mut spaces.wide);
+    let worths = list_worths_for(alloc, diagram, profile, agent, &totals, plans, small, wide)?;
+    let stake = Stake {
+        diagram,
+        profile,
+        agent,
+        totals: &totals,
+        worths: &worths,
+        scope: agent_scope(diagram, agent),
+    };
+    Ok(stake.expected())
+}
+
+/// The agent's optimum in a diagram whose decisions have this order of solving, by the plans of its run. The workspaces
+/// are reserved once.
+fn optimum_along(
+    alloc: Global,
+    diagram: &Diagram,
+    agent: usize,
+    relevance: &Relevance,
+    order: &[usize],
+    run: &RunPlans,
+) -> Result<Ratio, AllocError>
+    requires alone { OwnsAll diagram.now.nodes agent }
+    requires within { agent < diagram.now.agents }
+    requires bound { KeepsScopedBounds diagram.now }
+    requires relevance { IsRelevance diagram.now.nodes relevance.now }
+    requires order { IsRelianceOrder diagram.now.nodes order.now }
+    requires plans { ArePlans diagram.now.nodes order.now run.now.decisions.items }
+    requires worths { ArePlansOfWorths diagram.now.nodes run.now.worths.items }
+    requires room { HasRoom diagram.now.nodes run.now.size.cells }
+    requires limit { run.now.size.cells ≤ MOST_PLAN_CELLS }
+    ensures { IfOk result (IsOptimum diagram.now.nodes diagram.now.decimals agent) }
+{
+    scoped_sums_fit();
+    answers_are_best();
+    exchange();
+    one_agent();
+    let _count = diagram.count();
+    let cells = run.size.cells as usize;
+    let mut spaces = Workspaces::reserve(alloc, cells)?;
+    let answers = choose_all(
+        alloc,
+        diagram,
+        relevance,
+        order,
+        &run.decisions,
+        &mut spaces,
+    )?;
+    let profile = Profile::pure(alloc, diagram, &answers)?;
+    expected_for(alloc, diagram, &profile, agent, &run.worths, &mut spaces)
+}
+
+/// The agent's optimum in a diagram within the limits, or the first of them that it doesn't keep.
+fn optimum_ordered(
+    alloc: Global,
+    diagram: &Diagram,
+    agent: usize,
+    relevance: &Relevance,
+    order: &[usize],
+    kept: &[KeptPlans],
+) -> Result<Ratio, SolveFault>
+    requires alone { OwnsAll diagram.now.nodes agent }
+    requires within { agent < diagram.now.agents }
+    requires relevance { IsRelevance diagram.now.nodes relevance.now }
+    requires order { IsRelianceOrder diagram.now.nodes order.now }
+    requires kept { All (IsKept diagram.now.nodes) kept.now }
+    ensures rows { Passes solve_fault (solve_pass diagram.now) result }
+    ensures ok { IfOk result (IsOptimum diagram.now.nodes diagram.now.decimals agent) }
+{
+    keep_bound(diagram)?;
+    let run = keep_sizes(alloc, diagram, order, kept)?;
+    Ok(optimum_along(alloc, diagram, agent, relevance, order, &run)?)
+}
+
+/// The optimum of the agent that owns all decisions of the diagram: what `solve_with` prints for it, at less cost. The
+/// plans of rows are made and counted, but not run, and so are those of other agents' utilities.
+///
+/// # Errors
+///
+/// Those of `solve`.
+pub fn optimum_with(
+    alloc: Global,
+    diagram: &Diagram,
+    agent: usize,
+    kept: &[KeptPlans],
+) -> Result<Ratio, SolveFault>
+    requires alone { OwnsAll diagram.now.nodes agent }
+    requires within { agent < diagram.now.agents }
+    // What is kept are plans of the diagram's decisions.
+    requires kept { All (IsKept diagram.now.nodes) kept.now }
+    // The optimum where nothing refuses the diagram, and else the first refusal that applies.
+    ensures rows { Passes solve_fault (solve_pass diagram.now) result }
+    ensures optimum { IfOk result (IsOptimum diagram.now.nodes diagram.now.decimals agent) }
+{
+    let relevance = find_relevance(alloc, diagram)?;
+    match relevance.order() {
+        Ok(order) => optimum_ordered(alloc, diagram, agent, &relevance, order, kept),
+        Err(cycle) => Err(SolveFault::Cycle {
+            list: Vec::from_slice(alloc, cycle)?,
+        }),
+    }
+}
