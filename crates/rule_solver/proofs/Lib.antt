@@ -6,6 +6,7 @@ mod DecisionLemmas
 mod Equals
 mod GainCells
 mod GainLemmas
+mod GainSumLemmas
 mod GoalPlans
 mod JointLists
 mod JointNodes
@@ -23,6 +24,7 @@ mod Rooms
 mod RowLemmas
 mod SettingLemmas
 mod StakeLemmas
+mod StateLemmas
 mod SumLemmas
 mod TableCells
 mod TotalLemmas

@@ -15,6 +15,8 @@ ghost use Rattle.size_precheck.specs.Sizes.{ArePlansOf, IsPlanned, goal_list};
 ghost use Rattle.rule_solver.specs.Rooms.{AreReady, HasAtMost, HasRoomAt, IsReady};
 ghost use Rattle.rule_solver.specs.Sums.{AddsGoals, HasGoals, HasMasses, HasRoomFor, IsRowSums, IsSetting, KeepsRoom};
 
+mod gain_sums;
+
 use crate::joint_goals::add_together;
 use crate::numbers::Number;
 use crate::reading::{add_gains, list_scope, put_masses};
@@ -24,6 +26,7 @@ use crate::widths::fits_small;
 use cell_rings::{Gain, SmallGain};
 use eliminate::{release, run_plan};
 use factor_core::Workspace;
+pub use gain_sums::gains_by;
 use maid_model::{Diagram, Profile, goals_of};
 use node_sets::NodeSet;
 use scope_sums::{plans_keep_scopes, plans_sum_scopes};

@@ -25,10 +25,12 @@ mod laws;
 mod limits;
 mod numbers;
 mod odometer;
+mod planned;
 mod reading;
 mod rows;
 mod solving;
 mod spaces;
+mod state_sums;
 #[cfg(test)]
 mod tests;
 mod totals;
@@ -36,9 +38,11 @@ mod widths;
 mod worths;
 
 pub use bases::base_of;
-pub use decision_sums::{RowSums, row_sums, row_sums_by};
+pub use decision_sums::{RowSums, gains_by, row_sums, row_sums_by};
 pub use faults::SolveFault;
 pub use laws::measured_plans_have_room;
+pub use planned::solve_by;
 pub use solving::{solve, solve_with};
 pub use spaces::Workspaces;
+pub use state_sums::sum_at;
 pub use worths::{expected, expected_by};
