@@ -1,5 +1,5 @@
 -- The plans that keep x: their numbers fit, and that without a utility sums to a mass.
-use Rattle.std.proofs.Common.{◌≡◌, ◌∙◌, ℕ, ◌+◌, ◌*◌, ◌^◌, ◌<◌, ◌≤◌, max, ◌&&◌, List, Some, None, length, refl, sym, ap, inl, arith, ℤ, pos, nat_abs}
+use Rattle.std.proofs.Common.{◌≡◌, ◌∙◌, ℕ, ◌*◌, ◌^◌, ◌<◌, ◌≤◌, max, ◌&&◌, List, Some, None, length, refl, sym, ap, inl, arith, ℤ, pos, nat_abs}
 use Rattle.std.proofs.Math.Nat.{mul-le-mul, mul-le-mul_left}
 use Rattle.cell_rings.specs.RingLaws.{gain_is_ring, mass_is_ring, mass_to_gain}
 use Rattle.cell_rings.specs.Rings.{gain_ring, most_size}
@@ -16,7 +16,7 @@ use Rattle.maid_model.specs.Views.{NodeView, DiagramView, RuleView}
 use Rattle.maid_laws.proofs.Rearranged.{number}
 use Rattle.finite_sums.specs.Members.{Among}
 use Rattle.part_laws.specs.ScopeLaws.{HasUnitRules}
-use Rattle.plan_sums.specs.Plans.{Cells, PlanView, gain_cells, mass_cells, plan_sum, ruled_nodes}
+use Rattle.plan_sums.specs.Plans.{Cells, gain_cells, mass_cells, plan_sum, ruled_nodes}
 use Rattle.plan_sums.proofs.Products.{maps_plans}
 use Rattle.eliminate.specs.Results.{plan_total}
 use Rattle.weight_scale.specs.Given.{product_given}

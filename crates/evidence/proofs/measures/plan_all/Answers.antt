@@ -1,4 +1,4 @@
-use Rattle.std.proofs.Common.{◌≡◌, ◌∙◌, ◌<◌, ◌+◌, None, arith, length, slice_index_or, sym, subst, ap}
+use Rattle.std.proofs.Common.{◌∙◌, ◌+◌, None, arith, length, slice_index_or, sym, subst, ap}
 use Rattle.evidence.specs.Plans.{IsPlanIf}
 use Rattle.evidence.proofs.Listed.{at_more, long_more}
 use Rattle.evidence.proofs.Measured.{counted_first, counted_next}

@@ -1,4 +1,4 @@
-use Rattle.std.proofs.Common.{rules, ◌∙◌, ◌≤◌, ◌*◌, None, FitsSigned, sym, subst, ap, nat_abs}
+use Rattle.std.proofs.Common.{rules, ◌∙◌, ◌≤◌, ◌*◌, FitsSigned, sym, subst, ap, nat_abs}
 use Rattle.std.specs.Int.{w128}
 use Rattle.std.proofs.lemmas.Int.{to_z-of_z}
 use Rattle.cell_rings.specs.Rings.{most_size}
@@ -6,7 +6,6 @@ use Rattle.eliminate.specs.Results.{plan_total}
 use Rattle.plan_sums.specs.Plans.{PlanView, gain_cells, plan_sum}
 use Rattle.rule_solver.specs.Rooms.{HasAtMost}
 use Rattle.size_precheck.specs.Sizes.{IsPlanned}
-use Rattle.evidence.specs.Sizes.{plan_given}
 use Rattle.evidence.proofs.PlanCells.{alone_fits, mass_number}
 use Rattle.evidence.proofs.sums.mass_at.Goals as goal
 

@@ -1,4 +1,4 @@
-use Rattle.std.proofs.Common.{◌∙◌, ◌≤◌, ◌*◌, Some, sym, subst, ap}
+use Rattle.std.proofs.Common.{◌∙◌, ◌≤◌, ◌*◌, sym, subst, ap}
 use Rattle.cell_rings.specs.Rings.{most_size}
 use Rattle.eliminate.specs.Results.{plan_total}
 use Rattle.plan_sums.specs.Plans.{PlanView, gain_cells, plan_sum}
@@ -6,7 +6,6 @@ use Rattle.rule_solver.specs.Rooms.{HasAtMost}
 use Rattle.rule_solver.specs.StateSums.{IsSumAt}
 use Rattle.size_precheck.specs.Sizes.{IsPlanned}
 use Rattle.evidence.specs.Stakes.{IsWorthAt}
-use Rattle.evidence.specs.Sizes.{plan_given}
 use Rattle.evidence.proofs.PlanCells.{utility_fits}
 use Rattle.evidence.proofs.Promises.{if_ok}
 use Rattle.evidence.proofs.sums.worth_at.Goals as goal

@@ -1,4 +1,4 @@
-use Rattle.std.proofs.Common.{◌≡◌, ◌∙◌, ◌≤◌, arith, ap, sym, subst}
+use Rattle.std.proofs.Common.{◌∙◌, ◌≤◌, arith, ap, sym, subst}
 use Rattle.maid_model.specs.declared.limits.TheConstants.{MOST_PLAN_CELLS}
 use Rattle.maid_model.specs.Views.{SolvedView}
 use Rattle.size_precheck.specs.Decisions.{ArePlans}
