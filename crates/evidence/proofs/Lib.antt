@@ -1,13 +1,13 @@
 mod Below
 mod Conditional
 mod Left
+mod Listed
 mod Measured
 mod Orders
 mod PlanCells
 mod Planned
 mod Products
 mod Promises
-mod Refused
 mod Seen
 mod StakeLemmas
 mod Summed

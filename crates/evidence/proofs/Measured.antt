@@ -1,32 +1,34 @@
 -- The sizes of all plans, counted one after the other, and the room that they tell.
-use Rattle.std.proofs.Common.{◌≡◌, ◌⊎◌, ◌∙◌, ℕ, ◌+◌, ◌≤◌, min, max, Bool, false, cond, filter, map, List, [], ◌∷◌, ◌++◌, refl, sym, ap, subst, inl, inr, arith, Some, None}
-use Rattle.std.specs.Prelude.{sum_by}
+use Rattle.std.proofs.Common.{◌≡◌, ◌⊎◌, ◌∙◌, ◌&&◌, ℕ, ◌+◌, ◌≤◌, min, max, Bool, false, cond, filter, map, List, [], ◌∷◌, ◌++◌, refl, sym, ap, subst, inl, inr, arith, Some, None}
+use Rattle.std.specs.Prelude.{flat_map, sum_by}
 use Rattle.std.specs.List.{AllZip, range_with_len}
 use Rattle.std.proofs.lemmas.List.{append_assoc}
 use Rattle.std.proofs.lemmas.List.Elements.{filter-append}
 use Rattle.std.proofs.lemmas.List.FromFn.{map-range_with_len_more}
 use Rattle.std.proofs.lemmas.List.Sums.{sum_by-append}
 use Rattle.finite_sums.specs.Members.{Among}
-use Rattle.finite_sums.proofs.Members.{filter_has}
+use Rattle.finite_sums.proofs.Members.{among_from_contains, any_is, filter_has}
 use Rattle.maid_model.specs.declared.limits.TheConstants.{COUNT_END}
 use Rattle.maid_model.specs.declared.diagrams.Kind.{Kind}
 use Rattle.maid_model.specs.declared.diagrams.Kind.TheVariants.{Chance, Decision, Utility}
 use Rattle.maid_model.specs.Bounds.{stopped}
-use Rattle.maid_model.specs.Nodes.{IsDecision, node_at, numbers_of, is_utility}
+use Rattle.maid_model.specs.Laws.{TestsDescent}
+use Rattle.maid_model.specs.Nodes.{IsDecision, agent_of, node_at, numbers_of, owners_of, is_utility}
 use Rattle.maid_model.specs.Placing.{IsRelianceOrder}
-use Rattle.maid_model.specs.Relevance.{ReliesOn}
+use Rattle.maid_model.specs.Relevance.{IsGoal, ReliesOn}
 use Rattle.maid_model.specs.Views.{NodeView, DiagramView}
 use Rattle.maid_laws.proofs.OneAnswer.{order_one}
 use Rattle.maid_laws.proofs.Rearranged.{number}
 use Rattle.ring_sums.proofs.Each.{zip_append}
 use Rattle.ring_sums.proofs.Same.{map_append}
-use Rattle.plan_sums.specs.Plans.{PlanView}
+use Rattle.plan_sums.specs.Plans.{PlanView, row_plan, gain_plan, worth_plan}
 use Rattle.size_precheck.specs.declared.sizes.Size.{Size}
 use Rattle.size_precheck.specs.Laws.{OneGreedyOrder, OneSize}
-use Rattle.size_precheck.specs.Sizes.{IsMade, HasSize, IsSizeOfAll, IsSizeOfRun, greatest, plan_cells, run_plans, utility_list}
-use Rattle.rule_solver.specs.Faults.{IsSmallEnough, KeepsSizes}
-use Rattle.rule_solver.specs.Rooms.{HasAtMost}
-use Rattle.evidence.specs.Measures.{AddsPlan, AddsUtility, Grows, HasRun}
+use Rattle.size_precheck.specs.Sizes.{IsMade, HasSize, IsSizeOfAll, IsSizeOfRun, goal_list, greatest, is_goal, plan_cells, run_plans, utility_list}
+use Rattle.rule_solver.specs.Faults.{KeepsSizes}
+use Rattle.rule_solver.specs.Rooms.{HasAtMost, HasRoom}
+use Rattle.evidence.specs.Measures.{AddsPlan, AddsUtility}
+use Rattle.evidence.specs.Plans.{HasRoomForAll}
 use Rattle.evidence.specs.Sizes.{HasRoomGiven, IsSmallEnoughGiven, plan_given, plans_given}
 
 -- ---- one plan more
@@ -37,7 +39,7 @@ greatest_append (x ∷ xs) ys = let a = greatest_append xs ys in ap (λ n. max x
     max_assoc : (a b c : ℕ) → max a (max b c) ≡ max (max a b) c
     max_assoc a b c = omega arith
 
-pub size_push : (nodes : List NodeView) (plans : List PlanView) (plan : PlanView) (before after : Size) → IsSizeOfAll nodes plans before → AddsPlan nodes plan before after → IsSizeOfAll nodes (plans ++ plan ∷ []) after
+size_push : (nodes : List NodeView) (plans : List PlanView) (plan : PlanView) (before after : Size) → IsSizeOfAll nodes plans before → AddsPlan nodes plan before after → IsSizeOfAll nodes (plans ++ plan ∷ []) after
 size_push nodes plans plan before after all adds = record {
   sizes = all.sizes ++ adds.size ∷ [];
   each = zip_append (HasSize nodes) plans (plan ∷ []) all.sizes (adds.size ∷ []) all.each (adds.has_size, tt);
@@ -62,23 +64,7 @@ size_push nodes plans plan before after all adds = record {
     stop_part : (end a b : ℕ) → min (min a end + b) end ≡ min (a + b) end
     stop_part end a b = omega arith
 
-pub grows_push : (nodes : List NodeView) (plan : PlanView) (run before after : Size) → Grows run before → AddsPlan nodes plan before after → Grows run after
-grows_push nodes plan run before after g adds = record {
-  cells = more _ _ _ _ g.cells adds.cells;
-  work = longer COUNT_END _ _ _ _ g.work g.few adds.work;
-  few = few COUNT_END _ _ adds.work;
-}
-  where
-    more : (r b a s : ℕ) → r ≤ b → a ≡ max b s → r ≤ a
-    more r b a s h e = omega (arith, h, e)
-
-    longer : (end r b a s : ℕ) → r ≤ b → b ≤ end → a ≡ min (b + s) end → r ≤ a
-    longer end r b a s h k e = omega (arith, h, k, e)
-
-    few : (end a s : ℕ) → a ≡ min s end → a ≤ end
-    few end a s e = omega (arith, e)
-
-pub size_few : (nodes : List NodeView) (plans : List PlanView) (size : Size) → IsSizeOfAll nodes plans size → size.work ≤ COUNT_END
+size_few : (nodes : List NodeView) (plans : List PlanView) (size : Size) → IsSizeOfAll nodes plans size → size.work ≤ COUNT_END
 size_few nodes plans size all = few COUNT_END _ _ all.work
   where
     few : (end a s : ℕ) → a ≡ min s end → a ≤ end
@@ -112,19 +98,13 @@ module _ (nodes : List NodeView) (order : List ℕ) (x : ℕ) where
   -- what holds of the size after the nodes before n
   pub record Counted (n : ℕ) (size : Size) : Type 0 where
     pub is_size : IsSizeOfAll nodes (plans_to n) size
-    pub run : HasRun nodes order size
+    pub few : size.work ≤ COUNT_END
+
+  counted : (n : ℕ) (size : Size) → IsSizeOfAll nodes (plans_to n) size → Counted n size
+  counted n size is = record { is_size = is; few = size_few nodes (plans_to n) size is }
 
   pub counted_first : (run size : Size) → IsSizeOfRun nodes order run → AddsPlan nodes (plan_given x None) run size → Counted 0 size
-  counted_first run size is adds = record {
-    is_size = size_push nodes (run_plans nodes order) (plan_given x None) run size is adds;
-    run = record { run = run; is_size = is; grows = grows_push nodes (plan_given x None) run run size (record { cells = same run.cells; work = same run.work; few = size_few nodes (run_plans nodes order) run is }) adds };
-  }
-    where
-      same : (n : ℕ) → n ≤ n
-      same n = omega arith
-
-  pub counted_few : (n : ℕ) (size : Size) → Counted n size → size.work ≤ COUNT_END
-  counted_few n size c = c.run.grows.few
+  counted_first run size is adds = counted 0 size (size_push nodes (run_plans nodes order) (plan_given x None) run size is adds)
 
   pub counted_next : (n : ℕ) (before after : Size) → Counted n before → AddsUtility nodes x n before after → Counted (n + 1) after
   counted_next n before after c adds = go (node_at nodes n).kind refl
@@ -140,21 +120,14 @@ module _ (nodes : List NodeView) (order : List ℕ) (x : ℕ) where
       kept k e f never =
           let same = adds.other (λ h. never (sym e ∙ h)) in
           subst (Counted (n + 1)) (sym same)
-          (record {
-            is_size = subst (λ l. IsSizeOfAll nodes l before)
-                (sym (plans_are k e ∙ ap (λ b. run_plans nodes order ++ (plan_given x None ∷ (utilities_to n ++ map (λ u. plan_given x (Some u)) (cond b (n ∷ []) [])))) f ∙ ap (λ l. run_plans nodes order ++ (plan_given x None ∷ l)) (none (utilities_to n)))) c.is_size;
-            run = c.run;
-          })
+          (counted (n + 1) before (subst (λ l. IsSizeOfAll nodes l before)
+          (sym (plans_are k e ∙ ap (λ b. run_plans nodes order ++ (plan_given x None ∷ (utilities_to n ++ map (λ u. plan_given x (Some u)) (cond b (n ∷ []) [])))) f ∙ ap (λ l. run_plans nodes order ++ (plan_given x None ∷ l)) (none (utilities_to n)))) c.is_size))
 
       go : (k : Kind) → (node_at nodes n).kind ≡ k → Counted (n + 1) after
       go Chance e = kept Chance e refl (λ h. cc)
       go Decision e = kept Decision e refl (λ h. cc)
       go Utility e =
-          let a = adds.utility e in
-          record {
-            is_size = subst (λ l. IsSizeOfAll nodes l after) (append_assoc (run_plans nodes order) (plan_given x None ∷ utilities_to n) (plan_given x (Some n) ∷ []) ∙ sym (plans_are Utility e)) (size_push nodes (plans_to n) (plan_given x (Some n)) before after c.is_size a);
-            run = record { run = c.run.run; is_size = c.run.is_size; grows = grows_push nodes (plan_given x (Some n)) c.run.run before after c.run.grows a };
-          }
+          counted (n + 1) after (subst (λ l. IsSizeOfAll nodes l after) (append_assoc (run_plans nodes order) (plan_given x None ∷ utilities_to n) (plan_given x (Some n) ∷ []) ∙ sym (plans_are Utility e)) (size_push nodes (plans_to n) (plan_given x (Some n)) before after c.is_size (adds.utility e)))
 
 -- ---- the limits
 -- a diagram has one order of solving and its plans one size, so plans that keep the limits are small enough
@@ -164,21 +137,16 @@ small_given d order x size one is sized keeps other given =
     let same : size ≡ other = one d.nodes (plans_given d.nodes order x) size other sized (subst (λ o. IsSizeOfAll d.nodes (plans_given d.nodes o x) other) orders given.is_size) in
     subst KeepsSizes same keeps
 
--- so is the run alone
-pub small_run : (d : DiagramView) (order : List ℕ) (size : Size) → OneSize → IsRelianceOrder d.nodes order → HasRun d.nodes order size → KeepsSizes size → IsSmallEnough d
-small_run d order size one is has keeps other given =
-    let orders : given.order ≡ order = order_one (IsDecision d.nodes) (ReliesOn d.nodes) given.order order given.is_order is in
-    let same : has.run ≡ other = one d.nodes (run_plans d.nodes order) has.run other has.is_size (subst (λ o. IsSizeOfRun d.nodes o other) orders given.is_size) in
-    subst KeepsSizes same (record { cells = below _ _ _ has.grows.cells keeps.cells; work = below _ _ _ has.grows.work keeps.work })
-  where
-    below : (a b c : ℕ) → a ≤ b → b ≤ c → a ≤ c
-    below a b c h k = omega (arith, h, k)
-
 -- ---- room
 -- x is in the list
 abbrev IsListed : {X : Type 0} → X → List X → Type 0
 IsListed x [] = ⊥
 IsListed x (y ∷ ys) = (x ≡ y) ⊎ IsListed x ys
+
+listed_left : {X : Type 0} (x : X) (xs ys : List X) → IsListed x xs → IsListed x (xs ++ ys)
+listed_left x [] ys h = absurd h
+listed_left x (z ∷ xs) ys (inl e) = inl e
+listed_left x (z ∷ xs) ys (inr m) = inr (listed_left x xs ys m)
 
 listed_right : {X : Type 0} (x : X) (xs ys : List X) → IsListed x ys → IsListed x (xs ++ ys)
 listed_right x [] ys h = h
@@ -188,6 +156,11 @@ listed_map : {X : Type 0} (f : ℕ → X) (v : ℕ) (vs : List ℕ) → Among v 
 listed_map f v [] h = absurd h
 listed_map f v (u ∷ vs) (inl e) = inl (ap f e)
 listed_map f v (u ∷ vs) (inr m) = inr (listed_map f v vs m)
+
+listed_flat : {X : Type 0} (f : ℕ → List X) (x : X) (v : ℕ) (vs : List ℕ) → Among v vs → IsListed x (f v) → IsListed x (flat_map f vs)
+listed_flat f x v [] h m = absurd h
+listed_flat f x v (u ∷ vs) (inl e) m = listed_left x (f u) (flat_map f vs) (subst (λ z. IsListed x (f z)) e m)
+listed_flat f x v (u ∷ vs) (inr h) m = listed_right x (f u) (flat_map f vs) (listed_flat f x v vs h m)
 
 module _ (nodes : List NodeView) (one : OneGreedyOrder) where
   -- each of the plans is at most as large as the greatest, since it has one greedy order
@@ -208,11 +181,61 @@ module _ (nodes : List NodeView) (one : OneGreedyOrder) where
       later a b c h = omega arith
 
   module _ (order : List ℕ) (x : ℕ) (size : Size) (sized : IsSizeOfAll nodes (plans_given nodes order x) size) where
-    fits : (plan : PlanView) → IsListed plan (plan_given x None ∷ map (λ u. plan_given x (Some u)) (utility_list nodes)) → HasAtMost nodes plan size.cells
-    fits plan m = subst (HasAtMost nodes plan) (sym sized.cells) (plan_fits (plans_given nodes order x) sized.sizes sized.each plan (listed_right plan (run_plans nodes order) (plan_given x None ∷ map (λ u. plan_given x (Some u)) (utility_list nodes)) m))
+    abbrev further : List PlanView
+    further = plan_given x None ∷ map (λ u. plan_given x (Some u)) (utility_list nodes)
 
-    pub room_given : HasRoomGiven nodes x size.cells
+    fits : (plan : PlanView) → IsListed plan (plans_given nodes order x) → HasAtMost nodes plan size.cells
+    fits plan m = subst (HasAtMost nodes plan) (sym sized.cells) (plan_fits (plans_given nodes order x) sized.sizes sized.each plan m)
+
+    further_fits : (plan : PlanView) → IsListed plan further → HasAtMost nodes plan size.cells
+    further_fits plan m = fits plan (listed_right plan (run_plans nodes order) further m)
+
+    room_given : HasRoomGiven nodes x size.cells
     room_given = record {
-      alone = fits (plan_given x None) (inl refl);
-      utilities = λ u l k. fits (plan_given x (Some u)) (inr (listed_map (λ v. plan_given x (Some v)) u (utility_list nodes) (filter_has (λ v. is_utility (node_at nodes v).kind) u (numbers_of nodes) (number nodes u l) (ap is_utility k))));
+      alone = further_fits (plan_given x None) (inl refl);
+      utilities = λ u l k. further_fits (plan_given x (Some u)) (inr (listed_map (λ v. plan_given x (Some v)) u (utility_list nodes) (filter_has (λ v. is_utility (node_at nodes v).kind) u (numbers_of nodes) (number nodes u l) (ap is_utility k))));
     }
+
+    -- the plans of a run are those of rows, then those of states, then those of worths
+    abbrev rows : List PlanView
+    rows = map (λ d. row_plan nodes d) order
+
+    abbrev gains : List PlanView
+    gains = flat_map (λ d. map (λ u. gain_plan nodes d u) (goal_list nodes d)) order
+
+    abbrev worths : List PlanView
+    worths = map (λ u. worth_plan u) (utility_list nodes)
+
+    run_fits : (plan : PlanView) → IsListed plan (run_plans nodes order) → HasAtMost nodes plan size.cells
+    run_fits plan m = fits plan (listed_left plan (run_plans nodes order) further m)
+
+    of_rows : (plan : PlanView) → IsListed plan rows → HasAtMost nodes plan size.cells
+    of_rows plan m = run_fits plan (listed_left plan (rows ++ gains) worths (listed_left plan rows gains m))
+
+    of_gains : (plan : PlanView) → IsListed plan gains → HasAtMost nodes plan size.cells
+    of_gains plan m = run_fits plan (listed_left plan (rows ++ gains) worths (listed_right plan rows gains m))
+
+    of_worths : (plan : PlanView) → IsListed plan worths → HasAtMost nodes plan size.cells
+    of_worths plan m = run_fits plan (listed_right plan (rows ++ gains) worths m)
+
+    module _ (tested : TestsDescent) (is : IsRelianceOrder nodes order) where
+      goal_listed : (d u : ℕ) → IsGoal nodes d u → Among u (goal_list nodes d)
+      goal_listed d u goal = filter_has (λ x. is_goal nodes d x) u (numbers_of nodes) (number nodes u goal.within) (λ i. (tested nodes d u).1 goal.below i && (ap is_utility goal.kind i && (any_is (agent_of nodes d) (owners_of nodes u)).1 goal.owner i))
+
+      ordered : (d : ℕ) → IsDecision nodes d → Among d order
+      ordered d k = among_from_contains order d (is.complete d k)
+
+      room_run : HasRoom nodes size.cells
+      room_run = record {
+        decisions = λ d k. record {
+          rows = of_rows (row_plan nodes d) (listed_map (λ e. row_plan nodes e) d order (ordered d k));
+          goals = λ u goal. of_gains (gain_plan nodes d u)
+              (listed_flat (λ e. map (λ x. gain_plan nodes e x) (goal_list nodes e)) (gain_plan nodes d u) d order (ordered d k)
+              (listed_map (λ x. gain_plan nodes d x) u (goal_list nodes d) (goal_listed d u goal)));
+        };
+        worths = λ u l k. of_worths (worth_plan u)
+            (listed_map (λ x. worth_plan x) u (utility_list nodes) (filter_has (λ x. is_utility (node_at nodes x).kind) u (numbers_of nodes) (number nodes u l) (ap is_utility k)));
+      }
+
+      pub room_for_all : HasRoomForAll nodes x size.cells
+      room_for_all = record { run = room_run; given = room_given }

@@ -1,18 +1,10 @@
--- The plans that keep x: their numbers fit, their tables look at x alone, and their cells are numbers.
-use Rattle.std.proofs.Common.{◌≡◌, ◌∙◌, ◌↔◌, ℕ, zero, suc, ◌+◌, ◌*◌, ◌^◌, ◌<◌, ◌≤◌, max, Bool, true, false, cond, ◌&&◌, filter, List, [], ◌∷◌, Contains, Some, None, length, refl, sym, ap, subst, inl, inr, arith, pos}
-use Rattle.std.specs.List.{range_with_len}
-use Rattle.std.proofs.Math.Decide.{ℕ_discrete}
+-- The plans that keep x: their numbers fit, and that without a utility sums to a mass.
+use Rattle.std.proofs.Common.{◌≡◌, ◌∙◌, ℕ, ◌*◌, ◌^◌, ◌<◌, ◌≤◌, max, ◌&&◌, List, Some, None, length, refl, sym, ap, inl, arith, ℤ, pos, nat_abs}
 use Rattle.std.proofs.Math.Nat.{mul-le-mul, mul-le-mul_left}
-use Rattle.cell_rings.specs.declared.gains.Gain.{Gain}
-use Rattle.cell_rings.specs.declared.masses.Mass.{Mass}
-use Rattle.cell_rings.specs.Kinds.{gain_kind, gain_of, mass_kind, mass_of}
-use Rattle.cell_rings.specs.KindLaws.{gain_laws, gain_map, mass_laws, mass_map}
-use Rattle.cell_rings.specs.RingLaws.{gain_is_ring, mass_is_ring}
-use Rattle.cell_rings.specs.Rings.{most_size}
-use Rattle.factor_core.specs.Operations.{cells_by}
-use Rattle.factor_core.specs.Slots.{nodes_in}
+use Rattle.cell_rings.specs.RingLaws.{gain_is_ring, mass_is_ring, mass_to_gain}
+use Rattle.cell_rings.specs.Rings.{gain_ring, most_size}
 use Rattle.finite_sums.specs.Sums.{World, nat_product_over}
-use Rattle.finite_sums.proofs.Members.{among_from_contains, any_is, contains_from_among, filter_has}
+use Rattle.finite_sums.proofs.Members.{any_is, contains_from_among, filter_has}
 use Rattle.maid_model.specs.declared.diagrams.Kind.TheVariants.{Chance, Utility}
 use Rattle.maid_model.specs.Diagrams.{IsDiagram, greatest_number}
 use Rattle.maid_model.specs.Gains.{greatest_abs}
@@ -23,11 +15,8 @@ use Rattle.maid_model.specs.Tables.{weight_total}
 use Rattle.maid_model.specs.Views.{NodeView, DiagramView, RuleView}
 use Rattle.maid_laws.proofs.Rearranged.{number}
 use Rattle.finite_sums.specs.Members.{Among}
-use Rattle.node_sets.specs.declared.sets.NodeSet.{NodeSet}
-use Rattle.node_sets.specs.Sets.{holds, IsIn}
 use Rattle.part_laws.specs.ScopeLaws.{HasUnitRules}
-use Rattle.plan_sums.specs.Laws.{IsCellMap}
-use Rattle.plan_sums.specs.Plans.{Cells, PlanView, gain_cells, mass_cells, plan_sum, ruled_nodes}
+use Rattle.plan_sums.specs.Plans.{Cells, gain_cells, mass_cells, plan_sum, ruled_nodes}
 use Rattle.plan_sums.proofs.Products.{maps_plans}
 use Rattle.eliminate.specs.Results.{plan_total}
 use Rattle.weight_scale.specs.Given.{product_given}
@@ -37,69 +26,14 @@ use Rattle.evidence.specs.Stakes.{chances_lacking}
 use Rattle.evidence.proofs.StakeLemmas.{one_of_greatest, scale_some}
 use Rattle.evidence.proofs.Within.{alone_inside, lacking_positive, tables_within, utility_inside}
 
--- ---- cells as numbers
--- the cells of a run, as plans see them
-abbrev pub gain_run : Cells Gain
-gain_run = cells_by gain_kind (λ w. gain_of (pos w)) gain_of
+-- ---- masses as numbers
+-- masses as numbers with a sign, where no value counts
+abbrev signed_masses : Cells ℤ
+signed_masses = record { ring = gain_ring; weight = λ w. pos w; value = λ v. pos 1 }
 
-abbrev pub mass_run : Cells Mass
-mass_run = cells_by mass_kind mass_of (λ v. mass_of 1)
-
-gain_numbers : IsCellMap gain_run gain_cells (λ a. a.0)
-gain_numbers = record { ring = gain_map; weight = λ w. refl; value = λ v. refl }
-
-mass_numbers : IsCellMap mass_run mass_cells (λ a. a.0)
-mass_numbers = record { ring = mass_map; weight = λ w. refl; value = λ v. refl }
-
--- what a plan sums to in cells is what it sums to in numbers
-pub gain_sum : (nodes : List NodeView) (p : List RuleView) (plan : PlanView) (q : World) → (plan_sum gain_run nodes p plan q).0 ≡ plan_sum gain_cells nodes p plan q
-gain_sum nodes p plan q = maps_plans gain_run gain_cells gain_laws gain_is_ring (λ a. a.0) gain_numbers nodes p plan q
-
-pub mass_sum : (nodes : List NodeView) (p : List RuleView) (plan : PlanView) (q : World) → (plan_sum mass_run nodes p plan q).0 ≡ plan_sum mass_cells nodes p plan q
-mass_sum nodes p plan q = maps_plans mass_run mass_cells mass_laws mass_is_ring (λ a. a.0) mass_numbers nodes p plan q
-
--- ---- the table over x
--- nothing from k on passes
-none_from : (q : ℕ → Bool) (k n : ℕ) → ((v : ℕ) → k ≤ v → q v ≡ true → ⊥) → filter q (range_with_len k n) ≡ []
-none_from q k zero h = refl
-none_from q k (suc n) h = go (q k) (λ e. h k (omega arith) e) (none_from q (k + 1) n (λ v l e. h v (omega (arith, l)) e))
-  where
-    go : (b : Bool) {rest : List ℕ} → (b ≡ true → ⊥) → rest ≡ [] → cond b (k ∷ rest) rest ≡ []
-    go true f e = absurd (f refl)
-    go false f e = e
-
--- only x passes
-only_one : (q : ℕ → Bool) (x k n : ℕ) → ((v : ℕ) → q v ≡ true ↔ (v ≡ x)) → k ≤ x → x < k + n → filter q (range_with_len k n) ≡ x ∷ []
-only_one q x k zero h a l = absurd (omega (arith, a, l))
-only_one q x k (suc n) h a l = go (ℕ_discrete k x) (λ m. only_one q x (k + 1) n h (next k x a m) (omega (arith, l)))
-  where
-    later : (k v x : ℕ) → k + 1 ≤ v → v ≡ x → k ≡ x → ⊥
-    later k v x h e f = omega (arith, h, e, f)
-
-    next : (k x : ℕ) → k ≤ x → (k ≡ x → ⊥) → k + 1 ≤ x
-    next k x h m = omega (arith, h)
-
-    failing : (b : Bool) {rest : List ℕ} → (b ≡ true → ⊥) → rest ≡ x ∷ [] → cond b (k ∷ rest) rest ≡ x ∷ []
-    failing true f e = absurd (f refl)
-    failing false f e = e
-
-    go : Dec (k ≡ x) → ((k ≡ x → ⊥) → filter q (range_with_len (k + 1) n) ≡ x ∷ []) → cond (q k) (k ∷ filter q (range_with_len (k + 1) n)) (filter q (range_with_len (k + 1) n)) ≡ x ∷ []
-    go (yes e) r =
-        ap (λ b. cond b (k ∷ filter q (range_with_len (k + 1) n)) (filter q (range_with_len (k + 1) n))) ((h k).1 e)
-        ∙ (λ i. e i ∷ none_from q (k + 1) n (λ v m t. later k v x m ((h v).0 t) e) i)
-    go (no m) r = failing (q k) (λ t. m ((h k).0 t)) (r m)
-
-pub states_of_x : (nodes : List NodeView) (x : ℕ) (scope : NodeSet) (keep : List ℕ) → x < length nodes → keep ≡ x ∷ [] → ((v : ℕ) → IsIn scope v ↔ Contains keep v) → nodes_in nodes (holds scope) ≡ x ∷ []
-states_of_x nodes x scope keep within is h = only_one (holds scope) x 0 (length nodes) one (omega arith) (omega (arith, within))
-  where
-    own : (v : ℕ) → Contains (x ∷ []) v → v ≡ x
-    own v c = elim (among_from_contains (x ∷ []) v c) [ inl e ↦ e | inr m ↦ absurd m ]
-
-    one : (v : ℕ) → holds scope v ≡ true ↔ (v ≡ x)
-    one v = (
-      (λ t. own v (subst (λ l. Contains l v) is ((h v).0 t))),
-      (λ e. (h v).1 (subst (λ l. Contains l v) (sym is) (contains_from_among (x ∷ []) v (inl e)))),
-    )
+-- the plan without a utility sums to a mass
+pub mass_number : (nodes : List NodeView) (p : List RuleView) (x : ℕ) (q : World) → nat_abs (plan_sum gain_cells nodes p (plan_given x None) q) ≡ plan_sum mass_cells nodes p (plan_given x None) q
+mass_number nodes p x q = ap nat_abs (sym (maps_plans mass_cells signed_masses mass_is_ring gain_is_ring pos (record { ring = mass_to_gain; weight = λ w. refl; value = λ v. refl }) nodes p (plan_given x None) q))
 
 -- ---- numbers that fit
 -- twice what is within the bound is within 128 bits

@@ -3,6 +3,7 @@ pub mod Conditional
 pub mod Example
 pub mod Faults
 pub mod Measures
+pub mod Plans
 pub mod Rules
 pub mod Sights
 pub mod Sizes

@@ -1,13 +1,12 @@
 -- What the steps of measuring promise one another. Only private functions cite it.
-use Rattle.std.specs.Prelude.{◌≡◌, ◌≢◌, ℕ, ◌≤◌, ◌+◌, max, List, Some}
-use Rattle.maid_model.specs.declared.limits.TheConstants.{COUNT_END}
+use Rattle.std.specs.Prelude.{◌≡◌, ◌≢◌, ℕ, ◌+◌, max, List, Some}
 use Rattle.maid_model.specs.declared.diagrams.Kind.TheVariants.{Utility}
 use Rattle.maid_model.specs.Bounds.{stopped}
 use Rattle.maid_model.specs.Nodes.{node_at}
 use Rattle.maid_model.specs.Views.{NodeView}
 use Rattle.plan_sums.specs.Plans.{PlanView}
 use Rattle.size_precheck.specs.declared.sizes.Size.{Size}
-use Rattle.size_precheck.specs.Sizes.{HasSize, IsSizeOfRun}
+use Rattle.size_precheck.specs.Sizes.{HasSize}
 use Rattle.evidence.specs.Sizes.{plan_given}
 
 -- the greater cells of two sizes, and their work together, which stops
@@ -27,15 +26,3 @@ pub record AddsUtility (nodes : List NodeView) (x v : ℕ) (before after : Size)
   pub utility :
       (node_at nodes v).kind ≡ Utility → AddsPlan nodes (plan_given x (Some v)) before after
   pub other : (node_at nodes v).kind ≢ Utility → after ≡ before
-
--- neither the cells nor the work fall, and the work is one that stops
-pub record Grows (before after : Size) : Type 0 where
-  pub cells : before.cells ≤ after.cells
-  pub work : before.work ≤ after.work
-  pub few : after.work ≤ COUNT_END
-
--- the run alone has no greater size
-pub record HasRun (nodes : List NodeView) (order : List ℕ) (size : Size) : Type 0 where
-  pub run : Size
-  pub is_size : IsSizeOfRun nodes order run
-  pub grows : Grows run size

@@ -4,12 +4,12 @@ use Rattle.maid_model.specs.declared.diagrams.Kind.TheVariants.{Utility}
 use Rattle.maid_model.specs.Nodes.{node_at}
 use Rattle.maid_model.specs.Placing.{IsRelianceOrder}
 use Rattle.maid_model.specs.Views.{NodeView, DiagramView}
-use Rattle.factor_core.specs.Slots.{WorkspaceView}
 use Rattle.plan_sums.specs.Plans.{PlanView}
 use Rattle.size_precheck.specs.declared.sizes.Size.{Size}
 use Rattle.size_precheck.specs.Sizes.{IsSizeOfAll, run_plans, utility_list}
 use Rattle.rule_solver.specs.Faults.{KeepsSizes}
-use Rattle.rule_solver.specs.Rooms.{HasAtMost, IsReady}
+use Rattle.rule_solver.specs.declared.spaces.Workspaces.{Workspaces}
+use Rattle.rule_solver.specs.Rooms.{AreReady, HasAtMost}
 
 -- the plan that keeps x, perhaps with a utility: without one it sums to the weight of the worlds with a state at x
 abbrev pub plan_given : ℕ → Option ℕ → PlanView
@@ -48,9 +48,9 @@ pub record HasRoomGiven (nodes : List NodeView) (x cells : ℕ) : Type 0 where
   pub utilities : (u : ℕ) → u < length nodes → (node_at nodes u).kind ≡ Utility
       → HasAtMost nodes (plan_given x (Some u)) cells
 
--- the workspace has no table, and room for the plan, or for each of the further plans
-abbrev pub HasSpaceFor : {C : Type 0} → List NodeView → PlanView → WorkspaceView C → Type 0
-HasSpaceFor nodes plan work = (cells : ℕ) × IsReady cells work × HasAtMost nodes plan cells
+-- the workspaces have no table, and room for the plan, or for each of the further plans
+abbrev pub HasSpaceFor : List NodeView → PlanView → Workspaces → Type 0
+HasSpaceFor nodes plan spaces = (cells : ℕ) × AreReady cells spaces × HasAtMost nodes plan cells
 
-abbrev pub HasSpace : {C : Type 0} → List NodeView → ℕ → WorkspaceView C → Type 0
-HasSpace nodes x work = (cells : ℕ) × IsReady cells work × HasRoomGiven nodes x cells
+abbrev pub HasSpace : List NodeView → ℕ → Workspaces → Type 0
+HasSpace nodes x spaces = (cells : ℕ) × AreReady cells spaces × HasRoomGiven nodes x cells

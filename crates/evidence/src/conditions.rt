@@ -49,9 +49,10 @@ fn condition(
     ensures gains { IfOk result (λ c. IsWorthIn seen node state c.solved c.gains.items) }
 {
     scoped_sums_fit();
-    let answered = answer(alloc, &seen, node)?;
+    let mut answered = answer(alloc, &seen, node)?;
     let profile = Profile::pure(alloc, &seen, &answered.solved.answers)?;
-    let gains = gains_given(alloc, &seen, &profile, node, state, answered.cells)?;
+    let (plans, spaces) = (&answered.plans, &mut answered.spaces);
+    let gains = gains_given(alloc, &seen, &profile, node, state, plans, spaces)?;
     Ok(Conditioned {
         diagram: seen,
         solved: answered.solved,
@@ -64,11 +65,9 @@ fn condition(
 /// and each agent's expected utility is conditional: its gain over the worlds in which the node
 /// has the state, over their weight.
 ///
-/// It copies the diagram and finds its relevance graph, and solves the copy as `rule_solver::solve`
-/// does, which finds the graph and measures the run again. Beside the plans of the run there is one
-/// that keeps the node, and one that keeps it with each utility: each is made twice, once for its
-/// size and once to run it. After the solver's two workspaces it reserves two more, with the most
-/// cells of a plan.
+/// It copies the diagram, and solves the copy as `rule_solver::solve` does. Beside the plans of the
+/// run there is one that keeps the node, and one that keeps it with each utility. All plans are made
+/// once, and run in workspaces that are reserved once, with the most cells of a plan.
 ///
 /// # Errors
 ///

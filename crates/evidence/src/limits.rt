@@ -1,26 +1,26 @@
 //! The limits that a diagram under evidence must keep to be solved, and its answer.
 
 ghost use Rattle.std.specs.Prelude.{◌≡◌, ◌≢◌, ◌<◌, ◌≤◌, ◌↔◌, length, IsTrue, IfOk};
-ghost use Rattle.first_fault.specs.Answers.{IsFaultOrNoMemory, Passes};
+ghost use Rattle.first_fault.specs.Answers.{Passes};
 ghost use Rattle.maid_model.specs.declared.diagrams.Kind.TheVariants.{Utility};
 ghost use Rattle.maid_model.specs.declared.limits.TheConstants.{MOST_PLAN_CELLS};
 ghost use Rattle.maid_model.specs.Answers.{IsAnswer};
 ghost use Rattle.maid_model.specs.Diagrams.{IsDiagram};
 ghost use Rattle.maid_model.specs.Nodes.{node_at};
 ghost use Rattle.maid_model.specs.Placing.{IsRelianceOrder};
-ghost use Rattle.maid_model.specs.Scopes.{KeepsScopedBounds};
-ghost use Rattle.rule_solver.specs.Faults.{IsSmallEnough, KeepsSizes};
-ghost use Rattle.rule_solver.specs.Faults.{bound_pass, solve_fault, solve_pass};
+ghost use Rattle.relevance_graph.specs.Relevant.{IsRelevance};
+ghost use Rattle.rule_solver.specs.Faults.{KeepsSizes, bound_pass, solve_fault};
 ghost use Rattle.evidence.specs.Bounds.{KeepsBoundsGiven};
 ghost use Rattle.evidence.specs.Faults.{further_pass, limits_pass, size_pass, solving_pass};
-ghost use Rattle.evidence.specs.Sizes.{HasRoomGiven};
+ghost use Rattle.evidence.specs.Plans.{HasFurtherPlans, HasRoomForAll, HasRunPlans};
+ghost use Rattle.evidence.specs.Sizes.{HasSpace};
 
-use crate::measures::measure_given;
-use maid_model::{Diagram, MOST_PLAN_CELLS, MOST_WORK, Solved};
-use relevance_graph::find_relevance;
-use rule_solver::{SolveFault, solve};
+use crate::measures::{GivenPlans, plan_all};
+use maid_model::{Diagram, MOST_PLAN_CELLS, MOST_WORK, Solved, descent_is_tested};
+use relevance_graph::{Relevance, find_relevance};
+use rule_solver::{SolveFault, Workspaces, solve_by};
 use size_precheck::{Size, greedy_orders, sizes_of_plans};
-use std::alloc::{AllocError, Global};
+use std::alloc::Global;
 use weight_scale::{BoundPlace, bound, place_given};
 
 /// Refuses a diagram of which the scope of a decision or of an agent doesn't keep the weight
@@ -59,77 +59,53 @@ fn is_small(size: &Size) -> bool
     size.cells <= MOST_PLAN_CELLS as u128 && size.work <= MOST_WORK
 }
 
-/// How many cells the plans of the run and the further plans need at most. Refuses what is too
-/// large.
+/// The plans of the run and the further ones, made once. Refuses what is too large.
 fn keep_sizes(
     alloc: Global,
     diagram: &Diagram,
     order: &[usize],
     node: usize,
-) -> Result<usize, SolveFault>
+) -> Result<GivenPlans, SolveFault>
     requires order { IsRelianceOrder diagram.now.nodes order.now }
     requires within { node < length diagram.now.nodes }
     requires kind { (node_at diagram.now.nodes node).kind ≢ Utility }
     ensures rows { Passes solve_fault (size_pass diagram.now node) result }
-    ensures run { IfOk result (λ cells. IsSmallEnough diagram.now) }
-    ensures room { IfOk result (λ cells. HasRoomGiven diagram.now.nodes node cells) }
-    ensures limit { IfOk result (λ cells. cells ≤ MOST_PLAN_CELLS) }
+    ensures plans { IfOk result (HasRunPlans diagram.now.nodes order.now) }
+    ensures further { IfOk result (HasFurtherPlans diagram.now.nodes node) }
+    ensures room { IfOk result (λ p. HasRoomForAll diagram.now.nodes node p.size.cells) }
+    ensures limit { IfOk result (λ p. p.size.cells ≤ MOST_PLAN_CELLS) }
 {
     sizes_of_plans();
     greedy_orders();
-    let size = measure_given(alloc, diagram, order, node)?;
-    if !is_small(&size) {
+    descent_is_tested();
+    let plans = plan_all(alloc, diagram, order, node)?;
+    if !is_small(&plans.size) {
         return Err(SolveFault::TooLarge {
-            cells: size.cells,
-            work: size.work,
+            cells: plans.size.cells,
+            work: plans.size.work,
         });
     }
-    Ok(size.cells as usize)
+    Ok(plans)
 }
 
-/// Why a diagram that keeps the solver's limits is not solved: memory ran out.
-fn out_of_memory(fault: SolveFault, diagram: &Diagram, order: &[usize]) -> AllocError
-    requires order { IsRelianceOrder diagram.now.nodes order.now }
-    requires bound { KeepsScopedBounds diagram.now }
-    requires sizes { IsSmallEnough diagram.now }
-    requires fault { IsFaultOrNoMemory solve_fault (solve_pass diagram.now) fault }
-{
-    match fault {
-        SolveFault::NoMemory => AllocError,
-        SolveFault::Cycle { .. } => unreachable!(),
-        SolveFault::WeightBound { .. } => unreachable!(),
-        SolveFault::TooLarge { .. } => unreachable!(),
-    }
-}
-
-/// The answer of a diagram that keeps the solver's limits.
-fn solve_within(alloc: Global, diagram: &Diagram, order: &[usize]) -> Result<Solved, AllocError>
-    requires order { IsRelianceOrder diagram.now.nodes order.now }
-    requires bound { KeepsScopedBounds diagram.now }
-    requires sizes { IsSmallEnough diagram.now }
-    ensures { IfOk result (IsAnswer diagram.now) }
-{
-    match solve(alloc, diagram) {
-        Ok(solved) => Ok(solved),
-        Err(fault) => Err(out_of_memory(fault, diagram, order)),
-    }
-}
-
-/// The answer of a diagram, and how many cells the further plans need at most.
+/// The answer of a diagram, the further plans, and the room in which they run.
 #[derive(Drop)]
 pub(crate) struct Answered {
     pub solved: Solved,
-    pub cells: usize,
+    pub plans: GivenPlans,
+    pub spaces: Workspaces,
 }
 
 /// The answer of a diagram within the limits of a run under evidence, or the first of them that
-/// it doesn't keep.
+/// it doesn't keep. All plans are made once, and the workspaces are reserved once.
 fn answer_ordered(
     alloc: Global,
     diagram: &Diagram,
+    relevance: &Relevance,
     order: &[usize],
     node: usize,
 ) -> Result<Answered, SolveFault>
+    requires relevance { IsRelevance diagram.now.nodes relevance.now }
     requires order { IsRelianceOrder diagram.now.nodes order.now }
     requires within { node < length diagram.now.nodes }
     requires kind { (node_at diagram.now.nodes node).kind ≢ Utility }
@@ -137,14 +113,19 @@ fn answer_ordered(
     ensures diagram { IfOk result (λ a. IsDiagram diagram.now) }
     ensures ok { IfOk result (λ a. IsAnswer diagram.now a.solved) }
     ensures bounds { IfOk result (λ a. KeepsBoundsGiven diagram.now node) }
-    ensures room { IfOk result (λ a. HasRoomGiven diagram.now.nodes node a.cells) }
-    ensures limit { IfOk result (λ a. a.cells ≤ MOST_PLAN_CELLS) }
+    ensures plans { IfOk result (λ a. HasFurtherPlans diagram.now.nodes node a.plans) }
+    ensures ready { IfOk result (λ a. HasSpace diagram.now.nodes node a.spaces) }
 {
     keep_bound(diagram)?;
     keep_bound_given(diagram, node)?;
-    let cells = keep_sizes(alloc, diagram, order, node)?;
-    let solved = solve_within(alloc, diagram, order)?;
-    Ok(Answered { solved, cells })
+    let plans = keep_sizes(alloc, diagram, order, node)?;
+    let mut spaces = Workspaces::reserve(alloc, plans.size.cells as usize)?;
+    let solved = solve_by(alloc, diagram, relevance, order, &plans.run, &mut spaces)?;
+    Ok(Answered {
+        solved,
+        plans,
+        spaces,
+    })
 }
 
 /// The answer of a diagram in which the node is given, or the first refusal: the relevance cycle,
@@ -156,12 +137,12 @@ pub(crate) fn answer(alloc: Global, diagram: &Diagram, node: usize) -> Result<An
     ensures diagram { IfOk result (λ a. IsDiagram diagram.now) }
     ensures ok { IfOk result (λ a. IsAnswer diagram.now a.solved) }
     ensures bounds { IfOk result (λ a. KeepsBoundsGiven diagram.now node) }
-    ensures room { IfOk result (λ a. HasRoomGiven diagram.now.nodes node a.cells) }
-    ensures limit { IfOk result (λ a. a.cells ≤ MOST_PLAN_CELLS) }
+    ensures plans { IfOk result (λ a. HasFurtherPlans diagram.now.nodes node a.plans) }
+    ensures ready { IfOk result (λ a. HasSpace diagram.now.nodes node a.spaces) }
 {
     let relevance = find_relevance(alloc, diagram)?;
     match relevance.order() {
-        Ok(order) => answer_ordered(alloc, diagram, order, node),
+        Ok(order) => answer_ordered(alloc, diagram, &relevance, order, node),
         Err(cycle) => Err(SolveFault::Cycle {
             list: Vec::from_slice(alloc, cycle)?,
         }),

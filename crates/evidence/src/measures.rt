@@ -1,17 +1,31 @@
-//! The sizes of the plans of a diagram under evidence.
+//! The plans of a diagram under evidence, and their sizes.
 
-ghost use Rattle.std.specs.Prelude.{◌≡◌, ◌≢◌, ◌≤◌, ◌<◌, length, IfOk};
+ghost use Rattle.std.specs.Prelude.{◌≡◌, ◌≢◌, ◌≤◌, ◌<◌, length, IfOk, None};
 ghost use Rattle.maid_model.specs.declared.diagrams.Kind.TheVariants.{Utility};
 ghost use Rattle.maid_model.specs.declared.limits.TheConstants.{COUNT_END};
 ghost use Rattle.maid_model.specs.Nodes.{node_at};
 ghost use Rattle.maid_model.specs.Placing.{IsRelianceOrder};
-ghost use Rattle.size_precheck.specs.Sizes.{CanBePlanned};
-ghost use Rattle.evidence.specs.Measures.{AddsPlan, AddsUtility, HasRun, joined_size};
+ghost use Rattle.size_precheck.specs.Sizes.{CanBePlanned, IsPlanned};
+ghost use Rattle.evidence.specs.Measures.{AddsPlan, AddsUtility, joined_size};
+ghost use Rattle.evidence.specs.Plans.{HasFurtherPlans, HasRunPlans, IsPlanIf};
 ghost use Rattle.evidence.specs.Sizes.{IsSizeOfPlans, plan_given};
 
 use maid_model::{COUNT_END, Diagram, Kind};
-use size_precheck::{Size, make_plan, measure};
+use size_precheck::{Plan, RunPlans, Size, make_plan, plan_run};
 use std::alloc::{AllocError, Global};
+
+/// The plans of a diagram in which a node is given, made once and kept, and their size.
+#[derive(Drop)]
+pub(crate) struct GivenPlans {
+    /// Those of the run.
+    pub run: RunPlans,
+    /// The plan that keeps the node.
+    pub alone: Plan,
+    /// The same with a utility, at the place of each utility.
+    pub utilities: Vec<Option<Plan>>,
+    /// The greatest cells of all these plans, and their work together.
+    pub size: Size,
+}
 
 /// The greater cells of two sizes, and their work together.
 fn join_sizes(size: Size, other: Size) -> Size
@@ -25,60 +39,78 @@ fn join_sizes(size: Size, other: Size) -> Size
     }
 }
 
-/// Counts the plan that keeps the node in, perhaps with a utility.
+/// The plan that keeps the node, perhaps with a utility, and the size with it counted in.
 fn add_plan(
     alloc: Global,
     diagram: &Diagram,
     node: usize,
     utility: Option<usize>,
     size: Size,
-) -> Result<Size, AllocError>
+) -> Result<(Plan, Size), AllocError>
     requires asked { CanBePlanned diagram.now.nodes (plan_given node utility) }
     requires few { size.work ≤ COUNT_END }
-    ensures { IfOk result (AddsPlan diagram.now.nodes (plan_given node utility) size) }
+    ensures plan { IfOk result (λ made.
+        IsPlanned diagram.now.nodes (plan_given node utility) made.0) }
+    ensures size { IfOk result (λ made.
+        AddsPlan diagram.now.nodes (plan_given node utility) size made.1) }
 {
     let plan = make_plan(alloc, diagram, &[node], None, utility)?;
-    Ok(join_sizes(size, plan.size()))
+    let size = join_sizes(size, plan.size());
+    Ok((plan, size))
 }
 
-/// Counts the plan that keeps the node in with that utility, if it is one.
+/// The plan that keeps the node with that utility, if it is one, and the size with it counted in.
 fn add_utility(
     alloc: Global,
     diagram: &Diagram,
     node: usize,
     v: usize,
     size: Size,
-) -> Result<Size, AllocError>
+) -> Result<(Option<Plan>, Size), AllocError>
     requires node { node < length diagram.now.nodes }
     requires kind { (node_at diagram.now.nodes node).kind ≢ Utility }
     requires within { v < length diagram.now.nodes }
     requires few { size.work ≤ COUNT_END }
-    ensures { IfOk result (AddsUtility diagram.now.nodes node v size) }
+    ensures plan { IfOk result (λ made. IsPlanIf diagram.now.nodes node v made.0) }
+    ensures size { IfOk result (λ made. AddsUtility diagram.now.nodes node v size made.1) }
 {
     match diagram.kind(v) {
-        Kind::Utility => add_plan(alloc, diagram, node, Some(v), size),
-        Kind::Chance | Kind::Decision => Ok(size),
+        Kind::Utility => {
+            let (plan, size) = add_plan(alloc, diagram, node, Some(v), size)?;
+            Ok((Some(plan), size))
+        }
+        Kind::Chance | Kind::Decision => Ok((None, size)),
     }
 }
 
-/// The size of all plans of a diagram in which the node is given: those of the run in this order,
-/// the plan that keeps the node, and that plan with each utility.
-pub(crate) fn measure_given(
+/// All plans of a diagram in which the node is given: those of the run in this order, the plan that
+/// keeps the node, and that plan with each utility.
+pub(crate) fn plan_all(
     alloc: Global,
     diagram: &Diagram,
     order: &[usize],
     node: usize,
-) -> Result<Size, AllocError>
+) -> Result<GivenPlans, AllocError>
     requires order { IsRelianceOrder diagram.now.nodes order.now }
     requires within { node < length diagram.now.nodes }
     requires kind { (node_at diagram.now.nodes node).kind ≢ Utility }
-    ensures size { IfOk result (IsSizeOfPlans diagram.now.nodes order.now node) }
-    ensures run { IfOk result (HasRun diagram.now.nodes order.now) }
+    ensures plans { IfOk result (HasRunPlans diagram.now.nodes order.now) }
+    ensures further { IfOk result (HasFurtherPlans diagram.now.nodes node) }
+    ensures size { IfOk result (λ p. IsSizeOfPlans diagram.now.nodes order.now node p.size) }
 {
-    let run = measure(alloc, diagram, order)?;
-    let mut size = add_plan(alloc, diagram, node, None, run)?;
+    let run = plan_run(alloc, diagram, order)?;
+    let (alone, first) = add_plan(alloc, diagram, node, None, run.size)?;
+    let mut utilities = Vec::with_capacity(alloc, diagram.count())?;
+    let mut size = first;
     for v in 0..diagram.count() {
-        size = add_utility(alloc, diagram, node, v, size)?;
+        let (plan, more) = add_utility(alloc, diagram, node, v, size)?;
+        utilities.push(plan)?;
+        size = more;
     }
-    Ok(size)
+    Ok(GivenPlans {
+        run,
+        alone,
+        utilities,
+        size,
+    })
 }

@@ -1,51 +1,48 @@
 //! Conditional expected utilities by plans of elimination.
 
-ghost use Rattle.std.specs.Prelude.{◌≡◌, ◌<◌, ◌≤◌, IfOk, OnOk, None, Some, length};
+ghost use Rattle.std.specs.Prelude.{◌≡◌, ◌<◌, IfOk, OnOk, None, Option, Some, length};
 ghost use Rattle.first_fault.specs.Answers.{Passes};
-ghost use Rattle.maid_model.specs.declared.diagrams.Kind.TheVariants.{Utility};
-ghost use Rattle.maid_model.specs.declared.limits.TheConstants.{MOST_PLAN_CELLS};
 ghost use Rattle.maid_model.specs.Diagrams.{IsDiagram};
+ghost use Rattle.maid_model.specs.declared.diagrams.Kind.TheVariants.{Utility};
 ghost use Rattle.maid_model.specs.Nodes.{node_at};
 ghost use Rattle.reach_laws.specs.Evidence.{IsEvidence};
-ghost use Rattle.rule_solver.specs.Rooms.{HasAtMost};
+ghost use Rattle.size_precheck.specs.Sizes.{IsPlanned};
 ghost use Rattle.evidence.specs.Conditional.{HasAllGains};
 ghost use Rattle.evidence.specs.Faults.{given_fault, impossible_pass};
-ghost use Rattle.evidence.specs.Sizes.{HasRoomGiven, HasSpace, HasSpaceFor, plan_given};
+ghost use Rattle.evidence.specs.Plans.{HasFurtherPlans, HasUtilityPlans, IsPlanIf};
+ghost use Rattle.evidence.specs.Sizes.{HasSpace, HasSpaceFor, plan_given};
 ghost use Rattle.evidence.specs.Stakes.{HasWorthsAt, IsMassAt, IsSetting, IsWorthAt, IsWorthIf};
 
 use crate::faults::GivenFault;
+use crate::measures::GivenPlans;
 use crate::stakes::Stake;
-use cell_rings::{Gain, Mass};
-use eliminate::{release, run_plan};
-use factor_core::Workspace;
-use maid_model::{Diagram, Kind, Profile, Ratio};
-use part_laws::parts_are_diagrams;
+use maid_model::{Diagram, Profile, Ratio};
 use reach_laws::{best_given, scopes_of_evidence};
-use size_precheck::{Plan, make_plan};
+use rule_solver::{Workspaces, sum_at};
+use size_precheck::Plan;
 use std::alloc::{AllocError, Global};
 use weight_scale::scope_given;
 
-/// What the plan that keeps the node sums to at the state. It reserves a workspace of as many
-/// cells.
+/// What the plan that keeps the node sums to at the state.
 fn mass_at(
     alloc: Global,
     diagram: &Diagram,
     profile: &Profile,
     node: usize,
     state: usize,
-    cells: usize,
+    plan: &Plan,
+    spaces: &mut Workspaces,
 ) -> Result<u128, AllocError>
     requires setting { IsSetting diagram.now profile.now node state }
-    requires room { HasAtMost diagram.now.nodes (plan_given node None) cells }
-    requires limit { cells ≤ MOST_PLAN_CELLS }
+    requires planned { IsPlanned diagram.now.nodes (plan_given node None) plan.now }
+    requires ready { HasSpaceFor diagram.now.nodes (plan_given node None) spaces.old }
     ensures mass { IfOk result (IsMassAt diagram.now.nodes profile.now node state) }
     ensures diagram { IsDiagram diagram.now }
+    ensures again { OnOk result (spaces.new ≡ spaces.old) }
 {
     let _count = diagram.count();
-    let plan = make_plan(alloc, diagram, &[node], None, None)?;
-    let mut work = Workspace::<Mass>::reserve(alloc, cells)?;
-    let slot = run_plan(&mut work, &plan, diagram, profile);
-    Ok(work.at(diagram, &slot, &[state]).0)
+    let sum = sum_at(alloc, diagram, profile, node, state, plan, spaces)?;
+    Ok(sum.unsigned_abs())
 }
 
 /// What the plan that keeps the node sums to at the state with the utility.
@@ -56,24 +53,22 @@ fn worth_at(
     node: usize,
     state: usize,
     utility: usize,
-    work: &mut Workspace<Gain>,
+    plan: &Plan,
+    spaces: &mut Workspaces,
 ) -> Result<i128, AllocError>
-    requires diagram { IsDiagram diagram.now }
     requires setting { IsSetting diagram.now profile.now node state }
-    requires utility_within { utility < length diagram.now.nodes }
-    requires utility_kind { (node_at diagram.now.nodes utility).kind ≡ Utility }
-    requires ready { HasSpaceFor diagram.now.nodes (plan_given node (Some utility)) work.old }
+    requires within { utility < length diagram.now.nodes }
+    requires kind { (node_at diagram.now.nodes utility).kind ≡ Utility }
+    requires planned { IsPlanned diagram.now.nodes (plan_given node (Some utility)) plan.now }
+    requires ready { HasSpaceFor diagram.now.nodes (plan_given node (Some utility)) spaces.old }
     ensures worth { IfOk result (IsWorthAt diagram.now.nodes profile.now node state utility) }
-    ensures again { OnOk result (work.new ≡ work.old) }
+    ensures again { OnOk result (spaces.new ≡ spaces.old) }
 {
-    let plan = make_plan(alloc, diagram, &[node], None, Some(utility))?;
-    let slot = run_plan(work, &plan, diagram, profile);
-    let worth = work.at(diagram, &slot, &[state]);
-    release(work);
-    Ok(worth.0)
+    let _count = diagram.count();
+    sum_at(alloc, diagram, profile, node, state, plan, spaces)
 }
 
-/// The same of any node: 0 where it is no utility.
+/// The same of any node: 0 where it is no utility, and has no plan.
 fn worth_or_none(
     alloc: Global,
     diagram: &Diagram,
@@ -81,17 +76,19 @@ fn worth_or_none(
     node: usize,
     state: usize,
     v: usize,
-    work: &mut Workspace<Gain>,
+    plan: &Option<Plan>,
+    spaces: &mut Workspaces,
 ) -> Result<i128, AllocError>
     requires setting { IsSetting diagram.now profile.now node state }
-    requires v_within { v < length diagram.now.nodes }
-    requires ready { HasSpace diagram.now.nodes node work.old }
+    requires within { v < length diagram.now.nodes }
+    requires planned { IsPlanIf diagram.now.nodes node v plan.now }
+    requires ready { HasSpace diagram.now.nodes node spaces.old }
     ensures worth { IfOk result (IsWorthIf diagram.now.nodes profile.now node state v) }
-    ensures again { OnOk result (work.new ≡ work.old) }
+    ensures again { OnOk result (spaces.new ≡ spaces.old) }
 {
-    match diagram.kind(v) {
-        Kind::Utility => worth_at(alloc, diagram, profile, node, state, v, work),
-        Kind::Chance | Kind::Decision => Ok(0),
+    match plan {
+        Some(plan) => worth_at(alloc, diagram, profile, node, state, v, plan, spaces),
+        None => Ok(0),
     }
 }
 
@@ -102,17 +99,18 @@ fn list_worths(
     profile: &Profile,
     node: usize,
     state: usize,
-    cells: usize,
+    plans: &[Option<Plan>],
+    spaces: &mut Workspaces,
 ) -> Result<Vec<i128>, AllocError>
     requires setting { IsSetting diagram.now profile.now node state }
-    requires room { HasRoomGiven diagram.now.nodes node cells }
-    requires limit { cells ≤ MOST_PLAN_CELLS }
+    requires planned { HasUtilityPlans diagram.now.nodes node plans.now }
+    requires ready { HasSpace diagram.now.nodes node spaces.old }
     ensures { IfOk result (λ v. HasWorthsAt diagram.now.nodes profile.now node state v.items) }
 {
-    let mut work = Workspace::reserve(alloc, cells)?;
     let mut worths = Vec::with_capacity(alloc, diagram.count())?;
     for v in 0..diagram.count() {
-        worths.push(worth_or_none(alloc, diagram, profile, node, state, v, &mut work)?)?;
+        let plan = &plans[v];
+        worths.push(worth_or_none(alloc, diagram, profile, node, state, v, plan, spaces)?)?;
     }
     Ok(worths)
 }
@@ -126,17 +124,18 @@ fn list_gains(
     node: usize,
     state: usize,
     mass: u128,
-    cells: usize,
+    plans: &[Option<Plan>],
+    spaces: &mut Workspaces,
 ) -> Result<Vec<Ratio>, AllocError>
     requires setting { IsSetting diagram.now profile.now node state }
-    requires room { HasRoomGiven diagram.now.nodes node cells }
-    requires limit { cells ≤ MOST_PLAN_CELLS }
+    requires planned { HasUtilityPlans diagram.now.nodes node plans.now }
+    requires ready { HasSpace diagram.now.nodes node spaces.old }
     requires mass { IsMassAt diagram.now.nodes profile.now node state mass }
     requires positive { 0 < mass }
     ensures gains { IfOk result (λ v. HasAllGains diagram.now profile.now node state v.items) }
 {
     scopes_of_evidence();
-    let worths = list_worths(alloc, diagram, profile, node, state, cells)?;
+    let worths = list_worths(alloc, diagram, profile, node, state, plans, spaces)?;
     let mut gains = Vec::with_capacity(alloc, diagram.agents())?;
     for agent in 0..diagram.agents() {
         let stake = Stake {
@@ -153,27 +152,31 @@ fn list_gains(
 }
 
 /// What the profile, whose rules are pure, is worth to each agent where the node has the state.
-/// It runs one plan that keeps the node, and one for each utility; `cells` are room for each of
-/// them.
+/// It runs the plan that keeps the node, and that with each utility.
 pub(crate) fn gains_given(
     alloc: Global,
     diagram: &Diagram,
     profile: &Profile,
     node: usize,
     state: usize,
-    cells: usize,
+    plans: &GivenPlans,
+    spaces: &mut Workspaces,
 ) -> Result<Vec<Ratio>, GivenFault>
     requires setting { IsSetting diagram.now profile.now node state }
     requires evidence { IsEvidence diagram.now.nodes node }
-    requires room { HasRoomGiven diagram.now.nodes node cells }
-    requires limit { cells ≤ MOST_PLAN_CELLS }
+    requires planned { HasFurtherPlans diagram.now.nodes node plans.now }
+    requires ready { HasSpace diagram.now.nodes node spaces.old }
     ensures rows { Passes given_fault (impossible_pass diagram.now node state) result }
     ensures gains { IfOk result (λ v. HasAllGains diagram.now profile.now node state v.items) }
 {
     best_given();
-    let mass = mass_at(alloc, diagram, profile, node, state, cells)?;
+    let mass = mass_at(alloc, diagram, profile, node, state, &plans.alone, spaces)?;
     if mass == 0 {
         return Err(GivenFault::Impossible);
     }
-    Ok(list_gains(alloc, diagram, profile, node, state, mass, cells)?)
+    let utilities = &plans.utilities;
+    let gains = list_gains(
+        alloc, diagram, profile, node, state, mass, utilities, spaces,
+    )?;
+    Ok(gains)
 }

@@ -19,17 +19,14 @@ use Rattle.maid_model.specs.Tables.{HasChanceTables}
 use Rattle.maid_model.specs.Values.{IsOptimum}
 use Rattle.maid_model.specs.Views.{NodeView, DiagramView, RuleView, AnswerView, SolvedView}
 use Rattle.part_laws.specs.PartLaws.{DecidesAlike}
-use Rattle.plan_sums.specs.Laws.{HasWorlds}
-use Rattle.scope_sums.specs.Laws.{IsSumOfPlans}
 use Rattle.rule_solver.specs.Optima.{ChoosesAll, ChoosesRows, IsChosenAt, IsChosenBy}
 use Rattle.rule_solver.specs.Rows.{gain_in}
-use Rattle.rule_solver.specs.Sums.{HasGoals, scope_gain}
+use Rattle.rule_solver.specs.Sums.{IsRowGains, scope_gain}
 use Rattle.rule_solver.proofs.AnswerLemmas.{listed, rows_found}
 use Rattle.rule_solver.proofs.AnsweredRules.{rule_stays}
 use Rattle.rule_solver.proofs.BaseLemmas.{decided, same_then}
 use Rattle.rule_solver.proofs.Members.{taken_whole}
 use Rattle.rule_solver.proofs.Orders.{IsClosed, first_closed, relied_before, order_differs, placed_decision}
-use Rattle.rule_solver.proofs.SumLemmas.{gains_are}
 
 -- ---- the rows of a decision
 -- one more chosen row
@@ -55,10 +52,10 @@ chosen-push gain states number rows r a best inside reduced = record {
         subst (λ (x : Row). gain row s ≤ℤ gain row x.choice) (sym (get_or_append_left rows (r ∷ []) no_row row h)) (a.best row s (smaller row k n) l)
 
 -- choices that are best in the part of the scope are best in the whole, where both decide alike
-pub chosen_by : (nodes : List NodeView) (base : List RuleView) (d : ℕ) (gains : List ℤ) (rows : List Row) → IsGraph nodes → HasWorlds → ((row : ℕ) → DecidesAlike nodes base (scope_of nodes d) d row)
-    → IsSumOfPlans nodes base d → HasGoals nodes base d (goals_of nodes d) gains → ChoosesRows (gain_in gains (states_of nodes d)) (states_of nodes d) (rows_of nodes d) rows
+pub chosen_by : (nodes : List NodeView) (base : List RuleView) (d : ℕ) (gains : List ℤ) (rows : List Row) → ((row : ℕ) → DecidesAlike nodes base (scope_of nodes d) d row)
+    → IsRowGains nodes base d gains → ChoosesRows (gain_in gains (states_of nodes d)) (states_of nodes d) (rows_of nodes d) rows
     → IsChosenBy nodes base d rows
-chosen_by nodes base d gains rows graph worlds alike plans so a = record {
+chosen_by nodes base d gains rows alike sums a = record {
   count = a.count;
   best = λ row s k l.
       let choice : ℕ = (get_or rows row no_row).choice in
@@ -71,7 +68,7 @@ chosen_by nodes base d gains rows graph worlds alike plans so a = record {
 }
   where
     there : (state row : ℕ) → state < states_of nodes d → row < rows_of nodes d → gain_in gains (states_of nodes d) row state ≡ scope_gain nodes base d state row
-    there state row h k = (gains_are nodes base d graph worlds gains plans so).gain state row h k
+    there state row h k = sums.gain state row h k
 
 -- ---- decision by decision
 -- a choice stays best when more is chosen, since the rules on which it relies stay

@@ -27,6 +27,7 @@ mod Rooms
 mod RowLemmas
 mod SettingLemmas
 mod StakeLemmas
+mod StateLemmas
 mod SumLemmas
 mod TableCells
 mod TotalLemmas

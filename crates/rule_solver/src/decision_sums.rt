@@ -278,7 +278,7 @@ impl<'a> Setting<'a> {
     }
 
     /// The gains of the decision's states in the part of its scope: what its goals give, added up.
-    pub(crate) fn gains(
+    fn gains(
         &self,
         alloc: Global,
         plans: &[Plan],

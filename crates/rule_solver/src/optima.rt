@@ -1,8 +1,7 @@
 //! The optimum of an agent that decides alone: choices of its decisions, and what they are worth to it. What a row or
 //! another agent gets is left out.
 
-ghost use Rattle.std.specs.Prelude.{◌≡◌, ◌<◌, ◌≤◌, ◌^◌, ◌*◌, ◌≤ℤ◌, ℕ, All, IfOk, OnOk, length, map};
-ghost use Rattle.std.specs.List.{AllZip};
+ghost use Rattle.std.specs.Prelude.{◌≡◌, ◌<◌, ◌≤◌, ◌^◌, ◌*◌, ◌≤ℤ◌, ℕ, All, IfOk, OnOk, length};
 ghost use Rattle.first_fault.specs.Answers.{Passes};
 ghost use Rattle.maid_model.specs.declared.limits.TheConstants.{MOST_PLAN_CELLS};
 ghost use Rattle.maid_model.specs.declared.diagrams.Kind.TheVariants.{Utility};
@@ -11,16 +10,15 @@ ghost use Rattle.maid_model.specs.Diagrams.{IsDiagram};
 ghost use Rattle.maid_model.specs.Nodes.{IsDecision, IsOwnedBy, node_at};
 ghost use Rattle.maid_model.specs.Placing.{IsRelianceOrder};
 ghost use Rattle.maid_model.specs.Profiles.{IsProfile};
-ghost use Rattle.maid_model.specs.Relevance.{IsGoal};
 ghost use Rattle.maid_model.specs.Scopes.{KeepsScopedBounds};
 ghost use Rattle.maid_model.specs.Subgames.{OwnsAll};
 ghost use Rattle.maid_model.specs.Values.{IsOptimum};
 ghost use Rattle.part_laws.specs.ScopeLaws.{HasSmallRules, HasUnitRules};
-ghost use Rattle.plan_sums.specs.Plans.{gain_plan, worth_plan};
+ghost use Rattle.plan_sums.specs.Plans.{worth_plan};
 ghost use Rattle.relevance_graph.specs.Relevant.{IsRelevance};
 ghost use Rattle.size_precheck.specs.Decisions.{ArePlans};
 ghost use Rattle.size_precheck.specs.Kept.{IsKept};
-ghost use Rattle.size_precheck.specs.Sizes.{IsPlanned, goal_list};
+ghost use Rattle.size_precheck.specs.Sizes.{ArePlansOf, IsPlanned};
 ghost use Rattle.rule_solver.specs.Faults.{solve_fault, solve_pass};
 ghost use Rattle.rule_solver.specs.Optima.{ChoosesAll, ChoosesRows, IsChosenBy};
 ghost use Rattle.rule_solver.specs.Rooms.{AreReady, HasAtMost, HasRoom, HasRoomAt, HasRoomForWorths, IsReady};
@@ -30,7 +28,7 @@ ghost use Rattle.rule_solver.specs.Worths.{ArePlansOfWorths, HasWorthsFor, IsWor
 
 use crate::SolveFault;
 use crate::bases::base_of;
-use crate::decision_sums::Setting;
+use crate::decision_sums::row_gains_by;
 use crate::limits::{keep_bound, keep_sizes};
 use crate::rows::first_best;
 use crate::spaces::Workspaces;
@@ -42,10 +40,9 @@ use maid_laws::{answers_are_best, exchange, one_agent};
 use maid_model::{Answer, Diagram, Kind, Profile, Ratio, Row};
 use part_laws::{parts_decide, scoped_sums_fit, scopes_are_parts};
 use relevance_graph::{Relevance, find_relevance};
-use scope_sums::plans_sum_scopes;
 use size_precheck::{DecisionPlans, KeptPlans, Plan, RunPlans};
 use std::alloc::{AllocError, Global};
-use weight_scale::{agent_scope, decision_scope};
+use weight_scale::agent_scope;
 
 /// The first best state of a row, where `gains` has a number for each row and state, the state fastest.
 fn choice_at(gains: &[i128], rows: usize, states: usize, row: usize) -> usize
@@ -89,37 +86,25 @@ fn choose(
     diagram: &Diagram,
     base: &Profile,
     decision: usize,
-    goals: &[Plan],
+    plans: &DecisionPlans,
     spaces: &mut Workspaces,
 ) -> Result<Vec<Row>, AllocError>
     requires decision { IsDecision diagram.now.nodes decision }
     requires profile { IsProfile diagram.now.nodes base.now }
     requires rules { HasSmallRules diagram.now.nodes base.now decision }
     requires bound { KeepsScopedBounds diagram.now }
-    requires planned { AllZip (IsPlanned diagram.now.nodes)
-        (map (λ u. gain_plan diagram.now.nodes decision u)
-        (goal_list diagram.now.nodes decision)) goals.now }
+    requires planned { ArePlansOf diagram.now.nodes decision plans.now.rows plans.now.goals.items }
     requires ready { (cells : ℕ) × AreReady cells spaces.old
-        × ((u : ℕ) → IsGoal diagram.now.nodes decision u
-        → HasAtMost diagram.now.nodes (gain_plan diagram.now.nodes decision u) cells) }
+        × HasRoomAt diagram.now.nodes decision cells }
     ensures rows { IfOk result (λ v. IsChosenBy diagram.now.nodes base.now decision v.items) }
     ensures again { OnOk result (spaces.new ≡ spaces.old) }
 {
     // The part of the scope has the whole's best states.
     scopes_are_parts();
     parts_decide();
-    plans_sum_scopes();
     let states = diagram.states(decision);
     let rows = diagram.rows(decision);
-    let totals = list_totals(alloc, diagram, base)?;
-    let setting = Setting {
-        diagram,
-        base,
-        decision,
-        totals: &totals,
-        scope: decision_scope(diagram, decision),
-    };
-    let gains = setting.gains(alloc, goals, spaces)?;
+    let gains = row_gains_by(alloc, diagram, base, decision, plans, spaces)?;
     choose_rows(alloc, &gains, rows, states)
 }
 
@@ -145,8 +130,8 @@ fn choose_all(
     let mut answers = Vec::with_capacity(alloc, order.len())?;
     for (place, decision) in order.iter().enumerate() {
         let base = base_of(alloc, diagram, relevance, &answers, *decision)?;
-        let goals = &plans[place].goals;
-        let rows = choose(alloc, diagram, &base, *decision, goals, spaces)?;
+        let plans = &plans[place];
+        let rows = choose(alloc, diagram, &base, *decision, plans, spaces)?;
         answers.push(Answer {
             decision: *decision,
             rows,

@@ -1,6 +1,6 @@
 //! A whole diagram, solved decision by decision.
 
-ghost use Rattle.std.specs.Prelude.{ℕ, ◌≤◌, All, IfOk};
+ghost use Rattle.std.specs.Prelude.{◌≡◌, ℕ, ◌≤◌, All, IfOk, OnOk};
 ghost use Rattle.first_fault.specs.Answers.{Passes};
 ghost use Rattle.maid_model.specs.Answers.{IsAnswer, KeepsWorth, answered};
 ghost use Rattle.maid_model.specs.Diagrams.{IsDiagram};
@@ -13,7 +13,7 @@ ghost use Rattle.relevance_graph.specs.Relevant.{IsRelevance};
 ghost use Rattle.size_precheck.specs.Decisions.{ArePlans};
 ghost use Rattle.size_precheck.specs.Kept.{IsKept};
 ghost use Rattle.rule_solver.specs.Faults.{solve_fault, solve_pass};
-ghost use Rattle.rule_solver.specs.Rooms.{HasRoom};
+ghost use Rattle.rule_solver.specs.Rooms.{AreReady, HasRoom};
 ghost use Rattle.rule_solver.specs.Worths.{ArePlansOfWorths};
 
 use crate::SolveFault;
@@ -29,6 +29,43 @@ use part_laws::scoped_sums_fit;
 use relevance_graph::{Relevance, find_relevance};
 use size_precheck::{KeptPlans, RunPlans};
 use std::alloc::{AllocError, Global};
+
+/// What `solve` tells of a diagram whose decisions have this order of solving, by the plans of its run, in workspaces
+/// with room for the largest of them.
+///
+/// The plans, as `size_precheck::plan_run` makes them, and the workspaces are the caller's, who may run further plans in
+/// these. They are left as they were found. It may be asked where each scope keeps the weight bound.
+///
+/// # Errors
+///
+/// Only where memory runs out.
+pub fn solve_by(
+    alloc: Global,
+    diagram: &Diagram,
+    relevance: &Relevance,
+    order: &[usize],
+    run: &RunPlans,
+    spaces: &mut Workspaces,
+) -> Result<Solved, AllocError>
+    requires bound { KeepsScopedBounds diagram.now }
+    requires relevance { IsRelevance diagram.now.nodes relevance.now }
+    requires order { IsRelianceOrder diagram.now.nodes order.now }
+    requires plans { ArePlans diagram.now.nodes order.now run.now.decisions.items }
+    requires worths { ArePlansOfWorths diagram.now.nodes run.now.worths.items }
+    requires ready { (cells : ℕ) × AreReady cells spaces.old × HasRoom diagram.now.nodes cells }
+    ensures ok { IfOk result (IsAnswer diagram.now) }
+    ensures again { OnOk result (spaces.new ≡ spaces.old) }
+{
+    scoped_sums_fit();
+    let answers = answer_all(alloc, diagram, relevance, order, &run.decisions, spaces)?;
+    let profile = Profile::pure(alloc, diagram, &answers)?;
+    let gains = expected_along(alloc, diagram, &profile, &run.worths, spaces)?;
+    Ok(Solved {
+        order: Vec::from_slice(alloc, order)?,
+        answers,
+        gains,
+    })
+}
 
 /// The answer of a diagram whose decisions have this order of solving, by the plans of its run. The workspaces are
 /// reserved once.
@@ -48,24 +85,9 @@ fn solve_along(
     requires limit { run.now.size.cells ≤ MOST_PLAN_CELLS }
     ensures { IfOk result (IsAnswer diagram.now) }
 {
-    scoped_sums_fit();
     let cells = run.size.cells as usize;
     let mut spaces = Workspaces::reserve(alloc, cells)?;
-    let answers = answer_all(
-        alloc,
-        diagram,
-        relevance,
-        order,
-        &run.decisions,
-        &mut spaces,
-    )?;
-    let profile = Profile::pure(alloc, diagram, &answers)?;
-    let gains = expected_along(alloc, diagram, &profile, &run.worths, &mut spaces)?;
-    Ok(Solved {
-        order: Vec::from_slice(alloc, order)?,
-        answers,
-        gains,
-    })
+    solve_by(alloc, diagram, relevance, order, run, &mut spaces)
 }
 
 /// The answer of a diagram within the limits, or the first of them that it doesn't keep.

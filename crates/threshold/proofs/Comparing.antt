@@ -21,7 +21,7 @@ use Rattle.reach_laws.specs.Threshold.{IsMoved, IsPlace}
 use Rattle.reach_laws.proofs.Affine.{interpolate_law}
 use Rattle.reach_laws.proofs.Perfect.{IsLike, decision_back, graph_there, like_of, profile_there, rows_like, turned}
 use Rattle.rule_solver.specs.Rows.{gain_in}
-use Rattle.rule_solver.specs.Sums.{IsRowSums}
+use Rattle.rule_solver.specs.Sums.{IsRowGains}
 use Rattle.threshold.specs.declared.weights.Place.{Place}
 use Rattle.threshold.specs.Ends.{AreEnds, IsEnd}
 use Rattle.threshold.specs.Held.{IsNotBelow, between}
@@ -99,9 +99,9 @@ module _ (d : DiagramView) (place : Place) (is : IsDiagram d) (at : IsPlace d.no
   end_profile base b = profile_there d.nodes e.nodes end_like base b
 
   -- the whole diagram's gain is the part's, times the totals left out
-  end_gain : (base : List RuleView) → IsProfile d.nodes base → (gains : List ℤ) (masses : List ℕ) → IsRowSums e.nodes base t gains masses → (line s : ℕ) → line < rows_of d.nodes t → s < states_of d.nodes t
+  end_gain : (base : List RuleView) → IsProfile d.nodes base → (gains : List ℤ) → IsRowGains e.nodes base t gains → (line s : ℕ) → line < rows_of d.nodes t → s < states_of d.nodes t
       → gain_at e.nodes base t s line ≡ pos (mass_left_out e.nodes base (scope_of e.nodes t)) *ℤ gain_in gains (states_of d.nodes t) line s
-  end_gain base b gains masses sums line s l m =
+  end_gain base b gains sums line s l m =
       let scope = scopes_law e.nodes t end_graph end_decision in
       let there = sums.gain s line (subst (λ n. s < n) (sym (end_like.states t)) m) (subst (λ n. line < n) (sym (rows_like d.nodes e.nodes end_like t)) l) in
       gains_law e.nodes base (scope_of e.nodes t) t s line end_graph h.moved.tables (end_profile base b) scope.0 end_decision scope.2 scope.3
@@ -109,7 +109,7 @@ module _ (d : DiagramView) (place : Place) (is : IsDiagram d) (at : IsPlace d.no
 
 -- ---- both
 module _ (d : DiagramView) (place : Place) (is : IsDiagram d) (cell : IsCell d.nodes place) (nought one : DiagramView) (ends : AreEnds d place nought one) (t : ℕ) (k : IsDecision d.nodes t) (base : List RuleView) (b : IsProfile d.nodes base)
-    (gains_nought gains_one : List ℤ) (masses_nought masses_one : List ℕ) (sums_nought : IsRowSums nought.nodes base t gains_nought masses_nought) (sums_one : IsRowSums one.nodes base t gains_one masses_one) where
+    (gains_nought gains_one : List ℤ) (sums_nought : IsRowGains nought.nodes base t gains_nought) (sums_one : IsRowGains one.nodes base t gains_one) where
   pub at_place : IsPlace d.nodes place.node place.row place.state
   at_place = is_place d.nodes place is.tables cell ends.some
 
@@ -155,10 +155,10 @@ module _ (d : DiagramView) (place : Place) (is : IsDiagram d) (cell : IsCell d.n
         ∙ gather (pos (chance_total moved place.node)) (pos left) (gain_in gains_one (states_of d.nodes t) line s) (gain_in gains_nought (states_of d.nodes t) line s) (pos num) (pos den -ℤ pos num)
       where
         there_nought : gain_at nought.nodes base t s line ≡ pos (mass_left_out nought.nodes base (scope_of nought.nodes t)) *ℤ gain_in gains_nought (states_of d.nodes t) line s
-        there_nought = end_gain d place is at_place 0 ends.total nought ends.at_nought t k base b gains_nought masses_nought sums_nought line s l n
+        there_nought = end_gain d place is at_place 0 ends.total nought ends.at_nought t k base b gains_nought sums_nought line s l n
 
         there_one : gain_at one.nodes base t s line ≡ pos (mass_left_out nought.nodes base (scope_of nought.nodes t)) *ℤ gain_in gains_one (states_of d.nodes t) line s
-        there_one = end_gain d place is at_place 1 ends.total one ends.at_one t k base b gains_one masses_one sums_one line s l n ∙ ap (λ c. pos c *ℤ gain_in gains_one (states_of d.nodes t) line s) left_same
+        there_one = end_gain d place is at_place 1 ends.total one ends.at_one t k base b gains_one sums_one line s l n ∙ ap (λ c. pos c *ℤ gain_in gains_one (states_of d.nodes t) line s) left_same
 
         gather : (u c o z n r : ℤ) → u *ℤ (((c *ℤ o) *ℤ n) +ℤ ((c *ℤ z) *ℤ r)) ≡ (u *ℤ c) *ℤ ((o *ℤ n) +ℤ (z *ℤ r))
         gather u c o z n r = ap (λ y. u *ℤ y) ((λ i. regroup c o n i +ℤ regroup c z r i) ∙ sym (mul_add c (o *ℤ n) (z *ℤ r))) ∙ split u c ((o *ℤ n) +ℤ (z *ℤ r))

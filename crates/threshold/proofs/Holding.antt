@@ -16,7 +16,7 @@ use Rattle.reach_laws.proofs.Exact.{gains_alike}
 use Rattle.reach_laws.proofs.ListOrder.{weights_law}
 use Rattle.reach_laws.proofs.Moved.{moved_law}
 use Rattle.reach_laws.proofs.Perfect.{like_of}
-use Rattle.rule_solver.specs.Sums.{IsRowSums}
+use Rattle.rule_solver.specs.Sums.{IsRowGains}
 use Rattle.threshold.specs.declared.weights.Place.{Place}
 use Rattle.threshold.specs.Answers.{HoldsAtFraction, IsAnswerOf}
 use Rattle.threshold.specs.Ends.{AreEnds}
@@ -57,7 +57,7 @@ module _ (d : DiagramView) (solved : SolvedView) (f : FitsDiagram d solved) (ans
 -- ---- the answer at a fraction
 module _ (d : DiagramView) (solved : SolvedView) (place : Place) (is : IsDiagram d) (f : FitsDiagram d solved) (cell : IsCell d.nodes place) (nought one : DiagramView) (ends : AreEnds d place nought one) (answer : AnswerView) (of : IsAnswerOf solved answer)
     (base : List RuleView) (b : IsBase d.nodes (answered d solved) answer.decision base)
-    (gains_nought gains_one : List ℤ) (masses_nought masses_one : List ℕ) (sums_nought : IsRowSums nought.nodes base answer.decision gains_nought masses_nought) (sums_one : IsRowSums one.nodes base answer.decision gains_one masses_one) where
+    (gains_nought gains_one : List ℤ) (sums_nought : IsRowGains nought.nodes base answer.decision gains_nought) (sums_one : IsRowGains one.nodes base answer.decision gains_one) where
   k : IsDecision d.nodes answer.decision
   k = answer_decides d solved f answer of
 
@@ -85,18 +85,18 @@ module _ (d : DiagramView) (solved : SolvedView) (place : Place) (is : IsDiagram
       best = λ line choice other l i j w.
           let e = (weights line choice l i).0 w in
           subst (λ z. gain_at moved base answer.decision other line ≤ℤ gain_at moved base answer.decision z line) (sym e)
-          ((no_more d place is cell nought one ends answer.decision k base b.profile gains_nought gains_one masses_nought masses_one sums_nought sums_one num den hd moved m line (choice_at answer.rows line) other l (inside line l) j).1
+          ((no_more d place is cell nought one ends answer.decision k base b.profile gains_nought gains_one sums_nought sums_one num den hd moved m line (choice_at answer.rows line) other l (inside line l) j).1
           (h line (subst (λ n. line < n) (sym rows) l) other j));
     }
 
     back : HoldsAtFraction d.nodes (answered d solved) place answer.decision num den → AreBestIn gains_nought gains_one (states_of d.nodes answer.decision) answer.rows (length answer.rows) num den
     back h line low other j =
         let l = subst (λ n. line < n) rows low in
-        let at = at_place d place is cell nought one ends answer.decision k base b.profile gains_nought gains_one masses_nought masses_one sums_nought sums_one in
+        let at = at_place d place is cell nought one ends answer.decision k base b.profile gains_nought gains_one sums_nought sums_one in
         let moved = moved_law d.nodes place.node place.row place.state num den is.graph is.tables at hd hn in
         let there = h moved.0 moved.1 in
         let alike = gains_alike d.nodes moved.0 (like_of d.nodes moved.0 place.node place.row place.state num den at moved.1) (answered d solved) answer.decision there.base base there.is_base b in
-        (no_more d place is cell nought one ends answer.decision k base b.profile gains_nought gains_one masses_nought masses_one sums_nought sums_one num den hd moved.0 moved.1 line (choice_at answer.rows line) other l (inside line l) j).0
+        (no_more d place is cell nought one ends answer.decision k base b.profile gains_nought gains_one sums_nought sums_one num den hd moved.0 moved.1 line (choice_at answer.rows line) other l (inside line l) j).0
         (subst (λ z. z ≤ℤ gain_at moved.0 base answer.decision (choice_at answer.rows line) line) (alike other line)
         (subst (λ z. gain_at moved.0 there.base answer.decision other line ≤ℤ z) (alike (choice_at answer.rows line) line)
         (there.best line (choice_at answer.rows line) other l (inside line l) j ((weights line (choice_at answer.rows line) l (inside line l)).1 refl))))

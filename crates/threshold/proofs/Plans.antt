@@ -2,27 +2,23 @@
 use Rattle.std.proofs.Common.{◌≡◌, ◌∙◌, ℕ, ◌+◌, ◌<◌, ◌≤◌, Bool, ◌&&◌, ◌||◌, ◌==◌, cond, not, List, [], ◌∷◌, ◌++◌, map, filter, refl, sym, ap, subst, None, Some}
 use Rattle.std.proofs.Math.Path.{fun_ext}
 use Rattle.std.specs.Prelude.{Contains, option_to_list, sum_by}
-use Rattle.std.specs.List.{AllZip, list_any}
+use Rattle.std.specs.List.{list_any}
 use Rattle.arc_laws.proofs.SameArcs.{descends_back}
 use Rattle.finite_sums.specs.Sums.{nat_product_over}
-use Rattle.maid_model.specs.declared.limits.TheConstants.{MOST_PLAN_CELLS}
 use Rattle.maid_model.specs.Bounds.{stopped}
 use Rattle.maid_model.specs.Nodes.{agent_of, is_utility, owners_of, parents_of, states_of}
-use Rattle.maid_model.specs.Placing.{IsRelianceOrder}
 use Rattle.maid_model.specs.Relevance.{IsGoal}
-use Rattle.maid_model.specs.Views.{NodeView, DiagramView}
+use Rattle.maid_model.specs.Views.{NodeView}
 use Rattle.plan_sums.specs.Plans.{PlanView, eliminated_nodes, gain_plan, has, in_plan, mass_cells, node_table, plan_nodes, row_plan, ruled_nodes, utility_table}
-use Rattle.reach_laws.proofs.Perfect.{IsLike}
+use Rattle.reach_laws.proofs.Perfect.{IsLike, decision_back, turned}
 use Rattle.ring_sums.specs.Tables.{joined_without, scopes_of, scopes_one}
-use Rattle.rule_solver.specs.Faults.{IsSmallEnough}
-use Rattle.rule_solver.specs.Laws.{MeasuredPlansHaveRoom}
-use Rattle.rule_solver.specs.Rooms.{HasAtMost, HasRoom, HasRoomAt}
-use Rattle.size_precheck.specs.declared.sizes.Size.{Size}
+use Rattle.rule_solver.specs.Rooms.{HasAtMost, HasRoomAt}
 use Rattle.size_precheck.specs.Counts.{counted_cells}
 use Rattle.size_precheck.specs.Greedy.{IsGreedy, IsGreedyOrder, IsNext, first_scopes, holding, joined_cells}
-use Rattle.size_precheck.specs.Laws.{GreedyOrdersAreOrders, HasGreedyOrder}
-use Rattle.size_precheck.specs.Sizes.{HasSize, IsSizeOfAll, greatest, made_cells, plan_cells, plan_work, run_plans}
-use Rattle.threshold.proofs.Alike.{agent_same, descends_same, numbers_same}
+use Rattle.size_precheck.specs.Kept.{KeepsPlans}
+use Rattle.size_precheck.specs.Laws.{GreedyOrdersAreOrders}
+use Rattle.size_precheck.specs.Sizes.{made_cells, plan_cells, plan_work}
+use Rattle.threshold.proofs.Alike.{agent_same, descends_same, numbers_same, utility_same}
 
 -- the scopes of first tables: of nodes and their parents, and of a utility's parents
 scopes_split : (nodes : List NodeView) (vs us : List ℕ) → scopes_of (map (λ v. node_table mass_cells nodes [] v) vs ++ map (λ u. utility_table mass_cells nodes u) us)
@@ -107,18 +103,14 @@ module _ (nodes others : List NodeView) (l : IsLike nodes others) where
       goals = λ u g. subst (λ ps. HasAtMost others (record { keep = d ∷ ps; without = Some d; utility = Some u }) cells) (sym (l.parents d)) (few_same (gain_plan nodes d u) (room.goals u (goal_back d u g)));
     }
 
--- ---- the plans of a diagram that is small enough have room
-sizes_exist : (nodes : List NodeView) → HasGreedyOrder → GreedyOrdersAreOrders → (plans : List PlanView) → (sizes : List Size) × AllZip (HasSize nodes) plans sizes
-sizes_exist nodes some orders [] = ([], tt)
-sizes_exist nodes some orders (plan ∷ plans) =
-    let steps = some nodes plan in
-    let rest = sizes_exist nodes some orders plans in
-    let size : Size = record { cells = plan_cells nodes plan steps.0; work = plan_work nodes plan steps.0 } in
-    (size ∷ rest.0, ((steps.0, record { plan = refl; greedy = steps.1; order = orders nodes plan steps.0 steps.1; cells = refl; work = refl }), rest.1))
-
-pub small_has_room : (d : DiagramView) (order : List ℕ) → HasGreedyOrder → GreedyOrdersAreOrders → MeasuredPlansHaveRoom → IsRelianceOrder d.nodes order → IsSmallEnough d → HasRoom d.nodes MOST_PLAN_CELLS
-small_has_room d order some orders measured is small =
-    let s = sizes_exist d.nodes some orders (run_plans d.nodes order) in
-    let size : Size = record { cells = greatest (map (λ (z : Size). z.cells) s.0); work = stopped (sum_by (λ (z : Size). z.work) s.0) } in
-    let sized : IsSizeOfAll d.nodes (run_plans d.nodes order) size = record { sizes = s.0; each = s.1; cells = refl; work = refl } in
-    measured d.nodes order size is sized (small size (record { order = order; is_order = is; is_size = sized })).cells
+  -- and what is kept of a decision stands
+  pub keeps_plans : KeepsPlans nodes others
+  keeps_plans = record {
+    count = l.len;
+    states = l.states;
+    parents = l.parents;
+    utility = λ v. ap is_utility (l.kinds v);
+    owned = utility_same nodes others l;
+    decision = λ d k. decision_back others nodes (turned nodes others l) d k;
+    agent = λ d k. agent_same nodes others l d;
+  }

@@ -5,7 +5,6 @@ use Rattle.std.proofs.lemmas.Nat.{div-add-mod'}
 use Rattle.std.proofs.Math.Decide.{dec_lt}
 use Rattle.std.proofs.Math.Nat.{mod-lt, div-lt_iff_lt-mul}
 use Rattle.maid_model.specs.declared.answers.Row.{Row}
-use Rattle.maid_model.specs.declared.limits.TheConstants.{MOST_PLAN_CELLS}
 use Rattle.maid_model.specs.Answers.{IsBase, answered}
 use Rattle.maid_model.specs.Diagrams.{greatest_number}
 use Rattle.maid_model.specs.Graph.{IsGraph}
@@ -20,21 +19,24 @@ use Rattle.reach_laws.specs.Threshold.{IsPlace}
 use Rattle.reach_laws.proofs.Perfect.{decision_back, rows_like}
 use Rattle.rule_solver.specs.Masses.{KeepsStates}
 use Rattle.rule_solver.specs.Rooms.{HasRoomAt}
-use Rattle.rule_solver.specs.Sums.{IsRowSums}
+use Rattle.rule_solver.specs.Sums.{IsRowGains}
+use Rattle.size_precheck.specs.declared.decisions.DecisionPlans.{DecisionPlans}
+use Rattle.size_precheck.specs.Kept.{KeptPlansStand}
 use Rattle.size_precheck.specs.Laws.{GreedyOrdersAreOrders}
+use Rattle.size_precheck.specs.Sizes.{ArePlansOf}
 use Rattle.threshold.specs.declared.weights.Place.{Place}
 use Rattle.threshold.specs.Answers.{HoldsAtFraction, IsAnswerOf, IsSetting}
 use Rattle.threshold.specs.Ends.{IsEnd}
 use Rattle.threshold.specs.Held.{AreBestIn, AreSmall, HoldsSomewhere}
 use Rattle.threshold.proofs.Comparing.{end_decision, end_graph, end_like, end_profile}
 use Rattle.threshold.proofs.Holding.{answer_decides, answer_fits, holds_same}
-use Rattle.threshold.proofs.Plans.{room_same}
+use Rattle.threshold.proofs.Plans.{keeps_plans, room_same}
 use Rattle.threshold.proofs.Tables.{is_place}
 
 -- sums within the bound are small
-small_sums : (e : DiagramView) (base : List RuleView) (t : ℕ) (gains : List ℤ) (masses : List ℕ) → IsGraph e.nodes → HasChanceTables e.nodes → IsProfile e.nodes base → KeepsScopedBounds e → IsDecision e.nodes t → HasSmallRules e.nodes base t
-    → IsRowSums e.nodes base t gains masses → AreSmall gains
-small_sums e base t gains masses g c p bound k rules sums i = go (dec_lt i (length gains))
+small_sums : (e : DiagramView) (base : List RuleView) (t : ℕ) (gains : List ℤ) → IsGraph e.nodes → HasChanceTables e.nodes → IsProfile e.nodes base → KeepsScopedBounds e → IsDecision e.nodes t → HasSmallRules e.nodes base t
+    → IsRowGains e.nodes base t gains → AreSmall gains
+small_sums e base t gains g c p bound k rules sums i = go (dec_lt i (length gains))
   where
     none : (xs : List ℤ) (i : ℕ) → ¬ (i < length xs) → nat_abs (slice_index_or xs i (pos 0)) ≤ greatest_number
     none xs i out = subst (λ z. nat_abs z ≤ greatest_number) (sym (get_or_past xs i (pos 0) (omega arith))) (omega arith)
@@ -77,11 +79,20 @@ module _ (d : DiagramView) (solved : SolvedView) (place : Place) (nought one : D
   pub decides_one : IsDecision one.nodes answer.decision
   decides_one = end_decision d place set.is_diagram at 1 set.ends.total one set.ends.at_one answer.decision k
 
-  pub room_nought : GreedyOrdersAreOrders → HasRoomAt nought.nodes answer.decision MOST_PLAN_CELLS
-  room_nought orders = room_same d.nodes nought.nodes (end_like d place set.is_diagram at 0 set.ends.total nought set.ends.at_nought answer.decision k) orders MOST_PLAN_CELLS answer.decision (set.room.decisions answer.decision k)
+  pub room_nought : GreedyOrdersAreOrders → (cells : ℕ) → HasRoomAt d.nodes answer.decision cells → HasRoomAt nought.nodes answer.decision cells
+  room_nought orders cells room = room_same d.nodes nought.nodes (end_like d place set.is_diagram at 0 set.ends.total nought set.ends.at_nought answer.decision k) orders cells answer.decision room
 
-  pub room_one : GreedyOrdersAreOrders → HasRoomAt one.nodes answer.decision MOST_PLAN_CELLS
-  room_one orders = room_same d.nodes one.nodes (end_like d place set.is_diagram at 1 set.ends.total one set.ends.at_one answer.decision k) orders MOST_PLAN_CELLS answer.decision (set.room.decisions answer.decision k)
+  pub room_one : GreedyOrdersAreOrders → (cells : ℕ) → HasRoomAt d.nodes answer.decision cells → HasRoomAt one.nodes answer.decision cells
+  room_one orders cells room = room_same d.nodes one.nodes (end_like d place set.is_diagram at 1 set.ends.total one set.ends.at_one answer.decision k) orders cells answer.decision room
+
+  -- the plans of the decision are those of both ends
+  pub plans_nought : KeptPlansStand → (plans : DecisionPlans) → ArePlansOf d.nodes answer.decision plans.rows plans.goals.items → ArePlansOf nought.nodes answer.decision plans.rows plans.goals.items
+  plans_nought stand plans are =
+      (stand d.nodes nought.nodes (record { decision = answer.decision; plans = plans }) (keeps_plans d.nodes nought.nodes (end_like d place set.is_diagram at 0 set.ends.total nought set.ends.at_nought answer.decision k)) (record { decision = k; plans = are })).plans
+
+  pub plans_one : KeptPlansStand → (plans : DecisionPlans) → ArePlansOf d.nodes answer.decision plans.rows plans.goals.items → ArePlansOf one.nodes answer.decision plans.rows plans.goals.items
+  plans_one stand plans are =
+      (stand d.nodes one.nodes (record { decision = answer.decision; plans = plans }) (keeps_plans d.nodes one.nodes (end_like d place set.is_diagram at 1 set.ends.total one set.ends.at_one answer.decision k)) (record { decision = k; plans = are })).plans
 
   pub rules_nought : (base : List RuleView) → KeepsStates d.nodes base → HasSmallRules nought.nodes base answer.decision
   rules_nought base small v is n =
@@ -93,21 +104,21 @@ module _ (d : DiagramView) (solved : SolvedView) (place : Place) (nought one : D
       let l = end_like d place set.is_diagram at 1 set.ends.total one set.ends.at_one answer.decision k in
       subst (λ m. rule_total base v ≤ m) (sym (l.states v)) (small v (decision_back d.nodes one.nodes l v is))
 
-  counted : (num : ℕ) (e : DiagramView) (h : IsEnd d place num set.ends.total e) (base : List RuleView) (gains : List ℤ) (masses : List ℕ) → IsRowSums e.nodes base answer.decision gains masses → length gains ≡ length answer.rows * states_of d.nodes answer.decision
-  counted num e h base gains masses sums =
+  counted : (num : ℕ) (e : DiagramView) (h : IsEnd d place num set.ends.total e) (base : List RuleView) (gains : List ℤ) → IsRowGains e.nodes base answer.decision gains → length gains ≡ length answer.rows * states_of d.nodes answer.decision
+  counted num e h base gains sums =
       let l = end_like d place set.is_diagram at num set.ends.total e h answer.decision k in
       sums.gain_count ∙ (λ i. rows_like d.nodes e.nodes l answer.decision i * l.states answer.decision i) ∙ ap (λ n. n * states_of d.nodes answer.decision) (sym (answer_fits d solved set.answer.fits answer of).rows)
 
-  module _ (base : List RuleView) (b : IsBase d.nodes (answered d solved) answer.decision base) (small : KeepsStates d.nodes base) (gains_nought gains_one : List ℤ) (masses_nought masses_one : List ℕ)
-      (sums_nought : IsRowSums nought.nodes base answer.decision gains_nought masses_nought) (sums_one : IsRowSums one.nodes base answer.decision gains_one masses_one) where
+  module _ (base : List RuleView) (b : IsBase d.nodes (answered d solved) answer.decision base) (small : KeepsStates d.nodes base) (gains_nought gains_one : List ℤ)
+      (sums_nought : IsRowGains nought.nodes base answer.decision gains_nought) (sums_one : IsRowGains one.nodes base answer.decision gains_one) where
     ready : Ready d.nodes (answered d solved) place answer.decision gains_nought gains_one answer.rows (states_of d.nodes answer.decision)
     ready =
-        let same = holds_same d solved place set.is_diagram set.answer.fits set.cell nought one set.ends answer of base b gains_nought gains_one masses_nought masses_one sums_nought sums_one in
+        let same = holds_same d solved place set.is_diagram set.answer.fits set.cell nought one set.ends answer of base b gains_nought gains_one sums_nought sums_one in
         let w = set.somewhere in record {
-          nought = counted 0 nought set.ends.at_nought base gains_nought masses_nought sums_nought;
-          one = counted 1 one set.ends.at_one base gains_one masses_one sums_one;
-          small_nought = small_sums nought base answer.decision gains_nought masses_nought (end_graph d place set.is_diagram at 0 set.ends.total nought set.ends.at_nought answer.decision k) set.ends.at_nought.moved.tables (profile_nought base b.profile) set.ends.bound_nought decides_nought (rules_nought base small) sums_nought;
-          small_one = small_sums one base answer.decision gains_one masses_one (end_graph d place set.is_diagram at 1 set.ends.total one set.ends.at_one answer.decision k) set.ends.at_one.moved.tables (profile_one base b.profile) set.ends.bound_one decides_one (rules_one base small) sums_one;
+          nought = counted 0 nought set.ends.at_nought base gains_nought sums_nought;
+          one = counted 1 one set.ends.at_one base gains_one sums_one;
+          small_nought = small_sums nought base answer.decision gains_nought (end_graph d place set.is_diagram at 0 set.ends.total nought set.ends.at_nought answer.decision k) set.ends.at_nought.moved.tables (profile_nought base b.profile) set.ends.bound_nought decides_nought (rules_nought base small) sums_nought;
+          small_one = small_sums one base answer.decision gains_one (end_graph d place set.is_diagram at 1 set.ends.total one set.ends.at_one answer.decision k) set.ends.at_one.moved.tables (profile_one base b.profile) set.ends.bound_one decides_one (rules_one base small) sums_one;
           somewhere = record { num = w.num; den = w.den; positive = w.positive; at_most = w.at_most; holds = (same w.num w.den w.positive w.at_most).1 (w.holds answer.decision k) };
           same = same;
         }

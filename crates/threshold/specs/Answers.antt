@@ -1,12 +1,11 @@
 -- The fractions at which the answers hold. Only private functions cite it.
 use Rattle.std.specs.Prelude.{◌≡◌, ◌↔◌, ℕ, ◌<◌, ◌≤◌, List, length, map, slice_index, slice_index_or}
-use Rattle.maid_model.specs.declared.limits.TheConstants.{MOST_PLAN_CELLS}
 use Rattle.maid_model.specs.Answers.{IsAnswer, answered}
 use Rattle.maid_model.specs.Diagrams.{IsDiagram}
 use Rattle.maid_model.specs.Nodes.{IsDecision}
 use Rattle.maid_model.specs.Views.{NodeView, DiagramView, RuleView, AnswerView, SolvedView}
 use Rattle.reach_laws.specs.Threshold.{HoldsAt, IsMoved}
-use Rattle.rule_solver.specs.Rooms.{HasRoom}
+use Rattle.rule_solver.specs.Faults.{IsSmallEnough}
 use Rattle.threshold.specs.declared.answers.Question.{Question}
 use Rattle.threshold.specs.declared.held.Held.{Held}
 use Rattle.threshold.specs.declared.weights.Place.{Place}
@@ -24,8 +23,8 @@ abbrev pub HoldsAtAll : List NodeView → List RuleView → Place → ℕ → �
 HoldsAtAll nodes s place num den =
     (d : ℕ) → IsDecision nodes d → HoldsAtFraction nodes s place d num den
 
--- a diagram with its answer, the diagrams in which the probability is 0 and 1, and room for their plans; somewhere
--- the answer holds
+-- a diagram with a small enough run, its answer, and the diagrams in which the probability is 0 and 1; somewhere the
+-- answer holds
 pub record IsSetting
     (d : DiagramView) (solved : SolvedView) (place : Place) (nought one : DiagramView) : Type 0
   where
@@ -33,7 +32,7 @@ pub record IsSetting
     pub answer : IsAnswer d solved
     pub cell : IsCell d.nodes place
     pub ends : AreEnds d place nought one
-    pub room : HasRoom d.nodes MOST_PLAN_CELLS
+    pub small : IsSmallEnough d
     pub somewhere : HoldsSomewhere (HoldsAtAll d.nodes (answered d solved) place)
 
 -- the interval has the fractions from 0 to 1 at which the rules s hold

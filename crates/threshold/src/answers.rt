@@ -1,8 +1,11 @@
 //! The fractions at which all answers hold.
 
-ghost use Rattle.std.specs.Prelude.{IfOk};
+ghost use Rattle.std.specs.Prelude.{◌≡◌, ℕ, IfOk, OnOk};
 ghost use Rattle.maid_model.specs.Answers.{answered};
 ghost use Rattle.relevance_graph.specs.Relevant.{IsRelevance};
+ghost use Rattle.rule_solver.specs.Rooms.{AreReady, HasRoom, HasRoomAt};
+ghost use Rattle.size_precheck.specs.Decisions.{ArePlans};
+ghost use Rattle.size_precheck.specs.Sizes.{ArePlansOf};
 ghost use Rattle.threshold.specs.Answers.{HoldsAllAnswers, HoldsAnswer, IsAnswerOf, IsAsked};
 ghost use Rattle.threshold.specs.Answers.{IsHeld, IsSetting};
 ghost use Rattle.threshold.specs.Held.{IsRange, Narrows};
@@ -10,10 +13,10 @@ ghost use Rattle.threshold.specs.Held.{IsRange, Narrows};
 use crate::ends::Ends;
 use crate::held::{Held, all_fractions, narrow_rows};
 use crate::weights::Place;
-use maid_model::{Answer, Diagram, Solved};
+use maid_model::{Answer, Diagram, Solved, descent_is_tested};
 use relevance_graph::{Relevance, find_relevance};
-use rule_solver::{base_of, row_sums};
-use size_precheck::greedy_orders;
+use rule_solver::{Workspaces, base_of, row_gains_by};
+use size_precheck::{DecisionPlans, greedy_orders, kept_plans_stand, plan_run};
 use std::alloc::{AllocError, Global};
 
 /// A diagram and its answer, the place whose probability moves, and the diagrams in which it is 0
@@ -30,16 +33,29 @@ struct Question<'a> {
 
 impl<'a> Question<'a> {
     /// The fractions of the interval at which an answer holds too: its decision's gains in both
-    /// diagrams, with one base, tell them.
-    fn narrow(&self, alloc: Global, held: Held, answer: &Answer) -> Result<Held, AllocError>
+    /// diagrams, with one base and by the same plans, tell them.
+    fn narrow(
+        &self,
+        alloc: Global,
+        held: Held,
+        answer: &Answer,
+        plans: &DecisionPlans,
+        spaces: &mut Workspaces,
+    ) -> Result<Held, AllocError>
         requires setting { IsAsked self.now }
         requires relevance { IsRelevance self.now.diagram.now.nodes self.now.relevance.now }
         requires answer { IsAnswerOf self.now.solved.now answer.now }
+        requires planned { ArePlansOf self.now.diagram.now.nodes answer.now.decision plans.now.rows
+            plans.now.goals.items }
+        requires ready { (cells : ℕ) × AreReady cells spaces.old
+            × HasRoomAt self.now.diagram.now.nodes answer.now.decision cells }
         requires range { IsRange held }
-        ensures { IfOk result (Narrows (HoldsAnswer self.now answer.now) held) }
+        ensures held { IfOk result (Narrows (HoldsAnswer self.now answer.now) held) }
+        ensures again { OnOk result (spaces.new ≡ spaces.old) }
     {
         // Plans and their sizes look at the diagram's shape alone.
         greedy_orders();
+        kept_plans_stand();
         let (solved, decision) = (self.solved, answer.decision);
         let base = base_of(
             alloc,
@@ -48,34 +64,45 @@ impl<'a> Question<'a> {
             &solved.answers,
             decision,
         )?;
-        let nought = row_sums(alloc, self.nought, &base, decision)?;
-        let one = row_sums(alloc, self.one, &base, decision)?;
+        let nought = row_gains_by(alloc, self.nought, &base, decision, plans, spaces)?;
+        let one = row_gains_by(alloc, self.one, &base, decision, plans, spaces)?;
         Ok(narrow_rows(
             held,
-            &nought.gains,
-            &one.gains,
+            &nought,
+            &one,
             self.diagram.states(decision),
             &answer.rows,
         ))
     }
-    /// The fractions from 0 to 1 at which all answers hold.
-    fn narrow_all(&self, alloc: Global) -> Result<Held, AllocError>
+
+    /// The fractions from 0 to 1 at which all answers hold, by the plans of their decisions.
+    fn narrow_all(
+        &self,
+        alloc: Global,
+        plans: &[DecisionPlans],
+        spaces: &mut Workspaces,
+    ) -> Result<Held, AllocError>
         requires setting { IsAsked self.now }
         requires relevance { IsRelevance self.now.diagram.now.nodes self.now.relevance.now }
+        requires planned { ArePlans self.now.diagram.now.nodes self.now.solved.now.order plans.now }
+        requires ready { (cells : ℕ) × AreReady cells spaces.old
+            × HasRoom self.now.diagram.now.nodes cells }
         ensures range { IfOk result IsRange }
         ensures held { IfOk result (HoldsAllAnswers self.now) }
     {
         let solved = self.solved;
         let mut held = all_fractions();
+        let mut place = 0;
         for answer in &solved.answers {
-            held = self.narrow(alloc, held, answer)?;
+            held = self.narrow(alloc, held, answer, &plans[place], spaces)?;
+            place += 1;
         }
         Ok(held)
     }
 }
 
-/// The fractions from 0 to 1 at which all answers hold: it finds the relevance graph, and goes over
-/// the decisions in the order of solving.
+/// The fractions from 0 to 1 at which all answers hold: it finds the relevance graph, makes the
+/// plans of the run, reserves the workspaces, and goes over the decisions in the order of solving.
 pub(crate) fn hold_answers(
     alloc: Global,
     diagram: &Diagram,
@@ -87,7 +114,11 @@ pub(crate) fn hold_answers(
     ensures range { IfOk result IsRange }
     ensures held { IfOk result (IsHeld diagram.now.nodes (answered diagram.now solved.now) place) }
 {
+    greedy_orders();
+    descent_is_tested();
     let relevance = find_relevance(alloc, diagram)?;
+    let run = plan_run(alloc, diagram, &solved.order)?;
+    let mut spaces = Workspaces::reserve(alloc, run.size.cells as usize)?;
     let question = Question {
         diagram,
         solved,
@@ -96,5 +127,5 @@ pub(crate) fn hold_answers(
         nought: &ends.nought,
         one: &ends.one,
     };
-    question.narrow_all(alloc)
+    question.narrow_all(alloc, &run.decisions, &mut spaces)
 }

@@ -16,8 +16,6 @@ use crate::weights::{Place, weight_there};
 use maid_laws::answers_are_best;
 use maid_model::{Diagram, Ratio, Solved};
 use reach_laws::{held_is_perfect, stays_best};
-use rule_solver::measured_plans_have_room;
-use size_precheck::greedy_orders;
 use std::alloc::Global;
 use whole_num::reduce;
 
@@ -49,9 +47,10 @@ fn fraction(num: u128, den: u128) -> Ratio
 /// decision relies on them, and uniform rules elsewhere.
 ///
 /// It makes the two diagrams in which the probability is 0 and 1, over the least common multiple of
-/// the table's total and of what the other states weigh. In both it sums for each decision, by
-/// elimination along the plans of `solve`, and compares two fractions for each row and state that
-/// gains more than the choice in one of the two.
+/// the table's total and of what the other states weigh. In both it sums the gains of each decision,
+/// by elimination along the plans of `solve`, and compares two fractions for each row and state that
+/// gains more than the choice in one of the two. The plans are made once for both diagrams, and the
+/// workspaces are reserved once.
 ///
 /// # Errors
 ///
@@ -84,9 +83,6 @@ pub fn span(
     stays_best();
     held_is_perfect();
     answers_are_best();
-    // The diagram's plans, which are those of both ends, have room.
-    measured_plans_have_room();
-    greedy_orders();
     let place = Place { node, row, state };
     let ends = find_ends(alloc, diagram, place)?;
     let held = hold_answers(alloc, diagram, solved, place, &ends)?;

@@ -1,31 +1,36 @@
-use Rattle.std.proofs.Common.{◌∙◌, ◌≤◌, ◌<◌, ◌*◌, ◌∷◌, [], map, None, sym, subst, ap}
-use Rattle.std.specs.List.{AllZip}
+use Rattle.std.proofs.Common.{rules, ◌∙◌, ◌≤◌, ◌*◌, FitsSigned, sym, subst, ap, nat_abs}
+use Rattle.std.specs.Int.{w128}
+use Rattle.std.proofs.lemmas.Int.{to_z-of_z}
 use Rattle.cell_rings.specs.Rings.{most_size}
 use Rattle.eliminate.specs.Results.{plan_total}
-use Rattle.maid_model.specs.Nodes.{states_of}
-use Rattle.plan_sums.specs.Plans.{PlanView, plan_sum}
-use Rattle.evidence.specs.Sizes.{plan_given}
-use Rattle.evidence.proofs.PlanCells.{alone_fits, mass_run, mass_sum, states_of_x}
+use Rattle.plan_sums.specs.Plans.{PlanView, gain_cells, plan_sum}
+use Rattle.rule_solver.specs.Rooms.{HasAtMost}
+use Rattle.size_precheck.specs.Sizes.{IsPlanned}
+use Rattle.evidence.proofs.PlanCells.{alone_fits, mass_number}
 use Rattle.evidence.proofs.sums.mass_at.Goals as goal
 
-pub run_plan-slot-requires-clause-fits : goal.run_plan-slot-requires-clause-fits
-run_plan-slot-requires-clause-fits c =
+pub sum_at-requires-clause-keep : goal.sum_at-requires-clause-keep
+sum_at-requires-clause-keep c = ap (λ (plan : PlanView). plan.keep) c.requires.planned.made.plan
+
+pub sum_at-requires-clause-planned : goal.sum_at-requires-clause-planned
+sum_at-requires-clause-planned c = subst (λ (plan : PlanView). IsPlanned c.args.diagram.now.nodes plan c.args.plan.now) (sym c.requires.planned.made.plan) c.requires.planned
+
+pub sum_at-requires-clause-fits : goal.sum_at-requires-clause-fits
+sum_at-requires-clause-fits c =
     let d = c.args.diagram.now in
-    subst (λ (plan : PlanView). 2 * plan_total d.nodes c.args.profile.now plan ≤ most_size) (sym c.in_ok-plan.ensures.plan)
+    subst (λ (plan : PlanView). 2 * plan_total d.nodes c.args.profile.now plan ≤ most_size) (sym c.requires.planned.made.plan)
     (alone_fits d c.args.profile.now c.args.node c.count-count.ensures.diagram c.requires.setting.within c.requires.setting.profile c.requires.setting.rules c.requires.setting.bounds)
 
--- the slot's table is over the node alone
-pub at-requires-clause-states : goal.at-requires-clause-states
-at-requires-clause-states c =
-    let nodes = c.args.diagram.now.nodes in
-    subst (λ vs. AllZip (λ v s. s < states_of nodes v) vs (c.args.state ∷ []))
-    (sym (states_of_x nodes c.args.node c.run_plan-slot.result.scope c.in_ok-plan.plan.plan.keep c.requires.setting.within (ap (λ (plan : PlanView). plan.keep) c.in_ok-plan.ensures.plan) c.run_plan-slot.ensures.scope))
-    (c.requires.setting.has_state, tt)
+pub sum_at-requires-clause-ready : goal.sum_at-requires-clause-ready
+sum_at-requires-clause-ready c =
+    let ready = c.requires.ready in
+    (ready.0, ready.1, subst (λ (plan : PlanView). HasAtMost c.args.diagram.now.nodes plan ready.0) (sym c.requires.planned.made.plan) ready.2)
 
 pub returns-clause-mass : goal.returns-clause-mass
 returns-clause-mass c = λ q r at.
     let nodes = c.args.diagram.now.nodes in
     let p = c.args.profile.now in
-    let keeps = states_of_x nodes c.args.node c.run_plan-slot.result.scope c.in_ok-plan.plan.plan.keep c.requires.setting.within (ap (λ (plan : PlanView). plan.keep) c.in_ok-plan.ensures.plan) c.run_plan-slot.ensures.scope in
-    ap (λ a. a.0) (c.at.ensures q (ap (λ vs. map q vs) keeps ∙ ap (λ s. s ∷ []) at) ∙ c.run_plan-slot.ensures.cell q r ∙ ap (λ plan. plan_sum mass_run nodes p plan q) c.in_ok-plan.ensures.plan)
-    ∙ mass_sum nodes p (plan_given c.args.node None) q
+    let fits : FitsSigned w128 c.in_ok-sum.sum = search rules in
+    c.unsigned_abs.ensures.value
+    ∙ ap nat_abs (to_z-of_z w128 c.in_ok-sum.sum fits ∙ c.in_ok-sum.ensures.sum q r at ∙ ap (λ (plan : PlanView). plan_sum gain_cells nodes p plan q) c.requires.planned.made.plan)
+    ∙ mass_number nodes p c.args.node q

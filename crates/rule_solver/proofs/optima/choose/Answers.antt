@@ -1,13 +1,12 @@
 -- The part of the scope decides as the whole does.
-use Rattle.std.proofs.Common.{ℕ, ℤ, List, IfOk, subst, sym}
+use Rattle.std.proofs.Common.{◌∙◌, ◌*◌, ℕ, List, ℤ, IfOk, ap, sym, subst}
 use Rattle.std.proofs.lemmas.Result.{IfOk-weaker}
 use Rattle.maid_model.specs.Nodes.{rows_of, states_of}
-use Rattle.maid_model.specs.Scopes.{goals_of, scope_of}
+use Rattle.maid_model.specs.Scopes.{scope_of}
 use Rattle.part_laws.specs.PartLaws.{DecidesAlike}
-use Rattle.plan_sums.proofs.Parts.{has_worlds}
 use Rattle.rule_solver.specs.Optima.{ChoosesRows, IsChosenBy}
 use Rattle.rule_solver.specs.Rows.{gain_in}
-use Rattle.rule_solver.specs.Sums.{HasGoals}
+use Rattle.rule_solver.specs.Sums.{IsRowGains}
 use Rattle.rule_solver.proofs.ChoiceLemmas.{chosen_by}
 use Rattle.rule_solver.proofs.optima.choose.Goals as goal
 
@@ -20,9 +19,9 @@ returns-clause-rows c =
     let scope = c.scopes_are_parts.ensures.decisions nodes d is.graph c.requires.decision in
     let alike : (row : ℕ) → DecidesAlike nodes base (scope_of nodes d) d row =
     (λ row. c.parts_decide.ensures.choices nodes base (scope_of nodes d) d row is.graph is.tables c.requires.profile scope.0 c.requires.decision scope.2 scope.3) in
-    let gains = c.deref-2.result.now in
-    let so : HasGoals nodes base d (goals_of nodes d) gains = subst (λ (g : List ℤ). HasGoals nodes base d (goals_of nodes d) g) (sym c.deref-2.ensures.value) c.in_ok-gains.ensures.gains in
+    let gains = c.deref.result.now in
+    let sums : IsRowGains nodes base d gains = subst (λ (g : List ℤ). IsRowGains nodes base d g) (sym c.deref.ensures.value) c.in_ok-gains.ensures.gains in
     IfOk-weaker c.choose_rows.result (λ v. ChoosesRows (gain_in gains (states_of nodes d)) (states_of nodes d) (rows_of nodes d) v.items) (λ v. IsChosenBy nodes base d v.items)
-    (λ v h. chosen_by nodes base d gains v.items is.graph has_worlds alike (c.plans_sum_scopes.ensures.sums nodes base d is.graph is.tables c.requires.profile c.requires.decision) so h)
+    (λ v h. chosen_by nodes base d gains v.items alike sums h)
     (subst (λ n. IfOk c.choose_rows.result (λ v. ChoosesRows (gain_in gains n) n (rows_of nodes d) v.items)) c.states-states.ensures.states
     (subst (λ n. IfOk c.choose_rows.result (λ v. ChoosesRows (gain_in gains c.states-states.result) c.states-states.result n v.items)) c.rows-rows.ensures c.choose_rows.ensures))

@@ -1,10 +1,8 @@
-use Rattle.std.proofs.Common.{rules, arith, ◌<◌, List, length, map, ◌∙◌, ◌+◌, Contains, sym, subst, take, slice_index}
-use Rattle.std.specs.List.{AllZip}
+use Rattle.std.proofs.Common.{rules, arith, ◌<◌, length, ◌∙◌, ◌+◌, Contains, sym, subst, take, slice_index}
 use Rattle.std.proofs.lemmas.Slice.Zip.{AllZip-long}
 use Rattle.maid_model.specs.Answers.{IsBase, pure_profile}
 use Rattle.maid_model.specs.Graph.{AllDifferent}
-use Rattle.plan_sums.specs.Plans.{gain_plan}
-use Rattle.size_precheck.specs.Sizes.{ArePlansOf, IsPlanned, SizedPlan, goal_list}
+use Rattle.size_precheck.specs.Sizes.{ArePlansOf}
 use Rattle.rule_solver.specs.Optima.{ChoosesAll}
 use Rattle.rule_solver.specs.Rooms.{AreReady}
 use Rattle.rule_solver.proofs.ChoiceLemmas.{chosen-push-all}
@@ -33,7 +31,7 @@ pub choose-requires-clause-ready : goal.choose-requires-clause-ready
 choose-requires-clause-ready c = (
   c.requires.ready.0,
   subst (AreReady c.requires.ready.0) (sym c.loop-place.invariant.1) c.requires.ready.1,
-  (c.requires.ready.2 (slice_index c.args.order.now c.loop-place.place) (placed_decision c.args.diagram.now.nodes c.args.order.now c.requires.order c.loop-place.place c.loop-place-test.true)).goals,
+  c.requires.ready.2 (slice_index c.args.order.now c.loop-place.place) (placed_decision c.args.diagram.now.nodes c.args.order.now c.requires.order c.loop-place.place c.loop-place-test.true),
 )
 
 pub loop-place-preserved : goal.loop-place-preserved
@@ -59,8 +57,7 @@ choose-requires-clause-planned c =
     let nodes = c.args.diagram.now.nodes in
     let order = c.args.order.now in
     let plans = c.args.plans.now in
-    let d = slice_index order c.loop-place.place in
     let long = AllZip-long (λ d p. ArePlansOf nodes d p.rows p.goals.items) order plans c.requires.planned in
     let here = c.loop-place-test.true in
-    let made = zip_at (λ d p. ArePlansOf nodes d p.rows p.goals.items) order plans c.loop-place.place 0 c.index-plans-place.result c.requires.planned (omega (arith, here, long)) in
-    subst (λ (l : List SizedPlan). AllZip (IsPlanned nodes) (map (λ u. gain_plan nodes d u) (goal_list nodes d)) l) (sym c.deref-in-loop-place.ensures.value) made.of_goals
+    subst (λ p. ArePlansOf nodes (slice_index order c.loop-place.place) p.rows p.goals.items) (sym c.index-plans-place.is)
+    (zip_at (λ d p. ArePlansOf nodes d p.rows p.goals.items) order plans c.loop-place.place 0 c.index-plans-place.result c.requires.planned (omega (arith, here, long)))

@@ -4,7 +4,6 @@ use Rattle.maid_model.specs.Tables.{chance_total}
 use Rattle.threshold.specs.declared.weights.Place.{Place}
 use Rattle.threshold.specs.Weights.{IsCell}
 use Rattle.threshold.proofs.Assembling.{somewhere, span_is}
-use Rattle.threshold.proofs.Plans.{small_has_room}
 use Rattle.threshold.proofs.Tables.{is_place}
 use Rattle.threshold.proofs.interval.span.Goals as goal
 
@@ -22,7 +21,7 @@ hold_answers-requires c =
       answer = c.requires.answer;
       cell = cell;
       ends = c.in_ok-ends.ensures.ends;
-      room = small_has_room d solved.order c.greedy_orders.ensures.some c.greedy_orders.ensures.orders c.measured_plans_have_room.ensures c.requires.answer.order c.requires.solves.1.1;
+      small = c.requires.solves.1.1;
       somewhere = somewhere d.nodes (answered d solved) place is.graph is.tables at law.0 law.1 law.2;
     }
 

@@ -1,0 +1,38 @@
+-- The plans of a diagram under evidence, made and kept. Only private functions cite it.
+use Rattle.std.specs.Prelude.{◌≡◌, ◌≢◌, ℕ, ◌<◌, List, length, slice_index_or, Option, Some, None, MatchOption}
+use Rattle.maid_model.specs.declared.diagrams.Kind.TheVariants.{Utility}
+use Rattle.maid_model.specs.Nodes.{node_at}
+use Rattle.maid_model.specs.Views.{NodeView}
+use Rattle.rule_solver.specs.Rooms.{HasRoom}
+use Rattle.rule_solver.specs.Worths.{ArePlansOfWorths}
+use Rattle.size_precheck.specs.Decisions.{ArePlans}
+use Rattle.size_precheck.specs.Sizes.{IsPlanned, SizedPlan}
+use Rattle.evidence.specs.declared.measures.GivenPlans.{GivenPlans}
+use Rattle.evidence.specs.Sizes.{HasRoomGiven, plan_given}
+
+-- the plan that keeps x and has the utility v, or nothing where v is no utility
+abbrev pub IsPlanIf : List NodeView → ℕ → ℕ → Option SizedPlan → Type 0
+IsPlanIf nodes x v found = MatchOption found ((node_at nodes v).kind ≢ Utility)
+    (λ plan. ((node_at nodes v).kind ≡ Utility) × IsPlanned nodes (plan_given x (Some v)) plan)
+
+-- for each node the plan that keeps x and has it, where it is a utility
+pub record HasUtilityPlans (nodes : List NodeView) (x : ℕ) (plans : List (Option SizedPlan)) : Type
+    0 where
+  pub count : length plans ≡ length nodes
+  pub each :
+      (v : ℕ) → v < length nodes → IsPlanIf nodes x v (slice_index_or plans v None)
+
+-- the plans of the run in this order
+pub record HasRunPlans (nodes : List NodeView) (order : List ℕ) (plans : GivenPlans) : Type 0 where
+  pub decisions : ArePlans nodes order plans.run.decisions.items
+  pub worths : ArePlansOfWorths nodes plans.run.worths.items
+
+-- the further ones
+pub record HasFurtherPlans (nodes : List NodeView) (x : ℕ) (plans : GivenPlans) : Type 0 where
+  pub alone : IsPlanned nodes (plan_given x None) plans.alone
+  pub utilities : HasUtilityPlans nodes x plans.utilities.items
+
+-- so many cells are room for all of them
+pub record HasRoomForAll (nodes : List NodeView) (x cells : ℕ) : Type 0 where
+  pub run : HasRoom nodes cells
+  pub given : HasRoomGiven nodes x cells

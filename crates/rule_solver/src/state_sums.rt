@@ -1,0 +1,84 @@
+//! What plans that keep one node sum to at a state of the node.
+
+ghost use Rattle.std.specs.Prelude.{◌≡◌, ◌<◌, ◌≤◌, ◌*◌, ◌∷◌, [], ℕ, IfOk, OnOk, length};
+ghost use Rattle.cell_rings.specs.Rings.{most_size};
+ghost use Rattle.eliminate.specs.Results.{plan_total};
+ghost use Rattle.maid_model.specs.Nodes.{states_of};
+ghost use Rattle.maid_model.specs.Profiles.{IsProfile};
+ghost use Rattle.size_precheck.specs.Sizes.{IsPlanned};
+ghost use Rattle.rule_solver.specs.Rooms.{AreReady, HasAtMost, IsReady};
+ghost use Rattle.rule_solver.specs.StateSums.{IsSumAt};
+
+use crate::numbers::Number;
+use crate::spaces::Workspaces;
+use crate::totals::list_totals;
+use crate::widths::fits_small;
+use eliminate::{release, run_plan};
+use factor_core::Workspace;
+use maid_model::{Diagram, Profile};
+use size_precheck::Plan;
+use std::alloc::{AllocError, Global};
+
+/// Runs a plan that keeps one node, in cells that hold all of its numbers, and gives what it sums to at the state.
+fn run_at<C: Number>(
+    diagram: &Diagram,
+    profile: &Profile,
+    node: usize,
+    state: usize,
+    plan: &Plan,
+    work: &mut Workspace<C>,
+) -> i128
+    requires within { node < length diagram.now.nodes }
+    requires state { state < states_of diagram.now.nodes node }
+    requires profile { IsProfile diagram.now.nodes profile.now }
+    requires keep { plan.now.plan.keep ≡ node ∷ [] }
+    requires planned { IsPlanned diagram.now.nodes plan.now.plan plan.now }
+    requires ready { (cells : ℕ) × IsReady cells work.old
+        × HasAtMost diagram.now.nodes plan.now.plan cells }
+    requires fits { 2 * plan_total diagram.now.nodes profile.now plan.now.plan ≤ C.ring.most }
+    ensures sum { IsSumAt diagram.now.nodes profile.now plan.now.plan node state result }
+    ensures again { work.new ≡ work.old }
+{
+    let slot = run_plan(work, plan, diagram, profile);
+    let sum = work.at(diagram, &slot, &[state]);
+    release(work);
+    sum.number()
+}
+
+/// What a plan that keeps one node sums to where the node has the state, in the smaller cells where they surely hold its
+/// numbers. Without a utility that is a mass, and not below 0.
+///
+/// The plan is run once, in workspaces with room for it, which are left as they were found. It may be asked where twice
+/// the product of the plan's totals and of the greatest value of its utility fits 128 bits.
+///
+/// # Errors
+///
+/// Only where memory runs out.
+pub fn sum_at(
+    alloc: Global,
+    diagram: &Diagram,
+    profile: &Profile,
+    node: usize,
+    state: usize,
+    plan: &Plan,
+    spaces: &mut Workspaces,
+) -> Result<i128, AllocError>
+    requires within { node < length diagram.now.nodes }
+    requires state { state < states_of diagram.now.nodes node }
+    requires profile { IsProfile diagram.now.nodes profile.now }
+    requires keep { plan.now.plan.keep ≡ node ∷ [] }
+    requires planned { IsPlanned diagram.now.nodes plan.now.plan plan.now }
+    requires fits { 2 * plan_total diagram.now.nodes profile.now plan.now.plan ≤ most_size }
+    requires ready { (cells : ℕ) × AreReady cells spaces.old
+        × HasAtMost diagram.now.nodes plan.now.plan cells }
+    ensures sum { IfOk result (IsSumAt diagram.now.nodes profile.now plan.now.plan node state) }
+    ensures again { OnOk result (spaces.new ≡ spaces.old) }
+{
+    let totals = list_totals(alloc, diagram, profile)?;
+    let (small, wide) = (&mut spaces.small, &mut spaces.wide);
+    if fits_small(diagram, &totals, plan) {
+        Ok(run_at(diagram, profile, node, state, plan, small))
+    } else {
+        Ok(run_at(diagram, profile, node, state, plan, wide))
+    }
+}
