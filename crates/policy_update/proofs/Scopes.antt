@@ -8,13 +8,13 @@ use Rattle.maid_model.specs.Scopes.{scope_of}
 use Rattle.maid_model.specs.Views.{NodeView, RuleView}
 use Rattle.part_laws.specs.PartLaws.{DecidesAlike}
 use Rattle.rule_solver.specs.Rows.{gain_in}
-use Rattle.rule_solver.specs.Sums.{IsRowSums, scope_gain}
+use Rattle.rule_solver.specs.Sums.{IsRowGains, scope_gain}
 use Rattle.policy_update.specs.Steps.{AreImproved, gains_in}
 use Rattle.policy_update.proofs.Choices.{ComparesAlike, improved_alike}
 
-pub in_whole : (nodes : List NodeView) (p : List RuleView) (d : ℕ) → ((row : ℕ) → DecidesAlike nodes p (scope_of nodes d) d row) → (gains : List ℤ) (masses : List ℕ) → IsRowSums nodes p d gains masses → (rows after : List Row) → length rows ≡ rows_of nodes d
+pub in_whole : (nodes : List NodeView) (p : List RuleView) (d : ℕ) → ((row : ℕ) → DecidesAlike nodes p (scope_of nodes d) d row) → (gains : List ℤ) → IsRowGains nodes p d gains → (rows after : List Row) → length rows ≡ rows_of nodes d
     → AreImproved (gain_in gains (states_of nodes d)) (states_of nodes d) rows after → AreImproved (gains_in nodes p d) (states_of nodes d) rows after
-in_whole nodes p d alike gains masses sums rows after count h = record {
+in_whole nodes p d alike gains sums rows after count h = record {
   count = h.count;
   each = λ row l. improved_alike (gain_in gains (states_of nodes d) row) (λ s. gain_at nodes p d s row) (states_of nodes d) (slice_index_or rows row no_row).choice (slice_index_or after row no_row).choice (compares row (subst (λ n. row < n) count l)) (h.each row l);
   worthless = h.worthless;

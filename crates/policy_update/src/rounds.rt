@@ -14,7 +14,7 @@ use crate::rows::{are_same_choices, improved_rows};
 use maid_model::{Answer, Diagram, Profile, Row, Rule, profile_has_rules};
 use part_laws::{parts_decide, scopes_are_parts};
 use reach_laws::pure_profiles_listed;
-use rule_solver::{Workspaces, row_sums_by};
+use rule_solver::{Workspaces, row_gains_by};
 use size_precheck::DecisionPlans;
 use std::alloc::{AllocError, Global};
 
@@ -42,8 +42,8 @@ fn improvement(
     scopes_are_parts();
     parts_decide();
     let states = diagram.states(answer.decision);
-    let sums = row_sums_by(alloc, diagram, profile, answer.decision, plans, spaces)?;
-    improved_rows(alloc, &sums.gains, states, &answer.rows)
+    let gains = row_gains_by(alloc, diagram, profile, answer.decision, plans, spaces)?;
+    improved_rows(alloc, &gains, states, &answer.rows)
 }
 
 /// Improves the decision at a place in text order, with all other rules as they stand, and tells whether a row's choice

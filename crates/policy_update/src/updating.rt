@@ -103,8 +103,8 @@ fn update_within(
 /// does not. No other rule of any one decision is worth more to the agent.
 ///
 /// The decisions' plans are made once and kept, and two workspaces are reserved once, of small and of wide cells, with
-/// the most cells of a plan. A round asks `rule_solver::row_sums_by` once for each decision, which runs the decision's
-/// plans; at the end `rule_solver::expected_by` makes and runs one plan for each utility.
+/// the most cells of a plan. A round asks `rule_solver::row_gains_by` once for each decision, which runs the plans of
+/// the decision's goals; at the end `rule_solver::expected_by` makes and runs one plan for each utility.
 ///
 /// # Errors
 ///

@@ -7,7 +7,7 @@ use Rattle.maid_model.specs.Scopes.{scope_of}
 use Rattle.maid_model.specs.Views.{AnswerView}
 use Rattle.part_laws.specs.PartLaws.{DecidesAlike}
 use Rattle.rule_solver.specs.Rows.{gain_in}
-use Rattle.rule_solver.specs.Sums.{IsRowSums}
+use Rattle.rule_solver.specs.Sums.{IsRowGains}
 use Rattle.policy_update.specs.Steps.{AreImproved, gains_in}
 use Rattle.policy_update.proofs.Scopes.{in_whole}
 use Rattle.policy_update.proofs.rounds.improvement.Goals as goal
@@ -25,9 +25,9 @@ returns-clause-rows c =
     let alike : (row : ℕ) → DecidesAlike nodes p (scope_of nodes d) d row =
     (λ row. c.parts_decide.ensures.choices nodes p (scope_of nodes d) d row is.graph is.tables c.requires.pure.profile scope.0 c.requires.fits.decision scope.2 scope.3) in
     let gains = c.deref.result.now in
-    let sums : IsRowSums nodes p d gains c.in_ok-sums.sums.masses.items =
-    subst (λ (g : List ℤ). IsRowSums nodes p d g c.in_ok-sums.sums.masses.items) (sym c.deref.ensures.value) (subst (λ e. IsRowSums nodes p e c.in_ok-sums.sums.gains.items c.in_ok-sums.sums.masses.items) same c.in_ok-sums.ensures.sums) in
+    let sums : IsRowGains nodes p d gains =
+    subst (λ (g : List ℤ). IsRowGains nodes p d g) (sym c.deref.ensures.value) (subst (λ e. IsRowGains nodes p e c.in_ok-gains.gains.items) same c.in_ok-gains.ensures.gains) in
     IfOk-weaker c.improved_rows.result (λ v. AreImproved (gain_in gains (states_of nodes d)) (states_of nodes d) c.args.answer.now.rows v.items) (λ v. AreImproved (gains_in nodes p d) (states_of nodes d) c.args.answer.now.rows v.items)
-    (λ v h. in_whole nodes p d alike gains c.in_ok-sums.sums.masses.items sums c.args.answer.now.rows v.items c.requires.fits.rows h)
+    (λ v h. in_whole nodes p d alike gains sums c.args.answer.now.rows v.items c.requires.fits.rows h)
     (subst (λ n. IfOk c.improved_rows.result (λ v. AreImproved (gain_in gains n) n c.args.answer.now.rows v.items)) states
     (subst (λ (r : List Row). IfOk c.improved_rows.result (λ v. AreImproved (gain_in gains c.states-states.result) c.states-states.result r v.items)) rows c.improved_rows.ensures))
