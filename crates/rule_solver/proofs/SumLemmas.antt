@@ -170,7 +170,7 @@ module _ (nodes : List NodeView) (p : List RuleView) (d : ℕ) (graph : IsGraph 
   sums_are gains masses plans so len each = record {
     gain_count = so.count;
     mass_count = len;
-    gain = gains_are gains plans so;
+    gain = (gains_are gains plans so).gain;
     mass_there = λ row h. let w = there 0 row first_state h in subst (λ r. pos (slice_index masses r) ≡ scope_mass nodes p d r) w.3 (each w.0 w.1);
   }
 
