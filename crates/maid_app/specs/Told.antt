@@ -148,6 +148,13 @@ pub record HasFile
   pub told : list ≡ Some files
   pub there : file_of files (file_name request) ≡ Some bytes
 
+-- such a file, whose bytes keep the limit
+pub record HasFileWithin
+    (list : Option (List File)) (requested : Option Request) (request : Request) (bytes : List ℕ) :
+    Type 0 where
+  pub has : HasFile list requested request bytes
+  pub fits : length bytes ≤ limit_of request
+
 -- the words lead to what names a file, and the shelf tells that it lacks it
 pub record LacksFile (list : Option (List File)) (requested : Option Request) : Type 0 where
   pub asked : Request

@@ -17,7 +17,7 @@ ghost use Rattle.maid_model.specs.Names.{NamesView};
 ghost use Rattle.maid_model.specs.Reports.{line};
 ghost use Rattle.maid_model.specs.Views.{DiagramView};
 ghost use Rattle.maid_app.specs.Steps.{HasNoText, LeadsToText, LeadsToRefusal};
-ghost use Rattle.maid_app.specs.Told.{limit_of, IsFileText, IsTextFor, IsUnread, KeepsLimit, KeepsLimits, WritesText, Says, TakesLine, HasFile, LacksFile, IsAfterWriting, IsBeforeWriting, IsOfReading, IsOneOf, EndsWell};
+ghost use Rattle.maid_app.specs.Told.{limit_of, IsFileText, IsTextFor, IsUnread, KeepsLimit, KeepsLimits, WritesText, Says, TakesLine, HasFile, HasFileWithin, LacksFile, IsAfterWriting, IsBeforeWriting, IsOfReading, IsOneOf, EndsWell};
 
 use crate::forms::{Form, TextForm, check, form_of};
 use crate::laws::one_status;
@@ -334,24 +334,24 @@ pub fn run<H: Shelf, O: Sink, E: Sink>(
         → limit_of request < length bytes → ¬ Rose (H.faults shelf.old) (H.faults shelf.new)
         → IsOneOf result Status.TextTooLong }
     ensures always_refused { (request : Request) (bytes : List ℕ)
-        → HasFile (H.list shelf.old) (requested words.now) request bytes
-        → length bytes ≤ limit_of request → (refusal : Refused)
+        → HasFileWithin (H.list shelf.old) (requested words.now) request bytes
+        → (refusal : Refused)
         → Answers request bytes (Err refusal) → ¬ Rose (H.faults shelf.old) (H.faults shelf.new)
         → IsOneOf result refusal.status }
     ensures always_done { (request : Request) (bytes : List ℕ)
-        → HasFile (H.list shelf.old) (requested words.now) request bytes
-        → length bytes ≤ limit_of request → FindsNothing request bytes
+        → HasFileWithin (H.list shelf.old) (requested words.now) request bytes
+        → FindsNothing request bytes
         → ¬ Rose (H.faults shelf.old) (H.faults shelf.new)
         → ¬ Rose (O.faults out.old) (O.faults out.new) → EndsWell request result }
     ensures always_answers { (request : Request) (bytes : List ℕ)
-        → HasFile (H.list shelf.old) (requested words.now) request bytes
-        → length bytes ≤ limit_of request → (d : DiagramView) (names : NamesView)
+        → HasFileWithin (H.list shelf.old) (requested words.now) request bytes
+        → (d : DiagramView) (names : NamesView)
         → IsDiagramOf bytes d names → CanAnswer request d names
         → ¬ Rose (H.faults shelf.old) (H.faults shelf.new)
         → ¬ Rose (O.faults out.old) (O.faults out.new) → EndsWell request result }
     ensures always_written { (request : Request) (bytes : List ℕ)
-        → HasFile (H.list shelf.old) (requested words.now) request bytes
-        → length bytes ≤ limit_of request → (output : Written) → Answers request bytes (Ok output)
+        → HasFileWithin (H.list shelf.old) (requested words.now) request bytes
+        → (output : Written) → Answers request bytes (Ok output)
         → ¬ Rose (H.faults shelf.old) (H.faults shelf.new)
         → ¬ Rose (O.faults out.old) (O.faults out.new) → IsOneOf result output.status }
 

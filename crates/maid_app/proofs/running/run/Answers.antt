@@ -11,16 +11,16 @@ pub returns-in-Ok-clause-always_too_long : goal.returns-in-Ok-clause-always_too_
 returns-in-Ok-clause-always_too_long g c request bytes has long no_cause = absurd (done_not_too_long c.one_status.ensures.clear _ _ _ request bytes has long _ c.in-Ok.status c.in-Ok.ensures.ok)
 
 pub returns-in-Ok-clause-always_refused : goal.returns-in-Ok-clause-always_refused
-returns-in-Ok-clause-always_refused g c request bytes has fits refusal is no_cause = absurd (done_refused c.one_status.ensures.clear _ _ _ request bytes has _ c.in-Ok.status c.in-Ok.ensures.ok c.one_status.ensures.one refusal is)
+returns-in-Ok-clause-always_refused g c request bytes has refusal is no_cause = absurd (done_refused c.one_status.ensures.clear _ _ _ request bytes has.has _ c.in-Ok.status c.in-Ok.ensures.ok c.one_status.ensures.one refusal is)
 
 pub returns-in-Ok-clause-always_done : goal.returns-in-Ok-clause-always_done
-returns-in-Ok-clause-always_done g c request bytes has fits clear no_cause no_write = done_well c.one_status.ensures.clear _ _ _ request bytes has _ c.in-Ok.status c.in-Ok.ensures.ok
+returns-in-Ok-clause-always_done g c request bytes has clear no_cause no_write = done_well c.one_status.ensures.clear _ _ _ request bytes has.has _ c.in-Ok.status c.in-Ok.ensures.ok
 
 pub returns-in-Ok-clause-always_answers : goal.returns-in-Ok-clause-always_answers
-returns-in-Ok-clause-always_answers g c request bytes has fits d names is can no_cause no_write = done_well c.one_status.ensures.clear _ _ _ request bytes has _ c.in-Ok.status c.in-Ok.ensures.ok
+returns-in-Ok-clause-always_answers g c request bytes has d names is can no_cause no_write = done_well c.one_status.ensures.clear _ _ _ request bytes has.has _ c.in-Ok.status c.in-Ok.ensures.ok
 
 pub returns-in-Ok-clause-always_written : goal.returns-in-Ok-clause-always_written
-returns-in-Ok-clause-always_written g c request bytes has fits output is no_cause no_write = done_written c.one_status.ensures.clear _ _ _ request bytes has _ c.in-Ok.status c.in-Ok.ensures.ok c.one_status.ensures.one output is
+returns-in-Ok-clause-always_written g c request bytes has output is no_cause no_write = done_written c.one_status.ensures.clear _ _ _ request bytes has.has _ c.in-Ok.status c.in-Ok.ensures.ok c.one_status.ensures.one output is
 
 -- what was told is what the file comes to
 pub returns-in-Err-clause-always_absent : goal.returns-in-Err-clause-always_absent
@@ -32,20 +32,20 @@ returns-in-Err-clause-always_too_long g c request bytes has long no_cause =
     rw c.status.ensures (only_too_long c.one_status.ensures.clear _ _ _ request bytes has long (status_of c.in-Err.refusal) (line_of c.in-Err.refusal) _ _ c.in-Err.ensures.err c.in-Err.ensures.read_cause c.in-Err.ensures.part no_cause)
 
 pub returns-in-Err-clause-always_refused : goal.returns-in-Err-clause-always_refused
-returns-in-Err-clause-always_refused g c request bytes has fits refusal is no_cause =
-    rw c.status.ensures (only_refused c.one_status.ensures.clear _ _ _ request bytes has fits c.one_status.ensures.one (status_of c.in-Err.refusal) (line_of c.in-Err.refusal) _ _ c.in-Err.ensures.err c.in-Err.ensures.read_cause c.in-Err.ensures.part refusal is no_cause)
+returns-in-Err-clause-always_refused g c request bytes has refusal is no_cause =
+    rw c.status.ensures (only_refused c.one_status.ensures.clear _ _ _ request bytes has.has has.fits c.one_status.ensures.one (status_of c.in-Err.refusal) (line_of c.in-Err.refusal) _ _ c.in-Err.ensures.err c.in-Err.ensures.read_cause c.in-Err.ensures.part refusal is no_cause)
 
 pub returns-in-Err-clause-always_done : goal.returns-in-Err-clause-always_done
-returns-in-Err-clause-always_done g c request bytes has fits clear no_cause no_write =
-    rw c.status.ensures (only_done c.one_status.ensures.clear _ _ _ request bytes has fits (status_of c.in-Err.refusal) (line_of c.in-Err.refusal) _ _ c.in-Err.ensures.err c.in-Err.ensures.read_cause c.in-Err.ensures.write_cause clear no_cause no_write)
+returns-in-Err-clause-always_done g c request bytes has clear no_cause no_write =
+    rw c.status.ensures (only_done c.one_status.ensures.clear _ _ _ request bytes has.has has.fits (status_of c.in-Err.refusal) (line_of c.in-Err.refusal) _ _ c.in-Err.ensures.err c.in-Err.ensures.read_cause c.in-Err.ensures.write_cause clear no_cause no_write)
 
 pub returns-in-Err-clause-always_answers : goal.returns-in-Err-clause-always_answers
-returns-in-Err-clause-always_answers g c request bytes has fits d names is can no_cause no_write =
-    rw c.status.ensures (only_done c.one_status.ensures.clear _ _ _ request bytes has fits (status_of c.in-Err.refusal) (line_of c.in-Err.refusal) _ _ c.in-Err.ensures.err c.in-Err.ensures.read_cause c.in-Err.ensures.write_cause (nothing_found request bytes d names is can) no_cause no_write)
+returns-in-Err-clause-always_answers g c request bytes has d names is can no_cause no_write =
+    rw c.status.ensures (only_done c.one_status.ensures.clear _ _ _ request bytes has.has has.fits (status_of c.in-Err.refusal) (line_of c.in-Err.refusal) _ _ c.in-Err.ensures.err c.in-Err.ensures.read_cause c.in-Err.ensures.write_cause (nothing_found request bytes d names is can) no_cause no_write)
 
 pub returns-in-Err-clause-always_written : goal.returns-in-Err-clause-always_written
-returns-in-Err-clause-always_written g c request bytes has fits output is no_cause no_write =
-    rw c.status.ensures (only_written c.one_status.ensures.clear _ _ _ request bytes has fits c.one_status.ensures.one (status_of c.in-Err.refusal) (line_of c.in-Err.refusal) _ _ c.in-Err.ensures.err c.in-Err.ensures.read_cause c.in-Err.ensures.write_cause output is no_cause no_write)
+returns-in-Err-clause-always_written g c request bytes has output is no_cause no_write =
+    rw c.status.ensures (only_written c.one_status.ensures.clear _ _ _ request bytes has.has has.fits c.one_status.ensures.one (status_of c.in-Err.refusal) (line_of c.in-Err.refusal) _ _ c.in-Err.ensures.err c.in-Err.ensures.read_cause c.in-Err.ensures.write_cause output is no_cause no_write)
 
 -- so it is where the text is generated
 pub returns-in-Ok-clause-demo_status : goal.returns-in-Ok-clause-demo_status
