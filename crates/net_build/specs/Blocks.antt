@@ -1,6 +1,7 @@
 -- Looking up what the blocks of a text say. Each look-up has an answer for every tree; it is the one that is meant
 -- where the passes before it find nothing.
-use Rattle.std.specs.Prelude.{◌*◌, ℕ, Bool, true, false, ◌&&◌, ◌||◌, List, [], ◌∷◌, Option, map, filter, find, length, drop, nat_le, bytes_eq, codes, slice_index_or, if◌then◌else◌}
+use Rattle.std.specs.Prelude.{◌≡◌, ◌*◌, ℕ, Bool, true, false, ◌&&◌, ◌||◌, List, [], ◌∷◌, Option, MatchOption, map, filter, find, length, drop, nat_le, bytes_eq, codes, slice_index_or, if◌then◌else◌}
+use Rattle.std.specs.Borrow.{Bor}
 use Rattle.std.specs.List.{flat_map, list_all, position_or_len}
 use Rattle.std.specs.Option.{option_map_or}
 pub use Rattle.finite_sums.specs.Sights.{first_sights, with_sight, with_sights}
@@ -114,10 +115,22 @@ topic_of text attribute = if bytes_eq (word_of text attribute) (codes "agents")
     then codes "agent"
     else word_of text attribute
 
--- the attributes that tell the owners
+-- the first of these attributes, and nothing where there is none
+abbrev pub IsFirst : List AttributeTree → Option (Bor AttributeTree) → Type 0
+IsFirst attributes found = MatchOption found (attributes ≡ [])
+    (λ a. (rest : List AttributeTree) × (attributes ≡ a.now ∷ rest))
+
+-- the attribute counts in such a block, and is about that topic
+abbrev pub counts_for : List ℕ → BlockKind → List ℕ → AttributeTree → Bool
+counts_for text kind topic a = is_counted kind (word_of text a) && bytes_eq (topic_of text a) topic
+
+-- the attributes that tell the owners of such a node
+abbrev pub telling_owners : List ℕ → BlockKind → List AttributeTree → List AttributeTree
+telling_owners text kind attributes = filter (λ a. names_owners kind (word_of text a)) attributes
+
+-- those of a block
 abbrev pub owner_attributes : List ℕ → BlockTree → List AttributeTree
-owner_attributes text block =
-    filter (λ a. names_owners block.kind (word_of text a)) block.attributes
+owner_attributes text block = telling_owners text block.kind block.attributes
 
 abbrev pub is_text : TokenKind → Bool
 is_text tokens.Text = true
@@ -190,11 +203,14 @@ agents_of text nodes =
 abbrev pub place_among : List (List ℕ) → List ℕ → ℕ
 place_among names name = position_or_len (λ other. bytes_eq other name) names
 
--- the numbers of a node's owners in written order; a chance node has 0
+-- the places among the agents of a node's owners, in written order; a chance node has 0
+abbrev pub owner_places : List ℕ → List (List ℕ) → BlockTree → List ℕ
+owner_places text agents block =
+    if has_agent block.kind then map (place_among agents) (owner_names text block) else 0 ∷ []
+
+-- the numbers of a node's owners among all agents of the text
 abbrev pub owners_of : List ℕ → List BlockTree → BlockTree → List ℕ
-owners_of text nodes block = if has_agent block.kind
-    then map (place_among (agents_of text nodes)) (owner_names text block)
-    else 0 ∷ []
+owners_of text nodes block = owner_places text (agents_of text nodes) block
 
 -- the potential with that head
 abbrev pub potential_of : List ℕ → List BlockTree → List ℕ → Option BlockTree

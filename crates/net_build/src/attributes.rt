@@ -2,7 +2,7 @@
 
 ghost use Rattle.std.specs.Prelude.{◌≡◌, ◌&&◌, ◌∷◌, [], List, All, filter, IfSome, MatchOption, bytes_eq};
 ghost use Rattle.std.specs.List.{list_any};
-ghost use Rattle.net_build.specs.Blocks.{is_counted, named, names_owners, topic_of, word_of};
+ghost use Rattle.net_build.specs.Blocks.{counts_for, is_counted, named, names_owners, topic_of, word_of, IsFirst};
 ghost use Rattle.first_fault.specs.Passes.{each_after};
 ghost use Rattle.first_fault.specs.Answers.{Passes};
 ghost use Rattle.net_build.specs.Passes.{build_fault};
@@ -36,9 +36,7 @@ pub fn first_named<'a, 't>(
     word: &[u8],
 ) -> Option<&'a Attribute<'t>>
     requires { All (IsAttributeOf text.now) attributes.now }
-    ensures first { MatchOption result (named text.now word.now attributes.now ≡ [])
-        (λ a.
-        (rest : List AttributeTree) × (named text.now word.now attributes.now ≡ a.now ∷ rest)) }
+    ensures first { IsFirst (named text.now word.now attributes.now) result }
     ensures own { IfSome result (λ a. IsAttributeOf text.now a.now) }
 {
     for attribute in attributes {
@@ -88,9 +86,7 @@ fn topic_of<'a>(text: &'a [u8], attribute: &Attribute<'_>) -> &'a [u8]
 // The attribute counts and is about that topic.
 fn counts_for(text: &[u8], kind: BlockKind, attribute: &Attribute<'_>, topic: &[u8]) -> bool
     requires { IsAttributeOf text.now attribute.now }
-    ensures { result
-        ≡ (is_counted kind (word_of text.now attribute.now)
-        && bytes_eq (topic_of text.now attribute.now) topic.now) }
+    ensures { result ≡ counts_for text.now kind topic.now attribute.now }
 {
     counts(kind, word_of(text, attribute)) && topic_of(text, attribute) == topic
 }
@@ -98,10 +94,7 @@ fn counts_for(text: &[u8], kind: BlockKind, attribute: &Attribute<'_>, topic: &[
 // One of the attributes counts and is about that topic.
 fn has_counted(text: &[u8], kind: BlockKind, attributes: &[Attribute<'_>], topic: &[u8]) -> bool
     requires { All (IsAttributeOf text.now) attributes.now }
-    ensures { result
-        ≡ list_any
-        (λ a. is_counted kind (word_of text.now a) && bytes_eq (topic_of text.now a) topic.now)
-        attributes.now }
+    ensures { result ≡ list_any (counts_for text.now kind topic.now) attributes.now }
 {
     attributes
         .iter()
@@ -119,11 +112,7 @@ fn is_repeated(
     requires own { IsAttributeOf text.now attribute.now }
     ensures { result
         ≡ (is_counted kind (word_of text.now attribute.now)
-        && list_any
-        (λ a.
-        is_counted kind (word_of text.now a)
-        && bytes_eq (topic_of text.now a) (topic_of text.now attribute.now))
-        before.now) }
+        && list_any (counts_for text.now kind (topic_of text.now attribute.now)) before.now) }
 {
     // Of two topics at most does one attribute count, so that few are compared with those before them.
     counts(kind, word_of(text, attribute))

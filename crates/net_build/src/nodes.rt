@@ -1,7 +1,7 @@
 //! The node blocks of a text: names, labels, agents, kinds and counts of states.
 
 ghost use Rattle.std.specs.Prelude.{◌≡◌, ◌<◌, [], ◌∷◌, All, map, length, IfOk, OnOk, codes, if◌then◌else◌};
-ghost use Rattle.net_build.specs.Blocks.{is_node, kind_of, title_at, block_name, node_blocks, has_states, has_agent, named, block_labels, block_states, owner_names, place_among};
+ghost use Rattle.net_build.specs.Blocks.{is_node, kind_of, title_at, block_name, node_blocks, has_states, has_agent, named, block_labels, block_states, owner_places};
 ghost use Rattle.maid_model.specs.Names.{list_of};
 ghost use Rattle.first_fault.specs.Passes.{only};
 ghost use Rattle.first_fault.specs.Answers.{Passes};
@@ -175,9 +175,7 @@ fn read_entry(
     ensures states { IfOk result (λ entry. entry.head.states ≡ block_states text.now block.now) }
     ensures owners { IfOk result (λ entry.
         entry.head.owner ∷ entry.more.items
-        ≡ (if has_agent block.now.kind
-        then map (place_among (list_of agents.new.items)) (owner_names text.now block.now)
-        else 0 ∷ [])) }
+        ≡ owner_places text.now (list_of agents.new.items) block.now) }
 {
     let name = read_name(text, block, names)?;
     check_repeats(text, block)?;

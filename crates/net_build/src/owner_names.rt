@@ -1,7 +1,7 @@
 //! The names of a node's owners: the string of `agent`, or the strings of `agents`.
 
 ghost use Rattle.std.specs.Prelude.{◌≡◌, [], ◌∷◌, List, All, filter, map, true, false, IfOk, IfSome, MatchOption, bytes_eq, codes};
-ghost use Rattle.net_build.specs.Blocks.{is_string, names_owners, owner_attributes, owner_names, tells_owners, texts_or_agent, word_of};
+ghost use Rattle.net_build.specs.Blocks.{is_string, names_owners, owner_attributes, owner_names, telling_owners, tells_owners, texts_or_agent, word_of, IsFirst};
 ghost use Rattle.maid_model.specs.Names.{list_of};
 ghost use Rattle.first_fault.specs.Passes.{rule, each_after};
 ghost use Rattle.first_fault.specs.Answers.{Passes};
@@ -29,11 +29,7 @@ fn first_telling<'a, 't>(
     attributes: &'a [Attribute<'t>],
 ) -> Option<&'a Attribute<'t>>
     requires { All (IsAttributeOf text.now) attributes.now }
-    ensures first { MatchOption result
-        (filter (λ a. names_owners kind (word_of text.now a)) attributes.now ≡ [])
-        (λ a.
-        (rest : List AttributeTree) × (filter (λ a. names_owners kind (word_of text.now a))
-        attributes.now ≡ a.now ∷ rest)) }
+    ensures first { IsFirst (telling_owners text.now kind attributes.now) result }
     ensures own { IfSome result (λ a. IsAttributeOf text.now a.now) }
 {
     for attribute in attributes {

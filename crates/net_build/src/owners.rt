@@ -3,7 +3,7 @@
 ghost use Rattle.std.specs.Prelude.{◌≡◌, ◌+◌, ◌<◌, [], ◌∷◌, map, length, IfOk, OnOk, if◌then◌else◌};
 ghost use Rattle.maid_model.specs.declared.limits.TheConstants.{MOST_AGENTS};
 ghost use Rattle.net_build.specs.declared.faults.Limit.TheVariants.{Agents};
-ghost use Rattle.net_build.specs.Blocks.{has_agent, owner_names, place_among, with_sight, with_sights};
+ghost use Rattle.net_build.specs.Blocks.{has_agent, owner_names, owner_places, place_among, with_sight, with_sights};
 ghost use Rattle.maid_model.specs.Names.{list_of};
 ghost use Rattle.first_fault.specs.Passes.{rule, only, each_after};
 ghost use Rattle.first_fault.specs.Answers.{Passes};
@@ -126,9 +126,7 @@ pub fn read_owners(
         ≡ with_owners text.now (list_of agents.old.items) block.now) }
     ensures owners { IfOk result (λ owners.
         owners.first ∷ owners.more.items
-        ≡ (if has_agent block.now.kind
-        then map (place_among (list_of agents.new.items)) (owner_names text.now block.now)
-        else 0 ∷ [])) }
+        ≡ owner_places text.now (list_of agents.new.items) block.now) }
 {
     if has_agent(block.kind) {
         agent_owners(alloc, text, block, agents)

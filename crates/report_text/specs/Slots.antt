@@ -1,7 +1,8 @@
 -- What each line of a report may show, and at which line a text stops to be one: the words of the reading, line by
 -- line.
-use Rattle.std.specs.Prelude.{◌≡◌, ◌≢◌, ◌⊎◌, ℕ, zero, suc, ◌+◌, ◌<◌, List, [], ◌∷◌, ◌++◌, map, length, codes, decimal, ◌==◌, if◌then◌else◌, Bool, true, not, All, Contains}
+use Rattle.std.specs.Prelude.{◌≡◌, ◌≢◌, ◌⊎◌, ℕ, zero, suc, ◌+◌, ◌<◌, List, [], ◌∷◌, ◌++◌, Option, map, length, codes, decimal, ◌==◌, if◌then◌else◌, Bool, true, not, All, Contains}
 use Rattle.std.specs.List.{flat_map, list_all}
+use Rattle.std.specs.Option.{MatchOption}
 use Rattle.maid_model.specs.declared.answers.Ratio.{Ratio}
 use Rattle.maid_model.specs.declared.answers.Row.{Row}
 use Rattle.maid_model.specs.Views.{NodeView, DiagramView, AnswerView, SolvedView}
@@ -74,6 +75,11 @@ pub record IsOrder (nodes : List NodeView) (order : List ℕ) : Type 0 where
 pub record IsRow (nodes : List NodeView) (d : ℕ) (row : Row) : Type 0 where
   pub choice : row.choice < states_of nodes d
   pub worth : HasRatio row
+
+-- what the line shows: one of these whose words it is, and nothing where it has the words of none
+abbrev pub ShowsOne : {A : Type 0} → (A → Type 0) → (A → List ℕ) → List ℕ → Option A → Type 0
+ShowsOne {A} Is words line found =
+    MatchOption found ((x : A) → Is x → line ≢ words x) (λ x. Is x × (line ≡ words x))
 
 -- a place for a line: this very line, the line of a decision's row, an agent's line, or the text's end
 pub data Slot : Type 0 where

@@ -1,14 +1,13 @@
 //! The lines of rows and of gains, read.
 
 ghost use Rattle.std.specs.Prelude.{◌≡◌, ◌≢◌, ◌<◌, ◌+◌, ◌++◌, ◌∷◌, [], ℕ, List, Option, decimal, length, IfOk, IfSome, IfNone};
-ghost use Rattle.std.specs.Option.{MatchOption};
 ghost use Rattle.maid_model.specs.Names.{NamesFit};
 ghost use Rattle.maid_model.specs.Nodes.{IsDecision, rows_of, states_of};
 ghost use Rattle.maid_model.specs.Reports.{worth_text};
 ghost use Rattle.maid_model.specs.declared.answers.Ratio.{Ratio};
 ghost use Rattle.maid_model.specs.declared.answers.Row.{Row};
 ghost use Rattle.report_text.specs.Reading.{FitsRatio};
-ghost use Rattle.report_text.specs.Slots.{IsRow, gain_words, row_words};
+ghost use Rattle.report_text.specs.Slots.{IsRow, ShowsOne, gain_words, row_words};
 
 use crate::cuts::{behind, front};
 use crate::numbers::{read_ratio, whole};
@@ -65,13 +64,8 @@ pub(crate) fn read_row(
     requires decision { IsDecision diagram.now.nodes decision }
     requires rows { rows ≡ rows_of diagram.now.nodes decision }
     requires number { number < rows }
-    ensures { IfOk result (λ found.
-        MatchOption found
-        ((row : Row) → IsRow diagram.now.nodes decision row
-        → line.now ≢ row_words diagram.now.nodes names.now decision number row)
-        (λ row.
-        IsRow diagram.now.nodes decision row
-        × (line.now ≡ row_words diagram.now.nodes names.now decision number row))) }
+    ensures { IfOk result (ShowsOne (IsRow diagram.now.nodes decision)
+        (row_words diagram.now.nodes names.now decision number) line.now) }
 {
     scratch.clear();
     push_row_front(scratch, diagram, names, decision, rows, number)?;
@@ -100,9 +94,7 @@ pub(crate) fn read_gain(
     line: &[u8],
 ) -> Result<Option<Ratio>, AllocError>
     requires { agent < length names.now.agents }
-    ensures { IfOk result (λ found. MatchOption found
-        ((gain : Ratio) → FitsRatio gain → line.now ≢ gain_words names.now agent gain)
-        (λ gain. FitsRatio gain × (line.now ≡ gain_words names.now agent gain))) }
+    ensures { IfOk result (ShowsOne FitsRatio (gain_words names.now agent) line.now) }
 {
     scratch.clear();
     push_gain_front(scratch, names, agent)?;
