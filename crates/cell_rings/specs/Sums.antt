@@ -34,6 +34,16 @@ ProductFits r cells before (p ∷ ps) = (before * r.size (cell_at r cells p) ≤
 abbrev pub run_sum : {C : Type 0} → Ring C → ℕ → ℕ → (ℕ → C) → ℕ → C
 run_sum r n at f p = ring_sum r n (λ i. if p == at + i then f i else r.nought)
 
+-- from two places on, one factor times the i-th cell and another times the i-th cell
+abbrev pub two_scaled : {C : Type 0} → Ring C → List C → C → C → ℕ → ℕ → ℕ → C
+two_scaled r cells first second from beside = λ i.
+    r.plus (r.times first (cell_at r cells (from + i))) (r.times second (cell_at r cells (beside + i)))
+
+-- the most that is by the sizes of the cells, where the factors have these sizes
+abbrev pub two_sizes : {C : Type 0} → Ring C → List C → ℕ → ℕ → ℕ → ℕ → ℕ → ℕ
+two_sizes r cells first second from beside = λ i.
+    first * r.size (cell_at r cells (from + i)) + second * r.size (cell_at r cells (beside + i))
+
 -- the new list has f added to the old one, cell by cell
 pub record Adds {C : Type 0} (r : Ring C) (f : ℕ → C) (old new : List C) : Type 0 where
   pub each : (p : ℕ) → cell_at r new p ≡ r.plus (cell_at r old p) (f p)

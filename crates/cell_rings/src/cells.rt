@@ -1,7 +1,7 @@
 //! What a cell is.
 
 ghost use Rattle.std.specs.Prelude.{◌≡◌, ℕ, ℤ, ◌+◌, ◌*◌, ◌<◌, ◌≤◌, max, nat_abs, length, IsTrue};
-ghost use Rattle.cell_rings.specs.Sums.{ring_sum, cell_at, run_sum, Adds, HasRoom};
+ghost use Rattle.cell_rings.specs.Sums.{ring_sum, cell_at, run_sum, two_scaled, two_sizes, Adds, HasRoom};
 ghost use Rattle.cell_rings.specs.Rings.{Ring, IsRing, IsSize, mass_ring};
 
 /// A cell of a table. `ring` has its two operations and its sizes; a result fits where its size is at most `ring.most`.
@@ -75,13 +75,11 @@ pub trait Cell: Copy {
     )
         requires out { at + n ≤ length out.old }
         requires cells { (from + n ≤ length cells.now) × (beside + n ≤ length cells.now) }
-        requires room { HasRoom ring out.old (run_sum mass_ring n at (λ i.
-            ring.size first * ring.size (cell_at ring cells.now (from + i))
-            + ring.size second * ring.size (cell_at ring cells.now (beside + i)))) }
+        requires room { HasRoom ring out.old (run_sum mass_ring n at
+            (two_sizes ring cells.now (ring.size first) (ring.size second) from beside)) }
         ensures { Adds ring
-            (run_sum ring n at (λ i.
-            ring.plus (ring.times first (cell_at ring cells.now (from + i)))
-            (ring.times second (cell_at ring cells.now (beside + i)))))
+            (run_sum ring n at
+            (two_scaled ring cells.now first second from beside))
             out.old out.new }
     {
         for i in 0..n {
@@ -119,13 +117,11 @@ pub trait Cell: Copy {
         requires cells { (from + n ≤ length cells.now) × (beside + n ≤ length cells.now) }
         requires first { (i : ℕ) → i < n → bits (cell_at ring cells.now (from + i)) < narrow }
         requires second { (i : ℕ) → i < n → bits (cell_at ring cells.now (beside + i)) < narrow }
-        requires room { HasRoom ring out.old (run_sum mass_ring n at (λ i.
-            ring.size first * ring.size (cell_at ring cells.now (from + i))
-            + ring.size second * ring.size (cell_at ring cells.now (beside + i)))) }
+        requires room { HasRoom ring out.old (run_sum mass_ring n at
+            (two_sizes ring cells.now (ring.size first) (ring.size second) from beside)) }
         ensures { Adds ring
-            (run_sum ring n at (λ i.
-            ring.plus (ring.times first (cell_at ring cells.now (from + i)))
-            (ring.times second (cell_at ring cells.now (beside + i)))))
+            (run_sum ring n at
+            (two_scaled ring cells.now first second from beside))
             out.old out.new }
     {
         Self::add_two_scaled(out, at, n, first, second, cells, from, beside)

@@ -3,7 +3,7 @@
 ghost use Rattle.std.specs.Prelude.{◌≡◌, ◌+◌, ◌-◌, ◌*◌, ◌%◌, ◌^◌, ◌<◌, ◌≤◌, ◌*ℤ◌, ◌≤ℤ◌, ◌<ℤ◌, ℤ, pos, nat_abs, length, IsTrue};
 ghost use Rattle.std.specs.Int.{w128, cast_unsigned};
 ghost use Rattle.cell_rings.specs.Rings.{mass_ring};
-ghost use Rattle.cell_rings.specs.Sums.{cell_at, run_sum, Adds, HasRoom};
+ghost use Rattle.cell_rings.specs.Sums.{cell_at, run_sum, two_scaled, two_sizes, Adds, HasRoom};
 ghost use Rattle.cell_rings.specs.Words.{whole, AreWords};
 ghost use Rattle.cell_rings.specs.KindLaws.{most_has_room, gain_laws, gain_sizes, at_most_itself, value_at_most};
 ghost use Rattle.cell_rings.specs.Kinds.{gain_kind, gain_of};
@@ -145,13 +145,12 @@ fn add_two_long(
 )
     requires out { at + n ≤ length out.old }
     requires cells { (from + n ≤ length cells.now) × (beside + n ≤ length cells.now) }
-    requires room { HasRoom gain_kind out.old (run_sum mass_ring n at (λ i.
-        gain_kind.size first * gain_kind.size (cell_at gain_kind cells.now (from + i))
-        + gain_kind.size second * gain_kind.size (cell_at gain_kind cells.now (beside + i)))) }
+    requires room { HasRoom gain_kind out.old (run_sum mass_ring n at
+        (two_sizes gain_kind cells.now (gain_kind.size first) (gain_kind.size second)
+        from beside)) }
     ensures { Adds gain_kind
-        (run_sum gain_kind n at (λ i.
-        gain_kind.plus (gain_kind.times first (cell_at gain_kind cells.now (from + i)))
-        (gain_kind.times second (cell_at gain_kind cells.now (beside + i)))))
+        (run_sum gain_kind n at
+        (two_scaled gain_kind cells.now first second from beside))
         out.old out.new }
 {
     for i in 0..n {
@@ -176,15 +175,12 @@ fn add_two_short(
 )
     requires out { at + n ≤ length out.old }
     requires cells { (from + n ≤ length cells.now) × (beside + n ≤ length cells.now) }
-    requires room { HasRoom gain_kind out.old (run_sum mass_ring n at (λ i.
-        first * gain_kind.size (cell_at gain_kind cells.now (from + i))
-        + second * gain_kind.size (cell_at gain_kind cells.now (beside + i)))) }
+    requires room { HasRoom gain_kind out.old (run_sum mass_ring n at
+        (two_sizes gain_kind cells.now first second from beside)) }
     ensures { Adds gain_kind
-        (run_sum gain_kind n at (λ i.
-        gain_kind.plus
-        (gain_kind.times (gain_of (pos first)) (cell_at gain_kind cells.now (from + i)))
-        (gain_kind.times (gain_of (pos second))
-        (cell_at gain_kind cells.now (beside + i))))) out.old out.new }
+        (run_sum gain_kind n at
+        (two_scaled gain_kind cells.now (gain_of (pos first)) (gain_of (pos second)) from beside))
+        out.old out.new }
 {
     for i in 0..n {
         let both = short_product(first, cells[from + i]).add(short_product(
@@ -211,15 +207,12 @@ fn add_two_words(
     requires cells { (from + n ≤ length cells.now) × (beside + n ≤ length cells.now) }
     requires halves { AreWords cells.now from n }
     requires beside { AreWords cells.now beside n }
-    requires room { HasRoom gain_kind out.old (run_sum mass_ring n at (λ i.
-        nat_abs first.value * gain_kind.size (cell_at gain_kind cells.now (from + i))
-        + nat_abs second.value * gain_kind.size (cell_at gain_kind cells.now (beside + i)))) }
+    requires room { HasRoom gain_kind out.old (run_sum mass_ring n at
+        (two_sizes gain_kind cells.now (nat_abs first.value) (nat_abs second.value) from beside)) }
     ensures { Adds gain_kind
-        (run_sum gain_kind n at (λ i.
-        gain_kind.plus
-        (gain_kind.times (gain_of first.value) (cell_at gain_kind cells.now (from + i)))
-        (gain_kind.times (gain_of second.value)
-        (cell_at gain_kind cells.now (beside + i))))) out.old out.new }
+        (run_sum gain_kind n at
+        (two_scaled gain_kind cells.now (gain_of first.value) (gain_of second.value) from beside))
+        out.old out.new }
 {
     for i in 0..n {
         let both = word_product(first, cells[from + i]).add(word_product(
@@ -247,15 +240,13 @@ fn add_two_split(
     requires cells { (from + n ≤ length cells.now) × (beside + n ≤ length cells.now) }
     requires halves { AreWords cells.now from n }
     requires beside { AreWords cells.now beside n }
-    requires room { HasRoom gain_kind out.old (run_sum mass_ring n at (λ i.
-        nat_abs (whole first) * gain_kind.size (cell_at gain_kind cells.now (from + i))
-        + nat_abs (whole second) * gain_kind.size (cell_at gain_kind cells.now (beside + i)))) }
+    requires room { HasRoom gain_kind out.old (run_sum mass_ring n at
+        (two_sizes gain_kind cells.now (nat_abs (whole first)) (nat_abs (whole second))
+        from beside)) }
     ensures { Adds gain_kind
-        (run_sum gain_kind n at (λ i.
-        gain_kind.plus
-        (gain_kind.times (gain_of (whole first)) (cell_at gain_kind cells.now (from + i)))
-        (gain_kind.times (gain_of (whole second))
-        (cell_at gain_kind cells.now (beside + i))))) out.old out.new }
+        (run_sum gain_kind n at
+        (two_scaled gain_kind cells.now (gain_of (whole first)) (gain_of (whole second)) from beside))
+        out.old out.new }
 {
     for i in 0..n {
         let both = split_product(first, cells[from + i]).add(split_product(

@@ -2,7 +2,7 @@
 
 ghost use Rattle.std.specs.Prelude.{◌≡◌, ◌+◌, ◌-◌, ◌*◌, ◌^◌, ◌<◌, ◌≤◌, length};
 ghost use Rattle.cell_rings.specs.Rings.{mass_ring};
-ghost use Rattle.cell_rings.specs.Sums.{cell_at, run_sum, Adds, HasRoom};
+ghost use Rattle.cell_rings.specs.Sums.{cell_at, run_sum, two_scaled, two_sizes, Adds, HasRoom};
 ghost use Rattle.cell_rings.specs.KindLaws.{most_has_room, mass_laws, mass_sizes, at_most_itself, one_at_most};
 ghost use Rattle.cell_rings.specs.Kinds.{mass_kind, mass_of};
 
@@ -97,13 +97,12 @@ fn add_two_long(
 )
     requires out { at + n ≤ length out.old }
     requires cells { (from + n ≤ length cells.now) × (beside + n ≤ length cells.now) }
-    requires room { HasRoom mass_kind out.old (run_sum mass_ring n at (λ i.
-        mass_kind.size first * mass_kind.size (cell_at mass_kind cells.now (from + i))
-        + mass_kind.size second * mass_kind.size (cell_at mass_kind cells.now (beside + i)))) }
+    requires room { HasRoom mass_kind out.old (run_sum mass_ring n at
+        (two_sizes mass_kind cells.now (mass_kind.size first) (mass_kind.size second)
+        from beside)) }
     ensures { Adds mass_kind
-        (run_sum mass_kind n at (λ i.
-        mass_kind.plus (mass_kind.times first (cell_at mass_kind cells.now (from + i)))
-        (mass_kind.times second (cell_at mass_kind cells.now (beside + i)))))
+        (run_sum mass_kind n at
+        (two_scaled mass_kind cells.now first second from beside))
         out.old out.new }
 {
     for i in 0..n {
@@ -128,14 +127,11 @@ fn add_two_short(
 )
     requires out { at + n ≤ length out.old }
     requires cells { (from + n ≤ length cells.now) × (beside + n ≤ length cells.now) }
-    requires room { HasRoom mass_kind out.old (run_sum mass_ring n at (λ i.
-        first * mass_kind.size (cell_at mass_kind cells.now (from + i))
-        + second * mass_kind.size (cell_at mass_kind cells.now (beside + i)))) }
+    requires room { HasRoom mass_kind out.old (run_sum mass_ring n at
+        (two_sizes mass_kind cells.now first second from beside)) }
     ensures { Adds mass_kind
-        (run_sum mass_kind n at (λ i.
-        mass_kind.plus
-        (mass_kind.times (mass_of first) (cell_at mass_kind cells.now (from + i)))
-        (mass_kind.times (mass_of second) (cell_at mass_kind cells.now (beside + i)))))
+        (run_sum mass_kind n at
+        (two_scaled mass_kind cells.now (mass_of first) (mass_of second) from beside))
         out.old out.new }
 {
     for i in 0..n {

@@ -3,7 +3,7 @@
 ghost use Rattle.std.specs.Prelude.{◌≡◌, ◌+◌, ◌-◌, ◌*◌, ◌^◌, ◌<◌, ◌≤◌, ℤ, pos, nat_abs, length, IsTrue};
 ghost use Rattle.std.specs.Int.{w64, cast_unsigned};
 ghost use Rattle.cell_rings.specs.Rings.{mass_ring};
-ghost use Rattle.cell_rings.specs.Sums.{cell_at, run_sum, Adds, HasRoom};
+ghost use Rattle.cell_rings.specs.Sums.{cell_at, run_sum, two_scaled, two_sizes, Adds, HasRoom};
 ghost use Rattle.cell_rings.specs.Words.{AreHalves};
 ghost use Rattle.cell_rings.specs.KindLaws.{small_has_room, small_gain_laws, small_gain_sizes, at_most_itself, value_at_most};
 ghost use Rattle.cell_rings.specs.Kinds.{small_gain_kind, small_gain_of};
@@ -94,16 +94,12 @@ fn add_two_long(
 )
     requires out { at + n ≤ length out.old }
     requires cells { (from + n ≤ length cells.now) × (beside + n ≤ length cells.now) }
-    requires room { HasRoom small_gain_kind out.old (run_sum mass_ring n at (λ i.
-        small_gain_kind.size first
-        * small_gain_kind.size (cell_at small_gain_kind cells.now (from + i))
-        + small_gain_kind.size second
-        * small_gain_kind.size (cell_at small_gain_kind cells.now (beside + i)))) }
+    requires room { HasRoom small_gain_kind out.old (run_sum mass_ring n at
+        (two_sizes small_gain_kind cells.now (small_gain_kind.size first)
+        (small_gain_kind.size second) from beside)) }
     ensures { Adds small_gain_kind
-        (run_sum small_gain_kind n at (λ i.
-        small_gain_kind.plus
-        (small_gain_kind.times first (cell_at small_gain_kind cells.now (from + i)))
-        (small_gain_kind.times second (cell_at small_gain_kind cells.now (beside + i)))))
+        (run_sum small_gain_kind n at
+        (two_scaled small_gain_kind cells.now first second from beside))
         out.old out.new }
 {
     for i in 0..n {
@@ -132,16 +128,12 @@ fn add_two_halves(
     requires second { cast_unsigned w64 second.0 < 2 ^ 32 }
     requires halves { AreHalves cells.now from n }
     requires beside { AreHalves cells.now beside n }
-    requires room { HasRoom small_gain_kind out.old (run_sum mass_ring n at (λ i.
-        small_gain_kind.size first
-        * small_gain_kind.size (cell_at small_gain_kind cells.now (from + i))
-        + small_gain_kind.size second
-        * small_gain_kind.size (cell_at small_gain_kind cells.now (beside + i)))) }
+    requires room { HasRoom small_gain_kind out.old (run_sum mass_ring n at
+        (two_sizes small_gain_kind cells.now (small_gain_kind.size first)
+        (small_gain_kind.size second) from beside)) }
     ensures { Adds small_gain_kind
-        (run_sum small_gain_kind n at (λ i.
-        small_gain_kind.plus
-        (small_gain_kind.times first (cell_at small_gain_kind cells.now (from + i)))
-        (small_gain_kind.times second (cell_at small_gain_kind cells.now (beside + i)))))
+        (run_sum small_gain_kind n at
+        (two_scaled small_gain_kind cells.now first second from beside))
         out.old out.new }
 {
     for i in 0..n {
