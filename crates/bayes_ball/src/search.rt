@@ -3,9 +3,6 @@
 ghost use Rattle.std.specs.Prelude.{◌≡◌, ℕ, ◌<◌, ◌↔◌, length};
 ghost use Rattle.node_sets.specs.declared.sets.TheConstants.{MOST_NODES};
 ghost use Rattle.node_sets.specs.Sets.{IsIn};
-ghost use Rattle.maid_model.specs.Graph.{Arc};
-ghost use Rattle.maid_model.specs.Relevance.{IsLive};
-ghost use Rattle.maid_model.specs.Walks.{IsReached, IsReachedFromParent};
 ghost use Rattle.bayes_ball.specs.Search.{CanStart, IsReachedBy};
 ghost use Rattle.bayes_ball.specs.Flow.{Way};
 ghost use Rattle.bayes_ball.specs.Spread.{IsMarked, StartsAt, node_of};
@@ -46,8 +43,7 @@ pub fn reach(diagram: &Diagram, start: Start, given: &NodeSet) -> Marks
         → IsIn result.reached v ↔ IsReachedBy diagram.now.nodes given.now start v }
     ensures parents { (u v : ℕ) → start ≡ Start.Node u → v < length diagram.now.nodes
         → IsIn result.parents_reached v
-        ↔ IsReachedFromParent (Arc diagram.now.nodes) (IsLive diagram.now.nodes)
-        (IsIn given.now) (length diagram.now.nodes) v u }
+        ↔ IsReachedBy diagram.now.nodes given.now (Start.ParentOf v) u }
 {
     let _count = diagram.count();
     let (mut down, mut up) = begin(start);
@@ -64,13 +60,11 @@ pub fn reach_from_any(diagram: &Diagram, starts: &NodeSet, given: &NodeSet) -> M
     ensures reached { (v : ℕ) → v < length diagram.now.nodes
         → IsIn result.reached v
         ↔ ((u : ℕ) × IsIn starts.now u
-        × IsReached (Arc diagram.now.nodes) (IsLive diagram.now.nodes) (IsIn given.now) u
-        v) }
+        × IsReachedBy diagram.now.nodes given.now (Start.Node u) v) }
     ensures parents { (v : ℕ) → v < length diagram.now.nodes
         → IsIn result.parents_reached v
         ↔ ((u : ℕ) × IsIn starts.now u
-        × IsReachedFromParent (Arc diagram.now.nodes) (IsLive diagram.now.nodes)
-        (IsIn given.now) (length diagram.now.nodes) v u) }
+        × IsReachedBy diagram.now.nodes given.now (Start.ParentOf v) u) }
 {
     let _count = diagram.count();
     let mut down = NodeSet::empty();
