@@ -5,5 +5,4 @@ pub mod Placed
 pub mod Cycles
 pub mod Laws
 pub mod Edited
-pub mod Example
 pub mod Room

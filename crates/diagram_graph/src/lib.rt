@@ -16,8 +16,6 @@ mod parts;
 mod placing;
 mod room;
 mod rounds;
-#[cfg(test)]
-mod tests;
 
 pub use adding::{AddFault, add_arc, is_too_large};
 pub use arcs::{RemoveFault, remove_arc};

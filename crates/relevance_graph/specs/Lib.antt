@@ -1,4 +1,3 @@
 pub mod Views
 pub mod Relevant
 pub mod Steps
-pub mod Example

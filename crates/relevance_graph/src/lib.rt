@@ -5,8 +5,6 @@
 mod placed;
 mod relevance;
 mod reliance;
-#[cfg(test)]
-mod tests;
 mod walks;
 
 pub use relevance::{Relevance, find_relevance};

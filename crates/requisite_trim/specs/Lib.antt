@@ -1,4 +1,3 @@
 pub mod Trims
 pub mod Steps
 pub mod Needs
-pub mod Example

@@ -5,8 +5,6 @@
 mod looks;
 mod requisite_nodes;
 mod searches;
-#[cfg(test)]
-mod tests;
 mod trimming;
 
 pub use requisite_nodes::RequisiteNodes;

@@ -1,41 +1,14 @@
-//! Small diagrams, and who relies on whom in them.
+//! Tests of `relevance_graph`: small diagrams, and who relies on whom in them.
 
-ghost use Rattle.std.specs.Prelude.{◌≡◌, [], IfOk};
-ghost use Rattle.relevance_graph.specs.Example.{pair_diagram, seen_if as seen_in};
+ghost use Rattle.std.specs.Prelude.{◌≡◌, IfOk};
+ghost use Rattle.graph_tests.specs.Reliance.{pair_diagram, seen_if as seen_in};
 
-use crate::find_relevance;
+use crate::samples::node;
 use diagram_graph::topological;
-use maid_model::{Diagram, Kind, Node, literals_are_tested};
-use smallvec::SmallVec;
+use maid_model::{Diagram, Kind, literals_are_tested};
+use relevance_graph::find_relevance;
 use std::alloc::{AllocError, Global};
 use std::test::Fail;
-
-fn node(
-    alloc: Global,
-    kind: Kind,
-    states: usize,
-    parents: &[usize],
-    cells: &[i128],
-) -> Result<Node, AllocError>
-    ensures { IfOk result (λ n.
-        n ≡ record {
-          kind = kind;
-          owner = 0;
-          more = [];
-          states = states;
-          parents = parents.now;
-          cells = cells.now;
-        }) }
-{
-    Ok(Node {
-        kind,
-        owner: 0,
-        more: SmallVec::new(alloc),
-        states,
-        parents: SmallVec::from_slice(alloc, parents)?,
-        cells: Vec::from_slice(alloc, cells)?,
-    })
-}
 
 fn seen_if(sees: bool) -> &'static [usize]
     ensures { result.now ≡ seen_in sees }
@@ -49,9 +22,9 @@ fn pair(alloc: Global, sees: bool) -> Result<Diagram, AllocError>
 {
     literals_are_tested();
     let mut nodes = Vec::new(alloc);
-    nodes.push(node(alloc, Kind::Decision, 2, &[], &[])?)?;
-    nodes.push(node(alloc, Kind::Decision, 2, seen_if(sees), &[])?)?;
-    nodes.push(node(alloc, Kind::Utility, 1, &[0, 1], &[1, 0, 0, 1])?)?;
+    nodes.push(node(alloc, Kind::Decision, 0, 2, &[], &[])?)?;
+    nodes.push(node(alloc, Kind::Decision, 0, 2, seen_if(sees), &[])?)?;
+    nodes.push(node(alloc, Kind::Utility, 0, 1, &[0, 1], &[1, 0, 0, 1])?)?;
     Ok(Diagram::from_nodes(nodes, 1, 0))
 }
 

@@ -1,8 +1,8 @@
 use Rattle.std.proofs.Common.{◌≡◌, ◌∙◌, ◌++◌, Bool, true, false, ◌∷◌, [], refl, sym, ap, subst}
 use Rattle.maid_model.specs.Diagrams.{IsDiagram}
 use Rattle.maid_model.specs.Laws.{TestsDiagrams}
-use Rattle.relevance_graph.specs.Example.{choice, seen_if, pay, pair_diagram}
-use Rattle.relevance_graph.proofs.tests.pair.Goals as goal
+use Rattle.graph_tests.specs.Reliance.{choice, seen_if, pay, pair_diagram}
+use Rattle.graph_tests.proofs.reliance.pair.Goals as goal
 
 pair_is_diagram : TestsDiagrams → (sees : Bool) → IsDiagram (pair_diagram sees)
 pair_is_diagram law true = law (pair_diagram true) refl

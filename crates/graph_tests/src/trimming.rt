@@ -1,41 +1,13 @@
-//! Small diagrams, and the arcs that go when they are trimmed.
+//! Tests of `requisite_trim`: small diagrams, and the arcs that go when they are trimmed.
 
-ghost use Rattle.std.specs.Prelude.{◌≡◌, [], IfOk};
-ghost use Rattle.requisite_trim.specs.Example.{example, states_if, weights_if, values_if, agent_if};
+ghost use Rattle.std.specs.Prelude.{◌≡◌, IfOk};
+ghost use Rattle.graph_tests.specs.Trimming.{example, states_if, weights_if, values_if, agent_if};
 
-use crate::{requisite, trim};
-use maid_model::{Diagram, Kind, Node, literals_are_tested};
-use smallvec::SmallVec;
+use crate::samples::node;
+use maid_model::{Diagram, Kind, literals_are_tested};
+use requisite_trim::{requisite, trim};
 use std::alloc::{AllocError, Global};
 use std::test::Fail;
-
-fn node(
-    alloc: Global,
-    kind: Kind,
-    owner: usize,
-    states: usize,
-    parents: &[usize],
-    cells: &[i128],
-) -> Result<Node, AllocError>
-    ensures { IfOk result (λ n.
-        n ≡ record {
-          kind = kind;
-          owner = owner;
-          more = [];
-          states = states;
-          parents = parents.now;
-          cells = cells.now;
-        }) }
-{
-    Ok(Node {
-        kind,
-        owner,
-        more: SmallVec::new(alloc),
-        states,
-        parents: SmallVec::from_slice(alloc, parents)?,
-        cells: Vec::from_slice(alloc, cells)?,
-    })
-}
 
 fn states(one: bool) -> usize
     ensures { result ≡ states_if one }

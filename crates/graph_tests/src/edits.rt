@@ -1,41 +1,13 @@
-//! A small diagram, and what the calls make of it.
+//! Tests of `diagram_graph`: a small diagram, and what the calls make of it.
 
-ghost use Rattle.std.specs.Prelude.{◌≡◌, [], IfOk};
-ghost use Rattle.diagram_graph.specs.Example.{example, answer_of, answers};
+ghost use Rattle.std.specs.Prelude.{◌≡◌, IfOk};
+ghost use Rattle.graph_tests.specs.Edits.{example, answer_of, answers};
 
-use crate::{AddFault, RemoveFault, add_arc, fix_others, make_decision, part, remove_arc};
-use maid_model::{Answer, Diagram, Kind, Node, Row, Solved, literals_are_tested};
-use smallvec::SmallVec;
+use crate::samples::node;
+use diagram_graph::{AddFault, RemoveFault, add_arc, fix_others, make_decision, part, remove_arc};
+use maid_model::{Answer, Diagram, Kind, Row, Solved, literals_are_tested};
 use std::alloc::{AllocError, Global};
 use std::test::Fail;
-
-fn node(
-    alloc: Global,
-    kind: Kind,
-    owner: usize,
-    states: usize,
-    parents: &[usize],
-    cells: &[i128],
-) -> Result<Node, AllocError>
-    ensures { IfOk result (λ n.
-        n ≡ record {
-          kind = kind;
-          owner = owner;
-          more = [];
-          states = states;
-          parents = parents.now;
-          cells = cells.now;
-        }) }
-{
-    Ok(Node {
-        kind,
-        owner,
-        more: SmallVec::new(alloc),
-        states,
-        parents: SmallVec::from_slice(alloc, parents)?,
-        cells: Vec::from_slice(alloc, cells)?,
-    })
-}
 
 /// Two chance nodes, a decision over both, a rival's decision over the second, and a utility over the first decision.
 fn diagram(alloc: Global) -> Result<Diagram, AllocError>

@@ -2,8 +2,8 @@ use Rattle.std.proofs.Common.{◌≡◌, ◌∙◌, ◌++◌, Bool, true, false,
 use Rattle.maid_model.specs.Diagrams.{IsDiagram}
 use Rattle.maid_model.specs.Laws.{TestsDiagrams}
 use Rattle.maid_model.specs.declared.diagrams.Kind.TheVariants.{Chance, Decision, Utility}
-use Rattle.requisite_trim.specs.Example.{chance, first, second, pay, example}
-use Rattle.requisite_trim.proofs.tests.diagram.Goals as goal
+use Rattle.graph_tests.specs.Trimming.{chance, first, second, pay, example}
+use Rattle.graph_tests.proofs.trimming.diagram.Goals as goal
 
 is_diagram : TestsDiagrams → (sure forced rival : Bool) → IsDiagram (example sure forced rival)
 is_diagram law true true true = law (example true true true) refl

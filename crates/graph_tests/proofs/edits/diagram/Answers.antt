@@ -1,8 +1,8 @@
 -- The literal is a diagram by its tests.
 use Rattle.std.proofs.Common.{◌≡◌, ◌∙◌, ◌++◌, ◌∷◌, [], refl, sym, subst}
 use Rattle.maid_model.specs.Diagrams.{IsDiagram}
-use Rattle.diagram_graph.specs.Example.{even, uneven, own, rival, pay, example}
-use Rattle.diagram_graph.proofs.tests.diagram.Goals as goal
+use Rattle.graph_tests.specs.Edits.{even, uneven, own, rival, pay, example}
+use Rattle.graph_tests.proofs.edits.diagram.Goals as goal
 
 pub from_nodes-requires : goal.from_nodes-requires
 from_nodes-requires c =
