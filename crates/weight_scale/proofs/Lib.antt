@@ -8,6 +8,7 @@ pub mod GivenMembers
 pub mod Greatest
 pub mod Lists
 pub mod Pivots
+pub mod PlainParts
 pub mod PlainRows
 pub mod Results
 pub mod RowParts

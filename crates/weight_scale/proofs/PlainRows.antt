@@ -1,15 +1,15 @@
 -- Rows that share no divisor and have one total are their own reduced rows, and no row is multiplied.
 use Rattle.std.proofs.Common.{◌≡◌, ◌<◌, ◌≤◌, ◌-◌, ◌*◌, ◌/◌, ◌^◌, ◌⊎◌, inr, ℕ, ℤ, pos, negsuc, ◌≤ℤ◌, unsigned_abs, refl, sym, ap, ◌∙◌, arith, subst, List, [], ◌∷◌, All, map, length, get_or, take, drop, sum}
-use Rattle.std.specs.Int.{◌∣◌, IsGcd}
+use Rattle.std.specs.Int.{◌∣◌}
 use Rattle.maid_model.specs.Tables.{IsTable}
 use Rattle.std.specs.List.{drop-map}
-use Rattle.std.proofs.Math.Nat.{one-dvd, pos_of_ne-zero, eq-zero_of_zero-dvd, div_self, le-div_iff_mul-le}
+use Rattle.std.proofs.Math.Nat.{one-dvd, pos_of_ne-zero, eq-zero_of_zero-dvd, div_self}
 use Rattle.std.proofs.lemmas.Nat.Gcd.{dvd_refl}
 use Rattle.std.proofs.lemmas.Int.{ints}
 use Rattle.std.proofs.lemmas.List.{take-map, length-map, get_or-map}
 use Rattle.std.proofs.lemmas.List.Elements.{All-take, All-drop, All-weaker, All-map}
 use Rattle.weight_scale.specs.declared.decimal.Decimal.{Decimal}
-use Rattle.weight_scale.specs.Plain.{AreWhole, IsPlainRow}
+use Rattle.weight_scale.specs.Plain.{AreWhole, IsPlainRow, ArePlainRows}
 use Rattle.weight_scale.specs.Rows.{IsFinest}
 use Rattle.weight_scale.specs.Scaling.{row_at, raised_row, whole_number, multiplied_row, IsGreatestDivisor, IsReducedRow, IsCommonTotal, IsScaled, NoneNegative, NoZeroRow}
 use Rattle.weight_scale.proofs.Lists.{all_unmapped, map_same, map_twice, nought_sum}
@@ -147,18 +147,18 @@ module _ (rows : List Decimal) (states total : ℕ) (some : 0 < length rows / st
   }
 
 -- ---- cells that whole numbers are
-module _ (rows : List Decimal) (cells : List ℤ) (states total : ℕ) (positive : 0 < states) (enough : states ≤ length cells) (above : All (λ x. pos 0 ≤ℤ x) cells) (whole : AreWhole rows cells) (plain : (r : ℕ) → r < length cells / states → IsPlainRow (row_at states cells r) total) where
+module _ (rows : List Decimal) (cells : List ℤ) (states total : ℕ) (positive : 0 < states) (above : All (λ x. pos 0 ≤ℤ x) cells) (whole : AreWhole rows cells) (plain : ArePlainRows cells states total) where
   count : length cells / states ≡ length rows / states
   count = ap (λ n. n / states) (sym (ap length whole.0) ∙ length-map rows number)
 
   some : 0 < length rows / states
-  some = subst (λ n. 0 < n) count (omega (arith, (le-div_iff_mul-le {k = states} {x = 1} {y = length cells} positive).1 (omega (arith, enough))))
+  some = subst (λ n. 0 < n) count plain.some
 
   own_above : All (λ x. pos 0 ≤ℤ x) (map number rows)
   own_above = subst (All (λ x. pos 0 ≤ℤ x)) (sym whole.0) above
 
   own_plain : (r : ℕ) → r < length rows / states → IsPlainRow (row_at states (map number rows) r) total
-  own_plain r l = subst (λ cs. IsPlainRow (row_at states cs r) total) (sym whole.0) (plain r (subst (λ n. r < n) (sym count) l))
+  own_plain r l = subst (λ cs. IsPlainRow (row_at states cs r) total) (sym whole.0) (plain.each r (subst (λ n. r < n) (sym count) l))
 
   pub cells_scaled : IsScaled rows states (record { weights = cells; total = total })
   cells_scaled = subst (λ cs. IsScaled rows states (record { weights = cs; total = total })) whole.0 (plain_scaled rows states total some own_above whole.1 own_plain)
@@ -168,7 +168,3 @@ module _ (rows : List Decimal) (cells : List ℤ) (states total : ℕ) (positive
 
   pub cells_table : states ∣ length cells → IsTable cells (length rows / states) states total
   cells_table parts = is_table rows states positive (subst (λ n. states ∣ n) (sym (ap length whole.0) ∙ length-map rows number) parts) (record { weights = cells; total = total }) cells_scaled
-
--- what divides the numbers so far and the next divides their greatest common divisor
-pub divides_more : (row : List ℤ) (i d a s g : ℕ) → i < length row → s ≡ unsigned_abs (get_or row i (pos 0)) → IsGcd a s g → d ∣ a → All (λ x. d ∣ unsigned_abs x) row → d ∣ g
-divides_more row i d a s g l is both so_far all = both.2 d so_far (subst (λ n. d ∣ n) (sym is) (all i (pos 0) l))

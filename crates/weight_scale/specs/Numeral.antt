@@ -1,11 +1,12 @@
 -- The value of a numeral: a sign or none, digits with at most one point, and an exponent or none.
-use Rattle.std.specs.Prelude.{◌≤◌, ℕ, ◌+◌, ◌-◌, ◌*◌, ◌^◌, ℤ, pos, neg_ℤ, Bool, true, false, List, [], ◌∷◌, ◌++◌, length, take, drop, fold, ◌==◌, if◌then◌else◌}
-use Rattle.std.specs.List.{prefix_len}
+use Rattle.std.specs.Prelude.{◌≡◌, ◌≤◌, ℕ, ◌+◌, ◌-◌, ◌*◌, ◌^◌, ℤ, pos, neg_ℤ, Bool, true, false, List, [], ◌∷◌, ◌++◌, length, take, drop, fold, ◌==◌, if◌then◌else◌}
+use Rattle.std.specs.List.{prefix_len, list_all}
 use Rattle.net_lexer.specs.Bytes.{is_digit}
 use Rattle.net_lexer.specs.Numerals.{without_sign}
 use Rattle.net_lexer.specs.Pieces.{begins}
 use Rattle.whole_num.specs.Fractions.{IsSameFraction}
 use Rattle.weight_scale.specs.declared.decimal.Decimal.{Decimal}
+use Rattle.weight_scale.specs.declared.digits.TheConstants.{FEW}
 
 -- the digits at the front
 abbrev pub front_digits : List ℕ → List ℕ
@@ -48,6 +49,10 @@ number_behind number digits = fold (λ n b. n * 10 + (b - 48)) number digits
 -- the number that digits write
 abbrev pub number_of : List ℕ → ℕ
 number_of digits = number_behind 0 digits
+
+-- digits alone, and so few that 64 bits surely have room for their number
+abbrev pub AreFewDigits : List ℕ → Type 0
+AreFewDigits bytes = (length bytes ≤ FEW) × (list_all is_digit bytes ≡ true)
 
 -- the size of an exponent
 abbrev pub exponent_size : List ℕ → ℕ

@@ -1,7 +1,8 @@
 -- Rows of whole numbers that are weights as they stand.
-use Rattle.std.specs.Prelude.{◌≡◌, ◌≤◌, ℕ, ℤ, unsigned_abs, List, All, map, sum}
+use Rattle.std.specs.Prelude.{◌≡◌, ◌<◌, ◌≤◌, ◌/◌, ℕ, ℤ, unsigned_abs, List, All, length, map, sum}
 use Rattle.std.specs.Int.{◌∣◌}
 use Rattle.maid_model.specs.Diagrams.{greatest_number}
+use Rattle.weight_scale.specs.Scaling.{row_at}
 use Rattle.weight_scale.specs.declared.decimal.Decimal.{Decimal}
 
 -- these decimals are whole numbers
@@ -20,3 +21,8 @@ HasTotal row total = (sum (map unsigned_abs row) ≡ total) × (total ≤ greate
 pub record IsPlainRow (row : List ℤ) (total : ℕ) : Type 0 where
   pub alone : ShareNone row
   pub totals : HasTotal row total
+
+-- there is a row, and all rows are plain and have this total
+pub record ArePlainRows (cells : List ℤ) (states total : ℕ) : Type 0 where
+  pub some : 0 < length cells / states
+  pub each : (r : ℕ) → r < length cells / states → IsPlainRow (row_at states cells r) total

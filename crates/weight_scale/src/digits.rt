@@ -5,7 +5,7 @@ ghost use Rattle.std.specs.Option.{SomeIff};
 ghost use Rattle.std.specs.List.{prefix_len, list_all};
 ghost use Rattle.net_lexer.specs.Bytes.{is_digit};
 ghost use Rattle.net_lexer.specs.Numerals.{without_sign};
-ghost use Rattle.weight_scale.specs.Numeral.{front_digits, behind_digits, point_digits, behind_point, is_minus, number_behind, number_of, whole_digits, decimal_digits, exponent_of, exponent_size};
+ghost use Rattle.weight_scale.specs.Numeral.{front_digits, behind_digits, point_digits, behind_point, is_minus, number_behind, number_of, AreFewDigits, whole_digits, decimal_digits, exponent_of, exponent_size};
 
 use maid_model::GREATEST_NUMBER;
 
@@ -148,8 +148,7 @@ const FEW: usize = 18;
 
 // The number that the bytes write, where they are digits alone and few. It takes no step of 128 bits.
 pub(crate) fn few_digits(bytes: &[u8]) -> Option<u64>
-    ensures { IfSome result (λ number.
-        (list_all is_digit bytes.now ≡ true) × (number ≡ number_of bytes.now)) }
+    ensures { SomeIff result (AreFewDigits bytes.now) (number_of bytes.now) }
 {
     if bytes.len() > FEW {
         return None;

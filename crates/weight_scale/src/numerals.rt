@@ -1,10 +1,11 @@
 //! The decimal of a numeral.
 
 ghost use Rattle.std.specs.Prelude.{◌≡◌, ◌<◌, ◌≤◌, ◌≤ℤ◌, ◌+◌, ◌*◌, ◌%◌, ◌^◌, ◌++◌, length, true, IfSome, IfNone, pos, if◌then◌else◌};
+ghost use Rattle.std.specs.Option.{SomeIff};
 ghost use Rattle.std.specs.List.{list_all};
 ghost use Rattle.net_lexer.specs.Bytes.{is_digit};
 ghost use Rattle.net_lexer.specs.Numerals.{is_numeral};
-ghost use Rattle.weight_scale.specs.Numeral.{number_of, signed, numerator, denominator, IsDecimalOf, IsLeastDecimalOf};
+ghost use Rattle.weight_scale.specs.Numeral.{number_of, AreFewDigits, signed, numerator, denominator, IsDecimalOf, IsLeastDecimalOf};
 ghost use Rattle.weight_scale.specs.Significant.{IsSignificand, HasTooManyDigits};
 ghost use Rattle.weight_scale.specs.declared.decimal.Decimal.{Decimal};
 
@@ -165,9 +166,10 @@ pub fn numeral(text: &[u8]) -> Option<Decimal>
     other_numeral(text)
 }
 
-/// The whole number that a numeral of digits alone is, where they are few: any other numeral has `None`. It takes no step
-/// of 128 bits.
+/// The whole number that a numeral of at most 18 digits alone is: any other numeral has `None`. It takes no step of 128
+/// bits.
 pub fn whole_numeral(text: &[u8]) -> Option<i128>
+    ensures number { SomeIff result (AreFewDigits text.now) (pos (number_of text.now)) }
     ensures decimal { IfSome result (λ number.
         (d : Decimal) × IsLeastDecimalOf (numerator text.now) (denominator text.now) d
         × (d.m ≡ number) × (d.k ≡ 0)) }

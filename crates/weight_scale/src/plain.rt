@@ -1,10 +1,9 @@
 //! Rows of whole numbers that are weights as they stand, as those of most tables.
 
-ghost use Rattle.std.specs.Prelude.{◌≡◌, ◌<◌, ◌≤◌, ◌≤ℤ◌, ◌/◌, ℕ, List, All, IfSome, length, pos, unsigned_abs};
-ghost use Rattle.std.specs.Bool.{OnTrue};
+ghost use Rattle.std.specs.Prelude.{◌≡◌, ◌<◌, ◌≤ℤ◌, ◌/◌, ℕ, List, All, Decides, IfSome, IfNone, length, pos, unsigned_abs};
 ghost use Rattle.std.specs.Int.{◌∣◌};
 ghost use Rattle.maid_model.specs.Tables.{IsTable};
-ghost use Rattle.weight_scale.specs.Plain.{AreWhole, ShareNone, HasTotal, IsPlainRow};
+ghost use Rattle.weight_scale.specs.Plain.{AreWhole, ShareNone, HasTotal, IsPlainRow, ArePlainRows};
 ghost use Rattle.weight_scale.specs.Scaling.{NoneNegative, NoZeroRow, IsScaled};
 ghost use Rattle.weight_scale.specs.declared.decimal.Decimal.{Decimal};
 
@@ -21,7 +20,7 @@ fn size(number: i128) -> u128
 
 // No number but 1 divides all of the row's.
 fn share_none(row: &[i128]) -> bool
-    ensures { OnTrue result (ShareNone row.now) }
+    ensures { Decides result (ShareNone row.now) }
 {
     let mut divisor = 0;
     for number in row {
@@ -35,7 +34,8 @@ fn share_none(row: &[i128]) -> bool
 
 // What the row's numbers add up to, if it isn't too great.
 fn total_within(row: &[i128]) -> Option<u128>
-    ensures { IfSome result (HasTotal row.now) }
+    ensures some { IfSome result (HasTotal row.now) }
+    ensures none { IfNone result ((total : ℕ) → HasTotal row.now total → ⊥) }
 {
     let mut total = 0;
     for number in row {
@@ -46,7 +46,8 @@ fn total_within(row: &[i128]) -> Option<u128>
 
 // The row's total, where it is its own reduced row.
 fn plain_row(row: &[i128]) -> Option<u128>
-    ensures { IfSome result (IsPlainRow row.now) }
+    ensures some { IfSome result (IsPlainRow row.now) }
+    ensures none { IfNone result ((total : ℕ) → IsPlainRow row.now total → ⊥) }
 {
     if !share_none(row) {
         return None;
@@ -55,12 +56,14 @@ fn plain_row(row: &[i128]) -> Option<u128>
 }
 
 /// The common total of a chance table's rows, where its numbers are whole and are the table's weights as they stand: in
-/// each row they share no divisor but 1, and all rows have one total. Any other rows have `None`, though some of them
-/// are their own weights. It stops at the first row that has another total or a divisor.
+/// each row they share no divisor but 1, and all rows have one total, within the limits. Any other rows have `None`,
+/// though some of them are their own weights. It stops at the first row that has another total or a divisor.
 pub fn plain_total(cells: &[i128], states: usize) -> Option<u128>
     requires states { 0 < states }
     requires whole { states ∣ length cells.now }
     requires above { All (λ x. pos 0 ≤ℤ x) cells.now }
+    ensures plain { IfSome result (ArePlainRows cells.now states) }
+    ensures none { IfNone result ((total : ℕ) → ArePlainRows cells.now states total → ⊥) }
     ensures scaled { IfSome result (λ total.
         (rows : List Decimal) → AreWhole rows cells.now
         → IsScaled rows states (record { weights = cells.now; total = total })) }

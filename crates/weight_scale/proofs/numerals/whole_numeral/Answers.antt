@@ -12,4 +12,4 @@ returns-clause-decimal c =
     let m : to_z w128 (of_z w128 c.from.result) ≡ pos number = simp to_z-of_z c.from.ensures in
     let below : number < 2 ^ 64 = search rules in
     let d : Decimal = record { m = pos number; k = 0; small = omega (arith, below); few = omega arith } in
-    (d, whole_decimal c.args.text.now c.in_ok-number.ensures.0 number c.in_ok-number.ensures.1 d refl refl, sym m, refl)
+    (d, whole_decimal c.args.text.now c.in_ok-number.ensures.0.1 number c.in_ok-number.ensures.1 d refl refl, sym m, refl)

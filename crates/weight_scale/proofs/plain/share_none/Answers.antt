@@ -1,14 +1,21 @@
-use Rattle.std.proofs.Common.{rules, ◌≡◌, pos, get_or, unsigned_abs, subst}
-use Rattle.std.specs.Int.{◌∣◌}
-use Rattle.weight_scale.proofs.PlainRows.{divides_more}
+use Rattle.std.proofs.Common.{rules, ◌≡◌, pos, get_or, unsigned_abs, refl}
+use Rattle.weight_scale.proofs.PlainParts.{shares_start, shares_none, shares_more, shares_end}
 use Rattle.weight_scale.proofs.plain.share_none.Goals as goal
 
-pub returns-then-divisor-eq1 : goal.returns-then-divisor-eq1
-returns-then-divisor-eq1 c =
-    let e : c.size.result ≡ unsigned_abs (get_or c.args.row.now c.loop-number.number-index (pos 0)) = search rules in
-    λ d all. subst (λ n. d ∣ n) c.if-divisor-eq1.true (divides_more c.args.row.now c.loop-number.number-index d c.loop-number.divisor c.size.result c.gcd-divisor.result c.loop-number-test.true e c.gcd-divisor.ensures.greatest (c.loop-number.invariant d all) all)
+pub loop-number-init : goal.loop-number-init
+loop-number-init c = shares_start c.args.row.now
 
 pub loop-number-preserved : goal.loop-number-preserved
 loop-number-preserved c =
     let e : c.size.result ≡ unsigned_abs (get_or c.args.row.now c.loop-number.number-index (pos 0)) = search rules in
-    λ d all. divides_more c.args.row.now c.loop-number.number-index d c.loop-number.divisor c.size.result c.gcd-divisor.result c.loop-number-test.true e c.gcd-divisor.ensures.greatest (c.loop-number.invariant d all) all
+    shares_more c.args.row.now c.loop-number.number-index c.loop-number.divisor c.size.result c.gcd-divisor.result c.loop-number-test.true e c.gcd-divisor.ensures.greatest c.loop-number.invariant c.if-divisor-eq1.false
+
+pub returns-then-divisor-eq1 : goal.returns-then-divisor-eq1
+returns-then-divisor-eq1 c =
+    let e : c.size.result ≡ unsigned_abs (get_or c.args.row.now c.loop-number.number-index (pos 0)) = search rules in
+    (λ _. shares_none c.args.row.now c.loop-number.number-index c.loop-number.divisor c.size.result c.gcd-divisor.result c.loop-number-test.true e c.gcd-divisor.ensures.greatest c.loop-number.invariant c.if-divisor-eq1.true, λ _. refl)
+
+pub returns : goal.returns
+returns c =
+    let shared = shares_end c.args.row.now c.loop-number.number-index c.loop-number.divisor c.loop-number-test.false c.loop-number.invariant in
+    (λ e. absurd (cc), λ none. absurd (shared none))
