@@ -3,6 +3,7 @@ pub mod Bounding
 pub mod Decided
 pub mod Divisors
 pub mod Few
+pub mod FewDecimals
 pub mod Pointed
 pub mod GivenMembers
 pub mod Greatest

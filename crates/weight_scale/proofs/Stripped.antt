@@ -14,7 +14,7 @@ first_true true b e = refl
 first_true false b e = e
 
 -- what is kept of digits are digits
-digits_kept : (digits kept rest : List ℕ) → digits ≡ kept ++ rest → list_all is_digit digits ≡ true → list_all is_digit kept ≡ true
+pub digits_kept : (digits kept rest : List ℕ) → digits ≡ kept ++ rest → list_all is_digit digits ≡ true → list_all is_digit kept ≡ true
 digits_kept digits kept rest cut all = first_true (list_all is_digit kept) (list_all is_digit rest) (sym (list_all-append is_digit kept rest) ∙ ap (list_all is_digit) (sym cut) ∙ all)
 
 -- no digit other than noughts behind the point

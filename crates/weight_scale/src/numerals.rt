@@ -1,12 +1,12 @@
 //! The decimal of a numeral.
 
-ghost use Rattle.std.specs.Prelude.{◌≡◌, ◌<◌, ◌≤◌, ◌≤ℤ◌, ◌+◌, ◌*◌, ◌%◌, ◌^◌, ◌++◌, length, true, IfSome, IfNone, pos, if◌then◌else◌};
+ghost use Rattle.std.specs.Prelude.{◌≡◌, ◌<◌, ◌≤◌, ◌≤ℤ◌, ◌+◌, ◌*◌, ◌%◌, ◌^◌, ◌++◌, length, true, ℕ, List, IfSome, IfNone, pos, if◌then◌else◌};
 ghost use Rattle.std.specs.Option.{SomeIff};
 ghost use Rattle.std.specs.List.{list_all};
 ghost use Rattle.net_lexer.specs.Bytes.{is_digit};
 ghost use Rattle.net_lexer.specs.Numerals.{is_numeral};
 ghost use Rattle.weight_scale.specs.Numeral.{number_of, AreFewDigits, signed, numerator, denominator, IsDecimalOf, IsLeastDecimalOf};
-ghost use Rattle.weight_scale.specs.Significant.{IsSignificand, HasTooManyDigits};
+ghost use Rattle.weight_scale.specs.Significant.{IsSignificand, HasTooManyDigits, HasFewDecimals};
 ghost use Rattle.weight_scale.specs.declared.decimal.Decimal.{Decimal};
 
 use crate::Decimal;
@@ -182,7 +182,10 @@ pub fn whole_numeral(text: &[u8]) -> Option<i128>
 // The decimal of a numeral that is few digits, a point and few digits, of which the last aren't noughts alone.
 #[inline(never)]
 fn few_decimals(text: &[u8]) -> Option<Decimal>
-    ensures { IfSome result (λ d. IsLeastDecimalOf (numerator text.now) (denominator text.now) d) }
+    ensures some { IfSome result (λ d.
+        IsLeastDecimalOf (numerator text.now) (denominator text.now) d) }
+    ensures few { IfSome result (λ _. (kept : List ℕ) × HasFewDecimals text.now kept) }
+    ensures none { IfNone result ((kept : List ℕ) → HasFewDecimals text.now kept → ⊥) }
 {
     let (whole, rest) = split_digits(text);
     let decimals = last_decimals(rest)?;

@@ -6,10 +6,10 @@ use Rattle.weight_scale.proofs.Few.{few_fit}
 use Rattle.weight_scale.proofs.digits.append_few.Goals as goal
 
 pub overflow_mul-longer : goal.overflow_mul-longer
-overflow_mul-longer c = omega (arith, few_fit c.loop-digit.longer (c.loop-digit.digit-index + 9) 18 c.loop-digit.invariant.small (omega (arith, c.loop-digit-test.true, c.if-digits-gt-HALF_FEW.false)) (omega arith))
+overflow_mul-longer c = omega (arith, few_fit c.loop-digit.longer (c.loop-digit.digit-index + 9) 18 c.loop-digit.invariant.small (omega arith) (omega arith))
 
 pub overflow_add-longer : goal.overflow_add-longer
-overflow_add-longer c = omega (arith, c.digit_value.ensures.small, few_fit c.loop-digit.longer (c.loop-digit.digit-index + 9) 18 c.loop-digit.invariant.small (omega (arith, c.loop-digit-test.true, c.if-digits-gt-HALF_FEW.false)) (omega arith))
+overflow_add-longer c = omega (arith, c.digit_value.ensures.small, few_fit c.loop-digit.longer (c.loop-digit.digit-index + 9) 18 c.loop-digit.invariant.small (omega arith) (omega arith))
 
 pub loop-digit-preserved : goal.loop-digit-preserved
 loop-digit-preserved c =
