@@ -51,6 +51,24 @@ fn numerals_have_their_value(rt: HostRuntime) {
     );
 }
 
+// What isn't plain is left to the calls that read all.
+#[test]
+fn plain_readings_end_where_they_say(rt: HostRuntime) {
+    assert_eq!(rt; whole_numeral(b"000000000000000000"), Some(0));
+    assert_eq!(rt;
+        whole_numeral(b"999999999999999999"),
+        Some(999_999_999_999_999_999)
+    );
+    assert_eq!(rt; whole_numeral(b"0999999999999999999"), None);
+    assert_eq!(rt; whole_numeral(b"+7"), None);
+    assert_eq!(rt; whole_numeral(b"7."), None);
+    assert_eq!(rt; plain_total(&[1, 2, 3, 0], 4), Some(6));
+    assert_eq!(rt; plain_total(&[1, 2, 2, 1], 2), Some(3));
+    assert_eq!(rt; plain_total(&[1, 2, 3, 0], 2), None, "3 0 shares 3");
+    assert_eq!(rt; plain_total(&[1, 2, 1, 1], 2), None, "totals 3 and 2");
+    assert_eq!(rt; plain_total(&[], 2), None, "no row");
+}
+
 #[test]
 fn exponents_have_any_length(rt: HostRuntime) {
     let many =
