@@ -1,5 +1,5 @@
 -- Plans of one list of nodes that are those of another: all that they look at is the same.
-use Rattle.std.proofs.Common.{◌≡◌, ◌∙◌, ◌⊎◌, ℕ, zero, suc, ◌+◌, ◌*◌, ◌<◌, ◌≤◌, Bool, true, cond, not, ◌&&◌, ◌||◌, eqb, filter, map, List, [], ◌∷◌, ◌++◌, length, Some, None, ◌↔◌, sym, ap, subst, refl}
+use Rattle.std.proofs.Common.{◌≡◌, ◌∙◌, ◌⊎◌, ℕ, zero, suc, ◌+◌, ◌*◌, ◌<◌, ◌≤◌, Bool, true, cond, not, ◌&&◌, ◌||◌, eqb, filter, map, List, [], ◌∷◌, ◌++◌, get_or, length, Some, None, ◌↔◌, sym, ap, subst, refl}
 use Rattle.std.specs.Prelude.{Contains, sum_by, option_to_list}
 use Rattle.std.specs.List.{AllZip, list_any, range_with_len}
 use Rattle.std.proofs.Math.Path.{fun_ext}
@@ -7,18 +7,25 @@ use Rattle.finite_sums.specs.Sums.{nat_product_over}
 use Rattle.maid_model.specs.declared.diagrams.Kind.{Kind}
 use Rattle.maid_model.specs.declared.diagrams.Kind.TheVariants.{Chance, Decision, Utility}
 use Rattle.maid_model.specs.Bounds.{stopped}
-use Rattle.maid_model.specs.Graph.{Descends, leads_within, descends}
+use Rattle.maid_model.specs.Graph.{Descends, IsPath, leads_within, descends}
 use Rattle.maid_model.specs.Nodes.{IsDecision, agent_of, node_at, states_of, parents_of, numbers_of, is_utility, is_utility_of}
 use Rattle.maid_model.specs.Views.{NodeView}
+use Rattle.node_sets.specs.declared.sets.TheConstants.{MOST_NODES}
+use Rattle.node_sets.specs.Sets.{IsIn}
 use Rattle.ring_sums.specs.Tables.{joined_without, scopes_one, scopes_after}
 use Rattle.plan_sums.specs.Laws.{IsOrderOfPlan}
-use Rattle.plan_sums.specs.Plans.{PlanView, mass_cells, has, in_plan, plan_nodes, eliminated_nodes, ruled_nodes, row_plan, gain_plan}
+use Rattle.plan_sums.specs.Plans.{PlanView, mass_cells, has, in_plan, plan_nodes, eliminated_nodes, ruled_nodes, row_plan, gain_plan, worth_plan}
+use Rattle.size_precheck.specs.declared.joints.Joint.{Joint}
 use Rattle.size_precheck.specs.declared.keeping.KeptPlans.{KeptPlans}
+use Rattle.size_precheck.specs.declared.keeping.KeptRun.{KeptRun}
+use Rattle.size_precheck.specs.declared.planners.Family.{Family}
+use Rattle.size_precheck.specs.declared.planners.Planner.{Planner}
 use Rattle.size_precheck.specs.Counts.{counted_cells}
 use Rattle.size_precheck.specs.Greedy.{first_scopes, holding, joined_set, IsNext, IsGreedy, IsGreedyOrder}
-use Rattle.size_precheck.specs.Joints.{family_test, parents_test}
-use Rattle.size_precheck.specs.Kept.{IsKept, KeepsPlans}
-use Rattle.size_precheck.specs.Sizes.{SizedPlan, CanBePlanned, IsMade, IsPlanned, ArePlansOf, made_cells, steps_work, plan_cells, plan_work, goal_list}
+use Rattle.size_precheck.specs.Families.{IsFamily, IsJoined, IsOfFamily, IsPlanner, IsRuledBelow, family_at}
+use Rattle.size_precheck.specs.Joints.{family_test, joint_at, parents_test}
+use Rattle.size_precheck.specs.Kept.{IsKept, IsKeptRun, KeepsPlans}
+use Rattle.size_precheck.specs.Sizes.{SizedPlan, CanBePlanned, IsMade, IsPlanned, ArePlansOf, made_cells, steps_work, plan_cells, plan_work, goal_list, utility_list}
 use Rattle.size_precheck.proofs.Planning.{scopes_listed}
 
 utility_kind : (kind : Kind) → is_utility kind ≡ true → kind ≡ Utility
@@ -157,4 +164,62 @@ pub kept_there : (nodes others : List NodeView) (kept : KeptPlans) → KeepsPlan
 kept_there nodes others kept k h = record {
   decision = k.decision kept.decision h.decision;
   plans = plans_there nodes others k kept.decision kept.plans.rows kept.plans.goals.items h.decision h.plans;
+}
+
+-- ---- what all plans share
+module _ (nodes others : List NodeView) (k : KeepsPlans nodes others) where
+  ruled_stays : (x : ℕ) → IsRuledBelow nodes (length nodes) x → IsRuledBelow others (length others) x
+  ruled_stays x h = (subst (λ n. x < n) (sym k.count) h.0, λ e. h.1 (utility_back nodes others k x e))
+
+  ruled_was : (x : ℕ) → IsRuledBelow others (length others) x → IsRuledBelow nodes (length nodes) x
+  ruled_was x h = (subst (λ n. x < n) k.count h.0, λ e. h.1 (utility_there nodes others k x e))
+
+  of_family : (v u : ℕ) → IsOfFamily nodes v u ≡ IsOfFamily others v u
+  of_family v u = λ i. (u ≡ v) ⊎ Contains (parents_same nodes others k i v) u
+
+  family_there : (states : List ℕ) (v : ℕ) (family : Family) → IsFamily nodes states v family → IsFamily others states v family
+  family_there states v family h = record {
+    tag = h.tag;
+    scope = λ u. subst (λ (A : Type 0). IsIn family.table.scope u ↔ A) (of_family v u) (h.scope u);
+    cells = h.cells;
+    above = λ u. subst (λ (parents : ℕ → List ℕ). IsIn family.above u ↔ IsPath (λ a b. Contains (parents b) a) u v) (parents_same nodes others k) (h.above u);
+  }
+
+  joined_there : (y : ℕ) (joint : Joint) → IsJoined nodes (IsRuledBelow nodes (length nodes)) y joint → IsJoined others (IsRuledBelow others (length others)) y joint
+  joined_there y joint h = record {
+    tables = λ x. (
+      (λ m. let r = (h.tables x).0 m in (ruled_stays x r.0, subst (λ (A : Type 0). A) (of_family x y) r.1)),
+      (λ r. (h.tables x).1 (ruled_was x r.0, subst (λ (A : Type 0). A) (sym (of_family x y)) r.1)),
+    );
+    set = λ u. (
+      (λ m. let r = (h.set u).0 m in (r.0, ruled_stays r.0 r.1, subst (λ (A : Type 0). A) (of_family r.0 y) r.2, subst (λ (A : Type 0). A) (of_family r.0 u) r.3)),
+      (λ r. (h.set u).1 (r.0, ruled_was r.0 r.1, subst (λ (A : Type 0). A) (sym (of_family r.0 y)) r.2, subst (λ (A : Type 0). A) (sym (of_family r.0 u)) r.3)),
+    );
+  }
+
+  planner_there : (planner : Planner) → IsPlanner nodes planner → IsPlanner others planner
+  planner_there planner h = record {
+    long = h.long;
+    states = record {
+      few = subst (λ n. n ≤ MOST_NODES) (sym k.count) h.states.few;
+      each = λ u. h.states.each u ∙ sym (k.states u);
+    };
+    all = h.all ∙ sym k.count;
+    families = λ v l. family_there planner.states.items v (family_at planner.families.items v) (h.families v l);
+    joints_len = h.joints_len ∙ sym k.count;
+    joints = λ y l. joined_there y (joint_at planner.joints.items y) (h.joints y (subst (λ n. y < n) k.count l));
+    counts_len = h.counts_len ∙ sym k.count;
+    counts = λ y l. h.counts y (subst (λ n. y < n) k.count l);
+  }
+
+  -- the plans of all utilities' worths
+  worths_there : (plans : List SizedPlan) → AllZip (IsPlanned nodes) (map (λ u. worth_plan u) (utility_list nodes)) plans → AllZip (IsPlanned others) (map (λ u. worth_plan u) (utility_list others)) plans
+  worths_there plans h = all_planned nodes others k (map (λ u. worth_plan u) (utility_list others)) plans
+      (subst (λ asked. AllZip (IsPlanned nodes) asked plans) (λ i. map (λ u. worth_plan u) (filter (λ u. sym (k.utility u) i) (numbers_same nodes others k i))) h)
+
+pub run_there : (nodes others : List NodeView) (kept : KeptRun) → KeepsPlans nodes others → IsKeptRun nodes kept → IsKeptRun others kept
+run_there nodes others kept k h = record {
+  planner = planner_there nodes others k kept.planner h.planner;
+  decisions = λ i e l. kept_there nodes others (get_or kept.decisions.items i e) k (h.decisions i e l);
+  worths = worths_there nodes others k kept.worths.items h.worths;
 }

@@ -1,14 +1,25 @@
--- Plans of decisions that are kept for later runs, of other diagrams too.
-use Rattle.std.specs.Prelude.{◌≡◌, ℕ, List, length}
+-- Plans that are kept for later runs, of other diagrams too.
+use Rattle.std.specs.Prelude.{◌≡◌, ℕ, List, All, length, map}
+use Rattle.std.specs.List.{AllZip}
 use Rattle.maid_model.specs.Nodes.{IsDecision, agent_of, node_at, states_of, parents_of, is_utility, is_utility_of}
 use Rattle.maid_model.specs.Views.{NodeView}
+use Rattle.plan_sums.specs.Plans.{worth_plan}
 use Rattle.size_precheck.specs.declared.keeping.KeptPlans.{KeptPlans}
-use Rattle.size_precheck.specs.Sizes.{ArePlansOf}
+use Rattle.size_precheck.specs.declared.keeping.KeptRun.{KeptRun}
+use Rattle.size_precheck.specs.Families.{IsPlanner}
+use Rattle.size_precheck.specs.Sizes.{ArePlansOf, IsPlanned, utility_list}
 
 -- what is kept is of a decision among these nodes, with its plans
 pub record IsKept (nodes : List NodeView) (kept : KeptPlans) : Type 0 where
   pub decision : IsDecision nodes kept.decision
   pub plans : ArePlansOf nodes kept.decision kept.plans.rows kept.plans.goals.items
+
+-- what is kept of these nodes: what all their plans share, plans of decisions, and those of all utilities' worths
+pub record IsKeptRun (nodes : List NodeView) (kept : KeptRun) : Type 0 where
+  pub planner : IsPlanner nodes kept.planner
+  pub decisions : All (IsKept nodes) kept.decisions.items
+  pub worths :
+      AllZip (IsPlanned nodes) (map (λ u. worth_plan u) (utility_list nodes)) kept.worths.items
 
 -- the others keep all that plans of the nodes' decisions look at: the states and the parents of each node, the utilities
 -- of each agent, and the decisions with their agents; what else is a chance node or a decision does not matter
@@ -26,3 +37,8 @@ pub record KeepsPlans (nodes others : List NodeView) : Type 0 where
 abbrev pub KeptPlansStand : Type 0
 KeptPlansStand = (nodes others : List NodeView) (kept : KeptPlans) → KeepsPlans nodes others
     → IsKept nodes kept → IsKept others kept
+
+-- and all that is kept of the nodes is also kept of the others
+abbrev pub KeptRunsStand : Type 0
+KeptRunsStand = (nodes others : List NodeView) (kept : KeptRun) → KeepsPlans nodes others
+    → IsKeptRun nodes kept → IsKeptRun others kept

@@ -24,7 +24,7 @@ pub struct DecisionPlans {
 }
 
 /// Copies of these plans.
-fn copy_plans(alloc: Global, plans: &[Plan]) -> Result<Vec<Plan>, AllocError>
+pub(crate) fn copy_plans(alloc: Global, plans: &[Plan]) -> Result<Vec<Plan>, AllocError>
     ensures { IfOk result (λ copies. copies.items ≡ plans.now) }
 {
     let mut copies = Vec::with_capacity(alloc, plans.len())?;

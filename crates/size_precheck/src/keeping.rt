@@ -1,4 +1,4 @@
-//! Plans of decisions that are kept for later runs.
+//! Plans that are kept for later runs.
 
 ghost use Rattle.std.specs.Prelude.{◌≡◌, ◌<◌, ℕ, List, All, Some, length, map, IsTrue, IfOk};
 ghost use Rattle.maid_model.specs.Nodes.{IsDecision, decisions_of, is_decision, node_at};
@@ -6,11 +6,13 @@ ghost use Rattle.maid_model.specs.Views.{NodeView};
 ghost use Rattle.size_precheck.specs.declared.decisions.DecisionPlans.{DecisionPlans};
 ghost use Rattle.size_precheck.specs.Decisions.{ArePlans};
 ghost use Rattle.size_precheck.specs.Families.{IsPlanner};
-ghost use Rattle.size_precheck.specs.Kept.{IsKept};
+ghost use Rattle.size_precheck.specs.Kept.{IsKept, IsKeptRun};
 ghost use Rattle.size_precheck.specs.Sizes.{ArePlansOf, ListsDecisions};
 
 use crate::decisions::{DecisionPlans, decision_by};
 use crate::planners::Planner;
+use crate::plans::Plan;
+use crate::worths::worths_by;
 use maid_model::{Diagram, Kind};
 use std::alloc::{AllocError, Global};
 
@@ -20,6 +22,18 @@ use std::alloc::{AllocError, Global};
 pub struct KeptPlans {
     pub decision: usize,
     pub plans: DecisionPlans,
+}
+
+/// All that is kept of a diagram's plans for later runs: what they share, those of its decisions, and those of its
+/// utilities' worths. They are also those of a diagram in which other nodes have become decisions, as `kept_runs_stand`
+/// says.
+#[derive(Drop)]
+pub struct KeptRun {
+    pub(crate) planner: Planner,
+    /// In text order.
+    pub decisions: Vec<KeptPlans>,
+    /// In text order.
+    pub worths: Vec<Plan>,
 }
 
 /// Whether the node is a decision.
@@ -34,22 +48,42 @@ fn is_decision(diagram: &Diagram, v: usize) -> bool
     }
 }
 
-/// The plans of each decision of the diagram, in text order, to be kept for later runs. `make_plan` tells the cost of each;
-/// what is kept of one is the list of its kept nodes and that of its steps.
-pub fn keep_plans(alloc: Global, diagram: &Diagram) -> Result<Vec<KeptPlans>, AllocError>
+/// The plans of each decision of the diagram, in text order, by what is known of it.
+fn keep_decisions(
+    alloc: Global,
+    diagram: &Diagram,
+    planner: &Planner,
+) -> Result<Vec<KeptPlans>, AllocError>
+    requires { IsPlanner diagram.now.nodes planner.now }
     ensures decisions { IfOk result (λ kept.
         map (λ k. k.decision) kept.items ≡ decisions_of diagram.now.nodes) }
     ensures kept { IfOk result (λ kept. All (IsKept diagram.now.nodes) kept.items) }
 {
-    let planner = Planner::new(alloc, diagram)?;
     let mut kept = Vec::new(alloc);
     for decision in 0..diagram.count() {
         if is_decision(diagram, decision) {
-            let plans = decision_by(alloc, diagram, &planner, decision)?;
+            let plans = decision_by(alloc, diagram, planner, decision)?;
             kept.push(KeptPlans { decision, plans })?;
         }
     }
     Ok(kept)
+}
+
+/// The plans of each decision of the diagram and of each utility's worth, to be kept for later runs. `make_plan` tells the
+/// cost of each; what is kept of one is the list of its kept nodes and that of its steps.
+pub fn keep_plans(alloc: Global, diagram: &Diagram) -> Result<KeptRun, AllocError>
+    ensures decisions { IfOk result (λ kept.
+        map (λ k. k.decision) kept.decisions.items ≡ decisions_of diagram.now.nodes) }
+    ensures kept { IfOk result (IsKeptRun diagram.now.nodes) }
+{
+    let planner = Planner::new(alloc, diagram)?;
+    let decisions = keep_decisions(alloc, diagram, &planner)?;
+    let worths = worths_by(alloc, diagram, &planner)?;
+    Ok(KeptRun {
+        planner,
+        decisions,
+        worths,
+    })
 }
 
 /// A copy of the plans that are kept of the decision, where some are.

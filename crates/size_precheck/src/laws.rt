@@ -1,7 +1,7 @@
 //! Laws over the definitions alone.
 
 ghost use Rattle.plan_sums.specs.Plans.{mass_cells, gain_cells, can_cells, both_cells};
-ghost use Rattle.size_precheck.specs.Kept.{KeptPlansStand};
+ghost use Rattle.size_precheck.specs.Kept.{KeptPlansStand, KeptRunsStand};
 ghost use Rattle.size_precheck.specs.Laws.{StopsAtTheEnd, OneListOfScopes, HasGreedyOrder, OneGreedyOrder, GreedyOrdersAreOrders, OneSize};
 
 /// Each plan has exactly one greedy order, which takes each of the nodes that the plan eliminates once.
@@ -24,4 +24,9 @@ pub fn sizes_of_plans()
 /// Plans that are kept of a decision are also those of another diagram that keeps all that they look at.
 pub fn kept_plans_stand()
     ensures { KeptPlansStand }
+{}
+
+/// So is all that is kept of the diagram's plans.
+pub fn kept_runs_stand()
+    ensures { KeptRunsStand }
 {}

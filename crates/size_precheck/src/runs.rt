@@ -9,12 +9,12 @@ ghost use Rattle.maid_model.specs.Views.{NodeView};
 ghost use Rattle.plan_sums.specs.Plans.{PlanView, row_plan, gain_plan, worth_plan};
 ghost use Rattle.size_precheck.specs.Decisions.{ArePlans};
 ghost use Rattle.size_precheck.specs.Families.{IsPlanner};
-ghost use Rattle.size_precheck.specs.Kept.{IsKept};
+ghost use Rattle.size_precheck.specs.Kept.{IsKeptRun};
 ghost use Rattle.size_precheck.specs.Runs.{Includes};
 ghost use Rattle.size_precheck.specs.Sizes.{IsPlanned, ListsDecisions, IsSizeOfRun, goal_list, utility_list};
 
-use crate::decisions::DecisionPlans;
-use crate::keeping::{KeptPlans, plan_decisions};
+use crate::decisions::{DecisionPlans, copy_plans};
+use crate::keeping::{KeptRun, plan_decisions};
 use crate::planners::Planner;
 use crate::plans::Plan;
 use crate::sizes::Size;
@@ -38,7 +38,8 @@ fn join_sizes(size: Size, other: Size) -> Size
 /// Counts the plans of the decisions' rows in.
 fn include_rows(plans: &[DecisionPlans], size: Size) -> Size
     requires { size.work ≤ COUNT_END }
-    ensures { (nodes : List NodeView) (order : List ℕ) → ArePlans nodes order plans.now
+    ensures few { result.work ≤ COUNT_END }
+    ensures counted { (nodes : List NodeView) (order : List ℕ) → ArePlans nodes order plans.now
         → Includes nodes (map (λ d. row_plan nodes d) order) size result }
 {
     let mut sum = size;
@@ -65,7 +66,8 @@ fn include_plans(plans: &[Plan], size: Size) -> Size
 /// Counts the plans of all decisions' states in.
 fn include_all_goals(plans: &[DecisionPlans], size: Size) -> Size
     requires { size.work ≤ COUNT_END }
-    ensures { (nodes : List NodeView) (order : List ℕ) → ArePlans nodes order plans.now
+    ensures few { result.work ≤ COUNT_END }
+    ensures counted { (nodes : List NodeView) (order : List ℕ) → ArePlans nodes order plans.now
         → Includes nodes (flat_map (λ d. map (λ u. gain_plan nodes d u) (goal_list nodes d)) order)
         size result }
 {
@@ -87,6 +89,25 @@ pub struct RunPlans {
     pub size: Size,
 }
 
+/// The plans of a run, with its size.
+fn with_size(decisions: Vec<DecisionPlans>, worths: Vec<Plan>) -> RunPlans
+    ensures decisions { result.decisions ≡ decisions }
+    ensures worths { result.worths ≡ worths }
+    ensures size { (nodes : List NodeView) (order : List ℕ) → ArePlans nodes order decisions.items
+        → AllZip (IsPlanned nodes) (map (λ u. worth_plan u) (utility_list nodes)) worths.items
+        → IsSizeOfRun nodes order result.size }
+{
+    let none = Size { cells: 0, work: 0 };
+    let rows = include_rows(&decisions, none);
+    let gains = include_all_goals(&decisions, rows);
+    let size = include_plans(&worths, gains);
+    RunPlans {
+        decisions,
+        worths,
+        size,
+    }
+}
+
 /// The plans of a run that solves the decisions in this order, made once and kept, and the size of the run: the greatest
 /// cells of its plans, and their work together.
 ///
@@ -101,37 +122,31 @@ pub fn plan_run(alloc: Global, diagram: &Diagram, order: &[usize]) -> Result<Run
         (map (λ u. worth_plan u) (utility_list diagram.now.nodes)) run.worths.items) }
     ensures size { IfOk result (λ run. IsSizeOfRun diagram.now.nodes order.now run.size) }
 {
-    plan_run_with(alloc, diagram, order, &[])
+    let planner = Planner::new(alloc, diagram)?;
+    let decisions = plan_decisions(alloc, diagram, &planner, &[], order)?;
+    let worths = worths_by(alloc, diagram, &planner)?;
+    Ok(with_size(decisions, worths))
 }
 
-/// The same where the plans of some decisions are kept: those are copied, and only the others are made. Each decision of
-/// the order is looked for among them.
+/// The same where plans are kept: those are copied, and only those of other decisions are made. Each decision of the order
+/// is looked for among what is kept.
 pub fn plan_run_with(
     alloc: Global,
     diagram: &Diagram,
     order: &[usize],
-    kept: &[KeptPlans],
+    kept: &KeptRun,
 ) -> Result<RunPlans, AllocError>
     requires order { ListsDecisions diagram.now.nodes order.now }
-    requires kept { All (IsKept diagram.now.nodes) kept.now }
+    requires kept { IsKeptRun diagram.now.nodes kept.now }
     ensures plans { IfOk result (λ run. ArePlans diagram.now.nodes order.now run.decisions.items) }
     ensures worths { IfOk result (λ run.
         AllZip (IsPlanned diagram.now.nodes)
         (map (λ u. worth_plan u) (utility_list diagram.now.nodes)) run.worths.items) }
     ensures size { IfOk result (λ run. IsSizeOfRun diagram.now.nodes order.now run.size) }
 {
-    let none = Size { cells: 0, work: 0 };
-    let planner = Planner::new(alloc, diagram)?;
-    let decisions = plan_decisions(alloc, diagram, &planner, kept, order)?;
-    let rows = include_rows(&decisions, none);
-    let gains = include_all_goals(&decisions, rows);
-    let worths = worths_by(alloc, diagram, &planner)?;
-    let size = include_plans(&worths, gains);
-    Ok(RunPlans {
-        decisions,
-        worths,
-        size,
-    })
+    let decisions = plan_decisions(alloc, diagram, &kept.planner, &kept.decisions, order)?;
+    let worths = copy_plans(alloc, &kept.worths)?;
+    Ok(with_size(decisions, worths))
 }
 
 /// The size of a run that solves the decisions in this order: the greatest cells of its plans, and their work together.

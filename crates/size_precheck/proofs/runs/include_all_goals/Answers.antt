@@ -14,8 +14,8 @@ loop-decision-preserved c = (
       (λ asked kept. c.include_plans-sum.ensures.counted nodes asked (subst (λ l. AllZip (IsPlanned nodes) asked l) (sym c.deref.ensures.value) kept)) (c.loop-decision.invariant.1 nodes order z),
 )
 
-pub returns : goal.returns
-returns c nodes order z =
+pub returns-clause-counted : goal.returns-clause-counted
+returns-clause-counted c nodes order z =
     let out = c.loop-decision-test.false in
     let long = zip_long (λ d p. ArePlansOf nodes d p.rows p.goals.items) order c.args.plans.now z in
     subst (λ l. Includes nodes (flat_map (λ d. map (λ u. gain_plan nodes d u) (goal_list nodes d)) l) c.args.size c.loop-decision.sum) (take_whole order c.loop-decision.decision-index (omega (arith, out, long))) (c.loop-decision.invariant.1 nodes order z)

@@ -4,7 +4,7 @@ use Rattle.maid_model.specs.Nodes.{is_decision, node_at}
 use Rattle.maid_model.specs.Views.{NodeView}
 use Rattle.size_precheck.specs.declared.keeping.KeptPlans.{KeptPlans}
 use Rattle.size_precheck.specs.Kept.{IsKept}
-use Rattle.size_precheck.proofs.keeping.keep_plans.Given as goal
+use Rattle.size_precheck.proofs.keeping.keep_decisions.Given as goal
 
 -- the decisions so far, with their plans
 pub record KeepsSoFar (nodes : List NodeView) (count : ℕ) (kept : List KeptPlans) : Type 0 where

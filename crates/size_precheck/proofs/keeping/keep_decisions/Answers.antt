@@ -6,9 +6,9 @@ use Rattle.ring_sums.proofs.Same.{map_append}
 use Rattle.size_precheck.specs.declared.keeping.KeptPlans.{KeptPlans}
 use Rattle.size_precheck.specs.Kept.{IsKept}
 use Rattle.size_precheck.proofs.Measuring.{passed_more}
-use Rattle.size_precheck.proofs.keeping.keep_plans.Invariants.{KeepsSoFar}
-use Rattle.size_precheck.proofs.keeping.keep_plans.Goals as goal
-use Rattle.size_precheck.proofs.keeping.keep_plans.Goals.{then-is_decision+in_ok-plans+in_ok-push, else-is_decision}
+use Rattle.size_precheck.proofs.keeping.keep_decisions.Invariants.{KeepsSoFar}
+use Rattle.size_precheck.proofs.keeping.keep_decisions.Goals as goal
+use Rattle.size_precheck.proofs.keeping.keep_decisions.Goals.{then-is_decision+in_ok-plans+in_ok-push, else-is_decision}
 
 -- the plans of one node more, where it is a decision
 pub loop-decision-preserved : goal.loop-decision-preserved
