@@ -43,7 +43,7 @@ pub use decision_sums::{RowSums, row_gains_by, row_sums, row_sums_by};
 pub use faults::SolveFault;
 pub use laws::measured_plans_have_room;
 pub use optima::optimum_with;
-pub use solving::{solve, solve_by, solve_with};
+pub use solving::{solve, solve_by};
 pub use spaces::Workspaces;
 pub use state_sums::sum_at;
 pub use worths::{expected, expected_by};

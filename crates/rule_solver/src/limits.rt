@@ -1,20 +1,23 @@
 //! The limits that a diagram must keep to be solved.
 
-ghost use Rattle.std.specs.Prelude.{◌≡◌, ◌≤◌, ◌↔◌, All, IsTrue, IfOk};
+ghost use Rattle.std.specs.Prelude.{◌≡◌, ◌≤◌, ◌↔◌, IsTrue, IfOk, IfSome};
 ghost use Rattle.first_fault.specs.Answers.{Passes};
 ghost use Rattle.maid_model.specs.Diagrams.{IsDiagram};
 ghost use Rattle.maid_model.specs.Placing.{IsRelianceOrder};
 ghost use Rattle.maid_model.specs.Scopes.{KeepsScopedBounds};
 ghost use Rattle.size_precheck.specs.Decisions.{ArePlans};
-ghost use Rattle.size_precheck.specs.Kept.{IsKept};
+ghost use Rattle.size_precheck.specs.Kept.{IsKeptRun};
+ghost use Rattle.size_precheck.specs.Sizes.{IsSizeOfRun, ListsDecisions};
 ghost use Rattle.rule_solver.specs.Faults.{KeepsSizes, bound_pass, size_pass, solve_fault};
 ghost use Rattle.rule_solver.specs.Rooms.{HasRoom};
 ghost use Rattle.rule_solver.specs.Worths.{ArePlansOfWorths};
 
 use crate::SolveFault;
 use maid_model::{Diagram, MOST_PLAN_CELLS, MOST_WORK, descent_is_tested};
-use size_precheck::{KeptPlans, RunPlans, Size, greedy_orders, plan_run_with, sizes_of_plans};
-use std::alloc::Global;
+use size_precheck::{
+    KeptRun, RunPlans, Size, greedy_orders, plan_run, plan_run_with, sizes_of_plans,
+};
+use std::alloc::{AllocError, Global};
 use weight_scale::{BoundPlace, bound};
 
 /// Refuses a diagram that doesn't keep the weight bound.
@@ -36,16 +39,35 @@ fn is_small(size: &Size) -> bool
     size.cells <= MOST_PLAN_CELLS as u128 && size.work <= MOST_WORK
 }
 
+/// The plans of the run that solves the decisions in this order, and its size. Those that are kept are copied.
+fn plan_by(
+    alloc: Global,
+    diagram: &Diagram,
+    order: &[usize],
+    kept: Option<&KeptRun>,
+) -> Result<RunPlans, AllocError>
+    requires order { ListsDecisions diagram.now.nodes order.now }
+    requires kept { IfSome kept (λ run. IsKeptRun diagram.now.nodes run.now) }
+    ensures plans { IfOk result (λ run. ArePlans diagram.now.nodes order.now run.decisions.items) }
+    ensures worths { IfOk result (λ run. ArePlansOfWorths diagram.now.nodes run.worths.items) }
+    ensures size { IfOk result (λ run. IsSizeOfRun diagram.now.nodes order.now run.size) }
+{
+    match kept {
+        Some(run) => plan_run_with(alloc, diagram, order, run),
+        None => plan_run(alloc, diagram, order),
+    }
+}
+
 /// The plans of the run that solves the decisions in this order, those that are kept among them, and its size. Refuses
 /// one that is too large.
 pub(crate) fn keep_sizes(
     alloc: Global,
     diagram: &Diagram,
     order: &[usize],
-    kept: &[KeptPlans],
+    kept: Option<&KeptRun>,
 ) -> Result<RunPlans, SolveFault>
     requires order { IsRelianceOrder diagram.now.nodes order.now }
-    requires kept { All (IsKept diagram.now.nodes) kept.now }
+    requires kept { IfSome kept (λ run. IsKeptRun diagram.now.nodes run.now) }
     ensures rows { Passes solve_fault (size_pass diagram.now) result }
     ensures plans { IfOk result (λ run. ArePlans diagram.now.nodes order.now run.decisions.items) }
     ensures worths { IfOk result (λ run. ArePlansOfWorths diagram.now.nodes run.worths.items) }
@@ -55,7 +77,7 @@ pub(crate) fn keep_sizes(
     sizes_of_plans();
     greedy_orders();
     descent_is_tested();
-    let plans = plan_run_with(alloc, diagram, order, kept)?;
+    let plans = plan_by(alloc, diagram, order, kept)?;
     if !is_small(&plans.size) {
         return Err(SolveFault::TooLarge {
             cells: plans.size.cells,

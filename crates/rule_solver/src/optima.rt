@@ -1,7 +1,7 @@
 //! The optimum of an agent that decides alone: choices of its decisions, and what they are worth to it. What a row or
 //! another agent gets is left out.
 
-ghost use Rattle.std.specs.Prelude.{◌≡◌, ◌<◌, ◌≤◌, ◌^◌, ◌*◌, ◌≤ℤ◌, ℕ, All, IfOk, OnOk, length};
+ghost use Rattle.std.specs.Prelude.{◌≡◌, ◌<◌, ◌≤◌, ◌^◌, ◌*◌, ◌≤ℤ◌, ℕ, IfOk, IfSome, OnOk, length};
 ghost use Rattle.first_fault.specs.Answers.{Passes};
 ghost use Rattle.maid_model.specs.declared.limits.TheConstants.{MOST_PLAN_CELLS};
 ghost use Rattle.maid_model.specs.declared.diagrams.Kind.TheVariants.{Utility};
@@ -17,7 +17,7 @@ ghost use Rattle.part_laws.specs.ScopeLaws.{HasSmallRules, HasUnitRules};
 ghost use Rattle.plan_sums.specs.Plans.{worth_plan};
 ghost use Rattle.relevance_graph.specs.Relevant.{IsRelevance};
 ghost use Rattle.size_precheck.specs.Decisions.{ArePlans};
-ghost use Rattle.size_precheck.specs.Kept.{IsKept};
+ghost use Rattle.size_precheck.specs.Kept.{IsKeptRun};
 ghost use Rattle.size_precheck.specs.Sizes.{ArePlansOf, IsPlanned};
 ghost use Rattle.rule_solver.specs.Faults.{solve_fault, solve_pass};
 ghost use Rattle.rule_solver.specs.Optima.{ChoosesAll, ChoosesRows, IsChosenBy};
@@ -27,7 +27,7 @@ ghost use Rattle.rule_solver.specs.Totals.{HasTotals};
 ghost use Rattle.rule_solver.specs.Worths.{ArePlansOfWorths, HasWorthsFor, IsWorth};
 
 use crate::SolveFault;
-use crate::bases::base_of;
+use crate::bases::turn_base;
 use crate::decision_sums::row_gains_by;
 use crate::limits::{keep_bound, keep_sizes};
 use crate::rows::first_best;
@@ -38,9 +38,10 @@ use cell_rings::{Gain, SmallGain};
 use factor_core::Workspace;
 use maid_laws::{answers_are_best, exchange, one_agent};
 use maid_model::{Answer, Diagram, Kind, Profile, Ratio, Row};
+use node_sets::NodeSet;
 use part_laws::{parts_decide, scoped_sums_fit, scopes_are_parts};
 use relevance_graph::{Relevance, find_relevance};
-use size_precheck::{DecisionPlans, KeptPlans, Plan, RunPlans};
+use size_precheck::{DecisionPlans, KeptRun, Plan, RunPlans};
 use std::alloc::{AllocError, Global};
 use weight_scale::agent_scope;
 
@@ -128,8 +129,12 @@ fn choose_all(
     ensures again { OnOk result (spaces.new ≡ spaces.old) }
 {
     let mut answers = Vec::with_capacity(alloc, order.len())?;
+    let mut base = Profile::uniform(alloc, diagram)?;
+    let mut held = NodeSet::empty();
     for (place, decision) in order.iter().enumerate() {
-        let base = base_of(alloc, diagram, relevance, &answers, *decision)?;
+        turn_base(
+            alloc, diagram, relevance, &answers, *decision, &mut base, &mut held,
+        )?;
         let plans = &plans[place];
         let rows = choose(alloc, diagram, &base, *decision, plans, spaces)?;
         answers.push(Answer {
@@ -291,13 +296,13 @@ fn optimum_ordered(
     agent: usize,
     relevance: &Relevance,
     order: &[usize],
-    kept: &[KeptPlans],
+    kept: Option<&KeptRun>,
 ) -> Result<Ratio, SolveFault>
     requires alone { OwnsAll diagram.now.nodes agent }
     requires within { agent < diagram.now.agents }
     requires relevance { IsRelevance diagram.now.nodes relevance.now }
     requires order { IsRelianceOrder diagram.now.nodes order.now }
-    requires kept { All (IsKept diagram.now.nodes) kept.now }
+    requires kept { IfSome kept (λ run. IsKeptRun diagram.now.nodes run.now) }
     ensures rows { Passes solve_fault (solve_pass diagram.now) result }
     ensures ok { IfOk result (IsOptimum diagram.now.nodes diagram.now.decimals agent) }
 {
@@ -306,8 +311,10 @@ fn optimum_ordered(
     Ok(optimum_along(alloc, diagram, agent, relevance, order, &run)?)
 }
 
-/// The optimum of the agent that owns all decisions of the diagram: what `solve_with` prints for it, at less cost. The
-/// plans of rows are made and counted, but not run, and so are those of other agents' utilities.
+/// The optimum of the agent that owns all decisions of the diagram: what `solve` prints for it, at less cost. The plans of
+/// rows are made and counted, but not run, and so are those of other agents' utilities. Where plans are kept, those are
+/// copied, and only the others are made. So it is for a diagram that was looked at before some of its nodes became
+/// decisions.
 ///
 /// # Errors
 ///
@@ -316,12 +323,12 @@ pub fn optimum_with(
     alloc: Global,
     diagram: &Diagram,
     agent: usize,
-    kept: &[KeptPlans],
+    kept: Option<&KeptRun>,
 ) -> Result<Ratio, SolveFault>
     requires alone { OwnsAll diagram.now.nodes agent }
     requires within { agent < diagram.now.agents }
-    // What is kept are plans of the diagram's decisions.
-    requires kept { All (IsKept diagram.now.nodes) kept.now }
+    // What is kept are plans of the diagram.
+    requires kept { IfSome kept (λ run. IsKeptRun diagram.now.nodes run.now) }
     // The optimum where nothing refuses the diagram, and else the first refusal that applies.
     ensures rows { Passes solve_fault (solve_pass diagram.now) result }
     ensures optimum { IfOk result (IsOptimum diagram.now.nodes diagram.now.decimals agent) }

@@ -1,6 +1,6 @@
 //! A whole diagram, solved decision by decision.
 
-ghost use Rattle.std.specs.Prelude.{◌≡◌, ℕ, ◌≤◌, All, IfOk, OnOk};
+ghost use Rattle.std.specs.Prelude.{◌≡◌, ℕ, ◌≤◌, IfOk, OnOk};
 ghost use Rattle.first_fault.specs.Answers.{Passes};
 ghost use Rattle.maid_model.specs.Answers.{IsAnswer, KeepsWorth, answered};
 ghost use Rattle.maid_model.specs.Diagrams.{IsDiagram};
@@ -11,7 +11,6 @@ ghost use Rattle.maid_model.specs.Subgames.{IsOptimal, IsSubgamePerfect, OwnsAll
 ghost use Rattle.maid_model.specs.Values.{PrintsOptima};
 ghost use Rattle.relevance_graph.specs.Relevant.{IsRelevance};
 ghost use Rattle.size_precheck.specs.Decisions.{ArePlans};
-ghost use Rattle.size_precheck.specs.Kept.{IsKept};
 ghost use Rattle.rule_solver.specs.Faults.{solve_fault, solve_pass};
 ghost use Rattle.rule_solver.specs.Rooms.{AreReady, HasRoom};
 ghost use Rattle.rule_solver.specs.Worths.{ArePlansOfWorths};
@@ -27,7 +26,7 @@ use maid_laws::{
 use maid_model::{Diagram, Profile, Solved};
 use part_laws::scoped_sums_fit;
 use relevance_graph::{Relevance, find_relevance};
-use size_precheck::{KeptPlans, RunPlans};
+use size_precheck::RunPlans;
 use std::alloc::{AllocError, Global};
 
 /// What `solve` tells of a diagram whose decisions have this order of solving, by the plans of its run, in workspaces
@@ -96,17 +95,15 @@ fn solve_ordered(
     diagram: &Diagram,
     relevance: &Relevance,
     order: &[usize],
-    kept: &[KeptPlans],
 ) -> Result<Solved, SolveFault>
     requires relevance { IsRelevance diagram.now.nodes relevance.now }
     requires order { IsRelianceOrder diagram.now.nodes order.now }
-    requires kept { All (IsKept diagram.now.nodes) kept.now }
     ensures rows { Passes solve_fault (solve_pass diagram.now) result }
     ensures ok { IfOk result (IsAnswer diagram.now) }
     ensures diagram { IfOk result (λ solved. IsDiagram diagram.now) }
 {
     keep_bound(diagram)?;
-    let run = keep_sizes(alloc, diagram, order, kept)?;
+    let run = keep_sizes(alloc, diagram, order, None)?;
     Ok(solve_along(alloc, diagram, relevance, order, &run)?)
 }
 
@@ -140,44 +137,13 @@ pub fn solve(alloc: Global, diagram: &Diagram) -> Result<Solved, SolveFault>
     // In a row that the answered profile reaches, the printed worth is also that under the profile itself.
     ensures worth { IfOk result (KeepsWorth diagram.now) }
 {
-    solve_with(alloc, diagram, &[])
-}
-
-/// The same where the plans of some decisions are kept: those are copied, and only the others are made. So it is for a
-/// diagram that was solved before some of its nodes became decisions.
-///
-/// # Errors
-///
-/// Those of `solve`.
-pub fn solve_with(
-    alloc: Global,
-    diagram: &Diagram,
-    kept: &[KeptPlans],
-) -> Result<Solved, SolveFault>
-    // What is kept are plans of the diagram's decisions.
-    requires { All (IsKept diagram.now.nodes) kept.now }
-    // An answer where nothing refuses the diagram, and else the first refusal that applies.
-    ensures rows { Passes solve_fault (solve_pass diagram.now) result }
-    ensures ok { IfOk result (IsAnswer diagram.now) }
-    // From no subgame start does an agent gain by other rules of its own.
-    ensures subgame_perfect { IfOk result (λ solved.
-        IsSubgamePerfect diagram.now.nodes (answered diagram.now solved)) }
-    // No profile is worth more to an agent that owns all decisions.
-    ensures optimal { IfOk result (λ solved.
-        (agent : ℕ) → OwnsAll diagram.now.nodes agent
-        → IsOptimal diagram.now.nodes (answered diagram.now solved) agent) }
-    // So what is printed for such an agent is the optimum of the diagram.
-    ensures optimum { IfOk result (PrintsOptima diagram.now) }
-    // In a row that the answered profile reaches, the printed worth is also that under the profile itself.
-    ensures worth { IfOk result (KeepsWorth diagram.now) }
-{
     answers_are_subgame_perfect();
     answers_are_optimal();
     gains_are_optima();
     worth_under_the_profile();
     let relevance = find_relevance(alloc, diagram)?;
     match relevance.order() {
-        Ok(order) => solve_ordered(alloc, diagram, &relevance, order, kept),
+        Ok(order) => solve_ordered(alloc, diagram, &relevance, order),
         Err(cycle) => Err(SolveFault::Cycle {
             list: Vec::from_slice(alloc, cycle)?,
         }),

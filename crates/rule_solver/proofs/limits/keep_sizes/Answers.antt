@@ -2,8 +2,8 @@ use Rattle.rule_solver.specs.Faults.{KeepsSizes}
 use Rattle.rule_solver.proofs.Rooms.{lists_decisions, small_enough, has_room}
 use Rattle.rule_solver.proofs.limits.keep_sizes.Goals as goal
 
-pub plan_run_with-requires-clause-order : goal.plan_run_with-requires-clause-order
-plan_run_with-requires-clause-order c = lists_decisions c.args.diagram.now.nodes c.args.order.now c.requires.order
+pub plan_by-requires-clause-order : goal.plan_by-requires-clause-order
+plan_by-requires-clause-order c = lists_decisions c.args.diagram.now.nodes c.args.order.now c.requires.order
 
 pub returns-then-not-is_small-clause-rows : goal.returns-then-not-is_small-clause-rows
 returns-then-not-is_small-clause-rows c = (

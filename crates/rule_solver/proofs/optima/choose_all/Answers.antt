@@ -1,18 +1,20 @@
-use Rattle.std.proofs.Common.{rules, arith, ◌<◌, length, ◌∙◌, ◌+◌, Contains, sym, subst, take, slice_index}
+use Rattle.std.proofs.Common.{rules, arith, ◌≡◌, [], ◌<◌, length, ◌∙◌, ◌+◌, Contains, refl, sym, subst, take, slice_index}
 use Rattle.std.proofs.lemmas.Slice.Zip.{AllZip-long}
 use Rattle.maid_model.specs.Answers.{IsBase, pure_profile}
 use Rattle.maid_model.specs.Graph.{AllDifferent}
 use Rattle.size_precheck.specs.Sizes.{ArePlansOf}
+use Rattle.rule_solver.specs.Bases.{IsMixed}
 use Rattle.rule_solver.specs.Optima.{ChoosesAll}
 use Rattle.rule_solver.specs.Rooms.{AreReady}
-use Rattle.rule_solver.proofs.ChoiceLemmas.{chosen-push-all}
+use Rattle.rule_solver.proofs.BaseTurns.{mixed_more, mixed_start}
+use Rattle.rule_solver.proofs.ChoiceLemmas.{chosen-none, chosen-push-all}
 use Rattle.rule_solver.proofs.GoalPlans.{zip_at}
 use Rattle.rule_solver.proofs.Orders.{first_differ, placed_decision, relied_before}
 use Rattle.rule_solver.proofs.optima.choose_all.Goals as goal
 
 -- a decision of the order relies on decisions before it alone
-pub base_of-requires : goal.base_of-requires
-base_of-requires c =
+pub turn_base-requires : goal.turn_base-requires
+turn_base-requires c =
     let nodes = c.args.diagram.now.nodes in
     let order = c.args.order.now in
     let so : ChoosesAll nodes (take c.loop-place.place order) c.deref.result.now = subst (ChoosesAll nodes (take c.loop-place.place order)) (sym c.deref.ensures.value) c.loop-place.invariant.0 in
@@ -22,10 +24,23 @@ base_of-requires c =
       fits = so.fits;
       once = subst AllDifferent (sym so.follow) (first_differ nodes order c.requires.order c.loop-place.place);
       relied = λ e r. subst (λ l. Contains l e) (sym so.follow) (relied_before nodes order c.requires.order c.loop-place.place c.loop-place-test.true e r);
+      mixed = subst (λ l. IsMixed nodes l c.loop-place.held c.loop-place.base) (sym c.deref.ensures.value) c.loop-place.invariant.2;
     }
 
+pub loop-place-init : goal.loop-place-init
+loop-place-init c =
+    let nodes = c.args.diagram.now.nodes in
+    let none : c.in_ok-answers.answers.items ≡ [] = search rules in (
+      subst (ChoosesAll nodes (take 0 c.args.order.now)) (sym none) (chosen-none nodes c.args.order.now),
+      refl,
+      subst (λ l. IsMixed nodes l c.empty-held.result c.in_ok-base.base) (sym none) (mixed_start nodes c.empty-held.result c.in_ok-base.base c.in_ok-base.ensures.rules c.in_ok-base.ensures.profile c.empty-held.ensures),
+    )
+
 pub choose-requires-clause-rules : goal.choose-requires-clause-rules
-choose-requires-clause-rules c e is apart = c.in_ok-base.ensures.room e is
+choose-requires-clause-rules c e is apart = c.in_ok-turn_base.ensures.room e is
+
+pub choose-requires-clause-profile : goal.choose-requires-clause-profile
+choose-requires-clause-profile c = c.in_ok-turn_base.ensures.base.profile
 
 pub choose-requires-clause-ready : goal.choose-requires-clause-ready
 choose-requires-clause-ready c = (
@@ -35,13 +50,19 @@ choose-requires-clause-ready c = (
 )
 
 pub loop-place-preserved : goal.loop-place-preserved
-loop-place-preserved c = (
-  subst (ChoosesAll c.args.diagram.now.nodes (take (c.loop-place.place + 1) c.args.order.now)) (sym c.in_ok-push.ensures.items)
-      (chosen-push-all c.args.diagram.now.nodes c.args.order.now c.loop-place.place c.loop-place.answers.items c.in_ok-base.base c.in_ok-rows.rows.items c.requires.order c.loop-place-test.true c.loop-place.invariant.0
-      (subst (λ l. IsBase c.args.diagram.now.nodes (pure_profile c.args.diagram.now.nodes l) (slice_index c.args.order.now c.loop-place.place) c.in_ok-base.base) c.deref.ensures.value c.in_ok-base.ensures.base)
-      c.in_ok-rows.ensures.rows),
-  c.in_ok-rows.ensures.again ∙ c.loop-place.invariant.1,
-)
+loop-place-preserved c =
+    let nodes = c.args.diagram.now.nodes in
+    let order = c.args.order.now in
+    let decision = slice_index order c.loop-place.place in (
+      subst (ChoosesAll nodes (take (c.loop-place.place + 1) order)) (sym c.in_ok-push.ensures.items)
+          (chosen-push-all nodes order c.loop-place.place c.loop-place.answers.items c.turn_base.new.base c.in_ok-rows.rows.items c.requires.order c.loop-place-test.true c.loop-place.invariant.0
+          (subst (λ l. IsBase nodes (pure_profile nodes l) decision c.turn_base.new.base) c.deref.ensures.value c.in_ok-turn_base.ensures.base)
+          c.in_ok-rows.ensures.rows),
+      c.in_ok-rows.ensures.again ∙ c.loop-place.invariant.1,
+      subst (λ l. IsMixed nodes l c.turn_base.new.held c.turn_base.new.base) (sym c.in_ok-push.ensures.items)
+          (mixed_more nodes c.loop-place.answers.items c.turn_base.new.held c.turn_base.new.base (subst (λ l. IsMixed nodes l c.turn_base.new.held c.turn_base.new.base) c.deref.ensures.value c.in_ok-turn_base.ensures.mixed)
+          (record { decision = decision; rows = c.in_ok-rows.rows.items })),
+    )
 
 pub bounds-plans-place : goal.bounds-plans-place
 bounds-plans-place c =

@@ -5,7 +5,7 @@ use Rattle.maid_model.specs.Subgames.{IsOptimal, IsSubgamePerfect, OwnsAll}
 use Rattle.maid_model.specs.Values.{PrintsOptima}
 use Rattle.relevance_graph.specs.Relevant.{IsBlockedBy, IsOutcome}
 use Rattle.rule_solver.proofs.Promises.{both}
-use Rattle.rule_solver.proofs.solving.solve_with.Goals as goal
+use Rattle.rule_solver.proofs.solving.solve.Goals as goal
 
 -- each law holds of an answer of a diagram
 pub returns-in-Ok-clause-subgame_perfect : goal.returns-in-Ok-clause-subgame_perfect
