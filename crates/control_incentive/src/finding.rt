@@ -1,34 +1,34 @@
 //! What is found of the control of one chance node.
 
-ghost use Rattle.std.specs.Prelude.{◌≡◌, All, IfOk};
+ghost use Rattle.std.specs.Prelude.{◌≡◌, IfOk, IfSome};
 ghost use Rattle.maid_model.specs.declared.diagrams.Kind.TheVariants.{Chance};
 ghost use Rattle.maid_model.specs.Nodes.{node_at};
 ghost use Rattle.optimum_gap.specs.Baselines.{IsBaseline};
-ghost use Rattle.size_precheck.specs.Kept.{IsKept};
+ghost use Rattle.size_precheck.specs.Kept.{IsKeptRun};
 ghost use Rattle.control_incentive.specs.Steps.{IsFoundAlone};
 
 use diagram_graph::{MakeFault, make_decision};
 use optimum_gap::{Baseline, Found, edits_keep_scopes};
-use size_precheck::{KeptPlans, kept_plans_stand};
+use size_precheck::{KeptRun, kept_runs_stand};
 use std::alloc::{AllocError, Global};
 
 /// What is found of the control of a chance node that matters to the agent or doesn't. Where it does, the diagram in which
-/// the agent decides at the node is solved once, and the plans that are kept of the agent's other decisions stand in it.
+/// the agent decides at the node is solved once, and the plans that are kept stand in it.
 pub(crate) fn find(
     alloc: Global,
     baseline: &Baseline,
-    kept: &[KeptPlans],
+    kept: Option<&KeptRun>,
     matters: bool,
     node: usize,
 ) -> Result<Found, AllocError>
     requires baseline { IsBaseline baseline.now.diagram.now baseline.now.agent
         baseline.now.optimum }
-    requires kept { All (IsKept baseline.now.diagram.now.nodes) kept.now }
+    requires kept { IfSome kept (λ run. IsKeptRun baseline.now.diagram.now.nodes run.now) }
     requires chance { (node_at baseline.now.diagram.now.nodes node).kind ≡ Chance }
     ensures { IfOk result (IsFoundAlone baseline.now.diagram.now baseline.now.agent node matters) }
 {
     edits_keep_scopes();
-    kept_plans_stand();
+    kept_runs_stand();
     if !matters {
         return Ok(Found::Worthless);
     }

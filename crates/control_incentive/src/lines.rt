@@ -1,13 +1,13 @@
 //! A line for each chance node.
 
-ghost use Rattle.std.specs.Prelude.{◌≡◌, ◌<◌, All, IfOk, List, length, map};
+ghost use Rattle.std.specs.Prelude.{◌≡◌, ◌<◌, All, IfOk, IfSome, List, length, map};
 ghost use Rattle.maid_model.specs.declared.diagrams.Kind.TheVariants.{Chance};
 ghost use Rattle.maid_model.specs.Answers.{IsAnswer};
 ghost use Rattle.maid_model.specs.Nodes.{is_chance, node_at};
 ghost use Rattle.maid_model.specs.Scopes.{KeepsScopedBounds};
 ghost use Rattle.maid_model.specs.Views.{NodeView};
 ghost use Rattle.optimum_gap.specs.Baselines.{IsBaseline};
-ghost use Rattle.size_precheck.specs.Kept.{IsKept};
+ghost use Rattle.size_precheck.specs.Kept.{IsKeptRun};
 ghost use Rattle.control_incentive.specs.Lines.{IsControlLine, IsTrimmedAlone, TellsControl, chance_nodes, node_of};
 ghost use Rattle.control_incentive.specs.Steps.{IsLineAlone};
 
@@ -18,7 +18,7 @@ use maid_model::{Diagram, Kind, Solved};
 use node_sets::NodeSet;
 use optimum_gap::{Baseline, Found, answers_are_baselines};
 use requisite_trim::trim;
-use size_precheck::{KeptPlans, keep_plans};
+use size_precheck::{KeptRun, keep_plans};
 use std::alloc::{AllocError, Global};
 
 /// What control of the chance node is worth to the agent, and which incentives it has there.
@@ -57,13 +57,17 @@ fn chance_nodes(alloc: Global, diagram: &Diagram) -> Result<Vec<usize>, AllocErr
     Ok(nodes)
 }
 
-/// The plans of the diagram's decisions, if any node matters, and else none: then no edited diagram is solved.
-fn plans_for(alloc: Global, alone: &Diagram, matter: &NodeSet) -> Result<Vec<KeptPlans>, AllocError>
-    ensures { IfOk result (λ kept. All (IsKept alone.now.nodes) kept.items) }
+/// The plans of the diagram, if any node matters, and else none: then no edited diagram is solved.
+fn plans_for(
+    alloc: Global,
+    alone: &Diagram,
+    matter: &NodeSet,
+) -> Result<Option<KeptRun>, AllocError>
+    ensures { IfOk result (λ kept. IfSome kept (IsKeptRun alone.now.nodes)) }
 {
     match matter.first_from(0) {
-        Some(_) => keep_plans(alloc, alone),
-        None => Ok(Vec::new(alloc)),
+        Some(_) => Ok(Some(keep_plans(alloc, alone)?)),
+        None => Ok(None),
     }
 }
 
@@ -71,13 +75,13 @@ fn plans_for(alloc: Global, alone: &Diagram, matter: &NodeSet) -> Result<Vec<Kep
 fn control_line(
     alloc: Global,
     baseline: &Baseline,
-    kept: &[KeptPlans],
+    kept: Option<&KeptRun>,
     paths: &Paths,
     node: usize,
 ) -> Result<ControlLine, AllocError>
     requires baseline { IsBaseline baseline.now.diagram.now baseline.now.agent
         baseline.now.optimum }
-    requires kept { All (IsKept baseline.now.diagram.now.nodes) kept.now }
+    requires kept { IfSome kept (λ run. IsKeptRun baseline.now.diagram.now.nodes run.now) }
     requires chance { (node_at baseline.now.diagram.now.nodes node).kind ≡ Chance }
     requires within { node < length baseline.now.diagram.now.nodes }
     ensures node { IfOk result (λ line. line.node ≡ node) }
@@ -99,13 +103,13 @@ fn control_line(
 fn control_lines(
     alloc: Global,
     baseline: &Baseline,
-    kept: &[KeptPlans],
+    kept: Option<&KeptRun>,
     paths: &Paths,
     nodes: &[usize],
 ) -> Result<Vec<ControlLine>, AllocError>
     requires baseline { IsBaseline baseline.now.diagram.now baseline.now.agent
         baseline.now.optimum }
-    requires kept { All (IsKept baseline.now.diagram.now.nodes) kept.now }
+    requires kept { IfSome kept (λ run. IsKeptRun baseline.now.diagram.now.nodes run.now) }
     requires chance { All (λ v. (node_at baseline.now.diagram.now.nodes v).kind ≡ Chance)
         nodes.now }
     requires within { All (λ v. v < length baseline.now.diagram.now.nodes) nodes.now }
@@ -129,8 +133,8 @@ fn control_lines(
 /// less the optimum before. The two flags are facts of the graph, and no value is claimed from them.
 ///
 /// The optimum before is the answer's own gain. It trims the diagram and searches it a few times, and each line costs at
-/// most one edit and one run of the solver. The plans of the agent's decisions are made once for all lines, and copied for
-/// each run, which makes only those of the node's decision.
+/// most one edit and one run of the solver. The plans of the agent's decisions and those of the utilities' worths are made
+/// once for all lines, and copied for each run, which makes only those of the node's decision.
 ///
 /// # Errors
 ///
@@ -165,5 +169,5 @@ pub fn control(
     };
     let nodes = chance_nodes(alloc, diagram)?;
     let kept = plans_for(alloc, &alone, &paths.matter)?;
-    control_lines(alloc, &baseline, &kept, &paths, &nodes)
+    control_lines(alloc, &baseline, kept.as_ref(), &paths, &nodes)
 }

@@ -1,11 +1,11 @@
 //! Optima of edited diagrams against the optimum before.
 
-ghost use Rattle.std.specs.Prelude.{◌<◌, All, IfOk};
+ghost use Rattle.std.specs.Prelude.{◌<◌, IfOk, IfSome};
 ghost use Rattle.first_fault.specs.Answers.{IsFaultOrNoMemory};
 ghost use Rattle.maid_model.specs.Subgames.{OwnsAll};
 ghost use Rattle.maid_model.specs.Views.{DiagramView};
 ghost use Rattle.rule_solver.specs.Faults.{solve_fault, solve_pass};
-ghost use Rattle.size_precheck.specs.Kept.{IsKept};
+ghost use Rattle.size_precheck.specs.Kept.{IsKeptRun};
 ghost use Rattle.optimum_gap.specs.Baselines.{HaveNearScopes, IsBaseline};
 ghost use Rattle.optimum_gap.specs.Found.{IsGain, IsLoss, TellsReason, solving};
 
@@ -13,7 +13,7 @@ use crate::differences::difference;
 use crate::found::Found;
 use maid_model::{Diagram, Ratio};
 use rule_solver::{SolveFault, optimum_with};
-use size_precheck::KeptPlans;
+use size_precheck::KeptRun;
 use std::alloc::{AllocError, Global};
 
 /// Why a diagram that the solver refuses has no value.
@@ -51,10 +51,10 @@ impl<'a> Baseline<'a> {
         requires near { HaveNearScopes self.now.diagram.now edited.now self.now.agent }
         ensures { IfOk result (IsGain self.now.diagram.now edited.now self.now.agent) }
     {
-        self.gain_with(alloc, edited, &[])
+        self.gain_with(alloc, edited, None)
     }
 
-    /// The same where the plans of some decisions of the edited diagram are kept, and are not made again.
+    /// The same where plans of the edited diagram are kept, and are not made again.
     ///
     /// # Errors
     ///
@@ -63,13 +63,13 @@ impl<'a> Baseline<'a> {
         &self,
         alloc: Global,
         edited: &Diagram,
-        kept: &[KeptPlans],
+        kept: Option<&KeptRun>,
     ) -> Result<Found, AllocError>
         requires baseline { IsBaseline self.now.diagram.now self.now.agent self.now.optimum }
         requires alone { OwnsAll edited.now.nodes self.now.agent }
         requires within { self.now.agent < edited.now.agents }
         requires near { HaveNearScopes self.now.diagram.now edited.now self.now.agent }
-        requires kept { All (IsKept edited.now.nodes) kept.now }
+        requires kept { IfSome kept (λ run. IsKeptRun edited.now.nodes run.now) }
         ensures { IfOk result (IsGain self.now.diagram.now edited.now self.now.agent) }
     {
         let _before = self.diagram.count();
@@ -94,7 +94,7 @@ impl<'a> Baseline<'a> {
     {
         let _before = self.diagram.count();
         let _after = edited.count();
-        match optimum_with(alloc, edited, self.agent, &[]) {
+        match optimum_with(alloc, edited, self.agent, None) {
             Ok(less) => Ok(Found::Value(difference(self.optimum, less))),
             Err(fault) => refused(fault),
         }

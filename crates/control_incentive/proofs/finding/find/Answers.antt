@@ -1,5 +1,6 @@
-use Rattle.std.proofs.Common.{rules, ◌≡◌, ◌<◌, All, get_or, true, inl, sym, subst}
-use Rattle.std.specs.Prelude.{Ok, Err, IfOk, IsTrue}
+use Rattle.std.proofs.Common.{rules, ◌≡◌, ◌<◌, true, inl, sym, subst}
+use Rattle.std.specs.Prelude.{Ok, Err, IfOk, IfSome, IsTrue}
+use Rattle.std.proofs.lemmas.Option.{IfSome_then}
 use Rattle.first_fault.specs.Passes.{◌▸◌, rule}
 use Rattle.maid_model.specs.declared.limits.TheConstants.{MOST_RULE_CELLS}
 use Rattle.maid_model.specs.Edits.{as_decision}
@@ -9,7 +10,7 @@ use Rattle.diagram_graph.specs.Room.{rule_cells}
 use Rattle.optimum_gap.specs.Baselines.{HaveNearScopes}
 use Rattle.optimum_gap.specs.Found.{IsGain, TooLarge, Worthless, solving, unless}
 use Rattle.control_incentive.specs.Lines.{controlling}
-use Rattle.size_precheck.specs.Kept.{IsKept}
+use Rattle.size_precheck.specs.Kept.{IsKeptRun}
 use Rattle.control_incentive.proofs.Deciding.{behind, plans_kept}
 use Rattle.control_incentive.proofs.finding.find.Goals as goal
 
@@ -23,13 +24,14 @@ gain_with-requires-clause-near c =
     let is = c.count-count.ensures.diagram in
     subst (λ (e : DiagramView). HaveNearScopes d e agent) (sym c.in-Ok.ensures.made) (inl (c.edits_keep_scopes.ensures.control d c.args.node agent is.graph is.tables c.requires.chance))
 
--- the kept plans stand where the node is a decision
+-- what is kept stands where the node is a decision
 pub gain_with-requires-clause-kept : goal.gain_with-requires-clause-kept
 gain_with-requires-clause-kept c =
     let d = c.args.baseline.now.diagram.now in
-    let agent = c.args.baseline.now.agent in
-    let stand = plans_kept d.nodes agent c.args.node c.requires.chance in
-    subst (λ (e : DiagramView). All (IsKept e.nodes) c.args.kept.now) (sym c.in-Ok.ensures.made) (λ i e l. c.kept_plans_stand.ensures d.nodes (as_decision d.nodes agent c.args.node) (get_or c.args.kept.now i e) stand (c.requires.kept i e l))
+    let made = as_decision d.nodes c.args.baseline.now.agent c.args.node in
+    let stand = plans_kept d.nodes c.args.baseline.now.agent c.args.node c.requires.chance in
+    subst (λ (e : DiagramView). IfSome c.args.kept (λ run. IsKeptRun e.nodes run.now)) (sym c.in-Ok.ensures.made)
+    (IfSome_then c.args.kept c.requires.kept (λ run kept. c.kept_runs_stand.ensures d.nodes made run.now stand kept))
 
 -- the node matters and can be a decision, and the rest is the solver's
 pub returns-in-Ok : goal.returns-in-Ok

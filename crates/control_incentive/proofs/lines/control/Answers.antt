@@ -1,5 +1,7 @@
 use Rattle.std.proofs.Common.{◌≡◌, ◌∙◌, ◌<◌, ℕ, All, ap, length, map, slice_index_or, sym, subst}
-use Rattle.std.specs.Prelude.{IfOk}
+use Rattle.std.specs.Prelude.{IfOk, IfSome, None, Option, Some}
+use Rattle.std.specs.Borrow.{Bor}
+use Rattle.std.specs.Option.{option_copied}
 use Rattle.arc_laws.proofs.Alone.{leaves}
 use Rattle.maid_laws.proofs.AnswerLaws.{answers_fit}
 use Rattle.maid_model.specs.declared.diagrams.Kind.TheVariants.{Chance}
@@ -8,13 +10,18 @@ use Rattle.maid_model.specs.Trimming.{IsTrimmed}
 use Rattle.maid_model.specs.Views.{DiagramView, SolvedView}
 use Rattle.optimum_gap.specs.Baselines.{IsBaseline}
 use Rattle.optimum_gap.specs.Baselines.{alone}
-use Rattle.size_precheck.specs.Kept.{IsKept}
+use Rattle.size_precheck.specs.Kept.{IsKeptRun}
 use Rattle.control_incentive.specs.Lines.{IsTrimmedAlone, chance_nodes, node_of}
 use Rattle.control_incentive.specs.Steps.{HasPaths, IsLineAlone}
 use Rattle.control_incentive.proofs.Deciding.{chance_there, listed_chance}
 use Rattle.control_incentive.proofs.Ranges.{all_among}
 use Rattle.control_incentive.proofs.Told.{lines_there, worths_there}
 use Rattle.control_incentive.proofs.lines.control.Goals as goal
+
+-- what holds of a value holds of the reference to it
+borrowed : {X : Type 0} (P : X → Type 0) (o : Option (Bor X)) → IfSome (option_copied o) P → IfSome o (λ r. P r.now)
+borrowed P None h = tt
+borrowed P (Some r) h = h
 
 pub fix_others-requires : goal.fix_others-requires
 fix_others-requires c = let is = c.count-count.ensures.diagram in answers_fit c.args.diagram.now c.args.solved.now is.graph is.tables c.requires.answer.fits
@@ -30,14 +37,14 @@ control_lines-requires-clause-baseline c =
     subst (λ (e : DiagramView). IsBaseline e c.args.agent gain) (sym c.in_ok-alone.ensures) (subst (IsBaseline (alone d solved.answers c.args.agent) c.args.agent) read base)
 
 pub control_lines-requires-clause-kept : goal.control_lines-requires-clause-kept
-control_lines-requires-clause-kept c = subst (All (IsKept c.in_ok-alone.alone.nodes)) (sym c.deref.ensures.value) c.in_ok-kept.ensures
+control_lines-requires-clause-kept c = borrowed (IsKeptRun c.in_ok-alone.alone.nodes) c.as_ref.result (subst (λ kept. IfSome kept (IsKeptRun c.in_ok-alone.alone.nodes)) (sym c.as_ref.ensures.value) c.in_ok-kept.ensures)
 
 -- the chance nodes are nodes, and stay chance nodes
 pub control_lines-requires-clause-chance : goal.control_lines-requires-clause-chance
 control_lines-requires-clause-chance c =
     let d = c.args.diagram.now in
     let answers = c.args.solved.now.answers in
-    subst (All (λ v. (node_at c.in_ok-alone.alone.nodes v).kind ≡ Chance)) (sym (c.deref-2.ensures.value ∙ c.in_ok-nodes.ensures))
+    subst (All (λ v. (node_at c.in_ok-alone.alone.nodes v).kind ≡ Chance)) (sym (c.deref.ensures.value ∙ c.in_ok-nodes.ensures))
     (subst (λ (e : DiagramView). All (λ v. (node_at e.nodes v).kind ≡ Chance) (chance_nodes d.nodes)) (sym c.in_ok-alone.ensures)
     (all_among (λ v. (node_at (alone d answers c.args.agent).nodes v).kind ≡ Chance) (chance_nodes d.nodes) (λ x m. chance_there d.nodes c.args.agent answers x (listed_chance d.nodes x m).1)))
 
@@ -45,7 +52,7 @@ pub control_lines-requires-clause-within : goal.control_lines-requires-clause-wi
 control_lines-requires-clause-within c =
     let d = c.args.diagram.now in
     let answers = c.args.solved.now.answers in
-    subst (All (λ v. v < length c.in_ok-alone.alone.nodes)) (sym (c.deref-2.ensures.value ∙ c.in_ok-nodes.ensures))
+    subst (All (λ v. v < length c.in_ok-alone.alone.nodes)) (sym (c.deref.ensures.value ∙ c.in_ok-nodes.ensures))
     (subst (λ (e : DiagramView). All (λ v. v < length e.nodes) (chance_nodes d.nodes)) (sym c.in_ok-alone.ensures)
     (all_among (λ v. v < length (alone d answers c.args.agent).nodes) (chance_nodes d.nodes) (λ x m. subst (λ n. x < n) (sym (leaves d.nodes c.args.agent answers).len) (listed_chance d.nodes x m).0)))
 
@@ -61,7 +68,7 @@ returns-clause-lines c =
     let cut : IsTrimmedAlone d solved.answers agent trimmed = record { removed = c.in_ok-trimmed.trimmed.removed.items; is = subst (λ (e : DiagramView). IsTrimmed e.nodes c.in_ok-trimmed.trimmed.removed.items trimmed) c.in_ok-alone.ensures c.in_ok-trimmed.ensures.trimmed } in
     let has = subst (λ (e : DiagramView). HasPaths e.nodes trimmed agent c.find-paths.result) c.in_ok-alone.ensures c.find-paths.ensures in
     lines_there d solved.answers agent is.graph is.tables fits trimmed cut c.find-paths.result has c.control_lines.result
-    (subst (λ nodes. IfOk c.control_lines.result (λ v. map node_of v.items ≡ nodes)) (c.deref-2.ensures.value ∙ c.in_ok-nodes.ensures) c.control_lines.ensures.nodes)
+    (subst (λ nodes. IfOk c.control_lines.result (λ v. map node_of v.items ≡ nodes)) (c.deref.ensures.value ∙ c.in_ok-nodes.ensures) c.control_lines.ensures.nodes)
     (subst (λ e. IfOk c.control_lines.result (λ lines. All (IsLineAlone e agent c.find-paths.result) lines.items)) c.in_ok-alone.ensures c.control_lines.ensures.lines)
 
 pub returns-clause-worths : goal.returns-clause-worths
@@ -75,5 +82,5 @@ returns-clause-worths c =
     let cut : IsTrimmedAlone d solved.answers agent trimmed = record { removed = c.in_ok-trimmed.trimmed.removed.items; is = subst (λ (e : DiagramView). IsTrimmed e.nodes c.in_ok-trimmed.trimmed.removed.items trimmed) c.in_ok-alone.ensures c.in_ok-trimmed.ensures.trimmed } in
     let has = subst (λ (e : DiagramView). HasPaths e.nodes trimmed agent c.find-paths.result) c.in_ok-alone.ensures c.find-paths.ensures in
     worths_there d solved.answers agent is.graph is.tables fits trimmed cut c.find-paths.result has c.control_lines.result
-    (subst (λ nodes. IfOk c.control_lines.result (λ v. map node_of v.items ≡ nodes)) (c.deref-2.ensures.value ∙ c.in_ok-nodes.ensures) c.control_lines.ensures.nodes)
+    (subst (λ nodes. IfOk c.control_lines.result (λ v. map node_of v.items ≡ nodes)) (c.deref.ensures.value ∙ c.in_ok-nodes.ensures) c.control_lines.ensures.nodes)
     (subst (λ e. IfOk c.control_lines.result (λ lines. All (IsLineAlone e agent c.find-paths.result) lines.items)) c.in_ok-alone.ensures c.control_lines.ensures.lines)
