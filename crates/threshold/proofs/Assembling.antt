@@ -42,7 +42,7 @@ module _ (d : DiagramView) (solved : SolvedView) (place : Place) (f : FitsDiagra
   }
 
   -- each decision has its answer
-  answered_by : (v : ℕ) → IsDecision d.nodes v → (i : ℕ) × (i < length solved.answers) × (decided solved.answers i ≡ v)
+  pub answered_by : (v : ℕ) → IsDecision d.nodes v → (i : ℕ) × (i < length solved.answers) × (decided solved.answers i ≡ v)
   answered_by v k =
       let c = f.all v k in
       let l : c.0 < length solved.answers = subst (λ m. c.0 < m) (sym (ap length f.follow) ∙ length-map solved.answers (λ (a : AnswerView). a.decision)) c.1 in

@@ -10,3 +10,5 @@ pub mod Comparing
 pub mod Holding
 pub mod Ready
 pub mod Assembling
+pub mod Unmoved
+pub mod Standing

@@ -1,14 +1,16 @@
 -- The fractions at which the answers hold. Only private functions cite it.
-use Rattle.std.specs.Prelude.{◌≡◌, ◌↔◌, ℕ, ◌<◌, ◌≤◌, List, length, map, slice_index, slice_index_or}
+use Rattle.std.specs.Prelude.{◌≡◌, ◌↔◌, ◌⊎◌, ℕ, ◌<◌, ◌≤◌, true, is_some, List, length, map, slice_index, slice_index_or, pos, ◌<ℤ◌}
+use Rattle.std.specs.List.{list_all}
 use Rattle.maid_model.specs.Answers.{IsAnswer, answered}
 use Rattle.maid_model.specs.Diagrams.{IsDiagram}
 use Rattle.maid_model.specs.Nodes.{IsDecision}
 use Rattle.maid_model.specs.Views.{NodeView, DiagramView, RuleView, AnswerView, SolvedView}
-use Rattle.reach_laws.specs.Threshold.{HoldsAt, IsMoved}
+use Rattle.reach_laws.specs.Threshold.{HoldsAt, IsMoved, cell_at}
 use Rattle.rule_solver.specs.Faults.{IsSmallEnough}
 use Rattle.threshold.specs.declared.answers.Question.{Question}
 use Rattle.threshold.specs.declared.held.Held.{Held}
 use Rattle.threshold.specs.declared.weights.Place.{Place}
+use Rattle.threshold.specs.Control.{IsControlled, IsFree}
 use Rattle.threshold.specs.Ends.{AreEnds}
 use Rattle.threshold.specs.Held.{HoldsSomewhere, IsWithin}
 use Rattle.threshold.specs.Weights.{IsCell}
@@ -51,9 +53,16 @@ IsAnswerOf solved answer =
     (i : ℕ) × (i < length solved.answers) × (answer ≡ slice_index_or solved.answers i answer)
 
 -- ---- in the names of the code
--- what is asked may be answered
-abbrev pub IsAsked : Question → Type 0
-IsAsked q = IsSetting q.diagram.now q.solved.now q.place q.nought.now q.one.now
+-- what is asked may be answered, and the relevance graph is that where the node is a decision
+pub record IsAsked (q : Question) : Type 0 where
+  pub setting : IsSetting q.diagram.now q.solved.now q.place q.nought.now q.one.now
+  pub controlled : IsControlled q.diagram.now q.place.node q.controlled
+
+-- the answer's decision does not rely on the node's table, and each of its rows is reached, or the state has weight
+pub record Stands (q : Question) (answer : AnswerView) : Type 0 where
+  pub free : IsFree q.controlled answer.decision q.place.node
+  pub reached : (pos 0 <ℤ cell_at q.diagram.now.nodes q.place.node q.place.row q.place.state)
+      ⊎ (list_all (λ row. is_some row.worth) answer.rows ≡ true)
 
 -- the answer holds at the fraction
 abbrev pub HoldsAnswer : Question → AnswerView → ℕ → ℕ → Type 0

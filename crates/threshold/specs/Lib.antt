@@ -3,5 +3,6 @@ pub mod Intervals
 pub mod Weights
 pub mod Held
 pub mod Ends
+pub mod Control
 pub mod Answers
 pub mod Example

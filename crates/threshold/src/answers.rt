@@ -1,49 +1,79 @@
 //! The fractions at which all answers hold.
 
-ghost use Rattle.std.specs.Prelude.{◌≡◌, ℕ, IfOk, OnOk};
+ghost use Rattle.std.specs.Prelude.{◌≡◌, ◌↔◌, ℕ, All, IfOk, IsTrue, OnOk};
 ghost use Rattle.maid_model.specs.Answers.{answered};
 ghost use Rattle.relevance_graph.specs.Relevant.{IsRelevance};
 ghost use Rattle.rule_solver.specs.Rooms.{AreReady, HasRoom, HasRoomAt};
 ghost use Rattle.size_precheck.specs.Decisions.{ArePlans};
 ghost use Rattle.size_precheck.specs.Sizes.{ArePlansOf};
 ghost use Rattle.threshold.specs.Answers.{HoldsAllAnswers, HoldsAnswer, IsAnswerOf, IsAsked};
-ghost use Rattle.threshold.specs.Answers.{IsHeld, IsSetting};
+ghost use Rattle.threshold.specs.Answers.{IsHeld, IsSetting, Stands};
 ghost use Rattle.threshold.specs.Held.{IsRange, Narrows};
 
+use crate::control::{all_reached, find_controlled, is_free};
 use crate::ends::Ends;
 use crate::held::{Held, all_fractions, narrow_rows};
-use crate::weights::Place;
+use crate::weights::{Place, weight_there};
 use maid_model::{Answer, Diagram, Solved, descent_is_tested};
 use relevance_graph::{Relevance, find_relevance};
 use rule_solver::{Workspaces, base_of, row_gains_by};
 use size_precheck::{DecisionPlans, greedy_orders, kept_plans_stand, plan_run};
 use std::alloc::{AllocError, Global};
 
-/// A diagram and its answer, the place whose probability moves, and the diagrams in which it is 0
-/// and 1.
+/// A diagram and its answer, the place whose probability moves, the diagrams in which it is 0 and 1,
+/// and the relevance graph where the place's node is a decision, if its rule is not too large.
 #[derive(Drop)]
 struct Question<'a> {
     diagram: &'a Diagram,
     solved: &'a Solved,
-    relevance: &'a Relevance,
     place: Place,
     nought: &'a Diagram,
     one: &'a Diagram,
+    controlled: Option<Relevance>,
 }
 
 impl<'a> Question<'a> {
+    /// Whether the answer surely holds at all fractions: its decision does not rely on the table of
+    /// the place's node, and all its rows are reached, or the place has weight, so that none becomes
+    /// reached.
+    fn stands(&self, answer: &Answer) -> bool
+        requires setting { IsAsked self.now }
+        requires answer { IsAnswerOf self.now.solved.now answer.now }
+        ensures { IsTrue result ↔ Stands self.now answer.now }
+    {
+        let Place { node, .. } = self.place;
+        let reached = all_reached(&answer.rows);
+        let weight = weight_there(self.diagram, self.place);
+        (weight > 0 || reached) && is_free(&self.controlled, answer.decision, node)
+    }
+
+    /// Whether all answers surely hold at all fractions.
+    fn all_stand(&self) -> bool
+        requires setting { IsAsked self.now }
+        ensures { IsTrue result ↔ All (Stands self.now) self.now.solved.now.answers }
+    {
+        let solved = self.solved;
+        for answer in &solved.answers {
+            if !self.stands(answer) {
+                return false;
+            }
+        }
+        true
+    }
+
     /// The fractions of the interval at which an answer holds too: its decision's gains in both
     /// diagrams, with one base and by the same plans, tell them.
-    fn narrow(
+    fn narrow_by_gains(
         &self,
         alloc: Global,
+        relevance: &Relevance,
         held: Held,
         answer: &Answer,
         plans: &DecisionPlans,
         spaces: &mut Workspaces,
     ) -> Result<Held, AllocError>
         requires setting { IsAsked self.now }
-        requires relevance { IsRelevance self.now.diagram.now.nodes self.now.relevance.now }
+        requires relevance { IsRelevance self.now.diagram.now.nodes relevance.now }
         requires answer { IsAnswerOf self.now.solved.now answer.now }
         requires planned { ArePlansOf self.now.diagram.now.nodes answer.now.decision plans.now.rows
             plans.now.goals.items }
@@ -57,13 +87,7 @@ impl<'a> Question<'a> {
         greedy_orders();
         kept_plans_stand();
         let (solved, decision) = (self.solved, answer.decision);
-        let base = base_of(
-            alloc,
-            self.diagram,
-            self.relevance,
-            &solved.answers,
-            decision,
-        )?;
+        let base = base_of(alloc, self.diagram, relevance, &solved.answers, decision)?;
         let nought = row_gains_by(alloc, self.nought, &base, decision, plans, spaces)?;
         let one = row_gains_by(alloc, self.one, &base, decision, plans, spaces)?;
         Ok(narrow_rows(
@@ -75,15 +99,43 @@ impl<'a> Question<'a> {
         ))
     }
 
+    /// The same where the answer may surely hold: then the interval stays as it is.
+    fn narrow(
+        &self,
+        alloc: Global,
+        relevance: &Relevance,
+        held: Held,
+        answer: &Answer,
+        plans: &DecisionPlans,
+        spaces: &mut Workspaces,
+    ) -> Result<Held, AllocError>
+        requires setting { IsAsked self.now }
+        requires relevance { IsRelevance self.now.diagram.now.nodes relevance.now }
+        requires answer { IsAnswerOf self.now.solved.now answer.now }
+        requires planned { ArePlansOf self.now.diagram.now.nodes answer.now.decision plans.now.rows
+            plans.now.goals.items }
+        requires ready { (cells : ℕ) × AreReady cells spaces.old
+            × HasRoomAt self.now.diagram.now.nodes answer.now.decision cells }
+        requires range { IsRange held }
+        ensures held { IfOk result (Narrows (HoldsAnswer self.now answer.now) held) }
+        ensures again { OnOk result (spaces.new ≡ spaces.old) }
+    {
+        if self.stands(answer) {
+            return Ok(held);
+        }
+        self.narrow_by_gains(alloc, relevance, held, answer, plans, spaces)
+    }
+
     /// The fractions from 0 to 1 at which all answers hold, by the plans of their decisions.
     fn narrow_all(
         &self,
         alloc: Global,
+        relevance: &Relevance,
         plans: &[DecisionPlans],
         spaces: &mut Workspaces,
     ) -> Result<Held, AllocError>
         requires setting { IsAsked self.now }
-        requires relevance { IsRelevance self.now.diagram.now.nodes self.now.relevance.now }
+        requires relevance { IsRelevance self.now.diagram.now.nodes relevance.now }
         requires planned { ArePlans self.now.diagram.now.nodes self.now.solved.now.order plans.now }
         requires ready { (cells : ℕ) × AreReady cells spaces.old
             × HasRoom self.now.diagram.now.nodes cells }
@@ -94,15 +146,16 @@ impl<'a> Question<'a> {
         let mut held = all_fractions();
         let mut place = 0;
         for answer in &solved.answers {
-            held = self.narrow(alloc, held, answer, &plans[place], spaces)?;
+            held = self.narrow(alloc, relevance, held, answer, &plans[place], spaces)?;
             place += 1;
         }
         Ok(held)
     }
 }
 
-/// The fractions from 0 to 1 at which all answers hold: it finds the relevance graph, makes the
-/// plans of the run, reserves the workspaces, and goes over the decisions in the order of solving.
+/// The fractions from 0 to 1 at which all answers hold. Where some may not hold at all of them, it
+/// finds the relevance graph, makes the plans of the run, reserves the workspaces, and goes over the
+/// decisions in the order of solving.
 pub(crate) fn hold_answers(
     alloc: Global,
     diagram: &Diagram,
@@ -116,16 +169,19 @@ pub(crate) fn hold_answers(
 {
     greedy_orders();
     descent_is_tested();
-    let relevance = find_relevance(alloc, diagram)?;
-    let run = plan_run(alloc, diagram, &solved.order)?;
-    let mut spaces = Workspaces::reserve(alloc, run.size.cells as usize)?;
     let question = Question {
         diagram,
         solved,
-        relevance: &relevance,
         place,
         nought: &ends.nought,
         one: &ends.one,
+        controlled: find_controlled(alloc, diagram, place.node)?,
     };
-    question.narrow_all(alloc, &run.decisions, &mut spaces)
+    if question.all_stand() {
+        return Ok(all_fractions());
+    }
+    let relevance = find_relevance(alloc, diagram)?;
+    let run = plan_run(alloc, diagram, &solved.order)?;
+    let mut spaces = Workspaces::reserve(alloc, run.size.cells as usize)?;
+    question.narrow_all(alloc, &relevance, &run.decisions, &mut spaces)
 }

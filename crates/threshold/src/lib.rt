@@ -13,6 +13,7 @@
 #![tactic(auto)]
 
 mod answers;
+mod control;
 mod ends;
 mod faults;
 mod held;

@@ -4,6 +4,7 @@ use Rattle.maid_model.specs.Views.{SolvedView}
 use Rattle.size_precheck.specs.Decisions.{ArePlans}
 use Rattle.size_precheck.specs.Sizes.{IsSizeOfRun, ListsDecisions}
 use Rattle.threshold.proofs.Rooms.{has_room, lists_decisions}
+use Rattle.threshold.proofs.Standing.{all_held}
 use Rattle.threshold.proofs.answers.hold_answers.Goals as goal
 
 pub plan_run-requires : goal.plan_run-requires
@@ -36,3 +37,9 @@ narrow_all-requires-clause-ready c =
       c.in_ok-spaces.ensures,
       has_room nodes c.greedy_orders.ensures.one c.args.solved.now.order c.requires.answer.order c.in_ok-run.run'.size c.descent_is_tested.ensures sized,
     )
+
+pub narrow_all-requires-clause-setting : goal.narrow_all-requires-clause-setting
+narrow_all-requires-clause-setting c = record { setting = c.requires; controlled = c.in_ok-find_controlled.ensures }
+
+pub returns-then-all_stand-clause-held : goal.returns-then-all_stand-clause-held
+returns-then-all_stand-clause-held c = all_held _ (record { setting = c.requires; controlled = c.in_ok-find_controlled.ensures }) (c.all_stand.ensures.0 c.if-all_stand.true) c.all_fractions.result c.all_fractions.ensures.all
