@@ -3,6 +3,7 @@ mod Conditional
 mod Left
 mod Listed
 mod Measured
+mod Naturals
 mod Orders
 mod PlanCells
 mod Planned

@@ -1,6 +1,6 @@
 -- The plans that keep x: their numbers fit, and that without a utility sums to a mass.
 use Rattle.std.proofs.Common.{◌≡◌, ◌∙◌, ℕ, ◌*◌, ◌^◌, ◌<◌, ◌≤◌, max, ◌&&◌, List, Some, None, length, refl, sym, ap, inl, arith, ℤ, pos, nat_abs}
-use Rattle.std.proofs.Math.Nat.{mul-le-mul, mul-le-mul_left}
+use Rattle.std.proofs.Math.Nat.{mul-le-mul}
 use Rattle.cell_rings.specs.RingLaws.{gain_is_ring, mass_is_ring, mass_to_gain}
 use Rattle.cell_rings.specs.Rings.{gain_ring, most_size}
 use Rattle.finite_sums.specs.Sums.{World, nat_product_over}
@@ -25,6 +25,7 @@ use Rattle.evidence.specs.Sizes.{plan_given}
 use Rattle.evidence.specs.Stakes.{chances_lacking}
 use Rattle.evidence.proofs.StakeLemmas.{one_of_greatest, scale_some}
 use Rattle.evidence.proofs.Within.{alone_inside, lacking_positive, tables_within, utility_inside}
+use Rattle.evidence.proofs.Naturals.{part_of_product}
 
 -- ---- masses as numbers
 -- masses as numbers with a sign, where no value counts
@@ -39,10 +40,6 @@ mass_number nodes p x q = ap nat_abs (sym (maps_plans mass_cells signed_masses m
 -- twice what is within the bound is within 128 bits
 twice : (n : ℕ) → n ≤ greatest_number → 2 * n ≤ most_size
 twice n h = omega (arith, h)
-
--- what is part of a product is no more
-part_of_product : (a b m : ℕ) → 0 < b → a * b ≤ m → a ≤ m
-part_of_product a b m h k = omega (arith, mul-le-mul_left a h, k)
 
 -- tables within P, and a utility within S: together within the bound
 tables_fit : (tables missing product scale utility all : ℕ) → 0 < missing → tables * missing ≤ product → 0 < scale → utility ≤ all → product * max scale all ≤ greatest_number → 2 * (tables * max 1 utility) ≤ most_size

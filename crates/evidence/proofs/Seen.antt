@@ -1,5 +1,5 @@
 -- The nodes of the diagram in which every decision sees x: all but the decisions' parents stay.
-use Rattle.std.proofs.Common.{◌≡◌, ◌⊎◌, ◌∙◌, ℕ, zero, suc, ◌+◌, ◌*◌, ◌<◌, ◌≤◌, Bool, true, false, cond, ◌&&◌, not, List, [], ◌∷◌, ◌++◌, All, Contains, filter, ℤ, length, slice_index_or, refl, sym, ap, subst, inl, inr, arith, pos, nat_abs, length-append, eqb}
+use Rattle.std.proofs.Common.{◌≡◌, ◌⊎◌, ◌∙◌, ℕ, zero, suc, ◌+◌, ◌*◌, ◌<◌, ◌≤◌, Bool, true, false, cond, ◌&&◌, not, List, [], ◌∷◌, ◌++◌, All, Contains, ℤ, length, slice_index_or, refl, sym, ap, subst, inl, inr, arith, pos, nat_abs, length-append, eqb}
 use Rattle.std.proofs.lemmas.List.{length-map}
 use Rattle.std.proofs.Math.Nat.{mul_assoc, mul_comm}
 use Rattle.std.proofs.Math.ListN.{get_or-map}
@@ -24,6 +24,7 @@ use Rattle.diagram_graph.specs.Room.{cells_at, rule_cells, rule_cells_at}
 use Rattle.reach_laws.specs.Evidence.{IsEvidence, SeenEverywhere, all_seeing, all_seeing_diagram, seeing}
 use Rattle.evidence.specs.Rules.{KeepsRules}
 use Rattle.evidence.specs.Sights.{HasOwnCells, KeepsOwnRule, adds}
+use Rattle.evidence.proofs.Naturals.{passing_sizes}
 
 -- the test of a decision
 pub kind_of : (k : Kind) → is_decision k ≡ true → k ≡ Decision
@@ -234,20 +235,8 @@ adds_next nodes n cells more sum own = record {
     go d l (no m) = sum.each d (omega (arith, l))
 
 -- ---- all rules
--- sizes that count where a test holds
-passing : (a : ℕ → Bool) (f : ℕ → ℕ) (vs : List ℕ) → nat_sum_over (λ v. cond (a v) (f v) 0) vs ≡ nat_sum_over f (filter a vs)
-passing a f [] = refl
-passing a f (v ∷ vs) = go (a v) (passing a f vs)
-  where
-    nought : (m n : ℕ) → m ≡ n → 0 + m ≡ n
-    nought m n e = omega (arith, e)
-
-    go : (b : Bool) → nat_sum_over (λ u. cond (a u) (f u) 0) vs ≡ nat_sum_over f (filter a vs) → cond b (f v) 0 + nat_sum_over (λ u. cond (a u) (f u) 0) vs ≡ nat_sum_over f (cond b (v ∷ filter a vs) (filter a vs))
-    go true e = ap (λ n. f v + n) e
-    go false e = nought _ _ e
-
 pub rule_cells_are : (nodes : List NodeView) → nat_sum_over (rule_cells_at nodes) (numbers_of nodes) ≡ rule_cells nodes
-rule_cells_are nodes = passing (λ v. is_decision (node_at nodes v).kind) (cells_at nodes) (numbers_of nodes)
+rule_cells_are nodes = passing_sizes (λ v. is_decision (node_at nodes v).kind) (cells_at nodes) (numbers_of nodes)
 
 -- without a decision there are no cells of rules
 pub rules_small : (nodes : List NodeView) → KeepsRules nodes → rule_cells nodes ≤ MOST_RULE_CELLS

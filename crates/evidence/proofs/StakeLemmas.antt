@@ -1,5 +1,5 @@
 -- What an agent's utilities give to its gain, and the gain itself, in 128 bits.
-use Rattle.std.proofs.Common.{◌≡◌, ◌∙◌, ℕ, zero, suc, ◌+◌, ◌*◌, ◌^◌, ◌<◌, ◌≤◌, max, mul-add, Bool, true, false, not, cond, filter, List, [], ◌∷◌, length, slice_index_or, Option, Some, None, refl, sym, ap, subst, inl, inr, arith, ℤ, pos, ◌+ℤ◌, ◌*ℤ◌, nat_abs, FitsSigned, to_z, of_z}
+use Rattle.std.proofs.Common.{◌≡◌, ◌∙◌, ℕ, zero, suc, ◌+◌, ◌*◌, ◌^◌, ◌<◌, ◌≤◌, max, mul-add, Bool, true, false, not, cond, List, [], ◌∷◌, length, slice_index_or, Option, Some, None, refl, sym, ap, subst, inl, inr, arith, ℤ, pos, ◌+ℤ◌, ◌*ℤ◌, nat_abs, FitsSigned, to_z, of_z}
 use Rattle.std.specs.Int.{w128}
 use Rattle.std.specs.List.{range_with_len}
 use Rattle.std.proofs.lemmas.Int.{ints, to_z-of_z, to_z_pos, fits_signed_from_abs}
@@ -25,6 +25,7 @@ use Rattle.scope_sums.specs.Missing.{lacking_in}
 use Rattle.weight_scale.specs.Given.{product_given, scope_given}
 use Rattle.evidence.specs.Sizes.{plan_given}
 use Rattle.evidence.specs.Stakes.{IsStake, chances_lacking, gain_from, scope_mass}
+use Rattle.evidence.proofs.Naturals.{part_of_product, passing_sizes}
 
 -- ---- sums
 -- one term more
@@ -43,18 +44,6 @@ next_term f k (suc n) = regroup (f k) (sum_each f (range_with_len (k + 1) n)) (f
 
     regroup : (a b c e : ℤ) → c ≡ e → (a +ℤ b) +ℤ c ≡ a +ℤ (b +ℤ e)
     regroup a b c e h = omega (arith, ints, h)
-
--- sizes that count where a test holds
-passing_sizes : (a : ℕ → Bool) (f : ℕ → ℕ) (vs : List ℕ) → nat_sum_over (λ v. cond (a v) (f v) 0) vs ≡ nat_sum_over f (filter a vs)
-passing_sizes a f [] = refl
-passing_sizes a f (v ∷ vs) = go (a v) (passing_sizes a f vs)
-  where
-    nought : (x y : ℕ) → x ≡ y → 0 + x ≡ y
-    nought x y e = omega (arith, e)
-
-    go : (b : Bool) → nat_sum_over (λ u. cond (a u) (f u) 0) vs ≡ nat_sum_over f (filter a vs) → cond b (f v) 0 + nat_sum_over (λ u. cond (a u) (f u) 0) vs ≡ nat_sum_over f (cond b (v ∷ filter a vs) (filter a vs))
-    go true e = ap (λ x. f v + x) e
-    go false e = nought _ _ e
 
 -- the first terms are no more than all
 first_terms : (f : ℕ → ℕ) (k n m : ℕ) → n ≤ m → nat_sum_over f (range_with_len k n) ≤ nat_sum_over f (range_with_len k m)
@@ -106,10 +95,6 @@ sum_next f v sum term e fits h = (λ i. e i +ℤ (to_z-of_z w128 term fits ∙ h
     next : (v : ℕ) → suc v ≡ v + 1
     next v = omega arith
 
--- what is part of a product is no more
-part_of : (a b m : ℕ) → 0 < b → a * b ≤ m → a ≤ m
-part_of a b m h k = omega (arith, mul-le-mul_left a h, k)
-
 pub scale_some : (k : ℕ) → 0 < 10 ^ k
 scale_some k = let ten : 0 < 10 = omega arith in one-le-pow k 10 ten
 
@@ -141,7 +126,7 @@ module _ (d : DiagramView) (x agent mass : ℕ) (worths : List ℤ) (scope : Nod
       greater s a h = omega (arith, h)
 
   product_small : product ≤ greatest_number
-  product_small = part_of product (max (10 ^ d.decimals) values) greatest_number scale_max is.bound
+  product_small = part_of_product product (max (10 ^ d.decimals) values) greatest_number scale_max is.bound
 
   all_small : (z : ℤ) (a : ℕ) → nat_abs z ≤ product * a → a ≤ values → nat_abs z ≤ greatest_number
   all_small z a h l = chain (nat_abs z) _ _ h (mul-le-mul_left product (below a (10 ^ d.decimals) values l)) is.bound
