@@ -113,14 +113,17 @@ gather_more p n next place slots found d room a l h t so_far =
     take_more_set found n (get_or slots place d) room ∙ ap (λ ys. ys ++ get_or slots place d ∷ []) so_far ∙ sym (from_more p next place slots d a l h t)
 
 -- one slot more is noted
-pub noted_more : (at new : List NodeSet) (xs : List Slot) (s : Slot) (place : ℕ) → length xs ≡ place → Noted at xs
-    → ((v k : ℕ) (none : NodeSet) → v < 256 → IsIn (slice_index_or new v none) k ↔ (IsIn (slice_index_or at v none) k ⊎ ((k ≡ place) × IsIn s.scope v)))
+pub noted_more : (at new : List NodeSet) (xs : List Slot) (s : Slot) (place : ℕ) → length new ≡ length at → length xs ≡ place → Noted at xs
+    → ((v k : ℕ) (none : NodeSet) → v < length at → IsIn (slice_index_or new v none) k ↔ (IsIn (slice_index_or at v none) k ⊎ ((k ≡ place) × IsIn s.scope v)))
     → Noted new (xs ++ s ∷ [])
-noted_more at new xs s place is h e v k none l =
+noted_more at new xs s place same is h e v k none within =
     one_test (holds (slice_index_or new v none) k) (slot_holds (xs ++ s ∷ []) v k)
     (λ t. (holds_append xs s v k).1 (forth ((e v k none l).0 t)))
     (λ t. (e v k none l).1 (back ((holds_append xs s v k).0 t)))
   where
+    l : v < length at
+    l = omega (arith, within, same)
+
     forth : (IsIn (slice_index_or at v none) k ⊎ ((k ≡ place) × IsIn s.scope v)) → ((slot_holds xs v k ≡ true) ⊎ ((k ≡ length xs) × (holds s.scope v ≡ true)))
     forth (inl m) = inl (sym (h v k none l) ∙ m)
     forth (inr m) = inr (m.0 ∙ sym is, m.1)
@@ -129,17 +132,17 @@ noted_more at new xs s place is h e v k none l =
     back (inl m) = inl (h v k none l ∙ m)
     back (inr m) = inr (m.0 ∙ is, m.1)
 
-pub noted_next : (at new : List NodeSet) (slots : List Slot) (d : Slot) (place : ℕ) → place < length slots → Noted at (take place slots)
-    → ((v k : ℕ) (none : NodeSet) → v < 256 → IsIn (slice_index_or new v none) k ↔ (IsIn (slice_index_or at v none) k ⊎ ((k ≡ place) × IsIn (slice_index_or slots place d).scope v)))
+pub noted_next : (at new : List NodeSet) (slots : List Slot) (d : Slot) (place : ℕ) → length new ≡ length at → place < length slots → Noted at (take place slots)
+    → ((v k : ℕ) (none : NodeSet) → v < length at → IsIn (slice_index_or new v none) k ↔ (IsIn (slice_index_or at v none) k ⊎ ((k ≡ place) × IsIn (slice_index_or slots place d).scope v)))
     → Noted new (take (place + 1) slots)
-noted_next at new slots d place l h e v k none a =
-    noted_more at new (take place slots) (get_or slots place d) place (length-take-le place slots (omega arith)) h e v k none a ∙ ap (λ xs. slot_holds xs v k) (sym (take_more slots place d l))
+noted_next at new slots d place same l h e v k none a =
+    noted_more at new (take place slots) (get_or slots place d) place same (length-take-le place slots (omega arith)) h e v k none a ∙ ap (λ xs. slot_holds xs v k) (sym (take_more slots place d l))
 
-pub noted_behind : (at new : List NodeSet) (slots : List Slot) (s : Slot) (place : ℕ) → place < length slots → Noted at (take place slots)
-    → ((v k : ℕ) (none : NodeSet) → v < 256 → IsIn (slice_index_or new v none) k ↔ (IsIn (slice_index_or at v none) k ⊎ ((k ≡ place) × IsIn s.scope v)))
+pub noted_behind : (at new : List NodeSet) (slots : List Slot) (s : Slot) (place : ℕ) → length new ≡ length at → place < length slots → Noted at (take place slots)
+    → ((v k : ℕ) (none : NodeSet) → v < length at → IsIn (slice_index_or new v none) k ↔ (IsIn (slice_index_or at v none) k ⊎ ((k ≡ place) × IsIn s.scope v)))
     → Noted new (take (place + 1) (set slots place s))
-noted_behind at new slots s place l h e v k none a =
-    noted_more at new (take place slots) s place (length-take-le place slots (omega arith)) h e v k none a ∙ ap (λ xs. slot_holds xs v k) (sym (take_more_set slots place s l))
+noted_behind at new slots s place same l h e v k none a =
+    noted_more at new (take place slots) s place same (length-take-le place slots (omega arith)) h e v k none a ∙ ap (λ xs. slot_holds xs v k) (sym (take_more_set slots place s l))
 
 -- one place more is live
 pub within_more : (live new : NodeSet) (made : ℕ) → ((k : ℕ) → IsIn live k → k < made) → ((k : ℕ) → IsIn new k ↔ (IsIn live k ⊎ (k ≡ made))) → (k : ℕ) → IsIn new k → k < made + 1
@@ -198,7 +201,7 @@ passes_not false h k = absurd (let g = k in cc)
 from_nought : (k : ℕ) → 0 + k ≡ k
 from_nought k = omega arith
 
-module _ (at : List NodeSet) (live held : NodeSet) (made node : ℕ) (slots : List Slot) (small : node < 256) (noted : Noted at (take made slots))
+module _ (at : List NodeSet) (live held : NodeSet) (made node : ℕ) (slots : List Slot) (small : node < length at) (noted : Noted at (take made slots))
     (is : (k : ℕ) (none : NodeSet) → IsIn held k ↔ (IsIn live k × IsIn (slice_index_or at node none) k)) where
   abbrev here : ℕ → Bool
   here = holds (slice_index_or at node live)

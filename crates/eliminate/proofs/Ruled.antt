@@ -1,5 +1,7 @@
 -- The nodes of a plan's first tables: by the set that the code makes, and how many they are.
-use Rattle.std.proofs.Common.{◌≡◌, ◌≢◌, ◌∙◌, ◌⊎◌, ◌↔◌, ℕ, ◌+◌, ◌<◌, ◌≤◌, Bool, true, false, not, ◌&&◌, ◌||◌, filter, List, [], ◌∷◌, ◌++◌, length, refl, sym, ap, subst, inl, inr, arith, Option, Some, None, option_to_list, Contains}
+use Rattle.std.proofs.Common.{◌≡◌, ◌≢◌, ◌∙◌, ◌⊎◌, ◌↔◌, ℕ, zero, suc, ◌+◌, ◌<◌, ◌≤◌, Bool, true, false, cond, eqb, not, ◌&&◌, ◌||◌, filter, List, [], ◌∷◌, ◌++◌, length, refl, sym, ap, subst, inl, inr, arith, Option, Some, None, option_to_list, Contains}
+use Rattle.std.proofs.Math.Decide.{ℕ_discrete}
+use Rattle.std.specs.List.{range_with_len}
 use Rattle.std.proofs.lemmas.List.{length-append}
 use Rattle.std.proofs.lemmas.List.Filters.{length-filter_both}
 use Rattle.std.proofs.lemmas.List.FromFn.{length-range_with_len}
@@ -10,13 +12,14 @@ use Rattle.finite_sums.proofs.Members.{among_from_contains, contains_from_among,
 use Rattle.maid_model.specs.declared.diagrams.Kind.TheVariants.{Utility}
 use Rattle.maid_model.specs.Nodes.{node_at, numbers_of, is_utility}
 use Rattle.maid_model.specs.Views.{NodeView}
+use Rattle.maid_laws.proofs.Booleans.{eqb_yes, eqb_no}
 use Rattle.maid_laws.proofs.Tied.{kind_within}
 use Rattle.node_sets.specs.declared.sets.NodeSet.{NodeSet}
 use Rattle.node_sets.specs.Sets.{holds, IsIn}
 use Rattle.plan_sums.specs.Laws.{IsOrderOfPlan}
 use Rattle.plan_sums.specs.Plans.{PlanView, has, in_plan, plan_nodes, ruled_nodes}
 use Rattle.plan_sums.specs.Sizes.{IsPlan}
-use Rattle.plan_sums.proofs.Filters.{filter_cong, filter_filter, has_yes, has_member}
+use Rattle.plan_sums.proofs.Filters.{filter_cong, filter_filter, filter_none, has_yes, has_member}
 use Rattle.plan_sums.proofs.Sized.{option_has, has_option, in_plan_kind, ruled_in}
 use Rattle.eliminate.specs.Steps.{first_nodes}
 
@@ -58,6 +61,53 @@ not_of false n = refl
 of_not : (b : Bool) → not b ≡ true → b ≡ true → ⊥
 of_not true e f = absurd (cc)
 of_not false e f = absurd (cc)
+
+either_of : (a b : Bool) → (a || b) ≡ true → (a ≡ true) ⊎ (b ≡ true)
+either_of true b e = inl refl
+either_of false b e = inr e
+
+-- ---- how many pass
+pass_step : (a b c : Bool) (x : ℕ) (ps qs rs : List ℕ) → (a ≡ true → (b ≡ true) ⊎ (c ≡ true)) → length ps ≤ length qs + length rs → length (cond a (x ∷ ps) ps) ≤ length (cond b (x ∷ qs) qs) + length (cond c (x ∷ rs) rs)
+pass_step false true true x ps qs rs h l = omega (arith, l)
+pass_step false true false x ps qs rs h l = omega (arith, l)
+pass_step false false true x ps qs rs h l = omega (arith, l)
+pass_step false false false x ps qs rs h l = omega (arith, l)
+pass_step true true true x ps qs rs h l = omega (arith, l)
+pass_step true true false x ps qs rs h l = omega (arith, l)
+pass_step true false true x ps qs rs h l = omega (arith, l)
+pass_step true false false x ps qs rs h l = absurd (none (h refl))
+  where
+    none : ((false ≡ true) ⊎ (false ≡ true)) → ⊥
+    none (inl e) = cc
+    none (inr e) = cc
+
+-- where each that passes passes one of two tests, no more pass than the two together let through
+passes_either : (p q r : ℕ → Bool) (xs : List ℕ) → ((v : ℕ) → Among v xs → p v ≡ true → (q v ≡ true) ⊎ (r v ≡ true)) → length (filter p xs) ≤ length (filter q xs) + length (filter r xs)
+passes_either p q r [] h = omega arith
+passes_either p q r (x ∷ xs) h =
+    pass_step (p x) (q x) (r x) x (filter p xs) (filter q xs) (filter r xs) (h x (inl refl)) (passes_either p q r xs (λ v m. h v (inr m)))
+
+-- of ascending numbers at most one is a given one, and none once they are greater
+one_is : (y a n : ℕ) → (length (filter (eqb y) (range_with_len a n)) ≤ 1) × (y < a → length (filter (eqb y) (range_with_len a n)) ≡ 0)
+one_is y a zero = (omega arith, λ l. refl)
+one_is y a (suc n) = at (eqb y a) (filter (eqb y) (range_with_len (a + 1) n)) (ℕ_discrete y a) refl (one_is y (a + 1) n)
+  where
+    at : (b : Bool) (rest : List ℕ) → Dec (y ≡ a) → eqb y a ≡ b → (length rest ≤ 1) × (y < a + 1 → length rest ≡ 0) → (length (cond b (a ∷ rest) rest) ≤ 1) × (y < a → length (cond b (a ∷ rest) rest) ≡ 0)
+    at true rest (yes e) is h = (omega (arith, h.1 (omega (arith, e))), λ l. absurd (omega (arith, l, e)))
+    at true rest (no n) is h = absurd (let f : true ≡ false = sym is ∙ eqb_no y a n in cc)
+    at false rest (yes e) is h = absurd (let f : true ≡ false = sym (eqb_yes y a e) ∙ is in cc)
+    at false rest (no n) is h = (h.0, λ l. h.1 (omega (arith, l)))
+
+-- no more numbers are in a list than it has places
+has_few : (ys : List ℕ) (n : ℕ) → length (filter (λ v. has ys v) (range_with_len 0 n)) ≤ length ys
+has_few [] n = omega (arith, ap length (filter_none (range_with_len 0 n)))
+has_few (y ∷ ys) n =
+    omega (
+      arith,
+      passes_either (λ v. has (y ∷ ys) v) (eqb y) (λ v. has ys v) (range_with_len 0 n) (λ v m e. either_of (eqb y v) (has ys v) e),
+      (one_is y 0 n).0,
+      has_few ys n,
+    )
 
 module _ (nodes : List NodeView) (plan : PlanView) where
   -- a kept node is one of the plan
@@ -124,6 +174,27 @@ module _ (nodes : List NodeView) (plan : PlanView) where
       by : (o : Option ℕ) → plan.utility ≡ o → length (ruled_nodes nodes plan ++ option_to_list o) ≤ length nodes
       by None e = omega (arith, length-append (ruled_nodes nodes plan) [], ruled_few, counted)
       by (Some u) e = omega (arith, length-append (ruled_nodes nodes plan) (u ∷ []), ruled_few, counted, outside u e)
+
+  -- a table at most for each kept node and each step, and one for the utility
+  pub tables_few : (steps : List ℕ) → IsOrderOfPlan nodes plan steps → length (first_nodes nodes plan) ≤ length plan.keep + length steps + 1
+  tables_few steps order =
+      omega (
+        arith,
+        length-append (ruled_nodes nodes plan) (option_to_list plan.utility),
+        filter_le (λ v. not (has (option_to_list plan.without) v)) (plan_nodes nodes plan),
+        passes_either (in_plan nodes plan) (λ v. has plan.keep v) (λ v. has steps v) (numbers_of nodes) (λ v m e. kept (kept_or_step steps order v (in_numbers v m) e)),
+        has_few plan.keep (length nodes),
+        has_few steps (length nodes),
+        one plan.utility,
+      )
+    where
+      kept : {v : ℕ} → (Contains plan.keep v ⊎ Contains steps v) → (has plan.keep v ≡ true) ⊎ (has steps v ≡ true)
+      kept {v} (inl m) = inl ((has_contains plan.keep v).1 m)
+      kept {v} (inr m) = inr ((has_contains steps v).1 m)
+
+      one : (o : Option ℕ) → length (option_to_list o) ≤ 1
+      one None = omega arith
+      one (Some u) = omega arith
 
 module _ (nodes : List NodeView) (plan : PlanView) (steps : List ℕ) (order : IsOrderOfPlan nodes plan steps) (set : NodeSet)
     (set_is : (v : ℕ) → IsIn set v ↔ ((Contains plan.keep v ⊎ Contains steps v) × (plan.without ≡ Some v → ⊥))) where

@@ -1,7 +1,6 @@
 -- Slots at places, of which a set tells the live ones. Only private contracts cite this file.
-use Rattle.std.specs.Prelude.{◌≡◌, ℕ, zero, suc, ◌<◌, ◌++◌, Bool, false, List, [], ◌∷◌, take, slice_index_or, if◌then◌else◌}
+use Rattle.std.specs.Prelude.{◌≡◌, ℕ, zero, suc, ◌<◌, ◌++◌, Bool, false, List, [], ◌∷◌, length, take, slice_index_or, if◌then◌else◌}
 use Rattle.node_sets.specs.declared.sets.NodeSet.{NodeSet}
-use Rattle.node_sets.specs.declared.sets.TheConstants.{MOST_NODES}
 use Rattle.node_sets.specs.Sets.{holds, IsIn}
 use Rattle.factor_core.specs.declared.slots.Slot.{Slot}
 
@@ -20,14 +19,14 @@ slot_holds [] v k = false
 slot_holds (s ∷ ss) v zero = holds s.scope v
 slot_holds (s ∷ ss) v (suc k) = slot_holds ss v k
 
--- no node has a place
+-- no node of those that the list is for has a place
 abbrev pub IsBlank : List NodeSet → Type 0
-IsBlank at = (v k : ℕ) (none : NodeSet) → v < MOST_NODES
+IsBlank at = (v k : ℕ) (none : NodeSet) → v < length at
     → holds (slice_index_or at v none) k ≡ false
 
--- for each node the places of the slots that hold it
+-- for each node of those that the list is for, the places of the slots that hold it
 abbrev pub Noted : List NodeSet → List Slot → Type 0
-Noted at slots = (v k : ℕ) (none : NodeSet) → v < MOST_NODES
+Noted at slots = (v k : ℕ) (none : NodeSet) → v < length at
     → holds (slice_index_or at v none) k ≡ slot_holds slots v k
 
 -- the first `made` slots are noted, and live ones are among them

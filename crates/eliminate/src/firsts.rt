@@ -80,9 +80,9 @@ pub fn first_tables<C: Cell>(
     requires room { sum_by
         (first_cells (cells_by C.ring C.of_weight C.of_value) diagram.now.nodes profile.now)
         (first_nodes diagram.now.nodes plan.now.plan) ≤ work.old.spare }
-    requires len { length diagram.now.nodes ≤ length live.old }
+    requires tables { length (first_nodes diagram.now.nodes plan.now.plan) ≤ length live.old }
     ensures diagram { IsDiagram diagram.now }
-    ensures few { result ≤ length diagram.now.nodes }
+    ensures few { result ≤ length live.old }
     ensures lists { Lists (cells_by C.ring C.of_weight C.of_value) diagram.now.nodes profile.now
         work.old work.new (take result live.new) [] (first_nodes diagram.now.nodes plan.now.plan) }
 {

@@ -35,31 +35,32 @@ pub fn gather(slots: &[Slot], places: &NodeSet, found: &mut [Slot]) -> usize
     n
 }
 
-/// Adds the place to those of each node of the scope.
+/// Adds the place to those of each node of the scope, among the nodes that places are kept for.
 fn note_place(at: &mut [NodeSet], scope: &NodeSet, place: usize)
-    requires at { length at.old ≡ MOST_NODES }
-    requires place { place < MOST_NODES }
-    ensures { (v k : ℕ) (none : NodeSet) → v < MOST_NODES
+    requires { place < MOST_NODES }
+    ensures { (v k : ℕ) (none : NodeSet) → v < length at.old
         → IsIn (slice_index_or at.new v none) k
         ↔ (IsIn (slice_index_or at.old v none) k ⊎ ((k ≡ place) × IsIn scope.now v)) }
 {
     let mut next = 0;
     'nodes: while let Some(v) = scope.first_from(next) {
+        if v >= at.len() {
+            break;
+        }
         at[v].insert(place);
         next = v + 1;
     }
 }
 
-/// No place of any node.
-pub fn no_places() -> [NodeSet; MOST_NODES]
+/// No place of any node, for so many nodes.
+pub fn no_places<const N: usize>() -> [NodeSet; N]
     ensures { IsBlank result }
 {
-    [NodeSet::empty(); MOST_NODES]
+    [NodeSet::empty(); N]
 }
 
 /// Takes the places of all nodes away.
 fn clear(at: &mut [NodeSet])
-    requires at { length at.old ≡ MOST_NODES }
     ensures { IsBlank at.new }
 {
     for v in 0..at.len() {
@@ -69,7 +70,6 @@ fn clear(at: &mut [NodeSet])
 
 /// Notes these slots, where none is noted.
 fn note_slots(at: &mut [NodeSet], slots: &[Slot])
-    requires at { length at.old ≡ MOST_NODES }
     requires blank { IsBlank at.old }
     requires slots { length slots.now ≤ MOST_NODES }
     ensures { Noted at.new slots.now }
@@ -95,7 +95,6 @@ fn numbers_below(count: usize) -> NodeSet
 pub fn all_live(slots: &[Slot], at: &mut [NodeSet], made: usize) -> Places
     requires made { made ≤ length slots.now }
     requires few { made ≤ MOST_NODES }
-    requires at { length at.old ≡ MOST_NODES }
     requires blank { IsBlank at.old }
     ensures made { result.made ≡ made }
     ensures board { IsBoard at.new slots.now result.live result.made }
@@ -113,7 +112,6 @@ fn pack(slots: &mut [Slot], at: &mut [NodeSet], places: Places, spare: &mut [Slo
     requires board { IsBoard at.old slots.old places.live places.made }
     requires made { places.made ≤ length slots.old }
     requires slots { length slots.old ≤ MOST_NODES }
-    requires at { length at.old ≡ MOST_NODES }
     requires spare { length spare.old ≡ length slots.old }
     ensures board { IsBoard at.new slots.new result.live result.made }
     ensures made { result.made ≡ length (live_slots places.live places.made slots.old) }
@@ -140,7 +138,6 @@ pub fn put_slot(
     requires made { places.made ≤ length slots.old }
     requires few { length (live_slots places.live places.made slots.old) < length slots.old }
     requires slots { length slots.old ≤ MOST_NODES }
-    requires at { length at.old ≡ MOST_NODES }
     requires spare { length spare.old ≡ length slots.old }
     ensures board { IsBoard at.new slots.new result.live result.made }
     ensures made { result.made ≤ length slots.old }
@@ -160,7 +157,6 @@ fn put_behind(slots: &mut [Slot], at: &mut [NodeSet], places: Places, slot: &Slo
     requires board { IsBoard at.old slots.old places.live places.made }
     requires made { places.made < length slots.old }
     requires slots { length slots.old ≤ MOST_NODES }
-    requires at { length at.old ≡ MOST_NODES }
     ensures board { IsBoard at.new slots.new result.live result.made }
     ensures made { result.made ≡ places.made + 1 }
     ensures live { live_slots result.live result.made slots.new
@@ -178,8 +174,7 @@ fn put_behind(slots: &mut [Slot], at: &mut [NodeSet], places: Places, slot: &Slo
 
 /// The live slots that hold the node, as places.
 pub fn places_of(at: &[NodeSet], places: &Places, node: usize) -> NodeSet
-    requires at { length at.now ≡ MOST_NODES }
-    requires node { node < MOST_NODES }
+    requires { node < length at.now }
     ensures { (k : ℕ) (none : NodeSet) → IsIn result k
         ↔ (IsIn places.now.live k × IsIn (slice_index_or at.now node none) k) }
 {

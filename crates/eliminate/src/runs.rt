@@ -9,8 +9,8 @@ ghost use Rattle.node_sets.specs.declared.sets.TheConstants.{MOST_NODES};
 ghost use Rattle.factor_core.specs.Operations.{cells_by};
 ghost use Rattle.size_precheck.specs.Sizes.{CanBePlanned, IsMade};
 ghost use Rattle.eliminate.specs.Results.{plan_total, SumsPlan};
-ghost use Rattle.eliminate.specs.Places.{live_slots, IsBoard};
-ghost use Rattle.eliminate.specs.Steps.{CanJoinOut, GiveWay};
+ghost use Rattle.eliminate.specs.Places.{live_slots, IsBlank, IsBoard};
+ghost use Rattle.eliminate.specs.Steps.{first_nodes, CanJoinOut, GiveWay};
 
 use crate::firsts::first_tables;
 use crate::lists::{before, blank_slot};
@@ -21,8 +21,12 @@ use maid_model::{Diagram, Profile};
 use node_sets::{MOST_NODES, NodeSet};
 use size_precheck::Plan;
 
-/// Up to how many nodes short lists of slots do, which are blanked sooner.
-const FEW: usize = 64;
+/// Up to how many nodes shorter lists do, which are blanked sooner.
+pub const FEW: usize = 64;
+
+/// How many nodes at most a short plan keeps, and how many it eliminates. It has a table at most for each of these and
+/// one for its utility, and makes one at each step.
+pub const SHORT: usize = 10;
 
 /// Ends all tables of the workspace: no cell is left, and there is as much room as after `reserve`. It takes no memory.
 pub fn release<C: Cell>(work: &mut Workspace<C>)
@@ -47,9 +51,8 @@ pub fn eliminate<C: Cell>(
     requires board { IsBoard at.old slots.old places.live places.made }
     requires made { places.made ≤ length slots.old }
     requires slots { length slots.old ≤ MOST_NODES }
-    requires at { length at.old ≡ MOST_NODES }
     requires joined { length joined.old ≡ length slots.old }
-    requires node { node < MOST_NODES }
+    requires node { node < length at.old }
     requires join { CanJoinOut C.ring diagram.now.nodes work.old
         (live_slots places.live places.made slots.old) node }
     ensures board { IsBoard at.new slots.new result.live result.made }
@@ -68,17 +71,19 @@ pub fn eliminate<C: Cell>(
     put_slot(slots, at, left, joined, &slot)
 }
 
-/// The run of the plan with these lists to write its slots into. A plan has one table at most for each node, and no step
-/// leaves more than it found.
+/// The run of the plan with these lists to write its places and slots into. No step leaves more slots than it found.
 fn run_with<C: Cell>(
     work: &mut Workspace<C>,
     plan: &Plan,
     diagram: &Diagram,
     profile: &Profile,
+    at: &mut [NodeSet],
     slots: &mut [Slot],
     joined: &mut [Slot],
 ) -> Slot
-    requires nodes { length diagram.now.nodes ≤ length slots.old }
+    requires nodes { length diagram.now.nodes ≤ length at.old }
+    requires blank { IsBlank at.old }
+    requires tables { length (first_nodes diagram.now.nodes plan.now.plan) ≤ length slots.old }
     requires slots { length slots.old ≤ MOST_NODES }
     requires joined { length joined.old ≡ length slots.old }
     requires asked { CanBePlanned diagram.now.nodes plan.now.plan }
@@ -91,19 +96,50 @@ fn run_with<C: Cell>(
         plan.now work.old work.new result }
 {
     let counts = StateCounts::of(diagram);
-    let mut at = no_places();
     let count = first_tables(work, plan, diagram, &counts, profile, slots);
-    let mut places = all_live(slots, &mut at, count);
+    let mut places = all_live(slots, at, count);
     for node in plan.steps() {
-        places = eliminate(
-            work, diagram, &counts, slots, &mut at, joined, places, *node,
-        );
+        places = eliminate(work, diagram, &counts, slots, at, joined, places, *node);
     }
     let count = gather(before(slots, places.made), &places.live, joined);
     work.product(diagram, &counts, before(joined, count))
 }
 
-/// The run of a plan over few nodes, with short lists.
+/// The run of a short plan over few nodes. Its lists have a place for each slot that it makes.
+#[inline(never)]
+fn run_short<C: Cell>(
+    work: &mut Workspace<C>,
+    plan: &Plan,
+    diagram: &Diagram,
+    profile: &Profile,
+) -> Slot
+    requires nodes { length diagram.now.nodes ≤ FEW }
+    requires kept { length plan.now.plan.keep ≤ SHORT }
+    requires steps { length plan.now.steps ≤ SHORT }
+    requires asked { CanBePlanned diagram.now.nodes plan.now.plan }
+    requires made { IsMade diagram.now.nodes plan.now.plan plan.now }
+    requires counted { plan.now.size.cells < COUNT_END }
+    requires room { plan.now.size.cells ≤ work.old.spare }
+    requires profile { IsProfile diagram.now.nodes profile.now }
+    requires fits { 2 * plan_total diagram.now.nodes profile.now plan.now.plan ≤ C.ring.most }
+    ensures { SumsPlan (cells_by C.ring C.of_weight C.of_value) diagram.now.nodes profile.now
+        plan.now work.old work.new result }
+{
+    let mut at: [NodeSet; FEW] = no_places();
+    let mut slots = [blank_slot(); 3 * SHORT + 1];
+    let mut joined = [blank_slot(); 3 * SHORT + 1];
+    run_with(
+        work,
+        plan,
+        diagram,
+        profile,
+        &mut at,
+        &mut slots,
+        &mut joined,
+    )
+}
+
+/// The run of a plan over few nodes.
 #[inline(never)]
 fn run_few<C: Cell>(
     work: &mut Workspace<C>,
@@ -121,9 +157,18 @@ fn run_few<C: Cell>(
     ensures { SumsPlan (cells_by C.ring C.of_weight C.of_value) diagram.now.nodes profile.now
         plan.now work.old work.new result }
 {
+    let mut at: [NodeSet; FEW] = no_places();
     let mut slots = [blank_slot(); FEW];
     let mut joined = [blank_slot(); FEW];
-    run_with(work, plan, diagram, profile, &mut slots, &mut joined)
+    run_with(
+        work,
+        plan,
+        diagram,
+        profile,
+        &mut at,
+        &mut slots,
+        &mut joined,
+    )
 }
 
 /// The run of a plan over any nodes.
@@ -144,9 +189,18 @@ fn run_many<C: Cell>(
     ensures { SumsPlan (cells_by C.ring C.of_weight C.of_value) diagram.now.nodes profile.now
         plan.now work.old work.new result }
 {
+    let mut at: [NodeSet; MOST_NODES] = no_places();
     let mut slots = [blank_slot(); MOST_NODES];
     let mut joined = [blank_slot(); MOST_NODES];
-    run_with(work, plan, diagram, profile, &mut slots, &mut joined)
+    run_with(
+        work,
+        plan,
+        diagram,
+        profile,
+        &mut at,
+        &mut slots,
+        &mut joined,
+    )
 }
 
 /// Runs the plan: makes its first tables, eliminates its nodes in their order, and multiplies the tables that are left
@@ -169,9 +223,11 @@ pub fn run_plan<C: Cell>(
     ensures { SumsPlan (cells_by C.ring C.of_weight C.of_value) diagram.now.nodes profile.now
         plan.now work.old work.new result }
 {
-    if diagram.count() <= FEW {
+    if diagram.count() > FEW {
+        run_many(work, plan, diagram, profile)
+    } else if plan.keep().len() > SHORT || plan.steps().len() > SHORT {
         run_few(work, plan, diagram, profile)
     } else {
-        run_many(work, plan, diagram, profile)
+        run_short(work, plan, diagram, profile)
     }
 }

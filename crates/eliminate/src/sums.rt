@@ -1,6 +1,6 @@
 //! Sums of tables of any nodes, within limits that the caller sets.
 
-ghost use Rattle.std.specs.Prelude.{◌≡◌, ◌↔◌, ℕ, ◌<◌, ◌≤◌, All, [], length, map, take, sum_by, MatchOption, IfSome, None};
+ghost use Rattle.std.specs.Prelude.{◌≡◌, ◌↔◌, ℕ, ◌+◌, ◌*◌, ◌<◌, ◌≤◌, All, [], length, map, take, sum_by, MatchOption, IfSome, None};
 ghost use Rattle.maid_model.specs.declared.limits.TheConstants.{MOST_PLAN_CELLS};
 ghost use Rattle.maid_model.specs.Diagrams.{IsDiagram};
 ghost use Rattle.maid_model.specs.Nodes.{counts_of, states_of};
@@ -11,7 +11,7 @@ ghost use Rattle.plan_sums.specs.Plans.{mass_cells};
 ghost use Rattle.ring_sums.specs.Groups.{StepsFit, StepsHold};
 ghost use Rattle.factor_core.specs.Operations.{cells_by, first_table, NumbersFit};
 ghost use Rattle.eliminate.specs.Limits.{Spends, ListsWithin, scopes_at, step_cells, step_work};
-ghost use Rattle.eliminate.specs.Places.{live_slots, IsBoard};
+ghost use Rattle.eliminate.specs.Places.{live_slots, IsBlank, IsBoard};
 ghost use Rattle.eliminate.specs.Results.{tables_at, SumsTables, Grows, IsTooMuch};
 ghost use Rattle.eliminate.specs.Steps.{first_cells};
 
@@ -19,7 +19,7 @@ use crate::counts::{Limits, count_cells, spend, united_scope};
 use crate::firsts::put_table;
 use crate::lists::{before, blank_slot};
 use crate::places::{Places, all_live, gather, no_places, places_of};
-use crate::runs::eliminate;
+use crate::runs::{FEW, SHORT, eliminate};
 use cell_rings::Cell;
 use factor_core::{Slot, StateCounts, Workspace};
 use maid_model::{Diagram, Kind, Profile};
@@ -55,11 +55,10 @@ fn list_tables<C: Cell>(
     requires counts { counts.now ≡ counts_of diagram.now.nodes }
     requires profile { IsProfile diagram.now.nodes profile.now }
     requires known { All (λ v. v < length diagram.now.nodes) nodes.now }
-    requires few { length nodes.now ≤ MOST_NODES }
     requires numbers { All (NumbersFit C.ring.most diagram.now.nodes profile.now) nodes.now }
     requires small { limits.cells ≤ MOST_PLAN_CELLS }
     requires room { limits.cells ≤ work.old.spare }
-    requires len { length live.old ≡ MOST_NODES }
+    requires len { length nodes.now ≤ length live.old }
     ensures lists { MatchOption result
         (limits.cells
         < sum_by (first_cells (cells_by C.ring C.of_weight C.of_value) diagram.now.nodes
@@ -93,9 +92,8 @@ fn spend_on_step(
     requires board { IsBoard at.now slots.now places.now.live places.now.made }
     requires made { places.now.made ≤ length slots.now }
     requires slots { length slots.now ≤ MOST_NODES }
-    requires at { length at.now ≡ MOST_NODES }
     requires joined { length joined.old ≡ length slots.now }
-    requires node { node < MOST_NODES }
+    requires node { (node < length at.now) × (node < MOST_NODES) }
     ensures { Spends left
         (step_cells diagram.now.nodes node
         (scopes_at (live_slots places.now.live places.now.made slots.now)))
@@ -112,6 +110,151 @@ fn spend_on_step(
         count_cells(diagram, counts, &rest),
         count_cells(diagram, counts, &scope),
         count,
+    )
+}
+
+/// The sum with these lists to write its places and slots into.
+fn sum_with<C: Cell>(
+    work: &mut Workspace<C>,
+    diagram: &Diagram,
+    profile: &Profile,
+    nodes: &[usize],
+    steps: &[usize],
+    limits: Limits,
+    at: &mut [NodeSet],
+    slots: &mut [Slot],
+    joined: &mut [Slot],
+) -> Option<Slot>
+    requires at { length diagram.now.nodes ≤ length at.old }
+    requires blank { IsBlank at.old }
+    requires tables { length nodes.now ≤ length slots.old }
+    requires slots { length slots.old ≤ MOST_NODES }
+    requires joined { length joined.old ≡ length slots.old }
+    requires profile { IsProfile diagram.now.nodes profile.now }
+    requires known { All (λ v. v < length diagram.now.nodes) nodes.now }
+    requires numbers { All (NumbersFit C.ring.most diagram.now.nodes profile.now) nodes.now }
+    requires steps { All (λ v. v < length diagram.now.nodes) steps.now }
+    requires holds { StepsHold C.ring (states_of diagram.now.nodes) steps.now
+        (tables_at (cells_by C.ring C.of_weight C.of_value) diagram.now.nodes profile.now
+        nodes.now) }
+    requires fits { StepsFit C.ring C.ring.size (states_of diagram.now.nodes) C.ring.most steps.now
+        (tables_at (cells_by C.ring C.of_weight C.of_value) diagram.now.nodes profile.now
+        nodes.now) }
+    requires small { limits.cells ≤ MOST_PLAN_CELLS }
+    requires room { limits.cells ≤ work.old.spare }
+    ensures some { IfSome result (SumsTables (cells_by C.ring C.of_weight C.of_value)
+        diagram.now.nodes profile.now nodes.now steps.now work.new) }
+    ensures none { (result ≡ None)
+        ↔ IsTooMuch (cells_by C.ring C.of_weight C.of_value) diagram.now.nodes profile.now
+        nodes.now steps.now limits }
+    ensures grows { Grows C.ring diagram.now.nodes work.old work.new }
+{
+    let counts = StateCounts::of(diagram);
+    let mut left = list_tables(work, diagram, &counts, profile, nodes, slots, limits)?;
+    let mut places = all_live(slots, at, nodes.len());
+    for node in steps {
+        left = spend_on_step(diagram, &counts, slots, at, joined, &places, *node, left)?;
+        places = eliminate(work, diagram, &counts, slots, at, joined, places, *node);
+    }
+    let count = gather(before(slots, places.made), &places.live, joined);
+    let last = before(joined, count);
+    let cells = count_cells(diagram, &counts, &united_scope(last));
+    spend(left, cells, cells, count)?;
+    Some(work.product(diagram, &counts, last))
+}
+
+/// The sum of few tables by few steps, over few nodes. Its lists have a place for each slot that it makes.
+#[inline(never)]
+fn sum_few<C: Cell>(
+    work: &mut Workspace<C>,
+    diagram: &Diagram,
+    profile: &Profile,
+    nodes: &[usize],
+    steps: &[usize],
+    limits: Limits,
+) -> Option<Slot>
+    requires at { length diagram.now.nodes ≤ FEW }
+    requires tables { length nodes.now ≤ 2 * SHORT + 1 }
+    requires short { length steps.now ≤ SHORT }
+    requires profile { IsProfile diagram.now.nodes profile.now }
+    requires known { All (λ v. v < length diagram.now.nodes) nodes.now }
+    requires numbers { All (NumbersFit C.ring.most diagram.now.nodes profile.now) nodes.now }
+    requires steps { All (λ v. v < length diagram.now.nodes) steps.now }
+    requires holds { StepsHold C.ring (states_of diagram.now.nodes) steps.now
+        (tables_at (cells_by C.ring C.of_weight C.of_value) diagram.now.nodes profile.now
+        nodes.now) }
+    requires fits { StepsFit C.ring C.ring.size (states_of diagram.now.nodes) C.ring.most steps.now
+        (tables_at (cells_by C.ring C.of_weight C.of_value) diagram.now.nodes profile.now
+        nodes.now) }
+    requires small { limits.cells ≤ MOST_PLAN_CELLS }
+    requires room { limits.cells ≤ work.old.spare }
+    ensures some { IfSome result (SumsTables (cells_by C.ring C.of_weight C.of_value)
+        diagram.now.nodes profile.now nodes.now steps.now work.new) }
+    ensures none { (result ≡ None)
+        ↔ IsTooMuch (cells_by C.ring C.of_weight C.of_value) diagram.now.nodes profile.now
+        nodes.now steps.now limits }
+    ensures grows { Grows C.ring diagram.now.nodes work.old work.new }
+{
+    let mut at: [NodeSet; FEW] = no_places();
+    let mut slots = [blank_slot(); 3 * SHORT + 1];
+    let mut joined = [blank_slot(); 3 * SHORT + 1];
+    sum_with(
+        work,
+        diagram,
+        profile,
+        nodes,
+        steps,
+        limits,
+        &mut at,
+        &mut slots,
+        &mut joined,
+    )
+}
+
+/// The sum of any tables.
+#[inline(never)]
+fn sum_many<C: Cell>(
+    work: &mut Workspace<C>,
+    diagram: &Diagram,
+    profile: &Profile,
+    nodes: &[usize],
+    steps: &[usize],
+    limits: Limits,
+) -> Option<Slot>
+    requires at { length diagram.now.nodes ≤ MOST_NODES }
+    requires tables { length nodes.now ≤ MOST_NODES }
+    requires profile { IsProfile diagram.now.nodes profile.now }
+    requires known { All (λ v. v < length diagram.now.nodes) nodes.now }
+    requires numbers { All (NumbersFit C.ring.most diagram.now.nodes profile.now) nodes.now }
+    requires steps { All (λ v. v < length diagram.now.nodes) steps.now }
+    requires holds { StepsHold C.ring (states_of diagram.now.nodes) steps.now
+        (tables_at (cells_by C.ring C.of_weight C.of_value) diagram.now.nodes profile.now
+        nodes.now) }
+    requires fits { StepsFit C.ring C.ring.size (states_of diagram.now.nodes) C.ring.most steps.now
+        (tables_at (cells_by C.ring C.of_weight C.of_value) diagram.now.nodes profile.now
+        nodes.now) }
+    requires small { limits.cells ≤ MOST_PLAN_CELLS }
+    requires room { limits.cells ≤ work.old.spare }
+    ensures some { IfSome result (SumsTables (cells_by C.ring C.of_weight C.of_value)
+        diagram.now.nodes profile.now nodes.now steps.now work.new) }
+    ensures none { (result ≡ None)
+        ↔ IsTooMuch (cells_by C.ring C.of_weight C.of_value) diagram.now.nodes profile.now
+        nodes.now steps.now limits }
+    ensures grows { Grows C.ring diagram.now.nodes work.old work.new }
+{
+    let mut at: [NodeSet; MOST_NODES] = no_places();
+    let mut slots = [blank_slot(); MOST_NODES];
+    let mut joined = [blank_slot(); MOST_NODES];
+    sum_with(
+        work,
+        diagram,
+        profile,
+        nodes,
+        steps,
+        limits,
+        &mut at,
+        &mut slots,
+        &mut joined,
     )
 }
 
@@ -147,37 +290,9 @@ pub fn sum_tables<C: Cell>(
         nodes.now steps.now limits }
     ensures grows { Grows C.ring diagram.now.nodes work.old work.new }
 {
-    let counts = StateCounts::of(diagram);
-    let mut slots = [blank_slot(); MOST_NODES];
-    let mut joined = [blank_slot(); MOST_NODES];
-    let mut at = no_places();
-    let mut left = list_tables(work, diagram, &counts, profile, nodes, &mut slots, limits)?;
-    let mut places = all_live(&slots, &mut at, nodes.len());
-    for node in steps {
-        left = spend_on_step(
-            diagram,
-            &counts,
-            &slots,
-            &at,
-            &mut joined,
-            &places,
-            *node,
-            left,
-        )?;
-        places = eliminate(
-            work,
-            diagram,
-            &counts,
-            &mut slots,
-            &mut at,
-            &mut joined,
-            places,
-            *node,
-        );
+    if diagram.count() > FEW || nodes.len() > 2 * SHORT + 1 || steps.len() > SHORT {
+        sum_many(work, diagram, profile, nodes, steps, limits)
+    } else {
+        sum_few(work, diagram, profile, nodes, steps, limits)
     }
-    let count = gather(before(&slots, places.made), &places.live, &mut joined);
-    let last = before(&joined, count);
-    let cells = count_cells(diagram, &counts, &united_scope(last));
-    spend(left, cells, cells, count)?;
-    Some(work.product(diagram, &counts, last))
 }

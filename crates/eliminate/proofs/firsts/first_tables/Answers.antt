@@ -5,7 +5,7 @@ use Rattle.maid_model.specs.Nodes.{numbers_of}
 use Rattle.factor_core.specs.Operations.{cells_by}
 use Rattle.eliminate.specs.Steps.{Lists, first_nodes}
 use Rattle.eliminate.proofs.Numbers.{ruled_fit, value_fit}
-use Rattle.eliminate.proofs.Ruled.{ruled_are, ruled_member, ruled_plain, few_nodes, step_known}
+use Rattle.eliminate.proofs.Ruled.{ruled_are, ruled_member, ruled_plain, step_known}
 use Rattle.eliminate.proofs.Starting.{from_node, lists_none, lists_more, lists_room, held_next, other_next, last_next, utility_next, next_place}
 use Rattle.eliminate.proofs.firsts.first_tables.Goals as goal
 use Rattle.eliminate.proofs.firsts.first_tables.Goals.{then-holds, else-holds}
@@ -40,13 +40,11 @@ put_table-count-requires-clause-count g c =
     let nodes = c.args.diagram.now.nodes in
     let plan = c.args.plan.now.plan in
     let cells = cells_by g.C.Cell.ring g.C.Cell.of_weight g.C.Cell.of_value in
-    let few = few_nodes nodes plan c.requires.asked.is_plan c.requires.asked.known in
-    let limit = c.count-nodes.ensures.diagram.limits.nodes in
     let l = next_place cells nodes c.args.profile.now c.args.work.now c.loop-v.work c.loop-v.live c.loop-v.count c.loop-v.v _ (first_nodes nodes plan)
     (held_next cells nodes c.args.profile.now (holds c.ruled_nodes-ruled.result) (option_to_list plan.utility) (first_nodes nodes plan) c.count-nodes.result
     c.args.work.now c.loop-v.work (take c.loop-v.count c.loop-v.live) c.loop-v.v c.loop-v-test.true (sym c.holds.ensures ∙ c.if-holds.true) c.loop-v.invariant.0)
-    (omega (arith, c.loop-v.invariant.1, c.loop-v.auto.live, c.requires.len)) in
-    omega (arith, l, few, c.loop-v.auto.live, c.requires.len)
+    c.loop-v.invariant.1 in
+    omega (arith, l, c.loop-v.auto.live, c.requires.tables)
 
 pub put_table-count-requires-clause-fit : goal.put_table-count-requires-clause-fit
 put_table-count-requires-clause-fit g c =
@@ -71,8 +69,6 @@ loop-v-preserved g c =
     let nodes = c.args.diagram.now.nodes in
     let plan = c.args.plan.now.plan in
     let cells = cells_by g.C.Cell.ring g.C.Cell.of_weight g.C.Cell.of_value in
-    let few = few_nodes nodes plan c.requires.asked.is_plan c.requires.asked.known in
-    let limit = c.count-nodes.ensures.diagram.limits.nodes in
     elim c.if-holds.branch [
       | then-holds w ↦ rw (w.work-is, w.live-is, w.count-is) (
         lists_more cells nodes c.args.profile.now c.args.work.now c.loop-v.work w.put_table-count.new.work (take c.loop-v.count c.loop-v.live) (take w.put_table-count.result w.put_table-count.new.live) c.loop-v.v _ (first_nodes nodes plan)
@@ -82,8 +78,8 @@ loop-v-preserved g c =
         (let l = next_place cells nodes c.args.profile.now c.args.work.now c.loop-v.work c.loop-v.live c.loop-v.count c.loop-v.v _ (first_nodes nodes plan)
             (held_next cells nodes c.args.profile.now (holds c.ruled_nodes-ruled.result) (option_to_list plan.utility) (first_nodes nodes plan) c.count-nodes.result
             c.args.work.now c.loop-v.work (take c.loop-v.count c.loop-v.live) c.loop-v.v c.loop-v-test.true (sym c.holds.ensures ∙ w.if-holds.true) c.loop-v.invariant.0)
-            (omega (arith, c.loop-v.invariant.1, c.loop-v.auto.live, c.requires.len)) in
-            omega (arith, l, few, w.put_table-count.ensures.count)),
+            c.loop-v.invariant.1 in
+            omega (arith, l, c.loop-v.auto.live, w.put_table-count.auto.live, c.requires.tables, w.put_table-count.ensures.count)),
       )
       | else-holds w ↦ rw (w.work-is, w.live-is, w.count-is) (
         other_next cells nodes c.args.profile.now (holds c.ruled_nodes-ruled.result) (option_to_list plan.utility) (first_nodes nodes plan) c.count-nodes.result
@@ -97,14 +93,12 @@ put_table-requires-clause-count g c =
     let nodes = c.args.diagram.now.nodes in
     let plan = c.args.plan.now.plan in
     let cells = cells_by g.C.Cell.ring g.C.Cell.of_weight g.C.Cell.of_value in
-    let few = few_nodes nodes plan c.requires.asked.is_plan c.requires.asked.known in
-    let limit = c.count-nodes.ensures.diagram.limits.nodes in
     let l = next_place cells nodes c.args.profile.now c.args.work.now c.loop-v.work c.loop-v.live c.loop-v.count c.in-Some.u [] (first_nodes nodes plan)
     (utility_next cells nodes c.args.profile.now plan.utility c.in-Some.u (first_nodes nodes plan) c.args.work.now c.loop-v.work (take c.loop-v.count c.loop-v.live) (sym c.utility.ensures ∙ c.in-Some.is)
     (last_next cells nodes c.args.profile.now (holds c.ruled_nodes-ruled.result) (option_to_list plan.utility) (first_nodes nodes plan) c.count-nodes.result
     c.args.work.now c.loop-v.work (take c.loop-v.count c.loop-v.live) c.loop-v.v c.loop-v-test.false c.loop-v.invariant.0))
-    (omega (arith, c.loop-v.invariant.1, c.loop-v.auto.live, c.requires.len)) in
-    omega (arith, l, few, c.loop-v.auto.live, c.requires.len)
+    c.loop-v.invariant.1 in
+    omega (arith, l, c.loop-v.auto.live, c.requires.tables)
 
 pub put_table-requires-clause-fit : goal.put_table-requires-clause-fit
 put_table-requires-clause-fit g c =
@@ -129,11 +123,9 @@ returns-in-Some-clause-few g c =
     let nodes = c.args.diagram.now.nodes in
     let plan = c.args.plan.now.plan in
     let cells = cells_by g.C.Cell.ring g.C.Cell.of_weight g.C.Cell.of_value in
-    let few = few_nodes nodes plan c.requires.asked.is_plan c.requires.asked.known in
-    let limit = c.count-nodes.ensures.diagram.limits.nodes in
     let l = next_place cells nodes c.args.profile.now c.args.work.now c.loop-v.work c.loop-v.live c.loop-v.count c.in-Some.u [] (first_nodes nodes plan)
     (utility_next cells nodes c.args.profile.now plan.utility c.in-Some.u (first_nodes nodes plan) c.args.work.now c.loop-v.work (take c.loop-v.count c.loop-v.live) (sym c.utility.ensures ∙ c.in-Some.is)
     (last_next cells nodes c.args.profile.now (holds c.ruled_nodes-ruled.result) (option_to_list plan.utility) (first_nodes nodes plan) c.count-nodes.result
     c.args.work.now c.loop-v.work (take c.loop-v.count c.loop-v.live) c.loop-v.v c.loop-v-test.false c.loop-v.invariant.0))
-    (omega (arith, c.loop-v.invariant.1, c.loop-v.auto.live, c.requires.len)) in
-    omega (arith, l, few, c.put_table.ensures.count)
+    c.loop-v.invariant.1 in
+    omega (arith, l, c.loop-v.auto.live, c.requires.tables, c.put_table.ensures.count)

@@ -6,7 +6,7 @@ pub returns-clause-board : goal.returns-clause-board
 returns-clause-board c =
     let room : c.args.places.made < length c.args.slots.now = omega (arith, c.requires.made, c.requires.slots) in
     record {
-      noted = λ v k none l. noted_behind c.args.at.now c.note_place.new.at c.args.slots.now c.args.slot.now c.args.places.made room c.requires.board.noted c.note_place.ensures v k none l;
+      noted = λ v k none l. noted_behind c.args.at.now c.note_place.new.at c.args.slots.now c.args.slot.now c.args.places.made c.note_place.auto.at room c.requires.board.noted c.note_place.ensures v k none l;
       within = within_more c.args.places.live c.insert.new.self c.args.places.made c.requires.board.within c.insert.ensures.all;
     }
 

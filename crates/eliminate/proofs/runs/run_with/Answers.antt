@@ -32,9 +32,9 @@ loop-node-init g c =
           (subst (λ (l : List Slot). Lists cells c.args.diagram.now.nodes c.args.profile.now c.args.work.now c.first_tables-count.new.work l [] (first_nodes c.args.diagram.now.nodes c.args.plan.now.plan))
           (sym c.all_live-places.ensures.live) c.first_tables-count.ensures.lists),
       c.all_live-places.ensures.board,
-      omega (arith, c.all_live-places.ensures.made, c.first_tables-count.ensures.few, c.first_tables-count.auto.live, c.requires.nodes),
+      omega (arith, c.all_live-places.ensures.made, c.first_tables-count.ensures.few, c.first_tables-count.auto.live),
       c.first_tables-count.auto.live,
-      c.all_live-places.auto.at ∙ (let long : length c.no_places-at.result ≡ 256 = search rules in long),
+      c.all_live-places.auto.at,
       refl,
     )
 
@@ -42,8 +42,7 @@ pub eliminate-places-requires-clause-node : goal.eliminate-places-requires-claus
 eliminate-places-requires-clause-node g c =
     let within : c.loop-node.node-index < length c.args.plan.now.steps = subst (λ (l : List ℕ). c.loop-node.node-index < length l) c.steps-node-items.ensures c.loop-node-test.true in
     let known = step_known c.args.diagram.now.nodes c.args.plan.now.plan c.args.plan.now.steps c.requires.made.order (slice_index c.args.plan.now.steps c.loop-node.node-index) (c.loop-node.node-index, within, get_or_default c.args.plan.now.steps c.loop-node.node-index _ 0 within) in
-    let limit = c.first_tables-count.ensures.diagram.limits.nodes in
-    subst (λ (l : List ℕ). slice_index l c.loop-node.node-index < 256) (sym c.steps-node-items.ensures) (omega arith)
+    subst (λ (l : List ℕ). slice_index l c.loop-node.node-index < length c.loop-node.at) (sym c.steps-node-items.ensures) (omega (arith, known, c.requires.nodes, c.loop-node.invariant.4))
 
 pub eliminate-places-requires-clause-join : goal.eliminate-places-requires-clause-join
 eliminate-places-requires-clause-join g c =

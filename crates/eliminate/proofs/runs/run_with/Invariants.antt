@@ -13,5 +13,5 @@ invariant-loop-node g l =
     × IsBoard l.at l.slots l.places.live l.places.made
     × (l.places.made ≤ length l.slots)
     × (length l.slots ≡ length l.fn.slots)
-    × (length l.at ≡ 256)
+    × (length l.at ≡ length l.fn.at)
     × (length l.joined ≡ length l.fn.joined)

@@ -9,7 +9,7 @@ use Rattle.eliminate.proofs.sums.list_tables.Goals as goal
 pub loop-node-init : goal.loop-node-init
 loop-node-init g c =
     let cells = cells_by g.C.Cell.ring g.C.Cell.of_weight g.C.Cell.of_value in
-    (within_none cells c.args.diagram.now.nodes c.args.profile.now c.args.work.now c.args.nodes.now c.args.limits, refl, c.requires.len)
+    (within_none cells c.args.diagram.now.nodes c.args.profile.now c.args.work.now c.args.nodes.now c.args.limits, refl, refl)
 
 pub returns-in_err-left-clause-lists : goal.returns-in_err-left-clause-lists
 returns-in_err-left-clause-lists g c =

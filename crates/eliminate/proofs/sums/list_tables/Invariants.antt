@@ -7,4 +7,4 @@ abbrev pub invariant-loop-node : goal.invariant-loop-node
 invariant-loop-node g l =
     ListsWithin (cells_by g.C.Cell.ring g.C.Cell.of_weight g.C.Cell.of_value) l.diagram.nodes l.profile l.fn.work l.work (take l.count l.live) (drop l.node-index l.nodes) l.nodes l.fn.limits l.left
     × (l.count ≡ l.node-index)
-    × (length l.live ≡ 256)
+    × (length l.live ≡ length l.fn.live)

@@ -22,7 +22,7 @@ returns c =
     let slots = live_slots places.live places.made c.args.slots.now in
     let list = c.before-3.result.now in
     let is : list ≡ slots_with c.args.node slots = c.before-3.ensures ∙ c.gather-count.ensures.list ∙ ap (slots_from (holds c.places_of-held.result) 0) c.before-2.ensures
-    ∙ held_slots c.args.at.now places.live c.places_of-held.result places.made c.args.node c.args.slots.now c.requires.node c.requires.board.noted c.places_of-held.ensures in
+    ∙ held_slots c.args.at.now places.live c.places_of-held.result places.made c.args.node c.args.slots.now c.requires.node.0 c.requires.board.noted c.places_of-held.ensures in
     let count : length list ≡ c.gather-count.result = omega (arith, ap length c.before-3.ensures, length-take-le c.gather-count.result c.gather-count.new.found (omega (arith, c.gather-count.ensures.few, ap length c.before-2.ensures, length-take-le places.made c.args.slots.now (omega (arith, c.requires.made, c.requires.slots)), c.gather-count.auto.found, c.requires.joined, c.requires.made))) in
     let cells : c.count_cells.result ≡ step_cells nodes c.args.node (scopes_at slots) = c.count_cells.ensures ∙ cells_of_step nodes c.args.node slots list is c.united_scope-scope.result c.united_scope-scope.ensures c.remove.new.self c.remove.ensures in
     let work : c.count_cells-2.result * c.gather-count.result ≡ step_work nodes c.args.node (scopes_at slots) =

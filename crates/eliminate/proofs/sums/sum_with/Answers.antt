@@ -12,7 +12,7 @@ use Rattle.eliminate.specs.Limits.{ListsWithin, BetweenWithin}
 use Rattle.eliminate.specs.Places.{slots_from, live_slots}
 use Rattle.eliminate.specs.Results.{tables_at}
 use Rattle.eliminate.proofs.Within.{steps_cells, between_start, step_refused, step_joins, step_on, steps_too_much, end_refused, end_within, end_fits, end_room, ended}
-use Rattle.eliminate.proofs.sums.sum_tables.Goals as goal
+use Rattle.eliminate.proofs.sums.sum_with.Goals as goal
 
 pub loop-node-init : goal.loop-node-init
 loop-node-init g c =
@@ -23,9 +23,9 @@ loop-node-init g c =
           (live_slots c.all_live-places.result.live c.all_live-places.result.made c.list_tables.new.live) c.args.limits c.in_ok-left.left
           (subst (λ (l : List Slot). ListsWithin cells nodes c.args.profile.now c.args.work.now c.list_tables.new.work l [] c.args.nodes.now c.args.limits c.in_ok-left.left) (sym c.all_live-places.ensures.live) lists),
       c.all_live-places.ensures.board,
-      omega (arith, c.all_live-places.ensures.made, c.requires.few),
+      omega (arith, c.all_live-places.ensures.made, c.requires.tables, c.list_tables.auto.live),
       c.list_tables.auto.live,
-      c.all_live-places.auto.at ∙ (let long : length c.no_places-at.result ≡ 256 = search rules in long),
+      c.all_live-places.auto.at,
       refl,
     )
 

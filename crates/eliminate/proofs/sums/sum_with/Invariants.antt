@@ -4,7 +4,7 @@ use Rattle.eliminate.specs.Limits.{BetweenWithin}
 use Rattle.eliminate.specs.Places.{live_slots, IsBoard}
 use Rattle.eliminate.specs.Results.{tables_at}
 use Rattle.eliminate.proofs.Within.{steps_cells}
-use Rattle.eliminate.proofs.sums.sum_tables.Given as goal
+use Rattle.eliminate.proofs.sums.sum_with.Given as goal
 
 abbrev pub invariant-loop-node : goal.invariant-loop-node
 invariant-loop-node g l =
@@ -13,7 +13,7 @@ invariant-loop-node g l =
     (steps_cells (cells_by g.C.Cell.ring g.C.Cell.of_weight g.C.Cell.of_value) g.met.C.Cell.laws l.diagram.nodes l.profile l.nodes l.steps)
     l.fn.limits l.left
     × IsBoard l.at l.slots l.places.live l.places.made
-    × (l.places.made ≤ 256)
-    × (length l.slots ≡ 256)
-    × (length l.at ≡ 256)
-    × (length l.joined ≡ 256)
+    × (l.places.made ≤ length l.slots)
+    × (length l.slots ≡ length l.fn.slots)
+    × (length l.at ≡ length l.fn.at)
+    × (length l.joined ≡ length l.fn.joined)
