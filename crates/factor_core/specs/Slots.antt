@@ -7,8 +7,9 @@ use Rattle.maid_model.specs.Nodes.{states_of, numbers_of, rows_under}
 use Rattle.maid_model.specs.Tables.{row_from}
 use Rattle.cell_rings.specs.Rings.{Ring}
 use Rattle.cell_rings.specs.Sums.{cell_at}
-use Rattle.ring_sums.specs.Tables.{Table, IsSame}
+use Rattle.ring_sums.specs.Tables.{Table, IsSame, sum_out}
 use Rattle.factor_core.specs.declared.slots.Slot.{Slot}
+use Rattle.factor_core.specs.Operations.{product_table}
 
 -- a workspace: the cells of its tables one after another, and how many cells more it has room for
 pub record WorkspaceView (C : Type 0) : Type 0 where
@@ -78,3 +79,21 @@ pub record AppendsTable {C : Type 0}
   pub table : IsSame (states_of nodes) (table_of r nodes after.cells slot) t
   pub stays :
       (s : Slot) → IsLive nodes before.cells s → StaysLive r nodes before.cells after.cells s
+
+-- the join of the slots with the node summed out of it
+abbrev pub join_of : {C : Type 0} → Ring C → List NodeView → ℕ → List C → List Slot → Table C
+join_of r nodes v cells slots = sum_out r (states_of nodes) v (tables_of r nodes cells slots)
+
+-- the product of the slots
+abbrev pub product_of_slots : {C : Type 0} → Ring C → List NodeView → List C → List Slot → Table C
+product_of_slots r nodes cells slots = product_table r (tables_of r nodes cells slots)
+
+-- behind the used cells there is room for the table
+abbrev pub HasRoomBehind : {C : Type 0} → List NodeView → List C → ℕ → Table C → Type 0
+HasRoomBehind nodes all used t = cells_over nodes t.holds ≤ (space all used).spare
+
+-- behind the used cells the table was appended, and the slot is its
+abbrev pub AppendsBehind : {C : Type 0}
+    → Ring C → List NodeView → List C → List C → ℕ → Slot → Table C → Type 0
+AppendsBehind r nodes before after used slot t =
+    AppendsTable r nodes (space before used) (space after (used + slot.len)) slot t

@@ -94,6 +94,12 @@ abbrev pub join_cell : {C : Type 0} → Ring C → List C → List ℕ → List 
 join_cell r cells counts slots x w = ring_sum r (states_in counts x) (λ s.
     product_at r cells (places_in counts slots (with_state w x s)))
 
+-- the result has the join's cell at each place over the scope
+abbrev pub HasJoin : {C : Type 0}
+    → Ring C → List C → List ℕ → List Slot → ℕ → NodeSet → List C → Type 0
+HasJoin r cells counts slots x scope out = (w : World) → InRange (states_in counts) w
+    → cell_at r out (place_of counts scope w) ≡ join_cell r cells counts slots x w
+
 -- a cell of a slot with x summed out: the sum of its cells over the states of x
 abbrev pub sum_cell : {C : Type 0} → Ring C → List C → List ℕ → Slot → ℕ → World → C
 sum_cell r cells counts slot x w = ring_sum r (states_in counts x) (λ s.
@@ -102,6 +108,12 @@ sum_cell r cells counts slot x w = ring_sum r (states_in counts x) (λ s.
 -- a cell of a product: the product of the slots' cells
 abbrev pub product_cell : {C : Type 0} → Ring C → List C → List ℕ → List Slot → World → C
 product_cell r cells counts slots w = product_at r cells (places_in counts slots w)
+
+-- the result has the product's cell at each place over the scope
+abbrev pub HasProduct : {C : Type 0}
+    → Ring C → List C → List ℕ → List Slot → NodeSet → List C → Type 0
+HasProduct r cells counts slots scope out = (w : World) → InRange (states_in counts) w
+    → cell_at r out (place_of counts scope w) ≡ product_cell r cells counts slots w
 
 -- the slot's nodes are below the count, and its cells lie in the workspace, as many as its scope asks
 pub record LiesIn (counts : List ℕ) (len : ℕ) (s : Slot) : Type 0 where

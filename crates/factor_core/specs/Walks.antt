@@ -19,6 +19,13 @@ total r cells [] strides places at p = if p == at then product_at r cells places
 total r cells (a ∷ rest) strides places at p = ring_sum r a.states (λ s.
     total r cells rest (drop (length places) strides) (shifted s strides places) (at + s * a.out) p)
 
+-- what two walks add to it, one from the places and the other from a step along an axis above, whose strides stand first
+abbrev pub total_of_two :
+    {C : Type 0} → Ring C → List C → List Axis → List ℕ → List ℕ → ℕ → ℕ → C
+total_of_two r cells axes strides places at = λ p.
+    r.plus (total r cells axes (drop (length places) strides) places at p)
+    (total r cells axes (drop (length places) strides) (shifted 1 strides places) at p)
+
 -- the same of sizes
 abbrev pub load : {C : Type 0} → Ring C → List C → List Axis → List ℕ → List ℕ → ℕ → ℕ → ℕ
 load r cells axes strides places at p = total mass_ring (sizes_of r cells) axes strides places at p

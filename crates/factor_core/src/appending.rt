@@ -1,14 +1,12 @@
 //! Tables made behind the first cells of a list.
 
-ghost use Rattle.std.specs.Prelude.{◌≡◌, ◌+◌, ◌<◌, ◌≤◌, All, length, map};
+ghost use Rattle.std.specs.Prelude.{◌≡◌, ◌+◌, ◌<◌, ◌≤◌, All, length};
 ghost use Rattle.maid_model.specs.declared.limits.TheConstants.{MOST_PLAN_CELLS};
-ghost use Rattle.node_sets.specs.Sets.{holds, IsIn};
+ghost use Rattle.node_sets.specs.Sets.{IsIn};
 ghost use Rattle.maid_model.specs.Diagrams.{IsDiagram};
 ghost use Rattle.maid_model.specs.Nodes.{counts_of, states_of};
 ghost use Rattle.ring_sums.specs.Groups.{JoinFits, ProductsFit};
-ghost use Rattle.ring_sums.specs.Tables.{sum_out};
-ghost use Rattle.factor_core.specs.Operations.{product_table};
-ghost use Rattle.factor_core.specs.Slots.{space, cells_over, IsLive, tables_of, AppendsTable};
+ghost use Rattle.factor_core.specs.Slots.{space, IsLive, tables_of, join_of, product_of_slots, HasRoomBehind, AppendsBehind};
 
 use crate::sizes::table_size;
 use crate::slots::{Slot, joined_scope, united_scope};
@@ -35,15 +33,12 @@ pub fn join_behind<C: Cell>(
     requires hold { All (λ s. IsIn s.scope node) slots.now }
     requires fits { JoinFits C.ring.size (states_of diagram.now.nodes) C.ring.most node
         (tables_of C.ring diagram.now.nodes (space all.old used).cells slots.now) }
-    requires room { cells_over diagram.now.nodes (sum_out C.ring (states_of diagram.now.nodes) node
-        (tables_of C.ring diagram.now.nodes (space all.old used).cells slots.now)).holds
-        ≤ (space all.old used).spare }
+    requires room { HasRoomBehind diagram.now.nodes all.old used
+        (join_of C.ring diagram.now.nodes node (space all.old used).cells slots.now) }
     ensures start { result.start ≡ used }
     ensures len { used + result.len ≤ length all.new }
-    ensures table { AppendsTable C.ring diagram.now.nodes (space all.old used)
-        (space all.new (used + result.len)) result
-        (sum_out C.ring (states_of diagram.now.nodes) node (tables_of C.ring diagram.now.nodes
-        (space all.old used).cells slots.now)) }
+    ensures table { AppendsBehind C.ring diagram.now.nodes all.old all.new used result
+        (join_of C.ring diagram.now.nodes node (space all.old used).cells slots.now) }
 {
     let scope = joined_scope(slots, node);
     let len = table_size(counts, &scope);
@@ -71,15 +66,12 @@ pub fn product_behind<C: Cell>(
     requires live { All (IsLive diagram.now.nodes (space all.old used).cells) slots.now }
     requires fits { ProductsFit C.ring.size (states_of diagram.now.nodes) C.ring.most
         (tables_of C.ring diagram.now.nodes (space all.old used).cells slots.now) }
-    requires room { cells_over diagram.now.nodes (product_table C.ring (tables_of C.ring
-        diagram.now.nodes (space all.old used).cells slots.now)).holds
-        ≤ (space all.old used).spare }
+    requires room { HasRoomBehind diagram.now.nodes all.old used
+        (product_of_slots C.ring diagram.now.nodes (space all.old used).cells slots.now) }
     ensures start { result.start ≡ used }
     ensures len { used + result.len ≤ length all.new }
-    ensures table { AppendsTable C.ring diagram.now.nodes (space all.old used)
-        (space all.new (used + result.len)) result
-        (product_table C.ring (tables_of C.ring diagram.now.nodes (space all.old used).cells
-        slots.now)) }
+    ensures table { AppendsBehind C.ring diagram.now.nodes all.old all.new used result
+        (product_of_slots C.ring diagram.now.nodes (space all.old used).cells slots.now) }
 {
     let scope = united_scope(slots);
     let len = table_size(counts, &scope);

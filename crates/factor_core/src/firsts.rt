@@ -9,7 +9,7 @@ ghost use Rattle.maid_model.specs.Tables.{weights_of};
 ghost use Rattle.maid_model.specs.Views.{RuleView};
 ghost use Rattle.plan_sums.specs.Plans.{node_table, utility_table};
 ghost use Rattle.factor_core.specs.Operations.{cells_by, first_table, NumbersFit};
-ghost use Rattle.factor_core.specs.Slots.{space, cells_over, AppendsTable};
+ghost use Rattle.factor_core.specs.Slots.{HasRoomBehind, AppendsBehind};
 
 use crate::orders::push_held;
 use crate::slots::Slot;
@@ -54,14 +54,12 @@ fn chance_table<C: Cell>(
     requires node { v < length diagram.now.nodes }
     requires kind { (node_at diagram.now.nodes v).kind ≡ Kind.Chance }
     requires fit { All (λ z. 2 * nat_abs z ≤ C.ring.most) (node_at diagram.now.nodes v).cells }
-    requires room { cells_over diagram.now.nodes (node_table
-        (cells_by C.ring C.of_weight C.of_value) diagram.now.nodes [] v).holds
-        ≤ (space all.old used).spare }
+    requires room { HasRoomBehind diagram.now.nodes all.old used
+        (node_table (cells_by C.ring C.of_weight C.of_value) diagram.now.nodes [] v) }
     ensures start { result.start ≡ used }
     ensures len { used + result.len ≤ length all.new }
-    ensures table { (p : List RuleView) → AppendsTable C.ring diagram.now.nodes (space all.old used)
-        (space all.new (used + result.len)) result
-        (node_table (cells_by C.ring C.of_weight C.of_value) diagram.now.nodes p v) }
+    ensures table { (p : List RuleView) → AppendsBehind C.ring diagram.now.nodes all.old all.new
+        used result (node_table (cells_by C.ring C.of_weight C.of_value) diagram.now.nodes p v) }
 {
     let mut list = [0; MOST_PARENTS + 1];
     let n = list_family(&mut list, diagram.parents(v), true, v);
@@ -86,14 +84,12 @@ fn rule_table<C: Cell>(
     requires profile { IsProfile diagram.now.nodes profile.now }
     requires node { IsDecision diagram.now.nodes v }
     requires fit { All (λ w. 2 * w ≤ C.ring.most) (weights_of profile.now v) }
-    requires room { cells_over diagram.now.nodes (node_table
-        (cells_by C.ring C.of_weight C.of_value) diagram.now.nodes profile.now v).holds
-        ≤ (space all.old used).spare }
+    requires room { HasRoomBehind diagram.now.nodes all.old used (node_table
+        (cells_by C.ring C.of_weight C.of_value) diagram.now.nodes profile.now v) }
     ensures start { result.start ≡ used }
     ensures len { used + result.len ≤ length all.new }
-    ensures table { AppendsTable C.ring diagram.now.nodes (space all.old used)
-        (space all.new (used + result.len)) result
-        (node_table (cells_by C.ring C.of_weight C.of_value) diagram.now.nodes profile.now v) }
+    ensures table { AppendsBehind C.ring diagram.now.nodes all.old all.new used result (node_table
+        (cells_by C.ring C.of_weight C.of_value) diagram.now.nodes profile.now v) }
 {
     let mut list = [0; MOST_PARENTS + 1];
     let n = list_family(&mut list, diagram.parents(v), true, v);
@@ -117,13 +113,11 @@ fn value_table<C: Cell>(
     requires node { v < length diagram.now.nodes }
     requires kind { (node_at diagram.now.nodes v).kind ≡ Kind.Utility }
     requires fit { All (λ z. 2 * nat_abs z ≤ C.ring.most) (node_at diagram.now.nodes v).cells }
-    requires room { cells_over diagram.now.nodes (utility_table
-        (cells_by C.ring C.of_weight C.of_value) diagram.now.nodes v).holds
-        ≤ (space all.old used).spare }
+    requires room { HasRoomBehind diagram.now.nodes all.old used
+        (utility_table (cells_by C.ring C.of_weight C.of_value) diagram.now.nodes v) }
     ensures start { result.start ≡ used }
     ensures len { used + result.len ≤ length all.new }
-    ensures table { AppendsTable C.ring diagram.now.nodes (space all.old used)
-        (space all.new (used + result.len)) result
+    ensures table { AppendsBehind C.ring diagram.now.nodes all.old all.new used result
         (utility_table (cells_by C.ring C.of_weight C.of_value) diagram.now.nodes v) }
 {
     let source = ValueCells {
@@ -147,13 +141,11 @@ pub fn table_behind<C: Cell>(
     requires profile { IsProfile diagram.now.nodes profile.now }
     requires node { v < length diagram.now.nodes }
     requires fit { NumbersFit C.ring.most diagram.now.nodes profile.now v }
-    requires room { cells_over diagram.now.nodes (first_table
-        (cells_by C.ring C.of_weight C.of_value) diagram.now.nodes profile.now v).holds
-        ≤ (space all.old used).spare }
+    requires room { HasRoomBehind diagram.now.nodes all.old used (first_table
+        (cells_by C.ring C.of_weight C.of_value) diagram.now.nodes profile.now v) }
     ensures start { result.start ≡ used }
     ensures len { used + result.len ≤ length all.new }
-    ensures table { AppendsTable C.ring diagram.now.nodes (space all.old used)
-        (space all.new (used + result.len)) result
+    ensures table { AppendsBehind C.ring diagram.now.nodes all.old all.new used result
         (first_table (cells_by C.ring C.of_weight C.of_value) diagram.now.nodes profile.now v) }
 {
     match diagram.kind(v) {

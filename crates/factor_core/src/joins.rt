@@ -1,10 +1,8 @@
 //! Joins of slots, with a node summed out, as walks.
 
-ghost use Rattle.std.specs.Prelude.{◌≡◌, ◌≤◌, ◌<◌, ◌+◌, ◌*◌, ℕ, length};
-ghost use Rattle.cell_rings.specs.Sums.{cell_at};
+ghost use Rattle.std.specs.Prelude.{◌≤◌, ◌<◌, ◌+◌, ◌*◌, length};
 ghost use Rattle.node_sets.specs.Sets.{holds};
-ghost use Rattle.finite_sums.specs.Sums.{InRange};
-ghost use Rattle.factor_core.specs.Tables.{listed, CanJoin, states_in, place_of, join_cell};
+ghost use Rattle.factor_core.specs.Tables.{listed, CanJoin, HasJoin};
 
 use crate::narrow::find_narrow;
 use crate::orders::{count_nodes, insert_node, list_nodes, summed_place};
@@ -34,9 +32,7 @@ fn join_in<C: Cell>(
         * length slots.now ≤ length strides.old }
     requires places { length slots.now ≤ length places.old }
     requires can { CanJoin C.ring cells.now counts.now slots.now node scope.now out.old }
-    ensures { (w : ℕ → ℕ) → InRange (states_in counts.now) w
-        → cell_at C.ring out.new (place_of counts.now scope.now w)
-        ≡ join_cell C.ring cells.now counts.now slots.now node w }
+    ensures { HasJoin C.ring cells.now counts.now slots.now node scope.now out.new }
 {
     let kept = list_nodes(order, counts.len(), scope);
     let at = summed_place(counts, order, kept, slots, node);
@@ -69,9 +65,7 @@ fn join_small<C: Cell>(
     requires strides { (length (listed (holds scope.now) 0 (length counts.now)) + 1)
         * length slots.now ≤ 64 }
     requires can { CanJoin C.ring cells.now counts.now slots.now node scope.now out.old }
-    ensures { (w : ℕ → ℕ) → InRange (states_in counts.now) w
-        → cell_at C.ring out.new (place_of counts.now scope.now w)
-        ≡ join_cell C.ring cells.now counts.now slots.now node w }
+    ensures { HasJoin C.ring cells.now counts.now slots.now node scope.now out.new }
 {
     let mut order = [0; 16];
     let mut axes = [Axis { states: 1, out: 0 }; 16];
@@ -106,9 +100,7 @@ fn join_some<C: Cell>(
     requires strides { (length (listed (holds scope.now) 0 (length counts.now)) + 1)
         * length slots.now ≤ 1028 }
     requires can { CanJoin C.ring cells.now counts.now slots.now node scope.now out.old }
-    ensures { (w : ℕ → ℕ) → InRange (states_in counts.now) w
-        → cell_at C.ring out.new (place_of counts.now scope.now w)
-        ≡ join_cell C.ring cells.now counts.now slots.now node w }
+    ensures { HasJoin C.ring cells.now counts.now slots.now node scope.now out.new }
 {
     let mut order = [0; 257];
     let mut axes = [Axis { states: 1, out: 0 }; 257];
@@ -143,9 +135,7 @@ fn join_many<C: Cell>(
     requires strides { (length (listed (holds scope.now) 0 (length counts.now)) + 1)
         * length slots.now ≤ 65792 }
     requires can { CanJoin C.ring cells.now counts.now slots.now node scope.now out.old }
-    ensures { (w : ℕ → ℕ) → InRange (states_in counts.now) w
-        → cell_at C.ring out.new (place_of counts.now scope.now w)
-        ≡ join_cell C.ring cells.now counts.now slots.now node w }
+    ensures { HasJoin C.ring cells.now counts.now slots.now node scope.now out.new }
 {
     let mut order = [0; 257];
     let mut axes = [Axis { states: 1, out: 0 }; 257];
@@ -177,9 +167,7 @@ pub fn join_into<C: Cell>(
 )
     requires few { length slots.now ≤ 256 }
     requires can { CanJoin C.ring cells.now counts.now slots.now node scope.now out.old }
-    ensures { (w : ℕ → ℕ) → InRange (states_in counts.now) w
-        → cell_at C.ring out.new (place_of counts.now scope.now w)
-        ≡ join_cell C.ring cells.now counts.now slots.now node w }
+    ensures { HasJoin C.ring cells.now counts.now slots.now node scope.now out.new }
 {
     let n = count_nodes(counts.len(), scope);
     let size = (n + 1) * slots.len();

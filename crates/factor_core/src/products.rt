@@ -1,10 +1,8 @@
 //! Products of slots as walks.
 
-ghost use Rattle.std.specs.Prelude.{◌≡◌, ◌≤◌, ◌<◌, ◌+◌, ◌*◌, ℕ, length};
-ghost use Rattle.cell_rings.specs.Sums.{cell_at};
+ghost use Rattle.std.specs.Prelude.{◌≤◌, ◌<◌, ◌+◌, ◌*◌, length};
 ghost use Rattle.node_sets.specs.Sets.{holds};
-ghost use Rattle.finite_sums.specs.Sums.{InRange};
-ghost use Rattle.factor_core.specs.Tables.{listed, CanMultiply, states_in, place_of, product_cell};
+ghost use Rattle.factor_core.specs.Tables.{listed, CanMultiply, HasProduct};
 
 use crate::narrow::Narrow;
 use crate::orders::{count_nodes, list_nodes};
@@ -33,9 +31,7 @@ fn multiply_in<C: Cell>(
         * length slots.now ≤ length strides.old }
     requires places { length slots.now ≤ length places.old }
     requires can { CanMultiply C.ring cells.now counts.now slots.now scope.now out.old }
-    ensures { (w : ℕ → ℕ) → InRange (states_in counts.now) w
-        → cell_at C.ring out.new (place_of counts.now scope.now w)
-        ≡ product_cell C.ring cells.now counts.now slots.now w }
+    ensures { HasProduct C.ring cells.now counts.now slots.now scope.now out.new }
 {
     let n = list_nodes(order, counts.len(), scope);
     let order = before(order, n);
@@ -62,9 +58,7 @@ fn multiply_small<C: Cell>(
     requires strides { (length (listed (holds scope.now) 0 (length counts.now)) + 1)
         * length slots.now ≤ 64 }
     requires can { CanMultiply C.ring cells.now counts.now slots.now scope.now out.old }
-    ensures { (w : ℕ → ℕ) → InRange (states_in counts.now) w
-        → cell_at C.ring out.new (place_of counts.now scope.now w)
-        ≡ product_cell C.ring cells.now counts.now slots.now w }
+    ensures { HasProduct C.ring cells.now counts.now slots.now scope.now out.new }
 {
     let mut order = [0; 16];
     let mut axes = [Axis { states: 1, out: 0 }; 16];
@@ -97,9 +91,7 @@ fn multiply_some<C: Cell>(
     requires strides { (length (listed (holds scope.now) 0 (length counts.now)) + 1)
         * length slots.now ≤ 1028 }
     requires can { CanMultiply C.ring cells.now counts.now slots.now scope.now out.old }
-    ensures { (w : ℕ → ℕ) → InRange (states_in counts.now) w
-        → cell_at C.ring out.new (place_of counts.now scope.now w)
-        ≡ product_cell C.ring cells.now counts.now slots.now w }
+    ensures { HasProduct C.ring cells.now counts.now slots.now scope.now out.new }
 {
     let mut order = [0; 257];
     let mut axes = [Axis { states: 1, out: 0 }; 257];
@@ -132,9 +124,7 @@ fn multiply_many<C: Cell>(
     requires strides { (length (listed (holds scope.now) 0 (length counts.now)) + 1)
         * length slots.now ≤ 65792 }
     requires can { CanMultiply C.ring cells.now counts.now slots.now scope.now out.old }
-    ensures { (w : ℕ → ℕ) → InRange (states_in counts.now) w
-        → cell_at C.ring out.new (place_of counts.now scope.now w)
-        ≡ product_cell C.ring cells.now counts.now slots.now w }
+    ensures { HasProduct C.ring cells.now counts.now slots.now scope.now out.new }
 {
     let mut order = [0; 257];
     let mut axes = [Axis { states: 1, out: 0 }; 257];
@@ -164,9 +154,7 @@ pub fn multiply_into<C: Cell>(
 )
     requires few { length slots.now ≤ 256 }
     requires can { CanMultiply C.ring cells.now counts.now slots.now scope.now out.old }
-    ensures { (w : ℕ → ℕ) → InRange (states_in counts.now) w
-        → cell_at C.ring out.new (place_of counts.now scope.now w)
-        ≡ product_cell C.ring cells.now counts.now slots.now w }
+    ensures { HasProduct C.ring cells.now counts.now slots.now scope.now out.new }
 {
     let n = count_nodes(counts.len(), scope);
     let size = (n + 1) * slots.len();

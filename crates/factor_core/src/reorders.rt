@@ -3,13 +3,12 @@
 ghost use Rattle.std.specs.Prelude.{◌≡◌, ◌+◌, ◌*◌, ◌^◌, ◌<◌, ◌≤◌, ℕ, length, not, ◌&&◌, ◌==◌, ◌↔◌, Contains};
 ghost use Rattle.maid_model.specs.declared.limits.TheConstants.{MOST_PLAN_CELLS};
 ghost use Rattle.node_sets.specs.declared.sets.TheConstants.{MOST_NODES};
-ghost use Rattle.finite_sums.specs.Sums.{World, InRange};
 ghost use Rattle.node_sets.specs.Sets.{holds, IsIn};
 ghost use Rattle.maid_model.specs.Graph.{AllDifferent};
 ghost use Rattle.maid_model.specs.Nodes.{states_of};
 ghost use Rattle.factor_core.specs.declared.slots.Slot.{Slot};
 ghost use Rattle.factor_core.specs.Operations.{restricted};
-ghost use Rattle.factor_core.specs.Slots.{space, cells_over, part, HasCells, IsLive, table_of, Appends, AppendsTable, StaysLive};
+ghost use Rattle.factor_core.specs.Slots.{space, part, HasCells, IsLive, table_of, Appends, StaysLive, HasRoomBehind, AppendsBehind};
 ghost use Rattle.factor_core.specs.Tables.{AreCounts, states_in, stride_of, size_of};
 
 use crate::copies::{Step, copy_at};
@@ -64,15 +63,12 @@ pub fn restrict_behind<C: Cell>(
     requires live { IsLive diagram.now.nodes (space all.old used).cells slot.now }
     requires hold { IsIn slot.now.scope node }
     requires state { state < states_of diagram.now.nodes node }
-    requires room { cells_over diagram.now.nodes (restricted node state (table_of C.ring
-        diagram.now.nodes (space all.old used).cells slot.now)).holds
-        ≤ (space all.old used).spare }
+    requires room { HasRoomBehind diagram.now.nodes all.old used (restricted node state
+        (table_of C.ring diagram.now.nodes (space all.old used).cells slot.now)) }
     ensures start { result.start ≡ used }
     ensures len { used + result.len ≤ length all.new }
-    ensures table { AppendsTable C.ring diagram.now.nodes (space all.old used)
-        (space all.new (used + result.len)) result
-        (restricted node state (table_of C.ring diagram.now.nodes (space all.old used).cells
-        slot.now)) }
+    ensures table { AppendsBehind C.ring diagram.now.nodes all.old all.new used result (restricted
+        node state (table_of C.ring diagram.now.nodes (space all.old used).cells slot.now)) }
 {
     let mut counts = [1; MOST_NODES];
     list_states(&mut counts, diagram);

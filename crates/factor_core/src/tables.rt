@@ -1,6 +1,6 @@
 //! First tables of nodes, behind the first cells of a list.
 
-ghost use Rattle.std.specs.Prelude.{◌≡◌, ◌+◌, ◌-◌, ◌^◌, IsTrue, ◌<◌, ◌≤◌, ℕ, All, Contains, ◌++◌, [], ◌∷◌, drop, if◌then◌else◌, length, take};
+ghost use Rattle.std.specs.Prelude.{◌≡◌, ◌+◌, ◌-◌, ◌^◌, IsTrue, ◌<◌, ◌≤◌, ℕ, All, Contains, ◌++◌, drop, length, take};
 ghost use Rattle.maid_model.specs.declared.limits.TheConstants.{MOST_PARENTS, MOST_PLAN_CELLS};
 ghost use Rattle.node_sets.specs.declared.sets.TheConstants.{MOST_NODES};
 ghost use Rattle.node_sets.specs.Sets.{holds};
@@ -9,7 +9,7 @@ ghost use Rattle.maid_model.specs.Diagrams.{IsDiagram};
 ghost use Rattle.maid_model.specs.Nodes.{counts_of, states_of, rows_under};
 ghost use Rattle.plan_sums.specs.Plans.{has};
 ghost use Rattle.factor_core.specs.Copies.{steps_of, steps_in, list_stride, list_table, gathered, count_of_steps, CanCopy};
-ghost use Rattle.factor_core.specs.Slots.{space, AppendsTable};
+ghost use Rattle.factor_core.specs.Slots.{space, AppendsBehind};
 ghost use Rattle.factor_core.specs.Tables.{AreCounts, states_in};
 
 use crate::copies::{Step, copy_from};
@@ -177,8 +177,7 @@ pub fn write_table<C: Cell, S: Source<C>>(
     requires room { rows_under (states_of diagram.now.nodes) list.now ≤ (space all.old used).spare }
     ensures start { result.start ≡ used }
     ensures len { used + result.len ≤ length all.new }
-    ensures table { AppendsTable C.ring diagram.now.nodes (space all.old used)
-        (space all.new (used + result.len)) result
+    ensures table { AppendsBehind C.ring diagram.now.nodes all.old all.new used result
         (list_table C.ring diagram.now.nodes list.now (S.cells source.now)) }
 {
     let scope = scope_of(list);

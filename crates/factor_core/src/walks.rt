@@ -2,8 +2,8 @@
 
 ghost use Rattle.std.specs.Prelude.{◌≡◌, ◌==◌, if◌then◌else◌, ℕ, ◌+◌, ◌*◌, ◌^◌, ◌<◌, ◌≤◌, length, take, drop, [], ◌∷◌, All, IsTrue, slice_index};
 ghost use Rattle.cell_rings.specs.Rings.{mass_ring};
-ghost use Rattle.cell_rings.specs.Sums.{ring_sum, run_sum, cell_at, product_from, product_at, sizes_of, ProductFits, Adds, HasRoom};
-ghost use Rattle.factor_core.specs.Walks.{shifted, total, CanWalk, IsRun, IsTurned, IsMoved, IsDot, further, CanAddTwo};
+ghost use Rattle.cell_rings.specs.Sums.{ring_sum, run_sum, cell_at, product_from, product_at, sizes_of, ProductFits, Adds, HasRoom, two_scaled, two_sizes};
+ghost use Rattle.factor_core.specs.Walks.{shifted, total, CanWalk, IsRun, IsTurned, IsMoved, IsDot, further, CanAddTwo, total_of_two};
 ghost use Rattle.factor_core.specs.Narrow.{AreNarrow};
 
 use crate::narrow::Narrow;
@@ -160,14 +160,11 @@ fn add_two<C: Cell>(
     requires narrow { AreNarrow C.ring C.bits C.narrow cells.now narrow }
     requires out { at + n ≤ length out.old }
     requires cells { (from + n ≤ length cells.now) × (beside + n ≤ length cells.now) }
-    requires room { HasRoom C.ring out.old (run_sum mass_ring n at (λ i.
-        C.ring.size first * C.ring.size (cell_at C.ring cells.now (from + i))
-        + C.ring.size second * C.ring.size (cell_at C.ring cells.now (beside + i)))) }
+    requires room { HasRoom C.ring out.old (run_sum mass_ring n at
+        (two_sizes C.ring cells.now (C.ring.size first) (C.ring.size second) from beside)) }
     ensures { Adds C.ring
-        (run_sum C.ring n at (λ i.
-        C.ring.plus (C.ring.times first (cell_at C.ring cells.now (from + i)))
-        (C.ring.times second (cell_at C.ring cells.now (beside + i)))))
-        out.old out.new }
+        (run_sum C.ring n at (two_scaled C.ring cells.now first second from beside)) out.old
+        out.new }
 {
     if narrow.has(from, n) && narrow.has(beside, n) {
         C::add_two_narrow(out, at, n, first, second, cells, from, beside)
@@ -190,12 +187,7 @@ fn add_two_runs<C: Cell>(
     requires run { IsRun axis (drop (length places.old) strides.now) (length places.old) }
     requires can { CanAddTwo C.ring cells.now axis strides.now places.old out.old at }
     ensures adds { Adds C.ring
-        (λ p.
-        C.ring.plus
-        (total C.ring cells.now (axis ∷ []) (drop (length places.old) strides.now)
-        places.old at p)
-        (total C.ring cells.now (axis ∷ []) (drop (length places.old) strides.now)
-        (shifted 1 strides.now places.old) at p)) out.old out.new }
+        (total_of_two C.ring cells.now (axis ∷ []) strides.now places.old at) out.old out.new }
     ensures places { places.new ≡ shifted 2 strides.now places.old }
 {
     let last = places.len() - 1;
@@ -232,12 +224,7 @@ fn add_two_turned<C: Cell>(
     requires turned { IsTurned axis (drop (length places.old) strides.now) (length places.old) }
     requires can { CanAddTwo C.ring cells.now axis strides.now places.old out.old at }
     ensures adds { Adds C.ring
-        (λ p.
-        C.ring.plus
-        (total C.ring cells.now (axis ∷ []) (drop (length places.old) strides.now)
-        places.old at p)
-        (total C.ring cells.now (axis ∷ []) (drop (length places.old) strides.now)
-        (shifted 1 strides.now places.old) at p)) out.old out.new }
+        (total_of_two C.ring cells.now (axis ∷ []) strides.now places.old at) out.old out.new }
     ensures places { places.new ≡ shifted 2 strides.now places.old }
 {
     let first = cells[places[1]];
@@ -275,12 +262,7 @@ fn add_two_moved<C: Cell>(
         (length places.old) }
     requires can { CanAddTwo C.ring cells.now axis strides.now places.old out.old at }
     ensures adds { Adds C.ring
-        (λ p.
-        C.ring.plus
-        (total C.ring cells.now (axis ∷ []) (drop (length places.old) strides.now)
-        places.old at p)
-        (total C.ring cells.now (axis ∷ []) (drop (length places.old) strides.now)
-        (shifted 1 strides.now places.old) at p)) out.old out.new }
+        (total_of_two C.ring cells.now (axis ∷ []) strides.now places.old at) out.old out.new }
     ensures places { places.new ≡ shifted 2 strides.now places.old }
 {
     if turned {

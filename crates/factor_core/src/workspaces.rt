@@ -12,8 +12,8 @@ ghost use Rattle.maid_model.specs.Profiles.{IsProfile};
 ghost use Rattle.ring_sums.specs.Groups.{JoinFits, ProductsFit};
 ghost use Rattle.ring_sums.specs.Tables.{sum_out};
 ghost use Rattle.finite_sums.specs.Sums.{World};
-ghost use Rattle.factor_core.specs.Operations.{cells_by, first_table, product_table, restricted, NumbersFit, SumFits};
-ghost use Rattle.factor_core.specs.Slots.{nodes_in, cells_over, part, HasCells, IsLive, table_of, tables_of, Appends, AppendsTable, StaysLive};
+ghost use Rattle.factor_core.specs.Operations.{cells_by, first_table, restricted, NumbersFit, SumFits};
+ghost use Rattle.factor_core.specs.Slots.{nodes_in, cells_over, part, HasCells, IsLive, table_of, tables_of, Appends, AppendsTable, StaysLive, join_of, product_of_slots};
 
 use crate::appending::{join_behind, product_behind};
 use crate::firsts::table_behind;
@@ -116,12 +116,11 @@ impl<C: Cell> Workspace<C> {
         requires hold { All (λ s. IsIn s.scope node) slots.now }
         requires fits { JoinFits C.ring.size (states_of diagram.now.nodes) C.ring.most node
             (tables_of C.ring diagram.now.nodes self.old.cells slots.now) }
-        requires room { cells_over diagram.now.nodes (sum_out C.ring (states_of diagram.now.nodes)
-            node (tables_of C.ring diagram.now.nodes self.old.cells slots.now)).holds
+        requires room { cells_over diagram.now.nodes
+            (join_of C.ring diagram.now.nodes node self.old.cells slots.now).holds
             ≤ self.old.spare }
         ensures { AppendsTable C.ring diagram.now.nodes self.old self.new result
-            (sum_out C.ring (states_of diagram.now.nodes) node
-            (tables_of C.ring diagram.now.nodes self.old.cells slots.now)) }
+            (join_of C.ring diagram.now.nodes node self.old.cells slots.now) }
     {
         let slot = join_behind(
             diagram,
@@ -144,11 +143,11 @@ impl<C: Cell> Workspace<C> {
         requires live { All (IsLive diagram.now.nodes self.old.cells) slots.now }
         requires fits { ProductsFit C.ring.size (states_of diagram.now.nodes) C.ring.most
             (tables_of C.ring diagram.now.nodes self.old.cells slots.now) }
-        requires room { cells_over diagram.now.nodes (product_table C.ring (tables_of C.ring
-            diagram.now.nodes self.old.cells slots.now)).holds
+        requires room { cells_over diagram.now.nodes
+            (product_of_slots C.ring diagram.now.nodes self.old.cells slots.now).holds
             ≤ self.old.spare }
         ensures { AppendsTable C.ring diagram.now.nodes self.old self.new result
-            (product_table C.ring (tables_of C.ring diagram.now.nodes self.old.cells slots.now)) }
+            (product_of_slots C.ring diagram.now.nodes self.old.cells slots.now) }
     {
         let slot = product_behind(
             diagram,
@@ -176,12 +175,11 @@ impl<C: Cell> Workspace<C> {
         requires hold { IsIn slot.now.scope node }
         requires fits { SumFits C.ring (states_of diagram.now.nodes) node
             (table_of C.ring diagram.now.nodes self.old.cells slot.now) }
-        requires room { cells_over diagram.now.nodes (sum_out C.ring (states_of diagram.now.nodes)
-            node (table_of C.ring diagram.now.nodes self.old.cells slot.now ∷ [])).holds
+        requires room { cells_over diagram.now.nodes
+            (join_of C.ring diagram.now.nodes node self.old.cells (slot.now ∷ [])).holds
             ≤ self.old.spare }
         ensures { AppendsTable C.ring diagram.now.nodes self.old self.new result
-            (sum_out C.ring (states_of diagram.now.nodes) node
-            (table_of C.ring diagram.now.nodes self.old.cells slot.now ∷ [])) }
+            (join_of C.ring diagram.now.nodes node self.old.cells (slot.now ∷ [])) }
     {
         self.join_out(diagram, counts, &[*slot], node)
     }
