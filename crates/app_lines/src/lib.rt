@@ -15,6 +15,3 @@ pub use gains::gain_lines;
 pub use names::list_line;
 pub use places::place;
 pub use removed::removed_lines;
-
-#[cfg(test)]
-mod tests;

@@ -34,6 +34,3 @@ pub use building::build;
 pub use faults::{BuildFault, BuildKind, Limit};
 pub use laws::{a_tree_has_a_fault_or_none, a_tree_has_one_fault, a_tree_stands_for_one_diagram};
 pub use maid_model::Names;
-
-#[cfg(test)]
-mod tests;

@@ -18,6 +18,3 @@ mod words;
 pub use laws::{blocks_stand_in_their_text, tokens_read_one_way};
 pub use parsing::{ParseFault, parse};
 pub use trees::{Attribute, Block, BlockKind, Syntax, Value};
-
-#[cfg(test)]
-mod tests;

@@ -10,6 +10,3 @@ mod printing;
 
 pub use laws::{commented_texts_read_back, printed_texts_read_back};
 pub use printing::print;
-
-#[cfg(test)]
-mod tests;

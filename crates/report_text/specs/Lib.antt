@@ -1,5 +1,4 @@
 pub mod Reading
 pub mod Slots
 pub mod Laws
-pub mod Example
 pub mod Runs

@@ -18,6 +18,3 @@ pub use laws::reports_read_one_way;
 pub use pieces::print_ratio;
 pub use reading::{ReportFault, read_report};
 pub use report::{print_report, push_gains, push_head, push_row, push_row_front, push_state};
-
-#[cfg(test)]
-mod tests;

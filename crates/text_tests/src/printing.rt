@@ -1,9 +1,9 @@
-//! Small diagrams, printed.
+//! Tests of `net_print`: small diagrams, printed.
 
-use crate::print;
 use net_build::build;
 use net_lexer::lex;
 use net_parser::parse;
+use net_print::print;
 use std::alloc::Global;
 use std::test::Fail;
 

@@ -1,7 +1,7 @@
-//! Small texts, parsed and refused.
+//! Tests of `net_parser`: small texts, parsed and refused.
 
-use super::*;
 use net_lexer::lex;
+use net_parser::parse;
 use std::alloc::Global;
 use std::test::Fail;
 

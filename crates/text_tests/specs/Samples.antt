@@ -1,4 +1,4 @@
--- The diagram of the tests: a decision with two states and a utility, both of one agent.
+-- The diagram that reports and lines are of: a decision with two states and a utility, both of one agent.
 use Rattle.std.specs.Prelude.{ℕ, List, [], ◌∷◌, codes, pos}
 use Rattle.maid_model.specs.declared.diagrams.Kind.TheVariants.{Decision, Utility}
 use Rattle.maid_model.specs.Views.{NodeView, DiagramView}

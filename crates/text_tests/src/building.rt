@@ -1,10 +1,10 @@
-//! Small texts, built and refused.
+//! Tests of `net_build`: small texts, built and refused.
 
 ghost use Rattle.std.specs.Prelude.{IfOk};
 ghost use Rattle.maid_model.specs.Names.{NamesFit};
 
-use crate::{BuildFault, BuildKind, Names, build};
 use maid_model::{Diagram, Kind};
+use net_build::{BuildFault, BuildKind, Names, build};
 use net_lexer::lex;
 use net_parser::parse;
 use std::alloc::Global;

@@ -1,14 +1,12 @@
-//! Fractions as text, and a report read and printed back.
+//! Tests of `report_text`: fractions as text, and a report read and printed back.
 
-ghost use Rattle.std.specs.Prelude.{◌≡◌, [], IfOk};
 ghost use Rattle.maid_model.specs.Names.{NamesFit};
 ghost use Rattle.report_text.specs.Reading.{AreTold};
-ghost use Rattle.report_text.specs.Example.{tie_diagram, tie_names};
 
-use super::*;
-use maid_model::{Diagram, Kind, Names, Node, Ratio, Row, literals_are_tested};
-use smallvec::SmallVec;
-use std::alloc::{AllocError, Global};
+use crate::samples::{tie_diagram, tie_names};
+use maid_model::{Diagram, Names, Ratio, Row};
+use report_text::{ReportFault, print_ratio, print_report, read_report};
+use std::alloc::Global;
 use std::test::Fail;
 
 #[test]
@@ -18,60 +16,6 @@ fn fractions_are_printed(rt: HostRuntime) -> Result<(), Fail> {
         assert_eq!(rt; text.as_slice(), want.as_bytes(), "{want}");
     }
     Ok(())
-}
-
-fn node(
-    alloc: Global,
-    kind: Kind,
-    states: usize,
-    parents: &[usize],
-    cells: &[i128],
-) -> Result<Node, AllocError>
-    ensures { IfOk result (λ n.
-        n ≡ record {
-          kind = kind;
-          owner = 0;
-          more = [];
-          states = states;
-          parents = parents.now;
-          cells = cells.now;
-        }) }
-{
-    Ok(Node {
-        kind,
-        owner: 0,
-        more: SmallVec::new(alloc),
-        states,
-        parents: SmallVec::from_slice(alloc, parents)?,
-        cells: Vec::from_slice(alloc, cells)?,
-    })
-}
-
-fn tie_diagram(alloc: Global) -> Result<Diagram, AllocError>
-    ensures { IfOk result (λ d. d ≡ tie_diagram) }
-{
-    literals_are_tested();
-    let mut nodes = Vec::new(alloc);
-    nodes.push(node(alloc, Kind::Decision, 2, &[], &[])?)?;
-    nodes.push(node(alloc, Kind::Utility, 1, &[0], &[5, 5])?)?;
-    Ok(Diagram::from_nodes(nodes, 1, 0))
-}
-
-fn tie_names(alloc: Global) -> Result<Names, AllocError>
-    ensures { IfOk result (λ n. n ≡ tie_names) }
-{
-    let mut nodes = Vec::new(alloc);
-    nodes.push(Vec::from_slice(alloc, b"D")?)?;
-    nodes.push(Vec::from_slice(alloc, b"U")?)?;
-    let mut states = Vec::new(alloc);
-    states.push(Vec::from_slice(alloc, b"x")?)?;
-    states.push(Vec::from_slice(alloc, b"y")?)?;
-    let mut labels = Vec::new(alloc);
-    labels.push(states)?;
-    labels.push(Vec::new(alloc))?;
-    let mut agents = Vec::new(alloc);
-    agents.push(Vec::from_slice(alloc, b"agent")?)?;
-    Ok(Names::from_lists(nodes, labels, agents))
 }
 
 #[test]

@@ -1,6 +1,6 @@
 -- The only token of the text is one of its list, and so a token of the text.
 use Rattle.std.proofs.Common.{◌<◌, length, ap, arith}
-use Rattle.net_lexer.proofs.tests.meaning.Goals as goal
+use Rattle.text_tests.proofs.lexing.meaning.Goals as goal
 
 pub bytes-requires : goal.bytes-requires
 bytes-requires g c =

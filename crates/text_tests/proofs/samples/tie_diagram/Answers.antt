@@ -1,7 +1,7 @@
 use Rattle.std.proofs.Common.{◌≡◌, ◌∙◌, ◌++◌, List, ◌∷◌, [], refl, sym, subst}
 use Rattle.maid_model.specs.Diagrams.{IsDiagram}
-use Rattle.report_text.specs.Example.{tie_decision, tie_diagram, tie_utility}
-use Rattle.report_text.proofs.tests.tie_diagram.Goals as goal
+use Rattle.text_tests.specs.Samples.{tie_decision, tie_diagram, tie_utility}
+use Rattle.text_tests.proofs.samples.tie_diagram.Goals as goal
 
 pub from_nodes-requires : goal.from_nodes-requires
 from_nodes-requires c =

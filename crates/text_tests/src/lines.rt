@@ -1,12 +1,8 @@
-//! Each call once, over small texts and lists.
+//! Tests of `app_lines`: places in a small text, lines of short lists, and generated texts.
 
-ghost use Rattle.std.specs.Prelude.{◌≡◌, [], IfOk};
-ghost use Rattle.report_text.specs.Example.{tie_diagram, tie_names};
-
-use super::*;
-use maid_model::{Answer, Diagram, Kind, Names, Node, Ratio, Row, literals_are_tested};
-use smallvec::SmallVec;
-use std::alloc::{AllocError, Global};
+use crate::samples::{tie_diagram, tie_names};
+use app_lines::{choice_lines, demo_text, gain_lines, place};
+use maid_model::{Answer, Names, Ratio, Row};
 use std::test::Fail;
 
 #[test]
@@ -67,61 +63,6 @@ fn generated_texts(rt: HostRuntime) -> Result<(), Fail> {
         assert_eq!(rt; text.as_slice(), want.as_bytes(), "{k}");
     }
     Ok(())
-}
-
-fn node(
-    alloc: Global,
-    kind: Kind,
-    states: usize,
-    parents: &[usize],
-    cells: &[i128],
-) -> Result<Node, AllocError>
-    ensures { IfOk result (λ n.
-        n ≡ record {
-          kind = kind;
-          owner = 0;
-          more = [];
-          states = states;
-          parents = parents.now;
-          cells = cells.now;
-        }) }
-{
-    Ok(Node {
-        kind,
-        owner: 0,
-        more: SmallVec::new(alloc),
-        states,
-        parents: SmallVec::from_slice(alloc, parents)?,
-        cells: Vec::from_slice(alloc, cells)?,
-    })
-}
-
-/// A decision of two states, whose two states are worth the same.
-fn tie_diagram(alloc: Global) -> Result<Diagram, AllocError>
-    ensures { IfOk result (λ d. d ≡ tie_diagram) }
-{
-    literals_are_tested();
-    let mut nodes = Vec::new(alloc);
-    nodes.push(node(alloc, Kind::Decision, 2, &[], &[])?)?;
-    nodes.push(node(alloc, Kind::Utility, 1, &[0], &[5, 5])?)?;
-    Ok(Diagram::from_nodes(nodes, 1, 0))
-}
-
-fn tie_names(alloc: Global) -> Result<Names, AllocError>
-    ensures { IfOk result (λ n. n ≡ tie_names) }
-{
-    let mut nodes = Vec::new(alloc);
-    nodes.push(Vec::from_slice(alloc, b"D")?)?;
-    nodes.push(Vec::from_slice(alloc, b"U")?)?;
-    let mut states = Vec::new(alloc);
-    states.push(Vec::from_slice(alloc, b"x")?)?;
-    states.push(Vec::from_slice(alloc, b"y")?)?;
-    let mut labels = Vec::new(alloc);
-    labels.push(states)?;
-    labels.push(Vec::new(alloc))?;
-    let mut agents = Vec::new(alloc);
-    agents.push(Vec::from_slice(alloc, b"agent")?)?;
-    Ok(Names::from_lists(nodes, labels, agents))
 }
 
 // The worth is not told.
