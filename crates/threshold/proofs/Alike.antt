@@ -11,7 +11,7 @@ use Rattle.maid_model.specs.Bounds.{bound_by, bound_factor}
 use Rattle.maid_model.specs.Diagrams.{greatest_number}
 use Rattle.maid_model.specs.Gains.{greatest_abs}
 use Rattle.maid_model.specs.Graph.{descends, leads_within}
-use Rattle.maid_model.specs.Nodes.{IsDecision, agent_of, is_utility, is_utility_of, node_at, numbers_of}
+use Rattle.maid_model.specs.Nodes.{IsDecision, agent_of, is_utility, is_utility_of, node_at, numbers_of, parents_of}
 use Rattle.maid_model.specs.Parts.{with_ancestors}
 use Rattle.maid_model.specs.Scopes.{FailsFirst, FailsFirstFor, KeepsScopedBounds, PassesInScope, chance_factor, chance_factor_by, goals_of, greatest_of, scope_bound, scope_bound_for, scope_for, scope_of, scope_product, scope_product_for, utilities_for}
 use Rattle.maid_model.specs.Tables.{chance_total}
@@ -25,17 +25,23 @@ use Rattle.weight_scale.specs.Bound.{IsPassedAt, IsPassedByUtilities}
 pub through : (a b c : List NodeView) → IsLike a b → IsLike b c → IsLike a c
 through a b c l m = record { len = m.len ∙ l.len; kinds = λ v. m.kinds v ∙ l.kinds v; owners = λ v. m.owners v ∙ l.owners v; states = λ v. m.states v ∙ l.states v; parents = λ v. m.parents v ∙ l.parents v }
 
--- ---- arcs, goals and scopes
+-- ---- arcs
+module _ (nodes others : List NodeView) (len : length others ≡ length nodes) (parents : (v : ℕ) → parents_of others v ≡ parents_of nodes v) where
+  leads_same : (n u v : ℕ) → leads_within others n u v ≡ leads_within nodes n u v
+  leads_same zero u v = refl
+  leads_same (suc n) u v = λ i. list_any (λ x. (x == u) || leads_same n u x i) (parents v i)
+
+  -- as many nodes with the same parents descend alike
+  pub descends_along : (u v : ℕ) → descends others u v ≡ descends nodes u v
+  descends_along u v = ap (λ n. leads_within others n u v) len ∙ leads_same (length nodes) u v
+
+-- ---- goals and scopes
 module _ (nodes others : List NodeView) (l : IsLike nodes others) where
   pub numbers_same : numbers_of others ≡ numbers_of nodes
   numbers_same = ap (range_with_len 0) l.len
 
-  leads_same : (n u v : ℕ) → leads_within others n u v ≡ leads_within nodes n u v
-  leads_same zero u v = refl
-  leads_same (suc n) u v = λ i. list_any (λ x. (x == u) || leads_same n u x i) (l.parents v i)
-
   pub descends_same : (u v : ℕ) → descends others u v ≡ descends nodes u v
-  descends_same u v = ap (λ n. leads_within others n u v) l.len ∙ leads_same (length nodes) u v
+  descends_same = descends_along nodes others l.len l.parents
 
   pub agent_same : (d : ℕ) → agent_of others d ≡ agent_of nodes d
   agent_same d = ap (λ vs. slice_index_or vs 0 0) (l.owners d)

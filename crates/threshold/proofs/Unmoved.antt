@@ -1,5 +1,5 @@
 -- A decision that does not rely on a chance node's table weighs its states alike in all diagrams that differ there alone.
-use Rattle.std.proofs.Common.{◌≡◌, ◌≢◌, ◌∙◌, ◌==◌, ℕ, zero, suc, ◌+◌, ◌*◌, ◌<◌, Bool, true, false, cond, ◌&&◌, ◌||◌, eqb, List, [], ◌∷◌, map, length, slice_index_or, refl, sym, ap, subst, inr, ℤ, pos, ◌-ℤ◌, ◌*ℤ◌, ◌≤ℤ◌, ◌<ℤ◌, nat_abs, arith}
+use Rattle.std.proofs.Common.{◌≡◌, ◌≢◌, ◌∙◌, ◌==◌, ℕ, ◌+◌, ◌*◌, ◌<◌, Bool, true, false, cond, ◌&&◌, eqb, List, [], ◌∷◌, map, length, slice_index_or, refl, sym, ap, subst, inr, ℤ, pos, ◌-ℤ◌, ◌*ℤ◌, ◌≤ℤ◌, ◌<ℤ◌, nat_abs, arith}
 use Rattle.std.proofs.lemmas.Int.{ints}
 use Rattle.std.proofs.Math.Decide.{ℕ_discrete, dec_lt}
 use Rattle.std.specs.List.{list_any, range_with_len}
@@ -9,7 +9,7 @@ use Rattle.maid_model.specs.declared.diagrams.Kind.{Kind}
 use Rattle.maid_model.specs.declared.diagrams.Kind.TheVariants.{Chance, Decision}
 use Rattle.maid_model.specs.Edits.{as_decision}
 use Rattle.maid_model.specs.Gains.{gain_at, mass_at, utility_below, value_for, weight_without}
-use Rattle.maid_model.specs.Graph.{IsGraph, descends, leads_within}
+use Rattle.maid_model.specs.Graph.{IsGraph}
 use Rattle.maid_model.specs.Nodes.{IsDecision, agent_of, is_utility, is_utility_of, node_at, numbers_of, owns, parents_of, rows_of, states_of}
 use Rattle.maid_model.specs.Profiles.{IsProfile, IsRule}
 use Rattle.maid_model.specs.Relevance.{ReliesOn}
@@ -33,6 +33,7 @@ use Rattle.arc_laws.proofs.SameArcs.{row_same, rule_there, states_same}
 use Rattle.reach_laws.specs.Threshold.{IsMoved, IsPlace, cell_at, others_weight}
 use Rattle.reach_laws.proofs.Perfect.{IsLike, graph_there, like_of, profile_there, turned}
 use Rattle.reach_laws.proofs.Perfect as like
+use Rattle.threshold.proofs.Alike.{descends_along}
 
 -- ---- where x is a decision with its table as its rule, another decision has the same sums
 module _ (nodes others : List NodeView) (agent x : ℕ) (r : Controls nodes others agent x) (k : (node_at nodes x).kind ≡ Chance) (c : HasChanceTables nodes) (p : List RuleView) (hp : IsProfile nodes p) where
@@ -96,13 +97,6 @@ module _ (nodes others : List NodeView) (agent x : ℕ) (r : Controls nodes othe
           (λ e. weights_filled v (decision_there nodes others agent x r k v (record { within = l; kind = e })) n)
 
   -- ---- utilities
-  leads_there : (n u v : ℕ) → leads_within others n u v ≡ leads_within nodes n u v
-  leads_there zero u v = refl
-  leads_there (suc n) u v = λ i. list_any (λ z. eqb z u || leads_there n u z i) (parents_there v i)
-
-  descends_there : (u v : ℕ) → descends others u v ≡ descends nodes u v
-  descends_there u v = ap (λ n. leads_within others n u v) r.len ∙ leads_there (length nodes) u v
-
   value_there : (other v : ℕ) (w : World) → value_for others other v w ≡ value_for nodes other v w
   value_there other v w = go (ℕ_discrete v x)
     where
@@ -119,7 +113,7 @@ module _ (nodes others : List NodeView) (agent x : ℕ) (r : Controls nodes othe
 
   module _ (d : ℕ) (kd : IsDecision nodes d) where
     below_there : (w : World) → utility_below others d w ≡ utility_below nodes d w
-    below_there w = λ j. sum_each (λ v. cond (descends_there d v j) (value_at v j) (pos 0)) (range_with_len 0 (r.len j))
+    below_there w = λ j. sum_each (λ v. cond (descends_along nodes others r.len parents_there d v j) (value_at v j) (pos 0)) (range_with_len 0 (r.len j))
       where
         value_at : (v : ℕ) → value_for others (agent_of others d) v w ≡ value_for nodes (agent_of nodes d) v w
         value_at v = ap (λ n. value_for others n.owner v w) (r.else d (decision_not_x nodes others agent x r k d kd)) ∙ value_there (agent_of nodes d) v w

@@ -30,31 +30,6 @@ pub(crate) struct Ends {
     pub one: Diagram,
 }
 
-/// A copy of the node.
-fn copy_node(alloc: Global, node: &Node) -> Result<Node, AllocError>
-    ensures { IfOk result (λ copy. copy ≡ node.now) }
-{
-    Ok(Node {
-        kind: node.kind,
-        owner: node.owner,
-        more: SmallVec::from_slice(alloc, node.more.as_slice())?,
-        states: node.states,
-        parents: SmallVec::from_slice(alloc, node.parents.as_slice())?,
-        cells: Vec::from_slice(alloc, node.cells.as_slice())?,
-    })
-}
-
-/// Copies of all nodes.
-fn copy_nodes(alloc: Global, diagram: &Diagram) -> Result<Vec<Node>, AllocError>
-    ensures { IfOk result (λ nodes. nodes.items ≡ diagram.now.nodes) }
-{
-    let mut nodes = Vec::with_capacity(alloc, diagram.count())?;
-    for v in 0..diagram.count() {
-        nodes.push(copy_node(alloc, diagram.node(v))?)?;
-    }
-    Ok(nodes)
-}
-
 /// The node with other cells.
 fn with_cells(alloc: Global, node: &Node, cells: Vec<i128>) -> Result<Node, AllocError>
     ensures { IfOk result (λ made. made ≡ node_with node.now cells.items) }
@@ -67,6 +42,25 @@ fn with_cells(alloc: Global, node: &Node, cells: Vec<i128>) -> Result<Node, Allo
         parents: SmallVec::from_slice(alloc, node.parents.as_slice())?,
         cells,
     })
+}
+
+/// A copy of the node.
+fn copy_node(alloc: Global, node: &Node) -> Result<Node, AllocError>
+    ensures { IfOk result (λ copy. copy ≡ node.now) }
+{
+    let cells = Vec::from_slice(alloc, node.cells.as_slice())?;
+    with_cells(alloc, node, cells)
+}
+
+/// Copies of all nodes.
+fn copy_nodes(alloc: Global, diagram: &Diagram) -> Result<Vec<Node>, AllocError>
+    ensures { IfOk result (λ nodes. nodes.items ≡ diagram.now.nodes) }
+{
+    let mut nodes = Vec::with_capacity(alloc, diagram.count())?;
+    for v in 0..diagram.count() {
+        nodes.push(copy_node(alloc, diagram.node(v))?)?;
+    }
+    Ok(nodes)
 }
 
 fn put(nodes: &mut Vec<Node>, v: usize, node: Node)
