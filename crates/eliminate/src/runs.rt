@@ -1,6 +1,6 @@
 //! Runs of plans.
 
-ghost use Rattle.std.specs.Prelude.{◌≡◌, ◌+◌, ◌*◌, ◌<◌, ◌≤◌, [], length, take};
+ghost use Rattle.std.specs.Prelude.{◌≡◌, ◌+◌, ◌*◌, ◌<◌, ◌≤◌, IsTrue, [], length, take};
 ghost use Rattle.maid_model.specs.declared.limits.TheConstants.{COUNT_END};
 ghost use Rattle.maid_model.specs.Diagrams.{IsDiagram};
 ghost use Rattle.maid_model.specs.Nodes.{counts_of};
@@ -24,9 +24,8 @@ use size_precheck::Plan;
 /// Up to how many nodes shorter lists do, which are blanked sooner.
 pub const FEW: usize = 64;
 
-/// How many nodes at most a short plan keeps, and how many it eliminates. It has a table at most for each of these and
-/// one for its utility, and makes one at each step.
-pub const SHORT: usize = 10;
+/// How many slots the lists of short runs have.
+pub const SHORT: usize = 42;
 
 /// Ends all tables of the workspace: no cell is left, and there is as much room as after `reserve`. It takes no memory.
 pub fn release<C: Cell>(work: &mut Workspace<C>)
@@ -105,17 +104,17 @@ fn run_with<C: Cell>(
     work.product(diagram, &counts, before(joined, count))
 }
 
-/// The run of a short plan over few nodes. Its lists have a place for each slot that it makes.
+/// The run of a plan over up to `NODES` nodes, of up to `SLOTS` first tables.
 #[inline(never)]
-fn run_short<C: Cell>(
+fn run_sized<C: Cell, const NODES: usize, const SLOTS: usize>(
     work: &mut Workspace<C>,
     plan: &Plan,
     diagram: &Diagram,
     profile: &Profile,
 ) -> Slot
-    requires nodes { length diagram.now.nodes ≤ FEW }
-    requires kept { length plan.now.plan.keep ≤ SHORT }
-    requires steps { length plan.now.steps ≤ SHORT }
+    requires few { (NODES ≤ MOST_NODES) × (SLOTS ≤ MOST_NODES) }
+    requires nodes { length diagram.now.nodes ≤ NODES }
+    requires tables { length (first_nodes diagram.now.nodes plan.now.plan) ≤ SLOTS }
     requires asked { CanBePlanned diagram.now.nodes plan.now.plan }
     requires made { IsMade diagram.now.nodes plan.now.plan plan.now }
     requires counted { plan.now.size.cells < COUNT_END }
@@ -125,9 +124,9 @@ fn run_short<C: Cell>(
     ensures { SumsPlan (cells_by C.ring C.of_weight C.of_value) diagram.now.nodes profile.now
         plan.now work.old work.new result }
 {
-    let mut at: [NodeSet; FEW] = no_places();
-    let mut slots = [blank_slot(); 3 * SHORT + 1];
-    let mut joined = [blank_slot(); 3 * SHORT + 1];
+    let mut at: [NodeSet; NODES] = no_places();
+    let mut slots = [blank_slot(); SLOTS];
+    let mut joined = [blank_slot(); SLOTS];
     run_with(
         work,
         plan,
@@ -139,68 +138,13 @@ fn run_short<C: Cell>(
     )
 }
 
-/// The run of a plan over few nodes.
-#[inline(never)]
-fn run_few<C: Cell>(
-    work: &mut Workspace<C>,
-    plan: &Plan,
-    diagram: &Diagram,
-    profile: &Profile,
-) -> Slot
-    requires nodes { length diagram.now.nodes ≤ FEW }
-    requires asked { CanBePlanned diagram.now.nodes plan.now.plan }
-    requires made { IsMade diagram.now.nodes plan.now.plan plan.now }
-    requires counted { plan.now.size.cells < COUNT_END }
-    requires room { plan.now.size.cells ≤ work.old.spare }
-    requires profile { IsProfile diagram.now.nodes profile.now }
-    requires fits { 2 * plan_total diagram.now.nodes profile.now plan.now.plan ≤ C.ring.most }
-    ensures { SumsPlan (cells_by C.ring C.of_weight C.of_value) diagram.now.nodes profile.now
-        plan.now work.old work.new result }
+/// Whether a list of `SHORT` slots has a place for each slot that the run of the plan makes: one at most for each node
+/// that the plan keeps or eliminates, one for its utility, and one for each step.
+fn is_short(plan: &Plan) -> bool
+    ensures { IsTrue result → length plan.now.plan.keep + 2 * length plan.now.steps < SHORT }
 {
-    let mut at: [NodeSet; FEW] = no_places();
-    let mut slots = [blank_slot(); FEW];
-    let mut joined = [blank_slot(); FEW];
-    run_with(
-        work,
-        plan,
-        diagram,
-        profile,
-        &mut at,
-        &mut slots,
-        &mut joined,
-    )
-}
-
-/// The run of a plan over any nodes.
-#[inline(never)]
-fn run_many<C: Cell>(
-    work: &mut Workspace<C>,
-    plan: &Plan,
-    diagram: &Diagram,
-    profile: &Profile,
-) -> Slot
-    requires nodes { length diagram.now.nodes ≤ MOST_NODES }
-    requires asked { CanBePlanned diagram.now.nodes plan.now.plan }
-    requires made { IsMade diagram.now.nodes plan.now.plan plan.now }
-    requires counted { plan.now.size.cells < COUNT_END }
-    requires room { plan.now.size.cells ≤ work.old.spare }
-    requires profile { IsProfile diagram.now.nodes profile.now }
-    requires fits { 2 * plan_total diagram.now.nodes profile.now plan.now.plan ≤ C.ring.most }
-    ensures { SumsPlan (cells_by C.ring C.of_weight C.of_value) diagram.now.nodes profile.now
-        plan.now work.old work.new result }
-{
-    let mut at: [NodeSet; MOST_NODES] = no_places();
-    let mut slots = [blank_slot(); MOST_NODES];
-    let mut joined = [blank_slot(); MOST_NODES];
-    run_with(
-        work,
-        plan,
-        diagram,
-        profile,
-        &mut at,
-        &mut slots,
-        &mut joined,
-    )
+    let steps = plan.steps().len();
+    steps < SHORT / 2 && plan.keep().len() < SHORT - 2 * steps
 }
 
 /// Runs the plan: makes its first tables, eliminates its nodes in their order, and multiplies the tables that are left
@@ -224,10 +168,10 @@ pub fn run_plan<C: Cell>(
         plan.now work.old work.new result }
 {
     if diagram.count() > FEW {
-        run_many(work, plan, diagram, profile)
-    } else if plan.keep().len() > SHORT || plan.steps().len() > SHORT {
-        run_few(work, plan, diagram, profile)
+        run_sized::<C, MOST_NODES, MOST_NODES>(work, plan, diagram, profile)
+    } else if is_short(plan) {
+        run_sized::<C, FEW, SHORT>(work, plan, diagram, profile)
     } else {
-        run_short(work, plan, diagram, profile)
+        run_sized::<C, FEW, FEW>(work, plan, diagram, profile)
     }
 }

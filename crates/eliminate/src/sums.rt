@@ -163,9 +163,9 @@ fn sum_with<C: Cell>(
     Some(work.product(diagram, &counts, last))
 }
 
-/// The sum of few tables by few steps, over few nodes. Its lists have a place for each slot that it makes.
+/// The sum over up to `NODES` nodes, of up to `SLOTS` first tables.
 #[inline(never)]
-fn sum_few<C: Cell>(
+fn sum_sized<C: Cell, const NODES: usize, const SLOTS: usize>(
     work: &mut Workspace<C>,
     diagram: &Diagram,
     profile: &Profile,
@@ -173,9 +173,9 @@ fn sum_few<C: Cell>(
     steps: &[usize],
     limits: Limits,
 ) -> Option<Slot>
-    requires at { length diagram.now.nodes ≤ FEW }
-    requires tables { length nodes.now ≤ 2 * SHORT + 1 }
-    requires short { length steps.now ≤ SHORT }
+    requires sizes { (NODES ≤ MOST_NODES) × (SLOTS ≤ MOST_NODES) }
+    requires at { length diagram.now.nodes ≤ NODES }
+    requires tables { length nodes.now ≤ SLOTS }
     requires profile { IsProfile diagram.now.nodes profile.now }
     requires known { All (λ v. v < length diagram.now.nodes) nodes.now }
     requires numbers { All (NumbersFit C.ring.most diagram.now.nodes profile.now) nodes.now }
@@ -195,56 +195,9 @@ fn sum_few<C: Cell>(
         nodes.now steps.now limits }
     ensures grows { Grows C.ring diagram.now.nodes work.old work.new }
 {
-    let mut at: [NodeSet; FEW] = no_places();
-    let mut slots = [blank_slot(); 3 * SHORT + 1];
-    let mut joined = [blank_slot(); 3 * SHORT + 1];
-    sum_with(
-        work,
-        diagram,
-        profile,
-        nodes,
-        steps,
-        limits,
-        &mut at,
-        &mut slots,
-        &mut joined,
-    )
-}
-
-/// The sum of any tables.
-#[inline(never)]
-fn sum_many<C: Cell>(
-    work: &mut Workspace<C>,
-    diagram: &Diagram,
-    profile: &Profile,
-    nodes: &[usize],
-    steps: &[usize],
-    limits: Limits,
-) -> Option<Slot>
-    requires at { length diagram.now.nodes ≤ MOST_NODES }
-    requires tables { length nodes.now ≤ MOST_NODES }
-    requires profile { IsProfile diagram.now.nodes profile.now }
-    requires known { All (λ v. v < length diagram.now.nodes) nodes.now }
-    requires numbers { All (NumbersFit C.ring.most diagram.now.nodes profile.now) nodes.now }
-    requires steps { All (λ v. v < length diagram.now.nodes) steps.now }
-    requires holds { StepsHold C.ring (states_of diagram.now.nodes) steps.now
-        (tables_at (cells_by C.ring C.of_weight C.of_value) diagram.now.nodes profile.now
-        nodes.now) }
-    requires fits { StepsFit C.ring C.ring.size (states_of diagram.now.nodes) C.ring.most steps.now
-        (tables_at (cells_by C.ring C.of_weight C.of_value) diagram.now.nodes profile.now
-        nodes.now) }
-    requires small { limits.cells ≤ MOST_PLAN_CELLS }
-    requires room { limits.cells ≤ work.old.spare }
-    ensures some { IfSome result (SumsTables (cells_by C.ring C.of_weight C.of_value)
-        diagram.now.nodes profile.now nodes.now steps.now work.new) }
-    ensures none { (result ≡ None)
-        ↔ IsTooMuch (cells_by C.ring C.of_weight C.of_value) diagram.now.nodes profile.now
-        nodes.now steps.now limits }
-    ensures grows { Grows C.ring diagram.now.nodes work.old work.new }
-{
-    let mut at: [NodeSet; MOST_NODES] = no_places();
-    let mut slots = [blank_slot(); MOST_NODES];
-    let mut joined = [blank_slot(); MOST_NODES];
+    let mut at: [NodeSet; NODES] = no_places();
+    let mut slots = [blank_slot(); SLOTS];
+    let mut joined = [blank_slot(); SLOTS];
     sum_with(
         work,
         diagram,
@@ -290,9 +243,11 @@ pub fn sum_tables<C: Cell>(
         nodes.now steps.now limits }
     ensures grows { Grows C.ring diagram.now.nodes work.old work.new }
 {
-    if diagram.count() > FEW || nodes.len() > 2 * SHORT + 1 || steps.len() > SHORT {
-        sum_many(work, diagram, profile, nodes, steps, limits)
+    let count = diagram.count();
+    let is_short = steps.len() <= SHORT && nodes.len() <= SHORT - steps.len();
+    if is_short && count <= FEW {
+        sum_sized::<C, FEW, SHORT>(work, diagram, profile, nodes, steps, limits)
     } else {
-        sum_few(work, diagram, profile, nodes, steps, limits)
+        sum_sized::<C, MOST_NODES, MOST_NODES>(work, diagram, profile, nodes, steps, limits)
     }
 }
