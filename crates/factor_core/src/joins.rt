@@ -50,9 +50,9 @@ fn join_in<C: Cell>(
     walk_over(narrow, axes, strides, cells, places, out, 0);
 }
 
-/// A join of few slots over few nodes.
+/// A join over fewer than `NODES` nodes, of up to `SLOTS` slots, with `STRIDES` strides at most.
 #[inline(never)]
-fn join_small<C: Cell>(
+fn join_sized<C: Cell, const NODES: usize, const SLOTS: usize, const STRIDES: usize>(
     counts: &[usize],
     slots: &[Slot],
     node: usize,
@@ -60,87 +60,18 @@ fn join_small<C: Cell>(
     cells: &[C],
     out: &mut [C],
 )
-    requires nodes { length (listed (holds scope.now) 0 (length counts.now)) < 16 }
-    requires slots { length slots.now ≤ 8 }
+    requires sizes { (NODES ≤ 257) × (SLOTS ≤ 256) × (STRIDES ≤ 65792) }
+    requires nodes { length (listed (holds scope.now) 0 (length counts.now)) < NODES }
+    requires slots { length slots.now ≤ SLOTS }
     requires strides { (length (listed (holds scope.now) 0 (length counts.now)) + 1)
-        * length slots.now ≤ 64 }
+        * length slots.now ≤ STRIDES }
     requires can { CanJoin C.ring cells.now counts.now slots.now node scope.now out.old }
     ensures { HasJoin C.ring cells.now counts.now slots.now node scope.now out.new }
 {
-    let mut order = [0; 16];
-    let mut axes = [Axis { states: 1, out: 0 }; 16];
-    let mut strides = [0; 64];
-    let mut places = [0; 8];
-    join_in(
-        counts,
-        slots,
-        node,
-        scope,
-        cells,
-        out,
-        &mut order,
-        &mut axes,
-        &mut strides,
-        &mut places,
-    );
-}
-
-/// A join of few slots.
-#[inline(never)]
-fn join_some<C: Cell>(
-    counts: &[usize],
-    slots: &[Slot],
-    node: usize,
-    scope: &NodeSet,
-    cells: &[C],
-    out: &mut [C],
-)
-    requires nodes { length (listed (holds scope.now) 0 (length counts.now)) < 257 }
-    requires slots { length slots.now ≤ 256 }
-    requires strides { (length (listed (holds scope.now) 0 (length counts.now)) + 1)
-        * length slots.now ≤ 1028 }
-    requires can { CanJoin C.ring cells.now counts.now slots.now node scope.now out.old }
-    ensures { HasJoin C.ring cells.now counts.now slots.now node scope.now out.new }
-{
-    let mut order = [0; 257];
-    let mut axes = [Axis { states: 1, out: 0 }; 257];
-    let mut strides = [0; 1028];
-    let mut places = [0; 257];
-    join_in(
-        counts,
-        slots,
-        node,
-        scope,
-        cells,
-        out,
-        &mut order,
-        &mut axes,
-        &mut strides,
-        &mut places,
-    );
-}
-
-/// A join of many slots.
-#[inline(never)]
-fn join_many<C: Cell>(
-    counts: &[usize],
-    slots: &[Slot],
-    node: usize,
-    scope: &NodeSet,
-    cells: &[C],
-    out: &mut [C],
-)
-    requires nodes { length (listed (holds scope.now) 0 (length counts.now)) < 257 }
-    requires slots { length slots.now ≤ 256 }
-    requires strides { (length (listed (holds scope.now) 0 (length counts.now)) + 1)
-        * length slots.now ≤ 65792 }
-    requires can { CanJoin C.ring cells.now counts.now slots.now node scope.now out.old }
-    ensures { HasJoin C.ring cells.now counts.now slots.now node scope.now out.new }
-{
-    let mut order = [0; 257];
-    let mut axes = [Axis { states: 1, out: 0 }; 257];
-    let mut strides = [0; 65792];
-    let mut places = [0; 257];
+    let mut order = [0; NODES];
+    let mut axes = [Axis { states: 1, out: 0 }; NODES];
+    let mut strides = [0; STRIDES];
+    let mut places = [0; SLOTS];
     join_in(
         counts,
         slots,
@@ -171,13 +102,17 @@ pub fn join_into<C: Cell>(
 {
     let n = count_nodes(counts.len(), scope);
     let size = (n + 1) * slots.len();
+    if n < 8 && slots.len() <= 4 && size <= 32 {
+        join_sized::<C, 8, 4, 32>(counts, slots, node, scope, cells, out);
+        return;
+    }
     if n < 16 && slots.len() <= 8 && size <= 64 {
-        join_small(counts, slots, node, scope, cells, out);
+        join_sized::<C, 16, 8, 64>(counts, slots, node, scope, cells, out);
         return;
     }
     if size <= 1028 {
-        join_some(counts, slots, node, scope, cells, out);
+        join_sized::<C, 257, 256, 1028>(counts, slots, node, scope, cells, out);
         return;
     }
-    join_many(counts, slots, node, scope, cells, out);
+    join_sized::<C, 257, 256, 65792>(counts, slots, node, scope, cells, out);
 }

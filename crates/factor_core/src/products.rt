@@ -44,92 +44,27 @@ fn multiply_in<C: Cell>(
     walk_over(Narrow::none(), axes, strides, cells, places, out, 0);
 }
 
-/// A product of few slots over few nodes.
+/// A product over fewer than `NODES` nodes, of up to `SLOTS` slots, with `STRIDES` strides at most.
 #[inline(never)]
-fn multiply_small<C: Cell>(
+fn multiply_sized<C: Cell, const NODES: usize, const SLOTS: usize, const STRIDES: usize>(
     counts: &[usize],
     slots: &[Slot],
     scope: &NodeSet,
     cells: &[C],
     out: &mut [C],
 )
-    requires nodes { length (listed (holds scope.now) 0 (length counts.now)) < 16 }
-    requires slots { length slots.now ≤ 8 }
+    requires sizes { (NODES ≤ 257) × (SLOTS ≤ 256) × (STRIDES ≤ 65792) }
+    requires nodes { length (listed (holds scope.now) 0 (length counts.now)) < NODES }
+    requires slots { length slots.now ≤ SLOTS }
     requires strides { (length (listed (holds scope.now) 0 (length counts.now)) + 1)
-        * length slots.now ≤ 64 }
+        * length slots.now ≤ STRIDES }
     requires can { CanMultiply C.ring cells.now counts.now slots.now scope.now out.old }
     ensures { HasProduct C.ring cells.now counts.now slots.now scope.now out.new }
 {
-    let mut order = [0; 16];
-    let mut axes = [Axis { states: 1, out: 0 }; 16];
-    let mut strides = [0; 64];
-    let mut places = [0; 8];
-    multiply_in(
-        counts,
-        slots,
-        scope,
-        cells,
-        out,
-        &mut order,
-        &mut axes,
-        &mut strides,
-        &mut places,
-    );
-}
-
-/// A product of few slots.
-#[inline(never)]
-fn multiply_some<C: Cell>(
-    counts: &[usize],
-    slots: &[Slot],
-    scope: &NodeSet,
-    cells: &[C],
-    out: &mut [C],
-)
-    requires nodes { length (listed (holds scope.now) 0 (length counts.now)) < 257 }
-    requires slots { length slots.now ≤ 256 }
-    requires strides { (length (listed (holds scope.now) 0 (length counts.now)) + 1)
-        * length slots.now ≤ 1028 }
-    requires can { CanMultiply C.ring cells.now counts.now slots.now scope.now out.old }
-    ensures { HasProduct C.ring cells.now counts.now slots.now scope.now out.new }
-{
-    let mut order = [0; 257];
-    let mut axes = [Axis { states: 1, out: 0 }; 257];
-    let mut strides = [0; 1028];
-    let mut places = [0; 257];
-    multiply_in(
-        counts,
-        slots,
-        scope,
-        cells,
-        out,
-        &mut order,
-        &mut axes,
-        &mut strides,
-        &mut places,
-    );
-}
-
-/// A product of many slots.
-#[inline(never)]
-fn multiply_many<C: Cell>(
-    counts: &[usize],
-    slots: &[Slot],
-    scope: &NodeSet,
-    cells: &[C],
-    out: &mut [C],
-)
-    requires nodes { length (listed (holds scope.now) 0 (length counts.now)) < 257 }
-    requires slots { length slots.now ≤ 256 }
-    requires strides { (length (listed (holds scope.now) 0 (length counts.now)) + 1)
-        * length slots.now ≤ 65792 }
-    requires can { CanMultiply C.ring cells.now counts.now slots.now scope.now out.old }
-    ensures { HasProduct C.ring cells.now counts.now slots.now scope.now out.new }
-{
-    let mut order = [0; 257];
-    let mut axes = [Axis { states: 1, out: 0 }; 257];
-    let mut strides = [0; 65792];
-    let mut places = [0; 257];
+    let mut order = [0; NODES];
+    let mut axes = [Axis { states: 1, out: 0 }; NODES];
+    let mut strides = [0; STRIDES];
+    let mut places = [0; SLOTS];
     multiply_in(
         counts,
         slots,
@@ -159,12 +94,12 @@ pub fn multiply_into<C: Cell>(
     let n = count_nodes(counts.len(), scope);
     let size = (n + 1) * slots.len();
     if n < 16 && slots.len() <= 8 && size <= 64 {
-        multiply_small(counts, slots, scope, cells, out);
+        multiply_sized::<C, 16, 8, 64>(counts, slots, scope, cells, out);
         return;
     }
     if size <= 1028 {
-        multiply_some(counts, slots, scope, cells, out);
+        multiply_sized::<C, 257, 256, 1028>(counts, slots, scope, cells, out);
         return;
     }
-    multiply_many(counts, slots, scope, cells, out);
+    multiply_sized::<C, 257, 256, 65792>(counts, slots, scope, cells, out);
 }
