@@ -315,14 +315,14 @@ fn outing(alloc: Global) -> Result<Profile, AllocError>
 }
 
 /// G, row by row and the state fastest, and R of each row.
-#[derive(Debug, Drop)]
-pub(crate) struct Sums {
-    pub(crate) gains: Vec<i128>,
-    pub(crate) masses: Vec<u128>,
+#[derive(Drop)]
+struct Sums {
+    gains: Vec<i128>,
+    masses: Vec<u128>,
 }
 
 /// A diagram with a profile, and room for their sums.
-#[derive(Debug, Drop)]
+#[derive(Drop)]
 pub(crate) struct Trial {
     diagram: Diagram,
     profile: Profile,
@@ -345,14 +345,36 @@ impl Trial {
         Trial { diagram, profile }
     }
 
+    /// Whether the agents' N are these, from agent 0 on.
+    pub(crate) fn has_gains(&self, alloc: Global, gains: &[i128]) -> Result<bool, AllocError> {
+        for (agent, gain) in gains.iter().enumerate() {
+            if self.gain(alloc, agent)? != *gain {
+                return Ok(false);
+            }
+        }
+        Ok(true)
+    }
+
+    /// Whether the decision's sums are these: G, row by row and the state fastest, and R of each row.
+    pub(crate) fn has_sums(
+        &self,
+        alloc: Global,
+        decision: usize,
+        gains: &[i128],
+        masses: &[u128],
+    ) -> Result<bool, AllocError> {
+        let sums = self.sums(alloc, decision)?;
+        Ok(sums.gains.as_slice() == gains && sums.masses.as_slice() == masses)
+    }
+
     /// N of the agent.
-    pub(crate) fn gain(&self, alloc: Global, agent: usize) -> Result<i128, AllocError> {
+    fn gain(&self, alloc: Global, agent: usize) -> Result<i128, AllocError> {
         let mut world = World::first(alloc, &self.diagram)?;
         Ok(leaf_sum(&self.diagram, &self.profile, agent, &mut world))
     }
 
     /// The sums of a node, empty where it is no decision.
-    pub(crate) fn sums(&self, alloc: Global, decision: usize) -> Result<Sums, AllocError> {
+    fn sums(&self, alloc: Global, decision: usize) -> Result<Sums, AllocError> {
         let mut sums = Sums {
             gains: Vec::new(alloc),
             masses: Vec::new(alloc),
