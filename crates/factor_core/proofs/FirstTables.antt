@@ -10,15 +10,19 @@ use Rattle.maid_laws.proofs.Rearranged.{number}
 use Rattle.maid_model.specs.declared.diagrams.Kind.TheVariants.{Chance, Decision, Utility}
 use Rattle.maid_model.specs.Diagrams.{IsDiagram}
 use Rattle.maid_model.specs.Graph.{AllDifferent, Here}
-use Rattle.maid_model.specs.Nodes.{node_at, states_of, parents_of, numbers_of, decisions_of, rows_of, rows_under, is_decision, IsDecision}
+use Rattle.maid_model.specs.Nodes.{node_at, states_of, parents_of, numbers_of, decisions_of, counts_of, rows_of, rows_under, is_decision, IsDecision}
 use Rattle.maid_model.specs.Profiles.{IsProfile, HasRule}
 use Rattle.maid_model.specs.Tables.{row_from, row_of, cell_of, table_by, weights_of}
-use Rattle.maid_model.specs.Views.{DiagramView, RuleView}
+use Rattle.maid_model.specs.Views.{NodeView, DiagramView, RuleView}
+use Rattle.node_sets.specs.declared.sets.NodeSet.{NodeSet}
+use Rattle.node_sets.specs.Sets.{holds}
 use Rattle.ring_sums.specs.Tables.{IsSame}
 use Rattle.plan_sums.specs.Plans.{Cells, has, node_table, utility_table}
 use Rattle.factor_core.specs.Copies.{list_table}
 use Rattle.factor_core.specs.Slots.{cells_over}
+use Rattle.factor_core.specs.Tables.{states_in, size_of}
 use Rattle.factor_core.proofs.Copying.{row_below}
+use Rattle.factor_core.proofs.Counts.{states_is, cells_are}
 use Rattle.factor_core.proofs.ListTables.{has_is, row_behind, rows_behind, has_behind}
 use Rattle.factor_core.proofs.Reordering.{shuffled_nodes, rows_shuffled}
 
@@ -35,6 +39,16 @@ different_behind (u ∷ us) v h apart = (
   λ m. elim (among_behind us v u (among_of u (us ++ v ∷ []) m)) [ inl k ↦ h.0 (contains_of u us k) | inr e ↦ apart (contains_of v (u ∷ us) (inl (sym e))) ],
   different_behind us v h.1 (λ m. apart (contains_of v (u ∷ us) (inr (among_of v us m)))),
 )
+
+-- the choices of states of a list of nodes are as many as the cells of a table over them
+pub list_size : (nodes : List NodeView) (counts : List ℕ) → counts ≡ counts_of nodes → (list : List ℕ) (scope : NodeSet) → AllDifferent list
+    → ((v : ℕ) → Contains list v → v < length nodes) → ((v : ℕ) → holds scope v ≡ has list v) → rows_under (states_in counts) list ≡ size_of counts scope
+list_size nodes counts is list scope once known same =
+    ap (λ f. rows_under f list) (ap states_in is ∙ states_is nodes)
+    ∙ rows_shuffled (states_of nodes) (shuffled_nodes nodes (has list) list once (has_is list) (λ v t. known v ((has_is list v).1 t)))
+    ∙ ap (cells_over nodes) (sym (fun_ext same))
+    ∙ sym (cells_are nodes (holds scope))
+    ∙ ap (λ cs. size_of cs scope) (sym is)
 
 module _ (d : DiagramView) (is : IsDiagram d) (v : ℕ) (inside : v < length d.nodes) where
   abbrev pub family : List ℕ

@@ -14,7 +14,6 @@ ghost use Rattle.factor_core.specs.Tables.{AreCounts, states_in};
 
 use crate::copies::{Step, copy_from};
 use crate::orders::list_nodes;
-use crate::sizes::table_size;
 use crate::slots::Slot;
 use crate::sources::Source;
 use crate::walks::before;
@@ -181,7 +180,7 @@ pub fn write_table<C: Cell, S: Source<C>>(
         (list_table C.ring diagram.now.nodes list.now (S.cells source.now)) }
 {
     let scope = scope_of(list);
-    let len = table_size(counts, &scope);
+    let len = rows_after(counts, list, 0);
     let mut order = [0; MOST_PARENTS + 2];
     let n = list_nodes(&mut order, counts.len(), &scope);
     let order = before(&order, n);

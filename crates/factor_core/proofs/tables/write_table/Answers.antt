@@ -10,9 +10,10 @@ use Rattle.cell_rings.specs.Sums.{cell_at}
 use Rattle.factor_core.specs.Copies.{gathered, count_of_steps, steps_of, steps_in, CanCopy, list_stride, list_table}
 use Rattle.factor_core.specs.Slots.{nodes_in, cells_over}
 use Rattle.factor_core.specs.Tables.{AreCounts, listed, states_in, size_of, place_of, out_place}
-use Rattle.factor_core.proofs.Behind.{ends_within, size_small}
+use Rattle.factor_core.proofs.Behind.{ends_within}
 use Rattle.factor_core.proofs.Copying.{count_is, gathered_at, length-gathered, row_below}
 use Rattle.factor_core.proofs.Counts.{are_counts, counts_length, states_is, nodes_are, size_is, place_is, range_is}
+use Rattle.factor_core.proofs.FirstTables.{list_size}
 use Rattle.factor_core.proofs.Gathering.{can_copy, copied_kept, copied_at}
 use Rattle.factor_core.proofs.Joining.{place_below}
 use Rattle.factor_core.proofs.ListTables.{has_is, stride_le, list_place}
@@ -24,22 +25,24 @@ use Rattle.factor_core.proofs.tables.write_table.Goals as goal
 pub scope_of-scope-requires : goal.scope_of-scope-requires
 scope_of-scope-requires g c = λ v m. let k = c.requires.known v m in omega (arith, k, c.requires.diagram.limits.nodes)
 
-pub table_size-len-requires-clause-counts : goal.table_size-len-requires-clause-counts
-table_size-len-requires-clause-counts g c =
+pub rows_after-len-requires-clause-counts : goal.rows_after-len-requires-clause-counts
+rows_after-len-requires-clause-counts g c =
     let d = c.args.diagram.now in
-    let counts = c.args.counts.now in
     let is : c.args.counts.now ≡ counts_of d.nodes = c.requires.counts in
     subst AreCounts (sym is) (are_counts d c.requires.diagram)
 
-pub table_size-len-requires-clause-fits : goal.table_size-len-requires-clause-fits
-table_size-len-requires-clause-fits g c =
+pub rows_after-len-requires-clause-list : goal.rows_after-len-requires-clause-list
+rows_after-len-requires-clause-list g c =
     let d = c.args.diagram.now in
     let counts = c.args.counts.now in
     let is : c.args.counts.now ≡ counts_of d.nodes = c.requires.counts in
-    let list = c.args.list.now in
-    let mixed = shuffled_nodes d.nodes (has list) list c.requires.once (has_is list) (λ v t. c.requires.known v ((has_is list v).1 t)) in
-    let room : cells_over d.nodes (has list) ≤ length c.args.all.now - c.args.used = omega (arith, rows_shuffled (states_of d.nodes) mixed, c.requires.room) in
-    size_small d.nodes counts is c.scope_of-scope.result (has list) c.scope_of-scope.ensures c.args.all.now c.args.used c.requires.used room c.requires.short
+    below_of (length counts) c.args.list.now (λ v m. let k = c.requires.known v m in omega (arith, k, ap length is, counts_length d.nodes))
+
+pub rows_after-len-requires-clause-fits : goal.rows_after-len-requires-clause-fits
+rows_after-len-requires-clause-fits g c =
+    let d = c.args.diagram.now in
+    let is : c.args.counts.now ≡ counts_of d.nodes = c.requires.counts in
+    omega (arith, ap (λ f. rows_under f c.args.list.now) (ap states_in is ∙ states_is d.nodes), c.requires.room, c.requires.short)
 
 pub list_nodes-n-requires-clause-room : goal.list_nodes-n-requires-clause-room
 list_nodes-n-requires-clause-room g c =
@@ -128,8 +131,9 @@ returns-clause-len g c =
     let list = c.args.list.now in
     let mixed = shuffled_nodes d.nodes (has list) list c.requires.once (has_is list) (λ v t. c.requires.known v ((has_is list v).1 t)) in
     let room : cells_over d.nodes (has list) ≤ length c.args.all.now - c.args.used = omega (arith, rows_shuffled (states_of d.nodes) mixed, c.requires.room) in
+    let len_is : c.rows_after-len.result ≡ size_of counts c.scope_of-scope.result = c.rows_after-len.ensures ∙ list_size d.nodes counts is list c.scope_of-scope.result c.requires.once c.requires.known c.scope_of-scope.ensures in
     let same : length c.copy_listed.new.all ≡ length c.args.all.now = search rules in
-    omega (arith, same, c.table_size-len.ensures, ends_within d.nodes counts is c.scope_of-scope.result (has list) c.scope_of-scope.ensures c.args.all.now c.args.used c.requires.used room)
+    omega (arith, same, len_is, ends_within d.nodes counts is c.scope_of-scope.result (has list) c.scope_of-scope.ensures c.args.all.now c.args.used c.requires.used room)
 
 pub returns-clause-table : goal.returns-clause-table
 returns-clause-table g c =
@@ -142,6 +146,7 @@ returns-clause-table g c =
     let new = c.copy_listed.new.all in
     let list = c.args.list.now in
     let scope = c.scope_of-scope.result in
+    let len_is : c.rows_after-len.result ≡ size_of counts c.scope_of-scope.result = c.rows_after-len.ensures ∙ list_size d.nodes counts is list c.scope_of-scope.result c.requires.once c.requires.known c.scope_of-scope.ensures in
     let order = listed (holds scope) 0 (length counts) in
     let stride = list_stride (states_in counts) list in
     let counts_are : states_in counts ≡ states_of d.nodes = ap states_in is ∙ states_is d.nodes in
@@ -154,15 +159,15 @@ returns-clause-table g c =
     let size : count_of_steps (steps_of (states_in counts) stride order) ≡ size_of counts scope = count_is r (states_in counts) stride order ∙ sym (size_is (states_in counts) (holds scope) (length counts) 0) in
     let cells = g.S.Source.cells c.args.source.now in
     let copied = gathered r cells (steps_of (states_in counts) stride order) 0 in
-    let long : length copied ≡ c.table_size-len.result = length-gathered r cells (steps_of (states_in counts) stride order) 0 ∙ size ∙ sym c.table_size-len.ensures in
-    let written : take (used + c.table_size-len.result) new ≡ take used all ++ copied =
-    ap (λ k. take (used + k) new) (c.table_size-len.ensures ∙ sym size ∙ ap count_of_steps (sym steps)) ∙ c.copy_listed.ensures ∙ ap (λ l. take used all ++ gathered r cells l 0) steps in
+    let long : length copied ≡ c.rows_after-len.result = length-gathered r cells (steps_of (states_in counts) stride order) 0 ∙ size ∙ sym len_is in
+    let written : take (used + c.rows_after-len.result) new ≡ take used all ++ copied =
+    ap (λ k. take (used + k) new) (len_is ∙ sym size ∙ ap count_of_steps (sym steps)) ∙ c.copy_listed.ensures ∙ ap (λ l. take used all ++ gathered r cells l 0) steps in
     let same : length new ≡ length all = search rules in
-    appends_table r d.nodes all new used c.table_size-len.result same
-    (omega (arith, c.table_size-len.ensures, ends))
-    (copied_kept r all new copied used c.table_size-len.result c.requires.used long written)
+    appends_table r d.nodes all new used c.rows_after-len.result same
+    (omega (arith, len_is, ends))
+    (copied_kept r all new copied used c.rows_after-len.result c.requires.used long written)
     scope (list_table r d.nodes list cells)
-    (c.table_size-len.ensures ∙ ap (λ cs. size_of cs scope) is)
+    (len_is ∙ ap (λ cs. size_of cs scope) is)
     (λ v t. c.requires.known v ((has_is list v).1 (sym (c.scope_of-scope.ensures v) ∙ t)))
     c.scope_of-scope.ensures
     (λ w i.
@@ -170,7 +175,7 @@ returns-clause-table g c =
     let below = place_below (states_in counts) (holds scope) w ok (length counts) 0 in
     let along = ap (λ l. out_place stride l w) order_is ∙ sym (out_shuffled stride w mixed) ∙ list_place (states_in counts) list w (once_of list c.requires.once) ∙ ap (λ f. row_from f w 0 list) counts_are in
     ap (λ cs. cell_at r new (used + place_of cs scope w)) (sym is)
-    ∙ copied_at r all new copied used c.table_size-len.result c.requires.used long written (place_of counts scope w) (omega (arith, below, c.table_size-len.ensures))
+    ∙ copied_at r all new copied used c.rows_after-len.result c.requires.used long written (place_of counts scope w) (omega (arith, below, len_is))
     ∙ ap (cell_at r copied) (place_is (states_in counts) (holds scope) w (length counts) 0)
     ∙ gathered_at r (states_in counts) stride cells order 0 w ok
     ∙ ap (cell_at r cells) (let z : 0 + out_place stride order w ≡ row_from (states_of d.nodes) w 0 list = omega (arith, along) in z))
