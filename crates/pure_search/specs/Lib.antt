@@ -1,4 +1,3 @@
-pub mod Example
 pub mod Faults
 pub mod Found
 pub mod Games

@@ -18,6 +18,3 @@ mod worths;
 pub use faults::PureFault;
 pub use found::Pure;
 pub use searching::first_pure;
-
-#[cfg(test)]
-mod tests;

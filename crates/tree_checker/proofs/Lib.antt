@@ -12,7 +12,6 @@ mod OneVerdictLaw
 mod FirstLines
 mod AgentParts
 mod SoundLaws
-mod ExampleReports
 pub mod Walking
 pub mod WalkTables
 pub mod WalkSteps

@@ -4,4 +4,3 @@ pub mod Settings
 pub mod Sound
 pub mod Laws
 pub mod Judged
-pub mod Example

@@ -16,8 +16,6 @@ mod parts;
 mod rows;
 mod settings;
 mod strides;
-#[cfg(test)]
-mod tests;
 mod verdicts;
 mod walks;
 

@@ -2,8 +2,8 @@
 use Rattle.std.proofs.Common.{◌≡◌, ◌∙◌, ◌++◌, ◌∷◌, [], ℕ, zero, suc, Bool, true, false, refl, sym, subst, pos, replicate}
 use Rattle.maid_model.specs.Diagrams.{IsDiagram}
 use Rattle.maid_model.specs.Tested.{all_true, diagram_tests}
-use Rattle.pure_search.specs.Example.{first_pays, move_of, pays, second_pays, seen_in, two_movers}
-use Rattle.pure_search.proofs.tests.two_movers.Goals as goal
+use Rattle.form_tests.specs.Searching.{first_pays, move_of, pays, second_pays, seen_in, two_movers}
+use Rattle.form_tests.proofs.searching.two_movers.Goals as goal
 
 tested : (game : ℕ) → all_true (diagram_tests (two_movers game)) ≡ true
 tested zero = refl

@@ -5,8 +5,8 @@ use Rattle.std.specs.Int.{w128}
 use Rattle.maid_model.specs.declared.diagrams.Kind.TheVariants.{Utility}
 use Rattle.maid_model.specs.Diagrams.{IsDiagram}
 use Rattle.maid_model.specs.Tested.{all_true, diagram_tests}
-use Rattle.pure_search.specs.Example.{coin, even, prize}
-use Rattle.pure_search.proofs.tests.coin.Goals as goal
+use Rattle.form_tests.specs.Searching.{coin, even, prize}
+use Rattle.form_tests.proofs.searching.coin.Goals as goal
 
 tested : (heavy : Bool) → all_true (diagram_tests (coin heavy)) ≡ true
 tested true = refl

@@ -1,47 +1,18 @@
-//! Reports of a small diagram, checked with ample memory.
+//! Tests of `tree_checker`: reports of a small diagram, checked with ample memory.
 
-ghost use Rattle.std.specs.Prelude.{◌≡◌, ◌<◌, ◌≤◌, [], IfOk, IfSome, IsTrue};
+ghost use Rattle.std.specs.Prelude.{◌≡◌, ◌<◌, ◌≤◌, IfOk, IfSome, IsTrue};
 ghost use Rattle.maid_model.specs.declared.limits.TheConstants.{MOST_LEAVES};
 ghost use Rattle.maid_model.specs.Answers.{IsReduced};
 ghost use Rattle.maid_model.specs.Bounds.{world_count};
 ghost use Rattle.maid_model.specs.Scopes.{KeepsScopedBounds};
-ghost use Rattle.tree_checker.specs.Example.{reply_diagram, reply_report};
+ghost use Rattle.form_tests.specs.Checking.{reply_diagram, reply_report};
 
-use crate::{Cause, Verdict, check, leaves};
-use maid_model::{
-    Answer, Diagram, Kind, MOST_LEAVES, Node, Ratio, Row, Solved, literals_are_tested,
-};
-use smallvec::SmallVec;
+use crate::samples::node;
+use maid_model::{Answer, Diagram, Kind, MOST_LEAVES, Ratio, Row, Solved, literals_are_tested};
 use std::alloc::{AllocError, Global};
 use std::test::Fail;
+use tree_checker::{Cause, Verdict, check, leaves};
 use weight_scale::{BoundPlace, bound};
-
-fn node(
-    alloc: Global,
-    kind: Kind,
-    states: usize,
-    parents: &[usize],
-    cells: &[i128],
-) -> Result<Node, AllocError>
-    ensures { IfOk result (λ n.
-        n ≡ record {
-          kind = kind;
-          owner = 0;
-          more = [];
-          states = states;
-          parents = parents.now;
-          cells = cells.now;
-        }) }
-{
-    Ok(Node {
-        kind,
-        owner: 0,
-        more: SmallVec::new(alloc),
-        states,
-        parents: SmallVec::from_slice(alloc, parents)?,
-        cells: Vec::from_slice(alloc, cells)?,
-    })
-}
 
 /// A plan, a reply that sees it, and what the pairs pay: 1, 4, 3 and 2.
 fn reply_diagram(alloc: Global) -> Result<Diagram, AllocError>
@@ -49,9 +20,9 @@ fn reply_diagram(alloc: Global) -> Result<Diagram, AllocError>
 {
     literals_are_tested();
     let mut nodes = Vec::new(alloc);
-    nodes.push(node(alloc, Kind::Decision, 2, &[], &[])?)?;
-    nodes.push(node(alloc, Kind::Decision, 2, &[0], &[])?)?;
-    nodes.push(node(alloc, Kind::Utility, 1, &[0, 1], &[1, 4, 3, 2])?)?;
+    nodes.push(node(alloc, Kind::Decision, 0, 2, &[], &[])?)?;
+    nodes.push(node(alloc, Kind::Decision, 0, 2, &[0], &[])?)?;
+    nodes.push(node(alloc, Kind::Utility, 0, 1, &[0, 1], &[1, 4, 3, 2])?)?;
     Ok(Diagram::from_nodes(nodes, 1, 0))
 }
 

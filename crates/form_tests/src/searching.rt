@@ -1,41 +1,13 @@
-//! Small games, searched with ample memory.
+//! Tests of `pure_search`: small games, searched with ample memory.
 
-ghost use Rattle.std.specs.Prelude.{◌≡◌, [], pos, replicate, IfOk};
-ghost use Rattle.pure_search.specs.Example.{blind, coin, even, first_pays, move_of, prize, second_pays, seen_in, sight, two_movers};
+ghost use Rattle.std.specs.Prelude.{◌≡◌, IfOk};
+ghost use Rattle.form_tests.specs.Searching.{blind, coin, first_pays, prize, second_pays, seen_in, sight, two_movers};
 
-use super::*;
-use maid_model::{Diagram, GREATEST_NUMBER, Kind, Node, Ratio, literals_are_tested};
-use smallvec::SmallVec;
+use crate::samples::node;
+use maid_model::{Diagram, GREATEST_NUMBER, Kind, Ratio, literals_are_tested};
+use pure_search::{Pure, PureFault, first_pure};
 use std::alloc::{AllocError, Global};
 use std::test::Fail;
-
-fn node(
-    alloc: Global,
-    kind: Kind,
-    owner: usize,
-    states: usize,
-    parents: &[usize],
-    cells: &[i128],
-) -> Result<Node, AllocError>
-    ensures { IfOk result (λ n.
-        n ≡ record {
-          kind = kind;
-          owner = owner;
-          more = [];
-          states = states;
-          parents = parents.now;
-          cells = cells.now;
-        }) }
-{
-    Ok(Node {
-        kind,
-        owner,
-        more: SmallVec::new(alloc),
-        states,
-        parents: SmallVec::from_slice(alloc, parents)?,
-        cells: Vec::from_slice(alloc, cells)?,
-    })
-}
 
 fn seen_in(game: usize) -> &'static [usize]
     ensures { result.now ≡ seen_in game }

@@ -1,4 +1,4 @@
--- The reports of the test's diagram fit it.
+-- The reports of the small diagram fit it.
 use Rattle.std.proofs.Common.{◌≡◌, ℕ, zero, suc, ◌<◌, [], ◌∷◌, refl, arith}
 use Rattle.std.proofs.lemmas.List.Elements.{All-cons, All-nil}
 use Rattle.std.specs.Prelude.{Contains, IfSome}
@@ -8,7 +8,7 @@ use Rattle.maid_model.specs.declared.diagrams.Kind.{Kind}
 use Rattle.maid_model.specs.declared.diagrams.Kind.TheVariants.{Decision, Utility}
 use Rattle.maid_model.specs.Answers.{FitsAnswer, FitsDiagram, IsReduced}
 use Rattle.maid_model.specs.Nodes.{IsDecision, node_at}
-use Rattle.tree_checker.specs.Example.{reply_diagram, reply_report}
+use Rattle.form_tests.specs.Checking.{reply_diagram, reply_report}
 
 -- a row of two states, in lowest terms
 pub record IsFitRow (r : Row) : Type 0 where

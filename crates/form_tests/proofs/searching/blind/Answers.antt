@@ -2,8 +2,8 @@
 use Rattle.std.proofs.Common.{◌≡◌, ◌∙◌, ◌++◌, ◌∷◌, [], ℕ, zero, suc, Bool, true, false, refl, sym, subst, pos, replicate}
 use Rattle.maid_model.specs.Diagrams.{IsDiagram}
 use Rattle.maid_model.specs.Tested.{all_true, diagram_tests}
-use Rattle.pure_search.specs.Example.{blind, move_of, pays}
-use Rattle.pure_search.proofs.tests.blind.Goals as goal
+use Rattle.form_tests.specs.Searching.{blind, move_of, pays}
+use Rattle.form_tests.proofs.searching.blind.Goals as goal
 
 pub from_nodes-requires : goal.from_nodes-requires
 from_nodes-requires c =

@@ -1,4 +1,4 @@
--- The small games of the tests.
+-- The small games that are searched.
 use Rattle.std.specs.Prelude.{ℕ, zero, suc, Bool, true, false, List, [], ◌∷◌, ℤ, pos, negsuc, replicate}
 use Rattle.maid_model.specs.declared.diagrams.Kind.TheVariants.{Chance, Decision, Utility}
 use Rattle.maid_model.specs.declared.limits.TheConstants.{GREATEST_NUMBER}

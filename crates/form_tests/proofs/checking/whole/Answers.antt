@@ -1,7 +1,7 @@
 use Rattle.std.proofs.Common.{◌≡◌, ◌%◌, ℕ, arith}
 use Rattle.std.proofs.lemmas.Nat.Gcd.{IsGcd-from_mod, IsGcd-from_zero}
 use Rattle.std.specs.Int.{IsGcd}
-use Rattle.tree_checker.proofs.tests.whole.Goals as goal
+use Rattle.form_tests.proofs.checking.whole.Goals as goal
 
 -- one divides all
 by_one : (n : ℕ) → IsGcd n 1 1

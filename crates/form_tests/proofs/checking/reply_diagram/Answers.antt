@@ -2,8 +2,8 @@ use Rattle.std.proofs.Common.{◌≡◌, ◌∙◌, ◌++◌, ◌∷◌, [], pos
 use Rattle.maid_model.specs.declared.diagrams.Kind.TheVariants.{Utility}
 use Rattle.maid_model.specs.Diagrams.{IsDiagram}
 use Rattle.maid_model.specs.Views.{NodeView}
-use Rattle.tree_checker.specs.Example.{choice_over, reply_diagram}
-use Rattle.tree_checker.proofs.tests.reply_diagram.Goals as goal
+use Rattle.form_tests.specs.Checking.{choice_over, reply_diagram}
+use Rattle.form_tests.proofs.checking.reply_diagram.Goals as goal
 
 abbrev pay : NodeView
 pay = record { kind = Utility; owner = 0; more = []; states = 1; parents = 0 ∷ 1 ∷ []; cells = pos 1 ∷ pos 4 ∷ pos 3 ∷ pos 2 ∷ [] }

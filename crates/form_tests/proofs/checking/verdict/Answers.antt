@@ -1,8 +1,8 @@
 use Rattle.std.proofs.Common.{sym, subst}
 use Rattle.maid_model.specs.Answers.{FitsDiagram}
-use Rattle.tree_checker.specs.Example.{reply_diagram}
-use Rattle.tree_checker.proofs.ExampleReports.{fits}
-use Rattle.tree_checker.proofs.tests.verdict.Goals as goal
+use Rattle.form_tests.specs.Checking.{reply_diagram}
+use Rattle.form_tests.proofs.FittingReports.{fits}
+use Rattle.form_tests.proofs.checking.verdict.Goals as goal
 
 pub check-requires-clause-fits : goal.check-requires-clause-fits
 check-requires-clause-fits c =

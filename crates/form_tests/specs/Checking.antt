@@ -1,4 +1,4 @@
--- The small diagram of the test, and its reports.
+-- The small diagram whose reports are checked, and those reports.
 use Rattle.std.specs.Prelude.{ℕ, List, [], ◌∷◌, pos}
 use Rattle.maid_model.specs.declared.answers.Ratio.{Ratio}
 use Rattle.maid_model.specs.declared.answers.Row.{Row}
