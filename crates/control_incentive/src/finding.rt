@@ -4,28 +4,35 @@ ghost use Rattle.std.specs.Prelude.{◌≡◌, IfOk, IfSome};
 ghost use Rattle.maid_model.specs.declared.diagrams.Kind.TheVariants.{Chance};
 ghost use Rattle.maid_model.specs.Nodes.{node_at};
 ghost use Rattle.optimum_gap.specs.Baselines.{IsBaseline};
+ghost use Rattle.rule_solver.specs.Rooms.{AreLeft};
 ghost use Rattle.size_precheck.specs.Kept.{IsKeptRun};
 ghost use Rattle.control_incentive.specs.Steps.{IsFoundAlone};
 
 use diagram_graph::{MakeFault, make_decision};
 use optimum_gap::{Baseline, Found, edits_keep_scopes};
+use rule_solver::Workspaces;
 use size_precheck::{KeptRun, kept_runs_stand};
 use std::alloc::{AllocError, Global};
 
 /// What is found of the control of a chance node that matters to the agent or doesn't. Where it does, the diagram in which
-/// the agent decides at the node is solved once, and the plans that are kept stand in it.
+/// the agent decides at the node is solved once, and the plans that are kept stand in it. It runs in the workspaces that are
+/// left of another run, and leaves its own.
 pub(crate) fn find(
     alloc: Global,
     baseline: &Baseline,
     kept: Option<&KeptRun>,
+    left: &mut Option<Workspaces>,
     matters: bool,
     node: usize,
 ) -> Result<Found, AllocError>
     requires baseline { IsBaseline baseline.now.diagram.now baseline.now.agent
         baseline.now.optimum }
     requires kept { IfSome kept (λ run. IsKeptRun baseline.now.diagram.now.nodes run.now) }
+    requires left { AreLeft left.old }
     requires chance { (node_at baseline.now.diagram.now.nodes node).kind ≡ Chance }
-    ensures { IfOk result (IsFoundAlone baseline.now.diagram.now baseline.now.agent node matters) }
+    ensures found { IfOk result
+        (IsFoundAlone baseline.now.diagram.now baseline.now.agent node matters) }
+    ensures left { AreLeft left.new }
 {
     edits_keep_scopes();
     kept_runs_stand();
@@ -34,7 +41,7 @@ pub(crate) fn find(
     }
     let _count = baseline.diagram.count();
     match make_decision(alloc, baseline.diagram, node, baseline.agent) {
-        Ok(edited) => baseline.gain_with(alloc, &edited, kept),
+        Ok(edited) => baseline.gain_with(alloc, &edited, kept, left),
         Err(MakeFault::TooLarge) => Ok(Found::TooLarge),
         Err(MakeFault::NoMemory) => Err(AllocError),
     }

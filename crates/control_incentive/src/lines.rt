@@ -7,6 +7,7 @@ ghost use Rattle.maid_model.specs.Nodes.{is_chance, node_at};
 ghost use Rattle.maid_model.specs.Scopes.{KeepsScopedBounds};
 ghost use Rattle.maid_model.specs.Views.{NodeView};
 ghost use Rattle.optimum_gap.specs.Baselines.{IsBaseline};
+ghost use Rattle.rule_solver.specs.Rooms.{AreLeft};
 ghost use Rattle.size_precheck.specs.Kept.{IsKeptRun};
 ghost use Rattle.control_incentive.specs.Lines.{IsControlLine, IsTrimmedAlone, TellsControl, chance_nodes, node_of};
 ghost use Rattle.control_incentive.specs.Steps.{IsLineAlone};
@@ -18,6 +19,7 @@ use maid_model::{Diagram, Kind, Solved};
 use node_sets::NodeSet;
 use optimum_gap::{Baseline, Found, answers_are_baselines};
 use requisite_trim::trim;
+use rule_solver::Workspaces;
 use size_precheck::{KeptRun, keep_plans};
 use std::alloc::{AllocError, Global};
 
@@ -76,21 +78,25 @@ fn control_line(
     alloc: Global,
     baseline: &Baseline,
     kept: Option<&KeptRun>,
+    left: &mut Option<Workspaces>,
     paths: &Paths,
     node: usize,
 ) -> Result<ControlLine, AllocError>
     requires baseline { IsBaseline baseline.now.diagram.now baseline.now.agent
         baseline.now.optimum }
     requires kept { IfSome kept (λ run. IsKeptRun baseline.now.diagram.now.nodes run.now) }
+    requires left { AreLeft left.old }
     requires chance { (node_at baseline.now.diagram.now.nodes node).kind ≡ Chance }
     requires within { node < length baseline.now.diagram.now.nodes }
     ensures node { IfOk result (λ line. line.node ≡ node) }
     ensures line { IfOk result (IsLineAlone baseline.now.diagram.now baseline.now.agent paths.now) }
+    ensures left { AreLeft left.new }
 {
     let _count = baseline.diagram.count();
     let response = paths.respond.holds(node);
     let instrumental = paths.instruments.holds(node);
-    let found = find(alloc, baseline, kept, paths.matter.holds(node), node)?;
+    let matters = paths.matter.holds(node);
+    let found = find(alloc, baseline, kept, left, matters, node)?;
     Ok(ControlLine {
         node,
         response,
@@ -99,7 +105,7 @@ fn control_line(
     })
 }
 
-/// A line for each of the chance nodes.
+/// A line for each of the chance nodes. All runs share their workspaces.
 fn control_lines(
     alloc: Global,
     baseline: &Baseline,
@@ -118,8 +124,10 @@ fn control_lines(
         All (IsLineAlone baseline.now.diagram.now baseline.now.agent paths.now) lines.items) }
 {
     let mut lines = Vec::with_capacity(alloc, nodes.len())?;
+    let mut left = None;
     for node in nodes {
-        lines.push(control_line(alloc, baseline, kept, paths, *node)?)?;
+        let line = control_line(alloc, baseline, kept, &mut left, paths, *node)?;
+        lines.push(line)?;
     }
     Ok(lines)
 }
@@ -134,7 +142,8 @@ fn control_lines(
 ///
 /// The optimum before is the answer's own gain. It trims the diagram and searches it a few times, and each line costs at
 /// most one edit and one run of the solver. The plans of the agent's decisions and those of the utilities' worths are made
-/// once for all lines, and copied for each run, which makes only those of the node's decision.
+/// once for all lines, and copied for each run, which makes only those of the node's decision. The runs share their
+/// workspaces.
 ///
 /// # Errors
 ///

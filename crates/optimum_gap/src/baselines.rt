@@ -1,10 +1,12 @@
 //! Optima of edited diagrams against the optimum before.
 
 ghost use Rattle.std.specs.Prelude.{◌<◌, IfOk, IfSome};
-ghost use Rattle.first_fault.specs.Answers.{IsFaultOrNoMemory};
+ghost use Rattle.first_fault.specs.Answers.{IsFaultOrNoMemory, Passes};
 ghost use Rattle.maid_model.specs.Subgames.{OwnsAll};
+ghost use Rattle.maid_model.specs.Values.{IsOptimum};
 ghost use Rattle.maid_model.specs.Views.{DiagramView};
 ghost use Rattle.rule_solver.specs.Faults.{solve_fault, solve_pass};
+ghost use Rattle.rule_solver.specs.Rooms.{AreLeft};
 ghost use Rattle.size_precheck.specs.Kept.{IsKeptRun};
 ghost use Rattle.optimum_gap.specs.Baselines.{HaveNearScopes, IsBaseline};
 ghost use Rattle.optimum_gap.specs.Found.{IsGain, IsLoss, TellsReason, solving};
@@ -12,7 +14,7 @@ ghost use Rattle.optimum_gap.specs.Found.{IsGain, IsLoss, TellsReason, solving};
 use crate::differences::difference;
 use crate::found::Found;
 use maid_model::{Diagram, Ratio};
-use rule_solver::{SolveFault, optimum_with};
+use rule_solver::{SolveFault, Workspaces, optimum_with};
 use size_precheck::KeptRun;
 use std::alloc::{AllocError, Global};
 
@@ -27,6 +29,16 @@ fn refused(fault: SolveFault) -> Result<Found, AllocError>
         SolveFault::TooLarge { .. } => Ok(Found::TooLarge),
         SolveFault::NoMemory => Err(AllocError),
     }
+}
+
+/// The agent's optimum in a diagram of which nothing is kept, in workspaces of its own.
+fn optimum(alloc: Global, diagram: &Diagram, agent: usize) -> Result<Ratio, SolveFault>
+    requires alone { OwnsAll diagram.now.nodes agent }
+    requires within { agent < diagram.now.agents }
+    ensures rows { Passes solve_fault (solve_pass diagram.now) result }
+    ensures optimum { IfOk result (IsOptimum diagram.now.nodes diagram.now.decimals agent) }
+{
+    optimum_with(alloc, diagram, agent, None, &mut None)
 }
 
 /// A diagram in which one agent decides alone, and its optimum there. Edits of the diagram are compared with it.
@@ -51,10 +63,11 @@ impl<'a> Baseline<'a> {
         requires near { HaveNearScopes self.now.diagram.now edited.now self.now.agent }
         ensures { IfOk result (IsGain self.now.diagram.now edited.now self.now.agent) }
     {
-        self.gain_with(alloc, edited, None)
+        self.gain_with(alloc, edited, None, &mut None)
     }
 
-    /// The same where plans of the edited diagram are kept, and are not made again.
+    /// The same where plans of the edited diagram are kept, and are not made again, in workspaces that another run has
+    /// left where they have the room. It leaves its own for the next one.
     ///
     /// # Errors
     ///
@@ -64,17 +77,20 @@ impl<'a> Baseline<'a> {
         alloc: Global,
         edited: &Diagram,
         kept: Option<&KeptRun>,
+        left: &mut Option<Workspaces>,
     ) -> Result<Found, AllocError>
         requires baseline { IsBaseline self.now.diagram.now self.now.agent self.now.optimum }
         requires alone { OwnsAll edited.now.nodes self.now.agent }
         requires within { self.now.agent < edited.now.agents }
         requires near { HaveNearScopes self.now.diagram.now edited.now self.now.agent }
         requires kept { IfSome kept (λ run. IsKeptRun edited.now.nodes run.now) }
-        ensures { IfOk result (IsGain self.now.diagram.now edited.now self.now.agent) }
+        requires left { AreLeft left.old }
+        ensures gain { IfOk result (IsGain self.now.diagram.now edited.now self.now.agent) }
+        ensures left { AreLeft left.new }
     {
         let _before = self.diagram.count();
         let _after = edited.count();
-        match optimum_with(alloc, edited, self.agent, kept) {
+        match optimum_with(alloc, edited, self.agent, kept, left) {
             Ok(more) => Ok(Found::Value(difference(more, self.optimum))),
             Err(fault) => refused(fault),
         }
@@ -94,7 +110,7 @@ impl<'a> Baseline<'a> {
     {
         let _before = self.diagram.count();
         let _after = edited.count();
-        match optimum_with(alloc, edited, self.agent, None) {
+        match optimum(alloc, edited, self.agent) {
             Ok(less) => Ok(Found::Value(difference(self.optimum, less))),
             Err(fault) => refused(fault),
         }

@@ -2,10 +2,10 @@
 use Rattle.std.proofs.Common.{◌≡◌, ◌∙◌, ℕ, ◌+◌, ◌<◌, ◌≤◌, max, List, sym, ap, subst, arith}
 use Rattle.std.proofs.Math.Decide.{ℕ_discrete}
 use Rattle.maid_model.specs.Views.{NodeView}
-use Rattle.plan_sums.specs.Plans.{PlanView}
+use Rattle.plan_sums.specs.Plans.{PlanView, row_plan, gain_plan, worth_plan}
 use Rattle.size_precheck.specs.Laws.{OneGreedyOrder}
 use Rattle.size_precheck.specs.Sizes.{SizedPlan, IsMade, plan_cells}
-use Rattle.rule_solver.specs.Rooms.{HasAtMost}
+use Rattle.rule_solver.specs.Rooms.{HasAtMost, HasRoom}
 
 -- a plan has one greedy order, so as many cells as where it was made before
 pub made_room : (nodes : List NodeView) (plan : PlanView) (made : SizedPlan) → OneGreedyOrder → IsMade nodes plan made → HasAtMost nodes plan made.size.cells
@@ -17,6 +17,16 @@ made_room nodes plan made one is = λ other again. same _ _ (again.cells ∙ ap 
 -- more room is room
 pub more_room : (nodes : List NodeView) (plan : PlanView) (a b : ℕ) → a ≤ b → HasAtMost nodes plan a → HasAtMost nodes plan b
 more_room nodes plan a b h room made is = let l = room made is in omega (arith, h, l)
+
+-- so it is for all plans of a run
+pub more_rooms : (nodes : List NodeView) (a b : ℕ) → a ≤ b → HasRoom nodes a → HasRoom nodes b
+more_rooms nodes a b h room = record {
+  decisions = λ d is. record {
+    rows = more_room nodes (row_plan nodes d) a b h (room.decisions d is).rows;
+    goals = λ u goal. more_room nodes (gain_plan nodes d u) a b h ((room.decisions d is).goals u goal);
+  };
+  worths = λ u l e. more_room nodes (worth_plan u) a b h (room.worths u l e);
+}
 
 -- one plan more
 pub one_more : (nodes : List NodeView) (plan : ℕ → PlanView) (n most cells both : ℕ) → both ≡ max most cells → ((k : ℕ) → k < n → HasAtMost nodes (plan k) most) → HasAtMost nodes (plan n) cells → (k : ℕ) → k < n + 1 → HasAtMost nodes (plan k) both

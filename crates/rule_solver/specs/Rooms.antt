@@ -1,5 +1,5 @@
 -- What the plans of a run ask for: room for their cells.
-use Rattle.std.specs.Prelude.{◌≡◌, ℕ, ◌<◌, ◌≤◌, ◌*◌, min, List, [], length}
+use Rattle.std.specs.Prelude.{◌≡◌, ℕ, ◌<◌, ◌≤◌, ◌*◌, min, IfSome, List, Option, [], length}
 use Rattle.maid_model.specs.declared.diagrams.Kind.TheVariants.{Utility}
 use Rattle.maid_model.specs.declared.limits.TheConstants.{MOST_PLAN_CELLS}
 use Rattle.maid_model.specs.Nodes.{IsDecision, node_at}
@@ -41,4 +41,9 @@ pub record AreReady (cells : ℕ) (spaces : Workspaces) : Type 0 where
   pub small : IsReady cells spaces.small
   pub wide : IsReady cells spaces.wide
   pub pairs : IsReady spaces.pair_cells spaces.pairs
+  pub room : spaces.cells ≡ cells
   pub pair_cells : spaces.pair_cells ≡ min (4 * cells) MOST_PAIR_CELLS
+
+-- workspaces that a run has left, if any are, are ready again
+abbrev pub AreLeft : Option Workspaces → Type 0
+AreLeft left = IfSome left (λ spaces. AreReady spaces.cells spaces)

@@ -21,7 +21,7 @@ ghost use Rattle.size_precheck.specs.Kept.{IsKeptRun};
 ghost use Rattle.size_precheck.specs.Sizes.{ArePlansOf, IsPlanned};
 ghost use Rattle.rule_solver.specs.Faults.{solve_fault, solve_pass};
 ghost use Rattle.rule_solver.specs.Optima.{ChoosesAll, ChoosesRows, IsChosenBy};
-ghost use Rattle.rule_solver.specs.Rooms.{AreReady, HasAtMost, HasRoom, HasRoomAt, HasRoomForWorths, IsReady};
+ghost use Rattle.rule_solver.specs.Rooms.{AreLeft, AreReady, HasAtMost, HasRoom, HasRoomAt, HasRoomForWorths, IsReady};
 ghost use Rattle.rule_solver.specs.Rows.{gain_in};
 ghost use Rattle.rule_solver.specs.Totals.{HasTotals};
 ghost use Rattle.rule_solver.specs.Worths.{ArePlansOfWorths, HasWorthsFor, IsWorth};
@@ -233,6 +233,7 @@ fn expected_for(
         × HasRoomForWorths diagram.now.nodes cells }
     ensures worth { IfOk result (IsExpectedUtility diagram.now.nodes (10 ^ diagram.now.decimals)
         profile.now agent) }
+    ensures again { OnOk result (spaces.new ≡ spaces.old) }
 {
     let _agents = diagram.agents();
     let totals = list_totals(alloc, diagram, profile)?;
@@ -249,8 +250,8 @@ fn expected_for(
     Ok(stake.expected())
 }
 
-/// The agent's optimum in a diagram whose decisions have this order of solving, by the plans of its run. The workspaces
-/// are reserved once.
+/// The agent's optimum in a diagram whose decisions have this order of solving, by the plans of its run, in workspaces that
+/// another run has left where they have the room. It leaves its own.
 fn optimum_along(
     alloc: Global,
     diagram: &Diagram,
@@ -258,6 +259,7 @@ fn optimum_along(
     relevance: &Relevance,
     order: &[usize],
     run: &RunPlans,
+    left: &mut Option<Workspaces>,
 ) -> Result<Ratio, AllocError>
     requires alone { OwnsAll diagram.now.nodes agent }
     requires within { agent < diagram.now.agents }
@@ -268,7 +270,9 @@ fn optimum_along(
     requires worths { ArePlansOfWorths diagram.now.nodes run.now.worths.items }
     requires room { HasRoom diagram.now.nodes run.now.size.cells }
     requires limit { run.now.size.cells ≤ MOST_PLAN_CELLS }
-    ensures { IfOk result (IsOptimum diagram.now.nodes diagram.now.decimals agent) }
+    requires left { AreLeft left.old }
+    ensures optimum { IfOk result (IsOptimum diagram.now.nodes diagram.now.decimals agent) }
+    ensures left { AreLeft left.new }
 {
     scoped_sums_fit();
     answers_are_best();
@@ -276,7 +280,7 @@ fn optimum_along(
     one_agent();
     let _count = diagram.count();
     let cells = run.size.cells as usize;
-    let mut spaces = Workspaces::reserve(alloc, cells)?;
+    let mut spaces = Workspaces::with_room(alloc, left.take(), cells)?;
     let answers = choose_all(
         alloc,
         diagram,
@@ -286,7 +290,9 @@ fn optimum_along(
         &mut spaces,
     )?;
     let profile = Profile::pure(alloc, diagram, &answers)?;
-    expected_for(alloc, diagram, &profile, agent, &run.worths, &mut spaces)
+    let optimum = expected_for(alloc, diagram, &profile, agent, &run.worths, &mut spaces)?;
+    *left = Some(spaces);
+    Ok(optimum)
 }
 
 /// The agent's optimum in a diagram within the limits, or the first of them that it doesn't keep.
@@ -297,24 +303,27 @@ fn optimum_ordered(
     relevance: &Relevance,
     order: &[usize],
     kept: Option<&KeptRun>,
+    left: &mut Option<Workspaces>,
 ) -> Result<Ratio, SolveFault>
     requires alone { OwnsAll diagram.now.nodes agent }
     requires within { agent < diagram.now.agents }
     requires relevance { IsRelevance diagram.now.nodes relevance.now }
     requires order { IsRelianceOrder diagram.now.nodes order.now }
     requires kept { IfSome kept (λ run. IsKeptRun diagram.now.nodes run.now) }
+    requires left { AreLeft left.old }
     ensures rows { Passes solve_fault (solve_pass diagram.now) result }
     ensures ok { IfOk result (IsOptimum diagram.now.nodes diagram.now.decimals agent) }
+    ensures left { AreLeft left.new }
 {
     keep_bound(diagram)?;
     let run = keep_sizes(alloc, diagram, order, kept)?;
-    Ok(optimum_along(alloc, diagram, agent, relevance, order, &run)?)
+    Ok(optimum_along(alloc, diagram, agent, relevance, order, &run, left)?)
 }
 
 /// The optimum of the agent that owns all decisions of the diagram: what `solve` prints for it, at less cost. The plans of
 /// rows are made and counted, but not run, and so are those of other agents' utilities. Where plans are kept, those are
 /// copied, and only the others are made. So it is for a diagram that was looked at before some of its nodes became
-/// decisions.
+/// decisions. It runs in the workspaces that are left of another run, where they have the room, and leaves its own.
 ///
 /// # Errors
 ///
@@ -324,18 +333,22 @@ pub fn optimum_with(
     diagram: &Diagram,
     agent: usize,
     kept: Option<&KeptRun>,
+    left: &mut Option<Workspaces>,
 ) -> Result<Ratio, SolveFault>
     requires alone { OwnsAll diagram.now.nodes agent }
     requires within { agent < diagram.now.agents }
     // What is kept are plans of the diagram.
     requires kept { IfSome kept (λ run. IsKeptRun diagram.now.nodes run.now) }
+    requires left { AreLeft left.old }
     // The optimum where nothing refuses the diagram, and else the first refusal that applies.
     ensures rows { Passes solve_fault (solve_pass diagram.now) result }
     ensures optimum { IfOk result (IsOptimum diagram.now.nodes diagram.now.decimals agent) }
+    // What is left, if anything is, serves the next run.
+    ensures left { AreLeft left.new }
 {
     let relevance = find_relevance(alloc, diagram)?;
     match relevance.order() {
-        Ok(order) => optimum_ordered(alloc, diagram, agent, &relevance, order, kept),
+        Ok(order) => optimum_ordered(alloc, diagram, agent, &relevance, order, kept, left),
         Err(cycle) => Err(SolveFault::Cycle {
             list: Vec::from_slice(alloc, cycle)?,
         }),

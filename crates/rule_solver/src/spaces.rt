@@ -2,7 +2,7 @@
 
 ghost use Rattle.std.specs.Prelude.{◌≤◌, IfOk};
 ghost use Rattle.maid_model.specs.declared.limits.TheConstants.{MOST_PLAN_CELLS};
-ghost use Rattle.rule_solver.specs.Rooms.{AreReady};
+ghost use Rattle.rule_solver.specs.Rooms.{AreLeft, AreReady};
 
 use cell_rings::{Both, Gain, SmallGain};
 use factor_core::Workspace;
@@ -20,6 +20,8 @@ pub struct Workspaces {
     pub small: Workspace<SmallGain>,
     pub wide: Workspace<Gain>,
     pub pairs: Workspace<Both>,
+    /// How many cells `small` and `wide` have room for.
+    pub cells: usize,
     /// How many cells `pairs` has room for.
     pub pair_cells: usize,
 }
@@ -36,7 +38,27 @@ impl Workspaces {
             small: Workspace::reserve(alloc, cells)?,
             wide: Workspace::reserve(alloc, cells)?,
             pairs: Workspace::reserve(alloc, pair_cells)?,
+            cells,
             pair_cells,
         })
+    }
+
+    /// The workspaces that another run has left, where they have room for so many cells, and else new ones.
+    pub(crate) fn with_room(
+        alloc: Global,
+        left: Option<Workspaces>,
+        cells: usize,
+    ) -> Result<Workspaces, AllocError>
+        requires limit { cells ≤ MOST_PLAN_CELLS }
+        requires left { AreLeft left }
+        ensures ready { IfOk result (λ spaces. AreReady spaces.cells spaces) }
+        ensures room { IfOk result (λ spaces. cells ≤ spaces.cells) }
+    {
+        if let Some(spaces) = left {
+            if spaces.cells >= cells {
+                return Ok(spaces);
+            }
+        }
+        Workspaces::reserve(alloc, cells)
     }
 }

@@ -34,8 +34,8 @@ gain_with-requires-clause-kept c =
     (IfSome_then c.args.kept c.requires.kept (λ run kept. c.kept_runs_stand.ensures d.nodes made run.now stand kept))
 
 -- the node matters and can be a decision, and the rest is the solver's
-pub returns-in-Ok : goal.returns-in-Ok
-returns-in-Ok c =
+pub returns-in-Ok-clause-found : goal.returns-in-Ok-clause-found
+returns-in-Ok-clause-found c =
     let d = c.args.baseline.now.diagram.now in
     let agent = c.args.baseline.now.agent in
     let x = c.args.node in
@@ -45,4 +45,4 @@ returns-in-Ok c =
     let room : MOST_RULE_CELLS < rule_cells (as_decision d.nodes agent x) → ⊥ = λ t. no_error (c.in-Ok.ensures.too_large.1 t) in
     behind (unless (IsTrue c.args.matters) Worthless) (rule large TooLarge ▸ solving made) (IsDifferenceOfOptima made.nodes d.nodes d.decimals agent) c.gain_with.result holds
     (behind (rule large TooLarge) (solving made) (IsDifferenceOfOptima made.nodes d.nodes d.decimals agent) c.gain_with.result room
-    (subst (λ e. IfOk c.gain_with.result (IsGain d e agent)) c.in-Ok.ensures.made c.gain_with.ensures))
+    (subst (λ e. IfOk c.gain_with.result (IsGain d e agent)) c.in-Ok.ensures.made c.gain_with.ensures.gain))

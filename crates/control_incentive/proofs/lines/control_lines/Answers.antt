@@ -11,10 +11,11 @@ pub loop-node-preserved : goal.loop-node-preserved
 loop-node-preserved c =
     let IsLine = IsLineAlone c.args.baseline.now.diagram.now c.args.baseline.now.agent c.args.paths.now in
     let lines = c.loop-node.lines.items in
-    let line = c.in_ok-control_line.field-0 in
+    let line = c.in_ok-line.line in
     let pushed = c.in_ok-push.ensures.items in
-    let node = c.in_ok-control_line.ensures.node in
+    let node = c.in_ok-line.ensures.node in
     record {
       nodes = ap (map node_of) pushed ∙ map-append node_of lines (line ∷ []) ∙ (λ i. c.loop-node.invariant.nodes i ++ node i ∷ []) ∙ sym (take_more c.args.nodes.now c.loop-node.node-index 0 c.loop-node-test.true);
-      lines = subst (All IsLine) (sym {A = List ControlLine} pushed) (All-append IsLine lines (line ∷ []) c.loop-node.invariant.lines (All-cons IsLine line [] c.in_ok-control_line.ensures.line (All-nil IsLine)));
+      lines = subst (All IsLine) (sym {A = List ControlLine} pushed) (All-append IsLine lines (line ∷ []) c.loop-node.invariant.lines (All-cons IsLine line [] c.in_ok-line.ensures.line (All-nil IsLine)));
+      left = c.control_line.ensures.left;
     }

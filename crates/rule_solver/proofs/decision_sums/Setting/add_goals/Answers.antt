@@ -80,6 +80,6 @@ loop-place-preserved c =
     ]) in (
       subst (λ (l : List ℕ). HasGoals d.nodes p c.args.self.now.decision l c.add_goal.new.gains) (sym (take_more goals c.loop-place.place 0 c.loop-place-test.true))
           (goals_more d.nodes p c.args.self.now.decision (take c.loop-place.place goals) (u ∷ []) c.loop-place.gains c.add_goal.new.gains small c.loop-place.invariant.0 c.in_ok-add_goal.ensures.adds),
-      (λ i. record { small = c.in_ok-add_goal.ensures.again.0 i; wide = c.in_ok-add_goal.ensures.again.1 i; pairs = c.loop-place.spaces.pairs; pair_cells = c.loop-place.spaces.pair_cells }) ∙ c.loop-place.invariant.1,
+      (λ i. record { small = c.in_ok-add_goal.ensures.again.0 i; wide = c.in_ok-add_goal.ensures.again.1 i; pairs = c.loop-place.spaces.pairs; cells = c.loop-place.spaces.cells; pair_cells = c.loop-place.spaces.pair_cells }) ∙ c.loop-place.invariant.1,
       c.add_goal.ensures.len ∙ c.loop-place.invariant.2,
     )
