@@ -1,5 +1,5 @@
-//! The tests of `tree_checker` and `pure_search`: they stand apart since a crate that has tests is proved twice, with
-//! them and without.
+//! The tests of `tree_checker`, `pure_search` and `policy_update`: they stand apart since a crate that has tests is
+//! proved twice, with them and without.
 #![tactic(auto)]
 
 #[cfg(test)]
@@ -8,3 +8,5 @@ mod checking;
 mod samples;
 #[cfg(test)]
 mod searching;
+#[cfg(test)]
+mod updating;

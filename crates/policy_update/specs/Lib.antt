@@ -2,4 +2,3 @@ pub mod Faults
 pub mod Updated
 pub mod Laws
 pub mod Steps
-pub mod Example

@@ -8,8 +8,6 @@ mod limits;
 mod rounds;
 mod rows;
 mod starting;
-#[cfg(test)]
-mod tests;
 mod updating;
 
 pub use faults::UpdateFault;

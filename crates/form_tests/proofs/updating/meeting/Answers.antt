@@ -2,8 +2,8 @@
 use Rattle.std.proofs.Common.{◌≡◌, ◌∙◌, ◌++◌, ◌∷◌, [], Bool, true, false, pos, refl, sym, subst}
 use Rattle.maid_model.specs.Diagrams.{IsDiagram}
 use Rattle.maid_model.specs.Tested.{all_true, diagram_tests}
-use Rattle.policy_update.specs.Example.{choice, meeting, paid, pay}
-use Rattle.policy_update.proofs.tests.meeting.Goals as goal
+use Rattle.form_tests.specs.Updating.{choice, meeting, paid, pay}
+use Rattle.form_tests.proofs.updating.meeting.Goals as goal
 
 tested : (climbs : Bool) → all_true (diagram_tests (meeting climbs)) ≡ true
 tested true = refl

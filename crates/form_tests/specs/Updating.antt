@@ -1,4 +1,4 @@
--- The small diagrams that the tests update.
+-- The small diagrams that are updated.
 use Rattle.std.specs.Prelude.{ℕ, ℤ, Bool, true, false, List, [], ◌∷◌, pos}
 use Rattle.maid_model.specs.declared.diagrams.Kind.TheVariants.{Chance, Decision, Utility}
 use Rattle.maid_model.specs.Views.{NodeView, DiagramView}

@@ -1,41 +1,13 @@
-//! Small diagrams, updated with ample memory.
+//! Tests of `policy_update`: small diagrams, updated with ample memory.
 
-ghost use Rattle.std.specs.Prelude.{◌≡◌, [], IfOk};
-ghost use Rattle.policy_update.specs.Example.{guessing, meeting, nothing, paid, pennies};
+ghost use Rattle.std.specs.Prelude.{◌≡◌, IfOk};
+ghost use Rattle.form_tests.specs.Updating.{guessing, meeting, nothing, paid, pennies};
 
-use crate::{UpdateFault, update};
-use maid_model::{Diagram, Kind, Node, Ratio, Row, literals_are_tested};
-use smallvec::SmallVec;
+use crate::samples::node;
+use maid_model::{Diagram, Kind, Ratio, Row, literals_are_tested};
+use policy_update::{UpdateFault, update};
 use std::alloc::{AllocError, Global};
 use std::test::Fail;
-
-fn node(
-    alloc: Global,
-    kind: Kind,
-    owner: usize,
-    states: usize,
-    parents: &[usize],
-    cells: &[i128],
-) -> Result<Node, AllocError>
-    ensures { IfOk result (λ n.
-        n ≡ record {
-          kind = kind;
-          owner = owner;
-          more = [];
-          states = states;
-          parents = parents.now;
-          cells = cells.now;
-        }) }
-{
-    Ok(Node {
-        kind,
-        owner,
-        more: SmallVec::new(alloc),
-        states,
-        parents: SmallVec::from_slice(alloc, parents)?,
-        cells: Vec::from_slice(alloc, cells)?,
-    })
-}
 
 /// What the agent is paid that takes both decisions.
 fn paid(climbs: bool) -> &'static [i128]

@@ -1,7 +1,7 @@
 use Rattle.std.proofs.Common.{◌≡◌, ◌∙◌, ◌++◌, ◌∷◌, [], pos, refl, sym, subst}
 use Rattle.maid_model.specs.Diagrams.{IsDiagram}
-use Rattle.policy_update.specs.Example.{choice, coin, guessing, pay}
-use Rattle.policy_update.proofs.tests.guessing.Goals as goal
+use Rattle.form_tests.specs.Updating.{choice, coin, guessing, pay}
+use Rattle.form_tests.proofs.updating.guessing.Goals as goal
 
 pub from_nodes-requires : goal.from_nodes-requires
 from_nodes-requires c =
