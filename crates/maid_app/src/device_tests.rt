@@ -3,6 +3,7 @@
 
 use super::tests::{REPORT, ended};
 use super::*;
+use std::alloc::Global;
 use std::test::Fail;
 
 // A run of each form that ends well, and at how many calls of the shelf: a start, four reads of the diagram and one
@@ -43,26 +44,74 @@ const ABSENT: &str = "absent: gone.net\n";
 // The room of `out`: all that any of the runs writes.
 const ROOM: usize = 1000;
 
+// The text of a run whose devices don't fail.
+fn text_of(alloc: Global, words: &str) -> Result<Vec<u8>, Fail> {
+    let end = ended(alloc, words, [0, 0, 0], ROOM)?;
+    if end.status != Status::Done {
+        return Err(Fail::new(words));
+    }
+    Ok(end.out)
+}
+
+// Whether the run ends well with this text: it makes no call of these numbers.
+fn ends_well(alloc: Global, words: &str, calls: [u64; 3], text: &[u8]) -> Result<bool, Fail> {
+    Ok(ended(alloc, words, calls, ROOM)?.is(Status::Done, text, &[]))
+}
+
+// Whether the run tells a read fault where this call of the shelf fails, and writes no text.
+fn tells_the_read(alloc: Global, words: &str, call: u64) -> Result<bool, Fail> {
+    let line = if call < 7 {
+        "read fault: steer.net\n"
+    } else {
+        "read fault: steer.rep\n"
+    };
+    let end = ended(alloc, words, [call, 0, 0], ROOM)?;
+    Ok(end.is(Status::ReadFault, &[], line.as_bytes()))
+}
+
+// Whether the run tells a write fault where this call of `out` fails, which has taken ten bytes at each one before.
+fn tells_the_write(alloc: Global, words: &str, call: usize, text: &[u8]) -> Result<bool, Fail> {
+    let end = ended(alloc, words, [0, call as u64, 0], ROOM)?;
+    let taken = call.saturating_sub(1).saturating_mul(10);
+    Ok(
+        end.status == Status::WriteFault
+            && end.out.len() == taken
+            && text.starts_with(&end.out)
+            && end.err.as_slice() == "write fault\n".as_bytes(),
+    )
+}
+
+// Whether the run ends with this status and no text where this call of `err` fails, which has taken seven bytes of
+// the line at each one before, or all of it.
+fn keeps_the_status(
+    alloc: Global,
+    words: &str,
+    call: usize,
+    status: Status,
+    line: &[u8],
+) -> Result<bool, Fail> {
+    let end = ended(alloc, words, [0, 0, call as u64], ROOM)?;
+    let taken = call.saturating_sub(1).saturating_mul(7).min(line.len());
+    Ok(
+        end.status == status
+            && end.out.is_empty()
+            && end.err.len() == taken
+            && line.starts_with(&end.err),
+    )
+}
+
 #[test]
 fn each_call_of_the_shelf_fails_in_turn(rt: HostRuntime) -> Result<(), Fail> {
+    let alloc = rt.alloc();
     for (words, calls) in RUNS {
-        let (status, whole, _) = ended(rt.alloc(), words, [0, 0, 0], ROOM)?;
-        assert_eq!(rt; status, Status::Done, "{words}");
+        let text = text_of(alloc, words)?;
         for call in 1..calls + 1 {
-            let (status, out, err) = ended(rt.alloc(), words, [call, 0, 0], ROOM)?;
-            let told = if call < 7 {
-                "read fault: steer.net\n"
-            } else {
-                "read fault: steer.rep\n"
-            };
-            assert_eq!(rt; status, Status::ReadFault, "{words} {call}");
-            assert_eq!(rt; out.len(), 0, "{words} {call}");
-            assert_eq!(rt; err.as_slice(), told.as_bytes(), "{words} {call}");
+            assert!(rt; tells_the_read(alloc, words, call)?, "{words} {call}");
         }
-        let (status, out, err) = ended(rt.alloc(), words, [calls + 1, 0, 0], ROOM)?;
-        assert_eq!(rt; status, Status::Done, "{words}");
-        assert_eq!(rt; out.as_slice(), whole.as_slice(), "{words}");
-        assert_eq!(rt; err.len(), 0, "{words}");
+        assert!(rt;
+            ends_well(alloc, words, [calls + 1, 0, 0], &text)?,
+            "{words}"
+        );
     }
     Ok(())
 }
@@ -70,24 +119,20 @@ fn each_call_of_the_shelf_fails_in_turn(rt: HostRuntime) -> Result<(), Fail> {
 // Ten bytes a write: the bytes before the call that fails have been taken, and no others.
 #[test]
 fn each_write_of_the_text_fails_in_turn(rt: HostRuntime) -> Result<(), Fail> {
+    let alloc = rt.alloc();
     for (words, _) in RUNS {
-        let (_, whole, _) = ended(rt.alloc(), words, [0, 0, 0], ROOM)?;
-        let writes = (whole.len() as u64).div_ceil(10);
+        let text = text_of(alloc, words)?;
+        let writes = text.len().div_ceil(10);
         for call in 1..writes + 1 {
-            let (status, out, err) = ended(rt.alloc(), words, [0, call, 0], ROOM)?;
-            assert_eq!(rt; status, Status::WriteFault, "{words} {call}");
-            assert_eq!(rt; out.len() as u64, 10 * (call - 1), "{words} {call}");
-            assert!(rt; whole.as_slice().starts_with(&out), "{words} {call}");
-            assert_eq!(rt;
-                err.as_slice(),
-                "write fault\n".as_bytes(),
+            assert!(rt;
+                tells_the_write(alloc, words, call, &text)?,
                 "{words} {call}"
             );
         }
-        let (status, out, err) = ended(rt.alloc(), words, [0, writes + 1, 0], ROOM)?;
-        assert_eq!(rt; status, Status::Done, "{words}");
-        assert_eq!(rt; out.as_slice(), whole.as_slice(), "{words}");
-        assert_eq!(rt; err.len(), 0, "{words}");
+        assert!(rt;
+            ends_well(alloc, words, [0, writes as u64 + 1, 0], &text)?,
+            "{words}"
+        );
     }
     Ok(())
 }
@@ -95,14 +140,14 @@ fn each_write_of_the_text_fails_in_turn(rt: HostRuntime) -> Result<(), Fail> {
 // Seven bytes a write. The status stays what it is, and `out` is not touched.
 #[test]
 fn each_write_of_the_line_fails_in_turn(rt: HostRuntime) -> Result<(), Fail> {
-    for (words, wanted, line) in REFUSED {
-        let writes = (line.len() as u64).div_ceil(7);
-        for call in 1..writes + 2 {
-            let (status, out, err) = ended(rt.alloc(), words, [0, 0, call], ROOM)?;
-            let taken = line.as_bytes().iter().take(7 * (call as usize - 1));
-            assert_eq!(rt; status, wanted, "{words} {call}");
-            assert_eq!(rt; out.len(), 0, "{words} {call}");
-            assert!(rt; err.iter().eq(taken), "{words} {call}");
+    let alloc = rt.alloc();
+    for (words, status, line) in REFUSED {
+        let line = line.as_bytes();
+        for call in 1..line.len().div_ceil(7) + 2 {
+            assert!(rt;
+                keeps_the_status(alloc, words, call, status, line)?,
+                "{words} {call}"
+            );
         }
     }
     Ok(())
@@ -111,11 +156,11 @@ fn each_write_of_the_line_fails_in_turn(rt: HostRuntime) -> Result<(), Fail> {
 // What was written before the fault is the report's own beginning.
 #[test]
 fn a_full_disk_has_the_beginning_of_the_report(rt: HostRuntime) -> Result<(), Fail> {
-    for room in 0..REPORT.len() {
-        let (status, out, err) = ended(rt.alloc(), "solve steer.net", [0, 0, 0], room)?;
-        assert_eq!(rt; status, Status::WriteFault, "{room}");
-        assert_eq!(rt; out.as_slice(), &REPORT.as_bytes()[..room], "{room}");
-        assert_eq!(rt; err.as_slice(), "write fault\n".as_bytes(), "{room}");
+    let report = REPORT.as_bytes();
+    for room in 0..report.len() {
+        let end = ended(rt.alloc(), "solve steer.net", [0, 0, 0], room)?;
+        let line = "write fault\n".as_bytes();
+        assert!(rt; end.is(Status::WriteFault, &report[..room], line), "{room}");
     }
     Ok(())
 }

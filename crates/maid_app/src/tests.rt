@@ -1,5 +1,7 @@
 //! Runs over devices in memory.
 
+ghost use Rattle.std.specs.Prelude.{◌≤◌};
+
 use super::*;
 use maid_io::{MemShelf, MemSink};
 use std::alloc::Global;
@@ -130,6 +132,122 @@ const DEMO_2: &str = "demo 2\nnodes 6\nagent \"agent\" = 5/4\n";
 const DEMO_60: &str =
     "demo 60\nnodes 180\nagent \"agent\" = 68022368771803971585/1152921504606846976\n";
 
+// The words, the call of the shelf that fails, where one does, and the text that `out` takes.
+const WRITTEN: [(&str, u64, &str); 11] = [
+    ("solve steer.net", 0, REPORT),
+    ("solve never.net", 0, NEVER_REPORT),
+    ("solve lead.net", 0, LEAD_REPORT),
+    ("graph lead.net", 0, LEAD_GRAPH),
+    ("graph pennies.net", 0, PENNIES_GRAPH),
+    ("print thirds.net", 0, THIRDS_PRINT),
+    ("trim arcs.net", 0, ARCS_TRIM),
+    ("check steer.net steer.rep", 0, "accepted\n"),
+    ("demo 1", 1, DEMO_1),
+    ("demo 2", 1, DEMO_2),
+    ("demo 60", 1, DEMO_60),
+];
+
+// Reports that are no answers, and the line that says where.
+const REJECTED: [(&str, &str); 2] = [
+    ("check steer.net worse.rep", "rejected line 5: choice\n"),
+    ("check never.net steer.rep", "rejected line 4: never\n"),
+];
+
+// Words of no form.
+const FORMLESS: [&str; 11] = [
+    "check steer.net",
+    "demo",
+    "demo 0",
+    "demo 61",
+    "demo 01",
+    "demo +1",
+    "demo x",
+    "demo 100",
+    "demo 1 2",
+    "",
+    "--help",
+];
+
+// The words, the call of the shelf that fails, where one does, the status, and the line that `err` takes.
+const TOLD: [(&str, u64, Status, &str); 9] = [
+    (
+        "solve pennies.net",
+        0,
+        Status::Cycle,
+        "relevance cycle: P Q\n",
+    ),
+    (
+        "check arcs.net steer.rep",
+        0,
+        Status::TextFault,
+        "steer.rep:2: bad line\n",
+    ),
+    (
+        "check steer.net gone.rep",
+        0,
+        Status::Absent,
+        "absent: gone.rep\n",
+    ),
+    ("solve gone.net", 0, Status::Absent, "absent: gone.net\n"),
+    (
+        "solve steer.net",
+        1,
+        Status::ReadFault,
+        "read fault: steer.net\n",
+    ),
+    (
+        "solve steer.net",
+        2,
+        Status::ReadFault,
+        "read fault: steer.net\n",
+    ),
+    (
+        "solve open.net",
+        0,
+        Status::TextFault,
+        "open.net:2:6: open string\n",
+    ),
+    (
+        "graph zero.net",
+        0,
+        Status::TextFault,
+        "zero.net:1:56: zero row\n",
+    ),
+    (
+        "solve ring.net",
+        0,
+        Status::TextFault,
+        "ring.net:1:6: graph cycle: A B\n",
+    ),
+];
+
+// The codes of the statuses above.
+const CODES: [(Status, u8); 8] = [
+    (Status::Done, 0),
+    (Status::Usage, 1),
+    (Status::Absent, 2),
+    (Status::ReadFault, 3),
+    (Status::TextFault, 5),
+    (Status::Cycle, 6),
+    (Status::WriteFault, 9),
+    (Status::Rejected, 11),
+];
+
+// How a run ended, and what `out` and `err` took.
+#[derive(Drop)]
+pub struct Ending {
+    pub status: Status,
+    pub out: Vec<u8>,
+    pub err: Vec<u8>,
+}
+
+impl Ending {
+    // Whether it ended with this status, and `out` and `err` took these bytes.
+    pub fn is(&self, status: Status, out: &[u8], err: &[u8]) -> bool {
+        self.status == status && self.out.as_slice() == out && self.err.as_slice() == err
+    }
+}
+
 // The files of the shelf.
 fn files(alloc: Global) -> Result<Vec<(String, Vec<u8>)>, Fail> {
     let mut files = Vec::new(alloc);
@@ -152,15 +270,14 @@ fn files(alloc: Global) -> Result<Vec<(String, Vec<u8>)>, Fail> {
 }
 
 // Runs the words over a shelf of these files that gives 50 bytes a read at most, an `out` with so much room
-// that takes ten a write, and an `err` that takes seven. Of each the call of that number fails. It gives the
-// status and what `out` and `err` took.
+// that takes ten a write, and an `err` that takes seven. Of each the call of that number fails.
 fn ended_over(
     alloc: Global,
     words: &str,
     files: Vec<(String, Vec<u8>)>,
     [shelf_call, out_call, err_call]: [u64; 3],
     room: usize,
-) -> Result<(Status, Vec<u8>, Vec<u8>), Fail> {
+) -> Result<Ending, Fail> {
     let mut list = Vec::new(alloc);
     for word in words.split_whitespace() {
         list.push(word.to_string(alloc)?)?;
@@ -169,233 +286,133 @@ fn ended_over(
     let mut out = MemSink::new(alloc, room, vec![in alloc; out_call]?, 10)?;
     let mut err = MemSink::new(alloc, 200, vec![in alloc; err_call]?, 7)?;
     let status = run(alloc, &list, &mut shelf, &mut out, &mut err);
-    Ok((
+    Ok(Ending {
         status,
-        out.bytes().to_vec(alloc)?,
-        err.bytes().to_vec(alloc)?,
-    ))
+        out: out.bytes().to_vec(alloc)?,
+        err: err.bytes().to_vec(alloc)?,
+    })
 }
 
 // The same over the files above.
-pub fn ended(
-    alloc: Global,
-    words: &str,
-    calls: [u64; 3],
-    room: usize,
-) -> Result<(Status, Vec<u8>, Vec<u8>), Fail> {
+pub fn ended(alloc: Global, words: &str, calls: [u64; 3], room: usize) -> Result<Ending, Fail> {
     ended_over(alloc, words, files(alloc)?, calls, room)
 }
 
-#[test]
-fn runs_end_as_they_must(rt: HostRuntime) -> Result<(), Fail> {
-    for (words, call, room, status, code, took, told) in [
-        ("solve steer.net", 0, 400, Status::Done, 0, REPORT, ""),
-        ("solve never.net", 0, 400, Status::Done, 0, NEVER_REPORT, ""),
-        ("solve lead.net", 0, 400, Status::Done, 0, LEAD_REPORT, ""),
-        ("graph lead.net", 0, 400, Status::Done, 0, LEAD_GRAPH, ""),
-        (
-            "graph pennies.net",
-            0,
-            400,
-            Status::Done,
-            0,
-            PENNIES_GRAPH,
-            "",
-        ),
-        (
-            "print thirds.net",
-            0,
-            400,
-            Status::Done,
-            0,
-            THIRDS_PRINT,
-            "",
-        ),
-        ("trim arcs.net", 0, 400, Status::Done, 0, ARCS_TRIM, ""),
-        (
-            "solve pennies.net",
-            0,
-            400,
-            Status::Cycle,
-            6,
-            "",
-            "relevance cycle: P Q\n",
-        ),
-        (
-            "check steer.net steer.rep",
-            0,
-            400,
-            Status::Done,
-            0,
-            "accepted\n",
-            "",
-        ),
-        (
-            "check steer.net worse.rep",
-            0,
-            400,
-            Status::Rejected,
-            11,
-            "rejected line 5: choice\n",
-            "",
-        ),
-        (
-            "check never.net steer.rep",
-            0,
-            400,
-            Status::Rejected,
-            11,
-            "rejected line 4: never\n",
-            "",
-        ),
-        (
-            "check arcs.net steer.rep",
-            0,
-            400,
-            Status::TextFault,
-            5,
-            "",
-            "steer.rep:2: bad line\n",
-        ),
-        (
-            "check steer.net gone.rep",
-            0,
-            400,
-            Status::Absent,
-            2,
-            "",
-            "absent: gone.rep\n",
-        ),
-        (
-            "check steer.net",
-            0,
-            400,
-            Status::Usage,
-            1,
-            "",
-            lines::USAGE,
-        ),
-        ("demo 1", 1, 400, Status::Done, 0, DEMO_1, ""),
-        ("demo 2", 1, 400, Status::Done, 0, DEMO_2, ""),
-        ("demo 60", 1, 400, Status::Done, 0, DEMO_60, ""),
-        ("demo", 0, 400, Status::Usage, 1, "", lines::USAGE),
-        ("demo 0", 0, 400, Status::Usage, 1, "", lines::USAGE),
-        ("demo 61", 0, 400, Status::Usage, 1, "", lines::USAGE),
-        ("demo 01", 0, 400, Status::Usage, 1, "", lines::USAGE),
-        ("demo +1", 0, 400, Status::Usage, 1, "", lines::USAGE),
-        ("demo x", 0, 400, Status::Usage, 1, "", lines::USAGE),
-        ("demo 100", 0, 400, Status::Usage, 1, "", lines::USAGE),
-        ("demo 1 2", 0, 400, Status::Usage, 1, "", lines::USAGE),
-        ("", 0, 400, Status::Usage, 1, "", lines::USAGE),
-        ("--help", 0, 400, Status::Usage, 1, "", lines::USAGE),
-        (
-            "solve gone.net",
-            0,
-            400,
-            Status::Absent,
-            2,
-            "",
-            "absent: gone.net\n",
-        ),
-        (
-            "solve steer.net",
-            1,
-            400,
-            Status::ReadFault,
-            3,
-            "",
-            "read fault: steer.net\n",
-        ),
-        (
-            "solve steer.net",
-            2,
-            400,
-            Status::ReadFault,
-            3,
-            "",
-            "read fault: steer.net\n",
-        ),
-        (
-            "solve open.net",
-            0,
-            400,
-            Status::TextFault,
-            5,
-            "",
-            "open.net:2:6: open string\n",
-        ),
-        (
-            "graph zero.net",
-            0,
-            400,
-            Status::TextFault,
-            5,
-            "",
-            "zero.net:1:56: zero row\n",
-        ),
-        (
-            "solve ring.net",
-            0,
-            400,
-            Status::TextFault,
-            5,
-            "",
-            "ring.net:1:6: graph cycle: A B\n",
-        ),
-        (
-            "solve steer.net",
-            0,
-            10,
-            Status::WriteFault,
-            9,
-            "maidsolve ",
-            "write fault\n",
-        ),
-    ] {
-        let (ended, bytes, line) = ended(rt.alloc(), words, [call, 0, 0], room)?;
-        assert_eq!(rt; ended, status, "{words} {call} {room}");
-        assert_eq!(rt; ended.code(), code, "{words} {call} {room}");
-        assert_eq!(rt; bytes.as_slice(), took.as_bytes(), "{words} {call} {room}");
-        assert_eq!(rt; line.as_slice(), told.as_bytes(), "{words} {call} {room}");
-    }
-    Ok(())
+// Whether the run ends so, where that call of the shelf fails and `out` has room for 400 bytes.
+fn ends(
+    alloc: Global,
+    words: &str,
+    call: u64,
+    status: Status,
+    out: &str,
+    err: &str,
+) -> Result<bool, Fail> {
+    let end = ended(alloc, words, [call, 0, 0], 400)?;
+    Ok(end.is(status, out.as_bytes(), err.as_bytes()))
 }
 
-// A text that is cut short anywhere is refused: it ends within a block, or a node has no table yet.
+// Whether a run over a file of this text tells a fault of the text.
+fn is_refused(alloc: Global, text: &[u8]) -> Result<bool, Fail> {
+    let mut files = Vec::new(alloc);
+    files.push(("cut.net".to_string(alloc)?, text.to_vec(alloc)?))?;
+    let end = ended_over(alloc, "solve cut.net", files, [0, 0, 0], 400)?;
+    Ok(
+        end.status == Status::TextFault
+            && end.out.is_empty()
+            && end.err.as_slice().starts_with("cut.net:".as_bytes()),
+    )
+}
+
+// Whether the generated diagram of K stages is solved: they are worth K - 1 + 2^-K.
+fn is_solved(alloc: Global, k: u32) -> Result<bool, Fail>
+    requires low { 1 ≤ k }
+    requires high { k ≤ 60 }
+{
+    let words = format!(in alloc; "demo {k}")?;
+    let whole = 1u128 << k;
+    let want = format!(in alloc;
+        "demo {k}\nnodes {}\nagent \"agent\" = {}/{whole}\n",
+        3 * k,
+        u128::from(k - 1) * whole + 1
+    )?;
+    ends(alloc, &words, 1, Status::Done, &want, "")
+}
+
 #[test]
-fn each_beginning_of_a_text_is_refused(rt: HostRuntime) -> Result<(), Fail> {
-    let alloc = rt.alloc();
-    let text = STEER.trim_end().as_bytes();
-    for length in 1..text.len() {
-        let mut files = Vec::new(alloc);
-        files.push(("cut.net".to_string(alloc)?, text[..length].to_vec(alloc)?))?;
-        let (status, out, err) = ended_over(alloc, "solve cut.net", files, [0, 0, 0], 400)?;
-        assert_eq!(rt; status, Status::TextFault, "{length}");
-        assert_eq!(rt; out.len(), 0, "{length}");
+fn texts_are_written(rt: HostRuntime) -> Result<(), Fail> {
+    for (words, call, text) in WRITTEN {
         assert!(rt;
-            err.as_slice().starts_with("cut.net:".as_bytes()),
-            "{length}"
+            ends(rt.alloc(), words, call, Status::Done, text, "")?,
+            "{words}"
         );
     }
     Ok(())
 }
 
-// None of the generated texts is refused, and K stages are worth K - 1 + 2^-K.
+#[test]
+fn reports_are_rejected(rt: HostRuntime) -> Result<(), Fail> {
+    for (words, text) in REJECTED {
+        assert!(rt;
+            ends(rt.alloc(), words, 0, Status::Rejected, text, "")?,
+            "{words}"
+        );
+    }
+    Ok(())
+}
+
+#[test]
+fn words_of_no_form_are_refused(rt: HostRuntime) -> Result<(), Fail> {
+    for words in FORMLESS {
+        assert!(rt;
+            ends(rt.alloc(), words, 0, Status::Usage, "", lines::USAGE)?,
+            "{words}"
+        );
+    }
+    Ok(())
+}
+
+#[test]
+fn faults_are_told(rt: HostRuntime) -> Result<(), Fail> {
+    for (words, call, status, line) in TOLD {
+        assert!(rt;
+            ends(rt.alloc(), words, call, status, "", line)?,
+            "{words} {call}"
+        );
+    }
+    Ok(())
+}
+
+// `out` has room for ten bytes.
+#[test]
+fn a_report_is_cut_off(rt: HostRuntime) -> Result<(), Fail> {
+    let end = ended(rt.alloc(), "solve steer.net", [0, 0, 0], 10)?;
+    let taken = "maidsolve ".as_bytes();
+    assert!(rt; end.is(Status::WriteFault, taken, "write fault\n".as_bytes()));
+    Ok(())
+}
+
+#[test]
+fn statuses_have_their_codes(rt: HostRuntime) {
+    for (status, code) in CODES {
+        assert!(rt; status.code() == code, "{code}");
+    }
+}
+
+// A text that is cut short anywhere is refused: it ends within a block, or a node has no table yet.
+#[test]
+fn each_beginning_of_a_text_is_refused(rt: HostRuntime) -> Result<(), Fail> {
+    let text = STEER.trim_end().as_bytes();
+    for length in 1..text.len() {
+        assert!(rt; is_refused(rt.alloc(), &text[..length])?, "{length}");
+    }
+    Ok(())
+}
+
+// None of the generated texts is refused.
 #[test]
 fn each_generated_diagram_is_solved(rt: HostRuntime) -> Result<(), Fail> {
-    let alloc = rt.alloc();
     for k in 1..61u32 {
-        let words = format!(in alloc; "demo {k}")?;
-        let (status, out, err) = ended(alloc, &words, [1, 0, 0], 400)?;
-        let whole = 1u128 << k;
-        let want = format!(in alloc;
-            "demo {k}\nnodes {}\nagent \"agent\" = {}/{whole}\n",
-            3 * k,
-            u128::from(k - 1) * whole + 1
-        )?;
-        assert_eq!(rt; status, Status::Done, "{k}");
-        assert_eq!(rt; out.as_slice(), want.as_bytes(), "{k}");
-        assert_eq!(rt; err.len(), 0, "{k}");
+        assert!(rt; is_solved(rt.alloc(), k)?, "{k}");
     }
     Ok(())
 }
