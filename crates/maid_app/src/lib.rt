@@ -20,8 +20,3 @@ mod status;
 pub use laws::a_text_has_a_diagram_or_a_fault;
 pub use running::run;
 pub use status::Status;
-
-#[cfg(test)]
-mod device_tests;
-#[cfg(test)]
-mod tests;

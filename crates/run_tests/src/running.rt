@@ -2,7 +2,7 @@
 
 ghost use Rattle.std.specs.Prelude.{◌≤◌};
 
-use super::*;
+use maid_app::{Status, lines, run};
 use maid_io::{MemShelf, MemSink};
 use std::alloc::Global;
 use std::test::Fail;

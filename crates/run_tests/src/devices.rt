@@ -1,8 +1,8 @@
 //! Devices that fail at one call, for each form of words: what was taken before it stands, and a later call changes
 //! nothing.
 
-use super::tests::{REPORT, ended};
-use super::*;
+use crate::running::{REPORT, ended};
+use maid_app::{Status, lines};
 use std::alloc::Global;
 use std::test::Fail;
 
