@@ -1,4 +1,3 @@
 pub mod Paths
 pub mod Lines
 pub mod Steps
-pub mod Example

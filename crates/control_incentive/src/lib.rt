@@ -6,8 +6,6 @@
 mod finding;
 mod lines;
 mod paths;
-#[cfg(test)]
-mod tests;
 
 pub use lines::{ControlLine, control};
 pub use optimum_gap::Found as Controlled;

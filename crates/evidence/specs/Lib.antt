@@ -1,6 +1,5 @@
 pub mod Bounds
 pub mod Conditional
-pub mod Example
 pub mod Faults
 pub mod Measures
 pub mod Plans

@@ -17,8 +17,6 @@ mod measures;
 mod sights;
 mod stakes;
 mod sums;
-#[cfg(test)]
-mod tests;
 
 pub use conditions::{Conditioned, given};
 pub use faults::GivenFault;

@@ -1,4 +1,3 @@
 pub mod Finding
 pub mod Lines
 pub mod Alone
-pub mod Example

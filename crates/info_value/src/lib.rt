@@ -6,8 +6,6 @@
 mod arcs;
 mod finding;
 mod lines;
-#[cfg(test)]
-mod tests;
 
 pub use lines::{InfoLine, info};
 pub use optimum_gap::Found;

@@ -5,4 +5,3 @@ pub mod Held
 pub mod Ends
 pub mod Control
 pub mod Answers
-pub mod Example

@@ -18,8 +18,6 @@ mod ends;
 mod faults;
 mod held;
 mod interval;
-#[cfg(test)]
-mod tests;
 mod weights;
 
 pub use faults::SpanFault;

@@ -2,8 +2,8 @@
 use Rattle.std.proofs.Common.{◌≡◌, ◌∙◌, ◌++◌, ◌∷◌, [], true, refl, sym, subst}
 use Rattle.maid_model.specs.Diagrams.{IsDiagram}
 use Rattle.maid_model.specs.Tested.{all_true, diagram_tests}
-use Rattle.threshold.specs.Example.{cost, drill, oil, pay, shown, well}
-use Rattle.threshold.proofs.tests.oil.Goals as goal
+use Rattle.form_tests.specs.Moving.{cost, drill, oil, pay, shown, well}
+use Rattle.form_tests.proofs.moving.oil.Goals as goal
 
 tested : all_true (diagram_tests oil) ≡ true
 tested = refl

@@ -1,40 +1,21 @@
-//! A coin, a node that never has one of its states, and a bet on a coin.
+//! Tests of `evidence`: a coin, a node that never has one of its states, and a bet on a coin.
 
 ghost use Rattle.std.specs.Prelude.{◌≡◌, IfOk};
-ghost use Rattle.evidence.specs.Example.{bet, certain, coin, node_of};
+ghost use Rattle.form_tests.specs.Conditioning.{bet, certain, coin};
 
-use crate::{Conditioned, GivenFault, given};
-use maid_model::{Diagram, Kind, Node, Ratio, literals_are_tested};
-use smallvec::SmallVec;
+use crate::samples::node;
+use evidence::{Conditioned, GivenFault, given};
+use maid_model::{Diagram, Kind, Ratio, literals_are_tested};
 use std::alloc::{AllocError, Global};
 use std::test::Fail;
-
-fn node(
-    alloc: Global,
-    kind: Kind,
-    states: usize,
-    parents: &[usize],
-    cells: &[i128],
-) -> Result<Node, AllocError>
-    ensures { IfOk result (λ n. n ≡ node_of kind states parents.now cells.now) }
-{
-    Ok(Node {
-        kind,
-        owner: 0,
-        more: SmallVec::new(alloc),
-        states,
-        parents: SmallVec::from_slice(alloc, parents)?,
-        cells: Vec::from_slice(alloc, cells)?,
-    })
-}
 
 fn coin(alloc: Global) -> Result<Diagram, AllocError>
     ensures { IfOk result (λ d. d ≡ coin) }
 {
     literals_are_tested();
     let mut nodes = Vec::new(alloc);
-    nodes.push(node(alloc, Kind::Chance, 2, &[], &[1, 1])?)?;
-    nodes.push(node(alloc, Kind::Utility, 1, &[0], &[50, -125])?)?;
+    nodes.push(node(alloc, Kind::Chance, 0, 2, &[], &[1, 1])?)?;
+    nodes.push(node(alloc, Kind::Utility, 0, 1, &[0], &[50, -125])?)?;
     Ok(Diagram::from_nodes(nodes, 1, 2))
 }
 
@@ -43,7 +24,7 @@ fn certain(alloc: Global) -> Result<Diagram, AllocError>
 {
     literals_are_tested();
     let mut nodes = Vec::new(alloc);
-    nodes.push(node(alloc, Kind::Chance, 2, &[], &[1, 0])?)?;
+    nodes.push(node(alloc, Kind::Chance, 0, 2, &[], &[1, 0])?)?;
     Ok(Diagram::from_nodes(nodes, 0, 0))
 }
 
@@ -52,10 +33,10 @@ fn bet(alloc: Global) -> Result<Diagram, AllocError>
 {
     literals_are_tested();
     let mut nodes = Vec::new(alloc);
-    nodes.push(node(alloc, Kind::Chance, 2, &[], &[1, 3])?)?;
-    nodes.push(node(alloc, Kind::Decision, 2, &[], &[])?)?;
-    nodes.push(node(alloc, Kind::Chance, 2, &[1], &[1, 0, 0, 1])?)?;
-    nodes.push(node(alloc, Kind::Utility, 1, &[0, 1], &[4, 0, 1, 2])?)?;
+    nodes.push(node(alloc, Kind::Chance, 0, 2, &[], &[1, 3])?)?;
+    nodes.push(node(alloc, Kind::Decision, 0, 2, &[], &[])?)?;
+    nodes.push(node(alloc, Kind::Chance, 0, 2, &[1], &[1, 0, 0, 1])?)?;
+    nodes.push(node(alloc, Kind::Utility, 0, 1, &[0, 1], &[4, 0, 1, 2])?)?;
     Ok(Diagram::from_nodes(nodes, 1, 0))
 }
 

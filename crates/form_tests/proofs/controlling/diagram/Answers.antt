@@ -1,8 +1,8 @@
 -- The literal is a diagram by its tests.
 use Rattle.std.proofs.Common.{◌≡◌, ◌∙◌, ◌++◌, ◌∷◌, [], refl, sym, subst}
 use Rattle.maid_model.specs.Diagrams.{IsDiagram}
-use Rattle.control_incentive.specs.Example.{choice, day, example, outcome, pay}
-use Rattle.control_incentive.proofs.tests.diagram.Goals as goal
+use Rattle.form_tests.specs.Controlling.{choice, day, example, outcome, pay}
+use Rattle.form_tests.proofs.controlling.diagram.Goals as goal
 
 pub from_nodes-requires : goal.from_nodes-requires
 from_nodes-requires c =

@@ -1,33 +1,14 @@
-//! Small diagrams, with ample memory.
+//! Tests of `threshold`: small diagrams, and how far a probability of theirs may move.
 
 ghost use Rattle.std.specs.Prelude.{◌≡◌, [], IfOk};
-ghost use Rattle.threshold.specs.Example.{bet, node_of, oil, steer, weights_of};
+ghost use Rattle.form_tests.specs.Moving.{bet, oil, steer, weights_of};
 
-use crate::{Interval, SpanFault, span};
-use maid_model::{Diagram, Kind, Node, Ratio, literals_are_tested};
+use crate::samples::node;
+use maid_model::{Diagram, Kind, Ratio, literals_are_tested};
 use rule_solver::solve;
-use smallvec::SmallVec;
 use std::alloc::{AllocError, Global};
 use std::test::Fail;
-
-fn node(
-    alloc: Global,
-    kind: Kind,
-    states: usize,
-    parents: &[usize],
-    cells: &[i128],
-) -> Result<Node, AllocError>
-    ensures { IfOk result (λ n. n ≡ node_of kind states parents.now cells.now) }
-{
-    Ok(Node {
-        kind,
-        owner: 0,
-        more: SmallVec::new(alloc),
-        states,
-        parents: SmallVec::from_slice(alloc, parents)?,
-        cells: Vec::from_slice(alloc, cells)?,
-    })
-}
+use threshold::{Interval, SpanFault, span};
 
 /// Whether to test a well, the oil, what the test shows, whether to drill after it, the cost of the
 /// test, and the pay.
@@ -39,12 +20,12 @@ fn oil(alloc: Global) -> Result<Diagram, AllocError>
         18, 9, 3, 10, 10, 10, 9, 12, 9, 10, 10, 10, 3, 12, 15, 10, 10, 10,
     ];
     let mut nodes = Vec::new(alloc);
-    nodes.push(node(alloc, Kind::Decision, 2, &[], &[])?)?;
-    nodes.push(node(alloc, Kind::Chance, 3, &[], &[5, 3, 2])?)?;
-    nodes.push(node(alloc, Kind::Chance, 3, &[1, 0], &shown)?)?;
-    nodes.push(node(alloc, Kind::Decision, 2, &[0, 2], &[])?)?;
-    nodes.push(node(alloc, Kind::Utility, 1, &[0], &[-10, 0])?)?;
-    nodes.push(node(alloc, Kind::Utility, 1, &[1, 3], &[-70, 0, 50, 0, 200, 0])?)?;
+    nodes.push(node(alloc, Kind::Decision, 0, 2, &[], &[])?)?;
+    nodes.push(node(alloc, Kind::Chance, 0, 3, &[], &[5, 3, 2])?)?;
+    nodes.push(node(alloc, Kind::Chance, 0, 3, &[1, 0], &shown)?)?;
+    nodes.push(node(alloc, Kind::Decision, 0, 2, &[0, 2], &[])?)?;
+    nodes.push(node(alloc, Kind::Utility, 0, 1, &[0], &[-10, 0])?)?;
+    nodes.push(node(alloc, Kind::Utility, 0, 1, &[1, 3], &[-70, 0, 50, 0, 200, 0])?)?;
     Ok(Diagram::from_nodes(nodes, 1, 0))
 }
 
@@ -61,9 +42,9 @@ fn steer(alloc: Global, even: bool) -> Result<Diagram, AllocError>
 {
     literals_are_tested();
     let mut nodes = Vec::new(alloc);
-    nodes.push(node(alloc, Kind::Chance, 2, &[], weights_of(even))?)?;
-    nodes.push(node(alloc, Kind::Decision, 2, &[0], &[])?)?;
-    nodes.push(node(alloc, Kind::Utility, 1, &[0, 1], &[3, 0, 0, 1])?)?;
+    nodes.push(node(alloc, Kind::Chance, 0, 2, &[], weights_of(even))?)?;
+    nodes.push(node(alloc, Kind::Decision, 0, 2, &[0], &[])?)?;
+    nodes.push(node(alloc, Kind::Utility, 0, 1, &[0, 1], &[3, 0, 0, 1])?)?;
     Ok(Diagram::from_nodes(nodes, 1, 0))
 }
 
@@ -74,10 +55,10 @@ fn bet(alloc: Global) -> Result<Diagram, AllocError>
 {
     literals_are_tested();
     let mut nodes = Vec::new(alloc);
-    nodes.push(node(alloc, Kind::Chance, 2, &[], &[1, 1])?)?;
-    nodes.push(node(alloc, Kind::Decision, 3, &[], &[])?)?;
-    nodes.push(node(alloc, Kind::Utility, 1, &[0, 1], &[1, 2, 0, 1, 0, 2])?)?;
-    nodes.push(node(alloc, Kind::Chance, 2, &[0], &[1, 2, 2, 1])?)?;
+    nodes.push(node(alloc, Kind::Chance, 0, 2, &[], &[1, 1])?)?;
+    nodes.push(node(alloc, Kind::Decision, 0, 3, &[], &[])?)?;
+    nodes.push(node(alloc, Kind::Utility, 0, 1, &[0, 1], &[1, 2, 0, 1, 0, 2])?)?;
+    nodes.push(node(alloc, Kind::Chance, 0, 2, &[0], &[1, 2, 2, 1])?)?;
     Ok(Diagram::from_nodes(nodes, 1, 0))
 }
 

@@ -2,8 +2,8 @@ use Rattle.std.proofs.Common.{◌≡◌, ◌∙◌, ◌++◌, ◌∷◌, [], pos
 use Rattle.maid_model.specs.declared.diagrams.Kind.TheVariants.{Chance, Decision, Utility}
 use Rattle.maid_model.specs.Diagrams.{IsDiagram}
 use Rattle.maid_model.specs.Views.{NodeView}
-use Rattle.evidence.specs.Example.{bet, node_of}
-use Rattle.evidence.proofs.tests.bet.Goals as goal
+use Rattle.form_tests.specs.Conditioning.{bet, node_of}
+use Rattle.form_tests.proofs.conditioning.bet.Goals as goal
 
 abbrev choice : NodeView
 choice = node_of Decision 2 [] []

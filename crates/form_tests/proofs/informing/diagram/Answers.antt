@@ -2,8 +2,8 @@
 use Rattle.std.proofs.Common.{◌≡◌, ◌∙◌, ◌++◌, ◌∷◌, [], Bool, true, false, refl, sym, subst}
 use Rattle.maid_model.specs.Diagrams.{IsDiagram}
 use Rattle.maid_model.specs.Tested.{all_true, diagram_tests}
-use Rattle.info_value.specs.Example.{alike, coin, guess, guessing, right, seen_by}
-use Rattle.info_value.proofs.tests.diagram.Goals as goal
+use Rattle.form_tests.specs.Informing.{alike, coin, guess, guessing, right, seen_by}
+use Rattle.form_tests.proofs.informing.diagram.Goals as goal
 
 tested : (told : Bool) → all_true (diagram_tests (guessing told)) ≡ true
 tested true = refl

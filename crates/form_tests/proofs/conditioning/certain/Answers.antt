@@ -1,7 +1,7 @@
 use Rattle.std.proofs.Common.{◌≡◌, ◌∙◌, ◌++◌, ◌∷◌, [], refl, sym, subst}
 use Rattle.maid_model.specs.Diagrams.{IsDiagram}
-use Rattle.evidence.specs.Example.{certain}
-use Rattle.evidence.proofs.tests.certain.Goals as goal
+use Rattle.form_tests.specs.Conditioning.{certain}
+use Rattle.form_tests.proofs.conditioning.certain.Goals as goal
 
 pub from_nodes-requires : goal.from_nodes-requires
 from_nodes-requires c =

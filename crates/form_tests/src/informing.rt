@@ -1,41 +1,14 @@
-//! A guess at one of two coins, and what it is worth to see.
+//! Tests of `info_value`: a guess at one of two coins, and what it is worth to see.
 
 ghost use Rattle.std.specs.Prelude.{◌≡◌, [], IfOk};
-ghost use Rattle.info_value.specs.Example.{guessing, seen_by};
+ghost use Rattle.form_tests.specs.Informing.{guessing, seen_by};
 
-use crate::{Found, InfoLine, info};
-use maid_model::{Diagram, Kind, Node, Ratio, literals_are_tested};
+use crate::samples::node;
+use info_value::{Found, InfoLine, info};
+use maid_model::{Diagram, Kind, Ratio, literals_are_tested};
 use rule_solver::solve;
-use smallvec::SmallVec;
 use std::alloc::{AllocError, Global};
 use std::test::Fail;
-
-fn node(
-    alloc: Global,
-    kind: Kind,
-    states: usize,
-    parents: &[usize],
-    cells: &[i128],
-) -> Result<Node, AllocError>
-    ensures { IfOk result (λ n.
-        n ≡ record {
-          kind = kind;
-          owner = 0;
-          more = [];
-          states = states;
-          parents = parents.now;
-          cells = cells.now;
-        }) }
-{
-    Ok(Node {
-        kind,
-        owner: 0,
-        more: SmallVec::new(alloc),
-        states,
-        parents: SmallVec::from_slice(alloc, parents)?,
-        cells: Vec::from_slice(alloc, cells)?,
-    })
-}
 
 fn seen_by(told: bool) -> &'static [usize]
     ensures { result.now ≡ seen_by told }
@@ -49,11 +22,11 @@ fn diagram(alloc: Global, told: bool) -> Result<Diagram, AllocError>
 {
     literals_are_tested();
     let mut nodes = Vec::new(alloc);
-    nodes.push(node(alloc, Kind::Chance, 2, &[], &[1, 1])?)?;
-    nodes.push(node(alloc, Kind::Chance, 2, &[], &[1, 1])?)?;
-    nodes.push(node(alloc, Kind::Chance, 2, &[0, 1], &[1, 0, 0, 1, 0, 1, 1, 0])?)?;
-    nodes.push(node(alloc, Kind::Decision, 2, seen_by(told), &[])?)?;
-    nodes.push(node(alloc, Kind::Utility, 1, &[1, 3], &[1, 0, 0, 1])?)?;
+    nodes.push(node(alloc, Kind::Chance, 0, 2, &[], &[1, 1])?)?;
+    nodes.push(node(alloc, Kind::Chance, 0, 2, &[], &[1, 1])?)?;
+    nodes.push(node(alloc, Kind::Chance, 0, 2, &[0, 1], &[1, 0, 0, 1, 0, 1, 1, 0])?)?;
+    nodes.push(node(alloc, Kind::Decision, 0, 2, seen_by(told), &[])?)?;
+    nodes.push(node(alloc, Kind::Utility, 0, 1, &[1, 3], &[1, 0, 0, 1])?)?;
     Ok(Diagram::from_nodes(nodes, 1, 0))
 }
 

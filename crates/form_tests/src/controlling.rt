@@ -1,41 +1,14 @@
-//! A choice that sees the day, and an outcome that follows it.
+//! Tests of `control_incentive`: a choice that sees the day, and an outcome that follows it.
 
 ghost use Rattle.std.specs.Prelude.{◌≡◌, [], IfOk};
-ghost use Rattle.control_incentive.specs.Example.{example};
+ghost use Rattle.form_tests.specs.Controlling.{example};
 
-use crate::{ControlLine, Controlled, control};
-use maid_model::{Diagram, Kind, Node, Ratio, literals_are_tested};
+use crate::samples::node;
+use control_incentive::{ControlLine, Controlled, control};
+use maid_model::{Diagram, Kind, Ratio, literals_are_tested};
 use rule_solver::solve;
-use smallvec::SmallVec;
 use std::alloc::{AllocError, Global};
 use std::test::Fail;
-
-fn node(
-    alloc: Global,
-    kind: Kind,
-    states: usize,
-    parents: &[usize],
-    cells: &[i128],
-) -> Result<Node, AllocError>
-    ensures { IfOk result (λ n.
-        n ≡ record {
-          kind = kind;
-          owner = 0;
-          more = [];
-          states = states;
-          parents = parents.now;
-          cells = cells.now;
-        }) }
-{
-    Ok(Node {
-        kind,
-        owner: 0,
-        more: SmallVec::new(alloc),
-        states,
-        parents: SmallVec::from_slice(alloc, parents)?,
-        cells: Vec::from_slice(alloc, cells)?,
-    })
-}
 
 /// The day, a choice that sees it, an outcome that follows the choice, and what the two are worth.
 fn diagram(alloc: Global) -> Result<Diagram, AllocError>
@@ -43,10 +16,10 @@ fn diagram(alloc: Global) -> Result<Diagram, AllocError>
 {
     literals_are_tested();
     let mut nodes = Vec::new(alloc);
-    nodes.push(node(alloc, Kind::Chance, 2, &[], &[1, 1])?)?;
-    nodes.push(node(alloc, Kind::Decision, 2, &[0], &[])?)?;
-    nodes.push(node(alloc, Kind::Chance, 2, &[1], &[1, 0, 0, 1])?)?;
-    nodes.push(node(alloc, Kind::Utility, 1, &[0, 2], &[3, 0, 0, 1])?)?;
+    nodes.push(node(alloc, Kind::Chance, 0, 2, &[], &[1, 1])?)?;
+    nodes.push(node(alloc, Kind::Decision, 0, 2, &[0], &[])?)?;
+    nodes.push(node(alloc, Kind::Chance, 0, 2, &[1], &[1, 0, 0, 1])?)?;
+    nodes.push(node(alloc, Kind::Utility, 0, 1, &[0, 2], &[3, 0, 0, 1])?)?;
     Ok(Diagram::from_nodes(nodes, 1, 0))
 }
 

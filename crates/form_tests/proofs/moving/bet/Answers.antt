@@ -4,8 +4,8 @@ use Rattle.maid_model.specs.declared.diagrams.Kind.TheVariants.{Decision, Utilit
 use Rattle.maid_model.specs.Diagrams.{IsDiagram}
 use Rattle.maid_model.specs.Tested.{all_true, diagram_tests}
 use Rattle.maid_model.specs.Views.{NodeView}
-use Rattle.threshold.specs.Example.{bet, echo, node_of}
-use Rattle.threshold.proofs.tests.bet.Goals as goal
+use Rattle.form_tests.specs.Moving.{bet, echo, node_of}
+use Rattle.form_tests.proofs.moving.bet.Goals as goal
 
 abbrev pay : NodeView
 pay = node_of Utility 1 (0 ∷ 1 ∷ []) (pos 1 ∷ pos 2 ∷ pos 0 ∷ pos 1 ∷ pos 0 ∷ pos 2 ∷ [])
