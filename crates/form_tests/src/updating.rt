@@ -5,7 +5,7 @@ ghost use Rattle.form_tests.specs.Updating.{guessing, meeting, nothing, paid, pe
 
 use crate::samples::node;
 use maid_model::{Diagram, Kind, Ratio, Row, literals_are_tested};
-use policy_update::{UpdateFault, update};
+use policy_update::{UpdateFault, Updated, update};
 use std::alloc::{AllocError, Global};
 use std::test::Fail;
 
@@ -74,19 +74,41 @@ fn row(choice: usize) -> Row {
     }
 }
 
+/// Whether the answer at this place is of this decision and has these rows.
+fn is_answered(updated: &Updated, place: usize, decision: usize, rows: &[Row]) -> bool {
+    match updated.answers.get(place) {
+        Some(answer) => answer.decision == decision && answer.rows.as_slice() == rows,
+        None => false,
+    }
+}
+
+/// Whether the agents' gains are these.
+fn has_gains(updated: &Updated, gains: &[Ratio]) -> bool {
+    updated.gains.as_slice() == gains
+}
+
+/// Whether the allowed rounds were spent, and the gain had come to this.
+fn is_spent_at(updated: Result<Updated, UpdateFault>, allowed: u64, worth: i128) -> bool {
+    match updated {
+        Err(UpdateFault::RoundsSpent { rounds, gain }) => {
+            rounds == allowed && gain == Ratio { num: worth, den: 1 }
+        }
+        _ => false,
+    }
+}
+
 // Where neither decision gains alone, updating stays at the first states, though the second ones are worth 2.
 #[test]
 fn a_local_optimum(rt: HostRuntime) -> Result<(), Fail> {
     let alloc = rt.alloc();
     let diagram = meeting(alloc, false)?;
     let updated = update(alloc, &diagram, 10)?;
-    assert_eq!(rt; updated.rounds, 0);
-    assert_eq!(rt; updated.answers.len(), 2);
-    for answer in &updated.answers {
-        assert_eq!(rt; answer.rows.as_slice(), [row(0)].as_slice());
-    }
     let gains = [Ratio { num: 1, den: 1 }, Ratio { num: 1, den: 2 }];
-    assert_eq!(rt; updated.gains.as_slice(), gains.as_slice());
+    assert!(rt; updated.rounds == 0);
+    assert!(rt; updated.answers.len() == 2);
+    assert!(rt; is_answered(&updated, 0, 0, &[row(0)]));
+    assert!(rt; is_answered(&updated, 1, 1, &[row(0)]));
+    assert!(rt; has_gains(&updated, &gains));
     Ok(())
 }
 
@@ -96,14 +118,12 @@ fn two_rounds(rt: HostRuntime) -> Result<(), Fail> {
     let alloc = rt.alloc();
     let diagram = meeting(alloc, true)?;
     let updated = update(alloc, &diagram, 3)?;
-    assert_eq!(rt; updated.rounds, 2);
-    assert_eq!(rt; updated.answers.len(), 2);
-    for (place, answer) in updated.answers.iter().enumerate() {
-        assert_eq!(rt; answer.decision, place);
-        assert_eq!(rt; answer.rows.as_slice(), [row(1)].as_slice());
-    }
     let gains = [Ratio { num: 2, den: 1 }, Ratio { num: 7, den: 10 }];
-    assert_eq!(rt; updated.gains.as_slice(), gains.as_slice());
+    assert!(rt; updated.rounds == 2);
+    assert!(rt; updated.answers.len() == 2);
+    assert!(rt; is_answered(&updated, 0, 0, &[row(1)]));
+    assert!(rt; is_answered(&updated, 1, 1, &[row(1)]));
+    assert!(rt; has_gains(&updated, &gains));
     Ok(())
 }
 
@@ -112,41 +132,42 @@ fn two_rounds(rt: HostRuntime) -> Result<(), Fail> {
 fn rounds_are_spent(rt: HostRuntime) -> Result<(), Fail> {
     let alloc = rt.alloc();
     let diagram = meeting(alloc, true)?;
-    for (allowed, worth) in [(1, 1), (2, 2)] {
-        match update(alloc, &diagram, allowed) {
-            Err(UpdateFault::RoundsSpent { rounds, gain }) => {
-                assert_eq!(rt; rounds, allowed);
-                assert_eq!(rt; gain, Ratio { num: worth, den: 1 });
-            }
-            _ => return Err("the rounds are not spent".into()),
-        }
-    }
+    assert!(rt; is_spent_at(update(alloc, &diagram, 1), 1, 1));
+    assert!(rt; is_spent_at(update(alloc, &diagram, 2), 2, 2));
     Ok(())
 }
 
-// A row that sees the coin takes its side; nothing is decided without decisions; two agents are one too many.
+// A row that sees the coin takes its side.
 #[test]
-fn rows_none_and_two_agents(rt: HostRuntime) -> Result<(), Fail> {
+fn rows_take_the_coins_side(rt: HostRuntime) -> Result<(), Fail> {
     let alloc = rt.alloc();
-    let updated = update(alloc, &guessing(alloc)?, 10)?;
-    assert_eq!(rt; updated.rounds, 1);
-    assert_eq!(rt; updated.answers.len(), 1);
-    assert_eq!(rt;
-        updated.answers[0].rows.as_slice(),
-        [row(0), row(1)].as_slice()
-    );
-    assert_eq!(rt;
-        updated.gains.as_slice(),
-        [Ratio { num: 1, den: 1 }].as_slice()
-    );
-    let none = update(alloc, &nothing(alloc), 1)?;
-    assert_eq!(rt; none.rounds, 0);
-    assert_eq!(rt; none.answers.len(), 0);
-    assert_eq!(rt;
-        none.gains.as_slice(),
-        [Ratio { num: 0, den: 1 }].as_slice()
-    );
-    let two = update(alloc, &pennies(alloc)?, 10);
-    assert!(rt; matches!(two, Err(UpdateFault::NotOneAgent)));
+    let diagram = guessing(alloc)?;
+    let updated = update(alloc, &diagram, 10)?;
+    assert!(rt; updated.rounds == 1);
+    assert!(rt; updated.answers.len() == 1);
+    assert!(rt; is_answered(&updated, 0, 1, &[row(0), row(1)]));
+    assert!(rt; has_gains(&updated, &[Ratio { num: 1, den: 1 }]));
+    Ok(())
+}
+
+// Nothing is decided without decisions.
+#[test]
+fn nothing_is_decided(rt: HostRuntime) -> Result<(), Fail> {
+    let alloc = rt.alloc();
+    let diagram = nothing(alloc);
+    let updated = update(alloc, &diagram, 1)?;
+    assert!(rt; updated.rounds == 0);
+    assert!(rt; updated.answers.is_empty());
+    assert!(rt; has_gains(&updated, &[Ratio { num: 0, den: 1 }]));
+    Ok(())
+}
+
+// Two agents are one too many.
+#[test]
+fn two_agents_are_refused(rt: HostRuntime) -> Result<(), Fail> {
+    let alloc = rt.alloc();
+    let diagram = pennies(alloc)?;
+    let updated = update(alloc, &diagram, 10);
+    assert!(rt; matches!(updated, Err(UpdateFault::NotOneAgent)));
     Ok(())
 }
