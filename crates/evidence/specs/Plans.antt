@@ -4,9 +4,8 @@ use Rattle.maid_model.specs.declared.diagrams.Kind.TheVariants.{Utility}
 use Rattle.maid_model.specs.Nodes.{node_at}
 use Rattle.maid_model.specs.Views.{NodeView}
 use Rattle.rule_solver.specs.Rooms.{HasRoom}
-use Rattle.rule_solver.specs.Worths.{ArePlansOfWorths}
 use Rattle.size_precheck.specs.Decisions.{ArePlans}
-use Rattle.size_precheck.specs.Sizes.{IsPlanned, SizedPlan}
+use Rattle.size_precheck.specs.Sizes.{IsPlanned, SizedPlan, ArePlansOfWorths}
 use Rattle.evidence.specs.declared.measures.GivenPlans.{GivenPlans}
 use Rattle.evidence.specs.Sizes.{HasRoomGiven, plan_given}
 

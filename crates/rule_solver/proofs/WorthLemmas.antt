@@ -23,9 +23,8 @@ use Rattle.plan_sums.specs.Plans.{PlanView, in_plan, plan_nodes, worth_plan}
 use Rattle.factor_core.specs.Slots.{nodes_in}
 use Rattle.scope_sums.specs.Laws.{AgentsScopesFitPlans, MissingIsPositive}
 use Rattle.scope_sums.specs.Missing.{missing_in}
-use Rattle.size_precheck.specs.Sizes.{IsPlanned, SizedPlan}
+use Rattle.size_precheck.specs.Sizes.{IsPlanned, SizedPlan, ArePlansOfWorths}
 use Rattle.size_precheck.proofs.Measuring.{filter_more}
-use Rattle.rule_solver.specs.Worths.{ArePlansOfWorths}
 use Rattle.rule_solver.proofs.PlanLemmas.{worth_fits}
 
 -- ---- the nodes of the plan

@@ -44,6 +44,17 @@ pub record AreReady (cells : ℕ) (spaces : Workspaces) : Type 0 where
   pub room : spaces.cells ≡ cells
   pub pair_cells : spaces.pair_cells ≡ min (4 * cells) MOST_PAIR_CELLS
 
+-- two workspaces are ready, and have room for the plan
+abbrev pub AreReadyFor :
+    {C D : Type 0} → List NodeView → PlanView → WorkspaceView C → WorkspaceView D → Type 0
+AreReadyFor nodes plan small wide =
+    (cells : ℕ) × IsReady cells small × IsReady cells wide × HasAtMost nodes plan cells
+
+-- the workspaces are ready, and have room for the plans of the decision's goals
+abbrev pub AreReadyForGoals : List NodeView → ℕ → Workspaces → Type 0
+AreReadyForGoals nodes d spaces = (cells : ℕ) × AreReady cells spaces
+    × ((u : ℕ) → IsGoal nodes d u → HasAtMost nodes (gain_plan nodes d u) cells)
+
 -- workspaces that a run has left, if any are, are ready again
 abbrev pub AreLeft : Option Workspaces → Type 0
 AreLeft left = IfSome left (λ spaces. AreReady spaces.cells spaces)

@@ -1,6 +1,5 @@
 -- What utilities give to expected utilities, as plans give it. Only private functions cite it.
-use Rattle.std.specs.Prelude.{◌≡◌, ◌↔◌, ℕ, ◌<◌, ◌≤◌, List, map, length, slice_index_or, Contains, ℤ, pos, ◌*ℤ◌, if◌then◌else◌}
-use Rattle.std.specs.List.{AllZip}
+use Rattle.std.specs.Prelude.{◌≡◌, ◌↔◌, ℕ, ◌<◌, ◌≤◌, List, length, slice_index_or, Contains, ℤ, pos, ◌*ℤ◌, if◌then◌else◌}
 use Rattle.maid_model.specs.declared.diagrams.Kind.TheVariants.{Utility}
 use Rattle.maid_model.specs.Diagrams.{IsDiagram, greatest_number}
 use Rattle.maid_model.specs.Gains.{gain_of}
@@ -14,7 +13,6 @@ use Rattle.finite_sums.specs.Sums.{World, InRange}
 use Rattle.part_laws.specs.ScopeLaws.{HasUnitRules}
 use Rattle.plan_sums.specs.Plans.{gain_cells, plan_sum, worth_plan}
 use Rattle.scope_sums.specs.Missing.{missing_in}
-use Rattle.size_precheck.specs.Sizes.{SizedPlan, IsPlanned, utility_list}
 use Rattle.rule_solver.specs.Rooms.{HasRoomForWorths}
 use Rattle.rule_solver.specs.Totals.{HasTotals}
 
@@ -22,11 +20,6 @@ use Rattle.rule_solver.specs.Totals.{HasTotals}
 abbrev pub IsWorth : List NodeView → List RuleView → ℕ → ℤ → Type 0
 IsWorth nodes p u worth =
     (q : World) → InRange (states_of nodes) q → worth ≡ plan_sum gain_cells nodes p (worth_plan u) q
-
--- the plans of the worths of all utilities, in text order
-abbrev pub ArePlansOfWorths : List NodeView → List SizedPlan → Type 0
-ArePlansOfWorths nodes plans =
-    AllZip (IsPlanned nodes) (map (λ u. worth_plan u) (utility_list nodes)) plans
 
 -- the list has the worth of each utility
 pub record HasWorths (nodes : List NodeView) (p : List RuleView) (worths : List ℤ) : Type 0 where

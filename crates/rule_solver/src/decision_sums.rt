@@ -1,7 +1,6 @@
 //! The gains and masses of one decision, by plans of elimination in the part of its scope.
 
-ghost use Rattle.std.specs.Prelude.{◌≡◌, ◌+◌, ◌*◌, ℕ, ◌≤◌, ◌∷◌, [], All, IfOk, OnOk, length, map};
-ghost use Rattle.std.specs.List.{AllZip};
+ghost use Rattle.std.specs.Prelude.{◌≡◌, ◌*◌, ℕ, ◌≤◌, ◌∷◌, [], All, IfOk, OnOk, length};
 ghost use Rattle.eliminate.specs.Results.{plan_total};
 ghost use Rattle.maid_model.specs.declared.limits.TheConstants.{MOST_PLAN_CELLS};
 ghost use Rattle.maid_model.specs.Nodes.{IsDecision, rows_of};
@@ -11,8 +10,8 @@ ghost use Rattle.maid_model.specs.Scopes.{KeepsScopedBounds, goals_of, scope_of}
 ghost use Rattle.part_laws.specs.ScopeLaws.{HasSmallRules};
 ghost use Rattle.plan_sums.specs.Plans.{gain_plan, row_plan};
 ghost use Rattle.scope_sums.specs.Missing.{missing_in, missing_in_without};
-ghost use Rattle.size_precheck.specs.Sizes.{ArePlansOf, IsPlanned, goal_list};
-ghost use Rattle.rule_solver.specs.Rooms.{AreReady, HasAtMost, HasRoomAt, IsReady};
+ghost use Rattle.size_precheck.specs.Sizes.{ArePlansOf, IsPlanned, ArePlansOfGoals};
+ghost use Rattle.rule_solver.specs.Rooms.{AreReady, HasAtMost, HasRoomAt, IsReady, AreReadyFor, AreReadyForGoals};
 ghost use Rattle.rule_solver.specs.Sums.{AddsGoals, HasGoals, HasMasses, HasRoomFor, IsRowGains, IsRowSums, IsSetting, KeepsRoom};
 
 use crate::joint_goals::add_together;
@@ -112,9 +111,8 @@ impl<'a> Setting<'a> {
             self.now.totals.now self.now.scope }
         requires planned { IsPlanned self.now.diagram.now.nodes
             (row_plan self.now.diagram.now.nodes self.now.decision) plan.now }
-        requires ready { (cells : ℕ) × IsReady cells small.old × IsReady cells wide.old
-            × HasAtMost self.now.diagram.now.nodes
-            (row_plan self.now.diagram.now.nodes self.now.decision) cells }
+        requires ready { AreReadyFor self.now.diagram.now.nodes
+            (row_plan self.now.diagram.now.nodes self.now.decision) small.old wide.old }
         requires count { length masses.old
             ≡ rows_of self.now.diagram.now.nodes self.now.decision }
         ensures masses { OnOk result (HasMasses self.now.diagram.now self.now.base.now
@@ -145,9 +143,8 @@ impl<'a> Setting<'a> {
             self.now.totals.now self.now.scope }
         requires planned { IsPlanned self.now.diagram.now.nodes
             (row_plan self.now.diagram.now.nodes self.now.decision) plan.now }
-        requires ready { (cells : ℕ) × IsReady cells small.old × IsReady cells wide.old
-            × HasAtMost self.now.diagram.now.nodes
-            (row_plan self.now.diagram.now.nodes self.now.decision) cells }
+        requires ready { AreReadyFor self.now.diagram.now.nodes
+            (row_plan self.now.diagram.now.nodes self.now.decision) small.old wide.old }
         ensures masses { IfOk result (λ masses.
             HasMasses self.now.diagram.now self.now.base.now self.now.decision masses.items) }
         ensures again { OnOk result ((small.new ≡ small.old) × (wide.new ≡ wide.old)) }
@@ -218,9 +215,8 @@ impl<'a> Setting<'a> {
         requires goal { IsGoal self.now.diagram.now.nodes self.now.decision goal }
         requires planned { IsPlanned self.now.diagram.now.nodes
             (gain_plan self.now.diagram.now.nodes self.now.decision goal) plan.now }
-        requires ready { (cells : ℕ) × IsReady cells small.old × IsReady cells wide.old
-            × HasAtMost self.now.diagram.now.nodes
-            (gain_plan self.now.diagram.now.nodes self.now.decision goal) cells }
+        requires ready { AreReadyFor self.now.diagram.now.nodes
+            (gain_plan self.now.diagram.now.nodes self.now.decision goal) small.old wide.old }
         requires room { HasRoomFor self.now.diagram.now self.now.decision (goal ∷ []) gains.old }
         ensures adds { OnOk result (AddsGoals self.now.diagram.now.nodes self.now.base.now
             self.now.decision (goal ∷ []) gains.old gains.new) }
@@ -250,14 +246,8 @@ impl<'a> Setting<'a> {
         requires setting { IsSetting self.now.diagram.now self.now.base.now self.now.decision
             self.now.totals.now self.now.scope }
         requires goals { goals.now ≡ goals_of self.now.diagram.now.nodes self.now.decision }
-        requires planned { AllZip (IsPlanned self.now.diagram.now.nodes)
-            (map (λ u. gain_plan self.now.diagram.now.nodes self.now.decision u)
-            (goal_list self.now.diagram.now.nodes self.now.decision))
-            plans.now }
-        requires ready { (cells : ℕ) × AreReady cells spaces.old
-            × ((u : ℕ) → IsGoal self.now.diagram.now.nodes self.now.decision u
-            → HasAtMost self.now.diagram.now.nodes
-            (gain_plan self.now.diagram.now.nodes self.now.decision u) cells) }
+        requires planned { ArePlansOfGoals self.now.diagram.now.nodes self.now.decision plans.now }
+        requires ready { AreReadyForGoals self.now.diagram.now.nodes self.now.decision spaces.old }
         requires none { HasGoals self.now.diagram.now.nodes self.now.base.now self.now.decision []
             gains.old }
         ensures gains { OnOk result (HasGoals self.now.diagram.now.nodes self.now.base.now
@@ -286,14 +276,8 @@ impl<'a> Setting<'a> {
     ) -> Result<Vec<i128>, AllocError>
         requires setting { IsSetting self.now.diagram.now self.now.base.now self.now.decision
             self.now.totals.now self.now.scope }
-        requires planned { AllZip (IsPlanned self.now.diagram.now.nodes)
-            (map (λ u. gain_plan self.now.diagram.now.nodes self.now.decision u)
-            (goal_list self.now.diagram.now.nodes self.now.decision))
-            plans.now }
-        requires ready { (cells : ℕ) × AreReady cells spaces.old
-            × ((u : ℕ) → IsGoal self.now.diagram.now.nodes self.now.decision u
-            → HasAtMost self.now.diagram.now.nodes
-            (gain_plan self.now.diagram.now.nodes self.now.decision u) cells) }
+        requires planned { ArePlansOfGoals self.now.diagram.now.nodes self.now.decision plans.now }
+        requires ready { AreReadyForGoals self.now.diagram.now.nodes self.now.decision spaces.old }
         ensures gains { IfOk result (λ gains.
             HasGoals self.now.diagram.now.nodes self.now.base.now self.now.decision
             (goals_of self.now.diagram.now.nodes self.now.decision) gains.items) }

@@ -5,15 +5,13 @@
 //! gain of a product is the product of the weights times the sum of the values. Where that has no room, takes too much
 //! work or might not fit, each goal's own plan is run instead.
 
-ghost use Rattle.std.specs.Prelude.{◌≡◌, ◌↔◌, ◌⊎◌, ◌+◌, ◌*◌, ◌<◌, ◌≤◌, ℕ, [], Contains, IfOk, IfSome, IsTrue, OnOk, drop, false, length, map, sum_by, take};
-ghost use Rattle.std.specs.List.{AllZip};
+ghost use Rattle.std.specs.Prelude.{◌≡◌, ◌↔◌, ◌+◌, ◌*◌, ◌<◌, ◌≤◌, ℕ, [], Contains, IfOk, IfSome, OnOk, drop, length, sum_by, take};
 ghost use Rattle.maid_model.specs.Graph.{AllDifferent};
 ghost use Rattle.maid_model.specs.Scopes.{goals_of};
 ghost use Rattle.joint_sums.specs.Joint.{value_bound};
 ghost use Rattle.cell_rings.specs.Rings.{most_size};
 ghost use Rattle.node_sets.specs.declared.sets.TheConstants.{MOST_NODES};
-ghost use Rattle.plan_sums.specs.Plans.{gain_plan};
-ghost use Rattle.size_precheck.specs.Sizes.{IsPlanned, goal_list};
+ghost use Rattle.size_precheck.specs.Sizes.{ArePlansOfGoals};
 ghost use Rattle.rule_solver.specs.Rooms.{IsReady};
 ghost use Rattle.rule_solver.specs.Sums.{AddsGoals, HasGoals, HasRoomFor, IsSetting};
 ghost use Rattle.rule_solver.specs.Together.{AreOfGoals, FitsPairs, IsJoint, IsListed, IsStepOf, ListsMore};
@@ -146,9 +144,7 @@ impl Joint {
             setting.now.decision setting.now.totals.now setting.now.scope }
         requires goals { goals.now ≡ goals_of setting.now.diagram.now.nodes setting.now.decision }
         requires some { 0 < length goals.now }
-        requires planned { AllZip (IsPlanned setting.now.diagram.now.nodes)
-            (map (λ u. gain_plan setting.now.diagram.now.nodes setting.now.decision u)
-            (goal_list setting.now.diagram.now.nodes setting.now.decision))
+        requires planned { ArePlansOfGoals setting.now.diagram.now.nodes setting.now.decision
             plans.now }
         ensures { IfOk result (IsJoint setting.now.diagram.now.nodes setting.now.base.now
             setting.now.decision) }
@@ -296,9 +292,7 @@ pub(crate) fn add_together(
     requires setting { IsSetting setting.now.diagram.now setting.now.base.now setting.now.decision
         setting.now.totals.now setting.now.scope }
     requires goals { goals.now ≡ goals_of setting.now.diagram.now.nodes setting.now.decision }
-    requires planned { AllZip (IsPlanned setting.now.diagram.now.nodes)
-        (map (λ u. gain_plan setting.now.diagram.now.nodes setting.now.decision u)
-        (goal_list setting.now.diagram.now.nodes setting.now.decision))
+    requires planned { ArePlansOfGoals setting.now.diagram.now.nodes setting.now.decision
         plans.now }
     requires ready { IsReady cells work.old }
     requires none { HasGoals setting.now.diagram.now.nodes setting.now.base.now

@@ -7,10 +7,9 @@ ghost use Rattle.maid_model.specs.Placing.{IsRelianceOrder};
 ghost use Rattle.maid_model.specs.Scopes.{KeepsScopedBounds};
 ghost use Rattle.size_precheck.specs.Decisions.{ArePlans};
 ghost use Rattle.size_precheck.specs.Kept.{IsKeptRun};
-ghost use Rattle.size_precheck.specs.Sizes.{IsSizeOfRun, ListsDecisions};
+ghost use Rattle.size_precheck.specs.Sizes.{IsSizeOfRun, ListsDecisions, ArePlansOfWorths};
 ghost use Rattle.rule_solver.specs.Faults.{KeepsSizes, bound_pass, size_pass, solve_fault};
 ghost use Rattle.rule_solver.specs.Rooms.{HasRoom};
-ghost use Rattle.rule_solver.specs.Worths.{ArePlansOfWorths};
 
 use crate::SolveFault;
 use maid_model::{Diagram, MOST_PLAN_CELLS, MOST_WORK, descent_is_tested};

@@ -18,13 +18,13 @@ ghost use Rattle.plan_sums.specs.Plans.{worth_plan};
 ghost use Rattle.relevance_graph.specs.Relevant.{IsRelevance};
 ghost use Rattle.size_precheck.specs.Decisions.{ArePlans};
 ghost use Rattle.size_precheck.specs.Kept.{IsKeptRun};
-ghost use Rattle.size_precheck.specs.Sizes.{ArePlansOf, IsPlanned};
+ghost use Rattle.size_precheck.specs.Sizes.{ArePlansOf, IsPlanned, ArePlansOfWorths};
 ghost use Rattle.rule_solver.specs.Faults.{solve_fault, solve_pass};
 ghost use Rattle.rule_solver.specs.Optima.{ChoosesAll, ChoosesRows, IsChosenBy};
-ghost use Rattle.rule_solver.specs.Rooms.{AreLeft, AreReady, HasAtMost, HasRoom, HasRoomAt, HasRoomForWorths, IsReady};
+ghost use Rattle.rule_solver.specs.Rooms.{AreLeft, AreReady, HasRoom, HasRoomAt, HasRoomForWorths, IsReady, AreReadyFor};
 ghost use Rattle.rule_solver.specs.Rows.{gain_in};
 ghost use Rattle.rule_solver.specs.Totals.{HasTotals};
-ghost use Rattle.rule_solver.specs.Worths.{ArePlansOfWorths, HasWorthsFor, IsWorth};
+ghost use Rattle.rule_solver.specs.Worths.{HasWorthsFor, IsWorth};
 
 use crate::SolveFault;
 use crate::bases::turn_base;
@@ -164,8 +164,7 @@ fn worth_for(
     requires bound { KeepsScopedBounds diagram.now }
     requires totals { HasTotals diagram.now.nodes profile.now totals.now }
     requires planned { IsPlanned diagram.now.nodes (worth_plan utility) plan.now }
-    requires ready { (cells : ℕ) × IsReady cells small.old × IsReady cells wide.old
-        × HasAtMost diagram.now.nodes (worth_plan utility) cells }
+    requires ready { AreReadyFor diagram.now.nodes (worth_plan utility) small.old wide.old }
     ensures worth { IsOwnedBy diagram.now.nodes utility agent
         → IsWorth diagram.now.nodes profile.now utility result }
     ensures again { (small.new ≡ small.old) × (wide.new ≡ wide.old) }

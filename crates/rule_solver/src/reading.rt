@@ -2,12 +2,11 @@
 
 ghost use Rattle.std.specs.Prelude.{◌≡◌, ◌<◌, ◌≤◌, ◌+◌, ◌*◌, ◌*ℤ◌, ◌+ℤ◌, ◌↔◌, [], ◌∷◌, ◌++◌, ℕ, IfOk, IsTrue, OnErr, OnOk, Contains, length, nat_abs, pos, slice_index, slice_index_or, slice_set};
 ghost use Rattle.cell_rings.specs.Sums.{cell_at};
-ghost use Rattle.factor_core.specs.Slots.{IsLive, nodes_in, table_of};
-ghost use Rattle.finite_sums.specs.Sums.{InRange};
+ghost use Rattle.factor_core.specs.Slots.{IsLive, nodes_in};
 ghost use Rattle.maid_model.specs.Diagrams.{greatest_number};
 ghost use Rattle.maid_model.specs.Nodes.{IsDecision, parents_of, rows_of, states_of};
 ghost use Rattle.node_sets.specs.Sets.{holds, IsIn};
-ghost use Rattle.rule_solver.specs.Reading.{AddsTable, PutsTable, gain_there};
+ghost use Rattle.rule_solver.specs.Reading.{AddsTable, PutsTable, cell_number, HasRoomToAdd, FitTimes};
 
 use crate::numbers::{HasNumber, Number};
 use crate::odometer::next_over;
@@ -101,13 +100,11 @@ fn add_by_worlds<C: HasNumber>(
     requires gains { length gains.old
         ≡ rows_of diagram.now.nodes decision * states_of diagram.now.nodes decision }
     requires factor { factor ≤ greatest_number }
-    requires room { (q : ℕ → ℕ) → InRange (states_of diagram.now.nodes) q
-        → nat_abs (gain_there gains.old diagram.now.nodes decision q)
-        + nat_abs (C.number ((table_of C.ring diagram.now.nodes work.now.cells slot.now).cell q)
-        *ℤ pos factor) ≤ greatest_number }
+    requires room { HasRoomToAdd diagram.now.nodes decision
+        (cell_number C.number C.ring diagram.now.nodes work.now.cells slot.now) factor gains.old }
     ensures adds { OnOk result (AddsTable diagram.now.nodes decision
-        (λ q. C.number ((table_of C.ring diagram.now.nodes work.now.cells slot.now).cell q)) factor
-        gains.old gains.new) }
+        (cell_number C.number C.ring diagram.now.nodes work.now.cells slot.now) factor gains.old
+        gains.new) }
     ensures stays { OnErr result (gains.new ≡ gains.old) }
     ensures len { length gains.new ≡ length gains.old }
 {
@@ -148,13 +145,11 @@ pub(crate) fn add_gains<C: HasNumber>(
     requires gains { length gains.old
         ≡ rows_of diagram.now.nodes decision * states_of diagram.now.nodes decision }
     requires factor { factor ≤ greatest_number }
-    requires room { (q : ℕ → ℕ) → InRange (states_of diagram.now.nodes) q
-        → nat_abs (gain_there gains.old diagram.now.nodes decision q)
-        + nat_abs (C.number ((table_of C.ring diagram.now.nodes work.now.cells slot.now).cell q)
-        *ℤ pos factor) ≤ greatest_number }
+    requires room { HasRoomToAdd diagram.now.nodes decision
+        (cell_number C.number C.ring diagram.now.nodes work.now.cells slot.now) factor gains.old }
     ensures adds { OnOk result (AddsTable diagram.now.nodes decision
-        (λ q. C.number ((table_of C.ring diagram.now.nodes work.now.cells slot.now).cell q)) factor
-        gains.old gains.new) }
+        (cell_number C.number C.ring diagram.now.nodes work.now.cells slot.now) factor gains.old
+        gains.new) }
     ensures stays { OnErr result (gains.new ≡ gains.old) }
     ensures len { length gains.new ≡ length gains.old }
 {
@@ -212,12 +207,10 @@ fn put_by_worlds<C: Number>(
     requires scope { (v : ℕ) → IsIn slot.now.scope v
         ↔ Contains (parents_of diagram.now.nodes decision) v }
     requires masses { length masses.old ≡ rows_of diagram.now.nodes decision }
-    requires room { (q : ℕ → ℕ) → InRange (states_of diagram.now.nodes) q
-        → nat_abs (C.number ((table_of C.ring diagram.now.nodes work.now.cells slot.now).cell q))
-        * factor ≤ greatest_number }
+    requires room { FitTimes diagram.now.nodes
+        (cell_number C.number C.ring diagram.now.nodes work.now.cells slot.now) factor }
     ensures puts { OnOk result (PutsTable diagram.now.nodes decision
-        (λ q. C.number ((table_of C.ring diagram.now.nodes work.now.cells slot.now).cell q)) factor
-        masses.new) }
+        (cell_number C.number C.ring diagram.now.nodes work.now.cells slot.now) factor masses.new) }
     ensures stays { OnErr result (masses.new ≡ masses.old) }
     ensures len { length masses.new ≡ length masses.old }
 {
@@ -256,12 +249,10 @@ pub(crate) fn put_masses<C: Number>(
     requires scope { (v : ℕ) → IsIn slot.now.scope v
         ↔ Contains (parents_of diagram.now.nodes decision) v }
     requires masses { length masses.old ≡ rows_of diagram.now.nodes decision }
-    requires room { (q : ℕ → ℕ) → InRange (states_of diagram.now.nodes) q
-        → nat_abs (C.number ((table_of C.ring diagram.now.nodes work.now.cells slot.now).cell q))
-        * factor ≤ greatest_number }
+    requires room { FitTimes diagram.now.nodes
+        (cell_number C.number C.ring diagram.now.nodes work.now.cells slot.now) factor }
     ensures puts { OnOk result (PutsTable diagram.now.nodes decision
-        (λ q. C.number ((table_of C.ring diagram.now.nodes work.now.cells slot.now).cell q)) factor
-        masses.new) }
+        (cell_number C.number C.ring diagram.now.nodes work.now.cells slot.now) factor masses.new) }
     ensures stays { OnErr result (masses.new ≡ masses.old) }
     ensures len { length masses.new ≡ length masses.old }
 {

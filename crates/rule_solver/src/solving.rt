@@ -13,7 +13,7 @@ ghost use Rattle.relevance_graph.specs.Relevant.{IsRelevance};
 ghost use Rattle.size_precheck.specs.Decisions.{ArePlans};
 ghost use Rattle.rule_solver.specs.Faults.{solve_fault, solve_pass};
 ghost use Rattle.rule_solver.specs.Rooms.{AreReady, HasRoom};
-ghost use Rattle.rule_solver.specs.Worths.{ArePlansOfWorths};
+ghost use Rattle.size_precheck.specs.Sizes.{ArePlansOfWorths};
 
 use crate::SolveFault;
 use crate::answering::answer_all;

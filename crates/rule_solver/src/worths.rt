@@ -11,11 +11,11 @@ ghost use Rattle.maid_model.specs.Profiles.{IsProfile};
 ghost use Rattle.maid_model.specs.Scopes.{KeepsScopedBounds};
 ghost use Rattle.part_laws.specs.ScopeLaws.{HasUnitRules};
 ghost use Rattle.plan_sums.specs.Plans.{worth_plan};
-ghost use Rattle.size_precheck.specs.Sizes.{IsPlanned};
+ghost use Rattle.size_precheck.specs.Sizes.{IsPlanned, ArePlansOfWorths};
 ghost use Rattle.rule_solver.specs.Masses.{HasGains};
-ghost use Rattle.rule_solver.specs.Rooms.{AreReady, HasAtMost, HasRoomForWorths, IsReady};
+ghost use Rattle.rule_solver.specs.Rooms.{AreReady, HasAtMost, HasRoomForWorths, IsReady, AreReadyFor};
 ghost use Rattle.rule_solver.specs.Totals.{HasTotals};
-ghost use Rattle.rule_solver.specs.Worths.{ArePlansOfWorths, HasWorths, IsLeastRoom, IsStake, IsWorth, gain_given, scope_gain_for};
+ghost use Rattle.rule_solver.specs.Worths.{HasWorths, IsLeastRoom, IsStake, IsWorth, gain_given, scope_gain_for};
 
 use crate::fractions::fraction;
 use crate::numbers::Number;
@@ -81,8 +81,7 @@ pub(crate) fn worth(
     requires bound { KeepsScopedBounds diagram.now }
     requires totals { HasTotals diagram.now.nodes profile.now totals.now }
     requires planned { IsPlanned diagram.now.nodes (worth_plan utility) plan.now }
-    requires ready { (cells : ℕ) × IsReady cells small.old × IsReady cells wide.old
-        × HasAtMost diagram.now.nodes (worth_plan utility) cells }
+    requires ready { AreReadyFor diagram.now.nodes (worth_plan utility) small.old wide.old }
     ensures worth { IsWorth diagram.now.nodes profile.now utility result }
     ensures again { (small.new ≡ small.old) × (wide.new ≡ wide.old) }
 {

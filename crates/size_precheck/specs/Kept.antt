@@ -1,13 +1,11 @@
 -- Plans that are kept for later runs, of other diagrams too.
-use Rattle.std.specs.Prelude.{◌≡◌, ℕ, List, All, length, map}
-use Rattle.std.specs.List.{AllZip}
+use Rattle.std.specs.Prelude.{◌≡◌, ℕ, List, All, length}
 use Rattle.maid_model.specs.Nodes.{IsDecision, agent_of, node_at, states_of, parents_of, is_utility, is_utility_of}
 use Rattle.maid_model.specs.Views.{NodeView}
-use Rattle.plan_sums.specs.Plans.{worth_plan}
 use Rattle.size_precheck.specs.declared.keeping.KeptPlans.{KeptPlans}
 use Rattle.size_precheck.specs.declared.keeping.KeptRun.{KeptRun}
 use Rattle.size_precheck.specs.Families.{IsPlanner}
-use Rattle.size_precheck.specs.Sizes.{ArePlansOf, IsPlanned, utility_list}
+use Rattle.size_precheck.specs.Sizes.{ArePlansOf, ArePlansOfWorths}
 
 -- what is kept is of a decision among these nodes, with its plans
 pub record IsKept (nodes : List NodeView) (kept : KeptPlans) : Type 0 where
@@ -18,8 +16,7 @@ pub record IsKept (nodes : List NodeView) (kept : KeptPlans) : Type 0 where
 pub record IsKeptRun (nodes : List NodeView) (kept : KeptRun) : Type 0 where
   pub planner : IsPlanner nodes kept.planner
   pub decisions : All (IsKept nodes) kept.decisions.items
-  pub worths :
-      AllZip (IsPlanned nodes) (map (λ u. worth_plan u) (utility_list nodes)) kept.worths.items
+  pub worths : ArePlansOfWorths nodes kept.worths.items
 
 -- the others keep all that plans of the nodes' decisions look at: the states and the parents of each node, the utilities
 -- of each agent, and the decisions with their agents; what else is a chance node or a decision does not matter

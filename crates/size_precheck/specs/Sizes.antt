@@ -77,14 +77,24 @@ is_goal nodes d u = descends nodes d u && is_utility_of nodes (agent_of nodes d)
 abbrev pub goal_list : List NodeView → ℕ → List ℕ
 goal_list nodes d = filter (λ u. is_goal nodes d u) (numbers_of nodes)
 
--- the plans of a decision: that of its rows, and those of its states, one for each of its goals in text order
+-- a plan for each goal of a decision, in text order
+abbrev pub ArePlansOfGoals : List NodeView → ℕ → List SizedPlan → Type 0
+ArePlansOfGoals nodes d plans =
+    AllZip (IsPlanned nodes) (map (λ u. gain_plan nodes d u) (goal_list nodes d)) plans
+
+-- the plans of a decision: that of its rows, and those of its states, one for each of its goals
 pub record ArePlansOf
     (nodes : List NodeView) (d : ℕ) (rows : SizedPlan) (goals : List SizedPlan) : Type 0 where
   pub of_rows : IsPlanned nodes (row_plan nodes d) rows
-  pub of_goals : AllZip (IsPlanned nodes) (map (λ u. gain_plan nodes d u) (goal_list nodes d)) goals
+  pub of_goals : ArePlansOfGoals nodes d goals
 
 abbrev pub utility_list : List NodeView → List ℕ
 utility_list nodes = filter (λ u. is_utility (node_at nodes u).kind) (numbers_of nodes)
+
+-- the plans of the worths of all utilities, in text order
+abbrev pub ArePlansOfWorths : List NodeView → List SizedPlan → Type 0
+ArePlansOfWorths nodes plans =
+    AllZip (IsPlanned nodes) (map (λ u. worth_plan u) (utility_list nodes)) plans
 
 -- the plans of a run: for each decision in the order that of its rows, for each and each of its goals that of its
 -- states, and for each utility that of its worth

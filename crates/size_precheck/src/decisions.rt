@@ -1,11 +1,9 @@
 //! The plans of a decision.
 
-ghost use Rattle.std.specs.Prelude.{◌≡◌, ℕ, map, IfOk};
-ghost use Rattle.std.specs.List.{AllZip};
+ghost use Rattle.std.specs.Prelude.{◌≡◌, IfOk};
 ghost use Rattle.maid_model.specs.Nodes.{IsDecision};
-ghost use Rattle.plan_sums.specs.Plans.{gain_plan};
 ghost use Rattle.size_precheck.specs.Families.{IsPlanner};
-ghost use Rattle.size_precheck.specs.Sizes.{ArePlansOf, IsPlanned, goal_list};
+ghost use Rattle.size_precheck.specs.Sizes.{ArePlansOf, ArePlansOfGoals};
 
 use crate::kinds::{gain_by, rows_by};
 use crate::planners::Planner;
@@ -55,10 +53,7 @@ fn plan_goals(
 ) -> Result<Vec<Plan>, AllocError>
     requires decision { IsDecision diagram.now.nodes decision }
     requires planner { IsPlanner diagram.now.nodes planner.now }
-    ensures { IfOk result (λ plans.
-        AllZip (IsPlanned diagram.now.nodes)
-        (map (λ u. gain_plan diagram.now.nodes decision u)
-        (goal_list diagram.now.nodes decision)) plans.items) }
+    ensures { IfOk result (λ plans. ArePlansOfGoals diagram.now.nodes decision plans.items) }
 {
     descent_is_tested();
     let goals = list_members(alloc, &goals_of(diagram, decision))?;

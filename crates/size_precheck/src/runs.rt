@@ -1,17 +1,15 @@
 //! The plans of a run.
 
-ghost use Rattle.std.specs.Prelude.{◌≡◌, ◌≤◌, ◌<◌, ◌+◌, ℕ, List, max, map, filter, flat_map, length, [], ◌∷◌, All, IfOk};
+ghost use Rattle.std.specs.Prelude.{◌≡◌, ◌≤◌, ◌<◌, ◌+◌, ℕ, List, max, map, flat_map, [], IfOk};
 ghost use Rattle.std.specs.List.{AllZip};
 ghost use Rattle.maid_model.specs.declared.limits.TheConstants.{COUNT_END};
 ghost use Rattle.maid_model.specs.Bounds.{stopped};
-ghost use Rattle.maid_model.specs.Nodes.{node_at, is_utility};
 ghost use Rattle.maid_model.specs.Views.{NodeView};
-ghost use Rattle.plan_sums.specs.Plans.{PlanView, row_plan, gain_plan, worth_plan};
+ghost use Rattle.plan_sums.specs.Plans.{PlanView, row_plan, gain_plan};
 ghost use Rattle.size_precheck.specs.Decisions.{ArePlans};
-ghost use Rattle.size_precheck.specs.Families.{IsPlanner};
 ghost use Rattle.size_precheck.specs.Kept.{IsKeptRun};
 ghost use Rattle.size_precheck.specs.Runs.{Includes};
-ghost use Rattle.size_precheck.specs.Sizes.{IsPlanned, ListsDecisions, IsSizeOfRun, goal_list, utility_list};
+ghost use Rattle.size_precheck.specs.Sizes.{IsPlanned, ListsDecisions, IsSizeOfRun, goal_list, ArePlansOfWorths};
 
 use crate::decisions::{DecisionPlans, copy_plans};
 use crate::keeping::{KeptRun, plan_decisions};
@@ -94,8 +92,7 @@ fn with_size(decisions: Vec<DecisionPlans>, worths: Vec<Plan>) -> RunPlans
     ensures decisions { result.decisions ≡ decisions }
     ensures worths { result.worths ≡ worths }
     ensures size { (nodes : List NodeView) (order : List ℕ) → ArePlans nodes order decisions.items
-        → AllZip (IsPlanned nodes) (map (λ u. worth_plan u) (utility_list nodes)) worths.items
-        → IsSizeOfRun nodes order result.size }
+        → ArePlansOfWorths nodes worths.items → IsSizeOfRun nodes order result.size }
 {
     let none = Size { cells: 0, work: 0 };
     let rows = include_rows(&decisions, none);
@@ -117,9 +114,7 @@ fn with_size(decisions: Vec<DecisionPlans>, worths: Vec<Plan>) -> RunPlans
 pub fn plan_run(alloc: Global, diagram: &Diagram, order: &[usize]) -> Result<RunPlans, AllocError>
     requires { ListsDecisions diagram.now.nodes order.now }
     ensures plans { IfOk result (λ run. ArePlans diagram.now.nodes order.now run.decisions.items) }
-    ensures worths { IfOk result (λ run.
-        AllZip (IsPlanned diagram.now.nodes)
-        (map (λ u. worth_plan u) (utility_list diagram.now.nodes)) run.worths.items) }
+    ensures worths { IfOk result (λ run. ArePlansOfWorths diagram.now.nodes run.worths.items) }
     ensures size { IfOk result (λ run. IsSizeOfRun diagram.now.nodes order.now run.size) }
 {
     let planner = Planner::new(alloc, diagram)?;
@@ -139,9 +134,7 @@ pub fn plan_run_with(
     requires order { ListsDecisions diagram.now.nodes order.now }
     requires kept { IsKeptRun diagram.now.nodes kept.now }
     ensures plans { IfOk result (λ run. ArePlans diagram.now.nodes order.now run.decisions.items) }
-    ensures worths { IfOk result (λ run.
-        AllZip (IsPlanned diagram.now.nodes)
-        (map (λ u. worth_plan u) (utility_list diagram.now.nodes)) run.worths.items) }
+    ensures worths { IfOk result (λ run. ArePlansOfWorths diagram.now.nodes run.worths.items) }
     ensures size { IfOk result (λ run. IsSizeOfRun diagram.now.nodes order.now run.size) }
 {
     let decisions = plan_decisions(alloc, diagram, &kept.planner, &kept.decisions, order)?;

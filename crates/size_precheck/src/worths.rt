@@ -1,10 +1,8 @@
 //! The plans of the utilities' worths.
 
-ghost use Rattle.std.specs.Prelude.{map, IfOk};
-ghost use Rattle.std.specs.List.{AllZip};
-ghost use Rattle.plan_sums.specs.Plans.{worth_plan};
+ghost use Rattle.std.specs.Prelude.{IfOk};
 ghost use Rattle.size_precheck.specs.Families.{IsPlanner};
-ghost use Rattle.size_precheck.specs.Sizes.{IsPlanned, utility_list};
+ghost use Rattle.size_precheck.specs.Sizes.{ArePlansOfWorths};
 
 use crate::kinds::worth_by;
 use crate::planners::Planner;
@@ -19,9 +17,7 @@ pub(crate) fn worths_by(
     planner: &Planner,
 ) -> Result<Vec<Plan>, AllocError>
     requires { IsPlanner diagram.now.nodes planner.now }
-    ensures { IfOk result (λ plans.
-        AllZip (IsPlanned diagram.now.nodes)
-        (map (λ u. worth_plan u) (utility_list diagram.now.nodes)) plans.items) }
+    ensures { IfOk result (λ plans. ArePlansOfWorths diagram.now.nodes plans.items) }
 {
     let mut plans = Vec::new(alloc);
     for u in 0..diagram.count() {
@@ -36,9 +32,7 @@ pub(crate) fn worths_by(
 /// The plans of the worths of all utilities in text order. What they share is found once; `make_plan` tells what each of
 /// them costs.
 pub fn plan_worths(alloc: Global, diagram: &Diagram) -> Result<Vec<Plan>, AllocError>
-    ensures { IfOk result (λ plans.
-        AllZip (IsPlanned diagram.now.nodes)
-        (map (λ u. worth_plan u) (utility_list diagram.now.nodes)) plans.items) }
+    ensures { IfOk result (λ plans. ArePlansOfWorths diagram.now.nodes plans.items) }
 {
     let planner = Planner::new(alloc, diagram)?;
     worths_by(alloc, diagram, &planner)
