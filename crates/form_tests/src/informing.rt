@@ -24,7 +24,14 @@ fn diagram(alloc: Global, told: bool) -> Result<Diagram, AllocError>
     let mut nodes = Vec::new(alloc);
     nodes.push(node(alloc, Kind::Chance, 0, 2, &[], &[1, 1])?)?;
     nodes.push(node(alloc, Kind::Chance, 0, 2, &[], &[1, 1])?)?;
-    nodes.push(node(alloc, Kind::Chance, 0, 2, &[0, 1], &[1, 0, 0, 1, 0, 1, 1, 0])?)?;
+    nodes.push(node(
+        alloc,
+        Kind::Chance,
+        0,
+        2,
+        &[0, 1],
+        &[1, 0, 0, 1, 0, 1, 1, 0],
+    )?)?;
     nodes.push(node(alloc, Kind::Decision, 0, 2, seen_by(told), &[])?)?;
     nodes.push(node(alloc, Kind::Utility, 0, 1, &[1, 3], &[1, 0, 0, 1])?)?;
     Ok(Diagram::from_nodes(nodes, 1, 0))

@@ -25,7 +25,14 @@ fn oil(alloc: Global) -> Result<Diagram, AllocError>
     nodes.push(node(alloc, Kind::Chance, 0, 3, &[1, 0], &shown)?)?;
     nodes.push(node(alloc, Kind::Decision, 0, 2, &[0, 2], &[])?)?;
     nodes.push(node(alloc, Kind::Utility, 0, 1, &[0], &[-10, 0])?)?;
-    nodes.push(node(alloc, Kind::Utility, 0, 1, &[1, 3], &[-70, 0, 50, 0, 200, 0])?)?;
+    nodes.push(node(
+        alloc,
+        Kind::Utility,
+        0,
+        1,
+        &[1, 3],
+        &[-70, 0, 50, 0, 200, 0],
+    )?)?;
     Ok(Diagram::from_nodes(nodes, 1, 0))
 }
 
