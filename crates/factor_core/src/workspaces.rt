@@ -1,6 +1,6 @@
 //! Workspaces: tables one behind another in one vector of cells.
 
-ghost use Rattle.std.specs.Prelude.{◌≡◌, ◌≤◌, ◌<◌, ◌+◌, ℕ, All, length, map, IfOk, [], ◌∷◌, ◌↔◌, Contains};
+ghost use Rattle.std.specs.Prelude.{vec_capacity, vec_len, take, ◌⊎◌, ◌≡◌, ◌≤◌, ◌<◌, ◌+◌, ℕ, All, length, map, IfOk, [], ◌∷◌, ◌↔◌, Contains};
 ghost use Rattle.std.specs.List.{AllZip};
 ghost use Rattle.maid_model.specs.declared.limits.TheConstants.{MOST_PLAN_CELLS};
 ghost use Rattle.node_sets.specs.Sets.{holds, IsIn};
@@ -26,36 +26,52 @@ use maid_model::{Diagram, Profile};
 use std::alloc::{AllocError, Global};
 use std::marker::Model;
 
-/// Tables one behind another in one vector of cells, for which all memory is taken when it is made.
+/// Tables one behind another in one vector of cells, for which all memory is taken when it is made. The cells are written
+/// when the first table asks for some, so that a workspace without a table touches no memory.
 #[derive(Drop)]
 pub struct Workspace<C> {
     cells: Vec<C>,
     used: usize,
+    room: usize,
 }
 
 impl<C> Model for Workspace<C> {
-    ghost use Rattle.std.specs.Prelude.{◌≤◌, vec_len};
+    ghost use Rattle.std.specs.Prelude.{◌≡◌, ◌≤◌, ◌⊎◌, ◌-◌, take, vec_capacity, vec_len};
     ghost use Rattle.maid_model.specs.declared.limits.TheConstants.{MOST_PLAN_CELLS};
-    ghost use Rattle.factor_core.specs.Slots.{WorkspaceView, space};
+    ghost use Rattle.factor_core.specs.Slots.{WorkspaceView};
 
     ghost Value = { WorkspaceView C };
 
-    ghost view = { λ w. space w.cells.items w.used };
+    ghost view = { λ w. record { cells = take w.used w.cells.items; spare = w.room - w.used } };
 
-    ghost invariant = { λ w. (w.used ≤ vec_len w.cells) × (vec_len w.cells ≤ MOST_PLAN_CELLS) };
+    ghost invariant = { λ w. (w.used ≤ vec_len w.cells) × (vec_len w.cells ≤ w.room)
+        × (w.room ≤ MOST_PLAN_CELLS)
+        × ((vec_len w.cells ≡ w.room) ⊎ (w.room ≤ vec_capacity w.cells)) };
+}
+
+/// Writes all cells, where that has not been done yet. The memory is there.
+fn blank<C: Cell>(cells: &mut Vec<C>, room: usize)
+    requires few { vec_len cells.old ≤ room }
+    requires held { (vec_len cells.old ≡ room) ⊎ (room ≤ vec_capacity cells.old) }
+    ensures len { vec_len cells.new ≡ room }
+    ensures first { (n : ℕ) → n ≤ vec_len cells.old
+        → take n cells.new.items ≡ take n cells.old.items }
+{
+    if cells.len() < room {
+        cells.resize(room, C::zero()).unwrap();
+    }
 }
 
 impl<C: Cell> Workspace<C> {
-    /// A workspace without a table, with room for so many cells. It takes all of its memory, and writes it once.
+    /// A workspace without a table, with room for so many cells. It takes all of its memory.
     pub fn reserve(alloc: Global, cells: usize) -> Result<Workspace<C>, AllocError>
         requires { cells ≤ MOST_PLAN_CELLS }
         ensures { IfOk result (λ w. w ≡ record { cells = []; spare = cells }) }
     {
-        let mut room = Vec::with_capacity(alloc, cells)?;
-        room.resize(cells, C::zero())?;
         Ok(Workspace {
-            cells: room,
+            cells: Vec::with_capacity(alloc, cells)?,
             used: 0,
+            room: cells,
         })
     }
 
@@ -86,6 +102,7 @@ impl<C: Cell> Workspace<C> {
             (first_table (cells_by C.ring C.of_weight C.of_value) diagram.now.nodes profile.now
             node) }
     {
+        blank(&mut self.cells, self.room);
         let slot = table_behind(
             diagram,
             counts.as_slice(),
@@ -122,6 +139,7 @@ impl<C: Cell> Workspace<C> {
         ensures { AppendsTable C.ring diagram.now.nodes self.old self.new result
             (join_of C.ring diagram.now.nodes node self.old.cells slots.now) }
     {
+        blank(&mut self.cells, self.room);
         let slot = join_behind(
             diagram,
             counts.as_slice(),
@@ -149,6 +167,7 @@ impl<C: Cell> Workspace<C> {
         ensures { AppendsTable C.ring diagram.now.nodes self.old self.new result
             (product_of_slots C.ring diagram.now.nodes self.old.cells slots.now) }
     {
+        blank(&mut self.cells, self.room);
         let slot = product_behind(
             diagram,
             counts.as_slice(),
@@ -194,6 +213,7 @@ impl<C: Cell> Workspace<C> {
         ensures { AppendsTable C.ring diagram.now.nodes self.old self.new result
             (restricted node state (table_of C.ring diagram.now.nodes self.old.cells slot.now)) }
     {
+        blank(&mut self.cells, self.room);
         let slot = restrict_behind(
             diagram,
             slot,
@@ -220,6 +240,7 @@ impl<C: Cell> Workspace<C> {
         ensures stays { (s : Slot) → IsLive diagram.now.nodes self.old.cells s
             → StaysLive C.ring diagram.now.nodes self.old.cells self.new.cells s }
     {
+        blank(&mut self.cells, self.room);
         let strip = reorder_behind(diagram, slot, nodes, self.cells.as_mut_slice(), self.used);
         self.used += strip.len;
         strip
