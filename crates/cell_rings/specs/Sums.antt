@@ -1,6 +1,7 @@
 -- Finite sums and products in a ring, and what is added to a list of cells.
-use Rattle.std.specs.Prelude.{◌≡◌, ◌==◌, if◌then◌else◌, ℕ, zero, suc, ◌+◌, ◌*◌, ◌≤◌, List, [], ◌∷◌, map, slice_index_or}
+use Rattle.std.specs.Prelude.{◌≡◌, ◌==◌, if◌then◌else◌, ℕ, zero, suc, ◌+◌, ◌*◌, ◌<◌, ◌≤◌, List, [], ◌∷◌, length, map, slice_index_or}
 use Rattle.cell_rings.specs.Rings.{Ring}
+use Rattle.cell_rings.specs.declared.pairs.Pair.{Pair}
 
 -- f 0 + f 1 + .. + f (n - 1)
 abbrev pub ring_sum : {C : Type 0} → Ring C → ℕ → (ℕ → C) → C
@@ -34,15 +35,40 @@ ProductFits r cells before (p ∷ ps) = (before * r.size (cell_at r cells p) ≤
 abbrev pub run_sum : {C : Type 0} → Ring C → ℕ → ℕ → (ℕ → C) → ℕ → C
 run_sum r n at f p = ring_sum r n (λ i. if p == at + i then f i else r.nought)
 
--- from two places on, one factor times the i-th cell and another times the i-th cell
-abbrev pub two_scaled : {C : Type 0} → Ring C → List C → C → C → ℕ → ℕ → ℕ → C
-two_scaled r cells first second from beside = λ i.
-    r.plus (r.times first (cell_at r cells (from + i))) (r.times second (cell_at r cells (beside + i)))
+-- the i-th cells of both runs, each times its factor, added up; a factor is the cell that `of` makes of it
+abbrev pub two_scaled : {C F : Type 0} → Ring C → (F → C) → List C → Pair F → ℕ → C
+two_scaled r of cells pair = λ i.
+    r.plus (r.times (of pair.first) (cell_at r cells (pair.from + i)))
+    (r.times (of pair.second) (cell_at r cells (pair.beside + i)))
 
--- the most that is by the sizes of the cells, where the factors have these sizes
-abbrev pub two_sizes : {C : Type 0} → Ring C → List C → ℕ → ℕ → ℕ → ℕ → ℕ → ℕ
-two_sizes r cells first second from beside = λ i.
-    first * r.size (cell_at r cells (from + i)) + second * r.size (cell_at r cells (beside + i))
+-- the most that is by the sizes of the cells and of the factors
+abbrev pub two_sizes : {C F : Type 0} → Ring C → (F → ℕ) → List C → Pair F → ℕ → ℕ
+two_sizes r size cells pair = λ i.
+    size pair.first * r.size (cell_at r cells (pair.from + i))
+    + size pair.second * r.size (cell_at r cells (pair.beside + i))
+
+-- the same of two pairs of runs
+abbrev pub four_scaled : {C F : Type 0} → Ring C → (F → C) → List C → Pair F → Pair F → ℕ → C
+four_scaled r of cells one other = λ i.
+    r.plus (two_scaled r of cells one i) (two_scaled r of cells other i)
+
+abbrev pub four_sizes : {C F : Type 0} → Ring C → (F → ℕ) → List C → Pair F → Pair F → ℕ → ℕ
+four_sizes r size cells one other = λ i. two_sizes r size cells one i + two_sizes r size cells other i
+
+-- both runs of n cells lie within the list
+abbrev pub AreWithin : {C F : Type 0} → List C → Pair F → ℕ → Type 0
+AreWithin cells pair n = (pair.from + n ≤ length cells) × (pair.beside + n ≤ length cells)
+
+-- the bits of n cells from a place on are below `narrow`
+abbrev pub IsNarrowRun : {C : Type 0} → Ring C → (C → ℕ) → ℕ → List C → ℕ → ℕ → Type 0
+IsNarrowRun r bits narrow cells from n =
+    (i : ℕ) → i < n → bits (cell_at r cells (from + i)) < narrow
+
+-- those of both runs of n cells are
+abbrev pub IsNarrowPair :
+    {C F : Type 0} → Ring C → (C → ℕ) → ℕ → List C → Pair F → ℕ → Type 0
+IsNarrowPair r bits narrow cells pair n =
+    IsNarrowRun r bits narrow cells pair.from n × IsNarrowRun r bits narrow cells pair.beside n
 
 -- the new list has f added to the old one, cell by cell
 pub record Adds {C : Type 0} (r : Ring C) (f : ℕ → C) (old new : List C) : Type 0 where

@@ -1,10 +1,12 @@
 -- Cells whose bits are few. Only private contracts cite this file.
 use Rattle.std.specs.Prelude.{ℕ, ℤ, pos, nat_abs, ◌+◌, ◌^◌, ◌<◌, ◌+ℤ◌, ◌*ℤ◌, List}
 use Rattle.std.specs.Int.{w64, w128, cast_unsigned, int_wrap}
-use Rattle.cell_rings.specs.Kinds.{small_gain_kind, gain_kind}
+use Rattle.cell_rings.specs.Kinds.{small_gain_kind, gain_kind, gain_of}
 use Rattle.cell_rings.specs.Sums.{cell_at}
 use Rattle.cell_rings.specs.declared.gains.Gain.{Gain}
 use Rattle.cell_rings.specs.declared.gains.Split.{Split}
+use Rattle.cell_rings.specs.declared.gains.Word.{Word}
+use Rattle.cell_rings.specs.declared.pairs.Pair.{Pair}
 use Rattle.cell_rings.specs.declared.small_gains.SmallGain.{SmallGain}
 
 -- n cells from a place on are numbers from 0 and below 2^32
@@ -15,6 +17,26 @@ AreHalves cells from n =
 -- the absolute values of n cells from a place on are below 2^63
 abbrev pub AreWords : List Gain → ℕ → ℕ → Type 0
 AreWords cells from n = (i : ℕ) → i < n → nat_abs (cell_at gain_kind cells (from + i)).0 < 2 ^ 63
+
+-- those of both runs of n cells are
+abbrev pub AreWordPair : {F : Type 0} → List Gain → Pair F → ℕ → Type 0
+AreWordPair cells pair n = AreWords cells pair.from n × AreWords cells pair.beside n
+
+-- the cell that a number in one word makes, and its size
+abbrev pub of_word : Word → Gain
+of_word a = gain_of a.value
+
+abbrev pub word_size : Word → ℕ
+word_size a = nat_abs a.value
+
+-- the same runs with both factors in one word
+abbrev pub word_pair : Pair Gain → Pair Word
+word_pair pair = record {
+  first = record { value = pair.first.0 };
+  second = record { value = pair.second.0 };
+  from = pair.from;
+  beside = pair.beside;
+}
 
 -- the number that its two words make up, in 128 bits
 abbrev pub whole : Split → ℤ

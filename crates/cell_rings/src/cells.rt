@@ -1,8 +1,10 @@
 //! What a cell is.
 
 ghost use Rattle.std.specs.Prelude.{◌≡◌, ℕ, ℤ, ◌+◌, ◌*◌, ◌<◌, ◌≤◌, max, nat_abs, length, IsTrue};
-ghost use Rattle.cell_rings.specs.Sums.{ring_sum, cell_at, run_sum, two_scaled, two_sizes, Adds, HasRoom};
+ghost use Rattle.cell_rings.specs.Sums.{ring_sum, cell_at, run_sum, two_scaled, two_sizes, four_scaled, four_sizes, AreWithin, IsNarrowRun, IsNarrowPair, Adds, HasRoom};
 ghost use Rattle.cell_rings.specs.Rings.{Ring, IsRing, IsSize, mass_ring};
+
+use crate::pairs::Pair;
 
 /// A cell of a table. `ring` has its two operations and its sizes; a result fits where its size is at most `ring.most`.
 /// The laws, of the operations and of the sizes, are all that the layers above know. A cell is narrow where its `bits` are
@@ -61,31 +63,20 @@ pub trait Cell: Copy {
         }
     }
 
-    /// Adds to n cells of the result, from `at` on, one factor times the cells from `from` on and another times the
-    /// cells from `beside` on.
-    fn add_two_scaled(
-        out: &mut [Self],
-        at: usize,
-        n: usize,
-        first: Self,
-        second: Self,
-        cells: &[Self],
-        from: usize,
-        beside: usize,
-    )
+    /// Adds to n cells of the result, from `at` on, the cells of both runs, each times its factor.
+    fn add_two_scaled(out: &mut [Self], at: usize, n: usize, pair: &Pair<Self>, cells: &[Self])
         requires out { at + n ≤ length out.old }
-        requires cells { (from + n ≤ length cells.now) × (beside + n ≤ length cells.now) }
-        requires room { HasRoom ring out.old (run_sum mass_ring n at
-            (two_sizes ring cells.now (ring.size first) (ring.size second) from beside)) }
+        requires cells { AreWithin cells.now pair.now n }
+        requires room { HasRoom ring out.old
+            (run_sum mass_ring n at (two_sizes ring ring.size cells.now pair.now)) }
         ensures { Adds ring
-            (run_sum ring n at
-            (two_scaled ring cells.now first second from beside))
-            out.old out.new }
+            (run_sum ring n at (two_scaled ring (λ f. f) cells.now pair.now)) out.old out.new }
     {
         for i in 0..n {
-            let both = first
-                .mul(cells[from + i])
-                .add(second.mul(cells[beside + i]));
+            let both = pair
+                .first
+                .mul(cells[pair.from + i])
+                .add(pair.second.mul(cells[pair.beside + i]));
             out[at + i] = out[at + i].add(both);
         }
     }
@@ -93,8 +84,7 @@ pub trait Cell: Copy {
     /// Whether n cells from one on are narrow. It may say no of any, and looks at each of them otherwise.
     fn are_narrow(cells: &[Self], from: usize, n: usize) -> bool
         requires { from + n ≤ length cells.now }
-        ensures { IsTrue result → (i : ℕ) → i < n
-            → bits (cell_at ring cells.now (from + i)) < narrow }
+        ensures { IsTrue result → IsNarrowRun ring bits narrow cells.now from n }
     {
         let _ = cells;
         let _ = from;
@@ -103,28 +93,38 @@ pub trait Cell: Copy {
     }
 
     /// The same as `add_two_scaled`, where the cells of both runs are narrow.
-    fn add_two_narrow(
+    fn add_two_narrow(out: &mut [Self], at: usize, n: usize, pair: &Pair<Self>, cells: &[Self])
+        requires out { at + n ≤ length out.old }
+        requires cells { AreWithin cells.now pair.now n }
+        requires narrow { IsNarrowPair ring bits narrow cells.now pair.now n }
+        requires room { HasRoom ring out.old
+            (run_sum mass_ring n at (two_sizes ring ring.size cells.now pair.now)) }
+        ensures { Adds ring
+            (run_sum ring n at (two_scaled ring (λ f. f) cells.now pair.now)) out.old out.new }
+    {
+        Self::add_two_scaled(out, at, n, pair, cells)
+    }
+
+    /// The same as `add_two_scaled` for one pair of runs and another.
+    fn add_four_narrow(
         out: &mut [Self],
         at: usize,
         n: usize,
-        first: Self,
-        second: Self,
+        one: &Pair<Self>,
+        other: &Pair<Self>,
         cells: &[Self],
-        from: usize,
-        beside: usize,
     )
         requires out { at + n ≤ length out.old }
-        requires cells { (from + n ≤ length cells.now) × (beside + n ≤ length cells.now) }
-        requires first { (i : ℕ) → i < n → bits (cell_at ring cells.now (from + i)) < narrow }
-        requires second { (i : ℕ) → i < n → bits (cell_at ring cells.now (beside + i)) < narrow }
-        requires room { HasRoom ring out.old (run_sum mass_ring n at
-            (two_sizes ring cells.now (ring.size first) (ring.size second) from beside)) }
-        ensures { Adds ring
-            (run_sum ring n at
-            (two_scaled ring cells.now first second from beside))
+        requires cells { AreWithin cells.now one.now n × AreWithin cells.now other.now n }
+        requires one { IsNarrowPair ring bits narrow cells.now one.now n }
+        requires other { IsNarrowPair ring bits narrow cells.now other.now n }
+        requires room { HasRoom ring out.old
+            (run_sum mass_ring n at (four_sizes ring ring.size cells.now one.now other.now)) }
+        ensures { Adds ring (run_sum ring n at (four_scaled ring (λ f. f) cells.now one.now other.now))
             out.old out.new }
     {
-        Self::add_two_scaled(out, at, n, first, second, cells, from, beside)
+        Self::add_two_narrow(out, at, n, one, cells);
+        Self::add_two_narrow(out, at, n, other, cells)
     }
 
     /// The sum of the products of the factor and the cells of two runs of n cells, from `from` on and from `beside` on.

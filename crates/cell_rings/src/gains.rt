@@ -3,12 +3,13 @@
 ghost use Rattle.std.specs.Prelude.{◌≡◌, ◌+◌, ◌-◌, ◌*◌, ◌%◌, ◌^◌, ◌<◌, ◌≤◌, ◌*ℤ◌, ◌≤ℤ◌, ◌<ℤ◌, ℤ, pos, nat_abs, length, IsTrue};
 ghost use Rattle.std.specs.Int.{w128, cast_unsigned};
 ghost use Rattle.cell_rings.specs.Rings.{mass_ring};
-ghost use Rattle.cell_rings.specs.Sums.{cell_at, run_sum, two_scaled, two_sizes, Adds, HasRoom};
-ghost use Rattle.cell_rings.specs.Words.{whole, AreWords};
+ghost use Rattle.cell_rings.specs.Sums.{cell_at, run_sum, two_scaled, two_sizes, four_scaled, four_sizes, AreWithin, Adds, HasRoom};
+ghost use Rattle.cell_rings.specs.Words.{whole, of_word, word_size, word_pair, AreWords, AreWordPair};
 ghost use Rattle.cell_rings.specs.KindLaws.{most_has_room, gain_laws, gain_sizes, at_most_itself, value_at_most};
 ghost use Rattle.cell_rings.specs.Kinds.{gain_kind, gain_of};
 
 use crate::cells::Cell;
+use crate::pairs::Pair;
 
 /// A whole number with a sign.
 #[derive(Clone, Copy, Debug, PartialEq, Eq)]
@@ -59,29 +60,17 @@ impl Cell for Gain {
         Gain(self.0 * other.0)
     }
 
-    fn add_two_scaled(
-        out: &mut [Gain],
-        at: usize,
-        n: usize,
-        first: Gain,
-        second: Gain,
-        cells: &[Gain],
-        from: usize,
-        beside: usize,
-    ) {
-        if is_short(first) && is_short(second) {
-            add_two_short(
-                out,
-                at,
-                n,
-                first.0 as u64,
-                second.0 as u64,
-                cells,
-                from,
-                beside,
-            )
+    fn add_two_scaled(out: &mut [Gain], at: usize, n: usize, pair: &Pair<Gain>, cells: &[Gain]) {
+        if is_short(pair.first) && is_short(pair.second) {
+            let short = Pair {
+                first: pair.first.0 as u64,
+                second: pair.second.0 as u64,
+                from: pair.from,
+                beside: pair.beside,
+            };
+            add_two_short(out, at, n, short, cells)
         } else {
-            add_two_long(out, at, n, first, second, cells, from, beside)
+            add_two_long(out, at, n, *pair, cells)
         }
     }
 
@@ -89,38 +78,33 @@ impl Cell for Gain {
         are_halves(cells, from, n)
     }
 
-    fn add_two_narrow(
+    fn add_two_narrow(out: &mut [Gain], at: usize, n: usize, pair: &Pair<Gain>, cells: &[Gain]) {
+        if has_words(*pair) {
+            add_two_words(out, at, n, in_word_pair(*pair), cells)
+        } else {
+            let split = Pair {
+                first: in_words(pair.first),
+                second: in_words(pair.second),
+                from: pair.from,
+                beside: pair.beside,
+            };
+            add_two_split(out, at, n, split, cells)
+        }
+    }
+
+    fn add_four_narrow(
         out: &mut [Gain],
         at: usize,
         n: usize,
-        first: Gain,
-        second: Gain,
+        one: &Pair<Gain>,
+        other: &Pair<Gain>,
         cells: &[Gain],
-        from: usize,
-        beside: usize,
     ) {
-        if is_narrow(first) && is_narrow(second) {
-            add_two_words(
-                out,
-                at,
-                n,
-                in_word(first),
-                in_word(second),
-                cells,
-                from,
-                beside,
-            )
+        if has_words(*one) && has_words(*other) {
+            add_four_words(out, at, n, in_word_pair(*one), in_word_pair(*other), cells)
         } else {
-            add_two_split(
-                out,
-                at,
-                n,
-                in_words(first),
-                in_words(second),
-                cells,
-                from,
-                beside,
-            )
+            Gain::add_two_narrow(out, at, n, one, cells);
+            Gain::add_two_narrow(out, at, n, other, cells)
         }
     }
 }
@@ -133,59 +117,41 @@ fn is_short(a: Gain) -> bool
 }
 
 /// Both products and their sum added to each cell of the run.
-fn add_two_long(
-    out: &mut [Gain],
-    at: usize,
-    n: usize,
-    first: Gain,
-    second: Gain,
-    cells: &[Gain],
-    from: usize,
-    beside: usize,
-)
+fn add_two_long(out: &mut [Gain], at: usize, n: usize, pair: Pair<Gain>, cells: &[Gain])
     requires out { at + n ≤ length out.old }
-    requires cells { (from + n ≤ length cells.now) × (beside + n ≤ length cells.now) }
-    requires room { HasRoom gain_kind out.old (run_sum mass_ring n at
-        (two_sizes gain_kind cells.now (gain_kind.size first) (gain_kind.size second)
-        from beside)) }
+    requires cells { AreWithin cells.now pair n }
+    requires room { HasRoom gain_kind out.old
+        (run_sum mass_ring n at (two_sizes gain_kind gain_kind.size cells.now pair)) }
     ensures { Adds gain_kind
         (run_sum gain_kind n at
-        (two_scaled gain_kind cells.now first second from beside))
+        (two_scaled gain_kind (λ f. f) cells.now pair))
         out.old out.new }
 {
     for i in 0..n {
-        let both = first
-            .mul(cells[from + i])
-            .add(second.mul(cells[beside + i]));
+        let both = pair
+            .first
+            .mul(cells[pair.from + i])
+            .add(pair.second.mul(cells[pair.beside + i]));
         out[at + i] = out[at + i].add(both);
     }
 }
 
 /// The same where both factors are below 2^64, with two products of 64 bits in place of three.
 #[inline(never)]
-fn add_two_short(
-    out: &mut [Gain],
-    at: usize,
-    n: usize,
-    first: u64,
-    second: u64,
-    cells: &[Gain],
-    from: usize,
-    beside: usize,
-)
+fn add_two_short(out: &mut [Gain], at: usize, n: usize, pair: Pair<u64>, cells: &[Gain])
     requires out { at + n ≤ length out.old }
-    requires cells { (from + n ≤ length cells.now) × (beside + n ≤ length cells.now) }
+    requires cells { AreWithin cells.now pair n }
     requires room { HasRoom gain_kind out.old (run_sum mass_ring n at
-        (two_sizes gain_kind cells.now first second from beside)) }
+        (two_sizes gain_kind (λ f. f) cells.now pair)) }
     ensures { Adds gain_kind
         (run_sum gain_kind n at
-        (two_scaled gain_kind cells.now (gain_of (pos first)) (gain_of (pos second)) from beside))
+        (two_scaled gain_kind (λ f. gain_of (pos f)) cells.now pair))
         out.old out.new }
 {
     for i in 0..n {
-        let both = short_product(first, cells[from + i]).add(short_product(
-            second,
-            cells[beside + i],
+        let both = short_product(pair.first, cells[pair.from + i]).add(short_product(
+            pair.second,
+            cells[pair.beside + i],
         ));
         out[at + i] = out[at + i].add(both);
     }
@@ -193,65 +159,64 @@ fn add_two_short(
 
 /// The same where all absolute values are below 2^63, with one product of 64 bits.
 #[inline(never)]
-fn add_two_words(
-    out: &mut [Gain],
-    at: usize,
-    n: usize,
-    first: Word,
-    second: Word,
-    cells: &[Gain],
-    from: usize,
-    beside: usize,
-)
+fn add_two_words(out: &mut [Gain], at: usize, n: usize, pair: Pair<Word>, cells: &[Gain])
     requires out { at + n ≤ length out.old }
-    requires cells { (from + n ≤ length cells.now) × (beside + n ≤ length cells.now) }
-    requires halves { AreWords cells.now from n }
-    requires beside { AreWords cells.now beside n }
-    requires room { HasRoom gain_kind out.old (run_sum mass_ring n at
-        (two_sizes gain_kind cells.now (nat_abs first.value) (nat_abs second.value) from beside)) }
-    ensures { Adds gain_kind
-        (run_sum gain_kind n at
-        (two_scaled gain_kind cells.now (gain_of first.value) (gain_of second.value) from beside))
+    requires cells { AreWithin cells.now pair n }
+    requires narrow { AreWordPair cells.now pair n }
+    requires room { HasRoom gain_kind out.old
+        (run_sum mass_ring n at (two_sizes gain_kind word_size cells.now pair)) }
+    ensures { Adds gain_kind (run_sum gain_kind n at (two_scaled gain_kind of_word cells.now pair))
         out.old out.new }
 {
     for i in 0..n {
-        let both = word_product(first, cells[from + i]).add(word_product(
-            second,
-            cells[beside + i],
-        ));
-        out[at + i] = out[at + i].add(both);
+        out[at + i] = out[at + i].add(word_sum(pair, cells, i));
+    }
+}
+
+/// The same for one pair of runs and another, so that each cell of the result is read and written once for four products.
+#[inline(never)]
+fn add_four_words(
+    out: &mut [Gain],
+    at: usize,
+    n: usize,
+    one: Pair<Word>,
+    other: Pair<Word>,
+    cells: &[Gain],
+)
+    requires out { at + n ≤ length out.old }
+    requires cells { AreWithin cells.now one n × AreWithin cells.now other n }
+    requires one { AreWordPair cells.now one n }
+    requires other { AreWordPair cells.now other n }
+    requires room { HasRoom gain_kind out.old
+        (run_sum mass_ring n at (four_sizes gain_kind word_size cells.now one other)) }
+    ensures { Adds gain_kind
+        (run_sum gain_kind n at (four_scaled gain_kind of_word cells.now one other))
+        out.old out.new }
+{
+    for i in 0..n {
+        let four = word_sum(one, cells, i).add(word_sum(other, cells, i));
+        out[at + i] = out[at + i].add(four);
     }
 }
 
 /// The same where the cells' absolute values are below 2^63 and the factors are any, with two products of 64 bits in
 /// place of three.
 #[inline(never)]
-fn add_two_split(
-    out: &mut [Gain],
-    at: usize,
-    n: usize,
-    first: Split,
-    second: Split,
-    cells: &[Gain],
-    from: usize,
-    beside: usize,
-)
+fn add_two_split(out: &mut [Gain], at: usize, n: usize, pair: Pair<Split>, cells: &[Gain])
     requires out { at + n ≤ length out.old }
-    requires cells { (from + n ≤ length cells.now) × (beside + n ≤ length cells.now) }
-    requires halves { AreWords cells.now from n }
-    requires beside { AreWords cells.now beside n }
+    requires cells { AreWithin cells.now pair n }
+    requires narrow { AreWordPair cells.now pair n }
     requires room { HasRoom gain_kind out.old (run_sum mass_ring n at
-        (two_sizes gain_kind cells.now (nat_abs (whole first)) (nat_abs (whole second))
-        from beside)) }
+        (two_sizes gain_kind (λ f. nat_abs (whole f)) cells.now pair)) }
     ensures { Adds gain_kind
         (run_sum gain_kind n at
-        (two_scaled gain_kind cells.now (gain_of (whole first)) (gain_of (whole second)) from beside))
+        (two_scaled gain_kind (λ f. gain_of (whole f)) cells.now pair))
         out.old out.new }
 {
     for i in 0..n {
-        let both = split_product(first, cells[from + i]).add(split_product(
-            second,
-            cells[beside + i],
+        let both = split_product(pair.first, cells[pair.from + i]).add(split_product(
+            pair.second,
+            cells[pair.beside + i],
         ));
         out[at + i] = out[at + i].add(both);
     }
@@ -319,6 +284,39 @@ fn in_word(a: Gain) -> Word
     ensures { result.value ≡ a.0 }
 {
     Word { value: a.0 as i64 }
+}
+
+/// Whether the absolute values of both factors are below 2^63.
+fn has_words(pair: Pair<Gain>) -> bool
+    ensures { IsTrue result
+        → (nat_abs pair.first.0 < 2 ^ 63) × (nat_abs pair.second.0 < 2 ^ 63) }
+{
+    is_narrow(pair.first) && is_narrow(pair.second)
+}
+
+/// The runs with their factors in one word each.
+fn in_word_pair(pair: Pair<Gain>) -> Pair<Word>
+    requires { (nat_abs pair.first.0 < 2 ^ 63) × (nat_abs pair.second.0 < 2 ^ 63) }
+    ensures { result ≡ word_pair pair }
+{
+    Pair {
+        first: in_word(pair.first),
+        second: in_word(pair.second),
+        from: pair.from,
+        beside: pair.beside,
+    }
+}
+
+/// The i-th cells of both runs, each times its factor, added up.
+fn word_sum(pair: Pair<Word>, cells: &[Gain], i: usize) -> Gain
+    requires cells { AreWithin cells.now pair (i + 1) }
+    requires narrow { AreWordPair cells.now pair (i + 1) }
+    requires room { two_sizes gain_kind word_size cells.now pair i ≤ gain_kind.most }
+    ensures { result ≡ two_scaled gain_kind of_word cells.now pair i }
+{
+    let first = word_product(pair.first, cells[pair.from + i]);
+    let second = word_product(pair.second, cells[pair.beside + i]);
+    first.add(second)
 }
 
 /// The product of a number in one word and one whose absolute value is below 2^63.

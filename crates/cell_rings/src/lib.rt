@@ -9,6 +9,7 @@ mod cells;
 mod gains;
 mod laws;
 mod masses;
+mod pairs;
 mod small_gains;
 mod small_masses;
 
@@ -18,5 +19,6 @@ pub use cells::Cell;
 pub use gains::Gain;
 pub use laws::{four_rings, kinds_are_numbers};
 pub use masses::Mass;
+pub use pairs::Pair;
 pub use small_gains::SmallGain;
 pub use small_masses::SmallMass;

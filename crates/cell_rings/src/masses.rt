@@ -2,11 +2,12 @@
 
 ghost use Rattle.std.specs.Prelude.{◌≡◌, ◌+◌, ◌-◌, ◌*◌, ◌^◌, ◌<◌, ◌≤◌, length};
 ghost use Rattle.cell_rings.specs.Rings.{mass_ring};
-ghost use Rattle.cell_rings.specs.Sums.{cell_at, run_sum, two_scaled, two_sizes, Adds, HasRoom};
+ghost use Rattle.cell_rings.specs.Sums.{cell_at, run_sum, two_scaled, two_sizes, AreWithin, Adds, HasRoom};
 ghost use Rattle.cell_rings.specs.KindLaws.{most_has_room, mass_laws, mass_sizes, at_most_itself, one_at_most};
 ghost use Rattle.cell_rings.specs.Kinds.{mass_kind, mass_of};
 
 use crate::cells::Cell;
+use crate::pairs::Pair;
 
 /// A whole number from 0.
 #[derive(Clone, Copy, Debug, PartialEq, Eq)]
@@ -57,87 +58,57 @@ impl Cell for Mass {
         Mass(self.0 * other.0)
     }
 
-    fn add_two_scaled(
-        out: &mut [Mass],
-        at: usize,
-        n: usize,
-        first: Mass,
-        second: Mass,
-        cells: &[Mass],
-        from: usize,
-        beside: usize,
-    ) {
-        if first.0 >> 64 == 0 && second.0 >> 64 == 0 {
-            add_two_short(
-                out,
-                at,
-                n,
-                first.0 as u64,
-                second.0 as u64,
-                cells,
-                from,
-                beside,
-            )
+    fn add_two_scaled(out: &mut [Mass], at: usize, n: usize, pair: &Pair<Mass>, cells: &[Mass]) {
+        if pair.first.0 >> 64 == 0 && pair.second.0 >> 64 == 0 {
+            let short = Pair {
+                first: pair.first.0 as u64,
+                second: pair.second.0 as u64,
+                from: pair.from,
+                beside: pair.beside,
+            };
+            add_two_short(out, at, n, short, cells)
         } else {
-            add_two_long(out, at, n, first, second, cells, from, beside)
+            add_two_long(out, at, n, *pair, cells)
         }
     }
 }
 
 /// Both products and their sum added to each cell of the run.
-fn add_two_long(
-    out: &mut [Mass],
-    at: usize,
-    n: usize,
-    first: Mass,
-    second: Mass,
-    cells: &[Mass],
-    from: usize,
-    beside: usize,
-)
+fn add_two_long(out: &mut [Mass], at: usize, n: usize, pair: Pair<Mass>, cells: &[Mass])
     requires out { at + n ≤ length out.old }
-    requires cells { (from + n ≤ length cells.now) × (beside + n ≤ length cells.now) }
-    requires room { HasRoom mass_kind out.old (run_sum mass_ring n at
-        (two_sizes mass_kind cells.now (mass_kind.size first) (mass_kind.size second)
-        from beside)) }
+    requires cells { AreWithin cells.now pair n }
+    requires room { HasRoom mass_kind out.old
+        (run_sum mass_ring n at (two_sizes mass_kind mass_kind.size cells.now pair)) }
     ensures { Adds mass_kind
         (run_sum mass_kind n at
-        (two_scaled mass_kind cells.now first second from beside))
+        (two_scaled mass_kind (λ f. f) cells.now pair))
         out.old out.new }
 {
     for i in 0..n {
-        let both = first
-            .mul(cells[from + i])
-            .add(second.mul(cells[beside + i]));
+        let both = pair
+            .first
+            .mul(cells[pair.from + i])
+            .add(pair.second.mul(cells[pair.beside + i]));
         out[at + i] = out[at + i].add(both);
     }
 }
 
 /// The same where both factors are below 2^64, with two products of 64 bits in place of three.
 #[inline(never)]
-fn add_two_short(
-    out: &mut [Mass],
-    at: usize,
-    n: usize,
-    first: u64,
-    second: u64,
-    cells: &[Mass],
-    from: usize,
-    beside: usize,
-)
+fn add_two_short(out: &mut [Mass], at: usize, n: usize, pair: Pair<u64>, cells: &[Mass])
     requires out { at + n ≤ length out.old }
-    requires cells { (from + n ≤ length cells.now) × (beside + n ≤ length cells.now) }
+    requires cells { AreWithin cells.now pair n }
     requires room { HasRoom mass_kind out.old (run_sum mass_ring n at
-        (two_sizes mass_kind cells.now first second from beside)) }
+        (two_sizes mass_kind (λ f. f) cells.now pair)) }
     ensures { Adds mass_kind
         (run_sum mass_kind n at
-        (two_scaled mass_kind cells.now (mass_of first) (mass_of second) from beside))
+        (two_scaled mass_kind mass_of cells.now pair))
         out.old out.new }
 {
     for i in 0..n {
-        let both = short_product(first, cells[from + i]).add(short_product(
-            second,
-            cells[beside + i],
+        let both = short_product(pair.first, cells[pair.from + i]).add(short_product(
+            pair.second,
+            cells[pair.beside + i],
         ));
         out[at + i] = out[at + i].add(both);
     }

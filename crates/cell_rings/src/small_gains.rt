@@ -3,12 +3,13 @@
 ghost use Rattle.std.specs.Prelude.{◌≡◌, ◌+◌, ◌-◌, ◌*◌, ◌^◌, ◌<◌, ◌≤◌, ℤ, pos, nat_abs, length, IsTrue};
 ghost use Rattle.std.specs.Int.{w64, cast_unsigned};
 ghost use Rattle.cell_rings.specs.Rings.{mass_ring};
-ghost use Rattle.cell_rings.specs.Sums.{cell_at, run_sum, two_scaled, two_sizes, Adds, HasRoom};
+ghost use Rattle.cell_rings.specs.Sums.{cell_at, run_sum, two_scaled, two_sizes, AreWithin, Adds, HasRoom};
 ghost use Rattle.cell_rings.specs.Words.{AreHalves};
 ghost use Rattle.cell_rings.specs.KindLaws.{small_has_room, small_gain_laws, small_gain_sizes, at_most_itself, value_at_most};
 ghost use Rattle.cell_rings.specs.Kinds.{small_gain_kind, small_gain_of};
 
 use crate::cells::Cell;
+use crate::pairs::Pair;
 
 /// A whole number with a sign, where a bound keeps every sum below 2^63.
 #[derive(Clone, Copy, Debug, PartialEq, Eq)]
@@ -67,16 +68,13 @@ impl Cell for SmallGain {
         out: &mut [SmallGain],
         at: usize,
         n: usize,
-        first: SmallGain,
-        second: SmallGain,
+        pair: &Pair<SmallGain>,
         cells: &[SmallGain],
-        from: usize,
-        beside: usize,
     ) {
-        if is_half(bits_of(first)) && is_half(bits_of(second)) {
-            add_two_halves(out, at, n, first, second, cells, from, beside)
+        if is_half(bits_of(pair.first)) && is_half(bits_of(pair.second)) {
+            add_two_halves(out, at, n, *pair, cells)
         } else {
-            add_two_long(out, at, n, first, second, cells, from, beside)
+            add_two_long(out, at, n, *pair, cells)
         }
     }
 }
@@ -86,26 +84,23 @@ fn add_two_long(
     out: &mut [SmallGain],
     at: usize,
     n: usize,
-    first: SmallGain,
-    second: SmallGain,
+    pair: Pair<SmallGain>,
     cells: &[SmallGain],
-    from: usize,
-    beside: usize,
 )
     requires out { at + n ≤ length out.old }
-    requires cells { (from + n ≤ length cells.now) × (beside + n ≤ length cells.now) }
-    requires room { HasRoom small_gain_kind out.old (run_sum mass_ring n at
-        (two_sizes small_gain_kind cells.now (small_gain_kind.size first)
-        (small_gain_kind.size second) from beside)) }
+    requires cells { AreWithin cells.now pair n }
+    requires room { HasRoom small_gain_kind out.old
+        (run_sum mass_ring n at (two_sizes small_gain_kind small_gain_kind.size cells.now pair)) }
     ensures { Adds small_gain_kind
         (run_sum small_gain_kind n at
-        (two_scaled small_gain_kind cells.now first second from beside))
+        (two_scaled small_gain_kind (λ f. f) cells.now pair))
         out.old out.new }
 {
     for i in 0..n {
-        let both = first
-            .mul(cells[from + i])
-            .add(second.mul(cells[beside + i]));
+        let both = pair
+            .first
+            .mul(cells[pair.from + i])
+            .add(pair.second.mul(cells[pair.beside + i]));
         out[at + i] = out[at + i].add(both);
     }
 }
@@ -116,30 +111,26 @@ fn add_two_halves(
     out: &mut [SmallGain],
     at: usize,
     n: usize,
-    first: SmallGain,
-    second: SmallGain,
+    pair: Pair<SmallGain>,
     cells: &[SmallGain],
-    from: usize,
-    beside: usize,
 )
     requires out { at + n ≤ length out.old }
-    requires cells { (from + n ≤ length cells.now) × (beside + n ≤ length cells.now) }
-    requires first { cast_unsigned w64 first.0 < 2 ^ 32 }
-    requires second { cast_unsigned w64 second.0 < 2 ^ 32 }
-    requires halves { AreHalves cells.now from n }
-    requires beside { AreHalves cells.now beside n }
-    requires room { HasRoom small_gain_kind out.old (run_sum mass_ring n at
-        (two_sizes small_gain_kind cells.now (small_gain_kind.size first)
-        (small_gain_kind.size second) from beside)) }
+    requires cells { AreWithin cells.now pair n }
+    requires first { cast_unsigned w64 pair.first.0 < 2 ^ 32 }
+    requires second { cast_unsigned w64 pair.second.0 < 2 ^ 32 }
+    requires from { AreHalves cells.now pair.from n }
+    requires beside { AreHalves cells.now pair.beside n }
+    requires room { HasRoom small_gain_kind out.old
+        (run_sum mass_ring n at (two_sizes small_gain_kind small_gain_kind.size cells.now pair)) }
     ensures { Adds small_gain_kind
         (run_sum small_gain_kind n at
-        (two_scaled small_gain_kind cells.now first second from beside))
+        (two_scaled small_gain_kind (λ f. f) cells.now pair))
         out.old out.new }
 {
     for i in 0..n {
-        let both = half_product(first, cells[from + i]).add(half_product(
-            second,
-            cells[beside + i],
+        let both = half_product(pair.first, cells[pair.from + i]).add(half_product(
+            pair.second,
+            cells[pair.beside + i],
         ));
         out[at + i] = out[at + i].add(both);
     }

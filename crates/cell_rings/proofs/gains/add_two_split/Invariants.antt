@@ -7,4 +7,4 @@ use Rattle.cell_rings.proofs.gains.add_two_split.Given as goal
 abbrev pub invariant-loop-i : goal.invariant-loop-i
 invariant-loop-i l =
     let r = gain_kind in
-    (length l.out ≡ length l.fn.out) × Adds r (run_sum r l.i l.at (λ i. r.plus (r.times (gain_of (whole l.first)) (cell_at r l.cells (l.from + i))) (r.times (gain_of (whole l.second)) (cell_at r l.cells (l.beside + i))))) l.fn.out l.out
+    (length l.out ≡ length l.fn.out) × Adds r (run_sum r l.i l.at (λ i. r.plus (r.times (gain_of (whole l.pair.first)) (cell_at r l.cells (l.pair.from + i))) (r.times (gain_of (whole l.pair.second)) (cell_at r l.cells (l.pair.beside + i))))) l.fn.out l.out

@@ -1,9 +1,10 @@
-use Rattle.std.proofs.Common.{◌≡◌, ◌+◌, length}
-use Rattle.cell_rings.specs.Kinds.{gain_kind, gain_of}
-use Rattle.cell_rings.specs.Sums.{cell_at, run_sum, Adds}
+use Rattle.std.proofs.Common.{◌≡◌, length}
+use Rattle.cell_rings.specs.Kinds.{gain_kind}
+use Rattle.cell_rings.specs.Sums.{run_sum, two_scaled, Adds}
+use Rattle.cell_rings.specs.Words.{of_word}
 use Rattle.cell_rings.proofs.gains.add_two_words.Given as goal
 
 abbrev pub invariant-loop-i : goal.invariant-loop-i
 invariant-loop-i l =
-    let r = gain_kind in
-    (length l.out ≡ length l.fn.out) × Adds r (run_sum r l.i l.at (λ i. r.plus (r.times (gain_of l.first.value) (cell_at r l.cells (l.from + i))) (r.times (gain_of l.second.value) (cell_at r l.cells (l.beside + i))))) l.fn.out l.out
+    (length l.out ≡ length l.fn.out)
+    × Adds gain_kind (run_sum gain_kind l.i l.at (two_scaled gain_kind of_word l.cells l.pair)) l.fn.out l.out
