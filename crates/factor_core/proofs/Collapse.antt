@@ -10,7 +10,7 @@ use Rattle.factor_core.specs.Walks.{shifted, total, AtEach}
 use Rattle.finite_sums.specs.Sums.{World, InRange, with_state}
 use Rattle.factor_core.specs.Tables.{axes_of, rows_of, moved, out_place, kept_size}
 use Rattle.factor_core.proofs.Shifts.{length-shifted}
-use Rattle.factor_core.proofs.RunLemmas.{ring_sum_cong}
+use Rattle.cell_rings.proofs.Together.{ring_sum_cong}
 
 -- v is none of the nodes
 pub record IsNoneOf (v : ℕ) (vs : List ℕ) : Type 0 where

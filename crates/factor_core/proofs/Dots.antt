@@ -11,7 +11,8 @@ use Rattle.cell_rings.proofs.Runs.{chosen}
 use Rattle.factor_core.specs.Walks.{shifted, further, total, IsMet, CanWalk, IsDot}
 use Rattle.factor_core.specs.declared.walks.Axis.{Axis}
 use Rattle.factor_core.proofs.Shifts.{length-shifted, get-shifted, first_choice}
-use Rattle.factor_core.proofs.RunLemmas.{ring_sum_cong, fits_before}
+use Rattle.factor_core.proofs.RunLemmas.{fits_before}
+use Rattle.cell_rings.proofs.Together.{ring_sum_cong}
 
 -- the last places move by s, the others stand
 pub dot_shift : (s : ℕ) (front ms ds : List ℕ) → ((i : ℕ) → i < length front → get_or ds i 0 ≡ 0) → ((i : ℕ) → length front ≤ i → i < length front + length ms → get_or ds i 0 ≡ 1) → shifted s ds (front ++ ms) ≡ front ++ further s ms

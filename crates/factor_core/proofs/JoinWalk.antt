@@ -15,7 +15,7 @@ use Rattle.factor_core.specs.Tables.{states_in, size_from, stride_of, moved, out
 use Rattle.factor_core.specs.declared.walks.Axis.{Axis}
 use Rattle.node_sets.specs.declared.sets.NodeSet.{NodeSet}
 use Rattle.factor_core.specs.declared.slots.Slot.{Slot}
-use Rattle.factor_core.proofs.RunLemmas.{ring_sum_cong}
+use Rattle.cell_rings.proofs.Together.{ring_sum_cong}
 use Rattle.factor_core.proofs.SizeLemmas.{size_later}
 use Rattle.factor_core.proofs.Collapse.{IsNoneOf, AllOnce, IsRadix, IsAmong, each_choice, total_is, total_outside, world_at}
 use Rattle.factor_core.proofs.Joining.{place_below, place_along, get-moved, length-moved, out_place_cong}

@@ -3,10 +3,9 @@ pub mod Shifts
 pub mod Walking
 pub mod RunLemmas
 pub mod Turned
+pub mod MovedRuns
 pub mod Dots
 pub mod Sums
-pub mod TwoRuns
-mod TwoTurned
 pub mod Collapse
 pub mod SizeLemmas
 pub mod Listing

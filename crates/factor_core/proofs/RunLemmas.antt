@@ -1,21 +1,14 @@
 -- A walk over one axis that is a run, as a sum over a run of cells.
-use Rattle.std.proofs.Common.{◌≡◌, ℕ, zero, suc, ◌+◌, ◌*◌, ◌-◌, ◌<◌, ◌≤◌, List, [], ◌∷◌, ◌++◌, take, length, refl, sym, ap, subst, ◌∙◌, arith, get_or, cond, Bool, true, false, ◌==◌}
-use Rattle.std.specs.Prelude.{All}
-use Rattle.std.proofs.lemmas.List.{take_more, take_all, get_or-take, length-take-le}
+use Rattle.std.proofs.Common.{◌≡◌, ℕ, suc, ◌+◌, ◌*◌, ◌-◌, ◌<◌, ◌≤◌, List, [], ◌∷◌, ◌++◌, take, length, refl, sym, ap, subst, ◌∙◌, arith, get_or, cond, Bool, true, false, ◌==◌}
+use Rattle.std.proofs.lemmas.List.{take_more, take_all, length-take-le}
 use Rattle.cell_rings.specs.Rings.{Ring, IsRing, IsSize, mass_ring}
-use Rattle.cell_rings.specs.Sums.{ring_sum, cell_at, product_from, product_at, sizes_of, ProductFits, run_sum, Adds, HasRoom}
+use Rattle.cell_rings.specs.Sums.{cell_at, product_from, product_at, sizes_of, ProductFits, run_sum, HasRoom}
 use Rattle.cell_rings.proofs.Adding.{nat_sum_le, size_at}
+use Rattle.cell_rings.proofs.Together.{ring_sum_cong}
 use Rattle.factor_core.specs.Walks.{shifted, total, load, IsMet, CanWalk, IsRun}
 use Rattle.factor_core.specs.declared.walks.Axis.{Axis}
 use Rattle.std.proofs.Math.Nat.{mul-le-mul_right}
 use Rattle.factor_core.proofs.Shifts.{length-shifted, get-shifted, first_choice}
-
-pub ring_sum_cong : {C : Type 0} (r : Ring C) (n : ℕ) (f g : ℕ → C) → ((i : ℕ) → f i ≡ g i) → ring_sum r n f ≡ ring_sum r n g
-ring_sum_cong r zero f g h = refl
-ring_sum_cong r (suc n) f g h =
-    let before : ring_sum r n f ≡ ring_sum r n g = ring_sum_cong r n f g h in
-    let last = h n in
-    cc
 
 pub product-append : {C : Type 0} (r : Ring C) (cells : List C) (x : C) (ps : List ℕ) (p : ℕ) → product_from r cells x (ps ++ p ∷ []) ≡ r.times (product_from r cells x ps) (cell_at r cells p)
 product-append r cells x [] p = refl
@@ -96,15 +89,6 @@ module _ {C : Type 0} {r : Ring C} (laws : IsRing r) (sizes : IsSize r r.size) w
     pub run_first : IsMet r cells (length out) places at
     run_first = first_choice (IsMet r cells (length out)) (a ∷ []) ds places at can.are_axes can.met
 
-    pub run_within : All (λ p. p < length cells) (take (length places - 1) places)
-    run_within = λ k d h.
-        let len = length_front places run.some in
-        let in_front : k < length places - 1 = omega (arith, len) in
-        subst (λ p. p < length cells) (sym (get_or-take (length places - 1) places k d in_front)) (run_first.within k d (omega arith))
-
-    pub run_fits : ProductFits r cells 1 (take (length places - 1) places)
-    run_fits = fits_before r cells 1 (take (length places - 1) places) (get_or places (length places - 1) 0 ∷ []) (subst (ProductFits r cells 1) (split_last places run.some) run_first.fits)
-
     -- the last choice of a state
     last_choice : IsMet r cells (length out) (shifted (a.states - 1) ds places) (at + (a.states - 1) * a.out)
     last_choice = let axis = can.are_axes 0 a (omega arith) in can.met (a.states - 1) (omega (arith, axis.some))
@@ -122,16 +106,3 @@ module _ {C : Type 0} {r : Ring C} (laws : IsRing r) (sizes : IsSize r r.size) w
         let moved = get-shifted (a.states - 1) ds places (length places - 1) (omega (arith, run.some)) in
         let one = ap (λ k. (a.states - 1) * k) run.last in
         omega (arith, last_choice.within (length places - 1) 0 (omega (arith, len, run.some)), moved, one, axis.some)
-
-    pub run_has_room : (factor : C) → r.size factor ≤ product_at mass_ring (sizes_of r cells) (take (length places - 1) places) → HasRoom r out (run_sum mass_ring a.states at (λ i. r.size factor * r.size (cell_at r cells (get_or places (length places - 1) 0 + i))))
-    run_has_room factor h = room_less out _ (load r cells (a ∷ []) ds places at) (λ p. run_load_le cells a ds places at run factor h p) can.room
-
-    -- what is added to the run is what the walk adds
-    pub adds_along : (factor : C) → factor ≡ product_at r cells (take (length places - 1) places) → (new : List C) → Adds r (run_sum r a.states at (λ i. r.times factor (cell_at r cells (get_or places (length places - 1) 0 + i)))) out new → Adds r (total r cells (a ∷ []) ds places at) out new
-    adds_along factor e new adds = record {
-      each = λ p.
-          adds.each p
-          ∙ ap (r.plus (cell_at r out p))
-          (ap (λ x. run_sum r a.states at (λ i. r.times x (cell_at r cells (get_or places (length places - 1) 0 + i))) p) e
-          ∙ sym (run_total a ds places run r cells at p));
-    }

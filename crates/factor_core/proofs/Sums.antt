@@ -9,7 +9,7 @@ use Rattle.cell_rings.proofs.Runs.{chosen}
 use Rattle.factor_core.specs.Walks.{shifted, total, IsMet, CanWalk}
 use Rattle.factor_core.specs.declared.walks.Axis.{Axis}
 use Rattle.factor_core.proofs.Dots.{sum_if}
-use Rattle.factor_core.proofs.RunLemmas.{ring_sum_cong}
+use Rattle.cell_rings.proofs.Together.{ring_sum_cong}
 use Rattle.factor_core.proofs.Shifts.{first_choice, shifted_none}
 
 -- what the walk adds

@@ -1,12 +1,13 @@
 -- A walk along which the first of two operands runs: a product has the same value with its factors turned.
-use Rattle.std.proofs.Common.{◌≡◌, ℕ, ◌+◌, ◌*◌, ◌-◌, ◌<◌, ◌≤◌, List, [], ◌∷◌, length, refl, sym, ap, subst, ◌∙◌, arith, get_or, cond, ◌==◌}
+use Rattle.std.proofs.Common.{◌≡◌, ℕ, ◌+◌, ◌*◌, ◌-◌, ◌≤◌, List, [], ◌∷◌, length, refl, sym, ap, subst, ◌∙◌, arith, get_or, cond, ◌==◌}
 use Rattle.cell_rings.specs.Rings.{Ring, IsRing, IsSize, mass_ring}
 use Rattle.cell_rings.specs.RingLaws.{mass_is_ring}
-use Rattle.cell_rings.specs.Sums.{cell_at, product_at, sizes_of, run_sum, Adds, HasRoom}
+use Rattle.cell_rings.specs.Sums.{cell_at, product_at, sizes_of, run_sum}
 use Rattle.cell_rings.proofs.Adding.{size_at}
 use Rattle.factor_core.specs.Walks.{shifted, total, load, IsMet, CanWalk, IsTurned}
 use Rattle.factor_core.specs.declared.walks.Axis.{Axis}
-use Rattle.factor_core.proofs.RunLemmas.{ring_sum_cong, run_sum_le, room_less}
+use Rattle.factor_core.proofs.RunLemmas.{run_sum_le}
+use Rattle.cell_rings.proofs.Together.{ring_sum_cong}
 use Rattle.factor_core.proofs.Shifts.{length-shifted, get-shifted, first_choice}
 
 two_items : (xs : List ℕ) → length xs ≡ 2 → xs ≡ get_or xs 0 0 ∷ (get_or xs 1 0 ∷ [])
@@ -58,9 +59,6 @@ module _ {C : Type 0} {r : Ring C} (laws : IsRing r) (sizes : IsSize r r.size) (
   last_met : IsMet r cells (length out) (shifted (a.states - 1) ds places) (at + (a.states - 1) * a.out)
   last_met = let axis = can.are_axes 0 a (omega arith) in can.met (a.states - 1) (omega (arith, axis.some))
 
-  pub turned_still : get_or places 1 0 < length cells
-  turned_still = first_met.within 1 0 (omega (arith, turned.two))
-
   pub turned_in_out : at + a.states ≤ length out
   turned_in_out =
       let axis = can.are_axes 0 a (omega arith) in
@@ -88,12 +86,3 @@ module _ {C : Type 0} {r : Ring C} (laws : IsRing r) (sizes : IsSize r r.size) (
       let same : cell_at mass_ring list q * cell_at mass_ring list (from + i) ≡ r.size (cell_at r cells q) * r.size (cell_at r cells (from + i)) =
       ap (λ n. n * cell_at mass_ring list (from + i)) (size_at laws sizes cells q) ∙ ap (λ n. r.size (cell_at r cells q) * n) (size_at laws sizes cells (from + i)) in
       omega (arith, same)))
-
-  pub turned_room : HasRoom r out (run_sum mass_ring a.states at (λ i. r.size (cell_at r cells (get_or places 1 0)) * r.size (cell_at r cells (get_or places 0 0 + i))))
-  turned_room = room_less laws sizes out _ (load r cells (a ∷ []) ds places at) turned_sizes can.room
-
-  -- what is added to the run is what the walk adds
-  pub turned_adds : (new : List C) → Adds r (run_sum r a.states at (λ i. r.times (cell_at r cells (get_or places 1 0)) (cell_at r cells (get_or places 0 0 + i)))) out new → Adds r (total r cells (a ∷ []) ds places at) out new
-  turned_adds new adds = record {
-    each = λ p. adds.each p ∙ ap (r.plus (cell_at r out p)) (sym (turned_total a ds places turned r laws cells at p));
-  }

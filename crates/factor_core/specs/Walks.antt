@@ -1,9 +1,9 @@
 -- A walk over several axes: at each choice of a state for each axis the product of the operands' cells is added to a
 -- cell of the result.
 -- Only private contracts cite this file.
-use Rattle.std.specs.Prelude.{◌≡◌, ℕ, ◌+◌, ◌*◌, ◌^◌, ◌<◌, ◌≤◌, ◌==◌, if◌then◌else◌, Bool, true, false, List, [], ◌∷◌, ◌-◌, length, drop, All, slice_index}
+use Rattle.std.specs.Prelude.{◌≡◌, ℕ, ◌+◌, ◌*◌, ◌^◌, ◌<◌, ◌≤◌, ◌==◌, if◌then◌else◌, Bool, true, false, List, [], ◌∷◌, ◌-◌, length, take, drop, All, slice_index}
 use Rattle.cell_rings.specs.Rings.{Ring, mass_ring}
-use Rattle.cell_rings.specs.Sums.{ring_sum, product_at, sizes_of, ProductFits, HasRoom}
+use Rattle.cell_rings.specs.Sums.{ring_sum, cell_at, product_at, sizes_of, ProductFits, HasRoom}
 use Rattle.factor_core.specs.declared.walks.Axis.{Axis}
 
 -- the places after s steps along an axis, whose strides stand first in the list
@@ -18,13 +18,6 @@ abbrev pub total : {C : Type 0} → Ring C → List C → List Axis → List ℕ
 total r cells [] strides places at p = if p == at then product_at r cells places else r.nought
 total r cells (a ∷ rest) strides places at p = ring_sum r a.states (λ s.
     total r cells rest (drop (length places) strides) (shifted s strides places) (at + s * a.out) p)
-
--- what two walks add to it, one from the places and the other from a step along an axis above, whose strides stand first
-abbrev pub total_of_two :
-    {C : Type 0} → Ring C → List C → List Axis → List ℕ → List ℕ → ℕ → ℕ → C
-total_of_two r cells axes strides places at = λ p.
-    r.plus (total r cells axes (drop (length places) strides) places at p)
-    (total r cells axes (drop (length places) strides) (shifted 1 strides places) at p)
 
 -- the same of sizes
 abbrev pub load : {C : Type 0} → Ring C → List C → List Axis → List ℕ → List ℕ → ℕ → ℕ → ℕ
@@ -99,15 +92,33 @@ abbrev pub further : ℕ → List ℕ → List ℕ
 further s [] = []
 further s (p ∷ ps) = (p + s) ∷ further s ps
 
--- there is room for two runs, of which the second starts one step of an axis further
-pub record CanAddTwo {C : Type 0}
-    (r : Ring C) (cells : List C) (a : Axis) (strides places : List ℕ) (out : List C) (at : ℕ) :
+-- how many operands there are where one runs along an axis: two where it is the first, else one or more
+abbrev pub IsCount : Bool → ℕ → Type 0
+IsCount false n = 0 < n
+IsCount true n = n ≡ 2
+
+-- the places from which a run can be read
+pub record CanRead {C : Type 0} (turned : Bool) (r : Ring C) (cells : List C) (places : List ℕ) :
     Type 0 where
-  pub enough : length places ≤ length strides
-  pub near : All (λ d. d ≤ 2 ^ 32) strides
-  pub first : CanWalk r cells (a ∷ []) (drop (length places) strides) places out at
-  pub second :
-      CanWalk r cells (a ∷ []) (drop (length places) strides) (shifted 1 strides places) out at
-  pub both : HasRoom r out (λ p.
-      load r cells (a ∷ []) (drop (length places) strides) places at p
-      + load r cells (a ∷ []) (drop (length places) strides) (shifted 1 strides places) at p)
+  pub count : IsCount turned (length places)
+  pub within : All (λ p. p < length cells) places
+  pub fits : ProductFits r cells 1 places
+
+-- the factor is the product of the cells before the last place, at which the run begins
+pub record IsLastRun {C : Type 0}
+    (r : Ring C) (cells : List C) (places : List ℕ) (factor : C) (from : ℕ) : Type 0 where
+  pub product : factor ≡ product_at r cells (take (length places - 1) places)
+  pub size : r.size factor
+      ≤ product_at mass_ring (sizes_of r cells) (take (length places - 1) places)
+  pub begins : from ≡ slice_index places (length places - 1)
+
+-- the factor is the cell at the second place, and the run begins at the first
+pub record IsFirstRun {C : Type 0}
+    (r : Ring C) (cells : List C) (places : List ℕ) (factor : C) (from : ℕ) : Type 0 where
+  pub stands : factor ≡ cell_at r cells (slice_index places 1)
+  pub begins : from ≡ slice_index places 0
+
+-- what a walk adds along an axis that one operand moves along: the cells from a place on, each times the factor
+abbrev pub IsRunAt : {C : Type 0} → Bool → Ring C → List C → List ℕ → C → ℕ → Type 0
+IsRunAt false r cells places factor from = IsLastRun r cells places factor from
+IsRunAt true r cells places factor from = IsFirstRun r cells places factor from

@@ -2,12 +2,12 @@
 
 ghost use Rattle.std.specs.Prelude.{◌≡◌, ◌==◌, if◌then◌else◌, ℕ, ◌+◌, ◌*◌, ◌^◌, ◌<◌, ◌≤◌, length, take, drop, [], ◌∷◌, All, IsTrue, slice_index};
 ghost use Rattle.cell_rings.specs.Rings.{mass_ring};
-ghost use Rattle.cell_rings.specs.Sums.{ring_sum, run_sum, cell_at, product_from, product_at, sizes_of, ProductFits, Adds, HasRoom, two_scaled, two_sizes};
-ghost use Rattle.factor_core.specs.Walks.{shifted, total, CanWalk, IsRun, IsTurned, IsMoved, IsDot, further, CanAddTwo, total_of_two};
+ghost use Rattle.cell_rings.specs.Sums.{ring_sum, run_sum, cell_at, product_from, product_at, sizes_of, ProductFits, Adds, HasRoom, two_scaled, two_sizes, four_scaled, four_sizes, AreWithin};
+ghost use Rattle.factor_core.specs.Walks.{shifted, total, CanWalk, IsRun, IsTurned, IsMoved, IsDot, IsRunAt, CanRead, further};
 ghost use Rattle.factor_core.specs.Narrow.{AreNarrow};
 
 use crate::narrow::Narrow;
-use cell_rings::Cell;
+use cell_rings::{Cell, Pair};
 
 /// One axis of a walk: how many states its node has, and how far the result's place moves from one state to the next,
 /// which is 0 at the node that is summed.
@@ -100,25 +100,6 @@ fn is_run(axis: Axis, strides: &[usize], count: usize) -> bool
     strides[last] == 1
 }
 
-/// The walk over one axis that is a run.
-fn add_run<C: Cell>(
-    axis: Axis,
-    strides: &[usize],
-    cells: &[C],
-    places: &[usize],
-    out: &mut [C],
-    at: usize,
-)
-    requires run { IsRun axis strides.now (length places.now) }
-    requires can { CanWalk C.ring cells.now (axis ∷ []) strides.now places.now out.old at }
-    ensures { Adds C.ring (total C.ring cells.now (axis ∷ []) strides.now places.now at) out.old
-        out.new }
-{
-    let last = places.len() - 1;
-    let factor = product(cells, before(places, last));
-    C::add_scaled(out, at, axis.states, factor, cells, places[last]);
-}
-
 /// Whether the result and the first of two operands move cell by cell along the axis while the second stands.
 fn is_turned(axis: Axis, strides: &[usize], count: usize) -> bool
     requires { count ≤ length strides.now }
@@ -127,148 +108,102 @@ fn is_turned(axis: Axis, strides: &[usize], count: usize) -> bool
     count == 2 && axis.out == 1 && strides[0] == 1 && strides[1] == 0
 }
 
-/// The walk over one axis along which the first of two operands runs and the second stands.
-fn add_turned<C: Cell>(
-    axis: Axis,
-    strides: &[usize],
-    cells: &[C],
-    places: &[usize],
-    out: &mut [C],
-    at: usize,
-)
-    requires turned { IsTurned axis strides.now (length places.now) }
-    requires can { CanWalk C.ring cells.now (axis ∷ []) strides.now places.now out.old at }
-    ensures { Adds C.ring (total C.ring cells.now (axis ∷ []) strides.now places.now at) out.old
-        out.new }
+/// What a walk adds along an axis that one operand and the result move along while the other operands stand: the
+/// product of the cells that stand, times each cell of a run.
+#[derive(Clone, Copy)]
+struct Run<C> {
+    factor: C,
+    /// The place at which the run begins.
+    from: usize,
+}
+
+/// The run of the operand that moves: the first of two where it is turned, else the last.
+fn read_run<C: Cell>(turned: bool, cells: &[C], places: &[usize]) -> Run<C>
+    requires { CanRead turned C.ring cells.now places.now }
+    ensures { IsRunAt turned C.ring cells.now places.now result.factor result.from }
 {
-    let factor = cells[places[1]];
-    C::add_scaled(out, at, axis.states, factor, cells, places[0]);
+    if turned {
+        return Run {
+            factor: cells[places[1]],
+            from: places[0],
+        };
+    }
+    let last = places.len() - 1;
+    Run {
+        factor: product(cells, before(places, last)),
+        from: places[last],
+    }
+}
+
+/// The runs at two states of the axis above, whose strides stand first, and the places after these states.
+fn next_pair<C: Cell>(turned: bool, strides: &[usize], cells: &[C], places: &mut [usize]) -> Pair<C>
+    requires first { CanRead turned C.ring cells.now places.old }
+    requires second { CanRead turned C.ring cells.now (shifted 1 strides.now places.old) }
+    requires few { length cells.now ≤ 2 ^ 32 }
+    requires near { All (λ d. d ≤ 2 ^ 32) strides.now }
+    requires enough { length places.old ≤ length strides.now }
+    ensures first { IsRunAt turned C.ring cells.now places.old result.first result.from }
+    ensures second { IsRunAt turned C.ring cells.now (shifted 1 strides.now places.old)
+        result.second result.beside }
+    ensures places { places.new ≡ shifted 2 strides.now places.old }
+{
+    let first = read_run(turned, cells, places);
+    advance(places, strides);
+    let second = read_run(turned, cells, places);
+    advance(places, strides);
+    Pair {
+        first: first.factor,
+        second: second.factor,
+        from: first.from,
+        beside: second.from,
+    }
 }
 
 /// Adds both runs of n cells, each times its factor, the faster way where all of them are narrow.
-fn add_two<C: Cell>(
+fn add_two<C: Cell>(narrow: Narrow, out: &mut [C], at: usize, n: usize, pair: &Pair<C>, cells: &[C])
+    requires narrow { AreNarrow C.ring C.bits C.narrow cells.now narrow }
+    requires out { at + n ≤ length out.old }
+    requires cells { AreWithin cells.now pair.now n }
+    requires room { HasRoom C.ring out.old
+        (run_sum mass_ring n at (two_sizes C.ring C.ring.size cells.now pair.now)) }
+    ensures { Adds C.ring (run_sum C.ring n at (two_scaled C.ring (λ f. f) cells.now pair.now))
+        out.old out.new }
+{
+    if narrow.has(pair.from, n) && narrow.has(pair.beside, n) {
+        C::add_two_narrow(out, at, n, pair, cells)
+    } else {
+        C::add_two_scaled(out, at, n, pair, cells)
+    }
+}
+
+/// Adds the four runs of n cells of two pairs, the faster way where all of them are narrow.
+fn add_four<C: Cell>(
     narrow: Narrow,
     out: &mut [C],
     at: usize,
     n: usize,
-    first: C,
-    second: C,
+    one: &Pair<C>,
+    other: &Pair<C>,
     cells: &[C],
-    from: usize,
-    beside: usize,
 )
     requires narrow { AreNarrow C.ring C.bits C.narrow cells.now narrow }
     requires out { at + n ≤ length out.old }
-    requires cells { (from + n ≤ length cells.now) × (beside + n ≤ length cells.now) }
-    requires room { HasRoom C.ring out.old (run_sum mass_ring n at
-        (two_sizes C.ring cells.now (C.ring.size first) (C.ring.size second) from beside)) }
+    requires cells { AreWithin cells.now one.now n × AreWithin cells.now other.now n }
+    requires room { HasRoom C.ring out.old
+        (run_sum mass_ring n at (four_sizes C.ring C.ring.size cells.now one.now other.now)) }
     ensures { Adds C.ring
-        (run_sum C.ring n at (two_scaled C.ring cells.now first second from beside)) out.old
-        out.new }
+        (run_sum C.ring n at (four_scaled C.ring (λ f. f) cells.now one.now other.now))
+        out.old out.new }
 {
-    if narrow.has(from, n) && narrow.has(beside, n) {
-        C::add_two_narrow(out, at, n, first, second, cells, from, beside)
+    if narrow.has(one.from, n)
+        && narrow.has(one.beside, n)
+        && narrow.has(other.from, n)
+        && narrow.has(other.beside, n)
+    {
+        C::add_four_narrow(out, at, n, one, other, cells)
     } else {
-        C::add_two_scaled(out, at, n, first, second, cells, from, beside)
-    }
-}
-
-/// The walks over a run at two states of the axis above it, whose strides stand first.
-fn add_two_runs<C: Cell>(
-    narrow: Narrow,
-    axis: Axis,
-    strides: &[usize],
-    cells: &[C],
-    places: &mut [usize],
-    out: &mut [C],
-    at: usize,
-)
-    requires narrow { AreNarrow C.ring C.bits C.narrow cells.now narrow }
-    requires run { IsRun axis (drop (length places.old) strides.now) (length places.old) }
-    requires can { CanAddTwo C.ring cells.now axis strides.now places.old out.old at }
-    ensures adds { Adds C.ring
-        (total_of_two C.ring cells.now (axis ∷ []) strides.now places.old at) out.old out.new }
-    ensures places { places.new ≡ shifted 2 strides.now places.old }
-{
-    let last = places.len() - 1;
-    let first = product(cells, before(places, last));
-    let from = places[last];
-    advance(places, strides);
-    let second = product(cells, before(places, last));
-    let beside = places[last];
-    add_two(
-        narrow,
-        out,
-        at,
-        axis.states,
-        first,
-        second,
-        cells,
-        from,
-        beside,
-    );
-    advance(places, strides);
-}
-
-/// The walks over a run of the first of two operands at two states of the axis above it, whose strides stand first.
-fn add_two_turned<C: Cell>(
-    narrow: Narrow,
-    axis: Axis,
-    strides: &[usize],
-    cells: &[C],
-    places: &mut [usize],
-    out: &mut [C],
-    at: usize,
-)
-    requires narrow { AreNarrow C.ring C.bits C.narrow cells.now narrow }
-    requires turned { IsTurned axis (drop (length places.old) strides.now) (length places.old) }
-    requires can { CanAddTwo C.ring cells.now axis strides.now places.old out.old at }
-    ensures adds { Adds C.ring
-        (total_of_two C.ring cells.now (axis ∷ []) strides.now places.old at) out.old out.new }
-    ensures places { places.new ≡ shifted 2 strides.now places.old }
-{
-    let first = cells[places[1]];
-    let from = places[0];
-    advance(places, strides);
-    let second = cells[places[1]];
-    let beside = places[0];
-    add_two(
-        narrow,
-        out,
-        at,
-        axis.states,
-        first,
-        second,
-        cells,
-        from,
-        beside,
-    );
-    advance(places, strides);
-}
-
-/// The walks at two states of the axis above one along which one operand runs.
-fn add_two_moved<C: Cell>(
-    narrow: Narrow,
-    turned: bool,
-    axis: Axis,
-    strides: &[usize],
-    cells: &[C],
-    places: &mut [usize],
-    out: &mut [C],
-    at: usize,
-)
-    requires narrow { AreNarrow C.ring C.bits C.narrow cells.now narrow }
-    requires moved { IsMoved turned axis (drop (length places.old) strides.now)
-        (length places.old) }
-    requires can { CanAddTwo C.ring cells.now axis strides.now places.old out.old at }
-    ensures adds { Adds C.ring
-        (total_of_two C.ring cells.now (axis ∷ []) strides.now places.old at) out.old out.new }
-    ensures places { places.new ≡ shifted 2 strides.now places.old }
-{
-    if turned {
-        add_two_turned(narrow, axis, strides, cells, places, out, at)
-    } else {
-        add_two_runs(narrow, axis, strides, cells, places, out, at)
+        C::add_two_scaled(out, at, n, one, cells);
+        C::add_two_scaled(out, at, n, other, cells)
     }
 }
 
@@ -287,14 +222,11 @@ fn add_moved<C: Cell>(
     ensures { Adds C.ring (total C.ring cells.now (axis ∷ []) strides.now places.now at) out.old
         out.new }
 {
-    if turned {
-        add_turned(axis, strides, cells, places, out, at)
-    } else {
-        add_run(axis, strides, cells, places, out, at)
-    }
+    let run = read_run(turned, cells, places);
+    C::add_scaled(out, at, axis.states, run.factor, cells, run.from);
 }
 
-/// The walk over the summed axis and a run, two states at a time.
+/// The walk over the summed axis and a run, four states at a time, then two, then one.
 fn add_runs<C: Cell>(
     narrow: Narrow,
     turned: bool,
@@ -317,16 +249,23 @@ fn add_runs<C: Cell>(
 {
     let below = after(strides, places.len());
     let mut s = 0;
-    while s + 1 < sum.states {
-        add_two_moved(narrow, turned, axis, strides, cells, places, out, at);
-        s += 2;
+    while s < sum.states {
+        let left = sum.states - s;
+        if left >= 4 {
+            let one = next_pair(turned, strides, cells, places);
+            let other = next_pair(turned, strides, cells, places);
+            add_four(narrow, out, at, axis.states, &one, &other, cells);
+            s += 4;
+        } else if left >= 2 {
+            let pair = next_pair(turned, strides, cells, places);
+            add_two(narrow, out, at, axis.states, &pair, cells);
+            s += 2;
+        } else {
+            add_moved(turned, axis, below, cells, places, out, at);
+            advance(places, strides);
+            s += 1;
+        }
     }
-    if s == sum.states {
-        retreat(places, strides, sum.states);
-        return;
-    }
-    add_moved(turned, axis, below, cells, places, out, at);
-    advance(places, strides);
     retreat(places, strides, sum.states);
 }
 
@@ -457,11 +396,11 @@ fn add_axis<C: Cell>(
     ensures places { places.new ≡ places.old }
 {
     if is_run(axis, strides, places.len()) {
-        add_run(axis, strides, cells, places, out, at);
+        add_moved(false, axis, strides, cells, places, out, at);
         return;
     }
     if is_turned(axis, strides, places.len()) {
-        add_turned(axis, strides, cells, places, out, at);
+        add_moved(true, axis, strides, cells, places, out, at);
         return;
     }
     let stand = count_standing(strides, places.len());

@@ -1,5 +1,4 @@
-use Rattle.std.proofs.Common.{rules, ◌≡◌, ◌+◌, ◌*◌, [], ◌∷◌, length, ap, ◌∙◌, arith}
-use Rattle.factor_core.specs.Copies.{count_of_steps}
+use Rattle.std.proofs.Common.{rules, ◌≡◌, ◌+◌, ◌*◌, [], ◌∷◌, length, ap, arith}
 use Rattle.factor_core.proofs.Copying.{can_next, here_fits}
 use Rattle.factor_core.proofs.copies.copy_rows.Goals as goal
 
