@@ -1,5 +1,5 @@
 -- A walk that copies cells in another order. Only private contracts cite this file.
-use Rattle.std.specs.Prelude.{ℕ, zero, suc, ◌+◌, ◌*◌, ◌^◌, ◌<◌, ◌≤◌, ◌==◌, if◌then◌else◌, List, [], ◌∷◌, ◌++◌, map, All}
+use Rattle.std.specs.Prelude.{◌≡◌, ℕ, zero, suc, ◌+◌, ◌*◌, ◌^◌, ◌<◌, ◌≤◌, ◌==◌, if◌then◌else◌, List, [], ◌∷◌, ◌++◌, map, take, All}
 use Rattle.maid_model.specs.Views.{NodeView}
 use Rattle.maid_model.specs.Nodes.{rows_under}
 use Rattle.plan_sums.specs.Plans.{has}
@@ -25,6 +25,12 @@ gathered r cells (a ∷ rest) from =
 abbrev pub count_of_steps : List Step → ℕ
 count_of_steps [] = 1
 count_of_steps (a ∷ rest) = a.states * count_of_steps rest
+
+-- what is copied stands from `start` on, behind what stood there before
+abbrev pub HasCopied :
+    {C : Type 0} → Ring C → List C → List Step → ℕ → ℕ → List C → List C → Type 0
+HasCopied r cells steps from start old new =
+    take (start + count_of_steps steps) new ≡ take start old ++ gathered r cells steps from
 
 -- a step: one state or more, and no long stride
 pub record IsStep (a : Step) : Type 0 where

@@ -1,5 +1,6 @@
 -- Slots and workspaces as contracts see them: the tables that stand in a list of cells.
 use Rattle.std.specs.Prelude.{◌≡◌, ℕ, ◌+◌, ◌-◌, ◌<◌, ◌≤◌, Bool, List, map, filter, take, drop, length}
+use Rattle.std.specs.List.{AllZip}
 use Rattle.finite_sums.specs.Sums.{World, InRange}
 use Rattle.node_sets.specs.Sets.{holds, IsIn}
 use Rattle.maid_model.specs.Views.{NodeView}
@@ -52,6 +53,16 @@ table_of r nodes cells slot = record {
 abbrev pub tables_of : {C : Type 0} → Ring C → List NodeView → List C → List Slot → List (Table C)
 tables_of r nodes cells slots = map (table_of r nodes cells) slots
 
+-- a state for each node of the slot's scope, in ascending order of the nodes
+abbrev pub AreStatesOf : List NodeView → Slot → List ℕ → Type 0
+AreStatesOf nodes slot states =
+    AllZip (λ v s. s < states_of nodes v) (nodes_in nodes (holds slot.scope)) states
+
+-- the cell of the slot's table at these states of its nodes
+abbrev pub IsCellAt : {C : Type 0} → Ring C → List NodeView → List C → Slot → List ℕ → C → Type 0
+IsCellAt r nodes cells slot states c = (w : World)
+    → map w (nodes_in nodes (holds slot.scope)) ≡ states → c ≡ (table_of r nodes cells slot).cell w
+
 -- the cells of a table with the first of these nodes slowest
 pub record HasCells {C : Type 0}
     (r : Ring C) (nodes : List NodeView) (vs : List ℕ) (cells : List C) (t : Table C) : Type 0 where
@@ -70,6 +81,10 @@ pub record StaysLive {C : Type 0}
   pub live : IsLive nodes after slot
   pub table : table_of r nodes after slot ≡ table_of r nodes before slot
 
+abbrev pub AllStayLive : {C : Type 0} → Ring C → List NodeView → List C → List C → Type 0
+AllStayLive r nodes before after =
+    (s : Slot) → IsLive nodes before s → StaysLive r nodes before after s
+
 -- a table was appended, and the slot is its
 pub record AppendsTable {C : Type 0}
     (r : Ring C) (nodes : List NodeView) (before after : WorkspaceView C) (slot : Slot)
@@ -77,8 +92,7 @@ pub record AppendsTable {C : Type 0}
   pub appends : Appends before after slot.start slot.len
   pub live : IsLive nodes after.cells slot
   pub table : IsSame (states_of nodes) (table_of r nodes after.cells slot) t
-  pub stays :
-      (s : Slot) → IsLive nodes before.cells s → StaysLive r nodes before.cells after.cells s
+  pub stays : AllStayLive r nodes before.cells after.cells
 
 -- the join of the slots with the node summed out of it
 abbrev pub join_of : {C : Type 0} → Ring C → List NodeView → ℕ → List C → List Slot → Table C

@@ -85,6 +85,16 @@ size_of counts scope = size_from (states_in counts) (holds scope) 0 (length coun
 abbrev pub place_of : List ℕ → NodeSet → World → ℕ
 place_of counts scope w = place_from (states_in counts) (holds scope) w 0 (length counts)
 
+-- from `start` on the cells are those of f over the scope
+abbrev pub HasTableAt :
+    {C : Type 0} → Ring C → List ℕ → NodeSet → ℕ → List C → (World → C) → Type 0
+HasTableAt r counts scope start cells f = (w : World) → InRange (states_in counts) w
+    → cell_at r cells (start + place_of counts scope w) ≡ f w
+
+-- how far the place moves from one state of a node to the next, which is 0 for a node that the scope lacks
+abbrev pub stride_over : List ℕ → NodeSet → ℕ → ℕ
+stride_over counts scope v = stride_of (states_in counts) (length counts) (holds scope) v
+
 -- the places of the slots' cells in the world
 abbrev pub places_in : List ℕ → List Slot → World → List ℕ
 places_in counts slots w = map (λ s. s.start + place_of counts s.scope w) slots

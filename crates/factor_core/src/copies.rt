@@ -1,7 +1,7 @@
 //! A walk that copies cells in another order.
 
 ghost use Rattle.std.specs.Prelude.{◌≡◌, ◌+◌, ◌-◌, ◌≤◌, length, take, ◌++◌, [], ◌∷◌};
-ghost use Rattle.factor_core.specs.Copies.{gathered, count_of_steps, CanCopy};
+ghost use Rattle.factor_core.specs.Copies.{gathered, count_of_steps, CanCopy, HasCopied};
 
 use crate::sources::{Source, Stored};
 use crate::walks::after;
@@ -102,8 +102,7 @@ pub fn copy_walk<C: Cell, S: Source<C>>(
 pub fn copy_at<C: Cell>(steps: &[Step], from: usize, all: &mut [C], start: usize)
     requires start { start ≤ length all.old }
     requires can { CanCopy (Unit {0}) start steps.now from (length all.old - start) 0 }
-    ensures { take (start + count_of_steps steps.now) all.new
-        ≡ take start all.old ++ gathered C.ring (take start all.old) steps.now from }
+    ensures { HasCopied C.ring (take start all.old) steps.now from start all.old all.new }
 {
     let (cells, out) = all.split_at_mut(start);
     copy_walk(steps, &Stored { cells }, from, out, 0);
@@ -114,8 +113,7 @@ pub fn copy_from<C: Cell, S: Source<C>>(steps: &[Step], source: &S, all: &mut [C
     requires start { start ≤ length all.old }
     requires can { CanCopy (S.is_fit source.now) (length (S.cells source.now)) steps.now 0
         (length all.old - start) 0 }
-    ensures { take (start + count_of_steps steps.now) all.new
-        ≡ take start all.old ++ gathered C.ring (S.cells source.now) steps.now 0 }
+    ensures { HasCopied C.ring (S.cells source.now) steps.now 0 start all.old all.new }
 {
     let (_, out) = all.split_at_mut(start);
     copy_walk(steps, source, 0, out, 0);

@@ -5,7 +5,7 @@ ghost use Rattle.std.specs.List.{AllZip};
 ghost use Rattle.maid_model.specs.declared.limits.TheConstants.{MOST_PLAN_CELLS};
 ghost use Rattle.finite_sums.specs.Sums.{World};
 ghost use Rattle.maid_model.specs.Nodes.{states_of};
-ghost use Rattle.factor_core.specs.Slots.{nodes_in, IsLive, table_of};
+ghost use Rattle.factor_core.specs.Slots.{nodes_in, IsLive, table_of, AreStatesOf, IsCellAt};
 ghost use Rattle.node_sets.specs.Sets.{holds};
 ghost use Rattle.factor_core.specs.Tables.{AreCounts, AreStates, Gives, size_of, place_of, listed};
 
@@ -61,10 +61,8 @@ pub fn read_cell<C: Cell>(
     requires used { used ≤ length all.now }
     requires short { length all.now ≤ MOST_PLAN_CELLS }
     requires live { IsLive diagram.now.nodes (take used all.now) slot.now }
-    requires states { AllZip (λ v s. s < states_of diagram.now.nodes v)
-        (nodes_in diagram.now.nodes (holds slot.now.scope)) states.now }
-    ensures { (w : World) → map w (nodes_in diagram.now.nodes (holds slot.now.scope)) ≡ states.now
-        → result ≡ (table_of C.ring diagram.now.nodes (take used all.now) slot.now).cell w }
+    requires states { AreStatesOf diagram.now.nodes slot.now states.now }
+    ensures { IsCellAt C.ring diagram.now.nodes (take used all.now) slot.now states.now result }
 {
     let mut counts = [1; MOST_NODES];
     list_states(&mut counts, diagram);

@@ -8,8 +8,8 @@ ghost use Rattle.maid_model.specs.Graph.{AllDifferent};
 ghost use Rattle.maid_model.specs.Nodes.{states_of};
 ghost use Rattle.factor_core.specs.declared.slots.Slot.{Slot};
 ghost use Rattle.factor_core.specs.Operations.{restricted};
-ghost use Rattle.factor_core.specs.Slots.{space, part, HasCells, IsLive, table_of, Appends, StaysLive, HasRoomBehind, AppendsBehind};
-ghost use Rattle.factor_core.specs.Tables.{AreCounts, states_in, stride_of, size_of};
+ghost use Rattle.factor_core.specs.Slots.{space, part, HasCells, IsLive, table_of, Appends, StaysLive, HasRoomBehind, AppendsBehind, AllStayLive};
+ghost use Rattle.factor_core.specs.Tables.{AreCounts, states_in, stride_of, size_of, stride_over};
 
 use crate::copies::{Step, copy_at};
 use crate::orders::list_nodes;
@@ -29,12 +29,12 @@ fn first_of_state(counts: &[usize], slot: &Slot, node: usize, state: usize) -> u
     requires state { state < 256 }
     requires start { slot.now.start ≤ 2 ^ 32 }
     requires fits { size_of counts.now slot.now.scope ≤ 2 ^ 32 }
-    requires near { stride_of (states_in counts.now) (length counts.now) (holds slot.now.scope) node
+    requires near { stride_over counts.now slot.now.scope node
         ≤ 2 ^ 32 }
     ensures { result
         ≡ slot.now.start
         + state
-        * stride_of (states_in counts.now) (length counts.now) (holds slot.now.scope) node }
+        * stride_over counts.now slot.now.scope node }
 {
     slot.start + state * stride(counts, &slot.scope, node)
 }
@@ -114,9 +114,8 @@ pub fn reorder_behind<C: Cell>(
     ensures cells { HasCells C.ring diagram.now.nodes nodes.now
         (part (space all.new (used + result.len)).cells result.start result.len)
         (table_of C.ring diagram.now.nodes (space all.old used).cells slot.now) }
-    ensures stays { (s : Slot) → IsLive diagram.now.nodes (space all.old used).cells s
-        → StaysLive C.ring diagram.now.nodes (space all.old used).cells
-        (space all.new (used + result.len)).cells s }
+    ensures stays { AllStayLive C.ring diagram.now.nodes (space all.old used).cells
+        (space all.new (used + result.len)).cells }
 {
     let mut counts = [1; MOST_NODES];
     list_states(&mut counts, diagram);

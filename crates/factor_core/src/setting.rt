@@ -3,7 +3,7 @@
 ghost use Rattle.std.specs.Prelude.{◌≡◌, ◌+◌, ◌*◌, ◌^◌, ◌<◌, ◌≤◌, All, length, take, ◌++◌};
 ghost use Rattle.node_sets.specs.Sets.{holds};
 ghost use Rattle.factor_core.specs.Copies.{steps_of};
-ghost use Rattle.factor_core.specs.Tables.{AreCounts, states_in, stride_of, size_of, axes_of, rows_of, row_of, starts_of};
+ghost use Rattle.factor_core.specs.Tables.{AreCounts, states_in, stride_of, size_of, axes_of, rows_of, row_of, starts_of, stride_over};
 
 use crate::copies::Step;
 use crate::sizes::stride;
@@ -19,7 +19,7 @@ pub fn set_axes(axes: &mut [Axis], counts: &[usize], scope: &NodeSet, order: &[u
     requires fits { size_of counts.now scope.now ≤ 2 ^ 32 }
     ensures { take (length order.now) axes.new
         ≡ axes_of (states_in counts.now)
-        (stride_of (states_in counts.now) (length counts.now) (holds scope.now)) order.now }
+        (stride_over counts.now scope.now) order.now }
 {
     for i in 0..order.len() {
         axes[i] = Axis {
@@ -77,7 +77,7 @@ pub fn set_steps(steps: &mut [Step], counts: &[usize], scope: &NodeSet, order: &
     requires fits { size_of counts.now scope.now ≤ 2 ^ 32 }
     ensures { take (length order.now) steps.new
         ≡ steps_of (states_in counts.now)
-        (stride_of (states_in counts.now) (length counts.now) (holds scope.now)) order.now }
+        (stride_over counts.now scope.now) order.now }
 {
     for i in 0..order.len() {
         steps[i] = Step {

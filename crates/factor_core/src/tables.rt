@@ -8,7 +8,7 @@ ghost use Rattle.maid_model.specs.Graph.{AllDifferent};
 ghost use Rattle.maid_model.specs.Diagrams.{IsDiagram};
 ghost use Rattle.maid_model.specs.Nodes.{counts_of, states_of, rows_under};
 ghost use Rattle.plan_sums.specs.Plans.{has};
-ghost use Rattle.factor_core.specs.Copies.{steps_of, steps_in, list_stride, list_table, gathered, count_of_steps, CanCopy};
+ghost use Rattle.factor_core.specs.Copies.{steps_of, steps_in, list_stride, list_table, gathered, count_of_steps, CanCopy, HasCopied};
 ghost use Rattle.factor_core.specs.Slots.{space, AppendsBehind};
 ghost use Rattle.factor_core.specs.Tables.{AreCounts, states_in};
 
@@ -94,9 +94,8 @@ fn copy_straight<C: Cell, S: Source<C>>(
     requires fit { S.is_fit source.now }
     requires cells { length (S.cells source.now) ≡ rows_under (states_in counts.now) list.now }
     requires room { rows_under (states_in counts.now) list.now ≤ length all.old - start }
-    ensures { take (start + count_of_steps (steps_in counts.now list.now list.now)) all.new
-        ≡ take start all.old
-        ++ gathered C.ring (S.cells source.now) (steps_in counts.now list.now list.now) 0 }
+    ensures { HasCopied C.ring (S.cells source.now) (steps_in counts.now list.now list.now) 0 start
+        all.old all.new }
 {
     let run = [Step {
         states: rows_after(counts, list, 0),
@@ -127,9 +126,8 @@ fn copy_listed<C: Cell, S: Source<C>>(
     requires room { rows_under (states_in counts.now) list.now ≤ length all.old - start }
     requires can { CanCopy (S.is_fit source.now) (length (S.cells source.now))
         (steps_in counts.now list.now order.now) 0 (length all.old - start) 0 }
-    ensures { take (start + count_of_steps (steps_in counts.now list.now order.now)) all.new
-        ≡ take start all.old
-        ++ gathered C.ring (S.cells source.now) (steps_in counts.now list.now order.now) 0 }
+    ensures { HasCopied C.ring (S.cells source.now) (steps_in counts.now list.now order.now) 0 start
+        all.old all.new }
 {
     if is_same(list, order) {
         copy_straight(counts, list, source, all, start);

@@ -13,7 +13,7 @@ ghost use Rattle.ring_sums.specs.Groups.{JoinFits, ProductsFit};
 ghost use Rattle.ring_sums.specs.Tables.{sum_out};
 ghost use Rattle.finite_sums.specs.Sums.{World};
 ghost use Rattle.factor_core.specs.Operations.{cells_by, first_table, restricted, NumbersFit, SumFits};
-ghost use Rattle.factor_core.specs.Slots.{nodes_in, cells_over, part, HasCells, IsLive, table_of, tables_of, Appends, AppendsTable, StaysLive, join_of, product_of_slots};
+ghost use Rattle.factor_core.specs.Slots.{nodes_in, cells_over, part, HasCells, IsLive, table_of, tables_of, Appends, AppendsTable, StaysLive, join_of, product_of_slots, AreStatesOf, IsCellAt, AllStayLive};
 
 use crate::appending::{join_behind, product_behind};
 use crate::firsts::table_behind;
@@ -237,8 +237,7 @@ impl<C: Cell> Workspace<C> {
         ensures cells { HasCells C.ring diagram.now.nodes nodes.now
             (part self.new.cells result.start result.len)
             (table_of C.ring diagram.now.nodes self.old.cells slot.now) }
-        ensures stays { (s : Slot) → IsLive diagram.now.nodes self.old.cells s
-            → StaysLive C.ring diagram.now.nodes self.old.cells self.new.cells s }
+        ensures stays { AllStayLive C.ring diagram.now.nodes self.old.cells self.new.cells }
     {
         blank(&mut self.cells, self.room);
         let strip = reorder_behind(diagram, slot, nodes, self.cells.as_mut_slice(), self.used);
@@ -249,11 +248,8 @@ impl<C: Cell> Workspace<C> {
     /// The slot's cell at these states of its nodes, the lowest node first.
     pub fn at(&self, diagram: &Diagram, slot: &Slot, states: &[usize]) -> C
         requires live { IsLive diagram.now.nodes self.now.cells slot.now }
-        requires states { AllZip (λ v s. s < states_of diagram.now.nodes v)
-            (nodes_in diagram.now.nodes (holds slot.now.scope)) states.now }
-        ensures { (w : World) → map w (nodes_in diagram.now.nodes (holds slot.now.scope))
-            ≡ states.now
-            → result ≡ (table_of C.ring diagram.now.nodes self.now.cells slot.now).cell w }
+        requires states { AreStatesOf diagram.now.nodes slot.now states.now }
+        ensures { IsCellAt C.ring diagram.now.nodes self.now.cells slot.now states.now result }
     {
         read_cell(diagram, slot, states, self.cells.as_slice(), self.used)
     }

@@ -3,7 +3,7 @@
 ghost use Rattle.std.specs.Prelude.{◌≡◌, ◌≤◌, ◌+◌, ◌^◌, ℕ, length, take};
 ghost use Rattle.cell_rings.specs.Sums.{cell_at};
 ghost use Rattle.finite_sums.specs.Sums.{InRange};
-ghost use Rattle.factor_core.specs.Tables.{IsJoined, IsUnion, states_in, size_of, place_of, join_cell, product_cell};
+ghost use Rattle.factor_core.specs.Tables.{IsJoined, IsUnion, states_in, size_of, place_of, join_cell, product_cell, HasTableAt};
 ghost use Rattle.factor_core.specs.Spaces.{CanJoinIn, CanMultiplyIn};
 
 use crate::joins::join_into;
@@ -38,9 +38,8 @@ pub fn join_at<C: Cell>(
     requires scope { IsJoined counts.now slots.now node scope.now }
     requires can { CanJoinIn C.ring (take start all.old) counts.now slots.now node }
     ensures kept { take start all.new ≡ take start all.old }
-    ensures cells { (w : ℕ → ℕ) → InRange (states_in counts.now) w
-        → cell_at C.ring all.new (start + place_of counts.now scope.now w)
-        ≡ join_cell C.ring (take start all.old) counts.now slots.now node w }
+    ensures cells { HasTableAt C.ring counts.now scope.now start all.new
+        (join_cell C.ring (take start all.old) counts.now slots.now node) }
 {
     let (cells, rest) = all.split_at_mut(start);
     let (out, _) = rest.split_at_mut(len);
@@ -64,9 +63,8 @@ pub fn multiply_at<C: Cell>(
     requires scope { IsUnion counts.now slots.now scope.now }
     requires can { CanMultiplyIn C.ring (take start all.old) counts.now slots.now }
     ensures kept { take start all.new ≡ take start all.old }
-    ensures cells { (w : ℕ → ℕ) → InRange (states_in counts.now) w
-        → cell_at C.ring all.new (start + place_of counts.now scope.now w)
-        ≡ product_cell C.ring (take start all.old) counts.now slots.now w }
+    ensures cells { HasTableAt C.ring counts.now scope.now start all.new
+        (product_cell C.ring (take start all.old) counts.now slots.now) }
 {
     let (cells, rest) = all.split_at_mut(start);
     let (out, _) = rest.split_at_mut(len);
