@@ -112,6 +112,11 @@ pub record FitsAnswer (nodes : List NodeView) (answer : AnswerView) : Type 0 whe
   pub choices : All (λ r. r.choice < states_of nodes answer.decision) answer.rows
   pub worths : All (λ r. IfSome r.worth IsReduced) answer.rows
 
+-- so it is where there is a row for each choice of the decision's parents' states, with choices in range
+abbrev pub WhereRowsFit : List NodeView → ℕ → List Row → Type 0 → Type 0
+WhereRowsFit nodes v rows So =
+    length rows ≡ rows_of nodes v → All (λ r. r.choice < states_of nodes v) rows → So
+
 -- each decision has an answered row for each choice of its parents' states, with choices in range
 abbrev pub FitsAnswers : List NodeView → List AnswerView → Type 0
 FitsAnswers nodes answers = (v : ℕ) → IsDecision nodes v

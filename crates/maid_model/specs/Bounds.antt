@@ -1,5 +1,5 @@
 -- The weight bound, under which every sum and fraction has room in 128 bits.
-use Rattle.std.specs.Prelude.{ℕ, ◌≤◌, ◌+◌, ◌*◌, ◌^◌, min, max, List}
+use Rattle.std.specs.Prelude.{ℕ, ◌≤◌, ◌*◌, ◌^◌, min, max, List}
 use Rattle.maid_model.specs.declared.limits.TheConstants.{COUNT_END}
 use Rattle.maid_model.specs.declared.diagrams.Kind.{Kind}
 use Rattle.maid_model.specs.declared.diagrams.Kind.TheVariants.{Chance, Decision, Utility}
@@ -23,10 +23,14 @@ bound_factor nodes v = bound_by (node_at nodes v).kind (chance_total nodes v) (s
 abbrev pub bound_product : List NodeView → ℕ
 bound_product nodes = nat_product_over (bound_factor nodes) (numbers_of nodes)
 
--- the product over all nodes, times the greatest of the utilities' scale and their summed greatest values
+-- that weight has room, times the greatest of the utilities' scale and their summed greatest values
+abbrev pub HasRoomForWeight : DiagramView → ℕ → Type 0
+HasRoomForWeight d weight =
+    weight * max (10 ^ d.decimals) (greatest_utility d.nodes) ≤ greatest_number
+
+-- the product over all nodes has room
 abbrev pub KeepsBound : DiagramView → Type 0
-KeepsBound d =
-    bound_product d.nodes * max (10 ^ d.decimals) (greatest_utility d.nodes) ≤ greatest_number
+KeepsBound d = HasRoomForWeight d (bound_product d.nodes)
 
 -- how many worlds there are: the product of the state counts of all chance nodes and decisions, since a utility has
 -- one state

@@ -1,7 +1,7 @@
 -- The weight of a world, and the sums over worlds: expected utilities, and what a decision's states are worth in a row.
-use Rattle.std.specs.Prelude.{ℕ, Bool, ◌&&◌, List, [], ◌∷◌, slice_index_or, ℤ, pos, ◌*ℤ◌, ◌==◌, if◌then◌else◌, nat_abs, max}
+use Rattle.std.specs.Prelude.{◌≡◌, ℕ, ◌+◌, ◌*◌, ◌<◌, Bool, ◌&&◌, List, [], ◌∷◌, slice_index, slice_index_or, ℤ, pos, ◌*ℤ◌, ◌==◌, if◌then◌else◌, nat_abs, max}
 use Rattle.maid_model.specs.Views.{NodeView, RuleView}
-use Rattle.maid_model.specs.Nodes.{agent_of, node_at, states_of, numbers_of, is_utility, is_utility_of}
+use Rattle.maid_model.specs.Nodes.{agent_of, node_at, states_of, rows_of, numbers_of, is_utility, is_utility_of}
 use Rattle.maid_model.specs.Graph.{descends}
 use Rattle.finite_sums.specs.Sums.{World, sum_over, sum_each, product_over, nat_product_over, nat_sum_over}
 use Rattle.maid_model.specs.Tables.{row_of, table, weight_total}
@@ -65,6 +65,16 @@ gain_at nodes p d state row = sum_worlds nodes (λ w.
 abbrev pub mass_at : List NodeView → List RuleView → ℕ → ℕ → ℤ
 mass_at nodes p d row =
     sum_worlds nodes (λ w. if is_at nodes d 0 row w then weight_without nodes p d w else pos 0)
+
+-- the gain of each state in each row of the decision, row by row and the state fastest
+abbrev pub AreGainsAt : List NodeView → List RuleView → ℕ → List ℤ → Type 0
+AreGainsAt nodes p d gains = (row s : ℕ) → row < rows_of nodes d → s < states_of nodes d
+    → slice_index_or gains (row * states_of nodes d + s) (pos 0) ≡ gain_at nodes p d s row
+
+-- the mass of each row of the decision
+abbrev pub AreMassesAt : List NodeView → List RuleView → ℕ → List ℕ → Type 0
+AreMassesAt nodes p d masses =
+    (row : ℕ) → row < rows_of nodes d → pos (slice_index masses row) ≡ mass_at nodes p d row
 
 -- the greatest absolute value of a list
 abbrev pub greatest_abs : List ℤ → ℕ

@@ -1,5 +1,5 @@
 -- Notions that only contracts of private functions cite.
-use Rattle.std.specs.Prelude.{◌≡◌, ◌≢◌, ℕ, ◌<◌, ◌≤◌, List, length, slice_index, slice_index_or, ℤ, pos, if◌then◌else◌}
+use Rattle.std.specs.Prelude.{◌≡◌, ◌≢◌, ℕ, ◌+◌, ◌<◌, ◌≤◌, ◌==◌, List, length, slice_index, slice_index_or, ℤ, pos, if◌then◌else◌}
 use Rattle.node_sets.specs.declared.sets.NodeSet.{NodeSet}
 use Rattle.node_sets.specs.Sets.{holds, IsIn}
 use Rattle.maid_model.specs.declared.diagrams.Kind.TheVariants.{Utility}
@@ -34,3 +34,7 @@ marked_utility nodes marks w = sum_each (λ v. marked_value nodes marks v w) (nu
 abbrev pub MarksUtilities : List NodeView → NodeSet → Type 0
 MarksUtilities nodes marks =
     (v : ℕ) → v < length nodes → IsIn marks v → (node_at nodes v).kind ≡ Utility
+
+-- a row's mass after a world of that weight, which counts where the decision has its first state
+abbrev pub mass_after : ℕ → ℕ → ℕ → ℕ
+mass_after state weight mass = if state == 0 then mass + weight else mass

@@ -30,6 +30,10 @@ worlds_from (c ∷ cs) [] = []
 worlds_from (c ∷ cs) (x ∷ xs) = map (λ ys. x ∷ ys) (worlds_from cs xs)
     ++ flat_map (λ s. map (λ ys. s ∷ ys) (worlds cs)) (range_with_len (x + 1) (c - (x + 1)))
 
+-- the world ys comes next behind xs in that list
+abbrev pub IsNextWorld : List ℕ → List ℕ → List ℕ → Type 0
+IsNextWorld counts xs ys = worlds_from counts xs ≡ xs ∷ worlds_from counts ys
+
 -- the first world of n nodes
 abbrev pub first_world : ℕ → List ℕ
 first_world n = replicate n 0

@@ -1,8 +1,8 @@
 //! Rules that take one state in each row.
 
-ghost use Rattle.std.specs.Prelude.{◌≡◌, ◌<◌, ◌++◌, ℕ, All, IfOk, OnOk, length, map};
-ghost use Rattle.maid_model.specs.Answers.{FitsAnswers, pure_profile, rows_at};
-ghost use Rattle.maid_model.specs.Nodes.{IsDecision, states_of, rows_of};
+ghost use Rattle.std.specs.Prelude.{◌≡◌, ◌<◌, ◌++◌, ℕ, IfOk, OnOk, length, map};
+ghost use Rattle.maid_model.specs.Answers.{FitsAnswers, pure_profile, rows_at, WhereRowsFit};
+ghost use Rattle.maid_model.specs.Nodes.{IsDecision};
 ghost use Rattle.maid_model.specs.Profiles.{IsProfile, IsRule, pure_row, pure_rule};
 ghost use Rattle.maid_model.specs.Tables.{rule_total};
 
@@ -45,9 +45,8 @@ impl Rule {
         ensures choices { IfOk result (λ r.
             r ≡ pure_rule diagram.now.nodes decision (map (λ row. row.choice) rows.now)) }
         // It is a rule of the decision where there is a choice in range for each row of the parents' states.
-        ensures rule { length rows.now ≡ rows_of diagram.now.nodes decision
-            → All (λ row. row.choice < states_of diagram.now.nodes decision) rows.now
-            → IfOk result (IsRule diagram.now.nodes) }
+        ensures rule { WhereRowsFit diagram.now.nodes decision rows.now
+            (IfOk result (IsRule diagram.now.nodes)) }
     {
         let states = diagram.states(decision);
         let mut weights = Vec::new(alloc);

@@ -1,12 +1,13 @@
 //! The two sums over all worlds.
 
-ghost use Rattle.std.specs.Prelude.{◌≡◌, ℕ, ◌+◌, ◌*◌, ◌^◌, ◌<◌, ◌≤◌, max, length, pos, ◌+ℤ◌, ◌*ℤ◌, nat_abs, slice_index, slice_index_or, slice_set, ◌==◌, if◌then◌else◌};
+ghost use Rattle.std.specs.Prelude.{◌≡◌, ℕ, ◌+◌, ◌*◌, ◌<◌, ◌≤◌, length, pos, ◌+ℤ◌, ◌*ℤ◌, nat_abs, slice_index, slice_index_or, slice_set};
 ghost use Rattle.maid_model.specs.Nodes.{IsDecision, states_of, rows_of, counts_of};
-ghost use Rattle.maid_model.specs.Private.{MarksUtilities, marked_utility};
+ghost use Rattle.maid_model.specs.Private.{MarksUtilities, marked_utility, mass_after};
 ghost use Rattle.maid_model.specs.Diagrams.{greatest_number};
 ghost use Rattle.maid_model.specs.Profiles.{IsProfile};
-ghost use Rattle.maid_model.specs.Gains.{gain_of, gain_at, mass_at, mass, base_mass, greatest_utility};
+ghost use Rattle.maid_model.specs.Gains.{gain_of, mass, base_mass, greatest_utility, AreGainsAt, AreMassesAt};
 ghost use Rattle.maid_model.specs.Worlds.{IsWorld, first_world, world_of};
+ghost use Rattle.maid_model.specs.Bounds.{HasRoomForWeight};
 
 use crate::diagrams::Diagram;
 use crate::profiles::Profile;
@@ -21,9 +22,7 @@ use node_sets::NodeSet;
 pub fn leaf_sum(diagram: &Diagram, profile: &Profile, agent: usize, world: &mut World) -> i128
     requires profile { IsProfile diagram.now.nodes profile.now }
     requires first { world.old ≡ first_world (length diagram.now.nodes) }
-    requires fits { mass diagram.now.nodes profile.now
-        * max (10 ^ diagram.now.decimals) (greatest_utility diagram.now.nodes)
-        ≤ greatest_number }
+    requires fits { HasRoomForWeight diagram.now (mass diagram.now.nodes profile.now) }
     ensures sum { result ≡ gain_of diagram.now.nodes profile.now agent }
     ensures small { nat_abs result ≤ greatest_number }
     ensures again { world.new ≡ world.old }
@@ -58,21 +57,14 @@ pub fn base_sums(
     requires gains { length gains.old
         ≡ rows_of diagram.now.nodes decision * states_of diagram.now.nodes decision }
     requires masses { length masses.old ≡ rows_of diagram.now.nodes decision }
-    requires fits { base_mass diagram.now.nodes profile.now decision
-        * max (10 ^ diagram.now.decimals) (greatest_utility diagram.now.nodes)
-        ≤ greatest_number }
-    ensures gains { (row s : ℕ) → row < rows_of diagram.now.nodes decision
-        → s < states_of diagram.now.nodes decision
-        → slice_index_or gains.new (row * states_of diagram.now.nodes decision + s) (pos 0)
-        ≡ gain_at diagram.now.nodes profile.now decision s row }
-    ensures masses { (row : ℕ) → row < rows_of diagram.now.nodes decision
-        → pos (slice_index masses.new row) ≡ mass_at diagram.now.nodes profile.now decision row }
+    requires fits { HasRoomForWeight diagram.now
+        (base_mass diagram.now.nodes profile.now decision) }
+    ensures gains { AreGainsAt diagram.now.nodes profile.now decision gains.new }
+    ensures masses { AreMassesAt diagram.now.nodes profile.now decision masses.new }
 
     // The room that the bound leaves in them.
     ensures gains_small { (i : ℕ) → nat_abs (slice_index_or gains.new i (pos 0)) ≤ greatest_number }
-    ensures masses_small { (row : ℕ) → slice_index masses.new row
-        * max (10 ^ diagram.now.decimals) (greatest_utility diagram.now.nodes)
-        ≤ greatest_number }
+    ensures masses_small { (row : ℕ) → HasRoomForWeight diagram.now (slice_index masses.new row) }
     ensures again { world.new ≡ world.old }
 {
     let places = rule_places(diagram, profile);
@@ -140,9 +132,8 @@ fn add_gain(gains: &mut [i128], cell: usize, gain: i128)
 fn add_mass(masses: &mut [u128], row: usize, state: usize, weight: u128)
     requires row { row < length masses.old }
     requires fits { slice_index masses.old row + weight ≤ greatest_number }
-    ensures { masses.new ≡ slice_set masses.old row (if state == 0
-        then slice_index masses.old row + weight
-        else slice_index masses.old row) }
+    ensures { masses.new
+        ≡ slice_set masses.old row (mass_after state weight (slice_index masses.old row)) }
 {
     if state == 0 {
         masses[row] += weight;

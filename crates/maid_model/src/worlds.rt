@@ -3,7 +3,7 @@
 ghost use Rattle.std.specs.Prelude.{◌≡◌, ◌<◌, ◌*◌, IfOk, IsTrue, IsFalse, length, [], ◌∷◌};
 ghost use Rattle.maid_model.specs.Nodes.{counts_of, states_of, rows_of};
 ghost use Rattle.maid_model.specs.Tables.{row_of, cell_of};
-ghost use Rattle.maid_model.specs.Worlds.{IsWorld, first_world, worlds_from, world_of};
+ghost use Rattle.maid_model.specs.Worlds.{IsWorld, first_world, worlds_from, world_of, IsNextWorld};
 
 use crate::diagrams::Diagram;
 use std::alloc::{AllocError, Global};
@@ -61,9 +61,7 @@ impl World {
     pub fn next(&mut self, diagram: &Diagram) -> bool
         requires { IsWorld (counts_of diagram.now.nodes) self.old }
         ensures world { IsWorld (counts_of diagram.now.nodes) self.new }
-        ensures more { IsTrue result
-            → worlds_from (counts_of diagram.now.nodes) self.old
-            ≡ self.old ∷ worlds_from (counts_of diagram.now.nodes) self.new }
+        ensures more { IsTrue result → IsNextWorld (counts_of diagram.now.nodes) self.old self.new }
         ensures last { IsFalse result
             → worlds_from (counts_of diagram.now.nodes) self.old ≡ self.old ∷ [] }
         ensures again { IsFalse result → self.new ≡ first_world (length diagram.now.nodes) }
