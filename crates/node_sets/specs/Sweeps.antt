@@ -27,3 +27,13 @@ pub record IsFollowed
   pub sound : (v : ℕ) → IsIn after v → LeadsFrom Step (IsIn before) v
   pub steady : changed ≡ false → (after ≡ before) × Done before
   pub fewer : changed ≡ true → room after < room before
+
+-- the arcs into v were followed once
+abbrev pub IsVisit : (ℕ → List ℕ) → Way → ℕ → NodeSet → NodeSet → Bool → Type 0
+IsVisit parents way v before after changed =
+    IsFollowed (Step parents way) (ClosedAt parents way v) before after changed
+
+-- all arcs of n nodes were followed once
+abbrev pub IsSweep : (ℕ → List ℕ) → Way → ℕ → NodeSet → NodeSet → Bool → Type 0
+IsSweep parents way n before after changed =
+    IsFollowed (Step parents way) (ClosedInto parents way (λ v. v < n)) before after changed

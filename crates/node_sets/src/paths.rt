@@ -4,7 +4,7 @@ ghost use Rattle.std.specs.Prelude.{◌≡◌, ℕ, ◌<◌, ◌↔◌, IsTrue, 
 ghost use Rattle.node_sets.specs.declared.sets.TheConstants.{MOST_NODES};
 ghost use Rattle.node_sets.specs.Sets.{IsIn, room};
 ghost use Rattle.node_sets.specs.Paths.{ParentArc, IsPath, LeadsFrom};
-ghost use Rattle.node_sets.specs.Sweeps.{Step, ClosedAt, ClosedInto, IsFollowed};
+ghost use Rattle.node_sets.specs.Sweeps.{Step, ClosedInto, IsSweep, IsVisit};
 
 use crate::graphs::Graph;
 use crate::sets::NodeSet;
@@ -32,8 +32,7 @@ fn has_parent_in<G: Graph>(graph: &G, v: usize, set: &NodeSet) -> bool
 fn follow_down<G: Graph>(graph: &G, v: usize, set: &mut NodeSet) -> bool
     requires within { v < G.size_of graph.now }
     requires small { v < MOST_NODES }
-    ensures { IsFollowed (Step (G.parents_of graph.now) Way.Down)
-        (ClosedAt (G.parents_of graph.now) Way.Down v) set.old set.new result }
+    ensures { IsVisit (G.parents_of graph.now) Way.Down v set.old set.new result }
 {
     if set.holds(v) {
         return false;
@@ -45,8 +44,7 @@ fn follow_down<G: Graph>(graph: &G, v: usize, set: &mut NodeSet) -> bool
 fn follow_up<G: Graph>(graph: &G, v: usize, set: &mut NodeSet) -> bool
     requires within { v < G.size_of graph.now }
     requires small { v < MOST_NODES }
-    ensures { IsFollowed (Step (G.parents_of graph.now) Way.Up)
-        (ClosedAt (G.parents_of graph.now) Way.Up v) set.old set.new result }
+    ensures { IsVisit (G.parents_of graph.now) Way.Up v set.old set.new result }
 {
     set.holds(v) && set.insert_all(graph.parents(v))
 }
@@ -54,8 +52,7 @@ fn follow_up<G: Graph>(graph: &G, v: usize, set: &mut NodeSet) -> bool
 fn visit<G: Graph>(graph: &G, way: Way, v: usize, set: &mut NodeSet) -> bool
     requires within { v < G.size_of graph.now }
     requires small { v < MOST_NODES }
-    ensures { IsFollowed (Step (G.parents_of graph.now) way)
-        (ClosedAt (G.parents_of graph.now) way v) set.old set.new result }
+    ensures { IsVisit (G.parents_of graph.now) way v set.old set.new result }
 {
     match way {
         Way::Down => follow_down(graph, v, set),
@@ -65,9 +62,7 @@ fn visit<G: Graph>(graph: &G, way: Way, v: usize, set: &mut NodeSet) -> bool
 
 /// Follows every arc once, nodes from first to last.
 fn sweep_on<G: Graph>(graph: &G, way: Way, set: &mut NodeSet) -> bool
-    ensures { IsFollowed (Step (G.parents_of graph.now) way)
-        (ClosedInto (G.parents_of graph.now) way (λ x. x < G.size_of graph.now)) set.old set.new
-        result }
+    ensures { IsSweep (G.parents_of graph.now) way (G.size_of graph.now) set.old set.new result }
 {
     let mut changed = false;
     for v in 0..graph.count() {
@@ -78,9 +73,7 @@ fn sweep_on<G: Graph>(graph: &G, way: Way, set: &mut NodeSet) -> bool
 
 /// Follows every arc once, nodes from last to first.
 fn sweep_back<G: Graph>(graph: &G, way: Way, set: &mut NodeSet) -> bool
-    ensures { IsFollowed (Step (G.parents_of graph.now) way)
-        (ClosedInto (G.parents_of graph.now) way (λ x. x < G.size_of graph.now)) set.old set.new
-        result }
+    ensures { IsSweep (G.parents_of graph.now) way (G.size_of graph.now) set.old set.new result }
 {
     let mut changed = false;
     for v in (0..graph.count()).rev() {
