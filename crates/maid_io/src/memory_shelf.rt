@@ -4,9 +4,9 @@ ghost use Rattle.std.specs.Prelude.{◌≡◌, ◌≢◌, ◌≤◌, ◌+◌, �
 ghost use Rattle.std.specs.Io.{ReadsAtMost};
 ghost use Rattle.std.specs.Io.KnownBytes.{ReadConsumes};
 ghost use Rattle.std.specs.Option.{option_map};
-ghost use Rattle.maid_io.specs.Count.{saturating_sum, counts_after_start, counts_after_read};
-ghost use Rattle.maid_io.specs.Device.{File, file_of, Opens, HasCause, StartHasCause, CountsGiven};
-ghost use Rattle.maid_io.specs.Memory.{ShelfState, CallFails, file, bytes_at, left_bytes, IsStarted};
+ghost use Rattle.maid_io.specs.Count.{counts_after_start, counts_after_read};
+ghost use Rattle.maid_io.specs.Device.{File, file_of, Opens, HasCause, CountsGiven, StartIsCounted};
+ghost use Rattle.maid_io.specs.Memory.{ShelfState, CallFails, file, bytes_at, left_bytes, IsStarted, new_shelf, shelf_after_call};
 
 use crate::{Failed, Opened, Shelf};
 use std::marker::Model;
@@ -86,14 +86,7 @@ impl MemShelf {
     /// in `fails`. One read gives at most `piece` bytes.
     pub fn new(files: Vec<(String, Vec<u8>)>, fails: Vec<u64>, piece: usize) -> MemShelf
         requires { 1 ≤ piece }
-        ensures { result ≡ record {
-          files = map file files.items;
-          left = [];
-          fails = fails.items;
-          piece = piece;
-          calls = 0;
-          counts = record { faults = 0; absences = 0; given = 0 };
-        } }
+        ensures { result ≡ new_shelf (map file files.items) fails.items piece }
     {
         MemShelf {
             files,
@@ -122,18 +115,14 @@ impl Shelf for MemShelf {
     fn start(&mut self, name: &str) -> Opened
         ensures opened { Opens result (Some self.old.files) name.now (Some self.new.left) }
         ensures given { self.new.counts.given ≡ 0 }
-        ensures cause { StartHasCause self.old.counts.faults self.new.counts.faults
-            self.old.counts.absences self.new.counts.absences result }
+        ensures cause { StartIsCounted self.old.counts self.new.counts result }
         ensures list { Some self.new.files ≡ Some self.old.files }
 
         // Exactly when it fails.
         ensures fails { (result ≡ Opened.Failed) ↔ CallFails self.old }
         ensures memory { result ≢ Opened.NoMemory }
-        ensures rest { self.new ≡ record self.old {
-          left = self.new.left;
-          calls = saturating_sum self.old.calls 1;
-          counts = counts_after_start result self.old.counts;
-        } }
+        ensures rest { self.new
+            ≡ shelf_after_call self.old self.new.left (counts_after_start result self.old.counts) }
     {
         self.calls = self.calls.saturating_add(1);
         self.started = None;
@@ -162,11 +151,8 @@ impl Shelf for MemShelf {
         ensures fails { IsErr result ↔ CallFails self.old }
         ensures count { IfOk result (λ n.
             n ≡ min (length self.old.left) (min (length buf.old) self.old.piece)) }
-        ensures rest { self.new ≡ record self.old {
-          left = self.new.left;
-          calls = saturating_sum self.old.calls 1;
-          counts = counts_after_read result self.old.counts;
-        } }
+        ensures rest { self.new
+            ≡ shelf_after_call self.old self.new.left (counts_after_read result self.old.counts) }
     {
         self.calls = self.calls.saturating_add(1);
         if self.fails.contains(&self.calls) {

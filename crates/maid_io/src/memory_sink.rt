@@ -1,11 +1,11 @@
 //! A sink in memory.
 
-ghost use Rattle.std.specs.Prelude.{◌≡◌, ◌≤◌, ◌+◌, ◌↔◌, min, [], Some, length, IfOk, MatchResult, IsErr};
+ghost use Rattle.std.specs.Prelude.{◌≡◌, ◌≤◌, ◌+◌, ◌↔◌, min, Some, length, IfOk, MatchResult, IsErr};
 ghost use Rattle.std.specs.Io.{ReadsAtMost, WritesAtMost};
 ghost use Rattle.std.specs.Io.KnownBytes.{WriteAppends};
-ghost use Rattle.maid_io.specs.Count.{saturating_sum, faults_after_write};
+ghost use Rattle.maid_io.specs.Count.{faults_after_write};
 ghost use Rattle.maid_io.specs.Device.{HasCause, TakesSome};
-ghost use Rattle.maid_io.specs.Memory.{SinkState, WriteFails};
+ghost use Rattle.maid_io.specs.Memory.{SinkState, WriteFails, new_sink, sink_after_write};
 
 use crate::{Failed, Sink};
 use std::alloc::{AllocError, Global};
@@ -53,15 +53,7 @@ impl MemSink {
         piece: usize,
     ) -> Result<MemSink, AllocError>
         requires { 1 ≤ piece }
-        ensures { IfOk result (λ s.
-            s ≡ record {
-              taken = [];
-              room = room;
-              fails = fails.items;
-              piece = piece;
-              calls = 0;
-              faults = 0;
-            }) }
+        ensures { IfOk result (λ s. s ≡ new_sink room fails.items piece) }
     {
         Ok(MemSink {
             taken: Vec::with_capacity(alloc, room)?,
@@ -98,12 +90,9 @@ impl Sink for MemSink {
             n ≡ min (length piece.now) (min self.old.piece self.old.room)) }
         ensures room { MatchResult result (λ n. self.new.room + n ≡ self.old.room)
             (λ _. self.new.room ≡ self.old.room) }
-        ensures rest { self.new ≡ record self.old {
-          taken = self.new.taken;
-          room = self.new.room;
-          calls = saturating_sum self.old.calls 1;
-          faults = faults_after_write result self.old.faults;
-        } }
+        ensures rest { self.new
+            ≡ sink_after_write self.old self.new.taken self.new.room
+            (faults_after_write result self.old.faults) }
     {
         self.calls = self.calls.saturating_add(1);
         let full = !piece.is_empty() && self.room == 0;
