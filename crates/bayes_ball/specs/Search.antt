@@ -1,5 +1,5 @@
 -- What a search is asked, and what its marks tell.
-use Rattle.std.specs.Prelude.{ℕ, List, length}
+use Rattle.std.specs.Prelude.{ℕ, List, length, ◌≡◌, ◌<◌, ◌↔◌}
 use Rattle.node_sets.specs.declared.sets.NodeSet.{NodeSet}
 use Rattle.node_sets.specs.Sets.{IsIn}
 use Rattle.maid_model.specs.Views.{NodeView}
@@ -19,3 +19,23 @@ abbrev pub IsReachedBy : List NodeView → NodeSet → Start → ℕ → Type 0
 IsReachedBy nodes given (Node x) v = IsReached (Arc nodes) (IsLive nodes) (IsIn given) x v
 IsReachedBy nodes given (ParentOf x) v =
     IsReachedFromParent (Arc nodes) (IsLive nodes) (IsIn given) (length nodes) x v
+
+-- the nodes to which active walks lead from the start
+abbrev pub AreReachedFrom : List NodeView → NodeSet → Start → NodeSet → Type 0
+AreReachedFrom nodes given start marked =
+    (v : ℕ) → v < length nodes → IsIn marked v ↔ IsReachedBy nodes given start v
+
+-- where the start is a node: the nodes of which an extra parent has an active walk to it
+abbrev pub AreParentsReachedFrom : List NodeView → NodeSet → Start → NodeSet → Type 0
+AreParentsReachedFrom nodes given start marked = (u v : ℕ) → start ≡ Node u → v < length nodes
+    → IsIn marked v ↔ IsReachedBy nodes given (ParentOf v) u
+
+-- the nodes to which active walks lead from some of the starts
+abbrev pub AreReachedFromAny : List NodeView → NodeSet → NodeSet → NodeSet → Type 0
+AreReachedFromAny nodes given starts marked = (v : ℕ) → v < length nodes
+    → IsIn marked v ↔ ((u : ℕ) × IsIn starts u × IsReachedBy nodes given (Node u) v)
+
+-- the nodes of which an extra parent has an active walk to some of the starts
+abbrev pub AreParentsReachedFromAny : List NodeView → NodeSet → NodeSet → NodeSet → Type 0
+AreParentsReachedFromAny nodes given starts marked = (v : ℕ) → v < length nodes
+    → IsIn marked v ↔ ((u : ℕ) × IsIn starts u × IsReachedBy nodes given (ParentOf v) u)

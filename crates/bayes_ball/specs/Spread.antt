@@ -1,5 +1,5 @@
 -- The steps of a search: two marks a node, one for each way of arrival.
-use Rattle.std.specs.Prelude.{◌≡◌, ℕ, ◌+◌, ◌<◌, ◌⊎◌, Bool, true, false, List}
+use Rattle.std.specs.Prelude.{◌≡◌, ℕ, ◌+◌, ◌<◌, ◌⊎◌, Bool, true, false, List, length}
 use Rattle.node_sets.specs.declared.sets.NodeSet.{NodeSet}
 use Rattle.node_sets.specs.Sets.{IsIn, room}
 use Rattle.maid_model.specs.Views.{NodeView}
@@ -7,7 +7,7 @@ use Rattle.maid_model.specs.Graph.{Arc}
 use Rattle.maid_model.specs.Relevance.{IsLive}
 use Rattle.bayes_ball.specs.declared.search.Start.{Start}
 use Rattle.bayes_ball.specs.declared.search.Start.TheVariants.{Node, ParentOf}
-use Rattle.bayes_ball.specs.Flow.{Way, Up, Down, Flows, IsLiveArc}
+use Rattle.bayes_ball.specs.Flow.{Way, Up, Down, Flows, IsLiveArc, IsClosed}
 
 abbrev pub IsMarked : NodeSet → NodeSet → Way → ℕ → Type 0
 IsMarked down up Up v = IsIn up v
@@ -45,6 +45,40 @@ pub record IsSpread
   pub sound : (w : Way) (v : ℕ) → IsMarked down' up' w v → Flows Arc Given (IsMarked down up) w v
   pub steady : changed ≡ false → (down' ≡ down) × (up' ≡ up) × Done down up
   pub fewer : changed ≡ true → room down' + room up' < room down + room up
+
+-- the live node has heard whether walks arrive at it from a parent
+abbrev pub IsHearing :
+    List NodeView → NodeSet → ℕ → NodeSet → NodeSet → NodeSet → NodeSet → Bool → Type 0
+IsHearing nodes given v down up down' up' changed =
+    IsSpread (LiveArc nodes) (IsIn given) (HearsAll nodes given v) down up down' up' changed
+
+-- the live node has told its parents whether walks go on up from it
+abbrev pub IsTelling :
+    List NodeView → NodeSet → ℕ → NodeSet → NodeSet → NodeSet → NodeSet → Bool → Type 0
+IsTelling nodes given v down up down' up' changed =
+    IsSpread (LiveArc nodes) (IsIn given) (TellsAll nodes given v) down up down' up' changed
+
+-- the arcs into v were followed once, in both directions
+abbrev pub IsVisit :
+    List NodeView → NodeSet → ℕ → NodeSet → NodeSet → NodeSet → NodeSet → Bool → Type 0
+IsVisit nodes given v down up down' up' changed =
+    IsSpread (LiveArc nodes) (IsIn given) (ClosedInto nodes given (λ x. x ≡ v)) down up down' up'
+    changed
+
+-- all arcs were followed once, in both directions
+abbrev pub IsSweep :
+    List NodeView → NodeSet → NodeSet → NodeSet → NodeSet → NodeSet → Bool → Type 0
+IsSweep nodes given down up down' up' changed =
+    IsSpread (LiveArc nodes) (IsIn given) (ClosedInto nodes given (λ x. x < length nodes)) down up
+    down' up' changed
+
+-- the mark spreads from these marks by the rules
+abbrev pub FlowsFrom : List NodeView → NodeSet → NodeSet → NodeSet → Way → ℕ → Type 0
+FlowsFrom nodes given down up w v = Flows (LiveArc nodes) (IsIn given) (IsMarked down up) w v
+
+-- no rule adds one to these marks
+abbrev pub AreClosed : List NodeView → NodeSet → NodeSet → NodeSet → Type 0
+AreClosed nodes given down up = IsClosed (LiveArc nodes) (IsIn given) (IsMarked down up)
 
 -- the node that a start names
 abbrev pub node_of : Start → ℕ

@@ -1,9 +1,9 @@
 //! Searches for active walks, from a node, from an extra parent of one, or from any of several nodes.
 
-ghost use Rattle.std.specs.Prelude.{◌≡◌, ℕ, ◌<◌, ◌↔◌, length};
+ghost use Rattle.std.specs.Prelude.{ℕ, ◌<◌, ◌↔◌, length};
 ghost use Rattle.node_sets.specs.declared.sets.TheConstants.{MOST_NODES};
 ghost use Rattle.node_sets.specs.Sets.{IsIn};
-ghost use Rattle.bayes_ball.specs.Search.{CanStart, IsReachedBy};
+ghost use Rattle.bayes_ball.specs.Search.{CanStart, AreParentsReachedFrom, AreParentsReachedFromAny, AreReachedFrom, AreReachedFromAny};
 ghost use Rattle.bayes_ball.specs.Flow.{Way};
 ghost use Rattle.bayes_ball.specs.Spread.{IsMarked, StartsAt, node_of};
 
@@ -39,11 +39,9 @@ fn begin(start: Start) -> (NodeSet, NodeSet)
 pub fn reach(diagram: &Diagram, start: Start, given: &NodeSet) -> Marks
     requires given { (v : ℕ) → IsIn given.now v → v < length diagram.now.nodes }
     requires start { CanStart diagram.now.nodes given.now start }
-    ensures reached { (v : ℕ) → v < length diagram.now.nodes
-        → IsIn result.reached v ↔ IsReachedBy diagram.now.nodes given.now start v }
-    ensures parents { (u v : ℕ) → start ≡ Start.Node u → v < length diagram.now.nodes
-        → IsIn result.parents_reached v
-        ↔ IsReachedBy diagram.now.nodes given.now (Start.ParentOf v) u }
+    ensures reached { AreReachedFrom diagram.now.nodes given.now start result.reached }
+    ensures parents { AreParentsReachedFrom diagram.now.nodes given.now start
+        result.parents_reached }
 {
     let _count = diagram.count();
     let (mut down, mut up) = begin(start);
@@ -57,14 +55,9 @@ pub fn reach_from_any(diagram: &Diagram, starts: &NodeSet, given: &NodeSet) -> M
     requires given { (v : ℕ) → IsIn given.now v → v < length diagram.now.nodes }
     requires starts { (u : ℕ) → IsIn starts.now u
         → CanStart diagram.now.nodes given.now (Start.Node u) }
-    ensures reached { (v : ℕ) → v < length diagram.now.nodes
-        → IsIn result.reached v
-        ↔ ((u : ℕ) × IsIn starts.now u
-        × IsReachedBy diagram.now.nodes given.now (Start.Node u) v) }
-    ensures parents { (v : ℕ) → v < length diagram.now.nodes
-        → IsIn result.parents_reached v
-        ↔ ((u : ℕ) × IsIn starts.now u
-        × IsReachedBy diagram.now.nodes given.now (Start.ParentOf v) u) }
+    ensures reached { AreReachedFromAny diagram.now.nodes given.now starts.now result.reached }
+    ensures parents { AreParentsReachedFromAny diagram.now.nodes given.now starts.now
+        result.parents_reached }
 {
     let _count = diagram.count();
     let mut down = NodeSet::empty();

@@ -4,9 +4,9 @@ ghost use Rattle.std.specs.Prelude.{◌≡◌, ℕ, ◌+◌, ◌<◌, ◌⊎◌,
 ghost use Rattle.maid_model.specs.Graph.{Arc};
 ghost use Rattle.maid_model.specs.Relevance.{IsLive};
 ghost use Rattle.node_sets.specs.declared.sets.TheConstants.{MOST_NODES};
-ghost use Rattle.node_sets.specs.Sets.{IsIn, Adds, room};
-ghost use Rattle.bayes_ball.specs.Flow.{Way, Flows, IsClosed};
-ghost use Rattle.bayes_ball.specs.Spread.{LiveArc, IsMarked, LeadsDown, LeadsUp, IsSpread, HearsAll, TellsAll, ClosedInto};
+ghost use Rattle.node_sets.specs.Sets.{Adds, room};
+ghost use Rattle.bayes_ball.specs.Flow.{Way};
+ghost use Rattle.bayes_ball.specs.Spread.{LiveArc, IsMarked, LeadsDown, LeadsUp, AreClosed, FlowsFrom, IsHearing, IsSweep, IsTelling, IsVisit};
 
 use crate::graph::is_live;
 use maid_model::Diagram;
@@ -59,8 +59,7 @@ fn hears_parent(diagram: &Diagram, v: usize, given: &NodeSet, down: &NodeSet, up
 fn hear(diagram: &Diagram, v: usize, given: &NodeSet, down: &mut NodeSet, up: &NodeSet) -> bool
     requires small { v < MOST_NODES }
     requires live { IsLive diagram.now.nodes v }
-    ensures { IsSpread (LiveArc diagram.now.nodes) (IsIn given.now)
-        (HearsAll diagram.now.nodes given.now v) down.old up.now down.new up.now result }
+    ensures { IsHearing diagram.now.nodes given.now v down.old up.now down.new up.now result }
 {
     if down.holds(v) {
         return false;
@@ -84,8 +83,7 @@ fn mark_parents(diagram: &Diagram, v: usize, up: &mut NodeSet) -> bool
 fn tell(diagram: &Diagram, v: usize, given: &NodeSet, down: &NodeSet, up: &mut NodeSet) -> bool
     requires small { v < MOST_NODES }
     requires live { IsLive diagram.now.nodes v }
-    ensures { IsSpread (LiveArc diagram.now.nodes) (IsIn given.now)
-        (TellsAll diagram.now.nodes given.now v) down.now up.old down.now up.new result }
+    ensures { IsTelling diagram.now.nodes given.now v down.now up.old down.now up.new result }
 {
     leads_up(v, given, down, up) && mark_parents(diagram, v, up)
 }
@@ -94,9 +92,7 @@ fn tell(diagram: &Diagram, v: usize, given: &NodeSet, down: &NodeSet, up: &mut N
 fn visit(diagram: &Diagram, v: usize, given: &NodeSet, down: &mut NodeSet, up: &mut NodeSet) -> bool
     requires small { v < MOST_NODES }
     requires within { v < length diagram.now.nodes }
-    ensures { IsSpread (LiveArc diagram.now.nodes) (IsIn given.now)
-        (ClosedInto diagram.now.nodes given.now (λ x. x ≡ v)) down.old up.old down.new up.new
-        result }
+    ensures { IsVisit diagram.now.nodes given.now v down.old up.old down.new up.new result }
 {
     if !is_live(diagram, v) {
         return false;
@@ -108,9 +104,7 @@ fn visit(diagram: &Diagram, v: usize, given: &NodeSet, down: &mut NodeSet, up: &
 
 /// Follows every arc once, nodes from first to last.
 fn sweep_on(diagram: &Diagram, given: &NodeSet, down: &mut NodeSet, up: &mut NodeSet) -> bool
-    ensures { IsSpread (LiveArc diagram.now.nodes) (IsIn given.now)
-        (ClosedInto diagram.now.nodes given.now (λ x. x < length diagram.now.nodes)) down.old up.old
-        down.new up.new result }
+    ensures { IsSweep diagram.now.nodes given.now down.old up.old down.new up.new result }
 {
     let mut changed = false;
     for v in 0..diagram.count() {
@@ -121,9 +115,7 @@ fn sweep_on(diagram: &Diagram, given: &NodeSet, down: &mut NodeSet, up: &mut Nod
 
 /// Follows every arc once, nodes from last to first.
 fn sweep_back(diagram: &Diagram, given: &NodeSet, down: &mut NodeSet, up: &mut NodeSet) -> bool
-    ensures { IsSpread (LiveArc diagram.now.nodes) (IsIn given.now)
-        (ClosedInto diagram.now.nodes given.now (λ x. x < length diagram.now.nodes)) down.old up.old
-        down.new up.new result }
+    ensures { IsSweep diagram.now.nodes given.now down.old up.old down.new up.new result }
 {
     let mut changed = false;
     for v in (0..diagram.count()).rev() {
@@ -136,10 +128,9 @@ fn sweep_back(diagram: &Diagram, given: &NodeSet, down: &mut NodeSet, up: &mut N
 fn sweep_twice(diagram: &Diagram, given: &NodeSet, down: &mut NodeSet, up: &mut NodeSet) -> bool
     ensures kept { (w : Way) (v : ℕ) → IsMarked down.old up.old w v → IsMarked down.new up.new w v }
     ensures sound { (w : Way) (v : ℕ) → IsMarked down.new up.new w v
-        → Flows (LiveArc diagram.now.nodes) (IsIn given.now) (IsMarked down.old up.old) w v }
+        → FlowsFrom diagram.now.nodes given.now down.old up.old w v }
     ensures fewer { IsTrue result → room down.new + room up.new < room down.old + room up.old }
-    ensures closed { IsFalse result
-        → IsClosed (LiveArc diagram.now.nodes) (IsIn given.now) (IsMarked down.new up.new) }
+    ensures closed { IsFalse result → AreClosed diagram.now.nodes given.now down.new up.new }
 {
     sweep_back(diagram, given, down, up) && sweep_on(diagram, given, down, up)
 }
@@ -148,9 +139,8 @@ fn sweep_twice(diagram: &Diagram, given: &NodeSet, down: &mut NodeSet, up: &mut 
 pub fn close(diagram: &Diagram, given: &NodeSet, down: &mut NodeSet, up: &mut NodeSet)
     ensures kept { (w : Way) (v : ℕ) → IsMarked down.old up.old w v → IsMarked down.new up.new w v }
     ensures sound { (w : Way) (v : ℕ) → IsMarked down.new up.new w v
-        → Flows (LiveArc diagram.now.nodes) (IsIn given.now) (IsMarked down.old up.old) w v }
-    ensures closed { IsClosed (LiveArc diagram.now.nodes) (IsIn given.now)
-        (IsMarked down.new up.new) }
+        → FlowsFrom diagram.now.nodes given.now down.old up.old w v }
+    ensures closed { AreClosed diagram.now.nodes given.now down.new up.new }
 {
     'sweeps: while sweep_twice(diagram, given, down, up) {}
 }
