@@ -34,18 +34,22 @@ with_arc nodes x d =
       cells = node.cells;
     })
 
--- the chance node x is a decision of the agent over its own parents
-abbrev pub as_decision : List NodeView → ℕ → ℕ → List NodeView
-as_decision nodes agent x =
+-- the node x as a decision of the agent over its own parents
+abbrev pub made_decision : List NodeView → ℕ → ℕ → NodeView
+made_decision nodes agent x =
     let node = node_at nodes x in
-    slice_set nodes x (record {
+    record {
       kind = Decision;
       owner = agent;
       more = [];
       states = node.states;
       parents = node.parents;
       cells = [];
-    })
+    }
+
+-- the chance node x is that decision
+abbrev pub as_decision : List NodeView → ℕ → ℕ → List NodeView
+as_decision nodes agent x = slice_set nodes x (made_decision nodes agent x)
 
 -- a decision that has become a chance node: in each row weight 1 on the answered choice
 abbrev pub as_chance : List NodeView → List AnswerView → ℕ → NodeView
