@@ -6,7 +6,7 @@ ghost use Rattle.net_lexer.specs.Bytes.{is_digit, is_percent, is_line_byte, is_q
 ghost use Rattle.net_lexer.specs.Numerals.{is_numeral};
 ghost use Rattle.net_lexer.specs.Strings.{is_open_string};
 ghost use Rattle.net_lexer.specs.Token.{is_name, is_signed};
-ghost use Rattle.net_lexer.specs.Pieces.{IsPieceOf, IsFaultAt, begins, is_bad_numeral, token_of};
+ghost use Rattle.net_lexer.specs.Pieces.{IsPieceOf, IsFaultAt, begins, is_bad_numeral, token_of, BeginsWithToken};
 
 use crate::bytes::{
     is_digit, is_run_byte, is_run_start, is_sign, is_white, is_word_byte, is_word_start,
@@ -155,11 +155,7 @@ fn comment_len(bytes: &[u8]) -> usize
 fn name_len(bytes: &[u8]) -> usize
     requires some { 0 < length bytes.now }
     requires begins { IsTrue (is_word_start (slice_index bytes.now 0)) }
-    ensures { IsPieceOf bytes.now (record {
-      kind = PieceKind.Token TokenKind.Word;
-      start = 0;
-      end = result;
-    }) }
+    ensures { BeginsWithToken bytes.now TokenKind.Word result }
 {
     word_len(bytes)
 }
@@ -167,12 +163,7 @@ fn name_len(bytes: &[u8]) -> usize
 fn string_len(bytes: &[u8]) -> Option<usize>
     requires some { 0 < length bytes.now }
     requires begins { IsTrue (is_quote (slice_index bytes.now 0)) }
-    ensures some { IfSome result (λ len.
-        IsPieceOf bytes.now (record {
-          kind = PieceKind.Token TokenKind.Text;
-          start = 0;
-          end = len;
-        })) }
+    ensures some { IfSome result (λ len. BeginsWithToken bytes.now TokenKind.Text len) }
     ensures none { IfNone result (IsTrue (is_open_string bytes.now)) }
 {
     match behind_quote(behind(bytes, 1)) {
@@ -185,8 +176,7 @@ fn string_len(bytes: &[u8]) -> Option<usize>
 fn run(bytes: &[u8]) -> Option<(TokenKind, usize)>
     requires some { 0 < length bytes.now }
     requires begins { IsTrue (is_run_start (slice_index bytes.now 0)) }
-    ensures some { IfSome result (λ p.
-        IsPieceOf bytes.now (record { kind = PieceKind.Token p.0; start = 0; end = p.1 })) }
+    ensures some { IfSome result (λ p. BeginsWithToken bytes.now p.0 p.1) }
     ensures none { IfNone result (IsTrue (is_bad_numeral bytes.now)) }
 {
     if let Some(len) = plain_len(bytes) {
@@ -205,8 +195,7 @@ fn run(bytes: &[u8]) -> Option<(TokenKind, usize)>
 
 fn punctuation(bytes: &[u8]) -> Option<TokenKind>
     requires { 0 < length bytes.now }
-    ensures some { IfSome result (λ kind.
-        IsPieceOf bytes.now (record { kind = PieceKind.Token kind; start = 0; end = 1 })) }
+    ensures some { IfSome result (λ kind. BeginsWithToken bytes.now kind 1) }
     ensures none { IfNone result (is_punctuation (slice_index bytes.now 0) ≡ false) }
 {
     match bytes[0] {
