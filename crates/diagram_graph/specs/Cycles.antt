@@ -1,8 +1,9 @@
 -- The first cycle of lists of parents.
-use Rattle.std.specs.Prelude.{ℕ, ◌<◌, List, map, Vec, length}
+use Rattle.std.specs.Prelude.{ℕ, ◌<◌, List, map, Vec, length, Option, MatchOption}
 use Rattle.std.specs.declared.alloc.Global.{Global}
 use Rattle.diagram_graph.specs.Needs.{NeedsItem}
 use Rattle.diagram_graph.specs.Rounds.{IsFirstCycle}
+use Rattle.maid_model.specs.Graph.{IsAcyclic}
 
 -- the lists as plain lists
 abbrev pub lists_in : List (Vec ℕ Global) → List (List ℕ)
@@ -17,3 +18,8 @@ ListedArc lists u v = NeedsItem lists v u
 -- twice.
 abbrev pub IsParentCycle : List (List ℕ) → List ℕ → Type 0
 IsParentCycle lists cycle = IsFirstCycle (λ v. v < length lists) lists cycle
+
+-- a cycle of lists of parents, and none only where their graph has none
+abbrev pub TellsCycle : List (List ℕ) → Option (Vec ℕ Global) → Type 0
+TellsCycle lists found =
+    MatchOption found (IsAcyclic (ListedArc lists)) (λ cycle. IsParentCycle lists cycle.items)

@@ -1,6 +1,7 @@
 -- Items that are not placed, by marks. What the steps of placing promise one another.
-use Rattle.std.specs.Prelude.{ℕ, ◌<◌, Bool, List, length}
+use Rattle.std.specs.Prelude.{ℕ, ◌<◌, Bool, List, length, Option, MatchOption}
 use Rattle.diagram_graph.specs.Needs.{IsIn, NeedsItem}
+use Rattle.maid_model.specs.Placing.{IsLeast}
 
 -- only numbers of the list are needed
 abbrev pub NeedsWithin : List (List ℕ) → Type 0
@@ -18,3 +19,7 @@ IsFree items placed v = IsIn items v × (IsIn placed v → ⊥)
 abbrev pub IsReady : List (List ℕ) → List Bool → List Bool → ℕ → Type 0
 IsReady lists items placed v =
     IsFree items placed v × ((e : ℕ) → NeedsItem lists v e → IsIn placed e)
+
+-- the least number with the property, and none only where there is none
+abbrev pub TellsLeast : (ℕ → Type 0) → Option ℕ → Type 0
+TellsLeast P found = MatchOption found ((v : ℕ) → P v → ⊥) (λ v. IsLeast P v)

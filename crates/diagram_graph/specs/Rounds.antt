@@ -1,5 +1,5 @@
 -- Where placing stops short: a round among the items that are left, along each item's own list of needs.
-use Rattle.std.specs.Prelude.{◌≡◌, ℕ, ◌+◌, ◌-◌, ◌<◌, List, length, drop, slice_index}
+use Rattle.std.specs.Prelude.{◌≡◌, ℕ, ◌+◌, ◌-◌, ◌<◌, List, length, drop, slice_index, Option, MatchOption, Contains}
 use Rattle.maid_model.specs.Placing.{IsLeast, Remains, CanPlace, IsPlacing}
 use Rattle.diagram_graph.specs.Needs.{needs_of, NeedsItem}
 
@@ -7,6 +7,11 @@ use Rattle.diagram_graph.specs.Needs.{needs_of, NeedsItem}
 abbrev pub IsFirstLeft : (ℕ → Type 0) → List ℕ → ℕ → Type 0
 IsFirstLeft Left list e = (place : ℕ) × (place < length list) × (slice_index list place ≡ e)
     × Left e × ((k : ℕ) → k < place → Left (slice_index list k) → ⊥)
+
+-- the first of the list that is left, and none only where none is
+abbrev pub TellsFirstLeft : (ℕ → Type 0) → List ℕ → Option ℕ → Type 0
+TellsFirstLeft Left list found =
+    MatchOption found ((e : ℕ) → Contains list e → Left e → ⊥) (λ e. IsFirstLeft Left list e)
 
 -- from the first item that is left, each time to the first of the last one's needs that is left
 pub record IsListedTrail (Left : ℕ → Type 0) (lists : List (List ℕ)) (trail : List ℕ) : Type 0 where

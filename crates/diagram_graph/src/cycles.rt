@@ -1,11 +1,11 @@
 //! The first cycle of lists of parents.
 
-ghost use Rattle.std.specs.Prelude.{◌≡◌, ℕ, ◌<◌, length, IfOk, IfSome, MatchOption};
-ghost use Rattle.maid_model.specs.Graph.{Arc, IsAcyclic};
+ghost use Rattle.std.specs.Prelude.{◌≡◌, ℕ, ◌<◌, length, IfOk, IfSome};
+ghost use Rattle.maid_model.specs.Graph.{Arc};
 ghost use Rattle.maid_model.specs.Placing.{IsOrder};
 ghost use Rattle.diagram_graph.specs.Needs.{NeedsItem};
 ghost use Rattle.diagram_graph.specs.Rounds.{IsRingOfNeeds};
-ghost use Rattle.diagram_graph.specs.Cycles.{lists_in, ListedArc, IsParentCycle};
+ghost use Rattle.diagram_graph.specs.Cycles.{lists_in, ListedArc, TellsCycle};
 
 use crate::placing::{Placing, place_all};
 use maid_model::Diagram;
@@ -31,9 +31,7 @@ pub fn topological(alloc: Global, diagram: &Diagram) -> Result<Vec<usize>, Alloc
 /// twice. It goes over all nodes once for each node.
 pub fn first_cycle(alloc: Global, parents: &[Vec<usize>]) -> Result<Option<Vec<usize>>, AllocError>
     requires { (u v : ℕ) → ListedArc (lists_in parents.now) u v → u < length parents.now }
-    ensures cycle { IfOk result (λ found.
-        MatchOption found (IsAcyclic (ListedArc (lists_in parents.now))) (λ cycle.
-        IsParentCycle (lists_in parents.now) cycle.items)) }
+    ensures cycle { IfOk result (TellsCycle (lists_in parents.now)) }
     ensures ring { IfOk result (λ found.
         IfSome found (λ cycle. IsRingOfNeeds (NeedsItem (lists_in parents.now)) cycle.items)) }
 {

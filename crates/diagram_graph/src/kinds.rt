@@ -5,8 +5,8 @@ ghost use Rattle.std.specs.List.{flat_map};
 ghost use Rattle.maid_model.specs.declared.diagrams.Kind.TheVariants.{Chance, Decision};
 ghost use Rattle.maid_model.specs.declared.limits.TheConstants.{MOST_CELLS, MOST_RULE_CELLS};
 ghost use Rattle.maid_model.specs.Answers.{FitsAnswers, rows_at};
-ghost use Rattle.maid_model.specs.Edits.{as_chance, as_decision, fixed_by, one_agent};
-ghost use Rattle.maid_model.specs.Nodes.{IsDecision, agent_of, node_at, parents_of, states_of};
+ghost use Rattle.maid_model.specs.Edits.{as_chance, as_decision, fixed_by, one_agent, made_decision};
+ghost use Rattle.maid_model.specs.Nodes.{IsDecision, agent_of, node_at};
 ghost use Rattle.maid_model.specs.Profiles.{pure_row};
 ghost use Rattle.diagram_graph.specs.Edited.{with_nodes};
 ghost use Rattle.diagram_graph.specs.Room.{rule_cells};
@@ -48,15 +48,7 @@ fn decision_node(
     agent: usize,
 ) -> Result<Node, AllocError>
     requires { v < length diagram.now.nodes }
-    ensures { IfOk result (λ made.
-        made ≡ record {
-          kind = Decision;
-          owner = agent;
-          more = [];
-          states = states_of diagram.now.nodes v;
-          parents = parents_of diagram.now.nodes v;
-          cells = [];
-        }) }
+    ensures { IfOk result (λ made. made ≡ made_decision diagram.now.nodes agent v) }
 {
     Ok(Node {
         kind: Kind::Decision,

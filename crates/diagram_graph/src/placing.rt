@@ -1,9 +1,9 @@
 //! Items placed one by one, each after those that it needs.
 
-ghost use Rattle.std.specs.Prelude.{◌≡◌, ℕ, ◌<◌, ◌↔◌, length, Contains, IsTrue, IfOk, OnOk, MatchOption};
-ghost use Rattle.maid_model.specs.Placing.{IsLeast, IsPlacing};
+ghost use Rattle.std.specs.Prelude.{◌≡◌, ℕ, ◌<◌, ◌↔◌, length, Contains, IsTrue, IfOk, OnOk};
+ghost use Rattle.maid_model.specs.Placing.{IsPlacing};
 ghost use Rattle.diagram_graph.specs.Needs.{IsIn, needs_of, NeedsItem};
-ghost use Rattle.diagram_graph.specs.Free.{IsFree, IsReady, NeedsWithin, NeedsItems};
+ghost use Rattle.diagram_graph.specs.Free.{IsFree, IsReady, NeedsWithin, NeedsItems, TellsLeast};
 ghost use Rattle.diagram_graph.specs.Placed.{IsPlacingOf};
 
 use crate::needs::Needs;
@@ -53,8 +53,7 @@ fn first_ready<N: Needs>(needs: &N, items: &[bool], placed: &[bool]) -> Option<u
     requires items_len { length items.now ≡ length (N.lists needs.now) }
     requires placed_len { length placed.now ≡ length (N.lists needs.now) }
     requires needs { NeedsWithin (N.lists needs.now) }
-    ensures { MatchOption result ((v : ℕ) → IsReady (N.lists needs.now) items.now placed.now v → ⊥)
-        (λ v. IsLeast (IsReady (N.lists needs.now) items.now placed.now) v) }
+    ensures { TellsLeast (IsReady (N.lists needs.now) items.now placed.now) result }
 {
     for v in 0..needs.count() {
         if is_ready(needs, items, placed, v) {
@@ -66,8 +65,7 @@ fn first_ready<N: Needs>(needs: &N, items: &[bool], placed: &[bool]) -> Option<u
 
 fn first_free(items: &[bool], placed: &[bool]) -> Option<usize>
     requires { length placed.now ≡ length items.now }
-    ensures { MatchOption result ((v : ℕ) → IsFree items.now placed.now v → ⊥) (λ v.
-        IsLeast (IsFree items.now placed.now) v) }
+    ensures { TellsLeast (IsFree items.now placed.now) result }
 {
     for v in 0..items.len() {
         if is_free(items, placed, v) {

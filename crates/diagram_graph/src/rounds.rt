@@ -1,10 +1,10 @@
 //! The round among the items that are left where placing stops short.
 
-ghost use Rattle.std.specs.Prelude.{◌≡◌, ℕ, ◌<◌, length, Contains, IfOk, MatchOption, slice_index};
+ghost use Rattle.std.specs.Prelude.{◌≡◌, ℕ, ◌<◌, length, Contains, IfOk, slice_index};
 ghost use Rattle.maid_model.specs.Placing.{IsLeast};
 ghost use Rattle.diagram_graph.specs.Needs.{needs_of};
 ghost use Rattle.diagram_graph.specs.Free.{IsFree, IsReady, NeedsItems};
-ghost use Rattle.diagram_graph.specs.Rounds.{IsFirstLeft, IsListedRound};
+ghost use Rattle.diagram_graph.specs.Rounds.{IsFirstLeft, IsListedRound, TellsFirstLeft};
 
 use crate::needs::Needs;
 use crate::placing::is_free;
@@ -14,8 +14,7 @@ use std::alloc::{AllocError, Global};
 fn first_in(list: &[usize], items: &[bool], placed: &[bool]) -> Option<usize>
     requires same_len { length placed.now ≡ length items.now }
     requires within { (e : ℕ) → Contains list.now e → e < length items.now }
-    ensures { MatchOption result ((e : ℕ) → Contains list.now e → IsFree items.now placed.now e → ⊥)
-        (λ e. IsFirstLeft (IsFree items.now placed.now) list.now e) }
+    ensures { TellsFirstLeft (IsFree items.now placed.now) list.now result }
 {
     for e in list {
         if is_free(items, placed, *e) {
