@@ -58,6 +58,10 @@ abbrev mutual
   Values depth none = Empty
   Values depth (more value values) = Value depth value ▹ Values depth values
 
+-- values, and the mark that closes their list
+abbrev pub ClosedValues : ℕ → ValueTrees → Rule
+ClosedValues depth values = Values depth values ▹ Mark ParenClose
+
 -- in a potential's body these are no names
 pub record IsModelName (l : Lexeme) : Type 0 where
   pub is : IsWord (codes "model_nodes") l ⊎ IsWord (codes "model_data") l

@@ -206,6 +206,26 @@ abbrev pub block_place : Bool → Place
 block_place true = start
 block_place false = within []
 
+-- Reading of a block, or of its front: what is still to come of the block is met behind what is read.
+abbrev pub FollowsInBlock : {A : Type 0} → Bool → (A → List Symbol) → Result A Stop → List Lexeme
+    → List Lexeme → Type 0
+FollowsInBlock first rest result old new =
+    IsReading result (stop (block_place first) old) (λ x. stop (within (rest x)) new) new
+
+-- a block's body is still to come
+abbrev pub body_rest : Bool → List Symbol
+body_rest potential = mark kinds.BraceOpen ∷ attributes potential ∷ []
+
+-- Reading over values in a list, at any depth: what comes behind them is met behind what is read.
+abbrev pub ValuesFollow : List Lexeme → List Lexeme → Type 0
+ValuesFollow old new = (depth : ℕ) (after : List Symbol)
+    → stop (within (values depth ∷ after)) old ≡ stop (within after) new
+
+-- what a head says is given, behind those before, and the mark that closes the head
+abbrev pub AddsGiven : List Token → List Token → Rule
+AddsGiven before all from to = (given : List Token) × (all ≡ before ++ given)
+    × (Given given ▹ Mark kinds.ParenClose) from to
+
 -- the names of a head, behind its first word
 abbrev pub NodeNames : List Token → Rule
 NodeNames [] = Never

@@ -1,11 +1,11 @@
 //! The rules of blocks.
 
-ghost use Rattle.std.specs.Prelude.{◌≡◌, ◌<◌, ◌+◌, [], ◌∷◌, ◌++◌, List, length, IfOk, OnOk};
+ghost use Rattle.std.specs.Prelude.{◌<◌, [], ◌∷◌, length, IfOk, OnOk};
 ghost use Rattle.net_lexer.specs.declared.tokens.Token.{Token};
 ghost use Rattle.net_lexer.specs.declared.tokens.TokenKind.TheVariants.{BraceOpen, ParenOpen, ParenClose, Equals, Semicolon};
 ghost use Rattle.net_parser.specs.Grammar as grammar;
-ghost use Rattle.net_parser.specs.Grammar.{◌▹◌, Mark, Name, Each, Given, Head, is_potential, Spells};
-ghost use Rattle.net_parser.specs.Reading.{mark, name, attribute_name, attributes, value, given, names, start, within, stop, block_place, IsReading, Follows, NodeNames, PotentialNames};
+ghost use Rattle.net_parser.specs.Grammar.{Name, Each, Head, is_potential, Spells};
+ghost use Rattle.net_parser.specs.Reading.{mark, name, attribute_name, attributes, value, given, names, start, stop, IsReading, Follows, NodeNames, PotentialNames, AddsGiven, FollowsInBlock, body_rest};
 
 use crate::reader::{Reader, Stop};
 use crate::words::BlockWord;
@@ -52,9 +52,7 @@ impl<'a> Reader<'_, 'a> {
     /// Reads what stands behind a potential's first name, up to `)`: nothing, or a bar and names.
     /// They are added to the names.
     fn given_names(&mut self, mut names: Vec<Token>) -> Result<Vec<Token>, Stop>
-        ensures rule { IfOk result (λ all.
-            (given : List Token) × (all.items ≡ names.items ++ given)
-            × (Given given ▹ Mark ParenClose) self.old self.new) }
+        ensures rule { IfOk result (λ all. AddsGiven names.items all.items self.old self.new) }
         ensures follows { Follows (given ∷ []) result self.old self.new }
         ensures shorter { OnOk result (length self.new < length self.old) }
     {
@@ -95,10 +93,8 @@ impl<'a> Reader<'_, 'a> {
     fn head(&mut self, alloc: Global, first: bool) -> Result<(BlockKind, Vec<Token>), Stop>
         requires { 0 < length self.old }
         ensures rule { IfOk result (λ head. Head first head.0 head.1.items self.old self.new) }
-        ensures follows { IsReading result (stop (block_place first) self.old)
-            (λ head.
-            stop (within (mark BraceOpen ∷ attributes (is_potential head.0) ∷ [])) self.new)
-            self.new }
+        ensures follows { FollowsInBlock first (λ head. body_rest (is_potential head.0)) result
+            self.old self.new }
         ensures shorter { OnOk result (length self.new < length self.old) }
     {
         match self.first_word(first)? {
@@ -123,8 +119,7 @@ impl<'a> Reader<'_, 'a> {
     fn block(&mut self, alloc: Global, first: bool) -> Result<Block<'a>, Stop>
         requires { 0 < length self.old }
         ensures rule { IfOk result (λ block. grammar.Block first block self.old self.new) }
-        ensures follows { IsReading result (stop (block_place first) self.old)
-            (λ block. stop (within []) self.new) self.new }
+        ensures follows { FollowsInBlock first (λ block. []) result self.old self.new }
         ensures shorter { OnOk result (length self.new < length self.old) }
     {
         let (kind, names) = self.head(alloc, first)?;

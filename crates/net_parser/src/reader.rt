@@ -10,8 +10,8 @@ ghost use Rattle.net_lexer.specs.Token.{IsTokenOf, is_token};
 ghost use Rattle.net_lexer.specs.declared.tokens.TokenKind.TheVariants.{ParenClose};
 ghost use Rattle.net_parser.specs.Lexemes.{lexemes, is_leaf};
 ghost use Rattle.net_parser.specs.Faults.{rest_place};
-ghost use Rattle.net_parser.specs.Grammar.{◌▹◌, Mark, Values};
-ghost use Rattle.net_parser.specs.Reading.{Symbol, values, within, stop, fault_at, IsFlat};
+ghost use Rattle.net_parser.specs.Grammar.{ClosedValues};
+ghost use Rattle.net_parser.specs.Reading.{values, fault_at, IsFlat, ValuesFollow};
 ghost use Rattle.net_parser.specs.Trees.{leaf};
 ghost use Rattle.net_parser.specs.Views.{trees_of};
 
@@ -143,12 +143,9 @@ impl<'t, 'a> Reader<'t, 'a> {
 
     /// Goes past leaves and the parenthesis that closes their list, if no list stands among them.
     pub fn leaves(&mut self) -> Option<&'a [Token]>
-        ensures rule { IfSome result (λ leaves.
-            (depth : ℕ) → (Values depth (trees_of (map leaf leaves.now)) ▹ Mark ParenClose) self.old
-            self.new) }
-        ensures follows { IfSome result (λ leaves.
-            (depth : ℕ) (after : List Symbol) → stop (within (values depth ∷ after)) self.old
-            ≡ stop (within after) self.new) }
+        ensures rule { IfSome result (λ leaves. (depth : ℕ)
+            → ClosedValues depth (trees_of (map leaf leaves.now)) self.old self.new) }
+        ensures follows { IfSome result (λ leaves. ValuesFollow self.old self.new) }
         ensures shorter { IfSome result (λ leaves. length self.new < length self.old) }
         ensures unread { IfNone result (self.new ≡ self.old) }
     {

@@ -3,7 +3,7 @@
 ghost use Rattle.std.specs.Prelude.{◌≡◌, ◌<◌, [], ◌∷◌, length, IfOk, OnOk};
 ghost use Rattle.std.specs.Bool.{OnTrue, OnFalse};
 ghost use Rattle.net_parser.specs.Grammar.{Mark, Name, AttributeName};
-ghost use Rattle.net_parser.specs.Reading.{mark, name, attribute_name, node_word, is_next, stop, within, behind, block_place, NodeWord, FirstWord, IsReading, Follows};
+ghost use Rattle.net_parser.specs.Reading.{mark, name, attribute_name, node_word, is_next, behind, NodeWord, FirstWord, Follows, FollowsInBlock};
 
 use crate::BlockKind;
 use crate::reader::{Reader, Stop};
@@ -98,8 +98,7 @@ impl Reader<'_, '_> {
     pub fn first_word(&mut self, first: bool) -> Result<BlockWord, Stop>
         requires { 0 < length self.old }
         ensures rule { IfOk result (λ begins. FirstWord first begins self.old self.new) }
-        ensures follows { IsReading result (stop (block_place first) self.old)
-            (λ begins. stop (within (behind begins)) self.new) self.new }
+        ensures follows { FollowsInBlock first behind result self.old self.new }
         ensures shorter { OnOk result (length self.new < length self.old) }
     {
         let Some((token, bytes)) = self.peek() else {

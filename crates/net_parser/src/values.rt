@@ -3,7 +3,7 @@
 ghost use Rattle.std.specs.Prelude.{◌≡◌, ◌<◌, ◌+◌, [], ◌∷◌, map, length, IfOk, OnOk};
 ghost use Rattle.net_lexer.specs.declared.tokens.TokenKind.TheVariants.{ParenClose};
 ghost use Rattle.net_parser.specs.Grammar as grammar;
-ghost use Rattle.net_parser.specs.Grammar.{◌▹◌, Mark};
+ghost use Rattle.net_parser.specs.Grammar.{ClosedValues};
 ghost use Rattle.net_parser.specs.Views.{value_tree, trees_of};
 ghost use Rattle.net_parser.specs.Reading.{value, values, Follows};
 
@@ -46,8 +46,7 @@ impl<'a> Reader<'_, 'a> {
     #[cycle(value)]
     fn values(&mut self, alloc: Global, depth: u8) -> Result<Vec<Value<'a>>, Stop>
         ensures rule { IfOk result (λ all.
-            (grammar.Values depth (trees_of (map value_tree all.items)) ▹ Mark ParenClose) self.old
-            self.new) }
+            ClosedValues depth (trees_of (map value_tree all.items)) self.old self.new) }
         ensures follows { Follows (values depth ∷ []) result self.old self.new }
         ensures shorter { OnOk result (length self.new < length self.old) }
     {
