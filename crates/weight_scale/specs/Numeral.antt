@@ -82,7 +82,20 @@ denominator text =
 abbrev pub IsDecimalOf : ℤ → ℕ → Decimal → Type 0
 IsDecimalOf num den d = IsSameFraction d.m (10 ^ d.k) num den
 
+-- no decimal is the fraction
+abbrev pub HasNoDecimal : ℤ → ℕ → Type 0
+HasNoDecimal num den = (d : Decimal) → IsDecimalOf num den d → ⊥
+
 -- the decimal is the fraction, and none that is has fewer decimals
 pub record IsLeastDecimalOf (num : ℤ) (den : ℕ) (d : Decimal) : Type 0 where
   pub value : IsDecimalOf num den d
   pub least : (other : Decimal) → IsDecimalOf num den other → d.k ≤ other.k
+
+-- that decimal of a numeral's value
+abbrev pub IsDecimalOfNumeral : List ℕ → Decimal → Type 0
+IsDecimalOfNumeral text d = IsLeastDecimalOf (numerator text) (denominator text) d
+
+-- it is the whole number
+abbrev pub IsWholeNumeral : List ℕ → ℤ → Type 0
+IsWholeNumeral text number =
+    (d : Decimal) × IsDecimalOfNumeral text d × (d.m ≡ number) × (d.k ≡ 0)

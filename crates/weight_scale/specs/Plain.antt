@@ -2,12 +2,23 @@
 use Rattle.std.specs.Prelude.{◌≡◌, ◌<◌, ◌≤◌, ◌/◌, ℕ, ℤ, unsigned_abs, List, All, length, map, sum}
 use Rattle.std.specs.Int.{◌∣◌}
 use Rattle.maid_model.specs.Diagrams.{greatest_number}
-use Rattle.weight_scale.specs.Scaling.{row_at}
+use Rattle.weight_scale.specs.Scaling.{row_at, IsScaled}
 use Rattle.weight_scale.specs.declared.decimal.Decimal.{Decimal}
+use Rattle.maid_model.specs.Tables.{IsTable}
 
 -- these decimals are whole numbers
 abbrev pub AreWhole : List Decimal → List ℤ → Type 0
 AreWhole rows cells = (map (λ d. d.m) rows ≡ cells) × All (λ d. d.k ≡ 0) rows
+
+-- decimals that are these whole numbers have them as their weights, with that total
+abbrev pub AreOwnWeights : List ℤ → ℕ → ℕ → Type 0
+AreOwnWeights cells states total = (rows : List Decimal) → AreWhole rows cells
+    → IsScaled rows states (record { weights = cells; total = total })
+
+-- they are a table of that total
+abbrev pub AreOwnTable : List ℤ → ℕ → ℕ → Type 0
+AreOwnTable cells states total =
+    (rows : List Decimal) → AreWhole rows cells → IsTable cells (length rows / states) states total
 
 -- 1 alone divides all numbers
 abbrev pub ShareNone : List ℤ → Type 0

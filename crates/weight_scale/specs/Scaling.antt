@@ -58,6 +58,10 @@ NoneNegative rows = (i : ℕ) → i < length rows → pos 0 ≤ℤ number_at row
 abbrev pub NoZeroRow : List Decimal → ℕ → ℕ → Type 0
 NoZeroRow rows states count = (r : ℕ) → r < count → 0 < sum (raised_row states rows r)
 
+-- no number is below nought, and no row of total nought
+abbrev pub AreFaultless : List Decimal → ℕ → Type 0
+AreFaultless rows states = NoneNegative rows × NoZeroRow rows states (length rows / states)
+
 -- the weights: no number is below nought, and each reduced row is multiplied so that its total is the least common
 -- multiple of all totals
 pub record IsScaled (rows : List Decimal) (states : ℕ) (scaled : ScaledView) : Type 0 where

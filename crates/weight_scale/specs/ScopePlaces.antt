@@ -44,6 +44,11 @@ greatest_in nodes scope v =
 abbrev pub greatest_sum : List NodeView → Scope → ℕ
 greatest_sum nodes scope = greatest_of nodes (members_of nodes scope.utilities)
 
+-- the product has room, times the greatest of the utilities' scale and that sum
+abbrev pub HasRoomInScope : DiagramView → Scope → ℕ → Type 0
+HasRoomInScope d scope product =
+    product * max (10 ^ d.decimals) (greatest_sum d.nodes scope) ≤ greatest_number
+
 -- the scope has these nodes and these utilities, and counts so
 pub record IsScope
     (nodes : List NodeView) (counted : Counted) (members utilities : List ℕ) (scope : Scope) : Type

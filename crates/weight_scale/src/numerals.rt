@@ -5,8 +5,8 @@ ghost use Rattle.std.specs.Option.{SomeIff};
 ghost use Rattle.std.specs.List.{list_all};
 ghost use Rattle.net_lexer.specs.Bytes.{is_digit};
 ghost use Rattle.net_lexer.specs.Numerals.{is_numeral};
-ghost use Rattle.weight_scale.specs.Numeral.{number_of, AreFewDigits, signed, numerator, denominator, IsDecimalOf, IsLeastDecimalOf};
-ghost use Rattle.weight_scale.specs.Significant.{IsSignificand, HasTooManyDigits, HasFewDecimals};
+ghost use Rattle.weight_scale.specs.Numeral.{number_of, AreFewDigits, signed, numerator, denominator, IsLeastDecimalOf, HasNoDecimal, IsDecimalOfNumeral, IsWholeNumeral};
+ghost use Rattle.weight_scale.specs.Significant.{HasTooManyDigits, HasFewDecimals, IsSignificandOf};
 ghost use Rattle.weight_scale.specs.declared.decimal.Decimal.{Decimal};
 
 use crate::Decimal;
@@ -36,8 +36,7 @@ fn significand(whole: &[u8], decimals: &[u8]) -> Option<Scientific>
     requires whole_digits { list_all is_digit whole.now ≡ true }
     requires decimal_digits { list_all is_digit decimals.now ≡ true }
     ensures some { IfSome result (λ s.
-        IsSignificand (number_of (whole.now ++ decimals.now)) (length decimals.now) s.size s.above
-        s.below) }
+        IsSignificandOf whole.now decimals.now s.size s.above s.below) }
     ensures small { IfSome result (λ s.
         (s.size < 2 ^ 126) × (s.above < 2 ^ 64) × (s.below < 2 ^ 64)) }
     ensures none { IfNone result (HasTooManyDigits (number_of (whole.now ++ decimals.now))
@@ -73,8 +72,7 @@ fn signed(minus: bool, size: u128) -> i128
 fn with_tens(minus: bool, size: u128, tens: u128) -> Option<Decimal>
     requires { 0 < size }
     ensures some { IfSome result (λ d. IsLeastDecimalOf (signed minus (size * 10 ^ tens)) 1 d) }
-    ensures none { IfNone result ((d : Decimal) → IsDecimalOf (signed minus (size * 10 ^ tens)) 1 d
-        → ⊥) }
+    ensures none { IfNone result (HasNoDecimal (signed minus (size * 10 ^ tens)) 1) }
 {
     if tens > MOST_TENS {
         return None;
@@ -91,8 +89,7 @@ fn with_decimals(minus: bool, size: u128, decimals: u128) -> Option<Decimal>
     requires last { 0 < size % 10 }
     requires small { size < 2 ^ 126 }
     ensures some { IfSome result (λ d. IsLeastDecimalOf (signed minus size) (10 ^ decimals) d) }
-    ensures none { IfNone result ((d : Decimal) → IsDecimalOf (signed minus size) (10 ^ decimals) d
-        → ⊥) }
+    ensures none { IfNone result (HasNoDecimal (signed minus size) (10 ^ decimals)) }
 {
     if decimals > MOST_DECIMALS {
         return None;
@@ -131,9 +128,8 @@ impl Scientific {
         requires small { self.size < 2 ^ 126 }
         ensures some { IfSome result (λ d.
             IsLeastDecimalOf (signed minus (self.size * 10 ^ self.above)) (10 ^ self.below) d) }
-        ensures none { IfNone result ((d : Decimal) → IsDecimalOf
-            (signed minus (self.size * 10 ^ self.above)) (10 ^ self.below) d
-            → ⊥) }
+        ensures none { IfNone result
+            (HasNoDecimal (signed minus (self.size * 10 ^ self.above)) (10 ^ self.below)) }
     {
         if self.above >= self.below {
             with_tens(minus, self.size, self.above - self.below)
@@ -148,10 +144,8 @@ impl Scientific {
 /// One pass over the text; noughts at either end and the length of the exponent don't matter.
 pub fn numeral(text: &[u8]) -> Option<Decimal>
     requires { is_numeral text.now ≡ true }
-    ensures some { IfSome result (λ d.
-        IsLeastDecimalOf (numerator text.now) (denominator text.now) d) }
-    ensures none { IfNone result ((d : Decimal) → IsDecimalOf (numerator text.now)
-        (denominator text.now) d → ⊥) }
+    ensures some { IfSome result (IsDecimalOfNumeral text.now) }
+    ensures none { IfNone result (HasNoDecimal (numerator text.now) (denominator text.now)) }
 {
     // Most numerals are a few digits alone.
     if let Some(size) = few_digits(text) {
@@ -170,9 +164,7 @@ pub fn numeral(text: &[u8]) -> Option<Decimal>
 /// bits.
 pub fn whole_numeral(text: &[u8]) -> Option<i128>
     ensures number { SomeIff result (AreFewDigits text.now) (pos (number_of text.now)) }
-    ensures decimal { IfSome result (λ number.
-        (d : Decimal) × IsLeastDecimalOf (numerator text.now) (denominator text.now) d
-        × (d.m ≡ number) × (d.k ≡ 0)) }
+    ensures decimal { IfSome result (IsWholeNumeral text.now) }
     ensures above { IfSome result (λ number. pos 0 ≤ℤ number) }
 {
     let number = few_digits(text)?;
@@ -182,8 +174,7 @@ pub fn whole_numeral(text: &[u8]) -> Option<i128>
 // The decimal of a numeral that is few digits, a point and few digits, of which the last aren't noughts alone.
 #[inline(never)]
 fn few_decimals(text: &[u8]) -> Option<Decimal>
-    ensures some { IfSome result (λ d.
-        IsLeastDecimalOf (numerator text.now) (denominator text.now) d) }
+    ensures some { IfSome result (IsDecimalOfNumeral text.now) }
     ensures few { IfSome result (λ _. (kept : List ℕ) × HasFewDecimals text.now kept) }
     ensures none { IfNone result ((kept : List ℕ) → HasFewDecimals text.now kept → ⊥) }
 {
@@ -202,10 +193,8 @@ fn few_decimals(text: &[u8]) -> Option<Decimal>
 #[inline(never)]
 fn other_numeral(text: &[u8]) -> Option<Decimal>
     requires { is_numeral text.now ≡ true }
-    ensures some { IfSome result (λ d.
-        IsLeastDecimalOf (numerator text.now) (denominator text.now) d) }
-    ensures none { IfNone result ((d : Decimal) → IsDecimalOf (numerator text.now)
-        (denominator text.now) d → ⊥) }
+    ensures some { IfSome result (IsDecimalOfNumeral text.now) }
+    ensures none { IfNone result (HasNoDecimal (numerator text.now) (denominator text.now)) }
 {
     let parts = split_numeral(text);
     let significand = significand(parts.whole, parts.decimals)?;

@@ -1,10 +1,9 @@
 //! Rows of whole numbers that are weights as they stand, as those of most tables.
 
-ghost use Rattle.std.specs.Prelude.{◌≡◌, ◌<◌, ◌≤ℤ◌, ◌/◌, ℕ, List, All, Decides, IfSome, IfNone, length, pos, unsigned_abs};
+ghost use Rattle.std.specs.Prelude.{◌≡◌, ◌<◌, ◌≤ℤ◌, ℕ, List, All, Decides, IfSome, IfNone, length, pos, unsigned_abs};
 ghost use Rattle.std.specs.Int.{◌∣◌};
-ghost use Rattle.maid_model.specs.Tables.{IsTable};
-ghost use Rattle.weight_scale.specs.Plain.{AreWhole, ShareNone, HasTotal, IsPlainRow, ArePlainRows};
-ghost use Rattle.weight_scale.specs.Scaling.{NoneNegative, NoZeroRow, IsScaled};
+ghost use Rattle.weight_scale.specs.Plain.{AreWhole, ShareNone, HasTotal, IsPlainRow, ArePlainRows, AreOwnTable, AreOwnWeights};
+ghost use Rattle.weight_scale.specs.Scaling.{AreFaultless};
 ghost use Rattle.weight_scale.specs.declared.decimal.Decimal.{Decimal};
 
 use crate::rows::row_at;
@@ -64,15 +63,10 @@ pub fn plain_total(cells: &[i128], states: usize) -> Option<u128>
     requires above { All (λ x. pos 0 ≤ℤ x) cells.now }
     ensures plain { IfSome result (ArePlainRows cells.now states) }
     ensures none { IfNone result ((total : ℕ) → ArePlainRows cells.now states total → ⊥) }
-    ensures scaled { IfSome result (λ total.
-        (rows : List Decimal) → AreWhole rows cells.now
-        → IsScaled rows states (record { weights = cells.now; total = total })) }
-    ensures table { IfSome result (λ total.
-        (rows : List Decimal) → AreWhole rows cells.now
-        → IsTable cells.now (length rows / states) states total) }
-    ensures faultless { IfSome result (λ _.
-        (rows : List Decimal) → AreWhole rows cells.now
-        → NoneNegative rows × NoZeroRow rows states (length rows / states)) }
+    ensures scaled { IfSome result (AreOwnWeights cells.now states) }
+    ensures table { IfSome result (AreOwnTable cells.now states) }
+    ensures faultless { IfSome result (λ _. (rows : List Decimal) → AreWhole rows cells.now
+        → AreFaultless rows states) }
 {
     if cells.len() < states {
         return None;

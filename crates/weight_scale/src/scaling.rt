@@ -4,7 +4,7 @@ ghost use Rattle.std.specs.Prelude.{◌≡◌, ℕ, ◌<◌, ◌≤◌, ◌*◌,
 ghost use Rattle.std.specs.Int.{◌∣◌};
 ghost use Rattle.maid_model.specs.Diagrams.{greatest_number};
 ghost use Rattle.maid_model.specs.Tables.{IsTable};
-ghost use Rattle.weight_scale.specs.Scaling.{row_at, IsFirstNegative, NoneNegative, IsFirstZeroRow, NoZeroRow, IsTooWide, IsScaled, IsScaleFault};
+ghost use Rattle.weight_scale.specs.Scaling.{row_at, IsFirstNegative, NoneNegative, IsFirstZeroRow, NoZeroRow, IsTooWide, IsScaled, IsScaleFault, AreFaultless};
 ghost use Rattle.weight_scale.specs.Rows.{ReducesRows, WeighsRows, OnWide};
 
 use crate::decimal::Decimal;
@@ -160,8 +160,7 @@ pub fn scale_rows(alloc: Global, rows: &[Decimal], states: usize) -> Result<Scal
     requires whole { states ∣ length rows.now }
     ensures ok { IfOk result (IsScaled rows.now states) }
     ensures table { IfOk result (λ s. IsTable s.weights (length rows.now / states) states s.total) }
-    ensures faultless { IfOk result (λ _.
-        NoneNegative rows.now × NoZeroRow rows.now states (length rows.now / states)) }
+    ensures faultless { IfOk result (λ _. AreFaultless rows.now states) }
     ensures err { IfErr result (IsScaleFault rows.now states) }
 {
     if let Some(place) = first_negative(rows) {

@@ -1,6 +1,6 @@
 //! The scope of a decision or of an agent, and where its bound fails.
 
-ghost use Rattle.std.specs.Prelude.{◌≡◌, ℕ, ◌<◌, ◌≤◌, ◌*◌, ◌^◌, ◌↔◌, length, max, Contains, IsTrue, MatchOption};
+ghost use Rattle.std.specs.Prelude.{◌≡◌, ℕ, ◌<◌, ◌≤◌, ◌↔◌, length, Contains, IsTrue, MatchOption};
 ghost use Rattle.std.specs.Option.{SomeIff};
 ghost use Rattle.node_sets.specs.Sets.{IsIn};
 ghost use Rattle.maid_model.specs.Diagrams.{IsDiagram, greatest_number};
@@ -8,7 +8,7 @@ ghost use Rattle.maid_model.specs.Gains.{greatest_abs};
 ghost use Rattle.maid_model.specs.Nodes.{IsDecision};
 ghost use Rattle.maid_model.specs.Scopes.{scope_for, scope_of};
 ghost use Rattle.weight_scale.specs.Given.{IsPlaceGiven, scope_given};
-ghost use Rattle.weight_scale.specs.ScopePlaces.{factor_in, greatest_in, greatest_sum, IsUtilityFor, IsScopeOf, IsScopeFor, IsPlaceIn};
+ghost use Rattle.weight_scale.specs.ScopePlaces.{factor_in, greatest_in, greatest_sum, IsUtilityFor, IsScopeOf, IsScopeFor, IsPlaceIn, HasRoomInScope};
 
 use crate::weight_bound::BoundPlace;
 use maid_model::{Diagram, GREATEST_NUMBER, Kind, goals_of};
@@ -172,9 +172,7 @@ impl Scope {
     // Whether the scope's product keeps the bound with its utilities, too.
     fn has_room(&self, diagram: &Diagram, product: u128) -> bool
         requires { 0 < product }
-        ensures { IsTrue result
-            ↔ (product * max (10 ^ diagram.now.decimals) (greatest_sum diagram.now.nodes self.now)
-            ≤ greatest_number) }
+        ensures { IsTrue result ↔ HasRoomInScope diagram.now self.now product }
     {
         let scale = 10u128.pow(diagram.decimals());
         match self.greatest(diagram) {
