@@ -1,8 +1,9 @@
 -- A table of numbers that are its weights as they stand passes each row, and has them as its cells.
-use Rattle.std.proofs.Common.{◌≡◌, ◌≢◌, ◌<◌, ◌+◌, ◌*◌, ℕ, ℤ, Bool, true, false, List, [], ◌∷◌, ◌++◌, None, length, get_or, map, take, refl, sym, ap, subst, ◌∙◌, arith}
-use Rattle.std.proofs.lemmas.List.{length-map, map-append}
+use Rattle.std.proofs.Common.{◌≡◌, ◌≢◌, ◌<◌, ◌≤◌, ◌+◌, ◌*◌, ℕ, ℤ, Bool, true, false, List, [], ◌∷◌, ◌++◌, All, Option, Some, None, length, get_or, map, take, refl, sym, ap, subst, ◌∙◌, arith}
+use Rattle.std.proofs.lemmas.List.{get_or_default, length-map, map-append, take_all, take_more}
 use Rattle.std.proofs.lemmas.List.Elements.{All-push}
 use Rattle.std.specs.Global.{Vec}
+use Rattle.std.specs.Option.{IfNone, is_some}
 use Rattle.maid_model.specs.declared.diagrams.Kind.{Kind}
 use Rattle.maid_model.specs.declared.diagrams.Kind.TheVariants as model
 use Rattle.net_lexer.specs.Token.{token_bytes}
@@ -16,12 +17,17 @@ use Rattle.first_fault.proofs.Items.{each_all}
 use Rattle.net_build.specs.Blocks.{is_number, no_token}
 use Rattle.net_build.specs.Scaling.{decimal_at}
 use Rattle.net_build.specs.Table.{number_row, length_row}
-use Rattle.net_build.specs.TableParts.{AreWholeNumbers, IsDraftOf, IsPlainTable, number_rows, data_part}
+use Rattle.net_build.specs.TableParts.{AreWholeNumbers, IsDraftOf, IsFewDigits, IsPlainTable, few_number, number_rows, data_part}
 use Rattle.net_build.specs.declared.drafts.Draft.TheVariants.{Cells}
 use Rattle.net_build.proofs.DecimalLemmas.{are_none, decimals_step}
 use Rattle.net_build.proofs.DraftLemmas.{chance_clear}
 use Rattle.net_build.proofs.ScaleLemmas.{decimal_of}
 use Rattle.net_build.proofs.WeightPasses.{weight_clear, rows_are}
+
+-- what holds where there is no value
+pub of_none : {X P : Type 0} (found : Option X) → is_some found ≡ false → IfNone found P → P
+of_none None none p = p
+of_none (Some x) none p = absurd (let e : true ≡ false = none in cc)
 
 pub whole_start : AreWholeNumbers [] []
 whole_start = ([], are_none, (refl, λ k d l. absurd (omega arith)))
@@ -38,6 +44,17 @@ whole_step text tokens cells new i x l so_far this is = (
     All-push (λ (d : Decimal). d.k ≡ 0) so_far.0 this.0 so_far.2.1 this.3,
   ),
 )
+
+-- one more number of few digits
+pub numbers_step : (text : List ℕ) (tokens : List Token) (cells new : List ℤ) (i : ℕ) (x : ℤ) → i < length tokens → cells ≡ map (few_number text) (take i tokens) → x ≡ few_number text (get_or tokens i no_token) → new ≡ cells ++ x ∷ [] → new ≡ map (few_number text) (take (i + 1) tokens)
+numbers_step text tokens cells new i x l so_far this is = is ∙ (λ j. so_far j ++ this j ∷ []) ∙ sym (map-append (few_number text) (take i tokens) (get_or tokens i no_token ∷ [])) ∙ ap (map (few_number text)) (sym (take_more tokens i no_token l))
+
+-- all tokens are such numbers
+pub all_few : (text : List ℕ) (tokens : List Token) (i : ℕ) → length tokens ≤ i → ((k : ℕ) → k < i → IsFewDigits text (get_or tokens k no_token)) → All (IsFewDigits text) tokens
+all_few text tokens i past each k d l = subst (IsFewDigits text) (get_or_default tokens k no_token d l) (each k (omega (arith, l, past)))
+
+pub all_numbers : (text : List ℕ) (tokens : List Token) (cells : List ℤ) (i : ℕ) → length tokens ≤ i → cells ≡ map (few_number text) (take i tokens) → cells ≡ map (few_number text) tokens
+all_numbers text tokens cells i past is = is ∙ ap (map (few_number text)) (take_all i tokens past)
 
 -- as many cells as tokens
 pub whole_len : (text : List ℕ) (tokens : List Token) (cells : List ℤ) → AreWholeNumbers (map (token_bytes text) tokens) cells → length cells ≡ length tokens

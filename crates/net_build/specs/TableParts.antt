@@ -11,7 +11,8 @@ use Rattle.net_lexer.specs.Token.{token_bytes}
 use Rattle.net_lexer.specs.declared.tokens.Token.{Token}
 use Rattle.net_parser.specs.Trees.{BlockTree}
 use Rattle.net_parser.specs.Owned.{IsBlockOf}
-use Rattle.weight_scale.specs.Plain.{AreWhole}
+use Rattle.weight_scale.specs.Numeral.{number_of, AreFewDigits}
+use Rattle.weight_scale.specs.Plain.{AreWhole, ArePlainRows}
 use Rattle.weight_scale.specs.Scaling.{IsScaled, NoneNegative, NoZeroRow}
 use Rattle.weight_scale.specs.Views.{ScaledView}
 use Rattle.weight_scale.specs.declared.decimal.Decimal.{Decimal}
@@ -43,6 +44,20 @@ pub record IsWeighed (decimals : List Decimal) (states : ℕ) (cells : List ℤ)
 abbrev pub AreWholeNumbers : List (List ℕ) → List ℤ → Type 0
 AreWholeNumbers numerals cells =
     (decimals : List Decimal) × AreDecimals numerals decimals × AreWhole decimals cells
+
+-- the token is a number of few digits alone
+abbrev pub IsFewDigits : List ℕ → Token → Type 0
+IsFewDigits text token = (is_number token.kind ≡ true) × AreFewDigits (token_bytes text token)
+
+-- the number that its digits write
+abbrev pub few_number : List ℕ → Token → ℤ
+few_number text token = pos (number_of (token_bytes text token))
+
+-- so many numbers, each of few digits alone, in rows that are weights as they stand
+abbrev pub ArePlainNumbers : List ℕ → ℕ → ℕ → List Token → Type 0
+ArePlainNumbers text states want numerals = (length numerals ≡ want)
+    × All (IsFewDigits text) numerals
+    × ((total : ℕ) × ArePlainRows (map (few_number text) numerals) states total)
 
 -- a chance table of so many cells whose numbers are its weights as they stand
 pub record IsPlainTable

@@ -1,10 +1,12 @@
 //! Chance tables whose numbers are their weights as they stand, as those of most are.
 
-ghost use Rattle.std.specs.Prelude.{◌≡◌, ◌<◌, ◌≤◌, ◌≤ℤ◌, ◌*◌, ℕ, List, All, map, length, pos, true, None, slice_index_or, IfOk, IfSome};
+ghost use Rattle.std.specs.Prelude.{◌≡◌, ◌<◌, ◌≤◌, ◌≤ℤ◌, ◌*◌, ℕ, List, All, map, length, pos, true, None, slice_index_or, IfOk, IfSome, IfNone};
 ghost use Rattle.std.specs.Int.{◌∣◌};
+ghost use Rattle.std.specs.Option.{SomeIff};
+ghost use Rattle.maid_model.specs.declared.diagrams.Kind.TheVariants.{Chance};
 ghost use Rattle.maid_model.specs.declared.limits.TheConstants.{MOST_CELLS};
 ghost use Rattle.net_build.specs.Blocks.{is_number, no_token};
-ghost use Rattle.net_build.specs.TableParts.{AreWholeNumbers, IsDraftOf, IsPlainTable, data_part};
+ghost use Rattle.net_build.specs.TableParts.{AreWholeNumbers, ArePlainNumbers, IsDraftOf, IsFewDigits, IsPlainTable, data_part, few_number};
 ghost use Rattle.net_lexer.specs.Token.{IsTokenOf, token_bytes};
 ghost use Rattle.net_parser.specs.Owned.{IsAttributeOf, leaves};
 ghost use Rattle.weight_scale.specs.Numeral.{numerator, denominator, IsLeastDecimalOf};
@@ -21,7 +23,7 @@ use weight_scale::{plain_total, whole_numeral};
 // The number, where it is few digits alone.
 fn whole_number(text: &[u8], token: &Token) -> Option<i128>
     requires { IsTokenOf text.now token.now }
-    ensures kind { IfSome result (λ _. is_number token.now.kind ≡ true) }
+    ensures number { SomeIff result (IsFewDigits text.now token.now) (few_number text.now token.now) }
     ensures decimal { IfSome result (λ number.
         (d : Decimal) × IsLeastDecimalOf (numerator (token_bytes text.now token.now))
         (denominator (token_bytes text.now token.now)) d × (d.m ≡ number) × (d.k ≡ 0)) }
@@ -40,10 +42,11 @@ fn whole_numbers(
     tokens: &[Token],
 ) -> Result<Option<Vec<i128>>, AllocError>
     requires { All (IsTokenOf text.now) tokens.now }
-    ensures kinds { IfOk result (λ found.
-        IfSome found (λ _.
-        (k : ℕ) → k < length tokens.now
-        → is_number (slice_index_or tokens.now k no_token).kind ≡ true)) }
+    ensures few { IfOk result (λ found. IfSome found (λ _. All (IsFewDigits text.now) tokens.now)) }
+    ensures none { IfOk result (λ found.
+        IfNone found (All (IsFewDigits text.now) tokens.now → ⊥)) }
+    ensures numbers { IfOk result (λ found.
+        IfSome found (λ numbers. numbers.items ≡ map (few_number text.now) tokens.now)) }
     ensures whole { IfOk result (λ found.
         IfSome found (λ numbers.
         AreWholeNumbers (map (token_bytes text.now) tokens.now) numbers.items)) }
@@ -71,8 +74,10 @@ fn plain_cells(
     requires own { All (IsTokenOf text.now) numerals.now }
     requires states { 0 < states }
     requires whole { states ∣ want }
-    ensures { IfOk result (λ found.
+    ensures some { IfOk result (λ found.
         IfSome found (λ cells. IsPlainTable text.now states want numerals.now cells.items)) }
+    ensures none { IfOk result (λ found.
+        IfNone found (ArePlainNumbers text.now states want numerals.now → ⊥)) }
 {
     if numerals.len() != want {
         return Ok(None);
@@ -106,6 +111,9 @@ pub fn plain_draft(
     ensures draft { IfOk result (λ found.
         IfSome found (IsDraftOf head.now.kind rows head.now.states
         (map (token_bytes text.now) numerals.now))) }
+    ensures none { IfOk result (λ found.
+        IfNone found (head.now.kind ≡ Chance
+        → ArePlainNumbers text.now head.now.states (rows * head.now.states) numerals.now → ⊥)) }
 {
     let Kind::Chance = head.kind else {
         return Ok(None);
