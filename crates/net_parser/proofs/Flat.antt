@@ -13,7 +13,7 @@ use Rattle.net_lexer.specs.declared.tokens.TokenKind.TheVariants as kinds
 use Rattle.net_parser.specs.Trees.{ValueTrees, leaf, list}
 use Rattle.net_parser.specs.Lexemes.{Lexeme, lexemes, lexeme_of, is_leaf}
 use Rattle.net_parser.specs.Grammar.{◌▹◌, Mark, Value, Values}
-use Rattle.net_parser.specs.Reading.{Symbol, values, stop, within, IsFlat}
+use Rattle.net_parser.specs.Reading.{Symbol, values, stop, within, IsFlat, begins_flat}
 use Rattle.net_parser.specs.Views.{value_tree, trees_of}
 use Rattle.net_parser.specs.declared.trees.Value.TheVariants as parsed
 use Rattle.net_parser.specs.declared.trees.Value.TheFolds.{the_lemmas}
@@ -85,3 +85,12 @@ listed depth vs a b c deep opens rest = (deep, (b, opens, rest))
 -- its tree
 pub tree_of_flat : (ts : Bor (List Token)) → value_tree (parsed.Leaves ts) ≡ list (trees_of (map leaf ts.now))
 tree_of_flat ts = search (rules, the_lemmas)
+
+-- the tokens of their lexemes
+tokens_of : (text : List ℕ) (tokens : List Token) → map (λ (l : Lexeme). l.token) (lexemes text tokens) ≡ tokens
+tokens_of text [] = refl
+tokens_of text (t ∷ tokens) = ap (λ ts. t ∷ ts) (tokens_of text tokens)
+
+-- what is found in the tokens is found in their lexemes
+pub found_in : (text : List ℕ) (tokens : List Token) (ls : List Lexeme) → lexemes text tokens ≡ ls → (found : Bool) → found ≡ begins_flat tokens → found ≡ begins_flat (map (λ (l : Lexeme). l.token) ls)
+found_in text tokens ls view found is = is ∙ ap begins_flat (sym (tokens_of text tokens) ∙ ap (map (λ (l : Lexeme). l.token)) view)

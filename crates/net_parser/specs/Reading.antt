@@ -1,6 +1,6 @@
 -- Reading from left to right, for the contracts of private functions. No public contract needs it.
-use Rattle.std.specs.Prelude.{◌≡◌, ◌-◌, ℕ, Bool, true, false, not, ◌&&◌, ◌||◌, List, [], ◌∷◌, ◌++◌, Option, None, Some, is_some, nat_lt, bytes_eq, if◌then◌else◌, codes, Result, Ok, Err}
-use Rattle.std.specs.List.{list_all}
+use Rattle.std.specs.Prelude.{◌≡◌, ◌-◌, ℕ, Bool, true, false, not, ◌&&◌, ◌||◌, List, [], ◌∷◌, ◌++◌, Option, None, Some, is_some, drop, nat_lt, bytes_eq, if◌then◌else◌, codes, Result, Ok, Err}
+use Rattle.std.specs.List.{list_all, prefix_len}
 use Rattle.std.specs.Option.{option_map, option_map_or}
 use Rattle.net_lexer.specs.Token.{is_name}
 use Rattle.net_lexer.specs.declared.tokens.Token.{Token}
@@ -179,6 +179,15 @@ Follows symbols result old new = (after : List Symbol) → IsReading result
 abbrev pub IsFlat : List Token → List Token → List Token → Type 0
 IsFlat tokens leaves behind = (close : Token) × (tokens ≡ leaves ++ close ∷ behind)
     × (close.kind ≡ kinds.ParenClose) × (list_all (λ t. is_leaf t.kind) leaves ≡ true)
+
+-- a parenthesis that closes comes next
+abbrev pub is_closed : List Token → Bool
+is_closed [] = false
+is_closed (t ∷ tokens) = same_kind kinds.ParenClose t.kind
+
+-- such a list of leaves stands at the front
+abbrev pub begins_flat : List Token → Bool
+begins_flat tokens = is_closed (drop (prefix_len (λ t. is_leaf t.kind) tokens) tokens)
 
 -- a word that begins a node block of that kind
 abbrev pub NodeWord : BlockKind → Rule

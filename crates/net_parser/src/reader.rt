@@ -4,14 +4,14 @@
 //! it answers, and on `Err` it stands before the first impossible token. `terminals` has the rules
 //! of one token, `values` and `blocks` those made of others.
 
-ghost use Rattle.std.specs.Prelude.{◌≡◌, ◌<◌, ℕ, List, [], ◌∷◌, length, drop, map, All, IfSome, IfNone, IsTrue};
+ghost use Rattle.std.specs.Prelude.{◌≡◌, ◌<◌, ℕ, List, [], ◌∷◌, length, drop, map, All, IfSome, IfNone, IsTrue, is_some};
 ghost use Rattle.std.specs.List.{prefix_len};
 ghost use Rattle.net_lexer.specs.Token.{IsTokenOf, is_token};
 ghost use Rattle.net_lexer.specs.declared.tokens.TokenKind.TheVariants.{ParenClose};
 ghost use Rattle.net_parser.specs.Lexemes.{lexemes, is_leaf};
 ghost use Rattle.net_parser.specs.Faults.{rest_place};
 ghost use Rattle.net_parser.specs.Grammar.{ClosedValues};
-ghost use Rattle.net_parser.specs.Reading.{values, fault_at, IsFlat, ValuesFollow};
+ghost use Rattle.net_parser.specs.Reading.{values, fault_at, IsFlat, ValuesFollow, begins_flat};
 ghost use Rattle.net_parser.specs.Trees.{leaf};
 ghost use Rattle.net_parser.specs.Views.{trees_of};
 
@@ -81,7 +81,8 @@ fn count_leaves(tokens: &[Token]) -> usize
 
 // The leaves at the front, and what stands behind the parenthesis that closes their list.
 fn split_leaves(tokens: &[Token]) -> Option<(&[Token], &[Token])>
-    ensures { IfSome result (λ split. IsFlat tokens.now split.0.now split.1.now) }
+    ensures flat { IfSome result (λ split. IsFlat tokens.now split.0.now split.1.now) }
+    ensures found { is_some result ≡ begins_flat tokens.now }
 {
     let (leaves, rest) = tokens.split_at(count_leaves(tokens));
     let [close, behind @ ..] = rest else {
@@ -148,6 +149,7 @@ impl<'t, 'a> Reader<'t, 'a> {
         ensures follows { IfSome result (λ leaves. ValuesFollow self.old self.new) }
         ensures shorter { IfSome result (λ leaves. length self.new < length self.old) }
         ensures unread { IfNone result (self.new ≡ self.old) }
+        ensures found { is_some result ≡ begins_flat (map (λ l. l.token) self.old) }
     {
         let (leaves, behind) = split_leaves(self.rest)?;
         self.rest = behind;

@@ -9,8 +9,8 @@ use Rattle.net_parser.proofs.reader.split_leaves.Goals as goal
 pub split_at-requires : goal.split_at-requires
 split_at-requires c = rw c.count_leaves.ensures (prefix_len-le-length is_leaf_token c.args.tokens.now)
 
-pub returns-in-ParenClose : goal.returns-in-ParenClose
-returns-in-ParenClose c =
+pub returns-in-ParenClose-clause-flat : goal.returns-in-ParenClose-clause-flat
+returns-in-ParenClose-clause-flat c =
     let none : Token = record { kind = Word; start = 0; end = 0 } in
     let back = c.split_at.result.1.now in
     rw c.split_at.ensures.front
