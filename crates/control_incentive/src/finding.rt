@@ -4,30 +4,29 @@ ghost use Rattle.std.specs.Prelude.{◌≡◌, IfOk, IfSome};
 ghost use Rattle.maid_model.specs.declared.diagrams.Kind.TheVariants.{Chance};
 ghost use Rattle.maid_model.specs.Nodes.{node_at};
 ghost use Rattle.optimum_gap.specs.Baselines.{IsBaseline};
+ghost use Rattle.rule_solver.specs.Kept.{IsKeptDiagram};
 ghost use Rattle.rule_solver.specs.Rooms.{AreLeft};
-ghost use Rattle.size_precheck.specs.Kept.{IsKeptRun};
 ghost use Rattle.control_incentive.specs.Steps.{IsFoundAlone};
 
 use diagram_graph::{MakeFault, make_decision};
 use optimum_gap::{Baseline, Found, edits_keep_scopes};
-use rule_solver::Workspaces;
-use size_precheck::{KeptRun, kept_runs_stand};
+use rule_solver::{KeptDiagram, Workspaces, kept_diagrams_stand};
 use std::alloc::{AllocError, Global};
 
 /// What is found of the control of a chance node that matters to the agent or doesn't. Where it does, the diagram in which
-/// the agent decides at the node is solved once, and the plans that are kept stand in it. It runs in the workspaces that are
-/// left of another run, and leaves its own.
+/// the agent decides at the node is solved once, and the plans and searches that are kept stand in it. It runs in the
+/// workspaces that are left of another run, and leaves its own.
 pub(crate) fn find(
     alloc: Global,
     baseline: &Baseline,
-    kept: Option<&KeptRun>,
+    kept: Option<&KeptDiagram>,
     left: &mut Option<Workspaces>,
     matters: bool,
     node: usize,
 ) -> Result<Found, AllocError>
     requires baseline { IsBaseline baseline.now.diagram.now baseline.now.agent
         baseline.now.optimum }
-    requires kept { IfSome kept (λ run. IsKeptRun baseline.now.diagram.now.nodes run.now) }
+    requires kept { IfSome kept (λ known. IsKeptDiagram baseline.now.diagram.now.nodes known.now) }
     requires left { AreLeft left.old }
     requires chance { (node_at baseline.now.diagram.now.nodes node).kind ≡ Chance }
     ensures found { IfOk result
@@ -35,7 +34,7 @@ pub(crate) fn find(
     ensures left { AreLeft left.new }
 {
     edits_keep_scopes();
-    kept_runs_stand();
+    kept_diagrams_stand();
     if !matters {
         return Ok(Found::Worthless);
     }

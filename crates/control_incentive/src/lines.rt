@@ -7,8 +7,8 @@ ghost use Rattle.maid_model.specs.Nodes.{is_chance, node_at};
 ghost use Rattle.maid_model.specs.Scopes.{KeepsScopedBounds};
 ghost use Rattle.maid_model.specs.Views.{NodeView};
 ghost use Rattle.optimum_gap.specs.Baselines.{IsBaseline};
+ghost use Rattle.rule_solver.specs.Kept.{IsKeptDiagram};
 ghost use Rattle.rule_solver.specs.Rooms.{AreLeft};
-ghost use Rattle.size_precheck.specs.Kept.{IsKeptRun};
 ghost use Rattle.control_incentive.specs.Lines.{IsControlLine, IsTrimmedAlone, TellsControl, chance_nodes, node_of};
 ghost use Rattle.control_incentive.specs.Steps.{IsLineAlone};
 
@@ -19,8 +19,7 @@ use maid_model::{Diagram, Kind, Solved};
 use node_sets::NodeSet;
 use optimum_gap::{Baseline, Found, answers_are_baselines};
 use requisite_trim::trim;
-use rule_solver::Workspaces;
-use size_precheck::{KeptRun, keep_plans};
+use rule_solver::{KeptDiagram, Workspaces, keep_diagram};
 use std::alloc::{AllocError, Global};
 
 /// What control of the chance node is worth to the agent, and which incentives it has there.
@@ -59,16 +58,17 @@ fn chance_nodes(alloc: Global, diagram: &Diagram) -> Result<Vec<usize>, AllocErr
     Ok(nodes)
 }
 
-/// The plans of the diagram, if any node matters, and else none: then no edited diagram is solved.
-fn plans_for(
+/// The plans of the diagram and the searches for its decisions, if any node matters, and else nothing: then no edited
+/// diagram is solved.
+fn keep_for(
     alloc: Global,
     alone: &Diagram,
     matter: &NodeSet,
-) -> Result<Option<KeptRun>, AllocError>
-    ensures { IfOk result (λ kept. IfSome kept (IsKeptRun alone.now.nodes)) }
+) -> Result<Option<KeptDiagram>, AllocError>
+    ensures { IfOk result (λ kept. IfSome kept (IsKeptDiagram alone.now.nodes)) }
 {
     match matter.first_from(0) {
-        Some(_) => Ok(Some(keep_plans(alloc, alone)?)),
+        Some(_) => Ok(Some(keep_diagram(alloc, alone)?)),
         None => Ok(None),
     }
 }
@@ -77,14 +77,14 @@ fn plans_for(
 fn control_line(
     alloc: Global,
     baseline: &Baseline,
-    kept: Option<&KeptRun>,
+    kept: Option<&KeptDiagram>,
     left: &mut Option<Workspaces>,
     paths: &Paths,
     node: usize,
 ) -> Result<ControlLine, AllocError>
     requires baseline { IsBaseline baseline.now.diagram.now baseline.now.agent
         baseline.now.optimum }
-    requires kept { IfSome kept (λ run. IsKeptRun baseline.now.diagram.now.nodes run.now) }
+    requires kept { IfSome kept (λ known. IsKeptDiagram baseline.now.diagram.now.nodes known.now) }
     requires left { AreLeft left.old }
     requires chance { (node_at baseline.now.diagram.now.nodes node).kind ≡ Chance }
     requires within { node < length baseline.now.diagram.now.nodes }
@@ -109,13 +109,13 @@ fn control_line(
 fn control_lines(
     alloc: Global,
     baseline: &Baseline,
-    kept: Option<&KeptRun>,
+    kept: Option<&KeptDiagram>,
     paths: &Paths,
     nodes: &[usize],
 ) -> Result<Vec<ControlLine>, AllocError>
     requires baseline { IsBaseline baseline.now.diagram.now baseline.now.agent
         baseline.now.optimum }
-    requires kept { IfSome kept (λ run. IsKeptRun baseline.now.diagram.now.nodes run.now) }
+    requires kept { IfSome kept (λ known. IsKeptDiagram baseline.now.diagram.now.nodes known.now) }
     requires chance { All (λ v. (node_at baseline.now.diagram.now.nodes v).kind ≡ Chance)
         nodes.now }
     requires within { All (λ v. v < length baseline.now.diagram.now.nodes) nodes.now }
@@ -142,8 +142,8 @@ fn control_lines(
 ///
 /// The optimum before is the answer's own gain. It trims the diagram and searches it a few times, and each line costs at
 /// most one edit and one run of the solver. The plans of the agent's decisions and those of the utilities' worths are made
-/// once for all lines, and copied for each run, which makes only those of the node's decision. The runs share their
-/// workspaces.
+/// once for all lines, and copied for each run, which makes only those of the node's decision. The searches for the agent's
+/// decisions are made once, too, and each run makes only that for the node. The runs share their workspaces.
 ///
 /// # Errors
 ///
@@ -177,6 +177,6 @@ pub fn control(
         optimum: solved.gains[agent],
     };
     let nodes = chance_nodes(alloc, diagram)?;
-    let kept = plans_for(alloc, &alone, &paths.matter)?;
+    let kept = keep_for(alloc, &alone, &paths.matter)?;
     control_lines(alloc, &baseline, kept.as_ref(), &paths, &nodes)
 }

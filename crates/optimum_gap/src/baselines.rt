@@ -6,16 +6,15 @@ ghost use Rattle.maid_model.specs.Subgames.{OwnsAll};
 ghost use Rattle.maid_model.specs.Values.{IsOptimum};
 ghost use Rattle.maid_model.specs.Views.{DiagramView};
 ghost use Rattle.rule_solver.specs.Faults.{solve_fault, solve_pass};
+ghost use Rattle.rule_solver.specs.Kept.{IsKeptDiagram};
 ghost use Rattle.rule_solver.specs.Rooms.{AreLeft};
-ghost use Rattle.size_precheck.specs.Kept.{IsKeptRun};
 ghost use Rattle.optimum_gap.specs.Baselines.{HaveNearScopes, IsBaseline};
 ghost use Rattle.optimum_gap.specs.Found.{IsGain, IsLoss, TellsReason, solving};
 
 use crate::differences::difference;
 use crate::found::Found;
 use maid_model::{Diagram, Ratio};
-use rule_solver::{SolveFault, Workspaces, optimum_with};
-use size_precheck::KeptRun;
+use rule_solver::{KeptDiagram, SolveFault, Workspaces, optimum_with};
 use std::alloc::{AllocError, Global};
 
 /// Why a diagram that the solver refuses has no value.
@@ -66,8 +65,8 @@ impl<'a> Baseline<'a> {
         self.gain_with(alloc, edited, None, &mut None)
     }
 
-    /// The same where plans of the edited diagram are kept, and are not made again, in workspaces that another run has
-    /// left where they have the room. It leaves its own for the next one.
+    /// The same where plans of the edited diagram and searches for its decisions are kept, and are not made again, in
+    /// workspaces that another run has left where they have the room. It leaves its own for the next one.
     ///
     /// # Errors
     ///
@@ -76,14 +75,14 @@ impl<'a> Baseline<'a> {
         &self,
         alloc: Global,
         edited: &Diagram,
-        kept: Option<&KeptRun>,
+        kept: Option<&KeptDiagram>,
         left: &mut Option<Workspaces>,
     ) -> Result<Found, AllocError>
         requires baseline { IsBaseline self.now.diagram.now self.now.agent self.now.optimum }
         requires alone { OwnsAll edited.now.nodes self.now.agent }
         requires within { self.now.agent < edited.now.agents }
         requires near { HaveNearScopes self.now.diagram.now edited.now self.now.agent }
-        requires kept { IfSome kept (λ run. IsKeptRun edited.now.nodes run.now) }
+        requires kept { IfSome kept (λ known. IsKeptDiagram edited.now.nodes known.now) }
         requires left { AreLeft left.old }
         ensures gain { IfOk result (IsGain self.now.diagram.now edited.now self.now.agent) }
         ensures left { AreLeft left.new }

@@ -1,3 +1,4 @@
 pub mod Views
 pub mod Relevant
 pub mod Steps
+pub mod Kept

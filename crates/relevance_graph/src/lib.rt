@@ -2,9 +2,13 @@
 //! solving that comes of it, or the cycle where there is none.
 #![tactic(auto)]
 
+mod laws;
 mod placed;
 mod relevance;
 mod reliance;
+mod searches;
 mod walks;
 
-pub use relevance::{Relevance, find_relevance};
+pub use laws::kept_searches_stand;
+pub use relevance::{Relevance, find_relevance, find_relevance_with};
+pub use searches::{KeptSearch, keep_searches};

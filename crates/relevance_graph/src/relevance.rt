@@ -1,11 +1,13 @@
 //! The relevance graph of a diagram.
 
-ghost use Rattle.std.specs.Prelude.{◌≡◌, ◌<◌, ◌↔◌, length, IsTrue, IfOk, MatchResult};
+ghost use Rattle.std.specs.Prelude.{◌≡◌, ◌<◌, ◌↔◌, All, length, IsTrue, IfOk, MatchResult};
+ghost use Rattle.relevance_graph.specs.Kept.{IsKeptSearch};
 ghost use Rattle.relevance_graph.specs.Relevant.{IsRelevance};
 ghost use Rattle.relevance_graph.specs.Views.{ReliesTo, relied_on_by};
 
 use crate::placed::place_decisions;
 use crate::reliance::list_reliance;
+use crate::searches::KeptSearch;
 use diagram_graph::Placing;
 use maid_model::Diagram;
 use std::alloc::{AllocError, Global};
@@ -73,7 +75,20 @@ impl Relevance {
 pub fn find_relevance(alloc: Global, diagram: &Diagram) -> Result<Relevance, AllocError>
     ensures { IfOk result (IsRelevance diagram.now.nodes) }
 {
-    let relied_on = list_reliance(alloc, diagram)?;
+    find_relevance_with(alloc, diagram, &[])
+}
+
+/// The same where searches are kept: it searches for no decision of which one is. Each decision is looked for among what
+/// is kept.
+pub fn find_relevance_with(
+    alloc: Global,
+    diagram: &Diagram,
+    kept: &[KeptSearch],
+) -> Result<Relevance, AllocError>
+    requires { All (IsKeptSearch diagram.now.nodes) kept.now }
+    ensures { IfOk result (IsRelevance diagram.now.nodes) }
+{
+    let relied_on = list_reliance(alloc, diagram, kept)?;
     let placing = place_decisions(alloc, diagram, &relied_on)?;
     Ok(Relevance { relied_on, placing })
 }

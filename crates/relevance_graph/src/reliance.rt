@@ -1,13 +1,14 @@
 //! On which decisions each decision relies.
 
-ghost use Rattle.std.specs.Prelude.{◌≡◌, ◌<◌, ◌↔◌, length, IsTrue, IfOk};
+ghost use Rattle.std.specs.Prelude.{◌≡◌, ◌<◌, ◌↔◌, All, length, IsTrue, IfOk};
 ghost use Rattle.node_sets.specs.declared.sets.TheConstants.{MOST_NODES};
 ghost use Rattle.maid_model.specs.Nodes.{IsDecision};
 ghost use Rattle.maid_model.specs.Relevance.{IsLive, ReliesOn};
 ghost use Rattle.diagram_graph.specs.Cycles.{lists_in};
+ghost use Rattle.relevance_graph.specs.Kept.{IsKeptSearch};
 ghost use Rattle.relevance_graph.specs.Steps.{IsLiveDecision, IsSearchedFor, ListsBelow, TellsReliance};
 
-use crate::walks::search_from_goals;
+use crate::searches::{KeptSearch, marks_of};
 use bayes_ball::Marks;
 use maid_model::{Diagram, Kind};
 use std::alloc::{AllocError, Global};
@@ -56,27 +57,38 @@ fn list_relied_on(
     Ok(list)
 }
 
-/// What the node relies on, by one search where it is a decision of two states or more.
-fn relied_on_by(alloc: Global, diagram: &Diagram, v: usize) -> Result<Vec<usize>, AllocError>
-    requires { v < length diagram.now.nodes }
+/// What the node relies on, by one search where it is a decision of two states or more, unless that is kept.
+fn relied_on_by(
+    alloc: Global,
+    diagram: &Diagram,
+    kept: &[KeptSearch],
+    v: usize,
+) -> Result<Vec<usize>, AllocError>
+    requires kept { All (IsKeptSearch diagram.now.nodes) kept.now }
+    requires within { v < length diagram.now.nodes }
     ensures { IfOk result (λ list.
         ListsBelow (ReliesOn diagram.now.nodes v) (length diagram.now.nodes) list.items) }
 {
     if !is_live_decision(diagram, v) {
         return Ok(Vec::new(alloc));
     }
-    let marks = search_from_goals(diagram, v);
+    let marks = marks_of(diagram, kept, v);
     list_relied_on(alloc, diagram, v, &marks)
 }
 
 /// What each node relies on, in text order.
-pub(crate) fn list_reliance(alloc: Global, diagram: &Diagram) -> Result<Vec<Vec<usize>>, AllocError>
+pub(crate) fn list_reliance(
+    alloc: Global,
+    diagram: &Diagram,
+    kept: &[KeptSearch],
+) -> Result<Vec<Vec<usize>>, AllocError>
+    requires { All (IsKeptSearch diagram.now.nodes) kept.now }
     ensures { IfOk result (λ lists.
         TellsReliance diagram.now.nodes (length diagram.now.nodes) (lists_in lists.items)) }
 {
     let mut lists = Vec::with_capacity(alloc, diagram.count())?;
     for v in 0..diagram.count() {
-        lists.push(relied_on_by(alloc, diagram, v)?)?;
+        lists.push(relied_on_by(alloc, diagram, kept, v)?)?;
     }
     Ok(lists)
 }

@@ -6,16 +6,15 @@ ghost use Rattle.maid_model.specs.Diagrams.{IsDiagram};
 ghost use Rattle.maid_model.specs.Placing.{IsRelianceOrder};
 ghost use Rattle.maid_model.specs.Scopes.{KeepsScopedBounds};
 ghost use Rattle.size_precheck.specs.Decisions.{ArePlans};
-ghost use Rattle.size_precheck.specs.Kept.{IsKeptRun};
 ghost use Rattle.size_precheck.specs.Sizes.{IsSizeOfRun, ListsDecisions, ArePlansOfWorths};
 ghost use Rattle.rule_solver.specs.Faults.{KeepsSizes, bound_pass, size_pass, solve_fault};
+ghost use Rattle.rule_solver.specs.Kept.{IsKeptDiagram};
 ghost use Rattle.rule_solver.specs.Rooms.{HasRoom};
 
 use crate::SolveFault;
+use crate::keeping::KeptDiagram;
 use maid_model::{Diagram, MOST_PLAN_CELLS, MOST_WORK, descent_is_tested};
-use size_precheck::{
-    KeptRun, RunPlans, Size, greedy_orders, plan_run, plan_run_with, sizes_of_plans,
-};
+use size_precheck::{RunPlans, Size, greedy_orders, plan_run, plan_run_with, sizes_of_plans};
 use std::alloc::{AllocError, Global};
 use weight_scale::{BoundPlace, bound};
 
@@ -43,16 +42,16 @@ fn plan_by(
     alloc: Global,
     diagram: &Diagram,
     order: &[usize],
-    kept: Option<&KeptRun>,
+    kept: Option<&KeptDiagram>,
 ) -> Result<RunPlans, AllocError>
     requires order { ListsDecisions diagram.now.nodes order.now }
-    requires kept { IfSome kept (λ run. IsKeptRun diagram.now.nodes run.now) }
+    requires kept { IfSome kept (λ known. IsKeptDiagram diagram.now.nodes known.now) }
     ensures plans { IfOk result (λ run. ArePlans diagram.now.nodes order.now run.decisions.items) }
     ensures worths { IfOk result (λ run. ArePlansOfWorths diagram.now.nodes run.worths.items) }
     ensures size { IfOk result (λ run. IsSizeOfRun diagram.now.nodes order.now run.size) }
 {
     match kept {
-        Some(run) => plan_run_with(alloc, diagram, order, run),
+        Some(known) => plan_run_with(alloc, diagram, order, &known.plans),
         None => plan_run(alloc, diagram, order),
     }
 }
@@ -63,10 +62,10 @@ pub(crate) fn keep_sizes(
     alloc: Global,
     diagram: &Diagram,
     order: &[usize],
-    kept: Option<&KeptRun>,
+    kept: Option<&KeptDiagram>,
 ) -> Result<RunPlans, SolveFault>
     requires order { IsRelianceOrder diagram.now.nodes order.now }
-    requires kept { IfSome kept (λ run. IsKeptRun diagram.now.nodes run.now) }
+    requires kept { IfSome kept (λ known. IsKeptDiagram diagram.now.nodes known.now) }
     ensures rows { Passes solve_fault (size_pass diagram.now) result }
     ensures plans { IfOk result (λ run. ArePlans diagram.now.nodes order.now run.decisions.items) }
     ensures worths { IfOk result (λ run. ArePlansOfWorths diagram.now.nodes run.worths.items) }

@@ -17,9 +17,9 @@ ghost use Rattle.part_laws.specs.ScopeLaws.{HasSmallRules, HasUnitRules};
 ghost use Rattle.plan_sums.specs.Plans.{worth_plan};
 ghost use Rattle.relevance_graph.specs.Relevant.{IsRelevance};
 ghost use Rattle.size_precheck.specs.Decisions.{ArePlans};
-ghost use Rattle.size_precheck.specs.Kept.{IsKeptRun};
 ghost use Rattle.size_precheck.specs.Sizes.{ArePlansOf, IsPlanned, ArePlansOfWorths};
 ghost use Rattle.rule_solver.specs.Faults.{solve_fault, solve_pass};
+ghost use Rattle.rule_solver.specs.Kept.{IsKeptDiagram};
 ghost use Rattle.rule_solver.specs.Optima.{ChoosesAll, ChoosesRows, IsChosenBy};
 ghost use Rattle.rule_solver.specs.Rooms.{AreLeft, AreReady, HasRoom, HasRoomAt, HasRoomForWorths, IsReady, AreReadyFor};
 ghost use Rattle.rule_solver.specs.Rows.{gain_in};
@@ -29,6 +29,7 @@ ghost use Rattle.rule_solver.specs.Worths.{HasWorthsFor, IsWorth};
 use crate::SolveFault;
 use crate::bases::turn_base;
 use crate::decision_sums::row_gains_by;
+use crate::keeping::{KeptDiagram, find_by};
 use crate::limits::{keep_bound, keep_sizes};
 use crate::rows::first_best;
 use crate::spaces::Workspaces;
@@ -40,8 +41,8 @@ use maid_laws::{answers_are_best, exchange, one_agent};
 use maid_model::{Answer, Diagram, Kind, Profile, Ratio, Row};
 use node_sets::NodeSet;
 use part_laws::{parts_decide, scoped_sums_fit, scopes_are_parts};
-use relevance_graph::{Relevance, find_relevance};
-use size_precheck::{DecisionPlans, KeptRun, Plan, RunPlans};
+use relevance_graph::Relevance;
+use size_precheck::{DecisionPlans, Plan, RunPlans};
 use std::alloc::{AllocError, Global};
 use weight_scale::agent_scope;
 
@@ -301,14 +302,14 @@ fn optimum_ordered(
     agent: usize,
     relevance: &Relevance,
     order: &[usize],
-    kept: Option<&KeptRun>,
+    kept: Option<&KeptDiagram>,
     left: &mut Option<Workspaces>,
 ) -> Result<Ratio, SolveFault>
     requires alone { OwnsAll diagram.now.nodes agent }
     requires within { agent < diagram.now.agents }
     requires relevance { IsRelevance diagram.now.nodes relevance.now }
     requires order { IsRelianceOrder diagram.now.nodes order.now }
-    requires kept { IfSome kept (λ run. IsKeptRun diagram.now.nodes run.now) }
+    requires kept { IfSome kept (λ known. IsKeptDiagram diagram.now.nodes known.now) }
     requires left { AreLeft left.old }
     ensures rows { Passes solve_fault (solve_pass diagram.now) result }
     ensures ok { IfOk result (IsOptimum diagram.now.nodes diagram.now.decimals agent) }
@@ -320,9 +321,9 @@ fn optimum_ordered(
 }
 
 /// The optimum of the agent that owns all decisions of the diagram: what `solve` prints for it, at less cost. The plans of
-/// rows are made and counted, but not run, and so are those of other agents' utilities. Where plans are kept, those are
-/// copied, and only the others are made. So it is for a diagram that was looked at before some of its nodes became
-/// decisions. It runs in the workspaces that are left of another run, where they have the room, and leaves its own.
+/// rows are made and counted, but not run, and so are those of other agents' utilities. Where plans and searches are kept,
+/// the plans are copied, and only the others are made. So it is for a diagram that was looked at before some of its nodes
+/// became decisions. It runs in the workspaces that are left of another run, where they have the room, and leaves its own.
 ///
 /// # Errors
 ///
@@ -331,13 +332,13 @@ pub fn optimum_with(
     alloc: Global,
     diagram: &Diagram,
     agent: usize,
-    kept: Option<&KeptRun>,
+    kept: Option<&KeptDiagram>,
     left: &mut Option<Workspaces>,
 ) -> Result<Ratio, SolveFault>
     requires alone { OwnsAll diagram.now.nodes agent }
     requires within { agent < diagram.now.agents }
-    // What is kept are plans of the diagram.
-    requires kept { IfSome kept (λ run. IsKeptRun diagram.now.nodes run.now) }
+    // What is kept are plans and searches of the diagram.
+    requires kept { IfSome kept (λ known. IsKeptDiagram diagram.now.nodes known.now) }
     requires left { AreLeft left.old }
     // The optimum where nothing refuses the diagram, and else the first refusal that applies.
     ensures rows { Passes solve_fault (solve_pass diagram.now) result }
@@ -345,7 +346,7 @@ pub fn optimum_with(
     // What is left, if anything is, serves the next run.
     ensures left { AreLeft left.new }
 {
-    let relevance = find_relevance(alloc, diagram)?;
+    let relevance = find_by(alloc, diagram, kept)?;
     match relevance.order() {
         Ok(order) => optimum_ordered(alloc, diagram, agent, &relevance, order, kept, left),
         Err(cycle) => Err(SolveFault::Cycle {

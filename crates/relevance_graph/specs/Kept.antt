@@ -1,0 +1,26 @@
+-- Searches that are kept for later, of other diagrams too.
+use Rattle.std.specs.Prelude.{◌≡◌, ◌↔◌, ℕ, List, length}
+use Rattle.maid_model.specs.Nodes.{IsDecision, parents_of}
+use Rattle.maid_model.specs.Relevance.{IsLive, IsGoal}
+use Rattle.maid_model.specs.Views.{NodeView}
+use Rattle.relevance_graph.specs.declared.searches.KeptSearch.{KeptSearch}
+use Rattle.relevance_graph.specs.Steps.{IsSearchedFor}
+
+-- what is kept is of a decision among these nodes: from which nodes' extra parents its goals are reached
+pub record IsKeptSearch (nodes : List NodeView) (kept : KeptSearch) : Type 0 where
+  pub decision : IsDecision nodes kept.decision
+  pub marks : IsSearchedFor nodes kept.decision kept.marks
+
+-- the others keep all that searches for the nodes' decisions look at: the arcs, which nodes are live, and the decisions
+-- with their goals; what else is a chance node or a decision does not matter
+pub record KeepsSearches (nodes others : List NodeView) : Type 0 where
+  pub count : length others ≡ length nodes
+  pub parents : (v : ℕ) → parents_of others v ≡ parents_of nodes v
+  pub live : (v : ℕ) → IsLive others v ↔ IsLive nodes v
+  pub decision : (d : ℕ) → IsDecision nodes d → IsDecision others d
+  pub goal : (d u : ℕ) → IsDecision nodes d → IsGoal others d u ↔ IsGoal nodes d u
+
+-- then what is kept of the search for a decision is also kept of the others' decision
+abbrev pub KeptSearchesStand : Type 0
+KeptSearchesStand = (nodes others : List NodeView) (kept : KeptSearch) → KeepsSearches nodes others
+    → IsKeptSearch nodes kept → IsKeptSearch others kept
