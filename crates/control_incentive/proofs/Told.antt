@@ -1,5 +1,5 @@
 -- What is found where the agent decides alone is what the lines promise of the whole diagram.
-use Rattle.std.proofs.Common.{◌≡◌, ◌∙◌, ◌↔◌, ◌⊎◌, ◌<◌, ℕ, Bool, true, false, List, length, map, Vec, Global, arith, refl, sym, ap, subst, inl, inr, pos, ◌≤ℤ◌}
+use Rattle.std.proofs.Common.{◌≡◌, ◌∙◌, ◌↔◌, ◌⊎◌, ◌<◌, ℕ, Bool, true, List, length, map, Vec, Global, arith, sym, ap, subst, inl, inr, pos, ◌≤ℤ◌}
 use Rattle.std.proofs.lemmas.Int.{ints}
 use Rattle.std.proofs.lemmas.List.{get_or-map, length-map}
 use Rattle.std.specs.declared.alloc.AllocError.{AllocError}

@@ -1,7 +1,6 @@
 -- What control of chance nodes is worth to an agent, and which incentives it has there: a line for each (Everitt et
 -- al. 2021).
 use Rattle.std.specs.Prelude.{◌↔◌, ◌<◌, ℕ, List, filter, pos, ◌≤ℤ◌, IsTrue, IfSome}
-use Rattle.maid_model.specs.declared.answers.Ratio.{Ratio}
 use Rattle.maid_model.specs.declared.diagrams.Kind.TheVariants.{Decision, Utility}
 use Rattle.maid_model.specs.declared.limits.TheConstants.{MOST_RULE_CELLS}
 use Rattle.maid_model.specs.Edits.{as_decision, one_agent}

@@ -1,4 +1,4 @@
-use Rattle.std.proofs.Common.{rules, ◌≡◌, ◌<◌, true, inl, sym, subst}
+use Rattle.std.proofs.Common.{rules, ◌≡◌, ◌<◌, inl, sym, subst}
 use Rattle.std.specs.Prelude.{Ok, Err, IfOk, IfSome, IsTrue}
 use Rattle.std.proofs.lemmas.Option.{IfSome_then}
 use Rattle.first_fault.specs.Passes.{◌▸◌, rule}
@@ -10,8 +10,8 @@ use Rattle.diagram_graph.specs.Room.{rule_cells}
 use Rattle.optimum_gap.specs.Baselines.{HaveNearScopes}
 use Rattle.optimum_gap.specs.Found.{IsGain, TooLarge, Worthless, solving, unless}
 use Rattle.control_incentive.specs.Lines.{controlling}
-use Rattle.size_precheck.specs.Kept.{IsKeptRun}
-use Rattle.control_incentive.proofs.Deciding.{behind, plans_kept}
+use Rattle.rule_solver.specs.Kept.{IsKeptDiagram}
+use Rattle.control_incentive.proofs.Deciding.{behind, plans_kept, searches_kept}
 use Rattle.control_incentive.proofs.finding.find.Goals as goal
 
 no_error : {A E : Type 0} {x : A} {e : E} → Ok x ≡ Err e → ⊥
@@ -29,9 +29,10 @@ pub gain_with-requires-clause-kept : goal.gain_with-requires-clause-kept
 gain_with-requires-clause-kept c =
     let d = c.args.baseline.now.diagram.now in
     let made = as_decision d.nodes c.args.baseline.now.agent c.args.node in
-    let stand = plans_kept d.nodes c.args.baseline.now.agent c.args.node c.requires.chance in
-    subst (λ (e : DiagramView). IfSome c.args.kept (λ run. IsKeptRun e.nodes run.now)) (sym c.in-Ok.ensures.made)
-    (IfSome_then c.args.kept c.requires.kept (λ run kept. c.kept_runs_stand.ensures d.nodes made run.now stand kept))
+    let plans = plans_kept d.nodes c.args.baseline.now.agent c.args.node c.requires.chance in
+    let searches = searches_kept d.nodes c.args.baseline.now.agent c.args.node c.requires.chance in
+    subst (λ (e : DiagramView). IfSome c.args.kept (λ known. IsKeptDiagram e.nodes known.now)) (sym c.in-Ok.ensures.made)
+    (IfSome_then c.args.kept c.requires.kept (λ known kept. c.kept_diagrams_stand.ensures d.nodes made known.now plans searches kept))
 
 -- the node matters and can be a decision, and the rest is the solver's
 pub returns-in-Ok-clause-found : goal.returns-in-Ok-clause-found

@@ -1,4 +1,4 @@
-use Rattle.std.proofs.Common.{◌≡◌, ◌∙◌, ℕ, ◌++◌, [], ◌∷◌, cond, Vec, Global, sym, ap}
+use Rattle.std.proofs.Common.{◌∙◌, ℕ, ◌++◌, [], ◌∷◌, cond, Vec, Global, sym, ap}
 use Rattle.std.proofs.lemmas.List.{append-nil}
 use Rattle.maid_model.specs.Nodes.{is_chance, node_at}
 use Rattle.control_incentive.proofs.Ranges.{filter_more}

@@ -1,4 +1,4 @@
-use Rattle.std.proofs.Common.{◌≡◌, ◌∙◌, ◌<◌, ℕ, All, ap, length, map, slice_index_or, sym, subst}
+use Rattle.std.proofs.Common.{◌≡◌, ◌∙◌, ◌<◌, All, ap, length, map, slice_index_or, sym, subst}
 use Rattle.std.specs.Prelude.{IfOk, IfSome, None, Option, Some}
 use Rattle.std.specs.Borrow.{Bor}
 use Rattle.std.specs.Option.{option_copied}
@@ -10,7 +10,7 @@ use Rattle.maid_model.specs.Trimming.{IsTrimmed}
 use Rattle.maid_model.specs.Views.{DiagramView, SolvedView}
 use Rattle.optimum_gap.specs.Baselines.{IsBaseline}
 use Rattle.optimum_gap.specs.Baselines.{alone}
-use Rattle.size_precheck.specs.Kept.{IsKeptRun}
+use Rattle.rule_solver.specs.Kept.{IsKeptDiagram}
 use Rattle.control_incentive.specs.Lines.{IsTrimmedAlone, chance_nodes, node_of}
 use Rattle.control_incentive.specs.Steps.{HasPaths, IsLineAlone}
 use Rattle.control_incentive.proofs.Deciding.{chance_there, listed_chance}
@@ -37,7 +37,7 @@ control_lines-requires-clause-baseline c =
     subst (λ (e : DiagramView). IsBaseline e c.args.agent gain) (sym c.in_ok-alone.ensures) (subst (IsBaseline (alone d solved.answers c.args.agent) c.args.agent) read base)
 
 pub control_lines-requires-clause-kept : goal.control_lines-requires-clause-kept
-control_lines-requires-clause-kept c = borrowed (IsKeptRun c.in_ok-alone.alone.nodes) c.as_ref.result (subst (λ kept. IfSome kept (IsKeptRun c.in_ok-alone.alone.nodes)) (sym c.as_ref.ensures.value) c.in_ok-kept.ensures)
+control_lines-requires-clause-kept c = borrowed (IsKeptDiagram c.in_ok-alone.alone.nodes) c.as_ref.result (subst (λ kept. IfSome kept (IsKeptDiagram c.in_ok-alone.alone.nodes)) (sym c.as_ref.ensures.value) c.in_ok-kept.ensures)
 
 -- the chance nodes are nodes, and stay chance nodes
 pub control_lines-requires-clause-chance : goal.control_lines-requires-clause-chance

@@ -1,4 +1,4 @@
-use Rattle.std.proofs.Common.{◌≡◌, ◌∙◌, ◌++◌, [], ◌∷◌, All, List, map, sym, ap, subst}
+use Rattle.std.proofs.Common.{◌∙◌, ◌++◌, [], ◌∷◌, All, List, map, sym, ap, subst}
 use Rattle.std.proofs.lemmas.List.{map-append, take_more}
 use Rattle.std.proofs.lemmas.List.Elements.{All-append, All-cons, All-nil}
 use Rattle.control_incentive.specs.declared.lines.ControlLine.{ControlLine}
