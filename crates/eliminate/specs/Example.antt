@@ -1,5 +1,5 @@
 -- The small diagram that the tests run. Only they cite this file.
-use Rattle.std.specs.Prelude.{ℕ, List, [], ◌∷◌, Some, ℤ, pos, negsuc}
+use Rattle.std.specs.Prelude.{ℕ, List, [], ◌∷◌, Some, ℤ, pos, negsuc, Option}
 use Rattle.maid_model.specs.declared.diagrams.Kind.{Kind}
 use Rattle.maid_model.specs.declared.diagrams.Kind.TheVariants.{Chance, Decision, Utility}
 use Rattle.maid_model.specs.Views.{NodeView, DiagramView}
@@ -25,3 +25,7 @@ example = record { nodes = example_nodes; agents = 1; decimals = 0 }
 -- the plan of the decision's states: it and the signal are kept, and its own rule is left out
 abbrev pub states_plan : PlanView
 states_plan = record { keep = 2 ∷ 1 ∷ []; without = Some 2; utility = Some 3 }
+
+-- a plan of these nodes
+abbrev pub plan_of : List ℕ → Option ℕ → Option ℕ → PlanView
+plan_of keep without utility = record { keep = keep; without = without; utility = utility }

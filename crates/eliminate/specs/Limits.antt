@@ -1,5 +1,5 @@
 -- Limits on cells and work, as private contracts see them. Only these cite this file.
-use Rattle.std.specs.Prelude.{◌≡◌, ℕ, ◌+◌, ◌-◌, ◌*◌, ◌≤◌, Bool, List, map, length, Option, SomeIff}
+use Rattle.std.specs.Prelude.{◌≡◌, ℕ, ◌+◌, ◌-◌, ◌*◌, ◌≤◌, Bool, List, map, length, Option, SomeIff, ◌<◌, [], take, sum_by, MatchOption}
 use Rattle.node_sets.specs.Sets.{holds}
 use Rattle.maid_model.specs.Views.{NodeView, RuleView}
 use Rattle.cell_rings.specs.Rings.{Ring}
@@ -11,7 +11,7 @@ use Rattle.size_precheck.specs.Counts.{counted_cells}
 use Rattle.size_precheck.specs.Greedy.{holding, joined_set}
 use Rattle.size_precheck.specs.Sizes.{steps_work}
 use Rattle.eliminate.specs.declared.counts.Limits.{Limits}
-use Rattle.eliminate.specs.Steps.{Lists, Between}
+use Rattle.eliminate.specs.Steps.{Lists, Between, first_cells}
 
 -- so many cells and so much work are taken from what is left, where there is as much
 abbrev pub Spends : Limits → ℕ → ℕ → Option Limits → Type 0
@@ -29,6 +29,11 @@ step_cells nodes v scopes = counted_cells nodes (joined_without v (holding v sco
 abbrev pub step_work : List NodeView → ℕ → List (ℕ → Bool) → ℕ
 step_work nodes v scopes = counted_cells nodes (joined_set v scopes) * length (holding v scopes)
 
+-- the cells and the work of a step over those scopes are
+abbrev pub SpendsStep : List NodeView → ℕ → List (ℕ → Bool) → Limits → Option Limits → Type 0
+SpendsStep nodes v scopes left result =
+    Spends left (step_cells nodes v scopes) (step_work nodes v scopes) result
+
 -- among the first tables: what was appended was taken from the limits
 pub record ListsWithin {C : Type 0}
     (c : Cells C) (nodes : List NodeView) (p : List RuleView) (before now : WorkspaceView C)
@@ -36,6 +41,14 @@ pub record ListsWithin {C : Type 0}
   pub lists : Lists c nodes p before now slots rest all
   pub cells : left.cells + lists.spent ≡ limits.cells
   pub work : left.work ≡ limits.work
+
+-- all first tables of these nodes stand, or their cells pass the limit
+abbrev pub ListsOrPasses :
+    {C : Type 0} → Cells C → List NodeView → List RuleView → WorkspaceView C → WorkspaceView C
+    → List Slot → List ℕ → Limits → Option Limits → Type 0
+ListsOrPasses c nodes p before now slots vs limits result =
+    MatchOption result (limits.cells < sum_by (first_cells c nodes p) vs)
+    (ListsWithin c nodes p before now (take (length vs) slots) [] vs limits)
 
 -- between steps: so was the work of those so far
 pub record BetweenWithin {C : Type 0}

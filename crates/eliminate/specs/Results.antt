@@ -16,6 +16,7 @@ use Rattle.size_precheck.specs.Counts.{counted_cells}
 use Rattle.size_precheck.specs.Sizes.{SizedPlan, made_cells, steps_work}
 use Rattle.eliminate.specs.declared.counts.Limits.{Limits}
 use Rattle.eliminate.specs.Steps.{first_cells}
+use Rattle.ring_sums.specs.Groups.{StepsFit, StepsHold}
 
 -- the greater of 1 and the greatest absolute value of the utility; 1 without one
 abbrev pub greatest_value : List NodeView → Option ℕ → ℕ
@@ -45,6 +46,17 @@ pub record SumsPlan {C : Type 0}
 abbrev pub tables_at :
     {C : Type 0} → Cells C → List NodeView → List RuleView → List ℕ → List (Table C)
 tables_at c nodes p vs = map (first_table c nodes p) vs
+
+-- each of the steps finds a table that holds its node
+abbrev pub FindTables :
+    {C : Type 0} → Cells C → List NodeView → List RuleView → List ℕ → List ℕ → Type 0
+FindTables c nodes p vs steps = StepsHold c.ring (states_of nodes) steps (tables_at c nodes p vs)
+
+-- the sums of all steps fit
+abbrev pub SumsFit :
+    {C : Type 0} → Cells C → List NodeView → List RuleView → List ℕ → List ℕ → Type 0
+SumsFit c nodes p vs steps =
+    StepsFit c.ring c.ring.size (states_of nodes) c.ring.most steps (tables_at c nodes p vs)
 
 -- what the steps leave of them
 abbrev pub tables_left :

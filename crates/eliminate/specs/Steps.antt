@@ -1,5 +1,5 @@
 -- What the steps of a run promise one another. Only private contracts cite this file.
-use Rattle.std.specs.Prelude.{◌≡◌, ℕ, ◌+◌, ◌<◌, ◌≤◌, not, List, [], ◌∷◌, ◌++◌, map, filter, length, All, sum_by, option_to_list}
+use Rattle.std.specs.Prelude.{◌≡◌, ℕ, ◌+◌, ◌<◌, ◌≤◌, not, List, [], ◌∷◌, ◌++◌, map, filter, length, All, sum_by, option_to_list, ◌⊎◌, Contains, Some, take}
 use Rattle.std.specs.List.{AllZip}
 use Rattle.node_sets.specs.Sets.{holds}
 use Rattle.maid_model.specs.Nodes.{states_of}
@@ -11,7 +11,7 @@ use Rattle.plan_sums.specs.Plans.{Cells, PlanView, ruled_nodes}
 use Rattle.factor_core.specs.declared.slots.Slot.{Slot}
 use Rattle.factor_core.specs.Operations.{first_table}
 use Rattle.factor_core.specs.Slots.{WorkspaceView, cells_over, IsLive, tables_of, Appends, AppendsTable, StaysLive}
-use Rattle.size_precheck.specs.Sizes.{made_cells}
+use Rattle.size_precheck.specs.Sizes.{made_cells, SizedPlan}
 
 -- the slots that hold the node, and the others
 abbrev pub slots_with : ℕ → List Slot → List Slot
@@ -27,6 +27,12 @@ pub record PutsTable {C : Type 0}
   pub slot : Slot
   pub appends : AppendsTable r nodes before after slot t
   pub slots : new ≡ old ++ slot ∷ []
+
+-- the table was the first one of the node, and the slots before and after are the first so many of these lists
+abbrev pub PutsFirst : {C : Type 0} → Cells C → List NodeView → List RuleView → WorkspaceView C
+    → WorkspaceView C → ℕ → List Slot → ℕ → List Slot → ℕ → Type 0
+PutsFirst c nodes p before after count old made new v =
+    PutsTable c.ring nodes before after (take count old) (take made new) (first_table c nodes p v)
 
 -- the slots that hold the node gave way to their join with the node summed out
 abbrev pub GiveWay : {C : Type 0} → Ring C → List NodeView → WorkspaceView C → WorkspaceView C
@@ -58,9 +64,19 @@ pub record Stand {C : Type 0}
 abbrev pub first_nodes : List NodeView → PlanView → List ℕ
 first_nodes nodes plan = ruled_nodes nodes plan ++ option_to_list plan.utility
 
+-- the plan keeps or eliminates the node, and doesn't leave its rule out
+abbrev pub HasOwnTable : SizedPlan → ℕ → Type 0
+HasOwnTable made v = (Contains made.plan.keep v ⊎ Contains made.steps v)
+    × (made.plan.without ≡ Some v → ⊥)
+
 -- the cells of a node's first table
 abbrev pub first_cells : {C : Type 0} → Cells C → List NodeView → List RuleView → ℕ → ℕ
 first_cells c nodes p v = cells_over nodes (first_table c nodes p v).holds
+
+-- those of a plan's first tables
+abbrev pub plan_first_cells :
+    {C : Type 0} → Cells C → List NodeView → List RuleView → PlanView → ℕ
+plan_first_cells c nodes p plan = sum_by (first_cells c nodes p) (first_nodes nodes plan)
 
 -- among the first tables: those that stand, and those of the nodes to come, are those of all
 pub record Lists {C : Type 0}
@@ -71,6 +87,12 @@ pub record Lists {C : Type 0}
   pub stand : Stand c.ring nodes before now spent slots tables
   pub leads : tables ++ map (first_table c nodes p) rest ≡ map (first_table c nodes p) all
   pub room : spent + sum_by (first_cells c nodes p) rest ≡ sum_by (first_cells c nodes p) all
+
+-- the slots are those of a plan's first tables
+abbrev pub ListsFirst : {C : Type 0} → Cells C → List NodeView → List RuleView → PlanView
+    → WorkspaceView C → WorkspaceView C → List Slot → Type 0
+ListsFirst c nodes p plan before now slots =
+    Lists c nodes p before now slots [] (first_nodes nodes plan)
 
 -- between steps: the steps to come lead from the tables that stand to what all steps make of the first ones, their
 -- sums fit, each finds a table that holds its node, and what they make has room

@@ -1,16 +1,16 @@
 //! The first tables of a plan.
 
-ghost use Rattle.std.specs.Prelude.{◌≡◌, ◌⊎◌, ◌↔◌, ℕ, ◌+◌, ◌*◌, ◌<◌, ◌≤◌, [], length, take, sum_by, Contains, Some};
+ghost use Rattle.std.specs.Prelude.{◌≡◌, ◌↔◌, ℕ, ◌+◌, ◌*◌, ◌<◌, ◌≤◌, length, take, Contains, Some};
 ghost use Rattle.maid_model.specs.Diagrams.{IsDiagram};
 ghost use Rattle.maid_model.specs.Nodes.{counts_of};
 ghost use Rattle.maid_model.specs.Profiles.{IsProfile};
 ghost use Rattle.node_sets.specs.declared.sets.TheConstants.{MOST_NODES};
 ghost use Rattle.node_sets.specs.Sets.{IsIn};
 ghost use Rattle.plan_sums.specs.Laws.{IsOrderOfPlan};
-ghost use Rattle.factor_core.specs.Operations.{cells_by, first_table, NumbersFit};
+ghost use Rattle.factor_core.specs.Operations.{cells_by, NumbersFit};
 ghost use Rattle.size_precheck.specs.Sizes.{CanBePlanned};
 ghost use Rattle.eliminate.specs.Results.{plan_total};
-ghost use Rattle.eliminate.specs.Steps.{first_cells, first_nodes, PutsTable, Lists};
+ghost use Rattle.eliminate.specs.Steps.{first_cells, first_nodes, HasOwnTable, ListsFirst, PutsFirst, plan_first_cells};
 
 use cell_rings::Cell;
 use factor_core::{Slot, StateCounts, Workspace};
@@ -23,9 +23,7 @@ fn ruled_nodes(plan: &Plan) -> NodeSet
     requires keep { (v : ℕ) → Contains plan.now.plan.keep v → v < MOST_NODES }
     requires steps { (v : ℕ) → Contains plan.now.steps v → v < MOST_NODES }
     requires without { (d : ℕ) → plan.now.plan.without ≡ Some d → d < MOST_NODES }
-    ensures { (v : ℕ) → IsIn result v
-        ↔ ((Contains plan.now.plan.keep v ⊎ Contains plan.now.steps v)
-        × (plan.now.plan.without ≡ Some v → ⊥)) }
+    ensures { (v : ℕ) → IsIn result v ↔ HasOwnTable plan.now v }
 {
     let mut ruled = NodeSet::empty();
     ruled.insert_all(plan.keep());
@@ -54,9 +52,8 @@ pub fn put_table<C: Cell>(
     requires room { first_cells (cells_by C.ring C.of_weight C.of_value) diagram.now.nodes
         profile.now node ≤ work.old.spare }
     ensures count { result ≡ count + 1 }
-    ensures puts { PutsTable C.ring diagram.now.nodes work.old work.new (take count live.old)
-        (take result live.new)
-        (first_table (cells_by C.ring C.of_weight C.of_value) diagram.now.nodes profile.now node) }
+    ensures puts { PutsFirst (cells_by C.ring C.of_weight C.of_value) diagram.now.nodes profile.now
+        work.old work.new count live.old result live.new node }
 {
     live[count] = work.table(diagram, counts, profile, node);
     count + 1
@@ -77,14 +74,13 @@ pub fn first_tables<C: Cell>(
     requires counts { counts.now ≡ counts_of diagram.now.nodes }
     requires profile { IsProfile diagram.now.nodes profile.now }
     requires fits { 2 * plan_total diagram.now.nodes profile.now plan.now.plan ≤ C.ring.most }
-    requires room { sum_by
-        (first_cells (cells_by C.ring C.of_weight C.of_value) diagram.now.nodes profile.now)
-        (first_nodes diagram.now.nodes plan.now.plan) ≤ work.old.spare }
+    requires room { plan_first_cells (cells_by C.ring C.of_weight C.of_value) diagram.now.nodes
+        profile.now plan.now.plan ≤ work.old.spare }
     requires tables { length (first_nodes diagram.now.nodes plan.now.plan) ≤ length live.old }
     ensures diagram { IsDiagram diagram.now }
     ensures few { result ≤ length live.old }
-    ensures lists { Lists (cells_by C.ring C.of_weight C.of_value) diagram.now.nodes profile.now
-        work.old work.new (take result live.new) [] (first_nodes diagram.now.nodes plan.now.plan) }
+    ensures lists { ListsFirst (cells_by C.ring C.of_weight C.of_value) diagram.now.nodes
+        profile.now plan.now.plan work.old work.new (take result live.new) }
 {
     let nodes = diagram.count();
     let ruled = ruled_nodes(plan);

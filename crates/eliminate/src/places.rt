@@ -1,10 +1,10 @@
 //! Slots at places, and for each node the places of those that hold it, so that a step looks at no other slot.
 
-ghost use Rattle.std.specs.Prelude.{◌≡◌, ◌+◌, ◌<◌, ◌≤◌, ◌⊎◌, ◌↔◌, ℕ, [], ◌∷◌, ◌++◌, length, slice_index_or, take};
+ghost use Rattle.std.specs.Prelude.{◌≡◌, ◌+◌, ◌<◌, ◌≤◌, ◌↔◌, ℕ, [], ◌∷◌, ◌++◌, length, slice_index_or, take};
 ghost use Rattle.node_sets.specs.declared.sets.NodeSet.{NodeSet};
 ghost use Rattle.node_sets.specs.declared.sets.TheConstants.{MOST_NODES};
 ghost use Rattle.node_sets.specs.Sets.{holds, IsIn};
-ghost use Rattle.eliminate.specs.Places.{slots_from, live_slots, IsBlank, Noted, IsBoard};
+ghost use Rattle.eliminate.specs.Places.{slots_from, IsBlank, Noted, IsBoard, NotesPlace, slots_at};
 
 use crate::lists::before;
 use factor_core::Slot;
@@ -38,9 +38,7 @@ pub fn gather(slots: &[Slot], places: &NodeSet, found: &mut [Slot]) -> usize
 /// Adds the place to those of each node of the scope, among the nodes that places are kept for.
 fn note_place(at: &mut [NodeSet], scope: &NodeSet, place: usize)
     requires { place < MOST_NODES }
-    ensures { (v k : ℕ) (none : NodeSet) → v < length at.old
-        → IsIn (slice_index_or at.new v none) k
-        ↔ (IsIn (slice_index_or at.old v none) k ⊎ ((k ≡ place) × IsIn scope.now v)) }
+    ensures { NotesPlace scope.now place at.old at.new }
 {
     let mut next = 0;
     'nodes: while let Some(v) = scope.first_from(next) {
@@ -98,7 +96,7 @@ pub fn all_live(slots: &[Slot], at: &mut [NodeSet], made: usize) -> Places
     requires blank { IsBlank at.old }
     ensures made { result.made ≡ made }
     ensures board { IsBoard at.new slots.now result.live result.made }
-    ensures live { live_slots result.live result.made slots.now ≡ take made slots.now }
+    ensures live { slots_at result slots.now ≡ take made slots.now }
 {
     note_slots(at, before(slots, made));
     Places {
@@ -114,9 +112,8 @@ fn pack(slots: &mut [Slot], at: &mut [NodeSet], places: Places, spare: &mut [Slo
     requires slots { length slots.old ≤ MOST_NODES }
     requires spare { length spare.old ≡ length slots.old }
     ensures board { IsBoard at.new slots.new result.live result.made }
-    ensures made { result.made ≡ length (live_slots places.live places.made slots.old) }
-    ensures live { live_slots result.live result.made slots.new
-        ≡ live_slots places.live places.made slots.old }
+    ensures made { result.made ≡ length (slots_at places slots.old) }
+    ensures live { slots_at result slots.new ≡ slots_at places slots.old }
 {
     let count = gather(before(slots, places.made), &places.live, spare);
     for i in 0..count {
@@ -136,13 +133,12 @@ pub fn put_slot(
 ) -> Places
     requires board { IsBoard at.old slots.old places.live places.made }
     requires made { places.made ≤ length slots.old }
-    requires few { length (live_slots places.live places.made slots.old) < length slots.old }
+    requires few { length (slots_at places slots.old) < length slots.old }
     requires slots { length slots.old ≤ MOST_NODES }
     requires spare { length spare.old ≡ length slots.old }
     ensures board { IsBoard at.new slots.new result.live result.made }
     ensures made { result.made ≤ length slots.old }
-    ensures live { live_slots result.live result.made slots.new
-        ≡ live_slots places.live places.made slots.old ++ slot.now ∷ [] }
+    ensures live { slots_at result slots.new ≡ slots_at places slots.old ++ slot.now ∷ [] }
 {
     if places.made == slots.len() {
         let packed = pack(slots, at, places, spare);
@@ -159,8 +155,7 @@ fn put_behind(slots: &mut [Slot], at: &mut [NodeSet], places: Places, slot: &Slo
     requires slots { length slots.old ≤ MOST_NODES }
     ensures board { IsBoard at.new slots.new result.live result.made }
     ensures made { result.made ≡ places.made + 1 }
-    ensures live { live_slots result.live result.made slots.new
-        ≡ live_slots places.live places.made slots.old ++ slot.now ∷ [] }
+    ensures live { slots_at result slots.new ≡ slots_at places slots.old ++ slot.now ∷ [] }
 {
     slots[places.made] = *slot;
     note_place(at, &slot.scope, places.made);

@@ -9,7 +9,7 @@ ghost use Rattle.node_sets.specs.declared.sets.TheConstants.{MOST_NODES};
 ghost use Rattle.factor_core.specs.Operations.{cells_by};
 ghost use Rattle.size_precheck.specs.Sizes.{CanBePlanned, IsMade};
 ghost use Rattle.eliminate.specs.Results.{plan_total, SumsPlan};
-ghost use Rattle.eliminate.specs.Places.{live_slots, IsBlank, IsBoard};
+ghost use Rattle.eliminate.specs.Places.{IsBlank, IsBoard, slots_at};
 ghost use Rattle.eliminate.specs.Steps.{first_nodes, CanJoinOut, GiveWay};
 
 use crate::firsts::first_tables;
@@ -52,13 +52,11 @@ pub fn eliminate<C: Cell>(
     requires slots { length slots.old ≤ MOST_NODES }
     requires joined { length joined.old ≡ length slots.old }
     requires node { node < length at.old }
-    requires join { CanJoinOut C.ring diagram.now.nodes work.old
-        (live_slots places.live places.made slots.old) node }
+    requires join { CanJoinOut C.ring diagram.now.nodes work.old (slots_at places slots.old) node }
     ensures board { IsBoard at.new slots.new result.live result.made }
     ensures made { result.made ≤ length slots.old }
-    ensures step { GiveWay C.ring diagram.now.nodes work.old work.new
-        (live_slots places.live places.made slots.old)
-        (live_slots result.live result.made slots.new) node }
+    ensures step { GiveWay C.ring diagram.now.nodes work.old work.new (slots_at places slots.old)
+        (slots_at result slots.new) node }
 {
     let held = places_of(at, &places, node);
     let count = gather(before(slots, places.made), &held, joined);

@@ -1,19 +1,17 @@
 //! Sums of tables of any nodes, within limits that the caller sets.
 
-ghost use Rattle.std.specs.Prelude.{◌≡◌, ◌↔◌, ℕ, ◌+◌, ◌*◌, ◌<◌, ◌≤◌, All, [], length, map, take, sum_by, MatchOption, IfSome, None};
+ghost use Rattle.std.specs.Prelude.{◌≡◌, ◌↔◌, ℕ, ◌+◌, ◌*◌, ◌<◌, ◌≤◌, All, [], length, map, IfSome, None};
 ghost use Rattle.maid_model.specs.declared.limits.TheConstants.{MOST_PLAN_CELLS};
 ghost use Rattle.maid_model.specs.Diagrams.{IsDiagram};
-ghost use Rattle.maid_model.specs.Nodes.{counts_of, states_of};
+ghost use Rattle.maid_model.specs.Nodes.{counts_of};
 ghost use Rattle.maid_model.specs.Profiles.{IsProfile};
 ghost use Rattle.node_sets.specs.declared.sets.TheConstants.{MOST_NODES};
 ghost use Rattle.node_sets.specs.Sets.{holds};
 ghost use Rattle.plan_sums.specs.Plans.{mass_cells};
-ghost use Rattle.ring_sums.specs.Groups.{StepsFit, StepsHold};
 ghost use Rattle.factor_core.specs.Operations.{cells_by, first_table, NumbersFit};
-ghost use Rattle.eliminate.specs.Limits.{Spends, ListsWithin, scopes_at, step_cells, step_work};
-ghost use Rattle.eliminate.specs.Places.{live_slots, IsBlank, IsBoard};
-ghost use Rattle.eliminate.specs.Results.{tables_at, SumsTables, Grows, IsTooMuch};
-ghost use Rattle.eliminate.specs.Steps.{first_cells};
+ghost use Rattle.eliminate.specs.Limits.{scopes_at, ListsOrPasses, SpendsStep};
+ghost use Rattle.eliminate.specs.Places.{IsBlank, IsBoard, slots_at};
+ghost use Rattle.eliminate.specs.Results.{SumsTables, Grows, IsTooMuch, FindTables, SumsFit};
 
 use crate::counts::{Limits, count_cells, spend, united_scope};
 use crate::firsts::put_table;
@@ -59,12 +57,8 @@ fn list_tables<C: Cell>(
     requires small { limits.cells ≤ MOST_PLAN_CELLS }
     requires room { limits.cells ≤ work.old.spare }
     requires len { length nodes.now ≤ length live.old }
-    ensures lists { MatchOption result
-        (limits.cells
-        < sum_by (first_cells (cells_by C.ring C.of_weight C.of_value) diagram.now.nodes
-        profile.now) nodes.now)
-        (ListsWithin (cells_by C.ring C.of_weight C.of_value) diagram.now.nodes profile.now work.old
-        work.new (take (length nodes.now) live.new) [] nodes.now limits) }
+    ensures lists { ListsOrPasses (cells_by C.ring C.of_weight C.of_value) diagram.now.nodes
+        profile.now work.old work.new live.new nodes.now limits result }
     ensures grows { Grows C.ring diagram.now.nodes work.old work.new }
 {
     let mut left = limits;
@@ -94,11 +88,8 @@ fn spend_on_step(
     requires slots { length slots.now ≤ MOST_NODES }
     requires joined { length joined.old ≡ length slots.now }
     requires node { (node < length at.now) × (node < MOST_NODES) }
-    ensures { Spends left
-        (step_cells diagram.now.nodes node
-        (scopes_at (live_slots places.now.live places.now.made slots.now)))
-        (step_work diagram.now.nodes node
-        (scopes_at (live_slots places.now.live places.now.made slots.now))) result }
+    ensures { SpendsStep diagram.now.nodes node (scopes_at (slots_at places.now slots.now)) left
+        result }
 {
     let held = places_of(at, places, node);
     let count = gather(before(slots, places.made), &held, joined);
@@ -134,12 +125,10 @@ fn sum_with<C: Cell>(
     requires known { All (λ v. v < length diagram.now.nodes) nodes.now }
     requires numbers { All (NumbersFit C.ring.most diagram.now.nodes profile.now) nodes.now }
     requires steps { All (λ v. v < length diagram.now.nodes) steps.now }
-    requires holds { StepsHold C.ring (states_of diagram.now.nodes) steps.now
-        (tables_at (cells_by C.ring C.of_weight C.of_value) diagram.now.nodes profile.now
-        nodes.now) }
-    requires fits { StepsFit C.ring C.ring.size (states_of diagram.now.nodes) C.ring.most steps.now
-        (tables_at (cells_by C.ring C.of_weight C.of_value) diagram.now.nodes profile.now
-        nodes.now) }
+    requires holds { FindTables (cells_by C.ring C.of_weight C.of_value) diagram.now.nodes
+        profile.now nodes.now steps.now }
+    requires fits { SumsFit (cells_by C.ring C.of_weight C.of_value) diagram.now.nodes profile.now
+        nodes.now steps.now }
     requires small { limits.cells ≤ MOST_PLAN_CELLS }
     requires room { limits.cells ≤ work.old.spare }
     ensures some { IfSome result (SumsTables (cells_by C.ring C.of_weight C.of_value)
@@ -180,12 +169,10 @@ fn sum_sized<C: Cell, const NODES: usize, const SLOTS: usize>(
     requires known { All (λ v. v < length diagram.now.nodes) nodes.now }
     requires numbers { All (NumbersFit C.ring.most diagram.now.nodes profile.now) nodes.now }
     requires steps { All (λ v. v < length diagram.now.nodes) steps.now }
-    requires holds { StepsHold C.ring (states_of diagram.now.nodes) steps.now
-        (tables_at (cells_by C.ring C.of_weight C.of_value) diagram.now.nodes profile.now
-        nodes.now) }
-    requires fits { StepsFit C.ring C.ring.size (states_of diagram.now.nodes) C.ring.most steps.now
-        (tables_at (cells_by C.ring C.of_weight C.of_value) diagram.now.nodes profile.now
-        nodes.now) }
+    requires holds { FindTables (cells_by C.ring C.of_weight C.of_value) diagram.now.nodes
+        profile.now nodes.now steps.now }
+    requires fits { SumsFit (cells_by C.ring C.of_weight C.of_value) diagram.now.nodes profile.now
+        nodes.now steps.now }
     requires small { limits.cells ≤ MOST_PLAN_CELLS }
     requires room { limits.cells ≤ work.old.spare }
     ensures some { IfSome result (SumsTables (cells_by C.ring C.of_weight C.of_value)
@@ -228,12 +215,10 @@ pub fn sum_tables<C: Cell>(
     requires few { length nodes.now ≤ MOST_NODES }
     requires numbers { All (NumbersFit C.ring.most diagram.now.nodes profile.now) nodes.now }
     requires steps { All (λ v. v < length diagram.now.nodes) steps.now }
-    requires holds { StepsHold C.ring (states_of diagram.now.nodes) steps.now
-        (tables_at (cells_by C.ring C.of_weight C.of_value) diagram.now.nodes profile.now
-        nodes.now) }
-    requires fits { StepsFit C.ring C.ring.size (states_of diagram.now.nodes) C.ring.most steps.now
-        (tables_at (cells_by C.ring C.of_weight C.of_value) diagram.now.nodes profile.now
-        nodes.now) }
+    requires holds { FindTables (cells_by C.ring C.of_weight C.of_value) diagram.now.nodes
+        profile.now nodes.now steps.now }
+    requires fits { SumsFit (cells_by C.ring C.of_weight C.of_value) diagram.now.nodes profile.now
+        nodes.now steps.now }
     requires small { limits.cells ≤ MOST_PLAN_CELLS }
     requires room { limits.cells ≤ work.old.spare }
     ensures some { IfSome result (SumsTables (cells_by C.ring C.of_weight C.of_value)

@@ -4,7 +4,7 @@ ghost use Rattle.std.specs.Prelude.{◌≡◌, ◌*◌, ◌≤◌, ◌∷◌, []
 ghost use Rattle.maid_model.specs.declared.limits.TheConstants.{MOST_PLAN_CELLS};
 ghost use Rattle.maid_model.specs.Profiles.{uniform_profile};
 ghost use Rattle.size_precheck.specs.Sizes.{CanBePlanned};
-ghost use Rattle.eliminate.specs.Example.{node_of, example_nodes, example, states_plan};
+ghost use Rattle.eliminate.specs.Example.{node_of, example_nodes, example, states_plan, plan_of};
 ghost use Rattle.eliminate.specs.Results.{plan_total};
 
 use crate::{Limits, release, run_plan, sum_tables};
@@ -70,15 +70,9 @@ fn run_twice<C: Cell>(
     utility: Option<usize>,
     cells: usize,
 ) -> Result<Vec<C>, AllocError>
-    requires asked { CanBePlanned example_nodes (record {
-      keep = keep.now;
-      without = without;
-      utility = utility;
-    }) }
-    requires fits { 2
-        * plan_total example_nodes (uniform_profile example_nodes)
-        (record { keep = keep.now; without = without; utility = utility })
-        ≤ C.ring.most }
+    requires asked { CanBePlanned example_nodes (plan_of keep.now without utility) }
+    requires fits { 2 * plan_total example_nodes (uniform_profile example_nodes)
+        (plan_of keep.now without utility) ≤ C.ring.most }
     requires few { cells ≤ MOST_PLAN_CELLS }
 {
     let diagram = make_example(alloc)?;
