@@ -2,11 +2,11 @@
 use Rattle.std.specs.Prelude.{◌≡◌, ℕ, ◌+◌, ◌*◌, ◌^◌, ◌<◌, ◌≤◌, List, length, slice_index, slice_index_or, ℤ, pos, ◌≤ℤ◌, ◌<ℤ◌, nat_abs, Option, Some, None}
 use Rattle.maid_model.specs.declared.answers.Ratio.{Ratio}
 use Rattle.maid_model.specs.declared.answers.Row.{Row}
-use Rattle.maid_model.specs.Views.{DiagramView, RuleView}
+use Rattle.maid_model.specs.Views.{DiagramView, RuleView, NodeView}
 use Rattle.maid_model.specs.Nodes.{states_of, rows_of}
 use Rattle.maid_model.specs.Diagrams.{greatest_number}
 use Rattle.maid_model.specs.Gains.{gain_at, mass_at}
-use Rattle.maid_model.specs.Parts.{part_diagram}
+use Rattle.maid_model.specs.Parts.{part_diagram, rules_in, with_ancestors}
 use Rattle.maid_model.specs.Scopes.{scope_of, rules_in_scope, place_in_scope}
 use Rattle.maid_model.specs.Answers.{IsBase, IsFraction, IsExpectedUtility, no_row}
 use Rattle.maid_model.specs.Accepted.{IsAcceptedRow}
@@ -26,6 +26,15 @@ pub record ListsSums
       (row : ℕ) → row < rows_of d.nodes v → pos (slice_index masses row) ≡ mass_at d.nodes p v row
   pub gain_small : (i : ℕ) → nat_abs (slice_index_or gains i (pos 0)) ≤ greatest_number
   pub mass_small : (row : ℕ) → slice_index masses row * 10 ^ d.decimals ≤ greatest_number
+
+-- the profile's rules in the part of these nodes and their ancestors
+abbrev pub rules_above : List NodeView → List RuleView → List ℕ → List RuleView
+rules_above nodes p of = rules_in nodes p (with_ancestors nodes of)
+
+-- the first of the cells of each row
+abbrev pub AreFirstCells : List NodeView → ℕ → List ℕ → List ℕ → Type 0
+AreFirstCells nodes v cells firsts = (row : ℕ) → row < rows_of nodes v
+    → slice_index firsts row ≡ slice_index cells (row * states_of nodes v)
 
 -- the sums in the part of the decision's scope
 abbrev pub ListsScopeSums : DiagramView → List RuleView → ℕ → List ℤ → List ℕ → Type 0
@@ -73,6 +82,11 @@ JudgesRows Passes Fails rows None =
     (row : ℕ) → row < length rows → Passes row (slice_index_or rows row no_row)
 JudgesRows Passes Fails rows (Some fault) = IsFirstFault Passes Fails rows fault
 
+-- the rows pass, or the fault is that of the first that doesn't, by listed gains and masses
+abbrev pub JudgesListed : List ℤ → List ℕ → ℕ → ℕ → List Row → Option RowFault → Type 0
+JudgesListed gains masses states scale rows fault = JudgesRows
+    (PassesListed gains masses states scale) (FailsListed gains masses states scale) rows fault
+
 -- the rows of the decision v, judged against its base in s
 pub record JudgesAnswer
     (d : DiagramView) (s : List RuleView) (v : ℕ) (rows : List Row) (fault : Option RowFault) : Type
@@ -82,10 +96,13 @@ pub record JudgesAnswer
   pub judged : JudgesRows (IsAcceptedRow d.nodes d.decimals base v)
       (FailsRow d.nodes d.decimals base v) rows fault
 
+-- the rules are worth that to the agent
+abbrev pub AreWorth : DiagramView → List RuleView → ℕ → Ratio → Type 0
+AreWorth d s agent gain = IsExpectedUtility d.nodes (10 ^ d.decimals) s agent gain
+
 -- what is printed for the agent is what the rules are worth to it
 abbrev pub PrintsGain : DiagramView → List RuleView → List Ratio → ℕ → Type 0
-PrintsGain d s gains agent =
-    IsExpectedUtility d.nodes (10 ^ d.decimals) s agent (slice_index_or gains agent no_gain)
+PrintsGain d s gains agent = AreWorth d s agent (slice_index_or gains agent no_gain)
 
 -- the agent is the first for which something else is printed
 pub record IsFirstWrong

@@ -3,8 +3,11 @@ use Rattle.std.specs.Prelude.{◌≡◌, ℕ, ◌*◌, List, slice_index, slice_
 use Rattle.diagram_graph.specs.Cycles.{lists_in}
 use Rattle.finite_sums.specs.Sums.{World}
 use Rattle.maid_model.specs.Nodes.{rows_of, states_of}
-use Rattle.tree_checker.specs.Walks.{HasRoom, IsSetting, gain_with, mass_with}
+use Rattle.tree_checker.specs.Walks.{HasRoom, IsSetting, gain_with, mass_with, ArePlaces, IsBefore, IsDownward, IsEnding, IsLast, ending}
 use Rattle.tree_checker.specs.declared.settings.Setting.{Setting}
+use Rattle.tree_checker.specs.declared.settings.Before.{Before}
+use Rattle.tree_checker.specs.declared.settings.Last.{Last}
+use Rattle.tree_checker.specs.declared.settings.Places.{Places}
 
 -- what the setting has is right
 abbrev pub HoldsSetting : Setting → Type 0
@@ -32,3 +35,23 @@ abbrev pub AddsMasses : Setting → List ℕ → ℕ → World → List ℕ → 
 AddsMasses s vs product w before after = (c : ℕ) → pos (slice_index after c)
     ≡ pos (slice_index before c)
     +ℤ mass_with s.diagram.now.nodes s.profile.now s.left_out vs product c w
+
+-- ---- the notions of walks in a setting
+abbrev pub IsLastIn : Setting → Last → Type 0
+IsLastIn s last = IsLast s.diagram.now.nodes s.left_out s.marks.now last
+
+abbrev pub IsBeforeIn : Setting → Last → Before → Type 0
+IsBeforeIn s last before = IsBefore s.diagram.now.nodes s.left_out last.node last.utility before
+
+abbrev pub ArePlacesIn : Setting → Last → World → Places → Type 0
+ArePlacesIn s last w places = ArePlaces s.diagram.now.nodes s.left_out last.node last.utility w places
+
+abbrev pub IsDownwardIn : Setting → List ℕ → Type 0
+IsDownwardIn s vs = IsDownward s.diagram.now.nodes vs
+
+-- the nodes with which its walks end, and that they are right
+abbrev pub ending_of : Setting → List ℕ
+ending_of s = ending s.last s.tail.now
+
+abbrev pub HasEnding : Setting → Type 0
+HasEnding s = IsEnding s.diagram.now.nodes s.left_out s.marks.now s.last s.tail.now

@@ -90,6 +90,33 @@ world_gain nodes d marks vs product utility c w =
 abbrev pub world_mass : List NodeView → ℕ → ℕ → ℕ → World → ℤ
 world_mass nodes d product c w = if cell_of nodes d w == c then pos product else pos 0
 
+-- the gain of that cell rises by x, and no other
+abbrev pub AddsGainAt : ℕ → ℤ → List ℤ → List ℤ → Type 0
+AddsGainAt cell x before after = (c : ℕ) → slice_index_or after c (pos 0)
+    ≡ slice_index_or before c (pos 0) +ℤ (if cell == c then x else pos 0)
+
+-- the mass of that cell rises by the weight, and no other
+abbrev pub AddsMassAt : ℕ → ℕ → List ℕ → List ℕ → Type 0
+AddsMassAt cell weight before after = (c : ℕ) → pos (slice_index after c)
+    ≡ pos (slice_index before c) +ℤ (if cell == c then pos weight else pos 0)
+
+-- the gain of that cell has room for those utilities at that weight
+abbrev pub GainFits : List ℤ → ℕ → ℕ → ℤ → Type 0
+GainFits gains cell weight utility =
+    nat_abs (slice_index_or gains cell (pos 0)) + weight * nat_abs utility ≤ greatest_number
+
+-- each cell's gain rises by what one world adds to it
+abbrev pub AddsWorldGain :
+    List NodeView → ℕ → NodeSet → List ℕ → ℕ → ℤ → World → List ℤ → List ℤ → Type 0
+AddsWorldGain nodes d marks vs product utility w before after = (c : ℕ)
+    → slice_index_or after c (pos 0)
+    ≡ slice_index_or before c (pos 0) +ℤ world_gain nodes d marks vs product utility c w
+
+-- and each cell's mass
+abbrev pub AddsWorldMass : List NodeView → ℕ → ℕ → World → List ℕ → List ℕ → Type 0
+AddsWorldMass nodes d product w before after = (c : ℕ) → pos (slice_index after c)
+    ≡ pos (slice_index before c) +ℤ world_mass nodes d product c w
+
 -- each of the nodes is a utility
 abbrev pub AreUtilities : List NodeView → List ℕ → Type 0
 AreUtilities nodes vs = (k : ℕ) → k < length vs → (node_at nodes (slice_index vs k)).kind ≡ Utility
@@ -111,6 +138,14 @@ pub record ArePlaces (nodes : List NodeView) (out v u : ℕ) (w : World) (places
     pub factor : places.factor ≡ cell_of nodes v (with_state w v 0)
     pub row : places.row ≡ row_of nodes u (with_state w v 0)
     pub cell : places.cell ≡ cell_of nodes out (with_state w v 0)
+
+-- the places that so many states further on have, with these steps
+abbrev pub places_further : Places → Places → ℕ → Places
+places_further places steps states = record {
+  factor = places.factor + states * steps.factor;
+  row = places.row + states * steps.row;
+  cell = places.cell + states * steps.cell;
+}
 
 -- a node that weighs something, and how far apart its states put those places
 pub record IsBefore (nodes : List NodeView) (out v u : ℕ) (before : Before) : Type 0 where
@@ -137,9 +172,16 @@ abbrev pub with_before : Option Before → List ℕ → List ℕ
 with_before None vs = vs
 with_before (Some before) vs = before.node ∷ vs
 
+-- its two nodes, and with the node before it
+abbrev pub last_two : Last → List ℕ
+last_two last = last.node ∷ last.utility ∷ []
+
+abbrev pub last_nodes : Last → List ℕ
+last_nodes last = with_before last.before (last_two last)
+
 abbrev pub ending : Option Last → List ℕ → List ℕ
 ending None tail = tail
-ending (Some last) tail = with_before last.before (last.node ∷ last.utility ∷ [])
+ending (Some last) tail = last_nodes last
 
 abbrev pub IsEnding : List NodeView → ℕ → NodeSet → Option Last → List ℕ → Type 0
 IsEnding nodes out marks None tail = AreUtilities nodes tail

@@ -1,13 +1,13 @@
 //! The gains and masses of a decision, listed.
 
-ghost use Rattle.std.specs.Prelude.{◌≡◌, ◌∷◌, ◌*◌, ◌^◌, ◌<◌, ◌≤◌, ℕ, max, length, slice_index, IfOk};
-ghost use Rattle.maid_model.specs.Diagrams.{greatest_number};
-ghost use Rattle.maid_model.specs.Gains.{base_mass, greatest_utility};
+ghost use Rattle.std.specs.Prelude.{◌≡◌, ◌∷◌, ◌*◌, ◌<◌, length, IfOk};
+ghost use Rattle.maid_model.specs.Gains.{base_mass};
 ghost use Rattle.maid_model.specs.Nodes.{IsDecision, rows_of, states_of};
 ghost use Rattle.maid_model.specs.Profiles.{IsProfile};
 ghost use Rattle.maid_model.specs.Scopes.{KeepsScopedBounds, goals_of};
 ghost use Rattle.part_laws.specs.ScopeLaws.{HasSmallRules};
-ghost use Rattle.tree_checker.specs.Judged.{ListsScopeSums, ListsSums};
+ghost use Rattle.tree_checker.specs.Judged.{ListsScopeSums, ListsSums, AreFirstCells};
+ghost use Rattle.maid_model.specs.Bounds.{HasRoomForWeight};
 
 use crate::parts::{place_of, stage_of};
 use crate::walks::cells_over;
@@ -55,9 +55,7 @@ fn row_masses(
     ensures count { IfOk result (λ masses.
         length masses.items ≡ rows_of diagram.now.nodes decision) }
     ensures masses { IfOk result (λ masses.
-        (row : ℕ) → row < rows_of diagram.now.nodes decision
-        → slice_index masses.items row
-        ≡ slice_index cells.now (row * states_of diagram.now.nodes decision)) }
+        AreFirstCells diagram.now.nodes decision cells.now masses.items) }
 {
     let states = diagram.states(decision);
     let mut masses = Vec::new(alloc);
@@ -76,9 +74,8 @@ fn sums_over(
 ) -> Result<RowSums, AllocError>
     requires decision { IsDecision diagram.now.nodes decision }
     requires profile { IsProfile diagram.now.nodes profile.now }
-    requires fits { base_mass diagram.now.nodes profile.now decision
-        * max (10 ^ diagram.now.decimals) (greatest_utility diagram.now.nodes)
-        ≤ greatest_number }
+    requires fits { HasRoomForWeight diagram.now
+        (base_mass diagram.now.nodes profile.now decision) }
     ensures { IfOk result (λ sums.
         ListsSums diagram.now profile.now decision sums.gains.items sums.masses.items) }
 {

@@ -1,13 +1,13 @@
 //! What one world adds to a sum over worlds.
 
-ghost use Rattle.std.specs.Prelude.{◌≡◌, ℕ, ◌+◌, ◌*◌, ◌<◌, ◌≤◌, length, pos, ◌+ℤ◌, ◌*ℤ◌, nat_abs, slice_index, slice_index_or, slice_set};
+ghost use Rattle.std.specs.Prelude.{◌≡◌, ◌+◌, ◌*◌, ◌<◌, ◌≤◌, length, pos, ◌+ℤ◌, ◌*ℤ◌, nat_abs, slice_index, slice_index_or, slice_set};
 ghost use Rattle.maid_model.specs.Diagrams.{IsDiagram, greatest_number};
 ghost use Rattle.maid_model.specs.Nodes.{counts_of, rows_of, states_of};
 ghost use Rattle.maid_model.specs.Private.{MarksUtilities};
 ghost use Rattle.maid_model.specs.Tables.{cell_of};
 ghost use Rattle.maid_model.specs.Worlds.{IsWorld, world_of};
 ghost use Rattle.finite_sums.specs.Sums.{nat_sum_over};
-ghost use Rattle.tree_checker.specs.Walks.{HasRoomAt, IsDownward, greatest_at, utility_with, value_at, world_gain, world_mass};
+ghost use Rattle.tree_checker.specs.Walks.{HasRoomAt, IsDownward, greatest_at, utility_with, value_at, AddsWorldGain, AddsWorldMass, GainFits};
 
 use maid_model::{Diagram, World};
 use node_sets::NodeSet;
@@ -84,8 +84,7 @@ pub(crate) fn add_to_cell(
 )
     requires gains { cell < length gains.old }
     requires masses { cell < length masses.old }
-    requires gain { nat_abs (slice_index_or gains.old cell (pos 0)) + product * nat_abs utility
-        ≤ greatest_number }
+    requires gain { GainFits gains.old cell product utility }
     requires mass { slice_index masses.old cell + product ≤ greatest_number }
     ensures gains { gains.new ≡ slice_set gains.old cell (slice_index_or gains.old cell (pos 0) +ℤ
         (pos product *ℤ utility)) }
@@ -118,12 +117,10 @@ pub(crate) fn add_world(
     requires masses { length masses.old
         ≡ rows_of diagram.now.nodes left_out * states_of diagram.now.nodes left_out }
     requires room { HasRoomAt diagram.now.nodes tail.now product utility gains.old masses.old }
-    ensures gains { (c : ℕ) → slice_index_or gains.new c (pos 0)
-        ≡ slice_index_or gains.old c (pos 0) +ℤ world_gain diagram.now.nodes left_out marks.now
-        tail.now product utility c (world_of world.now) }
-    ensures masses { (c : ℕ) → pos (slice_index masses.new c)
-        ≡ pos (slice_index masses.old c)
-        +ℤ world_mass diagram.now.nodes left_out product c (world_of world.now) }
+    ensures gains { AddsWorldGain diagram.now.nodes left_out marks.now tail.now product utility
+        (world_of world.now) gains.old gains.new }
+    ensures masses { AddsWorldMass diagram.now.nodes left_out product (world_of world.now)
+        masses.old masses.new }
     ensures gain_count { length gains.new ≡ length gains.old }
     ensures mass_count { length masses.new ≡ length masses.old }
 {

@@ -7,6 +7,7 @@ ghost use Rattle.maid_model.specs.Nodes.{node_at, rows_of, states_of};
 ghost use Rattle.maid_model.specs.Profiles.{IsProfile};
 ghost use Rattle.maid_model.specs.Tables.{weights_of};
 ghost use Rattle.tree_checker.specs.Walks.{HoldsFactors, ListsFactors, factor_by};
+ghost use Rattle.diagram_graph.specs.Room.{cells_at};
 
 use maid_model::{Diagram, Kind, Profile, profile_has_rules};
 use std::alloc::{AllocError, Global};
@@ -18,7 +19,7 @@ fn weights_at<'a>(diagram: &Diagram, profile: &'a Profile, v: usize) -> &'a [u12
     ensures weights { (node_at diagram.now.nodes v).kind ≡ Decision
         → result.now ≡ weights_of profile.now v }
     ensures count { (node_at diagram.now.nodes v).kind ≡ Decision
-        → length result.now ≡ rows_of diagram.now.nodes v * states_of diagram.now.nodes v }
+        → length result.now ≡ cells_at diagram.now.nodes v }
 {
     // A profile has a rule for each decision.
     profile_has_rules();
@@ -34,7 +35,7 @@ fn factor_of(diagram: &Diagram, weights: &[u128], left_out: usize, v: usize, cel
     requires node { v < length diagram.now.nodes }
     requires cell { cell < rows_of diagram.now.nodes v * states_of diagram.now.nodes v }
     requires weights { (node_at diagram.now.nodes v).kind ≡ Decision
-        → length weights.now ≡ rows_of diagram.now.nodes v * states_of diagram.now.nodes v }
+        → length weights.now ≡ cells_at diagram.now.nodes v }
     ensures { pos result ≡ factor_by diagram.now.nodes weights.now left_out v cell }
 {
     let kind = diagram.kind(v);

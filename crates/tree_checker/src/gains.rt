@@ -1,9 +1,9 @@
 //! What a report prints for each agent.
 
-ghost use Rattle.std.specs.Prelude.{◌≡◌, ◌<◌, ◌≤◌, ◌↔◌, ◌^◌, ◌*◌, ℕ, All, IfOk, IsTrue, length, max, nat_abs};
-ghost use Rattle.maid_model.specs.Answers.{IsExpectedUtility, IsReduced};
+ghost use Rattle.std.specs.Prelude.{◌≡◌, ◌<◌, ◌≤◌, ◌↔◌, ℕ, All, IfOk, IsTrue, length, nat_abs};
+ghost use Rattle.maid_model.specs.Answers.{IsReduced};
 ghost use Rattle.maid_model.specs.Diagrams.{greatest_number};
-ghost use Rattle.maid_model.specs.Gains.{gain_of, greatest_utility, mass};
+ghost use Rattle.maid_model.specs.Gains.{gain_of, mass};
 ghost use Rattle.maid_model.specs.Nodes.{is_utility_of};
 ghost use Rattle.maid_model.specs.Private.{MarksUtilities};
 ghost use Rattle.maid_model.specs.Profiles.{IsProfile};
@@ -11,7 +11,8 @@ ghost use Rattle.maid_model.specs.Scopes.{KeepsScopedBounds, utilities_for};
 ghost use Rattle.maid_model.specs.Tables.{weight_total};
 ghost use Rattle.part_laws.specs.ScopeLaws.{HasUnitRules};
 ghost use Rattle.node_sets.specs.Sets.{holds};
-ghost use Rattle.tree_checker.specs.Judged.{JudgesGains};
+ghost use Rattle.tree_checker.specs.Judged.{JudgesGains, AreWorth};
+ghost use Rattle.maid_model.specs.Bounds.{HasRoomForWeight};
 
 use crate::parts::stage_of;
 use crate::rows::{is_fraction, scale_of};
@@ -105,9 +106,7 @@ pub fn gain_over(
     agent: usize,
 ) -> Result<i128, AllocError>
     requires profile { IsProfile diagram.now.nodes profile.now }
-    requires fits { mass diagram.now.nodes profile.now
-        * max (10 ^ diagram.now.decimals) (greatest_utility diagram.now.nodes)
-        ≤ greatest_number }
+    requires fits { HasRoomForWeight diagram.now (mass diagram.now.nodes profile.now) }
     ensures sum { IfOk result (λ sum. sum ≡ gain_of diagram.now.nodes profile.now agent) }
     ensures small { IfOk result (λ sum. nat_abs sum ≤ greatest_number) }
 {
@@ -130,10 +129,7 @@ fn is_gain(
     requires pure { HasUnitRules diagram.now.nodes chosen.now }
     requires bound { KeepsScopedBounds diagram.now }
     requires reduced { IsReduced gain.now }
-    ensures { IfOk result (λ is.
-        IsTrue is
-        ↔ IsExpectedUtility diagram.now.nodes (10 ^ diagram.now.decimals) chosen.now agent
-        gain.now) }
+    ensures { IfOk result (λ is. IsTrue is ↔ AreWorth diagram.now chosen.now agent gain.now) }
 {
     let _count = diagram.count();
     let utilities = utilities_of(alloc, diagram, agent)?;

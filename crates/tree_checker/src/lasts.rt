@@ -1,12 +1,12 @@
 //! What the last nodes of a walk add.
 
-ghost use Rattle.std.specs.Prelude.{◌≡◌, ℕ, ◌+◌, ◌*◌, ◌<◌, ◌≤◌, ◌++◌, [], ◌∷◌, length, nat_abs, pos, ◌+ℤ◌, ◌*ℤ◌, slice_index, slice_index_or, ◌==◌, if◌then◌else◌};
+ghost use Rattle.std.specs.Prelude.{◌≡◌, ℕ, ◌+◌, ◌*◌, ◌<◌, ◌≤◌, ◌++◌, [], ◌∷◌, length, nat_abs, pos, ◌+ℤ◌, ◌*ℤ◌, slice_index, slice_index_or};
 ghost use Rattle.maid_model.specs.Nodes.{counts_of};
 ghost use Rattle.maid_model.specs.Diagrams.{greatest_number};
 ghost use Rattle.maid_model.specs.Private.{MarksUtilities};
 ghost use Rattle.maid_model.specs.Worlds.{IsWorld, world_of};
-ghost use Rattle.tree_checker.specs.Settings.{AddsGains, AddsMasses, HasRoomIn, HoldsSetting, IsCellCount};
-ghost use Rattle.tree_checker.specs.Walks.{ArePlaces, AreUtilities, IsBefore, IsDownward, IsEnding, IsLast, MayBeBefore, ending, with_before};
+ghost use Rattle.tree_checker.specs.Settings.{AddsGains, AddsMasses, HasRoomIn, HoldsSetting, IsCellCount, ArePlacesIn, HasEnding, IsBeforeIn, IsDownwardIn, IsLastIn, ending_of};
+ghost use Rattle.tree_checker.specs.Walks.{AreUtilities, IsDownward, IsEnding, MayBeBefore, ending, with_before, AddsGainAt, AddsMassAt, GainFits, last_nodes, last_two, places_further};
 
 use crate::endings::{add_to_cell, add_world, place, set_state};
 use crate::factors::factor;
@@ -18,13 +18,11 @@ use node_sets::NodeSet;
 /// The places of the worlds that differ from this one by having the last weighing node in its first state.
 fn places_at(setting: &Setting, last: &Last, world: &World) -> Places
     requires setting { HoldsSetting setting.now }
-    requires last { IsLast setting.now.diagram.now.nodes setting.now.left_out setting.now.marks.now
-        last.now }
+    requires last { IsLastIn setting.now last.now }
     requires node { last.now.node < length setting.now.diagram.now.nodes }
     requires utility { last.now.utility < length setting.now.diagram.now.nodes }
     requires world { IsWorld (counts_of setting.now.diagram.now.nodes) world.now }
-    ensures { ArePlaces setting.now.diagram.now.nodes setting.now.left_out last.now.node
-        last.now.utility (world_of world.now) result }
+    ensures { ArePlacesIn setting.now last.now (world_of world.now) result }
 {
     let diagram = setting.diagram;
     let state = world.states[last.node];
@@ -40,11 +38,7 @@ fn further(places: Places, steps: Places, states: usize) -> Places
     requires factor { places.factor + states * steps.factor ≤ 65536 }
     requires row { places.row + states * steps.row ≤ 65536 }
     requires cell { places.cell + states * steps.cell ≤ 65536 }
-    ensures { result ≡ record {
-      factor = places.factor + states * steps.factor;
-      row = places.row + states * steps.row;
-      cell = places.cell + states * steps.cell;
-    } }
+    ensures { result ≡ places_further places steps states }
 {
     Places {
         factor: places.factor + states * steps.factor,
@@ -67,15 +61,11 @@ fn add_picked(
     requires gains { cell < length gains.old }
     requires masses { cell < length masses.old }
     requires sum { nat_abs (sum +ℤ slice_index_or values.now row (pos 0)) ≤ greatest_number }
-    requires gain { nat_abs (slice_index_or gains.old cell (pos 0))
-        + product * nat_abs (sum +ℤ slice_index_or values.now row (pos 0)) ≤ greatest_number }
+    requires gain { GainFits gains.old cell product (sum +ℤ slice_index_or values.now row (pos 0)) }
     requires mass { slice_index masses.old cell + product ≤ greatest_number }
-    ensures gains { (c : ℕ) → slice_index_or gains.new c (pos 0)
-        ≡ slice_index_or gains.old c (pos 0) +ℤ (if cell == c
-        then pos product *ℤ (sum +ℤ slice_index_or values.now row (pos 0))
-        else pos 0) }
-    ensures masses { (c : ℕ) → pos (slice_index masses.new c)
-        ≡ pos (slice_index masses.old c) +ℤ (if cell == c then pos product else pos 0) }
+    ensures gains { AddsGainAt cell (pos product *ℤ (sum +ℤ slice_index_or values.now row (pos 0)))
+        gains.old gains.new }
+    ensures masses { AddsMassAt cell product masses.old masses.new }
     ensures gain_count { length gains.new ≡ length gains.old }
     ensures mass_count { length masses.new ≡ length masses.old }
 {
@@ -96,21 +86,17 @@ fn add_states(
     masses: &mut [u128],
 )
     requires setting { HoldsSetting setting.now }
-    requires last { IsLast setting.now.diagram.now.nodes setting.now.left_out setting.now.marks.now
-        last.now }
-    requires order { IsDownward setting.now.diagram.now.nodes
-        (last.now.node ∷ last.now.utility ∷ []) }
+    requires last { IsLastIn setting.now last.now }
+    requires order { IsDownwardIn setting.now (last_two last.now) }
     requires world { IsWorld (counts_of setting.now.diagram.now.nodes) world.now }
-    requires places { ArePlaces setting.now.diagram.now.nodes setting.now.left_out last.now.node
-        last.now.utility (world_of world.now) places }
+    requires places { ArePlacesIn setting.now last.now (world_of world.now) places }
     requires gains { IsCellCount setting.now (length gains.old) }
     requires masses { IsCellCount setting.now (length masses.old) }
-    requires room { HasRoomIn setting.now (last.now.node ∷ last.now.utility ∷ []) product utility
-        gains.old masses.old }
-    ensures gains { AddsGains setting.now (last.now.node ∷ last.now.utility ∷ []) product utility
-        (world_of world.now) gains.old gains.new }
-    ensures masses { AddsMasses setting.now (last.now.node ∷ last.now.utility ∷ []) product
-        (world_of world.now) masses.old masses.new }
+    requires room { HasRoomIn setting.now (last_two last.now) product utility gains.old masses.old }
+    ensures gains { AddsGains setting.now (last_two last.now) product utility (world_of world.now)
+        gains.old gains.new }
+    ensures masses { AddsMasses setting.now (last_two last.now) product (world_of world.now)
+        masses.old masses.new }
     ensures gain_count { length gains.new ≡ length gains.old }
     ensures mass_count { length masses.new ≡ length masses.old }
 {
@@ -145,23 +131,19 @@ fn add_pairs(
     masses: &mut [u128],
 )
     requires setting { HoldsSetting setting.now }
-    requires last { IsLast setting.now.diagram.now.nodes setting.now.left_out setting.now.marks.now
-        last.now }
-    requires before { IsBefore setting.now.diagram.now.nodes setting.now.left_out last.now.node
-        last.now.utility before.now }
-    requires order { IsDownward setting.now.diagram.now.nodes
-        (before.now.node ∷ last.now.node ∷ last.now.utility ∷ []) }
+    requires last { IsLastIn setting.now last.now }
+    requires before { IsBeforeIn setting.now last.now before.now }
+    requires order { IsDownwardIn setting.now (before.now.node ∷ last_two last.now) }
     requires world { IsWorld (counts_of setting.now.diagram.now.nodes) world.old }
     requires gains { IsCellCount setting.now (length gains.old) }
     requires masses { IsCellCount setting.now (length masses.old) }
-    requires room { HasRoomIn setting.now (before.now.node ∷ last.now.node ∷ last.now.utility ∷ [])
-        product utility gains.old masses.old }
+    requires room { HasRoomIn setting.now (before.now.node ∷ last_two last.now) product utility
+        gains.old masses.old }
     ensures again { world.new ≡ world.old }
-    ensures gains { AddsGains setting.now (before.now.node ∷ last.now.node ∷ last.now.utility ∷ [])
-        product utility (world_of world.old) gains.old gains.new }
-    ensures masses { AddsMasses setting.now
-        (before.now.node ∷ last.now.node ∷ last.now.utility ∷ []) product (world_of world.old)
-        masses.old masses.new }
+    ensures gains { AddsGains setting.now (before.now.node ∷ last_two last.now) product utility
+        (world_of world.old) gains.old gains.new }
+    ensures masses { AddsMasses setting.now (before.now.node ∷ last_two last.now) product
+        (world_of world.old) masses.old masses.new }
     ensures gain_count { length gains.new ≡ length gains.old }
     ensures mass_count { length masses.new ≡ length masses.old }
 {
@@ -194,23 +176,18 @@ fn add_last(
     masses: &mut [u128],
 )
     requires setting { HoldsSetting setting.now }
-    requires last { IsLast setting.now.diagram.now.nodes setting.now.left_out setting.now.marks.now
-        last.now }
-    requires order { IsDownward setting.now.diagram.now.nodes
-        (with_before last.now.before (last.now.node ∷ last.now.utility ∷ [])) }
+    requires last { IsLastIn setting.now last.now }
+    requires order { IsDownwardIn setting.now (last_nodes last.now) }
     requires world { IsWorld (counts_of setting.now.diagram.now.nodes) world.old }
     requires gains { IsCellCount setting.now (length gains.old) }
     requires masses { IsCellCount setting.now (length masses.old) }
-    requires room { HasRoomIn setting.now
-        (with_before last.now.before (last.now.node ∷ last.now.utility ∷ [])) product utility
-        gains.old masses.old }
+    requires room { HasRoomIn setting.now (last_nodes last.now) product utility gains.old
+        masses.old }
     ensures again { world.new ≡ world.old }
-    ensures gains { AddsGains setting.now
-        (with_before last.now.before (last.now.node ∷ last.now.utility ∷ [])) product utility
-        (world_of world.old) gains.old gains.new }
-    ensures masses { AddsMasses setting.now
-        (with_before last.now.before (last.now.node ∷ last.now.utility ∷ [])) product
-        (world_of world.old) masses.old masses.new }
+    ensures gains { AddsGains setting.now (last_nodes last.now) product utility (world_of world.old)
+        gains.old gains.new }
+    ensures masses { AddsMasses setting.now (last_nodes last.now) product (world_of world.old)
+        masses.old masses.new }
     ensures gain_count { length gains.new ≡ length gains.old }
     ensures mass_count { length masses.new ≡ length masses.old }
 {
@@ -237,20 +214,18 @@ pub(crate) fn add_ending(
     masses: &mut [u128],
 )
     requires setting { HoldsSetting setting.now }
-    requires ending { IsEnding setting.now.diagram.now.nodes setting.now.left_out
-        setting.now.marks.now setting.now.last setting.now.tail.now }
-    requires order { IsDownward setting.now.diagram.now.nodes
-        (ending setting.now.last setting.now.tail.now) }
+    requires ending { HasEnding setting.now }
+    requires order { IsDownwardIn setting.now (ending_of setting.now) }
     requires world { IsWorld (counts_of setting.now.diagram.now.nodes) world.old }
     requires gains { IsCellCount setting.now (length gains.old) }
     requires masses { IsCellCount setting.now (length masses.old) }
-    requires room { HasRoomIn setting.now (ending setting.now.last setting.now.tail.now) product
-        utility gains.old masses.old }
+    requires room { HasRoomIn setting.now (ending_of setting.now) product utility gains.old
+        masses.old }
     ensures again { world.new ≡ world.old }
-    ensures gains { AddsGains setting.now (ending setting.now.last setting.now.tail.now) product
-        utility (world_of world.old) gains.old gains.new }
-    ensures masses { AddsMasses setting.now (ending setting.now.last setting.now.tail.now) product
-        (world_of world.old) masses.old masses.new }
+    ensures gains { AddsGains setting.now (ending_of setting.now) product utility
+        (world_of world.old) gains.old gains.new }
+    ensures masses { AddsMasses setting.now (ending_of setting.now) product (world_of world.old)
+        masses.old masses.new }
     ensures gain_count { length gains.new ≡ length gains.old }
     ensures mass_count { length masses.new ≡ length masses.old }
 {

@@ -3,6 +3,7 @@
 ghost use Rattle.std.specs.Prelude.{◌≡◌, ℕ, ◌<◌, length, Contains, IfOk};
 ghost use Rattle.maid_model.specs.Parts.{IsAncestral, place_in, part_diagram, rules_in, with_ancestors};
 ghost use Rattle.maid_model.specs.Profiles.{IsProfile};
+ghost use Rattle.tree_checker.specs.Judged.{rules_above};
 
 use crate::bases::copy_rule;
 use diagram_graph::{SubDiagram, part};
@@ -53,8 +54,7 @@ pub(crate) fn stage_of(
     ensures diagram { IfOk result (λ stage.
         stage.part.diagram ≡ part_diagram diagram.now (with_ancestors diagram.now.nodes of.now)) }
     ensures rules { IfOk result (λ stage.
-        stage.rules
-        ≡ rules_in diagram.now.nodes profile.now (with_ancestors diagram.now.nodes of.now)) }
+        stage.rules ≡ rules_above diagram.now.nodes profile.now of.now) }
 {
     // Nodes and all their ancestors have with each node its parents.
     parts_are_diagrams();

@@ -1,6 +1,6 @@
 //! The rows of a report.
 
-ghost use Rattle.std.specs.Prelude.{◌≡◌, ◌<◌, ◌≤◌, ◌↔◌, ◌+◌, ◌*◌, ◌^◌, ℕ, All, IfOk, IfSome, IsTrue, length, pos, nat_abs, slice_index, slice_index_or};
+ghost use Rattle.std.specs.Prelude.{◌≡◌, ◌<◌, ◌≤◌, ◌↔◌, ◌*◌, ◌^◌, ℕ, All, IfOk, IfSome, IsTrue, length, pos, nat_abs, slice_index, slice_index_or};
 ghost use Rattle.maid_model.specs.Answers.{IsFraction, IsReduced};
 ghost use Rattle.maid_model.specs.Diagrams.{greatest_number};
 ghost use Rattle.maid_model.specs.Nodes.{IsDecision, rows_of, states_of};
@@ -8,7 +8,7 @@ ghost use Rattle.maid_model.specs.Profiles.{IsProfile};
 ghost use Rattle.maid_model.specs.Scopes.{KeepsScopedBounds};
 ghost use Rattle.part_laws.specs.ScopeLaws.{HasUnitRules};
 ghost use Rattle.relevance_graph.specs.Relevant.{IsRelevance};
-ghost use Rattle.tree_checker.specs.Judged.{FailsListed, JudgesAnswer, JudgesRow, JudgesRows, PassesListed};
+ghost use Rattle.tree_checker.specs.Judged.{JudgesAnswer, JudgesRow, JudgesListed, gain_in};
 ghost use Rattle.tree_checker.specs.Verdicts.{HasBetter};
 
 use crate::bases::base_of;
@@ -94,8 +94,7 @@ fn row_gains(gains: &[i128], rows: usize, states: usize, row: usize) -> &[i128]
     requires small { (i : ℕ) → nat_abs (slice_index_or gains.now i (pos 0)) ≤ greatest_number }
     ensures count { length result.now ≡ states }
     ensures gains { (s : ℕ) → s < states
-        → slice_index_or result.now s (pos 0)
-        ≡ slice_index_or gains.now (row * states + s) (pos 0) }
+        → slice_index_or result.now s (pos 0) ≡ gain_in gains.now states row s }
     ensures small { All (λ gain. nat_abs gain ≤ greatest_number) result.now }
 {
     let start = row * states;
@@ -112,8 +111,7 @@ fn first_fault(rows: &[Row], sums: &RowSums, states: usize, scale: u128) -> Opti
     requires room { (row : ℕ) → slice_index sums.now.masses.items row * scale ≤ greatest_number }
     requires small { (i : ℕ) → nat_abs (slice_index_or sums.now.gains.items i (pos 0))
         ≤ greatest_number }
-    ensures { JudgesRows (PassesListed sums.now.gains.items sums.now.masses.items states scale)
-        (FailsListed sums.now.gains.items sums.now.masses.items states scale) rows.now result }
+    ensures { JudgesListed sums.now.gains.items sums.now.masses.items states scale rows.now result }
 {
     for (place, row) in rows.iter().enumerate() {
         let gains = row_gains(&sums.gains, rows.len(), states, place);

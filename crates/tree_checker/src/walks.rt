@@ -1,14 +1,15 @@
 //! Sums over worlds by a walk down the nodes, parents first: products and sums are carried from node to node.
 
-ghost use Rattle.std.specs.Prelude.{◌≡◌, ◌*◌, ◌^◌, ◌<◌, ◌≤◌, ◌++◌, drop, max, IfOk, length};
-ghost use Rattle.maid_model.specs.Diagrams.{IsDiagram, greatest_number};
-ghost use Rattle.maid_model.specs.Gains.{base_mass, greatest_utility};
+ghost use Rattle.std.specs.Prelude.{◌≡◌, ◌*◌, ◌<◌, ◌≤◌, ◌++◌, drop, IfOk, length};
+ghost use Rattle.maid_model.specs.Diagrams.{IsDiagram};
+ghost use Rattle.maid_model.specs.Gains.{base_mass};
 ghost use Rattle.maid_model.specs.Nodes.{counts_of, rows_of, states_of};
 ghost use Rattle.maid_model.specs.Private.{MarksUtilities};
 ghost use Rattle.maid_model.specs.Profiles.{IsProfile};
 ghost use Rattle.maid_model.specs.Worlds.{IsWorld, world_of};
-ghost use Rattle.tree_checker.specs.Settings.{AddsGains, AddsMasses, HasRoomIn, HoldsSetting, IsCellCount};
-ghost use Rattle.tree_checker.specs.Walks.{AreUtilities, IsDownward, IsEnding, ListsCells, ending};
+ghost use Rattle.tree_checker.specs.Settings.{AddsGains, AddsMasses, HasRoomIn, HoldsSetting, IsCellCount, HasEnding, IsDownwardIn, ending_of};
+ghost use Rattle.tree_checker.specs.Walks.{AreUtilities, IsDownward, ListsCells, ending};
+ghost use Rattle.maid_model.specs.Bounds.{HasRoomForWeight};
 
 use crate::endings::{set_state, value};
 use crate::factors::{all_factors, factor};
@@ -33,23 +34,18 @@ fn walk(
     masses: &mut [u128],
 )
     requires setting { HoldsSetting setting.now }
-    requires ending { IsEnding setting.now.diagram.now.nodes setting.now.left_out
-        setting.now.marks.now setting.now.last setting.now.tail.now }
-    requires order { IsDownward setting.now.diagram.now.nodes
-        (order.now ++ ending setting.now.last setting.now.tail.now) }
+    requires ending { HasEnding setting.now }
+    requires order { IsDownwardIn setting.now (order.now ++ ending_of setting.now) }
     requires world { IsWorld (counts_of setting.now.diagram.now.nodes) world.old }
     requires gains { IsCellCount setting.now (length gains.old) }
     requires masses { IsCellCount setting.now (length masses.old) }
-    requires room { HasRoomIn setting.now
-        (order.now ++ ending setting.now.last setting.now.tail.now) product utility gains.old
-        masses.old }
+    requires room { HasRoomIn setting.now (order.now ++ ending_of setting.now) product utility
+        gains.old masses.old }
     ensures again { world.new ≡ world.old }
-    ensures gains { AddsGains setting.now
-        (order.now ++ ending setting.now.last setting.now.tail.now) product utility
+    ensures gains { AddsGains setting.now (order.now ++ ending_of setting.now) product utility
         (world_of world.old) gains.old gains.new }
-    ensures masses { AddsMasses setting.now
-        (order.now ++ ending setting.now.last setting.now.tail.now) product (world_of world.old)
-        masses.old masses.new }
+    ensures masses { AddsMasses setting.now (order.now ++ ending_of setting.now) product
+        (world_of world.old) masses.old masses.new }
     ensures gain_count { length gains.new ≡ length gains.old }
     ensures mass_count { length masses.new ≡ length masses.old }
 {
@@ -129,9 +125,8 @@ pub(crate) fn cells_over(
     requires profile { IsProfile diagram.now.nodes profile.now }
     requires marks { MarksUtilities diagram.now.nodes marks.now }
     requires decision { left_out ≤ length diagram.now.nodes }
-    requires fits { base_mass diagram.now.nodes profile.now left_out
-        * max (10 ^ diagram.now.decimals) (greatest_utility diagram.now.nodes)
-        ≤ greatest_number }
+    requires fits { HasRoomForWeight diagram.now
+        (base_mass diagram.now.nodes profile.now left_out) }
     ensures { IfOk result (λ sums.
         ListsCells diagram.now profile.now left_out marks.now sums.gains.items sums.masses.items) }
 {
