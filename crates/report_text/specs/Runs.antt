@@ -4,8 +4,8 @@ use Rattle.maid_model.specs.declared.answers.Row.{Row}
 use Rattle.maid_model.specs.Views.{NodeView, AnswerView}
 use Rattle.maid_model.specs.Answers.{no_row}
 use Rattle.maid_model.specs.Names.{NamesView}
-use Rattle.maid_model.specs.Nodes.{states_of}
-use Rattle.maid_model.specs.Reports.{choice_text, line, parent_states, state_labels}
+use Rattle.maid_model.specs.Nodes.{states_of, rows_under}
+use Rattle.maid_model.specs.Reports.{choice_text, line, parent_states, state_labels, row_lines}
 
 -- the line of a row whose parents' states have these labels
 abbrev pub labelled_line : NamesView → ℕ → List ℕ → ℕ → Row → List ℕ
@@ -22,3 +22,17 @@ run_lines nodes names answer labels others first at (suc count) =
     (labels ++ state_labels names others (parent_states (states_of nodes) others at)) (first + at)
     (slice_index_or answer.rows (first + at) no_row)
     ++ run_lines nodes names answer labels others first (at + 1) count
+
+-- one for each choice of the others' states
+abbrev pub lines_under : List NodeView → NamesView → AnswerView → List ℕ → List ℕ → ℕ → List ℕ
+lines_under nodes names answer labels others first =
+    run_lines nodes names answer labels others first 0 (rows_under (states_of nodes) others)
+
+-- the labels of the parents' states in a row
+abbrev pub row_labels : List NodeView → NamesView → List ℕ → ℕ → List ℕ
+row_labels nodes names parents row =
+    state_labels names parents (parent_states (states_of nodes) parents row)
+
+-- the lines of all rows of an answer
+abbrev pub answer_rows : List NodeView → NamesView → AnswerView → List ℕ
+answer_rows nodes names answer = row_lines nodes names answer.decision 0 answer.rows

@@ -13,6 +13,7 @@ use Rattle.maid_model.specs.Reports.{decision_head, decision_lines, gain_line, g
 use Rattle.report_text.specs.Reading.{HasRatio, FitsRatio, lines_of}
 use Rattle.report_text.specs.declared.reading.ReportFault.{ReportFault}
 use Rattle.report_text.specs.declared.reading.ReportFault.TheVariants.{BadLine, NoMemory}
+use Rattle.std.specs.Global.{Vec}
 
 -- the byte stands nowhere in the list
 abbrev pub lacks : ℕ → List ℕ → Bool
@@ -71,6 +72,12 @@ pub record IsOrder (nodes : List NodeView) (order : List ℕ) : Type 0 where
   pub all : (v : ℕ) → IsDecision nodes v → Contains order v
   pub once : AllDifferent order
 
+-- such an order whose line it is, and none only where it is the line of none
+abbrev pub TellsOrder : List NodeView → NamesView → List ℕ → Option (Vec ℕ) → Type 0
+TellsOrder nodes names line found =
+    MatchOption found ((order : List ℕ) → IsOrder nodes order → line ≢ order_words names order)
+    (λ order. IsOrder nodes order.items × (line ≡ order_words names order.items))
+
 -- a row of the decision, with a choice in range
 pub record IsRow (nodes : List NodeView) (d : ℕ) (row : Row) : Type 0 where
   pub choice : row.choice < states_of nodes d
@@ -80,6 +87,17 @@ pub record IsRow (nodes : List NodeView) (d : ℕ) (row : Row) : Type 0 where
 abbrev pub ShowsOne : {A : Type 0} → (A → Type 0) → (A → List ℕ) → List ℕ → Option A → Type 0
 ShowsOne {A} Is words line found =
     MatchOption found ((x : A) → Is x → line ≢ words x) (λ x. Is x × (line ≡ words x))
+
+-- a row of the decision, where the line shows one
+abbrev pub ShowsRow :
+    List NodeView → NamesView → ℕ → ℕ → List ℕ → Option Row → Type 0
+ShowsRow nodes names d number line found =
+    ShowsOne (IsRow nodes d) (row_words nodes names d number) line found
+
+-- of the states it is the one whose number stands at the front, from 1, with a space behind it
+abbrev pub IsShownChoice : ℕ → List ℕ → ℕ → Type 0
+IsShownChoice states bytes choice = (other : ℕ) (rest : List ℕ) → other < states
+    → bytes ≡ decimal (other + 1) ++ 32 ∷ rest → choice ≡ other
 
 -- a place for a line: this very line, the line of a decision's row, an agent's line, or the text's end
 pub data Slot : Type 0 where
@@ -102,8 +120,16 @@ abbrev pub row_slots : ℕ → ℕ → ℕ → List Slot
 row_slots d number zero = []
 row_slots d number (suc count) = OfRow d number ∷ row_slots d (number + 1) count
 
+-- all rows of a decision
+abbrev pub all_row_slots : List NodeView → ℕ → List Slot
+all_row_slots nodes d = row_slots d 0 (rows_of nodes d)
+
 abbrev pub answer_slots : List NodeView → NamesView → ℕ → List Slot
-answer_slots nodes names d = Told (decision_head nodes names d) ∷ row_slots d 0 (rows_of nodes d)
+answer_slots nodes names d = Told (decision_head nodes names d) ∷ all_row_slots nodes d
+
+-- the answers of these decisions
+abbrev pub all_answer_slots : List NodeView → NamesView → List ℕ → List Slot
+all_answer_slots nodes names order = flat_map (answer_slots nodes names) order
 
 -- the agents from that number on
 abbrev pub gain_slots : ℕ → ℕ → List Slot
@@ -113,7 +139,7 @@ gain_slots agent (suc count) = OfGain agent ∷ gain_slots (agent + 1) count
 -- what follows the line of the order
 abbrev pub slots_of : DiagramView → NamesView → List ℕ → List Slot
 slots_of d names order =
-    flat_map (answer_slots d.nodes names) order ++ gain_slots 0 d.agents ++ End ∷ []
+    all_answer_slots d.nodes names order ++ gain_slots 0 d.agents ++ End ∷ []
 
 -- the text behind the line of the order
 abbrev pub lines_behind : List NodeView → NamesView → SolvedView → List ℕ
@@ -140,6 +166,15 @@ IsStuck nodes names slots lines NoMemory = Unit {0}
 IsStuck nodes names slots lines (BadLine number) =
     StopsIn nodes names slots (lines_of lines.rest) lines.read number
 
+-- the fault is that whatever the diagram is, and its names
+abbrev pub IsStuckAlways : List Slot → LinesView → ReportFault → Type 0
+IsStuckAlways slots lines fault =
+    (nodes : List NodeView) (names : NamesView) → IsStuck nodes names slots lines fault
+
+-- with these names, whatever the diagram is
+abbrev pub IsStuckByNames : NamesView → List Slot → LinesView → ReportFault → Type 0
+IsStuckByNames names slots lines fault = (nodes : List NodeView) → IsStuck nodes names slots lines fault
+
 -- Lines at these places were read: where the others stop, so do all.
 abbrev pub Passes : List NodeView → NamesView → List Slot → LinesView → LinesView → Type 0
 Passes nodes names slots old new = (others : List Slot) (number : ℕ)
@@ -151,6 +186,11 @@ pub record IsTaken (line : List ℕ) (old new : LinesView) : Type 0 where
   pub bytes : old.rest ≡ line ++ 10 ∷ new.rest
   pub one : lacks 10 line ≡ true
   pub read : new.read ≡ old.read + 1
+
+-- one line was read, which shows the row of the decision
+abbrev pub TakesRow : List NodeView → NamesView → ℕ → ℕ → Row → LinesView → LinesView → Type 0
+TakesRow nodes names d number row old new =
+    IsRow nodes d row × IsTaken (row_words nodes names d number row) old new
 
 -- the line of the order shows no order, or memory ran out
 abbrev pub IsOrderless : List NodeView → NamesView → LinesView → ReportFault → Type 0
@@ -167,6 +207,11 @@ pub record ReadsRows
   pub rows : All (IsRow nodes d) list
   pub bytes : old.rest ≡ row_lines nodes names d 0 list ++ new.rest
   pub passes : Passes nodes names (row_slots d 0 number) old new
+
+-- all rows of a decision were
+abbrev pub ReadsAllRows :
+    List NodeView → NamesView → ℕ → List Row → LinesView → LinesView → Type 0
+ReadsAllRows nodes names d list old new = ReadsRows nodes names d (rows_of nodes d) list old new
 
 -- a decision was read
 pub record ReadsAnswer

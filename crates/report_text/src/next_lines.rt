@@ -1,13 +1,12 @@
 //! The lines of a report, one by one and in runs: what each shows, or the first that shows nothing.
 
 ghost use Rattle.std.specs.Prelude.{◌≡◌, ◌<◌, ◌∷◌, [], List, length, All, IfOk, IfErr, OnOk};
-ghost use Rattle.std.specs.List.{flat_map};
-ghost use Rattle.maid_model.specs.Names.{NamesFit, NamesView};
+ghost use Rattle.maid_model.specs.Names.{NamesFit};
 ghost use Rattle.maid_model.specs.Nodes.{IsDecision, rows_of};
 ghost use Rattle.maid_model.specs.Reports.{line};
 ghost use Rattle.maid_model.specs.Views.{NodeView};
 ghost use Rattle.report_text.specs.Reading.{AreTold, FitsRatio};
-ghost use Rattle.report_text.specs.Slots.{IsOrder, IsOrderless, IsRow, IsStuck, IsTaken, ReadsAnswer, ReadsAnswers, ReadsGains, ReadsRows, Told, OfRow, OfGain, End, answer_slots, gain_slots, gain_words, order_words, row_slots, row_words};
+ghost use Rattle.report_text.specs.Slots.{IsOrder, IsOrderless, IsStuck, IsTaken, ReadsAnswer, ReadsAnswers, ReadsGains, Told, OfRow, OfGain, End, answer_slots, gain_slots, gain_words, order_words, IsStuckAlways, IsStuckByNames, TakesRow, all_answer_slots, all_row_slots, ReadsAllRows};
 
 use crate::ReportFault;
 use crate::lines::LineReader;
@@ -20,9 +19,7 @@ use std::alloc::Global;
 /// Reads the line of these words.
 pub(crate) fn pass_words(lines: &mut LineReader, words: &[u8]) -> Result<(), ReportFault>
     ensures ok { OnOk result (IsTaken words.now lines.old lines.new) }
-    ensures err { IfErr result (λ fault.
-        (nodes : List NodeView) (names : NamesView)
-        → IsStuck nodes names (Told (line words.now) ∷ []) lines.old fault) }
+    ensures err { IfErr result (IsStuckAlways (Told (line words.now) ∷ []) lines.old) }
 {
     let line = lines.take_line()?;
     if line == words {
@@ -35,9 +32,7 @@ pub(crate) fn pass_words(lines: &mut LineReader, words: &[u8]) -> Result<(), Rep
 /// Reads the text's end.
 pub(crate) fn pass_end(lines: &LineReader) -> Result<(), ReportFault>
     ensures ok { OnOk result (lines.now.rest ≡ []) }
-    ensures err { IfErr result (λ fault.
-        (nodes : List NodeView) (names : NamesView)
-        → IsStuck nodes names (End ∷ []) lines.now fault) }
+    ensures err { IfErr result (IsStuckAlways (End ∷ []) lines.now) }
 {
     if lines.is_at_end() {
         Ok(())
@@ -82,9 +77,7 @@ fn next_row(
     requires rows { rows ≡ rows_of diagram.now.nodes decision }
     requires number { number < rows }
     ensures ok { IfOk result (λ row.
-        IsRow diagram.now.nodes decision row
-        × IsTaken (row_words diagram.now.nodes names.now decision number row) lines.old
-        lines.new) }
+        TakesRow diagram.now.nodes names.now decision number row lines.old lines.new) }
     ensures err { IfErr result (IsStuck diagram.now.nodes names.now (OfRow decision number ∷ [])
         lines.old) }
 {
@@ -107,10 +100,9 @@ fn next_rows(
     requires fit { NamesFit diagram.now names.now }
     requires decision { IsDecision diagram.now.nodes decision }
     ensures ok { IfOk result (λ rows.
-        ReadsRows diagram.now.nodes names.now decision (rows_of diagram.now.nodes decision)
-        rows.items lines.old lines.new) }
+        ReadsAllRows diagram.now.nodes names.now decision rows.items lines.old lines.new) }
     ensures err { IfErr result (IsStuck diagram.now.nodes names.now
-        (row_slots decision 0 (rows_of diagram.now.nodes decision)) lines.old) }
+        (all_row_slots diagram.now.nodes decision) lines.old) }
 {
     let count = diagram.rows(decision);
     let mut rows = Vec::new(alloc);
@@ -158,7 +150,7 @@ pub(crate) fn next_answers(
     ensures ok { IfOk result (λ answers.
         ReadsAnswers diagram.now.nodes names.now order.now answers.items lines.old lines.new) }
     ensures err { IfErr result (IsStuck diagram.now.nodes names.now
-        (flat_map (answer_slots diagram.now.nodes names.now) order.now) lines.old) }
+        (all_answer_slots diagram.now.nodes names.now order.now) lines.old) }
 {
     let mut answers = Vec::new(alloc);
     for decision in order {
@@ -178,8 +170,7 @@ fn next_gain(
     requires { agent < length names.now.agents }
     ensures ok { IfOk result (λ gain.
         FitsRatio gain × IsTaken (gain_words names.now agent gain) lines.old lines.new) }
-    ensures err { IfErr result (λ fault.
-        (nodes : List NodeView) → IsStuck nodes names.now (OfGain agent ∷ []) lines.old fault) }
+    ensures err { IfErr result (IsStuckByNames names.now (OfGain agent ∷ []) lines.old) }
 {
     let line = lines.take_line()?;
     match read_gain(scratch, names, agent, line)? {
@@ -200,8 +191,7 @@ pub(crate) fn next_gains(
     ensures ok { IfOk result (λ gains.
         (nodes : List NodeView) → ReadsGains nodes names.now agents gains.items lines.old
         lines.new) }
-    ensures err { IfErr result (λ fault.
-        (nodes : List NodeView) → IsStuck nodes names.now (gain_slots 0 agents) lines.old fault) }
+    ensures err { IfErr result (IsStuckByNames names.now (gain_slots 0 agents) lines.old) }
 {
     let mut gains = Vec::new(alloc);
     for agent in 0..agents {

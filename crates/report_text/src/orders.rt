@@ -1,12 +1,11 @@
 //! The line of the order, read.
 
-ghost use Rattle.std.specs.Prelude.{◌≡◌, ◌≢◌, ◌<◌, ◌↔◌, ◌++◌, ℕ, List, Contains, IsTrue, IfOk, IfSome, IfNone};
-ghost use Rattle.std.specs.Option.{MatchOption};
+ghost use Rattle.std.specs.Prelude.{◌≡◌, ◌≢◌, ◌<◌, ◌↔◌, ◌++◌, ℕ, Contains, IsTrue, IfOk, IfSome, IfNone};
 ghost use Rattle.maid_model.specs.Graph.{AllDifferent};
 ghost use Rattle.maid_model.specs.Names.{NamesFit, name_of};
 ghost use Rattle.maid_model.specs.Nodes.{IsDecision};
 ghost use Rattle.report_text.specs.Reading.{AreTold};
-ghost use Rattle.report_text.specs.Slots.{IsOrder, order_words};
+ghost use Rattle.report_text.specs.Slots.{TellsOrder};
 
 use crate::cuts::{behind, front};
 use maid_model::{Diagram, Kind, Names};
@@ -49,13 +48,7 @@ pub(crate) fn read_order(
 ) -> Result<Option<Vec<usize>>, AllocError>
     requires fit { NamesFit diagram.now names.now }
     requires told { AreTold names.now }
-    ensures { IfOk result (λ found.
-        MatchOption found
-        ((order : List ℕ) → IsOrder diagram.now.nodes order
-        → line.now ≢ order_words names.now order)
-        (λ order.
-        IsOrder diagram.now.nodes order.items
-        × (line.now ≡ order_words names.now order.items))) }
+    ensures { IfOk result (TellsOrder diagram.now.nodes names.now line.now) }
 {
     let mut order = Vec::new(alloc);
     let Some(mut rest) = behind(line, b"order:") else {

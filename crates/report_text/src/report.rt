@@ -5,9 +5,10 @@ ghost use Rattle.std.specs.List.{flat_map};
 ghost use Rattle.maid_model.specs.Answers.{FitsAnswer, FitsDiagram};
 ghost use Rattle.maid_model.specs.Names.{NamesFit, name_of, label_of, agent_name};
 ghost use Rattle.maid_model.specs.Nodes.{IsDecision, node_at, parents_of, states_of, rows_under, rows_of};
-ghost use Rattle.maid_model.specs.Reports.{decision_head, decision_lines, gain_line, gain_lines, names_line, parent_states, quoted, report, row_line, spaced, state_labels, worth_text};
+ghost use Rattle.maid_model.specs.Reports.{decision_head, decision_lines, gain_line, gain_lines, names_line, quoted, report, row_line, spaced, worth_text};
 ghost use Rattle.maid_model.specs.declared.diagrams.Kind.TheVariants.{Utility};
 ghost use Rattle.report_text.specs.Slots.{decision_words, gain_front, row_front, state_text};
+ghost use Rattle.report_text.specs.Runs.{row_labels};
 
 use crate::pieces::push_ratio;
 use crate::row_runs::push_rows;
@@ -69,10 +70,8 @@ fn push_states(
         parents.now }
     requires rows { rows ≡ rows_under (states_of diagram.now.nodes) parents.now }
     requires row { row < rows }
-    ensures { OnOk result (out.new.items
-        ≡ out.old.items
-        ++ state_labels names.now parents.now (parent_states (states_of diagram.now.nodes)
-        parents.now row)) }
+    ensures { OnOk result (out.new.items ≡ out.old.items
+        ++ row_labels diagram.now.nodes names.now parents.now row) }
 {
     let mut below = rows;
     let mut rest = row;

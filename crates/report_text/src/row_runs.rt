@@ -5,9 +5,8 @@ ghost use Rattle.std.specs.Prelude.{◌≡◌, ◌≢◌, ◌+◌, ◌<◌, ◌�
 ghost use Rattle.maid_model.specs.Answers.{FitsAnswer};
 ghost use Rattle.maid_model.specs.Names.{NamesFit};
 ghost use Rattle.maid_model.specs.Nodes.{IsDecision, node_at, rows_under, states_of};
-ghost use Rattle.maid_model.specs.Reports.{row_lines};
 ghost use Rattle.maid_model.specs.declared.diagrams.Kind.TheVariants.{Utility};
-ghost use Rattle.report_text.specs.Runs.{labelled_line, run_lines};
+ghost use Rattle.report_text.specs.Runs.{labelled_line, answer_rows, lines_under};
 
 use crate::report::{parents_of, push_label, push_state, push_worth, states_of};
 use line_pieces::push_number;
@@ -70,10 +69,8 @@ fn push_run(
         others.now }
     requires rows { first + rows_under (states_of diagram.now.nodes) others.now
         ≤ length answer.now.rows }
-    ensures lines { OnOk result (out.new.items
-        ≡ out.old.items
-        ++ run_lines diagram.now.nodes names.now answer.now labels.old.items others.now first 0
-        (rows_under (states_of diagram.now.nodes) others.now)) }
+    ensures lines { OnOk result (out.new.items ≡ out.old.items
+        ++ lines_under diagram.now.nodes names.now answer.now labels.old.items others.now first) }
     ensures next { IfOk result (λ next.
         next ≡ first + rows_under (states_of diagram.now.nodes) others.now) }
     ensures labels { OnOk result (labels.new.items ≡ labels.old.items) }
@@ -105,9 +102,8 @@ pub(crate) fn push_rows(
 ) -> Result<(), AllocError>
     requires fit { NamesFit diagram.now names.now }
     requires answer { FitsAnswer diagram.now.nodes answer.now }
-    ensures { OnOk result (out.new.items
-        ≡ out.old.items
-        ++ row_lines diagram.now.nodes names.now answer.now.decision 0 answer.now.rows) }
+    ensures { OnOk result (out.new.items ≡ out.old.items
+        ++ answer_rows diagram.now.nodes names.now answer.now) }
 {
     labels.clear();
     let parents = parents_of(diagram, answer.decision);

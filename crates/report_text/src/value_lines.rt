@@ -7,7 +7,7 @@ ghost use Rattle.maid_model.specs.Reports.{worth_text};
 ghost use Rattle.maid_model.specs.declared.answers.Ratio.{Ratio};
 ghost use Rattle.maid_model.specs.declared.answers.Row.{Row};
 ghost use Rattle.report_text.specs.Reading.{FitsRatio};
-ghost use Rattle.report_text.specs.Slots.{IsRow, ShowsOne, gain_words, row_words};
+ghost use Rattle.report_text.specs.Slots.{ShowsOne, gain_words, IsShownChoice, ShowsRow};
 
 use crate::cuts::{behind, front};
 use crate::numbers::{read_ratio, whole};
@@ -39,9 +39,7 @@ fn read_state(bytes: &[u8], states: usize) -> Option<usize>
     ensures some { IfSome result (λ choice. choice < states) }
     ensures none { IfNone result ((choice : ℕ) (rest : List ℕ) → choice < states
         → bytes.now ≢ decimal (choice + 1) ++ 32 ∷ rest) }
-    ensures value { IfSome result (λ choice.
-        (other : ℕ) (rest : List ℕ) → other < states → bytes.now ≡ decimal (other + 1) ++ 32 ∷ rest
-        → choice ≡ other) }
+    ensures value { IfSome result (IsShownChoice states bytes.now) }
 {
     let (digits, _) = front(bytes, b' ');
     match whole(digits) {
@@ -64,8 +62,7 @@ pub(crate) fn read_row(
     requires decision { IsDecision diagram.now.nodes decision }
     requires rows { rows ≡ rows_of diagram.now.nodes decision }
     requires number { number < rows }
-    ensures { IfOk result (ShowsOne (IsRow diagram.now.nodes decision)
-        (row_words diagram.now.nodes names.now decision number) line.now) }
+    ensures { IfOk result (ShowsRow diagram.now.nodes names.now decision number line.now) }
 {
     scratch.clear();
     push_row_front(scratch, diagram, names, decision, rows, number)?;
