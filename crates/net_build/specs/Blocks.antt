@@ -2,7 +2,7 @@
 -- where the passes before it find nothing.
 use Rattle.std.specs.Prelude.{◌≡◌, ◌*◌, ℕ, Bool, true, false, ◌&&◌, ◌||◌, List, [], ◌∷◌, Option, MatchOption, map, filter, find, length, drop, nat_le, bytes_eq, codes, slice_index_or, if◌then◌else◌}
 use Rattle.std.specs.Borrow.{Bor}
-use Rattle.std.specs.List.{flat_map, list_all, position_or_len}
+use Rattle.std.specs.List.{flat_map, list_all, position_or_len, list_any}
 use Rattle.std.specs.Option.{option_map_or}
 pub use Rattle.finite_sums.specs.Sights.{first_sights, with_sight, with_sights}
 use Rattle.maid_model.specs.declared.limits.TheConstants.{MOST_NAME_BYTES}
@@ -105,9 +105,13 @@ abbrev pub is_counted : BlockKind → List ℕ → Bool
 is_counted kind word = (has_states kind && bytes_eq word (codes "states")) || names_owners kind word
     || (is_potential kind && bytes_eq word (codes "data"))
 
+-- those of these attributes that count in such a block
+abbrev pub counted_in : List ℕ → BlockKind → List AttributeTree → List AttributeTree
+counted_in text kind attributes = filter (λ a. is_counted kind (word_of text a)) attributes
+
 -- the attributes that count in a block
 abbrev pub counted : List ℕ → BlockTree → List AttributeTree
-counted text block = filter (λ a. is_counted block.kind (word_of text a)) block.attributes
+counted text block = counted_in text block.kind block.attributes
 
 -- what an attribute is about: `agents` is about the owners, as `agent` is
 abbrev pub topic_of : List ℕ → AttributeTree → List ℕ
@@ -123,6 +127,11 @@ IsFirst attributes found = MatchOption found (attributes ≡ [])
 -- the attribute counts in such a block, and is about that topic
 abbrev pub counts_for : List ℕ → BlockKind → List ℕ → AttributeTree → Bool
 counts_for text kind topic a = is_counted kind (word_of text a) && bytes_eq (topic_of text a) topic
+
+-- the attribute counts in such a block, and one before it counts and is about the same
+abbrev pub is_repeat : List ℕ → BlockKind → List AttributeTree → AttributeTree → Bool
+is_repeat text kind before a = is_counted kind (word_of text a)
+    && list_any (counts_for text kind (topic_of text a)) before
 
 -- the attributes that tell the owners of such a node
 abbrev pub telling_owners : List ℕ → BlockKind → List AttributeTree → List AttributeTree
@@ -173,6 +182,10 @@ abbrev pub leaves_of : List AttributeTree → List Token
 leaves_of [] = []
 leaves_of (a ∷ attributes) = leaves a.value
 
+-- a block's attributes `states`
+abbrev pub state_attributes : List ℕ → BlockTree → List AttributeTree
+state_attributes text block = named text (codes "states") block.attributes
+
 -- a node's labels as they stand in its block
 abbrev pub label_tokens : List ℕ → BlockTree → List Token
 label_tokens text block =
@@ -203,10 +216,14 @@ agents_of text nodes =
 abbrev pub place_among : List (List ℕ) → List ℕ → ℕ
 place_among names name = position_or_len (λ other. bytes_eq other name) names
 
+-- the places among these agents of the owners of a decision or a utility
+abbrev pub named_owner_places : List ℕ → List (List ℕ) → BlockTree → List ℕ
+named_owner_places text agents block = map (place_among agents) (owner_names text block)
+
 -- the places among the agents of a node's owners, in written order; a chance node has 0
 abbrev pub owner_places : List ℕ → List (List ℕ) → BlockTree → List ℕ
 owner_places text agents block =
-    if has_agent block.kind then map (place_among agents) (owner_names text block) else 0 ∷ []
+    if has_agent block.kind then named_owner_places text agents block else 0 ∷ []
 
 -- the numbers of a node's owners among all agents of the text
 abbrev pub owners_of : List ℕ → List BlockTree → BlockTree → List ℕ

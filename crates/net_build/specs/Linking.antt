@@ -1,6 +1,6 @@
 -- The rows of the passes over potentials, the graph and the sizes: they speak of the names and heads of the nodes,
 -- their parents and their potentials, as lists.
-use Rattle.std.specs.Prelude.{◌≡◌, ◌≢◌, ◌<◌, ◌≤◌, ◌+◌, ◌*◌, min, not, ℕ, List, [], Option, None, Some, map, filter, find, length, sum, All, Contains, slice_index, slice_index_or, bytes_eq}
+use Rattle.std.specs.Prelude.{◌≡◌, ◌≢◌, ◌<◌, ◌≤◌, ◌+◌, ◌*◌, min, not, ℕ, List, [], Option, None, Some, map, filter, find, length, sum, All, Contains, slice_index, slice_index_or, bytes_eq, if◌then◌else◌}
 use Rattle.std.specs.List.{range_with_len}
 use Rattle.std.specs.Borrow.{Bor}
 use Rattle.std.specs.Option.{IsSome, option_map, option_map_or}
@@ -53,6 +53,10 @@ abbrev pub conditions_steps : List ℕ → List (List ℕ) → List Head → Lis
 conditions_steps text names heads conditions =
     each_after (condition_steps text names heads) [] conditions
 
+-- a borrowed potential as a tree
+abbrev pub borrowed_tree : Option (Bor BlockTree) → Option BlockTree
+borrowed_tree potential = option_map (λ p. p.now) potential
+
 -- borrowed potentials as trees
 abbrev pub borrowed_trees : List (Option (Bor BlockTree)) → List (Option BlockTree)
 borrowed_trees potentials = map (option_map (λ p. p.now)) potentials
@@ -76,6 +80,12 @@ potential_steps text names heads potentials head conditions =
     ▸ conditions_steps text names heads conditions
     ▸ many_row head conditions
 
+-- those of a potential's block
+abbrev pub block_steps :
+    List ℕ → List (List ℕ) → List Head → List (Option BlockTree) → BlockTree → Pass Found
+block_steps text names heads potentials block =
+    potential_steps text names heads potentials (title block) (conditions block)
+
 -- the potential of each node among these blocks
 abbrev pub potentials_among : List ℕ → List (List ℕ) → List BlockTree → List (Option BlockTree)
 potentials_among text names blocks =
@@ -90,7 +100,7 @@ parents_in text names potentials =
 abbrev pub behind_rows :
     List ℕ → List (List ℕ) → List Head → List BlockTree → BlockTree → Pass Found
 behind_rows text names heads earlier p =
-    potential_steps text names heads (potentials_among text names earlier) (title p) (conditions p)
+    block_steps text names heads (potentials_among text names earlier) p
 
 -- the potentials in text order
 abbrev pub potentials_steps : List ℕ → List (List ℕ) → List Head → List BlockTree → Pass Found
@@ -142,6 +152,11 @@ cells_row heads parents v = rule (MOST_CELLS < cells_over heads parents v) (foun
 abbrev pub rules_row : Head → ℕ → Pass Found
 rules_row head rules = rule (MOST_RULE_CELLS < rules) (found head.at (LimitPassed Rules rules))
 
+-- the cells of so many rules, with those of node v over these parents if it is a decision
+abbrev pub rules_with : List Head → List ℕ → ℕ → ℕ → ℕ
+rules_with heads parents v rules =
+    rules + (if is_decision (head_at heads v).kind then cells_over heads parents v else 0)
+
 -- a node over these parents, behind rules of so many cells
 abbrev pub size_rows_over : List Head → List ℕ → ℕ → ℕ → Pass Found
 size_rows_over heads parents v rules = cells_row heads parents v
@@ -160,3 +175,8 @@ size_steps_at heads parents v =
 -- the nodes in order
 abbrev pub size_steps : List Head → List (List ℕ) → Pass Found
 size_steps heads parents = each (size_steps_at heads parents) (range_with_len 0 (length heads))
+
+-- the nodes' potentials and parents: missing tables, the graph and the sizes
+abbrev pub links_steps : List Head → List (Option BlockTree) → List (List ℕ) → Pass Found
+links_steps heads potentials parents = missing_steps heads potentials
+    ▸ graph_steps heads parents ▸ size_steps heads parents

@@ -17,6 +17,8 @@ use Rattle.net_parser.specs.Views.{value_tree}
 use Rattle.net_parser.specs.declared.trees.Value.{Value}
 use Rattle.net_build.specs.declared.nodes.Head.{Head}
 use Rattle.net_build.specs.Blocks.{is_string, is_text, kind_of, title_at, names_of, block_labels, has_agent, block_states, owner_names, agents_of, with_sights, owners_of, potential_list, parent_lists}
+use Rattle.std.specs.Global.{Vec}
+use Rattle.net_build.specs.Lists.{numbers_of_lists, cells_of_lists}
 
 -- the leaves of these values, from left to right
 abbrev pub leaves_in : List Value → List Token
@@ -69,10 +71,14 @@ node_lists text nodes = record {
   more = map (more_owners text nodes) nodes;
 }
 
+-- the agents and the block's owners
+abbrev pub with_named_owners : List ℕ → List (List ℕ) → BlockTree → List (List ℕ)
+with_named_owners text agents block = with_sights agents (owner_names text block)
+
 -- the agents and the block's, where it has some
 abbrev pub with_owners : List ℕ → List (List ℕ) → BlockTree → List (List ℕ)
 with_owners text agents block =
-    if has_agent block.kind then with_sights agents (owner_names text block) else agents
+    if has_agent block.kind then with_named_owners text agents block else agents
 
 -- what the potentials say: for each node its parents and its potential
 pub record LinkLists : Type 0 where
@@ -148,6 +154,12 @@ made_at heads more parents cells v = made_node (head_at heads v) (slice_index_or
 abbrev pub made_nodes : List Head → List (List ℕ) → List (List ℕ) → List (List ℤ) → List NodeView
 made_nodes heads more parents cells =
     map (made_at heads more parents cells) (range_with_len 0 (length heads))
+
+-- the nodes of these lists of vectors
+abbrev pub nodes_from :
+    List Head → List (Vec ℕ) → List (Vec ℕ) → List (Vec ℤ) → List NodeView
+nodes_from heads more parents tables = made_nodes heads (numbers_of_lists more)
+    (numbers_of_lists parents) (cells_of_lists tables)
 
 -- the diagram of these lists
 abbrev pub made_diagram : NodeLists → LinkLists → TableLists → DiagramView

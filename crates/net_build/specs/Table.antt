@@ -19,7 +19,7 @@ use Rattle.weight_scale.specs.declared.decimal.Decimal.{Decimal}
 use Rattle.net_build.specs.declared.faults.Limit.TheVariants.{Nodes, NameBytes, States, Agents}
 use Rattle.first_fault.specs.Passes.{Pass, clear, rule, always, only, ◌▸◌, each, each_after, over}
 use Rattle.net_build.specs.Passes.{found, DoubleName, DoubleAttribute, MissingStates, BadStates, BadLabel, BadAgent, RepeatedAgent, MissingTable, NotANumber, WrongCount, NumberTooLong, Negative, ZeroRow, WideWeight, WideValue, LimitPassed, Found}
-use Rattle.net_build.specs.Blocks.{node_blocks, potentials, title_at, block_name, names_of, topic_of, named, owner_attributes, has_states, has_agent, counted, is_number, is_string_list, is_plain, tells_owners, owner_names, agents_of, with_sights, place_among, potential_list, parent_lists, data_of, leaves_of}
+use Rattle.net_build.specs.Blocks.{node_blocks, potentials, title_at, block_name, names_of, topic_of, named, owner_attributes, has_states, has_agent, counted, is_number, is_string_list, is_plain, tells_owners, owner_names, agents_of, with_sights, place_among, potential_list, parent_lists, data_of, leaves_of, state_attributes}
 use Rattle.net_build.specs.Linking.{potentials_steps, missing_steps, graph_steps, size_steps}
 use Rattle.net_build.specs.Scaling.{AreDecimals, IsWholeBy}
 use Rattle.net_build.specs.Stages.{NodeLists, LinkLists, heads_of, head_at, head_rows, node_lists, link_lists}
@@ -57,21 +57,30 @@ repeated_agent_row text earlier agent = rule
     (Contains (map (text_value text) earlier) (text_value text agent))
     (found agent.start RepeatedAgent)
 
+-- what tells the owners isn't one or more plain strings, as it must be
+abbrev pub bad_agent_row : List ℕ → AttributeTree → Pass Found
+bad_agent_row text agents =
+    rule (tells_owners text agents ≡ false) (found agents.name.start BadAgent)
+
 -- the owners of a decision or a utility, given the attributes that tell them
 unfoldable pub agent_rows : List ℕ → List AttributeTree → Pass Found
 agent_rows text [] = clear
 agent_rows text (agents ∷ more) =
-    rule (tells_owners text agents ≡ false) (found agents.name.start BadAgent)
+    bad_agent_row text agents
     ▸ each_after (repeated_agent_row text) [] (leaves agents.value)
 
 -- the agent is none of these, of which there are as many as may be
 abbrev pub IsAgentTooMany : List (List ℕ) → List ℕ → Type 0
 IsAgentTooMany agents agent = (MOST_AGENTS ≤ length agents) × (Contains agents agent → ⊥)
 
+-- such an agent is named there
+abbrev pub many_agents_row : List (List ℕ) → ℕ → List ℕ → Pass Found
+many_agents_row agents at agent =
+    rule (IsAgentTooMany agents agent) (found at (LimitPassed Agents (MOST_AGENTS + 1)))
+
 -- an owner of the node that is named there, behind these agents and the node's owners before it
 abbrev pub sight_row : List (List ℕ) → ℕ → List (List ℕ) → List ℕ → Pass Found
-sight_row agents at earlier agent = rule (IsAgentTooMany (with_sights agents earlier) agent)
-    (found at (LimitPassed Agents (MOST_AGENTS + 1)))
+sight_row agents at earlier agent = many_agents_row (with_sights agents earlier) at agent
 
 -- the name of a node block behind those with these names
 unfoldable pub name_rows : List ℕ → List (List ℕ) → BlockTree → Pass Found
@@ -87,11 +96,19 @@ owner_rows text agents block =
     agent_rows text (owner_attributes text block)
     ▸ each_after (sight_row agents (title_at block)) [] (owner_names text block)
 
+-- the states of the block, where it has some
+abbrev pub block_states_rows : List ℕ → BlockTree → Pass Found
+block_states_rows text block =
+    only (has_states block.kind) (states_rows text block (state_attributes text block))
+
+-- the owners of the block, where it has some, behind those of these agents
+abbrev pub block_owner_rows : List ℕ → List (List ℕ) → BlockTree → Pass Found
+block_owner_rows text agents block = only (has_agent block.kind) (owner_rows text agents block)
+
 -- a node block behind those with these names and agents
 unfoldable pub node_rows : List ℕ → List (List ℕ) → List (List ℕ) → BlockTree → Pass Found
 node_rows text names agents block = name_rows text names block ▸ repeats text block
-    ▸ only (has_states block.kind) (states_rows text block (named text (codes "states")
-    block.attributes)) ▸ only (has_agent block.kind) (owner_rows text agents block)
+    ▸ block_states_rows text block ▸ block_owner_rows text agents block
 
 -- node blocks in text order
 unfoldable pub node_pass : List ℕ → List BlockTree → Pass Found
@@ -116,6 +133,14 @@ graph_pass text blocks = graph_steps (heads_of text (node_blocks blocks)) (paren
 -- all nodes in text order
 unfoldable pub size_pass : List ℕ → List BlockTree → Pass Found
 size_pass text blocks = size_steps (heads_of text (node_blocks blocks)) (parent_lists text blocks)
+
+-- what the potentials link: heads and parents, missing tables, the graph and the sizes
+abbrev pub links_pass : List ℕ → List BlockTree → Pass Found
+links_pass text blocks =
+    potential_pass text blocks
+    ▸ missing_pass text blocks
+    ▸ graph_pass text blocks
+    ▸ size_pass text blocks
 
 -- what stands for a block that isn't there
 abbrev pub no_block : BlockTree

@@ -1,6 +1,6 @@
 -- What the functions that read tables say beside the rows of the table of passes: of drafts, of scales, and of what
 -- reading needs. No public contract needs it.
-use Rattle.std.specs.Prelude.{◌≡◌, ◌≢◌, ◌<◌, ◌≤◌, ◌-◌, ◌*◌, ◌/◌, ◌*ℤ◌, ◌^◌, ℕ, ℤ, pos, nat_abs, Bool, ◌&&◌, List, [], All, length, map, filter, flat_map, Option, IfSome, IsSome, true, slice_index_or}
+use Rattle.std.specs.Prelude.{◌≡◌, ◌≢◌, ◌<◌, ◌≤◌, ◌-◌, ◌*◌, ◌/◌, ◌*ℤ◌, ◌^◌, ℕ, ℤ, pos, nat_abs, Bool, ◌&&◌, List, [], All, length, map, filter, flat_map, Option, IfSome, IsSome, true, slice_index_or, Result}
 use Rattle.std.specs.Option.{option_map_or}
 use Rattle.maid_model.specs.declared.diagrams.Kind.{Kind}
 use Rattle.maid_model.specs.declared.diagrams.Kind.TheVariants.{Chance, Decision, Utility}
@@ -19,10 +19,14 @@ use Rattle.weight_scale.specs.declared.decimal.Decimal.{Decimal}
 use Rattle.net_build.specs.declared.drafts.Draft.{Draft}
 use Rattle.net_build.specs.declared.drafts.Draft.TheVariants.{Cells, Values}
 use Rattle.net_build.specs.Blocks.{block_name, data_of, leaves_of, is_number, is_potential, no_token}
-use Rattle.net_build.specs.Scaling.{AreDecimals, decimal_at}
+use Rattle.net_build.specs.Scaling.{AreDecimals, decimal_at, TellDecimals}
 use Rattle.net_build.specs.Stages.{NodeLists, LinkLists, head_at, head_rows, AreLinks}
 use Rattle.net_build.specs.declared.nodes.Head.{Head}
-use Rattle.net_build.specs.Table.{kind_in}
+use Rattle.net_build.specs.Table.{kind_in, wide_row}
+use Rattle.net_build.specs.declared.faults.BuildFault.{BuildFault}
+use Rattle.net_build.specs.Passes.{build_fault}
+use Rattle.first_fault.specs.Answers.{Passes}
+use Rattle.first_fault.specs.Passes.{each}
 pub use Rattle.net_build.specs.Table.{count_row, number_rows, weight_part, data_part, data_parts, table_part, draft_part, node_part, potential_at, node_rows_at, drafts_pass, values_in, IsScaleOf, scaled_pass}
 
 -- the decimal times 10^scale, where it has no more decimals than that
@@ -59,12 +63,20 @@ ArePlainNumbers text states want numerals = (length numerals ≡ want)
     × All (IsFewDigits text) numerals
     × ((total : ℕ) × ArePlainRows (map (few_number text) numerals) states total)
 
+-- the tokens of the text tell these whole numbers
+abbrev pub TellWholeNumbers : List ℕ → List Token → List ℤ → Type 0
+TellWholeNumbers text tokens cells = AreWholeNumbers (map (token_bytes text) tokens) cells
+
+-- each token is a number
+abbrev pub AreNumbers : List Token → Type 0
+AreNumbers tokens =
+    (k : ℕ) → k < length tokens → is_number (slice_index_or tokens k no_token).kind ≡ true
+
 -- a chance table of so many cells whose numbers are its weights as they stand
 pub record IsPlainTable
     (text : List ℕ) (states want : ℕ) (numerals : List Token) (cells : List ℤ) : Type 0 where
   pub count : length numerals ≡ want
-  pub kinds : (k : ℕ) → k < length numerals
-      → is_number (slice_index_or numerals k no_token).kind ≡ true
+  pub kinds : AreNumbers numerals
   pub decimals : List Decimal
   pub are : AreDecimals (map (token_bytes text) numerals) decimals
   pub weighed : IsWeighed decimals states cells
@@ -85,6 +97,11 @@ IsDraftOf Decision rows states numerals (Cells cells) = cells.items ≡ []
 IsDraftOf Utility rows states numerals (Values decimals) =
     AreDecimals numerals decimals.items × (length decimals.items ≡ rows * states)
 IsDraftOf kind rows states numerals draft = ⊥
+
+-- the same from tokens of the text
+abbrev pub IsDraftFrom : List ℕ → Kind → ℕ → ℕ → List Token → Draft → Type 0
+IsDraftFrom text kind rows states tokens draft =
+    IsDraftOf kind rows states (map (token_bytes text) tokens) draft
 
 -- the values that are still to be scaled
 abbrev pub values_of : Draft → List Decimal
@@ -144,3 +161,15 @@ pub record AreDrafts
   pub len : length drafts ≡ length heads
   pub each : (v : ℕ) (d : Draft) → v < length drafts
       → IsDraftAt text heads links v (slice_index_or drafts v d)
+
+-- weights, or the first fault, wherever these tokens tell these decimals
+abbrev pub PassesWeights :
+    {A : Type 0} → ℕ → ℕ → List Token → List Decimal → Result A BuildFault → Type 0
+PassesWeights states at tokens decimals result =
+    (text : List ℕ) (rows : ℕ) → length tokens ≡ rows * states → TellDecimals text tokens decimals
+    → Passes build_fault (weight_part text states rows at tokens) result
+
+-- values to that scale, or the first that is too wide, wherever these tokens tell these decimals
+abbrev pub PassesValues : {A : Type 0} → ℕ → List Token → List Decimal → Result A BuildFault → Type 0
+PassesValues scale tokens decimals result = (text : List ℕ) → TellDecimals text tokens decimals
+    → Passes build_fault (each (wide_row text scale) tokens) result

@@ -1,8 +1,8 @@
 //! The attributes of a block: those that count, and the first of a name.
 
-ghost use Rattle.std.specs.Prelude.{◌≡◌, ◌&&◌, ◌∷◌, [], List, All, filter, IfSome, MatchOption, bytes_eq};
+ghost use Rattle.std.specs.Prelude.{◌≡◌, ◌∷◌, [], List, All, IfSome, MatchOption, bytes_eq};
 ghost use Rattle.std.specs.List.{list_any};
-ghost use Rattle.net_build.specs.Blocks.{counts_for, is_counted, named, names_owners, topic_of, word_of, IsFirst};
+ghost use Rattle.net_build.specs.Blocks.{counts_for, is_counted, named, names_owners, topic_of, word_of, IsFirst, counted_in, is_repeat};
 ghost use Rattle.first_fault.specs.Passes.{each_after};
 ghost use Rattle.first_fault.specs.Answers.{Passes};
 ghost use Rattle.net_build.specs.Passes.{build_fault};
@@ -110,9 +110,7 @@ fn is_repeated(
 ) -> bool
     requires before { All (IsAttributeOf text.now) before.now }
     requires own { IsAttributeOf text.now attribute.now }
-    ensures { result
-        ≡ (is_counted kind (word_of text.now attribute.now)
-        && list_any (counts_for text.now kind (topic_of text.now attribute.now)) before.now) }
+    ensures { result ≡ is_repeat text.now kind before.now attribute.now }
 {
     // Of two topics at most does one attribute count, so that few are compared with those before them.
     counts(kind, word_of(text, attribute))
@@ -126,9 +124,8 @@ fn check_counted(
     attributes: &[Attribute<'_>],
 ) -> Result<(), BuildFault>
     requires { All (IsAttributeOf text.now) attributes.now }
-    ensures { Passes build_fault
-        (each_after (repeated_row text.now) [] (filter (λ a. is_counted kind (word_of text.now a))
-        attributes.now)) result }
+    ensures { Passes build_fault (each_after (repeated_row text.now) []
+        (counted_in text.now kind attributes.now)) result }
 {
     for (place, attribute) in attributes.iter().enumerate() {
         if is_repeated(text, kind, &attributes[..place], attribute) {

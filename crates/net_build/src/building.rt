@@ -5,11 +5,10 @@ ghost use Rattle.maid_model.specs.Diagrams.{IsDiagram};
 ghost use Rattle.maid_model.specs.Names.{NamesFit};
 ghost use Rattle.net_build.specs.Building.{StandsFor};
 ghost use Rattle.net_build.specs.Form.{HasTextForm};
-ghost use Rattle.net_build.specs.Lists.{numbers_of_lists, cells_of_lists};
 ghost use Rattle.first_fault.specs.Answers.{Passes};
 ghost use Rattle.net_build.specs.Passes.{build_fault};
 ghost use Rattle.net_build.specs.Plain.{IsPlain};
-ghost use Rattle.net_build.specs.Stages.{made_node, made_nodes, made_diagram};
+ghost use Rattle.net_build.specs.Stages.{made_node, made_diagram, nodes_from};
 ghost use Rattle.net_build.specs.Table.{all_passes};
 ghost use Rattle.net_lexer.specs.Pieces.{IsTokens};
 ghost use Rattle.net_parser.specs.Grammar.{Spells};
@@ -58,8 +57,7 @@ fn make_nodes(
     requires parents { length parents.now ≡ length heads.now }
     requires tables { length tables.old ≡ length heads.now }
     ensures { IfOk result (λ nodes.
-        nodes.items ≡ made_nodes heads.now (numbers_of_lists more.now)
-        (numbers_of_lists parents.now) (cells_of_lists tables.old)) }
+        nodes.items ≡ nodes_from heads.now more.now parents.now tables.old) }
 {
     let mut nodes = Vec::with_capacity(alloc, heads.len())?;
     for (v, head) in heads.iter().enumerate() {

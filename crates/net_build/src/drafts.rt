@@ -1,15 +1,14 @@
 //! The tables of nodes, one by one, before the scale of utilities is known.
 
-ghost use Rattle.std.specs.Prelude.{◌≡◌, ◌≢◌, ◌<◌, ◌≤◌, ◌*◌, map, true, IfOk, IfSome, IsSome};
-ghost use Rattle.std.specs.Option.{option_map};
+ghost use Rattle.std.specs.Prelude.{◌≡◌, ◌≢◌, ◌<◌, ◌≤◌, ◌*◌, true, IfOk, IfSome, IsSome};
 ghost use Rattle.maid_model.specs.declared.limits.TheConstants.{MOST_CELLS};
 ghost use Rattle.maid_model.specs.declared.diagrams.Kind.TheVariants.{Decision};
 ghost use Rattle.net_build.specs.Blocks.{is_potential, data_of, leaves_of};
 ghost use Rattle.first_fault.specs.Answers.{Passes};
 ghost use Rattle.net_build.specs.Passes.{build_fault};
-ghost use Rattle.net_build.specs.TableParts.{data_part, table_part, node_part, numerals_in, IsDraftOf, FitsDraft, finished, values_of};
-ghost use Rattle.net_lexer.specs.Token.{token_bytes};
+ghost use Rattle.net_build.specs.TableParts.{data_part, table_part, node_part, numerals_in, IsDraftOf, FitsDraft, finished, values_of, IsDraftFrom};
 ghost use Rattle.net_parser.specs.Owned.{IsAttributeOf, IsBlockOf, leaves};
+ghost use Rattle.net_build.specs.Linking.{borrowed_tree};
 
 use crate::attributes::{check_repeats, first_named};
 use crate::faults::{BuildFault, BuildKind};
@@ -49,8 +48,8 @@ fn read_cells(
     requires small { rows * head.now.states ≤ MOST_CELLS }
     ensures rows { Passes build_fault
         (data_part text.now head.now.kind rows head.now.states table.now) result }
-    ensures draft { IfOk result (IsDraftOf head.now.kind rows head.now.states
-        (map (token_bytes text.now) numerals.now)) }
+    ensures draft { IfOk result (IsDraftFrom text.now head.now.kind rows head.now.states
+        numerals.now) }
 {
     let decimals = read_numbers(alloc, text, table, numerals, rows * head.states)?;
     match head.kind {
@@ -78,8 +77,8 @@ fn read_leaves(
     requires small { rows * head.now.states ≤ MOST_CELLS }
     ensures rows { Passes build_fault
         (data_part text.now head.now.kind rows head.now.states table.now) result }
-    ensures draft { IfOk result (IsDraftOf head.now.kind rows head.now.states
-        (map (token_bytes text.now) numerals.now)) }
+    ensures draft { IfOk result (IsDraftFrom text.now head.now.kind rows head.now.states
+        numerals.now) }
 {
     if let Some(draft) = plain_draft(alloc, text, head, rows, table, numerals)? {
         return Ok(draft);
@@ -101,8 +100,8 @@ fn read_data(
     requires small { rows * head.now.states ≤ MOST_CELLS }
     ensures rows { Passes build_fault
         (data_part text.now head.now.kind rows head.now.states table.now) result }
-    ensures draft { IfOk result (IsDraftOf head.now.kind rows head.now.states
-        (map (token_bytes text.now) (leaves table.now.value))) }
+    ensures draft { IfOk result (IsDraftFrom text.now head.now.kind rows head.now.states
+        (leaves table.now.value)) }
 {
     if let Value::Leaves(tokens) = &table.value {
         return read_leaves(alloc, text, head, rows, table, tokens);
@@ -126,8 +125,8 @@ fn read_table(
     requires small { rows * head.now.states ≤ MOST_CELLS }
     ensures rows { Passes build_fault
         (table_part text.now head.now.kind rows head.now.states potential.now) result }
-    ensures draft { IfOk result (IsDraftOf head.now.kind rows head.now.states (map
-        (token_bytes text.now) (leaves_of (data_of text.now potential.now)))) }
+    ensures draft { IfOk result (IsDraftFrom text.now head.now.kind rows head.now.states
+        (leaves_of (data_of text.now potential.now))) }
 {
     check_repeats(text, potential)?;
     match first_named(text, &potential.attributes, b"data") {
@@ -150,10 +149,10 @@ pub fn read_draft(
     requires states { 0 < head.now.states }
     requires small { rows * head.now.states ≤ MOST_CELLS }
     ensures rows { Passes build_fault
-        (node_part text.now head.now.kind rows head.now.states
-        (option_map (λ p. p.now) potential.entry)) result }
-    ensures draft { IfOk result (IsDraftOf head.now.kind rows head.now.states (numerals_in text.now
-        (option_map (λ p. p.now) potential.entry))) }
+        (node_part text.now head.now.kind rows head.now.states (borrowed_tree potential.entry))
+        result }
+    ensures draft { IfOk result (IsDraftOf head.now.kind rows head.now.states
+        (numerals_in text.now (borrowed_tree potential.entry))) }
 {
     match (head.kind, potential) {
         (Kind::Decision, _) => Ok(Draft::Cells(Vec::new(alloc))),

@@ -1,8 +1,8 @@
 //! Labels of states: a list of strings as the value of `states`.
 
-ghost use Rattle.std.specs.Prelude.{◌≡◌, ◌<◌, All, map, length, nat_le, true, IfOk, codes};
+ghost use Rattle.std.specs.Prelude.{◌≡◌, ◌<◌, All, map, length, nat_le, true, IfOk};
 ghost use Rattle.std.specs.List.{list_all};
-ghost use Rattle.net_build.specs.Blocks.{title, is_plain, is_string, is_string_list, is_text, has_states, named, block_labels};
+ghost use Rattle.net_build.specs.Blocks.{title, is_plain, is_string, is_string_list, is_text, has_states, block_labels, state_attributes};
 ghost use Rattle.maid_model.specs.Names.{list_of};
 ghost use Rattle.first_fault.specs.Passes.{each};
 ghost use Rattle.first_fault.specs.Answers.{Passes};
@@ -161,8 +161,7 @@ pub fn read_labels(
     requires own { IsBlockOf text.now block.now }
     requires kind { has_states block.now.kind ≡ true }
     ensures rows { Passes build_fault
-        (states_rows text.now block.now (named text.now (codes "states") block.now.attributes))
-        result }
+        (states_rows text.now block.now (state_attributes text.now block.now)) result }
     ensures labels { IfOk result (λ labels.
         list_of labels.items ≡ block_labels text.now block.now) }
 {

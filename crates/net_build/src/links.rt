@@ -3,13 +3,12 @@
 ghost use Rattle.std.specs.Prelude.{◌≡◌, None, length, All, IfOk, OnOk};
 ghost use Rattle.net_parser.specs.Owned.{IsBlockOf};
 ghost use Rattle.net_build.specs.Blocks.{node_blocks};
-ghost use Rattle.net_build.specs.Linking.{borrowed_trees, missing_steps, graph_steps, size_steps, AreParents};
+ghost use Rattle.net_build.specs.Linking.{borrowed_trees, AreParents, links_steps};
 ghost use Rattle.net_build.specs.Lists.{numbers_of_lists};
-ghost use Rattle.first_fault.specs.Passes.{◌▸◌};
 ghost use Rattle.first_fault.specs.Answers.{Passes};
 ghost use Rattle.net_build.specs.Passes.{build_fault};
 ghost use Rattle.net_build.specs.Stages.{node_lists, link_lists, AreLinks};
-ghost use Rattle.net_build.specs.Table.{node_pass, potential_pass, missing_pass, graph_pass, size_pass};
+ghost use Rattle.net_build.specs.Table.{node_pass, links_pass};
 
 use crate::cycles::check_graph;
 use crate::faults::BuildFault;
@@ -57,8 +56,7 @@ fn check_links(
     requires potentials { length potentials.now ≡ length heads.now }
     requires fit { All (AreParents heads.now) (numbers_of_lists parents.now) }
     ensures rows { Passes build_fault
-        (missing_steps heads.now (borrowed_trees potentials.now) ▸ graph_steps heads.now
-        (numbers_of_lists parents.now) ▸ size_steps heads.now (numbers_of_lists parents.now))
+        (links_steps heads.now (borrowed_trees potentials.now) (numbers_of_lists parents.now))
         result }
     ensures fit { OnOk result (AreLinks heads.now (numbers_of_lists parents.now)) }
 {
@@ -80,9 +78,7 @@ pub fn read_links<'a, 't>(
     requires blocks { All (IsBlockOf text.now) syntax.now }
     requires nodes { nodes.now ≡ node_lists text.now (node_blocks syntax.now) }
     requires rows { node_pass text.now syntax.now None }
-    ensures rows { Passes build_fault
-        (potential_pass text.now syntax.now ▸ missing_pass text.now syntax.now ▸ graph_pass text.now
-        syntax.now ▸ size_pass text.now syntax.now) result }
+    ensures rows { Passes build_fault (links_pass text.now syntax.now) result }
     ensures links { IfOk result (λ links. links ≡ link_lists text.now syntax.now) }
     ensures fit { IfOk result (λ links. AreLinks nodes.now.heads links.parents) }
 {

@@ -1,13 +1,12 @@
 //! The node blocks of a text: names, labels, agents, kinds and counts of states.
 
-ghost use Rattle.std.specs.Prelude.{◌≡◌, ◌<◌, [], ◌∷◌, All, map, length, IfOk, OnOk, codes, if◌then◌else◌};
+ghost use Rattle.std.specs.Prelude.{◌≡◌, ◌<◌, [], ◌∷◌, All, map, length, IfOk, OnOk, if◌then◌else◌};
 ghost use Rattle.net_build.specs.Blocks.{is_node, kind_of, title_at, block_name, node_blocks, has_states, has_agent, named, block_labels, block_states, owner_places};
 ghost use Rattle.maid_model.specs.Names.{list_of};
-ghost use Rattle.first_fault.specs.Passes.{only};
 ghost use Rattle.first_fault.specs.Answers.{Passes};
 ghost use Rattle.net_build.specs.Passes.{build_fault};
 ghost use Rattle.net_build.specs.Stages.{with_owners, node_lists};
-ghost use Rattle.net_build.specs.Table.{name_rows, states_rows, node_rows, node_pass};
+ghost use Rattle.net_build.specs.Table.{name_rows, node_rows, node_pass, block_states_rows};
 ghost use Rattle.net_parser.specs.Owned.{IsBlockOf};
 
 use crate::attributes::check_repeats;
@@ -128,9 +127,7 @@ fn read_name<'a>(
 // The labels of a node; a utility has none.
 fn node_labels(alloc: Global, text: &[u8], block: &Block<'_>) -> Result<Vec<Vec<u8>>, BuildFault>
     requires { IsBlockOf text.now block.now }
-    ensures rows { Passes build_fault
-        (only (has_states block.now.kind) (states_rows text.now block.now (named text.now
-        (codes "states") block.now.attributes))) result }
+    ensures rows { Passes build_fault (block_states_rows text.now block.now) result }
     ensures labels { IfOk result (λ labels.
         list_of labels.items ≡ block_labels text.now block.now) }
 {

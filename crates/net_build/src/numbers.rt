@@ -1,16 +1,16 @@
 //! The numbers of a table.
 
-ghost use Rattle.std.specs.Prelude.{◌≡◌, ◌≢◌, All, map, length, true, false, None, IfOk, IfSome, IfNone};
+ghost use Rattle.std.specs.Prelude.{◌≡◌, ◌≢◌, All, length, true, false, None, IfOk, IfSome, IfNone};
 ghost use Rattle.net_build.specs.Blocks.{is_number};
 ghost use Rattle.first_fault.specs.Passes.{each, rule};
 ghost use Rattle.first_fault.specs.Answers.{Passes};
 ghost use Rattle.net_build.specs.Passes.{found, WrongCount, build_fault};
-ghost use Rattle.net_build.specs.Scaling.{AreDecimals};
+ghost use Rattle.net_build.specs.Scaling.{TellDecimals};
 ghost use Rattle.net_build.specs.Table.{IsNumberTooLong, number_row, length_row};
 ghost use Rattle.net_build.specs.TableParts.{count_row, number_rows};
 ghost use Rattle.net_lexer.specs.Token.{IsTokenOf, token_bytes};
 ghost use Rattle.net_parser.specs.Owned.{IsAttributeOf, leaves};
-ghost use Rattle.weight_scale.specs.Numeral.{numerator, denominator, IsLeastDecimalOf};
+ghost use Rattle.weight_scale.specs.Numeral.{IsDecimalOfNumeral};
 
 use crate::faults::{BuildFault, BuildKind};
 use net_lexer::{Token, TokenKind};
@@ -46,9 +46,7 @@ fn decimal(text: &[u8], token: &Token) -> Option<Decimal>
     requires own { IsTokenOf text.now token.now }
     requires number { is_number token.now.kind ≡ true }
     ensures row { IfSome result (λ _. length_row text.now token.now None) }
-    ensures decimal { IfSome result (λ d.
-        IsLeastDecimalOf (numerator (token_bytes text.now token.now))
-        (denominator (token_bytes text.now token.now)) d) }
+    ensures decimal { IfSome result (IsDecimalOfNumeral (token_bytes text.now token.now)) }
     ensures none { IfNone result (IsNumberTooLong (token_bytes text.now token.now)) }
 {
     numeral(token.bytes(text))
@@ -59,8 +57,7 @@ pub fn decimals(alloc: Global, text: &[u8], tokens: &[Token]) -> Result<Vec<Deci
     requires own { All (IsTokenOf text.now) tokens.now }
     requires numbers { All (λ t. is_number t.kind ≡ true) tokens.now }
     ensures rows { Passes build_fault (each (length_row text.now) tokens.now) result }
-    ensures decimals { IfOk result (λ ds.
-        AreDecimals (map (token_bytes text.now) tokens.now) ds.items) }
+    ensures decimals { IfOk result (λ ds. TellDecimals text.now tokens.now ds.items) }
 {
     let mut decimals = Vec::with_capacity(alloc, tokens.len())?;
     for token in tokens {
@@ -83,8 +80,7 @@ pub fn read_numbers(
     requires own { IsAttributeOf text.now table.now }
     requires numerals { numerals.now ≡ leaves table.now.value }
     ensures rows { Passes build_fault (number_rows text.now want table.now) result }
-    ensures decimals { IfOk result (λ decimals.
-        AreDecimals (map (token_bytes text.now) numerals.now) decimals.items) }
+    ensures decimals { IfOk result (λ decimals. TellDecimals text.now numerals.now decimals.items) }
 {
     check_numbers(numerals)?;
     check_count(table.name.start, want, numerals.len())?;

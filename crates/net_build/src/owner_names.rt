@@ -1,12 +1,12 @@
 //! The names of a node's owners: the string of `agent`, or the strings of `agents`.
 
 ghost use Rattle.std.specs.Prelude.{◌≡◌, [], ◌∷◌, List, All, filter, map, true, false, IfOk, IfSome, MatchOption, bytes_eq, codes};
-ghost use Rattle.net_build.specs.Blocks.{is_string, names_owners, owner_attributes, owner_names, telling_owners, tells_owners, texts_or_agent, word_of, IsFirst};
+ghost use Rattle.net_build.specs.Blocks.{is_string, names_owners, owner_attributes, owner_names, telling_owners, texts_or_agent, word_of, IsFirst};
 ghost use Rattle.maid_model.specs.Names.{list_of};
-ghost use Rattle.first_fault.specs.Passes.{rule, each_after};
+ghost use Rattle.first_fault.specs.Passes.{each_after};
 ghost use Rattle.first_fault.specs.Answers.{Passes};
-ghost use Rattle.net_build.specs.Passes.{found, BadAgent, build_fault};
-ghost use Rattle.net_build.specs.Table.{repeated_agent_row, agent_rows};
+ghost use Rattle.net_build.specs.Passes.{BadAgent, build_fault};
+ghost use Rattle.net_build.specs.Table.{repeated_agent_row, agent_rows, bad_agent_row};
 ghost use Rattle.net_lexer.specs.Token.{text_value};
 ghost use Rattle.net_lexer.specs.declared.tokens.TokenKind.TheVariants.{Text};
 ghost use Rattle.net_parser.specs.Owned.{IsAttributeOf, IsBlockOf, leaves};
@@ -62,9 +62,7 @@ fn string_token<'a>(value: &'a Value<'_>) -> Option<&'a Token>
 fn one_name(alloc: Global, text: &[u8], agent: &Attribute<'_>) -> Result<Vec<Vec<u8>>, BuildFault>
     requires own { IsAttributeOf text.now agent.now }
     requires one { bytes_eq (word_of text.now agent.now) (codes "agents") ≡ false }
-    ensures rows { Passes build_fault
-        (rule (tells_owners text.now agent.now ≡ false) (found agent.now.name.start BadAgent))
-        result }
+    ensures rows { Passes build_fault (bad_agent_row text.now agent.now) result }
     ensures names { IfOk result (λ names.
         list_of names.items ≡ map (text_value text.now) (leaves agent.now.value)) }
 {
@@ -89,9 +87,7 @@ fn listed_names(
 ) -> Result<Vec<Vec<u8>>, BuildFault>
     requires own { IsAttributeOf text.now agents.now }
     requires list { bytes_eq (word_of text.now agents.now) (codes "agents") ≡ true }
-    ensures rows { Passes build_fault
-        (rule (tells_owners text.now agents.now ≡ false) (found agents.now.name.start BadAgent))
-        result }
+    ensures rows { Passes build_fault (bad_agent_row text.now agents.now) result }
     ensures names { IfOk result (λ names.
         list_of names.items ≡ map (text_value text.now) (leaves agents.now.value)) }
 {
@@ -114,9 +110,7 @@ fn agent_names(
     agents: &Attribute<'_>,
 ) -> Result<Vec<Vec<u8>>, BuildFault>
     requires { IsAttributeOf text.now agents.now }
-    ensures rows { Passes build_fault
-        (rule (tells_owners text.now agents.now ≡ false) (found agents.now.name.start BadAgent))
-        result }
+    ensures rows { Passes build_fault (bad_agent_row text.now agents.now) result }
     ensures names { IfOk result (λ names.
         list_of names.items ≡ map (text_value text.now) (leaves agents.now.value)) }
 {

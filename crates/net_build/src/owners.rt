@@ -1,15 +1,15 @@
 //! The owners of decisions and utilities, as numbers of agents in order of first sight.
 
-ghost use Rattle.std.specs.Prelude.{◌≡◌, ◌+◌, ◌<◌, [], ◌∷◌, map, length, IfOk, OnOk, if◌then◌else◌};
+ghost use Rattle.std.specs.Prelude.{◌≡◌, ◌<◌, [], ◌∷◌, map, length, IfOk, OnOk, if◌then◌else◌};
 ghost use Rattle.maid_model.specs.declared.limits.TheConstants.{MOST_AGENTS};
 ghost use Rattle.net_build.specs.declared.faults.Limit.TheVariants.{Agents};
-ghost use Rattle.net_build.specs.Blocks.{has_agent, owner_names, owner_places, place_among, with_sight, with_sights};
+ghost use Rattle.net_build.specs.Blocks.{has_agent, owner_names, owner_places, place_among, with_sight, with_sights, named_owner_places};
 ghost use Rattle.maid_model.specs.Names.{list_of};
-ghost use Rattle.first_fault.specs.Passes.{rule, only, each_after};
+ghost use Rattle.first_fault.specs.Passes.{each_after};
 ghost use Rattle.first_fault.specs.Answers.{Passes};
-ghost use Rattle.net_build.specs.Passes.{found, LimitPassed, build_fault};
-ghost use Rattle.net_build.specs.Stages.{with_owners};
-ghost use Rattle.net_build.specs.Table.{IsAgentTooMany, sight_row, owner_rows};
+ghost use Rattle.net_build.specs.Passes.{LimitPassed, build_fault};
+ghost use Rattle.net_build.specs.Stages.{with_owners, with_named_owners};
+ghost use Rattle.net_build.specs.Table.{sight_row, owner_rows, block_owner_rows, many_agents_row};
 ghost use Rattle.net_parser.specs.Owned.{IsBlockOf};
 
 use crate::faults::{BuildFault, BuildKind, Limit};
@@ -34,9 +34,8 @@ fn number_agent(
     agent: &[u8],
     at: u32,
 ) -> Result<usize, BuildFault>
-    ensures rows { Passes build_fault
-        (rule (IsAgentTooMany (list_of agents.old.items) agent.now)
-        (found at (LimitPassed Agents (MOST_AGENTS + 1)))) result }
+    ensures rows { Passes build_fault (many_agents_row (list_of agents.old.items) at agent.now)
+        result }
     ensures agents { OnOk result (list_of agents.new.items
         ≡ with_sight (list_of agents.old.items) agent.now) }
     ensures place { IfOk result (λ place.
@@ -90,10 +89,9 @@ fn agent_owners(
     ensures rows { Passes build_fault (owner_rows text.now (list_of agents.old.items) block.now)
         result }
     ensures agents { OnOk result (list_of agents.new.items
-        ≡ with_sights (list_of agents.old.items) (owner_names text.now block.now)) }
-    ensures owners { IfOk result (λ owners.
-        owners.first ∷ owners.more.items
-        ≡ map (place_among (list_of agents.new.items)) (owner_names text.now block.now)) }
+        ≡ with_named_owners text.now (list_of agents.old.items) block.now) }
+    ensures owners { IfOk result (λ owners. owners.first ∷ owners.more.items
+        ≡ named_owner_places text.now (list_of agents.new.items) block.now) }
 {
     let names = read_names(alloc, text, block)?;
     let numbers = number_owners(alloc, agents, &names, title(block).start)?;
@@ -120,8 +118,7 @@ pub fn read_owners(
     requires own { IsBlockOf text.now block.now }
     requires named { 0 < length block.now.names }
     ensures rows { Passes build_fault
-        (only (has_agent block.now.kind) (owner_rows text.now (list_of agents.old.items) block.now))
-        result }
+        (block_owner_rows text.now (list_of agents.old.items) block.now) result }
     ensures agents { OnOk result (list_of agents.new.items
         ≡ with_owners text.now (list_of agents.old.items) block.now) }
     ensures owners { IfOk result (λ owners.

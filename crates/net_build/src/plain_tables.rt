@@ -5,12 +5,10 @@ ghost use Rattle.std.specs.Int.{◌∣◌};
 ghost use Rattle.std.specs.Option.{SomeIff};
 ghost use Rattle.maid_model.specs.declared.diagrams.Kind.TheVariants.{Chance};
 ghost use Rattle.maid_model.specs.declared.limits.TheConstants.{MOST_CELLS};
-ghost use Rattle.net_build.specs.Blocks.{is_number, no_token};
-ghost use Rattle.net_build.specs.TableParts.{AreWholeNumbers, ArePlainNumbers, IsDraftOf, IsFewDigits, IsPlainTable, data_part, few_number};
+ghost use Rattle.net_build.specs.TableParts.{ArePlainNumbers, IsDraftFrom, IsFewDigits, IsPlainTable, TellWholeNumbers, data_part, few_number};
 ghost use Rattle.net_lexer.specs.Token.{IsTokenOf, token_bytes};
 ghost use Rattle.net_parser.specs.Owned.{IsAttributeOf, leaves};
-ghost use Rattle.weight_scale.specs.Numeral.{numerator, denominator, IsLeastDecimalOf};
-ghost use Rattle.weight_scale.specs.declared.decimal.Decimal.{Decimal};
+ghost use Rattle.weight_scale.specs.Numeral.{IsWholeNumeral};
 
 use crate::drafts::Draft;
 use crate::nodes::Head;
@@ -24,9 +22,7 @@ use weight_scale::{plain_total, whole_numeral};
 fn whole_number(text: &[u8], token: &Token) -> Option<i128>
     requires { IsTokenOf text.now token.now }
     ensures number { SomeIff result (IsFewDigits text.now token.now) (few_number text.now token.now) }
-    ensures decimal { IfSome result (λ number.
-        (d : Decimal) × IsLeastDecimalOf (numerator (token_bytes text.now token.now))
-        (denominator (token_bytes text.now token.now)) d × (d.m ≡ number) × (d.k ≡ 0)) }
+    ensures decimal { IfSome result (IsWholeNumeral (token_bytes text.now token.now)) }
     ensures above { IfSome result (λ number. pos 0 ≤ℤ number) }
 {
     if token.kind != TokenKind::Number {
@@ -48,8 +44,7 @@ fn whole_numbers(
     ensures numbers { IfOk result (λ found.
         IfSome found (λ numbers. numbers.items ≡ map (few_number text.now) tokens.now)) }
     ensures whole { IfOk result (λ found.
-        IfSome found (λ numbers.
-        AreWholeNumbers (map (token_bytes text.now) tokens.now) numbers.items)) }
+        IfSome found (λ numbers. TellWholeNumbers text.now tokens.now numbers.items)) }
     ensures above { IfOk result (λ found.
         IfSome found (λ numbers. All (λ x. pos 0 ≤ℤ x) numbers.items)) }
 {
@@ -109,8 +104,7 @@ pub fn plain_draft(
         IfSome found (λ _.
         data_part text.now head.now.kind rows head.now.states table.now None)) }
     ensures draft { IfOk result (λ found.
-        IfSome found (IsDraftOf head.now.kind rows head.now.states
-        (map (token_bytes text.now) numerals.now))) }
+        IfSome found (IsDraftFrom text.now head.now.kind rows head.now.states numerals.now)) }
     ensures none { IfOk result (λ found.
         IfNone found (head.now.kind ≡ Chance
         → ArePlainNumbers text.now head.now.states (rows * head.now.states) numerals.now → ⊥)) }

@@ -4,7 +4,7 @@ ghost use Rattle.std.specs.Prelude.{◌≡◌, ◌≢◌, ◌<◌, ◌≤◌, tr
 ghost use Rattle.net_lexer.specs.Token.{IsTokenOf};
 ghost use Rattle.net_parser.specs.Owned.{IsBlockOf};
 ghost use Rattle.net_build.specs.Blocks.{is_potential, title, conditions, potentials};
-ghost use Rattle.net_build.specs.Linking.{node_named, borrowed_trees, taken_row, many_row, potential_steps, potentials_steps, potentials_among, parents_in, absent_row, missing_at, missing_steps, AreParents};
+ghost use Rattle.net_build.specs.Linking.{node_named, borrowed_trees, taken_row, many_row, potential_steps, potentials_steps, potentials_among, parents_in, absent_row, missing_at, missing_steps, AreParents, block_steps};
 ghost use Rattle.net_build.specs.Lists.{numbers_of_lists};
 ghost use Rattle.first_fault.specs.Answers.{Passes};
 ghost use Rattle.net_build.specs.Passes.{build_fault};
@@ -108,8 +108,8 @@ fn read_block(
     requires heads { length heads.now ≡ length names.now }
     requires potentials { length potentials.now ≡ length names.now }
     ensures rows { Passes build_fault
-        (potential_steps text.now names.now heads.now (borrowed_trees potentials.now)
-        (title block.now) (conditions block.now)) result }
+        (block_steps text.now names.now heads.now (borrowed_trees potentials.now) block.now)
+        result }
     ensures node { IfOk result (λ read. read.0 ≡ node_named text.now names.now (title block.now)) }
     ensures within { IfOk result (λ read. read.0 < length names.now) }
     ensures parents { IfOk result (λ read.

@@ -1,16 +1,16 @@
 //! Utility values as whole numbers, all to one scale.
 
-ghost use Rattle.std.specs.Prelude.{◌≡◌, ◌↔◌, IsTrue, ℕ, ◌<◌, ◌≤◌, ◌-◌, ◌*◌, ◌*ℤ◌, ◌^◌, List, All, map, length, pos, true, None, IfOk};
+ghost use Rattle.std.specs.Prelude.{◌≡◌, ◌↔◌, IsTrue, ℕ, ◌<◌, ◌≤◌, ◌-◌, ◌*◌, ◌*ℤ◌, ◌^◌, All, map, length, pos, true, None, IfOk};
 ghost use Rattle.std.specs.Option.{SomeIff};
 ghost use Rattle.maid_model.specs.Diagrams.{greatest_number};
 ghost use Rattle.net_build.specs.Blocks.{is_number};
 ghost use Rattle.first_fault.specs.Passes.{each};
 ghost use Rattle.first_fault.specs.Answers.{Passes};
 ghost use Rattle.net_build.specs.Passes.{build_fault};
-ghost use Rattle.net_build.specs.Scaling.{AreDecimals, decimal_at};
+ghost use Rattle.net_build.specs.Scaling.{decimal_at};
 ghost use Rattle.net_build.specs.Table.{length_row, wide_row};
-ghost use Rattle.net_build.specs.TableParts.{IsScaleOf, scaled_pass, value_at_scale, Fits};
-ghost use Rattle.net_lexer.specs.Token.{IsTokenOf, token_bytes};
+ghost use Rattle.net_build.specs.TableParts.{IsScaleOf, scaled_pass, value_at_scale, Fits, PassesValues};
+ghost use Rattle.net_lexer.specs.Token.{IsTokenOf};
 ghost use Rattle.weight_scale.specs.Numeral.{signed};
 
 use crate::faults::{BuildFault, BuildKind};
@@ -74,8 +74,7 @@ fn check_wide(tokens: &[Token], decimals: &[Decimal], scale: u32) -> Result<(), 
     requires len { length decimals.now ≡ length tokens.now }
     requires enough { All (λ d. d.k ≤ scale) decimals.now }
     requires few { scale ≤ 30 }
-    ensures { (text : List ℕ) → AreDecimals (map (token_bytes text) tokens.now) decimals.now
-        → Passes build_fault (each (wide_row text scale) tokens.now) result }
+    ensures { PassesValues scale tokens.now decimals.now result }
 {
     for (place, token) in tokens.iter().enumerate() {
         if scaled(decimals[place], scale).is_none() {

@@ -1,13 +1,12 @@
 //! How many cells tables and rules have.
 
-ghost use Rattle.std.specs.Prelude.{◌≡◌, ◌<◌, ◌≤◌, ◌+◌, ◌*◌, ◌^◌, min, ℕ, length, map, cond, All, IfOk, OnOk};
+ghost use Rattle.std.specs.Prelude.{◌≡◌, ◌<◌, ◌≤◌, ◌*◌, ◌^◌, min, ℕ, length, map, All, IfOk, OnOk};
 ghost use Rattle.maid_model.specs.declared.limits.TheConstants.{COUNT_END, MOST_CELLS, MOST_RULE_CELLS};
-ghost use Rattle.maid_model.specs.Nodes.{is_decision};
-ghost use Rattle.net_build.specs.Linking.{rows_over, cells_over, cells_row, rules_row, size_rows_over, size_steps, rules_before};
+ghost use Rattle.net_build.specs.Linking.{rows_over, cells_over, cells_row, rules_row, size_rows_over, size_steps, rules_before, rules_with};
 ghost use Rattle.net_build.specs.Lists.{numbers_of_lists};
 ghost use Rattle.first_fault.specs.Answers.{Passes};
 ghost use Rattle.net_build.specs.Passes.{build_fault};
-ghost use Rattle.net_build.specs.Stages.{head_at, cells_at};
+ghost use Rattle.net_build.specs.Stages.{cells_at};
 
 use crate::faults::{BuildFault, BuildKind, Limit};
 use crate::nodes::Head;
@@ -77,11 +76,7 @@ fn check_size(
     requires parents { All (λ u. u < length heads.now) parents.now }
     requires rules { rules ≤ MOST_RULE_CELLS }
     ensures rows { Passes build_fault (size_rows_over heads.now parents.now node rules) result }
-    ensures sum { IfOk result (λ sum.
-        sum
-        ≡ rules
-        + cond (is_decision (head_at heads.now node).kind)
-        (cells_over heads.now parents.now node) 0) }
+    ensures sum { IfOk result (λ sum. sum ≡ rules_with heads.now parents.now node rules) }
     ensures few { IfOk result (λ sum. sum ≤ MOST_RULE_CELLS) }
     ensures cells { OnOk result (cells_over heads.now parents.now node ≤ MOST_CELLS) }
 {

@@ -1,14 +1,10 @@
 //! The weights of chance tables.
 
-ghost use Rattle.std.specs.Prelude.{◌≡◌, ℕ, ◌<◌, ◌≤◌, ◌*◌, ◌/◌, List, map, length, IfOk};
+ghost use Rattle.std.specs.Prelude.{◌≡◌, ◌<◌, ◌≤◌, ◌/◌, length, IfOk};
 ghost use Rattle.std.specs.Int.{◌∣◌};
 ghost use Rattle.maid_model.specs.Diagrams.{greatest_number};
 ghost use Rattle.maid_model.specs.Tables.{IsTable};
-ghost use Rattle.first_fault.specs.Answers.{Passes};
-ghost use Rattle.net_build.specs.Passes.{build_fault};
-ghost use Rattle.net_build.specs.Scaling.{AreDecimals};
-ghost use Rattle.net_build.specs.TableParts.{weight_part, IsWeighed};
-ghost use Rattle.net_lexer.specs.Token.{token_bytes};
+ghost use Rattle.net_build.specs.TableParts.{IsWeighed, PassesWeights};
 
 use crate::faults::{BuildFault, BuildKind};
 use net_lexer::Token;
@@ -28,9 +24,7 @@ pub fn weights(
     requires states { 0 < states }
     requires whole { states ∣ length decimals.now }
     requires len { length decimals.now ≡ length tokens.now }
-    ensures rows { (text : List ℕ) (rows : ℕ) → length tokens.now ≡ rows * states
-        → AreDecimals (map (token_bytes text) tokens.now) decimals.now
-        → Passes build_fault (weight_part text states rows at tokens.now) result }
+    ensures rows { PassesWeights states at tokens.now decimals.now result }
     ensures weighed { IfOk result (λ cells.
         IsWeighed decimals.now states cells.items) }
 {
