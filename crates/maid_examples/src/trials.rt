@@ -1,7 +1,7 @@
 //! The small diagrams and profiles as values, which meet their literals, and room for their sums.
 
 ghost use Rattle.std.specs.Prelude.{◌≡◌, ◌∷◌, [], IfOk};
-ghost use Rattle.maid_examples.specs.Samples.{plan};
+ghost use Rattle.maid_examples.specs.Samples.{plan, chance_below, decision, pay, shared_pay};
 ghost use Rattle.maid_examples.specs.FollowerLeader.{sight_diagram};
 ghost use Rattle.maid_examples.specs.CopySeen.{copied_diagram};
 ghost use Rattle.maid_examples.specs.CopyAnswered.{trace_diagram};
@@ -23,15 +23,7 @@ use std::marker::Model;
 
 /// A decision of two states.
 fn decision(alloc: Global, owner: usize, parents: &[usize]) -> Result<Node, AllocError>
-    ensures { IfOk result (λ n.
-        n ≡ record {
-          kind = Kind.Decision;
-          owner = owner;
-          more = [];
-          states = 2;
-          parents = parents.now;
-          cells = [];
-        }) }
+    ensures { IfOk result (λ n. n ≡ decision owner parents.now) }
 {
     Ok(Node {
         kind: Kind::Decision,
@@ -45,15 +37,7 @@ fn decision(alloc: Global, owner: usize, parents: &[usize]) -> Result<Node, Allo
 
 /// A chance node below node 0.
 fn chance(alloc: Global, states: usize, cells: &[i128]) -> Result<Node, AllocError>
-    ensures { IfOk result (λ n.
-        n ≡ record {
-          kind = Kind.Chance;
-          owner = 0;
-          more = [];
-          states = states;
-          parents = 0 ∷ [];
-          cells = cells.now;
-        }) }
+    ensures { IfOk result (λ n. n ≡ chance_below states cells.now) }
 {
     Ok(Node {
         kind: Kind::Chance,
@@ -71,15 +55,7 @@ fn utility(
     parents: &[usize],
     cells: &[i128],
 ) -> Result<Node, AllocError>
-    ensures { IfOk result (λ n.
-        n ≡ record {
-          kind = Kind.Utility;
-          owner = owner;
-          more = [];
-          states = 1;
-          parents = parents.now;
-          cells = cells.now;
-        }) }
+    ensures { IfOk result (λ n. n ≡ pay owner parents.now cells.now) }
 {
     Ok(Node {
         kind: Kind::Utility,
@@ -93,15 +69,7 @@ fn utility(
 
 /// A utility of the agents 0 and 1.
 fn shared_utility(alloc: Global, parents: &[usize], cells: &[i128]) -> Result<Node, AllocError>
-    ensures { IfOk result (λ n.
-        n ≡ record {
-          kind = Kind.Utility;
-          owner = 0;
-          more = 1 ∷ [];
-          states = 1;
-          parents = parents.now;
-          cells = cells.now;
-        }) }
+    ensures { IfOk result (λ n. n ≡ shared_pay parents.now cells.now) }
 {
     Ok(Node {
         kind: Kind::Utility,
