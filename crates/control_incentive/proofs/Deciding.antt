@@ -63,14 +63,20 @@ searches_kept nodes agent x k = record {
   count = r.len;
   parents = λ v. control.parents_at nodes made agent x r k v;
   live = λ v. (
-    (λ l. record { within = subst (λ n. v < n) r.len l.within; states = elim l.states as (λ _. ((node_at nodes v).kind ≡ Utility) ⊎ (1 < states_of nodes v)) [
-      | inl u ↦ inl (subst (λ (n : NodeView). n.kind ≡ Utility) (same v (not_made v u)) u)
-      | inr m ↦ inr (subst (λ n. 1 < n) (states v) m)
-    ] }),
-    (λ l. record { within = subst (λ n. v < n) (sym r.len) l.within; states = elim l.states as (λ _. ((node_at made v).kind ≡ Utility) ⊎ (1 < states_of made v)) [
-      | inl u ↦ inl (subst (λ (n : NodeView). n.kind ≡ Utility) (sym (same v (not_chance v u))) u)
-      | inr m ↦ inr (subst (λ n. 1 < n) (sym (states v)) m)
-    ] }),
+    (λ l. record {
+      within = subst (λ n. v < n) r.len l.within;
+      states = elim l.states as (λ _. ((node_at nodes v).kind ≡ Utility) ⊎ (1 < states_of nodes v)) [
+        | inl u ↦ inl (subst (λ (n : NodeView). n.kind ≡ Utility) (same v (not_made v u)) u)
+        | inr m ↦ inr (subst (λ n. 1 < n) (states v) m)
+      ];
+    }),
+    (λ l. record {
+      within = subst (λ n. v < n) (sym r.len) l.within;
+      states = elim l.states as (λ _. ((node_at made v).kind ≡ Utility) ⊎ (1 < states_of made v)) [
+        | inl u ↦ inl (subst (λ (n : NodeView). n.kind ≡ Utility) (sym (same v (not_chance v u))) u)
+        | inr m ↦ inr (subst (λ n. 1 < n) (sym (states v)) m)
+      ];
+    }),
   );
   decision = λ d is. control.decision_there nodes made agent x r k d is;
   goal = λ d u is. (

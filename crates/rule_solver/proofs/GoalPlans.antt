@@ -21,6 +21,7 @@ use Rattle.plan_sums.proofs.Filters.{has_member, has_yes}
 use Rattle.size_precheck.specs.Laws.{OneGreedyOrder}
 use Rattle.size_precheck.specs.Sizes.{ArePlansOf, SizedPlan, IsPlanned, goal_list}
 use Rattle.rule_solver.specs.Rooms.{HasAtMost, HasRoomAt}
+use Rattle.rule_solver.specs.Together.{goal_in, utility_in}
 use Rattle.rule_solver.proofs.MadeRooms.{made_room, more_room}
 use Rattle.rule_solver.proofs.SettingLemmas.{goal_at, index_of_goal}
 
@@ -51,6 +52,16 @@ module _ (nodes : List NodeView) (d : ℕ) where
       turned true false = refl
       turned false true = refl
       turned false false = refl
+
+  -- and their plans tell them
+  pub goals_in_plans : (plans : List SizedPlan) → AllZip (IsPlanned nodes) (map (λ u. gain_plan nodes d u) (goal_list nodes d)) plans → map goal_in plans ≡ goals_of nodes d
+  goals_in_plans plans kept = go (goal_list nodes d) plans kept ∙ same_goals
+    where
+      go : (us : List ℕ) (made : List SizedPlan) → AllZip (IsPlanned nodes) (map (λ u. gain_plan nodes d u) us) made → map goal_in made ≡ us
+      go [] [] z = refl
+      go [] (y ∷ ys) z = absurd z
+      go (u ∷ us) [] z = absurd z
+      go (u ∷ us) (y ∷ ys) z = λ i. utility_in (z.0.made.plan i).utility ∷ go us ys z.1 i
 
   module _ (plans : List SizedPlan) (kept : AllZip (IsPlanned nodes) (map (λ u. gain_plan nodes d u) (goal_list nodes d)) plans) where
     pub goal_plans_long : length plans ≡ length (goals_of nodes d)

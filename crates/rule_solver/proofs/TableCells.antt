@@ -47,6 +47,25 @@ filter_yes p n e = filter_push p n ∙ ap (λ b. filter p (range_with_len 0 n) +
 pub filter_no : (p : ℕ → Bool) (n : ℕ) → p n ≡ false → filter p (range_with_len 0 (n + 1)) ≡ filter p (range_with_len 0 n)
 filter_no p n e = filter_push p n ∙ ap (λ b. filter p (range_with_len 0 n) ++ cond b (n ∷ []) []) e ∙ append-nil (filter p (range_with_len 0 n))
 
+-- numbers that don't pass leave the list as it is
+pub filter_gap : (p : ℕ → Bool) (from to : ℕ) → from ≤ to → ((w : ℕ) → from ≤ w → w < to → p w ≡ true → ⊥) → filter p (range_with_len 0 to) ≡ filter p (range_with_len 0 from)
+filter_gap p from to l none = go to l none
+  where
+    none_passes : (b : Bool) → (b ≡ true → ⊥) → b ≡ false
+    none_passes true n = absurd (n refl)
+    none_passes false n = refl
+
+    go : (to : ℕ) → from ≤ to → ((w : ℕ) → from ≤ w → w < to → p w ≡ true → ⊥) → filter p (range_with_len 0 to) ≡ filter p (range_with_len 0 from)
+    go zero l none = let e : 0 ≡ from = omega (arith, l) in ap (λ n. filter p (range_with_len 0 n)) e
+    go (suc k) l none = last (ℕ_discrete (suc k) from) (λ less. go k less (λ w a b. none w a (omega (arith, b))))
+      where
+        last : Dec (suc k ≡ from) → (from ≤ k → filter p (range_with_len 0 k) ≡ filter p (range_with_len 0 from)) → filter p (range_with_len 0 (suc k)) ≡ filter p (range_with_len 0 from)
+        last (yes e) before = ap (λ n. filter p (range_with_len 0 n)) e
+        last (no n) before =
+            let less : from ≤ k = omega (arith, l, n) in
+            let one : suc k ≡ k + 1 = omega arith in
+            ap (λ m. filter p (range_with_len 0 m)) one ∙ filter_no p k (none_passes (p k) (none k less (omega arith))) ∙ before less
+
 -- no node of a scope is listed twice
 pub scope_once : (nodes : List NodeView) (h : ℕ → Bool) → AllDifferent (nodes_in nodes h)
 scope_once nodes h = different_of (nodes_in nodes h) (apart_filter h (numbers_of nodes) (range_apart 0 (length nodes)))

@@ -1,5 +1,5 @@
 -- Goals of a decision that are summed together. Only private functions cite this file.
-use Rattle.std.specs.Prelude.{◌≡◌, ◌↔◌, ◌⊎◌, ℕ, ◌*◌, ◌≤◌, List, Contains}
+use Rattle.std.specs.Prelude.{◌≡◌, ◌↔◌, ◌⊎◌, ℕ, ◌*◌, ◌≤◌, List, Contains, Option, Some, None}
 use Rattle.cell_rings.specs.Rings.{most_size}
 use Rattle.finite_sums.specs.Sums.{nat_product_over}
 use Rattle.joint_sums.specs.Joint.{IsJointOrder, joint_ruled, value_bound}
@@ -11,6 +11,14 @@ use Rattle.node_sets.specs.declared.sets.NodeSet.{NodeSet}
 use Rattle.node_sets.specs.Sets.{IsIn}
 use Rattle.size_precheck.specs.Sizes.{SizedPlan}
 use Rattle.rule_solver.specs.declared.joint_goals.Joint.{Joint}
+
+-- the number of a plan's utility, and 0 where it has none
+abbrev pub utility_in : Option ℕ → ℕ
+utility_in (Some u) = u
+utility_in None = 0
+
+abbrev pub goal_in : SizedPlan → ℕ
+goal_in plan = utility_in plan.plan.utility
 
 -- the list has the nodes of the set, each once
 pub record IsListed (set : NodeSet) (list : List ℕ) : Type 0 where

@@ -14,16 +14,16 @@ ghost use Rattle.size_precheck.specs.Sizes.{ArePlansOf, IsPlanned, ArePlansOfGoa
 ghost use Rattle.rule_solver.specs.Rooms.{AreReady, HasAtMost, HasRoomAt, IsReady, AreReadyFor, AreReadyForGoals};
 ghost use Rattle.rule_solver.specs.Sums.{AddsGoals, HasGoals, HasMasses, HasRoomFor, IsRowGains, IsRowSums, IsSetting, KeepsRoom};
 
-use crate::joint_goals::add_together;
+use crate::joint_goals::{add_together, list_goals};
 use crate::numbers::Number;
-use crate::reading::{add_gains, list_scope, put_masses};
+use crate::reading::{add_gains, put_masses};
 use crate::spaces::Workspaces;
 use crate::totals::{list_totals, product_in};
 use crate::widths::fits_small;
 use cell_rings::{Gain, SmallGain};
 use eliminate::{release, run_plan};
 use factor_core::Workspace;
-use maid_model::{Diagram, Profile, goals_of};
+use maid_model::{Diagram, Profile};
 use node_sets::NodeSet;
 use scope_sums::{plans_keep_scopes, plans_sum_scopes};
 use size_precheck::{DecisionPlans, Plan, greedy_orders, plan_decision};
@@ -285,7 +285,7 @@ impl<'a> Setting<'a> {
     {
         let rows = self.diagram.rows(self.decision);
         let mut gains = vec![in alloc; 0; rows * self.diagram.states(self.decision)]?;
-        let goals = list_scope(alloc, self.diagram, &goals_of(self.diagram, self.decision))?;
+        let goals = list_goals(alloc, plans)?;
         self.add_goals(alloc, &goals, plans, spaces, &mut gains)?;
         Ok(gains)
     }

@@ -5,7 +5,7 @@
 //! gain of a product is the product of the weights times the sum of the values. Where that has no room, takes too much
 //! work or might not fit, each goal's own plan is run instead.
 
-ghost use Rattle.std.specs.Prelude.{◌≡◌, ◌↔◌, ◌+◌, ◌*◌, ◌<◌, ◌≤◌, ℕ, [], Contains, IfOk, IfSome, OnOk, drop, length, sum_by, take};
+ghost use Rattle.std.specs.Prelude.{◌≡◌, ◌↔◌, ◌+◌, ◌*◌, ◌<◌, ◌≤◌, ℕ, [], Contains, IfOk, IfSome, IsTrue, OnOk, drop, length, map, sum_by, take};
 ghost use Rattle.maid_model.specs.Graph.{AllDifferent};
 ghost use Rattle.maid_model.specs.Scopes.{goals_of};
 ghost use Rattle.joint_sums.specs.Joint.{value_bound};
@@ -14,7 +14,7 @@ ghost use Rattle.node_sets.specs.declared.sets.TheConstants.{MOST_NODES};
 ghost use Rattle.size_precheck.specs.Sizes.{ArePlansOfGoals};
 ghost use Rattle.rule_solver.specs.Rooms.{IsReady};
 ghost use Rattle.rule_solver.specs.Sums.{AddsGoals, HasGoals, HasRoomFor, IsSetting};
-ghost use Rattle.rule_solver.specs.Together.{AreOfGoals, FitsPairs, IsJoint, IsListed, IsStepOf, ListsMore};
+ghost use Rattle.rule_solver.specs.Together.{AreOfGoals, FitsPairs, IsJoint, IsListed, IsStepOf, ListsMore, goal_in};
 
 use crate::decision_sums::Setting;
 use crate::reading::{add_gains, list_scope};
@@ -113,6 +113,45 @@ fn with_goal(diagram: &Diagram, bound: u128, goal: usize) -> Option<u128>
 {
     let value = greatest_value(diagram, Some(goal)).checked_mul(2)?;
     bound.checked_mul(value).filter(|more| *more <= MOST_SIZE)
+}
+
+/// The number of the plan's utility, and 0 where it has none.
+fn goal_in(plan: &Plan) -> usize
+    ensures { result ≡ goal_in plan.now }
+{
+    match plan.utility() {
+        Some(u) => u,
+        None => 0,
+    }
+}
+
+/// The utilities of the plans: of the plans of a decision's goals its goals.
+pub(crate) fn list_goals(alloc: Global, plans: &[Plan]) -> Result<Vec<usize>, AllocError>
+    ensures { IfOk result (λ goals. goals.items ≡ map goal_in plans.now) }
+{
+    let mut goals = Vec::with_capacity(alloc, plans.len())?;
+    for plan in plans {
+        goals.push(goal_in(plan))?;
+    }
+    Ok(goals)
+}
+
+/// Whether the first so many of the plans may be summed together, by their work: `most_work` tells why. Where none may,
+/// nothing need be listed for a joint sum.
+fn may_share(plans: &[Plan]) -> bool
+    ensures { IsTrue result → 0 < length plans.now }
+{
+    let mut all: u128 = 0;
+    let mut largest = 0;
+    for plan in plans {
+        let work = plan.size().work;
+        all = all.saturating_add(work);
+        largest = work.max(largest);
+        if largest <= all / 4 {
+            return true;
+        }
+    }
+    false
 }
 
 /// How much work a joint sum may take in place of these plans: a quarter of theirs, since cells of pairs take longer.
@@ -306,6 +345,9 @@ pub(crate) fn add_together(
 {
     plans_keep_scopes();
     if goals.len() < 2 {
+        return Ok(0);
+    }
+    if !may_share(plans) {
         return Ok(0);
     }
     let joint = Joint::new(alloc, setting, goals, plans)?;

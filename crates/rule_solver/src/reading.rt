@@ -1,11 +1,12 @@
 //! The last table of a plan, read into a decision's gains and masses.
 
-ghost use Rattle.std.specs.Prelude.{◌≡◌, ◌<◌, ◌≤◌, ◌+◌, ◌*◌, ◌*ℤ◌, ◌+ℤ◌, ◌↔◌, [], ◌∷◌, ◌++◌, ℕ, IfOk, IsTrue, OnErr, OnOk, Contains, length, nat_abs, pos, slice_index, slice_index_or, slice_set};
+ghost use Rattle.std.specs.Prelude.{◌≡◌, ◌<◌, ◌≤◌, ◌+◌, ◌*◌, ◌*ℤ◌, ◌+ℤ◌, ◌↔◌, [], ◌∷◌, ◌++◌, ℕ, IfOk, IsTrue, MatchOption, OnErr, OnOk, Contains, length, nat_abs, pos, slice_index, slice_index_or, slice_set};
 ghost use Rattle.cell_rings.specs.Sums.{cell_at};
 ghost use Rattle.factor_core.specs.Slots.{IsLive, nodes_in};
 ghost use Rattle.maid_model.specs.Diagrams.{greatest_number};
 ghost use Rattle.maid_model.specs.Nodes.{IsDecision, parents_of, rows_of, states_of};
-ghost use Rattle.node_sets.specs.Sets.{holds, IsIn};
+ghost use Rattle.node_sets.specs.declared.sets.TheConstants.{MOST_NODES};
+ghost use Rattle.node_sets.specs.Sets.{holds, IsFirstFrom, IsIn};
 ghost use Rattle.rule_solver.specs.Reading.{AddsTable, PutsTable, cell_number, HasRoomToAdd, FitTimes};
 
 use crate::numbers::{HasNumber, Number};
@@ -15,6 +16,18 @@ use maid_model::{Diagram, World};
 use node_sets::NodeSet;
 use std::alloc::{AllocError, Global};
 
+/// The first number of the set from this one on, if it is below the count.
+fn next_in(set: &NodeSet, from: usize, count: usize) -> Option<usize>
+    requires { from ≤ MOST_NODES }
+    ensures { MatchOption result ((v : ℕ) → from ≤ v → v < count → IsIn set.now v → ⊥)
+        (λ v. IsFirstFrom set.now from v × (v < count)) }
+{
+    match set.first_from(from) {
+        Some(v) if v < count => Some(v),
+        _ => None,
+    }
+}
+
 /// The nodes of the scope in ascending order.
 pub(crate) fn list_scope(
     alloc: Global,
@@ -23,11 +36,12 @@ pub(crate) fn list_scope(
 ) -> Result<Vec<usize>, AllocError>
     ensures { IfOk result (λ v. v.items ≡ nodes_in diagram.now.nodes (holds scope.now)) }
 {
+    let count = diagram.count();
     let mut nodes = Vec::new(alloc);
-    for v in 0..diagram.count() {
-        if scope.holds(v) {
-            nodes.push(v)?;
-        }
+    let mut from = 0;
+    'listing: while let Some(v) = next_in(scope, from, count) {
+        nodes.push(v)?;
+        from = v + 1;
     }
     Ok(nodes)
 }

@@ -1,4 +1,4 @@
-use Rattle.std.proofs.Common.{All, length, map, ◌≡◌, ◌∙◌, ◌<◌, ◌↔◌, ◌⊎◌, ℕ, slice_index, sym, subst, ap}
+use Rattle.std.proofs.Common.{All, length, map, ◌≡◌, ◌∙◌, ◌<◌, ◌↔◌, ◌⊎◌, sym, subst, ap}
 use Rattle.maid_model.specs.declared.answers.Row.{Row}
 use Rattle.maid_model.specs.Answers.{FitsAnswer}
 use Rattle.maid_model.specs.Nodes.{states_of, rows_of}

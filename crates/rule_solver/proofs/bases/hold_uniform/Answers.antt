@@ -1,4 +1,4 @@
-use Rattle.std.proofs.Common.{◌≡◌, sym, subst, ap}
+use Rattle.std.proofs.Common.{sym, subst, ap}
 use Rattle.maid_model.specs.Profiles.{HasRule, IsRule, Replaces}
 use Rattle.maid_model.specs.Views.{RuleView}
 use Rattle.rule_solver.proofs.BaseTurns.{mixed_back, plain_rule}

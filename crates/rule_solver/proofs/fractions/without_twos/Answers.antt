@@ -1,9 +1,9 @@
-use Rattle.std.proofs.Common.{rules, arith, ◌≡◌, ◌<◌, ◌≤◌, ◌^◌, ◌⊎◌, ◌/◌, ◌%◌, ℕ, inl, inr, min, sym, ap, subst, ◌∙◌}
-use Rattle.std.specs.Int.{bit_at, trailing_zeros, w64}
+use Rattle.std.proofs.Common.{rules, arith, ◌≡◌, ◌<◌, ◌≤◌, ◌^◌, ◌⊎◌, ◌/◌, ◌%◌, ℕ, inl, inr, min, sym, subst, ◌∙◌}
+use Rattle.std.specs.Int.{bit_at, w64}
 use Rattle.std.proofs.Math.Nat.{min-eq_left, min-eq_right, min-le_left, min-le_right}
 use Rattle.std.proofs.Math.Decide.{dec_le}
 use Rattle.std.proofs.lemmas.Nat.Bits.{bit_at-trailing_zeros}
-use Rattle.rule_solver.proofs.Halves.{shift_back, shifted_across, shifted_positive}
+use Rattle.rule_solver.proofs.Halves.{shifted_across, shifted_positive}
 use Rattle.rule_solver.proofs.fractions.without_twos.Goals as goal
 
 -- below the lesser of two places the digits are those below each

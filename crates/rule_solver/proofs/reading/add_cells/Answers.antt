@@ -1,4 +1,4 @@
-use Rattle.std.proofs.Common.{rules, FitsSigned, ◌<◌, ◌+ℤ◌, ◌*ℤ◌, pos, get_or, length, set, arith, ap, ◌∙◌}
+use Rattle.std.proofs.Common.{rules, FitsSigned, ◌+ℤ◌, ◌*ℤ◌, pos, get_or, set, arith, ap, ◌∙◌}
 use Rattle.std.specs.Int.{w128}
 use Rattle.std.proofs.lemmas.Int.{to_z-of_z}
 use Rattle.std.proofs.lemmas.List.{get_or_default}

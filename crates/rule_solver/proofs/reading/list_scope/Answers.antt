@@ -1,12 +1,26 @@
+use Rattle.std.proofs.Common.{◌≡◌, ◌∙◌, ◌+◌, ◌++◌, ◌∷◌, [], ◌<◌, ◌≤◌, ℕ, List, filter, length, sym, ap, subst, arith}
+use Rattle.std.specs.List.{range_with_len}
 use Rattle.node_sets.specs.Sets.{holds}
-use Rattle.std.proofs.Common.{◌∙◌, sym}
-use Rattle.rule_solver.proofs.TableCells.{filter_yes, filter_no}
-use Rattle.rule_solver.proofs.reading.list_scope.Goals.{then-holds+in_ok-push, else-holds}
+use Rattle.rule_solver.proofs.TableCells.{filter_gap, filter_yes}
 use Rattle.rule_solver.proofs.reading.list_scope.Goals as goal
 
-pub loop-v-preserved : goal.loop-v-preserved
-loop-v-preserved c =
-    elim c.if-holds.branch [
-      | then-holds+in_ok-push w ↦ cc (filter_yes (holds c.args.scope.now) c.loop-v.v (sym c.holds.ensures ∙ w.if-holds.true), w.in_ok-push.ensures.items)
-      | else-holds w ↦ cc (filter_no (holds c.args.scope.now) c.loop-v.v (sym c.holds.ensures ∙ w.if-holds.false))
-    ]
+-- none of the numbers up to the next node is one of the scope's
+pub listing-preserved : goal.listing-preserved
+listing-preserved c =
+    let p = holds c.args.scope.now in
+    let v = c.in-Some.v in
+    let next = c.in-Some.ensures.0 in
+    let within : v < length c.args.diagram.now.nodes = subst (λ n. v < n) c.count-count.ensures.count c.in-Some.ensures.1 in (
+      c.in_ok-push.ensures.items ∙ ap (λ (l : List ℕ). l ++ v ∷ []) (c.listing.invariant.0 ∙ sym (filter_gap p c.listing.from v next.not_before next.first)) ∙ sym (filter_yes p v next.inside),
+      omega (arith, within),
+    )
+
+-- nor is one behind the last
+pub returns : goal.returns
+returns c =
+    let p = holds c.args.scope.now in
+    c.listing.invariant.0
+    ∙ sym (filter_gap p c.listing.from (length c.args.diagram.now.nodes) c.listing.invariant.1 (λ w l m i. c.in_default.ensures w l (subst (λ n. w < n) (sym c.count-count.ensures.count) m) i))
+
+pub next_in-requires : goal.next_in-requires
+next_in-requires c = let few = c.count-count.ensures.diagram.limits.nodes in let from = c.listing.invariant.1 in omega (arith, few, from)

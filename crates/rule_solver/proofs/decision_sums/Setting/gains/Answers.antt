@@ -2,20 +2,18 @@
 use Rattle.std.proofs.Common.{◌≡◌, ◌∙◌, ℕ, ℤ, List, length, sym, ap, subst, arith}
 use Rattle.maid_model.specs.Scopes.{goals_of}
 use Rattle.rule_solver.specs.Sums.{HasGoals}
-use Rattle.rule_solver.proofs.SettingLemmas.{goals_listed}
+use Rattle.rule_solver.proofs.GoalPlans.{goals_in_plans}
 use Rattle.rule_solver.proofs.SumLemmas.{back_written}
 use Rattle.rule_solver.proofs.decision_sums.Setting.gains.Goals as goal
 
 pub add_goals-requires-clause-goals : goal.add_goals-requires-clause-goals
 add_goals-requires-clause-goals c =
-    let s = c.requires.setting in
-    c.deref.ensures.value ∙ c.in_ok-goals.ensures ∙ goals_listed c.args.self.now.diagram.now.nodes s.is_diagram.graph c.args.self.now.decision s.is_decision c.goals_of.result c.goals_of.ensures
+    c.deref.ensures.value ∙ c.in_ok-goals.ensures ∙ goals_in_plans c.args.self.now.diagram.now.nodes c.args.self.now.decision c.args.plans.now c.requires.planned
 
 pub returns-clause-gains : goal.returns-clause-gains
 returns-clause-gains c =
     let nodes = c.args.self.now.diagram.now.nodes in
-    let s = c.requires.setting in
-    let list : c.deref.result.now ≡ goals_of nodes c.args.self.now.decision = c.deref.ensures.value ∙ c.in_ok-goals.ensures ∙ goals_listed nodes s.is_diagram.graph c.args.self.now.decision s.is_decision c.goals_of.result c.goals_of.ensures in
+    let list : c.deref.result.now ≡ goals_of nodes c.args.self.now.decision = c.deref.ensures.value ∙ c.in_ok-goals.ensures ∙ goals_in_plans nodes c.args.self.now.decision c.args.plans.now c.requires.planned in
     let before : length c.deref_mut.result.now ≡ length c.in_ok-gains.gains.items = ap (λ (xs : List ℤ). length xs) c.deref_mut.ensures.value in
     let same : length c.add_goals.new.gains ≡ length c.in_ok-gains.gains.items = c.add_goals.ensures.len ∙ before in
     let ok = c.in_ok-gains.gains.ok in
