@@ -16,14 +16,14 @@ use maid_model::{Diagram, World};
 use node_sets::NodeSet;
 use std::alloc::{AllocError, Global};
 
-/// The first number of the set from this one on, if it is below the count.
-fn next_in(set: &NodeSet, from: usize, count: usize) -> Option<usize>
+/// The first number of the set from this one on, if it is below the end.
+fn next_in(set: &NodeSet, from: usize, end: usize) -> Option<usize>
     requires { from ≤ MOST_NODES }
-    ensures { MatchOption result ((v : ℕ) → from ≤ v → v < count → IsIn set.now v → ⊥)
-        (λ v. IsFirstFrom set.now from v × (v < count)) }
+    ensures { MatchOption result ((v : ℕ) → from ≤ v → v < end → IsIn set.now v → ⊥)
+        (λ v. IsFirstFrom set.now from v × (v < end)) }
 {
     match set.first_from(from) {
-        Some(v) if v < count => Some(v),
+        Some(v) if v < end => Some(v),
         _ => None,
     }
 }
