@@ -1,1 +1,2 @@
 mod FittingReports
+pub mod PlanSamples

@@ -3,5 +3,6 @@ pub mod Conditioning
 pub mod Controlling
 pub mod Informing
 pub mod Moving
+pub mod Planning
 pub mod Searching
 pub mod Updating

@@ -1,5 +1,5 @@
-//! The tests of `tree_checker`, `pure_search`, `policy_update`, `info_value`, `control_incentive`, `evidence` and
-//! `threshold`: they stand apart since a crate that has tests is proved twice, with them and without.
+//! The tests of `size_precheck`, `tree_checker`, `pure_search`, `policy_update`, `info_value`, `control_incentive`,
+//! `evidence` and `threshold`: they stand apart since a crate that has tests is proved twice, with them and without.
 #![tactic(auto)]
 
 #[cfg(test)]
@@ -12,6 +12,8 @@ mod controlling;
 mod informing;
 #[cfg(test)]
 mod moving;
+#[cfg(test)]
+mod planning;
 #[cfg(test)]
 mod samples;
 #[cfg(test)]

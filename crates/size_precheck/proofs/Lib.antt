@@ -11,7 +11,6 @@ pub mod Planning
 pub mod Orders
 pub mod Measuring
 pub mod Kept
-pub mod Samples
 mod Agreeing
 mod Dividing
 mod Above

@@ -6,6 +6,5 @@ pub mod Kept
 pub mod Laws
 pub mod Joints
 pub mod Runs
-pub mod Example
 pub mod Families
 pub mod Classes

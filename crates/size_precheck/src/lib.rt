@@ -15,8 +15,6 @@ mod runs;
 mod simulation;
 mod sizes;
 mod starts;
-#[cfg(test)]
-mod tests;
 mod worths;
 
 pub use decisions::{DecisionPlans, plan_decision};

@@ -1,5 +1,5 @@
-//! The tests of `net_lexer`, `net_parser`, `net_build`, `net_print`, `report_text` and `app_lines`: they stand apart
-//! since a crate that has tests is proved twice, with them and without.
+//! The tests of `net_lexer`, `net_parser`, `weight_scale`, `net_build`, `net_print`, `report_text` and `app_lines`: they
+//! stand apart since a crate that has tests is proved twice, with them and without.
 #![tactic(auto)]
 
 #[cfg(test)]
@@ -8,6 +8,8 @@ mod building;
 mod lexing;
 #[cfg(test)]
 mod lines;
+#[cfg(test)]
+mod numbers;
 #[cfg(test)]
 mod parsing;
 #[cfg(test)]

@@ -1,5 +1,4 @@
 pub mod Bound
-pub mod Example
 pub mod Given
 pub mod Laws
 pub mod Numeral

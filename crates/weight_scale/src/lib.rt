@@ -26,6 +26,3 @@ pub use plain::plain_total;
 pub use scaling::{ScaleFault, Scaled, scale_rows};
 pub use scopes::{agent_scope, decision_scope, place_given, scope_given};
 pub use weight_bound::{BoundPlace, bound};
-
-#[cfg(test)]
-mod tests;

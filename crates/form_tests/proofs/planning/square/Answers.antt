@@ -2,9 +2,9 @@ use Rattle.std.proofs.Common.{◌≡◌, ◌∙◌, ◌++◌, ◌∷◌, [], Lis
 use Rattle.maid_model.specs.declared.diagrams.Kind.TheVariants.{Utility}
 use Rattle.maid_model.specs.Diagrams.{IsDiagram}
 use Rattle.maid_model.specs.Views.{NodeView}
-use Rattle.size_precheck.specs.Example.{node_of, ones, square_nodes}
-use Rattle.size_precheck.proofs.Samples.{square_is}
-use Rattle.size_precheck.proofs.tests.square.Goals as goal
+use Rattle.form_tests.specs.Planning.{node_of, ones, square_nodes}
+use Rattle.form_tests.proofs.PlanSamples.{square_is}
+use Rattle.form_tests.proofs.planning.square.Goals as goal
 
 pub from_nodes-requires : goal.from_nodes-requires
 from_nodes-requires c = subst (λ (l : List NodeView). IsDiagram (record { nodes = l; agents = 1; decimals = 0 })) (sym c.in_ok-nodes.ensures) (square_is c.literals_are_tested.ensures.diagram false)

@@ -2,8 +2,8 @@
 use Rattle.std.proofs.Common.{◌≡◌, ◌∙◌, ◌++◌, Bool, true, false, ◌∷◌, [], pos, refl, sym, ap, subst}
 use Rattle.maid_model.specs.Diagrams.{IsDiagram}
 use Rattle.maid_model.specs.Laws.{TestsDiagrams}
-use Rattle.weight_scale.specs.Example.{chance_of, utility_of, weights_if, values_if, others_if, two_parts}
-use Rattle.weight_scale.proofs.tests.two_parts.Goals as goal
+use Rattle.text_tests.specs.Numbers.{chance_of, utility_of, weights_if, values_if, others_if, two_parts}
+use Rattle.text_tests.proofs.numbers.two_parts.Goals as goal
 
 is_diagram : TestsDiagrams → (wide dear shared : Bool) → IsDiagram (two_parts wide dear shared)
 is_diagram law true true true = law (two_parts true true true) refl

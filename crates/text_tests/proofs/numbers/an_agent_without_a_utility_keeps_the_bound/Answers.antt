@@ -1,8 +1,8 @@
 -- The literals are diagrams by their tests.
 use Rattle.std.proofs.Common.{◌≡◌, ◌∙◌, ◌++◌, ◌∷◌, [], negsuc, refl, sym, subst}
 use Rattle.maid_model.specs.Diagrams.{IsDiagram}
-use Rattle.weight_scale.specs.Example.{utility_of}
-use Rattle.weight_scale.proofs.tests.an_agent_without_a_utility_keeps_the_bound.Goals as goal
+use Rattle.text_tests.specs.Numbers.{utility_of}
+use Rattle.text_tests.proofs.numbers.an_agent_without_a_utility_keeps_the_bound.Goals as goal
 
 pub from_nodes-one-requires : goal.from_nodes-one-requires
 from_nodes-one-requires g c =

@@ -1,10 +1,10 @@
 //! Sizes of small plans, counted by hand.
 
 ghost use Rattle.std.specs.Prelude.{◌≡◌, ◌∷◌, [], ◌++◌, IfOk};
-ghost use Rattle.size_precheck.specs.Example.{node_of, square_nodes, square_diagram, sighted_diagram, star_diagram};
+ghost use Rattle.form_tests.specs.Planning.{node_of, square_nodes, square_diagram, sighted_diagram, star_diagram};
 
-use crate::{Size, make_plan, measure};
 use maid_model::{Diagram, Kind, Node, literals_are_tested};
+use size_precheck::{Size, make_plan, measure};
 use smallvec::SmallVec;
 use std::alloc::{AllocError, Global};
 use std::test::Fail;

@@ -2,13 +2,16 @@
 
 ghost use Rattle.std.specs.Prelude.{◌≡◌, ◌<◌, ◌%◌, ◌^◌, [], IfOk, length, true, unsigned_abs};
 ghost use Rattle.net_lexer.specs.Numerals.{is_numeral};
-ghost use Rattle.weight_scale.specs.Example.{chance_of, choice, utility_of, weights_if, values_if, others_if};
+ghost use Rattle.text_tests.specs.Numbers.{chance_of, choice, utility_of, weights_if, values_if, others_if};
 
-use super::*;
 use maid_model::{Diagram, Kind, Node, literals_are_tested};
 use smallvec::SmallVec;
 use std::alloc::{AllocError, Global};
 use std::test::Fail;
+use weight_scale::{
+    BoundPlace, Decimal, ScaleFault, Scaled, agent_scope, bound, decision_scope, numeral,
+    plain_total, scale_rows, whole_numeral,
+};
 
 fn value_of(text: &[u8]) -> Option<(i128, u32)>
     requires { is_numeral text.now ≡ true }

@@ -12,7 +12,7 @@ use Rattle.maid_model.specs.Laws.{TestsDiagrams}
 use Rattle.maid_model.specs.Nodes.{node_at, is_utility}
 use Rattle.maid_model.specs.Tested.{differ}
 use Rattle.maid_model.specs.Views.{NodeView}
-use Rattle.size_precheck.specs.Example.{square_diagram, sighted_diagram, star_diagram}
+use Rattle.form_tests.specs.Planning.{square_diagram, sighted_diagram, star_diagram}
 use Rattle.size_precheck.specs.Sizes.{CanBePlanned}
 
 pub square_is : TestsDiagrams → (twice : Bool) → IsDiagram (square_diagram twice)

@@ -3,9 +3,9 @@ use Rattle.std.specs.Prelude.{replicate}
 use Rattle.maid_model.specs.declared.diagrams.Kind.TheVariants.{Decision}
 use Rattle.maid_model.specs.Diagrams.{IsDiagram}
 use Rattle.maid_model.specs.Views.{NodeView}
-use Rattle.size_precheck.specs.Example.{node_of}
-use Rattle.size_precheck.proofs.Samples.{star_is}
-use Rattle.size_precheck.proofs.tests.star.Goals as goal
+use Rattle.form_tests.specs.Planning.{node_of}
+use Rattle.form_tests.proofs.PlanSamples.{star_is}
+use Rattle.form_tests.proofs.planning.star.Goals as goal
 
 pub from_nodes-requires : goal.from_nodes-requires
 from_nodes-requires c =

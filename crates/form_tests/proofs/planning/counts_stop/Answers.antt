@@ -1,9 +1,9 @@
 use Rattle.std.proofs.Common.{◌∷◌, [], refl, sym, subst, None}
 use Rattle.maid_model.specs.Views.{DiagramView}
-use Rattle.size_precheck.specs.Example.{star_diagram}
+use Rattle.form_tests.specs.Planning.{star_diagram}
 use Rattle.size_precheck.specs.Sizes.{CanBePlanned}
-use Rattle.size_precheck.proofs.Samples.{planned}
-use Rattle.size_precheck.proofs.tests.counts_stop.Goals as goal
+use Rattle.form_tests.proofs.PlanSamples.{planned}
+use Rattle.form_tests.proofs.planning.counts_stop.Goals as goal
 
 pub make_plan-requires : goal.make_plan-requires
 make_plan-requires g c =

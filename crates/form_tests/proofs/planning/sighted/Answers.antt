@@ -3,9 +3,9 @@ use Rattle.std.specs.Prelude.{pos}
 use Rattle.maid_model.specs.declared.diagrams.Kind.TheVariants.{Chance, Decision, Utility}
 use Rattle.maid_model.specs.Diagrams.{IsDiagram}
 use Rattle.maid_model.specs.Views.{NodeView}
-use Rattle.size_precheck.specs.Example.{node_of, ones}
-use Rattle.size_precheck.proofs.Samples.{sighted_is}
-use Rattle.size_precheck.proofs.tests.sighted.Goals as goal
+use Rattle.form_tests.specs.Planning.{node_of, ones}
+use Rattle.form_tests.proofs.PlanSamples.{sighted_is}
+use Rattle.form_tests.proofs.planning.sighted.Goals as goal
 
 pub from_nodes-requires : goal.from_nodes-requires
 from_nodes-requires c =
