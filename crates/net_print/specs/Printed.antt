@@ -5,7 +5,7 @@ use Rattle.std.specs.List.{flat_map}
 use Rattle.maid_model.specs.declared.diagrams.Kind.{Kind}
 use Rattle.maid_model.specs.declared.diagrams.Kind.TheVariants.{Chance, Decision, Utility}
 use Rattle.maid_model.specs.Names.{NamesView, name_of, labels_of, agent_name}
-use Rattle.maid_model.specs.Nodes.{node_at, owners_of, rows_of, numbers_of}
+use Rattle.maid_model.specs.Nodes.{node_at, owners_of, rows_of, numbers_of, states_of}
 use Rattle.maid_model.specs.Reports.{line, quoted}
 use Rattle.maid_model.specs.Views.{NodeView, DiagramView}
 use Rattle.net_build.specs.Plain.{reduced_rows}
@@ -48,12 +48,21 @@ body_text attributes = codes " { " ++ attributes ++ codes "}"
 abbrev pub owner_names : List NodeView → NamesView → ℕ → List (List ℕ)
 owner_names nodes names v = map (agent_name names) (owners_of nodes v)
 
+-- those of the node v
+abbrev pub attributes_text_of : List NodeView → NamesView → ℕ → List ℕ
+attributes_text_of nodes names v =
+    attributes_text (node_at nodes v).kind (labels_of names v) (owner_names nodes names v)
+
 -- a node's block
 abbrev pub node_line : List NodeView → NamesView → ℕ → List ℕ
 node_line nodes names v =
     let node = node_at nodes v in
     line (kind_word node.kind ++ 32 ∷ name_of names v
     ++ body_text (attributes_text node.kind (labels_of names v) (owner_names nodes names v)))
+
+-- the node blocks, a line each
+abbrev pub nodes_text : List NodeView → NamesView → List ℕ
+nodes_text nodes names = flat_map (node_line nodes names) (numbers_of nodes)
 
 -- the names of the parents behind a bar; without parents there is no bar
 abbrev pub given_text : NamesView → List ℕ → List ℕ
@@ -80,11 +89,20 @@ sign_text (negsuc n) = 45 ∷ []
 abbrev pub value_text : ℕ → ℤ → List ℕ
 value_text k cell = sign_text cell ++ size_text k (unsigned_abs cell)
 
+-- the reduced rows of a chance node
+abbrev pub reduced_rows_of : List NodeView → ℕ → List ℕ
+reduced_rows_of nodes v = reduced_rows (states_of nodes v) (rows_of nodes v) (node_at nodes v).cells
+
 -- a chance node's reduced rows, and a utility's values
 abbrev pub numbers_text : Kind → ℕ → ℕ → ℕ → List ℤ → List ℕ
 numbers_text Chance decimals states rows cells = parted decimal (reduced_rows states rows cells)
 numbers_text Decision decimals states rows cells = []
 numbers_text Utility decimals states rows cells = parted (value_text decimals) cells
+
+-- the numbers of the node v
+abbrev pub numbers_text_of : DiagramView → ℕ → List ℕ
+numbers_text_of d v = numbers_text (node_at d.nodes v).kind d.decimals (states_of d.nodes v)
+    (rows_of d.nodes v) (node_at d.nodes v).cells
 
 -- the numbers of a chance node or a utility; a decision has no table
 abbrev pub table_text : Kind → ℕ → ℕ → ℕ → List ℤ → List ℕ
@@ -93,6 +111,11 @@ table_text Chance decimals states rows cells =
 table_text Decision decimals states rows cells = []
 table_text Utility decimals states rows cells =
     codes "data = (" ++ numbers_text Utility decimals states rows cells ++ codes "); "
+
+-- the table of the node v
+abbrev pub table_text_of : DiagramView → ℕ → List ℕ
+table_text_of d v = table_text (node_at d.nodes v).kind d.decimals (states_of d.nodes v)
+    (rows_of d.nodes v) (node_at d.nodes v).cells
 
 -- a potential's head
 abbrev pub head_text : NamesView → ℕ → List ℕ → List ℕ
@@ -106,7 +129,10 @@ potential_line d names v =
     line (head_text names v node.parents
     ++ body_text (table_text node.kind d.decimals node.states (rows_of d.nodes v) node.cells))
 
+-- the potentials, a line each
+abbrev pub potentials_text : DiagramView → NamesView → List ℕ
+potentials_text d names = flat_map (potential_line d names) (numbers_of d.nodes)
+
 -- the text of a diagram
 unfoldable pub printed : DiagramView → NamesView → List ℕ
-printed d names = flat_map (node_line d.nodes names) (numbers_of d.nodes)
-    ++ flat_map (potential_line d names) (numbers_of d.nodes)
+printed d names = nodes_text d.nodes names ++ potentials_text d names

@@ -1,12 +1,12 @@
 //! The lines of node blocks.
 
-ghost use Rattle.std.specs.Prelude.{◌≡◌, ◌≢◌, ◌<◌, [], ◌∷◌, ◌++◌, All, OnOk, length, codes};
-ghost use Rattle.std.specs.List.{flat_map};
+ghost use Rattle.std.specs.Prelude.{◌≡◌, ◌≢◌, ◌<◌, [], ◌++◌, All, OnOk, length};
 ghost use Rattle.maid_model.specs.declared.diagrams.Kind.TheVariants.{Chance, Utility};
-ghost use Rattle.maid_model.specs.Names.{NamesFit, labels_of, agent_name};
-ghost use Rattle.maid_model.specs.Nodes.{node_at, numbers_of};
+ghost use Rattle.maid_model.specs.Names.{NamesFit, labels_of};
+ghost use Rattle.maid_model.specs.Nodes.{node_at};
 ghost use Rattle.maid_model.specs.Reports.{quoted};
-ghost use Rattle.net_print.specs.Printed.{agent_text, attributes_text, kind_word, node_line, owner_names, owners_text, parted, states_text};
+ghost use Rattle.net_print.specs.Printed.{agent_text, kind_word, node_line, owner_names, owners_text, parted, states_text, attributes_text_of, nodes_text};
+ghost use Rattle.net_print.specs.Parts.{agents_text, more_agents_text};
 
 use crate::pieces::push_gap;
 use line_pieces::push_quoted;
@@ -76,8 +76,7 @@ fn push_agent(out: &mut Vec<u8>, agent: &[u8]) -> Result<(), AllocError>
 // Appends the agents of these numbers, each behind a space.
 fn push_others(out: &mut Vec<u8>, names: &Names, agents: &[usize]) -> Result<(), AllocError>
     requires { All (λ a. a < length names.now.agents) agents.now }
-    ensures { OnOk result (out.new.items
-        ≡ out.old.items ++ flat_map (λ a. 32 ∷ quoted (agent_name names.now a)) agents.now) }
+    ensures { OnOk result (out.new.items ≡ out.old.items ++ more_agents_text names.now agents.now) }
 {
     for agent in agents {
         out.push(b' ')?;
@@ -95,12 +94,8 @@ fn push_agents(
     others: &[usize],
 ) -> Result<(), AllocError>
     requires { All (λ a. a < length names.now.agents) others.now }
-    ensures { OnOk result (out.new.items
-        ≡ out.old.items
-        ++ (codes "agents = ("
-        ++ (quoted first.now
-        ++ flat_map (λ a. 32 ∷ quoted (agent_name names.now a)) others.now)
-        ++ codes "); ")) }
+    ensures { OnOk result (out.new.items ≡ out.old.items
+        ++ agents_text names.now first.now others.now) }
 {
     out.extend_from_slice(b"agents = (")?;
     push_quoted(out, first)?;
@@ -141,10 +136,8 @@ fn push_attributes(
 ) -> Result<(), AllocError>
     requires fit { NamesFit diagram.now names.now }
     requires node { node < length diagram.now.nodes }
-    ensures { OnOk result (out.new.items
-        ≡ out.old.items
-        ++ attributes_text (node_at diagram.now.nodes node).kind (labels_of names.now node)
-        (owner_names diagram.now.nodes names.now node)) }
+    ensures { OnOk result (out.new.items ≡ out.old.items
+        ++ attributes_text_of diagram.now.nodes names.now node) }
 {
     match diagram.kind(node) {
         Kind::Chance => push_states(out, diagram, names, node),
@@ -180,9 +173,8 @@ fn push_block(
 /// Appends a line for each node's block.
 pub fn push_blocks(out: &mut Vec<u8>, diagram: &Diagram, names: &Names) -> Result<(), AllocError>
     requires { NamesFit diagram.now names.now }
-    ensures { OnOk result (out.new.items
-        ≡ out.old.items
-        ++ flat_map (node_line diagram.now.nodes names.now) (numbers_of diagram.now.nodes)) }
+    ensures { OnOk result (out.new.items ≡ out.old.items
+        ++ nodes_text diagram.now.nodes names.now) }
 {
     for node in 0..diagram.count() {
         push_block(out, diagram, names, node)?;

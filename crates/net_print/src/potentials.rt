@@ -1,12 +1,10 @@
 //! The lines of potentials.
 
 ghost use Rattle.std.specs.Prelude.{◌≡◌, ◌≢◌, ◌<◌, ◌≤◌, [], ◌∷◌, ◌++◌, All, OnOk, length, decimal};
-ghost use Rattle.std.specs.List.{flat_map};
 ghost use Rattle.maid_model.specs.declared.diagrams.Kind.TheVariants.{Chance};
 ghost use Rattle.maid_model.specs.Names.{NamesFit, name_of};
-ghost use Rattle.maid_model.specs.Nodes.{node_at, numbers_of, parents_of, rows_of, states_of};
-ghost use Rattle.net_build.specs.Plain.{reduced_rows};
-ghost use Rattle.net_print.specs.Printed.{given_text, head_text, numbers_text, parted, potential_line, table_text, value_text};
+ghost use Rattle.maid_model.specs.Nodes.{node_at, parents_of};
+ghost use Rattle.net_print.specs.Printed.{given_text, head_text, parted, potential_line, value_text, numbers_text_of, potentials_text, reduced_rows_of, table_text_of};
 
 use crate::numbers::{push_reduced_row, push_value};
 use crate::pieces::push_gap;
@@ -50,10 +48,8 @@ fn push_given(
 fn push_rows(out: &mut Vec<u8>, diagram: &Diagram, node: usize) -> Result<(), AllocError>
     requires node { node < length diagram.now.nodes }
     requires kind { (node_at diagram.now.nodes node).kind ≡ Chance }
-    ensures { OnOk result (out.new.items
-        ≡ out.old.items
-        ++ parted decimal (reduced_rows (states_of diagram.now.nodes node)
-        (rows_of diagram.now.nodes node) (node_at diagram.now.nodes node).cells)) }
+    ensures { OnOk result (out.new.items ≡ out.old.items
+        ++ parted decimal (reduced_rows_of diagram.now.nodes node)) }
 {
     let cells = diagram.cells(node);
     let states = diagram.states(node);
@@ -80,11 +76,7 @@ fn push_values(out: &mut Vec<u8>, cells: &[i128], decimals: u32) -> Result<(), A
 // Appends the numbers of a chance node or a utility.
 fn push_numbers(out: &mut Vec<u8>, diagram: &Diagram, node: usize) -> Result<(), AllocError>
     requires node { node < length diagram.now.nodes }
-    ensures { OnOk result (out.new.items
-        ≡ out.old.items
-        ++ numbers_text (node_at diagram.now.nodes node).kind diagram.now.decimals
-        (states_of diagram.now.nodes node) (rows_of diagram.now.nodes node)
-        (node_at diagram.now.nodes node).cells) }
+    ensures { OnOk result (out.new.items ≡ out.old.items ++ numbers_text_of diagram.now node) }
 {
     match diagram.kind(node) {
         Kind::Chance => push_rows(out, diagram, node),
@@ -97,11 +89,7 @@ fn push_numbers(out: &mut Vec<u8>, diagram: &Diagram, node: usize) -> Result<(),
 #[tactic(auto, using(std::proofs::Common::append_assoc))]
 fn push_table(out: &mut Vec<u8>, diagram: &Diagram, node: usize) -> Result<(), AllocError>
     requires { node < length diagram.now.nodes }
-    ensures { OnOk result (out.new.items
-        ≡ out.old.items
-        ++ table_text (node_at diagram.now.nodes node).kind diagram.now.decimals
-        (states_of diagram.now.nodes node) (rows_of diagram.now.nodes node)
-        (node_at diagram.now.nodes node).cells) }
+    ensures { OnOk result (out.new.items ≡ out.old.items ++ table_text_of diagram.now node) }
 {
     if diagram.kind(node) == Kind::Decision {
         return Ok(());
@@ -157,9 +145,7 @@ pub fn push_potentials(
     names: &Names,
 ) -> Result<(), AllocError>
     requires { NamesFit diagram.now names.now }
-    ensures { OnOk result (out.new.items
-        ≡ out.old.items
-        ++ flat_map (potential_line diagram.now names.now) (numbers_of diagram.now.nodes)) }
+    ensures { OnOk result (out.new.items ≡ out.old.items ++ potentials_text diagram.now names.now) }
 {
     for node in 0..diagram.count() {
         push_potential(out, diagram, names, node)?;
