@@ -1,8 +1,8 @@
 //! Nodes of another kind: a chance node under an agent's control, and decisions of other agents as chance nodes.
 
-ghost use Rattle.std.specs.Prelude.{◌≡◌, ◌≢◌, ◌<◌, ◌≤◌, ◌*◌, ◌↔◌, ◌++◌, [], map, slice_set, length, pos, IsTrue, IfOk, OnOk, IsErrOf};
+ghost use Rattle.std.specs.Prelude.{◌≡◌, ◌≢◌, ◌<◌, ◌≤◌, ◌*◌, ◌↔◌, ◌++◌, map, slice_set, length, pos, IsTrue, IfOk, OnOk, IsErrOf};
 ghost use Rattle.std.specs.List.{flat_map};
-ghost use Rattle.maid_model.specs.declared.diagrams.Kind.TheVariants.{Chance, Decision};
+ghost use Rattle.maid_model.specs.declared.diagrams.Kind.TheVariants.{Chance};
 ghost use Rattle.maid_model.specs.declared.limits.TheConstants.{MOST_CELLS, MOST_RULE_CELLS};
 ghost use Rattle.maid_model.specs.Answers.{FitsAnswers, rows_at};
 ghost use Rattle.maid_model.specs.Edits.{as_chance, as_decision, fixed_by, one_agent, made_decision};

@@ -1,5 +1,5 @@
 -- The table of passes, row by row. A text's first fault is the first that applies, by pass, then by item, then by row.
-use Rattle.std.specs.Prelude.{◌+◌, ◌≡◌, ◌≢◌, ◌<◌, ◌≤◌, ◌*◌, ◌^◌, ℕ, pos, ◌<ℤ◌, nat_abs, false, List, [], ◌∷◌, Option, None, Some, map, filter, length, flat_map, All, Contains, slice_index_or, codes}
+use Rattle.std.specs.Prelude.{◌+◌, ◌≡◌, ◌≢◌, ◌<◌, ◌≤◌, ◌*◌, ◌^◌, ℕ, pos, ◌<ℤ◌, nat_abs, false, List, [], ◌∷◌, Option, None, Some, map, filter, length, flat_map, All, Contains, slice_index_or}
 use Rattle.std.specs.List.{range_with_len}
 use Rattle.node_sets.specs.declared.sets.TheConstants.{MOST_NODES}
 use Rattle.maid_model.specs.declared.limits.TheConstants.{MOST_AGENTS, MOST_NAME_BYTES, MOST_STATES}
@@ -19,7 +19,7 @@ use Rattle.weight_scale.specs.declared.decimal.Decimal.{Decimal}
 use Rattle.net_build.specs.declared.faults.Limit.TheVariants.{Nodes, NameBytes, States, Agents}
 use Rattle.first_fault.specs.Passes.{Pass, clear, rule, always, only, ◌▸◌, each, each_after, over}
 use Rattle.net_build.specs.Passes.{found, DoubleName, DoubleAttribute, MissingStates, BadStates, BadLabel, BadAgent, RepeatedAgent, MissingTable, NotANumber, WrongCount, NumberTooLong, Negative, ZeroRow, WideWeight, WideValue, LimitPassed, Found}
-use Rattle.net_build.specs.Blocks.{node_blocks, potentials, title_at, block_name, names_of, topic_of, named, owner_attributes, has_states, has_agent, counted, is_number, is_string_list, is_plain, tells_owners, owner_names, agents_of, with_sights, place_among, potential_list, parent_lists, data_of, leaves_of, state_attributes}
+use Rattle.net_build.specs.Blocks.{node_blocks, potentials, title_at, block_name, names_of, topic_of, owner_attributes, has_states, has_agent, counted, is_number, is_string_list, is_plain, tells_owners, owner_names, agents_of, with_sights, place_among, potential_list, parent_lists, data_of, leaves_of, state_attributes}
 use Rattle.net_build.specs.Linking.{potentials_steps, missing_steps, graph_steps, size_steps}
 use Rattle.net_build.specs.Scaling.{AreDecimals, IsWholeBy}
 use Rattle.net_build.specs.Stages.{NodeLists, LinkLists, heads_of, head_at, head_rows, node_lists, link_lists}

@@ -5,7 +5,7 @@ ghost use Rattle.net_build.specs.Blocks.{is_string, names_owners, owner_attribut
 ghost use Rattle.maid_model.specs.Names.{list_of};
 ghost use Rattle.first_fault.specs.Passes.{each_after};
 ghost use Rattle.first_fault.specs.Answers.{Passes};
-ghost use Rattle.net_build.specs.Passes.{BadAgent, build_fault};
+ghost use Rattle.net_build.specs.Passes.{build_fault};
 ghost use Rattle.net_build.specs.Table.{repeated_agent_row, agent_rows, bad_agent_row};
 ghost use Rattle.net_lexer.specs.Token.{text_value};
 ghost use Rattle.net_lexer.specs.declared.tokens.TokenKind.TheVariants.{Text};

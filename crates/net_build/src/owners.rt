@@ -1,13 +1,11 @@
 //! The owners of decisions and utilities, as numbers of agents in order of first sight.
 
 ghost use Rattle.std.specs.Prelude.{◌≡◌, ◌<◌, [], ◌∷◌, map, length, IfOk, OnOk, if◌then◌else◌};
-ghost use Rattle.maid_model.specs.declared.limits.TheConstants.{MOST_AGENTS};
-ghost use Rattle.net_build.specs.declared.faults.Limit.TheVariants.{Agents};
-ghost use Rattle.net_build.specs.Blocks.{has_agent, owner_names, owner_places, place_among, with_sight, with_sights, named_owner_places};
+ghost use Rattle.net_build.specs.Blocks.{has_agent, owner_places, place_among, with_sight, with_sights, named_owner_places};
 ghost use Rattle.maid_model.specs.Names.{list_of};
 ghost use Rattle.first_fault.specs.Passes.{each_after};
 ghost use Rattle.first_fault.specs.Answers.{Passes};
-ghost use Rattle.net_build.specs.Passes.{LimitPassed, build_fault};
+ghost use Rattle.net_build.specs.Passes.{build_fault};
 ghost use Rattle.net_build.specs.Stages.{with_owners, with_named_owners};
 ghost use Rattle.net_build.specs.Table.{sight_row, owner_rows, block_owner_rows, many_agents_row};
 ghost use Rattle.net_parser.specs.Owned.{IsBlockOf};

@@ -1,6 +1,6 @@
 //! Chance tables whose numbers are their weights as they stand, as those of most are.
 
-ghost use Rattle.std.specs.Prelude.{◌≡◌, ◌<◌, ◌≤◌, ◌≤ℤ◌, ◌*◌, ℕ, List, All, map, length, pos, true, None, slice_index_or, IfOk, IfSome, IfNone};
+ghost use Rattle.std.specs.Prelude.{◌≡◌, ◌<◌, ◌≤◌, ◌≤ℤ◌, ◌*◌, All, map, pos, None, IfOk, IfSome, IfNone};
 ghost use Rattle.std.specs.Int.{◌∣◌};
 ghost use Rattle.std.specs.Option.{SomeIff};
 ghost use Rattle.maid_model.specs.declared.diagrams.Kind.TheVariants.{Chance};

@@ -1,8 +1,7 @@
 //! The rules of blocks.
 
 ghost use Rattle.std.specs.Prelude.{◌<◌, [], ◌∷◌, length, IfOk, OnOk};
-ghost use Rattle.net_lexer.specs.declared.tokens.Token.{Token};
-ghost use Rattle.net_lexer.specs.declared.tokens.TokenKind.TheVariants.{BraceOpen, ParenOpen, ParenClose, Equals, Semicolon};
+ghost use Rattle.net_lexer.specs.declared.tokens.TokenKind.TheVariants.{BraceOpen, ParenOpen, Equals, Semicolon};
 ghost use Rattle.net_parser.specs.Grammar as grammar;
 ghost use Rattle.net_parser.specs.Grammar.{Name, Each, Head, is_potential, Spells};
 ghost use Rattle.net_parser.specs.Reading.{mark, name, attribute_name, attributes, value, given, names, start, stop, IsReading, Follows, NodeNames, PotentialNames, AddsGiven, FollowsInBlock, body_rest};

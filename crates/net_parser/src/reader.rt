@@ -7,11 +7,11 @@
 ghost use Rattle.std.specs.Prelude.{◌≡◌, ◌<◌, ℕ, List, [], ◌∷◌, length, drop, map, All, IfSome, IfNone, IsTrue, is_some};
 ghost use Rattle.std.specs.List.{prefix_len};
 ghost use Rattle.net_lexer.specs.Token.{IsTokenOf, is_token};
-ghost use Rattle.net_lexer.specs.declared.tokens.TokenKind.TheVariants.{ParenClose};
 ghost use Rattle.net_parser.specs.Lexemes.{lexemes, is_leaf};
 ghost use Rattle.net_parser.specs.Faults.{rest_place};
 ghost use Rattle.net_parser.specs.Grammar.{ClosedValues};
-ghost use Rattle.net_parser.specs.Reading.{values, fault_at, IsFlat, ValuesFollow, begins_flat};
+ghost use Rattle.net_parser.specs.Grammar.{ClosedValues};
+ghost use Rattle.net_parser.specs.Reading.{fault_at, IsFlat, ValuesFollow, begins_flat};
 ghost use Rattle.net_parser.specs.Trees.{leaf};
 ghost use Rattle.net_parser.specs.Views.{trees_of};
 

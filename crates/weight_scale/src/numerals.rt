@@ -7,7 +7,6 @@ ghost use Rattle.net_lexer.specs.Bytes.{is_digit};
 ghost use Rattle.net_lexer.specs.Numerals.{is_numeral};
 ghost use Rattle.weight_scale.specs.Numeral.{number_of, AreFewDigits, signed, numerator, denominator, IsLeastDecimalOf, HasNoDecimal, IsDecimalOfNumeral, IsWholeNumeral};
 ghost use Rattle.weight_scale.specs.Significant.{HasTooManyDigits, HasFewDecimals, IsSignificandOf};
-ghost use Rattle.weight_scale.specs.declared.decimal.Decimal.{Decimal};
 
 use crate::Decimal;
 use crate::digits::{
