@@ -1,6 +1,6 @@
 //! Lines of arcs that were removed.
 
-ghost use Rattle.std.specs.Prelude.{◌≡◌, ◌<◌, ◌++◌, ℕ, All, IfOk, OnOk, length};
+ghost use Rattle.std.specs.Prelude.{◌≡◌, ◌<◌, ◌++◌, IfOk, OnOk, length};
 ghost use Rattle.app_lines.specs.Removed.{AreNamed, removed_line, removed_lines};
 
 use maid_model::Names;

@@ -1,9 +1,9 @@
 //! Whole numbers with a sign.
 
 ghost use Rattle.std.specs.Prelude.{◌≡◌, ◌+◌, ◌-◌, ◌*◌, ◌%◌, ◌^◌, ◌<◌, ◌≤◌, ◌*ℤ◌, ◌≤ℤ◌, ◌<ℤ◌, ℤ, pos, nat_abs, length, IsTrue};
-ghost use Rattle.std.specs.Int.{w128, cast_unsigned};
+ghost use Rattle.std.specs.Int.{cast_unsigned};
 ghost use Rattle.cell_rings.specs.Rings.{mass_ring};
-ghost use Rattle.cell_rings.specs.Sums.{cell_at, run_sum, two_scaled, two_sizes, four_scaled, four_sizes, AreWithin, Adds, HasRoom};
+ghost use Rattle.cell_rings.specs.Sums.{run_sum, two_scaled, two_sizes, four_scaled, four_sizes, AreWithin, Adds, HasRoom};
 ghost use Rattle.cell_rings.specs.Words.{whole, of_word, word_size, word_pair, AreWords, AreWordPair};
 ghost use Rattle.cell_rings.specs.KindLaws.{most_has_room, gain_laws, gain_sizes, at_most_itself, value_at_most};
 ghost use Rattle.cell_rings.specs.Kinds.{gain_kind, gain_of};

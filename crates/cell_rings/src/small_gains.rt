@@ -1,9 +1,9 @@
 //! Whole numbers with a sign, in 64 bits.
 
-ghost use Rattle.std.specs.Prelude.{◌≡◌, ◌+◌, ◌-◌, ◌*◌, ◌^◌, ◌<◌, ◌≤◌, ℤ, pos, nat_abs, length, IsTrue};
+ghost use Rattle.std.specs.Prelude.{◌≡◌, ◌+◌, ◌-◌, ◌*◌, ◌^◌, ◌<◌, ◌≤◌, pos, nat_abs, length, IsTrue};
 ghost use Rattle.std.specs.Int.{w64, cast_unsigned};
 ghost use Rattle.cell_rings.specs.Rings.{mass_ring};
-ghost use Rattle.cell_rings.specs.Sums.{cell_at, run_sum, two_scaled, two_sizes, AreWithin, Adds, HasRoom};
+ghost use Rattle.cell_rings.specs.Sums.{run_sum, two_scaled, two_sizes, AreWithin, Adds, HasRoom};
 ghost use Rattle.cell_rings.specs.Words.{AreHalves};
 ghost use Rattle.cell_rings.specs.KindLaws.{small_has_room, small_gain_laws, small_gain_sizes, at_most_itself, value_at_most};
 ghost use Rattle.cell_rings.specs.Kinds.{small_gain_kind, small_gain_of};

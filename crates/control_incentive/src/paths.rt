@@ -1,10 +1,9 @@
 //! The nodes from which and to which paths lead.
 
-ghost use Rattle.std.specs.Prelude.{◌≡◌, ◌↔◌, ◌<◌, ℕ, IsTrue, length};
+ghost use Rattle.std.specs.Prelude.{◌↔◌, ◌<◌, ℕ, IsTrue, length};
 ghost use Rattle.maid_model.specs.declared.diagrams.Kind.TheVariants.{Decision, Utility};
-ghost use Rattle.maid_model.specs.Views.{NodeView};
 ghost use Rattle.node_sets.specs.Sets.{IsIn};
-ghost use Rattle.control_incentive.specs.Paths.{IsInstrumental, IsOf, LeadsFrom, LeadsTo};
+ghost use Rattle.control_incentive.specs.Paths.{IsOf, LeadsFrom, LeadsTo};
 ghost use Rattle.control_incentive.specs.Steps.{HasPaths};
 
 use maid_model::{Diagram, Kind};

@@ -1,6 +1,6 @@
 //! The first cycle of lists of parents.
 
-ghost use Rattle.std.specs.Prelude.{◌≡◌, ℕ, ◌<◌, length, IfOk, IfSome};
+ghost use Rattle.std.specs.Prelude.{ℕ, ◌<◌, length, IfOk, IfSome};
 ghost use Rattle.maid_model.specs.Graph.{Arc};
 ghost use Rattle.maid_model.specs.Placing.{IsOrder};
 ghost use Rattle.diagram_graph.specs.Needs.{NeedsItem};

@@ -1,12 +1,11 @@
 //! The part of a diagram that some nodes and all their ancestors make.
 
 ghost use Rattle.std.specs.Prelude.{◌≡◌, ℕ, ◌<◌, ◌↔◌, length, map, filter, slice_index, Contains, IfOk};
-ghost use Rattle.std.specs.List.{range_with_len};
 ghost use Rattle.node_sets.specs.declared.sets.TheConstants.{MOST_NODES};
 ghost use Rattle.node_sets.specs.Sets.{holds, IsIn};
 ghost use Rattle.maid_model.specs.Graph.{AllDifferent};
 ghost use Rattle.maid_model.specs.Nodes.{numbers_of};
-ghost use Rattle.maid_model.specs.Parts.{IsAncestral, with_ancestors, place_in, renumbered, part_of, part_diagram};
+ghost use Rattle.maid_model.specs.Parts.{IsAncestral, with_ancestors, place_in, part_of, part_diagram};
 ghost use Rattle.diagram_graph.specs.Edited.{with_parents};
 
 use crate::copies::with_nodes;

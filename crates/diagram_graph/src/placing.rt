@@ -2,7 +2,7 @@
 
 ghost use Rattle.std.specs.Prelude.{◌≡◌, ℕ, ◌<◌, ◌↔◌, length, Contains, IsTrue, IfOk, OnOk};
 ghost use Rattle.maid_model.specs.Placing.{IsPlacing};
-ghost use Rattle.diagram_graph.specs.Needs.{IsIn, needs_of, NeedsItem};
+ghost use Rattle.diagram_graph.specs.Needs.{IsIn, NeedsItem};
 ghost use Rattle.diagram_graph.specs.Free.{IsFree, IsReady, NeedsWithin, NeedsItems, TellsLeast};
 ghost use Rattle.diagram_graph.specs.Placed.{IsPlacingOf};
 

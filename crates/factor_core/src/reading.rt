@@ -1,13 +1,10 @@
 //! The cell of a slot at states of its nodes.
 
-ghost use Rattle.std.specs.Prelude.{◌≡◌, ◌+◌, ◌*◌, ◌^◌, ◌<◌, ◌≤◌, ℕ, IsTrue, if◌then◌else◌, slice_index, length, map, take};
-ghost use Rattle.std.specs.List.{AllZip};
+ghost use Rattle.std.specs.Prelude.{◌≡◌, ◌+◌, ◌*◌, ◌^◌, ◌<◌, ◌≤◌, ℕ, IsTrue, if◌then◌else◌, slice_index, length, take};
 ghost use Rattle.maid_model.specs.declared.limits.TheConstants.{MOST_PLAN_CELLS};
-ghost use Rattle.finite_sums.specs.Sums.{World};
-ghost use Rattle.maid_model.specs.Nodes.{states_of};
-ghost use Rattle.factor_core.specs.Slots.{nodes_in, IsLive, table_of, AreStatesOf, IsCellAt};
+ghost use Rattle.factor_core.specs.Slots.{IsLive, AreStatesOf, IsCellAt};
 ghost use Rattle.node_sets.specs.Sets.{holds};
-ghost use Rattle.factor_core.specs.Tables.{AreCounts, AreStates, Gives, size_of, place_of, listed};
+ghost use Rattle.factor_core.specs.Tables.{AreCounts, AreStates, Gives, size_of, place_of};
 
 use crate::orders::counted;
 use crate::slots::Slot;

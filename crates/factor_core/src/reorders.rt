@@ -8,8 +8,8 @@ ghost use Rattle.maid_model.specs.Graph.{AllDifferent};
 ghost use Rattle.maid_model.specs.Nodes.{states_of};
 ghost use Rattle.factor_core.specs.declared.slots.Slot.{Slot};
 ghost use Rattle.factor_core.specs.Operations.{restricted};
-ghost use Rattle.factor_core.specs.Slots.{space, part, HasCells, IsLive, table_of, Appends, StaysLive, HasRoomBehind, AppendsBehind, AllStayLive};
-ghost use Rattle.factor_core.specs.Tables.{AreCounts, states_in, stride_of, size_of, stride_over};
+ghost use Rattle.factor_core.specs.Slots.{space, part, HasCells, IsLive, table_of, Appends, HasRoomBehind, AppendsBehind, AllStayLive};
+ghost use Rattle.factor_core.specs.Tables.{AreCounts, size_of, stride_over};
 
 use crate::copies::{Step, copy_at};
 use crate::orders::list_nodes;

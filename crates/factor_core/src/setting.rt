@@ -1,9 +1,8 @@
 //! The axes, strides and places that a walk begins with.
 
 ghost use Rattle.std.specs.Prelude.{◌≡◌, ◌+◌, ◌*◌, ◌^◌, ◌<◌, ◌≤◌, All, length, take, ◌++◌};
-ghost use Rattle.node_sets.specs.Sets.{holds};
 ghost use Rattle.factor_core.specs.Copies.{steps_of};
-ghost use Rattle.factor_core.specs.Tables.{AreCounts, states_in, stride_of, size_of, axes_of, rows_of, row_of, starts_of, stride_over};
+ghost use Rattle.factor_core.specs.Tables.{AreCounts, states_in, size_of, axes_of, rows_of, row_of, starts_of, stride_over};
 
 use crate::copies::Step;
 use crate::sizes::stride;

@@ -1,6 +1,6 @@
 //! The walk of joins and products of few operands along short axes: cell by cell, the operands counted by the compiler.
 
-ghost use Rattle.std.specs.Prelude.{◌≡◌, ◌+◌, ◌*◌, ◌<◌, ◌≤◌, ℕ, length, drop, [], ◌∷◌, IsTrue};
+ghost use Rattle.std.specs.Prelude.{◌≡◌, ◌+◌, ◌*◌, ◌<◌, ◌≤◌, length, drop, [], ◌∷◌, IsTrue};
 ghost use Rattle.cell_rings.specs.Sums.{Adds};
 ghost use Rattle.factor_core.specs.Narrow.{AreNarrow};
 ghost use Rattle.factor_core.specs.Walks.{total, CanWalk, IsPair};

@@ -1,6 +1,6 @@
 //! Sizes of tables, and how far apart their cells stand.
 
-ghost use Rattle.std.specs.Prelude.{◌≡◌, ◌+◌, ◌-◌, ◌*◌, ◌^◌, ◌<◌, ◌≤◌, ℕ, length};
+ghost use Rattle.std.specs.Prelude.{◌≡◌, ◌+◌, ◌-◌, ◌*◌, ◌^◌, ◌<◌, ◌≤◌, length};
 ghost use Rattle.node_sets.specs.Sets.{holds};
 ghost use Rattle.factor_core.specs.Tables.{AreCounts, states_in, size_from, size_of, stride_of};
 

@@ -1,6 +1,6 @@
 //! What cells are copied from.
 
-ghost use Rattle.std.specs.Prelude.{◌≡◌, ◌*◌, ◌<◌, ◌≤◌, ℕ, ℤ, List, All, map, length, pos, nat_abs, ◌≤ℤ◌};
+ghost use Rattle.std.specs.Prelude.{◌≡◌, ◌*◌, ◌<◌, ◌≤◌, ℤ, List, All, map, length, pos, nat_abs, ◌≤ℤ◌};
 ghost use Rattle.cell_rings.specs.Sums.{cell_at};
 
 use cell_rings::Cell;

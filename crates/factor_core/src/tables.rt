@@ -1,6 +1,6 @@
 //! First tables of nodes, behind the first cells of a list.
 
-ghost use Rattle.std.specs.Prelude.{◌≡◌, ◌+◌, ◌-◌, ◌^◌, IsTrue, ◌<◌, ◌≤◌, ℕ, All, Contains, ◌++◌, drop, length, take};
+ghost use Rattle.std.specs.Prelude.{◌≡◌, ◌+◌, ◌-◌, ◌^◌, IsTrue, ◌<◌, ◌≤◌, ℕ, All, Contains, drop, length, take};
 ghost use Rattle.maid_model.specs.declared.limits.TheConstants.{MOST_PARENTS, MOST_PLAN_CELLS};
 ghost use Rattle.node_sets.specs.declared.sets.TheConstants.{MOST_NODES};
 ghost use Rattle.node_sets.specs.Sets.{holds};
@@ -8,7 +8,7 @@ ghost use Rattle.maid_model.specs.Graph.{AllDifferent};
 ghost use Rattle.maid_model.specs.Diagrams.{IsDiagram};
 ghost use Rattle.maid_model.specs.Nodes.{counts_of, states_of, rows_under};
 ghost use Rattle.plan_sums.specs.Plans.{has};
-ghost use Rattle.factor_core.specs.Copies.{steps_of, steps_in, list_stride, list_table, gathered, count_of_steps, CanCopy, HasCopied};
+ghost use Rattle.factor_core.specs.Copies.{steps_of, steps_in, list_stride, list_table, CanCopy, HasCopied};
 ghost use Rattle.factor_core.specs.Slots.{space, AppendsBehind};
 ghost use Rattle.factor_core.specs.Tables.{AreCounts, states_in};
 

@@ -1,8 +1,8 @@
 //! The cells of small tables, over each kind of cell.
 
-ghost use Rattle.std.specs.Prelude.{◌≡◌, ◌+◌, ◌*◌, ◌<◌, ◌≤◌, ℕ, All, IfOk, length, true, [], ◌∷◌};
+ghost use Rattle.std.specs.Prelude.{◌≡◌, ◌+◌, ◌*◌, ◌<◌, ◌≤◌, ℕ, All, IfOk, length, true, []};
 ghost use Rattle.maid_model.specs.Nodes.{counts_of};
-ghost use Rattle.node_sets.specs.Sets.{holds, IsIn};
+ghost use Rattle.node_sets.specs.Sets.{IsIn};
 ghost use Rattle.factor_core.specs.declared.slots.Slot.{Slot};
 ghost use Rattle.factor_core.specs.Scopes.{united};
 ghost use Rattle.factor_core.specs.Trials.{coins_diagram, IsSmall, Grows};

@@ -1,7 +1,6 @@
 //! Workspaces: tables one behind another in one vector of cells.
 
-ghost use Rattle.std.specs.Prelude.{vec_capacity, vec_len, take, ◌⊎◌, ◌≡◌, ◌≤◌, ◌<◌, ◌+◌, ℕ, All, length, map, IfOk, [], ◌∷◌, ◌↔◌, Contains};
-ghost use Rattle.std.specs.List.{AllZip};
+ghost use Rattle.std.specs.Prelude.{vec_capacity, vec_len, take, ◌⊎◌, ◌≡◌, ◌≤◌, ◌<◌, ◌+◌, ℕ, All, length, IfOk, [], ◌∷◌, ◌↔◌, Contains};
 ghost use Rattle.maid_model.specs.declared.limits.TheConstants.{MOST_PLAN_CELLS};
 ghost use Rattle.node_sets.specs.Sets.{holds, IsIn};
 ghost use Rattle.maid_model.specs.Graph.{AllDifferent};
@@ -11,9 +10,8 @@ ghost use Rattle.factor_core.specs.declared.slots.Slot.{Slot};
 ghost use Rattle.maid_model.specs.Profiles.{IsProfile};
 ghost use Rattle.ring_sums.specs.Groups.{JoinFits, ProductsFit};
 ghost use Rattle.ring_sums.specs.Tables.{sum_out};
-ghost use Rattle.finite_sums.specs.Sums.{World};
 ghost use Rattle.factor_core.specs.Operations.{cells_by, first_table, restricted, NumbersFit, SumFits};
-ghost use Rattle.factor_core.specs.Slots.{nodes_in, cells_over, part, HasCells, IsLive, table_of, tables_of, Appends, AppendsTable, StaysLive, join_of, product_of_slots, AreStatesOf, IsCellAt, AllStayLive};
+ghost use Rattle.factor_core.specs.Slots.{cells_over, part, HasCells, IsLive, table_of, tables_of, Appends, AppendsTable, join_of, product_of_slots, AreStatesOf, IsCellAt, AllStayLive};
 
 use crate::appending::{join_behind, product_behind};
 use crate::firsts::table_behind;

@@ -2,8 +2,7 @@
 
 ghost use Rattle.std.specs.Prelude.{◌≡◌, ◌≤◌, ◌+◌, ◌^◌, ℕ, length, take};
 ghost use Rattle.cell_rings.specs.Sums.{cell_at};
-ghost use Rattle.finite_sums.specs.Sums.{InRange};
-ghost use Rattle.factor_core.specs.Tables.{IsJoined, IsUnion, states_in, size_of, place_of, join_cell, product_cell, HasTableAt};
+ghost use Rattle.factor_core.specs.Tables.{IsJoined, IsUnion, size_of, join_cell, product_cell, HasTableAt};
 ghost use Rattle.factor_core.specs.Spaces.{CanJoinIn, CanMultiplyIn};
 
 use crate::joins::join_into;

@@ -1,6 +1,6 @@
 //! The attributes of a block: those that count, and the first of a name.
 
-ghost use Rattle.std.specs.Prelude.{◌≡◌, ◌∷◌, [], List, All, IfSome, MatchOption, bytes_eq};
+ghost use Rattle.std.specs.Prelude.{◌≡◌, [], All, IfSome, bytes_eq};
 ghost use Rattle.std.specs.List.{list_any};
 ghost use Rattle.net_build.specs.Blocks.{counts_for, is_counted, named, names_owners, topic_of, word_of, IsFirst, counted_in, is_repeat};
 ghost use Rattle.first_fault.specs.Passes.{each_after};
@@ -8,7 +8,6 @@ ghost use Rattle.first_fault.specs.Answers.{Passes};
 ghost use Rattle.net_build.specs.Passes.{build_fault};
 ghost use Rattle.net_build.specs.Table.{repeated_row, repeats};
 ghost use Rattle.net_parser.specs.Owned.{IsAttributeOf, IsBlockOf};
-ghost use Rattle.net_parser.specs.Trees.{AttributeTree};
 
 use crate::faults::{BuildFault, BuildKind};
 use net_parser::{Attribute, Block, BlockKind};

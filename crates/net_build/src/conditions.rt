@@ -1,10 +1,10 @@
 //! The names behind a potential's bar, as nodes.
 
-ghost use Rattle.std.specs.Prelude.{◌≡◌, ◌<◌, ◌≤◌, length, map, All, IfOk};
+ghost use Rattle.std.specs.Prelude.{◌≡◌, ◌<◌, length, map, All, IfOk};
 ghost use Rattle.std.specs.List.{list_any};
 ghost use Rattle.std.specs.Str.{bytes_eq};
 ghost use Rattle.net_lexer.specs.Token.{IsTokenOf, token_bytes};
-ghost use Rattle.net_build.specs.Linking.{node_named, kind_at, unknown_row, repeat_row, utility_row, condition_steps, conditions_steps, AreParents};
+ghost use Rattle.net_build.specs.Linking.{node_named, kind_at, unknown_row, repeat_row, utility_row, condition_steps, conditions_steps};
 ghost use Rattle.first_fault.specs.Answers.{Passes};
 ghost use Rattle.net_build.specs.Passes.{build_fault};
 

@@ -1,6 +1,6 @@
 //! The names of a node's owners: the string of `agent`, or the strings of `agents`.
 
-ghost use Rattle.std.specs.Prelude.{◌≡◌, [], ◌∷◌, List, All, filter, map, true, false, IfOk, IfSome, MatchOption, bytes_eq, codes};
+ghost use Rattle.std.specs.Prelude.{◌≡◌, [], ◌∷◌, List, All, map, true, false, IfOk, IfSome, MatchOption, bytes_eq, codes};
 ghost use Rattle.net_build.specs.Blocks.{is_string, names_owners, owner_attributes, owner_names, telling_owners, texts_or_agent, word_of, IsFirst};
 ghost use Rattle.maid_model.specs.Names.{list_of};
 ghost use Rattle.first_fault.specs.Passes.{each_after};
@@ -10,7 +10,7 @@ ghost use Rattle.net_build.specs.Table.{repeated_agent_row, agent_rows, bad_agen
 ghost use Rattle.net_lexer.specs.Token.{text_value};
 ghost use Rattle.net_lexer.specs.declared.tokens.TokenKind.TheVariants.{Text};
 ghost use Rattle.net_parser.specs.Owned.{IsAttributeOf, IsBlockOf, leaves};
-ghost use Rattle.net_parser.specs.Trees.{AttributeTree, leaf};
+ghost use Rattle.net_parser.specs.Trees.{leaf};
 ghost use Rattle.net_parser.specs.Views.{value_tree};
 
 use crate::attributes::{is_named, names_owners, word_of};

@@ -1,6 +1,6 @@
 //! The owners of decisions and utilities, as numbers of agents in order of first sight.
 
-ghost use Rattle.std.specs.Prelude.{◌≡◌, ◌<◌, [], ◌∷◌, map, length, IfOk, OnOk, if◌then◌else◌};
+ghost use Rattle.std.specs.Prelude.{◌≡◌, ◌<◌, [], ◌∷◌, map, length, IfOk, OnOk};
 ghost use Rattle.net_build.specs.Blocks.{has_agent, owner_places, place_among, with_sight, with_sights, named_owner_places};
 ghost use Rattle.maid_model.specs.Names.{list_of};
 ghost use Rattle.first_fault.specs.Passes.{each_after};

@@ -1,6 +1,6 @@
 //! The potentials of a text, node by node.
 
-ghost use Rattle.std.specs.Prelude.{◌≡◌, ◌≢◌, ◌<◌, ◌≤◌, true, [], length, map, drop, replicate, slice_set, None, Some, All, AllPairs, IfOk};
+ghost use Rattle.std.specs.Prelude.{◌≡◌, ◌≢◌, ◌<◌, true, [], length, map, drop, replicate, slice_set, None, Some, All, AllPairs, IfOk};
 ghost use Rattle.net_lexer.specs.Token.{IsTokenOf};
 ghost use Rattle.net_parser.specs.Owned.{IsBlockOf};
 ghost use Rattle.net_build.specs.Blocks.{is_potential, title, conditions, potentials};

@@ -1,6 +1,6 @@
 //! Utility values as whole numbers, all to one scale.
 
-ghost use Rattle.std.specs.Prelude.{◌≡◌, ◌↔◌, IsTrue, ℕ, ◌<◌, ◌≤◌, ◌-◌, ◌*◌, ◌*ℤ◌, ◌^◌, All, map, length, pos, true, None, IfOk};
+ghost use Rattle.std.specs.Prelude.{◌≡◌, ◌↔◌, IsTrue, ℕ, ◌<◌, ◌≤◌, ◌-◌, ◌*◌, ◌^◌, All, map, length, true, None, IfOk};
 ghost use Rattle.std.specs.Option.{SomeIff};
 ghost use Rattle.maid_model.specs.Diagrams.{greatest_number};
 ghost use Rattle.net_build.specs.Blocks.{is_number};

@@ -1,6 +1,6 @@
 //! How many cells tables and rules have.
 
-ghost use Rattle.std.specs.Prelude.{◌≡◌, ◌<◌, ◌≤◌, ◌*◌, ◌^◌, min, ℕ, length, map, All, IfOk, OnOk};
+ghost use Rattle.std.specs.Prelude.{◌≡◌, ◌<◌, ◌≤◌, ◌*◌, ◌^◌, min, ℕ, length, All, IfOk, OnOk};
 ghost use Rattle.maid_model.specs.declared.limits.TheConstants.{COUNT_END, MOST_CELLS, MOST_RULE_CELLS};
 ghost use Rattle.net_build.specs.Linking.{rows_over, cells_over, cells_row, rules_row, size_rows_over, size_steps, rules_before, rules_with};
 ghost use Rattle.net_build.specs.Lists.{numbers_of_lists};

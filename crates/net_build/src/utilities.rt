@@ -1,6 +1,6 @@
 //! The numbers of all utilities.
 
-ghost use Rattle.std.specs.Prelude.{◌≡◌, ◌++◌, ◌&&◌, All, length, true, OnOk, IfOk};
+ghost use Rattle.std.specs.Prelude.{◌≡◌, ◌++◌, All, length, OnOk, IfOk};
 ghost use Rattle.maid_model.specs.Nodes.{is_utility};
 ghost use Rattle.net_build.specs.Blocks.{data_of, leaves_of};
 ghost use Rattle.net_build.specs.Table.{kind_in, values_in};

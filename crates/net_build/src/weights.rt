@@ -1,9 +1,7 @@
 //! The weights of chance tables.
 
-ghost use Rattle.std.specs.Prelude.{◌≡◌, ◌<◌, ◌≤◌, ◌/◌, length, IfOk};
+ghost use Rattle.std.specs.Prelude.{◌≡◌, ◌<◌, ◌/◌, length, IfOk};
 ghost use Rattle.std.specs.Int.{◌∣◌};
-ghost use Rattle.maid_model.specs.Diagrams.{greatest_number};
-ghost use Rattle.maid_model.specs.Tables.{IsTable};
 ghost use Rattle.net_build.specs.TableParts.{IsWeighed, PassesWeights};
 
 use crate::faults::{BuildFault, BuildKind};

@@ -3,7 +3,7 @@
 ghost use Rattle.std.specs.Prelude.{◌<◌, [], ◌∷◌, length, IfOk, OnOk};
 ghost use Rattle.net_lexer.specs.declared.tokens.TokenKind.TheVariants.{BraceOpen, ParenOpen, Equals, Semicolon};
 ghost use Rattle.net_parser.specs.Grammar as grammar;
-ghost use Rattle.net_parser.specs.Grammar.{Name, Each, Head, is_potential, Spells};
+ghost use Rattle.net_parser.specs.Grammar.{Head, is_potential, Spells};
 ghost use Rattle.net_parser.specs.Reading.{mark, name, attribute_name, attributes, value, given, names, start, stop, IsReading, Follows, NodeNames, PotentialNames, AddsGiven, FollowsInBlock, body_rest};
 
 use crate::reader::{Reader, Stop};

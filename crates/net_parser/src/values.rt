@@ -1,6 +1,6 @@
 //! The rules of an attribute's value.
 
-ghost use Rattle.std.specs.Prelude.{◌≡◌, ◌<◌, ◌+◌, [], ◌∷◌, map, length, IfOk, OnOk};
+ghost use Rattle.std.specs.Prelude.{◌<◌, [], ◌∷◌, map, length, IfOk, OnOk};
 ghost use Rattle.net_parser.specs.Grammar as grammar;
 ghost use Rattle.net_parser.specs.Grammar.{ClosedValues};
 ghost use Rattle.net_parser.specs.Views.{value_tree, trees_of};

@@ -1,6 +1,6 @@
 //! The lines of node blocks.
 
-ghost use Rattle.std.specs.Prelude.{◌≡◌, ◌≢◌, ◌<◌, [], ◌++◌, All, OnOk, length};
+ghost use Rattle.std.specs.Prelude.{◌≡◌, ◌≢◌, ◌<◌, ◌++◌, All, OnOk, length};
 ghost use Rattle.maid_model.specs.declared.diagrams.Kind.TheVariants.{Chance, Utility};
 ghost use Rattle.maid_model.specs.Names.{NamesFit, labels_of};
 ghost use Rattle.maid_model.specs.Nodes.{node_at};

@@ -1,6 +1,6 @@
 //! Whole numbers, decimals and reduced rows.
 
-ghost use Rattle.std.specs.Prelude.{◌≡◌, ◌≢◌, ◌<◌, ◌≤◌, ◌+◌, ◌/◌, ◌%◌, ◌^◌, [], ◌∷◌, ◌++◌, OnOk, decimal, length, map, replicate, unsigned_abs};
+ghost use Rattle.std.specs.Prelude.{◌≡◌, ◌≢◌, ◌<◌, ◌≤◌, ◌+◌, ◌/◌, ◌%◌, ◌^◌, ◌++◌, OnOk, decimal, length, map, replicate, unsigned_abs};
 ghost use Rattle.std.specs.Int.{IsGcd};
 ghost use Rattle.net_build.specs.Plain.{reduced_row, row_divisor};
 ghost use Rattle.net_print.specs.Printed.{padded, sign_text, size_text, value_text};

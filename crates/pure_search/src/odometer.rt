@@ -1,6 +1,6 @@
 //! Lists of choices, one after another.
 
-ghost use Rattle.std.specs.Prelude.{◌≡◌, ◌<◌, [], ◌∷◌, IfOk, IsTrue, IsFalse, length, drop, All};
+ghost use Rattle.std.specs.Prelude.{◌≡◌, ◌<◌, [], ◌∷◌, IfOk, IsTrue, IsFalse, All};
 ghost use Rattle.maid_model.specs.Worlds.{IsWorld, worlds, worlds_from};
 
 use std::alloc::{AllocError, Global};

@@ -1,12 +1,11 @@
 //! The table of what all lists of choices give an agent.
 
-ghost use Rattle.std.specs.Prelude.{◌≡◌, ◌<◌, ◌+◌, IfOk, OnOk, length, map, All};
+ghost use Rattle.std.specs.Prelude.{◌≡◌, ◌<◌, ◌+◌, IfOk, OnOk, length, All};
 ghost use Rattle.maid_model.specs.Nodes.{decisions_of};
 ghost use Rattle.maid_model.specs.Parts.{part_diagram};
-ghost use Rattle.maid_model.specs.Profiles.{IsProfile};
 ghost use Rattle.maid_model.specs.Scopes.{scope_for};
 ghost use Rattle.maid_model.specs.Worlds.{IsWorld};
-ghost use Rattle.pure_search.specs.Games.{IsGameOf, IsSearched, IsTable, MarksBest, MarksStable, choice_lists, counts_for, key_of, owners_for, part_gain};
+ghost use Rattle.pure_search.specs.Games.{IsGameOf, IsSearched, IsTable, MarksBest, MarksStable, choice_lists, counts_for, key_of, part_gain};
 
 use crate::answering::profile_of;
 use crate::games::Game;

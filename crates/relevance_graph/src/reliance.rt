@@ -1,9 +1,8 @@
 //! On which decisions each decision relies.
 
-ghost use Rattle.std.specs.Prelude.{◌≡◌, ◌<◌, ◌↔◌, All, length, IsTrue, IfOk};
+ghost use Rattle.std.specs.Prelude.{◌<◌, ◌↔◌, All, length, IsTrue, IfOk};
 ghost use Rattle.node_sets.specs.declared.sets.TheConstants.{MOST_NODES};
-ghost use Rattle.maid_model.specs.Nodes.{IsDecision};
-ghost use Rattle.maid_model.specs.Relevance.{IsLive, ReliesOn};
+ghost use Rattle.maid_model.specs.Relevance.{ReliesOn};
 ghost use Rattle.diagram_graph.specs.Cycles.{lists_in};
 ghost use Rattle.relevance_graph.specs.Kept.{IsKeptSearch};
 ghost use Rattle.relevance_graph.specs.Steps.{IsLiveDecision, IsSearchedFor, ListsBelow, TellsReliance};

@@ -1,7 +1,6 @@
 //! The line of the order, read.
 
-ghost use Rattle.std.specs.Prelude.{◌≡◌, ◌≢◌, ◌<◌, ◌↔◌, ◌++◌, ℕ, Contains, IsTrue, IfOk, IfSome, IfNone};
-ghost use Rattle.maid_model.specs.Graph.{AllDifferent};
+ghost use Rattle.std.specs.Prelude.{◌≡◌, ◌≢◌, ◌<◌, ◌↔◌, ℕ, Contains, IsTrue, IfOk, IfSome, IfNone};
 ghost use Rattle.maid_model.specs.Names.{NamesFit, name_of};
 ghost use Rattle.maid_model.specs.Nodes.{IsDecision};
 ghost use Rattle.report_text.specs.Reading.{AreTold};

@@ -1,7 +1,6 @@
 //! Fractions as text.
 
-ghost use Rattle.std.specs.Prelude.{◌≡◌, ◌<◌, [], ◌∷◌, ◌++◌, IfOk, OnOk, codes, decimal, if◌then◌else◌, ◌==◌};
-ghost use Rattle.std.specs.Fmt.{signed_decimal};
+ghost use Rattle.std.specs.Prelude.{◌≡◌, ◌<◌, ◌++◌, IfOk, OnOk};
 ghost use Rattle.maid_model.specs.Reports.{ratio_text};
 
 use itoa::Buffer;

@@ -1,11 +1,11 @@
 //! The report of an answered diagram.
 
-ghost use Rattle.std.specs.Prelude.{◌≡◌, ◌≢◌, ◌<◌, ◌+◌, [], ◌∷◌, ◌++◌, All, IfOk, OnOk, codes, decimal, length, map};
+ghost use Rattle.std.specs.Prelude.{◌≡◌, ◌≢◌, ◌<◌, ◌+◌, ◌∷◌, ◌++◌, All, IfOk, OnOk, codes, length};
 ghost use Rattle.std.specs.List.{flat_map};
 ghost use Rattle.maid_model.specs.Answers.{FitsAnswer, FitsDiagram};
-ghost use Rattle.maid_model.specs.Names.{NamesFit, name_of, label_of, agent_name};
+ghost use Rattle.maid_model.specs.Names.{NamesFit, label_of};
 ghost use Rattle.maid_model.specs.Nodes.{IsDecision, node_at, parents_of, states_of, rows_under, rows_of};
-ghost use Rattle.maid_model.specs.Reports.{decision_head, decision_lines, gain_line, gain_lines, names_line, quoted, report, row_line, spaced, worth_text};
+ghost use Rattle.maid_model.specs.Reports.{decision_head, decision_lines, gain_line, gain_lines, names_line, quoted, report, row_line, worth_text};
 ghost use Rattle.maid_model.specs.declared.diagrams.Kind.TheVariants.{Utility};
 ghost use Rattle.report_text.specs.Slots.{decision_words, gain_front, row_front, state_text};
 ghost use Rattle.report_text.specs.Runs.{row_labels};

@@ -1,8 +1,8 @@
 //! The lines of rows and of gains, read.
 
-ghost use Rattle.std.specs.Prelude.{◌≡◌, ◌≢◌, ◌<◌, ◌+◌, ◌++◌, ◌∷◌, [], ℕ, List, Option, decimal, length, IfOk, IfSome, IfNone};
+ghost use Rattle.std.specs.Prelude.{◌≡◌, ◌≢◌, ◌<◌, ◌+◌, ◌++◌, ◌∷◌, ℕ, List, Option, decimal, length, IfOk, IfSome, IfNone};
 ghost use Rattle.maid_model.specs.Names.{NamesFit};
-ghost use Rattle.maid_model.specs.Nodes.{IsDecision, rows_of, states_of};
+ghost use Rattle.maid_model.specs.Nodes.{IsDecision, rows_of};
 ghost use Rattle.maid_model.specs.Reports.{worth_text};
 ghost use Rattle.maid_model.specs.declared.answers.Ratio.{Ratio};
 ghost use Rattle.maid_model.specs.declared.answers.Row.{Row};

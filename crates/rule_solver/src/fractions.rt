@@ -1,6 +1,6 @@
 //! Fractions in lowest terms. Most have numbers of 64 bits, which are reduced without a division of 128 bits.
 
-ghost use Rattle.std.specs.Prelude.{◌≡◌, ◌<◌, ◌≤◌, ◌+◌, ◌*◌, ◌%◌, ◌⊎◌, if◌then◌else◌, neg_ℤ, nat_abs, pos};
+ghost use Rattle.std.specs.Prelude.{◌≡◌, ◌<◌, ◌≤◌, ◌*◌, ◌%◌, ◌⊎◌, if◌then◌else◌, neg_ℤ, nat_abs, pos};
 ghost use Rattle.std.specs.Int.{IsGcd};
 ghost use Rattle.maid_model.specs.Answers.{IsFraction};
 ghost use Rattle.maid_model.specs.Diagrams.{greatest_number};

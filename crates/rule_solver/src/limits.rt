@@ -1,10 +1,9 @@
 //! The limits that a diagram must keep to be solved.
 
-ghost use Rattle.std.specs.Prelude.{◌≡◌, ◌≤◌, ◌↔◌, IsTrue, IfOk, IfSome};
+ghost use Rattle.std.specs.Prelude.{◌≤◌, ◌↔◌, IsTrue, IfOk, IfSome};
 ghost use Rattle.first_fault.specs.Answers.{Passes};
 ghost use Rattle.maid_model.specs.Diagrams.{IsDiagram};
 ghost use Rattle.maid_model.specs.Placing.{IsRelianceOrder};
-ghost use Rattle.maid_model.specs.Scopes.{KeepsScopedBounds};
 ghost use Rattle.size_precheck.specs.Decisions.{ArePlans};
 ghost use Rattle.size_precheck.specs.Sizes.{IsSizeOfRun, ListsDecisions, ArePlansOfWorths};
 ghost use Rattle.rule_solver.specs.Faults.{KeepsSizes, bound_pass, size_pass, solve_fault};

@@ -1,7 +1,7 @@
 //! The answer of one row.
 
-ghost use Rattle.std.specs.Prelude.{◌≡◌, ◌<◌, ◌≤◌, ◌+◌, ◌*◌, ◌^◌, ℕ, All, IfOk, IfSome, length, pos, nat_abs, slice_index, slice_index_or};
-ghost use Rattle.maid_model.specs.Answers.{IsFirstBest, IsReduced, no_row};
+ghost use Rattle.std.specs.Prelude.{◌≡◌, ◌<◌, ◌≤◌, ◌+◌, ◌*◌, ℕ, All, IfOk, IfSome, length, pos, nat_abs, slice_index, slice_index_or};
+ghost use Rattle.maid_model.specs.Answers.{IsFirstBest, IsReduced};
 ghost use Rattle.maid_model.specs.Diagrams.{greatest_number};
 ghost use Rattle.rule_solver.specs.Rows.{AnswersRow, AnswersRows, gain_in};
 

@@ -1,6 +1,6 @@
 //! Plans that are kept for later runs.
 
-ghost use Rattle.std.specs.Prelude.{◌≡◌, ◌<◌, ℕ, List, All, Some, length, map, IsTrue, IfOk};
+ghost use Rattle.std.specs.Prelude.{◌≡◌, ◌<◌, List, All, Some, length, map, IsTrue, IfOk};
 ghost use Rattle.maid_model.specs.Nodes.{IsDecision, decisions_of, is_decision, node_at};
 ghost use Rattle.maid_model.specs.Views.{NodeView};
 ghost use Rattle.size_precheck.specs.declared.decisions.DecisionPlans.{DecisionPlans};

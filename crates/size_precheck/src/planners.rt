@@ -5,8 +5,8 @@ ghost use Rattle.maid_model.specs.Diagrams.{IsDiagram};
 ghost use Rattle.maid_model.specs.Graph.{Arc, IsPath};
 ghost use Rattle.node_sets.specs.declared.sets.TheConstants.{MOST_NODES};
 ghost use Rattle.node_sets.specs.Sets.{IsIn};
-ghost use Rattle.size_precheck.specs.Families.{family_at, AreAbove, AreFamilies, AreWhole, IsFamily, IsJoined, IsOfFamily, IsPlanner, IsRuledBelow};
-ghost use Rattle.size_precheck.specs.Joints.{joint_at, AreStates, IsCounted};
+ghost use Rattle.size_precheck.specs.Families.{AreAbove, AreFamilies, AreWhole, IsFamily, IsJoined, IsOfFamily, IsPlanner, IsRuledBelow};
+ghost use Rattle.size_precheck.specs.Joints.{joint_at, IsCounted};
 
 use crate::counts::count_cells;
 use crate::joints::{Joint, Table, put_table};

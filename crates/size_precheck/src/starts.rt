@@ -1,11 +1,10 @@
 //! The nodes of a plan and its first tables.
 
 ghost use Rattle.std.specs.Prelude.{◌≡◌, ◌⊎◌, ◌↔◌, ℕ, ◌<◌, ◌≤◌, ◌+◌, List, [], ◌∷◌, ◌++◌, length, map, slice_index, Contains, Some, None, IsTrue, IfOk, OnOk, option_to_list};
-ghost use Rattle.maid_model.specs.declared.limits.TheConstants.{COUNT_END};
 ghost use Rattle.maid_model.specs.Diagrams.{IsDiagram};
 ghost use Rattle.maid_model.specs.Nodes.{parents_of};
 ghost use Rattle.node_sets.specs.declared.sets.TheConstants.{MOST_NODES};
-ghost use Rattle.node_sets.specs.Sets.{holds, IsIn};
+ghost use Rattle.node_sets.specs.Sets.{IsIn};
 ghost use Rattle.plan_sums.specs.Plans.{plan_nodes};
 ghost use Rattle.plan_sums.specs.Sizes.{IsPlan};
 ghost use Rattle.size_precheck.specs.declared.joints.Table.{Table};

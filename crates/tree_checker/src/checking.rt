@@ -5,7 +5,6 @@ ghost use Rattle.maid_model.specs.declared.limits.TheConstants.{MOST_LEAVES};
 ghost use Rattle.maid_model.specs.Accepted.{IsReliedFirst};
 ghost use Rattle.maid_model.specs.Answers.{FitsDiagram};
 ghost use Rattle.maid_model.specs.Bounds.{world_count};
-ghost use Rattle.maid_model.specs.Diagrams.{IsDiagram};
 ghost use Rattle.maid_model.specs.Scopes.{KeepsScopedBounds};
 ghost use Rattle.relevance_graph.specs.Relevant.{IsRelevance};
 ghost use Rattle.tree_checker.specs.Sound.{IsSound};

@@ -1,11 +1,10 @@
 //! The order of a report.
 
-ghost use Rattle.std.specs.Prelude.{◌≡◌, ℕ, ◌<◌, ◌↔◌, length, All, Contains, IsTrue};
+ghost use Rattle.std.specs.Prelude.{ℕ, ◌<◌, ◌↔◌, Contains, IsTrue};
 ghost use Rattle.node_sets.specs.declared.sets.TheConstants.{MOST_NODES};
 ghost use Rattle.node_sets.specs.Sets.{IsIn};
 ghost use Rattle.maid_model.specs.Accepted.{IsReliedFirst};
 ghost use Rattle.maid_model.specs.Nodes.{IsDecision};
-ghost use Rattle.maid_model.specs.Views.{NodeView};
 ghost use Rattle.relevance_graph.specs.Relevant.{IsRelevance};
 
 use maid_model::Diagram;

@@ -1,6 +1,6 @@
 //! Chance rows taken in proportion.
 
-ghost use Rattle.std.specs.Prelude.{◌≡◌, ℕ, ◌<◌, ◌≤◌, ◌*◌, ◌/◌, IfOk, IfErr, IfSome, IfNone, length, sum};
+ghost use Rattle.std.specs.Prelude.{◌≡◌, ℕ, ◌<◌, ◌≤◌, ◌/◌, IfOk, IfErr, IfSome, IfNone, length, sum};
 ghost use Rattle.std.specs.Int.{◌∣◌};
 ghost use Rattle.maid_model.specs.Diagrams.{greatest_number};
 ghost use Rattle.maid_model.specs.Tables.{IsTable};
