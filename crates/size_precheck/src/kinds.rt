@@ -70,36 +70,6 @@ pub fn worth_by(
     plan_by(alloc, diagram, planner, &[], None, Some(utility))
 }
 
-/// The plan of a decision's rows: its parents are kept. What it sums to is the mass of each row.
-pub fn plan_rows(alloc: Global, diagram: &Diagram, decision: usize) -> Result<Plan, AllocError>
-    requires { IsDecision diagram.now.nodes decision }
-    ensures asked { OnOk result (CanBePlanned diagram.now.nodes
-        (row_plan diagram.now.nodes decision)) }
-    ensures made { IfOk result (IsMade diagram.now.nodes (row_plan diagram.now.nodes decision)) }
-{
-    let planner = Planner::new(alloc, diagram)?;
-    rows_by(alloc, diagram, &planner, decision)
-}
-
-/// The plan of a decision's states for one of its goals: the decision and its parents are kept, and its own rule is left
-/// out. What it sums to is the goal's part of each gain.
-pub fn plan_gain(
-    alloc: Global,
-    diagram: &Diagram,
-    decision: usize,
-    goal: usize,
-) -> Result<Plan, AllocError>
-    requires decision { IsDecision diagram.now.nodes decision }
-    requires goal { IsGoal diagram.now.nodes decision goal }
-    ensures asked { OnOk result (CanBePlanned diagram.now.nodes (gain_plan diagram.now.nodes
-        decision goal)) }
-    ensures made { IfOk result (IsMade diagram.now.nodes (gain_plan diagram.now.nodes decision
-        goal)) }
-{
-    let planner = Planner::new(alloc, diagram)?;
-    gain_by(alloc, diagram, &planner, decision, goal)
-}
-
 /// The plan of a utility's worth: nothing is kept. What it sums to is the utility's part of an expected utility.
 pub fn plan_worth(alloc: Global, diagram: &Diagram, utility: usize) -> Result<Plan, AllocError>
     requires within { utility < length diagram.now.nodes }

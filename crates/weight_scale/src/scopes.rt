@@ -6,6 +6,7 @@ ghost use Rattle.node_sets.specs.Sets.{IsIn};
 ghost use Rattle.maid_model.specs.Diagrams.{IsDiagram, greatest_number};
 ghost use Rattle.maid_model.specs.Gains.{greatest_abs};
 ghost use Rattle.maid_model.specs.Nodes.{IsDecision};
+ghost use Rattle.maid_model.specs.Relevance.{IsGoal};
 ghost use Rattle.maid_model.specs.Scopes.{scope_for, scope_of};
 ghost use Rattle.weight_scale.specs.Given.{IsPlaceGiven, scope_given};
 ghost use Rattle.weight_scale.specs.ScopePlaces.{factor_in, greatest_in, greatest_sum, IsUtilityFor, IsScopeOf, IsScopeFor, IsPlaceIn, HasRoomInScope};
@@ -60,9 +61,18 @@ pub fn decision_scope(diagram: &Diagram, decision: usize) -> NodeSet
     requires { IsDecision diagram.now.nodes decision }
     ensures { (v : ℕ) → IsIn result v ↔ Contains (scope_of diagram.now.nodes decision) v }
 {
+    scope_of_goals(diagram, decision, goals_of(diagram, decision))
+}
+
+/// The same where the decision's goals are known.
+fn scope_of_goals(diagram: &Diagram, decision: usize, goals: NodeSet) -> NodeSet
+    requires decision { IsDecision diagram.now.nodes decision }
+    requires goals { (v : ℕ) → IsIn goals v ↔ IsGoal diagram.now.nodes decision v }
+    ensures { (v : ℕ) → IsIn result v ↔ Contains (scope_of diagram.now.nodes decision) v }
+{
     // A path from another node to the decision comes in by a parent.
     let parents = diagram.parents(decision);
-    let mut ends = goals_of(diagram, decision);
+    let mut ends = goals;
     ends.insert_all(parents);
     let mut scope = ancestors(diagram, ends);
     scope.insert(decision);
@@ -96,11 +106,14 @@ pub(crate) fn scope_of(diagram: &Diagram, v: usize) -> Option<Scope>
         (IsScopeOf diagram.now.nodes v) }
 {
     match diagram.kind(v) {
-        Kind::Decision => Some(Scope {
-            counted: Counted::ChanceAndDecisions,
-            nodes: decision_scope(diagram, v),
-            utilities: goals_of(diagram, v),
-        }),
+        Kind::Decision => {
+            let goals = goals_of(diagram, v);
+            Some(Scope {
+                counted: Counted::ChanceAndDecisions,
+                nodes: scope_of_goals(diagram, v, goals),
+                utilities: goals,
+            })
+        }
         Kind::Chance | Kind::Utility => None,
     }
 }
@@ -109,10 +122,11 @@ pub(crate) fn scope_of(diagram: &Diagram, v: usize) -> Option<Scope>
 pub(crate) fn scope_for(diagram: &Diagram, agent: usize) -> Scope
     ensures { IsScopeFor diagram.now.nodes agent result }
 {
+    let utilities = utilities_of(diagram, agent);
     Scope {
         counted: Counted::ChanceAlone,
-        nodes: agent_scope(diagram, agent),
-        utilities: utilities_of(diagram, agent),
+        nodes: ancestors(diagram, utilities),
+        utilities,
     }
 }
 

@@ -12,7 +12,7 @@ returns-in-Decision c =
       is,
       record {
         counts = refl;
-        members_are = members_are nodes (leads_to nodes (c.args.v ∷ goals_of nodes c.args.v)) c.decision_scope.result c.decision_scope.ensures;
-        utilities_are = goals_are nodes c.kind.ensures.diagram.graph c.args.v is c.goals_of.result c.goals_of.ensures;
+        members_are = members_are nodes (leads_to nodes (c.args.v ∷ goals_of nodes c.args.v)) c.scope_of_goals.result c.scope_of_goals.ensures;
+        utilities_are = goals_are nodes c.kind.ensures.diagram.graph c.args.v is c.goals_of-goals.result c.goals_of-goals.ensures;
       },
     )
