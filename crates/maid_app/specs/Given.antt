@@ -44,6 +44,10 @@ abbrev pub decision_given : List NodeView → NamesView → ℕ → ℕ → Answ
 decision_given nodes names x state answer = decision_head nodes names answer.decision
     ++ rows_given nodes names x state answer.decision 0 answer.rows
 
+-- those of all decisions
+abbrev pub decisions_given : List NodeView → NamesView → ℕ → ℕ → List AnswerView → List ℕ
+decisions_given nodes names x state answers = flat_map (decision_given nodes names x state) answers
+
 -- the evidence and the order of solving
 abbrev pub given_front : NamesView → ℕ → ℕ → List ℕ → List ℕ
 given_front names x state order =
@@ -56,8 +60,12 @@ given_front names x state order =
 abbrev pub given_text : DiagramView → NamesView → ℕ → ℕ → SolvedView → List Ratio → List ℕ
 given_text d names x state solved gains =
     given_front names x state solved.order
-    ++ flat_map (decision_given d.nodes names x state) solved.answers
+    ++ decisions_given d.nodes names x state solved.answers
     ++ gain_lines names 0 gains
+
+-- the same at the place of a state
+abbrev pub given_text_at : DiagramView → NamesView → StatePlace → SolvedView → List Ratio → List ℕ
+given_text_at d names place solved gains = given_text d names place.node place.state solved gains
 
 -- The answer of the diagram in which every decision sees the node, and what it is worth where the node
 -- has the state. The profile is subgame-perfect, and none is worth more, where the node has the state,

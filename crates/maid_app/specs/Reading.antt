@@ -1,5 +1,5 @@
 -- What a refusal for a file's bytes tells. Only contracts of private functions cite these.
-use Rattle.std.specs.Prelude.{◌≡◌, ℕ, List, Err}
+use Rattle.std.specs.Prelude.{◌≡◌, ℕ, List, Err, Ok}
 use Rattle.first_fault.specs.Answers.{IsFaultOrNoMemory}
 use Rattle.first_fault.specs.Outcomes.{Outcomes, refusals}
 use Rattle.first_fault.specs.Passes.{Pass, always, each}
@@ -9,14 +9,15 @@ use Rattle.report_text.specs.Reading.{AreTold}
 use Rattle.maid_app.specs.Check.{CanBeChecked, examining, judging}
 use Rattle.maid_app.specs.Diagrams.{IsDiagramOf}
 use Rattle.maid_app.specs.Lines.{no_memory_line}
-use Rattle.maid_app.specs.Outcome.{Written, Refused, refused}
+use Rattle.maid_app.specs.Outcome.{Written, Refused, refused, done_with}
 use Rattle.maid_app.specs.Refusal.{refused_as}
 use Rattle.maid_app.specs.Solve.{IsSolution, IsSolvable}
 use Rattle.maid_app.specs.Stages.{Stage, Finds, text_fault}
-use Rattle.maid_app.specs.Tasks.{comes_of}
+use Rattle.maid_app.specs.Tasks.{comes_of, Task}
 use Rattle.maid_app.specs.declared.refusal.Refusal.{Refusal}
 use Rattle.maid_app.specs.declared.status.Status.{Status}
 use Rattle.maid_app.specs.declared.status.Status.TheVariants.{Done, Usage, Absent, ReadFault, TextTooLong, WriteFault, NoMemory, Rejected}
+use Rattle.maid_app.specs.declared.reading.Source.{Source}
 
 -- that status and that line, or that memory ran out
 abbrev pub Tells : Status → List ℕ → Refusal → Type 0
@@ -68,6 +69,14 @@ Examines d names outcome =
 abbrev pub Judges : DiagramView → NamesView → List ℕ → List ℕ → Outcomes Written Refused
 Judges d names name bytes outcome =
     (text : List ℕ) → IsDiagramOf text d names → comes_of (judging text) name bytes outcome
+
+-- what comes of the task on a source's name and bytes
+abbrev pub comes_from : Task → Source → Outcomes Written Refused
+comes_from task source = comes_of task source.name.now source.bytes.now
+
+-- the text does, and the run is done
+abbrev pub Prints : Task → Source → List ℕ → Type 0
+Prints task source text = comes_from task source (Ok (done_with text))
 
 -- what the stages find, or that memory ran out
 abbrev pub TellsOf : Outcomes Written Refused → Refusal → Type 0

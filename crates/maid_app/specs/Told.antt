@@ -6,12 +6,15 @@ use Rattle.maid_io.specs.Count.{Rose}
 use Rattle.maid_io.specs.Device.{File, file_of}
 use Rattle.maid_io.specs.Whole.{AppendsPart}
 use Rattle.maid_app.specs.declared.running.TheConstants.{LIMIT, REPORT_LIMIT}
-use Rattle.maid_app.specs.Answers.{Answers, FindsNothing}
+use Rattle.maid_app.specs.Answers.{Answers, FindsNothing, CanAnswer}
 use Rattle.maid_app.specs.Lines.{usage_line, absent_line, read_fault_line, too_long_line, write_fault_line, no_memory_line}
-use Rattle.maid_app.specs.Outcome.{written, refused}
+use Rattle.maid_app.specs.Outcome.{written, refused, Written, Refused}
 use Rattle.maid_app.specs.Request.{Request, check, judge, demo, file_name, IsOfFile}
 use Rattle.maid_app.specs.declared.status.Status.{Status}
 use Rattle.maid_app.specs.declared.status.Status.TheVariants.{Done, Usage, Absent, ReadFault, TextTooLong, WriteFault, NoMemory, Rejected}
+use Rattle.maid_app.specs.Diagrams.{IsDiagramOf}
+use Rattle.maid_model.specs.Names.{NamesView}
+use Rattle.maid_model.specs.Views.{DiagramView}
 
 -- the most bytes of the file that a request names: a report's, or a diagram's
 abbrev pub limit_of : Request → ℕ
@@ -94,6 +97,18 @@ abbrev pub WritesText :
 WritesText list requested given IsTaken status = OfRequest list requested (λ request.
     (printed : List ℕ) × HasText list request given status printed × IsTaken printed)
 
+-- the whole text that the words lead to was appended
+abbrev pub WritesWhole :
+    Option (List File) → Option Request → ℕ → Option (List ℕ) → Option (List ℕ) → Status → Type 0
+WritesWhole list requested given before now status =
+    WritesText list requested given (Appends before now) status
+
+-- a proper front of it was
+abbrev pub WritesPart :
+    Option (List File) → Option Request → ℕ → Option (List ℕ) → Option (List ℕ) → Type 0
+WritesPart list requested given before now =
+    (status : Status) × WritesText list requested given (AppendsPart before now) status
+
 -- the request comes to nothing on its text's bytes, with that status and that line
 pub record Refuses
     (list : Option (List File)) (request : Request) (given : ℕ) (status : Status) (told : List ℕ) :
@@ -131,10 +146,20 @@ Says list requested given NoMemory told = told ≡ no_memory_line
 Says list requested given status told =
     OfRequest list requested (λ request. Refuses list request given status told)
 
+-- that count of a device rose
+abbrev pub RoseIn : {D : Type 0} → (D → ℕ) → D → D → Type 0
+RoseIn count before now = Rose (count before) (count now)
+
 -- the whole line was taken, or where a write failed a proper front of it
 abbrev pub TakesLine : Option (List ℕ) → Option (List ℕ) → ℕ → ℕ → List ℕ → Type 0
 TakesLine old new before now told =
     Appends old new told ⊎ (Rose before now × AppendsPart old new told)
+
+-- so of a device with this text and this count of faults
+abbrev pub TakesLineIn :
+    {D : Type 0} → (D → Option (List ℕ)) → (D → ℕ) → D → D → List ℕ → Type 0
+TakesLineIn taken faults before now told =
+    TakesLine (taken before) (taken now) (faults before) (faults now) told
 
 -- the words lead to this, which names a file, and the shelf tells that this file has these bytes
 pub record HasFile
@@ -179,6 +204,12 @@ IsAfterWriting Done = Unit {0}
 IsAfterWriting Rejected = Unit {0}
 IsAfterWriting status = ⊥
 
+-- unless the whole text was written, the line that says why not was taken so
+abbrev pub SaysWhyNot :
+    Option (List File) → Option Request → ℕ → Status → (List ℕ → Type 0) → Type 0
+SaysWhyNot list requested given status IsTaken = ¬ IsAfterWriting status
+    → (line : List ℕ) × Says list requested given status line × IsTaken line
+
 -- a status that comes before the first write to `out`
 abbrev pub IsBeforeWriting : Status → Type 0
 IsBeforeWriting Done = ⊥
@@ -192,3 +223,50 @@ abbrev pub EndsWell : Request → Status → Type 0
 EndsWell (check file report) status = Unit {0}
 EndsWell (judge text report) status = IsOneOf status Done ⊎ (status ≡ Rejected)
 EndsWell request status = IsOneOf status Done
+
+-- ---- What always comes of a file that the words lead to, or want of memory, but where the shelf fails, or `out`
+-- the shelf tells that it lacks the file
+abbrev pub AlwaysAbsent : Option (List File) → Option Request → Type 0 → Status → Type 0
+AlwaysAbsent list requested Fails status =
+    LacksFile list requested → ¬ Fails → IsOneOf status Absent
+
+-- the file passes its limit
+abbrev pub AlwaysTooLong : Option (List File) → Option Request → Type 0 → Status → Type 0
+AlwaysTooLong list requested Fails status = (request : Request) (bytes : List ℕ)
+    → HasFile list requested request bytes → limit_of request < length bytes → ¬ Fails
+    → IsOneOf status TextTooLong
+
+-- the request is refused on its bytes
+abbrev pub AlwaysRefused : Option (List File) → Option Request → Type 0 → Status → Type 0
+AlwaysRefused list requested Fails status = (request : Request) (bytes : List ℕ)
+    → HasFileWithin list requested request bytes → (refusal : Refused)
+    → Answers request bytes (Err refusal) → ¬ Fails → IsOneOf status refusal.status
+
+-- nothing is found in its bytes
+abbrev pub AlwaysDone : Option (List File) → Option Request → Type 0 → Type 0 → Status → Type 0
+AlwaysDone list requested Fails OutFails status = (request : Request) (bytes : List ℕ)
+    → HasFileWithin list requested request bytes → FindsNothing request bytes → ¬ Fails
+    → ¬ OutFails → EndsWell request status
+
+-- its bytes stand for a diagram that can be answered
+abbrev pub AlwaysAnswers : Option (List File) → Option Request → Type 0 → Type 0 → Status → Type 0
+AlwaysAnswers list requested Fails OutFails status = (request : Request) (bytes : List ℕ)
+    → HasFileWithin list requested request bytes → (d : DiagramView) (names : NamesView)
+    → IsDiagramOf bytes d names → CanAnswer request d names → ¬ Fails → ¬ OutFails
+    → EndsWell request status
+
+-- an output comes of its bytes
+abbrev pub AlwaysWritten : Option (List File) → Option Request → Type 0 → Type 0 → Status → Type 0
+AlwaysWritten list requested Fails OutFails status = (request : Request) (bytes : List ℕ)
+    → HasFileWithin list requested request bytes → (output : Written)
+    → Answers request bytes (Ok output) → ¬ Fails → ¬ OutFails → IsOneOf status output.status
+
+-- the generated text of a demo is refused
+abbrev pub AlwaysDemoRefused : Option Request → Status → Type 0
+AlwaysDemoRefused requested status = (k : ℕ) → requested ≡ Some (demo k) → (refusal : Refused)
+    → Answers (demo k) (demo_text k) (Err refusal) → IsOneOf status refusal.status
+
+-- nothing is found in it
+abbrev pub AlwaysDemoDone : Option Request → Type 0 → Status → Type 0
+AlwaysDemoDone requested OutFails status = (k : ℕ) → requested ≡ Some (demo k)
+    → FindsNothing (demo k) (demo_text k) → ¬ OutFails → IsOneOf status Done

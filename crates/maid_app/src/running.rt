@@ -1,23 +1,17 @@
 //! The shell: words, devices, the order of refusals, and one line to `err`.
 
-ghost use Rattle.std.specs.Prelude.{◌≡◌, ◌≢◌, ◌++◌, ◌<◌, ◌≤◌, ◌↔◌, List, ℕ, length, None, Some, Ok, Err, IfOk, IfErr, OnOk};
-ghost use Rattle.std.specs.Io.KnownBytes.{Appends};
-ghost use Rattle.app_lines.specs.Demo.{demo_text};
+ghost use Rattle.std.specs.Prelude.{◌≡◌, ◌≢◌, ◌++◌, ◌≤◌, ◌↔◌, ℕ, None, Some, Ok, IfOk, IfErr, OnOk};
 ghost use Rattle.maid_io.specs.Count.{Rose};
-ghost use Rattle.maid_io.specs.Whole.{AppendsPart};
-ghost use Rattle.maid_app.specs.Request.{Request, check, demo, requested, IsOfFile};
+ghost use Rattle.maid_app.specs.Request.{check, demo, requested};
 ghost use Rattle.maid_app.specs.Form.{request_by, text_request_by};
-ghost use Rattle.maid_app.specs.Answers.{Answers, FindsNothing, CanAnswer};
-ghost use Rattle.maid_app.specs.Diagrams.{IsDiagramOf};
-ghost use Rattle.maid_app.specs.Outcome.{Written, Refused, done_with};
+ghost use Rattle.maid_app.specs.Answers.{Answers};
+ghost use Rattle.maid_app.specs.Outcome.{done_with};
 ghost use Rattle.maid_app.specs.Laws.{OneStatus};
-ghost use Rattle.maid_app.specs.Reading.{Tells, RefusesAs};
-ghost use Rattle.maid_app.specs.Refusal.{status_of, line_of};
-ghost use Rattle.maid_model.specs.Names.{NamesView};
+ghost use Rattle.maid_app.specs.Reading.{Tells};
+ghost use Rattle.maid_app.specs.Refusal.{status_of};
 ghost use Rattle.maid_model.specs.Reports.{line};
-ghost use Rattle.maid_model.specs.Views.{DiagramView};
-ghost use Rattle.maid_app.specs.Steps.{HasNoText, LeadsToText, LeadsToRefusal};
-ghost use Rattle.maid_app.specs.Told.{limit_of, IsFileText, IsTextFor, IsUnread, KeepsLimit, KeepsLimits, WritesText, Says, TakesLine, HasFile, HasFileWithin, LacksFile, IsAfterWriting, IsBeforeWriting, IsOfReading, IsOneOf, EndsWell};
+ghost use Rattle.maid_app.specs.Steps.{LeadsToText, LeadsToRefusal, IsCounted, KeepsFileLimit, RefusesBytes, RefusesFile, RefusesText, RefusesWords, StopsInText};
+ghost use Rattle.maid_app.specs.Told.{IsFileText, IsTextFor, KeepsLimit, KeepsLimits, IsAfterWriting, IsBeforeWriting, IsOfReading, AlwaysAbsent, AlwaysAnswers, AlwaysDemoDone, AlwaysDemoRefused, AlwaysDone, AlwaysRefused, AlwaysTooLong, AlwaysWritten, RoseIn, SaysWhyNot, TakesLineIn, WritesPart, WritesWhole};
 
 use crate::forms::{Form, TextForm, check, form_of};
 use crate::laws::one_status;
@@ -54,15 +48,13 @@ fn read_file<H: Shelf>(
     requires { limit ≤ REPORT_LIMIT }
     ensures ok { IfOk result (λ bytes.
         IsFileText (H.list shelf.old) name.now limit (H.given shelf.new) bytes.items) }
-    ensures err { IfErr result (λ refusal.
-        IsUnread (H.list shelf.old) name.now limit (H.given shelf.new) (status_of refusal)
-        (line_of refusal)) }
+    ensures err { IfErr result (RefusesFile (H.list shelf.old) name.now limit (H.given shelf.new)) }
     ensures bounded { IfErr result (λ refusal.
         KeepsLimit limit (status_of refusal) (H.given shelf.new)) }
-    ensures absent_cause { IfErr result (λ refusal.
-        status_of refusal ≡ Status.Absent → Rose (H.absences shelf.old) (H.absences shelf.new)) }
-    ensures read_cause { IfErr result (λ refusal.
-        status_of refusal ≡ Status.ReadFault → Rose (H.faults shelf.old) (H.faults shelf.new)) }
+    ensures absent_cause { IfErr result
+        (IsCounted Status.Absent (H.absences shelf.old) (H.absences shelf.new)) }
+    ensures read_cause { IfErr result
+        (IsCounted Status.ReadFault (H.faults shelf.old) (H.faults shelf.new)) }
     ensures faults { H.faults shelf.old ≤ H.faults shelf.new }
     ensures absences { H.absences shelf.old ≤ H.absences shelf.new }
     ensures list { H.list shelf.new ≡ H.list shelf.old }
@@ -89,17 +81,15 @@ fn read_file<H: Shelf>(
 fn bytes_for<H: Shelf>(alloc: Global, shelf: &mut H, form: TextForm<'_>) -> Result<Vec<u8>, Refusal>
     ensures ok { IfOk result (λ bytes.
         IsTextFor (H.list shelf.old) (text_request_by form.entry) (H.given shelf.new) bytes.items) }
-    ensures err { IfErr result (λ refusal. HasNoText (H.list shelf.old) (text_request_by form.entry)
-        (H.given shelf.new) (status_of refusal) (line_of refusal)) }
-    ensures bounded { IfErr result (λ refusal.
-        IsOfFile (text_request_by form.entry)
-        → KeepsLimit (limit_of (text_request_by form.entry)) (status_of refusal)
+    ensures err { IfErr result (RefusesText (H.list shelf.old) (text_request_by form.entry)
+        (H.given shelf.new)) }
+    ensures bounded { IfErr result (KeepsFileLimit (text_request_by form.entry)
         (H.given shelf.new)) }
     ensures own { (k : ℕ) → text_request_by form.entry ≡ demo k → shelf.new ≡ shelf.old }
-    ensures absent_cause { IfErr result (λ refusal.
-        status_of refusal ≡ Status.Absent → Rose (H.absences shelf.old) (H.absences shelf.new)) }
-    ensures read_cause { IfErr result (λ refusal.
-        status_of refusal ≡ Status.ReadFault → Rose (H.faults shelf.old) (H.faults shelf.new)) }
+    ensures absent_cause { IfErr result
+        (IsCounted Status.Absent (H.absences shelf.old) (H.absences shelf.new)) }
+    ensures read_cause { IfErr result
+        (IsCounted Status.ReadFault (H.faults shelf.old) (H.faults shelf.new)) }
     ensures faults { H.faults shelf.old ≤ H.faults shelf.new }
     ensures absences { H.absences shelf.old ≤ H.absences shelf.new }
     ensures list { H.list shelf.new ≡ H.list shelf.old }
@@ -123,9 +113,7 @@ fn bytes_for<H: Shelf>(alloc: Global, shelf: &mut H, form: TextForm<'_>) -> Resu
 fn text_of(alloc: Global, form: TextForm<'_>, bytes: &[u8]) -> Result<Vec<u8>, Refusal>
     ensures ok { IfOk result (λ printed.
         Answers (text_request_by form.entry) bytes.now (Ok (done_with printed.items))) }
-    ensures err { IfErr result (λ refusal.
-        RefusesAs (Answers (text_request_by form.entry) bytes.now) (status_of refusal)
-        (line_of refusal)) }
+    ensures err { IfErr result (RefusesBytes (Answers (text_request_by form.entry) bytes.now)) }
 {
     form.text(alloc, bytes)
 }
@@ -141,10 +129,10 @@ fn text_output<H: Shelf>(
     ensures err { IfErr result (LeadsToRefusal (H.list shelf.old) (text_request_by form.entry)
         (H.given shelf.new)) }
     ensures own { (k : ℕ) → text_request_by form.entry ≡ demo k → shelf.new ≡ shelf.old }
-    ensures absent_cause { IfErr result (λ refusal.
-        status_of refusal ≡ Status.Absent → Rose (H.absences shelf.old) (H.absences shelf.new)) }
-    ensures read_cause { IfErr result (λ refusal.
-        status_of refusal ≡ Status.ReadFault → Rose (H.faults shelf.old) (H.faults shelf.new)) }
+    ensures absent_cause { IfErr result
+        (IsCounted Status.Absent (H.absences shelf.old) (H.absences shelf.new)) }
+    ensures read_cause { IfErr result
+        (IsCounted Status.ReadFault (H.faults shelf.old) (H.faults shelf.new)) }
     ensures faults { H.faults shelf.old ≤ H.faults shelf.new }
     ensures absences { H.absences shelf.old ≤ H.absences shelf.new }
     ensures list { H.list shelf.new ≡ H.list shelf.old }
@@ -168,10 +156,10 @@ fn check_output<H: Shelf>(
         (H.given shelf.new)) }
     ensures err { IfErr result (LeadsToRefusal (H.list shelf.old) (check file.now report.now)
         (H.given shelf.new)) }
-    ensures absent_cause { IfErr result (λ refusal.
-        status_of refusal ≡ Status.Absent → Rose (H.absences shelf.old) (H.absences shelf.new)) }
-    ensures read_cause { IfErr result (λ refusal.
-        status_of refusal ≡ Status.ReadFault → Rose (H.faults shelf.old) (H.faults shelf.new)) }
+    ensures absent_cause { IfErr result
+        (IsCounted Status.Absent (H.absences shelf.old) (H.absences shelf.new)) }
+    ensures read_cause { IfErr result
+        (IsCounted Status.ReadFault (H.faults shelf.old) (H.faults shelf.new)) }
     ensures faults { H.faults shelf.old ≤ H.faults shelf.new }
     ensures absences { H.absences shelf.old ≤ H.absences shelf.new }
     ensures list { H.list shelf.new ≡ H.list shelf.old }
@@ -189,10 +177,10 @@ fn output_of<H: Shelf>(alloc: Global, shelf: &mut H, form: Form<'_>) -> Result<O
     ensures err { IfErr result (LeadsToRefusal (H.list shelf.old) (request_by form.entry)
         (H.given shelf.new)) }
     ensures own { (k : ℕ) → request_by form.entry ≡ demo k → shelf.new ≡ shelf.old }
-    ensures absent_cause { IfErr result (λ refusal.
-        status_of refusal ≡ Status.Absent → Rose (H.absences shelf.old) (H.absences shelf.new)) }
-    ensures read_cause { IfErr result (λ refusal.
-        status_of refusal ≡ Status.ReadFault → Rose (H.faults shelf.old) (H.faults shelf.new)) }
+    ensures absent_cause { IfErr result
+        (IsCounted Status.Absent (H.absences shelf.old) (H.absences shelf.new)) }
+    ensures read_cause { IfErr result
+        (IsCounted Status.ReadFault (H.faults shelf.old) (H.faults shelf.new)) }
     ensures faults { H.faults shelf.old ≤ H.faults shelf.new }
     ensures absences { H.absences shelf.old ≤ H.absences shelf.new }
     ensures list { H.list shelf.new ≡ H.list shelf.old }
@@ -210,13 +198,12 @@ fn serve<H: Shelf, O: Sink>(
     shelf: &mut H,
     out: &mut O,
 ) -> Result<Status, Refusal>
-    ensures ok { IfOk result (WritesText (H.list shelf.old) (requested words.now)
-        (H.given shelf.new) (Appends (O.taken out.old) (O.taken out.new))) }
+    ensures ok { IfOk result (WritesWhole (H.list shelf.old) (requested words.now)
+        (H.given shelf.new) (O.taken out.old) (O.taken out.new)) }
     ensures after { IfOk result IsAfterWriting }
     ensures ok_words { OnOk result (requested words.now ≢ None) }
-    ensures err { IfErr result (λ refusal.
-        Says (H.list shelf.old) (requested words.now) (H.given shelf.new) (status_of refusal)
-        (line_of refusal)) }
+    ensures err { IfErr result (RefusesWords (H.list shelf.old) (requested words.now)
+        (H.given shelf.new)) }
     ensures bounded_done { IfOk result (λ status.
         KeepsLimits (H.list shelf.old) (requested words.now) status (H.given shelf.new)) }
     ensures bounded { IfErr result (λ refusal.
@@ -228,16 +215,14 @@ fn serve<H: Shelf, O: Sink>(
         (status_of refusal ≡ Status.Usage) ↔ (requested words.now ≡ None)) }
     ensures untouched_shelf { IfErr result (λ refusal.
         status_of refusal ≡ Status.Usage → shelf.new ≡ shelf.old) }
-    ensures part { IfErr result (λ refusal.
-        status_of refusal ≡ Status.WriteFault
-        → (status : Status) × WritesText (H.list shelf.old) (requested words.now)
-        (H.given shelf.new) (AppendsPart (O.taken out.old) (O.taken out.new)) status) }
-    ensures absent_cause { IfErr result (λ refusal.
-        status_of refusal ≡ Status.Absent → Rose (H.absences shelf.old) (H.absences shelf.new)) }
-    ensures read_cause { IfErr result (λ refusal.
-        status_of refusal ≡ Status.ReadFault → Rose (H.faults shelf.old) (H.faults shelf.new)) }
-    ensures write_cause { IfErr result (λ refusal.
-        status_of refusal ≡ Status.WriteFault → Rose (O.faults out.old) (O.faults out.new)) }
+    ensures part { IfErr result (StopsInText (H.list shelf.old) (requested words.now)
+        (H.given shelf.new) (O.taken out.old) (O.taken out.new)) }
+    ensures absent_cause { IfErr result
+        (IsCounted Status.Absent (H.absences shelf.old) (H.absences shelf.new)) }
+    ensures read_cause { IfErr result
+        (IsCounted Status.ReadFault (H.faults shelf.old) (H.faults shelf.new)) }
+    ensures write_cause { IfErr result
+        (IsCounted Status.WriteFault (O.faults out.old) (O.faults out.new)) }
     ensures untouched { IfErr result (λ refusal.
         status_of refusal ≢ Status.WriteFault → out.new ≡ out.old) }
     ensures not_after { IfErr result (λ refusal. ¬ IsAfterWriting (status_of refusal)) }
@@ -306,18 +291,17 @@ pub fn run<H: Shelf, O: Sink, E: Sink>(
 
     // What `out` took: the whole text, a proper front of it, or nothing.
     ensures done { IsAfterWriting result
-        → WritesText (H.list shelf.old) (requested words.now) (H.given shelf.new)
-        (Appends (O.taken out.old) (O.taken out.new)) result }
-    ensures part { result ≡ Status.WriteFault → (status : Status)
-        × WritesText (H.list shelf.old) (requested words.now) (H.given shelf.new)
-        (AppendsPart (O.taken out.old) (O.taken out.new)) status }
+        → WritesWhole (H.list shelf.old) (requested words.now) (H.given shelf.new) (O.taken out.old)
+        (O.taken out.new) result }
+    ensures part { result ≡ Status.WriteFault
+        → WritesPart (H.list shelf.old) (requested words.now) (H.given shelf.new) (O.taken out.old)
+        (O.taken out.new) }
     ensures untouched { IsBeforeWriting result → out.new ≡ out.old }
 
     // What `err` took: nothing, or the line that says why.
     ensures silent { IsAfterWriting result → err.new ≡ err.old }
-    ensures told { ¬ IsAfterWriting result → (line : List ℕ)
-        × Says (H.list shelf.old) (requested words.now) (H.given shelf.new) result line
-        × TakesLine (E.taken err.old) (E.taken err.new) (E.faults err.old) (E.faults err.new) line }
+    ensures told { SaysWhyNot (H.list shelf.old) (requested words.now) (H.given shelf.new) result
+        (TakesLineIn E.taken E.faults err.old err.new) }
 
     // Where the devices tell nothing, they counted a cause.
     ensures absent_cause { result ≡ Status.Absent
@@ -327,40 +311,22 @@ pub fn run<H: Shelf, O: Sink, E: Sink>(
     ensures write_cause { result ≡ Status.WriteFault → Rose (O.faults out.old) (O.faults out.new) }
 
     // Nothing else keeps it from an answer but want of memory.
-    ensures always_absent { LacksFile (H.list shelf.old) (requested words.now)
-        → ¬ Rose (H.faults shelf.old) (H.faults shelf.new) → IsOneOf result Status.Absent }
-    ensures always_too_long { (request : Request) (bytes : List ℕ)
-        → HasFile (H.list shelf.old) (requested words.now) request bytes
-        → limit_of request < length bytes → ¬ Rose (H.faults shelf.old) (H.faults shelf.new)
-        → IsOneOf result Status.TextTooLong }
-    ensures always_refused { (request : Request) (bytes : List ℕ)
-        → HasFileWithin (H.list shelf.old) (requested words.now) request bytes
-        → (refusal : Refused)
-        → Answers request bytes (Err refusal) → ¬ Rose (H.faults shelf.old) (H.faults shelf.new)
-        → IsOneOf result refusal.status }
-    ensures always_done { (request : Request) (bytes : List ℕ)
-        → HasFileWithin (H.list shelf.old) (requested words.now) request bytes
-        → FindsNothing request bytes
-        → ¬ Rose (H.faults shelf.old) (H.faults shelf.new)
-        → ¬ Rose (O.faults out.old) (O.faults out.new) → EndsWell request result }
-    ensures always_answers { (request : Request) (bytes : List ℕ)
-        → HasFileWithin (H.list shelf.old) (requested words.now) request bytes
-        → (d : DiagramView) (names : NamesView)
-        → IsDiagramOf bytes d names → CanAnswer request d names
-        → ¬ Rose (H.faults shelf.old) (H.faults shelf.new)
-        → ¬ Rose (O.faults out.old) (O.faults out.new) → EndsWell request result }
-    ensures always_written { (request : Request) (bytes : List ℕ)
-        → HasFileWithin (H.list shelf.old) (requested words.now) request bytes
-        → (output : Written) → Answers request bytes (Ok output)
-        → ¬ Rose (H.faults shelf.old) (H.faults shelf.new)
-        → ¬ Rose (O.faults out.old) (O.faults out.new) → IsOneOf result output.status }
+    ensures always_absent { AlwaysAbsent (H.list shelf.old) (requested words.now)
+        (RoseIn H.faults shelf.old shelf.new) result }
+    ensures always_too_long { AlwaysTooLong (H.list shelf.old) (requested words.now)
+        (RoseIn H.faults shelf.old shelf.new) result }
+    ensures always_refused { AlwaysRefused (H.list shelf.old) (requested words.now)
+        (RoseIn H.faults shelf.old shelf.new) result }
+    ensures always_done { AlwaysDone (H.list shelf.old) (requested words.now)
+        (RoseIn H.faults shelf.old shelf.new) (RoseIn O.faults out.old out.new) result }
+    ensures always_answers { AlwaysAnswers (H.list shelf.old) (requested words.now)
+        (RoseIn H.faults shelf.old shelf.new) (RoseIn O.faults out.old out.new) result }
+    ensures always_written { AlwaysWritten (H.list shelf.old) (requested words.now)
+        (RoseIn H.faults shelf.old shelf.new) (RoseIn O.faults out.old out.new) result }
 
-    ensures always_demo_refused { (k : ℕ) → requested words.now ≡ Some (demo k)
-        → (refusal : Refused) → Answers (demo k) (demo_text k) (Err refusal)
-        → IsOneOf result refusal.status }
-    ensures always_demo_done { (k : ℕ) → requested words.now ≡ Some (demo k)
-        → FindsNothing (demo k) (demo_text k)
-        → ¬ Rose (O.faults out.old) (O.faults out.new) → IsOneOf result Status.Done }
+    ensures always_demo_refused { AlwaysDemoRefused (requested words.now) result }
+    ensures always_demo_done { AlwaysDemoDone (requested words.now)
+        (RoseIn O.faults out.old out.new) result }
 
     // What any answer leaves.
     ensures list { H.list shelf.new ≡ H.list shelf.old }

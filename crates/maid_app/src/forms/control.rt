@@ -1,11 +1,9 @@
 //! `control F A`: what control of chance nodes is worth to an agent, and its incentives there.
 
-ghost use Rattle.std.specs.Prelude.{◌≡◌, [], ◌++◌, All, Ok, IfOk, IfErr, OnOk, if◌then◌else◌, length};
+ghost use Rattle.std.specs.Prelude.{◌≡◌, [], ◌++◌, All, IfOk, IfErr, OnOk, if◌then◌else◌, length};
 ghost use Rattle.maid_app.specs.Control.{control_line, control_nodes, control_text, weighing_control};
 ghost use Rattle.maid_app.specs.Found.{AreKnown};
-ghost use Rattle.maid_app.specs.Outcome.{done_with};
-ghost use Rattle.maid_app.specs.Reading.{TellsOf};
-ghost use Rattle.maid_app.specs.Tasks.{comes_of};
+ghost use Rattle.maid_app.specs.Reading.{TellsOf, Prints, comes_from};
 
 use super::asking::{ask, asked_line, push_found};
 use crate::reading::Source;
@@ -64,10 +62,9 @@ fn control_text(
 ///
 /// The fault of the bytes, an agent that no node has, what the solver refuses the diagram for, or want of memory.
 pub fn answer(alloc: Global, source: Source<'_>, agent: &str) -> Result<Vec<u8>, Refusal>
-    ensures ok { IfOk result (λ printed. comes_of (weighing_control agent.now) source.entry.name.now
-        source.entry.bytes.now (Ok (done_with printed.items))) }
-    ensures err { IfErr result (TellsOf (comes_of (weighing_control agent.now) source.entry.name.now
-        source.entry.bytes.now)) }
+    ensures ok { IfOk result (λ printed.
+        Prints (weighing_control agent.now) source.entry printed.items) }
+    ensures err { IfErr result (TellsOf (comes_from (weighing_control agent.now) source.entry)) }
 {
     let asked = ask(alloc, source, agent)?;
     let lines = control(alloc, &asked.diagram, &asked.solved, asked.agent)?;

@@ -1,18 +1,15 @@
 //! `given F X S`: the answer of a diagram under evidence.
 
-ghost use Rattle.std.specs.Prelude.{◌≡◌, ◌<◌, ◌++◌, All, Ok, IfOk, IfErr, OnOk, length};
-ghost use Rattle.std.specs.List.{flat_map};
+ghost use Rattle.std.specs.Prelude.{◌≡◌, ◌<◌, ◌++◌, All, IfOk, IfErr, OnOk, length};
 ghost use Rattle.evidence.specs.Faults.{given_fault, given_pass};
 ghost use Rattle.first_fault.specs.Answers.{IsFaultOrNoMemory};
 ghost use Rattle.maid_model.specs.Answers.{FitsAnswer, FitsDiagram};
 ghost use Rattle.maid_model.specs.Names.{NamesFit, labels_of};
 ghost use Rattle.maid_model.specs.Nodes.{IsDecision, rows_of, rows_under, states_of};
 ghost use Rattle.maid_app.specs.Chances.{IsStatePlace};
-ghost use Rattle.maid_app.specs.Given.{conditioning, decision_given, evidence_stages, given_front, given_text, row_given, shows};
-ghost use Rattle.maid_app.specs.Outcome.{done_with};
-ghost use Rattle.maid_app.specs.Reading.{TellsOf, found_by};
+ghost use Rattle.maid_app.specs.Given.{conditioning, decision_given, evidence_stages, given_front, row_given, shows, decisions_given, given_text_at};
+ghost use Rattle.maid_app.specs.Reading.{TellsOf, found_by, Prints, comes_from};
 ghost use Rattle.maid_app.specs.Refusal.{refused_as};
-ghost use Rattle.maid_app.specs.Tasks.{comes_of};
 
 use super::chances::{StatePlace, find_state};
 use crate::reading::Source;
@@ -161,10 +158,8 @@ fn push_decisions(
 ) -> Result<(), AllocError>
     requires fit { NamesFit diagram.now names.now }
     requires answers { All (FitsAnswer diagram.now.nodes) answers.now }
-    ensures { OnOk result (out.new.items
-        ≡ out.old.items
-        ++ flat_map (decision_given diagram.now.nodes names.now place.node place.state)
-        answers.now) }
+    ensures { OnOk result (out.new.items ≡ out.old.items
+        ++ decisions_given diagram.now.nodes names.now place.node place.state answers.now) }
 {
     for answer in answers {
         push_decision(out, diagram, names, place, answer)?;
@@ -208,10 +203,8 @@ fn given_text(
     requires state { place.state < length (labels_of names.now place.node) }
     requires answers { FitsDiagram conditioned.now.diagram conditioned.now.solved }
     requires gains { length conditioned.now.gains.items ≡ conditioned.now.diagram.agents }
-    ensures { IfOk result (λ text.
-        text.items
-        ≡ given_text conditioned.now.diagram names.now place.node place.state
-        conditioned.now.solved conditioned.now.gains.items) }
+    ensures { IfOk result (λ text. text.items ≡ given_text_at conditioned.now.diagram names.now
+        place conditioned.now.solved conditioned.now.gains.items) }
 {
     let solved = &conditioned.solved;
     let mut text = given_front(alloc, names, place, &solved.order)?;
@@ -242,10 +235,9 @@ pub fn answer(
     state: &str,
 ) -> Result<Vec<u8>, Refusal>
     ensures ok { IfOk result (λ printed.
-        comes_of (conditioning node.now state.now) source.entry.name.now source.entry.bytes.now
-        (Ok (done_with printed.items))) }
-    ensures err { IfErr result (TellsOf (comes_of (conditioning node.now state.now)
-        source.entry.name.now source.entry.bytes.now)) }
+        Prints (conditioning node.now state.now) source.entry printed.items) }
+    ensures err { IfErr result (TellsOf (comes_from (conditioning node.now state.now)
+        source.entry)) }
 {
     let (diagram, names) = source.diagram(alloc)?;
     let place = find_state(alloc, &diagram, &names, node, state)?;

@@ -1,16 +1,11 @@
 //! `graph F`: who relies on whom.
 
-ghost use Rattle.std.specs.Prelude.{◌≡◌, ◌<◌, ◌++◌, All, Ok, IfOk, IfErr, OnOk, length};
-ghost use Rattle.std.specs.List.{flat_map};
+ghost use Rattle.std.specs.Prelude.{◌≡◌, ◌<◌, ◌++◌, All, IfOk, IfErr, OnOk, length};
 ghost use Rattle.maid_model.specs.Names.{NamesFit};
-ghost use Rattle.maid_model.specs.Nodes.{decisions_of};
 ghost use Rattle.relevance_graph.specs.Relevant.{IsRelevance};
-ghost use Rattle.relevance_graph.specs.Views.{relied_on_by};
 ghost use Rattle.maid_app.specs.Graph.{graphing, IsGraphText, IsLastLine, relies_line};
-ghost use Rattle.maid_app.specs.GraphLines.{relies_line_of};
-ghost use Rattle.maid_app.specs.Outcome.{done_with};
-ghost use Rattle.maid_app.specs.Reading.{TellsOf};
-ghost use Rattle.maid_app.specs.Tasks.{comes_of};
+ghost use Rattle.maid_app.specs.GraphLines.{relies_line_of, relies_lines};
+ghost use Rattle.maid_app.specs.Reading.{TellsOf, Prints, comes_from};
 
 use crate::reading::Source;
 use crate::refusal::Refusal;
@@ -69,10 +64,8 @@ fn push_decisions(
 ) -> Result<(), AllocError>
     requires names { NamesFit diagram.now names.now }
     requires relevance { IsRelevance diagram.now.nodes relevance.now }
-    ensures { OnOk result (out.new.items
-        ≡ out.old.items
-        ++ flat_map (λ v. relies_line names.now v (relied_on_by relevance.now v))
-        (decisions_of diagram.now.nodes)) }
+    ensures { OnOk result (out.new.items ≡ out.old.items
+        ++ relies_lines diagram.now.nodes names.now relevance.now) }
 {
     for v in 0..diagram.count() {
         push_node(alloc, out, diagram, names, relevance, v)?;
@@ -120,11 +113,8 @@ fn graph_text(
 ///
 /// The fault of the bytes, or want of memory.
 pub fn answer(alloc: Global, source: Source<'_>) -> Result<Vec<u8>, Refusal>
-    ensures ok { IfOk result (λ printed.
-        comes_of graphing source.entry.name.now source.entry.bytes.now
-        (Ok (done_with printed.items))) }
-    ensures err { IfErr result (TellsOf (comes_of graphing source.entry.name.now
-        source.entry.bytes.now)) }
+    ensures ok { IfOk result (λ printed. Prints graphing source.entry printed.items) }
+    ensures err { IfErr result (TellsOf (comes_from graphing source.entry)) }
 {
     let (diagram, names) = source.diagram(alloc)?;
     let relevance = find_relevance(alloc, &diagram)?;

@@ -1,11 +1,9 @@
 //! `info F A`: what information is worth to an agent.
 
-ghost use Rattle.std.specs.Prelude.{◌≡◌, ◌++◌, All, Ok, IfOk, IfErr, OnOk, length};
+ghost use Rattle.std.specs.Prelude.{◌≡◌, ◌++◌, All, IfOk, IfErr, OnOk, length};
 ghost use Rattle.maid_app.specs.Found.{AreKnown};
 ghost use Rattle.maid_app.specs.Info.{info_line, info_nodes, info_text, weighing_information};
-ghost use Rattle.maid_app.specs.Outcome.{done_with};
-ghost use Rattle.maid_app.specs.Reading.{TellsOf};
-ghost use Rattle.maid_app.specs.Tasks.{comes_of};
+ghost use Rattle.maid_app.specs.Reading.{TellsOf, Prints, comes_from};
 
 use super::asking::{ask, asked_line, push_found};
 use crate::reading::Source;
@@ -59,10 +57,9 @@ fn info_text(
 /// The fault of the bytes, an agent that no node has, what the solver refuses the diagram for, or want of memory.
 pub fn answer(alloc: Global, source: Source<'_>, agent: &str) -> Result<Vec<u8>, Refusal>
     ensures ok { IfOk result (λ printed.
-        comes_of (weighing_information agent.now) source.entry.name.now source.entry.bytes.now
-        (Ok (done_with printed.items))) }
-    ensures err { IfErr result (TellsOf (comes_of (weighing_information agent.now)
-        source.entry.name.now source.entry.bytes.now)) }
+        Prints (weighing_information agent.now) source.entry printed.items) }
+    ensures err { IfErr result (TellsOf (comes_from (weighing_information agent.now)
+        source.entry)) }
 {
     let asked = ask(alloc, source, agent)?;
     let lines = info(alloc, &asked.diagram, &asked.solved, asked.agent)?;

@@ -1,6 +1,6 @@
 //! `threshold F X ROW STATE`: how far one probability may move.
 
-ghost use Rattle.std.specs.Prelude.{◌≡◌, ◌-◌, ◌<◌, ◌↔◌, Ok, IfOk, IfErr, IsTrue, None, OnOk, length};
+ghost use Rattle.std.specs.Prelude.{◌≡◌, ◌-◌, ◌<◌, ◌↔◌, IfOk, IfErr, IsTrue, None, OnOk, length};
 ghost use Rattle.first_fault.specs.Answers.{IsFaultOrNoMemory};
 ghost use Rattle.maid_model.specs.declared.diagrams.Kind.TheVariants.{Chance};
 ghost use Rattle.maid_model.specs.Answers.{IsAnswer};
@@ -9,11 +9,9 @@ ghost use Rattle.maid_model.specs.Nodes.{node_at, rows_of, states_of};
 ghost use Rattle.threshold.specs.Faults.{OthersWeighNought};
 ghost use Rattle.threshold.specs.Intervals.{IsOnlySpan, StaysPerfect, TellsNow, TellsSpan};
 ghost use Rattle.maid_app.specs.Moved.{HasRow, KeepsMovedBound};
-ghost use Rattle.maid_app.specs.Outcome.{done_with};
-ghost use Rattle.maid_app.specs.Reading.{TellsOf};
+ghost use Rattle.maid_app.specs.Reading.{TellsOf, Prints, comes_from};
 ghost use Rattle.maid_app.specs.Refusal.{refused_as};
 ghost use Rattle.maid_app.specs.Solve.{IsSolvable};
-ghost use Rattle.maid_app.specs.Tasks.{comes_of};
 ghost use Rattle.maid_app.specs.Threshold.{IsCellPlace, moved_pass, moving, row_pass, threshold_text};
 
 use super::chances::{StatePlace, find_state};
@@ -151,10 +149,9 @@ pub fn answer(
     row: usize,
     state: &str,
 ) -> Result<Vec<u8>, Refusal>
-    ensures ok { IfOk result (λ printed. comes_of (moving node.now row state.now)
-        source.entry.name.now source.entry.bytes.now (Ok (done_with printed.items))) }
-    ensures err { IfErr result (TellsOf (comes_of (moving node.now row state.now)
-        source.entry.name.now source.entry.bytes.now)) }
+    ensures ok { IfOk result (λ printed.
+        Prints (moving node.now row state.now) source.entry printed.items) }
+    ensures err { IfErr result (TellsOf (comes_from (moving node.now row state.now) source.entry)) }
 {
     let (diagram, names) = source.diagram(alloc)?;
     let place = find_state(alloc, &diagram, &names, node, state)?;

@@ -1,10 +1,8 @@
 //! `print F`: the text of a diagram.
 
-ghost use Rattle.std.specs.Prelude.{Ok, IfOk, IfErr};
+ghost use Rattle.std.specs.Prelude.{IfOk, IfErr};
 ghost use Rattle.maid_app.specs.Print.{printing};
-ghost use Rattle.maid_app.specs.Outcome.{done_with};
-ghost use Rattle.maid_app.specs.Reading.{TellsOf};
-ghost use Rattle.maid_app.specs.Tasks.{comes_of};
+ghost use Rattle.maid_app.specs.Reading.{TellsOf, Prints, comes_from};
 
 use crate::reading::Source;
 use crate::refusal::Refusal;
@@ -17,11 +15,8 @@ use std::alloc::Global;
 ///
 /// The fault of the bytes, or want of memory.
 pub fn answer(alloc: Global, source: Source<'_>) -> Result<Vec<u8>, Refusal>
-    ensures ok { IfOk result (λ told.
-        comes_of printing source.entry.name.now source.entry.bytes.now
-        (Ok (done_with told.items))) }
-    ensures err { IfErr result (TellsOf (comes_of printing source.entry.name.now
-        source.entry.bytes.now)) }
+    ensures ok { IfOk result (λ told. Prints printing source.entry told.items) }
+    ensures err { IfErr result (TellsOf (comes_from printing source.entry)) }
 {
     let (diagram, names) = source.diagram(alloc)?;
     printed_texts_read_back();

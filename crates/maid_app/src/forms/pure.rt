@@ -1,15 +1,13 @@
 //! `pure F`: the first pure equilibrium.
 
-ghost use Rattle.std.specs.Prelude.{◌≡◌, All, Ok, IfOk, IfErr, length};
+ghost use Rattle.std.specs.Prelude.{◌≡◌, All, IfOk, IfErr, length};
 ghost use Rattle.app_lines.specs.Choices.{HasChoices};
 ghost use Rattle.first_fault.specs.Answers.{IsFaultOrNoMemory};
 ghost use Rattle.maid_model.specs.Names.{NamesFit};
 ghost use Rattle.pure_search.specs.Faults.{pure_fault, pure_pass};
-ghost use Rattle.maid_app.specs.Outcome.{done_with};
 ghost use Rattle.maid_app.specs.Pure.{pure_text, search_stages, searching};
-ghost use Rattle.maid_app.specs.Reading.{TellsOf, found_by};
+ghost use Rattle.maid_app.specs.Reading.{TellsOf, found_by, Prints, comes_from};
 ghost use Rattle.maid_app.specs.Refusal.{refused_as};
-ghost use Rattle.maid_app.specs.Tasks.{comes_of};
 
 use crate::reading::Source;
 use crate::refusal::{Refusal, told};
@@ -67,11 +65,8 @@ fn pure_text(
 /// The fault of the bytes, the place at which the weight bound is passed, the counts of profiles and leaves where they
 /// are too many, how many pure profiles there are where none is an equilibrium, or want of memory.
 pub fn answer(alloc: Global, source: Source<'_>) -> Result<Vec<u8>, Refusal>
-    ensures ok { IfOk result (λ printed.
-        comes_of searching source.entry.name.now source.entry.bytes.now
-        (Ok (done_with printed.items))) }
-    ensures err { IfErr result (TellsOf (comes_of searching source.entry.name.now
-        source.entry.bytes.now)) }
+    ensures ok { IfOk result (λ printed. Prints searching source.entry printed.items) }
+    ensures err { IfErr result (TellsOf (comes_from searching source.entry)) }
 {
     let (diagram, names) = source.diagram(alloc)?;
     match first_pure(alloc, &diagram) {

@@ -1,12 +1,10 @@
 //! `solve F`: the report.
 
-ghost use Rattle.std.specs.Prelude.{Ok, IfOk, IfErr, OnOk};
+ghost use Rattle.std.specs.Prelude.{IfOk, IfErr, OnOk};
 ghost use Rattle.first_fault.specs.Answers.{IsFaultOrNoMemory};
 ghost use Rattle.maid_model.specs.Names.{NamesFit};
-ghost use Rattle.maid_app.specs.Outcome.{done_with};
-ghost use Rattle.maid_app.specs.Reading.{IsSolved, TellsOf, TellsStages, found_by};
+ghost use Rattle.maid_app.specs.Reading.{IsSolved, TellsOf, TellsStages, found_by, Prints, comes_from};
 ghost use Rattle.maid_app.specs.Refusal.{refused_as};
-ghost use Rattle.maid_app.specs.Tasks.{comes_of};
 ghost use Rattle.maid_app.specs.Solve.{IsSolution, IsSolvable, solver_stages, solving, solving_stages};
 ghost use Rattle.rule_solver.specs.Faults.{solve_fault, solve_pass};
 
@@ -83,11 +81,8 @@ pub fn solved(alloc: Global, source: Source<'_>) -> Result<(Diagram, Names, Solv
 ///
 /// Those of [`solved`].
 pub fn answer(alloc: Global, source: Source<'_>) -> Result<Vec<u8>, Refusal>
-    ensures ok { IfOk result (λ printed.
-        comes_of solving source.entry.name.now source.entry.bytes.now
-        (Ok (done_with printed.items))) }
-    ensures err { IfErr result (TellsOf (comes_of solving source.entry.name.now
-        source.entry.bytes.now)) }
+    ensures ok { IfOk result (λ printed. Prints solving source.entry printed.items) }
+    ensures err { IfErr result (TellsOf (comes_from solving source.entry)) }
 {
     let (diagram, names, answer) = solved(alloc, source)?;
     Ok(print_report(alloc, &diagram, &names, &answer)?)

@@ -1,12 +1,10 @@
 //! `trim F`: the diagram without the arcs that decisions do not need.
 
-ghost use Rattle.std.specs.Prelude.{◌≡◌, ◌++◌, Ok, IfOk, IfErr};
+ghost use Rattle.std.specs.Prelude.{◌≡◌, ◌++◌, IfOk, IfErr};
 ghost use Rattle.app_lines.specs.Removed.{AreNamed, removed_lines};
 ghost use Rattle.maid_model.specs.Names.{NamesFit};
 ghost use Rattle.net_print.specs.Printed.{printed};
-ghost use Rattle.maid_app.specs.Outcome.{done_with};
-ghost use Rattle.maid_app.specs.Reading.{TellsOf};
-ghost use Rattle.maid_app.specs.Tasks.{comes_of};
+ghost use Rattle.maid_app.specs.Reading.{TellsOf, Prints, comes_from};
 ghost use Rattle.maid_app.specs.Trim.{trimming};
 
 use crate::reading::Source;
@@ -41,11 +39,8 @@ fn trimmed_text(
 ///
 /// The fault of the bytes, or want of memory.
 pub fn answer(alloc: Global, source: Source<'_>) -> Result<Vec<u8>, Refusal>
-    ensures ok { IfOk result (λ told.
-        comes_of trimming source.entry.name.now source.entry.bytes.now
-        (Ok (done_with told.items))) }
-    ensures err { IfErr result (TellsOf (comes_of trimming source.entry.name.now
-        source.entry.bytes.now)) }
+    ensures ok { IfOk result (λ told. Prints trimming source.entry told.items) }
+    ensures err { IfErr result (TellsOf (comes_from trimming source.entry)) }
 {
     let (diagram, names) = source.diagram(alloc)?;
     commented_texts_read_back();

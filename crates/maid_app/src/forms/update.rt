@@ -1,14 +1,12 @@
 //! `update F`: the choices that no round of updating changes.
 
-ghost use Rattle.std.specs.Prelude.{◌≡◌, All, Ok, IfOk, IfErr, length};
+ghost use Rattle.std.specs.Prelude.{◌≡◌, All, IfOk, IfErr, length};
 ghost use Rattle.app_lines.specs.Choices.{HasChoices};
 ghost use Rattle.first_fault.specs.Answers.{IsFaultOrNoMemory};
 ghost use Rattle.maid_model.specs.Names.{NamesFit};
 ghost use Rattle.policy_update.specs.Faults.{update_fault, update_pass};
-ghost use Rattle.maid_app.specs.Outcome.{done_with};
-ghost use Rattle.maid_app.specs.Reading.{TellsOf, found_by};
+ghost use Rattle.maid_app.specs.Reading.{TellsOf, found_by, Prints, comes_from};
 ghost use Rattle.maid_app.specs.Refusal.{refused_as};
-ghost use Rattle.maid_app.specs.Tasks.{comes_of};
 ghost use Rattle.maid_app.specs.Update.{update_stages, update_text, updating};
 
 use crate::reading::Source;
@@ -78,11 +76,8 @@ fn update_text(
 /// The fault of the bytes, two owners of decisions, the place at which the weight bound is passed, the cells and the work
 /// of a run that passes a limit, rounds that all raise, or want of memory.
 pub fn answer(alloc: Global, source: Source<'_>) -> Result<Vec<u8>, Refusal>
-    ensures ok { IfOk result (λ printed.
-        comes_of updating source.entry.name.now source.entry.bytes.now
-        (Ok (done_with printed.items))) }
-    ensures err { IfErr result (TellsOf (comes_of updating source.entry.name.now
-        source.entry.bytes.now)) }
+    ensures ok { IfOk result (λ printed. Prints updating source.entry printed.items) }
+    ensures err { IfErr result (TellsOf (comes_from updating source.entry)) }
 {
     let (diagram, names) = source.diagram(alloc)?;
     match update(alloc, &diagram, MOST_ROUNDS) {
