@@ -1,6 +1,6 @@
 //! From a file's bytes to the diagram that they stand for, or to the line of their fault.
 
-ghost use Rattle.std.specs.Prelude.{◌≡◌, All, IfOk, IfErr, Some};
+ghost use Rattle.std.specs.Prelude.{All, IfOk, IfErr, Some};
 ghost use Rattle.maid_model.specs.Names.{NamesFit};
 ghost use Rattle.first_fault.specs.Answers.{IsFaultOrNoMemory};
 ghost use Rattle.net_build.specs.Passes.{build_fault, kind_view, found};

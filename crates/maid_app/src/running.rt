@@ -6,7 +6,6 @@ ghost use Rattle.maid_app.specs.Request.{check, demo, requested};
 ghost use Rattle.maid_app.specs.Form.{request_by, text_request_by};
 ghost use Rattle.maid_app.specs.Answers.{Answers};
 ghost use Rattle.maid_app.specs.Outcome.{done_with};
-ghost use Rattle.maid_app.specs.Laws.{OneStatus};
 ghost use Rattle.maid_app.specs.Reading.{Tells};
 ghost use Rattle.maid_app.specs.Refusal.{status_of};
 ghost use Rattle.maid_model.specs.Reports.{line};
