@@ -14,6 +14,10 @@ abbrev pub CanStart : List NodeView → NodeSet → Start → Type 0
 CanStart nodes given (Node x) = IsLive nodes x × (IsIn given x → ⊥)
 CanStart nodes given (ParentOf x) = IsLive nodes x
 
+-- a search may start at each node of the set
+abbrev pub CanStartAtAll : List NodeView → NodeSet → NodeSet → Type 0
+CanStartAtAll nodes given starts = (u : ℕ) → IsIn starts u → CanStart nodes given (Node u)
+
 -- an active walk leads to v from the start; an extra parent has the first number that no node has
 abbrev pub IsReachedBy : List NodeView → NodeSet → Start → ℕ → Type 0
 IsReachedBy nodes given (Node x) v = IsReached (Arc nodes) (IsLive nodes) (IsIn given) x v

@@ -1,5 +1,5 @@
 -- The steps of a search: two marks a node, one for each way of arrival.
-use Rattle.std.specs.Prelude.{◌≡◌, ℕ, ◌+◌, ◌<◌, ◌⊎◌, Bool, true, false, List, length}
+use Rattle.std.specs.Prelude.{◌≡◌, ℕ, ◌+◌, ◌<◌, ◌⊎◌, ◌↔◌, Bool, true, false, List, length}
 use Rattle.node_sets.specs.declared.sets.NodeSet.{NodeSet}
 use Rattle.node_sets.specs.Sets.{IsIn, room}
 use Rattle.maid_model.specs.Views.{NodeView}
@@ -23,6 +23,14 @@ LeadsDown given down up v = (IsIn given v → ⊥) × (IsIn down v ⊎ IsIn up v
 
 abbrev pub LeadsUp : NodeSet → NodeSet → NodeSet → ℕ → Type 0
 LeadsUp given down up v = (IsIn given v × IsIn down v) ⊎ ((IsIn given v → ⊥) × IsIn up v)
+
+-- walks arrive at v from a parent
+abbrev pub HearsParent : List NodeView → NodeSet → NodeSet → NodeSet → ℕ → Type 0
+HearsParent nodes given down up v = (p : ℕ) × LiveArc nodes p v × LeadsDown given down up p
+
+-- the nodes at which walks lead on up the arcs into them
+abbrev pub AreLeadingUp : NodeSet → NodeSet → NodeSet → NodeSet → Type 0
+AreLeadingUp given down up marked = (v : ℕ) → IsIn marked v ↔ LeadsUp given down up v
 
 -- the node is marked where walks arrive from a parent, and its parents are where walks go on up from it
 abbrev pub HearsAll : List NodeView → NodeSet → ℕ → NodeSet → NodeSet → Type 0
@@ -75,6 +83,11 @@ IsSweep nodes given down up down' up' changed =
 -- the mark spreads from these marks by the rules
 abbrev pub FlowsFrom : List NodeView → NodeSet → NodeSet → NodeSet → Way → ℕ → Type 0
 FlowsFrom nodes given down up w v = Flows (LiveArc nodes) (IsIn given) (IsMarked down up) w v
+
+-- the later marks all spread from the earlier ones by the rules
+abbrev pub FlowAllFrom : List NodeView → NodeSet → NodeSet → NodeSet → NodeSet → NodeSet → Type 0
+FlowAllFrom nodes given down up down' up' =
+    (w : Way) (v : ℕ) → IsMarked down' up' w v → FlowsFrom nodes given down up w v
 
 -- no rule adds one to these marks
 abbrev pub AreClosed : List NodeView → NodeSet → NodeSet → NodeSet → Type 0

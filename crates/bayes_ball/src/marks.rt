@@ -3,7 +3,7 @@
 ghost use Rattle.std.specs.Prelude.{ℕ, ◌<◌, ◌⊎◌, ◌↔◌, IsTrue};
 ghost use Rattle.node_sets.specs.declared.sets.TheConstants.{MOST_NODES};
 ghost use Rattle.node_sets.specs.Sets.{IsIn};
-ghost use Rattle.bayes_ball.specs.Spread.{LeadsUp};
+ghost use Rattle.bayes_ball.specs.Spread.{AreLeadingUp};
 
 use node_sets::NodeSet;
 
@@ -18,8 +18,7 @@ impl Marks {
     /// The marks of a search in which walks arrive down arcs at the one set of nodes, and up arcs at the other.
     pub(crate) fn of(given: &NodeSet, down: &NodeSet, up: &NodeSet) -> Marks
         ensures reached { (v : ℕ) → IsIn result.reached v ↔ (IsIn down.now v ⊎ IsIn up.now v) }
-        ensures parents { (v : ℕ) → IsIn result.parents_reached v
-            ↔ LeadsUp given.now down.now up.now v }
+        ensures parents { AreLeadingUp given.now down.now up.now result.parents_reached }
     {
         Marks {
             reached: down.union(up),

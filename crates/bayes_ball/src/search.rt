@@ -3,7 +3,7 @@
 ghost use Rattle.std.specs.Prelude.{ℕ, ◌<◌, ◌↔◌, length};
 ghost use Rattle.node_sets.specs.declared.sets.TheConstants.{MOST_NODES};
 ghost use Rattle.node_sets.specs.Sets.{IsIn};
-ghost use Rattle.bayes_ball.specs.Search.{CanStart, AreParentsReachedFrom, AreParentsReachedFromAny, AreReachedFrom, AreReachedFromAny};
+ghost use Rattle.bayes_ball.specs.Search.{CanStart, CanStartAtAll, AreParentsReachedFrom, AreParentsReachedFromAny, AreReachedFrom, AreReachedFromAny};
 ghost use Rattle.bayes_ball.specs.Flow.{Way};
 ghost use Rattle.bayes_ball.specs.Spread.{IsMarked, StartsAt, node_of};
 
@@ -53,8 +53,7 @@ pub fn reach(diagram: &Diagram, start: Start, given: &NodeSet) -> Marks
 /// which nodes an extra parent has an active walk to some of the starts. Memory and cost are those of one `reach`.
 pub fn reach_from_any(diagram: &Diagram, starts: &NodeSet, given: &NodeSet) -> Marks
     requires given { (v : ℕ) → IsIn given.now v → v < length diagram.now.nodes }
-    requires starts { (u : ℕ) → IsIn starts.now u
-        → CanStart diagram.now.nodes given.now (Start.Node u) }
+    requires starts { CanStartAtAll diagram.now.nodes given.now starts.now }
     ensures reached { AreReachedFromAny diagram.now.nodes given.now starts.now result.reached }
     ensures parents { AreParentsReachedFromAny diagram.now.nodes given.now starts.now
         result.parents_reached }

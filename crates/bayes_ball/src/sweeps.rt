@@ -6,7 +6,7 @@ ghost use Rattle.maid_model.specs.Relevance.{IsLive};
 ghost use Rattle.node_sets.specs.declared.sets.TheConstants.{MOST_NODES};
 ghost use Rattle.node_sets.specs.Sets.{Adds, room};
 ghost use Rattle.bayes_ball.specs.Flow.{Way};
-ghost use Rattle.bayes_ball.specs.Spread.{LiveArc, IsMarked, LeadsDown, LeadsUp, AreClosed, FlowsFrom, IsHearing, IsSweep, IsTelling, IsVisit};
+ghost use Rattle.bayes_ball.specs.Spread.{LiveArc, IsMarked, LeadsDown, LeadsUp, HearsParent, AreClosed, FlowAllFrom, IsHearing, IsSweep, IsTelling, IsVisit};
 
 use crate::graph::is_live;
 use maid_model::Diagram;
@@ -44,8 +44,7 @@ fn mark_live(diagram: &Diagram, v: usize, marks: &mut NodeSet) -> bool
 /// Whether walks arrive at the live node from a parent.
 fn hears_parent(diagram: &Diagram, v: usize, given: &NodeSet, down: &NodeSet, up: &NodeSet) -> bool
     requires live { IsLive diagram.now.nodes v }
-    ensures { IsTrue result
-        ↔ ((p : ℕ) × LiveArc diagram.now.nodes p v × LeadsDown given.now down.now up.now p) }
+    ensures { IsTrue result ↔ HearsParent diagram.now.nodes given.now down.now up.now v }
 {
     for p in diagram.parents(v) {
         if leads_down(*p, given, down, up) && is_live(diagram, *p) {
@@ -127,8 +126,7 @@ fn sweep_back(diagram: &Diagram, given: &NodeSet, down: &mut NodeSet, up: &mut N
 /// Sweeps back and on. It says whether there can be more to follow.
 fn sweep_twice(diagram: &Diagram, given: &NodeSet, down: &mut NodeSet, up: &mut NodeSet) -> bool
     ensures kept { (w : Way) (v : ℕ) → IsMarked down.old up.old w v → IsMarked down.new up.new w v }
-    ensures sound { (w : Way) (v : ℕ) → IsMarked down.new up.new w v
-        → FlowsFrom diagram.now.nodes given.now down.old up.old w v }
+    ensures sound { FlowAllFrom diagram.now.nodes given.now down.old up.old down.new up.new }
     ensures fewer { IsTrue result → room down.new + room up.new < room down.old + room up.old }
     ensures closed { IsFalse result → AreClosed diagram.now.nodes given.now down.new up.new }
 {
@@ -138,8 +136,7 @@ fn sweep_twice(diagram: &Diagram, given: &NodeSet, down: &mut NodeSet, up: &mut 
 /// Adds the marks to which walks go on from those that are there.
 pub fn close(diagram: &Diagram, given: &NodeSet, down: &mut NodeSet, up: &mut NodeSet)
     ensures kept { (w : Way) (v : ℕ) → IsMarked down.old up.old w v → IsMarked down.new up.new w v }
-    ensures sound { (w : Way) (v : ℕ) → IsMarked down.new up.new w v
-        → FlowsFrom diagram.now.nodes given.now down.old up.old w v }
+    ensures sound { FlowAllFrom diagram.now.nodes given.now down.old up.old down.new up.new }
     ensures closed { AreClosed diagram.now.nodes given.now down.new up.new }
 {
     'sweeps: while sweep_twice(diagram, given, down, up) {}

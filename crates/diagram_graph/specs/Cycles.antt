@@ -1,9 +1,15 @@
 -- The first cycle of lists of parents.
-use Rattle.std.specs.Prelude.{ℕ, ◌<◌, List, map, Vec, length, Option, MatchOption}
+use Rattle.std.specs.Prelude.{ℕ, ◌<◌, List, map, Vec, length, Option, IfSome, MatchOption}
 use Rattle.std.specs.declared.alloc.Global.{Global}
 use Rattle.diagram_graph.specs.Needs.{NeedsItem}
-use Rattle.diagram_graph.specs.Rounds.{IsFirstCycle}
-use Rattle.maid_model.specs.Graph.{IsAcyclic}
+use Rattle.diagram_graph.specs.Rounds.{IsFirstCycle, IsRingOfNeeds}
+use Rattle.maid_model.specs.Graph.{Arc, IsAcyclic}
+use Rattle.maid_model.specs.Placing.{IsOrder}
+use Rattle.maid_model.specs.Views.{NodeView}
+
+-- all nodes, each time the first in text whose parents all stand before it
+abbrev pub IsNodeOrder : List NodeView → List ℕ → Type 0
+IsNodeOrder nodes order = IsOrder (λ v. v < length nodes) (λ v p. Arc nodes p v) order
 
 -- the lists as plain lists
 abbrev pub lists_in : List (Vec ℕ Global) → List (List ℕ)
@@ -23,3 +29,8 @@ IsParentCycle lists cycle = IsFirstCycle (λ v. v < length lists) lists cycle
 abbrev pub TellsCycle : List (List ℕ) → Option (Vec ℕ Global) → Type 0
 TellsCycle lists found =
     MatchOption found (IsAcyclic (ListedArc lists)) (λ cycle. IsParentCycle lists cycle.items)
+
+-- a cycle that is found is a ring: each of its nodes has the next one in its list
+abbrev pub IsRingOfParents : List (List ℕ) → Option (Vec ℕ Global) → Type 0
+IsRingOfParents lists found =
+    IfSome found (λ cycle. IsRingOfNeeds (NeedsItem lists) cycle.items)

@@ -1,10 +1,10 @@
 -- The cells of rules, and whether they keep the limits.
-use Rattle.std.specs.Prelude.{ℕ, ◌*◌, ◌≤◌, List, length, if◌then◌else◌}
+use Rattle.std.specs.Prelude.{ℕ, ◌*◌, ◌<◌, ◌≤◌, List, length, if◌then◌else◌}
 use Rattle.maid_model.specs.declared.limits.TheConstants.{MOST_PARENTS, MOST_CELLS, MOST_RULE_CELLS}
 use Rattle.maid_model.specs.Views.{NodeView}
 use Rattle.maid_model.specs.Nodes.{node_at, is_decision, states_of, parents_of, rows_of, decisions_of}
 use Rattle.maid_model.specs.Graph.{Arc, IsPath}
-use Rattle.maid_model.specs.Edits.{with_arc}
+use Rattle.maid_model.specs.Edits.{as_decision, with_arc}
 use Rattle.finite_sums.specs.Sums.{nat_sum_over}
 
 -- the cells of v's table or rule: one for each row and state
@@ -30,3 +30,7 @@ pub record IsTooLarge (nodes : List NodeView) (x d : ℕ) : Type 0 where
   pub absent : Arc nodes x d → ⊥
   pub no_cycle : IsPath (Arc nodes) d x → ⊥
   pub too_much : RulesFit (with_arc nodes x d) d → ⊥
+
+-- as a decision of the agent the node makes too much of the rules
+abbrev pub IsTooLargeAsDecision : List NodeView → ℕ → ℕ → Type 0
+IsTooLargeAsDecision nodes agent v = MOST_RULE_CELLS < rule_cells (as_decision nodes agent v)

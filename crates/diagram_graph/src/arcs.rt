@@ -4,7 +4,7 @@ ghost use Rattle.std.specs.Prelude.{◌≡◌, ◌<◌, ◌↔◌, ◌==◌, not
 ghost use Rattle.maid_model.specs.Edits.{without_arc};
 ghost use Rattle.maid_model.specs.Graph.{Arc};
 ghost use Rattle.maid_model.specs.Nodes.{IsDecision};
-ghost use Rattle.diagram_graph.specs.Edited.{with_nodes, without_parent};
+ghost use Rattle.diagram_graph.specs.Edited.{IsWithNodes, without_parent};
 
 use crate::copies::{copy_nodes, with_nodes};
 use arc_laws::arc_removed;
@@ -65,8 +65,7 @@ pub fn remove_arc(
     to: usize,
 ) -> Result<Diagram, RemoveFault>
     requires { IsDecision diagram.now.nodes to }
-    ensures less { IfOk result (λ less.
-        less ≡ with_nodes diagram.now (without_arc diagram.now.nodes from to)) }
+    ensures less { IfOk result (IsWithNodes diagram.now (without_arc diagram.now.nodes from to)) }
     ensures not_present { IsErrOf result RemoveFault.NotPresent
         ↔ (Arc diagram.now.nodes from to → ⊥) }
 {

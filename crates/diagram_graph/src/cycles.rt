@@ -1,11 +1,7 @@
 //! The first cycle of lists of parents.
 
-ghost use Rattle.std.specs.Prelude.{ℕ, ◌<◌, length, IfOk, IfSome};
-ghost use Rattle.maid_model.specs.Graph.{Arc};
-ghost use Rattle.maid_model.specs.Placing.{IsOrder};
-ghost use Rattle.diagram_graph.specs.Needs.{NeedsItem};
-ghost use Rattle.diagram_graph.specs.Rounds.{IsRingOfNeeds};
-ghost use Rattle.diagram_graph.specs.Cycles.{lists_in, ListedArc, TellsCycle};
+ghost use Rattle.std.specs.Prelude.{ℕ, ◌<◌, length, IfOk};
+ghost use Rattle.diagram_graph.specs.Cycles.{IsNodeOrder, IsRingOfParents, ListedArc, TellsCycle, lists_in};
 
 use crate::placing::{Placing, place_all};
 use maid_model::Diagram;
@@ -14,9 +10,7 @@ use std::alloc::{AllocError, Global};
 /// All nodes in an order with parents first: each time the first node in text whose parents all stand before it. It
 /// goes over all nodes once for each node, which is a few tens of thousands of looks for the greatest diagram.
 pub fn topological(alloc: Global, diagram: &Diagram) -> Result<Vec<usize>, AllocError>
-    ensures { IfOk result (λ order.
-        IsOrder (λ v. v < length diagram.now.nodes) (λ v p. Arc diagram.now.nodes p v)
-        order.items) }
+    ensures { IfOk result (λ order. IsNodeOrder diagram.now.nodes order.items) }
 {
     let nodes = vec![in alloc; true; diagram.count()]?;
     match place_all(alloc, diagram, &nodes)? {
@@ -32,8 +26,7 @@ pub fn topological(alloc: Global, diagram: &Diagram) -> Result<Vec<usize>, Alloc
 pub fn first_cycle(alloc: Global, parents: &[Vec<usize>]) -> Result<Option<Vec<usize>>, AllocError>
     requires { (u v : ℕ) → ListedArc (lists_in parents.now) u v → u < length parents.now }
     ensures cycle { IfOk result (TellsCycle (lists_in parents.now)) }
-    ensures ring { IfOk result (λ found.
-        IfSome found (λ cycle. IsRingOfNeeds (NeedsItem (lists_in parents.now)) cycle.items)) }
+    ensures ring { IfOk result (IsRingOfParents (lists_in parents.now)) }
 {
     let nodes = vec![in alloc; true; parents.len()]?;
     match place_all(alloc, &parents, &nodes)? {

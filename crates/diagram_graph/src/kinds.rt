@@ -3,13 +3,13 @@
 ghost use Rattle.std.specs.Prelude.{◌≡◌, ◌≢◌, ◌<◌, ◌≤◌, ◌*◌, ◌↔◌, ◌++◌, map, slice_set, length, pos, IsTrue, IfOk, OnOk, IsErrOf};
 ghost use Rattle.std.specs.List.{flat_map};
 ghost use Rattle.maid_model.specs.declared.diagrams.Kind.TheVariants.{Chance};
-ghost use Rattle.maid_model.specs.declared.limits.TheConstants.{MOST_CELLS, MOST_RULE_CELLS};
+ghost use Rattle.maid_model.specs.declared.limits.TheConstants.{MOST_CELLS};
 ghost use Rattle.maid_model.specs.Answers.{FitsAnswers, rows_at};
-ghost use Rattle.maid_model.specs.Edits.{as_chance, as_decision, fixed_by, one_agent, made_decision};
+ghost use Rattle.maid_model.specs.Edits.{as_chance, as_decision, one_agent, made_decision};
 ghost use Rattle.maid_model.specs.Nodes.{IsDecision, agent_of, node_at};
 ghost use Rattle.maid_model.specs.Profiles.{pure_row};
-ghost use Rattle.diagram_graph.specs.Edited.{with_nodes};
-ghost use Rattle.diagram_graph.specs.Room.{rule_cells};
+ghost use Rattle.diagram_graph.specs.Edited.{IsFixedNode, IsWithNodes};
+ghost use Rattle.diagram_graph.specs.Room.{IsTooLargeAsDecision};
 
 use crate::copies::{copy_node, copy_nodes, with_nodes};
 use crate::room::{cells_at, rule_cells};
@@ -79,10 +79,9 @@ pub fn make_decision(
 ) -> Result<Diagram, MakeFault>
     requires chance { (node_at diagram.now.nodes node).kind ≡ Chance }
     requires agent { agent < diagram.now.agents }
-    ensures made { IfOk result (λ made.
-        made ≡ with_nodes diagram.now (as_decision diagram.now.nodes agent node)) }
+    ensures made { IfOk result (IsWithNodes diagram.now (as_decision diagram.now.nodes agent node)) }
     ensures too_large { IsErrOf result MakeFault.TooLarge
-        ↔ MOST_RULE_CELLS < rule_cells (as_decision diagram.now.nodes agent node) }
+        ↔ IsTooLargeAsDecision diagram.now.nodes agent node }
 {
     controlled();
     let _count = diagram.count();
@@ -171,8 +170,7 @@ fn fixed_node(
 ) -> Result<Node, AllocError>
     requires within { v < length diagram.now.nodes }
     requires fits { FitsAnswers diagram.now.nodes answers.now }
-    ensures { IfOk result (λ node.
-        node ≡ fixed_by (node_at diagram.now.nodes v).kind diagram.now.nodes agent answers.now v) }
+    ensures { IfOk result (IsFixedNode diagram.now.nodes agent answers.now v) }
 {
     if is_others(diagram, agent, v) {
         chance_node(alloc, diagram, answers, v)
@@ -191,8 +189,8 @@ pub fn fix_others(
     solved: &Solved,
 ) -> Result<Diagram, AllocError>
     requires { FitsAnswers diagram.now.nodes solved.now.answers }
-    ensures { IfOk result (λ alone.
-        alone ≡ with_nodes diagram.now (one_agent diagram.now.nodes agent solved.now.answers)) }
+    ensures { IfOk result (IsWithNodes diagram.now
+        (one_agent diagram.now.nodes agent solved.now.answers)) }
 {
     answer_is_optimum();
     let mut nodes = Vec::with_capacity(alloc, diagram.count())?;

@@ -17,6 +17,10 @@ pub record IsProfile (nodes : List NodeView) (p : List RuleView) : Type 0 where
   pub rule : (v : ℕ) → IsDecision nodes v
       → IsRule nodes (record { decision = v; total = rule_total p v; weights = weights_of p v })
 
+-- the rows of each decision's rule add up to what `total` gives for it
+abbrev pub HasRuleTotals : List NodeView → (ℕ → ℕ) → List RuleView → Type 0
+HasRuleTotals nodes total p = (v : ℕ) → IsDecision nodes v → rule_total p v ≡ total v
+
 -- the rule that gives every state the weight 1
 abbrev pub uniform_rule : List NodeView → ℕ → RuleView
 uniform_rule nodes v = record {

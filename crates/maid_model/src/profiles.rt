@@ -2,7 +2,7 @@
 
 ghost use Rattle.std.specs.Prelude.{◌≡◌, ◌<◌, List, ℕ, IfOk, length, slice_index, slice_index_or};
 ghost use Rattle.maid_model.specs.Views.{NodeView, RuleView};
-ghost use Rattle.maid_model.specs.Profiles.{IsProfile, IsRule, HasRule, no_rule, Replaces, uniform_rule, uniform_profile};
+ghost use Rattle.maid_model.specs.Profiles.{IsProfile, IsRule, HasRule, HasRuleTotals, no_rule, Replaces, uniform_rule, uniform_profile};
 ghost use Rattle.maid_model.specs.Tables.{weights_of, rule_total};
 ghost use Rattle.maid_model.specs.Nodes.{IsDecision, states_of};
 ghost use Rattle.maid_model.specs.Private.{IsFirstAt};
@@ -71,9 +71,7 @@ impl Profile {
     /// The profile that gives every state of every decision the weight 1.
     pub fn uniform(alloc: Global, diagram: &Diagram) -> Result<Profile, AllocError>
         ensures rules { IfOk result (λ p. p ≡ uniform_profile diagram.now.nodes) }
-        ensures total { IfOk result (λ p.
-            (v : ℕ) → IsDecision diagram.now.nodes v
-            → rule_total p v ≡ states_of diagram.now.nodes v) }
+        ensures total { IfOk result (HasRuleTotals diagram.now.nodes (states_of diagram.now.nodes)) }
         ensures profile { IfOk result (IsProfile diagram.now.nodes) }
     {
         let mut rules = Vec::new(alloc);

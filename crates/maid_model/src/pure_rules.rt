@@ -1,10 +1,8 @@
 //! Rules that take one state in each row.
 
-ghost use Rattle.std.specs.Prelude.{◌≡◌, ◌<◌, ◌++◌, ℕ, IfOk, OnOk, length, map};
+ghost use Rattle.std.specs.Prelude.{◌≡◌, ◌<◌, ◌++◌, IfOk, OnOk, length, map};
 ghost use Rattle.maid_model.specs.Answers.{FitsAnswers, pure_profile, rows_at, WhereRowsFit};
-ghost use Rattle.maid_model.specs.Nodes.{IsDecision};
-ghost use Rattle.maid_model.specs.Profiles.{IsProfile, IsRule, pure_row, pure_rule};
-ghost use Rattle.maid_model.specs.Tables.{rule_total};
+ghost use Rattle.maid_model.specs.Profiles.{HasRuleTotals, IsProfile, IsRule, pure_row, pure_rule};
 
 use crate::answers::{Answer, Row};
 use crate::diagrams::{Diagram, Kind};
@@ -65,8 +63,7 @@ impl Profile {
     /// The profile of the answered choices: at each decision the rule of total 1 that takes them.
     pub fn pure(alloc: Global, diagram: &Diagram, answers: &[Answer]) -> Result<Profile, AllocError>
         ensures rules { IfOk result (λ p. p ≡ pure_profile diagram.now.nodes answers.now) }
-        ensures total { IfOk result (λ p.
-            (v : ℕ) → IsDecision diagram.now.nodes v → rule_total p v ≡ 1) }
+        ensures total { IfOk result (HasRuleTotals diagram.now.nodes (λ v. 1)) }
         ensures profile { FitsAnswers diagram.now.nodes answers.now
             → IfOk result (IsProfile diagram.now.nodes) }
     {

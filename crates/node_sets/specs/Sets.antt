@@ -19,6 +19,14 @@ pub record IsFirstFrom (set : NodeSet) (from v : ℕ) : Type 0 where
   pub inside : IsIn set v
   pub first : (w : ℕ) → from ≤ w → w < v → IsIn set w → ⊥
 
+-- the node is the first of the set from one number on, and below another
+abbrev pub IsFirstBetween : NodeSet → ℕ → ℕ → ℕ → Type 0
+IsFirstBetween set from end v = IsFirstFrom set from v × (v < end)
+
+-- the set has no node from one number on and below another
+abbrev pub HasNoneBetween : NodeSet → ℕ → ℕ → Type 0
+HasNoneBetween set from end = (v : ℕ) → from ≤ v → v < end → IsIn set v → ⊥
+
 -- how many numbers below n are not in the set
 unfoldable pub missing_below : NodeSet → ℕ → ℕ
 missing_below set zero = 0

@@ -14,7 +14,7 @@ pub struct NodeSet {
 }
 
 impl NodeSet {
-    ghost use Rattle.node_sets.specs.Sets.{holds, IsIn, IsFirstFrom, Adds};
+    ghost use Rattle.node_sets.specs.Sets.{HasNoneBetween, IsFirstBetween, holds, IsIn, IsFirstFrom, Adds};
 
     /// The set without a node.
     pub fn empty() -> NodeSet
@@ -62,6 +62,18 @@ impl NodeSet {
             }
         }
         None
+    }
+
+    /// The first node of the set from one number on and below another. It looks at the words as `first_from` does.
+    pub fn first_between(&self, from: usize, end: usize) -> Option<usize>
+        requires { from ≤ MOST_NODES }
+        ensures { MatchOption result (HasNoneBetween self.now from end)
+            (IsFirstBetween self.now from end) }
+    {
+        match self.first_from(from) {
+            Some(v) if v < end => Some(v),
+            _ => None,
+        }
     }
 
     /// Adds the node, and says whether that is new.

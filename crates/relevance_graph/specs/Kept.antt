@@ -1,6 +1,6 @@
 -- Searches that are kept for later, of other diagrams too.
-use Rattle.std.specs.Prelude.{◌≡◌, ◌↔◌, ℕ, List, length}
-use Rattle.maid_model.specs.Nodes.{IsDecision, parents_of}
+use Rattle.std.specs.Prelude.{◌≡◌, ◌↔◌, ℕ, List, length, map}
+use Rattle.maid_model.specs.Nodes.{IsDecision, decisions_of, parents_of}
 use Rattle.maid_model.specs.Relevance.{IsLive, IsGoal}
 use Rattle.maid_model.specs.Views.{NodeView}
 use Rattle.relevance_graph.specs.declared.searches.KeptSearch.{KeptSearch}
@@ -10,6 +10,10 @@ use Rattle.relevance_graph.specs.Steps.{IsSearchedFor}
 pub record IsKeptSearch (nodes : List NodeView) (kept : KeptSearch) : Type 0 where
   pub decision : IsDecision nodes kept.decision
   pub marks : IsSearchedFor nodes kept.decision kept.marks
+
+-- so many searches are kept: one for each decision, in text order
+abbrev pub KeepsAllSearches : List NodeView → List KeptSearch → Type 0
+KeepsAllSearches nodes kept = map (λ k. k.decision) kept ≡ decisions_of nodes
 
 -- the others keep all that searches for the nodes' decisions look at: the arcs, which nodes are live, and the decisions
 -- with their goals; what else is a chance node or a decision does not matter

@@ -31,7 +31,15 @@ pub record ListsBelow (P : ℕ → Type 0) (n : ℕ) (list : List ℕ) : Type 0 
   pub members : (v : ℕ) → Contains list v ↔ (P v × (v < n))
   pub rising : IsRising list
 
+-- the decisions on which d relies, in text order
+abbrev pub ListsReliance : List NodeView → ℕ → List ℕ → Type 0
+ListsReliance nodes d list = ListsBelow (ReliesOn nodes d) (length nodes) list
+
 -- for each of the first n nodes those that it relies on, in text order
 pub record TellsReliance (nodes : List NodeView) (n : ℕ) (lists : List (List ℕ)) : Type 0 where
   pub count : length lists ≡ n
-  pub each : (d : ℕ) → d < n → ListsBelow (ReliesOn nodes d) (length nodes) (needs_of lists d)
+  pub each : (d : ℕ) → d < n → ListsReliance nodes d (needs_of lists d)
+
+-- for each node those that it relies on
+abbrev pub TellsAllReliance : List NodeView → List (List ℕ) → Type 0
+TellsAllReliance nodes lists = TellsReliance nodes (length nodes) lists

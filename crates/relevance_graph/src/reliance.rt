@@ -5,7 +5,7 @@ ghost use Rattle.node_sets.specs.declared.sets.TheConstants.{MOST_NODES};
 ghost use Rattle.maid_model.specs.Relevance.{ReliesOn};
 ghost use Rattle.diagram_graph.specs.Cycles.{lists_in};
 ghost use Rattle.relevance_graph.specs.Kept.{IsKeptSearch};
-ghost use Rattle.relevance_graph.specs.Steps.{IsLiveDecision, IsSearchedFor, ListsBelow, TellsReliance};
+ghost use Rattle.relevance_graph.specs.Steps.{IsLiveDecision, IsSearchedFor, ListsReliance, TellsAllReliance};
 
 use crate::searches::{KeptSearch, marks_of};
 use bayes_ball::Marks;
@@ -44,8 +44,7 @@ fn list_relied_on(
 ) -> Result<Vec<usize>, AllocError>
     requires decision { IsLiveDecision diagram.now.nodes decision }
     requires marks { IsSearchedFor diagram.now.nodes decision marks.now }
-    ensures { IfOk result (λ list.
-        ListsBelow (ReliesOn diagram.now.nodes decision) (length diagram.now.nodes) list.items) }
+    ensures { IfOk result (λ list. ListsReliance diagram.now.nodes decision list.items) }
 {
     let mut list = Vec::new(alloc);
     for on in 0..diagram.count() {
@@ -65,8 +64,7 @@ fn relied_on_by(
 ) -> Result<Vec<usize>, AllocError>
     requires kept { All (IsKeptSearch diagram.now.nodes) kept.now }
     requires within { v < length diagram.now.nodes }
-    ensures { IfOk result (λ list.
-        ListsBelow (ReliesOn diagram.now.nodes v) (length diagram.now.nodes) list.items) }
+    ensures { IfOk result (λ list. ListsReliance diagram.now.nodes v list.items) }
 {
     if !is_live_decision(diagram, v) {
         return Ok(Vec::new(alloc));
@@ -82,8 +80,7 @@ pub(crate) fn list_reliance(
     kept: &[KeptSearch],
 ) -> Result<Vec<Vec<usize>>, AllocError>
     requires { All (IsKeptSearch diagram.now.nodes) kept.now }
-    ensures { IfOk result (λ lists.
-        TellsReliance diagram.now.nodes (length diagram.now.nodes) (lists_in lists.items)) }
+    ensures { IfOk result (λ lists. TellsAllReliance diagram.now.nodes (lists_in lists.items)) }
 {
     let mut lists = Vec::with_capacity(alloc, diagram.count())?;
     for v in 0..diagram.count() {

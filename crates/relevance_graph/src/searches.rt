@@ -1,8 +1,8 @@
 //! Searches that are kept for later diagrams.
 
-ghost use Rattle.std.specs.Prelude.{◌≡◌, ◌<◌, All, IfOk, IsTrue, length, map};
-ghost use Rattle.maid_model.specs.Nodes.{IsDecision, decisions_of, is_decision, node_at};
-ghost use Rattle.relevance_graph.specs.Kept.{IsKeptSearch};
+ghost use Rattle.std.specs.Prelude.{◌≡◌, ◌<◌, All, IfOk, IsTrue, length};
+ghost use Rattle.maid_model.specs.Nodes.{IsDecision, is_decision, node_at};
+ghost use Rattle.relevance_graph.specs.Kept.{IsKeptSearch, KeepsAllSearches};
 ghost use Rattle.relevance_graph.specs.Steps.{IsSearchedFor};
 
 use crate::walks::search_from_goals;
@@ -32,8 +32,7 @@ fn is_decision(diagram: &Diagram, v: usize) -> bool
 
 /// The searches for the decisions of the diagram, in text order, to be kept for later. It searches once for each.
 pub fn keep_searches(alloc: Global, diagram: &Diagram) -> Result<Vec<KeptSearch>, AllocError>
-    ensures decisions { IfOk result (λ kept.
-        map (λ k. k.decision) kept.items ≡ decisions_of diagram.now.nodes) }
+    ensures decisions { IfOk result (λ kept. KeepsAllSearches diagram.now.nodes kept.items) }
     ensures kept { IfOk result (λ kept. All (IsKeptSearch diagram.now.nodes) kept.items) }
 {
     let mut kept = Vec::new(alloc);

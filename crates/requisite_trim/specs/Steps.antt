@@ -1,8 +1,9 @@
 -- What the steps of trimming promise one another. Only private functions cite this file.
 use Rattle.std.specs.Prelude.{◌≡◌, ◌↔◌, ℕ, ◌<◌, List, length, slice_index}
 use Rattle.maid_model.specs.Views.{NodeView}
-use Rattle.maid_model.specs.Nodes.{parents_of}
+use Rattle.maid_model.specs.Nodes.{IsDecision, parents_of}
 use Rattle.maid_model.specs.Relevance.{IsRequisite}
+use Rattle.maid_model.specs.Trimming.{IsFirstToRemove, SeesRequisites}
 use Rattle.node_sets.specs.Sets.{IsIn}
 use Rattle.bayes_ball.specs.declared.marks.Marks.{Marks}
 
@@ -11,6 +12,14 @@ abbrev pub TellsRequisites : List NodeView → ℕ → Marks → Type 0
 TellsRequisites nodes d marks =
     (x : ℕ) → x < length nodes → IsIn marks.reached x ↔ IsRequisite nodes d x
 
+-- each parent of v is requisite, if v is a decision
+abbrev pub SeesRequisitesAt : List NodeView → ℕ → Type 0
+SeesRequisitesAt nodes v = IsDecision nodes v → SeesRequisites nodes v
+
+-- each parent of each decision is requisite
+abbrev pub AllSeeRequisites : List NodeView → Type 0
+AllSeeRequisites nodes = (d : ℕ) → SeesRequisitesAt nodes d
+
 -- x is the first parent of d that is not requisite
 pub record IsFirstUnneeded (nodes : List NodeView) (d x : ℕ) : Type 0 where
   pub place : ℕ
@@ -18,3 +27,11 @@ pub record IsFirstUnneeded (nodes : List NodeView) (d x : ℕ) : Type 0 where
   pub there : slice_index (parents_of nodes d) place ≡ x
   pub not_requisite : IsRequisite nodes d x → ⊥
   pub earlier : (k : ℕ) → k < place → IsRequisite nodes d (slice_index (parents_of nodes d) k)
+
+-- v is a decision, and x its first parent that is not requisite
+abbrev pub IsFirstUnneededAt : List NodeView → ℕ → ℕ → Type 0
+IsFirstUnneededAt nodes v x = IsDecision nodes v × IsFirstUnneeded nodes v x
+
+-- the arc is the first one that trimming removes
+abbrev pub IsNextArc : List NodeView → ℕ × ℕ → Type 0
+IsNextArc nodes arc = IsFirstToRemove nodes arc.0 arc.1
