@@ -1,6 +1,6 @@
 -- Finite sums and products in a ring, and what is added to a list of cells.
 use Rattle.std.specs.Prelude.{◌≡◌, ◌==◌, if◌then◌else◌, ℕ, zero, suc, ◌+◌, ◌*◌, ◌<◌, ◌≤◌, List, [], ◌∷◌, length, map, slice_index_or}
-use Rattle.cell_rings.specs.Rings.{Ring}
+use Rattle.cell_rings.specs.Rings.{Ring, mass_ring}
 use Rattle.cell_rings.specs.declared.pairs.Pair.{Pair}
 
 -- f 0 + f 1 + .. + f (n - 1)
@@ -35,6 +35,23 @@ ProductFits r cells before (p ∷ ps) = (before * r.size (cell_at r cells p) ≤
 abbrev pub run_sum : {C : Type 0} → Ring C → ℕ → ℕ → (ℕ → C) → ℕ → C
 run_sum r n at f p = ring_sum r n (λ i. if p == at + i then f i else r.nought)
 
+-- the factor times the i-th cell from a place on
+abbrev pub one_scaled : {C : Type 0} → Ring C → C → List C → ℕ → ℕ → C
+one_scaled r factor cells from = λ i. r.times factor (cell_at r cells (from + i))
+
+-- the most that is by the sizes of both
+abbrev pub one_sizes : {C : Type 0} → Ring C → C → List C → ℕ → ℕ → ℕ
+one_sizes r factor cells from = λ i. r.size factor * r.size (cell_at r cells (from + i))
+
+-- that times the i-th cell of another run, and the most it is by the sizes of all three
+abbrev pub dot_scaled : {C : Type 0} → Ring C → C → List C → ℕ → ℕ → ℕ → C
+dot_scaled r factor cells from beside = λ i.
+    r.times (r.times factor (cell_at r cells (from + i))) (cell_at r cells (beside + i))
+
+abbrev pub dot_sizes : {C : Type 0} → Ring C → C → List C → ℕ → ℕ → ℕ → ℕ
+dot_sizes r factor cells from beside = λ i.
+    r.size factor * r.size (cell_at r cells (from + i)) * r.size (cell_at r cells (beside + i))
+
 -- the i-th cells of both runs, each times its factor, added up; a factor is the cell that `of` makes of it
 abbrev pub two_scaled : {C F : Type 0} → Ring C → (F → C) → List C → Pair F → ℕ → C
 two_scaled r of cells pair = λ i.
@@ -47,11 +64,13 @@ two_sizes r size cells pair = λ i.
     size pair.first * r.size (cell_at r cells (pair.from + i))
     + size pair.second * r.size (cell_at r cells (pair.beside + i))
 
--- the same of two pairs of runs
+-- the i-th cells of the four runs of two pairs, each times its factor, added up
+
 abbrev pub four_scaled : {C F : Type 0} → Ring C → (F → C) → List C → Pair F → Pair F → ℕ → C
 four_scaled r of cells one other = λ i.
     r.plus (two_scaled r of cells one i) (two_scaled r of cells other i)
 
+-- the most that is by the sizes of the cells and of the factors
 abbrev pub four_sizes : {C F : Type 0} → Ring C → (F → ℕ) → List C → Pair F → Pair F → ℕ → ℕ
 four_sizes r size cells one other = λ i. two_sizes r size cells one i + two_sizes r size cells other i
 
@@ -77,3 +96,35 @@ pub record Adds {C : Type 0} (r : Ring C) (f : ℕ → C) (old new : List C) : T
 -- there is room to add cells of these sizes
 pub record HasRoom {C : Type 0} (r : Ring C) (cells : List C) (f : ℕ → ℕ) : Type 0 where
   pub each : (p : ℕ) → r.size (cell_at r cells p) + f p ≤ r.most
+
+-- there is room in n cells from `at` on for those of a run, each times the factor
+abbrev pub HasRoomForOne : {C : Type 0} → Ring C → C → List C → ℕ → ℕ → List C → ℕ → Type 0
+HasRoomForOne r factor out at n cells from =
+    HasRoom r out (run_sum mass_ring n at (one_sizes r factor cells from))
+
+-- these are added to them
+abbrev pub AddsOne : {C : Type 0} → Ring C → C → List C → List C → ℕ → ℕ → List C → ℕ → Type 0
+AddsOne r factor old new at n cells from =
+    Adds r (run_sum r n at (one_scaled r factor cells from)) old new
+
+-- there is room in n cells from `at` on for those of two runs, each times its factor, whose size is `size`
+abbrev pub HasRoomForTwo :
+    {C F : Type 0} → Ring C → (F → ℕ) → List C → ℕ → ℕ → List C → Pair F → Type 0
+HasRoomForTwo r size out at n cells pair =
+    HasRoom r out (run_sum mass_ring n at (two_sizes r size cells pair))
+
+-- these are added to them; a factor is the cell that `of` makes of it
+abbrev pub AddsTwo :
+    {C F : Type 0} → Ring C → (F → C) → List C → List C → ℕ → ℕ → List C → Pair F → Type 0
+AddsTwo r of old new at n cells pair = Adds r (run_sum r n at (two_scaled r of cells pair)) old new
+
+-- the same of two pairs of runs
+abbrev pub HasRoomForFour :
+    {C F : Type 0} → Ring C → (F → ℕ) → List C → ℕ → ℕ → List C → Pair F → Pair F → Type 0
+HasRoomForFour r size out at n cells one other =
+    HasRoom r out (run_sum mass_ring n at (four_sizes r size cells one other))
+
+abbrev pub AddsFour : {C F : Type 0} → Ring C → (F → C) → List C → List C → ℕ → ℕ → List C
+    → Pair F → Pair F → Type 0
+AddsFour r of old new at n cells one other =
+    Adds r (run_sum r n at (four_scaled r of cells one other)) old new

@@ -9,14 +9,21 @@ use Rattle.cell_rings.specs.declared.gains.Word.{Word}
 use Rattle.cell_rings.specs.declared.pairs.Pair.{Pair}
 use Rattle.cell_rings.specs.declared.small_gains.SmallGain.{SmallGain}
 
--- n cells from a place on are numbers from 0 and below 2^32
-abbrev pub AreHalves : List SmallGain → ℕ → ℕ → Type 0
-AreHalves cells from n =
-    (i : ℕ) → i < n → cast_unsigned w64 (cell_at small_gain_kind cells (from + i)).0 < 2 ^ 32
+-- half a word: a number from 0 and below 2^32
+abbrev pub FitsHalf : SmallGain → Type 0
+FitsHalf a = cast_unsigned w64 a.0 < 2 ^ 32
 
--- the absolute values of n cells from a place on are below 2^63
+-- n cells from a place on are such
+abbrev pub AreHalves : List SmallGain → ℕ → ℕ → Type 0
+AreHalves cells from n = (i : ℕ) → i < n → FitsHalf (cell_at small_gain_kind cells (from + i))
+
+-- one word: a number whose absolute value is below 2^63
+abbrev pub FitsWord : Gain → Type 0
+FitsWord a = nat_abs a.0 < 2 ^ 63
+
+-- n cells from a place on are such
 abbrev pub AreWords : List Gain → ℕ → ℕ → Type 0
-AreWords cells from n = (i : ℕ) → i < n → nat_abs (cell_at gain_kind cells (from + i)).0 < 2 ^ 63
+AreWords cells from n = (i : ℕ) → i < n → FitsWord (cell_at gain_kind cells (from + i))
 
 -- those of both runs of n cells are
 abbrev pub AreWordPair : {F : Type 0} → List Gain → Pair F → ℕ → Type 0

@@ -1,7 +1,7 @@
 //! What a cell is.
 
 ghost use Rattle.std.specs.Prelude.{◌≡◌, ℕ, ℤ, ◌+◌, ◌*◌, ◌<◌, ◌≤◌, max, nat_abs, length, IsTrue};
-ghost use Rattle.cell_rings.specs.Sums.{ring_sum, cell_at, run_sum, two_scaled, two_sizes, four_scaled, four_sizes, AreWithin, IsNarrowRun, IsNarrowPair, Adds, HasRoom};
+ghost use Rattle.cell_rings.specs.Sums.{ring_sum, one_sizes, dot_scaled, dot_sizes, AreWithin, IsNarrowRun, IsNarrowPair, AddsFour, AddsOne, AddsTwo, HasRoomForFour, HasRoomForOne, HasRoomForTwo};
 ghost use Rattle.cell_rings.specs.Rings.{Ring, IsRing, IsSize, mass_ring};
 
 use crate::pairs::Pair;
@@ -52,11 +52,8 @@ pub trait Cell: Copy {
     fn add_scaled(out: &mut [Self], at: usize, n: usize, factor: Self, cells: &[Self], from: usize)
         requires out { at + n ≤ length out.old }
         requires cells { from + n ≤ length cells.now }
-        requires room { HasRoom ring out.old (run_sum mass_ring n at (λ i.
-            ring.size factor * ring.size (cell_at ring cells.now (from + i)))) }
-        ensures { Adds ring
-            (run_sum ring n at (λ i. ring.times factor (cell_at ring cells.now (from + i)))) out.old
-            out.new }
+        requires room { HasRoomForOne ring factor out.old at n cells.now from }
+        ensures { AddsOne ring factor out.old out.new at n cells.now from }
     {
         for i in 0..n {
             out[at + i] = out[at + i].add(factor.mul(cells[from + i]));
@@ -67,10 +64,8 @@ pub trait Cell: Copy {
     fn add_two_scaled(out: &mut [Self], at: usize, n: usize, pair: &Pair<Self>, cells: &[Self])
         requires out { at + n ≤ length out.old }
         requires cells { AreWithin cells.now pair.now n }
-        requires room { HasRoom ring out.old
-            (run_sum mass_ring n at (two_sizes ring ring.size cells.now pair.now)) }
-        ensures { Adds ring
-            (run_sum ring n at (two_scaled ring (λ f. f) cells.now pair.now)) out.old out.new }
+        requires room { HasRoomForTwo ring ring.size out.old at n cells.now pair.now }
+        ensures { AddsTwo ring (λ f. f) out.old out.new at n cells.now pair.now }
     {
         for i in 0..n {
             let both = pair
@@ -97,10 +92,8 @@ pub trait Cell: Copy {
         requires out { at + n ≤ length out.old }
         requires cells { AreWithin cells.now pair.now n }
         requires narrow { IsNarrowPair ring bits narrow cells.now pair.now n }
-        requires room { HasRoom ring out.old
-            (run_sum mass_ring n at (two_sizes ring ring.size cells.now pair.now)) }
-        ensures { Adds ring
-            (run_sum ring n at (two_scaled ring (λ f. f) cells.now pair.now)) out.old out.new }
+        requires room { HasRoomForTwo ring ring.size out.old at n cells.now pair.now }
+        ensures { AddsTwo ring (λ f. f) out.old out.new at n cells.now pair.now }
     {
         Self::add_two_scaled(out, at, n, pair, cells)
     }
@@ -118,10 +111,8 @@ pub trait Cell: Copy {
         requires cells { AreWithin cells.now one.now n × AreWithin cells.now other.now n }
         requires one { IsNarrowPair ring bits narrow cells.now one.now n }
         requires other { IsNarrowPair ring bits narrow cells.now other.now n }
-        requires room { HasRoom ring out.old
-            (run_sum mass_ring n at (four_sizes ring ring.size cells.now one.now other.now)) }
-        ensures { Adds ring (run_sum ring n at (four_scaled ring (λ f. f) cells.now one.now other.now))
-            out.old out.new }
+        requires room { HasRoomForFour ring ring.size out.old at n cells.now one.now other.now }
+        ensures { AddsFour ring (λ f. f) out.old out.new at n cells.now one.now other.now }
     {
         Self::add_two_narrow(out, at, n, one, cells);
         Self::add_two_narrow(out, at, n, other, cells)
@@ -130,14 +121,9 @@ pub trait Cell: Copy {
     /// The sum of the products of the factor and the cells of two runs of n cells, from `from` on and from `beside` on.
     fn dot(n: usize, factor: Self, cells: &[Self], from: usize, beside: usize) -> Self
         requires cells { (from + n ≤ length cells.now) × (beside + n ≤ length cells.now) }
-        requires first { (i : ℕ) → i < n
-            → ring.size factor * ring.size (cell_at ring cells.now (from + i)) ≤ ring.most }
-        requires room { ring_sum mass_ring n (λ i.
-            ring.size factor * ring.size (cell_at ring cells.now (from + i))
-            * ring.size (cell_at ring cells.now (beside + i))) ≤ ring.most }
-        ensures { result ≡ ring_sum ring n (λ i.
-            ring.times (ring.times factor (cell_at ring cells.now (from + i)))
-            (cell_at ring cells.now (beside + i))) }
+        requires first { (i : ℕ) → i < n → one_sizes ring factor cells.now from i ≤ ring.most }
+        requires room { ring_sum mass_ring n (dot_sizes ring factor cells.now from beside) ≤ ring.most }
+        ensures { result ≡ ring_sum ring n (dot_scaled ring factor cells.now from beside) }
     {
         let mut sum = Self::zero();
         for i in 0..n {

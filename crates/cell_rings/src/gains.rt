@@ -1,10 +1,9 @@
 //! Whole numbers with a sign.
 
-ghost use Rattle.std.specs.Prelude.{◌≡◌, ◌+◌, ◌-◌, ◌*◌, ◌%◌, ◌^◌, ◌<◌, ◌≤◌, ◌*ℤ◌, ◌≤ℤ◌, ◌<ℤ◌, ℤ, pos, nat_abs, length, IsTrue};
+ghost use Rattle.std.specs.Prelude.{◌≡◌, ◌↔◌, ◌+◌, ◌-◌, ◌*◌, ◌%◌, ◌^◌, ◌<◌, ◌≤◌, ◌*ℤ◌, ◌≤ℤ◌, ◌<ℤ◌, ℤ, pos, nat_abs, length, IsTrue};
 ghost use Rattle.std.specs.Int.{cast_unsigned};
-ghost use Rattle.cell_rings.specs.Rings.{mass_ring};
-ghost use Rattle.cell_rings.specs.Sums.{run_sum, two_scaled, two_sizes, four_scaled, four_sizes, AreWithin, Adds, HasRoom};
-ghost use Rattle.cell_rings.specs.Words.{whole, of_word, word_size, word_pair, AreWords, AreWordPair};
+ghost use Rattle.cell_rings.specs.Sums.{two_scaled, two_sizes, AddsFour, AddsTwo, AreWithin, HasRoomForFour, HasRoomForTwo};
+ghost use Rattle.cell_rings.specs.Words.{whole, of_word, word_size, word_pair, AreWords, AreWordPair, FitsWord};
 ghost use Rattle.cell_rings.specs.KindLaws.{most_has_room, gain_laws, gain_sizes, at_most_itself, value_at_most};
 ghost use Rattle.cell_rings.specs.Kinds.{gain_kind, gain_of};
 
@@ -74,8 +73,11 @@ impl Cell for Gain {
         }
     }
 
-    fn are_narrow(cells: &[Gain], from: usize, n: usize) -> bool {
-        are_halves(cells, from, n)
+    fn are_narrow(cells: &[Gain], from: usize, n: usize) -> bool
+        requires { from + n ≤ length cells.now }
+        ensures { IsTrue result ↔ AreWords cells.now from n }
+    {
+        are_words(cells, from, n)
     }
 
     fn add_two_narrow(out: &mut [Gain], at: usize, n: usize, pair: &Pair<Gain>, cells: &[Gain]) {
@@ -111,7 +113,7 @@ impl Cell for Gain {
 
 /// Whether the number is from 0 and below 2^63.
 fn is_short(a: Gain) -> bool
-    ensures { IsTrue result → (pos 0 ≤ℤ a.0) × (a.0 <ℤ pos (2 ^ 63)) }
+    ensures { IsTrue result ↔ ((pos 0 ≤ℤ a.0) × (a.0 <ℤ pos (2 ^ 63))) }
 {
     a.0 >= 0 && a.0 < 0x8000_0000_0000_0000
 }
@@ -120,12 +122,8 @@ fn is_short(a: Gain) -> bool
 fn add_two_long(out: &mut [Gain], at: usize, n: usize, pair: Pair<Gain>, cells: &[Gain])
     requires out { at + n ≤ length out.old }
     requires cells { AreWithin cells.now pair n }
-    requires room { HasRoom gain_kind out.old
-        (run_sum mass_ring n at (two_sizes gain_kind gain_kind.size cells.now pair)) }
-    ensures { Adds gain_kind
-        (run_sum gain_kind n at
-        (two_scaled gain_kind (λ f. f) cells.now pair))
-        out.old out.new }
+    requires room { HasRoomForTwo gain_kind gain_kind.size out.old at n cells.now pair }
+    ensures { AddsTwo gain_kind (λ f. f) out.old out.new at n cells.now pair }
 {
     for i in 0..n {
         let both = pair
@@ -141,12 +139,8 @@ fn add_two_long(out: &mut [Gain], at: usize, n: usize, pair: Pair<Gain>, cells: 
 fn add_two_short(out: &mut [Gain], at: usize, n: usize, pair: Pair<u64>, cells: &[Gain])
     requires out { at + n ≤ length out.old }
     requires cells { AreWithin cells.now pair n }
-    requires room { HasRoom gain_kind out.old (run_sum mass_ring n at
-        (two_sizes gain_kind (λ f. f) cells.now pair)) }
-    ensures { Adds gain_kind
-        (run_sum gain_kind n at
-        (two_scaled gain_kind (λ f. gain_of (pos f)) cells.now pair))
-        out.old out.new }
+    requires room { HasRoomForTwo gain_kind (λ f. f) out.old at n cells.now pair }
+    ensures { AddsTwo gain_kind (λ f. gain_of (pos f)) out.old out.new at n cells.now pair }
 {
     for i in 0..n {
         let both = short_product(pair.first, cells[pair.from + i]).add(short_product(
@@ -163,10 +157,8 @@ fn add_two_words(out: &mut [Gain], at: usize, n: usize, pair: Pair<Word>, cells:
     requires out { at + n ≤ length out.old }
     requires cells { AreWithin cells.now pair n }
     requires narrow { AreWordPair cells.now pair n }
-    requires room { HasRoom gain_kind out.old
-        (run_sum mass_ring n at (two_sizes gain_kind word_size cells.now pair)) }
-    ensures { Adds gain_kind (run_sum gain_kind n at (two_scaled gain_kind of_word cells.now pair))
-        out.old out.new }
+    requires room { HasRoomForTwo gain_kind word_size out.old at n cells.now pair }
+    ensures { AddsTwo gain_kind of_word out.old out.new at n cells.now pair }
 {
     for i in 0..n {
         out[at + i] = out[at + i].add(word_sum(pair, cells, i));
@@ -187,11 +179,8 @@ fn add_four_words(
     requires cells { AreWithin cells.now one n × AreWithin cells.now other n }
     requires one { AreWordPair cells.now one n }
     requires other { AreWordPair cells.now other n }
-    requires room { HasRoom gain_kind out.old
-        (run_sum mass_ring n at (four_sizes gain_kind word_size cells.now one other)) }
-    ensures { Adds gain_kind
-        (run_sum gain_kind n at (four_scaled gain_kind of_word cells.now one other))
-        out.old out.new }
+    requires room { HasRoomForFour gain_kind word_size out.old at n cells.now one other }
+    ensures { AddsFour gain_kind of_word out.old out.new at n cells.now one other }
 {
     for i in 0..n {
         let four = word_sum(one, cells, i).add(word_sum(other, cells, i));
@@ -206,12 +195,8 @@ fn add_two_split(out: &mut [Gain], at: usize, n: usize, pair: Pair<Split>, cells
     requires out { at + n ≤ length out.old }
     requires cells { AreWithin cells.now pair n }
     requires narrow { AreWordPair cells.now pair n }
-    requires room { HasRoom gain_kind out.old (run_sum mass_ring n at
-        (two_sizes gain_kind (λ f. nat_abs (whole f)) cells.now pair)) }
-    ensures { Adds gain_kind
-        (run_sum gain_kind n at
-        (two_scaled gain_kind (λ f. gain_of (whole f)) cells.now pair))
-        out.old out.new }
+    requires room { HasRoomForTwo gain_kind (λ f. nat_abs (whole f)) out.old at n cells.now pair }
+    ensures { AddsTwo gain_kind (λ f. gain_of (whole f)) out.old out.new at n cells.now pair }
 {
     for i in 0..n {
         let both = split_product(pair.first, cells[pair.from + i]).add(split_product(
@@ -240,15 +225,15 @@ fn short_times(a: u64, b: u128) -> u128
 }
 
 /// Whether the absolute values of n cells from one on are below 2^63. It looks at the bits of all of them together.
-fn are_halves(cells: &[Gain], from: usize, n: usize) -> bool
+fn are_words(cells: &[Gain], from: usize, n: usize) -> bool
     requires { from + n ≤ length cells.now }
-    ensures { IsTrue result → AreWords cells.now from n }
+    ensures { IsTrue result ↔ AreWords cells.now from n }
 {
     let mut bits = 0u128;
     for i in 0..n {
         bits |= bits_of(cells[from + i]);
     }
-    is_half(bits)
+    fit_word(bits)
 }
 
 /// The bits of the number's absolute value.
@@ -259,17 +244,17 @@ fn bits_of(a: Gain) -> u128
 }
 
 /// Whether the bits are those of a number below 2^63.
-fn is_half(bits: u128) -> bool
-    ensures { IsTrue result → bits < 2 ^ 63 }
+fn fit_word(bits: u128) -> bool
+    ensures { IsTrue result ↔ bits < 2 ^ 63 }
 {
     bits < 0x8000_0000_0000_0000
 }
 
 /// Whether the number's absolute value is below 2^63.
-fn is_narrow(a: Gain) -> bool
-    ensures { IsTrue result → nat_abs a.0 < 2 ^ 63 }
+fn is_word(a: Gain) -> bool
+    ensures { IsTrue result ↔ FitsWord a }
 {
-    is_half(bits_of(a))
+    fit_word(bits_of(a))
 }
 
 /// A number whose absolute value is below 2^63, in one word.
@@ -280,7 +265,7 @@ struct Word {
 
 /// The number in one word.
 fn in_word(a: Gain) -> Word
-    requires { nat_abs a.0 < 2 ^ 63 }
+    requires { FitsWord a }
     ensures { result.value ≡ a.0 }
 {
     Word { value: a.0 as i64 }
@@ -288,15 +273,14 @@ fn in_word(a: Gain) -> Word
 
 /// Whether the absolute values of both factors are below 2^63.
 fn has_words(pair: Pair<Gain>) -> bool
-    ensures { IsTrue result
-        → (nat_abs pair.first.0 < 2 ^ 63) × (nat_abs pair.second.0 < 2 ^ 63) }
+    ensures { IsTrue result ↔ (FitsWord pair.first × FitsWord pair.second) }
 {
-    is_narrow(pair.first) && is_narrow(pair.second)
+    is_word(pair.first) && is_word(pair.second)
 }
 
 /// The runs with their factors in one word each.
 fn in_word_pair(pair: Pair<Gain>) -> Pair<Word>
-    requires { (nat_abs pair.first.0 < 2 ^ 63) × (nat_abs pair.second.0 < 2 ^ 63) }
+    requires { FitsWord pair.first × FitsWord pair.second }
     ensures { result ≡ word_pair pair }
 {
     Pair {
@@ -321,7 +305,7 @@ fn word_sum(pair: Pair<Word>, cells: &[Gain], i: usize) -> Gain
 
 /// The product of a number in one word and one whose absolute value is below 2^63.
 fn word_product(a: Word, b: Gain) -> Gain
-    requires half { nat_abs b.0 < 2 ^ 63 }
+    requires word { FitsWord b }
     requires room { nat_abs a.value * nat_abs b.0 ≤ 2 ^ 127 - 1 }
     ensures { result ≡ gain_of (a.value *ℤ b.0) }
 {
@@ -350,7 +334,7 @@ fn in_words(a: Gain) -> Split
 
 /// The product of a number and one whose absolute value is below 2^63. What passes 128 bits on the way falls away.
 fn split_product(a: Split, b: Gain) -> Gain
-    requires half { nat_abs b.0 < 2 ^ 63 }
+    requires word { FitsWord b }
     requires room { nat_abs (whole a) * nat_abs b.0 ≤ 2 ^ 127 - 1 }
     ensures { result ≡ gain_of (whole a *ℤ b.0) }
 {

@@ -1,8 +1,7 @@
 //! Whole numbers from 0.
 
 ghost use Rattle.std.specs.Prelude.{◌≡◌, ◌+◌, ◌-◌, ◌*◌, ◌^◌, ◌<◌, ◌≤◌, length};
-ghost use Rattle.cell_rings.specs.Rings.{mass_ring};
-ghost use Rattle.cell_rings.specs.Sums.{run_sum, two_scaled, two_sizes, AreWithin, Adds, HasRoom};
+ghost use Rattle.cell_rings.specs.Sums.{AddsTwo, AreWithin, HasRoomForTwo};
 ghost use Rattle.cell_rings.specs.KindLaws.{most_has_room, mass_laws, mass_sizes, at_most_itself, one_at_most};
 ghost use Rattle.cell_rings.specs.Kinds.{mass_kind, mass_of};
 
@@ -77,12 +76,8 @@ impl Cell for Mass {
 fn add_two_long(out: &mut [Mass], at: usize, n: usize, pair: Pair<Mass>, cells: &[Mass])
     requires out { at + n ≤ length out.old }
     requires cells { AreWithin cells.now pair n }
-    requires room { HasRoom mass_kind out.old
-        (run_sum mass_ring n at (two_sizes mass_kind mass_kind.size cells.now pair)) }
-    ensures { Adds mass_kind
-        (run_sum mass_kind n at
-        (two_scaled mass_kind (λ f. f) cells.now pair))
-        out.old out.new }
+    requires room { HasRoomForTwo mass_kind mass_kind.size out.old at n cells.now pair }
+    ensures { AddsTwo mass_kind (λ f. f) out.old out.new at n cells.now pair }
 {
     for i in 0..n {
         let both = pair
@@ -98,12 +93,8 @@ fn add_two_long(out: &mut [Mass], at: usize, n: usize, pair: Pair<Mass>, cells: 
 fn add_two_short(out: &mut [Mass], at: usize, n: usize, pair: Pair<u64>, cells: &[Mass])
     requires out { at + n ≤ length out.old }
     requires cells { AreWithin cells.now pair n }
-    requires room { HasRoom mass_kind out.old (run_sum mass_ring n at
-        (two_sizes mass_kind (λ f. f) cells.now pair)) }
-    ensures { Adds mass_kind
-        (run_sum mass_kind n at
-        (two_scaled mass_kind mass_of cells.now pair))
-        out.old out.new }
+    requires room { HasRoomForTwo mass_kind (λ f. f) out.old at n cells.now pair }
+    ensures { AddsTwo mass_kind mass_of out.old out.new at n cells.now pair }
 {
     for i in 0..n {
         let both = short_product(pair.first, cells[pair.from + i]).add(short_product(

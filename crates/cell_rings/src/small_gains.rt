@@ -1,10 +1,9 @@
 //! Whole numbers with a sign, in 64 bits.
 
-ghost use Rattle.std.specs.Prelude.{◌≡◌, ◌+◌, ◌-◌, ◌*◌, ◌^◌, ◌<◌, ◌≤◌, pos, nat_abs, length, IsTrue};
+ghost use Rattle.std.specs.Prelude.{◌≡◌, ◌↔◌, ◌+◌, ◌-◌, ◌*◌, ◌^◌, ◌<◌, ◌≤◌, pos, nat_abs, length, IsTrue};
 ghost use Rattle.std.specs.Int.{w64, cast_unsigned};
-ghost use Rattle.cell_rings.specs.Rings.{mass_ring};
-ghost use Rattle.cell_rings.specs.Sums.{run_sum, two_scaled, two_sizes, AreWithin, Adds, HasRoom};
-ghost use Rattle.cell_rings.specs.Words.{AreHalves};
+ghost use Rattle.cell_rings.specs.Sums.{AddsTwo, AreWithin, HasRoomForTwo};
+ghost use Rattle.cell_rings.specs.Words.{AreHalves, FitsHalf};
 ghost use Rattle.cell_rings.specs.KindLaws.{small_has_room, small_gain_laws, small_gain_sizes, at_most_itself, value_at_most};
 ghost use Rattle.cell_rings.specs.Kinds.{small_gain_kind, small_gain_of};
 
@@ -60,7 +59,10 @@ impl Cell for SmallGain {
         SmallGain(self.0 * other.0)
     }
 
-    fn are_narrow(cells: &[SmallGain], from: usize, n: usize) -> bool {
+    fn are_narrow(cells: &[SmallGain], from: usize, n: usize) -> bool
+        requires { from + n ≤ length cells.now }
+        ensures { IsTrue result ↔ AreHalves cells.now from n }
+    {
         are_halves(cells, from, n)
     }
 
@@ -89,12 +91,8 @@ fn add_two_long(
 )
     requires out { at + n ≤ length out.old }
     requires cells { AreWithin cells.now pair n }
-    requires room { HasRoom small_gain_kind out.old
-        (run_sum mass_ring n at (two_sizes small_gain_kind small_gain_kind.size cells.now pair)) }
-    ensures { Adds small_gain_kind
-        (run_sum small_gain_kind n at
-        (two_scaled small_gain_kind (λ f. f) cells.now pair))
-        out.old out.new }
+    requires room { HasRoomForTwo small_gain_kind small_gain_kind.size out.old at n cells.now pair }
+    ensures { AddsTwo small_gain_kind (λ f. f) out.old out.new at n cells.now pair }
 {
     for i in 0..n {
         let both = pair
@@ -116,16 +114,12 @@ fn add_two_halves(
 )
     requires out { at + n ≤ length out.old }
     requires cells { AreWithin cells.now pair n }
-    requires first { cast_unsigned w64 pair.first.0 < 2 ^ 32 }
-    requires second { cast_unsigned w64 pair.second.0 < 2 ^ 32 }
+    requires first { FitsHalf pair.first }
+    requires second { FitsHalf pair.second }
     requires from { AreHalves cells.now pair.from n }
     requires beside { AreHalves cells.now pair.beside n }
-    requires room { HasRoom small_gain_kind out.old
-        (run_sum mass_ring n at (two_sizes small_gain_kind small_gain_kind.size cells.now pair)) }
-    ensures { Adds small_gain_kind
-        (run_sum small_gain_kind n at
-        (two_scaled small_gain_kind (λ f. f) cells.now pair))
-        out.old out.new }
+    requires room { HasRoomForTwo small_gain_kind small_gain_kind.size out.old at n cells.now pair }
+    ensures { AddsTwo small_gain_kind (λ f. f) out.old out.new at n cells.now pair }
 {
     for i in 0..n {
         let both = half_product(pair.first, cells[pair.from + i]).add(half_product(
@@ -145,7 +139,7 @@ fn bits_of(a: SmallGain) -> u64
 
 /// Whether the bits are those of a number from 0 and below 2^32.
 fn is_half(bits: u64) -> bool
-    ensures { IsTrue result → bits < 2 ^ 32 }
+    ensures { IsTrue result ↔ bits < 2 ^ 32 }
 {
     bits < 0x1_0000_0000
 }
@@ -153,7 +147,7 @@ fn is_half(bits: u64) -> bool
 /// Whether n cells from one on are from 0 and below 2^32. It looks at the bits of all of them together.
 fn are_halves(cells: &[SmallGain], from: usize, n: usize) -> bool
     requires { from + n ≤ length cells.now }
-    ensures { IsTrue result → AreHalves cells.now from n }
+    ensures { IsTrue result ↔ AreHalves cells.now from n }
 {
     let mut bits = 0u64;
     for i in 0..n {
@@ -164,8 +158,7 @@ fn are_halves(cells: &[SmallGain], from: usize, n: usize) -> bool
 
 /// The product of two numbers from 0 and below 2^32.
 fn half_product(a: SmallGain, b: SmallGain) -> SmallGain
-    requires { (cast_unsigned w64 a.0 < 2 ^ 32) × (cast_unsigned w64 b.0 < 2 ^ 32)
-        × (nat_abs a.0 * nat_abs b.0 ≤ 2 ^ 63 - 1) }
+    requires { FitsHalf a × FitsHalf b × (nat_abs a.0 * nat_abs b.0 ≤ 2 ^ 63 - 1) }
     ensures { result ≡ small_gain_kind.times a b }
 {
     SmallGain(half_times(bits_of(a), bits_of(b)).cast_signed())

@@ -11,4 +11,3 @@ pub mod Going
 pub mod Whole
 pub mod Scoped
 pub mod Within
-pub mod Samples

@@ -3,4 +3,3 @@ pub mod Steps
 pub mod Limits
 pub mod Laws
 pub mod Places
-pub mod Example

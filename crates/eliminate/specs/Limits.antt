@@ -1,16 +1,22 @@
 -- Limits on cells and work, as private contracts see them. Only these cite this file.
 use Rattle.std.specs.Prelude.{◌≡◌, ℕ, ◌+◌, ◌-◌, ◌*◌, ◌≤◌, Bool, List, map, length, Option, SomeIff, ◌<◌, [], take, sum_by, MatchOption}
+use Rattle.node_sets.specs.declared.sets.NodeSet.{NodeSet}
 use Rattle.node_sets.specs.Sets.{holds}
 use Rattle.maid_model.specs.Views.{NodeView, RuleView}
+use Rattle.cell_rings.specs.declared.cells.Cell.{Ghosts}
 use Rattle.cell_rings.specs.Rings.{Ring}
 use Rattle.ring_sums.specs.Tables.{Table, joined_without, scopes_of}
-use Rattle.plan_sums.specs.Plans.{Cells}
+use Rattle.plan_sums.specs.Plans.{Cells, mass_cells}
 use Rattle.factor_core.specs.declared.slots.Slot.{Slot}
+use Rattle.factor_core.specs.Operations.{first_table}
 use Rattle.factor_core.specs.Slots.{WorkspaceView}
 use Rattle.size_precheck.specs.Counts.{counted_cells}
 use Rattle.size_precheck.specs.Greedy.{holding, joined_set}
 use Rattle.size_precheck.specs.Sizes.{steps_work}
 use Rattle.eliminate.specs.declared.counts.Limits.{Limits}
+use Rattle.eliminate.specs.declared.places.Places.{Places}
+use Rattle.factor_core.specs.Operations.{cells_of}
+use Rattle.eliminate.specs.Places.{slots_at}
 use Rattle.eliminate.specs.Steps.{Lists, Between, first_cells}
 
 -- so many cells and so much work are taken from what is left, where there is as much
@@ -21,6 +27,14 @@ Spends left cells work result = SomeIff result ((cells ≤ left.cells) × (work 
 -- the scopes of slots
 abbrev pub scopes_at : List Slot → List (ℕ → Bool)
 scopes_at slots = map (λ s. holds s.scope) slots
+
+-- those of the live ones
+abbrev pub live_scopes : Places → List Slot → List (ℕ → Bool)
+live_scopes places slots = scopes_at (slots_at places slots)
+
+-- the nodes of the node's first table, which are the same for every kind of cell and for all rules
+abbrev pub IsFirstScope : List NodeView → ℕ → NodeSet → Type 0
+IsFirstScope nodes v scope = (u : ℕ) → holds scope u ≡ (first_table mass_cells nodes [] v).holds u
 
 -- the cells that a step makes, and its work
 abbrev pub step_cells : List NodeView → ℕ → List (ℕ → Bool) → ℕ
@@ -44,11 +58,11 @@ pub record ListsWithin {C : Type 0}
 
 -- all first tables of these nodes stand, or their cells pass the limit
 abbrev pub ListsOrPasses :
-    {C : Type 0} → Cells C → List NodeView → List RuleView → WorkspaceView C → WorkspaceView C
+    {C : Type 0} → Ghosts C → List NodeView → List RuleView → WorkspaceView C → WorkspaceView C
     → List Slot → List ℕ → Limits → Option Limits → Type 0
-ListsOrPasses c nodes p before now slots vs limits result =
-    MatchOption result (limits.cells < sum_by (first_cells c nodes p) vs)
-    (ListsWithin c nodes p before now (take (length vs) slots) [] vs limits)
+ListsOrPasses kind nodes p before now slots vs limits result =
+    MatchOption result (limits.cells < sum_by (first_cells (cells_of kind) nodes p) vs)
+    (ListsWithin (cells_of kind) nodes p before now (take (length vs) slots) [] vs limits)
 
 -- between steps: so was the work of those so far
 pub record BetweenWithin {C : Type 0}

@@ -45,3 +45,8 @@ pub record IsBoard
     (at : List NodeSet) (slots : List Slot) (live : NodeSet) (made : ℕ) : Type 0 where
   pub noted : Noted at (take made slots)
   pub within : (k : ℕ) → IsIn live k → k < made
+
+-- the set has the live places of the slots that hold the node
+abbrev pub ArePlacesOf : List NodeSet → Places → ℕ → NodeSet → Type 0
+ArePlacesOf at places v set = (k : ℕ) (none : NodeSet)
+    → IsIn set k ↔ (IsIn places.live k × IsIn (slice_index_or at v none) k)

@@ -1,16 +1,17 @@
 -- What the run of a plan asks and gives.
-use Rattle.std.specs.Prelude.{◌≡◌, ◌↔◌, ◌⊎◌, ℕ, ◌+◌, ◌*◌, ◌<◌, max, List, map, sum_by, length, Contains, Option, Some, None}
+use Rattle.std.specs.Prelude.{◌≡◌, ◌↔◌, ◌⊎◌, ℕ, ◌+◌, ◌*◌, ◌<◌, max, List, map, sum_by, length, Contains, Option, Some, None, IfSome}
 use Rattle.finite_sums.specs.Sums.{World, InRange, nat_product_over}
 use Rattle.node_sets.specs.Sets.{holds, IsIn}
 use Rattle.maid_model.specs.Gains.{greatest_abs}
 use Rattle.maid_model.specs.Nodes.{node_at, states_of}
 use Rattle.maid_model.specs.Tables.{weight_total}
-use Rattle.maid_model.specs.Views.{NodeView, RuleView}
+use Rattle.maid_model.specs.Views.{NodeView, DiagramView, RuleView}
+use Rattle.cell_rings.specs.declared.cells.Cell.{Ghosts}
 use Rattle.cell_rings.specs.Rings.{Ring}
 use Rattle.ring_sums.specs.Tables.{Table, eliminate, joined, product_of, scopes_of}
 use Rattle.plan_sums.specs.Plans.{Cells, PlanView, ruled_nodes, plan_sum}
 use Rattle.factor_core.specs.declared.slots.Slot.{Slot}
-use Rattle.factor_core.specs.Operations.{first_table}
+use Rattle.factor_core.specs.Operations.{cells_of, first_table}
 use Rattle.factor_core.specs.Slots.{WorkspaceView, IsLive, table_of, Appends, StaysLive}
 use Rattle.size_precheck.specs.Counts.{counted_cells}
 use Rattle.size_precheck.specs.Sizes.{SizedPlan, made_cells, steps_work}
@@ -100,3 +101,32 @@ abbrev pub IsTooMuch : {C : Type 0} → Cells C → List NodeView → List RuleV
     → Limits → Type 0
 IsTooMuch c nodes p vs steps limits = (limits.cells < sum_cells c nodes p vs steps)
     ⊎ (limits.work < sum_work c nodes p vs steps)
+
+-- ---- the same in a diagram, of cells of a kind
+-- the slot is that of the plan's sum
+abbrev pub SumsPlanIn : {C : Type 0} → Ghosts C → DiagramView → List RuleView → SizedPlan
+    → WorkspaceView C → WorkspaceView C → Slot → Type 0
+SumsPlanIn kind d p made before after slot =
+    SumsPlan (cells_of kind) d.nodes p made before after slot
+
+-- each of the steps finds a table that holds its node
+abbrev pub FindTablesIn :
+    {C : Type 0} → Ghosts C → DiagramView → List RuleView → List ℕ → List ℕ → Type 0
+FindTablesIn kind d p vs steps = FindTables (cells_of kind) d.nodes p vs steps
+
+-- the sums of all steps fit
+abbrev pub SumsFitIn :
+    {C : Type 0} → Ghosts C → DiagramView → List RuleView → List ℕ → List ℕ → Type 0
+SumsFitIn kind d p vs steps = SumsFit (cells_of kind) d.nodes p vs steps
+
+-- the slot, where there is one, is that of the product of what the steps leave
+abbrev pub SumsIfSome : {C : Type 0} → Ghosts C → DiagramView → List RuleView → List ℕ → List ℕ
+    → WorkspaceView C → Option Slot → Type 0
+SumsIfSome kind d p vs steps after result =
+    IfSome result (SumsTables (cells_of kind) d.nodes p vs steps after)
+
+-- there is none exactly where the cells or the work pass their limit
+abbrev pub NoneIffTooMuch : {C : Type 0} → Ghosts C → DiagramView → List RuleView → List ℕ → List ℕ
+    → Limits → Option Slot → Type 0
+NoneIffTooMuch kind d p vs steps limits result =
+    (result ≡ None) ↔ IsTooMuch (cells_of kind) d.nodes p vs steps limits

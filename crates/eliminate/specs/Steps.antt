@@ -1,9 +1,10 @@
 -- What the steps of a run promise one another. Only private contracts cite this file.
-use Rattle.std.specs.Prelude.{◌≡◌, ℕ, ◌+◌, ◌<◌, ◌≤◌, not, List, [], ◌∷◌, ◌++◌, map, filter, length, All, sum_by, option_to_list, ◌⊎◌, Contains, Some, take}
+use Rattle.std.specs.Prelude.{◌≡◌, ℕ, ◌+◌, ◌<◌, ◌≤◌, not, List, [], ◌∷◌, ◌++◌, map, filter, length, All, sum_by, option_to_list, Some, take}
 use Rattle.std.specs.List.{AllZip}
 use Rattle.node_sets.specs.Sets.{holds}
 use Rattle.maid_model.specs.Nodes.{states_of}
 use Rattle.maid_model.specs.Views.{NodeView, RuleView}
+use Rattle.cell_rings.specs.declared.cells.Cell.{Ghosts}
 use Rattle.cell_rings.specs.Rings.{Ring}
 use Rattle.ring_sums.specs.Groups.{JoinFits, StepsFit, StepsHold}
 use Rattle.ring_sums.specs.Tables.{Table, IsSame, sum_out, eliminate, scopes_of}
@@ -11,7 +12,10 @@ use Rattle.plan_sums.specs.Plans.{Cells, PlanView, ruled_nodes}
 use Rattle.factor_core.specs.declared.slots.Slot.{Slot}
 use Rattle.factor_core.specs.Operations.{first_table}
 use Rattle.factor_core.specs.Slots.{WorkspaceView, cells_over, IsLive, tables_of, Appends, AppendsTable, StaysLive}
-use Rattle.size_precheck.specs.Sizes.{made_cells, SizedPlan}
+use Rattle.size_precheck.specs.Sizes.{made_cells, IsMember, SizedPlan}
+use Rattle.eliminate.specs.declared.places.Places.{Places}
+use Rattle.factor_core.specs.Operations.{cells_of}
+use Rattle.eliminate.specs.Places.{slots_at}
 
 -- the slots that hold the node, and the others
 abbrev pub slots_with : ℕ → List Slot → List Slot
@@ -29,16 +33,23 @@ pub record PutsTable {C : Type 0}
   pub slots : new ≡ old ++ slot ∷ []
 
 -- the table was the first one of the node, and the slots before and after are the first so many of these lists
-abbrev pub PutsFirst : {C : Type 0} → Cells C → List NodeView → List RuleView → WorkspaceView C
+abbrev pub PutsFirst : {C : Type 0} → Ghosts C → List NodeView → List RuleView → WorkspaceView C
     → WorkspaceView C → ℕ → List Slot → ℕ → List Slot → ℕ → Type 0
-PutsFirst c nodes p before after count old made new v =
-    PutsTable c.ring nodes before after (take count old) (take made new) (first_table c nodes p v)
+PutsFirst kind nodes p before after count old made new v =
+    PutsTable kind.ring nodes before after (take count old) (take made new)
+    (first_table (cells_of kind) nodes p v)
 
 -- the slots that hold the node gave way to their join with the node summed out
 abbrev pub GiveWay : {C : Type 0} → Ring C → List NodeView → WorkspaceView C → WorkspaceView C
     → List Slot → List Slot → ℕ → Type 0
 GiveWay r nodes before after old new v = PutsTable r nodes before after (slots_without v old) new
     (sum_out r (states_of nodes) v (tables_of r nodes before.cells (slots_with v old)))
+
+-- so did those of the live slots
+abbrev pub LiveGiveWay : {C : Type 0} → Ring C → List NodeView → WorkspaceView C → WorkspaceView C
+    → Places → List Slot → Places → List Slot → ℕ → Type 0
+LiveGiveWay r nodes before after places old left new v =
+    GiveWay r nodes before after (slots_at places old) (slots_at left new) v
 
 -- what that asks
 pub record CanJoinOut {C : Type 0}
@@ -66,8 +77,7 @@ first_nodes nodes plan = ruled_nodes nodes plan ++ option_to_list plan.utility
 
 -- the plan keeps or eliminates the node, and doesn't leave its rule out
 abbrev pub HasOwnTable : SizedPlan → ℕ → Type 0
-HasOwnTable made v = (Contains made.plan.keep v ⊎ Contains made.steps v)
-    × (made.plan.without ≡ Some v → ⊥)
+HasOwnTable made v = IsMember made v × (made.plan.without ≡ Some v → ⊥)
 
 -- the cells of a node's first table
 abbrev pub first_cells : {C : Type 0} → Cells C → List NodeView → List RuleView → ℕ → ℕ
@@ -77,6 +87,12 @@ first_cells c nodes p v = cells_over nodes (first_table c nodes p v).holds
 abbrev pub plan_first_cells :
     {C : Type 0} → Cells C → List NodeView → List RuleView → PlanView → ℕ
 plan_first_cells c nodes p plan = sum_by (first_cells c nodes p) (first_nodes nodes plan)
+
+-- there is room for them
+abbrev pub HasSpareForFirsts :
+    {C : Type 0} → Ghosts C → List NodeView → List RuleView → PlanView → WorkspaceView C → Type 0
+HasSpareForFirsts kind nodes p plan space =
+    plan_first_cells (cells_of kind) nodes p plan ≤ space.spare
 
 -- among the first tables: those that stand, and those of the nodes to come, are those of all
 pub record Lists {C : Type 0}
@@ -89,10 +105,10 @@ pub record Lists {C : Type 0}
   pub room : spent + sum_by (first_cells c nodes p) rest ≡ sum_by (first_cells c nodes p) all
 
 -- the slots are those of a plan's first tables
-abbrev pub ListsFirst : {C : Type 0} → Cells C → List NodeView → List RuleView → PlanView
+abbrev pub ListsFirst : {C : Type 0} → Ghosts C → List NodeView → List RuleView → PlanView
     → WorkspaceView C → WorkspaceView C → List Slot → Type 0
-ListsFirst c nodes p plan before now slots =
-    Lists c nodes p before now slots [] (first_nodes nodes plan)
+ListsFirst kind nodes p plan before now slots =
+    Lists (cells_of kind) nodes p before now slots [] (first_nodes nodes plan)
 
 -- between steps: the steps to come lead from the tables that stand to what all steps make of the first ones, their
 -- sums fit, each finds a table that holds its node, and what they make has room

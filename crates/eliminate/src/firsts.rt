@@ -7,10 +7,11 @@ ghost use Rattle.maid_model.specs.Profiles.{IsProfile};
 ghost use Rattle.node_sets.specs.declared.sets.TheConstants.{MOST_NODES};
 ghost use Rattle.node_sets.specs.Sets.{IsIn};
 ghost use Rattle.plan_sums.specs.Laws.{IsOrderOfPlan};
-ghost use Rattle.factor_core.specs.Operations.{cells_by, NumbersFit};
+ghost use Rattle.factor_core.specs.Operations.{NumbersFit};
+ghost use Rattle.factor_core.specs.Slots.{HasSpareForFirst};
 ghost use Rattle.size_precheck.specs.Sizes.{CanBePlanned};
 ghost use Rattle.eliminate.specs.Results.{plan_total};
-ghost use Rattle.eliminate.specs.Steps.{first_cells, first_nodes, HasOwnTable, ListsFirst, PutsFirst, plan_first_cells};
+ghost use Rattle.eliminate.specs.Steps.{first_nodes, HasOwnTable, ListsFirst, PutsFirst, HasSpareForFirsts};
 
 use cell_rings::Cell;
 use factor_core::{Slot, StateCounts, Workspace};
@@ -49,10 +50,9 @@ pub fn put_table<C: Cell>(
     requires count { count < length live.old }
     requires node { node < length diagram.now.nodes }
     requires fit { NumbersFit C.ring.most diagram.now.nodes profile.now node }
-    requires room { first_cells (cells_by C.ring C.of_weight C.of_value) diagram.now.nodes
-        profile.now node ≤ work.old.spare }
+    requires room { HasSpareForFirst C.Cell diagram.now.nodes profile.now node work.old }
     ensures count { result ≡ count + 1 }
-    ensures puts { PutsFirst (cells_by C.ring C.of_weight C.of_value) diagram.now.nodes profile.now
+    ensures puts { PutsFirst C.Cell diagram.now.nodes profile.now
         work.old work.new count live.old result live.new node }
 {
     live[count] = work.table(diagram, counts, profile, node);
@@ -74,12 +74,11 @@ pub fn first_tables<C: Cell>(
     requires counts { counts.now ≡ counts_of diagram.now.nodes }
     requires profile { IsProfile diagram.now.nodes profile.now }
     requires fits { 2 * plan_total diagram.now.nodes profile.now plan.now.plan ≤ C.ring.most }
-    requires room { plan_first_cells (cells_by C.ring C.of_weight C.of_value) diagram.now.nodes
-        profile.now plan.now.plan ≤ work.old.spare }
+    requires room { HasSpareForFirsts C.Cell diagram.now.nodes profile.now plan.now.plan work.old }
     requires tables { length (first_nodes diagram.now.nodes plan.now.plan) ≤ length live.old }
     ensures diagram { IsDiagram diagram.now }
     ensures few { result ≤ length live.old }
-    ensures lists { ListsFirst (cells_by C.ring C.of_weight C.of_value) diagram.now.nodes
+    ensures lists { ListsFirst C.Cell diagram.now.nodes
         profile.now plan.now.plan work.old work.new (take result live.new) }
 {
     let nodes = diagram.count();

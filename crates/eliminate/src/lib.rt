@@ -8,8 +8,6 @@ mod lists;
 mod places;
 mod runs;
 mod sums;
-#[cfg(test)]
-mod tests;
 
 pub use counts::Limits;
 pub use laws::first_numbers_fit;

@@ -1,10 +1,9 @@
 //! Slots at places, and for each node the places of those that hold it, so that a step looks at no other slot.
 
-ghost use Rattle.std.specs.Prelude.{◌≡◌, ◌+◌, ◌<◌, ◌≤◌, ◌↔◌, ℕ, [], ◌∷◌, ◌++◌, length, slice_index_or, take};
-ghost use Rattle.node_sets.specs.declared.sets.NodeSet.{NodeSet};
+ghost use Rattle.std.specs.Prelude.{◌≡◌, ◌+◌, ◌<◌, ◌≤◌, ◌↔◌, ℕ, [], ◌∷◌, ◌++◌, length, take};
 ghost use Rattle.node_sets.specs.declared.sets.TheConstants.{MOST_NODES};
 ghost use Rattle.node_sets.specs.Sets.{holds, IsIn};
-ghost use Rattle.eliminate.specs.Places.{slots_from, IsBlank, Noted, IsBoard, NotesPlace, slots_at};
+ghost use Rattle.eliminate.specs.Places.{slots_from, slots_at, ArePlacesOf, IsBlank, IsBoard, Noted, NotesPlace};
 
 use crate::lists::before;
 use factor_core::Slot;
@@ -170,8 +169,7 @@ fn put_behind(slots: &mut [Slot], at: &mut [NodeSet], places: Places, slot: &Slo
 /// The live slots that hold the node, as places.
 pub fn places_of(at: &[NodeSet], places: &Places, node: usize) -> NodeSet
     requires { node < length at.now }
-    ensures { (k : ℕ) (none : NodeSet) → IsIn result k
-        ↔ (IsIn places.now.live k × IsIn (slice_index_or at.now node none) k) }
+    ensures { ArePlacesOf at.now places.now node result }
 {
     places.live.intersection(&at[node])
 }

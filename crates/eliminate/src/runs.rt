@@ -1,16 +1,15 @@
 //! Runs of plans.
 
-ghost use Rattle.std.specs.Prelude.{◌≡◌, ◌+◌, ◌*◌, ◌<◌, ◌≤◌, IsTrue, [], length};
+ghost use Rattle.std.specs.Prelude.{◌≡◌, ◌↔◌, ◌+◌, ◌*◌, ◌<◌, ◌≤◌, IsTrue, [], length};
 ghost use Rattle.maid_model.specs.declared.limits.TheConstants.{COUNT_END};
 ghost use Rattle.maid_model.specs.Diagrams.{IsDiagram};
 ghost use Rattle.maid_model.specs.Nodes.{counts_of};
 ghost use Rattle.maid_model.specs.Profiles.{IsProfile};
 ghost use Rattle.node_sets.specs.declared.sets.TheConstants.{MOST_NODES};
-ghost use Rattle.factor_core.specs.Operations.{cells_by};
 ghost use Rattle.size_precheck.specs.Sizes.{CanBePlanned, IsMade};
-ghost use Rattle.eliminate.specs.Results.{plan_total, SumsPlan};
+ghost use Rattle.eliminate.specs.Results.{plan_total, SumsPlanIn};
 ghost use Rattle.eliminate.specs.Places.{IsBlank, IsBoard, slots_at};
-ghost use Rattle.eliminate.specs.Steps.{first_nodes, CanJoinOut, GiveWay};
+ghost use Rattle.eliminate.specs.Steps.{first_nodes, CanJoinOut, LiveGiveWay};
 
 use crate::firsts::first_tables;
 use crate::lists::{before, blank_slot};
@@ -55,8 +54,7 @@ pub fn eliminate<C: Cell>(
     requires join { CanJoinOut C.ring diagram.now.nodes work.old (slots_at places slots.old) node }
     ensures board { IsBoard at.new slots.new result.live result.made }
     ensures made { result.made ≤ length slots.old }
-    ensures step { GiveWay C.ring diagram.now.nodes work.old work.new (slots_at places slots.old)
-        (slots_at result slots.new) node }
+    ensures step { LiveGiveWay C.ring diagram.now.nodes work.old work.new places slots.old result slots.new node }
 {
     let held = places_of(at, &places, node);
     let count = gather(before(slots, places.made), &held, joined);
@@ -89,8 +87,7 @@ fn run_with<C: Cell>(
     requires room { plan.now.size.cells ≤ work.old.spare }
     requires profile { IsProfile diagram.now.nodes profile.now }
     requires fits { 2 * plan_total diagram.now.nodes profile.now plan.now.plan ≤ C.ring.most }
-    ensures { SumsPlan (cells_by C.ring C.of_weight C.of_value) diagram.now.nodes profile.now
-        plan.now work.old work.new result }
+    ensures { SumsPlanIn C.Cell diagram.now profile.now plan.now work.old work.new result }
 {
     let counts = StateCounts::of(diagram);
     let count = first_tables(work, plan, diagram, &counts, profile, slots);
@@ -119,8 +116,7 @@ fn run_sized<C: Cell, const NODES: usize, const SLOTS: usize>(
     requires room { plan.now.size.cells ≤ work.old.spare }
     requires profile { IsProfile diagram.now.nodes profile.now }
     requires fits { 2 * plan_total diagram.now.nodes profile.now plan.now.plan ≤ C.ring.most }
-    ensures { SumsPlan (cells_by C.ring C.of_weight C.of_value) diagram.now.nodes profile.now
-        plan.now work.old work.new result }
+    ensures { SumsPlanIn C.Cell diagram.now profile.now plan.now work.old work.new result }
 {
     let mut at: [NodeSet; NODES] = no_places();
     let mut slots = [blank_slot(); SLOTS];
@@ -139,7 +135,7 @@ fn run_sized<C: Cell, const NODES: usize, const SLOTS: usize>(
 /// Whether a list of `SHORT` slots has a place for each slot that the run of the plan makes: one at most for each node
 /// that the plan keeps or eliminates, one for its utility, and one for each step.
 fn is_short(plan: &Plan) -> bool
-    ensures { IsTrue result → length plan.now.plan.keep + 2 * length plan.now.steps < SHORT }
+    ensures { IsTrue result ↔ length plan.now.plan.keep + 2 * length plan.now.steps < SHORT }
 {
     let steps = plan.steps().len();
     steps < SHORT / 2 && plan.keep().len() < SHORT - 2 * steps
@@ -162,8 +158,7 @@ pub fn run_plan<C: Cell>(
     requires room { plan.now.size.cells ≤ work.old.spare }
     requires profile { IsProfile diagram.now.nodes profile.now }
     requires fits { 2 * plan_total diagram.now.nodes profile.now plan.now.plan ≤ C.ring.most }
-    ensures { SumsPlan (cells_by C.ring C.of_weight C.of_value) diagram.now.nodes profile.now
-        plan.now work.old work.new result }
+    ensures { SumsPlanIn C.Cell diagram.now profile.now plan.now work.old work.new result }
 {
     if diagram.count() > FEW {
         run_sized::<C, MOST_NODES, MOST_NODES>(work, plan, diagram, profile)

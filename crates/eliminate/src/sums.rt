@@ -1,16 +1,14 @@
 //! Sums of tables of any nodes, within limits that the caller sets.
 
-ghost use Rattle.std.specs.Prelude.{◌≡◌, ◌↔◌, ℕ, ◌*◌, ◌<◌, ◌≤◌, All, [], length, IfSome, None};
+ghost use Rattle.std.specs.Prelude.{◌≡◌, ◌↔◌, ◌<◌, ◌≤◌, All, length};
 ghost use Rattle.maid_model.specs.declared.limits.TheConstants.{MOST_PLAN_CELLS};
 ghost use Rattle.maid_model.specs.Nodes.{counts_of};
 ghost use Rattle.maid_model.specs.Profiles.{IsProfile};
 ghost use Rattle.node_sets.specs.declared.sets.TheConstants.{MOST_NODES};
-ghost use Rattle.node_sets.specs.Sets.{holds};
-ghost use Rattle.plan_sums.specs.Plans.{mass_cells};
-ghost use Rattle.factor_core.specs.Operations.{cells_by, first_table, NumbersFit};
-ghost use Rattle.eliminate.specs.Limits.{scopes_at, ListsOrPasses, SpendsStep};
-ghost use Rattle.eliminate.specs.Places.{IsBlank, IsBoard, slots_at};
-ghost use Rattle.eliminate.specs.Results.{SumsTables, Grows, IsTooMuch, FindTables, SumsFit};
+ghost use Rattle.factor_core.specs.Operations.{NumbersFit};
+ghost use Rattle.eliminate.specs.Limits.{live_scopes, IsFirstScope, ListsOrPasses, SpendsStep};
+ghost use Rattle.eliminate.specs.Places.{IsBlank, IsBoard};
+ghost use Rattle.eliminate.specs.Results.{Grows, FindTablesIn, NoneIffTooMuch, SumsFitIn, SumsIfSome};
 
 use crate::counts::{Limits, count_cells, spend, united_scope};
 use crate::firsts::put_table;
@@ -25,8 +23,7 @@ use node_sets::{MOST_NODES, NodeSet};
 /// The nodes of the node's first table: its parents, and itself unless it is a utility.
 fn first_scope(diagram: &Diagram, node: usize) -> NodeSet
     requires { node < length diagram.now.nodes }
-    ensures { (v : ℕ) → holds result v
-        ≡ (first_table mass_cells diagram.now.nodes [] node).holds v }
+    ensures { IsFirstScope diagram.now.nodes node result }
 {
     let mut scope = NodeSet::empty();
     scope.insert_all(diagram.parents(node));
@@ -56,7 +53,7 @@ fn list_tables<C: Cell>(
     requires small { limits.cells ≤ MOST_PLAN_CELLS }
     requires room { limits.cells ≤ work.old.spare }
     requires len { length nodes.now ≤ length live.old }
-    ensures lists { ListsOrPasses (cells_by C.ring C.of_weight C.of_value) diagram.now.nodes
+    ensures lists { ListsOrPasses C.Cell diagram.now.nodes
         profile.now work.old work.new live.new nodes.now limits result }
     ensures grows { Grows C.ring diagram.now.nodes work.old work.new }
 {
@@ -87,8 +84,7 @@ fn spend_on_step(
     requires slots { length slots.now ≤ MOST_NODES }
     requires joined { length joined.old ≡ length slots.now }
     requires node { (node < length at.now) × (node < MOST_NODES) }
-    ensures { SpendsStep diagram.now.nodes node (scopes_at (slots_at places.now slots.now)) left
-        result }
+    ensures { SpendsStep diagram.now.nodes node (live_scopes places.now slots.now) left result }
 {
     let held = places_of(at, places, node);
     let count = gather(before(slots, places.made), &held, joined);
@@ -124,17 +120,12 @@ fn sum_with<C: Cell>(
     requires known { All (λ v. v < length diagram.now.nodes) nodes.now }
     requires numbers { All (NumbersFit C.ring.most diagram.now.nodes profile.now) nodes.now }
     requires steps { All (λ v. v < length diagram.now.nodes) steps.now }
-    requires holds { FindTables (cells_by C.ring C.of_weight C.of_value) diagram.now.nodes
-        profile.now nodes.now steps.now }
-    requires fits { SumsFit (cells_by C.ring C.of_weight C.of_value) diagram.now.nodes profile.now
-        nodes.now steps.now }
+    requires holds { FindTablesIn C.Cell diagram.now profile.now nodes.now steps.now }
+    requires fits { SumsFitIn C.Cell diagram.now profile.now nodes.now steps.now }
     requires small { limits.cells ≤ MOST_PLAN_CELLS }
     requires room { limits.cells ≤ work.old.spare }
-    ensures some { IfSome result (SumsTables (cells_by C.ring C.of_weight C.of_value)
-        diagram.now.nodes profile.now nodes.now steps.now work.new) }
-    ensures none { (result ≡ None)
-        ↔ IsTooMuch (cells_by C.ring C.of_weight C.of_value) diagram.now.nodes profile.now
-        nodes.now steps.now limits }
+    ensures some { SumsIfSome C.Cell diagram.now profile.now nodes.now steps.now work.new result }
+    ensures none { NoneIffTooMuch C.Cell diagram.now profile.now nodes.now steps.now limits result }
     ensures grows { Grows C.ring diagram.now.nodes work.old work.new }
 {
     let counts = StateCounts::of(diagram);
@@ -168,17 +159,12 @@ fn sum_sized<C: Cell, const NODES: usize, const SLOTS: usize>(
     requires known { All (λ v. v < length diagram.now.nodes) nodes.now }
     requires numbers { All (NumbersFit C.ring.most diagram.now.nodes profile.now) nodes.now }
     requires steps { All (λ v. v < length diagram.now.nodes) steps.now }
-    requires holds { FindTables (cells_by C.ring C.of_weight C.of_value) diagram.now.nodes
-        profile.now nodes.now steps.now }
-    requires fits { SumsFit (cells_by C.ring C.of_weight C.of_value) diagram.now.nodes profile.now
-        nodes.now steps.now }
+    requires holds { FindTablesIn C.Cell diagram.now profile.now nodes.now steps.now }
+    requires fits { SumsFitIn C.Cell diagram.now profile.now nodes.now steps.now }
     requires small { limits.cells ≤ MOST_PLAN_CELLS }
     requires room { limits.cells ≤ work.old.spare }
-    ensures some { IfSome result (SumsTables (cells_by C.ring C.of_weight C.of_value)
-        diagram.now.nodes profile.now nodes.now steps.now work.new) }
-    ensures none { (result ≡ None)
-        ↔ IsTooMuch (cells_by C.ring C.of_weight C.of_value) diagram.now.nodes profile.now
-        nodes.now steps.now limits }
+    ensures some { SumsIfSome C.Cell diagram.now profile.now nodes.now steps.now work.new result }
+    ensures none { NoneIffTooMuch C.Cell diagram.now profile.now nodes.now steps.now limits result }
     ensures grows { Grows C.ring diagram.now.nodes work.old work.new }
 {
     let mut at: [NodeSet; NODES] = no_places();
@@ -214,17 +200,12 @@ pub fn sum_tables<C: Cell>(
     requires few { length nodes.now ≤ MOST_NODES }
     requires numbers { All (NumbersFit C.ring.most diagram.now.nodes profile.now) nodes.now }
     requires steps { All (λ v. v < length diagram.now.nodes) steps.now }
-    requires holds { FindTables (cells_by C.ring C.of_weight C.of_value) diagram.now.nodes
-        profile.now nodes.now steps.now }
-    requires fits { SumsFit (cells_by C.ring C.of_weight C.of_value) diagram.now.nodes profile.now
-        nodes.now steps.now }
+    requires holds { FindTablesIn C.Cell diagram.now profile.now nodes.now steps.now }
+    requires fits { SumsFitIn C.Cell diagram.now profile.now nodes.now steps.now }
     requires small { limits.cells ≤ MOST_PLAN_CELLS }
     requires room { limits.cells ≤ work.old.spare }
-    ensures some { IfSome result (SumsTables (cells_by C.ring C.of_weight C.of_value)
-        diagram.now.nodes profile.now nodes.now steps.now work.new) }
-    ensures none { (result ≡ None)
-        ↔ IsTooMuch (cells_by C.ring C.of_weight C.of_value) diagram.now.nodes profile.now
-        nodes.now steps.now limits }
+    ensures some { SumsIfSome C.Cell diagram.now profile.now nodes.now steps.now work.new result }
+    ensures none { NoneIffTooMuch C.Cell diagram.now profile.now nodes.now steps.now limits result }
     ensures grows { Grows C.ring diagram.now.nodes work.old work.new }
 {
     let count = diagram.count();

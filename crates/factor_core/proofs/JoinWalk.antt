@@ -19,6 +19,7 @@ use Rattle.cell_rings.proofs.Together.{ring_sum_cong}
 use Rattle.factor_core.proofs.SizeLemmas.{size_later}
 use Rattle.factor_core.proofs.Collapse.{IsNoneOf, AllOnce, IsRadix, IsAmong, each_choice, total_is, total_outside, world_at}
 use Rattle.factor_core.proofs.Joining.{place_below, place_along, get-moved, length-moved, out_place_cong}
+use Rattle.factor_core.proofs.StrideRows.{axes_with}
 use Rattle.factor_core.proofs.Ordering.{listed_none, listed_once, listed_below, once_among, all_among, kept_among, kept_listed, radix_among, radix_listed}
 
 pub any_false : {X : Type 0} (p : X → Bool) (xs : List X) (d : X) → list_any p xs ≡ false → (i : ℕ) → i < length xs → p (get_or xs i d) ≡ false
@@ -224,3 +225,26 @@ module _ {C : Type 0} {r : Ring C} (laws : IsRing r) (sizes : IsSize r r.size) (
       ∙ laws.plus_comm r.nought (adding r cells (0 + out_place stride order w))
       ∙ laws.plus_nought (adding r cells (0 + out_place stride order w))
       ∙ adds_at r laws cells w ok
+
+  -- the axes of the kept nodes with that of x are those of the order
+  pub axes_in_order : (axes : List Axis) (states : ℕ) → states ≡ count x → axes ≡ with_extra cut (let a : Axis = record { states = states; out = 0 } in a) (axes_of count stride kept) → axes ≡ axes_of count stride order
+  axes_in_order axes states same e =
+      e
+      ∙ ap (λ k. with_extra cut (let a : Axis = record { states = k; out = 0 } in a) (axes_of count stride kept)) same
+      ∙ ap (λ k. with_extra cut (let a : Axis = record { states = count x; out = k } in a) (axes_of count stride kept)) (sym still)
+      ∙ axes_with count stride cut x kept
+
+  -- lists that are those of the order
+  module _ (axes : List Axis) (strides places : List ℕ) (are_axes : axes ≡ axes_of count stride order) (are_strides : strides ≡ rows_of row order) (are_places : places ≡ starts_of slots) where
+    pub begins_with : CanWalk r cells axes strides places out 0
+    begins_with =
+        subst (λ l. CanWalk r cells l strides places out 0) (sym are_axes)
+        (subst (λ l. CanWalk r cells (axes_of count stride order) l places out 0) (sym are_strides)
+        (subst (λ l. CanWalk r cells (axes_of count stride order) (rows_of row order) l out 0) (sym are_places) can_begin))
+
+    pub joins_with : (new : List C) → Adds r (total r cells axes strides places 0) out new → (w : World) → InRange count w → cell_at r new (place_of counts scope w) ≡ join_cell r cells counts slots x w
+    joins_with new adds =
+        joined_is new
+        (subst (λ l. Adds r (total r cells (axes_of count stride order) (rows_of row order) l 0) out new) are_places
+        (subst (λ l. Adds r (total r cells (axes_of count stride order) l places 0) out new) are_strides
+        (subst (λ l. Adds r (total r cells l strides places 0) out new) are_axes adds)))

@@ -25,5 +25,5 @@ pub mod Gathering
 pub mod Reordering
 pub mod ListTables
 pub mod FirstTables
-pub mod SmallTables
 pub mod Straight
+pub mod StrideRows

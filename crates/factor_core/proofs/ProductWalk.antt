@@ -180,3 +180,18 @@ module _ {C : Type 0} {r : Ring C} (laws : IsRing r) (sizes : IsSize r r.size) (
       ∙ laws.plus_comm r.nought (adding r cells (0 + out_place stride order w))
       ∙ laws.plus_nought (adding r cells (0 + out_place stride order w))
       ∙ adds_at r laws cells w ok
+
+  -- lists that are those of the order
+  module _ (axes : List Axis) (strides places : List ℕ) (are_axes : axes ≡ axes_of count stride order) (are_strides : strides ≡ rows_of row order) (are_places : places ≡ starts_of slots) where
+    pub begins_with : CanWalk r cells axes strides places out 0
+    begins_with =
+        subst (λ l. CanWalk r cells l strides places out 0) (sym are_axes)
+        (subst (λ l. CanWalk r cells (axes_of count stride order) l places out 0) (sym are_strides)
+        (subst (λ l. CanWalk r cells (axes_of count stride order) (rows_of row order) l out 0) (sym are_places) product_begins))
+
+    pub multiplies_with : (new : List C) → Adds r (total r cells axes strides places 0) out new → (w : World) → InRange count w → cell_at r new (place_of counts scope w) ≡ product_cell r cells counts slots w
+    multiplies_with new adds =
+        multiplied_is new
+        (subst (λ l. Adds r (total r cells (axes_of count stride order) (rows_of row order) l 0) out new) are_places
+        (subst (λ l. Adds r (total r cells (axes_of count stride order) l places 0) out new) are_strides
+        (subst (λ l. Adds r (total r cells l strides places 0) out new) are_axes adds)))

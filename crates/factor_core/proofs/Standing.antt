@@ -95,7 +95,7 @@ module _ {C : Type 0} (r : Ring C) (nodes : List NodeView) where
 
   -- a table that is the same was appended too
   pub appends_same : (before after : WorkspaceView C) (slot : Slot) (t u : Table C) → AppendsTable r nodes before after slot t → IsSame (states_of nodes) t u → AppendsTable r nodes before after slot u
-  appends_same before after slot t u a same = record {
+  appends_same old new slot t u a same = record {
     appends = a.appends;
     live = a.live;
     table = record { holds = λ v. a.table.holds v ∙ same.holds v; cell = λ w i. a.table.cell w i ∙ same.cell w i };

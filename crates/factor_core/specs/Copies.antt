@@ -1,14 +1,16 @@
 -- A walk that copies cells in another order. Only private contracts cite this file.
-use Rattle.std.specs.Prelude.{◌≡◌, ℕ, zero, suc, ◌+◌, ◌*◌, ◌^◌, ◌<◌, ◌≤◌, ◌==◌, if◌then◌else◌, List, [], ◌∷◌, ◌++◌, map, take, All}
+use Rattle.std.specs.Prelude.{◌≡◌, ℕ, zero, suc, ◌+◌, ◌-◌, ◌*◌, ◌^◌, ◌<◌, ◌≤◌, ◌==◌, if◌then◌else◌, List, [], ◌∷◌, ◌++◌, map, take, All, length}
 use Rattle.maid_model.specs.Views.{NodeView}
 use Rattle.maid_model.specs.Nodes.{rows_under}
 use Rattle.plan_sums.specs.Plans.{has}
 use Rattle.ring_sums.specs.Tables.{Table}
 use Rattle.cell_rings.specs.Rings.{Ring}
 use Rattle.cell_rings.specs.Sums.{cell_at}
-use Rattle.factor_core.specs.Slots.{picked}
+use Rattle.factor_core.specs.declared.slots.Slot.{Slot}
+use Rattle.factor_core.specs.Slots.{picked, WorkspaceView, AppendsTable}
 use Rattle.factor_core.specs.Tables.{states_in}
 use Rattle.factor_core.specs.declared.copies.Step.{Step}
+use Rattle.factor_core.specs.declared.sources.Source.{Ghosts}
 
 -- f 0, f 1, .., f (n - 1) one after another
 abbrev pub one_by_one : {C : Type 0} → ℕ → (ℕ → List C) → List C
@@ -31,6 +33,10 @@ abbrev pub HasCopied :
     {C : Type 0} → Ring C → List C → List Step → ℕ → ℕ → List C → List C → Type 0
 HasCopied r cells steps from start old new =
     take (start + count_of_steps steps) new ≡ take start old ++ gathered r cells steps from
+
+-- the same of a copy that ended at the place `next`
+abbrev pub Gathers : {C : Type 0} → Ring C → List C → List Step → ℕ → List C → ℕ → List C → ℕ → Type 0
+Gathers r cells steps from old at new next = take next new ≡ take at old ++ gathered r cells steps from
 
 -- a step: one state or more, and no long stride
 pub record IsStep (a : Step) : Type 0 where
@@ -66,3 +72,44 @@ steps_in counts list order = steps_of (states_in counts) (list_stride (states_in
 -- the table whose cells stand in that order
 abbrev pub list_table : {C : Type 0} → Ring C → List NodeView → List ℕ → List C → Table C
 list_table r nodes vs cells = record { holds = has vs; cell = picked r nodes vs cells }
+
+-- the steps are those of the nodes, with these strides
+abbrev pub AreStepsOf : List ℕ → (ℕ → ℕ) → List ℕ → List Step → Type 0
+AreStepsOf counts stride nodes steps =
+    take (length nodes) steps ≡ steps_of (states_in counts) stride nodes
+
+-- the steps are those of a copy of cells that stand with the first of the list slowest
+abbrev pub AreListSteps : List ℕ → List ℕ → List ℕ → List Step → Type 0
+AreListSteps counts list order steps =
+    AreStepsOf counts (list_stride (states_in counts) list) order steps
+
+-- what a copy of all cells to the end of a list requires, from `start` on
+abbrev pub CanCopyTo : {C : Type 0} → Type 0 → ℕ → List Step → List C → ℕ → Type 0
+CanCopyTo is_fit len steps all start = CanCopy is_fit len steps 0 (length all - start) 0
+
+-- the table of these cells was appended, the first of the nodes slowest
+abbrev pub AppendsList : {C : Type 0} → Ring C → List NodeView → List ℕ → List C
+    → WorkspaceView C → WorkspaceView C → Slot → Type 0
+AppendsList r nodes vs cells before after slot =
+    AppendsTable r nodes before after slot (list_table r nodes vs cells)
+
+-- ---- the same of a source
+-- what a copy of its cells requires
+abbrev pub CanCopyOf : {S C : Type 0} → Ghosts S C → S → List Step → ℕ → List C → ℕ → Type 0
+CanCopyOf kind source steps from out at =
+    CanCopy (kind.is_fit source) (length (kind.cells source)) steps from (length out) at
+
+-- and of all its cells to the end of a list, from `start` on
+abbrev pub CanCopyAllOf : {S C : Type 0} → Ghosts S C → S → List Step → List C → ℕ → Type 0
+CanCopyAllOf kind source steps all start =
+    CanCopyTo (kind.is_fit source) (length (kind.cells source)) steps all start
+
+-- where they stand with the first of the list slowest, and go to the order's places
+abbrev pub CanCopyListOf :
+    {S C : Type 0} → Ghosts S C → S → List ℕ → List ℕ → List ℕ → List C → ℕ → Type 0
+CanCopyListOf kind source counts list order all start =
+    CanCopyAllOf kind source (steps_in counts list order) all start
+
+-- it has a cell for each choice of the nodes' states
+abbrev pub HasCellsOver : {S C : Type 0} → Ghosts S C → S → (ℕ → ℕ) → List ℕ → Type 0
+HasCellsOver kind source count vs = length (kind.cells source) ≡ rows_under count vs

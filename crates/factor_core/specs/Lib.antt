@@ -4,6 +4,6 @@ pub mod Copies
 pub mod Walks
 pub mod Scopes
 pub mod Tables
+pub mod Rows
 pub mod Spaces
-pub mod Trials
 pub mod Narrow

@@ -6,6 +6,7 @@ use Rattle.maid_model.specs.declared.diagrams.Kind.TheVariants.{Chance, Decision
 use Rattle.maid_model.specs.Views.{NodeView, RuleView}
 use Rattle.maid_model.specs.Nodes.{node_at, is_utility}
 use Rattle.maid_model.specs.Tables.{weights_of}
+use Rattle.cell_rings.specs.declared.cells.Cell.{Ghosts}
 use Rattle.cell_rings.specs.Rings.{Ring, mass_ring}
 use Rattle.cell_rings.specs.Sums.{ring_sum}
 use Rattle.ring_sums.specs.Tables.{Table, joined, product_of}
@@ -46,3 +47,7 @@ NumbersFit most nodes p v = All (λ z. 2 * nat_abs z ≤ most) (numbers_in nodes
 -- a kind of cell, as plans see it
 abbrev pub cells_by : {C : Type 0} → Ring C → (ℕ → C) → (ℤ → C) → Cells C
 cells_by r weight value = record { ring = r; weight = weight; value = value }
+
+-- the kind that a type of cells is, as plans see it
+abbrev pub cells_of : {C : Type 0} → Ghosts C → Cells C
+cells_of kind = cells_by kind.ring kind.of_weight kind.of_value

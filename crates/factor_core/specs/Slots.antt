@@ -1,16 +1,20 @@
 -- Slots and workspaces as contracts see them: the tables that stand in a list of cells.
-use Rattle.std.specs.Prelude.{◌≡◌, ℕ, ◌+◌, ◌-◌, ◌<◌, ◌≤◌, Bool, List, map, filter, take, drop, length}
+use Rattle.std.specs.Prelude.{◌≡◌, ℕ, ◌+◌, ◌-◌, ◌<◌, ◌≤◌, Bool, List, [], ◌∷◌, map, filter, take, drop, length}
 use Rattle.std.specs.List.{AllZip}
 use Rattle.finite_sums.specs.Sums.{World, InRange}
 use Rattle.node_sets.specs.Sets.{holds, IsIn}
-use Rattle.maid_model.specs.Views.{NodeView}
+use Rattle.maid_model.specs.Views.{NodeView, RuleView}
 use Rattle.maid_model.specs.Nodes.{states_of, numbers_of, rows_under}
 use Rattle.maid_model.specs.Tables.{row_from}
 use Rattle.cell_rings.specs.Rings.{Ring}
 use Rattle.cell_rings.specs.Sums.{cell_at}
 use Rattle.ring_sums.specs.Tables.{Table, IsSame, sum_out}
+use Rattle.plan_sums.specs.Plans.{node_table, utility_table}
+use Rattle.ring_sums.specs.Groups.{JoinFits, ProductsFit}
 use Rattle.factor_core.specs.declared.slots.Slot.{Slot}
-use Rattle.factor_core.specs.Operations.{product_table}
+use Rattle.factor_core.specs.declared.slots.Strip.{Strip}
+use Rattle.cell_rings.specs.declared.cells.Cell.{Ghosts}
+use Rattle.factor_core.specs.Operations.{SumFits, cells_of, first_table, product_table, restricted}
 
 -- a workspace: the cells of its tables one after another, and how many cells more it has room for
 pub record WorkspaceView (C : Type 0) : Type 0 where
@@ -81,6 +85,7 @@ pub record StaysLive {C : Type 0}
   pub live : IsLive nodes after slot
   pub table : table_of r nodes after slot ≡ table_of r nodes before slot
 
+-- so do all that were live
 abbrev pub AllStayLive : {C : Type 0} → Ring C → List NodeView → List C → List C → Type 0
 AllStayLive r nodes before after =
     (s : Slot) → IsLive nodes before s → StaysLive r nodes before after s
@@ -102,12 +107,162 @@ join_of r nodes v cells slots = sum_out r (states_of nodes) v (tables_of r nodes
 abbrev pub product_of_slots : {C : Type 0} → Ring C → List NodeView → List C → List Slot → Table C
 product_of_slots r nodes cells slots = product_table r (tables_of r nodes cells slots)
 
--- behind the used cells there is room for the table
-abbrev pub HasRoomBehind : {C : Type 0} → List NodeView → List C → ℕ → Table C → Type 0
-HasRoomBehind nodes all used t = cells_over nodes t.holds ≤ (space all used).spare
+-- the same behind the used cells of a list, of which the slot's are used then
+abbrev pub Behind : {C : Type 0} → List C → List C → ℕ → Slot
+    → (WorkspaceView C → WorkspaceView C → Slot → Type 0) → Type 0
+Behind before after used slot Appended =
+    Appended (space before used) (space after (used + slot.len)) slot
 
--- behind the used cells the table was appended, and the slot is its
-abbrev pub AppendsBehind : {C : Type 0}
-    → Ring C → List NodeView → List C → List C → ℕ → Slot → Table C → Type 0
-AppendsBehind r nodes before after used slot t =
-    AppendsTable r nodes (space before used) (space after (used + slot.len)) slot t
+-- there is room for the table
+abbrev pub HasSpareFor : {C : Type 0} → List NodeView → WorkspaceView C → Table C → Type 0
+HasSpareFor nodes space t = cells_over nodes t.holds ≤ space.spare
+
+-- there is room for the join of the slots with the node summed out
+abbrev pub HasSpareForJoin :
+    {C : Type 0} → Ring C → List NodeView → ℕ → List Slot → WorkspaceView C → Type 0
+HasSpareForJoin r nodes v slots space = HasSpareFor nodes space (join_of r nodes v space.cells slots)
+
+-- it was appended
+abbrev pub AppendsJoin : {C : Type 0} → Ring C → List NodeView → ℕ → List Slot
+    → WorkspaceView C → WorkspaceView C → Slot → Type 0
+AppendsJoin r nodes v slots before after slot =
+    AppendsTable r nodes before after slot (join_of r nodes v before.cells slots)
+
+-- so was the slot with the node summed out
+abbrev pub AppendsSumOf : {C : Type 0} → Ring C → List NodeView → ℕ → Slot
+    → WorkspaceView C → WorkspaceView C → Slot → Type 0
+AppendsSumOf r nodes v of before after slot = AppendsJoin r nodes v (of ∷ []) before after slot
+
+-- the join's cells fit
+abbrev pub JoinOfFits :
+    {C : Type 0} → Ring C → List NodeView → ℕ → List Slot → WorkspaceView C → Type 0
+JoinOfFits r nodes v slots space =
+    JoinFits r.size (states_of nodes) r.most v (tables_of r nodes space.cells slots)
+
+-- there is room for the product of the slots
+abbrev pub HasSpareForProduct :
+    {C : Type 0} → Ring C → List NodeView → List Slot → WorkspaceView C → Type 0
+HasSpareForProduct r nodes slots space =
+    HasSpareFor nodes space (product_of_slots r nodes space.cells slots)
+
+-- it was appended
+abbrev pub AppendsProduct : {C : Type 0} → Ring C → List NodeView → List Slot
+    → WorkspaceView C → WorkspaceView C → Slot → Type 0
+AppendsProduct r nodes slots before after slot =
+    AppendsTable r nodes before after slot (product_of_slots r nodes before.cells slots)
+
+-- its cells fit, and those of the first factors
+abbrev pub ProductOfFits :
+    {C : Type 0} → Ring C → List NodeView → List Slot → WorkspaceView C → Type 0
+ProductOfFits r nodes slots space =
+    ProductsFit r.size (states_of nodes) r.most (tables_of r nodes space.cells slots)
+
+-- the sums over the node's states of the slot's cells fit
+abbrev pub SumOfFits :
+    {C : Type 0} → Ring C → List NodeView → ℕ → Slot → WorkspaceView C → Type 0
+SumOfFits r nodes v slot space = SumFits r (states_of nodes) v (table_of r nodes space.cells slot)
+
+-- the slot's table at one state of a node
+abbrev pub restricted_slot :
+    {C : Type 0} → Ring C → List NodeView → ℕ → ℕ → WorkspaceView C → Slot → Table C
+restricted_slot r nodes v s space slot = restricted v s (table_of r nodes space.cells slot)
+
+-- there is room for it
+abbrev pub HasSpareForRestricted : {C : Type 0}
+    → Ring C → List NodeView → ℕ → ℕ → Slot → WorkspaceView C → Type 0
+HasSpareForRestricted r nodes v s of space =
+    HasSpareFor nodes space (restricted_slot r nodes v s space of)
+
+-- it was appended
+abbrev pub AppendsRestricted : {C : Type 0} → Ring C → List NodeView → ℕ → ℕ → Slot
+    → WorkspaceView C → WorkspaceView C → Slot → Type 0
+AppendsRestricted r nodes v s of before after slot =
+    AppendsTable r nodes before after slot (restricted_slot r nodes v s before of)
+
+-- the first table of a node, of cells of this kind, was appended
+abbrev pub AppendsFirst : {C : Type 0} → Ghosts C → List NodeView → List RuleView → ℕ
+    → WorkspaceView C → WorkspaceView C → Slot → Type 0
+AppendsFirst kind nodes p v before after slot =
+    AppendsTable kind.ring nodes before after slot (first_table (cells_of kind) nodes p v)
+
+-- there is room for it
+abbrev pub HasSpareForFirst : {C : Type 0} → Ghosts C → List NodeView → List RuleView → ℕ
+    → WorkspaceView C → Type 0
+HasSpareForFirst kind nodes p v space =
+    HasSpareFor nodes space (first_table (cells_of kind) nodes p v)
+
+-- the table of a chance node or of a decision's rule was appended, and there is room for it
+abbrev pub AppendsNode : {C : Type 0} → Ghosts C → List NodeView → List RuleView → ℕ
+    → WorkspaceView C → WorkspaceView C → Slot → Type 0
+AppendsNode kind nodes p v before after slot =
+    AppendsTable kind.ring nodes before after slot (node_table (cells_of kind) nodes p v)
+
+abbrev pub HasSpareForNode : {C : Type 0} → Ghosts C → List NodeView → List RuleView → ℕ
+    → WorkspaceView C → Type 0
+HasSpareForNode kind nodes p v space =
+    HasSpareFor nodes space (node_table (cells_of kind) nodes p v)
+
+-- the table of a utility was appended, and there is room for it
+abbrev pub AppendsUtility : {C : Type 0} → Ghosts C → List NodeView → ℕ
+    → WorkspaceView C → WorkspaceView C → Slot → Type 0
+AppendsUtility kind nodes v before after slot =
+    AppendsTable kind.ring nodes before after slot (utility_table (cells_of kind) nodes v)
+
+abbrev pub HasSpareForUtility :
+    {C : Type 0} → Ghosts C → List NodeView → ℕ → WorkspaceView C → Type 0
+HasSpareForUtility kind nodes v space =
+    HasSpareFor nodes space (utility_table (cells_of kind) nodes v)
+
+-- the cells of the strip are those of the slot's table, the first of these nodes slowest
+abbrev pub HasCellsOf : {C : Type 0} → Ring C → List NodeView → List ℕ → Slot
+    → WorkspaceView C → WorkspaceView C → Strip → Type 0
+HasCellsOf r nodes vs slot before after strip =
+    HasCells r nodes vs (part after.cells strip.start strip.len) (table_of r nodes before.cells slot)
+
+-- the same of a strip behind the used cells of a list
+abbrev pub HasStripBehind : {C : Type 0} → Ring C → List NodeView → List ℕ → Slot
+    → List C → List C → ℕ → Strip → Type 0
+HasStripBehind r nodes vs slot before after used strip =
+    HasCellsOf r nodes vs slot (space before used) (space after (used + strip.len)) strip
+
+-- ---- tables written behind the used cells of a list
+-- the join of the slots with the node summed out
+abbrev pub WritesJoin : {C : Type 0} → Ring C → List NodeView → ℕ → List Slot
+    → List C → List C → ℕ → Slot → Type 0
+WritesJoin r nodes v slots before after used slot =
+    Behind before after used slot (AppendsJoin r nodes v slots)
+
+-- the product of the slots
+abbrev pub WritesProduct : {C : Type 0} → Ring C → List NodeView → List Slot
+    → List C → List C → ℕ → Slot → Type 0
+WritesProduct r nodes slots before after used slot =
+    Behind before after used slot (AppendsProduct r nodes slots)
+
+-- the first table of a node
+abbrev pub WritesFirst : {C : Type 0} → Ghosts C → List NodeView → List RuleView → ℕ
+    → List C → List C → ℕ → Slot → Type 0
+WritesFirst kind nodes p v before after used slot =
+    Behind before after used slot (AppendsFirst kind nodes p v)
+
+-- the table of a chance node or of a decision's rule
+abbrev pub WritesNode : {C : Type 0} → Ghosts C → List NodeView → List RuleView → ℕ
+    → List C → List C → ℕ → Slot → Type 0
+WritesNode kind nodes p v before after used slot =
+    Behind before after used slot (AppendsNode kind nodes p v)
+
+-- that of a chance node, which is the same under all rules
+abbrev pub WritesChance : {C : Type 0} → Ghosts C → List NodeView → ℕ
+    → List C → List C → ℕ → Slot → Type 0
+WritesChance kind nodes v before after used slot =
+    (p : List RuleView) → WritesNode kind nodes p v before after used slot
+
+-- the cells of a strip
+abbrev pub AppendsStripBehind : {C : Type 0} → List C → List C → ℕ → Strip → Type 0
+AppendsStripBehind before after used strip =
+    Appends (space before used) (space after (used + strip.len)) strip.start strip.len
+
+-- the slots that were live before a strip are
+abbrev pub AllStayLiveBehind :
+    {C : Type 0} → Ring C → List NodeView → List C → List C → ℕ → Strip → Type 0
+AllStayLiveBehind r nodes before after used strip =
+    AllStayLive r nodes (space before used).cells (space after (used + strip.len)).cells

@@ -1,5 +1,6 @@
 -- What joins over the cells so far require. Only private contracts cite this file.
-use Rattle.std.specs.Prelude.{ℕ, ◌^◌, ◌<◌, ◌≤◌, List, All, length}
+use Rattle.std.specs.Global.{Vec}
+use Rattle.std.specs.Prelude.{◌≡◌, ℕ, take, vec_len, ◌^◌, ◌<◌, ◌≤◌, List, All, length}
 use Rattle.cell_rings.specs.Rings.{Ring}
 use Rattle.factor_core.specs.declared.slots.Slot.{Slot}
 use Rattle.factor_core.specs.Tables.{AreCounts, LiesIn, RoomToJoin, RoomToMultiply, size_of}
@@ -20,3 +21,8 @@ pub record CanMultiplyIn {C : Type 0}
   pub live : All (LiesIn counts (length cells)) slots
   pub small : All (λ s. size_of counts s.scope ≤ 2 ^ 32) slots
   pub fits : RoomToMultiply r cells counts slots
+
+-- the cells that stand stay at their places
+abbrev pub KeepsFirst : {C : Type 0} → Vec C → Vec C → Type 0
+KeepsFirst before after =
+    (n : ℕ) → n ≤ vec_len before → take n after.items ≡ take n before.items

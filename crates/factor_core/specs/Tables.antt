@@ -64,9 +64,13 @@ abbrev pub listed : (ℕ → Bool) → ℕ → ℕ → List ℕ
 listed h v zero = []
 listed h v (suc k) = (if h v then v ∷ [] else []) ++ listed h (suc v) k
 
--- x put behind the first k of the nodes
-abbrev pub with_extra : ℕ → ℕ → List ℕ → List ℕ
-with_extra k x vs = take k vs ++ x ∷ drop k vs
+-- how many nodes the scope has
+abbrev pub node_count : List ℕ → NodeSet → ℕ
+node_count counts scope = length (listed (holds scope) 0 (length counts))
+
+-- x put behind the first k of the list
+abbrev pub with_extra : {A : Type 0} → ℕ → A → List A → List A
+with_extra k x xs = take k xs ++ x ∷ drop k xs
 
 -- the strides of the slots at the node
 abbrev pub row_of : List ℕ → List Slot → ℕ → List ℕ
@@ -81,6 +85,10 @@ starts_of slots = map (λ s. s.start) slots
 abbrev pub size_of : List ℕ → NodeSet → ℕ
 size_of counts scope = size_from (states_in counts) (holds scope) 0 (length counts)
 
+-- the size of a table over those of its nodes that are from v on
+abbrev pub size_onward : List ℕ → NodeSet → ℕ → ℕ
+size_onward counts scope v = size_from (states_in counts) (holds scope) v (length counts - v)
+
 -- the place of the world's cell in a table of that scope
 abbrev pub place_of : List ℕ → NodeSet → World → ℕ
 place_of counts scope w = place_from (states_in counts) (holds scope) w 0 (length counts)
@@ -94,6 +102,11 @@ HasTableAt r counts scope start cells f = (w : World) → InRange (states_in cou
 -- how far the place moves from one state of a node to the next, which is 0 for a node that the scope lacks
 abbrev pub stride_over : List ℕ → NodeSet → ℕ → ℕ
 stride_over counts scope v = stride_of (states_in counts) (length counts) (holds scope) v
+
+-- the axes are those of the nodes, with the strides of a table of that scope
+abbrev pub AreAxesOf : List ℕ → NodeSet → List ℕ → List Axis → Type 0
+AreAxesOf counts scope nodes axes =
+    take (length nodes) axes ≡ axes_of (states_in counts) (stride_over counts scope) nodes
 
 -- the places of the slots' cells in the world
 abbrev pub places_in : List ℕ → List Slot → World → List ℕ
@@ -118,6 +131,18 @@ sum_cell r cells counts slot x w = ring_sum r (states_in counts x) (λ s.
 -- a cell of a product: the product of the slots' cells
 abbrev pub product_cell : {C : Type 0} → Ring C → List C → List ℕ → List Slot → World → C
 product_cell r cells counts slots w = product_at r cells (places_in counts slots w)
+
+-- from `start` on the cells are the join's of slots that stand before
+abbrev pub HasJoinAt : {C : Type 0} → Ring C → List ℕ → List Slot → ℕ → NodeSet → ℕ
+    → List C → List C → Type 0
+HasJoinAt r counts slots x scope start before after =
+    HasTableAt r counts scope start after (join_cell r (take start before) counts slots x)
+
+-- from `start` on the cells are the product's of slots that stand before
+abbrev pub HasProductAt : {C : Type 0} → Ring C → List ℕ → List Slot → NodeSet → ℕ
+    → List C → List C → Type 0
+HasProductAt r counts slots scope start before after =
+    HasTableAt r counts scope start after (product_cell r (take start before) counts slots)
 
 -- the result has the product's cell at each place over the scope
 abbrev pub HasProduct : {C : Type 0}
@@ -189,6 +214,11 @@ pub record CanMultiply {C : Type 0}
 pub record Gives (counts : List ℕ) (scope : NodeSet) (w : World) (states : List ℕ) : Type 0 where
   pub state : (i : ℕ) → i < length (listed (holds scope) 0 (length counts))
       → w (slice_index (listed (holds scope) 0 (length counts)) i) ≡ slice_index states i
+
+-- the place is that of the cell of every world that gives them
+abbrev pub IsPlaceAt : List ℕ → NodeSet → List ℕ → ℕ → Type 0
+IsPlaceAt counts scope states place =
+    (w : World) → Gives counts scope w states → place ≡ place_of counts scope w
 
 -- one state in range for each node of the scope
 pub record AreStates (counts : List ℕ) (scope : NodeSet) (states : List ℕ) : Type 0 where

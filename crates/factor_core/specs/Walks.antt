@@ -3,7 +3,7 @@
 -- Only private contracts cite this file.
 use Rattle.std.specs.Prelude.{◌≡◌, ℕ, ◌+◌, ◌*◌, ◌^◌, ◌<◌, ◌≤◌, ◌==◌, if◌then◌else◌, Bool, true, false, List, [], ◌∷◌, ◌-◌, length, take, drop, All, slice_index}
 use Rattle.cell_rings.specs.Rings.{Ring, mass_ring}
-use Rattle.cell_rings.specs.Sums.{ring_sum, cell_at, product_at, sizes_of, ProductFits, HasRoom}
+use Rattle.cell_rings.specs.Sums.{ring_sum, cell_at, product_at, product_from, sizes_of, ProductFits, Adds, HasRoom}
 use Rattle.factor_core.specs.declared.walks.Axis.{Axis}
 
 -- the places after s steps along an axis, whose strides stand first in the list
@@ -18,6 +18,12 @@ abbrev pub total : {C : Type 0} → Ring C → List C → List Axis → List ℕ
 total r cells [] strides places at p = if p == at then product_at r cells places else r.nought
 total r cells (a ∷ rest) strides places at p = ring_sum r a.states (λ s.
     total r cells rest (drop (length places) strides) (shifted s strides places) (at + s * a.out) p)
+
+-- this is added to the result
+abbrev pub AddsTotal : {C : Type 0}
+    → Ring C → List C → List Axis → List ℕ → List ℕ → ℕ → List C → List C → Type 0
+AddsTotal r cells axes strides places at old new =
+    Adds r (total r cells axes strides places at) old new
 
 -- the same of sizes
 abbrev pub load : {C : Type 0} → Ring C → List C → List Axis → List ℕ → List ℕ → ℕ → ℕ → ℕ
@@ -87,10 +93,20 @@ pub record IsDot (a : Axis) (strides : List ℕ) (stand count : ℕ) : Type 0 wh
   pub fixed : (i : ℕ) → i < stand → slice_index strides i ≡ 0
   pub moving : (i : ℕ) → stand ≤ i → i < count → slice_index strides i ≡ 1
 
+-- the places moved by so many strides
+abbrev pub HaveMoved : ℕ → List ℕ → List ℕ → List ℕ → Type 0
+HaveMoved states strides before after = (i : ℕ) → i < length after
+    → slice_index before i + states * slice_index strides i ≡ slice_index after i
+
 -- the places s cells further
 abbrev pub further : ℕ → List ℕ → List ℕ
 further s [] = []
 further s (p ∷ ps) = (p + s) ∷ further s ps
+
+-- the sum of the factor's products with the cells at n such places
+abbrev pub sum_along : {C : Type 0} → Ring C → ℕ → List C → C → List ℕ → C
+sum_along r n cells factor places =
+    ring_sum r n (λ s. product_from r cells factor (further s places))
 
 -- how many operands there are where one runs along an axis: two where it is the first, else one or more
 abbrev pub IsCount : Bool → ℕ → Type 0
@@ -122,3 +138,53 @@ pub record IsFirstRun {C : Type 0}
 abbrev pub IsRunAt : {C : Type 0} → Bool → Ring C → List C → List ℕ → C → ℕ → Type 0
 IsRunAt false r cells places factor from = IsLastRun r cells places factor from
 IsRunAt true r cells places factor from = IsFirstRun r cells places factor from
+
+-- ---- a walk over one axis, and over two
+abbrev pub AddsOneAxis : {C : Type 0}
+    → Ring C → List C → Axis → List ℕ → List ℕ → ℕ → List C → List C → Type 0
+AddsOneAxis r cells axis strides places at old new =
+    AddsTotal r cells (axis ∷ []) strides places at old new
+
+abbrev pub AddsTwoAxes : {C : Type 0}
+    → Ring C → List C → Axis → Axis → List ℕ → List ℕ → ℕ → List C → List C → Type 0
+AddsTwoAxes r cells axis inner strides places at old new =
+    AddsTotal r cells (axis ∷ (inner ∷ [])) strides places at old new
+
+abbrev pub CanWalkTwoAxes : {C : Type 0}
+    → Ring C → List C → Axis → Axis → List ℕ → List ℕ → List C → ℕ → Type 0
+CanWalkTwoAxes r cells axis inner strides places out at =
+    CanWalk r cells (axis ∷ (inner ∷ [])) strides places out at
+
+-- one operand moves along the inner of two axes, whose strides stand behind those of the outer
+abbrev pub IsInnerMoved : Bool → Axis → List ℕ → List ℕ → Type 0
+IsInnerMoved turned axis strides places =
+    IsMoved turned axis (drop (length places) strides) (length places)
+
+-- ---- moves of the places
+-- each place has room for its stride, and then it moved by it
+abbrev pub CanAdvance : List ℕ → List ℕ → Type 0
+CanAdvance strides places =
+    (i : ℕ) → i < length places → slice_index places i + slice_index strides i < 2 ^ 64
+
+abbrev pub HaveAdvanced : List ℕ → List ℕ → List ℕ → Type 0
+HaveAdvanced strides before after = (i : ℕ) → i < length before
+    → slice_index after i ≡ slice_index before i + slice_index strides i
+
+-- each place can move back by so many strides
+abbrev pub CanRetreat : ℕ → List ℕ → List ℕ → Type 0
+CanRetreat states strides places =
+    (i : ℕ) → i < length places → states * slice_index strides i ≤ slice_index places i
+
+-- ---- sizes
+-- the cell is no greater than the product of the sizes at these places
+abbrev pub IsWithinSizes : {C : Type 0} → Ring C → List C → List ℕ → C → Type 0
+IsWithinSizes r cells places cell = r.size cell ≤ product_at mass_ring (sizes_of r cells) places
+
+-- the factor's products with the cells at n such places fit, and so does their sum
+abbrev pub ProductsAlongFit : {C : Type 0} → Ring C → ℕ → List C → C → List ℕ → Type 0
+ProductsAlongFit r n cells factor places =
+    (s : ℕ) → s < n → ProductFits r cells (r.size factor) (further s places)
+
+abbrev pub SumAlongFits : {C : Type 0} → Ring C → ℕ → List C → C → List ℕ → Type 0
+SumAlongFits r n cells factor places =
+    sum_along mass_ring n (sizes_of r cells) (r.size factor) places ≤ r.most

@@ -4,9 +4,8 @@ ghost use Rattle.std.specs.Prelude.{◌≡◌, ◌+◌, ◌<◌, ◌≤◌, All,
 ghost use Rattle.maid_model.specs.declared.limits.TheConstants.{MOST_PLAN_CELLS};
 ghost use Rattle.node_sets.specs.Sets.{IsIn};
 ghost use Rattle.maid_model.specs.Diagrams.{IsDiagram};
-ghost use Rattle.maid_model.specs.Nodes.{counts_of, states_of};
-ghost use Rattle.ring_sums.specs.Groups.{JoinFits, ProductsFit};
-ghost use Rattle.factor_core.specs.Slots.{space, IsLive, tables_of, join_of, product_of_slots, HasRoomBehind, AppendsBehind};
+ghost use Rattle.maid_model.specs.Nodes.{counts_of};
+ghost use Rattle.factor_core.specs.Slots.{space, IsLive, HasSpareForJoin, HasSpareForProduct, JoinOfFits, ProductOfFits, WritesJoin, WritesProduct};
 
 use crate::sizes::table_size;
 use crate::slots::{Slot, joined_scope, united_scope};
@@ -31,14 +30,11 @@ pub fn join_behind<C: Cell>(
     requires some { 0 < length slots.now }
     requires live { All (IsLive diagram.now.nodes (space all.old used).cells) slots.now }
     requires hold { All (λ s. IsIn s.scope node) slots.now }
-    requires fits { JoinFits C.ring.size (states_of diagram.now.nodes) C.ring.most node
-        (tables_of C.ring diagram.now.nodes (space all.old used).cells slots.now) }
-    requires room { HasRoomBehind diagram.now.nodes all.old used
-        (join_of C.ring diagram.now.nodes node (space all.old used).cells slots.now) }
+    requires fits { JoinOfFits C.ring diagram.now.nodes node slots.now (space all.old used) }
+    requires room { HasSpareForJoin C.ring diagram.now.nodes node slots.now (space all.old used) }
     ensures start { result.start ≡ used }
     ensures len { used + result.len ≤ length all.new }
-    ensures table { AppendsBehind C.ring diagram.now.nodes all.old all.new used result
-        (join_of C.ring diagram.now.nodes node (space all.old used).cells slots.now) }
+    ensures table { WritesJoin C.ring diagram.now.nodes node slots.now all.old all.new used result }
 {
     let scope = joined_scope(slots, node);
     let len = table_size(counts, &scope);
@@ -64,14 +60,11 @@ pub fn product_behind<C: Cell>(
     requires short { length all.old ≤ MOST_PLAN_CELLS }
     requires few { length slots.now ≤ 256 }
     requires live { All (IsLive diagram.now.nodes (space all.old used).cells) slots.now }
-    requires fits { ProductsFit C.ring.size (states_of diagram.now.nodes) C.ring.most
-        (tables_of C.ring diagram.now.nodes (space all.old used).cells slots.now) }
-    requires room { HasRoomBehind diagram.now.nodes all.old used
-        (product_of_slots C.ring diagram.now.nodes (space all.old used).cells slots.now) }
+    requires fits { ProductOfFits C.ring diagram.now.nodes slots.now (space all.old used) }
+    requires room { HasSpareForProduct C.ring diagram.now.nodes slots.now (space all.old used) }
     ensures start { result.start ≡ used }
     ensures len { used + result.len ≤ length all.new }
-    ensures table { AppendsBehind C.ring diagram.now.nodes all.old all.new used result
-        (product_of_slots C.ring diagram.now.nodes (space all.old used).cells slots.now) }
+    ensures table { WritesProduct C.ring diagram.now.nodes slots.now all.old all.new used result }
 {
     let scope = united_scope(slots);
     let len = table_size(counts, &scope);

@@ -1,7 +1,7 @@
 //! A walk that copies cells in another order.
 
 ghost use Rattle.std.specs.Prelude.{◌≡◌, ◌+◌, ◌-◌, ◌≤◌, length, take, ◌++◌, [], ◌∷◌};
-ghost use Rattle.factor_core.specs.Copies.{gathered, count_of_steps, CanCopy, HasCopied};
+ghost use Rattle.factor_core.specs.Copies.{count_of_steps, CanCopy, HasCopied, CanCopyAllOf, CanCopyOf, Gathers};
 
 use crate::sources::{Source, Stored};
 use crate::walks::after;
@@ -23,11 +23,9 @@ fn copy_run<C: Cell, S: Source<C>>(
     out: &mut [C],
     at: usize,
 ) -> usize
-    requires { CanCopy (S.is_fit source.now) (length (S.cells source.now)) (step ∷ []) from
-        (length out.old) at }
+    requires { CanCopyOf S.Source source.now (step ∷ []) from out.old at }
     ensures next { result ≡ at + step.states }
-    ensures cells { take result out.new
-        ≡ take at out.old ++ gathered C.ring (S.cells source.now) (step ∷ []) from }
+    ensures cells { Gathers C.ring (S.cells source.now) (step ∷ []) from out.old at out.new result }
 {
     let mut place = at;
     let mut here = from;
@@ -48,11 +46,10 @@ fn copy_rows<C: Cell, S: Source<C>>(
     out: &mut [C],
     at: usize,
 ) -> usize
-    requires { CanCopy (S.is_fit source.now) (length (S.cells source.now)) (step ∷ (inner ∷ []))
-        from (length out.old) at }
+    requires { CanCopyOf S.Source source.now (step ∷ (inner ∷ [])) from out.old at }
     ensures next { result ≡ at + count_of_steps (step ∷ (inner ∷ [])) }
-    ensures cells { take result out.new ≡ take at out.old
-        ++ gathered C.ring (S.cells source.now) (step ∷ (inner ∷ [])) from }
+    ensures cells { Gathers C.ring (S.cells source.now) (step ∷ (inner ∷ [])) from out.old at
+        out.new result }
 {
     let mut place = at;
     let mut here = from;
@@ -71,11 +68,9 @@ pub fn copy_walk<C: Cell, S: Source<C>>(
     out: &mut [C],
     at: usize,
 ) -> usize
-    requires { CanCopy (S.is_fit source.now) (length (S.cells source.now)) steps.now from
-        (length out.old) at }
+    requires { CanCopyOf S.Source source.now steps.now from out.old at }
     ensures next { result ≡ at + count_of_steps steps.now }
-    ensures cells { take result out.new
-        ≡ take at out.old ++ gathered C.ring (S.cells source.now) steps.now from }
+    ensures cells { Gathers C.ring (S.cells source.now) steps.now from out.old at out.new result }
 {
     if steps.is_empty() {
         out[at] = source.read(from);
@@ -111,8 +106,7 @@ pub fn copy_at<C: Cell>(steps: &[Step], from: usize, all: &mut [C], start: usize
 /// Copies cells of a source to the places from `start` on.
 pub fn copy_from<C: Cell, S: Source<C>>(steps: &[Step], source: &S, all: &mut [C], start: usize)
     requires start { start ≤ length all.old }
-    requires can { CanCopy (S.is_fit source.now) (length (S.cells source.now)) steps.now 0
-        (length all.old - start) 0 }
+    requires can { CanCopyAllOf S.Source source.now steps.now all.old start }
     ensures { HasCopied C.ring (S.cells source.now) steps.now 0 start all.old all.new }
 {
     let (_, out) = all.split_at_mut(start);

@@ -1,15 +1,13 @@
 //! First tables of nodes: of a chance node, of a decision's rule, and of a utility.
 
-ghost use Rattle.std.specs.Prelude.{◌≡◌, ◌+◌, ◌*◌, ◌<◌, ◌≤◌, List, All, ◌++◌, [], ◌∷◌, if◌then◌else◌, length, take, nat_abs};
+ghost use Rattle.std.specs.Prelude.{◌≡◌, ◌+◌, ◌*◌, ◌<◌, ◌≤◌, All, ◌++◌, [], ◌∷◌, if◌then◌else◌, length, take, nat_abs};
 ghost use Rattle.maid_model.specs.declared.limits.TheConstants.{MOST_PLAN_CELLS};
 ghost use Rattle.maid_model.specs.declared.diagrams.Kind.{Kind};
 ghost use Rattle.maid_model.specs.Nodes.{counts_of, node_at, IsDecision};
 ghost use Rattle.maid_model.specs.Profiles.{IsProfile, HasRule};
 ghost use Rattle.maid_model.specs.Tables.{weights_of};
-ghost use Rattle.maid_model.specs.Views.{RuleView};
-ghost use Rattle.plan_sums.specs.Plans.{node_table, utility_table};
-ghost use Rattle.factor_core.specs.Operations.{cells_by, first_table, NumbersFit};
-ghost use Rattle.factor_core.specs.Slots.{HasRoomBehind, AppendsBehind};
+ghost use Rattle.factor_core.specs.Operations.{NumbersFit};
+ghost use Rattle.factor_core.specs.Slots.{AppendsUtility, Behind, HasSpareForFirst, HasSpareForNode, HasSpareForUtility, space, WritesChance, WritesFirst, WritesNode};
 
 use crate::orders::push_held;
 use crate::slots::Slot;
@@ -54,12 +52,10 @@ fn chance_table<C: Cell>(
     requires node { v < length diagram.now.nodes }
     requires kind { (node_at diagram.now.nodes v).kind ≡ Kind.Chance }
     requires fit { All (λ z. 2 * nat_abs z ≤ C.ring.most) (node_at diagram.now.nodes v).cells }
-    requires room { HasRoomBehind diagram.now.nodes all.old used
-        (node_table (cells_by C.ring C.of_weight C.of_value) diagram.now.nodes [] v) }
+    requires room { HasSpareForNode C.Cell diagram.now.nodes [] v (space all.old used) }
     ensures start { result.start ≡ used }
     ensures len { used + result.len ≤ length all.new }
-    ensures table { (p : List RuleView) → AppendsBehind C.ring diagram.now.nodes all.old all.new
-        used result (node_table (cells_by C.ring C.of_weight C.of_value) diagram.now.nodes p v) }
+    ensures table { WritesChance C.Cell diagram.now.nodes v all.old all.new used result }
 {
     let mut list = [0; MOST_PARENTS + 1];
     let n = list_family(&mut list, diagram.parents(v), true, v);
@@ -84,12 +80,10 @@ fn rule_table<C: Cell>(
     requires profile { IsProfile diagram.now.nodes profile.now }
     requires node { IsDecision diagram.now.nodes v }
     requires fit { All (λ w. 2 * w ≤ C.ring.most) (weights_of profile.now v) }
-    requires room { HasRoomBehind diagram.now.nodes all.old used (node_table
-        (cells_by C.ring C.of_weight C.of_value) diagram.now.nodes profile.now v) }
+    requires room { HasSpareForNode C.Cell diagram.now.nodes profile.now v (space all.old used) }
     ensures start { result.start ≡ used }
     ensures len { used + result.len ≤ length all.new }
-    ensures table { AppendsBehind C.ring diagram.now.nodes all.old all.new used result (node_table
-        (cells_by C.ring C.of_weight C.of_value) diagram.now.nodes profile.now v) }
+    ensures table { WritesNode C.Cell diagram.now.nodes profile.now v all.old all.new used result }
 {
     let mut list = [0; MOST_PARENTS + 1];
     let n = list_family(&mut list, diagram.parents(v), true, v);
@@ -113,12 +107,10 @@ fn value_table<C: Cell>(
     requires node { v < length diagram.now.nodes }
     requires kind { (node_at diagram.now.nodes v).kind ≡ Kind.Utility }
     requires fit { All (λ z. 2 * nat_abs z ≤ C.ring.most) (node_at diagram.now.nodes v).cells }
-    requires room { HasRoomBehind diagram.now.nodes all.old used
-        (utility_table (cells_by C.ring C.of_weight C.of_value) diagram.now.nodes v) }
+    requires room { HasSpareForUtility C.Cell diagram.now.nodes v (space all.old used) }
     ensures start { result.start ≡ used }
     ensures len { used + result.len ≤ length all.new }
-    ensures table { AppendsBehind C.ring diagram.now.nodes all.old all.new used result
-        (utility_table (cells_by C.ring C.of_weight C.of_value) diagram.now.nodes v) }
+    ensures table { Behind all.old all.new used result (AppendsUtility C.Cell diagram.now.nodes v) }
 {
     let source = ValueCells {
         cells: diagram.cells(v),
@@ -141,12 +133,10 @@ pub fn table_behind<C: Cell>(
     requires profile { IsProfile diagram.now.nodes profile.now }
     requires node { v < length diagram.now.nodes }
     requires fit { NumbersFit C.ring.most diagram.now.nodes profile.now v }
-    requires room { HasRoomBehind diagram.now.nodes all.old used (first_table
-        (cells_by C.ring C.of_weight C.of_value) diagram.now.nodes profile.now v) }
+    requires room { HasSpareForFirst C.Cell diagram.now.nodes profile.now v (space all.old used) }
     ensures start { result.start ≡ used }
     ensures len { used + result.len ≤ length all.new }
-    ensures table { AppendsBehind C.ring diagram.now.nodes all.old all.new used result
-        (first_table (cells_by C.ring C.of_weight C.of_value) diagram.now.nodes profile.now v) }
+    ensures table { WritesFirst C.Cell diagram.now.nodes profile.now v all.old all.new used result }
 {
     match diagram.kind(v) {
         Kind::Chance => chance_table(diagram, counts, v, all, used),

@@ -1,12 +1,13 @@
 //! Joins of slots, with a node summed out, as walks.
 
 ghost use Rattle.std.specs.Prelude.{◌≤◌, ◌<◌, ◌+◌, ◌*◌, length};
-ghost use Rattle.node_sets.specs.Sets.{holds};
-ghost use Rattle.factor_core.specs.Tables.{listed, CanJoin, HasJoin};
+ghost use Rattle.factor_core.specs.Tables.{CanJoin, HasJoin, node_count};
+ghost use Rattle.factor_core.specs.Rows.{HasRoomForRows};
 
 use crate::narrow::find_narrow;
-use crate::orders::{count_nodes, insert_node, list_nodes, summed_place};
-use crate::setting::{set_axes, set_places, set_strides};
+use crate::orders::{count_nodes, insert_axis, list_nodes, summed_place};
+use crate::rows::set_strides_with;
+use crate::setting::{set_axes, set_places};
 use crate::short_walks::walk_over;
 use crate::slots::Slot;
 use crate::walks::{Axis, before};
@@ -26,26 +27,34 @@ fn join_in<C: Cell>(
     strides: &mut [usize],
     places: &mut [usize],
 )
-    requires order { length (listed (holds scope.now) 0 (length counts.now)) < length order.old }
-    requires axes { length (listed (holds scope.now) 0 (length counts.now)) < length axes.old }
-    requires strides { (length (listed (holds scope.now) 0 (length counts.now)) + 1)
-        * length slots.now ≤ length strides.old }
+    requires order { node_count counts.now scope.now < length order.old }
+    requires axes { node_count counts.now scope.now < length axes.old }
+    requires strides { HasRoomForRows counts.now scope.now slots.now strides.old }
     requires places { length slots.now ≤ length places.old }
     requires can { CanJoin C.ring cells.now counts.now slots.now node scope.now out.old }
     ensures { HasJoin C.ring cells.now counts.now slots.now node scope.now out.new }
 {
     let kept = list_nodes(order, counts.len(), scope);
     let at = summed_place(counts, order, kept, slots, node);
-    insert_node(order, kept, at, node);
-    let n = kept + 1;
-    let order = before(order, n);
+    let last = if at < kept { order[at] } else { node };
+    let order = before(order, kept);
     set_axes(axes, counts, scope, order);
-    set_strides(strides, counts, slots, order);
+    insert_axis(
+        axes,
+        kept,
+        at,
+        Axis {
+            states: counts[node],
+            out: 0,
+        },
+    );
+    set_strides_with(strides, places, counts, slots, order, at, node);
     set_places(places, slots);
+    let n = kept + 1;
     let axes = before(axes, n);
     let strides = before(strides, n * slots.len());
     let joined = out.len().saturating_mul(counts[node]);
-    let narrow = find_narrow(slots, order[kept], joined, cells);
+    let narrow = find_narrow(slots, last, joined, cells);
     let places = &mut places[..slots.len()];
     walk_over(narrow, axes, strides, cells, places, out, 0);
 }
@@ -61,10 +70,9 @@ fn join_sized<C: Cell, const NODES: usize, const SLOTS: usize, const STRIDES: us
     out: &mut [C],
 )
     requires sizes { (NODES ≤ 257) × (SLOTS ≤ 256) × (STRIDES ≤ 65792) }
-    requires nodes { length (listed (holds scope.now) 0 (length counts.now)) < NODES }
+    requires nodes { node_count counts.now scope.now < NODES }
     requires slots { length slots.now ≤ SLOTS }
-    requires strides { (length (listed (holds scope.now) 0 (length counts.now)) + 1)
-        * length slots.now ≤ STRIDES }
+    requires strides { (node_count counts.now scope.now + 1) * length slots.now ≤ STRIDES }
     requires can { CanJoin C.ring cells.now counts.now slots.now node scope.now out.old }
     ensures { HasJoin C.ring cells.now counts.now slots.now node scope.now out.new }
 {

@@ -11,6 +11,7 @@ mod orders;
 mod products;
 mod reading;
 mod reorders;
+mod rows;
 mod setting;
 mod short_walks;
 mod sizes;
@@ -18,8 +19,6 @@ mod slots;
 mod sources;
 mod states;
 mod tables;
-#[cfg(test)]
-mod tests;
 mod walks;
 mod workspaces;
 mod writes;

@@ -1,6 +1,6 @@
 //! Stretches of narrow cells, which are multiplied faster.
 
-ghost use Rattle.std.specs.Prelude.{◌≡◌, ◌+◌, ◌≤◌, IsTrue};
+ghost use Rattle.std.specs.Prelude.{◌≡◌, ◌+◌, ◌≤◌, ◌↔◌, IsTrue};
 ghost use Rattle.factor_core.specs.Narrow.{AreNarrow};
 
 use crate::slots::Slot;
@@ -22,14 +22,15 @@ pub struct Narrow {
 impl Narrow {
     /// No place.
     pub fn none() -> Narrow
-        ensures { result.end ≡ 0 }
+        ensures from { result.from ≡ 0 }
+        ensures end { result.end ≡ 0 }
     {
         Narrow { from: 0, end: 0 }
     }
 
     /// Whether the n places from one on are among them.
     pub fn has(self, from: usize, n: usize) -> bool
-        ensures { IsTrue result → (self.from ≤ from) × (from + n ≤ self.end) }
+        ensures { IsTrue result ↔ ((self.from ≤ from) × (from + n ≤ self.end)) }
     {
         self.from <= from && from <= self.end && n <= self.end - from
     }

@@ -1,12 +1,12 @@
 //! The order in which a walk goes over the nodes.
 
-ghost use Rattle.std.specs.Prelude.{◌≡◌, ◌+◌, ◌<◌, ◌≤◌, ℕ, MatchOption, length, take, [], ◌∷◌, ◌++◌, if◌then◌else◌};
-ghost use Rattle.node_sets.specs.declared.sets.TheConstants.{MOST_NODES};
-ghost use Rattle.node_sets.specs.Sets.{holds, IsIn, IsFirstFrom};
+ghost use Rattle.std.specs.Prelude.{◌≡◌, ◌+◌, ◌<◌, ◌≤◌, length, take, [], ◌∷◌, ◌++◌, if◌then◌else◌};
+ghost use Rattle.node_sets.specs.Sets.{holds};
 ghost use Rattle.factor_core.specs.Tables.{listed, with_extra};
 
 use crate::short_walks::{FEW, LONG};
 use crate::slots::Slot;
+use crate::walks::Axis;
 use node_sets::NodeSet;
 
 /// Writes the node behind the first n, where it is held. Gives how many there are now.
@@ -23,14 +23,14 @@ pub fn push_held(order: &mut [usize], n: usize, node: usize, held: bool) -> usiz
     }
 }
 
-/// Puts the node behind the first `at` of the first n, before the last of them or behind them all.
-pub fn insert_node(order: &mut [usize], n: usize, at: usize, node: usize)
-    requires room { n < length order.old }
+/// Puts the axis behind the first `at` of the first n, before the last of them or behind them all.
+pub fn insert_axis(axes: &mut [Axis], n: usize, at: usize, axis: Axis)
+    requires room { n < length axes.old }
     requires at { (at ≤ n) × (n ≤ at + 1) }
-    ensures { take (n + 1) order.new ≡ with_extra at node (take n order.old) }
+    ensures { take (n + 1) axes.new ≡ with_extra at axis (take n axes.old) }
 {
-    order[n] = order[at];
-    order[at] = node;
+    axes[n] = axes[at];
+    axes[at] = axis;
 }
 
 /// One more where the node is held.
@@ -41,18 +41,6 @@ pub fn counted(n: usize, held: bool) -> usize
     if held { n + 1 } else { n }
 }
 
-/// The first node of the scope from one number on and below another.
-pub fn first_between(scope: &NodeSet, from: usize, end: usize) -> Option<usize>
-    requires { from ≤ MOST_NODES }
-    ensures { MatchOption result ((v : ℕ) → from ≤ v → v < end → IsIn scope.now v → ⊥)
-        (λ v. IsFirstFrom scope.now from v × (v < end)) }
-{
-    match scope.first_from(from) {
-        Some(v) if v < end => Some(v),
-        _ => None,
-    }
-}
-
 /// How many nodes the scope holds.
 pub fn count_nodes(count: usize, scope: &NodeSet) -> usize
     requires { count ≤ 256 }
@@ -61,7 +49,7 @@ pub fn count_nodes(count: usize, scope: &NodeSet) -> usize
 {
     let mut n = 0;
     let mut next = 0;
-    'nodes: while let Some(v) = first_between(scope, next, count) {
+    'nodes: while let Some(v) = scope.first_between(next, count) {
         n += 1;
         next = v + 1;
     }
@@ -77,7 +65,7 @@ pub fn list_nodes(order: &mut [usize], count: usize, scope: &NodeSet) -> usize
 {
     let mut n = 0;
     let mut next = 0;
-    'nodes: while let Some(v) = first_between(scope, next, count) {
+    'nodes: while let Some(v) = scope.first_between(next, count) {
         order[n] = v;
         n += 1;
         next = v + 1;

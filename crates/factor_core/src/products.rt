@@ -1,12 +1,13 @@
 //! Products of slots as walks.
 
 ghost use Rattle.std.specs.Prelude.{◌≤◌, ◌<◌, ◌+◌, ◌*◌, length};
-ghost use Rattle.node_sets.specs.Sets.{holds};
-ghost use Rattle.factor_core.specs.Tables.{listed, CanMultiply, HasProduct};
+ghost use Rattle.factor_core.specs.Tables.{CanMultiply, HasProduct, node_count};
+ghost use Rattle.factor_core.specs.Rows.{HasRoomForRows};
 
 use crate::narrow::Narrow;
 use crate::orders::{count_nodes, list_nodes};
-use crate::setting::{set_axes, set_places, set_strides};
+use crate::rows::set_strides;
+use crate::setting::{set_axes, set_places};
 use crate::short_walks::walk_over;
 use crate::slots::Slot;
 use crate::walks::{Axis, before};
@@ -25,10 +26,9 @@ fn multiply_in<C: Cell>(
     strides: &mut [usize],
     places: &mut [usize],
 )
-    requires order { length (listed (holds scope.now) 0 (length counts.now)) < length order.old }
-    requires axes { length (listed (holds scope.now) 0 (length counts.now)) < length axes.old }
-    requires strides { (length (listed (holds scope.now) 0 (length counts.now)) + 1)
-        * length slots.now ≤ length strides.old }
+    requires order { node_count counts.now scope.now < length order.old }
+    requires axes { node_count counts.now scope.now < length axes.old }
+    requires strides { HasRoomForRows counts.now scope.now slots.now strides.old }
     requires places { length slots.now ≤ length places.old }
     requires can { CanMultiply C.ring cells.now counts.now slots.now scope.now out.old }
     ensures { HasProduct C.ring cells.now counts.now slots.now scope.now out.new }
@@ -36,7 +36,7 @@ fn multiply_in<C: Cell>(
     let n = list_nodes(order, counts.len(), scope);
     let order = before(order, n);
     set_axes(axes, counts, scope, order);
-    set_strides(strides, counts, slots, order);
+    set_strides(strides, places, counts, slots, order);
     set_places(places, slots);
     let axes = before(axes, n);
     let strides = before(strides, n * slots.len());
@@ -54,10 +54,9 @@ fn multiply_sized<C: Cell, const NODES: usize, const SLOTS: usize, const STRIDES
     out: &mut [C],
 )
     requires sizes { (NODES ≤ 257) × (SLOTS ≤ 256) × (STRIDES ≤ 65792) }
-    requires nodes { length (listed (holds scope.now) 0 (length counts.now)) < NODES }
+    requires nodes { node_count counts.now scope.now < NODES }
     requires slots { length slots.now ≤ SLOTS }
-    requires strides { (length (listed (holds scope.now) 0 (length counts.now)) + 1)
-        * length slots.now ≤ STRIDES }
+    requires strides { (node_count counts.now scope.now + 1) * length slots.now ≤ STRIDES }
     requires can { CanMultiply C.ring cells.now counts.now slots.now scope.now out.old }
     ensures { HasProduct C.ring cells.now counts.now slots.now scope.now out.new }
 {

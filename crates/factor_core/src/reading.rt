@@ -3,8 +3,7 @@
 ghost use Rattle.std.specs.Prelude.{◌≡◌, ◌+◌, ◌*◌, ◌^◌, ◌<◌, ◌≤◌, ℕ, IsTrue, if◌then◌else◌, slice_index, length, take};
 ghost use Rattle.maid_model.specs.declared.limits.TheConstants.{MOST_PLAN_CELLS};
 ghost use Rattle.factor_core.specs.Slots.{IsLive, AreStatesOf, IsCellAt};
-ghost use Rattle.node_sets.specs.Sets.{holds};
-ghost use Rattle.factor_core.specs.Tables.{AreCounts, AreStates, Gives, size_of, place_of};
+ghost use Rattle.factor_core.specs.Tables.{AreCounts, AreStates, size_of, IsPlaceAt};
 
 use crate::orders::counted;
 use crate::slots::Slot;
@@ -34,8 +33,7 @@ pub fn place_for(counts: &[usize], scope: &NodeSet, states: &[usize]) -> usize
     requires fits { size_of counts.now scope.now ≤ 2 ^ 32 }
     requires states { AreStates counts.now scope.now states.now }
     ensures within { result < size_of counts.now scope.now }
-    ensures place { (w : ℕ → ℕ) → Gives counts.now scope.now w states.now
-        → result ≡ place_of counts.now scope.now w }
+    ensures place { IsPlaceAt counts.now scope.now states.now result }
 {
     let mut place = 0;
     let mut i = 0;

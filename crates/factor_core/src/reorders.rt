@@ -6,9 +6,7 @@ ghost use Rattle.node_sets.specs.declared.sets.TheConstants.{MOST_NODES};
 ghost use Rattle.node_sets.specs.Sets.{holds, IsIn};
 ghost use Rattle.maid_model.specs.Graph.{AllDifferent};
 ghost use Rattle.maid_model.specs.Nodes.{states_of};
-ghost use Rattle.factor_core.specs.declared.slots.Slot.{Slot};
-ghost use Rattle.factor_core.specs.Operations.{restricted};
-ghost use Rattle.factor_core.specs.Slots.{space, part, HasCells, IsLive, table_of, Appends, HasRoomBehind, AppendsBehind, AllStayLive};
+ghost use Rattle.factor_core.specs.Slots.{space, IsLive, AppendsRestricted, Behind, HasSpareForRestricted, HasStripBehind, AllStayLiveBehind, AppendsStripBehind};
 ghost use Rattle.factor_core.specs.Tables.{AreCounts, size_of, stride_over};
 
 use crate::copies::{Step, copy_at};
@@ -63,12 +61,12 @@ pub fn restrict_behind<C: Cell>(
     requires live { IsLive diagram.now.nodes (space all.old used).cells slot.now }
     requires hold { IsIn slot.now.scope node }
     requires state { state < states_of diagram.now.nodes node }
-    requires room { HasRoomBehind diagram.now.nodes all.old used (restricted node state
-        (table_of C.ring diagram.now.nodes (space all.old used).cells slot.now)) }
+    requires room { HasSpareForRestricted C.ring diagram.now.nodes node state slot.now (space
+        all.old used) }
     ensures start { result.start ≡ used }
     ensures len { used + result.len ≤ length all.new }
-    ensures table { AppendsBehind C.ring diagram.now.nodes all.old all.new used result (restricted
-        node state (table_of C.ring diagram.now.nodes (space all.old used).cells slot.now)) }
+    ensures table { Behind all.old all.new used result (AppendsRestricted C.ring diagram.now.nodes
+        node state slot.now) }
 {
     let mut counts = [1; MOST_NODES];
     list_states(&mut counts, diagram);
@@ -109,13 +107,10 @@ pub fn reorder_behind<C: Cell>(
     ensures start { result.start ≡ used }
     ensures len { used + result.len ≤ length all.new }
     ensures same { result.len ≡ slot.now.len }
-    ensures appends { Appends (space all.old used) (space all.new (used + result.len)) result.start
-        result.len }
-    ensures cells { HasCells C.ring diagram.now.nodes nodes.now
-        (part (space all.new (used + result.len)).cells result.start result.len)
-        (table_of C.ring diagram.now.nodes (space all.old used).cells slot.now) }
-    ensures stays { AllStayLive C.ring diagram.now.nodes (space all.old used).cells
-        (space all.new (used + result.len)).cells }
+    ensures appends { AppendsStripBehind all.old all.new used result }
+    ensures cells { HasStripBehind C.ring diagram.now.nodes nodes.now slot.now all.old all.new used
+        result }
+    ensures stays { AllStayLiveBehind C.ring diagram.now.nodes all.old all.new used result }
 {
     let mut counts = [1; MOST_NODES];
     list_states(&mut counts, diagram);

@@ -1,9 +1,8 @@
 //! The walk of joins and products of few operands along short axes: cell by cell, the operands counted by the compiler.
 
-ghost use Rattle.std.specs.Prelude.{◌≡◌, ◌+◌, ◌*◌, ◌<◌, ◌≤◌, length, drop, [], ◌∷◌, IsTrue};
-ghost use Rattle.cell_rings.specs.Sums.{Adds};
+ghost use Rattle.std.specs.Prelude.{◌≡◌, ◌+◌, ◌*◌, ◌<◌, ◌≤◌, length, drop, [], ◌∷◌, ◌↔◌, IsTrue};
 ghost use Rattle.factor_core.specs.Narrow.{AreNarrow};
-ghost use Rattle.factor_core.specs.Walks.{total, CanWalk, IsPair};
+ghost use Rattle.factor_core.specs.Walks.{CanWalk, IsPair, AddsTotal, AddsOneAxis, AddsTwoAxes, CanWalkTwoAxes};
 
 use crate::narrow::Narrow;
 use crate::walks::{Axis, add_at, advance, after, product, walk};
@@ -34,8 +33,7 @@ fn add_sum<C: Cell, const N: usize>(
 )
     requires stands { axis.out ≡ 0 }
     requires can { CanWalk C.ring cells.now (axis ∷ []) strides.now places.now out.old at }
-    ensures { Adds C.ring (total C.ring cells.now (axis ∷ []) strides.now places.now at) out.old
-        out.new }
+    ensures { AddsOneAxis C.ring cells.now axis strides.now places.now at out.old out.new }
 {
     let mut here = *places;
     let mut sum = C::zero();
@@ -56,8 +54,7 @@ fn add_each<C: Cell, const N: usize>(
     at: usize,
 )
     requires { CanWalk C.ring cells.now (axis ∷ []) strides.now places.now out.old at }
-    ensures { Adds C.ring (total C.ring cells.now (axis ∷ []) strides.now places.now at) out.old
-        out.new }
+    ensures { AddsOneAxis C.ring cells.now axis strides.now places.now at out.old out.new }
 {
     let mut here = *places;
     let mut place = at;
@@ -78,8 +75,7 @@ fn add_line<C: Cell, const N: usize>(
     at: usize,
 )
     requires { CanWalk C.ring cells.now (axis ∷ []) strides.now places.now out.old at }
-    ensures { Adds C.ring (total C.ring cells.now (axis ∷ []) strides.now places.now at) out.old
-        out.new }
+    ensures { AddsOneAxis C.ring cells.now axis strides.now places.now at out.old out.new }
 {
     if axis.out == 0 {
         add_sum(axis, strides, cells, places, out, at)
@@ -98,9 +94,8 @@ fn add_lines<C: Cell, const N: usize>(
     out: &mut [C],
     at: usize,
 )
-    requires { CanWalk C.ring cells.now (axis ∷ (inner ∷ [])) strides.now places.now out.old at }
-    ensures { Adds C.ring (total C.ring cells.now (axis ∷ (inner ∷ [])) strides.now places.now at)
-        out.old out.new }
+    requires { CanWalkTwoAxes C.ring cells.now axis inner strides.now places.now out.old at }
+    ensures { AddsTwoAxes C.ring cells.now axis inner strides.now places.now at out.old out.new }
 {
     let below = rows_below(strides, places);
     let mut here = *places;
@@ -123,8 +118,7 @@ fn add_pair<C: Cell, const N: usize>(
 )
     requires pair { IsPair axis }
     requires can { CanWalk C.ring cells.now (axis ∷ []) strides.now places.now out.old at }
-    ensures { Adds C.ring (total C.ring cells.now (axis ∷ []) strides.now places.now at) out.old
-        out.new }
+    ensures { AddsOneAxis C.ring cells.now axis strides.now places.now at out.old out.new }
 {
     prove!(axis.states == 2);
     let mut there = *places;
@@ -145,10 +139,8 @@ fn add_pairs<C: Cell, const N: usize>(
     at: usize,
 )
     requires pair { IsPair inner }
-    requires can { CanWalk C.ring cells.now (axis ∷ (inner ∷ [])) strides.now places.now out.old
-        at }
-    ensures { Adds C.ring (total C.ring cells.now (axis ∷ (inner ∷ [])) strides.now places.now at)
-        out.old out.new }
+    requires can { CanWalkTwoAxes C.ring cells.now axis inner strides.now places.now out.old at }
+    ensures { AddsTwoAxes C.ring cells.now axis inner strides.now places.now at out.old out.new }
 {
     let below = rows_below(strides, places);
     let mut here = *places;
@@ -174,9 +166,8 @@ fn add_planes<C: Cell, const N: usize>(
     requires pair { IsPair inner }
     requires can { CanWalk C.ring cells.now (outer ∷ (axis ∷ (inner ∷ []))) strides.now places.now
         out.old at }
-    ensures { Adds C.ring
-        (total C.ring cells.now (outer ∷ (axis ∷ (inner ∷ []))) strides.now places.now at) out.old
-        out.new }
+    ensures { AddsTotal C.ring cells.now (outer ∷ (axis ∷ (inner ∷ []))) strides.now places.now at
+        out.old out.new }
 {
     let below = rows_below(strides, places);
     let mut here = *places;
@@ -190,7 +181,7 @@ fn add_planes<C: Cell, const N: usize>(
 
 /// Whether the axis has two states, along which the result stands.
 fn is_pair(axis: Axis) -> bool
-    ensures { IsTrue result → IsPair axis }
+    ensures { IsTrue result ↔ IsPair axis }
 {
     axis.states == 2 && axis.out == 0
 }
@@ -205,8 +196,7 @@ fn walk_cells<C: Cell, const N: usize>(
     at: usize,
 )
     requires { CanWalk C.ring cells.now axes.now strides.now places.now out.old at }
-    ensures { Adds C.ring (total C.ring cells.now axes.now strides.now places.now at) out.old
-        out.new }
+    ensures { AddsTotal C.ring cells.now axes.now strides.now places.now at out.old out.new }
 {
     if axes.is_empty() {
         add_at(out, at, product(cells, places));
@@ -258,8 +248,7 @@ fn walk_counted<C: Cell, const N: usize>(
     requires few { N ≤ 12 }
     requires narrow { AreNarrow C.ring C.bits C.narrow cells.now narrow }
     requires can { CanWalk C.ring cells.now axes.now strides.now places.old out.old at }
-    ensures { Adds C.ring (total C.ring cells.now axes.now strides.now places.old at) out.old
-        out.new }
+    ensures { AddsTotal C.ring cells.now axes.now strides.now places.old at out.old out.new }
 {
     match places.as_array::<N>() {
         Some(places) => walk_cells(axes, strides, cells, places, out, at),
@@ -279,8 +268,7 @@ fn walk_few<C: Cell>(
 )
     requires narrow { AreNarrow C.ring C.bits C.narrow cells.now narrow }
     requires can { CanWalk C.ring cells.now axes.now strides.now places.old out.old at }
-    ensures { Adds C.ring (total C.ring cells.now axes.now strides.now places.old at) out.old
-        out.new }
+    ensures { AddsTotal C.ring cells.now axes.now strides.now places.old at out.old out.new }
 {
     match places.len() {
         1 => walk_counted::<C, 1>(narrow, axes, strides, cells, places, out, at),
@@ -311,8 +299,7 @@ pub fn walk_over<C: Cell>(
 )
     requires narrow { AreNarrow C.ring C.bits C.narrow cells.now narrow }
     requires can { CanWalk C.ring cells.now axes.now strides.now places.old out.old at }
-    ensures { Adds C.ring (total C.ring cells.now axes.now strides.now places.old at) out.old
-        out.new }
+    ensures { AddsTotal C.ring cells.now axes.now strides.now places.old at out.old out.new }
 {
     if is_short(axes, 0) && is_short(axes, 1) {
         walk_few(narrow, axes, strides, cells, places, out, at);

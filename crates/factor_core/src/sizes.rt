@@ -2,23 +2,20 @@
 
 ghost use Rattle.std.specs.Prelude.{◌≡◌, ◌+◌, ◌-◌, ◌*◌, ◌^◌, ◌<◌, ◌≤◌, length};
 ghost use Rattle.node_sets.specs.Sets.{holds};
-ghost use Rattle.factor_core.specs.Tables.{AreCounts, states_in, size_from, size_of, stride_of};
+ghost use Rattle.factor_core.specs.Tables.{AreCounts, states_in, size_of, stride_of, size_onward};
 
-use crate::orders::first_between;
 use node_sets::NodeSet;
 
 /// How many cells a table has over those of the nodes from one on that the scope holds.
 pub fn size_after(counts: &[usize], scope: &NodeSet, from: usize) -> usize
     requires counts { AreCounts counts.now }
     requires from { from ≤ length counts.now }
-    requires fits { size_from (states_in counts.now) (holds scope.now) from
-        (length counts.now - from) ≤ 2 ^ 32 }
-    ensures { result
-        ≡ size_from (states_in counts.now) (holds scope.now) from (length counts.now - from) }
+    requires fits { size_onward counts.now scope.now from ≤ 2 ^ 32 }
+    ensures { result ≡ size_onward counts.now scope.now from }
 {
     let mut size = 1;
     let mut next = from;
-    'nodes: while let Some(v) = first_between(scope, next, counts.len()) {
+    'nodes: while let Some(v) = scope.first_between(next, counts.len()) {
         size *= counts[v];
         next = v + 1;
     }
@@ -38,8 +35,7 @@ pub fn table_size(counts: &[usize], scope: &NodeSet) -> usize
 pub fn stride(counts: &[usize], scope: &NodeSet, node: usize) -> usize
     requires counts { AreCounts counts.now }
     requires node { node < length counts.now }
-    requires fits { size_from (states_in counts.now) (holds scope.now) 0 (length counts.now)
-        ≤ 2 ^ 32 }
+    requires fits { size_of counts.now scope.now ≤ 2 ^ 32 }
     ensures { result ≡ stride_of (states_in counts.now) (length counts.now) (holds scope.now) node }
 {
     if scope.holds(node) {

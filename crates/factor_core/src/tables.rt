@@ -1,6 +1,6 @@
 //! First tables of nodes, behind the first cells of a list.
 
-ghost use Rattle.std.specs.Prelude.{◌≡◌, ◌+◌, ◌-◌, ◌^◌, IsTrue, ◌<◌, ◌≤◌, ℕ, All, Contains, drop, length, take};
+ghost use Rattle.std.specs.Prelude.{◌≡◌, ◌+◌, ◌-◌, ◌^◌, ◌↔◌, IsTrue, ◌<◌, ◌≤◌, ℕ, All, Contains, drop, length};
 ghost use Rattle.maid_model.specs.declared.limits.TheConstants.{MOST_PARENTS, MOST_PLAN_CELLS};
 ghost use Rattle.node_sets.specs.declared.sets.TheConstants.{MOST_NODES};
 ghost use Rattle.node_sets.specs.Sets.{holds};
@@ -8,8 +8,8 @@ ghost use Rattle.maid_model.specs.Graph.{AllDifferent};
 ghost use Rattle.maid_model.specs.Diagrams.{IsDiagram};
 ghost use Rattle.maid_model.specs.Nodes.{counts_of, states_of, rows_under};
 ghost use Rattle.plan_sums.specs.Plans.{has};
-ghost use Rattle.factor_core.specs.Copies.{steps_of, steps_in, list_stride, list_table, CanCopy, HasCopied};
-ghost use Rattle.factor_core.specs.Slots.{space, AppendsBehind};
+ghost use Rattle.factor_core.specs.Copies.{steps_in, list_stride, HasCopied, AppendsList, AreListSteps, CanCopyListOf, HasCellsOver};
+ghost use Rattle.factor_core.specs.Slots.{space, Behind};
 ghost use Rattle.factor_core.specs.Tables.{AreCounts, states_in};
 
 use crate::copies::{Step, copy_from};
@@ -60,8 +60,7 @@ fn set_list_steps(steps: &mut [Step], counts: &[usize], list: &[usize], order: &
     requires order { All (λ v. v < length counts.now) order.now }
     requires room { length order.now ≤ length steps.old }
     requires fits { rows_under (states_in counts.now) list.now ≤ 2 ^ 32 }
-    ensures { take (length order.now) steps.new
-        ≡ steps_of (states_in counts.now) (list_stride (states_in counts.now) list.now) order.now }
+    ensures { AreListSteps counts.now list.now order.now steps.new }
 {
     for i in 0..order.len() {
         steps[i] = Step {
@@ -73,7 +72,7 @@ fn set_list_steps(steps: &mut [Step], counts: &[usize], list: &[usize], order: &
 
 /// Whether the lists are the same.
 fn is_same(one: &[usize], other: &[usize]) -> bool
-    ensures { IsTrue result → one.now ≡ other.now }
+    ensures { IsTrue result ↔ (one.now ≡ other.now) }
 {
     one == other
 }
@@ -92,7 +91,7 @@ fn copy_straight<C: Cell, S: Source<C>>(
     requires fits { rows_under (states_in counts.now) list.now ≤ 2 ^ 32 }
     requires start { start ≤ length all.old }
     requires fit { S.is_fit source.now }
-    requires cells { length (S.cells source.now) ≡ rows_under (states_in counts.now) list.now }
+    requires cells { HasCellsOver S.Source source.now (states_in counts.now) list.now }
     requires room { rows_under (states_in counts.now) list.now ≤ length all.old - start }
     ensures { HasCopied C.ring (S.cells source.now) (steps_in counts.now list.now list.now) 0 start
         all.old all.new }
@@ -122,10 +121,9 @@ fn copy_listed<C: Cell, S: Source<C>>(
     requires fits { rows_under (states_in counts.now) list.now ≤ 2 ^ 32 }
     requires start { start ≤ length all.old }
     requires fit { S.is_fit source.now }
-    requires cells { length (S.cells source.now) ≡ rows_under (states_in counts.now) list.now }
+    requires cells { HasCellsOver S.Source source.now (states_in counts.now) list.now }
     requires room { rows_under (states_in counts.now) list.now ≤ length all.old - start }
-    requires can { CanCopy (S.is_fit source.now) (length (S.cells source.now))
-        (steps_in counts.now list.now order.now) 0 (length all.old - start) 0 }
+    requires can { CanCopyListOf S.Source source.now counts.now list.now order.now all.old start }
     ensures { HasCopied C.ring (S.cells source.now) (steps_in counts.now list.now order.now) 0 start
         all.old all.new }
 {
@@ -169,13 +167,12 @@ pub fn write_table<C: Cell, S: Source<C>>(
     requires once { AllDifferent list.now }
     requires known { (v : ℕ) → Contains list.now v → v < length diagram.now.nodes }
     requires fit { S.is_fit source.now }
-    requires cells { length (S.cells source.now)
-        ≡ rows_under (states_of diagram.now.nodes) list.now }
+    requires cells { HasCellsOver S.Source source.now (states_of diagram.now.nodes) list.now }
     requires room { rows_under (states_of diagram.now.nodes) list.now ≤ (space all.old used).spare }
     ensures start { result.start ≡ used }
     ensures len { used + result.len ≤ length all.new }
-    ensures table { AppendsBehind C.ring diagram.now.nodes all.old all.new used result
-        (list_table C.ring diagram.now.nodes list.now (S.cells source.now)) }
+    ensures table { Behind all.old all.new used result (AppendsList C.ring diagram.now.nodes
+        list.now (S.cells source.now)) }
 {
     let scope = scope_of(list);
     let len = rows_after(counts, list, 0);

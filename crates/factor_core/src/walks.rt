@@ -1,9 +1,8 @@
 //! The walk of joins and products: over axes, from the slowest to a run of cells.
 
-ghost use Rattle.std.specs.Prelude.{◌≡◌, ◌==◌, if◌then◌else◌, ℕ, ◌+◌, ◌*◌, ◌^◌, ◌<◌, ◌≤◌, length, take, drop, [], ◌∷◌, All, IsTrue, slice_index};
-ghost use Rattle.cell_rings.specs.Rings.{mass_ring};
-ghost use Rattle.cell_rings.specs.Sums.{ring_sum, run_sum, cell_at, product_from, product_at, sizes_of, ProductFits, Adds, HasRoom, two_scaled, two_sizes, four_scaled, four_sizes, AreWithin};
-ghost use Rattle.factor_core.specs.Walks.{shifted, total, CanWalk, IsRun, IsTurned, IsMoved, IsDot, IsRunAt, CanRead, further};
+ghost use Rattle.std.specs.Prelude.{◌≡◌, ◌==◌, if◌then◌else◌, ℕ, ◌+◌, ◌*◌, ◌^◌, ◌<◌, ◌≤◌, length, take, drop, [], ◌∷◌, All, ◌↔◌, IsTrue, slice_index};
+ghost use Rattle.cell_rings.specs.Sums.{cell_at, product_from, product_at, ProductFits, Adds, AreWithin, AddsFour, AddsTwo, HasRoomForFour, HasRoomForTwo};
+ghost use Rattle.factor_core.specs.Walks.{shifted, CanWalk, IsRun, IsTurned, IsMoved, IsDot, IsRunAt, CanRead, further, AddsTotal, HaveMoved, sum_along, AddsOneAxis, AddsTwoAxes, CanAdvance, CanRetreat, CanWalkTwoAxes, HaveAdvanced, IsInnerMoved, IsWithinSizes, ProductsAlongFit, SumAlongFits};
 ghost use Rattle.factor_core.specs.Narrow.{AreNarrow};
 
 use crate::narrow::Narrow;
@@ -28,10 +27,8 @@ pub fn after<T>(list: &[T], n: usize) -> &[T]
 /// Moves each place by its stride, the strides of this axis standing first.
 pub fn advance(places: &mut [usize], strides: &[usize])
     requires strides { length places.old ≤ length strides.now }
-    requires fits { (i : ℕ) → i < length places.old
-        → slice_index places.old i + slice_index strides.now i < 2 ^ 64 }
-    ensures { (i : ℕ) → i < length places.old
-        → slice_index places.new i ≡ slice_index places.old i + slice_index strides.now i }
+    requires fits { CanAdvance strides.now places.old }
+    ensures { HaveAdvanced strides.now places.old places.new }
 {
     for i in 0..places.len() {
         places[i] += strides[i];
@@ -41,10 +38,8 @@ pub fn advance(places: &mut [usize], strides: &[usize])
 /// Moves each place back by as many strides as there are states.
 fn retreat(places: &mut [usize], strides: &[usize], states: usize)
     requires strides { length places.old ≤ length strides.now }
-    requires fits { (i : ℕ) → i < length places.old
-        → states * slice_index strides.now i ≤ slice_index places.old i }
-    ensures { (i : ℕ) → i < length places.old
-        → slice_index places.new i + states * slice_index strides.now i ≡ slice_index places.old i }
+    requires fits { CanRetreat states strides.now places.old }
+    ensures { HaveMoved states strides.now places.new places.old }
 {
     for i in 0..places.len() {
         places[i] -= states * strides[i];
@@ -56,8 +51,7 @@ pub fn product<C: Cell>(cells: &[C], places: &[usize]) -> C
     requires within { All (λ p. p < length cells.now) places.now }
     requires fits { ProductFits C.ring cells.now 1 places.now }
     ensures product { result ≡ product_at C.ring cells.now places.now }
-    ensures size { C.ring.size result
-        ≤ product_at mass_ring (sizes_of C.ring cells.now) places.now }
+    ensures size { IsWithinSizes C.ring cells.now places.now result }
 {
     let mut product = C::one();
     for place in places {
@@ -103,7 +97,7 @@ fn is_run(axis: Axis, strides: &[usize], count: usize) -> bool
 /// Whether the result and the first of two operands move cell by cell along the axis while the second stands.
 fn is_turned(axis: Axis, strides: &[usize], count: usize) -> bool
     requires { count ≤ length strides.now }
-    ensures { IsTrue result → IsTurned axis strides.now count }
+    ensures { IsTrue result ↔ IsTurned axis strides.now count }
 {
     count == 2 && axis.out == 1 && strides[0] == 1 && strides[1] == 0
 }
@@ -164,10 +158,8 @@ fn add_two<C: Cell>(narrow: Narrow, out: &mut [C], at: usize, n: usize, pair: &P
     requires narrow { AreNarrow C.ring C.bits C.narrow cells.now narrow }
     requires out { at + n ≤ length out.old }
     requires cells { AreWithin cells.now pair.now n }
-    requires room { HasRoom C.ring out.old
-        (run_sum mass_ring n at (two_sizes C.ring C.ring.size cells.now pair.now)) }
-    ensures { Adds C.ring (run_sum C.ring n at (two_scaled C.ring (λ f. f) cells.now pair.now))
-        out.old out.new }
+    requires room { HasRoomForTwo C.ring C.ring.size out.old at n cells.now pair.now }
+    ensures { AddsTwo C.ring (λ f. f) out.old out.new at n cells.now pair.now }
 {
     if narrow.has(pair.from, n) && narrow.has(pair.beside, n) {
         C::add_two_narrow(out, at, n, pair, cells)
@@ -189,11 +181,8 @@ fn add_four<C: Cell>(
     requires narrow { AreNarrow C.ring C.bits C.narrow cells.now narrow }
     requires out { at + n ≤ length out.old }
     requires cells { AreWithin cells.now one.now n × AreWithin cells.now other.now n }
-    requires room { HasRoom C.ring out.old
-        (run_sum mass_ring n at (four_sizes C.ring C.ring.size cells.now one.now other.now)) }
-    ensures { Adds C.ring
-        (run_sum C.ring n at (four_scaled C.ring (λ f. f) cells.now one.now other.now))
-        out.old out.new }
+    requires room { HasRoomForFour C.ring C.ring.size out.old at n cells.now one.now other.now }
+    ensures { AddsFour C.ring (λ f. f) out.old out.new at n cells.now one.now other.now }
 {
     if narrow.has(one.from, n)
         && narrow.has(one.beside, n)
@@ -219,8 +208,7 @@ fn add_moved<C: Cell>(
 )
     requires moved { IsMoved turned axis strides.now (length places.now) }
     requires can { CanWalk C.ring cells.now (axis ∷ []) strides.now places.now out.old at }
-    ensures { Adds C.ring (total C.ring cells.now (axis ∷ []) strides.now places.now at) out.old
-        out.new }
+    ensures { AddsOneAxis C.ring cells.now axis strides.now places.now at out.old out.new }
 {
     let run = read_run(turned, cells, places);
     C::add_scaled(out, at, axis.states, run.factor, cells, run.from);
@@ -240,11 +228,9 @@ fn add_runs<C: Cell>(
 )
     requires narrow { AreNarrow C.ring C.bits C.narrow cells.now narrow }
     requires sum { sum.out ≡ 0 }
-    requires moved { IsMoved turned axis (drop (length places.old) strides.now)
-        (length places.old) }
-    requires can { CanWalk C.ring cells.now (sum ∷ (axis ∷ [])) strides.now places.old out.old at }
-    ensures adds { Adds C.ring
-        (total C.ring cells.now (sum ∷ (axis ∷ [])) strides.now places.old at) out.old out.new }
+    requires moved { IsInnerMoved turned axis strides.now places.old }
+    requires can { CanWalkTwoAxes C.ring cells.now sum axis strides.now places.old out.old at }
+    ensures adds { AddsTwoAxes C.ring cells.now sum axis strides.now places.old at out.old out.new }
     ensures places { places.new ≡ places.old }
 {
     let below = after(strides, places.len());
@@ -317,13 +303,9 @@ fn product_along<C: Cell>(cells: &[C], factor: C, places: &[usize], s: usize) ->
 /// The sum, over n cells from each place on, of the products of a factor and those cells.
 fn dot<C: Cell>(n: usize, cells: &[C], factor: C, places: &[usize]) -> C
     requires within { All (λ p. p + n ≤ length cells.now) places.now }
-    requires fits { (s : ℕ) → s < n
-        → ProductFits C.ring cells.now (C.ring.size factor) (further s places.now) }
-    requires room { ring_sum mass_ring n (λ s.
-        product_from mass_ring (sizes_of C.ring cells.now) (C.ring.size factor)
-        (further s places.now)) ≤ C.ring.most }
-    ensures { result
-        ≡ ring_sum C.ring n (λ s. product_from C.ring cells.now factor (further s places.now)) }
+    requires fits { ProductsAlongFit C.ring n cells.now factor places.now }
+    requires room { SumAlongFits C.ring n cells.now factor places.now }
+    ensures { result ≡ sum_along C.ring n cells.now factor places.now }
 {
     if places.len() == 2 {
         return C::dot(n, factor, cells, places[0], places[1]);
@@ -348,8 +330,7 @@ fn add_dot<C: Cell>(
 )
     requires dot { IsDot axis strides.now stand (length places.now) }
     requires can { CanWalk C.ring cells.now (axis ∷ []) strides.now places.now out.old at }
-    ensures { Adds C.ring (total C.ring cells.now (axis ∷ []) strides.now places.now at) out.old
-        out.new }
+    ensures { AddsOneAxis C.ring cells.now axis strides.now places.now at out.old out.new }
 {
     let front = before(places, stand);
     let moving = after(places, stand);
@@ -368,8 +349,7 @@ fn add_line<C: Cell>(
     at: usize,
 )
     requires { CanWalk C.ring cells.now (axis ∷ []) strides.now places.old out.old at }
-    ensures adds { Adds C.ring (total C.ring cells.now (axis ∷ []) strides.now places.old at)
-        out.old out.new }
+    ensures adds { AddsOneAxis C.ring cells.now axis strides.now places.old at out.old out.new }
     ensures places { places.new ≡ places.old }
 {
     let mut place = at;
@@ -391,8 +371,7 @@ fn add_axis<C: Cell>(
     at: usize,
 )
     requires { CanWalk C.ring cells.now (axis ∷ []) strides.now places.old out.old at }
-    ensures adds { Adds C.ring (total C.ring cells.now (axis ∷ []) strides.now places.old at)
-        out.old out.new }
+    ensures adds { AddsOneAxis C.ring cells.now axis strides.now places.old at out.old out.new }
     ensures places { places.new ≡ places.old }
 {
     if is_run(axis, strides, places.len()) {
@@ -423,8 +402,7 @@ pub fn walk<C: Cell>(
 )
     requires narrow { AreNarrow C.ring C.bits C.narrow cells.now narrow }
     requires can { CanWalk C.ring cells.now axes.now strides.now places.old out.old at }
-    ensures adds { Adds C.ring (total C.ring cells.now axes.now strides.now places.old at) out.old
-        out.new }
+    ensures adds { AddsTotal C.ring cells.now axes.now strides.now places.old at out.old out.new }
     ensures places { places.new ≡ places.old }
 {
     if axes.is_empty() {

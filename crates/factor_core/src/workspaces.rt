@@ -2,16 +2,14 @@
 
 ghost use Rattle.std.specs.Prelude.{vec_capacity, vec_len, take, ◌⊎◌, ◌≡◌, ◌≤◌, ◌<◌, ◌+◌, ℕ, All, length, IfOk, [], ◌∷◌, ◌↔◌, Contains};
 ghost use Rattle.maid_model.specs.declared.limits.TheConstants.{MOST_PLAN_CELLS};
-ghost use Rattle.node_sets.specs.Sets.{holds, IsIn};
+ghost use Rattle.node_sets.specs.Sets.{IsIn};
 ghost use Rattle.maid_model.specs.Graph.{AllDifferent};
 ghost use Rattle.maid_model.specs.Diagrams.{IsDiagram};
 ghost use Rattle.maid_model.specs.Nodes.{counts_of, states_of};
-ghost use Rattle.factor_core.specs.declared.slots.Slot.{Slot};
 ghost use Rattle.maid_model.specs.Profiles.{IsProfile};
-ghost use Rattle.ring_sums.specs.Groups.{JoinFits, ProductsFit};
-ghost use Rattle.ring_sums.specs.Tables.{sum_out};
-ghost use Rattle.factor_core.specs.Operations.{cells_by, first_table, restricted, NumbersFit, SumFits};
-ghost use Rattle.factor_core.specs.Slots.{cells_over, part, HasCells, IsLive, table_of, tables_of, Appends, AppendsTable, join_of, product_of_slots, AreStatesOf, IsCellAt, AllStayLive};
+ghost use Rattle.factor_core.specs.Operations.{NumbersFit};
+ghost use Rattle.factor_core.specs.Slots.{part, IsLive, Appends, AreStatesOf, IsCellAt, AllStayLive, AppendsFirst, AppendsJoin, AppendsProduct, AppendsRestricted, HasCellsOf, HasSpareForFirst, HasSpareForJoin, HasSpareForProduct, HasSpareForRestricted, JoinOfFits, ProductOfFits, SumOfFits, WorkspaceView, AppendsSumOf};
+ghost use Rattle.factor_core.specs.Spaces.{KeepsFirst};
 
 use crate::appending::{join_behind, product_behind};
 use crate::firsts::table_behind;
@@ -52,8 +50,7 @@ fn blank<C: Cell>(cells: &mut Vec<C>, room: usize)
     requires few { vec_len cells.old ≤ room }
     requires held { (vec_len cells.old ≡ room) ⊎ (room ≤ vec_capacity cells.old) }
     ensures len { vec_len cells.new ≡ room }
-    ensures first { (n : ℕ) → n ≤ vec_len cells.old
-        → take n cells.new.items ≡ take n cells.old.items }
+    ensures first { KeepsFirst cells.old cells.new }
 {
     if cells.len() < room {
         cells.resize(room, C::zero()).unwrap();
@@ -93,12 +90,8 @@ impl<C: Cell> Workspace<C> {
         requires profile { IsProfile diagram.now.nodes profile.now }
         requires node { node < length diagram.now.nodes }
         requires fit { NumbersFit C.ring.most diagram.now.nodes profile.now node }
-        requires room { cells_over diagram.now.nodes (first_table
-            (cells_by C.ring C.of_weight C.of_value) diagram.now.nodes profile.now node).holds
-            ≤ self.old.spare }
-        ensures { AppendsTable C.ring diagram.now.nodes self.old self.new result
-            (first_table (cells_by C.ring C.of_weight C.of_value) diagram.now.nodes profile.now
-            node) }
+        requires room { HasSpareForFirst C.Cell diagram.now.nodes profile.now node self.old }
+        ensures { AppendsFirst C.Cell diagram.now.nodes profile.now node self.old self.new result }
     {
         blank(&mut self.cells, self.room);
         let slot = table_behind(
@@ -129,13 +122,9 @@ impl<C: Cell> Workspace<C> {
         requires some { 0 < length slots.now }
         requires live { All (IsLive diagram.now.nodes self.old.cells) slots.now }
         requires hold { All (λ s. IsIn s.scope node) slots.now }
-        requires fits { JoinFits C.ring.size (states_of diagram.now.nodes) C.ring.most node
-            (tables_of C.ring diagram.now.nodes self.old.cells slots.now) }
-        requires room { cells_over diagram.now.nodes
-            (join_of C.ring diagram.now.nodes node self.old.cells slots.now).holds
-            ≤ self.old.spare }
-        ensures { AppendsTable C.ring diagram.now.nodes self.old self.new result
-            (join_of C.ring diagram.now.nodes node self.old.cells slots.now) }
+        requires fits { JoinOfFits C.ring diagram.now.nodes node slots.now self.old }
+        requires room { HasSpareForJoin C.ring diagram.now.nodes node slots.now self.old }
+        ensures { AppendsJoin C.ring diagram.now.nodes node slots.now self.old self.new result }
     {
         blank(&mut self.cells, self.room);
         let slot = join_behind(
@@ -157,13 +146,9 @@ impl<C: Cell> Workspace<C> {
         requires counts { counts.now ≡ counts_of diagram.now.nodes }
         requires few { length slots.now ≤ 256 }
         requires live { All (IsLive diagram.now.nodes self.old.cells) slots.now }
-        requires fits { ProductsFit C.ring.size (states_of diagram.now.nodes) C.ring.most
-            (tables_of C.ring diagram.now.nodes self.old.cells slots.now) }
-        requires room { cells_over diagram.now.nodes
-            (product_of_slots C.ring diagram.now.nodes self.old.cells slots.now).holds
-            ≤ self.old.spare }
-        ensures { AppendsTable C.ring diagram.now.nodes self.old self.new result
-            (product_of_slots C.ring diagram.now.nodes self.old.cells slots.now) }
+        requires fits { ProductOfFits C.ring diagram.now.nodes slots.now self.old }
+        requires room { HasSpareForProduct C.ring diagram.now.nodes slots.now self.old }
+        ensures { AppendsProduct C.ring diagram.now.nodes slots.now self.old self.new result }
     {
         blank(&mut self.cells, self.room);
         let slot = product_behind(
@@ -190,13 +175,9 @@ impl<C: Cell> Workspace<C> {
         requires counts { counts.now ≡ counts_of diagram.now.nodes }
         requires live { IsLive diagram.now.nodes self.old.cells slot.now }
         requires hold { IsIn slot.now.scope node }
-        requires fits { SumFits C.ring (states_of diagram.now.nodes) node
-            (table_of C.ring diagram.now.nodes self.old.cells slot.now) }
-        requires room { cells_over diagram.now.nodes
-            (join_of C.ring diagram.now.nodes node self.old.cells (slot.now ∷ [])).holds
-            ≤ self.old.spare }
-        ensures { AppendsTable C.ring diagram.now.nodes self.old self.new result
-            (join_of C.ring diagram.now.nodes node self.old.cells (slot.now ∷ [])) }
+        requires fits { SumOfFits C.ring diagram.now.nodes node slot.now self.old }
+        requires room { HasSpareForJoin C.ring diagram.now.nodes node (slot.now ∷ []) self.old }
+        ensures { AppendsSumOf C.ring diagram.now.nodes node slot.now self.old self.new result }
     {
         self.join_out(diagram, counts, &[*slot], node)
     }
@@ -206,10 +187,9 @@ impl<C: Cell> Workspace<C> {
         requires live { IsLive diagram.now.nodes self.old.cells slot.now }
         requires hold { IsIn slot.now.scope node }
         requires state { state < states_of diagram.now.nodes node }
-        requires room { cells_over diagram.now.nodes (restricted node state (table_of C.ring
-            diagram.now.nodes self.old.cells slot.now)).holds ≤ self.old.spare }
-        ensures { AppendsTable C.ring diagram.now.nodes self.old self.new result
-            (restricted node state (table_of C.ring diagram.now.nodes self.old.cells slot.now)) }
+        requires room { HasSpareForRestricted C.ring diagram.now.nodes node state slot.now self.old }
+        ensures { AppendsRestricted C.ring diagram.now.nodes node state slot.now self.old self.new
+            result }
     {
         blank(&mut self.cells, self.room);
         let slot = restrict_behind(
@@ -232,9 +212,8 @@ impl<C: Cell> Workspace<C> {
         requires room { slot.now.len ≤ self.old.spare }
         ensures len { result.len ≡ slot.now.len }
         ensures appends { Appends self.old self.new result.start result.len }
-        ensures cells { HasCells C.ring diagram.now.nodes nodes.now
-            (part self.new.cells result.start result.len)
-            (table_of C.ring diagram.now.nodes self.old.cells slot.now) }
+        ensures cells { HasCellsOf C.ring diagram.now.nodes nodes.now slot.now self.old self.new
+            result }
         ensures stays { AllStayLive C.ring diagram.now.nodes self.old.cells self.new.cells }
     {
         blank(&mut self.cells, self.room);

@@ -2,7 +2,7 @@
 
 ghost use Rattle.std.specs.Prelude.{◌≡◌, ◌≤◌, ◌+◌, ◌^◌, ℕ, length, take};
 ghost use Rattle.cell_rings.specs.Sums.{cell_at};
-ghost use Rattle.factor_core.specs.Tables.{IsJoined, IsUnion, size_of, join_cell, product_cell, HasTableAt};
+ghost use Rattle.factor_core.specs.Tables.{IsJoined, IsUnion, size_of, HasJoinAt, HasProductAt};
 ghost use Rattle.factor_core.specs.Spaces.{CanJoinIn, CanMultiplyIn};
 
 use crate::joins::join_into;
@@ -37,8 +37,7 @@ pub fn join_at<C: Cell>(
     requires scope { IsJoined counts.now slots.now node scope.now }
     requires can { CanJoinIn C.ring (take start all.old) counts.now slots.now node }
     ensures kept { take start all.new ≡ take start all.old }
-    ensures cells { HasTableAt C.ring counts.now scope.now start all.new
-        (join_cell C.ring (take start all.old) counts.now slots.now node) }
+    ensures cells { HasJoinAt C.ring counts.now slots.now node scope.now start all.old all.new }
 {
     let (cells, rest) = all.split_at_mut(start);
     let (out, _) = rest.split_at_mut(len);
@@ -62,8 +61,7 @@ pub fn multiply_at<C: Cell>(
     requires scope { IsUnion counts.now slots.now scope.now }
     requires can { CanMultiplyIn C.ring (take start all.old) counts.now slots.now }
     ensures kept { take start all.new ≡ take start all.old }
-    ensures cells { HasTableAt C.ring counts.now scope.now start all.new
-        (product_cell C.ring (take start all.old) counts.now slots.now) }
+    ensures cells { HasProductAt C.ring counts.now slots.now scope.now start all.old all.new }
 {
     let (cells, rest) = all.split_at_mut(start);
     let (out, _) = rest.split_at_mut(len);

@@ -10,7 +10,7 @@ use Rattle.node_sets.specs.declared.sets.NodeSet.{NodeSet}
 use Rattle.size_precheck.specs.declared.classes.Class.{Class}
 use Rattle.std.proofs.lemmas.Bool.Decides.{nat_tests}
 use Rattle.size_precheck.specs.Joints.{member_count, members_below}
-use Rattle.size_precheck.proofs.Somewhere.{same_test}
+use Rattle.size_precheck.proofs.Somewhere.{same_test, and_both}
 use Rattle.size_precheck.specs.Classes.{class_at, no_class, AreClasses, IsFewest, IsLess, IsRecounted}
 
 -- ---- the next
@@ -452,10 +452,6 @@ both_true : (a b : Bool) → (a && b) ≡ true → (a ≡ true) × (b ≡ true)
 both_true true b e = (refl, e)
 both_true false b e = absurd (cc)
 
-true_both : (a b : Bool) → a ≡ true → b ≡ true → (a && b) ≡ true
-true_both true b e f = f
-true_both false b e f = absurd (cc)
-
 number_less : (x n : ℕ) → ltb x n ≡ true → x < n
 number_less x n e = grind (arith, nat_tests)
 
@@ -477,10 +473,10 @@ walked_less nodes from v first = record {
       let h = both_true (holds nodes x) (ltb x from) m in
       let l = number_less x from h.1 in
       let a = first.not_before in
-      true_both (holds nodes x) (ltb x (v + 1)) h.0 (less_number x (v + 1) (omega arith)))
+      and_both (holds nodes x) (ltb x (v + 1)) h.0 (less_number x (v + 1) (omega arith)))
       (λ m.
       let h = both_true (holds nodes x) (ltb x (v + 1)) m in
-      true_both (holds nodes x) (ltb x from) h.0 (less_number x from (early x n h.0 (number_less x (v + 1) h.1) (cases_lt x from))));
+      and_both (holds nodes x) (ltb x from) h.0 (less_number x from (early x n h.0 (number_less x (v + 1) h.1) (cases_lt x from))));
 }
   where
     less : (x : ℕ) → (x ≡ v → ⊥) → x < v + 1 → x < v
@@ -491,7 +487,7 @@ walked_less nodes from v first = record {
     early x n m l (inr g) = absurd (first.first x g (less x n l) m)
 
 pub walked_here : (nodes : NodeSet) (v : ℕ) → IsIn nodes v → before_number nodes (v + 1) v ≡ true
-walked_here nodes v m = true_both (holds nodes v) (ltb v (v + 1)) m (less_number v (v + 1) (omega arith))
+walked_here nodes v m = and_both (holds nodes v) (ltb v (v + 1)) m (less_number v (v + 1) (omega arith))
 
 pub walked_all : (counts : List ℕ) (nodes : NodeSet) (from : ℕ) (classes : List Class) → ((v : ℕ) → from ≤ v → IsIn nodes v → ⊥) → AreClasses counts (before_number nodes from) classes → AreClasses counts (holds nodes) classes
 walked_all counts nodes from classes none are = subst (λ (waits : ℕ → Bool). AreClasses counts waits classes) (fun_ext same) are
@@ -501,7 +497,7 @@ walked_all counts nodes from classes none are = subst (λ (waits : ℕ → Bool)
     early x m (inr g) = absurd (none x g m)
 
     same : (x : ℕ) → before_number nodes from x ≡ holds nodes x
-    same x = same_test _ _ (λ m. (both_true (holds nodes x) (ltb x from) m).0) (λ m. true_both (holds nodes x) (ltb x from) m (less_number x from (early x m (cases_lt x from))))
+    same x = same_test _ _ (λ m. (both_true (holds nodes x) (ltb x from) m).0) (λ m. and_both (holds nodes x) (ltb x from) m (less_number x from (early x m (cases_lt x from))))
 
 -- ---- what the search for the next tells
 pub found_next : (counts : List ℕ) (waits : ℕ → Bool) (classes : List Class) (result : Option ℕ) (v : ℕ)

@@ -23,6 +23,7 @@ use Rattle.maid_model.specs.Bounds.{stopped}
 use Rattle.size_precheck.specs.Runs.{Includes}
 use Rattle.size_precheck.specs.Sizes.{CanBePlanned, SizedPlan, IsMade, HasSize, IsSizeOfAll, greatest, is_goal}
 use Rattle.size_precheck.proofs.Counting.{stop_part, stopped_few}
+use Rattle.size_precheck.proofs.Somewhere.{and_left, and_right, and_both}
 
 -- ---- counting
 greatest_append : (xs ys : List ℕ) → greatest (xs ++ ys) ≡ max (greatest xs) (greatest ys)
@@ -171,27 +172,15 @@ gain_planned nodes d u graph decision goal = record {
 -- ---- goals as tests
 pub goal_tested : (nodes : List NodeView) (d u : ℕ) → TestsDescent → u < length nodes → (IsGoal nodes d u) ↔ ((descends nodes d u && is_utility_of nodes (agent_of nodes d) u) ≡ true)
 goal_tested nodes d u tested within = (
-  (λ g. both _ _ ((tested nodes d u).1 g.below) (both _ _ (is_kind u g.kind) ((any_is (agent_of nodes d) (owners_of nodes u)).1 g.owner))),
+  (λ g. and_both _ _ ((tested nodes d u).1 g.below) (and_both _ _ (is_kind u g.kind) ((any_is (agent_of nodes d) (owners_of nodes u)).1 g.owner))),
   (λ e. record {
     within = within;
-    kind = kind_is (node_at nodes u).kind (left _ _ (right _ _ e));
-    owner = (any_is (agent_of nodes d) (owners_of nodes u)).0 (right _ _ (right _ _ e));
-    below = (tested nodes d u).0 (left _ _ e);
+    kind = kind_is (node_at nodes u).kind (and_left _ _ (and_right _ _ e));
+    owner = (any_is (agent_of nodes d) (owners_of nodes u)).0 (and_right _ _ (and_right _ _ e));
+    below = (tested nodes d u).0 (and_left _ _ e);
   }),
 )
   where
-    left : (a b : Bool) → (a && b) ≡ true → a ≡ true
-    left true b e = refl
-    left false b e = e
-
-    right : (a b : Bool) → (a && b) ≡ true → b ≡ true
-    right true b e = e
-    right false b e = absurd (cc)
-
-    both : (a b : Bool) → a ≡ true → b ≡ true → (a && b) ≡ true
-    both true b e f = f
-    both false b e f = e
-
     kind_is : (k : Kind) → is_utility k ≡ true → k ≡ Utility
     kind_is Chance e = absurd (cc)
     kind_is Decision e = absurd (cc)

@@ -20,7 +20,7 @@ use Rattle.size_precheck.specs.Counts.{counted_cells}
 use Rattle.size_precheck.specs.Greedy.{holding, joined_set}
 use Rattle.size_precheck.specs.Joints.{members_below, member_count, product_below, factor, counted_over, AreStates, tests_of, SomeOf, Each, TagsDiffer, Tells, AreLive}
 use Rattle.size_precheck.proofs.Counting.{members_gap, product_gap}
-use Rattle.size_precheck.proofs.Somewhere.{some_map, some_filter, filter_some, any_some, some_any, some_mapped, mapped_some, each_filter, same_test, not_true, true_not}
+use Rattle.size_precheck.proofs.Somewhere.{some_map, some_filter, filter_some, any_some, some_any, some_mapped, mapped_some, each_filter, same_test, not_true, true_not, and_left, and_right, and_both}
 use Rattle.size_precheck.proofs.Live.{with_v, without_v, differ_filter}
 
 -- ---- as many members as different tags
@@ -74,22 +74,10 @@ tags_counted [] n test small differ is = members_gap test 0 n (omega arith) (λ 
 tags_counted (t ∷ ts) n test small differ is =
     one_less test t.tag n small.0 ((is t.tag).1 (inl refl))
     ∙ ap suc (tags_counted ts n (but test t.tag) small.1 differ.1 (λ x. (
-      (λ e. elim ((is x).0 (left (test x) _ e)) as (λ _. SomeOf (λ s. s.tag ≡ x) ts) [ inl f ↦ absurd (not_true _ (right (test x) _ e) (same_numbers x t.tag (sym f))) | inr s ↦ s ]),
-      (λ s. both (test x) _ ((is x).1 (inr s)) (true_not _ (λ f. differ.0 (some_map (λ u. u.tag ≡ x) (λ u. u.tag ≡ t.tag) (λ u g. g ∙ numbers_same x t.tag f) ts s)))),
+      (λ e. elim ((is x).0 (and_left (test x) _ e)) as (λ _. SomeOf (λ s. s.tag ≡ x) ts) [ inl f ↦ absurd (not_true _ (and_right (test x) _ e) (same_numbers x t.tag (sym f))) | inr s ↦ s ]),
+      (λ s. and_both (test x) _ ((is x).1 (inr s)) (true_not _ (λ f. differ.0 (some_map (λ u. u.tag ≡ x) (λ u. u.tag ≡ t.tag) (λ u g. g ∙ numbers_same x t.tag f) ts s)))),
     )))
   where
-    left : (a b : Bool) → (a && b) ≡ true → a ≡ true
-    left true b e = refl
-    left false b e = e
-
-    right : (a b : Bool) → (a && b) ≡ true → b ≡ true
-    right true b e = e
-    right false b e = absurd (cc)
-
-    both : (a b : Bool) → a ≡ true → b ≡ true → (a && b) ≡ true
-    both true b e f = f
-    both false b e f = e
-
     same_numbers : (a b : ℕ) → a ≡ b → eqb a b ≡ true
     same_numbers a b e = grind (arith, nat_tests)
 
@@ -125,21 +113,9 @@ set_told live v joint tells u = same_test _ _ (λ m. (joined_some live v u).1 ((
 pub made_told : (live : List Table) (v : ℕ) (made : NodeSet) → ((u : ℕ) → IsIn made u ↔ (SomeOf (λ t. IsIn t.scope v × IsIn t.scope u) live × (u ≡ v → ⊥)))
     → (u : ℕ) → holds made u ≡ joined_without v (holding v (tests_of live)) u
 made_told live v made scope u = same_test _ _
-    (λ m. both _ _ ((joined_some live v u).1 ((scope u).0 m).0) (true_not _ (λ e. ((scope u).0 m).1 (numbers_same u v e))))
-    (λ e. (scope u).1 ((joined_some live v u).0 (left _ _ e), λ is. not_true _ (right _ _ e) (same_numbers u v is)))
+    (λ m. and_both _ _ ((joined_some live v u).1 ((scope u).0 m).0) (true_not _ (λ e. ((scope u).0 m).1 (numbers_same u v e))))
+    (λ e. (scope u).1 ((joined_some live v u).0 (and_left _ _ e), λ is. not_true _ (and_right _ _ e) (same_numbers u v is)))
   where
-    left : (a b : Bool) → (a && b) ≡ true → a ≡ true
-    left true b e = refl
-    left false b e = e
-
-    right : (a b : Bool) → (a && b) ≡ true → b ≡ true
-    right true b e = e
-    right false b e = absurd (cc)
-
-    both : (a b : Bool) → a ≡ true → b ≡ true → (a && b) ≡ true
-    both true b e f = f
-    both false b e f = e
-
     same_numbers : (a b : ℕ) → a ≡ b → eqb a b ≡ true
     same_numbers a b e = grind (arith, nat_tests)
 

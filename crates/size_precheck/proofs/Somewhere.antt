@@ -1,5 +1,5 @@
 -- A fact of some element of a list, by cases.
-use Rattle.std.proofs.Common.{◌≡◌, ◌∙◌, ◌⊎◌, Bool, true, false, cond, ◌||◌, not, filter, map, List, [], ◌∷◌, ◌++◌, refl, sym, ap, inl, inr}
+use Rattle.std.proofs.Common.{◌≡◌, ◌∙◌, ◌⊎◌, Bool, true, false, cond, ◌||◌, ◌&&◌, not, filter, map, List, [], ◌∷◌, ◌++◌, refl, sym, ap, inl, inr}
 use Rattle.std.specs.List.{list_any}
 use Rattle.finite_sums.proofs.Counts.{true_or_false}
 use Rattle.size_precheck.specs.Joints.{SomeOf, Each}
@@ -106,6 +106,18 @@ same_test true true f g = refl
 same_test true false f g = absurd (let e = f refl in cc)
 same_test false true f g = absurd (let e = g refl in cc)
 same_test false false f g = refl
+
+pub and_left : (a b : Bool) → (a && b) ≡ true → a ≡ true
+and_left true b e = refl
+and_left false b e = e
+
+pub and_right : (a b : Bool) → (a && b) ≡ true → b ≡ true
+and_right true b e = e
+and_right false b e = absurd (cc)
+
+pub and_both : (a b : Bool) → a ≡ true → b ≡ true → (a && b) ≡ true
+and_both true b e f = f
+and_both false b e f = e
 
 pub not_true : (b : Bool) → not b ≡ true → b ≡ true → ⊥
 not_true true h e = absurd (cc)

@@ -1,5 +1,6 @@
 -- The nodes that wait, in classes of equal cells. Only private functions cite this file.
-use Rattle.std.specs.Prelude.{◌≡◌, ◌↔◌, ◌<◌, ◌≤◌, ℕ, Bool, true, List, [], length, slice_index, slice_index_or}
+use Rattle.std.specs.Prelude.{◌≡◌, ◌↔◌, ◌<◌, ◌≤◌, ℕ, Bool, true, List, [], length, slice_index, slice_index_or, Option, MatchOption}
+use Rattle.node_sets.specs.declared.sets.NodeSet.{NodeSet}
 use Rattle.node_sets.specs.Sets.{IsIn}
 use Rattle.size_precheck.specs.declared.classes.Class.{Class}
 
@@ -10,11 +11,15 @@ no_class = record { cells = 0; nodes = record { words = [] } }
 abbrev pub class_at : List Class → ℕ → Class
 class_at classes i = slice_index_or classes i no_class
 
+-- the nodes of the class of a place
+abbrev pub nodes_at : List Class → ℕ → NodeSet
+nodes_at classes i = (class_at classes i).nodes
+
 -- the cells of the classes rise, and each node that waits is in the class of its cells and in no other
 pub record AreClasses (counts : List ℕ) (waits : ℕ → Bool) (classes : List Class) : Type 0 where
   pub rising : (i j : ℕ) → i < j → j < length classes
       → (class_at classes i).cells < (class_at classes j).cells
-  pub nodes : (i : ℕ) → i < length classes → (v : ℕ) → IsIn (class_at classes i).nodes v
+  pub nodes : (i : ℕ) → i < length classes → (v : ℕ) → IsIn (nodes_at classes i) v
       ↔ ((waits v ≡ true) × (slice_index counts v ≡ (class_at classes i).cells))
   pub all : (v : ℕ) → waits v ≡ true
       → (i : ℕ) × (i < length classes) × ((class_at classes i).cells ≡ slice_index counts v)
@@ -35,3 +40,44 @@ pub record IsRecounted (counts recounted : List ℕ) (v before after : ℕ) : Ty
   pub was : slice_index counts v ≡ before
   pub is : slice_index recounted v ≡ after
   pub others : (x : ℕ) → (x ≡ v → ⊥) → slice_index recounted x ≡ slice_index counts x
+
+-- the place is that of a class of this many cells
+abbrev pub IsOfCells : List Class → ℕ → ℕ → Type 0
+IsOfCells classes place cells =
+    (place < length classes) × ((class_at classes place).cells ≡ cells)
+
+-- what is found: of the nodes that wait the first in text of those with fewest cells, where any waits
+abbrev pub FindsFewest : List Class → Option ℕ → Type 0
+FindsFewest classes found =
+    (counts : List ℕ) (waits : ℕ → Bool) → AreClasses counts waits classes
+    → MatchOption found ((v : ℕ) → waits v ≡ true → ⊥) (IsFewest counts waits)
+
+-- v, of this many cells, has left: classes of some nodes have become those of the same nodes but v
+abbrev pub HasLeft : List Class → List Class → ℕ → ℕ → Type 0
+HasLeft before after v cells =
+    (counts : List ℕ) (waits fewer : ℕ → Bool) → IsLess waits fewer v → slice_index counts v ≡ cells
+    → AreClasses counts waits before → AreClasses counts fewer after
+
+-- v, of this many cells, has come: classes of some nodes but v have become those of the same nodes with v
+abbrev pub HasCome : List Class → List Class → ℕ → ℕ → Type 0
+HasCome before after v cells =
+    (counts : List ℕ) (waits fewer : ℕ → Bool) → IsLess waits fewer v → waits v ≡ true
+    → slice_index counts v ≡ cells → AreClasses counts fewer before → AreClasses counts waits after
+
+-- v, one of the nodes, has the cells `is` in place of `was`: the classes have become those by the new count
+abbrev pub HasChanged : List Class → List Class → ℕ → ℕ → ℕ → Type 0
+HasChanged before after v was is =
+    (counts recounted : List ℕ) (waits : ℕ → Bool) → waits v ≡ true
+    → IsRecounted counts recounted v was is → AreClasses counts waits before
+    → AreClasses recounted waits after
+
+-- classes of the nodes that wait are still so by other counts
+abbrev pub StayClasses : (ℕ → Bool) → List ℕ → List Class → List ℕ → List Class → Type 0
+StayClasses waits counts before recounted after =
+    AreClasses counts waits before → AreClasses recounted waits after
+
+-- so they are whichever nodes wait, these among them
+abbrev pub StayWithAll : NodeSet → List ℕ → List Class → List ℕ → List Class → Type 0
+StayWithAll set counts before recounted after =
+    (waits : ℕ → Bool) → ((y : ℕ) → IsIn set y → waits y ≡ true)
+    → StayClasses waits counts before recounted after

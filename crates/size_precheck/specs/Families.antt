@@ -1,5 +1,5 @@
 -- What all plans of a diagram share. Only private functions cite this file.
-use Rattle.std.specs.Prelude.{◌≡◌, ◌≢◌, ◌⊎◌, ◌↔◌, ℕ, ◌<◌, List, [], length, slice_index_or, Contains}
+use Rattle.std.specs.Prelude.{◌≡◌, ◌≢◌, ◌⊎◌, ◌↔◌, ℕ, ◌<◌, ◌+◌, Bool, List, [], ◌++◌, map, length, slice_index_or, Contains, Option, option_to_list}
 use Rattle.maid_model.specs.declared.diagrams.Kind.TheVariants.{Utility}
 use Rattle.maid_model.specs.Graph.{Arc, IsPath}
 use Rattle.maid_model.specs.Nodes.{node_at, parents_of}
@@ -10,7 +10,9 @@ use Rattle.node_sets.specs.declared.sets.NodeSet.{NodeSet}
 use Rattle.size_precheck.specs.declared.joints.Joint.{Joint}
 use Rattle.size_precheck.specs.declared.planners.Family.{Family}
 use Rattle.size_precheck.specs.declared.planners.Planner.{Planner}
-use Rattle.size_precheck.specs.Joints.{counted_over, joint_at, AreStates, IsCounted}
+use Rattle.size_precheck.specs.declared.simulation.Start.{Start}
+use Rattle.size_precheck.specs.declared.starts.Narrowed.{Narrowed}
+use Rattle.size_precheck.specs.Joints.{counted_over, family_test, joint_at, parents_test, AreStates, IsCounted, IsListOf, IsStarted, StaysCounted}
 
 -- what is known of a number that no node has
 abbrev pub no_family : Family
@@ -23,11 +25,15 @@ no_family = record {
 abbrev pub family_at : List Family → ℕ → Family
 family_at families v = slice_index_or families v no_family
 
+-- u is v or one of its parents
+abbrev pub IsOfFamily : List NodeView → ℕ → ℕ → Type 0
+IsOfFamily nodes v u = (u ≡ v) ⊎ Contains (parents_of nodes v) u
+
 -- the table over the node and its parents with its cells, and from where paths lead to the node
 pub record IsFamily
     (nodes : List NodeView) (states : List ℕ) (v : ℕ) (family : Family) : Type 0 where
   pub tag : family.table.tag ≡ v
-  pub scope : (u : ℕ) → IsIn family.table.scope u ↔ ((u ≡ v) ⊎ Contains (parents_of nodes v) u)
+  pub scope : (u : ℕ) → IsIn family.table.scope u ↔ IsOfFamily nodes v u
   pub cells : family.cells ≡ counted_over states (holds family.table.scope)
   pub above : (u : ℕ) → IsIn family.above u ↔ IsPath (Arc nodes) u v
 
@@ -41,10 +47,6 @@ abbrev pub AreAbove : List NodeView → List Family → Type 0
 AreAbove nodes families = (v : ℕ) → v < length families → (u : ℕ)
     → IsIn (family_at families v).above u ↔ IsPath (Arc nodes) u v
 
--- u is v or one of its parents
-abbrev pub IsOfFamily : List NodeView → ℕ → ℕ → Type 0
-IsOfFamily nodes v u = (u ≡ v) ⊎ Contains (parents_of nodes v) u
-
 -- the joint of y among the tables of these nodes, each over the node and its parents
 pub record IsJoined (nodes : List NodeView) (Of : ℕ → Type 0) (y : ℕ) (joint : Joint) : Type 0 where
   pub tables : (x : ℕ) → IsIn joint.tables x ↔ (Of x × IsOfFamily nodes x y)
@@ -55,20 +57,38 @@ pub record IsJoined (nodes : List NodeView) (Of : ℕ → Type 0) (y : ℕ) (joi
 abbrev pub IsRuledBelow : List NodeView → ℕ → ℕ → Type 0
 IsRuledBelow nodes n x = (x < n) × ((node_at nodes x).kind ≢ Utility)
 
+-- y's joint among the tables of the first n nodes
+abbrev pub IsJoinedBelow : List NodeView → ℕ → List Joint → ℕ → Type 0
+IsJoinedBelow nodes n joints y = IsJoined nodes (IsRuledBelow nodes n) y (joint_at joints y)
+
+-- the joints among the tables of the nodes before v become those among v's too
+abbrev pub TakesFamily : List NodeView → ℕ → List Joint → List Joint → Type 0
+TakesFamily nodes v before after =
+    (y : ℕ) → IsJoinedBelow nodes v before y → IsJoinedBelow nodes (v + 1) after y
+
+-- one that has a rule: a chance or decision node
+abbrev pub IsRuled : List NodeView → ℕ → Type 0
+IsRuled nodes x = IsRuledBelow nodes (length nodes) x
+
 -- each node's joint among the tables of all chance and decision nodes
 abbrev pub AreWhole : List NodeView → List Joint → Type 0
-AreWhole nodes joints = (y : ℕ) → y < length nodes
-    → IsJoined nodes (IsRuledBelow nodes (length nodes)) y (joint_at joints y)
+AreWhole nodes joints = (y : ℕ) → y < length nodes → IsJoinedBelow nodes (length nodes) joints y
 
 -- of y's tables those of these nodes are left, and the cells of its joined set are counted
 pub record IsNarrowed
     (states : List ℕ) (families : List Family) (joints : List Joint) (counts : List ℕ)
     (ruled : NodeSet) (y : ℕ) (joints' : List Joint) (counts' : List ℕ) : Type 0 where
   pub joined : (nodes : List NodeView) → AreFamilies nodes states families
-      → ((x : ℕ) → IsIn ruled x → IsRuledBelow nodes (length nodes) x)
-      → IsJoined nodes (IsRuledBelow nodes (length nodes)) y (joint_at joints y)
+      → ((x : ℕ) → IsIn ruled x → IsRuled nodes x)
+      → IsJoinedBelow nodes (length nodes) joints y
       → IsJoined nodes (IsIn ruled) y (joint_at joints' y)
-  pub counted : IsCounted states joints counts y → IsCounted states joints' counts' y
+  pub counted : StaysCounted states joints counts joints' counts' y
+
+-- and so at each node that waits
+abbrev pub AreNarrowed :
+    List ℕ → List Family → NodeSet → NodeSet → List Joint → List ℕ → List Joint → List ℕ → Type 0
+AreNarrowed states families ruled waiting joints counts joints' counts' =
+    (y : ℕ) → IsIn waiting y → IsNarrowed states families joints counts ruled y joints' counts'
 
 -- it knows the nodes
 pub record IsPlanner (nodes : List NodeView) (planner : Planner) : Type 0 where
@@ -81,3 +101,37 @@ pub record IsPlanner (nodes : List NodeView) (planner : Planner) : Type 0 where
   pub counts_len : length planner.counts.items ≡ length nodes
   pub counts : (y : ℕ) → y < length nodes
       → IsCounted planner.states.items planner.joints.items planner.counts.items y
+
+-- the joints and the counts of the planner, in which the nodes that wait have the tables of these nodes alone
+abbrev pub IsNarrowedFrom : Planner → NodeSet → NodeSet → Narrowed → Type 0
+IsNarrowedFrom planner ruled waiting narrowed =
+    AreNarrowed planner.states.items planner.families.items ruled waiting planner.joints.items
+    planner.counts.items narrowed.joints.items narrowed.counts.items
+
+-- there are as many joints as the planner has, and as many counts
+abbrev pub HasJointsOf : Planner → Narrowed → Type 0
+HasJointsOf planner narrowed = length narrowed.joints.items ≡ length planner.joints.items
+
+abbrev pub HasCountsOf : Planner → Narrowed → Type 0
+HasCountsOf planner narrowed = length narrowed.counts.items ≡ length planner.joints.items
+
+-- v is above one of these nodes
+abbrev pub IsAboveOne : List Family → NodeSet → ℕ → Type 0
+IsAboveOne families ends v = (to : ℕ) × IsIn ends to × IsIn (family_at families to).above v
+
+-- u is in the table of one of these nodes
+abbrev pub IsInTableOf : List Family → NodeSet → ℕ → Type 0
+IsInTableOf families tables u = (t : ℕ) × IsIn tables t × IsIn (family_at families t).table.scope u
+
+-- the scopes of the first tables: those of these nodes, and that of the utility
+abbrev pub scopes_of_tables : List NodeView → List ℕ → Option ℕ → List (ℕ → Bool)
+scopes_of_tables nodes list utility =
+    map (family_test nodes) list ++ map (parents_test nodes) (option_to_list utility)
+
+-- so start the tables of these nodes and that of the utility
+abbrev pub IsStartOf :
+    List NodeView → Planner → NodeSet → Option ℕ → NodeSet → Start → Type 0
+IsStartOf nodes planner ruled utility waiting start =
+    (list : List ℕ) → IsListOf ruled list
+    → IsStarted nodes planner.states.items (IsIn waiting) (scopes_of_tables nodes list utility)
+    start

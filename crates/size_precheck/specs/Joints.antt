@@ -1,5 +1,6 @@
 -- What the steps of simulating a plan promise one another. Only private functions cite this file.
-use Rattle.std.specs.Prelude.{◌==◌, ◌||◌, ◌≤◌, slice_index, sum_by, ◌≡◌, ◌⊎◌, ◌↔◌, ℕ, zero, suc, ◌+◌, ◌*◌, ◌<◌, Bool, List, [], ◌∷◌, map, length, slice_index_or, if◌then◌else◌}
+use Rattle.std.specs.Prelude.{◌==◌, ◌||◌, ◌≤◌, slice_index, sum_by, ◌≡◌, ◌⊎◌, ◌↔◌, ℕ, zero, suc, ◌+◌, ◌*◌, ◌<◌, Bool, List, [], ◌∷◌, ◌++◌, map, length, slice_index_or, if◌then◌else◌}
+use Rattle.maid_model.specs.declared.limits.TheConstants.{COUNT_END}
 use Rattle.maid_model.specs.Nodes.{states_of, parents_of}
 use Rattle.plan_sums.specs.Plans.{has}
 use Rattle.maid_model.specs.Views.{NodeView}
@@ -39,6 +40,31 @@ member_count set = members_below (holds set) MOST_NODES
 unfoldable pub counted_over : List ℕ → (ℕ → Bool) → ℕ
 counted_over states scope = stopped (product_below (factor states scope) MOST_NODES)
 
+-- the set without v, and with v
+abbrev pub IsWithout : NodeSet → NodeSet → ℕ → Type 0
+IsWithout before after v = (x : ℕ) → IsIn after x ↔ (IsIn before x × (x ≡ v → ⊥))
+
+abbrev pub IsWith : NodeSet → NodeSet → ℕ → Type 0
+IsWith before after v = (x : ℕ) → IsIn after x ↔ (IsIn before x ⊎ (x ≡ v))
+
+-- the states of v can be divided out of the cells of the set: v is in it, and the count of the cells has not stopped
+abbrev pub CanBeDivided : List ℕ → NodeSet → ℕ → ℕ → Type 0
+CanBeDivided states set v cells =
+    IsIn set v × (0 < slice_index states v) × (cells < COUNT_END)
+
+-- where `cells` are those of a set, `less` are those of the set without v
+abbrev pub CountsWithout : List ℕ → NodeSet → NodeSet → ℕ → ℕ → ℕ → Type 0
+CountsWithout states before after v cells less =
+    IsWithout before after v → cells ≡ counted_over states (holds before)
+    → less ≡ counted_over states (holds after)
+
+-- where `cells` are those of a set, `result` are those of the set after the scope has come and the nodes `out` have left
+abbrev pub CountsPut : List ℕ → NodeSet → NodeSet → NodeSet → ℕ → ℕ → Type 0
+CountsPut states before scope out cells result =
+    (after : NodeSet)
+    → ((u : ℕ) → IsIn after u ↔ ((IsIn before u ⊎ IsIn scope u) × (IsIn out u → ⊥)))
+    → cells ≡ counted_over states (holds before) → result ≡ counted_over states (holds after)
+
 -- the counts are those of the nodes, and 1 past them
 pub record AreStates (nodes : List NodeView) (states : List ℕ) : Type 0 where
   pub few : length nodes ≤ MOST_NODES
@@ -57,6 +83,16 @@ pub record IsPut (table : Table) (Gone Out : ℕ → Type 0) (before after : Joi
   pub set : (u : ℕ) → IsIn after.set u ↔ ((IsIn before.set u ⊎ IsIn table.scope u) × (Out u → ⊥))
   pub tables :
       (x : ℕ) → IsIn after.tables x ↔ ((IsIn before.tables x × (Gone x → ⊥)) ⊎ (x ≡ table.tag))
+
+-- the table is put to y, after the tables `gone` and the nodes `out` have left
+abbrev pub IsPutAt : Table → NodeSet → NodeSet → List Joint → List Joint → ℕ → Type 0
+IsPutAt table gone out before after y =
+    IsPut table (IsIn gone) (IsIn out) (joint_at before y) (joint_at after y)
+
+-- and to each of these nodes
+abbrev pub IsPutToAll : NodeSet → Table → NodeSet → NodeSet → List Joint → List Joint → Type 0
+IsPutToAll set table gone out before after =
+    (y : ℕ) → IsIn set y → IsPutAt table gone out before after y
 
 -- P holds of each element, or of some
 abbrev pub Each : {X : Type 0} → (X → Type 0) → List X → Type 0
@@ -88,6 +124,32 @@ abbrev pub IsCounted : List ℕ → List Joint → List ℕ → ℕ → Type 0
 IsCounted states joints cells y =
     slice_index cells y ≡ counted_over states (holds (joint_at joints y).set)
 
+-- where the cells were counted at y, they are counted after
+abbrev pub StaysCounted : List ℕ → List Joint → List ℕ → List Joint → List ℕ → ℕ → Type 0
+StaysCounted states before cells after recounted y =
+    IsCounted states before cells y → IsCounted states after recounted y
+
+-- and so at each of these nodes
+abbrev pub AllStayCounted :
+    List ℕ → NodeSet → List Joint → List ℕ → List Joint → List ℕ → Type 0
+AllStayCounted states set before cells after recounted =
+    (y : ℕ) → IsIn set y → StaysCounted states before cells after recounted y
+
+-- the cells of all joined sets are counted
+abbrev pub AreCounted : List ℕ → List Joint → List ℕ → Type 0
+AreCounted states joints cells = (y : ℕ) → y < length joints → IsCounted states joints cells y
+
+-- the cells of all other nodes are as they were
+abbrev pub KeepsOtherCells : NodeSet → List ℕ → List ℕ → Type 0
+KeepsOtherCells set before after =
+    (y : ℕ) → (IsIn set y → ⊥) → slice_index after y ≡ slice_index before y
+
+-- where the joints have the live tables, they have this one more
+abbrev pub TellsOneMore : NodeSet → Table → List Joint → List Joint → Type 0
+TellsOneMore waiting table before after =
+    (live : List Table) (y : ℕ) → IsIn waiting y → Tells live y (joint_at before y)
+    → Tells (live ++ table ∷ []) y (joint_at after y)
+
 -- the scopes of these tables
 abbrev pub tests_of : List Table → List (ℕ → Bool)
 tests_of live = map (λ t. holds t.scope) live
@@ -112,6 +174,14 @@ pub record IsStep
       * length (holding v (tests_of before)))
   pub joined : made.tables ≡ length (holding v (tests_of before))
 
+-- what is known of the nodes that wait and of v becomes what a step at v makes of it, whichever tables are live
+abbrev pub MakesStep :
+    List ℕ → NodeSet → ℕ → List Joint → List ℕ → List Joint → List ℕ → Made → Type 0
+MakesStep states waiting v before cells after recounted made =
+    (nodes : List NodeView) (live : List Table) → AreStates nodes states
+    → Stands states (λ y. IsIn waiting y ⊎ (y ≡ v)) live before cells
+    → IsStep nodes states (IsIn waiting) v live after recounted made
+
 -- before the first step: what is known of the nodes that wait is right for tables of these scopes, which are counted
 pub record IsStarted
     (nodes : List NodeView) (states : List ℕ) (Waiting : ℕ → Type 0) (scopes : List (ℕ → Bool))
@@ -135,6 +205,18 @@ pub record IsRun
     pub cells : run.cells ≡ stopped (sum_by (λ s. counted_cells nodes s) scopes
         + made_cells nodes run.steps.items scopes)
     pub work : run.work ≡ stopped (steps_work nodes run.steps.items scopes)
+
+-- some tables of some nodes start so
+abbrev pub IsStartOfSome : List ℕ → NodeSet → Start → Type 0
+IsStartOfSome states waiting start =
+    (nodes : List NodeView) × (scopes : List (ℕ → Bool))
+    × IsStarted nodes states (IsIn waiting) scopes start
+
+-- the run is that of all tables, of all nodes, that start so
+abbrev pub IsRunFrom : List ℕ → NodeSet → Start → Run → Type 0
+IsRunFrom states waiting start run =
+    (nodes : List NodeView) (scopes : List (ℕ → Bool))
+    → IsStarted nodes states (IsIn waiting) scopes start → IsRun nodes (IsIn waiting) scopes run
 
 -- ---- lists of what waits
 -- each number is less than those after it

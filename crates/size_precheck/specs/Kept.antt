@@ -1,16 +1,28 @@
 -- Plans that are kept for later runs, of other diagrams too.
-use Rattle.std.specs.Prelude.{◌≡◌, ℕ, List, All, length}
-use Rattle.maid_model.specs.Nodes.{IsDecision, agent_of, node_at, states_of, parents_of, is_utility, is_utility_of}
+use Rattle.std.specs.Prelude.{◌≡◌, ℕ, List, All, Option, Some, length, map}
+use Rattle.maid_model.specs.Nodes.{IsDecision, decisions_of, agent_of, node_at, states_of, parents_of, is_utility, is_utility_of}
 use Rattle.maid_model.specs.Views.{NodeView}
+use Rattle.size_precheck.specs.declared.decisions.DecisionPlans.{DecisionPlans}
 use Rattle.size_precheck.specs.declared.keeping.KeptPlans.{KeptPlans}
 use Rattle.size_precheck.specs.declared.keeping.KeptRun.{KeptRun}
+use Rattle.size_precheck.specs.Decisions.{AreDecisionPlans}
 use Rattle.size_precheck.specs.Families.{IsPlanner}
-use Rattle.size_precheck.specs.Sizes.{ArePlansOf, ArePlansOfWorths}
+use Rattle.size_precheck.specs.Sizes.{ArePlansOfWorths}
 
 -- what is kept is of a decision among these nodes, with its plans
 pub record IsKept (nodes : List NodeView) (kept : KeptPlans) : Type 0 where
   pub decision : IsDecision nodes kept.decision
-  pub plans : ArePlansOf nodes kept.decision kept.plans.rows kept.plans.goals.items
+  pub plans : AreDecisionPlans nodes kept.decision kept.plans
+
+-- these are kept of each decision of the nodes, in text order
+abbrev pub FollowDecisions : List NodeView → List KeptPlans → Type 0
+FollowDecisions nodes kept = map (λ k. k.decision) kept ≡ decisions_of nodes
+
+-- what is found are plans of the decision among all nodes of which the list is kept
+abbrev pub IsFoundOf : List KeptPlans → ℕ → Option DecisionPlans → Type 0
+IsFoundOf kept d found =
+    (nodes : List NodeView) (plans : DecisionPlans) → All (IsKept nodes) kept → found ≡ Some plans
+    → AreDecisionPlans nodes d plans
 
 -- what is kept of these nodes: what all their plans share, plans of decisions, and those of all utilities' worths
 pub record IsKeptRun (nodes : List NodeView) (kept : KeptRun) : Type 0 where

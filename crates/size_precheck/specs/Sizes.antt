@@ -1,12 +1,12 @@
 -- How large plans are, and a run of them.
-use Rattle.std.specs.Prelude.{◌≡◌, ◌⊎◌, ◌↔◌, ◌<◌, Some, Contains, ℕ, ◌+◌, ◌*◌, ◌&&◌, Bool, List, [], ◌∷◌, ◌++◌, map, filter, flat_map, length, max, sum_by}
+use Rattle.std.specs.Prelude.{◌≡◌, ◌⊎◌, ◌↔◌, ◌<◌, Option, None, Some, Contains, ℕ, ◌+◌, ◌*◌, ◌&&◌, Bool, List, [], ◌∷◌, ◌++◌, map, filter, flat_map, length, max, sum_by}
 use Rattle.std.specs.List.{AllZip}
 use Rattle.maid_model.specs.Graph.{AllDifferent, Arc, Descends, descends}
 use Rattle.maid_model.specs.Nodes.{IsDecision, agent_of, node_at, numbers_of, is_utility, is_utility_of}
 use Rattle.maid_model.specs.Views.{NodeView}
 use Rattle.ring_sums.specs.Tables.{joined_without, scopes_one, scopes_after}
 use Rattle.plan_sums.specs.Laws.{IsOrderOfPlan}
-use Rattle.plan_sums.specs.Plans.{PlanView, has, row_plan, gain_plan, worth_plan}
+use Rattle.plan_sums.specs.Plans.{PlanView, has, plan_nodes, row_plan, gain_plan, worth_plan}
 use Rattle.plan_sums.specs.Sizes.{IsPlan}
 use Rattle.size_precheck.specs.declared.sizes.Size.{Size}
 use Rattle.maid_model.specs.Bounds.{stopped}
@@ -56,6 +56,18 @@ pub record SizedPlan : Type 0 where
   pub steps : List ℕ
   pub size : Size
 
+-- what is asked for: which nodes are kept, whose rule is left out, and which utility is summed
+abbrev pub plan_of : List ℕ → Option ℕ → Option ℕ → PlanView
+plan_of keep without utility = record { keep = keep; without = without; utility = utility }
+
+-- v is a node of the plan: it keeps v or eliminates it
+abbrev pub IsMember : SizedPlan → ℕ → Type 0
+IsMember sized v = Contains sized.plan.keep v ⊎ Contains sized.steps v
+
+-- v is a node of a plan that keeps these nodes and has that utility
+abbrev pub IsOfPlan : List NodeView → List ℕ → Option ℕ → ℕ → Type 0
+IsOfPlan nodes keep utility v = Contains (plan_nodes nodes (plan_of keep None utility)) v
+
 -- the plan with its greedy order, which takes each of its nodes once, and the size of that
 pub record IsMade (nodes : List NodeView) (asked : PlanView) (made : SizedPlan) : Type 0 where
   pub plan : made.plan ≡ asked
@@ -68,6 +80,17 @@ pub record IsMade (nodes : List NodeView) (asked : PlanView) (made : SizedPlan) 
 pub record IsPlanned (nodes : List NodeView) (plan : PlanView) (result : SizedPlan) : Type 0 where
   pub asked : CanBePlanned nodes plan
   pub made : IsMade nodes plan result
+
+-- the plan of a decision's rows may be asked for, and that of its states for a goal
+abbrev pub CanPlanRows : List NodeView → ℕ → Type 0
+CanPlanRows nodes d = CanBePlanned nodes (row_plan nodes d)
+
+abbrev pub CanPlanGain : List NodeView → ℕ → ℕ → Type 0
+CanPlanGain nodes d u = CanBePlanned nodes (gain_plan nodes d u)
+
+-- what is made of that of its states
+abbrev pub IsGainPlan : List NodeView → ℕ → ℕ → SizedPlan → Type 0
+IsGainPlan nodes d u made = IsMade nodes (gain_plan nodes d u) made
 
 -- ---- a run
 -- the utilities of the decision's agent that descend from it

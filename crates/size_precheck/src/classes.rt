@@ -1,11 +1,11 @@
 //! The nodes that wait, in classes of equal cells: the next one is the first of the lowest class that has any.
 
-ghost use Rattle.std.specs.Prelude.{◌≡◌, ◌⊎◌, ◌↔◌, ℕ, ◌<◌, ◌≤◌, Bool, true, List, length, slice_index, IsTrue, IsFalse, MatchOption, IfOk, OnOk};
+ghost use Rattle.std.specs.Prelude.{◌≡◌, ◌↔◌, ℕ, ◌<◌, ◌≤◌, length, IsTrue, IfOk, OnOk};
 ghost use Rattle.node_sets.specs.declared.sets.TheConstants.{MOST_NODES};
 ghost use Rattle.node_sets.specs.Sets.{holds, IsIn};
-ghost use Rattle.size_precheck.specs.Classes.{class_at, AreClasses, IsFewest, IsLess, IsRecounted};
+ghost use Rattle.size_precheck.specs.Classes.{class_at, nodes_at, AreClasses, FindsFewest, HasChanged, HasCome, HasLeft, IsOfCells};
+ghost use Rattle.size_precheck.specs.Joints.{IsWith, IsWithout};
 
-use crate::counts::are_same;
 use node_sets::NodeSet;
 use std::alloc::{AllocError, Global};
 
@@ -35,8 +35,7 @@ fn find_place(classes: &[Class], cells: u64) -> usize
 
 /// Of the nodes that wait the first of those with fewest cells.
 pub fn find_next(classes: &[Class]) -> Option<usize>
-    ensures { (counts : List ℕ) (waits : ℕ → Bool) → AreClasses counts waits classes.now
-        → MatchOption result ((v : ℕ) → waits v ≡ true → ⊥) (IsFewest counts waits) }
+    ensures { FindsFewest classes.now result }
 {
     for class in classes {
         if let Some(v) = class.nodes.first_from(0) {
@@ -50,12 +49,14 @@ pub fn find_next(classes: &[Class]) -> Option<usize>
 fn has_no_other(classes: &[Class], place: usize, v: usize) -> bool
     requires place { place < length classes.now }
     requires small { v < MOST_NODES }
-    ensures { IsTrue result → (x : ℕ) → IsIn (class_at classes.now place).nodes x → x ≡ v }
+    ensures { IsTrue result ↔ ((x : ℕ) → IsIn (nodes_at classes.now place) x → x ≡ v) }
 {
-    let none = NodeSet::empty();
     let mut others = classes[place].nodes;
     others.remove(v);
-    are_same(&others, &none)
+    match others.first_from(0) {
+        Some(_) => false,
+        None => true,
+    }
 }
 
 /// Takes v out of the class of a place.
@@ -64,8 +65,7 @@ fn take_at(classes: &mut [Class], place: usize, v: usize)
     requires small { v < MOST_NODES }
     ensures len { length classes.new ≡ length classes.old }
     ensures cells { (class_at classes.new place).cells ≡ (class_at classes.old place).cells }
-    ensures nodes { (x : ℕ) → IsIn (class_at classes.new place).nodes x
-        ↔ (IsIn (class_at classes.old place).nodes x × (x ≡ v → ⊥)) }
+    ensures nodes { IsWithout (nodes_at classes.old place) (nodes_at classes.new place) v }
     ensures same { (i : ℕ) → (i ≡ place → ⊥) → class_at classes.new i ≡ class_at classes.old i }
 {
     classes[place].nodes.remove(v);
@@ -77,8 +77,7 @@ fn put_at(classes: &mut [Class], place: usize, v: usize)
     requires small { v < MOST_NODES }
     ensures len { length classes.new ≡ length classes.old }
     ensures cells { (class_at classes.new place).cells ≡ (class_at classes.old place).cells }
-    ensures nodes { (x : ℕ) → IsIn (class_at classes.new place).nodes x
-        ↔ (IsIn (class_at classes.old place).nodes x ⊎ (x ≡ v)) }
+    ensures nodes { IsWith (nodes_at classes.old place) (nodes_at classes.new place) v }
     ensures same { (i : ℕ) → (i ≡ place → ⊥) → class_at classes.new i ≡ class_at classes.old i }
 {
     classes[place].nodes.insert(v);
@@ -86,10 +85,7 @@ fn put_at(classes: &mut [Class], place: usize, v: usize)
 
 /// Whether the class of this place has this many cells.
 fn is_of_cells(classes: &[Class], place: usize, cells: u64) -> bool
-    ensures found { IsTrue result
-        → (place < length classes.now) × ((class_at classes.now place).cells ≡ cells) }
-    ensures other { IsFalse result → place < length classes.now
-        → (class_at classes.now place).cells ≡ cells → ⊥ }
+    ensures { IsTrue result ↔ IsOfCells classes.now place cells }
 {
     place < classes.len() && classes[place].cells == cells
 }
@@ -97,9 +93,7 @@ fn is_of_cells(classes: &[Class], place: usize, cells: u64) -> bool
 /// Takes a node out of the class of its cells. Where there are more than a few classes, the class goes with its last node.
 pub fn take_node(classes: &mut Vec<Class>, v: usize, cells: u64)
     requires { v < MOST_NODES }
-    ensures { (counts : List ℕ) (waits fewer : ℕ → Bool) → IsLess waits fewer v
-        → slice_index counts v ≡ cells → AreClasses counts waits classes.old.items
-        → AreClasses counts fewer classes.new.items }
+    ensures { HasLeft classes.old.items classes.new.items v cells }
 {
     let place = find_place(classes, cells);
     if place < classes.len() {
@@ -114,9 +108,7 @@ pub fn take_node(classes: &mut Vec<Class>, v: usize, cells: u64)
 /// Puts a node into the class of its cells.
 pub fn put_node(classes: &mut Vec<Class>, v: usize, cells: u64) -> Result<(), AllocError>
     requires { v < MOST_NODES }
-    ensures { OnOk result ((counts : List ℕ) (waits fewer : ℕ → Bool) → IsLess waits fewer v
-        → waits v ≡ true → slice_index counts v ≡ cells → AreClasses counts fewer classes.old.items
-        → AreClasses counts waits classes.new.items) }
+    ensures { OnOk result (HasCome classes.old.items classes.new.items v cells) }
 {
     let place = find_place(classes, cells);
     if is_of_cells(classes, place, cells) {
@@ -139,9 +131,7 @@ pub fn move_node(
     after: u64,
 ) -> Result<(), AllocError>
     requires { v < MOST_NODES }
-    ensures { OnOk result ((counts recounted : List ℕ) (waits : ℕ → Bool) → waits v ≡ true
-        → IsRecounted counts recounted v before after → AreClasses counts waits classes.old.items
-        → AreClasses recounted waits classes.new.items) }
+    ensures { OnOk result (HasChanged classes.old.items classes.new.items v before after) }
 {
     if before == after {
         return Ok(());

@@ -1,12 +1,11 @@
 //! Counts that stop at 10^18, and the cells of sets of nodes.
 
-ghost use Rattle.std.specs.Prelude.{◌≡◌, ◌↔◌, ◌⊎◌, ◌<◌, ◌+◌, ◌*◌, ◌/◌, ◌≤◌, ℕ, IsTrue, length, slice_index};
+ghost use Rattle.std.specs.Prelude.{◌≡◌, ◌↔◌, ◌<◌, ◌+◌, ◌*◌, ◌/◌, ◌≤◌, ℕ, IsTrue, length};
 ghost use Rattle.maid_model.specs.declared.limits.TheConstants.{COUNT_END};
-ghost use Rattle.node_sets.specs.declared.sets.NodeSet.{NodeSet};
 ghost use Rattle.node_sets.specs.declared.sets.TheConstants.{MOST_NODES};
 ghost use Rattle.node_sets.specs.Sets.{holds, IsIn};
 ghost use Rattle.maid_model.specs.Bounds.{stopped};
-ghost use Rattle.size_precheck.specs.Joints.{member_count, counted_over};
+ghost use Rattle.size_precheck.specs.Joints.{member_count, counted_over, CanBeDivided, CountsPut, CountsWithout};
 
 use maid_model::COUNT_END;
 use node_sets::NodeSet;
@@ -57,13 +56,6 @@ pub fn count_cells(states: &[u64], set: &NodeSet) -> u64
     cells
 }
 
-/// Whether the two sets are one.
-pub fn are_same(set: &NodeSet, other: &NodeSet) -> bool
-    ensures { IsTrue result → set.now ≡ other.now }
-{
-    *set == *other
-}
-
 /// The count divided by a node's count of states. Where that is one of the most common, the compiler has less to do than a
 /// division.
 fn divide(cells: u64, states: u64) -> u64
@@ -83,8 +75,7 @@ fn divide(cells: u64, states: u64) -> u64
 fn can_divide(states: &[u64], set: &NodeSet, v: usize, cells: u64) -> bool
     requires len { length states.now ≡ MOST_NODES }
     requires small { v < MOST_NODES }
-    ensures { IsTrue result → (IsIn set.now v) × (0 < slice_index states.now v)
-        × (cells < COUNT_END) }
+    ensures { IsTrue result ↔ CanBeDivided states.now set.now v cells }
 {
     set.holds(v) && 0 < states[v] && cells < END
 }
@@ -94,9 +85,7 @@ pub fn count_less(states: &[u64], before: &NodeSet, after: &NodeSet, v: usize, c
     requires len { length states.now ≡ MOST_NODES }
     requires small { v < MOST_NODES }
     ensures few { result ≤ COUNT_END }
-    ensures counted { ((x : ℕ) → IsIn after.now x ↔ (IsIn before.now x × (x ≡ v → ⊥)))
-        → cells ≡ counted_over states.now (holds before.now)
-        → result ≡ counted_over states.now (holds after.now) }
+    ensures counted { CountsWithout states.now before.now after.now v cells result }
 {
     if can_divide(states, before, v, cells) {
         divide(cells, states[v])
@@ -118,11 +107,7 @@ pub fn count_put(
     requires len { length states.now ≡ MOST_NODES }
     requires small { v < MOST_NODES }
     requires out { (x : ℕ) → IsIn out.now x ↔ (x ≡ v) }
-    ensures { (after : NodeSet)
-        → ((u : ℕ) → IsIn after u
-        ↔ ((IsIn before.now u ⊎ IsIn scope.now u) × (IsIn out.now u → ⊥)))
-        → cells ≡ counted_over states.now (holds before.now)
-        → result ≡ counted_over states.now (holds after) }
+    ensures { CountsPut states.now before.now scope.now out.now cells result }
 {
     if can_divide(states, before, v, cells) {
         let came = scope.difference(before);

@@ -2,8 +2,9 @@
 
 ghost use Rattle.std.specs.Prelude.{◌≡◌, IfOk};
 ghost use Rattle.maid_model.specs.Nodes.{IsDecision};
+ghost use Rattle.size_precheck.specs.Decisions.{AreDecisionPlans};
 ghost use Rattle.size_precheck.specs.Families.{IsPlanner};
-ghost use Rattle.size_precheck.specs.Sizes.{ArePlansOf, ArePlansOfGoals};
+ghost use Rattle.size_precheck.specs.Sizes.{ArePlansOfGoals};
 
 use crate::kinds::{gain_by, rows_by};
 use crate::planners::Planner;
@@ -73,8 +74,7 @@ pub(crate) fn decision_by(
 ) -> Result<DecisionPlans, AllocError>
     requires decision { IsDecision diagram.now.nodes decision }
     requires planner { IsPlanner diagram.now.nodes planner.now }
-    ensures { IfOk result (λ plans.
-        ArePlansOf diagram.now.nodes decision plans.rows plans.goals.items) }
+    ensures { IfOk result (AreDecisionPlans diagram.now.nodes decision) }
 {
     let rows = rows_by(alloc, diagram, planner, decision)?;
     let goals = plan_goals(alloc, diagram, planner, decision)?;
@@ -89,8 +89,7 @@ pub fn plan_decision(
     decision: usize,
 ) -> Result<DecisionPlans, AllocError>
     requires { IsDecision diagram.now.nodes decision }
-    ensures { IfOk result (λ plans.
-        ArePlansOf diagram.now.nodes decision plans.rows plans.goals.items) }
+    ensures { IfOk result (AreDecisionPlans diagram.now.nodes decision) }
 {
     let planner = Planner::new(alloc, diagram)?;
     decision_by(alloc, diagram, &planner, decision)

@@ -3,7 +3,7 @@
 ghost use Rattle.std.specs.Prelude.{◌≡◌, ℕ, ◌<◌, length};
 ghost use Rattle.node_sets.specs.declared.sets.TheConstants.{MOST_NODES};
 ghost use Rattle.node_sets.specs.Sets.{IsIn};
-ghost use Rattle.size_precheck.specs.Joints.{joint_at, IsPut};
+ghost use Rattle.size_precheck.specs.Joints.{joint_at, IsPut, IsPutToAll};
 
 use node_sets::NodeSet;
 
@@ -52,9 +52,7 @@ pub fn put_table(joints: &mut [Joint], at: &NodeSet, table: &Table, gone: &NodeS
     requires tag { table.now.tag < MOST_NODES }
     requires within { (y : ℕ) → IsIn at.now y → y < length joints.old }
     ensures len { length joints.new ≡ length joints.old }
-    ensures put { (y : ℕ) → IsIn at.now y
-        → IsPut table.now (IsIn gone.now) (IsIn out.now) (joint_at joints.old y)
-        (joint_at joints.new y) }
+    ensures put { IsPutToAll at.now table.now gone.now out.now joints.old joints.new }
     ensures same { (y : ℕ) → (IsIn at.now y → ⊥) → joint_at joints.new y ≡ joint_at joints.old y }
 {
     let mut from = 0;

@@ -1,13 +1,11 @@
 //! Plans that are kept for later runs.
 
-ghost use Rattle.std.specs.Prelude.{◌≡◌, ◌<◌, List, All, Some, length, map, IsTrue, IfOk};
-ghost use Rattle.maid_model.specs.Nodes.{IsDecision, decisions_of, is_decision, node_at};
-ghost use Rattle.maid_model.specs.Views.{NodeView};
-ghost use Rattle.size_precheck.specs.declared.decisions.DecisionPlans.{DecisionPlans};
-ghost use Rattle.size_precheck.specs.Decisions.{ArePlans};
+ghost use Rattle.std.specs.Prelude.{◌≡◌, ◌<◌, All, length, IsTrue, IfOk};
+ghost use Rattle.maid_model.specs.Nodes.{IsDecision, is_decision, node_at};
+ghost use Rattle.size_precheck.specs.Decisions.{AreDecisionPlans, ArePlans};
 ghost use Rattle.size_precheck.specs.Families.{IsPlanner};
-ghost use Rattle.size_precheck.specs.Kept.{IsKept, IsKeptRun};
-ghost use Rattle.size_precheck.specs.Sizes.{ArePlansOf, ListsDecisions};
+ghost use Rattle.size_precheck.specs.Kept.{FollowDecisions, IsFoundOf, IsKept, IsKeptRun};
+ghost use Rattle.size_precheck.specs.Sizes.{ListsDecisions};
 
 use crate::decisions::{DecisionPlans, decision_by};
 use crate::planners::Planner;
@@ -55,8 +53,7 @@ fn keep_decisions(
     planner: &Planner,
 ) -> Result<Vec<KeptPlans>, AllocError>
     requires { IsPlanner diagram.now.nodes planner.now }
-    ensures decisions { IfOk result (λ kept.
-        map (λ k. k.decision) kept.items ≡ decisions_of diagram.now.nodes) }
+    ensures decisions { IfOk result (λ kept. FollowDecisions diagram.now.nodes kept.items) }
     ensures kept { IfOk result (λ kept. All (IsKept diagram.now.nodes) kept.items) }
 {
     let mut kept = Vec::new(alloc);
@@ -72,8 +69,7 @@ fn keep_decisions(
 /// The plans of each decision of the diagram and of each utility's worth, to be kept for later runs. `make_plan` tells the
 /// cost of each; what is kept of one is the list of its kept nodes and that of its steps.
 pub fn keep_plans(alloc: Global, diagram: &Diagram) -> Result<KeptRun, AllocError>
-    ensures decisions { IfOk result (λ kept.
-        map (λ k. k.decision) kept.decisions.items ≡ decisions_of diagram.now.nodes) }
+    ensures decisions { IfOk result (λ run. FollowDecisions diagram.now.nodes run.decisions.items) }
     ensures kept { IfOk result (IsKeptRun diagram.now.nodes) }
 {
     let planner = Planner::new(alloc, diagram)?;
@@ -92,9 +88,7 @@ fn copy_kept(
     kept: &[KeptPlans],
     decision: usize,
 ) -> Result<Option<DecisionPlans>, AllocError>
-    ensures { IfOk result (λ found.
-        (nodes : List NodeView) (plans : DecisionPlans) → All (IsKept nodes) kept.now
-        → found ≡ Some plans → ArePlansOf nodes decision plans.rows plans.goals.items) }
+    ensures { IfOk result (IsFoundOf kept.now decision) }
 {
     for known in kept {
         if known.decision == decision {
@@ -115,8 +109,7 @@ fn decision_with(
     requires decision { IsDecision diagram.now.nodes decision }
     requires planner { IsPlanner diagram.now.nodes planner.now }
     requires kept { All (IsKept diagram.now.nodes) kept.now }
-    ensures { IfOk result (λ plans.
-        ArePlansOf diagram.now.nodes decision plans.rows plans.goals.items) }
+    ensures { IfOk result (AreDecisionPlans diagram.now.nodes decision) }
 {
     match copy_kept(alloc, kept, decision)? {
         Some(plans) => Ok(plans),

@@ -4,9 +4,9 @@ ghost use Rattle.std.specs.Prelude.{◌≡◌, ◌<◌, length, IfOk, OnOk};
 ghost use Rattle.maid_model.specs.declared.diagrams.Kind.TheVariants.{Utility};
 ghost use Rattle.maid_model.specs.Nodes.{IsDecision, node_at};
 ghost use Rattle.maid_model.specs.Relevance.{IsGoal};
-ghost use Rattle.plan_sums.specs.Plans.{row_plan, gain_plan, worth_plan};
+ghost use Rattle.plan_sums.specs.Plans.{row_plan, worth_plan};
 ghost use Rattle.size_precheck.specs.Families.{IsPlanner};
-ghost use Rattle.size_precheck.specs.Sizes.{CanBePlanned, IsMade};
+ghost use Rattle.size_precheck.specs.Sizes.{CanBePlanned, CanPlanGain, CanPlanRows, IsGainPlan, IsMade};
 
 use crate::planners::Planner;
 use crate::plans::{Plan, plan_by};
@@ -22,8 +22,7 @@ pub fn rows_by(
 ) -> Result<Plan, AllocError>
     requires decision { IsDecision diagram.now.nodes decision }
     requires planner { IsPlanner diagram.now.nodes planner.now }
-    ensures asked { OnOk result (CanBePlanned diagram.now.nodes
-        (row_plan diagram.now.nodes decision)) }
+    ensures asked { OnOk result (CanPlanRows diagram.now.nodes decision) }
     ensures made { IfOk result (IsMade diagram.now.nodes (row_plan diagram.now.nodes decision)) }
 {
     let parents = diagram.parents(decision);
@@ -41,10 +40,8 @@ pub fn gain_by(
     requires decision { IsDecision diagram.now.nodes decision }
     requires goal { IsGoal diagram.now.nodes decision goal }
     requires planner { IsPlanner diagram.now.nodes planner.now }
-    ensures asked { OnOk result (CanBePlanned diagram.now.nodes (gain_plan diagram.now.nodes
-        decision goal)) }
-    ensures made { IfOk result (IsMade diagram.now.nodes (gain_plan diagram.now.nodes decision
-        goal)) }
+    ensures asked { OnOk result (CanPlanGain diagram.now.nodes decision goal) }
+    ensures made { IfOk result (IsGainPlan diagram.now.nodes decision goal) }
 {
     let parents = diagram.parents(decision);
     let mut keep = Vec::with_capacity(alloc, MOST_PARENTS + 1)?;

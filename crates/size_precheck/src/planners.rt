@@ -1,12 +1,12 @@
 //! What all plans of a diagram share.
 
-ghost use Rattle.std.specs.Prelude.{◌≡◌, ◌<◌, ◌+◌, ◌↔◌, ℕ, length, IfOk, OnOk};
+ghost use Rattle.std.specs.Prelude.{◌≡◌, ◌<◌, ◌↔◌, ℕ, length, IfOk, OnOk};
 ghost use Rattle.maid_model.specs.Diagrams.{IsDiagram};
 ghost use Rattle.maid_model.specs.Graph.{Arc, IsPath};
 ghost use Rattle.node_sets.specs.declared.sets.TheConstants.{MOST_NODES};
 ghost use Rattle.node_sets.specs.Sets.{IsIn};
-ghost use Rattle.size_precheck.specs.Families.{AreAbove, AreFamilies, AreWhole, IsFamily, IsJoined, IsOfFamily, IsPlanner, IsRuledBelow};
-ghost use Rattle.size_precheck.specs.Joints.{joint_at, IsCounted};
+ghost use Rattle.size_precheck.specs.Families.{AreAbove, AreFamilies, AreWhole, IsFamily, IsOfFamily, IsPlanner, TakesFamily};
+ghost use Rattle.size_precheck.specs.Joints.{AreCounted};
 
 use crate::counts::count_cells;
 use crate::joints::{Joint, Table, put_table};
@@ -79,8 +79,7 @@ fn list_families(
 ) -> Result<Vec<Family>, AllocError>
     requires { length states.now ≡ MOST_NODES }
     ensures len { IfOk result (λ families. length families.items ≡ length diagram.now.nodes) }
-    ensures families { IfOk result (λ families.
-        AreFamilies diagram.now.nodes states.now families.items) }
+    ensures families { IfOk result (λ list. AreFamilies diagram.now.nodes states.now list.items) }
 {
     let mut families = Vec::with_capacity(alloc, diagram.count())?;
     for v in 0..diagram.count() {
@@ -97,10 +96,7 @@ fn put_family(diagram: &Diagram, joints: &mut [Joint], table: &Table, v: usize)
     requires tag { table.now.tag ≡ v }
     requires scope { (u : ℕ) → IsIn table.now.scope u ↔ IsOfFamily diagram.now.nodes v u }
     ensures len { length joints.new ≡ length joints.old }
-    ensures joined { (y : ℕ) → IsJoined diagram.now.nodes (IsRuledBelow diagram.now.nodes v) y
-        (joint_at joints.old y)
-        → IsJoined diagram.now.nodes (IsRuledBelow diagram.now.nodes (v + 1)) y
-        (joint_at joints.new y) }
+    ensures joined { TakesFamily diagram.now.nodes v joints.old joints.new }
 {
     match diagram.kind(v) {
         Kind::Utility => {}
@@ -134,8 +130,7 @@ fn list_joints(
 fn list_counts(alloc: Global, states: &[u64], joints: &[Joint]) -> Result<Vec<u64>, AllocError>
     requires { length states.now ≡ MOST_NODES }
     ensures len { IfOk result (λ counts. length counts.items ≡ length joints.now) }
-    ensures counted { IfOk result (λ counts.
-        (y : ℕ) → y < length joints.now → IsCounted states.now joints.now counts.items y) }
+    ensures counted { IfOk result (λ counts. AreCounted states.now joints.now counts.items) }
 {
     let mut counts = Vec::with_capacity(alloc, joints.len())?;
     for joint in joints {

@@ -1,11 +1,11 @@
 //! Plans of elimination.
 
-ghost use Rattle.std.specs.Prelude.{◌≡◌, ◌⊎◌, ◌↔◌, ◌<◌, ℕ, Contains, IfOk};
+ghost use Rattle.std.specs.Prelude.{◌≡◌, ◌↔◌, ◌<◌, ℕ, IfOk};
 ghost use Rattle.maid_model.specs.Diagrams.{IsDiagram};
 ghost use Rattle.node_sets.specs.declared.sets.TheConstants.{MOST_NODES};
 ghost use Rattle.node_sets.specs.Sets.{IsIn};
 ghost use Rattle.size_precheck.specs.Families.{IsPlanner};
-ghost use Rattle.size_precheck.specs.Sizes.{CanBePlanned, IsMade};
+ghost use Rattle.size_precheck.specs.Sizes.{plan_of, CanBePlanned, IsMade, IsMember};
 
 use crate::counts::{add, count_cells, multiply};
 use crate::planners::Planner;
@@ -72,10 +72,8 @@ impl Plan {
 
     /// The nodes of the plan: those that it keeps, and those that it eliminates. It takes no memory.
     pub fn members(&self) -> NodeSet
-        requires { (v : ℕ) → (Contains self.now.plan.keep v ⊎ Contains self.now.steps v)
-            → v < MOST_NODES }
-        ensures { (v : ℕ) → IsIn result v
-            ↔ (Contains self.now.plan.keep v ⊎ Contains self.now.steps v) }
+        requires { (v : ℕ) → IsMember self.now v → v < MOST_NODES }
+        ensures { (v : ℕ) → IsIn result v ↔ IsMember self.now v }
     {
         let mut nodes = set_of(self.keep());
         nodes.insert_all(self.steps());
@@ -114,16 +112,8 @@ pub fn plan_by(
 ) -> Result<Plan, AllocError>
     requires diagram { IsDiagram diagram.now }
     requires planner { IsPlanner diagram.now.nodes planner.now }
-    requires asked { CanBePlanned diagram.now.nodes (record {
-      keep = keep.now;
-      without = without;
-      utility = utility;
-    }) }
-    ensures { IfOk result (IsMade diagram.now.nodes (record {
-      keep = keep.now;
-      without = without;
-      utility = utility;
-    })) }
+    requires asked { CanBePlanned diagram.now.nodes (plan_of keep.now without utility) }
+    ensures { IfOk result (IsMade diagram.now.nodes (plan_of keep.now without utility)) }
 {
     let states = planner.states.as_slice();
     let nodes = plan_nodes(diagram, &planner.families, keep, utility);
@@ -164,16 +154,8 @@ pub fn make_plan(
     without: Option<usize>,
     utility: Option<usize>,
 ) -> Result<Plan, AllocError>
-    requires { CanBePlanned diagram.now.nodes (record {
-      keep = keep.now;
-      without = without;
-      utility = utility;
-    }) }
-    ensures { IfOk result (IsMade diagram.now.nodes (record {
-      keep = keep.now;
-      without = without;
-      utility = utility;
-    })) }
+    requires { CanBePlanned diagram.now.nodes (plan_of keep.now without utility) }
+    ensures { IfOk result (IsMade diagram.now.nodes (plan_of keep.now without utility)) }
 {
     let planner = Planner::new(alloc, diagram)?;
     plan_by(alloc, diagram, &planner, keep, without, utility)

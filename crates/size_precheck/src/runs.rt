@@ -1,15 +1,11 @@
 //! The plans of a run.
 
-ghost use Rattle.std.specs.Prelude.{◌≡◌, ◌≤◌, ◌<◌, ◌+◌, ℕ, List, max, map, flat_map, [], IfOk};
-ghost use Rattle.std.specs.List.{AllZip};
+ghost use Rattle.std.specs.Prelude.{◌≡◌, ◌≤◌, IfOk};
 ghost use Rattle.maid_model.specs.declared.limits.TheConstants.{COUNT_END};
-ghost use Rattle.maid_model.specs.Bounds.{stopped};
-ghost use Rattle.maid_model.specs.Views.{NodeView};
-ghost use Rattle.plan_sums.specs.Plans.{PlanView, row_plan, gain_plan};
 ghost use Rattle.size_precheck.specs.Decisions.{ArePlans};
 ghost use Rattle.size_precheck.specs.Kept.{IsKeptRun};
-ghost use Rattle.size_precheck.specs.Runs.{Includes};
-ghost use Rattle.size_precheck.specs.Sizes.{IsPlanned, ListsDecisions, IsSizeOfRun, goal_list, ArePlansOfWorths};
+ghost use Rattle.size_precheck.specs.Runs.{joined_size, IncludesGains, IncludesPlans, IncludesRows, IsSizeOfRunWith};
+ghost use Rattle.size_precheck.specs.Sizes.{ListsDecisions, IsSizeOfRun, ArePlansOfWorths};
 
 use crate::decisions::{DecisionPlans, copy_plans};
 use crate::keeping::{KeptRun, plan_decisions};
@@ -22,10 +18,7 @@ use std::alloc::{AllocError, Global};
 
 /// The greater cells of two sizes, and their work together.
 fn join_sizes(size: Size, other: Size) -> Size
-    ensures { result ≡ record {
-      cells = max size.cells other.cells;
-      work = stopped (size.work + other.work);
-    } }
+    ensures { result ≡ joined_size size other }
 {
     Size {
         cells: size.cells.max(other.cells),
@@ -37,8 +30,7 @@ fn join_sizes(size: Size, other: Size) -> Size
 fn include_rows(plans: &[DecisionPlans], size: Size) -> Size
     requires { size.work ≤ COUNT_END }
     ensures few { result.work ≤ COUNT_END }
-    ensures counted { (nodes : List NodeView) (order : List ℕ) → ArePlans nodes order plans.now
-        → Includes nodes (map (λ d. row_plan nodes d) order) size result }
+    ensures counted { IncludesRows plans.now size result }
 {
     let mut sum = size;
     for decision in plans {
@@ -51,8 +43,7 @@ fn include_rows(plans: &[DecisionPlans], size: Size) -> Size
 fn include_plans(plans: &[Plan], size: Size) -> Size
     requires { size.work ≤ COUNT_END }
     ensures few { result.work ≤ COUNT_END }
-    ensures counted { (nodes : List NodeView) (asked : List PlanView)
-        → AllZip (IsPlanned nodes) asked plans.now → Includes nodes asked size result }
+    ensures counted { IncludesPlans plans.now size result }
 {
     let mut sum = size;
     for plan in plans {
@@ -65,9 +56,7 @@ fn include_plans(plans: &[Plan], size: Size) -> Size
 fn include_all_goals(plans: &[DecisionPlans], size: Size) -> Size
     requires { size.work ≤ COUNT_END }
     ensures few { result.work ≤ COUNT_END }
-    ensures counted { (nodes : List NodeView) (order : List ℕ) → ArePlans nodes order plans.now
-        → Includes nodes (flat_map (λ d. map (λ u. gain_plan nodes d u) (goal_list nodes d)) order)
-        size result }
+    ensures counted { IncludesGains plans.now size result }
 {
     let mut sum = size;
     for decision in plans {
@@ -91,8 +80,7 @@ pub struct RunPlans {
 fn with_size(decisions: Vec<DecisionPlans>, worths: Vec<Plan>) -> RunPlans
     ensures decisions { result.decisions ≡ decisions }
     ensures worths { result.worths ≡ worths }
-    ensures size { (nodes : List NodeView) (order : List ℕ) → ArePlans nodes order decisions.items
-        → ArePlansOfWorths nodes worths.items → IsSizeOfRun nodes order result.size }
+    ensures size { IsSizeOfRunWith decisions.items worths.items result.size }
 {
     let none = Size { cells: 0, work: 0 };
     let rows = include_rows(&decisions, none);

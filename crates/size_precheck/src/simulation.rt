@@ -1,12 +1,11 @@
 //! The steps of a plan, simulated on the scopes of its tables.
 
-ghost use Rattle.std.specs.Prelude.{◌≡◌, ◌⊎◌, ◌↔◌, ℕ, ◌<◌, ◌≤◌, ◌+◌, Bool, true, List, length, IfOk, OnOk, slice_index};
+ghost use Rattle.std.specs.Prelude.{◌≡◌, ◌↔◌, ℕ, ◌<◌, ◌≤◌, ◌+◌, length, IfOk, OnOk, slice_index};
 ghost use Rattle.maid_model.specs.declared.limits.TheConstants.{COUNT_END};
-ghost use Rattle.maid_model.specs.Views.{NodeView};
 ghost use Rattle.node_sets.specs.declared.sets.TheConstants.{MOST_NODES};
 ghost use Rattle.node_sets.specs.Sets.{holds, IsIn};
-ghost use Rattle.size_precheck.specs.Classes.{AreClasses};
-ghost use Rattle.size_precheck.specs.Joints.{joint_at, AreStates, IsCounted, IsPut, Stands, IsStep, IsStarted, IsRun, IsListOf};
+ghost use Rattle.size_precheck.specs.Classes.{StayClasses, StayWithAll};
+ghost use Rattle.size_precheck.specs.Joints.{joint_at, AllStayCounted, IsStartOfSome, IsCounted, IsListOf, IsPutAt, IsPutToAll, IsRunFrom, KeepsOtherCells, MakesStep, StaysCounted};
 
 use crate::classes::{Class, find_next, list_classes, move_node, take_node};
 use crate::counts::{add, count_cells, count_less, count_members, count_put, multiply};
@@ -79,8 +78,7 @@ fn put_first_at(
     requires here { y < length joints.old }
     ensures joints_len { length joints.new ≡ length joints.old }
     ensures cells_len { length cells.new ≡ length cells.old }
-    ensures put { IsPut table.now (IsIn none.now) (IsIn none.now) (joint_at joints.old y)
-        (joint_at joints.new y) }
+    ensures put { IsPutAt table.now none.now none.now joints.old joints.new y }
     ensures counted { IsCounted states.now joints.new cells.new y }
     ensures same { (x : ℕ) → (x ≡ y → ⊥) → joint_at joints.new x ≡ joint_at joints.old x }
     ensures kept { (x : ℕ) → (x ≡ y → ⊥) → slice_index cells.new x ≡ slice_index cells.old x }
@@ -107,10 +105,8 @@ fn put_at(
     requires here { y < length joints.old }
     ensures joints_len { length joints.new ≡ length joints.old }
     ensures cells_len { length cells.new ≡ length cells.old }
-    ensures put { IsPut table.now (IsIn gone.now) (IsIn out.now) (joint_at joints.old y)
-        (joint_at joints.new y) }
-    ensures counted { IsCounted states.now joints.old cells.old y
-        → IsCounted states.now joints.new cells.new y }
+    ensures put { IsPutAt table.now gone.now out.now joints.old joints.new y }
+    ensures counted { StaysCounted states.now joints.old cells.old joints.new cells.new y }
     ensures same { (x : ℕ) → (x ≡ y → ⊥) → joint_at joints.new x ≡ joint_at joints.old x }
     ensures kept { (x : ℕ) → (x ≡ y → ⊥) → slice_index cells.new x ≡ slice_index cells.old x }
 {
@@ -134,14 +130,10 @@ pub fn put_first(
     requires within { (y : ℕ) → IsIn at.now y → y < length joints.old }
     ensures joints_len { length joints.new ≡ length joints.old }
     ensures cells_len { length cells.new ≡ length cells.old }
-    ensures put { (y : ℕ) → IsIn at.now y
-        → IsPut table.now (IsIn none.now) (IsIn none.now) (joint_at joints.old y)
-        (joint_at joints.new y) }
-    ensures counted { (y : ℕ) → IsIn at.now y → IsCounted states.now joints.old cells.old y
-        → IsCounted states.now joints.new cells.new y }
+    ensures put { IsPutToAll at.now table.now none.now none.now joints.old joints.new }
+    ensures counted { AllStayCounted states.now at.now joints.old cells.old joints.new cells.new }
     ensures same { (y : ℕ) → (IsIn at.now y → ⊥) → joint_at joints.new y ≡ joint_at joints.old y }
-    ensures kept { (y : ℕ) → (IsIn at.now y → ⊥)
-        → slice_index cells.new y ≡ slice_index cells.old y }
+    ensures kept { KeepsOtherCells at.now cells.old cells.new }
 {
     let mut from = 0;
     'nodes: while let Some(y) = at.first_from(from) {
@@ -169,18 +161,12 @@ fn put_made(
     requires within { (y : ℕ) → IsIn at.now y → y < length joints.old }
     ensures joints_len { length joints.new ≡ length joints.old }
     ensures cells_len { length cells.new ≡ length cells.old }
-    ensures put { OnOk result ((y : ℕ) → IsIn at.now y
-        → IsPut table.now (IsIn gone.now) (IsIn out.now) (joint_at joints.old y)
-        (joint_at joints.new y)) }
-    ensures counted { OnOk result ((y : ℕ) → IsIn at.now y → IsCounted states.now joints.old cells.old y
-        → IsCounted states.now joints.new cells.new y) }
+    ensures put { OnOk result (IsPutToAll at.now table.now gone.now out.now joints.old joints.new) }
+    ensures counted { OnOk result (AllStayCounted states.now at.now joints.old cells.old joints.new cells.new) }
     ensures same { (y : ℕ) → (IsIn at.now y → ⊥)
         → joint_at joints.new y ≡ joint_at joints.old y }
-    ensures kept { (y : ℕ) → (IsIn at.now y → ⊥)
-        → slice_index cells.new y ≡ slice_index cells.old y }
-    ensures classes { OnOk result ((waits : ℕ → Bool) → ((y : ℕ) → IsIn at.now y → waits y ≡ true)
-        → AreClasses cells.old waits classes.old.items
-        → AreClasses cells.new waits classes.new.items) }
+    ensures kept { KeepsOtherCells at.now cells.old cells.new }
+    ensures classes { OnOk result (StayWithAll at.now cells.old classes.old.items cells.new classes.new.items) }
 {
     let mut from = 0;
     'nodes: while let Some(y) = at.first_from(from) {
@@ -211,12 +197,8 @@ fn eliminate(
     ensures cells_len { length cells.new ≡ length cells.old }
     ensures few { IfOk result (λ made. made.cells ≤ COUNT_END) }
     ensures little { IfOk result (λ made. made.work ≤ COUNT_END) }
-    ensures classes { OnOk result (AreClasses cells.old (holds waiting.now) classes.old.items
-        → AreClasses cells.new (holds waiting.now) classes.new.items) }
-    ensures step { IfOk result (λ made.
-        (nodes : List NodeView) (live : List Table) → AreStates nodes states.now
-        → Stands states.now (λ y. IsIn waiting.now y ⊎ (y ≡ v)) live joints.old cells.old
-        → IsStep nodes states.now (IsIn waiting.now) v live joints.new cells.new made) }
+    ensures classes { OnOk result (StayClasses (holds waiting.now) cells.old classes.old.items cells.new classes.new.items) }
+    ensures step { IfOk result (MakesStep states.now waiting.now v joints.old cells.old joints.new cells.new) }
 {
     let joint = joint_of(joints, v);
     let own = NodeSet::of(v);
@@ -253,12 +235,8 @@ pub fn eliminate_all(
         → (y < length start.joints.items) × (y < MOST_NODES) }
     requires len { length start.counts.items ≡ length start.joints.items }
     requires few { start.live ≤ MOST_NODES + 1 }
-    requires started { (nodes : List NodeView) × (scopes : List (ℕ → Bool))
-        × IsStarted nodes states.now (IsIn waiting) scopes start }
-    ensures run { IfOk result (λ run.
-        (nodes : List NodeView) (scopes : List (ℕ → Bool))
-        → IsStarted nodes states.now (IsIn waiting) scopes start
-        → IsRun nodes (IsIn waiting) scopes run) }
+    requires started { IsStartOfSome states.now waiting start }
+    ensures run { IfOk result (IsRunFrom states.now waiting start) }
     ensures few { IfOk result (λ run. run.cells ≤ COUNT_END) }
     ensures little { IfOk result (λ run. run.work ≤ COUNT_END) }
 {

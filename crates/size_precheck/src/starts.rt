@@ -1,17 +1,16 @@
 //! The nodes of a plan and its first tables.
 
-ghost use Rattle.std.specs.Prelude.{◌≡◌, ◌⊎◌, ◌↔◌, ℕ, ◌<◌, ◌≤◌, ◌+◌, List, [], ◌∷◌, ◌++◌, length, map, slice_index, Contains, Some, None, IsTrue, IfOk, OnOk, option_to_list};
+ghost use Rattle.std.specs.Prelude.{◌≡◌, ◌↔◌, ℕ, ◌<◌, ◌≤◌, ◌+◌, length, slice_index, Contains, Some, None, IsTrue, IfOk, OnOk};
 ghost use Rattle.maid_model.specs.Diagrams.{IsDiagram};
 ghost use Rattle.maid_model.specs.Nodes.{parents_of};
 ghost use Rattle.node_sets.specs.declared.sets.TheConstants.{MOST_NODES};
 ghost use Rattle.node_sets.specs.Sets.{IsIn};
-ghost use Rattle.plan_sums.specs.Plans.{plan_nodes};
 ghost use Rattle.plan_sums.specs.Sizes.{IsPlan};
-ghost use Rattle.size_precheck.specs.declared.joints.Table.{Table};
-ghost use Rattle.size_precheck.specs.Families.{family_at, AreAbove, IsNarrowed, IsPlanner, IsRuledBelow};
-ghost use Rattle.size_precheck.specs.Joints.{joint_at, AreStates, IsCounted, Tells, IsListOf, IsStarted, family_test, parents_test};
+ghost use Rattle.size_precheck.specs.Families.{AreAbove, AreNarrowed, HasCountsOf, HasJointsOf, IsAboveOne, IsInTableOf, IsNarrowed, IsNarrowedFrom, IsOfFamily, IsPlanner, IsRuled, IsStartOf};
+ghost use Rattle.size_precheck.specs.Joints.{joint_at, AllStayCounted, AreStates, TellsOneMore};
+ghost use Rattle.size_precheck.specs.Sizes.{plan_of, IsOfPlan};
 
-use crate::counts::{add, are_same, count_cells};
+use crate::counts::{add, count_cells};
 use crate::joints::{Joint, Table, joint_of};
 use crate::planners::{Family, Planner};
 use crate::simulation::{Start, put_first};
@@ -54,8 +53,7 @@ pub fn set_of(list: &[usize]) -> NodeSet
 /// These nodes, and all from which a path of arcs leads to one of them.
 fn nodes_above_all(families: &[Family], ends: &NodeSet) -> NodeSet
     requires { (t : ℕ) → IsIn ends.now t → t < length families.now }
-    ensures { (v : ℕ) → IsIn result v
-        ↔ ((to : ℕ) × IsIn ends.now to × IsIn (family_at families.now to).above v) }
+    ensures { (v : ℕ) → IsIn result v ↔ IsAboveOne families.now ends.now v }
 {
     let mut nodes = NodeSet::empty();
     let mut from = 0;
@@ -76,19 +74,9 @@ pub fn plan_nodes(
     requires diagram { IsDiagram diagram.now }
     requires all { length families.now ≡ length diagram.now.nodes }
     requires above { AreAbove diagram.now.nodes families.now }
-    requires plan { IsPlan diagram.now.nodes (record {
-      keep = keep.now;
-      without = None;
-      utility = utility;
-    }) }
+    requires plan { IsPlan diagram.now.nodes (plan_of keep.now None utility) }
     requires known { (u : ℕ) → utility ≡ Some u → u < length diagram.now.nodes }
-    ensures { (v : ℕ) → IsIn result v
-        ↔ Contains
-        (plan_nodes diagram.now.nodes (record {
-          keep = keep.now;
-          without = None;
-          utility = utility;
-        })) v }
+    ensures { (v : ℕ) → IsIn result v ↔ IsOfPlan diagram.now.nodes keep.now utility v }
 {
     plan_scopes();
     let mut ends = set_of(keep);
@@ -118,8 +106,7 @@ pub fn ruled_nodes(nodes: &NodeSet, without: Option<usize>) -> NodeSet
 /// The nodes of these tables.
 fn nodes_of_tables(families: &[Family], tables: &NodeSet) -> NodeSet
     requires { (t : ℕ) → IsIn tables.now t → t < length families.now }
-    ensures { (u : ℕ) → IsIn result u
-        ↔ ((t : ℕ) × IsIn tables.now t × IsIn (family_at families.now t).table.scope u) }
+    ensures { (u : ℕ) → IsIn result u ↔ IsInTableOf families.now tables.now u }
 {
     let mut nodes = NodeSet::empty();
     let mut from = 0;
@@ -132,10 +119,13 @@ fn nodes_of_tables(families: &[Family], tables: &NodeSet) -> NodeSet
 
 /// Whether all tables of the joint are among these.
 fn has_no_other(joint: &Joint, tables: &NodeSet) -> bool
-    ensures { IsTrue result → (x : ℕ) → IsIn joint.now.tables x → IsIn tables.now x }
+    ensures { IsTrue result ↔ ((x : ℕ) → IsIn joint.now.tables x → IsIn tables.now x) }
 {
-    let shared = joint.tables.intersection(tables);
-    are_same(&shared, &joint.tables)
+    let others = joint.tables.difference(tables);
+    match others.first_from(0) {
+        Some(_) => false,
+        None => true,
+    }
 }
 
 /// Leaves of y's tables those of these nodes alone.
@@ -183,9 +173,7 @@ fn narrow_all(
     requires len { length counts.old ≡ length joints.old }
     ensures joints_len { length joints.new ≡ length joints.old }
     ensures counts_len { length counts.new ≡ length counts.old }
-    ensures narrowed { (y : ℕ) → IsIn waiting.now y
-        → IsNarrowed states.now families.now joints.old counts.old ruled.now y joints.new
-        counts.new }
+    ensures narrowed { AreNarrowed states.now families.now ruled.now waiting.now joints.old counts.old joints.new counts.new }
 {
     let mut from = 0;
     'nodes: while let Some(y) = waiting.first_from(from) {
@@ -205,13 +193,9 @@ fn list_narrowed(
     requires len { length planner.now.counts.items ≡ length planner.now.joints.items }
     requires ruled { (v : ℕ) → IsIn ruled.now v → v < length planner.now.families.items }
     requires waiting { (v : ℕ) → IsIn waiting.now v → v < length planner.now.joints.items }
-    ensures joints_len { IfOk result (λ narrowed.
-        length narrowed.joints.items ≡ length planner.now.joints.items) }
-    ensures counts_len { IfOk result (λ narrowed.
-        length narrowed.counts.items ≡ length planner.now.joints.items) }
-    ensures narrowed { IfOk result (λ narrowed. (y : ℕ) → IsIn waiting.now y
-        → IsNarrowed planner.now.states.items planner.now.families.items planner.now.joints.items
-        planner.now.counts.items ruled.now y narrowed.joints.items narrowed.counts.items) }
+    ensures joints_len { IfOk result (HasJointsOf planner.now) }
+    ensures counts_len { IfOk result (HasCountsOf planner.now) }
+    ensures narrowed { IfOk result (IsNarrowedFrom planner.now ruled.now waiting.now) }
 {
     let mut joints = Vec::from_slice(alloc, &planner.joints)?;
     let mut counts = Vec::from_slice(alloc, &planner.counts)?;
@@ -240,11 +224,8 @@ fn put_utility(
     requires within { (y : ℕ) → IsIn waiting.now y → y < length joints.old }
     ensures len { length joints.new ≡ length joints.old }
     ensures counts_len { length counts.new ≡ length counts.old }
-    ensures tells { (live : List Table) (y : ℕ) → IsIn waiting.now y
-        → Tells live y (joint_at joints.old y)
-        → Tells (live ++ table.now ∷ []) y (joint_at joints.new y) }
-    ensures counted { (y : ℕ) → IsIn waiting.now y → IsCounted states.now joints.old counts.old y
-        → IsCounted states.now joints.new counts.new y }
+    ensures tells { TellsOneMore waiting.now table.now joints.old joints.new }
+    ensures counted { AllStayCounted states.now waiting.now joints.old counts.old joints.new counts.new }
 {
     let none = NodeSet::empty();
     let at = table.scope.intersection(waiting);
@@ -255,8 +236,7 @@ fn put_utility(
 pub fn node_table(diagram: &Diagram, v: usize) -> Table
     requires { v < length diagram.now.nodes }
     ensures tag { result.tag ≡ v }
-    ensures scope { (u : ℕ) → IsIn result.scope u
-        ↔ ((u ≡ v) ⊎ Contains (parents_of diagram.now.nodes v) u) }
+    ensures scope { (u : ℕ) → IsIn result.scope u ↔ IsOfFamily diagram.now.nodes v u }
 {
     let parents = diagram.parents(v);
     let mut scope = NodeSet::of(v);
@@ -287,8 +267,7 @@ pub fn put_all_first(
     waiting: &NodeSet,
 ) -> Result<Start, AllocError>
     requires planner { IsPlanner diagram.now.nodes planner.now }
-    requires ruled { (v : ℕ) → IsIn ruled.now v
-        → IsRuledBelow diagram.now.nodes (length diagram.now.nodes) v }
+    requires ruled { (v : ℕ) → IsIn ruled.now v → IsRuled diagram.now.nodes v }
     requires waiting { (v : ℕ) → IsIn waiting.now v → v < length diagram.now.nodes }
     requires known { (u : ℕ) → utility ≡ Some u → u < length diagram.now.nodes }
     requires unruled { (u : ℕ) → utility ≡ Some u → IsIn ruled.now u → ⊥ }
@@ -296,12 +275,7 @@ pub fn put_all_first(
     ensures len { IfOk result (λ start. length start.joints.items ≡ length diagram.now.nodes) }
     ensures counts { IfOk result (λ start. length start.counts.items ≡ length start.joints.items) }
     ensures few { IfOk result (λ start. start.live ≤ MOST_NODES + 1) }
-    ensures started { IfOk result (λ start.
-        (list : List ℕ) → IsListOf ruled.now list
-        → IsStarted diagram.now.nodes planner.now.states.items (IsIn waiting.now)
-        (map (family_test diagram.now.nodes) list
-        ++ map (parents_test diagram.now.nodes) (option_to_list utility))
-        start) }
+    ensures started { IfOk result (IsStartOf diagram.now.nodes planner.now ruled.now utility waiting.now) }
 {
     let states = planner.states.as_slice();
     let families = planner.families.as_slice();

@@ -9,7 +9,7 @@ run_sized-requires-clause-tables g c =
 
 pub run_sized-requires-then-is_short-clause-tables : goal.run_sized-requires-then-is_short-clause-tables
 run_sized-requires-then-is_short-clause-tables g c =
-    omega (arith, tables_few c.args.diagram.now.nodes c.args.plan.now.plan c.args.plan.now.steps c.requires.made.order, c.is_short.ensures c.if-is_short.true)
+    omega (arith, tables_few c.args.diagram.now.nodes c.args.plan.now.plan c.args.plan.now.steps c.requires.made.order, c.is_short.ensures.0 c.if-is_short.true)
 
 pub run_sized-requires-else-is_short-clause-tables : goal.run_sized-requires-else-is_short-clause-tables
 run_sized-requires-else-is_short-clause-tables g c =

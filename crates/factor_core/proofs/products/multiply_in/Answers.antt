@@ -1,57 +1,36 @@
-use Rattle.std.proofs.Common.{rules, ◌≡◌, ◌*◌, ◌<◌, ◌≤◌, length, take, sym, ap, subst, ◌∙◌}
-use Rattle.std.specs.Prelude.{All}
+use Rattle.std.proofs.Common.{rules, ◌≡◌, ◌*◌, ◌≤◌, length, take, sym, ap, ◌∙◌, arith}
 use Rattle.std.proofs.lemmas.List.{length-take-le}
-use Rattle.cell_rings.specs.Sums.{Adds}
-use Rattle.factor_core.specs.Walks.{total, CanWalk}
 use Rattle.node_sets.specs.Sets.{holds}
-use Rattle.factor_core.specs.Tables.{states_in, stride_of, axes_of, rows_of, row_of}
-use Rattle.factor_core.proofs.ProductWalk.{order, order_below, product_begins, multiplied_is}
+use Rattle.factor_core.specs.Scopes.{united}
+use Rattle.factor_core.specs.Tables.{states_in, stride_over, axes_of, rows_of, row_of}
+use Rattle.factor_core.proofs.ProductWalk.{begins_with, multiplies_with}
+use Rattle.factor_core.proofs.StrideRows.{listed_cong}
 use Rattle.factor_core.proofs.products.multiply_in.Goals as goal
 
-pub set_axes-requires-clause-order : goal.set_axes-requires-clause-order
-set_axes-requires-clause-order g c =
-    let m = g.met.C.Cell in
-    let is : c.before-order.result.now ≡ order m.laws m.sizes c.args.cells.now c.args.counts.now c.args.slots.now c.args.scope.now c.args.out.now c.requires.can = c.before-order.ensures ∙ c.list_nodes-n.ensures.list in
-    subst (All (λ v. v < length c.args.counts.now)) (sym is) (order_below m.laws m.sizes c.args.cells.now c.args.counts.now c.args.slots.now c.args.scope.now c.args.out.now c.requires.can)
-
-pub set_strides-requires-clause-order : goal.set_strides-requires-clause-order
-set_strides-requires-clause-order g c =
-    let m = g.met.C.Cell in
-    let is : c.before-order.result.now ≡ order m.laws m.sizes c.args.cells.now c.args.counts.now c.args.slots.now c.args.scope.now c.args.out.now c.requires.can = c.before-order.ensures ∙ c.list_nodes-n.ensures.list in
-    subst (All (λ v. v < length c.args.counts.now)) (sym is) (order_below m.laws m.sizes c.args.cells.now c.args.counts.now c.args.slots.now c.args.scope.now c.args.out.now c.requires.can)
+pub set_strides-requires-clause-kept : goal.set_strides-requires-clause-kept
+set_strides-requires-clause-kept g c =
+    let n = length c.args.counts.now in
+    c.before-order.ensures ∙ c.list_nodes-n.ensures.list
+    ∙ listed_cong (holds c.args.scope.now) (united c.args.slots.now) n n 0 (omega arith) c.requires.can.is_union.within
 
 pub walk_over-requires-clause-can : goal.walk_over-requires-clause-can
 walk_over-requires-clause-can g c =
     let m = g.met.C.Cell in
-    let is : c.before-order.result.now ≡ order m.laws m.sizes c.args.cells.now c.args.counts.now c.args.slots.now c.args.scope.now c.args.out.now c.requires.can = c.before-order.ensures ∙ c.list_nodes-n.ensures.list in
     let counts = c.args.counts.now in
     let slots = c.args.slots.now in
-    let out = stride_of (states_in counts) (length counts) (holds c.args.scope.now) in
-    let len : length c.before-order.result.now ≡ c.list_nodes-n.result = ap length c.before-order.ensures ∙ length-take-le c.list_nodes-n.result c.list_nodes-n.new.order (let fits : c.list_nodes-n.result ≤ length c.list_nodes-n.new.order = search rules in fits) in
-    let axes : c.before-axes.result.now ≡ axes_of (states_in counts) out (order m.laws m.sizes c.args.cells.now c.args.counts.now c.args.slots.now c.args.scope.now c.args.out.now c.requires.can) =
-    c.before-axes.ensures ∙ ap (λ k. take k c.set_axes.new.axes) (sym len) ∙ c.set_axes.ensures ∙ ap (axes_of (states_in counts) out) is in
-    let strides : c.before-strides.result.now ≡ rows_of (row_of counts slots) (order m.laws m.sizes c.args.cells.now c.args.counts.now c.args.slots.now c.args.scope.now c.args.out.now c.requires.can) =
-    c.before-strides.ensures ∙ ap (λ k. take (k * length slots) c.set_strides.new.strides) (sym len) ∙ c.set_strides.ensures ∙ ap (rows_of (row_of counts slots)) is in
-    subst (λ l. CanWalk g.C.Cell.ring c.args.cells.now l c.before-strides.result.now (take (length slots) c.set_places.new.places) c.args.out.now 0) (sym axes)
-    (subst (λ l. CanWalk g.C.Cell.ring c.args.cells.now (axes_of (states_in counts) out (order m.laws m.sizes c.args.cells.now c.args.counts.now c.args.slots.now c.args.scope.now c.args.out.now c.requires.can)) l (take (length slots) c.set_places.new.places) c.args.out.now 0) (sym strides)
-    (subst (λ l. CanWalk g.C.Cell.ring c.args.cells.now (axes_of (states_in counts) out (order m.laws m.sizes c.args.cells.now c.args.counts.now c.args.slots.now c.args.scope.now c.args.out.now c.requires.can)) (rows_of (row_of counts slots) (order m.laws m.sizes c.args.cells.now c.args.counts.now c.args.slots.now c.args.scope.now c.args.out.now c.requires.can)) l c.args.out.now 0) (sym c.set_places.ensures)
-    (product_begins m.laws m.sizes c.args.cells.now c.args.counts.now c.args.slots.now c.args.scope.now c.args.out.now c.requires.can)))
+    let is = c.before-order.ensures ∙ c.list_nodes-n.ensures.list in
+    let many : length c.before-order.result.now ≡ c.list_nodes-n.result = ap length c.before-order.ensures ∙ length-take-le c.list_nodes-n.result c.list_nodes-n.new.order (let fits : c.list_nodes-n.result ≤ length c.list_nodes-n.new.order = search rules in fits) in
+    let axes = c.before-axes.ensures ∙ ap (λ k. take k c.set_axes.new.axes) (sym many) ∙ c.set_axes.ensures ∙ ap (axes_of (states_in counts) (stride_over counts c.args.scope.now)) is in
+    let strides = c.before-strides.ensures ∙ ap (λ k. take (k * length slots) c.set_strides.new.strides) (sym many) ∙ c.set_strides.ensures ∙ ap (rows_of (row_of counts slots)) is in
+    begins_with m.laws m.sizes c.args.cells.now c.args.counts.now c.args.slots.now c.args.scope.now c.args.out.now c.requires.can _ _ _ axes strides c.set_places.ensures
 
 pub returns : goal.returns
 returns g c =
     let m = g.met.C.Cell in
-    let is : c.before-order.result.now ≡ order m.laws m.sizes c.args.cells.now c.args.counts.now c.args.slots.now c.args.scope.now c.args.out.now c.requires.can = c.before-order.ensures ∙ c.list_nodes-n.ensures.list in
     let counts = c.args.counts.now in
     let slots = c.args.slots.now in
-    let out = stride_of (states_in counts) (length counts) (holds c.args.scope.now) in
-    let len : length c.before-order.result.now ≡ c.list_nodes-n.result = ap length c.before-order.ensures ∙ length-take-le c.list_nodes-n.result c.list_nodes-n.new.order (let fits : c.list_nodes-n.result ≤ length c.list_nodes-n.new.order = search rules in fits) in
-    let axes : c.before-axes.result.now ≡ axes_of (states_in counts) out (order m.laws m.sizes c.args.cells.now c.args.counts.now c.args.slots.now c.args.scope.now c.args.out.now c.requires.can) =
-    c.before-axes.ensures ∙ ap (λ k. take k c.set_axes.new.axes) (sym len) ∙ c.set_axes.ensures ∙ ap (axes_of (states_in counts) out) is in
-    let strides : c.before-strides.result.now ≡ rows_of (row_of counts slots) (order m.laws m.sizes c.args.cells.now c.args.counts.now c.args.slots.now c.args.scope.now c.args.out.now c.requires.can) =
-    c.before-strides.ensures ∙ ap (λ k. take (k * length slots) c.set_strides.new.strides) (sym len) ∙ c.set_strides.ensures ∙ ap (rows_of (row_of counts slots)) is in
-    let r = g.C.Cell.ring in
-    let cells = c.args.cells.now in
-    multiplied_is m.laws m.sizes c.args.cells.now c.args.counts.now c.args.slots.now c.args.scope.now c.args.out.now c.requires.can c.walk_over.new.out
-    (subst (λ l. Adds r (total r cells (axes_of (states_in counts) out (order m.laws m.sizes c.args.cells.now c.args.counts.now c.args.slots.now c.args.scope.now c.args.out.now c.requires.can)) (rows_of (row_of counts slots) (order m.laws m.sizes c.args.cells.now c.args.counts.now c.args.slots.now c.args.scope.now c.args.out.now c.requires.can)) l 0) c.args.out.now c.walk_over.new.out) c.set_places.ensures
-    (subst (λ l. Adds r (total r cells (axes_of (states_in counts) out (order m.laws m.sizes c.args.cells.now c.args.counts.now c.args.slots.now c.args.scope.now c.args.out.now c.requires.can)) l (take (length slots) c.set_places.new.places) 0) c.args.out.now c.walk_over.new.out) strides
-    (subst (λ l. Adds r (total r cells l c.before-strides.result.now (take (length slots) c.set_places.new.places) 0) c.args.out.now c.walk_over.new.out) axes c.walk_over.ensures)))
+    let is = c.before-order.ensures ∙ c.list_nodes-n.ensures.list in
+    let many : length c.before-order.result.now ≡ c.list_nodes-n.result = ap length c.before-order.ensures ∙ length-take-le c.list_nodes-n.result c.list_nodes-n.new.order (let fits : c.list_nodes-n.result ≤ length c.list_nodes-n.new.order = search rules in fits) in
+    let axes = c.before-axes.ensures ∙ ap (λ k. take k c.set_axes.new.axes) (sym many) ∙ c.set_axes.ensures ∙ ap (axes_of (states_in counts) (stride_over counts c.args.scope.now)) is in
+    let strides = c.before-strides.ensures ∙ ap (λ k. take (k * length slots) c.set_strides.new.strides) (sym many) ∙ c.set_strides.ensures ∙ ap (rows_of (row_of counts slots)) is in
+    multiplies_with m.laws m.sizes c.args.cells.now c.args.counts.now c.args.slots.now c.args.scope.now c.args.out.now c.requires.can _ _ _ axes strides c.set_places.ensures c.walk_over.new.out c.walk_over.ensures

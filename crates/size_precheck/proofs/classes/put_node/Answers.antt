@@ -1,4 +1,4 @@
-use Rattle.std.proofs.Common.{◌≡◌, ◌∙◌, ◌⊎◌, ◌↔◌, ◌<◌, ◌≤◌, ℕ, List, length, ap, subst, sym, refl, arith}
+use Rattle.std.proofs.Common.{◌≡◌, ◌∙◌, ◌⊎◌, ◌↔◌, ◌<◌, ◌≤◌, ℕ, true, false, List, length, ap, subst, sym, refl, arith}
 use Rattle.node_sets.specs.Sets.{IsIn}
 use Rattle.size_precheck.specs.Classes.{class_at, AreClasses}
 use Rattle.size_precheck.specs.declared.classes.Class.{Class}
@@ -14,7 +14,7 @@ returns-then-is_of_cells c counts waits fewer less waiting counted are =
     let same : length c.put_at.new.classes ≡ length old = c.put_at.ensures.len ∙ ap (λ (cs : List Class). length cs) before in
     let ok = c.args.classes.now.ok in
     let back = back_written c.args.classes.now.len c.put_at.new.classes old same (omega arith) in
-    let found = subst (λ (cs : List Class). (place < length cs) × ((class_at cs place).cells ≡ c.args.cells)) c.deref-2.ensures.value (c.is_of_cells.ensures.found c.if-is_of_cells.true) in
+    let found = subst (λ (cs : List Class). (place < length cs) × ((class_at cs place).cells ≡ c.args.cells)) c.deref-2.ensures.value (c.is_of_cells.ensures.0 c.if-is_of_cells.true) in
     subst (λ (cs : List Class). AreClasses counts waits cs) (sym back)
     (put_known counts waits fewer c.args.v c.args.cells less counted waiting old c.put_at.new.classes place are same found.0 found.1
     (c.put_at.ensures.cells ∙ ap (λ (cs : List Class). (class_at cs place).cells) before)
@@ -32,8 +32,11 @@ returns c counts waits fewer less waiting counted are =
     (subst (λ (cs : List Class). (i : ℕ) → i < place → (class_at cs i).cells < c.args.cells) value c.find_place-place.ensures.before)
     (λ l.
     let least = subst (λ (cs : List Class). place < length cs → c.args.cells ≤ (class_at cs place).cells) value c.find_place-place.ensures.past l in
-    let other = subst (λ (cs : List Class). place < length cs → (class_at cs place).cells ≡ c.args.cells → ⊥) c.deref-2.ensures.value (c.is_of_cells.ensures.other c.if-is_of_cells.false) l in
+    let other = subst (λ (cs : List Class). place < length cs → (class_at cs place).cells ≡ c.args.cells → ⊥) c.deref-2.ensures.value (λ w e. not_both (sym c.if-is_of_cells.false ∙ c.is_of_cells.ensures.1 (w, e))) l in
     apart c.args.cells (class_at old place).cells least other)
   where
     apart : (a b : ℕ) → a ≤ b → (b ≡ a → ⊥) → a < b
     apart a b l n = grind arith
+
+    not_both : false ≡ true → ⊥
+    not_both e = cc

@@ -15,7 +15,7 @@ returns-then-has_no_other c counts waits fewer less counted are =
     dropped counts waits fewer c.args.v c.args.cells less counted old c.remove.new.self.items place c.remove.ensures.items within
     (subst (λ (cs : List Class). (i : ℕ) → i < place → (class_at cs i).cells < c.args.cells) value c.find_place-place.ensures.before)
     (subst (λ (cs : List Class). place < length cs → c.args.cells ≤ (class_at cs place).cells) value c.find_place-place.ensures.past within)
-    (subst (λ (cs : List Class). (x : ℕ) → IsIn (class_at cs place).nodes x → x ≡ c.args.v) c.deref-then-len-gt-FEW.ensures.value (c.has_no_other.ensures c.if-has_no_other.true))
+    (subst (λ (cs : List Class). (x : ℕ) → IsIn (class_at cs place).nodes x → x ≡ c.args.v) c.deref-then-len-gt-FEW.ensures.value (c.has_no_other.ensures.0 c.if-has_no_other.true))
     are
 
 pub returns-else-len-gt-FEW : goal.returns-else-len-gt-FEW

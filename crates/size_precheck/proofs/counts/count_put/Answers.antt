@@ -5,7 +5,7 @@ use Rattle.size_precheck.proofs.counts.count_put.Goals as goal
 
 pub returns-then-can_divide : goal.returns-then-can_divide
 returns-then-can_divide c after after_is counted =
-    let can = c.can_divide.ensures c.if-can_divide.true in
+    let can = c.can_divide.ensures.0 c.if-can_divide.true in
     c.multiply.ensures
     ∙ ap (λ n. stopped (n * c.count_cells.result)) c.divide.ensures
     ∙ put_counted c.args.states.now c.args.before.now c.args.scope.now c.args.out.now c.difference-came.result after c.args.v c.args.cells c.count_cells.result c.requires.len c.requires.small

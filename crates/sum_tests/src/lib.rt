@@ -1,0 +1,8 @@
+//! The tests of `factor_core` and `eliminate`: they stand apart since a crate that has tests is proved twice, with them
+//! and without.
+#![tactic(auto)]
+
+#[cfg(test)]
+mod plans;
+#[cfg(test)]
+mod tables;
