@@ -1,15 +1,14 @@
 -- What control of chance nodes is worth to an agent, and which incentives it has there: a line for each (Everitt et
 -- al. 2021).
-use Rattle.std.specs.Prelude.{◌↔◌, ◌<◌, ℕ, List, filter, pos, ◌≤ℤ◌, IsTrue, IfSome}
+use Rattle.std.specs.Prelude.{◌≡◌, ◌↔◌, ℕ, List, All, filter, map, pos, ◌≤ℤ◌, IsTrue, IfSome}
 use Rattle.maid_model.specs.declared.diagrams.Kind.TheVariants.{Decision, Utility}
-use Rattle.maid_model.specs.declared.limits.TheConstants.{MOST_RULE_CELLS}
 use Rattle.maid_model.specs.Edits.{as_decision, one_agent}
 use Rattle.maid_model.specs.Nodes.{is_chance, node_at, numbers_of}
 use Rattle.maid_model.specs.Trimming.{IsTrimmed}
 use Rattle.maid_model.specs.Values.{IsValueOfControl}
 use Rattle.maid_model.specs.Views.{NodeView, DiagramView, AnswerView}
 use Rattle.diagram_graph.specs.Edited.{with_nodes}
-use Rattle.diagram_graph.specs.Room.{rule_cells}
+use Rattle.diagram_graph.specs.Room.{IsTooLargeAsDecision}
 use Rattle.first_fault.specs.Outcomes.{◌▸▸◌, gives}
 use Rattle.first_fault.specs.Passes.{Pass, ◌▸◌, rule}
 use Rattle.optimum_gap.specs.Baselines.{alone}
@@ -29,7 +28,7 @@ controlling d agent x = with_nodes d (as_decision d.nodes agent x)
 -- the diagram with it
 abbrev pub of_control : DiagramView → ℕ → ℕ → Type 0 → Pass Reason
 of_control d agent x Matters = unless Matters Worthless
-    ▸ rule (MOST_RULE_CELLS < rule_cells (as_decision d.nodes agent x)) TooLarge
+    ▸ rule (IsTooLargeAsDecision d.nodes agent x) TooLarge
     ▸ solving (controlling d agent x)
 
 -- a line's node
@@ -57,6 +56,15 @@ pub record IsTrimmedAlone
   where
     pub removed : List (ℕ × ℕ)
     pub is : IsTrimmed (one_agent d.nodes agent answers) removed trimmed
+
+-- all lines look at one trimmed diagram
+abbrev pub AreControlLines : DiagramView → List AnswerView → ℕ → List ControlLine → Type 0
+AreControlLines d answers agent lines = (trimmed : List NodeView)
+    × IsTrimmedAlone d answers agent trimmed × All (IsControlLine d answers agent trimmed) lines
+
+-- a line for each chance node
+abbrev pub HasChanceNodes : List NodeView → List ControlLine → Type 0
+HasChanceNodes nodes lines = map node_of lines ≡ chance_nodes nodes
 
 -- the worth that a line tells is the control value, and not below nought; a worthless line tells of two equal optima
 abbrev pub TellsControl : DiagramView → List AnswerView → ℕ → ControlLine → Type 0

@@ -1,12 +1,15 @@
 -- What the steps promise one another, in the diagram in which one agent decides alone. Only private functions cite it.
-use Rattle.std.specs.Prelude.{◌≡◌, ◌↔◌, ℕ, Bool, List, IsTrue}
+use Rattle.std.specs.Prelude.{◌≡◌, ◌↔◌, ℕ, Bool, List, All, Option, MatchOption, IsTrue}
 use Rattle.maid_model.specs.declared.diagrams.Kind.TheVariants.{Decision, Utility}
 use Rattle.maid_model.specs.Values.{IsDifferenceOfOptima}
 use Rattle.maid_model.specs.Views.{NodeView, DiagramView}
+use Rattle.node_sets.specs.declared.sets.NodeSet.{NodeSet}
 use Rattle.node_sets.specs.Sets.{IsIn, holds}
 use Rattle.first_fault.specs.Outcomes.{◌▸▸◌, gives}
+use Rattle.optimum_gap.specs.declared.baselines.Baseline.{Baseline}
 use Rattle.optimum_gap.specs.declared.found.Found.{Found}
 use Rattle.optimum_gap.specs.Found.{found_of}
+use Rattle.rule_solver.specs.declared.keeping.KeptDiagram.{KeptDiagram}
 use Rattle.control_incentive.specs.declared.lines.ControlLine.{ControlLine}
 use Rattle.control_incentive.specs.declared.paths.Paths.{Paths}
 use Rattle.control_incentive.specs.Lines.{controlling, of_control}
@@ -24,9 +27,22 @@ IsFoundAlone d agent x matters found = (of_control d agent x (IsTrue matters)
     ▸▸ gives (IsDifferenceOfOptima (controlling d agent x).nodes d.nodes d.decimals agent))
     (found_of found)
 
+-- the same in the diagram and for the agent of a baseline
+abbrev pub IsFoundOf : Baseline → ℕ → Bool → Found → Type 0
+IsFoundOf b x matters found = IsFoundAlone b.diagram.now b.agent x matters found
+
 -- a line, by the sets of nodes
 pub record IsLineAlone
     (d : DiagramView) (agent : ℕ) (paths : Paths) (line : ControlLine) : Type 0 where
   pub response : line.response ≡ holds paths.respond line.node
   pub instrumental : line.instrumental ≡ holds paths.instruments line.node
   pub found : IsFoundAlone d agent line.node (holds paths.matter line.node) line.found
+
+-- such lines in the diagram and for the agent of a baseline
+abbrev pub AreLinesOf : Baseline → Paths → List ControlLine → Type 0
+AreLinesOf b paths lines = All (IsLineAlone b.diagram.now b.agent paths) lines
+
+-- something is kept exactly where a node matters
+abbrev pub IsKeptIfSome : NodeSet → Option KeptDiagram → Type 0
+IsKeptIfSome matter kept =
+    MatchOption kept ((v : ℕ) → IsIn matter v → ⊥) (λ known. (v : ℕ) × IsIn matter v)

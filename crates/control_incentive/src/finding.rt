@@ -3,10 +3,10 @@
 ghost use Rattle.std.specs.Prelude.{◌≡◌, IfOk, IfSome};
 ghost use Rattle.maid_model.specs.declared.diagrams.Kind.TheVariants.{Chance};
 ghost use Rattle.maid_model.specs.Nodes.{node_at};
-ghost use Rattle.optimum_gap.specs.Baselines.{IsBaseline};
+ghost use Rattle.optimum_gap.specs.Baselines.{HoldsBaseline};
 ghost use Rattle.rule_solver.specs.Kept.{IsKeptDiagram};
 ghost use Rattle.rule_solver.specs.Rooms.{AreLeft};
-ghost use Rattle.control_incentive.specs.Steps.{IsFoundAlone};
+ghost use Rattle.control_incentive.specs.Steps.{IsFoundOf};
 
 use diagram_graph::{MakeFault, make_decision};
 use optimum_gap::{Baseline, Found, edits_keep_scopes};
@@ -24,13 +24,11 @@ pub(crate) fn find(
     matters: bool,
     node: usize,
 ) -> Result<Found, AllocError>
-    requires baseline { IsBaseline baseline.now.diagram.now baseline.now.agent
-        baseline.now.optimum }
+    requires baseline { HoldsBaseline baseline.now }
     requires kept { IfSome kept (λ known. IsKeptDiagram baseline.now.diagram.now.nodes known.now) }
     requires left { AreLeft left.old }
     requires chance { (node_at baseline.now.diagram.now.nodes node).kind ≡ Chance }
-    ensures found { IfOk result
-        (IsFoundAlone baseline.now.diagram.now baseline.now.agent node matters) }
+    ensures found { IfOk result (IsFoundOf baseline.now node matters) }
     ensures left { AreLeft left.new }
 {
     edits_keep_scopes();

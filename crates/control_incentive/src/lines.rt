@@ -1,16 +1,15 @@
 //! A line for each chance node.
 
-ghost use Rattle.std.specs.Prelude.{◌≡◌, ◌<◌, All, IfOk, IfSome, List, length, map};
+ghost use Rattle.std.specs.Prelude.{◌≡◌, ◌<◌, All, IfOk, IfSome, length, map};
 ghost use Rattle.maid_model.specs.declared.diagrams.Kind.TheVariants.{Chance};
 ghost use Rattle.maid_model.specs.Answers.{IsAnswer};
 ghost use Rattle.maid_model.specs.Nodes.{is_chance, node_at};
 ghost use Rattle.maid_model.specs.Scopes.{KeepsScopedBounds};
-ghost use Rattle.maid_model.specs.Views.{NodeView};
-ghost use Rattle.optimum_gap.specs.Baselines.{IsBaseline};
+ghost use Rattle.optimum_gap.specs.Baselines.{HoldsBaseline};
 ghost use Rattle.rule_solver.specs.Kept.{IsKeptDiagram};
 ghost use Rattle.rule_solver.specs.Rooms.{AreLeft};
-ghost use Rattle.control_incentive.specs.Lines.{IsControlLine, IsTrimmedAlone, TellsControl, chance_nodes, node_of};
-ghost use Rattle.control_incentive.specs.Steps.{IsLineAlone};
+ghost use Rattle.control_incentive.specs.Lines.{AreControlLines, HasChanceNodes, TellsControl, chance_nodes, node_of};
+ghost use Rattle.control_incentive.specs.Steps.{AreLinesOf, IsKeptIfSome, IsLineAlone};
 
 use crate::finding::find;
 use crate::paths::Paths;
@@ -65,7 +64,8 @@ fn keep_for(
     alone: &Diagram,
     matter: &NodeSet,
 ) -> Result<Option<KeptDiagram>, AllocError>
-    ensures { IfOk result (λ kept. IfSome kept (IsKeptDiagram alone.now.nodes)) }
+    ensures kept { IfOk result (λ kept. IfSome kept (IsKeptDiagram alone.now.nodes)) }
+    ensures some { IfOk result (IsKeptIfSome matter.now) }
 {
     match matter.first_from(0) {
         Some(_) => Ok(Some(keep_diagram(alloc, alone)?)),
@@ -82,8 +82,7 @@ fn control_line(
     paths: &Paths,
     node: usize,
 ) -> Result<ControlLine, AllocError>
-    requires baseline { IsBaseline baseline.now.diagram.now baseline.now.agent
-        baseline.now.optimum }
+    requires baseline { HoldsBaseline baseline.now }
     requires kept { IfSome kept (λ known. IsKeptDiagram baseline.now.diagram.now.nodes known.now) }
     requires left { AreLeft left.old }
     requires chance { (node_at baseline.now.diagram.now.nodes node).kind ≡ Chance }
@@ -113,15 +112,13 @@ fn control_lines(
     paths: &Paths,
     nodes: &[usize],
 ) -> Result<Vec<ControlLine>, AllocError>
-    requires baseline { IsBaseline baseline.now.diagram.now baseline.now.agent
-        baseline.now.optimum }
+    requires baseline { HoldsBaseline baseline.now }
     requires kept { IfSome kept (λ known. IsKeptDiagram baseline.now.diagram.now.nodes known.now) }
     requires chance { All (λ v. (node_at baseline.now.diagram.now.nodes v).kind ≡ Chance)
         nodes.now }
     requires within { All (λ v. v < length baseline.now.diagram.now.nodes) nodes.now }
     ensures nodes { IfOk result (λ lines. map node_of lines.items ≡ nodes.now) }
-    ensures lines { IfOk result (λ lines.
-        All (IsLineAlone baseline.now.diagram.now baseline.now.agent paths.now) lines.items) }
+    ensures lines { IfOk result (λ lines. AreLinesOf baseline.now paths.now lines.items) }
 {
     let mut lines = Vec::with_capacity(alloc, nodes.len())?;
     let mut left = None;
@@ -158,11 +155,9 @@ pub fn control(
     requires answer { IsAnswer diagram.now solved.now }
     requires bound { KeepsScopedBounds diagram.now }
     requires agent { agent < diagram.now.agents }
-    ensures nodes { IfOk result (λ lines.
-        map node_of lines.items ≡ chance_nodes diagram.now.nodes) }
+    ensures nodes { IfOk result (λ lines. HasChanceNodes diagram.now.nodes lines.items) }
     ensures lines { IfOk result (λ lines.
-        (trimmed : List NodeView) × IsTrimmedAlone diagram.now solved.now.answers agent trimmed
-        × All (IsControlLine diagram.now solved.now.answers agent trimmed) lines.items) }
+        AreControlLines diagram.now solved.now.answers agent lines.items) }
     ensures worths { IfOk result (λ lines.
         All (TellsControl diagram.now solved.now.answers agent) lines.items) }
 {

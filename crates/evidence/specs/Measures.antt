@@ -1,5 +1,5 @@
 -- What the steps of measuring promise one another. Only private functions cite it.
-use Rattle.std.specs.Prelude.{◌≡◌, ◌≢◌, ℕ, ◌+◌, max, List, Some}
+use Rattle.std.specs.Prelude.{◌≡◌, ◌≢◌, ℕ, ◌+◌, max, List, Option, Some}
 use Rattle.maid_model.specs.declared.diagrams.Kind.TheVariants.{Utility}
 use Rattle.maid_model.specs.Bounds.{stopped}
 use Rattle.maid_model.specs.Nodes.{node_at}
@@ -9,17 +9,16 @@ use Rattle.size_precheck.specs.declared.sizes.Size.{Size}
 use Rattle.size_precheck.specs.Sizes.{HasSize}
 use Rattle.evidence.specs.Sizes.{plan_given}
 
--- the greater cells of two sizes, and their work together, which stops
-abbrev pub joined_size : Size → Size → Size
-joined_size size other =
-    record { cells = max size.cells other.cells; work = stopped (size.work + other.work) }
-
 -- the size with one plan more
 pub record AddsPlan (nodes : List NodeView) (plan : PlanView) (before after : Size) : Type 0 where
   pub size : Size
   pub has_size : HasSize nodes plan size
   pub cells : after.cells ≡ max before.cells size.cells
   pub work : after.work ≡ stopped (before.work + size.work)
+
+-- the size with the plan more that keeps x, perhaps with a utility
+abbrev pub AddsPlanGiven : List NodeView → ℕ → Option ℕ → Size → Size → Type 0
+AddsPlanGiven nodes x utility before after = AddsPlan nodes (plan_given x utility) before after
 
 -- the size with the plan that keeps x and has the utility v more, where v is one
 pub record AddsUtility (nodes : List NodeView) (x v : ℕ) (before after : Size) : Type 0 where

@@ -6,14 +6,14 @@ use Rattle.maid_model.specs.Placing.{IsRelianceOrder}
 use Rattle.maid_model.specs.Views.{NodeView, DiagramView}
 use Rattle.plan_sums.specs.Plans.{PlanView}
 use Rattle.size_precheck.specs.declared.sizes.Size.{Size}
-use Rattle.size_precheck.specs.Sizes.{IsSizeOfAll, run_plans, utility_list}
+use Rattle.size_precheck.specs.Sizes.{plan_of, IsSizeOfAll, run_plans, utility_list}
 use Rattle.rule_solver.specs.Faults.{KeepsSizes}
 use Rattle.rule_solver.specs.declared.spaces.Workspaces.{Workspaces}
 use Rattle.rule_solver.specs.Rooms.{AreReady, HasAtMost}
 
 -- the plan that keeps x, perhaps with a utility: without one it sums to the weight of the worlds with a state at x
 abbrev pub plan_given : ℕ → Option ℕ → PlanView
-plan_given x utility = record { keep = x ∷ []; without = None; utility = utility }
+plan_given x utility = plan_of (x ∷ []) None utility
 
 -- the further plans: one without a utility, and one for each utility
 abbrev pub further_plans : List NodeView → ℕ → List PlanView

@@ -5,8 +5,9 @@ ghost use Rattle.maid_model.specs.declared.diagrams.Kind.TheVariants.{Utility};
 ghost use Rattle.maid_model.specs.declared.limits.TheConstants.{COUNT_END};
 ghost use Rattle.maid_model.specs.Nodes.{node_at};
 ghost use Rattle.maid_model.specs.Placing.{IsRelianceOrder};
+ghost use Rattle.size_precheck.specs.Runs.{joined_size};
 ghost use Rattle.size_precheck.specs.Sizes.{CanBePlanned, IsPlanned};
-ghost use Rattle.evidence.specs.Measures.{AddsPlan, AddsUtility, joined_size};
+ghost use Rattle.evidence.specs.Measures.{AddsPlanGiven, AddsUtility};
 ghost use Rattle.evidence.specs.Plans.{HasFurtherPlans, HasRunPlans, IsPlanIf};
 ghost use Rattle.evidence.specs.Sizes.{IsSizeOfPlans, plan_given};
 
@@ -51,8 +52,7 @@ fn add_plan(
     requires few { size.work ≤ COUNT_END }
     ensures plan { IfOk result (λ made.
         IsPlanned diagram.now.nodes (plan_given node utility) made.0) }
-    ensures size { IfOk result (λ made.
-        AddsPlan diagram.now.nodes (plan_given node utility) size made.1) }
+    ensures size { IfOk result (λ made. AddsPlanGiven diagram.now.nodes node utility size made.1) }
 {
     let plan = make_plan(alloc, diagram, &[node], None, utility)?;
     let size = join_sizes(size, plan.size());

@@ -1,12 +1,8 @@
 -- The small diagrams that the tests run.
 use Rattle.std.specs.Prelude.{ℕ, List, [], ◌∷◌, ℤ, pos, negsuc}
-use Rattle.maid_model.specs.declared.diagrams.Kind.{Kind}
 use Rattle.maid_model.specs.declared.diagrams.Kind.TheVariants.{Chance, Decision, Utility}
 use Rattle.maid_model.specs.Views.{NodeView, DiagramView}
-
-abbrev pub node_of : Kind → ℕ → List ℕ → List ℤ → NodeView
-node_of kind states parents cells =
-    record { kind = kind; owner = 0; more = []; states = states; parents = parents; cells = cells }
+use Rattle.form_tests.specs.Samples.{node_of}
 
 -- a coin whose sides are worth 1/2 and -5/4
 abbrev pub coin : DiagramView

@@ -4,5 +4,6 @@ pub mod Controlling
 pub mod Informing
 pub mod Moving
 pub mod Planning
+pub mod Samples
 pub mod Searching
 pub mod Updating

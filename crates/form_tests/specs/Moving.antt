@@ -1,13 +1,9 @@
 -- The small diagrams that the tests run: a well with a test of it, a signal that a decision sees or not, and what the
 -- pairs pay.
 use Rattle.std.specs.Prelude.{ℕ, ℤ, Bool, true, false, List, [], ◌∷◌, ◌++◌, pos, negsuc}
-use Rattle.maid_model.specs.declared.diagrams.Kind.{Kind}
 use Rattle.maid_model.specs.declared.diagrams.Kind.TheVariants.{Chance, Decision, Utility}
 use Rattle.maid_model.specs.Views.{NodeView, DiagramView}
-
-abbrev pub node_of : Kind → ℕ → List ℕ → List ℤ → NodeView
-node_of kind states parents cells =
-    record { kind = kind; owner = 0; more = []; states = states; parents = parents; cells = cells }
+use Rattle.form_tests.specs.Samples.{node_of}
 
 -- whether to test
 abbrev pub test : NodeView

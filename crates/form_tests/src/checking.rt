@@ -7,24 +7,12 @@ ghost use Rattle.maid_model.specs.Bounds.{world_count};
 ghost use Rattle.maid_model.specs.Scopes.{KeepsScopedBounds};
 ghost use Rattle.form_tests.specs.Checking.{reply_diagram, reply_report};
 
-use crate::samples::node;
+use crate::samples::reply_diagram;
 use maid_model::{Answer, Diagram, Kind, MOST_LEAVES, Ratio, Row, Solved, literals_are_tested};
 use std::alloc::{AllocError, Global};
 use std::test::Fail;
 use tree_checker::{Cause, Verdict, check, leaves};
 use weight_scale::{BoundPlace, bound};
-
-/// A plan, a reply that sees it, and what the pairs pay: 1, 4, 3 and 2.
-fn reply_diagram(alloc: Global) -> Result<Diagram, AllocError>
-    ensures { IfOk result (λ d. d ≡ reply_diagram) }
-{
-    literals_are_tested();
-    let mut nodes = Vec::new(alloc);
-    nodes.push(node(alloc, Kind::Decision, 0, 2, &[], &[])?)?;
-    nodes.push(node(alloc, Kind::Decision, 0, 2, &[0], &[])?)?;
-    nodes.push(node(alloc, Kind::Utility, 0, 1, &[0, 1], &[1, 4, 3, 2])?)?;
-    Ok(Diagram::from_nodes(nodes, 1, 0))
-}
 
 /// Whether the diagram may be checked.
 fn can_check(diagram: &Diagram) -> bool

@@ -1,5 +1,5 @@
-//! The tests of `size_precheck`, `tree_checker`, `pure_search`, `policy_update`, `info_value`, `control_incentive`,
-//! `evidence` and `threshold`: they stand apart since a crate that has tests is proved twice, with them and without.
+//! The tests of `size_precheck`, `tree_checker`, `pure_search`, `rule_solver`, `policy_update`, `info_value`,
+//! `control_incentive`, `evidence` and `threshold`: they stand apart since a crate that has tests is proved twice, with them and without.
 #![tactic(auto)]
 
 #[cfg(test)]
@@ -18,5 +18,7 @@ mod planning;
 mod samples;
 #[cfg(test)]
 mod searching;
+#[cfg(test)]
+mod solving;
 #[cfg(test)]
 mod updating;

@@ -1,7 +1,8 @@
 //! Sizes of small plans, counted by hand.
 
 ghost use Rattle.std.specs.Prelude.{◌≡◌, ◌∷◌, [], ◌++◌, IfOk};
-ghost use Rattle.form_tests.specs.Planning.{node_of, square_nodes, square_diagram, sighted_diagram, star_diagram};
+ghost use Rattle.form_tests.specs.Planning.{square_nodes, square_diagram, sighted_diagram, star_diagram};
+ghost use Rattle.form_tests.specs.Samples.{HasNodeBehind, node_of};
 
 use maid_model::{Diagram, Kind, Node, literals_are_tested};
 use size_precheck::{Size, make_plan, measure};
@@ -18,8 +19,7 @@ fn with_node(
     parents: &[usize],
     cells: &[i128],
 ) -> Result<Vec<Node>, AllocError>
-    ensures { IfOk result (λ more.
-        more.items ≡ nodes.items ++ node_of kind states parents.now cells.now ∷ []) }
+    ensures { IfOk result (HasNodeBehind nodes.items (node_of kind states parents.now cells.now)) }
 {
     let mut nodes = nodes;
     let node = Node {

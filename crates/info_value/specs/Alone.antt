@@ -1,6 +1,6 @@
 -- What the steps promise one another of an arc, in the diagram in which one agent decides alone. Only private
 -- functions cite it.
-use Rattle.std.specs.Prelude.{◌≢◌, ◌↔◌, ℕ, ◌<◌, Bool, true, false, List, length, IsTrue, IsFalse, IsSome}
+use Rattle.std.specs.Prelude.{◌≡◌, ◌≢◌, ◌++◌, ◌↔◌, ℕ, ◌<◌, Bool, true, false, List, All, length, map, IsTrue, IsFalse, IsSome}
 use Rattle.maid_model.specs.declared.diagrams.Kind.TheVariants.{Utility}
 use Rattle.maid_model.specs.Edits.{with_arc, without_arc}
 use Rattle.maid_model.specs.Graph.{Arc, IsGraph, IsPath}
@@ -8,11 +8,12 @@ use Rattle.maid_model.specs.Nodes.{IsDecision, node_at}
 use Rattle.maid_model.specs.Values.{IsDifferenceOfOptima}
 use Rattle.maid_model.specs.Views.{NodeView, DiagramView}
 use Rattle.first_fault.specs.Outcomes.{◌▸▸◌, gives}
+use Rattle.optimum_gap.specs.declared.baselines.Baseline.{Baseline}
 use Rattle.optimum_gap.specs.declared.found.Found.{Found}
 use Rattle.optimum_gap.specs.Found.{found_of, worth_of}
 use Rattle.info_value.specs.declared.lines.InfoLine.{InfoLine}
 use Rattle.info_value.specs.Finding.{of_seen, of_unseen}
-use Rattle.info_value.specs.Lines.{may_see}
+use Rattle.info_value.specs.Lines.{arc_of, arcs_into, decides, may_see}
 
 -- an arc into a decision, from another node that is no utility and does not descend from it
 pub record CanAsk (nodes : List NodeView) (arc : ℕ × ℕ) : Type 0 where
@@ -26,6 +27,11 @@ pub record CanAskAll (nodes alone : List NodeView) (d : ℕ) : Type 0 where
   pub decision : IsDecision alone d
   pub arcs :
       (x : ℕ) → x < length nodes → IsTrue (may_see nodes d x) → CanAsk alone (x, d)
+
+-- so it is with each decision of the agent
+abbrev pub CanAskEach : List NodeView → List NodeView → ℕ → Type 0
+CanAskEach nodes alone agent = (d : ℕ) → d < length nodes → IsTrue (decides nodes agent d)
+    → CanAskAll nodes alone d
 
 -- the first reason that applies, or the difference of the two optima: of an arc that is there,
 abbrev pub IsFoundOfSeen : DiagramView → ℕ → ℕ → ℕ → Found → Type 0
@@ -53,3 +59,11 @@ pub record IsLineAlone (d : DiagramView) (agent : ℕ) (line : InfoLine) : Type 
   pub has : IsTrue line.has ↔ Arc d.nodes line.from line.to
   pub found : IsFoundAlone d agent line.from line.to line.has line.found
   pub graph : IsFalse line.has → HasRoomFor d line.from line.to line.found
+
+-- such lines, in the diagram and for the agent of a baseline
+abbrev pub AreLinesOf : Baseline → List InfoLine → Type 0
+AreLinesOf b lines = All (IsLineAlone b.diagram.now b.agent) lines
+
+-- behind the arcs of the lines before come those into d
+abbrev pub AppendsArcs : List NodeView → ℕ → List InfoLine → List InfoLine → Type 0
+AppendsArcs nodes d before after = map arc_of after ≡ map arc_of before ++ arcs_into nodes d

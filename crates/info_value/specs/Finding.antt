@@ -1,9 +1,9 @@
 -- Why an arc into a decision has no information value: the first reason that applies, in the diagram in which only
 -- one agent decides.
-use Rattle.std.specs.Prelude.{ℕ}
+use Rattle.std.specs.Prelude.{ℕ, List}
 use Rattle.maid_model.specs.Edits.{with_arc, without_arc}
 use Rattle.maid_model.specs.Relevance.{IsRequisite}
-use Rattle.maid_model.specs.Views.{DiagramView}
+use Rattle.maid_model.specs.Views.{NodeView, DiagramView}
 use Rattle.diagram_graph.specs.Edited.{with_nodes}
 use Rattle.diagram_graph.specs.Room.{IsTooLarge}
 use Rattle.first_fault.specs.Passes.{Pass, ◌▸◌, rule}
@@ -16,6 +16,10 @@ seeing d x to = with_nodes d (with_arc d.nodes x to)
 abbrev pub missing : DiagramView → ℕ → ℕ → DiagramView
 missing d x to = with_nodes d (without_arc d.nodes x to)
 
+-- the node would be requisite, if the decision saw it
+abbrev pub WouldBeRequisite : List NodeView → ℕ → ℕ → Type 0
+WouldBeRequisite nodes x to = IsRequisite (with_arc nodes x to) to x
+
 -- an arc that is there: worthless unless it is requisite, or the diagram without it is refused by the solver
 abbrev pub of_seen : DiagramView → ℕ → ℕ → Pass Reason
 of_seen d x to = unless (IsRequisite d.nodes to x) Worthless ▸ solving (missing d x to)
@@ -24,4 +28,4 @@ of_seen d x to = unless (IsRequisite d.nodes to x) Worthless ▸ solving (missin
 -- with it is refused by the solver
 abbrev pub of_unseen : DiagramView → ℕ → ℕ → Pass Reason
 of_unseen d x to = rule (IsTooLarge d.nodes x to) TooLarge
-    ▸ unless (IsRequisite (with_arc d.nodes x to) to x) Worthless ▸ solving (seeing d x to)
+    ▸ unless (WouldBeRequisite d.nodes x to) Worthless ▸ solving (seeing d x to)

@@ -1,5 +1,5 @@
 -- What information is worth to an agent: a line for each arc into one of its decisions (Everitt et al. 2021).
-use Rattle.std.specs.Prelude.{◌⊎◌, ◌↔◌, ◌==◌, ◌&&◌, not, ℕ, Bool, true, false, List, map, filter, pos, ◌≤ℤ◌, IsTrue, IfSome}
+use Rattle.std.specs.Prelude.{◌≡◌, ◌⊎◌, ◌↔◌, ◌==◌, ◌&&◌, not, ℕ, Bool, true, false, List, map, filter, pos, ◌≤ℤ◌, IsTrue, IfSome}
 use Rattle.std.specs.List.{flat_map}
 use Rattle.maid_model.specs.declared.answers.Ratio.{Ratio}
 use Rattle.maid_model.specs.Graph.{Arc, descends}
@@ -41,6 +41,10 @@ IsFound d answers agent x to false found = (of_unseen (alone d answers agent) x 
 -- a line's arc, tail and head
 abbrev pub arc_of : InfoLine → ℕ × ℕ
 arc_of line = (line.from, line.to)
+
+-- a line for each arc that is asked about
+abbrev pub HasAskedArcs : List NodeView → ℕ → List InfoLine → Type 0
+HasAskedArcs nodes agent lines = map arc_of lines ≡ asked_arcs nodes agent
 
 -- a line says whether the arc is there, and what is found of it
 pub record IsInfoLine

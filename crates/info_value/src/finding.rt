@@ -1,14 +1,13 @@
 //! What is found of one arc.
 
 ghost use Rattle.std.specs.Prelude.{◌≡◌, ◌↔◌, IsTrue, IfOk};
-ghost use Rattle.diagram_graph.specs.Edited.{with_nodes};
 ghost use Rattle.diagram_graph.specs.Room.{IsTooLarge};
-ghost use Rattle.maid_model.specs.Edits.{with_arc, without_arc};
 ghost use Rattle.maid_model.specs.Graph.{Arc};
 ghost use Rattle.maid_model.specs.Nodes.{IsDecision};
 ghost use Rattle.maid_model.specs.Relevance.{IsRequisite};
-ghost use Rattle.optimum_gap.specs.Baselines.{IsBaseline};
+ghost use Rattle.optimum_gap.specs.Baselines.{HoldsBaseline};
 ghost use Rattle.info_value.specs.Alone.{CanAsk, HasRoomFor, IsFoundOfSeen, IsFoundOfUnseen};
+ghost use Rattle.info_value.specs.Finding.{WouldBeRequisite, missing, seeing};
 
 use arc_laws::arc_removed;
 use diagram_graph::{AddFault, RemoveFault, add_arc, is_too_large, remove_arc};
@@ -20,8 +19,7 @@ use std::alloc::{AllocError, Global};
 fn without(alloc: Global, diagram: &Diagram, from: usize, to: usize) -> Result<Diagram, AllocError>
     requires decision { IsDecision diagram.now.nodes to }
     requires arc { Arc diagram.now.nodes from to }
-    ensures { IfOk result (λ less.
-        less ≡ with_nodes diagram.now (without_arc diagram.now.nodes from to)) }
+    ensures { IfOk result (λ less. less ≡ missing diagram.now from to) }
 {
     match remove_arc(alloc, diagram, from, to) {
         Ok(less) => Ok(less),
@@ -35,8 +33,7 @@ fn with(alloc: Global, diagram: &Diagram, from: usize, to: usize) -> Result<Diag
     requires asked { CanAsk diagram.now.nodes (from, to) }
     requires absent { Arc diagram.now.nodes from to → ⊥ }
     requires room { IsTooLarge diagram.now.nodes from to → ⊥ }
-    ensures { IfOk result (λ more.
-        more ≡ with_nodes diagram.now (with_arc diagram.now.nodes from to)) }
+    ensures { IfOk result (λ more. more ≡ seeing diagram.now from to) }
 {
     match add_arc(alloc, diagram, from, to) {
         Ok(more) => Ok(more),
@@ -54,8 +51,7 @@ pub(crate) fn find_seen(
     from: usize,
     to: usize,
 ) -> Result<Found, AllocError>
-    requires baseline { IsBaseline baseline.now.diagram.now baseline.now.agent
-        baseline.now.optimum }
+    requires baseline { HoldsBaseline baseline.now }
     requires decision { IsDecision baseline.now.diagram.now.nodes to }
     requires arc { Arc baseline.now.diagram.now.nodes from to }
     requires needed { IsTrue needed ↔ IsRequisite baseline.now.diagram.now.nodes to from }
@@ -80,12 +76,11 @@ pub(crate) fn find_unseen(
     from: usize,
     to: usize,
 ) -> Result<Found, AllocError>
-    requires baseline { IsBaseline baseline.now.diagram.now baseline.now.agent
-        baseline.now.optimum }
+    requires baseline { HoldsBaseline baseline.now }
     requires asked { CanAsk baseline.now.diagram.now.nodes (from, to) }
     requires absent { Arc baseline.now.diagram.now.nodes from to → ⊥ }
     requires would_need { IsTrue would_need
-        ↔ IsRequisite (with_arc baseline.now.diagram.now.nodes from to) to from }
+        ↔ WouldBeRequisite baseline.now.diagram.now.nodes from to }
     ensures found { IfOk result (IsFoundOfUnseen baseline.now.diagram.now baseline.now.agent from
         to) }
     ensures graph { IfOk result (HasRoomFor baseline.now.diagram.now from to) }

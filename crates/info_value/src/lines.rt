@@ -1,12 +1,12 @@
 //! A line for each arc that is asked about.
 
-ghost use Rattle.std.specs.Prelude.{◌≡◌, ◌++◌, ◌<◌, ℕ, All, IfOk, IsTrue, OnOk, length, map};
+ghost use Rattle.std.specs.Prelude.{◌≡◌, ◌<◌, All, IfOk, OnOk, length};
 ghost use Rattle.maid_model.specs.Answers.{IsAnswer};
 ghost use Rattle.maid_model.specs.Scopes.{KeepsScopedBounds};
-ghost use Rattle.optimum_gap.specs.Baselines.{IsBaseline};
+ghost use Rattle.optimum_gap.specs.Baselines.{HoldsBaseline};
 ghost use Rattle.requisite_trim.specs.Needs.{TellsNeeds};
-ghost use Rattle.info_value.specs.Alone.{CanAsk, CanAskAll, IsLineAlone};
-ghost use Rattle.info_value.specs.Lines.{IsInfoLine, TellsWorth, arc_of, arcs_into, asked_arcs, decides};
+ghost use Rattle.info_value.specs.Alone.{AppendsArcs, AreLinesOf, CanAsk, CanAskAll, CanAskEach, IsLineAlone};
+ghost use Rattle.info_value.specs.Lines.{HasAskedArcs, IsInfoLine, TellsWorth};
 
 use crate::arcs::{below, decides, may_see};
 use crate::finding::{find_seen, find_unseen};
@@ -34,8 +34,7 @@ fn info_line(
     from: usize,
     to: usize,
 ) -> Result<InfoLine, AllocError>
-    requires baseline { IsBaseline baseline.now.diagram.now baseline.now.agent
-        baseline.now.optimum }
+    requires baseline { HoldsBaseline baseline.now }
     requires asked { CanAsk baseline.now.diagram.now.nodes (from, to) }
     requires needs { TellsNeeds baseline.now.diagram.now.nodes to requisites.now }
     ensures tail { IfOk result (λ line. line.from ≡ from) }
@@ -71,15 +70,13 @@ fn push_lines_into(
     baseline: &Baseline,
     decision: usize,
 ) -> Result<(), AllocError>
-    requires baseline { IsBaseline baseline.now.diagram.now baseline.now.agent
-        baseline.now.optimum }
+    requires baseline { HoldsBaseline baseline.now }
     requires within { decision < length diagram.now.nodes }
     requires asked { CanAskAll diagram.now.nodes baseline.now.diagram.now.nodes decision }
-    ensures arcs { OnOk result (map arc_of lines.new.items
-        ≡ map arc_of lines.old.items ++ arcs_into diagram.now.nodes decision) }
-    ensures lines { OnOk result (
-        All (IsLineAlone baseline.now.diagram.now baseline.now.agent) lines.old.items
-        → All (IsLineAlone baseline.now.diagram.now baseline.now.agent) lines.new.items) }
+    ensures arcs { OnOk result (AppendsArcs diagram.now.nodes decision lines.old.items
+        lines.new.items) }
+    ensures lines { OnOk result (AreLinesOf baseline.now lines.old.items → AreLinesOf baseline.now
+        lines.new.items) }
 {
     let below = below(diagram, decision);
     let requisites = RequisiteNodes::of(baseline.diagram, decision);
@@ -97,15 +94,11 @@ fn info_lines(
     diagram: &Diagram,
     baseline: &Baseline,
 ) -> Result<Vec<InfoLine>, AllocError>
-    requires baseline { IsBaseline baseline.now.diagram.now baseline.now.agent
-        baseline.now.optimum }
-    requires asked { (d : ℕ) → d < length diagram.now.nodes
-        → IsTrue (decides diagram.now.nodes baseline.now.agent d)
-        → CanAskAll diagram.now.nodes baseline.now.diagram.now.nodes d }
+    requires baseline { HoldsBaseline baseline.now }
+    requires asked { CanAskEach diagram.now.nodes baseline.now.diagram.now.nodes baseline.now.agent }
     ensures arcs { IfOk result (λ lines.
-        map arc_of lines.items ≡ asked_arcs diagram.now.nodes baseline.now.agent) }
-    ensures lines { IfOk result (λ lines.
-        All (IsLineAlone baseline.now.diagram.now baseline.now.agent) lines.items) }
+        HasAskedArcs diagram.now.nodes baseline.now.agent lines.items) }
+    ensures lines { IfOk result (λ lines. AreLinesOf baseline.now lines.items) }
 {
     let mut lines = Vec::new(alloc);
     for v in 0..diagram.count() {
@@ -141,8 +134,7 @@ pub fn info(
     requires answer { IsAnswer diagram.now solved.now }
     requires bound { KeepsScopedBounds diagram.now }
     requires agent { agent < diagram.now.agents }
-    ensures asked { IfOk result (λ lines.
-        map arc_of lines.items ≡ asked_arcs diagram.now.nodes agent) }
+    ensures asked { IfOk result (λ lines. HasAskedArcs diagram.now.nodes agent lines.items) }
     ensures lines { IfOk result (λ lines.
         All (IsInfoLine diagram.now solved.now.answers agent) lines.items) }
     ensures worths { IfOk result (λ lines.

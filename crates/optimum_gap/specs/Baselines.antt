@@ -8,6 +8,7 @@ use Rattle.maid_model.specs.Edits.{one_agent}
 use Rattle.maid_model.specs.Scopes.{scope_product_for, scope_bound_for, greatest_of, utilities_for}
 use Rattle.maid_model.specs.Values.{IsOptimum}
 use Rattle.maid_model.specs.Views.{DiagramView, AnswerView}
+use Rattle.optimum_gap.specs.declared.baselines.Baseline.{Baseline}
 
 -- the diagram in which only the agent decides, and the others take the answered choices
 abbrev pub alone : DiagramView → List AnswerView → ℕ → DiagramView
@@ -18,6 +19,10 @@ pub record IsBaseline (d : DiagramView) (agent : ℕ) (optimum : Ratio) : Type 0
   pub within : agent < d.agents
   pub is_optimum : IsOptimum d.nodes d.decimals agent optimum
   pub bound : scope_bound_for d agent ≤ greatest_number
+
+-- the code's baseline holds such a diagram, with its agent and optimum
+abbrev pub HoldsBaseline : Baseline → Type 0
+HoldsBaseline b = IsBaseline b.diagram.now b.agent b.optimum
 
 -- in the agent's scope of the one diagram counts all that does in the other: P is a multiple, S is no less, and the
 -- scale is the same

@@ -1,12 +1,14 @@
 -- What is found of an edit: a value, or the first reason why none stands there.
-use Rattle.std.specs.Prelude.{◌≡◌, ℕ, List, Option, Some, None, Result, Ok, Err}
+use Rattle.std.specs.Prelude.{◌≡◌, ℕ, List, Option, Some, None, Result, Ok, Err, IfOk}
+use Rattle.first_fault.specs.Answers.{IsFaultOrNoMemory}
 use Rattle.first_fault.specs.Outcomes.{◌▸▸◌, gives}
 use Rattle.first_fault.specs.Passes.{Pass}
 use Rattle.maid_model.specs.declared.answers.Ratio.{Ratio}
 use Rattle.maid_model.specs.Values.{IsDifferenceOfOptima}
 use Rattle.maid_model.specs.Views.{DiagramView}
 use Rattle.arc_laws.specs.Worths.{nought}
-use Rattle.rule_solver.specs.Faults.{solve_pass}
+use Rattle.rule_solver.specs.declared.faults.SolveFault.{SolveFault}
+use Rattle.rule_solver.specs.Faults.{solve_fault, solve_pass}
 use Rattle.rule_solver.specs.Faults as solver
 use Rattle.optimum_gap.specs.declared.found.Found.{Found}
 use Rattle.optimum_gap.specs.declared.found.Found.TheVariants as found
@@ -54,6 +56,11 @@ refused_by P (Err reason) = P (Some reason)
 -- what is found is a reason, which is the pass's
 abbrev pub TellsReason : Pass Reason → Found → Type 0
 TellsReason P found = refused_by P (found_of found)
+
+-- the reason that stands for the solver's fault, whichever diagram is refused with it
+abbrev pub TellsRefusal : {E : Type 0} → SolveFault → Result Found E → Type 0
+TellsRefusal fault result = (d : DiagramView) → IsFaultOrNoMemory solve_fault (solve_pass d) fault
+    → IfOk result (TellsReason (solving d))
 
 -- the edited diagram is refused for a reason, or its optimum less that of the diagram is found
 abbrev pub IsGain : DiagramView → DiagramView → ℕ → Found → Type 0

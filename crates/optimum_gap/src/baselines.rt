@@ -1,15 +1,14 @@
 //! Optima of edited diagrams against the optimum before.
 
 ghost use Rattle.std.specs.Prelude.{◌<◌, IfOk, IfSome};
-ghost use Rattle.first_fault.specs.Answers.{IsFaultOrNoMemory, Passes};
+ghost use Rattle.first_fault.specs.Answers.{Passes};
 ghost use Rattle.maid_model.specs.Subgames.{OwnsAll};
 ghost use Rattle.maid_model.specs.Values.{IsOptimum};
-ghost use Rattle.maid_model.specs.Views.{DiagramView};
 ghost use Rattle.rule_solver.specs.Faults.{solve_fault, solve_pass};
 ghost use Rattle.rule_solver.specs.Kept.{IsKeptDiagram};
 ghost use Rattle.rule_solver.specs.Rooms.{AreLeft};
-ghost use Rattle.optimum_gap.specs.Baselines.{HaveNearScopes, IsBaseline};
-ghost use Rattle.optimum_gap.specs.Found.{IsGain, IsLoss, TellsReason, solving};
+ghost use Rattle.optimum_gap.specs.Baselines.{HaveNearScopes, HoldsBaseline};
+ghost use Rattle.optimum_gap.specs.Found.{IsGain, IsLoss, TellsRefusal};
 
 use crate::differences::difference;
 use crate::found::Found;
@@ -19,8 +18,7 @@ use std::alloc::{AllocError, Global};
 
 /// Why a diagram that the solver refuses has no value.
 fn refused(fault: SolveFault) -> Result<Found, AllocError>
-    ensures { (d : DiagramView) → IsFaultOrNoMemory solve_fault (solve_pass d) fault
-        → IfOk result (TellsReason (solving d)) }
+    ensures { TellsRefusal fault result }
 {
     match fault {
         SolveFault::Cycle { list } => Ok(Found::Cycle(list)),
@@ -56,7 +54,7 @@ impl<'a> Baseline<'a> {
     ///
     /// Only where memory runs out.
     pub fn gain(&self, alloc: Global, edited: &Diagram) -> Result<Found, AllocError>
-        requires baseline { IsBaseline self.now.diagram.now self.now.agent self.now.optimum }
+        requires baseline { HoldsBaseline self.now }
         requires alone { OwnsAll edited.now.nodes self.now.agent }
         requires within { self.now.agent < edited.now.agents }
         requires near { HaveNearScopes self.now.diagram.now edited.now self.now.agent }
@@ -78,7 +76,7 @@ impl<'a> Baseline<'a> {
         kept: Option<&KeptDiagram>,
         left: &mut Option<Workspaces>,
     ) -> Result<Found, AllocError>
-        requires baseline { IsBaseline self.now.diagram.now self.now.agent self.now.optimum }
+        requires baseline { HoldsBaseline self.now }
         requires alone { OwnsAll edited.now.nodes self.now.agent }
         requires within { self.now.agent < edited.now.agents }
         requires near { HaveNearScopes self.now.diagram.now edited.now self.now.agent }
@@ -101,7 +99,7 @@ impl<'a> Baseline<'a> {
     ///
     /// Only where memory runs out.
     pub fn loss(&self, alloc: Global, edited: &Diagram) -> Result<Found, AllocError>
-        requires baseline { IsBaseline self.now.diagram.now self.now.agent self.now.optimum }
+        requires baseline { HoldsBaseline self.now }
         requires alone { OwnsAll edited.now.nodes self.now.agent }
         requires within { self.now.agent < edited.now.agents }
         requires near { HaveNearScopes self.now.diagram.now edited.now self.now.agent }

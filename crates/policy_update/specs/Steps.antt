@@ -19,11 +19,6 @@ use Rattle.policy_update.specs.Updated.{AreChoices}
 abbrev pub state_gain : List ℤ → ℕ → ℤ
 state_gain gains s = slice_index_or gains s (pos 0)
 
--- these are the gains of one row, in a list with a number for each row and state, the state fastest
-abbrev pub AreGainsOfRow : List ℤ → ℕ → ℕ → List ℤ → Type 0
-AreGainsOfRow gains states row own =
-    (s : ℕ) → s < states → state_gain own s ≡ gain_in gains states row s
-
 -- the choice in a row
 abbrev pub choice_in : List Row → ℕ → ℕ
 choice_in rows row = (slice_index_or rows row no_row).choice

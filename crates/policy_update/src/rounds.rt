@@ -6,9 +6,9 @@ ghost use Rattle.maid_model.specs.Answers.{FitsAnswer};
 ghost use Rattle.maid_model.specs.Scopes.{KeepsScopedBounds};
 ghost use Rattle.maid_model.specs.Subgames.{OwnsAll};
 ghost use Rattle.reach_laws.specs.Updates.{IsUpdateRound, start_profile};
-ghost use Rattle.rule_solver.specs.Rooms.{AreReady, HasRoomAt};
 ghost use Rattle.size_precheck.specs.Sizes.{ArePlansOf};
 ghost use Rattle.policy_update.specs.Steps.{AreKept, EndsAt, Improves, IsPlan, IsStepAt, Tells};
+ghost use Rattle.rule_solver.specs.Rooms.{AreReadyForDecision};
 
 use crate::rows::{are_same_choices, improved_rows};
 use maid_model::{Answer, Diagram, Profile, Row, Rule, profile_has_rules};
@@ -30,8 +30,7 @@ fn improvement(
     requires bound { KeepsScopedBounds diagram.now }
     requires planned { ArePlansOf diagram.now.nodes answer.now.decision plans.now.rows
         plans.now.goals.items }
-    requires ready { (cells : ℕ) × AreReady cells spaces.old
-        × HasRoomAt diagram.now.nodes answer.now.decision cells }
+    requires ready { AreReadyForDecision diagram.now.nodes answer.now.decision spaces.old }
     requires pure { IsPure diagram.now.nodes profile.now }
     requires fits { FitsAnswer diagram.now.nodes answer.now }
     ensures rows { IfOk result (λ rows.

@@ -2,7 +2,8 @@
 
 ghost use Rattle.std.specs.Prelude.{◌≡◌, ◌<◌, ◌*◌, ◌↔◌, All, IfOk, IsTrue, length};
 ghost use Rattle.reach_laws.specs.Updates.{IsImproved};
-ghost use Rattle.policy_update.specs.Steps.{AreGainsOfRow, AreImprovedBy, AreSameChoices, state_gain};
+ghost use Rattle.rule_solver.specs.Rows.{AreGainsOfRow};
+ghost use Rattle.policy_update.specs.Steps.{AreImprovedBy, AreSameChoices, state_gain};
 
 use maid_model::Row;
 use std::alloc::{AllocError, Global};

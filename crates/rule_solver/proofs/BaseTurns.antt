@@ -3,7 +3,7 @@ use Rattle.std.proofs.Common.{◌≡◌, ◌∙◌, ◌⊎◌, ◌↔◌, ℕ, z
 use Rattle.std.proofs.Math.Decide.{ℕ_discrete}
 use Rattle.std.proofs.lemmas.List.{get_or_default, length-map}
 use Rattle.std.proofs.lemmas.List.Elements.{Contains-append_left}
-use Rattle.maid_model.specs.Answers.{FitsAnswer, IsBase, pure_profile}
+use Rattle.maid_model.specs.Answers.{IsBase, pure_profile}
 use Rattle.maid_model.specs.Graph.{AllDifferent}
 use Rattle.maid_model.specs.Nodes.{IsDecision, decisions_of, states_of}
 use Rattle.maid_model.specs.Profiles.{IsProfile, IsRule, SameRule, Replaces, pure_rule, uniform_rule, uniform_profile}

@@ -13,7 +13,7 @@ use Rattle.maid_model.specs.Graph.{IsGraph}
 use Rattle.maid_model.specs.Nodes.{IsDecision, rows_of, states_of}
 use Rattle.maid_model.specs.Placing.{IsRelianceOrder}
 use Rattle.maid_model.specs.Relevance.{ReliesOn}
-use Rattle.maid_model.specs.Scopes.{goals_of, scope_of}
+use Rattle.maid_model.specs.Scopes.{scope_of}
 use Rattle.maid_model.specs.Subgames.{OwnsAll}
 use Rattle.maid_model.specs.Tables.{HasChanceTables}
 use Rattle.maid_model.specs.Values.{IsOptimum}

@@ -1,5 +1,5 @@
 -- Greatest common divisors by halving, and the fractions that they leave.
-use Rattle.std.proofs.Common.{◌≡◌, ◌∙◌, ◌⊎◌, inl, inr, ℕ, zero, suc, ◌+◌, ◌*◌, ◌/◌, ◌%◌, ◌^◌, ◌-◌, ◌<◌, ◌≤◌, min, Bool, true, false, ltb, if◌then◌else◌, ℤ, pos, negsuc, neg_ℤ, ◌*ℤ◌, unsigned_abs, refl, sym, ap, subst, arith}
+use Rattle.std.proofs.Common.{◌≡◌, ◌∙◌, ℕ, zero, suc, ◌+◌, ◌*◌, ◌/◌, ◌%◌, ◌^◌, ◌-◌, ◌<◌, ◌≤◌, min, Bool, true, false, ltb, if◌then◌else◌, ℤ, pos, negsuc, neg_ℤ, ◌*ℤ◌, unsigned_abs, refl, sym, ap, subst, arith}
 use Rattle.std.specs.Int.{IsGcd, ◌∣◌, bit_at}
 use Rattle.std.proofs.Math.Nat.{dvd-add_iff_right, dvd-mul_left_of_dvd, div-mul_cancel, mul-div_cancel', mul-dvd-mul_right, dvd_of_mul-dvd-mul_right, dvd-mul_right, one-dvd, one-mul, pos_of_dvd_of_pos, mul-div_cancel, zero-mul}
 use Rattle.std.specs.Int.Signed.{lt_z}
@@ -9,7 +9,7 @@ use Rattle.std.proofs.Math.Nat.{min-eq_left, min-eq_right}
 use Rattle.std.proofs.Math.Decide.{dec_le}
 use Rattle.std.proofs.lemmas.Nat.{shr-shr, pow-add}
 use Rattle.std.proofs.lemmas.Nat.Bits.{bit_at_lowest, bit_at-suc}
-use Rattle.std.proofs.lemmas.Nat.Gcd.{IsGcd-swap, IsGcd-from_sub, dvd_trans}
+use Rattle.std.proofs.lemmas.Nat.Gcd.{IsGcd-swap, IsGcd-from_sub}
 
 -- what divides an odd number and an even one divides half of the latter
 half_divided : (a b d : ℕ) → a % 2 ≡ 1 → b % 2 ≡ 0 → d ∣ a → d ∣ b → d ∣ b / 2

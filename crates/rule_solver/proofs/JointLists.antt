@@ -1,5 +1,5 @@
 -- Goals of a decision, the first ones and the others.
-use Rattle.std.proofs.Common.{◌≡◌, ◌≢◌, ◌∙◌, ℕ, zero, suc, ◌*◌, ◌<◌, ◌≤◌, Bool, true, false, ◌&&◌, ◌||◌, Contains, List, [], ◌∷◌, ◌++◌, drop, length, eqb, sym, ap, subst, take, inl, inr, arith}
+use Rattle.std.proofs.Common.{◌≡◌, ◌≢◌, ◌∙◌, ℕ, zero, suc, ◌*◌, ◌<◌, ◌≤◌, Bool, true, false, ◌&&◌, ◌||◌, Contains, List, [], ◌∷◌, ◌++◌, drop, length, length-drop, eqb, sym, ap, subst, take, inl, inr, arith}
 use Rattle.std.specs.List.{IsDistinct, list_any}
 use Rattle.std.specs.Prelude.{AllPairs}
 use Rattle.std.proofs.Math.Decide.{ℕ_discrete}
@@ -12,6 +12,7 @@ use Rattle.std.proofs.lemmas.Nat.{mul-le}
 use Rattle.std.proofs.lemmas.Map.Steps.{length-le_from_distinct_below}
 use Rattle.finite_sums.specs.Members.{Among}
 use Rattle.finite_sums.specs.Sums.{nat_product_over}
+use Rattle.joint_sums.specs.Joint.{AreGoals}
 use Rattle.maid_laws.proofs.Booleans.{eqb_no}
 use Rattle.maid_laws.proofs.Collapse.{Apart}
 use Rattle.maid_laws.proofs.Members.{different_of}
@@ -21,14 +22,13 @@ use Rattle.maid_model.specs.Graph.{AllDifferent, IsGraph, descends}
 use Rattle.maid_model.specs.Nodes.{IsDecision, agent_of, is_utility_of, numbers_of}
 use Rattle.maid_model.specs.Scopes.{goals_of}
 use Rattle.maid_model.specs.Views.{NodeView}
-use Rattle.rule_solver.specs.Together.{AreOfGoals}
 use Rattle.rule_solver.proofs.JointNodes.{goal_listed_is}
 
 -- ---- parts of a list
-first_in : (k : ℕ) (us : List ℕ) (u : ℕ) → Contains (take k us) u → Contains us u
+pub first_in : (k : ℕ) (us : List ℕ) (u : ℕ) → Contains (take k us) u → Contains us u
 first_in k us u c = subst (λ l. Contains l u) (take-append-drop k us) (Contains-append_left (take k us) (drop k us) u c)
 
-other_in : (k : ℕ) (us : List ℕ) (u : ℕ) → Contains (drop k us) u → Contains us u
+pub other_in : (k : ℕ) (us : List ℕ) (u : ℕ) → Contains (drop k us) u → Contains us u
 other_in k us u c = subst (λ l. Contains l u) (take-append-drop k us) (Contains-append_right (take k us) (drop k us) u c)
 
 first_differ : (k : ℕ) (us : List ℕ) → AllDifferent us → AllDifferent (take k us)
@@ -41,19 +41,28 @@ other_differ zero us h = h
 other_differ (suc k) [] h = tt
 other_differ (suc k) (u ∷ us) h = other_differ k us h.1
 
+first_some : (k : ℕ) (us : List ℕ) → 0 < k → 0 < length us → 0 < length (take k us)
+first_some zero us h l = h
+first_some (suc k) [] h l = l
+first_some (suc k) (u ∷ us) h l = omega arith
+
+other_some : (k : ℕ) (us : List ℕ) → k < length us → 0 < length (drop k us)
+other_some k us l = let left = length-drop k us in omega (arith, l, left)
+
 module _ (nodes : List NodeView) (d : ℕ) where
   -- all goals of the decision
-  pub all_goals : IsGraph nodes → IsDecision nodes d → AreOfGoals nodes d (goals_of nodes d)
-  all_goals graph is = record {
-    once = different_of (goals_of nodes d) (apart_filter (λ u. is_utility_of nodes (agent_of nodes d) u && descends nodes d u) (numbers_of nodes) (range_apart 0 (length nodes)));
+  pub all_goals : IsGraph nodes → IsDecision nodes d → 0 < length (goals_of nodes d) → AreGoals nodes d (goals_of nodes d)
+  all_goals graph is some = record {
+    some = some;
+    different = different_of (goals_of nodes d) (apart_filter (λ u. is_utility_of nodes (agent_of nodes d) u && descends nodes d u) (numbers_of nodes) (range_apart 0 (length nodes)));
     each = goal_listed_is nodes graph d is;
   }
 
-  pub first_goals : (k : ℕ) (us : List ℕ) → AreOfGoals nodes d us → AreOfGoals nodes d (take k us)
-  first_goals k us are = record { once = first_differ k us are.once; each = λ u c. are.each u (first_in k us u c) }
+  pub first_goals : (k : ℕ) (us : List ℕ) → 0 < k → AreGoals nodes d us → AreGoals nodes d (take k us)
+  first_goals k us h are = record { some = first_some k us h are.some; different = first_differ k us are.different; each = λ u c. are.each u (first_in k us u c) }
 
-  pub other_goals : (k : ℕ) (us : List ℕ) → AreOfGoals nodes d us → AreOfGoals nodes d (drop k us)
-  other_goals k us are = record { once = other_differ k us are.once; each = λ u c. are.each u (other_in k us u c) }
+  pub other_goals : (k : ℕ) (us : List ℕ) → k < length us → AreGoals nodes d us → AreGoals nodes d (drop k us)
+  other_goals k us h are = record { some = other_some k us h; different = other_differ k us are.different; each = λ u c. are.each u (other_in k us u c) }
 
 -- some of the first ones are the first of all
 pub first_of_first : (n k : ℕ) (us : List ℕ) → n ≤ k → take n (take k us) ≡ take n us

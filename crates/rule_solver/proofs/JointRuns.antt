@@ -38,7 +38,7 @@ use Rattle.ring_sums.proofs.Same.{fits_more}
 use Rattle.scope_sums.specs.Laws.{MissingIsPositive, ScopesFitPlans}
 use Rattle.rule_solver.specs.Reading.{AddsTable, gain_there}
 use Rattle.rule_solver.specs.Sums.{AddsGoals, HasRoomFor, IsSetting, goal_part}
-use Rattle.rule_solver.specs.Together.{AreOfGoals, FitsPairs}
+use Rattle.rule_solver.specs.Together.{FitsPairs}
 use Rattle.rule_solver.proofs.JointLists.{factor_at_most, few, product_some}
 use Rattle.rule_solver.proofs.GoalPlans.{has_contains}
 use Rattle.rule_solver.proofs.SettingLemmas.{part_small}
@@ -49,12 +49,9 @@ each_is : (P : ℕ → Type 0) (xs : List ℕ) → ((v : ℕ) → Among v xs →
 each_is P xs h k e l = h (get_or xs k e) (among_from_contains xs (get_or xs k e) (k, l, get_or_default xs k (get_or xs k e) e l))
 
 module _ (d : DiagramView) (p : List RuleView) (decision : ℕ) (totals : List ℕ) (scope : NodeSet) (s : IsSetting d p decision totals scope)
-    (us : List ℕ) (of : AreOfGoals d.nodes decision us) (some : 0 < length us) (total : ℕ) (total_is : total ≡ nat_product_over (weight_total d.nodes p) (joint_ruled d.nodes decision)) (fits : FitsPairs d.nodes total us)
+    (us : List ℕ) (goals : AreGoals d.nodes decision us) (total : ℕ) (total_is : total ≡ nat_product_over (weight_total d.nodes p) (joint_ruled d.nodes decision)) (fits : FitsPairs d.nodes total us)
     (steps : List ℕ) (order : IsJointOrder d.nodes decision steps)
   where
-    goals : AreGoals d.nodes decision us
-    goals = record { some = some; different = of.once; each = of.each }
-
     abbrev labels : List ℕ
     labels = joint_ruled d.nodes decision ++ us
 
@@ -68,7 +65,7 @@ module _ (d : DiagramView) (p : List RuleView) (decision : ℕ) (totals : List �
       where
         go : Among v (joint_ruled d.nodes decision) ⊎ Among v us → v < length d.nodes
         go (inl r) = node_within d.nodes decision v (ruled_node d.nodes decision v r)
-        go (inr u) = (of.each v (contains_from_among us v u)).within
+        go (inr u) = (goals.each v (contains_from_among us v u)).within
 
     pub known : All (λ v. v < length d.nodes) labels
     known = each_is (λ v. v < length d.nodes) labels within
@@ -93,7 +90,7 @@ module _ (d : DiagramView) (p : List RuleView) (decision : ℕ) (totals : List �
 
     -- the product of the values' sizes, of which there is one at least, is two at least
     values_two : 2 ≤ nat_product_over (value_bound d.nodes) us
-    values_two = go us some
+    values_two = go us goals.some
       where
         two : (a x : ℕ) → 1 ≤ x → 2 ≤ 2 * max 1 a * x
         two a x h = omega (arith, mul-le-mul_left (2 * max 1 a) h)
@@ -116,7 +113,7 @@ module _ (d : DiagramView) (p : List RuleView) (decision : ℕ) (totals : List �
     numbers_by_kind weights values v (inr u) =
         values d.nodes p most_size v
         (go (greatest_abs (node_at d.nodes v).cells) (nat_product_over (weight_total d.nodes p) (joint_ruled d.nodes decision)) (nat_product_over (value_bound d.nodes) us) (factor_at_most (value_bound d.nodes) value_some us v u) (product_some (weight_total d.nodes p) positive (joint_ruled d.nodes decision)) bound_is)
-        (of.each v (contains_from_among us v u)).kind
+        (goals.each v (contains_from_among us v u)).kind
       where
         go : (a t x : ℕ) → 2 * max 1 a ≤ x → 1 ≤ t → t * x ≤ most_size → 2 * a ≤ most_size
         go a t x h k l = omega (arith, h, l, mul-le-mul_right x k)
@@ -161,7 +158,7 @@ module _ (d : DiagramView) (p : List RuleView) (decision : ℕ) (totals : List �
           → nat_abs (gain_there gains d.nodes decision q) + nat_abs (((table_of both_kind d.nodes after.cells slot).cell q).g *ℤ pos 1) ≤ greatest_number
       slot_room keeps missing gains room q i =
           sum _ _ _ (subst (λ z. nat_abs z ≤ scope_product d.nodes decision * greatest_of d.nodes us) (sym (slot_part q i))
-          (parts_small d.nodes p decision us q (λ u m. part_small d p decision totals scope s keeps missing u (of.each u (contains_from_among us u m)) q i))) (room.room q i)
+          (parts_small d.nodes p decision us q (λ u m. part_small d p decision totals scope s keeps missing u (goals.each u (contains_from_among us u m)) q i))) (room.room q i)
         where
           sum : (a b c : ℕ) → b ≤ c → a + c ≤ greatest_number → a + b ≤ greatest_number
           sum a b c h k = omega (arith, h, k)

@@ -5,6 +5,7 @@ mod BaseTurns
 mod Carries
 mod ChoiceLemmas
 mod DecisionLemmas
+mod Ends
 mod Equals
 mod GainCells
 mod GainLemmas
@@ -23,7 +24,7 @@ mod Orders
 mod PlanLemmas
 mod ProductLemmas
 mod Promises
-mod Rooms
+pub mod Rooms
 mod RowLemmas
 mod SettingLemmas
 mod StakeLemmas

@@ -1,7 +1,8 @@
 -- What is answered at a decision against a base, and at the decisions of a list. Only private functions cite it.
+use Rattle.std.specs.Global.{Vec}
 use Rattle.std.specs.Prelude.{◌≡◌, ◌<◌, ℕ, List, All, map, length, slice_index_or, IfSome}
 use Rattle.maid_model.specs.declared.answers.Row.{Row}
-use Rattle.maid_model.specs.Views.{NodeView, RuleView, AnswerView}
+use Rattle.maid_model.specs.Views.{NodeView, DiagramView, RuleView, AnswerView}
 use Rattle.maid_model.specs.Nodes.{states_of, rows_of}
 use Rattle.maid_model.specs.Answers.{FitsAnswer, IsAnswerAt, IsAnswerRow, IsReduced, no_row, pure_profile}
 
@@ -24,3 +25,11 @@ pub record AnswersAll
     pub fits : All (FitsAnswer nodes) answers
     pub each :
         All (λ a. IsAnswerAt nodes decimals (pure_profile nodes answers) a.decision a.rows) answers
+
+-- so the program has the rows
+abbrev pub AreRowsAgainst : DiagramView → List RuleView → ℕ → Vec Row → Type 0
+AreRowsAgainst d base decision rows = IsAnsweredBy d.nodes d.decimals base decision rows.items
+
+-- and the answers
+abbrev pub AreAnswersInOrder : DiagramView → List ℕ → Vec AnswerView → Type 0
+AreAnswersInOrder d placed answers = AnswersAll d.nodes d.decimals placed answers.items

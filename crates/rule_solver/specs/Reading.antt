@@ -1,13 +1,21 @@
 -- The cells of a plan's last table as a decision's gains and masses. Only private functions cite it.
-use Rattle.std.specs.Prelude.{◌≡◌, ◌≤◌, ℕ, ◌+◌, ◌*◌, List, length, slice_index, slice_index_or, ℤ, pos, ◌+ℤ◌, ◌*ℤ◌, nat_abs}
+use Rattle.std.specs.Prelude.{◌≡◌, ◌<◌, ◌≤◌, ◌↔◌, ℕ, ◌+◌, ◌*◌, ◌%◌, List, Contains, length, slice_index, slice_index_or, ℤ, pos, ◌+ℤ◌, ◌*ℤ◌, nat_abs}
 use Rattle.cell_rings.specs.Rings.{Ring}
+use Rattle.cell_rings.specs.Sums.{cell_at}
 use Rattle.factor_core.specs.declared.slots.Slot.{Slot}
-use Rattle.factor_core.specs.Slots.{table_of}
+use Rattle.factor_core.specs.Slots.{WorkspaceView, table_of}
 use Rattle.finite_sums.specs.Sums.{World, InRange}
 use Rattle.maid_model.specs.Diagrams.{greatest_number}
-use Rattle.maid_model.specs.Nodes.{states_of}
-use Rattle.maid_model.specs.Tables.{cell_of, row_of}
-use Rattle.maid_model.specs.Views.{NodeView}
+use Rattle.maid_model.specs.Nodes.{rows_of, rows_under, states_of}
+use Rattle.maid_model.specs.Tables.{cell_of, row_from, row_of}
+use Rattle.maid_model.specs.Views.{NodeView, DiagramView}
+use Rattle.maid_model.specs.Worlds.{world_of}
+use Rattle.node_sets.specs.declared.sets.NodeSet.{NodeSet}
+use Rattle.node_sets.specs.Sets.{IsFirstFrom, IsIn}
+
+-- a gain for each row and state of the decision
+abbrev pub HasGainForEach : List NodeView → ℕ → List ℤ → Type 0
+HasGainForEach nodes d gains = length gains ≡ rows_of nodes d * states_of nodes d
 
 -- the gain of a decision at the row and state that a world picks
 abbrev pub gain_there : List ℤ → List NodeView → ℕ → World → ℤ
@@ -33,6 +41,48 @@ abbrev pub cell_number :
     {C : Type 0} → (C → ℤ) → Ring C → List NodeView → List C → Slot → World → ℤ
 cell_number number r nodes cells slot = λ q. number ((table_of r nodes cells slot).cell q)
 
+-- ---- cell by cell
+-- the gain with the number added, times the factor
+abbrev pub added_at : List ℤ → ℕ → ℤ → ℕ → ℤ
+added_at gains at number factor = slice_index_or gains at (pos 0) +ℤ (number *ℤ pos factor)
+
+-- there is room to add the number, times the factor, to the gain at that place
+abbrev pub HasRoomAtPlace : List ℤ → ℕ → ℤ → ℕ → Type 0
+HasRoomAtPlace gains at number factor =
+    nat_abs (slice_index_or gains at (pos 0)) + nat_abs (number *ℤ pos factor) ≤ greatest_number
+
+-- the number of the cell at that place
+abbrev pub number_at : {C : Type 0} → (C → ℤ) → Ring C → List C → ℕ → ℤ
+number_at number r cells i = number (cell_at r cells i)
+
+-- there is room for each number, times the factor, at its place, and then it is added there
+abbrev pub HasRoomForEach : (ℕ → ℤ) → ℕ → List ℤ → Type 0
+HasRoomForEach number factor gains =
+    (i : ℕ) → i < length gains → HasRoomAtPlace gains i (number i) factor
+
+abbrev pub AddsEach : (ℕ → ℤ) → ℕ → List ℤ → List ℤ → Type 0
+AddsEach number factor before after = (i : ℕ) → i < length before
+    → slice_index_or after i (pos 0) ≡ added_at before i (number i) factor
+
+-- each of so many numbers fits, times the factor, and then it is the mass at its place
+abbrev pub FitEach : (ℕ → ℤ) → ℕ → ℕ → Type 0
+FitEach number factor n = (i : ℕ) → i < n → nat_abs (number i) * factor ≤ greatest_number
+
+abbrev pub PutsEach : (ℕ → ℤ) → ℕ → ℕ → List ℕ → Type 0
+PutsEach number factor n after =
+    (i : ℕ) → i < n → slice_index after i ≡ nat_abs (number i) * factor
+
+-- each cell's number, times the factor, is the mass at its place
+abbrev pub PutsCells :
+    {C : Type 0} → (C → ℤ) → Ring C → List C → ℕ → List ℕ → List ℕ → Type 0
+PutsCells number r cells factor before after =
+    PutsEach (number_at number r cells) factor (length before) after
+
+-- ---- a whole table
+-- the table is over these nodes
+abbrev pub IsOverNodes : Slot → List ℕ → Type 0
+IsOverNodes slot vs = (v : ℕ) → IsIn slot.scope v ↔ Contains vs v
+
 -- there is room to add the table's numbers, times the factor, to the gains
 abbrev pub HasRoomToAdd : List NodeView → ℕ → (World → ℤ) → ℕ → List ℤ → Type 0
 HasRoomToAdd nodes d number factor gains = (q : World) → InRange (states_of nodes) q
@@ -42,3 +92,39 @@ HasRoomToAdd nodes d number factor gains = (q : World) → InRange (states_of no
 abbrev pub FitTimes : List NodeView → (World → ℤ) → ℕ → Type 0
 FitTimes nodes number factor =
     (q : World) → InRange (states_of nodes) q → nat_abs (number q) * factor ≤ greatest_number
+
+-- so it is with the numbers of a slot's cells: there is room to add them, they are added, they fit, they are put
+abbrev pub HasRoomForSlot :
+    {C : Type 0} → (C → ℤ) → Ring C → DiagramView → ℕ → WorkspaceView C → Slot → ℕ → List ℤ → Type 0
+HasRoomForSlot number r d decision work slot factor gains =
+    HasRoomToAdd d.nodes decision (cell_number number r d.nodes work.cells slot) factor gains
+
+abbrev pub AddsSlot :
+    {C : Type 0} → (C → ℤ) → Ring C → DiagramView → ℕ → WorkspaceView C → Slot → ℕ → List ℤ → List ℤ → Type 0
+AddsSlot number r d decision work slot factor before after =
+    AddsTable d.nodes decision (cell_number number r d.nodes work.cells slot) factor before after
+
+abbrev pub FitsSlot :
+    {C : Type 0} → (C → ℤ) → Ring C → DiagramView → WorkspaceView C → Slot → ℕ → Type 0
+FitsSlot number r d work slot factor =
+    FitTimes d.nodes (cell_number number r d.nodes work.cells slot) factor
+
+abbrev pub PutsSlot :
+    {C : Type 0} → (C → ℤ) → Ring C → DiagramView → ℕ → WorkspaceView C → Slot → ℕ → List ℕ → Type 0
+PutsSlot number r d decision work slot factor after =
+    PutsTable d.nodes decision (cell_number number r d.nodes work.cells slot) factor after
+
+-- ---- the nodes of a scope, and their states one after another
+-- the row that a list of states gives to these nodes, the first one slowest
+abbrev pub row_in : List NodeView → List ℕ → List ℕ → ℕ
+row_in nodes vs states = row_from (states_of nodes) (world_of states) 0 vs
+
+-- the nodes' row is the next one, and after the last the first again
+abbrev pub IsNextRow : List NodeView → List ℕ → List ℕ → List ℕ → Type 0
+IsNextRow nodes vs before after =
+    row_in nodes vs after ≡ (row_in nodes vs before + 1) % rows_under (states_of nodes) vs
+
+-- all other nodes keep their states
+abbrev pub KeepsOtherStates : List ℕ → List ℕ → List ℕ → Type 0
+KeepsOtherStates vs before after =
+    (v : ℕ) → (Contains vs v → ⊥) → slice_index after v ≡ slice_index before v

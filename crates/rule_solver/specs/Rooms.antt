@@ -1,5 +1,5 @@
 -- What the plans of a run ask for: room for their cells.
-use Rattle.std.specs.Prelude.{◌≡◌, ℕ, ◌<◌, ◌≤◌, ◌*◌, min, IfSome, List, Option, [], length}
+use Rattle.std.specs.Prelude.{◌≡◌, ℕ, ◌<◌, ◌≤◌, ◌*◌, min, All, IfSome, List, Option, [], length}
 use Rattle.maid_model.specs.declared.diagrams.Kind.TheVariants.{Utility}
 use Rattle.maid_model.specs.declared.limits.TheConstants.{MOST_PLAN_CELLS}
 use Rattle.maid_model.specs.Nodes.{IsDecision, node_at}
@@ -7,6 +7,7 @@ use Rattle.maid_model.specs.Relevance.{IsGoal}
 use Rattle.maid_model.specs.Views.{NodeView}
 use Rattle.plan_sums.specs.Plans.{PlanView, row_plan, gain_plan, worth_plan}
 use Rattle.factor_core.specs.Slots.{WorkspaceView}
+use Rattle.size_precheck.specs.declared.decisions.DecisionPlans.{DecisionPlans}
 use Rattle.size_precheck.specs.Sizes.{SizedPlan, IsMade}
 use Rattle.rule_solver.specs.declared.spaces.TheConstants.{MOST_PAIR_CELLS}
 use Rattle.rule_solver.specs.declared.spaces.Workspaces.{Workspaces}
@@ -20,15 +21,24 @@ pub record HasRoomAt (nodes : List NodeView) (d cells : ℕ) : Type 0 where
   pub rows : HasAtMost nodes (row_plan nodes d) cells
   pub goals : (u : ℕ) → IsGoal nodes d u → HasAtMost nodes (gain_plan nodes d u) cells
 
+-- and that of a node's worth, if the node is a utility
+abbrev pub HasRoomForWorth : List NodeView → ℕ → ℕ → Type 0
+HasRoomForWorth nodes u cells =
+    (node_at nodes u).kind ≡ Utility → HasAtMost nodes (worth_plan u) cells
+
 -- and those of all utilities' worths
 abbrev pub HasRoomForWorths : List NodeView → ℕ → Type 0
-HasRoomForWorths nodes cells = (u : ℕ) → u < length nodes → (node_at nodes u).kind ≡ Utility
-    → HasAtMost nodes (worth_plan u) cells
+HasRoomForWorths nodes cells = (u : ℕ) → u < length nodes → HasRoomForWorth nodes u cells
 
 -- so do all plans of a run
 pub record HasRoom (nodes : List NodeView) (cells : ℕ) : Type 0 where
   pub decisions : (d : ℕ) → IsDecision nodes d → HasRoomAt nodes d cells
   pub worths : HasRoomForWorths nodes cells
+
+-- the cells of all of a decision's plans take at least so much room
+abbrev pub AreNeededForPlans : DecisionPlans → ℕ → Type 0
+AreNeededForPlans plans cells = (n : ℕ) → plans.rows.size.cells ≤ n
+    → All (λ plan. plan.size.cells ≤ n) plans.goals.items → cells ≤ n
 
 -- a workspace within the limit has no table and room for so many cells
 pub record IsReady {C : Type 0} (cells : ℕ) (work : WorkspaceView C) : Type 0 where
@@ -44,11 +54,41 @@ pub record AreReady (cells : ℕ) (spaces : Workspaces) : Type 0 where
   pub room : spaces.cells ≡ cells
   pub pair_cells : spaces.pair_cells ≡ min (4 * cells) MOST_PAIR_CELLS
 
+-- a workspace is ready, and has room for the plan
+abbrev pub IsReadyFor : {C : Type 0} → List NodeView → PlanView → WorkspaceView C → Type 0
+IsReadyFor nodes plan work = (cells : ℕ) × IsReady cells work × HasAtMost nodes plan cells
+
 -- two workspaces are ready, and have room for the plan
 abbrev pub AreReadyFor :
     {C D : Type 0} → List NodeView → PlanView → WorkspaceView C → WorkspaceView D → Type 0
 AreReadyFor nodes plan small wide =
     (cells : ℕ) × IsReady cells small × IsReady cells wide × HasAtMost nodes plan cells
+
+-- two workspaces are ready, and have room for the plans of all utilities' worths
+abbrev pub AreBothReadyForWorths :
+    {C D : Type 0} → List NodeView → WorkspaceView C → WorkspaceView D → Type 0
+AreBothReadyForWorths nodes small wide =
+    (cells : ℕ) × IsReady cells small × IsReady cells wide × HasRoomForWorths nodes cells
+
+-- the workspaces are ready, and have room for the plan
+abbrev pub AreReadyForPlan : List NodeView → PlanView → Workspaces → Type 0
+AreReadyForPlan nodes plan spaces =
+    (cells : ℕ) × AreReady cells spaces × HasAtMost nodes plan cells
+
+-- the workspaces are ready, and have room for the decision's plans
+abbrev pub AreReadyForDecision : List NodeView → ℕ → Workspaces → Type 0
+AreReadyForDecision nodes d spaces =
+    (cells : ℕ) × AreReady cells spaces × HasRoomAt nodes d cells
+
+-- and for the plans of every decision
+abbrev pub AreReadyForDecisions : List NodeView → Workspaces → Type 0
+AreReadyForDecisions nodes spaces = (cells : ℕ) × AreReady cells spaces
+    × ((d : ℕ) → IsDecision nodes d → HasRoomAt nodes d cells)
+
+-- and for the plans of all utilities' worths
+abbrev pub AreReadyForWorths : List NodeView → Workspaces → Type 0
+AreReadyForWorths nodes spaces =
+    (cells : ℕ) × AreReady cells spaces × HasRoomForWorths nodes cells
 
 -- the workspaces are ready, and have room for the plans of the decision's goals
 abbrev pub AreReadyForGoals : List NodeView → ℕ → Workspaces → Type 0
@@ -58,3 +98,7 @@ AreReadyForGoals nodes d spaces = (cells : ℕ) × AreReady cells spaces
 -- workspaces that a run has left, if any are, are ready again
 abbrev pub AreLeft : Option Workspaces → Type 0
 AreLeft left = IfSome left (λ spaces. AreReady spaces.cells spaces)
+
+-- they are used again where they have room for so many cells
+abbrev pub AreThoseLeft : Option Workspaces → ℕ → Workspaces → Type 0
+AreThoseLeft left cells spaces = IfSome left (λ own. cells ≤ own.cells → spaces ≡ own)

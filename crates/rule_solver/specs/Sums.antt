@@ -1,4 +1,5 @@
 -- The sums of a decision in the part of its scope, as plans give them.
+use Rattle.std.specs.Global.{Vec}
 use Rattle.std.specs.Prelude.{◌≡◌, ◌↔◌, ℕ, ◌<◌, ◌≤◌, ◌+◌, ◌*◌, List, length, slice_index, slice_index_or, Contains, ℤ, pos, ◌+ℤ◌, ◌*ℤ◌, nat_abs}
 use Rattle.maid_model.specs.Diagrams.{IsDiagram, greatest_number}
 use Rattle.maid_model.specs.Gains.{gain_at, mass_at}
@@ -13,7 +14,8 @@ use Rattle.finite_sums.specs.Sums.{World, InRange, sum_each}
 use Rattle.part_laws.specs.ScopeLaws.{HasSmallRules}
 use Rattle.plan_sums.specs.Plans.{gain_cells, plan_sum, gain_plan}
 use Rattle.scope_sums.specs.Missing.{missing_in}
-use Rattle.rule_solver.specs.Reading.{gain_there}
+use Rattle.rule_solver.specs.declared.decision_sums.RowSums.{RowSums}
+use Rattle.rule_solver.specs.Reading.{HasGainForEach, gain_there}
 use Rattle.rule_solver.specs.Rows.{gain_in}
 use Rattle.rule_solver.specs.Totals.{HasTotals}
 
@@ -30,19 +32,27 @@ scope_mass nodes p d row =
 pub record IsRowSums
     (nodes : List NodeView) (p : List RuleView) (d : ℕ) (gains : List ℤ) (masses : List ℕ) : Type 0
   where
-    pub gain_count : length gains ≡ rows_of nodes d * states_of nodes d
+    pub gain_count : HasGainForEach nodes d gains
     pub mass_count : length masses ≡ rows_of nodes d
     pub gain : (state row : ℕ) → state < states_of nodes d → row < rows_of nodes d
         → gain_in gains (states_of nodes d) row state ≡ scope_gain nodes p d state row
     pub mass_there :
         (row : ℕ) → row < rows_of nodes d → pos (slice_index masses row) ≡ scope_mass nodes p d row
 
+-- so the program has them
+abbrev pub AreRowSums : List NodeView → List RuleView → ℕ → RowSums → Type 0
+AreRowSums nodes p d sums = IsRowSums nodes p d sums.gains.items sums.masses.items
+
 -- such gains alone
 pub record IsRowGains (nodes : List NodeView) (p : List RuleView) (d : ℕ) (gains : List ℤ) : Type 0
   where
-    pub gain_count : length gains ≡ rows_of nodes d * states_of nodes d
+    pub gain_count : HasGainForEach nodes d gains
     pub gain : (state row : ℕ) → state < states_of nodes d → row < rows_of nodes d
         → gain_in gains (states_of nodes d) row state ≡ scope_gain nodes p d state row
+
+-- so the program has the gains
+abbrev pub AreRowGains : List NodeView → List RuleView → ℕ → Vec ℤ → Type 0
+AreRowGains nodes p d gains = IsRowGains nodes p d gains.items
 
 -- the gains keep the weight bound, and the masses the P of the scope
 pub record KeepsRoom
@@ -85,7 +95,7 @@ goal_part nodes p d u q = plan_sum gain_cells nodes p (gain_plan nodes d u) q
 pub record HasGoals
     (nodes : List NodeView) (p : List RuleView) (d : ℕ) (goals : List ℕ) (gains : List ℤ) : Type 0
   where
-    pub count : length gains ≡ rows_of nodes d * states_of nodes d
+    pub count : HasGainForEach nodes d gains
     pub each : (q : World) → InRange (states_of nodes) q
         → gain_there gains nodes d q ≡ sum_each (λ u. goal_part nodes p d u q) goals
     pub small : (q : World) → InRange (states_of nodes) q
@@ -94,7 +104,7 @@ pub record HasGoals
 -- a gain for each row and state, with room for what these goals give
 pub record HasRoomFor
     (d : DiagramView) (decision : ℕ) (goals : List ℕ) (gains : List ℤ) : Type 0 where
-  pub count : length gains ≡ rows_of d.nodes decision * states_of d.nodes decision
+  pub count : HasGainForEach d.nodes decision gains
   pub room : (q : World) → InRange (states_of d.nodes) q
       → nat_abs (gain_there gains d.nodes decision q)
       + scope_product d.nodes decision * greatest_of d.nodes goals

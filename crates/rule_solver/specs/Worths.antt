@@ -1,5 +1,7 @@
 -- What utilities give to expected utilities, as plans give it. Only private functions cite it.
+use Rattle.std.specs.Global.{Vec}
 use Rattle.std.specs.Prelude.{◌≡◌, ◌↔◌, ℕ, ◌<◌, ◌≤◌, List, length, slice_index_or, Contains, ℤ, pos, ◌*ℤ◌, if◌then◌else◌}
+use Rattle.maid_model.specs.declared.answers.Ratio.{Ratio}
 use Rattle.maid_model.specs.declared.diagrams.Kind.TheVariants.{Utility}
 use Rattle.maid_model.specs.Diagrams.{IsDiagram, greatest_number}
 use Rattle.maid_model.specs.Gains.{gain_of}
@@ -13,6 +15,8 @@ use Rattle.finite_sums.specs.Sums.{World, InRange}
 use Rattle.part_laws.specs.ScopeLaws.{HasUnitRules}
 use Rattle.plan_sums.specs.Plans.{gain_cells, plan_sum, worth_plan}
 use Rattle.scope_sums.specs.Missing.{missing_in}
+use Rattle.rule_solver.specs.declared.worths.Stake.{Stake}
+use Rattle.rule_solver.specs.Masses.{IsExpected}
 use Rattle.rule_solver.specs.Rooms.{HasRoomForWorths}
 use Rattle.rule_solver.specs.Totals.{HasTotals}
 
@@ -20,6 +24,10 @@ use Rattle.rule_solver.specs.Totals.{HasTotals}
 abbrev pub IsWorth : List NodeView → List RuleView → ℕ → ℤ → Type 0
 IsWorth nodes p u worth =
     (q : World) → InRange (states_of nodes) q → worth ≡ plan_sum gain_cells nodes p (worth_plan u) q
+
+-- so it is if the agent owns the utility
+abbrev pub IsWorthIfOwned : List NodeView → List RuleView → ℕ → ℕ → ℤ → Type 0
+IsWorthIfOwned nodes p agent u worth = IsOwnedBy nodes u agent → IsWorth nodes p u worth
 
 -- the list has the worth of each utility
 pub record HasWorths (nodes : List NodeView) (p : List RuleView) (worths : List ℤ) : Type 0 where
@@ -33,6 +41,10 @@ pub record HasWorthsFor
   pub count : length worths ≡ length nodes
   pub each : (u : ℕ) → u < length nodes → (node_at nodes u).kind ≡ Utility
       → IsOwnedBy nodes u agent → IsWorth nodes p u (slice_index_or worths u (pos 0))
+
+-- so the program has them
+abbrev pub AreWorthsFor : List NodeView → List RuleView → ℕ → Vec ℤ → Type 0
+AreWorthsFor nodes p agent worths = HasWorthsFor nodes p agent worths.items
 
 -- what a node gives to an agent's gain: a utility of the agent its worth times the totals of the scope's nodes that
 -- its plan lacks
@@ -61,7 +73,27 @@ abbrev pub scope_gain_for : List NodeView → List RuleView → ℕ → ℤ
 scope_gain_for nodes p agent =
     gain_of (scope_part_for nodes agent) (rules_in_scope_for nodes p agent) agent
 
+-- room for the plans of all utilities' worths takes at least so many cells
+abbrev pub AreNeededForWorths : List NodeView → ℕ → Type 0
+AreNeededForWorths nodes cells = (fewer : ℕ) → HasRoomForWorths nodes fewer → cells ≤ fewer
+
 -- so many cells are room for the plans of all utilities' worths, and no fewer are
 pub record IsLeastRoom (nodes : List NodeView) (cells : ℕ) : Type 0 where
   pub room : HasRoomForWorths nodes cells
-  pub least : (fewer : ℕ) → HasRoomForWorths nodes fewer → cells ≤ fewer
+  pub least : AreNeededForWorths nodes cells
+
+-- ---- of a stake as the program has it
+abbrev pub HoldsStake : Stake → Type 0
+HoldsStake s =
+    IsStake s.diagram.now s.profile.now s.agent s.totals.now s.worths.now s.scope
+
+-- what a node gives to its agent's gain
+abbrev pub gives_to : Stake → ℕ → ℤ
+gives_to s v = gain_given s.diagram.now.nodes s.profile.now s.agent s.worths.now v
+
+-- its agent's gain, and what its profile is worth to its agent
+abbrev pub gain_to : Stake → ℤ
+gain_to s = scope_gain_for s.diagram.now.nodes s.profile.now s.agent
+
+abbrev pub IsExpectedTo : Stake → Ratio → Type 0
+IsExpectedTo s r = IsExpected s.diagram.now s.profile.now s.agent r

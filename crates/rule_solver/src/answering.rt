@@ -1,6 +1,6 @@
 //! The answers of decisions, one after another.
 
-ghost use Rattle.std.specs.Prelude.{◌≡◌, ℕ, IfOk, OnOk};
+ghost use Rattle.std.specs.Prelude.{◌≡◌, IfOk, OnOk};
 ghost use Rattle.maid_model.specs.Nodes.{IsDecision};
 ghost use Rattle.maid_model.specs.Placing.{IsRelianceOrder};
 ghost use Rattle.maid_model.specs.Profiles.{IsProfile};
@@ -9,8 +9,8 @@ ghost use Rattle.part_laws.specs.ScopeLaws.{HasSmallRules};
 ghost use Rattle.relevance_graph.specs.Relevant.{IsRelevance};
 ghost use Rattle.size_precheck.specs.Decisions.{ArePlans};
 ghost use Rattle.size_precheck.specs.Sizes.{ArePlansOf};
-ghost use Rattle.rule_solver.specs.Answered.{AnswersAll, IsAnsweredBy};
-ghost use Rattle.rule_solver.specs.Rooms.{AreReady, HasRoomAt};
+ghost use Rattle.rule_solver.specs.Rooms.{AreReadyForDecision, AreReadyForDecisions};
+ghost use Rattle.rule_solver.specs.Answered.{AreAnswersInOrder, AreRowsAgainst};
 
 use crate::bases::turn_base;
 use crate::decision_sums::Setting;
@@ -40,10 +40,8 @@ fn answer_decision(
     requires rules { HasSmallRules diagram.now.nodes base.now decision }
     requires bound { KeepsScopedBounds diagram.now }
     requires planned { ArePlansOf diagram.now.nodes decision plans.now.rows plans.now.goals.items }
-    requires ready { (cells : ℕ) × AreReady cells spaces.old
-        × HasRoomAt diagram.now.nodes decision cells }
-    ensures rows { IfOk result (λ v.
-        IsAnsweredBy diagram.now.nodes diagram.now.decimals base.now decision v.items) }
+    requires ready { AreReadyForDecision diagram.now.nodes decision spaces.old }
+    ensures rows { IfOk result (AreRowsAgainst diagram.now base.now decision) }
     ensures again { OnOk result (spaces.new ≡ spaces.old) }
 {
     // The part of the scope has the whole's best states, rows without mass and fractions.
@@ -76,10 +74,8 @@ pub(crate) fn answer_all(
     requires relevance { IsRelevance diagram.now.nodes relevance.now }
     requires order { IsRelianceOrder diagram.now.nodes order.now }
     requires planned { ArePlans diagram.now.nodes order.now plans.now }
-    requires ready { (cells : ℕ) × AreReady cells spaces.old
-        × ((d : ℕ) → IsDecision diagram.now.nodes d → HasRoomAt diagram.now.nodes d cells) }
-    ensures answers { IfOk result (λ v.
-        AnswersAll diagram.now.nodes diagram.now.decimals order.now v.items) }
+    requires ready { AreReadyForDecisions diagram.now.nodes spaces.old }
+    ensures answers { IfOk result (AreAnswersInOrder diagram.now order.now) }
     ensures again { OnOk result (spaces.new ≡ spaces.old) }
 {
     let mut answers = Vec::with_capacity(alloc, order.len())?;

@@ -1,14 +1,12 @@
 //! The base of a decision in the rules chosen so far, made anew or from that of another decision.
 
-ghost use Rattle.std.specs.Prelude.{◌≡◌, ◌↔◌, ◌⊎◌, ◌<◌, ℕ, All, Contains, IfOk, OnOk, length, map, slice_index};
-ghost use Rattle.maid_model.specs.Answers.{FitsAnswer, IsBase, pure_profile};
+ghost use Rattle.std.specs.Prelude.{◌≡◌, ◌<◌, All, IfOk, OnOk, length, map};
+ghost use Rattle.maid_model.specs.Answers.{FitsAnswer};
 ghost use Rattle.maid_model.specs.Graph.{AllDifferent};
 ghost use Rattle.maid_model.specs.Nodes.{IsDecision};
 ghost use Rattle.maid_model.specs.Profiles.{uniform_rule};
-ghost use Rattle.maid_model.specs.Relevance.{ReliesOn};
-ghost use Rattle.node_sets.specs.Sets.{IsIn};
 ghost use Rattle.relevance_graph.specs.Relevant.{IsRelevance};
-ghost use Rattle.rule_solver.specs.Bases.{IsMixed, Turns};
+ghost use Rattle.rule_solver.specs.Bases.{HoldsToo, HoldsWithout, IsAnsweredBase, IsMixed, ReliesOnAnswered, Turns, decision_at};
 ghost use Rattle.rule_solver.specs.Masses.{KeepsStates};
 
 use maid_model::{Answer, Diagram, Profile, Rule, profile_has_rules};
@@ -29,10 +27,8 @@ pub fn base_of(
     requires relevance { IsRelevance diagram.now.nodes relevance.now }
     requires fits { All (FitsAnswer diagram.now.nodes) answers.now }
     requires once { AllDifferent (map (λ a. a.decision) answers.now) }
-    requires relied { (e : ℕ) → ReliesOn diagram.now.nodes decision e
-        → Contains (map (λ a. a.decision) answers.now) e }
-    ensures base { IfOk result (IsBase diagram.now.nodes
-        (pure_profile diagram.now.nodes answers.now) decision) }
+    requires relied { ReliesOnAnswered diagram.now.nodes answers.now decision }
+    ensures base { IfOk result (IsAnsweredBase diagram.now.nodes answers.now decision) }
     ensures room { IfOk result (KeepsStates diagram.now.nodes) }
 {
     // A profile has a rule for each decision.
@@ -75,8 +71,7 @@ fn hold_answered(
     requires place { place < length answers.now }
     requires mixed { IsMixed diagram.now.nodes answers.now held.old base.old }
     ensures mixed { OnOk result (IsMixed diagram.now.nodes answers.now held.new base.new) }
-    ensures holds { OnOk result ((e : ℕ) → IsIn held.new e
-        ↔ (IsIn held.old e ⊎ (e ≡ slice_index (map (λ a. a.decision) answers.now) place))) }
+    ensures holds { OnOk result (HoldsToo (decision_at answers.now place) held.old held.new) }
 {
     // A profile has a rule for each decision.
     profile_has_rules();
@@ -100,8 +95,7 @@ fn hold_uniform(
     requires decision { IsDecision diagram.now.nodes decision }
     requires mixed { IsMixed diagram.now.nodes answers.now held.old base.old }
     ensures mixed { OnOk result (IsMixed diagram.now.nodes answers.now held.new base.new) }
-    ensures holds { OnOk result ((e : ℕ) → IsIn held.new e
-        ↔ (IsIn held.old e × (e ≡ decision → ⊥))) }
+    ensures holds { OnOk result (HoldsWithout decision held.old held.new) }
 {
     profile_has_rules();
     let _count = diagram.count();
@@ -126,8 +120,7 @@ fn turn_one(
     requires place { place < length answers.now }
     requires mixed { IsMixed diagram.now.nodes answers.now held.old base.old }
     ensures mixed { OnOk result (IsMixed diagram.now.nodes answers.now held.new base.new) }
-    ensures turns { OnOk result
-        (Turns (slice_index (map (λ a. a.decision) answers.now) place) relied held.old held.new) }
+    ensures turns { OnOk result (Turns (decision_at answers.now place) relied held.old held.new) }
 {
     let _count = diagram.count();
     let answer = &answers[place];
@@ -160,12 +153,10 @@ pub(crate) fn turn_base(
     requires relevance { IsRelevance diagram.now.nodes relevance.now }
     requires fits { All (FitsAnswer diagram.now.nodes) answers.now }
     requires once { AllDifferent (map (λ a. a.decision) answers.now) }
-    requires relied { (e : ℕ) → ReliesOn diagram.now.nodes decision e
-        → Contains (map (λ a. a.decision) answers.now) e }
+    requires relied { ReliesOnAnswered diagram.now.nodes answers.now decision }
     requires mixed { IsMixed diagram.now.nodes answers.now held.old base.old }
     ensures mixed { OnOk result (IsMixed diagram.now.nodes answers.now held.new base.new) }
-    ensures base { OnOk result (IsBase diagram.now.nodes
-        (pure_profile diagram.now.nodes answers.now) decision base.new) }
+    ensures base { OnOk result (IsAnsweredBase diagram.now.nodes answers.now decision base.new) }
     ensures room { OnOk result (KeepsStates diagram.now.nodes base.new) }
 {
     for place in 0..answers.len() {

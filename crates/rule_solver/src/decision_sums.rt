@@ -1,18 +1,15 @@
 //! The gains and masses of one decision, by plans of elimination in the part of its scope.
 
-ghost use Rattle.std.specs.Prelude.{◌≡◌, ◌*◌, ℕ, ◌≤◌, ◌∷◌, [], All, IfOk, OnOk, length};
-ghost use Rattle.eliminate.specs.Results.{plan_total};
+ghost use Rattle.std.specs.Prelude.{◌≡◌, ◌*◌, ◌≤◌, ◌∷◌, [], All, IfOk, OnOk, length};
 ghost use Rattle.maid_model.specs.declared.limits.TheConstants.{MOST_PLAN_CELLS};
 ghost use Rattle.maid_model.specs.Nodes.{IsDecision, rows_of};
 ghost use Rattle.maid_model.specs.Profiles.{IsProfile};
-ghost use Rattle.maid_model.specs.Relevance.{IsGoal};
-ghost use Rattle.maid_model.specs.Scopes.{KeepsScopedBounds, goals_of, scope_of};
+ghost use Rattle.maid_model.specs.Scopes.{KeepsScopedBounds};
 ghost use Rattle.part_laws.specs.ScopeLaws.{HasSmallRules};
-ghost use Rattle.plan_sums.specs.Plans.{gain_plan, row_plan};
-ghost use Rattle.scope_sums.specs.Missing.{missing_in, missing_in_without};
-ghost use Rattle.size_precheck.specs.Sizes.{ArePlansOf, IsPlanned, ArePlansOfGoals};
-ghost use Rattle.rule_solver.specs.Rooms.{AreReady, HasAtMost, HasRoomAt, IsReady, AreReadyFor, AreReadyForGoals};
-ghost use Rattle.rule_solver.specs.Sums.{AddsGoals, HasGoals, HasMasses, HasRoomFor, IsRowGains, IsRowSums, IsSetting, KeepsRoom};
+ghost use Rattle.size_precheck.specs.Sizes.{ArePlansOf};
+ghost use Rattle.rule_solver.specs.Rooms.{AreNeededForPlans, AreReadyForDecision, HasRoomAt};
+ghost use Rattle.rule_solver.specs.Settings.{AddsGoalsIn, AreGoalPlansIn, ArePlansIn, AreReadyForDecisionIn, AreReadyForGoal, AreReadyForGoalsIn, AreReadyForRows, AreRowSumsIn, HasGoalsIn, HasMassesIn, HasRoomForGoalsIn, HoldsSetting, IsGoalIn, IsPlannedForGoal, IsPlannedForRows, IsReadyForGoal, IsReadyForRows, KeepsRoomIn, goals_in, lacking_in_goal, lacking_in_rows, total_in};
+ghost use Rattle.rule_solver.specs.Sums.{AreRowSums, AreRowGains};
 
 use crate::joint_goals::{add_together, list_goals};
 use crate::numbers::Number;
@@ -62,22 +59,14 @@ impl<'a> Setting<'a> {
         work: &mut Workspace<C>,
         masses: &mut [u128],
     ) -> Result<(), AllocError>
-        requires setting { IsSetting self.now.diagram.now self.now.base.now self.now.decision
-            self.now.totals.now self.now.scope }
-        requires planned { IsPlanned self.now.diagram.now.nodes
-            (row_plan self.now.diagram.now.nodes self.now.decision) plan.now }
-        requires factor { factor ≡ missing_in_without self.now.diagram.now.nodes self.now.base.now
-            self.now.decision (scope_of self.now.diagram.now.nodes self.now.decision)
-            (row_plan self.now.diagram.now.nodes self.now.decision) }
-        requires ready { (cells : ℕ) × IsReady cells work.old
-            × HasAtMost self.now.diagram.now.nodes
-            (row_plan self.now.diagram.now.nodes self.now.decision) cells }
-        requires fits { 2 * plan_total self.now.diagram.now.nodes self.now.base.now plan.now.plan
-            ≤ C.ring.most }
+        requires setting { HoldsSetting self.now }
+        requires planned { IsPlannedForRows self.now plan.now }
+        requires factor { factor ≡ lacking_in_rows self.now }
+        requires ready { IsReadyForRows self.now work.old }
+        requires fits { 2 * total_in self.now plan.now ≤ C.ring.most }
         requires count { length masses.old
             ≡ rows_of self.now.diagram.now.nodes self.now.decision }
-        ensures masses { OnOk result (HasMasses self.now.diagram.now self.now.base.now
-            self.now.decision masses.new) }
+        ensures masses { OnOk result (HasMassesIn self.now masses.new) }
         ensures again { OnOk result (work.new ≡ work.old) }
         ensures len { length masses.new ≡ length masses.old }
     {
@@ -107,16 +96,12 @@ impl<'a> Setting<'a> {
         wide: &mut Workspace<Gain>,
         masses: &mut [u128],
     ) -> Result<(), AllocError>
-        requires setting { IsSetting self.now.diagram.now self.now.base.now self.now.decision
-            self.now.totals.now self.now.scope }
-        requires planned { IsPlanned self.now.diagram.now.nodes
-            (row_plan self.now.diagram.now.nodes self.now.decision) plan.now }
-        requires ready { AreReadyFor self.now.diagram.now.nodes
-            (row_plan self.now.diagram.now.nodes self.now.decision) small.old wide.old }
+        requires setting { HoldsSetting self.now }
+        requires planned { IsPlannedForRows self.now plan.now }
+        requires ready { AreReadyForRows self.now small.old wide.old }
         requires count { length masses.old
             ≡ rows_of self.now.diagram.now.nodes self.now.decision }
-        ensures masses { OnOk result (HasMasses self.now.diagram.now self.now.base.now
-            self.now.decision masses.new) }
+        ensures masses { OnOk result (HasMassesIn self.now masses.new) }
         ensures again { OnOk result ((small.new ≡ small.old) × (wide.new ≡ wide.old)) }
         ensures len { length masses.new ≡ length masses.old }
     {
@@ -139,14 +124,10 @@ impl<'a> Setting<'a> {
         small: &mut Workspace<SmallGain>,
         wide: &mut Workspace<Gain>,
     ) -> Result<Vec<u128>, AllocError>
-        requires setting { IsSetting self.now.diagram.now self.now.base.now self.now.decision
-            self.now.totals.now self.now.scope }
-        requires planned { IsPlanned self.now.diagram.now.nodes
-            (row_plan self.now.diagram.now.nodes self.now.decision) plan.now }
-        requires ready { AreReadyFor self.now.diagram.now.nodes
-            (row_plan self.now.diagram.now.nodes self.now.decision) small.old wide.old }
-        ensures masses { IfOk result (λ masses.
-            HasMasses self.now.diagram.now self.now.base.now self.now.decision masses.items) }
+        requires setting { HoldsSetting self.now }
+        requires planned { IsPlannedForRows self.now plan.now }
+        requires ready { AreReadyForRows self.now small.old wide.old }
+        ensures masses { IfOk result (λ masses. HasMassesIn self.now masses.items) }
         ensures again { OnOk result ((small.new ≡ small.old) × (wide.new ≡ wide.old)) }
     {
         let mut masses = vec![in alloc; 0; self.diagram.rows(self.decision)]?;
@@ -165,22 +146,14 @@ impl<'a> Setting<'a> {
         work: &mut Workspace<C>,
         gains: &mut [i128],
     ) -> Result<(), AllocError>
-        requires setting { IsSetting self.now.diagram.now self.now.base.now self.now.decision
-            self.now.totals.now self.now.scope }
-        requires goal { IsGoal self.now.diagram.now.nodes self.now.decision goal }
-        requires planned { IsPlanned self.now.diagram.now.nodes
-            (gain_plan self.now.diagram.now.nodes self.now.decision goal) plan.now }
-        requires factor { factor ≡ missing_in self.now.diagram.now.nodes self.now.base.now
-            (scope_of self.now.diagram.now.nodes self.now.decision)
-            (gain_plan self.now.diagram.now.nodes self.now.decision goal) }
-        requires ready { (cells : ℕ) × IsReady cells work.old
-            × HasAtMost self.now.diagram.now.nodes
-            (gain_plan self.now.diagram.now.nodes self.now.decision goal) cells }
-        requires fits { 2 * plan_total self.now.diagram.now.nodes self.now.base.now plan.now.plan
-            ≤ C.ring.most }
-        requires room { HasRoomFor self.now.diagram.now self.now.decision (goal ∷ []) gains.old }
-        ensures adds { OnOk result (AddsGoals self.now.diagram.now.nodes self.now.base.now
-            self.now.decision (goal ∷ []) gains.old gains.new) }
+        requires setting { HoldsSetting self.now }
+        requires goal { IsGoalIn self.now goal }
+        requires planned { IsPlannedForGoal self.now goal plan.now }
+        requires factor { factor ≡ lacking_in_goal self.now goal }
+        requires ready { IsReadyForGoal self.now goal work.old }
+        requires fits { 2 * total_in self.now plan.now ≤ C.ring.most }
+        requires room { HasRoomForGoalsIn self.now (goal ∷ []) gains.old }
+        ensures adds { OnOk result (AddsGoalsIn self.now (goal ∷ []) gains.old gains.new) }
         ensures again { OnOk result (work.new ≡ work.old) }
         ensures len { length gains.new ≡ length gains.old }
     {
@@ -210,16 +183,12 @@ impl<'a> Setting<'a> {
         wide: &mut Workspace<Gain>,
         gains: &mut [i128],
     ) -> Result<(), AllocError>
-        requires setting { IsSetting self.now.diagram.now self.now.base.now self.now.decision
-            self.now.totals.now self.now.scope }
-        requires goal { IsGoal self.now.diagram.now.nodes self.now.decision goal }
-        requires planned { IsPlanned self.now.diagram.now.nodes
-            (gain_plan self.now.diagram.now.nodes self.now.decision goal) plan.now }
-        requires ready { AreReadyFor self.now.diagram.now.nodes
-            (gain_plan self.now.diagram.now.nodes self.now.decision goal) small.old wide.old }
-        requires room { HasRoomFor self.now.diagram.now self.now.decision (goal ∷ []) gains.old }
-        ensures adds { OnOk result (AddsGoals self.now.diagram.now.nodes self.now.base.now
-            self.now.decision (goal ∷ []) gains.old gains.new) }
+        requires setting { HoldsSetting self.now }
+        requires goal { IsGoalIn self.now goal }
+        requires planned { IsPlannedForGoal self.now goal plan.now }
+        requires ready { AreReadyForGoal self.now goal small.old wide.old }
+        requires room { HasRoomForGoalsIn self.now (goal ∷ []) gains.old }
+        ensures adds { OnOk result (AddsGoalsIn self.now (goal ∷ []) gains.old gains.new) }
         ensures again { OnOk result ((small.new ≡ small.old) × (wide.new ≡ wide.old)) }
         ensures len { length gains.new ≡ length gains.old }
     {
@@ -243,15 +212,12 @@ impl<'a> Setting<'a> {
         spaces: &mut Workspaces,
         gains: &mut [i128],
     ) -> Result<(), AllocError>
-        requires setting { IsSetting self.now.diagram.now self.now.base.now self.now.decision
-            self.now.totals.now self.now.scope }
-        requires goals { goals.now ≡ goals_of self.now.diagram.now.nodes self.now.decision }
-        requires planned { ArePlansOfGoals self.now.diagram.now.nodes self.now.decision plans.now }
-        requires ready { AreReadyForGoals self.now.diagram.now.nodes self.now.decision spaces.old }
-        requires none { HasGoals self.now.diagram.now.nodes self.now.base.now self.now.decision []
-            gains.old }
-        ensures gains { OnOk result (HasGoals self.now.diagram.now.nodes self.now.base.now
-            self.now.decision goals.now gains.new) }
+        requires setting { HoldsSetting self.now }
+        requires goals { goals.now ≡ goals_in self.now }
+        requires planned { AreGoalPlansIn self.now plans.now }
+        requires ready { AreReadyForGoalsIn self.now spaces.old }
+        requires none { HasGoalsIn self.now [] gains.old }
+        ensures gains { OnOk result (HasGoalsIn self.now goals.now gains.new) }
         ensures again { OnOk result (spaces.new ≡ spaces.old) }
         ensures len { length gains.new ≡ length gains.old }
     {
@@ -274,13 +240,10 @@ impl<'a> Setting<'a> {
         plans: &[Plan],
         spaces: &mut Workspaces,
     ) -> Result<Vec<i128>, AllocError>
-        requires setting { IsSetting self.now.diagram.now self.now.base.now self.now.decision
-            self.now.totals.now self.now.scope }
-        requires planned { ArePlansOfGoals self.now.diagram.now.nodes self.now.decision plans.now }
-        requires ready { AreReadyForGoals self.now.diagram.now.nodes self.now.decision spaces.old }
-        ensures gains { IfOk result (λ gains.
-            HasGoals self.now.diagram.now.nodes self.now.base.now self.now.decision
-            (goals_of self.now.diagram.now.nodes self.now.decision) gains.items) }
+        requires setting { HoldsSetting self.now }
+        requires planned { AreGoalPlansIn self.now plans.now }
+        requires ready { AreReadyForGoalsIn self.now spaces.old }
+        ensures gains { IfOk result (λ gains. HasGoalsIn self.now (goals_in self.now) gains.items) }
         ensures again { OnOk result (spaces.new ≡ spaces.old) }
     {
         let rows = self.diagram.rows(self.decision);
@@ -297,18 +260,11 @@ impl<'a> Setting<'a> {
         plans: &DecisionPlans,
         spaces: &mut Workspaces,
     ) -> Result<RowSums, AllocError>
-        requires setting { IsSetting self.now.diagram.now self.now.base.now self.now.decision
-            self.now.totals.now self.now.scope }
-        requires planned { ArePlansOf self.now.diagram.now.nodes self.now.decision plans.now.rows
-            plans.now.goals.items }
-        requires ready { (cells : ℕ) × AreReady cells spaces.old
-            × HasRoomAt self.now.diagram.now.nodes self.now.decision cells }
-        ensures sums { IfOk result (λ sums.
-            IsRowSums self.now.diagram.now.nodes self.now.base.now self.now.decision
-            sums.gains.items sums.masses.items) }
-        ensures room { IfOk result (λ sums.
-            KeepsRoom self.now.diagram.now.nodes self.now.decision sums.gains.items
-            sums.masses.items) }
+        requires setting { HoldsSetting self.now }
+        requires planned { ArePlansIn self.now plans.now }
+        requires ready { AreReadyForDecisionIn self.now spaces.old }
+        ensures sums { IfOk result (AreRowSumsIn self.now) }
+        ensures room { IfOk result (KeepsRoomIn self.now) }
         ensures again { OnOk result (spaces.new ≡ spaces.old) }
     {
         plans_sum_scopes();
@@ -322,8 +278,7 @@ impl<'a> Setting<'a> {
 fn most_cells(plans: &DecisionPlans) -> u128
     ensures rows { plans.now.rows.size.cells ≤ result }
     ensures goals { All (λ plan. plan.size.cells ≤ result) plans.now.goals.items }
-    ensures least { (n : ℕ) → plans.now.rows.size.cells ≤ n
-        → All (λ plan. plan.size.cells ≤ n) plans.now.goals.items → result ≤ n }
+    ensures least { AreNeededForPlans plans.now result }
 {
     let mut most = plans.rows.size().cells;
     for plan in &plans.goals {
@@ -356,10 +311,8 @@ pub fn row_sums_by(
     requires rules { HasSmallRules diagram.now.nodes profile.now decision }
     requires bound { KeepsScopedBounds diagram.now }
     requires planned { ArePlansOf diagram.now.nodes decision plans.now.rows plans.now.goals.items }
-    requires ready { (cells : ℕ) × AreReady cells spaces.old
-        × HasRoomAt diagram.now.nodes decision cells }
-    ensures sums { IfOk result (λ sums.
-        IsRowSums diagram.now.nodes profile.now decision sums.gains.items sums.masses.items) }
+    requires ready { AreReadyForDecision diagram.now.nodes decision spaces.old }
+    ensures sums { IfOk result (AreRowSums diagram.now.nodes profile.now decision) }
     ensures again { OnOk result (spaces.new ≡ spaces.old) }
 {
     let totals = list_totals(alloc, diagram, profile)?;
@@ -391,10 +344,8 @@ pub fn row_gains_by(
     requires rules { HasSmallRules diagram.now.nodes profile.now decision }
     requires bound { KeepsScopedBounds diagram.now }
     requires planned { ArePlansOf diagram.now.nodes decision plans.now.rows plans.now.goals.items }
-    requires ready { (cells : ℕ) × AreReady cells spaces.old
-        × HasRoomAt diagram.now.nodes decision cells }
-    ensures gains { IfOk result (λ gains.
-        IsRowGains diagram.now.nodes profile.now decision gains.items) }
+    requires ready { AreReadyForDecision diagram.now.nodes decision spaces.old }
+    ensures gains { IfOk result (AreRowGains diagram.now.nodes profile.now decision) }
     ensures again { OnOk result (spaces.new ≡ spaces.old) }
 {
     plans_sum_scopes();
@@ -432,8 +383,7 @@ pub fn row_sums(
     requires rules { HasSmallRules diagram.now.nodes profile.now decision }
     requires bound { KeepsScopedBounds diagram.now }
     requires room { HasRoomAt diagram.now.nodes decision MOST_PLAN_CELLS }
-    ensures { IfOk result (λ sums.
-        IsRowSums diagram.now.nodes profile.now decision sums.gains.items sums.masses.items) }
+    ensures { IfOk result (AreRowSums diagram.now.nodes profile.now decision) }
 {
     // A plan that is made again has as many cells.
     greedy_orders();

@@ -7,14 +7,11 @@
 
 ghost use Rattle.std.specs.Prelude.{◌≡◌, ◌↔◌, ◌+◌, ◌*◌, ◌<◌, ◌≤◌, ℕ, [], Contains, IfOk, IfSome, IsTrue, OnOk, drop, length, map, sum_by, take};
 ghost use Rattle.maid_model.specs.Graph.{AllDifferent};
-ghost use Rattle.maid_model.specs.Scopes.{goals_of};
-ghost use Rattle.joint_sums.specs.Joint.{value_bound};
-ghost use Rattle.cell_rings.specs.Rings.{most_size};
 ghost use Rattle.node_sets.specs.declared.sets.TheConstants.{MOST_NODES};
-ghost use Rattle.size_precheck.specs.Sizes.{ArePlansOfGoals};
+ghost use Rattle.joint_sums.specs.Joint.{AreGoals};
 ghost use Rattle.rule_solver.specs.Rooms.{IsReady};
-ghost use Rattle.rule_solver.specs.Sums.{AddsGoals, HasGoals, HasRoomFor, IsSetting};
-ghost use Rattle.rule_solver.specs.Together.{AreOfGoals, FitsPairs, IsJoint, IsListed, IsStepOf, ListsMore, goal_in};
+ghost use Rattle.rule_solver.specs.Settings.{AreGoalPlansIn, HasGoalsIn, HasRoomForGoalsIn, HoldsSetting, IsJointIn, goals_in, AddsFirstGoalsIn};
+ghost use Rattle.rule_solver.specs.Together.{FitsPairs, IsListed, IsStepOf, ListsMore, goal_in, FitsPairsOfFirst, IsBoundOrNone};
 
 use crate::decision_sums::Setting;
 use crate::reading::{add_gains, list_scope};
@@ -108,14 +105,13 @@ fn list_steps(alloc: Global, plans: &[Plan]) -> Result<Vec<usize>, AllocError>
 /// The bound with one goal more, where it still fits.
 fn with_goal(diagram: &Diagram, bound: u128, goal: usize) -> Option<u128>
     requires { goal < length diagram.now.nodes }
-    ensures { IfSome result (λ more.
-        (more ≡ bound * value_bound diagram.now.nodes goal) × (more ≤ most_size)) }
+    ensures { IsBoundOrNone diagram.now.nodes bound goal result }
 {
     let value = greatest_value(diagram, Some(goal)).checked_mul(2)?;
     bound.checked_mul(value).filter(|more| *more <= MOST_SIZE)
 }
 
-/// The number of the plan's utility, and 0 where it has none.
+/// The number of the plan's utility, and 0 where it has none, which plans of goals never lack.
 fn goal_in(plan: &Plan) -> usize
     ensures { result ≡ goal_in plan.now }
 {
@@ -179,14 +175,11 @@ impl Joint {
         goals: &[usize],
         plans: &[Plan],
     ) -> Result<Joint, AllocError>
-        requires setting { IsSetting setting.now.diagram.now setting.now.base.now
-            setting.now.decision setting.now.totals.now setting.now.scope }
-        requires goals { goals.now ≡ goals_of setting.now.diagram.now.nodes setting.now.decision }
+        requires setting { HoldsSetting setting.now }
+        requires goals { goals.now ≡ goals_in setting.now }
         requires some { 0 < length goals.now }
-        requires planned { ArePlansOfGoals setting.now.diagram.now.nodes setting.now.decision
-            plans.now }
-        ensures { IfOk result (IsJoint setting.now.diagram.now.nodes setting.now.base.now
-            setting.now.decision) }
+        requires planned { AreGoalPlansIn setting.now plans.now }
+        ensures { IfOk result (IsJointIn setting.now) }
     {
         let mut left_out = NodeSet::of(setting.decision);
         left_out.insert_all(goals);
@@ -202,8 +195,7 @@ impl Joint {
     fn fitting(&self, diagram: &Diagram, goals: &[usize]) -> usize
         requires { (u : ℕ) → Contains goals.now u → u < length diagram.now.nodes }
         ensures few { result ≤ length goals.now }
-        ensures fits { 0 < result
-            → FitsPairs diagram.now.nodes self.now.total (take result goals.now) }
+        ensures fits { FitsPairsOfFirst diagram.now.nodes self.now.total goals.now result }
     {
         let mut bound = self.total;
         for (count, goal) in goals.iter().enumerate() {
@@ -226,20 +218,14 @@ impl Joint {
         work: &mut Workspace<Both>,
         gains: &mut [i128],
     ) -> Result<usize, AllocError>
-        requires setting { IsSetting setting.now.diagram.now setting.now.base.now
-            setting.now.decision setting.now.totals.now setting.now.scope }
-        requires joint { IsJoint setting.now.diagram.now.nodes setting.now.base.now
-            setting.now.decision self.now }
-        requires goals { AreOfGoals setting.now.diagram.now.nodes setting.now.decision goals.now }
-        requires some { 0 < length goals.now }
+        requires setting { HoldsSetting setting.now }
+        requires joint { IsJointIn setting.now self.now }
+        requires goals { AreGoals setting.now.diagram.now.nodes setting.now.decision goals.now }
         requires fits { FitsPairs setting.now.diagram.now.nodes self.now.total goals.now }
         requires ready { IsReady limits.cells work.old }
-        requires room { HasRoomFor setting.now.diagram.now setting.now.decision goals.now
-            gains.old }
+        requires room { HasRoomForGoalsIn setting.now goals.now gains.old }
         ensures few { IfOk result (λ n. n ≤ length goals.now) }
-        ensures adds { IfOk result (λ n.
-            AddsGoals setting.now.diagram.now.nodes setting.now.base.now setting.now.decision
-            (take n goals.now) gains.old gains.new) }
+        ensures adds { IfOk result (AddsFirstGoalsIn setting.now goals.now gains.old gains.new) }
         ensures space { OnOk result (length work.new.cells + work.new.spare ≡ limits.cells) }
         ensures len { length gains.new ≡ length gains.old }
     {
@@ -284,19 +270,14 @@ impl Joint {
         work: &mut Workspace<Both>,
         gains: &mut [i128],
     ) -> Result<usize, AllocError>
-        requires setting { IsSetting setting.now.diagram.now setting.now.base.now
-            setting.now.decision setting.now.totals.now setting.now.scope }
-        requires joint { IsJoint setting.now.diagram.now.nodes setting.now.base.now
-            setting.now.decision self.now }
-        requires goals { AreOfGoals setting.now.diagram.now.nodes setting.now.decision goals.now }
+        requires setting { HoldsSetting setting.now }
+        requires joint { IsJointIn setting.now self.now }
+        requires goals { AreGoals setting.now.diagram.now.nodes setting.now.decision goals.now }
         requires plans { length plans.now ≡ length goals.now }
         requires ready { IsReady cells work.old }
-        requires room { HasRoomFor setting.now.diagram.now setting.now.decision goals.now
-            gains.old }
+        requires room { HasRoomForGoalsIn setting.now goals.now gains.old }
         ensures few { IfOk result (λ n. n ≤ length goals.now) }
-        ensures adds { IfOk result (λ n.
-            AddsGoals setting.now.diagram.now.nodes setting.now.base.now setting.now.decision
-            (take n goals.now) gains.old gains.new) }
+        ensures adds { IfOk result (AddsFirstGoalsIn setting.now goals.now gains.old gains.new) }
         ensures again { OnOk result (work.new ≡ work.old) }
         ensures len { length gains.new ≡ length gains.old }
     {
@@ -328,18 +309,13 @@ pub(crate) fn add_together(
     work: &mut Workspace<Both>,
     gains: &mut [i128],
 ) -> Result<usize, AllocError>
-    requires setting { IsSetting setting.now.diagram.now setting.now.base.now setting.now.decision
-        setting.now.totals.now setting.now.scope }
-    requires goals { goals.now ≡ goals_of setting.now.diagram.now.nodes setting.now.decision }
-    requires planned { ArePlansOfGoals setting.now.diagram.now.nodes setting.now.decision
-        plans.now }
+    requires setting { HoldsSetting setting.now }
+    requires goals { goals.now ≡ goals_in setting.now }
+    requires planned { AreGoalPlansIn setting.now plans.now }
     requires ready { IsReady cells work.old }
-    requires none { HasGoals setting.now.diagram.now.nodes setting.now.base.now
-        setting.now.decision [] gains.old }
+    requires none { HasGoalsIn setting.now [] gains.old }
     ensures few { IfOk result (λ n. n ≤ length goals.now) }
-    ensures gains { IfOk result (λ n.
-        HasGoals setting.now.diagram.now.nodes setting.now.base.now setting.now.decision
-        (take n goals.now) gains.new) }
+    ensures gains { IfOk result (λ n. HasGoalsIn setting.now (take n goals.now) gains.new) }
     ensures again { OnOk result (work.new ≡ work.old) }
     ensures len { length gains.new ≡ length gains.old }
 {

@@ -2,7 +2,7 @@
 
 ghost use Rattle.std.specs.Prelude.{IfOk, IfSome};
 ghost use Rattle.relevance_graph.specs.Relevant.{IsRelevance};
-ghost use Rattle.rule_solver.specs.Kept.{IsKeptDiagram, KeptDiagramsStand};
+ghost use Rattle.rule_solver.specs.Kept.{IsKeptDiagram, KeepsAllPlans, KeptDiagramsStand, HasAllSearches};
 
 use maid_model::Diagram;
 use relevance_graph::{
@@ -25,7 +25,10 @@ pub struct KeptDiagram {
 ///
 /// Only where memory runs out.
 pub fn keep_diagram(alloc: Global, diagram: &Diagram) -> Result<KeptDiagram, AllocError>
-    ensures { IfOk result (IsKeptDiagram diagram.now.nodes) }
+    ensures kept { IfOk result (IsKeptDiagram diagram.now.nodes) }
+    // Nothing is left out: the plans of each decision are kept, and the search for it.
+    ensures plans { IfOk result (λ kept. KeepsAllPlans diagram.now.nodes kept.plans) }
+    ensures searches { IfOk result (HasAllSearches diagram.now.nodes) }
 {
     let plans = keep_plans(alloc, diagram)?;
     let searches = keep_searches(alloc, diagram)?;

@@ -33,8 +33,6 @@ mod rows;
 mod solving;
 mod spaces;
 mod state_sums;
-#[cfg(test)]
-mod tests;
 mod totals;
 mod widths;
 mod worths;

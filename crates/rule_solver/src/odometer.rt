@@ -1,10 +1,10 @@
 //! The choices of states of some of a diagram's nodes, one after another.
 
-ghost use Rattle.std.specs.Prelude.{◌≡◌, ◌<◌, ◌+◌, ◌%◌, ℕ, Contains, length, slice_index};
+ghost use Rattle.std.specs.Prelude.{◌<◌, ℕ, Contains, length};
 ghost use Rattle.maid_model.specs.Graph.{AllDifferent};
-ghost use Rattle.maid_model.specs.Nodes.{counts_of, rows_under, states_of};
-ghost use Rattle.maid_model.specs.Tables.{row_from};
-ghost use Rattle.maid_model.specs.Worlds.{IsWorld, world_of};
+ghost use Rattle.maid_model.specs.Nodes.{counts_of};
+ghost use Rattle.maid_model.specs.Worlds.{IsWorld};
+ghost use Rattle.rule_solver.specs.Reading.{IsNextRow, KeepsOtherStates};
 
 use maid_model::{Diagram, World};
 
@@ -15,11 +15,8 @@ pub(crate) fn next_over(world: &mut World, diagram: &Diagram, nodes: &[usize])
     requires once { AllDifferent nodes.now }
     requires known { (v : ℕ) → Contains nodes.now v → v < length diagram.now.nodes }
     ensures world { IsWorld (counts_of diagram.now.nodes) world.new }
-    ensures row { row_from (states_of diagram.now.nodes) (world_of world.new) 0 nodes.now
-        ≡ (row_from (states_of diagram.now.nodes) (world_of world.old) 0 nodes.now + 1)
-        % rows_under (states_of diagram.now.nodes) nodes.now }
-    ensures others { (v : ℕ) → (Contains nodes.now v → ⊥)
-        → slice_index world.new v ≡ slice_index world.old v }
+    ensures row { IsNextRow diagram.now.nodes nodes.now world.old world.new }
+    ensures others { KeepsOtherStates nodes.now world.old world.new }
 {
     let mut i = nodes.len();
     while i > 0 {

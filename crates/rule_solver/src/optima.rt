@@ -1,13 +1,12 @@
 //! The optimum of an agent that decides alone: choices of its decisions, and what they are worth to it. What a row or
 //! another agent gets is left out.
 
-ghost use Rattle.std.specs.Prelude.{◌≡◌, ◌<◌, ◌≤◌, ◌^◌, ◌*◌, ◌≤ℤ◌, ℕ, IfOk, IfSome, OnOk, length};
+ghost use Rattle.std.specs.Prelude.{◌≡◌, ◌<◌, ◌≤◌, ◌*◌, IfOk, IfSome, OnOk, length};
 ghost use Rattle.first_fault.specs.Answers.{Passes};
 ghost use Rattle.maid_model.specs.declared.limits.TheConstants.{MOST_PLAN_CELLS};
 ghost use Rattle.maid_model.specs.declared.diagrams.Kind.TheVariants.{Utility};
-ghost use Rattle.maid_model.specs.Answers.{IsExpectedUtility};
 ghost use Rattle.maid_model.specs.Diagrams.{IsDiagram};
-ghost use Rattle.maid_model.specs.Nodes.{IsDecision, IsOwnedBy, node_at};
+ghost use Rattle.maid_model.specs.Nodes.{IsDecision, node_at};
 ghost use Rattle.maid_model.specs.Placing.{IsRelianceOrder};
 ghost use Rattle.maid_model.specs.Profiles.{IsProfile};
 ghost use Rattle.maid_model.specs.Scopes.{KeepsScopedBounds};
@@ -20,11 +19,12 @@ ghost use Rattle.size_precheck.specs.Decisions.{ArePlans};
 ghost use Rattle.size_precheck.specs.Sizes.{ArePlansOf, IsPlanned, ArePlansOfWorths};
 ghost use Rattle.rule_solver.specs.Faults.{solve_fault, solve_pass};
 ghost use Rattle.rule_solver.specs.Kept.{IsKeptDiagram};
+ghost use Rattle.rule_solver.specs.Masses.{IsExpected};
 ghost use Rattle.rule_solver.specs.Optima.{ChoosesAll, ChoosesRows, IsChosenBy};
-ghost use Rattle.rule_solver.specs.Rooms.{AreLeft, AreReady, HasRoom, HasRoomAt, HasRoomForWorths, IsReady, AreReadyFor};
-ghost use Rattle.rule_solver.specs.Rows.{gain_in};
+ghost use Rattle.rule_solver.specs.Rooms.{AreBothReadyForWorths, AreLeft, AreReadyFor, AreReadyForDecision, AreReadyForDecisions, AreReadyForWorths, HasRoom};
+ghost use Rattle.rule_solver.specs.Rows.{IsBest, gain_in};
 ghost use Rattle.rule_solver.specs.Totals.{HasTotals};
-ghost use Rattle.rule_solver.specs.Worths.{HasWorthsFor, IsWorth};
+ghost use Rattle.rule_solver.specs.Worths.{IsWorthIfOwned, AreWorthsFor};
 
 use crate::SolveFault;
 use crate::bases::turn_base;
@@ -52,8 +52,7 @@ fn choice_at(gains: &[i128], rows: usize, states: usize, row: usize) -> usize
     requires some { 0 < states }
     requires row { row < rows }
     ensures within { result < states }
-    ensures best { (s : ℕ) → s < states
-        → gain_in gains.now states row s ≤ℤ gain_in gains.now states row result }
+    ensures best { IsBest (gain_in gains.now states row) states result }
 {
     let start = row * states;
     first_best(&gains[start..start + states])
@@ -96,8 +95,7 @@ fn choose(
     requires rules { HasSmallRules diagram.now.nodes base.now decision }
     requires bound { KeepsScopedBounds diagram.now }
     requires planned { ArePlansOf diagram.now.nodes decision plans.now.rows plans.now.goals.items }
-    requires ready { (cells : ℕ) × AreReady cells spaces.old
-        × HasRoomAt diagram.now.nodes decision cells }
+    requires ready { AreReadyForDecision diagram.now.nodes decision spaces.old }
     ensures rows { IfOk result (λ v. IsChosenBy diagram.now.nodes base.now decision v.items) }
     ensures again { OnOk result (spaces.new ≡ spaces.old) }
 {
@@ -124,8 +122,7 @@ fn choose_all(
     requires relevance { IsRelevance diagram.now.nodes relevance.now }
     requires order { IsRelianceOrder diagram.now.nodes order.now }
     requires planned { ArePlans diagram.now.nodes order.now plans.now }
-    requires ready { (cells : ℕ) × AreReady cells spaces.old
-        × ((d : ℕ) → IsDecision diagram.now.nodes d → HasRoomAt diagram.now.nodes d cells) }
+    requires ready { AreReadyForDecisions diagram.now.nodes spaces.old }
     ensures answers { IfOk result (λ v. ChoosesAll diagram.now.nodes order.now v.items) }
     ensures again { OnOk result (spaces.new ≡ spaces.old) }
 {
@@ -166,8 +163,7 @@ fn worth_for(
     requires totals { HasTotals diagram.now.nodes profile.now totals.now }
     requires planned { IsPlanned diagram.now.nodes (worth_plan utility) plan.now }
     requires ready { AreReadyFor diagram.now.nodes (worth_plan utility) small.old wide.old }
-    ensures worth { IsOwnedBy diagram.now.nodes utility agent
-        → IsWorth diagram.now.nodes profile.now utility result }
+    ensures worth { IsWorthIfOwned diagram.now.nodes profile.now agent utility result }
     ensures again { (small.new ≡ small.old) × (wide.new ≡ wide.old) }
 {
     if diagram.owns(agent, utility) {
@@ -193,10 +189,8 @@ fn list_worths_for(
     requires bound { KeepsScopedBounds diagram.now }
     requires totals { HasTotals diagram.now.nodes profile.now totals.now }
     requires planned { ArePlansOfWorths diagram.now.nodes plans.now }
-    requires ready { (cells : ℕ) × IsReady cells small.old × IsReady cells wide.old
-        × HasRoomForWorths diagram.now.nodes cells }
-    ensures worths { IfOk result (λ worths.
-        HasWorthsFor diagram.now.nodes profile.now agent worths.items) }
+    requires ready { AreBothReadyForWorths diagram.now.nodes small.old wide.old }
+    ensures worths { IfOk result (AreWorthsFor diagram.now.nodes profile.now agent) }
     ensures again { OnOk result ((small.new ≡ small.old) × (wide.new ≡ wide.old)) }
 {
     let mut worths = Vec::with_capacity(alloc, diagram.count())?;
@@ -229,10 +223,8 @@ fn expected_for(
     requires profile { IsProfile diagram.now.nodes profile.now }
     requires pure { HasUnitRules diagram.now.nodes profile.now }
     requires planned { ArePlansOfWorths diagram.now.nodes plans.now }
-    requires ready { (cells : ℕ) × AreReady cells spaces.old
-        × HasRoomForWorths diagram.now.nodes cells }
-    ensures worth { IfOk result (IsExpectedUtility diagram.now.nodes (10 ^ diagram.now.decimals)
-        profile.now agent) }
+    requires ready { AreReadyForWorths diagram.now.nodes spaces.old }
+    ensures worth { IfOk result (IsExpected diagram.now profile.now agent) }
     ensures again { OnOk result (spaces.new ≡ spaces.old) }
 {
     let _agents = diagram.agents();

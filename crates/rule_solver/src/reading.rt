@@ -1,13 +1,11 @@
 //! The last table of a plan, read into a decision's gains and masses.
 
-ghost use Rattle.std.specs.Prelude.{◌≡◌, ◌<◌, ◌≤◌, ◌+◌, ◌*◌, ◌*ℤ◌, ◌+ℤ◌, ◌↔◌, [], ◌∷◌, ◌++◌, ℕ, IfOk, IsTrue, MatchOption, OnErr, OnOk, Contains, length, nat_abs, pos, slice_index, slice_index_or, slice_set};
-ghost use Rattle.cell_rings.specs.Sums.{cell_at};
+ghost use Rattle.std.specs.Prelude.{◌≡◌, ◌↔◌, ◌<◌, ◌≤◌, ◌*◌, [], ◌∷◌, ◌++◌, IfOk, IsTrue, OnErr, OnOk, length, nat_abs, slice_set};
 ghost use Rattle.factor_core.specs.Slots.{IsLive, nodes_in};
 ghost use Rattle.maid_model.specs.Diagrams.{greatest_number};
-ghost use Rattle.maid_model.specs.Nodes.{IsDecision, parents_of, rows_of, states_of};
-ghost use Rattle.node_sets.specs.declared.sets.TheConstants.{MOST_NODES};
-ghost use Rattle.node_sets.specs.Sets.{holds, IsFirstFrom, IsIn};
-ghost use Rattle.rule_solver.specs.Reading.{AddsTable, PutsTable, cell_number, HasRoomToAdd, FitTimes};
+ghost use Rattle.maid_model.specs.Nodes.{IsDecision, parents_of, rows_of};
+ghost use Rattle.node_sets.specs.Sets.{holds};
+ghost use Rattle.rule_solver.specs.Reading.{AddsEach, AddsSlot, FitEach, FitsSlot, HasGainForEach, HasRoomAtPlace, HasRoomForEach, HasRoomForSlot, IsOverNodes, PutsSlot, added_at, number_at, PutsCells};
 
 use crate::numbers::{HasNumber, Number};
 use crate::odometer::next_over;
@@ -15,18 +13,6 @@ use factor_core::{Slot, Strip, Workspace};
 use maid_model::{Diagram, World};
 use node_sets::NodeSet;
 use std::alloc::{AllocError, Global};
-
-/// The first number of the set from this one on, if it is below the end.
-fn next_in(set: &NodeSet, from: usize, end: usize) -> Option<usize>
-    requires { from ≤ MOST_NODES }
-    ensures { MatchOption result ((v : ℕ) → from ≤ v → v < end → IsIn set.now v → ⊥)
-        (λ v. IsFirstFrom set.now from v × (v < end)) }
-{
-    match set.first_from(from) {
-        Some(v) if v < end => Some(v),
-        _ => None,
-    }
-}
 
 /// The nodes of the scope in ascending order.
 pub(crate) fn list_scope(
@@ -39,7 +25,7 @@ pub(crate) fn list_scope(
     let count = diagram.count();
     let mut nodes = Vec::new(alloc);
     let mut from = 0;
-    'listing: while let Some(v) = next_in(scope, from, count) {
+    'listing: while let Some(v) = scope.first_between(from, count) {
         nodes.push(v)?;
         from = v + 1;
     }
@@ -50,27 +36,25 @@ pub(crate) fn list_scope(
 fn add_number(gains: &mut [i128], at: usize, number: i128, factor: u128)
     requires at { at < length gains.old }
     requires factor { factor ≤ greatest_number }
-    requires room { nat_abs (slice_index_or gains.old at (pos 0)) + nat_abs (number *ℤ pos factor)
-        ≤ greatest_number }
-    ensures { gains.new
-        ≡ slice_set gains.old at (slice_index_or gains.old at (pos 0) +ℤ (number *ℤ pos factor)) }
+    requires room { HasRoomAtPlace gains.old at number factor }
+    ensures { gains.new ≡ slice_set gains.old at (added_at gains.old at number factor) }
 {
     gains[at] += number * factor as i128;
 }
 
 /// Whether the lists are the same.
 fn is_same(one: &[usize], other: &[usize]) -> bool
-    ensures { IsTrue result → one.now ≡ other.now }
+    ensures { IsTrue result ↔ (one.now ≡ other.now) }
 {
     one == other
 }
 
 /// Whether the list is the parents and then the decision.
 fn is_own_order(list: &[usize], parents: &[usize], decision: usize) -> bool
-    ensures { IsTrue result → list.now ≡ parents.now ++ decision ∷ [] }
+    ensures { IsTrue result ↔ (list.now ≡ parents.now ++ decision ∷ []) }
 {
     match list.split_last() {
-        Some((last, front)) => *last == decision && front == parents,
+        Some((last, front)) => *last == decision && is_same(front, parents),
         None => false,
     }
 }
@@ -79,14 +63,9 @@ fn is_own_order(list: &[usize], parents: &[usize], decision: usize) -> bool
 fn add_cells<C: HasNumber>(cells: &[C], factor: u128, gains: &mut [i128])
     requires len { length cells.now ≡ length gains.old }
     requires factor { factor ≤ greatest_number }
-    requires room { (i : ℕ) → i < length gains.old
-        → nat_abs (slice_index_or gains.old i (pos 0))
-        + nat_abs (C.number (cell_at C.ring cells.now i) *ℤ pos factor) ≤ greatest_number }
+    requires room { HasRoomForEach (number_at C.number C.ring cells.now) factor gains.old }
     ensures len { length gains.new ≡ length gains.old }
-    ensures each { (i : ℕ) → i < length gains.old
-        → slice_index_or gains.new i (pos 0)
-        ≡ slice_index_or gains.old i (pos 0)
-        +ℤ (C.number (cell_at C.ring cells.now i) *ℤ pos factor) }
+    ensures each { AddsEach (number_at C.number C.ring cells.now) factor gains.old gains.new }
 {
     for (at, cell) in cells.iter().enumerate() {
         add_number(gains, at, cell.number(), factor);
@@ -109,16 +88,13 @@ fn add_by_worlds<C: HasNumber>(
 ) -> Result<(), AllocError>
     requires decision { IsDecision diagram.now.nodes decision }
     requires live { IsLive diagram.now.nodes work.now.cells slot.now }
-    requires scope { (v : ℕ) → IsIn slot.now.scope v
-        ↔ Contains (decision ∷ parents_of diagram.now.nodes decision) v }
-    requires gains { length gains.old
-        ≡ rows_of diagram.now.nodes decision * states_of diagram.now.nodes decision }
+    requires scope { IsOverNodes slot.now (decision ∷ parents_of diagram.now.nodes decision) }
+    requires gains { HasGainForEach diagram.now.nodes decision gains.old }
     requires factor { factor ≤ greatest_number }
-    requires room { HasRoomToAdd diagram.now.nodes decision
-        (cell_number C.number C.ring diagram.now.nodes work.now.cells slot.now) factor gains.old }
-    ensures adds { OnOk result (AddsTable diagram.now.nodes decision
-        (cell_number C.number C.ring diagram.now.nodes work.now.cells slot.now) factor gains.old
-        gains.new) }
+    requires room { HasRoomForSlot C.number C.ring diagram.now decision work.now slot.now factor
+        gains.old }
+    ensures adds { OnOk result (AddsSlot C.number C.ring diagram.now decision work.now slot.now
+        factor gains.old gains.new) }
     ensures stays { OnErr result (gains.new ≡ gains.old) }
     ensures len { length gains.new ≡ length gains.old }
 {
@@ -154,16 +130,13 @@ pub(crate) fn add_gains<C: HasNumber>(
 ) -> Result<(), AllocError>
     requires decision { IsDecision diagram.now.nodes decision }
     requires live { IsLive diagram.now.nodes work.now.cells slot.now }
-    requires scope { (v : ℕ) → IsIn slot.now.scope v
-        ↔ Contains (decision ∷ parents_of diagram.now.nodes decision) v }
-    requires gains { length gains.old
-        ≡ rows_of diagram.now.nodes decision * states_of diagram.now.nodes decision }
+    requires scope { IsOverNodes slot.now (decision ∷ parents_of diagram.now.nodes decision) }
+    requires gains { HasGainForEach diagram.now.nodes decision gains.old }
     requires factor { factor ≤ greatest_number }
-    requires room { HasRoomToAdd diagram.now.nodes decision
-        (cell_number C.number C.ring diagram.now.nodes work.now.cells slot.now) factor gains.old }
-    ensures adds { OnOk result (AddsTable diagram.now.nodes decision
-        (cell_number C.number C.ring diagram.now.nodes work.now.cells slot.now) factor gains.old
-        gains.new) }
+    requires room { HasRoomForSlot C.number C.ring diagram.now decision work.now slot.now factor
+        gains.old }
+    ensures adds { OnOk result (AddsSlot C.number C.ring diagram.now decision work.now slot.now
+        factor gains.old gains.new) }
     ensures stays { OnErr result (gains.new ≡ gains.old) }
     ensures len { length gains.new ≡ length gains.old }
 {
@@ -190,11 +163,9 @@ fn mass_of(number: i128, factor: u128) -> u128
 /// Writes each cell, times the factor, as the mass at its place.
 fn put_cells<C: Number>(cells: &[C], factor: u128, masses: &mut [u128])
     requires len { length cells.now ≡ length masses.old }
-    requires room { (i : ℕ) → i < length masses.old
-        → nat_abs (C.number (cell_at C.ring cells.now i)) * factor ≤ greatest_number }
+    requires room { FitEach (number_at C.number C.ring cells.now) factor (length masses.old) }
     ensures len { length masses.new ≡ length masses.old }
-    ensures each { (i : ℕ) → i < length masses.old
-        → slice_index masses.new i ≡ nat_abs (C.number (cell_at C.ring cells.now i)) * factor }
+    ensures each { PutsCells C.number C.ring cells.now factor masses.old masses.new }
 {
     for (at, cell) in cells.iter().enumerate() {
         let mass = mass_of(cell.number(), factor);
@@ -218,13 +189,11 @@ fn put_by_worlds<C: Number>(
 ) -> Result<(), AllocError>
     requires decision { IsDecision diagram.now.nodes decision }
     requires live { IsLive diagram.now.nodes work.now.cells slot.now }
-    requires scope { (v : ℕ) → IsIn slot.now.scope v
-        ↔ Contains (parents_of diagram.now.nodes decision) v }
+    requires scope { IsOverNodes slot.now (parents_of diagram.now.nodes decision) }
     requires masses { length masses.old ≡ rows_of diagram.now.nodes decision }
-    requires room { FitTimes diagram.now.nodes
-        (cell_number C.number C.ring diagram.now.nodes work.now.cells slot.now) factor }
-    ensures puts { OnOk result (PutsTable diagram.now.nodes decision
-        (cell_number C.number C.ring diagram.now.nodes work.now.cells slot.now) factor masses.new) }
+    requires room { FitsSlot C.number C.ring diagram.now work.now slot.now factor }
+    ensures puts { OnOk result (PutsSlot C.number C.ring diagram.now decision work.now slot.now
+        factor masses.new) }
     ensures stays { OnErr result (masses.new ≡ masses.old) }
     ensures len { length masses.new ≡ length masses.old }
 {
@@ -260,13 +229,11 @@ pub(crate) fn put_masses<C: Number>(
 ) -> Result<(), AllocError>
     requires decision { IsDecision diagram.now.nodes decision }
     requires live { IsLive diagram.now.nodes work.now.cells slot.now }
-    requires scope { (v : ℕ) → IsIn slot.now.scope v
-        ↔ Contains (parents_of diagram.now.nodes decision) v }
+    requires scope { IsOverNodes slot.now (parents_of diagram.now.nodes decision) }
     requires masses { length masses.old ≡ rows_of diagram.now.nodes decision }
-    requires room { FitTimes diagram.now.nodes
-        (cell_number C.number C.ring diagram.now.nodes work.now.cells slot.now) factor }
-    ensures puts { OnOk result (PutsTable diagram.now.nodes decision
-        (cell_number C.number C.ring diagram.now.nodes work.now.cells slot.now) factor masses.new) }
+    requires room { FitsSlot C.number C.ring diagram.now work.now slot.now factor }
+    ensures puts { OnOk result (PutsSlot C.number C.ring diagram.now decision work.now slot.now
+        factor masses.new) }
     ensures stays { OnErr result (masses.new ≡ masses.old) }
     ensures len { length masses.new ≡ length masses.old }
 {

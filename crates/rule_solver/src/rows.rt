@@ -1,9 +1,9 @@
 //! The answer of one row.
 
-ghost use Rattle.std.specs.Prelude.{◌≡◌, ◌<◌, ◌≤◌, ◌+◌, ◌*◌, ℕ, All, IfOk, IfSome, length, pos, nat_abs, slice_index, slice_index_or};
+ghost use Rattle.std.specs.Prelude.{◌≡◌, ◌<◌, ◌≤◌, ◌*◌, All, IfOk, IfSome, length, pos, nat_abs, slice_index, slice_index_or};
 ghost use Rattle.maid_model.specs.Answers.{IsFirstBest, IsReduced};
 ghost use Rattle.maid_model.specs.Diagrams.{greatest_number};
-ghost use Rattle.rule_solver.specs.Rows.{AnswersRow, AnswersRows, gain_in};
+ghost use Rattle.rule_solver.specs.Rows.{AnswersList, AreGainsOfRow, FitNumbers, FitScaled, AnswersGains, AnswersInList};
 
 use crate::fractions::fraction;
 use maid_model::Row;
@@ -29,8 +29,7 @@ fn answer_row(gains: &[i128], mass: u128, scale: u128) -> Row
     requires scale { 0 < scale }
     requires room { mass * scale ≤ greatest_number }
     requires small { All (λ gain. nat_abs gain ≤ greatest_number) gains.now }
-    ensures row { AnswersRow (λ s. slice_index_or gains.now s (pos 0)) (length gains.now) mass scale
-        result }
+    ensures row { AnswersGains gains.now mass scale result }
     ensures choice { result.choice < length gains.now }
     ensures reduced { IfSome result.worth IsReduced }
 {
@@ -51,11 +50,9 @@ fn answer_row(gains: &[i128], mass: u128, scale: u128) -> Row
 fn row_gains(gains: &[i128], rows: usize, states: usize, row: usize) -> &[i128]
     requires all { length gains.now ≡ rows * states }
     requires row { row < rows }
-    requires small { (i : ℕ) → i < length gains.now
-        → nat_abs (slice_index_or gains.now i (pos 0)) ≤ greatest_number }
+    requires small { FitNumbers gains.now }
     ensures count { length result.now ≡ states }
-    ensures gains { (s : ℕ) → s < states
-        → slice_index_or result.now s (pos 0) ≡ gain_in gains.now states row s }
+    ensures gains { AreGainsOfRow gains.now states row result.now }
     ensures small { All (λ gain. nat_abs gain ≤ greatest_number) result.now }
 {
     let start = row * states;
@@ -69,10 +66,8 @@ fn answer_at(gains: &[i128], masses: &[u128], states: usize, scale: u128, row: u
     requires scale { 0 < scale }
     requires row { row < length masses.now }
     requires room { slice_index masses.now row * scale ≤ greatest_number }
-    requires small { (i : ℕ) → i < length gains.now
-        → nat_abs (slice_index_or gains.now i (pos 0)) ≤ greatest_number }
-    ensures row { AnswersRow (gain_in gains.now states row) states (slice_index masses.now row)
-        scale result }
+    requires small { FitNumbers gains.now }
+    ensures row { AnswersInList gains.now masses.now states scale row result }
     ensures choice { result.choice < states }
     ensures reduced { IfSome result.worth IsReduced }
 {
@@ -95,13 +90,9 @@ pub(crate) fn answer_rows(
     requires all { length gains.now ≡ length masses.now * states }
     requires some { 0 < states }
     requires scale { 0 < scale }
-    requires room { (row : ℕ) → row < length masses.now
-        → slice_index masses.now row * scale ≤ greatest_number }
-    requires small { (i : ℕ) → i < length gains.now
-        → nat_abs (slice_index_or gains.now i (pos 0)) ≤ greatest_number }
-    ensures rows { IfOk result (λ v.
-        AnswersRows (gain_in gains.now states) (slice_index masses.now) states scale
-        (length masses.now) v.items) }
+    requires room { FitScaled masses.now scale }
+    requires small { FitNumbers gains.now }
+    ensures rows { IfOk result (λ v. AnswersList gains.now masses.now states scale v.items) }
 {
     let mut rows = Vec::with_capacity(alloc, masses.len())?;
     for row in 0..masses.len() {

@@ -2,18 +2,18 @@
 
 ghost use Rattle.std.specs.Prelude.{◌≡◌, ℕ, ◌≤◌, IfOk, OnOk};
 ghost use Rattle.first_fault.specs.Answers.{Passes};
-ghost use Rattle.maid_model.specs.Answers.{IsAnswer, KeepsWorth, answered};
+ghost use Rattle.maid_model.specs.Answers.{IsAnswer, KeepsWorth};
 ghost use Rattle.maid_model.specs.Diagrams.{IsDiagram};
 ghost use Rattle.maid_model.specs.declared.limits.TheConstants.{MOST_PLAN_CELLS};
 ghost use Rattle.maid_model.specs.Placing.{IsRelianceOrder};
 ghost use Rattle.maid_model.specs.Scopes.{KeepsScopedBounds};
-ghost use Rattle.maid_model.specs.Subgames.{IsOptimal, IsSubgamePerfect, OwnsAll};
 ghost use Rattle.maid_model.specs.Values.{PrintsOptima};
 ghost use Rattle.relevance_graph.specs.Relevant.{IsRelevance};
 ghost use Rattle.size_precheck.specs.Decisions.{ArePlans};
 ghost use Rattle.rule_solver.specs.Faults.{solve_fault, solve_pass};
 ghost use Rattle.rule_solver.specs.Rooms.{AreReady, HasRoom};
 ghost use Rattle.size_precheck.specs.Sizes.{ArePlansOfWorths};
+ghost use Rattle.rule_solver.specs.Solved.{HasOptimalProfile, HasPerfectProfile};
 
 use crate::SolveFault;
 use crate::answering::answer_all;
@@ -126,12 +126,9 @@ pub fn solve(alloc: Global, diagram: &Diagram) -> Result<Solved, SolveFault>
     ensures rows { Passes solve_fault (solve_pass diagram.now) result }
     ensures ok { IfOk result (IsAnswer diagram.now) }
     // From no subgame start does an agent gain by other rules of its own.
-    ensures subgame_perfect { IfOk result (λ solved.
-        IsSubgamePerfect diagram.now.nodes (answered diagram.now solved)) }
+    ensures subgame_perfect { IfOk result (HasPerfectProfile diagram.now) }
     // No profile is worth more to an agent that owns all decisions.
-    ensures optimal { IfOk result (λ solved.
-        (agent : ℕ) → OwnsAll diagram.now.nodes agent
-        → IsOptimal diagram.now.nodes (answered diagram.now solved) agent) }
+    ensures optimal { IfOk result (HasOptimalProfile diagram.now) }
     // So what is printed for such an agent is the optimum of the diagram.
     ensures optimum { IfOk result (PrintsOptima diagram.now) }
     // In a row that the answered profile reaches, the printed worth is also that under the profile itself.

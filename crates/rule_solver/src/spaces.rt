@@ -2,7 +2,7 @@
 
 ghost use Rattle.std.specs.Prelude.{◌≤◌, IfOk};
 ghost use Rattle.maid_model.specs.declared.limits.TheConstants.{MOST_PLAN_CELLS};
-ghost use Rattle.rule_solver.specs.Rooms.{AreLeft, AreReady};
+ghost use Rattle.rule_solver.specs.Rooms.{AreLeft, AreReady, AreThoseLeft};
 
 use cell_rings::{Both, Gain, SmallGain};
 use factor_core::Workspace;
@@ -53,6 +53,7 @@ impl Workspaces {
         requires left { AreLeft left }
         ensures ready { IfOk result (λ spaces. AreReady spaces.cells spaces) }
         ensures room { IfOk result (λ spaces. cells ≤ spaces.cells) }
+        ensures same { IfOk result (AreThoseLeft left cells) }
     {
         if let Some(spaces) = left {
             if spaces.cells >= cells {

@@ -1,12 +1,12 @@
 //! What plans that keep one node sum to at a state of the node.
 
-ghost use Rattle.std.specs.Prelude.{◌≡◌, ◌<◌, ◌≤◌, ◌*◌, ◌∷◌, [], ℕ, IfOk, OnOk, length};
+ghost use Rattle.std.specs.Prelude.{◌≡◌, ◌<◌, ◌≤◌, ◌*◌, ◌∷◌, [], IfOk, OnOk, length};
 ghost use Rattle.cell_rings.specs.Rings.{most_size};
 ghost use Rattle.eliminate.specs.Results.{plan_total};
 ghost use Rattle.maid_model.specs.Nodes.{states_of};
 ghost use Rattle.maid_model.specs.Profiles.{IsProfile};
 ghost use Rattle.size_precheck.specs.Sizes.{IsPlanned};
-ghost use Rattle.rule_solver.specs.Rooms.{AreReady, HasAtMost, IsReady};
+ghost use Rattle.rule_solver.specs.Rooms.{AreReadyForPlan, IsReadyFor};
 ghost use Rattle.rule_solver.specs.StateSums.{IsSumAt};
 
 use crate::numbers::Number;
@@ -33,8 +33,7 @@ fn run_at<C: Number>(
     requires profile { IsProfile diagram.now.nodes profile.now }
     requires keep { plan.now.plan.keep ≡ node ∷ [] }
     requires planned { IsPlanned diagram.now.nodes plan.now.plan plan.now }
-    requires ready { (cells : ℕ) × IsReady cells work.old
-        × HasAtMost diagram.now.nodes plan.now.plan cells }
+    requires ready { IsReadyFor diagram.now.nodes plan.now.plan work.old }
     requires fits { 2 * plan_total diagram.now.nodes profile.now plan.now.plan ≤ C.ring.most }
     ensures sum { IsSumAt diagram.now.nodes profile.now plan.now.plan node state result }
     ensures again { work.new ≡ work.old }
@@ -69,8 +68,7 @@ pub fn sum_at(
     requires keep { plan.now.plan.keep ≡ node ∷ [] }
     requires planned { IsPlanned diagram.now.nodes plan.now.plan plan.now }
     requires fits { 2 * plan_total diagram.now.nodes profile.now plan.now.plan ≤ most_size }
-    requires ready { (cells : ℕ) × AreReady cells spaces.old
-        × HasAtMost diagram.now.nodes plan.now.plan cells }
+    requires ready { AreReadyForPlan diagram.now.nodes plan.now.plan spaces.old }
     ensures sum { IfOk result (IsSumAt diagram.now.nodes profile.now plan.now.plan node state) }
     ensures again { OnOk result (spaces.new ≡ spaces.old) }
 {

@@ -1,16 +1,16 @@
 //! Which plans fit cells of 64 bits.
 
-ghost use Rattle.std.specs.Prelude.{◌≡◌, ◌⊎◌, ◌↔◌, ◌*◌, ◌<◌, ◌≤◌, ℕ, List, Contains, IsTrue, Some, length, slice_index};
+ghost use Rattle.std.specs.Prelude.{◌≡◌, ◌⊎◌, ◌↔◌, ◌*◌, ◌<◌, ◌≤◌, ℕ, IsTrue, Some, length, slice_index};
 ghost use Rattle.cell_rings.specs.Rings.{most_size, small_size};
-ghost use Rattle.eliminate.specs.Results.{greatest_value, plan_total};
+ghost use Rattle.eliminate.specs.Results.{greatest_value};
 ghost use Rattle.maid_model.specs.Diagrams.{IsDiagram};
 ghost use Rattle.maid_model.specs.Gains.{greatest_abs};
-ghost use Rattle.maid_model.specs.Views.{RuleView};
 ghost use Rattle.node_sets.specs.declared.sets.TheConstants.{MOST_NODES};
 ghost use Rattle.node_sets.specs.Sets.{IsIn};
 ghost use Rattle.plan_sums.specs.Plans.{PlanView};
-ghost use Rattle.rule_solver.specs.Totals.{HasTotals};
 ghost use Rattle.size_precheck.specs.Sizes.{IsPlanned};
+ghost use Rattle.eliminate.specs.Steps.{HasOwnTable};
+ghost use Rattle.rule_solver.specs.Totals.{FitsByTotals, TellsSmall, HasMembersBelow};
 
 use crate::totals::product_in;
 use maid_model::Diagram;
@@ -22,12 +22,9 @@ const MOST_SMALL: u128 = (1 << 62) - 1;
 
 /// The nodes whose own tables the plan has: its members but for the decision left out.
 fn ruled_nodes(plan: &Plan) -> NodeSet
-    requires members { (v : ℕ) → (Contains plan.now.plan.keep v ⊎ Contains plan.now.steps v)
-        → v < MOST_NODES }
+    requires members { HasMembersBelow MOST_NODES plan.now }
     requires without { (d : ℕ) → plan.now.plan.without ≡ Some d → d < MOST_NODES }
-    ensures { (v : ℕ) → IsIn result v
-        ↔ ((Contains plan.now.plan.keep v ⊎ Contains plan.now.steps v)
-        × (plan.now.plan.without ≡ Some v → ⊥)) }
+    ensures { (v : ℕ) → IsIn result v ↔ HasOwnTable plan.now v }
 {
     let mut ruled = plan.members();
     if let Some(d) = plan.without() {
@@ -70,10 +67,8 @@ pub(crate) fn fits_small(diagram: &Diagram, totals: &[u128], plan: &Plan) -> boo
     requires diagram { IsDiagram diagram.now }
     requires planned { (asked : PlanView) × IsPlanned diagram.now.nodes asked plan.now }
     requires some { (v : ℕ) → v < length totals.now → 0 < slice_index totals.now v }
-    requires fits { (p : List RuleView) × HasTotals diagram.now.nodes p totals.now
-        × (2 * plan_total diagram.now.nodes p plan.now.plan ≤ most_size) }
-    ensures { (p : List RuleView) → HasTotals diagram.now.nodes p totals.now
-        → IsTrue result ↔ (2 * plan_total diagram.now.nodes p plan.now.plan ≤ small_size) }
+    requires fits { FitsByTotals diagram.now.nodes totals.now plan.now.plan most_size }
+    ensures { TellsSmall diagram.now.nodes totals.now plan.now.plan result }
 {
     let tables = product_in(totals, &ruled_nodes(plan));
     let value = greatest_value(diagram, plan.utility());

@@ -1,10 +1,9 @@
 //! What a plan is worth to each agent, as reduced fractions.
 
-ghost use Rattle.std.specs.Prelude.{◌≡◌, ◌<◌, ◌≤◌, ◌*◌, ◌^◌, ℕ, true, IfOk, OnOk, length, nat_abs};
+ghost use Rattle.std.specs.Prelude.{◌≡◌, ◌<◌, ◌≤◌, ◌*◌, ◌^◌, true, IfOk, OnOk, length, nat_abs};
 ghost use Rattle.eliminate.specs.Results.{plan_total};
 ghost use Rattle.maid_model.specs.declared.limits.TheConstants.{MOST_PLAN_CELLS};
 ghost use Rattle.maid_model.specs.declared.diagrams.Kind.TheVariants.{Utility};
-ghost use Rattle.maid_model.specs.Answers.{IsExpectedUtility};
 ghost use Rattle.maid_model.specs.Diagrams.{IsDiagram, greatest_number};
 ghost use Rattle.maid_model.specs.Nodes.{is_utility_of, node_at};
 ghost use Rattle.maid_model.specs.Profiles.{IsProfile};
@@ -13,9 +12,9 @@ ghost use Rattle.part_laws.specs.ScopeLaws.{HasUnitRules};
 ghost use Rattle.plan_sums.specs.Plans.{worth_plan};
 ghost use Rattle.size_precheck.specs.Sizes.{IsPlanned, ArePlansOfWorths};
 ghost use Rattle.rule_solver.specs.Masses.{HasGains};
-ghost use Rattle.rule_solver.specs.Rooms.{AreReady, HasAtMost, HasRoomForWorths, IsReady, AreReadyFor};
+ghost use Rattle.rule_solver.specs.Rooms.{AreBothReadyForWorths, AreReadyFor, AreReadyForWorths, HasRoomForWorth, HasRoomForWorths, IsReadyFor};
 ghost use Rattle.rule_solver.specs.Totals.{HasTotals};
-ghost use Rattle.rule_solver.specs.Worths.{HasWorths, IsLeastRoom, IsStake, IsWorth, gain_given, scope_gain_for};
+ghost use Rattle.rule_solver.specs.Worths.{AreNeededForWorths, HasWorths, HoldsStake, IsExpectedTo, IsLeastRoom, IsWorth, gain_to, gives_to};
 
 use crate::fractions::fraction;
 use crate::numbers::Number;
@@ -51,8 +50,7 @@ fn run_worth<C: Number>(
 ) -> i128
     requires profile { IsProfile diagram.now.nodes profile.now }
     requires planned { IsPlanned diagram.now.nodes (worth_plan utility) plan.now }
-    requires ready { (cells : ℕ) × IsReady cells work.old
-        × HasAtMost diagram.now.nodes (worth_plan utility) cells }
+    requires ready { IsReadyFor diagram.now.nodes (worth_plan utility) work.old }
     requires fits { 2 * plan_total diagram.now.nodes profile.now plan.now.plan ≤ C.ring.most }
     ensures worth { IsWorth diagram.now.nodes profile.now utility result }
     ensures again { work.new ≡ work.old }
@@ -108,8 +106,7 @@ fn list_worths(
     requires bound { KeepsScopedBounds diagram.now }
     requires totals { HasTotals diagram.now.nodes profile.now totals.now }
     requires planned { ArePlansOfWorths diagram.now.nodes plans.now }
-    requires ready { (cells : ℕ) × IsReady cells small.old × IsReady cells wide.old
-        × HasRoomForWorths diagram.now.nodes cells }
+    requires ready { AreBothReadyForWorths diagram.now.nodes small.old wide.old }
     ensures worths { IfOk result (λ worths. HasWorths diagram.now.nodes profile.now worths.items) }
     ensures again { OnOk result ((small.new ≡ small.old) × (wide.new ≡ wide.old)) }
 {
@@ -145,13 +142,10 @@ pub(crate) struct Stake<'a> {
 impl<'a> Stake<'a> {
     /// What the utility gives to the agent's gain: its worth times the totals of the scope's nodes that its plan lacks.
     fn given(&self, utility: usize) -> i128
-        requires stake { IsStake self.now.diagram.now self.now.profile.now self.now.agent
-            self.now.totals.now self.now.worths.now self.now.scope }
+        requires stake { HoldsStake self.now }
         requires within { utility < length self.now.diagram.now.nodes }
         requires owned { is_utility_of self.now.diagram.now.nodes self.now.agent utility ≡ true }
-        ensures { result
-            ≡ gain_given self.now.diagram.now.nodes self.now.profile.now self.now.agent
-            self.now.worths.now utility }
+        ensures { result ≡ gives_to self.now utility }
     {
         descent_is_tested();
         plans_keep_scopes();
@@ -163,12 +157,9 @@ impl<'a> Stake<'a> {
 
     /// The same of any node: 0 where it is none of the agent's utilities.
     fn given_by(&self, v: usize) -> i128
-        requires stake { IsStake self.now.diagram.now self.now.profile.now self.now.agent
-            self.now.totals.now self.now.worths.now self.now.scope }
+        requires stake { HoldsStake self.now }
         requires within { v < length self.now.diagram.now.nodes }
-        ensures { result
-            ≡ gain_given self.now.diagram.now.nodes self.now.profile.now self.now.agent
-            self.now.worths.now v }
+        ensures { result ≡ gives_to self.now v }
     {
         let owned = self.diagram.owns(self.agent, v);
         match self.diagram.kind(v) {
@@ -179,10 +170,8 @@ impl<'a> Stake<'a> {
 
     /// The agent's gain in the part of its scope.
     fn gain(&self) -> i128
-        requires stake { IsStake self.now.diagram.now self.now.profile.now self.now.agent
-            self.now.totals.now self.now.worths.now self.now.scope }
-        ensures gain { result
-            ≡ scope_gain_for self.now.diagram.now.nodes self.now.profile.now self.now.agent }
+        requires stake { HoldsStake self.now }
+        ensures gain { result ≡ gain_to self.now }
         ensures small { nat_abs result ≤ greatest_number }
     {
         plans_sum_scopes();
@@ -196,10 +185,8 @@ impl<'a> Stake<'a> {
 
     /// What the profile is worth to the agent.
     pub(crate) fn expected(&self) -> Ratio
-        requires stake { IsStake self.now.diagram.now self.now.profile.now self.now.agent
-            self.now.totals.now self.now.worths.now self.now.scope }
-        ensures { IsExpectedUtility self.now.diagram.now.nodes (10 ^ self.now.diagram.now.decimals)
-            self.now.profile.now self.now.agent result }
+        requires stake { HoldsStake self.now }
+        ensures { IsExpectedTo self.now result }
     {
         // The part of the scope has the whole's fraction, and its mass is the product of the scope's totals.
         scopes_are_parts();
@@ -223,8 +210,7 @@ pub(crate) fn expected_along(
     requires profile { IsProfile diagram.now.nodes profile.now }
     requires pure { HasUnitRules diagram.now.nodes profile.now }
     requires planned { ArePlansOfWorths diagram.now.nodes plans.now }
-    requires ready { (cells : ℕ) × AreReady cells spaces.old
-        × HasRoomForWorths diagram.now.nodes cells }
+    requires ready { AreReadyForWorths diagram.now.nodes spaces.old }
     ensures gains { IfOk result (λ v. HasGains diagram.now profile.now diagram.now.agents v.items) }
     ensures again { OnOk result (spaces.new ≡ spaces.old) }
 {
@@ -268,8 +254,7 @@ pub fn expected_by(
     requires bound { KeepsScopedBounds diagram.now }
     requires profile { IsProfile diagram.now.nodes profile.now }
     requires pure { HasUnitRules diagram.now.nodes profile.now }
-    requires ready { (cells : ℕ) × AreReady cells spaces.old
-        × HasRoomForWorths diagram.now.nodes cells }
+    requires ready { AreReadyForWorths diagram.now.nodes spaces.old }
     ensures gains { IfOk result (λ v. HasGains diagram.now profile.now diagram.now.agents v.items) }
     ensures again { OnOk result (spaces.new ≡ spaces.old) }
 {
@@ -281,11 +266,8 @@ pub fn expected_by(
 fn worth_cells(alloc: Global, diagram: &Diagram, v: usize) -> Result<usize, AllocError>
     requires within { v < length diagram.now.nodes }
     requires room { HasRoomForWorths diagram.now.nodes MOST_PLAN_CELLS }
-    ensures room { IfOk result (λ cells.
-        (node_at diagram.now.nodes v).kind ≡ Utility
-        → HasAtMost diagram.now.nodes (worth_plan v) cells) }
-    ensures least { IfOk result (λ cells.
-        (fewer : ℕ) → HasRoomForWorths diagram.now.nodes fewer → cells ≤ fewer) }
+    ensures room { IfOk result (HasRoomForWorth diagram.now.nodes v) }
+    ensures least { IfOk result (AreNeededForWorths diagram.now.nodes) }
 {
     greedy_orders();
     match diagram.kind(v) {

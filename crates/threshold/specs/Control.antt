@@ -16,6 +16,6 @@ abbrev pub IsControlled : DiagramView → ℕ → Option RelevanceView → Type 
 IsControlled d x known =
     MatchOption known (CannotDecide d x) (IsRelevance (as_decision d.nodes 0 x))
 
--- it is known that the decision d does not rely on x there
+-- it is known that the decision v does not rely on x there
 abbrev pub IsFree : Option RelevanceView → ℕ → ℕ → Type 0
-IsFree known d x = MatchOption known ⊥ (λ relevance. ReliesTo relevance d x → ⊥)
+IsFree known v x = MatchOption known ⊥ (λ relevance. ReliesTo relevance v x → ⊥)

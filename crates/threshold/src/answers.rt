@@ -3,9 +3,8 @@
 ghost use Rattle.std.specs.Prelude.{◌≡◌, ◌↔◌, ℕ, All, IfOk, IsTrue, OnOk};
 ghost use Rattle.maid_model.specs.Answers.{answered};
 ghost use Rattle.relevance_graph.specs.Relevant.{IsRelevance};
-ghost use Rattle.rule_solver.specs.Rooms.{AreReady, HasRoom, HasRoomAt};
-ghost use Rattle.size_precheck.specs.Decisions.{ArePlans};
-ghost use Rattle.size_precheck.specs.Sizes.{ArePlansOf};
+ghost use Rattle.rule_solver.specs.Rooms.{AreReadyForDecision, AreReady, HasRoom};
+ghost use Rattle.size_precheck.specs.Decisions.{AreDecisionPlans, ArePlans};
 ghost use Rattle.threshold.specs.Answers.{HoldsAllAnswers, HoldsAnswer, IsAnswerOf, IsAsked};
 ghost use Rattle.threshold.specs.Answers.{IsHeld, IsSetting, Stands};
 ghost use Rattle.threshold.specs.Held.{IsRange, Narrows};
@@ -75,10 +74,9 @@ impl<'a> Question<'a> {
         requires setting { IsAsked self.now }
         requires relevance { IsRelevance self.now.diagram.now.nodes relevance.now }
         requires answer { IsAnswerOf self.now.solved.now answer.now }
-        requires planned { ArePlansOf self.now.diagram.now.nodes answer.now.decision plans.now.rows
-            plans.now.goals.items }
-        requires ready { (cells : ℕ) × AreReady cells spaces.old
-            × HasRoomAt self.now.diagram.now.nodes answer.now.decision cells }
+        requires planned { AreDecisionPlans self.now.diagram.now.nodes answer.now.decision plans.now }
+        requires ready { AreReadyForDecision self.now.diagram.now.nodes answer.now.decision
+            spaces.old }
         requires range { IsRange held }
         ensures held { IfOk result (Narrows (HoldsAnswer self.now answer.now) held) }
         ensures again { OnOk result (spaces.new ≡ spaces.old) }
@@ -112,10 +110,9 @@ impl<'a> Question<'a> {
         requires setting { IsAsked self.now }
         requires relevance { IsRelevance self.now.diagram.now.nodes relevance.now }
         requires answer { IsAnswerOf self.now.solved.now answer.now }
-        requires planned { ArePlansOf self.now.diagram.now.nodes answer.now.decision plans.now.rows
-            plans.now.goals.items }
-        requires ready { (cells : ℕ) × AreReady cells spaces.old
-            × HasRoomAt self.now.diagram.now.nodes answer.now.decision cells }
+        requires planned { AreDecisionPlans self.now.diagram.now.nodes answer.now.decision plans.now }
+        requires ready { AreReadyForDecision self.now.diagram.now.nodes answer.now.decision
+            spaces.old }
         requires range { IsRange held }
         ensures held { IfOk result (Narrows (HoldsAnswer self.now answer.now) held) }
         ensures again { OnOk result (spaces.new ≡ spaces.old) }

@@ -3,6 +3,7 @@ pub mod Given
 pub mod Laws
 pub mod Numeral
 pub mod Plain
+pub mod Range
 pub mod Rows
 pub mod Scaling
 pub mod ScopePlaces

@@ -1,12 +1,12 @@
 -- The value of a numeral: a sign or none, digits with at most one point, and an exponent or none.
-use Rattle.std.specs.Prelude.{◌≡◌, ◌≤◌, ℕ, ◌+◌, ◌-◌, ◌*◌, ◌^◌, ℤ, pos, neg_ℤ, Bool, true, false, List, [], ◌∷◌, ◌++◌, length, take, drop, fold, ◌==◌, if◌then◌else◌}
+use Rattle.std.specs.Prelude.{◌≡◌, ◌<◌, ◌≤◌, ℕ, ◌+◌, ◌-◌, ◌*◌, ◌^◌, ℤ, pos, neg_ℤ, Bool, true, false, List, [], ◌∷◌, ◌++◌, length, take, drop, fold, ◌==◌, if◌then◌else◌}
 use Rattle.std.specs.List.{prefix_len, list_all}
 use Rattle.net_lexer.specs.Bytes.{is_digit}
 use Rattle.net_lexer.specs.Numerals.{without_sign}
 use Rattle.net_lexer.specs.Pieces.{begins}
 use Rattle.whole_num.specs.Fractions.{IsSameFraction}
 use Rattle.weight_scale.specs.declared.decimal.Decimal.{Decimal}
-use Rattle.weight_scale.specs.declared.digits.TheConstants.{FEW}
+use Rattle.weight_scale.specs.declared.digits.TheConstants.{FEW, HALF_FEW, HALF_FEW_END}
 
 -- the digits at the front
 abbrev pub front_digits : List ℕ → List ℕ
@@ -53,6 +53,15 @@ number_of digits = number_behind 0 digits
 -- digits alone, and so few that 64 bits surely have room for their number
 abbrev pub AreFewDigits : List ℕ → Type 0
 AreFewDigits bytes = (length bytes ≤ FEW) × (list_all is_digit bytes ≡ true)
+
+-- the number and the digits behind it are so few that 64 bits surely have room for both together
+abbrev pub AreFewBehind : ℕ → List ℕ → Type 0
+AreFewBehind number digits = (number < HALF_FEW_END) × (length digits ≤ HALF_FEW)
+
+-- what stands there is no point with digits alone behind it
+abbrev pub IsNoPointAndDigits : List ℕ → Type 0
+IsNoPointAndDigits bytes =
+    (decimals : List ℕ) → bytes ≡ 46 ∷ decimals → list_all is_digit decimals ≡ true → ⊥
 
 -- the size of an exponent
 abbrev pub exponent_size : List ℕ → ℕ

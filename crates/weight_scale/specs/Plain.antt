@@ -2,7 +2,7 @@
 use Rattle.std.specs.Prelude.{◌≡◌, ◌<◌, ◌≤◌, ◌/◌, ℕ, ℤ, unsigned_abs, List, All, length, map, sum}
 use Rattle.std.specs.Int.{◌∣◌}
 use Rattle.maid_model.specs.Diagrams.{greatest_number}
-use Rattle.weight_scale.specs.Scaling.{row_at, IsScaled}
+use Rattle.weight_scale.specs.Scaling.{row_at, AreFaultless, IsScaled}
 use Rattle.weight_scale.specs.declared.decimal.Decimal.{Decimal}
 use Rattle.maid_model.specs.Tables.{IsTable}
 
@@ -14,6 +14,11 @@ AreWhole rows cells = (map (λ d. d.m) rows ≡ cells) × All (λ d. d.k ≡ 0) 
 abbrev pub AreOwnWeights : List ℤ → ℕ → ℕ → Type 0
 AreOwnWeights cells states total = (rows : List Decimal) → AreWhole rows cells
     → IsScaled rows states (record { weights = cells; total = total })
+
+-- such decimals have no fault
+abbrev pub AreFaultlessAlone : List ℤ → ℕ → Type 0
+AreFaultlessAlone cells states =
+    (rows : List Decimal) → AreWhole rows cells → AreFaultless rows states
 
 -- they are a table of that total
 abbrev pub AreOwnTable : List ℤ → ℕ → ℕ → Type 0

@@ -1,9 +1,11 @@
 -- How a row is reduced. The parts of `scale_rows` speak of it; what it promises doesn't.
-use Rattle.std.specs.Prelude.{◌≡◌, ◌<◌, ◌≤◌, ◌*◌, ◌/◌, ℕ, ℤ, unsigned_abs, List, ◌++◌, map, length, sum, All, ◌⊎◌}
+use Rattle.std.specs.Global.{Vec}
+use Rattle.std.specs.Prelude.{◌≡◌, ◌<◌, ◌≤◌, ◌*◌, ◌/◌, ℕ, ℤ, pos, unsigned_abs, List, ◌++◌, map, length, sum, All, ◌⊎◌}
 use Rattle.std.specs.Int.{◌∣◌}
 use Rattle.maid_model.specs.Diagrams.{greatest_number}
 use Rattle.weight_scale.specs.Scaling.{whole_number, raised_row, row_at, IsReducedRow, IsCommonTotal, multiplied_row}
 use Rattle.weight_scale.specs.declared.decimal.Decimal.{Decimal}
+use Rattle.weight_scale.specs.declared.scaling.Reduced.{Reduced}
 use Rattle.weight_scale.specs.declared.scaling.ScaleFault.{ScaleFault}
 use Rattle.weight_scale.specs.declared.scaling.ScaleFault.TheVariants.{Negative, ZeroRow, WideWeight, NoMemory}
 
@@ -31,6 +33,23 @@ shares tens divisor row = map (λ d. whole_number tens d / divisor) row
 pub record AppendsShares (old new shares : List ℕ) (total : ℕ) : Type 0 where
   pub appended : new ≡ old ++ shares
   pub total_is : total ≡ sum shares
+
+-- so do the row's numbers, raised, over the divisor
+abbrev pub AppendsSharesOf : List ℕ → List ℕ → ℕ → ℕ → List Decimal → ℕ → Type 0
+AppendsSharesOf old new tens divisor row total = AppendsShares old new (shares tens divisor row) total
+
+-- so the program has the numbers before and after
+abbrev pub AppendsRowShares : Vec ℕ → Vec ℕ → ℕ → ℕ → List Decimal → ℕ → Type 0
+AppendsRowShares before after tens divisor row total =
+    AppendsSharesOf before.items after.items tens divisor row total
+
+-- these add up to too much
+abbrev pub AreWideShares : ℕ → ℕ → List Decimal → Type 0
+AreWideShares tens divisor row = greatest_number < sum (shares tens divisor row)
+
+-- the numbers, multiplied, stand behind what was there
+abbrev pub AppendsMultiples : ℕ → List ℕ → List ℤ → List ℤ → Type 0
+AppendsMultiples factor row old new = new ≡ old ++ map (λ x. pos (x * factor)) row
 
 -- the reduced row stands behind what was there
 pub record AppendsReduced (row old new : List ℕ) (total : ℕ) : Type 0 where
@@ -61,3 +80,23 @@ pub record WeighsRows (reduced : List ℕ) (states total count : ℕ) (weights :
   pub len : length weights ≡ count * states
   pub row :
       (r : ℕ) → r < count → row_at states weights r ≡ multiplied_row total (row_at states reduced r)
+
+-- all rows reduced, and the least common multiple of their totals
+abbrev pub ReducesAll : List Decimal → ℕ → Reduced → Type 0
+ReducesAll rows states reduced =
+    ReducesRows rows states (length rows / states) reduced.numbers.items reduced.total
+
+-- all rows of weights
+abbrev pub WeighsAll : List ℕ → ℕ → ℕ → List ℤ → Type 0
+WeighsAll reduced states total weights =
+    WeighsRows reduced states total (length reduced / states) weights
+
+-- each row has a total above nought
+abbrev pub HasPositiveTotals : List ℕ → ℕ → Type 0
+HasPositiveTotals reduced states =
+    (r : ℕ) → r < length reduced / states → 0 < sum (row_at states reduced r)
+
+-- the total is a multiple of each row's
+abbrev pub IsMultipleOfTotals : List ℕ → ℕ → ℕ → Type 0
+IsMultipleOfTotals reduced states total =
+    (r : ℕ) → r < length reduced / states → sum (row_at states reduced r) ∣ total

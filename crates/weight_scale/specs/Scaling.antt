@@ -15,9 +15,13 @@ row_at states cells r = take states (drop (r * states) cells)
 abbrev pub whole_number : ℕ → Decimal → ℕ
 whole_number tens d = unsigned_abs d.m * 10 ^ (tens - d.k)
 
--- the numbers of row r raised to whole numbers by one power of ten: none has more than 30 decimals
+-- the numbers of a row raised to whole numbers by one power of ten: none has more than 30 decimals
+abbrev pub raised : List Decimal → List ℕ
+raised row = map (whole_number 30) row
+
+-- those of row r
 abbrev pub raised_row : ℕ → List Decimal → ℕ → List ℕ
-raised_row states rows r = map (whole_number 30) (row_at states rows r)
+raised_row states rows r = raised (row_at states rows r)
 
 -- the greatest common divisor: it divides each number, and each number that divides them all divides it
 pub record IsGreatestDivisor (xs : List ℕ) (g : ℕ) : Type 0 where

@@ -1,5 +1,5 @@
 -- What the steps of the search for the bound's place promise one another.
-use Rattle.std.specs.Prelude.{◌≡◌, ℕ, ◌<◌, ◌≤◌, ◌*◌, ◌^◌, max, List, length, filter, if◌then◌else◌}
+use Rattle.std.specs.Prelude.{◌≡◌, ℕ, ◌<◌, ◌≤◌, ◌*◌, ◌^◌, max, List, length, filter, Option, MatchOption, if◌then◌else◌}
 use Rattle.node_sets.specs.declared.sets.NodeSet.{NodeSet}
 use Rattle.node_sets.specs.Sets.{holds}
 use Rattle.finite_sums.specs.Sums.{nat_product_over}
@@ -62,6 +62,10 @@ abbrev pub IsScopeOf : List NodeView → ℕ → Scope → Type 0
 IsScopeOf nodes d scope = IsDecision nodes d
     × IsScope nodes ChanceAndDecisions (scope_of nodes d) (goals_of nodes d) scope
 
+-- the scope of v, if v is a decision
+abbrev pub IsScopeIfDecision : List NodeView → ℕ → Option Scope → Type 0
+IsScopeIfDecision nodes v found = MatchOption found (IsDecision nodes v → ⊥) (IsScopeOf nodes v)
+
 -- it is the scope of the agent
 abbrev pub IsScopeFor : List NodeView → ℕ → Scope → Type 0
 IsScopeFor nodes agent scope =
@@ -94,10 +98,14 @@ abbrev pub IsPlaceOf : DiagramView → ℕ → BoundPlace → Type 0
 IsPlaceOf d v place =
     IsPlaceInScope d (bound_factor d.nodes) (scope_of d.nodes v) (goals_of d.nodes v) place
 
+-- the bound of each decision holds
+abbrev pub KeepsDecisionBounds : DiagramView → Type 0
+KeepsDecisionBounds d = (v : ℕ) → IsDecision d.nodes v → scope_bound d v ≤ greatest_number
+
 -- of the decisions. Within: their bounds hold. Node: the first that fails passes there. Utilities: it passes by its
 -- utilities alone.
 abbrev pub IsPlaceOfDecisions : DiagramView → BoundPlace → Type 0
-IsPlaceOfDecisions d Within = (v : ℕ) → IsDecision d.nodes v → scope_bound d v ≤ greatest_number
+IsPlaceOfDecisions d Within = KeepsDecisionBounds d
 IsPlaceOfDecisions d (Node v) =
     (e : ℕ) × FailsFirst d e × PassesInScope (bound_factor d.nodes) (scope_of d.nodes e) v
 IsPlaceOfDecisions d Utilities =

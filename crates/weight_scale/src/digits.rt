@@ -1,11 +1,12 @@
 //! Digits, exponents and signs of numerals.
 
-ghost use Rattle.std.specs.Prelude.{◌≡◌, ◌<◌, ◌≤◌, ◌+◌, ◌-◌, ◌*◌, ◌^◌, ◌∷◌, ◌++◌, ◌≢◌, drop, length, replicate, slice_index, true, ℕ, List, IfSome, IfNone};
+ghost use Rattle.std.specs.Prelude.{◌≡◌, ◌<◌, ◌≤◌, ◌+◌, ◌-◌, ◌*◌, ◌^◌, ◌∷◌, ◌++◌, ◌≢◌, drop, length, replicate, slice_index, true, IfSome, IfNone};
 ghost use Rattle.std.specs.Option.{SomeIff};
 ghost use Rattle.std.specs.List.{prefix_len, list_all};
 ghost use Rattle.net_lexer.specs.Bytes.{is_digit};
 ghost use Rattle.net_lexer.specs.Numerals.{without_sign};
-ghost use Rattle.weight_scale.specs.Numeral.{front_digits, behind_digits, point_digits, behind_point, is_minus, number_behind, number_of, AreFewDigits, whole_digits, decimal_digits, exponent_of, exponent_size};
+ghost use Rattle.weight_scale.specs.Numeral.{front_digits, behind_digits, point_digits, behind_point, is_minus, number_behind, number_of, AreFewDigits, whole_digits, decimal_digits, exponent_of, exponent_size, AreFewBehind, IsNoPointAndDigits};
+ghost use Rattle.weight_scale.specs.Range.{IsBelowBound};
 ghost use Rattle.weight_scale.specs.declared.digits.TheConstants.{HALF_FEW, HALF_FEW_END};
 
 use maid_model::GREATEST_NUMBER;
@@ -69,8 +70,7 @@ fn is_all_digits(bytes: &[u8]) -> bool
 pub(crate) fn last_decimals(bytes: &[u8]) -> Option<&[u8]>
     ensures point { IfSome result (λ decimals. bytes.now ≡ 46 ∷ decimals.now) }
     ensures are_digits { IfSome result (λ decimals. list_all is_digit decimals.now ≡ true) }
-    ensures none { IfNone result ((decimals : List ℕ) → bytes.now ≡ 46 ∷ decimals
-        → list_all is_digit decimals ≡ true → ⊥) }
+    ensures none { IfNone result (IsNoPointAndDigits bytes.now) }
 {
     match bytes {
         [b'.', decimals @ ..] if is_all_digits(decimals) => Some(decimals),
@@ -91,7 +91,7 @@ fn behind_mark(bytes: &[u8]) -> &[u8]
 // The number with one more digit, if it isn't too great.
 fn append_digit(number: u128, digit: u8) -> Option<u128>
     requires { is_digit digit ≡ true }
-    ensures { SomeIff result (number * 10 + (digit - 48) < 2 ^ 126) (number * 10 + (digit - 48)) }
+    ensures { IsBelowBound (2 ^ 126) result (number * 10 + (digit - 48)) }
 {
     if number > GREATEST_NUMBER / 10 {
         return None;
@@ -117,8 +117,7 @@ const HALF_FEW_END: u128 = 1_000_000_000;
 // The number with more digits behind it, where it and they are few. It takes no step of 128 bits.
 pub(crate) fn append_few(number: u128, digits: &[u8]) -> Option<u64>
     requires { list_all is_digit digits.now ≡ true }
-    ensures { SomeIff result ((number < HALF_FEW_END) × (length digits.now ≤ HALF_FEW))
-        (number_behind number digits.now) }
+    ensures { SomeIff result (AreFewBehind number digits.now) (number_behind number digits.now) }
 {
     if number >= HALF_FEW_END || digits.len() > HALF_FEW {
         return None;
@@ -134,8 +133,7 @@ pub(crate) fn append_few(number: u128, digits: &[u8]) -> Option<u64>
 pub(crate) fn append_digits(number: u128, digits: &[u8]) -> Option<u128>
     requires are_digits { list_all is_digit digits.now ≡ true }
     requires small { number < 2 ^ 126 }
-    ensures { SomeIff result (number_behind number digits.now < 2 ^ 126)
-        (number_behind number digits.now) }
+    ensures { IsBelowBound (2 ^ 126) result (number_behind number digits.now) }
 {
     if let Some(longer) = append_few(number, digits) {
         return Some(u128::from(longer));

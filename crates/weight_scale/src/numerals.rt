@@ -1,12 +1,12 @@
 //! The decimal of a numeral.
 
-ghost use Rattle.std.specs.Prelude.{◌≡◌, ◌<◌, ◌≤◌, ◌≤ℤ◌, ◌+◌, ◌*◌, ◌%◌, ◌^◌, ◌++◌, length, true, ℕ, List, IfSome, IfNone, pos, if◌then◌else◌};
+ghost use Rattle.std.specs.Prelude.{◌≡◌, ◌<◌, ◌≤◌, ◌≤ℤ◌, ◌+◌, ◌*◌, ◌%◌, ◌^◌, true, ℕ, List, IfSome, IfNone, pos, if◌then◌else◌};
 ghost use Rattle.std.specs.Option.{SomeIff};
 ghost use Rattle.std.specs.List.{list_all};
 ghost use Rattle.net_lexer.specs.Bytes.{is_digit};
 ghost use Rattle.net_lexer.specs.Numerals.{is_numeral};
 ghost use Rattle.weight_scale.specs.Numeral.{number_of, AreFewDigits, signed, numerator, denominator, IsLeastDecimalOf, HasNoDecimal, IsDecimalOfNumeral, IsWholeNumeral};
-ghost use Rattle.weight_scale.specs.Significant.{HasTooManyDigits, HasFewDecimals, IsSignificandOf};
+ghost use Rattle.weight_scale.specs.Significant.{HasFewDecimals, HaveTooManyDigits, TellsSignificand, HasSmallParts, HaveNoDecimal, IsLeastDecimalOfParts};
 
 use crate::Decimal;
 use crate::digits::{
@@ -34,12 +34,9 @@ struct Scientific {
 fn significand(whole: &[u8], decimals: &[u8]) -> Option<Scientific>
     requires whole_digits { list_all is_digit whole.now ≡ true }
     requires decimal_digits { list_all is_digit decimals.now ≡ true }
-    ensures some { IfSome result (λ s.
-        IsSignificandOf whole.now decimals.now s.size s.above s.below) }
-    ensures small { IfSome result (λ s.
-        (s.size < 2 ^ 126) × (s.above < 2 ^ 64) × (s.below < 2 ^ 64)) }
-    ensures none { IfNone result (HasTooManyDigits (number_of (whole.now ++ decimals.now))
-        (length decimals.now)) }
+    ensures some { IfSome result (TellsSignificand whole.now decimals.now) }
+    ensures small { IfSome result HasSmallParts }
+    ensures none { IfNone result (HaveTooManyDigits whole.now decimals.now) }
 {
     let kept = without_trailing_noughts(decimals);
     if kept.is_empty() {
@@ -125,10 +122,8 @@ impl Scientific {
     fn decimal(self, minus: bool) -> Option<Decimal>
         requires last { 0 < self.size % 10 }
         requires small { self.size < 2 ^ 126 }
-        ensures some { IfSome result (λ d.
-            IsLeastDecimalOf (signed minus (self.size * 10 ^ self.above)) (10 ^ self.below) d) }
-        ensures none { IfNone result
-            (HasNoDecimal (signed minus (self.size * 10 ^ self.above)) (10 ^ self.below)) }
+        ensures some { IfSome result (IsLeastDecimalOfParts minus self) }
+        ensures none { IfNone result (HaveNoDecimal minus self) }
     {
         if self.above >= self.below {
             with_tens(minus, self.size, self.above - self.below)

@@ -1,10 +1,8 @@
 //! Rows of whole numbers that are weights as they stand, as those of most tables.
 
-ghost use Rattle.std.specs.Prelude.{◌≡◌, ◌<◌, ◌≤ℤ◌, ℕ, List, All, Decides, IfSome, IfNone, length, pos, unsigned_abs};
+ghost use Rattle.std.specs.Prelude.{◌≡◌, ◌<◌, ◌≤ℤ◌, ℕ, All, Decides, IfSome, IfNone, length, pos, unsigned_abs};
 ghost use Rattle.std.specs.Int.{◌∣◌};
-ghost use Rattle.weight_scale.specs.Plain.{AreWhole, ShareNone, HasTotal, IsPlainRow, ArePlainRows, AreOwnTable, AreOwnWeights};
-ghost use Rattle.weight_scale.specs.Scaling.{AreFaultless};
-ghost use Rattle.weight_scale.specs.declared.decimal.Decimal.{Decimal};
+ghost use Rattle.weight_scale.specs.Plain.{ShareNone, HasTotal, IsPlainRow, ArePlainRows, AreOwnTable, AreOwnWeights, AreFaultlessAlone};
 
 use crate::rows::row_at;
 use maid_model::GREATEST_NUMBER;
@@ -65,8 +63,7 @@ pub fn plain_total(cells: &[i128], states: usize) -> Option<u128>
     ensures none { IfNone result ((total : ℕ) → ArePlainRows cells.now states total → ⊥) }
     ensures scaled { IfSome result (AreOwnWeights cells.now states) }
     ensures table { IfSome result (AreOwnTable cells.now states) }
-    ensures faultless { IfSome result (λ _. (rows : List Decimal) → AreWhole rows cells.now
-        → AreFaultless rows states) }
+    ensures faultless { IfSome result (λ _. AreFaultlessAlone cells.now states) }
 {
     if cells.len() < states {
         return None;

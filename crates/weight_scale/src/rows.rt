@@ -1,11 +1,11 @@
 //! One row of a chance table: its common divisor and its reduced numbers.
 
-ghost use Rattle.std.specs.Prelude.{◌≡◌, ◌<◌, ◌≤◌, ◌+◌, ◌*◌, ◌/◌, ◌^◌, ◌++◌, All, IfOk, IfErr, OnOk, length, map, pos, sum, unsigned_abs};
+ghost use Rattle.std.specs.Prelude.{◌≡◌, ◌<◌, ◌≤◌, ◌+◌, ◌*◌, ◌/◌, ◌^◌, ◌++◌, All, IfOk, IfErr, OnOk, length, map, pos, sum};
 ghost use Rattle.std.specs.Int.{◌∣◌};
-ghost use Rattle.std.specs.Option.{SomeIff};
 ghost use Rattle.maid_model.specs.Diagrams.{greatest_number};
-ghost use Rattle.weight_scale.specs.Scaling.{whole_number, row_at, IsGreatestDivisor};
-ghost use Rattle.weight_scale.specs.Rows.{IsFinest, IsFiner, shares, AppendsShares, AppendsReduced, OnWide, IsWideRow};
+ghost use Rattle.weight_scale.specs.Range.{IsWithinRange};
+ghost use Rattle.weight_scale.specs.Scaling.{raised, whole_number, row_at, IsGreatestDivisor};
+ghost use Rattle.weight_scale.specs.Rows.{IsFinest, IsFiner, AppendsReduced, OnWide, IsWideRow, AppendsMultiples, AreWideShares, AppendsRowShares};
 
 use crate::decimal::Decimal;
 use crate::products::{divided_product, gcd_with_product};
@@ -87,10 +87,9 @@ fn push_shares(
     requires decimals { decimals ≤ 30 }
     requires positive { 0 < divisor }
     requires divides { All (λ d. divisor ∣ whole_number decimals d) row.now }
-    ensures ok { IfOk result (AppendsShares reduced.old.items reduced.new.items
-        (shares decimals divisor row.now)) }
+    ensures ok { IfOk result (AppendsRowShares reduced.old reduced.new decimals divisor row.now) }
     ensures err { IfErr result (λ fault.
-        OnWide fault (greatest_number < sum (shares decimals divisor row.now))) }
+        OnWide fault (AreWideShares decimals divisor row.now)) }
 {
     let mut total = 0;
     for number in row {
@@ -110,8 +109,7 @@ fn push_shares(
 // The number's size, raised by 10^decimals, if it isn't too great. Most numbers have as many decimals, and take no tens.
 fn raised(number: Decimal, decimals: u32) -> Option<u128>
     requires { decimals ≤ 30 }
-    ensures { SomeIff result (whole_number decimals number ≤ greatest_number)
-        (whole_number decimals number) }
+    ensures { IsWithinRange result (whole_number decimals number) }
 {
     let size = number.m.unsigned_abs();
     if decimals <= number.k {
@@ -124,10 +122,9 @@ fn raised(number: Decimal, decimals: u32) -> Option<u128>
 #[inline(never)]
 fn push_raised(reduced: &mut Vec<u128>, row: &[Decimal], decimals: u32) -> Result<u128, ScaleFault>
     requires { decimals ≤ 30 }
-    ensures ok { IfOk result (AppendsShares reduced.old.items reduced.new.items
-        (shares decimals 1 row.now)) }
+    ensures ok { IfOk result (AppendsRowShares reduced.old reduced.new decimals 1 row.now) }
     ensures err { IfErr result (λ fault.
-        OnWide fault (greatest_number < sum (shares decimals 1 row.now))) }
+        OnWide fault (AreWideShares decimals 1 row.now)) }
 {
     let mut total = 0;
     for number in row {
@@ -153,10 +150,9 @@ fn push_row(
     requires decimals { decimals ≤ 30 }
     requires positive { 0 < divisor }
     requires divides { All (λ d. divisor ∣ whole_number decimals d) row.now }
-    ensures ok { IfOk result (AppendsShares reduced.old.items reduced.new.items
-        (shares decimals divisor row.now)) }
+    ensures ok { IfOk result (AppendsRowShares reduced.old reduced.new decimals divisor row.now) }
     ensures err { IfErr result (λ fault.
-        OnWide fault (greatest_number < sum (shares decimals divisor row.now))) }
+        OnWide fault (AreWideShares decimals divisor row.now)) }
 {
     if divisor == 1 {
         return push_raised(reduced, row, decimals);
@@ -166,10 +162,10 @@ fn push_row(
 
 // Appends the reduced row, and gives its total.
 pub(crate) fn push_reduced(reduced: &mut Vec<u128>, row: &[Decimal]) -> Result<u128, ScaleFault>
-    requires { 0 < sum (map (whole_number 30) row.now) }
-    ensures ok { IfOk result (AppendsReduced (map (whole_number 30) row.now) reduced.old.items
+    requires { 0 < sum (raised row.now) }
+    ensures ok { IfOk result (AppendsReduced (raised row.now) reduced.old.items
         reduced.new.items) }
-    ensures err { IfErr result (λ fault. OnWide fault (IsWideRow (map (whole_number 30) row.now))) }
+    ensures err { IfErr result (λ fault. OnWide fault (IsWideRow (raised row.now))) }
 {
     let finest = finest(row);
     let divisor = common_divisor(row, finest);
@@ -202,8 +198,7 @@ pub(crate) fn push_weights(
     factor: u128,
 ) -> Result<(), AllocError>
     requires { sum row.now * factor ≤ greatest_number }
-    ensures { OnOk result (weights.new.items
-        ≡ weights.old.items ++ map (λ x. pos (x * factor)) row.now) }
+    ensures { OnOk result (AppendsMultiples factor row.now weights.old.items weights.new.items) }
 {
     // In most tables all reduced rows have one total, and no number is multiplied.
     if factor == 1 {

@@ -1,11 +1,11 @@
 //! Chance rows taken in proportion.
 
-ghost use Rattle.std.specs.Prelude.{◌≡◌, ℕ, ◌<◌, ◌≤◌, ◌/◌, IfOk, IfErr, IfSome, IfNone, length, sum};
+ghost use Rattle.std.specs.Prelude.{◌≡◌, ◌<◌, ◌≤◌, ◌/◌, IfOk, IfErr, IfSome, IfNone, length};
 ghost use Rattle.std.specs.Int.{◌∣◌};
 ghost use Rattle.maid_model.specs.Diagrams.{greatest_number};
 ghost use Rattle.maid_model.specs.Tables.{IsTable};
 ghost use Rattle.weight_scale.specs.Scaling.{row_at, IsFirstNegative, NoneNegative, IsFirstZeroRow, NoZeroRow, IsTooWide, IsScaled, IsScaleFault, AreFaultless};
-ghost use Rattle.weight_scale.specs.Rows.{ReducesRows, WeighsRows, OnWide};
+ghost use Rattle.weight_scale.specs.Rows.{HasPositiveTotals, IsMultipleOfTotals, ReducesAll, WeighsAll, OnWide};
 
 use crate::decimal::Decimal;
 use crate::rows::{finest, push_reduced, push_weights, row_at, row_total};
@@ -104,9 +104,7 @@ fn reduce_rows(alloc: Global, rows: &[Decimal], states: usize) -> Result<Reduced
     requires states { 0 < states }
     requires positive { NoZeroRow rows.now states (length rows.now / states) }
     requires whole { states ∣ length rows.now }
-    ensures ok { IfOk result (λ reduced.
-        ReducesRows rows.now states (length rows.now / states) reduced.numbers.items
-        reduced.total) }
+    ensures ok { IfOk result (ReducesAll rows.now states) }
     ensures small { IfOk result (λ reduced. reduced.total ≤ greatest_number) }
     ensures err { IfErr result (λ fault. OnWide fault (IsTooWide rows.now states)) }
 {
@@ -132,12 +130,9 @@ fn weigh_rows(
     requires states { 0 < states }
     requires some { 0 < total }
     requires small { total ≤ greatest_number }
-    requires positive { (r : ℕ) → r < length reduced.now / states
-        → 0 < sum (row_at states reduced.now r) }
-    requires multiple { (r : ℕ) → r < length reduced.now / states
-        → sum (row_at states reduced.now r) ∣ total }
-    ensures { IfOk result (λ weights.
-        WeighsRows reduced.now states total (length reduced.now / states) weights.items) }
+    requires positive { HasPositiveTotals reduced.now states }
+    requires multiple { IsMultipleOfTotals reduced.now states total }
+    ensures { IfOk result (λ weights. WeighsAll reduced.now states total weights.items) }
 {
     let mut weights = Vec::with_capacity(alloc, reduced.len())?;
     for r in 0..reduced.len() / states {

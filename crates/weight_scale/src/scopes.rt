@@ -1,15 +1,15 @@
 //! The scope of a decision or of an agent, and where its bound fails.
 
-ghost use Rattle.std.specs.Prelude.{◌≡◌, ℕ, ◌<◌, ◌≤◌, ◌↔◌, length, Contains, IsTrue, MatchOption};
-ghost use Rattle.std.specs.Option.{SomeIff};
+ghost use Rattle.std.specs.Prelude.{◌≡◌, ℕ, ◌<◌, ◌↔◌, length, Contains, IsTrue};
 ghost use Rattle.node_sets.specs.Sets.{IsIn};
-ghost use Rattle.maid_model.specs.Diagrams.{IsDiagram, greatest_number};
+ghost use Rattle.maid_model.specs.Diagrams.{IsDiagram};
 ghost use Rattle.maid_model.specs.Gains.{greatest_abs};
 ghost use Rattle.maid_model.specs.Nodes.{IsDecision};
 ghost use Rattle.maid_model.specs.Relevance.{IsGoal};
 ghost use Rattle.maid_model.specs.Scopes.{scope_for, scope_of};
 ghost use Rattle.weight_scale.specs.Given.{IsPlaceGiven, scope_given};
-ghost use Rattle.weight_scale.specs.ScopePlaces.{factor_in, greatest_in, greatest_sum, IsUtilityFor, IsScopeOf, IsScopeFor, IsPlaceIn, HasRoomInScope};
+ghost use Rattle.weight_scale.specs.Range.{IsWithinRange};
+ghost use Rattle.weight_scale.specs.ScopePlaces.{factor_in, greatest_in, greatest_sum, IsUtilityFor, IsScopeIfDecision, IsScopeFor, IsPlaceIn, HasRoomInScope};
 
 use crate::weight_bound::BoundPlace;
 use maid_model::{Diagram, GREATEST_NUMBER, Kind, goals_of};
@@ -102,8 +102,7 @@ pub fn scope_given(diagram: &Diagram, node: usize, agent: usize) -> NodeSet
 /// The scope of the node, if it is a decision: what leads to it, or to a utility of its agent that descends from it.
 pub(crate) fn scope_of(diagram: &Diagram, v: usize) -> Option<Scope>
     requires { v < length diagram.now.nodes }
-    ensures { MatchOption result (IsDecision diagram.now.nodes v → ⊥)
-        (IsScopeOf diagram.now.nodes v) }
+    ensures { IsScopeIfDecision diagram.now.nodes v result }
 {
     match diagram.kind(v) {
         Kind::Decision => {
@@ -173,8 +172,7 @@ impl Scope {
 
     // The greatest absolute values of the scope's utilities added up, if the sum isn't too great.
     fn greatest(&self, diagram: &Diagram) -> Option<u128>
-        ensures { SomeIff result (greatest_sum diagram.now.nodes self.now ≤ greatest_number)
-            (greatest_sum diagram.now.nodes self.now) }
+        ensures { IsWithinRange result (greatest_sum diagram.now.nodes self.now) }
     {
         let mut sum = 0;
         for v in 0..diagram.count() {

@@ -1,11 +1,10 @@
 //! The weight bound of decisions and agents, and the place at which the first that fails does so.
 
 ghost use Rattle.std.specs.Prelude.{◌≡◌, ℕ, ◌<◌, ◌≤◌, length};
-ghost use Rattle.maid_model.specs.Diagrams.{IsDiagram, greatest_number};
+ghost use Rattle.maid_model.specs.Diagrams.{IsDiagram};
 ghost use Rattle.maid_model.specs.Nodes.{IsDecision};
-ghost use Rattle.maid_model.specs.Scopes.{scope_bound};
 ghost use Rattle.weight_scale.specs.Bound.{IsBoundPlace};
-ghost use Rattle.weight_scale.specs.ScopePlaces.{IsPlaceOf, IsPlaceOfDecisions};
+ghost use Rattle.weight_scale.specs.ScopePlaces.{IsPlaceOf, IsPlaceOfDecisions, KeepsDecisionBounds};
 
 use crate::scopes::{scope_for, scope_of};
 use maid_model::Diagram;
@@ -46,8 +45,7 @@ fn place_of_decisions(diagram: &Diagram) -> BoundPlace
 
 // Where the bound of the first agent that fails does so.
 fn place_of_agents(diagram: &Diagram) -> BoundPlace
-    requires { (v : ℕ) → IsDecision diagram.now.nodes v
-        → scope_bound diagram.now v ≤ greatest_number }
+    requires { KeepsDecisionBounds diagram.now }
     ensures { IsBoundPlace diagram.now result }
 {
     for agent in 0..diagram.agents() {

@@ -37,7 +37,7 @@ control_lines-requires-clause-baseline c =
     subst (λ (e : DiagramView). IsBaseline e c.args.agent gain) (sym c.in_ok-alone.ensures) (subst (IsBaseline (alone d solved.answers c.args.agent) c.args.agent) read base)
 
 pub control_lines-requires-clause-kept : goal.control_lines-requires-clause-kept
-control_lines-requires-clause-kept c = borrowed (IsKeptDiagram c.in_ok-alone.alone.nodes) c.as_ref.result (subst (λ kept. IfSome kept (IsKeptDiagram c.in_ok-alone.alone.nodes)) (sym c.as_ref.ensures.value) c.in_ok-kept.ensures)
+control_lines-requires-clause-kept c = borrowed (IsKeptDiagram c.in_ok-alone.alone.nodes) c.as_ref.result (subst (λ kept. IfSome kept (IsKeptDiagram c.in_ok-alone.alone.nodes)) (sym c.as_ref.ensures.value) c.in_ok-kept.ensures.kept)
 
 -- the chance nodes are nodes, and stay chance nodes
 pub control_lines-requires-clause-chance : goal.control_lines-requires-clause-chance

@@ -2,7 +2,8 @@ use Rattle.std.proofs.Common.{◌≡◌, ◌∙◌, ◌++◌, ◌∷◌, [], pos
 use Rattle.maid_model.specs.declared.diagrams.Kind.TheVariants.{Chance, Decision, Utility}
 use Rattle.maid_model.specs.Diagrams.{IsDiagram}
 use Rattle.maid_model.specs.Views.{NodeView}
-use Rattle.form_tests.specs.Conditioning.{bet, node_of}
+use Rattle.form_tests.specs.Conditioning.{bet}
+use Rattle.form_tests.specs.Samples.{node_of}
 use Rattle.form_tests.proofs.conditioning.bet.Goals as goal
 
 abbrev choice : NodeView

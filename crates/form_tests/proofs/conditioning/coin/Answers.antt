@@ -1,7 +1,8 @@
 use Rattle.std.proofs.Common.{◌≡◌, ◌∙◌, ◌++◌, ◌∷◌, [], pos, negsuc, refl, sym, subst}
 use Rattle.maid_model.specs.declared.diagrams.Kind.TheVariants.{Utility}
 use Rattle.maid_model.specs.Diagrams.{IsDiagram}
-use Rattle.form_tests.specs.Conditioning.{coin, node_of}
+use Rattle.form_tests.specs.Conditioning.{coin}
+use Rattle.form_tests.specs.Samples.{node_of}
 use Rattle.form_tests.proofs.conditioning.coin.Goals as goal
 
 pub from_nodes-requires : goal.from_nodes-requires

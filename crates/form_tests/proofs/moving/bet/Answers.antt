@@ -4,7 +4,8 @@ use Rattle.maid_model.specs.declared.diagrams.Kind.TheVariants.{Decision, Utilit
 use Rattle.maid_model.specs.Diagrams.{IsDiagram}
 use Rattle.maid_model.specs.Tested.{all_true, diagram_tests}
 use Rattle.maid_model.specs.Views.{NodeView}
-use Rattle.form_tests.specs.Moving.{bet, echo, node_of}
+use Rattle.form_tests.specs.Moving.{bet, echo}
+use Rattle.form_tests.specs.Samples.{node_of}
 use Rattle.form_tests.proofs.moving.bet.Goals as goal
 
 abbrev pay : NodeView

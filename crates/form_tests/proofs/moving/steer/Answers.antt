@@ -3,7 +3,8 @@ use Rattle.std.proofs.Common.{◌≡◌, ◌∙◌, ◌++◌, ◌∷◌, [], pos
 use Rattle.maid_model.specs.declared.diagrams.Kind.TheVariants.{Chance, Decision, Utility}
 use Rattle.maid_model.specs.Diagrams.{IsDiagram}
 use Rattle.maid_model.specs.Tested.{all_true, diagram_tests}
-use Rattle.form_tests.specs.Moving.{node_of, steer, weights_of}
+use Rattle.form_tests.specs.Moving.{steer, weights_of}
+use Rattle.form_tests.specs.Samples.{node_of}
 use Rattle.form_tests.proofs.moving.steer.Goals as goal
 
 tested : (even : Bool) → all_true (diagram_tests (steer even)) ≡ true

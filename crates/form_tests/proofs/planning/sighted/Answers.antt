@@ -3,7 +3,8 @@ use Rattle.std.specs.Prelude.{pos}
 use Rattle.maid_model.specs.declared.diagrams.Kind.TheVariants.{Chance, Decision, Utility}
 use Rattle.maid_model.specs.Diagrams.{IsDiagram}
 use Rattle.maid_model.specs.Views.{NodeView}
-use Rattle.form_tests.specs.Planning.{node_of, ones}
+use Rattle.form_tests.specs.Planning.{ones}
+use Rattle.form_tests.specs.Samples.{node_of}
 use Rattle.form_tests.proofs.PlanSamples.{sighted_is}
 use Rattle.form_tests.proofs.planning.sighted.Goals as goal
 

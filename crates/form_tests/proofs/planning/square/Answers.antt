@@ -2,7 +2,8 @@ use Rattle.std.proofs.Common.{◌≡◌, ◌∙◌, ◌++◌, ◌∷◌, [], Lis
 use Rattle.maid_model.specs.declared.diagrams.Kind.TheVariants.{Utility}
 use Rattle.maid_model.specs.Diagrams.{IsDiagram}
 use Rattle.maid_model.specs.Views.{NodeView}
-use Rattle.form_tests.specs.Planning.{node_of, ones, square_nodes}
+use Rattle.form_tests.specs.Planning.{ones, square_nodes}
+use Rattle.form_tests.specs.Samples.{node_of}
 use Rattle.form_tests.proofs.PlanSamples.{square_is}
 use Rattle.form_tests.proofs.planning.square.Goals as goal
 

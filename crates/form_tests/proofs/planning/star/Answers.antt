@@ -3,7 +3,7 @@ use Rattle.std.specs.Prelude.{replicate}
 use Rattle.maid_model.specs.declared.diagrams.Kind.TheVariants.{Decision}
 use Rattle.maid_model.specs.Diagrams.{IsDiagram}
 use Rattle.maid_model.specs.Views.{NodeView}
-use Rattle.form_tests.specs.Planning.{node_of}
+use Rattle.form_tests.specs.Samples.{node_of}
 use Rattle.form_tests.proofs.PlanSamples.{star_is}
 use Rattle.form_tests.proofs.planning.star.Goals as goal
 

@@ -1,7 +1,7 @@
 use Rattle.std.proofs.Common.{◌≡◌, ◌∷◌, []}
 use Rattle.std.specs.Prelude.{replicate}
 use Rattle.maid_model.specs.declared.diagrams.Kind.TheVariants.{Decision}
-use Rattle.form_tests.specs.Planning.{node_of}
+use Rattle.form_tests.specs.Samples.{node_of}
 use Rattle.form_tests.proofs.planning.star.Given as goal
 
 abbrev pub invariant-loop : goal.invariant-loop

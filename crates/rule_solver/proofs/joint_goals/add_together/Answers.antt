@@ -1,16 +1,18 @@
 -- Some of the goals, and then some of the others.
-use Rattle.std.proofs.Common.{◌≡◌, ◌∙◌, ℕ, ◌*◌, ◌≤◌, ◌-◌, List, length, take, drop, sym, ap, subst, arith, nat_abs, length-drop}
+use Rattle.std.proofs.Common.{◌≡◌, ◌∙◌, ℕ, ◌*◌, ◌≤◌, ◌-◌, ◌<◌, Contains, List, length, take, drop, sym, ap, subst, arith, nat_abs, length-drop}
 use Rattle.finite_sums.specs.Members.{Among}
 use Rattle.finite_sums.specs.Sums.{World, InRange}
 use Rattle.finite_sums.proofs.Members.{contains_from_among}
+use Rattle.joint_sums.specs.Joint.{AreGoals}
 use Rattle.maid_model.specs.Gains.{greatest_abs}
 use Rattle.maid_model.specs.Nodes.{node_at, states_of}
+use Rattle.maid_model.specs.Relevance.{IsGoal}
 use Rattle.maid_model.specs.Scopes.{goals_of, scope_product}
 use Rattle.rule_solver.specs.Sums.{AddsGoals, HasGoals, HasRoomFor, goal_part}
-use Rattle.rule_solver.specs.Together.{AreOfGoals}
 use Rattle.size_precheck.specs.Sizes.{SizedPlan}
 use Rattle.rule_solver.proofs.GoalPlans.{goal_plans_long}
-use Rattle.rule_solver.proofs.JointLists.{all_goals, first_goals, other_goals}
+use Rattle.rule_solver.proofs.JointNodes.{goal_listed_is}
+use Rattle.rule_solver.proofs.JointLists.{all_goals, first_in, other_in, other_goals}
 use Rattle.rule_solver.proofs.SettingLemmas.{part_small}
 use Rattle.rule_solver.proofs.SumLemmas.{goals_more, room_for, take_then}
 use Rattle.rule_solver.proofs.joint_goals.add_together.Goals as goal
@@ -26,8 +28,11 @@ pub add_first-requires-clause-goals : goal.add_first-requires-clause-goals
 add_first-requires-clause-goals c =
     let nodes = c.args.setting.now.diagram.now.nodes in
     let s = c.requires.setting in
-    subst (AreOfGoals nodes c.args.setting.now.decision) (sym c.behind-rest.ensures)
-    (other_goals nodes c.args.setting.now.decision c.parts.done c.args.goals.now (subst (AreOfGoals nodes c.args.setting.now.decision) (sym c.requires.goals) (all_goals nodes c.args.setting.now.decision s.is_diagram.graph s.is_decision)))
+    let here : c.parts.done < length c.args.goals.now = c.parts-test.true in
+    let list : length c.args.goals.now ≡ length (goals_of nodes c.args.setting.now.decision) = ap (λ (l : List ℕ). length l) c.requires.goals in
+    let all : AreGoals nodes c.args.setting.now.decision c.args.goals.now = subst (AreGoals nodes c.args.setting.now.decision) (sym c.requires.goals) (all_goals nodes c.args.setting.now.decision s.is_diagram.graph s.is_decision (omega (arith, here, list))) in
+    subst (AreGoals nodes c.args.setting.now.decision) (sym c.behind-rest.ensures)
+    (other_goals nodes c.args.setting.now.decision c.parts.done c.args.goals.now here all)
 
 pub add_first-requires-clause-plans : goal.add_first-requires-clause-plans
 add_first-requires-clause-plans c =
@@ -58,11 +63,10 @@ parts-preserved c =
     let within = c.parts.invariant.0 in
     let adds : AddsGoals d.nodes p c.args.setting.now.decision more c.parts.gains c.add_first.new.gains =
     subst (λ (l : List ℕ). AddsGoals d.nodes p c.args.setting.now.decision (take c.in_ok-added.added l) c.parts.gains c.add_first.new.gains) c.behind-rest.ensures c.in_ok-added.ensures.adds in
-    let are : AreOfGoals d.nodes c.args.setting.now.decision more =
-    first_goals d.nodes c.args.setting.now.decision c.in_ok-added.added (drop c.parts.done goals)
-    (other_goals d.nodes c.args.setting.now.decision c.parts.done goals (subst (AreOfGoals d.nodes c.args.setting.now.decision) (sym c.requires.goals) (all_goals d.nodes c.args.setting.now.decision s.is_diagram.graph s.is_decision))) in
+    let are : (u : ℕ) → Contains more u → IsGoal d.nodes c.args.setting.now.decision u =
+    (λ u m. goal_listed_is d.nodes s.is_diagram.graph c.args.setting.now.decision s.is_decision u (subst (λ (l : List ℕ). Contains l u) c.requires.goals (other_in c.parts.done goals u (first_in c.in_ok-added.added (drop c.parts.done goals) u m)))) in
     let small : (v : ℕ) → Among v more → (q : World) → InRange (states_of d.nodes) q → nat_abs (goal_part d.nodes p c.args.setting.now.decision v q) ≤ scope_product d.nodes c.args.setting.now.decision * greatest_abs (node_at d.nodes v).cells =
-    (λ v m q i. part_small d p c.args.setting.now.decision c.args.setting.now.totals.now c.args.setting.now.scope s c.plans_keep_scopes.ensures.decisions c.plans_keep_scopes.ensures.positive v (are.each v (contains_from_among more v m)) q i) in (
+    (λ v m q i. part_small d p c.args.setting.now.decision c.args.setting.now.totals.now c.args.setting.now.scope s c.plans_keep_scopes.ensures.decisions c.plans_keep_scopes.ensures.positive v (are v (contains_from_among more v m)) q i) in (
       omega (arith, few, left, within),
       subst (λ (l : List ℕ). HasGoals d.nodes p c.args.setting.now.decision l c.add_first.new.gains) (sym (take_then c.parts.done c.in_ok-added.added goals))
           (goals_more d.nodes p c.args.setting.now.decision (take c.parts.done goals) more c.parts.gains c.add_first.new.gains small c.parts.invariant.1 adds),

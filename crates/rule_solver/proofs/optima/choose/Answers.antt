@@ -1,5 +1,5 @@
 -- The part of the scope decides as the whole does.
-use Rattle.std.proofs.Common.{◌∙◌, ◌*◌, ℕ, List, ℤ, IfOk, ap, sym, subst}
+use Rattle.std.proofs.Common.{ℕ, List, ℤ, IfOk, sym, subst}
 use Rattle.std.proofs.lemmas.Result.{IfOk-weaker}
 use Rattle.maid_model.specs.Nodes.{rows_of, states_of}
 use Rattle.maid_model.specs.Scopes.{scope_of}

@@ -1,5 +1,4 @@
-use Rattle.std.proofs.Common.{◌≡◌, ◌∙◌, ◌+◌, ◌++◌, ◌∷◌, [], ◌<◌, ◌≤◌, ℕ, List, filter, length, sym, ap, subst, arith}
-use Rattle.std.specs.List.{range_with_len}
+use Rattle.std.proofs.Common.{◌∙◌, ◌++◌, ◌∷◌, [], ◌<◌, ℕ, List, length, sym, ap, subst, arith}
 use Rattle.node_sets.specs.Sets.{holds}
 use Rattle.rule_solver.proofs.TableCells.{filter_gap, filter_yes}
 use Rattle.rule_solver.proofs.reading.list_scope.Goals as goal
@@ -22,5 +21,5 @@ returns c =
     c.listing.invariant.0
     ∙ sym (filter_gap p c.listing.from (length c.args.diagram.now.nodes) c.listing.invariant.1 (λ w l m i. c.in_default.ensures w l (subst (λ n. w < n) (sym c.count-count.ensures.count) m) i))
 
-pub next_in-requires : goal.next_in-requires
-next_in-requires c = let few = c.count-count.ensures.diagram.limits.nodes in let from = c.listing.invariant.1 in omega (arith, few, from)
+pub first_between-requires : goal.first_between-requires
+first_between-requires c = let few = c.count-count.ensures.diagram.limits.nodes in let from = c.listing.invariant.1 in omega (arith, few, from)

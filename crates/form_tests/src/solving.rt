@@ -1,58 +1,18 @@
-//! A diagram solved with ample memory.
+//! Tests of `rule_solver`: a small diagram solved with ample memory.
 
-ghost use Rattle.std.specs.Prelude.{◌≡◌, [], IfOk, IsTrue};
+ghost use Rattle.std.specs.Prelude.{IfOk, IsTrue};
 ghost use Rattle.maid_model.specs.declared.limits.TheConstants.{MOST_PLAN_CELLS};
 ghost use Rattle.maid_model.specs.Scopes.{KeepsScopedBounds};
-ghost use Rattle.rule_solver.specs.Example.{reply_nodes};
 ghost use Rattle.rule_solver.specs.Rooms.{HasRoom};
 
-use crate::{measured_plans_have_room, row_sums, solve};
-use maid_model::{Diagram, Kind, MOST_PLAN_CELLS, Node, Profile, Ratio, Row, literals_are_tested};
+use crate::samples::reply_diagram;
+use maid_model::{Diagram, MOST_PLAN_CELLS, Profile, Ratio, Row};
 use relevance_graph::find_relevance;
+use rule_solver::{measured_plans_have_room, row_sums, solve};
 use size_precheck::measure;
-use smallvec::SmallVec;
 use std::alloc::{AllocError, Global};
 use std::test::Fail;
 use weight_scale::{BoundPlace, bound};
-
-fn node(
-    alloc: Global,
-    kind: Kind,
-    states: usize,
-    parents: &[usize],
-    cells: &[i128],
-) -> Result<Node, AllocError>
-    ensures { IfOk result (λ n.
-        n ≡ record {
-          kind = kind;
-          owner = 0;
-          more = [];
-          states = states;
-          parents = parents.now;
-          cells = cells.now;
-        }) }
-{
-    Ok(Node {
-        kind,
-        owner: 0,
-        more: SmallVec::new(alloc),
-        states,
-        parents: SmallVec::from_slice(alloc, parents)?,
-        cells: Vec::from_slice(alloc, cells)?,
-    })
-}
-
-/// A plan, a reply that sees it, and what the pairs pay: 1, 4, 3 and 2.
-fn reply_diagram(alloc: Global) -> Result<Diagram, AllocError>
-    ensures { IfOk result (λ d. d.nodes ≡ reply_nodes) }
-{
-    literals_are_tested();
-    let mut nodes = Vec::new(alloc);
-    nodes.push(node(alloc, Kind::Decision, 2, &[], &[])?)?;
-    nodes.push(node(alloc, Kind::Decision, 2, &[0], &[])?)?;
-    nodes.push(node(alloc, Kind::Utility, 1, &[0, 1], &[1, 4, 3, 2])?)?;
-    Ok(Diagram::from_nodes(nodes, 1, 0))
-}
 
 /// A row that is worth a whole number.
 fn row(choice: usize, worth: i128) -> Row {

@@ -2,7 +2,7 @@ use Rattle.std.proofs.Common.{subst}
 use Rattle.maid_model.specs.Placing.{IsRelianceOrder}
 use Rattle.relevance_graph.specs.Relevant.{IsOutcome}
 use Rattle.rule_solver.proofs.Rooms.{lists_decisions}
-use Rattle.rule_solver.proofs.tests.has_room.Goals as goal
+use Rattle.form_tests.proofs.solving.has_room.Goals as goal
 
 pub measure-requires : goal.measure-requires
 measure-requires c =

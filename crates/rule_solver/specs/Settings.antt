@@ -1,0 +1,119 @@
+-- A setting as the program has it: what its plans are, and what the decision's gains and masses are there. Only private
+-- functions cite it.
+use Rattle.std.specs.Prelude.{ℕ, List, ℤ, take}
+use Rattle.eliminate.specs.Results.{plan_total}
+use Rattle.factor_core.specs.Slots.{WorkspaceView}
+use Rattle.maid_model.specs.Relevance.{IsGoal}
+use Rattle.maid_model.specs.Scopes.{goals_of, scope_of}
+use Rattle.plan_sums.specs.Plans.{PlanView, gain_plan, row_plan}
+use Rattle.scope_sums.specs.Missing.{missing_in, missing_in_without}
+use Rattle.size_precheck.specs.declared.decisions.DecisionPlans.{DecisionPlans}
+use Rattle.size_precheck.specs.Sizes.{ArePlansOf, ArePlansOfGoals, IsPlanned, SizedPlan}
+use Rattle.rule_solver.specs.declared.decision_sums.RowSums.{RowSums}
+use Rattle.rule_solver.specs.declared.decision_sums.Setting.{Setting}
+use Rattle.rule_solver.specs.declared.joint_goals.Joint.{Joint}
+use Rattle.rule_solver.specs.declared.spaces.Workspaces.{Workspaces}
+use Rattle.rule_solver.specs.Rooms.{AreReadyFor, AreReadyForDecision, AreReadyForGoals, IsReadyFor}
+use Rattle.rule_solver.specs.Sums.{AddsGoals, AreRowSums, HasGoals, HasMasses, HasRoomFor, IsSetting, KeepsRoom}
+use Rattle.rule_solver.specs.Together.{IsJoint}
+
+-- what the setting has is right
+abbrev pub HoldsSetting : Setting → Type 0
+HoldsSetting s = IsSetting s.diagram.now s.base.now s.decision s.totals.now s.scope
+
+-- the goals of its decision, and one of them
+abbrev pub goals_in : Setting → List ℕ
+goals_in s = goals_of s.diagram.now.nodes s.decision
+
+abbrev pub IsGoalIn : Setting → ℕ → Type 0
+IsGoalIn s goal = IsGoal s.diagram.now.nodes s.decision goal
+
+-- ---- its plans
+-- what the plan of the decision's rows asks for, and that of a goal
+abbrev pub plan_of_rows : Setting → PlanView
+plan_of_rows s = row_plan s.diagram.now.nodes s.decision
+
+abbrev pub plan_of_goal : Setting → ℕ → PlanView
+plan_of_goal s goal = gain_plan s.diagram.now.nodes s.decision goal
+
+-- the plan is the one of the rows, or that of the goal
+abbrev pub IsPlannedForRows : Setting → SizedPlan → Type 0
+IsPlannedForRows s plan = IsPlanned s.diagram.now.nodes (plan_of_rows s) plan
+
+abbrev pub IsPlannedForGoal : Setting → ℕ → SizedPlan → Type 0
+IsPlannedForGoal s goal plan = IsPlanned s.diagram.now.nodes (plan_of_goal s goal) plan
+
+-- the totals of the scope's nodes that the plan of the rows lacks, but for the decision, and those that a goal's lacks
+abbrev pub lacking_in_rows : Setting → ℕ
+lacking_in_rows s = missing_in_without s.diagram.now.nodes s.base.now s.decision
+    (scope_of s.diagram.now.nodes s.decision) (plan_of_rows s)
+
+abbrev pub lacking_in_goal : Setting → ℕ → ℕ
+lacking_in_goal s goal = missing_in s.diagram.now.nodes s.base.now
+    (scope_of s.diagram.now.nodes s.decision) (plan_of_goal s goal)
+
+-- no number in a run of the plan passes this total
+abbrev pub total_in : Setting → SizedPlan → ℕ
+total_in s plan = plan_total s.diagram.now.nodes s.base.now plan.plan
+
+-- these are the plans of the decision, and of its goals alone
+abbrev pub ArePlansIn : Setting → DecisionPlans → Type 0
+ArePlansIn s plans = ArePlansOf s.diagram.now.nodes s.decision plans.rows plans.goals.items
+
+abbrev pub AreGoalPlansIn : Setting → List SizedPlan → Type 0
+AreGoalPlansIn s plans = ArePlansOfGoals s.diagram.now.nodes s.decision plans
+
+-- a workspace, or both, are ready, and have room for the plan of the rows, or for that of the goal
+abbrev pub IsReadyForRows : {C : Type 0} → Setting → WorkspaceView C → Type 0
+IsReadyForRows s work = IsReadyFor s.diagram.now.nodes (plan_of_rows s) work
+
+abbrev pub AreReadyForRows :
+    {C D : Type 0} → Setting → WorkspaceView C → WorkspaceView D → Type 0
+AreReadyForRows s small wide = AreReadyFor s.diagram.now.nodes (plan_of_rows s) small wide
+
+abbrev pub IsReadyForGoal : {C : Type 0} → Setting → ℕ → WorkspaceView C → Type 0
+IsReadyForGoal s goal work = IsReadyFor s.diagram.now.nodes (plan_of_goal s goal) work
+
+abbrev pub AreReadyForGoal :
+    {C D : Type 0} → Setting → ℕ → WorkspaceView C → WorkspaceView D → Type 0
+AreReadyForGoal s goal small wide =
+    AreReadyFor s.diagram.now.nodes (plan_of_goal s goal) small wide
+
+-- all workspaces are ready, and have room for the plans of the decision's goals, or for all of its plans
+abbrev pub AreReadyForGoalsIn : Setting → Workspaces → Type 0
+AreReadyForGoalsIn s spaces = AreReadyForGoals s.diagram.now.nodes s.decision spaces
+
+abbrev pub AreReadyForDecisionIn : Setting → Workspaces → Type 0
+AreReadyForDecisionIn s spaces = AreReadyForDecision s.diagram.now.nodes s.decision spaces
+
+-- this is what the joint sums of the decision's goals share
+abbrev pub IsJointIn : Setting → Joint → Type 0
+IsJointIn s joint = IsJoint s.diagram.now.nodes s.base.now s.decision joint
+
+-- ---- its gains and masses
+-- a mass for each row
+abbrev pub HasMassesIn : Setting → List ℕ → Type 0
+HasMassesIn s masses = HasMasses s.diagram.now s.base.now s.decision masses
+
+-- each gain is what these goals give, or there is room for that, or it is greater by that
+abbrev pub HasGoalsIn : Setting → List ℕ → List ℤ → Type 0
+HasGoalsIn s goals gains = HasGoals s.diagram.now.nodes s.base.now s.decision goals gains
+
+abbrev pub HasRoomForGoalsIn : Setting → List ℕ → List ℤ → Type 0
+HasRoomForGoalsIn s goals gains = HasRoomFor s.diagram.now s.decision goals gains
+
+abbrev pub AddsGoalsIn : Setting → List ℕ → List ℤ → List ℤ → Type 0
+AddsGoalsIn s goals before after =
+    AddsGoals s.diagram.now.nodes s.base.now s.decision goals before after
+
+-- the first so many goals give it
+abbrev pub AddsFirstGoalsIn : Setting → List ℕ → List ℤ → List ℤ → ℕ → Type 0
+AddsFirstGoalsIn s goals before after n = AddsGoalsIn s (take n goals) before after
+
+-- these are the decision's gains and masses, and they keep the weight bound and the P of the scope
+abbrev pub AreRowSumsIn : Setting → RowSums → Type 0
+AreRowSumsIn s sums = AreRowSums s.diagram.now.nodes s.base.now s.decision sums
+
+abbrev pub KeepsRoomIn : Setting → RowSums → Type 0
+KeepsRoomIn s sums =
+    KeepsRoom s.diagram.now.nodes s.decision sums.gains.items sums.masses.items
