@@ -1,6 +1,7 @@
 //! Whole numbers.
 
-ghost use Rattle.std.specs.Prelude.{◌≡◌, ◌<◌, ◌++◌, OnOk, decimal};
+ghost use Rattle.std.specs.Prelude.{◌<◌, decimal};
+ghost use Rattle.line_pieces.specs.Pushed.{PushAppends};
 
 use itoa::Buffer;
 use std::alloc::AllocError;
@@ -8,7 +9,7 @@ use std::alloc::AllocError;
 // Appends a number of one digit.
 fn push_digit(out: &mut Vec<u8>, digit: u128) -> Result<(), AllocError>
     requires { digit < 10 }
-    ensures { OnOk result (out.new.items ≡ out.old.items ++ decimal digit) }
+    ensures { PushAppends out.old out.new result (decimal digit) }
 {
     out.push(b'0' + digit as u8)?;
     Ok(())
@@ -16,7 +17,7 @@ fn push_digit(out: &mut Vec<u8>, digit: u128) -> Result<(), AllocError>
 
 /// Appends a whole number from nought, in decimal digits.
 pub fn push_number(out: &mut Vec<u8>, number: u128) -> Result<(), AllocError>
-    ensures { OnOk result (out.new.items ≡ out.old.items ++ decimal number) }
+    ensures { PushAppends out.old out.new result (decimal number) }
 {
     // Most numbers of large tables are one digit, which takes no division.
     if number < 10 {

@@ -3,10 +3,8 @@
 ghost use Rattle.std.specs.Prelude.{◌≡◌, ◌≢◌, ◌≤◌, ◌+◌, ◌^◌, ◌<◌, ◌↔◌, min, Some, length, take, map, IfOk, IfSome, IsErr};
 ghost use Rattle.std.specs.Io.{ReadsAtMost};
 ghost use Rattle.std.specs.Io.KnownBytes.{ReadConsumes};
-ghost use Rattle.std.specs.Option.{option_map};
-ghost use Rattle.maid_io.specs.Count.{counts_after_start, counts_after_read};
-ghost use Rattle.maid_io.specs.Device.{File, file_of, Opens, HasCause, CountsGiven, StartIsCounted};
-ghost use Rattle.maid_io.specs.Memory.{ShelfState, CallFails, file, bytes_at, left_bytes, IsStarted, new_shelf, shelf_after_call};
+ghost use Rattle.maid_io.specs.Device.{Opens, HasCause, CountsGiven, StartIsCounted};
+ghost use Rattle.maid_io.specs.Memory.{ShelfState, CallFails, file, left_bytes, IsStarted, IsPlaceOfFile, new_shelf, next_read_len, shelf_after_start, shelf_after_read};
 
 use crate::{Failed, Opened, Shelf};
 use std::marker::Model;
@@ -44,8 +42,7 @@ impl Model for MemShelf {
 
 // The place of the first file with that name.
 fn find(files: &[(String, Vec<u8>)], name: &str) -> Option<usize>
-    ensures bytes { option_map (λ i. bytes_at (map file files.now) i) result
-        ≡ file_of (map file files.now) name.now }
+    ensures bytes { IsPlaceOfFile (map file files.now) name.now result }
     ensures within { IfSome result (λ i. i < length files.now) }
 {
     for (i, entry) in files.iter().enumerate() {
@@ -121,8 +118,7 @@ impl Shelf for MemShelf {
         // Exactly when it fails.
         ensures fails { (result ≡ Opened.Failed) ↔ CallFails self.old }
         ensures memory { result ≢ Opened.NoMemory }
-        ensures rest { self.new
-            ≡ shelf_after_call self.old self.new.left (counts_after_start result self.old.counts) }
+        ensures rest { self.new ≡ shelf_after_start self.old self.new.left result }
     {
         self.calls = self.calls.saturating_add(1);
         self.started = None;
@@ -149,10 +145,8 @@ impl Shelf for MemShelf {
 
         // Exactly when it fails, and how many bytes it gives otherwise.
         ensures fails { IsErr result ↔ CallFails self.old }
-        ensures count { IfOk result (λ n.
-            n ≡ min (length self.old.left) (min (length buf.old) self.old.piece)) }
-        ensures rest { self.new
-            ≡ shelf_after_call self.old self.new.left (counts_after_read result self.old.counts) }
+        ensures count { IfOk result (λ n. n ≡ next_read_len self.old buf.old) }
+        ensures rest { self.new ≡ shelf_after_read self.old self.new.left result }
     {
         self.calls = self.calls.saturating_add(1);
         if self.fails.contains(&self.calls) {

@@ -1,11 +1,10 @@
 //! A sink in memory.
 
-ghost use Rattle.std.specs.Prelude.{◌≡◌, ◌≤◌, ◌+◌, ◌↔◌, min, Some, length, IfOk, MatchResult, IsErr};
-ghost use Rattle.std.specs.Io.{ReadsAtMost, WritesAtMost};
+ghost use Rattle.std.specs.Prelude.{◌≡◌, ◌≤◌, ◌↔◌, Some, IfOk, IsErr};
+ghost use Rattle.std.specs.Io.{WritesAtMost};
 ghost use Rattle.std.specs.Io.KnownBytes.{WriteAppends};
-ghost use Rattle.maid_io.specs.Count.{faults_after_write};
 ghost use Rattle.maid_io.specs.Device.{HasCause, TakesSome};
-ghost use Rattle.maid_io.specs.Memory.{SinkState, WriteFails, new_sink, sink_after_write};
+ghost use Rattle.maid_io.specs.Memory.{LeavesRoom, WriteFails, new_sink, next_write_len, sink_after_write};
 
 use crate::{Failed, Sink};
 use std::alloc::{AllocError, Global};
@@ -86,13 +85,9 @@ impl Sink for MemSink {
 
         // Exactly when it fails, and how many bytes it takes otherwise.
         ensures fails { IsErr result ↔ WriteFails self.old piece.now }
-        ensures count { IfOk result (λ n.
-            n ≡ min (length piece.now) (min self.old.piece self.old.room)) }
-        ensures room { MatchResult result (λ n. self.new.room + n ≡ self.old.room)
-            (λ _. self.new.room ≡ self.old.room) }
-        ensures rest { self.new
-            ≡ sink_after_write self.old self.new.taken self.new.room
-            (faults_after_write result self.old.faults) }
+        ensures count { IfOk result (λ n. n ≡ next_write_len self.old piece.now) }
+        ensures room { LeavesRoom self.old.room self.new.room result }
+        ensures rest { self.new ≡ sink_after_write self.old self.new.taken self.new.room result }
     {
         self.calls = self.calls.saturating_add(1);
         let full = !piece.is_empty() && self.room == 0;

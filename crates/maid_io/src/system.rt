@@ -1,10 +1,10 @@
 //! The edge to the system: its files as a shelf, its writers as sinks.
 
-ghost use Rattle.std.specs.Prelude.{None, ◌≡◌, ◌≤◌, OnOk, IsOk};
+ghost use Rattle.std.specs.Prelude.{None, ◌≡◌, ◌≤◌};
 ghost use Rattle.std.specs.Io.{ReadsAtMost, WritesAtMost};
 ghost use Rattle.std.specs.Io.KnownBytes.{ReadConsumes, WriteAppends};
 ghost use Rattle.maid_io.specs.Count.{counts_after_start, counts_after_read, faults_after_write};
-ghost use Rattle.maid_io.specs.Device.{Opens, HasCause, StartHasCause, CountsGiven, TakesSome};
+ghost use Rattle.maid_io.specs.Device.{Opens, HasCause, StartIsCounted, CountsGiven, TakesSome};
 ghost use Rattle.maid_io.specs.System.{refusal_of};
 
 use crate::{Failed, Opened, Shelf, Sink};
@@ -84,8 +84,7 @@ impl<R: Files> Shelf for DirShelf<'_, R> {
     fn start(&mut self, name: &str) -> Opened
         ensures opened { Opens result None name.now None }
         ensures given { self.new.given ≡ 0 }
-        ensures cause { StartHasCause self.old.faults self.new.faults self.old.absences
-            self.new.absences result }
+        ensures cause { StartIsCounted self.old self.new result }
         ensures counts { self.new ≡ counts_after_start result self.old }
     {
         self.started = None;

@@ -12,3 +12,8 @@ pub mod LinkCode
 pub mod Laws
 pub mod TableParts
 pub mod Linking
+pub mod Answered
+pub mod NodeCalls
+pub mod LinkCalls
+pub mod TableCalls
+pub mod TableSteps

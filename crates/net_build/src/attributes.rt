@@ -1,13 +1,13 @@
 //! The attributes of a block: those that count, and the first of a name.
 
-ghost use Rattle.std.specs.Prelude.{◌≡◌, [], All, IfSome, bytes_eq};
+ghost use Rattle.std.specs.Prelude.{◌≡◌, All, IfSome, bytes_eq};
 ghost use Rattle.std.specs.List.{list_any};
-ghost use Rattle.net_build.specs.Blocks.{counts_for, is_counted, named, names_owners, topic_of, word_of, IsFirst, counted_in, is_repeat};
-ghost use Rattle.first_fault.specs.Passes.{each_after};
+ghost use Rattle.net_build.specs.Blocks.{counts_for, is_counted, named, names_owners, topic_of, word_of, IsFirst, is_repeat};
 ghost use Rattle.first_fault.specs.Answers.{Passes};
 ghost use Rattle.net_build.specs.Passes.{build_fault};
-ghost use Rattle.net_build.specs.Table.{repeated_row, repeats};
+ghost use Rattle.net_build.specs.Table.{repeats};
 ghost use Rattle.net_parser.specs.Owned.{IsAttributeOf, IsBlockOf};
+ghost use Rattle.net_build.specs.NodeCalls.{attribute_repeats};
 
 use crate::faults::{BuildFault, BuildKind};
 use net_parser::{Attribute, Block, BlockKind};
@@ -123,8 +123,7 @@ fn check_counted(
     attributes: &[Attribute<'_>],
 ) -> Result<(), BuildFault>
     requires { All (IsAttributeOf text.now) attributes.now }
-    ensures { Passes build_fault (each_after (repeated_row text.now) []
-        (counted_in text.now kind attributes.now)) result }
+    ensures { Passes build_fault (attribute_repeats text.now kind attributes.now) result }
 {
     for (place, attribute) in attributes.iter().enumerate() {
         if is_repeated(text, kind, &attributes[..place], attribute) {

@@ -13,6 +13,8 @@ ghost use Rattle.net_build.specs.Table.{all_passes};
 ghost use Rattle.net_lexer.specs.Pieces.{IsTokens};
 ghost use Rattle.net_parser.specs.Grammar.{Spells};
 ghost use Rattle.net_parser.specs.Lexemes.{lexemes};
+ghost use Rattle.net_build.specs.Answered.{AnswersList};
+ghost use Rattle.net_build.specs.NodeCalls.{names_from};
 
 use crate::faults::BuildFault;
 use crate::links::{Links, read_links};
@@ -56,8 +58,7 @@ fn make_nodes(
     requires more { length more.now ≡ length heads.now }
     requires parents { length parents.now ≡ length heads.now }
     requires tables { length tables.old ≡ length heads.now }
-    ensures { IfOk result (λ nodes.
-        nodes.items ≡ nodes_from heads.now more.now parents.now tables.old) }
+    ensures { AnswersList result (nodes_from heads.now more.now parents.now tables.old) }
 {
     let mut nodes = Vec::with_capacity(alloc, heads.len())?;
     for (v, head) in heads.iter().enumerate() {
@@ -79,8 +80,7 @@ fn assemble(
     requires tables { length tables.cells ≡ length nodes.heads }
     requires diagram { IsDiagram (made_diagram nodes links.now tables) }
     ensures diagram { IfOk result (λ built. built.0 ≡ made_diagram nodes links.now tables) }
-    ensures names { IfOk result (λ built.
-        built.1 ≡ record { nodes = nodes.names; labels = nodes.labels; agents = nodes.agents }) }
+    ensures names { IfOk result (λ built. built.1 ≡ names_from nodes) }
 {
     let mut cells = tables.cells;
     let list = make_nodes(alloc, &nodes.heads, &nodes.more, &links.parents, &mut cells)?;

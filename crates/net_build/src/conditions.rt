@@ -1,12 +1,13 @@
 //! The names behind a potential's bar, as nodes.
 
-ghost use Rattle.std.specs.Prelude.{◌≡◌, ◌<◌, length, map, All, IfOk};
+ghost use Rattle.std.specs.Prelude.{◌≡◌, ◌<◌, length, All, IfOk};
 ghost use Rattle.std.specs.List.{list_any};
 ghost use Rattle.std.specs.Str.{bytes_eq};
 ghost use Rattle.net_lexer.specs.Token.{IsTokenOf, token_bytes};
-ghost use Rattle.net_build.specs.Linking.{node_named, kind_at, unknown_row, repeat_row, utility_row, condition_steps, conditions_steps};
+ghost use Rattle.net_build.specs.Linking.{node_named, kind_at, unknown_row, repeat_row, utility_row};
 ghost use Rattle.first_fault.specs.Answers.{Passes};
 ghost use Rattle.net_build.specs.Passes.{build_fault};
+ghost use Rattle.net_build.specs.LinkCalls.{AreNodesNamed, PassesCondition, PassesConditions};
 
 use crate::faults::{BuildFault, BuildKind};
 use crate::node_names::NodeNames;
@@ -70,8 +71,7 @@ fn read_condition(
     requires earlier { All (IsTokenOf text.now) earlier.now }
     requires name { IsTokenOf text.now name.now }
     requires heads { length heads.now ≡ length names.now }
-    ensures rows { Passes build_fault
-        (condition_steps text.now names.now heads.now earlier.now name.now) result }
+    ensures rows { PassesCondition text.now names.now heads.now earlier.now name.now result }
     ensures node { IfOk result (λ node. node ≡ node_named text.now names.now name.now) }
 {
     let node = read_name(text, names, name)?;
@@ -90,10 +90,8 @@ pub fn read_conditions(
 ) -> Result<Vec<usize>, BuildFault>
     requires conditions { All (IsTokenOf text.now) conditions.now }
     requires heads { length heads.now ≡ length names.now }
-    ensures rows { Passes build_fault (conditions_steps text.now names.now heads.now conditions.now)
-        result }
-    ensures nodes { IfOk result (λ list.
-        list.items ≡ map (node_named text.now names.now) conditions.now) }
+    ensures rows { PassesConditions text.now names.now heads.now conditions.now result }
+    ensures nodes { IfOk result (AreNodesNamed text.now names.now conditions.now) }
 {
     // A name that stands twice is refused there, so that each is compared with no more than there are nodes.
     let mut list = Vec::new(alloc);

@@ -5,7 +5,7 @@ ghost use Rattle.diagram_graph.specs.Cycles.{ListedArc, lists_in};
 ghost use Rattle.net_build.specs.Linking.{graph_steps};
 ghost use Rattle.first_fault.specs.Answers.{Passes};
 ghost use Rattle.net_build.specs.Passes.{build_fault};
-ghost use Rattle.net_build.specs.Stages.{head_at};
+ghost use Rattle.net_build.specs.LinkCalls.{cycle_fault};
 
 use crate::faults::{BuildFault, BuildKind};
 use crate::nodes::Head;
@@ -16,8 +16,7 @@ use std::alloc::Global;
 fn cycle_fault(heads: &[Head], cycle: Vec<usize>) -> BuildFault
     requires some { 0 < length cycle.items }
     requires within { slice_index cycle.items 0 < length heads.now }
-    ensures { result ≡ BuildFault.Fault (head_at heads.now (slice_index cycle.items 0)).at
-        (BuildKind.GraphCycle cycle) }
+    ensures { result ≡ cycle_fault heads.now cycle }
 {
     let at = heads[cycle[0]].at;
     BuildKind::GraphCycle { list: cycle }.at(at)

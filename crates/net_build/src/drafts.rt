@@ -3,12 +3,13 @@
 ghost use Rattle.std.specs.Prelude.{◌≡◌, ◌≢◌, ◌<◌, ◌≤◌, ◌*◌, true, IfOk, IfSome, IsSome};
 ghost use Rattle.maid_model.specs.declared.limits.TheConstants.{MOST_CELLS};
 ghost use Rattle.maid_model.specs.declared.diagrams.Kind.TheVariants.{Decision};
-ghost use Rattle.net_build.specs.Blocks.{is_potential, data_of, leaves_of};
+ghost use Rattle.net_build.specs.Blocks.{is_potential};
 ghost use Rattle.first_fault.specs.Answers.{Passes};
 ghost use Rattle.net_build.specs.Passes.{build_fault};
-ghost use Rattle.net_build.specs.TableParts.{data_part, table_part, node_part, numerals_in, IsDraftOf, FitsDraft, finished, values_of, IsDraftFrom};
+ghost use Rattle.net_build.specs.TableParts.{FitsDraft, finished, values_of};
 ghost use Rattle.net_parser.specs.Owned.{IsAttributeOf, IsBlockOf, leaves};
-ghost use Rattle.net_build.specs.Linking.{borrowed_tree};
+ghost use Rattle.net_build.specs.TableCalls.{IsDraftFromBlock, IsDraftUnder, IsHeadDraft, IsPotentialOf, PassesDraft, head_data_part};
+ghost use Rattle.net_build.specs.TableSteps.{PassesTable};
 
 use crate::attributes::{check_repeats, first_named};
 use crate::faults::{BuildFault, BuildKind};
@@ -47,9 +48,8 @@ fn read_cells(
     requires states { 0 < head.now.states }
     requires small { rows * head.now.states ≤ MOST_CELLS }
     ensures rows { Passes build_fault
-        (data_part text.now head.now.kind rows head.now.states table.now) result }
-    ensures draft { IfOk result (IsDraftFrom text.now head.now.kind rows head.now.states
-        numerals.now) }
+        (head_data_part text.now head.now rows table.now) result }
+    ensures draft { IfOk result (IsHeadDraft text.now head.now rows numerals.now) }
 {
     let decimals = read_numbers(alloc, text, table, numerals, rows * head.states)?;
     match head.kind {
@@ -76,9 +76,8 @@ fn read_leaves(
     requires states { 0 < head.now.states }
     requires small { rows * head.now.states ≤ MOST_CELLS }
     ensures rows { Passes build_fault
-        (data_part text.now head.now.kind rows head.now.states table.now) result }
-    ensures draft { IfOk result (IsDraftFrom text.now head.now.kind rows head.now.states
-        numerals.now) }
+        (head_data_part text.now head.now rows table.now) result }
+    ensures draft { IfOk result (IsHeadDraft text.now head.now rows numerals.now) }
 {
     if let Some(draft) = plain_draft(alloc, text, head, rows, table, numerals)? {
         return Ok(draft);
@@ -99,9 +98,8 @@ fn read_data(
     requires states { 0 < head.now.states }
     requires small { rows * head.now.states ≤ MOST_CELLS }
     ensures rows { Passes build_fault
-        (data_part text.now head.now.kind rows head.now.states table.now) result }
-    ensures draft { IfOk result (IsDraftFrom text.now head.now.kind rows head.now.states
-        (leaves table.now.value)) }
+        (head_data_part text.now head.now rows table.now) result }
+    ensures draft { IfOk result (IsHeadDraft text.now head.now rows (leaves table.now.value)) }
 {
     if let Value::Leaves(tokens) = &table.value {
         return read_leaves(alloc, text, head, rows, table, tokens);
@@ -123,10 +121,8 @@ fn read_table(
     requires kind { head.now.kind ≢ Decision }
     requires states { 0 < head.now.states }
     requires small { rows * head.now.states ≤ MOST_CELLS }
-    ensures rows { Passes build_fault
-        (table_part text.now head.now.kind rows head.now.states potential.now) result }
-    ensures draft { IfOk result (IsDraftFrom text.now head.now.kind rows head.now.states
-        (leaves_of (data_of text.now potential.now))) }
+    ensures rows { PassesTable text.now head.now rows potential.now result }
+    ensures draft { IfOk result (IsDraftFromBlock text.now head.now rows potential.now) }
 {
     check_repeats(text, potential)?;
     match first_named(text, &potential.attributes, b"data") {
@@ -144,15 +140,12 @@ pub fn read_draft(
     potential: Option<&Block<'_>>,
 ) -> Result<Draft, BuildFault>
     requires own { IfSome potential (λ p.
-        IsBlockOf text.now p.now × (is_potential p.now.kind ≡ true)) }
+        IsPotentialOf text.now p.now) }
     requires there { head.now.kind ≢ Decision → IsSome potential }
     requires states { 0 < head.now.states }
     requires small { rows * head.now.states ≤ MOST_CELLS }
-    ensures rows { Passes build_fault
-        (node_part text.now head.now.kind rows head.now.states (borrowed_tree potential.entry))
-        result }
-    ensures draft { IfOk result (IsDraftOf head.now.kind rows head.now.states
-        (numerals_in text.now (borrowed_tree potential.entry))) }
+    ensures rows { PassesDraft text.now head.now rows potential.entry result }
+    ensures draft { IfOk result (IsDraftUnder text.now head.now rows potential.entry) }
 {
     match (head.kind, potential) {
         (Kind::Decision, _) => Ok(Draft::Cells(Vec::new(alloc))),

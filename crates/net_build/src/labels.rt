@@ -2,17 +2,18 @@
 
 ghost use Rattle.std.specs.Prelude.{◌≡◌, ◌<◌, All, map, length, nat_le, true, IfOk};
 ghost use Rattle.std.specs.List.{list_all};
-ghost use Rattle.net_build.specs.Blocks.{title, is_plain, is_string, is_string_list, is_text, has_states, block_labels, state_attributes};
-ghost use Rattle.maid_model.specs.Names.{list_of};
+ghost use Rattle.net_build.specs.Blocks.{title, is_plain, is_string, is_string_list, is_text, has_states};
 ghost use Rattle.first_fault.specs.Passes.{each};
 ghost use Rattle.first_fault.specs.Answers.{Passes};
 ghost use Rattle.net_build.specs.Passes.{build_fault};
 ghost use Rattle.net_build.specs.Stages.{are_string_values, are_text_tokens};
-ghost use Rattle.net_build.specs.Table.{label_row, label_rows, states_rows};
+ghost use Rattle.net_build.specs.Table.{label_row, label_rows};
 ghost use Rattle.net_lexer.specs.Token.{IsTokenOf, text_value};
 ghost use Rattle.net_lexer.specs.declared.tokens.TokenKind.TheVariants.{Text};
-ghost use Rattle.net_parser.specs.Owned.{IsAttributeOf, IsBlockOf, leaves};
+ghost use Rattle.net_parser.specs.Owned.{IsAttributeOf, IsBlockOf};
 ghost use Rattle.net_parser.specs.Views.{value_tree};
+ghost use Rattle.net_build.specs.Answered.{AnswersTexts};
+ghost use Rattle.net_build.specs.NodeCalls.{AreLabelsOf, value_texts, written_states_rows};
 
 use crate::attributes::first_named;
 use crate::faults::{BuildFault, BuildKind, Limit};
@@ -116,8 +117,7 @@ pub fn labels(alloc: Global, text: &[u8], strings: &[Token]) -> Result<Vec<Vec<u
     requires own { All (IsTokenOf text.now) strings.now }
     requires strings { All (λ t. t.kind ≡ Text) strings.now }
     ensures rows { Passes build_fault (each (label_row text.now) strings.now) result }
-    ensures labels { IfOk result (λ labels.
-        list_of labels.items ≡ map (text_value text.now) strings.now) }
+    ensures labels { AnswersTexts result (map (text_value text.now) strings.now) }
 {
     let mut labels = Vec::with_capacity(alloc, strings.len())?;
     for string in strings {
@@ -134,8 +134,7 @@ fn state_labels(
 ) -> Result<Vec<Vec<u8>>, BuildFault>
     requires { IsAttributeOf text.now states.now }
     ensures rows { Passes build_fault (label_rows text.now states.now) result }
-    ensures labels { IfOk result (λ labels.
-        list_of labels.items ≡ map (text_value text.now) (leaves states.now.value)) }
+    ensures labels { AnswersTexts result (value_texts text.now states.now) }
 {
     let at = states.name.start;
     if !is_string_list(&states.value) {
@@ -160,10 +159,8 @@ pub fn read_labels(
 ) -> Result<Vec<Vec<u8>>, BuildFault>
     requires own { IsBlockOf text.now block.now }
     requires kind { has_states block.now.kind ≡ true }
-    ensures rows { Passes build_fault
-        (states_rows text.now block.now (state_attributes text.now block.now)) result }
-    ensures labels { IfOk result (λ labels.
-        list_of labels.items ≡ block_labels text.now block.now) }
+    ensures rows { Passes build_fault (written_states_rows text.now block.now) result }
+    ensures labels { IfOk result (AreLabelsOf text.now block.now) }
 {
     match first_named(text, &block.attributes, b"states") {
         Some(states) => state_labels(alloc, text, states),

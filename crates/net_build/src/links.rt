@@ -3,12 +3,13 @@
 ghost use Rattle.std.specs.Prelude.{◌≡◌, None, length, All, IfOk, OnOk};
 ghost use Rattle.net_parser.specs.Owned.{IsBlockOf};
 ghost use Rattle.net_build.specs.Blocks.{node_blocks};
-ghost use Rattle.net_build.specs.Linking.{borrowed_trees, AreParents, links_steps};
+ghost use Rattle.net_build.specs.Linking.{AreParents};
 ghost use Rattle.net_build.specs.Lists.{numbers_of_lists};
 ghost use Rattle.first_fault.specs.Answers.{Passes};
 ghost use Rattle.net_build.specs.Passes.{build_fault};
 ghost use Rattle.net_build.specs.Stages.{node_lists, link_lists, AreLinks};
 ghost use Rattle.net_build.specs.Table.{node_pass, links_pass};
+ghost use Rattle.net_build.specs.LinkCalls.{PassesLinks};
 
 use crate::cycles::check_graph;
 use crate::faults::BuildFault;
@@ -55,9 +56,7 @@ fn check_links(
     requires parents { length parents.now ≡ length heads.now }
     requires potentials { length potentials.now ≡ length heads.now }
     requires fit { All (AreParents heads.now) (numbers_of_lists parents.now) }
-    ensures rows { Passes build_fault
-        (links_steps heads.now (borrowed_trees potentials.now) (numbers_of_lists parents.now))
-        result }
+    ensures rows { PassesLinks heads.now parents.now potentials.now result }
     ensures fit { OnOk result (AreLinks heads.now (numbers_of_lists parents.now)) }
 {
     check_tables(heads, potentials)?;

@@ -1,9 +1,8 @@
 //! The names of a text's nodes, found by their hashes.
 
 ghost use Rattle.std.specs.Prelude.{◌≡◌, ◌++◌, [], ◌∷◌, length, Contains, IfOk, OnOk};
-ghost use Rattle.std.specs.Option.{SomeIff};
-ghost use Rattle.net_build.specs.Blocks.{place_among};
 ghost use Rattle.maid_model.specs.Names.{list_of};
+ghost use Rattle.net_build.specs.NodeCalls.{IsPlaceAmong};
 
 use indexmap::IndexSet;
 use std::alloc::{AllocError, AllocFailed, Global};
@@ -44,7 +43,7 @@ impl NodeNames {
 
     /// The place of the name, if it is there.
     pub fn place(&self, name: &[u8]) -> Option<usize>
-        ensures { SomeIff result (Contains self.now name.now) (place_among self.now name.now) }
+        ensures { IsPlaceAmong self.now name.now result }
     {
         self.names.get_index_of(name)
     }

@@ -1,13 +1,14 @@
 //! The node blocks of a text: names, labels, agents, kinds and counts of states.
 
-ghost use Rattle.std.specs.Prelude.{◌≡◌, ◌<◌, ◌∷◌, All, length, IfOk, OnOk};
-ghost use Rattle.net_build.specs.Blocks.{is_node, kind_of, title_at, block_name, node_blocks, has_states, named, block_labels, block_states, owner_places};
+ghost use Rattle.std.specs.Prelude.{◌≡◌, ◌<◌, ◌++◌, [], ◌∷◌, All, Contains, length, IfOk, OnOk};
+ghost use Rattle.net_build.specs.Blocks.{is_node, kind_of, title_at, block_name, node_blocks, has_states, block_labels, block_states};
 ghost use Rattle.maid_model.specs.Names.{list_of};
 ghost use Rattle.first_fault.specs.Answers.{Passes};
 ghost use Rattle.net_build.specs.Passes.{build_fault};
-ghost use Rattle.net_build.specs.Stages.{with_owners, node_lists};
-ghost use Rattle.net_build.specs.Table.{name_rows, node_rows, node_pass, block_states_rows};
+ghost use Rattle.net_build.specs.Stages.{node_lists};
+ghost use Rattle.net_build.specs.Table.{name_rows, node_pass, block_states_rows};
 ghost use Rattle.net_parser.specs.Owned.{IsBlockOf};
+ghost use Rattle.net_build.specs.NodeCalls.{AddsOwners, AreLabelsOf, HasOwners, PassesNode};
 
 use crate::attributes::check_repeats;
 use crate::faults::{BuildFault, BuildKind, Limit};
@@ -16,7 +17,7 @@ use crate::node_names::NodeNames;
 use crate::owners::read_owners;
 use maid_model::{Kind, MOST_NAME_BYTES, MOST_NODES};
 use net_parser::{Block, BlockKind, Syntax};
-use std::alloc::Global;
+use std::alloc::{AllocError, Global};
 use std::marker::Model;
 
 /// What a node block says in numbers: where its name stands, and the node's kind, the number of its first owner (0 at
@@ -128,8 +129,7 @@ fn read_name<'a>(
 fn node_labels(alloc: Global, text: &[u8], block: &Block<'_>) -> Result<Vec<Vec<u8>>, BuildFault>
     requires { IsBlockOf text.now block.now }
     ensures rows { Passes build_fault (block_states_rows text.now block.now) result }
-    ensures labels { IfOk result (λ labels.
-        list_of labels.items ≡ block_labels text.now block.now) }
+    ensures labels { IfOk result (AreLabelsOf text.now block.now) }
 {
     if has_states(block.kind) {
         read_labels(alloc, text, block)
@@ -160,19 +160,14 @@ fn read_entry(
 ) -> Result<Entry, BuildFault>
     requires own { IsBlockOf text.now block.now }
     requires named { 0 < length block.now.names }
-    ensures rows { Passes build_fault
-        (node_rows text.now names.now (list_of agents.old.items) block.now) result }
-    ensures agents { OnOk result (list_of agents.new.items
-        ≡ with_owners text.now (list_of agents.old.items) block.now) }
+    ensures rows { PassesNode text.now names.now agents.old block.now result }
+    ensures agents { AddsOwners text.now block.now agents.old agents.new result }
     ensures name { IfOk result (λ entry. entry.name.items ≡ block_name text.now block.now) }
-    ensures labels { IfOk result (λ entry.
-        list_of entry.labels.items ≡ block_labels text.now block.now) }
+    ensures labels { IfOk result (λ entry. AreLabelsOf text.now block.now entry.labels) }
     ensures at { IfOk result (λ entry. entry.head.at ≡ title_at block.now) }
     ensures kind { IfOk result (λ entry. entry.head.kind ≡ kind_of block.now.kind) }
     ensures states { IfOk result (λ entry. entry.head.states ≡ block_states text.now block.now) }
-    ensures owners { IfOk result (λ entry.
-        entry.head.owner ∷ entry.more.items
-        ≡ owner_places text.now (list_of agents.new.items) block.now) }
+    ensures owners { IfOk result (HasOwners text.now agents.new block.now) }
 {
     let name = read_name(text, block, names)?;
     check_repeats(text, block)?;
@@ -192,6 +187,28 @@ fn read_entry(
     })
 }
 
+// Adds what one node block says. It stands apart since each refusal in `read_blocks` drops all that was read so far, and
+// each such drop is proved.
+fn enter(
+    names: &mut NodeNames,
+    labels: &mut Vec<Vec<Vec<u8>>>,
+    heads: &mut Vec<Head>,
+    more: &mut Vec<Vec<usize>>,
+    entry: Entry,
+) -> Result<(), AllocError>
+    requires { ¬ Contains names.old entry.name.items }
+    ensures names { OnOk result (names.new ≡ names.old ++ entry.name.items ∷ []) }
+    ensures labels { OnOk result (labels.new.items ≡ labels.old.items ++ entry.labels ∷ []) }
+    ensures heads { OnOk result (heads.new.items ≡ heads.old.items ++ entry.head ∷ []) }
+    ensures more { OnOk result (more.new.items ≡ more.old.items ++ entry.more ∷ []) }
+{
+    names.add(entry.name)?;
+    labels.push(entry.labels)?;
+    heads.push(entry.head)?;
+    more.push(entry.more)?;
+    Ok(())
+}
+
 // What the node blocks among these say.
 fn read_blocks(alloc: Global, text: &[u8], blocks: &[Block<'_>]) -> Result<Nodes, BuildFault>
     requires { All (IsBlockOf text.now) blocks.now }
@@ -206,10 +223,7 @@ fn read_blocks(alloc: Global, text: &[u8], blocks: &[Block<'_>]) -> Result<Nodes
     for block in blocks {
         if is_node(block.kind) {
             let entry = read_entry(alloc, text, block, &names, &mut agents)?;
-            names.add(entry.name)?;
-            labels.push(entry.labels)?;
-            heads.push(entry.head)?;
-            more.push(entry.more)?;
+            enter(&mut names, &mut labels, &mut heads, &mut more, entry)?;
         }
     }
     Ok(Nodes {

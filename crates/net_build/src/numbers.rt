@@ -4,7 +4,7 @@ ghost use Rattle.std.specs.Prelude.{◌≡◌, All, true, None, IfOk, IfSome, If
 ghost use Rattle.net_build.specs.Blocks.{is_number};
 ghost use Rattle.first_fault.specs.Passes.{each};
 ghost use Rattle.first_fault.specs.Answers.{Passes};
-ghost use Rattle.net_build.specs.Passes.{WrongCount, build_fault};
+ghost use Rattle.net_build.specs.Passes.{build_fault};
 ghost use Rattle.net_build.specs.Scaling.{TellDecimals};
 ghost use Rattle.net_build.specs.Table.{IsNumberTooLong, number_row, length_row};
 ghost use Rattle.net_build.specs.TableParts.{count_row, number_rows};

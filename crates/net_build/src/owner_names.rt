@@ -1,7 +1,7 @@
 //! The names of a node's owners: the string of `agent`, or the strings of `agents`.
 
-ghost use Rattle.std.specs.Prelude.{◌≡◌, [], ◌∷◌, List, All, map, true, false, IfOk, IfSome, MatchOption, bytes_eq, codes};
-ghost use Rattle.net_build.specs.Blocks.{is_string, names_owners, owner_attributes, owner_names, telling_owners, texts_or_agent, word_of, IsFirst};
+ghost use Rattle.std.specs.Prelude.{◌≡◌, [], ◌∷◌, All, map, true, false, IfSome, bytes_eq, codes};
+ghost use Rattle.net_build.specs.Blocks.{owner_names, telling_owners, texts_or_agent, word_of, IsFirst};
 ghost use Rattle.maid_model.specs.Names.{list_of};
 ghost use Rattle.first_fault.specs.Passes.{each_after};
 ghost use Rattle.first_fault.specs.Answers.{Passes};
@@ -10,8 +10,9 @@ ghost use Rattle.net_build.specs.Table.{repeated_agent_row, agent_rows, bad_agen
 ghost use Rattle.net_lexer.specs.Token.{text_value};
 ghost use Rattle.net_lexer.specs.declared.tokens.TokenKind.TheVariants.{Text};
 ghost use Rattle.net_parser.specs.Owned.{IsAttributeOf, IsBlockOf, leaves};
-ghost use Rattle.net_parser.specs.Trees.{leaf};
 ghost use Rattle.net_parser.specs.Views.{value_tree};
+ghost use Rattle.net_build.specs.Answered.{AnswersTexts};
+ghost use Rattle.net_build.specs.NodeCalls.{IsStringOf, value_texts, written_owners_rows};
 
 use crate::attributes::{is_named, names_owners, word_of};
 use crate::faults::{BuildFault, BuildKind};
@@ -42,8 +43,7 @@ fn first_telling<'a, 't>(
 
 // The token of a string.
 fn string_token<'a>(value: &'a Value<'_>) -> Option<&'a Token>
-    ensures tree { MatchOption result (is_string (value_tree value.now) ≡ false)
-        (λ token. value_tree value.now ≡ leaf token.now) }
+    ensures tree { IsStringOf (value_tree value.now) result }
     ensures string { IfSome result (λ token. token.now.kind ≡ Text) }
 {
     match value {
@@ -63,8 +63,7 @@ fn one_name(alloc: Global, text: &[u8], agent: &Attribute<'_>) -> Result<Vec<Vec
     requires own { IsAttributeOf text.now agent.now }
     requires one { bytes_eq (word_of text.now agent.now) (codes "agents") ≡ false }
     ensures rows { Passes build_fault (bad_agent_row text.now agent.now) result }
-    ensures names { IfOk result (λ names.
-        list_of names.items ≡ map (text_value text.now) (leaves agent.now.value)) }
+    ensures names { AnswersTexts result (value_texts text.now agent.now) }
 {
     let at = agent.name.start;
     let Some(token) = string_token(&agent.value) else {
@@ -88,8 +87,7 @@ fn listed_names(
     requires own { IsAttributeOf text.now agents.now }
     requires list { bytes_eq (word_of text.now agents.now) (codes "agents") ≡ true }
     ensures rows { Passes build_fault (bad_agent_row text.now agents.now) result }
-    ensures names { IfOk result (λ names.
-        list_of names.items ≡ map (text_value text.now) (leaves agents.now.value)) }
+    ensures names { AnswersTexts result (value_texts text.now agents.now) }
 {
     let at = agents.name.start;
     if !is_string_list(&agents.value) {
@@ -111,8 +109,7 @@ fn agent_names(
 ) -> Result<Vec<Vec<u8>>, BuildFault>
     requires { IsAttributeOf text.now agents.now }
     ensures rows { Passes build_fault (bad_agent_row text.now agents.now) result }
-    ensures names { IfOk result (λ names.
-        list_of names.items ≡ map (text_value text.now) (leaves agents.now.value)) }
+    ensures names { AnswersTexts result (value_texts text.now agents.now) }
 {
     if is_named(text, agents, b"agents") {
         listed_names(alloc, text, agents)
@@ -151,8 +148,7 @@ fn told_names(
 ) -> Result<Vec<Vec<u8>>, BuildFault>
     requires { IsAttributeOf text.now agents.now }
     ensures rows { Passes build_fault (agent_rows text.now (agents.now ∷ [])) result }
-    ensures names { IfOk result (λ names.
-        list_of names.items ≡ texts_or_agent text.now (leaves agents.now.value)) }
+    ensures names { AnswersTexts result (texts_or_agent text.now (leaves agents.now.value)) }
 {
     let names = agent_names(alloc, text, agents)?;
     let tokens = leaves(alloc, &agents.value)?;
@@ -163,9 +159,8 @@ fn told_names(
 /// The names of the owners of a decision or a utility, in written order.
 pub fn read_names(alloc: Global, text: &[u8], block: &Block<'_>) -> Result<Vec<Vec<u8>>, BuildFault>
     requires { IsBlockOf text.now block.now }
-    ensures rows { Passes build_fault (agent_rows text.now (owner_attributes text.now block.now))
-        result }
-    ensures names { IfOk result (λ names. list_of names.items ≡ owner_names text.now block.now) }
+    ensures rows { Passes build_fault (written_owners_rows text.now block.now) result }
+    ensures names { AnswersTexts result (owner_names text.now block.now) }
 {
     match first_telling(text, block.kind, &block.attributes) {
         Some(agents) => told_names(alloc, text, agents),

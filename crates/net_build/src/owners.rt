@@ -1,14 +1,14 @@
 //! The owners of decisions and utilities, as numbers of agents in order of first sight.
 
-ghost use Rattle.std.specs.Prelude.{◌≡◌, ◌<◌, [], ◌∷◌, map, length, IfOk, OnOk};
-ghost use Rattle.net_build.specs.Blocks.{has_agent, owner_places, place_among, with_sight, with_sights, named_owner_places};
+ghost use Rattle.std.specs.Prelude.{◌≡◌, ◌<◌, length, IfOk};
+ghost use Rattle.net_build.specs.Blocks.{has_agent, place_among};
 ghost use Rattle.maid_model.specs.Names.{list_of};
-ghost use Rattle.first_fault.specs.Passes.{each_after};
 ghost use Rattle.first_fault.specs.Answers.{Passes};
 ghost use Rattle.net_build.specs.Passes.{build_fault};
-ghost use Rattle.net_build.specs.Stages.{with_owners, with_named_owners};
-ghost use Rattle.net_build.specs.Table.{sight_row, owner_rows, block_owner_rows, many_agents_row};
+ghost use Rattle.net_build.specs.Table.{owner_rows, many_agents_row};
 ghost use Rattle.net_parser.specs.Owned.{IsBlockOf};
+ghost use Rattle.net_build.specs.Answered.{AnswersList, texts_in};
+ghost use Rattle.net_build.specs.NodeCalls.{AddsAgent, AddsAgents, AddsNamedOwners, AddsOwners, AreNamedOwners, AreOwners, PassesOwners, places_among, sight_rows};
 
 use crate::faults::{BuildFault, BuildKind, Limit};
 use crate::labels::title;
@@ -32,12 +32,11 @@ fn number_agent(
     agent: &[u8],
     at: u32,
 ) -> Result<usize, BuildFault>
-    ensures rows { Passes build_fault (many_agents_row (list_of agents.old.items) at agent.now)
+    ensures rows { Passes build_fault (many_agents_row (texts_in agents.old) at agent.now)
         result }
-    ensures agents { OnOk result (list_of agents.new.items
-        ≡ with_sight (list_of agents.old.items) agent.now) }
+    ensures agents { AddsAgent agent.now agents.old agents.new result }
     ensures place { IfOk result (λ place.
-        place ≡ place_among (list_of agents.new.items) agent.now) }
+        place ≡ place_among (texts_in agents.new) agent.now) }
 {
     if let Some(place) = place_of(agents, agent) {
         return Ok(place);
@@ -62,11 +61,9 @@ fn number_owners(
     at: u32,
 ) -> Result<Vec<usize>, BuildFault>
     ensures rows { Passes build_fault
-        (each_after (sight_row (list_of agents.old.items) at) [] (list_of names.now)) result }
-    ensures agents { OnOk result (list_of agents.new.items
-        ≡ with_sights (list_of agents.old.items) (list_of names.now)) }
-    ensures numbers { IfOk result (λ numbers.
-        numbers.items ≡ map (place_among (list_of agents.new.items)) (list_of names.now)) }
+        (sight_rows agents.old at names.now) result }
+    ensures agents { AddsAgents (list_of names.now) agents.old agents.new result }
+    ensures numbers { AnswersList result (places_among agents.new names.now) }
 {
     let mut numbers = Vec::new(alloc);
     for name in names {
@@ -84,12 +81,10 @@ fn agent_owners(
 ) -> Result<Owners, BuildFault>
     requires own { IsBlockOf text.now block.now }
     requires named { 0 < length block.now.names }
-    ensures rows { Passes build_fault (owner_rows text.now (list_of agents.old.items) block.now)
+    ensures rows { Passes build_fault (owner_rows text.now (texts_in agents.old) block.now)
         result }
-    ensures agents { OnOk result (list_of agents.new.items
-        ≡ with_named_owners text.now (list_of agents.old.items) block.now) }
-    ensures owners { IfOk result (λ owners. owners.first ∷ owners.more.items
-        ≡ named_owner_places text.now (list_of agents.new.items) block.now) }
+    ensures agents { AddsNamedOwners text.now block.now agents.old agents.new result }
+    ensures owners { IfOk result (AreNamedOwners text.now agents.new block.now) }
 {
     let names = read_names(alloc, text, block)?;
     let numbers = number_owners(alloc, agents, &names, title(block).start)?;
@@ -115,13 +110,9 @@ pub fn read_owners(
 ) -> Result<Owners, BuildFault>
     requires own { IsBlockOf text.now block.now }
     requires named { 0 < length block.now.names }
-    ensures rows { Passes build_fault
-        (block_owner_rows text.now (list_of agents.old.items) block.now) result }
-    ensures agents { OnOk result (list_of agents.new.items
-        ≡ with_owners text.now (list_of agents.old.items) block.now) }
-    ensures owners { IfOk result (λ owners.
-        owners.first ∷ owners.more.items
-        ≡ owner_places text.now (list_of agents.new.items) block.now) }
+    ensures rows { PassesOwners text.now agents.old block.now result }
+    ensures agents { AddsOwners text.now block.now agents.old agents.new result }
+    ensures owners { IfOk result (AreOwners text.now agents.new block.now) }
 {
     if has_agent(block.kind) {
         agent_owners(alloc, text, block, agents)

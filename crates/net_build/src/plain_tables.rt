@@ -2,13 +2,13 @@
 
 ghost use Rattle.std.specs.Prelude.{◌≡◌, ◌<◌, ◌≤◌, ◌≤ℤ◌, ◌*◌, All, map, pos, None, IfOk, IfSome, IfNone};
 ghost use Rattle.std.specs.Int.{◌∣◌};
-ghost use Rattle.std.specs.Option.{SomeIff};
-ghost use Rattle.maid_model.specs.declared.diagrams.Kind.TheVariants.{Chance};
 ghost use Rattle.maid_model.specs.declared.limits.TheConstants.{MOST_CELLS};
-ghost use Rattle.net_build.specs.TableParts.{ArePlainNumbers, IsDraftFrom, IsFewDigits, IsPlainTable, TellWholeNumbers, data_part, few_number};
+ghost use Rattle.net_build.specs.TableParts.{ArePlainNumbers, IsFewDigits, IsPlainTable, TellWholeNumbers, few_number};
 ghost use Rattle.net_lexer.specs.Token.{IsTokenOf, token_bytes};
 ghost use Rattle.net_parser.specs.Owned.{IsAttributeOf, leaves};
 ghost use Rattle.weight_scale.specs.Numeral.{IsWholeNumeral};
+ghost use Rattle.net_build.specs.Answered.{IfFound, IfNotFound};
+ghost use Rattle.net_build.specs.TableCalls.{IsFewNumber, IsHeadDraft, LacksPlainNumbers, head_data_part};
 
 use crate::drafts::Draft;
 use crate::nodes::Head;
@@ -21,7 +21,7 @@ use weight_scale::{plain_total, whole_numeral};
 // The number, where it is few digits alone.
 fn whole_number(text: &[u8], token: &Token) -> Option<i128>
     requires { IsTokenOf text.now token.now }
-    ensures number { SomeIff result (IsFewDigits text.now token.now) (few_number text.now token.now) }
+    ensures number { IsFewNumber text.now token.now result }
     ensures decimal { IfSome result (IsWholeNumeral (token_bytes text.now token.now)) }
     ensures above { IfSome result (λ number. pos 0 ≤ℤ number) }
 {
@@ -41,12 +41,9 @@ fn whole_numbers(
     ensures few { IfOk result (λ found. IfSome found (λ _. All (IsFewDigits text.now) tokens.now)) }
     ensures none { IfOk result (λ found.
         IfNone found (All (IsFewDigits text.now) tokens.now → ⊥)) }
-    ensures numbers { IfOk result (λ found.
-        IfSome found (λ numbers. numbers.items ≡ map (few_number text.now) tokens.now)) }
-    ensures whole { IfOk result (λ found.
-        IfSome found (λ numbers. TellWholeNumbers text.now tokens.now numbers.items)) }
-    ensures above { IfOk result (λ found.
-        IfSome found (λ numbers. All (λ x. pos 0 ≤ℤ x) numbers.items)) }
+    ensures numbers { IfFound result (λ found. found.items ≡ map (few_number text.now) tokens.now) }
+    ensures whole { IfFound result (λ found. TellWholeNumbers text.now tokens.now found.items) }
+    ensures above { IfFound result (λ found. All (λ x. pos 0 ≤ℤ x) found.items) }
 {
     let mut numbers = Vec::with_capacity(alloc, tokens.len())?;
     for token in tokens {
@@ -69,10 +66,8 @@ fn plain_cells(
     requires own { All (IsTokenOf text.now) numerals.now }
     requires states { 0 < states }
     requires whole { states ∣ want }
-    ensures some { IfOk result (λ found.
-        IfSome found (λ cells. IsPlainTable text.now states want numerals.now cells.items)) }
-    ensures none { IfOk result (λ found.
-        IfNone found (ArePlainNumbers text.now states want numerals.now → ⊥)) }
+    ensures some { IfFound result (λ c. IsPlainTable text.now states want numerals.now c.items) }
+    ensures none { IfNotFound result (ArePlainNumbers text.now states want numerals.now → ⊥) }
 {
     if numerals.len() != want {
         return Ok(None);
@@ -100,14 +95,9 @@ pub fn plain_draft(
     requires numerals { numerals.now ≡ leaves table.now.value }
     requires states { 0 < head.now.states }
     requires small { rows * head.now.states ≤ MOST_CELLS }
-    ensures rows { IfOk result (λ found.
-        IfSome found (λ _.
-        data_part text.now head.now.kind rows head.now.states table.now None)) }
-    ensures draft { IfOk result (λ found.
-        IfSome found (IsDraftFrom text.now head.now.kind rows head.now.states numerals.now)) }
-    ensures none { IfOk result (λ found.
-        IfNone found (head.now.kind ≡ Chance
-        → ArePlainNumbers text.now head.now.states (rows * head.now.states) numerals.now → ⊥)) }
+    ensures rows { IfFound result (λ _. head_data_part text.now head.now rows table.now None) }
+    ensures draft { IfFound result (IsHeadDraft text.now head.now rows numerals.now) }
+    ensures none { IfNotFound result (LacksPlainNumbers text.now head.now rows numerals.now) }
 {
     let Kind::Chance = head.kind else {
         return Ok(None);

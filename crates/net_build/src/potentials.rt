@@ -1,14 +1,15 @@
 //! The potentials of a text, node by node.
 
-ghost use Rattle.std.specs.Prelude.{◌≡◌, ◌≢◌, ◌<◌, true, [], length, map, drop, replicate, slice_set, None, Some, All, AllPairs, IfOk};
+ghost use Rattle.std.specs.Prelude.{◌≡◌, ◌≢◌, ◌<◌, true, [], length, drop, replicate, None, All, AllPairs, IfOk};
 ghost use Rattle.net_lexer.specs.Token.{IsTokenOf};
 ghost use Rattle.net_parser.specs.Owned.{IsBlockOf};
 ghost use Rattle.net_build.specs.Blocks.{is_potential, title, conditions, potentials};
-ghost use Rattle.net_build.specs.Linking.{node_named, borrowed_trees, taken_row, many_row, potential_steps, potentials_steps, potentials_among, parents_in, absent_row, missing_at, missing_steps, AreParents, block_steps};
+ghost use Rattle.net_build.specs.Linking.{node_named, borrowed_trees, taken_row, many_row, missing_steps, AreParents};
 ghost use Rattle.net_build.specs.Lists.{numbers_of_lists};
 ghost use Rattle.first_fault.specs.Answers.{Passes};
 ghost use Rattle.net_build.specs.Passes.{build_fault};
-ghost use Rattle.net_build.specs.Stages.{head_at};
+ghost use Rattle.net_build.specs.LinkCalls.{AreConditionNodes, AreNodesNamed, HasParents, HasPotentials, PassesAbsent, PassesBlock, PassesMissing, PassesPotential, PassesPotentials, SetsList};
+ghost use Rattle.net_build.specs.TableSteps.{SetsPotential};
 
 use crate::conditions::{read_conditions, read_name};
 use crate::faults::{BuildFault, BuildKind, Limit};
@@ -64,13 +65,10 @@ fn read_potential(
     requires conditions { All (IsTokenOf text.now) conditions.now }
     requires heads { length heads.now ≡ length names.now }
     requires potentials { length potentials.now ≡ length names.now }
-    ensures rows { Passes build_fault
-        (potential_steps text.now names.now heads.now (borrowed_trees potentials.now) head.now
-        conditions.now) result }
+    ensures rows { PassesPotential text.now names.now heads.now potentials.now head.now conditions.now result }
     ensures node { IfOk result (λ read. read.0 ≡ node_named text.now names.now head.now) }
     ensures within { IfOk result (λ read. read.0 < length names.now) }
-    ensures parents { IfOk result (λ read.
-        read.1.items ≡ map (node_named text.now names.now) conditions.now) }
+    ensures parents { IfOk result (λ read. AreNodesNamed text.now names.now conditions.now read.1) }
     ensures fit { IfOk result (λ read. AreParents heads.now read.1.items) }
 {
     let node = read_name(text, names, head)?;
@@ -107,13 +105,10 @@ fn read_block(
     requires potential { is_potential block.now.kind ≡ true }
     requires heads { length heads.now ≡ length names.now }
     requires potentials { length potentials.now ≡ length names.now }
-    ensures rows { Passes build_fault
-        (block_steps text.now names.now heads.now (borrowed_trees potentials.now) block.now)
-        result }
+    ensures rows { PassesBlock text.now names.now heads.now potentials.now block.now result }
     ensures node { IfOk result (λ read. read.0 ≡ node_named text.now names.now (title block.now)) }
     ensures within { IfOk result (λ read. read.0 < length names.now) }
-    ensures parents { IfOk result (λ read.
-        read.1.items ≡ map (node_named text.now names.now) (conditions block.now)) }
+    ensures parents { IfOk result (λ read. AreConditionNodes text.now names.now block.now read.1) }
     ensures fit { IfOk result (λ read. AreParents heads.now read.1.items) }
 {
     let tokens = block.names.as_slice();
@@ -154,10 +149,8 @@ fn enter<P: Drop>(
 )
     requires parents { node < length parents.old.items }
     requires potentials { node < length potentials.old.items }
-    ensures parents { numbers_of_lists parents.new.items
-        ≡ slice_set (numbers_of_lists parents.old.items) node list.items }
-    ensures potentials { potentials.new.items
-        ≡ slice_set potentials.old.items node (Some potential) }
+    ensures parents { SetsList parents.old.items parents.new.items node list }
+    ensures potentials { SetsPotential potentials.old.items potentials.new.items node potential }
 {
     parents[node] = list;
     potentials[node] = Some(potential);
@@ -174,12 +167,9 @@ pub fn read_potentials<'a, 't>(
     requires blocks { All (IsBlockOf text.now) syntax.now }
     requires heads { length heads.now ≡ length names.now }
     requires names { AllPairs (λ name later. name ≢ later) names.now }
-    ensures rows { Passes build_fault (potentials_steps text.now names.now heads.now syntax.now)
-        result }
-    ensures potentials { IfOk result (λ links.
-        links.potentials ≡ potentials_among text.now names.now (potentials syntax.now)) }
-    ensures parents { IfOk result (λ links.
-        links.parents ≡ parents_in text.now names.now links.potentials) }
+    ensures rows { PassesPotentials text.now names.now heads.now syntax.now result }
+    ensures potentials { IfOk result (HasPotentials text.now names.now syntax.now) }
+    ensures parents { IfOk result (HasParents text.now names.now) }
     ensures fit { IfOk result (λ links. All (AreParents heads.now) links.parents) }
 {
     let mut parents = no_parents(alloc, names.len())?;
@@ -204,8 +194,7 @@ fn check_present(
 ) -> Result<(), BuildFault>
     requires within { node < length heads.now }
     requires len { length potentials.now ≡ length heads.now }
-    ensures { Passes build_fault
-        (absent_row (head_at heads.now node) (borrowed_trees potentials.now) node) result }
+    ensures { PassesAbsent heads.now potentials.now node result }
 {
     match potentials[node] {
         Some(_) => Ok(()),
@@ -221,8 +210,7 @@ fn check_table(
 ) -> Result<(), BuildFault>
     requires within { node < length heads.now }
     requires len { length potentials.now ≡ length heads.now }
-    ensures { Passes build_fault (missing_at heads.now (borrowed_trees potentials.now) node)
-        result }
+    ensures { PassesMissing heads.now potentials.now node result }
 {
     match heads[node].kind {
         Kind::Chance | Kind::Utility => check_present(heads, potentials, node),

@@ -1,17 +1,17 @@
 //! Utility values as whole numbers, all to one scale.
 
-ghost use Rattle.std.specs.Prelude.{◌≡◌, ◌↔◌, IsTrue, ℕ, ◌<◌, ◌≤◌, ◌-◌, ◌*◌, ◌^◌, All, map, length, true, None, IfOk};
+ghost use Rattle.std.specs.Prelude.{◌≡◌, ◌↔◌, IsTrue, ◌<◌, ◌≤◌, All, map, length, true, None, IfOk};
 ghost use Rattle.std.specs.Option.{SomeIff};
 ghost use Rattle.maid_model.specs.Diagrams.{greatest_number};
 ghost use Rattle.net_build.specs.Blocks.{is_number};
 ghost use Rattle.first_fault.specs.Passes.{each};
 ghost use Rattle.first_fault.specs.Answers.{Passes};
 ghost use Rattle.net_build.specs.Passes.{build_fault};
-ghost use Rattle.net_build.specs.Scaling.{decimal_at};
 ghost use Rattle.net_build.specs.Table.{length_row, wide_row};
 ghost use Rattle.net_build.specs.TableParts.{IsScaleOf, scaled_pass, value_at_scale, Fits, PassesValues};
 ghost use Rattle.net_lexer.specs.Token.{IsTokenOf};
 ghost use Rattle.weight_scale.specs.Numeral.{signed};
+ghost use Rattle.net_build.specs.TableCalls.{IsReachedIn};
 
 use crate::faults::{BuildFault, BuildKind};
 use crate::numbers::decimals;
@@ -24,8 +24,7 @@ use whole_num::mul_within;
 /// The most decimals that one of the numbers has.
 pub fn most_decimals(decimals: &[Decimal]) -> u32
     ensures most { All (λ d. d.k ≤ result) decimals.now }
-    ensures reached { 0 < result
-        → (i : ℕ) × (i < length decimals.now) × ((decimal_at decimals.now i).k ≡ result) }
+    ensures reached { 0 < result → IsReachedIn decimals.now result }
     ensures few { result ≤ 30 }
 {
     let mut most = 0;

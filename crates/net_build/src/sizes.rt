@@ -1,12 +1,12 @@
 //! How many cells tables and rules have.
 
-ghost use Rattle.std.specs.Prelude.{◌≡◌, ◌<◌, ◌≤◌, ◌*◌, ◌^◌, min, ℕ, length, All, IfOk, OnOk};
+ghost use Rattle.std.specs.Prelude.{◌≡◌, ◌<◌, ◌≤◌, ◌*◌, min, length, All, IfOk, OnOk};
 ghost use Rattle.maid_model.specs.declared.limits.TheConstants.{COUNT_END, MOST_CELLS, MOST_RULE_CELLS};
-ghost use Rattle.net_build.specs.Linking.{rows_over, cells_over, cells_row, rules_row, size_rows_over, size_steps, rules_before, rules_with};
+ghost use Rattle.net_build.specs.Linking.{rows_over, cells_over, cells_row, rules_row, size_rows_over, size_steps, rules_with};
 ghost use Rattle.net_build.specs.Lists.{numbers_of_lists};
 ghost use Rattle.first_fault.specs.Answers.{Passes};
 ghost use Rattle.net_build.specs.Passes.{build_fault};
-ghost use Rattle.net_build.specs.Stages.{cells_at};
+ghost use Rattle.net_build.specs.LinkCalls.{HaveFewCells, HaveFewRuleCells};
 
 use crate::faults::{BuildFault, BuildKind, Limit};
 use crate::nodes::Head;
@@ -95,10 +95,8 @@ pub fn check_sizes(heads: &[Head], parents: &[Vec<usize>]) -> Result<(), BuildFa
     requires len { length parents.now ≡ length heads.now }
     requires parents { All (All (λ u. u < length heads.now)) (numbers_of_lists parents.now) }
     ensures rows { Passes build_fault (size_steps heads.now (numbers_of_lists parents.now)) result }
-    ensures cells { OnOk result ((v : ℕ) → v < length heads.now
-        → cells_at heads.now (numbers_of_lists parents.now) v ≤ MOST_CELLS) }
-    ensures rules { OnOk result (rules_before heads.now (numbers_of_lists parents.now)
-        (length heads.now) ≤ MOST_RULE_CELLS) }
+    ensures cells { OnOk result (HaveFewCells heads.now (numbers_of_lists parents.now)) }
+    ensures rules { OnOk result (HaveFewRuleCells heads.now (numbers_of_lists parents.now)) }
 {
     let mut rules = 0;
     for node in 0..heads.len() {

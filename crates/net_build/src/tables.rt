@@ -1,18 +1,19 @@
 //! The tables of a text: the cells of each node, and the scale of the utilities.
 
-ghost use Rattle.std.specs.Prelude.{◌≡◌, ◌↔◌, IsTrue, ◌<◌, ◌≤◌, All, Contains, map, length, true, None, IfOk};
+ghost use Rattle.std.specs.Prelude.{◌≡◌, ◌↔◌, IsTrue, ◌<◌, ◌≤◌, All, map, length, None, IfOk};
 ghost use Rattle.maid_model.specs.declared.limits.TheConstants.{MOST_CELLS};
 ghost use Rattle.maid_model.specs.Nodes.{rows_under};
 ghost use Rattle.net_build.specs.Blocks.{node_blocks};
 ghost use Rattle.net_build.specs.Building.{AreTables};
 ghost use Rattle.net_build.specs.Lists.{cells_of_lists};
-ghost use Rattle.first_fault.specs.Passes.{each, ◌▸◌};
 ghost use Rattle.first_fault.specs.Answers.{Passes};
 ghost use Rattle.net_build.specs.Passes.{build_fault};
 ghost use Rattle.net_build.specs.Stages.{AreLinks, TablesFit, head_at, link_lists, node_lists};
-ghost use Rattle.net_build.specs.Table.{IsUtilityScale, missing_pass, node_pass, potential_pass, table_pass, wide_pass, wide_row};
-ghost use Rattle.net_build.specs.TableParts.{AreDrafts, CanRead, FitsDraft, HasAtMost, IsDraftAt, IsScaleOf, Reaches, drafts_pass, finished, node_rows_at, scaled_pass, values_in};
+ghost use Rattle.net_build.specs.Table.{IsUtilityScale, missing_pass, node_pass, potential_pass};
+ghost use Rattle.net_build.specs.TableParts.{AreDrafts, CanRead, FitsDraft, HasAtMost, IsDraftAt, drafts_pass, finished};
 ghost use Rattle.net_parser.specs.Owned.{IsBlockOf};
+ghost use Rattle.net_build.specs.TableCalls.{AreNarrowValues, IsReachedByOne, IsValueScale, tables_pass, values_pass};
+ghost use Rattle.net_build.specs.TableSteps.{AreDraftsIn, PassesDrafts, PassesNodeTable};
 
 use crate::drafts::{Draft, finish_draft, read_draft, values};
 use crate::faults::BuildFault;
@@ -65,8 +66,7 @@ fn read_node(
 ) -> Result<Draft, BuildFault>
     requires read { CanRead text.now nodes.now.heads links.now }
     requires within { node < length nodes.now.heads }
-    ensures rows { Passes build_fault (node_rows_at text.now nodes.now.heads links.now node)
-        result }
+    ensures rows { PassesNodeTable text.now nodes.now.heads links.now node result }
     ensures draft { IfOk result (IsDraftAt text.now nodes.now.heads links.now node) }
 {
     let rows = row_count(&nodes.heads, &links.parents[node]);
@@ -88,8 +88,7 @@ fn read_drafts(
 ) -> Result<Vec<Draft>, BuildFault>
     requires { CanRead text.now nodes.now.heads links.now }
     ensures rows { Passes build_fault (drafts_pass text.now nodes.now.heads links.now) result }
-    ensures drafts { IfOk result (λ drafts.
-        AreDrafts text.now nodes.now.heads links.now drafts.items) }
+    ensures drafts { IfOk result (λ all. AreDrafts text.now nodes.now.heads links.now all.items) }
 {
     let mut drafts = Vec::with_capacity(alloc, nodes.heads.len())?;
     for node in 0..nodes.heads.len() {
@@ -101,8 +100,7 @@ fn read_drafts(
 // The most decimals that one of the values has.
 fn most_of(drafts: &[Draft]) -> u32
     ensures most { All (HasAtMost result) drafts.now }
-    ensures reached { 0 < result
-        → (draft : Draft) × Contains drafts.now draft × Reaches result draft }
+    ensures reached { 0 < result → IsReachedByOne drafts.now result }
     ensures few { result ≤ 30 }
 {
     let mut most = 0;
@@ -142,16 +140,11 @@ fn utility_scale(
     requires nodes { nodes.now ≡ node_lists text.now (node_blocks syntax.now) }
     requires node_rows { node_pass text.now syntax.now None }
     requires potential_rows { potential_pass text.now syntax.now None }
-    requires table_rows { drafts_pass text.now nodes.now.heads (link_lists text.now syntax.now)
-        None }
-    requires drafts { AreDrafts text.now nodes.now.heads (link_lists text.now syntax.now)
-        drafts.now }
-    ensures rows { Passes build_fault
-        (scaled_pass text.now (values_in text.now nodes.now syntax.now)) result }
-    ensures scale { IfOk result (λ scale.
-        IsScaleOf text.now (values_in text.now nodes.now syntax.now) scale) }
-    ensures narrow { IfOk result (λ scale.
-        each (wide_row text.now scale) (values_in text.now nodes.now syntax.now) None) }
+    requires table_rows { PassesDrafts text.now nodes.now syntax.now }
+    requires drafts { AreDraftsIn text.now nodes.now syntax.now drafts.now }
+    ensures rows { Passes build_fault (values_pass text.now nodes.now syntax.now) result }
+    ensures scale { IfOk result (IsValueScale text.now nodes.now syntax.now) }
+    ensures narrow { IfOk result (AreNarrowValues text.now nodes.now syntax.now) }
     ensures few { IfOk result (λ scale. scale ≤ 30) }
 {
     let most = most_of(drafts);
@@ -166,8 +159,7 @@ fn utility_scale(
 fn finish(alloc: Global, drafts: Vec<Draft>, scale: u32) -> Result<Vec<Vec<i128>>, AllocError>
     requires few { scale ≤ 30 }
     requires fits { All (FitsDraft scale) drafts.items }
-    ensures { IfOk result (λ cells.
-        cells_of_lists cells.items ≡ map (finished scale) drafts.items) }
+    ensures { IfOk result (λ all. cells_of_lists all.items ≡ map (finished scale) drafts.items) }
 {
     let mut cells = Vec::with_capacity(alloc, drafts.len())?;
     for draft in drafts {
@@ -194,11 +186,9 @@ pub fn read_tables(
     requires node_rows { node_pass text.now syntax.now None }
     requires potential_rows { potential_pass text.now syntax.now None }
     requires missing_rows { missing_pass text.now syntax.now None }
-    ensures rows { Passes build_fault
-        (table_pass text.now syntax.now ▸ wide_pass text.now syntax.now) result }
+    ensures rows { Passes build_fault (tables_pass text.now syntax.now) result }
     ensures scale { IfOk result (λ tables. IsUtilityScale text.now syntax.now tables.decimals) }
-    ensures cells { IfOk result (λ tables.
-        AreTables text.now syntax.now tables.decimals tables.cells) }
+    ensures cells { IfOk result (λ made. AreTables text.now syntax.now made.decimals made.cells) }
     ensures few { IfOk result (λ tables. tables.decimals ≤ 30) }
     ensures fit { IfOk result (λ tables. TablesFit nodes.now.heads links.now.parents tables.cells) }
 {

@@ -1,11 +1,11 @@
 //! The numbers of all utilities.
 
-ghost use Rattle.std.specs.Prelude.{◌≡◌, ◌++◌, All, length, OnOk, IfOk};
+ghost use Rattle.std.specs.Prelude.{◌≡◌, All, length, IfOk};
 ghost use Rattle.maid_model.specs.Nodes.{is_utility};
-ghost use Rattle.net_build.specs.Blocks.{data_of, leaves_of};
 ghost use Rattle.net_build.specs.Table.{kind_in, values_in};
 ghost use Rattle.net_build.specs.TableParts.{has_values};
 ghost use Rattle.net_parser.specs.Owned.{IsBlockOf};
+ghost use Rattle.net_build.specs.TableCalls.{AddsNumbers};
 
 use crate::attributes::first_named;
 use crate::labels::title;
@@ -42,8 +42,7 @@ fn has_values(text: &[u8], nodes: &Nodes, block: &Block<'_>) -> bool
 // The leaves of the potential's `data`, behind those that are there.
 fn push_data(tokens: &mut Vec<Token>, text: &[u8], potential: &Block<'_>) -> Result<(), AllocError>
     requires { IsBlockOf text.now potential.now }
-    ensures { OnOk result (tokens.new.items
-        ≡ tokens.old.items ++ leaves_of (data_of text.now potential.now)) }
+    ensures { AddsNumbers text.now potential.now tokens.old tokens.new result }
 {
     if let Some(table) = first_named(text, &potential.attributes, b"data") {
         push_leaves(tokens, &table.value)?;

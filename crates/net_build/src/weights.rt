@@ -1,6 +1,6 @@
 //! The weights of chance tables.
 
-ghost use Rattle.std.specs.Prelude.{◌≡◌, ◌<◌, ◌/◌, length, IfOk};
+ghost use Rattle.std.specs.Prelude.{◌≡◌, ◌<◌, length, IfOk};
 ghost use Rattle.std.specs.Int.{◌∣◌};
 ghost use Rattle.net_build.specs.TableParts.{IsWeighed, PassesWeights};
 

@@ -1,8 +1,9 @@
 //! The pieces of a text: white space, comments and tokens.
 
-ghost use Rattle.std.specs.Prelude.{◌≡◌, ◌<◌, ◌≤◌, ◌^◌, ◌∷◌, length, take, drop, slice_index, true, false, IsTrue, IfOk, IfErr, IfSome, IfNone};
+ghost use Rattle.std.specs.Prelude.{◌≡◌, ◌<◌, ◌≤◌, ◌^◌, length, take, drop, slice_index, true, false, IsTrue, IfOk, IfErr, IfSome, IfNone};
 ghost use Rattle.std.specs.List.{list_all, prefix_len};
 ghost use Rattle.net_lexer.specs.Bytes.{is_digit, is_percent, is_line_byte, is_quote, is_word_start, is_word_byte, is_run_start, is_run_byte, is_punctuation};
+ghost use Rattle.net_lexer.specs.Fronts.{BeginsWithPiece, IsBehindPoint, ends_in_digits, is_plain_run};
 ghost use Rattle.net_lexer.specs.Numerals.{is_numeral};
 ghost use Rattle.net_lexer.specs.Strings.{is_open_string};
 ghost use Rattle.net_lexer.specs.Token.{is_name, is_signed};
@@ -81,6 +82,7 @@ fn run_goes_on(bytes: &[u8]) -> bool
 fn last_digits_len(bytes: &[u8]) -> Option<usize>
     ensures len { IfSome result (λ len. len ≡ prefix_len is_digit bytes.now) }
     ensures ends { IfSome result (λ len. begins is_run_byte (drop len bytes.now) ≡ false) }
+    ensures none { IfNone result (ends_in_digits bytes.now ≡ false) }
 {
     let len = digits_len(bytes);
     if run_goes_on(behind(bytes, len)) {
@@ -91,7 +93,7 @@ fn last_digits_len(bytes: &[u8]) -> Option<usize>
 
 // What stands behind a point at the front.
 fn behind_point(bytes: &[u8]) -> Option<&[u8]>
-    ensures { IfSome result (λ rest. bytes.now ≡ 46 ∷ rest.now) }
+    ensures { IsBehindPoint bytes.now result }
 {
     match bytes {
         [b'.', rest @ ..] => Some(rest),
@@ -104,6 +106,7 @@ fn behind_point(bytes: &[u8]) -> Option<&[u8]>
 fn plain_len(bytes: &[u8]) -> Option<usize>
     ensures len { IfSome result (λ len. len ≡ prefix_len is_run_byte bytes.now) }
     ensures numeral { IfSome result (λ len. is_numeral (take len bytes.now) ≡ true) }
+    ensures none { IfNone result (is_plain_run bytes.now ≡ false) }
 {
     let whole = digits_len(bytes);
     if whole == 0 {
@@ -147,7 +150,7 @@ fn is_signed(bytes: &[u8]) -> bool
 fn comment_len(bytes: &[u8]) -> usize
     requires some { 0 < length bytes.now }
     requires begins { IsTrue (is_percent (slice_index bytes.now 0)) }
-    ensures { IsPieceOf bytes.now (record { kind = PieceKind.Comment; start = 0; end = result }) }
+    ensures { BeginsWithPiece bytes.now PieceKind.Comment result }
 {
     line_len(bytes)
 }
@@ -213,8 +216,7 @@ fn punctuation(bytes: &[u8]) -> Option<TokenKind>
 // The kind and length of the piece at the front of the bytes, which stand at that place.
 fn front(bytes: &[u8], at: usize) -> Result<(PieceKind, usize), LexFault>
     requires { 0 < length bytes.now }
-    ensures ok { IfOk result (λ p.
-        IsPieceOf bytes.now (record { kind = p.0; start = 0; end = p.1 })) }
+    ensures ok { IfOk result (λ p. BeginsWithPiece bytes.now p.0 p.1) }
     ensures err { IfErr result (λ fault. IsFaultAt at bytes.now fault) }
 {
     match bytes[0] {

@@ -1,7 +1,8 @@
 //! Strings: where they end and what they mean.
 
-ghost use Rattle.std.specs.Prelude.{◌≡◌, ◌<◌, [], ◌∷◌, length, MatchOption, IfOk};
+ghost use Rattle.std.specs.Prelude.{◌≡◌, ◌<◌, [], length, MatchOption, IfOk};
 ghost use Rattle.std.specs.Option.{option_map};
+ghost use Rattle.net_lexer.specs.Fronts.{IsFirstMeant};
 ghost use Rattle.net_lexer.specs.Strings.{behind_quote, unescaped};
 ghost use Rattle.net_lexer.specs.Token.{IsTokenOf, text_value};
 ghost use Rattle.net_lexer.specs.declared.tokens.TokenKind.TheVariants.{Text};
@@ -26,8 +27,7 @@ pub fn behind_quote(bytes: &[u8]) -> Option<&[u8]>
 
 // The first byte that the bytes mean, and what stands behind it or its escape.
 fn first_meant(bytes: &[u8]) -> Option<(u8, &[u8])>
-    ensures meant { MatchOption result (bytes.now ≡ []) (λ p.
-        unescaped bytes.now ≡ p.0 ∷ unescaped p.1.now) }
+    ensures meant { IsFirstMeant bytes.now result }
     ensures shorter { MatchOption result (bytes.now ≡ []) (λ p. length p.1.now < length bytes.now) }
 {
     match bytes {

@@ -7,3 +7,4 @@ pub mod Owned
 pub mod Views
 pub mod TreeCode
 pub mod Reading
+pub mod ReaderCalls

@@ -1,10 +1,11 @@
 //! The rules of blocks.
 
 ghost use Rattle.std.specs.Prelude.{◌<◌, [], ◌∷◌, length, IfOk, OnOk};
-ghost use Rattle.net_lexer.specs.declared.tokens.TokenKind.TheVariants.{BraceOpen, ParenOpen, Equals, Semicolon};
+ghost use Rattle.net_lexer.specs.declared.tokens.TokenKind.TheVariants.{ParenOpen};
 ghost use Rattle.net_parser.specs.Grammar as grammar;
-ghost use Rattle.net_parser.specs.Grammar.{Head, is_potential, Spells};
-ghost use Rattle.net_parser.specs.Reading.{mark, name, attribute_name, attributes, value, given, names, start, stop, IsReading, Follows, NodeNames, PotentialNames, AddsGiven, FollowsInBlock, body_rest};
+ghost use Rattle.net_parser.specs.Grammar.{Head, Spells};
+ghost use Rattle.net_parser.specs.Reading.{mark, name, given, names, start, stop, IsReading, Follows, NodeNames, PotentialNames, AddsGiven, FollowsInBlock, body_rest};
+ghost use Rattle.net_parser.specs.ReaderCalls.{FollowsToBody, attribute_symbols};
 
 use crate::reader::{Reader, Stop};
 use crate::words::BlockWord;
@@ -18,11 +19,8 @@ const NESTING: u8 = 32;
 impl<'a> Reader<'_, 'a> {
     /// Reads `NAME = VALUE ;`.
     fn attribute(&mut self, alloc: Global, potential: bool) -> Result<Attribute<'a>, Stop>
-        ensures rule { IfOk result (λ attribute.
-            grammar.Attribute potential attribute self.old self.new) }
-        ensures follows { Follows
-            (attribute_name potential ∷ mark Equals ∷ value 32 ∷ mark Semicolon ∷ []) result
-            self.old self.new }
+        ensures rule { IfOk result (λ a. grammar.Attribute potential a self.old self.new) }
+        ensures follows { Follows (attribute_symbols potential) result self.old self.new }
         ensures shorter { OnOk result (length self.new < length self.old) }
     {
         let name = self.attribute_name(potential)?;
@@ -35,8 +33,7 @@ impl<'a> Reader<'_, 'a> {
     /// Reads `{`, attributes and `}`.
     fn body(&mut self, alloc: Global, potential: bool) -> Result<Vec<Attribute<'a>>, Stop>
         ensures rule { IfOk result (λ all. grammar.Body potential all.items self.old self.new) }
-        ensures follows { Follows (mark BraceOpen ∷ attributes potential ∷ []) result self.old
-            self.new }
+        ensures follows { Follows (body_rest potential) result self.old self.new }
         ensures shorter { OnOk result (length self.new < length self.old) }
     {
         self.expect(TokenKind::BraceOpen)?;
@@ -92,8 +89,7 @@ impl<'a> Reader<'_, 'a> {
     fn head(&mut self, alloc: Global, first: bool) -> Result<(BlockKind, Vec<Token>), Stop>
         requires { 0 < length self.old }
         ensures rule { IfOk result (λ head. Head first head.0 head.1.items self.old self.new) }
-        ensures follows { FollowsInBlock first (λ head. body_rest (is_potential head.0)) result
-            self.old self.new }
+        ensures follows { FollowsToBody first result self.old self.new }
         ensures shorter { OnOk result (length self.new < length self.old) }
     {
         match self.first_word(first)? {

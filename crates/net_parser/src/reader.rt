@@ -4,16 +4,13 @@
 //! it answers, and on `Err` it stands before the first impossible token. `terminals` has the rules
 //! of one token, `values` and `blocks` those made of others.
 
-ghost use Rattle.std.specs.Prelude.{◌≡◌, ◌<◌, ℕ, List, [], ◌∷◌, length, drop, map, All, IfSome, IfNone, IsTrue, is_some};
+ghost use Rattle.std.specs.Prelude.{◌≡◌, ◌<◌, List, [], length, drop, map, All, IfSome, IfNone, IsTrue, is_some};
 ghost use Rattle.std.specs.List.{prefix_len};
 ghost use Rattle.net_lexer.specs.Token.{IsTokenOf, is_token};
 ghost use Rattle.net_parser.specs.Lexemes.{lexemes, is_leaf};
 ghost use Rattle.net_parser.specs.Faults.{rest_place};
-ghost use Rattle.net_parser.specs.Grammar.{ClosedValues};
-ghost use Rattle.net_parser.specs.Grammar.{ClosedValues};
 ghost use Rattle.net_parser.specs.Reading.{fault_at, IsFlat, ValuesFollow, begins_flat};
-ghost use Rattle.net_parser.specs.Trees.{leaf};
-ghost use Rattle.net_parser.specs.Views.{trees_of};
+ghost use Rattle.net_parser.specs.ReaderCalls.{BeginsWithLexeme, ClosedLeaves};
 
 use crate::ParseFault;
 use net_lexer::{Token, TokenKind};
@@ -123,8 +120,7 @@ impl<'t, 'a> Reader<'t, 'a> {
 
     /// The next token and its bytes.
     pub fn peek(&self) -> Option<(Token, &'t [u8])>
-        ensures some { IfSome result (λ p.
-            self.now ≡ record { token = p.0; bytes = p.1.now } ∷ drop 1 self.now) }
+        ensures some { IfSome result (λ p. BeginsWithLexeme self.now p.0 p.1.now) }
         ensures none { IfNone result (self.now ≡ []) }
         ensures form { IfSome result (λ p. IsTrue (is_token p.0.kind p.1.now)) }
     {
@@ -144,8 +140,7 @@ impl<'t, 'a> Reader<'t, 'a> {
 
     /// Goes past leaves and the parenthesis that closes their list, if no list stands among them.
     pub fn leaves(&mut self) -> Option<&'a [Token]>
-        ensures rule { IfSome result (λ leaves. (depth : ℕ)
-            → ClosedValues depth (trees_of (map leaf leaves.now)) self.old self.new) }
+        ensures rule { IfSome result (λ leaves. ClosedLeaves leaves.now self.old self.new) }
         ensures follows { IfSome result (λ leaves. ValuesFollow self.old self.new) }
         ensures shorter { IfSome result (λ leaves. length self.new < length self.old) }
         ensures unread { IfNone result (self.new ≡ self.old) }

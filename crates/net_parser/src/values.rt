@@ -1,10 +1,10 @@
 //! The rules of an attribute's value.
 
-ghost use Rattle.std.specs.Prelude.{◌<◌, [], ◌∷◌, map, length, IfOk, OnOk};
+ghost use Rattle.std.specs.Prelude.{◌<◌, [], ◌∷◌, length, IfOk, OnOk};
 ghost use Rattle.net_parser.specs.Grammar as grammar;
-ghost use Rattle.net_parser.specs.Grammar.{ClosedValues};
-ghost use Rattle.net_parser.specs.Views.{value_tree, trees_of};
+ghost use Rattle.net_parser.specs.Views.{value_tree};
 ghost use Rattle.net_parser.specs.Reading.{value, values, Follows};
+ghost use Rattle.net_parser.specs.ReaderCalls.{ClosedList};
 
 use crate::Value;
 use crate::reader::{Reader, Stop};
@@ -15,8 +15,7 @@ impl<'a> Reader<'_, 'a> {
     /// Reads a value in which so many lists may stand in one another.
     #[cycle(value)]
     pub fn value(&mut self, alloc: Global, depth: u8) -> Result<Value<'a>, Stop>
-        ensures rule { IfOk result (λ value.
-            grammar.Value depth (value_tree value) self.old self.new) }
+        ensures rule { IfOk result (λ v. grammar.Value depth (value_tree v) self.old self.new) }
         ensures follows { Follows (value depth ∷ []) result self.old self.new }
         ensures shorter { OnOk result (length self.new < length self.old) }
     {
@@ -44,8 +43,7 @@ impl<'a> Reader<'_, 'a> {
     /// Reads the values of a list, and the parenthesis that closes it.
     #[cycle(value)]
     fn values(&mut self, alloc: Global, depth: u8) -> Result<Vec<Value<'a>>, Stop>
-        ensures rule { IfOk result (λ all.
-            ClosedValues depth (trees_of (map value_tree all.items)) self.old self.new) }
+        ensures rule { IfOk result (λ all. ClosedList depth all.items self.old self.new) }
         ensures follows { Follows (values depth ∷ []) result self.old self.new }
         ensures shorter { OnOk result (length self.new < length self.old) }
     {

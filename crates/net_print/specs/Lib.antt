@@ -1,3 +1,4 @@
 pub mod Printed
 pub mod RoundTrip
 pub mod Parts
+pub mod NodeTexts

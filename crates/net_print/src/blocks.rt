@@ -1,12 +1,14 @@
 //! The lines of node blocks.
 
-ghost use Rattle.std.specs.Prelude.{◌≡◌, ◌≢◌, ◌<◌, ◌++◌, All, OnOk, length};
+ghost use Rattle.std.specs.Prelude.{◌≡◌, ◌≢◌, ◌<◌, All, length};
 ghost use Rattle.maid_model.specs.declared.diagrams.Kind.TheVariants.{Chance, Utility};
 ghost use Rattle.maid_model.specs.Names.{NamesFit, labels_of};
 ghost use Rattle.maid_model.specs.Nodes.{node_at};
 ghost use Rattle.maid_model.specs.Reports.{quoted};
-ghost use Rattle.net_print.specs.Printed.{agent_text, kind_word, node_line, owner_names, owners_text, parted, states_text, attributes_text_of, nodes_text};
+ghost use Rattle.net_print.specs.Printed.{agent_text, kind_word, node_line, parted, states_text, attributes_text_of, nodes_text};
 ghost use Rattle.net_print.specs.Parts.{agents_text, more_agents_text};
+ghost use Rattle.line_pieces.specs.Pushed.{PushAppends};
+ghost use Rattle.net_print.specs.NodeTexts.{owners_text_of};
 
 use crate::pieces::push_gap;
 use line_pieces::push_quoted;
@@ -34,8 +36,7 @@ fn push_labels(
     requires fit { NamesFit diagram.now names.now }
     requires node { node < length diagram.now.nodes }
     requires kind { (node_at diagram.now.nodes node).kind ≢ Utility }
-    ensures { OnOk result (out.new.items
-        ≡ out.old.items ++ parted quoted (labels_of names.now node)) }
+    ensures { PushAppends out.old out.new result (parted quoted (labels_of names.now node)) }
 {
     for state in 0..diagram.states(node) {
         push_gap(out, state)?;
@@ -55,8 +56,7 @@ fn push_states(
     requires fit { NamesFit diagram.now names.now }
     requires node { node < length diagram.now.nodes }
     requires kind { (node_at diagram.now.nodes node).kind ≢ Utility }
-    ensures { OnOk result (out.new.items
-        ≡ out.old.items ++ states_text (labels_of names.now node)) }
+    ensures { PushAppends out.old out.new result (states_text (labels_of names.now node)) }
 {
     out.extend_from_slice(b"states = (")?;
     push_labels(out, diagram, names, node)?;
@@ -66,7 +66,7 @@ fn push_states(
 // Appends an agent's name.
 #[tactic(auto, using(std::proofs::Common::append_assoc))]
 fn push_agent(out: &mut Vec<u8>, agent: &[u8]) -> Result<(), AllocError>
-    ensures { OnOk result (out.new.items ≡ out.old.items ++ agent_text agent.now) }
+    ensures { PushAppends out.old out.new result (agent_text agent.now) }
 {
     out.extend_from_slice(b"agent = ")?;
     push_quoted(out, agent)?;
@@ -76,7 +76,7 @@ fn push_agent(out: &mut Vec<u8>, agent: &[u8]) -> Result<(), AllocError>
 // Appends the agents of these numbers, each behind a space.
 fn push_others(out: &mut Vec<u8>, names: &Names, agents: &[usize]) -> Result<(), AllocError>
     requires { All (λ a. a < length names.now.agents) agents.now }
-    ensures { OnOk result (out.new.items ≡ out.old.items ++ more_agents_text names.now agents.now) }
+    ensures { PushAppends out.old out.new result (more_agents_text names.now agents.now) }
 {
     for agent in agents {
         out.push(b' ')?;
@@ -94,8 +94,7 @@ fn push_agents(
     others: &[usize],
 ) -> Result<(), AllocError>
     requires { All (λ a. a < length names.now.agents) others.now }
-    ensures { OnOk result (out.new.items ≡ out.old.items
-        ++ agents_text names.now first.now others.now) }
+    ensures { PushAppends out.old out.new result (agents_text names.now first.now others.now) }
 {
     out.extend_from_slice(b"agents = (")?;
     push_quoted(out, first)?;
@@ -113,8 +112,7 @@ fn push_owners(
     requires fit { NamesFit diagram.now names.now }
     requires node { node < length diagram.now.nodes }
     requires kind { (node_at diagram.now.nodes node).kind ≢ Chance }
-    ensures { OnOk result (out.new.items
-        ≡ out.old.items ++ owners_text (owner_names diagram.now.nodes names.now node)) }
+    ensures { PushAppends out.old out.new result (owners_text_of diagram.now.nodes names.now node) }
 {
     let node = diagram.node(node);
     let first = names.agent(node.owner);
@@ -136,8 +134,7 @@ fn push_attributes(
 ) -> Result<(), AllocError>
     requires fit { NamesFit diagram.now names.now }
     requires node { node < length diagram.now.nodes }
-    ensures { OnOk result (out.new.items ≡ out.old.items
-        ++ attributes_text_of diagram.now.nodes names.now node) }
+    ensures { PushAppends out.old out.new result (attributes_text_of diagram.now.nodes names.now node) }
 {
     match diagram.kind(node) {
         Kind::Chance => push_states(out, diagram, names, node),
@@ -159,8 +156,7 @@ fn push_block(
 ) -> Result<(), AllocError>
     requires fit { NamesFit diagram.now names.now }
     requires node { node < length diagram.now.nodes }
-    ensures { OnOk result (out.new.items
-        ≡ out.old.items ++ node_line diagram.now.nodes names.now node) }
+    ensures { PushAppends out.old out.new result (node_line diagram.now.nodes names.now node) }
 {
     out.extend_from_slice(kind_word(diagram.kind(node)))?;
     out.push(b' ')?;
@@ -173,8 +169,7 @@ fn push_block(
 /// Appends a line for each node's block.
 pub fn push_blocks(out: &mut Vec<u8>, diagram: &Diagram, names: &Names) -> Result<(), AllocError>
     requires { NamesFit diagram.now names.now }
-    ensures { OnOk result (out.new.items ≡ out.old.items
-        ++ nodes_text diagram.now.nodes names.now) }
+    ensures { PushAppends out.old out.new result (nodes_text diagram.now.nodes names.now) }
 {
     for node in 0..diagram.count() {
         push_block(out, diagram, names, node)?;

@@ -1,10 +1,11 @@
 //! Whole numbers, decimals and reduced rows.
 
-ghost use Rattle.std.specs.Prelude.{◌≡◌, ◌≢◌, ◌<◌, ◌≤◌, ◌+◌, ◌/◌, ◌%◌, ◌^◌, ◌++◌, OnOk, decimal, length, map, replicate, unsigned_abs};
+ghost use Rattle.std.specs.Prelude.{◌≡◌, ◌≢◌, ◌<◌, ◌≤◌, ◌+◌, ◌/◌, ◌%◌, ◌^◌, length, map, replicate, unsigned_abs};
 ghost use Rattle.std.specs.Int.{IsGcd};
-ghost use Rattle.net_build.specs.Plain.{reduced_row, row_divisor};
+ghost use Rattle.net_build.specs.Plain.{row_divisor};
 ghost use Rattle.net_print.specs.Printed.{padded, sign_text, size_text, value_text};
-ghost use Rattle.net_print.specs.Parts.{parted_behind};
+ghost use Rattle.line_pieces.specs.Pushed.{PushAppends};
+ghost use Rattle.net_print.specs.NodeTexts.{row_text_behind};
 
 use crate::pieces::push_gap;
 use itoa::Buffer;
@@ -13,7 +14,7 @@ use std::alloc::AllocError;
 use whole_num::gcd;
 
 fn push_noughts(out: &mut Vec<u8>, count: usize) -> Result<(), AllocError>
-    ensures { OnOk result (out.new.items ≡ out.old.items ++ replicate count 48) }
+    ensures { PushAppends out.old out.new result (replicate count 48) }
 {
     for _place in 0..count {
         out.push(b'0')?;
@@ -24,7 +25,7 @@ fn push_noughts(out: &mut Vec<u8>, count: usize) -> Result<(), AllocError>
 // Appends a number with noughts before it, so many digits in all.
 #[tactic(auto, using(std::proofs::Common::append_assoc))]
 fn push_padded(out: &mut Vec<u8>, number: u128, width: usize) -> Result<(), AllocError>
-    ensures { OnOk result (out.new.items ≡ out.old.items ++ padded width number) }
+    ensures { PushAppends out.old out.new result (padded width number) }
 {
     let mut buffer = Buffer::new();
     let digits = buffer.format(number).as_bytes();
@@ -50,7 +51,7 @@ fn without_noughts(mut size: u128, mut decimals: u32) -> (u128, u32)
 fn push_decimal(out: &mut Vec<u8>, size: u128, decimals: u32) -> Result<(), AllocError>
     requires last { 0 < decimals → size % 10 ≢ 0 }
     requires few { decimals ≤ 30 }
-    ensures { OnOk result (out.new.items ≡ out.old.items ++ size_text decimals size) }
+    ensures { PushAppends out.old out.new result (size_text decimals size) }
 {
     if decimals == 0 {
         return push_number(out, size);
@@ -62,7 +63,7 @@ fn push_decimal(out: &mut Vec<u8>, size: u128, decimals: u32) -> Result<(), Allo
 }
 
 fn push_sign(out: &mut Vec<u8>, number: i128) -> Result<(), AllocError>
-    ensures { OnOk result (out.new.items ≡ out.old.items ++ sign_text number) }
+    ensures { PushAppends out.old out.new result (sign_text number) }
 {
     if number < 0 {
         out.push(b'-')?;
@@ -74,7 +75,7 @@ fn push_sign(out: &mut Vec<u8>, number: i128) -> Result<(), AllocError>
 #[tactic(auto, using(std::proofs::Common::append_assoc))]
 pub fn push_value(out: &mut Vec<u8>, cell: i128, decimals: u32) -> Result<(), AllocError>
     requires { decimals ≤ 30 }
-    ensures { OnOk result (out.new.items ≡ out.old.items ++ value_text decimals cell) }
+    ensures { PushAppends out.old out.new result (value_text decimals cell) }
 {
     push_sign(out, cell)?;
     let (size, decimals) = without_noughts(cell.unsigned_abs(), decimals);
@@ -111,8 +112,7 @@ fn row_divisor(row: &[i128]) -> u128
 pub fn push_reduced_row(out: &mut Vec<u8>, row: &[i128], before: usize) -> Result<(), AllocError>
     requires some { 0 < row_divisor (map unsigned_abs row.now) }
     requires room { before + length row.now < 2 ^ 64 }
-    ensures { OnOk result (out.new.items
-        ≡ out.old.items ++ parted_behind decimal before (reduced_row (map unsigned_abs row.now))) }
+    ensures { PushAppends out.old out.new result (row_text_behind before row.now) }
 {
     let divisor = row_divisor(row);
     for (place, weight) in row.iter().enumerate() {

@@ -1,10 +1,12 @@
 //! The lines of potentials.
 
-ghost use Rattle.std.specs.Prelude.{◌≡◌, ◌<◌, ◌≤◌, ◌++◌, All, OnOk, length, decimal};
+ghost use Rattle.std.specs.Prelude.{◌≡◌, ◌<◌, ◌≤◌, All, length};
 ghost use Rattle.maid_model.specs.declared.diagrams.Kind.TheVariants.{Chance};
 ghost use Rattle.maid_model.specs.Names.{NamesFit, name_of};
-ghost use Rattle.maid_model.specs.Nodes.{node_at, parents_of};
-ghost use Rattle.net_print.specs.Printed.{given_text, head_text, parted, potential_line, value_text, numbers_text_of, potentials_text, reduced_rows_of, table_text_of};
+ghost use Rattle.maid_model.specs.Nodes.{node_at};
+ghost use Rattle.net_print.specs.Printed.{parted, potential_line, value_text, numbers_text_of, potentials_text, table_text_of};
+ghost use Rattle.line_pieces.specs.Pushed.{PushAppends};
+ghost use Rattle.net_print.specs.NodeTexts.{given_text_of, head_text_of, rows_text_of};
 
 use crate::numbers::{push_reduced_row, push_value};
 use crate::pieces::push_gap;
@@ -14,7 +16,7 @@ use std::alloc::AllocError;
 // Appends the names of these nodes, parted by one space.
 fn push_names(out: &mut Vec<u8>, names: &Names, list: &[usize]) -> Result<(), AllocError>
     requires { All (λ v. v < length names.now.nodes) list.now }
-    ensures { OnOk result (out.new.items ≡ out.old.items ++ parted (name_of names.now) list.now) }
+    ensures { PushAppends out.old out.new result (parted (name_of names.now) list.now) }
 {
     for (place, node) in list.iter().enumerate() {
         push_gap(out, place)?;
@@ -33,8 +35,7 @@ fn push_given(
 ) -> Result<(), AllocError>
     requires fit { NamesFit diagram.now names.now }
     requires node { node < length diagram.now.nodes }
-    ensures { OnOk result (out.new.items
-        ≡ out.old.items ++ given_text names.now (parents_of diagram.now.nodes node)) }
+    ensures { PushAppends out.old out.new result (given_text_of diagram.now.nodes names.now node) }
 {
     let parents = diagram.parents(node);
     if parents.is_empty() {
@@ -48,8 +49,7 @@ fn push_given(
 fn push_rows(out: &mut Vec<u8>, diagram: &Diagram, node: usize) -> Result<(), AllocError>
     requires node { node < length diagram.now.nodes }
     requires kind { (node_at diagram.now.nodes node).kind ≡ Chance }
-    ensures { OnOk result (out.new.items ≡ out.old.items
-        ++ parted decimal (reduced_rows_of diagram.now.nodes node)) }
+    ensures { PushAppends out.old out.new result (rows_text_of diagram.now.nodes node) }
 {
     let cells = diagram.cells(node);
     let states = diagram.states(node);
@@ -63,8 +63,7 @@ fn push_rows(out: &mut Vec<u8>, diagram: &Diagram, node: usize) -> Result<(), Al
 // Appends the values of a utility.
 fn push_values(out: &mut Vec<u8>, cells: &[i128], decimals: u32) -> Result<(), AllocError>
     requires { decimals ≤ 30 }
-    ensures { OnOk result (out.new.items
-        ≡ out.old.items ++ parted (value_text decimals) cells.now) }
+    ensures { PushAppends out.old out.new result (parted (value_text decimals) cells.now) }
 {
     for (place, cell) in cells.iter().enumerate() {
         push_gap(out, place)?;
@@ -76,7 +75,7 @@ fn push_values(out: &mut Vec<u8>, cells: &[i128], decimals: u32) -> Result<(), A
 // Appends the numbers of a chance node or a utility.
 fn push_numbers(out: &mut Vec<u8>, diagram: &Diagram, node: usize) -> Result<(), AllocError>
     requires node { node < length diagram.now.nodes }
-    ensures { OnOk result (out.new.items ≡ out.old.items ++ numbers_text_of diagram.now node) }
+    ensures { PushAppends out.old out.new result (numbers_text_of diagram.now node) }
 {
     match diagram.kind(node) {
         Kind::Chance => push_rows(out, diagram, node),
@@ -89,7 +88,7 @@ fn push_numbers(out: &mut Vec<u8>, diagram: &Diagram, node: usize) -> Result<(),
 #[tactic(auto, using(std::proofs::Common::append_assoc))]
 fn push_table(out: &mut Vec<u8>, diagram: &Diagram, node: usize) -> Result<(), AllocError>
     requires { node < length diagram.now.nodes }
-    ensures { OnOk result (out.new.items ≡ out.old.items ++ table_text_of diagram.now node) }
+    ensures { PushAppends out.old out.new result (table_text_of diagram.now node) }
 {
     if diagram.kind(node) == Kind::Decision {
         return Ok(());
@@ -109,8 +108,7 @@ fn push_head(
 ) -> Result<(), AllocError>
     requires fit { NamesFit diagram.now names.now }
     requires node { node < length diagram.now.nodes }
-    ensures { OnOk result (out.new.items
-        ≡ out.old.items ++ head_text names.now node (parents_of diagram.now.nodes node)) }
+    ensures { PushAppends out.old out.new result (head_text_of diagram.now.nodes names.now node) }
 {
     out.extend_from_slice(b"potential (")?;
     out.extend_from_slice(names.name(node))?;
@@ -129,8 +127,7 @@ fn push_potential(
 ) -> Result<(), AllocError>
     requires fit { NamesFit diagram.now names.now }
     requires node { node < length diagram.now.nodes }
-    ensures { OnOk result (out.new.items
-        ≡ out.old.items ++ potential_line diagram.now names.now node) }
+    ensures { PushAppends out.old out.new result (potential_line diagram.now names.now node) }
 {
     push_head(out, diagram, names, node)?;
     out.extend_from_slice(b" { ")?;
@@ -145,7 +142,7 @@ pub fn push_potentials(
     names: &Names,
 ) -> Result<(), AllocError>
     requires { NamesFit diagram.now names.now }
-    ensures { OnOk result (out.new.items ≡ out.old.items ++ potentials_text diagram.now names.now) }
+    ensures { PushAppends out.old out.new result (potentials_text diagram.now names.now) }
 {
     for node in 0..diagram.count() {
         push_potential(out, diagram, names, node)?;

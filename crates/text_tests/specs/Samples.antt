@@ -1,8 +1,20 @@
 -- The diagram that reports and lines are of: a decision with two states and a utility, both of one agent.
-use Rattle.std.specs.Prelude.{ℕ, List, [], ◌∷◌, codes, pos}
+use Rattle.std.specs.Prelude.{ℕ, ℤ, List, [], ◌∷◌, codes, pos}
+use Rattle.maid_model.specs.declared.diagrams.Kind.{Kind}
 use Rattle.maid_model.specs.declared.diagrams.Kind.TheVariants.{Decision, Utility}
 use Rattle.maid_model.specs.Views.{NodeView, DiagramView}
 use Rattle.maid_model.specs.Names.{NamesView}
+
+-- a node of the agent 0 alone
+abbrev pub node_of_one : Kind → ℕ → List ℕ → List ℤ → NodeView
+node_of_one kind states parents cells = record {
+  kind = kind;
+  owner = 0;
+  more = [];
+  states = states;
+  parents = parents;
+  cells = cells;
+}
 
 abbrev pub tie_decision : NodeView
 tie_decision =

@@ -1,6 +1,6 @@
 //! Numerals, rows and bounds at the ends of their ranges.
 
-ghost use Rattle.std.specs.Prelude.{◌≡◌, ◌<◌, ◌%◌, ◌^◌, [], IfOk, length, true, unsigned_abs};
+ghost use Rattle.std.specs.Prelude.{◌≡◌, ◌<◌, ◌%◌, ◌^◌, IfOk, length, true, unsigned_abs};
 ghost use Rattle.net_lexer.specs.Numerals.{is_numeral};
 ghost use Rattle.text_tests.specs.Numbers.{chance_of, choice, utility_of, weights_if, values_if, others_if};
 
@@ -29,6 +29,10 @@ fn numerals_have_their_value(rt: HostRuntime) {
     assert_eq!(rt; value_of(b"+1.000"), Some((1, 0)));
     assert_eq!(rt; value_of(b"-12.50E+1"), Some((-125, 0)));
     assert_eq!(rt; value_of(b"0012.50e-3"), Some((125, 4)));
+}
+
+#[test]
+fn numerals_have_their_limits(rt: HostRuntime) {
     assert_eq!(rt;
         value_of(b"1e37"),
         Some((10_000_000_000_000_000_000_000_000_000_000_000_000, 0))
@@ -37,6 +41,10 @@ fn numerals_have_their_value(rt: HostRuntime) {
     assert_eq!(rt; value_of(b"1e-30"), Some((1, 30)));
     assert_eq!(rt; value_of(b"1e-31"), None);
     assert_eq!(rt; value_of(b"10e-31"), Some((1, 30)));
+}
+
+#[test]
+fn the_greatest_numeral_has_its_value(rt: HostRuntime) {
     let greatest = 85_070_591_730_234_615_865_843_651_857_942_052_863;
     assert_eq!(rt;
         value_of(b"85070591730234615865843651857942052863"),
@@ -65,6 +73,11 @@ fn plain_readings_end_where_they_say(rt: HostRuntime) {
     assert_eq!(rt; whole_numeral(b"0999999999999999999"), None);
     assert_eq!(rt; whole_numeral(b"+7"), None);
     assert_eq!(rt; whole_numeral(b"7."), None);
+}
+
+// Nor is a row without a plain total.
+#[test]
+fn plain_rows_have_their_total(rt: HostRuntime) {
     assert_eq!(rt; plain_total(&[1, 2, 3, 0], 4), Some(6));
     assert_eq!(rt; plain_total(&[1, 2, 2, 1], 2), Some(3));
     assert_eq!(rt; plain_total(&[1, 2, 3, 0], 2), None, "3 0 shares 3");

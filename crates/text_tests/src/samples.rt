@@ -1,13 +1,13 @@
 //! A diagram that reports and lines are of, and its names.
 
-ghost use Rattle.std.specs.Prelude.{◌≡◌, [], IfOk};
-ghost use Rattle.text_tests.specs.Samples.{tie_diagram, tie_names};
+ghost use Rattle.std.specs.Prelude.{◌≡◌, IfOk};
+ghost use Rattle.text_tests.specs.Samples.{node_of_one, tie_diagram, tie_names};
 
 use maid_model::{Diagram, Kind, Names, Node, literals_are_tested};
 use smallvec::SmallVec;
 use std::alloc::{AllocError, Global};
 
-/// A node of the agent 0.
+/// A node of the agent 0 alone.
 fn node(
     alloc: Global,
     kind: Kind,
@@ -15,15 +15,7 @@ fn node(
     parents: &[usize],
     cells: &[i128],
 ) -> Result<Node, AllocError>
-    ensures { IfOk result (λ n.
-        n ≡ record {
-          kind = kind;
-          owner = 0;
-          more = [];
-          states = states;
-          parents = parents.now;
-          cells = cells.now;
-        }) }
+    ensures { IfOk result (λ n. n ≡ node_of_one kind states parents.now cells.now) }
 {
     Ok(Node {
         kind,

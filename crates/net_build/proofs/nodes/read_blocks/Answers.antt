@@ -12,7 +12,7 @@ use Rattle.net_parser.specs.Trees.{BlockTree}
 use Rattle.net_build.proofs.NodeLemmas.{rows_behind, is_node_block, front_more, front_pushed, entry_new, head_is, first_is, others_are, agents_up_to, owners_up_to, nodes_done, node_is_named}
 use Rattle.first_fault.proofs.Leading.{after_skip, after_step, after_refused, after_end, filter_front_no}
 use Rattle.net_build.proofs.nodes.read_blocks.Goals as goal
-use Rattle.net_build.proofs.nodes.read_blocks.Goals.{then-is_node+in_ok-entry+in_ok-add+in_ok-push+in_ok-push-2+in_ok-push-3, else-is_node}
+use Rattle.net_build.proofs.nodes.read_blocks.Goals.{then-is_node+in_ok-entry+in_ok-enter, else-is_node}
 
 -- the block at the place is one of the text
 own : (text : List ℕ) (blocks : List BlockTree) (i : ℕ) (b : BlockTree) → All (IsBlockOf text) blocks → i < length blocks → b ≡ get_or blocks i b → IsBlockOf text b
@@ -45,8 +45,8 @@ returns-in_err-entry-clause-rows c =
     c.loop-block.invariant.lead
     (rw (c.loop-block.invariant.names, c.loop-block.invariant.agents) at c.in_err-entry.ensures.rows))
 
-pub add-requires : goal.add-requires
-add-requires c has = entry_new c.args.text.now _ _ c.block-item.result c.in_ok-entry.ensures.rows (rw c.in_ok-entry.ensures.name at has)
+pub enter-requires : goal.enter-requires
+enter-requires c has = entry_new c.args.text.now _ _ c.block-item.result c.in_ok-entry.ensures.rows (rw c.in_ok-entry.ensures.name at has)
 
 pub returns-clause-rows : goal.returns-clause-rows
 returns-clause-rows c = after_end (rows_behind c.args.text.now) is_node_block c.args.blocks.now (node_pass c.args.text.now c.args.blocks.now) c.loop-block.block-index c.loop-block-test.false c.loop-block.invariant.lead
@@ -63,7 +63,7 @@ returns-clause-nodes c =
 
 pub loop-block-preserved : goal.loop-block-preserved
 loop-block-preserved c = elim c.if-is_node.branch [
-  | then-is_node+in_ok-entry+in_ok-add+in_ok-push+in_ok-push-2+in_ok-push-3 w ↦
+  | then-is_node+in_ok-entry+in_ok-enter w ↦
       let text = c.args.text.now in
       let blocks = c.args.blocks.now in
       let b = c.block-item.result in
@@ -73,14 +73,14 @@ loop-block-preserved c = elim c.if-is_node.branch [
       record {
         lead = after_step (rows_behind text) is_node_block blocks (node_pass text blocks) i b c.loop-block-test.true c.block-item.is kept c.loop-block.invariant.lead
             (rw (c.loop-block.invariant.names, c.loop-block.invariant.agents) at w.in_ok-entry.ensures.rows);
-        names = rw w.names-is (front_more (block_name text) is_node_block blocks i b c.loop-block.names _ w.in_ok-entry.entry.name.items c.loop-block-test.true c.block-item.is kept c.loop-block.invariant.names w.in_ok-add.ensures w.in_ok-entry.ensures.name);
-        labels = rw w.labels-is (front_pushed (λ (v : Vec (Vec ℕ)). list_of v.items) (block_labels text) is_node_block blocks i b c.loop-block.labels.items _ w.in_ok-entry.entry.labels c.loop-block-test.true c.block-item.is kept c.loop-block.invariant.labels w.in_ok-push.ensures.items w.in_ok-entry.ensures.labels);
+        names = rw w.names-is (front_more (block_name text) is_node_block blocks i b c.loop-block.names _ w.in_ok-entry.entry.name.items c.loop-block-test.true c.block-item.is kept c.loop-block.invariant.names w.in_ok-enter.ensures.names w.in_ok-entry.ensures.name);
+        labels = rw w.labels-is (front_pushed (λ (v : Vec (Vec ℕ)). list_of v.items) (block_labels text) is_node_block blocks i b c.loop-block.labels.items _ w.in_ok-entry.entry.labels c.loop-block-test.true c.block-item.is kept c.loop-block.invariant.labels w.in_ok-enter.ensures.labels w.in_ok-entry.ensures.labels);
         agents = rw w.agents-is (agents_up_to text blocks i b _ _ c.loop-block-test.true c.block-item.is kept c.loop-block.invariant.agents w.in_ok-entry.ensures.agents);
-        heads = rw w.heads-is (front_more (head_of text (node_blocks blocks)) is_node_block blocks i b c.loop-block.heads.items _ w.in_ok-entry.entry.head c.loop-block-test.true c.block-item.is kept c.loop-block.invariant.heads w.in_ok-push-2.ensures.items
+        heads = rw w.heads-is (front_more (head_of text (node_blocks blocks)) is_node_block blocks i b c.loop-block.heads.items _ w.in_ok-entry.entry.head c.loop-block-test.true c.block-item.is kept c.loop-block.invariant.heads w.in_ok-enter.ensures.heads
             (head_is w.in_ok-entry.entry.head (title_at b) (first_owner text (node_blocks blocks) b) (block_states text b) b w.in_ok-entry.ensures.at w.in_ok-entry.ensures.kind
             (first_is _ _ _ owners)
             w.in_ok-entry.ensures.states));
-        more = rw w.more-is (front_pushed (λ (v : Vec ℕ). v.items) (more_owners text (node_blocks blocks)) is_node_block blocks i b c.loop-block.more.items _ w.in_ok-entry.entry.more c.loop-block-test.true c.block-item.is kept c.loop-block.invariant.more w.in_ok-push-3.ensures.items
+        more = rw w.more-is (front_pushed (λ (v : Vec ℕ). v.items) (more_owners text (node_blocks blocks)) is_node_block blocks i b c.loop-block.more.items _ w.in_ok-entry.entry.more c.loop-block-test.true c.block-item.is kept c.loop-block.invariant.more w.in_ok-enter.ensures.more
             (others_are _ _ _ owners));
       }
   | else-is_node w ↦

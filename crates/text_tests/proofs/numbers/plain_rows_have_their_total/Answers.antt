@@ -1,6 +1,6 @@
 use Rattle.std.proofs.Common.{refl}
 use Rattle.std.proofs.lemmas.Nat.Gcd.{dvd_of_mod-eq-zero}
-use Rattle.text_tests.proofs.numbers.plain_readings_end_where_they_say.Goals as goal
+use Rattle.text_tests.proofs.numbers.plain_rows_have_their_total.Goals as goal
 
 pub plain_total-requires-clause-whole : goal.plain_total-requires-clause-whole
 plain_total-requires-clause-whole g c = dvd_of_mod-eq-zero 4 refl

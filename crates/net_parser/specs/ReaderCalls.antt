@@ -1,0 +1,36 @@
+-- What the reader's calls promise. No public contract needs it.
+use Rattle.std.specs.Prelude.{◌≡◌, ℕ, Bool, List, [], ◌∷◌, drop, map, Result}
+use Rattle.net_lexer.specs.declared.tokens.Token.{Token}
+use Rattle.net_lexer.specs.declared.tokens.TokenKind.TheVariants.{Equals, Semicolon}
+use Rattle.net_parser.specs.declared.reader.Stop.{Stop}
+use Rattle.net_parser.specs.declared.trees.BlockKind.{BlockKind}
+use Rattle.net_parser.specs.declared.trees.Value.{Value}
+use Rattle.net_parser.specs.Grammar.{ClosedValues, Rule, is_potential}
+use Rattle.net_parser.specs.Lexemes.{Lexeme}
+use Rattle.net_parser.specs.Reading.{FollowsInBlock, Symbol, attribute_name, body_rest, mark, value}
+use Rattle.net_parser.specs.Trees.{leaf}
+use Rattle.net_parser.specs.Views.{trees_of, value_tree}
+
+-- the symbols of an attribute
+abbrev pub attribute_symbols : Bool → List Symbol
+attribute_symbols potential =
+    attribute_name potential ∷ mark Equals ∷ value 32 ∷ mark Semicolon ∷ []
+
+-- Reading of a block's head: the block's body is still to come.
+abbrev pub FollowsToBody : {N : Type 0} → Bool → Result (BlockKind × N) Stop → List Lexeme
+    → List Lexeme → Type 0
+FollowsToBody first result old new =
+    FollowsInBlock first (λ head. body_rest (is_potential head.0)) result old new
+
+-- the token and its bytes stand first
+abbrev pub BeginsWithLexeme : List Lexeme → Token → List ℕ → Type 0
+BeginsWithLexeme lexemes token bytes =
+    lexemes ≡ record { token = token; bytes = bytes } ∷ drop 1 lexemes
+
+-- leaves, and the parenthesis that closes their list, at any depth
+abbrev pub ClosedLeaves : List Token → Rule
+ClosedLeaves leaves from to = (depth : ℕ) → ClosedValues depth (trees_of (map leaf leaves)) from to
+
+-- these values, and the parenthesis that closes their list
+abbrev pub ClosedList : ℕ → List Value → Rule
+ClosedList depth values from to = ClosedValues depth (trees_of (map value_tree values)) from to
