@@ -1,8 +1,9 @@
 -- What decisions choose, without what it is worth.
 use Rattle.std.specs.Prelude.{◌≡◌, ◌<◌, ℕ, ◌+◌, List, [], ◌∷◌, ◌++◌, All, length}
+use Rattle.std.specs.Global.{Vec}
 use Rattle.std.specs.List.{flat_map}
 use Rattle.maid_model.specs.declared.answers.Row.{Row}
-use Rattle.maid_model.specs.Views.{NodeView, AnswerView}
+use Rattle.maid_model.specs.Views.{DiagramView, NodeView, AnswerView}
 use Rattle.maid_model.specs.Names.{NamesView}
 use Rattle.maid_model.specs.Nodes.{IsDecision, rows_of, states_of}
 use Rattle.maid_model.specs.Reports.{decision_head, line}
@@ -33,3 +34,7 @@ decision_choices nodes names answer = decision_head nodes names answer.decision
 -- decision by decision
 abbrev pub choice_lines : List NodeView → NamesView → List AnswerView → List ℕ
 choice_lines nodes names answers = flat_map (decision_choices nodes names) answers
+
+-- the text of the bytes is that
+abbrev pub TellsChoices : DiagramView → NamesView → List AnswerView → Vec ℕ → Type 0
+TellsChoices d names answers text = text.items ≡ choice_lines d.nodes names answers

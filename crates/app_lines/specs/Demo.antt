@@ -2,6 +2,14 @@
 use Rattle.std.specs.Prelude.{ℕ, ◌-◌, ◌==◌, List, ◌++◌, codes, decimal, if◌then◌else◌}
 use Rattle.std.specs.List.{flat_map, range_with_len}
 
+-- a text with one number in it, and with two
+abbrev pub with_one : List ℕ → ℕ → List ℕ → List ℕ
+with_one before number behind = before ++ decimal number ++ behind
+
+abbrev pub with_two : List ℕ → ℕ → List ℕ → ℕ → List ℕ → List ℕ
+with_two before first between second behind =
+    before ++ decimal first ++ between ++ decimal second ++ behind
+
 -- a stage's node blocks: a state, a decision that stays or flips, and a utility
 abbrev pub state_block : ℕ → List ℕ
 state_block i = codes "node X" ++ decimal i ++ codes " { states = (\"s1\" \"s2\"); }\n"
@@ -39,7 +47,13 @@ worth_potential i =
 abbrev pub stage_potentials : ℕ → List ℕ
 stage_potentials i = state_potential i ++ choice_potential i ++ worth_potential i
 
+-- so many stages' node blocks, and so many stages' potentials
+abbrev pub blocks_of : ℕ → List ℕ
+blocks_of k = flat_map stage_blocks (range_with_len 0 k)
+
+abbrev pub potentials_of : ℕ → List ℕ
+potentials_of k = flat_map stage_potentials (range_with_len 0 k)
+
 -- all node blocks, stage by stage, and then all potentials
 abbrev pub demo_text : ℕ → List ℕ
-demo_text k =
-    flat_map stage_blocks (range_with_len 0 k) ++ flat_map stage_potentials (range_with_len 0 k)
+demo_text k = blocks_of k ++ potentials_of k

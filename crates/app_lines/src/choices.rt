@@ -1,9 +1,10 @@
 //! Lines of what decisions choose.
 
-ghost use Rattle.std.specs.Prelude.{◌≡◌, ◌<◌, ◌++◌, All, IfOk, OnOk};
+ghost use Rattle.std.specs.Prelude.{◌≡◌, ◌<◌, ◌++◌, All, IfOk};
 ghost use Rattle.maid_model.specs.Names.{NamesFit};
 ghost use Rattle.maid_model.specs.Nodes.{IsDecision, rows_of, states_of};
-ghost use Rattle.app_lines.specs.Choices.{HasChoices, choice_line, choice_lines, decision_choices};
+ghost use Rattle.app_lines.specs.Choices.{HasChoices, TellsChoices};
+ghost use Rattle.app_lines.specs.Pushing.{PushesChoice, PushesChoices};
 
 use maid_model::{Answer, Diagram, Names};
 use report_text::{push_head, push_row_front, push_state};
@@ -25,8 +26,7 @@ fn push_choice(
     requires rows { rows ≡ rows_of diagram.now.nodes decision }
     requires number { number < rows }
     requires choice { choice < states_of diagram.now.nodes decision }
-    ensures { OnOk result (out.new.items
-        ≡ out.old.items ++ choice_line diagram.now.nodes names.now decision number choice) }
+    ensures { PushesChoice diagram.now names.now decision number choice out.old out.new result }
 {
     push_row_front(out, diagram, names, decision, rows, number)?;
     push_state(out, diagram, names, decision, choice)?;
@@ -43,8 +43,7 @@ fn push_choices(
 ) -> Result<(), AllocError>
     requires fit { NamesFit diagram.now names.now }
     requires answer { HasChoices diagram.now.nodes answer.now }
-    ensures { OnOk result (out.new.items
-        ≡ out.old.items ++ decision_choices diagram.now.nodes names.now answer.now) }
+    ensures { PushesChoices diagram.now names.now answer.now out.old out.new result }
 {
     let decision = answer.decision;
     let rows = answer.rows.len();
@@ -66,8 +65,7 @@ pub fn choice_lines(
 ) -> Result<Vec<u8>, AllocError>
     requires names { NamesFit diagram.now names.now }
     requires answers { All (HasChoices diagram.now.nodes) answers.now }
-    ensures { IfOk result (λ text.
-        text.items ≡ choice_lines diagram.now.nodes names.now answers.now) }
+    ensures { IfOk result (TellsChoices diagram.now names.now answers.now) }
 {
     let mut text = Vec::new(alloc);
     for answer in answers {

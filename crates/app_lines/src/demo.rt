@@ -1,16 +1,17 @@
 //! The text of the generated diagram: stages of a state, a decision and a utility, each state but the first behind the
 //! state and the decision before it.
 
-ghost use Rattle.std.specs.Prelude.{◌≡◌, ◌<◌, ◌-◌, ◌++◌, IfOk, OnOk, decimal};
-ghost use Rattle.std.specs.List.{flat_map, range_with_len};
-ghost use Rattle.app_lines.specs.Demo.{state_block, choice_block, worth_block, stage_blocks, later_potential, state_potential, choice_potential, worth_potential, stage_potentials, demo_text};
+ghost use Rattle.std.specs.Prelude.{◌≡◌, ◌<◌, ◌-◌, ◌++◌, IfOk, decimal};
+ghost use Rattle.app_lines.specs.Demo.{state_block, choice_block, worth_block, stage_blocks, later_potential, state_potential, choice_potential, worth_potential, stage_potentials, demo_text, blocks_of, potentials_of, with_one};
+ghost use Rattle.app_lines.specs.Pushing.{PushesTwo};
+ghost use Rattle.line_pieces.specs.Pushed.{PushAppends};
 
 use line_pieces::push_number;
 use std::alloc::{AllocError, Global};
 
 // Appends a text and a number behind it.
 fn push_numbered(out: &mut Vec<u8>, before: &[u8], number: usize) -> Result<(), AllocError>
-    ensures { OnOk result (out.new.items ≡ out.old.items ++ (before.now ++ decimal number)) }
+    ensures { PushAppends out.old out.new result (before.now ++ decimal number) }
 {
     out.extend_from_slice(before)?;
     push_number(out, number as u128)
@@ -24,8 +25,7 @@ fn push_one(
     number: usize,
     behind: &[u8],
 ) -> Result<(), AllocError>
-    ensures { OnOk result (out.new.items
-        ≡ out.old.items ++ (before.now ++ decimal number ++ behind.now)) }
+    ensures { PushAppends out.old out.new result (with_one before.now number behind.now) }
 {
     push_numbered(out, before, number)?;
     out.extend_from_slice(behind)
@@ -41,22 +41,20 @@ fn push_two(
     second: usize,
     behind: &[u8],
 ) -> Result<(), AllocError>
-    ensures { OnOk result (out.new.items
-        ≡ out.old.items
-        ++ (before.now ++ decimal first ++ between.now ++ decimal second ++ behind.now)) }
+    ensures { PushesTwo before.now first between.now second behind.now out.old out.new result }
 {
     push_numbered(out, before, first)?;
     push_one(out, between, second, behind)
 }
 
 fn push_state_block(out: &mut Vec<u8>, stage: usize) -> Result<(), AllocError>
-    ensures { OnOk result (out.new.items ≡ out.old.items ++ state_block stage) }
+    ensures { PushAppends out.old out.new result (state_block stage) }
 {
     push_one(out, b"node X", stage, b" { states = (\"s1\" \"s2\"); }\n")
 }
 
 fn push_choice_block(out: &mut Vec<u8>, stage: usize) -> Result<(), AllocError>
-    ensures { OnOk result (out.new.items ≡ out.old.items ++ choice_block stage) }
+    ensures { PushAppends out.old out.new result (choice_block stage) }
 {
     push_one(
         out,
@@ -67,14 +65,14 @@ fn push_choice_block(out: &mut Vec<u8>, stage: usize) -> Result<(), AllocError>
 }
 
 fn push_worth_block(out: &mut Vec<u8>, stage: usize) -> Result<(), AllocError>
-    ensures { OnOk result (out.new.items ≡ out.old.items ++ worth_block stage) }
+    ensures { PushAppends out.old out.new result (worth_block stage) }
 {
     push_one(out, b"utility U", stage, b" { agent = \"agent\"; }\n")
 }
 
 #[tactic(auto, using(std::proofs::Common::append_assoc))]
 fn push_stage_blocks(out: &mut Vec<u8>, stage: usize) -> Result<(), AllocError>
-    ensures { OnOk result (out.new.items ≡ out.old.items ++ stage_blocks stage) }
+    ensures { PushAppends out.old out.new result (stage_blocks stage) }
 {
     push_state_block(out, stage)?;
     push_choice_block(out, stage)?;
@@ -84,7 +82,7 @@ fn push_stage_blocks(out: &mut Vec<u8>, stage: usize) -> Result<(), AllocError>
 // Appends the potential of a state behind the state and the decision of the stage before.
 fn push_later_potential(out: &mut Vec<u8>, stage: usize) -> Result<(), AllocError>
     requires { 0 < stage }
-    ensures { OnOk result (out.new.items ≡ out.old.items ++ later_potential stage) }
+    ensures { PushAppends out.old out.new result (later_potential stage) }
 {
     let before = stage - 1;
     push_two(out, b"potential (X", stage, b" | X", before, b" D")?;
@@ -93,7 +91,7 @@ fn push_later_potential(out: &mut Vec<u8>, stage: usize) -> Result<(), AllocErro
 }
 
 fn push_state_potential(out: &mut Vec<u8>, stage: usize) -> Result<(), AllocError>
-    ensures { OnOk result (out.new.items ≡ out.old.items ++ state_potential stage) }
+    ensures { PushAppends out.old out.new result (state_potential stage) }
 {
     if stage == 0 {
         out.extend_from_slice(b"potential (X0) { data = (1 1); }\n")
@@ -103,13 +101,13 @@ fn push_state_potential(out: &mut Vec<u8>, stage: usize) -> Result<(), AllocErro
 }
 
 fn push_choice_potential(out: &mut Vec<u8>, stage: usize) -> Result<(), AllocError>
-    ensures { OnOk result (out.new.items ≡ out.old.items ++ choice_potential stage) }
+    ensures { PushAppends out.old out.new result (choice_potential stage) }
 {
     push_two(out, b"potential (D", stage, b" | X", stage, b") { }\n")
 }
 
 fn push_worth_potential(out: &mut Vec<u8>, stage: usize) -> Result<(), AllocError>
-    ensures { OnOk result (out.new.items ≡ out.old.items ++ worth_potential stage) }
+    ensures { PushAppends out.old out.new result (worth_potential stage) }
 {
     push_two(
         out,
@@ -123,7 +121,7 @@ fn push_worth_potential(out: &mut Vec<u8>, stage: usize) -> Result<(), AllocErro
 
 #[tactic(auto, using(std::proofs::Common::append_assoc))]
 fn push_stage_potentials(out: &mut Vec<u8>, stage: usize) -> Result<(), AllocError>
-    ensures { OnOk result (out.new.items ≡ out.old.items ++ stage_potentials stage) }
+    ensures { PushAppends out.old out.new result (stage_potentials stage) }
 {
     push_state_potential(out, stage)?;
     push_choice_potential(out, stage)?;
@@ -131,8 +129,7 @@ fn push_stage_potentials(out: &mut Vec<u8>, stage: usize) -> Result<(), AllocErr
 }
 
 fn push_blocks(out: &mut Vec<u8>, stages: usize) -> Result<(), AllocError>
-    ensures { OnOk result (out.new.items
-        ≡ out.old.items ++ flat_map stage_blocks (range_with_len 0 stages)) }
+    ensures { PushAppends out.old out.new result (blocks_of stages) }
 {
     for stage in 0..stages {
         push_stage_blocks(out, stage)?;
@@ -141,8 +138,7 @@ fn push_blocks(out: &mut Vec<u8>, stages: usize) -> Result<(), AllocError>
 }
 
 fn push_potentials(out: &mut Vec<u8>, stages: usize) -> Result<(), AllocError>
-    ensures { OnOk result (out.new.items
-        ≡ out.old.items ++ flat_map stage_potentials (range_with_len 0 stages)) }
+    ensures { PushAppends out.old out.new result (potentials_of stages) }
 {
     for stage in 0..stages {
         push_stage_potentials(out, stage)?;

@@ -1,7 +1,8 @@
 //! Lines of arcs that were removed.
 
-ghost use Rattle.std.specs.Prelude.{◌≡◌, ◌<◌, ◌++◌, IfOk, OnOk, length};
+ghost use Rattle.std.specs.Prelude.{◌≡◌, ◌<◌, ◌++◌, IfOk, length};
 ghost use Rattle.app_lines.specs.Removed.{AreNamed, removed_line, removed_lines};
+ghost use Rattle.line_pieces.specs.Pushed.{PushAppends};
 
 use maid_model::Names;
 use std::alloc::{AllocError, Global};
@@ -10,7 +11,7 @@ use std::alloc::{AllocError, Global};
 fn push_removed(out: &mut Vec<u8>, names: &Names, from: usize, to: usize) -> Result<(), AllocError>
     requires from { from < length names.now.nodes }
     requires to { to < length names.now.nodes }
-    ensures { OnOk result (out.new.items ≡ out.old.items ++ removed_line names.now (from, to)) }
+    ensures { PushAppends out.old out.new result (removed_line names.now (from, to)) }
 {
     out.extend_from_slice(b"% removed ")?;
     out.extend_from_slice(names.name(from))?;

@@ -1,3 +1,4 @@
 pub mod Edits
 pub mod Reliance
+pub mod Samples
 pub mod Trimming

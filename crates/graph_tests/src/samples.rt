@@ -1,6 +1,7 @@
 //! What the small diagrams of the tests are made of.
 
-ghost use Rattle.std.specs.Prelude.{◌≡◌, [], IfOk};
+ghost use Rattle.std.specs.Prelude.{◌≡◌, IfOk};
+ghost use Rattle.graph_tests.specs.Samples.{node_of};
 
 use maid_model::{Kind, Node};
 use smallvec::SmallVec;
@@ -15,15 +16,7 @@ pub(crate) fn node(
     parents: &[usize],
     cells: &[i128],
 ) -> Result<Node, AllocError>
-    ensures { IfOk result (λ n.
-        n ≡ record {
-          kind = kind;
-          owner = owner;
-          more = [];
-          states = states;
-          parents = parents.now;
-          cells = cells.now;
-        }) }
+    ensures { IfOk result (λ n. n ≡ node_of kind owner states parents.now cells.now) }
 {
     Ok(Node {
         kind,

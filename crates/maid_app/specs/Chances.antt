@@ -31,3 +31,7 @@ abbrev pub at_state :
     {O : Type 0} → DiagramView → NamesView → List ℕ → List ℕ → (ℕ → ℕ → O → Type 0) → O → Type 0
 at_state d names name label P =
     over (IsStatePlace d names name label) (λ place. P place.node place.state)
+
+-- no state of the node has the label
+abbrev pub LacksLabel : NamesView → ℕ → List ℕ → Type 0
+LacksLabel names x label = (s : ℕ) → IsFirstPlace (labels_of names x) label s → ⊥

@@ -72,6 +72,16 @@ limit_words limits.Rules = codes "rules "
 unfoldable pub cycle_names : List (List ℕ) → List ℕ → List ℕ
 cycle_names names cycle = spaced (map (λ v. slice_index_or names v []) cycle)
 
+-- a cycle of nodes with these names, a table of another count of numbers, and a limit that is passed
+abbrev pub cycle_words : List (List ℕ) → List ℕ → List ℕ
+cycle_words names cycle = codes "graph cycle:" ++ cycle_names names cycle
+
+abbrev pub count_words : ℕ → ℕ → List ℕ
+count_words want got = codes "wrong count: want " ++ decimal want ++ codes " got " ++ decimal got
+
+abbrev pub passed_words : Limit → ℕ → List ℕ
+passed_words which got = codes "limit passed: " ++ limit_words which ++ decimal got
+
 -- what is wrong with a tree whose node blocks have these names
 abbrev pub kind_words : List (List ℕ) → KindView → List ℕ
 kind_words names passes.DoubleName = codes "double name"
@@ -86,17 +96,15 @@ kind_words names passes.DoublePotential = codes "double potential"
 kind_words names passes.RepeatedParent = codes "repeated parent"
 kind_words names passes.UtilityParent = codes "utility parent"
 kind_words names passes.MissingTable = codes "missing table"
-kind_words names (passes.GraphCycle cycle) = codes "graph cycle:" ++ cycle_names names cycle
+kind_words names (passes.GraphCycle cycle) = cycle_words names cycle
 kind_words names passes.NotANumber = codes "not a number"
-kind_words names (passes.WrongCount want got) =
-    codes "wrong count: want " ++ decimal want ++ codes " got " ++ decimal got
+kind_words names (passes.WrongCount want got) = count_words want got
 kind_words names passes.NumberTooLong = codes "number too long"
 kind_words names passes.Negative = codes "negative"
 kind_words names passes.ZeroRow = codes "zero row"
 kind_words names passes.WideWeight = codes "wide weight"
 kind_words names passes.WideValue = codes "wide value"
-kind_words names (passes.LimitPassed which got) =
-    codes "limit passed: " ++ limit_words which ++ decimal got
+kind_words names (passes.LimitPassed which got) = passed_words which got
 
 -- no diagram stands for their tree: the first fault of the passes
 pub record IsBuildFault (bytes : List ℕ) (at : ℕ) (words : List ℕ) : Type 0 where

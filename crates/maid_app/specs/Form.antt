@@ -4,6 +4,8 @@ use Rattle.maid_app.specs.declared.forms.Form.{Form}
 use Rattle.maid_app.specs.declared.forms.Form.TheVariants.{Text, Check}
 use Rattle.maid_app.specs.declared.forms.TextForm.{TextForm}
 use Rattle.maid_app.specs.declared.forms.TextForm.TheVariants.{Solve, Graph, Print, Trim, Pure, Update, Info, Control, Given, Threshold, Demo}
+use Rattle.std.specs.Prelude.{◌≡◌, Option}
+use Rattle.std.specs.Option.{option_map}
 
 -- the request that a form with one text stands for
 abbrev pub text_request_by : TextForm → Request
@@ -23,3 +25,7 @@ text_request_by (Demo k) = demo k
 abbrev pub request_by : Form → Request
 request_by (Text form) = text_request_by form
 request_by (Check file report) = check file.now report.now
+
+-- the form that the words have is that of the request, and none where there is none
+abbrev pub IsFormOf : Option Form → Option Request → Type 0
+IsFormOf form request = option_map request_by form ≡ request

@@ -1,5 +1,6 @@
 -- What a refusal for a file's bytes tells. Only contracts of private functions cite these.
-use Rattle.std.specs.Prelude.{◌≡◌, ℕ, List, Err, Ok}
+use Rattle.std.specs.Prelude.{◌≡◌, ℕ, List, Err, Ok, MatchResult, Result}
+use Rattle.std.specs.Global.{Vec}
 use Rattle.first_fault.specs.Answers.{IsFaultOrNoMemory}
 use Rattle.first_fault.specs.Outcomes.{Outcomes, refusals}
 use Rattle.first_fault.specs.Passes.{Pass, always, each}
@@ -8,16 +9,28 @@ use Rattle.maid_model.specs.Views.{DiagramView, SolvedView}
 use Rattle.report_text.specs.Reading.{AreTold}
 use Rattle.maid_app.specs.Check.{CanBeChecked, examining, judging}
 use Rattle.maid_app.specs.Diagrams.{IsDiagramOf}
-use Rattle.maid_app.specs.Lines.{no_memory_line}
-use Rattle.maid_app.specs.Outcome.{Written, Refused, refused, done_with}
+use Rattle.maid_app.specs.Lines.{no_memory_line, fault_line}
+use Rattle.maid_app.specs.Outcome.{Written, Refused, refused, done_with, written}
 use Rattle.maid_app.specs.Refusal.{refused_as}
 use Rattle.maid_app.specs.Solve.{IsSolution, IsSolvable}
 use Rattle.maid_app.specs.Stages.{Stage, Finds, text_fault}
 use Rattle.maid_app.specs.Tasks.{comes_of, Task}
+use Rattle.maid_app.specs.declared.forms.asking.Asked.{Asked}
+use Rattle.maid_app.specs.declared.output.Output.{Output}
 use Rattle.maid_app.specs.declared.refusal.Refusal.{Refusal}
+use Rattle.maid_app.specs.declared.refusal.Refusal.TheVariants as refusal_variants
 use Rattle.maid_app.specs.declared.status.Status.{Status}
-use Rattle.maid_app.specs.declared.status.Status.TheVariants.{Done, Usage, Absent, ReadFault, TextTooLong, WriteFault, NoMemory, Rejected}
+use Rattle.maid_app.specs.declared.status.Status.TheVariants.{Done, Usage, Absent, ReadFault, TextTooLong, WriteFault, NoMemory, Rejected, TextFault}
 use Rattle.maid_app.specs.declared.reading.Source.{Source}
+use Rattle.net_parser.specs.Faults.{parse_fault, tree_pass}
+use Rattle.net_parser.specs.Grammar.{Spells}
+use Rattle.net_parser.specs.Lexemes.{lexemes}
+use Rattle.net_parser.specs.Trees.{BlockTree}
+use Rattle.net_parser.specs.declared.parsing.ParseFault.{ParseFault}
+use Rattle.net_lexer.specs.declared.tokens.Token.{Token}
+use Rattle.net_build.specs.Passes.{build_fault}
+use Rattle.net_build.specs.Table.{all_passes}
+use Rattle.net_build.specs.declared.faults.BuildFault.{BuildFault}
 
 -- that status and that line, or that memory ran out
 abbrev pub Tells : Status → List ℕ → Refusal → Type 0
@@ -33,10 +46,18 @@ abbrev pub TellsStages : List Stage → List ℕ → List ℕ → Refusal → Ty
 TellsStages stages name bytes refusal =
     IsFaultOrNoMemory refused_as (each (λ s. Finds s (name, bytes)) stages) refusal
 
+-- so of a source's name and bytes
+abbrev pub TellsStagesOf : List Stage → Source → Refusal → Type 0
+TellsStagesOf stages source refusal = TellsStages stages source.name.now source.bytes.now refusal
+
 -- what the stages find in any bytes that stand for the diagram
 abbrev pub found_by : DiagramView → NamesView → List Stage → Pass Refused
 found_by d names stages found = (name bytes : List ℕ) → IsDiagramOf bytes d names
     → each (λ s. Finds s (name, bytes)) stages found
+
+-- that, or that memory ran out
+abbrev pub TellsFound : DiagramView → NamesView → List Stage → Refusal → Type 0
+TellsFound d names stages refusal = IsFaultOrNoMemory refused_as (found_by d names stages) refusal
 
 -- the bytes stand for that diagram, which no stage of solving refuses, and this is its answer
 pub record IsSolved
@@ -52,6 +73,11 @@ pub record IsAsked
   pub solved_as : IsSolved bytes d names solved
   pub fit : NamesFit d names
   pub is_agent : IsFirstPlace names.agents agent number
+
+-- so of what the code holds
+abbrev pub HasAsked : List ℕ → Source → Asked → Type 0
+HasAsked agent source made =
+    IsAsked agent source.bytes.now made.diagram made.names made.solved made.agent
 
 -- the bytes stand for that diagram, which a check can look at, and its names are told apart
 pub record IsExamined (bytes : List ℕ) (d : DiagramView) (names : NamesView) : Type 0 where
@@ -74,9 +100,16 @@ Judges d names name bytes outcome =
 abbrev pub comes_from : Task → Source → Outcomes Written Refused
 comes_from task source = comes_of task source.name.now source.bytes.now
 
--- the text does, and the run is done
-abbrev pub Prints : Task → Source → List ℕ → Type 0
-Prints task source text = comes_from task source (Ok (done_with text))
+-- this text does, and the run is done
+abbrev pub Finishes : Outcomes Written Refused → Vec ℕ → Type 0
+Finishes Comes text = Comes (Ok (done_with text.items))
+
+abbrev pub Prints : Task → Source → Vec ℕ → Type 0
+Prints task source text = Finishes (comes_from task source) text
+
+-- this output does
+abbrev pub Gives : Outcomes Written Refused → Output → Type 0
+Gives Comes output = Comes (Ok (written output.status output.text.items))
 
 -- what the stages find, or that memory ran out
 abbrev pub TellsOf : Outcomes Written Refused → Refusal → Type 0
@@ -105,3 +138,28 @@ IsOfOutput status = Unit {0}
 abbrev pub RefusesAs : Outcomes Written Refused → Status → List ℕ → Type 0
 RefusesAs Comes NoMemory told = told ≡ no_memory_line
 RefusesAs Comes status told = IsOfBytes status × Comes (Err (refused status told))
+
+-- the refusal is what comes of the task on a source
+abbrev pub TellsFrom : Task → Source → Refusal → Type 0
+TellsFrom task source refusal = TellsOf (comes_from task source) refusal
+
+-- it tells the words of a fault of the source's bytes at that place, or that memory ran out
+abbrev pub TellsFaultAt : Source → ℕ → List ℕ → Refusal → Type 0
+TellsFaultAt source at words refusal =
+    Tells TextFault (fault_line source.name.now source.bytes.now at words) refusal
+
+-- it tells that status and the line, if there was memory for the line
+abbrev pub TellsIfMade : {E : Type 0} → Status → Result (Vec ℕ) E → Refusal → Type 0
+TellsIfMade status line refusal =
+    MatchResult line (λ made. Tells status made.items refusal) (λ _. refusal ≡ refusal_variants.NoMemory)
+
+-- ---- the faults of tokens and of a tree that stand for no diagram, or that memory ran out
+abbrev pub IsTreeFault : List ℕ → List Token → ParseFault → Type 0
+IsTreeFault bytes tokens fault = IsFaultOrNoMemory parse_fault (tree_pass bytes tokens) fault
+
+abbrev pub IsFaultOfTree : List ℕ → List BlockTree → BuildFault → Type 0
+IsFaultOfTree bytes tree fault = IsFaultOrNoMemory build_fault (all_passes bytes tree) fault
+
+-- the tokens of the bytes spell the tree
+abbrev pub IsSpelled : List ℕ → List Token → List BlockTree → Type 0
+IsSpelled bytes tokens tree = Spells tree (lexemes bytes tokens)

@@ -6,6 +6,8 @@ use Rattle.maid_app.specs.declared.refusal.Refusal.{Refusal}
 use Rattle.maid_app.specs.declared.refusal.Refusal.TheVariants as refusals
 use Rattle.maid_app.specs.declared.status.Status.{Status}
 use Rattle.maid_app.specs.declared.status.Status.TheVariants.{Usage, WriteFault, NoMemory}
+use Rattle.first_fault.specs.Answers.{IsFaultOrNoMemory}
+use Rattle.first_fault.specs.Passes.{Pass}
 
 -- the status of each refusal
 abbrev pub status_of : Refusal → Status
@@ -25,3 +27,7 @@ line_of refusals.NoMemory = no_memory_line
 abbrev pub refused_as : Refusal → Option Refused
 refused_as refusals.NoMemory = None
 refused_as refusal = Some (refused (status_of refusal) (line_of refusal))
+
+-- the refusal is the first fault of the pass, or tells that memory ran out
+abbrev pub RefusesBy : Pass Refused → Refusal → Type 0
+RefusesBy P refusal = IsFaultOrNoMemory refused_as P refusal

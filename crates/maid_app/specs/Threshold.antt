@@ -17,6 +17,7 @@ use Rattle.maid_app.specs.Solve.{IsSolution, IsSolvable, solver_stages}
 use Rattle.maid_app.specs.Stages.{Stage, stage, name_stages, text_fault, unknown_row, no_others, moved_bound}
 use Rattle.maid_app.specs.Tasks.{Task, text_task}
 use Rattle.maid_app.specs.declared.status.Status.TheVariants.{UnknownRow, NoOthers, WeightBound}
+use Rattle.std.specs.Global.{Vec}
 
 -- the node, the row's number from 1, the state, its probability there, and the ends of the interval
 abbrev pub threshold_text : NamesView → ℕ → ℕ → ℕ → Interval → List ℕ
@@ -82,3 +83,17 @@ abbrev pub moved_pass : DiagramView → NamesView → StatePlace → ℕ → Pas
 moved_pass d names place row =
     stage WeightBound (KeepsMovedBound d place.node row place.state)
     (TellsMovedBound d place.node row place.state names)
+
+-- ---- of a row counted from 1
+abbrev pub IsOnlySpanAt : DiagramView → SolvedView → StatePlace → ℕ → Interval → Type 0
+IsOnlySpanAt d solved place row interval =
+    IsOnlySpan d solved place.node (row - 1) place.state interval
+
+abbrev pub StaysPerfectAt : DiagramView → SolvedView → StatePlace → ℕ → Interval → Type 0
+StaysPerfectAt d solved place row interval =
+    StaysPerfect d solved place.node (row - 1) place.state interval
+
+-- the text of the bytes is that of the interval
+abbrev pub IsThresholdText : NamesView → StatePlace → ℕ → Interval → Vec ℕ → Type 0
+IsThresholdText names place row interval text =
+    text.items ≡ threshold_text names place.node row place.state interval

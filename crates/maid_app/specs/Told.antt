@@ -1,5 +1,5 @@
 -- What a run read, wrote and told.
-use Rattle.std.specs.Prelude.{◌≡◌, ◌<◌, ◌≤◌, ◌+◌, ◌⊎◌, ℕ, List, length, Option, None, Some, Ok, Err, IfSome, IsSomeAnd}
+use Rattle.std.specs.Prelude.{◌≡◌, ◌<◌, ◌≤◌, ◌+◌, ◌⊎◌, ℕ, List, length, Option, None, Some, Ok, Err, String, IfSome, IsSomeAnd}
 use Rattle.std.specs.Io.KnownBytes.{Appends}
 use Rattle.app_lines.specs.Demo.{demo_text}
 use Rattle.maid_io.specs.Count.{Rose}
@@ -9,7 +9,7 @@ use Rattle.maid_app.specs.declared.running.TheConstants.{LIMIT, REPORT_LIMIT}
 use Rattle.maid_app.specs.Answers.{Answers, FindsNothing, CanAnswer}
 use Rattle.maid_app.specs.Lines.{usage_line, absent_line, read_fault_line, too_long_line, write_fault_line, no_memory_line}
 use Rattle.maid_app.specs.Outcome.{written, refused, Written, Refused}
-use Rattle.maid_app.specs.Request.{Request, check, judge, demo, file_name, IsOfFile}
+use Rattle.maid_app.specs.Request.{Request, check, judge, demo, file_name, requested, IsOfFile}
 use Rattle.maid_app.specs.declared.status.Status.{Status}
 use Rattle.maid_app.specs.declared.status.Status.TheVariants.{Done, Usage, Absent, ReadFault, TextTooLong, WriteFault, NoMemory, Rejected}
 use Rattle.maid_app.specs.Diagrams.{IsDiagramOf}
@@ -97,17 +97,42 @@ abbrev pub WritesText :
 WritesText list requested given IsTaken status = OfRequest list requested (λ request.
     (printed : List ℕ) × HasText list request given status printed × IsTaken printed)
 
+-- a status that comes after the whole text was written: its own, or that of a verdict
+abbrev pub IsAfterWriting : Status → Type 0
+IsAfterWriting Done = Unit {0}
+IsAfterWriting Rejected = Unit {0}
+IsAfterWriting status = ⊥
+
+-- the limits of the files are kept that a shelf of such a list started, which gave so much
+abbrev pub KeepsLimitsOf : {Z S : Type 0} → List (String Z) → (S → Option (List File)) → (S → ℕ)
+    → S → S → Status → Type 0
+KeepsLimitsOf words list given shelf shelf_now status =
+    KeepsLimits (list shelf) (requested words) status (given shelf_now)
+
+-- it is so where the words ask for a demo
+abbrev pub WhereDemo : {Z : Type 0} → List (String Z) → Type 0 → Type 0
+WhereDemo words So = (k : ℕ) → requested words ≡ Some (demo k) → So
+
+-- ---- What `out` took, where a shelf of such a list gave so much, before the run and now
 -- the whole text that the words lead to was appended
-abbrev pub WritesWhole :
-    Option (List File) → Option Request → ℕ → Option (List ℕ) → Option (List ℕ) → Status → Type 0
-WritesWhole list requested given before now status =
-    WritesText list requested given (Appends before now) status
+abbrev pub WritesWhole : {Z S O : Type 0} → List (String Z) → (S → Option (List File)) → (S → ℕ)
+    → S → S → (O → Option (List ℕ)) → O → O → Status → Type 0
+WritesWhole words list given shelf shelf_now taken out out_now status =
+    WritesText (list shelf) (requested words) (given shelf_now)
+    (Appends (taken out) (taken out_now)) status
+
+-- so it was, where the run ended after writing
+abbrev pub WritesWholeIfDone : {Z S O : Type 0} → List (String Z) → (S → Option (List File))
+    → (S → ℕ) → S → S → (O → Option (List ℕ)) → O → O → Status → Type 0
+WritesWholeIfDone words list given shelf shelf_now taken out out_now status = IsAfterWriting status
+    → WritesWhole words list given shelf shelf_now taken out out_now status
 
 -- a proper front of it was
-abbrev pub WritesPart :
-    Option (List File) → Option Request → ℕ → Option (List ℕ) → Option (List ℕ) → Type 0
-WritesPart list requested given before now =
-    (status : Status) × WritesText list requested given (AppendsPart before now) status
+abbrev pub WritesPart : {Z S O : Type 0} → List (String Z) → (S → Option (List File)) → (S → ℕ)
+    → S → S → (O → Option (List ℕ)) → O → O → Type 0
+WritesPart words list given shelf shelf_now taken out out_now = (status : Status)
+    × WritesText (list shelf) (requested words) (given shelf_now)
+    (AppendsPart (taken out) (taken out_now)) status
 
 -- the request comes to nothing on its text's bytes, with that status and that line
 pub record Refuses
@@ -198,17 +223,12 @@ IsOfReading ReadFault = Unit {0}
 IsOfReading TextTooLong = Unit {0}
 IsOfReading status = ⊥
 
--- a status that comes after the whole text was written: its own, or that of a verdict
-abbrev pub IsAfterWriting : Status → Type 0
-IsAfterWriting Done = Unit {0}
-IsAfterWriting Rejected = Unit {0}
-IsAfterWriting status = ⊥
-
 -- unless the whole text was written, the line that says why not was taken so
-abbrev pub SaysWhyNot :
-    Option (List File) → Option Request → ℕ → Status → (List ℕ → Type 0) → Type 0
-SaysWhyNot list requested given status IsTaken = ¬ IsAfterWriting status
-    → (line : List ℕ) × Says list requested given status line × IsTaken line
+abbrev pub SaysWhyNot : {Z S : Type 0} → List (String Z) → (S → Option (List File)) → (S → ℕ)
+    → S → S → Status → (List ℕ → Type 0) → Type 0
+SaysWhyNot words list given shelf shelf_now status IsTaken = ¬ IsAfterWriting status
+    → (line : List ℕ) × Says (list shelf) (requested words) (given shelf_now) status line
+    × IsTaken line
 
 -- a status that comes before the first write to `out`
 abbrev pub IsBeforeWriting : Status → Type 0
@@ -226,47 +246,60 @@ EndsWell request status = IsOneOf status Done
 
 -- ---- What always comes of a file that the words lead to, or want of memory, but where the shelf fails, or `out`
 -- the shelf tells that it lacks the file
-abbrev pub AlwaysAbsent : Option (List File) → Option Request → Type 0 → Status → Type 0
-AlwaysAbsent list requested Fails status =
-    LacksFile list requested → ¬ Fails → IsOneOf status Absent
+abbrev pub AlwaysAbsent : {Z S : Type 0} → List (String Z) → (S → Option (List File)) → (S → ℕ)
+    → S → S → Status → Type 0
+AlwaysAbsent words list faults shelf shelf_now status = LacksFile (list shelf) (requested words)
+    → ¬ RoseIn faults shelf shelf_now → IsOneOf status Absent
 
 -- the file passes its limit
-abbrev pub AlwaysTooLong : Option (List File) → Option Request → Type 0 → Status → Type 0
-AlwaysTooLong list requested Fails status = (request : Request) (bytes : List ℕ)
-    → HasFile list requested request bytes → limit_of request < length bytes → ¬ Fails
-    → IsOneOf status TextTooLong
+abbrev pub AlwaysTooLong : {Z S : Type 0} → List (String Z) → (S → Option (List File)) → (S → ℕ)
+    → S → S → Status → Type 0
+AlwaysTooLong words list faults shelf shelf_now status = (request : Request) (bytes : List ℕ)
+    → HasFile (list shelf) (requested words) request bytes → limit_of request < length bytes
+    → ¬ RoseIn faults shelf shelf_now → IsOneOf status TextTooLong
 
 -- the request is refused on its bytes
-abbrev pub AlwaysRefused : Option (List File) → Option Request → Type 0 → Status → Type 0
-AlwaysRefused list requested Fails status = (request : Request) (bytes : List ℕ)
-    → HasFileWithin list requested request bytes → (refusal : Refused)
-    → Answers request bytes (Err refusal) → ¬ Fails → IsOneOf status refusal.status
+abbrev pub AlwaysRefused : {Z S : Type 0} → List (String Z) → (S → Option (List File)) → (S → ℕ)
+    → S → S → Status → Type 0
+AlwaysRefused words list faults shelf shelf_now status = (request : Request) (bytes : List ℕ)
+    → HasFileWithin (list shelf) (requested words) request bytes → (refusal : Refused)
+    → Answers request bytes (Err refusal) → ¬ RoseIn faults shelf shelf_now
+    → IsOneOf status refusal.status
 
 -- nothing is found in its bytes
-abbrev pub AlwaysDone : Option (List File) → Option Request → Type 0 → Type 0 → Status → Type 0
-AlwaysDone list requested Fails OutFails status = (request : Request) (bytes : List ℕ)
-    → HasFileWithin list requested request bytes → FindsNothing request bytes → ¬ Fails
-    → ¬ OutFails → EndsWell request status
+abbrev pub AlwaysDone : {Z S O : Type 0} → List (String Z) → (S → Option (List File)) → (S → ℕ)
+    → S → S → (O → ℕ) → O → O → Status → Type 0
+AlwaysDone words list faults shelf shelf_now out_faults out out_now status =
+    (request : Request) (bytes : List ℕ)
+    → HasFileWithin (list shelf) (requested words) request bytes → FindsNothing request bytes
+    → ¬ RoseIn faults shelf shelf_now → ¬ RoseIn out_faults out out_now → EndsWell request status
 
 -- its bytes stand for a diagram that can be answered
-abbrev pub AlwaysAnswers : Option (List File) → Option Request → Type 0 → Type 0 → Status → Type 0
-AlwaysAnswers list requested Fails OutFails status = (request : Request) (bytes : List ℕ)
-    → HasFileWithin list requested request bytes → (d : DiagramView) (names : NamesView)
-    → IsDiagramOf bytes d names → CanAnswer request d names → ¬ Fails → ¬ OutFails
-    → EndsWell request status
+abbrev pub AlwaysAnswers : {Z S O : Type 0} → List (String Z) → (S → Option (List File)) → (S → ℕ)
+    → S → S → (O → ℕ) → O → O → Status → Type 0
+AlwaysAnswers words list faults shelf shelf_now out_faults out out_now status =
+    (request : Request) (bytes : List ℕ)
+    → HasFileWithin (list shelf) (requested words) request bytes
+    → (d : DiagramView) (names : NamesView)
+    → IsDiagramOf bytes d names → CanAnswer request d names
+    → ¬ RoseIn faults shelf shelf_now → ¬ RoseIn out_faults out out_now → EndsWell request status
 
 -- an output comes of its bytes
-abbrev pub AlwaysWritten : Option (List File) → Option Request → Type 0 → Type 0 → Status → Type 0
-AlwaysWritten list requested Fails OutFails status = (request : Request) (bytes : List ℕ)
-    → HasFileWithin list requested request bytes → (output : Written)
-    → Answers request bytes (Ok output) → ¬ Fails → ¬ OutFails → IsOneOf status output.status
+abbrev pub AlwaysWritten : {Z S O : Type 0} → List (String Z) → (S → Option (List File)) → (S → ℕ)
+    → S → S → (O → ℕ) → O → O → Status → Type 0
+AlwaysWritten words list faults shelf shelf_now out_faults out out_now status =
+    (request : Request) (bytes : List ℕ)
+    → HasFileWithin (list shelf) (requested words) request bytes → (output : Written)
+    → Answers request bytes (Ok output)
+    → ¬ RoseIn faults shelf shelf_now → ¬ RoseIn out_faults out out_now
+    → IsOneOf status output.status
 
 -- the generated text of a demo is refused
-abbrev pub AlwaysDemoRefused : Option Request → Status → Type 0
-AlwaysDemoRefused requested status = (k : ℕ) → requested ≡ Some (demo k) → (refusal : Refused)
+abbrev pub AlwaysDemoRefused : {Z : Type 0} → List (String Z) → Status → Type 0
+AlwaysDemoRefused words status = (k : ℕ) → requested words ≡ Some (demo k) → (refusal : Refused)
     → Answers (demo k) (demo_text k) (Err refusal) → IsOneOf status refusal.status
 
 -- nothing is found in it
-abbrev pub AlwaysDemoDone : Option Request → Type 0 → Status → Type 0
-AlwaysDemoDone requested OutFails status = (k : ℕ) → requested ≡ Some (demo k)
-    → FindsNothing (demo k) (demo_text k) → ¬ OutFails → IsOneOf status Done
+abbrev pub AlwaysDemoDone : {Z O : Type 0} → List (String Z) → (O → ℕ) → O → O → Status → Type 0
+AlwaysDemoDone words out_faults out out_now status = (k : ℕ) → requested words ≡ Some (demo k)
+    → FindsNothing (demo k) (demo_text k) → ¬ RoseIn out_faults out out_now → IsOneOf status Done

@@ -8,6 +8,7 @@ use Rattle.requisite_trim.specs.Trims.{IsTrimming}
 use Rattle.maid_app.specs.Diagrams.{IsDiagramOf}
 use Rattle.maid_app.specs.Stages.{text_fault}
 use Rattle.maid_app.specs.Tasks.{Task, text_task}
+use Rattle.std.specs.Global.{Vec}
 
 -- A line for each arc that is not requisite, in order of removal, and then the text of the diagram
 -- without these arcs. The lines are comments: the whole text stands for the trimmed diagram, which
@@ -22,3 +23,7 @@ pub record HasTrim (d : DiagramView) (names : NamesView) (told : List ℕ) : Typ
 -- the text's fault, and else the removed arcs and the trimmed diagram
 abbrev pub trimming : Task
 trimming = text_task (text_fault ∷ []) HasTrim
+
+-- the text of the bytes is the lines of the removed arcs and then the diagram without them
+abbrev pub IsTrimmedText : DiagramView → NamesView → List (ℕ × ℕ) → Vec ℕ → Type 0
+IsTrimmedText d names removed text = text.items ≡ removed_lines names removed ++ printed d names

@@ -5,10 +5,12 @@ use Rattle.maid_model.specs.Names.{NamesView}
 use Rattle.maid_model.specs.Reports.{line, gain_lines}
 use Rattle.maid_model.specs.Scopes.{KeepsScopedBounds}
 use Rattle.maid_model.specs.Views.{DiagramView}
-use Rattle.policy_update.specs.Faults.{HasTwoOwners, IsSmallEnough}
+use Rattle.policy_update.specs.Faults.{HasTwoOwners, IsSmallEnough, update_fault, update_pass}
 use Rattle.policy_update.specs.Updated.{UpdatedView, IsUpdateOf, IsLocallyOptimal, RoundsRaise}
 use Rattle.maid_app.specs.Stages.{Stage, AllRoundsRaise, text_fault, several_owners, weight_bound, update_too_large, rounds_spent}
 use Rattle.maid_app.specs.Tasks.{Task, text_task}
+use Rattle.first_fault.specs.Answers.{IsFaultOrNoMemory}
+use Rattle.policy_update.specs.declared.faults.UpdateFault.{UpdateFault}
 
 -- how many rounds raised, the choices decision by decision, and what they are worth to each agent
 abbrev pub update_text : DiagramView → NamesView → UpdatedView → List ℕ
@@ -42,3 +44,7 @@ update_stages = several_owners ∷ weight_bound ∷ update_too_large ∷ rounds_
 -- the text's fault, these stages, and else the result
 abbrev pub updating : Task
 updating = text_task (text_fault ∷ update_stages) HasUpdate
+
+-- why the diagram is not updated in so many rounds, or that memory ran out
+abbrev pub IsUpdateFault : DiagramView → ℕ → UpdateFault → Type 0
+IsUpdateFault d rounds fault = IsFaultOrNoMemory update_fault (update_pass d rounds) fault

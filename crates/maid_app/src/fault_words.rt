@@ -1,12 +1,11 @@
 //! What is wrong with a tree, in words.
 
-ghost use Rattle.std.specs.Prelude.{◌≡◌, ◌++◌, [], All, IfOk, OnOk, codes, decimal, map, slice_index_or};
-ghost use Rattle.net_build.specs.Blocks.{node_blocks, names_of};
-ghost use Rattle.net_build.specs.Passes.{kind_view};
-ghost use Rattle.net_lexer.specs.Token.{IsTokenOf, token_bytes};
+ghost use Rattle.std.specs.Prelude.{◌≡◌, ◌++◌, [], All, IfOk, OnOk, slice_index_or};
+ghost use Rattle.net_lexer.specs.Token.{IsTokenOf};
 ghost use Rattle.net_parser.specs.Owned.{IsBlockOf};
-ghost use Rattle.maid_app.specs.Faults.{cycle_names, kind_words, limit_words};
-ghost use Rattle.maid_app.specs.Words.{node_titles};
+ghost use Rattle.maid_app.specs.Faults.{limit_words, count_words, cycle_words, passed_words};
+ghost use Rattle.maid_app.specs.Words.{node_titles, tokens_bytes, AreBlockNames, AreCycleWords, AreKindWords, cycle_names_in};
+ghost use Rattle.line_pieces.specs.Pushed.{PushAppends};
 
 use line_pieces::push_number;
 use net_build::{BuildKind, Limit};
@@ -46,8 +45,7 @@ fn push_title(text: &[u8], names: &mut Vec<Token>, block: &Block<'_>) -> Result<
 fn node_names(alloc: Global, text: &[u8], blocks: &[Block<'_>]) -> Result<Vec<Token>, AllocError>
     requires { All (IsBlockOf text.now) blocks.now }
     ensures own { IfOk result (λ names. All (IsTokenOf text.now) names.items) }
-    ensures names { IfOk result (λ names.
-        map (token_bytes text.now) names.items ≡ names_of text.now (node_blocks blocks.now)) }
+    ensures names { IfOk result (AreBlockNames text.now blocks.now) }
 {
     let mut names = Vec::new(alloc);
     for block in blocks {
@@ -59,7 +57,7 @@ fn node_names(alloc: Global, text: &[u8], blocks: &[Block<'_>]) -> Result<Vec<To
 // The name of that number, or nothing behind the last.
 fn name_at<'a>(text: &'a [u8], names: &[Token], v: usize) -> &'a [u8]
     requires { All (IsTokenOf text.now) names.now }
-    ensures { result.now ≡ slice_index_or (map (token_bytes text.now) names.now) v [] }
+    ensures { result.now ≡ slice_index_or (tokens_bytes text.now names.now) v [] }
 {
     match names.get(v) {
         Some(name) => name.bytes(text),
@@ -76,8 +74,7 @@ fn push_cycle(
     cycle: &[usize],
 ) -> Result<(), AllocError>
     requires { All (IsTokenOf text.now) names.now }
-    ensures { OnOk result (out.new.items
-        ≡ out.old.items ++ cycle_names (map (token_bytes text.now) names.now) cycle.now) }
+    ensures { PushAppends out.old out.new result (cycle_names_in text.now names.now cycle.now) }
 {
     for v in cycle {
         out.push(b' ')?;
@@ -94,10 +91,7 @@ fn cycle_words(
     cycle: &[usize],
 ) -> Result<Vec<u8>, AllocError>
     requires { All (IsBlockOf text.now) blocks.now }
-    ensures { IfOk result (λ words.
-        words.items
-        ≡ codes "graph cycle:"
-        ++ cycle_names (names_of text.now (node_blocks blocks.now)) cycle.now) }
+    ensures { IfOk result (AreCycleWords text.now blocks.now cycle.now) }
 {
     let names = node_names(alloc, text, blocks)?;
     let mut words = Vec::from_slice(alloc, b"graph cycle:")?;
@@ -107,8 +101,7 @@ fn cycle_words(
 
 // The words of a table of another count of numbers.
 fn count_words(alloc: Global, want: usize, got: usize) -> Result<Vec<u8>, AllocError>
-    ensures { IfOk result (λ words.
-        words.items ≡ codes "wrong count: want " ++ decimal want ++ codes " got " ++ decimal got) }
+    ensures { IfOk result (λ words. words.items ≡ count_words want got) }
 {
     let mut words = Vec::from_slice(alloc, b"wrong count: want ")?;
     push_number(&mut words, want as u128)?;
@@ -119,8 +112,7 @@ fn count_words(alloc: Global, want: usize, got: usize) -> Result<Vec<u8>, AllocE
 
 // The words of a limit that is passed.
 fn passed_words(alloc: Global, which: Limit, got: u128) -> Result<Vec<u8>, AllocError>
-    ensures { IfOk result (λ words.
-        words.items ≡ codes "limit passed: " ++ limit_words which ++ decimal got) }
+    ensures { IfOk result (λ words. words.items ≡ passed_words which got) }
 {
     let mut words = Vec::from_slice(alloc, b"limit passed: ")?;
     words.extend_from_slice(limit_words(which))?;
@@ -136,8 +128,7 @@ pub fn kind_words(
     kind: &BuildKind,
 ) -> Result<Vec<u8>, AllocError>
     requires { All (IsBlockOf text.now) tree.now }
-    ensures { IfOk result (λ words.
-        words.items ≡ kind_words (names_of text.now (node_blocks tree.now)) (kind_view kind.now)) }
+    ensures { IfOk result (AreKindWords text.now tree.now kind.now) }
 {
     let words: &[u8] = match kind {
         BuildKind::GraphCycle { list } => return cycle_words(alloc, text, &tree.blocks, list),

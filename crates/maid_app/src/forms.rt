@@ -1,15 +1,14 @@
 //! The forms of words, each with a module that makes its text.
 
-ghost use Rattle.std.specs.Prelude.{◌≡◌, ◌<◌, Ok, IfOk, IfErr, decimal};
+ghost use Rattle.std.specs.Prelude.{◌≡◌, ◌<◌, IfOk, IfErr, decimal};
 ghost use Rattle.std.specs.Char.{is_ascii_digit};
 ghost use Rattle.std.specs.List.{list_all};
 ghost use Rattle.std.specs.Option.{option_map};
 ghost use Rattle.std.specs.Str.{bytes_eq};
 ghost use Rattle.maid_app.specs.Answers.{Answers};
-ghost use Rattle.maid_app.specs.Outcome.{done_with};
-ghost use Rattle.maid_app.specs.Reading.{TellsOf};
+ghost use Rattle.maid_app.specs.Reading.{TellsOf, Finishes};
 ghost use Rattle.maid_app.specs.Request.{is_row_size, is_row_word, request_by_evidence, request_by_row, request_by_word, request_by_words, requested, row_of, stages_of};
-ghost use Rattle.maid_app.specs.Form.{request_by, text_request_by};
+ghost use Rattle.maid_app.specs.Form.{request_by, text_request_by, IsFormOf};
 
 mod asking;
 mod chances;
@@ -126,8 +125,7 @@ impl<'a> TextForm<'a> {
     /// What the form's stages find first, or want of memory.
     #[tactic(auto, unfolding(crate::specs::Answers::Answers))]
     pub fn text(self, alloc: Global, bytes: &[u8]) -> Result<Vec<u8>, Refusal>
-        ensures ok { IfOk result (λ printed.
-            Answers (text_request_by self.entry) bytes.now (Ok (done_with printed.items))) }
+        ensures ok { IfOk result (Finishes (Answers (text_request_by self.entry) bytes.now)) }
         ensures err { IfErr result (TellsOf (Answers (text_request_by self.entry) bytes.now)) }
     {
         match self {
@@ -264,8 +262,7 @@ fn form_by_evidence<'a>(
     node: &'a str,
     state: &'a str,
 ) -> Option<Form<'a>>
-    ensures { option_map request_by result
-        ≡ request_by_evidence word.now file.now node.now state.now }
+    ensures { IsFormOf result (request_by_evidence word.now file.now node.now state.now) }
 {
     match word {
         "given" => Some(Form::Text(TextForm::Given { file, node, state })),
@@ -281,8 +278,7 @@ fn form_by_row<'a>(
     row: &str,
     state: &'a str,
 ) -> Option<Form<'a>>
-    ensures { option_map request_by result
-        ≡ request_by_row word.now file.now node.now row.now state.now }
+    ensures { IsFormOf result (request_by_row word.now file.now node.now row.now state.now) }
 {
     match word {
         "threshold" => match row_of(row.as_bytes()) {

@@ -3,17 +3,15 @@
 ghost use Rattle.std.specs.Prelude.{All, IfOk, IfErr, Some};
 ghost use Rattle.maid_model.specs.Names.{NamesFit};
 ghost use Rattle.first_fault.specs.Answers.{IsFaultOrNoMemory};
-ghost use Rattle.net_build.specs.Passes.{build_fault, kind_view, found};
+ghost use Rattle.net_build.specs.Passes.{kind_view, found};
 ghost use Rattle.net_build.specs.Table.{all_passes};
 ghost use Rattle.net_lexer.specs.Pieces.{IsTokens, token_pass, lex_fault};
-ghost use Rattle.net_parser.specs.Faults.{tree_pass, parse_fault};
 ghost use Rattle.net_parser.specs.Grammar.{Spells};
 ghost use Rattle.net_parser.specs.Lexemes.{lexemes};
 ghost use Rattle.net_parser.specs.Owned.{IsBlockOf};
 ghost use Rattle.net_print.specs.RoundTrip.{IsPrintable};
 ghost use Rattle.maid_app.specs.Diagrams.{IsDiagramOf};
-ghost use Rattle.maid_app.specs.Lines.{fault_line};
-ghost use Rattle.maid_app.specs.Reading.{Tells, TellsTextFault};
+ghost use Rattle.maid_app.specs.Reading.{TellsTextFault, IsFaultOfTree, IsSpelled, IsTreeFault, TellsFaultAt};
 
 use crate::fault_words::kind_words;
 use crate::refusal::Refusal;
@@ -34,8 +32,7 @@ pub struct Source<'a> {
 impl Source<'_> {
     // The refusal that tells the fault at that place. Its line takes memory, which may run out.
     fn fault(self, alloc: Global, at: usize, words: &[u8]) -> Refusal
-        ensures { Tells Status.TextFault
-            (fault_line self.entry.name.now self.entry.bytes.now at words.now) result }
+        ensures { TellsFaultAt self.entry at words.now result }
     {
         match lines::fault(alloc, self.name.as_bytes(), self.bytes, at, words) {
             Ok(line) => Refusal::Told {
@@ -62,8 +59,7 @@ impl Source<'_> {
     // The refusal of tokens that spell no tree.
     fn grammar_refusal(self, alloc: Global, tokens: &Tokens, fault: ParseFault) -> Refusal
         requires tokens { IsTokens self.bytes.now tokens.now }
-        requires refuses { IsFaultOrNoMemory parse_fault (tree_pass self.bytes.now tokens.now)
-            fault }
+        requires refuses { IsTreeFault self.bytes.now tokens.now fault }
         ensures { TellsTextFault self.entry.name.now self.entry.bytes.now result }
     {
         match fault {
@@ -88,8 +84,7 @@ impl Source<'_> {
     // The tree that the tokens of the bytes spell.
     fn tree<'t>(self, alloc: Global, tokens: &'t Tokens) -> Result<Syntax<'t>, Refusal>
         requires { IsTokens self.bytes.now tokens.now }
-        ensures spells { IfOk result (λ tree.
-            Spells tree (lexemes self.entry.bytes.now tokens.now)) }
+        ensures spells { IfOk result (IsSpelled self.entry.bytes.now tokens.now) }
         ensures blocks { IfOk result (λ tree. All (IsBlockOf self.entry.bytes.now) tree) }
         ensures err { IfErr result (TellsTextFault self.entry.name.now self.entry.bytes.now) }
     {
@@ -131,8 +126,7 @@ impl Source<'_> {
         requires tokens { IsTokens self.bytes.now tokens.now }
         requires spells { Spells tree.now (lexemes self.bytes.now tokens.now) }
         requires blocks { All (IsBlockOf self.bytes.now) tree.now }
-        requires refuses { IsFaultOrNoMemory build_fault (all_passes self.bytes.now tree.now)
-            fault.now }
+        requires refuses { IsFaultOfTree self.bytes.now tree.now fault.now }
         ensures { TellsTextFault self.entry.name.now self.entry.bytes.now result }
     {
         match fault {

@@ -1,8 +1,8 @@
 //! Why a run does not write the whole text of its form.
 
-ghost use Rattle.std.specs.Prelude.{◌≡◌, MatchResult};
-ghost use Rattle.maid_app.specs.Reading.{Tells};
+ghost use Rattle.std.specs.Prelude.{◌≡◌};
 ghost use Rattle.maid_app.specs.Refusal.{status_of, line_of};
+ghost use Rattle.maid_app.specs.Reading.{TellsIfMade};
 
 use crate::{Status, lines};
 use std::alloc::{AllocError, AllocFailed};
@@ -53,8 +53,7 @@ impl Refusal {
 
 /// The refusal of that status, if memory suffices for its line.
 pub fn told(status: Status, line: Result<Vec<u8>, AllocError>) -> Refusal
-    ensures { MatchResult line (λ made. Tells status made.items result) (λ _.
-        result ≡ Refusal.NoMemory) }
+    ensures { TellsIfMade status line result }
 {
     match line {
         Ok(line) => Refusal::Told { status, line },

@@ -1,16 +1,14 @@
 //! The shell: words, devices, the order of refusals, and one line to `err`.
 
-ghost use Rattle.std.specs.Prelude.{◌≡◌, ◌≢◌, ◌++◌, ◌≤◌, ◌↔◌, ℕ, None, Some, Ok, IfOk, IfErr, OnOk};
-ghost use Rattle.maid_io.specs.Count.{Rose};
-ghost use Rattle.maid_app.specs.Request.{check, demo, requested};
+ghost use Rattle.std.specs.Prelude.{◌≡◌, ◌≢◌, ◌++◌, ◌≤◌, ◌↔◌, ℕ, None, IfOk, IfErr, OnOk};
+ghost use Rattle.maid_app.specs.Request.{demo, requested};
 ghost use Rattle.maid_app.specs.Form.{request_by, text_request_by};
 ghost use Rattle.maid_app.specs.Answers.{Answers};
-ghost use Rattle.maid_app.specs.Outcome.{done_with};
-ghost use Rattle.maid_app.specs.Reading.{Tells};
+ghost use Rattle.maid_app.specs.Reading.{Tells, Finishes};
 ghost use Rattle.maid_app.specs.Refusal.{status_of};
 ghost use Rattle.maid_model.specs.Reports.{line};
-ghost use Rattle.maid_app.specs.Steps.{LeadsToText, LeadsToRefusal, IsCounted, KeepsFileLimit, RefusesBytes, RefusesFile, RefusesText, RefusesWords, StopsInText};
-ghost use Rattle.maid_app.specs.Told.{IsFileText, IsTextFor, KeepsLimit, KeepsLimits, IsAfterWriting, IsBeforeWriting, IsOfReading, AlwaysAbsent, AlwaysAnswers, AlwaysDemoDone, AlwaysDemoRefused, AlwaysDone, AlwaysRefused, AlwaysTooLong, AlwaysWritten, RoseIn, SaysWhyNot, TakesLineIn, WritesPart, WritesWhole};
+ghost use Rattle.maid_app.specs.Steps.{IsCounted, RefusesBytes, RefusesFile, RefusesWords, StopsInText, GivesFileText, RefusesWithinLimit, RefusesWithinLimits, GivesFormText, IsUsageFor, KeepsFormLimit, LacksFormText, LacksText, LacksVerdict, MakesFormText, MakesText, MakesVerdict, RefusesForm, UnlessStatus, WhereStatus};
+ghost use Rattle.maid_app.specs.Told.{IsAfterWriting, IsBeforeWriting, IsOfReading, AlwaysAbsent, AlwaysAnswers, AlwaysDemoDone, AlwaysDemoRefused, AlwaysDone, AlwaysRefused, AlwaysTooLong, AlwaysWritten, RoseIn, SaysWhyNot, TakesLineIn, WritesPart, WritesWhole, WritesWholeIfDone, KeepsLimitsOf, WhereDemo};
 
 use crate::forms::{Form, TextForm, check, form_of};
 use crate::laws::one_status;
@@ -45,15 +43,12 @@ fn read_file<H: Shelf>(
     limit: usize,
 ) -> Result<Vec<u8>, Refusal>
     requires { limit ≤ REPORT_LIMIT }
-    ensures ok { IfOk result (λ bytes.
-        IsFileText (H.list shelf.old) name.now limit (H.given shelf.new) bytes.items) }
+    ensures ok { IfOk result
+        (GivesFileText (H.list shelf.old) name.now limit (H.given shelf.new)) }
     ensures err { IfErr result (RefusesFile (H.list shelf.old) name.now limit (H.given shelf.new)) }
-    ensures bounded { IfErr result (λ refusal.
-        KeepsLimit limit (status_of refusal) (H.given shelf.new)) }
-    ensures absent_cause { IfErr result
-        (IsCounted Status.Absent (H.absences shelf.old) (H.absences shelf.new)) }
-    ensures read_cause { IfErr result
-        (IsCounted Status.ReadFault (H.faults shelf.old) (H.faults shelf.new)) }
+    ensures bounded { IfErr result (RefusesWithinLimit limit (H.given shelf.new)) }
+    ensures absent_cause { IfErr result (IsCounted Status.Absent H.absences shelf.old shelf.new) }
+    ensures read_cause { IfErr result (IsCounted Status.ReadFault H.faults shelf.old shelf.new) }
     ensures faults { H.faults shelf.old ≤ H.faults shelf.new }
     ensures absences { H.absences shelf.old ≤ H.absences shelf.new }
     ensures list { H.list shelf.new ≡ H.list shelf.old }
@@ -78,17 +73,12 @@ fn read_file<H: Shelf>(
 
 // The bytes that a form with one text is asked of: those of its file, or the generated text.
 fn bytes_for<H: Shelf>(alloc: Global, shelf: &mut H, form: TextForm<'_>) -> Result<Vec<u8>, Refusal>
-    ensures ok { IfOk result (λ bytes.
-        IsTextFor (H.list shelf.old) (text_request_by form.entry) (H.given shelf.new) bytes.items) }
-    ensures err { IfErr result (RefusesText (H.list shelf.old) (text_request_by form.entry)
-        (H.given shelf.new)) }
-    ensures bounded { IfErr result (KeepsFileLimit (text_request_by form.entry)
-        (H.given shelf.new)) }
+    ensures ok { IfOk result (GivesFormText form.entry H.list H.given shelf.old shelf.new) }
+    ensures err { IfErr result (RefusesForm form.entry H.list H.given shelf.old shelf.new) }
+    ensures bounded { IfErr result (KeepsFormLimit form.entry (H.given shelf.new)) }
     ensures own { (k : ℕ) → text_request_by form.entry ≡ demo k → shelf.new ≡ shelf.old }
-    ensures absent_cause { IfErr result
-        (IsCounted Status.Absent (H.absences shelf.old) (H.absences shelf.new)) }
-    ensures read_cause { IfErr result
-        (IsCounted Status.ReadFault (H.faults shelf.old) (H.faults shelf.new)) }
+    ensures absent_cause { IfErr result (IsCounted Status.Absent H.absences shelf.old shelf.new) }
+    ensures read_cause { IfErr result (IsCounted Status.ReadFault H.faults shelf.old shelf.new) }
     ensures faults { H.faults shelf.old ≤ H.faults shelf.new }
     ensures absences { H.absences shelf.old ≤ H.absences shelf.new }
     ensures list { H.list shelf.new ≡ H.list shelf.old }
@@ -110,8 +100,7 @@ fn bytes_for<H: Shelf>(alloc: Global, shelf: &mut H, form: TextForm<'_>) -> Resu
 
 // What a form with one text makes of its bytes. It refuses with no status of the run's own.
 fn text_of(alloc: Global, form: TextForm<'_>, bytes: &[u8]) -> Result<Vec<u8>, Refusal>
-    ensures ok { IfOk result (λ printed.
-        Answers (text_request_by form.entry) bytes.now (Ok (done_with printed.items))) }
+    ensures ok { IfOk result (Finishes (Answers (text_request_by form.entry) bytes.now)) }
     ensures err { IfErr result (RefusesBytes (Answers (text_request_by form.entry) bytes.now)) }
 {
     form.text(alloc, bytes)
@@ -123,15 +112,11 @@ fn text_output<H: Shelf>(
     shelf: &mut H,
     form: TextForm<'_>,
 ) -> Result<Output, Refusal>
-    ensures ok { IfOk result (LeadsToText (H.list shelf.old) (text_request_by form.entry)
-        (H.given shelf.new)) }
-    ensures err { IfErr result (LeadsToRefusal (H.list shelf.old) (text_request_by form.entry)
-        (H.given shelf.new)) }
+    ensures ok { IfOk result (MakesFormText form.entry H.list H.given shelf.old shelf.new) }
+    ensures err { IfErr result (LacksFormText form.entry H.list H.given shelf.old shelf.new) }
     ensures own { (k : ℕ) → text_request_by form.entry ≡ demo k → shelf.new ≡ shelf.old }
-    ensures absent_cause { IfErr result
-        (IsCounted Status.Absent (H.absences shelf.old) (H.absences shelf.new)) }
-    ensures read_cause { IfErr result
-        (IsCounted Status.ReadFault (H.faults shelf.old) (H.faults shelf.new)) }
+    ensures absent_cause { IfErr result (IsCounted Status.Absent H.absences shelf.old shelf.new) }
+    ensures read_cause { IfErr result (IsCounted Status.ReadFault H.faults shelf.old shelf.new) }
     ensures faults { H.faults shelf.old ≤ H.faults shelf.new }
     ensures absences { H.absences shelf.old ≤ H.absences shelf.new }
     ensures list { H.list shelf.new ≡ H.list shelf.old }
@@ -151,14 +136,10 @@ fn check_output<H: Shelf>(
     file: &str,
     report: &str,
 ) -> Result<Output, Refusal>
-    ensures ok { IfOk result (LeadsToText (H.list shelf.old) (check file.now report.now)
-        (H.given shelf.new)) }
-    ensures err { IfErr result (LeadsToRefusal (H.list shelf.old) (check file.now report.now)
-        (H.given shelf.new)) }
-    ensures absent_cause { IfErr result
-        (IsCounted Status.Absent (H.absences shelf.old) (H.absences shelf.new)) }
-    ensures read_cause { IfErr result
-        (IsCounted Status.ReadFault (H.faults shelf.old) (H.faults shelf.new)) }
+    ensures ok { IfOk result (MakesVerdict file.now report.now H.list H.given shelf.old shelf.new) }
+    ensures err { IfErr result (LacksVerdict file.now report.now H.list H.given shelf.old shelf.new) }
+    ensures absent_cause { IfErr result (IsCounted Status.Absent H.absences shelf.old shelf.new) }
+    ensures read_cause { IfErr result (IsCounted Status.ReadFault H.faults shelf.old shelf.new) }
     ensures faults { H.faults shelf.old ≤ H.faults shelf.new }
     ensures absences { H.absences shelf.old ≤ H.absences shelf.new }
     ensures list { H.list shelf.new ≡ H.list shelf.old }
@@ -171,15 +152,11 @@ fn check_output<H: Shelf>(
 
 // What the words' form writes, made whole.
 fn output_of<H: Shelf>(alloc: Global, shelf: &mut H, form: Form<'_>) -> Result<Output, Refusal>
-    ensures ok { IfOk result (LeadsToText (H.list shelf.old) (request_by form.entry)
-        (H.given shelf.new)) }
-    ensures err { IfErr result (LeadsToRefusal (H.list shelf.old) (request_by form.entry)
-        (H.given shelf.new)) }
+    ensures ok { IfOk result (MakesText form.entry H.list H.given shelf.old shelf.new) }
+    ensures err { IfErr result (LacksText form.entry H.list H.given shelf.old shelf.new) }
     ensures own { (k : ℕ) → request_by form.entry ≡ demo k → shelf.new ≡ shelf.old }
-    ensures absent_cause { IfErr result
-        (IsCounted Status.Absent (H.absences shelf.old) (H.absences shelf.new)) }
-    ensures read_cause { IfErr result
-        (IsCounted Status.ReadFault (H.faults shelf.old) (H.faults shelf.new)) }
+    ensures absent_cause { IfErr result (IsCounted Status.Absent H.absences shelf.old shelf.new) }
+    ensures read_cause { IfErr result (IsCounted Status.ReadFault H.faults shelf.old shelf.new) }
     ensures faults { H.faults shelf.old ≤ H.faults shelf.new }
     ensures absences { H.absences shelf.old ≤ H.absences shelf.new }
     ensures list { H.list shelf.new ≡ H.list shelf.old }
@@ -197,33 +174,23 @@ fn serve<H: Shelf, O: Sink>(
     shelf: &mut H,
     out: &mut O,
 ) -> Result<Status, Refusal>
-    ensures ok { IfOk result (WritesWhole (H.list shelf.old) (requested words.now)
-        (H.given shelf.new) (O.taken out.old) (O.taken out.new)) }
+    ensures ok { IfOk result
+        (WritesWhole words.now H.list H.given shelf.old shelf.new O.taken out.old out.new) }
     ensures after { IfOk result IsAfterWriting }
     ensures ok_words { OnOk result (requested words.now ≢ None) }
-    ensures err { IfErr result (RefusesWords (H.list shelf.old) (requested words.now)
-        (H.given shelf.new)) }
-    ensures bounded_done { IfOk result (λ status.
-        KeepsLimits (H.list shelf.old) (requested words.now) status (H.given shelf.new)) }
-    ensures bounded { IfErr result (λ refusal.
-        KeepsLimits (H.list shelf.old) (requested words.now) (status_of refusal)
-        (H.given shelf.new)) }
-    ensures demo_reads_nothing { (k : ℕ) → requested words.now ≡ Some (demo k)
-        → shelf.new ≡ shelf.old }
-    ensures usage { IfErr result (λ refusal.
-        (status_of refusal ≡ Status.Usage) ↔ (requested words.now ≡ None)) }
-    ensures untouched_shelf { IfErr result (λ refusal.
-        status_of refusal ≡ Status.Usage → shelf.new ≡ shelf.old) }
-    ensures part { IfErr result (StopsInText (H.list shelf.old) (requested words.now)
-        (H.given shelf.new) (O.taken out.old) (O.taken out.new)) }
-    ensures absent_cause { IfErr result
-        (IsCounted Status.Absent (H.absences shelf.old) (H.absences shelf.new)) }
-    ensures read_cause { IfErr result
-        (IsCounted Status.ReadFault (H.faults shelf.old) (H.faults shelf.new)) }
-    ensures write_cause { IfErr result
-        (IsCounted Status.WriteFault (O.faults out.old) (O.faults out.new)) }
-    ensures untouched { IfErr result (λ refusal.
-        status_of refusal ≢ Status.WriteFault → out.new ≡ out.old) }
+    ensures err { IfErr result (RefusesWords words.now H.list H.given shelf.old shelf.new) }
+    ensures bounded_done { IfOk result (KeepsLimitsOf words.now H.list H.given shelf.old shelf.new) }
+    ensures bounded { IfErr result (RefusesWithinLimits words.now H.list H.given shelf.old
+        shelf.new) }
+    ensures demo_reads_nothing { WhereDemo words.now (shelf.new ≡ shelf.old) }
+    ensures usage { IfErr result (IsUsageFor words.now) }
+    ensures untouched_shelf { IfErr result (WhereStatus Status.Usage (shelf.new ≡ shelf.old)) }
+    ensures part { IfErr result
+        (StopsInText words.now H.list H.given shelf.old shelf.new O.taken out.old out.new) }
+    ensures absent_cause { IfErr result (IsCounted Status.Absent H.absences shelf.old shelf.new) }
+    ensures read_cause { IfErr result (IsCounted Status.ReadFault H.faults shelf.old shelf.new) }
+    ensures write_cause { IfErr result (IsCounted Status.WriteFault O.faults out.old out.new) }
+    ensures untouched { IfErr result (UnlessStatus Status.WriteFault (out.new ≡ out.old)) }
     ensures not_after { IfErr result (λ refusal. ¬ IsAfterWriting (status_of refusal)) }
     ensures out_faults { O.faults out.old ≤ O.faults out.new }
     ensures faults { H.faults shelf.old ≤ H.faults shelf.new }
@@ -280,52 +247,42 @@ pub fn run<H: Shelf, O: Sink, E: Sink>(
     ensures usage_reads_nothing { result ≡ Status.Usage → shelf.new ≡ shelf.old }
 
     // What was read of the file that the words name, however the run ended.
-    ensures bounded { KeepsLimits (H.list shelf.old) (requested words.now) result
-        (H.given shelf.new) }
+    ensures bounded { KeepsLimitsOf words.now H.list H.given shelf.old shelf.new result }
 
     // `demo` reads no file.
-    ensures demo_reads_nothing { (k : ℕ) → requested words.now ≡ Some (demo k)
-        → shelf.new ≡ shelf.old }
-    ensures demo_status { (k : ℕ) → requested words.now ≡ Some (demo k) → ¬ IsOfReading result }
+    ensures demo_reads_nothing { WhereDemo words.now (shelf.new ≡ shelf.old) }
+    ensures demo_status { WhereDemo words.now (¬ IsOfReading result) }
 
     // What `out` took: the whole text, a proper front of it, or nothing.
-    ensures done { IsAfterWriting result
-        → WritesWhole (H.list shelf.old) (requested words.now) (H.given shelf.new) (O.taken out.old)
-        (O.taken out.new) result }
+    ensures done { WritesWholeIfDone words.now H.list H.given shelf.old shelf.new O.taken out.old
+        out.new result }
     ensures part { result ≡ Status.WriteFault
-        → WritesPart (H.list shelf.old) (requested words.now) (H.given shelf.new) (O.taken out.old)
-        (O.taken out.new) }
+        → WritesPart words.now H.list H.given shelf.old shelf.new O.taken out.old out.new }
     ensures untouched { IsBeforeWriting result → out.new ≡ out.old }
 
     // What `err` took: nothing, or the line that says why.
     ensures silent { IsAfterWriting result → err.new ≡ err.old }
-    ensures told { SaysWhyNot (H.list shelf.old) (requested words.now) (H.given shelf.new) result
+    ensures told { SaysWhyNot words.now H.list H.given shelf.old shelf.new result
         (TakesLineIn E.taken E.faults err.old err.new) }
 
     // Where the devices tell nothing, they counted a cause.
-    ensures absent_cause { result ≡ Status.Absent
-        → Rose (H.absences shelf.old) (H.absences shelf.new) }
-    ensures read_cause { result ≡ Status.ReadFault
-        → Rose (H.faults shelf.old) (H.faults shelf.new) }
-    ensures write_cause { result ≡ Status.WriteFault → Rose (O.faults out.old) (O.faults out.new) }
+    ensures absent_cause { result ≡ Status.Absent → RoseIn H.absences shelf.old shelf.new }
+    ensures read_cause { result ≡ Status.ReadFault → RoseIn H.faults shelf.old shelf.new }
+    ensures write_cause { result ≡ Status.WriteFault → RoseIn O.faults out.old out.new }
 
     // Nothing else keeps it from an answer but want of memory.
-    ensures always_absent { AlwaysAbsent (H.list shelf.old) (requested words.now)
-        (RoseIn H.faults shelf.old shelf.new) result }
-    ensures always_too_long { AlwaysTooLong (H.list shelf.old) (requested words.now)
-        (RoseIn H.faults shelf.old shelf.new) result }
-    ensures always_refused { AlwaysRefused (H.list shelf.old) (requested words.now)
-        (RoseIn H.faults shelf.old shelf.new) result }
-    ensures always_done { AlwaysDone (H.list shelf.old) (requested words.now)
-        (RoseIn H.faults shelf.old shelf.new) (RoseIn O.faults out.old out.new) result }
-    ensures always_answers { AlwaysAnswers (H.list shelf.old) (requested words.now)
-        (RoseIn H.faults shelf.old shelf.new) (RoseIn O.faults out.old out.new) result }
-    ensures always_written { AlwaysWritten (H.list shelf.old) (requested words.now)
-        (RoseIn H.faults shelf.old shelf.new) (RoseIn O.faults out.old out.new) result }
+    ensures always_absent { AlwaysAbsent words.now H.list H.faults shelf.old shelf.new result }
+    ensures always_too_long { AlwaysTooLong words.now H.list H.faults shelf.old shelf.new result }
+    ensures always_refused { AlwaysRefused words.now H.list H.faults shelf.old shelf.new result }
+    ensures always_done { AlwaysDone words.now H.list H.faults shelf.old shelf.new
+        O.faults out.old out.new result }
+    ensures always_answers { AlwaysAnswers words.now H.list H.faults shelf.old shelf.new
+        O.faults out.old out.new result }
+    ensures always_written { AlwaysWritten words.now H.list H.faults shelf.old shelf.new
+        O.faults out.old out.new result }
 
-    ensures always_demo_refused { AlwaysDemoRefused (requested words.now) result }
-    ensures always_demo_done { AlwaysDemoDone (requested words.now)
-        (RoseIn O.faults out.old out.new) result }
+    ensures always_demo_refused { AlwaysDemoRefused words.now result }
+    ensures always_demo_done { AlwaysDemoDone words.now O.faults out.old out.new result }
 
     // What any answer leaves.
     ensures list { H.list shelf.new ≡ H.list shelf.old }

@@ -60,8 +60,15 @@ fn has_weights(profile: &Profile, decision: usize, weights: &[u128]) -> bool
 fn sums_in_sight(rt: HostRuntime) -> Result<(), Fail> {
     let alloc = rt.alloc();
     let trial = sight_uniform(alloc)?;
-    assert!(rt; trial.has_gains(alloc, &[7, 4])?);
-    assert!(rt; trial.has_sums(alloc, 1, &[-2, 1, 5, 0], &[1, 1])?);
+    assert!(rt; trial.has(alloc, &[7, 4], 1, &[-2, 1, 5, 0], &[1, 1])?);
+    Ok(())
+}
+
+// And what the leader's choices come to in it.
+#[test]
+fn sums_in_sight_for_the_leader(rt: HostRuntime) -> Result<(), Fail> {
+    let alloc = rt.alloc();
+    let trial = sight_uniform(alloc)?;
     assert!(rt; trial.has_sums(alloc, 0, &[4, 3], &[2])?);
     Ok(())
 }
@@ -71,8 +78,15 @@ fn sums_in_sight(rt: HostRuntime) -> Result<(), Fail> {
 fn plan_of_sight(rt: HostRuntime) -> Result<(), Fail> {
     let alloc = rt.alloc();
     let trial = sight_plan(alloc)?;
-    assert!(rt; trial.has_gains(alloc, &[3, 5])?);
-    assert!(rt; trial.has_sums(alloc, 1, &[0, 0, 5, 0], &[0, 1])?);
+    assert!(rt; trial.has(alloc, &[3, 5], 1, &[0, 0, 5, 0], &[0, 1])?);
+    Ok(())
+}
+
+// And what the leader's choices come to in it.
+#[test]
+fn plan_of_sight_for_the_leader(rt: HostRuntime) -> Result<(), Fail> {
+    let alloc = rt.alloc();
+    let trial = sight_plan(alloc)?;
     assert!(rt; trial.has_sums(alloc, 0, &[-1, 3], &[1])?);
     Ok(())
 }
@@ -82,8 +96,15 @@ fn plan_of_sight(rt: HostRuntime) -> Result<(), Fail> {
 fn sums_by_copy(rt: HostRuntime) -> Result<(), Fail> {
     let alloc = rt.alloc();
     let trial = copied_uniform(alloc)?;
-    assert!(rt; trial.has_gains(alloc, &[7, 4])?);
-    assert!(rt; trial.has_sums(alloc, 2, &[-2, 1, 5, 0], &[1, 1])?);
+    assert!(rt; trial.has(alloc, &[7, 4], 2, &[-2, 1, 5, 0], &[1, 1])?);
+    Ok(())
+}
+
+// And what the leader's choices come to in it.
+#[test]
+fn sums_by_copy_for_the_leader(rt: HostRuntime) -> Result<(), Fail> {
+    let alloc = rt.alloc();
+    let trial = copied_uniform(alloc)?;
     assert!(rt; trial.has_sums(alloc, 0, &[4, 3], &[2])?);
     Ok(())
 }
@@ -93,8 +114,7 @@ fn sums_by_copy(rt: HostRuntime) -> Result<(), Fail> {
 fn plan_of_copy(rt: HostRuntime) -> Result<(), Fail> {
     let alloc = rt.alloc();
     let trial = copied_plan(alloc)?;
-    assert!(rt; trial.has_gains(alloc, &[3, 5])?);
-    assert!(rt; trial.has_sums(alloc, 0, &[-1, 3], &[1])?);
+    assert!(rt; trial.has(alloc, &[3, 5], 0, &[-1, 3], &[1])?);
     Ok(())
 }
 
@@ -103,8 +123,7 @@ fn plan_of_copy(rt: HostRuntime) -> Result<(), Fail> {
 fn sums_through_two_states(rt: HostRuntime) -> Result<(), Fail> {
     let alloc = rt.alloc();
     let trial = joined_uniform(alloc)?;
-    assert!(rt; trial.has_gains(alloc, &[7, 4])?);
-    assert!(rt; trial.has_sums(alloc, 2, &[3, 1], &[2])?);
+    assert!(rt; trial.has(alloc, &[7, 4], 2, &[3, 1], &[2])?);
     Ok(())
 }
 
@@ -131,8 +150,7 @@ fn little_through_two_states(rt: HostRuntime) -> Result<(), Fail> {
 fn sums_through_one_state(rt: HostRuntime) -> Result<(), Fail> {
     let alloc = rt.alloc();
     let trial = parted_uniform(alloc)?;
-    assert!(rt; trial.has_gains(alloc, &[7, 8])?);
-    assert!(rt; trial.has_sums(alloc, 2, &[6, 2], &[2])?);
+    assert!(rt; trial.has(alloc, &[7, 8], 2, &[6, 2], &[2])?);
     Ok(())
 }
 
@@ -168,8 +186,7 @@ fn sums_of_the_threat(rt: HostRuntime) -> Result<(), Fail> {
 fn sums_of_the_trip(rt: HostRuntime) -> Result<(), Fail> {
     let alloc = rt.alloc();
     let trial = trip_uniform(alloc)?;
-    assert!(rt; trial.has_gains(alloc, &[23])?);
-    assert!(rt; trial.has_sums(alloc, 1, &[5, 0, -3, 21], &[1, 3])?);
+    assert!(rt; trial.has(alloc, &[23], 1, &[5, 0, -3, 21], &[1, 3])?);
     Ok(())
 }
 
@@ -187,8 +204,7 @@ fn plan_of_the_trip(rt: HostRuntime) -> Result<(), Fail> {
 fn sums_of_the_team(rt: HostRuntime) -> Result<(), Fail> {
     let alloc = rt.alloc();
     let trial = team_uniform(alloc)?;
-    assert!(rt; trial.has_gains(alloc, &[5, 9])?);
-    assert!(rt; trial.has_sums(alloc, 1, &[3, 2, 0, 4], &[1, 1])?);
+    assert!(rt; trial.has(alloc, &[5, 9], 1, &[3, 2, 0, 4], &[1, 1])?);
     Ok(())
 }
 
@@ -197,8 +213,7 @@ fn sums_of_the_team(rt: HostRuntime) -> Result<(), Fail> {
 fn plan_of_the_team(rt: HostRuntime) -> Result<(), Fail> {
     let alloc = rt.alloc();
     let trial = team_plan(alloc)?;
-    assert!(rt; trial.has_gains(alloc, &[3, 3])?);
-    assert!(rt; trial.has_sums(alloc, 0, &[3, 2], &[1])?);
+    assert!(rt; trial.has(alloc, &[3, 3], 0, &[3, 2], &[1])?);
     Ok(())
 }
 

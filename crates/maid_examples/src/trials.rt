@@ -1,7 +1,7 @@
 //! The small diagrams and profiles as values, which meet their literals, and room for their sums.
 
 ghost use Rattle.std.specs.Prelude.{◌≡◌, ◌∷◌, [], IfOk};
-ghost use Rattle.maid_examples.specs.Samples.{plan, chance_below, decision, pay, shared_pay};
+ghost use Rattle.maid_examples.specs.Samples.{plan, chance_below, decision, pay, rule, shared_pay};
 ghost use Rattle.maid_examples.specs.FollowerLeader.{sight_diagram};
 ghost use Rattle.maid_examples.specs.CopySeen.{copied_diagram};
 ghost use Rattle.maid_examples.specs.CopyAnswered.{trace_diagram};
@@ -206,8 +206,7 @@ pub(crate) fn team(alloc: Global) -> Result<Diagram, AllocError>
 }
 
 fn rule(alloc: Global, decision: usize, total: u128, weights: &[u128]) -> Result<Rule, AllocError>
-    ensures { IfOk result (λ r.
-        r ≡ record { decision = decision; total = total; weights = weights.now }) }
+    ensures { IfOk result (λ r. r ≡ rule decision total weights.now) }
 {
     Ok(Rule {
         decision,
@@ -333,6 +332,22 @@ impl Trial {
     ) -> Result<bool, AllocError> {
         let sums = self.sums(alloc, decision)?;
         Ok(sums.gains.as_slice() == gains && sums.masses.as_slice() == masses)
+    }
+
+    /// Whether the agents' N are these, and so the decision's sums.
+    pub(crate) fn has(
+        &self,
+        alloc: Global,
+        worths: &[i128],
+        decision: usize,
+        gains: &[i128],
+        masses: &[u128],
+    ) -> Result<bool, AllocError> {
+        if self.has_gains(alloc, worths)? {
+            self.has_sums(alloc, decision, gains, masses)
+        } else {
+            Ok(false)
+        }
     }
 
     /// N of the agent.

@@ -5,9 +5,11 @@ use Rattle.maid_model.specs.declared.limits.TheConstants.{MOST_PROFILES}
 use Rattle.maid_model.specs.Views.{NodeView, DiagramView, AnswerView}
 use Rattle.maid_model.specs.Nodes.{decisions_of, rows_of}
 use Rattle.maid_model.specs.Gains.{gain_of}
-use Rattle.maid_model.specs.Scopes.{KeepsScopedBounds, rules_in_scope_for, scope_part_for}
-use Rattle.maid_model.specs.Worlds.{worlds}
+use Rattle.maid_model.specs.Scopes.{KeepsScopedBounds, rules_in_scope_for, scope_for, scope_part_for}
+use Rattle.maid_model.specs.Worlds.{worlds, worlds_from}
+use Rattle.maid_model.specs.Parts.{part_diagram}
 use Rattle.pure_search.specs.declared.games.Game.{Game}
+use Rattle.pure_search.specs.declared.tables.Table.{Table}
 use Rattle.reach_laws.specs.Equilibria.{AgreeForOthers, IsEquilibrium, choice_counts, choice_owners, profile_of}
 
 -- how many choices each row has, decisions in text order
@@ -21,6 +23,15 @@ owners_for nodes = choice_owners nodes (decisions_of nodes)
 -- all lists of choices
 abbrev pub choice_lists : List NodeView → List (List ℕ)
 choice_lists nodes = worlds (counts_for nodes)
+
+-- how many there are
+abbrev pub list_count : List NodeView → ℕ
+list_count nodes = length (choice_lists nodes)
+
+-- the list of choices stands in the list of all right before the other
+abbrev pub StandsRightBefore : List ℕ → List ℕ → List ℕ → Type 0
+StandsRightBefore counts choices next =
+    worlds_from counts choices ≡ choices ∷ worlds_from counts next
 
 -- the list of choices at a place of that list
 abbrev pub choices_at : List NodeView → ℕ → List ℕ
@@ -75,6 +86,14 @@ pub record IsTable
   pub keys_are : keys ≡ map (key_of nodes agent) (choice_lists nodes)
   pub gains_are : gains ≡ map (part_gain nodes agent) (choice_lists nodes)
   pub within : All (λ key. key < length (choice_lists nodes)) keys
+
+-- the table that the code holds is that
+abbrev pub IsTableOf : List NodeView → ℕ → Table → Type 0
+IsTableOf nodes agent table = IsTable nodes agent table.keys.items table.gains.items
+
+-- the part of the agent's scope
+abbrev pub part_of_agent : DiagramView → ℕ → DiagramView
+part_of_agent d agent = part_diagram d (scope_for d.nodes agent)
 
 -- a diagram within the limits of the search
 pub record IsSearched (d : DiagramView) : Type 0 where
@@ -131,3 +150,7 @@ pub record IsFirstMark (marks : List Bool) (place : ℕ) : Type 0 where
   pub within : place < length marks
   pub marked : slice_index_or marks place false ≡ true
   pub before : (k : ℕ) → k < place → slice_index_or marks k false ≡ false
+
+-- there is none
+abbrev pub MarksNone : List Bool → Type 0
+MarksNone marks = (k : ℕ) → k < length marks → slice_index_or marks k false ≡ false

@@ -7,7 +7,7 @@ ghost use Rattle.maid_model.specs.Bounds.{stopped};
 ghost use Rattle.maid_model.specs.Diagrams.{IsDiagram};
 ghost use Rattle.maid_model.specs.Worlds.{worlds};
 ghost use Rattle.pure_search.specs.Faults.{CanBeListed, bound_pass, count_pass, pure_fault};
-ghost use Rattle.pure_search.specs.Games.{choice_lists, counts_for};
+ghost use Rattle.pure_search.specs.Games.{counts_for, list_count};
 
 use crate::PureFault;
 use maid_model::{COUNT_END, Diagram, MOST_LEAVES, MOST_LISTED, MOST_PROFILES};
@@ -50,8 +50,7 @@ fn is_small(profiles: u128, leaves: u128) -> bool
 pub(crate) fn keep_counts(diagram: &Diagram, counts: &[usize]) -> Result<u128, PureFault>
     requires { counts.now ≡ counts_for diagram.now.nodes }
     ensures rows { Passes pure_fault (count_pass diagram.now) result }
-    ensures profiles { IfOk result (λ profiles.
-        profiles ≡ length (choice_lists diagram.now.nodes)) }
+    ensures profiles { IfOk result (λ profiles. profiles ≡ list_count diagram.now.nodes) }
     ensures few { IfOk result (λ profiles. profiles ≤ MOST_PROFILES) }
 {
     let profiles = profiles(counts);

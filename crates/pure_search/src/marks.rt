@@ -1,7 +1,7 @@
 //! The entries of a table that are the greatest of those with the same key.
 
-ghost use Rattle.std.specs.Prelude.{◌≡◌, ◌<◌, ℕ, All, IfNone, IfOk, IfSome, OnOk, false, length, slice_index_or};
-ghost use Rattle.pure_search.specs.Games.{AreGreatest, IsFirstMark, KeepsGreatest};
+ghost use Rattle.std.specs.Prelude.{◌≡◌, ◌<◌, All, IfNone, IfOk, IfSome, OnOk, false, length};
+ghost use Rattle.pure_search.specs.Games.{AreGreatest, IsFirstMark, KeepsGreatest, MarksNone};
 
 use std::alloc::{AllocError, Global};
 
@@ -45,8 +45,7 @@ pub(crate) fn keep_greatest(
 /// The first place with a mark.
 pub(crate) fn first_mark(marks: &[bool]) -> Option<usize>
     ensures some { IfSome result (IsFirstMark marks.now) }
-    ensures none { IfNone result ((k : ℕ) → k < length marks.now
-        → slice_index_or marks.now k false ≡ false) }
+    ensures none { IfNone result (MarksNone marks.now) }
 {
     for (place, mark) in marks.iter().enumerate() {
         if *mark {

@@ -2,6 +2,7 @@
 
 ghost use Rattle.std.specs.Prelude.{◌≡◌, ◌<◌, [], ◌∷◌, IfOk, IsTrue, IsFalse, All};
 ghost use Rattle.maid_model.specs.Worlds.{IsWorld, worlds, worlds_from};
+ghost use Rattle.pure_search.specs.Games.{StandsRightBefore};
 
 use std::alloc::{AllocError, Global};
 
@@ -20,8 +21,7 @@ pub(crate) fn first_choices(alloc: Global, counts: &[usize]) -> Result<Vec<usize
 pub(crate) fn next_choices(counts: &[usize], choices: &mut [usize]) -> bool
     requires { IsWorld counts.now choices.old }
     ensures world { IsWorld counts.now choices.new }
-    ensures more { IsTrue result
-        → worlds_from counts.now choices.old ≡ choices.old ∷ worlds_from counts.now choices.new }
+    ensures more { IsTrue result → StandsRightBefore counts.now choices.old choices.new }
     ensures last { IsFalse result → worlds_from counts.now choices.old ≡ choices.old ∷ [] }
 {
     let mut place = choices.len();

@@ -7,7 +7,7 @@ ghost use Rattle.maid_model.specs.Worlds.{IsWorld, worlds};
 ghost use Rattle.reach_laws.specs.Equilibria.{IsFirstPure};
 ghost use Rattle.pure_search.specs.Faults.{pure_fault, pure_pass, search_pass, stable_pass};
 ghost use Rattle.pure_search.specs.Found.{IsFound, IsStable};
-ghost use Rattle.pure_search.specs.Games.{IsGameOf, IsSearched, choice_lists};
+ghost use Rattle.pure_search.specs.Games.{IsGameOf, IsSearched, list_count};
 
 use crate::answering::{answers_of, profile_of};
 use crate::counting::{keep_bound, keep_counts};
@@ -54,7 +54,7 @@ fn found_at(alloc: Global, diagram: &Diagram, game: &Game, place: usize) -> Resu
 fn search(alloc: Global, diagram: &Diagram, game: &Game, profiles: u128) -> Result<Pure, PureFault>
     requires game { IsGameOf diagram.now.nodes game.now }
     requires bound { IsSearched diagram.now }
-    requires profiles { profiles ≡ length (choice_lists diagram.now.nodes) }
+    requires profiles { profiles ≡ list_count diagram.now.nodes }
     ensures rows { Passes pure_fault (stable_pass diagram.now) result }
     ensures ok { IfOk result (IsFound diagram.now) }
 {

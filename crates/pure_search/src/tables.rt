@@ -1,11 +1,10 @@
 //! The table of what all lists of choices give an agent.
 
-ghost use Rattle.std.specs.Prelude.{◌≡◌, ◌<◌, ◌+◌, IfOk, OnOk, length, All};
+ghost use Rattle.std.specs.Prelude.{◌≡◌, ◌<◌, ◌+◌, IfOk, OnOk};
 ghost use Rattle.maid_model.specs.Nodes.{decisions_of};
-ghost use Rattle.maid_model.specs.Parts.{part_diagram};
 ghost use Rattle.maid_model.specs.Scopes.{scope_for};
 ghost use Rattle.maid_model.specs.Worlds.{IsWorld};
-ghost use Rattle.pure_search.specs.Games.{IsGameOf, IsSearched, IsTable, MarksBest, MarksStable, choice_lists, counts_for, key_of, part_gain};
+ghost use Rattle.pure_search.specs.Games.{IsGameOf, IsSearched, MarksBest, MarksStable, counts_for, key_of, part_gain, IsTableOf, list_count, part_of_agent};
 
 use crate::answering::profile_of;
 use crate::games::Game;
@@ -30,8 +29,7 @@ pub(crate) fn part_for(
     diagram: &Diagram,
     agent: usize,
 ) -> Result<SubDiagram, AllocError>
-    ensures diagram { IfOk result (λ part.
-        part.diagram ≡ part_diagram diagram.now (scope_for diagram.now.nodes agent)) }
+    ensures diagram { IfOk result (λ part. part.diagram ≡ part_of_agent diagram.now agent) }
     ensures nodes { IfOk result (λ part. part.nodes.items ≡ scope_for diagram.now.nodes agent) }
 {
     let _count = diagram.count();
@@ -51,8 +49,7 @@ fn gain_under(
     requires decisions { game.now.decisions.items ≡ decisions_of diagram.now.nodes }
     requires agent { agent < diagram.now.agents }
     requires bound { IsSearched diagram.now }
-    requires part { part.now.diagram
-        ≡ part_diagram diagram.now (scope_for diagram.now.nodes agent) }
+    requires part { part.now.diagram ≡ part_of_agent diagram.now agent }
     requires nodes { part.now.nodes.items ≡ scope_for diagram.now.nodes agent }
     requires choices { IsWorld (counts_for diagram.now.nodes) choices.now }
     ensures { IfOk result (λ gain. gain ≡ part_gain diagram.now.nodes agent choices.now) }
@@ -73,8 +70,7 @@ fn table_for(
     requires game { IsGameOf diagram.now.nodes game.now }
     requires agent { agent < diagram.now.agents }
     requires bound { IsSearched diagram.now }
-    ensures { IfOk result (λ table.
-        IsTable diagram.now.nodes agent table.keys.items table.gains.items) }
+    ensures { IfOk result (IsTableOf diagram.now.nodes agent) }
 {
     let _count = diagram.count();
     let part = part_for(alloc, diagram, agent)?;
@@ -121,7 +117,7 @@ pub(crate) fn stable_marks(
 ) -> Result<Vec<bool>, AllocError>
     requires game { IsGameOf diagram.now.nodes game.now }
     requires bound { IsSearched diagram.now }
-    requires profiles { profiles ≡ length (choice_lists diagram.now.nodes) }
+    requires profiles { profiles ≡ list_count diagram.now.nodes }
     ensures { IfOk result (λ marks. MarksStable diagram.now.nodes marks.items) }
 {
     let _count = diagram.count();

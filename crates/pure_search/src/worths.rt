@@ -1,11 +1,12 @@
 //! What a profile is worth to each agent.
 
-ghost use Rattle.std.specs.Prelude.{◌≡◌, ◌<◌, ◌≤◌, ◌^◌, IfOk, length, nat_abs};
-ghost use Rattle.maid_model.specs.Answers.{IsExpectedUtility, IsFraction, IsGains};
+ghost use Rattle.std.specs.Prelude.{◌≡◌, ◌<◌, ◌≤◌, IfOk, length, nat_abs};
+ghost use Rattle.maid_model.specs.Answers.{IsFraction, IsGains};
 ghost use Rattle.maid_model.specs.Diagrams.{greatest_number};
 ghost use Rattle.maid_model.specs.Profiles.{IsProfile};
 ghost use Rattle.maid_model.specs.Scopes.{KeepsScopedBounds};
 ghost use Rattle.part_laws.specs.ScopeLaws.{HasUnitRules};
+ghost use Rattle.tree_checker.specs.Judged.{AreWorth};
 
 use crate::tables::part_for;
 use maid_model::{Diagram, Profile, Ratio};
@@ -34,8 +35,7 @@ fn worth(
     requires chosen { IsProfile diagram.now.nodes chosen.now }
     requires pure { HasUnitRules diagram.now.nodes chosen.now }
     requires bound { KeepsScopedBounds diagram.now }
-    ensures { IfOk result (IsExpectedUtility diagram.now.nodes (10 ^ diagram.now.decimals)
-        chosen.now agent) }
+    ensures { IfOk result (AreWorth diagram.now chosen.now agent) }
 {
     let _count = diagram.count();
     let part = part_for(alloc, diagram, agent)?;

@@ -2,6 +2,7 @@
 use Rattle.std.specs.Prelude.{◌≡◌, ◌≢◌, ℕ, ◌-◌, ◌<◌, ◌^◌, List, [], ◌∷◌, ◌==◌, if◌then◌else◌, All, AllPairs, IfSome, Option, Some, None, take, FitsSigned}
 use Rattle.std.specs.Int.{w128}
 use Rattle.std.specs.List.{onto_first}
+use Rattle.first_fault.specs.Answers.{IsFaultOrNoMemory}
 use Rattle.first_fault.specs.Passes.{Pass}
 use Rattle.maid_model.specs.declared.answers.Ratio.{Ratio}
 use Rattle.maid_model.specs.declared.answers.Row.{Row}
@@ -75,3 +76,7 @@ report_pass d names text (Some line) = IsBadLine d names text line
 abbrev pub bad_line : ReportFault → Option ℕ
 bad_line (BadLine line) = Some line
 bad_line NoMemory = None
+
+-- the error is the text's bad line, or that memory ran out
+abbrev pub IsBadLineOrNoMemory : DiagramView → NamesView → List ℕ → ReportFault → Type 0
+IsBadLineOrNoMemory d names text fault = IsFaultOrNoMemory bad_line (report_pass d names text) fault

@@ -1,10 +1,12 @@
 -- The lines of rows under one choice of some parents' states. Only private functions cite it.
-use Rattle.std.specs.Prelude.{ℕ, zero, suc, ◌+◌, List, [], ◌++◌, codes, decimal, slice_index_or}
+use Rattle.std.specs.Prelude.{◌≡◌, ◌≢◌, ℕ, zero, suc, ◌+◌, ◌<◌, length, List, [], ◌++◌, codes, decimal, slice_index_or}
+use Rattle.std.specs.Global.{Vec}
 use Rattle.maid_model.specs.declared.answers.Row.{Row}
-use Rattle.maid_model.specs.Views.{NodeView, AnswerView}
+use Rattle.maid_model.specs.declared.diagrams.Kind.TheVariants.{Utility}
+use Rattle.maid_model.specs.Views.{DiagramView, NodeView, AnswerView}
 use Rattle.maid_model.specs.Answers.{no_row}
 use Rattle.maid_model.specs.Names.{NamesView}
-use Rattle.maid_model.specs.Nodes.{states_of, rows_under}
+use Rattle.maid_model.specs.Nodes.{node_at, states_of, rows_under}
 use Rattle.maid_model.specs.Reports.{choice_text, line, parent_states, state_labels, row_lines}
 
 -- the line of a row whose parents' states have these labels
@@ -24,9 +26,23 @@ run_lines nodes names answer labels others first at (suc count) =
     ++ run_lines nodes names answer labels others first (at + 1) count
 
 -- one for each choice of the others' states
-abbrev pub lines_under : List NodeView → NamesView → AnswerView → List ℕ → List ℕ → ℕ → List ℕ
-lines_under nodes names answer labels others first =
-    run_lines nodes names answer labels others first 0 (rows_under (states_of nodes) others)
+abbrev pub lines_under : DiagramView → NamesView → AnswerView → List ℕ → List ℕ → ℕ → List ℕ
+lines_under d names answer labels others first =
+    run_lines d.nodes names answer labels others first 0 (rows_under (states_of d.nodes) others)
+
+-- those lines stand behind the text that there was, and the labels were these before
+abbrev pub AppendsRun :
+    DiagramView → NamesView → AnswerView → Vec ℕ → List ℕ → ℕ → Vec ℕ → Vec ℕ → Type 0
+AppendsRun d names answer labels others first old new =
+    new.items ≡ old.items ++ lines_under d names answer labels.items others first
+
+-- the number behind the last of them
+abbrev pub row_behind : DiagramView → List ℕ → ℕ → ℕ
+row_behind d others first = first + rows_under (states_of d.nodes) others
+
+-- a node whose states have labels: one that is no utility
+abbrev pub HasLabels : List NodeView → ℕ → Type 0
+HasLabels nodes v = (v < length nodes) × ((node_at nodes v).kind ≢ Utility)
 
 -- the labels of the parents' states in a row
 abbrev pub row_labels : List NodeView → NamesView → List ℕ → ℕ → List ℕ

@@ -1,6 +1,6 @@
 -- What each line of a report may show, and at which line a text stops to be one: the words of the reading, line by
 -- line.
-use Rattle.std.specs.Prelude.{◌≡◌, ◌≢◌, ◌⊎◌, ℕ, zero, suc, ◌+◌, ◌<◌, List, [], ◌∷◌, ◌++◌, Option, map, length, codes, decimal, ◌==◌, if◌then◌else◌, Bool, true, not, All, Contains}
+use Rattle.std.specs.Prelude.{◌≡◌, ◌≢◌, ◌⊎◌, ℕ, zero, suc, ◌+◌, ◌<◌, List, [], ◌∷◌, ◌++◌, Option, IfSome, map, length, codes, decimal, ◌==◌, if◌then◌else◌, Bool, true, not, All, Contains}
 use Rattle.std.specs.List.{flat_map, list_all}
 use Rattle.std.specs.Option.{MatchOption}
 use Rattle.maid_model.specs.declared.answers.Ratio.{Ratio}
@@ -29,6 +29,10 @@ pub record IsFront (byte : ℕ) (bytes front rest : List ℕ) : Type 0 where
   pub whole : bytes ≡ front ++ rest
   pub lacks : lacks byte front ≡ true
   pub next : IsEndOr byte rest
+
+-- the bytes do not begin with this front
+abbrev pub LacksFront : List ℕ → List ℕ → Type 0
+LacksFront front bytes = (rest : List ℕ) → bytes ≢ front ++ rest
 
 -- what is written behind a numerator
 abbrev pub den_text : ℕ → List ℕ
@@ -72,6 +76,14 @@ pub record IsOrder (nodes : List NodeView) (order : List ℕ) : Type 0 where
   pub all : (v : ℕ) → IsDecision nodes v → Contains order v
   pub once : AllDifferent order
 
+-- a decision of that name
+abbrev pub IsDecisionNamed : List NodeView → NamesView → List ℕ → ℕ → Type 0
+IsDecisionNamed nodes names name v = IsDecision nodes v × (name_of names v ≡ name)
+
+-- there is none
+abbrev pub NamesNoDecision : List NodeView → NamesView → List ℕ → Type 0
+NamesNoDecision nodes names name = (v : ℕ) → IsDecision nodes v → name_of names v ≢ name
+
 -- such an order whose line it is, and none only where it is the line of none
 abbrev pub TellsOrder : List NodeView → NamesView → List ℕ → Option (Vec ℕ) → Type 0
 TellsOrder nodes names line found =
@@ -93,6 +105,19 @@ abbrev pub ShowsRow :
     List NodeView → NamesView → ℕ → ℕ → List ℕ → Option Row → Type 0
 ShowsRow nodes names d number line found =
     ShowsOne (IsRow nodes d) (row_words nodes names d number) line found
+
+-- what the text behind a row's choice says that the choice is worth
+abbrev pub ShowsWorth : List ℕ → Option Ratio → Type 0
+ShowsWorth bytes worth = IfSome worth FitsRatio × (bytes ≡ worth_text worth)
+
+-- the text says no such worth
+abbrev pub ShowsNoWorth : List ℕ → Type 0
+ShowsNoWorth bytes = (worth : Option Ratio) → IfSome worth FitsRatio → bytes ≢ worth_text worth
+
+-- no state's number, from 1, stands at the front with a space behind it
+abbrev pub ShowsNoChoice : ℕ → List ℕ → Type 0
+ShowsNoChoice states bytes =
+    (choice : ℕ) (rest : List ℕ) → choice < states → bytes ≢ decimal (choice + 1) ++ 32 ∷ rest
 
 -- of the states it is the one whose number stands at the front, from 1, with a space behind it
 abbrev pub IsShownChoice : ℕ → List ℕ → ℕ → Type 0
@@ -146,6 +171,10 @@ abbrev pub lines_behind : List NodeView → NamesView → SolvedView → List �
 lines_behind nodes names solved =
     flat_map (decision_lines nodes names) solved.answers ++ gain_lines names 0 solved.gains
 
+-- these bytes are that text
+abbrev pub ShowsSolved : DiagramView → NamesView → List ℕ → SolvedView → Type 0
+ShowsSolved d names bytes solved = bytes ≡ lines_behind d.nodes names solved
+
 -- the line of that number, where so many were read before, is the first that may not stand at its place
 abbrev pub StopsIn : List NodeView → NamesView → List Slot → List (List ℕ) → ℕ → ℕ → Type 0
 StopsIn nodes names [] lines read number = ⊥
@@ -171,6 +200,29 @@ abbrev pub IsStuckAlways : List Slot → LinesView → ReportFault → Type 0
 IsStuckAlways slots lines fault =
     (nodes : List NodeView) (names : NamesView) → IsStuck nodes names slots lines fault
 
+-- stuck in the line of a decision's row
+abbrev pub IsStuckInRow : DiagramView → NamesView → ℕ → ℕ → LinesView → ReportFault → Type 0
+IsStuckInRow d names v number lines fault = IsStuck d.nodes names (OfRow v number ∷ []) lines fault
+
+-- in those of all its rows
+abbrev pub IsStuckInRows : DiagramView → NamesView → ℕ → LinesView → ReportFault → Type 0
+IsStuckInRows d names v lines fault = IsStuck d.nodes names (all_row_slots d.nodes v) lines fault
+
+-- in its own line or in those of its rows
+abbrev pub IsStuckInAnswer : DiagramView → NamesView → ℕ → LinesView → ReportFault → Type 0
+IsStuckInAnswer d names v lines fault =
+    IsStuck d.nodes names (answer_slots d.nodes names v) lines fault
+
+-- in those of the decisions of an order
+abbrev pub IsStuckInAnswers : DiagramView → NamesView → List ℕ → LinesView → ReportFault → Type 0
+IsStuckInAnswers d names order lines fault =
+    IsStuck d.nodes names (all_answer_slots d.nodes names order) lines fault
+
+-- in those, in an agent's, or at the end
+abbrev pub IsStuckBehindOrder : DiagramView → NamesView → List ℕ → LinesView → ReportFault → Type 0
+IsStuckBehindOrder d names order lines fault =
+    IsStuck d.nodes names (slots_of d names order) lines fault
+
 -- with these names, whatever the diagram is
 abbrev pub IsStuckByNames : NamesView → List Slot → LinesView → ReportFault → Type 0
 IsStuckByNames names slots lines fault = (nodes : List NodeView) → IsStuck nodes names slots lines fault
@@ -188,9 +240,18 @@ pub record IsTaken (line : List ℕ) (old new : LinesView) : Type 0 where
   pub read : new.read ≡ old.read + 1
 
 -- one line was read, which shows the row of the decision
-abbrev pub TakesRow : List NodeView → NamesView → ℕ → ℕ → Row → LinesView → LinesView → Type 0
-TakesRow nodes names d number row old new =
-    IsRow nodes d row × IsTaken (row_words nodes names d number row) old new
+abbrev pub TakesRow : DiagramView → NamesView → ℕ → ℕ → LinesView → LinesView → Row → Type 0
+TakesRow d names v number old new row =
+    IsRow d.nodes v row × IsTaken (row_words d.nodes names v number row) old new
+
+-- which shows an agent's gain
+abbrev pub TakesGain : NamesView → ℕ → LinesView → LinesView → Ratio → Type 0
+TakesGain names agent old new gain =
+    FitsRatio gain × IsTaken (gain_words names agent gain) old new
+
+-- which shows the order
+abbrev pub TakesOrder : NamesView → LinesView → LinesView → Vec ℕ → Type 0
+TakesOrder names old new order = IsTaken (order_words names order.items) old new
 
 -- the line of the order shows no order, or memory ran out
 abbrev pub IsOrderless : List NodeView → NamesView → LinesView → ReportFault → Type 0
@@ -209,9 +270,9 @@ pub record ReadsRows
   pub passes : Passes nodes names (row_slots d 0 number) old new
 
 -- all rows of a decision were
-abbrev pub ReadsAllRows :
-    List NodeView → NamesView → ℕ → List Row → LinesView → LinesView → Type 0
-ReadsAllRows nodes names d list old new = ReadsRows nodes names d (rows_of nodes d) list old new
+abbrev pub TakesRows : DiagramView → NamesView → ℕ → LinesView → LinesView → Vec Row → Type 0
+TakesRows d names v old new rows =
+    ReadsRows d.nodes names v (rows_of d.nodes v) rows.items old new
 
 -- a decision was read
 pub record ReadsAnswer
@@ -222,6 +283,10 @@ pub record ReadsAnswer
   pub rows : All (IsRow nodes d) answer.rows
   pub bytes : old.rest ≡ decision_lines nodes names answer ++ new.rest
   pub passes : Passes nodes names (answer_slots nodes names d) old new
+
+-- so it was, and this is its answer
+abbrev pub TakesAnswer : DiagramView → NamesView → ℕ → LinesView → LinesView → AnswerView → Type 0
+TakesAnswer d names v old new answer = ReadsAnswer d.nodes names v answer old new
 
 -- an answer with a row for each choice of its parents' states
 pub record IsRead (nodes : List NodeView) (answer : AnswerView) : Type 0 where
@@ -237,6 +302,12 @@ pub record ReadsAnswers
   pub bytes : old.rest ≡ flat_map (decision_lines nodes names) answers ++ new.rest
   pub passes : Passes nodes names (flat_map (answer_slots nodes names) order) old new
 
+-- so they were, and these are their answers
+abbrev pub TakesAnswers :
+    DiagramView → NamesView → List ℕ → LinesView → LinesView → Vec AnswerView → Type 0
+TakesAnswers d names order old new answers =
+    ReadsAnswers d.nodes names order answers.items old new
+
 -- so many agents were read
 pub record ReadsGains
     (nodes : List NodeView) (names : NamesView) (agents : ℕ) (list : List Ratio)
@@ -245,3 +316,8 @@ pub record ReadsGains
   pub gains : All FitsRatio list
   pub bytes : old.rest ≡ gain_lines names 0 list ++ new.rest
   pub passes : Passes nodes names (gain_slots 0 agents) old new
+
+-- so they were, and these are their gains, whatever the diagram is
+abbrev pub TakesGains : NamesView → ℕ → LinesView → LinesView → Vec Ratio → Type 0
+TakesGains names agents old new gains =
+    (nodes : List NodeView) → ReadsGains nodes names agents gains.items old new

@@ -1,9 +1,9 @@
 //! Where bytes are cut.
 
-ghost use Rattle.std.specs.Prelude.{◌≡◌, ◌≢◌, ◌++◌, ◌==◌, List, ℕ, not};
+ghost use Rattle.std.specs.Prelude.{◌≡◌, ◌++◌, ◌==◌, not};
 ghost use Rattle.std.specs.List.{prefix_len};
 ghost use Rattle.std.specs.Option.{MatchOption};
-ghost use Rattle.report_text.specs.Slots.{IsFront};
+ghost use Rattle.report_text.specs.Slots.{IsFront, LacksFront};
 
 // How many bytes stand before the first such byte.
 fn front_len(bytes: &[u8], byte: u8) -> usize
@@ -21,7 +21,7 @@ pub(crate) fn front(bytes: &[u8], byte: u8) -> (&[u8], &[u8])
 
 /// What stands behind the front, if the bytes have it.
 pub(crate) fn behind<'a>(bytes: &'a [u8], front: &[u8]) -> Option<&'a [u8]>
-    ensures { MatchOption result ((rest : List ℕ) → bytes.now ≢ front.now ++ rest)
+    ensures { MatchOption result (LacksFront front.now bytes.now)
         (λ rest. bytes.now ≡ front.now ++ rest.now) }
 {
     bytes.strip_prefix(front)

@@ -1,12 +1,11 @@
 //! The lines of a report, one by one and in runs: what each shows, or the first that shows nothing.
 
-ghost use Rattle.std.specs.Prelude.{◌≡◌, ◌<◌, ◌∷◌, [], List, length, All, IfOk, IfErr, OnOk};
+ghost use Rattle.std.specs.Prelude.{◌≡◌, ◌<◌, ◌∷◌, [], length, All, IfOk, IfErr, OnOk};
 ghost use Rattle.maid_model.specs.Names.{NamesFit};
 ghost use Rattle.maid_model.specs.Nodes.{IsDecision, rows_of};
 ghost use Rattle.maid_model.specs.Reports.{line};
-ghost use Rattle.maid_model.specs.Views.{NodeView};
-ghost use Rattle.report_text.specs.Reading.{AreTold, FitsRatio};
-ghost use Rattle.report_text.specs.Slots.{IsOrder, IsOrderless, IsStuck, IsTaken, ReadsAnswer, ReadsAnswers, ReadsGains, Told, OfRow, OfGain, End, answer_slots, gain_slots, gain_words, order_words, IsStuckAlways, IsStuckByNames, TakesRow, all_answer_slots, all_row_slots, ReadsAllRows};
+ghost use Rattle.report_text.specs.Reading.{AreTold};
+ghost use Rattle.report_text.specs.Slots.{End, IsOrder, IsOrderless, IsStuckAlways, IsStuckByNames, IsStuckInAnswer, IsStuckInAnswers, IsStuckInRow, IsStuckInRows, IsTaken, OfGain, TakesAnswer, TakesAnswers, TakesGain, TakesGains, TakesOrder, TakesRow, TakesRows, Told, gain_slots};
 
 use crate::ReportFault;
 use crate::lines::LineReader;
@@ -51,8 +50,7 @@ pub(crate) fn next_order(
     requires fit { NamesFit diagram.now names.now }
     requires told { AreTold names.now }
     ensures order { IfOk result (λ order. IsOrder diagram.now.nodes order.items) }
-    ensures taken { IfOk result (λ order.
-        IsTaken (order_words names.now order.items) lines.old lines.new) }
+    ensures taken { IfOk result (TakesOrder names.now lines.old lines.new) }
     ensures err { IfErr result (IsOrderless diagram.now.nodes names.now lines.old) }
 {
     let line = lines.take_line()?;
@@ -76,10 +74,8 @@ fn next_row(
     requires decision { IsDecision diagram.now.nodes decision }
     requires rows { rows ≡ rows_of diagram.now.nodes decision }
     requires number { number < rows }
-    ensures ok { IfOk result (λ row.
-        TakesRow diagram.now.nodes names.now decision number row lines.old lines.new) }
-    ensures err { IfErr result (IsStuck diagram.now.nodes names.now (OfRow decision number ∷ [])
-        lines.old) }
+    ensures ok { IfOk result (TakesRow diagram.now names.now decision number lines.old lines.new) }
+    ensures err { IfErr result (IsStuckInRow diagram.now names.now decision number lines.old) }
 {
     let line = lines.take_line()?;
     match read_row(scratch, diagram, names, decision, rows, number, line)? {
@@ -99,10 +95,8 @@ fn next_rows(
 ) -> Result<Vec<Row>, ReportFault>
     requires fit { NamesFit diagram.now names.now }
     requires decision { IsDecision diagram.now.nodes decision }
-    ensures ok { IfOk result (λ rows.
-        ReadsAllRows diagram.now.nodes names.now decision rows.items lines.old lines.new) }
-    ensures err { IfErr result (IsStuck diagram.now.nodes names.now
-        (all_row_slots diagram.now.nodes decision) lines.old) }
+    ensures ok { IfOk result (TakesRows diagram.now names.now decision lines.old lines.new) }
+    ensures err { IfErr result (IsStuckInRows diagram.now names.now decision lines.old) }
 {
     let count = diagram.rows(decision);
     let mut rows = Vec::new(alloc);
@@ -124,10 +118,8 @@ fn next_answer(
 ) -> Result<Answer, ReportFault>
     requires fit { NamesFit diagram.now names.now }
     requires decision { IsDecision diagram.now.nodes decision }
-    ensures ok { IfOk result (λ answer.
-        ReadsAnswer diagram.now.nodes names.now decision answer lines.old lines.new) }
-    ensures err { IfErr result (IsStuck diagram.now.nodes names.now
-        (answer_slots diagram.now.nodes names.now decision) lines.old) }
+    ensures ok { IfOk result (TakesAnswer diagram.now names.now decision lines.old lines.new) }
+    ensures err { IfErr result (IsStuckInAnswer diagram.now names.now decision lines.old) }
 {
     scratch.clear();
     push_decision_words(scratch, diagram, names, decision)?;
@@ -147,10 +139,8 @@ pub(crate) fn next_answers(
 ) -> Result<Vec<Answer>, ReportFault>
     requires fit { NamesFit diagram.now names.now }
     requires order { All (IsDecision diagram.now.nodes) order.now }
-    ensures ok { IfOk result (λ answers.
-        ReadsAnswers diagram.now.nodes names.now order.now answers.items lines.old lines.new) }
-    ensures err { IfErr result (IsStuck diagram.now.nodes names.now
-        (all_answer_slots diagram.now.nodes names.now order.now) lines.old) }
+    ensures ok { IfOk result (TakesAnswers diagram.now names.now order.now lines.old lines.new) }
+    ensures err { IfErr result (IsStuckInAnswers diagram.now names.now order.now lines.old) }
 {
     let mut answers = Vec::new(alloc);
     for decision in order {
@@ -168,8 +158,7 @@ fn next_gain(
     agent: usize,
 ) -> Result<Ratio, ReportFault>
     requires { agent < length names.now.agents }
-    ensures ok { IfOk result (λ gain.
-        FitsRatio gain × IsTaken (gain_words names.now agent gain) lines.old lines.new) }
+    ensures ok { IfOk result (TakesGain names.now agent lines.old lines.new) }
     ensures err { IfErr result (IsStuckByNames names.now (OfGain agent ∷ []) lines.old) }
 {
     let line = lines.take_line()?;
@@ -188,9 +177,7 @@ pub(crate) fn next_gains(
     agents: usize,
 ) -> Result<Vec<Ratio>, ReportFault>
     requires { agents ≡ length names.now.agents }
-    ensures ok { IfOk result (λ gains.
-        (nodes : List NodeView) → ReadsGains nodes names.now agents gains.items lines.old
-        lines.new) }
+    ensures ok { IfOk result (TakesGains names.now agents lines.old lines.new) }
     ensures err { IfErr result (IsStuckByNames names.now (gain_slots 0 agents) lines.old) }
 {
     let mut gains = Vec::new(alloc);

@@ -1,10 +1,10 @@
 //! The line of the order, read.
 
-ghost use Rattle.std.specs.Prelude.{◌≡◌, ◌≢◌, ◌<◌, ◌↔◌, ℕ, Contains, IsTrue, IfOk, IfSome, IfNone};
-ghost use Rattle.maid_model.specs.Names.{NamesFit, name_of};
+ghost use Rattle.std.specs.Prelude.{◌<◌, ◌↔◌, ℕ, Contains, IsTrue, IfOk, IfSome, IfNone};
+ghost use Rattle.maid_model.specs.Names.{NamesFit};
 ghost use Rattle.maid_model.specs.Nodes.{IsDecision};
 ghost use Rattle.report_text.specs.Reading.{AreTold};
-ghost use Rattle.report_text.specs.Slots.{TellsOrder};
+ghost use Rattle.report_text.specs.Slots.{IsDecisionNamed, NamesNoDecision, TellsOrder};
 
 use crate::cuts::{behind, front};
 use maid_model::{Diagram, Kind, Names};
@@ -13,10 +13,8 @@ use std::alloc::{AllocError, Global};
 // The decision of that name, if there is one.
 fn decision_of(diagram: &Diagram, names: &Names, name: &[u8]) -> Option<usize>
     requires { NamesFit diagram.now names.now }
-    ensures some { IfSome result (λ v.
-        IsDecision diagram.now.nodes v × (name_of names.now v ≡ name.now)) }
-    ensures none { IfNone result ((v : ℕ) → IsDecision diagram.now.nodes v
-        → name_of names.now v ≢ name.now) }
+    ensures some { IfSome result (IsDecisionNamed diagram.now.nodes names.now name.now) }
+    ensures none { IfNone result (NamesNoDecision diagram.now.nodes names.now name.now) }
 {
     for node in 0..diagram.count() {
         if diagram.kind(node) == Kind::Decision && names.name(node) == name {

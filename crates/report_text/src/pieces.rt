@@ -1,7 +1,8 @@
 //! Fractions as text.
 
-ghost use Rattle.std.specs.Prelude.{◌≡◌, ◌<◌, ◌++◌, IfOk, OnOk};
+ghost use Rattle.std.specs.Prelude.{◌≡◌, ◌<◌, ◌++◌, IfOk};
 ghost use Rattle.maid_model.specs.Reports.{ratio_text};
+ghost use Rattle.line_pieces.specs.Pushed.{PushAppends};
 
 use itoa::Buffer;
 use maid_model::Ratio;
@@ -9,7 +10,7 @@ use std::alloc::{AllocError, Global};
 
 /// Appends a whole number, or the numerator, a slash and the denominator.
 pub(crate) fn push_ratio(out: &mut Vec<u8>, ratio: &Ratio) -> Result<(), AllocError>
-    ensures { OnOk result (out.new.items ≡ out.old.items ++ ratio_text ratio.now) }
+    ensures { PushAppends out.old out.new result (ratio_text ratio.now) }
 {
     let mut buffer = Buffer::new();
     out.extend_from_slice(buffer.format(ratio.num).as_bytes())?;

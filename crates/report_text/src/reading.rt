@@ -1,10 +1,9 @@
 //! A report, read.
 
 ghost use Rattle.std.specs.Prelude.{◌≡◌, IfOk, IfErr};
-ghost use Rattle.first_fault.specs.Answers.{IsFaultOrNoMemory};
 ghost use Rattle.maid_model.specs.Names.{NamesFit};
-ghost use Rattle.report_text.specs.Reading.{AreTold, CanStand, IsReadAs, bad_line, report_pass};
-ghost use Rattle.report_text.specs.Slots.{IsOrder, IsStuck, lines_behind, slots_of};
+ghost use Rattle.report_text.specs.Reading.{AreTold, CanStand, IsReadAs, IsBadLineOrNoMemory};
+ghost use Rattle.report_text.specs.Slots.{IsOrder, IsStuckBehindOrder, ShowsSolved};
 
 use crate::lines::LineReader;
 use crate::next_lines::{next_answers, next_gains, next_order, pass_end, pass_words};
@@ -58,10 +57,8 @@ fn read_behind(
     requires order { IsOrder diagram.now.nodes order.items }
     ensures value { IfOk result (CanStand diagram.now) }
     ensures order { IfOk result (λ solved. solved.order ≡ order.items) }
-    ensures bytes { IfOk result (λ solved.
-        lines.old.rest ≡ lines_behind diagram.now.nodes names.now solved) }
-    ensures err { IfErr result (IsStuck diagram.now.nodes names.now
-        (slots_of diagram.now names.now order.items) lines.old) }
+    ensures bytes { IfOk result (ShowsSolved diagram.now names.now lines.old.rest) }
+    ensures err { IfErr result (IsStuckBehindOrder diagram.now names.now order.items lines.old) }
 {
     let mut scratch = Vec::new(alloc);
     let answers = next_answers(alloc, lines, &mut scratch, diagram, names, &order)?;
@@ -93,8 +90,7 @@ pub fn read_report(
     requires fit { NamesFit diagram.now names.now }
     requires told { AreTold names.now }
     ensures ok { IfOk result (IsReadAs diagram.now names.now text.now) }
-    ensures err { IfErr result (IsFaultOrNoMemory bad_line (report_pass diagram.now names.now
-        text.now)) }
+    ensures err { IfErr result (IsBadLineOrNoMemory diagram.now names.now text.now) }
 {
     let agents = diagram.agents();
     let mut lines = LineReader::new(text);

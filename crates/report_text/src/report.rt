@@ -1,14 +1,15 @@
 //! The report of an answered diagram.
 
-ghost use Rattle.std.specs.Prelude.{◌≡◌, ◌≢◌, ◌<◌, ◌+◌, ◌∷◌, ◌++◌, All, IfOk, OnOk, codes, length};
-ghost use Rattle.std.specs.List.{flat_map};
+ghost use Rattle.std.specs.Prelude.{◌≡◌, ◌≢◌, ◌<◌, ◌+◌, ◌∷◌, ◌++◌, All, IfOk, codes, length};
 ghost use Rattle.maid_model.specs.Answers.{FitsAnswer, FitsDiagram};
 ghost use Rattle.maid_model.specs.Names.{NamesFit, label_of};
 ghost use Rattle.maid_model.specs.Nodes.{IsDecision, node_at, parents_of, states_of, rows_under, rows_of};
-ghost use Rattle.maid_model.specs.Reports.{decision_head, decision_lines, gain_line, gain_lines, names_line, quoted, report, row_line, worth_text};
+ghost use Rattle.maid_model.specs.Reports.{gain_line, gain_lines, names_line, quoted, report, worth_text};
 ghost use Rattle.maid_model.specs.declared.diagrams.Kind.TheVariants.{Utility};
-ghost use Rattle.report_text.specs.Slots.{decision_words, gain_front, row_front, state_text};
-ghost use Rattle.report_text.specs.Runs.{row_labels};
+ghost use Rattle.report_text.specs.Slots.{gain_front, state_text};
+ghost use Rattle.report_text.specs.Runs.{HasLabels};
+ghost use Rattle.report_text.specs.Pushing.{PushesAnswer, PushesAnswers, PushesHead, PushesLabels, PushesRow, PushesRowFront, PushesWords};
+ghost use Rattle.line_pieces.specs.Pushed.{PushAppends};
 
 use crate::pieces::push_ratio;
 use crate::row_runs::push_rows;
@@ -20,9 +21,7 @@ use std::alloc::{AllocError, Global};
 pub(crate) fn parents_of(diagram: &Diagram, node: usize) -> &[usize]
     requires { node < length diagram.now.nodes }
     ensures parents { result.now ≡ parents_of diagram.now.nodes node }
-    ensures known { All
-        (λ u. (u < length diagram.now.nodes) × ((node_at diagram.now.nodes u).kind ≢ Utility))
-        result.now }
+    ensures known { All (HasLabels diagram.now.nodes) result.now }
 {
     diagram.node(node).parents.as_slice()
 }
@@ -48,8 +47,7 @@ pub(crate) fn push_label(
     requires node { node < length diagram.now.nodes }
     requires kind { (node_at diagram.now.nodes node).kind ≢ Utility }
     requires state { state < states_of diagram.now.nodes node }
-    ensures { OnOk result (out.new.items
-        ≡ out.old.items ++ 32 ∷ quoted (label_of names.now node state)) }
+    ensures { PushAppends out.old out.new result (32 ∷ quoted (label_of names.now node state)) }
 {
     out.push(b' ')?;
     push_quoted(out, names.label(node, state))
@@ -65,13 +63,10 @@ fn push_states(
     row: usize,
 ) -> Result<(), AllocError>
     requires fit { NamesFit diagram.now names.now }
-    requires parents { All
-        (λ u. (u < length diagram.now.nodes) × ((node_at diagram.now.nodes u).kind ≢ Utility))
-        parents.now }
+    requires parents { All (HasLabels diagram.now.nodes) parents.now }
     requires rows { rows ≡ rows_under (states_of diagram.now.nodes) parents.now }
     requires row { row < rows }
-    ensures { OnOk result (out.new.items ≡ out.old.items
-        ++ row_labels diagram.now.nodes names.now parents.now row) }
+    ensures { PushesLabels diagram.now names.now parents.now row out.old out.new result }
 {
     let mut below = rows;
     let mut rest = row;
@@ -85,7 +80,7 @@ fn push_states(
 
 /// Appends what a row is worth.
 pub(crate) fn push_worth(out: &mut Vec<u8>, worth: &Option<Ratio>) -> Result<(), AllocError>
-    ensures { OnOk result (out.new.items ≡ out.old.items ++ worth_text worth.now) }
+    ensures { PushAppends out.old out.new result (worth_text worth.now) }
 {
     match worth {
         Some(worth) => {
@@ -107,7 +102,7 @@ pub fn push_state(
     requires fit { NamesFit diagram.now names.now }
     requires decision { IsDecision diagram.now.nodes decision }
     requires choice { choice < states_of diagram.now.nodes decision }
-    ensures { OnOk result (out.new.items ≡ out.old.items ++ state_text names.now decision choice) }
+    ensures { PushAppends out.old out.new result (state_text names.now decision choice) }
 {
     push_number(out, choice as u128 + 1)?;
     push_label(out, diagram, names, decision, choice)
@@ -127,8 +122,7 @@ pub fn push_row_front(
     requires decision { IsDecision diagram.now.nodes decision }
     requires rows { rows ≡ rows_of diagram.now.nodes decision }
     requires number { number < rows }
-    ensures { OnOk result (out.new.items
-        ≡ out.old.items ++ row_front diagram.now.nodes names.now decision number) }
+    ensures { PushesRowFront diagram.now names.now decision number out.old out.new result }
 {
     out.extend_from_slice(b"row ")?;
     push_number(out, number as u128 + 1)?;
@@ -160,8 +154,7 @@ pub fn push_row(
     requires rows { rows ≡ rows_of diagram.now.nodes decision }
     requires number { number < rows }
     requires choice { row.now.choice < states_of diagram.now.nodes decision }
-    ensures { OnOk result (out.new.items
-        ≡ out.old.items ++ row_line diagram.now.nodes names.now decision number row.now) }
+    ensures { PushesRow diagram.now names.now decision number row.now out.old out.new result }
 {
     push_row_front(out, diagram, names, decision, rows, number)?;
     push_state(out, diagram, names, decision, row.choice)?;
@@ -180,8 +173,7 @@ fn push_decision(
 ) -> Result<(), AllocError>
     requires fit { NamesFit diagram.now names.now }
     requires answer { FitsAnswer diagram.now.nodes answer.now }
-    ensures { OnOk result (out.new.items
-        ≡ out.old.items ++ decision_lines diagram.now.nodes names.now answer.now) }
+    ensures { PushesAnswer diagram.now names.now answer.now out.old out.new result }
 {
     push_head(out, diagram, names, answer.decision)?;
     push_rows(out, labels, diagram, names, answer)
@@ -197,8 +189,7 @@ fn push_decisions(
 ) -> Result<(), AllocError>
     requires fit { NamesFit diagram.now names.now }
     requires answers { All (FitsAnswer diagram.now.nodes) answers.now }
-    ensures { OnOk result (out.new.items
-        ≡ out.old.items ++ flat_map (decision_lines diagram.now.nodes names.now) answers.now) }
+    ensures { PushesAnswers diagram.now names.now answers.now out.old out.new result }
 {
     let mut labels = Vec::new(alloc);
     for answer in answers {
@@ -217,8 +208,7 @@ pub(crate) fn push_decision_words(
 ) -> Result<(), AllocError>
     requires fit { NamesFit diagram.now names.now }
     requires decision { IsDecision diagram.now.nodes decision }
-    ensures { OnOk result (out.new.items
-        ≡ out.old.items ++ decision_words diagram.now.nodes names.now decision) }
+    ensures { PushesWords diagram.now names.now decision out.old out.new result }
 {
     out.extend_from_slice(b"decision ")?;
     out.extend_from_slice(names.name(decision))?;
@@ -238,8 +228,7 @@ pub fn push_head(
 ) -> Result<(), AllocError>
     requires fit { NamesFit diagram.now names.now }
     requires decision { IsDecision diagram.now.nodes decision }
-    ensures { OnOk result (out.new.items
-        ≡ out.old.items ++ decision_head diagram.now.nodes names.now decision) }
+    ensures { PushesHead diagram.now names.now decision out.old out.new result }
 {
     push_decision_words(out, diagram, names, decision)?;
     out.push(b'\n')?;
@@ -254,7 +243,7 @@ pub(crate) fn push_gain_front(
     agent: usize,
 ) -> Result<(), AllocError>
     requires { agent < length names.now.agents }
-    ensures { OnOk result (out.new.items ≡ out.old.items ++ gain_front names.now agent) }
+    ensures { PushAppends out.old out.new result (gain_front names.now agent) }
 {
     out.extend_from_slice(b"agent ")?;
     push_quoted(out, names.agent(agent))?;
@@ -265,7 +254,7 @@ pub(crate) fn push_gain_front(
 #[tactic(auto, using(std::proofs::Common::append_assoc))]
 fn push_gain(out: &mut Vec<u8>, names: &Names, agent: usize, gain: &Ratio) -> Result<(), AllocError>
     requires { agent < length names.now.agents }
-    ensures { OnOk result (out.new.items ≡ out.old.items ++ gain_line names.now agent gain.now) }
+    ensures { PushAppends out.old out.new result (gain_line names.now agent gain.now) }
 {
     push_gain_front(out, names, agent)?;
     push_ratio(out, gain)?;
@@ -276,7 +265,7 @@ fn push_gain(out: &mut Vec<u8>, names: &Names, agent: usize, gain: &Ratio) -> Re
 /// Appends a line for each agent: what the plan is worth to it.
 pub fn push_gains(out: &mut Vec<u8>, names: &Names, gains: &[Ratio]) -> Result<(), AllocError>
     requires { length gains.now ≡ length names.now.agents }
-    ensures { OnOk result (out.new.items ≡ out.old.items ++ gain_lines names.now 0 gains.now) }
+    ensures { PushAppends out.old out.new result (gain_lines names.now 0 gains.now) }
 {
     for (agent, gain) in gains.iter().enumerate() {
         push_gain(out, names, agent, gain)?;
@@ -288,8 +277,7 @@ pub fn push_gains(out: &mut Vec<u8>, names: &Names, gains: &[Ratio]) -> Result<(
 #[tactic(auto, using(std::proofs::Common::append_assoc))]
 fn push_order(out: &mut Vec<u8>, names: &Names, order: &[usize]) -> Result<(), AllocError>
     requires { All (λ v. v < length names.now.nodes) order.now }
-    ensures { OnOk result (out.new.items
-        ≡ out.old.items ++ names_line (codes "order:") names.now order.now) }
+    ensures { PushAppends out.old out.new result (names_line (codes "order:") names.now order.now) }
 {
     out.extend_from_slice(b"order:")?;
     push_names(out, names, order)?;

@@ -1,12 +1,12 @@
 //! The lines of a decision's rows, in one walk over the choices of its parents' states: the labels of the parents whose
 //! states stay from row to row are written once.
 
-ghost use Rattle.std.specs.Prelude.{◌≡◌, ◌≢◌, ◌+◌, ◌<◌, ◌≤◌, ◌++◌, All, IfOk, OnOk, drop, length};
+ghost use Rattle.std.specs.Prelude.{◌≡◌, ◌<◌, ◌≤◌, ◌++◌, All, IfOk, OnOk, drop, length};
 ghost use Rattle.maid_model.specs.Answers.{FitsAnswer};
 ghost use Rattle.maid_model.specs.Names.{NamesFit};
-ghost use Rattle.maid_model.specs.Nodes.{IsDecision, node_at, rows_under, states_of};
-ghost use Rattle.maid_model.specs.declared.diagrams.Kind.TheVariants.{Utility};
-ghost use Rattle.report_text.specs.Runs.{labelled_line, answer_rows, lines_under};
+ghost use Rattle.maid_model.specs.Nodes.{IsDecision, states_of};
+ghost use Rattle.report_text.specs.Runs.{AppendsRun, HasLabels, row_behind};
+ghost use Rattle.report_text.specs.Pushing.{PushesLabelled, PushesRows};
 
 use crate::report::{parents_of, push_label, push_state, push_worth, states_of};
 use line_pieces::push_number;
@@ -28,8 +28,7 @@ fn push_labelled(
     requires fit { NamesFit diagram.now names.now }
     requires decision { IsDecision diagram.now.nodes decision }
     requires choice { row.now.choice < states_of diagram.now.nodes decision }
-    ensures { OnOk result (out.new.items
-        ≡ out.old.items ++ labelled_line names.now decision labels.now number row.now) }
+    ensures { PushesLabelled names.now decision labels.now number row.now out.old out.new result }
 {
     out.extend_from_slice(b"row ")?;
     push_number(out, number as u128 + 1)?;
@@ -64,15 +63,11 @@ fn push_run(
 ) -> Result<usize, AllocError>
     requires fit { NamesFit diagram.now names.now }
     requires answer { FitsAnswer diagram.now.nodes answer.now }
-    requires others { All
-        (λ u. (u < length diagram.now.nodes) × ((node_at diagram.now.nodes u).kind ≢ Utility))
-        others.now }
-    requires rows { first + rows_under (states_of diagram.now.nodes) others.now
-        ≤ length answer.now.rows }
-    ensures lines { OnOk result (out.new.items ≡ out.old.items
-        ++ lines_under diagram.now.nodes names.now answer.now labels.old.items others.now first) }
-    ensures next { IfOk result (λ next.
-        next ≡ first + rows_under (states_of diagram.now.nodes) others.now) }
+    requires others { All (HasLabels diagram.now.nodes) others.now }
+    requires rows { row_behind diagram.now others.now first ≤ length answer.now.rows }
+    ensures lines { OnOk result
+        (AppendsRun diagram.now names.now answer.now labels.old others.now first out.old out.new) }
+    ensures next { IfOk result (λ next. next ≡ row_behind diagram.now others.now first) }
     ensures labels { OnOk result (labels.new.items ≡ labels.old.items) }
 {
     if others.is_empty() {
@@ -102,8 +97,7 @@ pub(crate) fn push_rows(
 ) -> Result<(), AllocError>
     requires fit { NamesFit diagram.now names.now }
     requires answer { FitsAnswer diagram.now.nodes answer.now }
-    ensures { OnOk result (out.new.items ≡ out.old.items
-        ++ answer_rows diagram.now.nodes names.now answer.now) }
+    ensures { PushesRows diagram.now names.now answer.now out.old out.new result }
 {
     labels.clear();
     let parents = parents_of(diagram, answer.decision);

@@ -1,13 +1,11 @@
 //! The lines of rows and of gains, read.
 
-ghost use Rattle.std.specs.Prelude.{◌≡◌, ◌≢◌, ◌<◌, ◌+◌, ◌++◌, ◌∷◌, ℕ, List, Option, decimal, length, IfOk, IfSome, IfNone};
+ghost use Rattle.std.specs.Prelude.{◌≡◌, ◌<◌, length, IfOk, IfSome, IfNone};
 ghost use Rattle.maid_model.specs.Names.{NamesFit};
 ghost use Rattle.maid_model.specs.Nodes.{IsDecision, rows_of};
-ghost use Rattle.maid_model.specs.Reports.{worth_text};
-ghost use Rattle.maid_model.specs.declared.answers.Ratio.{Ratio};
 ghost use Rattle.maid_model.specs.declared.answers.Row.{Row};
 ghost use Rattle.report_text.specs.Reading.{FitsRatio};
-ghost use Rattle.report_text.specs.Slots.{ShowsOne, gain_words, IsShownChoice, ShowsRow};
+ghost use Rattle.report_text.specs.Slots.{ShowsOne, gain_words, IsShownChoice, ShowsNoChoice, ShowsNoWorth, ShowsRow, ShowsWorth};
 
 use crate::cuts::{behind, front};
 use crate::numbers::{read_ratio, whole};
@@ -17,10 +15,8 @@ use std::alloc::AllocError;
 
 // What a row is worth, by the text behind its choice.
 fn read_worth(bytes: &[u8]) -> Option<Option<Ratio>>
-    ensures some { IfSome result (λ worth.
-        IfSome worth FitsRatio × (bytes.now ≡ worth_text worth)) }
-    ensures none { IfNone result ((worth : Option Ratio) → IfSome worth FitsRatio
-        → bytes.now ≢ worth_text worth) }
+    ensures some { IfSome result (ShowsWorth bytes.now) }
+    ensures none { IfNone result (ShowsNoWorth bytes.now) }
 {
     if bytes == b" never".as_slice() {
         return Some(None);
@@ -37,8 +33,7 @@ fn read_worth(bytes: &[u8]) -> Option<Option<Ratio>>
 // The state whose number, from 1, stands before the first space.
 fn read_state(bytes: &[u8], states: usize) -> Option<usize>
     ensures some { IfSome result (λ choice. choice < states) }
-    ensures none { IfNone result ((choice : ℕ) (rest : List ℕ) → choice < states
-        → bytes.now ≢ decimal (choice + 1) ++ 32 ∷ rest) }
+    ensures none { IfNone result (ShowsNoChoice states bytes.now) }
     ensures value { IfSome result (IsShownChoice states bytes.now) }
 {
     let (digits, _) = front(bytes, b' ');

@@ -10,6 +10,9 @@ use Rattle.maid_model.specs.Parts.{part_diagram, rules_in, with_ancestors}
 use Rattle.maid_model.specs.Scopes.{scope_of, rules_in_scope, place_in_scope}
 use Rattle.maid_model.specs.Answers.{IsBase, IsFraction, IsExpectedUtility, no_row}
 use Rattle.maid_model.specs.Accepted.{IsAcceptedRow}
+use Rattle.std.specs.Global.{Vec}
+use Rattle.tree_checker.specs.declared.decisions.RowSums.{RowSums}
+use Rattle.tree_checker.specs.declared.parts.Stage.{Stage}
 use Rattle.tree_checker.specs.declared.verdicts.Cause.{Cause}
 use Rattle.tree_checker.specs.declared.rows.RowFault.{RowFault}
 use Rattle.tree_checker.specs.Verdicts.{FailsIn, FailsRow, no_gain}
@@ -27,7 +30,15 @@ pub record ListsSums
   pub gain_small : (i : ℕ) → nat_abs (slice_index_or gains i (pos 0)) ≤ greatest_number
   pub mass_small : (row : ℕ) → slice_index masses row * 10 ^ d.decimals ≤ greatest_number
 
--- the profile's rules in the part of these nodes and their ancestors
+-- so the two lists do
+abbrev pub HoldsSums : DiagramView → List RuleView → ℕ → RowSums → Type 0
+HoldsSums d p v sums = ListsSums d p v sums.gains.items sums.masses.items
+
+-- the part of these nodes and their ancestors
+abbrev pub part_above : DiagramView → List ℕ → DiagramView
+part_above d of = part_diagram d (with_ancestors d.nodes of)
+
+-- the profile's rules in it
 abbrev pub rules_above : List NodeView → List RuleView → List ℕ → List RuleView
 rules_above nodes p of = rules_in nodes p (with_ancestors nodes of)
 
@@ -36,10 +47,36 @@ abbrev pub AreFirstCells : List NodeView → ℕ → List ℕ → List ℕ → T
 AreFirstCells nodes v cells firsts = (row : ℕ) → row < rows_of nodes v
     → slice_index firsts row ≡ slice_index cells (row * states_of nodes v)
 
+-- there are as many masses as the decision has rows, and they are those cells
+abbrev pub HasMassEachRow : List NodeView → ℕ → Vec ℕ → Type 0
+HasMassEachRow nodes v masses = length masses.items ≡ rows_of nodes v
+
+abbrev pub HasFirstCells : List NodeView → ℕ → List ℕ → Vec ℕ → Type 0
+HasFirstCells nodes v cells masses = AreFirstCells nodes v cells masses.items
+
+-- each of the gains is within the limits
+abbrev pub AreSmallGains : List ℤ → Type 0
+AreSmallGains gains = (i : ℕ) → nat_abs (slice_index_or gains i (pos 0)) ≤ greatest_number
+
+-- the rule, as that of a decision with this number
+abbrev pub rule_as : RuleView → ℕ → RuleView
+rule_as rule v = record { decision = v; total = rule.total; weights = rule.weights }
+
+-- the part that these nodes and their ancestors make has just those, and the profile's rules in it
+abbrev pub HasNodesAbove : List NodeView → List ℕ → Stage → Type 0
+HasNodesAbove nodes of stage = stage.part.nodes.items ≡ with_ancestors nodes of
+
+abbrev pub HasRulesAbove : List NodeView → List RuleView → List ℕ → Stage → Type 0
+HasRulesAbove nodes p of stage = stage.rules ≡ rules_above nodes p of
+
 -- the sums in the part of the decision's scope
 abbrev pub ListsScopeSums : DiagramView → List RuleView → ℕ → List ℤ → List ℕ → Type 0
 ListsScopeSums d p v gains masses = ListsSums (part_diagram d (scope_of d.nodes v))
     (rules_in_scope d.nodes p v) (place_in_scope d.nodes v) gains masses
+
+-- so the two lists do
+abbrev pub HoldsScopeSums : DiagramView → List RuleView → ℕ → RowSums → Type 0
+HoldsScopeSums d p v sums = ListsScopeSums d p v sums.gains.items sums.masses.items
 
 -- a row passes whose states have these gains: with mass its choice is best and it is worth that, and without mass it
 -- is marked
@@ -54,9 +91,17 @@ abbrev pub JudgesRow : (ℕ → ℤ) → ℕ → ℤ → ℕ → Row → Option 
 JudgesRow gain states mass scale r None = PassesIn gain states mass scale r
 JudgesRow gain states mass scale r (Some cause) = FailsIn gain states mass scale r cause
 
+-- what a state gains, in a list with a number for each
+abbrev pub listed_gain : List ℤ → ℕ → ℤ
+listed_gain gains s = slice_index_or gains s (pos 0)
+
 -- what a state gains in a row, in a list with a number for each row and state, the state fastest
 abbrev pub gain_in : List ℤ → ℕ → ℕ → ℕ → ℤ
 gain_in gains states row s = slice_index_or gains (row * states + s) (pos 0)
+
+-- the list is that of the row's states
+abbrev pub ListsRow : List ℤ → ℕ → ℕ → List ℤ → Type 0
+ListsRow gains states row list = (s : ℕ) → s < states → listed_gain list s ≡ gain_in gains states row s
 
 -- the row passes, or fails for the cause, by listed gains and masses
 abbrev pub PassesListed : List ℤ → List ℕ → ℕ → ℕ → ℕ → Row → Type 0

@@ -1,9 +1,10 @@
 -- What a walk finds in its setting, and what it adds to the gains and masses of the cells.
-use Rattle.std.specs.Prelude.{◌≡◌, ℕ, ◌*◌, List, slice_index, slice_index_or, ℤ, pos, ◌+ℤ◌}
+use Rattle.std.specs.Prelude.{◌≡◌, ℕ, ◌*◌, List, ◌∷◌, ◌++◌, slice_index, slice_index_or, ℤ, pos, ◌+ℤ◌}
 use Rattle.diagram_graph.specs.Cycles.{lists_in}
 use Rattle.finite_sums.specs.Sums.{World}
 use Rattle.maid_model.specs.Nodes.{rows_of, states_of}
-use Rattle.tree_checker.specs.Walks.{HasRoom, IsSetting, gain_with, mass_with, ArePlaces, IsBefore, IsDownward, IsEnding, IsLast, ending}
+use Rattle.maid_model.specs.Worlds.{world_of}
+use Rattle.tree_checker.specs.Walks.{HasRoom, IsSetting, gain_with, mass_with, ArePlaces, IsBefore, IsDownward, IsEnding, IsLast, ending, last_nodes, last_two}
 use Rattle.tree_checker.specs.declared.settings.Setting.{Setting}
 use Rattle.tree_checker.specs.declared.settings.Before.{Before}
 use Rattle.tree_checker.specs.declared.settings.Last.{Last}
@@ -24,17 +25,19 @@ abbrev pub HasRoomIn : Setting → List ℕ → ℕ → ℤ → List ℤ → Lis
 HasRoomIn s vs product sum gains masses =
     HasRoom s.diagram.now.nodes s.profile.now s.left_out vs product sum gains masses
 
--- each cell's gain rises by weight times utilities, summed over the states of the listed nodes
-abbrev pub AddsGains : Setting → List ℕ → ℕ → ℤ → World → List ℤ → List ℤ → Type 0
-AddsGains s vs product utility w before after = (c : ℕ) → slice_index_or after c (pos 0)
+-- each cell's gain rises by weight times utilities, summed over the states of the listed nodes, where the others have
+-- those of the world
+abbrev pub AddsGains : Setting → List ℕ → ℕ → ℤ → List ℕ → List ℤ → List ℤ → Type 0
+AddsGains s vs product utility world before after = (c : ℕ) → slice_index_or after c (pos 0)
     ≡ slice_index_or before c (pos 0)
-    +ℤ gain_with s.diagram.now.nodes s.profile.now s.left_out s.marks.now vs product utility c w
+    +ℤ gain_with s.diagram.now.nodes s.profile.now s.left_out s.marks.now vs product utility c
+    (world_of world)
 
 -- and each cell's mass by their weights
-abbrev pub AddsMasses : Setting → List ℕ → ℕ → World → List ℕ → List ℕ → Type 0
-AddsMasses s vs product w before after = (c : ℕ) → pos (slice_index after c)
+abbrev pub AddsMasses : Setting → List ℕ → ℕ → List ℕ → List ℕ → List ℕ → Type 0
+AddsMasses s vs product world before after = (c : ℕ) → pos (slice_index after c)
     ≡ pos (slice_index before c)
-    +ℤ mass_with s.diagram.now.nodes s.profile.now s.left_out vs product c w
+    +ℤ mass_with s.diagram.now.nodes s.profile.now s.left_out vs product c (world_of world)
 
 -- ---- the notions of walks in a setting
 abbrev pub IsLastIn : Setting → Last → Type 0
@@ -55,3 +58,68 @@ ending_of s = ending s.last s.tail.now
 
 abbrev pub HasEnding : Setting → Type 0
 HasEnding s = IsEnding s.diagram.now.nodes s.left_out s.marks.now s.last s.tail.now
+
+-- ---- what the steps of a walk add, and the room that they need
+-- the nodes that a walk goes down from this order on
+abbrev pub walked : Setting → List ℕ → List ℕ
+walked s order = order ++ ending_of s
+
+-- each cell's gain rises by what a walk down the order adds, and each cell's mass, and that fits
+abbrev pub GainsDown : Setting → List ℕ → ℕ → ℤ → List ℕ → List ℤ → List ℤ → Type 0
+GainsDown s order product utility world before after =
+    AddsGains s (walked s order) product utility world before after
+
+abbrev pub MassesDown : Setting → List ℕ → ℕ → List ℕ → List ℕ → List ℕ → Type 0
+MassesDown s order product world before after =
+    AddsMasses s (walked s order) product world before after
+
+abbrev pub HasRoomDown : Setting → List ℕ → ℕ → ℤ → List ℤ → List ℕ → Type 0
+HasRoomDown s order product utility gains masses =
+    HasRoomIn s (walked s order) product utility gains masses
+
+-- the same by the ending alone
+abbrev pub GainsByEnding : Setting → ℕ → ℤ → List ℕ → List ℤ → List ℤ → Type 0
+GainsByEnding s product utility world before after =
+    AddsGains s (ending_of s) product utility world before after
+
+abbrev pub MassesByEnding : Setting → ℕ → List ℕ → List ℕ → List ℕ → Type 0
+MassesByEnding s product world before after = AddsMasses s (ending_of s) product world before after
+
+abbrev pub HasRoomToEnd : Setting → ℕ → ℤ → List ℤ → List ℕ → Type 0
+HasRoomToEnd s product utility gains masses =
+    HasRoomIn s (ending_of s) product utility gains masses
+
+-- by the last weighing nodes, one or two of them, with their utility
+abbrev pub GainsByLast : Setting → Last → ℕ → ℤ → List ℕ → List ℤ → List ℤ → Type 0
+GainsByLast s last product utility world before after =
+    AddsGains s (last_nodes last) product utility world before after
+
+abbrev pub MassesByLast : Setting → Last → ℕ → List ℕ → List ℕ → List ℕ → Type 0
+MassesByLast s last product world before after =
+    AddsMasses s (last_nodes last) product world before after
+
+abbrev pub HasRoomForLast : Setting → Last → ℕ → ℤ → List ℤ → List ℕ → Type 0
+HasRoomForLast s last product utility gains masses =
+    HasRoomIn s (last_nodes last) product utility gains masses
+
+-- by the last of them alone, with that utility
+abbrev pub GainsByOne : Setting → Last → ℕ → ℤ → List ℕ → List ℤ → List ℤ → Type 0
+GainsByOne s last product utility world before after =
+    AddsGains s (last_two last) product utility world before after
+
+abbrev pub MassesByOne : Setting → Last → ℕ → List ℕ → List ℕ → List ℕ → Type 0
+MassesByOne s last product world before after =
+    AddsMasses s (last_two last) product world before after
+
+-- by it and the weighing node before it
+abbrev pub GainsByPair : Setting → Last → Before → ℕ → ℤ → List ℕ → List ℤ → List ℤ → Type 0
+GainsByPair s last first product utility world before after =
+    AddsGains s (first.node ∷ last_two last) product utility world before after
+
+abbrev pub MassesByPair : Setting → Last → Before → ℕ → List ℕ → List ℕ → List ℕ → Type 0
+MassesByPair s last first product world before after =
+    AddsMasses s (first.node ∷ last_two last) product world before after
+
+abbrev pub HasRoomForPair : Setting → Last → Before → ℕ → ℤ → List ℤ → List ℕ → Type 0
+HasRoomForPair s last first product utility gains masses =
+    HasRoomIn s (first.node ∷ last_two last) product utility gains masses

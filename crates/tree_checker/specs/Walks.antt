@@ -1,20 +1,26 @@
 -- What a walk down a list of nodes adds up: over all ways to give states to the nodes of the list.
-use Rattle.std.specs.Prelude.{◌≡◌, ◌≢◌, true, ℕ, ◌+◌, ◌*◌, ◌^◌, ◌<◌, ◌≤◌, List, [], ◌∷◌, length, slice_index, slice_index_or, ℤ, pos, ◌+ℤ◌, ◌*ℤ◌, nat_abs, Option, None, Some, ◌==◌, if◌then◌else◌}
+use Rattle.std.specs.Prelude.{◌≡◌, ◌≢◌, true, ℕ, ◌+◌, ◌*◌, ◌^◌, ◌<◌, ◌≤◌, List, [], ◌∷◌, length, slice_index, slice_index_or, slice_set, ℤ, pos, ◌+ℤ◌, ◌*ℤ◌, nat_abs, Option, None, Some, ◌==◌, if◌then◌else◌}
+use Rattle.std.specs.Global.{Vec}
+use Rattle.diagram_graph.specs.Cycles.{lists_in}
+use Rattle.diagram_graph.specs.Room.{cells_at}
 use Rattle.finite_sums.specs.Members.{Among}
 use Rattle.finite_sums.specs.Sums.{World, nat_product_over, nat_sum_over, product_over, sum_each, sum_over, with_state}
-use Rattle.maid_model.specs.declared.diagrams.Kind.TheVariants.{Utility}
+use Rattle.maid_model.specs.declared.diagrams.Kind.TheVariants.{Decision, Utility}
+use Rattle.maid_model.specs.Bounds.{HasRoomForWeight}
 use Rattle.maid_model.specs.Diagrams.{IsDiagram, greatest_number}
-use Rattle.maid_model.specs.Gains.{base_total, greatest_abs, greatest_utility, sum_worlds, table_without, weight_without}
-use Rattle.maid_model.specs.Nodes.{is_utility, node_at, parents_of, rows_of, states_of}
+use Rattle.maid_model.specs.Gains.{base_mass, base_total, greatest_abs, greatest_utility, sum_worlds, table_without, weight_without}
+use Rattle.maid_model.specs.Nodes.{is_utility, is_utility_of, node_at, parents_of, rows_of, states_of}
 use Rattle.maid_model.specs.Private.{MarksUtilities, marked_utility, marked_value}
 use Rattle.maid_model.specs.Profiles.{IsProfile}
 use Rattle.maid_model.specs.Tables.{cell_of, row_from, row_of, table_by, weights_of}
 use Rattle.maid_model.specs.Views.{DiagramView, NodeView, RuleView}
+use Rattle.maid_model.specs.Worlds.{world_of}
 use Rattle.node_sets.specs.declared.sets.NodeSet.{NodeSet}
 use Rattle.node_sets.specs.Sets.{holds}
 use Rattle.tree_checker.specs.declared.settings.Before.{Before}
 use Rattle.tree_checker.specs.declared.settings.Last.{Last}
 use Rattle.tree_checker.specs.declared.settings.Places.{Places}
+use Rattle.tree_checker.specs.declared.walks.CellSums.{CellSums}
 
 -- nodes none of which stands again later, or has a later one as a parent
 abbrev pub IsDownward : List NodeView → List ℕ → Type 0
@@ -46,6 +52,13 @@ pub record HoldsFactors
   pub count : length lists ≡ length nodes
   pub lists_each : (v : ℕ) → v < length nodes → ListsFactors nodes p d v (slice_index_or lists v [])
 
+-- so these lists do
+abbrev pub HasFactors : List NodeView → List RuleView → ℕ → ℕ → Vec ℕ → Type 0
+HasFactors nodes p d v list = ListsFactors nodes p d v list.items
+
+abbrev pub HasAllFactors : List NodeView → List RuleView → ℕ → Vec (Vec ℕ) → Type 0
+HasAllFactors nodes p d all = HoldsFactors nodes p d (lists_in all.items)
+
 -- the cell of the row in v, if v is marked
 abbrev pub value_at : List NodeView → NodeSet → ℕ → ℕ → ℤ
 value_at nodes marks v row =
@@ -69,6 +82,10 @@ weight_with nodes p d vs product w =
 abbrev pub utility_with : List NodeView → NodeSet → List ℕ → ℤ → World → ℤ
 utility_with nodes marks vs utility w = utility +ℤ sum_each (λ v. marked_value nodes marks v w) vs
 
+-- the same in a world of a list of states
+abbrev pub utility_in : List NodeView → NodeSet → List ℕ → ℤ → List ℕ → ℤ
+utility_in nodes marks vs utility world = utility_with nodes marks vs utility (world_of world)
+
 -- the sum of weight times utilities over the states of the listed nodes, in the worlds that pick the cell c of d
 abbrev pub gain_with : List NodeView → List RuleView → ℕ → NodeSet → List ℕ → ℕ → ℤ → ℕ → World → ℤ
 gain_with nodes p d marks vs product utility c w = sum_over (states_of nodes) vs
@@ -90,10 +107,27 @@ world_gain nodes d marks vs product utility c w =
 abbrev pub world_mass : List NodeView → ℕ → ℕ → ℕ → World → ℤ
 world_mass nodes d product c w = if cell_of nodes d w == c then pos product else pos 0
 
+-- the utilities so far and the value in the row
+abbrev pub with_value : ℤ → List ℤ → ℕ → ℤ
+with_value utility values row = utility +ℤ slice_index_or values row (pos 0)
+
+-- the gains, where that cell's is raised by x
+abbrev pub gains_raised : List ℤ → ℕ → ℤ → List ℤ
+gains_raised gains cell x = slice_set gains cell (slice_index_or gains cell (pos 0) +ℤ x)
+
+-- and the masses, by the weight
+abbrev pub masses_raised : List ℕ → ℕ → ℕ → List ℕ
+masses_raised masses cell weight = slice_set masses cell (slice_index masses cell + weight)
+
 -- the gain of that cell rises by x, and no other
 abbrev pub AddsGainAt : ℕ → ℤ → List ℤ → List ℤ → Type 0
 AddsGainAt cell x before after = (c : ℕ) → slice_index_or after c (pos 0)
     ≡ slice_index_or before c (pos 0) +ℤ (if cell == c then x else pos 0)
+
+-- by those utilities at that weight
+abbrev pub AddsWeighedAt : ℕ → ℕ → ℤ → List ℤ → List ℤ → Type 0
+AddsWeighedAt cell weight utility before after =
+    AddsGainAt cell (pos weight *ℤ utility) before after
 
 -- the mass of that cell rises by the weight, and no other
 abbrev pub AddsMassAt : ℕ → ℕ → List ℕ → List ℕ → Type 0
@@ -107,15 +141,32 @@ GainFits gains cell weight utility =
 
 -- each cell's gain rises by what one world adds to it
 abbrev pub AddsWorldGain :
-    List NodeView → ℕ → NodeSet → List ℕ → ℕ → ℤ → World → List ℤ → List ℤ → Type 0
-AddsWorldGain nodes d marks vs product utility w before after = (c : ℕ)
-    → slice_index_or after c (pos 0)
-    ≡ slice_index_or before c (pos 0) +ℤ world_gain nodes d marks vs product utility c w
+    DiagramView → ℕ → NodeSet → List ℕ → ℕ → ℤ → List ℕ → List ℤ → List ℤ → Type 0
+AddsWorldGain d left_out marks vs product utility world before after = (c : ℕ)
+    → slice_index_or after c (pos 0) ≡ slice_index_or before c (pos 0)
+    +ℤ world_gain d.nodes left_out marks vs product utility c (world_of world)
 
 -- and each cell's mass
-abbrev pub AddsWorldMass : List NodeView → ℕ → ℕ → World → List ℕ → List ℕ → Type 0
-AddsWorldMass nodes d product w before after = (c : ℕ) → pos (slice_index after c)
-    ≡ pos (slice_index before c) +ℤ world_mass nodes d product c w
+abbrev pub AddsWorldMass : DiagramView → ℕ → ℕ → List ℕ → List ℕ → List ℕ → Type 0
+AddsWorldMass d left_out product world before after = (c : ℕ) → pos (slice_index after c)
+    ≡ pos (slice_index before c) +ℤ world_mass d.nodes left_out product c (world_of world)
+
+-- the marked nodes are the agent's utilities
+abbrev pub MarksUtilitiesOf : List NodeView → ℕ → NodeSet → Type 0
+MarksUtilitiesOf nodes agent marks =
+    (v : ℕ) → v < length nodes → holds marks v ≡ is_utility_of nodes agent v
+
+-- it is so where v is a decision
+abbrev pub WhereDecision : List NodeView → ℕ → Type 0 → Type 0
+WhereDecision nodes v So = (node_at nodes v).kind ≡ Decision → So
+
+-- where v is a decision, the list has a weight for each of its cells
+abbrev pub HasCellsWhereDecision : List NodeView → ℕ → List ℕ → Type 0
+HasCellsWhereDecision nodes v weights = WhereDecision nodes v (length weights ≡ cells_at nodes v)
+
+-- each place of the list has a node of the diagram
+abbrev pub AreNodes : List NodeView → List ℕ → Type 0
+AreNodes nodes vs = (k : ℕ) → k < length vs → slice_index_or vs k 0 < length nodes
 
 -- each of the nodes is a utility
 abbrev pub AreUtilities : List NodeView → List ℕ → Type 0
@@ -209,10 +260,23 @@ pub record ListsCells
   pub gain_small : (c : ℕ) → nat_abs (slice_index_or gains c (pos 0)) ≤ greatest_number
   pub mass_small : (c : ℕ) → slice_index masses c * 10 ^ d.decimals ≤ greatest_number
 
+-- so the two lists do
+abbrev pub HoldsCells : DiagramView → List RuleView → ℕ → NodeSet → CellSums → Type 0
+HoldsCells d p v marks sums = ListsCells d p v marks sums.gains.items sums.masses.items
+
 -- the greatest absolute value of a utility, and 0 elsewhere
 abbrev pub greatest_at : List NodeView → ℕ → ℕ
 greatest_at nodes v =
     if is_utility (node_at nodes v).kind then greatest_abs (node_at nodes v).cells else 0
+
+-- the utilities so far and the greatest of the listed nodes come to a number
+abbrev pub HasRoomForUtilities : List NodeView → List ℕ → ℤ → Type 0
+HasRoomForUtilities nodes vs utility =
+    nat_abs utility + nat_sum_over (greatest_at nodes) vs ≤ greatest_number
+
+-- the weight of all worlds has room, without the rule of the decision v
+abbrev pub HasRoomWithout : DiagramView → List RuleView → ℕ → Type 0
+HasRoomWithout d p v = HasRoomForWeight d (base_mass d.nodes p v)
 
 -- the product so far times the totals of the listed nodes
 abbrev pub mass_left : List NodeView → List RuleView → ℕ → List ℕ → ℕ → ℕ

@@ -5,6 +5,7 @@ ghost use Rattle.maid_model.specs.Answers.{IsBase};
 ghost use Rattle.maid_model.specs.Nodes.{IsDecision};
 ghost use Rattle.maid_model.specs.Profiles.{IsProfile};
 ghost use Rattle.relevance_graph.specs.Relevant.{IsRelevance};
+ghost use Rattle.tree_checker.specs.Judged.{rule_as};
 
 use maid_model::{Diagram, Profile, Rule, profile_has_rules};
 use relevance_graph::Relevance;
@@ -12,8 +13,7 @@ use std::alloc::{AllocError, Global};
 
 /// A copy of the rule, as that of a decision with this number.
 pub(crate) fn copy_rule(alloc: Global, rule: &Rule, decision: usize) -> Result<Rule, AllocError>
-    ensures { IfOk result (λ r.
-        r ≡ record { decision = decision; total = rule.now.total; weights = rule.now.weights }) }
+    ensures { IfOk result (λ r. r ≡ rule_as rule.now decision) }
 {
     Ok(Rule {
         decision,

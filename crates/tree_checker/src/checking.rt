@@ -1,13 +1,13 @@
 //! The check of a finished report.
 
-ghost use Rattle.std.specs.Prelude.{◌≡◌, ◌≤◌, IfOk};
+ghost use Rattle.std.specs.Prelude.{◌≤◌, IfOk};
 ghost use Rattle.maid_model.specs.declared.limits.TheConstants.{MOST_LEAVES};
 ghost use Rattle.maid_model.specs.Accepted.{IsReliedFirst};
 ghost use Rattle.maid_model.specs.Answers.{FitsDiagram};
 ghost use Rattle.maid_model.specs.Bounds.{world_count};
 ghost use Rattle.maid_model.specs.Scopes.{KeepsScopedBounds};
 ghost use Rattle.relevance_graph.specs.Relevant.{IsRelevance};
-ghost use Rattle.tree_checker.specs.Sound.{IsSound};
+ghost use Rattle.tree_checker.specs.Sound.{IsSoundIfAccepted};
 ghost use Rattle.tree_checker.specs.Verdicts.{IsVerdict};
 
 use crate::gains::first_wrong_gain;
@@ -76,8 +76,7 @@ pub fn check(alloc: Global, diagram: &Diagram, solved: &Solved) -> Result<Verdic
     requires leaves { world_count diagram.now.nodes ≤ MOST_LEAVES }
     ensures verdict { IfOk result (IsVerdict diagram.now solved.now) }
     // Whatever is accepted is subgame-perfect.
-    ensures sound { IfOk result (λ verdict.
-        verdict ≡ Verdict.Accepted → IsSound diagram.now solved.now) }
+    ensures sound { IfOk result (IsSoundIfAccepted diagram.now solved.now) }
 {
     accepted_reports_are_sound();
     let _count = diagram.count();

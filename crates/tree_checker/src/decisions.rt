@@ -1,13 +1,13 @@
 //! The gains and masses of a decision, listed.
 
 ghost use Rattle.std.specs.Prelude.{◌≡◌, ◌∷◌, ◌*◌, ◌<◌, length, IfOk};
-ghost use Rattle.maid_model.specs.Gains.{base_mass};
-ghost use Rattle.maid_model.specs.Nodes.{IsDecision, rows_of, states_of};
+ghost use Rattle.maid_model.specs.Nodes.{IsDecision};
 ghost use Rattle.maid_model.specs.Profiles.{IsProfile};
 ghost use Rattle.maid_model.specs.Scopes.{KeepsScopedBounds, goals_of};
 ghost use Rattle.part_laws.specs.ScopeLaws.{HasSmallRules};
-ghost use Rattle.tree_checker.specs.Judged.{ListsScopeSums, ListsSums, AreFirstCells};
-ghost use Rattle.maid_model.specs.Bounds.{HasRoomForWeight};
+ghost use Rattle.tree_checker.specs.Judged.{HoldsScopeSums, HoldsSums, HasFirstCells, HasMassEachRow};
+ghost use Rattle.diagram_graph.specs.Room.{cells_at};
+ghost use Rattle.tree_checker.specs.Walks.{HasRoomWithout};
 
 use crate::parts::{place_of, stage_of};
 use crate::walks::cells_over;
@@ -51,11 +51,9 @@ fn row_masses(
 ) -> Result<Vec<u128>, AllocError>
     requires decision { decision < length diagram.now.nodes }
     requires cells { length cells.now
-        ≡ rows_of diagram.now.nodes decision * states_of diagram.now.nodes decision }
-    ensures count { IfOk result (λ masses.
-        length masses.items ≡ rows_of diagram.now.nodes decision) }
-    ensures masses { IfOk result (λ masses.
-        AreFirstCells diagram.now.nodes decision cells.now masses.items) }
+        ≡ cells_at diagram.now.nodes decision }
+    ensures count { IfOk result (HasMassEachRow diagram.now.nodes decision) }
+    ensures masses { IfOk result (HasFirstCells diagram.now.nodes decision cells.now) }
 {
     let states = diagram.states(decision);
     let mut masses = Vec::new(alloc);
@@ -74,10 +72,8 @@ fn sums_over(
 ) -> Result<RowSums, AllocError>
     requires decision { IsDecision diagram.now.nodes decision }
     requires profile { IsProfile diagram.now.nodes profile.now }
-    requires fits { HasRoomForWeight diagram.now
-        (base_mass diagram.now.nodes profile.now decision) }
-    ensures { IfOk result (λ sums.
-        ListsSums diagram.now profile.now decision sums.gains.items sums.masses.items) }
+    requires fits { HasRoomWithout diagram.now profile.now decision }
+    ensures { IfOk result (HoldsSums diagram.now profile.now decision) }
 {
     let _count = diagram.count();
     let goals = goals_of(diagram, decision);
@@ -100,8 +96,7 @@ pub(crate) fn scope_sums(
     requires base { IsProfile diagram.now.nodes base.now }
     requires rules { HasSmallRules diagram.now.nodes base.now decision }
     requires bound { KeepsScopedBounds diagram.now }
-    ensures { IfOk result (λ sums.
-        ListsScopeSums diagram.now base.now decision sums.gains.items sums.masses.items) }
+    ensures { IfOk result (HoldsScopeSums diagram.now base.now decision) }
 {
     // The part is a diagram with the decision in it, and its sums have room.
     parts_are_diagrams();

@@ -1,13 +1,13 @@
 //! What one world adds to a sum over worlds.
 
-ghost use Rattle.std.specs.Prelude.{◌≡◌, ◌+◌, ◌*◌, ◌<◌, ◌≤◌, length, pos, ◌+ℤ◌, ◌*ℤ◌, nat_abs, slice_index, slice_index_or, slice_set};
+ghost use Rattle.std.specs.Prelude.{◌≡◌, ◌+◌, ◌*◌, ◌<◌, ◌≤◌, length, pos, ◌*ℤ◌, slice_index, slice_set};
 ghost use Rattle.maid_model.specs.Diagrams.{IsDiagram, greatest_number};
-ghost use Rattle.maid_model.specs.Nodes.{counts_of, rows_of, states_of};
+ghost use Rattle.maid_model.specs.Nodes.{counts_of, rows_of};
 ghost use Rattle.maid_model.specs.Private.{MarksUtilities};
 ghost use Rattle.maid_model.specs.Tables.{cell_of};
 ghost use Rattle.maid_model.specs.Worlds.{IsWorld, world_of};
-ghost use Rattle.finite_sums.specs.Sums.{nat_sum_over};
-ghost use Rattle.tree_checker.specs.Walks.{HasRoomAt, IsDownward, greatest_at, utility_with, value_at, AddsWorldGain, AddsWorldMass, GainFits};
+ghost use Rattle.tree_checker.specs.Walks.{HasRoomAt, IsDownward, value_at, AddsWorldGain, AddsWorldMass, GainFits, gains_raised, masses_raised, HasRoomForUtilities, utility_in};
+ghost use Rattle.diagram_graph.specs.Room.{cells_at};
 
 use maid_model::{Diagram, World};
 use node_sets::NodeSet;
@@ -40,7 +40,7 @@ pub(crate) fn place(diagram: &Diagram, left_out: usize, world: &World) -> usize
     requires world { IsWorld (counts_of diagram.now.nodes) world.now }
     ensures place { result ≡ cell_of diagram.now.nodes left_out (world_of world.now) }
     ensures within { result
-        < rows_of diagram.now.nodes left_out * states_of diagram.now.nodes left_out }
+        < cells_at diagram.now.nodes left_out }
 {
     if left_out == diagram.count() {
         return 0;
@@ -60,10 +60,8 @@ fn utility_in(
     requires marks { MarksUtilities diagram.now.nodes marks.now }
     requires list { IsDownward diagram.now.nodes list.now }
     requires world { IsWorld (counts_of diagram.now.nodes) world.now }
-    requires room { nat_abs utility + nat_sum_over (greatest_at diagram.now.nodes) list.now
-        ≤ greatest_number }
-    ensures { result
-        ≡ utility_with diagram.now.nodes marks.now list.now utility (world_of world.now) }
+    requires room { HasRoomForUtilities diagram.now.nodes list.now utility }
+    ensures { result ≡ utility_in diagram.now.nodes marks.now list.now utility world.now }
 {
     match list {
         [] => utility,
@@ -86,10 +84,8 @@ pub(crate) fn add_to_cell(
     requires masses { cell < length masses.old }
     requires gain { GainFits gains.old cell product utility }
     requires mass { slice_index masses.old cell + product ≤ greatest_number }
-    ensures gains { gains.new ≡ slice_set gains.old cell (slice_index_or gains.old cell (pos 0) +ℤ
-        (pos product *ℤ utility)) }
-    ensures masses { masses.new
-        ≡ slice_set masses.old cell (slice_index masses.old cell + product) }
+    ensures gains { gains.new ≡ gains_raised gains.old cell (pos product *ℤ utility) }
+    ensures masses { masses.new ≡ masses_raised masses.old cell product }
 {
     gains[cell] += product as i128 * utility;
     masses[cell] += product;
@@ -113,14 +109,13 @@ pub(crate) fn add_world(
     requires tail { IsDownward diagram.now.nodes tail.now }
     requires world { IsWorld (counts_of diagram.now.nodes) world.now }
     requires gains { length gains.old
-        ≡ rows_of diagram.now.nodes left_out * states_of diagram.now.nodes left_out }
+        ≡ cells_at diagram.now.nodes left_out }
     requires masses { length masses.old
-        ≡ rows_of diagram.now.nodes left_out * states_of diagram.now.nodes left_out }
+        ≡ cells_at diagram.now.nodes left_out }
     requires room { HasRoomAt diagram.now.nodes tail.now product utility gains.old masses.old }
-    ensures gains { AddsWorldGain diagram.now.nodes left_out marks.now tail.now product utility
-        (world_of world.now) gains.old gains.new }
-    ensures masses { AddsWorldMass diagram.now.nodes left_out product (world_of world.now)
-        masses.old masses.new }
+    ensures gains { AddsWorldGain diagram.now left_out marks.now tail.now product utility world.now
+        gains.old gains.new }
+    ensures masses { AddsWorldMass diagram.now left_out product world.now masses.old masses.new }
     ensures gain_count { length gains.new ≡ length gains.old }
     ensures mass_count { length masses.new ≡ length masses.old }
 {

@@ -3,10 +3,9 @@
 ghost use Rattle.std.specs.Prelude.{◌≡◌, ◌*◌, ◌<◌, [], IfOk, length, pos, slice_index, slice_index_or};
 ghost use Rattle.diagram_graph.specs.Cycles.{lists_in};
 ghost use Rattle.maid_model.specs.declared.diagrams.Kind.TheVariants.{Decision};
-ghost use Rattle.maid_model.specs.Nodes.{node_at, rows_of, states_of};
 ghost use Rattle.maid_model.specs.Profiles.{IsProfile};
 ghost use Rattle.maid_model.specs.Tables.{weights_of};
-ghost use Rattle.tree_checker.specs.Walks.{HoldsFactors, ListsFactors, factor_by};
+ghost use Rattle.tree_checker.specs.Walks.{WhereDecision, factor_by, HasAllFactors, HasCellsWhereDecision, HasFactors};
 ghost use Rattle.diagram_graph.specs.Room.{cells_at};
 
 use maid_model::{Diagram, Kind, Profile, profile_has_rules};
@@ -16,10 +15,8 @@ use std::alloc::{AllocError, Global};
 fn weights_at<'a>(diagram: &Diagram, profile: &'a Profile, v: usize) -> &'a [u128]
     requires node { v < length diagram.now.nodes }
     requires profile { IsProfile diagram.now.nodes profile.now }
-    ensures weights { (node_at diagram.now.nodes v).kind ≡ Decision
-        → result.now ≡ weights_of profile.now v }
-    ensures count { (node_at diagram.now.nodes v).kind ≡ Decision
-        → length result.now ≡ cells_at diagram.now.nodes v }
+    ensures weights { WhereDecision diagram.now.nodes v (result.now ≡ weights_of profile.now v) }
+    ensures count { HasCellsWhereDecision diagram.now.nodes v result.now }
 {
     // A profile has a rule for each decision.
     profile_has_rules();
@@ -33,9 +30,8 @@ fn weights_at<'a>(diagram: &Diagram, profile: &'a Profile, v: usize) -> &'a [u12
 /// utility and at the decision that is left out.
 fn factor_of(diagram: &Diagram, weights: &[u128], left_out: usize, v: usize, cell: usize) -> u128
     requires node { v < length diagram.now.nodes }
-    requires cell { cell < rows_of diagram.now.nodes v * states_of diagram.now.nodes v }
-    requires weights { (node_at diagram.now.nodes v).kind ≡ Decision
-        → length weights.now ≡ cells_at diagram.now.nodes v }
+    requires cell { cell < cells_at diagram.now.nodes v }
+    requires weights { HasCellsWhereDecision diagram.now.nodes v weights.now }
     ensures { pos result ≡ factor_by diagram.now.nodes weights.now left_out v cell }
 {
     let kind = diagram.kind(v);
@@ -59,8 +55,7 @@ fn factors_of(
 ) -> Result<Vec<u128>, AllocError>
     requires node { v < length diagram.now.nodes }
     requires profile { IsProfile diagram.now.nodes profile.now }
-    ensures { IfOk result (λ list.
-        ListsFactors diagram.now.nodes profile.now left_out v list.items) }
+    ensures { IfOk result (HasFactors diagram.now.nodes profile.now left_out v) }
 {
     let weights = weights_at(diagram, profile, v);
     let cells = diagram.rows(v) * diagram.states(v);
@@ -79,8 +74,7 @@ pub(crate) fn all_factors(
     left_out: usize,
 ) -> Result<Vec<Vec<u128>>, AllocError>
     requires { IsProfile diagram.now.nodes profile.now }
-    ensures { IfOk result (λ all.
-        HoldsFactors diagram.now.nodes profile.now left_out (lists_in all.items)) }
+    ensures { IfOk result (HasAllFactors diagram.now.nodes profile.now left_out) }
 {
     let mut all = Vec::with_capacity(alloc, diagram.count())?;
     for v in 0..diagram.count() {

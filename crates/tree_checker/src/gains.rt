@@ -1,6 +1,6 @@
 //! What a report prints for each agent.
 
-ghost use Rattle.std.specs.Prelude.{◌≡◌, ◌<◌, ◌≤◌, ◌↔◌, ℕ, All, IfOk, IsTrue, length, nat_abs};
+ghost use Rattle.std.specs.Prelude.{◌≡◌, ◌<◌, ◌≤◌, ◌↔◌, All, IfOk, IsTrue, length, nat_abs};
 ghost use Rattle.maid_model.specs.Answers.{IsReduced};
 ghost use Rattle.maid_model.specs.Diagrams.{greatest_number};
 ghost use Rattle.maid_model.specs.Gains.{gain_of, mass};
@@ -10,9 +10,9 @@ ghost use Rattle.maid_model.specs.Profiles.{IsProfile};
 ghost use Rattle.maid_model.specs.Scopes.{KeepsScopedBounds, utilities_for};
 ghost use Rattle.maid_model.specs.Tables.{weight_total};
 ghost use Rattle.part_laws.specs.ScopeLaws.{HasUnitRules};
-ghost use Rattle.node_sets.specs.Sets.{holds};
 ghost use Rattle.tree_checker.specs.Judged.{JudgesGains, AreWorth};
 ghost use Rattle.maid_model.specs.Bounds.{HasRoomForWeight};
+ghost use Rattle.tree_checker.specs.Walks.{MarksUtilitiesOf};
 
 use crate::parts::stage_of;
 use crate::rows::{is_fraction, scale_of};
@@ -80,8 +80,7 @@ pub fn mass_of(diagram: &Diagram, profile: &Profile) -> u128
 /// The set of the agent's utilities.
 fn marks_of(diagram: &Diagram, agent: usize) -> NodeSet
     ensures utilities { MarksUtilities diagram.now.nodes result }
-    ensures marks { (v : ℕ) → v < length diagram.now.nodes
-        → holds result v ≡ is_utility_of diagram.now.nodes agent v }
+    ensures marks { MarksUtilitiesOf diagram.now.nodes agent result }
 {
     let mut marks = NodeSet::empty();
     for v in 0..diagram.count() {

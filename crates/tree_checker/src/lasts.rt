@@ -1,12 +1,12 @@
 //! What the last nodes of a walk add.
 
-ghost use Rattle.std.specs.Prelude.{◌≡◌, ℕ, ◌+◌, ◌*◌, ◌<◌, ◌≤◌, ◌++◌, [], ◌∷◌, length, nat_abs, pos, ◌+ℤ◌, ◌*ℤ◌, slice_index, slice_index_or};
+ghost use Rattle.std.specs.Prelude.{◌≡◌, ◌+◌, ◌*◌, ◌<◌, ◌≤◌, ◌++◌, [], ◌∷◌, length, nat_abs, ◌*ℤ◌, slice_index};
 ghost use Rattle.maid_model.specs.Nodes.{counts_of};
 ghost use Rattle.maid_model.specs.Diagrams.{greatest_number};
 ghost use Rattle.maid_model.specs.Private.{MarksUtilities};
 ghost use Rattle.maid_model.specs.Worlds.{IsWorld, world_of};
-ghost use Rattle.tree_checker.specs.Settings.{AddsGains, AddsMasses, HasRoomIn, HoldsSetting, IsCellCount, ArePlacesIn, HasEnding, IsBeforeIn, IsDownwardIn, IsLastIn, ending_of};
-ghost use Rattle.tree_checker.specs.Walks.{AreUtilities, IsDownward, IsEnding, MayBeBefore, ending, with_before, AddsGainAt, AddsMassAt, GainFits, last_nodes, last_two, places_further};
+ghost use Rattle.tree_checker.specs.Settings.{HasRoomIn, HoldsSetting, IsCellCount, ArePlacesIn, HasEnding, IsBeforeIn, IsDownwardIn, IsLastIn, ending_of, GainsByEnding, GainsByLast, GainsByOne, GainsByPair, HasRoomForLast, HasRoomForPair, HasRoomToEnd, MassesByEnding, MassesByLast, MassesByOne, MassesByPair};
+ghost use Rattle.tree_checker.specs.Walks.{AreNodes, AreUtilities, IsDownward, IsEnding, MayBeBefore, ending, with_before, with_value, AddsMassAt, GainFits, last_nodes, last_two, places_further, AddsWeighedAt};
 
 use crate::endings::{add_to_cell, add_world, place, set_state};
 use crate::factors::factor;
@@ -60,11 +60,10 @@ fn add_picked(
     requires row { row < length values.now }
     requires gains { cell < length gains.old }
     requires masses { cell < length masses.old }
-    requires sum { nat_abs (sum +ℤ slice_index_or values.now row (pos 0)) ≤ greatest_number }
-    requires gain { GainFits gains.old cell product (sum +ℤ slice_index_or values.now row (pos 0)) }
+    requires sum { nat_abs (with_value sum values.now row) ≤ greatest_number }
+    requires gain { GainFits gains.old cell product (with_value sum values.now row) }
     requires mass { slice_index masses.old cell + product ≤ greatest_number }
-    ensures gains { AddsGainAt cell (pos product *ℤ (sum +ℤ slice_index_or values.now row (pos 0)))
-        gains.old gains.new }
+    ensures gains { AddsWeighedAt cell product (with_value sum values.now row) gains.old gains.new }
     ensures masses { AddsMassAt cell product masses.old masses.new }
     ensures gain_count { length gains.new ≡ length gains.old }
     ensures mass_count { length masses.new ≡ length masses.old }
@@ -93,10 +92,8 @@ fn add_states(
     requires gains { IsCellCount setting.now (length gains.old) }
     requires masses { IsCellCount setting.now (length masses.old) }
     requires room { HasRoomIn setting.now (last_two last.now) product utility gains.old masses.old }
-    ensures gains { AddsGains setting.now (last_two last.now) product utility (world_of world.now)
-        gains.old gains.new }
-    ensures masses { AddsMasses setting.now (last_two last.now) product (world_of world.now)
-        masses.old masses.new }
+    ensures gains { GainsByOne setting.now last.now product utility world.now gains.old gains.new }
+    ensures masses { MassesByOne setting.now last.now product world.now masses.old masses.new }
     ensures gain_count { length gains.new ≡ length gains.old }
     ensures mass_count { length masses.new ≡ length masses.old }
 {
@@ -137,13 +134,13 @@ fn add_pairs(
     requires world { IsWorld (counts_of setting.now.diagram.now.nodes) world.old }
     requires gains { IsCellCount setting.now (length gains.old) }
     requires masses { IsCellCount setting.now (length masses.old) }
-    requires room { HasRoomIn setting.now (before.now.node ∷ last_two last.now) product utility
-        gains.old masses.old }
+    requires room { HasRoomForPair setting.now last.now before.now product utility gains.old
+        masses.old }
     ensures again { world.new ≡ world.old }
-    ensures gains { AddsGains setting.now (before.now.node ∷ last_two last.now) product utility
-        (world_of world.old) gains.old gains.new }
-    ensures masses { AddsMasses setting.now (before.now.node ∷ last_two last.now) product
-        (world_of world.old) masses.old masses.new }
+    ensures gains { GainsByPair setting.now last.now before.now product utility world.old gains.old
+        gains.new }
+    ensures masses { MassesByPair setting.now last.now before.now product world.old masses.old
+        masses.new }
     ensures gain_count { length gains.new ≡ length gains.old }
     ensures mass_count { length masses.new ≡ length masses.old }
 {
@@ -181,13 +178,10 @@ fn add_last(
     requires world { IsWorld (counts_of setting.now.diagram.now.nodes) world.old }
     requires gains { IsCellCount setting.now (length gains.old) }
     requires masses { IsCellCount setting.now (length masses.old) }
-    requires room { HasRoomIn setting.now (last_nodes last.now) product utility gains.old
-        masses.old }
+    requires room { HasRoomForLast setting.now last.now product utility gains.old masses.old }
     ensures again { world.new ≡ world.old }
-    ensures gains { AddsGains setting.now (last_nodes last.now) product utility (world_of world.old)
-        gains.old gains.new }
-    ensures masses { AddsMasses setting.now (last_nodes last.now) product (world_of world.old)
-        masses.old masses.new }
+    ensures gains { GainsByLast setting.now last.now product utility world.old gains.old gains.new }
+    ensures masses { MassesByLast setting.now last.now product world.old masses.old masses.new }
     ensures gain_count { length gains.new ≡ length gains.old }
     ensures mass_count { length masses.new ≡ length masses.old }
 {
@@ -219,13 +213,10 @@ pub(crate) fn add_ending(
     requires world { IsWorld (counts_of setting.now.diagram.now.nodes) world.old }
     requires gains { IsCellCount setting.now (length gains.old) }
     requires masses { IsCellCount setting.now (length masses.old) }
-    requires room { HasRoomIn setting.now (ending_of setting.now) product utility gains.old
-        masses.old }
+    requires room { HasRoomToEnd setting.now product utility gains.old masses.old }
     ensures again { world.new ≡ world.old }
-    ensures gains { AddsGains setting.now (ending_of setting.now) product utility
-        (world_of world.old) gains.old gains.new }
-    ensures masses { AddsMasses setting.now (ending_of setting.now) product (world_of world.old)
-        masses.old masses.new }
+    ensures gains { GainsByEnding setting.now product utility world.old gains.old gains.new }
+    ensures masses { MassesByEnding setting.now product world.old masses.old masses.new }
     ensures gain_count { length gains.new ≡ length gains.old }
     ensures mass_count { length masses.new ≡ length masses.old }
 {
@@ -256,8 +247,7 @@ fn split_before<'a>(
     requires decision { left_out ≤ length diagram.now.nodes }
     requires last { last < length diagram.now.nodes }
     requires utility { utility < length diagram.now.nodes }
-    requires order { (k : ℕ) → k < length order.now
-        → slice_index_or order.now k 0 < length diagram.now.nodes }
+    requires order { AreNodes diagram.now.nodes order.now }
     ensures whole { result.0.now ++ with_before result.1 [] ≡ order.now }
     ensures before { MayBeBefore diagram.now.nodes left_out last utility result.1 }
 {

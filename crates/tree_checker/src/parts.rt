@@ -1,9 +1,9 @@
 //! A part of a diagram with a profile's rules in it.
 
 ghost use Rattle.std.specs.Prelude.{◌≡◌, ℕ, ◌<◌, length, Contains, IfOk};
-ghost use Rattle.maid_model.specs.Parts.{IsAncestral, place_in, part_diagram, rules_in, with_ancestors};
+ghost use Rattle.maid_model.specs.Parts.{IsAncestral, place_in, rules_in};
 ghost use Rattle.maid_model.specs.Profiles.{IsProfile};
-ghost use Rattle.tree_checker.specs.Judged.{rules_above};
+ghost use Rattle.tree_checker.specs.Judged.{part_above, HasNodesAbove, HasRulesAbove};
 
 use crate::bases::copy_rule;
 use diagram_graph::{SubDiagram, part};
@@ -49,12 +49,10 @@ pub(crate) fn stage_of(
 ) -> Result<Stage, AllocError>
     requires of { (v : ℕ) → Contains of.now v → v < length diagram.now.nodes }
     requires profile { IsProfile diagram.now.nodes profile.now }
-    ensures nodes { IfOk result (λ stage.
-        stage.part.nodes.items ≡ with_ancestors diagram.now.nodes of.now) }
+    ensures nodes { IfOk result (HasNodesAbove diagram.now.nodes of.now) }
     ensures diagram { IfOk result (λ stage.
-        stage.part.diagram ≡ part_diagram diagram.now (with_ancestors diagram.now.nodes of.now)) }
-    ensures rules { IfOk result (λ stage.
-        stage.rules ≡ rules_above diagram.now.nodes profile.now of.now) }
+        stage.part.diagram ≡ part_above diagram.now of.now) }
+    ensures rules { IfOk result (HasRulesAbove diagram.now.nodes profile.now of.now) }
 {
     // Nodes and all their ancestors have with each node its parents.
     parts_are_diagrams();

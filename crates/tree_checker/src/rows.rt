@@ -8,7 +8,7 @@ ghost use Rattle.maid_model.specs.Profiles.{IsProfile};
 ghost use Rattle.maid_model.specs.Scopes.{KeepsScopedBounds};
 ghost use Rattle.part_laws.specs.ScopeLaws.{HasUnitRules};
 ghost use Rattle.relevance_graph.specs.Relevant.{IsRelevance};
-ghost use Rattle.tree_checker.specs.Judged.{JudgesAnswer, JudgesRow, JudgesListed, gain_in};
+ghost use Rattle.tree_checker.specs.Judged.{JudgesAnswer, JudgesRow, JudgesListed, ListsRow, listed_gain, AreSmallGains};
 ghost use Rattle.tree_checker.specs.Verdicts.{HasBetter};
 
 use crate::bases::base_of;
@@ -51,8 +51,7 @@ pub(crate) fn is_fraction(ratio: Ratio, num: i128, den: u128) -> bool
 /// Whether some state has a greater gain than the choice.
 fn has_better(gains: &[i128], choice: usize) -> bool
     requires { choice < length gains.now }
-    ensures { IsTrue result
-        ↔ HasBetter (λ s. slice_index_or gains.now s (pos 0)) (length gains.now) choice }
+    ensures { IsTrue result ↔ HasBetter (listed_gain gains.now) (length gains.now) choice }
 {
     let chosen = gains[choice];
     for gain in gains {
@@ -70,8 +69,7 @@ fn row_fault(row: &Row, gains: &[i128], mass: u128, scale: u128) -> Option<Cause
     requires scale { 0 < scale }
     requires room { mass * scale ≤ greatest_number }
     requires small { All (λ gain. nat_abs gain ≤ greatest_number) gains.now }
-    ensures { JudgesRow (λ s. slice_index_or gains.now s (pos 0)) (length gains.now) (pos mass)
-        scale row.now result }
+    ensures { JudgesRow (listed_gain gains.now) (length gains.now) (pos mass) scale row.now result }
 {
     let Some(worth) = row.worth else {
         return if mass == 0 { None } else { Some(Cause::Never) };
@@ -93,8 +91,7 @@ fn row_gains(gains: &[i128], rows: usize, states: usize, row: usize) -> &[i128]
     requires row { row < rows }
     requires small { (i : ℕ) → nat_abs (slice_index_or gains.now i (pos 0)) ≤ greatest_number }
     ensures count { length result.now ≡ states }
-    ensures gains { (s : ℕ) → s < states
-        → slice_index_or result.now s (pos 0) ≡ gain_in gains.now states row s }
+    ensures gains { ListsRow gains.now states row result.now }
     ensures small { All (λ gain. nat_abs gain ≤ greatest_number) result.now }
 {
     let start = row * states;
@@ -109,8 +106,7 @@ fn first_fault(rows: &[Row], sums: &RowSums, states: usize, scale: u128) -> Opti
     requires reduced { All (λ row. IfSome row.worth IsReduced) rows.now }
     requires scale { 0 < scale }
     requires room { (row : ℕ) → slice_index sums.now.masses.items row * scale ≤ greatest_number }
-    requires small { (i : ℕ) → nat_abs (slice_index_or sums.now.gains.items i (pos 0))
-        ≤ greatest_number }
+    requires small { AreSmallGains sums.now.gains.items }
     ensures { JudgesListed sums.now.gains.items sums.now.masses.items states scale rows.now result }
 {
     for (place, row) in rows.iter().enumerate() {

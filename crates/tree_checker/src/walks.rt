@@ -2,14 +2,13 @@
 
 ghost use Rattle.std.specs.Prelude.{◌≡◌, ◌*◌, ◌<◌, ◌≤◌, ◌++◌, drop, IfOk, length};
 ghost use Rattle.maid_model.specs.Diagrams.{IsDiagram};
-ghost use Rattle.maid_model.specs.Gains.{base_mass};
-ghost use Rattle.maid_model.specs.Nodes.{counts_of, rows_of, states_of};
+ghost use Rattle.maid_model.specs.Nodes.{counts_of};
 ghost use Rattle.maid_model.specs.Private.{MarksUtilities};
 ghost use Rattle.maid_model.specs.Profiles.{IsProfile};
-ghost use Rattle.maid_model.specs.Worlds.{IsWorld, world_of};
-ghost use Rattle.tree_checker.specs.Settings.{AddsGains, AddsMasses, HasRoomIn, HoldsSetting, IsCellCount, HasEnding, IsDownwardIn, ending_of};
-ghost use Rattle.tree_checker.specs.Walks.{AreUtilities, IsDownward, ListsCells, ending};
-ghost use Rattle.maid_model.specs.Bounds.{HasRoomForWeight};
+ghost use Rattle.maid_model.specs.Worlds.{IsWorld};
+ghost use Rattle.tree_checker.specs.Settings.{HoldsSetting, IsCellCount, HasEnding, IsDownwardIn, GainsDown, HasRoomDown, MassesDown, walked};
+ghost use Rattle.tree_checker.specs.Walks.{AreUtilities, IsDownward, HoldsCells, HasRoomWithout};
+ghost use Rattle.diagram_graph.specs.Room.{cells_at};
 
 use crate::endings::{set_state, value};
 use crate::factors::{all_factors, factor};
@@ -35,17 +34,14 @@ fn walk(
 )
     requires setting { HoldsSetting setting.now }
     requires ending { HasEnding setting.now }
-    requires order { IsDownwardIn setting.now (order.now ++ ending_of setting.now) }
+    requires order { IsDownwardIn setting.now (walked setting.now order.now) }
     requires world { IsWorld (counts_of setting.now.diagram.now.nodes) world.old }
     requires gains { IsCellCount setting.now (length gains.old) }
     requires masses { IsCellCount setting.now (length masses.old) }
-    requires room { HasRoomIn setting.now (order.now ++ ending_of setting.now) product utility
-        gains.old masses.old }
+    requires room { HasRoomDown setting.now order.now product utility gains.old masses.old }
     ensures again { world.new ≡ world.old }
-    ensures gains { AddsGains setting.now (order.now ++ ending_of setting.now) product utility
-        (world_of world.old) gains.old gains.new }
-    ensures masses { AddsMasses setting.now (order.now ++ ending_of setting.now) product
-        (world_of world.old) masses.old masses.new }
+    ensures gains { GainsDown setting.now order.now product utility world.old gains.old gains.new }
+    ensures masses { MassesDown setting.now order.now product world.old masses.old masses.new }
     ensures gain_count { length gains.new ≡ length gains.old }
     ensures mass_count { length masses.new ≡ length masses.old }
 {
@@ -87,7 +83,7 @@ pub(crate) struct CellSums {
 fn cell_count(diagram: &Diagram, left_out: usize) -> usize
     requires { left_out ≤ length diagram.now.nodes }
     ensures cells { result
-        ≡ rows_of diagram.now.nodes left_out * states_of diagram.now.nodes left_out }
+        ≡ cells_at diagram.now.nodes left_out }
     ensures diagram { IsDiagram diagram.now }
 {
     if left_out == diagram.count() {
@@ -125,10 +121,8 @@ pub(crate) fn cells_over(
     requires profile { IsProfile diagram.now.nodes profile.now }
     requires marks { MarksUtilities diagram.now.nodes marks.now }
     requires decision { left_out ≤ length diagram.now.nodes }
-    requires fits { HasRoomForWeight diagram.now
-        (base_mass diagram.now.nodes profile.now left_out) }
-    ensures { IfOk result (λ sums.
-        ListsCells diagram.now profile.now left_out marks.now sums.gains.items sums.masses.items) }
+    requires fits { HasRoomWithout diagram.now profile.now left_out }
+    ensures { IfOk result (HoldsCells diagram.now profile.now left_out marks.now) }
 {
     let count = cell_count(diagram, left_out);
     let mut gains = vec![in alloc; 0; count]?;

@@ -1,13 +1,14 @@
 //! What `info` and `control` share: the agent that is asked about, the first line, and what an edit is worth in words.
 
-ghost use Rattle.std.specs.Prelude.{◌≡◌, ◌++◌, IfOk, IfErr, OnOk, length};
+ghost use Rattle.std.specs.Prelude.{◌≡◌, ◌++◌, IfOk, IfErr, length};
 ghost use Rattle.first_fault.specs.Answers.{IsFaultOrNoMemory};
 ghost use Rattle.maid_model.specs.Names.{IsFirstPlace};
 ghost use Rattle.maid_app.specs.Asking.{asked_line, asking_stages};
 ghost use Rattle.maid_app.specs.Found.{AreKnown, cycle_told, found_words};
-ghost use Rattle.maid_app.specs.Reading.{IsAsked, TellsStages};
+ghost use Rattle.maid_app.specs.Reading.{TellsStagesOf, HasAsked};
 ghost use Rattle.maid_app.specs.Refusal.{refused_as};
 ghost use Rattle.maid_app.specs.Stages.{agent_pass};
+ghost use Rattle.line_pieces.specs.Pushed.{PushAppends};
 
 use super::solve::solve_diagram;
 use crate::reading::Source;
@@ -52,10 +53,8 @@ fn number_of(alloc: Global, names: &Names, agent: &str) -> Result<usize, Refusal
 ///
 /// The fault of the bytes, an agent that no node has, or those of [`solve_diagram`].
 pub fn ask(alloc: Global, source: Source<'_>, agent: &str) -> Result<Asked, Refusal>
-    ensures ok { IfOk result (λ made.
-        IsAsked agent.now source.entry.bytes.now made.diagram made.names made.solved made.agent) }
-    ensures err { IfErr result (TellsStages (asking_stages agent.now) source.entry.name.now
-        source.entry.bytes.now) }
+    ensures ok { IfOk result (HasAsked agent.now source.entry) }
+    ensures err { IfErr result (TellsStagesOf (asking_stages agent.now) source.entry) }
 {
     let (diagram, names) = source.diagram(alloc)?;
     let number = number_of(alloc, &names, agent)?;
@@ -87,7 +86,7 @@ pub fn push_found(
     found: &Found,
 ) -> Result<(), AllocError>
     requires { AreKnown (length names.now.nodes) (cycle_told found.now) }
-    ensures { OnOk result (out.new.items ≡ out.old.items ++ found_words names.now found.now) }
+    ensures { PushAppends out.old out.new result (found_words names.now found.now) }
 {
     match found {
         Found::Value(worth) => {

@@ -1,13 +1,11 @@
 //! A chance node and one of its states, as the words name them.
 
 ghost use Rattle.std.specs.Prelude.{◌≢◌, ◌<◌, ℕ, IfSome, IfNone, IfOk, IfErr, length};
-ghost use Rattle.first_fault.specs.Answers.{IsFaultOrNoMemory};
 ghost use Rattle.maid_model.specs.declared.diagrams.Kind.TheVariants.{Utility};
 ghost use Rattle.maid_model.specs.Names.{IsFirstPlace, NamesFit, labels_of};
 ghost use Rattle.maid_model.specs.Nodes.{node_at};
-ghost use Rattle.maid_app.specs.Chances.{HasChanceNode, IsChanceNode, IsStatePlace};
-ghost use Rattle.maid_app.specs.Reading.{found_by};
-ghost use Rattle.maid_app.specs.Refusal.{refused_as};
+ghost use Rattle.maid_app.specs.Chances.{HasChanceNode, IsChanceNode, IsStatePlace, LacksLabel};
+ghost use Rattle.maid_app.specs.Reading.{TellsFound};
 ghost use Rattle.maid_app.specs.Stages.{name_stages};
 
 use crate::refusal::{Refusal, told};
@@ -48,8 +46,7 @@ fn first_state(diagram: &Diagram, names: &Names, node: usize, label: &[u8]) -> O
     requires node { node < length diagram.now.nodes }
     requires kind { (node_at diagram.now.nodes node).kind ≢ Utility }
     ensures some { IfSome result (IsFirstPlace (labels_of names.now node) label.now) }
-    ensures none { IfNone result ((s : ℕ) → IsFirstPlace (labels_of names.now node) label.now s
-        → ⊥) }
+    ensures none { IfNone result (LacksLabel names.now node label.now) }
 {
     for state in 0..diagram.states(node) {
         if names.label(node, state) == label {
@@ -73,8 +70,7 @@ pub fn find_state(
 ) -> Result<StatePlace, Refusal>
     requires { NamesFit diagram.now names.now }
     ensures ok { IfOk result (IsStatePlace diagram.now names.now node.now state.now) }
-    ensures err { IfErr result (IsFaultOrNoMemory refused_as
-        (found_by diagram.now names.now (name_stages node.now state.now))) }
+    ensures err { IfErr result (TellsFound diagram.now names.now (name_stages node.now state.now)) }
 {
     let Some(x) = chance_node(diagram, names, node.as_bytes()) else {
         return Err(told(

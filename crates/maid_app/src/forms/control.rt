@@ -1,9 +1,10 @@
 //! `control F A`: what control of chance nodes is worth to an agent, and its incentives there.
 
-ghost use Rattle.std.specs.Prelude.{◌≡◌, [], ◌++◌, All, IfOk, IfErr, OnOk, if◌then◌else◌, length};
+ghost use Rattle.std.specs.Prelude.{◌≡◌, [], ◌++◌, All, IfOk, IfErr, if◌then◌else◌, length};
 ghost use Rattle.maid_app.specs.Control.{control_line, control_nodes, control_text, weighing_control};
 ghost use Rattle.maid_app.specs.Found.{AreKnown};
-ghost use Rattle.maid_app.specs.Reading.{TellsOf, Prints, comes_from};
+ghost use Rattle.maid_app.specs.Reading.{Prints, TellsFrom};
+ghost use Rattle.line_pieces.specs.Pushed.{PushAppends};
 
 use super::asking::{ask, asked_line, push_found};
 use crate::reading::Source;
@@ -27,7 +28,7 @@ fn push_line(
     line: &ControlLine,
 ) -> Result<(), AllocError>
     requires { AreKnown (length names.now.nodes) (control_nodes line.now) }
-    ensures { OnOk result (out.new.items ≡ out.old.items ++ control_line names.now line.now) }
+    ensures { PushAppends out.old out.new result (control_line names.now line.now) }
 {
     out.extend_from_slice(names.name(line.node))?;
     out.extend_from_slice(flag(line.response, b" response"))?;
@@ -62,9 +63,8 @@ fn control_text(
 ///
 /// The fault of the bytes, an agent that no node has, what the solver refuses the diagram for, or want of memory.
 pub fn answer(alloc: Global, source: Source<'_>, agent: &str) -> Result<Vec<u8>, Refusal>
-    ensures ok { IfOk result (λ printed.
-        Prints (weighing_control agent.now) source.entry printed.items) }
-    ensures err { IfErr result (TellsOf (comes_from (weighing_control agent.now) source.entry)) }
+    ensures ok { IfOk result (Prints (weighing_control agent.now) source.entry) }
+    ensures err { IfErr result (TellsFrom (weighing_control agent.now) source.entry) }
 {
     let asked = ask(alloc, source, agent)?;
     let lines = control(alloc, &asked.diagram, &asked.solved, asked.agent)?;

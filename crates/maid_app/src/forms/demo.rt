@@ -1,9 +1,8 @@
 //! `demo K`: a summary of the solved diagram of a generated text.
 
-ghost use Rattle.std.specs.Prelude.{◌≡◌, Ok, IfOk, IfErr, codes, length};
+ghost use Rattle.std.specs.Prelude.{◌≡◌, IfOk, IfErr, codes, length};
 ghost use Rattle.maid_app.specs.Demo.{summary, summing};
-ghost use Rattle.maid_app.specs.Outcome.{done_with};
-ghost use Rattle.maid_app.specs.Reading.{TellsOf};
+ghost use Rattle.maid_app.specs.Reading.{TellsOf, Finishes};
 ghost use Rattle.maid_app.specs.Tasks.{comes_of};
 
 use super::solve::solved;
@@ -41,8 +40,7 @@ fn summary(
 ///
 /// Those of `solve`, with `demo` as the text's name.
 pub fn answer(alloc: Global, k: usize, bytes: &[u8]) -> Result<Vec<u8>, Refusal>
-    ensures ok { IfOk result (λ printed.
-        comes_of (summing k) (codes "demo") bytes.now (Ok (done_with printed.items))) }
+    ensures ok { IfOk result (Finishes (comes_of (summing k) (codes "demo") bytes.now)) }
     ensures err { IfErr result (TellsOf (comes_of (summing k) (codes "demo") bytes.now)) }
 {
     let (diagram, names, answer) = solved(

@@ -1,15 +1,12 @@
 //! `given F X S`: the answer of a diagram under evidence.
 
-ghost use Rattle.std.specs.Prelude.{◌≡◌, ◌<◌, ◌++◌, All, IfOk, IfErr, OnOk, length};
-ghost use Rattle.evidence.specs.Faults.{given_fault, given_pass};
-ghost use Rattle.first_fault.specs.Answers.{IsFaultOrNoMemory};
+ghost use Rattle.std.specs.Prelude.{◌≡◌, ◌<◌, ◌++◌, All, IfOk, IfErr, length};
 ghost use Rattle.maid_model.specs.Answers.{FitsAnswer, FitsDiagram};
 ghost use Rattle.maid_model.specs.Names.{NamesFit, labels_of};
 ghost use Rattle.maid_model.specs.Nodes.{IsDecision, rows_of, rows_under, states_of};
 ghost use Rattle.maid_app.specs.Chances.{IsStatePlace};
-ghost use Rattle.maid_app.specs.Given.{conditioning, decision_given, evidence_stages, given_front, row_given, shows, decisions_given, given_text_at};
-ghost use Rattle.maid_app.specs.Reading.{TellsOf, found_by, Prints, comes_from};
-ghost use Rattle.maid_app.specs.Refusal.{refused_as};
+ghost use Rattle.maid_app.specs.Given.{conditioning, evidence_stages, given_front, conditioned_text, IsGivenFault, PushesAnswerGiven, PushesAnswersGiven, PushesRowGiven, shows_place};
+ghost use Rattle.maid_app.specs.Reading.{Prints, TellsFound, TellsFrom};
 
 use super::chances::{StatePlace, find_state};
 use crate::reading::Source;
@@ -34,10 +31,8 @@ fn refusal(
 ) -> Refusal
     requires fit { NamesFit diagram.now names.now }
     requires place { IsStatePlace diagram.now names.now node.now state.now place }
-    requires fault { IsFaultOrNoMemory given_fault (given_pass diagram.now place.node place.state)
-        fault.now }
-    ensures { IsFaultOrNoMemory refused_as
-        (found_by diagram.now names.now (evidence_stages node.now state.now)) result }
+    requires fault { IsGivenFault diagram.now place fault.now }
+    ensures { TellsFound diagram.now names.now (evidence_stages node.now state.now) result }
 {
     match fault {
         GivenFault::BelowDecision => told(
@@ -88,8 +83,7 @@ fn shows(
     requires parents { All (λ u. u < length diagram.now.nodes) parents.now }
     requires rows { rows ≡ rows_under (states_of diagram.now.nodes) parents.now }
     requires number { number < rows }
-    ensures { result
-        ≡ shows (states_of diagram.now.nodes) parents.now number place.node place.state }
+    ensures { result ≡ shows_place diagram.now.nodes parents.now number place }
 {
     let mut below = rows;
     let mut rest = number;
@@ -117,8 +111,8 @@ fn push_row_given(
     requires decision { IsDecision diagram.now.nodes decision }
     requires number { number < rows_of diagram.now.nodes decision }
     requires choice { row.now.choice < states_of diagram.now.nodes decision }
-    ensures { OnOk result (out.new.items ≡ out.old.items
-        ++ row_given diagram.now.nodes names.now place.node place.state decision number row.now) }
+    ensures { PushesRowGiven diagram.now names.now place decision number row.now out.old out.new
+        result }
 {
     let parents = diagram.parents(decision);
     let rows = diagram.rows(decision);
@@ -138,8 +132,7 @@ fn push_decision(
 ) -> Result<(), AllocError>
     requires fit { NamesFit diagram.now names.now }
     requires answer { FitsAnswer diagram.now.nodes answer.now }
-    ensures { OnOk result (out.new.items ≡ out.old.items
-        ++ decision_given diagram.now.nodes names.now place.node place.state answer.now) }
+    ensures { PushesAnswerGiven diagram.now names.now place answer.now out.old out.new result }
 {
     push_head(out, diagram, names, answer.decision)?;
     for (number, row) in answer.rows.iter().enumerate() {
@@ -158,8 +151,7 @@ fn push_decisions(
 ) -> Result<(), AllocError>
     requires fit { NamesFit diagram.now names.now }
     requires answers { All (FitsAnswer diagram.now.nodes) answers.now }
-    ensures { OnOk result (out.new.items ≡ out.old.items
-        ++ decisions_given diagram.now.nodes names.now place.node place.state answers.now) }
+    ensures { PushesAnswersGiven diagram.now names.now place answers.now out.old out.new result }
 {
     for answer in answers {
         push_decision(out, diagram, names, place, answer)?;
@@ -179,7 +171,7 @@ fn given_front(
     requires state { place.state < length (labels_of names.now place.node) }
     requires order { All (λ v. v < length names.now.nodes) order.now }
     ensures { IfOk result (λ text.
-        text.items ≡ given_front names.now place.node place.state order.now) }
+        text.items ≡ given_front names.now place order.now) }
 {
     let mut text = Vec::from_slice(alloc, b"maidsolve given 1\ngiven ")?;
     text.extend_from_slice(names.name(place.node))?;
@@ -203,8 +195,7 @@ fn given_text(
     requires state { place.state < length (labels_of names.now place.node) }
     requires answers { FitsDiagram conditioned.now.diagram conditioned.now.solved }
     requires gains { length conditioned.now.gains.items ≡ conditioned.now.diagram.agents }
-    ensures { IfOk result (λ text. text.items ≡ given_text_at conditioned.now.diagram names.now
-        place conditioned.now.solved conditioned.now.gains.items) }
+    ensures { IfOk result (λ text. text.items ≡ conditioned_text names.now place conditioned.now) }
 {
     let solved = &conditioned.solved;
     let mut text = given_front(alloc, names, place, &solved.order)?;
@@ -234,10 +225,8 @@ pub fn answer(
     node: &str,
     state: &str,
 ) -> Result<Vec<u8>, Refusal>
-    ensures ok { IfOk result (λ printed.
-        Prints (conditioning node.now state.now) source.entry printed.items) }
-    ensures err { IfErr result (TellsOf (comes_from (conditioning node.now state.now)
-        source.entry)) }
+    ensures ok { IfOk result (Prints (conditioning node.now state.now) source.entry) }
+    ensures err { IfErr result (TellsFrom (conditioning node.now state.now) source.entry) }
 {
     let (diagram, names) = source.diagram(alloc)?;
     let place = find_state(alloc, &diagram, &names, node, state)?;

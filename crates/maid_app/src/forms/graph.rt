@@ -1,11 +1,12 @@
 //! `graph F`: who relies on whom.
 
-ghost use Rattle.std.specs.Prelude.{◌≡◌, ◌<◌, ◌++◌, All, IfOk, IfErr, OnOk, length};
+ghost use Rattle.std.specs.Prelude.{◌≡◌, ◌<◌, ◌++◌, All, IfOk, IfErr, length};
 ghost use Rattle.maid_model.specs.Names.{NamesFit};
 ghost use Rattle.relevance_graph.specs.Relevant.{IsRelevance};
 ghost use Rattle.maid_app.specs.Graph.{graphing, IsGraphText, IsLastLine, relies_line};
-ghost use Rattle.maid_app.specs.GraphLines.{relies_line_of, relies_lines};
-ghost use Rattle.maid_app.specs.Reading.{TellsOf, Prints, comes_from};
+ghost use Rattle.maid_app.specs.Reading.{Prints, TellsFrom};
+ghost use Rattle.line_pieces.specs.Pushed.{PushAppends};
+ghost use Rattle.maid_app.specs.GraphLines.{PushesReliesLine, PushesReliesLines};
 
 use crate::reading::Source;
 use crate::refusal::Refusal;
@@ -24,8 +25,7 @@ fn push_decision(
 ) -> Result<(), AllocError>
     requires decision { decision < length names.now.nodes }
     requires relied_on { All (λ v. v < length names.now.nodes) relied_on.now }
-    ensures { OnOk result (out.new.items
-        ≡ out.old.items ++ relies_line names.now decision relied_on.now) }
+    ensures { PushAppends out.old out.new result (relies_line names.now decision relied_on.now) }
 {
     let mut head = Vec::from_slice(alloc, b"relies ")?;
     head.extend_from_slice(names.name(decision))?;
@@ -45,8 +45,7 @@ fn push_node(
     requires within { v < length diagram.now.nodes }
     requires names { NamesFit diagram.now names.now }
     requires relevance { IsRelevance diagram.now.nodes relevance.now }
-    ensures { OnOk result (out.new.items
-        ≡ out.old.items ++ relies_line_of diagram.now.nodes names.now relevance.now v) }
+    ensures { PushesReliesLine diagram.now names.now relevance.now v out.old out.new result }
 {
     match diagram.kind(v) {
         Kind::Decision => push_decision(alloc, out, names, v, relevance.relied_on(v)),
@@ -64,8 +63,7 @@ fn push_decisions(
 ) -> Result<(), AllocError>
     requires names { NamesFit diagram.now names.now }
     requires relevance { IsRelevance diagram.now.nodes relevance.now }
-    ensures { OnOk result (out.new.items ≡ out.old.items
-        ++ relies_lines diagram.now.nodes names.now relevance.now) }
+    ensures { PushesReliesLines diagram.now names.now relevance.now out.old out.new result }
 {
     for v in 0..diagram.count() {
         push_node(alloc, out, diagram, names, relevance, v)?;
@@ -113,8 +111,8 @@ fn graph_text(
 ///
 /// The fault of the bytes, or want of memory.
 pub fn answer(alloc: Global, source: Source<'_>) -> Result<Vec<u8>, Refusal>
-    ensures ok { IfOk result (λ printed. Prints graphing source.entry printed.items) }
-    ensures err { IfErr result (TellsOf (comes_from graphing source.entry)) }
+    ensures ok { IfOk result (Prints graphing source.entry) }
+    ensures err { IfErr result (TellsFrom graphing source.entry) }
 {
     let (diagram, names) = source.diagram(alloc)?;
     let relevance = find_relevance(alloc, &diagram)?;

@@ -1,9 +1,10 @@
 //! `info F A`: what information is worth to an agent.
 
-ghost use Rattle.std.specs.Prelude.{◌≡◌, ◌++◌, All, IfOk, IfErr, OnOk, length};
+ghost use Rattle.std.specs.Prelude.{◌≡◌, ◌++◌, All, IfOk, IfErr, length};
 ghost use Rattle.maid_app.specs.Found.{AreKnown};
 ghost use Rattle.maid_app.specs.Info.{info_line, info_nodes, info_text, weighing_information};
-ghost use Rattle.maid_app.specs.Reading.{TellsOf, Prints, comes_from};
+ghost use Rattle.maid_app.specs.Reading.{Prints, TellsFrom};
+ghost use Rattle.line_pieces.specs.Pushed.{PushAppends};
 
 use super::asking::{ask, asked_line, push_found};
 use crate::reading::Source;
@@ -20,7 +21,7 @@ fn push_line(
     line: &InfoLine,
 ) -> Result<(), AllocError>
     requires { AreKnown (length names.now.nodes) (info_nodes line.now) }
-    ensures { OnOk result (out.new.items ≡ out.old.items ++ info_line names.now line.now) }
+    ensures { PushAppends out.old out.new result (info_line names.now line.now) }
 {
     out.extend_from_slice(if line.has { b"has " } else { b"new " })?;
     out.extend_from_slice(names.name(line.from))?;
@@ -56,10 +57,8 @@ fn info_text(
 ///
 /// The fault of the bytes, an agent that no node has, what the solver refuses the diagram for, or want of memory.
 pub fn answer(alloc: Global, source: Source<'_>, agent: &str) -> Result<Vec<u8>, Refusal>
-    ensures ok { IfOk result (λ printed.
-        Prints (weighing_information agent.now) source.entry printed.items) }
-    ensures err { IfErr result (TellsOf (comes_from (weighing_information agent.now)
-        source.entry)) }
+    ensures ok { IfOk result (Prints (weighing_information agent.now) source.entry) }
+    ensures err { IfErr result (TellsFrom (weighing_information agent.now) source.entry) }
 {
     let asked = ask(alloc, source, agent)?;
     let lines = info(alloc, &asked.diagram, &asked.solved, asked.agent)?;

@@ -1,17 +1,16 @@
 //! `threshold F X ROW STATE`: how far one probability may move.
 
 ghost use Rattle.std.specs.Prelude.{◌≡◌, ◌-◌, ◌<◌, ◌↔◌, IfOk, IfErr, IsTrue, None, OnOk, length};
-ghost use Rattle.first_fault.specs.Answers.{IsFaultOrNoMemory};
 ghost use Rattle.maid_model.specs.declared.diagrams.Kind.TheVariants.{Chance};
 ghost use Rattle.maid_model.specs.Answers.{IsAnswer};
 ghost use Rattle.maid_model.specs.Names.{NamesFit, labels_of};
 ghost use Rattle.maid_model.specs.Nodes.{node_at, rows_of};
 ghost use Rattle.threshold.specs.Faults.{OthersWeighNought};
-ghost use Rattle.threshold.specs.Intervals.{IsOnlySpan, StaysPerfect, TellsNow, TellsSpan};
-ghost use Rattle.maid_app.specs.Reading.{TellsOf, Prints, comes_from};
-ghost use Rattle.maid_app.specs.Refusal.{refused_as};
+ghost use Rattle.threshold.specs.Intervals.{TellsNow, TellsSpan};
+ghost use Rattle.maid_app.specs.Reading.{Prints, TellsFrom};
 ghost use Rattle.maid_app.specs.Solve.{IsSolvable};
-ghost use Rattle.maid_app.specs.Threshold.{IsCellPlace, moved_pass, moving, row_pass, threshold_text};
+ghost use Rattle.maid_app.specs.Threshold.{IsCellPlace, moved_pass, moving, row_pass, IsOnlySpanAt, IsThresholdText, StaysPerfectAt};
+ghost use Rattle.maid_app.specs.Refusal.{RefusesBy};
 
 use super::chances::{StatePlace, find_state};
 use super::solve::solve_diagram;
@@ -51,8 +50,7 @@ fn keep_row(
 ) -> Result<(), Refusal>
     requires { (node_at diagram.now.nodes place.node).kind ≡ Chance }
     ensures ok { OnOk result (row_pass diagram.now place row node.now None) }
-    ensures err { IfErr result (IsFaultOrNoMemory refused_as
-        (row_pass diagram.now place row node.now)) }
+    ensures err { IfErr result (RefusesBy (row_pass diagram.now place row node.now)) }
 {
     if row == 0 || row > diagram.rows(place.node) {
         return Err(told(Status::UnknownRow, lines::unknown_row(alloc, row)));
@@ -81,15 +79,12 @@ fn find_interval(
     requires answer { IsAnswer diagram.now solved.now }
     requires place { IsCellPlace diagram.now place row }
     ensures bound { OnOk result (moved_pass diagram.now names.now place row None) }
-    ensures err { IfErr result (IsFaultOrNoMemory refused_as
-        (moved_pass diagram.now names.now place row)) }
+    ensures err { IfErr result (RefusesBy (moved_pass diagram.now names.now place row)) }
     ensures now { IfOk result (TellsNow diagram.now.nodes place.node (row - 1) place.state) }
     ensures span { IfOk result
         (TellsSpan diagram.now solved.now place.node (row - 1) place.state) }
-    ensures only { IfOk result
-        (IsOnlySpan diagram.now solved.now place.node (row - 1) place.state) }
-    ensures perfect { IfOk result
-        (StaysPerfect diagram.now solved.now place.node (row - 1) place.state) }
+    ensures only { IfOk result (IsOnlySpanAt diagram.now solved.now place row) }
+    ensures perfect { IfOk result (StaysPerfectAt diagram.now solved.now place row) }
 {
     match span(alloc, diagram, solved, place.node, row - 1, place.state) {
         Ok(interval) => Ok(interval),
@@ -113,8 +108,7 @@ fn threshold_text(
     requires node { place.node < length names.now.nodes }
     requires labels { place.node < length names.now.labels }
     requires state { place.state < length (labels_of names.now place.node) }
-    ensures { IfOk result (λ text. text.items ≡
-        threshold_text names.now place.node row place.state interval) }
+    ensures { IfOk result (IsThresholdText names.now place row interval) }
 {
     let mut text = Vec::from_slice(alloc, b"maidsolve threshold 1\n")?;
     text.extend_from_slice(names.name(place.node))?;
@@ -148,9 +142,8 @@ pub fn answer(
     row: usize,
     state: &str,
 ) -> Result<Vec<u8>, Refusal>
-    ensures ok { IfOk result (λ printed.
-        Prints (moving node.now row state.now) source.entry printed.items) }
-    ensures err { IfErr result (TellsOf (comes_from (moving node.now row state.now) source.entry)) }
+    ensures ok { IfOk result (Prints (moving node.now row state.now) source.entry) }
+    ensures err { IfErr result (TellsFrom (moving node.now row state.now) source.entry) }
 {
     let (diagram, names) = source.diagram(alloc)?;
     let place = find_state(alloc, &diagram, &names, node, state)?;

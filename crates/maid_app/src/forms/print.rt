@@ -2,7 +2,7 @@
 
 ghost use Rattle.std.specs.Prelude.{IfOk, IfErr};
 ghost use Rattle.maid_app.specs.Print.{printing};
-ghost use Rattle.maid_app.specs.Reading.{TellsOf, Prints, comes_from};
+ghost use Rattle.maid_app.specs.Reading.{Prints, TellsFrom};
 
 use crate::reading::Source;
 use crate::refusal::Refusal;
@@ -15,8 +15,8 @@ use std::alloc::Global;
 ///
 /// The fault of the bytes, or want of memory.
 pub fn answer(alloc: Global, source: Source<'_>) -> Result<Vec<u8>, Refusal>
-    ensures ok { IfOk result (λ told. Prints printing source.entry told.items) }
-    ensures err { IfErr result (TellsOf (comes_from printing source.entry)) }
+    ensures ok { IfOk result (Prints printing source.entry) }
+    ensures err { IfErr result (TellsFrom printing source.entry) }
 {
     let (diagram, names) = source.diagram(alloc)?;
     printed_texts_read_back();

@@ -6,8 +6,7 @@ ghost use Rattle.first_fault.specs.Answers.{IsFaultOrNoMemory};
 ghost use Rattle.maid_model.specs.Names.{NamesFit};
 ghost use Rattle.pure_search.specs.Faults.{pure_fault, pure_pass};
 ghost use Rattle.maid_app.specs.Pure.{pure_text, search_stages, searching};
-ghost use Rattle.maid_app.specs.Reading.{TellsOf, found_by, Prints, comes_from};
-ghost use Rattle.maid_app.specs.Refusal.{refused_as};
+ghost use Rattle.maid_app.specs.Reading.{Prints, TellsFound, TellsFrom};
 
 use crate::reading::Source;
 use crate::refusal::{Refusal, told};
@@ -21,7 +20,7 @@ use std::alloc::{AllocError, Global};
 fn refusal(alloc: Global, diagram: &Diagram, names: &Names, fault: PureFault) -> Refusal
     requires fit { NamesFit diagram.now names.now }
     requires fault { IsFaultOrNoMemory pure_fault (pure_pass diagram.now) fault }
-    ensures { IsFaultOrNoMemory refused_as (found_by diagram.now names.now search_stages) result }
+    ensures { TellsFound diagram.now names.now search_stages result }
 {
     let _count = diagram.count();
     match fault {
@@ -65,8 +64,8 @@ fn pure_text(
 /// The fault of the bytes, the place at which the weight bound is passed, the counts of profiles and leaves where they
 /// are too many, how many pure profiles there are where none is an equilibrium, or want of memory.
 pub fn answer(alloc: Global, source: Source<'_>) -> Result<Vec<u8>, Refusal>
-    ensures ok { IfOk result (λ printed. Prints searching source.entry printed.items) }
-    ensures err { IfErr result (TellsOf (comes_from searching source.entry)) }
+    ensures ok { IfOk result (Prints searching source.entry) }
+    ensures err { IfErr result (TellsFrom searching source.entry) }
 {
     let (diagram, names) = source.diagram(alloc)?;
     match first_pure(alloc, &diagram) {

@@ -3,8 +3,7 @@
 ghost use Rattle.std.specs.Prelude.{IfOk, IfErr, OnOk};
 ghost use Rattle.first_fault.specs.Answers.{IsFaultOrNoMemory};
 ghost use Rattle.maid_model.specs.Names.{NamesFit};
-ghost use Rattle.maid_app.specs.Reading.{IsSolved, TellsOf, TellsStages, found_by, Prints, comes_from};
-ghost use Rattle.maid_app.specs.Refusal.{refused_as};
+ghost use Rattle.maid_app.specs.Reading.{IsSolved, Prints, TellsFound, TellsStagesOf, TellsFrom};
 ghost use Rattle.maid_app.specs.Solve.{IsSolution, IsSolvable, solver_stages, solving, solving_stages};
 ghost use Rattle.rule_solver.specs.Faults.{solve_fault, solve_pass};
 
@@ -21,7 +20,7 @@ use std::alloc::Global;
 fn refusal(alloc: Global, diagram: &Diagram, names: &Names, fault: &SolveFault) -> Refusal
     requires fit { NamesFit diagram.now names.now }
     requires fault { IsFaultOrNoMemory solve_fault (solve_pass diagram.now) fault.now }
-    ensures { IsFaultOrNoMemory refused_as (found_by diagram.now names.now solver_stages) result }
+    ensures { TellsFound diagram.now names.now solver_stages result }
 {
     match fault {
         SolveFault::Cycle { list } => told(
@@ -50,8 +49,7 @@ pub fn solve_diagram(alloc: Global, diagram: &Diagram, names: &Names) -> Result<
     requires { NamesFit diagram.now names.now }
     ensures solvable { OnOk result (IsSolvable diagram.now) }
     ensures ok { IfOk result (IsSolution diagram.now) }
-    ensures err { IfErr result (IsFaultOrNoMemory refused_as (found_by diagram.now names.now
-        solver_stages)) }
+    ensures err { IfErr result (TellsFound diagram.now names.now solver_stages) }
 {
     match solve(alloc, diagram) {
         Ok(solved) => Ok(solved),
@@ -67,8 +65,7 @@ pub fn solve_diagram(alloc: Global, diagram: &Diagram, names: &Names) -> Result<
 pub fn solved(alloc: Global, source: Source<'_>) -> Result<(Diagram, Names, Solved), Refusal>
     ensures ok { IfOk result (λ made. IsSolved source.entry.bytes.now made.0 made.1 made.2) }
     ensures fit { IfOk result (λ made. NamesFit made.0 made.1) }
-    ensures err { IfErr result (TellsStages solving_stages source.entry.name.now
-        source.entry.bytes.now) }
+    ensures err { IfErr result (TellsStagesOf solving_stages source.entry) }
 {
     let (diagram, names) = source.diagram(alloc)?;
     let solved = solve_diagram(alloc, &diagram, &names)?;
@@ -81,8 +78,8 @@ pub fn solved(alloc: Global, source: Source<'_>) -> Result<(Diagram, Names, Solv
 ///
 /// Those of [`solved`].
 pub fn answer(alloc: Global, source: Source<'_>) -> Result<Vec<u8>, Refusal>
-    ensures ok { IfOk result (λ printed. Prints solving source.entry printed.items) }
-    ensures err { IfErr result (TellsOf (comes_from solving source.entry)) }
+    ensures ok { IfOk result (Prints solving source.entry) }
+    ensures err { IfErr result (TellsFrom solving source.entry) }
 {
     let (diagram, names, answer) = solved(alloc, source)?;
     Ok(print_report(alloc, &diagram, &names, &answer)?)

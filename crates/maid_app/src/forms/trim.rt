@@ -1,11 +1,10 @@
 //! `trim F`: the diagram without the arcs that decisions do not need.
 
 ghost use Rattle.std.specs.Prelude.{◌≡◌, ◌++◌, IfOk, IfErr};
-ghost use Rattle.app_lines.specs.Removed.{AreNamed, removed_lines};
+ghost use Rattle.app_lines.specs.Removed.{AreNamed};
 ghost use Rattle.maid_model.specs.Names.{NamesFit};
-ghost use Rattle.net_print.specs.Printed.{printed};
-ghost use Rattle.maid_app.specs.Reading.{TellsOf, Prints, comes_from};
-ghost use Rattle.maid_app.specs.Trim.{trimming};
+ghost use Rattle.maid_app.specs.Reading.{Prints, TellsFrom};
+ghost use Rattle.maid_app.specs.Trim.{trimming, IsTrimmedText};
 
 use crate::reading::Source;
 use crate::refusal::Refusal;
@@ -24,8 +23,7 @@ fn trimmed_text(
 ) -> Result<Vec<u8>, AllocError>
     requires fit { NamesFit trimmed.now names.now }
     requires named { AreNamed names.now removed.now }
-    ensures { IfOk result (λ text.
-        text.items ≡ removed_lines names.now removed.now ++ printed trimmed.now names.now) }
+    ensures { IfOk result (IsTrimmedText trimmed.now names.now removed.now) }
 {
     let mut text = removed_lines(alloc, names, removed)?;
     text.extend_from_slice(&print(alloc, trimmed, names)?)?;
@@ -39,8 +37,8 @@ fn trimmed_text(
 ///
 /// The fault of the bytes, or want of memory.
 pub fn answer(alloc: Global, source: Source<'_>) -> Result<Vec<u8>, Refusal>
-    ensures ok { IfOk result (λ told. Prints trimming source.entry told.items) }
-    ensures err { IfErr result (TellsOf (comes_from trimming source.entry)) }
+    ensures ok { IfOk result (Prints trimming source.entry) }
+    ensures err { IfErr result (TellsFrom trimming source.entry) }
 {
     let (diagram, names) = source.diagram(alloc)?;
     commented_texts_read_back();

@@ -2,12 +2,9 @@
 
 ghost use Rattle.std.specs.Prelude.{◌≡◌, All, IfOk, IfErr, length};
 ghost use Rattle.app_lines.specs.Choices.{HasChoices};
-ghost use Rattle.first_fault.specs.Answers.{IsFaultOrNoMemory};
 ghost use Rattle.maid_model.specs.Names.{NamesFit};
-ghost use Rattle.policy_update.specs.Faults.{update_fault, update_pass};
-ghost use Rattle.maid_app.specs.Reading.{TellsOf, found_by, Prints, comes_from};
-ghost use Rattle.maid_app.specs.Refusal.{refused_as};
-ghost use Rattle.maid_app.specs.Update.{update_stages, update_text, updating};
+ghost use Rattle.maid_app.specs.Reading.{Prints, TellsFound, TellsFrom};
+ghost use Rattle.maid_app.specs.Update.{update_stages, update_text, updating, IsUpdateFault};
 
 use crate::reading::Source;
 use crate::refusal::{Refusal, told};
@@ -24,9 +21,8 @@ pub const MOST_ROUNDS: u64 = 10_000;
 // The refusal of a diagram that is not updated.
 fn refusal(alloc: Global, diagram: &Diagram, names: &Names, fault: &UpdateFault) -> Refusal
     requires fit { NamesFit diagram.now names.now }
-    requires fault { IsFaultOrNoMemory update_fault (update_pass diagram.now MOST_ROUNDS)
-        fault.now }
-    ensures { IsFaultOrNoMemory refused_as (found_by diagram.now names.now update_stages) result }
+    requires fault { IsUpdateFault diagram.now MOST_ROUNDS fault.now }
+    ensures { TellsFound diagram.now names.now update_stages result }
 {
     match fault {
         UpdateFault::NotOneAgent => told(
@@ -76,8 +72,8 @@ fn update_text(
 /// The fault of the bytes, two owners of decisions, the place at which the weight bound is passed, the cells and the work
 /// of a run that passes a limit, rounds that all raise, or want of memory.
 pub fn answer(alloc: Global, source: Source<'_>) -> Result<Vec<u8>, Refusal>
-    ensures ok { IfOk result (λ printed. Prints updating source.entry printed.items) }
-    ensures err { IfErr result (TellsOf (comes_from updating source.entry)) }
+    ensures ok { IfOk result (Prints updating source.entry) }
+    ensures err { IfErr result (TellsFrom updating source.entry) }
 {
     let (diagram, names) = source.diagram(alloc)?;
     match update(alloc, &diagram, MOST_ROUNDS) {

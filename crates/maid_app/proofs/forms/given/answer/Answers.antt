@@ -85,7 +85,7 @@ returns-in-Ok-clause-ok c =
       worth = found.gains;
       subgame_perfect = found.subgame_perfect;
       best = found.best;
-      is = c.in_ok-given_text-in-Ok.ensures ∙ ap (λ e. given_text e names place.node place.state made.solved made.gains.items) found.diagram;
+      is = c.in_ok-given_text-in-Ok.ensures ∙ ap (λ e. given_text e names place made.solved made.gains.items) found.diagram;
     })
 
 -- a stage refuses it
