@@ -6,6 +6,7 @@ use Rattle.maid_model.specs.Views.{NodeView}
 use Rattle.maid_model.specs.Graph.{Arc}
 use Rattle.maid_model.specs.Relevance.{IsLive}
 use Rattle.maid_model.specs.Walks.{IsReached, IsReachedFromParent}
+use Rattle.bayes_ball.specs.declared.marks.Marks.{Marks}
 use Rattle.bayes_ball.specs.declared.search.Start.{Start}
 use Rattle.bayes_ball.specs.declared.search.Start.TheVariants.{Node, ParentOf}
 
@@ -34,6 +35,12 @@ abbrev pub AreParentsReachedFrom : List NodeView → NodeSet → Start → NodeS
 AreParentsReachedFrom nodes given start marked = (u v : ℕ) → start ≡ Node u → v < length nodes
     → IsIn marked v ↔ IsReachedBy nodes given (ParentOf v) u
 
+-- what the marks of a search from the start tell
+pub record TellsReach (nodes : List NodeView) (given : NodeSet) (start : Start) (marks : Marks) :
+    Type 0 where
+  pub reached : AreReachedFrom nodes given start marks.reached
+  pub parents : AreParentsReachedFrom nodes given start marks.parents_reached
+
 -- the nodes to which active walks lead from some of the starts
 abbrev pub AreReachedFromAny : List NodeView → NodeSet → NodeSet → NodeSet → Type 0
 AreReachedFromAny nodes given starts marked = (v : ℕ) → v < length nodes
@@ -43,3 +50,9 @@ AreReachedFromAny nodes given starts marked = (v : ℕ) → v < length nodes
 abbrev pub AreParentsReachedFromAny : List NodeView → NodeSet → NodeSet → NodeSet → Type 0
 AreParentsReachedFromAny nodes given starts marked = (v : ℕ) → v < length nodes
     → IsIn marked v ↔ ((u : ℕ) × IsIn starts u × IsReachedBy nodes given (ParentOf v) u)
+
+-- what the marks of a search from some of the starts tell
+pub record TellsReachFromAny (nodes : List NodeView) (given starts : NodeSet) (marks : Marks) :
+    Type 0 where
+  pub reached : AreReachedFromAny nodes given starts marks.reached
+  pub parents : AreParentsReachedFromAny nodes given starts marks.parents_reached

@@ -9,6 +9,7 @@ use Rattle.bayes_ball.specs.declared.search.Start.{Start}
 use Rattle.bayes_ball.specs.declared.search.Start.TheVariants.{Node, ParentOf}
 use Rattle.bayes_ball.specs.Flow.{Way, Up, Down, Flows, IsLiveArc, IsClosed}
 
+-- v has the mark of that way of arrival
 abbrev pub IsMarked : NodeSet → NodeSet → Way → ℕ → Type 0
 IsMarked down up Up v = IsIn up v
 IsMarked down up Down v = IsIn down v
@@ -17,10 +18,11 @@ IsMarked down up Down v = IsIn down v
 abbrev pub LiveArc : List NodeView → ℕ → ℕ → Type 0
 LiveArc nodes = IsLiveArc (Arc nodes) (IsLive nodes)
 
--- walks go on from this node down each of its arcs, and up each arc into it
+-- walks go on from this node down each of its arcs
 abbrev pub LeadsDown : NodeSet → NodeSet → NodeSet → ℕ → Type 0
 LeadsDown given down up v = (IsIn given v → ⊥) × (IsIn down v ⊎ IsIn up v)
 
+-- walks go on up each arc into this node: back from one that is given, or on from one that is not
 abbrev pub LeadsUp : NodeSet → NodeSet → NodeSet → ℕ → Type 0
 LeadsUp given down up v = (IsIn given v × IsIn down v) ⊎ ((IsIn given v → ⊥) × IsIn up v)
 
@@ -32,11 +34,12 @@ HearsParent nodes given down up v = (p : ℕ) × LiveArc nodes p v × LeadsDown 
 abbrev pub AreLeadingUp : NodeSet → NodeSet → NodeSet → NodeSet → Type 0
 AreLeadingUp given down up marked = (v : ℕ) → IsIn marked v ↔ LeadsUp given down up v
 
--- the node is marked where walks arrive from a parent, and its parents are where walks go on up from it
+-- the node is marked where walks arrive from a parent
 abbrev pub HearsAll : List NodeView → NodeSet → ℕ → NodeSet → NodeSet → Type 0
 HearsAll nodes given v down up =
     (p : ℕ) → LiveArc nodes p v → LeadsDown given down up p → IsIn down v
 
+-- where walks go on up from the node, each of its parents is marked
 abbrev pub TellsAll : List NodeView → NodeSet → ℕ → NodeSet → NodeSet → Type 0
 TellsAll nodes given v down up = (p : ℕ) → LiveArc nodes p v → LeadsUp given down up v → IsIn up p
 

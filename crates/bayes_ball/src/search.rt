@@ -3,7 +3,7 @@
 ghost use Rattle.std.specs.Prelude.{ℕ, ◌<◌, ◌↔◌, length};
 ghost use Rattle.node_sets.specs.declared.sets.TheConstants.{MOST_NODES};
 ghost use Rattle.node_sets.specs.Sets.{IsIn};
-ghost use Rattle.bayes_ball.specs.Search.{CanStart, CanStartAtAll, AreParentsReachedFrom, AreParentsReachedFromAny, AreReachedFrom, AreReachedFromAny};
+ghost use Rattle.bayes_ball.specs.Search.{CanStart, CanStartAtAll, TellsReach, TellsReachFromAny};
 ghost use Rattle.bayes_ball.specs.Flow.{Way};
 ghost use Rattle.bayes_ball.specs.Spread.{IsMarked, StartsAt, node_of};
 
@@ -39,9 +39,7 @@ fn begin(start: Start) -> (NodeSet, NodeSet)
 pub fn reach(diagram: &Diagram, start: Start, given: &NodeSet) -> Marks
     requires given { (v : ℕ) → IsIn given.now v → v < length diagram.now.nodes }
     requires start { CanStart diagram.now.nodes given.now start }
-    ensures reached { AreReachedFrom diagram.now.nodes given.now start result.reached }
-    ensures parents { AreParentsReachedFrom diagram.now.nodes given.now start
-        result.parents_reached }
+    ensures { TellsReach diagram.now.nodes given.now start result }
 {
     let _count = diagram.count();
     let (mut down, mut up) = begin(start);
@@ -54,9 +52,7 @@ pub fn reach(diagram: &Diagram, start: Start, given: &NodeSet) -> Marks
 pub fn reach_from_any(diagram: &Diagram, starts: &NodeSet, given: &NodeSet) -> Marks
     requires given { (v : ℕ) → IsIn given.now v → v < length diagram.now.nodes }
     requires starts { CanStartAtAll diagram.now.nodes given.now starts.now }
-    ensures reached { AreReachedFromAny diagram.now.nodes given.now starts.now result.reached }
-    ensures parents { AreParentsReachedFromAny diagram.now.nodes given.now starts.now
-        result.parents_reached }
+    ensures { TellsReachFromAny diagram.now.nodes given.now starts.now result }
 {
     let _count = diagram.count();
     let mut down = NodeSet::empty();

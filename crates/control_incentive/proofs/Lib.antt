@@ -1,3 +1,2 @@
-pub mod Ranges
 pub mod Deciding
 pub mod Told

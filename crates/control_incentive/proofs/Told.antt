@@ -32,7 +32,7 @@ use Rattle.control_incentive.specs.Lines.{IsControlLine, IsTrimmedAlone, TellsCo
 use Rattle.control_incentive.specs.Paths.{IsInstrumental, LeadsTo}
 use Rattle.control_incentive.specs.Steps.{HasPaths, IsLineAlone}
 use Rattle.control_incentive.proofs.Deciding.{chance_there, listed_chance, needed, owns_made}
-use Rattle.control_incentive.proofs.Ranges.{all_among}
+use Rattle.finite_sums.proofs.Members.{all_among}
 
 -- what holds of each node that the lines name
 each_line : (P : ℕ → Type 0) (lines : List ControlLine) (nodes : List ℕ) → map node_of lines ≡ nodes → All P nodes → All (λ line. P line.node) lines

@@ -6,7 +6,7 @@ use Rattle.maid_model.specs.Edits.{as_decision, one_agent}
 use Rattle.maid_model.specs.Nodes.{is_chance, node_at, numbers_of}
 use Rattle.maid_model.specs.Trimming.{IsTrimmed}
 use Rattle.maid_model.specs.Values.{IsValueOfControl}
-use Rattle.maid_model.specs.Views.{NodeView, DiagramView, AnswerView}
+use Rattle.maid_model.specs.Views.{NodeView, DiagramView, AnswerView, SolvedView}
 use Rattle.diagram_graph.specs.Edited.{with_nodes}
 use Rattle.diagram_graph.specs.Room.{IsTooLargeAsDecision}
 use Rattle.first_fault.specs.Outcomes.{◌▸▸◌, gives}
@@ -62,6 +62,10 @@ abbrev pub AreControlLines : DiagramView → List AnswerView → ℕ → List Co
 AreControlLines d answers agent lines = (trimmed : List NodeView)
     × IsTrimmedAlone d answers agent trimmed × All (IsControlLine d answers agent trimmed) lines
 
+-- such lines of the diagram and its answer
+abbrev pub TellIncentives : DiagramView → SolvedView → ℕ → List ControlLine → Type 0
+TellIncentives d solved agent lines = AreControlLines d solved.answers agent lines
+
 -- a line for each chance node
 abbrev pub HasChanceNodes : List NodeView → List ControlLine → Type 0
 HasChanceNodes nodes lines = map node_of lines ≡ chance_nodes nodes
@@ -70,3 +74,7 @@ HasChanceNodes nodes lines = map node_of lines ≡ chance_nodes nodes
 abbrev pub TellsControl : DiagramView → List AnswerView → ℕ → ControlLine → Type 0
 TellsControl d answers agent line = IfSome (worth_of line.found) (λ r.
     IsValueOfControl d.nodes d.decimals answers agent line.node r × (pos 0 ≤ℤ r.num))
+
+-- so do all lines
+abbrev pub TellControls : DiagramView → SolvedView → ℕ → List ControlLine → Type 0
+TellControls d solved agent lines = All (TellsControl d solved.answers agent) lines

@@ -1,6 +1,7 @@
 -- What the steps promise one another, in the diagram in which one agent decides alone. Only private functions cite it.
 use Rattle.std.specs.Prelude.{◌≡◌, ◌↔◌, ℕ, Bool, List, All, Option, MatchOption, IsTrue}
-use Rattle.maid_model.specs.declared.diagrams.Kind.TheVariants.{Decision, Utility}
+use Rattle.maid_model.specs.declared.diagrams.Kind.TheVariants.{Chance, Decision, Utility}
+use Rattle.maid_model.specs.Nodes.{node_at}
 use Rattle.maid_model.specs.Values.{IsDifferenceOfOptima}
 use Rattle.maid_model.specs.Views.{NodeView, DiagramView}
 use Rattle.node_sets.specs.declared.sets.NodeSet.{NodeSet}
@@ -14,6 +15,10 @@ use Rattle.control_incentive.specs.declared.lines.ControlLine.{ControlLine}
 use Rattle.control_incentive.specs.declared.paths.Paths.{Paths}
 use Rattle.control_incentive.specs.Lines.{controlling, of_control}
 use Rattle.control_incentive.specs.Paths.{IsInstrumental, LeadsTo}
+
+-- each of the nodes is a chance node
+abbrev pub AreChanceNodes : List NodeView → List ℕ → Type 0
+AreChanceNodes nodes vs = All (λ v. (node_at nodes v).kind ≡ Chance) vs
 
 -- the sets have the nodes that the paths make
 pub record HasPaths (nodes trimmed : List NodeView) (agent : ℕ) (paths : Paths) : Type 0 where

@@ -8,8 +8,8 @@ ghost use Rattle.maid_model.specs.Scopes.{KeepsScopedBounds};
 ghost use Rattle.optimum_gap.specs.Baselines.{HoldsBaseline};
 ghost use Rattle.rule_solver.specs.Kept.{IsKeptDiagram};
 ghost use Rattle.rule_solver.specs.Rooms.{AreLeft};
-ghost use Rattle.control_incentive.specs.Lines.{AreControlLines, HasChanceNodes, TellsControl, chance_nodes, node_of};
-ghost use Rattle.control_incentive.specs.Steps.{AreLinesOf, IsKeptIfSome, IsLineAlone};
+ghost use Rattle.control_incentive.specs.Lines.{HasChanceNodes, TellControls, TellIncentives, chance_nodes, node_of};
+ghost use Rattle.control_incentive.specs.Steps.{AreChanceNodes, AreLinesOf, IsKeptIfSome, IsLineAlone};
 
 use crate::finding::find;
 use crate::paths::Paths;
@@ -114,8 +114,7 @@ fn control_lines(
 ) -> Result<Vec<ControlLine>, AllocError>
     requires baseline { HoldsBaseline baseline.now }
     requires kept { IfSome kept (λ known. IsKeptDiagram baseline.now.diagram.now.nodes known.now) }
-    requires chance { All (λ v. (node_at baseline.now.diagram.now.nodes v).kind ≡ Chance)
-        nodes.now }
+    requires chance { AreChanceNodes baseline.now.diagram.now.nodes nodes.now }
     requires within { All (λ v. v < length baseline.now.diagram.now.nodes) nodes.now }
     ensures nodes { IfOk result (λ lines. map node_of lines.items ≡ nodes.now) }
     ensures lines { IfOk result (λ lines. AreLinesOf baseline.now paths.now lines.items) }
@@ -156,10 +155,8 @@ pub fn control(
     requires bound { KeepsScopedBounds diagram.now }
     requires agent { agent < diagram.now.agents }
     ensures nodes { IfOk result (λ lines. HasChanceNodes diagram.now.nodes lines.items) }
-    ensures lines { IfOk result (λ lines.
-        AreControlLines diagram.now solved.now.answers agent lines.items) }
-    ensures worths { IfOk result (λ lines.
-        All (TellsControl diagram.now solved.now.answers agent) lines.items) }
+    ensures lines { IfOk result (λ lines. TellIncentives diagram.now solved.now agent lines.items) }
+    ensures worths { IfOk result (λ lines. TellControls diagram.now solved.now agent lines.items) }
 {
     answers_are_baselines();
     let _count = diagram.count();

@@ -5,4 +5,5 @@ pub mod Placed
 pub mod Cycles
 pub mod Laws
 pub mod Edited
+pub mod Parts
 pub mod Room

@@ -1,7 +1,7 @@
 -- The cells of rules, and whether they keep the limits.
 use Rattle.std.specs.Prelude.{ℕ, ◌*◌, ◌<◌, ◌≤◌, List, length, if◌then◌else◌}
 use Rattle.maid_model.specs.declared.limits.TheConstants.{MOST_PARENTS, MOST_CELLS, MOST_RULE_CELLS}
-use Rattle.maid_model.specs.Views.{NodeView}
+use Rattle.maid_model.specs.Views.{NodeView, DiagramView}
 use Rattle.maid_model.specs.Nodes.{node_at, is_decision, states_of, parents_of, rows_of, decisions_of}
 use Rattle.maid_model.specs.Graph.{Arc, IsPath}
 use Rattle.maid_model.specs.Edits.{as_decision, with_arc}
@@ -34,3 +34,7 @@ pub record IsTooLarge (nodes : List NodeView) (x d : ℕ) : Type 0 where
 -- as a decision of the agent the node makes too much of the rules
 abbrev pub IsTooLargeAsDecision : List NodeView → ℕ → ℕ → Type 0
 IsTooLargeAsDecision nodes agent v = MOST_RULE_CELLS < rule_cells (as_decision nodes agent v)
+
+-- the same of a node of the diagram
+abbrev pub LacksRoomFor : DiagramView → ℕ → ℕ → Type 0
+LacksRoomFor d agent v = IsTooLargeAsDecision d.nodes agent v

@@ -1,6 +1,7 @@
 -- Where placing stops short: a round among the items that are left, along each item's own list of needs.
-use Rattle.std.specs.Prelude.{◌≡◌, ℕ, ◌+◌, ◌-◌, ◌<◌, List, length, drop, slice_index, Option, MatchOption, Contains}
+use Rattle.std.specs.Prelude.{◌≡◌, ℕ, ◌+◌, ◌-◌, ◌<◌, Bool, List, length, drop, slice_index, Option, MatchOption, Contains}
 use Rattle.maid_model.specs.Placing.{IsLeast, Remains, CanPlace, IsPlacing}
+use Rattle.diagram_graph.specs.Free.{IsFree}
 use Rattle.diagram_graph.specs.Needs.{needs_of, NeedsItem}
 
 -- e is the first of the list that is left
@@ -30,6 +31,10 @@ pub record IsListedRound (Left : ℕ → Type 0) (lists : List (List ℕ)) (cycl
   pub closes : IsFirstLeft Left (needs_of lists (slice_index trail (length trail - 1)))
       (slice_index trail back)
   pub is : cycle ≡ drop back trail
+
+-- it circles among the items that are not placed: such a round of them
+abbrev pub Circles : List (List ℕ) → List Bool → List Bool → List ℕ → Type 0
+Circles lists items placed cycle = IsListedRound (IsFree items placed) lists cycle
 
 -- items are placed as long as one can be, some remain, and a round among those that remain is the cycle
 pub record IsFirstCycle (Item : ℕ → Type 0) (lists : List (List ℕ)) (cycle : List ℕ) : Type 0 where

@@ -5,7 +5,7 @@ ghost use Rattle.maid_model.specs.declared.diagrams.Kind.TheVariants.{Utility};
 ghost use Rattle.maid_model.specs.Edits.{with_arc};
 ghost use Rattle.maid_model.specs.Graph.{Arc, IsPath};
 ghost use Rattle.maid_model.specs.Nodes.{IsDecision, node_at};
-ghost use Rattle.diagram_graph.specs.Edited.{IsWithNodes, with_parents};
+ghost use Rattle.diagram_graph.specs.Edited.{ClosesCycle, IsWithNodes, with_parents};
 ghost use Rattle.diagram_graph.specs.Room.{IsTooLarge, RulesFit};
 
 use crate::copies::{copy_nodes, with_nodes};
@@ -122,8 +122,7 @@ pub fn add_arc(
     requires no_utility { (node_at diagram.now.nodes from).kind ≢ Utility }
     ensures more { IfOk result (IsWithNodes diagram.now (with_arc diagram.now.nodes from to)) }
     ensures present { IsErrOf result AddFault.Present ↔ Arc diagram.now.nodes from to }
-    ensures would_cycle { IsErrOf result AddFault.WouldCycle
-        ↔ IsPath (Arc diagram.now.nodes) to from }
+    ensures would_cycle { IsErrOf result AddFault.WouldCycle ↔ ClosesCycle diagram.now from to }
     ensures too_large { IsErrOf result AddFault.TooLarge ↔ IsTooLarge diagram.now.nodes from to }
 {
     if diagram.parents(to).contains(&from) {

@@ -2,9 +2,8 @@
 
 ghost use Rattle.std.specs.Prelude.{◌≡◌, ◌<◌, ◌↔◌, ◌==◌, not, filter, length, IfOk, IsErrOf};
 ghost use Rattle.maid_model.specs.Edits.{without_arc};
-ghost use Rattle.maid_model.specs.Graph.{Arc};
 ghost use Rattle.maid_model.specs.Nodes.{IsDecision};
-ghost use Rattle.diagram_graph.specs.Edited.{IsWithNodes, without_parent};
+ghost use Rattle.diagram_graph.specs.Edited.{IsWithNodes, LacksArc, without_parent};
 
 use crate::copies::{copy_nodes, with_nodes};
 use arc_laws::arc_removed;
@@ -66,8 +65,7 @@ pub fn remove_arc(
 ) -> Result<Diagram, RemoveFault>
     requires { IsDecision diagram.now.nodes to }
     ensures less { IfOk result (IsWithNodes diagram.now (without_arc diagram.now.nodes from to)) }
-    ensures not_present { IsErrOf result RemoveFault.NotPresent
-        ↔ (Arc diagram.now.nodes from to → ⊥) }
+    ensures not_present { IsErrOf result RemoveFault.NotPresent ↔ LacksArc diagram.now from to }
 {
     arc_removed();
     if !diagram.parents(to).contains(&from) {

@@ -1,15 +1,14 @@
 //! Nodes of another kind: a chance node under an agent's control, and decisions of other agents as chance nodes.
 
-ghost use Rattle.std.specs.Prelude.{◌≡◌, ◌≢◌, ◌<◌, ◌≤◌, ◌*◌, ◌↔◌, ◌++◌, map, slice_set, length, pos, IsTrue, IfOk, OnOk, IsErrOf};
-ghost use Rattle.std.specs.List.{flat_map};
+ghost use Rattle.std.specs.Prelude.{◌≡◌, ◌<◌, ◌≤◌, ◌*◌, ◌↔◌, ◌++◌, map, slice_set, length, pos, IsTrue, IfOk, OnOk, IsErrOf};
 ghost use Rattle.maid_model.specs.declared.diagrams.Kind.TheVariants.{Chance};
 ghost use Rattle.maid_model.specs.declared.limits.TheConstants.{MOST_CELLS};
 ghost use Rattle.maid_model.specs.Answers.{FitsAnswers, rows_at};
-ghost use Rattle.maid_model.specs.Edits.{as_chance, as_decision, one_agent, made_decision};
-ghost use Rattle.maid_model.specs.Nodes.{IsDecision, agent_of, node_at};
+ghost use Rattle.maid_model.specs.Edits.{as_chance, made_decision};
+ghost use Rattle.maid_model.specs.Nodes.{IsDecision, node_at};
 ghost use Rattle.maid_model.specs.Profiles.{pure_row};
-ghost use Rattle.diagram_graph.specs.Edited.{IsFixedNode, IsWithNodes};
-ghost use Rattle.diagram_graph.specs.Room.{IsTooLargeAsDecision};
+ghost use Rattle.diagram_graph.specs.Edited.{DecidesAlone, IsFixedNode, IsOthersDecision, IsWithDecision, pure_cells};
+ghost use Rattle.diagram_graph.specs.Room.{LacksRoomFor};
 
 use crate::copies::{copy_node, copy_nodes, with_nodes};
 use crate::room::{cells_at, rule_cells};
@@ -79,9 +78,8 @@ pub fn make_decision(
 ) -> Result<Diagram, MakeFault>
     requires chance { (node_at diagram.now.nodes node).kind ≡ Chance }
     requires agent { agent < diagram.now.agents }
-    ensures made { IfOk result (IsWithNodes diagram.now (as_decision diagram.now.nodes agent node)) }
-    ensures too_large { IsErrOf result MakeFault.TooLarge
-        ↔ IsTooLargeAsDecision diagram.now.nodes agent node }
+    ensures made { IfOk result (IsWithDecision diagram.now agent node) }
+    ensures too_large { IsErrOf result MakeFault.TooLarge ↔ LacksRoomFor diagram.now agent node }
 {
     controlled();
     let _count = diagram.count();
@@ -120,8 +118,7 @@ fn push_row(cells: &mut Vec<i128>, states: usize, choice: usize) -> Result<(), A
 /// In each row weight 1 at its choice and 0 at the other states.
 fn pure_cells(alloc: Global, rows: &[Row], states: usize) -> Result<Vec<i128>, AllocError>
     requires { length rows.now * states ≤ MOST_CELLS }
-    ensures { IfOk result (λ cells.
-        cells.items ≡ map pos (flat_map (pure_row states) (map (λ row. row.choice) rows.now))) }
+    ensures { IfOk result (λ cells. cells.items ≡ pure_cells states rows.now) }
 {
     let mut cells = Vec::with_capacity(alloc, rows.len() * states)?;
     for row in rows {
@@ -154,8 +151,7 @@ fn chance_node(
 /// Whether the node is a decision of another agent.
 fn is_others(diagram: &Diagram, agent: usize, v: usize) -> bool
     requires { v < length diagram.now.nodes }
-    ensures { IsTrue result
-        ↔ (IsDecision diagram.now.nodes v × (agent_of diagram.now.nodes v ≢ agent)) }
+    ensures { IsTrue result ↔ IsOthersDecision diagram.now.nodes agent v }
 {
     diagram.kind(v) == Kind::Decision && diagram.agent_of(v) != agent
 }
@@ -189,8 +185,7 @@ pub fn fix_others(
     solved: &Solved,
 ) -> Result<Diagram, AllocError>
     requires { FitsAnswers diagram.now.nodes solved.now.answers }
-    ensures { IfOk result (IsWithNodes diagram.now
-        (one_agent diagram.now.nodes agent solved.now.answers)) }
+    ensures { IfOk result (DecidesAlone diagram.now agent solved.now.answers) }
 {
     answer_is_optimum();
     let mut nodes = Vec::with_capacity(alloc, diagram.count())?;

@@ -1,12 +1,11 @@
 //! The part of a diagram that some nodes and all their ancestors make.
 
-ghost use Rattle.std.specs.Prelude.{◌≡◌, ℕ, ◌<◌, ◌↔◌, length, map, filter, slice_index, Contains, IfOk};
+ghost use Rattle.std.specs.Prelude.{◌≡◌, ℕ, ◌<◌, ◌↔◌, length, map, slice_index, Contains, IfOk};
 ghost use Rattle.node_sets.specs.declared.sets.TheConstants.{MOST_NODES};
-ghost use Rattle.node_sets.specs.Sets.{holds, IsIn};
+ghost use Rattle.node_sets.specs.Sets.{IsIn};
 ghost use Rattle.maid_model.specs.Graph.{AllDifferent};
-ghost use Rattle.maid_model.specs.Nodes.{numbers_of};
-ghost use Rattle.maid_model.specs.Parts.{IsAncestral, with_ancestors, place_in, part_of, part_diagram};
-ghost use Rattle.diagram_graph.specs.Edited.{with_parents};
+ghost use Rattle.maid_model.specs.Parts.{IsAncestral, part_of, place_in, with_ancestors};
+ghost use Rattle.diagram_graph.specs.Parts.{HasPartDiagram, HasPartNodes, IsRenumbered, ListsSet};
 
 use crate::copies::with_nodes;
 use maid_model::{Diagram, MOST_NODES, Node};
@@ -36,8 +35,7 @@ fn kept_set(diagram: &Diagram, of: &[usize]) -> NodeSet
 
 /// The nodes of the set, in text order.
 fn listed(alloc: Global, diagram: &Diagram, set: &NodeSet) -> Result<Vec<usize>, AllocError>
-    ensures { IfOk result (λ list.
-        list.items ≡ filter (holds set.now) (numbers_of diagram.now.nodes)) }
+    ensures { IfOk result (λ list. ListsSet diagram.now.nodes set.now list.items) }
 {
     let mut list = Vec::new(alloc);
     for v in 0..diagram.count() {
@@ -89,8 +87,7 @@ fn new_parents(
 /// A copy of the node with its parents' new numbers.
 fn renumber(alloc: Global, node: &Node, places: &[usize; MOST_NODES]) -> Result<Node, AllocError>
     requires { (u : ℕ) → Contains node.now.parents u → u < MOST_NODES }
-    ensures { IfOk result (λ new.
-        new ≡ with_parents node.now (map (slice_index places.now) node.now.parents)) }
+    ensures { IfOk result (IsRenumbered places.now node.now) }
 {
     Ok(Node {
         kind: node.kind,
@@ -124,10 +121,8 @@ fn part_nodes(alloc: Global, diagram: &Diagram, kept: &[usize]) -> Result<Vec<No
 /// It goes over all arcs a few times, and takes the time and the memory of a copy of the kept cells.
 pub fn part(alloc: Global, diagram: &Diagram, of: &[usize]) -> Result<SubDiagram, AllocError>
     requires { (v : ℕ) → Contains of.now v → v < length diagram.now.nodes }
-    ensures nodes { IfOk result (λ part.
-        part.nodes.items ≡ with_ancestors diagram.now.nodes of.now) }
-    ensures diagram { IfOk result (λ part.
-        part.diagram ≡ part_diagram diagram.now (with_ancestors diagram.now.nodes of.now)) }
+    ensures nodes { IfOk result (HasPartNodes diagram.now of.now) }
+    ensures diagram { IfOk result (HasPartDiagram diagram.now of.now) }
 {
     parts_are_diagrams();
     let _count = diagram.count();

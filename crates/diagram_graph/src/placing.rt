@@ -1,10 +1,9 @@
 //! Items placed one by one, each after those that it needs.
 
 ghost use Rattle.std.specs.Prelude.{◌≡◌, ℕ, ◌<◌, ◌↔◌, length, Contains, IsTrue, IfOk, OnOk};
-ghost use Rattle.maid_model.specs.Placing.{IsPlacing};
-ghost use Rattle.diagram_graph.specs.Needs.{IsIn, NeedsItem};
+ghost use Rattle.diagram_graph.specs.Needs.{IsIn};
 ghost use Rattle.diagram_graph.specs.Free.{IsFree, IsReady, NeedsWithin, NeedsItems, TellsLeast};
-ghost use Rattle.diagram_graph.specs.Placed.{IsPlacingOf};
+ghost use Rattle.diagram_graph.specs.Placed.{IsPlacingOf, PlacesItems};
 
 use crate::needs::Needs;
 use crate::rounds::find_round;
@@ -87,8 +86,7 @@ fn place<N: Needs>(
     requires none { (v : ℕ) → IsIn placed.old v → ⊥ }
     requires needs { NeedsWithin (N.lists needs.now) }
     ensures marks { IfOk result (λ order. (v : ℕ) → IsIn placed.new v ↔ Contains order.items v) }
-    ensures placing { IfOk result (λ order.
-        IsPlacing (IsIn items.now) (NeedsItem (N.lists needs.now)) order.items) }
+    ensures placing { IfOk result (λ order. PlacesItems (N.lists needs.now) items.now order.items) }
     ensures stuck { OnOk result ((v : ℕ) → IsReady (N.lists needs.now) items.now placed.new v → ⊥) }
 {
     let mut order = Vec::new(alloc);

@@ -4,7 +4,7 @@ ghost use Rattle.std.specs.Prelude.{◌≡◌, ℕ, ◌<◌, length, Contains, I
 ghost use Rattle.maid_model.specs.Placing.{IsLeast};
 ghost use Rattle.diagram_graph.specs.Needs.{needs_of};
 ghost use Rattle.diagram_graph.specs.Free.{IsFree, IsReady, NeedsItems};
-ghost use Rattle.diagram_graph.specs.Rounds.{IsFirstLeft, IsListedRound, TellsFirstLeft};
+ghost use Rattle.diagram_graph.specs.Rounds.{Circles, IsFirstLeft, TellsFirstLeft};
 
 use crate::needs::Needs;
 use crate::placing::is_free;
@@ -67,8 +67,7 @@ pub fn find_round<N: Needs>(
     requires needs { NeedsItems (N.lists needs.now) items.now }
     requires start { IsLeast (IsFree items.now placed.now) start }
     requires stuck { (x : ℕ) → IsReady (N.lists needs.now) items.now placed.now x → ⊥ }
-    ensures { IfOk result (λ cycle.
-        IsListedRound (IsFree items.now placed.now) (N.lists needs.now) cycle.items) }
+    ensures { IfOk result (λ cycle. Circles (N.lists needs.now) items.now placed.now cycle.items) }
 {
     let mut trail: Vec<usize> = Vec::new(alloc);
     let mut seen = vec![in alloc; false; needs.count()]?;

@@ -5,3 +5,4 @@ pub mod Lists
 pub mod Members
 pub mod Counts
 pub mod Sights
+pub mod Ranges

@@ -1,5 +1,6 @@
 -- Members of lists, by place and by cases.
-use Rattle.std.proofs.Common.{◌≡◌, ◌∙◌, ◌⊎◌, ◌↔◌, ◌==◌, ◌||◌, ℕ, zero, suc, ◌+◌, ◌<◌, ◌≤◌, Bool, true, false, cond, filter, eqb, eqb-true, eq-eqb, List, [], ◌∷◌, refl, sym, ap, subst, inl, inr, arith, Contains}
+use Rattle.std.proofs.Common.{◌≡◌, ◌∙◌, ◌⊎◌, ◌↔◌, ◌==◌, ◌||◌, ℕ, zero, suc, ◌+◌, ◌<◌, ◌≤◌, Bool, true, false, cond, filter, eqb, eqb-true, eq-eqb, List, [], ◌∷◌, refl, sym, ap, subst, inl, inr, arith, All, Contains}
+use Rattle.std.proofs.lemmas.List.Elements.{All-cons, All-nil}
 use Rattle.std.specs.List.{list_any, range_with_len}
 use Rattle.finite_sums.specs.Members.{Among}
 
@@ -33,6 +34,11 @@ any_is x xs = (λ e. contains_from_among xs x (there xs e), λ c. found xs (amon
         either : (b : Bool) → list_any (λ z. z == x) ys ≡ true → (b || list_any (λ z. z == x) ys) ≡ true
         either true e = refl
         either false e = e
+
+-- what holds of the members holds of each
+pub all_among : (P : ℕ → Type 0) (xs : List ℕ) → ((x : ℕ) → Among x xs → P x) → All P xs
+all_among P [] h = All-nil P
+all_among P (x ∷ xs) h = All-cons P x xs (h x (inl refl)) (all_among P xs (λ y m. h y (inr m)))
 
 -- the one member of a list of one
 pub one_member : (x y : ℕ) (more : List ℕ) → more ≡ [] → Contains (y ∷ more) x → x ≡ y

@@ -21,6 +21,7 @@ pub record HasTotal (count : ℕ → ℕ) (table : ℕ → World → ℤ) (total
   pub sums : (w : World) → InRange count w
       → sum_below (count v) (λ s. table v (with_state w v s)) ≡ total v
 
+-- so does the table of each node of the list
 abbrev pub HaveTotals : (ℕ → ℕ) → (ℕ → World → ℤ) → (ℕ → ℤ) → List ℕ → Type 0
 HaveTotals count table total [] = Unit {0}
 HaveTotals count table total (v ∷ vs) =

@@ -38,6 +38,7 @@ abbrev pub nat_product_over : (ℕ → ℕ) → List ℕ → ℕ
 nat_product_over f [] = 1
 nat_product_over f (v ∷ vs) = f v * nat_product_over f vs
 
+-- f of each member of the list added up, of numbers from nought
 abbrev pub nat_sum_over : (ℕ → ℕ) → List ℕ → ℕ
 nat_sum_over f [] = 0
 nat_sum_over f (v ∷ vs) = f v + nat_sum_over f vs

@@ -12,8 +12,8 @@ abbrev pub gives : {A Fault : Type 0} → (A → Type 0) → Outcomes A Fault
 gives IsSuch (Ok x) = IsSuch x
 gives IsSuch (Err f) = ⊥
 
--- the pass, and then the task
 infixr 20 ◌▸▸◌
+-- the pass, and then the task
 abbrev pub ◌▸▸◌ : {A Fault : Type 0} → Pass Fault → Outcomes A Fault → Outcomes A Fault
 (P ▸▸ C) (Ok x) = P None × C (Ok x)
 (P ▸▸ C) (Err f) = P (Some f) ⊎ (P None × C (Err f))

@@ -24,8 +24,8 @@ abbrev pub only : {Fault : Type 0} → Bool → Pass Fault → Pass Fault
 only true P = P
 only false P = clear
 
--- the one pass and then the other
 infixr 20 ◌▸◌
+-- the one pass and then the other
 abbrev pub ◌▸◌ : {Fault : Type 0} → Pass Fault → Pass Fault → Pass Fault
 (P ▸ Q) None = P None × Q None
 (P ▸ Q) (Some f) = P (Some f) ⊎ (P None × Q (Some f))

@@ -32,7 +32,7 @@ repeats numbers = each_after (λ earlier n. rule (Contains earlier n) n) [] numb
 abbrev pub FindsNoRepeat : Type 0
 FindsNoRepeat = (numbers : List ℕ) → repeats numbers None ↔ AllPairs (λ n later. n ≢ later) numbers
 
--- and else the first
+-- the first number that stands among those before it
 pub record IsFirstRepeat (numbers : List ℕ) (n : ℕ) : Type 0 where
   pub before : List ℕ
   pub after : List ℕ
@@ -40,6 +40,7 @@ pub record IsFirstRepeat (numbers : List ℕ) (n : ℕ) : Type 0 where
   pub differ : AllPairs (λ n later. n ≢ later) before
   pub repeated : Contains before n
 
+-- a repeat is found exactly where it is the first
 abbrev pub FindsTheRepeat : Type 0
 FindsTheRepeat = (numbers : List ℕ) (n : ℕ) → repeats numbers (Some n) ↔ IsFirstRepeat numbers n
 
@@ -96,17 +97,20 @@ IsTold bounds value (Ok given) = (given ≡ value) × (first_passed bounds value
 IsTold bounds value (Err told) =
     (told ≡ None) ⊎ ((told ≡ first_passed bounds value) × (first_passed bounds value ≢ None))
 
+-- what comes of bounds in turn is what a result tells
 abbrev pub ResultsTell : Type 0
 ResultsTell = (bounds : List ℕ) (value : ℕ) (result : Result ℕ (Option ℕ))
     → ComesOf (λ told. told) (bounded bounds value) result ↔ IsTold bounds value result
 
--- a table finds nothing or a fault, never both, and one fault at most
+-- a table finds nothing or a fault
 abbrev pub TablesAreCovered : Type 0
 TablesAreCovered = (rows : List Row) → IsCovered (table rows)
 
+-- no table finds both nothing and a fault
 abbrev pub TablesAreExclusive : Type 0
 TablesAreExclusive = (rows : List Row) → IsExclusive (table rows)
 
+-- a table finds one fault at most
 abbrev pub TablesHaveOneFault : Type 0
 TablesHaveOneFault = (rows : List Row) → HasOneFault (table rows)
 

@@ -12,8 +12,8 @@ use Rattle.optimum_gap.specs.declared.baselines.Baseline.{Baseline}
 use Rattle.optimum_gap.specs.declared.found.Found.{Found}
 use Rattle.optimum_gap.specs.Found.{found_of, worth_of}
 use Rattle.info_value.specs.declared.lines.InfoLine.{InfoLine}
-use Rattle.info_value.specs.Finding.{of_seen, of_unseen}
-use Rattle.info_value.specs.Lines.{arc_of, arcs_into, decides, may_see}
+use Rattle.info_value.specs.Finding.{WouldBeRequisite, of_seen, of_unseen}
+use Rattle.info_value.specs.Lines.{HasAskedArcs, arc_of, arcs_into, decides, may_see}
 
 -- an arc into a decision, from another node that is no utility and does not descend from it
 pub record CanAsk (nodes : List NodeView) (arc : ℕ × ℕ) : Type 0 where
@@ -28,10 +28,10 @@ pub record CanAskAll (nodes alone : List NodeView) (d : ℕ) : Type 0 where
   pub arcs :
       (x : ℕ) → x < length nodes → IsTrue (may_see nodes d x) → CanAsk alone (x, d)
 
--- so it is with each decision of the agent
-abbrev pub CanAskEach : List NodeView → List NodeView → ℕ → Type 0
-CanAskEach nodes alone agent = (d : ℕ) → d < length nodes → IsTrue (decides nodes agent d)
-    → CanAskAll nodes alone d
+-- so it is with each decision of the agent of a baseline
+abbrev pub CanAskEach : List NodeView → Baseline → Type 0
+CanAskEach nodes b = (d : ℕ) → d < length nodes → IsTrue (decides nodes b.agent d)
+    → CanAskAll nodes b.diagram.now.nodes d
 
 -- the first reason that applies, or the difference of the two optima: of an arc that is there,
 abbrev pub IsFoundOfSeen : DiagramView → ℕ → ℕ → ℕ → Found → Type 0
@@ -45,9 +45,18 @@ IsFoundOfUnseen d agent x to found = (of_unseen d x to
     ▸▸ gives (IsDifferenceOfOptima (with_arc d.nodes x to) d.nodes d.decimals agent))
     (found_of found)
 
+-- the same of an arc that is there, or of one that is not
 abbrev pub IsFoundAlone : DiagramView → ℕ → ℕ → ℕ → Bool → Found → Type 0
 IsFoundAlone d agent x to true found = IsFoundOfSeen d agent x to found
 IsFoundAlone d agent x to false found = IsFoundOfUnseen d agent x to found
+
+-- the same in the diagram and for the agent of a baseline
+abbrev pub IsUnseenFoundOf : Baseline → ℕ → ℕ → Found → Type 0
+IsUnseenFoundOf b x to found = IsFoundOfUnseen b.diagram.now b.agent x to found
+
+-- in the diagram of a baseline the node would be requisite, if the decision saw it
+abbrev pub WouldBeNeeded : Baseline → ℕ → ℕ → Type 0
+WouldBeNeeded b x to = WouldBeRequisite b.diagram.now.nodes x to
 
 -- where something is told of its worth, the diagram with the arc is one
 abbrev pub HasRoomFor : DiagramView → ℕ → ℕ → Found → Type 0
@@ -64,6 +73,14 @@ pub record IsLineAlone (d : DiagramView) (agent : ℕ) (line : InfoLine) : Type 
 abbrev pub AreLinesOf : Baseline → List InfoLine → Type 0
 AreLinesOf b lines = All (IsLineAlone b.diagram.now b.agent) lines
 
--- behind the arcs of the lines before come those into d
-abbrev pub AppendsArcs : List NodeView → ℕ → List InfoLine → List InfoLine → Type 0
-AppendsArcs nodes d before after = map arc_of after ≡ map arc_of before ++ arcs_into nodes d
+-- where the lines before are such lines, so are those after
+abbrev pub StayLinesOf : Baseline → List InfoLine → List InfoLine → Type 0
+StayLinesOf b before after = AreLinesOf b before → AreLinesOf b after
+
+-- the arcs of the lines are those that are asked about for the agent of a baseline
+abbrev pub AskFor : List NodeView → Baseline → List InfoLine → Type 0
+AskFor nodes b lines = HasAskedArcs nodes b.agent lines
+
+-- behind the arcs of the lines before come those into v
+abbrev pub AppendsArcs : DiagramView → ℕ → List InfoLine → List InfoLine → Type 0
+AppendsArcs d v before after = map arc_of after ≡ map arc_of before ++ arcs_into d.nodes v

@@ -9,10 +9,11 @@ use Rattle.diagram_graph.specs.Room.{IsTooLarge}
 use Rattle.first_fault.specs.Passes.{Pass, ◌▸◌, rule}
 use Rattle.optimum_gap.specs.Found.{Reason, TooLarge, Worthless, solving, unless}
 
--- the diagram with the arc, and without it
+-- the diagram with the arc
 abbrev pub seeing : DiagramView → ℕ → ℕ → DiagramView
 seeing d x to = with_nodes d (with_arc d.nodes x to)
 
+-- the diagram without the arc
 abbrev pub missing : DiagramView → ℕ → ℕ → DiagramView
 missing d x to = with_nodes d (without_arc d.nodes x to)
 

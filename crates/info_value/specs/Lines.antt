@@ -1,11 +1,11 @@
 -- What information is worth to an agent: a line for each arc into one of its decisions (Everitt et al. 2021).
-use Rattle.std.specs.Prelude.{◌≡◌, ◌⊎◌, ◌↔◌, ◌==◌, ◌&&◌, not, ℕ, Bool, true, false, List, map, filter, pos, ◌≤ℤ◌, IsTrue, IfSome}
+use Rattle.std.specs.Prelude.{◌≡◌, ◌⊎◌, ◌↔◌, ◌==◌, ◌&&◌, not, ℕ, Bool, true, false, List, All, map, filter, pos, ◌≤ℤ◌, IsTrue, IfSome}
 use Rattle.std.specs.List.{flat_map}
 use Rattle.maid_model.specs.declared.answers.Ratio.{Ratio}
 use Rattle.maid_model.specs.Graph.{Arc, descends}
 use Rattle.maid_model.specs.Nodes.{agent_of, is_decision, is_utility, node_at, numbers_of}
 use Rattle.maid_model.specs.Values.{IsValueOfSeen, IsValueOfUnseen}
-use Rattle.maid_model.specs.Views.{NodeView, DiagramView, AnswerView}
+use Rattle.maid_model.specs.Views.{NodeView, DiagramView, AnswerView, SolvedView}
 use Rattle.first_fault.specs.Outcomes.{◌▸▸◌, gives}
 use Rattle.optimum_gap.specs.Baselines.{alone}
 use Rattle.optimum_gap.specs.declared.found.Found.{Found}
@@ -52,6 +52,10 @@ pub record IsInfoLine
   pub has : IsTrue line.has ↔ Arc d.nodes line.from line.to
   pub found : IsFound d answers agent line.from line.to line.has line.found
 
+-- so do all lines, of the diagram and its answer
+abbrev pub AreInfoLines : DiagramView → SolvedView → ℕ → List InfoLine → Type 0
+AreInfoLines d solved agent lines = All (IsInfoLine d solved.answers agent) lines
+
 -- the information value of the arc, there or not
 abbrev pub IsInfoValue : DiagramView → List AnswerView → ℕ → ℕ → ℕ → Ratio → Type 0
 IsInfoValue d answers agent x to r = IsValueOfSeen d.nodes d.decimals answers agent x to r
@@ -62,3 +66,7 @@ IsInfoValue d answers agent x to r = IsValueOfSeen d.nodes d.decimals answers ag
 abbrev pub TellsWorth : DiagramView → List AnswerView → ℕ → InfoLine → Type 0
 TellsWorth d answers agent line = IfSome (worth_of line.found) (λ r.
     IsInfoValue d answers agent line.from line.to r × (pos 0 ≤ℤ r.num))
+
+-- so do all lines
+abbrev pub TellWorths : DiagramView → SolvedView → ℕ → List InfoLine → Type 0
+TellWorths d solved agent lines = All (TellsWorth d solved.answers agent) lines

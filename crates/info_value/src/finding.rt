@@ -6,8 +6,8 @@ ghost use Rattle.maid_model.specs.Graph.{Arc};
 ghost use Rattle.maid_model.specs.Nodes.{IsDecision};
 ghost use Rattle.maid_model.specs.Relevance.{IsRequisite};
 ghost use Rattle.optimum_gap.specs.Baselines.{HoldsBaseline};
-ghost use Rattle.info_value.specs.Alone.{CanAsk, HasRoomFor, IsFoundOfSeen, IsFoundOfUnseen};
-ghost use Rattle.info_value.specs.Finding.{WouldBeRequisite, missing, seeing};
+ghost use Rattle.info_value.specs.Alone.{CanAsk, HasRoomFor, IsFoundOfSeen, IsUnseenFoundOf, WouldBeNeeded};
+ghost use Rattle.info_value.specs.Finding.{missing, seeing};
 
 use arc_laws::arc_removed;
 use diagram_graph::{AddFault, RemoveFault, add_arc, is_too_large, remove_arc};
@@ -79,10 +79,8 @@ pub(crate) fn find_unseen(
     requires baseline { HoldsBaseline baseline.now }
     requires asked { CanAsk baseline.now.diagram.now.nodes (from, to) }
     requires absent { Arc baseline.now.diagram.now.nodes from to → ⊥ }
-    requires would_need { IsTrue would_need
-        ↔ WouldBeRequisite baseline.now.diagram.now.nodes from to }
-    ensures found { IfOk result (IsFoundOfUnseen baseline.now.diagram.now baseline.now.agent from
-        to) }
+    requires would_need { IsTrue would_need ↔ WouldBeNeeded baseline.now from to }
+    ensures found { IfOk result (IsUnseenFoundOf baseline.now from to) }
     ensures graph { IfOk result (HasRoomFor baseline.now.diagram.now from to) }
 {
     edits_keep_scopes();

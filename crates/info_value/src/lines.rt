@@ -1,12 +1,12 @@
 //! A line for each arc that is asked about.
 
-ghost use Rattle.std.specs.Prelude.{◌≡◌, ◌<◌, All, IfOk, OnOk, length};
+ghost use Rattle.std.specs.Prelude.{◌≡◌, ◌<◌, IfOk, OnOk, length};
 ghost use Rattle.maid_model.specs.Answers.{IsAnswer};
 ghost use Rattle.maid_model.specs.Scopes.{KeepsScopedBounds};
 ghost use Rattle.optimum_gap.specs.Baselines.{HoldsBaseline};
 ghost use Rattle.requisite_trim.specs.Needs.{TellsNeeds};
-ghost use Rattle.info_value.specs.Alone.{AppendsArcs, AreLinesOf, CanAsk, CanAskAll, CanAskEach, IsLineAlone};
-ghost use Rattle.info_value.specs.Lines.{HasAskedArcs, IsInfoLine, TellsWorth};
+ghost use Rattle.info_value.specs.Alone.{AppendsArcs, AreLinesOf, AskFor, CanAsk, CanAskAll, CanAskEach, IsLineAlone, StayLinesOf};
+ghost use Rattle.info_value.specs.Lines.{AreInfoLines, HasAskedArcs, TellWorths};
 
 use crate::arcs::{below, decides, may_see};
 use crate::finding::{find_seen, find_unseen};
@@ -73,10 +73,8 @@ fn push_lines_into(
     requires baseline { HoldsBaseline baseline.now }
     requires within { decision < length diagram.now.nodes }
     requires asked { CanAskAll diagram.now.nodes baseline.now.diagram.now.nodes decision }
-    ensures arcs { OnOk result (AppendsArcs diagram.now.nodes decision lines.old.items
-        lines.new.items) }
-    ensures lines { OnOk result (AreLinesOf baseline.now lines.old.items → AreLinesOf baseline.now
-        lines.new.items) }
+    ensures arcs { OnOk result (AppendsArcs diagram.now decision lines.old.items lines.new.items) }
+    ensures lines { OnOk result (StayLinesOf baseline.now lines.old.items lines.new.items) }
 {
     let below = below(diagram, decision);
     let requisites = RequisiteNodes::of(baseline.diagram, decision);
@@ -95,9 +93,8 @@ fn info_lines(
     baseline: &Baseline,
 ) -> Result<Vec<InfoLine>, AllocError>
     requires baseline { HoldsBaseline baseline.now }
-    requires asked { CanAskEach diagram.now.nodes baseline.now.diagram.now.nodes baseline.now.agent }
-    ensures arcs { IfOk result (λ lines.
-        HasAskedArcs diagram.now.nodes baseline.now.agent lines.items) }
+    requires asked { CanAskEach diagram.now.nodes baseline.now }
+    ensures arcs { IfOk result (λ lines. AskFor diagram.now.nodes baseline.now lines.items) }
     ensures lines { IfOk result (λ lines. AreLinesOf baseline.now lines.items) }
 {
     let mut lines = Vec::new(alloc);
@@ -135,10 +132,8 @@ pub fn info(
     requires bound { KeepsScopedBounds diagram.now }
     requires agent { agent < diagram.now.agents }
     ensures asked { IfOk result (λ lines. HasAskedArcs diagram.now.nodes agent lines.items) }
-    ensures lines { IfOk result (λ lines.
-        All (IsInfoLine diagram.now solved.now.answers agent) lines.items) }
-    ensures worths { IfOk result (λ lines.
-        All (TellsWorth diagram.now solved.now.answers agent) lines.items) }
+    ensures lines { IfOk result (λ lines. AreInfoLines diagram.now solved.now agent lines.items) }
+    ensures worths { IfOk result (λ lines. TellWorths diagram.now solved.now agent lines.items) }
 {
     answers_are_baselines();
     descent_is_tested();

@@ -1,12 +1,12 @@
 -- The answer: the base of each decision, the best states against it, and what the plan is worth to each agent.
-use Rattle.std.specs.Prelude.{◌≡◌, ℕ, ◌<◌, ◌*◌, ◌^◌, List, [], ◌∷◌, map, length, All, Contains, slice_index_or, ℤ, pos, ◌*ℤ◌, ◌≤ℤ◌, ◌<ℤ◌, ◌==◌, if◌then◌else◌, nat_abs, unsigned_abs, Some, None, IfSome}
+use Rattle.std.specs.Prelude.{◌≡◌, ℕ, ◌<◌, ◌*◌, ◌^◌, List, [], ◌∷◌, map, length, All, Contains, slice_index_or, ℤ, pos, ◌*ℤ◌, ◌≤ℤ◌, ◌<ℤ◌, ◌==◌, if◌then◌else◌, nat_abs, unsigned_abs, Some, None, IfSome, Result, IfOk}
 use Rattle.std.specs.Int.{IsGcd}
 use Rattle.maid_model.specs.declared.answers.Ratio.{Ratio}
 use Rattle.maid_model.specs.declared.answers.Row.{Row}
 use Rattle.maid_model.specs.Views.{NodeView, DiagramView, RuleView, AnswerView, SolvedView}
 use Rattle.maid_model.specs.Nodes.{IsDecision, states_of, rows_of, decisions_of}
 use Rattle.maid_model.specs.Graph.{AllDifferent}
-use Rattle.maid_model.specs.Profiles.{IsProfile, SameRule, pure_rule, uniform_profile}
+use Rattle.maid_model.specs.Profiles.{IsProfile, IsRule, SameRule, pure_rule, uniform_profile}
 use Rattle.maid_model.specs.Gains.{gain_at, mass_at, gain_of, mass}
 use Rattle.maid_model.specs.Relevance.{IsLive, ReliesOn}
 use Rattle.maid_model.specs.Placing.{IsRelianceOrder}
@@ -47,10 +47,18 @@ abbrev pub rows_at : List AnswerView → ℕ → List Row
 rows_at [] v = []
 rows_at (a ∷ answers) v = if a.decision == v then a.rows else rows_at answers v
 
+-- the choices of the rows
+abbrev pub choices_of : List Row → List ℕ
+choices_of rows = map (λ r. r.choice) rows
+
+-- the rule takes in each row of the decision the row's choice
+abbrev pub TakesChoices : List NodeView → ℕ → List Row → RuleView → Type 0
+TakesChoices nodes v rows rule = rule ≡ pure_rule nodes v (choices_of rows)
+
 -- the profile of the answered choices: at each decision its pure rule
 abbrev pub pure_profile : List NodeView → List AnswerView → List RuleView
 pure_profile nodes answers =
-    map (λ v. pure_rule nodes v (map (λ r. r.choice) (rows_at answers v))) (decisions_of nodes)
+    map (λ v. pure_rule nodes v (choices_of (rows_at answers v))) (decisions_of nodes)
 
 -- the profile of the answered choices of a diagram
 abbrev pub answered : DiagramView → SolvedView → List RuleView
@@ -112,16 +120,25 @@ pub record FitsAnswer (nodes : List NodeView) (answer : AnswerView) : Type 0 whe
   pub choices : All (λ r. r.choice < states_of nodes answer.decision) answer.rows
   pub worths : All (λ r. IfSome r.worth IsReduced) answer.rows
 
--- so it is where there is a row for each choice of the decision's parents' states, with choices in range
+-- it is so where there is a row for each choice of the decision's parents' states, with choices in range
 abbrev pub WhereRowsFit : List NodeView → ℕ → List Row → Type 0 → Type 0
 WhereRowsFit nodes v rows So =
     length rows ≡ rows_of nodes v → All (λ r. r.choice < states_of nodes v) rows → So
+
+-- where the rows fit, what comes of them is a rule of the diagram
+abbrev pub GivesRule : {E : Type 0} → List NodeView → ℕ → List Row → Result RuleView E → Type 0
+GivesRule nodes v rows result = WhereRowsFit nodes v rows (IfOk result (IsRule nodes))
 
 -- each decision has an answered row for each choice of its parents' states, with choices in range
 abbrev pub FitsAnswers : List NodeView → List AnswerView → Type 0
 FitsAnswers nodes answers = (v : ℕ) → IsDecision nodes v
     → (length (rows_at answers v) ≡ rows_of nodes v)
     × All (λ r. r.choice < states_of nodes v) (rows_at answers v)
+
+-- where the answers fit, what comes of them is a profile of the diagram
+abbrev pub GivesProfile :
+    {E : Type 0} → List NodeView → List AnswerView → Result (List RuleView) E → Type 0
+GivesProfile nodes answers result = FitsAnswers nodes answers → IfOk result (IsProfile nodes)
 
 -- A value that a report can show: answers in the order given, each decision once, and a reduced fraction for each
 -- agent.

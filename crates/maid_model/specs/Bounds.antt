@@ -3,13 +3,14 @@ use Rattle.std.specs.Prelude.{ℕ, ◌≤◌, ◌*◌, ◌^◌, min, max, List}
 use Rattle.maid_model.specs.declared.limits.TheConstants.{COUNT_END}
 use Rattle.maid_model.specs.declared.diagrams.Kind.{Kind}
 use Rattle.maid_model.specs.declared.diagrams.Kind.TheVariants.{Chance, Decision, Utility}
-use Rattle.maid_model.specs.Views.{NodeView, DiagramView}
+use Rattle.maid_model.specs.Views.{NodeView, DiagramView, RuleView}
 use Rattle.maid_model.specs.Nodes.{node_at, states_of, numbers_of}
 use Rattle.finite_sums.specs.Sums.{nat_product_over}
 use Rattle.maid_model.specs.Tables.{chance_total}
-use Rattle.maid_model.specs.Gains.{greatest_utility}
+use Rattle.maid_model.specs.Gains.{base_mass, greatest_utility}
 use Rattle.maid_model.specs.Diagrams.{greatest_number}
 
+-- how a node of that kind counts: by its total, by its states' count, or not at all
 abbrev pub bound_by : Kind → ℕ → ℕ → ℕ
 bound_by Chance total states = total
 bound_by Decision total states = states
@@ -27,6 +28,10 @@ bound_product nodes = nat_product_over (bound_factor nodes) (numbers_of nodes)
 abbrev pub HasRoomForWeight : DiagramView → ℕ → Type 0
 HasRoomForWeight d weight =
     weight * max (10 ^ d.decimals) (greatest_utility d.nodes) ≤ greatest_number
+
+-- and so has the mass of the decision's base
+abbrev pub HasRoomForBase : DiagramView → List RuleView → ℕ → Type 0
+HasRoomForBase d p decision = HasRoomForWeight d (base_mass d.nodes p decision)
 
 -- the product over all nodes has room
 abbrev pub KeepsBound : DiagramView → Type 0

@@ -62,6 +62,7 @@ as_chance nodes answers v = record {
   cells = map pos (pure_rule nodes v (map (λ r. r.choice) (rows_at answers v))).weights;
 }
 
+-- the node where only the agent decides: another agent's decision becomes a chance node
 abbrev pub fixed_by : Kind → List NodeView → ℕ → List AnswerView → ℕ → NodeView
 fixed_by Decision nodes agent answers v =
     if agent_of nodes v == agent then node_at nodes v else as_chance nodes answers v

@@ -1,5 +1,5 @@
 -- The weight of a world, and the sums over worlds: expected utilities, and what a decision's states are worth in a row.
-use Rattle.std.specs.Prelude.{◌≡◌, ℕ, ◌+◌, ◌*◌, ◌<◌, Bool, ◌&&◌, List, [], ◌∷◌, slice_index, slice_index_or, ℤ, pos, ◌*ℤ◌, ◌==◌, if◌then◌else◌, nat_abs, max}
+use Rattle.std.specs.Prelude.{◌≡◌, ℕ, ◌+◌, ◌*◌, ◌<◌, Bool, ◌&&◌, List, [], ◌∷◌, length, slice_index, slice_index_or, ℤ, pos, ◌*ℤ◌, ◌==◌, if◌then◌else◌, nat_abs, max}
 use Rattle.maid_model.specs.Views.{NodeView, RuleView}
 use Rattle.maid_model.specs.Nodes.{agent_of, node_at, states_of, rows_of, numbers_of, is_utility, is_utility_of}
 use Rattle.maid_model.specs.Graph.{descends}
@@ -65,6 +65,10 @@ gain_at nodes p d state row = sum_worlds nodes (λ w.
 abbrev pub mass_at : List NodeView → List RuleView → ℕ → ℕ → ℤ
 mass_at nodes p d row =
     sum_worlds nodes (λ w. if is_at nodes d 0 row w then weight_without nodes p d w else pos 0)
+
+-- a cell for each state in each row of the decision
+abbrev pub HasGainCells : List NodeView → ℕ → List ℤ → Type 0
+HasGainCells nodes d gains = length gains ≡ rows_of nodes d * states_of nodes d
 
 -- the gain of each state in each row of the decision, row by row and the state fastest
 abbrev pub AreGainsAt : List NodeView → List RuleView → ℕ → List ℤ → Type 0

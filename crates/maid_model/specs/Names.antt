@@ -11,15 +11,19 @@ pub record NamesView : Type 0 where
   pub labels : List (List (List ℕ))
   pub agents : List (List ℕ)
 
+-- the name of the node of that number
 abbrev pub name_of : NamesView → ℕ → List ℕ
 name_of names v = slice_index_or names.nodes v []
 
+-- the labels of the node's states
 abbrev pub labels_of : NamesView → ℕ → List (List ℕ)
 labels_of names v = slice_index_or names.labels v []
 
+-- the label of that state of the node
 abbrev pub label_of : NamesView → ℕ → ℕ → List ℕ
 label_of names v state = slice_index_or (labels_of names v) state []
 
+-- the name of the agent of that number
 abbrev pub agent_name : NamesView → ℕ → List ℕ
 agent_name names agent = slice_index_or names.agents agent []
 
@@ -44,3 +48,8 @@ list_of names = map (λ name. name.items) names
 -- the bytes of each label, node by node
 abbrev pub lists_of : List (Vec (Vec ℕ)) → List (List (List ℕ))
 lists_of labels = map (λ list. list_of list.items) labels
+
+-- the names that these lists say
+abbrev pub names_in : List (Vec ℕ) → List (Vec (Vec ℕ)) → List (Vec ℕ) → NamesView
+names_in nodes labels agents =
+    record { nodes = list_of nodes; labels = lists_of labels; agents = list_of agents }

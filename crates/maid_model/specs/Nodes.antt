@@ -9,12 +9,15 @@ use Rattle.maid_model.specs.Views.{NodeView}
 abbrev pub no_node : NodeView
 no_node = record { kind = Utility; owner = 0; more = []; states = 1; parents = []; cells = [] }
 
+-- the node of that number
 abbrev pub node_at : List NodeView → ℕ → NodeView
 node_at nodes v = slice_index_or nodes v no_node
 
+-- how many states the node has
 abbrev pub states_of : List NodeView → ℕ → ℕ
 states_of nodes v = (node_at nodes v).states
 
+-- the node's parents, in the order of its table
 abbrev pub parents_of : List NodeView → ℕ → List ℕ
 parents_of nodes v = (node_at nodes v).parents
 
@@ -26,16 +29,19 @@ counts_of nodes = map (λ n. n.states) nodes
 abbrev pub numbers_of : List NodeView → List ℕ
 numbers_of nodes = range_with_len 0 (length nodes)
 
+-- a chance node, as a test
 abbrev pub is_chance : Kind → Bool
 is_chance Chance = true
 is_chance Decision = false
 is_chance Utility = false
 
+-- a decision, as a test
 abbrev pub is_decision : Kind → Bool
 is_decision Chance = false
 is_decision Decision = true
 is_decision Utility = false
 
+-- a utility, as a test
 abbrev pub is_utility : Kind → Bool
 is_utility Chance = false
 is_utility Decision = false

@@ -1,13 +1,15 @@
 -- Notions that only contracts of private functions cite.
-use Rattle.std.specs.Prelude.{◌≡◌, ◌≢◌, ℕ, ◌+◌, ◌<◌, ◌≤◌, ◌==◌, List, length, slice_index, slice_index_or, ℤ, pos, if◌then◌else◌}
+use Rattle.std.specs.Prelude.{◌≡◌, ◌≢◌, ℕ, ◌+◌, ◌<◌, ◌≤◌, ◌==◌, List, length, slice_index, slice_index_or, slice_set, ℤ, pos, ◌*ℤ◌, if◌then◌else◌}
 use Rattle.node_sets.specs.declared.sets.NodeSet.{NodeSet}
 use Rattle.node_sets.specs.Sets.{holds, IsIn}
 use Rattle.maid_model.specs.declared.diagrams.Kind.TheVariants.{Utility}
 use Rattle.maid_model.specs.Views.{NodeView, RuleView}
-use Rattle.maid_model.specs.Nodes.{IsDecision, node_at, numbers_of}
+use Rattle.maid_model.specs.Nodes.{IsDecision, is_utility_of, node_at, numbers_of}
+use Rattle.maid_model.specs.Gains.{table_without, weight_without}
 use Rattle.maid_model.specs.Profiles.{no_rule}
 use Rattle.finite_sums.specs.Sums.{World, sum_each}
 use Rattle.maid_model.specs.Tables.{row_of}
+use Rattle.maid_model.specs.Worlds.{world_of}
 
 -- place i is the first with a rule of the decision
 pub record IsFirstAt (p : List RuleView) (v i : ℕ) : Type 0 where
@@ -35,6 +37,28 @@ abbrev pub MarksUtilities : List NodeView → NodeSet → Type 0
 MarksUtilities nodes marks =
     (v : ℕ) → v < length nodes → IsIn marks v → (node_at nodes v).kind ≡ Utility
 
+-- exactly the agent's utilities are marked
+abbrev pub MarksUtilitiesOf : List NodeView → ℕ → NodeSet → Type 0
+MarksUtilitiesOf nodes agent marks =
+    (v : ℕ) → v < length nodes → holds marks v ≡ is_utility_of nodes agent v
+
+-- what a world of that weight, given by its states, adds to a sum of gains
+abbrev pub marked_gain : List NodeView → NodeSet → ℕ → List ℕ → ℤ
+marked_gain nodes marks weight world = pos weight *ℤ marked_utility nodes marks (world_of world)
+
+-- x is v's factor in the weight of the world of these states, but for the decision left out
+abbrev pub IsFactor : List NodeView → List RuleView → ℕ → ℕ → List ℕ → ℕ → Type 0
+IsFactor nodes p left_out v world x = pos x ≡ table_without nodes p left_out v (world_of world)
+
+-- x is the weight of the world of these states, without the rule of the decision left out
+abbrev pub IsWeight : List NodeView → List RuleView → ℕ → List ℕ → ℕ → Type 0
+IsWeight nodes p left_out world x = pos x ≡ weight_without nodes p left_out (world_of world)
+
 -- a row's mass after a world of that weight, which counts where the decision has its first state
 abbrev pub mass_after : ℕ → ℕ → ℕ → ℕ
 mass_after state weight mass = if state == 0 then mass + weight else mass
+
+-- the row's mass counts the world too, and the other rows keep theirs
+abbrev pub AddsMass : ℕ → ℕ → ℕ → List ℕ → List ℕ → Type 0
+AddsMass row state weight before after =
+    after ≡ slice_set before row (mass_after state weight (slice_index before row))

@@ -21,6 +21,10 @@ pub record IsProfile (nodes : List NodeView) (p : List RuleView) : Type 0 where
 abbrev pub HasRuleTotals : List NodeView → (ℕ → ℕ) → List RuleView → Type 0
 HasRuleTotals nodes total p = (v : ℕ) → IsDecision nodes v → rule_total p v ≡ total v
 
+-- and to the count of the decision's states
+abbrev pub HasUniformTotals : List NodeView → List RuleView → Type 0
+HasUniformTotals nodes p = HasRuleTotals nodes (states_of nodes) p
+
 -- the rule that gives every state the weight 1
 abbrev pub uniform_rule : List NodeView → ℕ → RuleView
 uniform_rule nodes v = record {
@@ -54,6 +58,11 @@ no_rule = record { decision = 0; total = 0; weights = [] }
 -- the profile has a rule for the decision
 abbrev pub HasRule : List RuleView → ℕ → Type 0
 HasRule p v = Contains (map (λ r. r.decision) p) v
+
+-- with a rule of any diagram's decision a profile of that diagram becomes another of it
+abbrev pub KeepsProfiles : List RuleView → List RuleView → RuleView → Type 0
+KeepsProfiles p q rule =
+    (nodes : List NodeView) → IsProfile nodes p → IsRule nodes rule → IsProfile nodes q
 
 -- q has the rule in the place of p's rule for that decision, and p's rules in all other places
 pub record Replaces (p q : List RuleView) (rule : RuleView) : Type 0 where

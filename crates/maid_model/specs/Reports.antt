@@ -45,6 +45,7 @@ state_labels names (u ∷ us) (s ∷ states) =
 state_labels names [] states = []
 state_labels names (u ∷ us) [] = []
 
+-- what a row is worth, or that it is never reached
 abbrev pub worth_text : Option Ratio → List ℕ
 worth_text (Some worth) = codes " = " ++ ratio_text worth
 worth_text None = codes " never"

@@ -31,20 +31,23 @@ scope_of nodes d = with_ancestors nodes (d ∷ goals_of nodes d)
 abbrev pub scope_for : List NodeView → ℕ → List ℕ
 scope_for nodes agent = with_ancestors nodes (utilities_for nodes agent)
 
--- the part of a decision's scope, the decision's number in it, and a profile's rules in it
+-- the part of a decision's scope
 abbrev pub scope_part : List NodeView → ℕ → List NodeView
 scope_part nodes d = part_of nodes (scope_of nodes d)
 
+-- the decision's number in the part of its scope
 abbrev pub place_in_scope : List NodeView → ℕ → ℕ
 place_in_scope nodes d = place_in (scope_of nodes d) d
 
+-- a profile's rules in the part of a decision's scope
 abbrev pub rules_in_scope : List NodeView → List RuleView → ℕ → List RuleView
 rules_in_scope nodes p d = rules_in nodes p (scope_of nodes d)
 
--- the part of an agent's scope, and a profile's rules in it
+-- the part of an agent's scope
 abbrev pub scope_part_for : List NodeView → ℕ → List NodeView
 scope_part_for nodes agent = part_of nodes (scope_for nodes agent)
 
+-- a profile's rules in the part of an agent's scope
 abbrev pub rules_in_scope_for : List NodeView → List RuleView → ℕ → List RuleView
 rules_in_scope_for nodes p agent = rules_in nodes p (scope_for nodes agent)
 
@@ -52,6 +55,7 @@ rules_in_scope_for nodes p agent = rules_in nodes p (scope_for nodes agent)
 abbrev pub scope_product : List NodeView → ℕ → ℕ
 scope_product nodes d = nat_product_over (bound_factor nodes) (scope_of nodes d)
 
+-- how a node of that kind counts in the P of an agent: a chance node by its total, others not at all
 abbrev pub chance_factor_by : Kind → ℕ → ℕ
 chance_factor_by Chance total = total
 chance_factor_by Decision total = 1

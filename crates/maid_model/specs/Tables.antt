@@ -29,6 +29,7 @@ abbrev pub rule_total : List RuleView → ℕ → ℕ
 rule_total [] v = 0
 rule_total (r ∷ rs) v = if r.decision == v then r.total else rule_total rs v
 
+-- the factor of a node of that kind: its own cell, its weight in the rule, or 1
 abbrev pub table_by : Kind → List ℤ → List ℕ → ℕ → ℤ
 table_by Chance cells weights c = slice_index_or cells c (pos 0)
 table_by Decision cells weights c = pos (slice_index weights c)
@@ -44,6 +45,7 @@ abbrev pub chance_total : List NodeView → ℕ → ℕ
 chance_total nodes v =
     nat_abs (sum_below (states_of nodes v) (λ s. slice_index_or (node_at nodes v).cells s (pos 0)))
 
+-- the total of a node of that kind: its own table's, its rule's, or 1
 abbrev pub total_by : Kind → ℕ → ℕ → ℕ
 total_by Chance chance rule = chance
 total_by Decision chance rule = rule

@@ -20,6 +20,11 @@ pub record DiagramView : Type 0 where
   pub agents : ℕ
   pub decimals : ℕ
 
+-- the diagram of these nodes, so many agents and that power of ten
+abbrev pub diagram_of : List NodeView → ℕ → ℕ → DiagramView
+diagram_of nodes agents decimals =
+    record { nodes = nodes; agents = agents; decimals = decimals }
+
 -- a decision's rule: for each row of its parents' states one weight a state, and what each row adds up to
 pub record RuleView : Type 0 where
   pub decision : ℕ

@@ -34,6 +34,10 @@ worlds_from (c ∷ cs) (x ∷ xs) = map (λ ys. x ∷ ys) (worlds_from cs xs)
 abbrev pub IsNextWorld : List ℕ → List ℕ → List ℕ → Type 0
 IsNextWorld counts xs ys = worlds_from counts xs ≡ xs ∷ worlds_from counts ys
 
+-- xs is the last in that list
+abbrev pub IsLastWorld : List ℕ → List ℕ → Type 0
+IsLastWorld counts xs = worlds_from counts xs ≡ xs ∷ []
+
 -- the first world of n nodes
 abbrev pub first_world : ℕ → List ℕ
 first_world n = replicate n 0

@@ -2,7 +2,8 @@
 
 ghost use Rattle.std.specs.Prelude.{◌≡◌, ℕ, ◌<◌, ◌≤◌, ◌↔◌, ◌^◌, length, Contains, IsTrue, pos, ◌≤ℤ◌, nat_abs, slice_index_or};
 ghost use Rattle.maid_model.specs.Diagrams.{IsDiagram};
-ghost use Rattle.maid_model.specs.Nodes.{agent_of, node_at, states_of, parents_of, rows_of, IsOwnedBy};
+ghost use Rattle.maid_model.specs.Nodes.{IsDecision, IsOwnedBy, agent_of, is_decision, node_at, parents_of, rows_of, states_of};
+ghost use Rattle.maid_model.specs.Views.{diagram_of};
 ghost use Rattle.finite_sums.specs.Sums.{sum_below};
 ghost use Rattle.maid_model.specs.Tables.{chance_total};
 
@@ -57,27 +58,21 @@ pub struct Diagram {
 }
 
 impl Model for Diagram {
-    ghost use Rattle.maid_model.specs.Views.{DiagramView};
+    ghost use Rattle.maid_model.specs.Views.{DiagramView, diagram_of};
     ghost use Rattle.maid_model.specs.Diagrams.{IsDiagram};
 
     ghost Value = { DiagramView };
 
-    ghost view = { λ d.
-        record { nodes = d.nodes.items; agents = d.agents; decimals = d.decimals } };
+    ghost view = { λ d. diagram_of d.nodes.items d.agents d.decimals };
 
-    ghost invariant = { λ d.
-        IsDiagram (record { nodes = d.nodes.items; agents = d.agents; decimals = d.decimals }) };
+    ghost invariant = { λ d. IsDiagram (diagram_of d.nodes.items d.agents d.decimals) };
 }
 
 impl Diagram {
     /// The diagram of these nodes. It takes no memory.
     pub fn from_nodes(nodes: Vec<Node>, agents: usize, decimals: u32) -> Diagram
-        requires { IsDiagram (record {
-          nodes = nodes.items;
-          agents = agents;
-          decimals = decimals;
-        }) }
-        ensures { result ≡ record { nodes = nodes.items; agents = agents; decimals = decimals } }
+        requires { IsDiagram (diagram_of nodes.items agents decimals) }
+        ensures { result ≡ diagram_of nodes.items agents decimals }
     {
         Diagram {
             nodes,
@@ -110,6 +105,18 @@ impl Diagram {
         ensures diagram { IsDiagram self.now }
     {
         self.nodes[v].kind
+    }
+
+    /// Whether the node is a decision.
+    pub fn is_decision(&self, v: usize) -> bool
+        requires { v < length self.now.nodes }
+        ensures kind { result ≡ is_decision (node_at self.now.nodes v).kind }
+        ensures decision { IsTrue result ↔ IsDecision self.now.nodes v }
+    {
+        match self.nodes[v].kind {
+            Kind::Decision => true,
+            Kind::Chance | Kind::Utility => false,
+        }
     }
 
     /// The number of the decision's agent.

@@ -1,7 +1,7 @@
 //! Names of nodes, states and agents.
 
 ghost use Rattle.std.specs.Prelude.{◌≡◌, ◌<◌, length, Contains, IfSome, IfNone};
-ghost use Rattle.maid_model.specs.Names.{name_of, labels_of, label_of, agent_name, list_of, IsFirstPlace};
+ghost use Rattle.maid_model.specs.Names.{IsFirstPlace, agent_name, label_of, labels_of, list_of, name_of, names_in};
 
 use std::marker::Model;
 
@@ -14,16 +14,11 @@ pub struct Names {
 }
 
 impl Model for Names {
-    ghost use Rattle.maid_model.specs.Names.{NamesView, list_of, lists_of};
+    ghost use Rattle.maid_model.specs.Names.{NamesView, names_in};
 
     ghost Value = { NamesView };
 
-    ghost view = { λ n.
-        record {
-          nodes = list_of n.nodes.items;
-          labels = lists_of n.labels.items;
-          agents = list_of n.agents.items;
-        } };
+    ghost view = { λ n. names_in n.nodes.items n.labels.items n.agents.items };
 }
 
 /// The first place of the name in the list. It compares the name with each before it.
@@ -40,15 +35,9 @@ pub fn first_place(names: &[Vec<u8>], name: &[u8]) -> Option<usize>
 }
 
 impl Names {
-    ghost use Rattle.maid_model.specs.Names.{list_of, lists_of};
-
     /// These names. It takes no memory.
     pub fn from_lists(nodes: Vec<Vec<u8>>, labels: Vec<Vec<Vec<u8>>>, agents: Vec<Vec<u8>>) -> Names
-        ensures { result ≡ record {
-          nodes = list_of nodes.items;
-          labels = lists_of labels.items;
-          agents = list_of agents.items;
-        } }
+        ensures { result ≡ names_in nodes.items labels.items agents.items }
     {
         Names {
             nodes,

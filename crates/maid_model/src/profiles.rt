@@ -1,10 +1,9 @@
 //! Rules and profiles.
 
-ghost use Rattle.std.specs.Prelude.{◌≡◌, ◌<◌, List, ℕ, IfOk, length, slice_index, slice_index_or};
-ghost use Rattle.maid_model.specs.Views.{NodeView, RuleView};
-ghost use Rattle.maid_model.specs.Profiles.{IsProfile, IsRule, HasRule, HasRuleTotals, no_rule, Replaces, uniform_rule, uniform_profile};
+ghost use Rattle.std.specs.Prelude.{◌≡◌, ◌<◌, IfOk, length, slice_index, slice_index_or};
+ghost use Rattle.maid_model.specs.Profiles.{HasRule, HasUniformTotals, IsProfile, KeepsProfiles, Replaces, no_rule, uniform_profile, uniform_rule};
 ghost use Rattle.maid_model.specs.Tables.{weights_of, rule_total};
-ghost use Rattle.maid_model.specs.Nodes.{IsDecision, states_of};
+ghost use Rattle.maid_model.specs.Nodes.{IsDecision};
 ghost use Rattle.maid_model.specs.Private.{IsFirstAt};
 
 use crate::diagrams::{Diagram, Kind};
@@ -71,7 +70,7 @@ impl Profile {
     /// The profile that gives every state of every decision the weight 1.
     pub fn uniform(alloc: Global, diagram: &Diagram) -> Result<Profile, AllocError>
         ensures rules { IfOk result (λ p. p ≡ uniform_profile diagram.now.nodes) }
-        ensures total { IfOk result (HasRuleTotals diagram.now.nodes (states_of diagram.now.nodes)) }
+        ensures total { IfOk result (HasUniformTotals diagram.now.nodes) }
         ensures profile { IfOk result (IsProfile diagram.now.nodes) }
     {
         let mut rules = Vec::new(alloc);
@@ -114,8 +113,7 @@ impl Profile {
     pub fn put(&mut self, rule: Rule)
         requires { HasRule self.old rule.decision }
         ensures replaced { Replaces self.old self.new rule }
-        ensures profile { (nodes : List NodeView) → IsProfile nodes self.old → IsRule nodes rule
-            → IsProfile nodes self.new }
+        ensures profile { KeepsProfiles self.old self.new rule }
     {
         let place = place_of(&self.rules, rule.decision);
         self.rules[place] = rule;

@@ -1,8 +1,8 @@
 //! Rules that take one state in each row.
 
-ghost use Rattle.std.specs.Prelude.{◌≡◌, ◌<◌, ◌++◌, IfOk, OnOk, length, map};
-ghost use Rattle.maid_model.specs.Answers.{FitsAnswers, pure_profile, rows_at, WhereRowsFit};
-ghost use Rattle.maid_model.specs.Profiles.{HasRuleTotals, IsProfile, IsRule, pure_row, pure_rule};
+ghost use Rattle.std.specs.Prelude.{◌≡◌, ◌<◌, ◌++◌, IfOk, OnOk, length};
+ghost use Rattle.maid_model.specs.Answers.{GivesProfile, GivesRule, TakesChoices, pure_profile, rows_at};
+ghost use Rattle.maid_model.specs.Profiles.{HasRuleTotals, pure_row};
 
 use crate::answers::{Answer, Row};
 use crate::diagrams::{Diagram, Kind};
@@ -40,11 +40,9 @@ impl Rule {
         rows: &[Row],
     ) -> Result<Rule, AllocError>
         requires { decision < length diagram.now.nodes }
-        ensures choices { IfOk result (λ r.
-            r ≡ pure_rule diagram.now.nodes decision (map (λ row. row.choice) rows.now)) }
+        ensures choices { IfOk result (TakesChoices diagram.now.nodes decision rows.now) }
         // It is a rule of the decision where there is a choice in range for each row of the parents' states.
-        ensures rule { WhereRowsFit diagram.now.nodes decision rows.now
-            (IfOk result (IsRule diagram.now.nodes)) }
+        ensures rule { GivesRule diagram.now.nodes decision rows.now result }
     {
         let states = diagram.states(decision);
         let mut weights = Vec::new(alloc);
@@ -64,8 +62,7 @@ impl Profile {
     pub fn pure(alloc: Global, diagram: &Diagram, answers: &[Answer]) -> Result<Profile, AllocError>
         ensures rules { IfOk result (λ p. p ≡ pure_profile diagram.now.nodes answers.now) }
         ensures total { IfOk result (HasRuleTotals diagram.now.nodes (λ v. 1)) }
-        ensures profile { FitsAnswers diagram.now.nodes answers.now
-            → IfOk result (IsProfile diagram.now.nodes) }
+        ensures profile { GivesProfile diagram.now.nodes answers.now result }
     {
         let mut rules = Vec::new(alloc);
         for v in 0..diagram.count() {

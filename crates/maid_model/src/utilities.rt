@@ -1,10 +1,10 @@
 //! Sets of utilities: those of an agent, and those below a decision.
 
 ghost use Rattle.std.specs.Prelude.{◌≡◌, ℕ, ◌<◌, ◌↔◌, length};
-ghost use Rattle.node_sets.specs.Sets.{holds, IsIn};
+ghost use Rattle.node_sets.specs.Sets.{IsIn};
 ghost use Rattle.maid_model.specs.Nodes.{is_utility_of};
 ghost use Rattle.maid_model.specs.Relevance.{IsGoal};
-ghost use Rattle.maid_model.specs.Private.{MarksUtilities};
+ghost use Rattle.maid_model.specs.Private.{MarksUtilities, MarksUtilitiesOf};
 
 use crate::diagrams::{Diagram, Kind};
 use node_sets::{NodeSet, descendants};
@@ -24,8 +24,7 @@ fn is_utility_of(diagram: &Diagram, agent: usize, v: usize) -> bool
 pub(crate) fn utilities_of(diagram: &Diagram, agent: usize) -> NodeSet
     ensures utilities { MarksUtilities diagram.now.nodes result }
     ensures known { (v : ℕ) → IsIn result v → v < length diagram.now.nodes }
-    ensures marks { (v : ℕ) → v < length diagram.now.nodes
-        → holds result v ≡ is_utility_of diagram.now.nodes agent v }
+    ensures marks { MarksUtilitiesOf diagram.now.nodes agent result }
 {
     let mut utilities = NodeSet::empty();
     for v in 0..diagram.count() {

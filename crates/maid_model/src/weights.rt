@@ -1,12 +1,12 @@
 //! The weight of a world, and the cells that it picks.
 
-ghost use Rattle.std.specs.Prelude.{◌≡◌, ◌<◌, ◌≤◌, length, pos};
+ghost use Rattle.std.specs.Prelude.{◌<◌, ◌≤◌, length};
 ghost use Rattle.maid_model.specs.Nodes.{counts_of};
 ghost use Rattle.maid_model.specs.Diagrams.{greatest_number};
 ghost use Rattle.maid_model.specs.Profiles.{IsProfile};
-ghost use Rattle.maid_model.specs.Private.{HasPlaces};
-ghost use Rattle.maid_model.specs.Gains.{table_without, weight_without, base_total, base_mass};
-ghost use Rattle.maid_model.specs.Worlds.{IsWorld, world_of};
+ghost use Rattle.maid_model.specs.Private.{HasPlaces, IsFactor, IsWeight};
+ghost use Rattle.maid_model.specs.Gains.{base_mass, base_total};
+ghost use Rattle.maid_model.specs.Worlds.{IsWorld};
 
 use crate::diagrams::{Diagram, Kind};
 use crate::profiles::Profile;
@@ -41,8 +41,7 @@ fn factor(
     requires profile { IsProfile diagram.now.nodes profile.now }
     requires places { HasPlaces diagram.now.nodes profile.now places.now }
     requires world { IsWorld (counts_of diagram.now.nodes) world.now }
-    ensures factor { pos result
-        ≡ table_without diagram.now.nodes profile.now left_out v (world_of world.now) }
+    ensures factor { IsFactor diagram.now.nodes profile.now left_out v world.now result }
     ensures within { result ≤ base_total diagram.now.nodes profile.now left_out v }
 {
     let kind = diagram.kind(v);
@@ -68,8 +67,7 @@ pub(crate) fn world_weight(
     requires places { HasPlaces diagram.now.nodes profile.now places.now }
     requires world { IsWorld (counts_of diagram.now.nodes) world.now }
     requires fits { base_mass diagram.now.nodes profile.now left_out ≤ greatest_number }
-    ensures weight { pos result
-        ≡ weight_without diagram.now.nodes profile.now left_out (world_of world.now) }
+    ensures weight { IsWeight diagram.now.nodes profile.now left_out world.now result }
     ensures within { result ≤ base_mass diagram.now.nodes profile.now left_out }
 {
     let mut weight: u128 = 1;

@@ -1,13 +1,13 @@
 //! The two sums over all worlds.
 
-ghost use Rattle.std.specs.Prelude.{◌≡◌, ℕ, ◌+◌, ◌*◌, ◌<◌, ◌≤◌, length, pos, ◌+ℤ◌, ◌*ℤ◌, nat_abs, slice_index, slice_index_or, slice_set};
-ghost use Rattle.maid_model.specs.Nodes.{IsDecision, states_of, rows_of, counts_of};
-ghost use Rattle.maid_model.specs.Private.{MarksUtilities, marked_utility, mass_after};
+ghost use Rattle.std.specs.Prelude.{◌≡◌, ℕ, ◌+◌, ◌*◌, ◌<◌, ◌≤◌, length, pos, ◌+ℤ◌, nat_abs, slice_index, slice_index_or, slice_set};
+ghost use Rattle.maid_model.specs.Nodes.{IsDecision, counts_of, rows_of};
+ghost use Rattle.maid_model.specs.Private.{AddsMass, MarksUtilities, marked_gain, marked_utility};
 ghost use Rattle.maid_model.specs.Diagrams.{greatest_number};
 ghost use Rattle.maid_model.specs.Profiles.{IsProfile};
-ghost use Rattle.maid_model.specs.Gains.{gain_of, mass, base_mass, greatest_utility, AreGainsAt, AreMassesAt};
+ghost use Rattle.maid_model.specs.Gains.{AreGainsAt, AreMassesAt, HasGainCells, gain_of, greatest_utility, mass};
 ghost use Rattle.maid_model.specs.Worlds.{IsWorld, first_world, world_of};
-ghost use Rattle.maid_model.specs.Bounds.{HasRoomForWeight};
+ghost use Rattle.maid_model.specs.Bounds.{HasRoomForBase, HasRoomForWeight};
 
 use crate::diagrams::Diagram;
 use crate::profiles::Profile;
@@ -54,11 +54,9 @@ pub fn base_sums(
     requires decision { IsDecision diagram.now.nodes decision }
     requires profile { IsProfile diagram.now.nodes profile.now }
     requires first { world.old ≡ first_world (length diagram.now.nodes) }
-    requires gains { length gains.old
-        ≡ rows_of diagram.now.nodes decision * states_of diagram.now.nodes decision }
+    requires gains { HasGainCells diagram.now.nodes decision gains.old }
     requires masses { length masses.old ≡ rows_of diagram.now.nodes decision }
-    requires fits { HasRoomForWeight diagram.now
-        (base_mass diagram.now.nodes profile.now decision) }
+    requires fits { HasRoomForBase diagram.now profile.now decision }
     ensures gains { AreGainsAt diagram.now.nodes profile.now decision gains.new }
     ensures masses { AreMassesAt diagram.now.nodes profile.now decision masses.new }
 
@@ -110,8 +108,7 @@ fn world_gain(diagram: &Diagram, marks: &NodeSet, weight: u128, world: &World) -
     requires utility { greatest_utility diagram.now.nodes ≤ greatest_number }
     requires weight { weight ≤ greatest_number }
     requires fits { weight * greatest_utility diagram.now.nodes ≤ greatest_number }
-    ensures { result
-        ≡ pos weight *ℤ marked_utility diagram.now.nodes marks.now (world_of world.now) }
+    ensures { result ≡ marked_gain diagram.now.nodes marks.now weight world.now }
 {
     if weight == 0 {
         return 0;
@@ -132,8 +129,7 @@ fn add_gain(gains: &mut [i128], cell: usize, gain: i128)
 fn add_mass(masses: &mut [u128], row: usize, state: usize, weight: u128)
     requires row { row < length masses.old }
     requires fits { slice_index masses.old row + weight ≤ greatest_number }
-    ensures { masses.new
-        ≡ slice_set masses.old row (mass_after state weight (slice_index masses.old row)) }
+    ensures { AddsMass row state weight masses.old masses.new }
 {
     if state == 0 {
         masses[row] += weight;

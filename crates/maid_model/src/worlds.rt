@@ -1,9 +1,9 @@
 //! Worlds, one after another.
 
-ghost use Rattle.std.specs.Prelude.{◌≡◌, ◌<◌, ◌*◌, IfOk, IsTrue, IsFalse, length, [], ◌∷◌};
+ghost use Rattle.std.specs.Prelude.{◌≡◌, ◌<◌, ◌*◌, IfOk, IsTrue, IsFalse, length};
 ghost use Rattle.maid_model.specs.Nodes.{counts_of, states_of, rows_of};
 ghost use Rattle.maid_model.specs.Tables.{row_of, cell_of};
-ghost use Rattle.maid_model.specs.Worlds.{IsWorld, first_world, worlds_from, world_of, IsNextWorld};
+ghost use Rattle.maid_model.specs.Worlds.{IsLastWorld, IsNextWorld, IsWorld, first_world, world_of};
 
 use crate::diagrams::Diagram;
 use std::alloc::{AllocError, Global};
@@ -62,8 +62,7 @@ impl World {
         requires { IsWorld (counts_of diagram.now.nodes) self.old }
         ensures world { IsWorld (counts_of diagram.now.nodes) self.new }
         ensures more { IsTrue result → IsNextWorld (counts_of diagram.now.nodes) self.old self.new }
-        ensures last { IsFalse result
-            → worlds_from (counts_of diagram.now.nodes) self.old ≡ self.old ∷ [] }
+        ensures last { IsFalse result → IsLastWorld (counts_of diagram.now.nodes) self.old }
         ensures again { IsFalse result → self.new ≡ first_world (length diagram.now.nodes) }
     {
         let mut v = self.states.len();

@@ -22,6 +22,10 @@ IsAcyclic Arc = (v : ℕ) → Descends Arc v v → ⊥
 abbrev pub LeadsFrom : (ℕ → ℕ → Type 0) → (ℕ → Type 0) → ℕ → Type 0
 LeadsFrom Arc Set v = (from : ℕ) × Set from × IsPath Arc from v
 
+-- a path leads from v to a node of the set
+abbrev pub LeadsInto : (ℕ → ℕ → Type 0) → (ℕ → Type 0) → ℕ → Type 0
+LeadsInto Arc Set v = (to : ℕ) × Set to × IsPath Arc v to
+
 -- an arc leads from u to v: u is one of v's parents
 abbrev pub ParentArc : (ℕ → List ℕ) → ℕ → ℕ → Type 0
 ParentArc parents u v = Contains (parents v) u

@@ -1,5 +1,5 @@
 -- Sets of node numbers: what they hold, and how they grow.
-use Rattle.std.specs.Prelude.{◌≡◌, ℕ, zero, suc, ◌+◌, ◌/◌, ◌%◌, ◌<◌, ◌≤◌, ◌⊎◌, ◌↔◌, ◌==◌, Bool, true, false, slice_index, if◌then◌else◌}
+use Rattle.std.specs.Prelude.{◌≡◌, ℕ, zero, suc, ◌+◌, ◌/◌, ◌%◌, ◌<◌, ◌≤◌, ◌⊎◌, ◌↔◌, ◌==◌, Option, MatchOption, Bool, true, false, slice_index, if◌then◌else◌}
 use Rattle.std.specs.Int.{bit_at}
 use Rattle.node_sets.specs.declared.sets.NodeSet.{NodeSet}
 use Rattle.node_sets.specs.declared.sets.TheConstants.{MOST_NODES}
@@ -19,6 +19,10 @@ pub record IsFirstFrom (set : NodeSet) (from v : ℕ) : Type 0 where
   pub inside : IsIn set v
   pub first : (w : ℕ) → from ≤ w → w < v → IsIn set w → ⊥
 
+-- the set has no node from that number on
+abbrev pub HasNoneFrom : NodeSet → ℕ → Type 0
+HasNoneFrom set from = (v : ℕ) → from ≤ v → IsIn set v → ⊥
+
 -- the node is the first of the set from one number on, and below another
 abbrev pub IsFirstBetween : NodeSet → ℕ → ℕ → ℕ → Type 0
 IsFirstBetween set from end v = IsFirstFrom set from v × (v < end)
@@ -26,6 +30,11 @@ IsFirstBetween set from end v = IsFirstFrom set from v × (v < end)
 -- the set has no node from one number on and below another
 abbrev pub HasNoneBetween : NodeSet → ℕ → ℕ → Type 0
 HasNoneBetween set from end = (v : ℕ) → from ≤ v → v < end → IsIn set v → ⊥
+
+-- the first node of the set from one number on and below another, and none only where it has none
+abbrev pub TellsFirstBetween : NodeSet → ℕ → ℕ → Option ℕ → Type 0
+TellsFirstBetween set from end found =
+    MatchOption found (HasNoneBetween set from end) (IsFirstBetween set from end)
 
 -- how many numbers below n are not in the set
 unfoldable pub missing_below : NodeSet → ℕ → ℕ

@@ -1,5 +1,5 @@
 -- What the steps of a search along arcs, or back, promise one another.
-use Rattle.std.specs.Prelude.{◌≡◌, ℕ, ◌<◌, Bool, true, false, List}
+use Rattle.std.specs.Prelude.{◌≡◌, ◌↔◌, ℕ, ◌<◌, Bool, true, false, List, IsFalse}
 use Rattle.node_sets.specs.declared.paths.Way.{Way}
 use Rattle.node_sets.specs.declared.paths.Way.TheVariants.{Down, Up}
 use Rattle.node_sets.specs.declared.sets.NodeSet.{NodeSet}
@@ -16,8 +16,23 @@ abbrev pub ClosedAt : (ℕ → List ℕ) → Way → ℕ → NodeSet → Type 0
 ClosedAt parents Down v set = (p : ℕ) → ParentArc parents p v → IsIn set p → IsIn set v
 ClosedAt parents Up v set = (p : ℕ) → ParentArc parents p v → IsIn set v → IsIn set p
 
+-- no step along an arc into such a node leads from a node of the set to one outside
 abbrev pub ClosedInto : (ℕ → List ℕ) → Way → (ℕ → Type 0) → NodeSet → Type 0
 ClosedInto parents way Into set = (v : ℕ) → Into v → ClosedAt parents way v set
+
+-- where there is no more to follow, no step along an arc into one of n nodes leads out of the set
+abbrev pub EndsClosed : (ℕ → List ℕ) → Way → ℕ → Bool → NodeSet → Type 0
+EndsClosed parents way n more set = IsFalse more → ClosedInto parents way (λ v. v < n) set
+
+-- to each node of the later set steps lead from the earlier one
+abbrev pub GrowsAlong : (ℕ → List ℕ) → Way → NodeSet → NodeSet → Type 0
+GrowsAlong parents way before after =
+    (v : ℕ) → IsIn after v → LeadsFrom (Step parents way) (IsIn before) v
+
+-- the later set has exactly the nodes to which steps lead from the earlier one
+abbrev pub AreReachedAlong : (ℕ → List ℕ) → Way → NodeSet → NodeSet → Type 0
+AreReachedAlong parents way before after =
+    (v : ℕ) → IsIn after v ↔ LeadsFrom (Step parents way) (IsIn before) v
 
 -- one step: the set grows along steps alone, and where nothing changes it has the property Done
 pub record IsFollowed

@@ -1,10 +1,10 @@
 //! Descendants and ancestors of a set.
 
-ghost use Rattle.std.specs.Prelude.{◌≡◌, ℕ, ◌<◌, ◌↔◌, IsTrue, IsFalse};
+ghost use Rattle.std.specs.Prelude.{◌≡◌, ℕ, ◌<◌, ◌↔◌, IsTrue};
 ghost use Rattle.node_sets.specs.declared.sets.TheConstants.{MOST_NODES};
 ghost use Rattle.node_sets.specs.Sets.{IsIn, room};
-ghost use Rattle.node_sets.specs.Paths.{ParentArc, IsPath, LeadsFrom};
-ghost use Rattle.node_sets.specs.Sweeps.{Step, ClosedInto, IsSweep, IsVisit};
+ghost use Rattle.node_sets.specs.Paths.{ParentArc, LeadsFrom, LeadsInto};
+ghost use Rattle.node_sets.specs.Sweeps.{AreReachedAlong, EndsClosed, GrowsAlong, IsSweep, IsVisit};
 
 use crate::graphs::Graph;
 use crate::sets::NodeSet;
@@ -85,11 +85,9 @@ fn sweep_back<G: Graph>(graph: &G, way: Way, set: &mut NodeSet) -> bool
 /// Sweeps on and back, the way of the arcs first. It says whether there can be more to follow.
 fn sweep_twice<G: Graph>(graph: &G, way: Way, set: &mut NodeSet) -> bool
     ensures kept { (v : ℕ) → IsIn set.old v → IsIn set.new v }
-    ensures sound { (v : ℕ) → IsIn set.new v
-        → LeadsFrom (Step (G.parents_of graph.now) way) (IsIn set.old) v }
+    ensures sound { GrowsAlong (G.parents_of graph.now) way set.old set.new }
     ensures fewer { IsTrue result → room set.new < room set.old }
-    ensures closed { IsFalse result
-        → ClosedInto (G.parents_of graph.now) way (λ x. x < G.size_of graph.now) set.new }
+    ensures closed { EndsClosed (G.parents_of graph.now) way (G.size_of graph.now) result set.new }
 {
     match way {
         Way::Down => sweep_on(graph, way, set) && sweep_back(graph, way, set),
@@ -99,8 +97,7 @@ fn sweep_twice<G: Graph>(graph: &G, way: Way, set: &mut NodeSet) -> bool
 
 /// Adds the nodes to which steps lead from those in the set.
 fn follow<G: Graph>(graph: &G, way: Way, set: &mut NodeSet)
-    ensures { (v : ℕ) → IsIn set.new v
-        ↔ LeadsFrom (Step (G.parents_of graph.now) way) (IsIn set.old) v }
+    ensures { AreReachedAlong (G.parents_of graph.now) way set.old set.new }
 {
     'sweeps: while sweep_twice(graph, way, set) {}
 }
@@ -118,8 +115,7 @@ pub fn descendants<G: Graph>(graph: &G, of: NodeSet) -> NodeSet
 /// These nodes, and all from which a path of arcs leads to one of them. It goes over all arcs a few times; where parents
 /// stand before their children, twice.
 pub fn ancestors<G: Graph>(graph: &G, of: NodeSet) -> NodeSet
-    ensures { (v : ℕ) → IsIn result v
-        ↔ ((to : ℕ) × IsIn of to × IsPath (ParentArc (G.parents_of graph.now)) v to) }
+    ensures { (v : ℕ) → IsIn result v ↔ LeadsInto (ParentArc (G.parents_of graph.now)) (IsIn of) v }
 {
     let mut set = of;
     follow(graph, Way::Up, &mut set);

@@ -14,7 +14,7 @@ pub struct NodeSet {
 }
 
 impl NodeSet {
-    ghost use Rattle.node_sets.specs.Sets.{HasNoneBetween, IsFirstBetween, holds, IsIn, IsFirstFrom, Adds};
+    ghost use Rattle.node_sets.specs.Sets.{Adds, HasNoneFrom, IsFirstFrom, IsIn, TellsFirstBetween, holds};
 
     /// The set without a node.
     pub fn empty() -> NodeSet
@@ -45,8 +45,7 @@ impl NodeSet {
     /// whole set takes about as long as it has nodes.
     pub fn first_from(&self, from: usize) -> Option<usize>
         requires { from ≤ MOST_NODES }
-        ensures { MatchOption result ((v : ℕ) → from ≤ v → IsIn self.now v → ⊥)
-            (IsFirstFrom self.now from) }
+        ensures { MatchOption result (HasNoneFrom self.now from) (IsFirstFrom self.now from) }
     {
         let first = from / 64;
         if first == self.words.len() {
@@ -67,8 +66,7 @@ impl NodeSet {
     /// The first node of the set from one number on and below another. It looks at the words as `first_from` does.
     pub fn first_between(&self, from: usize, end: usize) -> Option<usize>
         requires { from ≤ MOST_NODES }
-        ensures { MatchOption result (HasNoneBetween self.now from end)
-            (IsFirstBetween self.now from end) }
+        ensures { TellsFirstBetween self.now from end result }
     {
         match self.first_from(from) {
             Some(v) if v < end => Some(v),

@@ -1,13 +1,12 @@
 -- Lists of numbers in rising order, one number more at a time.
-use Rattle.std.proofs.Common.{◌≡◌, ℕ, zero, suc, ◌+◌, ◌<◌, ◌≤◌, Bool, List, [], ◌∷◌, ◌++◌, cond, filter, length, get_or, ◌⊎◌, inl, inr, subst, sym, ap, arith, add-one, ◌↔◌, ◌∙◌, refl}
+use Rattle.std.proofs.Common.{◌≡◌, ℕ, ◌+◌, ◌<◌, ◌≤◌, List, [], ◌∷◌, ◌++◌, length, get_or, ◌⊎◌, inl, inr, subst, sym, arith, ◌↔◌, ◌∙◌, refl}
 use Rattle.std.specs.Prelude.{Contains, Result, Ok, Err, IsTrue, is_ok}
 use Rattle.std.specs.Ordering.{nat_cmp}
 use Rattle.std.specs.List.Sorted.{IsBinarySearchResult}
 use Rattle.std.proofs.lemmas.List.Sorted.{searched}
 use Rattle.std.proofs.lemmas.Bool.{cases_eq, cases_lt, false≢true}
 use Rattle.std.proofs.lemmas.List.{get_or_append_left, get_or_at, length_push, get_or_past, get_or_default}
-use Rattle.std.specs.List.{range_with_len}
-use Rattle.std.proofs.lemmas.List.Elements.{filter-append, Contains-push, Contains-push_cases, Contains-append_left, Contains-get_or}
+use Rattle.std.proofs.lemmas.List.Elements.{Contains-push, Contains-push_cases, Contains-append_left, Contains-get_or}
 use Rattle.maid_model.specs.Views.{NodeView}
 use Rattle.maid_model.specs.Relevance.{ReliesOn}
 use Rattle.diagram_graph.specs.Needs.{needs_of}
@@ -115,16 +114,3 @@ search_finds list x (Err i) h s =
           let at : get_or list c.0 0 ≡ x = get_or_default list c.0 0 x c.1 ∙ c.2 in
           absurd (elim (cases_lt c.0 i) as (λ _. ⊥) [ inl l ↦ let k = f.1 c.0 l in absurd (omega arith) | inr g ↦ let k = f.2 c.0 g c.1 in absurd (omega arith) ])),
     )
-
--- one number more of a range that is filtered
-range_push : (k n : ℕ) → range_with_len k (suc n) ≡ range_with_len k n ++ (k + n) ∷ []
-range_push k zero = ap (λ x. x ∷ []) (omega arith)
-range_push k (suc n) = ap (λ x. k ∷ x) (range_push (k + 1) n ∙ ap (λ x. range_with_len (k + 1) n ++ x ∷ []) (omega arith))
-
-pub passed_more : (p : ℕ → Bool) (n : ℕ) → filter p (range_with_len 0 (n + 1)) ≡ filter p (range_with_len 0 n) ++ cond (p n) (n ∷ []) []
-passed_more p n =
-    ap (λ k. filter p (range_with_len 0 k)) (add-one n) ∙ ap (filter p) (range_push 0 n) ∙ filter-append p (range_with_len 0 n) ((0 + n) ∷ [])
-    ∙ ap (λ k. filter p (range_with_len 0 n) ++ filter p (k ∷ [])) (none n)
-  where
-    none : (k : ℕ) → 0 + k ≡ k
-    none k = omega arith

@@ -1,8 +1,11 @@
 -- What a relevance graph tells of a diagram.
-use Rattle.std.specs.Prelude.{◌≡◌, ◌↔◌, ℕ, List, length, Result, Ok, Err}
+use Rattle.std.specs.Prelude.{◌≡◌, ◌↔◌, ℕ, Bool, List, length, Result, Ok, Err, MatchResult}
+use Rattle.std.specs.Borrow.{Bor}
 use Rattle.maid_model.specs.Views.{NodeView}
+use Rattle.maid_model.specs.Nodes.{IsDecision}
 use Rattle.maid_model.specs.Placing.{IsRelianceOrder, IsRelianceCycle}
 use Rattle.maid_model.specs.Relevance.{ReliesOn}
+use Rattle.diagram_graph.specs.Needs.{IsIn}
 use Rattle.diagram_graph.specs.Rounds.{IsRingOfNeeds}
 use Rattle.relevance_graph.specs.Views.{RelevanceView, ReliesTo, IsRising, relied_on_by}
 
@@ -16,6 +19,15 @@ pub record IsBlockedBy (nodes : List NodeView) (cycle : List ℕ) : Type 0 where
 abbrev pub IsOutcome : List NodeView → Result (List ℕ) (List ℕ) → Type 0
 IsOutcome nodes (Ok order) = IsRelianceOrder nodes order
 IsOutcome nodes (Err cycle) = IsBlockedBy nodes cycle
+
+-- the outcome of a relevance graph: the order of solving, or else the relevance cycle
+abbrev pub TellsOutcome : RelevanceView → Result (Bor (List ℕ)) (Bor (List ℕ)) → Type 0
+TellsOutcome view told = MatchResult told (λ order. view.outcome ≡ Ok order.now)
+    (λ cycle. view.outcome ≡ Err cycle.now)
+
+-- exactly the decisions are marked
+abbrev pub MarksDecisions : List NodeView → List Bool → Type 0
+MarksDecisions nodes marks = (v : ℕ) → IsIn marks v ↔ IsDecision nodes v
 
 -- the relevance graph of a diagram: it tells of each pair of numbers whether the one relies on the other, and lists
 -- those on which a decision relies in text order

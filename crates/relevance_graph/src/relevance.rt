@@ -1,8 +1,8 @@
 //! The relevance graph of a diagram.
 
-ghost use Rattle.std.specs.Prelude.{◌≡◌, ◌<◌, ◌↔◌, All, length, IsTrue, IfOk, MatchResult};
+ghost use Rattle.std.specs.Prelude.{◌≡◌, ◌<◌, ◌↔◌, All, length, IsTrue, IfOk};
 ghost use Rattle.relevance_graph.specs.Kept.{IsKeptSearch};
-ghost use Rattle.relevance_graph.specs.Relevant.{IsRelevance};
+ghost use Rattle.relevance_graph.specs.Relevant.{IsRelevance, TellsOutcome};
 ghost use Rattle.relevance_graph.specs.Views.{ReliesTo, relied_on_by};
 
 use crate::placed::place_decisions;
@@ -59,8 +59,7 @@ impl Relevance {
     /// be placed it goes each time to the first such decision on which the last one relies, until one comes twice, and
     /// it is the list from the first visit of that one. It takes no memory.
     pub fn order(&self) -> Result<&[usize], &[usize]>
-        ensures { MatchResult result (λ order. self.now.outcome ≡ Ok order.now)
-            (λ cycle. self.now.outcome ≡ Err cycle.now) }
+        ensures { TellsOutcome self.now result }
     {
         match &self.placing {
             Placing::Order(order) => Ok(order),

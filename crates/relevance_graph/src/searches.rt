@@ -1,13 +1,13 @@
 //! Searches that are kept for later diagrams.
 
-ghost use Rattle.std.specs.Prelude.{◌≡◌, ◌<◌, All, IfOk, IsTrue, length};
-ghost use Rattle.maid_model.specs.Nodes.{IsDecision, is_decision, node_at};
+ghost use Rattle.std.specs.Prelude.{All, IfOk};
+ghost use Rattle.maid_model.specs.Nodes.{IsDecision};
 ghost use Rattle.relevance_graph.specs.Kept.{IsKeptSearch, KeepsAllSearches};
 ghost use Rattle.relevance_graph.specs.Steps.{IsSearchedFor};
 
 use crate::walks::search_from_goals;
 use bayes_ball::Marks;
-use maid_model::{Diagram, Kind};
+use maid_model::Diagram;
 use std::alloc::{AllocError, Global};
 
 /// A decision, and what the search from its goals marked. It is also that of a diagram in which other nodes have become
@@ -18,18 +18,6 @@ pub struct KeptSearch {
     pub(crate) marks: Marks,
 }
 
-/// Whether the node is a decision.
-fn is_decision(diagram: &Diagram, v: usize) -> bool
-    requires { v < length diagram.now.nodes }
-    ensures kind { result ≡ is_decision (node_at diagram.now.nodes v).kind }
-    ensures decision { IsTrue result → IsDecision diagram.now.nodes v }
-{
-    match diagram.kind(v) {
-        Kind::Decision => true,
-        Kind::Chance | Kind::Utility => false,
-    }
-}
-
 /// The searches for the decisions of the diagram, in text order, to be kept for later. It searches once for each.
 pub fn keep_searches(alloc: Global, diagram: &Diagram) -> Result<Vec<KeptSearch>, AllocError>
     ensures decisions { IfOk result (λ kept. KeepsAllSearches diagram.now.nodes kept.items) }
@@ -37,7 +25,7 @@ pub fn keep_searches(alloc: Global, diagram: &Diagram) -> Result<Vec<KeptSearch>
 {
     let mut kept = Vec::new(alloc);
     for decision in 0..diagram.count() {
-        if is_decision(diagram, decision) {
+        if diagram.is_decision(decision) {
             let marks = search_from_goals(diagram, decision);
             kept.push(KeptSearch { decision, marks })?;
         }

@@ -1,10 +1,10 @@
 //! The diagram without the arcs that decisions do not need.
 
-ghost use Rattle.std.specs.Prelude.{◌≡◌, IfOk};
+ghost use Rattle.std.specs.Prelude.{IfOk};
 ghost use Rattle.maid_model.specs.Edits.{without_arc};
 ghost use Rattle.maid_model.specs.Graph.{Arc};
 ghost use Rattle.maid_model.specs.Nodes.{IsDecision};
-ghost use Rattle.diagram_graph.specs.Edited.{with_nodes};
+ghost use Rattle.diagram_graph.specs.Edited.{IsWithNodes};
 ghost use Rattle.requisite_trim.specs.Trims.{IsTrimming};
 
 use crate::looks::first_to_remove;
@@ -25,8 +25,7 @@ pub struct Trimmed {
 fn without(alloc: Global, diagram: &Diagram, from: usize, to: usize) -> Result<Diagram, AllocError>
     requires decision { IsDecision diagram.now.nodes to }
     requires arc { Arc diagram.now.nodes from to }
-    ensures { IfOk result (λ less.
-        less ≡ with_nodes diagram.now (without_arc diagram.now.nodes from to)) }
+    ensures { IfOk result (IsWithNodes diagram.now (without_arc diagram.now.nodes from to)) }
 {
     match remove_arc(alloc, diagram, from, to) {
         Ok(less) => Ok(less),

@@ -8,14 +8,14 @@ begin-requires c =
     let l : node_of c.args.start < length c.args.diagram.now.nodes = start_within c.args.diagram.now.nodes c.args.given.now c.args.start c.requires.start in
     let m = c.count-count.ensures.diagram.limits.nodes in omega arith
 
-pub returns-clause-reached : goal.returns-clause-reached
-returns-clause-reached c v within =
-    same_fact (c.of.ensures.reached v)
-    (reached_by _ _ c.args.start _ _ c.requires.start
-    (searched_by _ _ c.args.start _ _ _ _ c.count-count.ensures.diagram.graph c.requires.given c.requires.start c.begin.ensures c.close.ensures.kept c.close.ensures.sound c.close.ensures.closed) v within)
-
-pub returns-clause-parents : goal.returns-clause-parents
-returns-clause-parents c u v at within =
-    same_fact (c.of.ensures.parents v)
-    (parents_reached_by _ _ c.args.start _ _ c.requires.start
-    (searched_by _ _ c.args.start _ _ _ _ c.count-count.ensures.diagram.graph c.requires.given c.requires.start c.begin.ensures c.close.ensures.kept c.close.ensures.sound c.close.ensures.closed) u v at within)
+pub returns : goal.returns
+returns c = record {
+  reached = λ v within.
+      same_fact (c.of.ensures.reached v)
+      (reached_by _ _ c.args.start _ _ c.requires.start
+      (searched_by _ _ c.args.start _ _ _ _ c.count-count.ensures.diagram.graph c.requires.given c.requires.start c.begin.ensures c.close.ensures.kept c.close.ensures.sound c.close.ensures.closed) v within);
+  parents = λ u v at within.
+      same_fact (c.of.ensures.parents v)
+      (parents_reached_by _ _ c.args.start _ _ c.requires.start
+      (searched_by _ _ c.args.start _ _ _ _ c.count-count.ensures.diagram.graph c.requires.given c.requires.start c.begin.ensures c.close.ensures.kept c.close.ensures.sound c.close.ensures.closed) u v at within);
+}

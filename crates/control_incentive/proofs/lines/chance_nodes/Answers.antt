@@ -1,7 +1,7 @@
 use Rattle.std.proofs.Common.{◌∙◌, ℕ, ◌++◌, [], ◌∷◌, cond, Vec, Global, sym, ap}
 use Rattle.std.proofs.lemmas.List.{append-nil}
 use Rattle.maid_model.specs.Nodes.{is_chance, node_at}
-use Rattle.control_incentive.proofs.Ranges.{filter_more}
+use Rattle.finite_sums.proofs.Ranges.{filter_more}
 use Rattle.control_incentive.proofs.lines.chance_nodes.Goals.{then-is_chance+in_ok-push, else-is_chance}
 use Rattle.control_incentive.proofs.lines.chance_nodes.Goals as goal
 

@@ -14,7 +14,7 @@ use Rattle.rule_solver.specs.Kept.{IsKeptDiagram}
 use Rattle.control_incentive.specs.Lines.{IsTrimmedAlone, chance_nodes, node_of}
 use Rattle.control_incentive.specs.Steps.{HasPaths, IsLineAlone}
 use Rattle.control_incentive.proofs.Deciding.{chance_there, listed_chance}
-use Rattle.control_incentive.proofs.Ranges.{all_among}
+use Rattle.finite_sums.proofs.Members.{all_among}
 use Rattle.control_incentive.proofs.Told.{lines_there, worths_there}
 use Rattle.control_incentive.proofs.lines.control.Goals as goal
 

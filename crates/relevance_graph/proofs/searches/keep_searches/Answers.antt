@@ -4,7 +4,7 @@ use Rattle.std.proofs.lemmas.List.Elements.{All-push}
 use Rattle.maid_model.specs.Nodes.{is_decision, node_at}
 use Rattle.relevance_graph.specs.declared.searches.KeptSearch.{KeptSearch}
 use Rattle.relevance_graph.specs.Kept.{IsKeptSearch}
-use Rattle.relevance_graph.proofs.Listing.{passed_more}
+use Rattle.finite_sums.proofs.Ranges.{filter_more}
 use Rattle.relevance_graph.proofs.searches.keep_searches.Invariants.{KeepsSoFar}
 use Rattle.relevance_graph.proofs.searches.keep_searches.Goals as goal
 use Rattle.relevance_graph.proofs.searches.keep_searches.Goals.{then-is_decision+in_ok-push, else-is_decision}
@@ -19,12 +19,12 @@ loop-decision-preserved c =
       | then-is_decision+in_ok-push w ↦
           subst (λ (list : Vec KeptSearch Global). KeepsSoFar nodes (v + 1) list.items) (sym w.kept-is)
           (subst (KeepsSoFar nodes (v + 1)) (sym w.in_ok-push.ensures.items) (record {
-            decisions = map-append (λ (k : KeptSearch). k.decision) c.loop-decision.kept.items _ ∙ (λ i. so_far.decisions i ++ cond ((sym w.if-is_decision.true ∙ c.is_decision.ensures.kind) i) (v ∷ []) []) ∙ sym (passed_more (λ u. is_decision (node_at nodes u).kind) v);
-            all = All-push (IsKeptSearch nodes) c.loop-decision.kept.items _ so_far.all (record { decision = c.is_decision.ensures.decision w.if-is_decision.true; marks = w.search_from_goals-marks.ensures });
+            decisions = map-append (λ (k : KeptSearch). k.decision) c.loop-decision.kept.items _ ∙ (λ i. so_far.decisions i ++ cond ((sym w.if-is_decision.true ∙ c.is_decision.ensures.kind) i) (v ∷ []) []) ∙ sym (filter_more (λ u. is_decision (node_at nodes u).kind) v);
+            all = All-push (IsKeptSearch nodes) c.loop-decision.kept.items _ so_far.all (record { decision = c.is_decision.ensures.decision.0 w.if-is_decision.true; marks = w.search_from_goals-marks.ensures });
           }))
       | else-is_decision w ↦
           subst (λ (list : Vec KeptSearch Global). KeepsSoFar nodes (v + 1) list.items) (sym w.kept-is) (record {
-            decisions = sym (append-nil _) ∙ (λ i. so_far.decisions i ++ cond ((sym w.if-is_decision.false ∙ c.is_decision.ensures.kind) i) (v ∷ []) []) ∙ sym (passed_more (λ u. is_decision (node_at nodes u).kind) v);
+            decisions = sym (append-nil _) ∙ (λ i. so_far.decisions i ++ cond ((sym w.if-is_decision.false ∙ c.is_decision.ensures.kind) i) (v ∷ []) []) ∙ sym (filter_more (λ u. is_decision (node_at nodes u).kind) v);
             all = so_far.all;
           })
     ]
