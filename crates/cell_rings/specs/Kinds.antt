@@ -8,6 +8,7 @@ use Rattle.cell_rings.specs.declared.small_gains.SmallGain.{SmallGain}
 use Rattle.cell_rings.specs.declared.cans.Can.{Can}
 use Rattle.cell_rings.specs.declared.boths.Both.{Both}
 
+-- the mass of a whole number
 abbrev pub mass_of : ℕ → Mass
 mass_of n = record { 0 = n }
 
@@ -22,6 +23,7 @@ mass_kind = record {
   most = most_size;
 }
 
+-- the gain of a whole number with a sign
 abbrev pub gain_of : ℤ → Gain
 gain_of z = record { 0 = z }
 
@@ -36,6 +38,7 @@ gain_kind = record {
   most = most_size;
 }
 
+-- the cell of a truth value
 abbrev pub can_of : Bool → Can
 can_of b = record { 0 = b }
 
@@ -50,6 +53,7 @@ can_kind = record {
   most = most_size;
 }
 
+-- the pair of a mass and a gain
 abbrev pub both_of : ℕ → ℤ → Both
 both_of m g = record { m = m; g = g }
 
@@ -68,6 +72,7 @@ both_kind = record {
   most = most_size;
 }
 
+-- the mass of a whole number, in 64 bits
 abbrev pub small_mass_of : ℕ → SmallMass
 small_mass_of n = record { 0 = n }
 
@@ -82,6 +87,7 @@ small_mass_kind = record {
   most = small_size;
 }
 
+-- the gain of a whole number with a sign, in 64 bits
 abbrev pub small_gain_of : ℤ → SmallGain
 small_gain_of z = record { 0 = z }
 

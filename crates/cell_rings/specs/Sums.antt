@@ -43,14 +43,20 @@ one_scaled r factor cells from = λ i. r.times factor (cell_at r cells (from + i
 abbrev pub one_sizes : {C : Type 0} → Ring C → C → List C → ℕ → ℕ → ℕ
 one_sizes r factor cells from = λ i. r.size factor * r.size (cell_at r cells (from + i))
 
--- that times the i-th cell of another run, and the most it is by the sizes of all three
+-- that times the i-th cell of another run
 abbrev pub dot_scaled : {C : Type 0} → Ring C → C → List C → ℕ → ℕ → ℕ → C
 dot_scaled r factor cells from beside = λ i.
     r.times (r.times factor (cell_at r cells (from + i))) (cell_at r cells (beside + i))
 
+-- the most that is by the sizes of all three
 abbrev pub dot_sizes : {C : Type 0} → Ring C → C → List C → ℕ → ℕ → ℕ → ℕ
 dot_sizes r factor cells from beside = λ i.
     r.size factor * r.size (cell_at r cells (from + i)) * r.size (cell_at r cells (beside + i))
+
+-- there is room for the sum of these of n cells
+abbrev pub HasRoomForDot : {C : Type 0} → Ring C → ℕ → C → List C → ℕ → ℕ → Type 0
+HasRoomForDot r n factor cells from beside =
+    ring_sum mass_ring n (dot_sizes r factor cells from beside) ≤ r.most
 
 -- the i-th cells of both runs, each times its factor, added up; a factor is the cell that `of` makes of it
 abbrev pub two_scaled : {C F : Type 0} → Ring C → (F → C) → List C → Pair F → ℕ → C
@@ -65,7 +71,6 @@ two_sizes r size cells pair = λ i.
     + size pair.second * r.size (cell_at r cells (pair.beside + i))
 
 -- the i-th cells of the four runs of two pairs, each times its factor, added up
-
 abbrev pub four_scaled : {C F : Type 0} → Ring C → (F → C) → List C → Pair F → Pair F → ℕ → C
 four_scaled r of cells one other = λ i.
     r.plus (two_scaled r of cells one i) (two_scaled r of cells other i)
@@ -118,12 +123,13 @@ abbrev pub AddsTwo :
     {C F : Type 0} → Ring C → (F → C) → List C → List C → ℕ → ℕ → List C → Pair F → Type 0
 AddsTwo r of old new at n cells pair = Adds r (run_sum r n at (two_scaled r of cells pair)) old new
 
--- the same of two pairs of runs
+-- there is room in n cells from `at` on for those of two pairs of runs, each times its factor
 abbrev pub HasRoomForFour :
     {C F : Type 0} → Ring C → (F → ℕ) → List C → ℕ → ℕ → List C → Pair F → Pair F → Type 0
 HasRoomForFour r size out at n cells one other =
     HasRoom r out (run_sum mass_ring n at (four_sizes r size cells one other))
 
+-- these are added to them
 abbrev pub AddsFour : {C F : Type 0} → Ring C → (F → C) → List C → List C → ℕ → ℕ → List C
     → Pair F → Pair F → Type 0
 AddsFour r of old new at n cells one other =

@@ -29,10 +29,11 @@ AreWords cells from n = (i : ℕ) → i < n → FitsWord (cell_at gain_kind cell
 abbrev pub AreWordPair : {F : Type 0} → List Gain → Pair F → ℕ → Type 0
 AreWordPair cells pair n = AreWords cells pair.from n × AreWords cells pair.beside n
 
--- the cell that a number in one word makes, and its size
+-- the cell that a number in one word makes
 abbrev pub of_word : Word → Gain
 of_word a = gain_of a.value
 
+-- the size of a number in one word: its absolute value
 abbrev pub word_size : Word → ℕ
 word_size a = nat_abs a.value
 

@@ -1,8 +1,8 @@
 //! What a cell is.
 
 ghost use Rattle.std.specs.Prelude.{◌≡◌, ℕ, ℤ, ◌+◌, ◌*◌, ◌<◌, ◌≤◌, max, nat_abs, length, IsTrue};
-ghost use Rattle.cell_rings.specs.Sums.{ring_sum, one_sizes, dot_scaled, dot_sizes, AreWithin, IsNarrowRun, IsNarrowPair, AddsFour, AddsOne, AddsTwo, HasRoomForFour, HasRoomForOne, HasRoomForTwo};
-ghost use Rattle.cell_rings.specs.Rings.{Ring, IsRing, IsSize, mass_ring};
+ghost use Rattle.cell_rings.specs.Sums.{ring_sum, one_sizes, dot_scaled, AreWithin, IsNarrowRun, IsNarrowPair, AddsFour, AddsOne, AddsTwo, HasRoomForDot, HasRoomForFour, HasRoomForOne, HasRoomForTwo};
+ghost use Rattle.cell_rings.specs.Rings.{Ring, IsRing, IsSize};
 
 use crate::pairs::Pair;
 
@@ -122,7 +122,7 @@ pub trait Cell: Copy {
     fn dot(n: usize, factor: Self, cells: &[Self], from: usize, beside: usize) -> Self
         requires cells { (from + n ≤ length cells.now) × (beside + n ≤ length cells.now) }
         requires first { (i : ℕ) → i < n → one_sizes ring factor cells.now from i ≤ ring.most }
-        requires room { ring_sum mass_ring n (dot_sizes ring factor cells.now from beside) ≤ ring.most }
+        requires room { HasRoomForDot ring n factor cells.now from beside }
         ensures { result ≡ ring_sum ring n (dot_scaled ring factor cells.now from beside) }
     {
         let mut sum = Self::zero();

@@ -14,6 +14,7 @@ use Rattle.size_precheck.specs.Counts.{counted_cells}
 use Rattle.size_precheck.specs.Greedy.{holding, joined_set}
 use Rattle.size_precheck.specs.Sizes.{steps_work}
 use Rattle.eliminate.specs.declared.counts.Limits.{Limits}
+use Rattle.eliminate.specs.declared.firsts.Play.{Play}
 use Rattle.eliminate.specs.declared.places.Places.{Places}
 use Rattle.factor_core.specs.Operations.{cells_of}
 use Rattle.eliminate.specs.Places.{slots_at}
@@ -36,14 +37,15 @@ live_scopes places slots = scopes_at (slots_at places slots)
 abbrev pub IsFirstScope : List NodeView → ℕ → NodeSet → Type 0
 IsFirstScope nodes v scope = (u : ℕ) → holds scope u ≡ (first_table mass_cells nodes [] v).holds u
 
--- the cells that a step makes, and its work
+-- the cells that a step makes: those of the joined set without the node
 abbrev pub step_cells : List NodeView → ℕ → List (ℕ → Bool) → ℕ
 step_cells nodes v scopes = counted_cells nodes (joined_without v (holding v scopes))
 
+-- the work of a step: the cells of the joined set times the number of tables joined
 abbrev pub step_work : List NodeView → ℕ → List (ℕ → Bool) → ℕ
 step_work nodes v scopes = counted_cells nodes (joined_set v scopes) * length (holding v scopes)
 
--- the cells and the work of a step over those scopes are
+-- the cells and the work of a step over those scopes are taken from what is left, where there is as much
 abbrev pub SpendsStep : List NodeView → ℕ → List (ℕ → Bool) → Limits → Option Limits → Type 0
 SpendsStep nodes v scopes left result =
     Spends left (step_cells nodes v scopes) (step_work nodes v scopes) result
@@ -56,13 +58,14 @@ pub record ListsWithin {C : Type 0}
   pub cells : left.cells + lists.spent ≡ limits.cells
   pub work : left.work ≡ limits.work
 
--- all first tables of these nodes stand, or their cells pass the limit
-abbrev pub ListsOrPasses :
-    {C : Type 0} → Ghosts C → List NodeView → List RuleView → WorkspaceView C → WorkspaceView C
+-- all first tables of these nodes stand, or none is told where their cells pass the limit
+abbrev pub ListsOrNone :
+    {C : Type 0} → Ghosts C → Play → WorkspaceView C → WorkspaceView C
     → List Slot → List ℕ → Limits → Option Limits → Type 0
-ListsOrPasses kind nodes p before now slots vs limits result =
-    MatchOption result (limits.cells < sum_by (first_cells (cells_of kind) nodes p) vs)
-    (ListsWithin (cells_of kind) nodes p before now (take (length vs) slots) [] vs limits)
+ListsOrNone kind p before now slots vs limits result = MatchOption result
+    (limits.cells < sum_by (first_cells (cells_of kind) p.diagram.now.nodes p.profile.now) vs)
+    (ListsWithin (cells_of kind) p.diagram.now.nodes p.profile.now before now
+    (take (length vs) slots) [] vs limits)
 
 -- between steps: so was the work of those so far
 pub record BetweenWithin {C : Type 0}

@@ -16,6 +16,7 @@ use Rattle.factor_core.specs.Slots.{WorkspaceView, IsLive, table_of, Appends, St
 use Rattle.size_precheck.specs.Counts.{counted_cells}
 use Rattle.size_precheck.specs.Sizes.{SizedPlan, made_cells, steps_work}
 use Rattle.eliminate.specs.declared.counts.Limits.{Limits}
+use Rattle.eliminate.specs.declared.firsts.Play.{Play}
 use Rattle.eliminate.specs.Steps.{first_cells}
 use Rattle.ring_sums.specs.Groups.{StepsFit, StepsHold}
 
@@ -28,6 +29,10 @@ greatest_value nodes (Some u) = max 1 (greatest_abs (node_at nodes u).cells)
 abbrev pub plan_total : List NodeView → List RuleView → PlanView → ℕ
 plan_total nodes p plan = nat_product_over (weight_total nodes p) (ruled_nodes nodes plan)
     * greatest_value nodes plan.utility
+
+-- so it is in a play as the program has it
+abbrev pub total_of : Play → PlanView → ℕ
+total_of p plan = plan_total p.diagram.now.nodes p.profile.now plan
 
 -- the slot is that of the plan's sum, over the kept nodes; as many cells as the plan counts were appended, and slots
 -- that were live are, with their tables

@@ -10,17 +10,19 @@ use Rattle.ring_sums.specs.Groups.{JoinFits, StepsFit, StepsHold}
 use Rattle.ring_sums.specs.Tables.{Table, IsSame, sum_out, eliminate, scopes_of}
 use Rattle.plan_sums.specs.Plans.{Cells, PlanView, ruled_nodes}
 use Rattle.factor_core.specs.declared.slots.Slot.{Slot}
-use Rattle.factor_core.specs.Operations.{first_table}
-use Rattle.factor_core.specs.Slots.{WorkspaceView, cells_over, IsLive, tables_of, Appends, AppendsTable, StaysLive}
+use Rattle.factor_core.specs.Operations.{first_table, NumbersFit}
+use Rattle.factor_core.specs.Slots.{WorkspaceView, cells_over, IsLive, tables_of, Appends, AppendsTable, HasSpareForFirst, StaysLive}
 use Rattle.size_precheck.specs.Sizes.{made_cells, IsMember, SizedPlan}
+use Rattle.eliminate.specs.declared.firsts.Play.{Play}
 use Rattle.eliminate.specs.declared.places.Places.{Places}
 use Rattle.factor_core.specs.Operations.{cells_of}
 use Rattle.eliminate.specs.Places.{slots_at}
 
--- the slots that hold the node, and the others
+-- the slots that hold the node
 abbrev pub slots_with : ℕ → List Slot → List Slot
 slots_with v slots = filter (λ s. holds s.scope v) slots
 
+-- the slots that do not hold the node
 abbrev pub slots_without : ℕ → List Slot → List Slot
 slots_without v slots = filter (λ s. not (holds s.scope v)) slots
 
@@ -32,24 +34,11 @@ pub record PutsTable {C : Type 0}
   pub appends : AppendsTable r nodes before after slot t
   pub slots : new ≡ old ++ slot ∷ []
 
--- the table was the first one of the node, and the slots before and after are the first so many of these lists
-abbrev pub PutsFirst : {C : Type 0} → Ghosts C → List NodeView → List RuleView → WorkspaceView C
-    → WorkspaceView C → ℕ → List Slot → ℕ → List Slot → ℕ → Type 0
-PutsFirst kind nodes p before after count old made new v =
-    PutsTable kind.ring nodes before after (take count old) (take made new)
-    (first_table (cells_of kind) nodes p v)
-
 -- the slots that hold the node gave way to their join with the node summed out
 abbrev pub GiveWay : {C : Type 0} → Ring C → List NodeView → WorkspaceView C → WorkspaceView C
     → List Slot → List Slot → ℕ → Type 0
 GiveWay r nodes before after old new v = PutsTable r nodes before after (slots_without v old) new
     (sum_out r (states_of nodes) v (tables_of r nodes before.cells (slots_with v old)))
-
--- so did those of the live slots
-abbrev pub LiveGiveWay : {C : Type 0} → Ring C → List NodeView → WorkspaceView C → WorkspaceView C
-    → Places → List Slot → Places → List Slot → ℕ → Type 0
-LiveGiveWay r nodes before after places old left new v =
-    GiveWay r nodes before after (slots_at places old) (slots_at left new) v
 
 -- what that asks
 pub record CanJoinOut {C : Type 0}
@@ -88,12 +77,6 @@ abbrev pub plan_first_cells :
     {C : Type 0} → Cells C → List NodeView → List RuleView → PlanView → ℕ
 plan_first_cells c nodes p plan = sum_by (first_cells c nodes p) (first_nodes nodes plan)
 
--- there is room for them
-abbrev pub HasSpareForFirsts :
-    {C : Type 0} → Ghosts C → List NodeView → List RuleView → PlanView → WorkspaceView C → Type 0
-HasSpareForFirsts kind nodes p plan space =
-    plan_first_cells (cells_of kind) nodes p plan ≤ space.spare
-
 -- among the first tables: those that stand, and those of the nodes to come, are those of all
 pub record Lists {C : Type 0}
     (c : Cells C) (nodes : List NodeView) (p : List RuleView) (before now : WorkspaceView C)
@@ -103,12 +86,6 @@ pub record Lists {C : Type 0}
   pub stand : Stand c.ring nodes before now spent slots tables
   pub leads : tables ++ map (first_table c nodes p) rest ≡ map (first_table c nodes p) all
   pub room : spent + sum_by (first_cells c nodes p) rest ≡ sum_by (first_cells c nodes p) all
-
--- the slots are those of a plan's first tables
-abbrev pub ListsFirst : {C : Type 0} → Ghosts C → List NodeView → List RuleView → PlanView
-    → WorkspaceView C → WorkspaceView C → List Slot → Type 0
-ListsFirst kind nodes p plan before now slots =
-    Lists (cells_of kind) nodes p before now slots [] (first_nodes nodes plan)
 
 -- between steps: the steps to come lead from the tables that stand to what all steps make of the first ones, their
 -- sums fit, each finds a table that holds its node, and what they make has room
@@ -122,3 +99,48 @@ pub record Between {C : Type 0}
   pub fits : StepsFit r r.size (states_of nodes) r.most rest tables
   pub holds : StepsHold r (states_of nodes) rest tables
   pub room : spent + made_cells nodes rest (scopes_of tables) ≡ cells
+
+-- ---- of a play as the program has it
+-- the numbers of the node's first table fit
+abbrev pub NumbersFitIn : ℕ → Play → ℕ → Type 0
+NumbersFitIn most p v = NumbersFit most p.diagram.now.nodes p.profile.now v
+
+-- there is room for the node's first table
+abbrev pub HasSpareForTable : {C : Type 0} → Ghosts C → Play → ℕ → WorkspaceView C → Type 0
+HasSpareForTable kind p v space = HasSpareForFirst kind p.diagram.now.nodes p.profile.now v space
+
+-- there is room for the plan's first tables
+abbrev pub HasSpareForFirsts :
+    {C : Type 0} → Ghosts C → Play → PlanView → WorkspaceView C → Type 0
+HasSpareForFirsts kind p plan space =
+    plan_first_cells (cells_of kind) p.diagram.now.nodes p.profile.now plan ≤ space.spare
+
+-- there is a slot for each of them
+abbrev pub HasSlotsForFirsts : Play → PlanView → List Slot → Type 0
+HasSlotsForFirsts p plan slots = length (first_nodes p.diagram.now.nodes plan) ≤ length slots
+
+-- the node's first table was appended, and its slot put behind the first so many
+abbrev pub PutsFirst : {C : Type 0} → Ghosts C → Play → WorkspaceView C
+    → WorkspaceView C → ℕ → List Slot → ℕ → List Slot → ℕ → Type 0
+PutsFirst kind p before after count old made new v =
+    PutsTable kind.ring p.diagram.now.nodes before after (take count old) (take made new)
+    (first_table (cells_of kind) p.diagram.now.nodes p.profile.now v)
+
+-- the slots are those of the plan's first tables
+abbrev pub ListsFirst : {C : Type 0} → Ghosts C → Play → SizedPlan
+    → WorkspaceView C → WorkspaceView C → List Slot → Type 0
+ListsFirst kind p sized before now slots =
+    Lists (cells_of kind) p.diagram.now.nodes p.profile.now before now slots []
+    (first_nodes p.diagram.now.nodes sized.plan)
+
+-- the live slots that hold the node can give way to their join with the node summed out
+abbrev pub CanJoinLive :
+    {C : Type 0} → Ring C → Play → WorkspaceView C → Places → List Slot → ℕ → Type 0
+CanJoinLive r p work places slots v =
+    CanJoinOut r p.diagram.now.nodes work (slots_at places slots) v
+
+-- they did
+abbrev pub Joins : {C : Type 0} → Ring C → Play → WorkspaceView C → WorkspaceView C
+    → Places → List Slot → Places → List Slot → ℕ → Type 0
+Joins r p before after places old left new v =
+    GiveWay r p.diagram.now.nodes before after (slots_at places old) (slots_at left new) v

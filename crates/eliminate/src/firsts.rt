@@ -7,17 +7,23 @@ ghost use Rattle.maid_model.specs.Profiles.{IsProfile};
 ghost use Rattle.node_sets.specs.declared.sets.TheConstants.{MOST_NODES};
 ghost use Rattle.node_sets.specs.Sets.{IsIn};
 ghost use Rattle.plan_sums.specs.Laws.{IsOrderOfPlan};
-ghost use Rattle.factor_core.specs.Operations.{NumbersFit};
-ghost use Rattle.factor_core.specs.Slots.{HasSpareForFirst};
 ghost use Rattle.size_precheck.specs.Sizes.{CanBePlanned};
-ghost use Rattle.eliminate.specs.Results.{plan_total};
-ghost use Rattle.eliminate.specs.Steps.{first_nodes, HasOwnTable, ListsFirst, PutsFirst, HasSpareForFirsts};
+ghost use Rattle.eliminate.specs.Results.{total_of};
+ghost use Rattle.eliminate.specs.Steps.{HasOwnTable, HasSlotsForFirsts, HasSpareForFirsts, HasSpareForTable, ListsFirst, NumbersFitIn, PutsFirst};
 
 use cell_rings::Cell;
 use factor_core::{Slot, StateCounts, Workspace};
 use maid_model::{Diagram, Profile};
 use node_sets::NodeSet;
 use size_precheck::Plan;
+
+/// A diagram, the counts of states of its nodes, and the profile that it is played with.
+#[derive(Drop)]
+pub struct Play<'a> {
+    pub diagram: &'a Diagram,
+    pub counts: &'a StateCounts,
+    pub profile: &'a Profile,
+}
 
 /// The nodes whose own tables the plan has: those that it keeps or eliminates, but for the decision left out.
 fn ruled_nodes(plan: &Plan) -> NodeSet
@@ -38,24 +44,21 @@ fn ruled_nodes(plan: &Plan) -> NodeSet
 /// Appends the first table of the node, and writes its slot behind the first `count`. Gives how many there are now.
 pub fn put_table<C: Cell>(
     work: &mut Workspace<C>,
-    diagram: &Diagram,
-    counts: &StateCounts,
-    profile: &Profile,
+    play: &Play,
     live: &mut [Slot],
     count: usize,
     node: usize,
 ) -> usize
-    requires counts { counts.now ≡ counts_of diagram.now.nodes }
-    requires profile { IsProfile diagram.now.nodes profile.now }
+    requires counts { play.now.counts.now ≡ counts_of play.now.diagram.now.nodes }
+    requires profile { IsProfile play.now.diagram.now.nodes play.now.profile.now }
     requires count { count < length live.old }
-    requires node { node < length diagram.now.nodes }
-    requires fit { NumbersFit C.ring.most diagram.now.nodes profile.now node }
-    requires room { HasSpareForFirst C.Cell diagram.now.nodes profile.now node work.old }
+    requires node { node < length play.now.diagram.now.nodes }
+    requires fit { NumbersFitIn C.ring.most play.now node }
+    requires room { HasSpareForTable C.Cell play.now node work.old }
     ensures count { result ≡ count + 1 }
-    ensures puts { PutsFirst C.Cell diagram.now.nodes profile.now
-        work.old work.new count live.old result live.new node }
+    ensures puts { PutsFirst C.Cell play.now work.old work.new count live.old result live.new node }
 {
-    live[count] = work.table(diagram, counts, profile, node);
+    live[count] = work.table(play.diagram, play.counts, play.profile, node);
     count + 1
 }
 
@@ -64,33 +67,30 @@ pub fn put_table<C: Cell>(
 pub fn first_tables<C: Cell>(
     work: &mut Workspace<C>,
     plan: &Plan,
-    diagram: &Diagram,
-    counts: &StateCounts,
-    profile: &Profile,
+    play: &Play,
     live: &mut [Slot],
 ) -> usize
-    requires asked { CanBePlanned diagram.now.nodes plan.now.plan }
-    requires order { IsOrderOfPlan diagram.now.nodes plan.now.plan plan.now.steps }
-    requires counts { counts.now ≡ counts_of diagram.now.nodes }
-    requires profile { IsProfile diagram.now.nodes profile.now }
-    requires fits { 2 * plan_total diagram.now.nodes profile.now plan.now.plan ≤ C.ring.most }
-    requires room { HasSpareForFirsts C.Cell diagram.now.nodes profile.now plan.now.plan work.old }
-    requires tables { length (first_nodes diagram.now.nodes plan.now.plan) ≤ length live.old }
-    ensures diagram { IsDiagram diagram.now }
+    requires asked { CanBePlanned play.now.diagram.now.nodes plan.now.plan }
+    requires order { IsOrderOfPlan play.now.diagram.now.nodes plan.now.plan plan.now.steps }
+    requires counts { play.now.counts.now ≡ counts_of play.now.diagram.now.nodes }
+    requires profile { IsProfile play.now.diagram.now.nodes play.now.profile.now }
+    requires fits { 2 * total_of play.now plan.now.plan ≤ C.ring.most }
+    requires room { HasSpareForFirsts C.Cell play.now plan.now.plan work.old }
+    requires tables { HasSlotsForFirsts play.now plan.now.plan live.old }
+    ensures diagram { IsDiagram play.now.diagram.now }
     ensures few { result ≤ length live.old }
-    ensures lists { ListsFirst C.Cell diagram.now.nodes
-        profile.now plan.now.plan work.old work.new (take result live.new) }
+    ensures lists { ListsFirst C.Cell play.now plan.now work.old work.new (take result live.new) }
 {
-    let nodes = diagram.count();
+    let nodes = play.diagram.count();
     let ruled = ruled_nodes(plan);
     let mut count = 0;
     for v in 0..nodes {
         if ruled.holds(v) {
-            count = put_table(work, diagram, counts, profile, live, count, v);
+            count = put_table(work, play, live, count, v);
         }
     }
     match plan.utility() {
-        Some(u) => put_table(work, diagram, counts, profile, live, count, u),
+        Some(u) => put_table(work, play, live, count, u),
         None => count,
     }
 }

@@ -8,10 +8,10 @@ ghost use Rattle.maid_model.specs.Profiles.{IsProfile};
 ghost use Rattle.node_sets.specs.declared.sets.TheConstants.{MOST_NODES};
 ghost use Rattle.size_precheck.specs.Sizes.{CanBePlanned, IsMade};
 ghost use Rattle.eliminate.specs.Results.{plan_total, SumsPlanIn};
-ghost use Rattle.eliminate.specs.Places.{IsBlank, IsBoard, slots_at};
-ghost use Rattle.eliminate.specs.Steps.{first_nodes, CanJoinOut, LiveGiveWay};
+ghost use Rattle.eliminate.specs.Places.{IsBlank, IsBoard};
+ghost use Rattle.eliminate.specs.Steps.{first_nodes, CanJoinLive, Joins};
 
-use crate::firsts::first_tables;
+use crate::firsts::{Play, first_tables};
 use crate::lists::{before, blank_slot};
 use crate::places::{Places, all_live, gather, no_places, places_of, put_slot};
 use cell_rings::Cell;
@@ -36,29 +36,28 @@ pub fn release<C: Cell>(work: &mut Workspace<C>)
 /// A step: the live slots that hold the node give way to their join with the node summed out.
 pub fn eliminate<C: Cell>(
     work: &mut Workspace<C>,
-    diagram: &Diagram,
-    counts: &StateCounts,
+    play: &Play,
     slots: &mut [Slot],
     at: &mut [NodeSet],
     joined: &mut [Slot],
     places: Places,
     node: usize,
 ) -> Places
-    requires diagram { IsDiagram diagram.now }
-    requires counts { counts.now ≡ counts_of diagram.now.nodes }
+    requires diagram { IsDiagram play.now.diagram.now }
+    requires counts { play.now.counts.now ≡ counts_of play.now.diagram.now.nodes }
     requires board { IsBoard at.old slots.old places.live places.made }
     requires made { places.made ≤ length slots.old }
     requires slots { length slots.old ≤ MOST_NODES }
     requires joined { length joined.old ≡ length slots.old }
     requires node { node < length at.old }
-    requires join { CanJoinOut C.ring diagram.now.nodes work.old (slots_at places slots.old) node }
+    requires join { CanJoinLive C.ring play.now work.old places slots.old node }
     ensures board { IsBoard at.new slots.new result.live result.made }
     ensures made { result.made ≤ length slots.old }
-    ensures step { LiveGiveWay C.ring diagram.now.nodes work.old work.new places slots.old result slots.new node }
+    ensures step { Joins C.ring play.now work.old work.new places slots.old result slots.new node }
 {
     let held = places_of(at, &places, node);
     let count = gather(before(slots, places.made), &held, joined);
-    let slot = work.join_out(diagram, counts, before(joined, count), node);
+    let slot = work.join_out(play.diagram, play.counts, before(joined, count), node);
     let left = Places {
         live: places.live.difference(&held),
         made: places.made,
@@ -90,10 +89,15 @@ fn run_with<C: Cell>(
     ensures { SumsPlanIn C.Cell diagram.now profile.now plan.now work.old work.new result }
 {
     let counts = StateCounts::of(diagram);
-    let count = first_tables(work, plan, diagram, &counts, profile, slots);
+    let play = Play {
+        diagram,
+        counts: &counts,
+        profile,
+    };
+    let count = first_tables(work, plan, &play, slots);
     let mut places = all_live(slots, at, count);
     for node in plan.steps() {
-        places = eliminate(work, diagram, &counts, slots, at, joined, places, *node);
+        places = eliminate(work, &play, slots, at, joined, places, *node);
     }
     let count = gather(before(slots, places.made), &places.live, joined);
     work.product(diagram, &counts, before(joined, count))

@@ -1,17 +1,18 @@
 //! Sums of tables of any nodes, within limits that the caller sets.
 
-ghost use Rattle.std.specs.Prelude.{◌≡◌, ◌↔◌, ◌<◌, ◌≤◌, All, length};
+ghost use Rattle.std.specs.Prelude.{◌≡◌, ◌<◌, ◌≤◌, All, length};
 ghost use Rattle.maid_model.specs.declared.limits.TheConstants.{MOST_PLAN_CELLS};
 ghost use Rattle.maid_model.specs.Nodes.{counts_of};
 ghost use Rattle.maid_model.specs.Profiles.{IsProfile};
 ghost use Rattle.node_sets.specs.declared.sets.TheConstants.{MOST_NODES};
 ghost use Rattle.factor_core.specs.Operations.{NumbersFit};
-ghost use Rattle.eliminate.specs.Limits.{live_scopes, IsFirstScope, ListsOrPasses, SpendsStep};
+ghost use Rattle.eliminate.specs.Limits.{live_scopes, IsFirstScope, ListsOrNone, SpendsStep};
 ghost use Rattle.eliminate.specs.Places.{IsBlank, IsBoard};
+ghost use Rattle.eliminate.specs.Steps.{NumbersFitIn};
 ghost use Rattle.eliminate.specs.Results.{Grows, FindTablesIn, NoneIffTooMuch, SumsFitIn, SumsIfSome};
 
 use crate::counts::{Limits, count_cells, spend, united_scope};
-use crate::firsts::put_table;
+use crate::firsts::{Play, put_table};
 use crate::lists::{before, blank_slot};
 use crate::places::{Places, all_live, gather, no_places, places_of};
 use crate::runs::{FEW, SHORT, eliminate};
@@ -39,30 +40,27 @@ fn first_scope(diagram: &Diagram, node: usize) -> NodeSet
 /// Appends the first tables of the nodes, and lists their slots. Gives what is left of the limits, where they are kept.
 fn list_tables<C: Cell>(
     work: &mut Workspace<C>,
-    diagram: &Diagram,
-    counts: &StateCounts,
-    profile: &Profile,
+    play: &Play,
     nodes: &[usize],
     live: &mut [Slot],
     limits: Limits,
 ) -> Option<Limits>
-    requires counts { counts.now ≡ counts_of diagram.now.nodes }
-    requires profile { IsProfile diagram.now.nodes profile.now }
-    requires known { All (λ v. v < length diagram.now.nodes) nodes.now }
-    requires numbers { All (NumbersFit C.ring.most diagram.now.nodes profile.now) nodes.now }
+    requires counts { play.now.counts.now ≡ counts_of play.now.diagram.now.nodes }
+    requires profile { IsProfile play.now.diagram.now.nodes play.now.profile.now }
+    requires known { All (λ v. v < length play.now.diagram.now.nodes) nodes.now }
+    requires numbers { All (NumbersFitIn C.ring.most play.now) nodes.now }
     requires small { limits.cells ≤ MOST_PLAN_CELLS }
     requires room { limits.cells ≤ work.old.spare }
     requires len { length nodes.now ≤ length live.old }
-    ensures lists { ListsOrPasses C.Cell diagram.now.nodes
-        profile.now work.old work.new live.new nodes.now limits result }
-    ensures grows { Grows C.ring diagram.now.nodes work.old work.new }
+    ensures lists { ListsOrNone C.Cell play.now work.old work.new live.new nodes.now limits result }
+    ensures grows { Grows C.ring play.now.diagram.now.nodes work.old work.new }
 {
     let mut left = limits;
     let mut count = 0;
     for node in nodes {
-        let cells = count_cells(diagram, counts, &first_scope(diagram, *node));
+        let cells = count_cells(play.diagram, play.counts, &first_scope(play.diagram, *node));
         left = spend(left, cells, 0, 0)?;
-        count = put_table(work, diagram, counts, profile, live, count, *node);
+        count = put_table(work, play, live, count, *node);
     }
     Some(left)
 }
@@ -129,11 +127,16 @@ fn sum_with<C: Cell>(
     ensures grows { Grows C.ring diagram.now.nodes work.old work.new }
 {
     let counts = StateCounts::of(diagram);
-    let mut left = list_tables(work, diagram, &counts, profile, nodes, slots, limits)?;
+    let play = Play {
+        diagram,
+        counts: &counts,
+        profile,
+    };
+    let mut left = list_tables(work, &play, nodes, slots, limits)?;
     let mut places = all_live(slots, at, nodes.len());
     for node in steps {
         left = spend_on_step(diagram, &counts, slots, at, joined, &places, *node, left)?;
-        places = eliminate(work, diagram, &counts, slots, at, joined, places, *node);
+        places = eliminate(work, &play, slots, at, joined, places, *node);
     }
     let count = gather(before(slots, places.made), &places.live, joined);
     let last = before(joined, count);

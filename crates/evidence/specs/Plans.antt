@@ -9,10 +9,14 @@ use Rattle.size_precheck.specs.Sizes.{IsPlanned, SizedPlan, ArePlansOfWorths}
 use Rattle.evidence.specs.declared.measures.GivenPlans.{GivenPlans}
 use Rattle.evidence.specs.Sizes.{HasRoomGiven, plan_given}
 
+-- this is the plan that keeps x, perhaps with a utility
+abbrev pub IsPlanGiven : List NodeView → ℕ → Option ℕ → SizedPlan → Type 0
+IsPlanGiven nodes x utility plan = IsPlanned nodes (plan_given x utility) plan
+
 -- the plan that keeps x and has the utility v, or nothing where v is no utility
 abbrev pub IsPlanIf : List NodeView → ℕ → ℕ → Option SizedPlan → Type 0
 IsPlanIf nodes x v found = MatchOption found ((node_at nodes v).kind ≢ Utility)
-    (λ plan. ((node_at nodes v).kind ≡ Utility) × IsPlanned nodes (plan_given x (Some v)) plan)
+    (λ plan. ((node_at nodes v).kind ≡ Utility) × IsPlanGiven nodes x (Some v) plan)
 
 -- for each node the plan that keeps x and has it, where it is a utility
 pub record HasUtilityPlans (nodes : List NodeView) (x : ℕ) (plans : List (Option SizedPlan)) : Type
@@ -28,7 +32,7 @@ pub record HasRunPlans (nodes : List NodeView) (order : List ℕ) (plans : Given
 
 -- the further ones
 pub record HasFurtherPlans (nodes : List NodeView) (x : ℕ) (plans : GivenPlans) : Type 0 where
-  pub alone : IsPlanned nodes (plan_given x None) plans.alone
+  pub alone : IsPlanGiven nodes x None plans.alone
   pub utilities : HasUtilityPlans nodes x plans.utilities.items
 
 -- so many cells are room for all of them

@@ -48,9 +48,10 @@ pub record HasRoomGiven (nodes : List NodeView) (x cells : ℕ) : Type 0 where
   pub utilities : (u : ℕ) → u < length nodes → (node_at nodes u).kind ≡ Utility
       → HasAtMost nodes (plan_given x (Some u)) cells
 
--- the workspaces have no table, and room for the plan, or for each of the further plans
+-- the workspaces have no table, and room for the plan
 abbrev pub HasSpaceFor : List NodeView → PlanView → Workspaces → Type 0
 HasSpaceFor nodes plan spaces = (cells : ℕ) × AreReady cells spaces × HasAtMost nodes plan cells
 
+-- the workspaces have no table, and room for each of the further plans
 abbrev pub HasSpace : List NodeView → ℕ → Workspaces → Type 0
 HasSpace nodes x spaces = (cells : ℕ) × AreReady cells spaces × HasRoomGiven nodes x cells

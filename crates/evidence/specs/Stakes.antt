@@ -69,10 +69,11 @@ gain_from nodes x agent worths v = if is_utility_of nodes agent v
     then slice_index_or worths v (pos 0) *ℤ pos (chances_lacking nodes x agent (Some v))
     else pos 0
 
--- the agent's gain, and the weight of the worlds, in the agent's scope
+-- the agent's gain in its scope
 abbrev pub scope_gain : List NodeView → ℕ → ℕ → List ℤ → ℤ
 scope_gain nodes x agent worths = sum_each (gain_from nodes x agent worths) (numbers_of nodes)
 
+-- the weight of the worlds in the agent's scope
 abbrev pub scope_mass : List NodeView → ℕ → ℕ → ℕ → ℕ
 scope_mass nodes x agent mass = mass * chances_lacking nodes x agent None
 
@@ -97,6 +98,7 @@ IsScopeFraction d x agent mass worths r = IsFraction r (scope_gain d.nodes x age
     (scope_mass d.nodes x agent mass * 10 ^ d.decimals)
 
 -- ---- of a stake as the program has it
+-- what the stake has is right
 abbrev pub HoldsStake : Stake → Type 0
 HoldsStake s = IsStake s.diagram.now s.node s.agent s.mass s.worths.now s.scope
 
@@ -104,12 +106,14 @@ HoldsStake s = IsStake s.diagram.now s.node s.agent s.mass s.worths.now s.scope
 abbrev pub gives_to : Stake → ℕ → ℤ
 gives_to s v = gain_from s.diagram.now.nodes s.node s.agent s.worths.now v
 
--- its agent's gain, the weight of the worlds, and the fraction of the two
+-- its agent's gain
 abbrev pub gain_to : Stake → ℤ
 gain_to s = scope_gain s.diagram.now.nodes s.node s.agent s.worths.now
 
+-- the weight of its worlds
 abbrev pub mass_to : Stake → ℕ
 mass_to s = scope_mass s.diagram.now.nodes s.node s.agent s.mass
 
+-- the fraction of the two, in lowest terms
 abbrev pub IsFractionTo : Stake → Ratio → Type 0
 IsFractionTo s r = IsScopeFraction s.diagram.now s.node s.agent s.mass s.worths.now r

@@ -7,10 +7,11 @@ use Rattle.evidence.specs.declared.faults.GivenFault.{GivenFault}
 use Rattle.evidence.specs.Faults.{FaultView, given_fault}
 use Rattle.evidence.specs.Faults.FaultView.{Unsolved}
 
--- the solver's fault, or that memory ran out
+-- the solver's fault as one under evidence, or that memory ran out
 abbrev pub as_unsolved : Option solver.FaultView → Option FaultView
 as_unsolved None = None
 as_unsolved (Some fault) = Some (Unsolved fault)
 
+-- the fault under evidence tells of the solver's fault
 abbrev pub is_unsolved : SolveFault → GivenFault → Type 0
 is_unsolved before after = given_fault after ≡ as_unsolved (solve_fault before)

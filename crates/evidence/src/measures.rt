@@ -6,9 +6,9 @@ ghost use Rattle.maid_model.specs.declared.limits.TheConstants.{COUNT_END};
 ghost use Rattle.maid_model.specs.Nodes.{node_at};
 ghost use Rattle.maid_model.specs.Placing.{IsRelianceOrder};
 ghost use Rattle.size_precheck.specs.Runs.{joined_size};
-ghost use Rattle.size_precheck.specs.Sizes.{CanBePlanned, IsPlanned};
+ghost use Rattle.size_precheck.specs.Sizes.{CanBePlanned};
 ghost use Rattle.evidence.specs.Measures.{AddsPlanGiven, AddsUtility};
-ghost use Rattle.evidence.specs.Plans.{HasFurtherPlans, HasRunPlans, IsPlanIf};
+ghost use Rattle.evidence.specs.Plans.{HasFurtherPlans, HasRunPlans, IsPlanGiven, IsPlanIf};
 ghost use Rattle.evidence.specs.Sizes.{IsSizeOfPlans, plan_given};
 
 use maid_model::{COUNT_END, Diagram, Kind};
@@ -50,8 +50,7 @@ fn add_plan(
 ) -> Result<(Plan, Size), AllocError>
     requires asked { CanBePlanned diagram.now.nodes (plan_given node utility) }
     requires few { size.work ≤ COUNT_END }
-    ensures plan { IfOk result (λ made.
-        IsPlanned diagram.now.nodes (plan_given node utility) made.0) }
+    ensures plan { IfOk result (λ made. IsPlanGiven diagram.now.nodes node utility made.0) }
     ensures size { IfOk result (λ made. AddsPlanGiven diagram.now.nodes node utility size made.1) }
 {
     let plan = make_plan(alloc, diagram, &[node], None, utility)?;

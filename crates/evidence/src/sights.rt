@@ -11,18 +11,11 @@ ghost use Rattle.evidence.specs.Rules.{IsBelowDecision, KeepsRules};
 ghost use Rattle.evidence.specs.Sights.{TellsOwnCells, adds, parents_with};
 
 use crate::faults::GivenFault;
-use maid_model::{Diagram, Kind, MOST_CELLS, MOST_PARENTS, MOST_RULE_CELLS, Node};
+use maid_model::{Diagram, MOST_CELLS, MOST_PARENTS, MOST_RULE_CELLS, Node};
 use node_sets::{NodeSet, ancestors};
 use reach_laws::seen_everywhere;
 use smallvec::SmallVec;
 use std::alloc::{AllocError, Global};
-
-fn is_decision(diagram: &Diagram, v: usize) -> bool
-    requires { v < length diagram.now.nodes }
-    ensures { IsTrue result ↔ IsDecision diagram.now.nodes v }
-{
-    diagram.kind(v) == Kind::Decision
-}
 
 /// Whether the node descends from a decision.
 fn is_below_decision(diagram: &Diagram, node: usize) -> bool
@@ -33,7 +26,7 @@ fn is_below_decision(diagram: &Diagram, node: usize) -> bool
     let _count = diagram.count();
     let above = ancestors(diagram, NodeSet::of(node));
     for v in 0..diagram.count() {
-        if above.holds(v) && is_decision(diagram, v) {
+        if above.holds(v) && diagram.is_decision(v) {
             return true;
         }
     }
@@ -45,7 +38,7 @@ fn adds(diagram: &Diagram, node: usize, v: usize) -> bool
     requires { v < length diagram.now.nodes }
     ensures { result ≡ adds diagram.now.nodes node v }
 {
-    is_decision(diagram, v) && !diagram.parents(v).contains(&node)
+    diagram.is_decision(v) && !diagram.parents(v).contains(&node)
 }
 
 /// How many cells the decision's rule has with the node as a parent more; or nothing where it has
@@ -73,7 +66,7 @@ fn seeing_cells(diagram: &Diagram, node: usize, v: usize) -> Option<usize>
     requires within { v < length diagram.now.nodes }
     ensures { TellsOwnCells (all_seeing diagram.now.nodes node) v result }
 {
-    if !is_decision(diagram, v) {
+    if !diagram.is_decision(v) {
         return Some(0);
     }
     if adds(diagram, node, v) {

@@ -47,6 +47,20 @@ all_rows P Q row h (v ∷ vs) q = all_append P (row v) (rows_of row vs) (h v (q 
 abbrev pub no_slot : NodeSet → Slot
 no_slot scope = record { start = 0; len = 0; scope = scope }
 
+-- a walk over lists that are equal to others is the walk over those
+module _ {C : Type 0} (r : Ring C) (cells out : List C) {axes axes' : List Axis} {strides strides' places places' : List ℕ} (axes_are : axes ≡ axes') (strides_are : strides ≡ strides') (places_are : places ≡ places') where
+  pub can_same : CanWalk r cells axes' strides' places' out 0 → CanWalk r cells axes strides places out 0
+  can_same can =
+      subst (λ l. CanWalk r cells l strides places out 0) (sym axes_are)
+      (subst (λ l. CanWalk r cells axes' l places out 0) (sym strides_are)
+      (subst (λ l. CanWalk r cells axes' strides' l out 0) (sym places_are) can))
+
+  pub adds_same : (new : List C) → Adds r (total r cells axes strides places 0) out new → Adds r (total r cells axes' strides' places' 0) out new
+  adds_same new adds =
+      subst (λ l. Adds r (total r cells axes' strides' l 0) out new) places_are
+      (subst (λ l. Adds r (total r cells axes' l places 0) out new) strides_are
+      (subst (λ l. Adds r (total r cells l strides places 0) out new) axes_are adds))
+
 module _ {C : Type 0} {r : Ring C} (laws : IsRing r) (sizes : IsSize r r.size) (cells : List C) (counts : List ℕ) (slots : List Slot) (x : ℕ) (scope : NodeSet) (out : List C) (can : CanJoin r cells counts slots x scope out) (cut : ℕ) where
   abbrev n : ℕ
   n = length counts
@@ -237,14 +251,7 @@ module _ {C : Type 0} {r : Ring C} (laws : IsRing r) (sizes : IsSize r r.size) (
   -- lists that are those of the order
   module _ (axes : List Axis) (strides places : List ℕ) (are_axes : axes ≡ axes_of count stride order) (are_strides : strides ≡ rows_of row order) (are_places : places ≡ starts_of slots) where
     pub begins_with : CanWalk r cells axes strides places out 0
-    begins_with =
-        subst (λ l. CanWalk r cells l strides places out 0) (sym are_axes)
-        (subst (λ l. CanWalk r cells (axes_of count stride order) l places out 0) (sym are_strides)
-        (subst (λ l. CanWalk r cells (axes_of count stride order) (rows_of row order) l out 0) (sym are_places) can_begin))
+    begins_with = can_same r cells out are_axes are_strides are_places can_begin
 
     pub joins_with : (new : List C) → Adds r (total r cells axes strides places 0) out new → (w : World) → InRange count w → cell_at r new (place_of counts scope w) ≡ join_cell r cells counts slots x w
-    joins_with new adds =
-        joined_is new
-        (subst (λ l. Adds r (total r cells (axes_of count stride order) (rows_of row order) l 0) out new) are_places
-        (subst (λ l. Adds r (total r cells (axes_of count stride order) l places 0) out new) are_strides
-        (subst (λ l. Adds r (total r cells l strides places 0) out new) are_axes adds)))
+    joins_with new adds = joined_is new (adds_same r cells out are_axes are_strides are_places new adds)

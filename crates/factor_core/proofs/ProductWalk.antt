@@ -17,7 +17,7 @@ use Rattle.factor_core.proofs.SizeLemmas.{size_later}
 use Rattle.factor_core.proofs.Collapse.{IsNoneOf, AllOnce, IsRadix, each_choice, total_at, picked_kept, total_outside, world_at}
 use Rattle.factor_core.proofs.Joining.{place_below, place_along_kept, get-moved, length-moved, out_place_cong}
 use Rattle.factor_core.proofs.Ordering.{listed_once, listed_below, kept_listed, radix_listed}
-use Rattle.factor_core.proofs.JoinWalk.{any_false, length-rows, all_rows, no_slot}
+use Rattle.factor_core.proofs.JoinWalk.{any_false, length-rows, all_rows, no_slot, can_same, adds_same}
 
 -- a number that is beyond the nodes is none of them
 none_beyond : (n : ℕ) (vs : List ℕ) → All (λ v. v < n) vs → IsNoneOf n vs
@@ -184,14 +184,7 @@ module _ {C : Type 0} {r : Ring C} (laws : IsRing r) (sizes : IsSize r r.size) (
   -- lists that are those of the order
   module _ (axes : List Axis) (strides places : List ℕ) (are_axes : axes ≡ axes_of count stride order) (are_strides : strides ≡ rows_of row order) (are_places : places ≡ starts_of slots) where
     pub begins_with : CanWalk r cells axes strides places out 0
-    begins_with =
-        subst (λ l. CanWalk r cells l strides places out 0) (sym are_axes)
-        (subst (λ l. CanWalk r cells (axes_of count stride order) l places out 0) (sym are_strides)
-        (subst (λ l. CanWalk r cells (axes_of count stride order) (rows_of row order) l out 0) (sym are_places) product_begins))
+    begins_with = can_same r cells out are_axes are_strides are_places product_begins
 
     pub multiplies_with : (new : List C) → Adds r (total r cells axes strides places 0) out new → (w : World) → InRange count w → cell_at r new (place_of counts scope w) ≡ product_cell r cells counts slots w
-    multiplies_with new adds =
-        multiplied_is new
-        (subst (λ l. Adds r (total r cells (axes_of count stride order) (rows_of row order) l 0) out new) are_places
-        (subst (λ l. Adds r (total r cells (axes_of count stride order) l places 0) out new) are_strides
-        (subst (λ l. Adds r (total r cells l strides places 0) out new) are_axes adds)))
+    multiplies_with new adds = multiplied_is new (adds_same r cells out are_axes are_strides are_places new adds)

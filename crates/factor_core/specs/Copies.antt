@@ -1,16 +1,17 @@
 -- A walk that copies cells in another order. Only private contracts cite this file.
 use Rattle.std.specs.Prelude.{◌≡◌, ℕ, zero, suc, ◌+◌, ◌-◌, ◌*◌, ◌^◌, ◌<◌, ◌≤◌, ◌==◌, if◌then◌else◌, List, [], ◌∷◌, ◌++◌, map, take, All, length}
-use Rattle.maid_model.specs.Views.{NodeView}
-use Rattle.maid_model.specs.Nodes.{rows_under}
+use Rattle.maid_model.specs.Views.{NodeView, DiagramView}
+use Rattle.maid_model.specs.Nodes.{rows_under, states_of}
 use Rattle.plan_sums.specs.Plans.{has}
 use Rattle.ring_sums.specs.Tables.{Table}
 use Rattle.cell_rings.specs.Rings.{Ring}
 use Rattle.cell_rings.specs.Sums.{cell_at}
 use Rattle.factor_core.specs.declared.slots.Slot.{Slot}
-use Rattle.factor_core.specs.Slots.{picked, WorkspaceView, AppendsTable}
+use Rattle.factor_core.specs.Slots.{picked, WorkspaceView, AppendsTable, Behind}
 use Rattle.factor_core.specs.Tables.{states_in}
 use Rattle.factor_core.specs.declared.copies.Step.{Step}
 use Rattle.factor_core.specs.declared.sources.Source.{Ghosts}
+use Rattle.factor_core.specs.declared.tables.Listed.{Listed}
 
 -- f 0, f 1, .., f (n - 1) one after another
 abbrev pub one_by_one : {C : Type 0} → ℕ → (ℕ → List C) → List C
@@ -37,6 +38,11 @@ HasCopied r cells steps from start old new =
 -- the same of a copy that ended at the place `next`
 abbrev pub Gathers : {C : Type 0} → Ring C → List C → List Step → ℕ → List C → ℕ → List C → ℕ → Type 0
 Gathers r cells steps from old at new next = take next new ≡ take at old ++ gathered r cells steps from
+
+-- the same over two steps
+abbrev pub GathersTwo : {C : Type 0} → Ring C → List C → Step → Step → ℕ → List C → ℕ → List C → ℕ → Type 0
+GathersTwo r cells step inner from old at new next =
+    Gathers r cells (step ∷ (inner ∷ [])) from old at new next
 
 -- a step: one state or more, and no long stride
 pub record IsStep (a : Step) : Type 0 where
@@ -110,6 +116,34 @@ abbrev pub CanCopyListOf :
 CanCopyListOf kind source counts list order all start =
     CanCopyAllOf kind source (steps_in counts list order) all start
 
+-- its cells were copied to the places from `at` on, in the order in which they stand
+abbrev pub CopiesStraight :
+    {S C : Type 0} → Ring C → Ghosts S C → S → List ℕ → List ℕ → ℕ → List C → List C → Type 0
+CopiesStraight r kind source counts list at old new =
+    HasCopied r (kind.cells source) (steps_in counts list list) 0 at old new
+
+-- they were copied there with the first of the order slowest, from where the first of the list is slowest
+abbrev pub CopiesTo : {S C : Type 0}
+    → Ring C → Ghosts S C → S → List ℕ → List ℕ → List ℕ → ℕ → List C → List C → Type 0
+CopiesTo r kind source counts list order at old new =
+    HasCopied r (kind.cells source) (steps_in counts list order) 0 at old new
+
 -- it has a cell for each choice of the nodes' states
 abbrev pub HasCellsOver : {S C : Type 0} → Ghosts S C → S → (ℕ → ℕ) → List ℕ → Type 0
 HasCellsOver kind source count vs = length (kind.cells source) ≡ rows_under count vs
+
+-- ---- of listed nodes and their source as the program has them
+-- the source has a cell for each choice of the nodes' states
+abbrev pub HasCellsOfList : {S C : Type 0} → Ghosts S C → DiagramView → Listed S → Type 0
+HasCellsOfList kind d listed =
+    HasCellsOver kind listed.source.now (states_of d.nodes) listed.list.now
+
+-- there is room for a table over the listed nodes
+abbrev pub HasSpareForList : {S C : Type 0} → DiagramView → Listed S → WorkspaceView C → Type 0
+HasSpareForList d listed space = rows_under (states_of d.nodes) listed.list.now ≤ space.spare
+
+-- the table of its cells was written behind the used cells of a list
+abbrev pub WritesList : {S C : Type 0} → Ring C → Ghosts S C → DiagramView → Listed S
+    → List C → List C → ℕ → Slot → Type 0
+WritesList r kind d listed before after used slot = Behind before after used slot
+    (AppendsList r d.nodes listed.list.now (kind.cells listed.source.now))

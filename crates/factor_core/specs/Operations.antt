@@ -31,12 +31,13 @@ abbrev pub first_table : {C : Type 0} → Cells C → List NodeView → List Rul
 first_table c nodes p v =
     if is_utility (node_at nodes v).kind then utility_table c nodes v else node_table c nodes p v
 
--- its numbers: a decision's are the weights of its rule
+-- the numbers of a node's first table by its kind: a decision's are the weights of its rule
 abbrev pub numbers_by : Kind → List ℤ → List ℕ → List ℤ
 numbers_by Chance cells weights = cells
 numbers_by Decision cells weights = map pos weights
 numbers_by Utility cells weights = cells
 
+-- the numbers of the node's first table
 abbrev pub numbers_in : List NodeView → List RuleView → ℕ → List ℤ
 numbers_in nodes p v = numbers_by (node_at nodes v).kind (node_at nodes v).cells (weights_of p v)
 

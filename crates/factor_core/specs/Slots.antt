@@ -3,7 +3,7 @@ use Rattle.std.specs.Prelude.{◌≡◌, ℕ, ◌+◌, ◌-◌, ◌<◌, ◌≤�
 use Rattle.std.specs.List.{AllZip}
 use Rattle.finite_sums.specs.Sums.{World, InRange}
 use Rattle.node_sets.specs.Sets.{holds, IsIn}
-use Rattle.maid_model.specs.Views.{NodeView, RuleView}
+use Rattle.maid_model.specs.Views.{NodeView, DiagramView, RuleView}
 use Rattle.maid_model.specs.Nodes.{states_of, numbers_of, rows_under}
 use Rattle.maid_model.specs.Tables.{row_from}
 use Rattle.cell_rings.specs.Rings.{Ring}
@@ -54,6 +54,7 @@ table_of r nodes cells slot = record {
   cell = picked r nodes (nodes_in nodes (holds slot.scope)) (part cells slot.start slot.len);
 }
 
+-- the tables of the slots
 abbrev pub tables_of : {C : Type 0} → Ring C → List NodeView → List C → List Slot → List (Table C)
 tables_of r nodes cells slots = map (table_of r nodes cells) slots
 
@@ -164,20 +165,19 @@ SumOfFits r nodes v slot space = SumFits r (states_of nodes) v (table_of r nodes
 
 -- the slot's table at one state of a node
 abbrev pub restricted_slot :
-    {C : Type 0} → Ring C → List NodeView → ℕ → ℕ → WorkspaceView C → Slot → Table C
-restricted_slot r nodes v s space slot = restricted v s (table_of r nodes space.cells slot)
+    {C : Type 0} → Ring C → DiagramView → ℕ → ℕ → WorkspaceView C → Slot → Table C
+restricted_slot r d v s space slot = restricted v s (table_of r d.nodes space.cells slot)
 
 -- there is room for it
-abbrev pub HasSpareForRestricted : {C : Type 0}
-    → Ring C → List NodeView → ℕ → ℕ → Slot → WorkspaceView C → Type 0
-HasSpareForRestricted r nodes v s of space =
-    HasSpareFor nodes space (restricted_slot r nodes v s space of)
+abbrev pub HasSpareForState :
+    {C : Type 0} → Ring C → DiagramView → ℕ → ℕ → Slot → WorkspaceView C → Type 0
+HasSpareForState r d v s of space = HasSpareFor d.nodes space (restricted_slot r d v s space of)
 
 -- it was appended
-abbrev pub AppendsRestricted : {C : Type 0} → Ring C → List NodeView → ℕ → ℕ → Slot
+abbrev pub AppendsState : {C : Type 0} → Ring C → DiagramView → ℕ → ℕ → Slot
     → WorkspaceView C → WorkspaceView C → Slot → Type 0
-AppendsRestricted r nodes v s of before after slot =
-    AppendsTable r nodes before after slot (restricted_slot r nodes v s before of)
+AppendsState r d v s of before after slot =
+    AppendsTable r d.nodes before after slot (restricted_slot r d v s before of)
 
 -- the first table of a node, of cells of this kind, was appended
 abbrev pub AppendsFirst : {C : Type 0} → Ghosts C → List NodeView → List RuleView → ℕ
@@ -191,39 +191,35 @@ abbrev pub HasSpareForFirst : {C : Type 0} → Ghosts C → List NodeView → Li
 HasSpareForFirst kind nodes p v space =
     HasSpareFor nodes space (first_table (cells_of kind) nodes p v)
 
--- the table of a chance node or of a decision's rule was appended, and there is room for it
+-- the table of a chance node or of a decision's rule was appended
 abbrev pub AppendsNode : {C : Type 0} → Ghosts C → List NodeView → List RuleView → ℕ
     → WorkspaceView C → WorkspaceView C → Slot → Type 0
 AppendsNode kind nodes p v before after slot =
     AppendsTable kind.ring nodes before after slot (node_table (cells_of kind) nodes p v)
 
+-- there is room for it
 abbrev pub HasSpareForNode : {C : Type 0} → Ghosts C → List NodeView → List RuleView → ℕ
     → WorkspaceView C → Type 0
 HasSpareForNode kind nodes p v space =
     HasSpareFor nodes space (node_table (cells_of kind) nodes p v)
 
--- the table of a utility was appended, and there is room for it
+-- the table of a utility was appended
 abbrev pub AppendsUtility : {C : Type 0} → Ghosts C → List NodeView → ℕ
     → WorkspaceView C → WorkspaceView C → Slot → Type 0
 AppendsUtility kind nodes v before after slot =
     AppendsTable kind.ring nodes before after slot (utility_table (cells_of kind) nodes v)
 
+-- there is room for it
 abbrev pub HasSpareForUtility :
     {C : Type 0} → Ghosts C → List NodeView → ℕ → WorkspaceView C → Type 0
 HasSpareForUtility kind nodes v space =
     HasSpareFor nodes space (utility_table (cells_of kind) nodes v)
 
 -- the cells of the strip are those of the slot's table, the first of these nodes slowest
-abbrev pub HasCellsOf : {C : Type 0} → Ring C → List NodeView → List ℕ → Slot
+abbrev pub HasCellsOf : {C : Type 0} → Ring C → DiagramView → List ℕ → Slot
     → WorkspaceView C → WorkspaceView C → Strip → Type 0
-HasCellsOf r nodes vs slot before after strip =
-    HasCells r nodes vs (part after.cells strip.start strip.len) (table_of r nodes before.cells slot)
-
--- the same of a strip behind the used cells of a list
-abbrev pub HasStripBehind : {C : Type 0} → Ring C → List NodeView → List ℕ → Slot
-    → List C → List C → ℕ → Strip → Type 0
-HasStripBehind r nodes vs slot before after used strip =
-    HasCellsOf r nodes vs slot (space before used) (space after (used + strip.len)) strip
+HasCellsOf r d vs slot before after strip = HasCells r d.nodes vs
+    (part after.cells strip.start strip.len) (table_of r d.nodes before.cells slot)
 
 -- ---- tables written behind the used cells of a list
 -- the join of the slots with the node summed out
@@ -255,6 +251,18 @@ abbrev pub WritesChance : {C : Type 0} → Ghosts C → List NodeView → ℕ
     → List C → List C → ℕ → Slot → Type 0
 WritesChance kind nodes v before after used slot =
     (p : List RuleView) → WritesNode kind nodes p v before after used slot
+
+-- the slot's table at one state of a node
+abbrev pub WritesState : {C : Type 0} → Ring C → DiagramView → ℕ → ℕ → Slot
+    → List C → List C → ℕ → Slot → Type 0
+WritesState r d v s of before after used slot =
+    Behind before after used slot (AppendsState r d v s of)
+
+-- the cells of the slot's table, the first of these nodes slowest
+abbrev pub WritesStrip : {C : Type 0} → Ring C → DiagramView → List ℕ → Slot
+    → List C → List C → ℕ → Strip → Type 0
+WritesStrip r d vs slot before after used strip =
+    HasCellsOf r d vs slot (space before used) (space after (used + strip.len)) strip
 
 -- the cells of a strip
 abbrev pub AppendsStripBehind : {C : Type 0} → List C → List C → ℕ → Strip → Type 0

@@ -4,6 +4,7 @@
 use Rattle.std.specs.Prelude.{◌≡◌, ℕ, ◌+◌, ◌*◌, ◌^◌, ◌<◌, ◌≤◌, ◌==◌, if◌then◌else◌, Bool, true, false, List, [], ◌∷◌, ◌-◌, length, take, drop, All, slice_index}
 use Rattle.cell_rings.specs.Rings.{Ring, mass_ring}
 use Rattle.cell_rings.specs.Sums.{ring_sum, cell_at, product_at, product_from, sizes_of, ProductFits, Adds, HasRoom}
+use Rattle.cell_rings.specs.declared.pairs.Pair.{Pair}
 use Rattle.factor_core.specs.declared.walks.Axis.{Axis}
 
 -- the places after s steps along an axis, whose strides stand first in the list
@@ -139,21 +140,42 @@ abbrev pub IsRunAt : {C : Type 0} → Bool → Ring C → List C → List ℕ �
 IsRunAt false r cells places factor from = IsLastRun r cells places factor from
 IsRunAt true r cells places factor from = IsFirstRun r cells places factor from
 
--- ---- a walk over one axis, and over two
+-- the same at the next state of the axis, whose strides stand first: the second run of a pair
+abbrev pub IsSecondRun :
+    {C : Type 0} → Bool → Ring C → List C → List ℕ → List ℕ → Pair C → Type 0
+IsSecondRun turned r cells strides places pair =
+    IsRunAt turned r cells (shifted 1 strides places) pair.second pair.beside
+
+-- ---- walks over few axes
+-- what the walk over one axis adds
 abbrev pub AddsOneAxis : {C : Type 0}
     → Ring C → List C → Axis → List ℕ → List ℕ → ℕ → List C → List C → Type 0
 AddsOneAxis r cells axis strides places at old new =
     AddsTotal r cells (axis ∷ []) strides places at old new
 
+-- what the walk over two axes adds
 abbrev pub AddsTwoAxes : {C : Type 0}
     → Ring C → List C → Axis → Axis → List ℕ → List ℕ → ℕ → List C → List C → Type 0
 AddsTwoAxes r cells axis inner strides places at old new =
     AddsTotal r cells (axis ∷ (inner ∷ [])) strides places at old new
 
+-- what that requires
 abbrev pub CanWalkTwoAxes : {C : Type 0}
     → Ring C → List C → Axis → Axis → List ℕ → List ℕ → List C → ℕ → Type 0
 CanWalkTwoAxes r cells axis inner strides places out at =
     CanWalk r cells (axis ∷ (inner ∷ [])) strides places out at
+
+-- what the walk over three axes adds
+abbrev pub AddsCube : {C : Type 0}
+    → Ring C → List C → Axis → Axis → Axis → List ℕ → List ℕ → ℕ → List C → List C → Type 0
+AddsCube r cells outer axis inner strides places at old new =
+    AddsTotal r cells (outer ∷ (axis ∷ (inner ∷ []))) strides places at old new
+
+-- what that requires
+abbrev pub CanWalkCube : {C : Type 0}
+    → Ring C → List C → Axis → Axis → Axis → List ℕ → List ℕ → List C → ℕ → Type 0
+CanWalkCube r cells outer axis inner strides places out at =
+    CanWalk r cells (outer ∷ (axis ∷ (inner ∷ []))) strides places out at
 
 -- one operand moves along the inner of two axes, whose strides stand behind those of the outer
 abbrev pub IsInnerMoved : Bool → Axis → List ℕ → List ℕ → Type 0
@@ -161,11 +183,12 @@ IsInnerMoved turned axis strides places =
     IsMoved turned axis (drop (length places) strides) (length places)
 
 -- ---- moves of the places
--- each place has room for its stride, and then it moved by it
+-- each place has room for its stride
 abbrev pub CanAdvance : List ℕ → List ℕ → Type 0
 CanAdvance strides places =
     (i : ℕ) → i < length places → slice_index places i + slice_index strides i < 2 ^ 64
 
+-- each place has moved by its stride
 abbrev pub HaveAdvanced : List ℕ → List ℕ → List ℕ → Type 0
 HaveAdvanced strides before after = (i : ℕ) → i < length before
     → slice_index after i ≡ slice_index before i + slice_index strides i
@@ -180,11 +203,12 @@ CanRetreat states strides places =
 abbrev pub IsWithinSizes : {C : Type 0} → Ring C → List C → List ℕ → C → Type 0
 IsWithinSizes r cells places cell = r.size cell ≤ product_at mass_ring (sizes_of r cells) places
 
--- the factor's products with the cells at n such places fit, and so does their sum
+-- the factor's products with the cells at n such places fit
 abbrev pub ProductsAlongFit : {C : Type 0} → Ring C → ℕ → List C → C → List ℕ → Type 0
 ProductsAlongFit r n cells factor places =
     (s : ℕ) → s < n → ProductFits r cells (r.size factor) (further s places)
 
+-- their sum fits
 abbrev pub SumAlongFits : {C : Type 0} → Ring C → ℕ → List C → C → List ℕ → Type 0
 SumAlongFits r n cells factor places =
     sum_along mass_ring n (sizes_of r cells) (r.size factor) places ≤ r.most

@@ -1,7 +1,7 @@
 //! A walk that copies cells in another order.
 
 ghost use Rattle.std.specs.Prelude.{◌≡◌, ◌+◌, ◌-◌, ◌≤◌, length, take, ◌++◌, [], ◌∷◌};
-ghost use Rattle.factor_core.specs.Copies.{count_of_steps, CanCopy, HasCopied, CanCopyAllOf, CanCopyOf, Gathers};
+ghost use Rattle.factor_core.specs.Copies.{count_of_steps, CanCopy, HasCopied, CanCopyAllOf, CanCopyOf, Gathers, GathersTwo};
 
 use crate::sources::{Source, Stored};
 use crate::walks::after;
@@ -25,7 +25,7 @@ fn copy_run<C: Cell, S: Source<C>>(
 ) -> usize
     requires { CanCopyOf S.Source source.now (step ∷ []) from out.old at }
     ensures next { result ≡ at + step.states }
-    ensures cells { Gathers C.ring (S.cells source.now) (step ∷ []) from out.old at out.new result }
+    ensures out { Gathers C.ring (S.cells source.now) (step ∷ []) from out.old at out.new result }
 {
     let mut place = at;
     let mut here = from;
@@ -48,8 +48,7 @@ fn copy_rows<C: Cell, S: Source<C>>(
 ) -> usize
     requires { CanCopyOf S.Source source.now (step ∷ (inner ∷ [])) from out.old at }
     ensures next { result ≡ at + count_of_steps (step ∷ (inner ∷ [])) }
-    ensures cells { Gathers C.ring (S.cells source.now) (step ∷ (inner ∷ [])) from out.old at
-        out.new result }
+    ensures out { GathersTwo C.ring (S.cells source.now) step inner from out.old at out.new result }
 {
     let mut place = at;
     let mut here = from;

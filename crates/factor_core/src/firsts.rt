@@ -12,7 +12,7 @@ ghost use Rattle.factor_core.specs.Slots.{AppendsUtility, Behind, HasSpareForFir
 use crate::orders::push_held;
 use crate::slots::Slot;
 use crate::sources::{ChanceCells, RuleCells, ValueCells};
-use crate::tables::write_table;
+use crate::tables::{Listed, write_table};
 use crate::walks::before;
 use cell_rings::Cell;
 use maid_model::{Diagram, Kind, MOST_PARENTS, Profile};
@@ -62,7 +62,11 @@ fn chance_table<C: Cell>(
     let source = ChanceCells {
         cells: diagram.cells(v),
     };
-    write_table(diagram, counts, before(&list, n), &source, all, used)
+    let listed = Listed {
+        list: before(&list, n),
+        source: &source,
+    };
+    write_table(diagram, counts, &listed, all, used)
 }
 
 /// The table of a decision's rule, behind the first `used` cells.
@@ -90,7 +94,11 @@ fn rule_table<C: Cell>(
     let source = RuleCells {
         cells: rule_weights(profile, v),
     };
-    write_table(diagram, counts, before(&list, n), &source, all, used)
+    let listed = Listed {
+        list: before(&list, n),
+        source: &source,
+    };
+    write_table(diagram, counts, &listed, all, used)
 }
 
 /// The table of a utility, behind the first `used` cells.
@@ -115,7 +123,11 @@ fn value_table<C: Cell>(
     let source = ValueCells {
         cells: diagram.cells(v),
     };
-    write_table(diagram, counts, diagram.parents(v), &source, all, used)
+    let listed = Listed {
+        list: diagram.parents(v),
+        source: &source,
+    };
+    write_table(diagram, counts, &listed, all, used)
 }
 
 /// The first table of a node, behind the first `used` cells.

@@ -6,7 +6,7 @@ ghost use Rattle.node_sets.specs.declared.sets.TheConstants.{MOST_NODES};
 ghost use Rattle.node_sets.specs.Sets.{holds, IsIn};
 ghost use Rattle.maid_model.specs.Graph.{AllDifferent};
 ghost use Rattle.maid_model.specs.Nodes.{states_of};
-ghost use Rattle.factor_core.specs.Slots.{space, IsLive, AppendsRestricted, Behind, HasSpareForRestricted, HasStripBehind, AllStayLiveBehind, AppendsStripBehind};
+ghost use Rattle.factor_core.specs.Slots.{space, IsLive, HasSpareForState, WritesState, WritesStrip, AllStayLiveBehind, AppendsStripBehind};
 ghost use Rattle.factor_core.specs.Tables.{AreCounts, size_of, stride_over};
 
 use crate::copies::{Step, copy_at};
@@ -61,12 +61,10 @@ pub fn restrict_behind<C: Cell>(
     requires live { IsLive diagram.now.nodes (space all.old used).cells slot.now }
     requires hold { IsIn slot.now.scope node }
     requires state { state < states_of diagram.now.nodes node }
-    requires room { HasSpareForRestricted C.ring diagram.now.nodes node state slot.now (space
-        all.old used) }
+    requires room { HasSpareForState C.ring diagram.now node state slot.now (space all.old used) }
     ensures start { result.start ≡ used }
     ensures len { used + result.len ≤ length all.new }
-    ensures table { Behind all.old all.new used result (AppendsRestricted C.ring diagram.now.nodes
-        node state slot.now) }
+    ensures table { WritesState C.ring diagram.now node state slot.now all.old all.new used result }
 {
     let mut counts = [1; MOST_NODES];
     list_states(&mut counts, diagram);
@@ -108,8 +106,7 @@ pub fn reorder_behind<C: Cell>(
     ensures len { used + result.len ≤ length all.new }
     ensures same { result.len ≡ slot.now.len }
     ensures appends { AppendsStripBehind all.old all.new used result }
-    ensures cells { HasStripBehind C.ring diagram.now.nodes nodes.now slot.now all.old all.new used
-        result }
+    ensures cells { WritesStrip C.ring diagram.now nodes.now slot.now all.old all.new used result }
     ensures stays { AllStayLiveBehind C.ring diagram.now.nodes all.old all.new used result }
 {
     let mut counts = [1; MOST_NODES];

@@ -2,7 +2,7 @@
 
 ghost use Rattle.std.specs.Prelude.{◌≡◌, ◌+◌, ◌*◌, ◌<◌, ◌≤◌, length, drop, [], ◌∷◌, ◌↔◌, IsTrue};
 ghost use Rattle.factor_core.specs.Narrow.{AreNarrow};
-ghost use Rattle.factor_core.specs.Walks.{CanWalk, IsPair, AddsTotal, AddsOneAxis, AddsTwoAxes, CanWalkTwoAxes};
+ghost use Rattle.factor_core.specs.Walks.{CanWalk, IsPair, AddsTotal, AddsCube, AddsOneAxis, AddsTwoAxes, CanWalkCube, CanWalkTwoAxes};
 
 use crate::narrow::Narrow;
 use crate::walks::{Axis, add_at, advance, after, product, walk};
@@ -164,10 +164,8 @@ fn add_planes<C: Cell, const N: usize>(
     at: usize,
 )
     requires pair { IsPair inner }
-    requires can { CanWalk C.ring cells.now (outer ∷ (axis ∷ (inner ∷ []))) strides.now places.now
-        out.old at }
-    ensures { AddsTotal C.ring cells.now (outer ∷ (axis ∷ (inner ∷ []))) strides.now places.now at
-        out.old out.new }
+    requires can { CanWalkCube C.ring cells.now outer axis inner strides.now places.now out.old at }
+    ensures { AddsCube C.ring cells.now outer axis inner strides.now places.now at out.old out.new }
 {
     let below = rows_below(strides, places);
     let mut here = *places;

@@ -6,10 +6,10 @@ ghost use Rattle.node_sets.specs.declared.sets.TheConstants.{MOST_NODES};
 ghost use Rattle.node_sets.specs.Sets.{holds};
 ghost use Rattle.maid_model.specs.Graph.{AllDifferent};
 ghost use Rattle.maid_model.specs.Diagrams.{IsDiagram};
-ghost use Rattle.maid_model.specs.Nodes.{counts_of, states_of, rows_under};
+ghost use Rattle.maid_model.specs.Nodes.{counts_of, rows_under};
 ghost use Rattle.plan_sums.specs.Plans.{has};
-ghost use Rattle.factor_core.specs.Copies.{steps_in, list_stride, HasCopied, AppendsList, AreListSteps, CanCopyListOf, HasCellsOver};
-ghost use Rattle.factor_core.specs.Slots.{space, Behind};
+ghost use Rattle.factor_core.specs.Copies.{list_stride, AreListSteps, CanCopyListOf, CopiesStraight, CopiesTo, HasCellsOver, HasCellsOfList, HasSpareForList, WritesList};
+ghost use Rattle.factor_core.specs.Slots.{space};
 ghost use Rattle.factor_core.specs.Tables.{AreCounts, states_in};
 
 use crate::copies::{Step, copy_from};
@@ -20,6 +20,13 @@ use crate::walks::before;
 use cell_rings::Cell;
 use maid_model::{Diagram, MOST_PARENTS};
 use node_sets::NodeSet;
+
+/// Nodes, and a source that has a cell for each choice of their states, the first node slowest.
+#[derive(Drop)]
+pub struct Listed<'a, S> {
+    pub list: &'a [usize],
+    pub source: &'a S,
+}
 
 /// How many choices of states the nodes of the list have from a place on.
 fn rows_after(counts: &[usize], list: &[usize], from: usize) -> usize
@@ -77,33 +84,32 @@ fn is_same(one: &[usize], other: &[usize]) -> bool
     one == other
 }
 
-/// Copies the cells of a source to the places from `start` on, in the order in which they stand.
+/// Copies the cells of a source to the places from `at` on, in the order in which they stand.
 fn copy_straight<C: Cell, S: Source<C>>(
     counts: &[usize],
     list: &[usize],
     source: &S,
     all: &mut [C],
-    start: usize,
+    at: usize,
 )
     requires counts { AreCounts counts.now }
     requires list { All (λ v. v < length counts.now) list.now }
     requires once { AllDifferent list.now }
     requires fits { rows_under (states_in counts.now) list.now ≤ 2 ^ 32 }
-    requires start { start ≤ length all.old }
+    requires at { at ≤ length all.old }
     requires fit { S.is_fit source.now }
     requires cells { HasCellsOver S.Source source.now (states_in counts.now) list.now }
-    requires room { rows_under (states_in counts.now) list.now ≤ length all.old - start }
-    ensures { HasCopied C.ring (S.cells source.now) (steps_in counts.now list.now list.now) 0 start
-        all.old all.new }
+    requires room { rows_under (states_in counts.now) list.now ≤ length all.old - at }
+    ensures { CopiesStraight C.ring S.Source source.now counts.now list.now at all.old all.new }
 {
     let run = [Step {
         states: rows_after(counts, list, 0),
         stride: 1,
     }];
-    copy_from(&run, source, all, start);
+    copy_from(&run, source, all, at);
 }
 
-/// Copies the cells of a source, which has them with the first node of the list slowest, to the places from `start` on,
+/// Copies the cells of a source, which has them with the first node of the list slowest, to the places from `at` on,
 /// there with the first node of the order slowest.
 fn copy_listed<C: Cell, S: Source<C>>(
     counts: &[usize],
@@ -111,7 +117,7 @@ fn copy_listed<C: Cell, S: Source<C>>(
     order: &[usize],
     source: &S,
     all: &mut [C],
-    start: usize,
+    at: usize,
 )
     requires counts { AreCounts counts.now }
     requires list { All (λ v. v < length counts.now) list.now }
@@ -119,16 +125,15 @@ fn copy_listed<C: Cell, S: Source<C>>(
     requires few { length order.now ≤ MOST_PARENTS + 2 }
     requires once { AllDifferent list.now }
     requires fits { rows_under (states_in counts.now) list.now ≤ 2 ^ 32 }
-    requires start { start ≤ length all.old }
+    requires at { at ≤ length all.old }
     requires fit { S.is_fit source.now }
     requires cells { HasCellsOver S.Source source.now (states_in counts.now) list.now }
-    requires room { rows_under (states_in counts.now) list.now ≤ length all.old - start }
-    requires can { CanCopyListOf S.Source source.now counts.now list.now order.now all.old start }
-    ensures { HasCopied C.ring (S.cells source.now) (steps_in counts.now list.now order.now) 0 start
-        all.old all.new }
+    requires room { rows_under (states_in counts.now) list.now ≤ length all.old - at }
+    requires can { CanCopyListOf S.Source source.now counts.now list.now order.now all.old at }
+    ensures { CopiesTo C.ring S.Source source.now counts.now list.now order.now at all.old all.new }
 {
     if is_same(list, order) {
-        copy_straight(counts, list, source, all, start);
+        copy_straight(counts, list, source, all, at);
         return;
     }
     let mut steps = [Step {
@@ -136,7 +141,7 @@ fn copy_listed<C: Cell, S: Source<C>>(
         stride: 0,
     }; MOST_PARENTS + 2];
     set_list_steps(&mut steps, counts, list, order);
-    copy_from(before(&steps, order.len()), source, all, start);
+    copy_from(before(&steps, order.len()), source, all, at);
 }
 
 /// The nodes of the list.
@@ -149,13 +154,11 @@ fn scope_of(list: &[usize]) -> NodeSet
     scope
 }
 
-/// The table over the nodes of the list, behind the first `used` cells. The source has its cells with the first node of
-/// the list slowest.
+/// The table over the listed nodes, behind the first `used` cells.
 pub fn write_table<C: Cell, S: Source<C>>(
     diagram: &Diagram,
     counts: &[usize],
-    list: &[usize],
-    source: &S,
+    listed: &Listed<S>,
     all: &mut [C],
     used: usize,
 ) -> Slot
@@ -163,23 +166,22 @@ pub fn write_table<C: Cell, S: Source<C>>(
     requires counts { counts.now ≡ counts_of diagram.now.nodes }
     requires used { used ≤ length all.old }
     requires short { length all.old ≤ MOST_PLAN_CELLS }
-    requires few { length list.now ≤ MOST_PARENTS + 1 }
-    requires once { AllDifferent list.now }
-    requires known { (v : ℕ) → Contains list.now v → v < length diagram.now.nodes }
-    requires fit { S.is_fit source.now }
-    requires cells { HasCellsOver S.Source source.now (states_of diagram.now.nodes) list.now }
-    requires room { rows_under (states_of diagram.now.nodes) list.now ≤ (space all.old used).spare }
+    requires few { length listed.now.list.now ≤ MOST_PARENTS + 1 }
+    requires once { AllDifferent listed.now.list.now }
+    requires known { (v : ℕ) → Contains listed.now.list.now v → v < length diagram.now.nodes }
+    requires fit { S.is_fit listed.now.source.now }
+    requires cells { HasCellsOfList S.Source diagram.now listed.now }
+    requires room { HasSpareForList diagram.now listed.now (space all.old used) }
     ensures start { result.start ≡ used }
     ensures len { used + result.len ≤ length all.new }
-    ensures table { Behind all.old all.new used result (AppendsList C.ring diagram.now.nodes
-        list.now (S.cells source.now)) }
+    ensures table { WritesList C.ring S.Source diagram.now listed.now all.old all.new used result }
 {
-    let scope = scope_of(list);
-    let len = rows_after(counts, list, 0);
+    let scope = scope_of(listed.list);
+    let len = rows_after(counts, listed.list, 0);
     let mut order = [0; MOST_PARENTS + 2];
     let n = list_nodes(&mut order, counts.len(), &scope);
     let order = before(&order, n);
-    copy_listed(counts, list, order, source, all, used);
+    copy_listed(counts, listed.list, order, listed.source, all, used);
     Slot {
         start: used,
         len,

@@ -2,7 +2,7 @@
 
 ghost use Rattle.std.specs.Prelude.{◌≡◌, ◌==◌, if◌then◌else◌, ℕ, ◌+◌, ◌*◌, ◌^◌, ◌<◌, ◌≤◌, length, take, drop, [], ◌∷◌, All, ◌↔◌, IsTrue, slice_index};
 ghost use Rattle.cell_rings.specs.Sums.{cell_at, product_from, product_at, ProductFits, Adds, AreWithin, AddsFour, AddsTwo, HasRoomForFour, HasRoomForTwo};
-ghost use Rattle.factor_core.specs.Walks.{shifted, CanWalk, IsRun, IsTurned, IsMoved, IsDot, IsRunAt, CanRead, further, AddsTotal, HaveMoved, sum_along, AddsOneAxis, AddsTwoAxes, CanAdvance, CanRetreat, CanWalkTwoAxes, HaveAdvanced, IsInnerMoved, IsWithinSizes, ProductsAlongFit, SumAlongFits};
+ghost use Rattle.factor_core.specs.Walks.{shifted, CanWalk, IsRun, IsTurned, IsMoved, IsDot, IsRunAt, IsSecondRun, CanRead, further, AddsTotal, HaveMoved, sum_along, AddsOneAxis, AddsTwoAxes, CanAdvance, CanRetreat, CanWalkTwoAxes, HaveAdvanced, IsInnerMoved, IsWithinSizes, ProductsAlongFit, SumAlongFits};
 ghost use Rattle.factor_core.specs.Narrow.{AreNarrow};
 
 use crate::narrow::Narrow;
@@ -137,8 +137,7 @@ fn next_pair<C: Cell>(turned: bool, strides: &[usize], cells: &[C], places: &mut
     requires near { All (λ d. d ≤ 2 ^ 32) strides.now }
     requires enough { length places.old ≤ length strides.now }
     ensures first { IsRunAt turned C.ring cells.now places.old result.first result.from }
-    ensures second { IsRunAt turned C.ring cells.now (shifted 1 strides.now places.old)
-        result.second result.beside }
+    ensures second { IsSecondRun turned C.ring cells.now strides.now places.old result }
     ensures places { places.new ≡ shifted 2 strides.now places.old }
 {
     let first = read_run(turned, cells, places);

@@ -8,7 +8,7 @@ ghost use Rattle.maid_model.specs.Diagrams.{IsDiagram};
 ghost use Rattle.maid_model.specs.Nodes.{counts_of, states_of};
 ghost use Rattle.maid_model.specs.Profiles.{IsProfile};
 ghost use Rattle.factor_core.specs.Operations.{NumbersFit};
-ghost use Rattle.factor_core.specs.Slots.{part, IsLive, Appends, AreStatesOf, IsCellAt, AllStayLive, AppendsFirst, AppendsJoin, AppendsProduct, AppendsRestricted, HasCellsOf, HasSpareForFirst, HasSpareForJoin, HasSpareForProduct, HasSpareForRestricted, JoinOfFits, ProductOfFits, SumOfFits, WorkspaceView, AppendsSumOf};
+ghost use Rattle.factor_core.specs.Slots.{part, IsLive, Appends, AreStatesOf, IsCellAt, AllStayLive, AppendsFirst, AppendsJoin, AppendsProduct, AppendsState, HasCellsOf, HasSpareForFirst, HasSpareForJoin, HasSpareForProduct, HasSpareForState, JoinOfFits, ProductOfFits, SumOfFits, WorkspaceView, AppendsSumOf};
 ghost use Rattle.factor_core.specs.Spaces.{KeepsFirst};
 
 use crate::appending::{join_behind, product_behind};
@@ -187,9 +187,8 @@ impl<C: Cell> Workspace<C> {
         requires live { IsLive diagram.now.nodes self.old.cells slot.now }
         requires hold { IsIn slot.now.scope node }
         requires state { state < states_of diagram.now.nodes node }
-        requires room { HasSpareForRestricted C.ring diagram.now.nodes node state slot.now self.old }
-        ensures { AppendsRestricted C.ring diagram.now.nodes node state slot.now self.old self.new
-            result }
+        requires room { HasSpareForState C.ring diagram.now node state slot.now self.old }
+        ensures { AppendsState C.ring diagram.now node state slot.now self.old self.new result }
     {
         blank(&mut self.cells, self.room);
         let slot = restrict_behind(
@@ -212,8 +211,7 @@ impl<C: Cell> Workspace<C> {
         requires room { slot.now.len ≤ self.old.spare }
         ensures len { result.len ≡ slot.now.len }
         ensures appends { Appends self.old self.new result.start result.len }
-        ensures cells { HasCellsOf C.ring diagram.now.nodes nodes.now slot.now self.old self.new
-            result }
+        ensures cells { HasCellsOf C.ring diagram.now nodes.now slot.now self.old self.new result }
         ensures stays { AllStayLive C.ring diagram.now.nodes self.old.cells self.new.cells }
     {
         blank(&mut self.cells, self.room);

@@ -49,6 +49,7 @@ worth_of (found.Cycle list) = None
 worth_of found.Bound = None
 worth_of found.TooLarge = None
 
+-- what is told is a reason that the pass finds
 abbrev pub refused_by : Pass Reason → Result Ratio Reason → Type 0
 refused_by P (Ok r) = ⊥
 refused_by P (Err reason) = P (Some reason)

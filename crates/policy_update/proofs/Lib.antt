@@ -1,4 +1,3 @@
-mod Ranges
 mod Rooms
 mod Choices
 mod Scopes

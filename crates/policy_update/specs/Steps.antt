@@ -1,4 +1,5 @@
 -- What the steps of a round promise one another. Only private functions cite it.
+use Rattle.std.specs.Global.{Vec}
 use Rattle.std.specs.Prelude.{◌≡◌, ◌≢◌, ◌<◌, ◌≤◌, ℕ, ℤ, Bool, true, false, List, All, Option, None, Some, length, map, pos, replicate, slice_index_or}
 use Rattle.maid_model.specs.declared.answers.Row.{Row}
 use Rattle.maid_model.specs.declared.limits.TheConstants.{MOST_PLAN_CELLS}
@@ -47,6 +48,10 @@ gains_in nodes p d row state = gain_at nodes p d state row
 abbrev pub Improves : List NodeView → List RuleView → AnswerView → List Row → Type 0
 Improves nodes p a rows =
     AreImproved (gains_in nodes p a.decision) (states_of nodes a.decision) a.rows rows
+
+-- so the program has the rows
+abbrev pub ImprovesRows : List NodeView → List RuleView → AnswerView → Vec Row → Type 0
+ImprovesRows nodes p a rows = Improves nodes p a rows.items
 
 -- the decision at the place in text order is improved
 abbrev pub IsStepAt : List NodeView → ℕ → List RuleView → List RuleView → Type 0

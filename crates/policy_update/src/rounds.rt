@@ -6,8 +6,8 @@ ghost use Rattle.maid_model.specs.Answers.{FitsAnswer};
 ghost use Rattle.maid_model.specs.Scopes.{KeepsScopedBounds};
 ghost use Rattle.maid_model.specs.Subgames.{OwnsAll};
 ghost use Rattle.reach_laws.specs.Updates.{IsUpdateRound, start_profile};
-ghost use Rattle.size_precheck.specs.Sizes.{ArePlansOf};
-ghost use Rattle.policy_update.specs.Steps.{AreKept, EndsAt, Improves, IsPlan, IsStepAt, Tells};
+ghost use Rattle.size_precheck.specs.Decisions.{AreDecisionPlans};
+ghost use Rattle.policy_update.specs.Steps.{AreKept, EndsAt, ImprovesRows, IsPlan, IsStepAt, Tells};
 ghost use Rattle.rule_solver.specs.Rooms.{AreReadyForDecision};
 
 use crate::rows::{are_same_choices, improved_rows};
@@ -28,13 +28,11 @@ fn improvement(
     spaces: &mut Workspaces,
 ) -> Result<Vec<Row>, AllocError>
     requires bound { KeepsScopedBounds diagram.now }
-    requires planned { ArePlansOf diagram.now.nodes answer.now.decision plans.now.rows
-        plans.now.goals.items }
+    requires planned { AreDecisionPlans diagram.now.nodes answer.now.decision plans.now }
     requires ready { AreReadyForDecision diagram.now.nodes answer.now.decision spaces.old }
     requires pure { IsPure diagram.now.nodes profile.now }
     requires fits { FitsAnswer diagram.now.nodes answer.now }
-    ensures rows { IfOk result (λ rows.
-        Improves diagram.now.nodes profile.now answer.now rows.items) }
+    ensures rows { IfOk result (ImprovesRows diagram.now.nodes profile.now answer.now) }
     ensures again { OnOk result (spaces.new ≡ spaces.old) }
 {
     // The part of the decision's scope has the whole's best states.

@@ -1,22 +1,11 @@
 //! The decisions, and the first states of all.
 
-ghost use Rattle.std.specs.Prelude.{◌≡◌, ◌<◌, IfOk, length};
-ghost use Rattle.maid_model.specs.Nodes.{decisions_of, is_decision, node_at};
+ghost use Rattle.std.specs.Prelude.{◌≡◌, IfOk};
+ghost use Rattle.maid_model.specs.Nodes.{decisions_of};
 ghost use Rattle.policy_update.specs.Steps.{first_choices};
 
-use maid_model::{Answer, Diagram, Kind, Row};
+use maid_model::{Answer, Diagram, Row};
 use std::alloc::{AllocError, Global};
-
-/// Whether the node is a decision.
-fn is_decision(diagram: &Diagram, v: usize) -> bool
-    requires { v < length diagram.now.nodes }
-    ensures { result ≡ is_decision (node_at diagram.now.nodes v).kind }
-{
-    match diagram.kind(v) {
-        Kind::Decision => true,
-        Kind::Chance | Kind::Utility => false,
-    }
-}
 
 /// The decisions, in text order.
 pub(crate) fn list_decisions(alloc: Global, diagram: &Diagram) -> Result<Vec<usize>, AllocError>
@@ -24,7 +13,7 @@ pub(crate) fn list_decisions(alloc: Global, diagram: &Diagram) -> Result<Vec<usi
 {
     let mut decisions = Vec::new(alloc);
     for v in 0..diagram.count() {
-        if is_decision(diagram, v) {
+        if diagram.is_decision(v) {
             decisions.push(v)?;
         }
     }

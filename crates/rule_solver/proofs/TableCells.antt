@@ -5,11 +5,11 @@ use Rattle.std.specs.List.{range_with_len}
 use Rattle.std.proofs.Math.Decide.{ℕ_discrete}
 use Rattle.std.proofs.Math.Nat.{mod-eq_of_lt}
 use Rattle.std.proofs.lemmas.List.{append-nil, length-set, length-drop, length-take-le, get_or-set_same, get_or-set_other}
-use Rattle.std.proofs.lemmas.List.Elements.{filter-append}
 use Rattle.finite_sums.specs.Members.{Among}
 use Rattle.finite_sums.specs.Sums.{World, InRange}
 use Rattle.finite_sums.proofs.Lists.{among_filter}
 use Rattle.finite_sums.proofs.Members.{filter_has}
+use Rattle.finite_sums.proofs.Ranges.{filter_more}
 use Rattle.node_sets.specs.Sets.{holds, IsIn}
 use Rattle.factor_core.specs.declared.slots.Slot.{Slot}
 use Rattle.factor_core.specs.Slots.{IsLive, nodes_in, part, cells_over}
@@ -23,29 +23,12 @@ use Rattle.maid_laws.proofs.Members.{among_of, contains_of, different_of}
 use Rattle.maid_laws.proofs.Rearranged.{range_apart, apart_filter, number, numbered}
 
 -- ---- the nodes of a scope
--- one number more at the end
-range_push : (k n : ℕ) → range_with_len k (suc n) ≡ range_with_len k n ++ (k + n) ∷ []
-range_push k zero = ap (λ x. x ∷ []) (omega arith)
-range_push k (suc n) = ap (λ x. k ∷ x) (range_push (k + 1) n ∙ ap (λ x. range_with_len (k + 1) n ++ x ∷ []) (omega arith))
-
--- which is kept where it passes the test
-filter_push : (p : ℕ → Bool) (n : ℕ) → filter p (range_with_len 0 (n + 1)) ≡ filter p (range_with_len 0 n) ++ cond (p n) (n ∷ []) []
-filter_push p n =
-    ap (λ m. filter p (range_with_len 0 m)) (one n) ∙ ap (filter p) (range_push 0 n ∙ ap (λ x. range_with_len 0 n ++ x ∷ []) (none n))
-    ∙ filter-append p (range_with_len 0 n) (n ∷ [])
-  where
-    one : (n : ℕ) → n + 1 ≡ suc n
-    one n = omega arith
-
-    none : (n : ℕ) → 0 + n ≡ n
-    none n = omega arith
-
--- one number more
+-- one number more, which is kept where it passes the test
 pub filter_yes : (p : ℕ → Bool) (n : ℕ) → p n ≡ true → filter p (range_with_len 0 (n + 1)) ≡ filter p (range_with_len 0 n) ++ n ∷ []
-filter_yes p n e = filter_push p n ∙ ap (λ b. filter p (range_with_len 0 n) ++ cond b (n ∷ []) []) e
+filter_yes p n e = filter_more p n ∙ ap (λ b. filter p (range_with_len 0 n) ++ cond b (n ∷ []) []) e
 
 pub filter_no : (p : ℕ → Bool) (n : ℕ) → p n ≡ false → filter p (range_with_len 0 (n + 1)) ≡ filter p (range_with_len 0 n)
-filter_no p n e = filter_push p n ∙ ap (λ b. filter p (range_with_len 0 n) ++ cond b (n ∷ []) []) e ∙ append-nil (filter p (range_with_len 0 n))
+filter_no p n e = filter_more p n ∙ ap (λ b. filter p (range_with_len 0 n) ++ cond b (n ∷ []) []) e ∙ append-nil (filter p (range_with_len 0 n))
 
 -- numbers that don't pass leave the list as it is
 pub filter_gap : (p : ℕ → Bool) (from to : ℕ) → from ≤ to → ((w : ℕ) → from ≤ w → w < to → p w ≡ true → ⊥) → filter p (range_with_len 0 to) ≡ filter p (range_with_len 0 from)

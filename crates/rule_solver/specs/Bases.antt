@@ -8,10 +8,11 @@ use Rattle.maid_model.specs.Views.{NodeView, RuleView, AnswerView}
 use Rattle.node_sets.specs.declared.sets.NodeSet.{NodeSet}
 use Rattle.node_sets.specs.Sets.{IsIn}
 
--- the decisions that are answered, and the one whose answer stands at that place
+-- the decisions that are answered
 abbrev pub answered_ones : List AnswerView → List ℕ
 answered_ones answers = map (λ a. a.decision) answers
 
+-- the decision whose answer stands at that place
 abbrev pub decision_at : List AnswerView → ℕ → ℕ
 decision_at answers place = slice_index (answered_ones answers) place
 
@@ -34,10 +35,11 @@ pub record IsMixed
   pub uniform : (e : ℕ) → IsDecision nodes e → (IsIn held e → ⊥)
       → SameRule base (uniform_profile nodes) e
 
--- the new set has what the old one has, and the node too, or all of it but the node
+-- the new set has what the old one has, and the node too
 abbrev pub HoldsToo : ℕ → NodeSet → NodeSet → Type 0
 HoldsToo v old new = (e : ℕ) → IsIn new e ↔ (IsIn old e ⊎ (e ≡ v))
 
+-- the new set has what the old one has, but for the node
 abbrev pub HoldsWithout : ℕ → NodeSet → NodeSet → Type 0
 HoldsWithout v old new = (e : ℕ) → IsIn new e ↔ (IsIn old e × (e ≡ v → ⊥))
 

@@ -1,17 +1,17 @@
 -- The cells of a plan's last table as a decision's gains and masses. Only private functions cite it.
-use Rattle.std.specs.Prelude.{◌≡◌, ◌<◌, ◌≤◌, ◌↔◌, ℕ, ◌+◌, ◌*◌, ◌%◌, List, Contains, length, slice_index, slice_index_or, ℤ, pos, ◌+ℤ◌, ◌*ℤ◌, nat_abs}
+use Rattle.std.specs.Prelude.{◌≡◌, ◌<◌, ◌≤◌, ◌↔◌, ℕ, ◌+◌, ◌*◌, ◌%◌, List, ◌∷◌, Contains, length, slice_index, slice_index_or, ℤ, pos, ◌+ℤ◌, ◌*ℤ◌, nat_abs}
 use Rattle.cell_rings.specs.Rings.{Ring}
 use Rattle.cell_rings.specs.Sums.{cell_at}
 use Rattle.factor_core.specs.declared.slots.Slot.{Slot}
-use Rattle.factor_core.specs.Slots.{WorkspaceView, table_of}
+use Rattle.factor_core.specs.Slots.{IsLive, table_of}
 use Rattle.finite_sums.specs.Sums.{World, InRange}
 use Rattle.maid_model.specs.Diagrams.{greatest_number}
-use Rattle.maid_model.specs.Nodes.{rows_of, rows_under, states_of}
+use Rattle.maid_model.specs.Nodes.{parents_of, rows_of, rows_under, states_of}
 use Rattle.maid_model.specs.Tables.{cell_of, row_from, row_of}
-use Rattle.maid_model.specs.Views.{NodeView, DiagramView}
+use Rattle.maid_model.specs.Views.{NodeView}
 use Rattle.maid_model.specs.Worlds.{world_of}
-use Rattle.node_sets.specs.declared.sets.NodeSet.{NodeSet}
-use Rattle.node_sets.specs.Sets.{IsFirstFrom, IsIn}
+use Rattle.node_sets.specs.Sets.{IsIn}
+use Rattle.rule_solver.specs.declared.reading.LastTable.{LastTable}
 
 -- a gain for each row and state of the decision
 abbrev pub HasGainForEach : List NodeView → ℕ → List ℤ → Type 0
@@ -55,19 +55,21 @@ HasRoomAtPlace gains at number factor =
 abbrev pub number_at : {C : Type 0} → (C → ℤ) → Ring C → List C → ℕ → ℤ
 number_at number r cells i = number (cell_at r cells i)
 
--- there is room for each number, times the factor, at its place, and then it is added there
+-- there is room to add each number, times the factor, to the gain at its place
 abbrev pub HasRoomForEach : (ℕ → ℤ) → ℕ → List ℤ → Type 0
 HasRoomForEach number factor gains =
     (i : ℕ) → i < length gains → HasRoomAtPlace gains i (number i) factor
 
+-- each number, times the factor, was added to the gain at its place
 abbrev pub AddsEach : (ℕ → ℤ) → ℕ → List ℤ → List ℤ → Type 0
 AddsEach number factor before after = (i : ℕ) → i < length before
     → slice_index_or after i (pos 0) ≡ added_at before i (number i) factor
 
--- each of so many numbers fits, times the factor, and then it is the mass at its place
+-- each of so many numbers fits, times the factor
 abbrev pub FitEach : (ℕ → ℤ) → ℕ → ℕ → Type 0
 FitEach number factor n = (i : ℕ) → i < n → nat_abs (number i) * factor ≤ greatest_number
 
+-- each of so many numbers, times the factor, is the mass at its place
 abbrev pub PutsEach : (ℕ → ℤ) → ℕ → ℕ → List ℕ → Type 0
 PutsEach number factor n after =
     (i : ℕ) → i < n → slice_index after i ≡ nat_abs (number i) * factor
@@ -93,26 +95,42 @@ abbrev pub FitTimes : List NodeView → (World → ℤ) → ℕ → Type 0
 FitTimes nodes number factor =
     (q : World) → InRange (states_of nodes) q → nat_abs (number q) * factor ≤ greatest_number
 
--- so it is with the numbers of a slot's cells: there is room to add them, they are added, they fit, they are put
-abbrev pub HasRoomForSlot :
-    {C : Type 0} → (C → ℤ) → Ring C → DiagramView → ℕ → WorkspaceView C → Slot → ℕ → List ℤ → Type 0
-HasRoomForSlot number r d decision work slot factor gains =
-    HasRoomToAdd d.nodes decision (cell_number number r d.nodes work.cells slot) factor gains
+-- ---- the last table of a plan as the program has it
+-- its slot is live
+abbrev pub HasLiveSlot : {C : Type 0} → LastTable C → Type 0
+HasLiveSlot t = IsLive t.diagram.now.nodes t.work.now.cells t.slot.now
 
-abbrev pub AddsSlot :
-    {C : Type 0} → (C → ℤ) → Ring C → DiagramView → ℕ → WorkspaceView C → Slot → ℕ → List ℤ → List ℤ → Type 0
-AddsSlot number r d decision work slot factor before after =
-    AddsTable d.nodes decision (cell_number number r d.nodes work.cells slot) factor before after
+-- it is over the decision and its parents
+abbrev pub IsOverStates : {C : Type 0} → LastTable C → Type 0
+IsOverStates t =
+    IsOverNodes t.slot.now (t.decision ∷ parents_of t.diagram.now.nodes t.decision)
 
-abbrev pub FitsSlot :
-    {C : Type 0} → (C → ℤ) → Ring C → DiagramView → WorkspaceView C → Slot → ℕ → Type 0
-FitsSlot number r d work slot factor =
-    FitTimes d.nodes (cell_number number r d.nodes work.cells slot) factor
+-- it is over the decision's parents
+abbrev pub IsOverRows : {C : Type 0} → LastTable C → Type 0
+IsOverRows t = IsOverNodes t.slot.now (parents_of t.diagram.now.nodes t.decision)
 
-abbrev pub PutsSlot :
-    {C : Type 0} → (C → ℤ) → Ring C → DiagramView → ℕ → WorkspaceView C → Slot → ℕ → List ℕ → Type 0
-PutsSlot number r d decision work slot factor after =
-    PutsTable d.nodes decision (cell_number number r d.nodes work.cells slot) factor after
+-- the number of its cell in a world
+abbrev pub number_in : {C : Type 0} → (C → ℤ) → Ring C → LastTable C → World → ℤ
+number_in number r t = cell_number number r t.diagram.now.nodes t.work.now.cells t.slot.now
+
+-- there is room to add its numbers, times the factor, to the decision's gains
+abbrev pub HasRoomForSlot : {C : Type 0} → (C → ℤ) → Ring C → LastTable C → List ℤ → Type 0
+HasRoomForSlot number r t gains =
+    HasRoomToAdd t.diagram.now.nodes t.decision (number_in number r t) t.factor gains
+
+-- they were added
+abbrev pub AddsSlot : {C : Type 0} → (C → ℤ) → Ring C → LastTable C → List ℤ → List ℤ → Type 0
+AddsSlot number r t before after =
+    AddsTable t.diagram.now.nodes t.decision (number_in number r t) t.factor before after
+
+-- each of its numbers fits, times the factor
+abbrev pub FitsSlot : {C : Type 0} → (C → ℤ) → Ring C → LastTable C → Type 0
+FitsSlot number r t = FitTimes t.diagram.now.nodes (number_in number r t) t.factor
+
+-- each of the decision's masses is its number, times the factor
+abbrev pub PutsSlot : {C : Type 0} → (C → ℤ) → Ring C → LastTable C → List ℕ → Type 0
+PutsSlot number r t after =
+    PutsTable t.diagram.now.nodes t.decision (number_in number r t) t.factor after
 
 -- ---- the nodes of a scope, and their states one after another
 -- the row that a list of states gives to these nodes, the first one slowest

@@ -85,6 +85,10 @@ abbrev pub AreReadyForDecisions : List NodeView → Workspaces → Type 0
 AreReadyForDecisions nodes spaces = (cells : ℕ) × AreReady cells spaces
     × ((d : ℕ) → IsDecision nodes d → HasRoomAt nodes d cells)
 
+-- and for all plans of a run
+abbrev pub AreReadyForRun : List NodeView → Workspaces → Type 0
+AreReadyForRun nodes spaces = (cells : ℕ) × AreReady cells spaces × HasRoom nodes cells
+
 -- and for the plans of all utilities' worths
 abbrev pub AreReadyForWorths : List NodeView → Workspaces → Type 0
 AreReadyForWorths nodes spaces =

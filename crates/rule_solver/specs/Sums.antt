@@ -19,11 +19,12 @@ use Rattle.rule_solver.specs.Reading.{HasGainForEach, gain_there}
 use Rattle.rule_solver.specs.Rows.{gain_in}
 use Rattle.rule_solver.specs.Totals.{HasTotals}
 
--- what a state gains in a row, and the row's mass, in the part of the decision's scope
+-- what a state gains in a row in the part of the decision's scope
 abbrev pub scope_gain : List NodeView → List RuleView → ℕ → ℕ → ℕ → ℤ
 scope_gain nodes p d state row =
     gain_at (scope_part nodes d) (rules_in_scope nodes p d) (place_in_scope nodes d) state row
 
+-- the row's mass in the part of the decision's scope
 abbrev pub scope_mass : List NodeView → List RuleView → ℕ → ℕ → ℤ
 scope_mass nodes p d row =
     mass_at (scope_part nodes d) (rules_in_scope nodes p d) (place_in_scope nodes d) row

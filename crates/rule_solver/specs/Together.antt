@@ -16,6 +16,7 @@ abbrev pub utility_in : Option ℕ → ℕ
 utility_in (Some u) = u
 utility_in None = 0
 
+-- the goal whose plan it is
 abbrev pub goal_in : SizedPlan → ℕ
 goal_in plan = utility_in plan.plan.utility
 

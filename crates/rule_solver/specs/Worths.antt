@@ -83,6 +83,7 @@ pub record IsLeastRoom (nodes : List NodeView) (cells : ℕ) : Type 0 where
   pub least : AreNeededForWorths nodes cells
 
 -- ---- of a stake as the program has it
+-- what the stake has is right
 abbrev pub HoldsStake : Stake → Type 0
 HoldsStake s =
     IsStake s.diagram.now s.profile.now s.agent s.totals.now s.worths.now s.scope
@@ -91,9 +92,10 @@ HoldsStake s =
 abbrev pub gives_to : Stake → ℕ → ℤ
 gives_to s v = gain_given s.diagram.now.nodes s.profile.now s.agent s.worths.now v
 
--- its agent's gain, and what its profile is worth to its agent
+-- its agent's gain
 abbrev pub gain_to : Stake → ℤ
 gain_to s = scope_gain_for s.diagram.now.nodes s.profile.now s.agent
 
+-- what its profile is worth to its agent
 abbrev pub IsExpectedTo : Stake → Ratio → Type 0
 IsExpectedTo s r = IsExpected s.diagram.now s.profile.now s.agent r

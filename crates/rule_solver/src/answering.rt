@@ -7,8 +7,7 @@ ghost use Rattle.maid_model.specs.Profiles.{IsProfile};
 ghost use Rattle.maid_model.specs.Scopes.{KeepsScopedBounds};
 ghost use Rattle.part_laws.specs.ScopeLaws.{HasSmallRules};
 ghost use Rattle.relevance_graph.specs.Relevant.{IsRelevance};
-ghost use Rattle.size_precheck.specs.Decisions.{ArePlans};
-ghost use Rattle.size_precheck.specs.Sizes.{ArePlansOf};
+ghost use Rattle.size_precheck.specs.Decisions.{AreDecisionPlans, ArePlans};
 ghost use Rattle.rule_solver.specs.Rooms.{AreReadyForDecision, AreReadyForDecisions};
 ghost use Rattle.rule_solver.specs.Answered.{AreAnswersInOrder, AreRowsAgainst};
 
@@ -39,7 +38,7 @@ fn answer_decision(
     requires profile { IsProfile diagram.now.nodes base.now }
     requires rules { HasSmallRules diagram.now.nodes base.now decision }
     requires bound { KeepsScopedBounds diagram.now }
-    requires planned { ArePlansOf diagram.now.nodes decision plans.now.rows plans.now.goals.items }
+    requires planned { AreDecisionPlans diagram.now.nodes decision plans.now }
     requires ready { AreReadyForDecision diagram.now.nodes decision spaces.old }
     ensures rows { IfOk result (AreRowsAgainst diagram.now base.now decision) }
     ensures again { OnOk result (spaces.new ≡ spaces.old) }

@@ -6,14 +6,14 @@ ghost use Rattle.maid_model.specs.Nodes.{IsDecision, rows_of};
 ghost use Rattle.maid_model.specs.Profiles.{IsProfile};
 ghost use Rattle.maid_model.specs.Scopes.{KeepsScopedBounds};
 ghost use Rattle.part_laws.specs.ScopeLaws.{HasSmallRules};
-ghost use Rattle.size_precheck.specs.Sizes.{ArePlansOf};
+ghost use Rattle.size_precheck.specs.Decisions.{AreDecisionPlans};
 ghost use Rattle.rule_solver.specs.Rooms.{AreNeededForPlans, AreReadyForDecision, HasRoomAt};
 ghost use Rattle.rule_solver.specs.Settings.{AddsGoalsIn, AreGoalPlansIn, ArePlansIn, AreReadyForDecisionIn, AreReadyForGoal, AreReadyForGoalsIn, AreReadyForRows, AreRowSumsIn, HasGoalsIn, HasMassesIn, HasRoomForGoalsIn, HoldsSetting, IsGoalIn, IsPlannedForGoal, IsPlannedForRows, IsReadyForGoal, IsReadyForRows, KeepsRoomIn, goals_in, lacking_in_goal, lacking_in_rows, total_in};
 ghost use Rattle.rule_solver.specs.Sums.{AreRowSums, AreRowGains};
 
 use crate::joint_goals::{add_together, list_goals};
 use crate::numbers::Number;
-use crate::reading::{add_gains, put_masses};
+use crate::reading::{LastTable, add_gains, put_masses};
 use crate::spaces::Workspaces;
 use crate::totals::{list_totals, product_in};
 use crate::widths::fits_small;
@@ -73,15 +73,14 @@ impl<'a> Setting<'a> {
         plans_sum_scopes();
         plans_keep_scopes();
         let slot = run_plan(work, plan, self.diagram, self.base);
-        put_masses(
-            alloc,
-            self.diagram,
-            self.decision,
+        let table = LastTable {
+            diagram: self.diagram,
+            decision: self.decision,
             work,
-            &slot,
+            slot: &slot,
             factor,
-            masses,
-        )?;
+        };
+        put_masses(alloc, &table, masses)?;
         release(work);
         Ok(())
     }
@@ -159,15 +158,14 @@ impl<'a> Setting<'a> {
     {
         plans_keep_scopes();
         let slot = run_plan(work, plan, self.diagram, self.base);
-        add_gains(
-            alloc,
-            self.diagram,
-            self.decision,
+        let table = LastTable {
+            diagram: self.diagram,
+            decision: self.decision,
             work,
-            &slot,
+            slot: &slot,
             factor,
-            gains,
-        )?;
+        };
+        add_gains(alloc, &table, gains)?;
         release(work);
         Ok(())
     }
@@ -310,7 +308,7 @@ pub fn row_sums_by(
     requires profile { IsProfile diagram.now.nodes profile.now }
     requires rules { HasSmallRules diagram.now.nodes profile.now decision }
     requires bound { KeepsScopedBounds diagram.now }
-    requires planned { ArePlansOf diagram.now.nodes decision plans.now.rows plans.now.goals.items }
+    requires planned { AreDecisionPlans diagram.now.nodes decision plans.now }
     requires ready { AreReadyForDecision diagram.now.nodes decision spaces.old }
     ensures sums { IfOk result (AreRowSums diagram.now.nodes profile.now decision) }
     ensures again { OnOk result (spaces.new ≡ spaces.old) }
@@ -343,7 +341,7 @@ pub fn row_gains_by(
     requires profile { IsProfile diagram.now.nodes profile.now }
     requires rules { HasSmallRules diagram.now.nodes profile.now decision }
     requires bound { KeepsScopedBounds diagram.now }
-    requires planned { ArePlansOf diagram.now.nodes decision plans.now.rows plans.now.goals.items }
+    requires planned { AreDecisionPlans diagram.now.nodes decision plans.now }
     requires ready { AreReadyForDecision diagram.now.nodes decision spaces.old }
     ensures gains { IfOk result (AreRowGains diagram.now.nodes profile.now decision) }
     ensures again { OnOk result (spaces.new ≡ spaces.old) }

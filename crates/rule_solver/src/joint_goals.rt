@@ -14,7 +14,7 @@ ghost use Rattle.rule_solver.specs.Settings.{AreGoalPlansIn, HasGoalsIn, HasRoom
 ghost use Rattle.rule_solver.specs.Together.{FitsPairs, IsListed, IsStepOf, ListsMore, goal_in, FitsPairsOfFirst, IsBoundOrNone};
 
 use crate::decision_sums::Setting;
-use crate::reading::{add_gains, list_scope};
+use crate::reading::{LastTable, add_gains, list_scope};
 use crate::totals::product_in;
 use crate::widths::greatest_value;
 use cell_rings::Both;
@@ -243,15 +243,14 @@ impl Joint {
         );
         match slot {
             Some(slot) => {
-                add_gains(
-                    alloc,
-                    setting.diagram,
-                    setting.decision,
+                let table = LastTable {
+                    diagram: setting.diagram,
+                    decision: setting.decision,
                     work,
-                    &slot,
-                    1,
-                    gains,
-                )?;
+                    slot: &slot,
+                    factor: 1,
+                };
+                add_gains(alloc, &table, gains)?;
                 Ok(goals.len())
             }
             None => Ok(0),

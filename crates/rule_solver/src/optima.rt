@@ -15,8 +15,8 @@ ghost use Rattle.maid_model.specs.Values.{IsOptimum};
 ghost use Rattle.part_laws.specs.ScopeLaws.{HasSmallRules, HasUnitRules};
 ghost use Rattle.plan_sums.specs.Plans.{worth_plan};
 ghost use Rattle.relevance_graph.specs.Relevant.{IsRelevance};
-ghost use Rattle.size_precheck.specs.Decisions.{ArePlans};
-ghost use Rattle.size_precheck.specs.Sizes.{ArePlansOf, IsPlanned, ArePlansOfWorths};
+ghost use Rattle.size_precheck.specs.Decisions.{AreDecisionPlans, ArePlans};
+ghost use Rattle.size_precheck.specs.Sizes.{IsPlanned, ArePlansOfWorths};
 ghost use Rattle.rule_solver.specs.Faults.{solve_fault, solve_pass};
 ghost use Rattle.rule_solver.specs.Kept.{IsKeptDiagram};
 ghost use Rattle.rule_solver.specs.Masses.{IsExpected};
@@ -94,7 +94,7 @@ fn choose(
     requires profile { IsProfile diagram.now.nodes base.now }
     requires rules { HasSmallRules diagram.now.nodes base.now decision }
     requires bound { KeepsScopedBounds diagram.now }
-    requires planned { ArePlansOf diagram.now.nodes decision plans.now.rows plans.now.goals.items }
+    requires planned { AreDecisionPlans diagram.now.nodes decision plans.now }
     requires ready { AreReadyForDecision diagram.now.nodes decision spaces.old }
     ensures rows { IfOk result (λ v. IsChosenBy diagram.now.nodes base.now decision v.items) }
     ensures again { OnOk result (spaces.new ≡ spaces.old) }

@@ -1,11 +1,11 @@
 //! The last table of a plan, read into a decision's gains and masses.
 
 ghost use Rattle.std.specs.Prelude.{◌≡◌, ◌↔◌, ◌<◌, ◌≤◌, ◌*◌, [], ◌∷◌, ◌++◌, IfOk, IsTrue, OnErr, OnOk, length, nat_abs, slice_set};
-ghost use Rattle.factor_core.specs.Slots.{IsLive, nodes_in};
+ghost use Rattle.factor_core.specs.Slots.{nodes_in};
 ghost use Rattle.maid_model.specs.Diagrams.{greatest_number};
-ghost use Rattle.maid_model.specs.Nodes.{IsDecision, parents_of, rows_of};
+ghost use Rattle.maid_model.specs.Nodes.{IsDecision, rows_of};
 ghost use Rattle.node_sets.specs.Sets.{holds};
-ghost use Rattle.rule_solver.specs.Reading.{AddsEach, AddsSlot, FitEach, FitsSlot, HasGainForEach, HasRoomAtPlace, HasRoomForEach, HasRoomForSlot, IsOverNodes, PutsSlot, added_at, number_at, PutsCells};
+ghost use Rattle.rule_solver.specs.Reading.{AddsEach, AddsSlot, FitEach, FitsSlot, HasGainForEach, HasLiveSlot, HasRoomAtPlace, HasRoomForEach, HasRoomForSlot, IsOverRows, IsOverStates, PutsSlot, added_at, number_at, PutsCells};
 
 use crate::numbers::{HasNumber, Number};
 use crate::odometer::next_over;
@@ -13,6 +13,18 @@ use factor_core::{Slot, Strip, Workspace};
 use maid_model::{Diagram, World};
 use node_sets::NodeSet;
 use std::alloc::{AllocError, Global};
+
+/// The last table of a plan, over a decision's parents and perhaps itself, and by how much its numbers are to be
+/// multiplied.
+#[derive(Drop)]
+pub(crate) struct LastTable<'a, C> {
+    pub diagram: &'a Diagram,
+    pub decision: usize,
+    /// Where its cells stand.
+    pub work: &'a Workspace<C>,
+    pub slot: &'a Slot,
+    pub factor: u128,
+}
 
 /// The nodes of the scope in ascending order.
 pub(crate) fn list_scope(
@@ -79,35 +91,29 @@ fn add_cells<C: HasNumber>(cells: &[C], factor: u128, gains: &mut [i128])
 /// Where memory ran out the gains are as they were.
 fn add_by_worlds<C: HasNumber>(
     alloc: Global,
-    diagram: &Diagram,
-    decision: usize,
-    work: &Workspace<C>,
-    slot: &Slot,
-    factor: u128,
+    table: &LastTable<C>,
     gains: &mut [i128],
 ) -> Result<(), AllocError>
-    requires decision { IsDecision diagram.now.nodes decision }
-    requires live { IsLive diagram.now.nodes work.now.cells slot.now }
-    requires scope { IsOverNodes slot.now (decision ∷ parents_of diagram.now.nodes decision) }
-    requires gains { HasGainForEach diagram.now.nodes decision gains.old }
-    requires factor { factor ≤ greatest_number }
-    requires room { HasRoomForSlot C.number C.ring diagram.now decision work.now slot.now factor
-        gains.old }
-    ensures adds { OnOk result (AddsSlot C.number C.ring diagram.now decision work.now slot.now
-        factor gains.old gains.new) }
+    requires decision { IsDecision table.now.diagram.now.nodes table.now.decision }
+    requires live { HasLiveSlot table.now }
+    requires scope { IsOverStates table.now }
+    requires gains { HasGainForEach table.now.diagram.now.nodes table.now.decision gains.old }
+    requires factor { table.now.factor ≤ greatest_number }
+    requires room { HasRoomForSlot C.number C.ring table.now gains.old }
+    ensures adds { OnOk result (AddsSlot C.number C.ring table.now gains.old gains.new) }
     ensures stays { OnErr result (gains.new ≡ gains.old) }
     ensures len { length gains.new ≡ length gains.old }
 {
-    let scope = list_scope(alloc, diagram, &slot.scope)?;
-    let mut world = World::first(alloc, diagram)?;
+    let scope = list_scope(alloc, table.diagram, &table.slot.scope)?;
+    let mut world = World::first(alloc, table.diagram)?;
     let strip = Strip {
-        start: slot.start,
-        len: slot.len,
+        start: table.slot.start,
+        len: table.slot.len,
     };
-    for cell in work.strip(&strip) {
-        let at = world.cell(diagram, decision);
-        add_number(gains, at, cell.number(), factor);
-        next_over(&mut world, diagram, scope.as_slice());
+    for cell in table.work.strip(&strip) {
+        let at = world.cell(table.diagram, table.decision);
+        add_number(gains, at, cell.number(), table.factor);
+        next_over(&mut world, table.diagram, scope.as_slice());
     }
     Ok(())
 }
@@ -121,35 +127,33 @@ fn add_by_worlds<C: HasNumber>(
 /// Where memory ran out the gains are as they were.
 pub(crate) fn add_gains<C: HasNumber>(
     alloc: Global,
-    diagram: &Diagram,
-    decision: usize,
-    work: &Workspace<C>,
-    slot: &Slot,
-    factor: u128,
+    table: &LastTable<C>,
     gains: &mut [i128],
 ) -> Result<(), AllocError>
-    requires decision { IsDecision diagram.now.nodes decision }
-    requires live { IsLive diagram.now.nodes work.now.cells slot.now }
-    requires scope { IsOverNodes slot.now (decision ∷ parents_of diagram.now.nodes decision) }
-    requires gains { HasGainForEach diagram.now.nodes decision gains.old }
-    requires factor { factor ≤ greatest_number }
-    requires room { HasRoomForSlot C.number C.ring diagram.now decision work.now slot.now factor
-        gains.old }
-    ensures adds { OnOk result (AddsSlot C.number C.ring diagram.now decision work.now slot.now
-        factor gains.old gains.new) }
+    requires decision { IsDecision table.now.diagram.now.nodes table.now.decision }
+    requires live { HasLiveSlot table.now }
+    requires scope { IsOverStates table.now }
+    requires gains { HasGainForEach table.now.diagram.now.nodes table.now.decision gains.old }
+    requires factor { table.now.factor ≤ greatest_number }
+    requires room { HasRoomForSlot C.number C.ring table.now gains.old }
+    ensures adds { OnOk result (AddsSlot C.number C.ring table.now gains.old gains.new) }
     ensures stays { OnErr result (gains.new ≡ gains.old) }
     ensures len { length gains.new ≡ length gains.old }
 {
-    let scope = list_scope(alloc, diagram, &slot.scope)?;
-    if is_own_order(scope.as_slice(), diagram.parents(decision), decision) {
+    let scope = list_scope(alloc, table.diagram, &table.slot.scope)?;
+    if is_own_order(
+        scope.as_slice(),
+        table.diagram.parents(table.decision),
+        table.decision,
+    ) {
         let strip = Strip {
-            start: slot.start,
-            len: slot.len,
+            start: table.slot.start,
+            len: table.slot.len,
         };
-        add_cells(work.strip(&strip), factor, gains);
+        add_cells(table.work.strip(&strip), table.factor, gains);
         return Ok(());
     }
-    add_by_worlds(alloc, diagram, decision, work, slot, factor, gains)
+    add_by_worlds(alloc, table, gains)
 }
 
 /// The mass that a number from 0 on makes: the number times the factor.
@@ -180,33 +184,28 @@ fn put_cells<C: Number>(cells: &[C], factor: u128, masses: &mut [u128])
 /// Where memory ran out the masses are as they were.
 fn put_by_worlds<C: Number>(
     alloc: Global,
-    diagram: &Diagram,
-    decision: usize,
-    work: &Workspace<C>,
-    slot: &Slot,
-    factor: u128,
+    table: &LastTable<C>,
     masses: &mut [u128],
 ) -> Result<(), AllocError>
-    requires decision { IsDecision diagram.now.nodes decision }
-    requires live { IsLive diagram.now.nodes work.now.cells slot.now }
-    requires scope { IsOverNodes slot.now (parents_of diagram.now.nodes decision) }
-    requires masses { length masses.old ≡ rows_of diagram.now.nodes decision }
-    requires room { FitsSlot C.number C.ring diagram.now work.now slot.now factor }
-    ensures puts { OnOk result (PutsSlot C.number C.ring diagram.now decision work.now slot.now
-        factor masses.new) }
+    requires decision { IsDecision table.now.diagram.now.nodes table.now.decision }
+    requires live { HasLiveSlot table.now }
+    requires scope { IsOverRows table.now }
+    requires masses { length masses.old ≡ rows_of table.now.diagram.now.nodes table.now.decision }
+    requires room { FitsSlot C.number C.ring table.now }
+    ensures puts { OnOk result (PutsSlot C.number C.ring table.now masses.new) }
     ensures stays { OnErr result (masses.new ≡ masses.old) }
     ensures len { length masses.new ≡ length masses.old }
 {
-    let scope = list_scope(alloc, diagram, &slot.scope)?;
-    let mut world = World::first(alloc, diagram)?;
+    let scope = list_scope(alloc, table.diagram, &table.slot.scope)?;
+    let mut world = World::first(alloc, table.diagram)?;
     let strip = Strip {
-        start: slot.start,
-        len: slot.len,
+        start: table.slot.start,
+        len: table.slot.len,
     };
-    for cell in work.strip(&strip) {
-        let mass = mass_of(cell.number(), factor);
-        masses[world.row(diagram, decision)] = mass;
-        next_over(&mut world, diagram, scope.as_slice());
+    for cell in table.work.strip(&strip) {
+        let mass = mass_of(cell.number(), table.factor);
+        masses[world.row(table.diagram, table.decision)] = mass;
+        next_over(&mut world, table.diagram, scope.as_slice());
     }
     Ok(())
 }
@@ -220,31 +219,26 @@ fn put_by_worlds<C: Number>(
 /// Where memory ran out the masses are as they were.
 pub(crate) fn put_masses<C: Number>(
     alloc: Global,
-    diagram: &Diagram,
-    decision: usize,
-    work: &Workspace<C>,
-    slot: &Slot,
-    factor: u128,
+    table: &LastTable<C>,
     masses: &mut [u128],
 ) -> Result<(), AllocError>
-    requires decision { IsDecision diagram.now.nodes decision }
-    requires live { IsLive diagram.now.nodes work.now.cells slot.now }
-    requires scope { IsOverNodes slot.now (parents_of diagram.now.nodes decision) }
-    requires masses { length masses.old ≡ rows_of diagram.now.nodes decision }
-    requires room { FitsSlot C.number C.ring diagram.now work.now slot.now factor }
-    ensures puts { OnOk result (PutsSlot C.number C.ring diagram.now decision work.now slot.now
-        factor masses.new) }
+    requires decision { IsDecision table.now.diagram.now.nodes table.now.decision }
+    requires live { HasLiveSlot table.now }
+    requires scope { IsOverRows table.now }
+    requires masses { length masses.old ≡ rows_of table.now.diagram.now.nodes table.now.decision }
+    requires room { FitsSlot C.number C.ring table.now }
+    ensures puts { OnOk result (PutsSlot C.number C.ring table.now masses.new) }
     ensures stays { OnErr result (masses.new ≡ masses.old) }
     ensures len { length masses.new ≡ length masses.old }
 {
-    let scope = list_scope(alloc, diagram, &slot.scope)?;
-    if is_same(scope.as_slice(), diagram.parents(decision)) {
+    let scope = list_scope(alloc, table.diagram, &table.slot.scope)?;
+    if is_same(scope.as_slice(), table.diagram.parents(table.decision)) {
         let strip = Strip {
-            start: slot.start,
-            len: slot.len,
+            start: table.slot.start,
+            len: table.slot.len,
         };
-        put_cells(work.strip(&strip), factor, masses);
+        put_cells(table.work.strip(&strip), table.factor, masses);
         return Ok(());
     }
-    put_by_worlds(alloc, diagram, decision, work, slot, factor, masses)
+    put_by_worlds(alloc, table, masses)
 }

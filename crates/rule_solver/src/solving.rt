@@ -1,6 +1,6 @@
 //! A whole diagram, solved decision by decision.
 
-ghost use Rattle.std.specs.Prelude.{◌≡◌, ℕ, ◌≤◌, IfOk, OnOk};
+ghost use Rattle.std.specs.Prelude.{◌≡◌, ◌≤◌, IfOk, OnOk};
 ghost use Rattle.first_fault.specs.Answers.{Passes};
 ghost use Rattle.maid_model.specs.Answers.{IsAnswer, KeepsWorth};
 ghost use Rattle.maid_model.specs.Diagrams.{IsDiagram};
@@ -11,7 +11,7 @@ ghost use Rattle.maid_model.specs.Values.{PrintsOptima};
 ghost use Rattle.relevance_graph.specs.Relevant.{IsRelevance};
 ghost use Rattle.size_precheck.specs.Decisions.{ArePlans};
 ghost use Rattle.rule_solver.specs.Faults.{solve_fault, solve_pass};
-ghost use Rattle.rule_solver.specs.Rooms.{AreReady, HasRoom};
+ghost use Rattle.rule_solver.specs.Rooms.{AreReadyForRun, HasRoom};
 ghost use Rattle.size_precheck.specs.Sizes.{ArePlansOfWorths};
 ghost use Rattle.rule_solver.specs.Solved.{HasOptimalProfile, HasPerfectProfile};
 
@@ -51,7 +51,7 @@ pub fn solve_by(
     requires order { IsRelianceOrder diagram.now.nodes order.now }
     requires plans { ArePlans diagram.now.nodes order.now run.now.decisions.items }
     requires worths { ArePlansOfWorths diagram.now.nodes run.now.worths.items }
-    requires ready { (cells : ℕ) × AreReady cells spaces.old × HasRoom diagram.now.nodes cells }
+    requires ready { AreReadyForRun diagram.now.nodes spaces.old }
     ensures ok { IfOk result (IsAnswer diagram.now) }
     ensures again { OnOk result (spaces.new ≡ spaces.old) }
 {

@@ -1,6 +1,6 @@
 //! Which plans fit cells of 64 bits.
 
-ghost use Rattle.std.specs.Prelude.{◌≡◌, ◌⊎◌, ◌↔◌, ◌*◌, ◌<◌, ◌≤◌, ℕ, IsTrue, Some, length, slice_index};
+ghost use Rattle.std.specs.Prelude.{◌≡◌, ◌↔◌, ◌*◌, ◌<◌, ◌≤◌, ℕ, IsTrue, Some, length, slice_index};
 ghost use Rattle.cell_rings.specs.Rings.{most_size, small_size};
 ghost use Rattle.eliminate.specs.Results.{greatest_value};
 ghost use Rattle.maid_model.specs.Diagrams.{IsDiagram};

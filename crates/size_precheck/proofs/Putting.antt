@@ -253,7 +253,7 @@ module _ (nodes : List NodeView) (states : List ℕ) (ruled waiting : NodeSet) (
   tests_are = h.scopes ∙ ap (λ (xs : List ℕ). map (family_test nodes) xs) one_list
 
   -- with no utility
-  pub started_without : (start : Start) → start.joints.items ≡ joints → start.counts.items ≡ counts → start.live ≡ live → start.cells ≡ cells → IsStarted nodes states (IsIn waiting) (map (family_test nodes) other ++ []) start
+  pub started_without : (start : Start) → start.known.joints.items ≡ joints → start.known.counts.items ≡ counts → start.live ≡ live → start.cells ≡ cells → IsStarted nodes states (IsIn waiting) (map (family_test nodes) other ++ []) start
   started_without start joints_are counts_are live_are cells_are =
       let whole : map (family_test nodes) other ++ [] ≡ map (family_test nodes) other = append_none (map (family_test nodes) other) in
       let scopes_are : tests_of h.tables ≡ map (family_test nodes) other ++ [] = tests_are ∙ sym whole in
@@ -262,7 +262,7 @@ module _ (nodes : List NodeView) (states : List ℕ) (ruled waiting : NodeSet) (
         tables = h.tables;
         are_live = are_live;
         tells = λ y m. subst (λ (js : List Joint). Tells h.tables y (joint_at js y)) (sym joints_are) (told y m);
-        counted = λ y m. subst (λ (js : List Joint). IsCounted states js start.counts.items y) (sym joints_are) (subst (λ (cs : List ℕ). IsCounted states joints cs y) (sym counts_are) (counted_at y m));
+        counted = λ y m. subst (λ (js : List Joint). IsCounted states js start.known.counts.items y) (sym joints_are) (subst (λ (cs : List ℕ). IsCounted states joints cs y) (sym counts_are) (counted_at y m));
         scopes_are = scopes_are;
         live = live_are ∙ h.live_is ∙ sym (length_tests h.tables) ∙ ap (λ (ss : List (ℕ → Bool)). length ss) scopes_are;
         cells = cells_are ∙ h.cells_are ∙ ap (λ (ss : List (ℕ → Bool)). stopped (sum_by (λ s. counted_cells nodes s) ss)) scopes_are;
@@ -282,7 +282,7 @@ module _ (nodes : List NodeView) (states : List ℕ) (ruled waiting : NodeSet) (
       → ((tables : List Table) (y : ℕ) → IsIn waiting y → Tells tables y (joint_at joints y) → Tells (tables ++ table ∷ []) y (joint_at joints' y))
       → ((y : ℕ) → IsIn waiting y → IsCounted states joints counts y → IsCounted states joints' counts' y)
       → counted ≡ counted_over states (holds table.scope)
-      → start.joints.items ≡ joints' → start.counts.items ≡ counts' → start.live ≡ live + 1 → start.cells ≡ stopped (cells + counted)
+      → start.known.joints.items ≡ joints' → start.known.counts.items ≡ counts' → start.live ≡ live + 1 → start.cells ≡ stopped (cells + counted)
       → IsStarted nodes states (IsIn waiting) (map (family_test nodes) other ++ parents_test nodes u ∷ []) start
   started_with u table joints' counts' counted start small unruled kept tag scope puts recounted counted_is joints_are counts_are live_are cells_are =
       let all = h.tables ++ table ∷ [] in
@@ -300,7 +300,7 @@ module _ (nodes : List NodeView) (states : List ℕ) (ruled waiting : NodeSet) (
           own = each_push (λ t. IsIn waiting t.tag → IsIn t.scope t.tag) h.tables table are_live.own (λ w. absurd (kept (subst (IsIn waiting) tag w)));
         };
         tells = λ y m. subst (λ (js : List Joint). Tells all y (joint_at js y)) (sym joints_are) (puts h.tables y m (told y m));
-        counted = λ y m. subst (λ (js : List Joint). IsCounted states js start.counts.items y) (sym joints_are) (subst (λ (cs : List ℕ). IsCounted states joints' cs y) (sym counts_are) (recounted y m (counted_at y m)));
+        counted = λ y m. subst (λ (js : List Joint). IsCounted states js start.known.counts.items y) (sym joints_are) (subst (λ (cs : List ℕ). IsCounted states joints' cs y) (sym counts_are) (recounted y m (counted_at y m)));
         scopes_are = scopes_are;
         live = live_are ∙ ap (λ n. n + 1) h.live_is ∙ sym (length_push h.tables table) ∙ sym (length_tests all) ∙ ap (λ (ss : List (ℕ → Bool)). length ss) scopes_are;
         cells = sum_more nodes h.tables table cells start.cells counted h.cells_are (counted_is ∙ cells_counted nodes states table.scope (holds table.scope) are (λ u. refl)) cells_are

@@ -1,13 +1,16 @@
 -- The nodes that wait, in classes of equal cells. Only private functions cite this file.
+use Rattle.std.specs.Global.{Vec}
 use Rattle.std.specs.Prelude.{◌≡◌, ◌↔◌, ◌<◌, ◌≤◌, ℕ, Bool, true, List, [], length, slice_index, slice_index_or, Option, MatchOption}
 use Rattle.node_sets.specs.declared.sets.NodeSet.{NodeSet}
-use Rattle.node_sets.specs.Sets.{IsIn}
+use Rattle.node_sets.specs.Sets.{holds, IsIn}
 use Rattle.size_precheck.specs.declared.classes.Class.{Class}
+use Rattle.size_precheck.specs.declared.joints.Known.{Known}
 
 -- what is known of a place past the classes
 abbrev pub no_class : Class
 no_class = record { cells = 0; nodes = record { words = [] } }
 
+-- the class at a place
 abbrev pub class_at : List Class → ℕ → Class
 class_at classes i = slice_index_or classes i no_class
 
@@ -72,12 +75,18 @@ HasChanged before after v was is =
     → AreClasses recounted waits after
 
 -- classes of the nodes that wait are still so by other counts
-abbrev pub StayClasses : (ℕ → Bool) → List ℕ → List Class → List ℕ → List Class → Type 0
-StayClasses waits counts before recounted after =
-    AreClasses counts waits before → AreClasses recounted waits after
+abbrev pub StayClasses : (ℕ → Bool) → Known → Vec Class → Known → Vec Class → Type 0
+StayClasses waits known before recounted after =
+    AreClasses known.counts.items waits before.items
+    → AreClasses recounted.counts.items waits after.items
+
+-- so they are where the nodes of the set wait
+abbrev pub StayIn : NodeSet → Known → Vec Class → Known → Vec Class → Type 0
+StayIn set known before recounted after =
+    StayClasses (holds set) known before recounted after
 
 -- so they are whichever nodes wait, these among them
-abbrev pub StayWithAll : NodeSet → List ℕ → List Class → List ℕ → List Class → Type 0
-StayWithAll set counts before recounted after =
+abbrev pub StayWithAll : NodeSet → Known → Vec Class → Known → Vec Class → Type 0
+StayWithAll set known before recounted after =
     (waits : ℕ → Bool) → ((y : ℕ) → IsIn set y → waits y ≡ true)
-    → StayClasses waits counts before recounted after
+    → StayClasses waits known before recounted after

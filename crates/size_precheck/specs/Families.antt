@@ -3,16 +3,16 @@ use Rattle.std.specs.Prelude.{◌≡◌, ◌≢◌, ◌⊎◌, ◌↔◌, ℕ, �
 use Rattle.maid_model.specs.declared.diagrams.Kind.TheVariants.{Utility}
 use Rattle.maid_model.specs.Graph.{Arc, IsPath}
 use Rattle.maid_model.specs.Nodes.{node_at, parents_of}
-use Rattle.maid_model.specs.Views.{NodeView}
+use Rattle.maid_model.specs.Views.{NodeView, DiagramView}
 use Rattle.node_sets.specs.declared.sets.TheConstants.{MOST_NODES}
 use Rattle.node_sets.specs.Sets.{holds, IsIn}
 use Rattle.node_sets.specs.declared.sets.NodeSet.{NodeSet}
 use Rattle.size_precheck.specs.declared.joints.Joint.{Joint}
+use Rattle.size_precheck.specs.declared.joints.Known.{Known}
 use Rattle.size_precheck.specs.declared.planners.Family.{Family}
 use Rattle.size_precheck.specs.declared.planners.Planner.{Planner}
 use Rattle.size_precheck.specs.declared.simulation.Start.{Start}
-use Rattle.size_precheck.specs.declared.starts.Narrowed.{Narrowed}
-use Rattle.size_precheck.specs.Joints.{counted_over, family_test, joint_at, parents_test, AreStates, IsCounted, IsListOf, IsStarted, StaysCounted}
+use Rattle.size_precheck.specs.Joints.{counted_over, family_test, joint_at, parents_test, AreStates, IsCounted, IsListOf, IsStarted}
 
 -- what is known of a number that no node has
 abbrev pub no_family : Family
@@ -22,6 +22,7 @@ no_family = record {
   above = record { words = [] };
 }
 
+-- what is known of the node
 abbrev pub family_at : List Family → ℕ → Family
 family_at families v = slice_index_or families v no_family
 
@@ -82,13 +83,17 @@ pub record IsNarrowed
       → ((x : ℕ) → IsIn ruled x → IsRuled nodes x)
       → IsJoinedBelow nodes (length nodes) joints y
       → IsJoined nodes (IsIn ruled) y (joint_at joints' y)
-  pub counted : StaysCounted states joints counts joints' counts' y
+  pub counted : IsCounted states joints counts y → IsCounted states joints' counts' y
+
+-- so it is in what is known of each node
+abbrev pub IsNarrowedIn : List ℕ → List Family → NodeSet → ℕ → Known → Known → Type 0
+IsNarrowedIn states families ruled y before after = IsNarrowed states families
+    before.joints.items before.counts.items ruled y after.joints.items after.counts.items
 
 -- and so at each node that waits
-abbrev pub AreNarrowed :
-    List ℕ → List Family → NodeSet → NodeSet → List Joint → List ℕ → List Joint → List ℕ → Type 0
-AreNarrowed states families ruled waiting joints counts joints' counts' =
-    (y : ℕ) → IsIn waiting y → IsNarrowed states families joints counts ruled y joints' counts'
+abbrev pub AreNarrowed : List ℕ → List Family → NodeSet → NodeSet → Known → Known → Type 0
+AreNarrowed states families ruled waiting before after =
+    (y : ℕ) → IsIn waiting y → IsNarrowedIn states families ruled y before after
 
 -- it knows the nodes
 pub record IsPlanner (nodes : List NodeView) (planner : Planner) : Type 0 where
@@ -103,17 +108,18 @@ pub record IsPlanner (nodes : List NodeView) (planner : Planner) : Type 0 where
       → IsCounted planner.states.items planner.joints.items planner.counts.items y
 
 -- the joints and the counts of the planner, in which the nodes that wait have the tables of these nodes alone
-abbrev pub IsNarrowedFrom : Planner → NodeSet → NodeSet → Narrowed → Type 0
-IsNarrowedFrom planner ruled waiting narrowed =
-    AreNarrowed planner.states.items planner.families.items ruled waiting planner.joints.items
-    planner.counts.items narrowed.joints.items narrowed.counts.items
+abbrev pub IsNarrowedFrom : Planner → NodeSet → NodeSet → Known → Type 0
+IsNarrowedFrom planner ruled waiting known =
+    (y : ℕ) → IsIn waiting y → IsNarrowed planner.states.items planner.families.items
+    planner.joints.items planner.counts.items ruled y known.joints.items known.counts.items
 
--- there are as many joints as the planner has, and as many counts
-abbrev pub HasJointsOf : Planner → Narrowed → Type 0
-HasJointsOf planner narrowed = length narrowed.joints.items ≡ length planner.joints.items
+-- there are as many joints as the planner has
+abbrev pub HasJointsOf : Planner → Known → Type 0
+HasJointsOf planner known = length known.joints.items ≡ length planner.joints.items
 
-abbrev pub HasCountsOf : Planner → Narrowed → Type 0
-HasCountsOf planner narrowed = length narrowed.counts.items ≡ length planner.joints.items
+-- there are as many counts as the planner has joints
+abbrev pub HasCountsOf : Planner → Known → Type 0
+HasCountsOf planner known = length known.counts.items ≡ length planner.joints.items
 
 -- v is above one of these nodes
 abbrev pub IsAboveOne : List Family → NodeSet → ℕ → Type 0
@@ -128,10 +134,10 @@ abbrev pub scopes_of_tables : List NodeView → List ℕ → Option ℕ → List
 scopes_of_tables nodes list utility =
     map (family_test nodes) list ++ map (parents_test nodes) (option_to_list utility)
 
--- so start the tables of these nodes and that of the utility
-abbrev pub IsStartOf :
-    List NodeView → Planner → NodeSet → Option ℕ → NodeSet → Start → Type 0
-IsStartOf nodes planner ruled utility waiting start =
+-- the tables of these nodes and that of the utility are begun
+abbrev pub IsBegun :
+    DiagramView → Planner → NodeSet → Option ℕ → NodeSet → Start → Type 0
+IsBegun d planner ruled utility waiting start =
     (list : List ℕ) → IsListOf ruled list
-    → IsStarted nodes planner.states.items (IsIn waiting) (scopes_of_tables nodes list utility)
+    → IsStarted d.nodes planner.states.items (IsIn waiting) (scopes_of_tables d.nodes list utility)
     start

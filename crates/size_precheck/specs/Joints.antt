@@ -3,11 +3,12 @@ use Rattle.std.specs.Prelude.{◌==◌, ◌||◌, ◌≤◌, slice_index, sum_by
 use Rattle.maid_model.specs.declared.limits.TheConstants.{COUNT_END}
 use Rattle.maid_model.specs.Nodes.{states_of, parents_of}
 use Rattle.plan_sums.specs.Plans.{has}
-use Rattle.maid_model.specs.Views.{NodeView}
+use Rattle.maid_model.specs.Views.{NodeView, DiagramView}
 use Rattle.node_sets.specs.declared.sets.NodeSet.{NodeSet}
 use Rattle.node_sets.specs.declared.sets.TheConstants.{MOST_NODES}
 use Rattle.node_sets.specs.Sets.{holds, IsIn}
 use Rattle.size_precheck.specs.declared.joints.Joint.{Joint}
+use Rattle.size_precheck.specs.declared.joints.Known.{Known}
 use Rattle.size_precheck.specs.declared.joints.Table.{Table}
 use Rattle.ring_sums.specs.Tables.{joined_without, scopes_one, scopes_after}
 use Rattle.size_precheck.specs.declared.simulation.Start.{Start}
@@ -40,10 +41,11 @@ member_count set = members_below (holds set) MOST_NODES
 unfoldable pub counted_over : List ℕ → (ℕ → Bool) → ℕ
 counted_over states scope = stopped (product_below (factor states scope) MOST_NODES)
 
--- the set without v, and with v
+-- the set without v
 abbrev pub IsWithout : NodeSet → NodeSet → ℕ → Type 0
 IsWithout before after v = (x : ℕ) → IsIn after x ↔ (IsIn before x × (x ≡ v → ⊥))
 
+-- the set with v
 abbrev pub IsWith : NodeSet → NodeSet → ℕ → Type 0
 IsWith before after v = (x : ℕ) → IsIn after x ↔ (IsIn before x ⊎ (x ≡ v))
 
@@ -75,6 +77,7 @@ pub record AreStates (nodes : List NodeView) (states : List ℕ) : Type 0 where
 abbrev pub no_joint : Joint
 no_joint = record { set = record { words = [] }; tables = record { words = [] } }
 
+-- y's joint
 abbrev pub joint_at : List Joint → ℕ → Joint
 joint_at joints y = slice_index_or joints y no_joint
 
@@ -94,11 +97,22 @@ abbrev pub IsPutToAll : NodeSet → Table → NodeSet → NodeSet → List Joint
 IsPutToAll set table gone out before after =
     (y : ℕ) → IsIn set y → IsPutAt table gone out before after y
 
--- P holds of each element, or of some
+-- in what is known of each node the table is put to y
+abbrev pub IsPutIn : Table → NodeSet → NodeSet → Known → Known → ℕ → Type 0
+IsPutIn table gone out before after y =
+    IsPutAt table gone out before.joints.items after.joints.items y
+
+-- and to each of these nodes
+abbrev pub ArePutIn : NodeSet → Table → NodeSet → NodeSet → Known → Known → Type 0
+ArePutIn set table gone out before after =
+    (y : ℕ) → IsIn set y → IsPutIn table gone out before after y
+
+-- P holds of each element
 abbrev pub Each : {X : Type 0} → (X → Type 0) → List X → Type 0
 Each P [] = Unit {0}
 Each P (x ∷ xs) = P x × Each P xs
 
+-- P holds of some element
 abbrev pub SomeOf : {X : Type 0} → (X → Type 0) → List X → Type 0
 SomeOf P [] = ⊥
 SomeOf P (x ∷ xs) = P x ⊎ SomeOf P xs
@@ -124,31 +138,48 @@ abbrev pub IsCounted : List ℕ → List Joint → List ℕ → ℕ → Type 0
 IsCounted states joints cells y =
     slice_index cells y ≡ counted_over states (holds (joint_at joints y).set)
 
+-- so it is in what is known of each node
+abbrev pub IsCountedIn : List ℕ → Known → ℕ → Type 0
+IsCountedIn states known y = IsCounted states known.joints.items known.counts.items y
+
 -- where the cells were counted at y, they are counted after
-abbrev pub StaysCounted : List ℕ → List Joint → List ℕ → List Joint → List ℕ → ℕ → Type 0
-StaysCounted states before cells after recounted y =
-    IsCounted states before cells y → IsCounted states after recounted y
+abbrev pub StaysCounted : List ℕ → Known → Known → ℕ → Type 0
+StaysCounted states before after y = IsCountedIn states before y → IsCountedIn states after y
 
 -- and so at each of these nodes
-abbrev pub AllStayCounted :
-    List ℕ → NodeSet → List Joint → List ℕ → List Joint → List ℕ → Type 0
-AllStayCounted states set before cells after recounted =
-    (y : ℕ) → IsIn set y → StaysCounted states before cells after recounted y
+abbrev pub AllStayCounted : List ℕ → NodeSet → Known → Known → Type 0
+AllStayCounted states set before after =
+    (y : ℕ) → IsIn set y → StaysCounted states before after y
 
 -- the cells of all joined sets are counted
 abbrev pub AreCounted : List ℕ → List Joint → List ℕ → Type 0
 AreCounted states joints cells = (y : ℕ) → y < length joints → IsCounted states joints cells y
 
--- the cells of all other nodes are as they were
-abbrev pub KeepsOtherCells : NodeSet → List ℕ → List ℕ → Type 0
-KeepsOtherCells set before after =
-    (y : ℕ) → (IsIn set y → ⊥) → slice_index after y ≡ slice_index before y
+-- all joints but y's are as they were
+abbrev pub KeepsOtherJoint : ℕ → Known → Known → Type 0
+KeepsOtherJoint y before after =
+    (x : ℕ) → (x ≡ y → ⊥) → joint_at after.joints.items x ≡ joint_at before.joints.items x
+
+-- all counts but y's are as they were
+abbrev pub KeepsOtherCount : ℕ → Known → Known → Type 0
+KeepsOtherCount y before after =
+    (x : ℕ) → (x ≡ y → ⊥) → slice_index after.counts.items x ≡ slice_index before.counts.items x
+
+-- the joints of all nodes but these are as they were
+abbrev pub KeepsOtherJoints : NodeSet → Known → Known → Type 0
+KeepsOtherJoints set before after =
+    (y : ℕ) → (IsIn set y → ⊥) → joint_at after.joints.items y ≡ joint_at before.joints.items y
+
+-- the counts of all nodes but these are as they were
+abbrev pub KeepsOtherCounts : NodeSet → Known → Known → Type 0
+KeepsOtherCounts set before after =
+    (y : ℕ) → (IsIn set y → ⊥) → slice_index after.counts.items y ≡ slice_index before.counts.items y
 
 -- where the joints have the live tables, they have this one more
-abbrev pub TellsOneMore : NodeSet → Table → List Joint → List Joint → Type 0
+abbrev pub TellsOneMore : NodeSet → Table → Known → Known → Type 0
 TellsOneMore waiting table before after =
-    (live : List Table) (y : ℕ) → IsIn waiting y → Tells live y (joint_at before y)
-    → Tells (live ++ table ∷ []) y (joint_at after y)
+    (live : List Table) (y : ℕ) → IsIn waiting y → Tells live y (joint_at before.joints.items y)
+    → Tells (live ++ table ∷ []) y (joint_at after.joints.items y)
 
 -- the scopes of these tables
 abbrev pub tests_of : List Table → List (ℕ → Bool)
@@ -175,12 +206,11 @@ pub record IsStep
   pub joined : made.tables ≡ length (holding v (tests_of before))
 
 -- what is known of the nodes that wait and of v becomes what a step at v makes of it, whichever tables are live
-abbrev pub MakesStep :
-    List ℕ → NodeSet → ℕ → List Joint → List ℕ → List Joint → List ℕ → Made → Type 0
-MakesStep states waiting v before cells after recounted made =
+abbrev pub MakesStep : List ℕ → NodeSet → ℕ → Known → Known → Made → Type 0
+MakesStep states waiting v before after made =
     (nodes : List NodeView) (live : List Table) → AreStates nodes states
-    → Stands states (λ y. IsIn waiting y ⊎ (y ≡ v)) live before cells
-    → IsStep nodes states (IsIn waiting) v live after recounted made
+    → Stands states (λ y. IsIn waiting y ⊎ (y ≡ v)) live before.joints.items before.counts.items
+    → IsStep nodes states (IsIn waiting) v live after.joints.items after.counts.items made
 
 -- before the first step: what is known of the nodes that wait is right for tables of these scopes, which are counted
 pub record IsStarted
@@ -189,9 +219,9 @@ pub record IsStarted
   pub are_states : AreStates nodes states
   pub tables : List Table
   pub are_live : AreLive Waiting tables
-  pub tells : (y : ℕ) → Waiting y → Tells tables y (joint_at start.joints.items y)
+  pub tells : (y : ℕ) → Waiting y → Tells tables y (joint_at start.known.joints.items y)
   pub counted :
-      (y : ℕ) → Waiting y → IsCounted states start.joints.items start.counts.items y
+      (y : ℕ) → Waiting y → IsCounted states start.known.joints.items start.known.counts.items y
   pub scopes_are : tests_of tables ≡ scopes
   pub live : start.live ≡ length scopes
   pub cells : start.cells ≡ stopped (sum_by (λ s. counted_cells nodes s) scopes)
@@ -205,6 +235,19 @@ pub record IsRun
     pub cells : run.cells ≡ stopped (sum_by (λ s. counted_cells nodes s) scopes
         + made_cells nodes run.steps.items scopes)
     pub work : run.work ≡ stopped (steps_work nodes run.steps.items scopes)
+
+-- before the first step there is a joint for each node
+abbrev pub HasJointForEach : DiagramView → Start → Type 0
+HasJointForEach d start = length start.known.joints.items ≡ length d.nodes
+
+-- and a count for each joint
+abbrev pub HasCountForEach : Start → Type 0
+HasCountForEach start = length start.known.counts.items ≡ length start.known.joints.items
+
+-- what is known before the first step tells of each of these nodes
+abbrev pub AreKnownTo : Start → NodeSet → Type 0
+AreKnownTo start set =
+    (y : ℕ) → IsIn set y → (y < length start.known.joints.items) × (y < MOST_NODES)
 
 -- some tables of some nodes start so
 abbrev pub IsStartOfSome : List ℕ → NodeSet → Start → Type 0

@@ -81,10 +81,11 @@ pub record IsPlanned (nodes : List NodeView) (plan : PlanView) (result : SizedPl
   pub asked : CanBePlanned nodes plan
   pub made : IsMade nodes plan result
 
--- the plan of a decision's rows may be asked for, and that of its states for a goal
+-- the plan of a decision's rows may be asked for
 abbrev pub CanPlanRows : List NodeView → ℕ → Type 0
 CanPlanRows nodes d = CanBePlanned nodes (row_plan nodes d)
 
+-- the plan of a decision's states for a goal may be asked for
 abbrev pub CanPlanGain : List NodeView → ℕ → ℕ → Type 0
 CanPlanGain nodes d u = CanBePlanned nodes (gain_plan nodes d u)
 
@@ -93,10 +94,11 @@ abbrev pub IsGainPlan : List NodeView → ℕ → ℕ → SizedPlan → Type 0
 IsGainPlan nodes d u made = IsMade nodes (gain_plan nodes d u) made
 
 -- ---- a run
--- the utilities of the decision's agent that descend from it
+-- u is a goal of the decision: a utility of its agent that descends from it
 abbrev pub is_goal : List NodeView → ℕ → ℕ → Bool
 is_goal nodes d u = descends nodes d u && is_utility_of nodes (agent_of nodes d) u
 
+-- the decision's goals in text order
 abbrev pub goal_list : List NodeView → ℕ → List ℕ
 goal_list nodes d = filter (λ u. is_goal nodes d u) (numbers_of nodes)
 
@@ -111,6 +113,7 @@ pub record ArePlansOf
   pub of_rows : IsPlanned nodes (row_plan nodes d) rows
   pub of_goals : ArePlansOfGoals nodes d goals
 
+-- the utilities in text order
 abbrev pub utility_list : List NodeView → List ℕ
 utility_list nodes = filter (λ u. is_utility (node_at nodes u).kind) (numbers_of nodes)
 

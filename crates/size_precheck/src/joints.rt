@@ -1,6 +1,6 @@
 //! What is known of each node while the tables of a plan are simulated.
 
-ghost use Rattle.std.specs.Prelude.{◌≡◌, ℕ, ◌<◌, length};
+ghost use Rattle.std.specs.Prelude.{◌≡◌, ℕ, ◌<◌, length, slice_index};
 ghost use Rattle.node_sets.specs.declared.sets.TheConstants.{MOST_NODES};
 ghost use Rattle.node_sets.specs.Sets.{IsIn};
 ghost use Rattle.size_precheck.specs.Joints.{joint_at, IsPut, IsPutToAll};
@@ -47,6 +47,15 @@ impl Joint {
     }
 }
 
+/// What is known of each node where some tables are live. What it says of nodes that do not wait does not count.
+#[derive(Drop)]
+pub struct Known {
+    /// For each node the live tables that hold it.
+    pub joints: Vec<Joint>,
+    /// The cells of their joined sets.
+    pub counts: Vec<u64>,
+}
+
 /// Puts a table to each of these nodes, after the tables `gone` and the nodes `out` have left.
 pub fn put_table(joints: &mut [Joint], at: &NodeSet, table: &Table, gone: &NodeSet, out: &NodeSet)
     requires tag { table.now.tag < MOST_NODES }
@@ -62,10 +71,18 @@ pub fn put_table(joints: &mut [Joint], at: &NodeSet, table: &Table, gone: &NodeS
     }
 }
 
-/// What is known of a node.
-pub fn joint_of(joints: &[Joint], v: usize) -> Joint
-    requires { v < length joints.now }
-    ensures { result ≡ joint_at joints.now v }
+/// The live tables that hold the node.
+pub fn joint_of(known: &Known, v: usize) -> Joint
+    requires { v < length known.now.joints.items }
+    ensures { result ≡ joint_at known.now.joints.items v }
 {
-    joints[v]
+    known.joints[v]
+}
+
+/// The cells of the node's joined set.
+pub fn count_of(known: &Known, v: usize) -> u64
+    requires { v < length known.now.counts.items }
+    ensures { result ≡ slice_index known.now.counts.items v }
+{
+    known.counts[v]
 }

@@ -1,7 +1,7 @@
 //! Plans that are kept for later runs.
 
-ghost use Rattle.std.specs.Prelude.{◌≡◌, ◌<◌, All, length, IsTrue, IfOk};
-ghost use Rattle.maid_model.specs.Nodes.{IsDecision, is_decision, node_at};
+ghost use Rattle.std.specs.Prelude.{All, IfOk};
+ghost use Rattle.maid_model.specs.Nodes.{IsDecision};
 ghost use Rattle.size_precheck.specs.Decisions.{AreDecisionPlans, ArePlans};
 ghost use Rattle.size_precheck.specs.Families.{IsPlanner};
 ghost use Rattle.size_precheck.specs.Kept.{FollowDecisions, IsFoundOf, IsKept, IsKeptRun};
@@ -11,7 +11,7 @@ use crate::decisions::{DecisionPlans, decision_by};
 use crate::planners::Planner;
 use crate::plans::Plan;
 use crate::worths::worths_by;
-use maid_model::{Diagram, Kind};
+use maid_model::Diagram;
 use std::alloc::{AllocError, Global};
 
 /// A decision with its plans. They are also those of a diagram in which other nodes have become decisions, as
@@ -34,18 +34,6 @@ pub struct KeptRun {
     pub worths: Vec<Plan>,
 }
 
-/// Whether the node is a decision.
-fn is_decision(diagram: &Diagram, v: usize) -> bool
-    requires { v < length diagram.now.nodes }
-    ensures kind { result ≡ is_decision (node_at diagram.now.nodes v).kind }
-    ensures decision { IsTrue result → IsDecision diagram.now.nodes v }
-{
-    match diagram.kind(v) {
-        Kind::Decision => true,
-        Kind::Chance | Kind::Utility => false,
-    }
-}
-
 /// The plans of each decision of the diagram, in text order, by what is known of it.
 fn keep_decisions(
     alloc: Global,
@@ -58,7 +46,7 @@ fn keep_decisions(
 {
     let mut kept = Vec::new(alloc);
     for decision in 0..diagram.count() {
-        if is_decision(diagram, decision) {
+        if diagram.is_decision(decision) {
             let plans = decision_by(alloc, diagram, planner, decision)?;
             kept.push(KeptPlans { decision, plans })?;
         }

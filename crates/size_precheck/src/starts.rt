@@ -1,31 +1,23 @@
 //! The nodes of a plan and its first tables.
 
-ghost use Rattle.std.specs.Prelude.{◌≡◌, ◌↔◌, ℕ, ◌<◌, ◌≤◌, ◌+◌, length, slice_index, Contains, Some, None, IsTrue, IfOk, OnOk};
+ghost use Rattle.std.specs.Prelude.{◌≡◌, ◌↔◌, ℕ, ◌<◌, ◌≤◌, ◌+◌, length, Contains, Some, None, IsTrue, IfOk, OnOk};
 ghost use Rattle.maid_model.specs.Diagrams.{IsDiagram};
 ghost use Rattle.maid_model.specs.Nodes.{parents_of};
 ghost use Rattle.node_sets.specs.declared.sets.TheConstants.{MOST_NODES};
 ghost use Rattle.node_sets.specs.Sets.{IsIn};
 ghost use Rattle.plan_sums.specs.Sizes.{IsPlan};
-ghost use Rattle.size_precheck.specs.Families.{AreAbove, AreNarrowed, HasCountsOf, HasJointsOf, IsAboveOne, IsInTableOf, IsNarrowed, IsNarrowedFrom, IsOfFamily, IsPlanner, IsRuled, IsStartOf};
-ghost use Rattle.size_precheck.specs.Joints.{joint_at, AllStayCounted, AreStates, TellsOneMore};
+ghost use Rattle.size_precheck.specs.Families.{AreAbove, AreNarrowed, HasCountsOf, HasJointsOf, IsAboveOne, IsInTableOf, IsNarrowedFrom, IsNarrowedIn, IsOfFamily, IsPlanner, IsRuled, IsBegun};
+ghost use Rattle.size_precheck.specs.Joints.{AllStayCounted, AreStates, HasCountForEach, HasJointForEach, KeepsOtherCount, KeepsOtherJoint, TellsOneMore};
 ghost use Rattle.size_precheck.specs.Sizes.{plan_of, IsOfPlan};
 
 use crate::counts::{add, count_cells};
-use crate::joints::{Joint, Table, joint_of};
+use crate::joints::{Joint, Known, Table, joint_of};
 use crate::planners::{Family, Planner};
 use crate::simulation::{Start, put_first};
 use maid_model::{Diagram, MOST_NODES};
 use node_sets::NodeSet;
 use plan_sums::plan_scopes;
 use std::alloc::{AllocError, Global};
-
-/// What is known of each node where some tables are live.
-#[derive(Drop)]
-struct Narrowed {
-    joints: Vec<Joint>,
-    /// The cells of their joined sets.
-    counts: Vec<u64>,
-}
 
 /// The counts of states of all numbers, 1 where there is no node.
 pub fn list_states(alloc: Global, diagram: &Diagram) -> Result<Vec<u64>, AllocError>
@@ -129,55 +121,46 @@ fn has_no_other(joint: &Joint, tables: &NodeSet) -> bool
 }
 
 /// Leaves of y's tables those of these nodes alone.
-fn narrow(
-    states: &[u64],
-    families: &[Family],
-    joints: &mut [Joint],
-    counts: &mut [u64],
-    ruled: &NodeSet,
-    y: usize,
-)
+fn narrow(states: &[u64], families: &[Family], known: &mut Known, ruled: &NodeSet, y: usize)
     requires states { length states.now ≡ MOST_NODES }
     requires ruled { (v : ℕ) → IsIn ruled.now v → v < length families.now }
-    requires here { y < length joints.old }
-    requires len { length counts.old ≡ length joints.old }
-    ensures joints_len { length joints.new ≡ length joints.old }
-    ensures counts_len { length counts.new ≡ length counts.old }
-    ensures narrowed { IsNarrowed states.now families.now joints.old counts.old ruled.now y
-        joints.new counts.new }
-    ensures same { (x : ℕ) → (x ≡ y → ⊥) → joint_at joints.new x ≡ joint_at joints.old x }
-    ensures kept { (x : ℕ) → (x ≡ y → ⊥) → slice_index counts.new x ≡ slice_index counts.old x }
+    requires here { y < length known.old.joints.items }
+    requires len { length known.old.counts.items ≡ length known.old.joints.items }
+    ensures joints_len { length known.new.joints.items ≡ length known.old.joints.items }
+    ensures counts_len { length known.new.counts.items ≡ length known.old.counts.items }
+    ensures tables { IsNarrowedIn states.now families.now ruled.now y known.old known.new }
+    ensures same { KeepsOtherJoint y known.old known.new }
+    ensures kept { KeepsOtherCount y known.old known.new }
 {
-    let joint = joint_of(joints, y);
+    let joint = joint_of(known, y);
     if has_no_other(&joint, ruled) {
         return;
     }
     let tables = joint.tables.intersection(ruled);
     let set = nodes_of_tables(families, &tables);
-    counts[y] = count_cells(states, &set);
-    joints[y] = Joint { set, tables };
+    known.counts[y] = count_cells(states, &set);
+    known.joints[y] = Joint { set, tables };
 }
 
 /// Leaves of the tables of the nodes that wait those of these nodes alone.
 fn narrow_all(
     states: &[u64],
     families: &[Family],
-    joints: &mut [Joint],
-    counts: &mut [u64],
+    known: &mut Known,
     ruled: &NodeSet,
     waiting: &NodeSet,
 )
     requires states { length states.now ≡ MOST_NODES }
     requires ruled { (v : ℕ) → IsIn ruled.now v → v < length families.now }
-    requires within { (y : ℕ) → IsIn waiting.now y → y < length joints.old }
-    requires len { length counts.old ≡ length joints.old }
-    ensures joints_len { length joints.new ≡ length joints.old }
-    ensures counts_len { length counts.new ≡ length counts.old }
-    ensures narrowed { AreNarrowed states.now families.now ruled.now waiting.now joints.old counts.old joints.new counts.new }
+    requires within { (y : ℕ) → IsIn waiting.now y → y < length known.old.joints.items }
+    requires len { length known.old.counts.items ≡ length known.old.joints.items }
+    ensures joints_len { length known.new.joints.items ≡ length known.old.joints.items }
+    ensures counts_len { length known.new.counts.items ≡ length known.old.counts.items }
+    ensures tables { AreNarrowed states.now families.now ruled.now waiting.now known.old known.new }
 {
     let mut from = 0;
     'nodes: while let Some(y) = waiting.first_from(from) {
-        narrow(states, families, joints, counts, ruled, y);
+        narrow(states, families, known, ruled, y);
         from = y + 1;
     }
 }
@@ -188,7 +171,7 @@ fn list_narrowed(
     planner: &Planner,
     ruled: &NodeSet,
     waiting: &NodeSet,
-) -> Result<Narrowed, AllocError>
+) -> Result<Known, AllocError>
     requires states { length planner.now.states.items ≡ MOST_NODES }
     requires len { length planner.now.counts.items ≡ length planner.now.joints.items }
     requires ruled { (v : ℕ) → IsIn ruled.now v → v < length planner.now.families.items }
@@ -197,39 +180,34 @@ fn list_narrowed(
     ensures counts_len { IfOk result (HasCountsOf planner.now) }
     ensures narrowed { IfOk result (IsNarrowedFrom planner.now ruled.now waiting.now) }
 {
-    let mut joints = Vec::from_slice(alloc, &planner.joints)?;
-    let mut counts = Vec::from_slice(alloc, &planner.counts)?;
+    let mut known = Known {
+        joints: Vec::from_slice(alloc, &planner.joints)?,
+        counts: Vec::from_slice(alloc, &planner.counts)?,
+    };
     narrow_all(
         &planner.states,
         &planner.families,
-        &mut joints,
-        &mut counts,
+        &mut known,
         ruled,
         waiting,
     );
-    Ok(Narrowed { joints, counts })
+    Ok(known)
 }
 
 /// Puts the table of the utility.
-fn put_utility(
-    states: &[u64],
-    joints: &mut [Joint],
-    counts: &mut [u64],
-    waiting: &NodeSet,
-    table: &Table,
-)
+fn put_utility(states: &[u64], known: &mut Known, waiting: &NodeSet, table: &Table)
     requires states { length states.now ≡ MOST_NODES }
     requires tag { table.now.tag < MOST_NODES }
-    requires len { length counts.old ≡ length joints.old }
-    requires within { (y : ℕ) → IsIn waiting.now y → y < length joints.old }
-    ensures len { length joints.new ≡ length joints.old }
-    ensures counts_len { length counts.new ≡ length counts.old }
-    ensures tells { TellsOneMore waiting.now table.now joints.old joints.new }
-    ensures counted { AllStayCounted states.now waiting.now joints.old counts.old joints.new counts.new }
+    requires len { length known.old.counts.items ≡ length known.old.joints.items }
+    requires within { (y : ℕ) → IsIn waiting.now y → y < length known.old.joints.items }
+    ensures len { length known.new.joints.items ≡ length known.old.joints.items }
+    ensures counts_len { length known.new.counts.items ≡ length known.old.counts.items }
+    ensures tells { TellsOneMore waiting.now table.now known.old known.new }
+    ensures counted { AllStayCounted states.now waiting.now known.old known.new }
 {
     let none = NodeSet::empty();
     let at = table.scope.intersection(waiting);
-    put_first(states, joints, counts, &at, table, &none);
+    put_first(states, known, &at, table, &none);
 }
 
 /// The table of a chance or decision node: over the node and its parents.
@@ -272,17 +250,14 @@ pub fn put_all_first(
     requires known { (u : ℕ) → utility ≡ Some u → u < length diagram.now.nodes }
     requires unruled { (u : ℕ) → utility ≡ Some u → IsIn ruled.now u → ⊥ }
     requires kept { (u : ℕ) → utility ≡ Some u → IsIn waiting.now u → ⊥ }
-    ensures len { IfOk result (λ start. length start.joints.items ≡ length diagram.now.nodes) }
-    ensures counts { IfOk result (λ start. length start.counts.items ≡ length start.joints.items) }
+    ensures len { IfOk result (HasJointForEach diagram.now) }
+    ensures counts { IfOk result HasCountForEach }
     ensures few { IfOk result (λ start. start.live ≤ MOST_NODES + 1) }
-    ensures started { IfOk result (IsStartOf diagram.now.nodes planner.now ruled.now utility waiting.now) }
+    ensures started { IfOk result (IsBegun diagram.now planner.now ruled.now utility waiting.now) }
 {
     let states = planner.states.as_slice();
     let families = planner.families.as_slice();
-    let Narrowed {
-        mut joints,
-        mut counts,
-    } = list_narrowed(alloc, planner, ruled, waiting)?;
+    let mut known = list_narrowed(alloc, planner, ruled, waiting)?;
     let mut live = 0;
     let mut cells = 0;
     let mut from = 0;
@@ -293,14 +268,9 @@ pub fn put_all_first(
     }
     if let Some(u) = utility {
         let table = utility_table(diagram, u);
-        put_utility(states, &mut joints, &mut counts, waiting, &table);
+        put_utility(states, &mut known, waiting, &table);
         cells = add(cells, count_cells(states, &table.scope));
         live += 1;
     }
-    Ok(Start {
-        joints,
-        counts,
-        live,
-        cells,
-    })
+    Ok(Start { known, live, cells })
 }

@@ -12,7 +12,8 @@ use Rattle.reach_laws.specs.Threshold.{IsAbove, IsAtLeast, IsAtMost, IsBeaten, I
 use Rattle.reach_laws.proofs.Holding.{most_there, most_back, least_there, least_back, above_back, below_back}
 use Rattle.threshold.specs.declared.held.Held.{Held}
 use Rattle.threshold.specs.declared.weights.Place.{Place}
-use Rattle.threshold.specs.Answers.{HoldsAtAll, HoldsAtFraction, IsAnswerOf, IsHeld, decided}
+use Rattle.rule_solver.specs.Bases.{decision_at}
+use Rattle.threshold.specs.Answers.{HoldsAtAll, HoldsAtFraction, IsAnswerOf, IsHeld}
 use Rattle.threshold.specs.Held.{HoldsSomewhere, IsRange, IsWithin, Narrows}
 use Rattle.threshold.proofs.Holding.{answer_decides, decision_in}
 use Rattle.threshold.proofs.Narrowing.{narrows_more, narrows_none}
@@ -22,10 +23,10 @@ use Rattle.threshold.proofs.Narrowing.{narrows_more, narrows_none}
 pub record HeldSoFar (nodes : List NodeView) (s : List RuleView) (place : Place) (answers : List AnswerView) (n : ℕ) (held : Held) : Type 0 where
   pub start : Held
   pub all : (num den : ℕ) → num ≤ den → IsWithin start num den
-  pub narrows : Narrows (λ num den. (i : ℕ) → i < n → HoldsAtFraction nodes s place (decided answers i) num den) start held
+  pub narrows : Narrows (λ num den. (i : ℕ) → i < n → HoldsAtFraction nodes s place (decision_at answers i) num den) start held
 
 pub held_start : (nodes : List NodeView) (s : List RuleView) (place : Place) (answers : List AnswerView) (held : Held) → IsRange held → ((num den : ℕ) → num ≤ den → IsWithin held num den) → HeldSoFar nodes s place answers 0 held
-held_start nodes s place answers held r all = record { start = held; all = all; narrows = narrows_none (λ i. HoldsAtFraction nodes s place (decided answers i)) held r }
+held_start nodes s place answers held r all = record { start = held; all = all; narrows = narrows_none (λ i. HoldsAtFraction nodes s place (decision_at answers i)) held r }
 
 module _ (d : DiagramView) (solved : SolvedView) (place : Place) (f : FitsDiagram d solved) where
   -- the answer at a place of the list
@@ -37,12 +38,12 @@ module _ (d : DiagramView) (solved : SolvedView) (place : Place) (f : FitsDiagra
   held_more n before after answer l e so step = record {
     start = so.start;
     all = so.all;
-    narrows = narrows_more (λ i. HoldsAtFraction d.nodes (answered d solved) place (decided solved.answers i)) n so.start before after so.narrows
+    narrows = narrows_more (λ i. HoldsAtFraction d.nodes (answered d solved) place (decision_at solved.answers i)) n so.start before after so.narrows
         (subst (λ v. Narrows (HoldsAtFraction d.nodes (answered d solved) place v) before after) (sym (decision_in solved.answers n answer l (sym e))) step);
   }
 
   -- each decision has its answer
-  pub answered_by : (v : ℕ) → IsDecision d.nodes v → (i : ℕ) × (i < length solved.answers) × (decided solved.answers i ≡ v)
+  pub answered_by : (v : ℕ) → IsDecision d.nodes v → (i : ℕ) × (i < length solved.answers) × (decision_at solved.answers i ≡ v)
   answered_by v k =
       let c = f.all v k in
       let l : c.0 < length solved.answers = subst (λ m. c.0 < m) (sym (ap length f.follow) ∙ length-map solved.answers (λ (a : AnswerView). a.decision)) c.1 in
@@ -52,14 +53,14 @@ module _ (d : DiagramView) (solved : SolvedView) (place : Place) (f : FitsDiagra
   held_end n held so l m = record {
     within = λ num den p q. (
       (λ w v k. let a = answered_by v k in subst (λ u. HoldsAtFraction d.nodes (answered d solved) place u num den) a.2 (((so.narrows.within num den p q).0 w).1 a.0 (less a.0 a.1))),
-      (λ h. (so.narrows.within num den p q).1 (so.all num den q, λ i o. h (decided solved.answers i) (decides i o))),
+      (λ h. (so.narrows.within num den p q).1 (so.all num den q, λ i o. h (decision_at solved.answers i) (decides i o))),
     );
   }
     where
       less : (i : ℕ) → i < length solved.answers → i < n
       less i o = omega arith
 
-      decides : (i : ℕ) → i < n → IsDecision d.nodes (decided solved.answers i)
+      decides : (i : ℕ) → i < n → IsDecision d.nodes (decision_at solved.answers i)
       decides i o =
           let inside : i < length solved.answers = omega arith in
           let answer = slice_index_or solved.answers i (record { decision = 0; rows = [] }) in

@@ -1,12 +1,16 @@
 -- The fractions at which the answers hold. Only private functions cite it.
-use Rattle.std.specs.Prelude.{◌≡◌, ◌↔◌, ◌⊎◌, ℕ, ◌<◌, ◌≤◌, true, is_some, List, length, map, slice_index, slice_index_or, pos, ◌<ℤ◌}
+use Rattle.std.specs.Prelude.{◌≡◌, ◌↔◌, ◌⊎◌, ℕ, ◌<◌, ◌≤◌, true, is_some, List, length, slice_index_or, pos, ◌<ℤ◌}
 use Rattle.std.specs.List.{list_all}
 use Rattle.maid_model.specs.Answers.{IsAnswer, answered}
 use Rattle.maid_model.specs.Diagrams.{IsDiagram}
 use Rattle.maid_model.specs.Nodes.{IsDecision}
 use Rattle.maid_model.specs.Views.{NodeView, DiagramView, RuleView, AnswerView, SolvedView}
 use Rattle.reach_laws.specs.Threshold.{HoldsAt, IsMoved, cell_at}
+use Rattle.rule_solver.specs.declared.spaces.Workspaces.{Workspaces}
 use Rattle.rule_solver.specs.Faults.{IsSmallEnough}
+use Rattle.rule_solver.specs.Rooms.{AreReadyForDecision, AreReadyForRun}
+use Rattle.size_precheck.specs.declared.decisions.DecisionPlans.{DecisionPlans}
+use Rattle.size_precheck.specs.Decisions.{AreDecisionPlans, ArePlans}
 use Rattle.threshold.specs.declared.answers.Question.{Question}
 use Rattle.threshold.specs.declared.held.Held.{Held}
 use Rattle.threshold.specs.declared.weights.Place.{Place}
@@ -43,10 +47,6 @@ pub record IsHeld
   pub within :
       (num den : ℕ) → 0 < den → num ≤ den → IsWithin held num den ↔ HoldsAtAll nodes s place num den
 
--- the decision of the answer i
-abbrev pub decided : List AnswerView → ℕ → ℕ
-decided answers i = slice_index (map (λ a. a.decision) answers) i
-
 -- the answer stands among those of the report
 abbrev pub IsAnswerOf : SolvedView → AnswerView → Type 0
 IsAnswerOf solved answer =
@@ -63,6 +63,24 @@ pub record Stands (q : Question) (answer : AnswerView) : Type 0 where
   pub free : IsFree q.controlled answer.decision q.place.node
   pub reached : (pos 0 <ℤ cell_at q.diagram.now.nodes q.place.node q.place.row q.place.state)
       ⊎ (list_all (λ row. is_some row.worth) answer.rows ≡ true)
+
+-- these are the plans of the answer's decision
+abbrev pub ArePlansOfAnswer : Question → AnswerView → DecisionPlans → Type 0
+ArePlansOfAnswer q answer plans =
+    AreDecisionPlans q.diagram.now.nodes answer.decision plans
+
+-- these are the plans of the decisions in the order of solving
+abbrev pub ArePlansInOrder : Question → List DecisionPlans → Type 0
+ArePlansInOrder q plans = ArePlans q.diagram.now.nodes q.solved.now.order plans
+
+-- the workspaces are ready, and have room for those plans
+abbrev pub AreReadyForAnswer : Question → AnswerView → Workspaces → Type 0
+AreReadyForAnswer q answer spaces =
+    AreReadyForDecision q.diagram.now.nodes answer.decision spaces
+
+-- and for all plans of a run
+abbrev pub AreReadyForAll : Question → Workspaces → Type 0
+AreReadyForAll q spaces = AreReadyForRun q.diagram.now.nodes spaces
 
 -- the answer holds at the fraction
 abbrev pub HoldsAnswer : Question → AnswerView → ℕ → ℕ → Type 0

@@ -7,10 +7,11 @@ use Rattle.rule_solver.specs.Rows.{gain_in}
 use Rattle.threshold.specs.declared.held.Held.{Held}
 use Rattle.threshold.specs.declared.held.Part.{Part}
 
--- the fraction num / den is at least the part, or at most
+-- the fraction num / den is at least the part
 abbrev pub IsFrom : Part → ℕ → ℕ → Type 0
 IsFrom part num den = part.num * den ≤ num * part.den
 
+-- the fraction num / den is at most the part
 abbrev pub IsUpTo : Part → ℕ → ℕ → Type 0
 IsUpTo part num den = num * part.den ≤ part.num * den
 

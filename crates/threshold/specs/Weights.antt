@@ -41,10 +41,11 @@ abbrev pub new_table : List NodeView → Place → Scales → List ℤ
 new_table nodes place scales =
     new_cells nodes place scales (rows_of nodes place.node * states_of nodes place.node)
 
--- the diagram with the new table
+-- the nodes with the new table
 abbrev pub rewritten : List NodeView → Place → Scales → List NodeView
 rewritten nodes place scales = with_cells nodes place.node (new_table nodes place scales)
 
+-- the diagram with the new table
 abbrev pub rewritten_diagram : DiagramView → Place → Scales → DiagramView
 rewritten_diagram d place scales = with_nodes d (rewritten d.nodes place scales)
 

@@ -1,12 +1,11 @@
 //! The fractions at which all answers hold.
 
-ghost use Rattle.std.specs.Prelude.{◌≡◌, ◌↔◌, ℕ, All, IfOk, IsTrue, OnOk};
+ghost use Rattle.std.specs.Prelude.{◌≡◌, ◌↔◌, All, IfOk, IsTrue, OnOk};
 ghost use Rattle.maid_model.specs.Answers.{answered};
 ghost use Rattle.relevance_graph.specs.Relevant.{IsRelevance};
-ghost use Rattle.rule_solver.specs.Rooms.{AreReadyForDecision, AreReady, HasRoom};
-ghost use Rattle.size_precheck.specs.Decisions.{AreDecisionPlans, ArePlans};
-ghost use Rattle.threshold.specs.Answers.{HoldsAllAnswers, HoldsAnswer, IsAnswerOf, IsAsked};
-ghost use Rattle.threshold.specs.Answers.{IsHeld, IsSetting, Stands};
+ghost use Rattle.threshold.specs.Answers.{ArePlansInOrder, ArePlansOfAnswer, AreReadyForAll};
+ghost use Rattle.threshold.specs.Answers.{AreReadyForAnswer, HoldsAllAnswers, HoldsAnswer};
+ghost use Rattle.threshold.specs.Answers.{IsAnswerOf, IsAsked, IsHeld, IsSetting, Stands};
 ghost use Rattle.threshold.specs.Held.{IsRange, Narrows};
 
 use crate::control::{all_reached, find_controlled, is_free};
@@ -74,9 +73,8 @@ impl<'a> Question<'a> {
         requires setting { IsAsked self.now }
         requires relevance { IsRelevance self.now.diagram.now.nodes relevance.now }
         requires answer { IsAnswerOf self.now.solved.now answer.now }
-        requires planned { AreDecisionPlans self.now.diagram.now.nodes answer.now.decision plans.now }
-        requires ready { AreReadyForDecision self.now.diagram.now.nodes answer.now.decision
-            spaces.old }
+        requires planned { ArePlansOfAnswer self.now answer.now plans.now }
+        requires ready { AreReadyForAnswer self.now answer.now spaces.old }
         requires range { IsRange held }
         ensures held { IfOk result (Narrows (HoldsAnswer self.now answer.now) held) }
         ensures again { OnOk result (spaces.new ≡ spaces.old) }
@@ -110,9 +108,8 @@ impl<'a> Question<'a> {
         requires setting { IsAsked self.now }
         requires relevance { IsRelevance self.now.diagram.now.nodes relevance.now }
         requires answer { IsAnswerOf self.now.solved.now answer.now }
-        requires planned { AreDecisionPlans self.now.diagram.now.nodes answer.now.decision plans.now }
-        requires ready { AreReadyForDecision self.now.diagram.now.nodes answer.now.decision
-            spaces.old }
+        requires planned { ArePlansOfAnswer self.now answer.now plans.now }
+        requires ready { AreReadyForAnswer self.now answer.now spaces.old }
         requires range { IsRange held }
         ensures held { IfOk result (Narrows (HoldsAnswer self.now answer.now) held) }
         ensures again { OnOk result (spaces.new ≡ spaces.old) }
@@ -133,9 +130,8 @@ impl<'a> Question<'a> {
     ) -> Result<Held, AllocError>
         requires setting { IsAsked self.now }
         requires relevance { IsRelevance self.now.diagram.now.nodes relevance.now }
-        requires planned { ArePlans self.now.diagram.now.nodes self.now.solved.now.order plans.now }
-        requires ready { (cells : ℕ) × AreReady cells spaces.old
-            × HasRoom self.now.diagram.now.nodes cells }
+        requires planned { ArePlansInOrder self.now plans.now }
+        requires ready { AreReadyForAll self.now spaces.old }
         ensures range { IfOk result IsRange }
         ensures held { IfOk result (HoldsAllAnswers self.now) }
     {

@@ -12,7 +12,7 @@ use Rattle.eliminate.proofs.firsts.first_tables.Goals.{then-holds, else-holds}
 
 pub ruled_nodes-ruled-requires-clause-steps : goal.ruled_nodes-ruled-requires-clause-steps
 ruled_nodes-ruled-requires-clause-steps g c v m =
-    let a = step_known c.args.diagram.now.nodes c.args.plan.now.plan c.args.plan.now.steps c.requires.order v m in
+    let a = step_known c.args.play.now.diagram.now.nodes c.args.plan.now.plan c.args.plan.now.steps c.requires.order v m in
     let b = c.count-nodes.ensures.diagram.limits.nodes in
     omega arith
 
@@ -24,65 +24,65 @@ ruled_nodes-ruled-requires-clause-without g c d e =
 
 pub loop-v-init : goal.loop-v-init
 loop-v-init g c =
-    let nodes = c.args.diagram.now.nodes in
+    let nodes = c.args.play.now.diagram.now.nodes in
     let plan = c.args.plan.now.plan in
     let cells = cells_by g.C.Cell.ring g.C.Cell.of_weight g.C.Cell.of_value in
     let whole : c.count-nodes.result - 0 ≡ length nodes = omega (arith, c.count-nodes.ensures.count) in
     let all : from_node (holds c.ruled_nodes-ruled.result) 0 c.count-nodes.result ≡ filter (holds c.ruled_nodes-ruled.result) (numbers_of nodes) = ap (λ k. filter (holds c.ruled_nodes-ruled.result) (range_with_len 0 k)) whole in (
-      subst (λ (rest : List ℕ). Lists cells nodes c.args.profile.now c.args.work.now c.args.work.now [] (rest ++ option_to_list plan.utility) (first_nodes nodes plan))
+      subst (λ (rest : List ℕ). Lists cells nodes c.args.play.now.profile.now c.args.work.now c.args.work.now [] (rest ++ option_to_list plan.utility) (first_nodes nodes plan))
           (sym (all ∙ ruled_are nodes plan c.args.plan.now.steps c.requires.order c.ruled_nodes-ruled.result c.ruled_nodes-ruled.ensures))
-          (lists_none cells nodes c.args.profile.now c.args.work.now (first_nodes nodes plan)),
+          (lists_none cells nodes c.args.play.now.profile.now c.args.work.now (first_nodes nodes plan)),
       omega arith,
     )
 
 pub put_table-count-requires-clause-count : goal.put_table-count-requires-clause-count
 put_table-count-requires-clause-count g c =
-    let nodes = c.args.diagram.now.nodes in
+    let nodes = c.args.play.now.diagram.now.nodes in
     let plan = c.args.plan.now.plan in
     let cells = cells_by g.C.Cell.ring g.C.Cell.of_weight g.C.Cell.of_value in
-    let l = next_place cells nodes c.args.profile.now c.args.work.now c.loop-v.work c.loop-v.live c.loop-v.count c.loop-v.v _ (first_nodes nodes plan)
-    (held_next cells nodes c.args.profile.now (holds c.ruled_nodes-ruled.result) (option_to_list plan.utility) (first_nodes nodes plan) c.count-nodes.result
+    let l = next_place cells nodes c.args.play.now.profile.now c.args.work.now c.loop-v.work c.loop-v.live c.loop-v.count c.loop-v.v _ (first_nodes nodes plan)
+    (held_next cells nodes c.args.play.now.profile.now (holds c.ruled_nodes-ruled.result) (option_to_list plan.utility) (first_nodes nodes plan) c.count-nodes.result
     c.args.work.now c.loop-v.work (take c.loop-v.count c.loop-v.live) c.loop-v.v c.loop-v-test.true (sym c.holds.ensures ∙ c.if-holds.true) c.loop-v.invariant.0)
     c.loop-v.invariant.1 in
     omega (arith, l, c.loop-v.auto.live, c.requires.tables)
 
 pub put_table-count-requires-clause-fit : goal.put_table-count-requires-clause-fit
 put_table-count-requires-clause-fit g c =
-    let nodes = c.args.diagram.now.nodes in
+    let nodes = c.args.play.now.diagram.now.nodes in
     let plan = c.args.plan.now.plan in
     let member = ruled_member nodes plan c.args.plan.now.steps c.requires.order c.ruled_nodes-ruled.result c.ruled_nodes-ruled.ensures c.loop-v.v (omega (arith, c.loop-v-test.true, c.count-nodes.ensures.count)) (sym c.holds.ensures ∙ c.if-holds.true) in
-    ruled_fit nodes c.args.profile.now plan g.C.Cell.ring.most c.count-nodes.ensures.diagram.graph c.count-nodes.ensures.diagram.tables c.requires.profile c.requires.fits c.loop-v.v
+    ruled_fit nodes c.args.play.now.profile.now plan g.C.Cell.ring.most c.count-nodes.ensures.diagram.graph c.count-nodes.ensures.diagram.tables c.requires.profile c.requires.fits c.loop-v.v
     member (ruled_plain nodes plan c.requires.asked.is_plan c.loop-v.v member)
 
 pub put_table-count-requires-clause-room : goal.put_table-count-requires-clause-room
 put_table-count-requires-clause-room g c =
-    let nodes = c.args.diagram.now.nodes in
+    let nodes = c.args.play.now.diagram.now.nodes in
     let plan = c.args.plan.now.plan in
     let cells = cells_by g.C.Cell.ring g.C.Cell.of_weight g.C.Cell.of_value in
-    lists_room cells nodes c.args.profile.now c.args.work.now c.loop-v.work (take c.loop-v.count c.loop-v.live) c.loop-v.v _ (first_nodes nodes plan)
-    (held_next cells nodes c.args.profile.now (holds c.ruled_nodes-ruled.result) (option_to_list plan.utility) (first_nodes nodes plan) c.count-nodes.result
+    lists_room cells nodes c.args.play.now.profile.now c.args.work.now c.loop-v.work (take c.loop-v.count c.loop-v.live) c.loop-v.v _ (first_nodes nodes plan)
+    (held_next cells nodes c.args.play.now.profile.now (holds c.ruled_nodes-ruled.result) (option_to_list plan.utility) (first_nodes nodes plan) c.count-nodes.result
     c.args.work.now c.loop-v.work (take c.loop-v.count c.loop-v.live) c.loop-v.v c.loop-v-test.true (sym c.holds.ensures ∙ c.if-holds.true) c.loop-v.invariant.0)
     c.requires.room
 
 pub loop-v-preserved : goal.loop-v-preserved
 loop-v-preserved g c =
-    let nodes = c.args.diagram.now.nodes in
+    let nodes = c.args.play.now.diagram.now.nodes in
     let plan = c.args.plan.now.plan in
     let cells = cells_by g.C.Cell.ring g.C.Cell.of_weight g.C.Cell.of_value in
     elim c.if-holds.branch [
       | then-holds w ↦ rw (w.work-is, w.live-is, w.count-is) (
-        lists_more cells nodes c.args.profile.now c.args.work.now c.loop-v.work w.put_table-count.new.work (take c.loop-v.count c.loop-v.live) (take w.put_table-count.result w.put_table-count.new.live) c.loop-v.v _ (first_nodes nodes plan)
-            (held_next cells nodes c.args.profile.now (holds c.ruled_nodes-ruled.result) (option_to_list plan.utility) (first_nodes nodes plan) c.count-nodes.result
+        lists_more cells nodes c.args.play.now.profile.now c.args.work.now c.loop-v.work w.put_table-count.new.work (take c.loop-v.count c.loop-v.live) (take w.put_table-count.result w.put_table-count.new.live) c.loop-v.v _ (first_nodes nodes plan)
+            (held_next cells nodes c.args.play.now.profile.now (holds c.ruled_nodes-ruled.result) (option_to_list plan.utility) (first_nodes nodes plan) c.count-nodes.result
             c.args.work.now c.loop-v.work (take c.loop-v.count c.loop-v.live) c.loop-v.v c.loop-v-test.true (sym c.holds.ensures ∙ w.if-holds.true) c.loop-v.invariant.0)
             w.put_table-count.ensures.puts,
-        (let l = next_place cells nodes c.args.profile.now c.args.work.now c.loop-v.work c.loop-v.live c.loop-v.count c.loop-v.v _ (first_nodes nodes plan)
-            (held_next cells nodes c.args.profile.now (holds c.ruled_nodes-ruled.result) (option_to_list plan.utility) (first_nodes nodes plan) c.count-nodes.result
+        (let l = next_place cells nodes c.args.play.now.profile.now c.args.work.now c.loop-v.work c.loop-v.live c.loop-v.count c.loop-v.v _ (first_nodes nodes plan)
+            (held_next cells nodes c.args.play.now.profile.now (holds c.ruled_nodes-ruled.result) (option_to_list plan.utility) (first_nodes nodes plan) c.count-nodes.result
             c.args.work.now c.loop-v.work (take c.loop-v.count c.loop-v.live) c.loop-v.v c.loop-v-test.true (sym c.holds.ensures ∙ w.if-holds.true) c.loop-v.invariant.0)
             c.loop-v.invariant.1 in
             omega (arith, l, c.loop-v.auto.live, w.put_table-count.auto.live, c.requires.tables, w.put_table-count.ensures.count)),
       )
       | else-holds w ↦ rw (w.work-is, w.live-is, w.count-is) (
-        other_next cells nodes c.args.profile.now (holds c.ruled_nodes-ruled.result) (option_to_list plan.utility) (first_nodes nodes plan) c.count-nodes.result
+        other_next cells nodes c.args.play.now.profile.now (holds c.ruled_nodes-ruled.result) (option_to_list plan.utility) (first_nodes nodes plan) c.count-nodes.result
             c.args.work.now c.loop-v.work (take c.loop-v.count c.loop-v.live) c.loop-v.v c.loop-v-test.true (sym c.holds.ensures ∙ w.if-holds.false) c.loop-v.invariant.0,
         c.loop-v.invariant.1,
       )
@@ -90,42 +90,42 @@ loop-v-preserved g c =
 
 pub put_table-requires-clause-count : goal.put_table-requires-clause-count
 put_table-requires-clause-count g c =
-    let nodes = c.args.diagram.now.nodes in
+    let nodes = c.args.play.now.diagram.now.nodes in
     let plan = c.args.plan.now.plan in
     let cells = cells_by g.C.Cell.ring g.C.Cell.of_weight g.C.Cell.of_value in
-    let l = next_place cells nodes c.args.profile.now c.args.work.now c.loop-v.work c.loop-v.live c.loop-v.count c.in-Some.u [] (first_nodes nodes plan)
-    (utility_next cells nodes c.args.profile.now plan.utility c.in-Some.u (first_nodes nodes plan) c.args.work.now c.loop-v.work (take c.loop-v.count c.loop-v.live) (sym c.utility.ensures ∙ c.in-Some.is)
-    (last_next cells nodes c.args.profile.now (holds c.ruled_nodes-ruled.result) (option_to_list plan.utility) (first_nodes nodes plan) c.count-nodes.result
+    let l = next_place cells nodes c.args.play.now.profile.now c.args.work.now c.loop-v.work c.loop-v.live c.loop-v.count c.in-Some.u [] (first_nodes nodes plan)
+    (utility_next cells nodes c.args.play.now.profile.now plan.utility c.in-Some.u (first_nodes nodes plan) c.args.work.now c.loop-v.work (take c.loop-v.count c.loop-v.live) (sym c.utility.ensures ∙ c.in-Some.is)
+    (last_next cells nodes c.args.play.now.profile.now (holds c.ruled_nodes-ruled.result) (option_to_list plan.utility) (first_nodes nodes plan) c.count-nodes.result
     c.args.work.now c.loop-v.work (take c.loop-v.count c.loop-v.live) c.loop-v.v c.loop-v-test.false c.loop-v.invariant.0))
     c.loop-v.invariant.1 in
     omega (arith, l, c.loop-v.auto.live, c.requires.tables)
 
 pub put_table-requires-clause-fit : goal.put_table-requires-clause-fit
 put_table-requires-clause-fit g c =
-    let nodes = c.args.diagram.now.nodes in
+    let nodes = c.args.play.now.diagram.now.nodes in
     let some = sym c.utility.ensures ∙ c.in-Some.is in
-    value_fit nodes c.args.profile.now c.args.plan.now.plan g.C.Cell.ring.most c.count-nodes.ensures.diagram.graph c.count-nodes.ensures.diagram.tables c.requires.profile c.requires.fits c.in-Some.u
+    value_fit nodes c.args.play.now.profile.now c.args.plan.now.plan g.C.Cell.ring.most c.count-nodes.ensures.diagram.graph c.count-nodes.ensures.diagram.tables c.requires.profile c.requires.fits c.in-Some.u
     some (c.requires.asked.is_plan.utility c.in-Some.u some)
 
 pub returns-in-Some-clause-lists : goal.returns-in-Some-clause-lists
 returns-in-Some-clause-lists g c =
-    let nodes = c.args.diagram.now.nodes in
+    let nodes = c.args.play.now.diagram.now.nodes in
     let plan = c.args.plan.now.plan in
     let cells = cells_by g.C.Cell.ring g.C.Cell.of_weight g.C.Cell.of_value in
-    lists_more cells nodes c.args.profile.now c.args.work.now c.loop-v.work c.put_table.new.work (take c.loop-v.count c.loop-v.live) (take c.put_table.result c.put_table.new.live) c.in-Some.u [] (first_nodes nodes plan)
-    (utility_next cells nodes c.args.profile.now plan.utility c.in-Some.u (first_nodes nodes plan) c.args.work.now c.loop-v.work (take c.loop-v.count c.loop-v.live) (sym c.utility.ensures ∙ c.in-Some.is)
-    (last_next cells nodes c.args.profile.now (holds c.ruled_nodes-ruled.result) (option_to_list plan.utility) (first_nodes nodes plan) c.count-nodes.result
+    lists_more cells nodes c.args.play.now.profile.now c.args.work.now c.loop-v.work c.put_table.new.work (take c.loop-v.count c.loop-v.live) (take c.put_table.result c.put_table.new.live) c.in-Some.u [] (first_nodes nodes plan)
+    (utility_next cells nodes c.args.play.now.profile.now plan.utility c.in-Some.u (first_nodes nodes plan) c.args.work.now c.loop-v.work (take c.loop-v.count c.loop-v.live) (sym c.utility.ensures ∙ c.in-Some.is)
+    (last_next cells nodes c.args.play.now.profile.now (holds c.ruled_nodes-ruled.result) (option_to_list plan.utility) (first_nodes nodes plan) c.count-nodes.result
     c.args.work.now c.loop-v.work (take c.loop-v.count c.loop-v.live) c.loop-v.v c.loop-v-test.false c.loop-v.invariant.0))
     c.put_table.ensures.puts
 
 pub returns-in-Some-clause-few : goal.returns-in-Some-clause-few
 returns-in-Some-clause-few g c =
-    let nodes = c.args.diagram.now.nodes in
+    let nodes = c.args.play.now.diagram.now.nodes in
     let plan = c.args.plan.now.plan in
     let cells = cells_by g.C.Cell.ring g.C.Cell.of_weight g.C.Cell.of_value in
-    let l = next_place cells nodes c.args.profile.now c.args.work.now c.loop-v.work c.loop-v.live c.loop-v.count c.in-Some.u [] (first_nodes nodes plan)
-    (utility_next cells nodes c.args.profile.now plan.utility c.in-Some.u (first_nodes nodes plan) c.args.work.now c.loop-v.work (take c.loop-v.count c.loop-v.live) (sym c.utility.ensures ∙ c.in-Some.is)
-    (last_next cells nodes c.args.profile.now (holds c.ruled_nodes-ruled.result) (option_to_list plan.utility) (first_nodes nodes plan) c.count-nodes.result
+    let l = next_place cells nodes c.args.play.now.profile.now c.args.work.now c.loop-v.work c.loop-v.live c.loop-v.count c.in-Some.u [] (first_nodes nodes plan)
+    (utility_next cells nodes c.args.play.now.profile.now plan.utility c.in-Some.u (first_nodes nodes plan) c.args.work.now c.loop-v.work (take c.loop-v.count c.loop-v.live) (sym c.utility.ensures ∙ c.in-Some.is)
+    (last_next cells nodes c.args.play.now.profile.now (holds c.ruled_nodes-ruled.result) (option_to_list plan.utility) (first_nodes nodes plan) c.count-nodes.result
     c.args.work.now c.loop-v.work (take c.loop-v.count c.loop-v.live) c.loop-v.v c.loop-v-test.false c.loop-v.invariant.0))
     c.loop-v.invariant.1 in
     omega (arith, l, c.loop-v.auto.live, c.requires.tables, c.put_table.ensures.count)

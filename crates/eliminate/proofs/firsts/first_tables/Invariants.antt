@@ -7,5 +7,5 @@ use Rattle.eliminate.proofs.firsts.first_tables.Given as goal
 
 abbrev pub invariant-loop-v : goal.invariant-loop-v
 invariant-loop-v g l =
-    Lists (cells_by g.C.Cell.ring g.C.Cell.of_weight g.C.Cell.of_value) l.diagram.nodes l.profile l.fn.work l.work (take l.count l.live) (from_node (holds l.ruled) l.v l.nodes ++ option_to_list l.plan.plan.utility) (first_nodes l.diagram.nodes l.plan.plan)
+    Lists (cells_by g.C.Cell.ring g.C.Cell.of_weight g.C.Cell.of_value) l.play.diagram.now.nodes l.play.profile.now l.fn.work l.work (take l.count l.live) (from_node (holds l.ruled) l.v l.nodes ++ option_to_list l.plan.plan.utility) (first_nodes l.play.diagram.now.nodes l.plan.plan)
     × (l.count ≤ length l.live)

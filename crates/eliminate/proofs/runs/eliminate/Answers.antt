@@ -30,8 +30,8 @@ join_out-slot-requires-clause-live g c =
     let slots = live_slots c.args.places.live c.args.places.made c.args.slots.now in
     let is : c.before-3.result.now ≡ slots_with c.args.node slots = c.before-3.ensures ∙ c.gather-count.ensures.list ∙ ap (slots_from (holds c.places_of-held.result) 0) c.before-2.ensures
     ∙ held_slots c.args.at.now c.args.places.live c.places_of-held.result c.args.places.made c.args.node c.args.slots.now c.requires.node c.requires.board.noted c.places_of-held.ensures in
-    subst (λ (l : List Slot). All (IsLive c.args.diagram.now.nodes c.args.work.now.cells) l) (sym is)
-    (all_filter (IsLive c.args.diagram.now.nodes c.args.work.now.cells) (λ s. holds s.scope c.args.node) slots c.requires.join.live)
+    subst (λ (l : List Slot). All (IsLive c.args.play.now.diagram.now.nodes c.args.work.now.cells) l) (sym is)
+    (all_filter (IsLive c.args.play.now.diagram.now.nodes c.args.work.now.cells) (λ s. holds s.scope c.args.node) slots c.requires.join.live)
 
 pub join_out-slot-requires-clause-hold : goal.join_out-slot-requires-clause-hold
 join_out-slot-requires-clause-hold g c =
@@ -45,7 +45,7 @@ join_out-slot-requires-clause-fits g c =
     let slots = live_slots c.args.places.live c.args.places.made c.args.slots.now in
     let is : c.before-3.result.now ≡ slots_with c.args.node slots = c.before-3.ensures ∙ c.gather-count.ensures.list ∙ ap (slots_from (holds c.places_of-held.result) 0) c.before-2.ensures
     ∙ held_slots c.args.at.now c.args.places.live c.places_of-held.result c.args.places.made c.args.node c.args.slots.now c.requires.node c.requires.board.noted c.places_of-held.ensures in
-    subst (λ (l : List Slot). JoinFits g.C.Cell.ring.size (states_of c.args.diagram.now.nodes) g.C.Cell.ring.most c.args.node (tables_of g.C.Cell.ring c.args.diagram.now.nodes c.args.work.now.cells l)) (sym is)
+    subst (λ (l : List Slot). JoinFits g.C.Cell.ring.size (states_of c.args.play.now.diagram.now.nodes) g.C.Cell.ring.most c.args.node (tables_of g.C.Cell.ring c.args.play.now.diagram.now.nodes c.args.work.now.cells l)) (sym is)
     c.requires.join.fits
 
 pub join_out-slot-requires-clause-room : goal.join_out-slot-requires-clause-room
@@ -53,7 +53,7 @@ join_out-slot-requires-clause-room g c =
     let slots = live_slots c.args.places.live c.args.places.made c.args.slots.now in
     let is : c.before-3.result.now ≡ slots_with c.args.node slots = c.before-3.ensures ∙ c.gather-count.ensures.list ∙ ap (slots_from (holds c.places_of-held.result) 0) c.before-2.ensures
     ∙ held_slots c.args.at.now c.args.places.live c.places_of-held.result c.args.places.made c.args.node c.args.slots.now c.requires.node c.requires.board.noted c.places_of-held.ensures in
-    subst (λ (l : List Slot). cells_over c.args.diagram.now.nodes (sum_out g.C.Cell.ring (states_of c.args.diagram.now.nodes) c.args.node (tables_of g.C.Cell.ring c.args.diagram.now.nodes c.args.work.now.cells l)).holds ≤ c.args.work.now.spare) (sym is)
+    subst (λ (l : List Slot). cells_over c.args.play.now.diagram.now.nodes (sum_out g.C.Cell.ring (states_of c.args.play.now.diagram.now.nodes) c.args.node (tables_of g.C.Cell.ring c.args.play.now.diagram.now.nodes c.args.work.now.cells l)).holds ≤ c.args.work.now.spare) (sym is)
     c.requires.join.room
 
 pub put_slot-requires-clause-few : goal.put_slot-requires-clause-few
@@ -71,7 +71,7 @@ put_slot-requires-clause-few g c =
 
 pub returns-clause-step : goal.returns-clause-step
 returns-clause-step g c =
-    let nodes = c.args.diagram.now.nodes in
+    let nodes = c.args.play.now.diagram.now.nodes in
     let slots = live_slots c.args.places.live c.args.places.made c.args.slots.now in
     let is : c.before-3.result.now ≡ slots_with c.args.node slots = c.before-3.ensures ∙ c.gather-count.ensures.list ∙ ap (slots_from (holds c.places_of-held.result) 0) c.before-2.ensures
     ∙ held_slots c.args.at.now c.args.places.live c.places_of-held.result c.args.places.made c.args.node c.args.slots.now c.requires.node c.requires.board.noted c.places_of-held.ensures in

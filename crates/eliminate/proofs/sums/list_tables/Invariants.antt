@@ -5,6 +5,6 @@ use Rattle.eliminate.proofs.sums.list_tables.Given as goal
 
 abbrev pub invariant-loop-node : goal.invariant-loop-node
 invariant-loop-node g l =
-    ListsWithin (cells_by g.C.Cell.ring g.C.Cell.of_weight g.C.Cell.of_value) l.diagram.nodes l.profile l.fn.work l.work (take l.count l.live) (drop l.node-index l.nodes) l.nodes l.fn.limits l.left
+    ListsWithin (cells_by g.C.Cell.ring g.C.Cell.of_weight g.C.Cell.of_value) l.play.diagram.now.nodes l.play.profile.now l.fn.work l.work (take l.count l.live) (drop l.node-index l.nodes) l.nodes l.fn.limits l.left
     × (l.count ≡ l.node-index)
     × (length l.live ≡ length l.fn.live)

@@ -4,7 +4,7 @@ use Rattle.evidence.proofs.sights.is_below_decision.Goals as goal
 
 pub returns-then-is_decision : goal.returns-then-is_decision
 returns-then-is_decision c = (
-  (λ t. found c.args.diagram.now.nodes c.args.node c.of.result c.ancestors-above.result c.of.ensures c.ancestors-above.ensures c.requires.kind c.loop-v.v (sym c.holds.ensures ∙ c.if-holds.true) (c.is_decision.ensures.0 c.if-is_decision.true)),
+  (λ t. found c.args.diagram.now.nodes c.args.node c.of.result c.ancestors-above.result c.of.ensures c.ancestors-above.ensures c.requires.kind c.loop-v.v (sym c.holds.ensures ∙ c.if-holds.true) (c.is_decision.ensures.decision.0 c.if-is_decision.true)),
   (λ below. refl),
 )
 

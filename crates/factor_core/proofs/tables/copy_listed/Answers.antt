@@ -8,4 +8,4 @@ returns-then-is_same g c =
     let list = c.args.list.now in
     let r = g.C.Cell.ring in
     let cells = g.S.Source.cells c.args.source.now in
-    subst (λ order. take (c.args.start + count_of_steps (steps_in counts list order)) c.copy_straight.new.all ≡ take c.args.start c.args.all.now ++ gathered r cells (steps_in counts list order) 0) (c.is_same.ensures.0 (search rules)) c.copy_straight.ensures
+    subst (λ order. take (c.args.at + count_of_steps (steps_in counts list order)) c.copy_straight.new.all ≡ take c.args.at c.args.all.now ++ gathered r cells (steps_in counts list order) 0) (c.is_same.ensures.0 (search rules)) c.copy_straight.ensures

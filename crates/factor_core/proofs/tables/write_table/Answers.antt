@@ -36,20 +36,20 @@ rows_after-len-requires-clause-list g c =
     let d = c.args.diagram.now in
     let counts = c.args.counts.now in
     let is : c.args.counts.now ≡ counts_of d.nodes = c.requires.counts in
-    below_of (length counts) c.args.list.now (λ v m. let k = c.requires.known v m in omega (arith, k, ap length is, counts_length d.nodes))
+    below_of (length counts) c.args.listed.now.list.now (λ v m. let k = c.requires.known v m in omega (arith, k, ap length is, counts_length d.nodes))
 
 pub rows_after-len-requires-clause-fits : goal.rows_after-len-requires-clause-fits
 rows_after-len-requires-clause-fits g c =
     let d = c.args.diagram.now in
     let is : c.args.counts.now ≡ counts_of d.nodes = c.requires.counts in
-    omega (arith, ap (λ f. rows_under f c.args.list.now) (ap states_in is ∙ states_is d.nodes), c.requires.room, c.requires.short)
+    omega (arith, ap (λ f. rows_under f c.args.listed.now.list.now) (ap states_in is ∙ states_is d.nodes), c.requires.room, c.requires.short)
 
 pub list_nodes-n-requires-clause-room : goal.list_nodes-n-requires-clause-room
 list_nodes-n-requires-clause-room g c =
     let d = c.args.diagram.now in
     let counts = c.args.counts.now in
     let is : c.args.counts.now ≡ counts_of d.nodes = c.requires.counts in
-    let list = c.args.list.now in
+    let list = c.args.listed.now.list.now in
     let mixed = shuffled_nodes d.nodes (has list) list c.requires.once (has_is list) (λ v t. c.requires.known v ((has_is list v).1 t)) in
     let order_is : listed (holds c.scope_of-scope.result) 0 (length counts) ≡ nodes_in d.nodes (has list) = ap (λ h. listed h 0 (length counts)) (fun_ext c.scope_of-scope.ensures) ∙ ap (λ cs. listed (has list) 0 (length cs)) is ∙ nodes_are d.nodes (has list) in
     omega (arith, ap length order_is, length_shuffled mixed, c.requires.few)
@@ -66,7 +66,7 @@ copy_listed-requires-clause-list g c =
     let d = c.args.diagram.now in
     let counts = c.args.counts.now in
     let is : c.args.counts.now ≡ counts_of d.nodes = c.requires.counts in
-    below_of (length counts) c.args.list.now (λ v m. let k = c.requires.known v m in omega (arith, k, ap length is, counts_length d.nodes))
+    below_of (length counts) c.args.listed.now.list.now (λ v m. let k = c.requires.known v m in omega (arith, k, ap length is, counts_length d.nodes))
 
 pub copy_listed-requires-clause-order : goal.copy_listed-requires-clause-order
 copy_listed-requires-clause-order g c =
@@ -78,19 +78,19 @@ copy_listed-requires-clause-fits g c =
     let d = c.args.diagram.now in
     let counts = c.args.counts.now in
     let is : c.args.counts.now ≡ counts_of d.nodes = c.requires.counts in
-    omega (arith, ap (λ f. rows_under f c.args.list.now) (ap states_in is ∙ states_is d.nodes), c.requires.room, c.requires.short)
+    omega (arith, ap (λ f. rows_under f c.args.listed.now.list.now) (ap states_in is ∙ states_is d.nodes), c.requires.room, c.requires.short)
 
 pub copy_listed-requires-clause-cells : goal.copy_listed-requires-clause-cells
 copy_listed-requires-clause-cells g c =
     let d = c.args.diagram.now in
     let is : c.args.counts.now ≡ counts_of d.nodes = c.requires.counts in
-    c.requires.cells ∙ sym (ap (λ f. rows_under f c.args.list.now) (ap states_in is ∙ states_is d.nodes))
+    c.requires.cells ∙ sym (ap (λ f. rows_under f c.args.listed.now.list.now) (ap states_in is ∙ states_is d.nodes))
 
 pub copy_listed-requires-clause-room : goal.copy_listed-requires-clause-room
 copy_listed-requires-clause-room g c =
     let d = c.args.diagram.now in
     let is : c.args.counts.now ≡ counts_of d.nodes = c.requires.counts in
-    omega (arith, ap (λ f. rows_under f c.args.list.now) (ap states_in is ∙ states_is d.nodes), c.requires.room)
+    omega (arith, ap (λ f. rows_under f c.args.listed.now.list.now) (ap states_in is ∙ states_is d.nodes), c.requires.room)
 
 pub copy_listed-requires-clause-can : goal.copy_listed-requires-clause-can
 copy_listed-requires-clause-can g c =
@@ -98,7 +98,7 @@ copy_listed-requires-clause-can g c =
     let counts = c.args.counts.now in
     let is : c.args.counts.now ≡ counts_of d.nodes = c.requires.counts in
     let r = g.C.Cell.ring in
-    let list = c.args.list.now in
+    let list = c.args.listed.now.list.now in
     let scope = c.scope_of-scope.result in
     let count = states_in counts in
     let are = subst AreCounts (sym is) (are_counts d c.requires.diagram) in
@@ -112,9 +112,9 @@ copy_listed-requires-clause-can g c =
     let steps : steps_in counts list c.before-order.result.now ≡ steps_of (states_in counts) stride order = ap (steps_of (states_in counts) stride) listed_is in
     let rows : count_of_steps (steps_of (states_in counts) stride order) ≡ rows_under (states_of d.nodes) list =
     count_is r (states_in counts) stride order ∙ ap (rows_under (states_in counts)) order_is ∙ ap (λ f. rows_under f (nodes_in d.nodes (has list))) counts_are ∙ sym (rows_shuffled (states_of d.nodes) mixed) in
-    let cells = g.S.Source.cells c.args.source.now in
-    subst (λ l. CanCopy (g.S.Source.is_fit c.args.source.now) (length cells) l 0 (length c.args.all.now - c.args.used) 0) (sym steps)
-    (can_copy (g.S.Source.is_fit c.args.source.now) c.requires.fit counts are stride
+    let cells = g.S.Source.cells c.args.listed.now.source.now in
+    subst (λ l. CanCopy (g.S.Source.is_fit c.args.listed.now.source.now) (length cells) l 0 (length c.args.all.now - c.args.used) 0) (sym steps)
+    (can_copy (g.S.Source.is_fit c.args.listed.now.source.now) c.requires.fit counts are stride
     (λ v l. omega (arith, stride_le (states_in counts) are.some list v, rows_are, c.requires.room, c.requires.short))
     order (listed_below (holds scope) (length counts) (length counts) 0 (omega arith)) (listed_once (holds scope) (length counts) 0)
     0 (length cells) (length c.args.all.now - c.args.used) (omega (arith, c.requires.cells, c.requires.room, c.requires.short))
@@ -128,7 +128,7 @@ returns-clause-len g c =
     let d = c.args.diagram.now in
     let counts = c.args.counts.now in
     let is : c.args.counts.now ≡ counts_of d.nodes = c.requires.counts in
-    let list = c.args.list.now in
+    let list = c.args.listed.now.list.now in
     let mixed = shuffled_nodes d.nodes (has list) list c.requires.once (has_is list) (λ v t. c.requires.known v ((has_is list v).1 t)) in
     let room : cells_over d.nodes (has list) ≤ length c.args.all.now - c.args.used = omega (arith, rows_shuffled (states_of d.nodes) mixed, c.requires.room) in
     let len_is : c.rows_after-len.result ≡ size_of counts c.scope_of-scope.result = c.rows_after-len.ensures ∙ list_size d.nodes counts is list c.scope_of-scope.result c.requires.once c.requires.known c.scope_of-scope.ensures in
@@ -144,7 +144,7 @@ returns-clause-table g c =
     let used = c.args.used in
     let all = c.args.all.now in
     let new = c.copy_listed.new.all in
-    let list = c.args.list.now in
+    let list = c.args.listed.now.list.now in
     let scope = c.scope_of-scope.result in
     let len_is : c.rows_after-len.result ≡ size_of counts c.scope_of-scope.result = c.rows_after-len.ensures ∙ list_size d.nodes counts is list c.scope_of-scope.result c.requires.once c.requires.known c.scope_of-scope.ensures in
     let order = listed (holds scope) 0 (length counts) in
@@ -157,7 +157,7 @@ returns-clause-table g c =
     let listed_is : c.before-order.result.now ≡ order = c.before-order.ensures ∙ c.list_nodes-n.ensures.list in
     let steps : steps_in counts list c.before-order.result.now ≡ steps_of (states_in counts) stride order = ap (steps_of (states_in counts) stride) listed_is in
     let size : count_of_steps (steps_of (states_in counts) stride order) ≡ size_of counts scope = count_is r (states_in counts) stride order ∙ sym (size_is (states_in counts) (holds scope) (length counts) 0) in
-    let cells = g.S.Source.cells c.args.source.now in
+    let cells = g.S.Source.cells c.args.listed.now.source.now in
     let copied = gathered r cells (steps_of (states_in counts) stride order) 0 in
     let long : length copied ≡ c.rows_after-len.result = length-gathered r cells (steps_of (states_in counts) stride order) 0 ∙ size ∙ sym len_is in
     let written : take (used + c.rows_after-len.result) new ≡ take used all ++ copied =

@@ -21,7 +21,7 @@ loop-decision-preserved c =
           subst (λ (list : Vec KeptPlans Global). KeepsSoFar nodes (v + 1) list.items) (sym w.kept-is)
           (subst (KeepsSoFar nodes (v + 1)) (sym w.in_ok-push.ensures.items) (record {
             decisions = map_append (λ (k : KeptPlans). k.decision) c.loop-decision.kept.items _ ∙ (λ i. so_far.decisions i ++ cond ((sym w.if-is_decision.true ∙ c.is_decision.ensures.kind) i) (v ∷ []) []) ∙ sym (passed_more (λ u. is_decision (node_at nodes u).kind) v);
-            all = All-push (IsKept nodes) c.loop-decision.kept.items _ so_far.all (record { decision = c.is_decision.ensures.decision w.if-is_decision.true; plans = w.in_ok-plans.ensures });
+            all = All-push (IsKept nodes) c.loop-decision.kept.items _ so_far.all (record { decision = c.is_decision.ensures.decision.0 w.if-is_decision.true; plans = w.in_ok-plans.ensures });
           }))
       | else-is_decision w ↦
           subst (λ (list : Vec KeptPlans Global). KeepsSoFar nodes (v + 1) list.items) (sym w.kept-is) (record {

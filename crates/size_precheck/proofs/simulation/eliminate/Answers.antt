@@ -1,5 +1,6 @@
-use Rattle.std.proofs.Common.{◌≡◌, ◌∙◌, ◌↔◌, ℕ, refl, sym, ap, inr}
+use Rattle.std.proofs.Common.{◌≡◌, ◌∙◌, ◌↔◌, ℕ, ◌*◌, refl, sym, ap, inr}
 use Rattle.std.specs.Prelude.{slice_index}
+use Rattle.maid_model.specs.Bounds.{stopped}
 use Rattle.node_sets.specs.Sets.{holds, IsIn}
 use Rattle.size_precheck.specs.declared.joints.Joint.{Joint}
 use Rattle.size_precheck.specs.Joints.{counted_over}
@@ -8,13 +9,13 @@ use Rattle.size_precheck.proofs.simulation.eliminate.Goals as goal
 
 pub returns-clause-step : goal.returns-clause-step
 returns-clause-step c nodes live are stands =
-    let v_counted : slice_index c.args.cells.now c.args.v ≡ counted_over c.args.states.now (holds c.joint_of-joint.result.set) =
+    let v_counted : slice_index c.args.known.now.counts.items c.args.v ≡ counted_over c.args.states.now (holds c.joint_of-joint.result.set) =
     stands.counted c.args.v (inr refl) ∙ ap (λ (j : Joint). counted_over c.args.states.now (holds j.set)) (sym c.joint_of-joint.ensures) in
     let scope_is : (x : ℕ) → IsIn c.difference-scope.result x ↔ (IsIn c.joint_of-joint.result.set x × (x ≡ c.args.v → ⊥)) = (λ x. (
       (λ m. let h = (c.difference-scope.ensures x).0 m in (h.0, λ e. h.1 ((c.of-own.ensures x).1 e))),
       (λ h. (c.difference-scope.ensures x).1 (h.0, λ o. h.1 ((c.of-own.ensures x).0 o))),
     )) in
-    step_right nodes c.args.states.now c.args.waiting.now c.args.v live c.args.joints.now c.put_made.new.joints c.args.cells.now c.put_made.new.cells
+    step_right nodes c.args.states.now c.args.waiting.now c.args.v live c.args.known.now.joints.items c.put_made.new.known.joints.items c.args.known.now.counts.items c.put_made.new.known.counts.items
     c.joint_of-joint.result c.difference-scope.result c.intersection-at.result c.of-own.result _ _ _ are
     (record {
       small = c.requires.small;
@@ -28,4 +29,4 @@ returns-clause-step c nodes live are stands =
       counted = c.in_ok-put_made.ensures.counted;
       kept = c.put_made.ensures.kept;
     })
-    stands c.count_members-tables.ensures c.multiply.ensures (c.count_less.ensures.counted scope_is v_counted)
+    stands c.count_members-tables.ensures (c.multiply.ensures ∙ ap (λ (n : ℕ). stopped (n * c.count_members-tables.result)) c.count_of-joined.ensures) (c.count_less.ensures.counted scope_is (c.count_of-joined.ensures ∙ v_counted))

@@ -17,21 +17,21 @@ overflow_sub-live c =
     let waiting = IsIn c.args.waiting in
     let states = c.args.states.now in
     let v : ℕ = c.in-Some.v in
-    let found : IsFewest c.steps.counts (holds c.steps.rest) v = found_next c.steps.counts (holds c.steps.rest) c.deref.result.now c.find_next.result v c.find_next.ensures c.in-Some.is
-    (subst (λ (cs : List Class). AreClasses c.steps.counts (holds c.steps.rest) cs) (sym c.deref.ensures.value) c.steps.invariant.classes) in
+    let found : IsFewest c.steps.known.counts.items (holds c.steps.rest) v = found_next c.steps.known.counts.items (holds c.steps.rest) c.deref-in-steps.result.now c.find_next.result v c.find_next.ensures c.in-Some.is
+    (subst (λ (cs : List Class). AreClasses c.steps.known.counts.items (holds c.steps.rest) cs) (sym c.deref-in-steps.ensures.value) c.steps.invariant.classes) in
     let started = c.requires.started in
     let now = c.steps.invariant.at started.0 started.1 started.2 in
-    let before : Stands states (λ y. IsIn c.remove.new.self y ⊎ (y ≡ v)) now.tables c.steps.joints c.steps.counts =
-    stands_less states (IsIn c.steps.rest) (λ y. IsIn c.remove.new.self y ⊎ (y ≡ v)) now.tables c.steps.joints c.steps.counts
+    let before : Stands states (λ y. IsIn c.remove.new.self y ⊎ (y ≡ v)) now.tables c.steps.known.joints.items c.steps.known.counts.items =
+    stands_less states (IsIn c.steps.rest) (λ y. IsIn c.remove.new.self y ⊎ (y ≡ v)) now.tables c.steps.known.joints.items c.steps.known.counts.items
     (λ y. elim [ inl m ↦ ((c.remove.ensures y).0 m).0 | inr e ↦ subst (IsIn c.steps.rest) (sym e) found.waiting ]) now.stands in
-    joined_few started.0 states waiting c.steps.rest started.1 c.steps.steps.items c.steps.joints c.steps.counts c.steps.live c.steps.cells c.steps.work started.2.are_states now v _ _ _ _
+    joined_few started.0 states waiting c.steps.rest started.1 c.steps.steps.items c.steps.known.joints.items c.steps.known.counts.items c.steps.live c.steps.cells c.steps.work started.2.are_states now v _ _ _ _
     (c.in_ok-made.ensures.step started.0 now.tables started.2.are_states before)
 
 pub steps-smaller : goal.steps-smaller
 steps-smaller c =
     let v : ℕ = c.in-Some.v in
-    let found : IsFewest c.steps.counts (holds c.steps.rest) v = found_next c.steps.counts (holds c.steps.rest) c.deref.result.now c.find_next.result v c.find_next.ensures c.in-Some.is
-    (subst (λ (cs : List Class). AreClasses c.steps.counts (holds c.steps.rest) cs) (sym c.deref.ensures.value) c.steps.invariant.classes) in
+    let found : IsFewest c.steps.known.counts.items (holds c.steps.rest) v = found_next c.steps.known.counts.items (holds c.steps.rest) c.deref-in-steps.result.now c.find_next.result v c.find_next.ensures c.in-Some.is
+    (subst (λ (cs : List Class). AreClasses c.steps.known.counts.items (holds c.steps.rest) cs) (sym c.deref-in-steps.ensures.value) c.steps.invariant.classes) in
     removed_fewer c.steps.rest c.remove.new.self v (c.requires.within v ((c.steps.invariant.remains v).0 found.waiting).0).1 found.waiting c.remove.ensures
 
 pub steps-preserved : goal.steps-preserved
@@ -40,14 +40,14 @@ steps-preserved c =
     let states = c.args.states.now in
     let v : ℕ = c.in-Some.v in
     let inv = c.steps.invariant in
-    let found : IsFewest c.steps.counts (holds c.steps.rest) v = found_next c.steps.counts (holds c.steps.rest) c.deref.result.now c.find_next.result v c.find_next.ensures c.in-Some.is
-    (subst (λ (cs : List Class). AreClasses c.steps.counts (holds c.steps.rest) cs) (sym c.deref.ensures.value) c.steps.invariant.classes) in
-    let taken : AreClasses c.steps.counts (holds c.remove.new.self) c.take_node.new.classes.items =
-    c.take_node.ensures c.steps.counts (holds c.steps.rest) (holds c.remove.new.self) (removed_less c.steps.rest c.remove.new.self v c.remove.ensures) refl inv.classes in
+    let found : IsFewest c.steps.known.counts.items (holds c.steps.rest) v = found_next c.steps.known.counts.items (holds c.steps.rest) c.deref-in-steps.result.now c.find_next.result v c.find_next.ensures c.in-Some.is
+    (subst (λ (cs : List Class). AreClasses c.steps.known.counts.items (holds c.steps.rest) cs) (sym c.deref-in-steps.ensures.value) c.steps.invariant.classes) in
+    let taken : AreClasses c.steps.known.counts.items (holds c.remove.new.self) c.take_node.new.classes.items =
+    c.take_node.ensures c.steps.known.counts.items (holds c.steps.rest) (holds c.remove.new.self) (removed_less c.steps.rest c.remove.new.self v c.remove.ensures) (sym c.count_of.ensures) inv.classes in
     record {
       classes = c.in_ok-made.ensures.classes taken;
       joints_len = c.eliminate.ensures.joints_len ∙ inv.joints_len;
-      counts_len = c.eliminate.ensures.cells_len ∙ inv.counts_len ∙ sym c.eliminate.ensures.joints_len;
+      counts_len = c.eliminate.ensures.counts_len ∙ inv.counts_len ∙ sym c.eliminate.ensures.joints_len;
       remains = subst (λ (xs : List ℕ). (x : ℕ) → IsIn c.remove.new.self x ↔ Remains waiting xs x) (sym c.in_ok-push.ensures.items)
           (remains_push waiting (IsIn c.steps.rest) (IsIn c.remove.new.self) c.steps.steps.items v inv.remains c.remove.ensures);
       live = let a = ap length c.in_ok-push.ensures.items ∙ length_push c.steps.steps.items v in let b = inv.live in omega arith;
@@ -55,14 +55,14 @@ steps-preserved c =
       little = subst (λ (n : ℕ). n ≤ 10 ^ 18) (sym c.add-work.ensures) (stopped_few _);
       at = λ (nodes : List NodeView) (scopes : List (ℕ → Bool)) (started : IsStarted nodes states waiting scopes c.args.start).
           let now = inv.at nodes scopes started in
-          let before : Stands states (λ y. IsIn c.remove.new.self y ⊎ (y ≡ v)) now.tables c.steps.joints c.steps.counts =
-          stands_less states (IsIn c.steps.rest) (λ y. IsIn c.remove.new.self y ⊎ (y ≡ v)) now.tables c.steps.joints c.steps.counts
+          let before : Stands states (λ y. IsIn c.remove.new.self y ⊎ (y ≡ v)) now.tables c.steps.known.joints.items c.steps.known.counts.items =
+          stands_less states (IsIn c.steps.rest) (λ y. IsIn c.remove.new.self y ⊎ (y ≡ v)) now.tables c.steps.known.joints.items c.steps.known.counts.items
           (λ y. elim [ inl m ↦ ((c.remove.ensures y).0 m).0 | inr e ↦ subst (IsIn c.steps.rest) (sym e) found.waiting ]) now.stands in
           let next : IsNext nodes waiting scopes c.steps.steps.items v =
-          is_next nodes states waiting c.steps.rest scopes c.steps.steps.items c.steps.joints c.steps.counts c.steps.live c.steps.cells c.steps.work started.are_states now v inv.remains found in
-          subst (λ (xs : List ℕ). At nodes states waiting (IsIn c.remove.new.self) scopes xs c.eliminate.new.joints c.eliminate.new.cells (c.steps.live + 1 - c.in_ok-made.made.tables) c.add-cells.result c.add-work.result)
+          is_next nodes states waiting c.steps.rest scopes c.steps.steps.items c.steps.known.joints.items c.steps.known.counts.items c.steps.live c.steps.cells c.steps.work started.are_states now v inv.remains found in
+          subst (λ (xs : List ℕ). At nodes states waiting (IsIn c.remove.new.self) scopes xs c.eliminate.new.known.joints.items c.eliminate.new.known.counts.items (c.steps.live + 1 - c.in_ok-made.made.tables) c.add-cells.result c.add-work.result)
           (sym c.in_ok-push.ensures.items)
-          (at_more nodes states waiting c.steps.rest scopes c.steps.steps.items c.steps.joints c.steps.counts c.steps.live c.steps.cells c.steps.work started.are_states now v (IsIn c.remove.new.self) _ _ c.in_ok-made.made _ _ _
+          (at_more nodes states waiting c.steps.rest scopes c.steps.steps.items c.steps.known.joints.items c.steps.known.counts.items c.steps.live c.steps.cells c.steps.work started.are_states now v (IsIn c.remove.new.self) _ _ c.in_ok-made.made _ _ _
           next (c.in_ok-made.ensures.step nodes now.tables started.are_states before) refl c.add-cells.ensures c.add-work.ensures);
     }
 
@@ -73,8 +73,8 @@ returns-clause-run c nodes scopes started =
     record {
       greedy = record {
         each = now.each;
-        complete = λ v r. none_next c.steps.counts (holds c.steps.rest) c.deref.result.now c.find_next.result c.find_next.ensures c.in_default.is
-            (subst (λ (cs : List Class). AreClasses c.steps.counts (holds c.steps.rest) cs) (sym c.deref.ensures.value) inv.classes) v ((inv.remains v).1 r);
+        complete = λ v r. none_next c.steps.known.counts.items (holds c.steps.rest) c.deref-in-steps.result.now c.find_next.result c.find_next.ensures c.in_default.is
+            (subst (λ (cs : List Class). AreClasses c.steps.known.counts.items (holds c.steps.rest) cs) (sym c.deref-in-steps.ensures.value) inv.classes) v ((inv.remains v).1 r);
       };
       live = now.live_is;
       cells = now.cells_are;

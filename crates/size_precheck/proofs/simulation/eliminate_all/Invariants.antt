@@ -10,15 +10,15 @@ use Rattle.size_precheck.proofs.simulation.eliminate_all.Given as goal
 -- the classes have what remains, and what is known is right for the scopes after the steps so far
 abbrev pub invariant-steps : goal.invariant-steps
 invariant-steps l = record {
-  classes : AreClasses l.counts (holds l.rest) l.classes.items;
-  joints_len : length l.joints ≡ length l.fn.start.joints.items;
-  counts_len : length l.counts ≡ length l.joints;
+  classes : AreClasses l.known.counts.items (holds l.rest) l.classes.items;
+  joints_len : length l.known.joints.items ≡ length l.fn.start.known.joints.items;
+  counts_len : length l.known.counts.items ≡ length l.known.joints.items;
   remains : (v : ℕ) → IsIn l.rest v ↔ Remains (IsIn l.fn.waiting) l.steps.items v;
   live : l.live ≤ 257 + length l.steps.items;
   few : l.cells ≤ 10 ^ 18;
   little : l.work ≤ 10 ^ 18;
   at : (nodes : List NodeView) (scopes : List (ℕ → Bool)) → IsStarted nodes l.states (IsIn l.fn.waiting) scopes l.fn.start
-      → At nodes l.states (IsIn l.fn.waiting) (IsIn l.rest) scopes l.steps.items l.joints l.counts l.live l.cells l.work;
+      → At nodes l.states (IsIn l.fn.waiting) (IsIn l.rest) scopes l.steps.items l.known.joints.items l.known.counts.items l.live l.cells l.work;
 }
 
 abbrev pub decreases-steps : goal.decreases-steps

@@ -8,12 +8,12 @@ use Rattle.size_precheck.proofs.simulation.put_first.Given as goal
 abbrev pub invariant-nodes : goal.invariant-nodes
 invariant-nodes l = record {
   within : l.from ≤ 256;
-  joints_len : length l.joints ≡ length l.initial.joints;
-  cells_len : length l.cells ≡ length l.initial.cells;
-  put : (y : ℕ) → y < l.from → IsIn l.at y → IsPut l.table (IsIn l.none) (IsIn l.none) (joint_at l.initial.joints y) (joint_at l.joints y);
-  counted : (y : ℕ) → y < l.from → IsIn l.at y → IsCounted l.states l.initial.joints l.initial.cells y → IsCounted l.states l.joints l.cells y;
-  same : (y : ℕ) → (l.from ≤ y) ⊎ (IsIn l.at y → ⊥) → joint_at l.joints y ≡ joint_at l.initial.joints y;
-  kept : (y : ℕ) → (l.from ≤ y) ⊎ (IsIn l.at y → ⊥) → slice_index l.cells y ≡ slice_index l.initial.cells y;
+  joints_len : length l.known.joints.items ≡ length l.initial.known.joints.items;
+  counts_len : length l.known.counts.items ≡ length l.initial.known.counts.items;
+  put : (y : ℕ) → y < l.from → IsIn l.at y → IsPut l.table (IsIn l.none) (IsIn l.none) (joint_at l.initial.known.joints.items y) (joint_at l.known.joints.items y);
+  counted : (y : ℕ) → y < l.from → IsIn l.at y → IsCounted l.states l.initial.known.joints.items l.initial.known.counts.items y → IsCounted l.states l.known.joints.items l.known.counts.items y;
+  same : (y : ℕ) → (l.from ≤ y) ⊎ (IsIn l.at y → ⊥) → joint_at l.known.joints.items y ≡ joint_at l.initial.known.joints.items y;
+  kept : (y : ℕ) → (l.from ≤ y) ⊎ (IsIn l.at y → ⊥) → slice_index l.known.counts.items y ≡ slice_index l.initial.known.counts.items y;
 }
 
 abbrev pub decreases-nodes : goal.decreases-nodes

@@ -1,15 +1,14 @@
-use Rattle.std.proofs.Common.{◌≡◌, ◌∙◌, ℕ, ◌<◌, ◌≤◌, ◌^◌, List, ◌++◌, map, length, Option, Some, subst, sym, ap, arith}
+use Rattle.std.proofs.Common.{◌≡◌, ◌∙◌, ℕ, ◌<◌, ◌≤◌, ◌^◌, List, ◌++◌, map, Option, Some, subst, sym, ap, arith}
 use Rattle.std.specs.Prelude.{option_to_list}
-use Rattle.std.specs.Global.{Vec}
 use Rattle.node_sets.specs.Sets.{holds, IsIn}
 use Rattle.size_precheck.specs.declared.planners.Family.{Family}
 use Rattle.size_precheck.specs.Families.{family_at, IsFamily, IsJoined, IsNarrowed}
 use Rattle.size_precheck.specs.declared.simulation.Start.{Start}
 use Rattle.size_precheck.specs.declared.joints.Joint.{Joint}
-use Rattle.size_precheck.specs.declared.joints.Table.{Table}
-use Rattle.size_precheck.specs.Joints.{counted_over, joint_at, IsCounted, Tells, IsStarted, family_test, parents_test}
+use Rattle.size_precheck.specs.declared.joints.Known.{Known}
+use Rattle.size_precheck.specs.Joints.{counted_over, joint_at, IsCounted, IsStarted, family_test, parents_test}
 use Rattle.size_precheck.proofs.Counting.{counted_few, stopped_few}
-use Rattle.size_precheck.proofs.Putting.{back_written, put_none, put_more, started_without, started_with}
+use Rattle.size_precheck.proofs.Putting.{put_none, put_more, started_without, started_with}
 use Rattle.size_precheck.proofs.starts.put_all_first.Goals as goal
 use Rattle.size_precheck.proofs.starts.put_all_first.Goals.{in-Some-utility, in_default-utility}
 
@@ -54,40 +53,30 @@ returns-clause-started c list listed =
     let inv = c.tables.invariant in
     let nodes = c.args.diagram.now.nodes in
     let states = c.args.planner.now.states.items in
-    let joints : List Joint = c.in_ok-joints.field-0.joints.items in
-    let counts : List ℕ = c.in_ok-joints.field-0.counts.items in
-    let narrowed : (y : ℕ) → IsIn c.args.waiting.now y → IsNarrowed states c.args.planner.now.families.items c.args.planner.now.joints.items c.args.planner.now.counts.items c.args.ruled.now y joints counts = c.in_ok-joints.ensures.narrowed in
+    let joints : List Joint = c.in_ok-known.known.joints.items in
+    let counts : List ℕ = c.in_ok-known.known.counts.items in
+    let narrowed : (y : ℕ) → IsIn c.args.waiting.now y → IsNarrowed states c.args.planner.now.families.items c.args.planner.now.joints.items c.args.planner.now.counts.items c.args.ruled.now y joints counts = c.in_ok-known.ensures.narrowed in
     let joined : (y : ℕ) → IsIn c.args.waiting.now y → IsJoined nodes (IsIn c.args.ruled.now) y (joint_at joints y) =
     λ y m. (narrowed y m).joined nodes c.requires.planner.families c.requires.ruled (c.requires.planner.joints y (c.requires.waiting y m)) in
     let counted : (y : ℕ) → IsIn c.args.waiting.now y → IsCounted states joints counts y = λ y m. (narrowed y m).counted (c.requires.planner.counts y (c.requires.waiting y m)) in
-    let start : Start = record { joints = c.match-utility.joints; counts = c.match-utility.counts; live = c.match-utility.live; cells = c.match-utility.cells } in
+    let start : Start = record { known = c.match-utility.known; live = c.match-utility.live; cells = c.match-utility.cells } in
     elim c.match-utility.branch [
       | in-Some-utility w ↦
           let u : ℕ = w.in-Some-utility.u in
           let some : c.args.utility ≡ Some u = w.in-Some-utility.is in
-          let before : w.deref_mut.result.now ≡ joints = w.deref_mut.ensures.value in
-          let before_counts : w.deref_mut-in-Some-utility.result.now ≡ counts = w.deref_mut-in-Some-utility.ensures.value in
-          let same : length w.put_utility.new.joints ≡ length joints = w.put_utility.ensures.len ∙ ap (λ (js : List Joint). length js) before in
-          let same_counts : length w.put_utility.new.counts ≡ length counts = w.put_utility.ensures.counts_len ∙ ap (λ (cs : List ℕ). length cs) before_counts in
-          let ok = c.in_ok-joints.field-0.joints.ok in
-          let ok_counts = c.in_ok-joints.field-0.counts.ok in
-          let back = back_written c.in_ok-joints.field-0.joints.len w.put_utility.new.joints joints same (omega arith) in
-          let back_counts = back_written c.in_ok-joints.field-0.counts.len w.put_utility.new.counts counts same_counts (omega arith) in
           let small : u < 256 = let a = c.requires.known u some in let b = c.requires.planner.states.few in omega arith in
           subst (λ (o : Option ℕ). IsStarted nodes states (IsIn c.args.waiting.now) (map (family_test nodes) list ++ map (parents_test nodes) (option_to_list o)) start) (sym some)
           (started_with nodes states c.args.ruled.now c.args.waiting.now c.tables.from inv.within c.in_default.ensures c.requires.planner.states joints counts joined counted c.tables.live c.tables.cells inv.put list listed
-          u w.utility_table-table.result w.put_utility.new.joints w.put_utility.new.counts w.count_cells.result start small (c.requires.unruled u some) (c.requires.kept u some)
+          u w.utility_table-table.result w.put_utility.new.known.joints.items w.put_utility.new.known.counts.items w.count_cells.result start small (c.requires.unruled u some) (c.requires.kept u some)
           w.utility_table-table.ensures.tag w.utility_table-table.ensures.scope
-          (λ (tables : List Table) (y : ℕ) m h. w.put_utility.ensures.tells tables y m (subst (λ (js : List Joint). Tells tables y (joint_at js y)) (sym before) h))
+          w.put_utility.ensures.tells
           (λ (y : ℕ) m h.
-          subst (λ (xs : List ℕ). IsCounted xs w.put_utility.new.joints w.put_utility.new.counts y) c.as_slice-states.ensures.value
-          (w.put_utility.ensures.counted y m
-          (subst (λ (xs : List ℕ). IsCounted xs w.deref_mut.result.now w.deref_mut-in-Some-utility.result.now y) (sym c.as_slice-states.ensures.value)
-          (subst (λ (js : List Joint). IsCounted states js w.deref_mut-in-Some-utility.result.now y) (sym before) (subst (λ (cs : List ℕ). IsCounted states joints cs y) (sym before_counts) h)))))
+          subst (λ (xs : List ℕ). IsCounted xs w.put_utility.new.known.joints.items w.put_utility.new.known.counts.items y) c.as_slice-states.ensures.value
+          (w.put_utility.ensures.counted y m (subst (λ (xs : List ℕ). IsCounted xs joints counts y) (sym c.as_slice-states.ensures.value) h)))
           (w.count_cells.ensures ∙ ap (λ (xs : List ℕ). counted_over xs (holds w.utility_table-table.result.scope)) c.as_slice-states.ensures.value)
-          (ap (λ (v : Vec Joint). v.items) w.joints-is ∙ back) (ap (λ (v : Vec ℕ). v.items) w.counts-is ∙ back_counts) w.live-is (w.cells-is ∙ w.add-cells-in-Some-utility.ensures))
+          (ap (λ (k : Known). k.joints.items) w.known-is) (ap (λ (k : Known). k.counts.items) w.known-is) w.live-is (w.cells-is ∙ w.add-cells-in-Some-utility.ensures))
       | in_default-utility w ↦
           subst (λ (o : Option ℕ). IsStarted nodes states (IsIn c.args.waiting.now) (map (family_test nodes) list ++ map (parents_test nodes) (option_to_list o)) start) (sym w.in_default-utility.is)
           (started_without nodes states c.args.ruled.now c.args.waiting.now c.tables.from inv.within c.in_default.ensures c.requires.planner.states joints counts joined counted c.tables.live c.tables.cells inv.put list listed
-          start (ap (λ (v : Vec Joint). v.items) w.joints-is) (ap (λ (v : Vec ℕ). v.items) w.counts-is) w.live-is w.cells-is)
+          start (ap (λ (k : Known). k.joints.items) w.known-is) (ap (λ (k : Known). k.counts.items) w.known-is) w.live-is w.cells-is)
     ]
