@@ -2,25 +2,29 @@
 use Rattle.std.specs.Prelude.{ℕ, ◌-◌, ◌==◌, List, ◌++◌, codes, decimal, if◌then◌else◌}
 use Rattle.std.specs.List.{flat_map, range_with_len}
 
--- a text with one number in it, and with two
+-- a text with one number in it
 abbrev pub with_one : List ℕ → ℕ → List ℕ → List ℕ
 with_one before number behind = before ++ decimal number ++ behind
 
+-- a text with two numbers in it
 abbrev pub with_two : List ℕ → ℕ → List ℕ → ℕ → List ℕ → List ℕ
 with_two before first between second behind =
     before ++ decimal first ++ between ++ decimal second ++ behind
 
--- a stage's node blocks: a state, a decision that stays or flips, and a utility
+-- the node block of a stage's state
 abbrev pub state_block : ℕ → List ℕ
 state_block i = codes "node X" ++ decimal i ++ codes " { states = (\"s1\" \"s2\"); }\n"
 
+-- the node block of its decision, which stays or flips
 abbrev pub choice_block : ℕ → List ℕ
 choice_block i = codes "decision D" ++ decimal i
     ++ codes " { states = (\"stay\" \"flip\"); agent = \"agent\"; }\n"
 
+-- the node block of its utility
 abbrev pub worth_block : ℕ → List ℕ
 worth_block i = codes "utility U" ++ decimal i ++ codes " { agent = \"agent\"; }\n"
 
+-- a stage's three node blocks
 abbrev pub stage_blocks : ℕ → List ℕ
 stage_blocks i = state_block i ++ choice_block i ++ worth_block i
 
@@ -44,13 +48,15 @@ abbrev pub worth_potential : ℕ → List ℕ
 worth_potential i =
     codes "potential (U" ++ decimal i ++ codes " | X" ++ decimal i ++ codes ") { data = (1 0); }\n"
 
+-- a stage's three potentials
 abbrev pub stage_potentials : ℕ → List ℕ
 stage_potentials i = state_potential i ++ choice_potential i ++ worth_potential i
 
--- so many stages' node blocks, and so many stages' potentials
+-- the node blocks of so many stages
 abbrev pub blocks_of : ℕ → List ℕ
 blocks_of k = flat_map stage_blocks (range_with_len 0 k)
 
+-- the potentials of so many stages
 abbrev pub potentials_of : ℕ → List ℕ
 potentials_of k = flat_map stage_potentials (range_with_len 0 k)
 

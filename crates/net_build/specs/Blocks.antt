@@ -25,6 +25,7 @@ is_node Decision = true
 is_node Utility = true
 is_node kind = false
 
+-- a block of a potential
 abbrev pub is_potential : BlockKind → Bool
 is_potential Potential = true
 is_potential kind = false
@@ -37,6 +38,7 @@ node_blocks blocks = filter (λ b. is_node b.kind) blocks
 abbrev pub potentials : List BlockTree → List BlockTree
 potentials blocks = filter (λ b. is_potential b.kind) blocks
 
+-- the kind of the node that a node block stands for
 abbrev pub kind_of : BlockKind → Kind
 kind_of Node = model.Chance
 kind_of Decision = model.Decision
@@ -54,9 +56,11 @@ title block = slice_index_or block.names 0 no_token
 abbrev pub title_at : BlockTree → ℕ
 title_at block = (title block).start
 
+-- the bytes of a node block's name, and of a potential's head
 abbrev pub block_name : List ℕ → BlockTree → List ℕ
 block_name text block = token_bytes text (title block)
 
+-- the names of these blocks, in order
 abbrev pub names_of : List ℕ → List BlockTree → List (List ℕ)
 names_of text blocks = map (block_name text) blocks
 
@@ -141,14 +145,17 @@ telling_owners text kind attributes = filter (λ a. names_owners kind (word_of t
 abbrev pub owner_attributes : List ℕ → BlockTree → List AttributeTree
 owner_attributes text block = telling_owners text block.kind block.attributes
 
+-- a token that is a string
 abbrev pub is_text : TokenKind → Bool
 is_text tokens.Text = true
 is_text kind = false
 
+-- a token that is a number
 abbrev pub is_number : TokenKind → Bool
 is_number tokens.Number = true
 is_number kind = false
 
+-- values that are strings: one, or all of a list
 abbrev mutual
   -- a string
   pub is_string : ValueTree → Bool
@@ -199,6 +206,7 @@ block_labels text block = map (text_value text) (label_tokens text block)
 abbrev pub block_states : List ℕ → BlockTree → ℕ
 block_states text block = if has_states block.kind then length (label_tokens text block) else 1
 
+-- these strings with escapes undone, and "agent" where there is none
 abbrev pub texts_or_agent : List ℕ → List Token → List (List ℕ)
 texts_or_agent text [] = codes "agent" ∷ []
 texts_or_agent text (token ∷ tokens) = map (text_value text) (token ∷ tokens)
@@ -248,6 +256,7 @@ abbrev pub block_parents : List ℕ → List BlockTree → List ℕ → List ℕ
 block_parents text blocks name =
     option_map_or (condition_places text (node_blocks blocks)) (potential_of text blocks name) []
 
+-- the parents of each node, in text order
 abbrev pub parent_lists : List ℕ → List BlockTree → List (List ℕ)
 parent_lists text blocks =
     map (λ b. block_parents text blocks (block_name text b)) (node_blocks blocks)

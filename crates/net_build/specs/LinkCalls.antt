@@ -11,7 +11,7 @@ use Rattle.net_build.specs.declared.faults.BuildFault.TheVariants.{Fault}
 use Rattle.net_build.specs.declared.faults.BuildKind.TheVariants.{GraphCycle}
 use Rattle.net_build.specs.declared.nodes.Head.{Head}
 use Rattle.net_build.specs.Blocks.{conditions, potentials}
-use Rattle.net_build.specs.Linking.{absent_row, block_steps, borrowed_trees, condition_steps, conditions_steps, links_steps, missing_at, node_named, parents_in, potential_steps, potentials_among, potentials_steps, rules_before}
+use Rattle.net_build.specs.Linking.{absent_row, block_steps, borrowed_trees, condition_steps, conditions_steps, links_steps, missing_at, node_named, parents_in, potentials_among, potentials_steps, rules_before}
 use Rattle.net_build.specs.Lists.{numbers_of_lists}
 use Rattle.net_build.specs.Passes.{build_fault}
 use Rattle.net_build.specs.Stages.{LinkLists, cells_at, head_at}
@@ -27,12 +27,6 @@ abbrev pub PassesConditions : {A : Type 0} → List ℕ → List (List ℕ) → 
     → Result A BuildFault → Type 0
 PassesConditions text names heads conditions result =
     Passes build_fault (conditions_steps text names heads conditions) result
-
--- a potential with that head and these conditions, behind those that the nodes have
-abbrev pub PassesPotential : {A : Type 0} → List ℕ → List (List ℕ) → List Head
-    → List (Option (Bor BlockTree)) → Token → List Token → Result A BuildFault → Type 0
-PassesPotential text names heads potentials head conditions result = Passes build_fault
-    (potential_steps text names heads (borrowed_trees potentials) head conditions) result
 
 -- the block of a potential, behind those that the nodes have
 abbrev pub PassesBlock : {A : Type 0} → List ℕ → List (List ℕ) → List Head

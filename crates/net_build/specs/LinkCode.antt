@@ -5,6 +5,7 @@ use Rattle.net_parser.specs.Trees.{BlockTree}
 use Rattle.net_parser.specs.TreeCode.{block_code}
 use Rattle.net_build.specs.Stages.{LinkLists}
 
+-- parents and potentials stand for the pair of their lists, and come back from it
 abbrev pub link_code : Coded LinkLists
 link_code = code_by (List (List ℕ) × List (Option BlockTree))
     (coded× (coded_list (coded_list coded_ℕ)) (coded_list (coded_option block_code)))

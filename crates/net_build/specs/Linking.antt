@@ -168,6 +168,7 @@ abbrev pub rules_before : List Head → List (List ℕ) → ℕ → ℕ
 rules_before heads parents n = sum (map (cells_at heads parents) (filter
     (λ v. is_decision (head_at heads v).kind) (range_with_len 0 n)))
 
+-- node v over its own parents, behind the rules of the nodes before it
 abbrev pub size_steps_at : List Head → List (List ℕ) → ℕ → Pass Found
 size_steps_at heads parents v =
     size_rows_over heads (slice_index_or parents v []) v (rules_before heads parents v)

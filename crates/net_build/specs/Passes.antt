@@ -30,6 +30,7 @@ pub data KindView : Type 0 where
   WideValue : KindView
   LimitPassed : Limit → ℕ → KindView
 
+-- what the code calls a fault, as one of these
 abbrev pub kind_view : BuildKind → KindView
 kind_view kinds.DoubleName = DoubleName
 kind_view kinds.DoubleAttribute = DoubleAttribute
@@ -58,6 +59,7 @@ pub record Found : Type 0 where
   pub at : ℕ
   pub kind : KindView
 
+-- a fault of that kind at that place
 abbrev pub found : ℕ → KindView → Found
 found at kind = record { at = at; kind = kind }
 

@@ -8,6 +8,7 @@ use Rattle.net_build.specs.Zero.{nought}
 use Rattle.net_lexer.specs.Token.{token_bytes}
 use Rattle.net_lexer.specs.declared.tokens.Token.{Token}
 
+-- the decimal number i, and nought where there is none
 abbrev pub decimal_at : List Decimal → ℕ → Decimal
 decimal_at decimals i = slice_index_or decimals i nought
 

@@ -29,6 +29,7 @@ abbrev pub are_string_values : List Value → Bool
 are_string_values [] = false
 are_string_values (v ∷ vs) = list_all (λ w. is_string (value_tree w)) (v ∷ vs)
 
+-- one or more tokens, and each is a string
 abbrev pub are_text_tokens : List Token → Bool
 are_text_tokens [] = false
 are_text_tokens (t ∷ ts) = list_all (λ u. is_text u.kind) (t ∷ ts)
@@ -50,6 +51,7 @@ first_owner text nodes block = slice_index_or (owners_of text nodes block) 0 0
 abbrev pub more_owners : List ℕ → List BlockTree → BlockTree → List ℕ
 more_owners text nodes block = drop 1 (owners_of text nodes block)
 
+-- the head of a node: what its block says in numbers
 abbrev pub head_of : List ℕ → List BlockTree → BlockTree → Head
 head_of text nodes block = record {
   at = title_at block;
@@ -62,6 +64,7 @@ head_of text nodes block = record {
 abbrev pub heads_of : List ℕ → List BlockTree → List Head
 heads_of text nodes = map (head_of text nodes) nodes
 
+-- what these node blocks say, node by node, with their agents
 abbrev pub node_lists : List ℕ → List BlockTree → NodeLists
 node_lists text nodes = record {
   names = names_of text nodes;
@@ -85,15 +88,18 @@ pub record LinkLists : Type 0 where
   pub parents : List (List ℕ)
   pub potentials : List (Option BlockTree)
 
+-- what the potentials of a text's blocks say, node by node
 abbrev pub link_lists : List ℕ → List BlockTree → LinkLists
 link_lists text blocks = record {
   parents = parent_lists text blocks;
   potentials = potential_list text blocks;
 }
 
+-- what stands for a head that isn't there
 abbrev pub no_head : Head
 no_head = record { at = 0; kind = Utility; owner = 0; states = 1 }
 
+-- the head of node v
 abbrev pub head_at : List Head → ℕ → Head
 head_at heads v = slice_index_or heads v no_head
 
@@ -151,6 +157,7 @@ abbrev pub made_at : List Head → List (List ℕ) → List (List ℕ) → List 
 made_at heads more parents cells v = made_node (head_at heads v) (slice_index_or more v [])
     (slice_index_or parents v []) (slice_index_or cells v [])
 
+-- the nodes of these lists, one for each head
 abbrev pub made_nodes : List Head → List (List ℕ) → List (List ℕ) → List (List ℤ) → List NodeView
 made_nodes heads more parents cells =
     map (made_at heads more parents cells) (range_with_len 0 (length heads))

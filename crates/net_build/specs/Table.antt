@@ -35,6 +35,7 @@ repeated_row text earlier a = rule (Contains (map (topic_of text) earlier) (topi
 unfoldable pub repeats : List ℕ → BlockTree → Pass Found
 repeats text block = each_after (repeated_row text) [] (counted text block)
 
+-- a label has a byte below 32 or more than 255 bytes
 abbrev pub label_row : List ℕ → Token → Pass Found
 label_row text label = rule (is_plain (text_value text label) ≡ false) (found label.start BadLabel)
 
@@ -51,11 +52,14 @@ unfoldable pub states_rows : List ℕ → BlockTree → List AttributeTree → P
 states_rows text block [] = always (found (title_at block) MissingStates)
 states_rows text block (states ∷ more) = label_rows text states
 
+-- the agent that is named there is one of those seen
+abbrev pub seen_agent_row : List (List ℕ) → ℕ → List ℕ → Pass Found
+seen_agent_row seen at agent = rule (Contains seen agent) (found at RepeatedAgent)
+
 -- an agent that stands among those before it
 abbrev pub repeated_agent_row : List ℕ → List Token → Token → Pass Found
-repeated_agent_row text earlier agent = rule
-    (Contains (map (text_value text) earlier) (text_value text agent))
-    (found agent.start RepeatedAgent)
+repeated_agent_row text earlier agent =
+    seen_agent_row (map (text_value text) earlier) agent.start (text_value text agent)
 
 -- what tells the owners isn't one or more plain strings, as it must be
 abbrev pub bad_agent_row : List ℕ → AttributeTree → Pass Found
@@ -146,6 +150,7 @@ links_pass text blocks =
 abbrev pub no_block : BlockTree
 no_block = record { kind = Net; names = []; attributes = [] }
 
+-- a leaf of `data` is no number
 abbrev pub number_row : Token → Pass Found
 number_row leaf = rule (is_number leaf.kind ≡ false) (found leaf.start NotANumber)
 
@@ -154,10 +159,12 @@ abbrev pub IsNumberTooLong : List ℕ → Type 0
 IsNumberTooLong numeral =
     (d : Decimal) → IsDecimalOf (numerator numeral) (denominator numeral) d → ⊥
 
+-- a number has no value within the limits of decimals
 abbrev pub length_row : List ℕ → Token → Pass Found
 length_row text number =
     rule (IsNumberTooLong (token_bytes text number)) (found number.start NumberTooLong)
 
+-- a number is below nought
 abbrev pub sign_row : List ℕ → Token → Pass Found
 sign_row text number =
     rule (numerator (token_bytes text number) <ℤ pos 0) (found number.start Negative)
@@ -222,6 +229,7 @@ abbrev pub node_part : List ℕ → Kind → ℕ → ℕ → Option BlockTree �
 node_part text Decision rows states potential = clear
 node_part text kind rows states potential = draft_part text kind rows states potential
 
+-- the potential of node v, where it has one
 abbrev pub potential_at : LinkLists → ℕ → Option BlockTree
 potential_at links v = slice_index_or links.potentials v None
 
@@ -268,6 +276,7 @@ abbrev pub IsWideValue : ℕ → List ℕ → Type 0
 IsWideValue scale numeral =
     greatest_number * denominator numeral < nat_abs (numerator numeral) * 10 ^ scale
 
+-- a value is too wide to that scale
 abbrev pub wide_row : List ℕ → ℕ → Token → Pass Found
 wide_row text scale number =
     rule (IsWideValue scale (token_bytes text number)) (found number.start WideValue)

@@ -26,9 +26,10 @@ PassesNodeTable text heads links node result =
 abbrev pub SetsPotential : {P : Type 0} → List (Option P) → List (Option P) → ℕ → P → Type 0
 SetsPotential before now place potential = now ≡ slice_set before place (Some potential)
 
--- with the links that the blocks of the text make: the drafts of the nodes, and that their tables have no fault
+-- the drafts of the nodes, with the links that the blocks of the text make
 abbrev pub AreDraftsIn : List ℕ → NodeLists → List BlockTree → List Draft → Type 0
 AreDraftsIn text nodes blocks drafts = AreDrafts text nodes.heads (link_lists text blocks) drafts
 
+-- with those links no table of a node has a fault
 abbrev pub PassesDrafts : List ℕ → NodeLists → List BlockTree → Type 0
 PassesDrafts text nodes blocks = drafts_pass text nodes.heads (link_lists text blocks) None

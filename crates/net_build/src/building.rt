@@ -68,6 +68,32 @@ fn make_nodes(
     Ok(nodes)
 }
 
+// The diagram of these parts. The tables are moved into it.
+fn make_diagram(
+    alloc: Global,
+    nodes: &Nodes,
+    links: &Links<'_, '_>,
+    tables: Tables,
+) -> Result<Diagram, AllocError>
+    requires more { length nodes.now.more ≡ length nodes.now.heads }
+    requires parents { length links.now.parents ≡ length nodes.now.heads }
+    requires tables { length tables.cells ≡ length nodes.now.heads }
+    requires diagram { IsDiagram (made_diagram nodes.now links.now tables) }
+    ensures { IfOk result (λ diagram. diagram ≡ made_diagram nodes.now links.now tables) }
+{
+    let mut cells = tables.cells;
+    let list = make_nodes(alloc, &nodes.heads, &nodes.more, &links.parents, &mut cells)?;
+    Ok(Diagram::from_nodes(list, nodes.agents.len(), tables.decimals))
+}
+
+// The names, labels and agents of these nodes.
+fn make_names(alloc: Global, nodes: Nodes) -> Result<Names, AllocError>
+    ensures { IfOk result (λ names. names ≡ names_from nodes) }
+{
+    let node_names = nodes.names.into_list(alloc)?;
+    Ok(Names::from_lists(node_names, nodes.labels, nodes.agents))
+}
+
 // The diagram and the names of these parts.
 fn assemble(
     alloc: Global,
@@ -82,11 +108,8 @@ fn assemble(
     ensures diagram { IfOk result (λ built. built.0 ≡ made_diagram nodes links.now tables) }
     ensures names { IfOk result (λ built. built.1 ≡ names_from nodes) }
 {
-    let mut cells = tables.cells;
-    let list = make_nodes(alloc, &nodes.heads, &nodes.more, &links.parents, &mut cells)?;
-    let diagram = Diagram::from_nodes(list, nodes.agents.len(), tables.decimals);
-    let node_names = nodes.names.into_list(alloc)?;
-    let names = Names::from_lists(node_names, nodes.labels, nodes.agents);
+    let diagram = make_diagram(alloc, &nodes, links, tables)?;
+    let names = make_names(alloc, nodes)?;
     Ok((diagram, names))
 }
 

@@ -27,7 +27,7 @@ use std::alloc::{AllocError, Global};
 use weight_scale::Decimal;
 
 /// A node's table: its cells (none at a decision), or a utility's values, which are still to be scaled.
-#[derive(Debug, Drop)]
+#[derive(Drop)]
 pub enum Draft {
     Cells(Vec<i128>),
     Values(Vec<Decimal>),

@@ -22,7 +22,7 @@ use std::marker::Model;
 
 /// What a node block says in numbers: where its name stands, and the node's kind, the number of its first owner (0 at
 /// a chance node) and the count of its states.
-#[derive(Clone, Copy, Debug)]
+#[derive(Clone, Copy)]
 pub struct Head {
     pub at: u32,
     pub kind: Kind,

@@ -1,12 +1,12 @@
 //! The names of a node's owners: the string of `agent`, or the strings of `agents`.
 
-ghost use Rattle.std.specs.Prelude.{◌≡◌, [], ◌∷◌, All, map, true, false, IfSome, bytes_eq, codes};
+ghost use Rattle.std.specs.Prelude.{◌≡◌, ◌++◌, [], ◌∷◌, All, map, true, false, IfSome, OnOk, bytes_eq, codes};
 ghost use Rattle.net_build.specs.Blocks.{owner_names, telling_owners, texts_or_agent, word_of, IsFirst};
 ghost use Rattle.maid_model.specs.Names.{list_of};
 ghost use Rattle.first_fault.specs.Passes.{each_after};
 ghost use Rattle.first_fault.specs.Answers.{Passes};
 ghost use Rattle.net_build.specs.Passes.{build_fault};
-ghost use Rattle.net_build.specs.Table.{repeated_agent_row, agent_rows, bad_agent_row};
+ghost use Rattle.net_build.specs.Table.{repeated_agent_row, seen_agent_row, agent_rows, bad_agent_row};
 ghost use Rattle.net_lexer.specs.Token.{text_value};
 ghost use Rattle.net_lexer.specs.declared.tokens.TokenKind.TheVariants.{Text};
 ghost use Rattle.net_parser.specs.Owned.{IsAttributeOf, IsBlockOf, leaves};
@@ -118,6 +118,18 @@ fn agent_names(
     }
 }
 
+// The agent is none of those seen, and is seen from now on.
+fn see_agent(alloc: Global, seen: &mut NodeNames, agent: &[u8], at: u32) -> Result<(), BuildFault>
+    ensures row { Passes build_fault (seen_agent_row seen.old at agent.now) result }
+    ensures seen { OnOk result (seen.new ≡ seen.old ++ agent.now ∷ []) }
+{
+    if seen.place(agent).is_some() {
+        return Err(BuildKind::RepeatedAgent.at(at));
+    }
+    seen.add(Vec::from_slice(alloc, agent)?)?;
+    Ok(())
+}
+
 // None of the names stands a second time; they are those of these strings. It goes over them once.
 fn check_distinct(
     alloc: Global,
@@ -131,11 +143,7 @@ fn check_distinct(
     let _ = text;
     let mut seen = NodeNames::new(alloc);
     for (place, agent) in agents.iter().enumerate() {
-        let name = &names[place];
-        if seen.place(name).is_some() {
-            return Err(BuildKind::RepeatedAgent.at(agent.start));
-        }
-        seen.add(Vec::from_slice(alloc, name)?)?;
+        see_agent(alloc, &mut seen, &names[place], agent.start)?;
     }
     Ok(())
 }

@@ -19,7 +19,7 @@ use net_parser::{Block, BlockKind};
 use std::alloc::Global;
 
 /// The numbers of a node's owners: of the first, and of the further ones in written order.
-#[derive(Debug, Drop)]
+#[derive(Drop)]
 pub struct Owners {
     pub first: usize,
     pub more: Vec<usize>,

@@ -8,11 +8,12 @@ ghost use Rattle.net_build.specs.Linking.{node_named, borrowed_trees, taken_row,
 ghost use Rattle.net_build.specs.Lists.{numbers_of_lists};
 ghost use Rattle.first_fault.specs.Answers.{Passes};
 ghost use Rattle.net_build.specs.Passes.{build_fault};
-ghost use Rattle.net_build.specs.LinkCalls.{AreConditionNodes, AreNodesNamed, HasParents, HasPotentials, PassesAbsent, PassesBlock, PassesMissing, PassesPotential, PassesPotentials, SetsList};
+ghost use Rattle.net_build.specs.LinkCalls.{AreConditionNodes, AreNodesNamed, HasParents, HasPotentials, PassesAbsent, PassesBlock, PassesMissing, PassesPotentials, SetsList};
 ghost use Rattle.net_build.specs.TableSteps.{SetsPotential};
 
 use crate::conditions::{read_conditions, read_name};
 use crate::faults::{BuildFault, BuildKind, Limit};
+use crate::labels::title;
 use crate::links::Links;
 use crate::node_names::NodeNames;
 use crate::nodes::Head;
@@ -51,33 +52,6 @@ fn check_count(head: &Token, conditions: &[Token]) -> Result<(), BuildFault>
     Ok(())
 }
 
-// The node at a potential's head and those behind its bar.
-fn read_potential(
-    alloc: Global,
-    text: &[u8],
-    names: &NodeNames,
-    heads: &[Head],
-    potentials: &[Option<&Block<'_>>],
-    head: &Token,
-    conditions: &[Token],
-) -> Result<(usize, Vec<usize>), BuildFault>
-    requires head { IsTokenOf text.now head.now }
-    requires conditions { All (IsTokenOf text.now) conditions.now }
-    requires heads { length heads.now ≡ length names.now }
-    requires potentials { length potentials.now ≡ length names.now }
-    ensures rows { PassesPotential text.now names.now heads.now potentials.now head.now conditions.now result }
-    ensures node { IfOk result (λ read. read.0 ≡ node_named text.now names.now head.now) }
-    ensures within { IfOk result (λ read. read.0 < length names.now) }
-    ensures parents { IfOk result (λ read. AreNodesNamed text.now names.now conditions.now read.1) }
-    ensures fit { IfOk result (λ read. AreParents heads.now read.1.items) }
-{
-    let node = read_name(text, names, head)?;
-    check_single(potentials, node, head)?;
-    let parents = read_conditions(alloc, text, names, heads, conditions)?;
-    check_count(head, conditions)?;
-    Ok((node, parents))
-}
-
 fn is_potential(block: &Block<'_>) -> bool
     ensures { result ≡ is_potential block.now.kind }
 {
@@ -92,8 +66,16 @@ fn behind_first(tokens: &[Token]) -> &[Token]
     &tokens[1..]
 }
 
+// The names behind a potential's bar.
+fn conditions<'a>(potential: &'a Block<'_>) -> &'a [Token]
+    requires { 0 < length potential.now.names }
+    ensures { result.now ≡ conditions potential.now }
+{
+    behind_first(&potential.names)
+}
+
 // The node at the head of a potential, and its parents.
-fn read_block(
+fn read_potential(
     alloc: Global,
     text: &[u8],
     names: &NodeNames,
@@ -111,10 +93,13 @@ fn read_block(
     ensures parents { IfOk result (λ read. AreConditionNodes text.now names.now block.now read.1) }
     ensures fit { IfOk result (λ read. AreParents heads.now read.1.items) }
 {
-    let tokens = block.names.as_slice();
-    let head = &tokens[0];
-    let conditions = behind_first(tokens);
-    read_potential(alloc, text, names, heads, potentials, head, conditions)
+    let head = title(block);
+    let conditions = conditions(block);
+    let node = read_name(text, names, &head)?;
+    check_single(potentials, node, &head)?;
+    let parents = read_conditions(alloc, text, names, heads, conditions)?;
+    check_count(&head, conditions)?;
+    Ok((node, parents))
 }
 
 // No parents for each of so many nodes.
@@ -129,14 +114,10 @@ fn no_parents(alloc: Global, count: usize) -> Result<Vec<Vec<usize>>, AllocError
 }
 
 // Nothing for each of so many nodes.
-fn nothing_each<P: Drop>(alloc: Global, count: usize) -> Result<Vec<Option<P>>, AllocError>
+fn nothing_each<P: Copy>(alloc: Global, count: usize) -> Result<Vec<Option<P>>, AllocError>
     ensures { IfOk result (λ found. found.items ≡ replicate count None) }
 {
-    let mut found = Vec::with_capacity(alloc, count)?;
-    for _node in 0..count {
-        found.push(None)?;
-    }
-    Ok(found)
+    vec![in alloc; None; count]
 }
 
 // The node has these parents, and this potential.
@@ -176,7 +157,7 @@ pub fn read_potentials<'a, 't>(
     let mut potentials = nothing_each(alloc, names.len())?;
     for block in &syntax.blocks {
         if is_potential(block) {
-            let (node, list) = read_block(alloc, text, names, heads, &potentials, block)?;
+            let (node, list) = read_potential(alloc, text, names, heads, &potentials, block)?;
             enter(&mut parents, &mut potentials, node, list, block);
         }
     }

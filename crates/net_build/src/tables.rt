@@ -26,7 +26,7 @@ use std::alloc::{AllocError, Global};
 use std::marker::Model;
 
 /// The cells of each node (none at a decision), and by how many decimals the utilities are scaled.
-#[derive(Debug, Drop)]
+#[derive(Drop)]
 pub struct Tables {
     pub cells: Vec<Vec<i128>>,
     pub decimals: u32,

@@ -65,6 +65,7 @@ pub record IsDeepList (before : List Lexeme) (l : Lexeme) : Type 0 where
   pub place : (value : Lexeme) → is_leaf value.token.kind ≡ true → IsPossible (before ++ value ∷ [])
   pub mark : IsMark ParenOpen l
 
+-- the impossible token opens one list more than may stand in one another
 abbrev pub IsTooDeep : List Lexeme → List Lexeme → Type 0
 IsTooDeep before [] = ⊥
 IsTooDeep before (l ∷ after) = IsDeepList before l

@@ -25,11 +25,12 @@ abbrev pub One : (Lexeme → Type 0) → Rule
 One P [] to = ⊥
 One P (l ∷ ls) to = P l × (ls ≡ to)
 
--- the one rule and then the other
 infixr 20 ◌▹◌
+-- the tokens of the one rule, and right behind them those of the other
 abbrev pub ◌▹◌ : Rule → Rule → Rule
 (P ▹ Q) from to = (between : List Lexeme) × P from between × Q between to
 
+-- the tokens of the one rule or of the other
 abbrev pub Either : Rule → Rule → Rule
 Either P Q from to = P from to ⊎ Q from to
 
@@ -38,12 +39,15 @@ abbrev pub Each : {A : Type 0} → (A → Rule) → List A → Rule
 Each P [] = Empty
 Each P (x ∷ xs) = P x ▹ Each P xs
 
+-- a mark of that kind, as a brace or a semicolon
 abbrev pub Mark : TokenKind → Rule
 Mark kind = One (IsMark kind)
 
+-- that very word, as `node` or `potential`
 abbrev pub Word : List ℕ → Rule
 Word word = One (IsWord word)
 
+-- that token, which is a name
 abbrev pub Name : Token → Rule
 Name token = One (λ l. IsName l × (l.token ≡ token))
 
@@ -66,6 +70,7 @@ ClosedValues depth values = Values depth values ▹ Mark ParenClose
 pub record IsModelName (l : Lexeme) : Type 0 where
   pub is : IsWord (codes "model_nodes") l ⊎ IsWord (codes "model_data") l
 
+-- an attribute's name; in a potential's body it is none of the model's words
 abbrev pub AttributeName : Bool → Token → Rule
 AttributeName false token = Name token
 AttributeName true token = One (λ l. IsName l × (l.token ≡ token) × (IsModelName l → ⊥))
@@ -104,6 +109,7 @@ Head first Potential (name ∷ given) = PotentialHead name given
 Head true Net [] = Word (codes "net")
 Head first kind names = Never
 
+-- the block is a potential's
 abbrev pub is_potential : BlockKind → Bool
 is_potential Potential = true
 is_potential kind = false

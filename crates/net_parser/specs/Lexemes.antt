@@ -10,13 +10,15 @@ pub record Lexeme : Type 0 where
   pub token : Token
   pub bytes : List ℕ
 
--- the tokens of a text, each with its bytes
+-- a token of a text, with its bytes there
 abbrev pub lexeme_of : List ℕ → Token → Lexeme
 lexeme_of text token = record { token = token; bytes = token_bytes text token }
 
+-- all the tokens of a text, each with its bytes
 abbrev pub lexemes : List ℕ → List Token → List Lexeme
 lexemes text tokens = map (lexeme_of text) tokens
 
+-- a token of that kind
 abbrev pub IsMark : TokenKind → Lexeme → Type 0
 IsMark kind l = l.token.kind ≡ kind
 

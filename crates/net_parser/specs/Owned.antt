@@ -27,6 +27,7 @@ pub record IsNameOf (text : List ℕ) (token : Token) : Type 0 where
   pub own : IsTokenOf text token
   pub name : IsName (lexeme_of text token)
 
+-- an attribute of the text: its name is a name there, and each token of its value stands there
 pub record IsAttributeOf (text : List ℕ) (attribute : AttributeTree) : Type 0 where
   pub name : IsNameOf text attribute.name
   pub value : All (IsLeafOf text) (leaves attribute.value)

@@ -38,10 +38,12 @@ node_kind word = if bytes_eq word (codes "node")
     then Some Decision
     else (if bytes_eq word (codes "utility") then Some Utility else None))
 
+-- a word that begins a block of another profile
 abbrev pub is_foreign : List ℕ → Bool
 is_foreign word = bytes_eq word (codes "continuous") || bytes_eq word (codes "function")
     || bytes_eq word (codes "class") || bytes_eq word (codes "instance")
 
+-- a word that names no attribute of a potential
 abbrev pub is_model_name : List ℕ → Bool
 is_model_name word = bytes_eq word (codes "model_nodes") || bytes_eq word (codes "model_data")
 
@@ -49,6 +51,7 @@ is_model_name word = bytes_eq word (codes "model_nodes") || bytes_eq word (codes
 abbrev pub may_name : Bool → List ℕ → Bool
 may_name potential word = is_name word && not (potential && is_model_name word)
 
+-- the two kinds are one
 abbrev pub same_kind : TokenKind → TokenKind → Bool
 same_kind kinds.Word kinds.Word = true
 same_kind kinds.Text kinds.Text = true
@@ -62,12 +65,15 @@ same_kind kinds.Semicolon kinds.Semicolon = true
 same_kind kinds.Bar kinds.Bar = true
 same_kind a b = false
 
+-- behind `net`: its body
 abbrev pub net_rest : List Symbol
 net_rest = mark kinds.BraceOpen ∷ attributes false ∷ []
 
+-- behind `node`, `decision` or `utility`: the name, and the body
 abbrev pub node_rest : List Symbol
 node_rest = name ∷ mark kinds.BraceOpen ∷ attributes false ∷ []
 
+-- behind `potential`: its head in parentheses, and the body
 abbrev pub potential_rest : List Symbol
 potential_rest = mark kinds.ParenOpen ∷ name ∷ given ∷ mark kinds.BraceOpen ∷ attributes true ∷ []
 
@@ -78,6 +84,7 @@ block_word first word = if bytes_eq word (codes "net") && first then Some net_re
     else (if is_some (node_kind word) then Some node_rest
     else (if bytes_eq word (codes "potential") then Some potential_rest else None)))
 
+-- what may come behind a block's first token, if it may be one
 abbrev pub block_token : Bool → TokenKind → List ℕ → Option (List Symbol)
 block_token first kinds.Word bytes = block_word first bytes
 block_token first kind bytes = None
@@ -115,17 +122,19 @@ pub data Place : Type 0 where
   start : Place
   within : List Symbol → Place
 
+-- what is still to come behind the token, if it may stand in the place
 abbrev pub step : Place → Lexeme → Option (List Symbol)
 step start l = block_token true l.token.kind l.bytes
 step (within []) l = block_token false l.token.kind l.bytes
 step (within (symbol ∷ after)) l =
     option_map (λ symbols. symbols ++ after) (next symbol l.token.kind l.bytes)
 
--- why a token may not stand in a place
+-- why a token may not begin a block
 abbrev pub block_refusal : TokenKind → List ℕ → Stop
 block_refusal kinds.Word bytes = if is_foreign bytes then Unsupported else Unexpected
 block_refusal kind bytes = Unexpected
 
+-- why a token of that kind and with these bytes may not stand in the place of the symbol
 abbrev pub refusal_at : Symbol → TokenKind → List ℕ → Stop
 refusal_at node_word kinds.Word bytes =
     if bytes_eq bytes (codes "function") then Unsupported else Unexpected
@@ -137,6 +146,7 @@ refusal_at (value depth) kinds.ParenOpen bytes = TooDeep
 refusal_at (values depth) kinds.ParenOpen bytes = TooDeep
 refusal_at symbol kind bytes = Unexpected
 
+-- why the token may not stand in the place
 abbrev pub refusal : Place → Lexeme → Stop
 refusal start l = block_refusal l.token.kind l.bytes
 refusal (within []) l = block_refusal l.token.kind l.bytes
@@ -200,6 +210,7 @@ IsFirstWord first words.Discrete word = word ≡ codes "discrete"
 IsFirstWord first (words.Node kind) word = node_kind word ≡ Some kind
 IsFirstWord first words.Potential word = word ≡ codes "potential"
 
+-- a word that begins such a block
 abbrev pub FirstWord : Bool → BlockWord → Rule
 FirstWord first begins from to = (word : List ℕ) × IsFirstWord first begins word × Word word from to
 
@@ -235,12 +246,13 @@ abbrev pub AddsGiven : List Token → List Token → Rule
 AddsGiven before all from to = (given : List Token) × (all ≡ before ++ given)
     × (Given given ▹ Mark kinds.ParenClose) from to
 
--- the names of a head, behind its first word
+-- the name of a node's head, behind its first word
 abbrev pub NodeNames : List Token → Rule
 NodeNames [] = Never
 NodeNames (title ∷ []) = Name title
 NodeNames (title ∷ other ∷ others) = Never
 
+-- the names of a potential's head, in their parentheses
 abbrev pub PotentialNames : List Token → Rule
 PotentialNames [] = Never
 PotentialNames (title ∷ all) = Mark kinds.ParenOpen ▹ Name title ▹ Given all ▹ Mark kinds.ParenClose

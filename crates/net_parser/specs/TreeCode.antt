@@ -7,9 +7,11 @@ use Rattle.net_parser.specs.declared.trees.BlockKind.{BlockKind}
 use Rattle.net_parser.specs.contracts.trees.BlockKind as kind
 use Rattle.net_parser.specs.Trees.{BlockTree, AttributeTree, ValueTree, ValueTrees, leaf, list, none, more}
 
+-- a leaf's token, or where a list opens (true) or closes (false)
 abbrev Mark : Type 0
 Mark = Bool ⊎ Token
 
+-- the marks of a value, or of values, before those that follow
 abbrev mutual
   marks : ValueTree → List Mark → List Mark
   marks (leaf t) after = inr t ∷ after
@@ -23,19 +25,23 @@ abbrev mutual
 abbrev Waiting : Type 0
 Waiting = ValueTrees × List ValueTrees
 
+-- the value stands before the values in front
 abbrev push : ValueTree → Waiting → Waiting
 push value w = (more value w.0, w.1)
 
+-- the values in front become one list before those that follow it
 abbrev wrapped : ValueTrees → List ValueTrees → Waiting
 wrapped now [] = (now, [])
 wrapped now (next ∷ rest) = (more (list now) next, rest)
 
+-- the values that marks stand for, and those behind each list that they only close
 abbrev read : List Mark → Waiting
 read [] = (none, [])
 read (inr t ∷ after) = push (leaf t) (read after)
 read (inl false ∷ after) = (none, (read after).0 ∷ (read after).1)
 read (inl true ∷ after) = wrapped (read after).0 (read after).1
 
+-- the one values and then the others
 abbrev append : ValueTrees → ValueTrees → ValueTrees
 append none others = others
 append (more value values) others = more value (append values others)
@@ -54,6 +60,7 @@ mutual
   read-all_marks none after = refl
   read-all_marks (more value values) after = rw (read-marks value (all_marks values after), read-all_marks values after) refl
 
+-- the first value, or an empty list where there is none
 abbrev first : ValueTrees → ValueTree
 first none = list none
 first (more value values) = value
@@ -61,14 +68,17 @@ first (more value values) = value
 pub back : (value : ValueTree) → first (read (marks value [])).0 ≡ value
 back value = rw (read-marks value []) refl
 
+-- a value's tree as the list of its marks, from which it is read back
 abbrev pub value_code : Coded ValueTree
 value_code = code_by (List Mark) (coded_list (coded⊎ coded_bool token.the_row.coded))
     (λ v. marks v []) (λ ms. first (read ms).0) back
 
+-- an attribute as its name and its value
 abbrev pub attribute_code : Coded AttributeTree
 attribute_code = code_by (Token × ValueTree) (coded× token.the_row.coded value_code)
     (λ a. (a.name, a.value)) (λ p. record { name = p.0; value = p.1 }) (λ _. refl)
 
+-- a block as its kind, its names and its attributes
 abbrev pub block_code : Coded BlockTree
 block_code = code_by (BlockKind × (List Token × List AttributeTree))
     (coded× kind.the_row.coded (coded× (coded_list token.the_row.coded)

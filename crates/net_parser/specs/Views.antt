@@ -16,5 +16,6 @@ value_step (Value-F.Leaf token) = leaf token
 value_step (Value-F.Leaves tokens) = list (trees_of (map leaf tokens.now))
 value_step (Value-F.List values) = list (trees_of values.items)
 
+-- a value of the code as its tree
 abbrev pub value_tree : Value → ValueTree
 value_tree = fold-Value ValueTree value_step

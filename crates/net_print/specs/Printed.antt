@@ -21,9 +21,11 @@ kind_word Chance = codes "node"
 kind_word Decision = codes "decision"
 kind_word Utility = codes "utility"
 
+-- the states of a chance node or a decision: their labels in a list behind `states`
 abbrev pub states_text : List (List ℕ) → List ℕ
 states_text labels = codes "states = (" ++ parted quoted labels ++ codes "); "
 
+-- an owner behind `agent`
 abbrev pub agent_text : List ℕ → List ℕ
 agent_text agent = codes "agent = " ++ quoted agent ++ codes "; "
 
@@ -48,9 +50,9 @@ body_text attributes = codes " { " ++ attributes ++ codes "}"
 abbrev pub owner_names : List NodeView → NamesView → ℕ → List (List ℕ)
 owner_names nodes names v = map (agent_name names) (owners_of nodes v)
 
--- those of the node v
-abbrev pub attributes_text_of : List NodeView → NamesView → ℕ → List ℕ
-attributes_text_of nodes names v =
+-- the attributes in the block of the node v
+abbrev pub attributes_of : List NodeView → NamesView → ℕ → List ℕ
+attributes_of nodes names v =
     attributes_text (node_at nodes v).kind (labels_of names v) (owner_names nodes names v)
 
 -- a node's block

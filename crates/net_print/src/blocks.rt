@@ -5,7 +5,7 @@ ghost use Rattle.maid_model.specs.declared.diagrams.Kind.TheVariants.{Chance, Ut
 ghost use Rattle.maid_model.specs.Names.{NamesFit, labels_of};
 ghost use Rattle.maid_model.specs.Nodes.{node_at};
 ghost use Rattle.maid_model.specs.Reports.{quoted};
-ghost use Rattle.net_print.specs.Printed.{agent_text, kind_word, node_line, parted, states_text, attributes_text_of, nodes_text};
+ghost use Rattle.net_print.specs.Printed.{agent_text, kind_word, node_line, parted, states_text, attributes_of, nodes_text};
 ghost use Rattle.net_print.specs.Parts.{agents_text, more_agents_text};
 ghost use Rattle.line_pieces.specs.Pushed.{PushAppends};
 ghost use Rattle.net_print.specs.NodeTexts.{owners_text_of};
@@ -134,7 +134,7 @@ fn push_attributes(
 ) -> Result<(), AllocError>
     requires fit { NamesFit diagram.now names.now }
     requires node { node < length diagram.now.nodes }
-    ensures { PushAppends out.old out.new result (attributes_text_of diagram.now.nodes names.now node) }
+    ensures { PushAppends out.old out.new result (attributes_of diagram.now.nodes names.now node) }
 {
     match diagram.kind(node) {
         Kind::Chance => push_states(out, diagram, names, node),

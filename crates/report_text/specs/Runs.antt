@@ -1,6 +1,8 @@
 -- The lines of rows under one choice of some parents' states. Only private functions cite it.
-use Rattle.std.specs.Prelude.{◌≡◌, ◌≢◌, ℕ, zero, suc, ◌+◌, ◌<◌, length, List, [], ◌++◌, codes, decimal, slice_index_or}
+use Rattle.std.specs.Prelude.{◌≡◌, ◌≢◌, ℕ, zero, suc, ◌+◌, ◌<◌, ◌≤◌, length, List, Result, [], ◌++◌, codes, decimal, slice_index_or}
 use Rattle.std.specs.Global.{Vec}
+use Rattle.line_pieces.specs.Pushed.{PushAppends}
+use Rattle.report_text.specs.declared.row_runs.Sheet.{Sheet}
 use Rattle.maid_model.specs.declared.answers.Row.{Row}
 use Rattle.maid_model.specs.declared.diagrams.Kind.TheVariants.{Utility}
 use Rattle.maid_model.specs.Views.{DiagramView, NodeView, AnswerView}
@@ -30,15 +32,20 @@ abbrev pub lines_under : DiagramView → NamesView → AnswerView → List ℕ �
 lines_under d names answer labels others first =
     run_lines d.nodes names answer labels others first 0 (rows_under (states_of d.nodes) others)
 
--- those lines stand behind the text that there was, and the labels were these before
-abbrev pub AppendsRun :
-    DiagramView → NamesView → AnswerView → Vec ℕ → List ℕ → ℕ → Vec ℕ → Vec ℕ → Type 0
-AppendsRun d names answer labels others first old new =
-    new.items ≡ old.items ++ lines_under d names answer labels.items others first
+-- the lines of a run of rows that begins with these labels
+abbrev pub PushesRun : {R E : Type 0} → Sheet → Vec ℕ → List ℕ → ℕ → Vec ℕ → Vec ℕ → Result R E
+    → Type 0
+PushesRun sheet labels others first before now result = PushAppends before now result
+    (lines_under sheet.diagram.now sheet.names.now sheet.answer.now labels.items others first)
 
 -- the number behind the last of them
 abbrev pub row_behind : DiagramView → List ℕ → ℕ → ℕ
 row_behind d others first = first + rows_under (states_of d.nodes) others
+
+-- the answer has all these rows
+abbrev pub HasRowsUnder : Sheet → List ℕ → ℕ → Type 0
+HasRowsUnder sheet others first =
+    row_behind sheet.diagram.now others first ≤ length sheet.answer.now.rows
 
 -- a node whose states have labels: one that is no utility
 abbrev pub HasLabels : List NodeView → ℕ → Type 0

@@ -3,6 +3,7 @@
 use Rattle.std.specs.Prelude.{◌≡◌, ◌≢◌, ◌⊎◌, ℕ, zero, suc, ◌+◌, ◌<◌, List, [], ◌∷◌, ◌++◌, Option, IfSome, map, length, codes, decimal, ◌==◌, if◌then◌else◌, Bool, true, not, All, Contains}
 use Rattle.std.specs.List.{flat_map, list_all}
 use Rattle.std.specs.Option.{MatchOption}
+use Rattle.std.specs.Borrow.{Bor}
 use Rattle.maid_model.specs.declared.answers.Ratio.{Ratio}
 use Rattle.maid_model.specs.declared.answers.Row.{Row}
 use Rattle.maid_model.specs.Views.{NodeView, DiagramView, AnswerView, SolvedView}
@@ -34,6 +35,11 @@ pub record IsFront (byte : ℕ) (bytes front rest : List ℕ) : Type 0 where
 abbrev pub LacksFront : List ℕ → List ℕ → Type 0
 LacksFront front bytes = (rest : List ℕ) → bytes ≢ front ++ rest
 
+-- what stands behind the front; none where the bytes do not begin with it
+abbrev pub IsBehindFront : List ℕ → List ℕ → Option (Bor (List ℕ)) → Type 0
+IsBehindFront front bytes found =
+    MatchOption found (LacksFront front bytes) (λ rest. bytes ≡ front ++ rest.now)
+
 -- what is written behind a numerator
 abbrev pub den_text : ℕ → List ℕ
 den_text den = if den == 1 then [] else 47 ∷ decimal den
@@ -62,11 +68,12 @@ state_text names d choice = decimal (choice + 1) ++ 32 ∷ quoted (label_of name
 abbrev pub gain_front : NamesView → ℕ → List ℕ
 gain_front names agent = codes "agent " ++ quoted (agent_name names agent) ++ codes " = "
 
--- the lines of a row and of a gain without their ends
+-- a row's line without its end
 abbrev pub row_words : List NodeView → NamesView → ℕ → ℕ → Row → List ℕ
 row_words nodes names d number row =
     row_front nodes names d number ++ (state_text names d row.choice ++ worth_text row.worth)
 
+-- an agent's line without its end
 abbrev pub gain_words : NamesView → ℕ → Ratio → List ℕ
 gain_words names agent gain = gain_front names agent ++ ratio_text gain
 
@@ -149,6 +156,7 @@ row_slots d number (suc count) = OfRow d number ∷ row_slots d (number + 1) cou
 abbrev pub all_row_slots : List NodeView → ℕ → List Slot
 all_row_slots nodes d = row_slots d 0 (rows_of nodes d)
 
+-- a decision's own line, and those of all its rows
 abbrev pub answer_slots : List NodeView → NamesView → ℕ → List Slot
 answer_slots nodes names d = Told (decision_head nodes names d) ∷ all_row_slots nodes d
 

@@ -1,9 +1,8 @@
 //! Where bytes are cut.
 
-ghost use Rattle.std.specs.Prelude.{◌≡◌, ◌++◌, ◌==◌, not};
+ghost use Rattle.std.specs.Prelude.{◌≡◌, ◌==◌, not};
 ghost use Rattle.std.specs.List.{prefix_len};
-ghost use Rattle.std.specs.Option.{MatchOption};
-ghost use Rattle.report_text.specs.Slots.{IsFront, LacksFront};
+ghost use Rattle.report_text.specs.Slots.{IsBehindFront, IsFront};
 
 // How many bytes stand before the first such byte.
 fn front_len(bytes: &[u8], byte: u8) -> usize
@@ -21,8 +20,7 @@ pub(crate) fn front(bytes: &[u8], byte: u8) -> (&[u8], &[u8])
 
 /// What stands behind the front, if the bytes have it.
 pub(crate) fn behind<'a>(bytes: &'a [u8], front: &[u8]) -> Option<&'a [u8]>
-    ensures { MatchOption result (LacksFront front.now bytes.now)
-        (λ rest. bytes.now ≡ front.now ++ rest.now) }
+    ensures { IsBehindFront front.now bytes.now result }
 {
     bytes.strip_prefix(front)
 }

@@ -5,13 +5,21 @@ ghost use Rattle.std.specs.Prelude.{◌≡◌, ◌<◌, ◌≤◌, ◌++◌, All
 ghost use Rattle.maid_model.specs.Answers.{FitsAnswer};
 ghost use Rattle.maid_model.specs.Names.{NamesFit};
 ghost use Rattle.maid_model.specs.Nodes.{IsDecision, states_of};
-ghost use Rattle.report_text.specs.Runs.{AppendsRun, HasLabels, row_behind};
+ghost use Rattle.report_text.specs.Runs.{HasLabels, HasRowsUnder, PushesRun, row_behind};
 ghost use Rattle.report_text.specs.Pushing.{PushesLabelled, PushesRows};
 
 use crate::report::{parents_of, push_label, push_state, push_worth, states_of};
 use line_pieces::push_number;
 use maid_model::{Answer, Diagram, Names, Row};
 use std::alloc::AllocError;
+
+/// An answered decision of a diagram, and the names that its lines are written with.
+#[derive(Drop)]
+struct Sheet<'a> {
+    diagram: &'a Diagram,
+    names: &'a Names,
+    answer: &'a Answer,
+}
 
 /// Appends the line of one row whose parents' states have these labels. Rows are numbered from 0 here and from 1 in the
 /// text.
@@ -55,21 +63,21 @@ fn behind_first(list: &[usize]) -> &[usize]
 fn push_run(
     out: &mut Vec<u8>,
     labels: &mut Vec<u8>,
-    diagram: &Diagram,
-    names: &Names,
-    answer: &Answer,
+    sheet: &Sheet,
     others: &[usize],
     first: usize,
 ) -> Result<usize, AllocError>
-    requires fit { NamesFit diagram.now names.now }
-    requires answer { FitsAnswer diagram.now.nodes answer.now }
-    requires others { All (HasLabels diagram.now.nodes) others.now }
-    requires rows { row_behind diagram.now others.now first ≤ length answer.now.rows }
-    ensures lines { OnOk result
-        (AppendsRun diagram.now names.now answer.now labels.old others.now first out.old out.new) }
-    ensures next { IfOk result (λ next. next ≡ row_behind diagram.now others.now first) }
+    requires fit { NamesFit sheet.now.diagram.now sheet.now.names.now }
+    requires answer { FitsAnswer sheet.now.diagram.now.nodes sheet.now.answer.now }
+    requires others { All (HasLabels sheet.now.diagram.now.nodes) others.now }
+    requires rows { HasRowsUnder sheet.now others.now first }
+    ensures lines { PushesRun sheet.now labels.old others.now first out.old out.new result }
+    ensures next { IfOk result (λ next. next ≡ row_behind sheet.now.diagram.now others.now first) }
     ensures labels { OnOk result (labels.new.items ≡ labels.old.items) }
 {
+    let diagram = sheet.diagram;
+    let names = sheet.names;
+    let answer = sheet.answer;
     if others.is_empty() {
         let row = &answer.rows[first];
         push_labelled(out, labels, diagram, names, answer.decision, first, row)?;
@@ -81,7 +89,7 @@ fn push_run(
     let mut next = first;
     for state in 0..states_of(diagram, parent) {
         push_label(labels, diagram, names, parent, state)?;
-        next = push_run(out, labels, diagram, names, answer, rest, next)?;
+        next = push_run(out, labels, sheet, rest, next)?;
         labels.truncate(chosen);
     }
     Ok(next)
@@ -101,6 +109,11 @@ pub(crate) fn push_rows(
 {
     labels.clear();
     let parents = parents_of(diagram, answer.decision);
-    push_run(out, labels, diagram, names, answer, parents, 0)?;
+    let sheet = Sheet {
+        diagram,
+        names,
+        answer,
+    };
+    push_run(out, labels, &sheet, parents, 0)?;
     Ok(())
 }

@@ -1,15 +1,17 @@
 -- A potential's rows are the first of those still to come, and it is entered where its head's name stands.
 use Rattle.std.proofs.Common.{◌≡◌, ℕ, ◌<◌, ◌≤◌, true, false, List, [], length, get_or, All, Option, None, replicate, take, filter, sym, ap, subst, ◌∙◌}
-use Rattle.std.proofs.lemmas.List.{take_all, map-set}
+use Rattle.std.proofs.lemmas.List.{take_all, map-set, length-map}
 use Rattle.std.proofs.lemmas.List.Elements.{All-set}
 use Rattle.std.specs.Global.{Vec}
 use Rattle.std.specs.Option.{option_map}
 use Rattle.net_build.proofs.FitLemmas.{none_fit_all}
+use Rattle.net_parser.specs.Owned.{IsBlockOf}
 use Rattle.net_parser.specs.Trees.{BlockTree}
 use Rattle.net_build.specs.Blocks.{is_potential}
 use Rattle.net_build.specs.Linking.{borrowed_trees, behind_rows, potentials_steps, potentials_among, parents_in, AreParents}
 use Rattle.net_build.specs.Lists.{numbers_of_lists}
 use Rattle.net_build.proofs.LinkLemmas.{hands_on}
+use Rattle.net_build.proofs.LinkPasses.{length_among, length_in}
 use Rattle.first_fault.proofs.Leading.{after_refused, after_skip, after_step, leads_all, filter_front_no}
 use Rattle.net_build.proofs.PotentialLemmas.{no_trees, none_among, none_in, entered_from, parents_from}
 use Rattle.net_build.proofs.potentials.read_potentials.Goals as goal
@@ -24,6 +26,37 @@ loop-block-init c =
       fit = subst (All (AreParents c.args.heads.now)) (sym c.in_ok-parents.ensures) (none_fit_all c.args.heads.now c.len.result);
       lead = leads_all _;
     }
+
+pub read_potential-requires-clause-block : goal.read_potential-requires-clause-block
+read_potential-requires-clause-block c =
+    let blocks : c.deref-block-items.result.now ≡ c.args.syntax.now = c.deref-block-items.ensures.value ∙ c.syntax.view_is in
+    let within : c.loop-block.block-index < length c.args.syntax.now = subst (λ (bs : List BlockTree). c.loop-block.block-index < length bs) blocks c.loop-block-test.true in
+    let is : c.block-item.result ≡ get_or c.args.syntax.now c.loop-block.block-index c.block-item.result = c.block-item.is ∙ ap (λ bs. get_or bs c.loop-block.block-index c.block-item.result) blocks in
+    subst (IsBlockOf c.args.text.now) (sym is) (c.requires.blocks c.loop-block.block-index c.block-item.result within)
+
+pub read_potential-requires-clause-potential : goal.read_potential-requires-clause-potential
+read_potential-requires-clause-potential c = sym c.is_potential.ensures ∙ c.if-is_potential.true
+
+pub read_potential-requires-clause-potentials : goal.read_potential-requires-clause-potentials
+read_potential-requires-clause-potentials c =
+    ap length c.deref.ensures.value ∙ sym (length-map c.loop-block.potentials.items (option_map (λ p. p.now)))
+    ∙ length_among c.args.text.now c.args.names.now (filter (λ b. is_potential b.kind) (take c.loop-block.block-index c.args.syntax.now)) (borrowed_trees c.loop-block.potentials.items) c.loop-block.invariant.potentials
+
+pub enter-requires-clause-parents : goal.enter-requires-clause-parents
+enter-requires-clause-parents c =
+    let trees = borrowed_trees c.loop-block.potentials.items in
+    let count : length c.loop-block.parents.items ≡ length c.args.names.now =
+    sym (length-map c.loop-block.parents.items (λ (v : Vec ℕ). v.items))
+    ∙ length_in c.args.text.now c.args.names.now trees (numbers_of_lists c.loop-block.parents.items) c.loop-block.invariant.parents
+    ∙ length_among c.args.text.now c.args.names.now (filter (λ b. is_potential b.kind) (take c.loop-block.block-index c.args.syntax.now)) trees c.loop-block.invariant.potentials in
+    subst (λ n. c.in_ok-node.node < n) (sym count) c.in_ok-node.ensures.within
+
+pub enter-requires-clause-potentials : goal.enter-requires-clause-potentials
+enter-requires-clause-potentials c =
+    let count : length c.loop-block.potentials.items ≡ length c.args.names.now =
+    sym (length-map c.loop-block.potentials.items (option_map (λ p. p.now)))
+    ∙ length_among c.args.text.now c.args.names.now (filter (λ b. is_potential b.kind) (take c.loop-block.block-index c.args.syntax.now)) (borrowed_trees c.loop-block.potentials.items) c.loop-block.invariant.potentials in
+    subst (λ n. c.in_ok-node.node < n) (sym count) c.in_ok-node.ensures.within
 
 pub returns-in_err-node-clause-rows : goal.returns-in_err-node-clause-rows
 returns-in_err-node-clause-rows c =
@@ -75,3 +108,6 @@ returns-clause-potentials c =
 
 pub returns-clause-parents : goal.returns-clause-parents
 returns-clause-parents c = c.loop-block.invariant.parents
+
+pub returns-clause-fit : goal.returns-clause-fit
+returns-clause-fit c = c.loop-block.invariant.fit

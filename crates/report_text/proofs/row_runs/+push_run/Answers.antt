@@ -27,7 +27,7 @@ row_room first next s c below total rows e h f k =
 
 pub push_run-requires : goal.push_run-requires
 push_run-requires t c =
-    let nodes = c.args.diagram.now.nodes in
+    let nodes = c.args.sheet.now.diagram.now.nodes in
     let us = c.args.others.now in
     let rest = c.behind_first-rest.result.now in
     let some : 0 < length us = search rules in
@@ -35,15 +35,15 @@ push_run-requires t c =
     let shorter : length rest < length us = omega (arith, ap length c.behind_first-rest.ensures, length-drop 1 us) in
     let known : All (λ u. (u < length nodes) × ((node_at nodes u).kind ≢ Utility)) rest =
     (λ k d h. subst (All (λ u. (u < length nodes) × ((node_at nodes u).kind ≢ Utility))) whole c.requires.others (suc k) d (omega (arith, h))) in
-    let room = row_room c.args.first c.loop-state.next c.loop-state.state (states_of nodes (slice_index_or us 0 0)) (rows_under (states_of nodes) rest) (rows_under (states_of nodes) us) (length c.args.answer.now.rows)
+    let room = row_room c.args.first c.loop-state.next c.loop-state.state (states_of nodes (slice_index_or us 0 0)) (rows_under (states_of nodes) rest) (rows_under (states_of nodes) us) (length c.args.sheet.now.answer.now.rows)
     c.loop-state.invariant.next (subst (λ n. c.loop-state.state < n) c.states_of-state-end.ensures.states c.loop-state-test.true) (ap (rows_under (states_of nodes)) whole) c.requires.rows in
     (search rules, (search rules, (search rules, (known, room))))
 
 pub loop-state-preserved : goal.loop-state-preserved
 loop-state-preserved t c =
-    let nodes = c.args.diagram.now.nodes in
-    let names = c.args.names.now in
-    let answer : AnswerView = c.args.answer.now in
+    let nodes = c.args.sheet.now.diagram.now.nodes in
+    let names = c.args.sheet.now.names.now in
+    let answer : AnswerView = c.args.sheet.now.answer.now in
     let us = c.args.others.now in
     let u = slice_index_or us 0 0 in
     let rest = c.behind_first-rest.result.now in
@@ -66,9 +66,9 @@ loop-state-preserved t c =
 
 pub returns-then-is_empty-clause-lines : goal.returns-then-is_empty-clause-lines
 returns-then-is_empty-clause-lines t c =
-    let nodes = c.args.diagram.now.nodes in
-    let names = c.args.names.now in
-    let answer : AnswerView = c.args.answer.now in
+    let nodes = c.args.sheet.now.diagram.now.nodes in
+    let names = c.args.sheet.now.names.now in
+    let answer : AnswerView = c.args.sheet.now.answer.now in
     let us = c.args.others.now in
     let labels = c.args.labels.now.items in
     let none : us ≡ [] = empty us c.if-is_empty.ensures in

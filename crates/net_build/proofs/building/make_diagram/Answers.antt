@@ -6,10 +6,10 @@ use Rattle.maid_model.specs.Diagrams.{IsDiagram}
 use Rattle.maid_model.specs.Names.{list_of}
 use Rattle.net_build.specs.Lists.{numbers_of_lists, cells_of_lists}
 use Rattle.net_build.specs.Stages.{NodeLists, LinkLists, TableLists, made_nodes, made_diagram}
-use Rattle.net_build.proofs.building.assemble.Goals as goal
+use Rattle.net_build.proofs.building.make_diagram.Goals as goal
 
-pub from_nodes-diagram-requires : goal.from_nodes-diagram-requires
-from_nodes-diagram-requires c =
+pub from_nodes-requires : goal.from_nodes-requires
+from_nodes-requires c =
     let heads = c.deref.ensures.value ∙ ap (λ (n : NodeLists). n.heads) c.nodes.view_is in
     let more = ap numbers_of_lists c.deref-2.ensures.value ∙ ap (λ (n : NodeLists). n.more) c.nodes.view_is in
     let parents = ap numbers_of_lists c.deref-3.ensures.value ∙ ap (λ (l : LinkLists). l.parents) c.links.view_is in
@@ -18,11 +18,11 @@ from_nodes-diagram-requires c =
     let count : c.len.result ≡ length (list_of c.nodes.inside.agents.items) = let l = length-map c.nodes.inside.agents.items (λ (v : Vec ℕ). v.items) in omega (arith, c.nodes.inside.agents.ok) in
     let agents = count ∙ ap (λ (n : NodeLists). length n.agents) c.nodes.view_is in
     let nodes = c.in_ok-list.ensures ∙ (λ j. made_nodes (heads j) (more j) (parents j) (cells j)) in
-    let is : record { nodes = c.in_ok-list.list.items; agents = c.len.result; decimals = c.tables.inside.decimals } ≡ made_diagram c.args.nodes c.args.links.now c.args.tables = λ j. record { nodes = nodes j; agents = agents j; decimals = decimals j } in
+    let is : record { nodes = c.in_ok-list.list.items; agents = c.len.result; decimals = c.tables.inside.decimals } ≡ made_diagram c.args.nodes.now c.args.links.now c.args.tables = λ j. record { nodes = nodes j; agents = agents j; decimals = decimals j } in
     subst IsDiagram (sym is) c.requires.diagram
 
-pub returns-clause-diagram : goal.returns-clause-diagram
-returns-clause-diagram c =
+pub returns : goal.returns
+returns c =
     let heads = c.deref.ensures.value ∙ ap (λ (n : NodeLists). n.heads) c.nodes.view_is in
     let more = ap numbers_of_lists c.deref-2.ensures.value ∙ ap (λ (n : NodeLists). n.more) c.nodes.view_is in
     let parents = ap numbers_of_lists c.deref-3.ensures.value ∙ ap (λ (l : LinkLists). l.parents) c.links.view_is in
@@ -31,5 +31,5 @@ returns-clause-diagram c =
     let count : c.len.result ≡ length (list_of c.nodes.inside.agents.items) = let l = length-map c.nodes.inside.agents.items (λ (v : Vec ℕ). v.items) in omega (arith, c.nodes.inside.agents.ok) in
     let agents = count ∙ ap (λ (n : NodeLists). length n.agents) c.nodes.view_is in
     let nodes = c.in_ok-list.ensures ∙ (λ j. made_nodes (heads j) (more j) (parents j) (cells j)) in
-    let is : record { nodes = c.in_ok-list.list.items; agents = c.len.result; decimals = c.tables.inside.decimals } ≡ made_diagram c.args.nodes c.args.links.now c.args.tables = λ j. record { nodes = nodes j; agents = agents j; decimals = decimals j } in
-    c.from_nodes-diagram.ensures ∙ is
+    let is : record { nodes = c.in_ok-list.list.items; agents = c.len.result; decimals = c.tables.inside.decimals } ≡ made_diagram c.args.nodes.now c.args.links.now c.args.tables = λ j. record { nodes = nodes j; agents = agents j; decimals = decimals j } in
+    c.from_nodes.ensures ∙ is
