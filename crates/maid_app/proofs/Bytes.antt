@@ -91,28 +91,28 @@ abbrev Status1 : Refused → Status
 Status1 refusal = status_with (Err refusal)
 
 -- a stage whose tale excludes that it is clear
-stage_one : (status : Status) (IsClear : Type 0) (Tells : List ℕ → Type 0) → ((told : List ℕ) → IsClear → Tells told → ⊥) → IsOneBy Status1 (stage status IsClear Tells)
-stage_one status IsClear Tells apart = record {
+stage_one : (status : Status) (IsClear : Type 0) (SaysWhy : List ℕ → Type 0) → ((told : List ℕ) → IsClear → SaysWhy told → ⊥) → IsOneBy Status1 (stage status IsClear SaysWhy)
+stage_one status IsClear SaysWhy apart = record {
   exclusive = λ f clear found. apart f.told clear found.1;
   one = λ f g h k. h.0 ∙ sym k.0;
 }
 
 module _ (laws : Laws) where
   -- and one over the diagram of the bytes
-  of_diagram_one : (bytes : List ℕ) (status : Status) (IsClear : DiagramView → NamesView → Type 0) (Tells : DiagramView → NamesView → List ℕ → Type 0)
-      → ((d : DiagramView) (names : NamesView) (told : List ℕ) → IsClear d names → Tells d names told → ⊥) → IsOneBy Status1 (of_diagram bytes (λ d names. stage status (IsClear d names) (Tells d names)))
-  of_diagram_one bytes status IsClear Tells apart =
-      over_one (λ (x : NamedDiagram). IsDiagramOf bytes x.d x.names) (λ x. stage status (IsClear x.d x.names) (Tells x.d x.names)) (same_diagram laws bytes)
-      (λ x is. stage_one status (IsClear x.d x.names) (Tells x.d x.names) (apart x.d x.names))
+  of_diagram_one : (bytes : List ℕ) (status : Status) (IsClear : DiagramView → NamesView → Type 0) (SaysWhy : DiagramView → NamesView → List ℕ → Type 0)
+      → ((d : DiagramView) (names : NamesView) (told : List ℕ) → IsClear d names → SaysWhy d names told → ⊥) → IsOneBy Status1 (of_diagram bytes (λ d names. stage status (IsClear d names) (SaysWhy d names)))
+  of_diagram_one bytes status IsClear SaysWhy apart =
+      over_one (λ (x : NamedDiagram). IsDiagramOf bytes x.d x.names) (λ x. stage status (IsClear x.d x.names) (SaysWhy x.d x.names)) (same_diagram laws bytes)
+      (λ x is. stage_one status (IsClear x.d x.names) (SaysWhy x.d x.names) (apart x.d x.names))
 
   -- and one over a state of a chance node in it
-  at_state_one : (node state bytes : List ℕ) (status : Status) (IsClear : DiagramView → NamesView → ℕ → ℕ → Type 0) (Tells : DiagramView → NamesView → ℕ → ℕ → List ℕ → Type 0)
-      → ((d : DiagramView) (names : NamesView) (x s : ℕ) (told : List ℕ) → IsClear d names x s → Tells d names x s told → ⊥)
-      → IsOneBy Status1 (of_diagram bytes (λ d names. at_state d names node state (λ x s. stage status (IsClear d names x s) (Tells d names x s))))
-  at_state_one node state bytes status IsClear Tells apart =
-      over_one (λ (y : NamedDiagram). IsDiagramOf bytes y.d y.names) (λ y. at_state y.d y.names node state (λ x s. stage status (IsClear y.d y.names x s) (Tells y.d y.names x s))) (same_diagram laws bytes)
-      (λ y is. over_one (IsStatePlace y.d y.names node state) (λ place. stage status (IsClear y.d y.names place.node place.state) (Tells y.d y.names place.node place.state)) (same_state y.d y.names node state)
-      (λ place at. stage_one status (IsClear y.d y.names place.node place.state) (Tells y.d y.names place.node place.state) (apart y.d y.names place.node place.state)))
+  at_state_one : (node state bytes : List ℕ) (status : Status) (IsClear : DiagramView → NamesView → ℕ → ℕ → Type 0) (SaysWhy : DiagramView → NamesView → ℕ → ℕ → List ℕ → Type 0)
+      → ((d : DiagramView) (names : NamesView) (x s : ℕ) (told : List ℕ) → IsClear d names x s → SaysWhy d names x s told → ⊥)
+      → IsOneBy Status1 (of_diagram bytes (λ d names. at_state d names node state (λ x s. stage status (IsClear d names x s) (SaysWhy d names x s))))
+  at_state_one node state bytes status IsClear SaysWhy apart =
+      over_one (λ (y : NamedDiagram). IsDiagramOf bytes y.d y.names) (λ y. at_state y.d y.names node state (λ x s. stage status (IsClear y.d y.names x s) (SaysWhy y.d y.names x s))) (same_diagram laws bytes)
+      (λ y is. over_one (IsStatePlace y.d y.names node state) (λ place. stage status (IsClear y.d y.names place.node place.state) (SaysWhy y.d y.names place.node place.state)) (same_state y.d y.names node state)
+      (λ place at. stage_one status (IsClear y.d y.names place.node place.state) (SaysWhy y.d y.names place.node place.state) (apart y.d y.names place.node place.state)))
 
   -- each stage is clear or refuses, never both, and refuses with one status
   finds_one : (s : Stage) (file : File) → IsOneBy Status1 (Finds s file)

@@ -119,9 +119,9 @@ module _ (list : Option (List File)) (requested : Option Request) (given : ℕ) 
     by s memory part = inr refl
     by s (refused_so _ t h) part = inl (one (demo k) (demo_text k) (Err (refused s t)) (Err refusal) h is)
 
-  pub own_done : ClearOrRefused → (s : Status) (t : List ℕ) (Write : Type 0) → Says list requested given s t → (s ≡ WriteFault → Write) → FindsNothing (demo k) (demo_text k) → (Write → ⊥) → IsOneOf s Done
-  own_done law s t Write says write clear no_write = by s (told_why s t says) write where
-    by : (s : Status) → Failed k s → (s ≡ WriteFault → Write) → IsOneOf s Done
-    by s unwritten write = absurd (no_write (write refl))
-    by s memory write = inr refl
-    by s (refused_so _ t h) write = absurd (law (demo k) (demo_text k) (refused s t) clear h)
+  pub own_done : ClearOrRefused → (s : Status) (t : List ℕ) → Says list requested given s t → (s ≡ WriteFault → ⊥) → FindsNothing (demo k) (demo_text k) → IsOneOf s Done
+  own_done law s t says no_write clear = by s (told_why s t says) no_write where
+    by : (s : Status) → Failed k s → (s ≡ WriteFault → ⊥) → IsOneOf s Done
+    by s unwritten no_write = absurd (no_write refl)
+    by s memory no_write = inr refl
+    by s (refused_so _ t h) no_write = absurd (law (demo k) (demo_text k) (refused s t) clear h)

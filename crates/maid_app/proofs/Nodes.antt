@@ -1,10 +1,11 @@
 -- Lists of decisions name nodes, and lines of decisions are those of all nodes.
 use Rattle.std.proofs.Common.{◌≡◌, ◌∙◌, ℕ, zero, suc, ◌+◌, ◌-◌, ◌<◌, List, [], ◌∷◌, ◌++◌, Bool, true, false, All, IfOk, Vec, Global, length, get_or, drop, refl, sym, ap, subst, arith, add-one, codes}
-use Rattle.std.proofs.lemmas.List.{get_or-drop, get_or_default, length-drop}
+use Rattle.std.proofs.lemmas.List.{append-nil, get_or-drop, get_or_default, length-drop}
 use Rattle.std.proofs.lemmas.List.Elements.{Contains-get_or}
 use Rattle.std.proofs.lemmas.Grind.{flat_map-append}
 use Rattle.std.specs.Prelude.{filter, Ok, Err, Result}
 use Rattle.std.specs.List.{flat_map, range_with_len}
+use Rattle.finite_sums.proofs.Ranges.{range_push}
 use Rattle.maid_model.specs.Names.{NamesView}
 use Rattle.maid_model.specs.Nodes.{IsDecision, node_at, is_decision}
 use Rattle.maid_model.specs.Placing.{IsRelianceOrder, IsRelianceCycle, IsTrail, Remains}
@@ -51,19 +52,11 @@ pub lines_are : (nodes : List NodeView) (names : NamesView) (view : RelevanceVie
 lines_are nodes names view [] = refl
 lines_are nodes names view (v ∷ numbers) = lines_step nodes names view v numbers (is_decision (node_at nodes v).kind) refl (lines_are nodes names view numbers)
 
-range_push : (k n : ℕ) → range_with_len k (suc n) ≡ range_with_len k n ++ (k + n) ∷ []
-range_push k zero = ap (λ x. x ∷ []) (omega arith)
-range_push k (suc n) = ap (λ x. k ∷ x) (range_push (k + 1) n ∙ ap (λ x. range_with_len (k + 1) n ++ x ∷ []) (omega arith))
-
-append_nil : {A : Type 0} (xs : List A) → xs ++ [] ≡ xs
-append_nil [] = refl
-append_nil (x ∷ xs) = ap (λ ys. x ∷ ys) (append_nil xs)
-
 -- one more number behind a range
 pub one_more : {A : Type 0} (f : ℕ → List A) (n : ℕ) → flat_map f (range_with_len 0 (n + 1)) ≡ flat_map f (range_with_len 0 n) ++ f n
 one_more f n =
     ap (λ k. flat_map f (range_with_len 0 k)) (add-one n) ∙ ap (flat_map f) (range_push 0 n) ∙ flat_map-append f (range_with_len 0 n) ((0 + n) ∷ [])
-    ∙ ap (λ xs. flat_map f (range_with_len 0 n) ++ xs) (append_nil (f (0 + n)) ∙ ap f (omega arith))
+    ∙ ap (λ xs. flat_map f (range_with_len 0 n) ++ xs) (append-nil (f (0 + n)) ∙ ap f (omega arith))
 
 -- the last line is that of the outcome
 pub last_of_order : {E : Type 0} (nodes : List NodeView) (names : NamesView) (view : RelevanceView) (order : List ℕ) (r : Result (Vec ℕ Global) E) → IsRelevance nodes view → view.outcome ≡ Ok order

@@ -244,17 +244,17 @@ module _ (law : ClearOrRefused) (list : Option (List File)) (requested : Option 
     pub done_not_absent : (A : List ℕ → Type 0) (status : Status) → WritesText list requested given A status → ⊥
     done_not_absent A status h = not_wrote status (told_text lacks.asked lacks.request lacks.files lacks.asks lacks.leads lacks.told A status h)
 
-    pub only_absent : (s : Status) (t : List ℕ) (A : List ℕ → Type 0) (Cause : Type 0) → Says list requested given s t → (s ≡ ReadFault → Cause)
-        → (s ≡ WriteFault → (status : Status) × WritesText list requested given A status) → (Cause → ⊥) → IsOneOf s Absent
-    only_absent s t A Cause says read part no_cause = by s (told_why lacks.asked lacks.request lacks.files lacks.asks lacks.leads lacks.told s t says) read part where
-      by : (s : Status) → Failed lacks.files lacks.request given s ⊎ IsPassed lacks.files lacks.request → (s ≡ ReadFault → Cause) → (s ≡ WriteFault → (status : Status) × WritesText list requested given A status) → IsOneOf s Absent
-      by s (inr p) read part = absurd (passed_not_absent lacks.files lacks.request p lacks.absent)
-      by s (inl (absent h)) read part = inl refl
-      by s (inl unread) read part = absurd (no_cause (read refl))
-      by s (inl (longer h)) read part = absurd (subst (λ found. IsSomeAnd found (λ bytes. limit_of lacks.request < length bytes)) lacks.absent h.told)
-      by s (inl unwritten) read part = let has = part refl in absurd (done_not_absent A has.0 has.1)
-      by s (inl memory) read part = inr refl
-      by s (inl (refused_so _ t h)) read part = absurd (no_text h.bytes h.is_text)
+    pub only_absent : (s : Status) (t : List ℕ) (A : List ℕ → Type 0) → Says list requested given s t → (s ≡ ReadFault → ⊥)
+        → (s ≡ WriteFault → (status : Status) × WritesText list requested given A status) → IsOneOf s Absent
+    only_absent s t A says no_read part = by s (told_why lacks.asked lacks.request lacks.files lacks.asks lacks.leads lacks.told s t says) no_read part where
+      by : (s : Status) → Failed lacks.files lacks.request given s ⊎ IsPassed lacks.files lacks.request → (s ≡ ReadFault → ⊥) → (s ≡ WriteFault → (status : Status) × WritesText list requested given A status) → IsOneOf s Absent
+      by s (inr p) no_read part = absurd (passed_not_absent lacks.files lacks.request p lacks.absent)
+      by s (inl (absent h)) no_read part = inl refl
+      by s (inl unread) no_read part = absurd (no_read refl)
+      by s (inl (longer h)) no_read part = absurd (subst (λ found. IsSomeAnd found (λ bytes. limit_of lacks.request < length bytes)) lacks.absent h.told)
+      by s (inl unwritten) no_read part = let has = part refl in absurd (done_not_absent A has.0 has.1)
+      by s (inl memory) no_read part = inr refl
+      by s (inl (refused_so _ t h)) no_read part = absurd (no_text h.bytes h.is_text)
 
   -- A file that the shelf has.
   module _ (request : Request) (bytes : List ℕ) (has : HasFile list requested request bytes) where
@@ -285,17 +285,17 @@ module _ (law : ClearOrRefused) (list : Option (List File)) (requested : Option 
       pub done_not_too_long : (A : List ℕ → Type 0) (status : Status) → WritesText list requested given A status → ⊥
       done_not_too_long A status h = wrote_not_long status (text_here A status h)
 
-      pub only_too_long : (s : Status) (t : List ℕ) (A : List ℕ → Type 0) (Cause : Type 0) → Says list requested given s t → (s ≡ ReadFault → Cause)
-          → (s ≡ WriteFault → (status : Status) × WritesText list requested given A status) → (Cause → ⊥) → IsOneOf s TextTooLong
-      only_too_long s t A Cause says read part no_cause = by s (here s t says) read part where
-        by : (s : Status) → Failed has.files request given s ⊎ IsPassed has.files request → (s ≡ ReadFault → Cause) → (s ≡ WriteFault → (status : Status) × WritesText list requested given A status) → IsOneOf s TextTooLong
-        by s (inr p) read part = absurd (passed_not_long p)
-        by s (inl (absent h)) read part = let e = sym has.there ∙ h in absurd cc
-        by s (inl unread) read part = absurd (no_cause (read refl))
-        by s (inl (longer h)) read part = inl refl
-        by s (inl unwritten) read part = let text = part refl in absurd (done_not_too_long A text.0 text.1)
-        by s (inl memory) read part = inr refl
-        by s (inl (refused_so _ t h)) read part = let fits = fits_read h.bytes h.is_text in absurd (omega (arith, fits, long))
+      pub only_too_long : (s : Status) (t : List ℕ) (A : List ℕ → Type 0) → Says list requested given s t → (s ≡ ReadFault → ⊥)
+          → (s ≡ WriteFault → (status : Status) × WritesText list requested given A status) → IsOneOf s TextTooLong
+      only_too_long s t A says no_read part = by s (here s t says) no_read part where
+        by : (s : Status) → Failed has.files request given s ⊎ IsPassed has.files request → (s ≡ ReadFault → ⊥) → (s ≡ WriteFault → (status : Status) × WritesText list requested given A status) → IsOneOf s TextTooLong
+        by s (inr p) no_read part = absurd (passed_not_long p)
+        by s (inl (absent h)) no_read part = let e = sym has.there ∙ h in absurd cc
+        by s (inl unread) no_read part = absurd (no_read refl)
+        by s (inl (longer h)) no_read part = inl refl
+        by s (inl unwritten) no_read part = let text = part refl in absurd (done_not_too_long A text.0 text.1)
+        by s (inl memory) no_read part = inr refl
+        by s (inl (refused_so _ t h)) no_read part = let fits = fits_read h.bytes h.is_text in absurd (omega (arith, fits, long))
 
     -- what is written for bytes, it is for the file's
     at_bytes : (status : Status) (text : Wrote has.files request given status) → Answers request bytes (Ok (written status text.0))
@@ -317,10 +317,10 @@ module _ (law : ClearOrRefused) (list : Option (List File)) (requested : Option 
         by s (inl memory) passed of no_read no_write = memory_too
         by s (inl (refused_so _ t h)) passed of no_read no_write = of t (subst (λ b. Answers request b (Err (refused s t))) (same h.bytes h.is_text) h.answers)
 
-      pub only_refused : OneStatus → (s : Status) (t : List ℕ) (A : List ℕ → Type 0) (Cause : Type 0) → Says list requested given s t → (s ≡ ReadFault → Cause)
-          → (s ≡ WriteFault → (status : Status) × WritesText list requested given A status) → (refusal : Refused) → Answers request bytes (Err refusal) → (Cause → ⊥) → IsOneOf s refusal.status
-      only_refused one s t A Cause says read part refusal is no_cause =
-          by_bytes (λ s. IsOneOf s refusal.status) s t says passed (λ t h. inl (one request bytes (Err (refused s t)) (Err refusal) h is)) (inr refl) (λ e. no_cause (read e)) (λ e. absurd (unwritten_not (part e))) where
+      pub only_refused : OneStatus → (s : Status) (t : List ℕ) (A : List ℕ → Type 0) → Says list requested given s t → (s ≡ ReadFault → ⊥)
+          → (s ≡ WriteFault → (status : Status) × WritesText list requested given A status) → (refusal : Refused) → Answers request bytes (Err refusal) → IsOneOf s refusal.status
+      only_refused one s t A says no_read part refusal is =
+          by_bytes (λ s. IsOneOf s refusal.status) s t says passed (λ t h. inl (one request bytes (Err (refused s t)) (Err refusal) h is)) (inr refl) no_read (λ e. absurd (unwritten_not (part e))) where
             passed : IsPassed has.files request → IsOneOf s refusal.status
             passed p = absurd (law request bytes refusal (subst (FindsNothing request) (passed_same p) p.clear) is)
 
@@ -331,16 +331,15 @@ module _ (law : ClearOrRefused) (list : Option (List File)) (requested : Option 
             unwritten_not : (status : Status) × WritesText list requested given A status → ⊥
             unwritten_not text = by_text text.0 (text_here A text.0 text.1)
 
-      pub only_done : (s : Status) (t : List ℕ) (Cause Write : Type 0) → Says list requested given s t → (s ≡ ReadFault → Cause) → (s ≡ WriteFault → Write) → FindsNothing request bytes
-          → (Cause → ⊥) → (Write → ⊥) → EndsWell request s
-      only_done s t Cause Write says read write clear no_cause no_write =
-          by_bytes (EndsWell request) s t says (passed_ends has.files request s) (λ t h. absurd (law request bytes (refused s t) clear h)) (memory_ends request) (λ e. no_cause (read e)) (λ e. absurd (no_write (write e)))
+      pub only_done : (s : Status) (t : List ℕ) → Says list requested given s t → (s ≡ ReadFault → ⊥) → (s ≡ WriteFault → ⊥) → FindsNothing request bytes → EndsWell request s
+      only_done s t says no_read no_write clear =
+          by_bytes (EndsWell request) s t says (passed_ends has.files request s) (λ t h. absurd (law request bytes (refused s t) clear h)) (memory_ends request) no_read (λ e. absurd (no_write e))
 
-      pub only_written : OneStatus → (s : Status) (t : List ℕ) (Cause Write : Type 0) → Says list requested given s t → (s ≡ ReadFault → Cause) → (s ≡ WriteFault → Write)
-          → (output : Written) → Answers request bytes (Ok output) → (Cause → ⊥) → (Write → ⊥) → IsOneOf s output.status
-      only_written one s t Cause Write says read write output is no_cause no_write =
+      pub only_written : OneStatus → (s : Status) (t : List ℕ) → Says list requested given s t → (s ≡ ReadFault → ⊥) → (s ≡ WriteFault → ⊥)
+          → (output : Written) → Answers request bytes (Ok output) → IsOneOf s output.status
+      only_written one s t says no_read no_write output is =
           by_bytes (λ s. IsOneOf s output.status) s t says (λ p. absurd (passed_gives_nothing has.files request p bytes output is))
-          (λ t h. absurd (apart one request bytes output (refused s t) is h)) (inr refl) (λ e. no_cause (read e)) (λ e. absurd (no_write (write e)))
+          (λ t h. absurd (apart one request bytes output (refused s t) is h)) (inr refl) no_read (λ e. absurd (no_write e))
 
     -- A run that ended well.
     module _ (A : List ℕ → Type 0) (status : Status) (h : WritesText list requested given A status) where

@@ -5,7 +5,7 @@ use Rattle.first_fault.specs.Outcomes.{refusals as refusals_of}
 use Rattle.first_fault.specs.Passes.{Pass, always, each}
 use Rattle.maid_app.specs.Diagrams.{NamedDiagram, IsDiagramOf}
 use Rattle.maid_app.specs.Outcome.{Refused, refused, done_with}
-use Rattle.maid_app.specs.Reading.{Tells, TellsTextFault, TellsStages, TellsOf, found_by}
+use Rattle.maid_app.specs.Reading.{TellsLine, TellsTextFault, TellsStages, TellsOf, found_by}
 use Rattle.maid_app.specs.Refusal.{refused_as}
 use Rattle.maid_app.specs.Stages.{Stage, Finds, text_fault}
 use Rattle.maid_app.specs.Tasks.{Task, text_task, comes_of}
@@ -21,12 +21,12 @@ found_too P Q f None h = tt
 found_too P Q f (Some x) h = f x h
 
 -- a pass that finds the wanted refusal finds what is told
-pub tells_found : (P : Pass Refused) (status : Status) (line : List ℕ) (refusal : Refusal) → P (Some (refused status line)) → Tells status line refusal → IsFoundIfAny P (refused_as refusal)
+pub tells_found : (P : Pass Refused) (status : Status) (line : List ℕ) (refusal : Refusal) → P (Some (refused status line)) → TellsLine status line refusal → IsFoundIfAny P (refused_as refusal)
 tells_found P status line refusal is tells = found_too (always (refused status line)) P (λ f h. subst (λ r. P (Some r)) (sym h.1) is) (refused_as refusal) tells
 
 -- what is found with each line that may be made is told
 pub told_gives : {E : Type 0} (P : Pass Refused) (status : Status) (line : Result (Vec ℕ Global) E) (refusal : Refusal) → IfOk line (λ t. P (Some (refused status t.items)))
-    → MatchResult line (λ t. Tells status t.items refusal) (λ _. refusal ≡ refusals.NoMemory) → IsFoundIfAny P (refused_as refusal)
+    → MatchResult line (λ t. TellsLine status t.items refusal) (λ _. refusal ≡ refusals.NoMemory) → IsFoundIfAny P (refused_as refusal)
 told_gives P status (Ok t) refusal is h = tells_found P status t.items refusal is h
 told_gives P status (Err e) refusal is h = subst (λ r. IsFoundIfAny P (refused_as r)) (sym h) tt
 

@@ -13,7 +13,7 @@ use Rattle.net_parser.specs.declared.parsing.ParseFault.{ParseFault}
 use Rattle.maid_app.specs.Diagrams.{IsTreeOf}
 use Rattle.maid_app.specs.Faults.{token_place, token_words, grammar_place, grammar_words, kind_words}
 use Rattle.maid_app.specs.Lines.{fault_line}
-use Rattle.maid_app.specs.Reading.{Tells, TellsTextFault}
+use Rattle.maid_app.specs.Reading.{TellsLine, TellsTextFault}
 use Rattle.maid_app.specs.Stages.{Finds, text_fault}
 use Rattle.maid_app.specs.declared.refusal.Refusal.{Refusal}
 use Rattle.maid_app.proofs.Refusals.{tells_found}
@@ -21,7 +21,7 @@ use Rattle.maid_app.specs.declared.status.Status.TheVariants as statuses
 
 -- the line tells the first fault of the bytes as tokens
 pub tells_tokens : (name bytes : List ℕ) (fault : LexFault) (refusal : Refusal) → pieces.IsFault bytes fault
-    → Tells statuses.TextFault (fault_line name bytes (token_place fault) (token_words fault)) refusal → TellsTextFault name bytes refusal
+    → TellsLine statuses.TextFault (fault_line name bytes (token_place fault) (token_words fault)) refusal → TellsTextFault name bytes refusal
 tells_tokens name bytes fault refusal wrong tells =
     tells_found (Finds text_fault (name, bytes)) statuses.TextFault (fault_line name bytes (token_place fault) (token_words fault)) refusal (
       refl,
@@ -36,7 +36,7 @@ tells_tokens name bytes fault refusal wrong tells =
 
 -- the line tells the first impossible token
 pub tells_grammar : (name bytes : List ℕ) (tokens : List Token) (fault : ParseFault) (refusal : Refusal) → IsTokens bytes tokens → grammar.IsFault bytes tokens fault
-    → Tells statuses.TextFault (fault_line name bytes (grammar_place fault) (grammar_words fault)) refusal → TellsTextFault name bytes refusal
+    → TellsLine statuses.TextFault (fault_line name bytes (grammar_place fault) (grammar_words fault)) refusal → TellsTextFault name bytes refusal
 tells_grammar name bytes tokens fault refusal is wrong tells =
     tells_found (Finds text_fault (name, bytes)) statuses.TextFault (fault_line name bytes (grammar_place fault) (grammar_words fault)) refusal (
       refl,
@@ -51,7 +51,7 @@ tells_grammar name bytes tokens fault refusal is wrong tells =
 
 -- the line tells the first fault of the passes
 pub tells_build : (name bytes : List ℕ) (tree : List BlockTree) (fault : Found) (words : List ℕ) (refusal : Refusal) → IsTreeOf bytes tree → all_passes bytes tree (Some fault)
-    → words ≡ kind_words (names_of bytes (node_blocks tree)) fault.kind → Tells statuses.TextFault (fault_line name bytes fault.at words) refusal → TellsTextFault name bytes refusal
+    → words ≡ kind_words (names_of bytes (node_blocks tree)) fault.kind → TellsLine statuses.TextFault (fault_line name bytes fault.at words) refusal → TellsTextFault name bytes refusal
 tells_build name bytes tree fault words refusal is wrong says tells =
     tells_found (Finds text_fault (name, bytes)) statuses.TextFault (fault_line name bytes fault.at words) refusal (
       refl,

@@ -45,9 +45,8 @@ FindsNothing request bytes =
 
 -- What a diagram and its names must keep so that its text comes: `solve` and `demo` ask for an order
 -- of solving, the weight bound and a run within the limits, `info` and `control` ask for the agent
--- too, `pure`, `update`, `given` and `threshold` for what their own stages look for, `check` for the weight bound and
--- few
--- leaves, and the others for nothing. What is judged is no diagram.
+-- too, `pure`, `update`, `given` and `threshold` for what their own stages look for, `check` for the
+-- weight bound and few leaves, and the others for nothing. What is judged is no diagram.
 abbrev pub CanAnswer : Request → DiagramView → NamesView → Type 0
 CanAnswer (solve file) d names = IsSolvable d
 CanAnswer (check file report) d names = CanBeChecked d
@@ -63,5 +62,6 @@ CanAnswer (evidence file node state) d names = CanBeGiven node state d names
 CanAnswer (threshold file node row state) d names = CanBeMoved node row state d names
 CanAnswer (demo k) d names = IsSolvable d
 
+-- what comes of the request on its text's bytes: an output, or a refusal
 unfoldable pub Answers : Request → List ℕ → Outcomes Written Refused
 Answers request bytes = comes_of (task_of request) (file_name request) bytes

@@ -18,6 +18,7 @@ use Rattle.maid_app.specs.Tasks.{Task}
 use Rattle.maid_app.specs.declared.status.Status.{Status}
 use Rattle.maid_app.specs.declared.status.Status.TheVariants as statuses
 
+-- the word that tells why a report is rejected
 abbrev pub cause_words : Cause → List ℕ
 cause_words causes.Order = codes "order"
 cause_words causes.Choice = codes "choice"

@@ -19,24 +19,28 @@ use Rattle.net_build.specs.declared.faults.Limit.TheVariants as limits
 use Rattle.maid_app.specs.Diagrams.{IsTreeOf}
 use Rattle.maid_app.specs.Lines.{fault_line}
 
+-- where the fault of a text's tokens is; want of memory has no place
 abbrev pub token_place : LexFault → ℕ
 token_place (tokens.BadByte at) = at
 token_place (tokens.OpenString at) = at
 token_place (tokens.BadNumeral at) = at
 token_place tokens.NoMemory = 0
 
+-- what is wrong there
 abbrev pub token_words : LexFault → List ℕ
 token_words (tokens.BadByte at) = codes "bad byte"
 token_words (tokens.OpenString at) = codes "open string"
 token_words (tokens.BadNumeral at) = codes "bad numeral"
 token_words tokens.NoMemory = []
 
+-- where the first impossible token is; want of memory has no place
 abbrev pub grammar_place : ParseFault → ℕ
 grammar_place (trees.Unexpected at) = at
 grammar_place (trees.Unsupported at) = at
 grammar_place (trees.TooDeep at) = at
 grammar_place trees.NoMemory = 0
 
+-- what is wrong with that token
 abbrev pub grammar_words : ParseFault → List ℕ
 grammar_words (trees.Unexpected at) = codes "unexpected"
 grammar_words (trees.Unsupported at) = codes "unsupported"
@@ -59,6 +63,7 @@ pub record IsGrammarFault (bytes : List ℕ) (at : ℕ) (words : List ℕ) : Typ
   pub place : at ≡ grammar_place fault
   pub says : words ≡ grammar_words fault
 
+-- what there is too much of, before its count
 abbrev pub limit_words : Limit → List ℕ
 limit_words limits.Nodes = codes "nodes "
 limit_words limits.NameBytes = codes "name bytes "
@@ -72,13 +77,15 @@ limit_words limits.Rules = codes "rules "
 unfoldable pub cycle_names : List (List ℕ) → List ℕ → List ℕ
 cycle_names names cycle = spaced (map (λ v. slice_index_or names v []) cycle)
 
--- a cycle of nodes with these names, a table of another count of numbers, and a limit that is passed
+-- the arcs go round a cycle of nodes, which have these names
 abbrev pub cycle_words : List (List ℕ) → List ℕ → List ℕ
 cycle_words names cycle = codes "graph cycle:" ++ cycle_names names cycle
 
+-- the table has another count of numbers than its node wants
 abbrev pub count_words : ℕ → ℕ → List ℕ
 count_words want got = codes "wrong count: want " ++ decimal want ++ codes " got " ++ decimal got
 
+-- the limit that is passed, and the count that passes it
 abbrev pub passed_words : Limit → ℕ → List ℕ
 passed_words which got = codes "limit passed: " ++ limit_words which ++ decimal got
 

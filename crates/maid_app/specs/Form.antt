@@ -8,22 +8,22 @@ use Rattle.std.specs.Prelude.{◌≡◌, Option}
 use Rattle.std.specs.Option.{option_map}
 
 -- the request that a form with one text stands for
-abbrev pub text_request_by : TextForm → Request
-text_request_by (Solve file) = solve file.now
-text_request_by (Graph file) = graph file.now
-text_request_by (Print file) = print file.now
-text_request_by (Trim file) = trim file.now
-text_request_by (Pure file) = pure file.now
-text_request_by (Update file) = update file.now
-text_request_by (Info file agent) = info file.now agent.now
-text_request_by (Control file agent) = control file.now agent.now
-text_request_by (Given file node state) = evidence file.now node.now state.now
-text_request_by (Threshold file node row state) = threshold file.now node.now row state.now
-text_request_by (Demo k) = demo k
+abbrev pub text_request : TextForm → Request
+text_request (Solve file) = solve file.now
+text_request (Graph file) = graph file.now
+text_request (Print file) = print file.now
+text_request (Trim file) = trim file.now
+text_request (Pure file) = pure file.now
+text_request (Update file) = update file.now
+text_request (Info file agent) = info file.now agent.now
+text_request (Control file agent) = control file.now agent.now
+text_request (Given file node state) = evidence file.now node.now state.now
+text_request (Threshold file node row state) = threshold file.now node.now row state.now
+text_request (Demo k) = demo k
 
 -- the request that a form stands for
 abbrev pub request_by : Form → Request
-request_by (Text form) = text_request_by form
+request_by (Text form) = text_request form
 request_by (Check file report) = check file.now report.now
 
 -- the form that the words have is that of the request, and none where there is none

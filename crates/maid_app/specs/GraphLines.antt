@@ -19,12 +19,13 @@ abbrev pub relies_lines : List NodeView → NamesView → RelevanceView → List
 relies_lines nodes names view =
     flat_map (λ v. relies_line names v (relied_on_by view v)) (decisions_of nodes)
 
--- a call that ended well appended the node's line, and those of all decisions
+-- a call that ended well appended the line of the node, if it is a decision
 abbrev pub PushesReliesLine : {R E : Type 0} → DiagramView → NamesView → RelevanceView → ℕ → Vec ℕ
     → Vec ℕ → Result R E → Type 0
 PushesReliesLine d names view v before now result =
     PushAppends before now result (relies_line_of d.nodes names view v)
 
+-- a call that ended well appended the lines of all decisions
 abbrev pub PushesReliesLines : {R E : Type 0} → DiagramView → NamesView → RelevanceView → Vec ℕ
     → Vec ℕ → Result R E → Type 0
 PushesReliesLines d names view before now result =

@@ -4,16 +4,20 @@ use Rattle.maid_model.specs.Names.{NamesView, name_of}
 use Rattle.maid_model.specs.Reports.{line, names_line}
 use Rattle.app_lines.specs.Places.{line_at, column_at}
 
+-- what is told of words that are of no form: all forms
 abbrev pub usage_line : List ℕ
 usage_line = line (codes
     "usage: maidsolve solve F | check F R | graph F | print F | trim F | info F A | control F A | demo K | pure F | update F | given F X S | threshold F X ROW STATE")
 
+-- there is no file of that name
 abbrev pub absent_line : List ℕ → List ℕ
 absent_line name = line (codes "absent: " ++ name)
 
+-- reading the file failed
 abbrev pub read_fault_line : List ℕ → List ℕ
 read_fault_line name = line (codes "read fault: " ++ name)
 
+-- the file passes its limit
 abbrev pub too_long_line : List ℕ → List ℕ
 too_long_line name = line (codes "text too long: " ++ name)
 
@@ -22,9 +26,11 @@ abbrev pub fault_line : List ℕ → List ℕ → ℕ → List ℕ → List ℕ
 fault_line name text at words = line (name ++ 58 ∷ decimal (line_at text at) ++ 58
     ∷ decimal (column_at text at) ++ 58 ∷ 32 ∷ words)
 
+-- writing failed
 abbrev pub write_fault_line : List ℕ
 write_fault_line = line (codes "write fault")
 
+-- memory ran out
 abbrev pub no_memory_line : List ℕ
 no_memory_line = line (codes "no memory")
 
@@ -32,10 +38,11 @@ no_memory_line = line (codes "no memory")
 abbrev pub unknown_agent_line : List ℕ → List ℕ
 unknown_agent_line agent = line (codes "unknown agent: " ++ agent)
 
--- a name that no chance node has, and a label that none of its states has
+-- a name that no chance node has
 abbrev pub unknown_node_line : List ℕ → List ℕ
 unknown_node_line node = line (codes "unknown chance node: " ++ node)
 
+-- a label that none of the node's states has
 abbrev pub unknown_state_line : List ℕ → List ℕ
 unknown_state_line state = line (codes "unknown state: " ++ state)
 
@@ -83,6 +90,7 @@ abbrev pub no_equilibrium_line : ℕ → List ℕ
 no_equilibrium_line profiles =
     line (codes "no pure equilibrium: " ++ decimal profiles ++ codes " profiles")
 
+-- two decisions have different owners
 abbrev pub not_one_agent_line : List ℕ
 not_one_agent_line = line (codes "not one agent")
 

@@ -8,6 +8,7 @@ pub record Written : Type 0 where
   pub status : Status
   pub text : List ℕ
 
+-- that status, and that text for `out`
 abbrev pub written : Status → List ℕ → Written
 written status text = record { status = status; text = text }
 
@@ -20,6 +21,7 @@ pub record Refused : Type 0 where
   pub status : Status
   pub told : List ℕ
 
+-- that status, and that line for `err`
 abbrev pub refused : Status → List ℕ → Refused
 refused status told = record { status = status; told = told }
 

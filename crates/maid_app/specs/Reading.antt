@@ -33,8 +33,8 @@ use Rattle.net_build.specs.Table.{all_passes}
 use Rattle.net_build.specs.declared.faults.BuildFault.{BuildFault}
 
 -- that status and that line, or that memory ran out
-abbrev pub Tells : Status → List ℕ → Refusal → Type 0
-Tells status line refusal = IsFaultOrNoMemory refused_as (always (refused status line)) refusal
+abbrev pub TellsLine : Status → List ℕ → Refusal → Type 0
+TellsLine status line refusal = IsFaultOrNoMemory refused_as (always (refused status line)) refusal
 
 -- the text's fault, or that memory ran out
 abbrev pub TellsTextFault : List ℕ → List ℕ → Refusal → Type 0
@@ -104,6 +104,7 @@ comes_from task source = comes_of task source.name.now source.bytes.now
 abbrev pub Finishes : Outcomes Written Refused → Vec ℕ → Type 0
 Finishes Comes text = Comes (Ok (done_with text.items))
 
+-- this text comes of the task on the source, and the run is done
 abbrev pub Prints : Task → Source → Vec ℕ → Type 0
 Prints task source text = Finishes (comes_from task source) text
 
@@ -146,17 +147,19 @@ TellsFrom task source refusal = TellsOf (comes_from task source) refusal
 -- it tells the words of a fault of the source's bytes at that place, or that memory ran out
 abbrev pub TellsFaultAt : Source → ℕ → List ℕ → Refusal → Type 0
 TellsFaultAt source at words refusal =
-    Tells TextFault (fault_line source.name.now source.bytes.now at words) refusal
+    TellsLine TextFault (fault_line source.name.now source.bytes.now at words) refusal
 
 -- it tells that status and the line, if there was memory for the line
 abbrev pub TellsIfMade : {E : Type 0} → Status → Result (Vec ℕ) E → Refusal → Type 0
 TellsIfMade status line refusal =
-    MatchResult line (λ made. Tells status made.items refusal) (λ _. refusal ≡ refusal_variants.NoMemory)
+    MatchResult line (λ made. TellsLine status made.items refusal) (λ _. refusal ≡ refusal_variants.NoMemory)
 
--- ---- the faults of tokens and of a tree that stand for no diagram, or that memory ran out
+-- ---- the faults of tokens and of a tree that stand for no diagram
+-- the tokens spell no tree: the first impossible token, or that memory ran out
 abbrev pub IsTreeFault : List ℕ → List Token → ParseFault → Type 0
 IsTreeFault bytes tokens fault = IsFaultOrNoMemory parse_fault (tree_pass bytes tokens) fault
 
+-- no diagram stands for the tree: the first fault of the passes, or that memory ran out
 abbrev pub IsFaultOfTree : List ℕ → List BlockTree → BuildFault → Type 0
 IsFaultOfTree bytes tree fault = IsFaultOrNoMemory build_fault (all_passes bytes tree) fault
 

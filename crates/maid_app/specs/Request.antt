@@ -75,9 +75,11 @@ is_row_size word = nat_lt 0 (length word)
 abbrev pub is_row_word : List ℕ → Bool
 is_row_word word = is_row_size word && list_all is_ascii_digit word
 
+-- the number that the decimal digits mean
 abbrev pub number_of : List ℕ → ℕ
 number_of word = fold (λ n digit. n * 10 + (digit - 48)) 0 word
 
+-- the number of a row that the word is, if it is one
 abbrev pub row_of : List ℕ → Option ℕ
 row_of word = if is_row_word word then Some (number_of word) else None
 

@@ -34,6 +34,7 @@ use Rattle.maid_app.specs.declared.forms.update.TheConstants.{MOST_ROUNDS}
 use Rattle.maid_app.specs.declared.status.Status.{Status}
 use Rattle.maid_app.specs.declared.status.Status.TheVariants.{TextFault, UnknownAgent, Cycle, WeightBound, TooLarge, NoPure, NotOneAgent, RoundsSpent, UnknownNode, UnknownState, BelowDecision, Impossible, UnknownRow, NoOthers}
 
+-- what may be wrong with a file or with what the words ask of it
 pub data Stage : Type 0 where
   text_fault : Stage
   unknown_agent : (agent : List ℕ) → Stage
@@ -163,8 +164,8 @@ pub record TellsBadLine
 
 -- a stage finds nothing where it is clear, and else refuses with its status and a line that says why
 abbrev pub stage : Status → Type 0 → (List ℕ → Type 0) → Pass Refused
-stage status IsClear Tells None = IsClear
-stage status IsClear Tells (Some refusal) = (refusal.status ≡ status) × Tells refusal.told
+stage status IsClear SaysWhy None = IsClear
+stage status IsClear SaysWhy (Some refusal) = (refusal.status ≡ status) × SaysWhy refusal.told
 
 -- whether the names have the agent
 abbrev pub agent_pass : NamesView → List ℕ → Pass Refused

@@ -1,19 +1,18 @@
 -- What the steps of a run come to before anything is written. Only contracts of private functions cite this.
-use Rattle.std.specs.Prelude.{◌≡◌, ◌≢◌, ◌↔◌, ℕ, List, Option, None, Some, String}
+use Rattle.std.specs.Prelude.{◌≡◌, ◌≢◌, ◌↔◌, ℕ, List, Option, None, Some, String, IfOk, IfErr, Result}
 use Rattle.std.specs.Global.{Vec}
 use Rattle.maid_io.specs.Device.{File}
-use Rattle.maid_app.specs.Form.{request_by, text_request_by}
+use Rattle.maid_io.specs.declared.devices.Shelf.{Ghosts as ShelfGhosts}
+use Rattle.maid_io.specs.declared.devices.Sink.{Ghosts as SinkGhosts}
 use Rattle.maid_app.specs.Lines.{no_memory_line}
 use Rattle.maid_app.specs.Reading.{IsOfOutput, RefusesAs}
 use Rattle.maid_app.specs.Refusal.{status_of, line_of}
-use Rattle.maid_app.specs.Request.{Request, IsOfFile, check, requested}
-use Rattle.maid_app.specs.Told.{KeepsLimits, KeepsLimitsOf, HasNoBytes, HasText, IsAfterWriting, IsFileText, IsTextFor, LeadsTo, RoseIn, Says, IsUnread, WritesPart, KeepsLimit, limit_of}
-use Rattle.maid_app.specs.declared.forms.Form.{Form}
-use Rattle.maid_app.specs.declared.forms.TextForm.{TextForm}
+use Rattle.maid_app.specs.Request.{Request, IsOfFile, requested}
+use Rattle.maid_app.specs.Told.{AppendsWhole, KeepsLimits, KeepsLimitsOf, HasNoBytes, HasText, IsAfterWriting, IsFileText, IsTextFor, LeadsTo, RoseIn, Says, IsUnread, WritesPart, KeepsLimit, limit_of}
 use Rattle.maid_app.specs.declared.output.Output.{Output}
 use Rattle.maid_app.specs.declared.refusal.Refusal.{Refusal}
 use Rattle.maid_app.specs.declared.status.Status.{Status}
-use Rattle.maid_app.specs.declared.status.Status.TheVariants.{Absent, NoMemory, Usage, WriteFault}
+use Rattle.maid_app.specs.declared.status.Status.TheVariants.{Absent, NoMemory, Usage}
 use Rattle.maid_app.specs.Outcome.{Written, Refused}
 use Rattle.first_fault.specs.Outcomes.{Outcomes}
 
@@ -48,18 +47,15 @@ IsCounted status count before now refusal = status_of refusal ≡ status → Ros
 abbrev pub GivesFileText : Option (List File) → List ℕ → ℕ → ℕ → Vec ℕ → Type 0
 GivesFileText list name limit given bytes = IsFileText list name limit given bytes.items
 
--- the bytes are the request's text
-abbrev pub GivesTextFor : Option (List File) → Request → ℕ → Vec ℕ → Type 0
-GivesTextFor list request given bytes = IsTextFor list request given bytes.items
-
--- the file keeps its limit, and so does the file that was started last, behind a refusal
+-- where it is refused, the file keeps its limit
 abbrev pub RefusesWithinLimit : ℕ → ℕ → Refusal → Type 0
 RefusesWithinLimit limit given refusal = KeepsLimit limit (status_of refusal) given
 
-abbrev pub RefusesWithinLimits : {Z S : Type 0} → List (String Z) → (S → Option (List File))
-    → (S → ℕ) → S → S → Refusal → Type 0
-RefusesWithinLimits words list given shelf shelf_now refusal =
-    KeepsLimitsOf words list given shelf shelf_now (status_of refusal)
+-- so does the file of the words that was started last
+abbrev pub RefusesWithinLimits :
+    {Z S : Type 0} → List (String Z) → ShelfGhosts S → S → S → Refusal → Type 0
+RefusesWithinLimits words shelf before now refusal =
+    KeepsLimitsOf words shelf before now (status_of refusal)
 
 -- ---- what a refusal says, by its status and its line
 -- why a file's bytes were not had
@@ -67,88 +63,63 @@ abbrev pub RefusesFile : Option (List File) → List ℕ → ℕ → ℕ → Ref
 RefusesFile list name limit given refusal =
     IsUnread list name limit given (status_of refusal) (line_of refusal)
 
--- why a request's bytes were not had
-abbrev pub RefusesText : Option (List File) → Request → ℕ → Refusal → Type 0
-RefusesText list request given refusal =
-    HasNoText list request given (status_of refusal) (line_of refusal)
-
 -- what the bytes come to
 abbrev pub RefusesBytes : Outcomes Written Refused → Refusal → Type 0
 RefusesBytes Comes refusal = RefusesAs Comes (status_of refusal) (line_of refusal)
 
 -- why not the whole text was written
-abbrev pub RefusesWords : {Z S : Type 0} → List (String Z) → (S → Option (List File)) → (S → ℕ)
-    → S → S → Refusal → Type 0
-RefusesWords words list given shelf shelf_now refusal =
-    Says (list shelf) (requested words) (given shelf_now) (status_of refusal) (line_of refusal)
+abbrev pub RefusesWords :
+    {Z S : Type 0} → List (String Z) → ShelfGhosts S → S → S → Refusal → Type 0
+RefusesWords words shelf before now refusal =
+    Says (shelf.list before) (requested words) (shelf.given now) (status_of refusal)
+    (line_of refusal)
 
 -- the words are of no form just where the refusal says so
 abbrev pub IsUsageFor : {Z : Type 0} → List (String Z) → Refusal → Type 0
 IsUsageFor words refusal = (status_of refusal ≡ Usage) ↔ (requested words ≡ None)
 
--- it is so where the refusal has that status, or unless it has
+-- it is so where the refusal has that status
 abbrev pub WhereStatus : Status → Type 0 → Refusal → Type 0
 WhereStatus status So refusal = status_of refusal ≡ status → So
 
+-- it is so where the refusal has another status
 abbrev pub UnlessStatus : Status → Type 0 → Refusal → Type 0
 UnlessStatus status So refusal = status_of refusal ≢ status → So
 
--- where writing failed, a proper front of the text was appended
-abbrev pub StopsInText : {Z S O : Type 0} → List (String Z) → (S → Option (List File)) → (S → ℕ)
-    → S → S → (O → Option (List ℕ)) → O → O → Refusal → Type 0
-StopsInText words list given shelf shelf_now taken out out_now refusal =
-    status_of refusal ≡ WriteFault
-    → WritesPart words list given shelf shelf_now taken out out_now
+-- where nothing is refused, the whole text was appended
+abbrev pub ServesWhole : {Z S O : Type 0} → List (String Z) → ShelfGhosts S → S → S
+    → SinkGhosts O → O → O → Result Status Refusal → Type 0
+ServesWhole words shelf before now sink out out_now result =
+    IfOk result (AppendsWhole words shelf before now sink out out_now)
+
+-- where writing failed, a proper front of it was
+abbrev pub StopsInText : {Z S O : Type 0} → List (String Z) → ShelfGhosts S → S → S
+    → SinkGhosts O → O → O → Result Status Refusal → Type 0
+StopsInText words shelf before now sink out out_now result = IfErr result
+    (λ refusal. WritesPart words shelf before now sink out out_now (status_of refusal))
 
 -- the file of the request, where it has one, keeps its limit
 abbrev pub KeepsFileLimit : Request → ℕ → Refusal → Type 0
 KeepsFileLimit request given refusal =
     IsOfFile request → KeepsLimit (limit_of request) (status_of refusal) given
 
--- ---- what the forms come to, on a shelf of such a list that gave so much, before and now
--- a form with one text has its bytes, or why it has not, and the limit of its file
-abbrev pub GivesFormText : {S : Type 0} → TextForm → (S → Option (List File)) → (S → ℕ) → S → S
-    → Vec ℕ → Type 0
-GivesFormText form list given shelf shelf_now bytes =
-    GivesTextFor (list shelf) (text_request_by form) (given shelf_now) bytes
+-- ---- what a request comes to on a shelf, before and now
+-- the bytes are its text
+abbrev pub GivesBytes : {S : Type 0} → Request → ShelfGhosts S → S → S → Vec ℕ → Type 0
+GivesBytes request shelf before now bytes =
+    IsTextFor (shelf.list before) request (shelf.given now) bytes.items
 
-abbrev pub RefusesForm : {S : Type 0} → TextForm → (S → Option (List File)) → (S → ℕ) → S → S
-    → Refusal → Type 0
-RefusesForm form list given shelf shelf_now refusal =
-    RefusesText (list shelf) (text_request_by form) (given shelf_now) refusal
+-- its bytes were not had, and the refusal says why
+abbrev pub LacksBytes : {S : Type 0} → Request → ShelfGhosts S → S → S → Refusal → Type 0
+LacksBytes request shelf before now refusal = HasNoText (shelf.list before) request
+    (shelf.given now) (status_of refusal) (line_of refusal)
 
-abbrev pub KeepsFormLimit : TextForm → ℕ → Refusal → Type 0
-KeepsFormLimit form given refusal = KeepsFileLimit (text_request_by form) given refusal
+-- it leads to the output
+abbrev pub MakesText : {S : Type 0} → Request → ShelfGhosts S → S → S → Output → Type 0
+MakesText request shelf before now output =
+    LeadsToText (shelf.list before) request (shelf.given now) output
 
--- it leads to its output, or to a refusal
-abbrev pub MakesFormText : {S : Type 0} → TextForm → (S → Option (List File)) → (S → ℕ) → S → S
-    → Output → Type 0
-MakesFormText form list given shelf shelf_now output =
-    LeadsToText (list shelf) (text_request_by form) (given shelf_now) output
-
-abbrev pub LacksFormText : {S : Type 0} → TextForm → (S → Option (List File)) → (S → ℕ) → S → S
-    → Refusal → Type 0
-LacksFormText form list given shelf shelf_now refusal =
-    LeadsToRefusal (list shelf) (text_request_by form) (given shelf_now) refusal
-
--- so does a check of the report in one file on the diagram in the other
-abbrev pub MakesVerdict : {S : Type 0} → List ℕ → List ℕ → (S → Option (List File)) → (S → ℕ)
-    → S → S → Output → Type 0
-MakesVerdict file report list given shelf shelf_now output =
-    LeadsToText (list shelf) (check file report) (given shelf_now) output
-
-abbrev pub LacksVerdict : {S : Type 0} → List ℕ → List ℕ → (S → Option (List File)) → (S → ℕ)
-    → S → S → Refusal → Type 0
-LacksVerdict file report list given shelf shelf_now refusal =
-    LeadsToRefusal (list shelf) (check file report) (given shelf_now) refusal
-
--- and any form
-abbrev pub MakesText : {S : Type 0} → Form → (S → Option (List File)) → (S → ℕ) → S → S
-    → Output → Type 0
-MakesText form list given shelf shelf_now output =
-    LeadsToText (list shelf) (request_by form) (given shelf_now) output
-
-abbrev pub LacksText : {S : Type 0} → Form → (S → Option (List File)) → (S → ℕ) → S → S
-    → Refusal → Type 0
-LacksText form list given shelf shelf_now refusal =
-    LeadsToRefusal (list shelf) (request_by form) (given shelf_now) refusal
+-- it leads to the refusal
+abbrev pub LacksText : {S : Type 0} → Request → ShelfGhosts S → S → S → Refusal → Type 0
+LacksText request shelf before now refusal =
+    LeadsToRefusal (shelf.list before) request (shelf.given now) refusal

@@ -85,10 +85,12 @@ moved_pass d names place row =
     (TellsMovedBound d place.node row place.state names)
 
 -- ---- of a row counted from 1
+-- the interval is the only one on which the answer's rules stay best
 abbrev pub IsOnlySpanAt : DiagramView → SolvedView → StatePlace → ℕ → Interval → Type 0
 IsOnlySpanAt d solved place row interval =
     IsOnlySpan d solved place.node (row - 1) place.state interval
 
+-- inside the interval the answer's rules stay subgame-perfect
 abbrev pub StaysPerfectAt : DiagramView → SolvedView → StatePlace → ℕ → Interval → Type 0
 StaysPerfectAt d solved place row interval =
     StaysPerfect d solved place.node (row - 1) place.state interval

@@ -1,9 +1,11 @@
 -- What a run read, wrote and told.
-use Rattle.std.specs.Prelude.{◌≡◌, ◌<◌, ◌≤◌, ◌+◌, ◌⊎◌, ℕ, List, length, Option, None, Some, Ok, Err, String, IfSome, IsSomeAnd}
+use Rattle.std.specs.Prelude.{◌≡◌, ◌≢◌, ◌<◌, ◌≤◌, ◌+◌, ◌⊎◌, ℕ, List, length, Option, None, Some, Ok, Err, String, IfSome, IsSomeAnd}
 use Rattle.std.specs.Io.KnownBytes.{Appends}
 use Rattle.app_lines.specs.Demo.{demo_text}
 use Rattle.maid_io.specs.Count.{Rose}
 use Rattle.maid_io.specs.Device.{File, file_of}
+use Rattle.maid_io.specs.declared.devices.Shelf.{Ghosts as ShelfGhosts}
+use Rattle.maid_io.specs.declared.devices.Sink.{Ghosts as SinkGhosts}
 use Rattle.maid_io.specs.Whole.{AppendsPart}
 use Rattle.maid_app.specs.declared.running.TheConstants.{LIMIT, REPORT_LIMIT}
 use Rattle.maid_app.specs.Answers.{Answers, FindsNothing, CanAnswer}
@@ -103,36 +105,36 @@ IsAfterWriting Done = Unit {0}
 IsAfterWriting Rejected = Unit {0}
 IsAfterWriting status = ⊥
 
--- the limits of the files are kept that a shelf of such a list started, which gave so much
-abbrev pub KeepsLimitsOf : {Z S : Type 0} → List (String Z) → (S → Option (List File)) → (S → ℕ)
-    → S → S → Status → Type 0
-KeepsLimitsOf words list given shelf shelf_now status =
-    KeepsLimits (list shelf) (requested words) status (given shelf_now)
+-- the limits of the files are kept that the shelf started
+abbrev pub KeepsLimitsOf :
+    {Z S : Type 0} → List (String Z) → ShelfGhosts S → S → S → Status → Type 0
+KeepsLimitsOf words shelf before now status =
+    KeepsLimits (shelf.list before) (requested words) status (shelf.given now)
 
 -- it is so where the words ask for a demo
 abbrev pub WhereDemo : {Z : Type 0} → List (String Z) → Type 0 → Type 0
 WhereDemo words So = (k : ℕ) → requested words ≡ Some (demo k) → So
 
--- ---- What `out` took, where a shelf of such a list gave so much, before the run and now
+-- ---- What the sink `out` took, on a shelf, each before the run and now
 -- the whole text that the words lead to was appended
-abbrev pub WritesWhole : {Z S O : Type 0} → List (String Z) → (S → Option (List File)) → (S → ℕ)
-    → S → S → (O → Option (List ℕ)) → O → O → Status → Type 0
-WritesWhole words list given shelf shelf_now taken out out_now status =
-    WritesText (list shelf) (requested words) (given shelf_now)
-    (Appends (taken out) (taken out_now)) status
+abbrev pub AppendsWhole : {Z S O : Type 0} → List (String Z) → ShelfGhosts S → S → S
+    → SinkGhosts O → O → O → Status → Type 0
+AppendsWhole words shelf before now sink out out_now status =
+    WritesText (shelf.list before) (requested words) (shelf.given now)
+    (Appends (sink.taken out) (sink.taken out_now)) status
 
 -- so it was, where the run ended after writing
-abbrev pub WritesWholeIfDone : {Z S O : Type 0} → List (String Z) → (S → Option (List File))
-    → (S → ℕ) → S → S → (O → Option (List ℕ)) → O → O → Status → Type 0
-WritesWholeIfDone words list given shelf shelf_now taken out out_now status = IsAfterWriting status
-    → WritesWhole words list given shelf shelf_now taken out out_now status
+abbrev pub WritesWhole : {Z S O : Type 0} → List (String Z) → ShelfGhosts S → S → S
+    → SinkGhosts O → O → O → Status → Type 0
+WritesWhole words shelf before now sink out out_now status =
+    IsAfterWriting status → AppendsWhole words shelf before now sink out out_now status
 
--- a proper front of it was
-abbrev pub WritesPart : {Z S O : Type 0} → List (String Z) → (S → Option (List File)) → (S → ℕ)
-    → S → S → (O → Option (List ℕ)) → O → O → Type 0
-WritesPart words list given shelf shelf_now taken out out_now = (status : Status)
-    × WritesText (list shelf) (requested words) (given shelf_now)
-    (AppendsPart (taken out) (taken out_now)) status
+-- a proper front of it was, where writing failed
+abbrev pub WritesPart : {Z S O : Type 0} → List (String Z) → ShelfGhosts S → S → S
+    → SinkGhosts O → O → O → Status → Type 0
+WritesPart words shelf before now sink out out_now ended = ended ≡ WriteFault → (status : Status)
+    × WritesText (shelf.list before) (requested words) (shelf.given now)
+    (AppendsPart (sink.taken out) (sink.taken out_now)) status
 
 -- the request comes to nothing on its text's bytes, with that status and that line
 pub record Refuses
@@ -180,11 +182,10 @@ abbrev pub TakesLine : Option (List ℕ) → Option (List ℕ) → ℕ → ℕ �
 TakesLine old new before now told =
     Appends old new told ⊎ (Rose before now × AppendsPart old new told)
 
--- so of a device with this text and this count of faults
-abbrev pub TakesLineIn :
-    {D : Type 0} → (D → Option (List ℕ)) → (D → ℕ) → D → D → List ℕ → Type 0
-TakesLineIn taken faults before now told =
-    TakesLine (taken before) (taken now) (faults before) (faults now) told
+-- so of the sink `err`
+abbrev pub TakesLineIn : {E : Type 0} → SinkGhosts E → E → E → List ℕ → Type 0
+TakesLineIn sink err err_now told =
+    TakesLine (sink.taken err) (sink.taken err_now) (sink.faults err) (sink.faults err_now) told
 
 -- the words lead to this, which names a file, and the shelf tells that this file has these bytes
 pub record HasFile
@@ -223,12 +224,12 @@ IsOfReading ReadFault = Unit {0}
 IsOfReading TextTooLong = Unit {0}
 IsOfReading status = ⊥
 
--- unless the whole text was written, the line that says why not was taken so
-abbrev pub SaysWhyNot : {Z S : Type 0} → List (String Z) → (S → Option (List File)) → (S → ℕ)
-    → S → S → Status → (List ℕ → Type 0) → Type 0
-SaysWhyNot words list given shelf shelf_now status IsTaken = ¬ IsAfterWriting status
-    → (line : List ℕ) × Says (list shelf) (requested words) (given shelf_now) status line
-    × IsTaken line
+-- unless the whole text was written, `err` took the line that says why not
+abbrev pub SaysWhyNot : {Z S E : Type 0} → List (String Z) → ShelfGhosts S → S → S
+    → SinkGhosts E → E → E → Status → Type 0
+SaysWhyNot words shelf before now sink err err_now status = ¬ IsAfterWriting status
+    → (line : List ℕ) × Says (shelf.list before) (requested words) (shelf.given now) status line
+    × TakesLineIn sink err err_now line
 
 -- a status that comes before the first write to `out`
 abbrev pub IsBeforeWriting : Status → Type 0
@@ -244,55 +245,50 @@ EndsWell (check file report) status = Unit {0}
 EndsWell (judge text report) status = IsOneOf status Done ⊎ (status ≡ Rejected)
 EndsWell request status = IsOneOf status Done
 
--- ---- What always comes of a file that the words lead to, or want of memory, but where the shelf fails, or `out`
+-- ---- What always comes of a file that the words lead to and the shelf tells, or want of memory
+-- it is so unless reading failed
+abbrev pub UnlessUnread : Status → Type 0 → Type 0
+UnlessUnread status So = status ≢ ReadFault → So
+
+-- it is so unless reading or writing failed
+abbrev pub UnlessFailed : Status → Type 0 → Type 0
+UnlessFailed status So = status ≢ ReadFault → status ≢ WriteFault → So
+
 -- the shelf tells that it lacks the file
-abbrev pub AlwaysAbsent : {Z S : Type 0} → List (String Z) → (S → Option (List File)) → (S → ℕ)
-    → S → S → Status → Type 0
-AlwaysAbsent words list faults shelf shelf_now status = LacksFile (list shelf) (requested words)
-    → ¬ RoseIn faults shelf shelf_now → IsOneOf status Absent
+abbrev pub AlwaysAbsent : {Z : Type 0} → List (String Z) → Option (List File) → Status → Type 0
+AlwaysAbsent words list status =
+    LacksFile list (requested words) → UnlessUnread status (IsOneOf status Absent)
 
 -- the file passes its limit
-abbrev pub AlwaysTooLong : {Z S : Type 0} → List (String Z) → (S → Option (List File)) → (S → ℕ)
-    → S → S → Status → Type 0
-AlwaysTooLong words list faults shelf shelf_now status = (request : Request) (bytes : List ℕ)
-    → HasFile (list shelf) (requested words) request bytes → limit_of request < length bytes
-    → ¬ RoseIn faults shelf shelf_now → IsOneOf status TextTooLong
+abbrev pub AlwaysTooLong : {Z : Type 0} → List (String Z) → Option (List File) → Status → Type 0
+AlwaysTooLong words list status = (request : Request) (bytes : List ℕ)
+    → HasFile list (requested words) request bytes → limit_of request < length bytes
+    → UnlessUnread status (IsOneOf status TextTooLong)
 
 -- the request is refused on its bytes
-abbrev pub AlwaysRefused : {Z S : Type 0} → List (String Z) → (S → Option (List File)) → (S → ℕ)
-    → S → S → Status → Type 0
-AlwaysRefused words list faults shelf shelf_now status = (request : Request) (bytes : List ℕ)
-    → HasFileWithin (list shelf) (requested words) request bytes → (refusal : Refused)
-    → Answers request bytes (Err refusal) → ¬ RoseIn faults shelf shelf_now
-    → IsOneOf status refusal.status
+abbrev pub AlwaysRefused : {Z : Type 0} → List (String Z) → Option (List File) → Status → Type 0
+AlwaysRefused words list status = (request : Request) (bytes : List ℕ)
+    → HasFileWithin list (requested words) request bytes → (refusal : Refused)
+    → Answers request bytes (Err refusal) → UnlessUnread status (IsOneOf status refusal.status)
 
 -- nothing is found in its bytes
-abbrev pub AlwaysDone : {Z S O : Type 0} → List (String Z) → (S → Option (List File)) → (S → ℕ)
-    → S → S → (O → ℕ) → O → O → Status → Type 0
-AlwaysDone words list faults shelf shelf_now out_faults out out_now status =
-    (request : Request) (bytes : List ℕ)
-    → HasFileWithin (list shelf) (requested words) request bytes → FindsNothing request bytes
-    → ¬ RoseIn faults shelf shelf_now → ¬ RoseIn out_faults out out_now → EndsWell request status
+abbrev pub AlwaysDone : {Z : Type 0} → List (String Z) → Option (List File) → Status → Type 0
+AlwaysDone words list status = (request : Request) (bytes : List ℕ)
+    → HasFileWithin list (requested words) request bytes → FindsNothing request bytes
+    → UnlessFailed status (EndsWell request status)
 
 -- its bytes stand for a diagram that can be answered
-abbrev pub AlwaysAnswers : {Z S O : Type 0} → List (String Z) → (S → Option (List File)) → (S → ℕ)
-    → S → S → (O → ℕ) → O → O → Status → Type 0
-AlwaysAnswers words list faults shelf shelf_now out_faults out out_now status =
-    (request : Request) (bytes : List ℕ)
-    → HasFileWithin (list shelf) (requested words) request bytes
-    → (d : DiagramView) (names : NamesView)
+abbrev pub AlwaysAnswers : {Z : Type 0} → List (String Z) → Option (List File) → Status → Type 0
+AlwaysAnswers words list status = (request : Request) (bytes : List ℕ)
+    → HasFileWithin list (requested words) request bytes → (d : DiagramView) (names : NamesView)
     → IsDiagramOf bytes d names → CanAnswer request d names
-    → ¬ RoseIn faults shelf shelf_now → ¬ RoseIn out_faults out out_now → EndsWell request status
+    → UnlessFailed status (EndsWell request status)
 
 -- an output comes of its bytes
-abbrev pub AlwaysWritten : {Z S O : Type 0} → List (String Z) → (S → Option (List File)) → (S → ℕ)
-    → S → S → (O → ℕ) → O → O → Status → Type 0
-AlwaysWritten words list faults shelf shelf_now out_faults out out_now status =
-    (request : Request) (bytes : List ℕ)
-    → HasFileWithin (list shelf) (requested words) request bytes → (output : Written)
-    → Answers request bytes (Ok output)
-    → ¬ RoseIn faults shelf shelf_now → ¬ RoseIn out_faults out out_now
-    → IsOneOf status output.status
+abbrev pub AlwaysWritten : {Z : Type 0} → List (String Z) → Option (List File) → Status → Type 0
+AlwaysWritten words list status = (request : Request) (bytes : List ℕ)
+    → HasFileWithin list (requested words) request bytes → (output : Written)
+    → Answers request bytes (Ok output) → UnlessFailed status (IsOneOf status output.status)
 
 -- the generated text of a demo is refused
 abbrev pub AlwaysDemoRefused : {Z : Type 0} → List (String Z) → Status → Type 0
@@ -300,6 +296,6 @@ AlwaysDemoRefused words status = (k : ℕ) → requested words ≡ Some (demo k)
     → Answers (demo k) (demo_text k) (Err refusal) → IsOneOf status refusal.status
 
 -- nothing is found in it
-abbrev pub AlwaysDemoDone : {Z O : Type 0} → List (String Z) → (O → ℕ) → O → O → Status → Type 0
-AlwaysDemoDone words out_faults out out_now status = (k : ℕ) → requested words ≡ Some (demo k)
-    → FindsNothing (demo k) (demo_text k) → ¬ RoseIn out_faults out out_now → IsOneOf status Done
+abbrev pub AlwaysDemoDone : {Z : Type 0} → List (String Z) → Status → Type 0
+AlwaysDemoDone words status = (k : ℕ) → requested words ≡ Some (demo k)
+    → FindsNothing (demo k) (demo_text k) → status ≢ WriteFault → IsOneOf status Done

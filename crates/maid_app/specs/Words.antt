@@ -21,13 +21,15 @@ block_names text blocks = names_of text (node_blocks blocks)
 abbrev pub tokens_bytes : List ℕ → List Token → List (List ℕ)
 tokens_bytes text tokens = map (token_bytes text) tokens
 
--- these are the names of the node blocks, and these the words of a cycle of theirs and of what is wrong with them
+-- these are the names of the node blocks
 abbrev pub AreBlockNames : List ℕ → List BlockTree → Vec Token → Type 0
 AreBlockNames text blocks names = tokens_bytes text names.items ≡ block_names text blocks
 
+-- these are the words that tell a cycle of them
 abbrev pub AreCycleWords : List ℕ → List BlockTree → List ℕ → Vec ℕ → Type 0
 AreCycleWords text blocks cycle words = words.items ≡ cycle_words (block_names text blocks) cycle
 
+-- these are the words that tell what is wrong with the tree
 abbrev pub AreKindWords : List ℕ → List BlockTree → BuildKind → Vec ℕ → Type 0
 AreKindWords text blocks kind words =
     words.items ≡ kind_words (block_names text blocks) (kind_view kind)

@@ -8,7 +8,7 @@ ghost use Rattle.std.specs.Str.{bytes_eq};
 ghost use Rattle.maid_app.specs.Answers.{Answers};
 ghost use Rattle.maid_app.specs.Reading.{TellsOf, Finishes};
 ghost use Rattle.maid_app.specs.Request.{is_row_size, is_row_word, request_by_evidence, request_by_row, request_by_word, request_by_words, requested, row_of, stages_of};
-ghost use Rattle.maid_app.specs.Form.{request_by, text_request_by, IsFormOf};
+ghost use Rattle.maid_app.specs.Form.{request_by, text_request, IsFormOf};
 
 mod asking;
 mod chances;
@@ -125,8 +125,8 @@ impl<'a> TextForm<'a> {
     /// What the form's stages find first, or want of memory.
     #[tactic(auto, unfolding(crate::specs::Answers::Answers))]
     pub fn text(self, alloc: Global, bytes: &[u8]) -> Result<Vec<u8>, Refusal>
-        ensures ok { IfOk result (Finishes (Answers (text_request_by self.entry) bytes.now)) }
-        ensures err { IfErr result (TellsOf (Answers (text_request_by self.entry) bytes.now)) }
+        ensures ok { IfOk result (Finishes (Answers (text_request self.entry) bytes.now)) }
+        ensures err { IfErr result (TellsOf (Answers (text_request self.entry) bytes.now)) }
     {
         match self {
             TextForm::Solve { file } => solve::answer(alloc, Source { name: file, bytes }),
@@ -182,7 +182,7 @@ fn stages_of(word: &[u8]) -> Option<usize>
 
 // The form of a word and what comes behind it.
 fn form_by_word<'a>(word: &str, next: &'a str) -> Option<TextForm<'a>>
-    ensures { option_map text_request_by result ≡ request_by_word word.now next.now }
+    ensures { option_map text_request result ≡ request_by_word word.now next.now }
 {
     match word {
         "solve" => Some(TextForm::Solve { file: next }),

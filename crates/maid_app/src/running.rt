@@ -1,14 +1,14 @@
 //! The shell: words, devices, the order of refusals, and one line to `err`.
 
 ghost use Rattle.std.specs.Prelude.{◌≡◌, ◌≢◌, ◌++◌, ◌≤◌, ◌↔◌, ℕ, None, IfOk, IfErr, OnOk};
-ghost use Rattle.maid_app.specs.Request.{demo, requested};
-ghost use Rattle.maid_app.specs.Form.{request_by, text_request_by};
+ghost use Rattle.maid_app.specs.Request.{check, demo, requested};
+ghost use Rattle.maid_app.specs.Form.{request_by, text_request};
 ghost use Rattle.maid_app.specs.Answers.{Answers};
-ghost use Rattle.maid_app.specs.Reading.{Tells, Finishes};
+ghost use Rattle.maid_app.specs.Reading.{TellsLine, Finishes};
 ghost use Rattle.maid_app.specs.Refusal.{status_of};
 ghost use Rattle.maid_model.specs.Reports.{line};
-ghost use Rattle.maid_app.specs.Steps.{IsCounted, RefusesBytes, RefusesFile, RefusesWords, StopsInText, GivesFileText, RefusesWithinLimit, RefusesWithinLimits, GivesFormText, IsUsageFor, KeepsFormLimit, LacksFormText, LacksText, LacksVerdict, MakesFormText, MakesText, MakesVerdict, RefusesForm, UnlessStatus, WhereStatus};
-ghost use Rattle.maid_app.specs.Told.{IsAfterWriting, IsBeforeWriting, IsOfReading, AlwaysAbsent, AlwaysAnswers, AlwaysDemoDone, AlwaysDemoRefused, AlwaysDone, AlwaysRefused, AlwaysTooLong, AlwaysWritten, RoseIn, SaysWhyNot, TakesLineIn, WritesPart, WritesWhole, WritesWholeIfDone, KeepsLimitsOf, WhereDemo};
+ghost use Rattle.maid_app.specs.Steps.{IsCounted, RefusesBytes, RefusesFile, RefusesWords, ServesWhole, StopsInText, GivesBytes, GivesFileText, RefusesWithinLimit, RefusesWithinLimits, IsUsageFor, KeepsFileLimit, LacksBytes, LacksText, MakesText, UnlessStatus, WhereStatus};
+ghost use Rattle.maid_app.specs.Told.{IsAfterWriting, IsBeforeWriting, IsOfReading, AlwaysAbsent, AlwaysAnswers, AlwaysDemoDone, AlwaysDemoRefused, AlwaysDone, AlwaysRefused, AlwaysTooLong, AlwaysWritten, RoseIn, SaysWhyNot, WritesPart, WritesWhole, KeepsLimitsOf, WhereDemo};
 
 use crate::forms::{Form, TextForm, check, form_of};
 use crate::laws::one_status;
@@ -27,7 +27,7 @@ pub const REPORT_LIMIT: usize = 67_108_864;
 
 // The refusal that tells the line of these two pieces. The line takes memory, which may run out.
 fn told(alloc: Global, status: Status, head: &[u8], name: &str) -> Refusal
-    ensures { Tells status (line (head.now ++ name.now)) result }
+    ensures { TellsLine status (line (head.now ++ name.now)) result }
 {
     match lines::told(alloc, head, name.as_bytes()) {
         Ok(line) => Refusal::Told { status, line },
@@ -73,10 +73,10 @@ fn read_file<H: Shelf>(
 
 // The bytes that a form with one text is asked of: those of its file, or the generated text.
 fn bytes_for<H: Shelf>(alloc: Global, shelf: &mut H, form: TextForm<'_>) -> Result<Vec<u8>, Refusal>
-    ensures ok { IfOk result (GivesFormText form.entry H.list H.given shelf.old shelf.new) }
-    ensures err { IfErr result (RefusesForm form.entry H.list H.given shelf.old shelf.new) }
-    ensures bounded { IfErr result (KeepsFormLimit form.entry (H.given shelf.new)) }
-    ensures own { (k : ℕ) → text_request_by form.entry ≡ demo k → shelf.new ≡ shelf.old }
+    ensures ok { IfOk result (GivesBytes (text_request form.entry) H.Shelf shelf.old shelf.new) }
+    ensures err { IfErr result (LacksBytes (text_request form.entry) H.Shelf shelf.old shelf.new) }
+    ensures bounded { IfErr result (KeepsFileLimit (text_request form.entry) (H.given shelf.new)) }
+    ensures own { (k : ℕ) → text_request form.entry ≡ demo k → shelf.new ≡ shelf.old }
     ensures absent_cause { IfErr result (IsCounted Status.Absent H.absences shelf.old shelf.new) }
     ensures read_cause { IfErr result (IsCounted Status.ReadFault H.faults shelf.old shelf.new) }
     ensures faults { H.faults shelf.old ≤ H.faults shelf.new }
@@ -100,8 +100,8 @@ fn bytes_for<H: Shelf>(alloc: Global, shelf: &mut H, form: TextForm<'_>) -> Resu
 
 // What a form with one text makes of its bytes. It refuses with no status of the run's own.
 fn text_of(alloc: Global, form: TextForm<'_>, bytes: &[u8]) -> Result<Vec<u8>, Refusal>
-    ensures ok { IfOk result (Finishes (Answers (text_request_by form.entry) bytes.now)) }
-    ensures err { IfErr result (RefusesBytes (Answers (text_request_by form.entry) bytes.now)) }
+    ensures ok { IfOk result (Finishes (Answers (text_request form.entry) bytes.now)) }
+    ensures err { IfErr result (RefusesBytes (Answers (text_request form.entry) bytes.now)) }
 {
     form.text(alloc, bytes)
 }
@@ -112,9 +112,9 @@ fn text_output<H: Shelf>(
     shelf: &mut H,
     form: TextForm<'_>,
 ) -> Result<Output, Refusal>
-    ensures ok { IfOk result (MakesFormText form.entry H.list H.given shelf.old shelf.new) }
-    ensures err { IfErr result (LacksFormText form.entry H.list H.given shelf.old shelf.new) }
-    ensures own { (k : ℕ) → text_request_by form.entry ≡ demo k → shelf.new ≡ shelf.old }
+    ensures ok { IfOk result (MakesText (text_request form.entry) H.Shelf shelf.old shelf.new) }
+    ensures err { IfErr result (LacksText (text_request form.entry) H.Shelf shelf.old shelf.new) }
+    ensures own { (k : ℕ) → text_request form.entry ≡ demo k → shelf.new ≡ shelf.old }
     ensures absent_cause { IfErr result (IsCounted Status.Absent H.absences shelf.old shelf.new) }
     ensures read_cause { IfErr result (IsCounted Status.ReadFault H.faults shelf.old shelf.new) }
     ensures faults { H.faults shelf.old ≤ H.faults shelf.new }
@@ -136,8 +136,8 @@ fn check_output<H: Shelf>(
     file: &str,
     report: &str,
 ) -> Result<Output, Refusal>
-    ensures ok { IfOk result (MakesVerdict file.now report.now H.list H.given shelf.old shelf.new) }
-    ensures err { IfErr result (LacksVerdict file.now report.now H.list H.given shelf.old shelf.new) }
+    ensures ok { IfOk result (MakesText (check file.now report.now) H.Shelf shelf.old shelf.new) }
+    ensures err { IfErr result (LacksText (check file.now report.now) H.Shelf shelf.old shelf.new) }
     ensures absent_cause { IfErr result (IsCounted Status.Absent H.absences shelf.old shelf.new) }
     ensures read_cause { IfErr result (IsCounted Status.ReadFault H.faults shelf.old shelf.new) }
     ensures faults { H.faults shelf.old ≤ H.faults shelf.new }
@@ -152,8 +152,8 @@ fn check_output<H: Shelf>(
 
 // What the words' form writes, made whole.
 fn output_of<H: Shelf>(alloc: Global, shelf: &mut H, form: Form<'_>) -> Result<Output, Refusal>
-    ensures ok { IfOk result (MakesText form.entry H.list H.given shelf.old shelf.new) }
-    ensures err { IfErr result (LacksText form.entry H.list H.given shelf.old shelf.new) }
+    ensures ok { IfOk result (MakesText (request_by form.entry) H.Shelf shelf.old shelf.new) }
+    ensures err { IfErr result (LacksText (request_by form.entry) H.Shelf shelf.old shelf.new) }
     ensures own { (k : ℕ) → request_by form.entry ≡ demo k → shelf.new ≡ shelf.old }
     ensures absent_cause { IfErr result (IsCounted Status.Absent H.absences shelf.old shelf.new) }
     ensures read_cause { IfErr result (IsCounted Status.ReadFault H.faults shelf.old shelf.new) }
@@ -174,19 +174,16 @@ fn serve<H: Shelf, O: Sink>(
     shelf: &mut H,
     out: &mut O,
 ) -> Result<Status, Refusal>
-    ensures ok { IfOk result
-        (WritesWhole words.now H.list H.given shelf.old shelf.new O.taken out.old out.new) }
+    ensures ok { ServesWhole words.now H.Shelf shelf.old shelf.new O.Sink out.old out.new result }
     ensures after { IfOk result IsAfterWriting }
     ensures ok_words { OnOk result (requested words.now ≢ None) }
-    ensures err { IfErr result (RefusesWords words.now H.list H.given shelf.old shelf.new) }
-    ensures bounded_done { IfOk result (KeepsLimitsOf words.now H.list H.given shelf.old shelf.new) }
-    ensures bounded { IfErr result (RefusesWithinLimits words.now H.list H.given shelf.old
-        shelf.new) }
+    ensures err { IfErr result (RefusesWords words.now H.Shelf shelf.old shelf.new) }
+    ensures bounded_done { IfOk result (KeepsLimitsOf words.now H.Shelf shelf.old shelf.new) }
+    ensures bounded { IfErr result (RefusesWithinLimits words.now H.Shelf shelf.old shelf.new) }
     ensures demo_reads_nothing { WhereDemo words.now (shelf.new ≡ shelf.old) }
     ensures usage { IfErr result (IsUsageFor words.now) }
     ensures untouched_shelf { IfErr result (WhereStatus Status.Usage (shelf.new ≡ shelf.old)) }
-    ensures part { IfErr result
-        (StopsInText words.now H.list H.given shelf.old shelf.new O.taken out.old out.new) }
+    ensures part { StopsInText words.now H.Shelf shelf.old shelf.new O.Sink out.old out.new result }
     ensures absent_cause { IfErr result (IsCounted Status.Absent H.absences shelf.old shelf.new) }
     ensures read_cause { IfErr result (IsCounted Status.ReadFault H.faults shelf.old shelf.new) }
     ensures write_cause { IfErr result (IsCounted Status.WriteFault O.faults out.old out.new) }
@@ -247,42 +244,37 @@ pub fn run<H: Shelf, O: Sink, E: Sink>(
     ensures usage_reads_nothing { result ≡ Status.Usage → shelf.new ≡ shelf.old }
 
     // What was read of the file that the words name, however the run ended.
-    ensures bounded { KeepsLimitsOf words.now H.list H.given shelf.old shelf.new result }
+    ensures bounded { KeepsLimitsOf words.now H.Shelf shelf.old shelf.new result }
 
     // `demo` reads no file.
     ensures demo_reads_nothing { WhereDemo words.now (shelf.new ≡ shelf.old) }
     ensures demo_status { WhereDemo words.now (¬ IsOfReading result) }
 
     // What `out` took: the whole text, a proper front of it, or nothing.
-    ensures done { WritesWholeIfDone words.now H.list H.given shelf.old shelf.new O.taken out.old
-        out.new result }
-    ensures part { result ≡ Status.WriteFault
-        → WritesPart words.now H.list H.given shelf.old shelf.new O.taken out.old out.new }
+    ensures done { WritesWhole words.now H.Shelf shelf.old shelf.new O.Sink out.old out.new result }
+    ensures part { WritesPart words.now H.Shelf shelf.old shelf.new O.Sink out.old out.new result }
     ensures untouched { IsBeforeWriting result → out.new ≡ out.old }
 
     // What `err` took: nothing, or the line that says why.
     ensures silent { IsAfterWriting result → err.new ≡ err.old }
-    ensures told { SaysWhyNot words.now H.list H.given shelf.old shelf.new result
-        (TakesLineIn E.taken E.faults err.old err.new) }
+    ensures told { SaysWhyNot words.now H.Shelf shelf.old shelf.new E.Sink err.old err.new result }
 
-    // Where the devices tell nothing, they counted a cause.
+    // Where the devices told nothing, they counted a cause.
     ensures absent_cause { result ≡ Status.Absent → RoseIn H.absences shelf.old shelf.new }
     ensures read_cause { result ≡ Status.ReadFault → RoseIn H.faults shelf.old shelf.new }
     ensures write_cause { result ≡ Status.WriteFault → RoseIn O.faults out.old out.new }
 
-    // Nothing else keeps it from an answer but want of memory.
-    ensures always_absent { AlwaysAbsent words.now H.list H.faults shelf.old shelf.new result }
-    ensures always_too_long { AlwaysTooLong words.now H.list H.faults shelf.old shelf.new result }
-    ensures always_refused { AlwaysRefused words.now H.list H.faults shelf.old shelf.new result }
-    ensures always_done { AlwaysDone words.now H.list H.faults shelf.old shelf.new
-        O.faults out.old out.new result }
-    ensures always_answers { AlwaysAnswers words.now H.list H.faults shelf.old shelf.new
-        O.faults out.old out.new result }
-    ensures always_written { AlwaysWritten words.now H.list H.faults shelf.old shelf.new
-        O.faults out.old out.new result }
+    // Nothing but these faults of devices and want of memory keeps it from what comes of the file.
+    ensures always_absent { AlwaysAbsent words.now (H.list shelf.old) result }
+    ensures always_too_long { AlwaysTooLong words.now (H.list shelf.old) result }
+    ensures always_refused { AlwaysRefused words.now (H.list shelf.old) result }
+    ensures always_done { AlwaysDone words.now (H.list shelf.old) result }
+    ensures always_answers { AlwaysAnswers words.now (H.list shelf.old) result }
+    ensures always_written { AlwaysWritten words.now (H.list shelf.old) result }
 
+    // Nor, but a fault of writing and want of memory, from what comes of a generated text.
     ensures always_demo_refused { AlwaysDemoRefused words.now result }
-    ensures always_demo_done { AlwaysDemoDone words.now O.faults out.old out.new result }
+    ensures always_demo_done { AlwaysDemoDone words.now result }
 
     // What any answer leaves.
     ensures list { H.list shelf.new ≡ H.list shelf.old }

@@ -1,5 +1,6 @@
 -- Words of the search, for contracts between its functions alone.
 use Rattle.std.specs.Prelude.{◌≡◌, ℕ, ◌+◌, ◌-◌, ◌*◌, ◌^◌, ◌<◌, ◌≤◌, List, [], ◌∷◌, map, length, take, drop, Bool, true, false, ◌↔◌, None, slice_index, slice_index_or, ◌==◌, if◌then◌else◌, ℤ, pos, negsuc, ◌≤ℤ◌, All}
+use Rattle.std.specs.Global.{Vec}
 use Rattle.maid_model.specs.declared.answers.Row.{Row}
 use Rattle.maid_model.specs.declared.limits.TheConstants.{MOST_PROFILES}
 use Rattle.maid_model.specs.Views.{NodeView, DiagramView, AnswerView}
@@ -33,6 +34,14 @@ abbrev pub StandsRightBefore : List ℕ → List ℕ → List ℕ → Type 0
 StandsRightBefore counts choices next =
     worlds_from counts choices ≡ choices ∷ worlds_from counts next
 
+-- the lists of choices from these on are all of them
+abbrev pub AreFirstChoices : List ℕ → Vec ℕ → Type 0
+AreFirstChoices counts choices = worlds_from counts choices.items ≡ worlds counts
+
+-- these choices are those at a place of the lists
+abbrev pub AreChoicesAt : List ℕ → ℕ → Vec ℕ → Type 0
+AreChoicesAt counts place choices = choices.items ≡ slice_index_or (worlds counts) place []
+
 -- the list of choices at a place of that list
 abbrev pub choices_at : List NodeView → ℕ → List ℕ
 choices_at nodes place = slice_index_or (choice_lists nodes) place []
@@ -50,6 +59,10 @@ answers_of nodes (v ∷ vs) choices = record {
 }
     ∷ answers_of nodes vs (drop (rows_of nodes v) choices)
 
+-- these are the answers of the list of choices
+abbrev pub AnswerChoices : List NodeView → List ℕ → List ℕ → Vec AnswerView → Type 0
+AnswerChoices nodes vs choices answers = answers.items ≡ answers_of nodes vs choices
+
 -- a choice, or the first one where it is the agent's own
 abbrev pub unless_own : ℕ → ℕ → ℕ → ℕ
 unless_own agent owner choice = if owner == agent then 0 else choice
@@ -62,6 +75,7 @@ key_from agent key (n ∷ counts) (owner ∷ owners) [] = key
 key_from agent key (n ∷ counts) (owner ∷ owners) (choice ∷ choices) =
     key_from agent (key * n + unless_own agent owner choice) counts owners choices
 
+-- the number of the others' choices in a list of choices: lists that agree for the others have one number
 abbrev pub key_of : List NodeView → ℕ → List ℕ → ℕ
 key_of nodes agent choices = key_from agent 0 (counts_for nodes) (owners_for nodes) choices
 

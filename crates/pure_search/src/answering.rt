@@ -6,7 +6,7 @@ ghost use Rattle.maid_model.specs.Profiles.{IsProfile};
 ghost use Rattle.maid_model.specs.Worlds.{IsWorld};
 ghost use Rattle.part_laws.specs.ScopeLaws.{HasUnitRules};
 ghost use Rattle.reach_laws.specs.Equilibria.{choice_counts, profile_of};
-ghost use Rattle.pure_search.specs.Games.{answers_of, counts_for, unpriced};
+ghost use Rattle.pure_search.specs.Games.{AnswerChoices, counts_for, unpriced};
 
 use maid_model::{Answer, Diagram, Profile, Row};
 use std::alloc::{AllocError, Global};
@@ -34,8 +34,7 @@ pub(crate) fn answers_of(
 ) -> Result<Vec<Answer>, AllocError>
     requires decisions { All (λ v. v < length diagram.now.nodes) decisions.now }
     requires len { length choices.now ≡ length (choice_counts diagram.now.nodes decisions.now) }
-    ensures { IfOk result (λ answers.
-        answers.items ≡ answers_of diagram.now.nodes decisions.now choices.now) }
+    ensures { IfOk result (AnswerChoices diagram.now.nodes decisions.now choices.now) }
 {
     let mut answers = Vec::with_capacity(alloc, decisions.len())?;
     let mut start = 0;

@@ -3,7 +3,7 @@
 ghost use Rattle.std.specs.Prelude.{◌≡◌, ◌<◌, ◌++◌, All, IfOk, OnOk, length, replicate};
 ghost use Rattle.maid_model.specs.Nodes.{decisions_of};
 ghost use Rattle.reach_laws.specs.Equilibria.{choice_counts, choice_owners};
-ghost use Rattle.pure_search.specs.Games.{counts_for, owners_for};
+ghost use Rattle.pure_search.specs.Games.{IsGameOf};
 
 use maid_model::{Diagram, Kind};
 use std::alloc::{AllocError, Global};
@@ -77,10 +77,7 @@ fn choice_owners(
 
 /// The rows of all decisions of the diagram.
 pub(crate) fn game_of(alloc: Global, diagram: &Diagram) -> Result<Game, AllocError>
-    ensures decisions { IfOk result (λ game.
-        game.decisions.items ≡ decisions_of diagram.now.nodes) }
-    ensures counts { IfOk result (λ game. game.counts.items ≡ counts_for diagram.now.nodes) }
-    ensures owners { IfOk result (λ game. game.owners.items ≡ owners_for diagram.now.nodes) }
+    ensures { IfOk result (IsGameOf diagram.now.nodes) }
 {
     let decisions = decisions_of(alloc, diagram)?;
     let counts = choice_counts(alloc, diagram, &decisions)?;

@@ -1,8 +1,8 @@
 //! Lists of choices, one after another.
 
 ghost use Rattle.std.specs.Prelude.{◌≡◌, ◌<◌, [], ◌∷◌, IfOk, IsTrue, IsFalse, All};
-ghost use Rattle.maid_model.specs.Worlds.{IsWorld, worlds, worlds_from};
-ghost use Rattle.pure_search.specs.Games.{StandsRightBefore};
+ghost use Rattle.maid_model.specs.Worlds.{IsWorld, worlds_from};
+ghost use Rattle.pure_search.specs.Games.{AreFirstChoices, StandsRightBefore};
 
 use std::alloc::{AllocError, Global};
 
@@ -10,8 +10,7 @@ use std::alloc::{AllocError, Global};
 pub(crate) fn first_choices(alloc: Global, counts: &[usize]) -> Result<Vec<usize>, AllocError>
     requires { All (λ n. 0 < n) counts.now }
     ensures world { IfOk result (λ choices. IsWorld counts.now choices.items) }
-    ensures all { IfOk result (λ choices.
-        worlds_from counts.now choices.items ≡ worlds counts.now) }
+    ensures all { IfOk result (AreFirstChoices counts.now) }
 {
     let choices = vec![in alloc; 0; counts.len()]?;
     Ok(choices)

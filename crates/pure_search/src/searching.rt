@@ -1,13 +1,13 @@
 //! The search for the first pure equilibrium.
 
-ghost use Rattle.std.specs.Prelude.{◌≡◌, ◌<◌, [], All, IfOk, length, slice_index_or};
+ghost use Rattle.std.specs.Prelude.{◌≡◌, ◌<◌, All, IfOk, length};
 ghost use Rattle.first_fault.specs.Answers.{Passes};
 ghost use Rattle.maid_model.specs.Scopes.{KeepsScopedBounds};
 ghost use Rattle.maid_model.specs.Worlds.{IsWorld, worlds};
 ghost use Rattle.reach_laws.specs.Equilibria.{IsFirstPure};
 ghost use Rattle.pure_search.specs.Faults.{pure_fault, pure_pass, search_pass, stable_pass};
 ghost use Rattle.pure_search.specs.Found.{IsFound, IsStable};
-ghost use Rattle.pure_search.specs.Games.{IsGameOf, IsSearched, list_count};
+ghost use Rattle.pure_search.specs.Games.{AreChoicesAt, IsGameOf, IsSearched, list_count};
 
 use crate::answering::{answers_of, profile_of};
 use crate::counting::{keep_bound, keep_counts};
@@ -24,8 +24,7 @@ use std::alloc::{AllocError, Global};
 fn choices_at(alloc: Global, counts: &[usize], place: usize) -> Result<Vec<usize>, AllocError>
     requires counts { All (λ n. 0 < n) counts.now }
     requires place { place < length (worlds counts.now) }
-    ensures choices { IfOk result (λ choices.
-        choices.items ≡ slice_index_or (worlds counts.now) place []) }
+    ensures choices { IfOk result (AreChoicesAt counts.now place) }
     ensures world { IfOk result (λ choices. IsWorld counts.now choices.items) }
 {
     let mut choices = first_choices(alloc, counts)?;

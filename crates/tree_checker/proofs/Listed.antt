@@ -1,9 +1,10 @@
 -- Lists of those of the first numbers that pass a test, and the goals of a decision among them.
-use Rattle.std.proofs.Common.{◌≡◌, ◌∙◌, ◌↔◌, ℕ, zero, suc, ◌+◌, ◌<◌, Bool, true, false, ◌&&◌, cond, List, [], ◌∷◌, ◌++◌, filter, length, sym, ap, refl, inl, inr, arith}
-use Rattle.std.proofs.lemmas.List.Elements.{filter-append}
+use Rattle.std.proofs.Common.{◌≡◌, ◌∙◌, ◌↔◌, ℕ, ◌+◌, ◌<◌, Bool, true, false, ◌&&◌, cond, List, [], ◌∷◌, ◌++◌, filter, length, sym, ap, refl, inl, inr}
+use Rattle.std.proofs.lemmas.List.{append-nil}
 use Rattle.std.specs.List.{range_with_len}
 use Rattle.finite_sums.specs.Members.{Among}
 use Rattle.finite_sums.proofs.Members.{any_is}
+use Rattle.finite_sums.proofs.Ranges.{filter_more}
 use Rattle.node_sets.specs.declared.sets.NodeSet.{NodeSet}
 use Rattle.node_sets.specs.Sets.{holds, IsIn}
 use Rattle.maid_model.specs.declared.diagrams.Kind.{Kind}
@@ -17,31 +18,11 @@ use Rattle.maid_model.specs.Views.{NodeView}
 use Rattle.maid_laws.proofs.Rearranged.{numbered}
 use Rattle.part_laws.proofs.PartSums.{and_both}
 
-range_push : (k n : ℕ) → range_with_len k (suc n) ≡ range_with_len k n ++ (k + n) ∷ []
-range_push k zero = ap (λ x. x ∷ []) (omega arith)
-range_push k (suc n) = ap (λ x. k ∷ x) (range_push (k + 1) n ∙ ap (λ x. range_with_len (k + 1) n ++ x ∷ []) (omega arith))
-
-append-nil : (xs : List ℕ) → xs ++ [] ≡ xs
-append-nil [] = refl
-append-nil (x ∷ xs) = ap (λ l. x ∷ l) (append-nil xs)
-
--- one number more, which is kept where it passes the test
-pub filter_push : (p : ℕ → Bool) (n : ℕ) → filter p (range_with_len 0 (n + 1)) ≡ filter p (range_with_len 0 n) ++ cond (p n) (n ∷ []) []
-filter_push p n =
-    ap (λ m. filter p (range_with_len 0 m)) (one n) ∙ ap (filter p) (range_push 0 n ∙ ap (λ x. range_with_len 0 n ++ x ∷ []) (none n))
-    ∙ filter-append p (range_with_len 0 n) (n ∷ [])
-  where
-    one : (n : ℕ) → n + 1 ≡ suc n
-    one n = omega arith
-
-    none : (n : ℕ) → 0 + n ≡ n
-    none n = omega arith
-
 pub filter_yes : (p : ℕ → Bool) (n : ℕ) → p n ≡ true → filter p (range_with_len 0 (n + 1)) ≡ filter p (range_with_len 0 n) ++ n ∷ []
-filter_yes p n e = filter_push p n ∙ ap (λ b. filter p (range_with_len 0 n) ++ cond b (n ∷ []) []) e
+filter_yes p n e = filter_more p n ∙ ap (λ b. filter p (range_with_len 0 n) ++ cond b (n ∷ []) []) e
 
 pub filter_no : (p : ℕ → Bool) (n : ℕ) → p n ≡ false → filter p (range_with_len 0 (n + 1)) ≡ filter p (range_with_len 0 n)
-filter_no p n e = filter_push p n ∙ ap (λ b. filter p (range_with_len 0 n) ++ cond b (n ∷ []) []) e ∙ append-nil (filter p (range_with_len 0 n))
+filter_no p n e = filter_more p n ∙ ap (λ b. filter p (range_with_len 0 n) ++ cond b (n ∷ []) []) e ∙ append-nil (filter p (range_with_len 0 n))
 
 -- tests that say the same of each member keep the same
 filter_same : (p q : ℕ → Bool) (xs : List ℕ) → ((x : ℕ) → Among x xs → p x ≡ q x) → filter p xs ≡ filter q xs

@@ -1,17 +1,31 @@
 -- The last two weighing nodes of a walk: the first state of the one before, from which the others are counted.
-use Rattle.std.proofs.Common.{◌≡◌, ◌≢◌, ◌∙◌, ℕ, ◌<◌, List, [], ◌∷◌, set, get_or, refl, sym, ap, subst, inl, ℤ}
+use Rattle.std.proofs.Common.{◌≡◌, ◌≢◌, ◌∙◌, ℕ, ◌<◌, List, [], ◌∷◌, Some, set, get_or, refl, sym, ap, subst, inl, ℤ}
 use Rattle.std.proofs.lemmas.List.{set-set}
 use Rattle.finite_sums.specs.Sums.{with_state}
 use Rattle.maid_model.specs.Diagrams.{IsDiagram}
 use Rattle.maid_model.specs.Nodes.{counts_of}
 use Rattle.maid_model.specs.Private.{MarksUtilities}
 use Rattle.maid_model.specs.Profiles.{IsProfile}
-use Rattle.maid_model.specs.Views.{DiagramView, RuleView}
+use Rattle.maid_model.specs.Views.{DiagramView, NodeView, RuleView}
 use Rattle.maid_model.specs.Worlds.{IsWorld, world_of}
 use Rattle.maid_model.proofs.Picked.{world_length}
 use Rattle.node_sets.specs.declared.sets.NodeSet.{NodeSet}
-use Rattle.tree_checker.specs.Walks.{HasRoom, IsDownward}
+use Rattle.tree_checker.specs.Walks.{HasRoom, IsBefore, IsDownward, IsLast, MayBeBefore, last_nodes, with_before}
+use Rattle.tree_checker.specs.declared.settings.Before.{Before}
+use Rattle.tree_checker.specs.declared.settings.Last.{Last}
 use Rattle.tree_checker.proofs.WalkSteps.{WalkSoFar, set_is_world, set_world, walk_start}
+
+-- a node that weighs something before the last one: the nodes of the pair, what it is, and the room that they need
+module _ (last : Last) (before : Before) (is : last.before ≡ Some before) where
+  pub pair_nodes : last_nodes last ≡ before.node ∷ last.node ∷ last.utility ∷ []
+  pair_nodes = ap (λ b. with_before b (last.node ∷ last.utility ∷ [])) is
+
+pub before_is : (nodes : List NodeView) (out : ℕ) (marks : NodeSet) (last : Last) (before : Before) → last.before ≡ Some before → IsLast nodes out marks last → IsBefore nodes out last.node last.utility before
+before_is nodes out marks last before is h = subst (MayBeBefore nodes out last.node last.utility) is h.before
+
+pub pair_room : (nodes : List NodeView) (p : List RuleView) (out m : ℕ) (q : ℤ) (gains : List ℤ) (masses : List ℕ) (last : Last) (before : Before) → last.before ≡ Some before
+    → HasRoom nodes p out (last_nodes last) m q gains masses → HasRoom nodes p out (before.node ∷ last.node ∷ last.utility ∷ []) m q gains masses
+pair_room nodes p out m q gains masses last before is room = subst (λ vs. HasRoom nodes p out vs m q gains masses) (pair_nodes last before is) room
 
 module _ (d : DiagramView) (is : IsDiagram d) (p : List RuleView) (prof : IsProfile d.nodes p) (out : ℕ) (marks : NodeSet) (utilities : MarksUtilities d.nodes marks)
     (x v u : ℕ) (down : IsDownward d.nodes (x ∷ v ∷ u ∷ [])) (m : ℕ) (q : ℤ) (before : ℕ) (xs0 : List ℕ) (world0 : IsWorld (counts_of d.nodes) xs0) (gains0 : List ℤ) (masses0 : List ℕ)

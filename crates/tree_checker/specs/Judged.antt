@@ -47,10 +47,11 @@ abbrev pub AreFirstCells : List NodeView → ℕ → List ℕ → List ℕ → T
 AreFirstCells nodes v cells firsts = (row : ℕ) → row < rows_of nodes v
     → slice_index firsts row ≡ slice_index cells (row * states_of nodes v)
 
--- there are as many masses as the decision has rows, and they are those cells
+-- there are as many masses as the decision has rows
 abbrev pub HasMassEachRow : List NodeView → ℕ → Vec ℕ → Type 0
 HasMassEachRow nodes v masses = length masses.items ≡ rows_of nodes v
 
+-- the masses of the rows are those first cells
 abbrev pub HasFirstCells : List NodeView → ℕ → List ℕ → Vec ℕ → Type 0
 HasFirstCells nodes v cells masses = AreFirstCells nodes v cells masses.items
 
@@ -62,10 +63,11 @@ AreSmallGains gains = (i : ℕ) → nat_abs (slice_index_or gains i (pos 0)) ≤
 abbrev pub rule_as : RuleView → ℕ → RuleView
 rule_as rule v = record { decision = v; total = rule.total; weights = rule.weights }
 
--- the part that these nodes and their ancestors make has just those, and the profile's rules in it
+-- the part that these nodes and their ancestors make has just those
 abbrev pub HasNodesAbove : List NodeView → List ℕ → Stage → Type 0
 HasNodesAbove nodes of stage = stage.part.nodes.items ≡ with_ancestors nodes of
 
+-- its rules are the profile's in that part
 abbrev pub HasRulesAbove : List NodeView → List RuleView → List ℕ → Stage → Type 0
 HasRulesAbove nodes p of stage = stage.rules ≡ rules_above nodes p of
 
@@ -103,11 +105,12 @@ gain_in gains states row s = slice_index_or gains (row * states + s) (pos 0)
 abbrev pub ListsRow : List ℤ → ℕ → ℕ → List ℤ → Type 0
 ListsRow gains states row list = (s : ℕ) → s < states → listed_gain list s ≡ gain_in gains states row s
 
--- the row passes, or fails for the cause, by listed gains and masses
+-- the row passes by listed gains and masses
 abbrev pub PassesListed : List ℤ → List ℕ → ℕ → ℕ → ℕ → Row → Type 0
 PassesListed gains masses states scale row r =
     PassesIn (gain_in gains states row) states (pos (slice_index masses row)) scale r
 
+-- the row fails for the cause, by listed gains and masses
 abbrev pub FailsListed : List ℤ → List ℕ → ℕ → ℕ → ℕ → Row → Cause → Type 0
 FailsListed gains masses states scale row r cause =
     FailsIn (gain_in gains states row) states (pos (slice_index masses row)) scale r cause

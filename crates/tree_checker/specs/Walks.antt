@@ -52,10 +52,11 @@ pub record HoldsFactors
   pub count : length lists ≡ length nodes
   pub lists_each : (v : ℕ) → v < length nodes → ListsFactors nodes p d v (slice_index_or lists v [])
 
--- so these lists do
+-- the list that the code holds has v's factors
 abbrev pub HasFactors : List NodeView → List RuleView → ℕ → ℕ → Vec ℕ → Type 0
 HasFactors nodes p d v list = ListsFactors nodes p d v list.items
 
+-- the lists that the code holds have the factors of all nodes
 abbrev pub HasAllFactors : List NodeView → List RuleView → ℕ → Vec (Vec ℕ) → Type 0
 HasAllFactors nodes p d all = HoldsFactors nodes p d (lists_in all.items)
 
@@ -104,6 +105,7 @@ abbrev pub world_gain : List NodeView → ℕ → NodeSet → List ℕ → ℕ �
 world_gain nodes d marks vs product utility c w =
     if cell_of nodes d w == c then pos product *ℤ utility_with nodes marks vs utility w else pos 0
 
+-- what one world adds to the mass of the cell c
 abbrev pub world_mass : List NodeView → ℕ → ℕ → ℕ → World → ℤ
 world_mass nodes d product c w = if cell_of nodes d w == c then pos product else pos 0
 
@@ -138,23 +140,6 @@ AddsMassAt cell weight before after = (c : ℕ) → pos (slice_index after c)
 abbrev pub GainFits : List ℤ → ℕ → ℕ → ℤ → Type 0
 GainFits gains cell weight utility =
     nat_abs (slice_index_or gains cell (pos 0)) + weight * nat_abs utility ≤ greatest_number
-
--- each cell's gain rises by what one world adds to it
-abbrev pub AddsWorldGain :
-    DiagramView → ℕ → NodeSet → List ℕ → ℕ → ℤ → List ℕ → List ℤ → List ℤ → Type 0
-AddsWorldGain d left_out marks vs product utility world before after = (c : ℕ)
-    → slice_index_or after c (pos 0) ≡ slice_index_or before c (pos 0)
-    +ℤ world_gain d.nodes left_out marks vs product utility c (world_of world)
-
--- and each cell's mass
-abbrev pub AddsWorldMass : DiagramView → ℕ → ℕ → List ℕ → List ℕ → List ℕ → Type 0
-AddsWorldMass d left_out product world before after = (c : ℕ) → pos (slice_index after c)
-    ≡ pos (slice_index before c) +ℤ world_mass d.nodes left_out product c (world_of world)
-
--- the marked nodes are the agent's utilities
-abbrev pub MarksUtilitiesOf : List NodeView → ℕ → NodeSet → Type 0
-MarksUtilitiesOf nodes agent marks =
-    (v : ℕ) → v < length nodes → holds marks v ≡ is_utility_of nodes agent v
 
 -- it is so where v is a decision
 abbrev pub WhereDecision : List NodeView → ℕ → Type 0 → Type 0
@@ -205,6 +190,7 @@ pub record IsBefore (nodes : List NodeView) (out v u : ℕ) (before : Before) : 
   pub row : before.steps.row ≡ row_step nodes u before.node
   pub cell : before.steps.cell ≡ cell_step nodes out before.node
 
+-- there is no such node, or it is one
 abbrev pub MayBeBefore : List NodeView → ℕ → ℕ → ℕ → Option Before → Type 0
 MayBeBefore nodes out v u None = Unit {0}
 MayBeBefore nodes out v u (Some before) = IsBefore nodes out v u before
@@ -218,33 +204,37 @@ pub record IsLast (nodes : List NodeView) (out : ℕ) (marks : NodeSet) (last : 
   pub cell : last.cell_step ≡ cell_step nodes out last.node
   pub before : MayBeBefore nodes out last.node last.utility last.before
 
--- the nodes with which a walk ends
+-- the nodes, and before them that one if there is one
 abbrev pub with_before : Option Before → List ℕ → List ℕ
 with_before None vs = vs
 with_before (Some before) vs = before.node ∷ vs
 
--- its two nodes, and with the node before it
+-- the last weighing node and its utility
 abbrev pub last_two : Last → List ℕ
 last_two last = last.node ∷ last.utility ∷ []
 
+-- these, with the weighing node before them if there is one
 abbrev pub last_nodes : Last → List ℕ
 last_nodes last = with_before last.before (last_two last)
 
+-- the nodes with which a walk ends: utilities alone, or the last weighing nodes with their utility
 abbrev pub ending : Option Last → List ℕ → List ℕ
 ending None tail = tail
 ending (Some last) tail = last_nodes last
 
+-- the nodes with which a walk ends are right
 abbrev pub IsEnding : List NodeView → ℕ → NodeSet → Option Last → List ℕ → Type 0
 IsEnding nodes out marks None tail = AreUtilities nodes tail
 IsEnding nodes out marks (Some last) tail = IsLast nodes out marks last
 
--- the same sums over all worlds of the diagram
+-- the sum of weight times utilities over all worlds that pick the cell c of d
 abbrev pub cell_gain : List NodeView → List RuleView → ℕ → NodeSet → ℕ → ℤ
 cell_gain nodes p d marks c = sum_worlds nodes (λ w.
     if cell_of nodes d w == c
     then weight_without nodes p d w *ℤ marked_utility nodes marks w
     else pos 0)
 
+-- the sum of the weights of those worlds
 abbrev pub cell_mass : List NodeView → List RuleView → ℕ → ℕ → ℤ
 cell_mass nodes p d c =
     sum_worlds nodes (λ w. if cell_of nodes d w == c then weight_without nodes p d w else pos 0)

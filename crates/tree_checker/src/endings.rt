@@ -6,9 +6,11 @@ ghost use Rattle.maid_model.specs.Nodes.{counts_of, rows_of};
 ghost use Rattle.maid_model.specs.Private.{MarksUtilities};
 ghost use Rattle.maid_model.specs.Tables.{cell_of};
 ghost use Rattle.maid_model.specs.Worlds.{IsWorld, world_of};
-ghost use Rattle.tree_checker.specs.Walks.{HasRoomAt, IsDownward, value_at, AddsWorldGain, AddsWorldMass, GainFits, gains_raised, masses_raised, HasRoomForUtilities, utility_in};
+ghost use Rattle.tree_checker.specs.Walks.{IsDownward, value_at, GainFits, gains_raised, masses_raised, HasRoomForUtilities, utility_in};
+ghost use Rattle.tree_checker.specs.Settings.{AddsWorldGain, AddsWorldMass, HasRoomForWorld, HoldsSetting, IsCellCount, IsDownwardIn};
 ghost use Rattle.diagram_graph.specs.Room.{cells_at};
 
+use crate::settings::Setting;
 use maid_model::{Diagram, World};
 use node_sets::NodeSet;
 
@@ -91,35 +93,28 @@ pub(crate) fn add_to_cell(
     masses[cell] += product;
 }
 
-/// Adds what one world has to the cell that it picks, with the marked utilities of the tail.
+/// Adds what one world has to the cell that it picks, with the marked utilities of the setting's tail.
 pub(crate) fn add_world(
-    diagram: &Diagram,
-    marks: &NodeSet,
-    left_out: usize,
-    tail: &[usize],
+    setting: &Setting,
     world: &World,
     product: u128,
     utility: i128,
     gains: &mut [i128],
     masses: &mut [u128],
 )
-    requires diagram { IsDiagram diagram.now }
-    requires marks { MarksUtilities diagram.now.nodes marks.now }
-    requires decision { left_out ≤ length diagram.now.nodes }
-    requires tail { IsDownward diagram.now.nodes tail.now }
-    requires world { IsWorld (counts_of diagram.now.nodes) world.now }
-    requires gains { length gains.old
-        ≡ cells_at diagram.now.nodes left_out }
-    requires masses { length masses.old
-        ≡ cells_at diagram.now.nodes left_out }
-    requires room { HasRoomAt diagram.now.nodes tail.now product utility gains.old masses.old }
-    ensures gains { AddsWorldGain diagram.now left_out marks.now tail.now product utility world.now
-        gains.old gains.new }
-    ensures masses { AddsWorldMass diagram.now left_out product world.now masses.old masses.new }
+    requires setting { HoldsSetting setting.now }
+    requires tail { IsDownwardIn setting.now setting.now.tail.now }
+    requires world { IsWorld (counts_of setting.now.diagram.now.nodes) world.now }
+    requires gains { IsCellCount setting.now (length gains.old) }
+    requires masses { IsCellCount setting.now (length masses.old) }
+    requires room { HasRoomForWorld setting.now product utility gains.old masses.old }
+    ensures gains { AddsWorldGain setting.now product utility world.now gains.old gains.new }
+    ensures masses { AddsWorldMass setting.now product world.now masses.old masses.new }
     ensures gain_count { length gains.new ≡ length gains.old }
     ensures mass_count { length masses.new ≡ length masses.old }
 {
-    let sum = utility_in(diagram, marks, tail, world, utility);
-    let cell = place(diagram, left_out, world);
+    let diagram = setting.diagram;
+    let sum = utility_in(diagram, setting.marks, setting.tail, world, utility);
+    let cell = place(diagram, setting.left_out, world);
     add_to_cell(cell, product, sum, gains, masses);
 }

@@ -5,14 +5,13 @@ ghost use Rattle.maid_model.specs.Answers.{IsReduced};
 ghost use Rattle.maid_model.specs.Diagrams.{greatest_number};
 ghost use Rattle.maid_model.specs.Gains.{gain_of, mass};
 ghost use Rattle.maid_model.specs.Nodes.{is_utility_of};
-ghost use Rattle.maid_model.specs.Private.{MarksUtilities};
+ghost use Rattle.maid_model.specs.Private.{MarksUtilities, MarksUtilitiesOf};
 ghost use Rattle.maid_model.specs.Profiles.{IsProfile};
 ghost use Rattle.maid_model.specs.Scopes.{KeepsScopedBounds, utilities_for};
 ghost use Rattle.maid_model.specs.Tables.{weight_total};
 ghost use Rattle.part_laws.specs.ScopeLaws.{HasUnitRules};
 ghost use Rattle.tree_checker.specs.Judged.{JudgesGains, AreWorth};
 ghost use Rattle.maid_model.specs.Bounds.{HasRoomForWeight};
-ghost use Rattle.tree_checker.specs.Walks.{MarksUtilitiesOf};
 
 use crate::parts::stage_of;
 use crate::rows::{is_fraction, scale_of};

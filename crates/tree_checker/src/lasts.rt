@@ -1,11 +1,11 @@
 //! What the last nodes of a walk add.
 
-ghost use Rattle.std.specs.Prelude.{◌≡◌, ◌+◌, ◌*◌, ◌<◌, ◌≤◌, ◌++◌, [], ◌∷◌, length, nat_abs, ◌*ℤ◌, slice_index};
+ghost use Rattle.std.specs.Prelude.{◌≡◌, ◌+◌, ◌*◌, ◌<◌, ◌≤◌, ◌++◌, [], ◌∷◌, Some, length, nat_abs, slice_index};
 ghost use Rattle.maid_model.specs.Nodes.{counts_of};
 ghost use Rattle.maid_model.specs.Diagrams.{greatest_number};
 ghost use Rattle.maid_model.specs.Private.{MarksUtilities};
 ghost use Rattle.maid_model.specs.Worlds.{IsWorld, world_of};
-ghost use Rattle.tree_checker.specs.Settings.{HasRoomIn, HoldsSetting, IsCellCount, ArePlacesIn, HasEnding, IsBeforeIn, IsDownwardIn, IsLastIn, ending_of, GainsByEnding, GainsByLast, GainsByOne, GainsByPair, HasRoomForLast, HasRoomForPair, HasRoomToEnd, MassesByEnding, MassesByLast, MassesByOne, MassesByPair};
+ghost use Rattle.tree_checker.specs.Settings.{HasRoomIn, HoldsSetting, IsCellCount, ArePlacesIn, HasEnding, IsDownwardIn, IsLastIn, ending_of, GainsByEnding, GainsByLast, GainsByOne, HasRoomForLast, HasRoomToEnd, MassesByEnding, MassesByLast, MassesByOne};
 ghost use Rattle.tree_checker.specs.Walks.{AreNodes, AreUtilities, IsDownward, IsEnding, MayBeBefore, ending, with_before, with_value, AddsMassAt, GainFits, last_nodes, last_two, places_further, AddsWeighedAt};
 
 use crate::endings::{add_to_cell, add_world, place, set_state};
@@ -129,18 +129,15 @@ fn add_pairs(
 )
     requires setting { HoldsSetting setting.now }
     requires last { IsLastIn setting.now last.now }
-    requires before { IsBeforeIn setting.now last.now before.now }
+    requires before { last.now.before ≡ Some before.now }
     requires order { IsDownwardIn setting.now (before.now.node ∷ last_two last.now) }
     requires world { IsWorld (counts_of setting.now.diagram.now.nodes) world.old }
     requires gains { IsCellCount setting.now (length gains.old) }
     requires masses { IsCellCount setting.now (length masses.old) }
-    requires room { HasRoomForPair setting.now last.now before.now product utility gains.old
-        masses.old }
+    requires room { HasRoomForLast setting.now last.now product utility gains.old masses.old }
     ensures again { world.new ≡ world.old }
-    ensures gains { GainsByPair setting.now last.now before.now product utility world.old gains.old
-        gains.new }
-    ensures masses { MassesByPair setting.now last.now before.now product world.old masses.old
-        masses.new }
+    ensures gains { GainsByLast setting.now last.now product utility world.old gains.old gains.new }
+    ensures masses { MassesByLast setting.now last.now product world.old masses.old masses.new }
     ensures gain_count { length gains.new ≡ length gains.old }
     ensures mass_count { length masses.new ≡ length masses.old }
 {
@@ -222,17 +219,7 @@ pub(crate) fn add_ending(
 {
     match &setting.last {
         Some(last) => add_last(setting, last, world, product, utility, gains, masses),
-        None => add_world(
-            setting.diagram,
-            setting.marks,
-            setting.left_out,
-            setting.tail,
-            world,
-            product,
-            utility,
-            gains,
-            masses,
-        ),
+        None => add_world(setting, world, product, utility, gains, masses),
     }
 }
 

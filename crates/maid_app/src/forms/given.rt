@@ -97,29 +97,28 @@ fn shows(
     false
 }
 
-// Appends the line of a row where the decision sees the evidence in it.
+// Appends the line of a row of the decision `v` where it sees the evidence in it.
 fn push_row_given(
     out: &mut Vec<u8>,
     diagram: &Diagram,
     names: &Names,
     place: StatePlace,
-    decision: usize,
+    v: usize,
     number: usize,
     row: &Row,
 ) -> Result<(), AllocError>
     requires fit { NamesFit diagram.now names.now }
-    requires decision { IsDecision diagram.now.nodes decision }
-    requires number { number < rows_of diagram.now.nodes decision }
-    requires choice { row.now.choice < states_of diagram.now.nodes decision }
-    ensures { PushesRowGiven diagram.now names.now place decision number row.now out.old out.new
-        result }
+    requires decision { IsDecision diagram.now.nodes v }
+    requires number { number < rows_of diagram.now.nodes v }
+    requires choice { row.now.choice < states_of diagram.now.nodes v }
+    ensures { PushesRowGiven diagram.now names.now place v number row.now out.old out.new result }
 {
-    let parents = diagram.parents(decision);
-    let rows = diagram.rows(decision);
+    let parents = diagram.parents(v);
+    let rows = diagram.rows(v);
     if !shows(diagram, parents, rows, number, place) {
         return Ok(());
     }
-    push_row(out, diagram, names, decision, rows, number, row)
+    push_row(out, diagram, names, v, rows, number, row)
 }
 
 // Appends the line of a decision, and those of its rows in which it sees the evidence.

@@ -24,9 +24,7 @@ pub add_world-requires : goal.add_world-requires
 add_world-requires c =
     let same_sum : to_z w128 (of_z w128 c.args.utility) ≡ c.args.utility = to_z-of_z w128 c.args.utility (search rules) in
     record {
-      diagram = c.requires.setting.diagram;
-      marks = c.requires.setting.marked;
-      decision = c.requires.setting.decision;
+      setting = c.requires.setting;
       tail = (subst (λ l. IsDownward c.args.setting.now.diagram.now.nodes (ending l c.args.setting.now.tail.now)) c.in-None.is c.requires.order);
       world = c.requires.world;
       gains = c.requires.gains;

@@ -1,8 +1,8 @@
-use Rattle.std.proofs.Common.{rules, ◌≡◌, ◌∙◌, [], ◌∷◌, subst, sym, pos, ◌+ℤ◌, slice_index, slice_index_or, to_z, of_z}
+use Rattle.std.proofs.Common.{rules, ◌≡◌, ◌∙◌, [], ◌∷◌, ap, subst, sym, pos, ◌+ℤ◌, slice_index, slice_index_or, to_z, of_z}
 use Rattle.std.proofs.lemmas.Int.{to_z-of_z}
 use Rattle.std.specs.Int.{w128}
 use Rattle.maid_model.specs.Worlds.{world_of}
-use Rattle.tree_checker.specs.Walks.{HasRoom, IsDownward, MayBeBefore, gain_with, mass_with, with_before}
+use Rattle.tree_checker.specs.Walks.{HasRoom, IsDownward, gain_with, last_nodes, mass_with, with_before}
 use Rattle.tree_checker.proofs.WalkOpened.{room_same}
 use Rattle.tree_checker.proofs.lasts.add_last.Goals as goal
 
@@ -12,12 +12,12 @@ add_pairs-requires c =
     record {
       setting = c.requires.setting;
       last = c.requires.last;
-      before = (subst (MayBeBefore c.args.setting.now.diagram.now.nodes c.args.setting.now.left_out c.args.last.now.node c.args.last.now.utility) c.in-Some.is c.requires.last.before);
+      before = c.in-Some.is;
       order = (subst (λ b. IsDownward c.args.setting.now.diagram.now.nodes (with_before b (c.args.last.now.node ∷ c.args.last.now.utility ∷ []))) c.in-Some.is c.requires.order);
       world = c.requires.world;
       gains = c.requires.gains;
       masses = c.requires.masses;
-      room = (subst (λ b. HasRoom c.args.setting.now.diagram.now.nodes c.args.setting.now.profile.now c.args.setting.now.left_out (with_before b (c.args.last.now.node ∷ c.args.last.now.utility ∷ [])) c.args.product (to_z w128 (of_z w128 c.args.utility)) c.args.gains.now c.args.masses.now) c.in-Some.is (room_same c.args.setting.now.diagram.now.nodes c.args.setting.now.profile.now c.args.setting.now.left_out (with_before c.args.last.now.before (c.args.last.now.node ∷ c.args.last.now.utility ∷ [])) c.args.product c.args.gains.now c.args.masses.now same_sum c.requires.room));
+      room = room_same c.args.setting.now.diagram.now.nodes c.args.setting.now.profile.now c.args.setting.now.left_out (last_nodes c.args.last.now) c.args.product c.args.gains.now c.args.masses.now same_sum c.requires.room;
     }
 
 pub places_at-places-requires-clause-node : goal.places_at-places-requires-clause-node
@@ -47,8 +47,8 @@ returns-in-Some c =
     let same_sum : to_z w128 (of_z w128 c.args.utility) ≡ c.args.utility = to_z-of_z w128 c.args.utility (search rules) in
     record {
       again = c.add_pairs.ensures.again;
-      gains = λ cell. c.add_pairs.ensures.gains cell ∙ (λ i. slice_index_or c.args.gains.now cell (pos 0) +ℤ gain_with c.args.setting.now.diagram.now.nodes c.args.setting.now.profile.now c.args.setting.now.left_out c.args.setting.now.marks.now (with_before (sym c.in-Some.is i) (c.args.last.now.node ∷ c.args.last.now.utility ∷ [])) c.args.product (same_sum i) cell (world_of c.args.world.now));
-      masses = λ cell. c.add_pairs.ensures.masses cell ∙ (λ i. pos (slice_index c.args.masses.now cell) +ℤ mass_with c.args.setting.now.diagram.now.nodes c.args.setting.now.profile.now c.args.setting.now.left_out (with_before (sym c.in-Some.is i) (c.args.last.now.node ∷ c.args.last.now.utility ∷ [])) c.args.product cell (world_of c.args.world.now));
+      gains = λ cell. c.add_pairs.ensures.gains cell ∙ ap (λ z. slice_index_or c.args.gains.now cell (pos 0) +ℤ gain_with c.args.setting.now.diagram.now.nodes c.args.setting.now.profile.now c.args.setting.now.left_out c.args.setting.now.marks.now (last_nodes c.args.last.now) c.args.product z cell (world_of c.args.world.now)) same_sum;
+      masses = c.add_pairs.ensures.masses;
       gain_count = c.add_pairs.ensures.gain_count;
       mass_count = c.add_pairs.ensures.mass_count;
     }
