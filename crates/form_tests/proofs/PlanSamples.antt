@@ -1,4 +1,4 @@
--- The samples are diagrams, and the plans that the tests ask for may be asked for.
+-- The plans that the tests ask for may be asked for.
 use Rattle.std.proofs.Common.{◌≡◌, ◌≢◌, ◌∙◌, ℕ, ◌<◌, Bool, true, false, ◌&&◌, not, eqb, ltb, List, [], ◌∷◌, length, refl, sym, ap, subst, inl, inr, arith, Option, Some, None}
 use Rattle.std.specs.List.{list_all}
 use Rattle.std.proofs.lemmas.Bool.Decides.{nat_tests}
@@ -6,26 +6,12 @@ use Rattle.finite_sums.proofs.Members.{among_from_contains}
 use Rattle.finite_sums.specs.Members.{Among}
 use Rattle.maid_model.specs.declared.diagrams.Kind.{Kind}
 use Rattle.maid_model.specs.declared.diagrams.Kind.TheVariants.{Chance, Decision, Utility}
-use Rattle.maid_model.specs.Diagrams.{IsDiagram}
 use Rattle.maid_model.specs.Graph.{AllDifferent}
-use Rattle.maid_model.specs.Laws.{TestsDiagrams}
 use Rattle.maid_model.specs.Nodes.{node_at, is_utility}
 use Rattle.maid_model.specs.Tested.{differ}
 use Rattle.maid_model.specs.Views.{NodeView}
-use Rattle.form_tests.specs.Planning.{square_diagram, sighted_diagram, star_diagram}
 use Rattle.size_precheck.specs.Sizes.{CanBePlanned}
 
-pub square_is : TestsDiagrams → (twice : Bool) → IsDiagram (square_diagram twice)
-square_is law true = law (square_diagram true) refl
-square_is law false = law (square_diagram false) refl
-
-pub sighted_is : TestsDiagrams → IsDiagram sighted_diagram
-sighted_is law = law sighted_diagram refl
-
-pub star_is : TestsDiagrams → IsDiagram star_diagram
-star_is law = law star_diagram refl
-
--- ---- tests of requests
 left : (a b : Bool) → (a && b) ≡ true → a ≡ true
 left true b e = refl
 left false b e = e

@@ -4,6 +4,5 @@ pub mod Controlling
 pub mod Informing
 pub mod Moving
 pub mod Planning
-pub mod Samples
 pub mod Searching
 pub mod Updating

@@ -1,42 +1,41 @@
--- The small diagrams that the tests run.
-use Rattle.std.specs.Prelude.{ℕ, Bool, List, [], ◌∷◌, ◌++◌, replicate, ℤ, pos, if◌then◌else◌}
-use Rattle.maid_model.specs.declared.diagrams.Kind.TheVariants.{Chance, Decision, Utility}
-use Rattle.maid_model.specs.Views.{NodeView, DiagramView}
-use Rattle.form_tests.specs.Samples.{node_of}
+-- The small diagrams whose plans are measured.
+use Rattle.std.specs.Prelude.{List, [], ◌∷◌, ◌++◌, replicate, ℤ, pos}
+use Rattle.maid_model.specs.Views.{NodeView, DiagramView, diagram_of}
+use Rattle.sample_diagrams.specs.Nodes.{chance_node, decision_node, utility_node}
 
 -- four cells of one
 abbrev pub ones : List ℤ
 ones = pos 1 ∷ pos 1 ∷ pos 1 ∷ pos 1 ∷ []
 
--- G, H over G, A over H, B over G, and a utility over A and B, or two: a square of two states a node
+-- G, H over G, A over H, and B over G: a square of two states a node
 abbrev pub square_nodes : List NodeView
 square_nodes =
-    node_of Chance 2 [] (pos 1 ∷ pos 1 ∷ [])
-    ∷ node_of Chance 2 (0 ∷ []) ones
-    ∷ node_of Chance 2 (1 ∷ []) ones
-    ∷ node_of Chance 2 (0 ∷ []) ones
-    ∷ node_of Utility 1 (2 ∷ 3 ∷ []) ones
+    chance_node 2 [] (pos 1 ∷ pos 1 ∷ [])
+    ∷ chance_node 2 (0 ∷ []) ones
+    ∷ chance_node 2 (1 ∷ []) ones
+    ∷ chance_node 2 (0 ∷ []) ones
     ∷ []
 
-abbrev pub square_diagram : Bool → DiagramView
-square_diagram twice = record {
-  nodes = square_nodes ++ (if twice then node_of Utility 1 (2 ∷ 3 ∷ []) ones ∷ [] else []);
-  agents = 1;
-  decimals = 0;
-}
+-- a utility over A and B
+abbrev pub pay : NodeView
+pay = utility_node 0 (2 ∷ 3 ∷ []) ones
+
+-- the square with one utility
+abbrev pub square_diagram : DiagramView
+square_diagram = diagram_of (square_nodes ++ pay ∷ []) 1 0
+
+-- the square with two utilities
+abbrev pub twice_paid : DiagramView
+twice_paid = diagram_of (square_nodes ++ pay ∷ pay ∷ []) 1 0
 
 -- a chance node, a decision that sees it, and a utility over both
 abbrev pub sighted_diagram : DiagramView
-sighted_diagram = record {
-  nodes = node_of Chance 2 [] (pos 1 ∷ pos 1 ∷ []) ∷ node_of Decision 2 (0 ∷ []) [] ∷ node_of Utility 1 (0 ∷ 1 ∷ []) ones ∷ [];
-  agents = 1;
-  decimals = 0;
-}
+sighted_diagram = diagram_of (
+    chance_node 2 [] (pos 1 ∷ pos 1 ∷ [])
+    ∷ decision_node 0 2 (0 ∷ [])
+    ∷ utility_node 0 (0 ∷ 1 ∷ []) ones
+    ∷ []) 1 0
 
 -- a decision of 16 states that 15 others see
 abbrev pub star_diagram : DiagramView
-star_diagram = record {
-  nodes = node_of Decision 16 [] [] ∷ replicate 15 (node_of Decision 16 (0 ∷ []) []);
-  agents = 1;
-  decimals = 0;
-}
+star_diagram = diagram_of (decision_node 0 16 [] ∷ replicate 15 (decision_node 0 16 (0 ∷ []))) 1 0

@@ -8,7 +8,7 @@ ghost use Rattle.maid_model.specs.Scopes.{KeepsScopedBounds};
 ghost use Rattle.form_tests.specs.Checking.{reply_diagram, reply_report};
 
 use crate::samples::reply_diagram;
-use maid_model::{Answer, Diagram, Kind, MOST_LEAVES, Ratio, Row, Solved, literals_are_tested};
+use maid_model::{Answer, Diagram, MOST_LEAVES, Ratio, Row, Solved};
 use std::alloc::{AllocError, Global};
 use std::test::Fail;
 use tree_checker::{Cause, Verdict, check, leaves};

@@ -3,41 +3,36 @@
 ghost use Rattle.std.specs.Prelude.{◌≡◌, IfOk};
 ghost use Rattle.form_tests.specs.Conditioning.{bet, certain, coin};
 
-use crate::samples::node;
 use evidence::{Conditioned, GivenFault, given};
-use maid_model::{Diagram, Kind, Ratio, literals_are_tested};
+use maid_model::{Diagram, Kind, Ratio};
+use sample_diagrams::{chance, decision, sample_diagram, utility};
 use std::alloc::{AllocError, Global};
 use std::test::Fail;
 
 fn coin(alloc: Global) -> Result<Diagram, AllocError>
     ensures { IfOk result (λ d. d ≡ coin) }
 {
-    literals_are_tested();
-    let mut nodes = Vec::new(alloc);
-    nodes.push(node(alloc, Kind::Chance, 0, 2, &[], &[1, 1])?)?;
-    nodes.push(node(alloc, Kind::Utility, 0, 1, &[0], &[50, -125])?)?;
-    Ok(Diagram::from_nodes(nodes, 1, 2))
+    let nodes = [chance(2, &[], &[1, 1]), utility(0, &[0], &[50, -125])];
+    sample_diagram(alloc, &nodes, 1, 2)
 }
 
 fn certain(alloc: Global) -> Result<Diagram, AllocError>
     ensures { IfOk result (λ d. d ≡ certain) }
 {
-    literals_are_tested();
-    let mut nodes = Vec::new(alloc);
-    nodes.push(node(alloc, Kind::Chance, 0, 2, &[], &[1, 0])?)?;
-    Ok(Diagram::from_nodes(nodes, 0, 0))
+    let nodes = [chance(2, &[], &[1, 0])];
+    sample_diagram(alloc, &nodes, 0, 0)
 }
 
 fn bet(alloc: Global) -> Result<Diagram, AllocError>
     ensures { IfOk result (λ d. d ≡ bet) }
 {
-    literals_are_tested();
-    let mut nodes = Vec::new(alloc);
-    nodes.push(node(alloc, Kind::Chance, 0, 2, &[], &[1, 3])?)?;
-    nodes.push(node(alloc, Kind::Decision, 0, 2, &[], &[])?)?;
-    nodes.push(node(alloc, Kind::Chance, 0, 2, &[1], &[1, 0, 0, 1])?)?;
-    nodes.push(node(alloc, Kind::Utility, 0, 1, &[0, 1], &[4, 0, 1, 2])?)?;
-    Ok(Diagram::from_nodes(nodes, 1, 0))
+    let nodes = [
+        chance(2, &[], &[1, 3]),
+        decision(0, 2, &[]),
+        chance(2, &[1], &[1, 0, 0, 1]),
+        utility(0, &[0, 1], &[4, 0, 1, 2]),
+    ];
+    sample_diagram(alloc, &nodes, 1, 0)
 }
 
 /// The diagram where the node has the state, or `NoMemory` where it is no chance node or has no

@@ -3,10 +3,10 @@
 ghost use Rattle.std.specs.Prelude.{◌≡◌, [], IfOk};
 ghost use Rattle.form_tests.specs.Controlling.{example};
 
-use crate::samples::node;
 use control_incentive::{ControlLine, Controlled, control};
-use maid_model::{Diagram, Kind, Ratio, literals_are_tested};
+use maid_model::{Diagram, Ratio};
 use rule_solver::solve;
+use sample_diagrams::{chance, decision, sample_diagram, utility};
 use std::alloc::{AllocError, Global};
 use std::test::Fail;
 
@@ -14,13 +14,13 @@ use std::test::Fail;
 fn diagram(alloc: Global) -> Result<Diagram, AllocError>
     ensures { IfOk result (λ d. d ≡ example) }
 {
-    literals_are_tested();
-    let mut nodes = Vec::new(alloc);
-    nodes.push(node(alloc, Kind::Chance, 0, 2, &[], &[1, 1])?)?;
-    nodes.push(node(alloc, Kind::Decision, 0, 2, &[0], &[])?)?;
-    nodes.push(node(alloc, Kind::Chance, 0, 2, &[1], &[1, 0, 0, 1])?)?;
-    nodes.push(node(alloc, Kind::Utility, 0, 1, &[0, 2], &[3, 0, 0, 1])?)?;
-    Ok(Diagram::from_nodes(nodes, 1, 0))
+    let nodes = [
+        chance(2, &[], &[1, 1]),
+        decision(0, 2, &[0]),
+        chance(2, &[1], &[1, 0, 0, 1]),
+        utility(0, &[0, 2], &[3, 0, 0, 1]),
+    ];
+    sample_diagram(alloc, &nodes, 1, 0)
 }
 
 /// Whether the line says this value.

@@ -3,10 +3,10 @@
 ghost use Rattle.std.specs.Prelude.{◌≡◌, [], IfOk};
 ghost use Rattle.form_tests.specs.Informing.{guessing, seen_by};
 
-use crate::samples::node;
 use info_value::{Found, InfoLine, info};
-use maid_model::{Diagram, Kind, Ratio, literals_are_tested};
+use maid_model::{Diagram, Ratio};
 use rule_solver::solve;
+use sample_diagrams::{chance, decision, sample_diagram, utility};
 use std::alloc::{AllocError, Global};
 use std::test::Fail;
 
@@ -20,21 +20,14 @@ fn seen_by(told: bool) -> &'static [usize]
 fn diagram(alloc: Global, told: bool) -> Result<Diagram, AllocError>
     ensures { IfOk result (λ d. d ≡ guessing told) }
 {
-    literals_are_tested();
-    let mut nodes = Vec::new(alloc);
-    nodes.push(node(alloc, Kind::Chance, 0, 2, &[], &[1, 1])?)?;
-    nodes.push(node(alloc, Kind::Chance, 0, 2, &[], &[1, 1])?)?;
-    nodes.push(node(
-        alloc,
-        Kind::Chance,
-        0,
-        2,
-        &[0, 1],
-        &[1, 0, 0, 1, 0, 1, 1, 0],
-    )?)?;
-    nodes.push(node(alloc, Kind::Decision, 0, 2, seen_by(told), &[])?)?;
-    nodes.push(node(alloc, Kind::Utility, 0, 1, &[1, 3], &[1, 0, 0, 1])?)?;
-    Ok(Diagram::from_nodes(nodes, 1, 0))
+    let nodes = [
+        chance(2, &[], &[1, 1]),
+        chance(2, &[], &[1, 1]),
+        chance(2, &[0, 1], &[1, 0, 0, 1, 0, 1, 1, 0]),
+        decision(0, 2, seen_by(told)),
+        utility(0, &[1, 3], &[1, 0, 0, 1]),
+    ];
+    sample_diagram(alloc, &nodes, 1, 0)
 }
 
 /// The worth that a line tells, as numerator and denominator, and 0 over 0 where it says `Worthless`.

@@ -3,9 +3,9 @@
 ghost use Rattle.std.specs.Prelude.{◌≡◌, [], IfOk};
 ghost use Rattle.form_tests.specs.Moving.{bet, oil, steer, weights_of};
 
-use crate::samples::node;
-use maid_model::{Diagram, Kind, Ratio, literals_are_tested};
+use maid_model::{Diagram, Ratio};
 use rule_solver::solve;
+use sample_diagrams::{chance, decision, sample_diagram, utility};
 use std::alloc::{AllocError, Global};
 use std::test::Fail;
 use threshold::{Interval, SpanFault, span};
@@ -15,25 +15,18 @@ use threshold::{Interval, SpanFault, span};
 fn oil(alloc: Global) -> Result<Diagram, AllocError>
     ensures { IfOk result (λ d. d ≡ oil) }
 {
-    literals_are_tested();
     let shown = [
         18, 9, 3, 10, 10, 10, 9, 12, 9, 10, 10, 10, 3, 12, 15, 10, 10, 10,
     ];
-    let mut nodes = Vec::new(alloc);
-    nodes.push(node(alloc, Kind::Decision, 0, 2, &[], &[])?)?;
-    nodes.push(node(alloc, Kind::Chance, 0, 3, &[], &[5, 3, 2])?)?;
-    nodes.push(node(alloc, Kind::Chance, 0, 3, &[1, 0], &shown)?)?;
-    nodes.push(node(alloc, Kind::Decision, 0, 2, &[0, 2], &[])?)?;
-    nodes.push(node(alloc, Kind::Utility, 0, 1, &[0], &[-10, 0])?)?;
-    nodes.push(node(
-        alloc,
-        Kind::Utility,
-        0,
-        1,
-        &[1, 3],
-        &[-70, 0, 50, 0, 200, 0],
-    )?)?;
-    Ok(Diagram::from_nodes(nodes, 1, 0))
+    let nodes = [
+        decision(0, 2, &[]),
+        chance(3, &[], &[5, 3, 2]),
+        chance(3, &[1, 0], &shown),
+        decision(0, 2, &[0, 2]),
+        utility(0, &[0], &[-10, 0]),
+        utility(0, &[1, 3], &[-70, 0, 50, 0, 200, 0]),
+    ];
+    sample_diagram(alloc, &nodes, 1, 0)
 }
 
 fn weights_of(even: bool) -> &'static [i128]
@@ -47,12 +40,12 @@ fn weights_of(even: bool) -> &'static [i128]
 fn steer(alloc: Global, even: bool) -> Result<Diagram, AllocError>
     ensures { IfOk result (λ d. d ≡ steer even) }
 {
-    literals_are_tested();
-    let mut nodes = Vec::new(alloc);
-    nodes.push(node(alloc, Kind::Chance, 0, 2, &[], weights_of(even))?)?;
-    nodes.push(node(alloc, Kind::Decision, 0, 2, &[0], &[])?)?;
-    nodes.push(node(alloc, Kind::Utility, 0, 1, &[0, 1], &[3, 0, 0, 1])?)?;
-    Ok(Diagram::from_nodes(nodes, 1, 0))
+    let nodes = [
+        chance(2, &[], weights_of(even)),
+        decision(0, 2, &[0]),
+        utility(0, &[0, 1], &[3, 0, 0, 1]),
+    ];
+    sample_diagram(alloc, &nodes, 1, 0)
 }
 
 /// A decision that sees nothing: 1 for sure, or 2 in the one case or the other. To an echo of the
@@ -60,13 +53,13 @@ fn steer(alloc: Global, even: bool) -> Result<Diagram, AllocError>
 fn bet(alloc: Global) -> Result<Diagram, AllocError>
     ensures { IfOk result (λ d. d ≡ bet) }
 {
-    literals_are_tested();
-    let mut nodes = Vec::new(alloc);
-    nodes.push(node(alloc, Kind::Chance, 0, 2, &[], &[1, 1])?)?;
-    nodes.push(node(alloc, Kind::Decision, 0, 3, &[], &[])?)?;
-    nodes.push(node(alloc, Kind::Utility, 0, 1, &[0, 1], &[1, 2, 0, 1, 0, 2])?)?;
-    nodes.push(node(alloc, Kind::Chance, 0, 2, &[0], &[1, 2, 2, 1])?)?;
-    Ok(Diagram::from_nodes(nodes, 1, 0))
+    let nodes = [
+        chance(2, &[], &[1, 1]),
+        decision(0, 3, &[]),
+        utility(0, &[0, 1], &[1, 2, 0, 1, 0, 2]),
+        chance(2, &[0], &[1, 2, 2, 1]),
+    ];
+    sample_diagram(alloc, &nodes, 1, 0)
 }
 
 fn interval(now: (i128, u128), low: (i128, u128), high: (i128, u128)) -> Interval {

@@ -1,82 +1,65 @@
 //! Sizes of small plans, counted by hand.
 
-ghost use Rattle.std.specs.Prelude.{◌≡◌, ◌∷◌, [], ◌++◌, IfOk};
-ghost use Rattle.form_tests.specs.Planning.{square_nodes, square_diagram, sighted_diagram, star_diagram};
-ghost use Rattle.form_tests.specs.Samples.{HasNodeBehind, node_of};
+ghost use Rattle.std.specs.Prelude.{◌≡◌, IfOk};
+ghost use Rattle.form_tests.specs.Planning.{sighted_diagram, square_diagram, star_diagram, twice_paid};
 
-use maid_model::{Diagram, Kind, Node, literals_are_tested};
+use maid_model::Diagram;
+use sample_diagrams::{chance, decision, sample_diagram, utility};
 use size_precheck::{Size, make_plan, measure};
-use smallvec::SmallVec;
 use std::alloc::{AllocError, Global};
 use std::test::Fail;
 
-/// These nodes and one more, of the first agent.
-fn with_node(
-    alloc: Global,
-    nodes: Vec<Node>,
-    kind: Kind,
-    states: usize,
-    parents: &[usize],
-    cells: &[i128],
-) -> Result<Vec<Node>, AllocError>
-    ensures { IfOk result (HasNodeBehind nodes.items (node_of kind states parents.now cells.now)) }
+/// A square of four chance nodes, and a utility over two of its corners.
+fn square(alloc: Global) -> Result<Diagram, AllocError>
+    ensures { IfOk result (λ d. d ≡ square_diagram) }
 {
-    let mut nodes = nodes;
-    let node = Node {
-        kind,
-        owner: 0,
-        more: SmallVec::new(alloc),
-        states,
-        parents: SmallVec::from_slice(alloc, parents)?,
-        cells: Vec::from_slice(alloc, cells)?,
-    };
-    nodes.push(node)?;
-    Ok(nodes)
+    let nodes = [
+        chance(2, &[], &[1, 1]),
+        chance(2, &[0], &[1, 1, 1, 1]),
+        chance(2, &[1], &[1, 1, 1, 1]),
+        chance(2, &[0], &[1, 1, 1, 1]),
+        utility(0, &[2, 3], &[1, 1, 1, 1]),
+    ];
+    sample_diagram(alloc, &nodes, 1, 0)
 }
 
-fn list_square(alloc: Global) -> Result<Vec<Node>, AllocError>
-    ensures { IfOk result (λ nodes. nodes.items ≡ square_nodes) }
+/// The square with a second utility like the first.
+fn twice_paid(alloc: Global) -> Result<Diagram, AllocError>
+    ensures { IfOk result (λ d. d ≡ twice_paid) }
 {
-    let nodes = with_node(alloc, Vec::new(alloc), Kind::Chance, 2, &[], &[1, 1])?;
-    let nodes = with_node(alloc, nodes, Kind::Chance, 2, &[0], &[1, 1, 1, 1])?;
-    let nodes = with_node(alloc, nodes, Kind::Chance, 2, &[1], &[1, 1, 1, 1])?;
-    let nodes = with_node(alloc, nodes, Kind::Chance, 2, &[0], &[1, 1, 1, 1])?;
-    let nodes = with_node(alloc, nodes, Kind::Utility, 1, &[2, 3], &[1, 1, 1, 1])?;
-    Ok(nodes)
+    let nodes = [
+        chance(2, &[], &[1, 1]),
+        chance(2, &[0], &[1, 1, 1, 1]),
+        chance(2, &[1], &[1, 1, 1, 1]),
+        chance(2, &[0], &[1, 1, 1, 1]),
+        utility(0, &[2, 3], &[1, 1, 1, 1]),
+        utility(0, &[2, 3], &[1, 1, 1, 1]),
+    ];
+    sample_diagram(alloc, &nodes, 1, 0)
 }
 
-/// The square with one utility, or with two.
-fn square(alloc: Global, twice: bool) -> Result<Diagram, AllocError>
-    ensures { IfOk result (λ d. d ≡ square_diagram twice) }
-{
-    literals_are_tested();
-    let nodes = list_square(alloc)?;
-    if !twice {
-        return Ok(Diagram::from_nodes(nodes, 1, 0));
-    }
-    let more = with_node(alloc, nodes, Kind::Utility, 1, &[2, 3], &[1, 1, 1, 1])?;
-    Ok(Diagram::from_nodes(more, 1, 0))
-}
-
+/// A chance node, a decision that sees it, and a utility over both.
 fn sighted(alloc: Global) -> Result<Diagram, AllocError>
     ensures { IfOk result (λ d. d ≡ sighted_diagram) }
 {
-    literals_are_tested();
-    let nodes = with_node(alloc, Vec::new(alloc), Kind::Chance, 2, &[], &[1, 1])?;
-    let nodes = with_node(alloc, nodes, Kind::Decision, 2, &[0], &[])?;
-    let nodes = with_node(alloc, nodes, Kind::Utility, 1, &[0, 1], &[1, 1, 1, 1])?;
-    Ok(Diagram::from_nodes(nodes, 1, 0))
+    let nodes = [
+        chance(2, &[], &[1, 1]),
+        decision(0, 2, &[0]),
+        utility(0, &[0, 1], &[1, 1, 1, 1]),
+    ];
+    sample_diagram(alloc, &nodes, 1, 0)
 }
 
+/// A decision of 16 states that 15 others see.
 fn star(alloc: Global) -> Result<Diagram, AllocError>
     ensures { IfOk result (λ d. d ≡ star_diagram) }
 {
-    literals_are_tested();
-    let mut nodes = with_node(alloc, Vec::new(alloc), Kind::Decision, 16, &[], &[])?;
+    let mut nodes = Vec::new(alloc);
+    nodes.push(decision(0, 16, &[]))?;
     for _ in 0..15u8 {
-        nodes = with_node(alloc, nodes, Kind::Decision, 16, &[0], &[])?;
+        nodes.push(decision(0, 16, &[0]))?;
     }
-    Ok(Diagram::from_nodes(nodes, 1, 0))
+    sample_diagram(alloc, nodes.as_slice(), 1, 0)
 }
 
 // The first joined sets have eight cells each. G goes first, with three tables, and makes H and B; then H, with two, makes
@@ -84,7 +67,7 @@ fn star(alloc: Global) -> Result<Diagram, AllocError>
 #[test]
 fn plans_of_a_square(rt: HostRuntime) -> Result<(), Fail> {
     let alloc = rt.alloc();
-    let diagram = square(alloc, false)?;
+    let diagram = square(alloc)?;
     let worth = make_plan(alloc, &diagram, &[], None, Some(4))?;
     assert_eq!(rt; worth.keep(), [].as_slice());
     assert_eq!(rt; worth.without(), None);
@@ -115,7 +98,7 @@ fn plans_of_a_square(rt: HostRuntime) -> Result<(), Fail> {
 #[test]
 fn sizes_of_runs(rt: HostRuntime) -> Result<(), Fail> {
     let alloc = rt.alloc();
-    let diagram = square(alloc, true)?;
+    let diagram = twice_paid(alloc)?;
     assert_eq!(rt;
         measure(alloc, &diagram, &[])?,
         Size {

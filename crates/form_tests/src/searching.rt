@@ -3,9 +3,9 @@
 ghost use Rattle.std.specs.Prelude.{◌≡◌, IfOk};
 ghost use Rattle.form_tests.specs.Searching.{blind, coin, first_pays, prize, second_pays, seen_in, sight, two_movers};
 
-use crate::samples::node;
-use maid_model::{Diagram, GREATEST_NUMBER, Kind, Ratio, literals_are_tested};
+use maid_model::{Diagram, GREATEST_NUMBER, Ratio};
 use pure_search::{Pure, PureFault, first_pure};
+use sample_diagrams::{chance, decision, sample_diagram, utility};
 use std::alloc::{AllocError, Global};
 use std::test::Fail;
 
@@ -42,37 +42,37 @@ fn second_pays(game: usize) -> &'static [i128]
 fn two_movers(alloc: Global, game: usize) -> Result<Diagram, AllocError>
     ensures { IfOk result (λ d. d ≡ two_movers game) }
 {
-    literals_are_tested();
-    let mut nodes = Vec::new(alloc);
-    nodes.push(node(alloc, Kind::Decision, 0, 2, &[], &[])?)?;
-    nodes.push(node(alloc, Kind::Decision, 1, 2, seen_in(game), &[])?)?;
-    nodes.push(node(alloc, Kind::Utility, 0, 1, &[0, 1], first_pays(game))?)?;
-    nodes.push(node(alloc, Kind::Utility, 1, 1, &[0, 1], second_pays(game))?)?;
-    Ok(Diagram::from_nodes(nodes, 2, 0))
+    let nodes = [
+        decision(0, 2, &[]),
+        decision(1, 2, seen_in(game)),
+        utility(0, &[0, 1], first_pays(game)),
+        utility(1, &[0, 1], second_pays(game)),
+    ];
+    sample_diagram(alloc, &nodes, 2, 0)
 }
 
 /// An agent that decides twice, and does not see its first decision.
 fn blind(alloc: Global) -> Result<Diagram, AllocError>
     ensures { IfOk result (λ d. d ≡ blind) }
 {
-    literals_are_tested();
-    let mut nodes = Vec::new(alloc);
-    nodes.push(node(alloc, Kind::Decision, 0, 2, &[], &[])?)?;
-    nodes.push(node(alloc, Kind::Decision, 0, 2, &[], &[])?)?;
-    nodes.push(node(alloc, Kind::Utility, 0, 1, &[0, 1], &[1, 0, 0, 2])?)?;
-    Ok(Diagram::from_nodes(nodes, 1, 0))
+    let nodes = [
+        decision(0, 2, &[]),
+        decision(0, 2, &[]),
+        utility(0, &[0, 1], &[1, 0, 0, 2]),
+    ];
+    sample_diagram(alloc, &nodes, 1, 0)
 }
 
 /// A decision that sees a chance node of 17 states.
 fn sight(alloc: Global) -> Result<Diagram, AllocError>
     ensures { IfOk result (λ d. d ≡ sight) }
 {
-    literals_are_tested();
-    let mut nodes = Vec::new(alloc);
-    nodes.push(node(alloc, Kind::Chance, 0, 17, &[], &[1; 17])?)?;
-    nodes.push(node(alloc, Kind::Decision, 0, 2, &[0], &[])?)?;
-    nodes.push(node(alloc, Kind::Utility, 0, 1, &[0, 1], &[0; 34])?)?;
-    Ok(Diagram::from_nodes(nodes, 1, 0))
+    let nodes = [
+        chance(17, &[], &[1; 17]),
+        decision(0, 2, &[0]),
+        utility(0, &[0, 1], &[0; 34]),
+    ];
+    sample_diagram(alloc, &nodes, 1, 0)
 }
 
 fn prize(heavy: bool) -> i128
@@ -85,11 +85,9 @@ fn prize(heavy: bool) -> i128
 fn coin(alloc: Global, heavy: bool) -> Result<Diagram, AllocError>
     ensures { IfOk result (λ d. d ≡ coin heavy) }
 {
-    literals_are_tested();
-    let mut nodes = Vec::new(alloc);
-    nodes.push(node(alloc, Kind::Chance, 0, 2, &[], &[1, 1])?)?;
-    nodes.push(node(alloc, Kind::Utility, 0, 1, &[0], &[prize(heavy), 0])?)?;
-    Ok(Diagram::from_nodes(nodes, 1, 0))
+    let pays = [prize(heavy), 0];
+    let nodes = [chance(2, &[], &[1, 1]), utility(0, &[0], &pays)];
+    sample_diagram(alloc, &nodes, 1, 0)
 }
 
 /// All choices, decision by decision and row by row.

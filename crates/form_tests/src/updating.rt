@@ -3,9 +3,9 @@
 ghost use Rattle.std.specs.Prelude.{◌≡◌, IfOk};
 ghost use Rattle.form_tests.specs.Updating.{guessing, meeting, nothing, paid, pennies};
 
-use crate::samples::node;
-use maid_model::{Diagram, Kind, Ratio, Row, literals_are_tested};
+use maid_model::{Diagram, Ratio, Row};
 use policy_update::{UpdateFault, Updated, update};
+use sample_diagrams::{chance, decision, sample_diagram, utility};
 use std::alloc::{AllocError, Global};
 use std::test::Fail;
 
@@ -24,46 +24,45 @@ fn paid(climbs: bool) -> &'static [i128]
 fn meeting(alloc: Global, climbs: bool) -> Result<Diagram, AllocError>
     ensures { IfOk result (λ d. d ≡ meeting climbs) }
 {
-    literals_are_tested();
-    let mut nodes = Vec::new(alloc);
-    nodes.push(node(alloc, Kind::Decision, 0, 2, &[], &[])?)?;
-    nodes.push(node(alloc, Kind::Decision, 0, 2, &[], &[])?)?;
-    nodes.push(node(alloc, Kind::Utility, 0, 1, &[0, 1], paid(climbs))?)?;
-    nodes.push(node(alloc, Kind::Utility, 1, 1, &[0, 1], &[5, 0, 0, 7])?)?;
-    Ok(Diagram::from_nodes(nodes, 2, 1))
+    let nodes = [
+        decision(0, 2, &[]),
+        decision(0, 2, &[]),
+        utility(0, &[0, 1], paid(climbs)),
+        utility(1, &[0, 1], &[5, 0, 0, 7]),
+    ];
+    sample_diagram(alloc, &nodes, 2, 1)
 }
 
 /// Two agents with a decision each.
 fn pennies(alloc: Global) -> Result<Diagram, AllocError>
     ensures { IfOk result (λ d. d ≡ pennies) }
 {
-    literals_are_tested();
-    let mut nodes = Vec::new(alloc);
-    nodes.push(node(alloc, Kind::Decision, 0, 2, &[], &[])?)?;
-    nodes.push(node(alloc, Kind::Decision, 1, 2, &[], &[])?)?;
-    nodes.push(node(alloc, Kind::Utility, 0, 1, &[0, 1], &[1, 0, 0, 1])?)?;
-    nodes.push(node(alloc, Kind::Utility, 1, 1, &[0, 1], &[0, 1, 1, 0])?)?;
-    Ok(Diagram::from_nodes(nodes, 2, 0))
+    let nodes = [
+        decision(0, 2, &[]),
+        decision(1, 2, &[]),
+        utility(0, &[0, 1], &[1, 0, 0, 1]),
+        utility(1, &[0, 1], &[0, 1, 1, 0]),
+    ];
+    sample_diagram(alloc, &nodes, 2, 0)
 }
 
 /// A guess at a coin that is seen.
 fn guessing(alloc: Global) -> Result<Diagram, AllocError>
     ensures { IfOk result (λ d. d ≡ guessing) }
 {
-    literals_are_tested();
-    let mut nodes = Vec::new(alloc);
-    nodes.push(node(alloc, Kind::Chance, 0, 2, &[], &[1, 1])?)?;
-    nodes.push(node(alloc, Kind::Decision, 0, 2, &[0], &[])?)?;
-    nodes.push(node(alloc, Kind::Utility, 0, 1, &[0, 1], &[1, 0, 0, 1])?)?;
-    Ok(Diagram::from_nodes(nodes, 1, 0))
+    let nodes = [
+        chance(2, &[], &[1, 1]),
+        decision(0, 2, &[0]),
+        utility(0, &[0, 1], &[1, 0, 0, 1]),
+    ];
+    sample_diagram(alloc, &nodes, 1, 0)
 }
 
 /// A diagram without nodes.
-fn nothing(alloc: Global) -> Diagram
-    ensures { result ≡ nothing }
+fn nothing(alloc: Global) -> Result<Diagram, AllocError>
+    ensures { IfOk result (λ d. d ≡ nothing) }
 {
-    literals_are_tested();
-    Diagram::from_nodes(Vec::new(alloc), 1, 0)
+    sample_diagram(alloc, &[], 1, 0)
 }
 
 /// A row with this choice.
@@ -154,7 +153,7 @@ fn rows_take_the_coins_side(rt: HostRuntime) -> Result<(), Fail> {
 #[test]
 fn nothing_is_decided(rt: HostRuntime) -> Result<(), Fail> {
     let alloc = rt.alloc();
-    let diagram = nothing(alloc);
+    let diagram = nothing(alloc)?;
     let updated = update(alloc, &diagram, 1)?;
     assert!(rt; updated.rounds == 0);
     assert!(rt; updated.answers.is_empty());

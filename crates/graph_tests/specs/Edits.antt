@@ -1,47 +1,17 @@
--- The small diagram that the tests run: two chance nodes X and Y, a decision over both, a rival's decision over Y,
--- and a utility over the first decision.
+-- The small diagram that the tests edit, and answers to it.
 use Rattle.std.specs.Prelude.{ℕ, List, [], ◌∷◌, map, pos, None}
-use Rattle.maid_model.specs.declared.diagrams.Kind.TheVariants.{Chance, Decision, Utility}
-use Rattle.maid_model.specs.Views.{NodeView, DiagramView, AnswerView}
+use Rattle.maid_model.specs.Views.{DiagramView, AnswerView, diagram_of}
+use Rattle.sample_diagrams.specs.Nodes.{chance_node, decision_node, utility_node}
 
-abbrev pub even : NodeView
-even = record {
-  kind = Chance;
-  owner = 0;
-  more = [];
-  states = 2;
-  parents = [];
-  cells = pos 1 ∷ pos 1 ∷ [];
-}
-
-abbrev pub uneven : NodeView
-uneven = record {
-  kind = Chance;
-  owner = 0;
-  more = [];
-  states = 2;
-  parents = [];
-  cells = pos 1 ∷ pos 3 ∷ [];
-}
-
-abbrev pub own : NodeView
-own = record { kind = Decision; owner = 0; more = []; states = 2; parents = 0 ∷ 1 ∷ []; cells = [] }
-
-abbrev pub rival : NodeView
-rival = record { kind = Decision; owner = 1; more = []; states = 2; parents = 1 ∷ []; cells = [] }
-
-abbrev pub pay : NodeView
-pay = record {
-  kind = Utility;
-  owner = 0;
-  more = [];
-  states = 1;
-  parents = 2 ∷ [];
-  cells = pos 0 ∷ pos 5 ∷ [];
-}
-
+-- two chance nodes, a decision over both, a rival's decision over the second, and a utility over the first decision
 abbrev pub example : DiagramView
-example = record { nodes = even ∷ uneven ∷ own ∷ rival ∷ pay ∷ []; agents = 2; decimals = 0 }
+example = diagram_of (
+    chance_node 2 [] (pos 1 ∷ pos 1 ∷ [])
+    ∷ chance_node 2 [] (pos 1 ∷ pos 3 ∷ [])
+    ∷ decision_node 0 2 (0 ∷ 1 ∷ [])
+    ∷ decision_node 1 2 (1 ∷ [])
+    ∷ utility_node 0 (2 ∷ []) (pos 0 ∷ pos 5 ∷ [])
+    ∷ []) 2 0
 
 -- an answer of these choices, without worths
 abbrev pub answer_of : ℕ → List ℕ → AnswerView

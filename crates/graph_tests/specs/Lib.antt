@@ -1,4 +1,3 @@
 pub mod Edits
 pub mod Reliance
-pub mod Samples
 pub mod Trimming

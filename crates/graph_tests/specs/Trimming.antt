@@ -1,64 +1,35 @@
 -- The small diagrams that the test runs: a chance node that two decisions see, the second of which sees the first
 -- too, and a utility over both decisions.
 use Rattle.std.specs.Prelude.{ℕ, Bool, true, false, List, [], ◌∷◌, ℤ, pos}
-use Rattle.maid_model.specs.declared.diagrams.Kind.TheVariants.{Chance, Decision, Utility}
-use Rattle.maid_model.specs.Views.{NodeView, DiagramView}
+use Rattle.maid_model.specs.Views.{DiagramView, diagram_of}
+use Rattle.sample_diagrams.specs.Nodes.{chance_node, decision_node, utility_node}
 
--- a node that may have one state alone
+-- a node of two states, or of one alone
 abbrev pub states_if : Bool → ℕ
 states_if true = 1
 states_if false = 2
 
+-- the chance node is sure of its one state, or has two that are as likely
 abbrev pub weights_if : Bool → List ℤ
 weights_if true = pos 1 ∷ []
 weights_if false = pos 1 ∷ pos 1 ∷ []
 
+-- what the decisions pay where the second has one state, or two
 abbrev pub values_if : Bool → List ℤ
 values_if true = pos 0 ∷ pos 2 ∷ []
 values_if false = pos 0 ∷ pos 3 ∷ pos 2 ∷ pos 1 ∷ []
 
+-- the agent itself, or its rival
 abbrev pub agent_if : Bool → ℕ
 agent_if true = 1
 agent_if false = 0
 
-abbrev pub chance : Bool → NodeView
-chance sure = record {
-  kind = Chance;
-  owner = 0;
-  more = [];
-  states = states_if sure;
-  parents = [];
-  cells = weights_if sure;
-}
-
-abbrev pub first : NodeView
-first = record { kind = Decision; owner = 0; more = []; states = 2; parents = 0 ∷ []; cells = [] }
-
-abbrev pub second : Bool → Bool → NodeView
-second forced rival = record {
-  kind = Decision;
-  owner = agent_if rival;
-  more = [];
-  states = states_if forced;
-  parents = 0 ∷ 1 ∷ [];
-  cells = [];
-}
-
-abbrev pub pay : Bool → NodeView
-pay forced = record {
-  kind = Utility;
-  owner = 0;
-  more = [];
-  states = 1;
-  parents = 1 ∷ 2 ∷ [];
-  cells = values_if forced;
-}
-
 -- The chance node may be sure, the second decision may be forced, and it may be a rival's, to whom the utility is
 -- nothing.
 abbrev pub example : Bool → Bool → Bool → DiagramView
-example sure forced rival = record {
-  nodes = chance sure ∷ first ∷ second forced rival ∷ pay forced ∷ [];
-  agents = 2;
-  decimals = 0;
-}
+example sure forced rival = diagram_of (
+    chance_node (states_if sure) [] (weights_if sure)
+    ∷ decision_node 0 2 (0 ∷ [])
+    ∷ decision_node (agent_if rival) (states_if forced) (0 ∷ 1 ∷ [])
+    ∷ utility_node 0 (1 ∷ 2 ∷ []) (values_if forced)
+    ∷ []) 2 0

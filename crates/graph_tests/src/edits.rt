@@ -3,9 +3,9 @@
 ghost use Rattle.std.specs.Prelude.{◌≡◌, IfOk};
 ghost use Rattle.graph_tests.specs.Edits.{example, answer_of, answers};
 
-use crate::samples::node;
 use diagram_graph::{AddFault, RemoveFault, add_arc, fix_others, make_decision, part, remove_arc};
-use maid_model::{Answer, Diagram, Kind, Row, Solved, literals_are_tested};
+use maid_model::{Answer, Diagram, Kind, Row, Solved};
+use sample_diagrams::{chance, decision, sample_diagram, utility};
 use std::alloc::{AllocError, Global};
 use std::test::Fail;
 
@@ -13,14 +13,14 @@ use std::test::Fail;
 fn diagram(alloc: Global) -> Result<Diagram, AllocError>
     ensures { IfOk result (λ d. d ≡ example) }
 {
-    literals_are_tested();
-    let mut nodes = Vec::new(alloc);
-    nodes.push(node(alloc, Kind::Chance, 0, 2, &[], &[1, 1])?)?;
-    nodes.push(node(alloc, Kind::Chance, 0, 2, &[], &[1, 3])?)?;
-    nodes.push(node(alloc, Kind::Decision, 0, 2, &[0, 1], &[])?)?;
-    nodes.push(node(alloc, Kind::Decision, 1, 2, &[1], &[])?)?;
-    nodes.push(node(alloc, Kind::Utility, 0, 1, &[2], &[0, 5])?)?;
-    Ok(Diagram::from_nodes(nodes, 2, 0))
+    let nodes = [
+        chance(2, &[], &[1, 1]),
+        chance(2, &[], &[1, 3]),
+        decision(0, 2, &[0, 1]),
+        decision(1, 2, &[1]),
+        utility(0, &[2], &[0, 5]),
+    ];
+    sample_diagram(alloc, &nodes, 2, 0)
 }
 
 // Without its arc the first chance node is no ancestor of the utility, so the part has the second and the decision.

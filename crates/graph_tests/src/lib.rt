@@ -7,6 +7,4 @@ mod edits;
 #[cfg(test)]
 mod reliance;
 #[cfg(test)]
-mod samples;
-#[cfg(test)]
 mod trimming;

@@ -3,10 +3,10 @@
 ghost use Rattle.std.specs.Prelude.{◌≡◌, IfOk};
 ghost use Rattle.graph_tests.specs.Reliance.{pair_diagram, seen_if as seen_in};
 
-use crate::samples::node;
 use diagram_graph::topological;
-use maid_model::{Diagram, Kind, literals_are_tested};
+use maid_model::Diagram;
 use relevance_graph::find_relevance;
+use sample_diagrams::{decision, sample_diagram, utility};
 use std::alloc::{AllocError, Global};
 use std::test::Fail;
 
@@ -20,12 +20,12 @@ fn seen_if(sees: bool) -> &'static [usize]
 fn pair(alloc: Global, sees: bool) -> Result<Diagram, AllocError>
     ensures { IfOk result (λ d. d ≡ pair_diagram sees) }
 {
-    literals_are_tested();
-    let mut nodes = Vec::new(alloc);
-    nodes.push(node(alloc, Kind::Decision, 0, 2, &[], &[])?)?;
-    nodes.push(node(alloc, Kind::Decision, 0, 2, seen_if(sees), &[])?)?;
-    nodes.push(node(alloc, Kind::Utility, 0, 1, &[0, 1], &[1, 0, 0, 1])?)?;
-    Ok(Diagram::from_nodes(nodes, 1, 0))
+    let nodes = [
+        decision(0, 2, &[]),
+        decision(0, 2, seen_if(sees)),
+        utility(0, &[0, 1], &[1, 0, 0, 1]),
+    ];
+    sample_diagram(alloc, &nodes, 1, 0)
 }
 
 #[test]

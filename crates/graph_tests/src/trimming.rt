@@ -3,9 +3,9 @@
 ghost use Rattle.std.specs.Prelude.{◌≡◌, IfOk};
 ghost use Rattle.graph_tests.specs.Trimming.{example, states_if, weights_if, values_if, agent_if};
 
-use crate::samples::node;
-use maid_model::{Diagram, Kind, literals_are_tested};
+use maid_model::Diagram;
 use requisite_trim::{requisite, trim};
+use sample_diagrams::{chance, decision, sample_diagram, utility};
 use std::alloc::{AllocError, Global};
 use std::test::Fail;
 
@@ -37,20 +37,13 @@ fn agent(rival: bool) -> usize
 fn diagram(alloc: Global, sure: bool, forced: bool, rival: bool) -> Result<Diagram, AllocError>
     ensures { IfOk result (λ d. d ≡ example sure forced rival) }
 {
-    literals_are_tested();
-    let mut nodes = Vec::new(alloc);
-    nodes.push(node(alloc, Kind::Chance, 0, states(sure), &[], weights(sure))?)?;
-    nodes.push(node(alloc, Kind::Decision, 0, 2, &[0], &[])?)?;
-    nodes.push(node(
-        alloc,
-        Kind::Decision,
-        agent(rival),
-        states(forced),
-        &[0, 1],
-        &[],
-    )?)?;
-    nodes.push(node(alloc, Kind::Utility, 0, 1, &[1, 2], values(forced))?)?;
-    Ok(Diagram::from_nodes(nodes, 2, 0))
+    let nodes = [
+        chance(states(sure), &[], weights(sure)),
+        decision(0, 2, &[0]),
+        decision(agent(rival), states(forced), &[0, 1]),
+        utility(0, &[1, 2], values(forced)),
+    ];
+    sample_diagram(alloc, &nodes, 2, 0)
 }
 
 // The first decision needs the chance node only as long as the second one tells of it. An arc from a node of one state

@@ -20,6 +20,7 @@ trace =
     ∷ pay 1 (0 ∷ 2 ∷ []) (pos 1 ∷ pos 0 ∷ pos 0 ∷ pos 1 ∷ [])
     ∷ []
 
+-- these nodes with two agents: a row that the plan never reaches
 abbrev pub trace_diagram : DiagramView
 trace_diagram = record { nodes = trace; agents = 2; decimals = 0 }
 

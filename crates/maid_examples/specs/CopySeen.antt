@@ -12,6 +12,7 @@ use Rattle.maid_examples.specs.Samples.{leader, copy, follower, leader_pay, foll
 abbrev pub copied : List NodeView
 copied = leader ∷ copy ∷ follower (1 ∷ []) ∷ leader_pay 2 ∷ follower_pay 0 2 ∷ []
 
+-- these nodes with two agents: what a copy in the way changes of sight
 abbrev pub copied_diagram : DiagramView
 copied_diagram = record { nodes = copied; agents = 2; decimals = 0 }
 

@@ -19,6 +19,7 @@ moves =
     ∷ pay 1 (0 ∷ 1 ∷ []) (pos 1 ∷ pos 0 ∷ pos 0 ∷ pos 1 ∷ [])
     ∷ []
 
+-- these nodes with two agents: a threat that holds at first and not later
 abbrev pub moves_diagram : DiagramView
 moves_diagram = record { nodes = moves; agents = 2; decimals = 0 }
 

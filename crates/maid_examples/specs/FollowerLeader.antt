@@ -11,6 +11,7 @@ use Rattle.maid_examples.specs.Samples.{leader, follower, leader_pay, follower_p
 abbrev pub sight : List NodeView
 sight = leader ∷ follower (0 ∷ []) ∷ leader_pay 1 ∷ follower_pay 0 1 ∷ []
 
+-- these nodes with two agents: reliance one way, and a subgame behind each move
 abbrev pub sight_diagram : DiagramView
 sight_diagram = record { nodes = sight; agents = 2; decimals = 0 }
 

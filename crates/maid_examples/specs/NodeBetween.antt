@@ -30,9 +30,11 @@ joined = leader ∷ copy ∷ follower [] ∷ leader_pay 2 ∷ follower_pay 1 2 �
 abbrev pub parted : List NodeView
 parted = leader ∷ narrow ∷ follower [] ∷ leader_pay 2 ∷ narrow_pay ∷ []
 
+-- the copy between with two agents: reliance both ways
 abbrev pub joined_diagram : DiagramView
 joined_diagram = record { nodes = joined; agents = 2; decimals = 0 }
 
+-- the one state between with two agents: reliance one way
 abbrev pub parted_diagram : DiagramView
 parted_diagram = record { nodes = parted; agents = 2; decimals = 0 }
 

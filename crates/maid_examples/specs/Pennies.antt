@@ -15,6 +15,7 @@ pennies =
     ∷ pay 1 (0 ∷ 1 ∷ []) (negsuc 0 ∷ pos 1 ∷ pos 1 ∷ negsuc 0 ∷ [])
     ∷ []
 
+-- these nodes with two agents: a relevance cycle of two
 abbrev pub pennies_diagram : DiagramView
 pennies_diagram = record { nodes = pennies; agents = 2; decimals = 0 }
 

@@ -17,6 +17,7 @@ trail =
     ∷ pay 1 (0 ∷ 1 ∷ []) (pos 1 ∷ pos 0 ∷ pos 0 ∷ pos 1 ∷ [])
     ∷ []
 
+-- these nodes with two agents: every row is reached
 abbrev pub trail_diagram : DiagramView
 trail_diagram = record { nodes = trail; agents = 2; decimals = 0 }
 

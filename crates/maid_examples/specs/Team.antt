@@ -36,6 +36,7 @@ with_result first result =
 abbrev pub team_diagram : DiagramView
 team_diagram = with_result leader (result 0 (1 ∷ []))
 
+-- its nodes
 abbrev pub team : List NodeView
 team = team_diagram.nodes
 

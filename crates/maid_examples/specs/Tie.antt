@@ -15,15 +15,19 @@ use Rattle.maid_examples.specs.Samples.{decision, pay, rule, whole, reached, nev
 abbrev pub between : ℤ → ℤ → List NodeView
 between first second = decision 0 [] ∷ pay 0 (0 ∷ []) (first ∷ second ∷ []) ∷ []
 
+-- two states of the same worth
 abbrev pub tie : List NodeView
 tie = between (pos 5) (pos 5)
 
+-- the tie with one agent: two reports are accepted and one is the answer
 abbrev pub tie_diagram : DiagramView
 tie_diagram = record { nodes = tie; agents = 1; decimals = 0 }
 
+-- a better state and a lesser one
 abbrev pub uneven : List NodeView
 uneven = between (pos 5) (pos 3)
 
+-- these with one agent: one state is best
 abbrev pub uneven_diagram : DiagramView
 uneven_diagram = record { nodes = uneven; agents = 1; decimals = 0 }
 

@@ -34,6 +34,7 @@ joy weather outing = pay 0 (weather ∷ outing ∷ []) (pos 5 ∷ pos 0 ∷ negs
 abbrev pub trip : List NodeView
 trip = weather ∷ decision 0 (0 ∷ []) ∷ joy 0 1 ∷ []
 
+-- the trip with one agent: all sums and values by hand
 abbrev pub trip_diagram : DiagramView
 trip_diagram = record { nodes = trip; agents = 1; decimals = 0 }
 
@@ -115,6 +116,7 @@ bet = pay 1 (0 ∷ []) (pos 1 ∷ pos 0 ∷ negsuc 4 ∷ [])
 abbrev pub tossed : List NodeView
 tossed = coin ∷ weather ∷ bet ∷ decision 0 (1 ∷ []) ∷ joy 1 3 ∷ []
 
+-- the trip beside the coin, with two agents: a scope that is a part of the whole
 abbrev pub tossed_diagram : DiagramView
 tossed_diagram = record { nodes = tossed; agents = 2; decimals = 0 }
 

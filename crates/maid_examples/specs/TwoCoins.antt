@@ -50,9 +50,11 @@ told = guessing (0 ∷ 2 ∷ [])
 abbrev pub untold : List NodeView
 untold = guessing (0 ∷ [])
 
+-- the guess that is told both, with one agent: every parent is requisite
 abbrev pub told_diagram : DiagramView
 told_diagram = record { nodes = told; agents = 1; decimals = 0 }
 
+-- the guess that is told the coin alone, with one agent: an arc to be trimmed
 abbrev pub untold_diagram : DiagramView
 untold_diagram = record { nodes = untold; agents = 1; decimals = 0 }
 

@@ -1,7 +1,7 @@
 //! The small diagrams and profiles as values, which meet their literals, and room for their sums.
 
 ghost use Rattle.std.specs.Prelude.{◌≡◌, ◌∷◌, [], IfOk};
-ghost use Rattle.maid_examples.specs.Samples.{plan, chance_below, decision, pay, rule, shared_pay};
+ghost use Rattle.maid_examples.specs.Samples.{plan, rule};
 ghost use Rattle.maid_examples.specs.FollowerLeader.{sight_diagram};
 ghost use Rattle.maid_examples.specs.CopySeen.{copied_diagram};
 ghost use Rattle.maid_examples.specs.CopyAnswered.{trace_diagram};
@@ -9,200 +9,126 @@ ghost use Rattle.maid_examples.specs.EmptyThreat.{moves_diagram, threat};
 ghost use Rattle.maid_examples.specs.Pennies.{pennies_diagram};
 ghost use Rattle.maid_examples.specs.Team.{team_diagram, plan as team_rules};
 ghost use Rattle.maid_examples.specs.Trial.{HasRoom};
-ghost use Rattle.maid_examples.specs.Trip.{weather, trip_diagram, plan as planned};
+ghost use Rattle.maid_examples.specs.Trip.{trip_diagram, plan as planned};
 ghost use Rattle.maid_examples.specs.NodeBetween.{joined_diagram, parted_diagram, asks_much, asks_little};
 
 use crate::{
-    a_trip, answer_by_copy, copy_in_place, empty_threat, follower_and_leader, one_state_between,
-    pennies, shared_result,
+    a_trip, copy_in_place, empty_threat, follower_and_leader, one_state_between, shared_result,
 };
-use maid_model::{Diagram, Kind, Node, Profile, Rule, World, base_sums, leaf_sum};
-use smallvec::SmallVec;
+use maid_model::{Diagram, Kind, Profile, Rule, World, base_sums, leaf_sum};
+use sample_diagrams::{chance, decision, sample_diagram, shared_utility, utility};
 use std::alloc::{AllocError, Global};
 use std::marker::Model;
-
-/// A decision of two states.
-fn decision(alloc: Global, owner: usize, parents: &[usize]) -> Result<Node, AllocError>
-    ensures { IfOk result (λ n. n ≡ decision owner parents.now) }
-{
-    Ok(Node {
-        kind: Kind::Decision,
-        owner,
-        more: SmallVec::new(alloc),
-        states: 2,
-        parents: SmallVec::from_slice(alloc, parents)?,
-        cells: Vec::new(alloc),
-    })
-}
-
-/// A chance node below node 0.
-fn chance(alloc: Global, states: usize, cells: &[i128]) -> Result<Node, AllocError>
-    ensures { IfOk result (λ n. n ≡ chance_below states cells.now) }
-{
-    Ok(Node {
-        kind: Kind::Chance,
-        owner: 0,
-        more: SmallVec::new(alloc),
-        states,
-        parents: SmallVec::from_slice(alloc, &[0])?,
-        cells: Vec::from_slice(alloc, cells)?,
-    })
-}
-
-fn utility(
-    alloc: Global,
-    owner: usize,
-    parents: &[usize],
-    cells: &[i128],
-) -> Result<Node, AllocError>
-    ensures { IfOk result (λ n. n ≡ pay owner parents.now cells.now) }
-{
-    Ok(Node {
-        kind: Kind::Utility,
-        owner,
-        more: SmallVec::new(alloc),
-        states: 1,
-        parents: SmallVec::from_slice(alloc, parents)?,
-        cells: Vec::from_slice(alloc, cells)?,
-    })
-}
-
-/// A utility of the agents 0 and 1.
-fn shared_utility(alloc: Global, parents: &[usize], cells: &[i128]) -> Result<Node, AllocError>
-    ensures { IfOk result (λ n. n ≡ shared_pay parents.now cells.now) }
-{
-    Ok(Node {
-        kind: Kind::Utility,
-        owner: 0,
-        more: SmallVec::from_slice(alloc, &[1])?,
-        states: 1,
-        parents: SmallVec::from_slice(alloc, parents)?,
-        cells: Vec::from_slice(alloc, cells)?,
-    })
-}
 
 pub(crate) fn sight(alloc: Global) -> Result<Diagram, AllocError>
     ensures { IfOk result (λ d. d ≡ sight_diagram) }
 {
-    follower_and_leader();
-    let mut nodes = Vec::new(alloc);
-    nodes.push(decision(alloc, 0, &[])?)?;
-    nodes.push(decision(alloc, 1, &[0])?)?;
-    nodes.push(utility(alloc, 0, &[0, 1], &[5, -1, 3, 0])?)?;
-    nodes.push(utility(alloc, 1, &[0, 1], &[-2, 1, 5, 0])?)?;
-    Ok(Diagram::from_nodes(nodes, 2, 0))
+    let nodes = [
+        decision(0, 2, &[]),
+        decision(1, 2, &[0]),
+        utility(0, &[0, 1], &[5, -1, 3, 0]),
+        utility(1, &[0, 1], &[-2, 1, 5, 0]),
+    ];
+    sample_diagram(alloc, &nodes, 2, 0)
 }
 
 pub(crate) fn copied(alloc: Global) -> Result<Diagram, AllocError>
     ensures { IfOk result (λ d. d ≡ copied_diagram) }
 {
-    copy_in_place();
-    let mut nodes = Vec::new(alloc);
-    nodes.push(decision(alloc, 0, &[])?)?;
-    nodes.push(chance(alloc, 2, &[1, 0, 0, 1])?)?;
-    nodes.push(decision(alloc, 1, &[1])?)?;
-    nodes.push(utility(alloc, 0, &[0, 2], &[5, -1, 3, 0])?)?;
-    nodes.push(utility(alloc, 1, &[0, 2], &[-2, 1, 5, 0])?)?;
-    Ok(Diagram::from_nodes(nodes, 2, 0))
+    let nodes = [
+        decision(0, 2, &[]),
+        chance(2, &[0], &[1, 0, 0, 1]),
+        decision(1, 2, &[1]),
+        utility(0, &[0, 2], &[5, -1, 3, 0]),
+        utility(1, &[0, 2], &[-2, 1, 5, 0]),
+    ];
+    sample_diagram(alloc, &nodes, 2, 0)
 }
 
 pub(crate) fn joined(alloc: Global) -> Result<Diagram, AllocError>
     ensures { IfOk result (λ d. d ≡ joined_diagram) }
 {
-    one_state_between();
-    let mut nodes = Vec::new(alloc);
-    nodes.push(decision(alloc, 0, &[])?)?;
-    nodes.push(chance(alloc, 2, &[1, 0, 0, 1])?)?;
-    nodes.push(decision(alloc, 1, &[])?)?;
-    nodes.push(utility(alloc, 0, &[0, 2], &[5, -1, 3, 0])?)?;
-    nodes.push(utility(alloc, 1, &[1, 2], &[-2, 1, 5, 0])?)?;
-    Ok(Diagram::from_nodes(nodes, 2, 0))
+    let nodes = [
+        decision(0, 2, &[]),
+        chance(2, &[0], &[1, 0, 0, 1]),
+        decision(1, 2, &[]),
+        utility(0, &[0, 2], &[5, -1, 3, 0]),
+        utility(1, &[1, 2], &[-2, 1, 5, 0]),
+    ];
+    sample_diagram(alloc, &nodes, 2, 0)
 }
 
 pub(crate) fn parted(alloc: Global) -> Result<Diagram, AllocError>
     ensures { IfOk result (λ d. d ≡ parted_diagram) }
 {
-    one_state_between();
-    let mut nodes = Vec::new(alloc);
-    nodes.push(decision(alloc, 0, &[])?)?;
-    nodes.push(chance(alloc, 1, &[1, 1])?)?;
-    nodes.push(decision(alloc, 1, &[])?)?;
-    nodes.push(utility(alloc, 0, &[0, 2], &[5, -1, 3, 0])?)?;
-    nodes.push(utility(alloc, 1, &[1, 2], &[3, 1])?)?;
-    Ok(Diagram::from_nodes(nodes, 2, 0))
+    let nodes = [
+        decision(0, 2, &[]),
+        chance(1, &[0], &[1, 1]),
+        decision(1, 2, &[]),
+        utility(0, &[0, 2], &[5, -1, 3, 0]),
+        utility(1, &[1, 2], &[3, 1]),
+    ];
+    sample_diagram(alloc, &nodes, 2, 0)
 }
 
 fn moves(alloc: Global) -> Result<Diagram, AllocError>
     ensures { IfOk result (λ d. d ≡ moves_diagram) }
 {
-    empty_threat();
-    let mut nodes = Vec::new(alloc);
-    nodes.push(decision(alloc, 0, &[])?)?;
-    nodes.push(decision(alloc, 1, &[0])?)?;
-    nodes.push(utility(alloc, 0, &[0, 1], &[2, 0, 3, 1])?)?;
-    nodes.push(utility(alloc, 1, &[0, 1], &[1, 0, 0, 1])?)?;
-    Ok(Diagram::from_nodes(nodes, 2, 0))
+    let nodes = [
+        decision(0, 2, &[]),
+        decision(1, 2, &[0]),
+        utility(0, &[0, 1], &[2, 0, 3, 1]),
+        utility(1, &[0, 1], &[1, 0, 0, 1]),
+    ];
+    sample_diagram(alloc, &nodes, 2, 0)
 }
 
 pub(crate) fn coins(alloc: Global) -> Result<Diagram, AllocError>
     ensures { IfOk result (λ d. d ≡ pennies_diagram) }
 {
-    pennies();
-    let mut nodes = Vec::new(alloc);
-    nodes.push(decision(alloc, 0, &[])?)?;
-    nodes.push(decision(alloc, 1, &[])?)?;
-    nodes.push(utility(alloc, 0, &[0, 1], &[1, -1, -1, 1])?)?;
-    nodes.push(utility(alloc, 1, &[0, 1], &[-1, 1, 1, -1])?)?;
-    Ok(Diagram::from_nodes(nodes, 2, 0))
+    let nodes = [
+        decision(0, 2, &[]),
+        decision(1, 2, &[]),
+        utility(0, &[0, 1], &[1, -1, -1, 1]),
+        utility(1, &[0, 1], &[-1, 1, 1, -1]),
+    ];
+    sample_diagram(alloc, &nodes, 2, 0)
 }
 
 pub(crate) fn trace(alloc: Global) -> Result<Diagram, AllocError>
     ensures { IfOk result (λ d. d ≡ trace_diagram) }
 {
-    answer_by_copy();
-    let mut nodes = Vec::new(alloc);
-    nodes.push(decision(alloc, 0, &[])?)?;
-    nodes.push(chance(alloc, 2, &[1, 0, 0, 1])?)?;
-    nodes.push(decision(alloc, 1, &[1])?)?;
-    nodes.push(utility(alloc, 0, &[0], &[1, 0])?)?;
-    nodes.push(utility(alloc, 1, &[0, 2], &[1, 0, 0, 1])?)?;
-    Ok(Diagram::from_nodes(nodes, 2, 0))
-}
-
-fn weather(alloc: Global) -> Result<Node, AllocError>
-    ensures { IfOk result (λ n. n ≡ weather) }
-{
-    Ok(Node {
-        kind: Kind::Chance,
-        owner: 0,
-        more: SmallVec::new(alloc),
-        states: 2,
-        parents: SmallVec::from_slice(alloc, &[])?,
-        cells: Vec::from_slice(alloc, &[1, 3])?,
-    })
+    let nodes = [
+        decision(0, 2, &[]),
+        chance(2, &[0], &[1, 0, 0, 1]),
+        decision(1, 2, &[1]),
+        utility(0, &[0], &[1, 0]),
+        utility(1, &[0, 2], &[1, 0, 0, 1]),
+    ];
+    sample_diagram(alloc, &nodes, 2, 0)
 }
 
 pub(crate) fn trip(alloc: Global) -> Result<Diagram, AllocError>
     ensures { IfOk result (λ d. d ≡ trip_diagram) }
 {
-    a_trip();
-    let mut nodes = Vec::new(alloc);
-    nodes.push(weather(alloc)?)?;
-    nodes.push(decision(alloc, 0, &[0])?)?;
-    nodes.push(utility(alloc, 0, &[0, 1], &[5, 0, -1, 7])?)?;
-    Ok(Diagram::from_nodes(nodes, 1, 0))
+    let nodes = [
+        chance(2, &[], &[1, 3]),
+        decision(0, 2, &[0]),
+        utility(0, &[0, 1], &[5, 0, -1, 7]),
+    ];
+    sample_diagram(alloc, &nodes, 1, 0)
 }
 
 pub(crate) fn team(alloc: Global) -> Result<Diagram, AllocError>
     ensures { IfOk result (λ d. d ≡ team_diagram) }
 {
-    shared_result();
-    let mut nodes = Vec::new(alloc);
-    nodes.push(decision(alloc, 0, &[])?)?;
-    nodes.push(decision(alloc, 1, &[0])?)?;
-    nodes.push(shared_utility(alloc, &[0, 1], &[3, 0, 0, 2])?)?;
-    nodes.push(utility(alloc, 1, &[1], &[0, 2])?)?;
-    Ok(Diagram::from_nodes(nodes, 2, 0))
+    let nodes = [
+        decision(0, 2, &[]),
+        decision(1, 2, &[0]),
+        shared_utility(0, &[1], &[0, 1], &[3, 0, 0, 2]),
+        utility(1, &[1], &[0, 2]),
+    ];
+    sample_diagram(alloc, &nodes, 2, 0)
 }
 
 fn rule(alloc: Global, decision: usize, total: u128, weights: &[u128]) -> Result<Rule, AllocError>

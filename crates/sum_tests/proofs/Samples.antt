@@ -1,11 +1,10 @@
--- The sample is a diagram, and the plan of its decision's states may be asked for.
+-- The plan of the sample's decision may be asked for.
 use Rattle.std.proofs.Common.{◌≡◌, ◌≢◌, ◌∙◌, ℕ, ◌*◌, ◌<◌, ◌≤◌, List, [], ◌∷◌, length, refl, sym, ap, subst, inl, inr, arith, Some}
 use Rattle.finite_sums.proofs.Members.{among_from_contains, contains_from_among}
 use Rattle.finite_sums.specs.Members.{Among}
 use Rattle.maid_model.specs.declared.diagrams.Kind.TheVariants.{Utility}
 use Rattle.maid_model.specs.Diagrams.{IsDiagram}
 use Rattle.maid_model.specs.Graph.{Here}
-use Rattle.maid_model.specs.Laws.{TestsDiagrams}
 use Rattle.maid_model.specs.Nodes.{node_at, states_of, IsDecision}
 use Rattle.maid_model.specs.Profiles.{IsProfile, uniform_profile}
 use Rattle.maid_model.specs.Views.{DiagramView, RuleView}
@@ -21,9 +20,6 @@ use Rattle.eliminate.proofs.Numbers.{bound_fits}
 use Rattle.eliminate.proofs.Whole.{firsts_are}
 use Rattle.size_precheck.specs.Sizes.{CanBePlanned}
 use Rattle.sum_tests.specs.Example.{example_nodes, example, states_plan}
-
-pub example_is : TestsDiagrams → IsDiagram example
-example_is law = law example refl
 
 plain : (v : ℕ) → Among v (2 ∷ 1 ∷ []) → (node_at example_nodes v).kind ≢ Utility
 plain v (inl e) f = absurd (let k = ap (λ x. (node_at example_nodes x).kind) (sym e) ∙ f in cc)

@@ -1,26 +1,24 @@
 -- Two chance nodes of two states, and tables of small cells over them.
-use Rattle.std.specs.Prelude.{ℕ, ◌+◌, ◌≤◌, [], ◌∷◌, List, ℤ, pos}
+use Rattle.std.specs.Prelude.{ℕ, ◌+◌, ◌≤◌, [], ◌∷◌, List, pos}
 use Rattle.finite_sums.specs.Sums.{World, InRange}
-use Rattle.maid_model.specs.declared.diagrams.Kind.TheVariants.{Chance}
 use Rattle.maid_model.specs.Nodes.{states_of}
-use Rattle.maid_model.specs.Views.{NodeView, DiagramView}
+use Rattle.maid_model.specs.Views.{NodeView, DiagramView, diagram_of}
 use Rattle.cell_rings.specs.Rings.{Ring}
 use Rattle.factor_core.specs.declared.slots.Slot.{Slot}
 use Rattle.factor_core.specs.Slots.{WorkspaceView, IsLive, table_of}
-use Rattle.sum_tests.specs.Example.{node_of}
+use Rattle.sample_diagrams.specs.Nodes.{chance_node}
 
--- a chance node of two states without a parent, by its cells
-abbrev pub coin_with : List ℤ → NodeView
-coin_with cells = node_of Chance 2 [] cells
-
+-- a chance node of two states without a parent, by its weights
 abbrev pub coin_of : ℕ → ℕ → NodeView
-coin_of a b = coin_with (pos a ∷ pos b ∷ [])
+coin_of a b = chance_node 2 [] (pos a ∷ pos b ∷ [])
 
+-- two such nodes
 abbrev pub two_coins : List NodeView
 two_coins = coin_of 2 3 ∷ coin_of 5 7 ∷ []
 
+-- their diagram, of one agent
 abbrev pub coins_diagram : DiagramView
-coins_diagram = record { nodes = two_coins; agents = 1; decimals = 0 }
+coins_diagram = diagram_of two_coins 1 0
 
 -- a live slot of cells of at most that size
 pub record IsSmall {C : Type 0}

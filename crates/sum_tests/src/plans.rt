@@ -1,60 +1,32 @@
 //! Sums of small plans, worked out by hand.
 
-ghost use Rattle.std.specs.Prelude.{◌≡◌, ◌≤◌, ◌∷◌, [], ◌++◌, IfOk};
+ghost use Rattle.std.specs.Prelude.{◌≡◌, ◌≤◌, IfOk};
 ghost use Rattle.maid_model.specs.declared.limits.TheConstants.{MOST_PLAN_CELLS};
 ghost use Rattle.size_precheck.specs.Sizes.{plan_of, CanBePlanned};
-ghost use Rattle.sum_tests.specs.Example.{node_of, example_nodes, example, states_plan, ExampleFits, HasNodeBehind};
+ghost use Rattle.sum_tests.specs.Example.{example_nodes, example, states_plan, ExampleFits};
 
 use cell_rings::{Both, Can, Cell, Gain, Mass, SmallGain, SmallMass};
 use eliminate::{Limits, release, run_plan, sum_tables};
 use factor_core::{Strip, Workspace};
-use maid_model::{Diagram, Kind, Node, Profile, literals_are_tested};
+use maid_model::{Diagram, Profile};
+use sample_diagrams::{chance, decision, sample_diagram, utility};
 use size_precheck::make_plan;
-use smallvec::SmallVec;
 use std::alloc::{AllocError, Global};
 use std::process::Abort;
 use std::test::Fail;
 
-/// These nodes and one more, of the first agent.
-fn with_node(
-    alloc: Global,
-    nodes: Vec<Node>,
-    kind: Kind,
-    states: usize,
-    parents: &[usize],
-    cells: &[i128],
-) -> Result<Vec<Node>, AllocError>
-    ensures { IfOk result (HasNodeBehind nodes.items (node_of kind states parents.now cells.now)) }
-{
-    let mut nodes = nodes;
-    let node = Node {
-        kind,
-        owner: 0,
-        more: SmallVec::new(alloc),
-        states,
-        parents: SmallVec::from_slice(alloc, parents)?,
-        cells: Vec::from_slice(alloc, cells)?,
-    };
-    nodes.push(node)?;
-    Ok(nodes)
-}
-
-fn list_nodes(alloc: Global) -> Result<Vec<Node>, AllocError>
-    ensures { IfOk result (λ nodes. nodes.items ≡ example_nodes) }
-{
-    let nodes = with_node(alloc, Vec::new(alloc), Kind::Chance, 2, &[], &[1, 2])?;
-    let nodes = with_node(alloc, nodes, Kind::Chance, 2, &[0], &[3, 1, 2, 2])?;
-    let nodes = with_node(alloc, nodes, Kind::Decision, 2, &[1], &[])?;
-    let nodes = with_node(alloc, nodes, Kind::Utility, 1, &[0, 2], &[4, 0, -1, 5])?;
-    Ok(nodes)
-}
-
+/// A hidden node of weights 1 and 2, a signal of it, a decision that sees the signal, and a utility of the hidden node
+/// and the decision.
 fn make_example(alloc: Global) -> Result<Diagram, AllocError>
     ensures { IfOk result (λ d. d ≡ example) }
 {
-    literals_are_tested();
-    let nodes = list_nodes(alloc)?;
-    Ok(Diagram::from_nodes(nodes, 1, 0))
+    let nodes = [
+        chance(2, &[], &[1, 2]),
+        chance(2, &[0], &[3, 1, 2, 2]),
+        decision(0, 2, &[1]),
+        utility(0, &[0, 2], &[4, 0, -1, 5]),
+    ];
+    sample_diagram(alloc, &nodes, 1, 0)
 }
 
 /// What the plan gives under uniform rules in a workspace of exactly its cells: the second of two runs, with a release

@@ -4,39 +4,22 @@ ghost use Rattle.std.specs.Prelude.{◌≡◌, ◌+◌, ◌*◌, ◌<◌, ◌≤
 ghost use Rattle.maid_model.specs.Nodes.{counts_of};
 ghost use Rattle.node_sets.specs.Sets.{IsIn};
 ghost use Rattle.factor_core.specs.Scopes.{united};
-ghost use Rattle.sum_tests.specs.Trials.{coins_diagram, IsSmall, Grows, AllStaySmall, coin_with};
+ghost use Rattle.sum_tests.specs.Trials.{coins_diagram, IsSmall, Grows, AllStaySmall};
 
 use cell_rings::{Both, Can, Cell, Gain, Mass};
 use factor_core::{Slot, StateCounts, Strip, Workspace};
-use maid_model::{Diagram, Kind, Node, Profile, literals_are_tested};
-use smallvec::SmallVec;
+use maid_model::{Diagram, Profile};
+use sample_diagrams::{chance, sample_diagram};
 use std::alloc::{AllocError, Global};
 use std::process::Abort;
 use std::test::Fail;
-
-/// A chance node of two states.
-fn coin(alloc: Global, cells: &[i128]) -> Result<Node, AllocError>
-    ensures { IfOk result (λ n. n ≡ coin_with cells.now) }
-{
-    Ok(Node {
-        kind: Kind::Chance,
-        owner: 0,
-        more: SmallVec::new(alloc),
-        states: 2,
-        parents: SmallVec::new(alloc),
-        cells: Vec::from_slice(alloc, cells)?,
-    })
-}
 
 /// Two coins, of weights 2 and 3 and of weights 5 and 7.
 fn coins(alloc: Global) -> Result<Diagram, AllocError>
     ensures { IfOk result (λ d. d ≡ coins_diagram) }
 {
-    literals_are_tested();
-    let mut nodes = Vec::new(alloc);
-    nodes.push(coin(alloc, &[2, 3])?)?;
-    nodes.push(coin(alloc, &[5, 7])?)?;
-    Ok(Diagram::from_nodes(nodes, 1, 0))
+    let nodes = [chance(2, &[], &[2, 3]), chance(2, &[], &[5, 7])];
+    sample_diagram(alloc, &nodes, 1, 0)
 }
 
 fn first<C: Cell>(

@@ -1,38 +1,21 @@
 -- The diagram that reports and lines are of: a decision with two states and a utility, both of one agent.
-use Rattle.std.specs.Prelude.{ℕ, ℤ, List, [], ◌∷◌, codes, pos}
-use Rattle.maid_model.specs.declared.diagrams.Kind.{Kind}
-use Rattle.maid_model.specs.declared.diagrams.Kind.TheVariants.{Decision, Utility}
-use Rattle.maid_model.specs.Views.{NodeView, DiagramView}
+use Rattle.std.specs.Borrow.{Bor}
+use Rattle.std.specs.Global.{Vec}
+use Rattle.std.specs.Prelude.{◌≡◌, ℕ, List, [], ◌∷◌, codes, map, pos}
+use Rattle.maid_model.specs.Views.{DiagramView, diagram_of}
 use Rattle.maid_model.specs.Names.{NamesView}
+use Rattle.sample_diagrams.specs.Nodes.{decision_node, utility_node}
 
--- a node of the agent 0 alone
-abbrev pub node_of_one : Kind → ℕ → List ℕ → List ℤ → NodeView
-node_of_one kind states parents cells = record {
-  kind = kind;
-  owner = 0;
-  more = [];
-  states = states;
-  parents = parents;
-  cells = cells;
-}
+-- the list has copies of these words
+abbrev pub AreWords : List (Bor (List ℕ)) → Vec (Vec ℕ) → Type 0
+AreWords words list = map (λ word. word.items) list.items ≡ map (λ word. word.now) words
 
-abbrev pub tie_decision : NodeView
-tie_decision =
-    record { kind = Decision; owner = 0; more = []; states = 2; parents = []; cells = [] }
-
-abbrev pub tie_utility : NodeView
-tie_utility = record {
-  kind = Utility;
-  owner = 0;
-  more = [];
-  states = 1;
-  parents = 0 ∷ [];
-  cells = pos 5 ∷ pos 5 ∷ [];
-}
-
+-- both states of the decision are worth 5
 abbrev pub tie_diagram : DiagramView
-tie_diagram = record { nodes = tie_decision ∷ tie_utility ∷ []; agents = 1; decimals = 0 }
+tie_diagram =
+    diagram_of (decision_node 0 2 [] ∷ utility_node 0 (0 ∷ []) (pos 5 ∷ pos 5 ∷ []) ∷ []) 1 0
 
+-- the names in that diagram
 abbrev pub tie_names : NamesView
 tie_names = record {
   nodes = codes "D" ∷ codes "U" ∷ [];

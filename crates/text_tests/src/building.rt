@@ -4,7 +4,7 @@ ghost use Rattle.std.specs.Prelude.{IfOk};
 ghost use Rattle.maid_model.specs.Names.{NamesFit};
 
 use maid_model::{Diagram, Kind};
-use net_build::{BuildFault, BuildKind, Names, build};
+use net_build::{BuildFault, Names, build};
 use net_lexer::lex;
 use net_parser::parse;
 use std::alloc::Global;
@@ -28,16 +28,22 @@ fn built(alloc: Global, text: &str) -> Result<(Diagram, Names), Fail>
     Ok(build(alloc, text, &tokens, &syntax)?)
 }
 
-// The text's fault.
-fn refused(alloc: Global, text: &str) -> Result<(usize, BuildKind), Fail> {
+// The text's fault and its place.
+fn fault_of(alloc: Global, text: &str) -> Result<String, Fail> {
     let text = text.as_bytes();
     let tokens = lex(alloc, text)?;
     let syntax = parse(alloc, text, &tokens)?;
     match build(alloc, text, &tokens, &syntax) {
         Ok(_) => Err("it has a diagram".into()),
         Err(BuildFault::NoMemory) => Err("no memory".into()),
-        Err(BuildFault::Fault { at, kind }) => Ok((at, kind)),
+        Err(BuildFault::Fault { at, kind }) => Ok(format!(in alloc; "{kind} at {at}")?),
     }
+}
+
+// Whether the text has that fault.
+fn has_fault(alloc: Global, text: &str, fault: &str) -> Result<bool, Fail> {
+    let found = fault_of(alloc, text)?;
+    Ok(found.as_str() == fault)
 }
 
 // Whether the node has these parents and cells.
@@ -80,38 +86,42 @@ fn rows_are_in_proportion(rt: HostRuntime) -> Result<(), Fail> {
     Ok(())
 }
 
+// Each row has a text, and its fault.
+const FAULTS: [(&str, &str); 7] = [
+    (
+        "node A { states = (\"x\" \"y\"); } potential (A) { data = (0 0); }",
+        "zero row at 55",
+    ),
+    (
+        "node A { states = (\"x\" \"y\"); } potential (A) { data = (1 1 1); }",
+        "wrong count: want 2 got 3 at 47",
+    ),
+    (
+        "utility U { } potential (U) { data = (1e38); }",
+        "number too long at 38",
+    ),
+    (
+        "utility U { } utility V { } utility W { } potential (V) { data = (8e37); } potential (U) { data = (7e37); } potential (W) { data = (0.5); }",
+        "wide value at 66",
+    ),
+    (
+        "node A { states = (\"x\"); } node B { states = (\"x\"); } potential (A | B) { data = (1); } potential (B | A) { data = (1); }",
+        "graph cycle at 5",
+    ),
+    (
+        "node A { states = (\"a\"); } node A { states = (\"a\"); }",
+        "double name at 32",
+    ),
+    (
+        "decision D { states = (\"a\"); states = 5; }",
+        "double attribute at 29",
+    ),
+];
+
 #[test]
 fn texts_have_their_fault(rt: HostRuntime) -> Result<(), Fail> {
-    let zero = "node A { states = (\"x\" \"y\"); } potential (A) { data = (0 0); }";
-    assert!(rt; matches!(refused(rt.alloc(), zero)?, (55, BuildKind::ZeroRow)));
-    let count = "node A { states = (\"x\" \"y\"); } potential (A) { data = (1 1 1); }";
-    assert!(rt;
-        matches!(
-            refused(rt.alloc(), count)?,
-            (47, BuildKind::WrongCount { want: 2, got: 3 })
-        )
-    );
-    let long = "utility U { } potential (U) { data = (1e38); }";
-    assert!(rt; matches!(refused(rt.alloc(), long)?, (38, BuildKind::NumberTooLong)));
-    let wide =
-        "utility U { } utility V { } utility W { } potential (V) { data = (8e37); } potential (U) { data = (7e37); } potential (W) { data = (0.5); }";
-    assert!(rt; matches!(refused(rt.alloc(), wide)?, (66, BuildKind::WideValue)));
-    let ring =
-        "node A { states = (\"x\"); } node B { states = (\"x\"); } potential (A | B) { data = (1); } potential (B | A) { data = (1); }";
-    assert!(rt;
-        matches!(
-            refused(rt.alloc(), ring)?,
-            (5, BuildKind::GraphCycle { list: _ })
-        )
-    );
-    let twice = "node A { states = (\"a\"); } node A { states = (\"a\"); }";
-    assert!(rt; matches!(refused(rt.alloc(), twice)?, (32, BuildKind::DoubleName)));
-    let again = "decision D { states = (\"a\"); states = 5; }";
-    assert!(rt;
-        matches!(
-            refused(rt.alloc(), again)?,
-            (29, BuildKind::DoubleAttribute)
-        )
-    );
+    for (text, fault) in FAULTS {
+        assert!(rt; has_fault(rt.alloc(), text, fault)?, "{text}");
+    }
     Ok(())
 }

@@ -1,6 +1,6 @@
 //! Tests of `app_lines`: places in a small text, lines of short lists, and generated texts.
 
-use crate::samples::{tie_diagram, tie_names};
+use crate::samples::{list_words, tie_diagram, tie_names};
 use app_lines::{choice_lines, demo_text, gain_lines, place};
 use maid_model::{Answer, Names, Ratio, Row};
 use std::test::Fail;
@@ -21,9 +21,7 @@ fn lines_and_columns(rt: HostRuntime) {
 #[test]
 fn an_agent_a_line(rt: HostRuntime) -> Result<(), Fail> {
     let alloc = rt.alloc();
-    let mut agents = Vec::new(alloc);
-    agents.push(Vec::from_slice(alloc, b"A")?)?;
-    agents.push(Vec::from_slice(alloc, b"\"B\"")?)?;
+    let agents = list_words(alloc, &[b"A", b"\"B\""])?;
     let names = Names::from_lists(Vec::new(alloc), Vec::new(alloc), agents);
     let gains = [Ratio { num: -3, den: 1 }, Ratio { num: 5, den: 4 }];
     let text = gain_lines(alloc, &names, &gains)?;

@@ -2,10 +2,10 @@
 
 ghost use Rattle.std.specs.Prelude.{◌≡◌, ◌<◌, ◌%◌, ◌^◌, IfOk, length, true, unsigned_abs};
 ghost use Rattle.net_lexer.specs.Numerals.{is_numeral};
-ghost use Rattle.text_tests.specs.Numbers.{chance_of, choice, utility_of, weights_if, values_if, others_if};
+ghost use Rattle.text_tests.specs.Numbers.{two_parts, weights_if, values_if, others_if};
 
-use maid_model::{Diagram, Kind, Node, literals_are_tested};
-use smallvec::SmallVec;
+use maid_model::Diagram;
+use sample_diagrams::{chance, decision, sample_diagram, shared_utility, utility};
 use std::alloc::{AllocError, Global};
 use std::test::Fail;
 use weight_scale::{
@@ -189,53 +189,6 @@ fn rows_have_their_weights(rt: HostRuntime) {
     );
 }
 
-// A chance node of one state.
-fn chance(alloc: Global, cells: &[i128]) -> Result<Node, AllocError>
-    ensures { IfOk result (λ n. n ≡ chance_of cells.now) }
-{
-    Ok(Node {
-        kind: Kind::Chance,
-        owner: 0,
-        more: SmallVec::new(alloc),
-        states: 1,
-        parents: SmallVec::new(alloc),
-        cells: Vec::from_slice(alloc, cells)?,
-    })
-}
-
-// A decision of two states, of the first agent.
-fn choice(alloc: Global) -> Node
-    ensures { result ≡ choice }
-{
-    Node {
-        kind: Kind::Decision,
-        owner: 0,
-        more: SmallVec::new(alloc),
-        states: 2,
-        parents: SmallVec::new(alloc),
-        cells: Vec::new(alloc),
-    }
-}
-
-fn utility(
-    alloc: Global,
-    owner: usize,
-    more: &[usize],
-    parents: &[usize],
-    cells: &[i128],
-) -> Result<Node, AllocError>
-    ensures { IfOk result (λ n. n ≡ utility_of owner more.now parents.now cells.now) }
-{
-    Ok(Node {
-        kind: Kind::Utility,
-        owner,
-        more: SmallVec::from_slice(alloc, more)?,
-        states: 1,
-        parents: SmallVec::from_slice(alloc, parents)?,
-        cells: Vec::from_slice(alloc, cells)?,
-    })
-}
-
 // 2^125 or 2^100
 fn weights(wide: bool) -> &'static [i128]
     ensures { result.now ≡ weights_if wide }
@@ -266,15 +219,17 @@ fn others(shared: bool) -> &'static [usize]
 
 // A choice of the first agent, a chance node and a utility over both, which the second agent may share; and beside them
 // a chance node of 2^100 and a utility of the second agent over it.
-fn two_parts(alloc: Global, wide: bool, dear: bool, shared: bool) -> Result<Diagram, AllocError> {
-    literals_are_tested();
-    let mut nodes = Vec::new(alloc);
-    nodes.push(choice(alloc))?;
-    nodes.push(chance(alloc, weights(wide))?)?;
-    nodes.push(utility(alloc, 0, others(shared), &[0, 1], values(dear))?)?;
-    nodes.push(chance(alloc, weights(false))?)?;
-    nodes.push(utility(alloc, 1, &[], &[3], &[1])?)?;
-    Ok(Diagram::from_nodes(nodes, 2, 0))
+fn two_parts(alloc: Global, wide: bool, dear: bool, shared: bool) -> Result<Diagram, AllocError>
+    ensures { IfOk result (λ d. d ≡ two_parts wide dear shared) }
+{
+    let nodes = [
+        decision(0, 2, &[]),
+        chance(1, &[], weights(wide)),
+        shared_utility(0, others(shared), &[0, 1], values(dear)),
+        chance(1, &[], weights(false)),
+        utility(1, &[3], &[1]),
+    ];
+    sample_diagram(alloc, &nodes, 2, 0)
 }
 
 #[test]
@@ -300,17 +255,12 @@ fn each_scope_has_its_bound(rt: HostRuntime) -> Result<(), Fail> {
 
 #[test]
 fn an_agent_without_a_utility_keeps_the_bound(rt: HostRuntime) -> Result<(), Fail> {
-    literals_are_tested();
     let alloc = rt.alloc();
-    let empty = Diagram::from_nodes(Vec::new(alloc), 1, 0);
+    let empty = sample_diagram(alloc, &[], 1, 0)?;
     assert_eq!(rt; bound(&empty), BoundPlace::Within);
-    let mut nodes = Vec::new(alloc);
-    nodes.push(chance(alloc, &[GREATEST])?)?;
-    let certain = Diagram::from_nodes(nodes, 1, 1);
+    let certain = sample_diagram(alloc, &[chance(1, &[], &[GREATEST])], 1, 1)?;
     assert_eq!(rt; bound(&certain), BoundPlace::Within);
-    let mut nodes = Vec::new(alloc);
-    nodes.push(utility(alloc, 0, &[], &[], &[-GREATEST])?)?;
-    let one = Diagram::from_nodes(nodes, 1, 30);
+    let one = sample_diagram(alloc, &[utility(0, &[], &[-GREATEST])], 1, 30)?;
     assert_eq!(rt; bound(&one), BoundPlace::Within);
     Ok(())
 }
