@@ -7,7 +7,7 @@ use Rattle.maid_model.specs.declared.answers.Ratio.{Ratio}
 use Rattle.maid_model.specs.Answers.{IsFraction}
 use Rattle.maid_model.specs.Values.{IsDifference}
 use Rattle.finite_sums.proofs.Ints.{zero_mul, mul_one, add_mul, products}
-use Rattle.arc_laws.specs.Worths.{nought}
+use Rattle.arc_laws.specs.Worths.{nought_ratio}
 use Rattle.maid_laws.proofs.Best.{cancel_le}
 use Rattle.maid_laws.proofs.Fractions.{fraction_of, one_fraction, same_fraction, cancel}
 use Rattle.maid_laws.proofs.Signs.{product_not_negative}
@@ -80,9 +80,9 @@ one_difference r s a b ha hb h k =
     same_fraction r s (a.num *ℤ pos b.den -ℤ b.num *ℤ pos a.den) (a.num *ℤ pos b.den -ℤ b.num *ℤ pos a.den) (a.den * b.den) (a.den * b.den) (mul-pos ha hb) (mul-pos ha hb) (as_fraction r a b h) (as_fraction s a b k) refl
 
 -- it is nought where they are one
-pub no_difference : (r a b : Ratio) → 0 < a.den → 0 < b.den → IsDifference r a b → a ≡ b → r ≡ nought
+pub no_difference : (r a b : Ratio) → 0 < a.den → 0 < b.den → IsDifference r a b → a ≡ b → r ≡ nought_ratio
 no_difference r a b ha hb h e =
-    one_fraction r nought h.reduced (record { positive = omega arith; coprime = (one-dvd 0, dvd_refl 1, λ d p q. q) })
+    one_fraction r nought_ratio h.reduced (record { positive = omega arith; coprime = (one-dvd 0, dvd_refl 1, λ d p q. q) })
     (mul_one r.num ∙ num_zero ∙ sym (zero_mul (pos r.den)))
   where
     none : (x y : ℤ) → x ≡ y → x -ℤ y ≡ pos 0

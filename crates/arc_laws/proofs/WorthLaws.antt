@@ -8,7 +8,7 @@ use Rattle.maid_model.specs.Tables.{HasChanceTables}
 use Rattle.maid_model.specs.Values.{IsOptimum, IsDifference, IsDifferenceOfOptima}
 use Rattle.maid_model.specs.Views.{NodeView}
 use Rattle.arc_laws.specs.Arcs.{CanGet}
-use Rattle.arc_laws.specs.Worths.{nought, ValueExists, OneValue, SeenValue, UnseenValue, ControlValue}
+use Rattle.arc_laws.specs.Worths.{nought_ratio, ValueExists, OneDifference, SeenValue, UnseenValue, ControlValue}
 use Rattle.arc_laws.proofs.ArcLaws.{kept_law, less_law, as_much_law, lifts, shorten}
 use Rattle.arc_laws.proofs.ControlLaws.{kept_as_decision, more_law, same_control_law}
 use Rattle.arc_laws.proofs.Differences.{difference_of, one_difference, not_below, no_difference}
@@ -38,7 +38,7 @@ module _ (nodes others : List NodeView) (g : IsGraph nodes) (c : HasChanceTables
       (not_above others nodes agent h d g c more decimals v.less v.more v.is_less v.is_more)
 
   -- where the optima are one
-  pub value_nought : (decimals agent : ℕ) (r : Ratio) → ((a : Ratio) → IsOptimum nodes decimals agent a → IsOptimum others decimals agent a) → IsDifferenceOfOptima nodes others decimals agent r → r ≡ nought
+  pub value_nought : (decimals agent : ℕ) (r : Ratio) → ((a : Ratio) → IsOptimum nodes decimals agent a → IsOptimum others decimals agent a) → IsDifferenceOfOptima nodes others decimals agent r → r ≡ nought_ratio
   value_nought decimals agent r same v =
       no_difference r v.more v.less v.is_more.worth.reduced.positive v.is_less.worth.reduced.positive v.difference
       (one_law others decimals agent v.more v.less h d (same v.more v.is_more) v.is_less)
@@ -47,7 +47,7 @@ module _ (nodes others : List NodeView) (g : IsGraph nodes) (c : HasChanceTables
 pub exists_value_law : ValueExists
 exists_value_law nodes others decimals agent g c h d owns own = value_exists nodes others g c h d decimals agent owns own
 
-pub one_value_law : OneValue
+pub one_value_law : OneDifference
 one_value_law nodes others decimals agent r s g c h d v w = one_value nodes others g c h d decimals agent r s v w
 
 -- an arc that is there

@@ -1,11 +1,11 @@
 //! Laws of information and control values.
 
-ghost use Rattle.arc_laws.specs.Worths.{ValueExists, OneValue, SeenValue, UnseenValue, ControlValue, OneAgentDiagram, AnswerIsOptimum};
+ghost use Rattle.arc_laws.specs.Worths.{ValueExists, OneDifference, SeenValue, UnseenValue, ControlValue, OneAgentDiagram, AnswerIsOptimum};
 
 /// Two diagrams in which one agent owns all decisions differ in worth to it by one fraction.
 pub fn one_value()
     ensures exists { ValueExists }
-    ensures one { OneValue }
+    ensures one { OneDifference }
 {}
 
 /// Information is not worth less than nothing, and nothing where the arc is not requisite.

@@ -7,7 +7,7 @@ use Rattle.node_sets.specs.declared.sets.NodeSet.{NodeSet}
 use Rattle.node_sets.specs.Sets.{IsIn, room, Adds}
 use Rattle.node_sets.proofs.Growing.{first_more}
 use Rattle.bayes_ball.specs.Flow.{Way, Up, Down, Flows, Begin, Forward, Back, Bounce, IsClosed}
-use Rattle.bayes_ball.specs.Spread.{IsMarked, IsSpread, LiveArc, LeadsDown, LeadsUp, HearsAll, TellsAll, ClosedInto}
+use Rattle.bayes_ball.specs.Spread.{IsMarked, IsSpread, LiveArc, LeadsDown, LeadsUp, HearsAll, TellsAll, ClosedBothInto}
 
 -- what spreads from marks that spread from the start
 pub flows_again : {Arc : ℕ → ℕ → Type 0} {Given : ℕ → Type 0} {Start Next : Way → ℕ → Type 0} {w : Way} {v : ℕ} →
@@ -122,7 +122,7 @@ closed_from nodes given d u h = record {
 
 -- closed into one node more
 pub closed_more : (nodes : List NodeView) (given d u : NodeSet) (P : ℕ → Type 0) (v : ℕ) (Q : ℕ → Type 0) → ((x : ℕ) → Q x → (x ≡ v → ⊥) → P x) →
-    ClosedInto nodes given P d u → ClosedInto nodes given (λ x. x ≡ v) d u → ClosedInto nodes given Q d u
+    ClosedBothInto nodes given P d u → ClosedBothInto nodes given (λ x. x ≡ v) d u → ClosedBothInto nodes given Q d u
 closed_more nodes given d u P v Q f h k x q = elim (cases_eq x v) as (λ _. HearsAll nodes given x d u × TellsAll nodes given x d u) [
   | inl e ↦ k x e
   | inr n ↦ h x (f x q n)
@@ -130,7 +130,7 @@ closed_more nodes given d u P v Q f h k x q = elim (cases_eq x v) as (λ _. Hear
 
 -- a sweep that changes nothing leaves closed marks
 pub closed_after : (nodes : List NodeView) (given d u d' u' : NodeSet) (c : Bool) →
-    IsSpread (LiveArc nodes) (IsIn given) (ClosedInto nodes given (λ x. x < length nodes)) d u d' u' c → c ≡ false → IsClosed (LiveArc nodes) (IsIn given) (IsMarked d' u')
+    IsSpread (LiveArc nodes) (IsIn given) (ClosedBothInto nodes given (λ x. x < length nodes)) d u d' u' c → c ≡ false → IsClosed (LiveArc nodes) (IsIn given) (IsMarked d' u')
 closed_after nodes given d u d' u' c h e =
     let s = h.steady e in
     closed_from nodes given d' u' (λ v. (

@@ -44,8 +44,8 @@ abbrev pub TellsAll : List NodeView → NodeSet → ℕ → NodeSet → NodeSet 
 TellsAll nodes given v down up = (p : ℕ) → LiveArc nodes p v → LeadsUp given down up v → IsIn up p
 
 -- both hold of each node of a set
-abbrev pub ClosedInto : List NodeView → NodeSet → (ℕ → Type 0) → NodeSet → NodeSet → Type 0
-ClosedInto nodes given Set down up =
+abbrev pub ClosedBothInto : List NodeView → NodeSet → (ℕ → Type 0) → NodeSet → NodeSet → Type 0
+ClosedBothInto nodes given Set down up =
     (v : ℕ) → Set v → HearsAll nodes given v down up × TellsAll nodes given v down up
 
 -- one step: marks grow by the rules alone, and where nothing changes they have the property Done
@@ -70,17 +70,17 @@ IsTelling nodes given v down up down' up' changed =
     IsSpread (LiveArc nodes) (IsIn given) (TellsAll nodes given v) down up down' up' changed
 
 -- the arcs into v were followed once, in both directions
-abbrev pub IsVisit :
+abbrev pub IsBallVisit :
     List NodeView → NodeSet → ℕ → NodeSet → NodeSet → NodeSet → NodeSet → Bool → Type 0
-IsVisit nodes given v down up down' up' changed =
-    IsSpread (LiveArc nodes) (IsIn given) (ClosedInto nodes given (λ x. x ≡ v)) down up down' up'
+IsBallVisit nodes given v down up down' up' changed =
+    IsSpread (LiveArc nodes) (IsIn given) (ClosedBothInto nodes given (λ x. x ≡ v)) down up down' up'
     changed
 
 -- all arcs were followed once, in both directions
-abbrev pub IsSweep :
+abbrev pub IsBallSweep :
     List NodeView → NodeSet → NodeSet → NodeSet → NodeSet → NodeSet → Bool → Type 0
-IsSweep nodes given down up down' up' changed =
-    IsSpread (LiveArc nodes) (IsIn given) (ClosedInto nodes given (λ x. x < length nodes)) down up
+IsBallSweep nodes given down up down' up' changed =
+    IsSpread (LiveArc nodes) (IsIn given) (ClosedBothInto nodes given (λ x. x < length nodes)) down up
     down' up' changed
 
 -- the mark spreads from these marks by the rules

@@ -6,7 +6,7 @@ ghost use Rattle.maid_model.specs.Relevance.{IsLive};
 ghost use Rattle.node_sets.specs.declared.sets.TheConstants.{MOST_NODES};
 ghost use Rattle.node_sets.specs.Sets.{Adds, room};
 ghost use Rattle.bayes_ball.specs.Flow.{Way};
-ghost use Rattle.bayes_ball.specs.Spread.{LiveArc, IsMarked, LeadsDown, LeadsUp, HearsParent, AreClosed, FlowAllFrom, IsHearing, IsSweep, IsTelling, IsVisit};
+ghost use Rattle.bayes_ball.specs.Spread.{LiveArc, IsMarked, LeadsDown, LeadsUp, HearsParent, AreClosed, FlowAllFrom, IsHearing, IsBallSweep, IsTelling, IsBallVisit};
 
 use crate::graph::is_live;
 use maid_model::Diagram;
@@ -91,7 +91,7 @@ fn tell(diagram: &Diagram, v: usize, given: &NodeSet, down: &NodeSet, up: &mut N
 fn visit(diagram: &Diagram, v: usize, given: &NodeSet, down: &mut NodeSet, up: &mut NodeSet) -> bool
     requires small { v < MOST_NODES }
     requires within { v < length diagram.now.nodes }
-    ensures { IsVisit diagram.now.nodes given.now v down.old up.old down.new up.new result }
+    ensures { IsBallVisit diagram.now.nodes given.now v down.old up.old down.new up.new result }
 {
     if !is_live(diagram, v) {
         return false;
@@ -103,7 +103,7 @@ fn visit(diagram: &Diagram, v: usize, given: &NodeSet, down: &mut NodeSet, up: &
 
 /// Follows every arc once, nodes from first to last.
 fn sweep_on(diagram: &Diagram, given: &NodeSet, down: &mut NodeSet, up: &mut NodeSet) -> bool
-    ensures { IsSweep diagram.now.nodes given.now down.old up.old down.new up.new result }
+    ensures { IsBallSweep diagram.now.nodes given.now down.old up.old down.new up.new result }
 {
     let mut changed = false;
     for v in 0..diagram.count() {
@@ -114,7 +114,7 @@ fn sweep_on(diagram: &Diagram, given: &NodeSet, down: &mut NodeSet, up: &mut Nod
 
 /// Follows every arc once, nodes from last to first.
 fn sweep_back(diagram: &Diagram, given: &NodeSet, down: &mut NodeSet, up: &mut NodeSet) -> bool
-    ensures { IsSweep diagram.now.nodes given.now down.old up.old down.new up.new result }
+    ensures { IsBallSweep diagram.now.nodes given.now down.old up.old down.new up.new result }
 {
     let mut changed = false;
     for v in (0..diagram.count()).rev() {

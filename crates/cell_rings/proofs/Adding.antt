@@ -3,7 +3,7 @@ use Rattle.std.proofs.Common.{◌≡◌, ℕ, zero, suc, ◌+◌, ◌*◌, ◌<�
 use Rattle.std.proofs.Math.Nat.{mul-le-mul_right}
 use Rattle.std.proofs.Math.ListN.{get_or-map}
 use Rattle.cell_rings.specs.Rings.{Ring, IsRing, IsSize, mass_ring}
-use Rattle.cell_rings.specs.Sums.{ring_sum, cell_at, product_from, sizes_of, ProductFits, Adds, HasRoom}
+use Rattle.cell_rings.specs.Sums.{ring_sum, cell_at, product_from, sizes_of, ProductFits, AddsCells, HasRoom}
 
 -- sums of numbers grow with their length and with their terms
 pub nat_sum_le : (n : ℕ) (f g : ℕ → ℕ) → ((i : ℕ) → i < n → f i ≤ g i) → ring_sum mass_ring n f ≤ ring_sum mass_ring n g
@@ -26,10 +26,10 @@ nat_sum_one_more s n f h =
     subst (λ k. ring_sum mass_ring s f + f s ≤ ring_sum mass_ring k f) (let e : suc s + (n - suc s) ≡ n = omega arith in e) g
 
 module _ {C : Type 0} {r : Ring C} (laws : IsRing r) (sizes : IsSize r r.size) where
-  pub adds_none : (xs : List C) → Adds r (λ p. r.nought) xs xs
+  pub adds_none : (xs : List C) → AddsCells r (λ p. r.nought) xs xs
   adds_none xs = record { each = λ p. sym (laws.plus_nought (cell_at r xs p)) }
 
-  pub adds_then : (f g : ℕ → C) (xs ys zs : List C) → Adds r f xs ys → Adds r g ys zs → Adds r (λ p. r.plus (f p) (g p)) xs zs
+  pub adds_then : (f g : ℕ → C) (xs ys zs : List C) → AddsCells r f xs ys → AddsCells r g ys zs → AddsCells r (λ p. r.plus (f p) (g p)) xs zs
   adds_then f g xs ys zs a b =
       record { each = λ p. b.each p ∙ ap (λ c. r.plus c (g p)) (a.each p) ∙ laws.plus_assoc (cell_at r xs p) (f p) (g p) }
 
@@ -52,7 +52,7 @@ module _ {C : Type 0} {r : Ring C} (laws : IsRing r) (sizes : IsSize r r.size) w
       omega (arith, sizes.times x (cell_at r cells p)))
 
   -- room for one part more, after the parts before it
-  pub room_for_next : (n s : ℕ) (f : ℕ → ℕ → C) (g : ℕ → ℕ → ℕ) (xs ys : List C) → s < n → ((i p : ℕ) → r.size (f i p) ≤ g i p) → HasRoom r xs (λ p. ring_sum mass_ring n (λ i. g i p)) → Adds r (λ p. ring_sum r s (λ i. f i p)) xs ys → HasRoom r ys (g s)
+  pub room_for_next : (n s : ℕ) (f : ℕ → ℕ → C) (g : ℕ → ℕ → ℕ) (xs ys : List C) → s < n → ((i p : ℕ) → r.size (f i p) ≤ g i p) → HasRoom r xs (λ p. ring_sum mass_ring n (λ i. g i p)) → AddsCells r (λ p. ring_sum r s (λ i. f i p)) xs ys → HasRoom r ys (g s)
   room_for_next n s f g xs ys h le room adds = record {
     each = λ p.
         let is = ap r.size (adds.each p) in

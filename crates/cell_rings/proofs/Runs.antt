@@ -4,7 +4,7 @@ use Rattle.std.proofs.lemmas.List.{get_or-set_same, get_or-set_other}
 use Rattle.std.proofs.lemmas.Bool.Decides.{nat_tests}
 use Rattle.std.proofs.lemmas.Bool.{cases_eq}
 use Rattle.cell_rings.specs.Rings.{Ring, IsRing, IsSize, mass_ring}
-use Rattle.cell_rings.specs.Sums.{cell_at, run_sum, Adds, HasRoom}
+use Rattle.cell_rings.specs.Sums.{cell_at, run_sum, AddsCells, HasRoom}
 use Rattle.cell_rings.proofs.Adding.{adds_none, adds_then, room_for_next}
 
 -- a choice at a place that is the one, or another
@@ -16,7 +16,7 @@ not_chosen p k x y e = grind (arith, nat_tests)
 
 module _ {C : Type 0} {r : Ring C} (laws : IsRing r) (sizes : IsSize r r.size) where
   -- a cell written with c added to it
-  pub put_adds : (xs : List C) (k : ℕ) (y c : C) → k < length xs → y ≡ r.plus (cell_at r xs k) c → Adds r (λ p. cond (p == k) c r.nought) xs (set xs k y)
+  pub put_adds : (xs : List C) (k : ℕ) (y c : C) → k < length xs → y ≡ r.plus (cell_at r xs k) c → AddsCells r (λ p. cond (p == k) c r.nought) xs (set xs k y)
   put_adds xs k y c h e = record {
     each = λ p.
         elim (cases_eq p k) [
@@ -37,18 +37,18 @@ module _ {C : Type 0} {r : Ring C} (laws : IsRing r) (sizes : IsSize r r.size) w
     size_if false i = omega (arith, sizes.nought)
 
     -- room for the next cell of the run
-    pub run_room : (i : ℕ) (now : List C) → i < n → Adds r (run_sum r i at f) xs now → r.size (cell_at r now (at + i)) + g i ≤ r.most
+    pub run_room : (i : ℕ) (now : List C) → i < n → AddsCells r (run_sum r i at f) xs now → r.size (cell_at r now (at + i)) + g i ≤ r.most
     run_room i now h adds =
         let next : HasRoom r now (λ p. cond (p == at + i) (g i) 0) = room_for_next laws sizes n i (λ i p. cond (p == at + i) (f i) r.nought) (λ i p. cond (p == at + i) (g i) 0) xs now h (λ i p. size_if (p == at + i) i) room adds in
         omega (arith, next.each (at + i), chosen (at + i) (at + i) (g i) 0 refl)
 
     -- the next cell of the run
-    pub run_step : (i : ℕ) (now : List C) (y : C) → at + i < length now → y ≡ r.plus (cell_at r now (at + i)) (f i) → Adds r (run_sum r i at f) xs now → Adds r (run_sum r (i + 1) at f) xs (set now (at + i) y)
+    pub run_step : (i : ℕ) (now : List C) (y : C) → at + i < length now → y ≡ r.plus (cell_at r now (at + i)) (f i) → AddsCells r (run_sum r i at f) xs now → AddsCells r (run_sum r (i + 1) at f) xs (set now (at + i) y)
     run_step i now y h e adds =
         let both = adds_then laws sizes (run_sum r i at f) (λ p. cond (p == at + i) (f i) r.nought) xs now (set now (at + i) y) adds (put_adds now (at + i) y (f i) h e) in
-        subst (λ k. Adds r (run_sum r k at f) xs (set now (at + i) y)) (let one : suc i ≡ i + 1 = omega arith in one) both
+        subst (λ k. AddsCells r (run_sum r k at f) xs (set now (at + i) y)) (let one : suc i ≡ i + 1 = omega arith in one) both
 
-    pub run_begun : Adds r (run_sum r 0 at f) xs xs
+    pub run_begun : AddsCells r (run_sum r 0 at f) xs xs
     run_begun = adds_none laws sizes xs
 
   -- two products added fit where their sizes do

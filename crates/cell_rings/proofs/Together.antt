@@ -2,7 +2,7 @@
 use Rattle.std.proofs.Common.{◌≡◌, ℕ, zero, suc, ◌+◌, ◌*◌, ◌≤◌, List, refl, sym, ap, ◌∙◌, arith, cond, Bool, true, false, ◌==◌}
 use Rattle.cell_rings.specs.Rings.{Ring, IsRing, IsSize, mass_ring}
 use Rattle.cell_rings.specs.RingLaws.{mass_is_ring, mass_sized}
-use Rattle.cell_rings.specs.Sums.{ring_sum, cell_at, run_sum, two_scaled, two_sizes, four_scaled, four_sizes, Adds, HasRoom}
+use Rattle.cell_rings.specs.Sums.{ring_sum, cell_at, run_sum, two_scaled, two_sizes, four_scaled, four_sizes, AddsCells, HasRoom}
 use Rattle.cell_rings.specs.declared.pairs.Pair.{Pair}
 use Rattle.cell_rings.proofs.Adding.{nat_sum_le, size_sum, adds_then}
 use Rattle.cell_rings.proofs.Runs.{two_le}
@@ -55,7 +55,7 @@ module _ {C : Type 0} {r : Ring C} (laws : IsRing r) (sizes : IsSize r r.size) w
     }
 
     -- and for the second when the first is added
-    pub room_then : (ys : List C) → Adds r (run_sum r n at f) xs ys → HasRoom r ys (run_sum mass_ring n at h)
+    pub room_then : (ys : List C) → AddsCells r (run_sum r n at f) xs ys → HasRoom r ys (run_sum mass_ring n at h)
     room_then ys adds = record {
       each = λ p.
           let both = run_sum_plus mass_is_ring mass_sized n at p g h in
@@ -64,7 +64,7 @@ module _ {C : Type 0} {r : Ring C} (laws : IsRing r) (sizes : IsSize r r.size) w
     }
 
     -- then both are added
-    pub both_added : (ys zs : List C) → Adds r (run_sum r n at f) xs ys → Adds r (run_sum r n at k) ys zs → Adds r (run_sum r n at (λ i. r.plus (f i) (k i))) xs zs
+    pub both_added : (ys zs : List C) → AddsCells r (run_sum r n at f) xs ys → AddsCells r (run_sum r n at k) ys zs → AddsCells r (run_sum r n at (λ i. r.plus (f i) (k i))) xs zs
     both_added ys zs one other =
         let then = adds_then laws sizes (run_sum r n at f) (run_sum r n at k) xs ys zs one other in
         record { each = λ p. then.each p ∙ ap (r.plus (cell_at r xs p)) (sym (run_sum_plus laws sizes n at p f k)) }

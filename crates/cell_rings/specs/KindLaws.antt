@@ -2,7 +2,7 @@
 -- them.
 use Rattle.std.proofs.Common.{refl, ap}
 use Rattle.cell_rings.specs.Rings.{Pair, IsRing, IsSize, IsMap, mass_ring, gain_ring, can_ring, both_ring}
-use Rattle.cell_rings.specs.Kinds.{mass_of, mass_kind, gain_of, gain_kind, can_of, can_kind, both_of, both_kind, pair_in, small_mass_of, small_mass_kind, small_gain_of, small_gain_kind}
+use Rattle.cell_rings.specs.Kinds.{mass_of, mass_kind, as_gain, gain_kind, can_of, can_kind, both_of, both_kind, pair_in, small_mass_of, small_mass_kind, small_gain_of, small_gain_kind}
 pub use Rattle.cell_rings.specs.RingLaws.{at_most_itself, pair_of_weight, one_at_most, value_at_most, pair_of_value, can_of_weight, most_has_room, small_has_room}
 use Rattle.cell_rings.specs.RingLaws.{mass_is_ring, gain_is_ring, can_is_ring, both_is_ring, mass_sized, gain_sized, can_sized, both_sized}
 use Rattle.cell_rings.specs.declared.boths.Both.{Both}
@@ -31,13 +31,13 @@ mass_map = record { nought = refl; unit = refl; plus = λ a b. refl; times = λ 
 
 pub gain_laws : IsRing gain_kind
 gain_laws = record {
-  plus_assoc = λ a b c. ap gain_of (gain_is_ring.plus_assoc a.0 b.0 c.0);
-  plus_comm = λ a b. ap gain_of (gain_is_ring.plus_comm a.0 b.0);
-  plus_nought = λ a. ap gain_of (gain_is_ring.plus_nought a.0);
-  times_assoc = λ a b c. ap gain_of (gain_is_ring.times_assoc a.0 b.0 c.0);
-  times_comm = λ a b. ap gain_of (gain_is_ring.times_comm a.0 b.0);
-  times_unit = λ a. ap gain_of (gain_is_ring.times_unit a.0);
-  times_plus = λ a b c. ap gain_of (gain_is_ring.times_plus a.0 b.0 c.0);
+  plus_assoc = λ a b c. ap as_gain (gain_is_ring.plus_assoc a.0 b.0 c.0);
+  plus_comm = λ a b. ap as_gain (gain_is_ring.plus_comm a.0 b.0);
+  plus_nought = λ a. ap as_gain (gain_is_ring.plus_nought a.0);
+  times_assoc = λ a b c. ap as_gain (gain_is_ring.times_assoc a.0 b.0 c.0);
+  times_comm = λ a b. ap as_gain (gain_is_ring.times_comm a.0 b.0);
+  times_unit = λ a. ap as_gain (gain_is_ring.times_unit a.0);
+  times_plus = λ a b c. ap as_gain (gain_is_ring.times_plus a.0 b.0 c.0);
 }
 
 pub gain_sizes : IsSize gain_kind gain_kind.size

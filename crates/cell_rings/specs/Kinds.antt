@@ -24,16 +24,16 @@ mass_kind = record {
 }
 
 -- the gain of a whole number with a sign
-abbrev pub gain_of : ℤ → Gain
-gain_of z = record { 0 = z }
+abbrev pub as_gain : ℤ → Gain
+as_gain z = record { 0 = z }
 
 -- whole numbers with a sign
 abbrev pub gain_kind : Ring Gain
 gain_kind = record {
-  nought = gain_of (pos 0);
-  unit = gain_of (pos 1);
-  plus = λ a b. gain_of (a.0 +ℤ b.0);
-  times = λ a b. gain_of (a.0 *ℤ b.0);
+  nought = as_gain (pos 0);
+  unit = as_gain (pos 1);
+  plus = λ a b. as_gain (a.0 +ℤ b.0);
+  times = λ a b. as_gain (a.0 *ℤ b.0);
   size = λ a. gain_size a.0;
   most = most_size;
 }

@@ -95,7 +95,7 @@ IsNarrowPair r bits narrow cells pair n =
     IsNarrowRun r bits narrow cells pair.from n × IsNarrowRun r bits narrow cells pair.beside n
 
 -- the new list has f added to the old one, cell by cell
-pub record Adds {C : Type 0} (r : Ring C) (f : ℕ → C) (old new : List C) : Type 0 where
+pub record AddsCells {C : Type 0} (r : Ring C) (f : ℕ → C) (old new : List C) : Type 0 where
   pub each : (p : ℕ) → cell_at r new p ≡ r.plus (cell_at r old p) (f p)
 
 -- there is room to add cells of these sizes
@@ -110,7 +110,7 @@ HasRoomForOne r factor out at n cells from =
 -- these are added to them
 abbrev pub AddsOne : {C : Type 0} → Ring C → C → List C → List C → ℕ → ℕ → List C → ℕ → Type 0
 AddsOne r factor old new at n cells from =
-    Adds r (run_sum r n at (one_scaled r factor cells from)) old new
+    AddsCells r (run_sum r n at (one_scaled r factor cells from)) old new
 
 -- there is room in n cells from `at` on for those of two runs, each times its factor, whose size is `size`
 abbrev pub HasRoomForTwo :
@@ -121,7 +121,7 @@ HasRoomForTwo r size out at n cells pair =
 -- these are added to them; a factor is the cell that `of` makes of it
 abbrev pub AddsTwo :
     {C F : Type 0} → Ring C → (F → C) → List C → List C → ℕ → ℕ → List C → Pair F → Type 0
-AddsTwo r of old new at n cells pair = Adds r (run_sum r n at (two_scaled r of cells pair)) old new
+AddsTwo r of old new at n cells pair = AddsCells r (run_sum r n at (two_scaled r of cells pair)) old new
 
 -- there is room in n cells from `at` on for those of two pairs of runs, each times its factor
 abbrev pub HasRoomForFour :
@@ -133,4 +133,4 @@ HasRoomForFour r size out at n cells one other =
 abbrev pub AddsFour : {C F : Type 0} → Ring C → (F → C) → List C → List C → ℕ → ℕ → List C
     → Pair F → Pair F → Type 0
 AddsFour r of old new at n cells one other =
-    Adds r (run_sum r n at (four_scaled r of cells one other)) old new
+    AddsCells r (run_sum r n at (four_scaled r of cells one other)) old new

@@ -1,7 +1,7 @@
 -- Cells whose bits are few. Only private contracts cite this file.
 use Rattle.std.specs.Prelude.{ℕ, ℤ, pos, nat_abs, ◌+◌, ◌^◌, ◌<◌, ◌+ℤ◌, ◌*ℤ◌, List}
 use Rattle.std.specs.Int.{w64, w128, cast_unsigned, int_wrap}
-use Rattle.cell_rings.specs.Kinds.{small_gain_kind, gain_kind, gain_of}
+use Rattle.cell_rings.specs.Kinds.{small_gain_kind, gain_kind, as_gain}
 use Rattle.cell_rings.specs.Sums.{cell_at}
 use Rattle.cell_rings.specs.declared.gains.Gain.{Gain}
 use Rattle.cell_rings.specs.declared.gains.Split.{Split}
@@ -31,7 +31,7 @@ AreWordPair cells pair n = AreWords cells pair.from n × AreWords cells pair.bes
 
 -- the cell that a number in one word makes
 abbrev pub of_word : Word → Gain
-of_word a = gain_of a.value
+of_word a = as_gain a.value
 
 -- the size of a number in one word: its absolute value
 abbrev pub word_size : Word → ℕ

@@ -5,7 +5,7 @@ ghost use Rattle.std.specs.Int.{cast_unsigned};
 ghost use Rattle.cell_rings.specs.Sums.{two_scaled, two_sizes, AddsFour, AddsTwo, AreWithin, HasRoomForFour, HasRoomForTwo};
 ghost use Rattle.cell_rings.specs.Words.{whole, of_word, word_size, word_pair, AreWords, AreWordPair, FitsWord};
 ghost use Rattle.cell_rings.specs.KindLaws.{most_has_room, gain_laws, gain_sizes, at_most_itself, value_at_most};
-ghost use Rattle.cell_rings.specs.Kinds.{gain_kind, gain_of};
+ghost use Rattle.cell_rings.specs.Kinds.{gain_kind, as_gain};
 
 use crate::cells::Cell;
 use crate::pairs::Pair;
@@ -17,9 +17,9 @@ pub struct Gain(pub i128);
 impl Cell for Gain {
     ghost ring = { gain_kind };
 
-    ghost of_weight = { λ w. gain_of (pos w) };
+    ghost of_weight = { λ w. as_gain (pos w) };
 
-    ghost of_value = { gain_of };
+    ghost of_value = { as_gain };
 
     ghost bits = { λ a. nat_abs a.0 };
 
@@ -140,7 +140,7 @@ fn add_two_short(out: &mut [Gain], at: usize, n: usize, pair: Pair<u64>, cells: 
     requires out { at + n ≤ length out.old }
     requires cells { AreWithin cells.now pair n }
     requires room { HasRoomForTwo gain_kind (λ f. f) out.old at n cells.now pair }
-    ensures { AddsTwo gain_kind (λ f. gain_of (pos f)) out.old out.new at n cells.now pair }
+    ensures { AddsTwo gain_kind (λ f. as_gain (pos f)) out.old out.new at n cells.now pair }
 {
     for i in 0..n {
         let both = short_product(pair.first, cells[pair.from + i]).add(short_product(
@@ -196,7 +196,7 @@ fn add_two_split(out: &mut [Gain], at: usize, n: usize, pair: Pair<Split>, cells
     requires cells { AreWithin cells.now pair n }
     requires narrow { AreWordPair cells.now pair n }
     requires room { HasRoomForTwo gain_kind (λ f. nat_abs (whole f)) out.old at n cells.now pair }
-    ensures { AddsTwo gain_kind (λ f. gain_of (whole f)) out.old out.new at n cells.now pair }
+    ensures { AddsTwo gain_kind (λ f. as_gain (whole f)) out.old out.new at n cells.now pair }
 {
     for i in 0..n {
         let both = split_product(pair.first, cells[pair.from + i]).add(split_product(
@@ -210,7 +210,7 @@ fn add_two_split(out: &mut [Gain], at: usize, n: usize, pair: Pair<Split>, cells
 /// The product with a number below 2^64.
 fn short_product(a: u64, b: Gain) -> Gain
     requires { a * nat_abs b.0 ≤ 2 ^ 127 - 1 }
-    ensures { result ≡ gain_of (pos a *ℤ b.0) }
+    ensures { result ≡ as_gain (pos a *ℤ b.0) }
 {
     Gain(short_times(a, b.0.cast_unsigned()).cast_signed())
 }
@@ -307,7 +307,7 @@ fn word_sum(pair: Pair<Word>, cells: &[Gain], i: usize) -> Gain
 fn word_product(a: Word, b: Gain) -> Gain
     requires word { FitsWord b }
     requires room { nat_abs a.value * nat_abs b.0 ≤ 2 ^ 127 - 1 }
-    ensures { result ≡ gain_of (a.value *ℤ b.0) }
+    ensures { result ≡ as_gain (a.value *ℤ b.0) }
 {
     Gain((a.value as i128).wrapping_mul(b.0 as i64 as i128))
 }
@@ -336,7 +336,7 @@ fn in_words(a: Gain) -> Split
 fn split_product(a: Split, b: Gain) -> Gain
     requires word { FitsWord b }
     requires room { nat_abs (whole a) * nat_abs b.0 ≤ 2 ^ 127 - 1 }
-    ensures { result ≡ gain_of (whole a *ℤ b.0) }
+    ensures { result ≡ as_gain (whole a *ℤ b.0) }
 {
     let b = b.0 as i64 as i128;
     let low = (a.low as i128).wrapping_mul(b);

@@ -12,9 +12,9 @@ use Rattle.diagram_graph.specs.Room.{IsTooLargeAsDecision}
 use Rattle.first_fault.specs.Outcomes.{◌▸▸◌, gives}
 use Rattle.first_fault.specs.Passes.{Pass, ◌▸◌, rule}
 use Rattle.optimum_gap.specs.Baselines.{alone}
-use Rattle.optimum_gap.specs.Found.{Reason, TooLarge, Worthless, found_of, solving, unless, worth_of}
+use Rattle.optimum_gap.specs.Found.{Reason, TooLarge, Worthless, found_of, reason_pass, unless, worth_of}
 use Rattle.control_incentive.specs.declared.lines.ControlLine.{ControlLine}
-use Rattle.control_incentive.specs.Paths.{IsInstrumental, LeadsTo}
+use Rattle.control_incentive.specs.Paths.{IsInstrumental, LeadsToOwn}
 
 -- the chance nodes, in text order
 abbrev pub chance_nodes : List NodeView → List ℕ
@@ -29,11 +29,11 @@ controlling d agent x = with_nodes d (as_decision d.nodes agent x)
 abbrev pub of_control : DiagramView → ℕ → ℕ → Type 0 → Pass Reason
 of_control d agent x Matters = unless Matters Worthless
     ▸ rule (IsTooLargeAsDecision d.nodes agent x) TooLarge
-    ▸ solving (controlling d agent x)
+    ▸ reason_pass (controlling d agent x)
 
 -- a line's node
-abbrev pub node_of : ControlLine → ℕ
-node_of line = line.node
+abbrev pub line_node : ControlLine → ℕ
+line_node line = line.node
 
 -- A line says whether in the trimmed diagram a path leads from the node to a decision of the agent, whether one leads
 -- from such a decision through the node to a utility of the agent, and what is found of its control:
@@ -42,11 +42,11 @@ node_of line = line.node
 pub record IsControlLine
     (d : DiagramView) (answers : List AnswerView) (agent : ℕ) (trimmed : List NodeView)
     (line : ControlLine) : Type 0 where
-  pub response : IsTrue line.response ↔ LeadsTo trimmed Decision agent line.node
+  pub response : IsTrue line.response ↔ LeadsToOwn trimmed Decision agent line.node
   pub instrumental :
       IsTrue line.instrumental ↔ IsInstrumental (one_agent d.nodes agent answers) agent line.node
   pub found : (of_control (alone d answers agent) agent line.node
-      (LeadsTo trimmed Utility agent line.node)
+      (LeadsToOwn trimmed Utility agent line.node)
       ▸▸ gives (IsValueOfControl d.nodes d.decimals answers agent line.node))
       (found_of line.found)
 
@@ -68,7 +68,7 @@ TellIncentives d solved agent lines = AreControlLines d solved.answers agent lin
 
 -- a line for each chance node
 abbrev pub HasChanceNodes : List NodeView → List ControlLine → Type 0
-HasChanceNodes nodes lines = map node_of lines ≡ chance_nodes nodes
+HasChanceNodes nodes lines = map line_node lines ≡ chance_nodes nodes
 
 -- the worth that a line tells is the control value, and not below nought; a worthless line tells of two equal optima
 abbrev pub TellsControl : DiagramView → List AnswerView → ℕ → ControlLine → Type 0

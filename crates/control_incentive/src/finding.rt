@@ -6,7 +6,7 @@ ghost use Rattle.maid_model.specs.Nodes.{node_at};
 ghost use Rattle.optimum_gap.specs.Baselines.{HoldsBaseline};
 ghost use Rattle.rule_solver.specs.Kept.{IsKeptDiagram};
 ghost use Rattle.rule_solver.specs.Rooms.{AreLeft};
-ghost use Rattle.control_incentive.specs.Steps.{IsFoundOf};
+ghost use Rattle.control_incentive.specs.Steps.{IsControlFoundOf};
 
 use diagram_graph::{MakeFault, make_decision};
 use optimum_gap::{Baseline, Found, edits_keep_scopes};
@@ -28,7 +28,7 @@ pub(crate) fn find(
     requires kept { IfSome kept (λ known. IsKeptDiagram baseline.now.diagram.now.nodes known.now) }
     requires left { AreLeft left.old }
     requires chance { (node_at baseline.now.diagram.now.nodes node).kind ≡ Chance }
-    ensures found { IfOk result (IsFoundOf baseline.now node matters) }
+    ensures found { IfOk result (IsControlFoundOf baseline.now node matters) }
     ensures left { AreLeft left.new }
 {
     edits_keep_scopes();

@@ -8,8 +8,8 @@ ghost use Rattle.maid_model.specs.Scopes.{KeepsScopedBounds};
 ghost use Rattle.optimum_gap.specs.Baselines.{HoldsBaseline};
 ghost use Rattle.rule_solver.specs.Kept.{IsKeptDiagram};
 ghost use Rattle.rule_solver.specs.Rooms.{AreLeft};
-ghost use Rattle.control_incentive.specs.Lines.{HasChanceNodes, TellControls, TellIncentives, chance_nodes, node_of};
-ghost use Rattle.control_incentive.specs.Steps.{AreChanceNodes, AreLinesOf, IsKeptIfSome, IsLineAlone};
+ghost use Rattle.control_incentive.specs.Lines.{HasChanceNodes, TellControls, TellIncentives, chance_nodes, line_node};
+ghost use Rattle.control_incentive.specs.Steps.{AreChanceNodes, AreControlLinesOf, IsControlLineOf, IsKeptIfSome};
 
 use crate::finding::find;
 use crate::paths::Paths;
@@ -88,7 +88,7 @@ fn control_line(
     requires chance { (node_at baseline.now.diagram.now.nodes node).kind ≡ Chance }
     requires within { node < length baseline.now.diagram.now.nodes }
     ensures node { IfOk result (λ line. line.node ≡ node) }
-    ensures line { IfOk result (IsLineAlone baseline.now.diagram.now baseline.now.agent paths.now) }
+    ensures line { IfOk result (IsControlLineOf baseline.now paths.now) }
     ensures left { AreLeft left.new }
 {
     let _count = baseline.diagram.count();
@@ -116,8 +116,8 @@ fn control_lines(
     requires kept { IfSome kept (λ known. IsKeptDiagram baseline.now.diagram.now.nodes known.now) }
     requires chance { AreChanceNodes baseline.now.diagram.now.nodes nodes.now }
     requires within { All (λ v. v < length baseline.now.diagram.now.nodes) nodes.now }
-    ensures nodes { IfOk result (λ lines. map node_of lines.items ≡ nodes.now) }
-    ensures lines { IfOk result (λ lines. AreLinesOf baseline.now paths.now lines.items) }
+    ensures nodes { IfOk result (λ lines. map line_node lines.items ≡ nodes.now) }
+    ensures lines { IfOk result (λ lines. AreControlLinesOf baseline.now paths.now lines.items) }
 {
     let mut lines = Vec::with_capacity(alloc, nodes.len())?;
     let mut left = None;

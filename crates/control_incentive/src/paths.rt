@@ -3,7 +3,7 @@
 ghost use Rattle.std.specs.Prelude.{◌↔◌, ◌<◌, ℕ, IsTrue, length};
 ghost use Rattle.maid_model.specs.declared.diagrams.Kind.TheVariants.{Decision, Utility};
 ghost use Rattle.node_sets.specs.Sets.{IsIn};
-ghost use Rattle.control_incentive.specs.Paths.{IsOf, LeadsFrom, LeadsTo};
+ghost use Rattle.control_incentive.specs.Paths.{IsOf, LeadsFromOwn, LeadsToOwn};
 ghost use Rattle.control_incentive.specs.Steps.{HasPaths};
 
 use maid_model::{Diagram, Kind};
@@ -32,14 +32,14 @@ fn nodes_of(diagram: &Diagram, kind: Kind, agent: usize) -> NodeSet
 
 /// The nodes from which a path leads to such a node of the agent.
 fn leading_to(diagram: &Diagram, kind: Kind, agent: usize) -> NodeSet
-    ensures { (v : ℕ) → IsIn result v ↔ LeadsTo diagram.now.nodes kind agent v }
+    ensures { (v : ℕ) → IsIn result v ↔ LeadsToOwn diagram.now.nodes kind agent v }
 {
     ancestors(diagram, nodes_of(diagram, kind, agent))
 }
 
 /// The nodes to which a path leads from such a node of the agent.
 fn led_from(diagram: &Diagram, kind: Kind, agent: usize) -> NodeSet
-    ensures { (v : ℕ) → IsIn result v ↔ LeadsFrom diagram.now.nodes kind agent v }
+    ensures { (v : ℕ) → IsIn result v ↔ LeadsFromOwn diagram.now.nodes kind agent v }
 {
     descendants(diagram, nodes_of(diagram, kind, agent))
 }

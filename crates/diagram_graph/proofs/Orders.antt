@@ -8,7 +8,7 @@ use Rattle.maid_model.specs.Views.{NodeView}
 use Rattle.maid_model.specs.Nodes.{no_node}
 use Rattle.maid_model.specs.Graph.{Arc, IsPath, Here, Along, IsAcyclic}
 use Rattle.maid_model.specs.Placing.{Remains, CanPlace, IsPlacing, IsOrder}
-use Rattle.diagram_graph.specs.Needs.{IsIn, needs_of, NeedsItem}
+use Rattle.diagram_graph.specs.Needs.{IsMarkedIn, needs_of, NeedsItem}
 use Rattle.diagram_graph.specs.Rounds.{IsFirstCycle, IsRingOfNeeds}
 use Rattle.diagram_graph.proofs.Placings.{least_same}
 use Rattle.diagram_graph.proofs.Trails.{round_same}
@@ -16,10 +16,10 @@ use Rattle.diagram_graph.proofs.Rings.{order_acyclic, ring_descends}
 use Rattle.node_sets.proofs.Turning.{path_turn}
 
 -- all are in the set
-pub all_in : (n : ℕ) (marks : List Bool) → marks ≡ replicate n true → (v : ℕ) → IsIn marks v ↔ (v < n)
-all_in n marks e v = subst (λ (xs : List Bool). IsIn xs v ↔ (v < n)) (sym e) (both n v)
+pub all_in : (n : ℕ) (marks : List Bool) → marks ≡ replicate n true → (v : ℕ) → IsMarkedIn marks v ↔ (v < n)
+all_in n marks e v = subst (λ (xs : List Bool). IsMarkedIn xs v ↔ (v < n)) (sym e) (both n v)
   where
-    both : (n v : ℕ) → IsIn (replicate n true) v ↔ (v < n)
+    both : (n v : ℕ) → IsMarkedIn (replicate n true) v ↔ (v < n)
     both zero v = ((λ m. absurd (false≢true m)), (λ l. absurd (omega arith)))
     both (suc n) zero = ((λ _. omega arith), (λ _. refl))
     both (suc n) (suc v) = let h = both n v in ((λ m. let l = h.0 m in omega arith), (λ l. h.1 (omega arith)))

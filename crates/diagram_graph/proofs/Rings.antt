@@ -6,7 +6,7 @@ use Rattle.std.proofs.lemmas.List.{get_or-take, get_or-drop, length-take-le, len
 use Rattle.maid_model.specs.Placing.{IsPlacing}
 use Rattle.maid_model.specs.Graph.{IsPath, Here, Along, Descends}
 use Rattle.std.specs.Prelude.{Bool}
-use Rattle.diagram_graph.specs.Needs.{IsIn, NeedsItem}
+use Rattle.diagram_graph.specs.Needs.{IsMarkedIn, NeedsItem}
 use Rattle.diagram_graph.specs.Free.{NeedsItems}
 use Rattle.diagram_graph.specs.Placed.{IsCycleOf}
 use Rattle.diagram_graph.specs.Rounds.{IsFirstLeft, IsListedRound, IsFirstCycle, IsRingOfNeeds}
@@ -78,16 +78,16 @@ ring_needed : (Needs : ℕ → ℕ → Type 0) (ring : List ℕ) → IsRingOfNee
 ring_needed Needs ring h zero l = (get_or ring (length ring - 1) 0, h.closes)
 ring_needed Needs ring h (suc k) l = (get_or ring k 0, subst (λ i. Needs (get_or ring k 0) (get_or ring i 0)) (omega arith) (h.next k (omega arith)))
 
-pub cycle_of : (lists : List (List ℕ)) (items : List Bool) (cycle : List ℕ) → NeedsItems lists items → IsFirstCycle (IsIn items) lists cycle → IsCycleOf lists items cycle
+pub cycle_of : (lists : List (List ℕ)) (items : List Bool) (cycle : List ℕ) → NeedsItems lists items → IsFirstCycle (IsMarkedIn items) lists cycle → IsCycleOf lists items cycle
 cycle_of lists items cycle needs h =
     let ring = round_ring _ lists cycle h.round in
-    let all : (v : ℕ) → Contains cycle v → IsIn items v = λ v c.
+    let all : (v : ℕ) → Contains cycle v → IsMarkedIn items v = λ v c.
     let n = ring_needed (NeedsItem lists) cycle ring c.0 c.1 in
-    subst (λ x. IsIn items x) (get_or_default cycle c.0 0 v c.1 ∙ c.2) (needs n.0 (get_or cycle c.0 0) n.1) in
+    subst (λ x. IsMarkedIn items x) (get_or_default cycle c.0 0 v c.1 ∙ c.2) (needs n.0 (get_or cycle c.0 0) n.1) in
     record {
       first = h;
       ring = ring;
       all_items = all;
-      no_order = λ order o. order_acyclic (IsIn items) (NeedsItem lists) order o.placing (get_or cycle 0 0)
+      no_order = λ order o. order_acyclic (IsMarkedIn items) (NeedsItem lists) order o.placing (get_or cycle 0 0)
           (o.complete (get_or cycle 0 0) (all (get_or cycle 0 0) (Contains-get_or cycle 0 0 ring.some))) (ring_descends (NeedsItem lists) cycle ring);
     }

@@ -26,7 +26,7 @@ pub record RulesFit (nodes : List NodeView) (d : ℕ) : Type 0 where
   pub all : rule_cells nodes ≤ MOST_RULE_CELLS
 
 -- the arc from x to d is not there and closes no cycle, but makes too much of the rules
-pub record IsTooLarge (nodes : List NodeView) (x d : ℕ) : Type 0 where
+pub record IsArcTooLarge (nodes : List NodeView) (x d : ℕ) : Type 0 where
   pub absent : Arc nodes x d → ⊥
   pub no_cycle : IsPath (Arc nodes) d x → ⊥
   pub too_much : RulesFit (with_arc nodes x d) d → ⊥

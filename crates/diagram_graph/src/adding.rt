@@ -6,7 +6,7 @@ ghost use Rattle.maid_model.specs.Edits.{with_arc};
 ghost use Rattle.maid_model.specs.Graph.{Arc, IsPath};
 ghost use Rattle.maid_model.specs.Nodes.{IsDecision, node_at};
 ghost use Rattle.diagram_graph.specs.Edited.{ClosesCycle, IsWithNodes, with_parents};
-ghost use Rattle.diagram_graph.specs.Room.{IsTooLarge, RulesFit};
+ghost use Rattle.diagram_graph.specs.Room.{IsArcTooLarge, RulesFit};
 
 use crate::copies::{copy_nodes, with_nodes};
 use crate::room::{cells_at, rule_cells};
@@ -100,7 +100,7 @@ pub fn is_too_large(diagram: &Diagram, from: usize, to: usize) -> bool
     requires from { from < length diagram.now.nodes }
     requires absent { Arc diagram.now.nodes from to → ⊥ }
     requires no_cycle { IsPath (Arc diagram.now.nodes) to from → ⊥ }
-    ensures { IsTrue result ↔ IsTooLarge diagram.now.nodes from to }
+    ensures { IsTrue result ↔ IsArcTooLarge diagram.now.nodes from to }
 {
     !has_room(diagram, from, to)
 }
@@ -123,7 +123,7 @@ pub fn add_arc(
     ensures more { IfOk result (IsWithNodes diagram.now (with_arc diagram.now.nodes from to)) }
     ensures present { IsErrOf result AddFault.Present ↔ Arc diagram.now.nodes from to }
     ensures would_cycle { IsErrOf result AddFault.WouldCycle ↔ ClosesCycle diagram.now from to }
-    ensures too_large { IsErrOf result AddFault.TooLarge ↔ IsTooLarge diagram.now.nodes from to }
+    ensures too_large { IsErrOf result AddFault.TooLarge ↔ IsArcTooLarge diagram.now.nodes from to }
 {
     if diagram.parents(to).contains(&from) {
         return Err(AddFault::Present);

@@ -1,7 +1,7 @@
 //! Items placed one by one, each after those that it needs.
 
 ghost use Rattle.std.specs.Prelude.{◌≡◌, ℕ, ◌<◌, ◌↔◌, length, Contains, IsTrue, IfOk, OnOk};
-ghost use Rattle.diagram_graph.specs.Needs.{IsIn};
+ghost use Rattle.diagram_graph.specs.Needs.{IsMarkedIn, MarksListed};
 ghost use Rattle.diagram_graph.specs.Free.{IsFree, IsReady, NeedsWithin, NeedsItems, TellsLeast};
 ghost use Rattle.diagram_graph.specs.Placed.{IsPlacingOf, PlacesItems};
 
@@ -18,7 +18,7 @@ pub enum Placing {
 
 fn all_placed(list: &[usize], placed: &[bool]) -> bool
     requires { (e : ℕ) → Contains list.now e → e < length placed.now }
-    ensures { IsTrue result ↔ ((e : ℕ) → Contains list.now e → IsIn placed.now e) }
+    ensures { IsTrue result ↔ ((e : ℕ) → Contains list.now e → IsMarkedIn placed.now e) }
 {
     for e in list {
         if !placed[*e] {
@@ -83,9 +83,9 @@ fn place<N: Needs>(
 ) -> Result<Vec<usize>, AllocError>
     requires items_len { length items.now ≡ length (N.lists needs.now) }
     requires placed_len { length placed.old ≡ length (N.lists needs.now) }
-    requires none { (v : ℕ) → IsIn placed.old v → ⊥ }
+    requires none { (v : ℕ) → IsMarkedIn placed.old v → ⊥ }
     requires needs { NeedsWithin (N.lists needs.now) }
-    ensures marks { IfOk result (λ order. (v : ℕ) → IsIn placed.new v ↔ Contains order.items v) }
+    ensures marks { IfOk result (λ order. MarksListed placed.new order.items) }
     ensures placing { IfOk result (λ order. PlacesItems (N.lists needs.now) items.now order.items) }
     ensures stuck { OnOk result ((v : ℕ) → IsReady (N.lists needs.now) items.now placed.new v → ⊥) }
 {
@@ -105,7 +105,7 @@ fn place_in<N: Needs>(
 ) -> Result<Placing, AllocError>
     requires items_len { length items.now ≡ length (N.lists needs.now) }
     requires placed_len { length placed.old ≡ length (N.lists needs.now) }
-    requires none { (v : ℕ) → IsIn placed.old v → ⊥ }
+    requires none { (v : ℕ) → IsMarkedIn placed.old v → ⊥ }
     requires needs { NeedsItems (N.lists needs.now) items.now }
     ensures { IfOk result (λ p. IsPlacingOf (N.lists needs.now) items.now p) }
 {

@@ -12,7 +12,7 @@ use Rattle.ring_sums.specs.Tables.{Table, IsSame, with_node, without_node, sum_o
 use Rattle.ring_sums.proofs.Each.{zip_filter}
 use Rattle.ring_sums.proofs.Same.{map_filter, same_out, fits_same, holds_same, makes_scopes_at}
 use Rattle.factor_core.specs.declared.slots.Slot.{Slot}
-use Rattle.factor_core.specs.Slots.{WorkspaceView, cells_over, IsLive, table_of, tables_of}
+use Rattle.factor_core.specs.Slots.{WorkspaceView, cells_over, IsLiveSlot, table_of, tables_of}
 use Rattle.size_precheck.specs.Greedy.{holding}
 use Rattle.size_precheck.specs.Sizes.{made_cells}
 use Rattle.eliminate.specs.Limits.{step_cells}
@@ -85,7 +85,7 @@ module _ {C : Type 0} (r : Ring C) (h : IsRing r) (nodes : List NodeView) (befor
     tables = eliminate_one r (states_of nodes) v b.tables;
     spent = b.spent + cells_over nodes told.holds;
     stand = more_stands r nodes before now after b.spent slots (slots_without v slots) new b.tables (without_node v b.tables) made told b.stand
-        (all_filter (IsLive nodes now.cells) (λ s. not (holds s.scope v)) slots b.stand.live) left_same puts made_same;
+        (all_filter (IsLiveSlot nodes now.cells) (λ s. not (holds s.scope v)) slots b.stand.live) left_same puts made_same;
     leads = b.leads;
     fits = b.fits.1;
     holds = b.holds.1;

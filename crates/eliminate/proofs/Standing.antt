@@ -10,7 +10,7 @@ use Rattle.ring_sums.proofs.Each.{Each, each_of, all_of, each_append, each_map, 
 use Rattle.ring_sums.proofs.Same.{map_append}
 use Rattle.ring_sums.specs.Tables.{Table, IsSame}
 use Rattle.factor_core.specs.declared.slots.Slot.{Slot}
-use Rattle.factor_core.specs.Slots.{WorkspaceView, cells_over, IsLive, table_of, tables_of, Appends, StaysLive}
+use Rattle.factor_core.specs.Slots.{WorkspaceView, cells_over, IsLiveSlot, table_of, tables_of, Appends, StaysLive}
 use Rattle.eliminate.specs.Steps.{PutsTable, Stand}
 
 -- lists of pairs have one length
@@ -44,18 +44,18 @@ module _ {C : Type 0} (r : Ring C) (nodes : List NodeView) where
   }
 
   -- slots that stay live have the tables that they had
-  same_tables : (before after : List C) (slots : List Slot) → ((s : Slot) → IsLive nodes before s → StaysLive r nodes before after s) → Each (IsLive nodes before) slots
+  same_tables : (before after : List C) (slots : List Slot) → ((s : Slot) → IsLiveSlot nodes before s → StaysLive r nodes before after s) → Each (IsLiveSlot nodes before) slots
       → tables_of r nodes after slots ≡ tables_of r nodes before slots
   same_tables before after [] stays e = refl
   same_tables before after (s ∷ ss) stays e = (λ i. (stays s e.0).table i ∷ same_tables before after ss stays e.1 i)
 
   -- the cells of a table that was appended
-  pub cells_appended : (slot : Slot) (after : List C) (t : Table C) → IsLive nodes after slot → IsSame (states_of nodes) (table_of r nodes after slot) t → slot.len ≡ cells_over nodes t.holds
+  pub cells_appended : (slot : Slot) (after : List C) (t : Table C) → IsLiveSlot nodes after slot → IsSame (states_of nodes) (table_of r nodes after slot) t → slot.len ≡ cells_over nodes t.holds
   cells_appended slot after t live same = live.size ∙ ap (cells_over nodes) (fun_ext same.holds)
 
   -- of the slots that stand some are kept, and one is put behind them
   pub more_stands : (before now after : WorkspaceView C) (spent : ℕ) (slots kept new : List Slot) (tables left : List (Table C)) (made t : Table C)
-      → Stand r nodes before now spent slots tables → All (IsLive nodes now.cells) kept → AllZip (IsSame (states_of nodes)) (tables_of r nodes now.cells kept) left
+      → Stand r nodes before now spent slots tables → All (IsLiveSlot nodes now.cells) kept → AllZip (IsSame (states_of nodes)) (tables_of r nodes now.cells kept) left
       → PutsTable r nodes now after kept new made → IsSame (states_of nodes) made t → Stand r nodes before after (spent + cells_over nodes t.holds) new (left ++ t ∷ [])
   more_stands before now after spent slots kept new tables left made t stand live same puts is = record {
     appends = subst (λ n. Appends before after (length before.cells) (spent + n)) size (appended before now after spent puts.slot.len puts.slot.start stand.appends puts.appends.appends);
@@ -63,13 +63,13 @@ module _ {C : Type 0} (r : Ring C) (nodes : List NodeView) where
         let k = stand.stays s l in
         let m = puts.appends.stays s k.live in
         record { live = m.live; table = m.table ∙ k.table };
-    live = subst (λ (ss : List Slot). All (IsLive nodes after.cells) ss) (sym puts.slots)
-        (all_of (IsLive nodes after.cells) (kept ++ puts.slot ∷ []) (each_append (IsLive nodes after.cells) kept (puts.slot ∷ [])
-        (each_map (IsLive nodes now.cells) (IsLive nodes after.cells) (λ s l. (puts.appends.stays s l).live) kept (each_of (IsLive nodes now.cells) kept live)) (puts.appends.live, tt)));
+    live = subst (λ (ss : List Slot). All (IsLiveSlot nodes after.cells) ss) (sym puts.slots)
+        (all_of (IsLiveSlot nodes after.cells) (kept ++ puts.slot ∷ []) (each_append (IsLiveSlot nodes after.cells) kept (puts.slot ∷ [])
+        (each_map (IsLiveSlot nodes now.cells) (IsLiveSlot nodes after.cells) (λ s l. (puts.appends.stays s l).live) kept (each_of (IsLiveSlot nodes now.cells) kept live)) (puts.appends.live, tt)));
     same = subst (λ (ss : List Slot). AllZip (IsSame (states_of nodes)) (tables_of r nodes after.cells ss) (left ++ t ∷ [])) (sym puts.slots)
         (subst (λ (ts : List (Table C)). AllZip (IsSame (states_of nodes)) ts (left ++ t ∷ [])) (sym (map_append (table_of r nodes after.cells) kept (puts.slot ∷ [])))
         (zip_append (IsSame (states_of nodes)) (tables_of r nodes after.cells kept) (table_of r nodes after.cells puts.slot ∷ []) left (t ∷ [])
-        (subst (λ (ts : List (Table C)). AllZip (IsSame (states_of nodes)) ts left) (sym (same_tables now.cells after.cells kept puts.appends.stays (each_of (IsLive nodes now.cells) kept live))) same)
+        (subst (λ (ts : List (Table C)). AllZip (IsSame (states_of nodes)) ts left) (sym (same_tables now.cells after.cells kept puts.appends.stays (each_of (IsLiveSlot nodes now.cells) kept live))) same)
         (whole, tt)));
   }
     where

@@ -12,7 +12,7 @@ use Rattle.ring_sums.specs.Tables.{Table, eliminate, joined, product_of, scopes_
 use Rattle.plan_sums.specs.Plans.{Cells, PlanView, ruled_nodes, plan_sum}
 use Rattle.factor_core.specs.declared.slots.Slot.{Slot}
 use Rattle.factor_core.specs.Operations.{cells_of, first_table}
-use Rattle.factor_core.specs.Slots.{WorkspaceView, IsLive, table_of, Appends, StaysLive}
+use Rattle.factor_core.specs.Slots.{WorkspaceView, IsLiveSlot, table_of, Appends, StaysLive}
 use Rattle.size_precheck.specs.Counts.{counted_cells}
 use Rattle.size_precheck.specs.Sizes.{SizedPlan, made_cells, steps_work}
 use Rattle.eliminate.specs.declared.counts.Limits.{Limits}
@@ -40,12 +40,12 @@ pub record SumsPlan {C : Type 0}
     (c : Cells C) (nodes : List NodeView) (p : List RuleView) (made : SizedPlan)
     (before after : WorkspaceView C) (slot : Slot) : Type 0 where
   pub appends : Appends before after (length before.cells) made.size.cells
-  pub live : IsLive nodes after.cells slot
+  pub live : IsLiveSlot nodes after.cells slot
   pub scope : (v : ℕ) → IsIn slot.scope v ↔ Contains made.plan.keep v
   pub cell : (w : World) → InRange (states_of nodes) w
       → (table_of c.ring nodes after.cells slot).cell w ≡ plan_sum c nodes p made.plan w
   pub stays :
-      (s : Slot) → IsLive nodes before.cells s → StaysLive c.ring nodes before.cells after.cells s
+      (s : Slot) → IsLiveSlot nodes before.cells s → StaysLive c.ring nodes before.cells after.cells s
 
 -- ---- sums of any tables of nodes
 -- the first tables of these nodes
@@ -74,7 +74,7 @@ tables_left c nodes p vs steps =
 pub record SumsTables {C : Type 0}
     (c : Cells C) (nodes : List NodeView) (p : List RuleView) (vs steps : List ℕ)
     (after : WorkspaceView C) (slot : Slot) : Type 0 where
-  pub live : IsLive nodes after.cells slot
+  pub live : IsLiveSlot nodes after.cells slot
   pub scope : (v : ℕ) → holds slot.scope v ≡ joined (tables_left c nodes p vs steps) v
   pub cell : (w : World) → InRange (states_of nodes) w
       → (table_of c.ring nodes after.cells slot).cell w
@@ -85,7 +85,7 @@ pub record Grows {C : Type 0}
     (r : Ring C) (nodes : List NodeView) (before after : WorkspaceView C) : Type 0 where
   pub space : length after.cells + after.spare ≡ length before.cells + before.spare
   pub stays :
-      (s : Slot) → IsLive nodes before.cells s → StaysLive r nodes before.cells after.cells s
+      (s : Slot) → IsLiveSlot nodes before.cells s → StaysLive r nodes before.cells after.cells s
 
 -- the cells of all tables that the steps ask for: of the first ones, of each that a step makes, and of the last product
 abbrev pub sum_cells :

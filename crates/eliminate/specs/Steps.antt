@@ -11,7 +11,7 @@ use Rattle.ring_sums.specs.Tables.{Table, IsSame, sum_out, eliminate, scopes_of}
 use Rattle.plan_sums.specs.Plans.{Cells, PlanView, ruled_nodes}
 use Rattle.factor_core.specs.declared.slots.Slot.{Slot}
 use Rattle.factor_core.specs.Operations.{first_table, NumbersFit}
-use Rattle.factor_core.specs.Slots.{WorkspaceView, cells_over, IsLive, tables_of, Appends, AppendsTable, HasSpareForFirst, StaysLive}
+use Rattle.factor_core.specs.Slots.{WorkspaceView, cells_over, IsLiveSlot, tables_of, Appends, AppendsTable, HasSpareForFirst, StaysLive}
 use Rattle.size_precheck.specs.Sizes.{made_cells, IsMember, SizedPlan}
 use Rattle.eliminate.specs.declared.firsts.Play.{Play}
 use Rattle.eliminate.specs.declared.places.Places.{Places}
@@ -44,7 +44,7 @@ GiveWay r nodes before after old new v = PutsTable r nodes before after (slots_w
 pub record CanJoinOut {C : Type 0}
     (r : Ring C) (nodes : List NodeView) (work : WorkspaceView C) (slots : List Slot) (v : ℕ) : Type
     0 where
-  pub live : All (IsLive nodes work.cells) slots
+  pub live : All (IsLiveSlot nodes work.cells) slots
   pub some : 0 < length (slots_with v slots)
   pub fits :
       JoinFits r.size (states_of nodes) r.most v (tables_of r nodes work.cells (slots_with v slots))
@@ -56,8 +56,8 @@ pub record Stand {C : Type 0}
     (r : Ring C) (nodes : List NodeView) (before now : WorkspaceView C) (spent : ℕ)
     (slots : List Slot) (tables : List (Table C)) : Type 0 where
   pub appends : Appends before now (length before.cells) spent
-  pub stays : (s : Slot) → IsLive nodes before.cells s → StaysLive r nodes before.cells now.cells s
-  pub live : All (IsLive nodes now.cells) slots
+  pub stays : (s : Slot) → IsLiveSlot nodes before.cells s → StaysLive r nodes before.cells now.cells s
+  pub live : All (IsLiveSlot nodes now.cells) slots
   pub same : AllZip (IsSame (states_of nodes)) (tables_of r nodes now.cells slots) tables
 
 -- the nodes of a plan's first tables, in the order of these

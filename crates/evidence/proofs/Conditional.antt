@@ -24,7 +24,7 @@ use Rattle.reach_laws.specs.Evidence.{EvidenceImpossible, IsEvidence, UtilityByU
 use Rattle.weight_scale.specs.Given.{scope_given}
 use Rattle.evidence.specs.Bounds.{KeepsBoundsGiven}
 use Rattle.evidence.specs.Conditional.{HasGainsGiven, IsExpectedGiven, IsImpossible}
-use Rattle.evidence.specs.Stakes.{HasWorthsAt, IsMassAt, IsStake, chances_lacking, scope_gain, scope_mass}
+use Rattle.evidence.specs.Stakes.{HasWorthsAt, IsMassAt, IsGivenStake, chances_lacking, scope_gain_given, scope_mass_given}
 use Rattle.evidence.proofs.PlanCells.{agent_within}
 use Rattle.evidence.proofs.Within.{alone_inside, gain_whole, lacking_positive, left, left_positive, mass_whole, mass_within, worth_within}
 
@@ -65,7 +65,7 @@ module _ (d : DiagramView) (p : List RuleView) (x state : ℕ) (is : IsDiagram d
   out agent = left d.nodes x agent is.graph within p is.tables profile unit
 
   module _ (mass : ℕ) (sums : IsMassAt d.nodes p x state mass) where
-    weight_is : (agent : ℕ) → mass_given d.nodes p x state ≡ pos (out agent * scope_mass d.nodes x agent mass)
+    weight_is : (agent : ℕ) → mass_given d.nodes p x state ≡ pos (out agent * scope_mass_given d.nodes x agent mass)
     weight_is agent = mass_whole d.nodes x agent is.graph within p is.tables profile unit state mass world world_in world_at sums
 
     lacking_some : (agent : ℕ) → 0 < chances_lacking d.nodes x agent None
@@ -82,7 +82,7 @@ module _ (d : DiagramView) (p : List RuleView) (x state : ℕ) (is : IsDiagram d
             none a = omega arith
 
     pub possible_is : 0 < mass → IsImpossible d.nodes x state → ⊥
-    possible_is some never = clash (out 0 * scope_mass d.nodes x 0 mass) (mul-pos (left_positive d.nodes x 0 is.graph within p is.tables profile unit) (mul-pos some (lacking_some 0))) (sym (weight_is 0) ∙ never.each p profile)
+    possible_is some never = clash (out 0 * scope_mass_given d.nodes x 0 mass) (mul-pos (left_positive d.nodes x 0 is.graph within p is.tables profile unit) (mul-pos some (lacking_some 0))) (sym (weight_is 0) ∙ never.each p profile)
       where
         clash : (n : ℕ) → 0 < n → pos n ≡ pos 0 → ⊥
         clash n h e = omega (arith, ints, h, e)
@@ -90,7 +90,7 @@ module _ (d : DiagramView) (p : List RuleView) (x state : ℕ) (is : IsDiagram d
     module _ (worths : List ℤ) (has : HasWorthsAt d.nodes p x state worths) where
       -- ---- an agent's stake
       pub stake : (node_at d.nodes x).kind ≢ Utility → KeepsBoundsGiven d x → 0 < mass → (agent : ℕ) → agent < d.agents → (scope : NodeSet) → ((v : ℕ) → IsIn scope v ↔ Contains (scope_given d.nodes x agent) v)
-          → IsStake d x agent mass worths scope
+          → IsGivenStake d x agent mass worths scope
       stake plain keeps some agent l scope scoped = record {
         is_diagram = is;
         within = within;
@@ -104,14 +104,14 @@ module _ (d : DiagramView) (p : List RuleView) (x state : ℕ) (is : IsDiagram d
       }
 
       -- the scope's fraction is the whole's
-      pub expected_is : UtilityByUtility → 0 < mass → (agent : ℕ) (r : Ratio) → IsFraction r (scope_gain d.nodes x agent worths) (scope_mass d.nodes x agent mass * 10 ^ d.decimals) → 0 < 10 ^ d.decimals
+      pub expected_is : UtilityByUtility → 0 < mass → (agent : ℕ) (r : Ratio) → IsFraction r (scope_gain_given d.nodes x agent worths) (scope_mass_given d.nodes x agent mass * 10 ^ d.decimals) → 0 < 10 ^ d.decimals
           → IsExpectedGiven d.nodes (10 ^ d.decimals) p agent x state r
       expected_is law some agent r fraction scale =
-          fraction_like r (scope_gain d.nodes x agent worths) (gain_given d.nodes p agent x state) (scope_mass d.nodes x agent mass * 10 ^ d.decimals) (nat_abs (mass_given d.nodes p x state) * 10 ^ d.decimals)
+          fraction_like r (scope_gain_given d.nodes x agent worths) (gain_given d.nodes p agent x state) (scope_mass_given d.nodes x agent mass * 10 ^ d.decimals) (nat_abs (mass_given d.nodes p x state) * 10 ^ d.decimals)
           (mul-pos (mul-pos some (lacking_some agent)) scale) fraction
-          (ap (λ z. scope_gain d.nodes x agent worths *ℤ pos (nat_abs z * 10 ^ d.decimals)) (weight_is agent)
-          ∙ regroup (scope_gain d.nodes x agent worths) (out agent) (scope_mass d.nodes x agent mass) (10 ^ d.decimals)
-          ∙ ap (λ z. z *ℤ pos (scope_mass d.nodes x agent mass * 10 ^ d.decimals)) (sym (gain_whole d.nodes x agent is.graph within p is.tables profile unit state worths world world_in world_at has law)))
+          (ap (λ z. scope_gain_given d.nodes x agent worths *ℤ pos (nat_abs z * 10 ^ d.decimals)) (weight_is agent)
+          ∙ regroup (scope_gain_given d.nodes x agent worths) (out agent) (scope_mass_given d.nodes x agent mass) (10 ^ d.decimals)
+          ∙ ap (λ z. z *ℤ pos (scope_mass_given d.nodes x agent mass * 10 ^ d.decimals)) (sym (gain_whole d.nodes x agent is.graph within p is.tables profile unit state worths world world_in world_at has law)))
         where
           regroup : (g : ℤ) (l m s : ℕ) → g *ℤ pos (l * m * s) ≡ (pos l *ℤ g) *ℤ pos (m * s)
           regroup g l m s = ap (λ n. g *ℤ pos n) (mul_assoc l m s) ∙ apart g l (m * s)

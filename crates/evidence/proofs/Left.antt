@@ -10,11 +10,11 @@ use Rattle.node_sets.specs.declared.sets.NodeSet.{NodeSet}
 use Rattle.node_sets.specs.Sets.{IsIn}
 use Rattle.part_laws.proofs.PartSums.{and_both}
 use Rattle.evidence.specs.Sizes.{plan_given}
-use Rattle.evidence.specs.Stakes.{IsStake, chances_in, chances_lacking}
+use Rattle.evidence.specs.Stakes.{IsGivenStake, chances_in, chances_lacking}
 use Rattle.evidence.proofs.Planned.{alone, with_utility}
 use Rattle.evidence.proofs.Products.{left_product}
 
-module _ (d : DiagramView) (x agent mass : ℕ) (worths : List ℤ) (scope : NodeSet) (is : IsStake d x agent mass worths scope) where
+module _ (d : DiagramView) (x agent mass : ℕ) (worths : List ℤ) (scope : NodeSet) (is : IsGivenStake d x agent mass worths scope) where
   pub left_alone : (own planned left : NodeSet) → ((v : ℕ) → IsIn own v ↔ (v ≡ x)) → ((v : ℕ) → IsIn planned v ↔ ((to : ℕ) × IsIn own to × IsPath (Arc d.nodes) v to))
       → ((v : ℕ) → IsIn left v ↔ (IsIn scope v × (IsIn planned v → ⊥))) → chances_in d.nodes left ≡ chances_lacking d.nodes x agent None
   left_alone own planned left o a l =

@@ -25,8 +25,8 @@ use Rattle.plan_sums.specs.Plans.{PlanView, row_plan, gain_plan, worth_plan}
 use Rattle.size_precheck.specs.declared.sizes.Size.{Size}
 use Rattle.size_precheck.specs.Laws.{OneGreedyOrder, OneSize}
 use Rattle.size_precheck.specs.Sizes.{IsMade, HasSize, IsSizeOfAll, IsSizeOfRun, goal_list, greatest, is_goal, plan_cells, run_plans, utility_list}
-use Rattle.rule_solver.specs.Faults.{KeepsSizes}
-use Rattle.rule_solver.specs.Rooms.{HasAtMost, HasRoom}
+use Rattle.rule_solver.specs.Faults.{KeepsPlanLimits}
+use Rattle.rule_solver.specs.Rooms.{HasCellsAtMost, HasRoomForRun}
 use Rattle.evidence.specs.Measures.{AddsPlan, AddsUtility}
 use Rattle.evidence.specs.Plans.{HasRoomForAll}
 use Rattle.evidence.specs.Sizes.{HasRoomGiven, IsSmallEnoughGiven, plan_given, plans_given}
@@ -131,11 +131,11 @@ module _ (nodes : List NodeView) (order : List ℕ) (x : ℕ) where
 
 -- ---- the limits
 -- a diagram has one order of solving and its plans one size, so plans that keep the limits are small enough
-pub small_given : (d : DiagramView) (order : List ℕ) (x : ℕ) (size : Size) → OneSize → IsRelianceOrder d.nodes order → IsSizeOfAll d.nodes (plans_given d.nodes order x) size → KeepsSizes size → IsSmallEnoughGiven d x
+pub small_given : (d : DiagramView) (order : List ℕ) (x : ℕ) (size : Size) → OneSize → IsRelianceOrder d.nodes order → IsSizeOfAll d.nodes (plans_given d.nodes order x) size → KeepsPlanLimits size → IsSmallEnoughGiven d x
 small_given d order x size one is sized keeps other given =
     let orders : given.order ≡ order = order_one (IsDecision d.nodes) (ReliesOn d.nodes) given.order order given.is_order is in
     let same : size ≡ other = one d.nodes (plans_given d.nodes order x) size other sized (subst (λ o. IsSizeOfAll d.nodes (plans_given d.nodes o x) other) orders given.is_size) in
-    subst KeepsSizes same keeps
+    subst KeepsPlanLimits same keeps
 
 -- ---- room
 -- x is in the list
@@ -164,7 +164,7 @@ listed_flat f x v (u ∷ vs) (inr h) m = listed_right x (f u) (flat_map f vs) (l
 
 module _ (nodes : List NodeView) (one : OneGreedyOrder) where
   -- each of the plans is at most as large as the greatest, since it has one greedy order
-  plan_fits : (plans : List PlanView) (sizes : List Size) → AllZip (HasSize nodes) plans sizes → (plan : PlanView) → IsListed plan plans → HasAtMost nodes plan (greatest (map (λ (s : Size). s.cells) sizes))
+  plan_fits : (plans : List PlanView) (sizes : List Size) → AllZip (HasSize nodes) plans sizes → (plan : PlanView) → IsListed plan plans → HasCellsAtMost nodes plan (greatest (map (λ (s : Size). s.cells) sizes))
   plan_fits [] [] z plan h = absurd h
   plan_fits [] (s ∷ sizes) z plan h = absurd h
   plan_fits (p ∷ plans) [] z plan h = absurd z
@@ -184,10 +184,10 @@ module _ (nodes : List NodeView) (one : OneGreedyOrder) where
     abbrev further : List PlanView
     further = plan_given x None ∷ map (λ u. plan_given x (Some u)) (utility_list nodes)
 
-    fits : (plan : PlanView) → IsListed plan (plans_given nodes order x) → HasAtMost nodes plan size.cells
-    fits plan m = subst (HasAtMost nodes plan) (sym sized.cells) (plan_fits (plans_given nodes order x) sized.sizes sized.each plan m)
+    fits : (plan : PlanView) → IsListed plan (plans_given nodes order x) → HasCellsAtMost nodes plan size.cells
+    fits plan m = subst (HasCellsAtMost nodes plan) (sym sized.cells) (plan_fits (plans_given nodes order x) sized.sizes sized.each plan m)
 
-    further_fits : (plan : PlanView) → IsListed plan further → HasAtMost nodes plan size.cells
+    further_fits : (plan : PlanView) → IsListed plan further → HasCellsAtMost nodes plan size.cells
     further_fits plan m = fits plan (listed_right plan (run_plans nodes order) further m)
 
     room_given : HasRoomGiven nodes x size.cells
@@ -206,16 +206,16 @@ module _ (nodes : List NodeView) (one : OneGreedyOrder) where
     abbrev worths : List PlanView
     worths = map (λ u. worth_plan u) (utility_list nodes)
 
-    run_fits : (plan : PlanView) → IsListed plan (run_plans nodes order) → HasAtMost nodes plan size.cells
+    run_fits : (plan : PlanView) → IsListed plan (run_plans nodes order) → HasCellsAtMost nodes plan size.cells
     run_fits plan m = fits plan (listed_left plan (run_plans nodes order) further m)
 
-    of_rows : (plan : PlanView) → IsListed plan rows → HasAtMost nodes plan size.cells
+    of_rows : (plan : PlanView) → IsListed plan rows → HasCellsAtMost nodes plan size.cells
     of_rows plan m = run_fits plan (listed_left plan (rows ++ gains) worths (listed_left plan rows gains m))
 
-    of_gains : (plan : PlanView) → IsListed plan gains → HasAtMost nodes plan size.cells
+    of_gains : (plan : PlanView) → IsListed plan gains → HasCellsAtMost nodes plan size.cells
     of_gains plan m = run_fits plan (listed_left plan (rows ++ gains) worths (listed_right plan rows gains m))
 
-    of_worths : (plan : PlanView) → IsListed plan worths → HasAtMost nodes plan size.cells
+    of_worths : (plan : PlanView) → IsListed plan worths → HasCellsAtMost nodes plan size.cells
     of_worths plan m = run_fits plan (listed_right plan (rows ++ gains) worths m)
 
     module _ (tested : TestsDescent) (is : IsRelianceOrder nodes order) where
@@ -225,7 +225,7 @@ module _ (nodes : List NodeView) (one : OneGreedyOrder) where
       ordered : (d : ℕ) → IsDecision nodes d → Among d order
       ordered d k = among_from_contains order d (is.complete d k)
 
-      room_run : HasRoom nodes size.cells
+      room_run : HasRoomForRun nodes size.cells
       room_run = record {
         decisions = λ d k. record {
           rows = of_rows (row_plan nodes d) (listed_map (λ e. row_plan nodes e) d order (ordered d k));

@@ -24,7 +24,7 @@ use Rattle.plan_sums.specs.Plans.{in_plan}
 use Rattle.scope_sums.specs.Missing.{lacking_in}
 use Rattle.weight_scale.specs.Given.{product_given, scope_given}
 use Rattle.evidence.specs.Sizes.{plan_given}
-use Rattle.evidence.specs.Stakes.{IsStake, chances_lacking, gain_from, scope_mass}
+use Rattle.evidence.specs.Stakes.{IsGivenStake, chances_lacking, share_given, scope_mass_given}
 use Rattle.evidence.proofs.Naturals.{part_of_product, passing_sizes}
 
 -- ---- sums
@@ -99,7 +99,7 @@ pub scale_some : (k : ℕ) → 0 < 10 ^ k
 scale_some k = let ten : 0 < 10 = omega arith in one-le-pow k 10 ten
 
 -- ---- an agent
-module _ (d : DiagramView) (x agent mass : ℕ) (worths : List ℤ) (scope : NodeSet) (is : IsStake d x agent mass worths scope) where
+module _ (d : DiagramView) (x agent mass : ℕ) (worths : List ℤ) (scope : NodeSet) (is : IsGivenStake d x agent mass worths scope) where
   abbrev product : ℕ
   product = product_given d.nodes x agent
 
@@ -113,7 +113,7 @@ module _ (d : DiagramView) (x agent mass : ℕ) (worths : List ℤ) (scope : Nod
   worth_times u = slice_index_or worths u (pos 0) *ℤ pos (lacking (Some u))
 
   abbrev given_at : ℕ → ℤ
-  given_at u = gain_from d.nodes x agent worths u
+  given_at u = share_given d.nodes x agent worths u
 
   lacking_some : (utility : Option ℕ) → 0 < lacking utility
   lacking_some utility = product_positive (chance_factor d.nodes) (lacking_in d.nodes (scope_given d.nodes x agent) (plan_given x utility)) (chances_positive d.nodes is.is_diagram.tables)
@@ -138,17 +138,17 @@ module _ (d : DiagramView) (x agent mass : ℕ) (worths : List ℤ) (scope : Nod
       chain n a b h k l = omega (arith, h, k, l)
 
   -- ---- the weight
-  pub mass_positive : 0 < scope_mass d.nodes x agent mass
+  pub mass_positive : 0 < scope_mass_given d.nodes x agent mass
   mass_positive = mul-pos is.positive (lacking_some None)
 
-  pub mass_small : scope_mass d.nodes x agent mass ≤ greatest_number
+  pub mass_small : scope_mass_given d.nodes x agent mass ≤ greatest_number
   mass_small = chain _ _ is.mass_fits product_small
     where
       chain : (a b : ℕ) → a ≤ b → b ≤ greatest_number → a ≤ greatest_number
       chain a b h k = omega (arith, h, k)
 
   -- with the scale too
-  pub scaled_small : scope_mass d.nodes x agent mass * 10 ^ d.decimals ≤ greatest_number
+  pub scaled_small : scope_mass_given d.nodes x agent mass * 10 ^ d.decimals ≤ greatest_number
   scaled_small = chain _ _ _ (scaled (10 ^ d.decimals) _ _ is.mass_fits) (mul-le-mul_left product (left (10 ^ d.decimals) values)) is.bound
     where
       left : (a b : ℕ) → a ≤ max a b

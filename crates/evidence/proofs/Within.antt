@@ -43,7 +43,7 @@ use Rattle.scope_sums.proofs.Summed.{product_at, missing_is, sum_each_mul}
 use Rattle.reach_laws.specs.Evidence.{UtilityByUtility, cell_in, gain_given, mass_given}
 use Rattle.weight_scale.specs.Given.{product_given, scope_given}
 use Rattle.evidence.specs.Sizes.{plan_given}
-use Rattle.evidence.specs.Stakes.{HasWorthsAt, IsMassAt, chances_lacking, gain_from, scope_gain, scope_mass}
+use Rattle.evidence.specs.Stakes.{HasWorthsAt, IsMassAt, chances_lacking, share_given, scope_gain_given, scope_mass_given}
 use Rattle.evidence.proofs.Summed as summed
 
 -- the factor of a table, and of a rule that adds up to 1
@@ -126,7 +126,7 @@ module _ (nodes : List NodeView) (x agent : ℕ) (g : IsGraph nodes) (x_in : x <
 
     -- ---- the weight
     module _ (state mass : ℕ) (q : World) (i : InRange (states_of nodes) q) (at : q x ≡ state) (is : IsMassAt nodes p x state mass) where
-      pub mass_whole : mass_given nodes p x state ≡ pos (left * scope_mass nodes x agent mass)
+      pub mass_whole : mass_given nodes p x state ≡ pos (left * scope_mass_given nodes x agent mass)
       mass_whole =
           ap (mass_given nodes p x) (sym at)
           ∙ sym (summed.mass_is nodes p g t x x_in q i)
@@ -135,7 +135,7 @@ module _ (nodes : List NodeView) (x agent : ℕ) (g : IsGraph nodes) (x_in : x <
           regroup : (a b c : ℕ) → a * (b * c) ≡ b * (a * c)
           regroup a b c = sym (mass_is_ring.times_assoc a b c) ∙ ap (λ n. n * c) (mass_is_ring.times_comm a b) ∙ mass_is_ring.times_assoc b a c
 
-      pub mass_within : scope_mass nodes x agent mass ≤ product_given nodes x agent
+      pub mass_within : scope_mass_given nodes x agent mass ≤ product_given nodes x agent
       mass_within = le_trans (mul-le-mul sum_le (le_refl (chances_lacking nodes x agent None))) (tables_within None alone_inside)
         where
           sum_le : mass ≤ nat_product_over (weight_total nodes p) (ruled_nodes nodes (plan_given x None))
@@ -174,11 +174,11 @@ module _ (nodes : List NodeView) (x agent : ℕ) (g : IsGraph nodes) (x_in : x <
           regroup : (a : ℤ) (b c : ℕ) → a *ℤ pos (b * c) ≡ pos b *ℤ (a *ℤ pos c)
           regroup a b c = simp products
 
-      pub gain_whole : UtilityByUtility → gain_given nodes p agent x state ≡ pos left *ℤ scope_gain nodes x agent worths
+      pub gain_whole : UtilityByUtility → gain_given nodes p agent x state ≡ pos left *ℤ scope_gain_given nodes x agent worths
       gain_whole law =
           law nodes p agent x state
-          ∙ sum_each_cong (λ u. cond (is_utility_of nodes agent u) (part u) (pos 0)) (λ u. pos left *ℤ gain_from nodes x agent worths u) (numbers_of nodes) (λ u m. each u (numbered nodes u m) (is_utility_of nodes agent u) refl)
-          ∙ sym (sum_each_mul (pos left) (gain_from nodes x agent worths) (numbers_of nodes))
+          ∙ sum_each_cong (λ u. cond (is_utility_of nodes agent u) (part u) (pos 0)) (λ u. pos left *ℤ share_given nodes x agent worths u) (numbers_of nodes) (λ u m. each u (numbered nodes u m) (is_utility_of nodes agent u) refl)
+          ∙ sym (sum_each_mul (pos left) (share_given nodes x agent worths) (numbers_of nodes))
         where
           each : (u : ℕ) → u < length nodes → (b : Bool) → is_utility_of nodes agent u ≡ b → cond b (part u) (pos 0) ≡ pos left *ℤ cond b (worth u *ℤ pos (chances_lacking nodes x agent (Some u))) (pos 0)
           each u l true e = part_is u l e

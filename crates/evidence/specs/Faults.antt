@@ -48,14 +48,14 @@ further_pass d x (Some (solver.WeightBound None)) = IsPassedByUtilitiesGiven d x
 further_pass d x (Some fault) = ⊥
 
 -- all plans, the further ones too, are small enough, or their size is found
-abbrev pub size_pass : DiagramView → ℕ → Pass solver.FaultView
-size_pass d x None = IsSmallEnoughGiven d x
-size_pass d x (Some (solver.TooLarge cells work)) = IsTooLargeGiven d x cells work
-size_pass d x (Some fault) = ⊥
+abbrev pub given_size_pass : DiagramView → ℕ → Pass solver.FaultView
+given_size_pass d x None = IsSmallEnoughGiven d x
+given_size_pass d x (Some (solver.TooLarge cells work)) = IsTooLargeGiven d x cells work
+given_size_pass d x (Some fault) = ⊥
 
 -- the limits of the diagram where x is given: the further scopes stand after all others, and before the sizes
 abbrev pub limits_pass : DiagramView → ℕ → Pass solver.FaultView
-limits_pass d x = bound_pass d ▸ further_pass d x ▸ size_pass d x
+limits_pass d x = bound_pass d ▸ further_pass d x ▸ given_size_pass d x
 
 -- the stages of solving where x is given
 abbrev pub solving_pass : DiagramView → ℕ → Pass solver.FaultView

@@ -3,7 +3,7 @@ use Rattle.std.specs.Prelude.{◌≡◌, ◌≢◌, ℕ, ◌<◌, List, length, 
 use Rattle.maid_model.specs.declared.diagrams.Kind.TheVariants.{Utility}
 use Rattle.maid_model.specs.Nodes.{node_at}
 use Rattle.maid_model.specs.Views.{NodeView}
-use Rattle.rule_solver.specs.Rooms.{HasRoom}
+use Rattle.rule_solver.specs.Rooms.{HasRoomForRun}
 use Rattle.size_precheck.specs.Decisions.{ArePlans}
 use Rattle.size_precheck.specs.Sizes.{IsPlanned, SizedPlan, ArePlansOfWorths}
 use Rattle.evidence.specs.declared.measures.GivenPlans.{GivenPlans}
@@ -37,5 +37,5 @@ pub record HasFurtherPlans (nodes : List NodeView) (x : ℕ) (plans : GivenPlans
 
 -- so many cells are room for all of them
 pub record HasRoomForAll (nodes : List NodeView) (x cells : ℕ) : Type 0 where
-  pub run : HasRoom nodes cells
+  pub run : HasRoomForRun nodes cells
   pub given : HasRoomGiven nodes x cells

@@ -7,9 +7,9 @@ use Rattle.maid_model.specs.Views.{NodeView, DiagramView}
 use Rattle.plan_sums.specs.Plans.{PlanView}
 use Rattle.size_precheck.specs.declared.sizes.Size.{Size}
 use Rattle.size_precheck.specs.Sizes.{plan_of, IsSizeOfAll, run_plans, utility_list}
-use Rattle.rule_solver.specs.Faults.{KeepsSizes}
+use Rattle.rule_solver.specs.Faults.{KeepsPlanLimits}
 use Rattle.rule_solver.specs.declared.spaces.Workspaces.{Workspaces}
-use Rattle.rule_solver.specs.Rooms.{AreReady, HasAtMost}
+use Rattle.rule_solver.specs.Rooms.{AreReady, HasCellsAtMost}
 
 -- the plan that keeps x, perhaps with a utility: without one it sums to the weight of the worlds with a state at x
 abbrev pub plan_given : ℕ → Option ℕ → PlanView
@@ -35,22 +35,22 @@ pub record IsSizeGiven (d : DiagramView) (x : ℕ) (size : Size) : Type 0 where
 
 -- no plan has too many cells, and all of them together have not too much work
 abbrev pub IsSmallEnoughGiven : DiagramView → ℕ → Type 0
-IsSmallEnoughGiven d x = (size : Size) → IsSizeGiven d x size → KeepsSizes size
+IsSmallEnoughGiven d x = (size : Size) → IsSizeGiven d x size → KeepsPlanLimits size
 
 -- the plans have these cells and this work, which pass a limit
 abbrev pub IsTooLargeGiven : DiagramView → ℕ → ℕ → ℕ → Type 0
 IsTooLargeGiven d x cells work = IsSizeGiven d x (record { cells = cells; work = work })
-    × (KeepsSizes (record { cells = cells; work = work }) → ⊥)
+    × (KeepsPlanLimits (record { cells = cells; work = work }) → ⊥)
 
 -- so many cells are room for the further plans
 pub record HasRoomGiven (nodes : List NodeView) (x cells : ℕ) : Type 0 where
-  pub alone : HasAtMost nodes (plan_given x None) cells
+  pub alone : HasCellsAtMost nodes (plan_given x None) cells
   pub utilities : (u : ℕ) → u < length nodes → (node_at nodes u).kind ≡ Utility
-      → HasAtMost nodes (plan_given x (Some u)) cells
+      → HasCellsAtMost nodes (plan_given x (Some u)) cells
 
 -- the workspaces have no table, and room for the plan
 abbrev pub HasSpaceFor : List NodeView → PlanView → Workspaces → Type 0
-HasSpaceFor nodes plan spaces = (cells : ℕ) × AreReady cells spaces × HasAtMost nodes plan cells
+HasSpaceFor nodes plan spaces = (cells : ℕ) × AreReady cells spaces × HasCellsAtMost nodes plan cells
 
 -- the workspaces have no table, and room for each of the further plans
 abbrev pub HasSpace : List NodeView → ℕ → Workspaces → Type 0

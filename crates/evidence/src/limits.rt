@@ -9,9 +9,9 @@ ghost use Rattle.maid_model.specs.Diagrams.{IsDiagram};
 ghost use Rattle.maid_model.specs.Nodes.{node_at};
 ghost use Rattle.maid_model.specs.Placing.{IsRelianceOrder};
 ghost use Rattle.relevance_graph.specs.Relevant.{IsRelevance};
-ghost use Rattle.rule_solver.specs.Faults.{KeepsSizes, bound_pass, solve_fault};
+ghost use Rattle.rule_solver.specs.Faults.{KeepsPlanLimits, bound_pass, solve_fault};
 ghost use Rattle.evidence.specs.Bounds.{KeepsBoundsGiven};
-ghost use Rattle.evidence.specs.Faults.{further_pass, limits_pass, size_pass, solving_pass};
+ghost use Rattle.evidence.specs.Faults.{further_pass, limits_pass, given_size_pass, solving_pass};
 ghost use Rattle.evidence.specs.Plans.{HasFurtherPlans, HasRoomForAll, HasRunPlans};
 ghost use Rattle.evidence.specs.Sizes.{HasSpace};
 
@@ -54,7 +54,7 @@ fn keep_bound_given(diagram: &Diagram, node: usize) -> Result<(), SolveFault>
 
 /// Whether a size is within both limits.
 fn is_small(size: &Size) -> bool
-    ensures { IsTrue result ↔ KeepsSizes size.now }
+    ensures { IsTrue result ↔ KeepsPlanLimits size.now }
 {
     size.cells <= MOST_PLAN_CELLS as u128 && size.work <= MOST_WORK
 }
@@ -69,7 +69,7 @@ fn keep_sizes(
     requires order { IsRelianceOrder diagram.now.nodes order.now }
     requires within { node < length diagram.now.nodes }
     requires kind { (node_at diagram.now.nodes node).kind ≢ Utility }
-    ensures rows { Passes solve_fault (size_pass diagram.now node) result }
+    ensures rows { Passes solve_fault (given_size_pass diagram.now node) result }
     ensures plans { IfOk result (HasRunPlans diagram.now.nodes order.now) }
     ensures further { IfOk result (HasFurtherPlans diagram.now.nodes node) }
     ensures room { IfOk result (λ p. HasRoomForAll diagram.now.nodes node p.size.cells) }

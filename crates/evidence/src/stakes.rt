@@ -6,8 +6,8 @@ ghost use Rattle.maid_model.specs.Diagrams.{greatest_number};
 ghost use Rattle.maid_model.specs.Nodes.{is_utility_of};
 ghost use Rattle.maid_model.specs.Scopes.{chance_factor};
 ghost use Rattle.node_sets.specs.Sets.{holds};
-ghost use Rattle.evidence.specs.Stakes.{HoldsStake, IsFractionTo};
-ghost use Rattle.evidence.specs.Stakes.{chances_in, gain_to, gives_to, mass_to};
+ghost use Rattle.evidence.specs.Stakes.{HoldsGivenStake, IsFractionTo};
+ghost use Rattle.evidence.specs.Stakes.{chances_in, given_gain_to, given_share_of, mass_to};
 
 use maid_model::{Diagram, Kind, Ratio, descent_is_tested};
 use node_sets::{NodeSet, ancestors};
@@ -75,7 +75,7 @@ pub(crate) struct Stake<'a> {
 impl<'a> Stake<'a> {
     /// The weight of the worlds with the state in the agent's scope.
     fn mass(&self) -> u128
-        requires stake { HoldsStake self.now }
+        requires stake { HoldsGivenStake self.now }
         ensures { result ≡ mass_to self.now }
     {
         descent_is_tested();
@@ -87,10 +87,10 @@ impl<'a> Stake<'a> {
     /// What a utility gives to the agent's gain: its worth times the totals of the scope's nodes
     /// that its plan lacks.
     fn given(&self, utility: usize) -> i128
-        requires stake { HoldsStake self.now }
+        requires stake { HoldsGivenStake self.now }
         requires within { utility < length self.now.diagram.now.nodes }
         requires owned { is_utility_of self.now.diagram.now.nodes self.now.agent utility ≡ true }
-        ensures { result ≡ gives_to self.now utility }
+        ensures { result ≡ given_share_of self.now utility }
     {
         descent_is_tested();
         let mut ends = NodeSet::of(self.node);
@@ -103,9 +103,9 @@ impl<'a> Stake<'a> {
 
     /// The same of any node: 0 where it is none of the agent's utilities.
     fn given_by(&self, v: usize) -> i128
-        requires stake { HoldsStake self.now }
+        requires stake { HoldsGivenStake self.now }
         requires within { v < length self.now.diagram.now.nodes }
-        ensures { result ≡ gives_to self.now v }
+        ensures { result ≡ given_share_of self.now v }
     {
         let owned = self.diagram.owns(self.agent, v);
         match self.diagram.kind(v) {
@@ -116,8 +116,8 @@ impl<'a> Stake<'a> {
 
     /// The agent's gain over the worlds with the state in the agent's scope.
     fn gain(&self) -> i128
-        requires stake { HoldsStake self.now }
-        ensures gain { result ≡ gain_to self.now }
+        requires stake { HoldsGivenStake self.now }
+        ensures gain { result ≡ given_gain_to self.now }
         ensures small { nat_abs result ≤ greatest_number }
     {
         let mut gain = 0;
@@ -129,7 +129,7 @@ impl<'a> Stake<'a> {
 
     /// What the profile is worth to the agent where the state is given.
     pub(crate) fn expected(&self) -> Ratio
-        requires stake { HoldsStake self.now }
+        requires stake { HoldsGivenStake self.now }
         ensures { IsFractionTo self.now result }
     {
         let mass = self.mass();

@@ -11,7 +11,7 @@ ghost use Rattle.evidence.specs.Conditional.{HasAllGains};
 ghost use Rattle.evidence.specs.Faults.{given_fault, impossible_pass};
 ghost use Rattle.evidence.specs.Plans.{HasFurtherPlans, HasUtilityPlans, IsPlanIf};
 ghost use Rattle.evidence.specs.Sizes.{HasSpace, HasSpaceFor, plan_given};
-ghost use Rattle.evidence.specs.Stakes.{HasWorthsAt, IsMassAt, IsSetting, IsWorthAt, IsWorthIf};
+ghost use Rattle.evidence.specs.Stakes.{HasWorthsAt, IsMassAt, IsGivenSetting, IsWorthGivenAt, IsWorthIf};
 
 use crate::faults::GivenFault;
 use crate::measures::GivenPlans;
@@ -33,7 +33,7 @@ fn mass_at(
     plan: &Plan,
     spaces: &mut Workspaces,
 ) -> Result<u128, AllocError>
-    requires setting { IsSetting diagram.now profile.now node state }
+    requires setting { IsGivenSetting diagram.now profile.now node state }
     requires planned { IsPlanned diagram.now.nodes (plan_given node None) plan.now }
     requires ready { HasSpaceFor diagram.now.nodes (plan_given node None) spaces.old }
     ensures mass { IfOk result (IsMassAt diagram.now.nodes profile.now node state) }
@@ -56,12 +56,12 @@ fn worth_at(
     plan: &Plan,
     spaces: &mut Workspaces,
 ) -> Result<i128, AllocError>
-    requires setting { IsSetting diagram.now profile.now node state }
+    requires setting { IsGivenSetting diagram.now profile.now node state }
     requires within { utility < length diagram.now.nodes }
     requires kind { (node_at diagram.now.nodes utility).kind ≡ Utility }
     requires planned { IsPlanned diagram.now.nodes (plan_given node (Some utility)) plan.now }
     requires ready { HasSpaceFor diagram.now.nodes (plan_given node (Some utility)) spaces.old }
-    ensures worth { IfOk result (IsWorthAt diagram.now.nodes profile.now node state utility) }
+    ensures worth { IfOk result (IsWorthGivenAt diagram.now.nodes profile.now node state utility) }
     ensures again { OnOk result (spaces.new ≡ spaces.old) }
 {
     let _count = diagram.count();
@@ -79,7 +79,7 @@ fn worth_or_none(
     plan: &Option<Plan>,
     spaces: &mut Workspaces,
 ) -> Result<i128, AllocError>
-    requires setting { IsSetting diagram.now profile.now node state }
+    requires setting { IsGivenSetting diagram.now profile.now node state }
     requires within { v < length diagram.now.nodes }
     requires planned { IsPlanIf diagram.now.nodes node v plan.now }
     requires ready { HasSpace diagram.now.nodes node spaces.old }
@@ -102,7 +102,7 @@ fn list_worths(
     plans: &[Option<Plan>],
     spaces: &mut Workspaces,
 ) -> Result<Vec<i128>, AllocError>
-    requires setting { IsSetting diagram.now profile.now node state }
+    requires setting { IsGivenSetting diagram.now profile.now node state }
     requires planned { HasUtilityPlans diagram.now.nodes node plans.now }
     requires ready { HasSpace diagram.now.nodes node spaces.old }
     ensures { IfOk result (λ v. HasWorthsAt diagram.now.nodes profile.now node state v.items) }
@@ -127,7 +127,7 @@ fn list_gains(
     plans: &[Option<Plan>],
     spaces: &mut Workspaces,
 ) -> Result<Vec<Ratio>, AllocError>
-    requires setting { IsSetting diagram.now profile.now node state }
+    requires setting { IsGivenSetting diagram.now profile.now node state }
     requires planned { HasUtilityPlans diagram.now.nodes node plans.now }
     requires ready { HasSpace diagram.now.nodes node spaces.old }
     requires mass { IsMassAt diagram.now.nodes profile.now node state mass }
@@ -162,7 +162,7 @@ pub(crate) fn gains_given(
     plans: &GivenPlans,
     spaces: &mut Workspaces,
 ) -> Result<Vec<Ratio>, GivenFault>
-    requires setting { IsSetting diagram.now profile.now node state }
+    requires setting { IsGivenSetting diagram.now profile.now node state }
     requires evidence { IsEvidence diagram.now.nodes node }
     requires planned { HasFurtherPlans diagram.now.nodes node plans.now }
     requires ready { HasSpace diagram.now.nodes node spaces.old }

@@ -12,7 +12,7 @@ use Rattle.ring_sums.specs.Groups.{ProductsFit, JoinFits}
 use Rattle.ring_sums.proofs.Each.{Each, each_of, all_of, each_map, yes_or_no}
 use Rattle.factor_core.specs.declared.slots.Slot.{Slot}
 use Rattle.factor_core.specs.Scopes.{united}
-use Rattle.factor_core.specs.Slots.{space, cells_over, IsLive, tables_of}
+use Rattle.factor_core.specs.Slots.{space, cells_over, IsLiveSlot, tables_of}
 use Rattle.factor_core.specs.Spaces.{CanJoinIn, CanMultiplyIn}
 use Rattle.factor_core.specs.Tables.{LiesIn, size_of}
 use Rattle.factor_core.proofs.Conditions.{room_to_join, room_to_multiply}
@@ -21,11 +21,11 @@ use Rattle.factor_core.proofs.Standing.{lies_in}
 
 module _ {C : Type 0} (nodes : List NodeView) (cells : List C) where
   -- a node of the slots is one of the diagram
-  pub node_known : (slots : List Slot) (x : ℕ) → 0 < length slots → Each (IsLive nodes cells) slots → Each (λ s. IsIn s.scope x) slots → x < length nodes
+  pub node_known : (slots : List Slot) (x : ℕ) → 0 < length slots → Each (IsLiveSlot nodes cells) slots → Each (λ s. IsIn s.scope x) slots → x < length nodes
   node_known [] x some live hold = absurd (omega arith)
   node_known (s ∷ ss) x some live hold = live.0.known x hold.0
 
-  pub united_known : (slots : List Slot) (v : ℕ) → Each (IsLive nodes cells) slots → united slots v ≡ true → v < length nodes
+  pub united_known : (slots : List Slot) (v : ℕ) → Each (IsLiveSlot nodes cells) slots → united slots v ≡ true → v < length nodes
   united_known [] v live t = absurd (let no : false ≡ true = t in cc)
   united_known (s ∷ ss) v live t =
       elim (yes_or_no (holds s.scope v)) [
@@ -44,9 +44,9 @@ module _ {C : Type 0} (nodes : List NodeView) (counts : List ℕ) (is : counts �
   pub size_small : length all ≤ MOST_PLAN_CELLS → size_of counts scope ≤ 2 ^ 32
   size_small short = omega (arith, ends_within, short)
 
-module _ {C : Type 0} {r : Ring C} (laws : IsRing r) (sized : IsSize r r.size) (d : DiagramView) (is : IsDiagram d) (counts : List ℕ) (e : counts ≡ counts_of d.nodes) (cells : List C) (short : length cells ≤ MOST_PLAN_CELLS) (slots : List Slot) (live : All (IsLive d.nodes cells) slots) where
+module _ {C : Type 0} {r : Ring C} (laws : IsRing r) (sized : IsSize r r.size) (d : DiagramView) (is : IsDiagram d) (counts : List ℕ) (e : counts ≡ counts_of d.nodes) (cells : List C) (short : length cells ≤ MOST_PLAN_CELLS) (slots : List Slot) (live : All (IsLiveSlot d.nodes cells) slots) where
   lying : All (LiesIn (counts_of d.nodes) (length cells)) slots
-  lying = all_of (LiesIn (counts_of d.nodes) (length cells)) slots (each_map (IsLive d.nodes cells) (LiesIn (counts_of d.nodes) (length cells)) (λ s l. lies_in r d.nodes cells s l) slots (each_of (IsLive d.nodes cells) slots live))
+  lying = all_of (LiesIn (counts_of d.nodes) (length cells)) slots (each_map (IsLiveSlot d.nodes cells) (LiesIn (counts_of d.nodes) (length cells)) (λ s l. lies_in r d.nodes cells s l) slots (each_of (IsLiveSlot d.nodes cells) slots live))
 
   small : All (λ s. size_of (counts_of d.nodes) s.scope ≤ 2 ^ 32) slots
   small = λ i z l. let s = lying i z l in omega (arith, s.size, s.within, short)
@@ -57,7 +57,7 @@ module _ {C : Type 0} {r : Ring C} (laws : IsRing r) (sized : IsSize r r.size) (
     node = (omega (arith, counts_length d.nodes, inside));
     live = lying;
     small = small;
-    fits = room_to_join laws sized d.nodes cells slots x (each_of (IsLive d.nodes cells) slots live) f;
+    fits = room_to_join laws sized d.nodes cells slots x (each_of (IsLiveSlot d.nodes cells) slots live) f;
   })
 
   pub can_multiply : ProductsFit r.size (states_of d.nodes) r.most (tables_of r d.nodes cells slots) → CanMultiplyIn r cells counts slots
@@ -65,5 +65,5 @@ module _ {C : Type 0} {r : Ring C} (laws : IsRing r) (sized : IsSize r r.size) (
     are_counts = are_counts d is;
     live = lying;
     small = small;
-    fits = room_to_multiply laws sized d.nodes cells slots (each_of (IsLive d.nodes cells) slots live) f;
+    fits = room_to_multiply laws sized d.nodes cells slots (each_of (IsLiveSlot d.nodes cells) slots live) f;
   })

@@ -8,7 +8,7 @@ use Rattle.cell_rings.specs.Sums.{ring_sum, product_at}
 use Rattle.cell_rings.proofs.Runs.{chosen, not_chosen}
 use Rattle.factor_core.specs.Walks.{shifted, total, AtEach}
 use Rattle.finite_sums.specs.Sums.{World, InRange, with_state}
-use Rattle.factor_core.specs.Tables.{axes_of, rows_of, moved, out_place, kept_size}
+use Rattle.factor_core.specs.Tables.{axes_of, stride_rows, moved, out_place, kept_size}
 use Rattle.factor_core.proofs.Shifts.{length-shifted}
 use Rattle.cell_rings.proofs.Together.{ring_sum_cong}
 
@@ -63,17 +63,17 @@ module _ (count out : ℕ → ℕ) (row : ℕ → List ℕ) (k : ℕ) (rows : (v
       let rest = out_other vs w v s (none_rest v u vs h) in
       omega (arith, ap (λ x. x * out u) here, rest)
 
-  strides_below : (v : ℕ) (vs places : List ℕ) → length places ≡ k → drop (length places) (row v ++ rows_of row vs) ≡ rows_of row vs
-  strides_below v vs places e = drop_at (row v) (rows_of row vs) (length places) (rows v ∙ sym e)
+  strides_below : (v : ℕ) (vs places : List ℕ) → length places ≡ k → drop (length places) (row v ++ stride_rows row vs) ≡ stride_rows row vs
+  strides_below v vs places e = drop_at (row v) (stride_rows row vs) (length places) (rows v ∙ sym e)
 
   -- a fact of each world holds at each choice of states
-  pub each_choice : (P : List ℕ → ℕ → Type 0) (vs : List ℕ) (places : List ℕ) (at : ℕ) (some : World) → InRange count some → AllOnce vs → length places ≡ k → ((w : World) → InRange count w → P (moved row vs w places) (at + out_place out vs w)) → AtEach P (axes_of count out vs) (rows_of row vs) places at
+  pub each_choice : (P : List ℕ → ℕ → Type 0) (vs : List ℕ) (places : List ℕ) (at : ℕ) (some : World) → InRange count some → AllOnce vs → length places ≡ k → ((w : World) → InRange count w → P (moved row vs w places) (at + out_place out vs w)) → AtEach P (axes_of count out vs) (stride_rows row vs) places at
   each_choice P [] places at some ok once e h = subst (P places) (let none : at + 0 ≡ at = omega arith in none) (h some ok)
   each_choice P (v ∷ vs) places at some ok once e h = λ s l.
       let below = strides_below v vs places e in
-      let here = shifted_row s (row v) (rows_of row vs) places (rows v ∙ sym e) in
-      subst (λ ds. AtEach P (axes_of count out vs) ds (shifted s (row v ++ rows_of row vs) places) (at + s * out v)) (sym below)
-      (subst (λ ps. AtEach P (axes_of count out vs) (rows_of row vs) ps (at + s * out v)) (sym here)
+      let here = shifted_row s (row v) (stride_rows row vs) places (rows v ∙ sym e) in
+      subst (λ ds. AtEach P (axes_of count out vs) ds (shifted s (row v ++ stride_rows row vs) places) (at + s * out v)) (sym below)
+      (subst (λ ps. AtEach P (axes_of count out vs) (stride_rows row vs) ps (at + s * out v)) (sym here)
       (each_choice P vs (shifted s (row v) places) (at + s * out v) some ok once.1 (length-shifted s (row v) places ∙ e)
       (λ w in_range.
       let other = with_state w v s in
@@ -140,22 +140,22 @@ module _ (count out : ℕ → ℕ) (row : ℕ → List ℕ) (k : ℕ) (rows : (v
 
     module _ (cells : List C) (x : ℕ) where
       total_of : List ℕ → List ℕ → ℕ → ℕ → C
-      total_of vs places at p = total r cells (axes_of count out vs) (rows_of row vs) places at p
+      total_of vs places at p = total r cells (axes_of count out vs) (stride_rows row vs) places at p
 
       -- one level of the walk, over the strides below
-      pub total_step : (v : ℕ) (vs places : List ℕ) (at p : ℕ) → length places ≡ k → total r cells (axes_of count out (v ∷ vs)) (rows_of row (v ∷ vs)) places at p ≡ ring_sum r (count v) (λ s. total r cells (axes_of count out vs) (rows_of row vs) (shifted s (row v) places) (at + s * out v) p)
+      pub total_step : (v : ℕ) (vs places : List ℕ) (at p : ℕ) → length places ≡ k → total r cells (axes_of count out (v ∷ vs)) (stride_rows row (v ∷ vs)) places at p ≡ ring_sum r (count v) (λ s. total r cells (axes_of count out vs) (stride_rows row vs) (shifted s (row v) places) (at + s * out v) p)
       total_step v vs places at p e =
           ring_sum_cong r (count v) _ _
           (λ s.
-          ap (λ ds. total r cells (axes_of count out vs) ds (shifted s (row v ++ rows_of row vs) places) (at + s * out v) p) (strides_below v vs places e)
-          ∙ ap (λ ps. total r cells (axes_of count out vs) (rows_of row vs) ps (at + s * out v) p) (shifted_row s (row v) (rows_of row vs) places (rows v ∙ sym e)))
+          ap (λ ds. total r cells (axes_of count out vs) ds (shifted s (row v ++ stride_rows row vs) places) (at + s * out v) p) (strides_below v vs places e)
+          ∙ ap (λ ps. total r cells (axes_of count out vs) (stride_rows row vs) ps (at + s * out v) p) (shifted_row s (row v) (stride_rows row vs) places (rows v ∙ sym e)))
 
       -- nothing is added outside the result's part
-      pub total_outside : (vs places : List ℕ) (at p : ℕ) → IsRadix x vs → length places ≡ k → (p < at) ⊎ (at + kept_size count x vs ≤ p) → total r cells (axes_of count out vs) (rows_of row vs) places at p ≡ r.nought
+      pub total_outside : (vs places : List ℕ) (at p : ℕ) → IsRadix x vs → length places ≡ k → (p < at) ⊎ (at + kept_size count x vs ≤ p) → total r cells (axes_of count out vs) (stride_rows row vs) places at p ≡ r.nought
       total_outside [] places at p h e away = not_chosen p at (product_at r cells places) r.nought (λ same. elim away [ inl l ↦ absurd (omega arith) | inr l ↦ absurd (omega arith) ])
       total_outside (v ∷ vs) places at p h e away =
           total_step v vs places at p e
-          ∙ sum_of_none (count v) (λ s. total r cells (axes_of count out vs) (rows_of row vs) (shifted s (row v) places) (at + s * out v) p)
+          ∙ sum_of_none (count v) (λ s. total r cells (axes_of count out vs) (stride_rows row vs) (shifted s (row v) places) (at + s * out v) p)
           (λ s l. total_outside vs (shifted s (row v) places) (at + s * out v) p h.1 (length-shifted s (row v) places ∙ e) (still_away s l))
         where
           still_away : (s : ℕ) → s < count v → (p < at + s * out v) ⊎ ((at + s * out v) + kept_size count x vs ≤ p)
@@ -177,19 +177,19 @@ module _ (count out : ℕ → ℕ) (row : ℕ → List ℕ) (k : ℕ) (rows : (v
       picked [] w places = product_at r cells places
       picked (v ∷ vs) w places = cond (v == x) (ring_sum r (count v) (λ s. picked vs w (shifted s (row v) places))) (picked vs w (shifted (w v) (row v) places))
 
-      pub total_at : (vs places : List ℕ) (at : ℕ) (w : World) → IsRadix x vs → length places ≡ k → InRange count w → total r cells (axes_of count out vs) (rows_of row vs) places at (at + out_place out vs w) ≡ picked vs w places
+      pub total_at : (vs places : List ℕ) (at : ℕ) (w : World) → IsRadix x vs → length places ≡ k → InRange count w → total r cells (axes_of count out vs) (stride_rows row vs) places at (at + out_place out vs w) ≡ picked vs w places
       total_at [] places at w h e ok = chosen (at + 0) at (product_at r cells places) r.nought (omega arith)
       total_at (v ∷ vs) places at w h e ok =
           total_step v vs places at (at + out_place out (v ∷ vs) w) e
           ∙ elim (cases_eq v x) [
             | inl same ↦
                 let here = out_summed x v vs same h in
-                ring_sum_cong r (count v) (λ s. total r cells (axes_of count out vs) (rows_of row vs) (shifted s (row v) places) (at + s * out v) (at + out_place out (v ∷ vs) w)) (λ s. picked vs w (shifted s (row v) places))
+                ring_sum_cong r (count v) (λ s. total r cells (axes_of count out vs) (stride_rows row vs) (shifted s (row v) places) (at + s * out v) (at + out_place out (v ∷ vs) w)) (λ s. picked vs w (shifted s (row v) places))
                 (λ s.
                 let none = ap (λ n. s * n) here.0 in
                 let mine = ap (λ n. w v * n) here.0 in
                 let there : at + out_place out (v ∷ vs) w ≡ (at + s * out v) + out_place out vs w = omega (arith, none, mine) in
-                ap (λ p. total r cells (axes_of count out vs) (rows_of row vs) (shifted s (row v) places) (at + s * out v) p) there
+                ap (λ p. total r cells (axes_of count out vs) (stride_rows row vs) (shifted s (row v) places) (at + s * out v) p) there
                 ∙ total_at vs (shifted s (row v) places) (at + s * out v) w h.1 (length-shifted s (row v) places ∙ e) ok)
                 ∙ sym (chosen v x (ring_sum r (count v) (λ s. picked vs w (shifted s (row v) places))) (picked vs w (shifted (w v) (row v) places)) same)
             | inr ne ↦
@@ -197,7 +197,7 @@ module _ (count out : ℕ → ℕ) (row : ℕ → List ℕ) (k : ℕ) (rows : (v
                 let within = out_within x vs w h.1 ok in
                 let mine = ap (λ n. w v * n) here.0 in
                 let there : at + out_place out (v ∷ vs) w ≡ (at + w v * out v) + out_place out vs w = omega arith in
-                sum_of_one (count v) (w v) (λ s. total r cells (axes_of count out vs) (rows_of row vs) (shifted s (row v) places) (at + s * out v) (at + out_place out (v ∷ vs) w)) (ok.state v)
+                sum_of_one (count v) (w v) (λ s. total r cells (axes_of count out vs) (stride_rows row vs) (shifted s (row v) places) (at + s * out v) (at + out_place out (v ∷ vs) w)) (ok.state v)
                 (λ s l other.
                 total_outside vs (shifted s (row v) places) (at + s * out v) (at + out_place out (v ∷ vs) w) h.1 (length-shifted s (row v) places ∙ e)
                 (let step_is = ap (λ n. s * n) here.0 in
@@ -209,7 +209,7 @@ module _ (count out : ℕ → ℕ) (row : ℕ → List ℕ) (k : ℕ) (rows : (v
                       let step : (w v + 1) * kept_size count x vs ≤ s * kept_size count x vs = mul-le-mul_right (kept_size count x vs) (let m : w v + 1 ≤ s = grind arith in m) in
                       inl (omega (arith, step_is, mine, step, within))
                 ]))
-                ∙ ap (λ p. total r cells (axes_of count out vs) (rows_of row vs) (shifted (w v) (row v) places) (at + w v * out v) p) there
+                ∙ ap (λ p. total r cells (axes_of count out vs) (stride_rows row vs) (shifted (w v) (row v) places) (at + w v * out v) p) there
                 ∙ total_at vs (shifted (w v) (row v) places) (at + w v * out v) w h.1 (length-shifted (w v) (row v) places ∙ e) ok
                 ∙ sym (not_chosen v x (ring_sum r (count v) (λ s. picked vs w (shifted s (row v) places))) (picked vs w (shifted (w v) (row v) places)) ne)
           ]
@@ -247,7 +247,7 @@ module _ (count out : ℕ → ℕ) (row : ℕ → List ℕ) (k : ℕ) (rows : (v
           ]
 
       -- what the walk adds at a world's place
-      pub total_is : (vs places : List ℕ) (at : ℕ) (w : World) → AllOnce vs → IsAmong vs → IsRadix x vs → length places ≡ k → InRange count w → total r cells (axes_of count out vs) (rows_of row vs) places at (at + out_place out vs w) ≡ ring_sum r (count x) (λ s. product_at r cells (moved row vs (with_state w x s) places))
+      pub total_is : (vs places : List ℕ) (at : ℕ) (w : World) → AllOnce vs → IsAmong vs → IsRadix x vs → length places ≡ k → InRange count w → total r cells (axes_of count out vs) (stride_rows row vs) places at (at + out_place out vs w) ≡ ring_sum r (count x) (λ s. product_at r cells (moved row vs (with_state w x s) places))
       total_is vs places at w once among h e ok = total_at vs places at w h e ok ∙ picked_is vs places w once among
 
   -- each place of the result is that of a world

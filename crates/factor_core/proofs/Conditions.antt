@@ -19,14 +19,14 @@ use Rattle.ring_sums.proofs.Sums.{sum_cong}
 use Rattle.factor_core.specs.declared.slots.Slot.{Slot}
 use Rattle.factor_core.specs.Operations.{SumFits}
 use Rattle.factor_core.specs.Scopes.{united, united_but}
-use Rattle.factor_core.specs.Slots.{IsLive, table_of, tables_of}
+use Rattle.factor_core.specs.Slots.{IsLiveSlot, table_of, tables_of}
 use Rattle.factor_core.specs.Tables.{place_of, places_in, join_cell, RoomToJoin, RoomToMultiply}
 use Rattle.factor_core.proofs.Counts.{states_is, range_back}
 use Rattle.factor_core.proofs.Standing.{cell_of_slot}
 
 module _ {C : Type 0} {r : Ring C} (laws : IsRing r) (sized : IsSize r r.size) (nodes : List NodeView) (cells : List C) where
   abbrev Live : List Slot → Type 0
-  Live slots = Each (IsLive nodes cells) slots
+  Live slots = Each (IsLiveSlot nodes cells) slots
 
   -- ---- products
   products_from : (slots : List Slot) (w : World) (x : C) → Live slots → InRange (states_of nodes) w → product_from r cells x (places_in (counts_of nodes) slots w) ≡ r.times x (product_of r (tables_of r nodes cells slots) w)
@@ -50,7 +50,7 @@ module _ {C : Type 0} {r : Ring C} (laws : IsRing r) (sized : IsSize r r.size) (
       (λ s l. product_is slots (with_state w x s) live (with_in (states_of nodes) w x s i l))
 
   -- ---- sizes
-  size_of_slot : (s : Slot) (w : World) → IsLive nodes cells s → InRange (states_of nodes) w → r.size (cell_at r cells (s.start + place_of (counts_of nodes) s.scope w)) ≡ r.size ((table_of r nodes cells s).cell w)
+  size_of_slot : (s : Slot) (w : World) → IsLiveSlot nodes cells s → InRange (states_of nodes) w → r.size (cell_at r cells (s.start + place_of (counts_of nodes) s.scope w)) ≡ r.size ((table_of r nodes cells s).cell w)
   size_of_slot s w live i = ap r.size (cell_of_slot r nodes cells s w live i)
 
   sizes_from : (slots : List Slot) (w : World) (n : ℕ) → Live slots → InRange (states_of nodes) w → product_from mass_ring (sizes_of r cells) n (places_in (counts_of nodes) slots w) ≡ n * sizes r.size (tables_of r nodes cells slots) w

@@ -9,21 +9,21 @@ use Rattle.maid_model.specs.Tables.{row_from}
 use Rattle.cell_rings.specs.Rings.{Ring}
 use Rattle.cell_rings.specs.Sums.{cell_at}
 use Rattle.factor_core.specs.declared.copies.Step.{Step}
-use Rattle.factor_core.specs.Copies.{one_by_one, gathered, count_of_steps, IsStep, ReadsBefore, steps_of, CanCopy}
+use Rattle.factor_core.specs.Copies.{one_by_one, gathered, count_of_steps, IsCopyStep, ReadsBefore, steps_of, CanCopy}
 use Rattle.factor_core.specs.Tables.{out_place}
 use Rattle.factor_core.proofs.Collapse.{AllOnce, with_same, with_in_range, out_other}
 use Rattle.factor_core.proofs.Counts.{row_from_split}
 
 -- the choice of the first state of each step
-reads_first : (n : ℕ) (steps : List Step) (from : ℕ) → All IsStep steps → ReadsBefore n steps from → from < n
+reads_first : (n : ℕ) (steps : List Step) (from : ℕ) → All IsCopyStep steps → ReadsBefore n steps from → from < n
 reads_first n [] from are reads = reads
 reads_first n (a ∷ rest) from are reads =
-    let first : IsStep a = are 0 a (omega arith) in
+    let first : IsCopyStep a = are 0 a (omega arith) in
     let below = reads_first n rest (from + 0 * a.stride) (λ k d l. are (suc k) d (omega arith)) (reads 0 first.some) in
     omega arith
 
 module _ (Fit : Type 0) (n : ℕ) (a : Step) (rest : List Step) (from len at : ℕ) (can : CanCopy Fit n (a ∷ rest) from len at) where
-  pub first_step : IsStep a
+  pub first_step : IsCopyStep a
   first_step = can.are_steps 0 a (omega arith)
 
   pub can_next : (s here place now : ℕ) → s < a.states → here ≡ from + s * a.stride → place ≡ at + s * count_of_steps rest → now ≡ len → CanCopy Fit n rest here now place

@@ -4,7 +4,7 @@ use Rattle.std.specs.Prelude.{All}
 use Rattle.std.proofs.Math.Nat.{mul-le-mul_right}
 use Rattle.std.proofs.lemmas.List.{take-append-drop, get_or-take, get_or-drop, length-take-le, length-drop}
 use Rattle.cell_rings.specs.Rings.{Ring, IsRing, IsSize, mass_ring}
-use Rattle.cell_rings.specs.Sums.{ring_sum, cell_at, product_from, product_at, sizes_of, ProductFits, Adds}
+use Rattle.cell_rings.specs.Sums.{ring_sum, cell_at, product_from, product_at, sizes_of, ProductFits, AddsCells}
 use Rattle.cell_rings.specs.RingLaws.{mass_is_ring}
 use Rattle.cell_rings.proofs.Adding.{nat_sum_le, size_at, size_sum, size_product, fits_less}
 use Rattle.cell_rings.proofs.Runs.{chosen}
@@ -133,7 +133,7 @@ module _ {C : Type 0} {r : Ring C} (laws : IsRing r) (sizes : IsSize r r.size) w
         let terms = nat_sum_le a.states (λ s. r.size (product_from r cells factor (further s (drop stand places)))) (λ s. product_from mass_ring lists (r.size factor) (further s (drop stand places))) (λ s l. size_product laws sizes cells (further s (drop stand places)) factor (r.size factor) (omega arith)) in
         omega (arith, ap r.size e, size_sum laws sizes a.states (λ s. product_from r cells factor (further s (drop stand places))), terms, dot_sizes factor h)
 
-    pub dot_adds : (factor sum : C) → factor ≡ product_at r cells (take stand places) → sum ≡ ring_sum r a.states (λ s. product_from r cells factor (further s (drop stand places))) → (new : List C) → Adds r (λ p. cond (p == at) sum r.nought) out new → Adds r (total r cells (a ∷ []) ds places at) out new
+    pub dot_adds : (factor sum : C) → factor ≡ product_at r cells (take stand places) → sum ≡ ring_sum r a.states (λ s. product_from r cells factor (further s (drop stand places))) → (new : List C) → AddsCells r (λ p. cond (p == at) sum r.nought) out new → AddsCells r (total r cells (a ∷ []) ds places at) out new
     dot_adds factor sum e is new adds = record {
       each = λ p.
           adds.each p

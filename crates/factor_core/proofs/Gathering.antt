@@ -8,7 +8,7 @@ use Rattle.cell_rings.specs.Rings.{Ring}
 use Rattle.cell_rings.specs.Sums.{cell_at}
 use Rattle.cell_rings.proofs.Runs.{chosen, not_chosen}
 use Rattle.factor_core.specs.declared.copies.Step.{Step}
-use Rattle.factor_core.specs.Copies.{count_of_steps, IsStep, steps_of, CanCopy}
+use Rattle.factor_core.specs.Copies.{count_of_steps, IsCopyStep, steps_of, CanCopy}
 use Rattle.factor_core.specs.Tables.{AreCounts, listed, states_in, size_from, place_from, stride_of, out_place, size_of}
 use Rattle.factor_core.proofs.Collapse.{AllOnce, with_same, out_other}
 use Rattle.factor_core.proofs.Copying.{reads_before}
@@ -37,8 +37,8 @@ can_copy Fit fit counts are stride near vs below once from n room short reads fi
   are_steps = λ i d l.
       let inside : i < length vs = omega (arith, length-map vs (λ v. let a : Step = record { states = states_in counts v; stride = stride v } in a)) in
       let v = get_or vs i 0 in
-      let step : IsStep (record { states = states_in counts v; stride = stride v }) = record { some = are.some v; near = near v (below i 0 inside) } in
-      subst IsStep (sym (get_or-map (λ u. let a : Step = record { states = states_in counts u; stride = stride u } in a) vs i 0 d inside)) step;
+      let step : IsCopyStep (record { states = states_in counts v; stride = stride v }) = record { some = are.some v; near = near v (below i 0 inside) } in
+      subst IsCopyStep (sym (get_or-map (λ u. let a : Step = record { states = states_in counts u; stride = stride u } in a) vs i 0 d inside)) step;
   reads = reads_before (states_in counts) stride n vs from once (λ v. 0) (record { state = are.some }) reads;
   short = short;
   room = omega arith;

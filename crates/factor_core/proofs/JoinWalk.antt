@@ -5,13 +5,13 @@ use Rattle.std.specs.List.{list_any}
 use Rattle.std.proofs.lemmas.List.{take-append-drop, ext_get_or, length-map, length-append, get_or-map}
 use Rattle.std.proofs.lemmas.Bool.{cases_lt, or_parts}
 use Rattle.cell_rings.specs.Rings.{Ring, IsRing, IsSize, mass_ring}
-use Rattle.cell_rings.specs.Sums.{cell_at, product_at, sizes_of, Adds, HasRoom}
+use Rattle.cell_rings.specs.Sums.{cell_at, product_at, sizes_of, AddsCells, HasRoom}
 use Rattle.cell_rings.specs.RingLaws.{mass_is_ring}
 use Rattle.cell_rings.proofs.Runs.{not_chosen, chosen}
 use Rattle.factor_core.specs.Walks.{total, load, IsMet, IsAxis, CanWalk}
 use Rattle.node_sets.specs.Sets.{holds}
 use Rattle.finite_sums.specs.Sums.{World, InRange, with_state}
-use Rattle.factor_core.specs.Tables.{states_in, size_from, stride_of, moved, out_place, kept_size, listed, with_extra, axes_of, rows_of, row_of, starts_of, size_of, place_of, places_in, join_cell, CanJoin}
+use Rattle.factor_core.specs.Tables.{states_in, size_from, stride_of, moved, out_place, kept_size, listed, with_extra, axes_of, stride_rows, stride_row, starts_of, size_of, place_of, places_in, join_cell, CanJoin}
 use Rattle.factor_core.specs.declared.walks.Axis.{Axis}
 use Rattle.node_sets.specs.declared.sets.NodeSet.{NodeSet}
 use Rattle.factor_core.specs.declared.slots.Slot.{Slot}
@@ -31,18 +31,18 @@ among_in : (count out : ℕ → ℕ) (row : ℕ → List ℕ) (k : ℕ) (rows : 
 among_in count out row k rows r laws cells x [] ys = inl refl
 among_in count out row k rows r laws cells x (u ∷ xs) ys = inr (among_in count out row k rows r laws cells x xs ys)
 
-pub length-rows : (row : ℕ → List ℕ) (k : ℕ) → ((v : ℕ) → length (row v) ≡ k) → (vs : List ℕ) → length (rows_of row vs) ≡ length vs * k
+pub length-rows : (row : ℕ → List ℕ) (k : ℕ) → ((v : ℕ) → length (row v) ≡ k) → (vs : List ℕ) → length (stride_rows row vs) ≡ length vs * k
 length-rows row k h [] = omega arith
-length-rows row k h (v ∷ vs) = omega (arith, length-append (row v) (rows_of row vs), h v, length-rows row k h vs)
+length-rows row k h (v ∷ vs) = omega (arith, length-append (row v) (stride_rows row vs), h v, length-rows row k h vs)
 
 all_append : (P : ℕ → Type 0) (xs ys : List ℕ) → All P xs → All P ys → All P (xs ++ ys)
 all_append P [] ys a b i d l = b i d l
 all_append P (x ∷ xs) ys a b zero d l = a 0 d (omega arith)
 all_append P (x ∷ xs) ys a b (suc i) d l = all_append P xs ys (λ j e m. a (suc j) e (omega arith)) b i d (omega arith)
 
-pub all_rows : (P : ℕ → Type 0) (Q : ℕ → Type 0) (row : ℕ → List ℕ) → ((v : ℕ) → Q v → All P (row v)) → (vs : List ℕ) → All Q vs → All P (rows_of row vs)
+pub all_rows : (P : ℕ → Type 0) (Q : ℕ → Type 0) (row : ℕ → List ℕ) → ((v : ℕ) → Q v → All P (row v)) → (vs : List ℕ) → All Q vs → All P (stride_rows row vs)
 all_rows P Q row h [] q = λ i d l. absurd (omega arith)
-all_rows P Q row h (v ∷ vs) q = all_append P (row v) (rows_of row vs) (h v (q 0 v (omega arith))) (all_rows P Q row h vs (λ i d l. q (suc i) d (omega arith)))
+all_rows P Q row h (v ∷ vs) q = all_append P (row v) (stride_rows row vs) (h v (q 0 v (omega arith))) (all_rows P Q row h vs (λ i d l. q (suc i) d (omega arith)))
 
 abbrev pub no_slot : NodeSet → Slot
 no_slot scope = record { start = 0; len = 0; scope = scope }
@@ -55,11 +55,11 @@ module _ {C : Type 0} (r : Ring C) (cells out : List C) {axes axes' : List Axis}
       (subst (λ l. CanWalk r cells axes' l places out 0) (sym strides_are)
       (subst (λ l. CanWalk r cells axes' strides' l out 0) (sym places_are) can))
 
-  pub adds_same : (new : List C) → Adds r (total r cells axes strides places 0) out new → Adds r (total r cells axes' strides' places' 0) out new
+  pub adds_same : (new : List C) → AddsCells r (total r cells axes strides places 0) out new → AddsCells r (total r cells axes' strides' places' 0) out new
   adds_same new adds =
-      subst (λ l. Adds r (total r cells axes' strides' l 0) out new) places_are
-      (subst (λ l. Adds r (total r cells axes' l places 0) out new) strides_are
-      (subst (λ l. Adds r (total r cells l strides places 0) out new) axes_are adds))
+      subst (λ l. AddsCells r (total r cells axes' strides' l 0) out new) places_are
+      (subst (λ l. AddsCells r (total r cells axes' l places 0) out new) strides_are
+      (subst (λ l. AddsCells r (total r cells l strides places 0) out new) axes_are adds))
 
 module _ {C : Type 0} {r : Ring C} (laws : IsRing r) (sizes : IsSize r r.size) (cells : List C) (counts : List ℕ) (slots : List Slot) (x : ℕ) (scope : NodeSet) (out : List C) (can : CanJoin r cells counts slots x scope out) (cut : ℕ) where
   abbrev n : ℕ
@@ -72,7 +72,7 @@ module _ {C : Type 0} {r : Ring C} (laws : IsRing r) (sizes : IsSize r r.size) (
   stride = stride_of (states_in counts) (length counts) (holds scope)
 
   abbrev row : ℕ → List ℕ
-  row = row_of counts slots
+  row = stride_row counts slots
 
   abbrev kept : List ℕ
   kept = listed (holds scope) 0 (length counts)
@@ -80,7 +80,7 @@ module _ {C : Type 0} {r : Ring C} (laws : IsRing r) (sizes : IsSize r r.size) (
   abbrev pub order : List ℕ
   order = with_extra cut x (listed (holds scope) 0 (length counts))
 
-  rows : (v : ℕ) → length (row_of counts slots v) ≡ length slots
+  rows : (v : ℕ) → length (stride_row counts slots v) ≡ length slots
   rows v = length-map slots (λ s. stride_of (states_in counts) (length counts) (holds s.scope) v)
 
   none : holds scope x ≡ false
@@ -161,7 +161,7 @@ module _ {C : Type 0} {r : Ring C} (laws : IsRing r) (sizes : IsSize r r.size) (
       } in
       subst IsAxis (sym (get_or-map (λ u. let a : Axis = record { states = count u; out = stride u } in a) order i 0 d in_order)) axis
 
-  near_are : All (λ d. d ≤ 2 ^ 32) (rows_of row order)
+  near_are : All (λ d. d ≤ 2 ^ 32) (stride_rows row order)
   near_are =
       all_rows (λ d. d ≤ 2 ^ 32) (λ v. v < length counts) row
       (λ v below i d l.
@@ -189,17 +189,17 @@ module _ {C : Type 0} {r : Ring C} (laws : IsRing r) (sizes : IsSize r r.size) (
   first_world = record { state = can.are_counts.some }
 
   abbrev adding : {D : Type 0} → Ring D → List D → ℕ → D
-  adding s ds p = total s ds (axes_of count stride order) (rows_of row order) (starts_of slots) 0 p
+  adding s ds p = total s ds (axes_of count stride order) (stride_rows row order) (starts_of slots) 0 p
 
   -- what the walk adds at a world's place
-  pub adds_at : {D : Type 0} (s : Ring D) (s_laws : IsRing s) (ds : List D) (w : World) → InRange count w → total s ds (axes_of count stride order) (rows_of row order) (starts_of slots) 0 (0 + out_place stride order w) ≡ join_cell s ds counts slots x w
+  pub adds_at : {D : Type 0} (s : Ring D) (s_laws : IsRing s) (ds : List D) (w : World) → InRange count w → total s ds (axes_of count stride order) (stride_rows row order) (starts_of slots) 0 (0 + out_place stride order w) ≡ join_cell s ds counts slots x w
   adds_at s s_laws ds w ok =
       total_is count stride row (length slots) rows s s_laws ds x order (starts_of slots) 0 w order_once
       (among_in count stride row (length slots) rows s s_laws ds x (take cut kept) (drop cut kept))
       order_radix starts_length ok
       ∙ ring_sum_cong s (count x) (λ t. product_at s ds (moved row order (with_state w x t) (starts_of slots))) (λ t. product_at s ds (places_in counts slots (with_state w x t))) (λ t. ap (product_at s ds) (moved_is (with_state w x t)))
 
-  room_is : HasRoom r out (load r cells (axes_of count stride order) (rows_of row order) (starts_of slots) 0)
+  room_is : HasRoom r out (load r cells (axes_of count stride order) (stride_rows row order) (starts_of slots) 0)
   room_is = record {
     each = λ p.
         let empty = ap r.size (can.nought p) in
@@ -209,7 +209,7 @@ module _ {C : Type 0} {r : Ring C} (laws : IsRing r) (sizes : IsSize r r.size) (
               let w = found.0 in
               let there : 0 + out_place stride order w ≡ p = omega (arith, found.2) in
               let at_w = adds_at mass_ring mass_is_ring (sizes_of r cells) w found.1 in
-              let here : load r cells (axes_of count stride order) (rows_of row order) (starts_of slots) 0 p ≡ join_cell mass_ring (sizes_of r cells) counts slots x w = ap (λ q. load r cells (axes_of count stride order) (rows_of row order) (starts_of slots) 0 q) (sym there) ∙ at_w in
+              let here : load r cells (axes_of count stride order) (stride_rows row order) (starts_of slots) 0 p ≡ join_cell mass_ring (sizes_of r cells) counts slots x w = ap (λ q. load r cells (axes_of count stride order) (stride_rows row order) (starts_of slots) 0 q) (sym there) ∙ at_w in
               omega (arith, empty, sizes.nought, here, can.fits.sums w found.1)
           | inr outside ↦
               let nothing = total_outside count stride row (length slots) rows mass_ring mass_is_ring (sizes_of r cells) x order (starts_of slots) 0 p order_radix starts_length (inr (let beyond : 0 + kept_size count x order ≤ p = omega arith in beyond)) in
@@ -218,7 +218,7 @@ module _ {C : Type 0} {r : Ring C} (laws : IsRing r) (sizes : IsSize r r.size) (
   }
 
   -- the walk may begin
-  pub can_begin : CanWalk r cells (axes_of count stride order) (rows_of row order) (starts_of slots) out 0
+  pub can_begin : CanWalk r cells (axes_of count stride order) (stride_rows row order) (starts_of slots) out 0
   can_begin = record {
     are_axes = axes_are;
     count = length-rows row (length slots) rows order ∙ ap (λ k. k * length slots) (sym (length-map order (λ v. let a : Axis = record { states = count v; out = stride v } in a))) ∙ ap (λ k. length (axes_of count stride order) * k) (sym starts_length);
@@ -230,7 +230,7 @@ module _ {C : Type 0} {r : Ring C} (laws : IsRing r) (sizes : IsSize r r.size) (
   }
 
   -- the cells of the join
-  pub joined_is : (new : List C) → Adds r (total r cells (axes_of count stride order) (rows_of row order) (starts_of slots) 0) out new → (w : World) → InRange count w → cell_at r new (place_of counts scope w) ≡ join_cell r cells counts slots x w
+  pub joined_is : (new : List C) → AddsCells r (total r cells (axes_of count stride order) (stride_rows row order) (starts_of slots) 0) out new → (w : World) → InRange count w → cell_at r new (place_of counts scope w) ≡ join_cell r cells counts slots x w
   joined_is new adds w ok =
       let there : place_of counts scope w ≡ 0 + out_place stride order w = omega (arith, out_is w) in
       ap (cell_at r new) there
@@ -249,9 +249,9 @@ module _ {C : Type 0} {r : Ring C} (laws : IsRing r) (sizes : IsSize r r.size) (
       ∙ axes_with count stride cut x kept
 
   -- lists that are those of the order
-  module _ (axes : List Axis) (strides places : List ℕ) (are_axes : axes ≡ axes_of count stride order) (are_strides : strides ≡ rows_of row order) (are_places : places ≡ starts_of slots) where
+  module _ (axes : List Axis) (strides places : List ℕ) (are_axes : axes ≡ axes_of count stride order) (are_strides : strides ≡ stride_rows row order) (are_places : places ≡ starts_of slots) where
     pub begins_with : CanWalk r cells axes strides places out 0
     begins_with = can_same r cells out are_axes are_strides are_places can_begin
 
-    pub joins_with : (new : List C) → Adds r (total r cells axes strides places 0) out new → (w : World) → InRange count w → cell_at r new (place_of counts scope w) ≡ join_cell r cells counts slots x w
+    pub joins_with : (new : List C) → AddsCells r (total r cells axes strides places 0) out new → (w : World) → InRange count w → cell_at r new (place_of counts scope w) ≡ join_cell r cells counts slots x w
     joins_with new adds = joined_is new (adds_same r cells out are_axes are_strides are_places new adds)

@@ -2,11 +2,11 @@
 use Rattle.std.proofs.Common.{◌≡◌, ℕ, zero, suc, ◌+◌, ◌*◌, ◌-◌, ◌<◌, ◌≤◌, List, [], ◌∷◌, take, drop, length, refl, sym, ap, subst, ◌∙◌, arith, get_or, Bool, true, false}
 use Rattle.cell_rings.specs.Rings.{Ring, IsRing, IsSize, mass_ring}
 use Rattle.cell_rings.specs.RingLaws.{mass_is_ring, mass_sized}
-use Rattle.cell_rings.specs.Sums.{ring_sum, cell_at, product_at, run_sum, two_scaled, two_sizes, four_scaled, four_sizes, AreWithin, Adds, HasRoom}
+use Rattle.cell_rings.specs.Sums.{ring_sum, cell_at, product_at, run_sum, two_scaled, two_sizes, four_scaled, four_sizes, AreWithin, AddsCells, HasRoom}
 use Rattle.cell_rings.specs.declared.pairs.Pair.{Pair}
 use Rattle.cell_rings.proofs.Adding.{nat_sum_one_more, nat_sum_grows, nat_sum_le, size_sum, adds_then}
 use Rattle.cell_rings.proofs.Together.{run_sum_plus}
-use Rattle.factor_core.specs.Walks.{shifted, total, load, IsMet, CanWalk, IsMoved, IsCount, CanRead, IsRunAt}
+use Rattle.factor_core.specs.Walks.{shifted, total, load, IsMet, CanWalk, MovesAlong, IsCount, CanReadRun, IsRunAt}
 use Rattle.factor_core.specs.declared.walks.Axis.{Axis}
 use Rattle.factor_core.proofs.Shifts.{length-shifted, get-shifted, is_shifted, first_choice}
 use Rattle.factor_core.proofs.Loads.{size_total}
@@ -15,17 +15,17 @@ use Rattle.factor_core.proofs.Turned.{turned_total, turned_sizes, turned_in_out,
 use Rattle.factor_core.proofs.Walking.{axes_below, strides_below, near_below, met_next, first_axis}
 
 module _ {C : Type 0} {r : Ring C} (laws : IsRing r) (sizes : IsSize r r.size) (cells : List C) (a : Axis) (ds places : List ℕ) (out : List C) (at : ℕ) where
-  moved_count : (turned : Bool) → IsMoved turned a ds (length places) → IsCount turned (length places)
+  moved_count : (turned : Bool) → MovesAlong turned a ds (length places) → IsCount turned (length places)
   moved_count false run = run.some
   moved_count true turned = turned.two
 
-  pub moved_read : (turned : Bool) → IsMoved turned a ds (length places) → CanWalk r cells (a ∷ []) ds places out at → CanRead turned r cells places
+  pub moved_read : (turned : Bool) → MovesAlong turned a ds (length places) → CanWalk r cells (a ∷ []) ds places out at → CanReadRun turned r cells places
   moved_read turned moved can =
       let met = first_choice (IsMet r cells (length out)) (a ∷ []) ds places at can.are_axes can.met in
       record { count = moved_count turned moved; within = met.within; fits = met.fits }
 
   -- what the walk adds is a sum over the run
-  pub moved_total : (turned : Bool) → IsMoved turned a ds (length places) → (factor : C) (from : ℕ) → IsRunAt turned r cells places factor from → (p : ℕ) → run_sum r a.states at (λ i. r.times factor (cell_at r cells (from + i))) p ≡ total r cells (a ∷ []) ds places at p
+  pub moved_total : (turned : Bool) → MovesAlong turned a ds (length places) → (factor : C) (from : ℕ) → IsRunAt turned r cells places factor from → (p : ℕ) → run_sum r a.states at (λ i. r.times factor (cell_at r cells (from + i))) p ≡ total r cells (a ∷ []) ds places at p
   moved_total false run factor from is p =
       ap (λ x. run_sum r a.states at (λ i. r.times x (cell_at r cells (from + i))) p) is.product
       ∙ ap (λ k. run_sum r a.states at (λ i. r.times (product_at r cells (take (length places - 1) places)) (cell_at r cells (k + i))) p) is.begins
@@ -36,7 +36,7 @@ module _ {C : Type 0} {r : Ring C} (laws : IsRing r) (sizes : IsSize r r.size) (
       ∙ sym (turned_total a ds places turned r laws cells at p)
 
   -- and the sizes of its parts are within the load
-  pub moved_load : (turned : Bool) → IsMoved turned a ds (length places) → CanWalk r cells (a ∷ []) ds places out at → (factor : C) (from : ℕ) → IsRunAt turned r cells places factor from → (p : ℕ) → run_sum mass_ring a.states at (λ i. r.size factor * r.size (cell_at r cells (from + i))) p ≤ load r cells (a ∷ []) ds places at p
+  pub moved_load : (turned : Bool) → MovesAlong turned a ds (length places) → CanWalk r cells (a ∷ []) ds places out at → (factor : C) (from : ℕ) → IsRunAt turned r cells places factor from → (p : ℕ) → run_sum mass_ring a.states at (λ i. r.size factor * r.size (cell_at r cells (from + i))) p ≤ load r cells (a ∷ []) ds places at p
   moved_load false run can factor from is p =
       subst (λ k. run_sum mass_ring a.states at (λ i. r.size factor * r.size (cell_at r cells (k + i))) p ≤ load r cells (a ∷ []) ds places at p) (sym is.begins)
       (run_load_le laws sizes cells a ds places at run factor is.size p)
@@ -45,11 +45,11 @@ module _ {C : Type 0} {r : Ring C} (laws : IsRing r) (sizes : IsSize r r.size) (
       (subst (λ x. run_sum mass_ring a.states at (λ i. r.size x * r.size (cell_at r cells (get_or places 0 0 + i))) p ≤ load r cells (a ∷ []) ds places at p) (sym is.stands)
       (turned_sizes laws sizes cells a ds places out at turned can p))
 
-  pub moved_in_out : (turned : Bool) → IsMoved turned a ds (length places) → CanWalk r cells (a ∷ []) ds places out at → at + a.states ≤ length out
+  pub moved_in_out : (turned : Bool) → MovesAlong turned a ds (length places) → CanWalk r cells (a ∷ []) ds places out at → at + a.states ≤ length out
   moved_in_out false run can = run_in_out laws sizes cells a ds places out at run can
   moved_in_out true turned can = turned_in_out laws sizes cells a ds places out at turned can
 
-  pub moved_in_cells : (turned : Bool) → IsMoved turned a ds (length places) → CanWalk r cells (a ∷ []) ds places out at → (factor : C) (from : ℕ) → IsRunAt turned r cells places factor from → from + a.states ≤ length cells
+  pub moved_in_cells : (turned : Bool) → MovesAlong turned a ds (length places) → CanWalk r cells (a ∷ []) ds places out at → (factor : C) (from : ℕ) → IsRunAt turned r cells places factor from → from + a.states ≤ length cells
   moved_in_cells false run can factor from is = omega (arith, run_in_cells laws sizes cells a ds places out at run can, is.begins)
   moved_in_cells true turned can factor from is = omega (arith, turned_in_cells laws sizes cells a ds places out at turned can, is.begins)
 
@@ -68,7 +68,7 @@ module _ {C : Type 0} {r : Ring C} (laws : IsRing r) (sizes : IsSize r r.size) w
   sum_of_four : (f : ℕ → C) → r.plus (r.plus (f 0) (f 1)) (r.plus (f 2) (f 3)) ≡ ring_sum r 4 f
   sum_of_four f = sym (laws.plus_assoc (r.plus (f 0) (f 1)) (f 2) (f 3)) ∙ ap (λ x. r.plus (r.plus x (f 2)) (f 3)) (sum_of_two f)
 
-  module _ (cells : List C) (sum a : Axis) (turned : Bool) (strides places : List ℕ) (out : List C) (at : ℕ) (still : sum.out ≡ 0) (moved : IsMoved turned a (drop (length places) strides) (length places)) (can : CanWalk r cells (sum ∷ (a ∷ [])) strides places out at) where
+  module _ (cells : List C) (sum a : Axis) (turned : Bool) (strides places : List ℕ) (out : List C) (at : ℕ) (still : sum.out ≡ 0) (moved : MovesAlong turned a (drop (length places) strides) (length places)) (can : CanWalk r cells (sum ∷ (a ∷ [])) strides places out at) where
     -- the places at a state of the summed axis, what its walk adds, and the sizes of that
     abbrev state : ℕ → List ℕ
     state s = shifted s strides places
@@ -83,8 +83,8 @@ module _ {C : Type 0} {r : Ring C} (laws : IsRing r) (sizes : IsSize r r.size) w
     pub stays : (s : ℕ) → at ≡ at + s * sum.out
     stays s = omega (arith, ap (λ k. s * k) still)
 
-    moved_at : (s : ℕ) → IsMoved turned a (drop (length places) strides) (length (state s))
-    moved_at s = subst (λ n. IsMoved turned a (drop (length places) strides) n) (sym (length-shifted s strides places)) moved
+    moved_at : (s : ℕ) → MovesAlong turned a (drop (length places) strides) (length (state s))
+    moved_at s = subst (λ n. MovesAlong turned a (drop (length places) strides) n) (sym (length-shifted s strides places)) moved
 
     -- the walk at a state, with nothing added before
     can_state : (s : ℕ) → s < sum.states → CanWalk r cells (a ∷ []) (drop (length places) strides) (state s) out at
@@ -113,8 +113,8 @@ module _ {C : Type 0} {r : Ring C} (laws : IsRing r) (sizes : IsSize r r.size) w
         let was = ap (λ ps. get_or ps i 0) e ∙ get-shifted s strides places i h in
         omega (arith, further, was))
 
-    pub read_at : (s : ℕ) (here : List ℕ) → s < sum.states → here ≡ state s → CanRead turned r cells here
-    read_at s here h e = subst (CanRead turned r cells) (sym e) (moved_read laws sizes cells a (drop (length places) strides) (state s) out at turned (moved_at s) (can_state s h))
+    pub read_at : (s : ℕ) (here : List ℕ) → s < sum.states → here ≡ state s → CanReadRun turned r cells here
+    read_at s here h e = subst (CanReadRun turned r cells) (sym e) (moved_read laws sizes cells a (drop (length places) strides) (state s) out at turned (moved_at s) (can_state s h))
 
     pub in_out : at + a.states ≤ length out
     in_out =
@@ -167,7 +167,7 @@ module _ {C : Type 0} {r : Ring C} (laws : IsRing r) (sizes : IsSize r r.size) w
         omega (arith, run_sum_plus mass_is_ring mass_sized a.states at p one two, run_size i are.before.0 pair.first pair.from are.first p, run_size j are.before.1 pair.second pair.beside are.second p)
 
     -- room for what the next states add
-    more_room : (s k : ℕ) (now : List C) → s + k ≤ sum.states → Adds r (λ p. ring_sum r s (λ i. part i p)) out now → (p : ℕ) → r.size (cell_at r now p) + ring_sum mass_ring k (λ i. size_part (s + i) p) ≤ r.most
+    more_room : (s k : ℕ) (now : List C) → s + k ≤ sum.states → AddsCells r (λ p. ring_sum r s (λ i. part i p)) out now → (p : ℕ) → r.size (cell_at r now p) + ring_sum mass_ring k (λ i. size_part (s + i) p) ≤ r.most
     more_room s k now h adds p =
         let is = ap r.size (adds.each p) in
         let terms = nat_sum_le s (λ i. r.size (part i p)) (λ i. size_part i p) (λ i l. size_total laws sizes cells (a ∷ []) (drop (length places) strides) (state i) (at + i * sum.out) p) in
@@ -177,12 +177,12 @@ module _ {C : Type 0} {r : Ring C} (laws : IsRing r) (sizes : IsSize r r.size) w
         let split = ring_sum_split mass_is_ring s k (λ i. size_part i p) in
         omega (arith, is, terms, all, count, split, sizes.plus (cell_at r out p) (ring_sum r s (λ i. part i p)), size_sum laws sizes s (λ i. part i p), can.room.each p)
 
-    pub two_have_room : (s : ℕ) (now : List C) (pair : Pair C) → s + 2 ≤ sum.states → Adds r (λ p. ring_sum r s (λ i. part i p)) out now → ArePair (s + 0) (s + 1) pair → HasRoom r now (run_sum mass_ring a.states at (two_sizes r r.size cells pair))
+    pub two_have_room : (s : ℕ) (now : List C) (pair : Pair C) → s + 2 ≤ sum.states → AddsCells r (λ p. ring_sum r s (λ i. part i p)) out now → ArePair (s + 0) (s + 1) pair → HasRoom r now (run_sum mass_ring a.states at (two_sizes r r.size cells pair))
     two_have_room s now pair h adds are = record {
       each = λ p. omega (arith, more_room s 2 now h adds p, pair_size (s + 0) (s + 1) pair are p);
     }
 
-    pub four_have_room : (s : ℕ) (now : List C) (one other : Pair C) → s + 4 ≤ sum.states → Adds r (λ p. ring_sum r s (λ i. part i p)) out now → ArePair (s + 0) (s + 1) one → ArePair (s + 2) (s + 3) other → HasRoom r now (run_sum mass_ring a.states at (four_sizes r r.size cells one other))
+    pub four_have_room : (s : ℕ) (now : List C) (one other : Pair C) → s + 4 ≤ sum.states → AddsCells r (λ p. ring_sum r s (λ i. part i p)) out now → ArePair (s + 0) (s + 1) one → ArePair (s + 2) (s + 3) other → HasRoom r now (run_sum mass_ring a.states at (four_sizes r r.size cells one other))
     four_have_room s now one other h adds first second = record {
       each = λ p.
           let both = run_sum_plus mass_is_ring mass_sized a.states at p (two_sizes r r.size cells one) (two_sizes r r.size cells other) in
@@ -190,17 +190,17 @@ module _ {C : Type 0} {r : Ring C} (laws : IsRing r) (sizes : IsSize r r.size) w
     }
 
     -- what the next states add comes behind
-    adds_more : (s k : ℕ) (now new : List C) → Adds r (λ p. ring_sum r s (λ i. part i p)) out now → Adds r (λ p. ring_sum r k (λ i. part (s + i) p)) now new → Adds r (λ p. ring_sum r (s + k) (λ i. part i p)) out new
+    adds_more : (s k : ℕ) (now new : List C) → AddsCells r (λ p. ring_sum r s (λ i. part i p)) out now → AddsCells r (λ p. ring_sum r k (λ i. part (s + i) p)) now new → AddsCells r (λ p. ring_sum r (s + k) (λ i. part i p)) out new
     adds_more s k now new adds more =
         let then = adds_then laws sizes (λ p. ring_sum r s (λ i. part i p)) (λ p. ring_sum r k (λ i. part (s + i) p)) out now new adds more in
         record { each = λ p. then.each p ∙ ap (r.plus (cell_at r out p)) (sym (ring_sum_split laws s k (λ i. part i p))) }
 
-    pub adds_two : (s : ℕ) (now new : List C) (pair : Pair C) → Adds r (λ p. ring_sum r s (λ i. part i p)) out now → ArePair (s + 0) (s + 1) pair → Adds r (run_sum r a.states at (two_scaled r (λ f. f) cells pair)) now new → Adds r (λ p. ring_sum r (s + 2) (λ i. part i p)) out new
+    pub adds_two : (s : ℕ) (now new : List C) (pair : Pair C) → AddsCells r (λ p. ring_sum r s (λ i. part i p)) out now → ArePair (s + 0) (s + 1) pair → AddsCells r (run_sum r a.states at (two_scaled r (λ f. f) cells pair)) now new → AddsCells r (λ p. ring_sum r (s + 2) (λ i. part i p)) out new
     adds_two s now new pair adds are more = adds_more s 2 now new adds (record {
       each = λ p. more.each p ∙ ap (r.plus (cell_at r now p)) (pair_part (s + 0) (s + 1) pair are p ∙ sum_of_two (λ i. part (s + i) p));
     })
 
-    pub adds_four : (s : ℕ) (now new : List C) (one other : Pair C) → Adds r (λ p. ring_sum r s (λ i. part i p)) out now → ArePair (s + 0) (s + 1) one → ArePair (s + 2) (s + 3) other → Adds r (run_sum r a.states at (four_scaled r (λ f. f) cells one other)) now new → Adds r (λ p. ring_sum r (s + 4) (λ i. part i p)) out new
+    pub adds_four : (s : ℕ) (now new : List C) (one other : Pair C) → AddsCells r (λ p. ring_sum r s (λ i. part i p)) out now → ArePair (s + 0) (s + 1) one → ArePair (s + 2) (s + 3) other → AddsCells r (run_sum r a.states at (four_scaled r (λ f. f) cells one other)) now new → AddsCells r (λ p. ring_sum r (s + 4) (λ i. part i p)) out new
     adds_four s now new one other adds first second more = adds_more s 4 now new adds (record {
       each = λ p.
           more.each p

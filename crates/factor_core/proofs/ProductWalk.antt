@@ -4,12 +4,12 @@ use Rattle.std.specs.Prelude.{All}
 use Rattle.std.proofs.lemmas.List.{ext_get_or, length-map, get_or-map}
 use Rattle.std.proofs.lemmas.Bool.{cases_lt}
 use Rattle.cell_rings.specs.Rings.{Ring, IsRing, IsSize, mass_ring}
-use Rattle.cell_rings.specs.Sums.{cell_at, product_at, sizes_of, Adds, HasRoom}
+use Rattle.cell_rings.specs.Sums.{cell_at, product_at, sizes_of, AddsCells, HasRoom}
 use Rattle.cell_rings.specs.RingLaws.{mass_is_ring}
 use Rattle.factor_core.specs.Walks.{total, load, IsMet, IsAxis, CanWalk}
 use Rattle.node_sets.specs.Sets.{holds}
 use Rattle.finite_sums.specs.Sums.{World, InRange}
-use Rattle.factor_core.specs.Tables.{states_in, size_from, stride_of, moved, out_place, kept_size, listed, axes_of, rows_of, row_of, starts_of, size_of, place_of, places_in, product_cell, CanMultiply}
+use Rattle.factor_core.specs.Tables.{states_in, size_from, stride_of, moved, out_place, kept_size, listed, axes_of, stride_rows, stride_row, starts_of, size_of, place_of, places_in, product_cell, CanMultiply}
 use Rattle.factor_core.specs.declared.walks.Axis.{Axis}
 use Rattle.node_sets.specs.declared.sets.NodeSet.{NodeSet}
 use Rattle.factor_core.specs.declared.slots.Slot.{Slot}
@@ -34,12 +34,12 @@ module _ {C : Type 0} {r : Ring C} (laws : IsRing r) (sizes : IsSize r r.size) (
   stride = stride_of (states_in counts) (length counts) (holds scope)
 
   abbrev row : ℕ → List ℕ
-  row = row_of counts slots
+  row = stride_row counts slots
 
   abbrev pub order : List ℕ
   order = listed (holds scope) 0 (length counts)
 
-  rows : (v : ℕ) → length (row_of counts slots v) ≡ length slots
+  rows : (v : ℕ) → length (stride_row counts slots v) ≡ length slots
   rows v = length-map slots (λ s. stride_of (states_in counts) (length counts) (holds s.scope) v)
 
   order_once : AllOnce order
@@ -103,7 +103,7 @@ module _ {C : Type 0} {r : Ring C} (laws : IsRing r) (sizes : IsSize r r.size) (
       } in
       subst IsAxis (sym (get_or-map (λ u. let a : Axis = record { states = count u; out = stride u } in a) order i 0 d in_order)) axis
 
-  near_are : All (λ d. d ≤ 2 ^ 32) (rows_of row order)
+  near_are : All (λ d. d ≤ 2 ^ 32) (stride_rows row order)
   near_are =
       all_rows (λ d. d ≤ 2 ^ 32) (λ v. v < length counts) row
       (λ v below i d l.
@@ -131,16 +131,16 @@ module _ {C : Type 0} {r : Ring C} (laws : IsRing r) (sizes : IsSize r r.size) (
   first_world = record { state = can.are_counts.some }
 
   abbrev adding : {D : Type 0} → Ring D → List D → ℕ → D
-  adding s ds p = total s ds (axes_of count stride order) (rows_of row order) (starts_of slots) 0 p
+  adding s ds p = total s ds (axes_of count stride order) (stride_rows row order) (starts_of slots) 0 p
 
   -- what the walk adds at a world's place
-  pub adds_at : {D : Type 0} (s : Ring D) (s_laws : IsRing s) (ds : List D) (w : World) → InRange count w → total s ds (axes_of count stride order) (rows_of row order) (starts_of slots) 0 (0 + out_place stride order w) ≡ product_cell s ds counts slots w
+  pub adds_at : {D : Type 0} (s : Ring D) (s_laws : IsRing s) (ds : List D) (w : World) → InRange count w → total s ds (axes_of count stride order) (stride_rows row order) (starts_of slots) 0 (0 + out_place stride order w) ≡ product_cell s ds counts slots w
   adds_at s s_laws ds w ok =
       total_at count stride row (length slots) rows s s_laws ds n order (starts_of slots) 0 w order_radix starts_length ok
       ∙ picked_kept count stride row (length slots) rows s s_laws ds n order (starts_of slots) w (none_beyond n order order_below)
       ∙ ap (product_at s ds) (moved_is w)
 
-  room_is : HasRoom r out (load r cells (axes_of count stride order) (rows_of row order) (starts_of slots) 0)
+  room_is : HasRoom r out (load r cells (axes_of count stride order) (stride_rows row order) (starts_of slots) 0)
   room_is = record {
     each = λ p.
         let empty = ap r.size (can.nought p) in
@@ -150,7 +150,7 @@ module _ {C : Type 0} {r : Ring C} (laws : IsRing r) (sizes : IsSize r r.size) (
               let w = found.0 in
               let there : 0 + out_place stride order w ≡ p = omega (arith, found.2) in
               let at_w = adds_at mass_ring mass_is_ring (sizes_of r cells) w found.1 in
-              let here : load r cells (axes_of count stride order) (rows_of row order) (starts_of slots) 0 p ≡ product_cell mass_ring (sizes_of r cells) counts slots w = ap (λ q. load r cells (axes_of count stride order) (rows_of row order) (starts_of slots) 0 q) (sym there) ∙ at_w in
+              let here : load r cells (axes_of count stride order) (stride_rows row order) (starts_of slots) 0 p ≡ product_cell mass_ring (sizes_of r cells) counts slots w = ap (λ q. load r cells (axes_of count stride order) (stride_rows row order) (starts_of slots) 0 q) (sym there) ∙ at_w in
               omega (arith, empty, sizes.nought, here, can.fits.whole w found.1)
           | inr outside ↦
               let nothing = total_outside count stride row (length slots) rows mass_ring mass_is_ring (sizes_of r cells) n order (starts_of slots) 0 p order_radix starts_length (inr (let beyond : 0 + kept_size count n order ≤ p = omega arith in beyond)) in
@@ -159,7 +159,7 @@ module _ {C : Type 0} {r : Ring C} (laws : IsRing r) (sizes : IsSize r r.size) (
   }
 
   -- the walk may begin
-  pub product_begins : CanWalk r cells (axes_of count stride order) (rows_of row order) (starts_of slots) out 0
+  pub product_begins : CanWalk r cells (axes_of count stride order) (stride_rows row order) (starts_of slots) out 0
   product_begins = record {
     are_axes = axes_are;
     count = length-rows row (length slots) rows order ∙ ap (λ k. k * length slots) (sym (length-map order (λ v. let a : Axis = record { states = count v; out = stride v } in a))) ∙ ap (λ k. length (axes_of count stride order) * k) (sym starts_length);
@@ -171,7 +171,7 @@ module _ {C : Type 0} {r : Ring C} (laws : IsRing r) (sizes : IsSize r r.size) (
   }
 
   -- the cells of the product
-  pub multiplied_is : (new : List C) → Adds r (total r cells (axes_of count stride order) (rows_of row order) (starts_of slots) 0) out new → (w : World) → InRange count w → cell_at r new (place_of counts scope w) ≡ product_cell r cells counts slots w
+  pub multiplied_is : (new : List C) → AddsCells r (total r cells (axes_of count stride order) (stride_rows row order) (starts_of slots) 0) out new → (w : World) → InRange count w → cell_at r new (place_of counts scope w) ≡ product_cell r cells counts slots w
   multiplied_is new adds w ok =
       let there : place_of counts scope w ≡ 0 + out_place stride order w = omega (arith, out_is w) in
       ap (cell_at r new) there
@@ -182,9 +182,9 @@ module _ {C : Type 0} {r : Ring C} (laws : IsRing r) (sizes : IsSize r r.size) (
       ∙ adds_at r laws cells w ok
 
   -- lists that are those of the order
-  module _ (axes : List Axis) (strides places : List ℕ) (are_axes : axes ≡ axes_of count stride order) (are_strides : strides ≡ rows_of row order) (are_places : places ≡ starts_of slots) where
+  module _ (axes : List Axis) (strides places : List ℕ) (are_axes : axes ≡ axes_of count stride order) (are_strides : strides ≡ stride_rows row order) (are_places : places ≡ starts_of slots) where
     pub begins_with : CanWalk r cells axes strides places out 0
     begins_with = can_same r cells out are_axes are_strides are_places product_begins
 
-    pub multiplies_with : (new : List C) → Adds r (total r cells axes strides places 0) out new → (w : World) → InRange count w → cell_at r new (place_of counts scope w) ≡ product_cell r cells counts slots w
+    pub multiplies_with : (new : List C) → AddsCells r (total r cells axes strides places 0) out new → (w : World) → InRange count w → cell_at r new (place_of counts scope w) ≡ product_cell r cells counts slots w
     multiplies_with new adds = multiplied_is new (adds_same r cells out are_axes are_strides are_places new adds)

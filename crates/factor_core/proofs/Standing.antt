@@ -10,7 +10,7 @@ use Rattle.maid_model.specs.Nodes.{states_of, counts_of}
 use Rattle.cell_rings.specs.Rings.{Ring}
 use Rattle.cell_rings.specs.Sums.{cell_at}
 use Rattle.factor_core.specs.declared.slots.Slot.{Slot}
-use Rattle.factor_core.specs.Slots.{WorkspaceView, space, nodes_in, part, picked, IsLive, table_of, Appends, StaysLive, AppendsTable}
+use Rattle.factor_core.specs.Slots.{WorkspaceView, space, nodes_in, part, picked, IsLiveSlot, table_of, Appends, StaysLive, AppendsTable}
 use Rattle.factor_core.specs.Tables.{LiesIn, place_of, size_of, states_in}
 use Rattle.factor_core.proofs.Counts.{counts_length, cells_are, place_among, range_is}
 use Rattle.factor_core.proofs.Joining.{place_below}
@@ -30,7 +30,7 @@ part_of_first cells used start len l =
 
 module _ {C : Type 0} (r : Ring C) (nodes : List NodeView) where
   -- as the walks see it
-  pub lies_in : (cells : List C) (s : Slot) → IsLive nodes cells s → LiesIn (counts_of nodes) (length cells) s
+  pub lies_in : (cells : List C) (s : Slot) → IsLiveSlot nodes cells s → LiesIn (counts_of nodes) (length cells) s
   lies_in cells s live = record {
     known = λ v l. not_held (holds s.scope v) (λ t. let k = live.known v t in let e = counts_length nodes in omega arith);
     size = live.size ∙ sym (cells_are nodes (holds s.scope));
@@ -38,7 +38,7 @@ module _ {C : Type 0} (r : Ring C) (nodes : List NodeView) where
   }
 
   -- a slot's cell in a world
-  pub cell_of_slot : (cells : List C) (s : Slot) (w : World) → IsLive nodes cells s → InRange (states_of nodes) w → cell_at r cells (s.start + place_of (counts_of nodes) s.scope w) ≡ (table_of r nodes cells s).cell w
+  pub cell_of_slot : (cells : List C) (s : Slot) (w : World) → IsLiveSlot nodes cells s → InRange (states_of nodes) w → cell_at r cells (s.start + place_of (counts_of nodes) s.scope w) ≡ (table_of r nodes cells s).cell w
   cell_of_slot cells s w live i =
       let below = place_below (states_in (counts_of nodes)) (holds s.scope) w (range_is nodes w i) (length (counts_of nodes)) 0 in
       let inside : place_of (counts_of nodes) s.scope w < s.len = omega (arith, below, live.size, cells_are nodes (holds s.scope)) in
@@ -46,7 +46,7 @@ module _ {C : Type 0} (r : Ring C) (nodes : List NodeView) where
       ∙ ap (cell_at r (part cells s.start s.len)) (place_among nodes (holds s.scope) w)
 
   -- earlier slots stay
-  pub stays_live : (before after : List C) (s : Slot) → take (length before) after ≡ before → length before ≤ length after → IsLive nodes before s → StaysLive r nodes before after s
+  pub stays_live : (before after : List C) (s : Slot) → take (length before) after ≡ before → length before ≤ length after → IsLiveSlot nodes before s → StaysLive r nodes before after s
   stays_live before after s kept longer live = record {
     live = record { known = live.known; size = live.size; within = (let l = live.within in omega arith) };
     table = ap (λ cs. let t = picked r nodes (nodes_in nodes (holds s.scope)) cs in record { holds = holds s.scope; cell = t })
@@ -67,7 +67,7 @@ module _ {C : Type 0} (r : Ring C) (nodes : List NodeView) where
     pub appends : Appends (space all used) (space new (used + len)) used len
     appends = record { start = sym before; kept = first; longer = (let b = before in let a = after in omega arith); less = (omega arith) }
 
-    pub stays : (s : Slot) → IsLive nodes (take used all) s → StaysLive r nodes (take used all) (take (used + len) new) s
+    pub stays : (s : Slot) → IsLiveSlot nodes (take used all) s → StaysLive r nodes (take used all) (take (used + len) new) s
     stays s live = stays_live (take used all) (take (used + len) new) s first (let b = before in let a = after in omega arith) live
 
     -- a cell of what was written

@@ -6,7 +6,7 @@ use Rattle.cell_rings.specs.Rings.{Ring}
 use Rattle.cell_rings.specs.Sums.{cell_at}
 use Rattle.cell_rings.proofs.Runs.{chosen, not_chosen}
 use Rattle.factor_core.specs.declared.copies.Step.{Step}
-use Rattle.factor_core.specs.Copies.{one_by_one, gathered, IsStep, steps_of, list_stride, CanCopy}
+use Rattle.factor_core.specs.Copies.{one_by_one, gathered, IsCopyStep, steps_of, list_stride, CanCopy}
 use Rattle.factor_core.proofs.Collapse.{IsNoneOf, AllOnce, none_first, none_rest}
 use Rattle.factor_core.proofs.Copying.{row_below}
 
@@ -59,7 +59,7 @@ module _ {C : Type 0} (r : Ring C) (cells : List C) where
         let below = row_below r count (λ v. 0) vs (λ v. 0) (record { state = some }) in
         omega (arith, below)
 
-all_one : (a : Step) → IsStep a → All IsStep (a ∷ [])
+all_one : (a : Step) → IsCopyStep a → All IsCopyStep (a ∷ [])
 all_one a h zero d l = h
 all_one a h (suc i) d l = absurd (omega arith)
 

@@ -9,8 +9,8 @@ use Rattle.factor_core.specs.declared.slots.Slot.{Slot}
 use Rattle.factor_core.specs.declared.walks.Axis.{Axis}
 use Rattle.cell_rings.proofs.Runs.{chosen, not_chosen}
 use Rattle.factor_core.specs.Scopes.{united, united_but}
-use Rattle.factor_core.specs.Tables.{states_in, size_from, stride_of, stride_over, row_of, rows_of, listed, with_extra, axes_of}
-use Rattle.factor_core.specs.Rows.{sizes_from, HasRow, row_beside, HasNodes}
+use Rattle.factor_core.specs.Tables.{states_in, size_from, stride_of, stride_over, stride_row, stride_rows, listed, with_extra, axes_of}
+use Rattle.factor_core.specs.Rows.{sizes_from, HasStrideRow, row_beside, HasNodes}
 use Rattle.factor_core.proofs.SizeLemmas.{size_step, size_gap, size_later}
 use Rattle.factor_core.proofs.Listing.{rows_more}
 use Rattle.factor_core.proofs.Ordering.{listed_below}
@@ -54,13 +54,13 @@ sizes_more counts slots v sizes j size d l room so_far is =
     ∙ sym (map_more (λ s. size_from (states_in counts) (holds s.scope) v (length counts - v)) slots j d l)
 
 -- one more slot's stride is written
-pub strides_more : (counts : List ℕ) (slots : List Slot) (v : ℕ) (old now : List ℕ) (from j stride : ℕ) (d : Slot) → j < length slots → from + j < length now → take (from + j) now ≡ take from old ++ row_of counts (take j slots) v → stride ≡ stride_over counts (get_or slots j d).scope v → take (from + (j + 1)) (set now (from + j) stride) ≡ take from old ++ row_of counts (take (j + 1) slots) v
+pub strides_more : (counts : List ℕ) (slots : List Slot) (v : ℕ) (old now : List ℕ) (from j stride : ℕ) (d : Slot) → j < length slots → from + j < length now → take (from + j) now ≡ take from old ++ stride_row counts (take j slots) v → stride ≡ stride_over counts (get_or slots j d).scope v → take (from + (j + 1)) (set now (from + j) stride) ≡ take from old ++ stride_row counts (take (j + 1) slots) v
 strides_more counts slots v old now from j stride d l room so_far is =
     ap (λ k. take k (set now (from + j) stride)) (let e : from + (j + 1) ≡ from + j + 1 = omega arith in e)
     ∙ take_more_set now (from + j) stride room
     ∙ ap (λ l. l ++ stride ∷ []) so_far
-    ∙ append_assoc (take from old) (row_of counts (take j slots) v) (stride ∷ [])
-    ∙ ap (λ k. take from old ++ (row_of counts (take j slots) v ++ k ∷ [])) is
+    ∙ append_assoc (take from old) (stride_row counts (take j slots) v) (stride ∷ [])
+    ∙ ap (λ k. take from old ++ (stride_row counts (take j slots) v ++ k ∷ [])) is
     ∙ ap (λ l. take from old ++ l) (sym (map_more (λ s. stride_over counts s.scope v) slots j d l))
 
 -- what lies behind a place that is written stays
@@ -203,18 +203,18 @@ take_plus a b xs =
     ∙ ap (λ l. take a xs ++ l) (drop-take a b xs)
 
 -- the rows of all nodes, one behind another
-pub rows_are : (counts : List ℕ) (slots : List Slot) (strides vs : List ℕ) → length vs * length slots ≤ length strides → ((i : ℕ) → i < length vs → HasRow counts slots strides i (get_or vs i 0)) → take (length vs * length slots) strides ≡ rows_of (row_of counts slots) vs
-rows_are counts slots strides vs room each = first (length vs) (omega arith) ∙ ap (rows_of (row_of counts slots)) (take_all (length vs) vs (omega arith))
+pub rows_are : (counts : List ℕ) (slots : List Slot) (strides vs : List ℕ) → length vs * length slots ≤ length strides → ((i : ℕ) → i < length vs → HasStrideRow counts slots strides i (get_or vs i 0)) → take (length vs * length slots) strides ≡ stride_rows (stride_row counts slots) vs
+rows_are counts slots strides vs room each = first (length vs) (omega arith) ∙ ap (stride_rows (stride_row counts slots)) (take_all (length vs) vs (omega arith))
   where
-    first : (k : ℕ) → k ≤ length vs → take (k * length slots) strides ≡ rows_of (row_of counts slots) (take k vs)
+    first : (k : ℕ) → k ≤ length vs → take (k * length slots) strides ≡ stride_rows (stride_row counts slots) (take k vs)
     first zero l = ap (λ n. take n strides) (let e : 0 * length slots ≡ 0 = omega arith in e)
     first (suc k) l =
         ap (λ n. take n strides) (let e : suc k * length slots ≡ k * length slots + length slots = omega arith in e)
         ∙ take_plus (k * length slots) (length slots) strides
         ∙ ap (λ l. l ++ take (length slots) (drop (k * length slots) strides)) (first k (omega arith))
-        ∙ ap (λ l. rows_of (row_of counts slots) (take k vs) ++ l) (each k (omega arith))
-        ∙ rows_more (row_of counts slots) vs k (omega arith)
-        ∙ ap (λ n. rows_of (row_of counts slots) (take n vs)) (let e : k + 1 ≡ suc k = omega arith in e)
+        ∙ ap (λ l. stride_rows (stride_row counts slots) (take k vs) ++ l) (each k (omega arith))
+        ∙ rows_more (stride_row counts slots) vs k (omega arith)
+        ∙ ap (λ n. stride_rows (stride_row counts slots) (take n vs)) (let e : k + 1 ≡ suc k = omega arith in e)
 
 -- one more node among others, and each of these beside it
 pub extra_at : (at x : ℕ) (xs : List ℕ) → at ≤ length xs → get_or (with_extra at x xs) at 0 ≡ x
@@ -240,16 +240,16 @@ length-extra (suc at) x [] l = absurd (omega arith)
 length-extra (suc at) x (y ∷ xs) l = omega (arith, length-extra at x xs (omega arith))
 
 -- the rows beside the one at `at`, with that one
-pub rows_with : (counts : List ℕ) (slots : List Slot) (strides kept : List ℕ) (at x : ℕ) → at ≤ length kept → (length kept + 1) * length slots ≤ length strides → HasRow counts slots strides at x → ((i : ℕ) → i < length kept → HasRow counts slots strides (row_beside at i) (get_or kept i 0)) → take ((length kept + 1) * length slots) strides ≡ rows_of (row_of counts slots) (with_extra at x kept)
+pub rows_with : (counts : List ℕ) (slots : List Slot) (strides kept : List ℕ) (at x : ℕ) → at ≤ length kept → (length kept + 1) * length slots ≤ length strides → HasStrideRow counts slots strides at x → ((i : ℕ) → i < length kept → HasStrideRow counts slots strides (row_beside at i) (get_or kept i 0)) → take ((length kept + 1) * length slots) strides ≡ stride_rows (stride_row counts slots) (with_extra at x kept)
 rows_with counts slots strides kept at x fits room mine others =
     let whole = length-extra at x kept fits in
     ap (λ n. take (n * length slots) strides) (sym whole)
     ∙ rows_are counts slots strides (with_extra at x kept) (subst (λ n. n * length slots ≤ length strides) (sym whole) room) each
   where
     Here : ℕ → ℕ → Type 0
-    Here r v = HasRow counts slots strides r v
+    Here r v = HasStrideRow counts slots strides r v
 
-    each : (r : ℕ) → r < length (with_extra at x kept) → HasRow counts slots strides r (get_or (with_extra at x kept) r 0)
+    each : (r : ℕ) → r < length (with_extra at x kept) → HasStrideRow counts slots strides r (get_or (with_extra at x kept) r 0)
     each r l = elim (cases_lt r at) [
       | inl a ↦
           let same : row_beside at r ≡ r = elim (beside at r) [ inl h ↦ h.1 | inr h ↦ absurd (let b = h.0 in omega arith) ] in

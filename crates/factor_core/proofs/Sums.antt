@@ -1,7 +1,7 @@
 -- A walk over one axis along which the result stands, as one sum of products.
 use Rattle.std.proofs.Common.{◌≡◌, ℕ, ◌+◌, ◌*◌, ◌<◌, ◌≤◌, List, [], ◌∷◌, length, ap, subst, ◌∙◌, sym, arith, cond, ◌==◌, refl}
 use Rattle.cell_rings.specs.Rings.{Ring, IsRing, IsSize, mass_ring}
-use Rattle.cell_rings.specs.Sums.{ring_sum, cell_at, product_at, sizes_of, Adds}
+use Rattle.cell_rings.specs.Sums.{ring_sum, cell_at, product_at, sizes_of, AddsCells}
 use Rattle.cell_rings.specs.RingLaws.{mass_is_ring}
 use Rattle.cell_rings.proofs.Adding.{nat_sum_le, size_sum, size_product}
 use Rattle.cell_rings.proofs.Dots.{term_room, sum_next}
@@ -50,7 +50,7 @@ module _ {C : Type 0} {r : Ring C} (laws : IsRing r) (sizes : IsSize r r.size) (
   sum_fits sum e =
       omega (arith, sizes_room, ap r.size e, size_sum laws sizes a.states term, nat_sum_le a.states (λ s. r.size (term s)) most (λ s l. term_size s))
 
-  pub sum_adds : (sum : C) (new : List C) → sum ≡ ring_sum r a.states term → Adds r (λ p. cond (p == at) sum r.nought) out new → Adds r (total r cells (a ∷ []) ds places at) out new
+  pub sum_adds : (sum : C) (new : List C) → sum ≡ ring_sum r a.states term → AddsCells r (λ p. cond (p == at) sum r.nought) out new → AddsCells r (total r cells (a ∷ []) ds places at) out new
   sum_adds sum new e adds = record {
     each = λ p.
         adds.each p

@@ -3,7 +3,7 @@ use Rattle.std.proofs.Common.{◌≡◌, ℕ, zero, suc, ◌+◌, ◌*◌, ◌^�
 use Rattle.std.specs.Prelude.{All}
 use Rattle.std.proofs.lemmas.List.{ext_get_or, drop_more, length-drop, get_or-drop}
 use Rattle.cell_rings.specs.Rings.{Ring, IsRing, IsSize, mass_ring}
-use Rattle.cell_rings.specs.Sums.{ring_sum, Adds, HasRoom}
+use Rattle.cell_rings.specs.Sums.{ring_sum, AddsCells, HasRoom}
 use Rattle.factor_core.specs.Walks.{shifted, total, load, AtEach, IsMet, IsAxis, CanWalk}
 use Rattle.factor_core.specs.declared.walks.Axis.{Axis}
 use Rattle.cell_rings.proofs.Adding.{adds_none, adds_then, room_for_next}
@@ -86,7 +86,7 @@ module _ {C : Type 0} {r : Ring C} (laws : IsRing r) (sizes : IsSize r r.size) (
       let moved = each i (omega (arith, same)) in
       omega (arith, at_i, moved))
 
-  pub room_next : (s : ℕ) (here : List ℕ) (place : ℕ) (now : List C) → s < a.states → here ≡ shifted s strides places → place ≡ at + s * a.out → Adds r (λ p. ring_sum r s (λ i. part i p)) out now → HasRoom r now (load r cells rest below here place)
+  pub room_next : (s : ℕ) (here : List ℕ) (place : ℕ) (now : List C) → s < a.states → here ≡ shifted s strides places → place ≡ at + s * a.out → AddsCells r (λ p. ring_sum r s (λ i. part i p)) out now → HasRoom r now (load r cells rest below here place)
   room_next s here place now h e f adds =
       let room = subst (λ ds. HasRoom r out (λ p. ring_sum mass_ring a.states (λ i. load r cells rest ds (shifted i strides places) (at + i * a.out) p))) (sym b) can.room in
       subst (λ ps. HasRoom r now (load r cells rest below ps place)) (sym e)
@@ -94,7 +94,7 @@ module _ {C : Type 0} {r : Ring C} (laws : IsRing r) (sizes : IsSize r r.size) (
       (room_for_next laws sizes a.states s part (λ i p. load r cells rest below (shifted i strides places) (at + i * a.out) p) out now h (λ i p. size_total laws sizes cells rest below (shifted i strides places) (at + i * a.out) p) room adds))
 
   -- what the walk below requires
-  pub can_next : (s : ℕ) (here : List ℕ) (place : ℕ) (now : List C) → s < a.states → here ≡ shifted s strides places → place ≡ at + s * a.out → length now ≡ length out → Adds r (λ p. ring_sum r s (λ i. part i p)) out now → CanWalk r cells rest below here now place
+  pub can_next : (s : ℕ) (here : List ℕ) (place : ℕ) (now : List C) → s < a.states → here ≡ shifted s strides places → place ≡ at + s * a.out → length now ≡ length out → AddsCells r (λ p. ring_sum r s (λ i. part i p)) out now → CanWalk r cells rest below here now place
   can_next s here place now h e f len adds =
       let same : length here ≡ length places = ap length e ∙ length-shifted s strides places in
       record {
@@ -107,19 +107,19 @@ module _ {C : Type 0} {r : Ring C} (laws : IsRing r) (sizes : IsSize r r.size) (
         room = room_next s here place now h e f adds;
       }
 
-  pub adds_first : Adds r (λ p. ring_sum r 0 (λ i. part i p)) out out
+  pub adds_first : AddsCells r (λ p. ring_sum r 0 (λ i. part i p)) out out
   adds_first = adds_none laws sizes out
 
-  pub adds_next : (s : ℕ) (here : List ℕ) (place : ℕ) (now new : List C) → here ≡ shifted s strides places → place ≡ at + s * a.out → Adds r (λ p. ring_sum r s (λ i. part i p)) out now → Adds r (total r cells rest below here place) now new → Adds r (λ p. ring_sum r (s + 1) (λ i. part i p)) out new
+  pub adds_next : (s : ℕ) (here : List ℕ) (place : ℕ) (now new : List C) → here ≡ shifted s strides places → place ≡ at + s * a.out → AddsCells r (λ p. ring_sum r s (λ i. part i p)) out now → AddsCells r (total r cells rest below here place) now new → AddsCells r (λ p. ring_sum r (s + 1) (λ i. part i p)) out new
   adds_next s here place now new e f adds more =
-      let more_there = subst (λ ps. Adds r (total r cells rest below ps (at + s * a.out)) now new) e (subst (λ k. Adds r (total r cells rest below here k) now new) f more) in
+      let more_there = subst (λ ps. AddsCells r (total r cells rest below ps (at + s * a.out)) now new) e (subst (λ k. AddsCells r (total r cells rest below here k) now new) f more) in
       let both = adds_then laws sizes (λ p. ring_sum r s (λ i. part i p)) (part s) out now new adds more_there in
-      subst (λ k. Adds r (λ p. ring_sum r k (λ i. part i p)) out new) (let one : suc s ≡ s + 1 = omega arith in one) both
+      subst (λ k. AddsCells r (λ p. ring_sum r k (λ i. part i p)) out new) (let one : suc s ≡ s + 1 = omega arith in one) both
 
-  pub adds_all : (s : ℕ) (new : List C) → s ≡ a.states → Adds r (λ p. ring_sum r s (λ i. part i p)) out new → Adds r (total r cells (a ∷ rest) strides places at) out new
+  pub adds_all : (s : ℕ) (new : List C) → s ≡ a.states → AddsCells r (λ p. ring_sum r s (λ i. part i p)) out new → AddsCells r (total r cells (a ∷ rest) strides places at) out new
   adds_all s new e adds =
-      let all = subst (λ k. Adds r (λ p. ring_sum r k (λ i. part i p)) out new) e adds in
-      subst (λ ds. Adds r (λ p. ring_sum r a.states (λ i. total r cells rest ds (shifted i strides places) (at + i * a.out) p)) out new) b all
+      let all = subst (λ k. AddsCells r (λ p. ring_sum r k (λ i. part i p)) out new) e adds in
+      subst (λ ds. AddsCells r (λ p. ring_sum r a.states (λ i. total r cells rest ds (shifted i strides places) (at + i * a.out) p)) out new) b all
 
   pub retreat_fits : (here : List ℕ) → here ≡ shifted a.states strides places → (i : ℕ) → i < length here → a.states * get_or strides i 0 ≤ get_or here i 0
   retreat_fits here e i l =

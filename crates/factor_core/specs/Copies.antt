@@ -45,7 +45,7 @@ GathersTwo r cells step inner from old at new next =
     Gathers r cells (step ∷ (inner ∷ [])) from old at new next
 
 -- a step: one state or more, and no long stride
-pub record IsStep (a : Step) : Type 0 where
+pub record IsCopyStep (a : Step) : Type 0 where
   pub some : 0 < a.states
   pub near : a.stride ≤ 2 ^ 32
 
@@ -61,7 +61,7 @@ steps_of count stride vs = map (λ v. record { states = count v; stride = stride
 -- what a copy requires: no long step, and room for what is read, which lies before the place n
 pub record CanCopy (Fit : Type 0) (n : ℕ) (steps : List Step) (from len at : ℕ) : Type 0 where
   pub fit : Fit
-  pub are_steps : All IsStep steps
+  pub are_steps : All IsCopyStep steps
   pub reads : ReadsBefore n steps from
   pub short : n ≤ 2 ^ 32
   pub room : at + count_of_steps steps ≤ len

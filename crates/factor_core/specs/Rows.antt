@@ -3,16 +3,16 @@ use Rattle.std.specs.Prelude.{◌≡◌, ℕ, ◌+◌, ◌*◌, ◌<◌, ◌≤�
 use Rattle.node_sets.specs.declared.sets.NodeSet.{NodeSet}
 use Rattle.factor_core.specs.declared.slots.Slot.{Slot}
 use Rattle.factor_core.specs.Scopes.{united}
-use Rattle.factor_core.specs.Tables.{size_onward, row_of, rows_of, listed, node_count, with_extra}
+use Rattle.factor_core.specs.Tables.{size_onward, stride_row, stride_rows, listed, node_count, with_extra}
 
 -- how many cells each slot has over its nodes from v on
 abbrev pub sizes_from : List ℕ → List Slot → ℕ → List ℕ
 sizes_from counts slots v = map (λ s. size_onward counts s.scope v) slots
 
 -- the row has the slots' strides at the node
-abbrev pub HasRow : List ℕ → List Slot → List ℕ → ℕ → ℕ → Type 0
-HasRow counts slots strides row v =
-    take (length slots) (drop (row * length slots) strides) ≡ row_of counts slots v
+abbrev pub HasStrideRow : List ℕ → List Slot → List ℕ → ℕ → ℕ → Type 0
+HasStrideRow counts slots strides row v =
+    take (length slots) (drop (row * length slots) strides) ≡ stride_row counts slots v
 
 -- the row of the i-th node, where one more node has the row `at`
 abbrev pub row_beside : ℕ → ℕ → ℕ
@@ -29,13 +29,13 @@ abbrev pub HaveRows :
     List ℕ → List Slot → List ℕ → ℕ → ℕ → ℕ → List ℕ → Type 0
 HaveRows counts slots strides at low high nodes = (i : ℕ) → i < length nodes
     → low ≤ slice_index nodes i → slice_index nodes i < high
-    → HasRow counts slots strides (row_beside at i) (slice_index nodes i)
+    → HasStrideRow counts slots strides (row_beside at i) (slice_index nodes i)
 
 -- rows stay that have a node's strides, where these may not be another's
 abbrev pub KeepRows :
     List ℕ → List Slot → List ℕ → List ℕ → (ℕ → ℕ → Type 0) → Type 0
 KeepRows counts slots before after May = (r v : ℕ)
-    → May r v → HasRow counts slots before r v → HasRow counts slots after r v
+    → May r v → HasStrideRow counts slots before r v → HasStrideRow counts slots after r v
 
 -- if the row is one of the nodes', it is v's
 abbrev pub MayBeOf : ℕ → List ℕ → ℕ → ℕ → Type 0
@@ -45,7 +45,7 @@ MayBeOf at nodes r v =
 -- the first n rows are those of these nodes
 abbrev pub AreRowsOf : List ℕ → List Slot → List ℕ → ℕ → List ℕ → Type 0
 AreRowsOf counts slots nodes n strides =
-    take (n * length slots) strides ≡ rows_of (row_of counts slots) nodes
+    take (n * length slots) strides ≡ stride_rows (stride_row counts slots) nodes
 
 -- so they are with the node put at that place among them
 abbrev pub AreRowsWith : List ℕ → List Slot → ℕ → ℕ → List ℕ → List ℕ → Type 0

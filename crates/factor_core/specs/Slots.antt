@@ -42,7 +42,7 @@ abbrev pub picked : {C : Type 0} → Ring C → List NodeView → List ℕ → L
 picked r nodes vs cells w = cell_at r cells (row_from (states_of nodes) w 0 vs)
 
 -- a slot is live: its nodes are the diagram's, it is as long as they ask, and its range lies in the cells
-pub record IsLive {C : Type 0} (nodes : List NodeView) (cells : List C) (slot : Slot) : Type 0 where
+pub record IsLiveSlot {C : Type 0} (nodes : List NodeView) (cells : List C) (slot : Slot) : Type 0 where
   pub known : (v : ℕ) → IsIn slot.scope v → v < length nodes
   pub size : slot.len ≡ cells_over nodes (holds slot.scope)
   pub within : slot.start + slot.len ≤ length cells
@@ -83,20 +83,20 @@ pub record Appends {C : Type 0} (before after : WorkspaceView C) (first len : �
 -- the slots that were live are, with the tables that they had
 pub record StaysLive {C : Type 0}
     (r : Ring C) (nodes : List NodeView) (before after : List C) (slot : Slot) : Type 0 where
-  pub live : IsLive nodes after slot
+  pub live : IsLiveSlot nodes after slot
   pub table : table_of r nodes after slot ≡ table_of r nodes before slot
 
 -- so do all that were live
 abbrev pub AllStayLive : {C : Type 0} → Ring C → List NodeView → List C → List C → Type 0
 AllStayLive r nodes before after =
-    (s : Slot) → IsLive nodes before s → StaysLive r nodes before after s
+    (s : Slot) → IsLiveSlot nodes before s → StaysLive r nodes before after s
 
 -- a table was appended, and the slot is its
 pub record AppendsTable {C : Type 0}
     (r : Ring C) (nodes : List NodeView) (before after : WorkspaceView C) (slot : Slot)
     (t : Table C) : Type 0 where
   pub appends : Appends before after slot.start slot.len
-  pub live : IsLive nodes after.cells slot
+  pub live : IsLiveSlot nodes after.cells slot
   pub table : IsSame (states_of nodes) (table_of r nodes after.cells slot) t
   pub stays : AllStayLive r nodes before.cells after.cells
 

@@ -30,9 +30,9 @@ abbrev pub axes_of : (ℕ → ℕ) → (ℕ → ℕ) → List ℕ → List Axis
 axes_of count out vs = map (λ v. record { states = count v; out = out v }) vs
 
 -- the rows of the nodes one after another
-abbrev pub rows_of : (ℕ → List ℕ) → List ℕ → List ℕ
-rows_of row [] = []
-rows_of row (v ∷ vs) = row v ++ rows_of row vs
+abbrev pub stride_rows : (ℕ → List ℕ) → List ℕ → List ℕ
+stride_rows row [] = []
+stride_rows row (v ∷ vs) = row v ++ stride_rows row vs
 
 -- the operands' places in the world
 abbrev pub moved : (ℕ → List ℕ) → List ℕ → World → List ℕ → List ℕ
@@ -73,8 +73,8 @@ abbrev pub with_extra : {A : Type 0} → ℕ → A → List A → List A
 with_extra k x xs = take k xs ++ x ∷ drop k xs
 
 -- the strides of the slots at the node
-abbrev pub row_of : List ℕ → List Slot → ℕ → List ℕ
-row_of counts slots v =
+abbrev pub stride_row : List ℕ → List Slot → ℕ → List ℕ
+stride_row counts slots v =
     map (λ s. stride_of (states_in counts) (length counts) (holds s.scope) v) slots
 
 -- where the slots start
@@ -165,7 +165,7 @@ pub record RoomToJoin {C : Type 0}
       → join_cell mass_ring (sizes_of r cells) counts slots x w ≤ r.most
 
 -- the scope of a join: below the count of nodes it holds those of the slots but x
-pub record IsJoined (counts : List ℕ) (slots : List Slot) (x : ℕ) (scope : NodeSet) : Type 0 where
+pub record IsJoinScope (counts : List ℕ) (slots : List Slot) (x : ℕ) (scope : NodeSet) : Type 0 where
   pub within : (v : ℕ) → v < length counts → holds scope v ≡ united_but slots x v
 
 -- what a join requires
@@ -176,7 +176,7 @@ pub record CanJoin {C : Type 0}
   pub node : x < length counts
   pub live : All (LiesIn counts (length cells)) slots
   pub small : All (λ s. size_of counts s.scope ≤ 2 ^ 32) slots
-  pub is_joined : IsJoined counts slots x scope
+  pub is_joined : IsJoinScope counts slots x scope
   pub few_cells : length cells ≤ 2 ^ 32
   pub size : length out ≡ size_of counts scope
   pub short_out : length out ≤ 2 ^ 32
@@ -211,17 +211,17 @@ pub record CanMultiply {C : Type 0}
   pub fits : RoomToMultiply r cells counts slots
 
 -- the states are those that the world gives to the scope's nodes, the lowest node first
-pub record Gives (counts : List ℕ) (scope : NodeSet) (w : World) (states : List ℕ) : Type 0 where
+pub record GivesStates (counts : List ℕ) (scope : NodeSet) (w : World) (states : List ℕ) : Type 0 where
   pub state : (i : ℕ) → i < length (listed (holds scope) 0 (length counts))
       → w (slice_index (listed (holds scope) 0 (length counts)) i) ≡ slice_index states i
 
 -- the place is that of the cell of every world that gives them
 abbrev pub IsPlaceAt : List ℕ → NodeSet → List ℕ → ℕ → Type 0
 IsPlaceAt counts scope states place =
-    (w : World) → Gives counts scope w states → place ≡ place_of counts scope w
+    (w : World) → GivesStates counts scope w states → place ≡ place_of counts scope w
 
 -- one state in range for each node of the scope
-pub record AreStates (counts : List ℕ) (scope : NodeSet) (states : List ℕ) : Type 0 where
+pub record AreScopeStates (counts : List ℕ) (scope : NodeSet) (states : List ℕ) : Type 0 where
   pub count : length states ≡ length (listed (holds scope) 0 (length counts))
   pub within : (i : ℕ) → i < length states
       → slice_index states i

@@ -3,7 +3,7 @@
 -- Only private contracts cite this file.
 use Rattle.std.specs.Prelude.{◌≡◌, ℕ, ◌+◌, ◌*◌, ◌^◌, ◌<◌, ◌≤◌, ◌==◌, if◌then◌else◌, Bool, true, false, List, [], ◌∷◌, ◌-◌, length, take, drop, All, slice_index}
 use Rattle.cell_rings.specs.Rings.{Ring, mass_ring}
-use Rattle.cell_rings.specs.Sums.{ring_sum, cell_at, product_at, product_from, sizes_of, ProductFits, Adds, HasRoom}
+use Rattle.cell_rings.specs.Sums.{ring_sum, cell_at, product_at, product_from, sizes_of, ProductFits, AddsCells, HasRoom}
 use Rattle.cell_rings.specs.declared.pairs.Pair.{Pair}
 use Rattle.factor_core.specs.declared.walks.Axis.{Axis}
 
@@ -24,7 +24,7 @@ total r cells (a ∷ rest) strides places at p = ring_sum r a.states (λ s.
 abbrev pub AddsTotal : {C : Type 0}
     → Ring C → List C → List Axis → List ℕ → List ℕ → ℕ → List C → List C → Type 0
 AddsTotal r cells axes strides places at old new =
-    Adds r (total r cells axes strides places at) old new
+    AddsCells r (total r cells axes strides places at) old new
 
 -- the same of sizes
 abbrev pub load : {C : Type 0} → Ring C → List C → List Axis → List ℕ → List ℕ → ℕ → ℕ → ℕ
@@ -78,9 +78,9 @@ pub record IsTurned (a : Axis) (strides : List ℕ) (count : ℕ) : Type 0 where
   pub second : slice_index strides 1 ≡ 0
 
 -- along the axis the result and one operand move cell by cell: the first of two where it is turned, else the last
-abbrev pub IsMoved : Bool → Axis → List ℕ → ℕ → Type 0
-IsMoved false a strides count = IsRun a strides count
-IsMoved true a strides count = IsTurned a strides count
+abbrev pub MovesAlong : Bool → Axis → List ℕ → ℕ → Type 0
+MovesAlong false a strides count = IsRun a strides count
+MovesAlong true a strides count = IsTurned a strides count
 
 -- the axis has two states, along which the result stands
 pub record IsPair (a : Axis) : Type 0 where
@@ -115,7 +115,7 @@ IsCount false n = 0 < n
 IsCount true n = n ≡ 2
 
 -- the places from which a run can be read
-pub record CanRead {C : Type 0} (turned : Bool) (r : Ring C) (cells : List C) (places : List ℕ) :
+pub record CanReadRun {C : Type 0} (turned : Bool) (r : Ring C) (cells : List C) (places : List ℕ) :
     Type 0 where
   pub count : IsCount turned (length places)
   pub within : All (λ p. p < length cells) places
@@ -180,7 +180,7 @@ CanWalkCube r cells outer axis inner strides places out at =
 -- one operand moves along the inner of two axes, whose strides stand behind those of the outer
 abbrev pub IsInnerMoved : Bool → Axis → List ℕ → List ℕ → Type 0
 IsInnerMoved turned axis strides places =
-    IsMoved turned axis (drop (length places) strides) (length places)
+    MovesAlong turned axis (drop (length places) strides) (length places)
 
 -- ---- moves of the places
 -- each place has room for its stride

@@ -5,7 +5,7 @@ ghost use Rattle.maid_model.specs.declared.limits.TheConstants.{MOST_PLAN_CELLS}
 ghost use Rattle.node_sets.specs.Sets.{IsIn};
 ghost use Rattle.maid_model.specs.Diagrams.{IsDiagram};
 ghost use Rattle.maid_model.specs.Nodes.{counts_of};
-ghost use Rattle.factor_core.specs.Slots.{space, IsLive, HasSpareForJoin, HasSpareForProduct, JoinOfFits, ProductOfFits, WritesJoin, WritesProduct};
+ghost use Rattle.factor_core.specs.Slots.{space, IsLiveSlot, HasSpareForJoin, HasSpareForProduct, JoinOfFits, ProductOfFits, WritesJoin, WritesProduct};
 
 use crate::sizes::table_size;
 use crate::slots::{Slot, joined_scope, united_scope};
@@ -28,7 +28,7 @@ pub fn join_behind<C: Cell>(
     requires short { length all.old ≤ MOST_PLAN_CELLS }
     requires few { length slots.now ≤ 256 }
     requires some { 0 < length slots.now }
-    requires live { All (IsLive diagram.now.nodes (space all.old used).cells) slots.now }
+    requires live { All (IsLiveSlot diagram.now.nodes (space all.old used).cells) slots.now }
     requires hold { All (λ s. IsIn s.scope node) slots.now }
     requires fits { JoinOfFits C.ring diagram.now.nodes node slots.now (space all.old used) }
     requires room { HasSpareForJoin C.ring diagram.now.nodes node slots.now (space all.old used) }
@@ -59,7 +59,7 @@ pub fn product_behind<C: Cell>(
     requires used { used ≤ length all.old }
     requires short { length all.old ≤ MOST_PLAN_CELLS }
     requires few { length slots.now ≤ 256 }
-    requires live { All (IsLive diagram.now.nodes (space all.old used).cells) slots.now }
+    requires live { All (IsLiveSlot diagram.now.nodes (space all.old used).cells) slots.now }
     requires fits { ProductOfFits C.ring diagram.now.nodes slots.now (space all.old used) }
     requires room { HasSpareForProduct C.ring diagram.now.nodes slots.now (space all.old used) }
     ensures start { result.start ≡ used }

@@ -2,8 +2,8 @@
 
 ghost use Rattle.std.specs.Prelude.{◌≡◌, ◌+◌, ◌*◌, ◌^◌, ◌<◌, ◌≤◌, ℕ, IsTrue, if◌then◌else◌, slice_index, length, take};
 ghost use Rattle.maid_model.specs.declared.limits.TheConstants.{MOST_PLAN_CELLS};
-ghost use Rattle.factor_core.specs.Slots.{IsLive, AreStatesOf, IsCellAt};
-ghost use Rattle.factor_core.specs.Tables.{AreCounts, AreStates, size_of, IsPlaceAt};
+ghost use Rattle.factor_core.specs.Slots.{IsLiveSlot, AreStatesOf, IsCellAt};
+ghost use Rattle.factor_core.specs.Tables.{AreCounts, AreScopeStates, size_of, IsPlaceAt};
 
 use crate::orders::counted;
 use crate::slots::Slot;
@@ -31,7 +31,7 @@ fn next_place(place: usize, held: bool, states: &[usize], i: usize, count: usize
 pub fn place_for(counts: &[usize], scope: &NodeSet, states: &[usize]) -> usize
     requires counts { AreCounts counts.now }
     requires fits { size_of counts.now scope.now ≤ 2 ^ 32 }
-    requires states { AreStates counts.now scope.now states.now }
+    requires states { AreScopeStates counts.now scope.now states.now }
     ensures within { result < size_of counts.now scope.now }
     ensures place { IsPlaceAt counts.now scope.now states.now result }
 {
@@ -55,7 +55,7 @@ pub fn read_cell<C: Cell>(
 ) -> C
     requires used { used ≤ length all.now }
     requires short { length all.now ≤ MOST_PLAN_CELLS }
-    requires live { IsLive diagram.now.nodes (take used all.now) slot.now }
+    requires live { IsLiveSlot diagram.now.nodes (take used all.now) slot.now }
     requires states { AreStatesOf diagram.now.nodes slot.now states.now }
     ensures { IsCellAt C.ring diagram.now.nodes (take used all.now) slot.now states.now result }
 {

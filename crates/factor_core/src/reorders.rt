@@ -6,7 +6,7 @@ ghost use Rattle.node_sets.specs.declared.sets.TheConstants.{MOST_NODES};
 ghost use Rattle.node_sets.specs.Sets.{holds, IsIn};
 ghost use Rattle.maid_model.specs.Graph.{AllDifferent};
 ghost use Rattle.maid_model.specs.Nodes.{states_of};
-ghost use Rattle.factor_core.specs.Slots.{space, IsLive, HasSpareForState, WritesState, WritesStrip, AllStayLiveBehind, AppendsStripBehind};
+ghost use Rattle.factor_core.specs.Slots.{space, IsLiveSlot, HasSpareForState, WritesState, WritesStrip, AllStayLiveBehind, AppendsStripBehind};
 ghost use Rattle.factor_core.specs.Tables.{AreCounts, size_of, stride_over};
 
 use crate::copies::{Step, copy_at};
@@ -58,7 +58,7 @@ pub fn restrict_behind<C: Cell>(
 ) -> Slot
     requires used { used ≤ length all.old }
     requires short { length all.old ≤ MOST_PLAN_CELLS }
-    requires live { IsLive diagram.now.nodes (space all.old used).cells slot.now }
+    requires live { IsLiveSlot diagram.now.nodes (space all.old used).cells slot.now }
     requires hold { IsIn slot.now.scope node }
     requires state { state < states_of diagram.now.nodes node }
     requires room { HasSpareForState C.ring diagram.now node state slot.now (space all.old used) }
@@ -98,7 +98,7 @@ pub fn reorder_behind<C: Cell>(
 ) -> Strip
     requires used { used ≤ length all.old }
     requires short { length all.old ≤ MOST_PLAN_CELLS }
-    requires live { IsLive diagram.now.nodes (space all.old used).cells slot.now }
+    requires live { IsLiveSlot diagram.now.nodes (space all.old used).cells slot.now }
     requires once { AllDifferent nodes.now }
     requires scope { (v : ℕ) → Contains nodes.now v ↔ IsIn slot.now.scope v }
     requires room { slot.now.len ≤ (space all.old used).spare }

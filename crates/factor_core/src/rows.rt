@@ -1,7 +1,7 @@
 //! The strides that a walk begins with: a row for each node, with the stride of each slot.
 
 ghost use Rattle.std.specs.Prelude.{◌≡◌, ◌+◌, ◌-◌, ◌*◌, ◌^◌, ◌<◌, ◌≤◌, ℕ, All, length};
-ghost use Rattle.factor_core.specs.Rows.{HasRow, HasNodes, row_beside, AreRowsOf, HaveRows, KeepRows, MayBeOf, AreRowsWith, AreSizesFrom};
+ghost use Rattle.factor_core.specs.Rows.{HasStrideRow, HasNodes, row_beside, AreRowsOf, HaveRows, KeepRows, MayBeOf, AreRowsWith, AreSizesFrom};
 ghost use Rattle.factor_core.specs.Scopes.{united, united_but};
 ghost use Rattle.factor_core.specs.Tables.{AreCounts, size_of, listed, stride_over, size_onward};
 
@@ -39,7 +39,7 @@ fn set_row(
     requires sizes { length slots.now ≤ length sizes.old }
     requires fits { All (λ s. size_of counts.now s.scope ≤ 2 ^ 32) slots.now }
     requires behind { AreSizesFrom counts.now slots.now (node + 1) sizes.old }
-    ensures row { HasRow counts.now slots.now strides.new row node }
+    ensures row { HasStrideRow counts.now slots.now strides.new row node }
     ensures others { KeepRows counts.now slots.now strides.old strides.new (λ r v. r ≡ row → ⊥) }
     ensures sizes { AreSizesFrom counts.now slots.now node sizes.new }
 {

@@ -1,8 +1,8 @@
 //! The walk of joins and products: over axes, from the slowest to a run of cells.
 
 ghost use Rattle.std.specs.Prelude.{◌≡◌, ◌==◌, if◌then◌else◌, ℕ, ◌+◌, ◌*◌, ◌^◌, ◌<◌, ◌≤◌, length, take, drop, [], ◌∷◌, All, ◌↔◌, IsTrue, slice_index};
-ghost use Rattle.cell_rings.specs.Sums.{cell_at, product_from, product_at, ProductFits, Adds, AreWithin, AddsFour, AddsTwo, HasRoomForFour, HasRoomForTwo};
-ghost use Rattle.factor_core.specs.Walks.{shifted, CanWalk, IsRun, IsTurned, IsMoved, IsDot, IsRunAt, IsSecondRun, CanRead, further, AddsTotal, HaveMoved, sum_along, AddsOneAxis, AddsTwoAxes, CanAdvance, CanRetreat, CanWalkTwoAxes, HaveAdvanced, IsInnerMoved, IsWithinSizes, ProductsAlongFit, SumAlongFits};
+ghost use Rattle.cell_rings.specs.Sums.{cell_at, product_from, product_at, ProductFits, AddsCells, AreWithin, AddsFour, AddsTwo, HasRoomForFour, HasRoomForTwo};
+ghost use Rattle.factor_core.specs.Walks.{shifted, CanWalk, IsRun, IsTurned, MovesAlong, IsDot, IsRunAt, IsSecondRun, CanReadRun, further, AddsTotal, HaveMoved, sum_along, AddsOneAxis, AddsTwoAxes, CanAdvance, CanRetreat, CanWalkTwoAxes, HaveAdvanced, IsInnerMoved, IsWithinSizes, ProductsAlongFit, SumAlongFits};
 ghost use Rattle.factor_core.specs.Narrow.{AreNarrow};
 
 use crate::narrow::Narrow;
@@ -64,7 +64,7 @@ pub fn product<C: Cell>(cells: &[C], places: &[usize]) -> C
 pub fn add_at<C: Cell>(out: &mut [C], at: usize, cell: C)
     requires at { at < length out.old }
     requires fits { C.ring.size (cell_at C.ring out.old at) + C.ring.size cell ≤ C.ring.most }
-    ensures { Adds C.ring (λ p. if p == at then cell else C.ring.nought) out.old out.new }
+    ensures { AddsCells C.ring (λ p. if p == at then cell else C.ring.nought) out.old out.new }
 {
     out[at] = out[at].add(cell);
 }
@@ -113,7 +113,7 @@ struct Run<C> {
 
 /// The run of the operand that moves: the first of two where it is turned, else the last.
 fn read_run<C: Cell>(turned: bool, cells: &[C], places: &[usize]) -> Run<C>
-    requires { CanRead turned C.ring cells.now places.now }
+    requires { CanReadRun turned C.ring cells.now places.now }
     ensures { IsRunAt turned C.ring cells.now places.now result.factor result.from }
 {
     if turned {
@@ -131,8 +131,8 @@ fn read_run<C: Cell>(turned: bool, cells: &[C], places: &[usize]) -> Run<C>
 
 /// The runs at two states of the axis above, whose strides stand first, and the places after these states.
 fn next_pair<C: Cell>(turned: bool, strides: &[usize], cells: &[C], places: &mut [usize]) -> Pair<C>
-    requires first { CanRead turned C.ring cells.now places.old }
-    requires second { CanRead turned C.ring cells.now (shifted 1 strides.now places.old) }
+    requires first { CanReadRun turned C.ring cells.now places.old }
+    requires second { CanReadRun turned C.ring cells.now (shifted 1 strides.now places.old) }
     requires few { length cells.now ≤ 2 ^ 32 }
     requires near { All (λ d. d ≤ 2 ^ 32) strides.now }
     requires enough { length places.old ≤ length strides.now }
@@ -205,7 +205,7 @@ fn add_moved<C: Cell>(
     out: &mut [C],
     at: usize,
 )
-    requires moved { IsMoved turned axis strides.now (length places.now) }
+    requires moved { MovesAlong turned axis strides.now (length places.now) }
     requires can { CanWalk C.ring cells.now (axis ∷ []) strides.now places.now out.old at }
     ensures { AddsOneAxis C.ring cells.now axis strides.now places.now at out.old out.new }
 {

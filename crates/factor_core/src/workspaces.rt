@@ -8,7 +8,7 @@ ghost use Rattle.maid_model.specs.Diagrams.{IsDiagram};
 ghost use Rattle.maid_model.specs.Nodes.{counts_of, states_of};
 ghost use Rattle.maid_model.specs.Profiles.{IsProfile};
 ghost use Rattle.factor_core.specs.Operations.{NumbersFit};
-ghost use Rattle.factor_core.specs.Slots.{part, IsLive, Appends, AreStatesOf, IsCellAt, AllStayLive, AppendsFirst, AppendsJoin, AppendsProduct, AppendsState, HasCellsOf, HasSpareForFirst, HasSpareForJoin, HasSpareForProduct, HasSpareForState, JoinOfFits, ProductOfFits, SumOfFits, WorkspaceView, AppendsSumOf};
+ghost use Rattle.factor_core.specs.Slots.{part, IsLiveSlot, Appends, AreStatesOf, IsCellAt, AllStayLive, AppendsFirst, AppendsJoin, AppendsProduct, AppendsState, HasCellsOf, HasSpareForFirst, HasSpareForJoin, HasSpareForProduct, HasSpareForState, JoinOfFits, ProductOfFits, SumOfFits, WorkspaceView, AppendsSumOf};
 ghost use Rattle.factor_core.specs.Spaces.{KeepsFirst};
 
 use crate::appending::{join_behind, product_behind};
@@ -120,7 +120,7 @@ impl<C: Cell> Workspace<C> {
         requires counts { counts.now ≡ counts_of diagram.now.nodes }
         requires few { length slots.now ≤ 256 }
         requires some { 0 < length slots.now }
-        requires live { All (IsLive diagram.now.nodes self.old.cells) slots.now }
+        requires live { All (IsLiveSlot diagram.now.nodes self.old.cells) slots.now }
         requires hold { All (λ s. IsIn s.scope node) slots.now }
         requires fits { JoinOfFits C.ring diagram.now.nodes node slots.now self.old }
         requires room { HasSpareForJoin C.ring diagram.now.nodes node slots.now self.old }
@@ -145,7 +145,7 @@ impl<C: Cell> Workspace<C> {
         requires diagram { IsDiagram diagram.now }
         requires counts { counts.now ≡ counts_of diagram.now.nodes }
         requires few { length slots.now ≤ 256 }
-        requires live { All (IsLive diagram.now.nodes self.old.cells) slots.now }
+        requires live { All (IsLiveSlot diagram.now.nodes self.old.cells) slots.now }
         requires fits { ProductOfFits C.ring diagram.now.nodes slots.now self.old }
         requires room { HasSpareForProduct C.ring diagram.now.nodes slots.now self.old }
         ensures { AppendsProduct C.ring diagram.now.nodes slots.now self.old self.new result }
@@ -173,7 +173,7 @@ impl<C: Cell> Workspace<C> {
     ) -> Slot
         requires diagram { IsDiagram diagram.now }
         requires counts { counts.now ≡ counts_of diagram.now.nodes }
-        requires live { IsLive diagram.now.nodes self.old.cells slot.now }
+        requires live { IsLiveSlot diagram.now.nodes self.old.cells slot.now }
         requires hold { IsIn slot.now.scope node }
         requires fits { SumOfFits C.ring diagram.now.nodes node slot.now self.old }
         requires room { HasSpareForJoin C.ring diagram.now.nodes node (slot.now ∷ []) self.old }
@@ -184,7 +184,7 @@ impl<C: Cell> Workspace<C> {
 
     /// The slot's cells at one state of the node, over its other nodes. It copies them.
     pub fn restrict(&mut self, diagram: &Diagram, slot: &Slot, node: usize, state: usize) -> Slot
-        requires live { IsLive diagram.now.nodes self.old.cells slot.now }
+        requires live { IsLiveSlot diagram.now.nodes self.old.cells slot.now }
         requires hold { IsIn slot.now.scope node }
         requires state { state < states_of diagram.now.nodes node }
         requires room { HasSpareForState C.ring diagram.now node state slot.now self.old }
@@ -205,7 +205,7 @@ impl<C: Cell> Workspace<C> {
 
     /// The slot's cells in another order: the first of these nodes, which are the slot's, slowest. It copies them.
     pub fn reorder(&mut self, diagram: &Diagram, slot: &Slot, nodes: &[usize]) -> Strip
-        requires live { IsLive diagram.now.nodes self.old.cells slot.now }
+        requires live { IsLiveSlot diagram.now.nodes self.old.cells slot.now }
         requires once { AllDifferent nodes.now }
         requires scope { (v : ℕ) → Contains nodes.now v ↔ IsIn slot.now.scope v }
         requires room { slot.now.len ≤ self.old.spare }
@@ -222,7 +222,7 @@ impl<C: Cell> Workspace<C> {
 
     /// The slot's cell at these states of its nodes, the lowest node first.
     pub fn at(&self, diagram: &Diagram, slot: &Slot, states: &[usize]) -> C
-        requires live { IsLive diagram.now.nodes self.now.cells slot.now }
+        requires live { IsLiveSlot diagram.now.nodes self.now.cells slot.now }
         requires states { AreStatesOf diagram.now.nodes slot.now states.now }
         ensures { IsCellAt C.ring diagram.now.nodes self.now.cells slot.now states.now result }
     {

@@ -2,7 +2,7 @@
 
 ghost use Rattle.std.specs.Prelude.{◌≡◌, ◌≤◌, ◌+◌, ◌^◌, ℕ, length, take};
 ghost use Rattle.cell_rings.specs.Sums.{cell_at};
-ghost use Rattle.factor_core.specs.Tables.{IsJoined, IsUnion, size_of, HasJoinAt, HasProductAt};
+ghost use Rattle.factor_core.specs.Tables.{IsJoinScope, IsUnion, size_of, HasJoinAt, HasProductAt};
 ghost use Rattle.factor_core.specs.Spaces.{CanJoinIn, CanMultiplyIn};
 
 use crate::joins::join_into;
@@ -34,7 +34,7 @@ pub fn join_at<C: Cell>(
     requires within { start + len ≤ length all.old }
     requires short { length all.old ≤ 2 ^ 32 }
     requires len { len ≡ size_of counts.now scope.now }
-    requires scope { IsJoined counts.now slots.now node scope.now }
+    requires scope { IsJoinScope counts.now slots.now node scope.now }
     requires can { CanJoinIn C.ring (take start all.old) counts.now slots.now node }
     ensures kept { take start all.new ≡ take start all.old }
     ensures cells { HasJoinAt C.ring counts.now slots.now node scope.now start all.old all.new }

@@ -7,7 +7,7 @@ use Rattle.std.proofs.lemmas.Bool.{false≢true}
 use Rattle.std.proofs.lemmas.Option.{none-some, same_Some}
 use Rattle.first_fault.specs.Passes.{Pass, rule, ◌▸◌, each}
 use Rattle.first_fault.specs.Outcomes.{gives, ◌▸▸◌, refusals}
-use Rattle.first_fault.specs.Tables.{Row, table, first_fault, FindsTheFirst, CountsWhere, TellsTheFirst, AnswersWithoutFault, StagesInTurn, ResultsTell, TablesAreCovered, TablesAreExclusive, TablesHaveOneFault, StagesEndAlike, outcome_of, bound_row, first_passed}
+use Rattle.first_fault.specs.Tables.{Row, rows_in_turn, first_fault, FindsTheFirst, CountsWhere, TellsTheFirst, AnswersWithoutFault, StagesInTurn, ResultsTell, TablesAreCovered, TablesAreExclusive, TablesHaveOneFault, StagesEndAlike, refusal_or_value, bound_row, first_passed}
 use Rattle.first_fault.specs.Answers.{IsFaultOrNoMemory}
 use Rattle.first_fault.proofs.Kept.{IsOne, rule_covered, each_covered, rule_one, each_one}
 use Rattle.first_fault.proofs.Ends.{staged_alike}
@@ -48,7 +48,7 @@ counts_where false test fault (Some f) = ((λ h. absurd h), (λ h. absurd (false
 pub tells_the_first : TellsTheFirst
 tells_the_first rows None = ((λ h. inl refl), (λ h. tt))
 tells_the_first rows (Some f) = ((λ h. inr ((finds_the_first rows (Some f)).0 h)), from) where
-  from : (Some f ≡ None) ⊎ (Some f ≡ first_fault rows) → table rows (Some f)
+  from : (Some f ≡ None) ⊎ (Some f ≡ first_fault rows) → rows_in_turn rows (Some f)
   from (inl e) = absurd (none-some f (sym e))
   from (inr e) = (finds_the_first rows (Some f)).1 e
 
@@ -56,7 +56,7 @@ pub answers_without_fault : AnswersWithoutFault
 answers_without_fault rows answer = ((λ h. sym ((finds_the_first rows None).0 h)), (λ e. (finds_the_first rows None).1 (sym e)))
 
 -- the pass of the stages, and then the value
-staged_is : (P : Pass ℕ) (first : Option ℕ) → ((o : Option ℕ) → P o ↔ (o ≡ first)) → (value : ℕ) (outcome : Result ℕ ℕ) → (P ▸▸ gives (λ given. given ≡ value)) outcome ↔ (outcome ≡ outcome_of first value)
+staged_is : (P : Pass ℕ) (first : Option ℕ) → ((o : Option ℕ) → P o ↔ (o ≡ first)) → (value : ℕ) (outcome : Result ℕ ℕ) → (P ▸▸ gives (λ given. given ≡ value)) outcome ↔ (outcome ≡ refusal_or_value first value)
 staged_is P None h value (Ok x) = ((λ k. ap Ok k.1), (λ e. ((h None).1 refl, same_Some x value (ap result_ok e))))
 staged_is P (Some n) h value (Ok x) = ((λ k. absurd (none-some n ((h None).0 k.0))), (λ e. absurd (none-some x (sym (ap result_ok e)))))
 staged_is P None h value (Err f) = (to, (λ e. absurd (none-some value (ap result_ok e)))) where
@@ -108,7 +108,7 @@ decided false = no false≢true
 pub tables_are_covered : TablesAreCovered
 tables_are_covered rows = each_covered (λ (row : Row). rule (IsTrue row.test) row.fault) (λ row. rule_covered (IsTrue row.test) row.fault (decided row.test)) rows
 
-table_one : (rows : List Row) → IsOne (table rows)
+table_one : (rows : List Row) → IsOne (rows_in_turn rows)
 table_one rows = each_one {P = λ (row : Row). rule (IsTrue row.test) row.fault} (λ row. rule_one (IsTrue row.test) row.fault) rows
 
 pub tables_are_exclusive : TablesAreExclusive

@@ -12,8 +12,8 @@ pub record Row : Type 0 where
   pub fault : ℕ
 
 -- the rows in turn
-abbrev pub table : List Row → Pass ℕ
-table rows = each (λ row. rule (IsTrue row.test) row.fault) rows
+abbrev pub rows_in_turn : List Row → Pass ℕ
+rows_in_turn rows = each (λ row. rule (IsTrue row.test) row.fault) rows
 
 -- the fault of the first row whose test holds, if there is one
 abbrev pub first_fault : List Row → Option ℕ
@@ -22,7 +22,7 @@ first_fault rows = option_map (λ row. row.fault) (find (λ row. row.test) rows)
 -- a table finds that and nothing else
 abbrev pub FindsTheFirst : Type 0
 FindsTheFirst =
-    (rows : List Row) (outcome : Option ℕ) → table rows outcome ↔ (outcome ≡ first_fault rows)
+    (rows : List Row) (outcome : Option ℕ) → rows_in_turn rows outcome ↔ (outcome ≡ first_fault rows)
 
 -- a number that stands among those before it
 abbrev pub repeats : List ℕ → Pass ℕ
@@ -62,17 +62,17 @@ FindsAlways = (fault : ℕ) (outcome : Option ℕ) → always fault outcome ↔ 
 -- an error tells want of memory, or the first fault
 abbrev pub TellsTheFirst : Type 0
 TellsTheFirst = (rows : List Row) (told : Option ℕ)
-    → IsFaultOrNoMemory (λ t. t) (table rows) told ↔ ((told ≡ None) ⊎ (told ≡ first_fault rows))
+    → IsFaultOrNoMemory (λ t. t) (rows_in_turn rows) told ↔ ((told ≡ None) ⊎ (told ≡ first_fault rows))
 
 -- an answer tells that no test holds
 abbrev pub AnswersWithoutFault : Type 0
 AnswersWithoutFault = (rows : List Row) (answer : ℕ)
-    → Passes (λ (t : Option ℕ). t) (table rows) (Ok answer) ↔ (first_fault rows ≡ None)
+    → Passes (λ (t : Option ℕ). t) (rows_in_turn rows) (Ok answer) ↔ (first_fault rows ≡ None)
 
 -- the refusal, or else the value
-abbrev pub outcome_of : Option ℕ → ℕ → Result ℕ ℕ
-outcome_of None value = Ok value
-outcome_of (Some n) value = Err n
+abbrev pub refusal_or_value : Option ℕ → ℕ → Result ℕ ℕ
+refusal_or_value None value = Ok value
+refusal_or_value (Some n) value = Err n
 
 -- the bound, where the value is greater
 abbrev pub bound_row : ℕ → ℕ → Pass ℕ
@@ -89,7 +89,7 @@ first_passed bounds value = find (λ bound. nat_lt bound value) bounds
 -- the first bound that is passed comes of it, or else the value
 abbrev pub StagesInTurn : Type 0
 StagesInTurn = (bounds : List ℕ) (value : ℕ) (outcome : Result ℕ ℕ)
-    → bounded bounds value outcome ↔ (outcome ≡ outcome_of (first_passed bounds value) value)
+    → bounded bounds value outcome ↔ (outcome ≡ refusal_or_value (first_passed bounds value) value)
 
 -- a result tells the value where no bound is passed, and else the first that is or want of memory
 abbrev pub IsTold : List ℕ → ℕ → Result ℕ (Option ℕ) → Type 0
@@ -104,15 +104,15 @@ ResultsTell = (bounds : List ℕ) (value : ℕ) (result : Result ℕ (Option ℕ
 
 -- a table finds nothing or a fault
 abbrev pub TablesAreCovered : Type 0
-TablesAreCovered = (rows : List Row) → IsCovered (table rows)
+TablesAreCovered = (rows : List Row) → IsCovered (rows_in_turn rows)
 
 -- no table finds both nothing and a fault
 abbrev pub TablesAreExclusive : Type 0
-TablesAreExclusive = (rows : List Row) → IsExclusive (table rows)
+TablesAreExclusive = (rows : List Row) → IsExclusive (rows_in_turn rows)
 
 -- a table finds one fault at most
 abbrev pub TablesHaveOneFault : Type 0
-TablesHaveOneFault = (rows : List Row) → HasOneFault (table rows)
+TablesHaveOneFault = (rows : List Row) → HasOneFault (rows_in_turn rows)
 
 -- only one thing comes of bounds in turn
 abbrev pub StagesEndAlike : Type 0

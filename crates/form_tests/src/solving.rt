@@ -3,7 +3,7 @@
 ghost use Rattle.std.specs.Prelude.{IfOk, IsTrue};
 ghost use Rattle.maid_model.specs.declared.limits.TheConstants.{MOST_PLAN_CELLS};
 ghost use Rattle.maid_model.specs.Scopes.{KeepsScopedBounds};
-ghost use Rattle.rule_solver.specs.Rooms.{HasRoom};
+ghost use Rattle.rule_solver.specs.Rooms.{HasRoomForRun};
 
 use crate::samples::reply_diagram;
 use maid_model::{Diagram, MOST_PLAN_CELLS, Profile, Ratio, Row};
@@ -44,8 +44,8 @@ fn a_plan_relies_on_the_reply(rt: HostRuntime) -> Result<(), Fail> {
 
 /// Whether the diagram keeps the weight bound, and its run the limit of cells.
 fn has_room(alloc: Global, diagram: &Diagram) -> Result<bool, AllocError>
-    ensures bound { IfOk result (λ has. IsTrue has → KeepsScopedBounds diagram.now) }
-    ensures room { IfOk result (λ has. IsTrue has → HasRoom diagram.now.nodes MOST_PLAN_CELLS) }
+    ensures bound { IfOk result (λ is. IsTrue is → KeepsScopedBounds diagram.now) }
+    ensures room { IfOk result (λ is. IsTrue is → HasRoomForRun diagram.now.nodes MOST_PLAN_CELLS) }
 {
     measured_plans_have_room();
     match bound(diagram) {

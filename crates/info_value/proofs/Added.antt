@@ -14,7 +14,7 @@ use Rattle.maid_model.specs.Subgames.{OwnsAll}
 use Rattle.maid_model.specs.Views.{NodeView, DiagramView}
 use Rattle.optimum_gap.specs.declared.found.Found.{Found}
 use Rattle.optimum_gap.specs.Found.{Reason, found_of}
-use Rattle.info_value.specs.Alone.{HasRoomFor}
+use Rattle.info_value.specs.Alone.{HasRoomForArc}
 
 pub owns_without : (nodes : List NodeView) (x d agent : ℕ) → IsDecision nodes d → OwnsAll nodes agent → OwnsAll (without_arc nodes x d) agent
 owns_without nodes x d agent k owns = lost.owns_there nodes (without_arc nodes x d) x d (loses nodes x d k.within) agent owns
@@ -25,7 +25,7 @@ owns_with nodes x d agent k g owns v is =
     sym (lost.owner_same (with_arc nodes x d) nodes x d l v) ∙ owns v (lost.decision_there (with_arc nodes x d) nodes x d l v is)
 
 -- whatever is told of the arc, the diagram with it is one
-pub roomy : (d : DiagramView) (x to : ℕ) (r : Result Found AllocError) → IsGraph (with_arc d.nodes x to) → IfOk r (HasRoomFor d x to)
+pub roomy : (d : DiagramView) (x to : ℕ) (r : Result Found AllocError) → IsGraph (with_arc d.nodes x to) → IfOk r (HasRoomForArc d x to)
 roomy d x to (Ok f) g = λ told. g
 roomy d x to (Err e) g = tt
 

@@ -5,7 +5,7 @@ use Rattle.std.proofs.lemmas.List.{length-set}
 use Rattle.std.proofs.Math.Decide.{ℕ_discrete}
 use Rattle.std.specs.declared.alloc.AllocError.{AllocError}
 use Rattle.std.specs.Prelude.{All, IfOk, slice_index_or, Result, Ok, Err, IfSome, IsTrue, IsSome}
-use Rattle.arc_laws.specs.Worths.{nought}
+use Rattle.arc_laws.specs.Worths.{nought_ratio}
 use Rattle.arc_laws.proofs.Alone as others
 use Rattle.arc_laws.proofs.Alone.{LeavesTo, leaves, one_agent_law}
 use Rattle.arc_laws.proofs.ArcLaws.{kept_law}
@@ -29,7 +29,7 @@ use Rattle.optimum_gap.specs.declared.found.Found.{Found}
 use Rattle.optimum_gap.specs.declared.found.Found.TheVariants as found
 use Rattle.optimum_gap.specs.Found.{Reason, TooLarge, Worthless, found_of, worth_of}
 use Rattle.info_value.specs.declared.lines.InfoLine.{InfoLine}
-use Rattle.info_value.specs.Alone.{IsFoundAlone, IsLineAlone}
+use Rattle.info_value.specs.Alone.{IsInfoFoundAlone, IsInfoLineAlone}
 use Rattle.info_value.specs.Finding.{of_seen, of_unseen}
 use Rattle.optimum_gap.specs.Baselines.{alone}
 use Rattle.info_value.specs.Lines.{IsFound, IsInfoLine, IsInfoValue, TellsWorth}
@@ -107,7 +107,7 @@ module _ (d : DiagramView) (answers : List AnswerView) (agent : ℕ) (g : IsGrap
       utilities : (v : ℕ) → (node_at (with_arc d.nodes x to) v).kind ≡ Utility → (node_at (with_arc only x to) v).kind ≡ Utility
       utilities v u = utility v (ℕ_discrete v to) u
 
-  module _ (line : InfoLine) (l : IsLineAlone (alone d answers agent) agent line) where
+  module _ (line : InfoLine) (l : IsInfoLineAlone (alone d answers agent) agent line) where
     own : IsDecisionOf d.nodes line.to agent
     own = let h = (one_agent_law d.nodes agent answers g c fits).3 line.to in record { decision = (h.0 l.decision).0; owner = (h.0 l.decision).1 }
 
@@ -123,7 +123,7 @@ module _ (d : DiagramView) (answers : List AnswerView) (agent : ℕ) (g : IsGrap
     graph_of : line.has ≡ false → IsSome (worth_of line.found) → IsGraph (with_arc only line.from line.to)
     graph_of e s = l.graph e s
 
-    found_there : (b : Bool) → line.has ≡ b → IsFoundAlone (alone d answers agent) agent line.from line.to b line.found → IsFound d answers agent line.from line.to b line.found
+    found_there : (b : Bool) → line.has ≡ b → IsInfoFoundAlone (alone d answers agent) agent line.from line.to b line.found → IsFound d answers agent line.from line.to b line.found
     found_there true e h =
         gives_more (of_seen (alone d answers agent) line.from line.to) (IsDifferenceOfOptima only (without_arc only line.from line.to) d.decimals agent) (IsValueOfSeen d.nodes d.decimals answers agent line.from line.to) (found_of line.found)
         (λ r is v. record { own = own; seen = has_there e; value = v }) h
@@ -178,7 +178,7 @@ module _ (d : DiagramView) (answers : List AnswerView) (agent : ℕ) (g : IsGrap
         no_reason p = cc
     unseen_worth e found.Worthless is (inl (inr h)) = at h.1
       where
-        at : ((IsRequisite (with_arc only line.from line.to) line.to line.from → ⊥) × (Worthless ≡ Worthless)) ⊎ (IsRequisite (with_arc only line.from line.to) line.to line.from × ⊥) → Worth nought
+        at : ((IsRequisite (with_arc only line.from line.to) line.to line.from → ⊥) × (Worthless ≡ Worthless)) ⊎ (IsRequisite (with_arc only line.from line.to) line.to line.from × ⊥) → Worth nought_ratio
         at (inr k) = absurd k.1
         at (inl k) =
             let more = graph_of e (subst (λ f. IsSome (worth_of f)) (sym is) (search rules)) in

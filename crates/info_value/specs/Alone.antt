@@ -46,9 +46,9 @@ IsFoundOfUnseen d agent x to found = (of_unseen d x to
     (found_of found)
 
 -- the same of an arc that is there, or of one that is not
-abbrev pub IsFoundAlone : DiagramView → ℕ → ℕ → ℕ → Bool → Found → Type 0
-IsFoundAlone d agent x to true found = IsFoundOfSeen d agent x to found
-IsFoundAlone d agent x to false found = IsFoundOfUnseen d agent x to found
+abbrev pub IsInfoFoundAlone : DiagramView → ℕ → ℕ → ℕ → Bool → Found → Type 0
+IsInfoFoundAlone d agent x to true found = IsFoundOfSeen d agent x to found
+IsInfoFoundAlone d agent x to false found = IsFoundOfUnseen d agent x to found
 
 -- the same in the diagram and for the agent of a baseline
 abbrev pub IsUnseenFoundOf : Baseline → ℕ → ℕ → Found → Type 0
@@ -59,23 +59,23 @@ abbrev pub WouldBeNeeded : Baseline → ℕ → ℕ → Type 0
 WouldBeNeeded b x to = WouldBeRequisite b.diagram.now.nodes x to
 
 -- where something is told of its worth, the diagram with the arc is one
-abbrev pub HasRoomFor : DiagramView → ℕ → ℕ → Found → Type 0
-HasRoomFor d x to found = IsSome (worth_of found) → IsGraph (with_arc d.nodes x to)
+abbrev pub HasRoomForArc : DiagramView → ℕ → ℕ → Found → Type 0
+HasRoomForArc d x to found = IsSome (worth_of found) → IsGraph (with_arc d.nodes x to)
 
 -- a line of an arc
-pub record IsLineAlone (d : DiagramView) (agent : ℕ) (line : InfoLine) : Type 0 where
+pub record IsInfoLineAlone (d : DiagramView) (agent : ℕ) (line : InfoLine) : Type 0 where
   pub decision : IsDecision d.nodes line.to
   pub has : IsTrue line.has ↔ Arc d.nodes line.from line.to
-  pub found : IsFoundAlone d agent line.from line.to line.has line.found
-  pub graph : IsFalse line.has → HasRoomFor d line.from line.to line.found
+  pub found : IsInfoFoundAlone d agent line.from line.to line.has line.found
+  pub graph : IsFalse line.has → HasRoomForArc d line.from line.to line.found
 
 -- such lines, in the diagram and for the agent of a baseline
-abbrev pub AreLinesOf : Baseline → List InfoLine → Type 0
-AreLinesOf b lines = All (IsLineAlone b.diagram.now b.agent) lines
+abbrev pub AreInfoLinesOf : Baseline → List InfoLine → Type 0
+AreInfoLinesOf b lines = All (IsInfoLineAlone b.diagram.now b.agent) lines
 
 -- where the lines before are such lines, so are those after
 abbrev pub StayLinesOf : Baseline → List InfoLine → List InfoLine → Type 0
-StayLinesOf b before after = AreLinesOf b before → AreLinesOf b after
+StayLinesOf b before after = AreInfoLinesOf b before → AreInfoLinesOf b after
 
 -- the arcs of the lines are those that are asked about for the agent of a baseline
 abbrev pub AskFor : List NodeView → Baseline → List InfoLine → Type 0

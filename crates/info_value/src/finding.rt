@@ -1,13 +1,13 @@
 //! What is found of one arc.
 
 ghost use Rattle.std.specs.Prelude.{◌≡◌, ◌↔◌, IsTrue, IfOk};
-ghost use Rattle.diagram_graph.specs.Room.{IsTooLarge};
+ghost use Rattle.diagram_graph.specs.Room.{IsArcTooLarge};
 ghost use Rattle.maid_model.specs.Graph.{Arc};
 ghost use Rattle.maid_model.specs.Nodes.{IsDecision};
 ghost use Rattle.maid_model.specs.Relevance.{IsRequisite};
 ghost use Rattle.optimum_gap.specs.Baselines.{HoldsBaseline};
-ghost use Rattle.info_value.specs.Alone.{CanAsk, HasRoomFor, IsFoundOfSeen, IsUnseenFoundOf, WouldBeNeeded};
-ghost use Rattle.info_value.specs.Finding.{missing, seeing};
+ghost use Rattle.info_value.specs.Alone.{CanAsk, HasRoomForArc, IsFoundOfSeen, IsUnseenFoundOf, WouldBeNeeded};
+ghost use Rattle.info_value.specs.Finding.{missing, diagram_with_arc};
 
 use arc_laws::arc_removed;
 use diagram_graph::{AddFault, RemoveFault, add_arc, is_too_large, remove_arc};
@@ -32,8 +32,8 @@ fn without(alloc: Global, diagram: &Diagram, from: usize, to: usize) -> Result<D
 fn with(alloc: Global, diagram: &Diagram, from: usize, to: usize) -> Result<Diagram, AllocError>
     requires asked { CanAsk diagram.now.nodes (from, to) }
     requires absent { Arc diagram.now.nodes from to → ⊥ }
-    requires room { IsTooLarge diagram.now.nodes from to → ⊥ }
-    ensures { IfOk result (λ more. more ≡ seeing diagram.now from to) }
+    requires room { IsArcTooLarge diagram.now.nodes from to → ⊥ }
+    ensures { IfOk result (λ more. more ≡ diagram_with_arc diagram.now from to) }
 {
     match add_arc(alloc, diagram, from, to) {
         Ok(more) => Ok(more),
@@ -81,7 +81,7 @@ pub(crate) fn find_unseen(
     requires absent { Arc baseline.now.diagram.now.nodes from to → ⊥ }
     requires would_need { IsTrue would_need ↔ WouldBeNeeded baseline.now from to }
     ensures found { IfOk result (IsUnseenFoundOf baseline.now from to) }
-    ensures graph { IfOk result (HasRoomFor baseline.now.diagram.now from to) }
+    ensures graph { IfOk result (HasRoomForArc baseline.now.diagram.now from to) }
 {
     edits_keep_scopes();
     let _count = baseline.diagram.count();

@@ -5,7 +5,7 @@ ghost use Rattle.maid_model.specs.Answers.{IsAnswer};
 ghost use Rattle.maid_model.specs.Scopes.{KeepsScopedBounds};
 ghost use Rattle.optimum_gap.specs.Baselines.{HoldsBaseline};
 ghost use Rattle.requisite_trim.specs.Needs.{TellsNeeds};
-ghost use Rattle.info_value.specs.Alone.{AppendsArcs, AreLinesOf, AskFor, CanAsk, CanAskAll, CanAskEach, IsLineAlone, StayLinesOf};
+ghost use Rattle.info_value.specs.Alone.{AppendsArcs, AreInfoLinesOf, AskFor, CanAsk, CanAskAll, CanAskEach, IsInfoLineAlone, StayLinesOf};
 ghost use Rattle.info_value.specs.Lines.{AreInfoLines, HasAskedArcs, TellWorths};
 
 use crate::arcs::{below, decides, may_see};
@@ -39,7 +39,7 @@ fn info_line(
     requires needs { TellsNeeds baseline.now.diagram.now.nodes to requisites.now }
     ensures tail { IfOk result (λ line. line.from ≡ from) }
     ensures head { IfOk result (λ line. line.to ≡ to) }
-    ensures line { IfOk result (IsLineAlone baseline.now.diagram.now baseline.now.agent) }
+    ensures line { IfOk result (IsInfoLineAlone baseline.now.diagram.now baseline.now.agent) }
 {
     let seen = baseline.diagram.parents(to);
     let needed = requisites.has(from);
@@ -95,7 +95,7 @@ fn info_lines(
     requires baseline { HoldsBaseline baseline.now }
     requires asked { CanAskEach diagram.now.nodes baseline.now }
     ensures arcs { IfOk result (λ lines. AskFor diagram.now.nodes baseline.now lines.items) }
-    ensures lines { IfOk result (λ lines. AreLinesOf baseline.now lines.items) }
+    ensures lines { IfOk result (λ lines. AreInfoLinesOf baseline.now lines.items) }
 {
     let mut lines = Vec::new(alloc);
     for v in 0..diagram.count() {

@@ -39,7 +39,7 @@ use Rattle.maid_app.specs.Laws.{OneStatus}
 use Rattle.maid_app.specs.Moved.{HasRow, KeepsMovedBound, TellsMovedBound, TellsNoOthers, TellsUnknownRow}
 use Rattle.maid_app.specs.Outcome.{Written, Refused, status_with}
 use Rattle.maid_app.specs.Request.{Request, solve, check, judge, graph, print, trim, pure, update, info, control, evidence, threshold, demo, file_name}
-use Rattle.maid_app.specs.Stages.{Stage, text_fault, unknown_agent, relevance_cycle, weight_bound, too_large, too_many_profiles, no_equilibrium, several_owners, update_too_large, rounds_spent, unknown_node, unknown_state, below_decision, rules_given, cycle_given, bound_given, size_given, impossible, unknown_row, no_others, moved_bound, too_many_leaves, bad_line, Finds, IsText, IsAgent, IsReport, HasFewLeaves, HasPureEquilibrium, AllRoundsRaise, stage, TellsUnknownNode, TellsUnknownState, TellsUnknownAgent, TellsProfiles, TellsNoEquilibrium, TellsOwners, TellsUpdateTooLarge, TellsRounds, TellsCycle, TellsBound, TellsTooLarge, TellsLeaves, TellsBadLine}
+use Rattle.maid_app.specs.Stages.{Stage, text_fault, unknown_agent, relevance_cycle, weight_bound, too_large, too_many_profiles, no_equilibrium, several_owners, update_too_large, rounds_spent, unknown_node, unknown_state, below_decision, rules_given, cycle_given, bound_given, size_given, impossible, unknown_row, no_others, moved_bound, too_many_leaves, bad_line, Finds, IsText, IsAgent, IsReport, HasFewLeaves, HasPureEquilibrium, AllRoundsRaise, stage, TellsUnknownNode, TellsUnknownState, TellsUnknownAgent, TellsProfiles, TellsNoEquilibrium, TellsOwners, TellsUpdateTooLarge, TellsRounds, TellsRelianceCycle, TellsBound, TellsTooLarge, TellsLeaves, TellsBadLine}
 use Rattle.maid_app.specs.Tasks.{Task, comes_of}
 use Rattle.maid_app.proofs.OnePlace.{not_kept, same_state, not_kept_given, not_moved}
 use Rattle.maid_app.proofs.TellApart.{told_apart}
@@ -118,19 +118,19 @@ module _ (laws : Laws) where
   finds_one : (s : Stage) (file : File) → IsOneBy Status1 (Finds s file)
   finds_one text_fault file = stage_one TextFault (IsText file.1) (TellsFault file.0 file.1) (λ told clear fault. no_fault laws file.1 clear.0.d clear.0.names fault.at fault.words clear.1 fault.is_fault)
   finds_one (unknown_agent agent) file = of_diagram_one file.1 UnknownAgent (λ d names. IsAgent names agent) (λ d names. TellsUnknownAgent names agent) (λ d names told is tells. tells.unknown is)
-  finds_one relevance_cycle file = of_diagram_one file.1 Cycle (λ d names. HasRelianceOrder d.nodes) TellsCycle (λ d names told order tells. tells.no_order order)
+  finds_one relevance_cycle file = of_diagram_one file.1 Cycle (λ d names. HasRelianceOrder d.nodes) TellsRelianceCycle (λ d names told order tells. tells.no_order order)
   finds_one weight_bound file = of_diagram_one file.1 WeightBound (λ d names. KeepsScopedBounds d) TellsBound (λ d names told keeps tells. not_kept d names told keeps tells)
   finds_one too_large file = of_diagram_one file.1 TooLarge (λ d names. IsSmallEnough d) TellsTooLarge (λ d names told small tells. tells.is_size.1 (small _ tells.is_size.0))
   finds_one too_many_profiles file = of_diagram_one file.1 TooLarge (λ d names. search.IsSmall d) TellsProfiles (λ d names told small tells. tells.is_size.passes small)
   finds_one no_equilibrium file = of_diagram_one file.1 NoPure (λ d names. HasPureEquilibrium d) TellsNoEquilibrium (λ d names told some tells. tells.none some)
   finds_one several_owners file = of_diagram_one file.1 NotOneAgent (λ d names. HasTwoOwners d.nodes → ⊥) TellsOwners (λ d names told one tells. one tells.two)
-  finds_one update_too_large file = of_diagram_one file.1 TooLarge (λ d names. updating.IsSmallEnough d) TellsUpdateTooLarge (λ d names told small tells. tells.is_size.1 (small _ tells.is_size.0))
+  finds_one update_too_large file = of_diagram_one file.1 TooLarge (λ d names. updating.IsSmallEnoughForUpdate d) TellsUpdateTooLarge (λ d names told small tells. tells.is_size.1 (small _ tells.is_size.0))
   finds_one rounds_spent file = of_diagram_one file.1 RoundsSpent (λ d names. AllRoundsRaise d → ⊥) TellsRounds (λ d names told settles tells. settles tells.all_raise)
   finds_one (unknown_node node) file = of_diagram_one file.1 UnknownNode (λ d names. HasChanceNode d names node) (λ d names. TellsUnknownNode d names node) (λ d names told has tells. tells.unknown has)
   finds_one (unknown_state node state) file = of_diagram_one file.1 UnknownState (λ d names. HasState d names node state) (λ d names. TellsUnknownState d names node state) (λ d names told has tells. tells.unknown has)
   finds_one (below_decision node state) file = at_state_one node state file.1 BelowDecision (λ d names x s. IsBelowDecision d.nodes x → ⊥) (λ d names x s. TellsBelow d x node) (λ d names x s told clear tells. clear tells.below)
   finds_one (rules_given node state) file = at_state_one node state file.1 TooLarge (λ d names x s. KeepsRules (all_seeing d.nodes x)) (λ d names x s. TellsRules (all_seeing d.nodes x)) (λ d names x s told keeps tells. tells.passes keeps)
-  finds_one (cycle_given node state) file = at_state_one node state file.1 Cycle (λ d names x s. HasRelianceOrder (all_seeing d.nodes x)) (λ d names x s. TellsCycle (all_seeing_diagram d x) names) (λ d names x s told order tells. tells.no_order order)
+  finds_one (cycle_given node state) file = at_state_one node state file.1 Cycle (λ d names x s. HasRelianceOrder (all_seeing d.nodes x)) (λ d names x s. TellsRelianceCycle (all_seeing_diagram d x) names) (λ d names x s told order tells. tells.no_order order)
   finds_one (bound_given node state) file = at_state_one node state file.1 WeightBound (λ d names x s. KeepsAllBounds (all_seeing_diagram d x) x) (λ d names x s. TellsBoundGiven (all_seeing_diagram d x) x names) (λ d names x s told keeps tells. not_kept_given (all_seeing_diagram d x) x names told keeps tells)
   finds_one (size_given node state) file = at_state_one node state file.1 TooLarge (λ d names x s. IsSmallEnoughGiven (all_seeing_diagram d x) x) (λ d names x s. TellsTooLargeGiven (all_seeing_diagram d x) x) (λ d names x s told small tells. tells.is_size.1 (small _ tells.is_size.0))
   finds_one (impossible node state) file = at_state_one node state file.1 Impossible (λ d names x s. IsImpossible (all_seeing d.nodes x) x s → ⊥) (λ d names x s. TellsImpossible (all_seeing d.nodes x) x s node state) (λ d names x s told possible tells. possible tells.impossible)
@@ -141,14 +141,14 @@ module _ (laws : Laws) where
   finds_one (bad_line text) file = of_diagram_one text TextFault (λ d names. IsReport d names file.1) (TellsBadLine file) (λ d names told is tells. laws.report_or_fault d names file.1 tells.at is tells.is_bad)
 
   -- the names in a text are told apart
-  is_told : (bytes : List ℕ) (d : DiagramView) (names : NamesView) → IsDiagramOf bytes d names → reading.IsTold d names
+  is_told : (bytes : List ℕ) (d : DiagramView) (names : NamesView) → IsDiagramOf bytes d names → reading.IsToldApart d names
   is_told bytes d names is =
       let has = laws.some_diagram bytes is.is_tree.tokens is.tree is.is_tree.is_tokens is.is_tree.spells is.clear in
       let same = laws.one_diagram bytes is.tree has.diagram d has.names names is.clear has.stands is.stands in
-      subst (λ e. reading.IsTold e names) same.0 (subst (λ n. reading.IsTold has.diagram n) same.1 (record { diagram = has.within; fit = has.fit; told = told_apart has.diagram has.names has.form }))
+      subst (λ e. reading.IsToldApart e names) same.0 (subst (λ n. reading.IsToldApart has.diagram n) same.1 (record { diagram = has.within; fit = has.fit; told = told_apart has.diagram has.names has.form }))
 
   -- so a text is the report of one value, which has one verdict
-  same_verdict : (d : DiagramView) (names : NamesView) (bytes : List ℕ) (x y : Written) → reading.IsTold d names → HasVerdict d names bytes x → HasVerdict d names bytes y → x.status ≡ y.status
+  same_verdict : (d : DiagramView) (names : NamesView) (bytes : List ℕ) (x y : Written) → reading.IsToldApart d names → HasVerdict d names bytes x → HasVerdict d names bytes y → x.status ≡ y.status
   same_verdict d names bytes x y told h k =
       let same = laws.one_value d names bytes k.solved h.solved told k.is_report h.is_report in
       let verdict = laws.one_verdict d h.solved h.verdict k.verdict h.is_report.value.fits h.is_verdict (subst (λ solved. IsVerdict d solved k.verdict) same k.is_verdict) in

@@ -6,12 +6,12 @@ use Rattle.std.proofs.lemmas.List.{length-map, length-set}
 use Rattle.std.proofs.lemmas.List.Elements.{All-nil, All-cons, All-append, All-filter, All-map, Contains-get_or}
 use Rattle.std.proofs.Math.ListN.{get_or-map}
 use Rattle.arc_laws.proofs.Alone.{leaves}
-use Rattle.control_incentive.specs.Paths.{LeadsTo}
-use Rattle.control_incentive.specs.Lines.{IsControlLine, chance_nodes, controlling, node_of, of_control}
+use Rattle.control_incentive.specs.Paths.{LeadsToOwn}
+use Rattle.control_incentive.specs.Lines.{IsControlLine, chance_nodes, controlling, line_node, of_control}
 use Rattle.control_incentive.specs.declared.lines.ControlLine.{ControlLine}
 use Rattle.first_fault.specs.Outcomes.{◌▸▸◌, gives}
 use Rattle.first_fault.specs.Passes.{Pass}
-use Rattle.info_value.specs.Finding.{of_seen, of_unseen, seeing, missing}
+use Rattle.info_value.specs.Finding.{of_seen, of_unseen, diagram_with_arc, missing}
 use Rattle.info_value.specs.Lines.{IsFound, IsInfoLine, arc_of, arcs_into, asked_arcs, decides, may_see}
 use Rattle.info_value.specs.declared.lines.InfoLine.{InfoLine}
 use Rattle.maid_model.specs.Names.{IsFirstPlace}
@@ -21,7 +21,7 @@ use Rattle.maid_model.specs.Views.{NodeView, DiagramView, AnswerView}
 use Rattle.maid_model.specs.declared.diagrams.Kind.TheVariants.{Utility}
 use Rattle.maid_model.specs.declared.answers.Ratio.{Ratio}
 use Rattle.optimum_gap.specs.Baselines.{alone}
-use Rattle.optimum_gap.specs.Found.{Reason, Cycle, Worthless, TooLarge, found_of, solving}
+use Rattle.optimum_gap.specs.Found.{Reason, Cycle, Worthless, TooLarge, found_of, reason_pass}
 use Rattle.optimum_gap.specs.declared.found.Found.{Found}
 use Rattle.optimum_gap.specs.declared.found.Found.TheVariants as found
 use Rattle.maid_app.specs.Control.{control_nodes}
@@ -60,12 +60,12 @@ joined_known nodes (d ∷ ds) known =
 
 -- ---- cycles that are told
 -- an edited diagram with as many nodes, refused for a cycle
-solving_known : (edited : DiagramView) (n : ℕ) (list : List ℕ) → length edited.nodes ≡ n → solving edited (Some (Cycle list)) → AreKnown n list
+solving_known : (edited : DiagramView) (n : ℕ) (list : List ℕ) → length edited.nodes ≡ n → reason_pass edited (Some (Cycle list)) → AreKnown n list
 solving_known edited n list same h = subst (λ n. AreKnown n list) same (cycle_within edited.nodes list (cycle_of edited list h).1)
 
 -- only the solver tells a cycle
 abbrev TellsCyclesOf : Pass Reason → DiagramView → Type 0
-TellsCyclesOf P edited = (list : List ℕ) → P (Some (Cycle list)) → solving edited (Some (Cycle list))
+TellsCyclesOf P edited = (list : List ℕ) → P (Some (Cycle list)) → reason_pass edited (Some (Cycle list))
 
 told_known : (P : Pass Reason) (edited : DiagramView) (R : Ratio → Type 0) (n : ℕ) (f : Found) → TellsCyclesOf P edited → length edited.nodes ≡ n → (P ▸▸ gives R) (found_of f) → AreKnown n (cycle_told f)
 told_known P edited R n (found.Value r) tells same h = All-nil (λ v. v < n)
@@ -89,14 +89,14 @@ module _ (d : DiagramView) (answers : List AnswerView) (agent : ℕ) where
   seen_tells x to list (inl h) = cycle_worthless list h.1
   seen_tells x to list (inr h) = h.1
 
-  unseen_tells : (x to : ℕ) → TellsCyclesOf (of_unseen (alone d answers agent) x to) (seeing (alone d answers agent) x to)
+  unseen_tells : (x to : ℕ) → TellsCyclesOf (of_unseen (alone d answers agent) x to) (diagram_with_arc (alone d answers agent) x to)
   unseen_tells x to list (inl h) = cycle_large list h.1
   unseen_tells x to list (inr (large, inl h)) = cycle_worthless list h.1
   unseen_tells x to list (inr (large, inr h)) = h.1
 
   info_cycle : (x to : ℕ) (has : Bool) (f : Found) → IsFound d answers agent x to has f → AreKnown (length d.nodes) (cycle_told f)
   info_cycle x to true f h = told_known (of_seen (alone d answers agent) x to) (missing (alone d answers agent) x to) (IsValueOfSeen d.nodes d.decimals answers agent x to) (length d.nodes) f (seen_tells x to) (length-set (alone d answers agent).nodes to _ ∙ alone_known) h
-  info_cycle x to false f h = told_known (of_unseen (alone d answers agent) x to) (seeing (alone d answers agent) x to) (IsValueOfUnseen d.nodes d.decimals answers agent x to) (length d.nodes) f (unseen_tells x to) (length-set (alone d answers agent).nodes to _ ∙ alone_known) h
+  info_cycle x to false f h = told_known (of_unseen (alone d answers agent) x to) (diagram_with_arc (alone d answers agent) x to) (IsValueOfUnseen d.nodes d.decimals answers agent x to) (length d.nodes) f (unseen_tells x to) (length-set (alone d answers agent).nodes to _ ∙ alone_known) h
 
   control_tells : (x : ℕ) (Matters : Type 0) → TellsCyclesOf (of_control (alone d answers agent) agent x Matters) (controlling (alone d answers agent) agent x)
   control_tells x Matters list (inl h) = cycle_worthless list h.1
@@ -115,14 +115,14 @@ module _ (d : DiagramView) (answers : List AnswerView) (agent : ℕ) where
       All-cons (λ v. v < n) told.from (told.to ∷ cycle_told told.found) both.0
       (All-cons (λ v. v < n) told.to (cycle_told told.found) both.1 (info_cycle told.from told.to told.has told.found (is k e h).found))
 
-  pub control_known : (trimmed : List NodeView) (lines : List ControlLine) → map node_of lines ≡ chance_nodes d.nodes → All (IsControlLine d answers agent trimmed) lines
+  pub control_known : (trimmed : List NodeView) (lines : List ControlLine) → map line_node lines ≡ chance_nodes d.nodes → All (IsControlLine d answers agent trimmed) lines
       → All (λ told. AreKnown (length d.nodes) (control_nodes told)) lines
   control_known trimmed lines asked is k e h =
       let n = length d.nodes in
       let told = get_or lines k e in
-      let count : length (chance_nodes d.nodes) ≡ length lines = ap length (sym asked) ∙ length-map lines node_of in
-      let matters = LeadsTo trimmed Utility agent told.node in
-      let here = picked_known d.nodes (λ v. is_chance (node_at d.nodes v).kind) k (node_of e) (subst (λ m. k < m) (sym count) h) in
-      let same : get_or (chance_nodes d.nodes) k (node_of e) ≡ node_of told = ap (λ nodes. get_or nodes k (node_of e)) (sym asked) ∙ get_or-map node_of lines k e in
+      let count : length (chance_nodes d.nodes) ≡ length lines = ap length (sym asked) ∙ length-map lines line_node in
+      let matters = LeadsToOwn trimmed Utility agent told.node in
+      let here = picked_known d.nodes (λ v. is_chance (node_at d.nodes v).kind) k (line_node e) (subst (λ m. k < m) (sym count) h) in
+      let same : get_or (chance_nodes d.nodes) k (line_node e) ≡ line_node told = ap (λ nodes. get_or nodes k (line_node e)) (sym asked) ∙ get_or-map line_node lines k e in
       All-cons (λ v. v < n) told.node (cycle_told told.found) (subst (λ v. v < n) same here)
       (told_known (of_control (alone d answers agent) agent told.node matters) (controlling (alone d answers agent) agent told.node) (IsValueOfControl d.nodes d.decimals answers agent told.node) n told.found (control_tells told.node matters) (length-set (alone d answers agent).nodes told.node _ ∙ alone_known) (is k e h).found)

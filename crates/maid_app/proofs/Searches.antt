@@ -5,7 +5,7 @@ use Rattle.maid_model.specs.Views.{DiagramView}
 use Rattle.maid_model.specs.declared.answers.Ratio.{Ratio}
 use Rattle.policy_update.specs.Faults.{HasTwoOwners, update_pass}
 use Rattle.policy_update.specs.Faults as updating
-use Rattle.pure_search.specs.Faults.{profile_count, pure_pass}
+use Rattle.pure_search.specs.Faults.{pure_pass}
 use Rattle.pure_search.specs.Faults as search
 use Rattle.pure_search.specs.declared.faults.PureFault.TheVariants as faults
 use Rattle.maid_app.specs.Diagrams.{NamedDiagram}
@@ -19,7 +19,7 @@ use Rattle.maid_app.specs.declared.status.Status.TheVariants.{NotOneAgent, NoPur
 use Rattle.maid_app.proofs.SolveRefusals.{IsPassed, passed_told}
 
 -- ---- the search
-passed_in_search : (d : DiagramView) (at : Option ℕ) → search.bound_pass d (Some (faults.WeightBound at)) → IsPassed d at
+passed_in_search : (d : DiagramView) (at : Option ℕ) → search.search_bound_pass d (Some (faults.WeightBound at)) → IsPassed d at
 passed_in_search d None h = h
 passed_in_search d (Some v) h = h
 
@@ -49,7 +49,7 @@ module _ (d : DiagramView) (names : NamesView) (told : List ℕ) where
       inr ((x, is, keeps), inr ((x, is, small), inl (x, is, (refl, record { none = λ some. h.0 some.0 some.1; says = says ∙ ap no_equilibrium_line h.1 }))))
 
 -- ---- updating
-passed_in_update : (d : DiagramView) (at : Option ℕ) → updating.bound_pass d (Some (updating.WeightBound at)) → IsPassed d at
+passed_in_update : (d : DiagramView) (at : Option ℕ) → updating.update_bound_pass d (Some (updating.WeightBound at)) → IsPassed d at
 passed_in_update d None h = h
 passed_in_update d (Some v) h = h
 

@@ -7,7 +7,7 @@ use Rattle.maid_app.specs.Reading.{IsOfOutput, RefusesAs}
 use Rattle.maid_app.specs.Refusal.{status_of, line_of}
 use Rattle.maid_app.specs.Request.{Request, file_name, IsOfFile}
 use Rattle.maid_app.specs.Steps.{HasNoText, LeadsToText, LeadsToRefusal}
-use Rattle.maid_app.specs.Told.{limit_of, IsFileText, IsTextFor, IsUnread, KeepsLimit, KeepsLimits, LeadsTo, OfRequest, Refuses, Says, WritesText, IsOfReading}
+use Rattle.maid_app.specs.Told.{limit_of, IsFileText, IsTextFor, IsUnread, KeepsLimit, KeepsFileLimits, LeadsTo, OfRequest, Refuses, Says, WritesText, IsOfReading}
 use Rattle.maid_app.specs.declared.output.Output.{Output}
 use Rattle.maid_app.specs.declared.refusal.Refusal.{Refusal}
 use Rattle.maid_app.specs.declared.status.Status.{Status}
@@ -25,7 +25,7 @@ kept list name limit given bytes status is there = record {
 
 module _ (list : Option (List File)) (asked own : Request) (given : ℕ) (leads : LeadsTo list asked own) where
   module _ (bytes : List ℕ) (is : IsTextFor list own given bytes) where
-    pub kept_all : (status : Status) → (status ≡ Absent → ⊥) → KeepsLimits list (Some asked) status given
+    pub kept_all : (status : Status) → (status ≡ Absent → ⊥) → KeepsFileLimits list (Some asked) status given
     kept_all status there = (own, leads, λ of. kept list (file_name own) (limit_of own) given bytes status (file_text list own given bytes of is) there)
 
     -- what is written for the request's bytes
@@ -188,5 +188,5 @@ module _ (list : Option (List File)) (requested : Option Request) (asked : Reque
   pub says : (refusal : Refusal) → LeadsToRefusal list asked given refusal → Says list requested given (status_of refusal) (line_of refusal)
   says refusal is = subst (λ r. Says list r given (status_of refusal) (line_of refusal)) asks is.says
 
-  pub keeps : (status : Status) → KeepsLimits list (Some asked) status given → KeepsLimits list requested status given
-  keeps status is = subst (λ r. KeepsLimits list r status given) asks is
+  pub keeps : (status : Status) → KeepsFileLimits list (Some asked) status given → KeepsFileLimits list requested status given
+  keeps status is = subst (λ r. KeepsFileLimits list r status given) asks is

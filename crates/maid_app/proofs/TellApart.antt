@@ -6,13 +6,14 @@ use Rattle.std.proofs.lemmas.Bool.{and_parts}
 use Rattle.std.proofs.lemmas.List.Elements.{All-nil, All-cons}
 use Rattle.std.proofs.lemmas.List.Sums.{AllPass-from_list_all}
 use Rattle.maid_model.specs.Names.{NamesView}
+use Rattle.maid_model.specs.Reports.{IsOneLine}
 use Rattle.maid_model.specs.Views.{DiagramView}
 use Rattle.maid_model.specs.declared.limits.TheConstants.{MOST_NAME_BYTES}
 use Rattle.net_build.specs.Blocks.{is_plain}
 use Rattle.net_build.specs.Form.{HasTextForm}
 use Rattle.net_lexer.specs.Bytes.{is_word_start, is_word_byte}
 use Rattle.net_lexer.specs.Token.{is_name}
-use Rattle.report_text.specs.Reading.{AreTold, IsOneLine, IsOneWord}
+use Rattle.report_text.specs.Reading.{AreTold, IsOneWord}
 
 word_byte : (b : ℕ) → is_word_byte b ≡ true → (b ≢ 10) × (b ≢ 32)
 word_byte b is = (λ e. let no = sym (ap is_word_byte e) ∙ is in absurd cc, λ e. let no = sym (ap is_word_byte e) ∙ is in absurd cc)
@@ -20,7 +21,7 @@ word_byte b is = (λ e. let no = sym (ap is_word_byte e) ∙ is in absurd cc, λ
 start_byte : (b : ℕ) → is_word_start b ≡ true → is_word_byte b ≡ true
 start_byte b is = rw is refl
 
-one_word : (name : List ℕ) → is_name name ≡ true → IsOneWord name
+pub one_word : (name : List ℕ) → is_name name ≡ true → IsOneWord name
 one_word [] is = All-nil (λ byte. (byte ≢ 10) × (byte ≢ 32))
 one_word (b ∷ bytes) is =
     let parts = and_parts (is_word_start b) (list_all is_word_byte bytes) is in

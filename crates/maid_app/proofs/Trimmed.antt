@@ -1,11 +1,10 @@
 -- A diagram without arcs into decisions can be printed where the whole can, and the removed arcs have names.
-use Rattle.std.proofs.Common.{◌≡◌, ◌≢◌, ◌∙◌, ◌⊎◌, inl, inr, ℕ, zero, suc, ◌*◌, ◌<◌, ◌^◌, Bool, true, false, cond, not, ◌&&◌, List, [], ◌∷◌, ◌++◌, All, length, map, filter, get_or, codes, refl, sym, ap, subst, nat_abs, pos, slice_index_or}
+use Rattle.std.proofs.Common.{◌≡◌, ◌≢◌, ◌∙◌, ℕ, zero, suc, ◌*◌, ◌<◌, ◌^◌, Bool, true, false, cond, not, List, [], ◌∷◌, ◌++◌, All, length, map, filter, get_or, codes, refl, sym, ap, subst, nat_abs, pos, slice_index_or}
 use Rattle.std.specs.Int.{◌∣◌}
 use Rattle.std.specs.List.{flat_map, list_all}
-use Rattle.std.proofs.lemmas.Bool.{cases_eq, ne_eqb, and_parts}
 use Rattle.std.proofs.lemmas.List.{length-map, get_or_default}
-use Rattle.std.proofs.lemmas.List.Elements.{All-nil, All-cons, All-head, All-tail}
-use Rattle.std.proofs.lemmas.List.Folds.{list_all-append}
+use Rattle.std.proofs.lemmas.List.Elements.{All-nil, All-cons, All-head, All-tail, All-append}
+use Rattle.std.proofs.lemmas.List.Sums.{AllPass-from_list_all}
 use Rattle.app_lines.specs.Removed.{AreNamed, removed_line, removed_lines}
 use Rattle.arc_laws.proofs.LostArc.{loses, graph_kept}
 use Rattle.finite_sums.specs.Sums.{sum_below}
@@ -14,6 +13,7 @@ use Rattle.maid_model.specs.Graph.{Arc, IsGraph}
 use Rattle.maid_model.specs.Names.{NamesView, NamesFit, name_of, agent_name}
 use Rattle.maid_model.specs.Nodes.{node_at, no_node, states_of, parents_of, rows_of, rows_under, is_chance}
 use Rattle.maid_model.specs.Placing.{IsLeast}
+use Rattle.maid_model.specs.Reports.{IsOneLine}
 use Rattle.maid_model.specs.Tables.{chance_total}
 use Rattle.maid_model.specs.Trimming.{IsTrimmed, Done, Removed}
 use Rattle.maid_model.specs.Views.{NodeView, DiagramView}
@@ -21,14 +21,15 @@ use Rattle.maid_model.specs.declared.diagrams.Kind.TheVariants.{Chance, Decision
 use Rattle.net_build.specs.Blocks.{first_sights}
 use Rattle.net_build.specs.Form.{HasTextForm}
 use Rattle.net_build.specs.Plain.{reduced_rows, AreEnough, IsPlain}
-use Rattle.net_lexer.specs.Bytes.{is_line_byte, is_word_start, is_word_byte}
+use Rattle.net_lexer.specs.Bytes.{is_line_byte}
 use Rattle.net_lexer.specs.Token.{is_name}
 use Rattle.net_print.specs.Printed.{printed}
-use Rattle.net_print.specs.RoundTrip.{IsPrintable, IsOneLine, comment_lines, ReadsAs, CommentedRoundTrip}
+use Rattle.net_print.specs.RoundTrip.{IsPrintable, comment_lines, ReadsAs, CommentedRoundTrip}
 use Rattle.requisite_trim.specs.Trims.{but_parents, LosesArcs, IsTrimming}
 use Rattle.weight_scale.specs.Scaling.{IsCommonTotal}
 use Rattle.maid_app.specs.Diagrams.{IsDiagramOf}
 use Rattle.maid_app.specs.Trim.{HasTrim}
+use Rattle.maid_app.proofs.TellApart.{one_word}
 
 -- ---- the nodes
 node_but : (nodes : List NodeView) (v : ℕ) → get_or (map but_parents nodes) v no_node ≡ but_parents (node_at nodes v)
@@ -134,26 +135,15 @@ pub removed_named : (nodes trimmed : List NodeView) (removed : List (ℕ × ℕ)
 removed_named nodes trimmed removed names g t e = subst (λ n. All (λ arc. (arc.0 < n) × (arc.1 < n)) removed) (sym e) (within g t)
 
 -- ---- their lines
--- a byte of a word ends no line
-word_byte : (b : ℕ) → is_word_byte b ≡ true → is_line_byte b ≡ true
-word_byte b is = go (cases_eq b 10) where
-  go : (b ≡ 10) ⊎ (b ≡ 10 → ⊥) → is_line_byte b ≡ true
-  go (inl e) = let no = sym (ap is_word_byte e) ∙ is in absurd cc
-  go (inr n) = rw (ne_eqb b 10 n) refl
-
-word_bytes : (bytes : List ℕ) → list_all is_word_byte bytes ≡ true → list_all is_line_byte bytes ≡ true
-word_bytes [] is = refl
-word_bytes (b ∷ bytes) is = let parts = and_parts (is_word_byte b) (list_all is_word_byte bytes) is in λ i. word_byte b parts.0 i && word_bytes bytes parts.1 i
-
-start_byte : (b : ℕ) → is_word_start b ≡ true → is_word_byte b ≡ true
-start_byte b is = rw is refl
+-- bytes of which none ends a line, by the test of each
+plain_words : (words : List ℕ) → list_all is_line_byte words ≡ true → IsOneLine words
+plain_words words is = λ k d h e. let no = sym (ap is_line_byte e) ∙ AllPass-from_list_all is_line_byte words is k d h in absurd cc
 
 name_line : (name : List ℕ) → is_name name ≡ true → IsOneLine name
-name_line [] is = refl
-name_line (b ∷ bytes) is = let parts = and_parts (is_word_start b) (list_all is_word_byte bytes) is in λ i. word_byte b (start_byte b parts.0) i && word_bytes bytes parts.1 i
+name_line name is = λ k d h. (one_word name is k d h).0
 
 lines-append : (xs ys : List ℕ) → IsOneLine xs → IsOneLine ys → IsOneLine (xs ++ ys)
-lines-append xs ys a b = list_all-append is_line_byte xs ys ∙ (λ i. a i && b i)
+lines-append = All-append (λ byte. byte ≢ 10)
 
 -- what stands behind the percent sign
 abbrev removed_words : NamesView → ℕ × ℕ → List ℕ
@@ -168,7 +158,7 @@ one_line names arc from to =
     let tail = name_of names arc.0 in
     let head = name_of names arc.1 in
     lines-append (codes " removed " ++ tail ++ codes " -> ") head
-    (lines-append (codes " removed " ++ tail) (codes " -> ") (lines-append (codes " removed ") tail refl (name_line tail from)) refl)
+    (lines-append (codes " removed " ++ tail) (codes " -> ") (lines-append (codes " removed ") tail (plain_words (codes " removed ") refl) (name_line tail from)) (plain_words (codes " -> ") refl))
     (name_line head to)
 
 one_lines : (d : DiagramView) (names : NamesView) (removed : List (ℕ × ℕ)) → HasTextForm d names → AreNamed names removed → All IsOneLine (map (removed_words names) removed)

@@ -1,7 +1,7 @@
 -- What `control` writes: what control of chance nodes is worth to an agent, and its incentives there.
 use Rattle.std.specs.Prelude.{◌≡◌, ℕ, List, [], ◌∷◌, ◌++◌, All, codes, map, if◌then◌else◌}
 use Rattle.std.specs.List.{flat_map}
-use Rattle.control_incentive.specs.Lines.{IsControlLine, IsTrimmedAlone, TellsControl, chance_nodes, node_of}
+use Rattle.control_incentive.specs.Lines.{IsControlLine, IsTrimmedAlone, TellsControl, chance_nodes, line_node}
 use Rattle.control_incentive.specs.declared.lines.ControlLine.{ControlLine}
 use Rattle.maid_model.specs.Names.{NamesView, IsFirstPlace, name_of}
 use Rattle.maid_model.specs.Reports.{line}
@@ -36,7 +36,7 @@ pub record HasControl
   pub number : ℕ
   pub is_agent : IsFirstPlace names.agents agent number
   pub lines : List ControlLine
-  pub nodes : map node_of lines ≡ chance_nodes d.nodes
+  pub nodes : map line_node lines ≡ chance_nodes d.nodes
   pub trimmed : List NodeView
   pub is_trimmed : IsTrimmedAlone d solved.answers number trimmed
   pub found : All (IsControlLine d solved.answers number trimmed) lines

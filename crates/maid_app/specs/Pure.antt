@@ -6,7 +6,7 @@ use Rattle.maid_model.specs.Reports.{line, gain_lines}
 use Rattle.maid_model.specs.Scopes.{KeepsScopedBounds}
 use Rattle.maid_model.specs.Views.{DiagramView}
 use Rattle.pure_search.specs.Faults.{IsSmall}
-use Rattle.pure_search.specs.Found.{PureView, IsFound, IsStable}
+use Rattle.pure_search.specs.Found.{PureView, IsPureFound, IsStable}
 use Rattle.maid_app.specs.Stages.{Stage, HasPureEquilibrium, text_fault, weight_bound, too_many_profiles, no_equilibrium}
 use Rattle.maid_app.specs.Tasks.{Task, text_task}
 
@@ -18,7 +18,7 @@ pure_text d names found = line (codes "maidsolve pure 1")
 -- the first pure equilibrium in text order, from which no agent gains by its own rules, pure or mixed
 pub record HasPure (d : DiagramView) (names : NamesView) (printed : List ℕ) : Type 0 where
   pub found : PureView
-  pub is_found : IsFound d found
+  pub is_found : IsPureFound d found
   pub stable : IsStable d found
   pub is : printed ≡ pure_text d names found
 

@@ -109,8 +109,8 @@ abbrev pub Prints : Task → Source → Vec ℕ → Type 0
 Prints task source text = Finishes (comes_from task source) text
 
 -- this output does
-abbrev pub Gives : Outcomes Written Refused → Output → Type 0
-Gives Comes output = Comes (Ok (written output.status output.text.items))
+abbrev pub GivesOutput : Outcomes Written Refused → Output → Type 0
+GivesOutput Comes output = Comes (Ok (written output.status output.text.items))
 
 -- what the stages find, or that memory ran out
 abbrev pub TellsOf : Outcomes Written Refused → Refusal → Type 0

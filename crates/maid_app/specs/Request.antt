@@ -1,9 +1,10 @@
 -- What the words of a command line ask for.
-use Rattle.std.specs.Prelude.{ℕ, ◌+◌, ◌-◌, ◌*◌, ◌==◌, ◌&&◌, ◌||◌, not, nat_le, nat_lt, Bool, List, [], ◌∷◌, Option, None, Some, String, string_bytes, codes, decimal, find, fold, length, map, slice_index, if◌then◌else◌}
+use Rattle.std.specs.Prelude.{ℕ, ◌-◌, ◌==◌, ◌&&◌, ◌||◌, not, nat_le, nat_lt, Bool, List, [], ◌∷◌, Option, None, Some, String, string_bytes, codes, decimal, find, length, map, slice_index, if◌then◌else◌}
 use Rattle.std.specs.Char.{is_ascii_digit}
 use Rattle.std.specs.List.{list_all, range_with_len}
 use Rattle.std.specs.Option.{option_map}
 use Rattle.std.specs.Str.{bytes_eq}
+use Rattle.weight_scale.specs.Numeral.{number_of}
 
 -- A request, with the names in it as bytes. A report is checked in two steps: `check` looks at the
 -- file of its diagram, and where nothing is found there, `judge` looks at the report's, with the
@@ -75,13 +76,9 @@ is_row_size word = nat_lt 0 (length word)
 abbrev pub is_row_word : List ℕ → Bool
 is_row_word word = is_row_size word && list_all is_ascii_digit word
 
--- the number that the decimal digits mean
-abbrev pub number_of : List ℕ → ℕ
-number_of word = fold (λ n digit. n * 10 + (digit - 48)) 0 word
-
 -- the number of a row that the word is, if it is one
-abbrev pub row_of : List ℕ → Option ℕ
-row_of word = if is_row_word word then Some (number_of word) else None
+abbrev pub row_in_word : List ℕ → Option ℕ
+row_in_word word = if is_row_word word then Some (number_of word) else None
 
 -- a form of four words: `given`, a file's name, a node's, and a state's label
 abbrev pub request_by_evidence : List ℕ → List ℕ → List ℕ → List ℕ → Option Request
@@ -92,7 +89,7 @@ request_by_evidence word file node state =
 -- state's label
 abbrev pub request_by_row : List ℕ → List ℕ → List ℕ → List ℕ → List ℕ → Option Request
 request_by_row word file node row state = if bytes_eq word (codes "threshold")
-    then option_map (λ number. threshold file node number state) (row_of row)
+    then option_map (λ number. threshold file node number state) (row_in_word row)
     else None
 
 -- the request of the words, where they are of a form

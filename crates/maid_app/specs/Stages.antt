@@ -82,7 +82,7 @@ abbrev pub AllRoundsRaise : DiagramView → Type 0
 AllRoundsRaise d = (p : List RuleView) × IsReachedAfter d.nodes MOST_ROUNDS p
 
 -- the relevance graph has a cycle, which is told
-pub record TellsCycle (d : DiagramView) (names : NamesView) (told : List ℕ) : Type 0 where
+pub record TellsRelianceCycle (d : DiagramView) (names : NamesView) (told : List ℕ) : Type 0 where
   pub no_order : HasRelianceOrder d.nodes → ⊥
   pub cycle : List ℕ
   pub is_cycle : IsRelianceCycle d.nodes cycle
@@ -105,7 +105,7 @@ pub record TellsTooLarge (d : DiagramView) (names : NamesView) (told : List ℕ)
 pub record TellsProfiles (d : DiagramView) (names : NamesView) (told : List ℕ) : Type 0 where
   pub profiles : ℕ
   pub leaves : ℕ
-  pub is_size : search.IsTooLarge d profiles leaves
+  pub is_size : search.IsTooLargeForSearch d profiles leaves
   pub says : told ≡ profiles_line profiles leaves
 
 -- no pure profile is an equilibrium, and how many there are is told
@@ -122,7 +122,7 @@ pub record TellsOwners (d : DiagramView) (names : NamesView) (told : List ℕ) :
 pub record TellsUpdateTooLarge (d : DiagramView) (names : NamesView) (told : List ℕ) : Type 0 where
   pub cells : ℕ
   pub work : ℕ
-  pub is_size : updating.IsTooLarge d cells work
+  pub is_size : updating.IsTooLargeForUpdate d cells work
   pub says : told ≡ too_large_line cells work
 
 -- each of the rounds raises, and how many they are is told
@@ -176,7 +176,7 @@ abbrev pub Finds : Stage → File → Pass Refused
 Finds text_fault file = stage TextFault (IsText file.1) (TellsFault file.0 file.1)
 Finds (unknown_agent agent) file = of_diagram file.1 (λ d names. agent_pass names agent)
 Finds relevance_cycle file =
-    of_diagram file.1 (λ d names. stage Cycle (HasRelianceOrder d.nodes) (TellsCycle d names))
+    of_diagram file.1 (λ d names. stage Cycle (HasRelianceOrder d.nodes) (TellsRelianceCycle d names))
 Finds weight_bound file =
     of_diagram file.1 (λ d names. stage WeightBound (KeepsScopedBounds d) (TellsBound d names))
 Finds too_large file =
@@ -188,7 +188,7 @@ Finds no_equilibrium file =
 Finds several_owners file = of_diagram file.1 (λ d names.
     stage NotOneAgent (HasTwoOwners d.nodes → ⊥) (TellsOwners d names))
 Finds update_too_large file = of_diagram file.1 (λ d names.
-    stage TooLarge (updating.IsSmallEnough d) (TellsUpdateTooLarge d names))
+    stage TooLarge (updating.IsSmallEnoughForUpdate d) (TellsUpdateTooLarge d names))
 Finds rounds_spent file =
     of_diagram file.1 (λ d names. stage RoundsSpent (AllRoundsRaise d → ⊥) (TellsRounds d names))
 Finds (unknown_node node) file = of_diagram file.1 (λ d names.
@@ -204,7 +204,7 @@ Finds (rules_given node state) file =
 Finds (cycle_given node state) file = of_diagram file.1 (λ d names.
     at_state d names node state (λ x s.
     stage Cycle (HasRelianceOrder (all_seeing d.nodes x))
-    (TellsCycle (all_seeing_diagram d x) names)))
+    (TellsRelianceCycle (all_seeing_diagram d x) names)))
 Finds (bound_given node state) file = of_diagram file.1 (λ d names.
     at_state d names node state (λ x s.
     stage WeightBound (KeepsAllBounds (all_seeing_diagram d x) x)

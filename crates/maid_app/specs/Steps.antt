@@ -8,7 +8,7 @@ use Rattle.maid_app.specs.Lines.{no_memory_line}
 use Rattle.maid_app.specs.Reading.{IsOfOutput, RefusesAs}
 use Rattle.maid_app.specs.Refusal.{status_of, line_of}
 use Rattle.maid_app.specs.Request.{Request, IsOfFile, requested}
-use Rattle.maid_app.specs.Told.{AppendsWhole, KeepsLimits, KeepsLimitsOf, HasNoBytes, HasText, IsAfterWriting, IsFileText, IsTextFor, LeadsTo, RoseIn, Says, IsUnread, WritesPart, KeepsLimit, limit_of}
+use Rattle.maid_app.specs.Told.{AppendsWhole, KeepsFileLimits, KeepsLimitsOf, HasNoBytes, HasText, IsAfterWriting, IsFileText, IsTextFor, LeadsTo, RoseIn, Says, IsUnread, WritesPart, KeepsLimit, limit_of}
 use Rattle.maid_app.specs.declared.output.Output.{Output}
 use Rattle.maid_app.specs.declared.refusal.Refusal.{Refusal}
 use Rattle.maid_app.specs.declared.status.Status.{Status}
@@ -30,14 +30,14 @@ pub record LeadsToText
   pub text : HasText list request given output.status output.text.items
   pub after : IsAfterWriting output.status
   pub bounded :
-      (status : Status) → (status ≡ Absent → ⊥) → KeepsLimits list (Some asked) status given
+      (status : Status) → (status ≡ Absent → ⊥) → KeepsFileLimits list (Some asked) status given
 
 -- the refusal says why there is no such text, and the files keep their limits
 pub record LeadsToRefusal
     (list : Option (List File)) (asked : Request) (given : ℕ) (refusal : Refusal) : Type 0 where
   pub says : Says list (Some asked) given (status_of refusal) (line_of refusal)
   pub before : IsOfOutput (status_of refusal)
-  pub bounded : KeepsLimits list (Some asked) (status_of refusal) given
+  pub bounded : KeepsFileLimits list (Some asked) (status_of refusal) given
 
 -- a refusal with that status has its cause: the device's count rose
 abbrev pub IsCounted : {D : Type 0} → Status → (D → ℕ) → D → D → Refusal → Type 0

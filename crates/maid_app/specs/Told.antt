@@ -76,8 +76,8 @@ pub record KeepsLimit (limit : ℕ) (status : Status) (given : ℕ) : Type 0 whe
   pub absent : status ≡ Absent → given ≡ 0
 
 -- and so of the file that was started last, where the words name one
-abbrev pub KeepsLimits : Option (List File) → Option Request → Status → ℕ → Type 0
-KeepsLimits list requested status given = IfSome requested (λ asked.
+abbrev pub KeepsFileLimits : Option (List File) → Option Request → Status → ℕ → Type 0
+KeepsFileLimits list requested status given = IfSome requested (λ asked.
     (request : Request) × LeadsTo list asked request
     × (IsOfFile request → KeepsLimit (limit_of request) status given))
 
@@ -109,7 +109,7 @@ IsAfterWriting status = ⊥
 abbrev pub KeepsLimitsOf :
     {Z S : Type 0} → List (String Z) → ShelfGhosts S → S → S → Status → Type 0
 KeepsLimitsOf words shelf before now status =
-    KeepsLimits (shelf.list before) (requested words) status (shelf.given now)
+    KeepsFileLimits (shelf.list before) (requested words) status (shelf.given now)
 
 -- it is so where the words ask for a demo
 abbrev pub WhereDemo : {Z : Type 0} → List (String Z) → Type 0 → Type 0

@@ -5,7 +5,7 @@ use Rattle.maid_model.specs.Names.{NamesView}
 use Rattle.maid_model.specs.Reports.{line, gain_lines}
 use Rattle.maid_model.specs.Scopes.{KeepsScopedBounds}
 use Rattle.maid_model.specs.Views.{DiagramView}
-use Rattle.policy_update.specs.Faults.{HasTwoOwners, IsSmallEnough, update_fault, update_pass}
+use Rattle.policy_update.specs.Faults.{HasTwoOwners, IsSmallEnoughForUpdate, update_fault, update_pass}
 use Rattle.policy_update.specs.Updated.{UpdatedView, IsUpdateOf, IsLocallyOptimal, RoundsRaise}
 use Rattle.maid_app.specs.Stages.{Stage, AllRoundsRaise, text_fault, several_owners, weight_bound, update_too_large, rounds_spent}
 use Rattle.maid_app.specs.Tasks.{Task, text_task}
@@ -34,7 +34,7 @@ pub record HasUpdate (d : DiagramView) (names : NamesView) (printed : List ℕ) 
 pub record CanBeUpdated (d : DiagramView) : Type 0 where
   pub one_owner : HasTwoOwners d.nodes → ⊥
   pub bound : KeepsScopedBounds d
-  pub small : IsSmallEnough d
+  pub small : IsSmallEnoughForUpdate d
   pub settles : AllRoundsRaise d → ⊥
 
 -- a second owner, the weight bound, too large a run, and rounds that all raise

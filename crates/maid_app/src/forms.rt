@@ -7,7 +7,7 @@ ghost use Rattle.std.specs.Option.{option_map};
 ghost use Rattle.std.specs.Str.{bytes_eq};
 ghost use Rattle.maid_app.specs.Answers.{Answers};
 ghost use Rattle.maid_app.specs.Reading.{TellsOf, Finishes};
-ghost use Rattle.maid_app.specs.Request.{is_row_size, is_row_word, request_by_evidence, request_by_row, request_by_word, request_by_words, requested, row_of, stages_of};
+ghost use Rattle.maid_app.specs.Request.{is_row_size, is_row_word, request_by_evidence, request_by_row, request_by_word, request_by_words, requested, row_in_word, stages_of};
 ghost use Rattle.maid_app.specs.Form.{request_by, text_request, IsFormOf};
 
 mod asking;
@@ -242,8 +242,8 @@ fn is_row_word(word: &[u8]) -> bool
 }
 
 // The number of a row that the word is.
-fn row_of(word: &[u8]) -> Option<usize>
-    ensures { result ≡ row_of word.now }
+fn row_in_word(word: &[u8]) -> Option<usize>
+    ensures { result ≡ row_in_word word.now }
 {
     if !is_row_word(word) {
         return None;
@@ -281,7 +281,7 @@ fn form_by_row<'a>(
     ensures { IsFormOf result (request_by_row word.now file.now node.now row.now state.now) }
 {
     match word {
-        "threshold" => match row_of(row.as_bytes()) {
+        "threshold" => match row_in_word(row.as_bytes()) {
             Some(row) => Some(Form::Text(TextForm::Threshold {
                 file,
                 node,

@@ -10,7 +10,7 @@ use Rattle.maid_model.specs.Tables.{IsTable, weights_of, rule_total}
 use Rattle.maid_model.specs.Gains.{gain_of, mass}
 use Rattle.maid_model.specs.Subgames.{OwnsAll}
 use Rattle.maid_model.specs.Values.{IsOptimum, IsDifference, IsValueOfSeen, IsValueOfUnseen}
-use Rattle.arc_laws.specs.Worths.{OneValue}
+use Rattle.arc_laws.specs.Worths.{OneDifference}
 use Rattle.maid_examples.specs.Samples.{rule, whole}
 use Rattle.maid_examples.specs.TwoCoins.{guessing, told, untold, half, HasValues}
 use Rattle.maid_examples.proofs.Members.{Among, among_of}
@@ -149,7 +149,7 @@ module _ (profiles : TestsProfiles) where
       not_seen (inl e) = omega arith
       not_seen (inr m) = m
 
-  pub values : IsDiagram (record { nodes = told; agents = 1; decimals = 0 }) → IsDiagram (record { nodes = newly; agents = 1; decimals = 0 }) → OneValue → HasValues
+  pub values : IsDiagram (record { nodes = told; agents = 1; decimals = 0 }) → IsDiagram (record { nodes = newly; agents = 1; decimals = 0 }) → OneDifference → HasValues
   values d e one = record {
     told_optimum = told_optimum;
     untold_optimum = untold_optimum;

@@ -24,12 +24,12 @@ bound_factor nodes v = bound_by (node_at nodes v).kind (chance_total nodes v) (s
 abbrev pub bound_product : List NodeView → ℕ
 bound_product nodes = nat_product_over (bound_factor nodes) (numbers_of nodes)
 
--- that weight has room, times the greatest of the utilities' scale and their summed greatest values
+-- the weight has room: times the greatest of the utilities' scale and their summed greatest values
 abbrev pub HasRoomForWeight : DiagramView → ℕ → Type 0
 HasRoomForWeight d weight =
     weight * max (10 ^ d.decimals) (greatest_utility d.nodes) ≤ greatest_number
 
--- and so has the mass of the decision's base
+-- the mass of the decision's base has room
 abbrev pub HasRoomForBase : DiagramView → List RuleView → ℕ → Type 0
 HasRoomForBase d p decision = HasRoomForWeight d (base_mass d.nodes p decision)
 

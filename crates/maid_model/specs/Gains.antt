@@ -1,7 +1,8 @@
 -- The weight of a world, and the sums over worlds: expected utilities, and what a decision's states are worth in a row.
-use Rattle.std.specs.Prelude.{◌≡◌, ℕ, ◌+◌, ◌*◌, ◌<◌, Bool, ◌&&◌, List, [], ◌∷◌, length, slice_index, slice_index_or, ℤ, pos, ◌*ℤ◌, ◌==◌, if◌then◌else◌, nat_abs, max}
+use Rattle.std.specs.Prelude.{◌≡◌, ℕ, ◌+◌, ◌*◌, ◌<◌, ◌≤◌, Bool, ◌&&◌, List, [], ◌∷◌, length, slice_index, slice_index_or, ℤ, pos, ◌*ℤ◌, ◌==◌, if◌then◌else◌, nat_abs, max}
 use Rattle.maid_model.specs.Views.{NodeView, RuleView}
 use Rattle.maid_model.specs.Nodes.{agent_of, node_at, states_of, rows_of, numbers_of, is_utility, is_utility_of}
+use Rattle.maid_model.specs.Diagrams.{greatest_number}
 use Rattle.maid_model.specs.Graph.{descends}
 use Rattle.finite_sums.specs.Sums.{World, sum_over, sum_each, product_over, nat_product_over, nat_sum_over}
 use Rattle.maid_model.specs.Tables.{row_of, table, weight_total}
@@ -31,6 +32,14 @@ utility nodes agent w = sum_each (λ v. value_for nodes agent v w) (numbers_of n
 -- N: the sum, over all worlds, of the world's weight times the agent's utilities
 abbrev pub gain_of : List NodeView → List RuleView → ℕ → ℤ
 gain_of nodes p agent = sum_worlds nodes (λ w. weight nodes p w *ℤ utility nodes agent w)
+
+-- the gain of a row's state in a list with a number for each row and state, the state fastest
+abbrev pub gain_in : List ℤ → ℕ → ℕ → ℕ → ℤ
+gain_in gains states row s = slice_index_or gains (row * states + s) (pos 0)
+
+-- none of the gains is above the greatest number
+abbrev pub AreSmallGains : List ℤ → Type 0
+AreSmallGains gains = (i : ℕ) → nat_abs (slice_index_or gains i (pos 0)) ≤ greatest_number
 
 -- v's factor, but 1 at the decision d
 abbrev pub table_without : List NodeView → List RuleView → ℕ → ℕ → World → ℤ

@@ -21,7 +21,7 @@ pub record IsProfile (nodes : List NodeView) (p : List RuleView) : Type 0 where
 abbrev pub HasRuleTotals : List NodeView → (ℕ → ℕ) → List RuleView → Type 0
 HasRuleTotals nodes total p = (v : ℕ) → IsDecision nodes v → rule_total p v ≡ total v
 
--- and to the count of the decision's states
+-- the rows of each decision's rule add up to the count of its states
 abbrev pub HasUniformTotals : List NodeView → List RuleView → Type 0
 HasUniformTotals nodes p = HasRuleTotals nodes (states_of nodes) p
 

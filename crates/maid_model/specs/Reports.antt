@@ -1,5 +1,5 @@
 -- The report of an answered diagram, as bytes.
-use Rattle.std.specs.Prelude.{ℕ, ◌+◌, ◌/◌, ◌%◌, ◌||◌, List, [], ◌∷◌, ◌++◌, map, codes, decimal, ◌==◌, if◌then◌else◌, Option, None, Some}
+use Rattle.std.specs.Prelude.{◌≢◌, ℕ, ◌+◌, ◌/◌, ◌%◌, ◌||◌, List, [], ◌∷◌, ◌++◌, map, codes, decimal, All, ◌==◌, if◌then◌else◌, Option, None, Some}
 use Rattle.std.specs.Fmt.{signed_decimal}
 use Rattle.std.specs.List.{flat_map}
 use Rattle.maid_model.specs.declared.answers.Ratio.{Ratio}
@@ -19,6 +19,10 @@ quoted bytes = 34 ∷ flat_map escaped bytes ++ 34 ∷ []
 -- each after one space
 abbrev pub spaced : List (List ℕ) → List ℕ
 spaced pieces = flat_map (λ piece. 32 ∷ piece) pieces
+
+-- no byte ends a line
+abbrev pub IsOneLine : List ℕ → Type 0
+IsOneLine bytes = All (λ byte. byte ≢ 10) bytes
 
 -- a line, ended by LF
 abbrev pub line : List ℕ → List ℕ

@@ -10,7 +10,7 @@ use Rattle.std.proofs.lemmas.Slice.Eq.{bytes_eq-Decides}
 use Rattle.std.specs.Prelude.{if◌then◌else◌}
 use Rattle.std.specs.Str.{bytes_eq}
 use Rattle.maid_model.specs.Nodes.{is_chance}
-use Rattle.net_build.specs.Blocks.{is_node, kind_of, has_agent, owner_names, agents_of, first_sights, place_among, owners_of}
+use Rattle.net_build.specs.Blocks.{is_node, kind_of, has_agent, owner_texts, agents_of, first_sights, place_among, owner_numbers}
 use Rattle.net_parser.specs.Trees.{BlockTree}
 use Rattle.net_parser.specs.declared.trees.BlockKind.{BlockKind}
 use Rattle.net_parser.specs.declared.trees.BlockKind.TheVariants.{Net, Node, Decision, Utility, Potential}
@@ -51,34 +51,34 @@ names_have (x ∷ xs) = All-cons (λ a. has (x ∷ xs) a ≡ true) x xs (ap (λ 
     (All-weaker (λ a. has xs a ≡ true) (λ a. has (x ∷ xs) a ≡ true) (λ a e. ap (λ b. bytes_eq x a || b) e ∙ or_true (bytes_eq x a)) xs (names_have xs))
 
 -- the owners among one node and others
-among_yes : (text : List ℕ) (y : BlockTree) (ys : List BlockTree) → has_agent y.kind ≡ true → agents_among text (y ∷ ys) ≡ owner_names text y ++ agents_among text ys
+among_yes : (text : List ℕ) (y : BlockTree) (ys : List BlockTree) → has_agent y.kind ≡ true → agents_among text (y ∷ ys) ≡ owner_texts text y ++ agents_among text ys
 among_yes text y ys e =
-    ap (λ b. flat_map (owner_names text) (cond b (y ∷ filter (λ c. has_agent c.kind) ys) (filter (λ c. has_agent c.kind) ys))) e
-    ∙ flat_map-cons (owner_names text) y (filter (λ c. has_agent c.kind) ys)
+    ap (λ b. flat_map (owner_texts text) (cond b (y ∷ filter (λ c. has_agent c.kind) ys) (filter (λ c. has_agent c.kind) ys))) e
+    ∙ flat_map-cons (owner_texts text) y (filter (λ c. has_agent c.kind) ys)
 
 among_no : (text : List ℕ) (y : BlockTree) (ys : List BlockTree) → has_agent y.kind ≡ false → agents_among text (y ∷ ys) ≡ agents_among text ys
-among_no text y ys e = ap (λ b. flat_map (owner_names text) (cond b (y ∷ filter (λ c. has_agent c.kind) ys) (filter (λ c. has_agent c.kind) ys))) e
+among_no text y ys e = ap (λ b. flat_map (owner_texts text) (cond b (y ∷ filter (λ c. has_agent c.kind) ys) (filter (λ c. has_agent c.kind) ys))) e
 
 -- the names have the block's owners, if it has some
 abbrev pub HasOwnersOf : List ℕ → List (List ℕ) → BlockTree → Type 0
-HasOwnersOf text names b = has_agent b.kind ≡ true → All (λ a. has names a ≡ true) (owner_names text b)
+HasOwnersOf text names b = has_agent b.kind ≡ true → All (λ a. has names a ≡ true) (owner_texts text b)
 
 -- each node's owners are among those of the nodes
 pub agents_have : (text : List ℕ) (nodes : List BlockTree) → All (HasOwnersOf text (agents_among text nodes)) nodes
 agents_have text [] = All-nil (HasOwnersOf text (agents_among text []))
 agents_have text (y ∷ ys) = All-cons (HasOwnersOf text (agents_among text (y ∷ ys))) y ys
-    (λ e. All-weaker (λ a. has (owner_names text y) a ≡ true) (λ a. has (agents_among text (y ∷ ys)) a ≡ true)
-    (λ a h. ap (λ s. has s a) (among_yes text y ys e) ∙ has-before (owner_names text y) (agents_among text ys) a h) (owner_names text y) (names_have (owner_names text y)))
+    (λ e. All-weaker (λ a. has (owner_texts text y) a ≡ true) (λ a. has (agents_among text (y ∷ ys)) a ≡ true)
+    (λ a h. ap (λ s. has s a) (among_yes text y ys e) ∙ has-before (owner_texts text y) (agents_among text ys) a h) (owner_texts text y) (names_have (owner_texts text y)))
     (All-weaker (HasOwnersOf text (agents_among text ys)) (HasOwnersOf text (agents_among text (y ∷ ys)))
-    (λ b k e. All-weaker (λ a. has (agents_among text ys) a ≡ true) (λ a. has (agents_among text (y ∷ ys)) a ≡ true) (λ a h. later a (has_agent y.kind) refl h) (owner_names text b) (k e)) ys (agents_have text ys)) where
+    (λ b k e. All-weaker (λ a. has (agents_among text ys) a ≡ true) (λ a. has (agents_among text (y ∷ ys)) a ≡ true) (λ a h. later a (has_agent y.kind) refl h) (owner_texts text b) (k e)) ys (agents_have text ys)) where
       later : (a : List ℕ) (t : Bool) → has_agent y.kind ≡ t → has (agents_among text ys) a ≡ true → has (agents_among text (y ∷ ys)) a ≡ true
-      later a true t h = ap (λ s. has s a) (among_yes text y ys t) ∙ has-append (owner_names text y) (agents_among text ys) a h
+      later a true t h = ap (λ s. has s a) (among_yes text y ys t) ∙ has-append (owner_texts text y) (agents_among text ys) a h
       later a false t h = ap (λ s. has s a) (among_no text y ys t) ∙ h
 
 -- and so among the agents
 pub agents_known : (text : List ℕ) (nodes : List BlockTree) → All (HasOwnersOf text (agents_of text nodes)) nodes
 agents_known text nodes = All-weaker (HasOwnersOf text (agents_among text nodes)) (HasOwnersOf text (agents_of text nodes))
-    (λ b k e. All-weaker (λ a. has (agents_among text nodes) a ≡ true) (λ a. has (agents_of text nodes) a ≡ true) (λ a h. sights_have (agents_among text nodes) a h) (owner_names text b) (k e))
+    (λ b k e. All-weaker (λ a. has (agents_among text nodes) a ≡ true) (λ a. has (agents_of text nodes) a ≡ true) (λ a h. sights_have (agents_among text nodes) a h) (owner_texts text b) (k e))
     nodes (agents_have text nodes)
 
 -- names that are there have places in the list
@@ -115,19 +115,19 @@ owned Potential e = absurd (false≢true e)
 
 -- the owners of the nodes that are no chance nodes, by their numbers
 pub owners_name : (text : List ℕ) (all : List BlockTree) (nodes : List BlockTree) → All (λ b. is_node b.kind ≡ true) nodes → All (HasOwnersOf text (agents_of text all)) nodes
-    → flat_map (λ b. map (λ v. get_or (agents_of text all) v []) (owners_of text all b)) (filter (λ b. not (is_chance (kind_of b.kind))) nodes) ≡ agents_among text nodes
+    → flat_map (λ b. map (λ v. get_or (agents_of text all) v []) (owner_numbers text all b)) (filter (λ b. not (is_chance (kind_of b.kind))) nodes) ≡ agents_among text nodes
 owners_name text all [] kinds known = refl
 owners_name text all (y ∷ ys) kinds known = by_test (has_agent y.kind) refl (owners_name text all ys (λ k d h. kinds (suc k) d (omega arith)) (λ k d h. known (suc k) d (omega arith))) where
   named : BlockTree → List (List ℕ)
-  named b = map (λ v. get_or (agents_of text all) v []) (owners_of text all b)
+  named b = map (λ v. get_or (agents_of text all) v []) (owner_numbers text all b)
 
   kept : (t : Bool) → has_agent y.kind ≡ t → flat_map named (filter (λ b. not (is_chance (kind_of b.kind))) (y ∷ ys)) ≡ flat_map named (cond t (y ∷ filter (λ b. not (is_chance (kind_of b.kind))) ys) (filter (λ b. not (is_chance (kind_of b.kind))) ys))
   kept t e = ap (λ c. flat_map named (cond c (y ∷ filter (λ b. not (is_chance (kind_of b.kind))) ys) (filter (λ b. not (is_chance (kind_of b.kind))) ys))) (owned y.kind (kinds 0 y (omega arith)) ∙ e)
 
   by_test : (t : Bool) → has_agent y.kind ≡ t → flat_map named (filter (λ b. not (is_chance (kind_of b.kind))) ys) ≡ agents_among text ys → flat_map named (filter (λ b. not (is_chance (kind_of b.kind))) (y ∷ ys)) ≡ agents_among text (y ∷ ys)
   by_test true t rec =
-      let here : named y ≡ owner_names text y =
-      ap (λ c. map (λ v. get_or (agents_of text all) v []) (if c then map (place_among (agents_of text all)) (owner_names text y) else 0 ∷ [])) t
-      ∙ places_at (agents_of text all) (owner_names text y) (known 0 y (omega arith) t) in
+      let here : named y ≡ owner_texts text y =
+      ap (λ c. map (λ v. get_or (agents_of text all) v []) (if c then map (place_among (agents_of text all)) (owner_texts text y) else 0 ∷ [])) t
+      ∙ places_at (agents_of text all) (owner_texts text y) (known 0 y (omega arith) t) in
       kept true t ∙ flat_map-cons named y (filter (λ b. not (is_chance (kind_of b.kind))) ys) ∙ (λ j. here j ++ rec j) ∙ sym (among_yes text y ys t)
   by_test false t rec = kept false t ∙ rec ∙ sym (among_no text y ys t)

@@ -15,7 +15,7 @@ use Rattle.maid_model.specs.Nodes.{is_chance}
 use Rattle.maid_model.specs.Views.{NodeView}
 use Rattle.net_lexer.specs.Token.{text_value}
 use Rattle.net_build.specs.declared.nodes.Head.{Head}
-use Rattle.net_build.specs.Blocks.{is_node, kind_of, node_blocks, block_name, has_states, has_agent, may_share, named, leaves_of, label_tokens, block_labels, block_states, owner_names, agents_of, place_among, owners_of, block_parents, parent_lists, is_plain, first_sights, no_token}
+use Rattle.net_build.specs.Blocks.{is_node, kind_of, node_blocks, block_name, has_states, has_agent, may_share, named, leaves_of, label_tokens, block_labels, block_states, owner_texts, agents_of, place_among, owner_numbers, block_parents, parent_lists, is_plain, first_sights, no_token}
 use Rattle.net_build.specs.Building.{StandsFor, AreTables, names_view}
 use Rattle.net_build.specs.Form.{IsNodeName, HasTextForm}
 use Rattle.net_build.specs.Stages.{TableLists, AreLinks, TablesFit, first_owner, more_owners, head_of, node_lists, link_lists, head_at, no_head, made_at, made_nodes, made_diagram}
@@ -81,7 +81,7 @@ block_fits text nodes b good node = by_kind b.kind refl node where
         some = omega (arith, count, some);
         many = omega (arith, count, few);
         utility = λ u. let clash : Chance ≡ Utility = sym (ap kind_of e) ∙ u in cc;
-        chance = λ c. ap (λ k. get_or (if has_agent k then map (place_among (agents_of text nodes)) (owner_names text b) else 0 ∷ []) 0 0) e;
+        chance = λ c. ap (λ k. get_or (if has_agent k then map (place_among (agents_of text nodes)) (owner_texts text b) else 0 ∷ []) 0 0) e;
       }
   by_kind blocks.Decision e n =
       let count = with_labels blocks.Decision e refl in
@@ -161,13 +161,13 @@ module _ (text : List ℕ) (tree : List BlockTree) (tables : TableLists) (own : 
       (record { some = omega arith; many = omega arith; utility = λ u. refl; chance = λ c. refl })
 
   -- each node has an owner's number
-  some_owner : (b : BlockTree) → is_node b.kind ≡ true → IsGood text b → 0 < length (owners_of text nodes b)
+  some_owner : (b : BlockTree) → is_node b.kind ≡ true → IsGood text b → 0 < length (owner_numbers text nodes b)
   some_owner b node this = by_test (has_agent b.kind) refl where
-    by_test : (t : Bool) → has_agent b.kind ≡ t → 0 < length (owners_of text nodes b)
+    by_test : (t : Bool) → has_agent b.kind ≡ t → 0 < length (owner_numbers text nodes b)
     by_test true e =
-        let count = ap (λ t. length (if t then map (place_among (agents_of text nodes)) (owner_names text b) else 0 ∷ [])) e ∙ length-map (owner_names text b) (place_among (agents_of text nodes)) in
+        let count = ap (λ t. length (if t then map (place_among (agents_of text nodes)) (owner_texts text b) else 0 ∷ [])) e ∙ length-map (owner_texts text b) (place_among (agents_of text nodes)) in
         let some = (this.owners e).some in omega (arith, count, some)
-    by_test false e = let count = ap (λ t. length (if t then map (place_among (agents_of text nodes)) (owner_names text b) else 0 ∷ [])) e in omega (arith, count)
+    by_test false e = let count = ap (λ t. length (if t then map (place_among (agents_of text nodes)) (owner_texts text b) else 0 ∷ [])) e in omega (arith, count)
 
   -- the owners of a block fit its kind
   owners_of_block : (b : BlockTree) → is_node b.kind ≡ true → IsGood text b → HasOwnersOf text (agents_of text nodes) b → OwnersFit (kind_of b.kind) (first_owner text nodes b) (more_owners text nodes b) (length (agents_of text nodes))
@@ -183,16 +183,16 @@ module _ (text : List ℕ) (tree : List BlockTree) (tables : TableLists) (own : 
     by_test : (t : Bool) → has_agent b.kind ≡ t → OwnersFit (kind_of b.kind) (first_owner text nodes b) (more_owners text nodes b) (length (agents_of text nodes))
     by_test true e =
         let names = this.owners e in
-        let are : owners_of text nodes b ≡ map (place_among (agents_of text nodes)) (owner_names text b) = ap (λ t. if t then map (place_among (agents_of text nodes)) (owner_names text b) else 0 ∷ []) e in
-        let count : length (owners_of text nodes b) ≡ length (owner_names text b) = ap length are ∙ length-map (owner_names text b) (place_among (agents_of text nodes)) in
-        let whole : first_owner text nodes b ∷ more_owners text nodes b ≡ map (place_among (agents_of text nodes)) (owner_names text b) = first_and_more (owners_of text nodes b) (let s = names.some in omega (arith, count, s)) ∙ are in
+        let are : owner_numbers text nodes b ≡ map (place_among (agents_of text nodes)) (owner_texts text b) = ap (λ t. if t then map (place_among (agents_of text nodes)) (owner_texts text b) else 0 ∷ []) e in
+        let count : length (owner_numbers text nodes b) ≡ length (owner_texts text b) = ap length are ∙ length-map (owner_texts text b) (place_among (agents_of text nodes)) in
+        let whole : first_owner text nodes b ∷ more_owners text nodes b ≡ map (place_among (agents_of text nodes)) (owner_texts text b) = first_and_more (owner_numbers text nodes b) (let s = names.some in omega (arith, count, s)) ∙ are in
         record {
-          known = λ c. subst (All (λ a. a < length (agents_of text nodes))) (sym whole) (places_within (agents_of text nodes) (owner_names text b) (known e));
-          differ = subst AllDifferent (sym whole) (places_differ (agents_of text nodes) (owner_names text b) (known e) names.distinct);
-          one = λ u. alone (owners_of text nodes b) (count ∙ names.one (not_shared b.kind node u));
+          known = λ c. subst (All (λ a. a < length (agents_of text nodes))) (sym whole) (places_within (agents_of text nodes) (owner_texts text b) (known e));
+          differ = subst AllDifferent (sym whole) (places_differ (agents_of text nodes) (owner_texts text b) (known e) names.distinct);
+          one = λ u. alone (owner_numbers text nodes b) (count ∙ names.one (not_shared b.kind node u));
         }
     by_test false e =
-        let are : owners_of text nodes b ≡ 0 ∷ [] = ap (λ t. if t then map (place_among (agents_of text nodes)) (owner_names text b) else 0 ∷ []) e in
+        let are : owner_numbers text nodes b ≡ 0 ∷ [] = ap (λ t. if t then map (place_among (agents_of text nodes)) (owner_texts text b) else 0 ∷ []) e in
         record {
           known = λ c. absurd (false≢true (sym e ∙ has_owner b.kind node c));
           differ = subst (λ l. AllDifferent (get_or l 0 0 ∷ drop 1 l)) (sym are) ((λ c. absurd (nothing_in c)), tt);
@@ -252,19 +252,19 @@ module _ (text : List ℕ) (tree : List BlockTree) (tables : TableLists) (own : 
       ∙ map-id xs
 
   -- each node's owners are its block's
-  owner_lists : map (λ n. n.owner ∷ n.more) (made_nodes heads more (parent_lists text tree) tables.cells) ≡ map (owners_of text nodes) nodes
+  owner_lists : map (λ n. n.owner ∷ n.more) (made_nodes heads more (parent_lists text tree) tables.cells) ≡ map (owner_numbers text nodes) nodes
   owner_lists =
       map_map (λ n. n.owner ∷ n.more) (made_at heads more (parent_lists text tree) tables.cells) (range_with_len 0 (length heads))
-      ∙ by_each (λ v. (head_at heads v).owner ∷ get_or more v []) (map (owners_of text nodes) nodes) (length heads) (length-map nodes (owners_of text nodes) ∙ sym heads_len) here
+      ∙ by_each (λ v. (head_at heads v).owner ∷ get_or more v []) (map (owner_numbers text nodes) nodes) (length heads) (length-map nodes (owner_numbers text nodes) ∙ sym heads_len) here
     where
-      here : (v : ℕ) → v < length heads → (head_at heads v).owner ∷ get_or more v [] ≡ get_or (map (owners_of text nodes) nodes) v []
+      here : (v : ℕ) → v < length heads → (head_at heads v).owner ∷ get_or more v [] ≡ get_or (map (owner_numbers text nodes) nodes) v []
       here v h =
           let within : v < length nodes = subst (λ (n : ℕ). v < n) heads_len h in
           let b : BlockTree = get_or nodes v no_block in
           let head : head_at heads v ≡ head_of text nodes b = get_or-map (head_of text nodes) nodes v no_block no_head within in
           let others : get_or more v [] ≡ more_owners text nodes b = get_or-map (more_owners text nodes) nodes v no_block [] within in
-          (λ j. (head j).owner ∷ others j) ∙ first_and_more (owners_of text nodes b) (some_owner b (kinds v no_block within) (good.each v no_block within))
-          ∙ sym (get_or-map (owners_of text nodes) nodes v no_block [] within)
+          (λ j. (head j).owner ∷ others j) ∙ first_and_more (owner_numbers text nodes b) (some_owner b (kinds v no_block within) (good.each v no_block within))
+          ∙ sym (get_or-map (owner_numbers text nodes) nodes v no_block [] within)
 
   pub made_stands : StandsFor text tree (made_diagram (node_lists text (node_blocks tree)) (link_lists text tree) tables) (names_view text tree)
   made_stands = record {
@@ -325,10 +325,10 @@ module _ (text : List ℕ) (tree : List BlockTree) (tables : TableLists) (own : 
   agents_plain = sights_all (λ a. is_plain a ≡ true) (agents_among text nodes) (all_among (filter (λ b. has_agent b.kind) nodes)
       (λ k d h. ((All-filter (λ b. has_agent b.kind) (IsGood text) nodes good.each k d h).owners (filter_passes (λ b. has_agent b.kind) nodes k d h)).plain))
     where
-      all_among : (bs : List BlockTree) → All (λ b. All (λ a. is_plain a ≡ true) (owner_names text b)) bs → All (λ a. is_plain a ≡ true) (flat_map (owner_names text) bs)
+      all_among : (bs : List BlockTree) → All (λ b. All (λ a. is_plain a ≡ true) (owner_texts text b)) bs → All (λ a. is_plain a ≡ true) (flat_map (owner_texts text) bs)
       all_among [] all = All-nil (λ a. is_plain a ≡ true)
-      all_among (b ∷ bs) all = subst (All (λ a. is_plain a ≡ true)) (sym (flat_map-cons (owner_names text) b bs))
-          (All-append (λ a. is_plain a ≡ true) (owner_names text b) (flat_map (owner_names text) bs) (all 0 b (omega arith)) (all_among bs (λ k d h. all (suc k) d (omega arith))))
+      all_among (b ∷ bs) all = subst (All (λ a. is_plain a ≡ true)) (sym (flat_map-cons (owner_texts text) b bs))
+          (All-append (λ a. is_plain a ≡ true) (owner_texts text b) (flat_map (owner_texts text) bs) (all 0 b (omega arith)) (all_among bs (λ k d h. all (suc k) d (omega arith))))
 
   -- the agents by the nodes' owners
   numbered : agents_of text nodes ≡ first_sights (flat_map (λ n. map (agent_name (names_view text tree)) (n.owner ∷ n.more)) (filter (λ n. not (is_chance n.kind)) (made_nodes heads more (parent_lists text tree) tables.cells)))
@@ -341,29 +341,29 @@ module _ (text : List ℕ) (tree : List BlockTree) (tables : TableLists) (own : 
       named owners = map (λ v. get_or (agents_of text nodes) v []) owners
 
       -- what is kept by kinds and named by owners is the same where these are
-      kept : (ns : List NodeView) (bs : List BlockTree) → map (λ (n : NodeView). n.kind) ns ≡ map (λ b. kind_of b.kind) bs → map (λ (n : NodeView). n.owner ∷ n.more) ns ≡ map (owners_of text nodes) bs
-          → flat_map (λ (n : NodeView). named (n.owner ∷ n.more)) (filter (λ n. not (is_chance n.kind)) ns) ≡ flat_map (λ b. named (owners_of text nodes b)) (filter (λ b. not (is_chance (kind_of b.kind))) bs)
+      kept : (ns : List NodeView) (bs : List BlockTree) → map (λ (n : NodeView). n.kind) ns ≡ map (λ b. kind_of b.kind) bs → map (λ (n : NodeView). n.owner ∷ n.more) ns ≡ map (owner_numbers text nodes) bs
+          → flat_map (λ (n : NodeView). named (n.owner ∷ n.more)) (filter (λ n. not (is_chance n.kind)) ns) ≡ flat_map (λ b. named (owner_numbers text nodes b)) (filter (λ b. not (is_chance (kind_of b.kind))) bs)
       kept [] [] k o = refl
       kept [] (b ∷ bs) k o = cc
       kept (n ∷ ns) [] k o = cc
       kept (n ∷ ns) (b ∷ bs) k o =
           let kinds : n.kind ≡ kind_of b.kind = ap (λ l. get_or l 0 Chance) k in
-          let owners : n.owner ∷ n.more ≡ owners_of text nodes b = ap (λ l. get_or l 0 []) o in
+          let owners : n.owner ∷ n.more ≡ owner_numbers text nodes b = ap (λ l. get_or l 0 []) o in
           by_test (not (is_chance n.kind)) refl (ap (λ x. not (is_chance x)) kinds) owners (kept ns bs (ap (drop 1) k) (ap (drop 1) o))
         where
-          by_test : (t : Bool) → not (is_chance n.kind) ≡ t → not (is_chance n.kind) ≡ not (is_chance (kind_of b.kind)) → n.owner ∷ n.more ≡ owners_of text nodes b
-              → flat_map (λ (n : NodeView). named (n.owner ∷ n.more)) (filter (λ n. not (is_chance n.kind)) ns) ≡ flat_map (λ b. named (owners_of text nodes b)) (filter (λ b. not (is_chance (kind_of b.kind))) bs)
-              → flat_map (λ (n : NodeView). named (n.owner ∷ n.more)) (filter (λ n. not (is_chance n.kind)) (n ∷ ns)) ≡ flat_map (λ b. named (owners_of text nodes b)) (filter (λ b. not (is_chance (kind_of b.kind))) (b ∷ bs))
+          by_test : (t : Bool) → not (is_chance n.kind) ≡ t → not (is_chance n.kind) ≡ not (is_chance (kind_of b.kind)) → n.owner ∷ n.more ≡ owner_numbers text nodes b
+              → flat_map (λ (n : NodeView). named (n.owner ∷ n.more)) (filter (λ n. not (is_chance n.kind)) ns) ≡ flat_map (λ b. named (owner_numbers text nodes b)) (filter (λ b. not (is_chance (kind_of b.kind))) bs)
+              → flat_map (λ (n : NodeView). named (n.owner ∷ n.more)) (filter (λ n. not (is_chance n.kind)) (n ∷ ns)) ≡ flat_map (λ b. named (owner_numbers text nodes b)) (filter (λ b. not (is_chance (kind_of b.kind))) (b ∷ bs))
           by_test true t same owners rec =
               ap (λ c. flat_map (λ (n : NodeView). named (n.owner ∷ n.more)) (cond c (n ∷ filter (λ n. not (is_chance n.kind)) ns) (filter (λ n. not (is_chance n.kind)) ns))) t
               ∙ flat_map-cons (λ (n : NodeView). named (n.owner ∷ n.more)) n (filter (λ n. not (is_chance n.kind)) ns)
               ∙ (λ j. named (owners j) ++ rec j)
-              ∙ sym (flat_map-cons (λ b. named (owners_of text nodes b)) b (filter (λ b. not (is_chance (kind_of b.kind))) bs))
-              ∙ sym (ap (λ c. flat_map (λ b. named (owners_of text nodes b)) (cond c (b ∷ filter (λ b. not (is_chance (kind_of b.kind))) bs) (filter (λ b. not (is_chance (kind_of b.kind))) bs))) (sym same ∙ t))
+              ∙ sym (flat_map-cons (λ b. named (owner_numbers text nodes b)) b (filter (λ b. not (is_chance (kind_of b.kind))) bs))
+              ∙ sym (ap (λ c. flat_map (λ b. named (owner_numbers text nodes b)) (cond c (b ∷ filter (λ b. not (is_chance (kind_of b.kind))) bs) (filter (λ b. not (is_chance (kind_of b.kind))) bs))) (sym same ∙ t))
           by_test false t same owners rec =
               ap (λ c. flat_map (λ (n : NodeView). named (n.owner ∷ n.more)) (cond c (n ∷ filter (λ n. not (is_chance n.kind)) ns) (filter (λ n. not (is_chance n.kind)) ns))) t
               ∙ rec
-              ∙ sym (ap (λ c. flat_map (λ b. named (owners_of text nodes b)) (cond c (b ∷ filter (λ b. not (is_chance (kind_of b.kind))) bs) (filter (λ b. not (is_chance (kind_of b.kind))) bs))) (sym same ∙ t))
+              ∙ sym (ap (λ c. flat_map (λ b. named (owner_numbers text nodes b)) (cond c (b ∷ filter (λ b. not (is_chance (kind_of b.kind))) bs) (filter (λ b. not (is_chance (kind_of b.kind))) bs))) (sym same ∙ t))
 
   pub made_form : HasTextForm (made_diagram (node_lists text (node_blocks tree)) (link_lists text tree) tables) (names_view text tree)
   made_form = record {

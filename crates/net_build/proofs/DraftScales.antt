@@ -17,7 +17,7 @@ use Rattle.first_fault.specs.Passes.{each}
 use Rattle.net_build.specs.Scaling.{AreDecimals, decimal_at, IsWholeBy}
 use Rattle.net_build.specs.Stages.{NodeLists, head_of, node_lists, link_lists}
 use Rattle.net_build.specs.Table.{IsWideValue, wide_row, node_pass, potential_pass, no_block}
-use Rattle.net_build.specs.TableParts.{AreDrafts, FitsDraft, Fits, HasAtMost, Reaches, IsDraftOf, IsDraftAt, IsScaleOf, value_at_scale, values_in, values_of}
+use Rattle.net_build.specs.TableParts.{AreDrafts, FitsDraft, Fits, HasDecimalsAtMost, Reaches, IsDraftOf, IsDraftAt, IsScaleOf, value_at_scale, values_in, values_of}
 use Rattle.net_build.specs.Zero.{nought}
 use Rattle.first_fault.proofs.Items.{each_all}
 use Rattle.net_build.proofs.ScaleLemmas.{decimal_of, raised_is, fits_narrow, not_whole}
@@ -61,14 +61,14 @@ draft_least text most k rows states model.Chance tokens (Values ds) reached is f
 draft_least text most k rows states model.Decision tokens (Values ds) reached is fewer all = is
 
 -- the most decimals of the drafts so far and of one more
-pub most_next : (drafts : List Draft) (i : ℕ) (draft : Draft) (before here now : ℕ) → draft ≡ get_or drafts i draft → i < length drafts → ((k : ℕ) (d : Draft) → k < i → HasAtMost before (get_or drafts k d)) → HasAtMost here draft → before ≤ now → here ≤ now → (k : ℕ) (d : Draft) → k < i + 1 → HasAtMost now (get_or drafts k d)
+pub most_next : (drafts : List Draft) (i : ℕ) (draft : Draft) (before here now : ℕ) → draft ≡ get_or drafts i draft → i < length drafts → ((k : ℕ) (d : Draft) → k < i → HasDecimalsAtMost before (get_or drafts k d)) → HasDecimalsAtMost here draft → before ≤ now → here ≤ now → (k : ℕ) (d : Draft) → k < i + 1 → HasDecimalsAtMost now (get_or drafts k d)
 most_next drafts i draft before here now is within so its old new k d near = by_place (split k i near) where
   split : (a b : ℕ) → a < b + 1 → (a < b) ⊎ (a ≡ b)
   split a b l = grind arith
 
-  by_place : (k < i) ⊎ (k ≡ i) → HasAtMost now (get_or drafts k d)
+  by_place : (k < i) ⊎ (k ≡ i) → HasDecimalsAtMost now (get_or drafts k d)
   by_place (inl l) = λ j e w. let few = so k d l j e w in omega (arith, old, few)
-  by_place (inr at) = subst (λ n. HasAtMost now (get_or drafts n d)) (sym at) (subst (HasAtMost now) (is ∙ get_or_default drafts i draft d within) (λ j e w. let few = its j e w in omega (arith, new, few)))
+  by_place (inr at) = subst (λ n. HasDecimalsAtMost now (get_or drafts n d)) (sym at) (subst (HasDecimalsAtMost now) (is ∙ get_or_default drafts i draft d within) (λ j e w. let few = its j e w in omega (arith, new, few)))
 
 -- one of the draft's values has them
 pub reached_here : (drafts : List Draft) (i : ℕ) (draft : Draft) (ds : List Decimal) (here now : ℕ) → draft ≡ get_or drafts i draft → i < length drafts → ds ≡ values_of draft → now ≡ here → (0 < here → (j : ℕ) × (j < length ds) × ((decimal_at ds j).k ≡ here)) → 0 < now → (x : Draft) × Contains drafts x × Reaches now x

@@ -13,7 +13,7 @@ use Rattle.net_build.specs.declared.nodes.Head.{Head}
 use Rattle.net_build.specs.Blocks.{no_token}
 use Rattle.net_build.specs.Linking.{node_named, kind_at, unknown_row, condition_steps, AreParents, rules_before}
 use Rattle.first_fault.specs.Passes.{each_after}
-use Rattle.net_build.specs.Stages.{head_at, no_head, cells_at, AreLinks}
+use Rattle.net_build.specs.Stages.{head_at, no_head, cells_of_head, AreLinks}
 use Rattle.net_build.proofs.AttributeLemmas.{contains_first, contains_cases, contains_none}
 use Rattle.net_build.proofs.LinkLemmas.{place_within}
 use Rattle.net_build.proofs.PotentialLemmas.{place_holds}
@@ -100,7 +100,7 @@ pub known_arcs : (heads : List Head) (rows : List (List ℕ)) → All (AreParent
 known_arcs heads rows fits u v (k, within, here) = subst (λ (w : ℕ). w < length heads) here ((fits_at heads rows fits v).known k u within)
 
 -- the parents make a graph within the limits
-pub links_fit : (heads : List Head) (rows : List (List ℕ)) → All (AreParents heads) rows → IsAcyclic (ListedArc rows) → ((v : ℕ) → v < length heads → cells_at heads rows v ≤ 65536) → rules_before heads rows (length heads) ≤ 262144 → AreLinks heads rows
+pub links_fit : (heads : List Head) (rows : List (List ℕ)) → All (AreParents heads) rows → IsAcyclic (ListedArc rows) → ((v : ℕ) → v < length heads → cells_of_head heads rows v ≤ 65536) → rules_before heads rows (length heads) ≤ 262144 → AreLinks heads rows
 links_fit heads rows fits acyclic cells rules = record {
   known = known_arcs heads rows fits;
   differ = λ v. (fits_at heads rows fits v).differ;

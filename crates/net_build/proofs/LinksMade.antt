@@ -9,7 +9,7 @@ use Rattle.net_parser.specs.Trees.{BlockTree}
 use Rattle.net_build.specs.declared.nodes.Head.{Head}
 use Rattle.net_build.specs.Blocks.{node_blocks, potentials, block_name, names_of, conditions, condition_places, potential_of, block_parents, parent_lists}
 use Rattle.net_build.specs.Linking.{AreParents, behind_rows, size_steps_at, rules_before, rules_row}
-use Rattle.net_build.specs.Stages.{AreLinks, head_of, head_at, cells_at}
+use Rattle.net_build.specs.Stages.{AreLinks, head_of, head_at, cells_of_head}
 use Rattle.net_build.specs.Table.{potential_pass, graph_pass, size_pass}
 use Rattle.net_build.proofs.BlockLemmas.{each_after_at, found_in}
 use Rattle.net_build.proofs.FitLemmas.{not_above, conditions_fit, none_fit, links_fit}
@@ -53,11 +53,11 @@ module _ (text : List ℕ) (blocks : List BlockTree) where
   few_rules : size_pass text blocks None → (n : ℕ) → n ≤ length heads → rules_before heads lists n ≤ 262144
   few_rules none zero h = omega arith
   few_rules none (suc n) h = subst (λ (m : ℕ). rules_before heads lists m ≤ 262144) (let e : n + 1 ≡ suc n = omega arith in e) (subst (λ (m : ℕ). m ≤ 262144) (sym (rules_more heads lists n)) (by_test (is_decision (head_at heads n).kind) refl (few_rules none n (omega arith)))) where
-    by_test : (t : Bool) → is_decision (head_at heads n).kind ≡ t → rules_before heads lists n ≤ 262144 → rules_before heads lists n + cond (is_decision (head_at heads n).kind) (cells_at heads lists n) 0 ≤ 262144
-    by_test true e few = rw e (not_above (rules_before heads lists n + cells_at heads lists n) 262144 (only_on (is_decision (head_at heads n).kind) (rules_row (head_at heads n) (rules_before heads lists n + cells_at heads lists n)) e (size_at none n (omega arith)).1))
+    by_test : (t : Bool) → is_decision (head_at heads n).kind ≡ t → rules_before heads lists n ≤ 262144 → rules_before heads lists n + cond (is_decision (head_at heads n).kind) (cells_of_head heads lists n) 0 ≤ 262144
+    by_test true e few = rw e (not_above (rules_before heads lists n + cells_of_head heads lists n) 262144 (only_on (is_decision (head_at heads n).kind) (rules_row (head_at heads n) (rules_before heads lists n + cells_of_head heads lists n)) e (size_at none n (omega arith)).1))
     by_test false e few = rw e (omega arith)
 
   pub links_made : potential_pass text blocks None → graph_pass text blocks None → size_pass text blocks None → AreLinks heads lists
   unfolding graph_pass
   links_made potential_none graph_none size_none =
-      links_fit heads lists (parents_fit potential_none) graph_none (λ v h. not_above (cells_at heads lists v) 65536 (size_at size_none v h).0) (few_rules size_none (length heads) (omega arith))
+      links_fit heads lists (parents_fit potential_none) graph_none (λ v h. not_above (cells_of_head heads lists v) 65536 (size_at size_none v h).0) (few_rules size_none (length heads) (omega arith))

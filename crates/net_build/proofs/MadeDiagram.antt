@@ -16,7 +16,7 @@ use Rattle.finite_sums.specs.Sums.{sum_below, nat_sum_over}
 use Rattle.maid_model.specs.Tables.{chance_total, IsTable, HasChanceTables}
 use Rattle.maid_model.specs.Views.{NodeView}
 use Rattle.net_build.specs.declared.nodes.Head.{Head}
-use Rattle.net_build.specs.Stages.{AreLinks, FitsTable, TablesFit, head_at, no_head, head_rows, cells_at, made_at, made_nodes}
+use Rattle.net_build.specs.Stages.{AreLinks, FitsTable, TablesFit, head_at, no_head, head_rows, cells_of_head, made_at, made_nodes}
 
 -- a head within the limits
 pub record HeadFits (h : Head) : Type 0 where
@@ -121,7 +121,7 @@ module _ (heads : List Head) (more parents : List (List ℕ)) (cells : List (Lis
   rows_is : (v : ℕ) → rows_of N v ≡ head_rows heads parents v
   rows_is v = λ j. rows_under (λ u. (at u j).states) ((at v j).parents)
 
-  size_is : (v : ℕ) → rows_of N v * states_of N v ≡ cells_at heads parents v
+  size_is : (v : ℕ) → rows_of N v * states_of N v ≡ cells_of_head heads parents v
   size_is v = λ j. rows_is v j * (at v j).states
 
   kind_is : (v : ℕ) (k : Kind) → (node_at N v).kind ≡ k → (head_at heads v).kind ≡ k
@@ -175,8 +175,8 @@ module _ (heads : List Head) (more parents : List (List ℕ)) (cells : List (Lis
     by_place (inl h) = (subst (λ (x : Kind). FitsTable x (head_rows heads parents v) (head_at heads v).states (get_or cells v [])) e (f.tables v h)).1
     by_place (inr h) = let past = f.cells_len in subst (All (λ x. nat_abs x ≤ greatest_number)) (sym (get_or_past cells v [] (omega arith))) (All-nil (λ x. nat_abs x ≤ greatest_number))
 
-  rules_are : nat_sum_over (λ v. rows_of N v * states_of N v) (decisions_of N) ≡ sum (map (cells_at heads parents) (filter (λ v. is_decision (head_at heads v).kind) (range_with_len 0 (length heads))))
-  rules_are = (λ j. nat_sum_over (λ v. size_is v j) (filter (λ v. is_decision (at v j).kind) (range_with_len 0 (count_is j)))) ∙ sum_over_is (cells_at heads parents) (filter (λ v. is_decision (head_at heads v).kind) (range_with_len 0 (length heads)))
+  rules_are : nat_sum_over (λ v. rows_of N v * states_of N v) (decisions_of N) ≡ sum (map (cells_of_head heads parents) (filter (λ v. is_decision (head_at heads v).kind) (range_with_len 0 (length heads))))
+  rules_are = (λ j. nat_sum_over (λ v. size_is v j) (filter (λ v. is_decision (at v j).kind) (range_with_len 0 (count_is j)))) ∙ sum_over_is (cells_of_head heads parents) (filter (λ v. is_decision (head_at heads v).kind) (range_with_len 0 (length heads)))
 
   limits_are : KeepsLimits (record { nodes = N; agents = agents; decimals = decimals })
   limits_are = record {

@@ -7,7 +7,7 @@ use Rattle.std.proofs.lemmas.List.Quantifiers.{all_pairs_push}
 use Rattle.std.specs.List.{list_all, list_any}
 use Rattle.std.specs.Prelude.{if◌then◌else◌, codes}
 use Rattle.std.specs.Str.{bytes_eq}
-use Rattle.net_build.specs.Blocks.{node_blocks, block_name, names_of, title_at, word_of, has_states, has_agent, may_share, names_owners, named, is_string, is_string_list, is_plain, leaves_of, tells_owners, owner_attributes, texts_or_agent, owner_names, agents_of, first_sights, with_sight, with_sights}
+use Rattle.net_build.specs.Blocks.{node_blocks, block_name, names_of, title_at, word_of, has_states, has_agent, may_share, names_owners, named, is_string, is_string_list, is_plain, leaves_of, tells_owners, owner_attributes, texts_or_agent, owner_texts, agents_of, first_sights, with_sight, with_sights}
 use Rattle.first_fault.specs.Passes.{Pass, only, each, each_after}
 use Rattle.net_build.specs.Passes.{Found}
 use Rattle.net_build.specs.Stages.{with_owners}
@@ -111,7 +111,7 @@ told_owners text kind (a ∷ rest) all h =
 pub record IsGood (text : List ℕ) (block : BlockTree) : Type 0 where
   pub short : length (block_name text block) ≤ 255
   pub labels : has_states block.kind ≡ true → HasLabels text (leaves_of (named text (codes "states") block.attributes))
-  pub owners : has_agent block.kind ≡ true → HasOwnerNames block.kind (owner_names text block)
+  pub owners : has_agent block.kind ≡ true → HasOwnerNames block.kind (owner_texts text block)
 
 -- and of all
 pub record AreGood (text : List ℕ) (nodes : List BlockTree) : Type 0 where
@@ -153,11 +153,11 @@ few_agents agents names at few h = after_all (sight_row agents at) (λ earlier. 
     (λ earlier x small room. rw (sights_push agents earlier x) (one_agent_more (with_sights agents earlier) x small room))
     [] names few h
 
-few_with_owners : (text : List ℕ) (agents : List (List ℕ)) (block : BlockTree) → length agents ≤ 16 → (has_agent block.kind ≡ true → each_after (sight_row agents (title_at block)) [] (owner_names text block) None) → length (with_owners text agents block) ≤ 16
+few_with_owners : (text : List ℕ) (agents : List (List ℕ)) (block : BlockTree) → length agents ≤ 16 → (has_agent block.kind ≡ true → each_after (sight_row agents (title_at block)) [] (owner_texts text block) None) → length (with_owners text agents block) ≤ 16
 few_with_owners text agents block few rows = by_test (has_agent block.kind) refl where
   by_test : (b : Bool) → has_agent block.kind ≡ b → length (with_owners text agents block) ≤ 16
-  by_test true e = rw (ap (λ b. if b then with_sights agents (owner_names text block) else agents) e) (few_agents agents (owner_names text block) (title_at block) few (rows e))
-  by_test false e = rw (ap (λ b. if b then with_sights agents (owner_names text block) else agents) e) few
+  by_test true e = rw (ap (λ b. if b then with_sights agents (owner_texts text block) else agents) e) (few_agents agents (owner_texts text block) (title_at block) few (rows e))
+  by_test false e = rw (ap (λ b. if b then with_sights agents (owner_texts text block) else agents) e) few
 
 good_more : (text : List ℕ) (earlier : List BlockTree) (block : BlockTree) → AreGood text earlier → rows_behind text earlier block None → AreGood text (earlier ++ block ∷ [])
 unfolding node_rows name_rows owner_rows

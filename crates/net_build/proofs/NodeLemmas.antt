@@ -13,7 +13,7 @@ use Rattle.net_build.specs.declared.faults.BuildFault.TheVariants.{Fault, NoMemo
 use Rattle.net_build.specs.declared.faults.BuildKind.TheVariants as kinds
 use Rattle.net_build.specs.declared.faults.Limit.TheVariants as limits
 use Rattle.net_build.specs.declared.nodes.Head.{Head}
-use Rattle.net_build.specs.Blocks.{is_node, kind_of, title_at, block_name, names_of, named, has_states, has_agent, owner_names, agents_of, owners_of, place_among, node_blocks}
+use Rattle.net_build.specs.Blocks.{is_node, kind_of, title_at, block_name, names_of, named, has_states, has_agent, owner_texts, agents_of, owner_numbers, place_among, node_blocks}
 use Rattle.first_fault.specs.Passes.{Pass, only}
 use Rattle.first_fault.specs.Answers.{IsFaultOrNoMemory}
 use Rattle.net_build.specs.Passes.{Found, build_fault}
@@ -126,7 +126,7 @@ agents_up_to text blocks i b before agents h is kept so_far are =
 
 -- the owners of a block's node
 pub owners_up_to : (text : List ℕ) (blocks : List BlockTree) (i : ℕ) (b : BlockTree) (before agents : List (List ℕ)) → i < length blocks → b ≡ get_or blocks i b → is_node b.kind ≡ true → before ≡ agents_of text (node_blocks (take i blocks)) → agents ≡ with_owners text before b
-    → (if has_agent b.kind then map (place_among agents) (owner_names text b) else 0 ∷ []) ≡ owners_of text (node_blocks blocks) b
+    → (if has_agent b.kind then map (place_among agents) (owner_texts text b) else 0 ∷ []) ≡ owner_numbers text (node_blocks blocks) b
 owners_up_to text blocks i b before agents h is kept so_far are =
     owners_here text (node_blocks blocks) (node_blocks (take i blocks)) (node_blocks (drop (i + 1) blocks)) b agents (nodes_split blocks i b h is kept) (are ∙ ap (λ s. with_owners text s b) so_far)
 

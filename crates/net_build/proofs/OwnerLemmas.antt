@@ -11,7 +11,7 @@ use Rattle.net_build.specs.declared.faults.BuildFault.{BuildFault}
 use Rattle.net_build.specs.declared.faults.BuildFault.TheVariants.{Fault}
 use Rattle.net_build.specs.declared.faults.BuildKind.TheVariants as kinds
 use Rattle.net_build.specs.declared.faults.Limit.TheVariants as limits
-use Rattle.net_build.specs.Blocks.{place_among, owner_attributes, owner_names, title_at, with_sight, with_sights}
+use Rattle.net_build.specs.Blocks.{place_among, owner_attributes, owner_texts, title_at, with_sight, with_sights}
 use Rattle.maid_model.specs.Names.{list_of}
 use Rattle.first_fault.specs.Passes.{rule, each_after}
 use Rattle.first_fault.specs.Answers.{IsFaultOrNoMemory, Passes}
@@ -100,14 +100,14 @@ names_within names i h = let l = length-map names (λ (v : Vec ℕ). v.items) in
 -- the names are refused
 pub owners_refused : (text : List ℕ) (agents : List (List ℕ)) (block : BlockTree) (fault : BuildFault) → IsFaultOrNoMemory build_fault (agent_rows text (owner_attributes text block)) fault → IsFaultOrNoMemory build_fault (owner_rows text agents block) fault
 unfolding owner_rows
-owners_refused text agents block fault h = refused_first (agent_rows text (owner_attributes text block)) (each_after (sight_row agents (title_at block)) [] (owner_names text block)) (build_fault fault) h
+owners_refused text agents block fault h = refused_first (agent_rows text (owner_attributes text block)) (each_after (sight_row agents (title_at block)) [] (owner_texts text block)) (build_fault fault) h
 
 -- or numbered
-pub owners_numbered : {A : Type 0} (text : List ℕ) (agents : List (List ℕ)) (block : BlockTree) (names : List (List ℕ)) (at : ℕ) (result : Result A BuildFault) → agent_rows text (owner_attributes text block) None → names ≡ owner_names text block → at ≡ title_at block
+pub owners_numbered : {A : Type 0} (text : List ℕ) (agents : List (List ℕ)) (block : BlockTree) (names : List (List ℕ)) (at : ℕ) (result : Result A BuildFault) → agent_rows text (owner_attributes text block) None → names ≡ owner_texts text block → at ≡ title_at block
     → Passes build_fault (each_after (sight_row agents at) [] names) result → Passes build_fault (owner_rows text agents block) result
 unfolding owner_rows
 owners_numbered text agents block names at result nothing are is rows =
-    passes_on build_fault (agent_rows text (owner_attributes text block)) (each_after (sight_row agents (title_at block)) [] (owner_names text block)) result nothing (rw (are, is) at rows)
+    passes_on build_fault (agent_rows text (owner_attributes text block)) (each_after (sight_row agents (title_at block)) [] (owner_texts text block)) result nothing (rw (are, is) at rows)
 
 -- the first owner and the others
 pub first_and_more : (numbers : List ℕ) → 0 < length numbers → get_or numbers 0 0 ∷ drop 1 numbers ≡ numbers

@@ -10,12 +10,13 @@ use Rattle.std.specs.List.{AllPairs}
 use Rattle.std.specs.Option.{IsSome, option_or, option_map_or}
 use Rattle.std.specs.Str.{bytes_eq}
 use Rattle.net_parser.specs.Trees.{BlockTree}
+use Rattle.net_parser.specs.Grammar.{is_potential}
 use Rattle.maid_model.specs.declared.diagrams.Kind.{Kind}
 use Rattle.maid_model.specs.declared.diagrams.Kind.TheVariants.{Chance, Utility}
 use Rattle.maid_model.specs.Nodes.{is_decision}
 use Rattle.net_build.specs.declared.faults.BuildFault.{BuildFault}
 use Rattle.net_build.specs.declared.nodes.Head.{Head}
-use Rattle.net_build.specs.Blocks.{is_potential, title, block_name, conditions, place_among}
+use Rattle.net_build.specs.Blocks.{title, block_name, conditions, place_among}
 use Rattle.net_build.specs.Linking.{borrowed_trees, node_named, potentials_among, parents_in, taken_row, absent_row, missing_at}
 use Rattle.first_fault.specs.Passes.{only}
 use Rattle.first_fault.specs.Answers.{Passes}

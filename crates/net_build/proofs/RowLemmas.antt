@@ -6,7 +6,7 @@ use Rattle.maid_model.specs.declared.diagrams.Kind.TheVariants.{Chance, Decision
 use Rattle.maid_model.specs.Nodes.{rows_under}
 use Rattle.net_build.specs.declared.nodes.Head.{Head}
 use Rattle.net_build.specs.Stages.{LinkLists, head_at, no_head, head_rows}
-use Rattle.net_build.specs.TableParts.{CanRead, IsDraftOf, IsDraftAt, numerals_in, potential_at}
+use Rattle.net_build.specs.TableParts.{CanReadTables, IsDraftOf, IsDraftAt, numerals_in, potential_at}
 use Rattle.net_build.specs.declared.drafts.Draft.{Draft}
 use Rattle.net_parser.specs.Trees.{BlockTree}
 use Rattle.std.specs.Result.{IfOk}
@@ -45,7 +45,7 @@ rows_fit heads parents rows i known states small within invariant = fits_by _ (b
 rows_bound : (rows states : ℕ) → 0 < states → rows * states ≤ 65536 → rows ≤ 65536
 rows_bound rows states some small = omega (arith, small, mul-le-mul_left {m = 1} {n = states} rows some)
 
-module _ (text : List ℕ) (heads : List Head) (links : LinkLists) (read : CanRead text heads links) (v : ℕ) (within : v < length heads) where
+module _ (text : List ℕ) (heads : List Head) (links : LinkLists) (read : CanReadTables text heads links) (v : ℕ) (within : v < length heads) where
   its_states : 0 < (head_at heads v).states
   its_states = read.states v no_head within
 

@@ -10,11 +10,11 @@ use Rattle.maid_model.specs.declared.diagrams.Kind.TheVariants.{Decision}
 use Rattle.maid_model.specs.Nodes.{is_decision}
 use Rattle.net_build.specs.declared.faults.BuildFault.{BuildFault}
 use Rattle.net_build.specs.declared.nodes.Head.{Head}
-use Rattle.net_build.specs.Linking.{cells_over, cells_row, rules_row, size_rows_over, rules_before}
+use Rattle.net_build.specs.Linking.{cells_of_head_over, cells_row, rules_row, size_rows_over, rules_before}
 use Rattle.first_fault.specs.Passes.{only}
 use Rattle.first_fault.specs.Answers.{IsFaultOrNoMemory}
 use Rattle.net_build.specs.Passes.{build_fault}
-use Rattle.net_build.specs.Stages.{head_at, cells_at}
+use Rattle.net_build.specs.Stages.{head_at, cells_of_head}
 use Rattle.first_fault.proofs.Leading.{refused_later}
 use Rattle.net_build.proofs.LinkLemmas.{range_more}
 
@@ -34,28 +34,28 @@ pub sum_append : (xs ys : List ℕ) → sum (xs ++ ys) ≡ sum xs + sum ys
 sum_append xs ys = sum_by-append (λ x. x) xs ys
 
 -- a decision whose rules are too many, and one whose rules are not
-pub size_refused : (heads : List Head) (parents : List ℕ) (v rules cells : ℕ) (head : Head) (fault : BuildFault) → cells ≡ cells_over heads parents v → cells_row heads parents v None → head ≡ head_at heads v → head.kind ≡ Decision → IsFaultOrNoMemory build_fault (rules_row head (rules + cells)) fault → IsFaultOrNoMemory build_fault (size_rows_over heads parents v rules) fault
+pub size_refused : (heads : List Head) (parents : List ℕ) (v rules cells : ℕ) (head : Head) (fault : BuildFault) → cells ≡ cells_of_head_over heads parents v → cells_row heads parents v None → head ≡ head_at heads v → head.kind ≡ Decision → IsFaultOrNoMemory build_fault (rules_row head (rules + cells)) fault → IsFaultOrNoMemory build_fault (size_rows_over heads parents v rules) fault
 size_refused heads parents v rules cells head fault is nothing same kind h =
-    refused_later (cells_row heads parents v) (only (is_decision (head_at heads v).kind) (rules_row (head_at heads v) (rules + cells_over heads parents v))) (build_fault fault) nothing
-    (subst (λ (b : Bool). IsFaultOrNoMemory build_fault (only b (rules_row (head_at heads v) (rules + cells_over heads parents v))) fault) (sym (ap (λ (x : Head). is_decision x.kind) (sym same) ∙ ap is_decision kind))
-    (subst (λ (x : Head). IsFaultOrNoMemory build_fault (rules_row x (rules + cells_over heads parents v)) fault) same
+    refused_later (cells_row heads parents v) (only (is_decision (head_at heads v).kind) (rules_row (head_at heads v) (rules + cells_of_head_over heads parents v))) (build_fault fault) nothing
+    (subst (λ (b : Bool). IsFaultOrNoMemory build_fault (only b (rules_row (head_at heads v) (rules + cells_of_head_over heads parents v))) fault) (sym (ap (λ (x : Head). is_decision x.kind) (sym same) ∙ ap is_decision kind))
+    (subst (λ (x : Head). IsFaultOrNoMemory build_fault (rules_row x (rules + cells_of_head_over heads parents v)) fault) same
     (subst (λ (n : ℕ). IsFaultOrNoMemory build_fault (rules_row head (rules + n)) fault) is h)))
 
-pub size_kept : (heads : List Head) (parents : List ℕ) (v rules cells : ℕ) (head : Head) → cells ≡ cells_over heads parents v → cells_row heads parents v None → head ≡ head_at heads v → head.kind ≡ Decision → rules_row head (rules + cells) None → size_rows_over heads parents v rules None
+pub size_kept : (heads : List Head) (parents : List ℕ) (v rules cells : ℕ) (head : Head) → cells ≡ cells_of_head_over heads parents v → cells_row heads parents v None → head ≡ head_at heads v → head.kind ≡ Decision → rules_row head (rules + cells) None → size_rows_over heads parents v rules None
 size_kept heads parents v rules cells head is nothing same kind h = (
   nothing,
-  subst (λ (b : Bool). only b (rules_row (head_at heads v) (rules + cells_over heads parents v)) None) (sym (ap (λ (x : Head). is_decision x.kind) (sym same) ∙ ap is_decision kind))
-      (subst (λ (x : Head). rules_row x (rules + cells_over heads parents v) None) same
+  subst (λ (b : Bool). only b (rules_row (head_at heads v) (rules + cells_of_head_over heads parents v)) None) (sym (ap (λ (x : Head). is_decision x.kind) (sym same) ∙ ap is_decision kind))
+      (subst (λ (x : Head). rules_row x (rules + cells_of_head_over heads parents v) None) same
       (subst (λ (n : ℕ). rules_row head (rules + n) None) is h)),
 )
 
 -- the cells of the rules, one node on
-pub rules_more : (heads : List Head) (parents : List (List ℕ)) (n : ℕ) → rules_before heads parents (n + 1) ≡ rules_before heads parents n + cond (is_decision (head_at heads n).kind) (cells_at heads parents n) 0
-rules_more heads parents n = ap (λ vs. sum (map (cells_at heads parents) (filter (λ v. is_decision (head_at heads v).kind) vs))) (range_more 0 n n (omega arith))
-    ∙ ap (λ vs. sum (map (cells_at heads parents) vs)) (filter-append (λ v. is_decision (head_at heads v).kind) (range_with_len 0 n) (n ∷ []))
-    ∙ ap sum (map-append (cells_at heads parents) (filter (λ v. is_decision (head_at heads v).kind) (range_with_len 0 n)) (filter (λ v. is_decision (head_at heads v).kind) (n ∷ [])))
-    ∙ sum_append (map (cells_at heads parents) (filter (λ v. is_decision (head_at heads v).kind) (range_with_len 0 n))) (map (cells_at heads parents) (filter (λ v. is_decision (head_at heads v).kind) (n ∷ [])))
+pub rules_more : (heads : List Head) (parents : List (List ℕ)) (n : ℕ) → rules_before heads parents (n + 1) ≡ rules_before heads parents n + cond (is_decision (head_at heads n).kind) (cells_of_head heads parents n) 0
+rules_more heads parents n = ap (λ vs. sum (map (cells_of_head heads parents) (filter (λ v. is_decision (head_at heads v).kind) vs))) (range_more 0 n n (omega arith))
+    ∙ ap (λ vs. sum (map (cells_of_head heads parents) vs)) (filter-append (λ v. is_decision (head_at heads v).kind) (range_with_len 0 n) (n ∷ []))
+    ∙ ap sum (map-append (cells_of_head heads parents) (filter (λ v. is_decision (head_at heads v).kind) (range_with_len 0 n)) (filter (λ v. is_decision (head_at heads v).kind) (n ∷ [])))
+    ∙ sum_append (map (cells_of_head heads parents) (filter (λ v. is_decision (head_at heads v).kind) (range_with_len 0 n))) (map (cells_of_head heads parents) (filter (λ v. is_decision (head_at heads v).kind) (n ∷ [])))
     ∙ ap (λ m. rules_before heads parents n + m) (last (is_decision (head_at heads n).kind)) where
-      last : (b : Bool) → sum (map (cells_at heads parents) (cond b (n ∷ []) [])) ≡ cond b (cells_at heads parents n) 0
+      last : (b : Bool) → sum (map (cells_of_head heads parents) (cond b (n ∷ []) [])) ≡ cond b (cells_of_head heads parents n) 0
       last true = omega arith
       last false = refl

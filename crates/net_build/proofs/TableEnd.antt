@@ -16,14 +16,14 @@ use Rattle.weight_scale.specs.Numeral.{numerator, denominator, IsLeastDecimalOf}
 use Rattle.net_build.specs.declared.nodes.Head.{Head}
 use Rattle.net_build.specs.declared.drafts.Draft.{Draft}
 use Rattle.net_build.specs.declared.drafts.Draft.TheVariants.{Cells, Values}
-use Rattle.net_build.specs.Blocks.{no_token, is_node, is_potential, potentials, is_number, node_blocks, kind_of, block_states, row_count, block_name, potential_of, parent_lists, data_of, leaves_of, block_numbers, word_of}
+use Rattle.net_build.specs.Blocks.{no_token, is_node, potentials, is_number, node_blocks, kind_of, block_states, row_count, block_name, potential_of, parent_lists, data_of, leaves_of, block_numbers, word_of}
 use Rattle.net_build.specs.Building.{AreTables, IsTableFrom}
 use Rattle.first_fault.specs.Passes.{Pass, each}
 use Rattle.net_build.specs.Passes.{Found}
 use Rattle.net_build.specs.Scaling.{AreDecimals, decimal_at, IsWholeBy}
 use Rattle.net_build.specs.Stages.{AreLinks, NodeLists, LinkLists, TablesFit, FitsTable, head_of, head_at, node_lists, link_lists, no_head, head_rows}
 use Rattle.net_build.specs.Table.{length_row, wide_row, IsWideValue, node_pass, potential_pass, missing_pass, table_pass, no_block}
-use Rattle.net_build.specs.TableParts.{AreDrafts, CanRead, FitsDraft, Fits, IsDraftOf, IsDraftAt, IsScaleOf, data_parts, finished, node_part, numerals_in, potential_at, value_at_scale, values_in}
+use Rattle.net_build.specs.TableParts.{AreDrafts, CanReadTables, FitsDraft, Fits, IsDraftOf, IsDraftAt, IsScaleOf, data_parts, finished, node_part, numerals_in, potential_at, value_at_scale, values_in}
 use Rattle.net_build.specs.Zero.{nought}
 use Rattle.net_build.proofs.BlockLemmas.{all_filter, found_in}
 use Rattle.net_build.proofs.WeightPasses.{rows_are}
@@ -31,6 +31,7 @@ use Rattle.std.specs.Str.{bytes_eq}
 use Rattle.std.specs.Prelude.{codes}
 use Rattle.net_parser.specs.declared.trees.BlockKind.{BlockKind}
 use Rattle.net_parser.specs.declared.trees.BlockKind.TheVariants.{Net, Node, Decision, Utility, Potential}
+use Rattle.net_parser.specs.Grammar.{is_potential}
 use Rattle.net_build.proofs.NumberLemmas.{all_numbers}
 use Rattle.net_build.proofs.ScaleLemmas.{decimal_of, cells_found, not_whole, unfit_wide}
 use Rattle.net_build.proofs.TableFacts.{value_of_node, values_of_nodes, can_read}
@@ -210,7 +211,7 @@ module _ (text : List ℕ) (blocks : List BlockTree) (own : All (IsBlockOf text)
           (draft_table scale (row_count text blocks (block_at v)) (block_states text (block_at v)) (kind_of (block_at v).kind) (map (token_bytes text) (block_numbers text blocks (block_at v))) (get_or drafts v (item_of drafts v near)) (draft_here v (get_or drafts v (item_of drafts v near)) (near_of v near) (are.each v (item_of drafts v near) near)) (all_fit v (item_of drafts v near) near));
     }
 
-    pub tables_fit : CanRead text heads links → TablesFit heads (parent_lists text blocks) (map (finished scale) drafts)
+    pub tables_fit : CanReadTables text heads links → TablesFit heads (parent_lists text blocks) (map (finished scale) drafts)
     tables_fit read v h =
         let near : v < length drafts = omega (arith, h, are.len) in
         let its : v < length nodes = omega (arith, h, heads_len) in
@@ -221,6 +222,6 @@ module _ (text : List ℕ) (blocks : List BlockTree) (own : All (IsBlockOf text)
 
 -- the same, of the nodes and links as the callers have them
 module _ (text : List ℕ) (blocks : List BlockTree) (own : All (IsBlockOf text) blocks) (node_rows_none : node_pass text blocks None) (potential_rows_none : potential_pass text blocks None) (missing_none : missing_pass text blocks None) where
-  pub can_read_them : (listed : NodeLists) (linked : LinkLists) → listed ≡ node_lists text (node_blocks blocks) → linked ≡ link_lists text blocks → AreLinks listed.heads linked.parents → CanRead text listed.heads linked
-  can_read_them listed linked n l fit = subst (λ (m : NodeLists). CanRead text m.heads linked) (sym n) (subst (CanRead text (node_lists text (node_blocks blocks)).heads) (sym l)
+  pub can_read_them : (listed : NodeLists) (linked : LinkLists) → listed ≡ node_lists text (node_blocks blocks) → linked ≡ link_lists text blocks → AreLinks listed.heads linked.parents → CanReadTables text listed.heads linked
+  can_read_them listed linked n l fit = subst (λ (m : NodeLists). CanReadTables text m.heads linked) (sym n) (subst (CanReadTables text (node_lists text (node_blocks blocks)).heads) (sym l)
       (can_read text blocks own node_rows_none potential_rows_none missing_none (subst (λ (m : LinkLists). AreLinks (node_lists text (node_blocks blocks)).heads m.parents) l (subst (λ (m : NodeLists). AreLinks m.heads linked.parents) n fit))))

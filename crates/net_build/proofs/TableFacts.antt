@@ -14,12 +14,13 @@ use Rattle.maid_model.specs.Nodes.{is_decision, is_utility}
 use Rattle.net_lexer.specs.declared.tokens.Token.{Token}
 use Rattle.net_parser.specs.Trees.{BlockTree}
 use Rattle.net_parser.specs.Owned.{IsBlockOf}
+use Rattle.net_parser.specs.Grammar.{is_potential}
 use Rattle.net_build.specs.declared.nodes.Head.{Head}
-use Rattle.net_build.specs.Blocks.{is_potential, node_blocks, potentials, kind_of, block_states, block_name, names_of, place_among, potential_of, potential_list, parent_lists, data_of, leaves_of}
+use Rattle.net_build.specs.Blocks.{node_blocks, potentials, kind_of, block_states, block_name, names_of, place_among, potential_of, potential_list, parent_lists, data_of, leaves_of}
 use Rattle.net_build.specs.Linking.{behind_rows, missing_at, absent_row}
 use Rattle.net_build.specs.Stages.{AreLinks, NodeLists, head_of, heads_of, head_at, node_lists, link_lists, no_head}
 use Rattle.net_build.specs.Table.{kind_in, name_rows, node_rows, node_pass, potential_pass, missing_pass, no_block}
-use Rattle.net_build.specs.TableParts.{CanRead, values_in}
+use Rattle.net_build.specs.TableParts.{CanReadTables, values_in}
 use Rattle.net_build.proofs.BlockLemmas.{each_after_at, all_filter, all_flat, found_in, finds, take_at, contains_map, place_at, place_here, states_some}
 use Rattle.net_build.proofs.LinkLemmas.{number_at}
 use Rattle.net_build.proofs.LinkPasses.{taken_from}
@@ -158,7 +159,7 @@ module _ (text : List ℕ) (blocks : List BlockTree) (own : All (IsBlockOf text)
       (λ e. only_on (not (is_decision (head_at heads v).kind)) (absent_row (head_at heads v) (potential_list text blocks) v) (not_decision (head_at heads v).kind (subst (λ (g : Head). g.kind ≢ model.Decision) (sym (head_here text blocks v h)) kind)) row (potential_here text blocks v h ∙ e))
 
   -- what reading the tables needs
-  pub can_read : missing_pass text blocks None → AreLinks (map (head_of text nodes) nodes) (parent_lists text blocks) → CanRead text (map (head_of text nodes) nodes) (link_lists text blocks)
+  pub can_read : missing_pass text blocks None → AreLinks (map (head_of text nodes) nodes) (parent_lists text blocks) → CanReadTables text (map (head_of text nodes) nodes) (link_lists text blocks)
   can_read missing fit = record {
     states = λ k d h. let near : k < length nodes = omega (arith, h, length-map nodes (head_of text nodes)) in subst (λ (g : Head). 0 < g.states) (sym (get_or-map (head_of text nodes) nodes k no_block d near)) (states_at k near);
     parents_len = length-map nodes (λ b. Rattle.net_build.specs.Blocks.block_parents text blocks (block_name text b)) ∙ sym (length-map nodes (head_of text nodes));

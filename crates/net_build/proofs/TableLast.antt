@@ -14,7 +14,7 @@ use Rattle.first_fault.specs.Answers.{IsFaultOrNoMemory}
 use Rattle.net_build.specs.Passes.{Found, build_fault}
 use Rattle.net_build.specs.Stages.{NodeLists, LinkLists, TablesFit, node_lists, link_lists}
 use Rattle.net_build.specs.Table.{IsUtilityScale, length_row, wide_row, node_pass, potential_pass, table_pass, wide_pass, utility_numbers}
-use Rattle.net_build.specs.TableParts.{AreDrafts, CanRead, FitsDraft, IsScaleOf, scaled_pass, drafts_pass, finished, values_in}
+use Rattle.net_build.specs.TableParts.{AreDrafts, CanReadTables, FitsDraft, IsScaleOf, scaled_pass, drafts_pass, finished, values_in}
 use Rattle.first_fault.proofs.Leading.{refused_first, refused_later}
 use Rattle.first_fault.proofs.Items.{each_all}
 use Rattle.net_build.proofs.LinkPasses.{same_refused}
@@ -83,6 +83,6 @@ module _ (text : List ℕ) (blocks : List BlockTree) where
         pub cells_are : (cells : List (List ℤ)) → cells ≡ map (finished scale) drafts → AreTables text blocks scale cells
         cells_are cells same = subst (AreTables text blocks scale) (sym same) (tables_are text blocks own node_none potential_none scale own_scaled own_narrow drafts own_are)
 
-        pub cells_fit : (cells : List (List ℤ)) → cells ≡ map (finished scale) drafts → CanRead text nodes.heads links → TablesFit nodes.heads links.parents cells
+        pub cells_fit : (cells : List (List ℤ)) → cells ≡ map (finished scale) drafts → CanReadTables text nodes.heads links → TablesFit nodes.heads links.parents cells
         cells_fit cells same read = subst (TablesFit nodes.heads links.parents) (sym same) (subst (λ (m : NodeLists). TablesFit m.heads links.parents (map (finished scale) drafts)) (sym n) (subst (λ (m : LinkLists). TablesFit (node_lists text (node_blocks blocks)).heads m.parents (map (finished scale) drafts)) (sym l)
-            (tables_fit text blocks own node_none potential_none scale own_scaled own_narrow drafts own_are (subst (λ (m : LinkLists). CanRead text (node_lists text (node_blocks blocks)).heads m) l (subst (λ (m : NodeLists). CanRead text m.heads links) n read)))))
+            (tables_fit text blocks own node_none potential_none scale own_scaled own_narrow drafts own_are (subst (λ (m : LinkLists). CanReadTables text (node_lists text (node_blocks blocks)).heads m) l (subst (λ (m : NodeLists). CanReadTables text m.heads links) n read)))))

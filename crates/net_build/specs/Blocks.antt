@@ -14,8 +14,9 @@ use Rattle.net_lexer.specs.declared.tokens.Token.{Token}
 use Rattle.net_lexer.specs.declared.tokens.TokenKind.{TokenKind}
 use Rattle.net_lexer.specs.declared.tokens.TokenKind.TheVariants as tokens
 use Rattle.net_parser.specs.declared.trees.BlockKind.{BlockKind}
-use Rattle.net_parser.specs.declared.trees.BlockKind.TheVariants.{Node, Decision, Utility, Potential}
+use Rattle.net_parser.specs.declared.trees.BlockKind.TheVariants.{Node, Decision, Utility}
 use Rattle.net_parser.specs.Trees.{ValueTree, ValueTrees, leaf, list, none, more, AttributeTree, BlockTree}
+use Rattle.net_parser.specs.Grammar.{is_potential}
 use Rattle.net_parser.specs.Owned.{leaves}
 
 -- a block of a chance node, a decision or a utility
@@ -24,11 +25,6 @@ is_node Node = true
 is_node Decision = true
 is_node Utility = true
 is_node kind = false
-
--- a block of a potential
-abbrev pub is_potential : BlockKind → Bool
-is_potential Potential = true
-is_potential kind = false
 
 -- the node blocks, in text order
 abbrev pub node_blocks : List BlockTree → List BlockTree
@@ -129,13 +125,13 @@ IsFirst attributes found = MatchOption found (attributes ≡ [])
     (λ a. (rest : List AttributeTree) × (attributes ≡ a.now ∷ rest))
 
 -- the attribute counts in such a block, and is about that topic
-abbrev pub counts_for : List ℕ → BlockKind → List ℕ → AttributeTree → Bool
-counts_for text kind topic a = is_counted kind (word_of text a) && bytes_eq (topic_of text a) topic
+abbrev pub counts_about : List ℕ → BlockKind → List ℕ → AttributeTree → Bool
+counts_about text kind topic a = is_counted kind (word_of text a) && bytes_eq (topic_of text a) topic
 
 -- the attribute counts in such a block, and one before it counts and is about the same
 abbrev pub is_repeat : List ℕ → BlockKind → List AttributeTree → AttributeTree → Bool
 is_repeat text kind before a = is_counted kind (word_of text a)
-    && list_any (counts_for text kind (topic_of text a)) before
+    && list_any (counts_about text kind (topic_of text a)) before
 
 -- the attributes that tell the owners of such a node
 abbrev pub telling_owners : List ℕ → BlockKind → List AttributeTree → List AttributeTree
@@ -212,13 +208,13 @@ texts_or_agent text [] = codes "agent" ∷ []
 texts_or_agent text (token ∷ tokens) = map (text_value text) (token ∷ tokens)
 
 -- the owners of a decision or a utility in written order: the strings that tell them, and "agent" where none does
-abbrev pub owner_names : List ℕ → BlockTree → List (List ℕ)
-owner_names text block = texts_or_agent text (leaves_of (owner_attributes text block))
+abbrev pub owner_texts : List ℕ → BlockTree → List (List ℕ)
+owner_texts text block = texts_or_agent text (leaves_of (owner_attributes text block))
 
 -- the agents in order of first sight, and within a node's owners from left to right
 abbrev pub agents_of : List ℕ → List BlockTree → List (List ℕ)
 agents_of text nodes =
-    first_sights (flat_map (owner_names text) (filter (λ b. has_agent b.kind) nodes))
+    first_sights (flat_map (owner_texts text) (filter (λ b. has_agent b.kind) nodes))
 
 -- how many names stand before the first that is this one
 abbrev pub place_among : List (List ℕ) → List ℕ → ℕ
@@ -226,7 +222,7 @@ place_among names name = position_or_len (λ other. bytes_eq other name) names
 
 -- the places among these agents of the owners of a decision or a utility
 abbrev pub named_owner_places : List ℕ → List (List ℕ) → BlockTree → List ℕ
-named_owner_places text agents block = map (place_among agents) (owner_names text block)
+named_owner_places text agents block = map (place_among agents) (owner_texts text block)
 
 -- the places among the agents of a node's owners, in written order; a chance node has 0
 abbrev pub owner_places : List ℕ → List (List ℕ) → BlockTree → List ℕ
@@ -234,8 +230,8 @@ owner_places text agents block =
     if has_agent block.kind then named_owner_places text agents block else 0 ∷ []
 
 -- the numbers of a node's owners among all agents of the text
-abbrev pub owners_of : List ℕ → List BlockTree → BlockTree → List ℕ
-owners_of text nodes block = owner_places text (agents_of text nodes) block
+abbrev pub owner_numbers : List ℕ → List BlockTree → BlockTree → List ℕ
+owner_numbers text nodes block = owner_places text (agents_of text nodes) block
 
 -- the potential with that head
 abbrev pub potential_of : List ℕ → List BlockTree → List ℕ → Option BlockTree

@@ -7,7 +7,7 @@ use Rattle.maid_model.specs.Views.{DiagramView}
 use Rattle.net_lexer.specs.Token.{token_bytes}
 use Rattle.net_parser.specs.Trees.{BlockTree}
 use Rattle.weight_scale.specs.declared.decimal.Decimal.{Decimal}
-use Rattle.net_build.specs.Blocks.{node_blocks, kind_of, names_of, block_labels, block_states, state_counts, agents_of, owners_of, parent_lists, block_numbers}
+use Rattle.net_build.specs.Blocks.{node_blocks, kind_of, names_of, block_labels, block_states, state_counts, agents_of, owner_numbers, parent_lists, block_numbers}
 use Rattle.weight_scale.specs.Scaling.{IsScaled}
 use Rattle.weight_scale.specs.Views.{ScaledView}
 use Rattle.net_build.specs.Scaling.{AreDecimals, IsScaledBy}
@@ -54,7 +54,7 @@ pub record StandsFor
   pub agents : d.agents ≡ length (agents_of text (node_blocks blocks))
   pub kinds : map (λ n. n.kind) d.nodes ≡ map (λ b. kind_of b.kind) (node_blocks blocks)
   pub owners : map (λ n. n.owner ∷ n.more) d.nodes
-      ≡ map (owners_of text (node_blocks blocks)) (node_blocks blocks)
+      ≡ map (owner_numbers text (node_blocks blocks)) (node_blocks blocks)
   pub states : map (λ n. n.states) d.nodes ≡ state_counts text (node_blocks blocks)
   pub parents : map (λ n. n.parents) d.nodes ≡ parent_lists text blocks
   pub scale : IsUtilityScale text blocks d.decimals

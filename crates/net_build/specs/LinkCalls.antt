@@ -14,7 +14,7 @@ use Rattle.net_build.specs.Blocks.{conditions, potentials}
 use Rattle.net_build.specs.Linking.{absent_row, block_steps, borrowed_trees, condition_steps, conditions_steps, links_steps, missing_at, node_named, parents_in, potentials_among, potentials_steps, rules_before}
 use Rattle.net_build.specs.Lists.{numbers_of_lists}
 use Rattle.net_build.specs.Passes.{build_fault}
-use Rattle.net_build.specs.Stages.{LinkLists, cells_at, head_at}
+use Rattle.net_build.specs.Stages.{LinkLists, cells_of_head, head_at}
 
 -- a name behind the bar, and behind those earlier, over the names and the heads of the nodes
 abbrev pub PassesCondition : {A : Type 0} → List ℕ → List (List ℕ) → List Head → List Token → Token
@@ -87,7 +87,7 @@ cycle_fault heads cycle = Fault (head_at heads (slice_index cycle.items 0)).at (
 -- no node has too many cells
 abbrev pub HaveFewCells : List Head → List (List ℕ) → Type 0
 HaveFewCells heads parents =
-    (v : ℕ) → v < length heads → cells_at heads parents v ≤ MOST_CELLS
+    (v : ℕ) → v < length heads → cells_of_head heads parents v ≤ MOST_CELLS
 
 -- the rules together haven't too many cells
 abbrev pub HaveFewRuleCells : List Head → List (List ℕ) → Type 0

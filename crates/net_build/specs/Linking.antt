@@ -18,7 +18,7 @@ use Rattle.net_build.specs.declared.nodes.Head.{Head}
 use Rattle.first_fault.specs.Passes.{Pass, rule, only, ◌▸◌, each, each_after}
 use Rattle.net_build.specs.Passes.{found, UnknownName, DoublePotential, RepeatedParent, UtilityParent, MissingTable, GraphCycle, LimitPassed, Found}
 use Rattle.net_build.specs.Blocks.{title, block_name, potentials, conditions, place_among}
-use Rattle.net_build.specs.Stages.{head_at, cells_at}
+use Rattle.net_build.specs.Stages.{head_at, cells_of_head}
 
 -- the number of the node of that name
 abbrev pub node_named : List ℕ → List (List ℕ) → Token → ℕ
@@ -140,13 +140,13 @@ abbrev pub rows_over : List Head → List ℕ → ℕ
 rows_over heads parents = rows_under (λ u. (head_at heads u).states) parents
 
 -- its cells
-abbrev pub cells_over : List Head → List ℕ → ℕ → ℕ
-cells_over heads parents v = rows_over heads parents * (head_at heads v).states
+abbrev pub cells_of_head_over : List Head → List ℕ → ℕ → ℕ
+cells_of_head_over heads parents v = rows_over heads parents * (head_at heads v).states
 
 -- they are too many; the count is named up to 10^18
 abbrev pub cells_row : List Head → List ℕ → ℕ → Pass Found
-cells_row heads parents v = rule (MOST_CELLS < cells_over heads parents v) (found
-    (head_at heads v).at (LimitPassed Cells (min (cells_over heads parents v) COUNT_END)))
+cells_row heads parents v = rule (MOST_CELLS < cells_of_head_over heads parents v) (found
+    (head_at heads v).at (LimitPassed Cells (min (cells_of_head_over heads parents v) COUNT_END)))
 
 -- the rules' cells up to a node are too many
 abbrev pub rules_row : Head → ℕ → Pass Found
@@ -155,17 +155,17 @@ rules_row head rules = rule (MOST_RULE_CELLS < rules) (found head.at (LimitPasse
 -- the cells of so many rules, with those of node v over these parents if it is a decision
 abbrev pub rules_with : List Head → List ℕ → ℕ → ℕ → ℕ
 rules_with heads parents v rules =
-    rules + (if is_decision (head_at heads v).kind then cells_over heads parents v else 0)
+    rules + (if is_decision (head_at heads v).kind then cells_of_head_over heads parents v else 0)
 
 -- a node over these parents, behind rules of so many cells
 abbrev pub size_rows_over : List Head → List ℕ → ℕ → ℕ → Pass Found
 size_rows_over heads parents v rules = cells_row heads parents v
     ▸ only (is_decision (head_at heads v).kind) (rules_row (head_at heads v)
-    (rules + cells_over heads parents v))
+    (rules + cells_of_head_over heads parents v))
 
 -- the cells of the rules of the first n nodes
 abbrev pub rules_before : List Head → List (List ℕ) → ℕ → ℕ
-rules_before heads parents n = sum (map (cells_at heads parents) (filter
+rules_before heads parents n = sum (map (cells_of_head heads parents) (filter
     (λ v. is_decision (head_at heads v).kind) (range_with_len 0 n)))
 
 -- node v over its own parents, behind the rules of the nodes before it

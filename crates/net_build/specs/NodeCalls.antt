@@ -104,8 +104,8 @@ AreOwners text agents block owners =
     owners.first ∷ owners.more.items ≡ owner_places text (texts_in agents) block
 
 -- the same of the owners in a node's entry
-abbrev pub HasOwners : List ℕ → Vec (Vec ℕ) → BlockTree → Entry → Type 0
-HasOwners text agents block entry =
+abbrev pub HasOwnersInText : List ℕ → Vec (Vec ℕ) → BlockTree → Entry → Type 0
+HasOwnersInText text agents block entry =
     entry.head.owner ∷ entry.more.items ≡ owner_places text (texts_in agents) block
 
 -- the names, labels and agents that the node blocks say

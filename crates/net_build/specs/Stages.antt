@@ -16,7 +16,7 @@ use Rattle.net_parser.specs.Trees.{BlockTree}
 use Rattle.net_parser.specs.Views.{value_tree}
 use Rattle.net_parser.specs.declared.trees.Value.{Value}
 use Rattle.net_build.specs.declared.nodes.Head.{Head}
-use Rattle.net_build.specs.Blocks.{is_string, is_text, kind_of, title_at, names_of, block_labels, has_agent, block_states, owner_names, agents_of, with_sights, owners_of, potential_list, parent_lists}
+use Rattle.net_build.specs.Blocks.{is_string, is_text, kind_of, title_at, names_of, block_labels, has_agent, block_states, owner_texts, agents_of, with_sights, owner_numbers, potential_list, parent_lists}
 use Rattle.std.specs.Global.{Vec}
 use Rattle.net_build.specs.Lists.{numbers_of_lists, cells_of_lists}
 
@@ -45,11 +45,11 @@ pub record NodeLists : Type 0 where
 
 -- the number of a node's first owner
 abbrev pub first_owner : List ℕ → List BlockTree → BlockTree → ℕ
-first_owner text nodes block = slice_index_or (owners_of text nodes block) 0 0
+first_owner text nodes block = slice_index_or (owner_numbers text nodes block) 0 0
 
 -- those of the further ones
 abbrev pub more_owners : List ℕ → List BlockTree → BlockTree → List ℕ
-more_owners text nodes block = drop 1 (owners_of text nodes block)
+more_owners text nodes block = drop 1 (owner_numbers text nodes block)
 
 -- the head of a node: what its block says in numbers
 abbrev pub head_of : List ℕ → List BlockTree → BlockTree → Head
@@ -76,7 +76,7 @@ node_lists text nodes = record {
 
 -- the agents and the block's owners
 abbrev pub with_named_owners : List ℕ → List (List ℕ) → BlockTree → List (List ℕ)
-with_named_owners text agents block = with_sights agents (owner_names text block)
+with_named_owners text agents block = with_sights agents (owner_texts text block)
 
 -- the agents and the block's, where it has some
 abbrev pub with_owners : List ℕ → List (List ℕ) → BlockTree → List (List ℕ)
@@ -108,8 +108,8 @@ abbrev pub head_rows : List Head → List (List ℕ) → ℕ → ℕ
 head_rows heads parents v = rows_under (λ u. (head_at heads u).states) (slice_index_or parents v [])
 
 -- how many cells node v has
-abbrev pub cells_at : List Head → List (List ℕ) → ℕ → ℕ
-cells_at heads parents v = head_rows heads parents v * (head_at heads v).states
+abbrev pub cells_of_head : List Head → List (List ℕ) → ℕ → ℕ
+cells_of_head heads parents v = head_rows heads parents v * (head_at heads v).states
 
 -- the parents make a graph within the limits
 pub record AreLinks (heads : List Head) (parents : List (List ℕ)) : Type 0 where
@@ -118,8 +118,8 @@ pub record AreLinks (heads : List Head) (parents : List (List ℕ)) : Type 0 whe
   pub no_utility : (u v : ℕ) → ListedArc parents u v → (head_at heads u).kind ≢ Utility
   pub acyclic : IsAcyclic (ListedArc parents)
   pub few : (v : ℕ) → length (slice_index_or parents v []) ≤ MOST_PARENTS
-  pub cells : (v : ℕ) → v < length heads → cells_at heads parents v ≤ MOST_CELLS
-  pub rules : sum (map (cells_at heads parents) (filter (λ v. is_decision (head_at heads v).kind)
+  pub cells : (v : ℕ) → v < length heads → cells_of_head heads parents v ≤ MOST_CELLS
+  pub rules : sum (map (cells_of_head heads parents) (filter (λ v. is_decision (head_at heads v).kind)
       (range_with_len 0 (length heads)))) ≤ MOST_RULE_CELLS
 
 -- what the tables hold: the cells of each node, and by how many decimals utilities are scaled

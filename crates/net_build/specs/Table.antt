@@ -19,7 +19,7 @@ use Rattle.weight_scale.specs.declared.decimal.Decimal.{Decimal}
 use Rattle.net_build.specs.declared.faults.Limit.TheVariants.{Nodes, NameBytes, States, Agents}
 use Rattle.first_fault.specs.Passes.{Pass, clear, rule, always, only, ◌▸◌, each, each_after, over}
 use Rattle.net_build.specs.Passes.{found, DoubleName, DoubleAttribute, MissingStates, BadStates, BadLabel, BadAgent, RepeatedAgent, MissingTable, NotANumber, WrongCount, NumberTooLong, Negative, ZeroRow, WideWeight, WideValue, LimitPassed, Found}
-use Rattle.net_build.specs.Blocks.{node_blocks, potentials, title_at, block_name, names_of, topic_of, owner_attributes, has_states, has_agent, counted, is_number, is_string_list, is_plain, tells_owners, owner_names, agents_of, with_sights, place_among, potential_list, parent_lists, data_of, leaves_of, state_attributes}
+use Rattle.net_build.specs.Blocks.{node_blocks, potentials, title_at, block_name, names_of, topic_of, owner_attributes, has_states, has_agent, counted, is_number, is_string_list, is_plain, tells_owners, owner_texts, agents_of, with_sights, place_among, potential_list, parent_lists, data_of, leaves_of, state_attributes}
 use Rattle.net_build.specs.Linking.{potentials_steps, missing_steps, graph_steps, size_steps}
 use Rattle.net_build.specs.Scaling.{AreDecimals, IsWholeBy}
 use Rattle.net_build.specs.Stages.{NodeLists, LinkLists, heads_of, head_at, head_rows, node_lists, link_lists}
@@ -98,7 +98,7 @@ name_rows text names block = rule (MOST_NODES ≤ length names) (found (title_at
 unfoldable pub owner_rows : List ℕ → List (List ℕ) → BlockTree → Pass Found
 owner_rows text agents block =
     agent_rows text (owner_attributes text block)
-    ▸ each_after (sight_row agents (title_at block)) [] (owner_names text block)
+    ▸ each_after (sight_row agents (title_at block)) [] (owner_texts text block)
 
 -- the states of the block, where it has some
 abbrev pub block_states_rows : List ℕ → BlockTree → Pass Found

@@ -9,11 +9,12 @@ use Rattle.maid_model.specs.declared.diagrams.Kind.TheVariants.{Chance}
 use Rattle.net_lexer.specs.declared.tokens.Token.{Token}
 use Rattle.net_parser.specs.Owned.{IsBlockOf}
 use Rattle.net_parser.specs.Trees.{AttributeTree, BlockTree}
+use Rattle.net_parser.specs.Grammar.{is_potential}
 use Rattle.weight_scale.specs.declared.decimal.Decimal.{Decimal}
 use Rattle.net_build.specs.declared.faults.BuildFault.{BuildFault}
 use Rattle.net_build.specs.declared.drafts.Draft.{Draft}
 use Rattle.net_build.specs.declared.nodes.Head.{Head}
-use Rattle.net_build.specs.Blocks.{data_of, is_potential, leaves_of}
+use Rattle.net_build.specs.Blocks.{data_of, leaves_of}
 use Rattle.net_build.specs.Linking.{borrowed_tree}
 use Rattle.net_build.specs.Passes.{Found, build_fault}
 use Rattle.net_build.specs.Scaling.{decimal_at}

@@ -11,6 +11,7 @@ use Rattle.net_lexer.specs.Token.{token_bytes}
 use Rattle.net_lexer.specs.declared.tokens.Token.{Token}
 use Rattle.net_parser.specs.Trees.{BlockTree}
 use Rattle.net_parser.specs.Owned.{IsBlockOf}
+use Rattle.net_parser.specs.Grammar.{is_potential}
 use Rattle.weight_scale.specs.Numeral.{number_of, AreFewDigits}
 use Rattle.weight_scale.specs.Plain.{AreWhole, ArePlainRows}
 use Rattle.weight_scale.specs.Scaling.{IsScaled, NoneNegative, NoZeroRow}
@@ -18,7 +19,7 @@ use Rattle.weight_scale.specs.Views.{ScaledView}
 use Rattle.weight_scale.specs.declared.decimal.Decimal.{Decimal}
 use Rattle.net_build.specs.declared.drafts.Draft.{Draft}
 use Rattle.net_build.specs.declared.drafts.Draft.TheVariants.{Cells, Values}
-use Rattle.net_build.specs.Blocks.{block_name, data_of, leaves_of, is_number, is_potential, no_token}
+use Rattle.net_build.specs.Blocks.{block_name, data_of, leaves_of, is_number, no_token}
 use Rattle.net_build.specs.Scaling.{AreDecimals, decimal_at, TellDecimals}
 use Rattle.net_build.specs.Stages.{NodeLists, LinkLists, head_at, head_rows, AreLinks}
 use Rattle.net_build.specs.declared.nodes.Head.{Head}
@@ -109,8 +110,8 @@ values_of (Cells cells) = []
 values_of (Values decimals) = decimals.items
 
 -- none of them has more decimals
-abbrev pub HasAtMost : ℕ → Draft → Type 0
-HasAtMost most draft = All (λ d. d.k ≤ most) (values_of draft)
+abbrev pub HasDecimalsAtMost : ℕ → Draft → Type 0
+HasDecimalsAtMost most draft = All (λ d. d.k ≤ most) (values_of draft)
 
 -- one of them has so many
 abbrev pub Reaches : ℕ → Draft → Type 0
@@ -139,7 +140,7 @@ block_values text nodes blocks =
     flat_map (λ p. leaves_of (data_of text p)) (filter (has_values text nodes) blocks)
 
 -- what reading the tables needs: each node has states, and each chance node and utility its potential
-pub record CanRead (text : List ℕ) (heads : List Head) (links : LinkLists) : Type 0 where
+pub record CanReadTables (text : List ℕ) (heads : List Head) (links : LinkLists) : Type 0 where
   pub states : All (λ h. 0 < h.states) heads
   pub parents_len : length links.parents ≡ length heads
   pub potentials_len : length links.potentials ≡ length heads

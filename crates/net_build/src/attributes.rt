@@ -2,7 +2,7 @@
 
 ghost use Rattle.std.specs.Prelude.{◌≡◌, All, IfSome, bytes_eq};
 ghost use Rattle.std.specs.List.{list_any};
-ghost use Rattle.net_build.specs.Blocks.{counts_for, is_counted, named, names_owners, topic_of, word_of, IsFirst, is_repeat};
+ghost use Rattle.net_build.specs.Blocks.{counts_about, is_counted, named, names_owners, topic_of, word_of, IsFirst, is_repeat};
 ghost use Rattle.first_fault.specs.Answers.{Passes};
 ghost use Rattle.net_build.specs.Passes.{build_fault};
 ghost use Rattle.net_build.specs.Table.{repeats};
@@ -83,9 +83,9 @@ fn topic_of<'a>(text: &'a [u8], attribute: &Attribute<'_>) -> &'a [u8]
 }
 
 // The attribute counts and is about that topic.
-fn counts_for(text: &[u8], kind: BlockKind, attribute: &Attribute<'_>, topic: &[u8]) -> bool
+fn counts_about(text: &[u8], kind: BlockKind, attribute: &Attribute<'_>, topic: &[u8]) -> bool
     requires { IsAttributeOf text.now attribute.now }
-    ensures { result ≡ counts_for text.now kind topic.now attribute.now }
+    ensures { result ≡ counts_about text.now kind topic.now attribute.now }
 {
     counts(kind, word_of(text, attribute)) && topic_of(text, attribute) == topic
 }
@@ -93,11 +93,11 @@ fn counts_for(text: &[u8], kind: BlockKind, attribute: &Attribute<'_>, topic: &[
 // One of the attributes counts and is about that topic.
 fn has_counted(text: &[u8], kind: BlockKind, attributes: &[Attribute<'_>], topic: &[u8]) -> bool
     requires { All (IsAttributeOf text.now) attributes.now }
-    ensures { result ≡ list_any (counts_for text.now kind topic.now) attributes.now }
+    ensures { result ≡ list_any (counts_about text.now kind topic.now) attributes.now }
 {
     attributes
         .iter()
-        .any(|attribute| counts_for(text, kind, attribute, topic))
+        .any(|attribute| counts_about(text, kind, attribute, topic))
 }
 
 // The attribute counts, and one that counts before it is about the same.

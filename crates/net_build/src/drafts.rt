@@ -3,11 +3,11 @@
 ghost use Rattle.std.specs.Prelude.{◌≡◌, ◌≢◌, ◌<◌, ◌≤◌, ◌*◌, true, IfOk, IfSome, IsSome};
 ghost use Rattle.maid_model.specs.declared.limits.TheConstants.{MOST_CELLS};
 ghost use Rattle.maid_model.specs.declared.diagrams.Kind.TheVariants.{Decision};
-ghost use Rattle.net_build.specs.Blocks.{is_potential};
 ghost use Rattle.first_fault.specs.Answers.{Passes};
 ghost use Rattle.net_build.specs.Passes.{build_fault};
 ghost use Rattle.net_build.specs.TableParts.{FitsDraft, finished, values_of};
 ghost use Rattle.net_parser.specs.Owned.{IsAttributeOf, IsBlockOf, leaves};
+ghost use Rattle.net_parser.specs.Grammar.{is_potential};
 ghost use Rattle.net_build.specs.TableCalls.{IsDraftFromBlock, IsDraftUnder, IsHeadDraft, IsPotentialOf, PassesDraft, head_data_part};
 ghost use Rattle.net_build.specs.TableSteps.{PassesTable};
 

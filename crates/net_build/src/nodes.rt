@@ -8,7 +8,7 @@ ghost use Rattle.net_build.specs.Passes.{build_fault};
 ghost use Rattle.net_build.specs.Stages.{node_lists};
 ghost use Rattle.net_build.specs.Table.{name_rows, node_pass, block_states_rows};
 ghost use Rattle.net_parser.specs.Owned.{IsBlockOf};
-ghost use Rattle.net_build.specs.NodeCalls.{AddsOwners, AreLabelsOf, HasOwners, PassesNode};
+ghost use Rattle.net_build.specs.NodeCalls.{AddsOwners, AreLabelsOf, HasOwnersInText, PassesNode};
 
 use crate::attributes::check_repeats;
 use crate::faults::{BuildFault, BuildKind, Limit};
@@ -167,7 +167,7 @@ fn read_entry(
     ensures at { IfOk result (λ entry. entry.head.at ≡ title_at block.now) }
     ensures kind { IfOk result (λ entry. entry.head.kind ≡ kind_of block.now.kind) }
     ensures states { IfOk result (λ entry. entry.head.states ≡ block_states text.now block.now) }
-    ensures owners { IfOk result (HasOwners text.now agents.new block.now) }
+    ensures owners { IfOk result (HasOwnersInText text.now agents.new block.now) }
 {
     let name = read_name(text, block, names)?;
     check_repeats(text, block)?;

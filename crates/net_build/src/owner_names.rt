@@ -1,7 +1,7 @@
 //! The names of a node's owners: the string of `agent`, or the strings of `agents`.
 
 ghost use Rattle.std.specs.Prelude.{◌≡◌, ◌++◌, [], ◌∷◌, All, map, true, false, IfSome, OnOk, bytes_eq, codes};
-ghost use Rattle.net_build.specs.Blocks.{owner_names, telling_owners, texts_or_agent, word_of, IsFirst};
+ghost use Rattle.net_build.specs.Blocks.{owner_texts, telling_owners, texts_or_agent, word_of, IsFirst};
 ghost use Rattle.maid_model.specs.Names.{list_of};
 ghost use Rattle.first_fault.specs.Passes.{each_after};
 ghost use Rattle.first_fault.specs.Answers.{Passes};
@@ -168,7 +168,7 @@ fn told_names(
 pub fn read_names(alloc: Global, text: &[u8], block: &Block<'_>) -> Result<Vec<Vec<u8>>, BuildFault>
     requires { IsBlockOf text.now block.now }
     ensures rows { Passes build_fault (written_owners_rows text.now block.now) result }
-    ensures names { AnswersTexts result (owner_names text.now block.now) }
+    ensures names { AnswersTexts result (owner_texts text.now block.now) }
 {
     match first_telling(text, block.kind, &block.attributes) {
         Some(agents) => told_names(alloc, text, agents),

@@ -3,7 +3,8 @@
 ghost use Rattle.std.specs.Prelude.{◌≡◌, ◌≢◌, ◌<◌, true, [], length, drop, replicate, None, All, AllPairs, IfOk};
 ghost use Rattle.net_lexer.specs.Token.{IsTokenOf};
 ghost use Rattle.net_parser.specs.Owned.{IsBlockOf};
-ghost use Rattle.net_build.specs.Blocks.{is_potential, title, conditions, potentials};
+ghost use Rattle.net_parser.specs.Grammar.{is_potential};
+ghost use Rattle.net_build.specs.Blocks.{title, conditions, potentials};
 ghost use Rattle.net_build.specs.Linking.{node_named, borrowed_trees, taken_row, many_row, missing_steps, AreParents};
 ghost use Rattle.net_build.specs.Lists.{numbers_of_lists};
 ghost use Rattle.first_fault.specs.Answers.{Passes};

@@ -2,7 +2,7 @@
 
 ghost use Rattle.std.specs.Prelude.{◌≡◌, ◌<◌, ◌≤◌, ◌*◌, min, length, All, IfOk, OnOk};
 ghost use Rattle.maid_model.specs.declared.limits.TheConstants.{COUNT_END, MOST_CELLS, MOST_RULE_CELLS};
-ghost use Rattle.net_build.specs.Linking.{rows_over, cells_over, cells_row, rules_row, size_rows_over, size_steps, rules_with};
+ghost use Rattle.net_build.specs.Linking.{rows_over, cells_of_head_over, cells_row, rules_row, size_rows_over, size_steps, rules_with};
 ghost use Rattle.net_build.specs.Lists.{numbers_of_lists};
 ghost use Rattle.first_fault.specs.Answers.{Passes};
 ghost use Rattle.net_build.specs.Passes.{build_fault};
@@ -37,7 +37,7 @@ fn check_cells(heads: &[Head], parents: &[usize], node: usize) -> Result<u128, B
     requires within { node < length heads.now }
     requires parents { All (λ u. u < length heads.now) parents.now }
     ensures row { Passes build_fault (cells_row heads.now parents.now node) result }
-    ensures cells { IfOk result (λ cells. cells ≡ cells_over heads.now parents.now node) }
+    ensures cells { IfOk result (λ cells. cells ≡ cells_of_head_over heads.now parents.now node) }
     ensures few { IfOk result (λ cells. cells ≤ MOST_CELLS) }
 {
     let cells = times(count_rows(heads, parents), heads[node].states);
@@ -78,7 +78,7 @@ fn check_size(
     ensures rows { Passes build_fault (size_rows_over heads.now parents.now node rules) result }
     ensures sum { IfOk result (λ sum. sum ≡ rules_with heads.now parents.now node rules) }
     ensures few { IfOk result (λ sum. sum ≤ MOST_RULE_CELLS) }
-    ensures cells { OnOk result (cells_over heads.now parents.now node ≤ MOST_CELLS) }
+    ensures cells { OnOk result (cells_of_head_over heads.now parents.now node ≤ MOST_CELLS) }
 {
     let cells = check_cells(heads, parents, node)?;
     match heads[node].kind {

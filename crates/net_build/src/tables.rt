@@ -10,7 +10,7 @@ ghost use Rattle.first_fault.specs.Answers.{Passes};
 ghost use Rattle.net_build.specs.Passes.{build_fault};
 ghost use Rattle.net_build.specs.Stages.{AreLinks, TablesFit, head_at, link_lists, node_lists};
 ghost use Rattle.net_build.specs.Table.{IsUtilityScale, missing_pass, node_pass, potential_pass};
-ghost use Rattle.net_build.specs.TableParts.{AreDrafts, CanRead, FitsDraft, HasAtMost, IsDraftAt, drafts_pass, finished};
+ghost use Rattle.net_build.specs.TableParts.{AreDrafts, CanReadTables, FitsDraft, HasDecimalsAtMost, IsDraftAt, drafts_pass, finished};
 ghost use Rattle.net_parser.specs.Owned.{IsBlockOf};
 ghost use Rattle.net_build.specs.TableCalls.{AreNarrowValues, IsReachedByOne, IsValueScale, tables_pass, values_pass};
 ghost use Rattle.net_build.specs.TableSteps.{AreDraftsIn, PassesDrafts, PassesNodeTable};
@@ -64,7 +64,7 @@ fn read_node(
     links: &Links<'_, '_>,
     node: usize,
 ) -> Result<Draft, BuildFault>
-    requires read { CanRead text.now nodes.now.heads links.now }
+    requires read { CanReadTables text.now nodes.now.heads links.now }
     requires within { node < length nodes.now.heads }
     ensures rows { PassesNodeTable text.now nodes.now.heads links.now node result }
     ensures draft { IfOk result (IsDraftAt text.now nodes.now.heads links.now node) }
@@ -86,7 +86,7 @@ fn read_drafts(
     nodes: &Nodes,
     links: &Links<'_, '_>,
 ) -> Result<Vec<Draft>, BuildFault>
-    requires { CanRead text.now nodes.now.heads links.now }
+    requires { CanReadTables text.now nodes.now.heads links.now }
     ensures rows { Passes build_fault (drafts_pass text.now nodes.now.heads links.now) result }
     ensures drafts { IfOk result (λ all. AreDrafts text.now nodes.now.heads links.now all.items) }
 {
@@ -99,7 +99,7 @@ fn read_drafts(
 
 // The most decimals that one of the values has.
 fn most_of(drafts: &[Draft]) -> u32
-    ensures most { All (HasAtMost result) drafts.now }
+    ensures most { All (HasDecimalsAtMost result) drafts.now }
     ensures reached { 0 < result → IsReachedByOne drafts.now result }
     ensures few { result ≤ 30 }
 {
@@ -115,7 +115,7 @@ fn most_of(drafts: &[Draft]) -> u32
 
 // Each value, to scale, lies within the limits.
 fn drafts_fit(drafts: &[Draft], scale: u32) -> bool
-    requires enough { All (HasAtMost scale) drafts.now }
+    requires enough { All (HasDecimalsAtMost scale) drafts.now }
     requires few { scale ≤ 30 }
     ensures { IsTrue result ↔ All (FitsDraft scale) drafts.now }
 {

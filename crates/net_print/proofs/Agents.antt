@@ -98,10 +98,10 @@ module _ (d : DiagramView) (names : NamesView) (is : IsPrintableBehind d names) 
   agents_told =
       let piece = λ (n : NodeView). cond (not (is_chance n.kind)) (map (agent_name names) (n.owner ∷ n.more)) [] in
       ap look.first_sights (
-      filter_flat (look.owner_names (text_of d names is)) (λ b. look.has_agent b.kind) Blocks
+      filter_flat (look.owner_texts (text_of d names is)) (λ b. look.has_agent b.kind) Blocks
       ∙ ap (flat_map (λ ys. ys)) (
-      tell d names is (λ b. cond (look.has_agent b.kind) (look.owner_names (text_of d names is) b) []) (λ v. piece (node_at d.nodes v))
-      (λ v p more l at. owner_piece (node_at d.nodes v).kind (look.owner_names (text_of d names is) (node_tree d.nodes names p v)) (owner_names d.nodes names v) (λ owned. node_owners_told (text_of d names is) d.nodes names v p more at owned (is.diagram.owners.one v)))
+      tell d names is (λ b. cond (look.has_agent b.kind) (look.owner_texts (text_of d names is) b) []) (λ v. piece (node_at d.nodes v))
+      (λ v p more l at. owner_piece (node_at d.nodes v).kind (look.owner_texts (text_of d names is) (node_tree d.nodes names p v)) (owner_names d.nodes names v) (λ owned. node_owners_told (text_of d names is) d.nodes names v p more at owned (is.diagram.owners.one v)))
       ∙ each_node piece d.nodes)
       ∙ sym (filter_flat (λ (n : NodeView). map (agent_name names) (n.owner ∷ n.more)) (λ n. not (is_chance n.kind)) d.nodes))
       ∙ sym is.form.numbered
@@ -109,14 +109,14 @@ module _ (d : DiagramView) (names : NamesView) (is : IsPrintableBehind d names) 
   pub agents_differ : AllPairs (λ x y. x ≢ y) names.agents
   agents_differ = subst (λ agents. AllPairs (λ x y. x ≢ y) agents) (sym is.form.numbered) (sights_differ (flat_map (λ n. map (agent_name names) (n.owner ∷ n.more)) (filter (λ n. not (is_chance n.kind)) d.nodes)))
 
-  pub owners_told : map (λ n. n.owner ∷ n.more) d.nodes ≡ map (look.owners_of (text_of d names is) Blocks) Blocks
-  owners_told = sym (tell d names is (look.owners_of (text_of d names is) Blocks) (λ v. owners_of d.nodes v) one ∙ each_node (λ n. n.owner ∷ n.more) d.nodes) where
-    one : (v p : ℕ) (more : List ℕ) → v < length d.nodes → At (text_of d names is) p (text_onto (node_words d.nodes names v) more) → look.owners_of (text_of d names is) Blocks (node_tree d.nodes names p v) ≡ owners_of d.nodes v
+  pub owners_told : map (λ n. n.owner ∷ n.more) d.nodes ≡ map (look.owner_numbers (text_of d names is) Blocks) Blocks
+  owners_told = sym (tell d names is (look.owner_numbers (text_of d names is) Blocks) (λ v. owners_of d.nodes v) one ∙ each_node (λ n. n.owner ∷ n.more) d.nodes) where
+    one : (v p : ℕ) (more : List ℕ) → v < length d.nodes → At (text_of d names is) p (text_onto (node_words d.nodes names v) more) → look.owner_numbers (text_of d names is) Blocks (node_tree d.nodes names p v) ≡ owners_of d.nodes v
     one v p more l at =
         let tree = node_tree d.nodes names p v in
-        owner_case (node_at d.nodes v).kind (map (look.place_among (look.agents_of (text_of d names is) Blocks)) (look.owner_names (text_of d names is) tree)) (owners_of d.nodes v)
+        owner_case (node_at d.nodes v).kind (map (look.place_among (look.agents_of (text_of d names is) Blocks)) (look.owner_texts (text_of d names is) tree)) (owners_of d.nodes v)
         (λ owned.
-        ap (λ agents. map (look.place_among agents) (look.owner_names (text_of d names is) tree)) agents_told
+        ap (λ agents. map (look.place_among agents) (look.owner_texts (text_of d names is) tree)) agents_told
         ∙ ap (map (look.place_among names.agents)) (node_owners_told (text_of d names is) d.nodes names v p more at owned (is.diagram.owners.one v))
         ∙ places_here names.agents agents_differ (owners_of d.nodes v) (λ a o. subst (λ n. a < n) (sym is.fit.agents) (is.diagram.owners.agent v a l owned o)))
         (λ chance. λ j. is.diagram.owners.chance v chance j ∷ is.diagram.owners.one v (λ u. chance_utility (sym chance ∙ u)) j)

@@ -1,19 +1,23 @@
 -- Comment lines before a text that is written token by token: they are read over.
-use Rattle.std.proofs.Common.{◌≡◌, ◌∙◌, ℕ, suc, ◌+◌, ◌-◌, ◌≤◌, false, List, [], ◌∷◌, ◌++◌, All, length, filter_map, refl, sym, ap, subst, arith, append_assoc}
+use Rattle.std.proofs.Common.{◌≡◌, ◌∙◌, ℕ, suc, ◌+◌, ◌-◌, ◌≤◌, true, false, List, [], ◌∷◌, ◌++◌, All, length, filter_map, refl, sym, ap, subst, arith, append_assoc}
+use Rattle.std.specs.List.{list_all}
+use Rattle.std.proofs.lemmas.Bool.{ne_eqb}
 use Rattle.std.proofs.lemmas.List.{length-drop, length-append, drop_at}
 use Rattle.std.proofs.lemmas.List.Elements.{All-head, All-tail, filter_map-append}
+use Rattle.std.proofs.lemmas.List.Sums.{list_all-from_AllPass}
 use Rattle.maid_model.specs.Diagrams.{IsDiagram}
 use Rattle.maid_model.specs.Names.{NamesView, NamesFit}
-use Rattle.maid_model.specs.Reports.{line}
+use Rattle.maid_model.specs.Reports.{IsOneLine, line}
 use Rattle.maid_model.specs.Views.{DiagramView}
 use Rattle.net_build.specs.Form.{HasTextForm}
 use Rattle.net_build.specs.Plain.{IsPlain}
+use Rattle.net_lexer.specs.Bytes.{is_line_byte}
 use Rattle.net_lexer.specs.Pieces.{begins, Lead, token_of, IsTokens}
 use Rattle.net_lexer.specs.declared.pieces.Piece.{Piece}
 use Rattle.net_lexer.specs.declared.pieces.PieceKind.TheVariants.{Blank, Comment}
 use Rattle.net_parser.specs.Lexemes.{lexemes}
 use Rattle.net_print.specs.Printed.{printed}
-use Rattle.net_print.specs.RoundTrip.{IsOneLine, comment_lines}
+use Rattle.net_print.specs.RoundTrip.{comment_lines}
 use Rattle.net_print.proofs.Written.{Written, Stands, At, at_next, at_end, piece, piece_at, pieces_at, leads, lead-append, among, text_onto, tokens_at, end_at, lexemes_at, lexemes_are}
 
 -- a diagram and names that a text can stand for, and comments to stand before it
@@ -46,6 +50,10 @@ no_tokens : (from : ℕ) (comments : List (List ℕ)) → filter_map token_of (c
 no_tokens from [] = refl
 no_tokens from (words ∷ comments) = no_tokens (end_of_words from words + 1) comments
 
+-- the bytes of one line, as the lexer tests them
+line_bytes : (words : List ℕ) → IsOneLine words → list_all is_line_byte words ≡ true
+line_bytes words is = list_all-from_AllPass is_line_byte words (λ k d h. rw (ne_eqb _ 10 (is k d h)) refl)
+
 -- they lead over the comments
 comments_lead : (text : List ℕ) (from : ℕ) (comments : List (List ℕ)) (rest : List ℕ) → At text from (comment_lines comments ++ rest) → All IsOneLine comments → Lead text from (comment_pieces from comments) (from + length (comment_lines comments))
 comments_lead text from [] rest at are = none from where
@@ -60,7 +68,7 @@ comments_lead text from (words ∷ comments) rest at are =
     (more from (length words) (length (line (37 ∷ words))) (length (comment_lines comments)) (length (comment_lines (words ∷ comments))) (length-append (37 ∷ words) (10 ∷ [])) (length-append (line (37 ∷ words)) (comment_lines comments)))
     (comments_lead text (end_of_words from words + 1) comments rest after (All-tail IsOneLine words comments are)) in (
       refl,
-      piece_at text from Comment (37 ∷ words) (10 ∷ later) here (All-head IsOneLine words comments are) (omega arith) refl,
+      piece_at text from Comment (37 ∷ words) (10 ∷ later) here (line_bytes words (All-head IsOneLine words comments are)) (omega arith) refl,
       (refl, piece_at text (end_of_words from words) Blank (10 ∷ []) later behind refl (omega arith) (ends later), lines),
     )
   where

@@ -10,7 +10,7 @@ use Rattle.maid_model.specs.Nodes.{node_at, no_node, states_of, rows_of, rows_un
 use Rattle.maid_model.specs.Views.{NodeView, DiagramView}
 use Rattle.net_build.specs.Blocks as look
 use Rattle.net_build.specs.declared.nodes.Head.{Head}
-use Rattle.net_build.specs.Stages.{cells_at, head_at, head_of, head_rows, heads_of, no_head}
+use Rattle.net_build.specs.Stages.{cells_of_head, head_at, head_of, head_rows, heads_of, no_head}
 use Rattle.net_build.specs.Table.{no_block}
 use Rattle.net_parser.specs.Trees.{BlockTree}
 use Rattle.net_print.proofs.Agents.{states_told}
@@ -51,7 +51,7 @@ module _ (d : DiagramView) (names : NamesView) (is : IsPrintableBehind d names) 
   pub rows_told : head_rows Heads (look.parent_lists Text Blocks) ≡ rows_of d.nodes
   rows_told = fun_ext (λ v i. rows_under (λ u. head_states u i) (listed_parents v i))
 
-  pub head_cells : cells_at Heads (look.parent_lists Text Blocks) ≡ (λ v. rows_of d.nodes v * states_of d.nodes v)
+  pub head_cells : cells_of_head Heads (look.parent_lists Text Blocks) ≡ (λ v. rows_of d.nodes v * states_of d.nodes v)
   head_cells = λ i v. rows_told i v * head_states v i
 
   pub listed_potential : (v : ℕ) (l : v < length d.nodes) → get_or (look.potential_list Text Blocks) v None ≡ Some (potential_tree d names (potential_found d names is v l).0 v)

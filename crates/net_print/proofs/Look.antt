@@ -12,6 +12,7 @@ use Rattle.maid_model.specs.Nodes.{node_at, numbers_of, no_node}
 use Rattle.maid_model.specs.Reports.{quoted}
 use Rattle.maid_model.specs.Views.{NodeView, DiagramView}
 use Rattle.net_build.specs.Blocks as look
+use Rattle.net_parser.specs.Grammar.{is_potential}
 use Rattle.net_lexer.specs.Token.{text_value}
 use Rattle.net_lexer.specs.declared.tokens.Token.{Token}
 use Rattle.net_lexer.specs.declared.tokens.TokenKind.TheVariants.{Word, Text}
@@ -33,7 +34,7 @@ is_node_kind Chance = refl
 is_node_kind Decision = refl
 is_node_kind Utility = refl
 
-no_potential_kind : (kind : Kind) → look.is_potential (block_kind kind) ≡ false
+no_potential_kind : (kind : Kind) → is_potential (block_kind kind) ≡ false
 no_potential_kind Chance = refl
 no_potential_kind Decision = refl
 no_potential_kind Utility = refl
@@ -175,7 +176,7 @@ module _ (text : List ℕ) where
 
   -- the owners of a node's attributes
   owner_names_told : (from : ℕ) (kind : Kind) (labels owners : List (List ℕ)) (rest : List ℕ) → At text from (text_onto (attribute_words kind labels owners) rest) → kind ≢ Chance → (kind ≢ Utility → length owners ≡ 1) → 0 < length owners
-      → (block : BlockTree) → block.kind ≡ block_kind kind → block.attributes ≡ attribute_trees from kind labels owners → look.owner_names text block ≡ owners
+      → (block : BlockTree) → block.kind ≡ block_kind kind → block.attributes ≡ attribute_trees from kind labels owners → look.owner_texts text block ≡ owners
   owner_names_told from kind labels owners rest at owned one some block is attributes =
       let tree = owner_tree (owner_start from kind labels) owners in
       let told = owner_leaves (owner_start from kind labels) owners rest (at_owners from kind labels owners rest owned at) in
@@ -205,7 +206,7 @@ module _ (text : List ℕ) where
   node_labels_told nodes names v from rest at none =
       labels_told (end_at from (open_words (kind_word (node_at nodes v).kind) (name_of names v))) (node_at nodes v).kind (labels_of names v) (owner_names nodes names v) (text_onto (brace_close ∷ []) rest) (at_attributes nodes names v from rest at) none (node_tree nodes names from v) refl refl
 
-  pub node_owners_told : (nodes : List NodeView) (names : NamesView) (v from : ℕ) (rest : List ℕ) → At text from (text_onto (node_words nodes names v) rest) → (node_at nodes v).kind ≢ Chance → ((node_at nodes v).kind ≢ Utility → (node_at nodes v).more ≡ []) → look.owner_names text (node_tree nodes names from v) ≡ owner_names nodes names v
+  pub node_owners_told : (nodes : List NodeView) (names : NamesView) (v from : ℕ) (rest : List ℕ) → At text from (text_onto (node_words nodes names v) rest) → (node_at nodes v).kind ≢ Chance → ((node_at nodes v).kind ≢ Utility → (node_at nodes v).more ≡ []) → look.owner_texts text (node_tree nodes names from v) ≡ owner_names nodes names v
   node_owners_told nodes names v from rest at owned one =
       owner_names_told (end_at from (open_words (kind_word (node_at nodes v).kind) (name_of names v))) (node_at nodes v).kind (labels_of names v) (owner_names nodes names v) (text_onto (brace_close ∷ []) rest) (at_attributes nodes names v from rest at) owned
       (λ u. ap (λ more. length (map (agent_name names) ((node_at nodes v).owner ∷ more))) (one u)) (omega arith) (node_tree nodes names from v) refl refl
@@ -218,18 +219,18 @@ nodes_kept nodes names lines from (v ∷ vs) =
     ap (λ t. cond t (node_tree nodes names from v ∷ filter (λ b. look.is_node b.kind) rest) (filter (λ b. look.is_node b.kind) rest)) (is_node_kind (node_at nodes v).kind)
     ∙ ap (λ bs. node_tree nodes names from v ∷ bs) (nodes_kept nodes names lines (end_at from (lines v)) vs)
 
-nodes_dropped : (nodes : List NodeView) (names : NamesView) (lines : ℕ → List Written) (from : ℕ) (vs : List ℕ) → filter (λ b. look.is_potential b.kind) (trees_at (node_tree nodes names) lines from vs) ≡ []
+nodes_dropped : (nodes : List NodeView) (names : NamesView) (lines : ℕ → List Written) (from : ℕ) (vs : List ℕ) → filter (λ b. is_potential b.kind) (trees_at (node_tree nodes names) lines from vs) ≡ []
 nodes_dropped nodes names lines from [] = refl
 nodes_dropped nodes names lines from (v ∷ vs) =
     let rest = trees_at (node_tree nodes names) lines (end_at from (lines v)) vs in
-    ap (λ t. cond t (node_tree nodes names from v ∷ filter (λ b. look.is_potential b.kind) rest) (filter (λ b. look.is_potential b.kind) rest)) (no_potential_kind (node_at nodes v).kind)
+    ap (λ t. cond t (node_tree nodes names from v ∷ filter (λ b. is_potential b.kind) rest) (filter (λ b. is_potential b.kind) rest)) (no_potential_kind (node_at nodes v).kind)
     ∙ nodes_dropped nodes names lines (end_at from (lines v)) vs
 
 potentials_dropped : (d : DiagramView) (names : NamesView) (lines : ℕ → List Written) (from : ℕ) (vs : List ℕ) → filter (λ b. look.is_node b.kind) (trees_at (potential_tree d names) lines from vs) ≡ []
 potentials_dropped d names lines from [] = refl
 potentials_dropped d names lines from (v ∷ vs) = potentials_dropped d names lines (end_at from (lines v)) vs
 
-potentials_kept : (d : DiagramView) (names : NamesView) (lines : ℕ → List Written) (from : ℕ) (vs : List ℕ) → filter (λ b. look.is_potential b.kind) (trees_at (potential_tree d names) lines from vs) ≡ trees_at (potential_tree d names) lines from vs
+potentials_kept : (d : DiagramView) (names : NamesView) (lines : ℕ → List Written) (from : ℕ) (vs : List ℕ) → filter (λ b. is_potential b.kind) (trees_at (potential_tree d names) lines from vs) ≡ trees_at (potential_tree d names) lines from vs
 potentials_kept d names lines from [] = refl
 potentials_kept d names lines from (v ∷ vs) = ap (λ bs. potential_tree d names from v ∷ bs) (potentials_kept d names lines (end_at from (lines v)) vs)
 
@@ -255,8 +256,8 @@ module _ (d : DiagramView) (names : NamesView) (is : IsPrintableBehind d names) 
 
   pub potentials_are : look.potentials (tree_of d names is) ≡ potential_trees
   potentials_are =
-      filter-append (λ b. look.is_potential b.kind) node_trees potential_trees
-      ∙ ap (λ bs. bs ++ filter (λ b. look.is_potential b.kind) potential_trees) (nodes_dropped d.nodes names (node_words d.nodes names) (place_of d names is) (numbers_of d.nodes))
+      filter-append (λ b. is_potential b.kind) node_trees potential_trees
+      ∙ ap (λ bs. bs ++ filter (λ b. is_potential b.kind) potential_trees) (nodes_dropped d.nodes names (node_words d.nodes names) (place_of d names is) (numbers_of d.nodes))
       ∙ potentials_kept d names (potential_words d names) (end_at (place_of d names is) node_lines) (numbers_of d.nodes)
 
   pub at_nodes : At (text_of d names is) (place_of d names is) (text_onto node_lines (text_onto potential_lines []))

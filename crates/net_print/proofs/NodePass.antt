@@ -84,22 +84,22 @@ module _ (d : DiagramView) (names : NamesView) (is : IsPrintableBehind d names) 
       full (length (look.names_of Text front)) (length front) (length back) (length d.nodes) (length-map front (look.block_name Text)) (sym whole ∙ ap length (sym e) ∙ length-append front (b ∷ back)) is.diagram.limits.nodes
 
   -- no owner of the nodes is one too many
-  agents_few : (front : List BlockTree) (b : BlockTree) (back : List BlockTree) → front ++ (b ∷ back) ≡ Nodes → look.has_agent b.kind ≡ true → each_after (sight_row (look.agents_of Text front) (look.title_at b)) [] (look.owner_names Text b) None
-  agents_few front b back e owned = after_clear (sight_row (look.agents_of Text front) (look.title_at b)) [] (look.owner_names Text b) one where
+  agents_few : (front : List BlockTree) (b : BlockTree) (back : List BlockTree) → front ++ (b ∷ back) ≡ Nodes → look.has_agent b.kind ≡ true → each_after (sight_row (look.agents_of Text front) (look.title_at b)) [] (look.owner_texts Text b) None
+  agents_few front b back e owned = after_clear (sight_row (look.agents_of Text front) (look.title_at b)) [] (look.owner_texts Text b) one where
     kept : List BlockTree → List BlockTree
     kept bs = filter (λ c. look.has_agent c.kind) bs
 
     agents : List BlockTree → List (List ℕ)
-    agents bs = flat_map (look.owner_names Text) (kept bs)
+    agents bs = flat_map (look.owner_texts Text) (kept bs)
 
-    parts : agents (front ++ (b ∷ back)) ≡ agents front ++ (look.owner_names Text b ++ agents back)
+    parts : agents (front ++ (b ∷ back)) ≡ agents front ++ (look.owner_texts Text b ++ agents back)
     parts =
-        ap (flat_map (look.owner_names Text)) (filter-append (λ c. look.has_agent c.kind) front (b ∷ back))
-        ∙ flat_map-append (look.owner_names Text) (kept front) (kept (b ∷ back))
-        ∙ ap (λ t. agents front ++ flat_map (look.owner_names Text) (cond t (b ∷ kept back) (kept back))) owned
-        ∙ ap (λ rest. agents front ++ rest) (flat_map-cons (look.owner_names Text) b (kept back))
+        ap (flat_map (look.owner_texts Text)) (filter-append (λ c. look.has_agent c.kind) front (b ∷ back))
+        ∙ flat_map-append (look.owner_texts Text) (kept front) (kept (b ∷ back))
+        ∙ ap (λ t. agents front ++ flat_map (look.owner_texts Text) (cond t (b ∷ kept back) (kept back))) owned
+        ∙ ap (λ rest. agents front ++ rest) (flat_map-cons (look.owner_texts Text) b (kept back))
 
-    one : (before : List (List ℕ)) (agent : List ℕ) (after : List (List ℕ)) → before ++ (agent ∷ after) ≡ look.owner_names Text b → IsAgentTooMany (look.with_sights (look.agents_of Text front) before) agent → ⊥
+    one : (before : List (List ℕ)) (agent : List ℕ) (after : List (List ℕ)) → before ++ (agent ∷ after) ≡ look.owner_texts Text b → IsAgentTooMany (look.with_sights (look.agents_of Text front) before) agent → ⊥
     one before agent after split (many, new) =
         let seen : look.first_sights (agents front ++ before) ≡ look.with_sights (look.agents_of Text front) before = first_sights_all (agents front) before in
         let whole : (agents front ++ before) ++ (agent ∷ (after ++ agents back)) ≡ agents (front ++ (b ∷ back)) =

@@ -1,12 +1,13 @@
 -- The printed text of a diagram stands for that diagram and its names.
 use Rattle.std.proofs.Common.{◌≡◌, ◌∙◌, ℕ, List, [], length, None, sym, ap}
 use Rattle.std.proofs.lemmas.List.Elements.{All-nil}
+use Rattle.maid_model.specs.Reports.{IsOneLine}
 use Rattle.maid_model.specs.Names.{NamesView}
 use Rattle.maid_model.specs.Views.{DiagramView}
 use Rattle.net_build.specs.Blocks.{node_blocks, names_of, agents_of}
 use Rattle.net_build.specs.Building.{StandsFor}
 use Rattle.net_build.specs.Table.{all_passes}
-use Rattle.net_print.specs.RoundTrip.{IsOneLine, RoundTrip, CommentedRoundTrip}
+use Rattle.net_print.specs.RoundTrip.{RoundTrip, CommentedRoundTrip}
 use Rattle.net_print.proofs.Comments.{IsPrintableBehind, text_of, place_of}
 use Rattle.net_print.proofs.Agents.{agents_told, owners_told, states_told}
 use Rattle.net_print.proofs.Faultless.{graph_clear, missing_clear}

@@ -12,7 +12,7 @@ use Rattle.maid_model.specs.Views.{DiagramView}
 use Rattle.net_build.specs.Blocks as look
 use Rattle.net_build.specs.declared.nodes.Head.{Head}
 use Rattle.net_build.specs.Linking.{rules_before, rules_row, size_steps_at}
-use Rattle.net_build.specs.Stages.{cells_at, head_at, head_of, heads_of}
+use Rattle.net_build.specs.Stages.{cells_of_head, head_at, head_of, heads_of}
 use Rattle.net_build.specs.Table.{size_pass}
 use Rattle.net_parser.specs.Trees.{BlockTree}
 use Rattle.net_print.proofs.ClearPasses.{only_clear}
@@ -76,10 +76,10 @@ module _ (d : DiagramView) (names : NamesView) (is : IsPrintableBehind d names) 
   rules_are : (n : ℕ) → rules_before Heads Lists n ≡ front cells (λ v. is_decision (node_at d.nodes v).kind) n
   rules_are n = λ i. front (head_cells d names is i) (λ v. is_decision (head_kinds d names is v i)) n
 
-  few_rules : (v : ℕ) → v < length d.nodes → is_decision (head_at Heads v).kind ≡ true → rules_before Heads Lists v + cells_at Heads Lists v ≤ 262144
+  few_rules : (v : ℕ) → v < length d.nodes → is_decision (head_at Heads v).kind ≡ true → rules_before Heads Lists v + cells_of_head Heads Lists v ≤ 262144
   few_rules v l decides =
       let with_it = front_with cells (λ u. is_decision (node_at d.nodes u).kind) v (length d.nodes) (sym (ap is_decision (head_kinds d names is v)) ∙ decides) l in
-      let here : rules_before Heads Lists v + cells_at Heads Lists v ≡ front cells (λ u. is_decision (node_at d.nodes u).kind) v + cells v = λ i. rules_are v i + head_cells d names is i v in
+      let here : rules_before Heads Lists v + cells_of_head Heads Lists v ≡ front cells (λ u. is_decision (node_at d.nodes u).kind) v + cells v = λ i. rules_are v i + head_cells d names is i v in
       let all = sum_is cells (decisions_of d.nodes) in
       let most = is.diagram.limits.rules in
       omega arith
@@ -87,8 +87,8 @@ module _ (d : DiagramView) (names : NamesView) (is : IsPrintableBehind d names) 
   row_clear : (v : ℕ) → v < length Heads → size_steps_at Heads Lists v None
   row_clear v h =
       let l : v < length d.nodes = omega (arith, h, count) in (
-        no_more (cells_at Heads Lists v) 65536 (subst (λ f. f v ≤ 65536) (sym (head_cells d names is)) (is.diagram.limits.cells v l)),
-        only_clear (is_decision (head_at Heads v).kind) (rules_row (head_at Heads v) (rules_before Heads Lists v + cells_at Heads Lists v)) (λ decides. no_more (rules_before Heads Lists v + cells_at Heads Lists v) 262144 (few_rules v l decides)),
+        no_more (cells_of_head Heads Lists v) 65536 (subst (λ f. f v ≤ 65536) (sym (head_cells d names is)) (is.diagram.limits.cells v l)),
+        only_clear (is_decision (head_at Heads v).kind) (rules_row (head_at Heads v) (rules_before Heads Lists v + cells_of_head Heads Lists v)) (λ decides. no_more (rules_before Heads Lists v + cells_of_head Heads Lists v) 262144 (few_rules v l decides)),
       )
 
   pub sizes_clear : size_pass (text_of d names is) Blocks None

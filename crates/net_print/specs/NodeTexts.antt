@@ -5,7 +5,7 @@ use Rattle.maid_model.specs.Nodes.{parents_of}
 use Rattle.maid_model.specs.Views.{NodeView}
 use Rattle.net_build.specs.Plain.{reduced_row}
 use Rattle.net_print.specs.Parts.{parted_behind}
-use Rattle.net_print.specs.Printed.{given_text, head_text, owner_names, owners_text, parted, reduced_rows_of}
+use Rattle.net_print.specs.Printed.{parents_text, head_text, owner_names, owners_text, parted, reduced_rows_of}
 
 -- the owners of the node v
 abbrev pub owners_text_of : List NodeView → NamesView → ℕ → List ℕ
@@ -13,7 +13,7 @@ owners_text_of nodes names v = owners_text (owner_names nodes names v)
 
 -- the names of its parents behind a bar
 abbrev pub given_text_of : List NodeView → NamesView → ℕ → List ℕ
-given_text_of nodes names v = given_text names (parents_of nodes v)
+given_text_of nodes names v = parents_text names (parents_of nodes v)
 
 -- its potential's head
 abbrev pub head_text_of : List NodeView → NamesView → ℕ → List ℕ

@@ -67,9 +67,9 @@ abbrev pub nodes_text : List NodeView → NamesView → List ℕ
 nodes_text nodes names = flat_map (node_line nodes names) (numbers_of nodes)
 
 -- the names of the parents behind a bar; without parents there is no bar
-abbrev pub given_text : NamesView → List ℕ → List ℕ
-given_text names [] = []
-given_text names (u ∷ us) = codes " | " ++ parted (name_of names) (u ∷ us)
+abbrev pub parents_text : NamesView → List ℕ → List ℕ
+parents_text names [] = []
+parents_text names (u ∷ us) = codes " | " ++ parted (name_of names) (u ∷ us)
 
 -- the digits of a number with noughts before them, so many in all
 abbrev pub padded : ℕ → ℕ → List ℕ
@@ -122,7 +122,7 @@ table_text_of d v = table_text (node_at d.nodes v).kind d.decimals (states_of d.
 -- a potential's head
 abbrev pub head_text : NamesView → ℕ → List ℕ → List ℕ
 head_text names v parents =
-    codes "potential (" ++ name_of names v ++ given_text names parents ++ codes ")"
+    codes "potential (" ++ name_of names v ++ parents_text names parents ++ codes ")"
 
 -- a node's potential
 abbrev pub potential_line : DiagramView → NamesView → ℕ → List ℕ

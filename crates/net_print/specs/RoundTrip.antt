@@ -1,11 +1,10 @@
 -- The round trip: the printed text of a diagram stands for that diagram and its names.
-use Rattle.std.specs.Prelude.{◌≡◌, ℕ, true, List, ◌∷◌, ◌++◌, All, None}
-use Rattle.std.specs.List.{flat_map, list_all}
+use Rattle.std.specs.Prelude.{ℕ, List, ◌∷◌, ◌++◌, All, None}
+use Rattle.std.specs.List.{flat_map}
 use Rattle.maid_model.specs.Diagrams.{IsDiagram}
 use Rattle.maid_model.specs.Names.{NamesView, NamesFit}
-use Rattle.maid_model.specs.Reports.{line}
+use Rattle.maid_model.specs.Reports.{IsOneLine, line}
 use Rattle.maid_model.specs.Views.{DiagramView}
-use Rattle.net_lexer.specs.Bytes.{is_line_byte}
 use Rattle.net_lexer.specs.Pieces.{IsTokens}
 use Rattle.net_lexer.specs.declared.tokens.Token.{Token}
 use Rattle.net_parser.specs.Grammar.{Spells}
@@ -36,10 +35,6 @@ ReadsBack d names = ReadsAs (printed d names) d names
 -- The round trip.
 abbrev pub RoundTrip : Type 0
 RoundTrip = (d : DiagramView) (names : NamesView) → IsPrintable d names → ReadsBack d names
-
--- no byte ends a line
-abbrev pub IsOneLine : List ℕ → Type 0
-IsOneLine words = list_all is_line_byte words ≡ true
 
 -- a line for each comment: a percent sign and its words
 abbrev pub comment_lines : List (List ℕ) → List ℕ

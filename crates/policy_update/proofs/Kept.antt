@@ -8,8 +8,8 @@ use Rattle.maid_model.specs.Views.{NodeView, RuleView, AnswerView}
 use Rattle.size_precheck.specs.declared.decisions.DecisionPlans.{DecisionPlans}
 use Rattle.size_precheck.specs.Sizes.{ArePlansOf}
 use Rattle.rule_solver.specs.declared.spaces.Workspaces.{Workspaces}
-use Rattle.rule_solver.specs.Rooms.{HasRoomAt}
-use Rattle.policy_update.specs.Steps.{AreKept, IsPlan}
+use Rattle.rule_solver.specs.Rooms.{HasRoomForDecision}
+use Rattle.policy_update.specs.Steps.{AreKept, IsProfileOf}
 use Rattle.policy_update.proofs.Plans.{decided_get, place_decides}
 
 -- what holds of each pair holds at each place
@@ -20,7 +20,7 @@ pair_at R (x ∷ xs) [] k d e z h = absurd z
 pair_at R (x ∷ xs) (y ∷ ys) zero d e z h = z.0
 pair_at R (x ∷ xs) (y ∷ ys) (suc k) d e z h = pair_at R xs ys k d e z.1 (omega arith)
 
-module _ (nodes : List NodeView) (answers : List AnswerView) (p : List RuleView) (plans : List DecisionPlans) (spaces : Workspaces) (h : IsPlan nodes answers p) (kept : AreKept nodes plans spaces) where
+module _ (nodes : List NodeView) (answers : List AnswerView) (p : List RuleView) (plans : List DecisionPlans) (spaces : Workspaces) (h : IsProfileOf nodes answers p) (kept : AreKept nodes plans spaces) where
   abbrev Planned : ℕ → DecisionPlans → Type 0
   Planned d own = ArePlansOf nodes d own.rows own.goals.items
 
@@ -33,5 +33,5 @@ module _ (nodes : List NodeView) (answers : List AnswerView) (p : List RuleView)
     plans_at own = subst (λ d. Planned d (get_or plans i own)) (ap (λ ds. get_or ds i 0) (sym h.choices.follow) ∙ decided_get answers i e within)
         (pair_at Planned (decisions_of nodes) plans i 0 own kept.planned (subst (λ n. i < n) (sym plans_long) within))
 
-    pub room_at : HasRoomAt nodes (get_or answers i e).decision kept.cells
+    pub room_at : HasRoomForDecision nodes (get_or answers i e).decision kept.cells
     room_at = kept.room.decisions (get_or answers i e).decision (place_decides nodes answers h.choices i e within)

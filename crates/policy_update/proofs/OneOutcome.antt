@@ -23,7 +23,7 @@ use Rattle.size_precheck.specs.Laws.{OneSize}
 use Rattle.size_precheck.specs.Sizes.{run_plans}
 use Rattle.weight_scale.specs.declared.weight_bound.BoundPlace.TheVariants.{Within, Node, Utilities}
 use Rattle.weight_scale.specs.Laws.{OneBoundPlace}
-use Rattle.policy_update.specs.Faults.{AllRaise, HasTwoOwners, NotOneAgent, RoundsSpent, TooLarge, WeightBound, bound_pass, owners_pass, rounds_pass, size_pass}
+use Rattle.policy_update.specs.Faults.{AllRaise, HasTwoOwners, NotOneAgent, RoundsSpent, TooLarge, WeightBound, update_bound_pass, owners_pass, rounds_pass, update_size_pass}
 use Rattle.policy_update.specs.Laws.{OneRefusal, OneUpdate}
 use Rattle.policy_update.specs.Updated.{AreChoices}
 use Rattle.policy_update.proofs.Owners.{decision_at, some_owner}
@@ -31,17 +31,17 @@ use Rattle.policy_update.proofs.Plans.{rows_own, apart, decided_get, same_choice
 use Rattle.policy_update.proofs.Rising.{some_decision}
 
 -- ---- one fault
-bound_one : (d : DiagramView) → OneBoundPlace → IsOne (bound_pass d)
+bound_one : (d : DiagramView) → OneBoundPlace → IsOne (update_bound_pass d)
 bound_one d law = record { exclusive = apart; one = same }
   where
-    apart : IsExclusive (bound_pass d)
+    apart : IsExclusive (update_bound_pass d)
     apart NotOneAgent none some = some
     apart (WeightBound (Some v)) none some = let e : Within ≡ Node v = law d Within (Node v) none some in cc
     apart (WeightBound None) none some = let e : Within ≡ Utilities = law d Within Utilities none some in cc
     apart (TooLarge cells work) none some = some
     apart (RoundsSpent n gain) none some = some
 
-    same : HasOneFault (bound_pass d)
+    same : HasOneFault (update_bound_pass d)
     same NotOneAgent g h k = absurd h
     same (TooLarge cells work) g h k = absurd h
     same (RoundsSpent n gain) g h k = absurd h
@@ -53,16 +53,16 @@ bound_one d law = record { exclusive = apart; one = same }
     same (WeightBound None) (WeightBound (Some u)) h k = let e : Utilities ≡ Node u = law d Utilities (Node u) h k in cc
     same (WeightBound None) (WeightBound None) h k = refl
 
-size_one : (d : DiagramView) → OneSize → IsOne (size_pass d)
+size_one : (d : DiagramView) → OneSize → IsOne (update_size_pass d)
 size_one d law = record { exclusive = apart; one = same }
   where
-    apart : IsExclusive (size_pass d)
+    apart : IsExclusive (update_size_pass d)
     apart NotOneAgent none some = some
     apart (WeightBound v) none some = some
     apart (TooLarge cells work) none some = some.1 (none (record { cells = cells; work = work }) some.0)
     apart (RoundsSpent n gain) none some = some
 
-    same : HasOneFault (size_pass d)
+    same : HasOneFault (update_size_pass d)
     same NotOneAgent g h k = absurd h
     same (WeightBound v) g h k = absurd h
     same (RoundsSpent n gain) g h k = absurd h
@@ -107,7 +107,7 @@ rounds_one d rounds is some = record { exclusive = apart; one = same }
 
 pub one_refusal : OneBoundPlace → OneSize → OneRefusal
 one_refusal places sizes d rounds is some =
-    let one : IsOne (owners_pass d ▸ bound_pass d ▸ size_pass d ▸ rounds_pass d rounds) = then_one (rule_one (HasTwoOwners d.nodes) NotOneAgent) (then_one (bound_one d places) (then_one (size_one d sizes) (rounds_one d rounds is some))) in
+    let one : IsOne (owners_pass d ▸ update_bound_pass d ▸ update_size_pass d ▸ rounds_pass d rounds) = then_one (rule_one (HasTwoOwners d.nodes) NotOneAgent) (then_one (bound_one d places) (then_one (size_one d sizes) (rounds_one d rounds is some))) in
     (one.exclusive, one.one)
 
 -- ---- one result

@@ -21,7 +21,7 @@ use Rattle.maid_laws.proofs.SameProfile.{decided, decisions_apart, same_profile}
 use Rattle.reach_laws.specs.Equilibria.{ChoicesOfAnswers}
 use Rattle.reach_laws.specs.Updates.{IsImproved, IsStep, start_profile}
 use Rattle.reach_laws.proofs.Listed.{below_of, same_choices}
-use Rattle.policy_update.specs.Steps.{AreImproved, AreSameChoices, IsPlan, first_choices, gains_in}
+use Rattle.policy_update.specs.Steps.{AreImproved, AreSameChoices, IsProfileOf, first_choices, gains_in}
 use Rattle.policy_update.specs.Updated.{AreChoices, TellsNoWorth}
 
 -- ---- the rows found at a decision
@@ -125,11 +125,11 @@ pub weights_there : (nodes : List NodeView) (answers : List AnswerView) (v : ℕ
 weights_there nodes answers v k = weights_map (rule_at nodes answers) (λ u. refl) (decisions_of nodes) v (among_decisions nodes v k)
 
 module _ (nodes : List NodeView) (law : ChoicesOfAnswers) where
-  pub plan_pure : (answers : List AnswerView) (p : List RuleView) → IsPlan nodes answers p → IsPure nodes p
+  pub plan_pure : (answers : List AnswerView) (p : List RuleView) → IsProfileOf nodes answers p → IsPure nodes p
   plan_pure answers p h = subst (IsPure nodes) (sym h.rules) (law nodes answers (choices_fit nodes answers h.choices)).0
 
   -- choices that differ make profiles that differ
-  pub same_choices_at : (answers others : List AnswerView) (p q : List RuleView) → IsPlan nodes answers p → IsPlan nodes others q → (d : ℕ) → IsDecision nodes d → p ≡ q → rows_at answers d ≡ rows_at others d
+  pub same_choices_at : (answers others : List AnswerView) (p q : List RuleView) → IsProfileOf nodes answers p → IsProfileOf nodes others q → (d : ℕ) → IsDecision nodes d → p ≡ q → rows_at answers d ≡ rows_at others d
   same_choices_at answers others p q h j d k e =
       let fits = choices_fit nodes answers h.choices d k in
       let more = choices_fit nodes others j.choices d k in
@@ -140,8 +140,8 @@ module _ (nodes : List NodeView) (law : ChoicesOfAnswers) where
       (sym (weights_there nodes answers d k) ∙ ap (λ r. weights_of r d) (sym h.rules ∙ e ∙ j.rules) ∙ weights_there nodes others d k))
 
   -- the plan with another rule at one decision
-  pub put_plan : (answers : List AnswerView) (p q : List RuleView) → IsPlan nodes answers p → (i : ℕ) (a : AnswerView) → i < length answers → a.decision ≡ (get_or answers i a).decision → FitsAnswer nodes a → TellsNoWorth a
-      → IsProfile nodes q → Replaces p q (pure_rule nodes a.decision (map (λ (r : Row). r.choice) a.rows)) → IsPlan nodes (set answers i a) q
+  pub put_plan : (answers : List AnswerView) (p q : List RuleView) → IsProfileOf nodes answers p → (i : ℕ) (a : AnswerView) → i < length answers → a.decision ≡ (get_or answers i a).decision → FitsAnswer nodes a → TellsNoWorth a
+      → IsProfile nodes q → Replaces p q (pure_rule nodes a.decision (map (λ (r : Row). r.choice) a.rows)) → IsProfileOf nodes (set answers i a) q
   put_plan answers p q h i a l e fits none is put = record {
     choices = new;
     rules = same_profile nodes q (pure_profile nodes (set answers i a)) is (law nodes (set answers i a) (choices_fit nodes (set answers i a) new)).0.profile (λ v k. go v k (ℕ_discrete v a.decision));
@@ -167,7 +167,7 @@ module _ (nodes : List NodeView) (law : ChoicesOfAnswers) where
           )
 
   -- rows that are improved at one decision make a step
-  pub step_of : (answers others : List AnswerView) (p q : List RuleView) → IsPlan nodes answers p → IsPlan nodes others q → (d : ℕ) → IsDecision nodes d → ((v : ℕ) → IsDecision nodes v → v ≢ d → SameRule q p v)
+  pub step_of : (answers others : List AnswerView) (p q : List RuleView) → IsProfileOf nodes answers p → IsProfileOf nodes others q → (d : ℕ) → IsDecision nodes d → ((v : ℕ) → IsDecision nodes v → v ≢ d → SameRule q p v)
       → ((row : ℕ) → row < rows_of nodes d → IsImproved (λ s. gain_at nodes p d s row) (states_of nodes d) (slice_index_or (rows_at answers d) row no_row).choice (slice_index_or (rows_at others d) row no_row).choice)
       → IsStep nodes p d q
   step_of answers others p q h j d k same rows = record {
@@ -192,12 +192,12 @@ decided_get (a ∷ answers) (suc i) e l = decided_get answers i e (omega arith)
 
 -- these rows improve those of the answer at the place
 pub record IsImprovement (nodes : List NodeView) (answers : List AnswerView) (p : List RuleView) (i : ℕ) (a : AnswerView) (after : List Row) : Type 0 where
-  pub plan : IsPlan nodes answers p
+  pub plan : IsProfileOf nodes answers p
   pub within : i < length answers
   pub here : a ≡ get_or answers i a
   pub improved : AreImproved (gains_in nodes p a.decision) (states_of nodes a.decision) a.rows after
 
-pub improvement_is : (nodes : List NodeView) (answers : List AnswerView) (p : List RuleView) (i : ℕ) (a e : AnswerView) (after : List Row) → IsPlan nodes answers p → i < length answers → a ≡ get_or answers i e
+pub improvement_is : (nodes : List NodeView) (answers : List AnswerView) (p : List RuleView) (i : ℕ) (a e : AnswerView) (after : List Row) → IsProfileOf nodes answers p → i < length answers → a ≡ get_or answers i e
     → AreImproved (gains_in nodes p (get_or answers i e).decision) (states_of nodes (get_or answers i e).decision) (get_or answers i e).rows after → IsImprovement nodes answers p i a after
 improvement_is nodes answers p i a e after plan l is improved = record {
   plan = plan;
@@ -245,7 +245,7 @@ module _ (nodes : List NodeView) (law : ChoicesOfAnswers) (answers : List Answer
   rows_same same = same_listed after a.rows h.improved.count h.improved.worthless (subst (λ (x : AnswerView). TellsNoWorth x) (sym h.here) (h.plan.choices.worthless i a h.within)) same
 
   -- rows of the decision in two plans that stand for those before and after
-  step_between : (others : List AnswerView) (q : List RuleView) → IsPlan nodes others q → ((v : ℕ) → IsDecision nodes v → v ≢ a.decision → SameRule q p v) → rows_at others a.decision ≡ after → IsStep nodes p (get_or (decisions_of nodes) i 0) q
+  step_between : (others : List AnswerView) (q : List RuleView) → IsProfileOf nodes others q → ((v : ℕ) → IsDecision nodes v → v ≢ a.decision → SameRule q p v) → rows_at others a.decision ≡ after → IsStep nodes p (get_or (decisions_of nodes) i 0) q
   step_between others q j same rows = subst (λ d. IsStep nodes p d q) decision_here
       (step_of nodes law answers others p q h.plan j a.decision fits_here.decision same
       (λ row m. subst (λ (xs : List Row). IsImproved (λ s. gain_at nodes p a.decision s row) (states_of nodes a.decision) (slice_index_or xs row no_row).choice (slice_index_or (rows_at others a.decision) row no_row).choice) (sym rows_here)
@@ -259,7 +259,7 @@ module _ (nodes : List NodeView) (law : ChoicesOfAnswers) (answers : List Answer
     same_decision : new.decision ≡ (get_or answers i new).decision
     same_decision = decision_here ∙ ap (λ ds. get_or ds i 0) (sym h.plan.choices.follow) ∙ decided_get answers i new h.within
 
-    pub plan_new : IsPlan nodes (set answers i new) q
+    pub plan_new : IsProfileOf nodes (set answers i new) q
     plan_new = put_plan nodes law answers p q h.plan i new h.within same_decision fits_new h.improved.worthless put.profile put.replaces
 
     rows_new : rows_at (set answers i new) a.decision ≡ after
@@ -315,5 +315,5 @@ module _ (nodes : List NodeView) (g : IsGraph nodes) where
       zeros zero = refl
       zeros (suc n) = ap (λ l. 0 ∷ l) (zeros n)
 
-  pub first_plan : (answers : List AnswerView) (p : List RuleView) → answers ≡ first_choices nodes → p ≡ pure_profile nodes answers → IsPlan nodes answers p
+  pub first_plan : (answers : List AnswerView) (p : List RuleView) → answers ≡ first_choices nodes → p ≡ pure_profile nodes answers → IsProfileOf nodes answers p
   first_plan answers p e f = record { choices = subst (AreChoices nodes) (sym e) first_are_choices; rules = f }

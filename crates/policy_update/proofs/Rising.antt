@@ -5,7 +5,7 @@ use Rattle.maid_model.specs.Gains.{gain_of}
 use Rattle.maid_model.specs.Nodes.{decisions_of}
 use Rattle.maid_model.specs.Views.{NodeView, RuleView}
 use Rattle.reach_laws.specs.Updates.{IsPass, IsReachedAfter, IsStep, Over, Raised, Start, Then}
-use Rattle.policy_update.specs.Steps.{Tells}
+use Rattle.policy_update.specs.Steps.{TellsChange}
 
 -- one step more
 pub pass_more : (nodes : List NodeView) {ds : List ℕ} {p q : List RuleView} (r : List RuleView) (d : ℕ) → IsPass nodes ds p q → IsStep nodes q d r → IsPass nodes (ds ++ d ∷ []) p r
@@ -19,7 +19,7 @@ Rises nodes agent false p q = p ≡ q
 
 -- a step stays, or its agent gains
 pub rises_more : (nodes : List NodeView) (agent : ℕ) (raised changed both : Bool) (p q r : List RuleView) → (raised ≡ true → both ≡ true) → (raised ≡ false → both ≡ changed)
-    → Rises nodes agent raised p q → Tells changed q r → (q ≡ r) ⊎ (gain_of nodes q agent <ℤ gain_of nodes r agent) → Rises nodes agent both p r
+    → Rises nodes agent raised p q → TellsChange changed q r → (q ≡ r) ⊎ (gain_of nodes q agent <ℤ gain_of nodes r agent) → Rises nodes agent both p r
 rises_more nodes agent true changed both p q r yes_then no_then h t c = subst (λ b. Rises nodes agent b p r) (sym (yes_then refl)) (go c)
   where
     longer : (a b c : ℤ) → a <ℤ b → b <ℤ c → a <ℤ c
@@ -36,7 +36,7 @@ rises_more nodes agent false true both p q r yes_then no_then h t c = subst (λ 
 rises_more nodes agent false false both p q r yes_then no_then h t c = subst (λ b. Rises nodes agent b p r) (sym (no_then refl)) (h ∙ t)
 
 -- so it is told whether the profile changed
-pub rises_tell : (nodes : List NodeView) (agent : ℕ) (raised : Bool) (p q : List RuleView) → Rises nodes agent raised p q → Tells raised p q
+pub rises_tell : (nodes : List NodeView) (agent : ℕ) (raised : Bool) (p q : List RuleView) → Rises nodes agent raised p q → TellsChange raised p q
 rises_tell nodes agent true p q h = λ e. clash (gain_of nodes p agent) (subst (λ z. gain_of nodes p agent <ℤ gain_of nodes z agent) (sym e) h)
   where
     clash : (a : ℤ) → a <ℤ a → ⊥

@@ -2,12 +2,11 @@
 use Rattle.std.proofs.Common.{◌≡◌, ℕ, ◌<◌, List, length, slice_index_or, sym, subst, ℤ, ◌≤ℤ◌}
 use Rattle.maid_model.specs.declared.answers.Row.{Row}
 use Rattle.maid_model.specs.Answers.{no_row}
-use Rattle.maid_model.specs.Gains.{gain_at}
+use Rattle.maid_model.specs.Gains.{gain_at, gain_in}
 use Rattle.maid_model.specs.Nodes.{rows_of, states_of}
 use Rattle.maid_model.specs.Scopes.{scope_of}
 use Rattle.maid_model.specs.Views.{NodeView, RuleView}
 use Rattle.part_laws.specs.PartLaws.{DecidesAlike}
-use Rattle.rule_solver.specs.Rows.{gain_in}
 use Rattle.rule_solver.specs.Sums.{IsRowGains, scope_gain}
 use Rattle.policy_update.specs.Steps.{AreImproved, gains_in}
 use Rattle.policy_update.proofs.Choices.{ComparesAlike, improved_alike}

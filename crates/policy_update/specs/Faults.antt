@@ -9,7 +9,7 @@ use Rattle.maid_model.specs.Scopes.{KeepsScopedBounds}
 use Rattle.maid_model.specs.Subgames.{OwnsAll}
 use Rattle.maid_model.specs.Views.{NodeView, DiagramView, RuleView}
 use Rattle.reach_laws.specs.Updates.{IsReachedAfter}
-use Rattle.rule_solver.specs.Faults.{KeepsSizes}
+use Rattle.rule_solver.specs.Faults.{KeepsPlanLimits}
 use Rattle.size_precheck.specs.declared.sizes.Size.{Size}
 use Rattle.size_precheck.specs.Sizes.{IsSizeOfRun}
 use Rattle.weight_scale.specs.Bound.{IsPassedAt, IsPassedByUtilities}
@@ -44,30 +44,30 @@ abbrev pub owners_pass : DiagramView → Pass FaultView
 owners_pass d = rule (HasTwoOwners d.nodes) NotOneAgent
 
 -- the weight bound is kept in each scope, or the place of the first that fails is found: a node, or else the utilities
-abbrev pub bound_pass : DiagramView → Pass FaultView
-bound_pass d None = KeepsScopedBounds d
-bound_pass d (Some (WeightBound (Some v))) = IsPassedAt d v
-bound_pass d (Some (WeightBound None)) = IsPassedByUtilities d
-bound_pass d (Some fault) = ⊥
+abbrev pub update_bound_pass : DiagramView → Pass FaultView
+update_bound_pass d None = KeepsScopedBounds d
+update_bound_pass d (Some (WeightBound (Some v))) = IsPassedAt d v
+update_bound_pass d (Some (WeightBound None)) = IsPassedByUtilities d
+update_bound_pass d (Some fault) = ⊥
 
 -- this is the size of a run over the decisions in text order
 abbrev pub IsTextSize : DiagramView → Size → Type 0
 IsTextSize d size = IsSizeOfRun d.nodes (decisions_of d.nodes) size
 
 -- that run keeps the limits of cells and work
-abbrev pub IsSmallEnough : DiagramView → Type 0
-IsSmallEnough d = (size : Size) → IsTextSize d size → KeepsSizes size
+abbrev pub IsSmallEnoughForUpdate : DiagramView → Type 0
+IsSmallEnoughForUpdate d = (size : Size) → IsTextSize d size → KeepsPlanLimits size
 
 -- the run has these cells and this work, which pass a limit
-abbrev pub IsTooLarge : DiagramView → ℕ → ℕ → Type 0
-IsTooLarge d cells work = IsTextSize d (record { cells = cells; work = work })
-    × (KeepsSizes (record { cells = cells; work = work }) → ⊥)
+abbrev pub IsTooLargeForUpdate : DiagramView → ℕ → ℕ → Type 0
+IsTooLargeForUpdate d cells work = IsTextSize d (record { cells = cells; work = work })
+    × (KeepsPlanLimits (record { cells = cells; work = work }) → ⊥)
 
 -- the run is small enough, or its size is found
-abbrev pub size_pass : DiagramView → Pass FaultView
-size_pass d None = IsSmallEnough d
-size_pass d (Some (TooLarge cells work)) = IsTooLarge d cells work
-size_pass d (Some fault) = ⊥
+abbrev pub update_size_pass : DiagramView → Pass FaultView
+update_size_pass d None = IsSmallEnoughForUpdate d
+update_size_pass d (Some (TooLarge cells work)) = IsTooLargeForUpdate d cells work
+update_size_pass d (Some fault) = ⊥
 
 -- each of the first rounds raises, and after them the owner of all decisions has this expected utility
 pub record AllRaise (d : DiagramView) (rounds : ℕ) (gain : Ratio) : Type 0 where
@@ -85,4 +85,4 @@ rounds_pass d rounds (Some fault) = ⊥
 
 -- the stages of updating, one behind another
 abbrev pub update_pass : DiagramView → ℕ → Pass FaultView
-update_pass d rounds = owners_pass d ▸ bound_pass d ▸ size_pass d ▸ rounds_pass d rounds
+update_pass d rounds = owners_pass d ▸ update_bound_pass d ▸ update_size_pass d ▸ rounds_pass d rounds

@@ -4,13 +4,12 @@ use Rattle.std.specs.Prelude.{◌≡◌, ◌≢◌, ◌<◌, ◌≤◌, ℕ, ℤ
 use Rattle.maid_model.specs.declared.answers.Row.{Row}
 use Rattle.maid_model.specs.declared.limits.TheConstants.{MOST_PLAN_CELLS}
 use Rattle.maid_model.specs.Answers.{no_row, pure_profile}
-use Rattle.maid_model.specs.Gains.{gain_at}
+use Rattle.maid_model.specs.Gains.{gain_at, gain_in}
 use Rattle.maid_model.specs.Nodes.{decisions_of, rows_of, states_of}
 use Rattle.maid_model.specs.Views.{NodeView, RuleView, AnswerView}
 use Rattle.reach_laws.specs.Updates.{IsImproved, IsReachedAfter, IsStep, IsUpdated}
 use Rattle.rule_solver.specs.declared.spaces.Workspaces.{Workspaces}
-use Rattle.rule_solver.specs.Rooms.{AreReady, HasRoom}
-use Rattle.rule_solver.specs.Rows.{gain_in}
+use Rattle.rule_solver.specs.Rooms.{AreReady, HasRoomForRun}
 use Rattle.size_precheck.specs.declared.decisions.DecisionPlans.{DecisionPlans}
 use Rattle.size_precheck.specs.declared.runs.RunPlans.{RunPlans}
 use Rattle.size_precheck.specs.Decisions.{ArePlans}
@@ -63,15 +62,15 @@ first_choices nodes = map (λ v. record { decision = v; rows = replicate (rows_o
     (decisions_of nodes)
 
 -- the profile is that of these choices
-pub record IsPlan
+pub record IsProfileOf
     (nodes : List NodeView) (answers : List AnswerView) (p : List RuleView) : Type 0 where
   pub choices : AreChoices nodes answers
   pub rules : p ≡ pure_profile nodes answers
 
 -- it is told whether the profile changed
-abbrev pub Tells : Bool → List RuleView → List RuleView → Type 0
-Tells true p q = p ≢ q
-Tells false p q = p ≡ q
+abbrev pub TellsChange : Bool → List RuleView → List RuleView → Type 0
+TellsChange true p q = p ≢ q
+TellsChange false p q = p ≡ q
 
 -- the profile before the first round that does not raise, which comes among so many
 pub record IsSettled (nodes : List NodeView) (rounds : ℕ) (p : List RuleView) (n : ℕ) : Type 0 where
@@ -84,9 +83,9 @@ EndsAt nodes rounds p None = IsReachedAfter nodes rounds p
 EndsAt nodes rounds p (Some n) = IsSettled nodes rounds p n
 
 -- the plans of the decisions in text order, and room for each plan of their run within the limit
-pub record IsRun (nodes : List NodeView) (run : RunPlans) : Type 0 where
+pub record IsPlannedRun (nodes : List NodeView) (run : RunPlans) : Type 0 where
   pub plans : ArePlans nodes (decisions_of nodes) run.decisions.items
-  pub room : HasRoom nodes run.size.cells
+  pub room : HasRoomForRun nodes run.size.cells
   pub limit : run.size.cells ≤ MOST_PLAN_CELLS
 
 -- the plans of the decisions in text order, and workspaces with room for them
@@ -95,4 +94,4 @@ pub record AreKept
   pub planned : ArePlans nodes (decisions_of nodes) plans
   pub cells : ℕ
   pub ready : AreReady cells spaces
-  pub room : HasRoom nodes cells
+  pub room : HasRoomForRun nodes cells

@@ -4,9 +4,9 @@ ghost use Rattle.std.specs.Prelude.{◌≡◌, ◌↔◌, IsTrue, IfOk};
 ghost use Rattle.first_fault.specs.Answers.{Passes};
 ghost use Rattle.maid_model.specs.Nodes.{decisions_of};
 ghost use Rattle.maid_model.specs.Scopes.{KeepsScopedBounds};
-ghost use Rattle.rule_solver.specs.Faults.{KeepsSizes};
-ghost use Rattle.policy_update.specs.Faults.{bound_pass, owners_pass, size_pass, update_fault};
-ghost use Rattle.policy_update.specs.Steps.{IsRun};
+ghost use Rattle.rule_solver.specs.Faults.{KeepsPlanLimits};
+ghost use Rattle.policy_update.specs.Faults.{update_bound_pass, owners_pass, update_size_pass, update_fault};
+ghost use Rattle.policy_update.specs.Steps.{IsPlannedRun};
 
 use crate::UpdateFault;
 use maid_model::{Diagram, MOST_PLAN_CELLS, MOST_WORK, descent_is_tested};
@@ -29,7 +29,7 @@ pub(crate) fn keep_one_owner(diagram: &Diagram, decisions: &[usize]) -> Result<(
 
 /// Refuses a diagram that doesn't keep the weight bound.
 pub(crate) fn keep_bound(diagram: &Diagram) -> Result<(), UpdateFault>
-    ensures rows { Passes update_fault (bound_pass diagram.now) result }
+    ensures rows { Passes update_fault (update_bound_pass diagram.now) result }
     ensures bound { IfOk result (λ _. KeepsScopedBounds diagram.now) }
 {
     match bound(diagram) {
@@ -41,7 +41,7 @@ pub(crate) fn keep_bound(diagram: &Diagram) -> Result<(), UpdateFault>
 
 /// Whether a size is within both limits.
 fn is_small(size: &Size) -> bool
-    ensures { IsTrue result ↔ KeepsSizes size.now }
+    ensures { IsTrue result ↔ KeepsPlanLimits size.now }
 {
     size.cells <= MOST_PLAN_CELLS as u128 && size.work <= MOST_WORK
 }
@@ -54,8 +54,8 @@ pub(crate) fn keep_sizes(
     decisions: &[usize],
 ) -> Result<RunPlans, UpdateFault>
     requires { decisions.now ≡ decisions_of diagram.now.nodes }
-    ensures rows { Passes update_fault (size_pass diagram.now) result }
-    ensures run { IfOk result (IsRun diagram.now.nodes) }
+    ensures rows { Passes update_fault (update_size_pass diagram.now) result }
+    ensures run { IfOk result (IsPlannedRun diagram.now.nodes) }
 {
     sizes_of_plans();
     greedy_orders();

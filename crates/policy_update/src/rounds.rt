@@ -7,7 +7,7 @@ ghost use Rattle.maid_model.specs.Scopes.{KeepsScopedBounds};
 ghost use Rattle.maid_model.specs.Subgames.{OwnsAll};
 ghost use Rattle.reach_laws.specs.Updates.{IsUpdateRound, start_profile};
 ghost use Rattle.size_precheck.specs.Decisions.{AreDecisionPlans};
-ghost use Rattle.policy_update.specs.Steps.{AreKept, EndsAt, ImprovesRows, IsPlan, IsStepAt, Tells};
+ghost use Rattle.policy_update.specs.Steps.{AreKept, EndsAt, ImprovesRows, IsProfileOf, IsStepAt, TellsChange};
 ghost use Rattle.rule_solver.specs.Rooms.{AreReadyForDecision};
 
 use crate::rows::{are_same_choices, improved_rows};
@@ -56,12 +56,12 @@ fn improve(
 ) -> Result<bool, AllocError>
     requires bound { KeepsScopedBounds diagram.now }
     requires kept { AreKept diagram.now.nodes plans.now spaces.old }
-    requires plan { IsPlan diagram.now.nodes answers.old profile.old }
+    requires plan { IsProfileOf diagram.now.nodes answers.old profile.old }
     requires place { place < length answers.old }
-    ensures plan { OnOk result (IsPlan diagram.now.nodes answers.new profile.new) }
+    ensures plan { OnOk result (IsProfileOf diagram.now.nodes answers.new profile.new) }
     ensures again { OnOk result (spaces.new ≡ spaces.old) }
     ensures step { OnOk result (IsStepAt diagram.now.nodes place profile.old profile.new) }
-    ensures changed { IfOk result (λ changed. Tells changed profile.old profile.new) }
+    ensures changed { IfOk result (λ changed. TellsChange changed profile.old profile.new) }
 {
     // Choices make pure rules, and a profile has a rule for each decision.
     pure_profiles_listed();
@@ -89,11 +89,11 @@ fn go_round(
     requires bound { KeepsScopedBounds diagram.now }
     requires kept { AreKept diagram.now.nodes plans.now spaces.old }
     requires owner { (agent : ℕ) × OwnsAll diagram.now.nodes agent }
-    requires plan { IsPlan diagram.now.nodes answers.old profile.old }
-    ensures plan { OnOk result (IsPlan diagram.now.nodes answers.new profile.new) }
+    requires plan { IsProfileOf diagram.now.nodes answers.old profile.old }
+    ensures plan { OnOk result (IsProfileOf diagram.now.nodes answers.new profile.new) }
     ensures again { OnOk result (spaces.new ≡ spaces.old) }
     ensures round { OnOk result (IsUpdateRound diagram.now.nodes profile.old profile.new) }
-    ensures raised { IfOk result (λ raised. Tells raised profile.old profile.new) }
+    ensures raised { IfOk result (λ raised. TellsChange raised profile.old profile.new) }
 {
     pure_profiles_listed();
     let _count = diagram.count();
@@ -120,9 +120,9 @@ pub(crate) fn settle(
     requires bound { KeepsScopedBounds diagram.now }
     requires kept { AreKept diagram.now.nodes plans.now spaces.old }
     requires owner { (agent : ℕ) × OwnsAll diagram.now.nodes agent }
-    requires plan { IsPlan diagram.now.nodes answers.old profile.old }
+    requires plan { IsProfileOf diagram.now.nodes answers.old profile.old }
     requires start { profile.old ≡ start_profile diagram.now.nodes }
-    ensures plan { OnOk result (IsPlan diagram.now.nodes answers.new profile.new) }
+    ensures plan { OnOk result (IsProfileOf diagram.now.nodes answers.new profile.new) }
     ensures again { OnOk result (spaces.new ≡ spaces.old) }
     ensures settled { IfOk result (EndsAt diagram.now.nodes rounds profile.new) }
 {

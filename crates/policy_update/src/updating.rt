@@ -6,7 +6,7 @@ ghost use Rattle.maid_model.specs.Nodes.{agent_of, decisions_of};
 ghost use Rattle.maid_model.specs.Scopes.{KeepsScopedBounds};
 ghost use Rattle.maid_model.specs.Subgames.{OwnsAll};
 ghost use Rattle.policy_update.specs.Faults.{HasTwoOwners, rounds_pass, update_fault, update_pass};
-ghost use Rattle.policy_update.specs.Steps.{IsRun};
+ghost use Rattle.policy_update.specs.Steps.{IsPlannedRun};
 ghost use Rattle.policy_update.specs.Updated.{IsLocallyOptimal, IsUpdateOf, RoundsRaise};
 
 use crate::UpdateFault;
@@ -60,7 +60,7 @@ fn update_within(
     requires decisions { decisions.now ≡ decisions_of diagram.now.nodes }
     requires owner { (agent : ℕ) × OwnsAll diagram.now.nodes agent }
     requires bound { KeepsScopedBounds diagram.now }
-    requires run { IsRun diagram.now.nodes run.now }
+    requires run { IsPlannedRun diagram.now.nodes run.now }
     requires some { 0 < rounds }
     ensures rows { Passes update_fault (rounds_pass diagram.now rounds) result }
     ensures ok { IfOk result (IsUpdateOf diagram.now) }

@@ -13,7 +13,7 @@ use Rattle.reach_laws.proofs.Listed.{choices_of, fits_of, world_from}
 use Rattle.std.specs.Prelude.{Contains}
 use Rattle.maid_laws.specs.Optimum.{IsPure}
 use Rattle.maid_model.specs.Nodes.{decisions_of}
-use Rattle.pure_search.specs.Found.{HasNoWorths, IsFound, PureView, found_profile}
+use Rattle.pure_search.specs.Found.{HasNoWorths, IsPureFound, PureView, found_profile}
 use Rattle.pure_search.specs.Games.{IsFirstMark, MarksStable, answers_of, choice_lists, choices_at, counts_for}
 use Rattle.pure_search.proofs.Answered.{answered_profile, answers_fit, follow, no_worths, pure_choices}
 use Rattle.pure_search.proofs.Marking.{listed}
@@ -84,7 +84,7 @@ one_more_worth P gains gains' x n e len all one = (
 
 -- ---- the answer
 pub what_is_found : (d : DiagramView) (place : ℕ) (found : PureView) → IsFirstPure d.nodes place → found.answers ≡ answers_of d.nodes (decisions_of d.nodes) (choices_at d.nodes place)
-    → length found.gains ≡ d.agents → IsGains d (profile_of d.nodes (choices_at d.nodes place)) found.gains → IsFound d found
+    → length found.gains ≡ d.agents → IsGains d (profile_of d.nodes (choices_at d.nodes place)) found.gains → IsPureFound d found
 what_is_found d place found f answers count gains =
     let inside : place < length (choice_lists d.nodes) = subst (λ n. place < n) (as_many_profiles d.nodes) f.within in
     let w : IsWorld (counts_for d.nodes) (choices_at d.nodes place) = listed d.nodes place inside in

@@ -15,7 +15,7 @@ use Rattle.maid_model.proofs.Listing.{lists_worlds}
 use Rattle.reach_laws.specs.Equilibria.{AgreeForOthers, IsEquilibrium, choice_counts, choice_owners, profile_of}
 use Rattle.reach_laws.proofs.InTable.{table_law}
 use Rattle.reach_laws.proofs.Listed.{fits_of}
-use Rattle.pure_search.specs.Games.{IsBestFor, IsGreatest, IsTable, KeepsGreatest, MarksBest, MarksStable, choice_lists, choices_at, counts_for, key_of, owners_for, part_gain}
+use Rattle.pure_search.specs.Games.{IsBestFor, IsGreatest, IsGainTable, KeepsGreatest, MarksBest, MarksStable, choice_lists, choices_at, counts_for, key_of, owners_for, part_gain}
 use Rattle.pure_search.proofs.Compared.{compares}
 use Rattle.pure_search.proofs.OthersKeys.{key_of_same, same_key}
 
@@ -44,7 +44,7 @@ keys_agree nodes agent xs ys wx wy = (
 )
 
 -- ---- one agent
-module _ (nodes : List NodeView) (agent : ℕ) (keys : List ℕ) (gains : List ℤ) (t : IsTable nodes agent keys gains) where
+module _ (nodes : List NodeView) (agent : ℕ) (keys : List ℕ) (gains : List ℤ) (t : IsGainTable nodes agent keys gains) where
   abbrev count : ℕ
   count = length (choice_lists nodes)
 

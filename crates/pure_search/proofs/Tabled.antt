@@ -2,7 +2,7 @@
 use Rattle.std.proofs.Common.{◌≡◌, ◌∙◌, ℕ, zero, suc, ◌<◌, List, [], ◌∷◌, ◌++◌, map, length, refl, sym, ap, subst, arith, ℤ, All, append_assoc}
 use Rattle.maid_model.specs.Views.{NodeView}
 use Rattle.maid_model.specs.Worlds.{IsWorld, worlds_from}
-use Rattle.pure_search.specs.Games.{IsTable, choice_lists, counts_for, key_of, part_gain}
+use Rattle.pure_search.specs.Games.{IsGainTable, choice_lists, counts_for, key_of, part_gain}
 
 -- what stands in the table, with what the lists from this one on add, is the whole
 pub record TableSoFar (nodes : List NodeView) (agent : ℕ) (keys : List ℕ) (gains : List ℤ) (choices : List ℕ) : Type 0 where
@@ -34,7 +34,7 @@ module _ (nodes : List NodeView) (agent : ℕ) (keys keys' : List ℕ) (gains ga
     within = subst (All (λ n. n < length (choice_lists nodes))) (sym k) (one_longer (length (choice_lists nodes)) keys key so.within inside);
   }
 
-  pub last_row : worlds_from (counts_for nodes) choices ≡ choices ∷ [] → IsTable nodes agent keys' gains'
+  pub last_row : worlds_from (counts_for nodes) choices ≡ choices ∷ [] → IsGainTable nodes agent keys' gains'
   last_row e = record {
     keys_are = sym (none keys') ∙ longer (key_of nodes agent) keys keys' key (worlds_from (counts_for nodes) choices) [] choices k key_is e ∙ so.keys_are;
     gains_are = sym (none gains') ∙ longer (part_gain nodes agent) gains gains' gain (worlds_from (counts_for nodes) choices) [] choices g gain_is e ∙ so.gains_are;

@@ -19,11 +19,11 @@ pure_fault (NoPure profiles) = Some (NoPure profiles)
 pure_fault NoMemory = None
 
 -- the weight bound is kept in each scope, or the place of the first that fails is found: a node, or else the utilities
-abbrev pub bound_pass : DiagramView → Pass PureFault
-bound_pass d None = KeepsScopedBounds d
-bound_pass d (Some (WeightBound (Some v))) = IsPassedAt d v
-bound_pass d (Some (WeightBound None)) = IsPassedByUtilities d
-bound_pass d (Some fault) = ⊥
+abbrev pub search_bound_pass : DiagramView → Pass PureFault
+search_bound_pass d None = KeepsScopedBounds d
+search_bound_pass d (Some (WeightBound (Some v))) = IsPassedAt d v
+search_bound_pass d (Some (WeightBound None)) = IsPassedByUtilities d
+search_bound_pass d (Some fault) = ⊥
 
 -- how many pure profiles there are
 abbrev pub profile_count : List NodeView → ℕ
@@ -40,7 +40,7 @@ abbrev pub IsSmall : DiagramView → Type 0
 IsSmall d = CanBeListed (profile_count d.nodes) (world_count d.nodes)
 
 -- the counts pass a limit, and these are they, each up to where counts stop
-pub record IsTooLarge (d : DiagramView) (profiles leaves : ℕ) : Type 0 where
+pub record IsTooLargeForSearch (d : DiagramView) (profiles leaves : ℕ) : Type 0 where
   pub passes : IsSmall d → ⊥
   pub profiles_are : profiles ≡ stopped (profile_count d.nodes)
   pub leaves_are : leaves ≡ stopped (world_count d.nodes)
@@ -48,7 +48,7 @@ pub record IsTooLarge (d : DiagramView) (profiles leaves : ℕ) : Type 0 where
 -- the diagram is small enough, or its counts are found
 abbrev pub count_pass : DiagramView → Pass PureFault
 count_pass d None = IsSmall d
-count_pass d (Some (TooLarge profiles leaves)) = IsTooLarge d profiles leaves
+count_pass d (Some (TooLarge profiles leaves)) = IsTooLargeForSearch d profiles leaves
 count_pass d (Some fault) = ⊥
 
 -- there is a pure equilibrium, or none of so many pure profiles is one
@@ -64,4 +64,4 @@ search_pass d = count_pass d ▸ stable_pass d
 
 -- the stages, one behind another
 abbrev pub pure_pass : DiagramView → Pass PureFault
-pure_pass d = bound_pass d ▸ search_pass d
+pure_pass d = search_bound_pass d ▸ search_pass d

@@ -28,7 +28,7 @@ HasNoWorths answer = All (λ (r : Row). r.worth ≡ None) answer.rows
 
 -- Each decision in text order with a choice in each row, and no worths; together the choices are the first pure
 -- equilibrium, and the gains are its expected utilities, one for each agent.
-pub record IsFound (d : DiagramView) (found : PureView) : Type 0 where
+pub record IsPureFound (d : DiagramView) (found : PureView) : Type 0 where
   pub follow : map (λ (a : AnswerView). a.decision) found.answers ≡ decisions_of d.nodes
   pub answers : All (FitsAnswer d.nodes) found.answers
   pub worths : All HasNoWorths found.answers

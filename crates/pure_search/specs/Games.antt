@@ -95,15 +95,15 @@ abbrev pub IsGameOf : List NodeView → Game → Type 0
 IsGameOf nodes game = IsGame nodes game.decisions.items game.counts.items game.owners.items
 
 -- for each list of choices the number of the others' choices, and the agent's gain
-pub record IsTable
+pub record IsGainTable
     (nodes : List NodeView) (agent : ℕ) (keys : List ℕ) (gains : List ℤ) : Type 0 where
   pub keys_are : keys ≡ map (key_of nodes agent) (choice_lists nodes)
   pub gains_are : gains ≡ map (part_gain nodes agent) (choice_lists nodes)
   pub within : All (λ key. key < length (choice_lists nodes)) keys
 
 -- the table that the code holds is that
-abbrev pub IsTableOf : List NodeView → ℕ → Table → Type 0
-IsTableOf nodes agent table = IsTable nodes agent table.keys.items table.gains.items
+abbrev pub IsGainTableOf : List NodeView → ℕ → Table → Type 0
+IsGainTableOf nodes agent table = IsGainTable nodes agent table.keys.items table.gains.items
 
 -- the part of the agent's scope
 abbrev pub part_of_agent : DiagramView → ℕ → DiagramView

@@ -6,7 +6,7 @@ ghost use Rattle.maid_model.specs.declared.limits.TheConstants.{COUNT_END, MOST_
 ghost use Rattle.maid_model.specs.Bounds.{stopped};
 ghost use Rattle.maid_model.specs.Diagrams.{IsDiagram};
 ghost use Rattle.maid_model.specs.Worlds.{worlds};
-ghost use Rattle.pure_search.specs.Faults.{CanBeListed, bound_pass, count_pass, pure_fault};
+ghost use Rattle.pure_search.specs.Faults.{CanBeListed, search_bound_pass, count_pass, pure_fault};
 ghost use Rattle.pure_search.specs.Games.{counts_for, list_count};
 
 use crate::PureFault;
@@ -16,7 +16,7 @@ use weight_scale::{BoundPlace, bound};
 
 /// Refuses a diagram that doesn't keep the weight bound.
 pub(crate) fn keep_bound(diagram: &Diagram) -> Result<(), PureFault>
-    ensures rows { Passes pure_fault (bound_pass diagram.now) result }
+    ensures rows { Passes pure_fault (search_bound_pass diagram.now) result }
     ensures diagram { IsDiagram diagram.now }
 {
     match bound(diagram) {

@@ -6,7 +6,7 @@ ghost use Rattle.maid_model.specs.Scopes.{KeepsScopedBounds};
 ghost use Rattle.maid_model.specs.Worlds.{IsWorld, worlds};
 ghost use Rattle.reach_laws.specs.Equilibria.{IsFirstPure};
 ghost use Rattle.pure_search.specs.Faults.{pure_fault, pure_pass, search_pass, stable_pass};
-ghost use Rattle.pure_search.specs.Found.{IsFound, IsStable};
+ghost use Rattle.pure_search.specs.Found.{IsPureFound, IsStable};
 ghost use Rattle.pure_search.specs.Games.{AreChoicesAt, IsGameOf, IsSearched, list_count};
 
 use crate::answering::{answers_of, profile_of};
@@ -39,7 +39,7 @@ fn found_at(alloc: Global, diagram: &Diagram, game: &Game, place: usize) -> Resu
     requires game { IsGameOf diagram.now.nodes game.now }
     requires bound { IsSearched diagram.now }
     requires first { IsFirstPure diagram.now.nodes place }
-    ensures { IfOk result (IsFound diagram.now) }
+    ensures { IfOk result (IsPureFound diagram.now) }
 {
     let _count = diagram.count();
     let choices = choices_at(alloc, &game.counts, place)?;
@@ -55,7 +55,7 @@ fn search(alloc: Global, diagram: &Diagram, game: &Game, profiles: u128) -> Resu
     requires bound { IsSearched diagram.now }
     requires profiles { profiles ≡ list_count diagram.now.nodes }
     ensures rows { Passes pure_fault (stable_pass diagram.now) result }
-    ensures ok { IfOk result (IsFound diagram.now) }
+    ensures ok { IfOk result (IsPureFound diagram.now) }
 {
     let marks = stable_marks(alloc, diagram, game, profiles as usize)?;
     match first_mark(&marks) {
@@ -68,7 +68,7 @@ fn search(alloc: Global, diagram: &Diagram, game: &Game, profiles: u128) -> Resu
 fn search_within(alloc: Global, diagram: &Diagram) -> Result<Pure, PureFault>
     requires { KeepsScopedBounds diagram.now }
     ensures rows { Passes pure_fault (search_pass diagram.now) result }
-    ensures ok { IfOk result (IsFound diagram.now) }
+    ensures ok { IfOk result (IsPureFound diagram.now) }
 {
     let game = game_of(alloc, diagram)?;
     let profiles = keep_counts(diagram, &game.counts)?;
@@ -92,7 +92,7 @@ pub fn first_pure(alloc: Global, diagram: &Diagram) -> Result<Pure, PureFault>
     // A profile where nothing refuses the diagram, and else the first refusal that applies.
     ensures rows { Passes pure_fault (pure_pass diagram.now) result }
     // It is the first pure equilibrium, with its gains.
-    ensures ok { IfOk result (IsFound diagram.now) }
+    ensures ok { IfOk result (IsPureFound diagram.now) }
     // No agent gains by other rules of its own, pure or mixed.
     ensures stable { IfOk result (IsStable diagram.now) }
 {

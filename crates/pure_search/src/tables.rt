@@ -4,7 +4,7 @@ ghost use Rattle.std.specs.Prelude.{◌≡◌, ◌<◌, ◌+◌, IfOk, OnOk};
 ghost use Rattle.maid_model.specs.Nodes.{decisions_of};
 ghost use Rattle.maid_model.specs.Scopes.{scope_for};
 ghost use Rattle.maid_model.specs.Worlds.{IsWorld};
-ghost use Rattle.pure_search.specs.Games.{IsGameOf, IsSearched, MarksBest, MarksStable, counts_for, key_of, part_gain, IsTableOf, list_count, part_of_agent};
+ghost use Rattle.pure_search.specs.Games.{IsGameOf, IsSearched, MarksBest, MarksStable, counts_for, key_of, part_gain, IsGainTableOf, list_count, part_of_agent};
 
 use crate::answering::profile_of;
 use crate::games::Game;
@@ -70,7 +70,7 @@ fn table_for(
     requires game { IsGameOf diagram.now.nodes game.now }
     requires agent { agent < diagram.now.agents }
     requires bound { IsSearched diagram.now }
-    ensures { IfOk result (IsTableOf diagram.now.nodes agent) }
+    ensures { IfOk result (IsGainTableOf diagram.now.nodes agent) }
 {
     let _count = diagram.count();
     let part = part_for(alloc, diagram, agent)?;

@@ -7,7 +7,7 @@ use Rattle.maid_model.specs.Views.{NodeView}
 use Rattle.maid_model.specs.Nodes.{IsDecision}
 use Rattle.maid_model.specs.Relevance.{ReliesOn}
 use Rattle.maid_model.specs.Placing.{IsLeast, Remains, CanPlace, IsPlacing, IsOrder, IsRound, IsRelianceOrder, IsRelianceCycle}
-use Rattle.diagram_graph.specs.Needs.{IsIn}
+use Rattle.diagram_graph.specs.Needs.{IsMarkedIn}
 use Rattle.diagram_graph.specs.Needs.{needs_of, NeedsItem}
 use Rattle.diagram_graph.specs.Rounds.{IsFirstLeft, IsFirstCycle, IsRingOfNeeds}
 use Rattle.diagram_graph.specs.Rounds.{IsListedRound as IsListRound}
@@ -80,20 +80,20 @@ module _ (nodes : List NodeView) (lists : List (List ℕ)) (tells : TellsRelianc
     is = h.is;
   }
 
-  module _ (items : List Bool) (all : (v : ℕ) → IsIn items v ↔ IsDecision nodes v) where
+  module _ (items : List Bool) (all : (v : ℕ) → IsMarkedIn items v ↔ IsDecision nodes v) where
     order_is : (order : List ℕ) → IsOrderOf lists items order → IsRelianceOrder nodes order
-    order_is order h = order_same (IsIn items) (IsDecision nodes) (NeedsItem lists) (ReliesOn nodes) all needs_relies order h
+    order_is order h = order_same (IsMarkedIn items) (IsDecision nodes) (NeedsItem lists) (ReliesOn nodes) all needs_relies order h
 
     order_from : (order : List ℕ) → IsRelianceOrder nodes order → IsOrderOf lists items order
     order_from order h =
-        order_same (IsDecision nodes) (IsIn items) (ReliesOn nodes) (NeedsItem lists) (λ v. ((all v).1, (all v).0)) (λ d e. ((needs_relies d e).1, (needs_relies d e).0)) order h
+        order_same (IsDecision nodes) (IsMarkedIn items) (ReliesOn nodes) (NeedsItem lists) (λ v. ((all v).1, (all v).0)) (λ d e. ((needs_relies d e).1, (needs_relies d e).0)) order h
 
-    cycle_is : (cycle : List ℕ) → IsFirstCycle (IsIn items) lists cycle → IsRelianceCycle nodes cycle
+    cycle_is : (cycle : List ℕ) → IsFirstCycle (IsMarkedIn items) lists cycle → IsRelianceCycle nodes cycle
     cycle_is cycle h = record {
       placed = h.placed;
-      placing = placing_same (IsIn items) (IsDecision nodes) (NeedsItem lists) (ReliesOn nodes) all needs_relies h.placed h.placing;
-      stuck = λ v c. h.stuck v ((can_same (IsIn items) (IsDecision nodes) (NeedsItem lists) (ReliesOn nodes) all needs_relies h.placed v).1 c);
-      round = round_is (Remains (IsIn items) h.placed) (Remains (IsDecision nodes) h.placed) (λ v. ((λ r. ((all v).0 r.0, r.1)), (λ r. ((all v).1 r.0, r.1)))) cycle h.round;
+      placing = placing_same (IsMarkedIn items) (IsDecision nodes) (NeedsItem lists) (ReliesOn nodes) all needs_relies h.placed h.placing;
+      stuck = λ v c. h.stuck v ((can_same (IsMarkedIn items) (IsDecision nodes) (NeedsItem lists) (ReliesOn nodes) all needs_relies h.placed v).1 c);
+      round = round_is (Remains (IsMarkedIn items) h.placed) (Remains (IsDecision nodes) h.placed) (λ v. ((λ r. ((all v).0 r.0, r.1)), (λ r. ((all v).1 r.0, r.1)))) cycle h.round;
     }
 
     ring_is : (cycle : List ℕ) → IsRingOfNeeds (NeedsItem lists) cycle → IsRingOfNeeds (ReliesOn nodes) cycle

@@ -5,7 +5,7 @@ use Rattle.maid_model.specs.Views.{NodeView}
 use Rattle.maid_model.specs.Nodes.{IsDecision}
 use Rattle.maid_model.specs.Placing.{IsRelianceOrder, IsRelianceCycle}
 use Rattle.maid_model.specs.Relevance.{ReliesOn}
-use Rattle.diagram_graph.specs.Needs.{IsIn}
+use Rattle.diagram_graph.specs.Needs.{IsMarkedIn}
 use Rattle.diagram_graph.specs.Rounds.{IsRingOfNeeds}
 use Rattle.relevance_graph.specs.Views.{RelevanceView, ReliesTo, IsRising, relied_on_by}
 
@@ -27,7 +27,7 @@ TellsOutcome view told = MatchResult told (λ order. view.outcome ≡ Ok order.n
 
 -- exactly the decisions are marked
 abbrev pub MarksDecisions : List NodeView → List Bool → Type 0
-MarksDecisions nodes marks = (v : ℕ) → IsIn marks v ↔ IsDecision nodes v
+MarksDecisions nodes marks = (v : ℕ) → IsMarkedIn marks v ↔ IsDecision nodes v
 
 -- the relevance graph of a diagram: it tells of each pair of numbers whether the one relies on the other, and lists
 -- those on which a decision relies in text order

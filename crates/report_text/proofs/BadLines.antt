@@ -1,7 +1,6 @@
 -- A line at which the text stops is its bad line: the lines before it go on to a report, and with it they go on to none.
-use Rattle.std.proofs.Common.{◌≡◌, ◌≢◌, ◌⊎◌, ℕ, zero, suc, ◌+◌, ◌-◌, ◌<◌, ◌≤◌, List, [], ◌∷◌, ◌++◌, map, length, take, get_or, Bool, true, false, cond, inl, inr, refl, sym, ◌∙◌, ap, subst, arith}
+use Rattle.std.proofs.Common.{◌≡◌, ◌≢◌, ◌⊎◌, ℕ, zero, suc, ◌+◌, ◌-◌, ◌<◌, List, [], ◌∷◌, ◌++◌, length, take, Bool, true, false, cond, inl, inr, refl, sym, ◌∙◌, ap, subst, arith}
 use Rattle.std.specs.Prelude.{All, Contains, codes, pos, None}
-use Rattle.std.specs.Int.{IsGcd}
 use Rattle.std.specs.List.{flat_map}
 use Rattle.std.proofs.lemmas.Bool.{cases_order}
 use Rattle.std.proofs.lemmas.List.Elements.{All-nil, All-cons, All-contains, Contains-append_right}
@@ -11,18 +10,18 @@ use Rattle.maid_model.specs.declared.diagrams.Kind.{Kind}
 use Rattle.maid_model.specs.declared.diagrams.Kind.TheVariants.{Chance, Decision, Utility}
 use Rattle.maid_model.specs.declared.answers.Ratio.{Ratio}
 use Rattle.maid_model.specs.declared.answers.Row.{Row}
-use Rattle.maid_model.specs.Views.{NodeView, DiagramView, AnswerView, SolvedView}
+use Rattle.maid_model.specs.Views.{NodeView, DiagramView, SolvedView}
 use Rattle.maid_model.specs.Graph.{AllDifferent}
 use Rattle.maid_model.specs.Names.{NamesView}
-use Rattle.maid_model.specs.Nodes.{IsDecision, is_decision, node_at, rows_of, states_of}
+use Rattle.maid_model.specs.Nodes.{is_decision, node_at, rows_of}
 use Rattle.maid_model.specs.Reports.{decision_head, gain_line, line, report, row_line}
-use Rattle.report_text.specs.Laws.{IsTold}
+use Rattle.report_text.specs.Laws.{IsToldApart}
 use Rattle.report_text.specs.Reading.{BeginsReport, CanStand, IsBadLine, FitsRatio, bad_line, lines_of, report_pass}
 use Rattle.report_text.specs.declared.reading.ReportFault.{ReportFault}
 use Rattle.report_text.specs.declared.reading.ReportFault.TheVariants.{BadLine, NoMemory}
-use Rattle.report_text.specs.Slots.{End, IsOrder, IsOrderless, IsStuck, IsTaken, LinesView, OfGain, OfRow, StopsIn, Told, answer_slots, gain_slots, order_words, row_slots, slots_of}
+use Rattle.report_text.specs.Slots.{IsDecisionOrder, IsOrderless, IsStuck, IsTaken, LinesView, StopsIn, Told, answer_slots, gain_slots, order_words, row_slots, slots_of}
 use Rattle.report_text.proofs.OneText.{order_one}
-use Rattle.report_text.proofs.Places.{CanFill, Counted, Filled, StopsAt, can_then, counted, ends_there, filled, goes_on}
+use Rattle.report_text.proofs.Places.{CanFill, Filled, StopsAt, can_then, counted, ends_there, filled, goes_on}
 use Rattle.report_text.proofs.ReportLines.{behind_from, behind_follows, list_behind, report_lines, title}
 use Rattle.report_text.proofs.Standing.{standing_answers, standing_order, stands}
 use Rattle.report_text.proofs.Stops.{taken_lines}
@@ -82,7 +81,7 @@ down_has nodes (suc n) v h e = by_place (cases_order v n)
     by_place (inr (inl l)) p q = q l
     by_place (inr (inr l)) p q = absurd (omega arith)
 
-some_order : (nodes : List NodeView) → IsOrder nodes (down nodes (length nodes))
+some_order : (nodes : List NodeView) → IsDecisionOrder nodes (down nodes (length nodes))
 some_order nodes = record {
   decisions = λ k d h. let b = down_below nodes (length nodes) k d h in record { within = b.below; kind = b.decision };
   all = λ v is. down_has nodes (length nodes) v is.within is.kind;
@@ -90,7 +89,7 @@ some_order nodes = record {
 }
 
 -- each place may be filled
-module _ (d : DiagramView) (names : NamesView) (is : IsTold d names) where
+module _ (d : DiagramView) (names : NamesView) (is : IsToldApart d names) where
   rows_can : (v number count : ℕ) → CanFill d.nodes names (row_slots v number count)
   rows_can v number zero = tt
   rows_can v number (suc count) =
@@ -123,7 +122,7 @@ module _ (d : DiagramView) (names : NamesView) (is : IsTold d names) where
     value : CanStand d solved
     begins : take (suc (suc place)) (title ∷ line (order_words names order) ∷ lines) ≡ take (suc (suc place)) (lines_of (report d names solved))
 
-  begun : (order : List ℕ) → IsOrder d.nodes order → (lines : List (List ℕ)) (place : ℕ) → Filled d.nodes names (flat_map (answer_slots d.nodes names) order ++ gain_slots 0 d.agents) lines place → Begun order lines place
+  begun : (order : List ℕ) → IsDecisionOrder d.nodes order → (lines : List (List ℕ)) (place : ℕ) → Filled d.nodes names (flat_map (answer_slots d.nodes names) order ++ gain_slots 0 d.agents) lines place → Begun order lines place
   begun order stands_so lines place f =
       let b = behind_from d.nodes names order d.agents f.whole f.follows in
       record {
@@ -172,7 +171,7 @@ module _ (d : DiagramView) (names : NamesView) (is : IsTold d names) where
       by_lines (l ∷ ls) e (inr (shows, stops)) = absurd stops
 
   -- the line of the order is none
-  pub bad_order : (text : List ℕ) (lines : List (List ℕ)) (number : ℕ) → lines_of text ≡ title ∷ lines → number ≡ 2 → ((order : List ℕ) (others : List (List ℕ)) → IsOrder d.nodes order → lines ≢ line (order_words names order) ∷ others) → IsBadLine d names text number
+  pub bad_order : (text : List ℕ) (lines : List (List ℕ)) (number : ℕ) → lines_of text ≡ title ∷ lines → number ≡ 2 → ((order : List ℕ) (others : List (List ℕ)) → IsDecisionOrder d.nodes order → lines ≢ line (order_words names order) ∷ others) → IsBadLine d names text number
   bad_order text lines number e n none = record {
     before = (some_report.solved, some_report.value, subst (λ k. take k (lines_of text) ≡ take k (lines_of (report d names some_report.solved))) (let p : 1 ≡ number - 1 = omega arith in p) (ap (take 1) e ∙ sym (first some_report.solved)));
     none = λ (solved, value, same).
@@ -184,17 +183,17 @@ module _ (d : DiagramView) (names : NamesView) (is : IsTold d names) where
       first : (solved : SolvedView) → take 1 (lines_of (report d names solved)) ≡ take 1 (title ∷ lines)
       first solved = ap (take 1) (report_lines d names is.told solved) ∙ ap (λ ls. title ∷ ls) (no_lines (line (order_words names solved.order) ∷ list_behind d.nodes names solved) lines)
 
-      by_lines : (ls : List (List ℕ)) → lines ≡ ls → (solved : SolvedView) → IsOrder d.nodes solved.order → take 2 (title ∷ ls) ≡ title ∷ take 1 (line (order_words names solved.order) ∷ list_behind d.nodes names solved) → ⊥
+      by_lines : (ls : List (List ℕ)) → lines ≡ ls → (solved : SolvedView) → IsDecisionOrder d.nodes solved.order → take 2 (title ∷ ls) ≡ title ∷ take 1 (line (order_words names solved.order) ∷ list_behind d.nodes names solved) → ⊥
       by_lines [] f solved order t = absurd cc
       by_lines (l ∷ ls) f solved order t =
           let head : l ≡ line (order_words names solved.order) = cc in
           none solved.order ls order (f ∙ (λ i. head i ∷ ls))
 
-      second : (ls : List (List ℕ)) (solved : SolvedView) → IsOrder d.nodes solved.order → take 2 (title ∷ lines) ≡ title ∷ take 1 (line (order_words names solved.order) ∷ list_behind d.nodes names solved) → ⊥
+      second : (ls : List (List ℕ)) (solved : SolvedView) → IsDecisionOrder d.nodes solved.order → take 2 (title ∷ lines) ≡ title ∷ take 1 (line (order_words names solved.order) ∷ list_behind d.nodes names solved) → ⊥
       second ls solved order t = by_lines lines refl solved order t
 
   -- a line behind it
-  pub bad_behind : (text : List ℕ) (order : List ℕ) (lines : List (List ℕ)) (number : ℕ) → IsOrder d.nodes order → lines_of text ≡ title ∷ line (order_words names order) ∷ lines → StopsIn d.nodes names (slots_of d names order) lines 2 number → IsBadLine d names text number
+  pub bad_behind : (text : List ℕ) (order : List ℕ) (lines : List (List ℕ)) (number : ℕ) → IsDecisionOrder d.nodes order → lines_of text ≡ title ∷ line (order_words names order) ∷ lines → StopsIn d.nodes names (slots_of d names order) lines 2 number → IsBadLine d names text number
   bad_behind text order lines number stands_so e stops =
       let c = counted d.nodes names (slots_of d names order) lines 2 number stops in
       by_count c.place c.is c.stops
@@ -228,7 +227,7 @@ module _ (d : DiagramView) (names : NamesView) (is : IsTold d names) where
       let n = h.0 in
       bad_order text (lines_of mid.rest) number (taken_lines (codes "maidsolve report 1") (record { rest = text; read = 0 }) mid taken) (omega arith) h.1
 
-  pub unfinished : (text : List ℕ) (order : List ℕ) (mid new : LinesView) (fault : ReportFault) → IsOrder d.nodes order → IsTaken (codes "maidsolve report 1") (record { rest = text; read = 0 }) mid → IsTaken (order_words names order) mid new → IsStuck d.nodes names (slots_of d names order) new fault → IsFaultOrNoMemory bad_line (report_pass d names text) fault
+  pub unfinished : (text : List ℕ) (order : List ℕ) (mid new : LinesView) (fault : ReportFault) → IsDecisionOrder d.nodes order → IsTaken (codes "maidsolve report 1") (record { rest = text; read = 0 }) mid → IsTaken (order_words names order) mid new → IsStuck d.nodes names (slots_of d names order) new fault → IsFaultOrNoMemory bad_line (report_pass d names text) fault
   unfinished text order mid new NoMemory stands_so taken ordered h = tt
   unfinished text order mid new (BadLine number) stands_so taken ordered h =
       let r = taken.read in

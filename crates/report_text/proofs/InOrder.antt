@@ -1,6 +1,6 @@
 -- The words of the order's line, one by one: what was read is the front of every order that the line may show.
-use Rattle.std.proofs.Common.{◌≡◌, ◌≢◌, ◌⊎◌, ℕ, zero, suc, ◌+◌, ◌<◌, ◌≤◌, List, [], ◌∷◌, ◌++◌, map, length, get_or, true, inl, inr, refl, sym, ◌∙◌, ap, subst, arith, append_assoc, length-append}
-use Rattle.std.specs.Prelude.{All, AllPairs, Contains, codes}
+use Rattle.std.proofs.Common.{◌≡◌, ◌≢◌, ◌⊎◌, ℕ, zero, suc, ◌+◌, ◌<◌, List, [], ◌∷◌, ◌++◌, map, length, true, inl, inr, refl, sym, ◌∙◌, ap, subst, arith, append_assoc}
+use Rattle.std.specs.Prelude.{All, Contains, codes}
 use Rattle.std.proofs.lemmas.List.{append-nil}
 use Rattle.std.proofs.lemmas.Bool.{cases_order}
 use Rattle.std.proofs.lemmas.List.Elements.{All-contains, All-nil, All-push, Contains-append_cases, Contains-append_right, Contains-push_cases}
@@ -9,9 +9,9 @@ use Rattle.maid_model.specs.Views.{NodeView, DiagramView}
 use Rattle.maid_model.specs.Names.{NamesView, NamesFit, name_of}
 use Rattle.maid_model.specs.Nodes.{IsDecision}
 use Rattle.maid_model.specs.Reports.{spaced}
-use Rattle.report_text.specs.Reading.{AreTold, IsOneWord}
-use Rattle.report_text.specs.Slots.{IsEndOr, IsFront, IsOrder, lacks, order_words}
-use Rattle.report_text.proofs.OneCut.{SameCut, cut_is, lacks_from}
+use Rattle.report_text.specs.Reading.{AreTold}
+use Rattle.report_text.specs.Slots.{IsEndOr, IsFront, IsDecisionOrder, lacks, order_words}
+use Rattle.report_text.proofs.OneCut.{cut_is, lacks_from}
 use Rattle.report_text.proofs.Tails.{same_rest}
 
 -- a list whose elements are no such byte lacks it
@@ -85,7 +85,7 @@ pub record OrderSoFar (nodes : List NodeView) (names : NamesView) (line items re
   pub decisions : All (IsDecision nodes) items
   pub once : AllDifferent items
   pub line_is : line ≡ order_words names items ++ rest
-  pub others : (order : List ℕ) → IsOrder nodes order → line ≡ order_words names order → Extends names items rest order
+  pub others : (order : List ℕ) → IsDecisionOrder nodes order → line ≡ order_words names order → Extends names items rest order
 
 pub order_start : (nodes : List NodeView) (names : NamesView) (line rest : List ℕ) → line ≡ codes "order:" ++ rest → OrderSoFar nodes names line [] rest
 order_start nodes names line rest e = record {
@@ -108,7 +108,7 @@ module _ (d : DiagramView) (names : NamesView) (fit : NamesFit d names) (told : 
   named : (v : ℕ) → IsDecision d.nodes v → v < length names.nodes
   named v is = subst (λ n. v < n) (sym fit.nodes) is.within
 
-  pub next_name : (items rest words name others order : List ℕ) → IsOrder d.nodes order → rest ≡ 32 ∷ words → IsFront 32 words name others → Extends names items rest order → NextName d.nodes names name others items order
+  pub next_name : (items rest words name others order : List ℕ) → IsDecisionOrder d.nodes order → rest ≡ 32 ∷ words → IsFront 32 words name others → Extends names items rest order → NextName d.nodes names name others items order
   next_name items rest words name others order is e front ext = by_more ext.more ext.is ext.tail
     where
       by_more : (more : List ℕ) → order ≡ items ++ more → rest ≡ spaced (map (name_of names) more) → NextName d.nodes names name others items order
@@ -132,19 +132,19 @@ module _ (d : DiagramView) (names : NamesView) (fit : NamesFit d names) (told : 
   }
 
   -- a word that is no decision's name, or a name that came before
-  pub order_unnamed : (line items rest words name others order : List ℕ) → OrderSoFar d.nodes names line items rest → rest ≡ 32 ∷ words → IsFront 32 words name others → ((v : ℕ) → IsDecision d.nodes v → name_of names v ≢ name) → IsOrder d.nodes order → line ≡ order_words names order → ⊥
+  pub order_unnamed : (line items rest words name others order : List ℕ) → OrderSoFar d.nodes names line items rest → rest ≡ 32 ∷ words → IsFront 32 words name others → ((v : ℕ) → IsDecision d.nodes v → name_of names v ≢ name) → IsDecisionOrder d.nodes order → line ≡ order_words names order → ⊥
   order_unnamed line items rest words name others order so e front none stands same =
       let next = next_name items rest words name others order stands e front (so.others order stands same) in
       none next.node next.decision (sym next.name_is)
 
-  pub order_again : (line items rest words name others order : List ℕ) (node : ℕ) → OrderSoFar d.nodes names line items rest → rest ≡ 32 ∷ words → IsFront 32 words name others → IsDecision d.nodes node → name_of names node ≡ name → Contains items node → IsOrder d.nodes order → line ≡ order_words names order → ⊥
+  pub order_again : (line items rest words name others order : List ℕ) (node : ℕ) → OrderSoFar d.nodes names line items rest → rest ≡ 32 ∷ words → IsFront 32 words name others → IsDecision d.nodes node → name_of names node ≡ name → Contains items node → IsDecisionOrder d.nodes order → line ≡ order_words names order → ⊥
   order_again line items rest words name others order node so e front decision is again stands same =
       let next = next_name items rest words name others order stands e front (so.others order stands same) in
       let node_is : next.node ≡ node = one_name names told next.node node (named next.node next.decision) (named node decision) (sym next.name_is ∙ sym is) in
       different_front items node next.more (subst AllDifferent (next.is ∙ ap (λ v. items ++ v ∷ next.more) node_is) stands.once) again
 
   -- a rest that begins with no space
-  pub order_spaceless : (line items rest order : List ℕ) → OrderSoFar d.nodes names line items rest → 0 < length rest → ((words : List ℕ) → rest ≡ 32 ∷ words → ⊥) → IsOrder d.nodes order → line ≡ order_words names order → ⊥
+  pub order_spaceless : (line items rest order : List ℕ) → OrderSoFar d.nodes names line items rest → 0 < length rest → ((words : List ℕ) → rest ≡ 32 ∷ words → ⊥) → IsDecisionOrder d.nodes order → line ≡ order_words names order → ⊥
   order_spaceless line items rest order so some none stands same = by_more (so.others order stands same).more (so.others order stands same).tail
     where
       by_more : (more : List ℕ) → rest ≡ spaced (map (name_of names) more) → ⊥
@@ -152,10 +152,10 @@ module _ (d : DiagramView) (names : NamesView) (fit : NamesFit d names) (told : 
       by_more (v ∷ more) t = none (name_of names v ++ spaced (map (name_of names) more)) t
 
   -- the end
-  pub order_end : (line items rest : List ℕ) → OrderSoFar d.nodes names line items rest → rest ≡ [] → ((v : ℕ) → IsDecision d.nodes v → Contains items v) → IsOrder d.nodes items × (line ≡ order_words names items)
+  pub order_end : (line items rest : List ℕ) → OrderSoFar d.nodes names line items rest → rest ≡ [] → ((v : ℕ) → IsDecision d.nodes v → Contains items v) → IsDecisionOrder d.nodes items × (line ≡ order_words names items)
   order_end line items rest so e all = (record { decisions = so.decisions; all = all; once = so.once }, so.line_is ∙ ap (λ x. order_words names items ++ x) e ∙ append-nil (order_words names items))
 
-  pub order_short : (line items rest order : List ℕ) → OrderSoFar d.nodes names line items rest → rest ≡ [] → (((v : ℕ) → IsDecision d.nodes v → Contains items v) → ⊥) → IsOrder d.nodes order → line ≡ order_words names order → ⊥
+  pub order_short : (line items rest order : List ℕ) → OrderSoFar d.nodes names line items rest → rest ≡ [] → (((v : ℕ) → IsDecision d.nodes v → Contains items v) → ⊥) → IsDecisionOrder d.nodes order → line ≡ order_words names order → ⊥
   order_short line items rest order so e short stands same = by_more (so.others order stands same).more (so.others order stands same).is (so.others order stands same).tail
     where
       by_more : (more : List ℕ) → order ≡ items ++ more → rest ≡ spaced (map (name_of names) more) → ⊥

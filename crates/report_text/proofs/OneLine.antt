@@ -11,8 +11,8 @@ use Rattle.maid_model.specs.declared.answers.Row.{Row}
 use Rattle.maid_model.specs.Views.{NodeView}
 use Rattle.maid_model.specs.Names.{NamesView, name_of, label_of, labels_of, agent_name}
 use Rattle.maid_model.specs.Nodes.{agent_of, parents_of, states_of}
-use Rattle.maid_model.specs.Reports.{escaped, parent_states, quoted, ratio_text, spaced, state_labels, worth_text}
-use Rattle.report_text.specs.Reading.{AreTold, IsOneLine}
+use Rattle.maid_model.specs.Reports.{IsOneLine, escaped, parent_states, quoted, ratio_text, spaced, state_labels, worth_text}
+use Rattle.report_text.specs.Reading.{AreTold}
 use Rattle.report_text.specs.Slots.{lacks, den_text, decision_words, gain_words, gain_front, order_words, row_front, row_words, state_text}
 use Rattle.report_text.proofs.OneCut.{lacks_append, lacks_from}
 use Rattle.report_text.proofs.InOrder.{lacks_all}

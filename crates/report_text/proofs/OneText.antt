@@ -1,17 +1,17 @@
 -- A report is the text of one value: line by line, each is made of one order, one row, one gain.
-use Rattle.std.proofs.Common.{◌≡◌, ℕ, zero, suc, ◌+◌, ◌<◌, ◌≤◌, ◌^◌, List, [], ◌∷◌, ◌++◌, map, length, get_or, refl, sym, ◌∙◌, ap, subst, arith, append_assoc}
+use Rattle.std.proofs.Common.{◌≡◌, ℕ, ◌+◌, ◌<◌, ◌≤◌, List, [], ◌∷◌, ◌++◌, map, length, get_or, refl, sym, ◌∙◌, ap, subst, arith, append_assoc}
 use Rattle.std.specs.Prelude.{All, Option, Some, None, IfSome, codes, decimal}
 use Rattle.std.specs.List.{flat_map}
 use Rattle.std.proofs.lemmas.List.Elements.{All-head, All-tail}
 use Rattle.maid_model.specs.declared.answers.Ratio.{Ratio}
 use Rattle.maid_model.specs.declared.answers.Row.{Row}
-use Rattle.maid_model.specs.Views.{NodeView, DiagramView, AnswerView, SolvedView}
+use Rattle.maid_model.specs.Views.{DiagramView, AnswerView, SolvedView}
 use Rattle.maid_model.specs.Names.{NamesView, name_of, label_of}
 use Rattle.maid_model.specs.Nodes.{IsDecision, states_of, rows_of}
 use Rattle.maid_model.specs.Reports.{gain_line, line, quoted, report, row_line, spaced, worth_text}
 use Rattle.report_text.specs.Reading.{CanStand, FitsRatio, lines_of}
-use Rattle.report_text.specs.Laws.{IsTold}
-use Rattle.report_text.specs.Slots.{IsOrder, IsRead, IsRow, gain_front, gain_words, order_words, row_front, row_words, state_text}
+use Rattle.report_text.specs.Laws.{IsToldApart}
+use Rattle.report_text.specs.Slots.{IsDecisionOrder, IsRead, IsRow, gain_front, gain_words, order_words, row_front, row_words, state_text}
 use Rattle.report_text.proofs.Digits.{decimal_lacks, decimal_one}
 use Rattle.report_text.proofs.Fractions.{ratio_one}
 use Rattle.report_text.proofs.InOrder.{name_lacks_space, one_name, spaced_begins}
@@ -30,7 +30,7 @@ worth_one (Some r) (Some s) p q e = ap Some (ratio_one r s p q (same_rest (codes
 same_row : (r s : Row) → r.choice ≡ s.choice → r.worth ≡ s.worth → r ≡ s
 same_row r s c w = λ i. record { choice = c i; worth = w i }
 
-module _ (d : DiagramView) (names : NamesView) (is : IsTold d names) where
+module _ (d : DiagramView) (names : NamesView) (is : IsToldApart d names) where
   named : (v : ℕ) → IsDecision d.nodes v → v < length names.nodes
   named v decision = subst (λ n. v < n) (sym is.fit.nodes) decision.within
 
@@ -48,7 +48,7 @@ module _ (d : DiagramView) (names : NamesView) (is : IsTold d names) where
       λ i. head i ∷ rest i
 
   -- one order for a line
-  pub order_one : (order other : List ℕ) → IsOrder d.nodes order → IsOrder d.nodes other → order_words names order ++ 10 ∷ [] ≡ order_words names other ++ 10 ∷ [] → order ≡ other
+  pub order_one : (order other : List ℕ) → IsDecisionOrder d.nodes order → IsDecisionOrder d.nodes other → order_words names order ++ 10 ∷ [] ≡ order_words names other ++ 10 ∷ [] → order ≡ other
   order_one order other p q e = spaced_one order other p.decisions q.decisions (same_rest (codes "order:") _ _ (same_front (order_words names order) (order_words names other) e))
 
   few_states : (v : ℕ) → states_of d.nodes v ≤ 256

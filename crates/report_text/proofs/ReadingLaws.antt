@@ -1,17 +1,17 @@
 -- The laws of reports.
-use Rattle.std.proofs.Common.{◌≡◌, ◌⊎◌, ◌↔◌, ℕ, ◌+◌, ◌-◌, ◌<◌, ◌≤◌, List, take, take-take, inl, inr, refl, sym, ◌∙◌, ap, subst, arith}
+use Rattle.std.proofs.Common.{◌≡◌, ◌⊎◌, ℕ, ◌-◌, ◌<◌, ◌≤◌, List, take, take-take, inl, inr, refl, sym, ◌∙◌, ap, subst, arith}
 use Rattle.std.proofs.lemmas.Bool.{cases_order}
-use Rattle.maid_model.specs.Views.{DiagramView, SolvedView}
+use Rattle.maid_model.specs.Views.{DiagramView}
 use Rattle.maid_model.specs.Names.{NamesView}
 use Rattle.maid_model.specs.Reports.{report}
-use Rattle.report_text.specs.Reading.{BeginsReport, CanStand, IsBadLine, IsReadAs, lines_of}
-use Rattle.report_text.specs.Laws.{IsTold, OneValue, ReadsBack, Exclusive, OneBadLine}
+use Rattle.report_text.specs.Reading.{BeginsReport, CanStand, lines_of}
+use Rattle.report_text.specs.Laws.{OneValue, ReportReadsBack, Exclusive, OneBadLine}
 use Rattle.report_text.proofs.OneText.{value_one}
 
 pub one_value : OneValue
 one_value d names text solved other is p q = value_one d names is solved other p.value q.value (sym p.is ∙ q.is)
 
-pub reads_back : ReadsBack
+pub reads_back : ReportReadsBack
 reads_back d names solved other is stands =
     (λ q. value_one d names is other solved q.value stands (sym q.is), λ e. record { value = subst (CanStand d) (sym e) stands; is = ap (report d names) (sym e) })
 

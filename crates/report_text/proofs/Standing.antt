@@ -1,14 +1,13 @@
 -- A value that a report can show, by its parts.
-use Rattle.std.proofs.Common.{◌≡◌, ℕ, ◌<◌, List, [], ◌∷◌, map, length, refl, sym, subst}
+use Rattle.std.proofs.Common.{◌≡◌, ℕ, List, [], ◌∷◌, map, length, refl, sym, subst}
 use Rattle.std.specs.Prelude.{All, Option, Some, None, IfSome}
-use Rattle.std.proofs.lemmas.List.Elements.{All-nil, All-cons, All-head, All-map, All-tail, All-weaker}
+use Rattle.std.proofs.lemmas.List.Elements.{All-nil, All-cons, All-head, All-map, All-tail}
 use Rattle.maid_model.specs.declared.answers.Ratio.{Ratio}
-use Rattle.maid_model.specs.declared.answers.Row.{Row}
 use Rattle.maid_model.specs.Views.{NodeView, DiagramView, AnswerView, SolvedView}
-use Rattle.maid_model.specs.Answers.{FitsAnswer, FitsDiagram, IsReduced}
-use Rattle.maid_model.specs.Nodes.{IsDecision, states_of}
-use Rattle.report_text.specs.Reading.{CanStand, HasRatio, FitsRatio}
-use Rattle.report_text.specs.Slots.{IsOrder, IsRead, IsRow}
+use Rattle.maid_model.specs.Answers.{FitsAnswer, IsReduced}
+use Rattle.maid_model.specs.Nodes.{IsDecision}
+use Rattle.report_text.specs.Reading.{CanStand, FitsRatio}
+use Rattle.report_text.specs.Slots.{IsDecisionOrder, IsRead}
 
 worth_reduced : (worth : Option Ratio) → IfSome worth FitsRatio → IfSome worth IsReduced
 worth_reduced None h = tt
@@ -30,7 +29,7 @@ answers_fit nodes (a ∷ answers) is read =
     (answers_fit nodes answers (All-tail (IsDecision nodes) a.decision (map (λ (b : AnswerView). b.decision) answers) is) (All-tail (IsRead nodes) a answers read))
 
 -- from its parts
-pub stands : (d : DiagramView) (order : List ℕ) (answers : List AnswerView) (gains : List Ratio) → IsOrder d.nodes order → map (λ (a : AnswerView). a.decision) answers ≡ order → All (IsRead d.nodes) answers → length gains ≡ d.agents → All FitsRatio gains → CanStand d (record { order = order; answers = answers; gains = gains })
+pub stands : (d : DiagramView) (order : List ℕ) (answers : List AnswerView) (gains : List Ratio) → IsDecisionOrder d.nodes order → map (λ (a : AnswerView). a.decision) answers ≡ order → All (IsRead d.nodes) answers → length gains ≡ d.agents → All FitsRatio gains → CanStand d (record { order = order; answers = answers; gains = gains })
 stands d order answers gains is follow read size ratios = record {
   fits = record {
     follow = follow;
@@ -45,7 +44,7 @@ stands d order answers gains is follow read size ratios = record {
 }
 
 -- and to them
-pub standing_order : (d : DiagramView) (solved : SolvedView) → CanStand d solved → IsOrder d.nodes solved.order
+pub standing_order : (d : DiagramView) (solved : SolvedView) → CanStand d solved → IsDecisionOrder d.nodes solved.order
 standing_order d solved is = record {
   decisions = subst (λ xs. All (IsDecision d.nodes) xs) is.fits.follow (All-map (IsDecision d.nodes) (λ (a : AnswerView). a.decision) solved.answers (λ k e h. (is.fits.answers k e h).decision));
   all = is.fits.all;

@@ -1,5 +1,5 @@
 -- Lines in turn: where a line was read at its place, the text stops where the others stop.
-use Rattle.std.proofs.Common.{◌≡◌, ◌≢◌, ◌⊎◌, ℕ, zero, suc, ◌+◌, ◌<◌, List, [], ◌∷◌, ◌++◌, length, true, false, Bool, not, eqb, cond, inl, inr, refl, sym, ◌∙◌, ap, subst, arith, append_assoc, tests}
+use Rattle.std.proofs.Common.{◌≡◌, ℕ, ◌+◌, List, [], ◌∷◌, ◌++◌, true, false, Bool, not, eqb, cond, inl, inr, refl, sym, ◌∙◌, ap, subst, arith, append_assoc, tests}
 use Rattle.std.specs.List.{onto_first}
 use Rattle.std.proofs.lemmas.Bool.{and_parts}
 use Rattle.maid_model.specs.Views.{NodeView}
@@ -7,7 +7,7 @@ use Rattle.maid_model.specs.Names.{NamesView}
 use Rattle.report_text.specs.declared.reading.ReportFault.{ReportFault}
 use Rattle.report_text.specs.declared.reading.ReportFault.TheVariants.{BadLine, NoMemory}
 use Rattle.report_text.specs.Reading.{lines_of}
-use Rattle.report_text.specs.Slots.{Slot, End, Shows, StopsIn, IsOrder, IsOrderless, IsStuck, Passes, LinesView, IsTaken, lacks, order_words}
+use Rattle.report_text.specs.Slots.{Slot, End, Shows, StopsIn, IsDecisionOrder, IsOrderless, IsStuck, PassesLines, LinesView, IsTaken, lacks, order_words}
 use Rattle.report_text.proofs.Tails.{same_front}
 
 -- the first line of a text, where it has an end
@@ -58,19 +58,19 @@ module _ (nodes : List NodeView) (names : NamesView) where
   stuck_front slots others lines (BadLine number) h = stops_front slots others (lines_of lines.rest) lines.read number h
 
   -- behind lines that were read
-  pub stuck_behind : (slots others : List Slot) (old new : LinesView) (fault : ReportFault) → Passes nodes names slots old new → IsStuck nodes names others new fault → IsStuck nodes names (slots ++ others) old fault
+  pub stuck_behind : (slots others : List Slot) (old new : LinesView) (fault : ReportFault) → PassesLines nodes names slots old new → IsStuck nodes names others new fault → IsStuck nodes names (slots ++ others) old fault
   stuck_behind slots others old new NoMemory passes h = tt
   stuck_behind slots others old new (BadLine number) passes h = passes others number h
 
-  pub passes_none : (lines : LinesView) → Passes nodes names [] lines lines
+  pub passes_none : (lines : LinesView) → PassesLines nodes names [] lines lines
   passes_none lines others number h = h
 
-  pub passes_one : (slot : Slot) (line : List ℕ) (old new : LinesView) → Shows nodes names slot (line ++ 10 ∷ []) → IsTaken line old new → Passes nodes names (slot ∷ []) old new
+  pub passes_one : (slot : Slot) (line : List ℕ) (old new : LinesView) → Shows nodes names slot (line ++ 10 ∷ []) → IsTaken line old new → PassesLines nodes names (slot ∷ []) old new
   passes_one slot line old new shows taken others number h =
       subst (λ lines. StopsIn nodes names (slot ∷ others) lines old.read number) (sym (taken_lines line old new taken))
       (inr (shows, subst (λ n. StopsIn nodes names others (lines_of new.rest) n number) taken.read h))
 
-  pub passes_then : (slots others : List Slot) (old mid new : LinesView) → Passes nodes names slots old mid → Passes nodes names others mid new → Passes nodes names (slots ++ others) old new
+  pub passes_then : (slots others : List Slot) (old mid new : LinesView) → PassesLines nodes names slots old mid → PassesLines nodes names others mid new → PassesLines nodes names (slots ++ others) old new
   passes_then slots others old mid new p q rest number h =
       subst (λ s. StopsIn nodes names s (lines_of old.rest) old.read number) (sym (append_assoc slots others rest)) (p (others ++ rest) number (q rest number h))
 
@@ -104,7 +104,7 @@ module _ (nodes : List NodeView) (names : NamesView) where
       by_lines (b ∷ bytes) more = by_test (eqb b 10) b bytes
 
   -- no line of an order
-  pub orderless_line : (line : List ℕ) (old new : LinesView) → IsTaken line old new → ((order : List ℕ) → IsOrder nodes order → line ≡ order_words names order → ⊥) → IsOrderless nodes names old (BadLine (old.read + 1))
+  pub orderless_line : (line : List ℕ) (old new : LinesView) → IsTaken line old new → ((order : List ℕ) → IsDecisionOrder nodes order → line ≡ order_words names order → ⊥) → IsOrderless nodes names old (BadLine (old.read + 1))
   orderless_line line old new taken none =
       (refl, λ order others is e. none order is (same_front line (order_words names order) (let same : (line ++ 10 ∷ []) ∷ lines_of new.rest ≡ (order_words names order ++ 10 ∷ []) ∷ others = sym (taken_lines line old new taken) ∙ e in let head : line ++ 10 ∷ [] ≡ order_words names order ++ 10 ∷ [] = cc in head)))
 

@@ -1,5 +1,5 @@
 -- Rows, decisions and gains in turn: one more line, or the line at which the text stops.
-use Rattle.std.proofs.Common.{◌≡◌, ℕ, zero, suc, ◌+◌, ◌-◌, ◌<◌, ◌≤◌, List, [], ◌∷◌, ◌++◌, map, length, take, drop, get_or, refl, sym, ◌∙◌, ap, subst, arith, append_assoc, length-append, add-one, drop-cons}
+use Rattle.std.proofs.Common.{◌≡◌, ℕ, zero, suc, ◌+◌, ◌-◌, ◌<◌, List, [], ◌∷◌, ◌++◌, map, length, take, drop, get_or, refl, sym, ◌∙◌, ap, subst, arith, append_assoc, length-append, add-one, drop-cons}
 use Rattle.std.specs.Prelude.{All}
 use Rattle.std.specs.List.{flat_map}
 use Rattle.std.proofs.lemmas.List.{append-nil, take-append-drop}
@@ -12,7 +12,7 @@ use Rattle.maid_model.specs.Nodes.{rows_of}
 use Rattle.maid_model.specs.Reports.{decision_head, decision_lines, gain_line, gain_lines, row_line, row_lines}
 use Rattle.report_text.specs.Reading.{FitsRatio}
 use Rattle.report_text.specs.declared.reading.ReportFault.{ReportFault}
-use Rattle.report_text.specs.Slots.{Slot, Told, OfRow, OfGain, IsRead, IsRow, IsStuck, IsTaken, LinesView, Passes, ReadsAnswer, ReadsAnswers, ReadsGains, ReadsRows, answer_slots, decision_words, gain_slots, gain_words, row_slots, row_words}
+use Rattle.report_text.specs.Slots.{Told, OfRow, OfGain, IsRead, IsRow, IsStuck, IsTaken, LinesView, PassesLines, ReadsAnswer, ReadsAnswers, ReadsGains, ReadsRows, answer_slots, decision_words, gain_slots, gain_words, row_slots, row_words}
 use Rattle.report_text.proofs.Stops.{passes_none, passes_one, passes_then, stuck_behind, stuck_front}
 use Rattle.report_text.proofs.Unended.{gain_line_is, row_line_is}
 
@@ -81,7 +81,7 @@ module _ (nodes : List NodeView) (names : NamesView) where
     count = length-append rows (row ∷ []) ∙ ap (λ n. n + 1) so.count;
     rows = All-push (IsRow nodes d) rows row so.rows is;
     bytes = more_bytes old.rest (row_lines nodes names d 0 rows) mid.rest (row_line nodes names d number row) new.rest so.bytes line ∙ ap (λ x. x ++ new.rest) (sym pushed);
-    passes = subst (λ s. Passes nodes names s old new) (sym (row_slots_push d number)) (passes_then nodes names (row_slots d 0 number) (OfRow d number ∷ []) old mid new so.passes (passes_one nodes names (OfRow d number) (row_words nodes names d number row) mid new (row, is, sym (row_line_is nodes names d number row)) taken));
+    passes = subst (λ s. PassesLines nodes names s old new) (sym (row_slots_push d number)) (passes_then nodes names (row_slots d 0 number) (OfRow d number ∷ []) old mid new so.passes (passes_one nodes names (OfRow d number) (row_words nodes names d number row) mid new (row, is, sym (row_line_is nodes names d number row)) taken));
   }
     where
       line : mid.rest ≡ row_line nodes names d number row ++ new.rest
@@ -109,7 +109,7 @@ module _ (nodes : List NodeView) (names : NamesView) where
     count = length-append gains (gain ∷ []) ∙ ap (λ n. n + 1) so.count;
     gains = All-push FitsRatio gains gain so.gains is;
     bytes = more_bytes old.rest (gain_lines names 0 gains) mid.rest (gain_line names agent gain) new.rest so.bytes line ∙ ap (λ x. x ++ new.rest) (sym pushed);
-    passes = subst (λ s. Passes nodes names s old new) (sym (gain_slots_push agent)) (passes_then nodes names (gain_slots 0 agent) (OfGain agent ∷ []) old mid new so.passes (passes_one nodes names (OfGain agent) (gain_words names agent gain) mid new (gain, is, sym (gain_line_is names agent gain)) taken));
+    passes = subst (λ s. PassesLines nodes names s old new) (sym (gain_slots_push agent)) (passes_then nodes names (gain_slots 0 agent) (OfGain agent ∷ []) old mid new so.passes (passes_one nodes names (OfGain agent) (gain_words names agent gain) mid new (gain, is, sym (gain_line_is names agent gain)) taken));
   }
     where
       line : mid.rest ≡ gain_line names agent gain ++ new.rest
@@ -163,7 +163,7 @@ module _ (nodes : List NodeView) (names : NamesView) where
     follow = map_push answers answer ∙ (λ i. so.follow i ++ one.decision i ∷ []);
     each = All-push (IsRead nodes) answers answer so.each read;
     bytes = more_bytes old.rest (flat_map (decision_lines nodes names) answers) mid.rest (decision_lines nodes names answer) new.rest so.bytes one.bytes ∙ ap (λ x. x ++ new.rest) (sym (flat_push (decision_lines nodes names) answers answer));
-    passes = subst (λ s. Passes nodes names s old new) (sym (flat_push (answer_slots nodes names) order d)) (passes_then nodes names (flat_map (answer_slots nodes names) order) (answer_slots nodes names d) old mid new so.passes one.passes);
+    passes = subst (λ s. PassesLines nodes names s old new) (sym (flat_push (answer_slots nodes names) order d)) (passes_then nodes names (flat_map (answer_slots nodes names) order) (answer_slots nodes names d) old mid new so.passes one.passes);
   }
     where
       read : IsRead nodes answer

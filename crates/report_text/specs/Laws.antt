@@ -8,7 +8,7 @@ use Rattle.maid_model.specs.Reports.{report}
 use Rattle.report_text.specs.Reading.{AreTold, CanStand, IsReadAs, report_pass}
 
 -- a diagram with names that fit it and that a report tells apart
-pub record IsTold (d : DiagramView) (names : NamesView) : Type 0 where
+pub record IsToldApart (d : DiagramView) (names : NamesView) : Type 0 where
   pub diagram : IsDiagram d
   pub fit : NamesFit d names
   pub told : AreTold names
@@ -16,11 +16,11 @@ pub record IsTold (d : DiagramView) (names : NamesView) : Type 0 where
 -- a text is read as one value at most
 abbrev pub OneValue : Type 0
 OneValue = (d : DiagramView) (names : NamesView) (text : List ℕ) (solved other : SolvedView)
-    → IsTold d names → IsReadAs d names text solved → IsReadAs d names text other → solved ≡ other
+    → IsToldApart d names → IsReadAs d names text solved → IsReadAs d names text other → solved ≡ other
 
 -- what is printed of a value is read as that value and as no other
-abbrev pub ReadsBack : Type 0
-ReadsBack = (d : DiagramView) (names : NamesView) (solved other : SolvedView) → IsTold d names
+abbrev pub ReportReadsBack : Type 0
+ReportReadsBack = (d : DiagramView) (names : NamesView) (solved other : SolvedView) → IsToldApart d names
     → CanStand d solved → IsReadAs d names (report d names solved) other ↔ (other ≡ solved)
 
 -- a text that is a report has no bad line

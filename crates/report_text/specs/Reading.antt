@@ -9,15 +9,11 @@ use Rattle.maid_model.specs.declared.answers.Row.{Row}
 use Rattle.maid_model.specs.Views.{DiagramView, AnswerView, SolvedView}
 use Rattle.maid_model.specs.Names.{NamesView}
 use Rattle.maid_model.specs.Answers.{IsReduced, FitsDiagram}
-use Rattle.maid_model.specs.Reports.{report}
+use Rattle.maid_model.specs.Reports.{IsOneLine, report}
 use Rattle.report_text.specs.declared.reading.ReportFault.{ReportFault}
 use Rattle.report_text.specs.declared.reading.ReportFault.TheVariants.{BadLine, NoMemory}
 
--- no byte ends a line
-abbrev pub IsOneLine : List ℕ → Type 0
-IsOneLine bytes = All (λ byte. byte ≢ 10) bytes
-
--- nor is one a space
+-- no byte ends a line or is a space
 abbrev pub IsOneWord : List ℕ → Type 0
 IsOneWord bytes = All (λ byte. (byte ≢ 10) × (byte ≢ 32)) bytes
 

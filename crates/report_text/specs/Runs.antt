@@ -1,5 +1,5 @@
 -- The lines of rows under one choice of some parents' states. Only private functions cite it.
-use Rattle.std.specs.Prelude.{◌≡◌, ◌≢◌, ℕ, zero, suc, ◌+◌, ◌<◌, ◌≤◌, length, List, Result, [], ◌++◌, codes, decimal, slice_index_or}
+use Rattle.std.specs.Prelude.{◌≢◌, ℕ, zero, suc, ◌+◌, ◌<◌, ◌≤◌, length, List, Result, [], ◌++◌, codes, decimal, slice_index_or}
 use Rattle.std.specs.Global.{Vec}
 use Rattle.line_pieces.specs.Pushed.{PushAppends}
 use Rattle.report_text.specs.declared.row_runs.Sheet.{Sheet}

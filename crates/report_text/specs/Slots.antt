@@ -78,7 +78,7 @@ abbrev pub gain_words : NamesView → ℕ → Ratio → List ℕ
 gain_words names agent gain = gain_front names agent ++ ratio_text gain
 
 -- an order of all decisions, each once
-pub record IsOrder (nodes : List NodeView) (order : List ℕ) : Type 0 where
+pub record IsDecisionOrder (nodes : List NodeView) (order : List ℕ) : Type 0 where
   pub decisions : All (IsDecision nodes) order
   pub all : (v : ℕ) → IsDecision nodes v → Contains order v
   pub once : AllDifferent order
@@ -94,8 +94,8 @@ NamesNoDecision nodes names name = (v : ℕ) → IsDecision nodes v → name_of 
 -- such an order whose line it is, and none only where it is the line of none
 abbrev pub TellsOrder : List NodeView → NamesView → List ℕ → Option (Vec ℕ) → Type 0
 TellsOrder nodes names line found =
-    MatchOption found ((order : List ℕ) → IsOrder nodes order → line ≢ order_words names order)
-    (λ order. IsOrder nodes order.items × (line ≡ order_words names order.items))
+    MatchOption found ((order : List ℕ) → IsDecisionOrder nodes order → line ≢ order_words names order)
+    (λ order. IsDecisionOrder nodes order.items × (line ≡ order_words names order.items))
 
 -- a row of the decision, with a choice in range
 pub record IsRow (nodes : List NodeView) (d : ℕ) (row : Row) : Type 0 where
@@ -236,8 +236,8 @@ abbrev pub IsStuckByNames : NamesView → List Slot → LinesView → ReportFaul
 IsStuckByNames names slots lines fault = (nodes : List NodeView) → IsStuck nodes names slots lines fault
 
 -- Lines at these places were read: where the others stop, so do all.
-abbrev pub Passes : List NodeView → NamesView → List Slot → LinesView → LinesView → Type 0
-Passes nodes names slots old new = (others : List Slot) (number : ℕ)
+abbrev pub PassesLines : List NodeView → NamesView → List Slot → LinesView → LinesView → Type 0
+PassesLines nodes names slots old new = (others : List Slot) (number : ℕ)
     → StopsIn nodes names others (lines_of new.rest) new.read number
     → StopsIn nodes names (slots ++ others) (lines_of old.rest) old.read number
 
@@ -265,7 +265,7 @@ TakesOrder names old new order = IsTaken (order_words names order.items) old new
 abbrev pub IsOrderless : List NodeView → NamesView → LinesView → ReportFault → Type 0
 IsOrderless nodes names lines NoMemory = Unit {0}
 IsOrderless nodes names lines (BadLine number) = (number ≡ lines.read + 1)
-    × ((order : List ℕ) (others : List (List ℕ)) → IsOrder nodes order
+    × ((order : List ℕ) (others : List (List ℕ)) → IsDecisionOrder nodes order
     → lines_of lines.rest ≢ line (order_words names order) ∷ others)
 
 -- the rows of a decision were read
@@ -275,7 +275,7 @@ pub record ReadsRows
   pub count : length list ≡ number
   pub rows : All (IsRow nodes d) list
   pub bytes : old.rest ≡ row_lines nodes names d 0 list ++ new.rest
-  pub passes : Passes nodes names (row_slots d 0 number) old new
+  pub passes : PassesLines nodes names (row_slots d 0 number) old new
 
 -- all rows of a decision were
 abbrev pub TakesRows : DiagramView → NamesView → ℕ → LinesView → LinesView → Vec Row → Type 0
@@ -290,7 +290,7 @@ pub record ReadsAnswer
   pub count : length answer.rows ≡ rows_of nodes d
   pub rows : All (IsRow nodes d) answer.rows
   pub bytes : old.rest ≡ decision_lines nodes names answer ++ new.rest
-  pub passes : Passes nodes names (answer_slots nodes names d) old new
+  pub passes : PassesLines nodes names (answer_slots nodes names d) old new
 
 -- so it was, and this is its answer
 abbrev pub TakesAnswer : DiagramView → NamesView → ℕ → LinesView → LinesView → AnswerView → Type 0
@@ -308,7 +308,7 @@ pub record ReadsAnswers
   pub follow : map (λ (a : AnswerView). a.decision) answers ≡ order
   pub each : All (IsRead nodes) answers
   pub bytes : old.rest ≡ flat_map (decision_lines nodes names) answers ++ new.rest
-  pub passes : Passes nodes names (flat_map (answer_slots nodes names) order) old new
+  pub passes : PassesLines nodes names (flat_map (answer_slots nodes names) order) old new
 
 -- so they were, and these are their answers
 abbrev pub TakesAnswers :
@@ -323,7 +323,7 @@ pub record ReadsGains
   pub count : length list ≡ agents
   pub gains : All FitsRatio list
   pub bytes : old.rest ≡ gain_lines names 0 list ++ new.rest
-  pub passes : Passes nodes names (gain_slots 0 agents) old new
+  pub passes : PassesLines nodes names (gain_slots 0 agents) old new
 
 -- so they were, and these are their gains, whatever the diagram is
 abbrev pub TakesGains : NamesView → ℕ → LinesView → LinesView → Vec Ratio → Type 0

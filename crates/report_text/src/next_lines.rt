@@ -5,7 +5,7 @@ ghost use Rattle.maid_model.specs.Names.{NamesFit};
 ghost use Rattle.maid_model.specs.Nodes.{IsDecision, rows_of};
 ghost use Rattle.maid_model.specs.Reports.{line};
 ghost use Rattle.report_text.specs.Reading.{AreTold};
-ghost use Rattle.report_text.specs.Slots.{End, IsOrder, IsOrderless, IsStuckAlways, IsStuckByNames, IsStuckInAnswer, IsStuckInAnswers, IsStuckInRow, IsStuckInRows, IsTaken, OfGain, TakesAnswer, TakesAnswers, TakesGain, TakesGains, TakesOrder, TakesRow, TakesRows, Told, gain_slots};
+ghost use Rattle.report_text.specs.Slots.{End, IsDecisionOrder, IsOrderless, IsStuckAlways, IsStuckByNames, IsStuckInAnswer, IsStuckInAnswers, IsStuckInRow, IsStuckInRows, IsTaken, OfGain, TakesAnswer, TakesAnswers, TakesGain, TakesGains, TakesOrder, TakesRow, TakesRows, Told, gain_slots};
 
 use crate::ReportFault;
 use crate::lines::LineReader;
@@ -49,7 +49,7 @@ pub(crate) fn next_order(
 ) -> Result<Vec<usize>, ReportFault>
     requires fit { NamesFit diagram.now names.now }
     requires told { AreTold names.now }
-    ensures order { IfOk result (λ order. IsOrder diagram.now.nodes order.items) }
+    ensures order { IfOk result (λ order. IsDecisionOrder diagram.now.nodes order.items) }
     ensures taken { IfOk result (TakesOrder names.now lines.old lines.new) }
     ensures err { IfErr result (IsOrderless diagram.now.nodes names.now lines.old) }
 {

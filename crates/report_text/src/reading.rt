@@ -3,7 +3,7 @@
 ghost use Rattle.std.specs.Prelude.{◌≡◌, IfOk, IfErr};
 ghost use Rattle.maid_model.specs.Names.{NamesFit};
 ghost use Rattle.report_text.specs.Reading.{AreTold, CanStand, IsReadAs, IsBadLineOrNoMemory};
-ghost use Rattle.report_text.specs.Slots.{IsOrder, IsStuckBehindOrder, ShowsSolved};
+ghost use Rattle.report_text.specs.Slots.{IsDecisionOrder, IsStuckBehindOrder, ShowsSolved};
 
 use crate::lines::LineReader;
 use crate::next_lines::{next_answers, next_gains, next_order, pass_end, pass_words};
@@ -54,7 +54,7 @@ fn read_behind(
 ) -> Result<Solved, ReportFault>
     requires fit { NamesFit diagram.now names.now }
     requires agents { agents ≡ diagram.now.agents }
-    requires order { IsOrder diagram.now.nodes order.items }
+    requires order { IsDecisionOrder diagram.now.nodes order.items }
     ensures value { IfOk result (CanStand diagram.now) }
     ensures order { IfOk result (λ solved. solved.order ≡ order.items) }
     ensures bytes { IfOk result (ShowsSolved diagram.now names.now lines.old.rest) }

@@ -18,9 +18,9 @@ use Rattle.maid_model.specs.Subgames.{OwnsAll}
 use Rattle.maid_model.specs.Tables.{HasChanceTables}
 use Rattle.maid_model.specs.Values.{IsOptimum}
 use Rattle.maid_model.specs.Views.{NodeView, DiagramView, RuleView, AnswerView, SolvedView}
+use Rattle.maid_model.specs.Gains.{gain_in}
 use Rattle.part_laws.specs.PartLaws.{DecidesAlike}
 use Rattle.rule_solver.specs.Optima.{ChoosesAll, ChoosesRows, IsChosenAt, IsChosenBy}
-use Rattle.rule_solver.specs.Rows.{gain_in}
 use Rattle.rule_solver.specs.Sums.{IsRowGains, scope_gain}
 use Rattle.rule_solver.proofs.AnswerLemmas.{listed, rows_found}
 use Rattle.rule_solver.proofs.AnsweredRules.{rule_stays}

@@ -3,13 +3,13 @@ use Rattle.std.proofs.Common.{◌≡◌, ◌∙◌, ◌⊎◌, inl, inr, ℕ, �
 use Rattle.std.proofs.lemmas.Int.{ints}
 use Rattle.maid_model.specs.declared.answers.Row.{Row}
 use Rattle.maid_model.specs.Answers.{IsAnswerRow, IsFraction, no_row}
-use Rattle.maid_model.specs.Gains.{gain_at, mass_at}
+use Rattle.maid_model.specs.Gains.{gain_at, mass_at, gain_in}
 use Rattle.maid_model.specs.Nodes.{states_of}
 use Rattle.maid_model.specs.Scopes.{scope_of}
 use Rattle.maid_model.specs.Views.{NodeView, RuleView}
 use Rattle.part_laws.specs.PartLaws.{DecidesAlike}
 use Rattle.rule_solver.specs.Answered.{IsAnsweredBy}
-use Rattle.rule_solver.specs.Rows.{AnswersRow, AnswersRows, gain_in}
+use Rattle.rule_solver.specs.Rows.{AnswersRow, AnswersRows}
 use Rattle.rule_solver.specs.Sums.{IsRowSums, scope_gain, scope_mass}
 use Rattle.rule_solver.proofs.RowLemmas.{answers-same}
 

@@ -6,7 +6,7 @@ use Rattle.cell_rings.specs.Sums.{cell_at}
 use Rattle.finite_sums.specs.Sums.{World, InRange}
 use Rattle.node_sets.specs.Sets.{holds, IsIn}
 use Rattle.factor_core.specs.declared.slots.Slot.{Slot}
-use Rattle.factor_core.specs.Slots.{IsLive, nodes_in, part, table_of}
+use Rattle.factor_core.specs.Slots.{IsLiveSlot, nodes_in, part, table_of}
 use Rattle.maid_model.specs.Diagrams.{greatest_number}
 use Rattle.maid_model.specs.Nodes.{states_of, counts_of, parents_of, rows_under}
 use Rattle.maid_model.specs.Tables.{row_from, cell_of}
@@ -25,7 +25,7 @@ pub record GainsSoFar {C : Type 0} (r : Ring C) (number : C → ℤ) (nodes : Li
   pub stands : StandsAt nodes (nodes_in nodes (holds slot.scope)) world place
   pub done : DoneTo (states_of nodes) (nodes_in nodes (holds slot.scope)) (cell_of nodes d) (pos 0) (gain_with r number nodes d cells slot factor before) before now place
 
-module _ {C : Type 0} (r : Ring C) (number : C → ℤ) (nodes : List NodeView) (d : ℕ) (cells : List C) (slot : Slot) (factor : ℕ) (before : List ℤ) (live : IsLive nodes cells slot)
+module _ {C : Type 0} (r : Ring C) (number : C → ℤ) (nodes : List NodeView) (d : ℕ) (cells : List C) (slot : Slot) (factor : ℕ) (before : List ℤ) (live : IsLiveSlot nodes cells slot)
     (scope : (v : ℕ) → IsIn slot.scope v ↔ Contains (d ∷ parents_of nodes d) v) where
   pub no_gains : (world : List ℕ) → IsWorld (counts_of nodes) world → world ≡ first_world (length nodes) → GainsSoFar r number nodes d cells slot factor before before world 0
   no_gains world w e = record {

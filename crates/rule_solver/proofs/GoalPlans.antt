@@ -20,8 +20,8 @@ use Rattle.plan_sums.specs.Plans.{PlanView, gain_plan, row_plan, has, in_plan, p
 use Rattle.plan_sums.proofs.Filters.{has_member, has_yes}
 use Rattle.size_precheck.specs.Laws.{OneGreedyOrder}
 use Rattle.size_precheck.specs.Sizes.{ArePlansOf, SizedPlan, IsPlanned, goal_list}
-use Rattle.rule_solver.specs.Rooms.{HasAtMost, HasRoomAt}
-use Rattle.rule_solver.specs.Together.{goal_in, utility_in}
+use Rattle.rule_solver.specs.Rooms.{HasCellsAtMost, HasRoomForDecision}
+use Rattle.rule_solver.specs.Together.{goal_in, utility_of_plan}
 use Rattle.rule_solver.proofs.MadeRooms.{made_room, more_room}
 use Rattle.rule_solver.proofs.SettingLemmas.{goal_at, index_of_goal}
 
@@ -61,7 +61,7 @@ module _ (nodes : List NodeView) (d : ℕ) where
       go [] [] z = refl
       go [] (y ∷ ys) z = absurd z
       go (u ∷ us) [] z = absurd z
-      go (u ∷ us) (y ∷ ys) z = λ i. utility_in (z.0.made.plan i).utility ∷ go us ys z.1 i
+      go (u ∷ us) (y ∷ ys) z = λ i. utility_of_plan (z.0.made.plan i).utility ∷ go us ys z.1 i
 
   module _ (plans : List SizedPlan) (kept : AllZip (IsPlanned nodes) (map (λ u. gain_plan nodes d u) (goal_list nodes d)) plans) where
     pub goal_plans_long : length plans ≡ length (goals_of nodes d)
@@ -128,7 +128,7 @@ module _ (nodes : List NodeView) (asked : PlanView) (made : SizedPlan) (planned 
 -- ---- room for the plans of a decision
 module _ (nodes : List NodeView) (graph : IsGraph nodes) (d : ℕ) (is : IsDecision nodes d) (rows : SizedPlan) (goals : List SizedPlan) (kept : ArePlansOf nodes d rows goals) where
   -- where the kept plans have at most so many cells, each plan has
-  pub kept_room : OneGreedyOrder → (cells : ℕ) → rows.size.cells ≤ cells → All (λ (plan : SizedPlan). plan.size.cells ≤ cells) goals → HasRoomAt nodes d cells
+  pub kept_room : OneGreedyOrder → (cells : ℕ) → rows.size.cells ≤ cells → All (λ (plan : SizedPlan). plan.size.cells ≤ cells) goals → HasRoomForDecision nodes d cells
   kept_room one cells first all = record {
     rows = more_room nodes (row_plan nodes d) rows.size.cells cells first (made_room nodes (row_plan nodes d) rows one kept.of_rows.made);
     goals = λ u goal.
@@ -138,7 +138,7 @@ module _ (nodes : List NodeView) (graph : IsGraph nodes) (d : ℕ) (is : IsDecis
         let within : place.0 < length goals = let l = place.1 in omega (arith, long, l) in
         let at : plan ≡ get_or goals place.0 plan = same_at goals place.0 rows plan within in
         let made = (goal_plan_at nodes d goals kept.of_goals place.0 plan place.1 at).made in
-        subst (λ x. HasAtMost nodes (gain_plan nodes d x) cells) (get_or_default (goals_of nodes d) place.0 0 u place.1 ∙ place.2)
+        subst (λ x. HasCellsAtMost nodes (gain_plan nodes d x) cells) (get_or_default (goals_of nodes d) place.0 0 u place.1 ∙ place.2)
         (more_room nodes (gain_plan nodes d (slice_index (goals_of nodes d) place.0)) plan.size.cells cells (all place.0 rows within) (made_room nodes (gain_plan nodes d (slice_index (goals_of nodes d) place.0)) plan one made));
   }
     where
@@ -146,7 +146,7 @@ module _ (nodes : List NodeView) (graph : IsGraph nodes) (d : ℕ) (is : IsDecis
       same_at xs k a b h = get_or_default xs k a b h
 
   -- and where each plan has at most so many, the kept ones have
-  pub room_kept : (n : ℕ) → HasRoomAt nodes d n → (rows.size.cells ≤ n) × All (λ (plan : SizedPlan). plan.size.cells ≤ n) goals
+  pub room_kept : (n : ℕ) → HasRoomForDecision nodes d n → (rows.size.cells ≤ n) × All (λ (plan : SizedPlan). plan.size.cells ≤ n) goals
   room_kept n room = (
     room.rows rows kept.of_rows.made,
     (λ k e h.

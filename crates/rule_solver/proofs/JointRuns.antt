@@ -37,7 +37,7 @@ use Rattle.ring_sums.specs.Tables.{eliminate, joined, product_of}
 use Rattle.ring_sums.proofs.Same.{fits_more}
 use Rattle.scope_sums.specs.Laws.{MissingIsPositive, ScopesFitPlans}
 use Rattle.rule_solver.specs.Reading.{AddsTable, gain_there}
-use Rattle.rule_solver.specs.Sums.{AddsGoals, HasRoomFor, IsSetting, goal_part}
+use Rattle.rule_solver.specs.Sums.{AddsGoals, HasRoomForGoals, IsSetting, goal_part}
 use Rattle.rule_solver.specs.Together.{FitsPairs}
 use Rattle.rule_solver.proofs.JointLists.{factor_at_most, few, product_some}
 use Rattle.rule_solver.proofs.GoalPlans.{has_contains}
@@ -154,7 +154,7 @@ module _ (d : DiagramView) (p : List RuleView) (decision : ℕ) (totals : List �
       slot_part : (q : World) → InRange (states_of d.nodes) q → ((table_of both_kind d.nodes after.cells slot).cell q).g *ℤ pos 1 ≡ sum_each (λ u. goal_part d.nodes p decision u q) us
       slot_part q i = alone (((table_of both_kind d.nodes after.cells slot).cell q).g) ∙ slot_gain q i
 
-      pub slot_room : ScopesFitPlans → MissingIsPositive → (gains : List ℤ) → HasRoomFor d decision us gains → (q : World) → InRange (states_of d.nodes) q
+      pub slot_room : ScopesFitPlans → MissingIsPositive → (gains : List ℤ) → HasRoomForGoals d decision us gains → (q : World) → InRange (states_of d.nodes) q
           → nat_abs (gain_there gains d.nodes decision q) + nat_abs (((table_of both_kind d.nodes after.cells slot).cell q).g *ℤ pos 1) ≤ greatest_number
       slot_room keeps missing gains room q i =
           sum _ _ _ (subst (λ z. nat_abs z ≤ scope_product d.nodes decision * greatest_of d.nodes us) (sym (slot_part q i))

@@ -6,13 +6,13 @@ use Rattle.cell_rings.specs.Sums.{cell_at}
 use Rattle.finite_sums.specs.Sums.{World, InRange}
 use Rattle.node_sets.specs.Sets.{holds, IsIn}
 use Rattle.factor_core.specs.declared.slots.Slot.{Slot}
-use Rattle.factor_core.specs.Slots.{IsLive, nodes_in, part, table_of}
+use Rattle.factor_core.specs.Slots.{IsLiveSlot, nodes_in, part, table_of}
 use Rattle.maid_model.specs.Diagrams.{greatest_number}
 use Rattle.maid_model.specs.Nodes.{states_of, counts_of, parents_of, rows_of, rows_under}
 use Rattle.maid_model.specs.Tables.{row_from, row_of}
 use Rattle.maid_model.specs.Views.{NodeView}
 use Rattle.maid_model.specs.Worlds.{IsWorld, world_of, first_world}
-use Rattle.rule_solver.specs.Reading.{PutsTable}
+use Rattle.rule_solver.specs.Reading.{PutsMasses}
 use Rattle.rule_solver.proofs.TableCells.{StandsAt, DoneTo, slot_rows, length-part, first_stands, next_stands, none_done, one_done}
 use Rattle.rule_solver.proofs.WorldRows.{world_in_range, row_below}
 
@@ -25,7 +25,7 @@ pub record MassesSoFar {C : Type 0} (r : Ring C) (number : C → ℤ) (nodes : L
   pub stands : StandsAt nodes (nodes_in nodes (holds slot.scope)) world place
   pub done : DoneTo (states_of nodes) (nodes_in nodes (holds slot.scope)) (row_of nodes d) 0 (mass_of_cell r number nodes cells slot factor) before now place
 
-module _ {C : Type 0} (r : Ring C) (number : C → ℤ) (nodes : List NodeView) (d : ℕ) (cells : List C) (slot : Slot) (factor : ℕ) (before : List ℕ) (live : IsLive nodes cells slot)
+module _ {C : Type 0} (r : Ring C) (number : C → ℤ) (nodes : List NodeView) (d : ℕ) (cells : List C) (slot : Slot) (factor : ℕ) (before : List ℕ) (live : IsLiveSlot nodes cells slot)
     (scope : (v : ℕ) → IsIn slot.scope v ↔ Contains (parents_of nodes d) v) where
   pub no_masses : (world : List ℕ) → IsWorld (counts_of nodes) world → world ≡ first_world (length nodes) → MassesSoFar r number nodes d cells slot factor before before world 0
   no_masses world w e = record {
@@ -34,7 +34,7 @@ module _ {C : Type 0} (r : Ring C) (number : C → ℤ) (nodes : List NodeView) 
   }
 
   pub all_masses : (now world : List ℕ) (place : ℕ) (items : List C) → MassesSoFar r number nodes d cells slot factor before now world place → items ≡ part cells slot.start slot.len → length items ≤ place
-      → PutsTable nodes d (λ q. number ((table_of r nodes cells slot).cell q)) factor now
+      → PutsMasses nodes d (λ q. number ((table_of r nodes cells slot).cell q)) factor now
   all_masses now world place items s items_are end = record {
     each = λ q i. s.done.done q i (omega (arith, row_below (states_of nodes) q i (nodes_in nodes (holds slot.scope)), ap length items_are, length-part nodes cells slot live));
   }

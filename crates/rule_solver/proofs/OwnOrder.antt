@@ -8,7 +8,7 @@ use Rattle.cell_rings.specs.Sums.{cell_at}
 use Rattle.finite_sums.specs.Sums.{World, InRange}
 use Rattle.node_sets.specs.Sets.{holds}
 use Rattle.factor_core.specs.declared.slots.Slot.{Slot}
-use Rattle.factor_core.specs.Slots.{IsLive, nodes_in, part, table_of}
+use Rattle.factor_core.specs.Slots.{IsLiveSlot, nodes_in, part, table_of}
 use Rattle.maid_model.specs.Diagrams.{greatest_number}
 use Rattle.maid_model.specs.Graph.{IsGraph}
 use Rattle.maid_model.specs.Nodes.{states_of, parents_of, numbers_of, rows_of, rows_under}
@@ -16,7 +16,7 @@ use Rattle.maid_model.specs.Tables.{row_from, row_of, cell_of}
 use Rattle.maid_model.specs.Views.{NodeView}
 use Rattle.maid_laws.proofs.Rearranged.{range_apart, apart_filter}
 use Rattle.maid_laws.proofs.Rows.{world_at_row}
-use Rattle.rule_solver.specs.Reading.{AddsTable, PutsTable, gain_there}
+use Rattle.rule_solver.specs.Reading.{AddsTable, PutsMasses, gain_there}
 use Rattle.rule_solver.proofs.TableCells.{length-part}
 use Rattle.rule_solver.proofs.WorldRows.{row_below}
 
@@ -60,7 +60,7 @@ added_more f before now after at inside so is = record {
         ∙ ap (λ z. z +ℤ f at) (so.kept at (same at)) ∙ sym (ap (λ k. get_or before k (pos 0) +ℤ f k) e)
     go i h (no n) = get_or-set_other now at i _ (pos 0) n ∙ so.done i (below i h n)
 
-module _ {C : Type 0} (r : Ring C) (number : C → ℤ) (nodes : List NodeView) (d : ℕ) (cells : List C) (slot : Slot) (factor : ℕ) (graph : IsGraph nodes) (live : IsLive nodes cells slot) where
+module _ {C : Type 0} (r : Ring C) (number : C → ℤ) (nodes : List NodeView) (d : ℕ) (cells : List C) (slot : Slot) (factor : ℕ) (graph : IsGraph nodes) (live : IsLiveSlot nodes cells slot) where
   abbrev pub us : List ℕ
   us = nodes_in nodes (holds slot.scope)
 
@@ -120,7 +120,7 @@ module _ {C : Type 0} (r : Ring C) (number : C → ℤ) (nodes : List NodeView) 
         let w = world_at i (subst (λ n. i < n) (sym (ap (rows_under (states_of nodes)) same)) h) in
         subst (λ k. nat_abs (number (cell_at r (part cells slot.start slot.len) k)) * factor ≤ greatest_number) w.2 (room w.0 w.1)
 
-    pub row_masses : (after : List ℕ) → ((i : ℕ) → i < rows_of nodes d → slice_index after i ≡ nat_abs (number (cell_at r (part cells slot.start slot.len) i)) * factor) → PutsTable nodes d value factor after
+    pub row_masses : (after : List ℕ) → ((i : ℕ) → i < rows_of nodes d → slice_index after i ≡ nat_abs (number (cell_at r (part cells slot.start slot.len) i)) * factor) → PutsMasses nodes d value factor after
     row_masses after each = record {
       each = λ q i.
           each (row_of nodes d q) (row_below (states_of nodes) q i (parents_of nodes d))

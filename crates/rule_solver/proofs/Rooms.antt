@@ -16,8 +16,8 @@ use Rattle.plan_sums.specs.Plans.{PlanView, row_plan, gain_plan, worth_plan}
 use Rattle.size_precheck.specs.declared.sizes.Size.{Size}
 use Rattle.size_precheck.specs.Laws.{OneGreedyOrder, OneSize}
 use Rattle.size_precheck.specs.Sizes.{IsMade, HasSize, ListsDecisions, IsSizeOfRun, greatest, is_goal, goal_list, utility_list, plan_cells, run_plans}
-use Rattle.rule_solver.specs.Faults.{IsSmallEnough, KeepsSizes}
-use Rattle.rule_solver.specs.Rooms.{HasAtMost, HasRoom}
+use Rattle.rule_solver.specs.Faults.{IsSmallEnough, KeepsPlanLimits}
+use Rattle.rule_solver.specs.Rooms.{HasCellsAtMost, HasRoomForRun}
 use Rattle.rule_solver.proofs.Orders.{order_differs, placed_decision}
 
 -- ---- members of lists of plans
@@ -53,16 +53,16 @@ lists_decisions nodes order is = record {
 }
 
 -- a diagram has one order of solving and a run one size, so a run that keeps the limits is small enough
-pub small_enough : (d : DiagramView) (order : List ℕ) (size : Size) → OneSize → IsRelianceOrder d.nodes order → IsSizeOfRun d.nodes order size → KeepsSizes size → IsSmallEnough d
+pub small_enough : (d : DiagramView) (order : List ℕ) (size : Size) → OneSize → IsRelianceOrder d.nodes order → IsSizeOfRun d.nodes order size → KeepsPlanLimits size → IsSmallEnough d
 small_enough d order size one is sized keeps other run =
     let orders : run.order ≡ order = order_one (IsDecision d.nodes) (ReliesOn d.nodes) run.order order run.is_order is in
     let same : size ≡ other = one d.nodes (run_plans d.nodes order) size other sized (subst (λ o. IsSizeOfRun d.nodes o other) orders run.is_size) in
-    subst KeepsSizes same keeps
+    subst KeepsPlanLimits same keeps
 
 -- ---- the greatest plan
 module _ (nodes : List NodeView) (one : OneGreedyOrder) where
   -- each of the plans is at most as large as the greatest, since it has one greedy order
-  plan_fits : (plans : List PlanView) (sizes : List Size) → AllZip (HasSize nodes) plans sizes → (plan : PlanView) → IsListed plan plans → HasAtMost nodes plan (greatest (map (λ (s : Size). s.cells) sizes))
+  plan_fits : (plans : List PlanView) (sizes : List Size) → AllZip (HasSize nodes) plans sizes → (plan : PlanView) → IsListed plan plans → HasCellsAtMost nodes plan (greatest (map (λ (s : Size). s.cells) sizes))
   plan_fits [] [] z plan h = absurd h
   plan_fits [] (s ∷ sizes) z plan h = absurd h
   plan_fits (p ∷ plans) [] z plan h = absurd z
@@ -79,8 +79,8 @@ module _ (nodes : List NodeView) (one : OneGreedyOrder) where
       later a b c h = omega arith
 
   module _ (order : List ℕ) (size : Size) (tested : TestsDescent) (is : IsRelianceOrder nodes order) (sized : IsSizeOfRun nodes order size) where
-    run_fits : (plan : PlanView) → IsListed plan (run_plans nodes order) → HasAtMost nodes plan size.cells
-    run_fits plan m = subst (HasAtMost nodes plan) (sym sized.cells) (plan_fits (run_plans nodes order) sized.sizes sized.each plan m)
+    run_fits : (plan : PlanView) → IsListed plan (run_plans nodes order) → HasCellsAtMost nodes plan size.cells
+    run_fits plan m = subst (HasCellsAtMost nodes plan) (sym sized.cells) (plan_fits (run_plans nodes order) sized.sizes sized.each plan m)
 
     in_order : (d : ℕ) → IsDecision nodes d → Among d order
     in_order d k = among_from_contains order d (is.complete d k)
@@ -98,16 +98,16 @@ module _ (nodes : List NodeView) (one : OneGreedyOrder) where
     worths = map (λ u. worth_plan u) (utility_list nodes)
 
     -- the plans of a run are those of rows, then those of states, then those of worths
-    of_rows : (plan : PlanView) → IsListed plan rows → HasAtMost nodes plan size.cells
+    of_rows : (plan : PlanView) → IsListed plan rows → HasCellsAtMost nodes plan size.cells
     of_rows plan m = run_fits plan (listed_left plan (rows ++ gains) worths (listed_left plan rows gains m))
 
-    of_gains : (plan : PlanView) → IsListed plan gains → HasAtMost nodes plan size.cells
+    of_gains : (plan : PlanView) → IsListed plan gains → HasCellsAtMost nodes plan size.cells
     of_gains plan m = run_fits plan (listed_left plan (rows ++ gains) worths (listed_right plan rows gains m))
 
-    of_worths : (plan : PlanView) → IsListed plan worths → HasAtMost nodes plan size.cells
+    of_worths : (plan : PlanView) → IsListed plan worths → HasCellsAtMost nodes plan size.cells
     of_worths plan m = run_fits plan (listed_right plan (rows ++ gains) worths m)
 
-    pub has_room : HasRoom nodes size.cells
+    pub has_room : HasRoomForRun nodes size.cells
     has_room = record {
       decisions = λ d k. record {
         rows = of_rows (row_plan nodes d) (listed_map (λ e. row_plan nodes e) d order (in_order d k));

@@ -25,8 +25,8 @@ use Rattle.eliminate.specs.Results.{plan_total}
 use Rattle.scope_sums.specs.Laws.{MissingIsPositive, PlansFitScope, ScopesFitPlans, SumsOfScopes}
 use Rattle.scope_sums.specs.Missing.{missing_in, missing_in_without}
 use Rattle.scope_sums.proofs.Summed.{goal_of}
-use Rattle.rule_solver.specs.Reading.{AddsTable, PutsTable, gain_there}
-use Rattle.rule_solver.specs.Sums.{AddsGoals, HasMasses, HasRoomFor, IsSetting, goal_part}
+use Rattle.rule_solver.specs.Reading.{AddsTable, PutsMasses, gain_there}
+use Rattle.rule_solver.specs.Sums.{AddsGoals, HasMasses, HasRoomForGoals, IsSetting, goal_part}
 use Rattle.rule_solver.specs.Totals.{product_in}
 use Rattle.rule_solver.proofs.Missing.{missing_product, missing_product_after}
 use Rattle.rule_solver.proofs.PlanLemmas.{rows_number, goal_fits, rows_fit}
@@ -112,7 +112,7 @@ module _ (d : DiagramView) (p : List RuleView) (decision : ℕ) (totals : List �
           pub rows_room : (q : World) → InRange (states_of d.nodes) q → nat_abs (number q) * factor ≤ greatest_number
           rows_room q i = in_room _ (within q i)
 
-          pub rows_masses : SumsOfScopes → (masses : List ℕ) → length masses ≡ rows_of d.nodes decision → PutsTable d.nodes decision number factor masses → HasMasses d p decision masses
+          pub rows_masses : SumsOfScopes → (masses : List ℕ) → length masses ≡ rows_of d.nodes decision → PutsMasses d.nodes decision number factor masses → HasMasses d p decision masses
           rows_masses sums masses count puts = record {
             count = count;
             each = λ q i. ap pos (puts.each q i ∙ rows_part q i) ∙ sym ((sums d.nodes p decision s.is_diagram.graph s.is_diagram.tables s.profile s.is_decision).mass_there q i);
@@ -146,7 +146,7 @@ module _ (d : DiagramView) (p : List RuleView) (decision : ℕ) (totals : List �
           part : (q : World) → InRange (states_of d.nodes) q → number q *ℤ pos factor ≡ goal_part d.nodes p decision goal q
           part q i = λ t. goal_number q i t *ℤ pos (factor_is t)
 
-          pub goal_room : (gains : List ℤ) → HasRoomFor d decision (goal ∷ []) gains → (q : World) → InRange (states_of d.nodes) q → nat_abs (gain_there gains d.nodes decision q) + nat_abs (number q *ℤ pos factor) ≤ greatest_number
+          pub goal_room : (gains : List ℤ) → HasRoomForGoals d decision (goal ∷ []) gains → (q : World) → InRange (states_of d.nodes) q → nat_abs (gain_there gains d.nodes decision q) + nat_abs (number q *ℤ pos factor) ≤ greatest_number
           goal_room gains room q i =
               sum _ _ _ _ (subst (λ z. nat_abs z ≤ scope_product d.nodes decision * greatest_abs (node_at d.nodes goal).cells) (sym (part q i)) (fit.gain goal q is_goal i)) (room.room q i)
             where

@@ -30,7 +30,7 @@ use Rattle.plan_sums.specs.Plans.{gain_cells, plan_sum, worth_plan}
 use Rattle.scope_sums.specs.Laws.{AgentsScopesFitPlans, GainsOfAgentsScopes, MassOfAgentsScopes, PlanFitsAgentsScope}
 use Rattle.scope_sums.specs.Missing.{missing_in}
 use Rattle.rule_solver.specs.Totals.{product_in}
-use Rattle.rule_solver.specs.Worths.{HasWorths, HasWorthsFor, IsStake, gain_given, scope_gain_for}
+use Rattle.rule_solver.specs.Worths.{HasWorths, HasWorthsFor, IsStake, share_for, scope_gain_for}
 use Rattle.rule_solver.proofs.Missing.{missing_product, scope_mass_is, totals_positive}
 use Rattle.rule_solver.proofs.PlanLemmas.{one_of_greatest, within_bound}
 use Rattle.rule_solver.proofs.ProductLemmas.{factor_in}
@@ -147,7 +147,7 @@ module _ (d : DiagramView) (p : List RuleView) (agent : ℕ) (totals : List ℕ)
   worth_times u = slice_index_or worths u (pos 0) *ℤ pos (missing_at u)
 
   abbrev given_at : ℕ → ℤ
-  given_at u = gain_given d.nodes p agent worths u
+  given_at u = share_for d.nodes p agent worths u
 
   -- the totals of the scope's nodes that the utility's plan lacks
   pub left_product : TestsDescent → (u : ℕ) (own ancestors planned left : NodeSet) → ((v : ℕ) → IsIn own v ↔ (v ≡ u)) → ((v : ℕ) → IsIn ancestors v ↔ ((to : ℕ) × IsIn own to × IsPath (Arc d.nodes) v to))

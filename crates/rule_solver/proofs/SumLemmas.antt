@@ -17,7 +17,7 @@ use Rattle.maid_model.specs.Views.{NodeView, DiagramView, RuleView}
 use Rattle.plan_sums.specs.Laws.{HasWorlds}
 use Rattle.scope_sums.specs.Laws.{IsSumOfPlans}
 use Rattle.rule_solver.specs.Reading.{gain_there}
-use Rattle.rule_solver.specs.Sums.{AddsGoals, HasGoals, HasRoomFor, IsRowGains, IsRowSums, KeepsRoom, goal_part, scope_gain, scope_mass}
+use Rattle.rule_solver.specs.Sums.{AddsGoals, HasGoals, HasRoomForGoals, IsRowGains, IsRowSums, KeepsRoom, goal_part, scope_gain, scope_mass}
 
 -- ---- lists
 -- a slice of a whole list, written back
@@ -62,7 +62,7 @@ no_goals nodes p d gains len none = record {
 
 -- the other goals' parts have room, if the scope keeps the bound
 pub room_for : (d : DiagramView) (p : List RuleView) (decision k : ℕ) (gains : List ℤ) → scope_bound d decision ≤ greatest_number → HasGoals d.nodes p decision (take k (goals_of d.nodes decision)) gains
-    → HasRoomFor d decision (drop k (goals_of d.nodes decision)) gains
+    → HasRoomForGoals d decision (drop k (goals_of d.nodes decision)) gains
 room_for d p decision k gains bound so = record { count = so.count; room = room }
   where
     goals : List ℕ
@@ -86,7 +86,7 @@ room_for d p decision k gains bound so = record { count = so.count; room = room 
         sum a b c h k = omega (arith, h, k)
 
 -- room for goals is room for the first ones of them
-pub room_first : (d : DiagramView) (decision n : ℕ) (goals : List ℕ) (gains : List ℤ) → HasRoomFor d decision goals gains → HasRoomFor d decision (take n goals) gains
+pub room_first : (d : DiagramView) (decision n : ℕ) (goals : List ℕ) (gains : List ℤ) → HasRoomForGoals d decision goals gains → HasRoomForGoals d decision (take n goals) gains
 room_first d decision n goals gains room = record { count = room.count; room = λ q i. less _ _ _ (mul-le-mul_left (scope_product d.nodes decision) first) (room.room q i) }
   where
     first : greatest_of d.nodes (take n goals) ≤ greatest_of d.nodes goals
@@ -96,11 +96,11 @@ room_first d decision n goals gains room = record { count = room.count; room = �
     less a b c h k = omega (arith, h, k)
 
 -- and for the next one
-pub room_next : (d : DiagramView) (decision k : ℕ) (goals : List ℕ) (gains : List ℤ) → k < length goals → HasRoomFor d decision (drop k goals) gains → HasRoomFor d decision (slice_index goals k ∷ []) gains
+pub room_next : (d : DiagramView) (decision k : ℕ) (goals : List ℕ) (gains : List ℤ) → k < length goals → HasRoomForGoals d decision (drop k goals) gains → HasRoomForGoals d decision (slice_index goals k ∷ []) gains
 room_next d decision k goals gains inside room =
-    alone (get_or goals k 0) (drop (suc k) goals) (subst (λ us. HasRoomFor d decision us gains) (drop-cons goals k 0 inside) room)
+    alone (get_or goals k 0) (drop (suc k) goals) (subst (λ us. HasRoomForGoals d decision us gains) (drop-cons goals k 0 inside) room)
   where
-    alone : (u : ℕ) (us : List ℕ) → HasRoomFor d decision (u ∷ us) gains → HasRoomFor d decision (u ∷ []) gains
+    alone : (u : ℕ) (us : List ℕ) → HasRoomForGoals d decision (u ∷ us) gains → HasRoomForGoals d decision (u ∷ []) gains
     alone u us more = record { count = more.count; room = λ q i. less _ _ _ (mul-le-mul_left (scope_product d.nodes decision) (first (greatest_abs (node_at d.nodes u).cells) (greatest_of d.nodes us))) (more.room q i) }
       where
         first : (a b : ℕ) → a + 0 ≤ a + b

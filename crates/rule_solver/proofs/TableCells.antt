@@ -1,18 +1,18 @@
 -- A table's cells, one after another, taken to the places of another table over the same nodes.
-use Rattle.std.proofs.Common.{◌≡◌, ◌≢◌, ◌∙◌, ◌↔◌, ◌⊎◌, ℕ, zero, suc, ◌+◌, ◌*◌, ◌%◌, ◌<◌, ◌≤◌, Bool, true, false, cond, filter, List, [], ◌∷◌, ◌++◌, length, get_or, set, drop, refl, sym, ap, subst, inl, inr, slice_index, arith}
+use Rattle.std.proofs.Common.{◌≡◌, ◌≢◌, ◌∙◌, ◌↔◌, ◌⊎◌, ℕ, zero, suc, ◌+◌, ◌*◌, ◌%◌, ◌<◌, ◌≤◌, Bool, true, false, filter, List, [], ◌∷◌, length, get_or, set, drop, refl, sym, ap, subst, inl, inr, slice_index, arith}
 use Rattle.std.specs.Prelude.{Contains, replicate}
 use Rattle.std.specs.List.{range_with_len}
 use Rattle.std.proofs.Math.Decide.{ℕ_discrete}
 use Rattle.std.proofs.Math.Nat.{mod-eq_of_lt}
-use Rattle.std.proofs.lemmas.List.{append-nil, length-set, length-drop, length-take-le, get_or-set_same, get_or-set_other}
+use Rattle.std.proofs.lemmas.List.{length-set, length-drop, length-take-le, get_or-set_same, get_or-set_other}
 use Rattle.finite_sums.specs.Members.{Among}
 use Rattle.finite_sums.specs.Sums.{World, InRange}
 use Rattle.finite_sums.proofs.Lists.{among_filter}
 use Rattle.finite_sums.proofs.Members.{filter_has}
-use Rattle.finite_sums.proofs.Ranges.{filter_more}
+use Rattle.finite_sums.proofs.Ranges.{filter_no}
 use Rattle.node_sets.specs.Sets.{holds, IsIn}
 use Rattle.factor_core.specs.declared.slots.Slot.{Slot}
-use Rattle.factor_core.specs.Slots.{IsLive, nodes_in, part, cells_over}
+use Rattle.factor_core.specs.Slots.{IsLiveSlot, nodes_in, part, cells_over}
 use Rattle.maid_model.specs.Graph.{AllDifferent}
 use Rattle.maid_model.specs.Nodes.{states_of, counts_of, parents_of, numbers_of, rows_under}
 use Rattle.maid_model.specs.Tables.{row_from, row_of, cell_of}
@@ -23,13 +23,6 @@ use Rattle.maid_laws.proofs.Members.{among_of, contains_of, different_of}
 use Rattle.maid_laws.proofs.Rearranged.{range_apart, apart_filter, number, numbered}
 
 -- ---- the nodes of a scope
--- one number more, which is kept where it passes the test
-pub filter_yes : (p : ℕ → Bool) (n : ℕ) → p n ≡ true → filter p (range_with_len 0 (n + 1)) ≡ filter p (range_with_len 0 n) ++ n ∷ []
-filter_yes p n e = filter_more p n ∙ ap (λ b. filter p (range_with_len 0 n) ++ cond b (n ∷ []) []) e
-
-pub filter_no : (p : ℕ → Bool) (n : ℕ) → p n ≡ false → filter p (range_with_len 0 (n + 1)) ≡ filter p (range_with_len 0 n)
-filter_no p n e = filter_more p n ∙ ap (λ b. filter p (range_with_len 0 n) ++ cond b (n ∷ []) []) e ∙ append-nil (filter p (range_with_len 0 n))
-
 -- numbers that don't pass leave the list as it is
 pub filter_gap : (p : ℕ → Bool) (from to : ℕ) → from ≤ to → ((w : ℕ) → from ≤ w → w < to → p w ≡ true → ⊥) → filter p (range_with_len 0 to) ≡ filter p (range_with_len 0 from)
 filter_gap p from to l none = go to l none
@@ -58,7 +51,7 @@ pub scope_known : (nodes : List NodeView) (h : ℕ → Bool) (v : ℕ) → Conta
 scope_known nodes h v c = numbered nodes v (among_filter h v (numbers_of nodes) (among_of v (nodes_in nodes h) c)).0
 
 -- the scope's nodes are those that its slot holds
-scope_same : {C : Type 0} (nodes : List NodeView) (cells : List C) (slot : Slot) (vs : List ℕ) → IsLive nodes cells slot → ((v : ℕ) → IsIn slot.scope v ↔ Contains vs v)
+scope_same : {C : Type 0} (nodes : List NodeView) (cells : List C) (slot : Slot) (vs : List ℕ) → IsLiveSlot nodes cells slot → ((v : ℕ) → IsIn slot.scope v ↔ Contains vs v)
     → (v : ℕ) → Among v (nodes_in nodes (holds slot.scope)) ↔ Among v vs
 scope_same nodes cells slot vs live same v = (
   (λ m. among_of v vs ((same v).0 (among_filter (holds slot.scope) v (numbers_of nodes) m).1)),
@@ -66,7 +59,7 @@ scope_same nodes cells slot vs live same v = (
 )
 
 -- a slot has a cell for each choice of its nodes' states
-pub length-part : {C : Type 0} (nodes : List NodeView) (cells : List C) (slot : Slot) → IsLive nodes cells slot → length (part cells slot.start slot.len) ≡ cells_over nodes (holds slot.scope)
+pub length-part : {C : Type 0} (nodes : List NodeView) (cells : List C) (slot : Slot) → IsLiveSlot nodes cells slot → length (part cells slot.start slot.len) ≡ cells_over nodes (holds slot.scope)
 length-part nodes cells slot live =
     length-take-le slot.len (drop slot.start cells) (let w : slot.start + slot.len ≤ length cells = live.within in omega (arith, length-drop slot.start cells)) ∙ live.size
 
@@ -104,11 +97,11 @@ cells_alike nodes us d same = record { there = there; back = back }
         go u r (inr m) = r m
 
 -- of a slot over a decision's parents, and of one over the decision too
-pub slot_rows : {C : Type 0} (nodes : List NodeView) (cells : List C) (slot : Slot) (d : ℕ) → IsLive nodes cells slot → ((v : ℕ) → IsIn slot.scope v ↔ Contains (parents_of nodes d) v)
+pub slot_rows : {C : Type 0} (nodes : List NodeView) (cells : List C) (slot : Slot) (d : ℕ) → IsLiveSlot nodes cells slot → ((v : ℕ) → IsIn slot.scope v ↔ Contains (parents_of nodes d) v)
     → PicksAlike (states_of nodes) (nodes_in nodes (holds slot.scope)) (row_of nodes d)
 slot_rows nodes cells slot d live same = rows_alike nodes (nodes_in nodes (holds slot.scope)) d (scope_same nodes cells slot (parents_of nodes d) live same)
 
-pub slot_cells : {C : Type 0} (nodes : List NodeView) (cells : List C) (slot : Slot) (d : ℕ) → IsLive nodes cells slot → ((v : ℕ) → IsIn slot.scope v ↔ Contains (d ∷ parents_of nodes d) v)
+pub slot_cells : {C : Type 0} (nodes : List NodeView) (cells : List C) (slot : Slot) (d : ℕ) → IsLiveSlot nodes cells slot → ((v : ℕ) → IsIn slot.scope v ↔ Contains (d ∷ parents_of nodes d) v)
     → PicksAlike (states_of nodes) (nodes_in nodes (holds slot.scope)) (cell_of nodes d)
 slot_cells nodes cells slot d live same = cells_alike nodes (nodes_in nodes (holds slot.scope)) d (scope_same nodes cells slot (d ∷ parents_of nodes d) live same)
 

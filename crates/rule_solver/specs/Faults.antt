@@ -44,18 +44,18 @@ pub record IsRunSize (d : DiagramView) (size : Size) : Type 0 where
   pub is_size : IsSizeOfRun d.nodes order size
 
 -- a size within both limits
-pub record KeepsSizes (size : Size) : Type 0 where
+pub record KeepsPlanLimits (size : Size) : Type 0 where
   pub cells : size.cells ≤ MOST_PLAN_CELLS
   pub work : size.work ≤ MOST_WORK
 
 -- no plan of the diagram's run has too many cells, and all of them together have not too much work
 abbrev pub IsSmallEnough : DiagramView → Type 0
-IsSmallEnough d = (size : Size) → IsRunSize d size → KeepsSizes size
+IsSmallEnough d = (size : Size) → IsRunSize d size → KeepsPlanLimits size
 
 -- the run has these cells and this work, which pass a limit
 abbrev pub IsTooLarge : DiagramView → ℕ → ℕ → Type 0
 IsTooLarge d cells work = IsRunSize d (record { cells = cells; work = work })
-    × (KeepsSizes (record { cells = cells; work = work }) → ⊥)
+    × (KeepsPlanLimits (record { cells = cells; work = work }) → ⊥)
 
 -- the run is small enough, or its size is found
 abbrev pub size_pass : DiagramView → Pass FaultView

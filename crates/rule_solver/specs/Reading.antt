@@ -3,7 +3,7 @@ use Rattle.std.specs.Prelude.{◌≡◌, ◌<◌, ◌≤◌, ◌↔◌, ℕ, ◌
 use Rattle.cell_rings.specs.Rings.{Ring}
 use Rattle.cell_rings.specs.Sums.{cell_at}
 use Rattle.factor_core.specs.declared.slots.Slot.{Slot}
-use Rattle.factor_core.specs.Slots.{IsLive, table_of}
+use Rattle.factor_core.specs.Slots.{IsLiveSlot, table_of}
 use Rattle.finite_sums.specs.Sums.{World, InRange}
 use Rattle.maid_model.specs.Diagrams.{greatest_number}
 use Rattle.maid_model.specs.Nodes.{parents_of, rows_of, rows_under, states_of}
@@ -30,7 +30,7 @@ pub record AddsTable
       → gain_there after nodes d q ≡ gain_there before nodes d q +ℤ (number q *ℤ pos factor)
 
 -- each mass is the table's number, of which none is below nought, times the factor
-pub record PutsTable
+pub record PutsMasses
     (nodes : List NodeView) (d : ℕ) (number : World → ℤ) (factor : ℕ) (after : List ℕ) : Type 0
   where
     pub each : (q : World) → InRange (states_of nodes) q
@@ -52,8 +52,8 @@ HasRoomAtPlace gains at number factor =
     nat_abs (slice_index_or gains at (pos 0)) + nat_abs (number *ℤ pos factor) ≤ greatest_number
 
 -- the number of the cell at that place
-abbrev pub number_at : {C : Type 0} → (C → ℤ) → Ring C → List C → ℕ → ℤ
-number_at number r cells i = number (cell_at r cells i)
+abbrev pub number_in_cell : {C : Type 0} → (C → ℤ) → Ring C → List C → ℕ → ℤ
+number_in_cell number r cells i = number (cell_at r cells i)
 
 -- there is room to add each number, times the factor, to the gain at its place
 abbrev pub HasRoomForEach : (ℕ → ℤ) → ℕ → List ℤ → Type 0
@@ -78,7 +78,7 @@ PutsEach number factor n after =
 abbrev pub PutsCells :
     {C : Type 0} → (C → ℤ) → Ring C → List C → ℕ → List ℕ → List ℕ → Type 0
 PutsCells number r cells factor before after =
-    PutsEach (number_at number r cells) factor (length before) after
+    PutsEach (number_in_cell number r cells) factor (length before) after
 
 -- ---- a whole table
 -- the table is over these nodes
@@ -98,7 +98,7 @@ FitTimes nodes number factor =
 -- ---- the last table of a plan as the program has it
 -- its slot is live
 abbrev pub HasLiveSlot : {C : Type 0} → LastTable C → Type 0
-HasLiveSlot t = IsLive t.diagram.now.nodes t.work.now.cells t.slot.now
+HasLiveSlot t = IsLiveSlot t.diagram.now.nodes t.work.now.cells t.slot.now
 
 -- it is over the decision and its parents
 abbrev pub IsOverStates : {C : Type 0} → LastTable C → Type 0
@@ -130,7 +130,7 @@ FitsSlot number r t = FitTimes t.diagram.now.nodes (number_in number r t) t.fact
 -- each of the decision's masses is its number, times the factor
 abbrev pub PutsSlot : {C : Type 0} → (C → ℤ) → Ring C → LastTable C → List ℕ → Type 0
 PutsSlot number r t after =
-    PutsTable t.diagram.now.nodes t.decision (number_in number r t) t.factor after
+    PutsMasses t.diagram.now.nodes t.decision (number_in number r t) t.factor after
 
 -- ---- the nodes of a scope, and their states one after another
 -- the row that a list of states gives to these nodes, the first one slowest

@@ -1,13 +1,10 @@
 -- What is answered in a row, whose states have these gains, against its mass. Only private functions cite it.
-use Rattle.std.specs.Prelude.{◌≡◌, ◌<◌, ◌≤◌, ◌+◌, ◌*◌, ℕ, ℤ, ◌≤ℤ◌, nat_abs, pos, List, All, length, slice_index, slice_index_or, Some, None, IfSome}
+use Rattle.std.specs.Prelude.{◌≡◌, ◌<◌, ◌≤◌, ◌*◌, ℕ, ℤ, ◌≤ℤ◌, nat_abs, pos, List, All, length, slice_index, slice_index_or, Some, None, IfSome}
 use Rattle.maid_model.specs.declared.answers.Ratio.{Ratio}
 use Rattle.maid_model.specs.declared.answers.Row.{Row}
 use Rattle.maid_model.specs.Answers.{IsFirstBest, IsFraction, IsReduced, no_row}
 use Rattle.maid_model.specs.Diagrams.{greatest_number}
-
--- the gain of a row's state in a list with a number for each row and state, the state fastest
-abbrev pub gain_in : List ℤ → ℕ → ℕ → ℕ → ℤ
-gain_in gains states row s = slice_index_or gains (row * states + s) (pos 0)
+use Rattle.maid_model.specs.Gains.{gain_in}
 
 -- no state of a row has a greater gain
 abbrev pub IsBest : (ℕ → ℤ) → ℕ → ℕ → Type 0
@@ -56,6 +53,6 @@ pub record AnswersRows
   pub worths : All (λ r. IfSome r.worth IsReduced) rows
 
 -- so many rows as there are masses, each answered by its gains in the list
-abbrev pub AnswersList : List ℤ → List ℕ → ℕ → ℕ → List Row → Type 0
-AnswersList gains masses states scale rows =
+abbrev pub AnswersByGains : List ℤ → List ℕ → ℕ → ℕ → List Row → Type 0
+AnswersByGains gains masses states scale rows =
     AnswersRows (gain_in gains states) (slice_index masses) states scale (length masses) rows

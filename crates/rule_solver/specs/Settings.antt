@@ -14,7 +14,7 @@ use Rattle.rule_solver.specs.declared.decision_sums.Setting.{Setting}
 use Rattle.rule_solver.specs.declared.joint_goals.Joint.{Joint}
 use Rattle.rule_solver.specs.declared.spaces.Workspaces.{Workspaces}
 use Rattle.rule_solver.specs.Rooms.{AreReadyFor, AreReadyForDecision, AreReadyForGoals, IsReadyFor}
-use Rattle.rule_solver.specs.Sums.{AddsGoals, AreRowSums, HasGoals, HasMasses, HasRoomFor, IsSetting, KeepsRoom}
+use Rattle.rule_solver.specs.Sums.{AddsGoals, AreRowSums, HasGoals, HasMasses, HasRoomForGoals, IsSetting, KeepsRoom}
 use Rattle.rule_solver.specs.Together.{IsJoint}
 
 -- what the setting has is right
@@ -110,7 +110,7 @@ HasGoalsIn s goals gains = HasGoals s.diagram.now.nodes s.base.now s.decision go
 
 -- there is room in each gain for what these goals give
 abbrev pub HasRoomForGoalsIn : Setting → List ℕ → List ℤ → Type 0
-HasRoomForGoalsIn s goals gains = HasRoomFor s.diagram.now s.decision goals gains
+HasRoomForGoalsIn s goals gains = HasRoomForGoals s.diagram.now s.decision goals gains
 
 -- each gain is greater by what these goals give
 abbrev pub AddsGoalsIn : Setting → List ℕ → List ℤ → List ℤ → Type 0

@@ -2,7 +2,7 @@
 use Rattle.std.specs.Global.{Vec}
 use Rattle.std.specs.Prelude.{◌≡◌, ◌↔◌, ℕ, ◌<◌, ◌≤◌, ◌+◌, ◌*◌, List, length, slice_index, slice_index_or, Contains, ℤ, pos, ◌+ℤ◌, ◌*ℤ◌, nat_abs}
 use Rattle.maid_model.specs.Diagrams.{IsDiagram, greatest_number}
-use Rattle.maid_model.specs.Gains.{gain_at, mass_at}
+use Rattle.maid_model.specs.Gains.{gain_at, mass_at, gain_in}
 use Rattle.maid_model.specs.Nodes.{IsDecision, rows_of, states_of}
 use Rattle.maid_model.specs.Profiles.{IsProfile}
 use Rattle.maid_model.specs.Scopes.{goals_of, greatest_of, place_in_scope, rules_in_scope, scope_bound, scope_of, scope_part, scope_product}
@@ -16,7 +16,6 @@ use Rattle.plan_sums.specs.Plans.{gain_cells, plan_sum, gain_plan}
 use Rattle.scope_sums.specs.Missing.{missing_in}
 use Rattle.rule_solver.specs.declared.decision_sums.RowSums.{RowSums}
 use Rattle.rule_solver.specs.Reading.{HasGainForEach, gain_there}
-use Rattle.rule_solver.specs.Rows.{gain_in}
 use Rattle.rule_solver.specs.Totals.{HasTotals}
 
 -- what a state gains in a row in the part of the decision's scope
@@ -103,7 +102,7 @@ pub record HasGoals
         → nat_abs (gain_there gains nodes d q) ≤ scope_product nodes d * greatest_of nodes goals
 
 -- a gain for each row and state, with room for what these goals give
-pub record HasRoomFor
+pub record HasRoomForGoals
     (d : DiagramView) (decision : ℕ) (goals : List ℕ) (gains : List ℤ) : Type 0 where
   pub count : HasGainForEach d.nodes decision gains
   pub room : (q : World) → InRange (states_of d.nodes) q

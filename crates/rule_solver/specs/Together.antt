@@ -12,13 +12,13 @@ use Rattle.size_precheck.specs.Sizes.{SizedPlan}
 use Rattle.rule_solver.specs.declared.joint_goals.Joint.{Joint}
 
 -- the number of a plan's utility, and 0 where it has none, which plans of goals never lack
-abbrev pub utility_in : Option ℕ → ℕ
-utility_in (Some u) = u
-utility_in None = 0
+abbrev pub utility_of_plan : Option ℕ → ℕ
+utility_of_plan (Some u) = u
+utility_of_plan None = 0
 
 -- the goal whose plan it is
 abbrev pub goal_in : SizedPlan → ℕ
-goal_in plan = utility_in plan.plan.utility
+goal_in plan = utility_of_plan plan.plan.utility
 
 -- the list has the nodes of the set, each once
 pub record IsListed (set : NodeSet) (list : List ℕ) : Type 0 where

@@ -48,8 +48,8 @@ AreWorthsFor nodes p agent worths = HasWorthsFor nodes p agent worths.items
 
 -- what a node gives to an agent's gain: a utility of the agent its worth times the totals of the scope's nodes that
 -- its plan lacks
-abbrev pub gain_given : List NodeView → List RuleView → ℕ → List ℤ → ℕ → ℤ
-gain_given nodes p agent worths v = if is_utility_of nodes agent v
+abbrev pub share_for : List NodeView → List RuleView → ℕ → List ℤ → ℕ → ℤ
+share_for nodes p agent worths v = if is_utility_of nodes agent v
     then slice_index_or worths v (pos 0)
     *ℤ pos (missing_in nodes p (scope_for nodes agent) (worth_plan v))
     else pos 0
@@ -89,8 +89,8 @@ HoldsStake s =
     IsStake s.diagram.now s.profile.now s.agent s.totals.now s.worths.now s.scope
 
 -- what a node gives to its agent's gain
-abbrev pub gives_to : Stake → ℕ → ℤ
-gives_to s v = gain_given s.diagram.now.nodes s.profile.now s.agent s.worths.now v
+abbrev pub share_of : Stake → ℕ → ℤ
+share_of s v = share_for s.diagram.now.nodes s.profile.now s.agent s.worths.now v
 
 -- its agent's gain
 abbrev pub gain_to : Stake → ℤ

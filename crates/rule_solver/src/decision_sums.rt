@@ -7,7 +7,7 @@ ghost use Rattle.maid_model.specs.Profiles.{IsProfile};
 ghost use Rattle.maid_model.specs.Scopes.{KeepsScopedBounds};
 ghost use Rattle.part_laws.specs.ScopeLaws.{HasSmallRules};
 ghost use Rattle.size_precheck.specs.Decisions.{AreDecisionPlans};
-ghost use Rattle.rule_solver.specs.Rooms.{AreNeededForPlans, AreReadyForDecision, HasRoomAt};
+ghost use Rattle.rule_solver.specs.Rooms.{AreNeededForPlans, AreReadyForDecision, HasRoomForDecision};
 ghost use Rattle.rule_solver.specs.Settings.{AddsGoalsIn, AreGoalPlansIn, ArePlansIn, AreReadyForDecisionIn, AreReadyForGoal, AreReadyForGoalsIn, AreReadyForRows, AreRowSumsIn, HasGoalsIn, HasMassesIn, HasRoomForGoalsIn, HoldsSetting, IsGoalIn, IsPlannedForGoal, IsPlannedForRows, IsReadyForGoal, IsReadyForRows, KeepsRoomIn, goals_in, lacking_in_goal, lacking_in_rows, total_in};
 ghost use Rattle.rule_solver.specs.Sums.{AreRowSums, AreRowGains};
 
@@ -380,7 +380,7 @@ pub fn row_sums(
     requires profile { IsProfile diagram.now.nodes profile.now }
     requires rules { HasSmallRules diagram.now.nodes profile.now decision }
     requires bound { KeepsScopedBounds diagram.now }
-    requires room { HasRoomAt diagram.now.nodes decision MOST_PLAN_CELLS }
+    requires room { HasRoomForDecision diagram.now.nodes decision MOST_PLAN_CELLS }
     ensures { IfOk result (AreRowSums diagram.now.nodes profile.now decision) }
 {
     // A plan that is made again has as many cells.

@@ -9,7 +9,7 @@ ghost use Rattle.std.specs.Prelude.{◌≡◌, ◌↔◌, ◌+◌, ◌*◌, ◌<
 ghost use Rattle.maid_model.specs.Graph.{AllDifferent};
 ghost use Rattle.node_sets.specs.declared.sets.TheConstants.{MOST_NODES};
 ghost use Rattle.joint_sums.specs.Joint.{AreGoals};
-ghost use Rattle.rule_solver.specs.Rooms.{IsReady};
+ghost use Rattle.rule_solver.specs.Rooms.{IsEmptyWithin};
 ghost use Rattle.rule_solver.specs.Settings.{AreGoalPlansIn, HasGoalsIn, HasRoomForGoalsIn, HoldsSetting, IsJointIn, goals_in, AddsFirstGoalsIn};
 ghost use Rattle.rule_solver.specs.Together.{FitsPairs, IsListed, IsStepOf, ListsMore, goal_in, FitsPairsOfFirst, IsBoundOrNone};
 
@@ -222,7 +222,7 @@ impl Joint {
         requires joint { IsJointIn setting.now self.now }
         requires goals { AreGoals setting.now.diagram.now.nodes setting.now.decision goals.now }
         requires fits { FitsPairs setting.now.diagram.now.nodes self.now.total goals.now }
-        requires ready { IsReady limits.cells work.old }
+        requires ready { IsEmptyWithin limits.cells work.old }
         requires room { HasRoomForGoalsIn setting.now goals.now gains.old }
         ensures few { IfOk result (λ n. n ≤ length goals.now) }
         ensures adds { IfOk result (AddsFirstGoalsIn setting.now goals.now gains.old gains.new) }
@@ -273,7 +273,7 @@ impl Joint {
         requires joint { IsJointIn setting.now self.now }
         requires goals { AreGoals setting.now.diagram.now.nodes setting.now.decision goals.now }
         requires plans { length plans.now ≡ length goals.now }
-        requires ready { IsReady cells work.old }
+        requires ready { IsEmptyWithin cells work.old }
         requires room { HasRoomForGoalsIn setting.now goals.now gains.old }
         ensures few { IfOk result (λ n. n ≤ length goals.now) }
         ensures adds { IfOk result (AddsFirstGoalsIn setting.now goals.now gains.old gains.new) }
@@ -311,7 +311,7 @@ pub(crate) fn add_together(
     requires setting { HoldsSetting setting.now }
     requires goals { goals.now ≡ goals_in setting.now }
     requires planned { AreGoalPlansIn setting.now plans.now }
-    requires ready { IsReady cells work.old }
+    requires ready { IsEmptyWithin cells work.old }
     requires none { HasGoalsIn setting.now [] gains.old }
     ensures few { IfOk result (λ n. n ≤ length goals.now) }
     ensures gains { IfOk result (λ n. HasGoalsIn setting.now (take n goals.now) gains.new) }

@@ -6,9 +6,9 @@ ghost use Rattle.maid_model.specs.Diagrams.{IsDiagram};
 ghost use Rattle.maid_model.specs.Placing.{IsRelianceOrder};
 ghost use Rattle.size_precheck.specs.Decisions.{ArePlans};
 ghost use Rattle.size_precheck.specs.Sizes.{IsSizeOfRun, ListsDecisions, ArePlansOfWorths};
-ghost use Rattle.rule_solver.specs.Faults.{KeepsSizes, bound_pass, size_pass, solve_fault};
+ghost use Rattle.rule_solver.specs.Faults.{KeepsPlanLimits, bound_pass, size_pass, solve_fault};
 ghost use Rattle.rule_solver.specs.Kept.{IsKeptDiagram};
-ghost use Rattle.rule_solver.specs.Rooms.{HasRoom};
+ghost use Rattle.rule_solver.specs.Rooms.{HasRoomForRun};
 
 use crate::SolveFault;
 use crate::keeping::KeptDiagram;
@@ -31,7 +31,7 @@ pub(crate) fn keep_bound(diagram: &Diagram) -> Result<(), SolveFault>
 
 /// Whether a size is within both limits.
 fn is_small(size: &Size) -> bool
-    ensures { IsTrue result ↔ KeepsSizes size.now }
+    ensures { IsTrue result ↔ KeepsPlanLimits size.now }
 {
     size.cells <= MOST_PLAN_CELLS as u128 && size.work <= MOST_WORK
 }
@@ -68,7 +68,7 @@ pub(crate) fn keep_sizes(
     ensures rows { Passes solve_fault (size_pass diagram.now) result }
     ensures plans { IfOk result (λ run. ArePlans diagram.now.nodes order.now run.decisions.items) }
     ensures worths { IfOk result (λ run. ArePlansOfWorths diagram.now.nodes run.worths.items) }
-    ensures room { IfOk result (λ run. HasRoom diagram.now.nodes run.size.cells) }
+    ensures room { IfOk result (λ run. HasRoomForRun diagram.now.nodes run.size.cells) }
     ensures limit { IfOk result (λ run. run.size.cells ≤ MOST_PLAN_CELLS) }
 {
     sizes_of_plans();

@@ -12,6 +12,7 @@ ghost use Rattle.maid_model.specs.Profiles.{IsProfile};
 ghost use Rattle.maid_model.specs.Scopes.{KeepsScopedBounds};
 ghost use Rattle.maid_model.specs.Subgames.{OwnsAll};
 ghost use Rattle.maid_model.specs.Values.{IsOptimum};
+ghost use Rattle.maid_model.specs.Gains.{gain_in};
 ghost use Rattle.part_laws.specs.ScopeLaws.{HasSmallRules, HasUnitRules};
 ghost use Rattle.plan_sums.specs.Plans.{worth_plan};
 ghost use Rattle.relevance_graph.specs.Relevant.{IsRelevance};
@@ -21,8 +22,8 @@ ghost use Rattle.rule_solver.specs.Faults.{solve_fault, solve_pass};
 ghost use Rattle.rule_solver.specs.Kept.{IsKeptDiagram};
 ghost use Rattle.rule_solver.specs.Masses.{IsExpected};
 ghost use Rattle.rule_solver.specs.Optima.{ChoosesAll, ChoosesRows, IsChosenBy};
-ghost use Rattle.rule_solver.specs.Rooms.{AreBothReadyForWorths, AreLeft, AreReadyFor, AreReadyForDecision, AreReadyForDecisions, AreReadyForWorths, HasRoom};
-ghost use Rattle.rule_solver.specs.Rows.{IsBest, gain_in};
+ghost use Rattle.rule_solver.specs.Rooms.{AreBothReadyForWorths, AreLeft, AreReadyFor, AreReadyForDecision, AreReadyForDecisions, AreReadyForWorths, HasRoomForRun};
+ghost use Rattle.rule_solver.specs.Rows.{IsBest};
 ghost use Rattle.rule_solver.specs.Totals.{HasTotals};
 ghost use Rattle.rule_solver.specs.Worths.{IsWorthIfOwned, AreWorthsFor};
 
@@ -260,7 +261,7 @@ fn optimum_along(
     requires order { IsRelianceOrder diagram.now.nodes order.now }
     requires plans { ArePlans diagram.now.nodes order.now run.now.decisions.items }
     requires worths { ArePlansOfWorths diagram.now.nodes run.now.worths.items }
-    requires room { HasRoom diagram.now.nodes run.now.size.cells }
+    requires room { HasRoomForRun diagram.now.nodes run.now.size.cells }
     requires limit { run.now.size.cells ≤ MOST_PLAN_CELLS }
     requires left { AreLeft left.old }
     ensures optimum { IfOk result (IsOptimum diagram.now.nodes diagram.now.decimals agent) }

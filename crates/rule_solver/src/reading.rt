@@ -5,7 +5,7 @@ ghost use Rattle.factor_core.specs.Slots.{nodes_in};
 ghost use Rattle.maid_model.specs.Diagrams.{greatest_number};
 ghost use Rattle.maid_model.specs.Nodes.{IsDecision, rows_of};
 ghost use Rattle.node_sets.specs.Sets.{holds};
-ghost use Rattle.rule_solver.specs.Reading.{AddsEach, AddsSlot, FitEach, FitsSlot, HasGainForEach, HasLiveSlot, HasRoomAtPlace, HasRoomForEach, HasRoomForSlot, IsOverRows, IsOverStates, PutsSlot, added_at, number_at, PutsCells};
+ghost use Rattle.rule_solver.specs.Reading.{AddsEach, AddsSlot, FitEach, FitsSlot, HasGainForEach, HasLiveSlot, HasRoomAtPlace, HasRoomForEach, HasRoomForSlot, IsOverRows, IsOverStates, PutsSlot, added_at, number_in_cell, PutsCells};
 
 use crate::numbers::{HasNumber, Number};
 use crate::odometer::next_over;
@@ -75,9 +75,9 @@ fn is_own_order(list: &[usize], parents: &[usize], decision: usize) -> bool
 fn add_cells<C: HasNumber>(cells: &[C], factor: u128, gains: &mut [i128])
     requires len { length cells.now ≡ length gains.old }
     requires factor { factor ≤ greatest_number }
-    requires room { HasRoomForEach (number_at C.number C.ring cells.now) factor gains.old }
+    requires room { HasRoomForEach (number_in_cell C.number C.ring cells.now) factor gains.old }
     ensures len { length gains.new ≡ length gains.old }
-    ensures each { AddsEach (number_at C.number C.ring cells.now) factor gains.old gains.new }
+    ensures each { AddsEach (number_in_cell C.number C.ring cells.now) factor gains.old gains.new }
 {
     for (at, cell) in cells.iter().enumerate() {
         add_number(gains, at, cell.number(), factor);
@@ -167,7 +167,7 @@ fn mass_of(number: i128, factor: u128) -> u128
 /// Writes each cell, times the factor, as the mass at its place.
 fn put_cells<C: Number>(cells: &[C], factor: u128, masses: &mut [u128])
     requires len { length cells.now ≡ length masses.old }
-    requires room { FitEach (number_at C.number C.ring cells.now) factor (length masses.old) }
+    requires room { FitEach (number_in_cell C.number C.ring cells.now) factor (length masses.old) }
     ensures len { length masses.new ≡ length masses.old }
     ensures each { PutsCells C.number C.ring cells.now factor masses.old masses.new }
 {

@@ -3,7 +3,7 @@
 ghost use Rattle.std.specs.Prelude.{◌≡◌, ◌<◌, ◌≤◌, ◌*◌, All, IfOk, IfSome, length, pos, nat_abs, slice_index, slice_index_or};
 ghost use Rattle.maid_model.specs.Answers.{IsFirstBest, IsReduced};
 ghost use Rattle.maid_model.specs.Diagrams.{greatest_number};
-ghost use Rattle.rule_solver.specs.Rows.{AnswersList, AreGainsOfRow, FitNumbers, FitScaled, AnswersGains, AnswersInList};
+ghost use Rattle.rule_solver.specs.Rows.{AnswersByGains, AreGainsOfRow, FitNumbers, FitScaled, AnswersGains, AnswersInList};
 
 use crate::fractions::fraction;
 use maid_model::Row;
@@ -92,7 +92,7 @@ pub(crate) fn answer_rows(
     requires scale { 0 < scale }
     requires room { FitScaled masses.now scale }
     requires small { FitNumbers gains.now }
-    ensures rows { IfOk result (λ v. AnswersList gains.now masses.now states scale v.items) }
+    ensures rows { IfOk result (λ v. AnswersByGains gains.now masses.now states scale v.items) }
 {
     let mut rows = Vec::with_capacity(alloc, masses.len())?;
     for row in 0..masses.len() {

@@ -11,7 +11,7 @@ ghost use Rattle.maid_model.specs.Values.{PrintsOptima};
 ghost use Rattle.relevance_graph.specs.Relevant.{IsRelevance};
 ghost use Rattle.size_precheck.specs.Decisions.{ArePlans};
 ghost use Rattle.rule_solver.specs.Faults.{solve_fault, solve_pass};
-ghost use Rattle.rule_solver.specs.Rooms.{AreReadyForRun, HasRoom};
+ghost use Rattle.rule_solver.specs.Rooms.{AreReadyForRun, HasRoomForRun};
 ghost use Rattle.size_precheck.specs.Sizes.{ArePlansOfWorths};
 ghost use Rattle.rule_solver.specs.Solved.{HasOptimalProfile, HasPerfectProfile};
 
@@ -80,7 +80,7 @@ fn solve_along(
     requires order { IsRelianceOrder diagram.now.nodes order.now }
     requires plans { ArePlans diagram.now.nodes order.now run.now.decisions.items }
     requires worths { ArePlansOfWorths diagram.now.nodes run.now.worths.items }
-    requires room { HasRoom diagram.now.nodes run.now.size.cells }
+    requires room { HasRoomForRun diagram.now.nodes run.now.size.cells }
     requires limit { run.now.size.cells ≤ MOST_PLAN_CELLS }
     ensures { IfOk result (IsAnswer diagram.now) }
 {

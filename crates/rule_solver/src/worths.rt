@@ -14,7 +14,7 @@ ghost use Rattle.size_precheck.specs.Sizes.{IsPlanned, ArePlansOfWorths};
 ghost use Rattle.rule_solver.specs.Masses.{HasGains};
 ghost use Rattle.rule_solver.specs.Rooms.{AreBothReadyForWorths, AreReadyFor, AreReadyForWorths, HasRoomForWorth, HasRoomForWorths, IsReadyFor};
 ghost use Rattle.rule_solver.specs.Totals.{HasTotals};
-ghost use Rattle.rule_solver.specs.Worths.{AreNeededForWorths, HasWorths, HoldsStake, IsExpectedTo, IsLeastRoom, IsWorth, gain_to, gives_to};
+ghost use Rattle.rule_solver.specs.Worths.{AreNeededForWorths, HasWorths, HoldsStake, IsExpectedTo, IsLeastRoom, IsWorth, gain_to, share_of};
 
 use crate::fractions::fraction;
 use crate::numbers::Number;
@@ -145,7 +145,7 @@ impl<'a> Stake<'a> {
         requires stake { HoldsStake self.now }
         requires within { utility < length self.now.diagram.now.nodes }
         requires owned { is_utility_of self.now.diagram.now.nodes self.now.agent utility ≡ true }
-        ensures { result ≡ gives_to self.now utility }
+        ensures { result ≡ share_of self.now utility }
     {
         descent_is_tested();
         plans_keep_scopes();
@@ -159,7 +159,7 @@ impl<'a> Stake<'a> {
     fn given_by(&self, v: usize) -> i128
         requires stake { HoldsStake self.now }
         requires within { v < length self.now.diagram.now.nodes }
-        ensures { result ≡ gives_to self.now v }
+        ensures { result ≡ share_of self.now v }
     {
         let owned = self.diagram.owns(self.agent, v);
         match self.diagram.kind(v) {

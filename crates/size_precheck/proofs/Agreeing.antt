@@ -22,7 +22,7 @@ use Rattle.size_precheck.specs.declared.planners.Family.{Family}
 use Rattle.size_precheck.specs.declared.planners.Planner.{Planner}
 use Rattle.size_precheck.specs.Counts.{counted_cells}
 use Rattle.size_precheck.specs.Greedy.{first_scopes, holding, joined_set, IsNext, IsGreedy, IsGreedyOrder}
-use Rattle.size_precheck.specs.Families.{IsFamily, IsJoined, IsOfFamily, IsPlanner, IsRuledBelow, family_at}
+use Rattle.size_precheck.specs.Families.{IsFamily, IsJointAmong, IsOfFamily, IsPlanner, IsRuledBelow, family_at}
 use Rattle.size_precheck.specs.Joints.{family_test, joint_at, parents_test}
 use Rattle.size_precheck.specs.Kept.{IsKept, IsKeptRun, KeepsPlans}
 use Rattle.size_precheck.specs.Sizes.{SizedPlan, CanBePlanned, IsMade, IsPlanned, ArePlansOf, made_cells, steps_work, plan_cells, plan_work, goal_list, utility_list}
@@ -185,7 +185,7 @@ module _ (nodes others : List NodeView) (k : KeepsPlans nodes others) where
     above = λ u. subst (λ (parents : ℕ → List ℕ). IsIn family.above u ↔ IsPath (λ a b. Contains (parents b) a) u v) (parents_same nodes others k) (h.above u);
   }
 
-  joined_there : (y : ℕ) (joint : Joint) → IsJoined nodes (IsRuledBelow nodes (length nodes)) y joint → IsJoined others (IsRuledBelow others (length others)) y joint
+  joined_there : (y : ℕ) (joint : Joint) → IsJointAmong nodes (IsRuledBelow nodes (length nodes)) y joint → IsJointAmong others (IsRuledBelow others (length others)) y joint
   joined_there y joint h = record {
     tables = λ x. (
       (λ m. let r = (h.tables x).0 m in (ruled_stays x r.0, subst (λ (A : Type 0). A) (of_family x y) r.1)),

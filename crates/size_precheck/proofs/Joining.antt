@@ -9,13 +9,13 @@ use Rattle.node_sets.specs.Sets.{holds, IsIn}
 use Rattle.node_sets.specs.declared.sets.NodeSet.{NodeSet}
 use Rattle.size_precheck.specs.declared.joints.Joint.{Joint}
 use Rattle.size_precheck.specs.declared.joints.Table.{Table}
-use Rattle.size_precheck.specs.Families.{IsJoined, IsOfFamily, IsRuledBelow}
+use Rattle.size_precheck.specs.Families.{IsJointAmong, IsOfFamily, IsRuledBelow}
 use Rattle.size_precheck.specs.Joints.{joint_at, IsPut}
 
 module _ (nodes : List NodeView) (Of More : ℕ → Type 0) (v y : ℕ) (more : (x : ℕ) → More x ↔ (Of x ⊎ (x ≡ v))) where
   -- one more table, which holds y
   pub joined_put : (table : Table) (none : NodeSet) (before after : Joint) → ((x : ℕ) → IsIn none x → ⊥) → table.tag ≡ v → ((u : ℕ) → IsIn table.scope u ↔ IsOfFamily nodes v u)
-      → IsOfFamily nodes v y → IsPut table (IsIn none) (IsIn none) before after → IsJoined nodes Of y before → IsJoined nodes More y after
+      → IsOfFamily nodes v y → IsPut table (IsIn none) (IsIn none) before after → IsJointAmong nodes Of y before → IsJointAmong nodes More y after
   joined_put table none before after nothing tag scope own put joined = record {
     tables = λ x. (
       (λ m. elim ((put.tables x).0 m) as (λ _. More x × IsOfFamily nodes x y) [
@@ -43,7 +43,7 @@ module _ (nodes : List NodeView) (Of More : ℕ → Type 0) (v y : ℕ) (more : 
   }
 
   -- one more, which does not hold y
-  pub joined_same : (joint : Joint) → (IsOfFamily nodes v y → ⊥) → IsJoined nodes Of y joint → IsJoined nodes More y joint
+  pub joined_same : (joint : Joint) → (IsOfFamily nodes v y → ⊥) → IsJointAmong nodes Of y joint → IsJointAmong nodes More y joint
   joined_same joint apart joined = record {
     tables = λ x. (
       (λ m. let k = (joined.tables x).0 m in ((more x).1 (inl k.0), k.1)),
@@ -59,7 +59,7 @@ module _ (nodes : List NodeView) (Of More : ℕ → Type 0) (v y : ℕ) (more : 
       old x m o = elim ((more x).0 m) as (λ _. Of x) [ inl k ↦ k | inr e ↦ absurd (apart (subst (λ z. IsOfFamily nodes z y) e o)) ]
 
 -- of fewer nodes, if they have all of its tables
-pub joined_fewer : (nodes : List NodeView) (Of Few : ℕ → Type 0) (y : ℕ) (joint : Joint) → ((x : ℕ) → Few x → Of x) → ((x : ℕ) → IsIn joint.tables x → Few x) → IsJoined nodes Of y joint → IsJoined nodes Few y joint
+pub joined_fewer : (nodes : List NodeView) (Of Few : ℕ → Type 0) (y : ℕ) (joint : Joint) → ((x : ℕ) → Few x → Of x) → ((x : ℕ) → IsIn joint.tables x → Few x) → IsJointAmong nodes Of y joint → IsJointAmong nodes Few y joint
 joined_fewer nodes Of Few y joint fewer inside joined = record {
   tables = λ x. (
     (λ m. (inside x m, ((joined.tables x).0 m).1)),
@@ -73,7 +73,7 @@ joined_fewer nodes Of Few y joint fewer inside joined = record {
 
 -- of fewer nodes, made anew
 pub joined_narrow : (nodes : List NodeView) (Of Few : ℕ → Type 0) (y : ℕ) (joint narrow : Joint) → ((x : ℕ) → Few x → Of x) → ((x : ℕ) → IsIn narrow.tables x ↔ (IsIn joint.tables x × Few x))
-    → ((u : ℕ) → IsIn narrow.set u ↔ ((x : ℕ) × IsIn narrow.tables x × IsOfFamily nodes x u)) → IsJoined nodes Of y joint → IsJoined nodes Few y narrow
+    → ((u : ℕ) → IsIn narrow.set u ↔ ((x : ℕ) × IsIn narrow.tables x × IsOfFamily nodes x u)) → IsJointAmong nodes Of y joint → IsJointAmong nodes Few y narrow
 joined_narrow nodes Of Few y joint narrow fewer tables set joined = record {
   tables = own;
   set = λ u. (
@@ -103,7 +103,7 @@ ruled_more nodes v plain x = (
 )
 
 -- a utility more is none with a rule
-pub ruled_past : (nodes : List NodeView) (v y : ℕ) (joint : Joint) → (node_at nodes v).kind ≡ Utility → IsJoined nodes (IsRuledBelow nodes v) y joint → IsJoined nodes (IsRuledBelow nodes (v + 1)) y joint
+pub ruled_past : (nodes : List NodeView) (v y : ℕ) (joint : Joint) → (node_at nodes v).kind ≡ Utility → IsJointAmong nodes (IsRuledBelow nodes v) y joint → IsJointAmong nodes (IsRuledBelow nodes (v + 1)) y joint
 ruled_past nodes v y joint kind joined = record {
   tables = λ x. (
     (λ m. let h = (joined.tables x).0 m in (more x h.0, h.1)),
@@ -126,12 +126,12 @@ pub family_put : (nodes : List NodeView) (v : ℕ) (table : Table) (none : NodeS
     → ((u : ℕ) → IsIn table.scope u ↔ IsOfFamily nodes v u)
     → ((y : ℕ) → IsIn table.scope y → IsPut table (IsIn none) (IsIn none) (joint_at joints y) (joint_at joints' y))
     → ((y : ℕ) → (IsIn table.scope y → ⊥) → joint_at joints' y ≡ joint_at joints y)
-    → (y : ℕ) → IsJoined nodes (IsRuledBelow nodes v) y (joint_at joints y) → IsJoined nodes (IsRuledBelow nodes (v + 1)) y (joint_at joints' y)
-family_put nodes v table none joints joints' plain nothing tag scope put same y joined = elim (true_or_false (holds table.scope y)) as (λ _. IsJoined nodes (IsRuledBelow nodes (v + 1)) y (joint_at joints' y)) [
+    → (y : ℕ) → IsJointAmong nodes (IsRuledBelow nodes v) y (joint_at joints y) → IsJointAmong nodes (IsRuledBelow nodes (v + 1)) y (joint_at joints' y)
+family_put nodes v table none joints joints' plain nothing tag scope put same y joined = elim (true_or_false (holds table.scope y)) as (λ _. IsJointAmong nodes (IsRuledBelow nodes (v + 1)) y (joint_at joints' y)) [
   | inl e ↦ joined_put nodes (IsRuledBelow nodes v) (IsRuledBelow nodes (v + 1)) v y (ruled_more nodes v plain) table none (joint_at joints y) (joint_at joints' y) nothing tag scope ((scope y).0 e) (put y e) joined
   | inr e ↦
       let lacks : IsIn table.scope y → ⊥ = lacking e in
-      subst (λ (j : Joint). IsJoined nodes (IsRuledBelow nodes (v + 1)) y j) (sym (same y lacks))
+      subst (λ (j : Joint). IsJointAmong nodes (IsRuledBelow nodes (v + 1)) y j) (sym (same y lacks))
       (joined_same nodes (IsRuledBelow nodes v) (IsRuledBelow nodes (v + 1)) v y (ruled_more nodes v plain) (joint_at joints y) (λ o. lacks ((scope y).1 o)) joined)
 ]
   where

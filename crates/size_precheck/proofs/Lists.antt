@@ -2,11 +2,11 @@
 use Rattle.std.proofs.Common.{◌≡◌, ◌⊎◌, ℕ, zero, suc, ◌+◌, ◌<◌, ◌≤◌, List, [], ◌∷◌, ◌++◌, length, get_or, inl, inr, arith}
 use Rattle.node_sets.specs.declared.sets.NodeSet.{NodeSet}
 use Rattle.node_sets.specs.Sets.{IsIn, IsFirstFrom}
-use Rattle.size_precheck.specs.Joints.{SomeOf, Each, Rising, IsListOf}
+use Rattle.size_precheck.specs.Joints.{SomeOf, HoldsOfEach, Rising, IsListOf}
 use Rattle.size_precheck.proofs.Somewhere.{push_some, each_push, each_map}
 
 -- by place
-pub each_at : (P : ℕ → Type 0) (list : List ℕ) (i d : ℕ) → Each P list → i < length list → P (get_or list i d)
+pub each_at : (P : ℕ → Type 0) (list : List ℕ) (i d : ℕ) → HoldsOfEach P list → i < length list → P (get_or list i d)
 each_at P [] i d h l = absurd (omega arith)
 each_at P (x ∷ xs) zero d h l = h.0
 each_at P (x ∷ xs) (suc i) d h l = each_at P xs i d h.1 (omega arith)
@@ -17,13 +17,13 @@ some_at v (x ∷ xs) (inl e) = (0, omega arith, e)
 some_at v (x ∷ xs) (inr s) = let a = some_at v xs s in let l = a.1 in (suc a.0, omega arith, a.2)
 
 -- ---- one more at the end
-pub rising_push : (list : List ℕ) (v : ℕ) → Rising list → Each (λ x. x < v) list → Rising (list ++ v ∷ [])
+pub rising_push : (list : List ℕ) (v : ℕ) → Rising list → HoldsOfEach (λ x. x < v) list → Rising (list ++ v ∷ [])
 rising_push [] v r h = (tt, tt)
 rising_push (x ∷ xs) v r h = (each_push (λ y. x < y) xs v r.0 h.0, rising_push xs v r.1 h.1)
 
 -- the members so far, along a walk
 pub record IsListTo (set : NodeSet) (from : ℕ) (list : List ℕ) : Type 0 where
-  pub inside : Each (λ v. IsIn set v × (v < from)) list
+  pub inside : HoldsOfEach (λ v. IsIn set v × (v < from)) list
   pub all : (v : ℕ) → v < from → IsIn set v → SomeOf (λ x. x ≡ v) list
   pub rising : Rising list
 

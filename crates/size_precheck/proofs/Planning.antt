@@ -16,7 +16,7 @@ use Rattle.ring_sums.proofs.Same.{map_append}
 use Rattle.ring_sums.specs.Tables.{scopes_of}
 use Rattle.maid_model.specs.Bounds.{stopped}
 use Rattle.size_precheck.specs.Counts.{counted_cells}
-use Rattle.size_precheck.specs.Joints.{counted_over, AreStates, SomeOf, Each, Rising, IsListOf, family_test, parents_test}
+use Rattle.size_precheck.specs.Joints.{counted_over, AreStateCounts, SomeOf, HoldsOfEach, Rising, IsListOf, family_test, parents_test}
 use Rattle.size_precheck.proofs.Counting.{stop_part, stop_later}
 use Rattle.size_precheck.proofs.Putting.{has_contains, contains_some, some_contains}
 use Rattle.size_precheck.proofs.Scoped.{cells_counted}
@@ -38,7 +38,7 @@ rising_filter p (x ∷ xs) r = go (p x) (rising_filter p xs r.1)
     go true s = (each_filter (λ y. x < y) (λ y. x < y) p (λ y _ l. l) xs r.0, s)
     go false s = s
 
-above_range : (a k n : ℕ) → a < k → Each (λ y. a < y) (range_with_len k n)
+above_range : (a k n : ℕ) → a < k → HoldsOfEach (λ y. a < y) (range_with_len k n)
 above_range a k zero l = tt
 above_range a k (suc n) l = (l, above_range a (k + 1) n (omega arith))
 
@@ -46,7 +46,7 @@ pub rising_range : (k n : ℕ) → Rising (range_with_len k n)
 rising_range k zero = tt
 rising_range k (suc n) = (above_range k (k + 1) n (omega arith), rising_range (k + 1) n)
 
-each_contained : (P : ℕ → Type 0) (list : List ℕ) → ((v : ℕ) → SomeOf (λ x. x ≡ v) list → P v) → Each P list
+each_contained : (P : ℕ → Type 0) (list : List ℕ) → ((v : ℕ) → SomeOf (λ x. x ≡ v) list → P v) → HoldsOfEach P list
 each_contained P [] f = tt
 each_contained P (x ∷ xs) f = (f x (inl refl), each_contained P xs (λ v s. f v (inr s)))
 
@@ -114,7 +114,7 @@ module _ (nodes : List NodeView) (plan : PlanView) (all : NodeSet) (all_are : (v
           among d (inr f) = absurd f
 
 -- ---- the last table
-pub kept_counted : (nodes : List NodeView) (states : List ℕ) (keep : List ℕ) (kept : NodeSet) → AreStates nodes states → ((v : ℕ) → IsIn kept v ↔ Contains keep v) → counted_over states (holds kept) ≡ counted_cells nodes (has keep)
+pub kept_counted : (nodes : List NodeView) (states : List ℕ) (keep : List ℕ) (kept : NodeSet) → AreStateCounts nodes states → ((v : ℕ) → IsIn kept v ↔ Contains keep v) → counted_over states (holds kept) ≡ counted_cells nodes (has keep)
 kept_counted nodes states keep kept are kept_are =
     cells_counted nodes states kept (has keep) are (λ u. same_test _ _ (λ m. (has_contains keep u).1 ((kept_are u).0 m)) (λ e. (kept_are u).1 ((has_contains keep u).0 e)))
 

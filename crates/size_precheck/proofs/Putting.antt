@@ -20,8 +20,8 @@ use Rattle.size_precheck.specs.declared.joints.Table.{Table}
 use Rattle.size_precheck.specs.declared.simulation.Start.{Start}
 use Rattle.maid_model.specs.Bounds.{stopped}
 use Rattle.size_precheck.specs.Counts.{counted_cells}
-use Rattle.size_precheck.specs.Families.{IsJoined, IsOfFamily}
-use Rattle.size_precheck.specs.Joints.{joint_at, counted_over, AreStates, IsCounted, SomeOf, Each, TagsDiffer, Tells, AreLive, tests_of, Rising, IsListOf, IsStarted, family_test, parents_test}
+use Rattle.size_precheck.specs.Families.{IsJointAmong, IsOfFamily}
+use Rattle.size_precheck.specs.Joints.{joint_at, counted_over, AreStateCounts, IsCountedAt, SomeOf, HoldsOfEach, TagsDiffer, Tells, AreLive, tests_of, Rising, IsListOf, IsGreedyStart, family_test, parents_test}
 use Rattle.size_precheck.proofs.Counting.{stop_part}
 use Rattle.size_precheck.proofs.Lists.{IsListTo, list_more, list_done}
 use Rattle.size_precheck.proofs.Live.{differ_push}
@@ -89,10 +89,10 @@ rising_same (x ∷ xs) (y ∷ ys) r s f g =
     (λ v m. elim (g v (inr m)) as (λ _. SomeOf (λ x. x ≡ v) xs) [ inl e ↦ absurd (above y v ys s.0 m (sym heads ∙ e)) | inr k ↦ k ]) in
     cc
   where
-    above : (a v : ℕ) (zs : List ℕ) → Each (λ z. a < z) zs → SomeOf (λ z. z ≡ v) zs → a ≡ v → ⊥
+    above : (a v : ℕ) (zs : List ℕ) → HoldsOfEach (λ z. a < z) zs → SomeOf (λ z. z ≡ v) zs → a ≡ v → ⊥
     above a v zs h m e = some_never (λ z. (a < z) × (z ≡ v)) zs (λ z k. let l = k.0 in let f = k.1 in absurd (omega arith)) (each_some (λ z. a < z) (λ z. z ≡ v) zs h m)
 
-    less : (a v : ℕ) (zs : List ℕ) → Each (λ z. a < z) zs → SomeOf (λ z. z ≡ v) zs → a < v
+    less : (a v : ℕ) (zs : List ℕ) → HoldsOfEach (λ z. a < z) zs → SomeOf (λ z. z ≡ v) zs → a < v
     less a v zs h m = pick zs (each_some (λ z. a < z) (λ z. z ≡ v) zs h m)
       where
         pick : (ws : List ℕ) → SomeOf (λ z. (a < z) × (z ≡ v)) ws → a < v
@@ -108,7 +108,7 @@ rising_same (x ∷ xs) (y ∷ ys) r s f g =
 abbrev pub tags_of : List Table → List ℕ
 tags_of tables = map (λ t. t.tag) tables
 
-each_tag : (P : ℕ → Type 0) (tables : List Table) → Each P (tags_of tables) → Each (λ t. P t.tag) tables
+each_tag : (P : ℕ → Type 0) (tables : List Table) → HoldsOfEach P (tags_of tables) → HoldsOfEach (λ t. P t.tag) tables
 each_tag P [] h = tt
 each_tag P (t ∷ ts) h = (h.0, each_tag P ts h.1)
 
@@ -132,7 +132,7 @@ pub record Put (nodes : List NodeView) (ruled : NodeSet) (from live cells : ℕ)
   pub tables : List Table
   pub tags : tags_of tables ≡ list
   pub scopes : tests_of tables ≡ map (family_test nodes) list
-  pub of_family : Each (λ t. (u : ℕ) → IsIn t.scope u ↔ IsOfFamily nodes t.tag u) tables
+  pub of_family : HoldsOfEach (λ t. (u : ℕ) → IsIn t.scope u ↔ IsOfFamily nodes t.tag u) tables
   pub live_is : live ≡ length tables
   pub cells_are : cells ≡ stopped (sum_by (λ s. counted_cells nodes s) (tests_of tables))
 
@@ -159,7 +159,7 @@ sum_more nodes tables table before now cells is here next =
     ∙ ap (λ n. stopped (so_far + n)) here
     ∙ ap (λ n. stopped n) (sym (sum_by_push (λ s. counted_cells nodes s) (tests_of tables) (holds table.scope)) ∙ ap (λ (ss : List (ℕ → Bool)). sum_by (λ s. counted_cells nodes s) ss) (sym (map_append (λ (t : Table). holds t.scope) tables (table ∷ []))))
 
-pub put_more : (nodes : List NodeView) (states : List ℕ) (ruled : NodeSet) (from v : ℕ) (live cells now counted : ℕ) (table : Table) → AreStates nodes states
+pub put_more : (nodes : List NodeView) (states : List ℕ) (ruled : NodeSet) (from v : ℕ) (live cells now counted : ℕ) (table : Table) → AreStateCounts nodes states
     → IsFirstFrom ruled from v → table.tag ≡ v → ((u : ℕ) → IsIn table.scope u ↔ IsOfFamily nodes v u)
     → counted ≡ counted_over states (holds table.scope) → now ≡ stopped (cells + counted)
     → Put nodes ruled from live cells → Put nodes ruled (v + 1) (live + 1) now
@@ -182,8 +182,8 @@ some_one P [] s = absurd s
 some_one P (t ∷ ts) (inl p) = (t, p)
 some_one P (t ∷ ts) (inr s) = some_one P ts s
 
-module _ (nodes : List NodeView) (states : List ℕ) (ruled waiting : NodeSet) (from : ℕ) (few : from ≤ 256) (none : (v : ℕ) → from ≤ v → IsIn ruled v → ⊥) (are : AreStates nodes states)
-    (joints : List Joint) (counts : List ℕ) (joined : (y : ℕ) → IsIn waiting y → IsJoined nodes (IsIn ruled) y (joint_at joints y)) (counted_at : (y : ℕ) → IsIn waiting y → IsCounted states joints counts y)
+module _ (nodes : List NodeView) (states : List ℕ) (ruled waiting : NodeSet) (from : ℕ) (few : from ≤ 256) (none : (v : ℕ) → from ≤ v → IsIn ruled v → ⊥) (are : AreStateCounts nodes states)
+    (joints : List Joint) (counts : List ℕ) (joined : (y : ℕ) → IsIn waiting y → IsJointAmong nodes (IsIn ruled) y (joint_at joints y)) (counted_at : (y : ℕ) → IsIn waiting y → IsCountedAt states joints counts y)
     (live cells : ℕ) (h : Put nodes ruled from live cells) (other : List ℕ) (listed : IsListOf ruled other) where
   one_list : h.list ≡ other
   one_list =
@@ -192,13 +192,13 @@ module _ (nodes : List NodeView) (states : List ℕ) (ruled waiting : NodeSet) (
       (λ v m. listed.all v (inside v h.list done.inside m))
       (λ v m. done.all v (inside v other listed.inside m))
     where
-      inside : (v : ℕ) (list : List ℕ) → Each (IsIn ruled) list → SomeOf (λ x. x ≡ v) list → IsIn ruled v
+      inside : (v : ℕ) (list : List ℕ) → HoldsOfEach (IsIn ruled) list → SomeOf (λ x. x ≡ v) list → IsIn ruled v
       inside v [] e m = absurd m
       inside v (x ∷ xs) e (inl f) = subst (IsIn ruled) f e.0
       inside v (x ∷ xs) e (inr m) = inside v xs e.1 m
 
-  all_small : Each (λ t. IsIn ruled t.tag × (t.tag < from)) h.tables
-  all_small = each_tag (λ x. IsIn ruled x × (x < from)) h.tables (subst (λ (xs : List ℕ). Each (λ x. IsIn ruled x × (x < from)) xs) (sym h.tags) h.listed.inside)
+  all_small : HoldsOfEach (λ t. IsIn ruled t.tag × (t.tag < from)) h.tables
+  all_small = each_tag (λ x. IsIn ruled x × (x < from)) h.tables (subst (λ (xs : List ℕ). HoldsOfEach (λ x. IsIn ruled x × (x < from)) xs) (sym h.tags) h.listed.inside)
 
   are_live : AreLive (IsIn waiting) h.tables
   are_live = record {
@@ -213,10 +213,10 @@ module _ (nodes : List NodeView) (states : List ℕ) (ruled waiting : NodeSet) (
   abbrev Known : Table → Type 0
   Known t = IsIn ruled t.tag × ((u : ℕ) → IsIn t.scope u ↔ IsOfFamily nodes t.tag u)
 
-  all_known : Each Known h.tables
+  all_known : HoldsOfEach Known h.tables
   all_known = both h.tables all_small h.of_family
     where
-      both : (ts : List Table) → Each (λ t. IsIn ruled t.tag × (t.tag < from)) ts → Each (λ t. (u : ℕ) → IsIn t.scope u ↔ IsOfFamily nodes t.tag u) ts → Each Known ts
+      both : (ts : List Table) → HoldsOfEach (λ t. IsIn ruled t.tag × (t.tag < from)) ts → HoldsOfEach (λ t. (u : ℕ) → IsIn t.scope u ↔ IsOfFamily nodes t.tag u) ts → HoldsOfEach Known ts
       both [] a b = tt
       both (t ∷ ts) a b = ((a.0.0, b.0), both ts a.1 b.1)
 
@@ -253,7 +253,7 @@ module _ (nodes : List NodeView) (states : List ℕ) (ruled waiting : NodeSet) (
   tests_are = h.scopes ∙ ap (λ (xs : List ℕ). map (family_test nodes) xs) one_list
 
   -- with no utility
-  pub started_without : (start : Start) → start.known.joints.items ≡ joints → start.known.counts.items ≡ counts → start.live ≡ live → start.cells ≡ cells → IsStarted nodes states (IsIn waiting) (map (family_test nodes) other ++ []) start
+  pub started_without : (start : Start) → start.known.joints.items ≡ joints → start.known.counts.items ≡ counts → start.live ≡ live → start.cells ≡ cells → IsGreedyStart nodes states (IsIn waiting) (map (family_test nodes) other ++ []) start
   started_without start joints_are counts_are live_are cells_are =
       let whole : map (family_test nodes) other ++ [] ≡ map (family_test nodes) other = append_none (map (family_test nodes) other) in
       let scopes_are : tests_of h.tables ≡ map (family_test nodes) other ++ [] = tests_are ∙ sym whole in
@@ -262,7 +262,7 @@ module _ (nodes : List NodeView) (states : List ℕ) (ruled waiting : NodeSet) (
         tables = h.tables;
         are_live = are_live;
         tells = λ y m. subst (λ (js : List Joint). Tells h.tables y (joint_at js y)) (sym joints_are) (told y m);
-        counted = λ y m. subst (λ (js : List Joint). IsCounted states js start.known.counts.items y) (sym joints_are) (subst (λ (cs : List ℕ). IsCounted states joints cs y) (sym counts_are) (counted_at y m));
+        counted = λ y m. subst (λ (js : List Joint). IsCountedAt states js start.known.counts.items y) (sym joints_are) (subst (λ (cs : List ℕ). IsCountedAt states joints cs y) (sym counts_are) (counted_at y m));
         scopes_are = scopes_are;
         live = live_are ∙ h.live_is ∙ sym (length_tests h.tables) ∙ ap (λ (ss : List (ℕ → Bool)). length ss) scopes_are;
         cells = cells_are ∙ h.cells_are ∙ ap (λ (ss : List (ℕ → Bool)). stopped (sum_by (λ s. counted_cells nodes s) ss)) scopes_are;
@@ -280,10 +280,10 @@ module _ (nodes : List NodeView) (states : List ℕ) (ruled waiting : NodeSet) (
   pub started_with : (u : ℕ) (table : Table) (joints' : List Joint) (counts' : List ℕ) (counted : ℕ) (start : Start) → u < 256 → (IsIn ruled u → ⊥) → (IsIn waiting u → ⊥)
       → table.tag ≡ u → ((x : ℕ) → IsIn table.scope x ↔ Contains (parents_of nodes u) x)
       → ((tables : List Table) (y : ℕ) → IsIn waiting y → Tells tables y (joint_at joints y) → Tells (tables ++ table ∷ []) y (joint_at joints' y))
-      → ((y : ℕ) → IsIn waiting y → IsCounted states joints counts y → IsCounted states joints' counts' y)
+      → ((y : ℕ) → IsIn waiting y → IsCountedAt states joints counts y → IsCountedAt states joints' counts' y)
       → counted ≡ counted_over states (holds table.scope)
       → start.known.joints.items ≡ joints' → start.known.counts.items ≡ counts' → start.live ≡ live + 1 → start.cells ≡ stopped (cells + counted)
-      → IsStarted nodes states (IsIn waiting) (map (family_test nodes) other ++ parents_test nodes u ∷ []) start
+      → IsGreedyStart nodes states (IsIn waiting) (map (family_test nodes) other ++ parents_test nodes u ∷ []) start
   started_with u table joints' counts' counted start small unruled kept tag scope puts recounted counted_is joints_are counts_are live_are cells_are =
       let all = h.tables ++ table ∷ [] in
       let scopes_are : tests_of all ≡ map (family_test nodes) other ++ parents_test nodes u ∷ [] =
@@ -300,7 +300,7 @@ module _ (nodes : List NodeView) (states : List ℕ) (ruled waiting : NodeSet) (
           own = each_push (λ t. IsIn waiting t.tag → IsIn t.scope t.tag) h.tables table are_live.own (λ w. absurd (kept (subst (IsIn waiting) tag w)));
         };
         tells = λ y m. subst (λ (js : List Joint). Tells all y (joint_at js y)) (sym joints_are) (puts h.tables y m (told y m));
-        counted = λ y m. subst (λ (js : List Joint). IsCounted states js start.known.counts.items y) (sym joints_are) (subst (λ (cs : List ℕ). IsCounted states joints' cs y) (sym counts_are) (recounted y m (counted_at y m)));
+        counted = λ y m. subst (λ (js : List Joint). IsCountedAt states js start.known.counts.items y) (sym joints_are) (subst (λ (cs : List ℕ). IsCountedAt states joints' cs y) (sym counts_are) (recounted y m (counted_at y m)));
         scopes_are = scopes_are;
         live = live_are ∙ ap (λ n. n + 1) h.live_is ∙ sym (length_push h.tables table) ∙ sym (length_tests all) ∙ ap (λ (ss : List (ℕ → Bool)). length ss) scopes_are;
         cells = sum_more nodes h.tables table cells start.cells counted h.cells_are (counted_is ∙ cells_counted nodes states table.scope (holds table.scope) are (λ u. refl)) cells_are

@@ -16,7 +16,7 @@ use Rattle.maid_model.specs.Bounds.{stopped}
 use Rattle.size_precheck.specs.Classes.{IsFewest}
 use Rattle.size_precheck.specs.Counts.{counted_cells}
 use Rattle.size_precheck.specs.Greedy.{holding, joined_set, joined_cells, IsNext}
-use Rattle.size_precheck.specs.Joints.{joint_at, AreStates, Each, Stands, IsStep, tests_of}
+use Rattle.size_precheck.specs.Joints.{joint_at, AreStateCounts, HoldsOfEach, Stands, IsGreedyStep, tests_of}
 use Rattle.size_precheck.specs.Sizes.{made_cells, steps_work}
 use Rattle.size_precheck.proofs.Counting.{stop_part, stop_later}
 use Rattle.size_precheck.proofs.Orders.{next_more}
@@ -78,7 +78,7 @@ stands_less states P Q tables joints cells less h = record {
   counted = λ y q. h.counted y (less y q);
 }
   where
-    own_less : (ts : List Table) → Each (λ t. P t.tag → IsIn t.scope t.tag) ts → Each (λ t. Q t.tag → IsIn t.scope t.tag) ts
+    own_less : (ts : List Table) → HoldsOfEach (λ t. P t.tag → IsIn t.scope t.tag) ts → HoldsOfEach (λ t. Q t.tag → IsIn t.scope t.tag) ts
     own_less [] e = tt
     own_less (t ∷ ts) e = ((λ q. e.0 (less t.tag q)), own_less ts e.1)
 
@@ -93,7 +93,7 @@ pub record At (nodes : List NodeView) (states : List ℕ) (Item Rest : ℕ → T
   pub work_is : work ≡ stopped (steps_work nodes steps scopes)
 
 module _ (nodes : List NodeView) (states : List ℕ) (Item : ℕ → Type 0) (rest : NodeSet) (scopes : List (ℕ → Bool)) (steps : List ℕ)
-    (joints : List Joint) (counts : List ℕ) (live cells work : ℕ) (are : AreStates nodes states)
+    (joints : List Joint) (counts : List ℕ) (live cells work : ℕ) (are : AreStateCounts nodes states)
     (now : At nodes states Item (IsIn rest) scopes steps joints counts live cells work) where
   -- what is counted at a node that waits
   counted_at : (w : ℕ) → IsIn rest w → slice_index counts w ≡ joined_cells nodes scopes steps w
@@ -120,7 +120,7 @@ module _ (nodes : List NodeView) (states : List ℕ) (Item : ℕ → Type 0) (re
         omega arith;
   }
 
-  pub joined_few : (v : ℕ) (Later : ℕ → Type 0) (joints' : List Joint) (counts' : List ℕ) (made : Made) → IsStep nodes states Later v now.tables joints' counts' made → made.tables ≤ live + 1
+  pub joined_few : (v : ℕ) (Later : ℕ → Type 0) (joints' : List Joint) (counts' : List ℕ) (made : Made) → IsGreedyStep nodes states Later v now.tables joints' counts' made → made.tables ≤ live + 1
   joined_few v Later joints' counts' made step =
       let a = length_one v (scopes_after steps scopes) in
       let b : made.tables ≡ length (holding v (scopes_after steps scopes)) = step.joined ∙ ap (λ (ss : List (ℕ → Bool)). length (holding v ss)) now.scopes_are in
@@ -129,7 +129,7 @@ module _ (nodes : List NodeView) (states : List ℕ) (Item : ℕ → Type 0) (re
 
   -- one step more
   pub at_more : (v : ℕ) (Later : ℕ → Type 0) (joints' : List Joint) (counts' : List ℕ) (made : Made) (live' cells' work' : ℕ)
-      → IsNext nodes Item scopes steps v → IsStep nodes states Later v now.tables joints' counts' made
+      → IsNext nodes Item scopes steps v → IsGreedyStep nodes states Later v now.tables joints' counts' made
       → live' ≡ (live + 1) - made.tables → cells' ≡ stopped (cells + made.cells) → work' ≡ stopped (work + made.work)
       → At nodes states Item Later scopes (steps ++ v ∷ []) joints' counts' live' cells' work'
   at_more v Later joints' counts' made live' cells' work' next step live_new cells_new work_new = record {

@@ -18,7 +18,7 @@ use Rattle.size_precheck.specs.declared.joints.Table.{Table}
 use Rattle.maid_model.specs.Bounds.{stopped}
 use Rattle.size_precheck.specs.Counts.{counted_cells}
 use Rattle.size_precheck.specs.Greedy.{holding, joined_set}
-use Rattle.size_precheck.specs.Joints.{members_below, member_count, product_below, factor, counted_over, AreStates, tests_of, SomeOf, Each, TagsDiffer, Tells, AreLive}
+use Rattle.size_precheck.specs.Joints.{members_below, member_count, product_below, factor, counted_over, AreStateCounts, tests_of, SomeOf, HoldsOfEach, TagsDiffer, Tells, AreLive}
 use Rattle.size_precheck.proofs.Counting.{members_gap, product_gap}
 use Rattle.size_precheck.proofs.Somewhere.{some_map, some_filter, filter_some, any_some, some_any, some_mapped, mapped_some, each_filter, same_test, not_true, true_not, and_left, and_right, and_both}
 use Rattle.size_precheck.proofs.Live.{with_v, without_v, differ_filter}
@@ -69,7 +69,7 @@ one_less test v (suc n) l e = go (ℕ_discrete v n) (one_less test v n)
         let r : members_below test n ≡ suc (members_below (but test v) n) = rec (below v n l n_is) e in
         ap (λ m. m + cond (test n) 1 0) r ∙ moved (members_below (but test v) n) (cond (test n) 1 0) ∙ ap (λ b. suc (members_below (but test v) n + cond b 1 0)) (sym (but_other test v n (λ f. n_is (sym f))))
 
-pub tags_counted : (ts : List Table) (n : ℕ) (test : ℕ → Bool) → Each (λ t. t.tag < n) ts → TagsDiffer ts → ((x : ℕ) → (test x ≡ true) ↔ SomeOf (λ t. t.tag ≡ x) ts) → members_below test n ≡ length ts
+pub tags_counted : (ts : List Table) (n : ℕ) (test : ℕ → Bool) → HoldsOfEach (λ t. t.tag < n) ts → TagsDiffer ts → ((x : ℕ) → (test x ≡ true) ↔ SomeOf (λ t. t.tag ≡ x) ts) → members_below test n ≡ length ts
 tags_counted [] n test small differ is = members_gap test 0 n (omega arith) (λ w _ _. elim (true_or_false (test w)) as (λ _. test w ≡ false) [ inl e ↦ absurd ((is w).0 e) | inr e ↦ e ])
 tags_counted (t ∷ ts) n test small differ is =
     one_less test t.tag n small.0 ((is t.tag).1 (inl refl))
@@ -145,7 +145,7 @@ product_range f k (suc n) =
 pub product_listed : (f : ℕ → ℕ) (n : ℕ) → nat_product_over f (range_with_len 0 n) ≡ product_below f n
 product_listed f n = let e : nat_product_over f (range_with_len 0 n) ≡ 1 * nat_product_over f (range_with_len 0 n) = omega arith in e ∙ product_range f 0 n ∙ ap (λ n. product_below f n) (omega arith)
 
-pub cells_counted : (nodes : List NodeView) (states : List ℕ) (set : NodeSet) (scope : ℕ → Bool) → AreStates nodes states
+pub cells_counted : (nodes : List NodeView) (states : List ℕ) (set : NodeSet) (scope : ℕ → Bool) → AreStateCounts nodes states
     → ((u : ℕ) → holds set u ≡ scope u) → counted_over states (holds set) ≡ counted_cells nodes scope
 unfolding counted_over
 cells_counted nodes states set scope are told =

@@ -2,7 +2,7 @@
 use Rattle.std.proofs.Common.{◌≡◌, ◌∙◌, ◌⊎◌, Bool, true, false, cond, ◌||◌, ◌&&◌, not, filter, map, List, [], ◌∷◌, ◌++◌, refl, sym, ap, inl, inr}
 use Rattle.std.specs.List.{list_any}
 use Rattle.finite_sums.proofs.Counts.{true_or_false}
-use Rattle.size_precheck.specs.Joints.{SomeOf, Each}
+use Rattle.size_precheck.specs.Joints.{SomeOf, HoldsOfEach}
 
 pub some_map : {X : Type 0} (P Q : X → Type 0) → ((x : X) → P x → Q x) → (xs : List X) → SomeOf P xs → SomeOf Q xs
 some_map P Q f [] h = h
@@ -73,7 +73,7 @@ mapped_some P f (x ∷ xs) (inl p) = inl p
 mapped_some P f (x ∷ xs) (inr s) = inr (mapped_some P f xs s)
 
 -- a fact of each beside one of some
-pub each_some : {X : Type 0} (P Q : X → Type 0) (xs : List X) → Each P xs → SomeOf Q xs → SomeOf (λ x. P x × Q x) xs
+pub each_some : {X : Type 0} (P Q : X → Type 0) (xs : List X) → HoldsOfEach P xs → SomeOf Q xs → SomeOf (λ x. P x × Q x) xs
 each_some P Q [] h s = s
 each_some P Q (x ∷ xs) h (inl q) = inl (h.0, q)
 each_some P Q (x ∷ xs) h (inr s) = inr (each_some P Q xs h.1 s)
@@ -84,19 +84,19 @@ some_never P (x ∷ xs) n (inl p) = n x p
 some_never P (x ∷ xs) n (inr s) = some_never P xs n s
 
 -- ---- of each
-pub each_push : {X : Type 0} (P : X → Type 0) (xs : List X) (y : X) → Each P xs → P y → Each P (xs ++ y ∷ [])
+pub each_push : {X : Type 0} (P : X → Type 0) (xs : List X) (y : X) → HoldsOfEach P xs → P y → HoldsOfEach P (xs ++ y ∷ [])
 each_push P [] y h p = (p, tt)
 each_push P (x ∷ xs) y h p = (h.0, each_push P xs y h.1 p)
 
-pub each_filter : {X : Type 0} (P Q : X → Type 0) (q : X → Bool) → ((x : X) → q x ≡ true → P x → Q x) → (xs : List X) → Each P xs → Each Q (filter q xs)
+pub each_filter : {X : Type 0} (P Q : X → Type 0) (q : X → Bool) → ((x : X) → q x ≡ true → P x → Q x) → (xs : List X) → HoldsOfEach P xs → HoldsOfEach Q (filter q xs)
 each_filter P Q q f [] h = tt
 each_filter P Q q f (x ∷ xs) h = go (q x) refl (each_filter P Q q f xs h.1)
   where
-    go : (b : Bool) → q x ≡ b → Each Q (filter q xs) → Each Q (cond b (x ∷ filter q xs) (filter q xs))
+    go : (b : Bool) → q x ≡ b → HoldsOfEach Q (filter q xs) → HoldsOfEach Q (cond b (x ∷ filter q xs) (filter q xs))
     go true e r = (f x e h.0, r)
     go false e r = r
 
-pub each_map : {X : Type 0} (P Q : X → Type 0) → ((x : X) → P x → Q x) → (xs : List X) → Each P xs → Each Q xs
+pub each_map : {X : Type 0} (P Q : X → Type 0) → ((x : X) → P x → Q x) → (xs : List X) → HoldsOfEach P xs → HoldsOfEach Q xs
 each_map P Q f [] h = tt
 each_map P Q f (x ∷ xs) h = (f x h.0, each_map P Q f xs h.1)
 

@@ -18,12 +18,12 @@ use Rattle.plan_sums.specs.Plans.{PlanView, in_plan, plan_nodes}
 use Rattle.plan_sums.specs.Sizes.{IsPlan}
 use Rattle.size_precheck.specs.declared.joints.Joint.{Joint}
 use Rattle.size_precheck.specs.declared.joints.Table.{Table}
-use Rattle.size_precheck.specs.Joints.{joint_at, counted_over, AreStates, IsCounted, IsPut, Tells}
+use Rattle.size_precheck.specs.Joints.{joint_at, counted_over, AreStateCounts, IsCountedAt, IsPut, Tells}
 use Rattle.size_precheck.proofs.Live.{first_put, first_same}
 
 -- ---- counts of states
 pub states_told : (nodes : List NodeView) (states : List ℕ) (end : ℕ) → length nodes ≤ 256 → ((u : ℕ) → u < end → slice_index_or states u 1 ≡ states_of nodes u) → ((u : ℕ) → end ≤ u → slice_index_or states u 1 ≡ 1)
-    → (count : ℕ) → count ≡ length nodes → count ≤ end → AreStates nodes states
+    → (count : ℕ) → count ≡ length nodes → count ≤ end → AreStateCounts nodes states
 states_told nodes states end few done rest count is past = record {
   few = few;
   each = λ u. elim (cases_lt u end) as (λ _. slice_index_or states u 1 ≡ states_of nodes u) [
@@ -71,9 +71,9 @@ first_right table waiting at none joints joints' empty at_is put same live y m t
     lacks e m = let f : true ≡ false = sym m ∙ e in absurd (cc)
 
 -- a count is right again where the table was put, and still right elsewhere
-pub counted_right : (states : List ℕ) (at : NodeSet) (joints joints' : List Joint) (counts counts' : List ℕ) → ((y : ℕ) → IsIn at y → IsCounted states joints counts y → IsCounted states joints' counts' y)
+pub counted_right : (states : List ℕ) (at : NodeSet) (joints joints' : List Joint) (counts counts' : List ℕ) → ((y : ℕ) → IsIn at y → IsCountedAt states joints counts y → IsCountedAt states joints' counts' y)
     → ((y : ℕ) → (IsIn at y → ⊥) → joint_at joints' y ≡ joint_at joints y) → ((y : ℕ) → (IsIn at y → ⊥) → slice_index counts' y ≡ slice_index counts y)
-    → (y : ℕ) → IsCounted states joints counts y → IsCounted states joints' counts' y
+    → (y : ℕ) → IsCountedAt states joints counts y → IsCountedAt states joints' counts' y
 counted_right states at joints joints' counts counts' new same kept y counted = elim (true_or_false (holds at y)) as (λ _. slice_index counts' y ≡ counted_over states (holds (joint_at joints' y).set)) [
   | inl e ↦ new y e counted
   | inr e ↦ kept y (lacks e) ∙ counted ∙ ap (λ (j : Joint). counted_over states (holds j.set)) (sym (same y (lacks e)))

@@ -10,7 +10,7 @@ use Rattle.size_precheck.specs.declared.joints.Table.{Table}
 use Rattle.maid_model.specs.Bounds.{stopped}
 use Rattle.size_precheck.specs.Counts.{counted_cells}
 use Rattle.size_precheck.specs.Greedy.{holding, joined_set}
-use Rattle.size_precheck.specs.Joints.{joint_at, member_count, counted_over, AreStates, IsCounted, IsPut, SomeOf, Tells, Stands, IsStep, tests_of}
+use Rattle.size_precheck.specs.Joints.{joint_at, member_count, counted_over, AreStateCounts, IsCountedAt, IsPut, SomeOf, Tells, Stands, IsGreedyStep, tests_of}
 use Rattle.size_precheck.proofs.Live.{after_step, step_put, step_same, step_live}
 use Rattle.size_precheck.proofs.Scoped.{tables_counted, holding_counted, set_told, made_told, step_scopes, cells_counted}
 
@@ -39,12 +39,12 @@ module _ (nodes : List NodeView) (states : List ℕ) (waiting : NodeSet) (v : �
     pub out_is : (x : ℕ) → IsIn out x ↔ (x ≡ v)
     pub put : (y : ℕ) → IsIn at y → IsPut made (IsIn joint.tables) (IsIn out) (joint_at joints y) (joint_at joints' y)
     pub same : (y : ℕ) → (IsIn at y → ⊥) → joint_at joints' y ≡ joint_at joints y
-    pub counted : (y : ℕ) → IsIn at y → IsCounted states joints counts y → IsCounted states joints' counts' y
+    pub counted : (y : ℕ) → IsIn at y → IsCountedAt states joints counts y → IsCountedAt states joints' counts' y
     pub kept : (y : ℕ) → (IsIn at y → ⊥) → slice_index counts' y ≡ slice_index counts y
 
-  pub step_right : (k work cells : ℕ) → AreStates nodes states → Calls → Stands states Before live joints counts
+  pub step_right : (k work cells : ℕ) → AreStateCounts nodes states → Calls → Stands states Before live joints counts
       → k ≡ member_count joint.tables → work ≡ stopped (slice_index counts v * k) → cells ≡ counted_over states (holds scope)
-      → IsStep nodes states (IsIn waiting) v live joints' counts' (record { cells = cells; work = work; tables = k })
+      → IsGreedyStep nodes states (IsIn waiting) v live joints' counts' (record { cells = cells; work = work; tables = k })
   step_right k work cells are calls stands k_is work_is cells_is = record {
     after = after_step live made v scope_told;
     stands = record {

@@ -12,7 +12,7 @@ use Rattle.size_precheck.specs.declared.joints.Known.{Known}
 use Rattle.size_precheck.specs.declared.planners.Family.{Family}
 use Rattle.size_precheck.specs.declared.planners.Planner.{Planner}
 use Rattle.size_precheck.specs.declared.simulation.Start.{Start}
-use Rattle.size_precheck.specs.Joints.{counted_over, family_test, joint_at, parents_test, AreStates, IsCounted, IsListOf, IsStarted}
+use Rattle.size_precheck.specs.Joints.{counted_over, family_test, joint_at, parents_test, AreStateCounts, IsCountedAt, IsListOf, IsGreedyStart}
 
 -- what is known of a number that no node has
 abbrev pub no_family : Family
@@ -49,7 +49,7 @@ AreAbove nodes families = (v : ℕ) → v < length families → (u : ℕ)
     → IsIn (family_at families v).above u ↔ IsPath (Arc nodes) u v
 
 -- the joint of y among the tables of these nodes, each over the node and its parents
-pub record IsJoined (nodes : List NodeView) (Of : ℕ → Type 0) (y : ℕ) (joint : Joint) : Type 0 where
+pub record IsJointAmong (nodes : List NodeView) (Of : ℕ → Type 0) (y : ℕ) (joint : Joint) : Type 0 where
   pub tables : (x : ℕ) → IsIn joint.tables x ↔ (Of x × IsOfFamily nodes x y)
   pub set : (u : ℕ) → IsIn joint.set u
       ↔ ((x : ℕ) × Of x × IsOfFamily nodes x y × IsOfFamily nodes x u)
@@ -60,7 +60,7 @@ IsRuledBelow nodes n x = (x < n) × ((node_at nodes x).kind ≢ Utility)
 
 -- y's joint among the tables of the first n nodes
 abbrev pub IsJoinedBelow : List NodeView → ℕ → List Joint → ℕ → Type 0
-IsJoinedBelow nodes n joints y = IsJoined nodes (IsRuledBelow nodes n) y (joint_at joints y)
+IsJoinedBelow nodes n joints y = IsJointAmong nodes (IsRuledBelow nodes n) y (joint_at joints y)
 
 -- the joints among the tables of the nodes before v become those among v's too
 abbrev pub TakesFamily : List NodeView → ℕ → List Joint → List Joint → Type 0
@@ -72,8 +72,8 @@ abbrev pub IsRuled : List NodeView → ℕ → Type 0
 IsRuled nodes x = IsRuledBelow nodes (length nodes) x
 
 -- each node's joint among the tables of all chance and decision nodes
-abbrev pub AreWhole : List NodeView → List Joint → Type 0
-AreWhole nodes joints = (y : ℕ) → y < length nodes → IsJoinedBelow nodes (length nodes) joints y
+abbrev pub AreJointsOfAll : List NodeView → List Joint → Type 0
+AreJointsOfAll nodes joints = (y : ℕ) → y < length nodes → IsJoinedBelow nodes (length nodes) joints y
 
 -- of y's tables those of these nodes are left, and the cells of its joined set are counted
 pub record IsNarrowed
@@ -82,8 +82,8 @@ pub record IsNarrowed
   pub joined : (nodes : List NodeView) → AreFamilies nodes states families
       → ((x : ℕ) → IsIn ruled x → IsRuled nodes x)
       → IsJoinedBelow nodes (length nodes) joints y
-      → IsJoined nodes (IsIn ruled) y (joint_at joints' y)
-  pub counted : IsCounted states joints counts y → IsCounted states joints' counts' y
+      → IsJointAmong nodes (IsIn ruled) y (joint_at joints' y)
+  pub counted : IsCountedAt states joints counts y → IsCountedAt states joints' counts' y
 
 -- so it is in what is known of each node
 abbrev pub IsNarrowedIn : List ℕ → List Family → NodeSet → ℕ → Known → Known → Type 0
@@ -98,14 +98,14 @@ AreNarrowed states families ruled waiting before after =
 -- it knows the nodes
 pub record IsPlanner (nodes : List NodeView) (planner : Planner) : Type 0 where
   pub long : length planner.states.items ≡ MOST_NODES
-  pub states : AreStates nodes planner.states.items
+  pub states : AreStateCounts nodes planner.states.items
   pub all : length planner.families.items ≡ length nodes
   pub families : AreFamilies nodes planner.states.items planner.families.items
   pub joints_len : length planner.joints.items ≡ length nodes
-  pub joints : AreWhole nodes planner.joints.items
+  pub joints : AreJointsOfAll nodes planner.joints.items
   pub counts_len : length planner.counts.items ≡ length nodes
   pub counts : (y : ℕ) → y < length nodes
-      → IsCounted planner.states.items planner.joints.items planner.counts.items y
+      → IsCountedAt planner.states.items planner.joints.items planner.counts.items y
 
 -- the joints and the counts of the planner, in which the nodes that wait have the tables of these nodes alone
 abbrev pub IsNarrowedFrom : Planner → NodeSet → NodeSet → Known → Type 0
@@ -139,5 +139,5 @@ abbrev pub IsBegun :
     DiagramView → Planner → NodeSet → Option ℕ → NodeSet → Start → Type 0
 IsBegun d planner ruled utility waiting start =
     (list : List ℕ) → IsListOf ruled list
-    → IsStarted d.nodes planner.states.items (IsIn waiting) (scopes_of_tables d.nodes list utility)
+    → IsGreedyStart d.nodes planner.states.items (IsIn waiting) (scopes_of_tables d.nodes list utility)
     start

@@ -68,7 +68,7 @@ CountsPut states before scope out cells result =
     → cells ≡ counted_over states (holds before) → result ≡ counted_over states (holds after)
 
 -- the counts are those of the nodes, and 1 past them
-pub record AreStates (nodes : List NodeView) (states : List ℕ) : Type 0 where
+pub record AreStateCounts (nodes : List NodeView) (states : List ℕ) : Type 0 where
   pub few : length nodes ≤ MOST_NODES
   pub each : (u : ℕ) → slice_index_or states u 1 ≡ states_of nodes u
 
@@ -108,9 +108,9 @@ ArePutIn set table gone out before after =
     (y : ℕ) → IsIn set y → IsPutIn table gone out before after y
 
 -- P holds of each element
-abbrev pub Each : {X : Type 0} → (X → Type 0) → List X → Type 0
-Each P [] = Unit {0}
-Each P (x ∷ xs) = P x × Each P xs
+abbrev pub HoldsOfEach : {X : Type 0} → (X → Type 0) → List X → Type 0
+HoldsOfEach P [] = Unit {0}
+HoldsOfEach P (x ∷ xs) = P x × HoldsOfEach P xs
 
 -- P holds of some element
 abbrev pub SomeOf : {X : Type 0} → (X → Type 0) → List X → Type 0
@@ -129,18 +129,18 @@ pub record Tells (live : List Table) (y : ℕ) (joint : Joint) : Type 0 where
 
 -- the live tables have different tags, each of which is that of a node in the scope or of one that waits no more
 pub record AreLive (Waiting : ℕ → Type 0) (live : List Table) : Type 0 where
-  pub small : Each (λ t. t.tag < MOST_NODES) live
+  pub small : HoldsOfEach (λ t. t.tag < MOST_NODES) live
   pub differ : TagsDiffer live
-  pub own : Each (λ t. Waiting t.tag → IsIn t.scope t.tag) live
+  pub own : HoldsOfEach (λ t. Waiting t.tag → IsIn t.scope t.tag) live
 
 -- the cells counted at y are those of its joined set
-abbrev pub IsCounted : List ℕ → List Joint → List ℕ → ℕ → Type 0
-IsCounted states joints cells y =
+abbrev pub IsCountedAt : List ℕ → List Joint → List ℕ → ℕ → Type 0
+IsCountedAt states joints cells y =
     slice_index cells y ≡ counted_over states (holds (joint_at joints y).set)
 
 -- so it is in what is known of each node
 abbrev pub IsCountedIn : List ℕ → Known → ℕ → Type 0
-IsCountedIn states known y = IsCounted states known.joints.items known.counts.items y
+IsCountedIn states known y = IsCountedAt states known.joints.items known.counts.items y
 
 -- where the cells were counted at y, they are counted after
 abbrev pub StaysCounted : List ℕ → Known → Known → ℕ → Type 0
@@ -153,7 +153,7 @@ AllStayCounted states set before after =
 
 -- the cells of all joined sets are counted
 abbrev pub AreCounted : List ℕ → List Joint → List ℕ → Type 0
-AreCounted states joints cells = (y : ℕ) → y < length joints → IsCounted states joints cells y
+AreCounted states joints cells = (y : ℕ) → y < length joints → IsCountedAt states joints cells y
 
 -- all joints but y's are as they were
 abbrev pub KeepsOtherJoint : ℕ → Known → Known → Type 0
@@ -191,10 +191,10 @@ pub record Stands
     (cells : List ℕ) : Type 0 where
   pub live : AreLive Waiting tables
   pub tells : (y : ℕ) → Waiting y → Tells tables y (joint_at joints y)
-  pub counted : (y : ℕ) → Waiting y → IsCounted states joints cells y
+  pub counted : (y : ℕ) → Waiting y → IsCountedAt states joints cells y
 
 -- what a step at v makes of these live tables, after which v waits no more
-pub record IsStep
+pub record IsGreedyStep
     (nodes : List NodeView) (states : List ℕ) (Waiting : ℕ → Type 0) (v : ℕ) (before : List Table)
     (joints : List Joint) (counts : List ℕ) (made : Made) : Type 0 where
   pub after : List Table
@@ -208,26 +208,26 @@ pub record IsStep
 -- what is known of the nodes that wait and of v becomes what a step at v makes of it, whichever tables are live
 abbrev pub MakesStep : List ℕ → NodeSet → ℕ → Known → Known → Made → Type 0
 MakesStep states waiting v before after made =
-    (nodes : List NodeView) (live : List Table) → AreStates nodes states
+    (nodes : List NodeView) (live : List Table) → AreStateCounts nodes states
     → Stands states (λ y. IsIn waiting y ⊎ (y ≡ v)) live before.joints.items before.counts.items
-    → IsStep nodes states (IsIn waiting) v live after.joints.items after.counts.items made
+    → IsGreedyStep nodes states (IsIn waiting) v live after.joints.items after.counts.items made
 
 -- before the first step: what is known of the nodes that wait is right for tables of these scopes, which are counted
-pub record IsStarted
+pub record IsGreedyStart
     (nodes : List NodeView) (states : List ℕ) (Waiting : ℕ → Type 0) (scopes : List (ℕ → Bool))
     (start : Start) : Type 0 where
-  pub are_states : AreStates nodes states
+  pub are_states : AreStateCounts nodes states
   pub tables : List Table
   pub are_live : AreLive Waiting tables
   pub tells : (y : ℕ) → Waiting y → Tells tables y (joint_at start.known.joints.items y)
   pub counted :
-      (y : ℕ) → Waiting y → IsCounted states start.known.joints.items start.known.counts.items y
+      (y : ℕ) → Waiting y → IsCountedAt states start.known.joints.items start.known.counts.items y
   pub scopes_are : tests_of tables ≡ scopes
   pub live : start.live ≡ length scopes
   pub cells : start.cells ≡ stopped (sum_by (λ s. counted_cells nodes s) scopes)
 
 -- after the last step: the steps are greedy, and what they made is counted
-pub record IsRun
+pub record IsGreedyRun
     (nodes : List NodeView) (Item : ℕ → Type 0) (scopes : List (ℕ → Bool)) (run : Run) : Type 0
   where
     pub greedy : IsGreedy nodes Item scopes run.steps.items
@@ -253,23 +253,23 @@ AreKnownTo start set =
 abbrev pub IsStartOfSome : List ℕ → NodeSet → Start → Type 0
 IsStartOfSome states waiting start =
     (nodes : List NodeView) × (scopes : List (ℕ → Bool))
-    × IsStarted nodes states (IsIn waiting) scopes start
+    × IsGreedyStart nodes states (IsIn waiting) scopes start
 
 -- the run is that of all tables, of all nodes, that start so
 abbrev pub IsRunFrom : List ℕ → NodeSet → Start → Run → Type 0
 IsRunFrom states waiting start run =
     (nodes : List NodeView) (scopes : List (ℕ → Bool))
-    → IsStarted nodes states (IsIn waiting) scopes start → IsRun nodes (IsIn waiting) scopes run
+    → IsGreedyStart nodes states (IsIn waiting) scopes start → IsGreedyRun nodes (IsIn waiting) scopes run
 
 -- ---- lists of what waits
 -- each number is less than those after it
 abbrev pub Rising : List ℕ → Type 0
 Rising [] = Unit {0}
-Rising (x ∷ xs) = Each (λ y. x < y) xs × Rising xs
+Rising (x ∷ xs) = HoldsOfEach (λ y. x < y) xs × Rising xs
 
 -- the members of the set, in text order
 pub record IsListOf (set : NodeSet) (list : List ℕ) : Type 0 where
-  pub inside : Each (λ v. IsIn set v) list
+  pub inside : HoldsOfEach (λ v. IsIn set v) list
   pub all : (v : ℕ) → IsIn set v → SomeOf (λ x. x ≡ v) list
   pub rising : Rising list
 

@@ -19,8 +19,8 @@ abbrev pub FollowDecisions : List NodeView → List KeptPlans → Type 0
 FollowDecisions nodes kept = map (λ k. k.decision) kept ≡ decisions_of nodes
 
 -- what is found are plans of the decision among all nodes of which the list is kept
-abbrev pub IsFoundOf : List KeptPlans → ℕ → Option DecisionPlans → Type 0
-IsFoundOf kept d found =
+abbrev pub IsFoundInKept : List KeptPlans → ℕ → Option DecisionPlans → Type 0
+IsFoundInKept kept d found =
     (nodes : List NodeView) (plans : DecisionPlans) → All (IsKept nodes) kept → found ≡ Some plans
     → AreDecisionPlans nodes d plans
 

@@ -4,7 +4,7 @@ ghost use Rattle.std.specs.Prelude.{All, IfOk};
 ghost use Rattle.maid_model.specs.Nodes.{IsDecision};
 ghost use Rattle.size_precheck.specs.Decisions.{AreDecisionPlans, ArePlans};
 ghost use Rattle.size_precheck.specs.Families.{IsPlanner};
-ghost use Rattle.size_precheck.specs.Kept.{FollowDecisions, IsFoundOf, IsKept, IsKeptRun};
+ghost use Rattle.size_precheck.specs.Kept.{FollowDecisions, IsFoundInKept, IsKept, IsKeptRun};
 ghost use Rattle.size_precheck.specs.Sizes.{ListsDecisions};
 
 use crate::decisions::{DecisionPlans, decision_by};
@@ -76,7 +76,7 @@ fn copy_kept(
     kept: &[KeptPlans],
     decision: usize,
 ) -> Result<Option<DecisionPlans>, AllocError>
-    ensures { IfOk result (IsFoundOf kept.now decision) }
+    ensures { IfOk result (IsFoundInKept kept.now decision) }
 {
     for known in kept {
         if known.decision == decision {

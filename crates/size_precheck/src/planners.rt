@@ -5,7 +5,7 @@ ghost use Rattle.maid_model.specs.Diagrams.{IsDiagram};
 ghost use Rattle.maid_model.specs.Graph.{Arc, IsPath};
 ghost use Rattle.node_sets.specs.declared.sets.TheConstants.{MOST_NODES};
 ghost use Rattle.node_sets.specs.Sets.{IsIn};
-ghost use Rattle.size_precheck.specs.Families.{AreAbove, AreFamilies, AreWhole, IsFamily, IsOfFamily, IsPlanner, TakesFamily};
+ghost use Rattle.size_precheck.specs.Families.{AreAbove, AreFamilies, AreJointsOfAll, IsFamily, IsOfFamily, IsPlanner, TakesFamily};
 ghost use Rattle.size_precheck.specs.Joints.{AreCounted};
 
 use crate::counts::count_cells;
@@ -117,7 +117,7 @@ fn list_joints(
     requires len { length families.now ≡ length diagram.now.nodes }
     requires families { AreFamilies diagram.now.nodes states.now families.now }
     ensures len { IfOk result (λ joints. length joints.items ≡ length diagram.now.nodes) }
-    ensures joints { IfOk result (λ joints. AreWhole diagram.now.nodes joints.items) }
+    ensures joints { IfOk result (λ joints. AreJointsOfAll diagram.now.nodes joints.items) }
 {
     let mut joints = vec![in alloc; Joint::empty(); diagram.count()]?;
     for v in 0..diagram.count() {

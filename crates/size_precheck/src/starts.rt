@@ -7,7 +7,7 @@ ghost use Rattle.node_sets.specs.declared.sets.TheConstants.{MOST_NODES};
 ghost use Rattle.node_sets.specs.Sets.{IsIn};
 ghost use Rattle.plan_sums.specs.Sizes.{IsPlan};
 ghost use Rattle.size_precheck.specs.Families.{AreAbove, AreNarrowed, HasCountsOf, HasJointsOf, IsAboveOne, IsInTableOf, IsNarrowedFrom, IsNarrowedIn, IsOfFamily, IsPlanner, IsRuled, IsBegun};
-ghost use Rattle.size_precheck.specs.Joints.{AllStayCounted, AreStates, HasCountForEach, HasJointForEach, KeepsOtherCount, KeepsOtherJoint, TellsOneMore};
+ghost use Rattle.size_precheck.specs.Joints.{AllStayCounted, AreStateCounts, HasCountForEach, HasJointForEach, KeepsOtherCount, KeepsOtherJoint, TellsOneMore};
 ghost use Rattle.size_precheck.specs.Sizes.{plan_of, IsOfPlan};
 
 use crate::counts::{add, count_cells};
@@ -22,7 +22,7 @@ use std::alloc::{AllocError, Global};
 /// The counts of states of all numbers, 1 where there is no node.
 pub fn list_states(alloc: Global, diagram: &Diagram) -> Result<Vec<u64>, AllocError>
     ensures len { IfOk result (λ states. length states.items ≡ MOST_NODES) }
-    ensures states { IfOk result (λ states. AreStates diagram.now.nodes states.items) }
+    ensures states { IfOk result (λ states. AreStateCounts diagram.now.nodes states.items) }
     ensures diagram { OnOk result (IsDiagram diagram.now) }
 {
     let mut states = vec![in alloc; 1; MOST_NODES]?;

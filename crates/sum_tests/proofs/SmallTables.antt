@@ -14,7 +14,7 @@ use Rattle.finite_sums.specs.Members.{Among}
 use Rattle.maid_laws.proofs.Members.{among_of, contains_of}
 use Rattle.ring_sums.proofs.Each.{Each}
 use Rattle.factor_core.specs.declared.slots.Slot.{Slot}
-use Rattle.factor_core.specs.Slots.{WorkspaceView, IsLive, StaysLive, cells_over, tables_of, AppendsTable}
+use Rattle.factor_core.specs.Slots.{WorkspaceView, IsLiveSlot, StaysLive, cells_over, tables_of, AppendsTable}
 use Rattle.sum_tests.specs.Trials.{two_coins, IsSmall, Grows}
 
 -- no table over the two has more than four cells
@@ -116,7 +116,7 @@ all_two P a b h k zero d l = h
 all_two P a b h k (suc zero) d l = k
 all_two P a b h k (suc (suc i)) d l = absurd (omega arith)
 
-pub stays_small : {C : Type 0} (r : Ring C) (before after : List C) → ((s : Slot) → IsLive two_coins before s → StaysLive r two_coins before after s) → (s : Slot) (b : ℕ) → IsSmall r before s b → IsSmall r after s b
+pub stays_small : {C : Type 0} (r : Ring C) (before after : List C) → ((s : Slot) → IsLiveSlot two_coins before s → StaysLive r two_coins before after s) → (s : Slot) (b : ℕ) → IsSmall r before s b → IsSmall r after s b
 stays_small r before after h s b m =
     let k = h s m.live in
     record { live = k.live; sizes = λ w i. subst (λ t. r.size (t.cell w) ≤ b) (sym k.table) (m.sizes w i) }

@@ -5,7 +5,7 @@ use Rattle.maid_model.specs.Nodes.{states_of}
 use Rattle.maid_model.specs.Views.{NodeView, DiagramView, diagram_of}
 use Rattle.cell_rings.specs.Rings.{Ring}
 use Rattle.factor_core.specs.declared.slots.Slot.{Slot}
-use Rattle.factor_core.specs.Slots.{WorkspaceView, IsLive, table_of}
+use Rattle.factor_core.specs.Slots.{WorkspaceView, IsLiveSlot, table_of}
 use Rattle.sample_diagrams.specs.Nodes.{chance_node}
 
 -- a chance node of two states without a parent, by its weights
@@ -23,7 +23,7 @@ coins_diagram = diagram_of two_coins 1 0
 -- a live slot of cells of at most that size
 pub record IsSmall {C : Type 0}
     (r : Ring C) (cells : List C) (slot : Slot) (most : ℕ) : Type 0 where
-  pub live : IsLive two_coins cells slot
+  pub live : IsLiveSlot two_coins cells slot
   pub sizes : (w : World) → InRange (states_of two_coins) w
       → r.size ((table_of r two_coins cells slot).cell w) ≤ most
 

@@ -8,7 +8,7 @@ use Rattle.maid_model.specs.Graph.{IsGraph}
 use Rattle.maid_model.specs.Nodes.{IsDecision, states_of}
 use Rattle.maid_model.specs.Tables.{HasChanceTables, chance_total}
 use Rattle.maid_model.specs.Views.{NodeView, AnswerView, DiagramView, RuleView, SolvedView}
-use Rattle.reach_laws.specs.Threshold.{IsAbove, IsAtLeast, IsAtMost, IsBeaten, IsBelow, IsMoved, IsPlace, IsSpan, cell_at}
+use Rattle.reach_laws.specs.Threshold.{IsAbove, IsAtLeast, IsAtMost, IsBeaten, IsBelow, IsMoved, IsPlace, IsSpan, state_weight}
 use Rattle.reach_laws.proofs.Holding.{most_there, most_back, least_there, least_back, above_back, below_back}
 use Rattle.threshold.specs.declared.held.Held.{Held}
 use Rattle.threshold.specs.declared.weights.Place.{Place}
@@ -82,14 +82,14 @@ module _ (nodes : List NodeView) (s : List RuleView) (place : Place) (g : IsGrap
   abbrev whole : ℕ
   whole = chance_total nodes place.node
 
-  cell : (n : ℕ) × (cell_at nodes place.node place.row place.state ≡ pos n)
-  cell = natural (cell_at nodes place.node place.row place.state) ((c.table place.node is.kind).not_negative (place.row * states_of nodes place.node + place.state))
+  cell : (n : ℕ) × (state_weight nodes place.node place.row place.state ≡ pos n)
+  cell = natural (state_weight nodes place.node place.row place.state) ((c.table place.node is.kind).not_negative (place.row * states_of nodes place.node + place.state))
 
   whole_above : 0 < chance_total nodes place.node
   whole_above = c.positive place.node is.kind
 
   cell_few : cell.0 ≤ chance_total nodes place.node
-  cell_few = few (cell_at nodes place.node place.row place.state) cell.0 (chance_total nodes place.node) cell.1 is.others
+  cell_few = few (state_weight nodes place.node place.row place.state) cell.0 (chance_total nodes place.node) cell.1 is.others
     where
       few : (z : ℤ) (n m : ℕ) → z ≡ pos n → pos 0 <ℤ (pos m -ℤ z) → n ≤ m
       few z n m e h = omega (arith, ints)

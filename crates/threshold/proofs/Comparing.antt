@@ -7,7 +7,7 @@ use Rattle.finite_sums.specs.Sums.{nat_product_over}
 use Rattle.finite_sums.proofs.Ints.{mul_add, mul_comm, products}
 use Rattle.maid_laws.proofs.Best.{cross_le}
 use Rattle.maid_model.specs.Diagrams.{IsDiagram}
-use Rattle.maid_model.specs.Gains.{gain_at}
+use Rattle.maid_model.specs.Gains.{gain_at, gain_in}
 use Rattle.maid_model.specs.Graph.{IsGraph}
 use Rattle.maid_model.specs.Nodes.{IsDecision, node_at, rows_of, states_of}
 use Rattle.maid_model.specs.Parts.{is_in, mass_left_out}
@@ -20,7 +20,6 @@ use Rattle.part_laws.proofs.ScopeLaws.{scopes_law}
 use Rattle.reach_laws.specs.Threshold.{IsMoved, IsPlace}
 use Rattle.reach_laws.proofs.Affine.{interpolate_law}
 use Rattle.reach_laws.proofs.Perfect.{IsLike, decision_back, graph_there, like_of, profile_there, rows_like, turned}
-use Rattle.rule_solver.specs.Rows.{gain_in}
 use Rattle.rule_solver.specs.Sums.{IsRowGains}
 use Rattle.threshold.specs.declared.weights.Place.{Place}
 use Rattle.threshold.specs.Ends.{AreEnds, IsEnd}

@@ -14,7 +14,7 @@ use Rattle.maid_model.specs.Diagrams.{IsDiagram, greatest_number}
 use Rattle.maid_model.specs.Nodes.{node_at, rows_of, states_of}
 use Rattle.maid_model.specs.Tables.{chance_total}
 use Rattle.maid_model.specs.Views.{NodeView, DiagramView}
-use Rattle.reach_laws.specs.Threshold.{IsMoved, IsPlace, cell_at, others_weight}
+use Rattle.reach_laws.specs.Threshold.{IsMoved, IsPlace, state_weight, others_weight}
 use Rattle.reach_laws.proofs.Moved as moving
 use Rattle.reach_laws.proofs.Perfect.{rows_like}
 use Rattle.threshold.specs.declared.ends.Totals.{Totals}
@@ -78,12 +78,12 @@ module _ (d : DiagramView) (place : Place) (h : IsDiagram d) (p : IsCell d.nodes
       let others = rewritten nodes place scales in
       let t = moved.tables.table x (ap (λ (n : NodeView). n.kind) moved.at) in
       let states : states_of others x ≡ states_of nodes x = ap (λ (n : NodeView). n.states) moved.at in
-      let at : cell_at others x r s ≡ pos (new_weight nodes place scales r s) =
+      let at : state_weight others x r s ≡ pos (new_weight nodes place scales r s) =
       (λ i. slice_index_or (cells_are i) (r * states i + s) (pos 0)) ∙ at_pos (map (λ c. new_weight nodes place scales (c / states_of nodes x) (c % states_of nodes x)) (range_with_len 0 (rows_of nodes x * states_of nodes x))) (r * states_of nodes x + s)
       ∙ ap pos (weights_by-at (rows_of nodes x) (states_of nodes x) (new_weight nodes place scales) r s l m) in
       let sum = t.row r (subst (λ n. r < n) (sym (rows_like nodes others (like d x place.row place.state num 1 others h is moved) x)) l) in
-      let most = one_at_most (cell_at others x r) (λ i. t.not_negative (r * states_of others x + i)) (states_of others x) s (subst (λ n. s < n) (sym states) m) in
-      nat (new_weight nodes place scales r s) whole greatest_number (subst (λ z. z ≤ℤ pos whole) at (subst (λ z. cell_at others x r s ≤ℤ z) (sum ∙ ap pos total) most)) small
+      let most = one_at_most (state_weight others x r) (λ i. t.not_negative (r * states_of others x + i)) (states_of others x) s (subst (λ n. s < n) (sym states) m) in
+      nat (new_weight nodes place scales r s) whole greatest_number (subst (λ z. z ≤ℤ pos whole) at (subst (λ z. state_weight others x r s ≤ℤ z) (sum ∙ ap pos total) most)) small
     where
       nat : (a b c : ℕ) → pos a ≤ℤ pos b → b ≤ c → a ≤ c
       nat a b c h k = omega (arith, ints)

@@ -12,7 +12,7 @@ use Rattle.maid_model.specs.Views.{NodeView}
 use Rattle.plan_sums.specs.Plans.{PlanView, eliminated_nodes, gain_plan, has, in_plan, mass_cells, node_table, plan_nodes, row_plan, ruled_nodes, utility_table}
 use Rattle.reach_laws.proofs.Perfect.{IsLike, decision_back, turned}
 use Rattle.ring_sums.specs.Tables.{joined_without, scopes_of, scopes_one}
-use Rattle.rule_solver.specs.Rooms.{HasAtMost, HasRoomAt}
+use Rattle.rule_solver.specs.Rooms.{HasCellsAtMost, HasRoomForDecision}
 use Rattle.size_precheck.specs.Counts.{counted_cells}
 use Rattle.size_precheck.specs.Greedy.{IsGreedy, IsGreedyOrder, IsNext, first_scopes, holding, joined_cells}
 use Rattle.size_precheck.specs.Kept.{KeepsPlans}
@@ -83,7 +83,7 @@ module _ (nodes others : List NodeView) (l : IsLike nodes others) where
 
   -- so plans have as few cells
   module _ (orders : GreedyOrdersAreOrders) (cells : ℕ) where
-    few_same : (plan : PlanView) → HasAtMost nodes plan cells → HasAtMost others plan cells
+    few_same : (plan : PlanView) → HasCellsAtMost nodes plan cells → HasCellsAtMost others plan cells
     few_same plan few made is =
         let greedy = greedy_back plan made.steps is.greedy in
         few (record { plan = plan; steps = made.steps; size = record { cells = made.size.cells; work = plan_work nodes plan made.steps } })
@@ -97,10 +97,10 @@ module _ (nodes others : List NodeView) (l : IsLike nodes others) where
       below = descends_back nodes others l.len l.states l.parents d u h.below;
     }
 
-    pub room_same : (d : ℕ) → HasRoomAt nodes d cells → HasRoomAt others d cells
+    pub room_same : (d : ℕ) → HasRoomForDecision nodes d cells → HasRoomForDecision others d cells
     room_same d room = record {
-      rows = subst (λ ps. HasAtMost others (record { keep = ps; without = None; utility = None }) cells) (sym (l.parents d)) (few_same (row_plan nodes d) room.rows);
-      goals = λ u g. subst (λ ps. HasAtMost others (record { keep = d ∷ ps; without = Some d; utility = Some u }) cells) (sym (l.parents d)) (few_same (gain_plan nodes d u) (room.goals u (goal_back d u g)));
+      rows = subst (λ ps. HasCellsAtMost others (record { keep = ps; without = None; utility = None }) cells) (sym (l.parents d)) (few_same (row_plan nodes d) room.rows);
+      goals = λ u g. subst (λ ps. HasCellsAtMost others (record { keep = d ∷ ps; without = Some d; utility = Some u }) cells) (sym (l.parents d)) (few_same (gain_plan nodes d u) (room.goals u (goal_back d u g)));
     }
 
   -- and what is kept of a decision stands

@@ -13,21 +13,22 @@ use Rattle.maid_model.specs.Profiles.{IsProfile}
 use Rattle.maid_model.specs.Scopes.{KeepsScopedBounds}
 use Rattle.maid_model.specs.Tables.{HasChanceTables, rule_total}
 use Rattle.maid_model.specs.Views.{NodeView, AnswerView, DiagramView, RuleView, SolvedView}
+use Rattle.maid_model.specs.Gains.{AreSmallGains}
 use Rattle.part_laws.specs.ScopeLaws.{HasSmallRules}
 use Rattle.part_laws.proofs.ScopeRoom.{room_law}
 use Rattle.reach_laws.specs.Threshold.{IsPlace}
 use Rattle.reach_laws.proofs.Perfect.{decision_back, rows_like}
 use Rattle.rule_solver.specs.Masses.{KeepsStates}
-use Rattle.rule_solver.specs.Rooms.{HasRoomAt}
+use Rattle.rule_solver.specs.Rooms.{HasRoomForDecision}
 use Rattle.rule_solver.specs.Sums.{IsRowGains}
 use Rattle.size_precheck.specs.declared.decisions.DecisionPlans.{DecisionPlans}
 use Rattle.size_precheck.specs.Kept.{KeptPlansStand}
 use Rattle.size_precheck.specs.Laws.{GreedyOrdersAreOrders}
 use Rattle.size_precheck.specs.Sizes.{ArePlansOf}
 use Rattle.threshold.specs.declared.weights.Place.{Place}
-use Rattle.threshold.specs.Answers.{HoldsAtFraction, IsAnswerOf, IsSetting}
+use Rattle.threshold.specs.Answers.{HoldsAtFraction, IsAnswerOf, IsThresholdSetting}
 use Rattle.threshold.specs.Ends.{IsEnd}
-use Rattle.threshold.specs.Held.{AreBestIn, AreSmall, HoldsSomewhere}
+use Rattle.threshold.specs.Held.{AreBestIn, HoldsSomewhere}
 use Rattle.threshold.proofs.Comparing.{end_decision, end_graph, end_like, end_profile}
 use Rattle.threshold.proofs.Holding.{answer_decides, answer_fits, holds_same}
 use Rattle.threshold.proofs.Plans.{keeps_plans, room_same}
@@ -35,7 +36,7 @@ use Rattle.threshold.proofs.Tables.{is_place}
 
 -- sums within the bound are small
 small_sums : (e : DiagramView) (base : List RuleView) (t : ℕ) (gains : List ℤ) → IsGraph e.nodes → HasChanceTables e.nodes → IsProfile e.nodes base → KeepsScopedBounds e → IsDecision e.nodes t → HasSmallRules e.nodes base t
-    → IsRowGains e.nodes base t gains → AreSmall gains
+    → IsRowGains e.nodes base t gains → AreSmallGains gains
 small_sums e base t gains g c p bound k rules sums i = go (dec_lt i (length gains))
   where
     none : (xs : List ℤ) (i : ℕ) → ¬ (i < length xs) → nat_abs (slice_index_or xs i (pos 0)) ≤ greatest_number
@@ -55,12 +56,12 @@ small_sums e base t gains g c p bound k rules sums i = go (dec_lt i (length gain
 pub record Ready (nodes : List NodeView) (s : List RuleView) (place : Place) (t : ℕ) (gains_nought gains_one : List ℤ) (rows : List Row) (states : ℕ) : Type 0 where
   pub nought : length gains_nought ≡ length rows * states
   pub one : length gains_one ≡ length rows * states
-  pub small_nought : AreSmall gains_nought
-  pub small_one : AreSmall gains_one
+  pub small_nought : AreSmallGains gains_nought
+  pub small_one : AreSmallGains gains_one
   pub somewhere : HoldsSomewhere (AreBestIn gains_nought gains_one states rows (length rows))
   pub same : (num den : ℕ) → 0 < den → num ≤ den → AreBestIn gains_nought gains_one states rows (length rows) num den ↔ HoldsAtFraction nodes s place t num den
 
-module _ (d : DiagramView) (solved : SolvedView) (place : Place) (nought one : DiagramView) (set : IsSetting d solved place nought one) (answer : AnswerView) (of : IsAnswerOf solved answer) where
+module _ (d : DiagramView) (solved : SolvedView) (place : Place) (nought one : DiagramView) (set : IsThresholdSetting d solved place nought one) (answer : AnswerView) (of : IsAnswerOf solved answer) where
   k : IsDecision d.nodes answer.decision
   k = answer_decides d solved set.answer.fits answer of
 
@@ -79,10 +80,10 @@ module _ (d : DiagramView) (solved : SolvedView) (place : Place) (nought one : D
   pub decides_one : IsDecision one.nodes answer.decision
   decides_one = end_decision d place set.is_diagram at 1 set.ends.total one set.ends.at_one answer.decision k
 
-  pub room_nought : GreedyOrdersAreOrders → (cells : ℕ) → HasRoomAt d.nodes answer.decision cells → HasRoomAt nought.nodes answer.decision cells
+  pub room_nought : GreedyOrdersAreOrders → (cells : ℕ) → HasRoomForDecision d.nodes answer.decision cells → HasRoomForDecision nought.nodes answer.decision cells
   room_nought orders cells room = room_same d.nodes nought.nodes (end_like d place set.is_diagram at 0 set.ends.total nought set.ends.at_nought answer.decision k) orders cells answer.decision room
 
-  pub room_one : GreedyOrdersAreOrders → (cells : ℕ) → HasRoomAt d.nodes answer.decision cells → HasRoomAt one.nodes answer.decision cells
+  pub room_one : GreedyOrdersAreOrders → (cells : ℕ) → HasRoomForDecision d.nodes answer.decision cells → HasRoomForDecision one.nodes answer.decision cells
   room_one orders cells room = room_same d.nodes one.nodes (end_like d place set.is_diagram at 1 set.ends.total one set.ends.at_one answer.decision k) orders cells answer.decision room
 
   -- the plans of the decision are those of both ends

@@ -14,7 +14,7 @@ use Rattle.maid_model.specs.Relevance.{IsGoal}
 use Rattle.maid_model.specs.Views.{NodeView, AnswerView}
 use Rattle.maid_laws.proofs.Rearranged.{number}
 use Rattle.plan_sums.specs.Plans.{PlanView, row_plan, gain_plan, worth_plan}
-use Rattle.rule_solver.specs.Rooms.{HasAtMost, HasRoom}
+use Rattle.rule_solver.specs.Rooms.{HasCellsAtMost, HasRoomForRun}
 use Rattle.size_precheck.specs.declared.decisions.DecisionPlans.{DecisionPlans}
 use Rattle.size_precheck.specs.declared.sizes.Size.{Size}
 use Rattle.size_precheck.specs.Decisions.{ArePlans}
@@ -71,7 +71,7 @@ lists_decisions nodes order is = record {
 -- ---- the greatest plan
 module _ (nodes : List NodeView) (one : OneGreedyOrder) where
   -- each of the plans is at most as large as the greatest, since it has one greedy order
-  plan_fits : (plans : List PlanView) (sizes : List Size) → AllZip (HasSize nodes) plans sizes → (plan : PlanView) → IsListed plan plans → HasAtMost nodes plan (greatest (map (λ (s : Size). s.cells) sizes))
+  plan_fits : (plans : List PlanView) (sizes : List Size) → AllZip (HasSize nodes) plans sizes → (plan : PlanView) → IsListed plan plans → HasCellsAtMost nodes plan (greatest (map (λ (s : Size). s.cells) sizes))
   plan_fits [] [] z plan h = absurd h
   plan_fits [] (s ∷ sizes) z plan h = absurd h
   plan_fits (p ∷ plans) [] z plan h = absurd z
@@ -91,8 +91,8 @@ module _ (nodes : List NodeView) (one : OneGreedyOrder) where
     ordered : (d : ℕ) → IsDecision nodes d → Among d order
     ordered d k = among_from_contains order d (is.complete d k)
 
-    run_fits : (plan : PlanView) → IsListed plan (run_plans nodes order) → HasAtMost nodes plan size.cells
-    run_fits plan m = subst (HasAtMost nodes plan) (sym sized.cells) (plan_fits (run_plans nodes order) sized.sizes sized.each plan m)
+    run_fits : (plan : PlanView) → IsListed plan (run_plans nodes order) → HasCellsAtMost nodes plan size.cells
+    run_fits plan m = subst (HasCellsAtMost nodes plan) (sym sized.cells) (plan_fits (run_plans nodes order) sized.sizes sized.each plan m)
 
     goal_listed : (d u : ℕ) → IsGoal nodes d u → Among u (goal_list nodes d)
     goal_listed d u goal = filter_has (λ x. is_goal nodes d x) u (numbers_of nodes) (number nodes u goal.within) (λ i. (tested nodes d u).1 goal.below i && (ap is_utility goal.kind i && (any_is (agent_of nodes d) (owners_of nodes u)).1 goal.owner i))
@@ -107,16 +107,16 @@ module _ (nodes : List NodeView) (one : OneGreedyOrder) where
     worths = map (λ u. worth_plan u) (utility_list nodes)
 
     -- the plans of a run are those of rows, then those of states, then those of worths
-    of_rows : (plan : PlanView) → IsListed plan rows → HasAtMost nodes plan size.cells
+    of_rows : (plan : PlanView) → IsListed plan rows → HasCellsAtMost nodes plan size.cells
     of_rows plan m = run_fits plan (listed_left plan (rows ++ gains) worths (listed_left plan rows gains m))
 
-    of_gains : (plan : PlanView) → IsListed plan gains → HasAtMost nodes plan size.cells
+    of_gains : (plan : PlanView) → IsListed plan gains → HasCellsAtMost nodes plan size.cells
     of_gains plan m = run_fits plan (listed_left plan (rows ++ gains) worths (listed_right plan rows gains m))
 
-    of_worths : (plan : PlanView) → IsListed plan worths → HasAtMost nodes plan size.cells
+    of_worths : (plan : PlanView) → IsListed plan worths → HasCellsAtMost nodes plan size.cells
     of_worths plan m = run_fits plan (listed_right plan (rows ++ gains) worths m)
 
-    pub has_room : HasRoom nodes size.cells
+    pub has_room : HasRoomForRun nodes size.cells
     has_room = record {
       decisions = λ d k. record {
         rows = of_rows (row_plan nodes d) (listed_map (λ e. row_plan nodes e) d order (ordered d k));

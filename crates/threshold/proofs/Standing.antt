@@ -17,14 +17,14 @@ use Rattle.maid_model.specs.Gains.{gain_at, mass_at}
 use Rattle.maid_model.specs.Nodes.{IsDecision, rows_of, states_of}
 use Rattle.maid_model.specs.Relevance.{ReliesOn}
 use Rattle.maid_model.specs.Views.{NodeView, AnswerView, DiagramView, SolvedView}
-use Rattle.reach_laws.specs.Threshold.{IsMoved, IsPlace, cell_at}
+use Rattle.reach_laws.specs.Threshold.{IsMoved, IsPlace, state_weight}
 use Rattle.reach_laws.proofs.ListOrder.{weights_law}
 use Rattle.relevance_graph.specs.Views.{RelevanceView}
 use Rattle.threshold.specs.declared.answers.Question.{Question}
 use Rattle.threshold.specs.declared.held.Held.{Held}
 use Rattle.threshold.specs.declared.weights.Place.{Place}
-use Rattle.threshold.specs.Answers.{HoldsAnswer, HoldsAtAll, HoldsAtFraction, IsAnswerOf, IsAsked, IsHeld, Stands}
-use Rattle.threshold.specs.Control.{IsControlled, IsFree}
+use Rattle.threshold.specs.Answers.{HoldsAnswer, HoldsAtAll, HoldsAtFraction, IsAnswerOf, IsQuestion, IsHeld, AnswerStands}
+use Rattle.threshold.specs.Control.{IsControlled, IsFreeOf}
 use Rattle.threshold.specs.Held.{IsRange, IsWithin, Narrows}
 use Rattle.threshold.proofs.Assembling.{answered_by}
 use Rattle.threshold.proofs.Holding.{answer_decides, answer_fits, answer_rows, decision_in}
@@ -38,7 +38,7 @@ sign (pos (suc n)) h = inr (omega (arith, ints))
 sign (negsuc n) h = absurd (omega (arith, ints))
 
 module _ (d : DiagramView) (solved : SolvedView) (place : Place) (is : IsDiagram d) (a : IsAnswer d solved) (at : IsPlace d.nodes place.node place.row place.state) (answer : AnswerView) (of : IsAnswerOf solved answer)
-    (agent : ℕ) (free : ReliesOn (as_decision d.nodes agent place.node) answer.decision place.node → ⊥) (reached : (pos 0 <ℤ cell_at d.nodes place.node place.row place.state) ⊎ (list_all (λ (row : Row). is_some row.worth) answer.rows ≡ true)) where
+    (agent : ℕ) (free : ReliesOn (as_decision d.nodes agent place.node) answer.decision place.node → ⊥) (reached : (pos 0 <ℤ state_weight d.nodes place.node place.row place.state) ⊎ (list_all (λ (row : Row). is_some row.worth) answer.rows ≡ true)) where
   k : IsDecision d.nodes answer.decision
   k = answer_decides d solved a.fits answer of
 
@@ -73,7 +73,7 @@ module _ (d : DiagramView) (solved : SolvedView) (place : Place) (is : IsDiagram
             (subst (λ z. gain_at d.nodes told.base answer.decision other line ≤ℤ gain_at d.nodes told.base answer.decision z line) (sym e) (((row_at line l).best some).greatest other j))
         go (inl none) = at_none reached
           where
-            at_none : (pos 0 <ℤ cell_at d.nodes place.node place.row place.state) ⊎ (list_all (λ (row : Row). is_some row.worth) answer.rows ≡ true) → gain_at moved told.base answer.decision other line ≤ℤ gain_at moved told.base answer.decision choice line
+            at_none : (pos 0 <ℤ state_weight d.nodes place.node place.row place.state) ⊎ (list_all (λ (row : Row). is_some row.worth) answer.rows ≡ true) → gain_at moved told.base answer.decision other line ≤ℤ gain_at moved told.base answer.decision choice line
             at_none (inl weighs) =
                 even (gain_at moved told.base answer.decision other line) (gain_at moved told.base answer.decision choice line)
                 (gains_nothing d.nodes place.node place.row place.state is.graph is.tables at num den moved m agent answer.decision k free told.base told.is_base.profile positive weighs line other none)
@@ -86,23 +86,23 @@ module _ (d : DiagramView) (solved : SolvedView) (place : Place) (is : IsDiagram
   stays num den positive moved m = record { base = told.base; is_base = told.is_base; best = λ line choice other l i j w. best num den positive moved m line choice other l i j (chosen line choice l i w) }
 
 -- ---- in the names of the code
-free_of : (d : DiagramView) (x v : ℕ) (known : Option RelevanceView) → IsControlled d x known → IsFree known v x → ReliesOn (as_decision d.nodes 0 x) v x → ⊥
+free_of : (d : DiagramView) (x v : ℕ) (known : Option RelevanceView) → IsControlled d x known → IsFreeOf known v x → ReliesOn (as_decision d.nodes 0 x) v x → ⊥
 free_of d x v None c f r = f
 free_of d x v (Some relevance) c f r = f ((c.pairs v x).1 r)
 
-module _ (q : Question) (asked : IsAsked q) where
+module _ (q : Question) (asked : IsQuestion q) where
   place_is : IsPlace q.diagram.now.nodes q.place.node q.place.row q.place.state
   place_is = is_place q.diagram.now.nodes q.place asked.setting.is_diagram.tables asked.setting.cell asked.setting.ends.some
 
-  pub stands_holds : (answer : AnswerView) → IsAnswerOf q.solved.now answer → Stands q answer → (num den : ℕ) → 0 < den → HoldsAnswer q answer num den
+  pub stands_holds : (answer : AnswerView) → IsAnswerOf q.solved.now answer → AnswerStands q answer → (num den : ℕ) → 0 < den → HoldsAnswer q answer num den
   stands_holds answer of s = stays q.diagram.now q.solved.now q.place asked.setting.is_diagram asked.setting.answer place_is answer of 0 (free_of q.diagram.now q.place.node answer.decision q.controlled asked.controlled s.free) s.reached
 
   -- the interval stays as it is
-  pub narrows_by_nothing : (answer : AnswerView) → IsAnswerOf q.solved.now answer → Stands q answer → (held : Held) → IsRange held → Narrows (HoldsAnswer q answer) held held
+  pub narrows_by_nothing : (answer : AnswerView) → IsAnswerOf q.solved.now answer → AnswerStands q answer → (held : Held) → IsRange held → Narrows (HoldsAnswer q answer) held held
   narrows_by_nothing answer of s held r = record { range = r; within = λ num den p l. ((λ w. (w, stands_holds answer of s num den p)), (λ w. w.0)) }
 
   -- where all answers stand, all fractions are held
-  pub all_held : All (Stands q) q.solved.now.answers → (held : Held) → ((num den : ℕ) → num ≤ den → IsWithin held num den) → IsHeld q.diagram.now.nodes (answered q.diagram.now q.solved.now) q.place held
+  pub all_held : All (AnswerStands q) q.solved.now.answers → (held : Held) → ((num den : ℕ) → num ≤ den → IsWithin held num den) → IsHeld q.diagram.now.nodes (answered q.diagram.now q.solved.now) q.place held
   all_held all held every = record { within = λ num den p l. ((λ w. at num den p), (λ h. every num den l)) }
     where
       at : (num den : ℕ) → 0 < den → HoldsAtAll q.diagram.now.nodes (answered q.diagram.now q.solved.now) q.place num den

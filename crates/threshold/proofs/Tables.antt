@@ -13,7 +13,7 @@ use Rattle.maid_laws.proofs.Collapse.{one_if, sum_below_at}
 use Rattle.maid_model.specs.Nodes.{states_of}
 use Rattle.maid_model.specs.Tables.{HasChanceTables, chance_total}
 use Rattle.maid_model.specs.Views.{NodeView}
-use Rattle.reach_laws.specs.Threshold.{IsPlace, cell_at, others_weight}
+use Rattle.reach_laws.specs.Threshold.{IsPlace, state_weight, others_weight}
 use Rattle.threshold.specs.declared.weights.Place.{Place}
 use Rattle.threshold.specs.declared.weights.Scales.{Scales}
 use Rattle.threshold.specs.Faults.{OthersWeighNought}
@@ -71,37 +71,37 @@ module _ (nodes : List NodeView) (place : Place) (c : HasChanceTables nodes) (p 
   whole = chance_total nodes place.node
 
   weights : ℕ → ℤ
-  weights s = cell_at nodes x place.row s
+  weights s = state_weight nodes x place.row s
 
-  least : (r s : ℕ) → pos 0 ≤ℤ cell_at nodes x r s
+  least : (r s : ℕ) → pos 0 ≤ℤ state_weight nodes x r s
   least r s = (c.table x p.kind).not_negative (r * states_of nodes x + s)
 
-  sum_is : sum_below (states_of nodes x) (cell_at nodes x place.row) ≡ pos whole
+  sum_is : sum_below (states_of nodes x) (state_weight nodes x place.row) ≡ pos whole
   sum_is = (c.table x p.kind).row place.row p.row
 
   -- the weight is no more than the total
-  pub weight_at_most : cell_at nodes x place.row place.state ≤ℤ pos whole
-  weight_at_most = subst (λ z. cell_at nodes x place.row place.state ≤ℤ z) sum_is (one_at_most (cell_at nodes x place.row) (least place.row) (states_of nodes x) place.state p.state)
+  pub weight_at_most : state_weight nodes x place.row place.state ≤ℤ pos whole
+  weight_at_most = subst (λ z. state_weight nodes x place.row place.state ≤ℤ z) sum_is (one_at_most (state_weight nodes x place.row) (least place.row) (states_of nodes x) place.state p.state)
 
   -- where it is all the total, the others are nought
-  pub others_nought : cell_at nodes x place.row place.state ≡ pos whole → OthersWeighNought nodes x place.row place.state
+  pub others_nought : state_weight nodes x place.row place.state ≡ pos whole → OthersWeighNought nodes x place.row place.state
   others_nought e s l k =
-      let h = subst (λ z. (cell_at nodes x place.row s +ℤ cell_at nodes x place.row place.state) ≤ℤ z) sum_is (two_at_most (cell_at nodes x place.row) (least place.row) (states_of nodes x) s place.state l p.state k) in
-      nothing (cell_at nodes x place.row s) (cell_at nodes x place.row place.state) (pos whole) e h (least place.row s)
+      let h = subst (λ z. (state_weight nodes x place.row s +ℤ state_weight nodes x place.row place.state) ≤ℤ z) sum_is (two_at_most (state_weight nodes x place.row) (least place.row) (states_of nodes x) s place.state l p.state k) in
+      nothing (state_weight nodes x place.row s) (state_weight nodes x place.row place.state) (pos whole) e h (least place.row s)
     where
       nothing : (y z w : ℤ) → z ≡ w → (y +ℤ z) ≤ℤ w → pos 0 ≤ℤ y → y ≡ pos 0
       nothing y z w e h l = omega (arith, ints)
 
   -- and only there
-  pub all_weight : OthersWeighNought nodes x place.row place.state → cell_at nodes x place.row place.state ≡ pos whole
-  all_weight none = sym (alone (states_of nodes x) place.state (cell_at nodes x place.row) p.state none) ∙ sum_is
+  pub all_weight : OthersWeighNought nodes x place.row place.state → state_weight nodes x place.row place.state ≡ pos whole
+  all_weight none = sym (alone (states_of nodes x) place.state (state_weight nodes x place.row) p.state none) ∙ sum_is
 
   pub is_place : pos 0 <ℤ others_weight nodes x place.row place.state → IsPlace nodes x place.row place.state
   is_place h = record { kind = p.kind; row_within = p.row; state_within = p.state; others = h }
 
   -- what the others weigh
-  pub others_are : (w : ℕ) → pos w ≡ cell_at nodes x place.row place.state → w ≢ whole → (w < whole) × (pos (whole - w) ≡ others_weight nodes x place.row place.state)
-  others_are w e k = plain w whole (cell_at nodes x place.row place.state) e k weight_at_most
+  pub others_are : (w : ℕ) → pos w ≡ state_weight nodes x place.row place.state → w ≢ whole → (w < whole) × (pos (whole - w) ≡ others_weight nodes x place.row place.state)
+  others_are w e k = plain w whole (state_weight nodes x place.row place.state) e k weight_at_most
     where
       plain : (w n : ℕ) (z : ℤ) → pos w ≡ z → w ≢ n → z ≤ℤ pos n → (w < n) × (pos (n - w) ≡ pos n -ℤ z)
       plain w n z e k l = (omega (arith, ints), minus w n z e (omega (arith, ints)))

@@ -30,7 +30,7 @@ use Rattle.maid_laws.proofs.Tied.{decision_of, tables_of}
 use Rattle.arc_laws.proofs.ControlLaws.{chance_within}
 use Rattle.arc_laws.proofs.InControl.{Controls, abs_cells, controls, decision_back, decision_not_x, decision_there, graph_kept, own_table, parents_at, states_at, tables_kept}
 use Rattle.arc_laws.proofs.SameArcs.{row_same, rule_there, states_same}
-use Rattle.reach_laws.specs.Threshold.{IsMoved, IsPlace, cell_at, others_weight}
+use Rattle.reach_laws.specs.Threshold.{IsMoved, IsPlace, state_weight, others_weight}
 use Rattle.reach_laws.proofs.Perfect.{IsLike, graph_there, like_of, profile_there, turned}
 use Rattle.reach_laws.proofs.Perfect as like
 use Rattle.threshold.proofs.Alike.{descends_along}
@@ -222,25 +222,25 @@ module _ (nodes : List NodeView) (x row state : ℕ) (g : IsGraph nodes) (c : Ha
   above : (n : ℕ) → 0 < n → pos 0 <ℤ pos n
   above n h = omega (arith, ints)
 
-  module _ (positive : 0 < den) (weighs : pos 0 <ℤ cell_at nodes x row state) where
+  module _ (positive : 0 < den) (weighs : pos 0 <ℤ state_weight nodes x row state) where
     -- a cell that is nought stays so
-    stays_zero : (i j : ℕ) → i < rows_of nodes x → j < states_of nodes x → cell_at nodes x i j ≡ pos 0 → cell_at moved x i j ≡ pos 0
+    stays_zero : (i j : ℕ) → i < rows_of nodes x → j < states_of nodes x → state_weight nodes x i j ≡ pos 0 → state_weight moved x i j ≡ pos 0
     stays_zero i j a b e = go (ℕ_discrete i row) (ℕ_discrete j state)
       where
         clash : (z : ℤ) → pos 0 <ℤ z → z ≡ pos 0 → ⊥
         clash z h e = omega (arith, ints)
 
-        go : Dec (i ≡ row) → Dec (j ≡ state) → cell_at moved x i j ≡ pos 0
+        go : Dec (i ≡ row) → Dec (j ≡ state) → state_weight moved x i j ≡ pos 0
         go (no n) k =
-            zero_factor (cell_at moved x i j) (pos (chance_total nodes x)) (above (chance_total nodes x) (c.positive x place.kind))
+            zero_factor (state_weight moved x i j) (pos (chance_total nodes x)) (above (chance_total nodes x) (c.positive x place.kind))
             (m.elsewhere i j a b n ∙ ap (λ z. z *ℤ pos (chance_total moved x)) e ∙ zero_mul (pos (chance_total moved x)))
-        go (yes p) (yes q) = absurd (clash (cell_at nodes x row state) weighs ((λ t. cell_at nodes x (sym p t) (sym q t)) ∙ e))
+        go (yes p) (yes q) = absurd (clash (state_weight nodes x row state) weighs ((λ t. state_weight nodes x (sym p t) (sym q t)) ∙ e))
         go (yes p) (no n) =
-            let here : cell_at nodes x row j ≡ pos 0 = ap (λ t. cell_at nodes x t j) (sym p) ∙ e in
+            let here : state_weight nodes x row j ≡ pos 0 = ap (λ t. state_weight nodes x t j) (sym p) ∙ e in
             let nought = m.shared j b n ∙ ap (λ z. ((pos den -ℤ pos num) *ℤ z) *ℤ pos (chance_total moved x)) here ∙ ap (λ z. z *ℤ pos (chance_total moved x)) (mul_zero (pos den -ℤ pos num)) ∙ zero_mul (pos (chance_total moved x)) in
-            ap (λ t. cell_at moved x t j) p
-            ∙ zero_factor (cell_at moved x row j) (pos den) (above den positive)
-            (zero_factor (cell_at moved x row j *ℤ pos den) (others_weight nodes x row state) place.others (mul_assoc (cell_at moved x row j) (pos den) (others_weight nodes x row state) ∙ nought))
+            ap (λ t. state_weight moved x t j) p
+            ∙ zero_factor (state_weight moved x row j) (pos den) (above den positive)
+            (zero_factor (state_weight moved x row j *ℤ pos den) (others_weight nodes x row state) place.others (mul_assoc (state_weight moved x row j) (pos den) (others_weight nodes x row state) ∙ nought))
 
     -- a table's number that is nought stays so
     zero_there : (v : ℕ) → v ≢ d → (w : World) → InRange (states_of others) w → table others before v w ≡ pos 0 → table others after v w ≡ pos 0
@@ -249,14 +249,14 @@ module _ (nodes : List NodeView) (x row state : ℕ) (g : IsGraph nodes) (c : Ha
         inside : InRange (states_of nodes) w
         inside = subst (λ f. InRange f w) (states_same nodes others r.len (states_at nodes others agent x r place.kind) (parents_at nodes others agent x r place.kind)) h
 
-        was : table others before x w ≡ cell_at nodes x (row_of nodes x w) (w x)
+        was : table others before x w ≡ state_weight nodes x (row_of nodes x w) (w x)
         was = table_filled nodes others agent x r place.kind c base hb x (chance_within nodes x place.kind) w ∙ (λ t. table_by (place.kind t) (node_at nodes x).cells (weights_of base x) (cell_of nodes x w))
 
-        is : table others after x w ≡ cell_at moved x (row_of nodes x w) (w x)
+        is : table others after x w ≡ state_weight moved x (row_of nodes x w) (w x)
         is =
             table_filled moved others agent x s chance m.tables base profile x (subst (λ n. x < n) (sym m.len) (chance_within nodes x place.kind)) w
             ∙ (λ t. table_by (chance t) (node_at moved x).cells (weights_of base x) (cell_of moved x w))
-            ∙ ap (λ i. cell_at moved x i (w x)) (row_same nodes moved l.len l.states l.parents x w)
+            ∙ ap (λ i. state_weight moved x i (w x)) (row_same nodes moved l.len l.states l.parents x w)
 
         go : Dec (v ≡ x) → table others after v w ≡ pos 0
         go (yes q) =

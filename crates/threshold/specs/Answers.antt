@@ -5,7 +5,7 @@ use Rattle.maid_model.specs.Answers.{IsAnswer, answered}
 use Rattle.maid_model.specs.Diagrams.{IsDiagram}
 use Rattle.maid_model.specs.Nodes.{IsDecision}
 use Rattle.maid_model.specs.Views.{NodeView, DiagramView, RuleView, AnswerView, SolvedView}
-use Rattle.reach_laws.specs.Threshold.{HoldsAt, IsMoved, cell_at}
+use Rattle.reach_laws.specs.Threshold.{HoldsAt, IsMoved, state_weight}
 use Rattle.rule_solver.specs.declared.spaces.Workspaces.{Workspaces}
 use Rattle.rule_solver.specs.Faults.{IsSmallEnough}
 use Rattle.rule_solver.specs.Rooms.{AreReadyForDecision, AreReadyForRun}
@@ -14,7 +14,7 @@ use Rattle.size_precheck.specs.Decisions.{AreDecisionPlans, ArePlans}
 use Rattle.threshold.specs.declared.answers.Question.{Question}
 use Rattle.threshold.specs.declared.held.Held.{Held}
 use Rattle.threshold.specs.declared.weights.Place.{Place}
-use Rattle.threshold.specs.Control.{IsControlled, IsFree}
+use Rattle.threshold.specs.Control.{IsControlled, IsFreeOf}
 use Rattle.threshold.specs.Ends.{AreEnds}
 use Rattle.threshold.specs.Held.{HoldsSomewhere, IsWithin}
 use Rattle.threshold.specs.Weights.{IsCell}
@@ -31,7 +31,7 @@ HoldsAtAll nodes s place num den =
 
 -- a diagram with a small enough run, its answer, and the diagrams in which the probability is 0 and 1; somewhere the
 -- answer holds
-pub record IsSetting
+pub record IsThresholdSetting
     (d : DiagramView) (solved : SolvedView) (place : Place) (nought one : DiagramView) : Type 0
   where
     pub is_diagram : IsDiagram d
@@ -54,14 +54,14 @@ IsAnswerOf solved answer =
 
 -- ---- in the names of the code
 -- what is asked may be answered, and the relevance graph is that where the node is a decision
-pub record IsAsked (q : Question) : Type 0 where
-  pub setting : IsSetting q.diagram.now q.solved.now q.place q.nought.now q.one.now
+pub record IsQuestion (q : Question) : Type 0 where
+  pub setting : IsThresholdSetting q.diagram.now q.solved.now q.place q.nought.now q.one.now
   pub controlled : IsControlled q.diagram.now q.place.node q.controlled
 
 -- the answer's decision does not rely on the node's table, and each of its rows is reached, or the state has weight
-pub record Stands (q : Question) (answer : AnswerView) : Type 0 where
-  pub free : IsFree q.controlled answer.decision q.place.node
-  pub reached : (pos 0 <ℤ cell_at q.diagram.now.nodes q.place.node q.place.row q.place.state)
+pub record AnswerStands (q : Question) (answer : AnswerView) : Type 0 where
+  pub free : IsFreeOf q.controlled answer.decision q.place.node
+  pub reached : (pos 0 <ℤ state_weight q.diagram.now.nodes q.place.node q.place.row q.place.state)
       ⊎ (list_all (λ row. is_some row.worth) answer.rows ≡ true)
 
 -- these are the plans of the answer's decision

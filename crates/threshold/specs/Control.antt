@@ -17,5 +17,5 @@ IsControlled d x known =
     MatchOption known (CannotDecide d x) (IsRelevance (as_decision d.nodes 0 x))
 
 -- it is known that the decision v does not rely on x there
-abbrev pub IsFree : Option RelevanceView → ℕ → ℕ → Type 0
-IsFree known v x = MatchOption known ⊥ (λ relevance. ReliesTo relevance v x → ⊥)
+abbrev pub IsFreeOf : Option RelevanceView → ℕ → ℕ → Type 0
+IsFreeOf known v x = MatchOption known ⊥ (λ relevance. ReliesTo relevance v x → ⊥)

@@ -7,7 +7,7 @@ use Rattle.maid_model.specs.Diagrams.{greatest_number}
 use Rattle.maid_model.specs.Nodes.{node_at, states_of}
 use Rattle.maid_model.specs.Tables.{chance_total}
 use Rattle.maid_model.specs.Views.{NodeView, DiagramView}
-use Rattle.reach_laws.specs.Threshold.{cell_at, others_weight}
+use Rattle.reach_laws.specs.Threshold.{state_weight, others_weight}
 use Rattle.rule_solver.specs.Faults.{bound_pass}
 use Rattle.rule_solver.specs.Faults as solver
 use Rattle.whole_num.specs.Divisors.{IsLcm}
@@ -28,7 +28,7 @@ span_fault faults.NoMemory = None
 -- all other states of the row weigh nought
 abbrev pub OthersWeighNought : List NodeView → ℕ → ℕ → ℕ → Type 0
 OthersWeighNought nodes x row state =
-    (s : ℕ) → s < states_of nodes x → s ≢ state → cell_at nodes x row s ≡ pos 0
+    (s : ℕ) → s < states_of nodes x → s ≢ state → state_weight nodes x row s ≡ pos 0
 
 -- the least common multiple of the table's total and of what the other states of the row weigh
 abbrev pub IsCommonMultiple : List NodeView → ℕ → ℕ → ℕ → ℕ → Type 0

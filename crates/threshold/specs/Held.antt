@@ -1,9 +1,8 @@
 -- Intervals of fractions on which conditions hold, and how they get narrower. Only private functions cite it.
-use Rattle.std.specs.Prelude.{◌↔◌, ℕ, ◌<◌, ◌≤◌, ◌*◌, ◌^◌, List, length, slice_index_or, ℤ, pos, ◌+ℤ◌, ◌-ℤ◌, ◌*ℤ◌, ◌≤ℤ◌, nat_abs}
+use Rattle.std.specs.Prelude.{◌↔◌, ℕ, ◌<◌, ◌≤◌, ◌*◌, ◌^◌, List, length, slice_index_or, ℤ, pos, ◌+ℤ◌, ◌-ℤ◌, ◌*ℤ◌, ◌≤ℤ◌}
 use Rattle.maid_model.specs.declared.answers.Row.{Row}
 use Rattle.maid_model.specs.Answers.{no_row}
-use Rattle.maid_model.specs.Diagrams.{greatest_number}
-use Rattle.rule_solver.specs.Rows.{gain_in}
+use Rattle.maid_model.specs.Gains.{gain_in}
 use Rattle.threshold.specs.declared.held.Held.{Held}
 use Rattle.threshold.specs.declared.held.Part.{Part}
 
@@ -85,7 +84,3 @@ AreBestIn nought one states rows n num den =
 -- nor in any row
 abbrev pub AllBestIn : List ℤ → List ℤ → ℕ → List Row → ℕ → ℕ → Type 0
 AllBestIn nought one states rows num den = AreBestIn nought one states rows (length rows) num den
-
--- numbers within the range
-abbrev pub AreSmall : List ℤ → Type 0
-AreSmall gains = (i : ℕ) → nat_abs (slice_index_or gains i (pos 0)) ≤ greatest_number

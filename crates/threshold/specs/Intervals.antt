@@ -5,13 +5,13 @@ use Rattle.maid_model.specs.Subgames.{IsSubgamePerfect}
 use Rattle.maid_model.specs.Tables.{chance_total}
 use Rattle.maid_model.specs.Views.{NodeView, DiagramView, SolvedView}
 use Rattle.maid_model.specs.declared.answers.Ratio.{Ratio}
-use Rattle.reach_laws.specs.Threshold.{cell_at, IsAtLeast, IsAtMost, IsMoved, IsSpan}
+use Rattle.reach_laws.specs.Threshold.{state_weight, IsAtLeast, IsAtMost, IsMoved, IsSpan}
 use Rattle.threshold.specs.declared.interval.Interval.{Interval}
 
 -- the present probability in lowest terms: the state's weight over the table's total
 abbrev pub TellsNow : List NodeView → ℕ → ℕ → ℕ → Interval → Type 0
 TellsNow nodes x row state interval =
-    IsFraction interval.now (cell_at nodes x row state) (chance_total nodes x)
+    IsFraction interval.now (state_weight nodes x row state) (chance_total nodes x)
 
 -- the exact closed interval on which the answered rules hold
 abbrev pub TellsSpan : DiagramView → SolvedView → ℕ → ℕ → ℕ → Interval → Type 0

@@ -6,7 +6,7 @@ use Rattle.maid_model.specs.declared.diagrams.Kind.TheVariants.{Chance}
 use Rattle.maid_model.specs.Diagrams.{greatest_number}
 use Rattle.maid_model.specs.Nodes.{node_at, rows_of, states_of}
 use Rattle.maid_model.specs.Views.{NodeView, DiagramView}
-use Rattle.reach_laws.specs.Threshold.{cell_at}
+use Rattle.reach_laws.specs.Threshold.{state_weight}
 use Rattle.threshold.specs.declared.weights.Place.{Place}
 use Rattle.threshold.specs.declared.weights.Scales.{Scales}
 use Rattle.threshold.specs.Faults.{with_cells}
@@ -27,7 +27,7 @@ scaled scales in_row is_state weight = if in_row
 -- the new weight of a state in a row
 abbrev pub new_weight : List NodeView → Place → Scales → ℕ → ℕ → ℕ
 new_weight nodes place scales r s =
-    scaled scales (r == place.row) (s == place.state) (nat_abs (cell_at nodes place.node r s))
+    scaled scales (r == place.row) (s == place.state) (nat_abs (state_weight nodes place.node r s))
 
 -- the first n cells of the new table
 abbrev pub new_cells : List NodeView → Place → Scales → ℕ → List ℤ

@@ -5,7 +5,7 @@ ghost use Rattle.maid_model.specs.Answers.{answered};
 ghost use Rattle.relevance_graph.specs.Relevant.{IsRelevance};
 ghost use Rattle.threshold.specs.Answers.{ArePlansInOrder, ArePlansOfAnswer, AreReadyForAll};
 ghost use Rattle.threshold.specs.Answers.{AreReadyForAnswer, HoldsAllAnswers, HoldsAnswer};
-ghost use Rattle.threshold.specs.Answers.{IsAnswerOf, IsAsked, IsHeld, IsSetting, Stands};
+ghost use Rattle.threshold.specs.Answers.{IsAnswerOf, IsQuestion, IsHeld, IsThresholdSetting, AnswerStands};
 ghost use Rattle.threshold.specs.Held.{IsRange, Narrows};
 
 use crate::control::{all_reached, find_controlled, is_free};
@@ -35,9 +35,9 @@ impl<'a> Question<'a> {
     /// the place's node, and all its rows are reached, or the place has weight, so that none becomes
     /// reached.
     fn stands(&self, answer: &Answer) -> bool
-        requires setting { IsAsked self.now }
+        requires setting { IsQuestion self.now }
         requires answer { IsAnswerOf self.now.solved.now answer.now }
-        ensures { IsTrue result ↔ Stands self.now answer.now }
+        ensures { IsTrue result ↔ AnswerStands self.now answer.now }
     {
         let Place { node, .. } = self.place;
         let reached = all_reached(&answer.rows);
@@ -47,8 +47,8 @@ impl<'a> Question<'a> {
 
     /// Whether all answers surely hold at all fractions.
     fn all_stand(&self) -> bool
-        requires setting { IsAsked self.now }
-        ensures { IsTrue result ↔ All (Stands self.now) self.now.solved.now.answers }
+        requires setting { IsQuestion self.now }
+        ensures { IsTrue result ↔ All (AnswerStands self.now) self.now.solved.now.answers }
     {
         let solved = self.solved;
         for answer in &solved.answers {
@@ -70,7 +70,7 @@ impl<'a> Question<'a> {
         plans: &DecisionPlans,
         spaces: &mut Workspaces,
     ) -> Result<Held, AllocError>
-        requires setting { IsAsked self.now }
+        requires setting { IsQuestion self.now }
         requires relevance { IsRelevance self.now.diagram.now.nodes relevance.now }
         requires answer { IsAnswerOf self.now.solved.now answer.now }
         requires planned { ArePlansOfAnswer self.now answer.now plans.now }
@@ -105,7 +105,7 @@ impl<'a> Question<'a> {
         plans: &DecisionPlans,
         spaces: &mut Workspaces,
     ) -> Result<Held, AllocError>
-        requires setting { IsAsked self.now }
+        requires setting { IsQuestion self.now }
         requires relevance { IsRelevance self.now.diagram.now.nodes relevance.now }
         requires answer { IsAnswerOf self.now.solved.now answer.now }
         requires planned { ArePlansOfAnswer self.now answer.now plans.now }
@@ -128,7 +128,7 @@ impl<'a> Question<'a> {
         plans: &[DecisionPlans],
         spaces: &mut Workspaces,
     ) -> Result<Held, AllocError>
-        requires setting { IsAsked self.now }
+        requires setting { IsQuestion self.now }
         requires relevance { IsRelevance self.now.diagram.now.nodes relevance.now }
         requires planned { ArePlansInOrder self.now plans.now }
         requires ready { AreReadyForAll self.now spaces.old }
@@ -156,7 +156,7 @@ pub(crate) fn hold_answers(
     place: Place,
     ends: &Ends,
 ) -> Result<Held, AllocError>
-    requires { IsSetting diagram.now solved.now place ends.now.nought ends.now.one }
+    requires { IsThresholdSetting diagram.now solved.now place ends.now.nought ends.now.one }
     ensures range { IfOk result IsRange }
     ensures held { IfOk result (IsHeld diagram.now.nodes (answered diagram.now solved.now) place) }
 {

@@ -4,7 +4,7 @@ ghost use Rattle.std.specs.Prelude.{◌≡◌, ◌<◌, ◌↔◌, IfOk, IfSome,
 ghost use Rattle.std.specs.List.{list_all};
 ghost use Rattle.maid_model.specs.declared.diagrams.Kind.TheVariants.{Chance};
 ghost use Rattle.maid_model.specs.Nodes.{node_at};
-ghost use Rattle.threshold.specs.Control.{IsControlled, IsFree};
+ghost use Rattle.threshold.specs.Control.{IsControlled, IsFreeOf};
 
 use diagram_graph::{MakeFault, make_decision};
 use maid_model::{Diagram, Row};
@@ -34,7 +34,7 @@ pub(crate) fn find_controlled(
 /// Whether it is known that the decision does not rely on the node.
 pub(crate) fn is_free(controlled: &Option<Relevance>, decision: usize, node: usize) -> bool
     requires { IfSome controlled.now (λ known. decision < length known.relied_on) }
-    ensures { IsTrue result ↔ IsFree controlled.now decision node }
+    ensures { IsTrue result ↔ IsFreeOf controlled.now decision node }
 {
     match controlled {
         Some(relevance) => !relevance.relies(decision, node),

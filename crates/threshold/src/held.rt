@@ -1,7 +1,8 @@
 //! Intervals of fractions, which conditions make narrower.
 
 ghost use Rattle.std.specs.Prelude.{◌≡◌, ℕ, ◌<◌, ◌≤◌, ◌+◌, ◌*◌, ◌^◌, All, length, nat_abs};
-ghost use Rattle.threshold.specs.Held.{AllBestIn, AreSmall, HoldsSomewhere, IsBestIn, IsGreater};
+ghost use Rattle.maid_model.specs.Gains.{AreSmallGains};
+ghost use Rattle.threshold.specs.Held.{AllBestIn, HoldsSomewhere, IsBestIn, IsGreater};
 ghost use Rattle.threshold.specs.Held.{IsLesser, IsNotBelow, IsPart, IsRange, IsWithin};
 ghost use Rattle.threshold.specs.Held.{Narrows, lead_at};
 
@@ -94,7 +95,7 @@ fn narrow(held: Held, nought: i128, one: i128) -> Held
 fn lead(gains: &[i128], best: usize, other: usize) -> i128
     requires best { best < length gains.now }
     requires other { other < length gains.now }
-    requires small { AreSmall gains.now }
+    requires small { AreSmallGains gains.now }
     ensures lead { result ≡ lead_at gains.now best other }
     ensures room { nat_abs result < 2 ^ 127 }
 {
@@ -114,8 +115,8 @@ fn narrow_row(
     requires range { IsRange held }
     requires nought { line * states + states ≤ length nought.now }
     requires one { line * states + states ≤ length one.now }
-    requires small_nought { AreSmall nought.now }
-    requires small_one { AreSmall one.now }
+    requires small_nought { AreSmallGains nought.now }
+    requires small_one { AreSmallGains one.now }
     requires choice { choice < states }
     requires somewhere { HoldsSomewhere (IsBestIn nought.now one.now states line choice) }
     ensures { Narrows (IsBestIn nought.now one.now states line choice) held result }
@@ -140,8 +141,8 @@ pub(crate) fn narrow_rows(
     requires range { IsRange held }
     requires nought { length nought.now ≡ length rows.now * states }
     requires one { length one.now ≡ length rows.now * states }
-    requires small_nought { AreSmall nought.now }
-    requires small_one { AreSmall one.now }
+    requires small_nought { AreSmallGains nought.now }
+    requires small_one { AreSmallGains one.now }
     requires choices { All (λ row. row.choice < states) rows.now }
     requires somewhere { HoldsSomewhere (AllBestIn nought.now one.now states rows.now) }
     ensures { Narrows (AllBestIn nought.now one.now states rows.now) held result }

@@ -3,7 +3,7 @@
 ghost use Rattle.std.specs.Prelude.{◌≡◌, ◌==◌, ◌<◌, ◌≤◌, IfOk, pos};
 ghost use Rattle.maid_model.specs.Diagrams.{IsDiagram, greatest_number};
 ghost use Rattle.maid_model.specs.Nodes.{rows_of, states_of};
-ghost use Rattle.reach_laws.specs.Threshold.{cell_at};
+ghost use Rattle.reach_laws.specs.Threshold.{state_weight};
 ghost use Rattle.threshold.specs.Weights.{IsCell, KeepsRange, new_table, new_weight, scaled};
 
 use maid_model::Diagram;
@@ -47,7 +47,7 @@ impl Scales {
 /// The weight of the state in the row.
 pub(crate) fn weight_there(diagram: &Diagram, place: Place) -> u128
     requires { IsCell diagram.now.nodes place }
-    ensures weight { pos result ≡ cell_at diagram.now.nodes place.node place.row place.state }
+    ensures weight { pos result ≡ state_weight diagram.now.nodes place.node place.row place.state }
     ensures diagram { IsDiagram diagram.now }
 {
     let cells = diagram.cells(place.node);

@@ -16,23 +16,23 @@ use Rattle.tree_checker.specs.declared.rows.RowFault.{RowFault}
 use Rattle.tree_checker.specs.declared.verdicts.Cause.{Cause}
 use Rattle.tree_checker.specs.declared.verdicts.Cause.TheVariants.{Order, Choice, Worth, Never, Gain}
 use Rattle.tree_checker.specs.Judged.{JudgesAnswer, JudgesGains}
-use Rattle.tree_checker.specs.Verdicts.{FailsAtAgent, FailsAtRow, FailsFirst, FailsInRows, FailsLine, FailsRow, answer_line, lines_of, no_gain, row_line}
+use Rattle.tree_checker.specs.Verdicts.{FailsAtAgent, FailsAtRow, FailsAtFirst, FailsInRows, FailsLine, FailsRow, line_of_answer, line_count, no_gain, line_of_row}
 use Rattle.tree_checker.proofs.LineLaws.{counts, decided, decides, line_next, lines_small, no_answer, order_few, placed, row_before, row_before_gains, rows_count, rows_small, rows_there}
 use Rattle.tree_checker.proofs.OneVerdictLaw.{Kinds, AtOrder, AtRow, AtAgent, accepted_clash, kind_of, one_base}
 use Rattle.tree_checker.proofs.RowClash.{row_clash, passes_of}
 
 -- the line is that of the answer at this place, and the answers before it are accepted
 pub record CheckedSoFar (d : DiagramView) (solved : SolvedView) (place line : ℕ) : Type 0 where
-  pub line_is : line ≡ answer_line solved place
+  pub line_is : line ≡ line_of_answer solved place
   pub accepted : (p : ℕ) → p < place → IsAcceptedAt d.nodes d.decimals (answered d solved) (slice_index solved.order p) (rows_at solved.answers (slice_index solved.order p))
 
 pub checked_start : (d : DiagramView) (solved : SolvedView) → CheckedSoFar d solved 0 3
 checked_start d solved = record { line_is = first solved; accepted = λ p l. absurd (omega arith) }
   where
-    first : (solved : SolvedView) → 3 ≡ answer_line solved 0
+    first : (solved : SolvedView) → 3 ≡ line_of_answer solved 0
     first solved = ap (λ n. 3 + n) (none solved.answers)
       where
-        none : (xs : List AnswerView) → 0 ≡ sum_by lines_of (take 0 xs)
+        none : (xs : List AnswerView) → 0 ≡ sum_by line_count (take 0 xs)
         none [] = refl
         none (x ∷ xs) = refl
 
@@ -91,7 +91,7 @@ module _ (d : DiagramView) (solved : SolvedView) (f : FitsDiagram d solved) (rig
           last p k (no n) = so.accepted p (earlier p k n)
 
       -- the first row that doesn't pass is the first line that fails
-      pub row_first : (fault : RowFault) → JudgesAnswer d (answered d solved) a.decision a.rows (Some fault) → FailsFirst d solved (line + 1 + fault.row) fault.cause
+      pub row_first : (fault : RowFault) → JudgesAnswer d (answered d solved) a.decision a.rows (Some fault) → FailsAtFirst d solved (line + 1 + fault.row) fault.cause
       row_first fault j = record {
         fails = row_line_fails d solved (line + 1 + fault.row) fault.cause (place, fault.row, ap (λ n. n + 1 + fault.row) so.line_is, here_fails);
         first = λ other why g. least other why (kind_of d solved other why g);
@@ -112,10 +112,10 @@ module _ (d : DiagramView) (solved : SolvedView) (f : FitsDiagram d solved) (rig
               row_clash _ _ _ _ (answer_at solved v r) (passes_of d.nodes d.decimals here.base v r (answer_at solved v r) (here.judged.before r k)) why
               (subst (λ b. FailsRow d.nodes d.decimals b v r (answer_at solved v r) why) (one_base d.nodes v (answered d solved) x.base here.base x.is_base here.is_base) x.fails)
 
-          at_row : (p r : ℕ) (why : Cause) → FailsAtRow d solved p r why → Dec (p < place) → Dec (p ≡ place) → Dec (r < fault.row) → line + 1 + fault.row ≤ row_line solved p r
+          at_row : (p r : ℕ) (why : Cause) → FailsAtRow d solved p r why → Dec (p < place) → Dec (p ≡ place) → Dec (r < fault.row) → line + 1 + fault.row ≤ line_of_row solved p r
           at_row p r why x (yes k) e h = absurd (accepted_clash d solved (slice_index solved.order p) (so.accepted p k) x.base x.is_base r x.row_within why x.fails)
           at_row p r why x (no k) (yes e) (yes h) = absurd (not_before r why (subst (λ p. FailsAtRow d solved p r why) e x) h)
-          at_row p r why x (no k) (yes e) (no h) = let same : answer_line solved p ≡ answer_line solved place = ap (answer_line solved) e in let before = so.line_is in omega (arith, same, before)
+          at_row p r why x (no k) (yes e) (no h) = let same : line_of_answer solved p ≡ line_of_answer solved place = ap (line_of_answer solved) e in let before = so.line_is in omega (arith, same, before)
           at_row p r why x (no k) (no e) h = let later = row_before d solved f place p fault.row (omega arith) l inside in let before = so.line_is in omega (arith, later, before)
 
           least : (other : ℕ) (why : Cause) → Kinds d solved other why → line + 1 + fault.row ≤ other
@@ -139,10 +139,10 @@ module _ (d : DiagramView) (solved : SolvedView) (f : FitsDiagram d solved) (rig
         gains = record { each = λ agent r h. subst (λ (g : Ratio). IsExpectedUtility d.nodes (10 ^ d.decimals) (answered d solved) agent g) (get_or_default solved.gains agent no_gain r (subst (λ n. agent < n) (sym f.gains) h)) (right_gains agent h) };
       }
 
-      line_end : line ≡ 3 + sum_by lines_of solved.answers
-      line_end = so.line_is ∙ ap (λ xs. 3 + sum_by lines_of xs) (ap (λ n. take n solved.answers) (same ∙ sym (counts d solved f)) ∙ take-length solved.answers)
+      line_end : line ≡ 3 + sum_by line_count solved.answers
+      line_end = so.line_is ∙ ap (λ xs. 3 + sum_by line_count xs) (ap (λ n. take n solved.answers) (same ∙ sym (counts d solved f)) ∙ take-length solved.answers)
 
-      pub gain_first : (agent : ℕ) → JudgesGains d (answered d solved) solved.gains (Some agent) → FailsFirst d solved (line + agent) Gain
+      pub gain_first : (agent : ℕ) → JudgesGains d (answered d solved) solved.gains (Some agent) → FailsAtFirst d solved (line + agent) Gain
       gain_first agent w = record {
         fails = (agent, ap (λ n. n + agent) line_end, record { within = w.within; fails = w.wrong });
         first = λ other why g. least other why (kind_of d solved other why g);
@@ -197,7 +197,7 @@ rows_room d solved f is place a h =
     omega (arith, rows, small)
 
 -- no line stands before the order
-pub order_first : (d : DiagramView) (solved : SolvedView) → (IsReliedFirst d.nodes solved.order → ⊥) → FailsFirst d solved 2 Order
+pub order_first : (d : DiagramView) (solved : SolvedView) → (IsReliedFirst d.nodes solved.order → ⊥) → FailsAtFirst d solved 2 Order
 order_first d solved wrong = record { fails = (refl, wrong); first = λ other why f. least other why (kind_of d solved other why f) }
   where
     least : (other : ℕ) (why : Cause) → Kinds d solved other why → 2 ≤ other

@@ -21,7 +21,7 @@ use Rattle.maid_laws.proofs.Booleans.{eqb_yes, eqb_no}
 use Rattle.maid_laws.proofs.Collapse.{Apart}
 use Rattle.maid_laws.proofs.Members.{apart_of, among_of, among_index, contains_of, index_of}
 use Rattle.maid_laws.proofs.OrderLaws.{one_place}
-use Rattle.tree_checker.specs.Verdicts.{lines_of, answer_line, row_line, gain_line}
+use Rattle.tree_checker.specs.Verdicts.{line_count, line_of_answer, line_of_row, line_of_gain}
 
 -- what stands for an answer that there is not
 abbrev pub no_answer : AnswerView
@@ -112,29 +112,29 @@ module _ (d : DiagramView) (solved : SolvedView) (f : FitsDiagram d solved) wher
       go (k, l, e) = subst (IsDecision d.nodes) e (decided k l)
 
   -- ---- lines
-  pub line_next : (place : ℕ) → place < length solved.order → answer_line solved (place + 1) ≡ answer_line solved place + 1 + rows_of d.nodes (slice_index solved.order place)
+  pub line_next : (place : ℕ) → place < length solved.order → line_of_answer solved (place + 1) ≡ line_of_answer solved place + 1 + rows_of d.nodes (slice_index solved.order place)
   line_next place l =
-      let step : sum_by lines_of (take (place + 1) solved.answers) ≡ sum_by lines_of (take place solved.answers) + lines_of (placed solved place) = sum_by_more lines_of solved.answers place no_answer (subst (λ n. place < n) (sym counts) l) in
+      let step : sum_by line_count (take (place + 1) solved.answers) ≡ sum_by line_count (take place solved.answers) + line_count (placed solved place) = sum_by_more line_count solved.answers place no_answer (subst (λ n. place < n) (sym counts) l) in
       let rows = rows_count place l in
       omega (arith, step, rows)
 
-  pub line_grows : (p q : ℕ) → p ≤ q → answer_line solved p ≤ answer_line solved q
+  pub line_grows : (p q : ℕ) → p ≤ q → line_of_answer solved p ≤ line_of_answer solved q
   line_grows p q l =
-      let part : sum_by lines_of (take p (take q solved.answers)) ≤ sum_by lines_of (take q solved.answers) = sum_by-take-le lines_of (take q solved.answers) p in
-      let same : sum_by lines_of (take p (take q solved.answers)) ≡ sum_by lines_of (take p solved.answers) = ap (sum_by lines_of) (take-take p q solved.answers l) in
+      let part : sum_by line_count (take p (take q solved.answers)) ≤ sum_by line_count (take q solved.answers) = sum_by-take-le line_count (take q solved.answers) p in
+      let same : sum_by line_count (take p (take q solved.answers)) ≡ sum_by line_count (take p solved.answers) = ap (sum_by line_count) (take-take p q solved.answers l) in
       omega (arith, part, same)
 
   -- a row stands before the answers below it, and before the agents
-  pub row_before : (p q row : ℕ) → p < q → p < length solved.order → row < rows_of d.nodes (slice_index solved.order p) → row_line solved p row < answer_line solved q
+  pub row_before : (p q row : ℕ) → p < q → p < length solved.order → row < rows_of d.nodes (slice_index solved.order p) → line_of_row solved p row < line_of_answer solved q
   row_before p q row l m n =
       let next = line_next p m in
       let grows = line_grows (p + 1) q (omega arith) in
       omega (arith, next, grows)
 
-  pub row_before_gains : (p row agent : ℕ) → p < length solved.order → row < rows_of d.nodes (slice_index solved.order p) → row_line solved p row < gain_line solved agent
+  pub row_before_gains : (p row agent : ℕ) → p < length solved.order → row < rows_of d.nodes (slice_index solved.order p) → line_of_row solved p row < line_of_gain solved agent
   row_before_gains p row agent m n =
       let next = line_next p m in
-      let all : sum_by lines_of (take (p + 1) solved.answers) ≤ sum_by lines_of solved.answers = sum_by-take-le lines_of solved.answers (p + 1) in
+      let all : sum_by line_count (take (p + 1) solved.answers) ≤ sum_by line_count solved.answers = sum_by-take-le line_count solved.answers (p + 1) in
       omega (arith, next, all)
 
   -- ---- room
@@ -152,17 +152,17 @@ module _ (d : DiagramView) (solved : SolvedView) (f : FitsDiagram d solved) wher
   rows_small is place l = rows_few is (slice_index solved.order place) (decided place l).within
 
   -- a line's number is small
-  pub lines_small : IsDiagram d → (place : ℕ) → place ≤ length solved.order → answer_line solved place ≤ 3 + place * 65537
+  pub lines_small : IsDiagram d → (place : ℕ) → place ≤ length solved.order → line_of_answer solved place ≤ 3 + place * 65537
   lines_small is zero l = subst (λ n. 3 + n ≤ 3 + 0 * 65537) (nothing solved.answers) (omega arith)
     where
-      nothing : (xs : List AnswerView) → 0 ≡ sum_by lines_of (take 0 xs)
+      nothing : (xs : List AnswerView) → 0 ≡ sum_by line_count (take 0 xs)
       nothing [] = refl
       nothing (x ∷ xs) = refl
   lines_small is (suc place) l =
       let before = lines_small is place (omega arith) in
       let next = line_next place (omega arith) in
       let rows = rows_small is place (omega arith) in
-      let same : answer_line solved (suc place) ≡ answer_line solved (place + 1) = ap (answer_line solved) (one place) in
+      let same : line_of_answer solved (suc place) ≡ line_of_answer solved (place + 1) = ap (line_of_answer solved) (one place) in
       omega (arith, before, next, rows, same)
     where
       one : (n : ℕ) → suc n ≡ n + 1

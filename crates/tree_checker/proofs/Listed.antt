@@ -1,10 +1,7 @@
 -- Lists of those of the first numbers that pass a test, and the goals of a decision among them.
-use Rattle.std.proofs.Common.{◌≡◌, ◌∙◌, ◌↔◌, ℕ, ◌+◌, ◌<◌, Bool, true, false, ◌&&◌, cond, List, [], ◌∷◌, ◌++◌, filter, length, sym, ap, refl, inl, inr}
-use Rattle.std.proofs.lemmas.List.{append-nil}
-use Rattle.std.specs.List.{range_with_len}
+use Rattle.std.proofs.Common.{◌≡◌, ◌∙◌, ◌↔◌, ℕ, ◌<◌, Bool, true, false, ◌&&◌, cond, List, [], ◌∷◌, filter, length, sym, ap, refl, inl, inr}
 use Rattle.finite_sums.specs.Members.{Among}
 use Rattle.finite_sums.proofs.Members.{any_is}
-use Rattle.finite_sums.proofs.Ranges.{filter_more}
 use Rattle.node_sets.specs.declared.sets.NodeSet.{NodeSet}
 use Rattle.node_sets.specs.Sets.{holds, IsIn}
 use Rattle.maid_model.specs.declared.diagrams.Kind.{Kind}
@@ -17,12 +14,6 @@ use Rattle.maid_model.specs.Scopes.{goals_of}
 use Rattle.maid_model.specs.Views.{NodeView}
 use Rattle.maid_laws.proofs.Rearranged.{numbered}
 use Rattle.part_laws.proofs.PartSums.{and_both}
-
-pub filter_yes : (p : ℕ → Bool) (n : ℕ) → p n ≡ true → filter p (range_with_len 0 (n + 1)) ≡ filter p (range_with_len 0 n) ++ n ∷ []
-filter_yes p n e = filter_more p n ∙ ap (λ b. filter p (range_with_len 0 n) ++ cond b (n ∷ []) []) e
-
-pub filter_no : (p : ℕ → Bool) (n : ℕ) → p n ≡ false → filter p (range_with_len 0 (n + 1)) ≡ filter p (range_with_len 0 n)
-filter_no p n e = filter_more p n ∙ ap (λ b. filter p (range_with_len 0 n) ++ cond b (n ∷ []) []) e ∙ append-nil (filter p (range_with_len 0 n))
 
 -- tests that say the same of each member keep the same
 filter_same : (p q : ℕ → Bool) (xs : List ℕ) → ((x : ℕ) → Among x xs → p x ≡ q x) → filter p xs ≡ filter q xs

@@ -14,7 +14,7 @@ use Rattle.tree_checker.specs.declared.verdicts.Cause.{Cause}
 use Rattle.tree_checker.specs.declared.verdicts.Cause.TheVariants.{Order, Choice, Worth, Never, Gain}
 use Rattle.tree_checker.specs.declared.verdicts.Verdict.TheVariants.{Accepted, Rejected}
 use Rattle.tree_checker.specs.Laws.{OneVerdict}
-use Rattle.tree_checker.specs.Verdicts.{FailsRow, FailsAtRow, FailsAtAgent, FailsInRows, FailsLine, answer_line, row_line, gain_line, no_gain}
+use Rattle.tree_checker.specs.Verdicts.{FailsRow, FailsAtRow, FailsAtAgent, FailsInRows, FailsLine, line_of_answer, line_of_row, line_of_gain, no_gain}
 use Rattle.tree_checker.proofs.LineLaws.{decided, row_before, row_before_gains}
 use Rattle.tree_checker.proofs.RowClash.{row_clash, one_cause, passes_of}
 
@@ -59,7 +59,7 @@ accepted_clash d solved v a base is row l cause f =
 pub data Kinds (d : DiagramView) (solved : SolvedView) (line : ℕ) (cause : Cause) : Type 0 where
   AtOrder : cause ≡ Order → line ≡ 2 → (IsReliedFirst d.nodes solved.order → ⊥) → Kinds d solved line cause
   AtRow : FailsInRows d solved line cause → Kinds d solved line cause
-  AtAgent : cause ≡ Gain → (agent : ℕ) → line ≡ gain_line solved agent → FailsAtAgent d solved agent → Kinds d solved line cause
+  AtAgent : cause ≡ Gain → (agent : ℕ) → line ≡ line_of_gain solved agent → FailsAtAgent d solved agent → Kinds d solved line cause
 
 pub kind_of : (d : DiagramView) (solved : SolvedView) (line : ℕ) (cause : Cause) → FailsLine d solved line cause → Kinds d solved line cause
 kind_of d solved line Order f = AtOrder refl f.0 f.1
@@ -71,7 +71,7 @@ kind_of d solved line Gain f = AtAgent refl f.0 f.1 f.2
 module _ (d : DiagramView) (solved : SolvedView) (f : FitsDiagram d solved) where
   -- rows of one line are one row, which fails for one cause
   same_row : (p q r s : ℕ) → p < length solved.order → q < length solved.order → r < rows_of d.nodes (slice_index solved.order p) → s < rows_of d.nodes (slice_index solved.order q)
-      → row_line solved p r ≡ row_line solved q s → (p ≡ q) × (r ≡ s)
+      → line_of_row solved p r ≡ line_of_row solved q s → (p ≡ q) × (r ≡ s)
   same_row p q r s hp hq hr hs e = go (dec_lt p q) (dec_lt q p)
     where
       go : Dec (p < q) → Dec (q < p) → (p ≡ q) × (r ≡ s)
@@ -83,7 +83,7 @@ module _ (d : DiagramView) (solved : SolvedView) (f : FitsDiagram d solved) wher
           places = omega arith
 
           rows : r ≡ s
-          rows = let h : answer_line solved p ≡ answer_line solved q = ap (answer_line solved) places in omega (arith, h)
+          rows = let h : line_of_answer solved p ≡ line_of_answer solved q = ap (line_of_answer solved) places in omega (arith, h)
 
   rows_once : (line : ℕ) (one other : Cause) → FailsInRows d solved line one → FailsInRows d solved line other → one ≡ other
   rows_once line one other (p, r, e, x) (q, s, g, y) =

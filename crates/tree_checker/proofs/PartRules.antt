@@ -9,7 +9,7 @@ use Rattle.maid_model.specs.Parts.{place_in, part_of, rule_in, rules_in, IsAnces
 use Rattle.maid_model.specs.Views.{NodeView, RuleView}
 use Rattle.maid_laws.proofs.Booleans.{eqb_yes, eqb_no}
 use Rattle.part_laws.proofs.PartNodes.{closed_of, kind_is, length_part}
-use Rattle.tree_checker.proofs.Listed.{filter_yes, filter_no}
+use Rattle.finite_sums.proofs.Ranges.{filter_yes, filter_no}
 
 -- ---- places
 pub place_first : (xs : List ℕ) (v p : ℕ) → p < length xs → get_or xs p 0 ≡ v → ((k : ℕ) → k < p → get_or xs k 0 ≢ v) → p ≡ place_in xs v

@@ -5,7 +5,7 @@ use Rattle.maid_model.specs.declared.answers.Ratio.{Ratio}
 use Rattle.maid_model.specs.declared.answers.Row.{Row}
 use Rattle.maid_model.specs.Accepted.{IsAcceptedRow}
 use Rattle.maid_model.specs.Answers.{IsFraction, no_row}
-use Rattle.maid_model.specs.Gains.{gain_at, mass_at}
+use Rattle.maid_model.specs.Gains.{gain_at, mass_at, gain_in}
 use Rattle.maid_model.specs.Graph.{IsGraph}
 use Rattle.maid_model.specs.Nodes.{IsDecision, rows_of, states_of}
 use Rattle.maid_model.specs.Parts.{part_of, place_in, rules_in, mass_left_out}
@@ -17,7 +17,7 @@ use Rattle.part_laws.specs.ScopeLaws.{ScopesAreParts}
 use Rattle.tree_checker.specs.declared.rows.RowFault.{RowFault}
 use Rattle.tree_checker.specs.declared.verdicts.Cause.{Cause}
 use Rattle.tree_checker.specs.declared.verdicts.Cause.TheVariants.{Order, Choice, Worth, Never, Gain}
-use Rattle.tree_checker.specs.Judged.{FailsListed, ListsScopeSums, JudgesRows, PassesIn, PassesListed, gain_in}
+use Rattle.tree_checker.specs.Judged.{FailsListed, ListsScopeSums, JudgesRows, PassesIn, PassesListed}
 use Rattle.tree_checker.specs.Verdicts.{FailsIn, FailsRow, HasBetter}
 use Rattle.tree_checker.proofs.RowClash.{accepted_of}
 use Rattle.tree_checker.proofs.ScopeParts.{rows_there, states_there}

@@ -16,7 +16,7 @@ use Rattle.maid_model.proofs.Picked.{world_in_range}
 use Rattle.maid_model.proofs.Summing.{abs_add}
 use Rattle.maid_model.proofs.Tables.{row_of-below}
 use Rattle.node_sets.specs.declared.sets.NodeSet.{NodeSet}
-use Rattle.tree_checker.specs.Walks.{HasRoomAt, greatest_at, utility_with, value_at}
+use Rattle.tree_checker.specs.Walks.{CanAddWorld, greatest_at, utility_with, value_at}
 use Rattle.tree_checker.proofs.WalkOpened.{order_opened}
 use Rattle.tree_checker.proofs.WalkTables.{cells_small, values_small}
 
@@ -98,7 +98,7 @@ mass_added masses cell t l c = go (ℕ_discrete c cell)
         ∙ ap (λ b. pos (slice_index masses c) +ℤ cond b (pos t) (pos 0)) (sym (eqb_no cell c (λ e. n (sym e))))
 
 -- the one utility after a node: its value fits, and its product with the weight beside what the cell has
-module _ (nodes : List NodeView) (marks : NodeSet) (utilities : MarksUtilities nodes marks) (u : ℕ) (inside : u < length nodes) (row m : ℕ) (q : ℤ) (gains : List ℤ) (masses : List ℕ) (room : HasRoomAt nodes (u ∷ []) m q gains masses) where
+module _ (nodes : List NodeView) (marks : NodeSet) (utilities : MarksUtilities nodes marks) (u : ℕ) (inside : u < length nodes) (row m : ℕ) (q : ℤ) (gains : List ℤ) (masses : List ℕ) (room : CanAddWorld nodes (u ∷ []) m q gains masses) where
   pub more_le : nat_abs (q +ℤ value_at nodes marks u row) ≤ greatest_utility nodes
   more_le = go (nat_abs (q +ℤ value_at nodes marks u row)) (nat_abs q) (nat_abs (value_at nodes marks u row)) (greatest_at nodes u) (abs_add q (value_at nodes marks u row)) (cells_small nodes marks utilities u inside row) room.utility
     where

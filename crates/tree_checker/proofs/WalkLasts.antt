@@ -14,7 +14,7 @@ use Rattle.maid_model.specs.Worlds.{IsWorld, world_of}
 use Rattle.maid_model.proofs.Picked.{world_length}
 use Rattle.node_sets.specs.declared.sets.NodeSet.{NodeSet}
 use Rattle.node_sets.specs.Sets.{holds}
-use Rattle.tree_checker.specs.Walks.{AreUtilities, HasRoom, HasRoomAt, IsDownward, factor_at, gain_with, mass_with, value_at, world_gain, world_mass}
+use Rattle.tree_checker.specs.Walks.{AreUtilities, HasRoomToWalk, CanAddWorld, IsDownward, factor_at, gain_with, mass_with, value_at, world_gain, world_mass}
 use Rattle.tree_checker.proofs.WalkEndings.{more_fits, picked_fits}
 use Rattle.tree_checker.proofs.WalkOpened.{room_same}
 use Rattle.tree_checker.proofs.WalkSteps.{WalkSoFar, next_room, next_world, set_world, walk_start, walk_step}
@@ -23,7 +23,7 @@ use Rattle.tree_checker.proofs.WalkTails.{ended_gain, ended_mass, tail_room}
 
 module _ (d : DiagramView) (is : IsDiagram d) (p : List RuleView) (prof : IsProfile d.nodes p) (out : ℕ) (marks : NodeSet) (utilities : MarksUtilities d.nodes marks)
     (v u : ℕ) (down : IsDownward d.nodes (v ∷ u ∷ [])) (m : ℕ) (q : ℤ) (xs0 : List ℕ) (world0 : IsWorld (counts_of d.nodes) xs0) (gains0 : List ℤ) (masses0 : List ℕ)
-    (room : HasRoom d.nodes p out (v ∷ u ∷ []) m q gains0 masses0) where
+    (room : HasRoomToWalk d.nodes p out (v ∷ u ∷ []) m q gains0 masses0) where
   abbrev w0 : World
   w0 = world_of xs0
 
@@ -47,10 +47,10 @@ module _ (d : DiagramView) (is : IsDiagram d) (p : List RuleView) (prof : IsProf
     are zero l = utility_here
     are (suc k) l = absurd (omega arith)
 
-    room_next : HasRoom d.nodes p out (u ∷ []) (m * t) (q +ℤ pos 0) gains masses
+    room_next : HasRoomToWalk d.nodes p out (u ∷ []) (m * t) (q +ℤ pos 0) gains masses
     room_next = next_room d is p prof out marks utilities v (u ∷ []) down m q before xs0 world0 gains0 masses0 room xs0 gains masses n s l t t_is (pos 0) zero_is (set xs0 v n) refl
 
-    room_at : HasRoomAt d.nodes (u ∷ []) (m * t) q gains masses
+    room_at : CanAddWorld d.nodes (u ∷ []) (m * t) q gains masses
     room_at = tail_room d is p prof out marks utilities (u ∷ []) (m * t) q gains masses (room_same d.nodes p out (u ∷ []) (m * t) gains masses (sym (+ℤ_idr q)) room_next)
 
     -- the value in the row, as it is listed

@@ -7,7 +7,7 @@ use Rattle.maid_model.specs.Diagrams.{greatest_number}
 use Rattle.maid_model.specs.Views.{NodeView, RuleView}
 use Rattle.maid_model.specs.Worlds.{world_of}
 use Rattle.node_sets.specs.declared.sets.NodeSet.{NodeSet}
-use Rattle.tree_checker.specs.Walks.{HasRoom, IsDownward, gain_with}
+use Rattle.tree_checker.specs.Walks.{HasRoomToWalk, IsDownward, gain_with}
 
 pub order_opened : (order : List ℕ) → 0 < length order → order ≡ slice_index_or order 0 0 ∷ take (length order - 1) (drop 1 order)
 order_opened [] l = absurd (omega arith)
@@ -30,9 +30,9 @@ pub down_with : (nodes : List NodeView) (order tail : List ℕ) → 0 < length o
 down_with nodes order tail l h = subst (IsDownward nodes) (whole_opened order tail l) h
 
 pub room_with : (nodes : List NodeView) (p : List RuleView) (out : ℕ) (order tail : List ℕ) → 0 < length order → (m : ℕ) (q r : ℤ) → q ≡ r → (gains : List ℤ) (masses : List ℕ)
-    → HasRoom nodes p out (order ++ tail) m r gains masses → HasRoom nodes p out (slice_index_or order 0 0 ∷ (take (length order - 1) (drop 1 order) ++ tail)) m q gains masses
+    → HasRoomToWalk nodes p out (order ++ tail) m r gains masses → HasRoomToWalk nodes p out (slice_index_or order 0 0 ∷ (take (length order - 1) (drop 1 order) ++ tail)) m q gains masses
 room_with nodes p out order tail l m q r e gains masses h =
-    subst (λ z. HasRoom nodes p out (slice_index_or order 0 0 ∷ (take (length order - 1) (drop 1 order) ++ tail)) m z gains masses) (sym e) (subst (λ vs. HasRoom nodes p out vs m r gains masses) (whole_opened order tail l) h)
+    subst (λ z. HasRoomToWalk nodes p out (slice_index_or order 0 0 ∷ (take (length order - 1) (drop 1 order) ++ tail)) m z gains masses) (sym e) (subst (λ vs. HasRoomToWalk nodes p out vs m r gains masses) (whole_opened order tail l) h)
 
 -- nothing stands before the tail
 pub none_before : (order tail : List ℕ) → length order < 1 → order ++ tail ≡ tail
@@ -45,8 +45,8 @@ small_fits z h = fits_signed_from_abs w128 z (less (nat_abs z) h)
     less : (n : ℕ) → n ≤ greatest_number → n < 2 ^ 127
     less n h = omega arith
 
-pub room_same : (nodes : List NodeView) (p : List RuleView) (out : ℕ) (vs : List ℕ) (m : ℕ) (gains : List ℤ) (masses : List ℕ) {q r : ℤ} → r ≡ q → HasRoom nodes p out vs m q gains masses → HasRoom nodes p out vs m r gains masses
-room_same nodes p out vs m gains masses e h = subst (λ z. HasRoom nodes p out vs m z gains masses) (sym e) h
+pub room_same : (nodes : List NodeView) (p : List RuleView) (out : ℕ) (vs : List ℕ) (m : ℕ) (gains : List ℤ) (masses : List ℕ) {q r : ℤ} → r ≡ q → HasRoomToWalk nodes p out vs m q gains masses → HasRoomToWalk nodes p out vs m r gains masses
+room_same nodes p out vs m gains masses e h = subst (λ z. HasRoomToWalk nodes p out vs m z gains masses) (sym e) h
 
 pub gains_same : (nodes : List NodeView) (p : List RuleView) (out : ℕ) (marks : NodeSet) (vs : List ℕ) (m : ℕ) (xs : List ℕ) (gains gains1 : List ℤ) {q r : ℤ} → r ≡ q
     → ((c : ℕ) → slice_index_or gains1 c (pos 0) ≡ slice_index_or gains c (pos 0) +ℤ gain_with nodes p out marks vs m r c (world_of xs))

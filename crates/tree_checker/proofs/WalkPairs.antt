@@ -10,7 +10,7 @@ use Rattle.maid_model.specs.Views.{DiagramView, NodeView, RuleView}
 use Rattle.maid_model.specs.Worlds.{IsWorld, world_of}
 use Rattle.maid_model.proofs.Picked.{world_length}
 use Rattle.node_sets.specs.declared.sets.NodeSet.{NodeSet}
-use Rattle.tree_checker.specs.Walks.{HasRoom, IsBefore, IsDownward, IsLast, MayBeBefore, last_nodes, with_before}
+use Rattle.tree_checker.specs.Walks.{HasRoomToWalk, IsWeighedBefore, IsDownward, IsLast, MayBeBefore, last_nodes, with_before}
 use Rattle.tree_checker.specs.declared.settings.Before.{Before}
 use Rattle.tree_checker.specs.declared.settings.Last.{Last}
 use Rattle.tree_checker.proofs.WalkSteps.{WalkSoFar, set_is_world, set_world, walk_start}
@@ -20,16 +20,16 @@ module _ (last : Last) (before : Before) (is : last.before ≡ Some before) wher
   pub pair_nodes : last_nodes last ≡ before.node ∷ last.node ∷ last.utility ∷ []
   pair_nodes = ap (λ b. with_before b (last.node ∷ last.utility ∷ [])) is
 
-pub before_is : (nodes : List NodeView) (out : ℕ) (marks : NodeSet) (last : Last) (before : Before) → last.before ≡ Some before → IsLast nodes out marks last → IsBefore nodes out last.node last.utility before
+pub before_is : (nodes : List NodeView) (out : ℕ) (marks : NodeSet) (last : Last) (before : Before) → last.before ≡ Some before → IsLast nodes out marks last → IsWeighedBefore nodes out last.node last.utility before
 before_is nodes out marks last before is h = subst (MayBeBefore nodes out last.node last.utility) is h.before
 
 pub pair_room : (nodes : List NodeView) (p : List RuleView) (out m : ℕ) (q : ℤ) (gains : List ℤ) (masses : List ℕ) (last : Last) (before : Before) → last.before ≡ Some before
-    → HasRoom nodes p out (last_nodes last) m q gains masses → HasRoom nodes p out (before.node ∷ last.node ∷ last.utility ∷ []) m q gains masses
-pair_room nodes p out m q gains masses last before is room = subst (λ vs. HasRoom nodes p out vs m q gains masses) (pair_nodes last before is) room
+    → HasRoomToWalk nodes p out (last_nodes last) m q gains masses → HasRoomToWalk nodes p out (before.node ∷ last.node ∷ last.utility ∷ []) m q gains masses
+pair_room nodes p out m q gains masses last before is room = subst (λ vs. HasRoomToWalk nodes p out vs m q gains masses) (pair_nodes last before is) room
 
 module _ (d : DiagramView) (is : IsDiagram d) (p : List RuleView) (prof : IsProfile d.nodes p) (out : ℕ) (marks : NodeSet) (utilities : MarksUtilities d.nodes marks)
     (x v u : ℕ) (down : IsDownward d.nodes (x ∷ v ∷ u ∷ [])) (m : ℕ) (q : ℤ) (before : ℕ) (xs0 : List ℕ) (world0 : IsWorld (counts_of d.nodes) xs0) (gains0 : List ℤ) (masses0 : List ℕ)
-    (room : HasRoom d.nodes p out (x ∷ v ∷ u ∷ []) m q gains0 masses0) (xs : List ℕ) (xs_is : xs ≡ set xs0 x 0) where
+    (room : HasRoomToWalk d.nodes p out (x ∷ v ∷ u ∷ []) m q gains0 masses0) (xs : List ℕ) (xs_is : xs ≡ set xs0 x 0) where
   pub pairs_start : before ≡ get_or xs0 x before → WalkSoFar d.nodes p out marks x (v ∷ u ∷ []) m q before xs0 gains0 masses0 xs gains0 masses0 0
   pairs_start before_at = record { back = ap (λ l. set l x before) xs_is ∙ set-set xs0 x 0 before ∙ as_it_was.back; gain = as_it_was.gain; mass = as_it_was.mass; gain_count = refl; mass_count = refl }
     where

@@ -16,7 +16,7 @@ use Rattle.maid_model.proofs.Picked.{world_in_range, world_length}
 use Rattle.maid_model.proofs.Tables.{row_from_other, row_of-below, step_below}
 use Rattle.tree_checker.specs.declared.settings.Before.{Before}
 use Rattle.tree_checker.specs.declared.settings.Places.{Places}
-use Rattle.tree_checker.specs.Walks.{ArePlaces, IsBefore, cell_step, row_step}
+use Rattle.tree_checker.specs.Walks.{ArePlaces, IsWeighedBefore, cell_step, row_step}
 use Rattle.tree_checker.proofs.StepLaws.{cell_apart, row_apart}
 use Rattle.tree_checker.proofs.WalkCells.{some_cell}
 
@@ -148,7 +148,7 @@ module _ (d : DiagramView) (is : IsDiagram d) where
         cell_fits l = cell_most out there (with_state w0 v s) (range_at s l) (places.cell + s * t) cell_at
 
   -- ---- from state to state of the node before it
-  module _ (out v u : ℕ) (there : out ≤ length d.nodes) (v_in : v < length d.nodes) (u_in : u < length d.nodes) (before : Before) (steps : IsBefore d.nodes out v u before) (other : before.node ≢ v)
+  module _ (out v u : ℕ) (there : out ≤ length d.nodes) (v_in : v < length d.nodes) (u_in : u < length d.nodes) (before : Before) (steps : IsWeighedBefore d.nodes out v u before) (other : before.node ≢ v)
       (w : World) (range : InRange (states_of d.nodes) w) (places : Places) (are : ArePlaces d.nodes out v u (with_state w before.node 0) places) (s : ℕ) where
     swapped : (n : ℕ) → with_state (with_state w v 0) before.node n ≡ with_state (with_state w before.node n) v 0
     swapped n = sym (with_swap w before.node n v 0 other)

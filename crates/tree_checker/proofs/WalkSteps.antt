@@ -29,7 +29,7 @@ use Rattle.maid_model.proofs.Tables.{row_from_other, row_of-below, step_below}
 use Rattle.maid_model.proofs.Views.{counts_at}
 use Rattle.maid_model.proofs.Weighing.{base_positive, product_positive}
 use Rattle.node_sets.specs.declared.sets.NodeSet.{NodeSet}
-use Rattle.tree_checker.specs.Walks.{HasRoom, IsDownward, factor_at, gain_with, greatest_at, mass_left, mass_with, utility_with, value_at, weight_with}
+use Rattle.tree_checker.specs.Walks.{HasRoomToWalk, IsDownward, factor_at, gain_with, greatest_at, mass_left, mass_with, utility_with, value_at, weight_with}
 use Rattle.tree_checker.proofs.Walking.{carried, nothing, below_le, states_le, firsts, firsts_all, firsts_grow}
 use Rattle.tree_checker.proofs.WalkTables.{factors_later, factors_positive, factors_total, factor_total, values_later, values_small}
 
@@ -73,7 +73,7 @@ pub record WalkSoFar (nodes : List NodeView) (p : List RuleView) (out : ℕ) (ma
 
 module _ (d : DiagramView) (is : IsDiagram d) (p : List RuleView) (prof : IsProfile d.nodes p) (out : ℕ) (marks : NodeSet) (utilities : MarksUtilities d.nodes marks)
     (v : ℕ) (rest : List ℕ) (down : IsDownward d.nodes (v ∷ rest)) (m : ℕ) (q : ℤ) (before : ℕ) (xs0 : List ℕ) (world0 : IsWorld (counts_of d.nodes) xs0) (gains0 : List ℤ) (masses0 : List ℕ)
-    (room : HasRoom d.nodes p out (v ∷ rest) m q gains0 masses0) where
+    (room : HasRoomToWalk d.nodes p out (v ∷ rest) m q gains0 masses0) where
   abbrev count : ℕ → ℕ
   count = states_of d.nodes
 
@@ -199,7 +199,7 @@ module _ (d : DiagramView) (is : IsDiagram d) (p : List RuleView) (prof : IsProf
         go : (b r : ℕ) → 0 < b → m * r ≤ m * (b * r)
         go b r h = let one : r ≤ b * r = omega (arith, mul-le-mul_right r h) in mul-le-mul_left m one
 
-    pub utility_room : HasRoom d.nodes p out rest m (q +ℤ u) gains0 masses0
+    pub utility_room : HasRoomToWalk d.nodes p out rest m (q +ℤ u) gains0 masses0
     utility_room = record {
       gain = λ c. first (nat_abs (slice_index_or gains0 c (pos 0))) (mass_left d.nodes p out rest m) (mass_left d.nodes p out (v ∷ rest) m) (greatest_utility d.nodes) less_left (room.gain c);
       mass = λ c. second (slice_index masses0 c) (mass_left d.nodes p out rest m) (mass_left d.nodes p out (v ∷ rest) m) less_left (room.mass c);
@@ -356,7 +356,7 @@ module _ (d : DiagramView) (is : IsDiagram d) (p : List RuleView) (prof : IsProf
           u_at : u ≡ value v w1
           u_at = u_is ∙ ap (value_at d.nodes marks v) (sym (row_same n))
 
-          pub next_room : HasRoom d.nodes p out rest (m * t) (q +ℤ u) gains masses
+          pub next_room : HasRoomToWalk d.nodes p out rest (m * t) (q +ℤ u) gains masses
           next_room = record { gain = gain_room; mass = mass_room; utility = sum_room u u_is; most = room.most }
 
           -- a state with weight adds what the rest of the walk added

@@ -19,7 +19,7 @@ use Rattle.maid_model.specs.Views.{DiagramView, NodeView, RuleView}
 use Rattle.maid_model.specs.Worlds.{IsWorld, world_of}
 use Rattle.maid_model.proofs.Weighing.{base_positive, product_positive}
 use Rattle.node_sets.specs.declared.sets.NodeSet.{NodeSet}
-use Rattle.tree_checker.specs.Walks.{AreUtilities, HasRoom, HasRoomAt, HoldsFactors, IsDownward, factor_at, gain_with, mass_with, world_gain, world_mass}
+use Rattle.tree_checker.specs.Walks.{AreUtilities, HasRoomToWalk, CanAddWorld, HoldsFactors, IsDownward, factor_at, gain_with, mass_with, world_gain, world_mass}
 use Rattle.tree_checker.proofs.WalkSteps.{utility_gain, utility_mass, utility_room}
 
 -- ---- where the tail begins
@@ -63,7 +63,7 @@ module _ (d : DiagramView) (is : IsDiagram d) (p : List RuleView) (prof : IsProf
   rest_utilities : (v : ℕ) (vs : List ℕ) → AreUtilities d.nodes (v ∷ vs) → AreUtilities d.nodes vs
   rest_utilities v vs h k l = h (suc k) (omega arith)
 
-  pub tail_gain : (vs : List ℕ) → AreUtilities d.nodes vs → IsDownward d.nodes vs → (m : ℕ) (q : ℤ) (xs : List ℕ) → IsWorld (counts_of d.nodes) xs → (gains : List ℤ) (masses : List ℕ) → HasRoom d.nodes p out vs m q gains masses
+  pub tail_gain : (vs : List ℕ) → AreUtilities d.nodes vs → IsDownward d.nodes vs → (m : ℕ) (q : ℤ) (xs : List ℕ) → IsWorld (counts_of d.nodes) xs → (gains : List ℤ) (masses : List ℕ) → HasRoomToWalk d.nodes p out vs m q gains masses
       → (c : ℕ) → gain_with d.nodes p out marks vs m q c (world_of xs) ≡ world_gain d.nodes out marks vs m q c (world_of xs)
   tail_gain [] h down m q xs world gains masses room c = ap (λ z. cond (eqb (cell_of d.nodes out (world_of xs)) c) (z *ℤ (q +ℤ pos 0)) (pos 0)) (mul_one (pos m))
   tail_gain (v ∷ vs) h down m q xs world gains masses room c =
@@ -72,7 +72,7 @@ module _ (d : DiagramView) (is : IsDiagram d) (p : List RuleView) (prof : IsProf
       (utility_room d is p prof out marks utilities v vs down m q 0 xs world gains masses room (h 0 (omega arith)) (marked_value d.nodes marks v (world_of xs)) refl) c
       ∙ ap (λ z. cond (eqb (cell_of d.nodes out (world_of xs)) c) (pos m *ℤ z) (pos 0)) (+ℤ_assoc q (marked_value d.nodes marks v (world_of xs)) (sum_each (λ u. marked_value d.nodes marks u (world_of xs)) vs))
 
-  pub tail_mass : (vs : List ℕ) → AreUtilities d.nodes vs → IsDownward d.nodes vs → (m : ℕ) (q : ℤ) (xs : List ℕ) → IsWorld (counts_of d.nodes) xs → (gains : List ℤ) (masses : List ℕ) → HasRoom d.nodes p out vs m q gains masses
+  pub tail_mass : (vs : List ℕ) → AreUtilities d.nodes vs → IsDownward d.nodes vs → (m : ℕ) (q : ℤ) (xs : List ℕ) → IsWorld (counts_of d.nodes) xs → (gains : List ℤ) (masses : List ℕ) → HasRoomToWalk d.nodes p out vs m q gains masses
       → (c : ℕ) → mass_with d.nodes p out vs m c (world_of xs) ≡ world_mass d.nodes out m c (world_of xs)
   tail_mass [] h down m q xs world gains masses room c = ap (λ z. cond (eqb (cell_of d.nodes out (world_of xs)) c) z (pos 0)) (mul_one (pos m))
   tail_mass (v ∷ vs) h down m q xs world gains masses room c =
@@ -81,7 +81,7 @@ module _ (d : DiagramView) (is : IsDiagram d) (p : List RuleView) (prof : IsProf
       (utility_room d is p prof out marks utilities v vs down m q 0 xs world gains masses room (h 0 (omega arith)) (marked_value d.nodes marks v (world_of xs)) refl) c
 
   -- what has room with all utilities of the tail has room at each world
-  pub tail_room : (vs : List ℕ) (m : ℕ) (q : ℤ) (gains : List ℤ) (masses : List ℕ) → HasRoom d.nodes p out vs m q gains masses → HasRoomAt d.nodes vs m q gains masses
+  pub tail_room : (vs : List ℕ) (m : ℕ) (q : ℤ) (gains : List ℤ) (masses : List ℕ) → HasRoomToWalk d.nodes p out vs m q gains masses → CanAddWorld d.nodes vs m q gains masses
   tail_room vs m q gains masses room = record {
     gain = λ c. first (nat_abs (slice_index_or gains c (pos 0))) (nat_product_over (base_total d.nodes p out) vs) some (room.gain c);
     mass = λ c. second (slice_index masses c) (nat_product_over (base_total d.nodes p out) vs) some (room.mass c);
@@ -103,14 +103,14 @@ module _ (d : DiagramView) (is : IsDiagram d) (p : List RuleView) (prof : IsProf
 
   -- the same with nothing left before the tail, by the number that the code adds
   pub ended_gain : (rest tail : List ℕ) → rest ++ tail ≡ tail → AreUtilities d.nodes tail → IsDownward d.nodes (rest ++ tail) → (m : ℕ) (q r : ℤ) → r ≡ q → (xs : List ℕ) → IsWorld (counts_of d.nodes) xs → (gains : List ℤ) (masses : List ℕ)
-      → HasRoom d.nodes p out (rest ++ tail) m q gains masses → (c : ℕ) → world_gain d.nodes out marks tail m r c (world_of xs) ≡ gain_with d.nodes p out marks (rest ++ tail) m q c (world_of xs)
+      → HasRoomToWalk d.nodes p out (rest ++ tail) m q gains masses → (c : ℕ) → world_gain d.nodes out marks tail m r c (world_of xs) ≡ gain_with d.nodes p out marks (rest ++ tail) m q c (world_of xs)
   ended_gain rest tail none h down m q r e xs world gains masses room c =
       ap (λ z. world_gain d.nodes out marks tail m z c (world_of xs)) e
-      ∙ sym (tail_gain tail h (down_after d.nodes rest tail down) m q xs world gains masses (subst (λ vs. HasRoom d.nodes p out vs m q gains masses) none room) c)
+      ∙ sym (tail_gain tail h (down_after d.nodes rest tail down) m q xs world gains masses (subst (λ vs. HasRoomToWalk d.nodes p out vs m q gains masses) none room) c)
       ∙ ap (λ vs. gain_with d.nodes p out marks vs m q c (world_of xs)) (sym none)
 
   pub ended_mass : (rest tail : List ℕ) → rest ++ tail ≡ tail → AreUtilities d.nodes tail → IsDownward d.nodes (rest ++ tail) → (m : ℕ) (q : ℤ) (xs : List ℕ) → IsWorld (counts_of d.nodes) xs → (gains : List ℤ) (masses : List ℕ)
-      → HasRoom d.nodes p out (rest ++ tail) m q gains masses → (c : ℕ) → world_mass d.nodes out m c (world_of xs) ≡ mass_with d.nodes p out (rest ++ tail) m c (world_of xs)
+      → HasRoomToWalk d.nodes p out (rest ++ tail) m q gains masses → (c : ℕ) → world_mass d.nodes out m c (world_of xs) ≡ mass_with d.nodes p out (rest ++ tail) m c (world_of xs)
   ended_mass rest tail none h down m q xs world gains masses room c =
-      sym (tail_mass tail h (down_after d.nodes rest tail down) m q xs world gains masses (subst (λ vs. HasRoom d.nodes p out vs m q gains masses) none room) c)
+      sym (tail_mass tail h (down_after d.nodes rest tail down) m q xs world gains masses (subst (λ vs. HasRoomToWalk d.nodes p out vs m q gains masses) none room) c)
       ∙ ap (λ vs. mass_with d.nodes p out vs m c (world_of xs)) (sym none)

@@ -20,7 +20,7 @@ use Rattle.maid_model.specs.Views.{DiagramView, RuleView}
 use Rattle.maid_model.specs.Worlds.{first_world, world_of}
 use Rattle.maid_model.proofs.Adding.{room_of, base_some}
 use Rattle.node_sets.specs.declared.sets.NodeSet.{NodeSet}
-use Rattle.tree_checker.specs.Walks.{HasRoom, IsDownward, ListsCells, cell_gain, cell_mass, gain_with, greatest_at, mass_with, mass_left}
+use Rattle.tree_checker.specs.Walks.{HasRoomToWalk, IsDownward, ListsCells, cell_gain, cell_mass, gain_with, greatest_at, mass_with, mass_left}
 use Rattle.tree_checker.proofs.Walking.{below_le}
 use Rattle.tree_checker.proofs.WalkOrders.{each_shuffled, nat_product_shuffled, nat_sum_shuffled, order_down, order_shuffled}
 use Rattle.tree_checker.proofs.WalkTables.{factors_later, factors_positive, factors_total, values_later, values_small}
@@ -60,7 +60,7 @@ module _ (d : DiagramView) (is : IsDiagram d) (p : List RuleView) (prof : IsProf
   same_le n = omega arith
 
   -- the start
-  pub first_room : (n k : ℕ) → HasRoom d.nodes p out order 1 (pos 0) (replicate n (pos 0)) (replicate k 0)
+  pub first_room : (n k : ℕ) → HasRoomToWalk d.nodes p out order 1 (pos 0) (replicate n (pos 0)) (replicate k 0)
   first_room n k =
       let room = room_of d (base_mass d.nodes p out) (base_some d is p prof out) fits in
       record {

@@ -5,7 +5,7 @@ use Rattle.maid_model.specs.declared.answers.Row.{Row}
 use Rattle.maid_model.specs.Views.{DiagramView, RuleView, NodeView}
 use Rattle.maid_model.specs.Nodes.{states_of, rows_of}
 use Rattle.maid_model.specs.Diagrams.{greatest_number}
-use Rattle.maid_model.specs.Gains.{gain_at, mass_at}
+use Rattle.maid_model.specs.Gains.{gain_at, gain_in, mass_at}
 use Rattle.maid_model.specs.Parts.{part_diagram, rules_in, with_ancestors}
 use Rattle.maid_model.specs.Scopes.{scope_of, rules_in_scope, place_in_scope}
 use Rattle.maid_model.specs.Answers.{IsBase, IsFraction, IsExpectedUtility, no_row}
@@ -55,10 +55,6 @@ HasMassEachRow nodes v masses = length masses.items ≡ rows_of nodes v
 abbrev pub HasFirstCells : List NodeView → ℕ → List ℕ → Vec ℕ → Type 0
 HasFirstCells nodes v cells masses = AreFirstCells nodes v cells masses.items
 
--- each of the gains is within the limits
-abbrev pub AreSmallGains : List ℤ → Type 0
-AreSmallGains gains = (i : ℕ) → nat_abs (slice_index_or gains i (pos 0)) ≤ greatest_number
-
 -- the rule, as that of a decision with this number
 abbrev pub rule_as : RuleView → ℕ → RuleView
 rule_as rule v = record { decision = v; total = rule.total; weights = rule.weights }
@@ -96,10 +92,6 @@ JudgesRow gain states mass scale r (Some cause) = FailsIn gain states mass scale
 -- what a state gains, in a list with a number for each
 abbrev pub listed_gain : List ℤ → ℕ → ℤ
 listed_gain gains s = slice_index_or gains s (pos 0)
-
--- what a state gains in a row, in a list with a number for each row and state, the state fastest
-abbrev pub gain_in : List ℤ → ℕ → ℕ → ℕ → ℤ
-gain_in gains states row s = slice_index_or gains (row * states + s) (pos 0)
 
 -- the list is that of the row's states
 abbrev pub ListsRow : List ℤ → ℕ → ℕ → List ℤ → Type 0

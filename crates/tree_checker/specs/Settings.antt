@@ -4,15 +4,15 @@ use Rattle.diagram_graph.specs.Cycles.{lists_in}
 use Rattle.finite_sums.specs.Sums.{World}
 use Rattle.maid_model.specs.Nodes.{rows_of, states_of}
 use Rattle.maid_model.specs.Worlds.{world_of}
-use Rattle.tree_checker.specs.Walks.{HasRoom, HasRoomAt, IsSetting, gain_with, mass_with, world_gain, world_mass, ArePlaces, IsDownward, IsEnding, IsLast, ending, last_nodes, last_two}
+use Rattle.tree_checker.specs.Walks.{HasRoomToWalk, CanAddWorld, IsWalkSetting, gain_with, mass_with, world_gain, world_mass, ArePlaces, IsDownward, IsEnding, IsLast, ending, last_nodes, last_two}
 use Rattle.tree_checker.specs.declared.settings.Setting.{Setting}
 use Rattle.tree_checker.specs.declared.settings.Last.{Last}
 use Rattle.tree_checker.specs.declared.settings.Places.{Places}
 
 -- what the setting has is right
-abbrev pub HoldsSetting : Setting → Type 0
-HoldsSetting s =
-    IsSetting s.diagram.now s.profile.now (lists_in s.factors.now) s.marks.now s.left_out
+abbrev pub HoldsWalkSetting : Setting → Type 0
+HoldsWalkSetting s =
+    IsWalkSetting s.diagram.now s.profile.now (lists_in s.factors.now) s.marks.now s.left_out
 
 -- so many are the cells of the decision left out
 abbrev pub IsCellCount : Setting → ℕ → Type 0
@@ -22,7 +22,7 @@ IsCellCount s n =
 -- what the listed nodes can still add fits
 abbrev pub HasRoomIn : Setting → List ℕ → ℕ → ℤ → List ℤ → List ℕ → Type 0
 HasRoomIn s vs product sum gains masses =
-    HasRoom s.diagram.now.nodes s.profile.now s.left_out vs product sum gains masses
+    HasRoomToWalk s.diagram.now.nodes s.profile.now s.left_out vs product sum gains masses
 
 -- each cell's gain rises by weight times utilities, summed over the states of the listed nodes, where the others have
 -- those of the world
@@ -135,4 +135,4 @@ AddsWorldMass s product world before after = (c : ℕ) → pos (slice_index afte
 -- it can be added
 abbrev pub HasRoomForWorld : Setting → ℕ → ℤ → List ℤ → List ℕ → Type 0
 HasRoomForWorld s product utility gains masses =
-    HasRoomAt s.diagram.now.nodes s.tail.now product utility gains masses
+    CanAddWorld s.diagram.now.nodes s.tail.now product utility gains masses

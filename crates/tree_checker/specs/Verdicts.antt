@@ -13,20 +13,20 @@ use Rattle.tree_checker.specs.declared.verdicts.Verdict.{Verdict}
 use Rattle.tree_checker.specs.declared.verdicts.Verdict.TheVariants.{Accepted, Rejected}
 
 -- how many lines an answer has: the decision's, and one for each row
-abbrev pub lines_of : AnswerView → ℕ
-lines_of answer = 1 + length answer.rows
+abbrev pub line_count : AnswerView → ℕ
+line_count answer = 1 + length answer.rows
 
 -- The lines are counted from 1. The first is the head and the second the order; then the answers stand in their order.
-abbrev pub answer_line : SolvedView → ℕ → ℕ
-answer_line solved place = 3 + sum_by lines_of (take place solved.answers)
+abbrev pub line_of_answer : SolvedView → ℕ → ℕ
+line_of_answer solved place = 3 + sum_by line_count (take place solved.answers)
 
 -- the line of a row of the answer at that place: it stands below the decision's line
-abbrev pub row_line : SolvedView → ℕ → ℕ → ℕ
-row_line solved place row = answer_line solved place + 1 + row
+abbrev pub line_of_row : SolvedView → ℕ → ℕ → ℕ
+line_of_row solved place row = line_of_answer solved place + 1 + row
 
 -- the line of an agent: it stands after all answers
-abbrev pub gain_line : SolvedView → ℕ → ℕ
-gain_line solved agent = 3 + sum_by lines_of solved.answers + agent
+abbrev pub line_of_gain : SolvedView → ℕ → ℕ
+line_of_gain solved agent = 3 + sum_by line_count solved.answers + agent
 
 -- some state has a greater gain than the choice
 abbrev pub HasBetter : (ℕ → ℤ) → ℕ → ℕ → Type 0
@@ -73,7 +73,7 @@ pub record FailsAtAgent (d : DiagramView) (solved : SolvedView) (agent : ℕ) : 
 
 -- the line is that of a row which fails for the cause
 abbrev pub FailsInRows : DiagramView → SolvedView → ℕ → Cause → Type 0
-FailsInRows d solved line cause = (place : ℕ) × (row : ℕ) × (line ≡ row_line solved place row)
+FailsInRows d solved line cause = (place : ℕ) × (row : ℕ) × (line ≡ line_of_row solved place row)
     × FailsAtRow d solved place row cause
 
 -- The line fails for the cause: the second for the order, a row's for its choice, worth or mark, an agent's for its
@@ -84,10 +84,10 @@ FailsLine d solved line Choice = FailsInRows d solved line Choice
 FailsLine d solved line Worth = FailsInRows d solved line Worth
 FailsLine d solved line Never = FailsInRows d solved line Never
 FailsLine d solved line Gain =
-    (agent : ℕ) × (line ≡ gain_line solved agent) × FailsAtAgent d solved agent
+    (agent : ℕ) × (line ≡ line_of_gain solved agent) × FailsAtAgent d solved agent
 
 -- the line fails for the cause, and no line before it fails
-pub record FailsFirst
+pub record FailsAtFirst
     (d : DiagramView) (solved : SolvedView) (line : ℕ) (cause : Cause) : Type 0 where
   pub fails : FailsLine d solved line cause
   pub first : (other : ℕ) (why : Cause) → FailsLine d solved other why → line ≤ other
@@ -95,4 +95,4 @@ pub record FailsFirst
 -- The verdict on what a report shows: it is accepted, or names the first line that fails and the cause.
 abbrev pub IsVerdict : DiagramView → SolvedView → Verdict → Type 0
 IsVerdict d solved Accepted = IsAccepted d solved
-IsVerdict d solved (Rejected line cause) = FailsFirst d solved line cause
+IsVerdict d solved (Rejected line cause) = FailsAtFirst d solved line cause

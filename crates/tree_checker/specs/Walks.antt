@@ -9,7 +9,7 @@ use Rattle.maid_model.specs.declared.diagrams.Kind.TheVariants.{Decision, Utilit
 use Rattle.maid_model.specs.Bounds.{HasRoomForWeight}
 use Rattle.maid_model.specs.Diagrams.{IsDiagram, greatest_number}
 use Rattle.maid_model.specs.Gains.{base_mass, base_total, greatest_abs, greatest_utility, sum_worlds, table_without, weight_without}
-use Rattle.maid_model.specs.Nodes.{is_utility, is_utility_of, node_at, parents_of, rows_of, states_of}
+use Rattle.maid_model.specs.Nodes.{is_utility, node_at, parents_of, rows_of, states_of}
 use Rattle.maid_model.specs.Private.{MarksUtilities, marked_utility, marked_value}
 use Rattle.maid_model.specs.Profiles.{IsProfile}
 use Rattle.maid_model.specs.Tables.{cell_of, row_from, row_of, table_by, weights_of}
@@ -35,8 +35,8 @@ factor_at nodes p d v cell = if v == d
     else table_by (node_at nodes v).kind (node_at nodes v).cells (weights_of p v) cell
 
 -- the same by the weights of v's rule
-abbrev pub factor_by : List NodeView → List ℕ → ℕ → ℕ → ℕ → ℤ
-factor_by nodes weights d v cell =
+abbrev pub factor_by_weights : List NodeView → List ℕ → ℕ → ℕ → ℕ → ℤ
+factor_by_weights nodes weights d v cell =
     if v == d then pos 1 else table_by (node_at nodes v).kind (node_at nodes v).cells weights cell
 
 -- v's factor at each of its cells
@@ -158,7 +158,7 @@ abbrev pub AreUtilities : List NodeView → List ℕ → Type 0
 AreUtilities nodes vs = (k : ℕ) → k < length vs → (node_at nodes (slice_index vs k)).kind ≡ Utility
 
 -- what a walk looks at is right
-pub record IsSetting
+pub record IsWalkSetting
     (d : DiagramView) (p : List RuleView) (lists : List (List ℕ)) (marks : NodeSet) (out : ℕ)
     : Type 0 where
   pub diagram : IsDiagram d
@@ -184,7 +184,7 @@ places_further places steps states = record {
 }
 
 -- a node that weighs something, and how far apart its states put those places
-pub record IsBefore (nodes : List NodeView) (out v u : ℕ) (before : Before) : Type 0 where
+pub record IsWeighedBefore (nodes : List NodeView) (out v u : ℕ) (before : Before) : Type 0 where
   pub weighs : (node_at nodes before.node).kind ≢ Utility
   pub factor : before.steps.factor ≡ cell_step nodes v before.node
   pub row : before.steps.row ≡ row_step nodes u before.node
@@ -193,7 +193,7 @@ pub record IsBefore (nodes : List NodeView) (out v u : ℕ) (before : Before) : 
 -- there is no such node, or it is one
 abbrev pub MayBeBefore : List NodeView → ℕ → ℕ → ℕ → Option Before → Type 0
 MayBeBefore nodes out v u None = Unit {0}
-MayBeBefore nodes out v u (Some before) = IsBefore nodes out v u before
+MayBeBefore nodes out v u (Some before) = IsWeighedBefore nodes out v u before
 
 -- a node that weighs something, with a marked utility after it
 pub record IsLast (nodes : List NodeView) (out : ℕ) (marks : NodeSet) (last : Last) : Type 0 where
@@ -273,7 +273,7 @@ abbrev pub mass_left : List NodeView → List RuleView → ℕ → List ℕ → 
 mass_left nodes p d vs product = product * nat_product_over (base_total nodes p d) vs
 
 -- what the listed nodes can still add fits
-pub record HasRoom
+pub record HasRoomToWalk
     (nodes : List NodeView) (p : List RuleView) (d : ℕ) (vs : List ℕ) (product : ℕ) (sum : ℤ)
     (gains : List ℤ) (masses : List ℕ) : Type 0 where
   pub gain : (c : ℕ) → nat_abs (slice_index_or gains c (pos 0))
@@ -283,7 +283,7 @@ pub record HasRoom
   pub most : greatest_utility nodes ≤ greatest_number
 
 -- one world can be added with this weight and the utilities of the listed nodes
-pub record HasRoomAt
+pub record CanAddWorld
     (nodes : List NodeView) (vs : List ℕ) (product : ℕ) (sum : ℤ) (gains : List ℤ) (masses : List ℕ)
     : Type 0 where
   pub gain : (c : ℕ) → nat_abs (slice_index_or gains c (pos 0)) + product * greatest_utility nodes

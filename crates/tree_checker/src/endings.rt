@@ -7,7 +7,7 @@ ghost use Rattle.maid_model.specs.Private.{MarksUtilities};
 ghost use Rattle.maid_model.specs.Tables.{cell_of};
 ghost use Rattle.maid_model.specs.Worlds.{IsWorld, world_of};
 ghost use Rattle.tree_checker.specs.Walks.{IsDownward, value_at, GainFits, gains_raised, masses_raised, HasRoomForUtilities, utility_in};
-ghost use Rattle.tree_checker.specs.Settings.{AddsWorldGain, AddsWorldMass, HasRoomForWorld, HoldsSetting, IsCellCount, IsDownwardIn};
+ghost use Rattle.tree_checker.specs.Settings.{AddsWorldGain, AddsWorldMass, HasRoomForWorld, HoldsWalkSetting, IsCellCount, IsDownwardIn};
 ghost use Rattle.diagram_graph.specs.Room.{cells_at};
 
 use crate::settings::Setting;
@@ -102,7 +102,7 @@ pub(crate) fn add_world(
     gains: &mut [i128],
     masses: &mut [u128],
 )
-    requires setting { HoldsSetting setting.now }
+    requires setting { HoldsWalkSetting setting.now }
     requires tail { IsDownwardIn setting.now setting.now.tail.now }
     requires world { IsWorld (counts_of setting.now.diagram.now.nodes) world.now }
     requires gains { IsCellCount setting.now (length gains.old) }

@@ -5,7 +5,7 @@ ghost use Rattle.diagram_graph.specs.Cycles.{lists_in};
 ghost use Rattle.maid_model.specs.declared.diagrams.Kind.TheVariants.{Decision};
 ghost use Rattle.maid_model.specs.Profiles.{IsProfile};
 ghost use Rattle.maid_model.specs.Tables.{weights_of};
-ghost use Rattle.tree_checker.specs.Walks.{WhereDecision, factor_by, HasAllFactors, HasCellsWhereDecision, HasFactors};
+ghost use Rattle.tree_checker.specs.Walks.{WhereDecision, factor_by_weights, HasAllFactors, HasCellsWhereDecision, HasFactors};
 ghost use Rattle.diagram_graph.specs.Room.{cells_at};
 
 use maid_model::{Diagram, Kind, Profile, profile_has_rules};
@@ -32,7 +32,7 @@ fn factor_of(diagram: &Diagram, weights: &[u128], left_out: usize, v: usize, cel
     requires node { v < length diagram.now.nodes }
     requires cell { cell < cells_at diagram.now.nodes v }
     requires weights { HasCellsWhereDecision diagram.now.nodes v weights.now }
-    ensures { pos result ≡ factor_by diagram.now.nodes weights.now left_out v cell }
+    ensures { pos result ≡ factor_by_weights diagram.now.nodes weights.now left_out v cell }
 {
     let kind = diagram.kind(v);
     if v == left_out {

@@ -5,7 +5,7 @@ ghost use Rattle.maid_model.specs.Nodes.{counts_of};
 ghost use Rattle.maid_model.specs.Diagrams.{greatest_number};
 ghost use Rattle.maid_model.specs.Private.{MarksUtilities};
 ghost use Rattle.maid_model.specs.Worlds.{IsWorld, world_of};
-ghost use Rattle.tree_checker.specs.Settings.{HasRoomIn, HoldsSetting, IsCellCount, ArePlacesIn, HasEnding, IsDownwardIn, IsLastIn, ending_of, GainsByEnding, GainsByLast, GainsByOne, HasRoomForLast, HasRoomToEnd, MassesByEnding, MassesByLast, MassesByOne};
+ghost use Rattle.tree_checker.specs.Settings.{HasRoomIn, HoldsWalkSetting, IsCellCount, ArePlacesIn, HasEnding, IsDownwardIn, IsLastIn, ending_of, GainsByEnding, GainsByLast, GainsByOne, HasRoomForLast, HasRoomToEnd, MassesByEnding, MassesByLast, MassesByOne};
 ghost use Rattle.tree_checker.specs.Walks.{AreNodes, AreUtilities, IsDownward, IsEnding, MayBeBefore, ending, with_before, with_value, AddsMassAt, GainFits, last_nodes, last_two, places_further, AddsWeighedAt};
 
 use crate::endings::{add_to_cell, add_world, place, set_state};
@@ -17,7 +17,7 @@ use node_sets::NodeSet;
 
 /// The places of the worlds that differ from this one by having the last weighing node in its first state.
 fn places_at(setting: &Setting, last: &Last, world: &World) -> Places
-    requires setting { HoldsSetting setting.now }
+    requires setting { HoldsWalkSetting setting.now }
     requires last { IsLastIn setting.now last.now }
     requires node { last.now.node < length setting.now.diagram.now.nodes }
     requires utility { last.now.utility < length setting.now.diagram.now.nodes }
@@ -84,7 +84,7 @@ fn add_states(
     gains: &mut [i128],
     masses: &mut [u128],
 )
-    requires setting { HoldsSetting setting.now }
+    requires setting { HoldsWalkSetting setting.now }
     requires last { IsLastIn setting.now last.now }
     requires order { IsDownwardIn setting.now (last_two last.now) }
     requires world { IsWorld (counts_of setting.now.diagram.now.nodes) world.now }
@@ -127,7 +127,7 @@ fn add_pairs(
     gains: &mut [i128],
     masses: &mut [u128],
 )
-    requires setting { HoldsSetting setting.now }
+    requires setting { HoldsWalkSetting setting.now }
     requires last { IsLastIn setting.now last.now }
     requires before { last.now.before ≡ Some before.now }
     requires order { IsDownwardIn setting.now (before.now.node ∷ last_two last.now) }
@@ -169,7 +169,7 @@ fn add_last(
     gains: &mut [i128],
     masses: &mut [u128],
 )
-    requires setting { HoldsSetting setting.now }
+    requires setting { HoldsWalkSetting setting.now }
     requires last { IsLastIn setting.now last.now }
     requires order { IsDownwardIn setting.now (last_nodes last.now) }
     requires world { IsWorld (counts_of setting.now.diagram.now.nodes) world.old }
@@ -204,7 +204,7 @@ pub(crate) fn add_ending(
     gains: &mut [i128],
     masses: &mut [u128],
 )
-    requires setting { HoldsSetting setting.now }
+    requires setting { HoldsWalkSetting setting.now }
     requires ending { HasEnding setting.now }
     requires order { IsDownwardIn setting.now (ending_of setting.now) }
     requires world { IsWorld (counts_of setting.now.diagram.now.nodes) world.old }

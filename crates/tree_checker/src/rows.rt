@@ -6,9 +6,10 @@ ghost use Rattle.maid_model.specs.Diagrams.{greatest_number};
 ghost use Rattle.maid_model.specs.Nodes.{IsDecision, rows_of, states_of};
 ghost use Rattle.maid_model.specs.Profiles.{IsProfile};
 ghost use Rattle.maid_model.specs.Scopes.{KeepsScopedBounds};
+ghost use Rattle.maid_model.specs.Gains.{AreSmallGains};
 ghost use Rattle.part_laws.specs.ScopeLaws.{HasUnitRules};
 ghost use Rattle.relevance_graph.specs.Relevant.{IsRelevance};
-ghost use Rattle.tree_checker.specs.Judged.{JudgesAnswer, JudgesRow, JudgesListed, ListsRow, listed_gain, AreSmallGains};
+ghost use Rattle.tree_checker.specs.Judged.{JudgesAnswer, JudgesRow, JudgesListed, ListsRow, listed_gain};
 ghost use Rattle.tree_checker.specs.Verdicts.{HasBetter};
 
 use crate::bases::base_of;

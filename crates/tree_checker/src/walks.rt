@@ -6,7 +6,7 @@ ghost use Rattle.maid_model.specs.Nodes.{counts_of};
 ghost use Rattle.maid_model.specs.Private.{MarksUtilities};
 ghost use Rattle.maid_model.specs.Profiles.{IsProfile};
 ghost use Rattle.maid_model.specs.Worlds.{IsWorld};
-ghost use Rattle.tree_checker.specs.Settings.{HoldsSetting, IsCellCount, HasEnding, IsDownwardIn, GainsDown, HasRoomDown, MassesDown, walked};
+ghost use Rattle.tree_checker.specs.Settings.{HoldsWalkSetting, IsCellCount, HasEnding, IsDownwardIn, GainsDown, HasRoomDown, MassesDown, walked};
 ghost use Rattle.tree_checker.specs.Walks.{AreUtilities, IsDownward, HoldsCells, HasRoomWithout};
 ghost use Rattle.diagram_graph.specs.Room.{cells_at};
 
@@ -32,7 +32,7 @@ fn walk(
     gains: &mut [i128],
     masses: &mut [u128],
 )
-    requires setting { HoldsSetting setting.now }
+    requires setting { HoldsWalkSetting setting.now }
     requires ending { HasEnding setting.now }
     requires order { IsDownwardIn setting.now (walked setting.now order.now) }
     requires world { IsWorld (counts_of setting.now.diagram.now.nodes) world.old }

@@ -5,7 +5,7 @@ use Rattle.std.proofs.Math.Nat.{eq-one_of_dvd-one, le-div_iff_mul-le}
 use Rattle.std.proofs.lemmas.Nat.Gcd.{dvd-zero, dvd_trans}
 use Rattle.std.proofs.lemmas.List.{get_or_default}
 use Rattle.maid_model.specs.Diagrams.{greatest_number}
-use Rattle.weight_scale.specs.Plain.{ShareNone, HasTotal, ArePlainRows}
+use Rattle.weight_scale.specs.Plain.{ShareNone, AddsUpTo, ArePlainRows}
 use Rattle.weight_scale.proofs.Lists.{sum_part}
 
 -- ---- the common divisor
@@ -47,8 +47,8 @@ shares_end row i divisor all is none = is.not_one (eq-one_of_dvd-one (none divis
 
 -- ---- the total
 -- the first numbers alone are too great
-pub no_total : (row : List ℤ) (i so_far s : ℕ) → i < length row → s ≡ unsigned_abs (get_or row i (pos 0)) → HasTotal (take i row) so_far
-    → (so_far + s ≤ greatest_number → ⊥) → (total : ℕ) → HasTotal row total → ⊥
+pub no_total : (row : List ℤ) (i so_far s : ℕ) → i < length row → s ≡ unsigned_abs (get_or row i (pos 0)) → AddsUpTo (take i row) so_far
+    → (so_far + s ≤ greatest_number → ⊥) → (total : ℕ) → AddsUpTo row total → ⊥
 no_total row i so_far s l is first wide total all =
     let x = get_or row i (pos 0) in
     wide (omega (arith, sum_part unsigned_abs row i x l (get_or_default row i (pos 0) x l), is, first.0, all.0, all.1))

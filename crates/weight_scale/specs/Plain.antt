@@ -30,13 +30,13 @@ abbrev pub ShareNone : List ℤ → Type 0
 ShareNone row = (d : ℕ) → All (λ x. d ∣ unsigned_abs x) row → d ∣ 1
 
 -- the numbers add up to the total, which is within the limits
-abbrev pub HasTotal : List ℤ → ℕ → Type 0
-HasTotal row total = (sum (map unsigned_abs row) ≡ total) × (total ≤ greatest_number)
+abbrev pub AddsUpTo : List ℤ → ℕ → Type 0
+AddsUpTo row total = (sum (map unsigned_abs row) ≡ total) × (total ≤ greatest_number)
 
 -- a row that is its own reduced row
 pub record IsPlainRow (row : List ℤ) (total : ℕ) : Type 0 where
   pub alone : ShareNone row
-  pub totals : HasTotal row total
+  pub totals : AddsUpTo row total
 
 -- there is a row, and all rows are plain and have this total
 pub record ArePlainRows (cells : List ℤ) (states total : ℕ) : Type 0 where

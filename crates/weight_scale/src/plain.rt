@@ -2,7 +2,7 @@
 
 ghost use Rattle.std.specs.Prelude.{◌≡◌, ◌<◌, ◌≤ℤ◌, ℕ, All, Decides, IfSome, IfNone, length, pos, unsigned_abs};
 ghost use Rattle.std.specs.Int.{◌∣◌};
-ghost use Rattle.weight_scale.specs.Plain.{ShareNone, HasTotal, IsPlainRow, ArePlainRows, AreOwnTable, AreOwnWeights, AreFaultlessAlone};
+ghost use Rattle.weight_scale.specs.Plain.{ShareNone, AddsUpTo, IsPlainRow, ArePlainRows, AreOwnTable, AreOwnWeights, AreFaultlessAlone};
 
 use crate::rows::row_at;
 use maid_model::GREATEST_NUMBER;
@@ -31,8 +31,8 @@ fn share_none(row: &[i128]) -> bool
 
 // What the row's numbers add up to, if it isn't too great.
 fn total_within(row: &[i128]) -> Option<u128>
-    ensures some { IfSome result (HasTotal row.now) }
-    ensures none { IfNone result ((total : ℕ) → HasTotal row.now total → ⊥) }
+    ensures some { IfSome result (AddsUpTo row.now) }
+    ensures none { IfNone result ((total : ℕ) → AddsUpTo row.now total → ⊥) }
 {
     let mut total = 0;
     for number in row {

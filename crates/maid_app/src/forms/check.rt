@@ -6,7 +6,7 @@ ghost use Rattle.maid_model.specs.Names.{NamesFit};
 ghost use Rattle.maid_model.specs.Scopes.{KeepsScopedBounds};
 ghost use Rattle.report_text.specs.Reading.{AreTold, bad_line, report_pass};
 ghost use Rattle.maid_app.specs.Check.{CanBeChecked, cause_words, examining, verdict_line, status_after};
-ghost use Rattle.maid_app.specs.Reading.{Examines, IsExamined, Judges, TellsOf, Gives};
+ghost use Rattle.maid_app.specs.Reading.{Examines, IsExamined, Judges, TellsOf, GivesOutput};
 ghost use Rattle.maid_app.specs.Tasks.{comes_of};
 
 use crate::output::Output;
@@ -137,7 +137,7 @@ pub fn judge(
     requires fit { NamesFit diagram.now names.now }
     requires told { AreTold names.now }
     requires can { CanBeChecked diagram.now }
-    ensures ok { IfOk result (Gives (Judges diagram.now names.now name.now bytes.now)) }
+    ensures ok { IfOk result (GivesOutput (Judges diagram.now names.now name.now bytes.now)) }
     ensures err { IfErr result (TellsOf (Judges diagram.now names.now name.now bytes.now)) }
 {
     match read_report(alloc, diagram, names, bytes) {

@@ -2,7 +2,7 @@ use Rattle.std.proofs.Common.{rules, ◌≡◌, ◌*◌, ◌-◌, ◌%◌, ◌^�
 use Rattle.std.specs.Int.{w128, cast_signed, cast_unsigned, int_wrap}
 use Rattle.std.proofs.lemmas.Int.{to_z-of_z, to_z_pos, fits_signed_from_abs, int_wrap_fits, wrapping_mul_onto}
 use Rattle.cell_rings.specs.RingLaws.{abs_mul}
-use Rattle.cell_rings.specs.Kinds.{gain_of}
+use Rattle.cell_rings.specs.Kinds.{as_gain}
 use Rattle.cell_rings.proofs.gains.short_product.Goals as goal
 
 -- the product of the bits is the product
@@ -20,4 +20,4 @@ pub returns : goal.returns
 returns c =
     let fb : FitsSigned w128 c.args.b.0 = search rules in
     let short : c.args.a < 2 ^ 64 = search rules in
-    ap gain_of (product_is c.args.a c.cast_unsigned.result c.short_times.result c.args.b.0 c.cast_signed.result short fb c.requires (c.cast_unsigned.ensures ∙ ap (of_z w128) (to_z-of_z w128 c.args.b.0 fb)) c.short_times.ensures c.cast_signed.ensures)
+    ap as_gain (product_is c.args.a c.cast_unsigned.result c.short_times.result c.args.b.0 c.cast_signed.result short fb c.requires (c.cast_unsigned.ensures ∙ ap (of_z w128) (to_z-of_z w128 c.args.b.0 fb)) c.short_times.ensures c.cast_signed.ensures)

@@ -3,7 +3,7 @@ use Rattle.std.specs.Int.{w64, w128, int_wrap}
 use Rattle.std.proofs.lemmas.Int.{ints, to_z-of_z, fits_signed_from_abs, int_wrap_fits, wrapping_add-bits, wrapping_mul-bits, wrapping_mul_is, int_wrap-add_left, int_wrap-add_right, int_wrap-mul_left}
 use Rattle.finite_sums.proofs.Ints.{mul_assoc, mul_comm, add_mul}
 use Rattle.cell_rings.specs.RingLaws.{abs_mul}
-use Rattle.cell_rings.specs.Kinds.{gain_of}
+use Rattle.cell_rings.specs.Kinds.{as_gain}
 use Rattle.cell_rings.proofs.gains.split_product.Goals as goal
 
 -- the upper word's product stands 64 bits higher
@@ -60,6 +60,6 @@ returns c =
     let low = to_z-of_z w64 c.args.a.low fl in
     let high = to_z-of_z w64 c.args.a.high fh in
     let cell = ap (λ z. to_z w64 (of_z w64 z)) (to_z-of_z w128 c.args.b.0 fb) ∙ to_z-of_z w64 c.args.b.0 nb in
-    ap gain_of
+    ap as_gain
     ((λ i. to_z w128 (bits (low i) (high i) (cell i)))
     ∙ product_is c.args.a.low c.args.a.high c.args.b.0 fl fh nb c.requires.room)

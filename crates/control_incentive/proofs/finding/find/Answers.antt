@@ -8,7 +8,7 @@ use Rattle.maid_model.specs.Values.{IsDifferenceOfOptima}
 use Rattle.maid_model.specs.Views.{DiagramView}
 use Rattle.diagram_graph.specs.Room.{rule_cells}
 use Rattle.optimum_gap.specs.Baselines.{HaveNearScopes}
-use Rattle.optimum_gap.specs.Found.{IsGain, TooLarge, Worthless, solving, unless}
+use Rattle.optimum_gap.specs.Found.{IsGain, TooLarge, Worthless, reason_pass, unless}
 use Rattle.control_incentive.specs.Lines.{controlling}
 use Rattle.rule_solver.specs.Kept.{IsKeptDiagram}
 use Rattle.control_incentive.proofs.Deciding.{behind, plans_kept, searches_kept}
@@ -44,6 +44,6 @@ returns-in-Ok-clause-found c =
     let holds : IsTrue c.args.matters = search rules in
     let large = MOST_RULE_CELLS < rule_cells (as_decision d.nodes agent x) in
     let room : MOST_RULE_CELLS < rule_cells (as_decision d.nodes agent x) → ⊥ = λ t. no_error (c.in-Ok.ensures.too_large.1 t) in
-    behind (unless (IsTrue c.args.matters) Worthless) (rule large TooLarge ▸ solving made) (IsDifferenceOfOptima made.nodes d.nodes d.decimals agent) c.gain_with.result holds
-    (behind (rule large TooLarge) (solving made) (IsDifferenceOfOptima made.nodes d.nodes d.decimals agent) c.gain_with.result room
+    behind (unless (IsTrue c.args.matters) Worthless) (rule large TooLarge ▸ reason_pass made) (IsDifferenceOfOptima made.nodes d.nodes d.decimals agent) c.gain_with.result holds
+    (behind (rule large TooLarge) (reason_pass made) (IsDifferenceOfOptima made.nodes d.nodes d.decimals agent) c.gain_with.result room
     (subst (λ e. IfOk c.gain_with.result (IsGain d e agent)) c.in-Ok.ensures.made c.gain_with.ensures.gain))

@@ -11,8 +11,8 @@ use Rattle.maid_model.specs.Views.{DiagramView, SolvedView}
 use Rattle.optimum_gap.specs.Baselines.{IsBaseline}
 use Rattle.optimum_gap.specs.Baselines.{alone}
 use Rattle.rule_solver.specs.Kept.{IsKeptDiagram}
-use Rattle.control_incentive.specs.Lines.{IsTrimmedAlone, chance_nodes, node_of}
-use Rattle.control_incentive.specs.Steps.{HasPaths, IsLineAlone}
+use Rattle.control_incentive.specs.Lines.{IsTrimmedAlone, chance_nodes, line_node}
+use Rattle.control_incentive.specs.Steps.{HasPaths, IsControlLineAlone}
 use Rattle.control_incentive.proofs.Deciding.{chance_there, listed_chance}
 use Rattle.finite_sums.proofs.Members.{all_among}
 use Rattle.control_incentive.proofs.Told.{lines_there, worths_there}
@@ -68,8 +68,8 @@ returns-clause-lines c =
     let cut : IsTrimmedAlone d solved.answers agent trimmed = record { removed = c.in_ok-trimmed.trimmed.removed.items; is = subst (λ (e : DiagramView). IsTrimmed e.nodes c.in_ok-trimmed.trimmed.removed.items trimmed) c.in_ok-alone.ensures c.in_ok-trimmed.ensures.trimmed } in
     let has = subst (λ (e : DiagramView). HasPaths e.nodes trimmed agent c.find-paths.result) c.in_ok-alone.ensures c.find-paths.ensures in
     lines_there d solved.answers agent is.graph is.tables fits trimmed cut c.find-paths.result has c.control_lines.result
-    (subst (λ nodes. IfOk c.control_lines.result (λ v. map node_of v.items ≡ nodes)) (c.deref.ensures.value ∙ c.in_ok-nodes.ensures) c.control_lines.ensures.nodes)
-    (subst (λ e. IfOk c.control_lines.result (λ lines. All (IsLineAlone e agent c.find-paths.result) lines.items)) c.in_ok-alone.ensures c.control_lines.ensures.lines)
+    (subst (λ nodes. IfOk c.control_lines.result (λ v. map line_node v.items ≡ nodes)) (c.deref.ensures.value ∙ c.in_ok-nodes.ensures) c.control_lines.ensures.nodes)
+    (subst (λ e. IfOk c.control_lines.result (λ lines. All (IsControlLineAlone e agent c.find-paths.result) lines.items)) c.in_ok-alone.ensures c.control_lines.ensures.lines)
 
 pub returns-clause-worths : goal.returns-clause-worths
 returns-clause-worths c =
@@ -82,5 +82,5 @@ returns-clause-worths c =
     let cut : IsTrimmedAlone d solved.answers agent trimmed = record { removed = c.in_ok-trimmed.trimmed.removed.items; is = subst (λ (e : DiagramView). IsTrimmed e.nodes c.in_ok-trimmed.trimmed.removed.items trimmed) c.in_ok-alone.ensures c.in_ok-trimmed.ensures.trimmed } in
     let has = subst (λ (e : DiagramView). HasPaths e.nodes trimmed agent c.find-paths.result) c.in_ok-alone.ensures c.find-paths.ensures in
     worths_there d solved.answers agent is.graph is.tables fits trimmed cut c.find-paths.result has c.control_lines.result
-    (subst (λ nodes. IfOk c.control_lines.result (λ v. map node_of v.items ≡ nodes)) (c.deref.ensures.value ∙ c.in_ok-nodes.ensures) c.control_lines.ensures.nodes)
-    (subst (λ e. IfOk c.control_lines.result (λ lines. All (IsLineAlone e agent c.find-paths.result) lines.items)) c.in_ok-alone.ensures c.control_lines.ensures.lines)
+    (subst (λ nodes. IfOk c.control_lines.result (λ v. map line_node v.items ≡ nodes)) (c.deref.ensures.value ∙ c.in_ok-nodes.ensures) c.control_lines.ensures.nodes)
+    (subst (λ e. IfOk c.control_lines.result (λ lines. All (IsControlLineAlone e agent c.find-paths.result) lines.items)) c.in_ok-alone.ensures c.control_lines.ensures.lines)

@@ -1,13 +1,13 @@
 use Rattle.std.proofs.Common.{◌≡◌, All, map, take}
-use Rattle.control_incentive.specs.Steps.{IsLineAlone}
+use Rattle.control_incentive.specs.Steps.{IsControlLineAlone}
 use Rattle.rule_solver.specs.Rooms.{AreLeft}
-use Rattle.control_incentive.specs.Lines.{node_of}
+use Rattle.control_incentive.specs.Lines.{line_node}
 use Rattle.control_incentive.proofs.lines.control_lines.Given as goal
 
 -- the lines of the nodes so far; what a run left serves the next
 abbrev pub invariant-loop-node : goal.invariant-loop-node
 invariant-loop-node l = record {
-  nodes : map node_of l.lines.items ≡ take l.node-index l.nodes;
-  lines : All (IsLineAlone l.baseline.diagram.now l.baseline.agent l.paths) l.lines.items;
+  nodes : map line_node l.lines.items ≡ take l.node-index l.nodes;
+  lines : All (IsControlLineAlone l.baseline.diagram.now l.baseline.agent l.paths) l.lines.items;
   left : AreLeft l.left;
 }

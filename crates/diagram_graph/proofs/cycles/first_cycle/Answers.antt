@@ -1,6 +1,6 @@
 use Rattle.std.proofs.Common.{◌<◌, length, subst, ◌∙◌}
 use Rattle.std.proofs.lemmas.List.{length-map}
-use Rattle.diagram_graph.specs.Needs.{IsIn}
+use Rattle.diagram_graph.specs.Needs.{IsMarkedIn}
 use Rattle.diagram_graph.specs.Cycles.{lists_in}
 use Rattle.diagram_graph.specs.Placed.{IsPlacingOf, IsOrderOf, IsCycleOf}
 use Rattle.diagram_graph.proofs.Orders.{all_in, order_same, order_no_cycle, first_cycle_same}
@@ -16,7 +16,7 @@ returns-in-Order-clause-cycle c =
     let marks = c.deref.result.now in
     let order : IsOrderOf lists marks c.in-Order.field-0.items = subst (λ p. IsPlacingOf lists marks p) c.in-Order.is c.in_ok-place_all.ensures in
     order_no_cycle lists c.in-Order.field-0.items
-    (order_same (IsIn marks) (λ v. v < length lists) _ _
+    (order_same (IsMarkedIn marks) (λ v. v < length lists) _ _
     (λ v. rw (length-map c.args.parents.now (λ row. row.items)) (all_in _ marks (c.deref.ensures.value ∙ c.in_ok-nodes.ensures.items_if_clones_equal (λ y e. e)) v))
     (λ v e. ((λ x. x), (λ x. x))) c.in-Order.field-0.items order)
 
@@ -25,6 +25,6 @@ returns-clause-cycle c =
     let lists = lists_in c.args.parents.now in
     let marks = c.deref.result.now in
     let cycle : IsCycleOf lists marks c.in-Cycle.cycle.items = subst (λ p. IsPlacingOf lists marks p) c.in-Cycle.is c.in_ok-place_all.ensures in
-    first_cycle_same (IsIn marks) (λ v. v < length lists) lists
+    first_cycle_same (IsMarkedIn marks) (λ v. v < length lists) lists
     (λ v. rw (length-map c.args.parents.now (λ row. row.items)) (all_in _ marks (c.deref.ensures.value ∙ c.in_ok-nodes.ensures.items_if_clones_equal (λ y e. e)) v))
     _ cycle.first

@@ -1,7 +1,7 @@
 use Rattle.std.proofs.Common.{◌<◌, length, map, sym, subst, ◌∙◌}
 use Rattle.maid_model.specs.Graph.{Arc}
 use Rattle.maid_model.specs.Views.{NodeView}
-use Rattle.diagram_graph.specs.Needs.{IsIn, NeedsItem}
+use Rattle.diagram_graph.specs.Needs.{IsMarkedIn, NeedsItem}
 use Rattle.diagram_graph.specs.Placed.{IsPlacingOf, IsOrderOf, IsCycleOf}
 use Rattle.diagram_graph.proofs.Orders.{all_in, order_same, needs_parents, ring_leads_back}
 use Rattle.diagram_graph.proofs.cycles.topological.Goals as goal
@@ -24,6 +24,6 @@ returns c =
     let marks = c.deref.result.now in
     let lists = map (λ (node : NodeView). node.parents) nodes in
     let order : IsOrderOf lists marks c.in-Order.order.items = subst (λ p. IsPlacingOf lists marks p) c.in-Order.is c.in_ok-order.ensures in
-    order_same (IsIn marks) (λ v. v < length nodes) (NeedsItem lists) (λ v p. Arc nodes p v)
+    order_same (IsMarkedIn marks) (λ v. v < length nodes) (NeedsItem lists) (λ v p. Arc nodes p v)
     (λ v. rw (← c.count.ensures.count) (all_in _ marks (c.deref.ensures.value ∙ c.in_ok-nodes.ensures.items_if_clones_equal (λ y e. e)) v))
     (needs_parents nodes) c.in-Order.order.items order

@@ -3,7 +3,7 @@ use Rattle.std.specs.Prelude.{Contains, slice_set, true}
 use Rattle.std.proofs.lemmas.Bool.{both_ways}
 use Rattle.std.proofs.lemmas.List.{length-set}
 use Rattle.std.proofs.lemmas.Result.{IfOk-weaker}
-use Rattle.diagram_graph.specs.Needs.{IsIn}
+use Rattle.diagram_graph.specs.Needs.{IsMarkedIn}
 use Rattle.diagram_graph.specs.Free.{IsFree}
 use Rattle.diagram_graph.specs.Rounds.{IsListedRound}
 use Rattle.diagram_graph.proofs.Placings.{in_within, marks_push, read_mark}
@@ -22,7 +22,7 @@ trail-preserved g c =
     let grown : c.push.new.self.items ≡ trail ++ at ∷ [] = c.in_ok-push.ensures.items in
     record {
       len = simp length-set (c.trail.invariant.len);
-      marks = subst (λ (xs : List ℕ). (x : ℕ) → IsIn (slice_set seen at true) x ↔ Contains xs x) (sym grown) (marks_push seen trail at within c.trail.invariant.marks);
+      marks = subst (λ (xs : List ℕ). (x : ℕ) → IsMarkedIn (slice_set seen at true) x ↔ Contains xs x) (sym grown) (marks_push seen trail at within c.trail.invariant.marks);
       walking = subst (λ (xs : List ℕ). IsWalking Left (g.N.Needs.lists c.args.needs.now) xs c.next_needed-at.result) (sym grown)
           (walking_push Left (g.N.Needs.lists c.args.needs.now) trail at c.next_needed-at.result walking
           (λ h. both_ways _ unseen ((c.trail.invariant.marks at).1 h)) c.next_needed-at.ensures);

@@ -5,7 +5,7 @@ use Rattle.maid_model.specs.Nodes.{states_of}
 use Rattle.ring_sums.specs.Groups.{JoinFits}
 use Rattle.ring_sums.specs.Tables.{sum_out}
 use Rattle.factor_core.specs.declared.slots.Slot.{Slot}
-use Rattle.factor_core.specs.Slots.{cells_over, IsLive, tables_of, AppendsTable}
+use Rattle.factor_core.specs.Slots.{cells_over, IsLiveSlot, tables_of, AppendsTable}
 use Rattle.eliminate.specs.Places.{slots_from, live_slots}
 use Rattle.eliminate.specs.Steps.{slots_with}
 use Rattle.eliminate.proofs.Listing.{fewer}
@@ -30,8 +30,8 @@ join_out-slot-requires-clause-live g c =
     let slots = live_slots c.args.places.live c.args.places.made c.args.slots.now in
     let is : c.before-3.result.now ≡ slots_with c.args.node slots = c.before-3.ensures ∙ c.gather-count.ensures.list ∙ ap (slots_from (holds c.places_of-held.result) 0) c.before-2.ensures
     ∙ held_slots c.args.at.now c.args.places.live c.places_of-held.result c.args.places.made c.args.node c.args.slots.now c.requires.node c.requires.board.noted c.places_of-held.ensures in
-    subst (λ (l : List Slot). All (IsLive c.args.play.now.diagram.now.nodes c.args.work.now.cells) l) (sym is)
-    (all_filter (IsLive c.args.play.now.diagram.now.nodes c.args.work.now.cells) (λ s. holds s.scope c.args.node) slots c.requires.join.live)
+    subst (λ (l : List Slot). All (IsLiveSlot c.args.play.now.diagram.now.nodes c.args.work.now.cells) l) (sym is)
+    (all_filter (IsLiveSlot c.args.play.now.diagram.now.nodes c.args.work.now.cells) (λ s. holds s.scope c.args.node) slots c.requires.join.live)
 
 pub join_out-slot-requires-clause-hold : goal.join_out-slot-requires-clause-hold
 join_out-slot-requires-clause-hold g c =

@@ -4,7 +4,7 @@ use Rattle.std.proofs.lemmas.Int.{to_z-of_z}
 use Rattle.cell_rings.specs.Rings.{most_size}
 use Rattle.eliminate.specs.Results.{plan_total}
 use Rattle.plan_sums.specs.Plans.{PlanView, gain_cells, plan_sum}
-use Rattle.rule_solver.specs.Rooms.{HasAtMost}
+use Rattle.rule_solver.specs.Rooms.{HasCellsAtMost}
 use Rattle.size_precheck.specs.Sizes.{IsPlanned}
 use Rattle.evidence.proofs.PlanCells.{alone_fits, mass_number}
 use Rattle.evidence.proofs.sums.mass_at.Goals as goal
@@ -24,7 +24,7 @@ sum_at-requires-clause-fits c =
 pub sum_at-requires-clause-ready : goal.sum_at-requires-clause-ready
 sum_at-requires-clause-ready c =
     let ready = c.requires.ready in
-    (ready.0, ready.1, subst (λ (plan : PlanView). HasAtMost c.args.diagram.now.nodes plan ready.0) (sym c.requires.planned.made.plan) ready.2)
+    (ready.0, ready.1, subst (λ (plan : PlanView). HasCellsAtMost c.args.diagram.now.nodes plan ready.0) (sym c.requires.planned.made.plan) ready.2)
 
 pub returns-clause-mass : goal.returns-clause-mass
 returns-clause-mass c = λ q r at.

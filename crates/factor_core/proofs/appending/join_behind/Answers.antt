@@ -10,7 +10,7 @@ use Rattle.ring_sums.specs.Tables.{sum_out}
 use Rattle.ring_sums.proofs.Each.{each_of, yes_or_no}
 use Rattle.factor_core.specs.declared.slots.Slot.{Slot}
 use Rattle.factor_core.specs.Scopes.{united, united_but}
-use Rattle.factor_core.specs.Slots.{IsLive, tables_of}
+use Rattle.factor_core.specs.Slots.{IsLiveSlot, tables_of}
 use Rattle.factor_core.specs.Tables.{AreCounts, states_in, size_of, place_of, join_cell}
 use Rattle.factor_core.proofs.Behind.{node_known, united_known, ends_within, size_small, can_join}
 use Rattle.factor_core.proofs.Conditions.{join_is, but_is}
@@ -31,7 +31,7 @@ joined_scope-scope-requires g c =
     let nodes = c.args.diagram.now.nodes in
     let cells = take c.args.used c.args.all.now in
     let slots = c.args.slots.now in
-    let inside = node_known nodes cells slots c.args.node c.requires.some (each_of (IsLive nodes cells) slots c.requires.live) (each_of (λ s. IsIn s.scope c.args.node) slots c.requires.hold) in
+    let inside = node_known nodes cells slots c.args.node c.requires.some (each_of (IsLiveSlot nodes cells) slots c.requires.live) (each_of (λ s. IsIn s.scope c.args.node) slots c.requires.hold) in
     omega (arith, inside, c.requires.diagram.limits.nodes)
 
 pub table_size-len-requires-clause-counts : goal.table_size-len-requires-clause-counts
@@ -62,7 +62,7 @@ join_at-requires-clause-can g c =
     let is : c.args.counts.now ≡ counts_of d.nodes = c.requires.counts in
     let cells = take c.args.used c.args.all.now in
     let slots = c.args.slots.now in
-    let inside = node_known d.nodes cells slots c.args.node c.requires.some (each_of (IsLive d.nodes cells) slots c.requires.live) (each_of (λ s. IsIn s.scope c.args.node) slots c.requires.hold) in
+    let inside = node_known d.nodes cells slots c.args.node c.requires.some (each_of (IsLiveSlot d.nodes cells) slots c.requires.live) (each_of (λ s. IsIn s.scope c.args.node) slots c.requires.hold) in
     let short : length cells ≤ MOST_PLAN_CELLS = omega (arith, length-take-le c.args.used c.args.all.now c.requires.used, c.requires.used, c.requires.short) in
     can_join g.met.C.Cell.laws g.met.C.Cell.sizes d c.requires.diagram c.args.counts.now is cells short slots c.requires.live c.args.node inside c.requires.fits
 
@@ -90,7 +90,7 @@ returns-clause-table g c =
     let t = sum_out r (states_of d.nodes) x (tables_of r d.nodes cells slots) in
     let held : (v : ℕ) → holds c.joined_scope-scope.result v ≡ t.holds v = λ v. c.joined_scope-scope.ensures v ∙ but_is {r = g.C.Cell.ring} m.laws m.sizes d.nodes cells slots x v in
     let same : length c.join_at.new.all ≡ length c.args.all.now = search rules in
-    let live = each_of (IsLive d.nodes cells) slots c.requires.live in
+    let live = each_of (IsLiveSlot d.nodes cells) slots c.requires.live in
     let written = subst (λ cs. (w : World) → InRange (states_in cs) w → cell_at r c.join_at.new.all (used + place_of cs scope w) ≡ join_cell r cells cs slots x w) is c.join_at.ensures.cells in
     appends_table r d.nodes c.args.all.now c.join_at.new.all used c.table_size-len.result same
     (omega (arith, c.table_size-len.ensures, ends_within d.nodes counts is scope t.holds held c.args.all.now used c.requires.used c.requires.room))

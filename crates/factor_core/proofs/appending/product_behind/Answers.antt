@@ -8,7 +8,7 @@ use Rattle.node_sets.specs.Sets.{holds}
 use Rattle.cell_rings.specs.Sums.{cell_at}
 use Rattle.ring_sums.proofs.Each.{each_of}
 use Rattle.factor_core.specs.Operations.{product_table}
-use Rattle.factor_core.specs.Slots.{IsLive, tables_of}
+use Rattle.factor_core.specs.Slots.{IsLiveSlot, tables_of}
 use Rattle.factor_core.specs.Tables.{AreCounts, states_in, size_of, place_of, product_cell}
 use Rattle.factor_core.proofs.Behind.{united_known, ends_within, size_small, can_multiply}
 use Rattle.factor_core.proofs.Conditions.{product_is, united_is}
@@ -46,7 +46,7 @@ multiply_at-requires-clause-scope g c =
     let cells = take c.args.used c.args.all.now in
     let slots = c.args.slots.now in
     let scope = c.united_scope-scope.result in
-    let live = each_of (IsLive d.nodes cells) slots c.requires.live in
+    let live = each_of (IsLiveSlot d.nodes cells) slots c.requires.live in
     let long : length c.args.counts.now ≡ length d.nodes = ap length is ∙ counts_length d.nodes in
     record {
       within = λ v l. c.united_scope-scope.ensures v;
@@ -86,7 +86,7 @@ returns-clause-table g c =
     let t = product_table r (tables_of r d.nodes cells slots) in
     let held : (v : ℕ) → holds c.united_scope-scope.result v ≡ t.holds v = λ v. c.united_scope-scope.ensures v ∙ united_is {r = g.C.Cell.ring} m.laws m.sizes d.nodes cells slots v in
     let same : length c.multiply_at.new.all ≡ length c.args.all.now = search rules in
-    let live = each_of (IsLive d.nodes cells) slots c.requires.live in
+    let live = each_of (IsLiveSlot d.nodes cells) slots c.requires.live in
     let written = subst (λ cs. (w : World) → InRange (states_in cs) w → cell_at r c.multiply_at.new.all (used + place_of cs scope w) ≡ product_cell r cells cs slots w) is c.multiply_at.ensures.cells in
     appends_table r d.nodes c.args.all.now c.multiply_at.new.all used c.table_size-len.result same
     (omega (arith, c.table_size-len.ensures, ends_within d.nodes counts is scope t.holds held c.args.all.now used c.requires.used c.requires.room))

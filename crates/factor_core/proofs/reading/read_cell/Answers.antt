@@ -10,13 +10,13 @@ use Rattle.node_sets.specs.declared.sets.NodeSet.{NodeSet}
 use Rattle.node_sets.specs.Sets.{holds}
 use Rattle.cell_rings.specs.Sums.{cell_at}
 use Rattle.factor_core.specs.Slots.{nodes_in, part}
-use Rattle.factor_core.specs.Tables.{AreCounts, AreStates, Gives, states_in, size_of, place_of}
+use Rattle.factor_core.specs.Tables.{AreCounts, AreScopeStates, GivesStates, states_in, size_of, place_of}
 use Rattle.factor_core.proofs.Counts.{are_counts, states_is, nodes_are, place_among}
 use Rattle.factor_core.proofs.Standing.{lies_in, part_at}
 use Rattle.factor_core.proofs.Zips.{zip_length, zip_at}
 use Rattle.factor_core.proofs.reading.read_cell.Goals as goal
 
-are_states : (nodes : List NodeView) (scope : NodeSet) (states : List ℕ) → AllZip (λ v s. s < states_of nodes v) (nodes_in nodes (holds scope)) states → AreStates (counts_of nodes) scope states
+are_states : (nodes : List NodeView) (scope : NodeSet) (states : List ℕ) → AllZip (λ v s. s < states_of nodes v) (nodes_in nodes (holds scope)) states → AreScopeStates (counts_of nodes) scope states
 are_states nodes scope states h =
     let R = λ (v s : ℕ). s < states_of nodes v in
     record {
@@ -26,7 +26,7 @@ are_states nodes scope states h =
           (subst (λ c. get_or states i 0 < c (get_or (nodes_in nodes (holds scope)) i 0)) (sym (states_is nodes)) (zip_at R (nodes_in nodes (holds scope)) states h i 0 0 l));
     }
 
-gives : (nodes : List NodeView) (scope : NodeSet) (w : World) (states : List ℕ) → map w (nodes_in nodes (holds scope)) ≡ states → Gives (counts_of nodes) scope w states
+gives : (nodes : List NodeView) (scope : NodeSet) (w : World) (states : List ℕ) → map w (nodes_in nodes (holds scope)) ≡ states → GivesStates (counts_of nodes) scope w states
 gives nodes scope w states e = record {
   state = λ i l.
       subst (λ vs. w (get_or vs i 0) ≡ get_or states i 0) (sym (nodes_are nodes (holds scope)))
@@ -51,7 +51,7 @@ pub place_for-requires-clause-states : goal.place_for-requires-clause-states
 place_for-requires-clause-states g c =
     let d = c.args.diagram.now in
     let is : c.before-counts.result.now ≡ counts_of d.nodes = c.before-counts.ensures ∙ ap (λ k. take k c.list_states.new.counts) c.count.ensures.count ∙ c.list_states.ensures in
-    subst (λ cs. AreStates cs c.args.slot.now.scope c.args.states.now) (sym is) (are_states d.nodes c.args.slot.now.scope c.args.states.now c.requires.states)
+    subst (λ cs. AreScopeStates cs c.args.slot.now.scope c.args.states.now) (sym is) (are_states d.nodes c.args.slot.now.scope c.args.states.now c.requires.states)
 
 pub overflow_add-result : goal.overflow_add-result
 overflow_add-result g c =
@@ -90,7 +90,7 @@ returns g c = λ w e.
     let long = length-take-le c.args.used all c.requires.used in
     let below : c.place_for.result < slot.len = omega (arith, ap (λ cs. size_of cs slot.scope) is, c.place_for.ensures.within, live.size) in
     let place : c.place_for.result ≡ row_from (states_of d.nodes) w 0 (nodes_in d.nodes (holds slot.scope)) =
-    c.place_for.ensures.place w (subst (λ cs. Gives cs slot.scope w c.args.states.now) (sym is) (gives d.nodes slot.scope w c.args.states.now e)) ∙ ap (λ cs. place_of cs slot.scope w) is ∙ place_among d.nodes (holds slot.scope) w in
+    c.place_for.ensures.place w (subst (λ cs. GivesStates cs slot.scope w c.args.states.now) (sym is) (gives d.nodes slot.scope w c.args.states.now e)) ∙ ap (λ cs. place_of cs slot.scope w) is ∙ place_among d.nodes (holds slot.scope) w in
     let inside : slot.start + c.place_for.result < length all = omega (arith, below, live.within, long, c.requires.used) in
     let read : c.index-all-slot.result ≡ cell_at r all (slot.start + c.place_for.result) = get_or_read all (slot.start + c.place_for.result) c.index-all-slot.result inside c.index-all-slot.is r.nought in
     read

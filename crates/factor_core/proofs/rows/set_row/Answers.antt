@@ -1,6 +1,6 @@
 use Rattle.std.proofs.Common.{rules, ◌≡◌, ◌+◌, ◌*◌, ◌<◌, ◌++◌, length, take, drop, arith, ap, ◌∙◌, subst}
 use Rattle.std.proofs.lemmas.List.{take_all}
-use Rattle.factor_core.specs.Tables.{row_of}
+use Rattle.factor_core.specs.Tables.{stride_row}
 use Rattle.factor_core.proofs.StrideRows.{no_slot, size_waits, sizes_more, strides_more, rest_stays, row_written, row_stays}
 use Rattle.factor_core.proofs.rows.set_row.Goals as goal
 
@@ -28,14 +28,14 @@ returns-clause-row c =
     let from = c.args.row * length c.args.slots.now in
     let all : c.loop-j.j ≡ length c.args.slots.now = omega (arith, c.loop-j-test.false, c.loop-j.auto.j-end) in
     row_written from (length c.args.slots.now) c.args.strides.now c.loop-j.strides _ (omega (arith, c.requires.room))
-    (subst (λ k. take (from + k) c.loop-j.strides ≡ take from c.args.strides.now ++ row_of c.args.counts.now (take k c.args.slots.now) c.args.node) all c.loop-j.invariant.2)
-    ∙ ap (λ l. row_of c.args.counts.now l c.args.node) (take_all (length c.args.slots.now) c.args.slots.now (omega arith))
+    (subst (λ k. take (from + k) c.loop-j.strides ≡ take from c.args.strides.now ++ stride_row c.args.counts.now (take k c.args.slots.now) c.args.node) all c.loop-j.invariant.2)
+    ∙ ap (λ l. stride_row c.args.counts.now l c.args.node) (take_all (length c.args.slots.now) c.args.slots.now (omega arith))
 
 pub returns-clause-others : goal.returns-clause-others
 returns-clause-others c = λ r v other was.
     let from = c.args.row * length c.args.slots.now in
     let all : c.loop-j.j ≡ length c.args.slots.now = omega (arith, c.loop-j-test.false, c.loop-j.auto.j-end) in
     row_stays (length c.args.slots.now) c.args.row r c.args.strides.now c.loop-j.strides _ _ other c.requires.room
-    (subst (λ k. take (from + k) c.loop-j.strides ≡ take from c.args.strides.now ++ row_of c.args.counts.now (take k c.args.slots.now) c.args.node) all c.loop-j.invariant.2)
+    (subst (λ k. take (from + k) c.loop-j.strides ≡ take from c.args.strides.now ++ stride_row c.args.counts.now (take k c.args.slots.now) c.args.node) all c.loop-j.invariant.2)
     (subst (λ k. drop (from + k) c.loop-j.strides ≡ drop (from + k) c.args.strides.now) all c.loop-j.invariant.3)
     was

@@ -1,6 +1,6 @@
 use Rattle.std.proofs.Common.{◌≡◌, ℕ, ◌+◌, ◌-◌, ◌<◌, ◌≤◌, ◌⊎◌, length, get_or, refl, sym, ap, ◌∙◌, subst, arith, inl, inr}
 use Rattle.std.proofs.lemmas.Bool.{cases_lt}
-use Rattle.factor_core.specs.Rows.{HasRow, row_beside}
+use Rattle.factor_core.specs.Rows.{HasStrideRow, row_beside}
 use Rattle.factor_core.proofs.Listing.{listed_few}
 use Rattle.factor_core.proofs.StrideRows.{parts_begin, parts_taken, waits_next, taken_next, waits_beyond, beside_once, equal_or_not}
 use Rattle.factor_core.proofs.rows.set_rows.Goals as goal
@@ -34,8 +34,8 @@ loop-i-preserved-then-node-high c =
     let strides = c.set_row.new.strides in
     let within : i < length kept = omega (arith, c.loop-i.auto.i, c.loop-i-test.true) in
     let place : c.place_beside.result ≡ row_beside c.args.at i = c.place_beside.ensures in
-    let mine : HasRow c.args.counts.now c.args.slots.now strides (row_beside c.args.at i) (get_or kept i 0) = subst (λ r. HasRow c.args.counts.now c.args.slots.now strides r (get_or kept i 0)) place c.set_row.ensures.row in
-    let same : (j : ℕ) → i ≡ j → HasRow c.args.counts.now c.args.slots.now strides (row_beside c.args.at j) (get_or kept j 0) = λ j e. subst (λ k. HasRow c.args.counts.now c.args.slots.now strides (row_beside c.args.at k) (get_or kept k 0)) e mine in (
+    let mine : HasStrideRow c.args.counts.now c.args.slots.now strides (row_beside c.args.at i) (get_or kept i 0) = subst (λ r. HasStrideRow c.args.counts.now c.args.slots.now strides r (get_or kept i 0)) place c.set_row.ensures.row in
+    let same : (j : ℕ) → i ≡ j → HasStrideRow c.args.counts.now c.args.slots.now strides (row_beside c.args.at j) (get_or kept j 0) = λ j e. subst (λ k. HasStrideRow c.args.counts.now c.args.slots.now strides (row_beside c.args.at k) (get_or kept k 0)) e mine in (
       c.set_row.auto.strides ∙ c.loop-i.invariant.0,
       c.set_row.auto.sizes ∙ c.loop-i.invariant.1,
       λ j a l low high. elim (cases_lt i j) [
@@ -45,7 +45,7 @@ loop-i-preserved-then-node-high c =
       λ r v right was. elim (equal_or_not r c.place_beside.result) [
         | inl e ↦
             let v_is : v ≡ get_or kept i 0 = right i within (e ∙ place) in
-            subst (λ q. HasRow c.args.counts.now c.args.slots.now strides q v) (sym e) (subst (λ q. HasRow c.args.counts.now c.args.slots.now strides c.place_beside.result q) (sym v_is) c.set_row.ensures.row)
+            subst (λ q. HasStrideRow c.args.counts.now c.args.slots.now strides q v) (sym e) (subst (λ q. HasStrideRow c.args.counts.now c.args.slots.now strides c.place_beside.result q) (sym v_is) c.set_row.ensures.row)
         | inr ne ↦ c.set_row.ensures.others r v ne (c.loop-i.invariant.3 r v right was)
       ],
       λ u from to wait taken. parts_taken c.args.counts.now c.args.slots.now c.args.low c.args.high c.requires.range.1 kept c.requires.kept i _ within c.if-low-node.true c.if-node-high.true c.set_row.ensures.sizes u from wait taken,

@@ -1,5 +1,5 @@
 use Rattle.std.proofs.Common.{◌≡◌, length, get_or, subst, arith, inl, inr}
-use Rattle.factor_core.specs.Rows.{HasRow, row_beside}
+use Rattle.factor_core.specs.Rows.{HasStrideRow, row_beside}
 use Rattle.factor_core.proofs.StrideRows.{kept_below, rows_are, beside}
 use Rattle.factor_core.proofs.rows.set_strides.Goals as goal
 
@@ -11,4 +11,4 @@ returns c =
     rows_are c.args.counts.now c.args.slots.now strides kept (omega (arith, c.requires.room, c.set_rows.auto.strides))
     (λ i l.
     let same : row_beside (length kept) i ≡ i = elim (beside (length kept) i) [ inl h ↦ h.1 | inr h ↦ absurd (let a = h.0 in omega arith) ] in
-    subst (λ r. HasRow c.args.counts.now c.args.slots.now strides r (get_or kept i 0)) same (c.set_rows.ensures.rows i l (omega arith) (below i l)))
+    subst (λ r. HasStrideRow c.args.counts.now c.args.slots.now strides r (get_or kept i 0)) same (c.set_rows.ensures.rows i l (omega arith) (below i l)))

@@ -1,6 +1,6 @@
 use Rattle.std.proofs.Common.{◌≡◌, ℕ, ◌+◌, ◌<◌, ◌≤◌, length, get_or, refl, sym, subst, arith, inl, inr}
 use Rattle.std.proofs.lemmas.Bool.{cases_lt}
-use Rattle.factor_core.specs.Rows.{HasRow, row_beside}
+use Rattle.factor_core.specs.Rows.{HasStrideRow, row_beside}
 use Rattle.factor_core.proofs.StrideRows.{kept_below, rows_with, beside_apart, beside_once, kept_is_not, but_one}
 use Rattle.factor_core.proofs.rows.set_strides_with.Goals as goal
 
@@ -13,7 +13,7 @@ returns c =
     let last = c.set_rows-2.new.strides in
     let below = kept_below _ (length c.args.counts.now) kept c.requires.kept in
     let right : (i : ℕ) → i < length kept → (j : ℕ) → j < length kept → row_beside at i ≡ row_beside at j → get_or kept i 0 ≡ get_or kept j 0 = λ i l j m e. subst (λ k. get_or kept i 0 ≡ get_or kept k 0) (beside_once at i j e) refl in
-    let mine : HasRow counts slots last at c.args.node = c.set_rows-2.ensures.others at c.args.node (λ j l e. absurd (beside_apart at j (sym e))) c.set_row.ensures.row in
+    let mine : HasStrideRow counts slots last at c.args.node = c.set_rows-2.ensures.others at c.args.node (λ j l e. absurd (beside_apart at j (sym e))) c.set_row.ensures.row in
     rows_with counts slots last kept at c.args.node c.requires.at (omega (arith, c.requires.room, c.set_rows-2.auto.strides, c.set_row.auto.strides, c.set_rows.auto.strides)) mine
     (λ i l. elim (cases_lt (get_or kept i 0) c.args.node) [
       | inl before ↦ c.set_rows-2.ensures.rows i l (omega arith) before

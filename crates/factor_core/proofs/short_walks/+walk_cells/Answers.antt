@@ -1,6 +1,6 @@
 use Rattle.std.proofs.Common.{rules, ◌≡◌, ◌<◌, length, ◌∷◌, arith, refl, sym, ap, subst, ◌∙◌}
 use Rattle.std.proofs.lemmas.List.{length-drop}
-use Rattle.cell_rings.specs.Sums.{Adds}
+use Rattle.cell_rings.specs.Sums.{AddsCells}
 use Rattle.factor_core.specs.Walks.{shifted, total}
 use Rattle.factor_core.proofs.Shifts.{shifted_none, length-shifted}
 use Rattle.factor_core.proofs.Walking.{first_of, three_axes, can_walk, split, one_row, strides_enough, place_fits, advance_fits, advanced, can_next, adds_first, adds_next, adds_all}
@@ -9,7 +9,7 @@ use Rattle.factor_core.proofs.short_walks.+walk_cells.Goals as goal
 pub returns-then-is_pair-2 : goal.returns-then-is_pair-2
 returns-then-is_pair-2 g t c =
     let three : length c.args.axes.now ≡ 3 = omega (arith, c.if-axes-eq3.true) in
-    subst (λ l. Adds g.C.Cell.ring (total g.C.Cell.ring c.args.cells.now l c.args.strides.now c.args.places.now c.args.at) c.args.out.now c.add_planes.new.out) (sym (three_axes c.args.axes.now (record { states = 0; out = 0 }) three)) c.add_planes.ensures
+    subst (λ l. AddsCells g.C.Cell.ring (total g.C.Cell.ring c.args.cells.now l c.args.strides.now c.args.places.now c.args.at) c.args.out.now c.add_planes.new.out) (sym (three_axes c.args.axes.now (record { states = 0; out = 0 }) three)) c.add_planes.ensures
 
 pub rows_below-below-requires : goal.rows_below-below-requires
 rows_below-below-requires g t c =
@@ -68,5 +68,5 @@ returns g t c =
     let can = can_walk g.C.Cell.ring c.args.cells.now c.args.axes.now c.after-rest.result.now c.args.strides.now c.args.places.now c.args.out.now c.args.at some c.after-rest.ensures c.requires in
     let done : c.loop.counter ≡ (first_of c.args.axes.now).states = omega (arith, c.loop-test.false, c.loop.auto.counter-end) in
     let there : c.loop.here ≡ shifted (first_of c.args.axes.now).states c.args.strides.now c.args.places.now = subst (λ k. c.loop.here ≡ shifted k c.args.strides.now c.args.places.now) done c.loop.invariant.here in
-    subst (λ l. Adds g.C.Cell.ring (total g.C.Cell.ring c.args.cells.now l c.args.strides.now c.args.places.now c.args.at) c.args.out.now c.loop.out) (sym (split c.args.axes.now (record { states = 0; out = 0 }) some ∙ ap (λ l. first_of c.args.axes.now ∷ l) (sym c.after-rest.ensures)))
+    subst (λ l. AddsCells g.C.Cell.ring (total g.C.Cell.ring c.args.cells.now l c.args.strides.now c.args.places.now c.args.at) c.args.out.now c.loop.out) (sym (split c.args.axes.now (record { states = 0; out = 0 }) some ∙ ap (λ l. first_of c.args.axes.now ∷ l) (sym c.after-rest.ensures)))
     (adds_all g.met.C.Cell.laws g.met.C.Cell.sizes c.args.cells.now (first_of c.args.axes.now) c.after-rest.result.now c.args.strides.now c.rows_below-below.result.now c.args.places.now c.args.out.now c.args.at c.rows_below-below.ensures can c.loop.counter c.loop.out done c.loop.invariant.adds)

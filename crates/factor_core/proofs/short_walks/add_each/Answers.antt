@@ -1,6 +1,6 @@
 use Rattle.std.proofs.Common.{rules, ◌≡◌, ◌==◌, cond, length, drop, [], arith, refl, sym, ap, subst}
 use Rattle.cell_rings.specs.Rings.{mass_ring}
-use Rattle.cell_rings.specs.Sums.{product_at, sizes_of, Adds}
+use Rattle.cell_rings.specs.Sums.{product_at, sizes_of, AddsCells}
 use Rattle.cell_rings.proofs.Runs.{chosen}
 use Rattle.factor_core.specs.Walks.{shifted}
 use Rattle.factor_core.proofs.Shifts.{shifted_none, length-shifted}
@@ -62,7 +62,7 @@ pub loop-preserved : goal.loop-preserved
 loop-preserved g c =
     let m = g.met.C.Cell in
     let r = g.C.Cell.ring in
-    let cell = subst (λ x. Adds r (λ p. cond (p == c.loop.place) x r.nought) c.loop.out c.add_at.new.out) c.product.ensures.product c.add_at.ensures in
+    let cell = subst (λ x. AddsCells r (λ p. cond (p == c.loop.place) x r.nought) c.loop.out c.add_at.new.out) c.product.ensures.product c.add_at.ensures in
     record {
       here = advanced m.laws m.sizes c.args.cells.now c.args.axis [] c.args.strides.now (drop (length c.args.places.now) c.args.strides.now) c.args.places.now c.args.out.now c.args.at refl c.requires c.loop.counter c.loop.here c.advance.new.places c.loop.invariant.here (search rules) c.advance.ensures;
       place = omega (arith, c.loop.invariant.place);

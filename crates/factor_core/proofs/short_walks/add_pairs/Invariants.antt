@@ -1,5 +1,5 @@
 use Rattle.std.proofs.Common.{[], ◌∷◌, ◌≡◌, ◌+◌, ◌*◌, length}
-use Rattle.cell_rings.specs.Sums.{ring_sum, Adds}
+use Rattle.cell_rings.specs.Sums.{ring_sum, AddsCells}
 use Rattle.factor_core.specs.Walks.{shifted, total}
 use Rattle.factor_core.proofs.short_walks.add_pairs.Given as goal
 
@@ -10,5 +10,5 @@ invariant-loop g l =
       here : l.here ≡ shifted l.counter l.strides l.places;
       place : l.place ≡ l.fn.at + l.counter * l.axis.out;
       len : length l.out ≡ length l.fn.out;
-      adds : Adds r (λ p. ring_sum r l.counter (λ s. total r l.cells (l.inner ∷ []) l.below (shifted s l.strides l.places) (l.fn.at + s * l.axis.out) p)) l.fn.out l.out;
+      adds : AddsCells r (λ p. ring_sum r l.counter (λ s. total r l.cells (l.inner ∷ []) l.below (shifted s l.strides l.places) (l.fn.at + s * l.axis.out) p)) l.fn.out l.out;
     }

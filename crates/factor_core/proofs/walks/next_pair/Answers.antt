@@ -1,12 +1,12 @@
 use Rattle.std.proofs.Common.{rules, ◌≡◌, length, get_or, arith, sym, ap, subst, ◌∙◌}
-use Rattle.factor_core.specs.Walks.{shifted, CanRead, IsRunAt}
+use Rattle.factor_core.specs.Walks.{shifted, CanReadRun, IsRunAt}
 use Rattle.factor_core.proofs.Shifts.{is_shifted, length-shifted, get-shifted}
 use Rattle.factor_core.proofs.walks.next_pair.Goals as goal
 
 pub read_run-second-requires : goal.read_run-second-requires
 read_run-second-requires g c =
     let moved : c.advance.new.places ≡ shifted 1 c.args.strides.now c.args.places.now = is_shifted 1 c.args.strides.now c.args.places.now c.advance.new.places (search rules) (λ i l. omega (arith, c.advance.ensures i l)) in
-    subst (CanRead c.args.turned g.C.Cell.ring c.args.cells.now) (sym moved) c.requires.second
+    subst (CanReadRun c.args.turned g.C.Cell.ring c.args.cells.now) (sym moved) c.requires.second
 
 pub returns-clause-second : goal.returns-clause-second
 returns-clause-second g c =

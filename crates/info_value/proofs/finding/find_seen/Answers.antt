@@ -5,7 +5,7 @@ use Rattle.maid_model.specs.Subgames.{OwnsAll}
 use Rattle.maid_model.specs.Values.{IsDifferenceOfOptima}
 use Rattle.maid_model.specs.Views.{DiagramView}
 use Rattle.optimum_gap.specs.Baselines.{HaveNearScopes}
-use Rattle.optimum_gap.specs.Found.{IsLoss, Worthless, solving, unless}
+use Rattle.optimum_gap.specs.Found.{IsLoss, Worthless, reason_pass, unless}
 use Rattle.info_value.specs.Finding.{missing}
 use Rattle.info_value.proofs.Added.{behind, owns_without}
 use Rattle.info_value.proofs.finding.find_seen.Goals as goal
@@ -28,5 +28,5 @@ returns c =
     let agent = c.args.baseline.now.agent in
     let less = missing d c.args.from c.args.to in
     let holds : c.args.needed ≡ true = search rules in
-    behind (unless (IsRequisite d.nodes c.args.to c.args.from) Worthless) (solving less) (IsDifferenceOfOptima d.nodes less.nodes d.decimals agent) c.loss.result (c.requires.needed.0 holds)
+    behind (unless (IsRequisite d.nodes c.args.to c.args.from) Worthless) (reason_pass less) (IsDifferenceOfOptima d.nodes less.nodes d.decimals agent) c.loss.result (c.requires.needed.0 holds)
     (subst (λ e. IfOk c.loss.result (IsLoss d e agent)) c.in_ok-less.ensures c.loss.ensures)

@@ -1,15 +1,15 @@
 use Rattle.std.proofs.Common.{rules, ◌≡◌, true, inr, sym, subst}
 use Rattle.std.specs.Prelude.{IfOk}
 use Rattle.diagram_graph.proofs.MoreArcs.{more_graph}
-use Rattle.diagram_graph.specs.Room.{IsTooLarge}
+use Rattle.diagram_graph.specs.Room.{IsArcTooLarge}
 use Rattle.first_fault.specs.Passes.{◌▸◌, rule}
 use Rattle.maid_model.specs.Relevance.{IsRequisite}
 use Rattle.maid_model.specs.Values.{IsDifferenceOfOptima}
 use Rattle.maid_model.specs.Subgames.{OwnsAll}
 use Rattle.maid_model.specs.Views.{DiagramView}
 use Rattle.optimum_gap.specs.Baselines.{HaveNearScopes}
-use Rattle.optimum_gap.specs.Found.{IsGain, TooLarge, Worthless, solving, unless}
-use Rattle.info_value.specs.Finding.{seeing}
+use Rattle.optimum_gap.specs.Found.{IsGain, TooLarge, Worthless, reason_pass, unless}
+use Rattle.info_value.specs.Finding.{diagram_with_arc}
 use Rattle.info_value.proofs.Added.{behind, owns_with, roomy}
 use Rattle.info_value.proofs.finding.find_unseen.Goals as goal
 
@@ -53,9 +53,9 @@ returns-clause-found c =
     let x = c.args.from in
     let to = c.args.to in
     let agent = c.args.baseline.now.agent in
-    let more = seeing d x to in
-    let room : IsTooLarge d.nodes x to → ⊥ = search rules in
+    let more = diagram_with_arc d x to in
+    let room : IsArcTooLarge d.nodes x to → ⊥ = search rules in
     let holds : c.args.would_need ≡ true = search rules in
-    behind (rule (IsTooLarge d.nodes x to) TooLarge) (unless (IsRequisite more.nodes to x) Worthless ▸ solving more) (IsDifferenceOfOptima more.nodes d.nodes d.decimals agent) c.gain.result room
-    (behind (unless (IsRequisite more.nodes to x) Worthless) (solving more) (IsDifferenceOfOptima more.nodes d.nodes d.decimals agent) c.gain.result (c.requires.would_need.0 holds)
+    behind (rule (IsArcTooLarge d.nodes x to) TooLarge) (unless (IsRequisite more.nodes to x) Worthless ▸ reason_pass more) (IsDifferenceOfOptima more.nodes d.nodes d.decimals agent) c.gain.result room
+    (behind (unless (IsRequisite more.nodes to x) Worthless) (reason_pass more) (IsDifferenceOfOptima more.nodes d.nodes d.decimals agent) c.gain.result (c.requires.would_need.0 holds)
     (subst (λ e. IfOk c.gain.result (IsGain d e agent)) c.in_ok-more.ensures c.gain.ensures))

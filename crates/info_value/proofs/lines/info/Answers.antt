@@ -3,7 +3,7 @@ use Rattle.std.specs.Prelude.{IfOk}
 use Rattle.maid_laws.proofs.AnswerLaws.{answers_fit}
 use Rattle.maid_model.specs.Views.{DiagramView, SolvedView}
 use Rattle.optimum_gap.specs.Baselines.{IsBaseline}
-use Rattle.info_value.specs.Alone.{CanAskAll, IsLineAlone}
+use Rattle.info_value.specs.Alone.{CanAskAll, IsInfoLineAlone}
 use Rattle.optimum_gap.specs.Baselines.{alone}
 use Rattle.info_value.specs.Lines.{IsInfoLine, TellsWorth}
 use Rattle.info_value.proofs.Asked.{all_asked}
@@ -36,9 +36,9 @@ returns-clause-lines c =
     let solved = c.args.solved.now in
     let is = c.count-count.ensures.diagram in
     let fits = answers_fit d solved is.graph is.tables c.requires.answer.fits in
-    ok_lines c.info_lines.result (IsLineAlone (alone d solved.answers c.args.agent) c.args.agent) (IsInfoLine d solved.answers c.args.agent)
+    ok_lines c.info_lines.result (IsInfoLineAlone (alone d solved.answers c.args.agent) c.args.agent) (IsInfoLine d solved.answers c.args.agent)
     (λ line l. line_there d solved.answers c.args.agent is.graph is.tables fits line l)
-    (subst (λ e. IfOk c.info_lines.result (λ lines. All (IsLineAlone e c.args.agent) lines.items)) c.in_ok-alone.ensures c.info_lines.ensures.lines)
+    (subst (λ e. IfOk c.info_lines.result (λ lines. All (IsInfoLineAlone e c.args.agent) lines.items)) c.in_ok-alone.ensures c.info_lines.ensures.lines)
 
 pub returns-clause-worths : goal.returns-clause-worths
 returns-clause-worths c =
@@ -46,6 +46,6 @@ returns-clause-worths c =
     let solved = c.args.solved.now in
     let is = c.count-count.ensures.diagram in
     let fits = answers_fit d solved is.graph is.tables c.requires.answer.fits in
-    ok_lines c.info_lines.result (IsLineAlone (alone d solved.answers c.args.agent) c.args.agent) (TellsWorth d solved.answers c.args.agent)
+    ok_lines c.info_lines.result (IsInfoLineAlone (alone d solved.answers c.args.agent) c.args.agent) (TellsWorth d solved.answers c.args.agent)
     (λ line l. worth_there d solved.answers c.args.agent is.graph is.tables fits line l)
-    (subst (λ e. IfOk c.info_lines.result (λ lines. All (IsLineAlone e c.args.agent) lines.items)) c.in_ok-alone.ensures c.info_lines.ensures.lines)
+    (subst (λ e. IfOk c.info_lines.result (λ lines. All (IsInfoLineAlone e c.args.agent) lines.items)) c.in_ok-alone.ensures c.info_lines.ensures.lines)

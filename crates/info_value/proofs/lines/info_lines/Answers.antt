@@ -1,7 +1,7 @@
 use Rattle.std.proofs.Common.{◌∙◌, ◌++◌, [], cond, All, Vec, Global, map, sym, ap, subst}
 use Rattle.std.proofs.lemmas.List.{append-nil}
 use Rattle.info_value.specs.declared.lines.InfoLine.{InfoLine}
-use Rattle.info_value.specs.Alone.{IsLineAlone}
+use Rattle.info_value.specs.Alone.{IsInfoLineAlone}
 use Rattle.info_value.specs.Lines.{arc_of, arcs_into, decides}
 use Rattle.info_value.proofs.Ranges.{lists_more}
 use Rattle.info_value.proofs.lines.info_lines.Goals.{then-decides+in_ok-push_lines_into, else-decides}
@@ -12,7 +12,7 @@ pub loop-v-preserved : goal.loop-v-preserved
 loop-v-preserved c =
     let v = c.loop-v.v in
     let into = arcs_into c.args.diagram.now.nodes in
-    let IsLine = IsLineAlone c.args.baseline.now.diagram.now c.args.baseline.now.agent in
+    let IsLine = IsInfoLineAlone c.args.baseline.now.diagram.now c.args.baseline.now.agent in
     let more = lists_more (decides c.args.diagram.now.nodes c.args.baseline.now.agent) into v in
     elim c.if-decides.branch [
       | then-decides+in_ok-push_lines_into w ↦

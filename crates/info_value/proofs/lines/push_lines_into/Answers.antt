@@ -3,7 +3,7 @@ use Rattle.std.proofs.lemmas.List.{append-nil, map-append}
 use Rattle.std.proofs.lemmas.List.Elements.{All-append, All-cons, All-nil}
 use Rattle.std.specs.List.{range_with_len}
 use Rattle.info_value.specs.declared.lines.InfoLine.{InfoLine}
-use Rattle.info_value.specs.Alone.{IsLineAlone}
+use Rattle.info_value.specs.Alone.{IsInfoLineAlone}
 use Rattle.info_value.specs.Lines.{arc_of, may_see}
 use Rattle.info_value.proofs.Ranges.{pairs_more}
 use Rattle.info_value.proofs.lines.push_lines_into.Goals.{then-may_see+in_ok-info_line+in_ok-push, else-may_see}
@@ -15,7 +15,7 @@ loop-v-preserved c =
     let v = c.loop-v.v in
     let d = c.args.decision in
     let test = may_see c.args.diagram.now.nodes d in
-    let IsLine = IsLineAlone c.args.baseline.now.diagram.now c.args.baseline.now.agent in
+    let IsLine = IsInfoLineAlone c.args.baseline.now.diagram.now c.args.baseline.now.agent in
     let so_far = map (λ (x : ℕ). (x, d)) (filter test (range_with_len 0 v)) in
     let more = pairs_more test (λ (x : ℕ). (x, d)) v in
     let front = map arc_of c.args.lines.now.items in

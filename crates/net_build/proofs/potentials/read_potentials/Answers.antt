@@ -7,7 +7,7 @@ use Rattle.std.specs.Option.{option_map}
 use Rattle.net_build.proofs.FitLemmas.{none_fit_all}
 use Rattle.net_parser.specs.Owned.{IsBlockOf}
 use Rattle.net_parser.specs.Trees.{BlockTree}
-use Rattle.net_build.specs.Blocks.{is_potential}
+use Rattle.net_parser.specs.Grammar.{is_potential}
 use Rattle.net_build.specs.Linking.{borrowed_trees, behind_rows, potentials_steps, potentials_among, parents_in, AreParents}
 use Rattle.net_build.specs.Lists.{numbers_of_lists}
 use Rattle.net_build.proofs.LinkLemmas.{hands_on}

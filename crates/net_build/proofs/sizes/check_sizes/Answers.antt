@@ -3,9 +3,9 @@ use Rattle.std.proofs.Common.{◌≡◌, ℕ, ◌+◌, ◌<◌, ◌≤◌, List,
 use Rattle.std.proofs.lemmas.List.{get_or-map, length-map}
 use Rattle.std.specs.Global.{Vec}
 use Rattle.maid_model.specs.Nodes.{is_decision}
-use Rattle.net_build.specs.Linking.{cells_over, size_steps_at, size_steps}
+use Rattle.net_build.specs.Linking.{cells_of_head_over, size_steps_at, size_steps}
 use Rattle.net_build.specs.Lists.{numbers_of_lists}
-use Rattle.net_build.specs.Stages.{head_at, cells_at}
+use Rattle.net_build.specs.Stages.{head_at, cells_of_head}
 use Rattle.net_build.proofs.LinkLemmas.{hands_on, range_on, range_refused}
 use Rattle.net_build.proofs.SizeLemmas.{rules_more}
 use Rattle.net_build.proofs.sizes.check_sizes.Goals as goal
@@ -34,11 +34,11 @@ loop-node-preserved c =
     let is : c.deref.result.now ≡ get_or (numbers_of_lists c.args.parents.now) c.loop-node.node [] = row_at c.args.parents.now c.loop-node.node c.index-parents-node.result _ within c.index-parents-node.is c.deref.ensures.value in
     record {
       sum = c.in_ok-rules.ensures.sum
-          ∙ ap (λ row. c.loop-node.rules + cond (is_decision (head_at c.args.heads.now c.loop-node.node).kind) (cells_over c.args.heads.now row c.loop-node.node) 0) is
-          ∙ ap (λ n. n + cond (is_decision (head_at c.args.heads.now c.loop-node.node).kind) (cells_at c.args.heads.now (numbers_of_lists c.args.parents.now) c.loop-node.node) 0) c.loop-node.invariant.sum
+          ∙ ap (λ row. c.loop-node.rules + cond (is_decision (head_at c.args.heads.now c.loop-node.node).kind) (cells_of_head_over c.args.heads.now row c.loop-node.node) 0) is
+          ∙ ap (λ n. n + cond (is_decision (head_at c.args.heads.now c.loop-node.node).kind) (cells_of_head c.args.heads.now (numbers_of_lists c.args.parents.now) c.loop-node.node) 0) c.loop-node.invariant.sum
           ∙ sym (rules_more c.args.heads.now (numbers_of_lists c.args.parents.now) c.loop-node.node);
       few = c.in_ok-rules.ensures.few;
-      cells = below_more _ _ c.loop-node.invariant.cells (subst (λ (row : List ℕ). cells_over c.args.heads.now row c.loop-node.node ≤ 65536) is c.in_ok-rules.ensures.cells);
+      cells = below_more _ _ c.loop-node.invariant.cells (subst (λ (row : List ℕ). cells_of_head_over c.args.heads.now row c.loop-node.node ≤ 65536) is c.in_ok-rules.ensures.cells);
       lead = range_on (size_steps_at c.args.heads.now (numbers_of_lists c.args.parents.now)) _ c.loop-node.node (length c.args.heads.now) c.loop-node-test.true c.loop-node.invariant.lead
           (rw (← c.loop-node.invariant.sum, ← is) c.in_ok-rules.ensures.rows);
     }

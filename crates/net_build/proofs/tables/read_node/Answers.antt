@@ -4,7 +4,7 @@ use Rattle.std.specs.Option.{IsSome, option_map}
 use Rattle.maid_model.specs.Nodes.{rows_under}
 use Rattle.net_parser.specs.Owned.{IsBlockOf}
 use Rattle.net_parser.specs.Trees.{BlockTree}
-use Rattle.net_build.specs.Blocks.{is_potential}
+use Rattle.net_parser.specs.Grammar.{is_potential}
 use Rattle.net_build.specs.declared.nodes.Head.{Head}
 use Rattle.net_build.specs.Stages.{NodeLists, LinkLists, head_at}
 use Rattle.net_build.proofs.DraftLemmas.{list_at, option_at, seen_some, seen_is_some}

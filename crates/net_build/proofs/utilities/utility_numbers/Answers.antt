@@ -4,7 +4,8 @@ use Rattle.std.specs.List.{flat_map}
 use Rattle.std.proofs.lemmas.List.{take_all}
 use Rattle.maid_model.specs.Nodes.{is_utility}
 use Rattle.net_parser.specs.Trees.{BlockTree}
-use Rattle.net_build.specs.Blocks.{is_potential, block_name, data_of, leaves_of}
+use Rattle.net_parser.specs.Grammar.{is_potential}
+use Rattle.net_build.specs.Blocks.{block_name, data_of, leaves_of}
 use Rattle.net_build.specs.Table.{kind_in}
 use Rattle.net_build.specs.TableParts.{block_values}
 use Rattle.net_build.proofs.BlockLemmas.{filter_filter}

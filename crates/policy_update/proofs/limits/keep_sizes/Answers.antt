@@ -1,5 +1,5 @@
 use Rattle.std.proofs.Common.{sym, subst}
-use Rattle.rule_solver.specs.Faults.{KeepsSizes}
+use Rattle.rule_solver.specs.Faults.{KeepsPlanLimits}
 use Rattle.size_precheck.specs.Decisions.{ArePlans}
 use Rattle.size_precheck.specs.Sizes.{IsSizeOfRun, ListsDecisions}
 use Rattle.policy_update.proofs.Rooms.{has_room, lists_decisions, small_enough}
@@ -13,7 +13,7 @@ returns-clause-rows c = small_enough c.args.diagram.now c.in_ok-plans.plans.size
 
 pub returns-clause-run : goal.returns-clause-run
 returns-clause-run c =
-    let small : KeepsSizes c.in_ok-plans.plans.size = c.is_small.ensures.0 c.if-not-is_small.false in
+    let small : KeepsPlanLimits c.in_ok-plans.plans.size = c.is_small.ensures.0 c.if-not-is_small.false in
     record {
       plans = subst (λ order. ArePlans c.args.diagram.now.nodes order c.in_ok-plans.plans.decisions.items) c.requires c.in_ok-plans.ensures.plans;
       room = has_room c.args.diagram.now.nodes c.greedy_orders.ensures.one c.in_ok-plans.plans.size c.descent_is_tested.ensures

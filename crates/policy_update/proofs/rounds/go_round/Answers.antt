@@ -7,7 +7,7 @@ use Rattle.maid_model.specs.Views.{AnswerView}
 use Rattle.maid_laws.specs.Optimum.{IsPure}
 use Rattle.reach_laws.specs.Updates.{IsPass, Over}
 use Rattle.reach_laws.proofs.Steps.{step_cases}
-use Rattle.policy_update.specs.Steps.{AreKept, IsPlan}
+use Rattle.policy_update.specs.Steps.{AreKept, IsProfileOf}
 use Rattle.policy_update.proofs.Owners.{decision_at}
 use Rattle.policy_update.proofs.Plans.{plan_pure}
 use Rattle.policy_update.proofs.Rising.{pass_more, rises_more, rises_tell}
@@ -26,7 +26,7 @@ loop-place-preserved c =
     let nodes = c.args.diagram.now.nodes in
     let p = c.loop-place.profile in
     let q = c.improve.new.profile in
-    let plan : IsPlan nodes c.loop-place.answers p = c.loop-place.invariant.0 in
+    let plan : IsProfileOf nodes c.loop-place.answers p = c.loop-place.invariant.0 in
     let pure : IsPure nodes p = plan_pure nodes c.pure_profiles_listed.ensures.choices c.loop-place.answers p plan in
     let whole : length c.args.answers.now ≡ length (decisions_of nodes) = sym (length-map c.args.answers.now (λ (a : AnswerView). a.decision)) ∙ ap length c.requires.plan.choices.follow in
     let place : c.loop-place.place < length (decisions_of nodes) = subst (λ n. c.loop-place.place < n) whole c.loop-place-test.true in

@@ -5,8 +5,8 @@ use Rattle.maid_model.specs.declared.answers.Row.{Row}
 use Rattle.maid_model.specs.Nodes.{states_of}
 use Rattle.maid_model.specs.Scopes.{scope_of}
 use Rattle.maid_model.specs.Views.{AnswerView}
+use Rattle.maid_model.specs.Gains.{gain_in}
 use Rattle.part_laws.specs.PartLaws.{DecidesAlike}
-use Rattle.rule_solver.specs.Rows.{gain_in}
 use Rattle.rule_solver.specs.Sums.{IsRowGains}
 use Rattle.policy_update.specs.Steps.{AreImproved, gains_in}
 use Rattle.policy_update.proofs.Scopes.{in_whole}

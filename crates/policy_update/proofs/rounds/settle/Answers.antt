@@ -1,6 +1,6 @@
 use Rattle.std.proofs.Common.{◌≢◌, ◌∙◌, refl, sym, subst, add-one}
 use Rattle.reach_laws.specs.Updates.{IsReachedAfter, Raised, Start}
-use Rattle.policy_update.specs.Steps.{AreKept, Tells}
+use Rattle.policy_update.specs.Steps.{AreKept, TellsChange}
 use Rattle.policy_update.proofs.rounds.settle.Goals as goal
 
 pub loop-raised-init : goal.loop-raised-init
@@ -12,7 +12,7 @@ go_round-requires-clause-kept c = subst (AreKept c.args.diagram.now.nodes c.args
 -- the round raised
 pub loop-raised-preserved : goal.loop-raised-preserved
 loop-raised-preserved c =
-    let differ : c.loop-raised.profile ≢ c.go_round.new.profile = subst (λ b. Tells b c.loop-raised.profile c.go_round.new.profile) c.if-not-branch.false c.in_ok-go_round.ensures.raised in (
+    let differ : c.loop-raised.profile ≢ c.go_round.new.profile = subst (λ b. TellsChange b c.loop-raised.profile c.go_round.new.profile) c.if-not-branch.false c.in_ok-go_round.ensures.raised in (
       c.in_ok-go_round.ensures.plan,
       subst (λ n. IsReachedAfter c.args.diagram.now.nodes n c.go_round.new.profile) (sym (add-one c.loop-raised.raised)) (Raised c.loop-raised.invariant.1 c.in_ok-go_round.ensures.round differ),
       c.in_ok-go_round.ensures.again ∙ c.loop-raised.invariant.2,

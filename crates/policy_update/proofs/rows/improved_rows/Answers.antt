@@ -1,8 +1,8 @@
 use Rattle.std.proofs.Common.{List, ◌+◌, ℕ, ℤ, pos, slice_index_or, refl, sym, subst}
 use Rattle.maid_model.specs.declared.answers.Row.{Row}
 use Rattle.maid_model.specs.Answers.{no_row}
+use Rattle.maid_model.specs.Gains.{gain_in}
 use Rattle.reach_laws.specs.Updates.{IsImproved}
-use Rattle.rule_solver.specs.Rows.{gain_in}
 use Rattle.policy_update.proofs.Choices.{AreImprovedTo, equal_alike, improved_alike, rows_more}
 use Rattle.policy_update.proofs.rows.improved_rows.Goals as goal
 

@@ -1,6 +1,6 @@
-use Rattle.rule_solver.specs.Rows.{gain_in}
 use Rattle.policy_update.proofs.Choices.{AreImprovedTo}
 use Rattle.policy_update.proofs.rows.improved_rows.Given as goal
+use Rattle.maid_model.specs.Gains.{gain_in}
 
 -- the rows so far
 abbrev pub invariant-loop-row : goal.invariant-loop-row

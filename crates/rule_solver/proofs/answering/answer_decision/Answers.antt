@@ -4,9 +4,10 @@ use Rattle.std.proofs.lemmas.Result.{IfOk-weaker}
 use Rattle.maid_model.specs.Nodes.{states_of}
 use Rattle.maid_model.specs.Diagrams.{greatest_number}
 use Rattle.maid_model.specs.Scopes.{goals_of, greatest_of, scope_of, scope_product}
+use Rattle.maid_model.specs.Gains.{gain_in}
 use Rattle.part_laws.specs.PartLaws.{DecidesAlike}
 use Rattle.rule_solver.specs.Answered.{IsAnsweredBy}
-use Rattle.rule_solver.specs.Rows.{AnswersRows, gain_in}
+use Rattle.rule_solver.specs.Rows.{AnswersRows}
 use Rattle.rule_solver.specs.Sums.{IsRowSums}
 use Rattle.rule_solver.proofs.DecisionLemmas.{answered_by}
 use Rattle.rule_solver.proofs.PlanLemmas.{values_bound, within_bound}

@@ -8,7 +8,7 @@ use Rattle.maid_model.specs.Gains.{greatest_abs}
 use Rattle.maid_model.specs.Nodes.{node_at, states_of}
 use Rattle.maid_model.specs.Relevance.{IsGoal}
 use Rattle.maid_model.specs.Scopes.{goals_of, scope_product}
-use Rattle.rule_solver.specs.Sums.{AddsGoals, HasGoals, HasRoomFor, goal_part}
+use Rattle.rule_solver.specs.Sums.{AddsGoals, HasGoals, HasRoomForGoals, goal_part}
 use Rattle.size_precheck.specs.Sizes.{SizedPlan}
 use Rattle.rule_solver.proofs.GoalPlans.{goal_plans_long}
 use Rattle.rule_solver.proofs.JointNodes.{goal_listed_is}
@@ -48,7 +48,7 @@ add_first-requires-clause-room c =
     let s = c.requires.setting in
     let so : HasGoals d.nodes c.args.setting.now.base.now c.args.setting.now.decision (take c.parts.done (goals_of d.nodes c.args.setting.now.decision)) c.parts.gains =
     subst (λ (l : List ℕ). HasGoals d.nodes c.args.setting.now.base.now c.args.setting.now.decision (take c.parts.done l) c.parts.gains) c.requires.goals c.parts.invariant.1 in
-    subst (λ (us : List ℕ). HasRoomFor d c.args.setting.now.decision us c.parts.gains) (sym (c.behind-rest.ensures ∙ ap (λ (l : List ℕ). drop c.parts.done l) c.requires.goals))
+    subst (λ (us : List ℕ). HasRoomForGoals d c.args.setting.now.decision us c.parts.gains) (sym (c.behind-rest.ensures ∙ ap (λ (l : List ℕ). drop c.parts.done l) c.requires.goals))
     (room_for d c.args.setting.now.base.now c.args.setting.now.decision c.parts.done c.parts.gains s.bound so)
 
 pub parts-preserved : goal.parts-preserved

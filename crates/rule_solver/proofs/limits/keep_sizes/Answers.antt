@@ -1,4 +1,4 @@
-use Rattle.rule_solver.specs.Faults.{KeepsSizes}
+use Rattle.rule_solver.specs.Faults.{KeepsPlanLimits}
 use Rattle.rule_solver.proofs.Rooms.{lists_decisions, small_enough, has_room}
 use Rattle.rule_solver.proofs.limits.keep_sizes.Goals as goal
 
@@ -18,4 +18,4 @@ pub returns-clause-room : goal.returns-clause-room
 returns-clause-room c = has_room c.args.diagram.now.nodes c.greedy_orders.ensures.one c.args.order.now c.in_ok-plans.plans.size c.descent_is_tested.ensures c.requires.order c.in_ok-plans.ensures.size
 
 pub returns-clause-limit : goal.returns-clause-limit
-returns-clause-limit c = let small : KeepsSizes c.in_ok-plans.plans.size = c.is_small.ensures.0 c.if-not-is_small.false in small.cells
+returns-clause-limit c = let small : KeepsPlanLimits c.in_ok-plans.plans.size = c.is_small.ensures.0 c.if-not-is_small.false in small.cells

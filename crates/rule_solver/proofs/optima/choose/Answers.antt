@@ -3,9 +3,9 @@ use Rattle.std.proofs.Common.{ℕ, List, ℤ, IfOk, sym, subst}
 use Rattle.std.proofs.lemmas.Result.{IfOk-weaker}
 use Rattle.maid_model.specs.Nodes.{rows_of, states_of}
 use Rattle.maid_model.specs.Scopes.{scope_of}
+use Rattle.maid_model.specs.Gains.{gain_in}
 use Rattle.part_laws.specs.PartLaws.{DecidesAlike}
 use Rattle.rule_solver.specs.Optima.{ChoosesRows, IsChosenBy}
-use Rattle.rule_solver.specs.Rows.{gain_in}
 use Rattle.rule_solver.specs.Sums.{IsRowGains}
 use Rattle.rule_solver.proofs.ChoiceLemmas.{chosen_by}
 use Rattle.rule_solver.proofs.optima.choose.Goals as goal

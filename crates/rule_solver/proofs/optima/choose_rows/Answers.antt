@@ -1,6 +1,6 @@
 use Rattle.std.proofs.Common.{◌≡◌, ◌+◌, ◌++◌, ◌∷◌, [], None, subst, sym, rules}
+use Rattle.maid_model.specs.Gains.{gain_in}
 use Rattle.rule_solver.specs.Optima.{ChoosesRows}
-use Rattle.rule_solver.specs.Rows.{gain_in}
 use Rattle.rule_solver.proofs.ChoiceLemmas.{chosen-push}
 use Rattle.rule_solver.proofs.optima.choose_rows.Goals as goal
 

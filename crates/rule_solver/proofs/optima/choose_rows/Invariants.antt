@@ -1,5 +1,5 @@
+use Rattle.maid_model.specs.Gains.{gain_in}
 use Rattle.rule_solver.specs.Optima.{ChoosesRows}
-use Rattle.rule_solver.specs.Rows.{gain_in}
 use Rattle.rule_solver.proofs.optima.choose_rows.Given as goal
 
 -- the rows so far

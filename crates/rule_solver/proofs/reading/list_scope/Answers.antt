@@ -1,6 +1,7 @@
 use Rattle.std.proofs.Common.{◌∙◌, ◌++◌, ◌∷◌, [], ◌<◌, ℕ, List, length, sym, ap, subst, arith}
 use Rattle.node_sets.specs.Sets.{holds}
-use Rattle.rule_solver.proofs.TableCells.{filter_gap, filter_yes}
+use Rattle.finite_sums.proofs.Ranges.{filter_yes}
+use Rattle.rule_solver.proofs.TableCells.{filter_gap}
 use Rattle.rule_solver.proofs.reading.list_scope.Goals as goal
 
 -- none of the numbers up to the next node is one of the scope's

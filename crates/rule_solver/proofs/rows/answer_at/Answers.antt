@@ -1,5 +1,6 @@
 use Rattle.std.proofs.Common.{subst, ◌<◌, ℕ, pos, slice_index, slice_index_or}
-use Rattle.rule_solver.specs.Rows.{AnswersRow, gain_in}
+use Rattle.maid_model.specs.Gains.{gain_in}
+use Rattle.rule_solver.specs.Rows.{AnswersRow}
 use Rattle.rule_solver.proofs.RowLemmas.{answers-same}
 use Rattle.rule_solver.proofs.rows.answer_at.Goals as goal
 

@@ -1,5 +1,6 @@
 use Rattle.std.proofs.Common.{◌≡◌, ◌+◌, ◌++◌, ◌∷◌, [], subst, sym, slice_index, rules}
-use Rattle.rule_solver.specs.Rows.{AnswersRows, gain_in}
+use Rattle.maid_model.specs.Gains.{gain_in}
+use Rattle.rule_solver.specs.Rows.{AnswersRows}
 use Rattle.rule_solver.proofs.RowLemmas.{answers-push}
 use Rattle.rule_solver.proofs.rows.answer_rows.Goals as goal
 

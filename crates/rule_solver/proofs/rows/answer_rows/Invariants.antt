@@ -1,5 +1,6 @@
 use Rattle.std.proofs.Common.{slice_index}
-use Rattle.rule_solver.specs.Rows.{AnswersRows, gain_in}
+use Rattle.maid_model.specs.Gains.{gain_in}
+use Rattle.rule_solver.specs.Rows.{AnswersRows}
 use Rattle.rule_solver.proofs.rows.answer_rows.Given as goal
 
 -- the rows so far

@@ -3,7 +3,7 @@ use Rattle.std.specs.Prelude.{Contains, option_to_list}
 use Rattle.maid_model.specs.Views.{NodeView}
 use Rattle.node_sets.specs.Sets.{IsIn}
 use Rattle.plan_sums.specs.Plans.{PlanView, ruled_nodes, eliminated_nodes, mass_cells}
-use Rattle.size_precheck.specs.Joints.{AreStates, IsStarted, IsRun, family_test, parents_test}
+use Rattle.size_precheck.specs.Joints.{AreStateCounts, IsGreedyStart, IsGreedyRun, family_test, parents_test}
 use Rattle.size_precheck.specs.Greedy.{first_scopes, IsGreedyOrder}
 use Rattle.size_precheck.proofs.Counting.{counted_few}
 use Rattle.size_precheck.proofs.Orders.{greedy_same, order_of_greedy}
@@ -51,7 +51,7 @@ eliminate_all-requires-clause-started c =
     let plan : PlanView = record { keep = c.args.keep.now; without = c.args.without; utility = c.args.utility } in (
       nodes,
       map (family_test nodes) (ruled_nodes nodes plan) ++ map (parents_test nodes) (option_to_list plan.utility),
-      subst (λ (xs : List ℕ). IsStarted nodes xs (IsIn c.difference-waiting.result) (map (family_test nodes) (ruled_nodes nodes plan) ++ map (parents_test nodes) (option_to_list plan.utility)) c.in_ok-start.start) (sym c.as_slice-states.ensures.value)
+      subst (λ (xs : List ℕ). IsGreedyStart nodes xs (IsIn c.difference-waiting.result) (map (family_test nodes) (ruled_nodes nodes plan) ++ map (parents_test nodes) (option_to_list plan.utility)) c.in_ok-start.start) (sym c.as_slice-states.ensures.value)
           (c.in_ok-start.ensures.started (ruled_nodes nodes plan) (ruled_listed nodes plan c.plan_nodes-nodes.result c.plan_nodes-nodes.ensures c.ruled_nodes-ruled.result c.ruled_nodes-ruled.ensures)),
     )
 
@@ -63,12 +63,12 @@ returns c =
     let nodes : List NodeView = c.args.diagram.now.nodes in
     let plan : PlanView = record { keep = c.args.keep.now; without = c.args.without; utility = c.args.utility } in
     let states = c.as_slice-states.result.now in
-    let are : AreStates nodes states = subst (λ (xs : List ℕ). AreStates nodes xs) (sym c.as_slice-states.ensures.value) c.requires.planner.states in
+    let are : AreStateCounts nodes states = subst (λ (xs : List ℕ). AreStateCounts nodes xs) (sym c.as_slice-states.ensures.value) c.requires.planner.states in
     let listed = ruled_listed nodes plan c.plan_nodes-nodes.result c.plan_nodes-nodes.ensures c.ruled_nodes-ruled.result c.ruled_nodes-ruled.ensures in
-    let started : IsStarted nodes states (IsIn c.difference-waiting.result) (first_scopes nodes plan) c.in_ok-start.start =
-    subst (λ (xs : List ℕ). IsStarted nodes xs (IsIn c.difference-waiting.result) (first_scopes nodes plan) c.in_ok-start.start) (sym c.as_slice-states.ensures.value)
-    (subst (λ (ss : List (ℕ → Bool)). IsStarted nodes c.args.planner.now.states.items (IsIn c.difference-waiting.result) ss c.in_ok-start.start) (sym (scopes_listed mass_cells nodes [] plan)) (c.in_ok-start.ensures.started (ruled_nodes nodes plan) listed)) in
-    let run : IsRun nodes (IsIn c.difference-waiting.result) (first_scopes nodes plan) c.in_ok-run.run' = c.in_ok-run.ensures.run nodes (first_scopes nodes plan) started in
+    let started : IsGreedyStart nodes states (IsIn c.difference-waiting.result) (first_scopes nodes plan) c.in_ok-start.start =
+    subst (λ (xs : List ℕ). IsGreedyStart nodes xs (IsIn c.difference-waiting.result) (first_scopes nodes plan) c.in_ok-start.start) (sym c.as_slice-states.ensures.value)
+    (subst (λ (ss : List (ℕ → Bool)). IsGreedyStart nodes c.args.planner.now.states.items (IsIn c.difference-waiting.result) ss c.in_ok-start.start) (sym (scopes_listed mass_cells nodes [] plan)) (c.in_ok-start.ensures.started (ruled_nodes nodes plan) listed)) in
+    let run : IsGreedyRun nodes (IsIn c.difference-waiting.result) (first_scopes nodes plan) c.in_ok-run.run' = c.in_ok-run.ensures.run nodes (first_scopes nodes plan) started in
     let greedy : IsGreedyOrder nodes plan c.in_ok-run.run'.steps.items =
     greedy_same nodes (IsIn c.difference-waiting.result) (Contains (eliminated_nodes nodes plan)) (first_scopes nodes plan) c.in_ok-run.run'.steps.items
     (in_waiting nodes plan c.plan_nodes-nodes.result c.plan_nodes-nodes.ensures c.set_of-kept.result c.difference-waiting.result c.set_of-kept.ensures c.difference-waiting.ensures) run.greedy in

@@ -6,7 +6,7 @@ use Rattle.node_sets.specs.Sets.{holds, IsIn}
 use Rattle.size_precheck.specs.declared.classes.Class.{Class}
 use Rattle.size_precheck.specs.Classes.{AreClasses, IsFewest}
 use Rattle.size_precheck.specs.Greedy.{IsNext}
-use Rattle.size_precheck.specs.Joints.{Stands, IsStarted}
+use Rattle.size_precheck.specs.Joints.{Stands, IsGreedyStart}
 use Rattle.size_precheck.proofs.Classing.{found_next, none_next, removed_fewer, removed_less}
 use Rattle.size_precheck.proofs.Counting.{stopped_few}
 use Rattle.size_precheck.proofs.Running.{At, remains_push, stands_less, is_next, joined_few, at_more}
@@ -53,7 +53,7 @@ steps-preserved c =
       live = let a = ap length c.in_ok-push.ensures.items ∙ length_push c.steps.steps.items v in let b = inv.live in omega arith;
       few = subst (λ (n : ℕ). n ≤ 10 ^ 18) (sym c.add-cells.ensures) (stopped_few _);
       little = subst (λ (n : ℕ). n ≤ 10 ^ 18) (sym c.add-work.ensures) (stopped_few _);
-      at = λ (nodes : List NodeView) (scopes : List (ℕ → Bool)) (started : IsStarted nodes states waiting scopes c.args.start).
+      at = λ (nodes : List NodeView) (scopes : List (ℕ → Bool)) (started : IsGreedyStart nodes states waiting scopes c.args.start).
           let now = inv.at nodes scopes started in
           let before : Stands states (λ y. IsIn c.remove.new.self y ⊎ (y ≡ v)) now.tables c.steps.known.joints.items c.steps.known.counts.items =
           stands_less states (IsIn c.steps.rest) (λ y. IsIn c.remove.new.self y ⊎ (y ≡ v)) now.tables c.steps.known.joints.items c.steps.known.counts.items

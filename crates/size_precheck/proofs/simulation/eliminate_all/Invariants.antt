@@ -3,7 +3,7 @@ use Rattle.maid_model.specs.Placing.{Remains}
 use Rattle.maid_model.specs.Views.{NodeView}
 use Rattle.node_sets.specs.Sets.{holds, IsIn}
 use Rattle.size_precheck.specs.Classes.{AreClasses}
-use Rattle.size_precheck.specs.Joints.{member_count, IsStarted}
+use Rattle.size_precheck.specs.Joints.{member_count, IsGreedyStart}
 use Rattle.size_precheck.proofs.Running.{At}
 use Rattle.size_precheck.proofs.simulation.eliminate_all.Given as goal
 
@@ -17,7 +17,7 @@ invariant-steps l = record {
   live : l.live ≤ 257 + length l.steps.items;
   few : l.cells ≤ 10 ^ 18;
   little : l.work ≤ 10 ^ 18;
-  at : (nodes : List NodeView) (scopes : List (ℕ → Bool)) → IsStarted nodes l.states (IsIn l.fn.waiting) scopes l.fn.start
+  at : (nodes : List NodeView) (scopes : List (ℕ → Bool)) → IsGreedyStart nodes l.states (IsIn l.fn.waiting) scopes l.fn.start
       → At nodes l.states (IsIn l.fn.waiting) (IsIn l.rest) scopes l.steps.items l.known.joints.items l.known.counts.items l.live l.cells l.work;
 }
 

@@ -2,7 +2,7 @@ use Rattle.std.proofs.Common.{ap, subst, arith}
 use Rattle.maid_model.specs.Views.{DiagramView}
 use Rattle.node_sets.specs.Sets.{holds}
 use Rattle.factor_core.specs.declared.slots.Slot.{Slot}
-use Rattle.factor_core.specs.Slots.{IsLive, StaysLive}
+use Rattle.factor_core.specs.Slots.{IsLiveSlot, StaysLive}
 use Rattle.sum_tests.proofs.SmallTables.{four_cells, turned_nodes, stays_small}
 use Rattle.sum_tests.proofs.tables.turn.Goals as goal
 
@@ -19,4 +19,4 @@ returns-clause-stays g c =
     let r = g.C.Cell.ring in
     let before = c.args.work.now.cells in
     let after = c.reorder-strip.new.self.cells in
-    stays_small r before after (subst (λ ns. (s : Slot) → IsLive ns before s → StaysLive r ns before after s) e c.reorder-strip.ensures.stays)
+    stays_small r before after (subst (λ ns. (s : Slot) → IsLiveSlot ns before s → StaysLive r ns before after s) e c.reorder-strip.ensures.stays)

@@ -1,7 +1,7 @@
 use Rattle.std.proofs.Common.{◌≡◌, ◌∙◌, ℕ, ◌-◌, ◌≤◌, inl, inr, refl, ap, sym, subst, ℤ, pos, nat_abs, ◌≤ℤ◌, arith}
 use Rattle.std.proofs.lemmas.Int.{ints}
 use Rattle.maid_model.specs.Tables.{chance_total}
-use Rattle.reach_laws.specs.Threshold.{cell_at, others_weight}
+use Rattle.reach_laws.specs.Threshold.{state_weight, others_weight}
 use Rattle.whole_num.specs.Divisors.{IsLcm}
 use Rattle.threshold.proofs.Tables.{all_weight, others_nought, others_are, weight_at_most}
 use Rattle.threshold.proofs.ends.find_totals.Goals as goal
@@ -22,8 +22,8 @@ returns-then-weight-table-clause-refused c =
 
 pub overflow_sub-others : goal.overflow_sub-others
 overflow_sub-others c =
-    nat_le c.weight_there-weight.result c.weight_total-table.result (cell_at c.args.diagram.now.nodes c.args.place.node c.args.place.row c.args.place.state) c.weight_there-weight.ensures.weight
-    (subst (λ n. cell_at c.args.diagram.now.nodes c.args.place.node c.args.place.row c.args.place.state ≤ℤ pos n) (sym c.weight_total-table.ensures) (weight_at_most c.args.diagram.now.nodes c.args.place c.weight_there-weight.ensures.diagram.tables c.requires))
+    nat_le c.weight_there-weight.result c.weight_total-table.result (state_weight c.args.diagram.now.nodes c.args.place.node c.args.place.row c.args.place.state) c.weight_there-weight.ensures.weight
+    (subst (λ n. state_weight c.args.diagram.now.nodes c.args.place.node c.args.place.row c.args.place.state ≤ℤ pos n) (sym c.weight_total-table.ensures) (weight_at_most c.args.diagram.now.nodes c.args.place c.weight_there-weight.ensures.diagram.tables c.requires))
 
 pub lcm_within-requires-clause-b_positive : goal.lcm_within-requires-clause-b_positive
 lcm_within-requires-clause-b_positive c =

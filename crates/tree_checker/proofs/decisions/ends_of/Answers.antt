@@ -1,7 +1,8 @@
 use Rattle.std.proofs.Common.{◌≡◌, ◌∙◌, ◌∷◌, ◌++◌, [], filter, length, sym, ap, arith}
 use Rattle.std.specs.List.{range_with_len}
 use Rattle.node_sets.specs.Sets.{holds}
-use Rattle.tree_checker.proofs.Listed.{filter_yes, filter_no, goals_listed}
+use Rattle.finite_sums.proofs.Ranges.{filter_yes, filter_no}
+use Rattle.tree_checker.proofs.Listed.{goals_listed}
 use Rattle.tree_checker.proofs.decisions.ends_of.Goals as goal
 use Rattle.tree_checker.proofs.decisions.ends_of.Goals.{then-holds+in_ok-push-2, else-holds}
 

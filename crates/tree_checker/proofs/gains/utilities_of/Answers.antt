@@ -1,6 +1,6 @@
 use Rattle.std.proofs.Common.{◌∙◌, sym}
 use Rattle.maid_model.specs.Nodes.{is_utility_of}
-use Rattle.tree_checker.proofs.Listed.{filter_yes, filter_no}
+use Rattle.finite_sums.proofs.Ranges.{filter_yes, filter_no}
 use Rattle.tree_checker.proofs.gains.utilities_of.Goals as goal
 use Rattle.tree_checker.proofs.gains.utilities_of.Goals.{then-is_utility_of+in_ok-push, else-is_utility_of}
 

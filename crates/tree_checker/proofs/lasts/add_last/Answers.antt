@@ -2,7 +2,7 @@ use Rattle.std.proofs.Common.{rules, ◌≡◌, ◌∙◌, [], ◌∷◌, ap, su
 use Rattle.std.proofs.lemmas.Int.{to_z-of_z}
 use Rattle.std.specs.Int.{w128}
 use Rattle.maid_model.specs.Worlds.{world_of}
-use Rattle.tree_checker.specs.Walks.{HasRoom, IsDownward, gain_with, last_nodes, mass_with, with_before}
+use Rattle.tree_checker.specs.Walks.{HasRoomToWalk, IsDownward, gain_with, last_nodes, mass_with, with_before}
 use Rattle.tree_checker.proofs.WalkOpened.{room_same}
 use Rattle.tree_checker.proofs.lasts.add_last.Goals as goal
 
@@ -39,7 +39,7 @@ add_states-requires c =
       places = c.places_at-places.ensures;
       gains = c.requires.gains;
       masses = c.requires.masses;
-      room = (subst (λ b. HasRoom c.args.setting.now.diagram.now.nodes c.args.setting.now.profile.now c.args.setting.now.left_out (with_before b (c.args.last.now.node ∷ c.args.last.now.utility ∷ [])) c.args.product (to_z w128 (of_z w128 c.args.utility)) c.args.gains.now c.args.masses.now) c.in-None.is (room_same c.args.setting.now.diagram.now.nodes c.args.setting.now.profile.now c.args.setting.now.left_out (with_before c.args.last.now.before (c.args.last.now.node ∷ c.args.last.now.utility ∷ [])) c.args.product c.args.gains.now c.args.masses.now same_sum c.requires.room));
+      room = (subst (λ b. HasRoomToWalk c.args.setting.now.diagram.now.nodes c.args.setting.now.profile.now c.args.setting.now.left_out (with_before b (c.args.last.now.node ∷ c.args.last.now.utility ∷ [])) c.args.product (to_z w128 (of_z w128 c.args.utility)) c.args.gains.now c.args.masses.now) c.in-None.is (room_same c.args.setting.now.diagram.now.nodes c.args.setting.now.profile.now c.args.setting.now.left_out (with_before c.args.last.now.before (c.args.last.now.node ∷ c.args.last.now.utility ∷ [])) c.args.product c.args.gains.now c.args.masses.now same_sum c.requires.room));
     }
 
 pub returns-in-Some : goal.returns-in-Some

@@ -2,7 +2,8 @@ use Rattle.std.proofs.Common.{◌≡◌, ◌∙◌, ◌+◌, ◌*◌, ◌<◌, �
 use Rattle.std.proofs.Math.Decide.{ℕ_discrete}
 use Rattle.std.proofs.lemmas.List.{get_or_default}
 use Rattle.maid_model.specs.Answers.{no_row}
-use Rattle.tree_checker.specs.Judged.{PassesListed, gain_in}
+use Rattle.maid_model.specs.Gains.{gain_in}
+use Rattle.tree_checker.specs.Judged.{PassesListed}
 use Rattle.tree_checker.proofs.RowTransfer.{passes_like}
 use Rattle.tree_checker.proofs.rows.first_fault.Goals as goal
 use Rattle.tree_checker.proofs.rows.first_fault.Goals.{In_default}

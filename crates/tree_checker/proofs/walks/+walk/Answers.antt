@@ -6,7 +6,7 @@ use Rattle.maid_model.specs.Worlds.{world_of}
 use Rattle.maid_model.specs.Nodes.{rows_of, states_of}
 use Rattle.maid_model.specs.Private.{marked_value}
 use Rattle.maid_model.proofs.Picked.{cell_times_fits}
-use Rattle.tree_checker.specs.Walks.{HasRoom, IsDownward, ending, factor_at, gain_with, mass_with, value_at}
+use Rattle.tree_checker.specs.Walks.{HasRoomToWalk, IsDownward, ending, factor_at, gain_with, mass_with, value_at}
 use Rattle.tree_checker.proofs.WalkTables.{no_value}
 use Rattle.tree_checker.proofs.WalkOpened.{down_with, none_before, room_with, whole_opened, shorter, small_fits, room_same, gains_same, moved, nought}
 use Rattle.tree_checker.proofs.WalkSteps.{WalkSoFar, row_within, utility_gain, utility_mass, utility_room, cell_within, cell_small, walk_start, within, walk_gains, walk_masses, next_world, product_fits, walk_skip, sum_fits, next_room, walk_step}
@@ -143,7 +143,7 @@ add_ending-requires-clause-order t c = subst (IsDownward c.args.setting.now.diag
 pub add_ending-requires-clause-room : goal.add_ending-requires-clause-room
 add_ending-requires-clause-room t c =
     let same_sum : to_z w128 (of_z w128 c.args.utility) ≡ c.args.utility = to_z-of_z w128 c.args.utility (search rules) in
-    subst (λ vs. HasRoom c.args.setting.now.diagram.now.nodes c.args.setting.now.profile.now c.args.setting.now.left_out vs c.args.product (to_z w128 (of_z w128 c.args.utility)) c.args.gains.now c.args.masses.now) (none_before c.args.order.now (ending c.args.setting.now.last c.args.setting.now.tail.now) c.in-empty.len_below)
+    subst (λ vs. HasRoomToWalk c.args.setting.now.diagram.now.nodes c.args.setting.now.profile.now c.args.setting.now.left_out vs c.args.product (to_z w128 (of_z w128 c.args.utility)) c.args.gains.now c.args.masses.now) (none_before c.args.order.now (ending c.args.setting.now.last c.args.setting.now.tail.now) c.in-empty.len_below)
     (room_same c.args.setting.now.diagram.now.nodes c.args.setting.now.profile.now c.args.setting.now.left_out (c.args.order.now ++ (ending c.args.setting.now.last c.args.setting.now.tail.now)) c.args.product c.args.gains.now c.args.masses.now same_sum c.requires.room)
 
 pub returns-in-empty-clause-gains : goal.returns-in-empty-clause-gains

@@ -2,7 +2,7 @@ use Rattle.std.proofs.Common.{◌≡◌, ◌∙◌, ◌++◌, ◌+ℤ◌, ap, sy
 use Rattle.std.proofs.lemmas.List.{take-append-drop}
 use Rattle.std.proofs.Math.ListN.{length-replicate}
 use Rattle.maid_model.specs.Worlds.{world_of}
-use Rattle.tree_checker.specs.Walks.{AreUtilities, HasRoom, IsDownward, ListsCells, ending, gain_with, mass_with}
+use Rattle.tree_checker.specs.Walks.{AreUtilities, HasRoomToWalk, IsDownward, ListsCells, ending, gain_with, mass_with}
 use Rattle.tree_checker.proofs.WalkOpened.{moved, written}
 use Rattle.tree_checker.proofs.WalkTotals.{down, first_room, cells_listed}
 use Rattle.tree_checker.proofs.walks.cells_over.Goals as goal
@@ -34,7 +34,7 @@ pub walk-requires-clause-room : goal.walk-requires-clause-room
 walk-requires-clause-room c =
     let whole : c.split_last-last.result.0.now ++ ending c.split_last-last.result.1 c.split_at.result.1.now ≡ c.in_ok-nodes.nodes.items =
     c.split_last-last.ensures.whole ∙ (λ i. c.split_at.ensures.front i ++ c.split_at.ensures.back i) ∙ take-append-drop c.weighed.result c.deref.result.now ∙ c.deref.ensures.value in
-    moved (λ vs gains masses. HasRoom c.args.diagram.now.nodes c.args.profile.now c.args.left_out vs 1 (pos 0) gains masses)
+    moved (λ vs gains masses. HasRoomToWalk c.args.diagram.now.nodes c.args.profile.now c.args.left_out vs 1 (pos 0) gains masses)
     whole
     (c.deref_mut.ensures.value ∙ c.in_ok-gains.ensures.items_if_clones_equal (λ y e. e))
     (c.deref_mut-2.ensures.value ∙ c.in_ok-masses.ensures.items_if_clones_equal (λ y e. e))

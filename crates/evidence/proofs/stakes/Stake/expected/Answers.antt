@@ -4,7 +4,7 @@ use Rattle.std.proofs.lemmas.Int.{to_z-of_z}
 use Rattle.std.proofs.Math.Nat.{mul-pos}
 use Rattle.maid_model.specs.Answers.{IsFraction}
 use Rattle.maid_model.specs.Diagrams.{greatest_number}
-use Rattle.evidence.specs.Stakes.{scope_mass}
+use Rattle.evidence.specs.Stakes.{scope_mass_given}
 use Rattle.evidence.proofs.StakeLemmas.{mass_positive, scaled_small}
 use Rattle.evidence.proofs.stakes.Stake.expected.Goals as goal
 
@@ -24,6 +24,6 @@ pub returns : goal.returns
 returns c =
     let s = c.args.self.now in
     let fits : FitsSigned w128 c.gain.result = search rules in
-    let den : c.mass-mass.result * c.scale.result ≡ scope_mass s.diagram.now.nodes s.node s.agent s.mass * 10 ^ s.diagram.now.decimals = (λ i. c.mass-mass.ensures i * c.scale.ensures.scale i) in
-    subst (λ n. IsFraction c.fraction.result n (scope_mass s.diagram.now.nodes s.node s.agent s.mass * 10 ^ s.diagram.now.decimals)) (to_z-of_z w128 c.gain.result fits ∙ c.gain.ensures.gain)
+    let den : c.mass-mass.result * c.scale.result ≡ scope_mass_given s.diagram.now.nodes s.node s.agent s.mass * 10 ^ s.diagram.now.decimals = (λ i. c.mass-mass.ensures i * c.scale.ensures.scale i) in
+    subst (λ n. IsFraction c.fraction.result n (scope_mass_given s.diagram.now.nodes s.node s.agent s.mass * 10 ^ s.diagram.now.decimals)) (to_z-of_z w128 c.gain.result fits ∙ c.gain.ensures.gain)
     (subst (IsFraction c.fraction.result _) den c.fraction.ensures)

@@ -1,6 +1,6 @@
 use Rattle.maid_model.specs.Values.{IsDifferenceOfOptima}
 use Rattle.optimum_gap.proofs.Optima.{near_law, told}
-use Rattle.optimum_gap.specs.Found.{solving}
+use Rattle.optimum_gap.specs.Found.{reason_pass}
 use Rattle.optimum_gap.proofs.baselines.Baseline.gain_with.Goals as goal
 
 pub difference-requires : goal.difference-requires
@@ -13,4 +13,4 @@ pub returns-in-Err-clause-gain : goal.returns-in-Err-clause-gain
 returns-in-Err-clause-gain c =
     let d = c.args.self.now.diagram.now in
     let e = c.args.edited.now in
-    told (solving e) (IsDifferenceOfOptima e.nodes d.nodes d.decimals c.args.self.now.agent) c.refused.result (c.refused.ensures e c.in-Err.ensures.rows)
+    told (reason_pass e) (IsDifferenceOfOptima e.nodes d.nodes d.decimals c.args.self.now.agent) c.refused.result (c.refused.ensures e c.in-Err.ensures.rows)

@@ -1,6 +1,6 @@
 use Rattle.maid_model.specs.Values.{IsDifferenceOfOptima}
 use Rattle.optimum_gap.proofs.Optima.{near_law, shared_back, told}
-use Rattle.optimum_gap.specs.Found.{solving}
+use Rattle.optimum_gap.specs.Found.{reason_pass}
 use Rattle.optimum_gap.proofs.baselines.Baseline.loss.Goals as goal
 
 pub difference-requires : goal.difference-requires
@@ -14,4 +14,4 @@ pub returns-in-Err : goal.returns-in-Err
 returns-in-Err c =
     let d = c.args.self.now.diagram.now in
     let e = c.args.edited.now in
-    told (solving e) (IsDifferenceOfOptima d.nodes e.nodes d.decimals c.args.self.now.agent) c.refused.result (c.refused.ensures e c.in-Err.ensures.rows)
+    told (reason_pass e) (IsDifferenceOfOptima d.nodes e.nodes d.decimals c.args.self.now.agent) c.refused.result (c.refused.ensures e c.in-Err.ensures.rows)

@@ -8,8 +8,8 @@ use Rattle.maid_model.specs.Nodes.{node_at, states_of}
 use Rattle.maid_model.specs.Relevance.{IsGoal}
 use Rattle.maid_model.specs.Scopes.{goals_of, scope_product}
 use Rattle.plan_sums.specs.Plans.{gain_plan}
-use Rattle.rule_solver.specs.Rooms.{AreReady, HasAtMost}
-use Rattle.rule_solver.specs.Sums.{HasGoals, HasRoomFor, goal_part}
+use Rattle.rule_solver.specs.Rooms.{AreReady, HasCellsAtMost}
+use Rattle.rule_solver.specs.Sums.{HasGoals, HasRoomForGoals, goal_part}
 use Rattle.size_precheck.specs.Sizes.{IsPlanned}
 use Rattle.rule_solver.proofs.GoalPlans.{goal_plan_at, goal_plans_long}
 use Rattle.rule_solver.proofs.SettingLemmas.{goal_at, part_small}
@@ -50,7 +50,7 @@ add_goal-requires-clause-ready c =
       c.requires.ready.0,
       ready.small,
       ready.wide,
-      subst (λ (l : List ℕ). HasAtMost nodes (gain_plan nodes c.args.self.now.decision (slice_index l c.loop-place.place)) c.requires.ready.0) (sym c.requires.goals)
+      subst (λ (l : List ℕ). HasCellsAtMost nodes (gain_plan nodes c.args.self.now.decision (slice_index l c.loop-place.place)) c.requires.ready.0) (sym c.requires.goals)
           (c.requires.ready.2 (slice_index (goals_of nodes c.args.self.now.decision) c.loop-place.place) (goal_at nodes s.is_diagram.graph c.args.self.now.decision s.is_decision c.loop-place.place here)),
     )
 
@@ -61,7 +61,7 @@ add_goal-requires-clause-room c =
     let so : HasGoals d.nodes c.args.self.now.base.now c.args.self.now.decision (take c.loop-place.place (goals_of d.nodes c.args.self.now.decision)) c.loop-place.gains =
     subst (λ (l : List ℕ). HasGoals d.nodes c.args.self.now.base.now c.args.self.now.decision (take c.loop-place.place l) c.loop-place.gains) c.requires.goals c.loop-place.invariant.0 in
     room_next d c.args.self.now.decision c.loop-place.place c.args.goals.now c.loop-place.gains c.loop-place-test.true
-    (subst (λ (l : List ℕ). HasRoomFor d c.args.self.now.decision (drop c.loop-place.place l) c.loop-place.gains) (sym c.requires.goals)
+    (subst (λ (l : List ℕ). HasRoomForGoals d c.args.self.now.decision (drop c.loop-place.place l) c.loop-place.gains) (sym c.requires.goals)
     (room_for d c.args.self.now.base.now c.args.self.now.decision c.loop-place.place c.loop-place.gains s.bound so))
 
 pub loop-place-preserved : goal.loop-place-preserved

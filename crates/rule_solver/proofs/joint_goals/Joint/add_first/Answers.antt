@@ -1,7 +1,7 @@
 -- The first goals, summed.
 use Rattle.std.proofs.Common.{ℕ, List, sym, subst, arith}
 use Rattle.joint_sums.specs.Joint.{AreGoals}
-use Rattle.rule_solver.specs.Sums.{HasRoomFor}
+use Rattle.rule_solver.specs.Sums.{HasRoomForGoals}
 use Rattle.rule_solver.proofs.JointLists.{first_goals}
 use Rattle.rule_solver.proofs.SumLemmas.{room_first}
 use Rattle.rule_solver.proofs.joint_goals.Joint.add_first.Goals as goal
@@ -16,5 +16,5 @@ sum_goals-requires-clause-goals c =
 
 pub sum_goals-requires-clause-room : goal.sum_goals-requires-clause-room
 sum_goals-requires-clause-room c =
-    subst (λ (us : List ℕ). HasRoomFor c.args.setting.now.diagram.now c.args.setting.now.decision us c.args.gains.now) (sym c.before-goals.ensures)
+    subst (λ (us : List ℕ). HasRoomForGoals c.args.setting.now.diagram.now c.args.setting.now.decision us c.args.gains.now) (sym c.before-goals.ensures)
     (room_first c.args.setting.now.diagram.now c.args.setting.now.decision c.fitting-count.result c.args.goals.now c.args.gains.now c.requires.room)

@@ -4,18 +4,18 @@ use Rattle.std.specs.List.{range_with_len}
 use Rattle.std.proofs.lemmas.Int.{to_z-of_z}
 use Rattle.finite_sums.specs.Sums.{sum_each}
 use Rattle.maid_model.specs.Diagrams.{greatest_number}
-use Rattle.rule_solver.specs.Worths.{gain_given}
+use Rattle.rule_solver.specs.Worths.{share_for}
 use Rattle.rule_solver.proofs.StakeLemmas.{fits_number, sum_is, sum_next, sum_small}
 use Rattle.rule_solver.proofs.worths.Stake.gain.Goals as goal
 use Rattle.rule_solver.proofs.worths.Stake.gain.Goals.{After-given_by-gain}
 
 -- what the nodes up to this one give
 next : (c : After-given_by-gain) → to_z w128 c.loop-v.gain-bits +ℤ to_z w128 (of_z w128 c.given_by-gain.result)
-    ≡ sum_each (gain_given c.args.self.now.diagram.now.nodes c.args.self.now.profile.now c.args.self.now.agent c.args.self.now.worths.now) (range_with_len 0 (c.loop-v.v + 1))
+    ≡ sum_each (share_for c.args.self.now.diagram.now.nodes c.args.self.now.profile.now c.args.self.now.agent c.args.self.now.worths.now) (range_with_len 0 (c.loop-v.v + 1))
 next c =
     let s = c.args.self.now in
     let fits : FitsSigned w128 c.given_by-gain.result = search rules in
-    sum_next (gain_given s.diagram.now.nodes s.profile.now s.agent s.worths.now) c.loop-v.v (to_z w128 c.loop-v.gain-bits) c.given_by-gain.result c.loop-v.invariant fits c.given_by-gain.ensures
+    sum_next (share_for s.diagram.now.nodes s.profile.now s.agent s.worths.now) c.loop-v.v (to_z w128 c.loop-v.gain-bits) c.given_by-gain.result c.loop-v.invariant fits c.given_by-gain.ensures
 
 next_fits : (c : After-given_by-gain) → FitsSigned w128 (to_z w128 c.loop-v.gain-bits +ℤ to_z w128 (of_z w128 c.given_by-gain.result))
 next_fits c =
@@ -33,7 +33,7 @@ pub returns-clause-gain : goal.returns-clause-gain
 returns-clause-gain c =
     let s = c.args.self.now in
     let all : c.loop-v.v ≡ length s.diagram.now.nodes = let l = c.loop-v-test.false in let k = c.loop-v.auto.v-end in let e = c.count-v-end.ensures.count in omega arith in
-    c.loop-v.invariant ∙ ap (λ n. sum_each (gain_given s.diagram.now.nodes s.profile.now s.agent s.worths.now) (range_with_len 0 n)) all
+    c.loop-v.invariant ∙ ap (λ n. sum_each (share_for s.diagram.now.nodes s.profile.now s.agent s.worths.now) (range_with_len 0 n)) all
     ∙ sum_is s.diagram.now s.profile.now s.agent s.totals.now s.worths.now s.scope c.requires.stake c.plans_keep_scopes.ensures.agents c.plans_sum_scopes.ensures.agents
 
 pub returns-clause-small : goal.returns-clause-small

@@ -3,7 +3,7 @@ use Rattle.maid_model.specs.Answers.{IsBase, answered, pure_profile}
 use Rattle.maid_model.specs.Nodes.{states_of}
 use Rattle.maid_model.specs.Views.{AnswerView, SolvedView}
 use Rattle.rule_solver.specs.Sums.{IsRowGains}
-use Rattle.rule_solver.specs.Rooms.{AreReady, HasRoomAt}
+use Rattle.rule_solver.specs.Rooms.{AreReady, HasRoomForDecision}
 use Rattle.size_precheck.specs.Sizes.{ArePlansOf}
 use Rattle.threshold.specs.Answers.{HoldsAtFraction}
 use Rattle.threshold.specs.Held.{AreBestIn}
@@ -34,7 +34,7 @@ row_gains_by-requires-clause-ready c =
     let ready = c.requires.ready in (
       ready.0,
       ready.1,
-      subst (λ v. HasRoomAt q.nought.now.nodes v ready.0) (sym (ap (λ (a : AnswerView). a.decision) c.answer.view_is))
+      subst (λ v. HasRoomForDecision q.nought.now.nodes v ready.0) (sym (ap (λ (a : AnswerView). a.decision) c.answer.view_is))
           (room_nought q.diagram.now q.solved.now q.place q.nought.now q.one.now c.requires.setting.setting c.args.answer.now c.requires.answer c.greedy_orders.ensures.orders ready.0 ready.2),
     )
 
@@ -55,7 +55,7 @@ row_gains_by-requires-2-clause-ready c =
     let ready = c.requires.ready in (
       ready.0,
       subst (AreReady ready.0) (sym c.in_ok-nought.ensures.again) ready.1,
-      subst (λ v. HasRoomAt q.one.now.nodes v ready.0) (sym (ap (λ (a : AnswerView). a.decision) c.answer.view_is))
+      subst (λ v. HasRoomForDecision q.one.now.nodes v ready.0) (sym (ap (λ (a : AnswerView). a.decision) c.answer.view_is))
           (room_one q.diagram.now q.solved.now q.place q.nought.now q.one.now c.requires.setting.setting c.args.answer.now c.requires.answer c.greedy_orders.ensures.orders ready.0 ready.2),
     )
 

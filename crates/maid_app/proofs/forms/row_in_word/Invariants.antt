@@ -1,6 +1,6 @@
 use Rattle.std.proofs.Common.{◌≡◌, ◌<◌, ◌^◌, take}
-use Rattle.maid_app.specs.Request.{number_of}
-use Rattle.maid_app.proofs.forms.row_of.Given as goal
+use Rattle.maid_app.proofs.forms.row_in_word.Given as goal
+use Rattle.weight_scale.specs.Numeral.{number_of}
 
 -- the number of the digits so far
 abbrev pub invariant-loop-byte : goal.invariant-loop-byte
